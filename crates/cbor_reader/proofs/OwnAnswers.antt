@@ -5,35 +5,38 @@ use Rattle.cbor_head.specs.Limits.{Bounds}
 use Rattle.cbor_head.specs.Spelling.{Spelling, spell, value_of}
 use Rattle.cbor_head.specs.Canonical.{canonical}
 use Rattle.cbor_head.specs.Complaint.{plain, strict}
-use Rattle.cbor_head.specs.Verdict.{accepted, refused, IsVerdict}
+use Rattle.cbor_head.specs.Verdict.{accepted, IsVerdict}
 use Rattle.cbor_head.specs.declared.order.KeyOrder.{KeyOrder}
-use Rattle.cbor_head.specs.declared.reason.Refusal.{Refusal}
 use Rattle.cbor_grammar.proofs.Accepted.{accepts_exactly}
 use Rattle.cbor_reader.specs.Canonicalise.{IsCanonicalOf}
 use Rattle.cbor_reader.specs.Headline.{IsValidItem}
-use Rattle.cbor_judging.specs.Readers.{BeginsWithCanonical, IsRead}
-use Rattle.cbor_judging.proofs.Accepted.{item_within_limit, one_item, not_both}
+use Rattle.cbor_judging.specs.Readers.{BeginsWithCanonical}
+use Rattle.cbor_judging.proofs.Accepted.{item_within_limit}
 use Rattle.cbor_reader.proofs.Headline.{front_range, front_valid, front_keys, front_depth, answers_exactly}
 use Rattle.cbor_reader.proofs.ValidTexts.{plain_too}
 use Rattle.cbor_judging.proofs.CanonicalFronts.{strict_bytes, strict_value, strict_accepts, one_front}
 
 module _ (limits : Bounds) (o : KeyOrder) (input : List ℕ) where
+  -- it begins with its canonical bytes
+  pub own_front : limits.bytes ≤ 2 ^ 62 → (a : IsCanonicalOf limits o input input) → BeginsWithCanonical limits o input (value_of a.item)
+  own_front m a = record {
+    range = front_range limits plain input a.item m a.verdict;
+    valid = front_valid limits input a.item a.verdict;
+    keys = λ basic. front_keys limits input a.item basic a.verdict;
+    within = front_depth limits plain input a.item a.verdict;
+    fits = subst (λ (b : List ℕ). length b ≤ limits.bytes) a.canonical_bytes a.fits;
+    rest = [];
+    begins = append-nil (canonical o (value_of a.item)) ∙ sym a.canonical_bytes;
+  }
+
   own_answer_accepted : limits.bytes ≤ 2 ^ 62 → IsCanonicalOf limits o input input → (s : Spelling) × IsVerdict limits (strict o) input (accepted s) × (spell s ≡ input)
   own_answer_accepted m a =
       let v = value_of a.item in
-      let begins : BeginsWithCanonical limits o input v = record {
-        range = front_range limits plain input a.item m a.verdict;
-        valid = front_valid limits input a.item a.verdict;
-        keys = λ basic. front_keys limits input a.item basic a.verdict;
-        within = front_depth limits plain input a.item a.verdict;
-        fits = subst (λ (b : List ℕ). length b ≤ limits.bytes) a.canonical_bytes a.fits;
-        rest = [];
-        begins = append-nil (canonical o v) ∙ sym a.canonical_bytes;
-      } in
+      let begins = own_front m a in
       let (s, h) = strict_accepts limits o input v begins in
       (s, h, strict_bytes limits o input s h ∙ (one_front limits o input (value_of s) v (strict_value limits o input s h) begins).1 ∙ sym a.canonical_bytes)
 
-  pub accepted_own_answer : (s : Spelling) → IsVerdict limits (strict o) input (accepted s) → spell s ≡ input → IsCanonicalOf limits o input input
+  accepted_own_answer : (s : Spelling) → IsVerdict limits (strict o) input (accepted s) → spell s ≡ input → IsCanonicalOf limits o input input
   accepted_own_answer s v e =
       let h = (accepts_exactly limits (strict o) input s).0 v in
       let fits : length input ≤ limits.bytes = subst (λ (b : List ℕ). length b ≤ limits.bytes) e (item_within_limit limits (strict o) input s v) in
@@ -47,12 +50,3 @@ module _ (limits : Bounds) (o : KeyOrder) (input : List ℕ) where
   -- it is its own answer exactly where the strict verdict accepts it whole
   pub own_answers_exactly : limits.bytes ≤ 2 ^ 62 → IsCanonicalOf limits o input input ↔ ((s : Spelling) × IsVerdict limits (strict o) input (accepted s) × (spell s ≡ input))
   own_answers_exactly m = (own_answer_accepted m, (λ (s, v, e). accepted_own_answer s v e))
-
-  -- one that it accepts, and that goes on behind, is not; nor is one that it refuses
-  pub longer_own_answer : limits.bytes ≤ 2 ^ 62 → (count : ℕ) → IsRead limits (strict o) input count → (count ≡ length input → ⊥) → IsCanonicalOf limits o input input → ⊥
-  longer_own_answer m count r longer a =
-      let (s, v, e) = own_answer_accepted m a in
-      longer (r.size ∙ ap (λ (t : Spelling). length (spell t)) (one_item limits (strict o) input r.item s r.verdict v) ∙ ap length e)
-
-  pub refused_own_answer : limits.bytes ≤ 2 ^ 62 → (f : Refusal) → IsVerdict limits (strict o) input (refused f) → IsCanonicalOf limits o input input → ⊥
-  refused_own_answer m f w a = let (s, v, e) = own_answer_accepted m a in not_both limits (strict o) input s f v w

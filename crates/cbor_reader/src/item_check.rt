@@ -85,6 +85,7 @@ pub(crate) fn size_by_keys(
 
 /// How many bytes the item has that the slice begins with, if they are its canonical bytes by the
 /// order of RFC 8949. Else it may be valid.
+#[inline(always)]
 pub(crate) fn canonical_size(bytes: &[u8], limits: Limits) -> Result<u64, Refusal>
     ensures { IfOk result (λ count. IsRead limits plain bytes.now count) }
 {

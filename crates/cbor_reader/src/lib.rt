@@ -22,6 +22,7 @@
 //! ```
 #![tactic(auto)]
 
+mod canonical_reader;
 mod canonicaliser;
 mod comparison;
 mod item_check;
@@ -35,6 +36,7 @@ mod view_reader;
 mod view_sink;
 mod whole_item;
 
+pub use canonical_reader::read_canonical;
 pub use canonicaliser::{canonical_bytes, canonicalise};
 pub use cbor_item::{KeyOrder, Tree};
 pub use cbor_strict::{StrictReader, check_canonical, read_strict};

@@ -1,6 +1,6 @@
 //! The item that a whole input is.
 
-ghost use Rattle.std.specs.Prelude.{◌≡◌, true, false, IfOk, IfErr, IsOk};
+ghost use Rattle.std.specs.Prelude.{◌≡◌, IfOk, IfErr, IsOk};
 ghost use Rattle.std.specs.Cow.{cow_slice_items};
 ghost use Rattle.cbor_head.specs.Canonical.{canonical};
 ghost use Rattle.cbor_head.specs.Spelling.{Spelling, value_of};
@@ -9,9 +9,8 @@ ghost use Rattle.cbor_reader.specs.Canonicalise.{IsCanonicalOf};
 ghost use Rattle.cbor_reader.specs.Headline.{IsValidItem};
 ghost use Rattle.cbor_reader.specs.WholeItem.{IsItemRefusal};
 
+use crate::canonical_reader::read_canonical;
 use cbor_head::{KeyOrder, Limits, Reason, Refusal};
-use cbor_sinks::build_front;
-use cbor_strict::check_canonical;
 use std::alloc::Global;
 use std::borrow::CowSlice;
 
@@ -30,29 +29,15 @@ pub(crate) fn encoded_item<'a>(
     ensures memory { IfErr result TellsMemoryAtFront }
     ensures own { IsCanonicalOf limits order bytes.now bytes.now → IsOk result }
 {
-    if is_canonical(bytes, limits, order) {
-        return Ok(CowSlice::Borrowed(bytes));
-    }
-    match build_front(alloc, bytes, limits, order) {
-        Ok(front) => {
-            if front.size < bytes.len() as u64 {
-                return Err(Refusal::at(Reason::Trailing, front.size));
-            }
-            Ok(CowSlice::Owned(front.canonical))
-        }
-        Err(refusal) => Err(refusal),
-    }
-}
-
-// Whether all the bytes are one item's canonical bytes.
-fn is_canonical(bytes: &[u8], limits: Limits, order: KeyOrder) -> bool
-    ensures own { result ≡ true → IsCanonicalOf limits order bytes.now bytes.now }
-    ensures other { result ≡ false → ¬ IsCanonicalOf limits order bytes.now bytes.now }
-{
     // What any limits keep to.
     let _bytes = limits.bytes();
-    match check_canonical(bytes, limits, order) {
-        Ok(size) => size == bytes.len() as u64,
-        Err(_) => false,
+    match read_canonical(alloc, bytes, limits, order) {
+        Ok((canonical, size)) => {
+            if size < bytes.len() as u64 {
+                return Err(Refusal::at(Reason::Trailing, size));
+            }
+            Ok(canonical)
+        }
+        Err(refusal) => Err(refusal),
     }
 }

@@ -183,9 +183,9 @@ impl Stack<Level> {
 }
 
 /// Most items are no deeper than this,
-pub(crate) const FEW: usize = 16;
+pub(crate) const FEW: usize = 8;
 /// few are deeper than this,
-pub(crate) const SOME: usize = 128;
+pub(crate) const SOME: usize = 64;
 /// and none than this.
 pub(crate) const MOST: usize = MAX_DEPTH as usize;
 

@@ -40,6 +40,7 @@ impl Room {
     }
 
     /// How many bytes the item has that the bytes begin with.
+    #[inline(always)]
     pub fn size_at_front(
         &mut self,
         bytes: &[u8],

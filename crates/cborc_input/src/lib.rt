@@ -24,4 +24,4 @@ pub use listing::{is_undecided, list_front};
 pub use request::{Accepted, Form, Layout, Manner, Options, Output, Request, Task};
 pub use sequence::{ItemWriter, unless_cut, write_items};
 pub use status::Status;
-pub use texts::canonical_text;
+pub use texts::{canonical_text, formed};

@@ -25,20 +25,26 @@ pub fn canonical_text<'a, 'b>(
     ensures fault { IfErr result (IsNoText limits order bytes.now) }
 {
     let canonical = canonical_bytes(alloc, bytes, limits, order)?;
-    match form {
-        Form::Raw => Ok(canonical),
-        Form::Hex => match hex_line(alloc, canonical.as_slice()) {
-            Ok(line) => Ok(CowSlice::Owned(line)),
-            Err(_) => Err(Fault::Memory),
-        },
+    match formed(alloc, canonical, form) {
+        Ok(text) => Ok(text),
+        Err(_) => Err(Fault::Memory),
     }
 }
 
-// Two hex digits for each byte, and a line feed.
-fn hex_line(alloc: Global, bytes: &[u8]) -> Result<Vec<u8>, AllocError>
-    ensures { IfOk result (λ v. v.items ≡ in_form Form.Hex bytes.now) }
+/// Bytes in a form: as they stand, or two hex digits for each and a line feed.
+pub fn formed<'b>(
+    alloc: Global,
+    bytes: CowSlice<'b, u8>,
+    form: Form,
+) -> Result<CowSlice<'b, u8>, AllocError>
+    ensures { IfOk result (λ c. cow_slice_items c ≡ in_form form (cow_slice_items bytes)) }
 {
-    let mut text = hex::encode(alloc, bytes)?.into_bytes();
-    text.push(b'\n')?;
-    Ok(text)
+    match form {
+        Form::Raw => Ok(bytes),
+        Form::Hex => {
+            let mut text = hex::encode(alloc, bytes.as_slice())?.into_bytes();
+            text.push(b'\n')?;
+            Ok(CowSlice::Owned(text))
+        }
+    }
 }

@@ -8,12 +8,12 @@ ghost use Rattle.cborc_sequences.specs.CanonSequence.{IsSequenceNotCanonised};
 ghost use Rattle.cborc_files.specs.Folder.{is_stream, KeepsFiles};
 ghost use Rattle.cborc_sequences.specs.inner.Items.{IsUnwritten};
 
-use cbor_head::{KeyOrder, Limits};
+use cbor_head::{KeyOrder, Limits, Reason, Refusal};
 use cbor_item::write_whole;
+use cbor_reader::read_canonical;
 use cborc_files::{Folder, is_stream};
 use cborc_input::{
-    Accepted, Fault, Form, ItemWriter, Options, Output, Room, canonical_text, unless_cut,
-    write_items,
+    Fault, Form, ItemWriter, Options, Output, Room, formed, unless_cut, write_items,
 };
 use std::alloc::Global;
 use std::io::Write;
@@ -108,16 +108,21 @@ impl ItemWriter for CanonicalItems {
         goes_on: bool,
         _start: usize,
         limits: Limits,
-        room: &mut Room,
+        _room: &mut Room,
         out: &mut W,
     ) -> Result<Option<usize>, Fault<'f>> {
-        let size = match room.size_at_front(bytes, Accepted::Valid, limits) {
-            Ok(size) => size as usize,
+        let (canonical, size) = match read_canonical(alloc, bytes, limits, self.order) {
+            Ok(front) => front,
             Err(refusal) => return unless_cut(refusal, goes_on),
         };
-        let text = canonical_text(alloc, &bytes[..size], limits, self.order, self.form)?;
+        if canonical.len() as u64 > limits.bytes() {
+            return Err(Fault::Refused(Refusal::at(Reason::CanonicalTooLong, size)));
+        }
+        let Ok(text) = formed(alloc, canonical, self.form) else {
+            return Err(Fault::Memory);
+        };
         match write_whole(out, text.as_slice()) {
-            Ok(()) => Ok(Some(size)),
+            Ok(()) => Ok(Some(size as usize)),
             Err(_) => Err(Fault::CannotPrint),
         }
     }

@@ -4,7 +4,7 @@
 
 use super::limits;
 use cbor_head::{Reason, Refusal};
-use cbor_reader::{KeyOrder, canonical_bytes, canonicalise, check_valid};
+use cbor_reader::{KeyOrder, canonical_bytes, canonicalise, check_valid, read_canonical};
 use std::alloc::{AllocError, Global};
 use std::borrow::CowSlice;
 use std::process::Abort;
@@ -174,6 +174,30 @@ fn builds_large_sizes(rt: HostRuntime) -> Result<(), Fail> {
         );
     }
     Ok(())
+}
+
+// Slices, the canonical bytes of the items that they begin with, how many bytes these have, and
+// whether they are canonical as they stand.
+static FRONTS: [(&[u8], &[u8], u64, bool); 5] = [
+    (b"\0\xff", b"\0", 1, true),
+    (b"\x18\0\xff", b"\0", 2, false),
+    (b"\xa2\x63Amt\x21\x63Fun\xf5\0", b"\xa2\x63Amt\x21\x63Fun\xf5", 11, true),
+    (b"\xbf\x63Fun\xf5\x63Amt\x21\xff\xff", b"\xa2\x63Amt\x21\x63Fun\xf5", 12, false),
+    (b"\x5f\x41a\x41b\xff\x5f", b"\x42ab", 6, false),
+];
+
+#[test]
+fn builds_the_front_of_a_slice(rt: HostRuntime) {
+    let limits = limits(&rt, 256, 1048576);
+    for &(bytes, wanted, wanted_size, is_canonical) in &FRONTS {
+        match read_canonical(rt.alloc(), bytes, limits, KeyOrder::Bytewise) {
+            Ok((canonical, size)) => {
+                assert!(rt; canonical.as_slice() == wanted && size == wanted_size);
+                assert!(rt; matches!(canonical, CowSlice::Borrowed(_)) == is_canonical);
+            }
+            Err(refusal) => assert!(rt; false, "{refusal}"),
+        }
+    }
 }
 
 // 256 times what stands before an item, the item 0, and 256 times what stands behind it.

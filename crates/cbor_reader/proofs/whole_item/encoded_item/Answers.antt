@@ -1,22 +1,21 @@
 use Rattle.std.proofs.Common.{arith}
 use Rattle.cbor_reader.specs.WholeItem.{unread}
-use Rattle.cbor_reader.proofs.Headline.{answers_exactly}
+use Rattle.cbor_head.specs.Spelling.{value_of}
+use Rattle.cbor_reader.proofs.OwnAnswers.{own_front}
 use Rattle.cbor_reader.proofs.WholeItems.{trails, all-of-it}
 use Rattle.cbor_reader.proofs.whole_item.encoded_item.Goals as goal
 
-pub returns-then-is_canonical-clause-encoded : goal.returns-then-is_canonical-clause-encoded
-returns-then-is_canonical-clause-encoded c =
-    let h = (answers_exactly c.args.limits c.args.order c.args.bytes.now c.args.bytes.now).0 (c.is_canonical.ensures.own c.if-is_canonical.true) in
-    (h.0, h.1, h.2)
+pub returns-then-size-bytes-clause-refused : goal.returns-then-size-bytes-clause-refused
+returns-then-size-bytes-clause-refused c =
+    trails c.args.limits c.args.bytes.now c.in-Ok.size c.in-Ok.ensures.accepted.read c.at.result (omega (arith, c.if-size-bytes.true)) c.at.ensures
 
-pub returns-then-front-bytes-clause-refused : goal.returns-then-front-bytes-clause-refused
-returns-then-front-bytes-clause-refused c =
-    trails c.args.limits c.args.bytes.now c.in-Ok.front.size c.in-Ok.ensures.accepted.read c.at.result (omega (arith, c.if-front-bytes.true)) c.at.ensures
-
-pub returns-else-front-bytes-clause-encoded : goal.returns-else-front-bytes-clause-encoded
-returns-else-front-bytes-clause-encoded c =
+pub returns-else-size-bytes-clause-encoded : goal.returns-else-size-bytes-clause-encoded
+returns-else-size-bytes-clause-encoded c =
     let f = c.in-Ok.ensures.accepted in
-    (f.read.item, all-of-it c.args.limits c.args.bytes.now c.in-Ok.front.size f.read (omega (arith, c.if-front-bytes.false)), f.canonical_is)
+    (f.read.item, all-of-it c.args.limits c.args.bytes.now c.in-Ok.size f.read (omega (arith, c.if-size-bytes.false)), f.canonical_is)
 
 pub returns-in-Err-clause-refused : goal.returns-in-Err-clause-refused
 returns-in-Err-clause-refused c = unread c.in-Err.ensures.refused c.in-Err.ensures.no_read
+
+pub returns-in-Err-clause-own : goal.returns-in-Err-clause-own
+returns-in-Err-clause-own c = λ a. c.in-Err.ensures.own (value_of a.item) (own_front c.args.limits c.args.order c.args.bytes.now (omega arith) a)

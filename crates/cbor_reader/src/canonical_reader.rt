@@ -1,0 +1,43 @@
+//! The canonical bytes of the item at the front of a slice.
+
+ghost use Rattle.std.specs.Prelude.{◌≢◌, IfOk, IfErr, IsOk};
+ghost use Rattle.std.specs.Cow.{cow_slice_items};
+ghost use Rattle.cbor_head.specs.Complaint.{plain};
+ghost use Rattle.cbor_head.specs.Value.{Value};
+ghost use Rattle.cbor_head.specs.declared.reason.Reason.TheVariants as reasons;
+ghost use Rattle.cbor_judging.specs.Readers.{BeginsWithCanonical, IsUnread, TellsMemoryAtFront};
+ghost use Rattle.cbor_sinks.specs.BuiltFront.{IsBuiltFront};
+
+use cbor_head::{KeyOrder, Limits, Refusal};
+use cbor_sinks::build_front;
+use cbor_strict::check_canonical;
+use std::alloc::Global;
+use std::borrow::CowSlice;
+
+/// The canonical bytes, in this order and however many, of the well-formed, valid item that the
+/// slice begins with (RFC 8949, sections 4.2.1 and 4.2.3), and how many bytes the item has.
+///
+/// Where these are canonical they are answered as they stand, and no memory is taken. The refusal is
+/// the one that the bytes within the limits call for; or `Memory`, where it was refused before, with
+/// 0 as place and count.
+pub fn read_canonical<'a>(
+    alloc: Global,
+    bytes: &'a [u8],
+    limits: Limits,
+    order: KeyOrder,
+) -> Result<(CowSlice<'a, u8>, u64), Refusal>
+    ensures accepted { IfOk result (λ answer.
+        IsBuiltFront limits order bytes.now (cow_slice_items answer.0) answer.1) }
+    ensures own { (v : Value) → BeginsWithCanonical limits order bytes.now v → IsOk result }
+    ensures refused { IfErr result (λ f. IsUnread limits plain bytes.now f) }
+    ensures no_read { IfErr result (λ f. f.reason ≢ reasons.Read) }
+    ensures memory { IfErr result TellsMemoryAtFront }
+{
+    match check_canonical(bytes, limits, order) {
+        Ok(size) => Ok((CowSlice::Borrowed(&bytes[..size as usize]), size)),
+        Err(_) => match build_front(alloc, bytes, limits, order) {
+            Ok(front) => Ok((CowSlice::Owned(front.canonical), front.size)),
+            Err(refusal) => Err(refusal),
+        },
+    }
+}
