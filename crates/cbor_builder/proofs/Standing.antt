@@ -1,19 +1,20 @@
 -- What a builder stands for, where its buffer lies in another order than it is meant in.
 use Rattle.std.proofs.Common.{◌≡◌, ℕ, ◌≤◌, List, [], ◌∷◌, ◌++◌, length, length-take, take, drop, take-append-drop, refl, sym, ap, ◌∙◌, subst, arith, inl, inr}
 use Rattle.cbor_head.specs.declared.order.KeyOrder.{KeyOrder}
-use Rattle.cbor_canonical.specs.Parts.{closed, close, give, extended}
+use Rattle.cbor_canonical.specs.Parts.{plain, closed, close, give, extended}
 use Rattle.cbor_builder.specs.inner.Front.{AreFronted}
 use Rattle.cbor_builder.specs.inner.Laid.{shape_open, outer_spans, opens, Takes, Completed, Stands, IsString}
 use Rattle.cbor_buffer.specs.Moved.{meant, IsWhole, IsSettled, KeepsFront, Stays}
-use Rattle.cbor_builder.specs.inner.BuilderState.{Stand}
+use Rattle.cbor_builder.specs.inner.BuilderState.{Stand, IsLaid, standing, outers}
+use Rattle.cbor_builder.specs.declared.builder.Core.{Core}
 use Rattle.cbor_builder.specs.inner.InPlace.{Agrees, WaitsSame}
 use Rattle.cbor_buffer.specs.declared.draft.Draft.{Draft}
 use Rattle.cbor_buffer.specs.declared.span.Span.{Span}
 use Rattle.cbor_builder.specs.declared.frame.Frame.{Frame}
 use Rattle.cbor_builder.specs.declared.frame.Shape.TheVariants.{Map, Key}
 use Rattle.cbor_buffer.proofs.Drafts.{whole_length}
-use Rattle.cbor_builder.proofs.Growth.{given_by, ended_by, key_ready, outer_ready, lengthened}
-use Rattle.cbor_builder.proofs.InPlace.{agrees_refl, agrees_longer, agrees_by, waits_by, waits_refl, outer_agrees, completed_same, ready_same}
+use Rattle.cbor_builder.proofs.Growth.{given_by, ended_by, key_ready, outer_ready, lengthened, finished}
+use Rattle.cbor_builder.proofs.InPlace.{alone, agrees_refl, agrees_longer, agrees_by, waits_by, waits_refl, outer_agrees, completed_same, ready_same}
 use Rattle.cbor_buffer.proofs.Written.{drop_front}
 
 -- ---- one more member
@@ -32,6 +33,13 @@ member_given o d d' b ss f fs at ss' f' s takes w em eb ea c =
     let done = completed_same o d'.buf (meant d') ss at f ss' f' (whole_length d' w) (waits_by o d.buf (meant d) b b ss f fs d'.buf (meant d') l s.0 s.2 eb em) c in
     let st = given_by o (meant d) b ss f fs (meant d') ss' f' (meant d') at s.0 takes em refl ea done in
     ((st.0, w, agrees_by o d.buf (meant d) b b ss f fs d'.buf (meant d') at ss' f' s.0 l s.2 takes (λ first e. refl) (λ e. refl) eb em ea done), st.1)
+
+-- ---- nothing open
+
+-- the bytes lie as they are meant
+pub lies_finished : (c : Core) → IsLaid c → (bs : List ℕ) → standing c ≡ plain bs ∷ [] → c.out.buf ≡ bs
+lies_finished c laid bs e =
+    alone c.out.buf (meant c.out) c.spans.items c.top (outers c) (plain bs) laid.0.2 e ∙ finished c.order (meant c.out) c.spans.items c.top (outers c) laid.0.0 bs e
 
 -- ---- what ends
 

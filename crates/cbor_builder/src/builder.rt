@@ -57,12 +57,13 @@ impl Core {
         }
     }
 
-    // As it was then, with the memory that it has taken since.
-    pub(crate) fn clear(&mut self)
-        ensures order { self.new.order ≡ self.old.order }
+    // As it was then, for keys in this order, with the memory that it has taken since.
+    pub(crate) fn clear(&mut self, order: KeyOrder)
+        ensures order { self.new.order ≡ order }
         ensures laid { IsLaid self.new }
         ensures standing { standing self.new ≡ plain [] ∷ [] }
     {
+        self.order = order;
         self.out.cut(0);
         self.spans.clear();
         self.below.clear();
@@ -251,23 +252,5 @@ impl Core {
             outside: self.below.len(),
             pair,
         })
-    }
-
-    // The bytes, where nothing is open any more: where the parts given since `new` make a value,
-    // its canonical bytes. Takes no memory.
-    #[inline(always)]
-    pub(crate) fn finish(self) -> Vec<u8>
-        ensures { IsLaid self → (bs : List ℕ) → standing self ≡ plain bs ∷ []
-            → result.items ≡ bs }
-    {
-        let Core {
-            order: _,
-            is_open: _,
-            out,
-            spans: _,
-            top: _,
-            below: _,
-        } = self;
-        out.into_vec()
     }
 }

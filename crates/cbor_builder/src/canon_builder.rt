@@ -9,7 +9,7 @@ ghost use Rattle.cbor_head.specs.declared.major.Major.TheVariants.{Simple};
 ghost use Rattle.cbor_builder.specs.Built.{built, IsLeaf, IsStringType, IsContainer, TakesPart};
 ghost use Rattle.cbor_builder.specs.Built.{IsInString, HasDistinctKeysSoFar};
 ghost use Rattle.cbor_canonical.specs.Parts.{IsInContainer, Part, Makes, run, plain, give, opened, extended, close};
-ghost use Rattle.cbor_builder.specs.Built.{IsKeyDue, IsRepeatedKey, IsWaitingKey};
+ghost use Rattle.cbor_builder.specs.Built.{IsWaitingKey};
 ghost use Rattle.cbor_builder.specs.Built.{AreOpenKeysDifferent};
 ghost use Rattle.cbor_builder.specs.Built.{IsRepeatTold, around};
 
@@ -70,10 +70,10 @@ impl CanonBuilder {
     }
 
     /// As new, for another item, with the memory that it has. Whatever call came before.
-    pub fn clear(&mut self)
-        ensures { self.new ≡ built self.old.order (plain [] ∷ []) }
+    pub fn clear(&mut self, order: KeyOrder)
+        ensures { self.new ≡ built order (plain [] ∷ []) }
     {
-        self.core.clear();
+        self.core.clear(order);
         self.is_sound = true;
     }
 
@@ -293,23 +293,6 @@ impl CanonBuilder {
         Ok(is_distinct)
     }
 
-    /// Whether the part that was just completed is a key that is the same as an earlier key of its
-    /// map. Takes no memory. Where the keys come in order it costs one comparison; else it looks at
-    /// each earlier key of the map: to tell all keys of a large map apart, `end_if_distinct` does
-    /// it once for all.
-    pub fn repeated(&self) -> bool
-        ensures { IsTrue result ↔ IsRepeatedKey self.now.standing }
-    {
-        self.is_sound && self.core.repeated()
-    }
-
-    /// Whether the next part begins a key of a map. Takes no memory.
-    pub fn is_key_due(&self) -> bool
-        ensures { IsTrue result ↔ IsKeyDue self.now.standing }
-    {
-        self.is_sound && self.core.is_key_due()
-    }
-
     /// The canonical bytes of the key that was just completed, where its value is still to come.
     /// Takes no memory.
     pub fn waiting_key(&self) -> Option<&[u8]>
@@ -335,6 +318,14 @@ impl CanonBuilder {
         if is_sound { core.first_repeat() } else { None }
     }
 
+    /// The bytes, once the item is whole, as `finish` answers them. They stay where they are.
+    #[inline(always)]
+    pub fn as_slice(&self) -> &[u8]
+        ensures { (bs : List ℕ) → self.now.standing ≡ plain bs ∷ [] → result.now ≡ bs }
+    {
+        self.core.out.as_slice()
+    }
+
     /// The bytes, once the item is whole: the canonical bytes of the value that the parts make.
     /// Takes no memory.
     #[inline(always)]
@@ -345,6 +336,14 @@ impl CanonBuilder {
             → result.items ≡ canonical self.order v }
     {
         let CanonBuilder { core, is_sound: _ } = self;
-        core.finish()
+        let Core {
+            order: _,
+            is_open: _,
+            out,
+            spans: _,
+            top: _,
+            below: _,
+        } = core;
+        out.into_vec()
     }
 }

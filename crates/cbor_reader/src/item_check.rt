@@ -7,14 +7,12 @@ ghost use Rattle.cbor_judging.specs.Levels.{item_due};
 ghost use Rattle.cbor_judging.specs.Readers.{IsRead, IsUnread, TellsMemoryAtFront};
 ghost use Rattle.cbor_sinks.specs.KeyBytes.{keys_stand};
 
-use cbor_head::{KeyOrder, Limits, Reason, Refusal};
+use crate::first_look::FirstLook;
+use cbor_head::{KeyOrder, Limits, Refusal};
 use cbor_sinks::{KeyBytes, refusal_by_keys};
 use cbor_strict::check_canonical;
 use cbor_walk::Building;
 use std::alloc::Global;
-
-// Behind an item that is valid and not canonical, so many are not looked at as canonical bytes first.
-const PAUSE: u8 = 15;
 
 /// Checks one item after another, each as [`check_valid`](crate::check_valid) does, in memory that
 /// it keeps.
@@ -22,8 +20,7 @@ const PAUSE: u8 = 15;
 pub struct ItemCheck {
     alloc: Global,
     building: Building<KeyBytes>,
-    // So many items are not looked at as canonical bytes first.
-    pause: u8,
+    look: FirstLook,
 }
 
 impl ItemCheck {
@@ -32,7 +29,7 @@ impl ItemCheck {
         ItemCheck {
             alloc,
             building: Building::new(KeyBytes::new(alloc)),
-            pause: 0,
+            look: FirstLook::new(),
         }
     }
 
@@ -45,14 +42,10 @@ impl ItemCheck {
         ensures no_read { IfErr result (λ f. f.reason ≢ reasons.Read) }
         ensures memory { IfErr result TellsMemoryAtFront }
     {
-        if self.pause > 0 {
-            self.pause -= 1;
-        } else {
+        if self.look.is_due() {
             match canonical_size(bytes, limits) {
                 Ok(size) => return Ok(size),
-                // It says nothing of the items behind this one.
-                Err(refusal) if refusal.reason == Reason::Truncated => {}
-                Err(_) => self.pause = PAUSE,
+                Err(refusal) => self.look.failed(refusal),
             }
         }
         self.building.sink.clear();

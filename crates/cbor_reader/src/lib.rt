@@ -25,6 +25,8 @@
 mod canonical_reader;
 mod canonicaliser;
 mod comparison;
+mod first_look;
+mod item_canonicaliser;
 mod item_check;
 pub mod laws;
 mod sequence;
@@ -41,6 +43,7 @@ pub use canonicaliser::{canonical_bytes, canonicalise};
 pub use cbor_item::{KeyOrder, Tree};
 pub use cbor_strict::{StrictReader, check_canonical, read_strict};
 pub use comparison::{Side, same_meaning};
+pub use item_canonicaliser::ItemCanonicaliser;
 pub use item_check::ItemCheck;
 pub use sequence::Sequence;
 pub use sequence_items::SequenceItems;

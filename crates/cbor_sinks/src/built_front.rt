@@ -38,11 +38,64 @@ pub fn build_front(
 {
     match front_or_stop(alloc, bytes, limits, order) {
         Ok(front) => Ok(front),
-        Err(stop) => {
-            let sink = CanonicalSink::new(alloc, order);
-            Err(refusal_of(alloc, sink, bytes, limits, stop))
+        Err(stop) => Err(refusal_by_building(alloc, bytes, limits, order, stop)),
+    }
+}
+
+/// What builds the canonical bytes of one item after another, in memory that it keeps.
+#[derive(Drop)]
+pub struct FrontBuilder {
+    alloc: Global,
+    building: Building<CanonicalSink>,
+}
+
+impl FrontBuilder {
+    /// Takes no memory.
+    pub fn new(alloc: Global) -> FrontBuilder {
+        FrontBuilder {
+            alloc,
+            building: Building::new(CanonicalSink::new(alloc, KeyOrder::Bytewise)),
         }
     }
+
+    /// What [`build_front`] answers, whatever call came before; the bytes stay where they are.
+    pub fn build(
+        &mut self,
+        bytes: &[u8],
+        limits: Limits,
+        order: KeyOrder,
+    ) -> Result<(&[u8], u64), Refusal>
+        ensures accepted { IfOk result (λ answer.
+            IsBuiltFront limits order bytes.now answer.0.now answer.1) }
+        ensures refused { IfErr result (λ f. IsUnread limits plain bytes.now f) }
+        ensures no_read { IfErr result (λ f. f.reason ≢ reasons.Read) }
+        ensures memory { IfErr result TellsMemoryAtFront }
+    {
+        self.building.sink.clear(order);
+        match self.building.give_front(bytes, limits) {
+            Ok(size) => Ok((self.building.sink.builder.as_slice(), size)),
+            Err(stop) => Err(refusal_by_building(self.alloc, bytes, limits, order, stop)),
+        }
+    }
+}
+
+// The refusal where a walk that built canonical bytes in this order stopped so.
+#[cold]
+#[inline(never)]
+fn refusal_by_building(
+    alloc: Global,
+    bytes: &[u8],
+    limits: Limits,
+    order: KeyOrder,
+    stop: Stop,
+) -> Refusal
+    requires { IsStop limits bytes.now stop }
+    ensures refused { IsUnread limits plain bytes.now result }
+    ensures no_read { result.reason ≢ reasons.Read }
+    ensures memory { TellsMemoryAtFront result }
+{
+    let sink = CanonicalSink::new(alloc, order);
+    refusal_of(alloc, sink, bytes, limits, stop)
 }
 
 /// How many bytes the item has that these begin with, if it is a valid one within the limits, a key

@@ -27,6 +27,14 @@ impl CanonicalSink {
             builder: CanonBuilder::new(alloc, order),
         }
     }
+
+    /// As then, with the memory that it has. Whatever call came before.
+    pub(crate) fn clear(&mut self, order: KeyOrder)
+        ensures stands { sink_stands self.new self.new (item_due []) }
+        ensures order { self.new.builder.order ≡ order }
+    {
+        self.builder.clear(order);
+    }
 }
 
 impl<'a> Sink<'a> for CanonicalSink {

@@ -43,7 +43,7 @@ impl KeyBytes {
     pub fn clear(&mut self)
         ensures { keys_stand self.new self.new (item_due []) }
     {
-        self.builder.clear();
+        self.builder.clear(KeyOrder::Bytewise);
         self.inside = 0;
     }
 

@@ -8,6 +8,7 @@ ghost use Rattle.cbor_head.specs.Value.{depth};
 ghost use Rattle.cbor_head.specs.Verdict.{IsVerdict, accepted};
 ghost use Rattle.cbor_head.specs.declared.limits.TheConstants.{MAX_DEPTH};
 ghost use Rattle.cbor_judging.specs.Readers.{IsRead, IsUnread};
+ghost use Rattle.cbor_sinks.specs.BuiltFront.{IsBuiltFront};
 ghost use Rattle.cbor_view.specs.Seen.{seen};
 ghost use Rattle.cborc_input.specs.Rules.{rules_of};
 ghost use Rattle.cborc_input.specs.Texts.{shown_text, IsNotTaken};
@@ -16,18 +17,19 @@ use crate::fault::Fault;
 use crate::request::{Accepted, Layout};
 use bumpalo::Bump;
 use cbor_diag::{TextBuffer, diagnostic_view_indented};
-use cbor_head::{Limits, Refusal};
+use cbor_head::{KeyOrder, Limits, Refusal};
 use cbor_item::write_whole;
-use cbor_reader::{ItemCheck, check_canonical, read_view};
+use cbor_reader::{ItemCanonicaliser, ItemCheck, check_canonical, read_view};
 use cbor_view::View;
 use std::alloc::Global;
 use std::io::Write;
 
-/// Room for what is made of items, one after another. It keeps the memory that a check took.
+/// Room for what is made of items, one after another. It keeps the memory that it took for them.
 #[derive(Drop)]
 pub struct Room {
     alloc: Global,
     check: ItemCheck,
+    canonical: ItemCanonicaliser,
 }
 
 impl Room {
@@ -36,6 +38,7 @@ impl Room {
         Room {
             alloc,
             check: ItemCheck::new(alloc),
+            canonical: ItemCanonicaliser::new(alloc),
         }
     }
 
@@ -54,6 +57,20 @@ impl Room {
             Accepted::Valid => self.check.check(bytes, limits),
             Accepted::Canonical(order) => check_canonical(bytes, limits, order),
         }
+    }
+
+    /// The canonical bytes of the item that the bytes begin with, and how many bytes the item has.
+    pub fn canonical_at_front<'b>(
+        &'b mut self,
+        bytes: &'b [u8],
+        limits: Limits,
+        order: KeyOrder,
+    ) -> Result<(&'b [u8], u64), Refusal>
+        ensures accepted { IfOk result (λ answer.
+            IsBuiltFront limits order bytes.now answer.0.now answer.1) }
+        ensures refused { IfErr result (IsUnread limits plain bytes.now) }
+    {
+        self.canonical.canonicalise(bytes, limits, order)
     }
 
     /// Writes the text of the item that the bytes begin with, which is known to be valid within these

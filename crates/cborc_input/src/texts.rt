@@ -37,7 +37,7 @@ pub fn formed<'b>(
     bytes: CowSlice<'b, u8>,
     form: Form,
 ) -> Result<CowSlice<'b, u8>, AllocError>
-    ensures { IfOk result (λ c. cow_slice_items c ≡ in_form form (cow_slice_items bytes)) }
+    ensures { IfOk result (λ c. cow_slice_items c ≡ in_form form (cow_slice_items bytes.entry)) }
 {
     match form {
         Form::Raw => Ok(bytes),

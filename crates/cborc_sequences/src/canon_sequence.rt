@@ -10,12 +10,12 @@ ghost use Rattle.cborc_sequences.specs.inner.Items.{IsUnwritten};
 
 use cbor_head::{KeyOrder, Limits, Reason, Refusal};
 use cbor_item::write_whole;
-use cbor_reader::read_canonical;
 use cborc_files::{Folder, is_stream};
 use cborc_input::{
     Fault, Form, ItemWriter, Options, Output, Room, formed, unless_cut, write_items,
 };
 use std::alloc::Global;
+use std::borrow::CowSlice;
 use std::io::Write;
 
 /// Writes the canonical bytes of each item of the sequence that the file `source` is to the output,
@@ -108,17 +108,17 @@ impl ItemWriter for CanonicalItems {
         goes_on: bool,
         _start: usize,
         limits: Limits,
-        _room: &mut Room,
+        room: &mut Room,
         out: &mut W,
     ) -> Result<Option<usize>, Fault<'f>> {
-        let (canonical, size) = match read_canonical(alloc, bytes, limits, self.order) {
+        let (canonical, size) = match room.canonical_at_front(bytes, limits, self.order) {
             Ok(front) => front,
             Err(refusal) => return unless_cut(refusal, goes_on),
         };
         if canonical.len() as u64 > limits.bytes() {
             return Err(Fault::Refused(Refusal::at(Reason::CanonicalTooLong, size)));
         }
-        let Ok(text) = formed(alloc, canonical, self.form) else {
+        let Ok(text) = formed(alloc, CowSlice::Borrowed(canonical), self.form) else {
             return Err(Fault::Memory);
         };
         match write_whole(out, text.as_slice()) {

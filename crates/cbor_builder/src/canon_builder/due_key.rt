@@ -1,7 +1,7 @@
-//! The key that is due, held against those before it.
+//! The key that is due, or was just completed, held against those before it.
 
 ghost use Rattle.std.specs.Prelude.{◌≡◌, ◌↔◌, IsTrue};
-ghost use Rattle.cbor_builder.specs.Built.{HoldsKey, IsKeyDueAt};
+ghost use Rattle.cbor_builder.specs.Built.{HoldsKey, IsKeyDue, IsKeyDueAt, IsRepeatedKey};
 
 use crate::canon_builder::CanonBuilder;
 use crate::repeat::Repeat;
@@ -13,6 +13,13 @@ impl CanonBuilder {
         ensures { result ≡ self.now.order }
     {
         self.core.order
+    }
+
+    /// Whether the next part begins a key of a map. Takes no memory.
+    pub fn is_key_due(&self) -> bool
+        ensures { IsTrue result ↔ IsKeyDue self.now.standing }
+    {
+        self.is_sound && self.core.is_key_due()
     }
 
     /// Whether a key is due, within as many containers and behind as many pairs of its map as the key
@@ -30,5 +37,15 @@ impl CanonBuilder {
         ensures { IsTrue result ↔ HoldsKey self.now.standing key.now }
     {
         self.is_sound && self.core.has_key(key)
+    }
+
+    /// Whether the part that was just completed is a key that is the same as an earlier key of its
+    /// map. Takes no memory. Where the keys come in order it costs one comparison; else it looks at
+    /// each earlier key of the map: to tell all keys of a large map apart, `end_if_distinct` does
+    /// it once for all.
+    pub fn repeated(&self) -> bool
+        ensures { IsTrue result ↔ IsRepeatedKey self.now.standing }
+    {
+        self.is_sound && self.core.repeated()
     }
 }

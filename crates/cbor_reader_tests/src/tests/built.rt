@@ -4,7 +4,9 @@
 
 use super::limits;
 use cbor_head::{Reason, Refusal};
-use cbor_reader::{KeyOrder, canonical_bytes, canonicalise, check_valid, read_canonical};
+use cbor_reader::{
+    ItemCanonicaliser, KeyOrder, canonical_bytes, canonicalise, check_valid, read_canonical,
+};
 use std::alloc::{AllocError, Global};
 use std::borrow::CowSlice;
 use std::process::Abort;
@@ -189,7 +191,10 @@ static FRONTS: [(&[u8], &[u8], u64, bool); 5] = [
 #[test]
 fn builds_the_front_of_a_slice(rt: HostRuntime) {
     let limits = limits(&rt, 256, 1048576);
+    let mut items = ItemCanonicaliser::new(rt.alloc());
     for &(bytes, wanted, wanted_size, is_canonical) in &FRONTS {
+        let given = items.canonicalise(bytes, limits, KeyOrder::Bytewise);
+        assert!(rt; given == Ok((wanted, wanted_size)));
         match read_canonical(rt.alloc(), bytes, limits, KeyOrder::Bytewise) {
             Ok((canonical, size)) => {
                 assert!(rt; canonical.as_slice() == wanted && size == wanted_size);

@@ -11,7 +11,8 @@ use bumpalo::Bump;
 use cbor_head::{Limits, Refusal};
 use cbor_item::{Tree, encode, same};
 use cbor_reader::{
-    ItemCheck, KeyOrder, Side, canonicalise, check_valid, read_tree, read_view, same_meaning,
+    ItemCanonicaliser, ItemCheck, KeyOrder, Side, canonicalise, check_valid, read_canonical,
+    read_tree, read_view, same_meaning,
 };
 use std::alloc::Global;
 use std::test::Fail;
@@ -36,6 +37,35 @@ fn canonicalises(rt: HostRuntime) -> Result<(), Fail> {
                     Err(refusal) => text_of(rt.alloc(), refusal)?.as_str() == wanted,
                 };
                 assert!(rt; is_right, "{line}");
+            }
+        }
+    }
+    Ok(())
+}
+
+// Both orders by turns, so that each comes behind the other.
+#[test]
+fn canonicalises_one_after_another(rt: HostRuntime) -> Result<(), Fail> {
+    let mut items = ItemCanonicaliser::new(rt.alloc());
+    for part in 0..PARTS {
+        for &line in rows(part) {
+            let Some((hex, column, _, _)) = row_of(line) else {
+                return Err(Fail::from(BadRow::Columns));
+            };
+            let Some(limits) = limits_of(column) else {
+                return Err(Fail::from(BadRow::Limits));
+            };
+            let input = bytes_of(rt.alloc(), hex)?;
+            for &order in &ORDERS {
+                let alone = read_canonical(rt.alloc(), &input, limits, order);
+                let is_same = match (items.canonicalise(&input, limits, order), alone) {
+                    (Ok((bytes, size)), Ok((wanted, wanted_size))) => {
+                        bytes == wanted.as_slice() && size == wanted_size
+                    }
+                    (Err(refusal), Err(wanted)) => refusal == wanted,
+                    _ => false,
+                };
+                assert!(rt; is_same, "{line}");
             }
         }
     }

@@ -1,0 +1,20 @@
+use Rattle.std.proofs.Common.{◌∙◌, [], ◌∷◌, ap}
+use Rattle.cbor_head.specs.Canonical.{canonical}
+use Rattle.cbor_head.specs.Spelling.{value_of}
+use Rattle.cbor_head.specs.declared.order.KeyOrder.{KeyOrder}
+use Rattle.cbor_canonical.specs.Parts.{plain}
+use Rattle.cbor_sinks.proofs.built_front.FrontBuilder.build.Goals as goal
+
+pub returns-in-Ok : goal.returns-in-Ok
+returns-in-Ok c =
+    let h = c.in-Ok.ensures in
+    let v = value_of h.read.item in
+    record {
+      accepted = record {
+        read = h.read;
+        canonical_is = c.as_slice.ensures (canonical c.args.order v) (h.whole.1 ∙ ap (λ (o : KeyOrder). plain (canonical o v) ∷ []) c.clear.ensures.order);
+      };
+      refused = tt;
+      no_read = tt;
+      memory = tt;
+    }
