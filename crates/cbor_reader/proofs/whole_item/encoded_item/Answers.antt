@@ -1,7 +1,7 @@
 use Rattle.std.proofs.Common.{arith}
-use Rattle.cbor_reader.specs.WholeItem.{unread}
+use Rattle.cbor_reader.specs.WholeItem.{unread, trailing}
 use Rattle.cbor_reader.proofs.Headline.{answers_exactly}
-use Rattle.cbor_reader.proofs.WholeItems.{trails, all-of-it}
+use Rattle.cbor_reader.proofs.WholeItems.{all-of-it}
 use Rattle.cbor_reader.proofs.whole_item.encoded_item.Goals as goal
 
 pub returns-then-is_canonical-clause-encoded : goal.returns-then-is_canonical-clause-encoded
@@ -11,7 +11,7 @@ returns-then-is_canonical-clause-encoded c =
 
 pub returns-then-front-bytes-clause-refused : goal.returns-then-front-bytes-clause-refused
 returns-then-front-bytes-clause-refused c =
-    trails c.args.limits c.args.bytes.now c.in-Ok.front.size c.in-Ok.ensures.accepted.read c.at.result (omega (arith, c.if-front-bytes.true)) c.at.ensures
+    trailing c.in-Ok.front.size c.in-Ok.ensures.accepted.read (omega (arith, c.if-front-bytes.true)) c.at.ensures
 
 pub returns-else-front-bytes-clause-encoded : goal.returns-else-front-bytes-clause-encoded
 returns-else-front-bytes-clause-encoded c =
