@@ -11,9 +11,10 @@ use Rattle.cbor_head.specs.declared.order.KeyOrder.{KeyOrder}
 use Rattle.cbor_head.specs.declared.reason.Reason.TheVariants as reasons
 use Rattle.cbor_head.specs.declared.reason.Refusal.{Refusal}
 use Rattle.cbor_judging.proofs.Accepted.{one_item, not_both}
-use Rattle.cbor_judging.specs.Readers.{IsRead}
-use Rattle.cbor_reader.specs.Canonicalise.{IsRefusal, of_verdict, trailing, canonical_too_long, of_memory}
+use Rattle.cbor_judging.specs.Readers.{IsRead, of_verdict, of_reader, of_memory}
+use Rattle.cbor_reader.specs.Canonicalise.{IsRefusal, of_item, canonical_too_long}
 use Rattle.cbor_reader.specs.Sequence.{IsAccepted}
+use Rattle.cbor_reader.specs.WholeItem.{unread, trailing}
 use Rattle.cbor_reader.proofs.Sequences.{is_accepted, verdict_of, splits}
 use Rattle.cborc_input.specs.Texts.{IsCanonicalText, in_form}
 use Rattle.cborc_sequences.specs.CanonSequence.{HasCanonicalBytes, canonical_text, IsUncanonical, too_long}
@@ -118,15 +119,16 @@ module _ (b : Bounds) (o : KeyOrder) (bytes : List ℕ) (size : ℕ) (h : IsRead
       (verdict_of b plain h.item [] (item_accepted b plain bytes size h))
 
   too_long_only : (behind : List ℕ) (f : Refusal) → IsRefusal b o (take size bytes) f → IsOfInput f.reason → IsUncanonical b o (bytes ++ behind) f
-  too_long_only behind f (of_verdict w) own = absurd (not_both b plain (take size bytes) h.item f front_verdict w)
-  too_long_only behind f (trailing item v l is) own =
-      let same : item ≡ h.item = one_item b plain (take size bytes) item h.item v front_verdict in
-      absurd (omega (arith, l, ap (λ (s : Spelling). length (spell s)) same, ap length front_is))
+  too_long_only behind f (of_item (unread (of_verdict w) g)) own = absurd (not_both b plain (take size bytes) h.item f front_verdict w)
+  too_long_only behind f (of_item (unread (of_reader p l m is w) g)) own = absurd (g (ap (λ (x : Refusal). x.reason) is))
+  too_long_only behind f (of_item (unread (of_memory p l m is free) g)) own = absurd (subst IsOfInput (ap (λ (x : Refusal). x.reason) is) own)
+  too_long_only behind f (of_item (trailing k a l is)) own =
+      let same : a.item ≡ h.item = one_item b plain (take size bytes) a.item h.item a.verdict front_verdict in
+      absurd (omega (arith, l, a.size, ap (λ (s : Spelling). length (spell s)) same, ap length front_is))
   too_long_only behind f (canonical_too_long item v whole l is) own =
       let split : spell item ++ drop size bytes ≡ bytes = ap (λ (x : List ℕ). x ++ drop size bytes) whole ∙ take-append-drop size bytes in
       too_long item (drop size bytes ++ behind) (is_accepted b plain (take size bytes) item v)
       (sym (append_assoc (spell item) (drop size bytes) behind) ∙ ap (λ (x : List ℕ). x ++ behind) split) l (is ∙ ap (λ (k : ℕ). refusal reasons.CanonicalTooLong k k) (ap length (sym whole)))
-  too_long_only behind f (of_memory p taken l within is free) own = absurd (subst IsOfInput (ap (λ (g : Refusal). g.reason) is) own)
 
   pub unwritten : (form : Form) (out : Option (List ℕ)) (behind : List ℕ) (fault : Fault) → IsNoText b o (take size bytes) fault → IsUnwritten b o form (bytes ++ behind) fault out out
   unwritten form out behind (faults.Refused f) (r, own) = (too_long_only behind f r own, own, refl)
