@@ -1,10 +1,14 @@
 -- What a refusal of the canonicaliser can say: where it stands, and its reason.
-use Rattle.std.proofs.Common.{ℕ, List, ap, arith, inl, inr}
+use Rattle.std.proofs.Common.{ℕ, ◌≡◌, ◌≤◌, List, length, sym, ap, arith, subst, inl, inr}
 use Rattle.cbor_head.specs.Limits.{Bounds}
 use Rattle.cbor_head.specs.Complaint.{plain}
+use Rattle.cbor_head.specs.Verdict.{refusal}
 use Rattle.cbor_head.specs.declared.order.KeyOrder.{KeyOrder}
+use Rattle.cbor_head.specs.declared.reason.Reason.{Reason}
 use Rattle.cbor_head.specs.declared.reason.Refusal.{Refusal}
-use Rattle.cbor_reader.specs.Canonicalise.{IsRefusal, of_verdict, trailing, canonical_too_long, of_memory, IsCanonicaliserReason}
+use Rattle.cbor_judging.specs.Readers.{of_verdict, of_reader, of_memory}
+use Rattle.cbor_reader.specs.Canonicalise.{IsRefusal, of_item, canonical_too_long, IsCanonicaliserReason}
+use Rattle.cbor_reader.specs.WholeItem.{unread, trailing}
 use Rattle.cbor_judging.specs.Refusals.{StandsWithin}
 use Rattle.cbor_judging.proofs.Accepted.{item_within_limit}
 use Rattle.cbor_reader.proofs.Headline.{valid_item}
@@ -12,22 +16,21 @@ use Rattle.cbor_judging.proofs.Within.{longest_within, verdict_within}
 use Rattle.cbor_judging.proofs.Reasons.{verdict-reason}
 
 module _ (limits : Bounds) (input : List ℕ) where
+  within_at : (f : Refusal) (x : Reason) (k : ℕ) → f ≡ refusal x k k → k ≤ limits.bytes → k ≤ length input → StandsWithin limits.bytes input f
+  within_at f x k e l m = subst (StandsWithin limits.bytes input) (sym e) (record { by_read = omega arith; in_limit = l; in_input = m })
+
   pub refusal_within : (o : KeyOrder) (f : Refusal) → IsRefusal limits o input f → StandsWithin limits.bytes input f
-  refusal_within o f (of_verdict v) = verdict_within limits input plain f v
-  refusal_within o f (trailing s v l e) =
-      let place = ap (λ (f : Refusal). f.place) e in let read = ap (λ (f : Refusal). f.read) e in
-      record { by_read = omega (arith, place, read); in_limit = omega (arith, read, item_within_limit limits plain input s v); in_input = omega (arith, read, l) }
-  refusal_within o f (canonical_too_long s v w l e) =
-      let place = ap (λ (f : Refusal). f.place) e in let read = ap (λ (f : Refusal). f.read) e in
-      record { by_read = omega (arith, place, read); in_limit = omega (arith, read, (valid_item limits input s v w).fits); in_input = omega (arith, read) }
-  refusal_within o f (of_memory p taken g l e free) =
-      let place = ap (λ (f : Refusal). f.place) e in let read = ap (λ (f : Refusal). f.read) e in
-      let w = longest_within limits input p g in
-      record { by_read = omega (arith, place, read); in_limit = omega (arith, read, l, w.0); in_input = omega (arith, read, l, w.1) }
+  refusal_within o f (of_item (unread (of_verdict v) g)) = verdict_within limits input plain f v
+  refusal_within o f (of_item (unread (of_reader p g l e v) apart)) = absurd (apart (ap (λ (x : Refusal). x.reason) e))
+  refusal_within o f (of_item (unread (of_memory p g l e free) apart)) =
+      let w = longest_within limits input p g in within_at f _ f.read e (omega (arith, l, w.0)) (omega (arith, l, w.1))
+  refusal_within o f (of_item (trailing k a l e)) = within_at f _ k e (omega (arith, a.size, item_within_limit limits plain input a.item a.verdict)) (omega (arith, l))
+  refusal_within o f (canonical_too_long s v w l e) = within_at f _ (length input) e (valid_item limits input s v w).fits (omega arith)
 
 -- the canonicaliser's
 pub canonicaliser-reason : (limits : Bounds) (o : KeyOrder) (input : List ℕ) (f : Refusal) → IsRefusal limits o input f → IsCanonicaliserReason limits f.reason
-canonicaliser-reason limits o input f (of_verdict v) = elim (verdict-reason limits plain input f v) [ inl h ↦ inl h | inr h ↦ inr (inl h) ]
-canonicaliser-reason limits o input f (trailing s v l e) = inr (inr (inl (ap (λ (x : Refusal). x.reason) e)))
+canonicaliser-reason limits o input f (of_item (unread (of_verdict v) g)) = elim (verdict-reason limits plain input f v) [ inl h ↦ inl h | inr h ↦ inr (inl h) ]
+canonicaliser-reason limits o input f (of_item (unread (of_reader p l m e v) g)) = absurd (g (ap (λ (x : Refusal). x.reason) e))
+canonicaliser-reason limits o input f (of_item (unread (of_memory p l m e w) g)) = inr (inr (inr (inr (ap (λ (x : Refusal). x.reason) e))))
+canonicaliser-reason limits o input f (of_item (trailing k a l e)) = inr (inr (inl (ap (λ (x : Refusal). x.reason) e)))
 canonicaliser-reason limits o input f (canonical_too_long s v e l g) = inr (inr (inr (inl (ap (λ (x : Refusal). x.reason) g))))
-canonicaliser-reason limits o input f (of_memory p t l m e w) = inr (inr (inr (inr (ap (λ (x : Refusal). x.reason) e))))

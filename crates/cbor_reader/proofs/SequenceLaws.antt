@@ -17,6 +17,7 @@ use Rattle.cbor_reader.specs.Headline.{IsValidItem}
 use Rattle.cbor_judging.specs.Readers.{BeginsWithCanonical, IsUnread, of_verdict, of_reader, of_memory}
 use Rattle.cbor_reader.specs.Sequence.{sequence_bytes, IsAccepted, StartsWithItems, IsLongestSequence, EndsBefore, IsAtEnd, IsRefused, Given, given_by, items_of, AreGivenBy, HasGiven}
 use Rattle.cbor_reader.proofs.CutShort.{cut}
+use Rattle.cbor_reader.proofs.OneAnswer.{verdict_only}
 use Rattle.cbor_reader.proofs.Sequences.{simple_is_fine, is_accepted, verdict_of, not_refused, empty_is_truncated, verdict_before, splits}
 use Rattle.cbor_judging.proofs.CanonicalFronts.{strict_bytes, strict_value, strict_accepts}
 
@@ -102,13 +103,8 @@ module _ (b : Bounds) (held to : Option (List ℕ)) (input : List ℕ) (given : 
   pub whole_at_end : IsAtEnd b.bytes held to → sequence_bytes (items_of given) ≡ input
   whole_at_end e = sym (append-nil (sequence_bytes (items_of given))) ∙ ap (λ (x : List ℕ). sequence_bytes (items_of given) ++ x) (sym (ended_so e).0) ∙ run.bytes
 
-  verdict_only : (r : Rules) (rest : List ℕ) (f : Refusal) → IsUnread b r rest f → f.reason ≢ Read → f.reason ≢ Memory → IsVerdict b r rest (refused f)
-  verdict_only r rest f (of_verdict w) x y = w
-  verdict_only r rest f (of_reader p l m is w) x y = absurd (x (ap (λ (g : Refusal). g.reason) is))
-  verdict_only r rest f (of_memory p l m is free) x y = absurd (y (ap (λ (g : Refusal). g.reason) is))
-
   pub verdict_on_rest : (r : Rules) (f : Refusal) → IsRefused r b held to f → f.reason ≢ Read → f.reason ≢ Memory → IsVerdict b r run.rest (refused f)
-  verdict_on_rest r f u x y = verdict_only r run.rest f (subst (λ (x : Option (List ℕ)). IfSome x (λ rest. IsUnread b r rest f)) run.holds u.unread) x y
+  verdict_on_rest r f u x y = verdict_only b r run.rest f (subst (λ (x : Option (List ℕ)). IfSome x (λ rest. IsUnread b r rest f)) run.holds u.unread) x y
 
   pub longest_at_refusal : (r : Rules) (f : Refusal) → AreGivenBy r given → IsRefused r b held to f → f.reason ≢ Read → f.reason ≢ Memory → IsLongestSequence b r input (items_of given) run.rest
   longest_at_refusal r f a u x y = longest_by b r input (items_of given) run.rest f (by_one r b held input given run a) (verdict_on_rest r f u x y)

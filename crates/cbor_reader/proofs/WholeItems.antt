@@ -1,5 +1,5 @@
 -- Whole inputs: from what is read of one to the item that it is, or the refusal; and from that to what `canonicalise` answers.
-use Rattle.std.proofs.Common.{ℕ, ◌<◌, arith, ◌≡◌, ◌≢◌, ◌≤◌, List, length, refl, sym, ap, ◌∙◌, subst}
+use Rattle.std.proofs.Common.{ℕ, ◌<◌, arith, ◌≡◌, ◌≤◌, List, length, refl, sym, ap, ◌∙◌, subst}
 use Rattle.std.specs.Prelude.{◌↔◌}
 use Rattle.cbor_head.specs.Canonical.{canonical}
 use Rattle.cbor_head.specs.Limits.{Bounds}
@@ -8,63 +8,30 @@ use Rattle.cbor_head.specs.Spelling.{Spelling, spell, value_of}
 use Rattle.cbor_head.specs.Complaint.{plain}
 use Rattle.cbor_head.specs.Verdict.{refusal}
 use Rattle.cbor_head.specs.declared.order.KeyOrder.{KeyOrder}
-use Rattle.cbor_head.specs.declared.order.KeyOrder.TheVariants.{Bytewise}
-use Rattle.cbor_head.specs.declared.reason.Reason.TheVariants.{Read, Memory, Trailing, CanonicalTooLong}
+use Rattle.cbor_head.specs.declared.reason.Reason.TheVariants.{Read, Memory, CanonicalTooLong}
 use Rattle.cbor_head.specs.declared.reason.Refusal.{Refusal}
-use Rattle.cbor_judging.specs.Readers.{IsRead, IsReadAs, IsUnread, of_verdict, of_reader, of_memory}
-use Rattle.cbor_reader.specs.Canonicalise as whole
-use Rattle.cbor_reader.specs.Canonicalise.{IsCanonicalOf, IsRefusal}
+use Rattle.cbor_judging.specs.Readers.{IsRead, IsReadAs}
+use Rattle.cbor_reader.specs.Canonicalise.{IsCanonicalOf, IsRefusal, of_item, canonical_too_long}
 use Rattle.cbor_reader.specs.Headline.{IsValidItem}
-use Rattle.cbor_judging.specs.Refusals.{IsFreeBefore}
-use Rattle.cbor_reader.specs.WholeItem.{IsWholeItem, IsItemRefusal, unread, trailing}
-use Rattle.cbor_judging.proofs.Accepted.{item_is_whole, one_item, not_both}
+use Rattle.cbor_reader.specs.WholeItem.{IsWholeItem, IsItemRefusal, unread}
+use Rattle.cbor_judging.proofs.Accepted.{item_is_whole, one_item}
 use Rattle.cbor_reader.proofs.Headline.{valid_item, valid_item_accepted, answers_exactly}
 use Rattle.cbor_grammar.proofs.ReadLaws.{one_list}
 use Rattle.cbor_reader.proofs.ViewFronts.{memory_behind}
-use Rattle.cbor_reader.proofs.OneAnswer.{one_answer}
-use Rattle.cbor_judging.proofs.Reasons.{never-read}
+use Rattle.cbor_reader.proofs.OneAnswer.{memory_alone}
 
 -- ---- an item that is read
 
-module _ (limits : Bounds) (input : List ℕ) (size : ℕ) (a : IsRead limits plain input size) where
-  -- a byte follows it
-  pub trails : (f : Refusal) → size < length input → f ≡ refusal Trailing size size → IsItemRefusal limits input f
-  trails f more is = trailing a.item a.verdict (omega (arith, more, a.size)) (is ∙ ap (λ (k : ℕ). refusal Trailing k k) a.size)
-
-  -- none does
-  pub all-of-it : length input ≤ size → IsValidItem limits input a.item
-  all-of-it all = valid_item limits input a.item a.verdict (item_is_whole limits plain input a.item a.verdict (omega (arith, all, a.size)))
-
--- ---- the refusal of an item, and that of its canonical bytes
-
-pub item_refused : (limits : Bounds) (o : KeyOrder) (input : List ℕ) (f : Refusal) → IsItemRefusal limits input f → IsRefusal limits o input f
-item_refused limits o input f (unread (of_verdict w) g) = whole.of_verdict w
-item_refused limits o input f (unread (of_reader p l m is w) g) = absurd (g (ap (λ (x : Refusal). x.reason) is))
-item_refused limits o input f (unread (of_memory p l m is x) g) = whole.of_memory p f.read l m is x
-item_refused limits o input f (trailing s v l is) = whole.trailing s v l is
-
-pub refused_item : (limits : Bounds) (o : KeyOrder) (input : List ℕ) (f : Refusal) → IsRefusal limits o input f → f.reason ≢ CanonicalTooLong → IsItemRefusal limits input f
-refused_item limits o input f (whole.of_verdict w) g = unread (of_verdict w) (never-read limits plain input f w)
-refused_item limits o input f (whole.trailing s v l is) g = trailing s v l is
-refused_item limits o input f (whole.canonical_too_long s v w l is) g = absurd (g (ap (λ (x : Refusal). x.reason) is))
-refused_item limits o input f (whole.of_memory p taken l m is x) g =
-    let read : f.read ≡ taken = ap (λ (x : Refusal). x.read) is in
-    unread (of_memory p l (omega (arith, m, read)) (is ∙ ap (λ (k : ℕ). refusal Memory k k) (sym read)) (subst (IsFreeBefore limits plain p) (sym read) x)) (λ e. apart (sym (ap (λ (x : Refusal). x.reason) is) ∙ e))
-  where
-    apart : Memory ≡ Read → ⊥
-    apart e = cc e
-
-pub item_refused_once : (limits : Bounds) (input : List ℕ) (f g : Refusal) → IsItemRefusal limits input f → IsItemRefusal limits input g → f.reason ≢ Memory → g.reason ≢ Memory → f ≡ g
-item_refused_once limits input f g h i = one_answer limits Bytewise input f g (item_refused limits Bytewise input f h) (item_refused limits Bytewise input g i)
+-- no byte follows it
+pub all-of-it : (limits : Bounds) (input : List ℕ) (size : ℕ) (a : IsRead limits plain input size) → length input ≤ size → IsValidItem limits input a.item
+all-of-it limits input size a all =
+    valid_item limits input a.item a.verdict (item_is_whole limits plain input a.item a.verdict (omega (arith, all, a.size)))
 
 -- memory was refused when all of it had been taken
 pub memory_at_end : (limits : Bounds) (o : KeyOrder) (input : List ℕ) (f : Refusal) → IsWholeItem limits input → f ≡ refusal Memory (length input) (length input) → IsRefusal limits o input f
 memory_at_end limits o input f (s, i) is =
     let a : IsRead limits plain input (length input) = record { item = s; verdict = valid_item_accepted limits input s i; size = ap length (sym i.well_formed.bytes_are) } in
-    item_refused limits o input f (unread (memory_behind limits input (length input) f a is) (λ e. apart (sym (ap (λ (x : Refusal). x.reason) is) ∙ e)))
-  where
-    apart : Memory ≡ Read → ⊥
-    apart e = cc e
+    of_item (unread (memory_behind limits input (length input) f a is) (λ e. let two : Memory ≡ Read = sym (ap (λ (x : Refusal). x.reason) is) ∙ e in cc two))
 
 -- ---- within the limit, or past it
 
@@ -74,7 +41,7 @@ becomes limits o input out h l = (answers_exactly limits o input out).1 (h.0, h.
 pub grows_too_long : (limits : Bounds) (o : KeyOrder) (input out : List ℕ) (f : Refusal) → (s : Spelling) × IsValidItem limits input s × (out ≡ canonical o (value_of s)) → limits.bytes < length out
     → f ≡ refusal CanonicalTooLong (length input) (length input) → IsRefusal limits o input f
 grows_too_long limits o input out f h l is =
-    whole.canonical_too_long h.0 (valid_item_accepted limits input h.0 h.1) h.1.well_formed.bytes_are (subst (λ (b : List ℕ). limits.bytes < length b) h.2 l) is
+    canonical_too_long h.0 (valid_item_accepted limits input h.0 h.1) h.1.well_formed.bytes_are (subst (λ (b : List ℕ). limits.bytes < length b) h.2 l) is
 
 -- ---- a tree, and what is answered
 
@@ -94,22 +61,12 @@ tree_becomes limits o input out v a = (
 
 pub tree_too_long : (limits : Bounds) (o : KeyOrder) (input : List ℕ) (v : Value) → IsReadAs limits plain input v (length input) → limits.bytes < length (canonical o v) → IsRefusal limits o input (refusal CanonicalTooLong (length input) (length input))
 tree_too_long limits o input v a l =
-    whole.canonical_too_long a.read.item a.read.verdict (item_is_whole limits plain input a.read.item a.read.verdict (omega (arith, a.read.size))) (subst (λ (w : Value). limits.bytes < length (canonical o w)) a.value l) refl
-
-pub tree_followed : (limits : Bounds) (o : KeyOrder) (input : List ℕ) (v : Value) (count : ℕ) → IsReadAs limits plain input v count → count < length input → IsRefusal limits o input (refusal Trailing count count)
-tree_followed limits o input v count a l = whole.trailing a.read.item a.read.verdict (omega (arith, a.read.size, l)) (ap (λ (k : ℕ). refusal Trailing k k) a.read.size)
-
-pub tree_refused : (limits : Bounds) (o : KeyOrder) (input : List ℕ) (f : Refusal) → IsUnread limits plain input f → f.reason ≢ Read → IsRefusal limits o input f
-tree_refused limits o input f u g = item_refused limits o input f (unread u g)
+    canonical_too_long a.read.item a.read.verdict (item_is_whole limits plain input a.read.item a.read.verdict (omega (arith, a.read.size))) (subst (λ (w : Value). limits.bytes < length (canonical o w)) a.value l) refl
 
 -- ---- an input is an item, or it isn't
 
 pub only_item : (limits : Bounds) (input : List ℕ) (s t : Spelling) → IsValidItem limits input s → IsValidItem limits input t → s ≡ t
 only_item limits input s t i j = one_list s t i.well_formed.spelled j.well_formed.spelled (i.well_formed.bytes_are ∙ sym j.well_formed.bytes_are)
 
-pub refused_for_memory : (limits : Bounds) (input : List ℕ) (f : Refusal) → IsWholeItem limits input → IsItemRefusal limits input f → f.reason ≡ Memory
-refused_for_memory limits input f (s, i) (unread (of_verdict w) g) = absurd (not_both limits plain input s f (valid_item_accepted limits input s i) w)
-refused_for_memory limits input f (s, i) (unread (of_reader p l m is w) g) = absurd (g (ap (λ (x : Refusal). x.reason) is))
-refused_for_memory limits input f (s, i) (unread (of_memory p l m is x) g) = ap (λ (x : Refusal). x.reason) is
-refused_for_memory limits input f (s, i) (trailing t w l is) =
-    absurd (omega (arith, l, ap (λ (s : Spelling). length (spell s)) (one_item limits plain input s t (valid_item_accepted limits input s i) w), ap length i.well_formed.bytes_are))
+pub refused_for_memory : (limits : Bounds) (input : List ℕ) (f : Refusal) → IsWholeItem limits input → IsItemRefusal limits plain input f → f.reason ≡ Memory
+refused_for_memory limits input f (s, i) r = memory_alone limits plain input s f (valid_item_accepted limits input s i) i.well_formed.bytes_are r

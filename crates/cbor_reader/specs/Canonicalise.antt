@@ -1,17 +1,17 @@
 -- What an input becomes: the canonical bytes of its item, or the refusal (RFC 8949, sections 4.2 and 5.3).
-use Rattle.std.specs.Prelude.{ℕ, ◌^◌, ◌≡◌, ◌<◌, ◌≤◌, ◌↔◌, ◌⊎◌, List, length, take}
+use Rattle.std.specs.Prelude.{ℕ, ◌^◌, ◌≡◌, ◌<◌, ◌≤◌, ◌↔◌, ◌⊎◌, List, length}
 use Rattle.cbor_head.specs.Limits.{Bounds}
 use Rattle.cbor_head.specs.Value.{Same}
 use Rattle.cbor_head.specs.Spelling.{Spelling, IsItem, spell, value_of}
-use Rattle.cbor_head.specs.Beginning.{IsLongestBeginning}
 use Rattle.cbor_head.specs.Canonical.{canonical}
 use Rattle.cbor_head.specs.Complaint.{plain}
-use Rattle.cbor_head.specs.Verdict.{IsVerdict, accepted, refused, refusal}
+use Rattle.cbor_head.specs.Verdict.{IsVerdict, accepted, refusal}
 use Rattle.cbor_head.specs.declared.order.KeyOrder.{KeyOrder}
 use Rattle.cbor_head.specs.declared.reason.Reason.TheVariants.{Trailing, CanonicalTooLong, Memory}
 use Rattle.cbor_head.specs.declared.reason.Refusal.{Refusal}
 use Rattle.cbor_head.specs.declared.reason.Reason.{Reason}
-use Rattle.cbor_judging.specs.Refusals.{IsFreeBefore, IsFormReason, IsComplaintReason, IsKindReason}
+use Rattle.cbor_judging.specs.Refusals.{IsFormReason, IsComplaintReason, IsKindReason}
+use Rattle.cbor_reader.specs.WholeItem.{IsItemRefusal}
 
 -- the whole input is one well-formed, valid item within the limits, and out is the canonical bytes of its value, no more than
 -- the limit of bytes either
@@ -31,17 +31,11 @@ TellsItsValue d o input out =
 
 -- the refusal of an input that has none, or of one for which memory was refused
 pub data IsRefusal (limits : Bounds) (o : KeyOrder) (input : List ℕ) (f : Refusal) : Type 0 where
-  -- the plain verdict
-  of_verdict : IsVerdict limits plain input (refused f) → IsRefusal limits o input f
-  -- a byte follows the item
-  trailing : (item : Spelling) → IsVerdict limits plain input (accepted item) → length (spell item) < length input
-      → f ≡ refusal Trailing (length (spell item)) (length (spell item)) → IsRefusal limits o input f
+  -- it is not one valid item, or memory was refused
+  of_item : IsItemRefusal limits plain input f → IsRefusal limits o input f
   -- the item's canonical bytes are more than the limit
   canonical_too_long : (item : Spelling) → IsVerdict limits plain input (accepted item) → spell item ≡ input
       → limits.bytes < length (canonical o (value_of item)) → f ≡ refusal CanonicalTooLong (length input) (length input) → IsRefusal limits o input f
-  -- memory was refused, somewhere on the longest beginning, where no complaint had ended before
-  of_memory : (p : List ℕ) (taken : ℕ) → IsLongestBeginning limits.depth (take limits.bytes input) p → taken ≤ length p
-      → f ≡ refusal Memory taken taken → IsFreeBefore limits plain p taken → IsRefusal limits o input f
 
 -- the reasons that the canonicaliser gives: 1 to 13, 19 and 20
 abbrev pub IsCanonicaliserReason : Bounds → Reason → Type 0

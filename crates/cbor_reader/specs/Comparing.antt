@@ -1,5 +1,6 @@
 -- When two inputs mean the same, and which side is refused (RFC 8949, section 5.6.1).
 use Rattle.std.specs.Prelude.{ℕ, List}
+use Rattle.cbor_head.specs.Complaint.{plain}
 use Rattle.cbor_head.specs.Limits.{Bounds}
 use Rattle.cbor_head.specs.Spelling.{Spelling, value_of}
 use Rattle.cbor_head.specs.Value.{Same}
@@ -19,5 +20,5 @@ pub record MeanTheSame (limits : Bounds) (left right : List ℕ) : Type 0 where
 
 -- the refusal of this side: of the left one, or of the right one where the left is accepted
 abbrev pub IsSideRefusal : Bounds → List ℕ → List ℕ → Side → Refusal → Type 0
-IsSideRefusal limits left right Left f = IsItemRefusal limits left f
-IsSideRefusal limits left right Right f = IsWholeItem limits left × IsItemRefusal limits right f
+IsSideRefusal limits left right Left f = IsItemRefusal limits plain left f
+IsSideRefusal limits left right Right f = IsWholeItem limits left × IsItemRefusal limits plain right f

@@ -178,16 +178,11 @@ pub fn same_meaning_of_equal_answers()
         → IsCanonicalOf limits o x a → IsCanonicalOf limits o y b → MeanTheSame limits x y ↔ (a ≡ b) }
 {}
 
-/// An input is a whole valid item, or has one refusal, but where memory is refused. Its canonical
-/// bytes are refused as it is, or where it is such an item and they are longer than the limit.
+/// An input is a whole valid item, or has one refusal, but where memory is refused.
 pub fn items_and_their_refusals()
-    ensures one { (limits : Bounds) (input : List ℕ) (f g : Refusal)
-        → IsItemRefusal limits input f → IsItemRefusal limits input g
+    ensures one { (limits : Bounds) (r : Rules) (input : List ℕ) (f g : Refusal)
+        → IsItemRefusal limits r input f → IsItemRefusal limits r input g
         → f.reason ≢ Memory → g.reason ≢ Memory → f ≡ g }
     ensures either { (limits : Bounds) (input : List ℕ) (f : Refusal)
-        → IsWholeItem limits input → IsItemRefusal limits input f → f.reason ≡ Memory }
-    ensures refused { (limits : Bounds) (o : KeyOrder) (input : List ℕ) (f : Refusal)
-        → IsItemRefusal limits input f → IsRefusal limits o input f }
-    ensures canonical { (limits : Bounds) (o : KeyOrder) (input : List ℕ) (f : Refusal)
-        → IsRefusal limits o input f → f.reason ≢ CanonicalTooLong → IsItemRefusal limits input f }
+        → IsWholeItem limits input → IsItemRefusal limits plain input f → f.reason ≡ Memory }
 {}

@@ -72,7 +72,7 @@ pub fn whole_view<'a>(
     ensures depth { IfOk result (λ view. depth (seen view) ≤ MAX_DEPTH) }
     ensures in_range { IfOk result (λ view. IsInRange (seen view)) }
     ensures valid { IfOk result (λ view. IsValid (seen view)) }
-    ensures refused { IfErr result (IsItemRefusal limits bytes.now) }
+    ensures refused { IfErr result (IsItemRefusal limits plain bytes.now) }
     ensures memory { IfErr result TellsMemoryAtFront }
 {
     match read_view(alloc, bytes, limits, arena) {

@@ -3,6 +3,7 @@
 ghost use Rattle.std.specs.Prelude.{◌≡◌, IfOk, IfErr, IsOk};
 ghost use Rattle.std.specs.Cow.{cow_slice_items};
 ghost use Rattle.cbor_head.specs.Canonical.{canonical};
+ghost use Rattle.cbor_head.specs.Complaint.{plain};
 ghost use Rattle.cbor_head.specs.Spelling.{Spelling, value_of};
 ghost use Rattle.cbor_judging.specs.Readers.{TellsMemoryAtFront};
 ghost use Rattle.cbor_reader.specs.Canonicalise.{IsCanonicalOf};
@@ -25,7 +26,7 @@ pub(crate) fn encoded_item<'a>(
     ensures encoded { IfOk result (λ c. (s : Spelling)
         × IsValidItem limits bytes.now s
         × (cow_slice_items c ≡ canonical order (value_of s))) }
-    ensures refused { IfErr result (IsItemRefusal limits bytes.now) }
+    ensures refused { IfErr result (IsItemRefusal limits plain bytes.now) }
     ensures memory { IfErr result TellsMemoryAtFront }
     ensures own { IsCanonicalOf limits order bytes.now bytes.now → IsOk result }
 {

@@ -10,22 +10,22 @@ use Rattle.cbor_head.specs.declared.reason.Refusal.{Refusal}
 use Rattle.cbor_reader.specs.Canonicalise.{IsCanonicalOf, IsRefusal}
 use Rattle.cbor_reader.specs.Comparing.{IsSideRefusal}
 use Rattle.cbor_judging.specs.Readers.{IsReadAs}
-use Rattle.cbor_reader.specs.WholeItem.{IsWholeItem}
+use Rattle.cbor_reader.specs.WholeItem.{IsWholeItem, IsItemRefusal}
 use Rattle.cbor_reader.specs.declared.comparison.Side.{Side}
 use Rattle.cbor_reader.specs.declared.comparison.Side.TheVariants.{Left, Right}
 use Rattle.cborc_items.proofs.Files.{put_kept}
 use Rattle.cborc_fronts.proofs.Files.{input_before}
-use Rattle.cborc_items.proofs.Fronts.{canonical_whole, refusal_whole, is_whole, is_not_whole, is_all_of, listed_whole, not_listed_whole, whole_item, item_refusal_whole}
+use Rattle.cborc_items.proofs.Fronts.{canonical_whole, refusal_whole, is_whole, is_all_of, listed_whole, not_listed_whole, whole_item, item_refusal_whole}
 use Rattle.cborc_items.proofs.Whole.{AreAccepted, read_as}
 use Rattle.cborc_input.specs.Texts.{IsCanonicalText, IsNoText, IsNotTaken, shown_text}
 use Rattle.cborc_input.specs.Put.{IsPut, IsNotPut}
 use Rattle.cborc_items.specs.Canon.{IsCanonised, IsNotCanonised}
 use Rattle.cborc_input.specs.Start.{StartsInput}
 use Rattle.cborc_fronts.specs.Decided.{IsEnough}
-use Rattle.cborc_items.specs.Check.{accepted_bytes, IsWhole, IsNotWhole, IsChecked, IsNotChecked}
+use Rattle.cborc_items.specs.Check.{accepted_bytes, IsWhole, IsChecked, IsNotChecked}
 use Rattle.cborc_items.specs.Compare.{IsTold, IsToldInPart, same, different, IsUntold, AreInputs, AreCompared, AreNotCompared}
 use Rattle.cborc_items.specs.Events.{IsNotListed, IsListedOf, IsNotListedOf}
-use Rattle.cborc_input.specs.Fault.{refusal_fault}
+use Rattle.cborc_input.specs.Fault.{IsOfInput, refusal_fault}
 use Rattle.cborc_files.specs.Folder.{Files, KeepsFiles}
 use Rattle.cborc_items.specs.Show.{IsShownOf, IsNotShown}
 use Rattle.cborc_input.specs.declared.request.Layout.{Layout}
@@ -69,7 +69,7 @@ module _ (o : KeyOrder) (options : Options) (source : List ℕ) (output : Output
   no_text before after bytes s (faults.Refused f) h = (
     s.input,
     s.is,
-    subst (λ (b : List ℕ). IsRefusal options.limits o b f) s.splits (refusal_whole options.limits bytes s.behind s.enough o f h.1 h.0),
+    subst (λ (b : List ℕ). IsRefusal options.limits o b f) s.splits (refusal_whole options.limits bytes s.behind s.enough o f h.0),
     h.1,
   )
   no_text before after bytes s faults.Memory h = tt
@@ -90,13 +90,13 @@ module _ (rules : Rules) (options : Options) (source : List ℕ) (held : Option 
   untold size before after w faults.Memory h = tt
   untold size before after w _ h = absurd h
 
-  pub not_checked : (before after : Option (List ℕ)) (f : Refusal) → IsNotWhole options.limits rules bytes f → (fault : Fault) → fault ≡ refusal_fault f
+  pub not_checked : (before after : Option (List ℕ)) (f : Refusal) → (IsOfInput f.reason → IsItemRefusal options.limits rules bytes f) → (fault : Fault) → fault ≡ refusal_fault f
       → IsNotChecked rules options source held before after fault
   not_checked before after f h fault e =
       refusal_is (IsNotChecked rules options source held before after) f fault e (λ own. (
         s.input,
         s.is,
-        subst (λ (b : List ℕ). IsNotWhole options.limits rules b f) s.splits (is_not_whole options.limits bytes s.behind s.enough rules f own h),
+        subst (λ (b : List ℕ). IsItemRefusal options.limits rules b f) s.splits (item_refusal_whole options.limits bytes s.behind s.enough rules f (h own)),
         own,
       )) tt
 
@@ -127,13 +127,13 @@ module _ (options : Options) (source : List ℕ) (held : Option Files) (bytes : 
         → IsNotShown layout options source held before after fault
     unshown layout before after fault h = unshown_by layout before after fault (h w.0.item w.0.verdict)
 
-  pub not_shown : (layout : Layout) (before after : Option (List ℕ)) → Keeps before after → (f : Refusal) → IsNotWhole options.limits plain bytes f → (fault : Fault) → fault ≡ refusal_fault f
+  pub not_shown : (layout : Layout) (before after : Option (List ℕ)) → Keeps before after → (f : Refusal) → (IsOfInput f.reason → IsItemRefusal options.limits plain bytes f) → (fault : Fault) → fault ≡ refusal_fault f
       → IsNotShown layout options source held before after fault
   not_shown layout before after keeps f h fault e =
       refusal_is (IsNotShown layout options source held before after) f fault e (λ own. (
         s.input,
         s.is,
-        subst (λ (b : List ℕ). IsNotWhole options.limits plain b f) s.splits (is_not_whole options.limits bytes s.behind s.enough plain f own h),
+        subst (λ (b : List ℕ). IsItemRefusal options.limits plain b f) s.splits (item_refusal_whole options.limits bytes s.behind s.enough plain f (h own)),
         own,
       )) (tt, keeps)
 
@@ -179,8 +179,8 @@ module _ (limits : Bounds) (left left_behind right right_behind : List ℕ) (eno
   left_whole l = subst (IsWholeItem limits) (whole_item limits left left_behind enough are l) l
 
   side_whole : (side : Side) (f : Refusal) → IsSideRefusal limits left right side f → IsSideRefusal limits (left ++ left_behind) (right ++ right_behind) side f
-  side_whole Left f h = item_refusal_whole limits left left_behind enough f h
-  side_whole Right f (l, h) = (left_whole l, item_refusal_whole limits right right_behind enough_too f h)
+  side_whole Left f h = item_refusal_whole limits left left_behind enough plain f h
+  side_whole Right f (l, h) = (left_whole l, item_refusal_whole limits right right_behind enough_too plain f h)
 
   part_of_fronts : (before after : Option (List ℕ)) → IsToldInPart limits left right before after → (left ≡ left ++ left_behind) × (right ≡ right ++ right_behind)
       → IsToldInPart limits (left ++ left_behind) (right ++ right_behind) before after

@@ -10,22 +10,18 @@ use Rattle.cbor_head.specs.declared.order.KeyOrder.{KeyOrder}
 use Rattle.cbor_head.specs.declared.reason.Reason.TheVariants.{CanonicalTooLong, Truncated, Read, KeyKind}
 use Rattle.cbor_head.specs.declared.reason.Refusal.{Refusal}
 use Rattle.cbor_grammar.proofs.Agree.{split_front}
-use Rattle.cbor_reader.specs.Canonicalise.{IsCanonicalOf, IsRefusal}
-use Rattle.cbor_reader.specs.Canonicalise as canonicalise
+use Rattle.cbor_reader.specs.Canonicalise.{IsCanonicalOf, IsRefusal, of_item, canonical_too_long}
 use Rattle.cbor_judging.proofs.Reasons.{item-reason}
 use Rattle.cbor_judging.proofs.SpelledBytes.{longest_always}
 use Rattle.cbor_judging.specs.Readers.{IsUnread, IsReadAs}
 use Rattle.cbor_judging.specs.Readers as readers
 use Rattle.cbor_judging.specs.Refusals.{IsComplaintReason}
-use Rattle.cbor_reader.specs.WholeItem.{IsWholeItem, IsItemRefusal}
-use Rattle.cbor_reader.specs.WholeItem as items
+use Rattle.cbor_reader.specs.WholeItem.{IsWholeItem, IsItemRefusal, unread, trailing}
 use Rattle.cbor_diag.specs.Listing.{IsListing, IsStopped, IsListed, IsUnlisted}
 use Rattle.cbor_diag.specs.Listing as listing
 use Rattle.cbor_standing.proofs.Form.{never}
-use Rattle.cborc_items.specs.Check.{IsWhole, IsNotWhole}
-use Rattle.cborc_items.specs.Check as check
+use Rattle.cborc_items.specs.Check.{IsWhole}
 use Rattle.cborc_items.specs.Events.{IsFollowed, IsNotListed}
-use Rattle.cborc_input.specs.Fault.{IsOfInput}
 use Rattle.cborc_input.specs.declared.fault.Fault.{Fault}
 use Rattle.cborc_input.specs.declared.fault.Fault.TheVariants as faults
 use Rattle.cborc_fronts.specs.Decided.{IsDecided, IsEnough}
@@ -87,16 +83,7 @@ module _ (limits : Bounds) (front behind : List ℕ) (enough : IsEnough limits f
     fits = c.fits;
   }
 
-  pub refusal_whole : (o : KeyOrder) (f : Refusal) → IsOfInput f.reason → IsRefusal limits o front f → IsRefusal limits o (front ++ behind) f
-  refusal_whole o f own (canonicalise.of_verdict v) = canonicalise.of_verdict (verdict_whole plain (refused f) v)
-  refusal_whole o f own (canonicalise.trailing item v l e) = canonicalise.trailing item (verdict_whole plain (accepted item) v) (omega (arith, l, no_longer)) e
-  refusal_whole o f own (canonicalise.canonical_too_long item v w l e) =
-      let same = all_of plain item v (ap length w) in
-      canonicalise.canonical_too_long item (verdict_whole plain (accepted item) v) (w ∙ same) l
-      (e ∙ ap (λ (b : List ℕ). refusal CanonicalTooLong (length b) (length b)) same)
-  refusal_whole o f own (canonicalise.of_memory p taken l t e free) = absurd (subst IsOfInput (ap (λ (x : Refusal). x.reason) e) own)
-
-  -- ---- what the readers answer
+  -- ---- what refuses an item
 
   unread_whole : (r : Rules) (f : Refusal) → f.reason ≢ Read → IsUnread limits r front f → IsUnread limits r (front ++ behind) f
   unread_whole r f apart (readers.of_verdict v) = readers.of_verdict (verdict_whole r (refused f) v)
@@ -110,8 +97,16 @@ module _ (limits : Bounds) (front behind : List ℕ) (enough : IsEnough limits f
       (λ s c starts holds.
       free s c (k ++ starts.0, subst (IsItem limits.depth s) (ap (λ (xs : List ℕ). xs ++ starts.0) is ∙ append_assoc p k starts.0) starts.1) holds)
 
-  not_read : (f : Refusal) → IsOfInput f.reason → f.reason ≢ Read
-  not_read f own e = subst IsOfInput e own
+  pub item_refusal_whole : (r : Rules) (f : Refusal) → IsItemRefusal limits r front f → IsItemRefusal limits r (front ++ behind) f
+  item_refusal_whole r f (unread h e) = unread (unread_whole r f e h) e
+  item_refusal_whole r f (trailing size h l e) =
+      trailing size (record { item = h.item; verdict = verdict_whole r (accepted h.item) h.verdict; size = h.size }) (omega (arith, l, no_longer)) e
+
+  pub refusal_whole : (o : KeyOrder) (f : Refusal) → IsRefusal limits o front f → IsRefusal limits o (front ++ behind) f
+  refusal_whole o f (of_item h) = of_item (item_refusal_whole plain f h)
+  refusal_whole o f (canonical_too_long item v w l e) =
+      let same = all_of plain item v (ap length w) in
+      canonical_too_long item (verdict_whole plain (accepted item) v) (w ∙ same) l (e ∙ ap (λ (b : List ℕ). refusal CanonicalTooLong (length b) (length b)) same)
 
   -- ---- what `check` finds
 
@@ -119,11 +114,6 @@ module _ (limits : Bounds) (front behind : List ℕ) (enough : IsEnough limits f
   is_whole r size (h, e) =
       let same = all_of r h.item h.verdict (sym h.size ∙ e) in
       (record { item = h.item; verdict = verdict_whole r (accepted h.item) h.verdict; size = h.size }, e ∙ ap length same)
-
-  pub is_not_whole : (r : Rules) (f : Refusal) → IsOfInput f.reason → IsNotWhole limits r front f → IsNotWhole limits r (front ++ behind) f
-  is_not_whole r f own (check.unread h) = check.unread (unread_whole r f (not_read f own) h)
-  is_not_whole r f own (check.trailing size h l e) =
-      check.trailing size (record { item = h.item; verdict = verdict_whole r (accepted h.item) h.verdict; size = h.size }) (omega (arith, l, no_longer)) e
 
   -- ---- what `show` finds
 
@@ -182,7 +172,3 @@ module _ (limits : Bounds) (front behind : List ℕ) (enough : IsEnough limits f
 
   pub whole_item : AreAccepted limits front → IsWholeItem limits front → front ≡ front ++ behind
   whole_item are (s, valid) = let h = (are s).0 valid in all_of plain s h.0 (ap length h.1)
-
-  pub item_refusal_whole : (f : Refusal) → IsItemRefusal limits front f → IsItemRefusal limits (front ++ behind) f
-  item_refusal_whole f (items.unread h e) = items.unread (unread_whole plain f e h) e
-  item_refusal_whole f (items.trailing item v l e) = items.trailing item (verdict_whole plain (accepted item) v) (omega (arith, l, no_longer)) e

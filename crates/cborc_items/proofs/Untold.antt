@@ -1,5 +1,6 @@
 -- The fault of a side's refusal tells which side and why.
 use Rattle.std.proofs.Common.{ℕ, ◌≡◌, ◌∙◌, List, Option, ap, refl, sym, subst}
+use Rattle.cbor_head.specs.Complaint.{plain}
 use Rattle.cbor_head.specs.Limits.{Bounds}
 use Rattle.cbor_head.specs.declared.reason.Reason.{Reason}
 use Rattle.cbor_head.specs.declared.reason.Reason.TheVariants as reasons
@@ -14,9 +15,9 @@ use Rattle.cborc_input.specs.declared.fault.Fault.{Fault}
 
 module _ (limits : Bounds) (left right : List ℕ) (before after : Option (List ℕ)) where
   -- a slice fails at no read
-  never_read : (input : List ℕ) (f : Refusal) → IsItemRefusal limits input f → f.reason ≡ reasons.Read → ⊥
+  never_read : (input : List ℕ) (f : Refusal) → IsItemRefusal limits plain input f → f.reason ≡ reasons.Read → ⊥
   never_read input f (unread u apart) e = apart e
-  never_read input f (trailing s v l is) e = let t : reasons.Trailing ≡ reasons.Read = sym (ap (λ (x : Refusal). x.reason) is) ∙ e in cc t
+  never_read input f (trailing k h l is) e = let t : reasons.Trailing ≡ reasons.Read = sym (ap (λ (x : Refusal). x.reason) is) ∙ e in cc t
 
   for_reason : (side : Side) (f : Refusal) (reason : Reason) → f.reason ≡ reason → IsSideRefusal limits left right side f
       → IsUntold limits left right before after (side_reason_fault side f reason)

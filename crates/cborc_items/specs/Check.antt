@@ -1,12 +1,10 @@
 -- What `check` asks of a file's bytes.
-use Rattle.std.specs.Prelude.{ℕ, ◌≡◌, ◌<◌, ◌++◌, List, length, codes, decimal, Option}
+use Rattle.std.specs.Prelude.{ℕ, ◌≡◌, ◌++◌, List, length, codes, decimal, Option}
 use Rattle.std.specs.Io.KnownBytes.{Appends}
 use Rattle.cbor_head.specs.Complaint.{Rules}
 use Rattle.cbor_head.specs.Limits.{Bounds}
-use Rattle.cbor_head.specs.Verdict.{refusal}
-use Rattle.cbor_head.specs.declared.reason.Reason.TheVariants.{Trailing}
-use Rattle.cbor_head.specs.declared.reason.Refusal.{Refusal}
-use Rattle.cbor_judging.specs.Readers.{IsRead, IsUnread}
+use Rattle.cbor_judging.specs.Readers.{IsRead}
+use Rattle.cbor_reader.specs.WholeItem.{IsItemRefusal}
 use Rattle.cborc_input.specs.Fault.{IsOfInput}
 use Rattle.cborc_files.specs.Folder.{Files}
 use Rattle.cborc_fronts.specs.Input.{IsInput}
@@ -19,13 +17,6 @@ use Rattle.cborc_input.specs.declared.fault.Fault.TheVariants as faults
 -- the item at the front, accepted by the rules within the limits, is the whole input, so many bytes
 abbrev pub IsWhole : Bounds → Rules → List ℕ → ℕ → Type 0
 IsWhole limits rules input size = IsRead limits rules input size × (size ≡ length input)
-
--- why it isn't
-pub data IsNotWhole (limits : Bounds) (rules : Rules) (input : List ℕ) (f : Refusal) : Type 0 where
-  -- no item is accepted
-  unread : IsUnread limits rules input f → IsNotWhole limits rules input f
-  -- a byte follows the item
-  trailing : (size : ℕ) → IsRead limits rules input size → size < length input → f ≡ refusal Trailing size size → IsNotWhole limits rules input f
 
 -- the line of an item that is accepted, of so many bytes
 abbrev pub accepted_bytes : ℕ → List ℕ
@@ -50,6 +41,6 @@ pub record IsUntoldOf (rules : Rules) (options : Options) (source : List ℕ) (h
 -- why nothing is told: the input is refused, there is none, or standard output failed
 abbrev pub IsNotChecked : Rules → Options → List ℕ → Option Files → Option (List ℕ) → Option (List ℕ) → Fault → Type 0
 IsNotChecked rules options source held before after (faults.Refused f) =
-    (input : List ℕ) × IsInput held source options.hex input × IsNotWhole options.limits rules input f × IsOfInput f.reason
+    (input : List ℕ) × IsInput held source options.hex input × IsItemRefusal options.limits rules input f × IsOfInput f.reason
 IsNotChecked rules options source held before after faults.CannotPrint = IsUntoldOf rules options source held before after
 IsNotChecked rules options source held before after fault = IsNoInput held source options.hex fault

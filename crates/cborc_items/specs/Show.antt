@@ -4,7 +4,7 @@ use Rattle.std.specs.Io.KnownBytes.{Appends, Keeps}
 use Rattle.cbor_head.specs.Complaint.{plain}
 use Rattle.cbor_head.specs.Value.{Value}
 use Rattle.cbor_judging.specs.Readers.{IsReadAs}
-use Rattle.cborc_items.specs.Check.{IsNotWhole}
+use Rattle.cbor_reader.specs.WholeItem.{IsItemRefusal}
 use Rattle.cborc_input.specs.Fault.{IsOfInput}
 use Rattle.cborc_files.specs.Folder.{Files}
 use Rattle.cborc_fronts.specs.Input.{IsInput}
@@ -36,6 +36,6 @@ pub record IsUnshownOf (layout : Layout) (options : Options) (source : List ℕ)
 -- why it is not shown: the input is refused, there is none, or standard output failed
 abbrev pub IsNotShown : Layout → Options → List ℕ → Option Files → Option (List ℕ) → Option (List ℕ) → Fault → Type 0
 IsNotShown layout options source held before after (faults.Refused f) =
-    (input : List ℕ) × IsInput held source options.hex input × IsNotWhole options.limits plain input f × IsOfInput f.reason
+    (input : List ℕ) × IsInput held source options.hex input × IsItemRefusal options.limits plain input f × IsOfInput f.reason
 IsNotShown layout options source held before after faults.CannotPrint = IsUnshownOf layout options source held before after
 IsNotShown layout options source held before after fault = IsNoInput held source options.hex fault × Keeps before after

@@ -2,9 +2,11 @@
 
 ghost use Rattle.std.specs.Prelude.{◌≡◌, ◌≢◌, OnOk, IfOk, IfErr};
 ghost use Rattle.std.specs.Io.KnownBytes.{Appends};
+ghost use Rattle.cbor_reader.specs.WholeItem.{IsItemRefusal};
+ghost use Rattle.cborc_input.specs.Fault.{IsOfInput};
 ghost use Rattle.cborc_input.specs.Rules.{rules_of};
 ghost use Rattle.cborc_input.specs.Texts.{IsNotTaken};
-ghost use Rattle.cborc_items.specs.Check.{accepted_bytes, IsWhole, IsNotWhole, IsChecked, IsNotChecked};
+ghost use Rattle.cborc_items.specs.Check.{accepted_bytes, IsWhole, IsChecked, IsNotChecked};
 ghost use Rattle.cborc_files.specs.Folder.{KeepsFiles};
 
 use cbor_head::{Limits, Reason, Refusal};
@@ -65,7 +67,8 @@ pub(crate) fn size_of_item(
     limits: Limits,
 ) -> Result<u64, Refusal>
     ensures whole { IfOk result (IsWhole limits (rules_of accepted) bytes.now) }
-    ensures refused { IfErr result (IsNotWhole limits (rules_of accepted) bytes.now) }
+    ensures refused { IfErr result (λ f. IsOfInput f.reason
+        → IsItemRefusal limits (rules_of accepted) bytes.now f) }
 {
     let size = room.size_at_front(bytes, accepted, limits)?;
     if size == bytes.len() as u64 {

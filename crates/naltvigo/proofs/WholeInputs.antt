@@ -5,15 +5,15 @@ use Rattle.cbor_head.specs.Spelling.{Spelling, spell}
 use Rattle.cbor_head.specs.Complaint.{plain, strict}
 use Rattle.cbor_head.specs.Verdict.{IsVerdict, accepted, refused, refusal}
 use Rattle.cbor_head.specs.declared.order.KeyOrder.{KeyOrder}
-use Rattle.cbor_head.specs.declared.reason.Reason.TheVariants.{Trailing}
+use Rattle.cbor_head.specs.declared.reason.Reason.TheVariants.{Trailing, Memory}
 use Rattle.cbor_head.specs.declared.reason.Refusal.{Refusal}
 use Rattle.cbor_reader.specs.Canonicalise.{IsCanonicalOf}
 use Rattle.cbor_reader.specs.Headline.{IsValidItem}
 use Rattle.cbor_judging.proofs.Accepted.{item_is_whole, one_item, not_both}
-use Rattle.cbor_judging.specs.Readers.{HasNoCanonicalFront, IsCanonicalFront, IsRead}
-use Rattle.cbor_reader.specs.WholeItem as whole
-use Rattle.cbor_reader.specs.WholeItem.{IsWholeItem, IsItemRefusal}
-use Rattle.naltvigo.specs.Checking.{HasNoWholeFront, of_verdict, trailing}
+use Rattle.cbor_judging.proofs.Reasons.{never-read, never-memory}
+use Rattle.cbor_judging.specs.Readers.{HasNoCanonicalFront, IsCanonicalFront, IsRead, of_verdict}
+use Rattle.cbor_reader.specs.WholeItem.{IsWholeItem, unread, trailing}
+use Rattle.naltvigo.specs.Checking.{HasNoWholeFront}
 use Rattle.naltvigo.specs.inner.Checking.{IsOwnAnswer, IsNotOwn}
 
 -- ---- by the plain rules
@@ -22,9 +22,6 @@ module _ (limits : Bounds) (input : List ℕ) where
   pub is-whole : (count : ℕ) → IsRead limits plain input count → length input ≤ count
       → ((s : Spelling) → IsValidItem limits input s ↔ (IsVerdict limits plain input (accepted s) × (spell s ≡ input))) → IsWholeItem limits input
   is-whole count r least valid = (r.item, (valid r.item).1 (r.verdict, item_is_whole limits plain input r.item r.verdict (omega (arith, r.size, least))))
-
-  pub is-followed : (count : ℕ) (f : Refusal) → IsRead limits plain input count → count < length input → f ≡ refusal Trailing count count → IsItemRefusal limits input f
-  is-followed count f r l is = whole.trailing r.item r.verdict (omega (arith, r.size, l)) (is ∙ ap (λ (k : ℕ). refusal Trailing k k) r.size)
 
 -- ---- by the strict rules
 
@@ -43,7 +40,8 @@ module _ (limits : Bounds) (o : KeyOrder) (input : List ℕ) where
     pub followed : (count : ℕ) (f : Refusal) → IsRead limits (strict o) input count → IsCanonicalFront limits o input count → count < length input
         → f ≡ refusal Trailing count count → IsNotOwn limits o input f
     followed count f r front l is = record {
-      refused = trailing r.item r.verdict (omega (arith, r.size, l)) (is ∙ ap (λ (k : ℕ). refusal Trailing k k) r.size);
+      refused = trailing count r l is;
+      not_memory = λ e. let two : Trailing ≡ Memory = sym (ap (λ (g : Refusal). g.reason) is) ∙ e in cc two;
       not_own = λ c.
           let h = own.0 c in
           let all-bytes : spell r.item ≡ input = ap spell (one_item limits (strict o) input r.item h.0 r.verdict h.1) ∙ h.2 in
@@ -53,7 +51,8 @@ module _ (limits : Bounds) (o : KeyOrder) (input : List ℕ) where
 
     pub refuses : (f : Refusal) → IsVerdict limits (strict o) input (refused f) → HasNoCanonicalFront limits o input → IsNotOwn limits o input f
     refuses f v none = record {
-      refused = of_verdict v;
+      refused = unread (of_verdict v) (never-read limits (strict o) input f v);
+      not_memory = never-memory limits (strict o) input f v;
       not_own = λ c. let h = own.0 c in not_both limits (strict o) input h.0 f h.1 v;
       front = inl none;
     }

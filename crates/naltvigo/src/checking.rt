@@ -1,13 +1,13 @@
 //! Whether an input is one item.
 
 ghost use Rattle.std.specs.Prelude.{◌≡◌, ◌≢◌, ◌↔◌, ◌⊎◌, ◌<◌, ◌≤◌, length, IfOk, IfErr};
-ghost use Rattle.cbor_head.specs.Complaint.{strict};
+ghost use Rattle.cbor_head.specs.Complaint.{plain, strict};
 ghost use Rattle.cbor_head.specs.declared.reason.Reason.TheVariants as reasons;
 ghost use Rattle.cbor_reader.specs.Canonicalise.{IsCanonicalOf};
 ghost use Rattle.cbor_judging.specs.Readers.{IsRead, IsCanonicalFront};
 ghost use Rattle.cbor_reader.specs.WholeItem.{IsWholeItem, IsItemRefusal};
 ghost use Rattle.naltvigo.specs.Settings.{key_order, item_limits, AreLimits};
-ghost use Rattle.naltvigo.specs.Checking.{HasNoWholeFront, IsNotCanonical, IsNotValid, ItemLacksMemory};
+ghost use Rattle.naltvigo.specs.Checking.{HasNoWholeFront, IsNoItem, ItemLacksMemory};
 ghost use Rattle.naltvigo.specs.inner.Checking.{IsOwnAnswer, IsNotOwn};
 
 use crate::settings::{limits_of, order_numbered};
@@ -34,7 +34,7 @@ pub extern "C" fn naltvigo_check_canonical_raw(
     ensures canonical { result ≡ OK
         → IsCanonicalFront (item_limits keys depth bytes) (key_order order) input.now (length input.now) }
     ensures refused { result ≡ REFUSED
-        → IsNotCanonical (item_limits keys depth bytes) (key_order order) input.now refusal.new }
+        → IsNoItem (item_limits keys depth bytes) (strict (key_order order)) input.now refusal.new }
     ensures not_own { result ≡ REFUSED
         → ¬ IsCanonicalOf (item_limits keys depth bytes) (key_order order) input.now input.now }
     ensures front { result ≡ REFUSED
@@ -73,7 +73,8 @@ pub extern "C" fn naltvigo_check_valid_raw(
     refusal: &mut NaltvigoRefusal,
 ) -> u32
     ensures accepted { result ≡ OK → IsWholeItem (item_limits keys depth bytes) input.now }
-    ensures refused { result ≡ REFUSED → IsNotValid (item_limits keys depth bytes) input.now refusal.new }
+    ensures refused { result ≡ REFUSED
+        → IsNoItem (item_limits keys depth bytes) plain input.now refusal.new }
     ensures not_accepted { result ≡ REFUSED → ¬ IsWholeItem (item_limits keys depth bytes) input.now }
     ensures no_memory { result ≡ NO_MEMORY
         → ItemLacksMemory (item_limits keys depth bytes) input.now refusal.new }
@@ -108,7 +109,7 @@ fn check_own_bytes(input: &[u8], limits: Limits, order: KeyOrder) -> Result<(), 
 // The input is one valid item; else why it is none.
 pub(crate) fn check_whole_item(alloc: Global, input: &[u8], limits: Limits) -> Result<(), Refusal>
     ensures accepted { IfOk result (λ _. IsWholeItem limits input.now) }
-    ensures refused { IfErr result (IsItemRefusal limits input.now) }
+    ensures refused { IfErr result (IsItemRefusal limits plain input.now) }
     ensures not_accepted { IfErr result (λ f. f.reason ≢ reasons.Memory
         → ¬ IsWholeItem limits input.now) }
 {

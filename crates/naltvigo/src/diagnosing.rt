@@ -1,8 +1,9 @@
 //! Diagnostic text into a buffer of the caller's.
 
 ghost use Rattle.std.specs.Prelude.{◌≡◌, ◌≢◌, ◌⊎◌, ◌<◌, ◌≤◌, ℕ, List, length, take, drop};
+ghost use Rattle.cbor_head.specs.Complaint.{plain};
 ghost use Rattle.cbor_reader.specs.WholeItem.{IsWholeItem};
-ghost use Rattle.naltvigo.specs.Checking.{IsNotValid};
+ghost use Rattle.naltvigo.specs.Checking.{IsNoItem};
 ghost use Rattle.naltvigo.specs.Diagnosing.{IsTextOf, TextLacksMemory};
 ghost use Rattle.naltvigo.specs.Settings.{item_limits, AreLimits};
 
@@ -34,7 +35,8 @@ pub extern "C" fn naltvigo_diagnostic_raw(
     ensures too_small { result ≡ TOO_SMALL
         → (x : List ℕ) × IsTextOf (item_limits keys depth bytes) input.now x
         × (needed.new ≡ length x) × (length out.old < length x) }
-    ensures refused { result ≡ REFUSED → IsNotValid (item_limits keys depth bytes) input.now refusal.new }
+    ensures refused { result ≡ REFUSED
+        → IsNoItem (item_limits keys depth bytes) plain input.now refusal.new }
     ensures not_accepted { result ≡ REFUSED → ¬ IsWholeItem (item_limits keys depth bytes) input.now }
     ensures no_memory { result ≡ NO_MEMORY
         → TextLacksMemory (item_limits keys depth bytes) input.now refusal.new }

@@ -1,12 +1,14 @@
 -- What the strict check of a whole input answers.
-use Rattle.std.specs.Prelude.{ℕ, List, length}
+use Rattle.std.specs.Prelude.{ℕ, ◌≢◌, List, length}
 use Rattle.cbor_head.specs.Limits.{Bounds}
 use Rattle.cbor_head.specs.Complaint.{strict}
 use Rattle.cbor_head.specs.declared.order.KeyOrder.{KeyOrder}
+use Rattle.cbor_head.specs.declared.reason.Reason.TheVariants.{Memory}
 use Rattle.cbor_head.specs.declared.reason.Refusal.{Refusal}
 use Rattle.cbor_reader.specs.Canonicalise.{IsCanonicalOf}
 use Rattle.cbor_judging.specs.Readers.{IsRead, IsCanonicalFront}
-use Rattle.naltvigo.specs.Checking.{HasNoWholeFront, IsStrictRefusal}
+use Rattle.cbor_reader.specs.WholeItem.{IsItemRefusal}
+use Rattle.naltvigo.specs.Checking.{HasNoWholeFront}
 
 -- the input is its own answer
 pub record IsOwnAnswer (limits : Bounds) (o : KeyOrder) (input : List ℕ) : Type 0 where
@@ -16,6 +18,7 @@ pub record IsOwnAnswer (limits : Bounds) (o : KeyOrder) (input : List ℕ) : Typ
 
 -- it isn't
 pub record IsNotOwn (limits : Bounds) (o : KeyOrder) (input : List ℕ) (f : Refusal) : Type 0 where
-  pub refused : IsStrictRefusal limits o input f
+  pub refused : IsItemRefusal limits (strict o) input f
+  pub not_memory : f.reason ≢ Memory
   pub not_own : ¬ IsCanonicalOf limits o input input
   pub front : HasNoWholeFront limits o input f.place

@@ -4,13 +4,14 @@ use Rattle.std.proofs.lemmas.Result.{err_from_is_err_and}
 use Rattle.cbor_head.specs.declared.reason.Reason.TheVariants.{CanonicalTooLong, Memory}
 use Rattle.cbor_head.specs.declared.reason.Refusal.{Refusal}
 use Rattle.cbor_reader.proofs.OneAnswer.{only_memory}
-use Rattle.cbor_reader.proofs.WholeItems.{item_refused, becomes, grows_too_long}
+use Rattle.cbor_reader.specs.Canonicalise.{of_item}
+use Rattle.cbor_reader.proofs.WholeItems.{becomes, grows_too_long}
 use Rattle.cbor_reader.proofs.canonicaliser.answer.Goals as goal
 
 pub returns-in_err-canonical-clause-answer : goal.returns-in_err-canonical-clause-answer
 returns-in_err-canonical-clause-answer c =
     let p = err_from_is_err_and c.from_residual.result c.from_residual.ensures.1 in
-    rw (p.1, p.2) (item_refused c.args.limits c.args.order c.args.bytes.now _ c.in_err-canonical.ensures.refused)
+    rw (p.1, p.2) (of_item c.in_err-canonical.ensures.refused)
 
 pub returns-then-len-bytes-clause-answer : goal.returns-then-len-bytes-clause-answer
 returns-then-len-bytes-clause-answer c =

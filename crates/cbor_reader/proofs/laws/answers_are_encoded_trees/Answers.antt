@@ -1,4 +1,7 @@
-use Rattle.cbor_reader.proofs.WholeItems.{tree_becomes, tree_too_long, tree_followed, tree_refused}
+use Rattle.std.proofs.Common.{refl}
+use Rattle.cbor_reader.specs.Canonicalise.{of_item}
+use Rattle.cbor_reader.specs.WholeItem.{unread, trailing}
+use Rattle.cbor_reader.proofs.WholeItems.{tree_becomes, tree_too_long}
 use Rattle.cbor_reader.proofs.laws.answers_are_encoded_trees.Goals as goal
 
 pub returns-clause-answer : goal.returns-clause-answer
@@ -8,7 +11,7 @@ pub returns-clause-too_long : goal.returns-clause-too_long
 returns-clause-too_long c = tree_too_long
 
 pub returns-clause-followed : goal.returns-clause-followed
-returns-clause-followed c = tree_followed
+returns-clause-followed c = λ limits o input v count a l. of_item (trailing count a.read l refl)
 
 pub returns-clause-refused : goal.returns-clause-refused
-returns-clause-refused c = tree_refused
+returns-clause-refused c = λ limits o input f u g. of_item (unread u g)

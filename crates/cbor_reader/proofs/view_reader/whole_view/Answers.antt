@@ -1,11 +1,11 @@
 use Rattle.std.proofs.Common.{arith}
-use Rattle.cbor_reader.specs.WholeItem.{unread}
-use Rattle.cbor_reader.proofs.WholeItems.{trails, all-of-it}
+use Rattle.cbor_reader.specs.WholeItem.{unread, trailing}
+use Rattle.cbor_reader.proofs.WholeItems.{all-of-it}
 use Rattle.cbor_reader.proofs.view_reader.whole_view.Goals as goal
 
 pub returns-then-size-bytes-clause-refused : goal.returns-then-size-bytes-clause-refused
 returns-then-size-bytes-clause-refused c =
-    trails c.args.limits c.args.bytes.now c.in-Ok.size c.in-Ok.ensures.accepted.read c.at.result (omega (arith, c.if-size-bytes.true)) c.at.ensures
+    trailing c.in-Ok.size c.in-Ok.ensures.accepted.read (omega (arith, c.if-size-bytes.true)) c.at.ensures
 
 pub returns-else-size-bytes-clause-accepted : goal.returns-else-size-bytes-clause-accepted
 returns-else-size-bytes-clause-accepted c =

@@ -1,13 +1,12 @@
 use Rattle.std.proofs.Common.{arith}
-use Rattle.cbor_reader.specs.WholeItem.{unread}
 use Rattle.cbor_head.specs.Spelling.{value_of}
+use Rattle.cbor_reader.specs.WholeItem.{unread, trailing}
 use Rattle.cbor_reader.proofs.OwnAnswers.{own_front}
-use Rattle.cbor_reader.proofs.WholeItems.{trails, all-of-it}
+use Rattle.cbor_reader.proofs.WholeItems.{all-of-it}
 use Rattle.cbor_reader.proofs.whole_item.encoded_item.Goals as goal
 
 pub returns-then-size-bytes-clause-refused : goal.returns-then-size-bytes-clause-refused
-returns-then-size-bytes-clause-refused c =
-    trails c.args.limits c.args.bytes.now c.in-Ok.size c.in-Ok.ensures.accepted.read c.at.result (omega (arith, c.if-size-bytes.true)) c.at.ensures
+returns-then-size-bytes-clause-refused c = trailing c.in-Ok.size c.in-Ok.ensures.accepted.read (omega (arith, c.if-size-bytes.true)) c.at.ensures
 
 pub returns-else-size-bytes-clause-encoded : goal.returns-else-size-bytes-clause-encoded
 returns-else-size-bytes-clause-encoded c =

@@ -1,15 +1,17 @@
-use Rattle.std.proofs.Common.{refl}
+use Rattle.std.proofs.Common.{arith, refl, subst}
 use Rattle.std.proofs.lemmas.Result.{err_from_is_err_and}
 use Rattle.cborc_input.specs.Rules.{rules_of}
-use Rattle.cborc_items.specs.Check.{unread}
-use Rattle.cborc_items.proofs.Whole.{is_longer}
+use Rattle.cbor_reader.specs.WholeItem.{unread, trailing}
+use Rattle.cborc_input.specs.Fault.{IsOfInput}
+use Rattle.cborc_fronts.proofs.Within.{read_within}
 use Rattle.cborc_items.proofs.check.size_of_item.Goals as goal
 
 pub returns-in_err-size-clause-refused : goal.returns-in_err-size-clause-refused
 returns-in_err-size-clause-refused c =
     let p = err_from_is_err_and c.from_residual.result c.from_residual.ensures.1 in
-    rw (p.1, p.2) (unread c.in_err-size.ensures.refused)
+    rw (p.1, p.2) (λ own. unread c.in_err-size.ensures.refused (λ e. subst IsOfInput e own))
 
 pub returns-else-size-bytes-clause-refused : goal.returns-else-size-bytes-clause-refused
 returns-else-size-bytes-clause-refused c =
-    is_longer _ (rules_of c.args.accepted) _ refl _ c.in_ok-size.size c.in_ok-size.ensures.accepted c.if-size-bytes.false
+    let read = c.in_ok-size.ensures.accepted in
+    λ own. trailing c.in_ok-size.size read (omega (arith, read_within c.args.limits (rules_of c.args.accepted) c.args.bytes.now c.in_ok-size.size read, c.if-size-bytes.false)) refl

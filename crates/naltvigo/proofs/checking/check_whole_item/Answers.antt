@@ -1,16 +1,16 @@
-use Rattle.cbor_reader.specs.WholeItem.{unread}
-use Rattle.naltvigo.proofs.WholeInputs.{is-whole, is-followed}
+use Rattle.cbor_reader.specs.WholeItem.{unread, trailing}
+use Rattle.naltvigo.proofs.WholeInputs.{is-whole}
 use Rattle.naltvigo.proofs.checking.check_whole_item.Goals as goal
 
 pub returns-in-Ok-clause-refused : goal.returns-in-Ok-clause-refused
 returns-in-Ok-clause-refused c =
-    is-followed c.args.limits c.args.input.now c.in-Ok.size c.at.result c.in-Ok.ensures.accepted c.if-size-input.true c.at.ensures
+    trailing c.in-Ok.size c.in-Ok.ensures.accepted c.if-size-input.true c.at.ensures
 
 pub returns-in-Ok-clause-not_accepted : goal.returns-in-Ok-clause-not_accepted
 returns-in-Ok-clause-not_accepted c =
     λ h w. h
     (c.items_and_their_refusals.ensures.either _ c.args.input.now _ w
-    (is-followed c.args.limits c.args.input.now c.in-Ok.size c.at.result c.in-Ok.ensures.accepted c.if-size-input.true c.at.ensures))
+    (trailing c.in-Ok.size c.in-Ok.ensures.accepted c.if-size-input.true c.at.ensures))
 
 pub returns-in-Ok-2-clause-accepted : goal.returns-in-Ok-2-clause-accepted
 returns-in-Ok-2-clause-accepted c =
