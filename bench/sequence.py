@@ -24,29 +24,30 @@ CANONICAL = 3
 COUNT = 4000
 
 
-def count(words, path, head, item):
+def count(words, path, out, head, item):
     """The instructions of an item, where so many follow what `head` makes of their count."""
     found = []
     for times in (COUNT, COUNT // 2):
         with open(path, "wb") as file:
             file.write(head(times) + times * item)
-        found.append(instructions(*words, path))
+        found.append(instructions(*words, path, *out))
     return (found[0] - found[1]) / (COUNT - COUNT // 2)
 
 
-def beyond(cborc, path, words, item):
-    one = count([cborc, *words, "--seq"], path, lambda _: b"", item)
-    return one - count([cborc, *words], path, lambda times: b"\x99" + times.to_bytes(2, "big"), item)
+def beyond(cborc, path, words, item, out=()):
+    one = count([cborc, *words, "--seq"], path, out, lambda _: b"", item)
+    return one - count([cborc, *words], path, out, lambda times: b"\x99" + times.to_bytes(2, "big"), item)
 
 
 def main():
     cborc, path = sys.argv[1], f"{sys.argv[2]}/items"
-    print("| an item of a sequence, beyond its bytes' own work | `check --seq` | `check --strict --seq` |")
-    print("| --- | ---: | ---: |")
+    print("| an item of a sequence, beyond its bytes' own work | `check --seq` | `check --strict --seq` | `canon --seq` |")
+    print("| --- | ---: | ---: | ---: |")
     for place, (name, item) in enumerate(ITEMS.items()):
         plain = f"{beyond(cborc, path, ['check'], item):,.0f}"
         strict = f"{beyond(cborc, path, ['check', '--strict'], item):,.0f}" if place < CANONICAL else ""
-        print(f"| {name} | {plain} | {strict} |", flush=True)
+        canon = f"{beyond(cborc, path, ['canon'], item, [path + '.canonical']):,.0f}"
+        print(f"| {name} | {plain} | {strict} | {canon} |", flush=True)
 
 
 if __name__ == "__main__":

@@ -92,7 +92,7 @@ module _ (b : Bounds) (o : KeyOrder) (bytes canonical : List ℕ) (size : ℕ) (
       → IsUnwritten b o form (bytes ++ behind) (faults.Refused f) out out
   grown_too_long l form out behind f is = (
     too_long h.read.item (drop (length (spell h.read.item)) bytes ++ behind) (item_accepted b plain bytes size h.read) (stands_before b plain bytes size h.read behind) (rw (← h.canonical_is) l)
-    (is ∙ ap (λ (k : ℕ). refusal reasons.CanonicalTooLong k k) h.read.size),
+        (is ∙ ap (λ (k : ℕ). refusal reasons.CanonicalTooLong k k) h.read.size),
     subst IsOfInput (ap (λ (g : Refusal). g.reason) (sym is)) tt,
     refl,
   )

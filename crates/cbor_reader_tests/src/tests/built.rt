@@ -183,8 +183,18 @@ fn builds_large_sizes(rt: HostRuntime) -> Result<(), Fail> {
 static FRONTS: [(&[u8], &[u8], u64, bool); 5] = [
     (b"\0\xff", b"\0", 1, true),
     (b"\x18\0\xff", b"\0", 2, false),
-    (b"\xa2\x63Amt\x21\x63Fun\xf5\0", b"\xa2\x63Amt\x21\x63Fun\xf5", 11, true),
-    (b"\xbf\x63Fun\xf5\x63Amt\x21\xff\xff", b"\xa2\x63Amt\x21\x63Fun\xf5", 12, false),
+    (
+        b"\xa2\x63Amt\x21\x63Fun\xf5\0",
+        b"\xa2\x63Amt\x21\x63Fun\xf5",
+        11,
+        true,
+    ),
+    (
+        b"\xbf\x63Fun\xf5\x63Amt\x21\xff\xff",
+        b"\xa2\x63Amt\x21\x63Fun\xf5",
+        12,
+        false,
+    ),
     (b"\x5f\x41a\x41b\xff\x5f", b"\x42ab", 6, false),
 ];
 
