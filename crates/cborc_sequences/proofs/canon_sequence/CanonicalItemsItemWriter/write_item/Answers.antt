@@ -12,18 +12,18 @@ returns-in-Err-clause-stopped g c =
     (g.W.Write.contents c.args.out.now) c.in-Err.ensures.refused)
     c.unless_cut.ensures.fault
 
-pub returns-then-len-bytes-clause-stopped : goal.returns-then-len-bytes-clause-stopped
-returns-then-len-bytes-clause-stopped g c behind ends =
-    grown_too_long c.args.limits c.args.self.now.order c.args.bytes.now _ _ c.in-Ok.ensures.accepted (omega (arith, c.if-len-bytes.true)) c.args.self.now.form
+pub returns-then-canonical-bytes-clause-stopped : goal.returns-then-canonical-bytes-clause-stopped
+returns-then-canonical-bytes-clause-stopped g c behind ends =
+    grown_too_long c.args.limits c.args.self.now.order c.args.bytes.now _ _ c.in-Ok.ensures.accepted (omega (arith, c.if-canonical-bytes.true)) c.args.self.now.form
     (g.W.Write.contents c.args.out.now) behind c.at.result c.at.ensures
 
 pub returns-in-Ok-write_whole-clause-written : goal.returns-in-Ok-write_whole-clause-written
 returns-in-Ok-write_whole-clause-written g c =
-    canonical_of c.args.limits c.args.self.now.order c.args.bytes.now _ _ c.in-Ok.ensures.accepted (omega (arith, c.if-len-bytes.false)) c.args.self.now.form _
+    canonical_of c.args.limits c.args.self.now.order c.args.bytes.now _ _ c.in-Ok.ensures.accepted (omega (arith, c.if-canonical-bytes.false)) c.args.self.now.form _
     c.in-Ok-formed.ensures _ _ (rw (c.as_slice.ensures.value) at c.in-Ok-write_whole.ensures)
 
 pub returns-clause-stopped : goal.returns-clause-stopped
 returns-clause-stopped g c behind ends =
     let cut = rw (c.as_slice.ensures.value) at c.in-Err-write_whole.ensures in
-    cut_text c.args.limits c.args.self.now.order c.args.bytes.now _ _ c.in-Ok.ensures.accepted (omega (arith, c.if-len-bytes.false)) c.args.self.now.form _
+    cut_text c.args.limits c.args.self.now.order c.args.bytes.now _ _ c.in-Ok.ensures.accepted (omega (arith, c.if-canonical-bytes.false)) c.args.self.now.form _
     c.in-Ok-formed.ensures _ _ _ behind cut.0 cut.1
