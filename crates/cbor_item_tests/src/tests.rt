@@ -3,6 +3,7 @@
 mod canon_builder;
 mod due_keys;
 mod failed;
+mod reused;
 mod sorted;
 mod tree_builder;
 mod trees;

@@ -168,18 +168,6 @@ fn what_was_given_is_taken_away(rt: HostRuntime) -> Result<(), AllocError> {
     Ok(())
 }
 
-#[test]
-fn what_is_finished_is_shown_and_cleared(rt: HostRuntime) -> Result<(), AllocError> {
-    let mut builder = CanonBuilder::new(rt.alloc(), KeyOrder::Bytewise);
-    give_fronts(&mut builder)?;
-    assert!(rt; builder.as_slice() == b"\x82\x62ab\x41x".as_slice());
-    builder.clear(KeyOrder::LengthFirst);
-    assert!(rt; builder.order() == KeyOrder::LengthFirst);
-    builder.leaf(Major::Unsigned, 7)?;
-    assert!(rt; builder.as_slice() == b"\x07".as_slice());
-    Ok(())
-}
-
 // Two pairs in falling order, with one value.
 fn give_falling(builder: &mut CanonBuilder, content: &[u8]) -> Result<bool, AllocError>
     requires empty { builder.old.standing ≡ plain [] ∷ [] }
