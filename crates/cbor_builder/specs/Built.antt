@@ -7,7 +7,7 @@ use Rattle.cbor_head.specs.declared.major.Major.{Major}
 use Rattle.cbor_head.specs.declared.major.Major.TheVariants.{Unsigned, Negative, Bytes, Text, Array, Map, Tag, Simple}
 use Rattle.cbor_canonical.specs.Parts.{Open, an_array, a_map, a_key, a_string, HasNoRepeats}
 
--- the order of keys, and what is open, the innermost first: nothing, after a call was refused memory
+-- the order of keys, and what is open, the innermost first: nothing, from a call that is refused memory until it is as new again
 pub record Built : Type 0 where
   pub order : KeyOrder
   pub standing : List Open

@@ -1,6 +1,6 @@
 //! The public builder: canonical bytes from the parts of an item, without a tree.
 
-ghost use Rattle.std.specs.Prelude.{◌≡◌, ◌↔◌, ◌++◌, ◌∷◌, [], List, ℕ, false, length, IsTrue, OnOk};
+ghost use Rattle.std.specs.Prelude.{◌≡◌, ◌↔◌, ◌++◌, ◌∷◌, [], List, ℕ, false, length, IsTrue, OnOk, OnErr};
 ghost use Rattle.std.specs.Prelude.{◌≤◌, IfOk, MatchOption, take};
 ghost use Rattle.cbor_head.specs.Canonical.{canonical};
 ghost use Rattle.cbor_head.specs.Head.{shortest_head, IsSimple};
@@ -23,8 +23,8 @@ use std::marker::Model;
 use std::mem;
 
 /// Canonical bytes (RFC 8949, sections 4.2.1 and 4.2.3) from the parts of one item as they come,
-/// without a tree. A map's pairs are put in order as the map ends. After a call has been refused
-/// memory the builder may only be dropped, or cleared.
+/// without a tree. A map's pairs are put in order as the map ends. A call that is refused memory
+/// leaves nothing open, so that the builder takes no more parts until it is cleared.
 ///
 /// ```
 /// // {1: [2], 0: "a"}
@@ -97,6 +97,7 @@ impl CanonBuilder {
         ensures given { OnOk result
             (self.new ≡ built self.old.order
             (give (shortest_head major argument) self.old.standing)) }
+        ensures refused { OnErr result (self.new.standing ≡ []) }
     {
         let done = self.core.leaf(major, argument);
         if done.is_err() {
@@ -114,6 +115,7 @@ impl CanonBuilder {
         ensures given { OnOk result
             (self.new ≡ built self.old.order
             (give (shortest_head major (length content.now) ++ content.now) self.old.standing)) }
+        ensures refused { OnErr result (self.new.standing ≡ []) }
     {
         let done = self.core.string(major, content, content.len());
         if done.is_err() {
@@ -138,6 +140,7 @@ impl CanonBuilder {
         ensures given { OnOk result
             (self.new ≡ built self.old.order
             (give (shortest_head major count ++ take count front.now) self.old.standing)) }
+        ensures refused { OnErr result (self.new.standing ≡ []) }
     {
         let done = self.core.string(major, front, count);
         if done.is_err() {
@@ -152,6 +155,7 @@ impl CanonBuilder {
         requires takes { TakesPart self.old.standing }
         ensures order { self.new.order ≡ self.old.order }
         ensures given { OnOk result (self.new ≡ built self.old.order (give [] self.old.standing)) }
+        ensures refused { OnErr result (self.new.standing ≡ []) }
     {
         let done = self.core.nothing();
         if done.is_err() {
@@ -168,6 +172,7 @@ impl CanonBuilder {
         ensures order { self.new.order ≡ self.old.order }
         ensures opened { OnOk result
             (self.new ≡ built self.old.order (opened major 0 ∷ self.old.standing)) }
+        ensures refused { OnErr result (self.new.standing ≡ []) }
     {
         let done = self.core.begin(major, 0);
         if done.is_err() {
@@ -183,6 +188,7 @@ impl CanonBuilder {
         ensures order { self.new.order ≡ self.old.order }
         ensures extended { OnOk result
             (self.new ≡ built self.old.order (extended content.now self.old.standing)) }
+        ensures refused { OnErr result (self.new.standing ≡ []) }
     {
         let done = self.core.bytes(content, content.len());
         if done.is_err() {
@@ -199,6 +205,7 @@ impl CanonBuilder {
         ensures order { self.new.order ≡ self.old.order }
         ensures extended { OnOk result
             (self.new ≡ built self.old.order (extended (take count front.now) self.old.standing)) }
+        ensures refused { OnErr result (self.new.standing ≡ []) }
     {
         let done = self.core.bytes(front, count);
         if done.is_err() {
@@ -214,6 +221,7 @@ impl CanonBuilder {
         ensures order { self.new.order ≡ self.old.order }
         ensures ended { OnOk result
             (self.new ≡ built self.old.order (close self.old.order self.old.standing)) }
+        ensures refused { OnErr result (self.new.standing ≡ []) }
     {
         self.is_sound = false;
         // No string has keys that could be equal.
@@ -231,6 +239,7 @@ impl CanonBuilder {
         ensures order { self.new.order ≡ self.old.order }
         ensures opened { OnOk result
             (self.new ≡ built self.old.order (opened major number ∷ self.old.standing)) }
+        ensures refused { OnErr result (self.new.standing ≡ []) }
     {
         let done = self.core.begin(major, number);
         if done.is_err() {
@@ -247,6 +256,7 @@ impl CanonBuilder {
         ensures order { self.new.order ≡ self.old.order }
         ensures ended { OnOk result
             (self.new ≡ built self.old.order (close self.old.order self.old.standing)) }
+        ensures refused { OnErr result (self.new.standing ≡ []) }
     {
         self.is_sound = false;
         // No two keys are the same.
@@ -267,6 +277,7 @@ impl CanonBuilder {
         ensures ended { IfOk result (λ distinct. IsTrue distinct
             → self.new ≡ built self.old.order (close self.old.order self.old.standing)) }
         ensures kept { IfOk result (λ distinct. distinct ≡ false → self.new ≡ self.old) }
+        ensures refused { OnErr result (self.new.standing ≡ []) }
     {
         self.is_sound = false;
         let is_distinct = self.core.end()?;
@@ -286,6 +297,7 @@ impl CanonBuilder {
         ensures around { IfOk result (λ distinct. IsTrue distinct
             → self.new ≡ built self.old.order (around self.old.standing)) }
         ensures kept { IfOk result (λ distinct. distinct ≡ false → self.new ≡ self.old) }
+        ensures refused { OnErr result (self.new.standing ≡ []) }
     {
         self.is_sound = false;
         let is_distinct = self.core.give_up()?;
