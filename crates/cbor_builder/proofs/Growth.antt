@@ -12,7 +12,7 @@ use Rattle.cbor_canonical.specs.Pairs.{IsRising, pair_bytes}
 use Rattle.cbor_buffer.proofs.Written.{take_front, drop_front}
 use Rattle.cbor_canonical.specs.Parts.{plain, an_array, a_map, a_key, a_string, pair, with_member, with_content, give, opened, extended, close, closed}
 use Rattle.cbor_buffer.specs.Spans.{span_pair, AreWithin}
-use Rattle.cbor_builder.specs.inner.Laid.{pairs_from, Tile, shape_open, outer_spans, opens, Fits, Laid, Takes, IsString, shape_after, span, spans_after, KeepsRising, Stands, Completed, opening_frame}
+use Rattle.cbor_builder.specs.inner.Laid.{pairs_from, Tile, shape_open, outer_spans, opens, Fits, Laid, Takes, IsString, IsReady, shape_after, span, spans_after, KeepsRising, Stands, Completed, opening_frame}
 use Rattle.cbor_keys.specs.Front.{front_of}
 use Rattle.cbor_builder.specs.inner.Front.{AreFronted}
 use Rattle.cbor_buffer.specs.declared.span.Span.{Span}
@@ -80,12 +80,12 @@ tile_joins out a (s ∷ ss) n t e =
 
 abbrev pub Given : KeyOrder → List ℕ → List ℕ → List Span → ℕ → ℕ → Bool → Bool → Shape → List Frame → Type 0
 Given o out b ss from start was now s fs =
-    Stands o (out ++ b) (spans_after (out ++ b) ss s) (record { from = from; start = start; shape = shape_after (length out) (length (out ++ b)) s; rises = now } ∷ fs)
+    Stands o (out ++ b) (spans_after (out ++ b) ss (length out) s) (record { from = from; start = start; shape = shape_after (length out) s; rises = now } ∷ fs)
     (with_member b (shape_open out ss start s) ∷ opens (take from out) (outer_spans ss s) fs)
 
 given_at : (o : KeyOrder) (out b : List ℕ) (ss : List Span) (from start : ℕ) (was now : Bool) (s : Shape) (fs : List Frame)
     → from ≤ start → start ≤ length out → Fits o out ss from start was s → Laid o (take from out) (outer_spans ss s) fs → Takes s
-    → KeepsRising o (out ++ b) ss s was now → Given o out b ss from start was now s fs
+    → KeepsRising o (out ++ b) ss (length out) s was now → Given o out b ss from start was now s fs
 given_at o out b ss from start was now Plain fs h g fits outer takes keeps =
     let n = length-append out b in
     let t = take-append-le from out b (omega (arith, h, g)) in (
@@ -109,7 +109,6 @@ given_at o out b ss from start was now (Map first) fs h g fits outer takes keeps
           fits.0,
           fits.1,
           omega (arith, n),
-          refl,
           (λ r. subst (IsRising o) (sym stay) (fits.2 (sym keeps ∙ r))),
           fronted_stay out b start (drop first ss) (length out) fits.1 (omega arith) fits.3,
         ),
@@ -117,26 +116,27 @@ given_at o out b ss from start was now (Map first) fs h g fits outer takes keeps
       ),
       (λ i. a_key (stay i) (drop-append_seam out b i) ∷ opens (t i) (take first ss) fs),
     )
-given_at o out b ss from start was now (Key first at val) fs h g fits outer takes keeps =
+given_at o out b ss from start was now (Key first at) fs h g fits outer takes keeps =
+    let val = length out in
     let end = length (out ++ b) in
     let new = span (out ++ b) at val in
     let n = length-append out b in
     let t = take-append-le from out b (omega (arith, h, g)) in
     let ts : take first (ss ++ new ∷ []) ≡ take first ss = take-append-le first ss (new ∷ []) fits.0 in
     let ds : drop first (ss ++ new ∷ []) ≡ drop first ss ++ new ∷ [] = drop-append-le first ss (new ∷ []) fits.0 in
-    let stay = pairs_stay out b start (drop first ss) at fits.1 (omega (arith, fits.2, fits.3)) in
+    let stay = pairs_stay out b start (drop first ss) at fits.1 fits.2 in
     let long = length-append ss (new ∷ []) in
-    let key : slice_range (out ++ b) at val ≡ drop at out = slice_front out b at val fits.2 (omega (arith, fits.3)) ∙ slice_all out at val (sym fits.3) in
-    let content : slice_range (out ++ b) val end ≡ b = slice_all (out ++ b) val end refl ∙ ap (λ k. drop k (out ++ b)) fits.3 ∙ drop-append_seam out b in
-    let tile : Tile start (drop first ss ++ new ∷ []) end = tile_more (out ++ b) start (drop first ss) at val fits.1 fits.2 (omega (arith, fits.3, n)) in (
+    let key : slice_range (out ++ b) at val ≡ drop at out = slice_front out b at val fits.2 (omega arith) ∙ slice_all out at val refl in
+    let content : slice_range (out ++ b) val end ≡ b = slice_all (out ++ b) val end refl ∙ drop-append_seam out b in
+    let tile : Tile start (drop first ss ++ new ∷ []) end = tile_more (out ++ b) start (drop first ss) at val fits.1 fits.2 (omega (arith, n)) in (
       (
         h,
         omega (arith, n, g),
         (
           omega (arith, long, fits.0),
           subst (λ (xs : List Span). Tile start xs end) (sym ds) tile,
-          (λ r. subst (λ (xs : List Span). IsRising o (map (span_pair (out ++ b)) xs)) (sym ds) ((keeps r).1 (subst (IsRising o) (sym stay) (fits.4 (keeps r).0)))),
-          subst (AreFronted (out ++ b)) (sym ds) (fronted_more (out ++ b) (drop first ss) at val (fronted_stay out b start (drop first ss) at fits.1 (omega (arith, fits.2, fits.3)) fits.5)),
+          (λ r. subst (λ (xs : List Span). IsRising o (map (span_pair (out ++ b)) xs)) (sym ds) ((keeps r).1 (subst (IsRising o) (sym stay) (fits.3 (keeps r).0)))),
+          subst (AreFronted (out ++ b)) (sym ds) (fronted_more (out ++ b) (drop first ss) at val (fronted_stay out b start (drop first ss) at fits.1 fits.2 fits.4)),
         ),
         subst (λ (xs : List Span). Laid o (take from (out ++ b)) xs fs) (sym ts) (subst (λ (xs : List ℕ). Laid o xs (take first ss) fs) (sym t) outer),
       ),
@@ -154,32 +154,32 @@ given o out b ss f fs out' ss' f' laid takes e =
   where
     at_once : Completed o ss (length out) f (out ++ b) ss' f' → Stands o (out ++ b) ss' (f' ∷ fs) (give b (opens out ss (f ∷ fs)))
     at_once c =
-        let is : record { from = f.from; start = f.start; shape = shape_after (length out) (length (out ++ b)) f.shape; rises = f'.rises } ≡ f' =
+        let is : record { from = f.from; start = f.start; shape = shape_after (length out) f.shape; rises = f'.rises } ≡ f' =
         λ i. record { from = sym c.0 i; start = sym c.1 i; shape = sym c.2 i; rises = f'.rises } in
         subst (λ (g : Frame). Stands o (out ++ b) ss' (g ∷ fs) (give b (opens out ss (f ∷ fs)))) is
-        (subst (λ (xs : List Span). Stands o (out ++ b) xs (record { from = f.from; start = f.start; shape = shape_after (length out) (length (out ++ b)) f.shape; rises = f'.rises } ∷ fs) (give b (opens out ss (f ∷ fs)))) (sym c.3)
+        (subst (λ (xs : List Span). Stands o (out ++ b) xs (record { from = f.from; start = f.start; shape = shape_after (length out) f.shape; rises = f'.rises } ∷ fs) (give b (opens out ss (f ∷ fs)))) (sym c.3)
         (given_at o out b ss f.from f.start f.rises f'.rises f.shape fs laid.0 laid.1 laid.2 laid.3 takes c.4))
 
 -- what a map with a waiting key is ready for, when its value stands behind it
-pub key_ready : (o : KeyOrder) (out b : List ℕ) (ss : List Span) (f : Frame) (fs : List Frame) (bytes : List ℕ) → Laid o out ss (f ∷ fs) → bytes ≡ out ++ b
-    → (first a val : ℕ) → f.shape ≡ Key first a val → (first ≤ length ss) × (a ≤ val) × (val ≤ length bytes) × AreFronted bytes (drop first ss)
-key_ready o out b ss f fs bytes laid eb first a val e =
+pub key_ready : (o : KeyOrder) (out b : List ℕ) (ss : List Span) (f : Frame) (fs : List Frame) (bytes : List ℕ) (at : ℕ) → Laid o out ss (f ∷ fs) → bytes ≡ out ++ b → at ≡ length out
+    → IsReady bytes ss at f.shape
+key_ready o out b ss f fs bytes at laid eb ea first key e =
     let fits = subst (Fits o out ss f.from f.start f.rises) e laid.2 in
     let n = length-append out b in (
       fits.0,
-      fits.2,
-      omega (arith, fits.3, n, ap length eb),
-      subst (λ (xs : List ℕ). AreFronted xs (drop first ss)) (sym eb) (fronted_stay out b f.start (drop first ss) a fits.1 (omega (arith, fits.2, fits.3)) fits.5),
+      omega (arith, fits.2, ea),
+      omega (arith, n, ea, ap length eb),
+      subst (λ (xs : List ℕ). AreFronted xs (drop first ss)) (sym eb) (fronted_stay out b f.start (drop first ss) key fits.1 fits.2 fits.4),
     )
 
 -- the same of what holds what ends
 pub outer_ready : (o : KeyOrder) (out : List ℕ) (ss ss1 : List Span) (f g : Frame) (fs below : List Frame) (bytes x : List ℕ) → below ≡ g ∷ fs → Laid o out ss (f ∷ below)
-    → bytes ≡ take f.from out ++ x → ss1 ≡ outer_spans ss f.shape
-    → (first a val : ℕ) → g.shape ≡ Key first a val → (first ≤ length ss1) × (a ≤ val) × (val ≤ length bytes) × AreFronted bytes (drop first ss1)
-outer_ready o out ss ss1 f g fs below bytes x eb laid e es first a val is =
+    → bytes ≡ take f.from out ++ x → ss1 ≡ outer_spans ss f.shape → IsReady bytes ss1 f.from g.shape
+outer_ready o out ss ss1 f g fs below bytes x eb laid e es =
     let l = subst (λ (gs : List Frame). Laid o out ss (f ∷ gs)) eb laid in
-    subst (λ (us : List Span). (first ≤ length us) × (a ≤ val) × (val ≤ length bytes) × AreFronted bytes (drop first us)) (sym es)
-    (key_ready o (take f.from out) x (outer_spans ss f.shape) g fs bytes l.3 e first a val is)
+    let n = length-take f.from out in
+    subst (λ (us : List Span). IsReady bytes us f.from g.shape) (sym es)
+    (key_ready o (take f.from out) x (outer_spans ss f.shape) g fs bytes f.from l.3 e (omega (arith, n, laid.0, laid.1)))
 
 -- ---- more of a string
 
@@ -192,7 +192,7 @@ lengthened o out b ss f fs laid string = by_shape f.shape laid.2 laid.3 string
     by_shape Plain fits outer h = absurd h
     by_shape (Array n) fits outer h = absurd h
     by_shape (Map first) fits outer h = absurd h
-    by_shape (Key first at val) fits outer h = absurd h
+    by_shape (Key first at) fits outer h = absurd h
     by_shape (Content m) fits outer h =
         let l = length-append out b in
         let t = take-append-le f.from out b (omega (arith, laid.0, laid.1)) in
@@ -224,7 +224,7 @@ finished o out ss f [] laid bs e =
         sym (take-append-drop f.from out) ∙ (λ i. none i ++ drop (sym fits i) out) ∙ d
     by_shape (Array n) fits none c = cc
     by_shape (Map first) fits none c = cc
-    by_shape (Key first at val) fits none c = cc
+    by_shape (Key first at) fits none c = cc
     by_shape (Content m) fits none c = cc
 finished o out ss f (g ∷ fs) laid bs e = cc
 

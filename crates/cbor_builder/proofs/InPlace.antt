@@ -13,7 +13,7 @@ use Rattle.cbor_canonical.specs.Parts.{Open}
 use Rattle.cbor_keys.specs.Front.{front_of}
 use Rattle.cbor_builder.specs.inner.Front.{key_of, AreFronted}
 use Rattle.cbor_buffer.specs.Spans.{span_pair}
-use Rattle.cbor_builder.specs.inner.Laid.{Tile, shape_open, outer_spans, opens, Fits, Laid, Takes, IsString, shape_after, span, spans_after, KeepsRising, Completed}
+use Rattle.cbor_builder.specs.inner.Laid.{Tile, shape_open, outer_spans, opens, Fits, Laid, Takes, IsString, IsReady, shape_after, span, spans_after, KeepsRising, Completed}
 use Rattle.cbor_builder.specs.inner.InPlace.{IsSameKey, AreSameKeys, HasSameKeys, Agrees, WaitsSame}
 use Rattle.cbor_builder.specs.inner.Repeats.{Tells}
 use Rattle.cbor_buffer.specs.declared.span.Span.{Span}
@@ -35,7 +35,7 @@ pub shape_refl : (raw out : List ℕ) (ss : List Span) (s : Shape) → raw ≡ o
 shape_refl raw out ss Plain e = tt
 shape_refl raw out ss (Array n) e = tt
 shape_refl raw out ss (Map first) e = keys_refl raw out (drop first ss) e
-shape_refl raw out ss (Key first at val) e = (keys_refl raw out (drop first ss) e, ap (drop at) e)
+shape_refl raw out ss (Key first at) e = (keys_refl raw out (drop first ss) e, ap (drop at) e)
 shape_refl raw out ss (Content m) e = tt
 
 pub agrees_refl : (raw out : List ℕ) (ss : List Span) (fs : List Frame) → raw ≡ out → Agrees raw out ss fs
@@ -43,12 +43,12 @@ agrees_refl raw out ss [] e = tt
 agrees_refl raw out ss (f ∷ []) e = e
 agrees_refl raw out ss (f ∷ g ∷ fs) e = (shape_refl raw out ss f.shape e, agrees_refl (take f.from raw) (take f.from out) (outer_spans ss f.shape) (g ∷ fs) (ap (take f.from) e))
 
-pub waits_refl : (raw out : List ℕ) (ss : List Span) (s : Shape) → raw ≡ out → WaitsSame raw out ss s
-waits_refl raw out ss Plain e = tt
-waits_refl raw out ss (Array n) e = tt
-waits_refl raw out ss (Map first) e = tt
-waits_refl raw out ss (Key first at val) e = (keys_refl raw out (drop first ss) e, ap (λ (xs : List ℕ). slice_range xs at val) e)
-waits_refl raw out ss (Content m) e = tt
+pub waits_refl : (raw out : List ℕ) (ss : List Span) (at : ℕ) (s : Shape) → raw ≡ out → WaitsSame raw out ss at s
+waits_refl raw out ss at Plain e = tt
+waits_refl raw out ss at (Array n) e = tt
+waits_refl raw out ss at (Map first) e = tt
+waits_refl raw out ss at (Key first key) e = (keys_refl raw out (drop first ss) e, ap (λ (xs : List ℕ). slice_range xs key at) e)
+waits_refl raw out ss at (Content m) e = tt
 
 -- of the innermost
 pub top_keys : (raw out : List ℕ) (ss : List Span) (f : Frame) (fs : List Frame) → Agrees raw out ss (f ∷ fs) → HasSameKeys raw out ss f.shape
@@ -95,7 +95,7 @@ pub open_keys : (raw out : List ℕ) (ss : List Span) (start : ℕ) (s : Shape) 
 open_keys raw out ss start Plain h = refl
 open_keys raw out ss start (Array n) h = refl
 open_keys raw out ss start (Map first) h = own_same raw out (drop first ss) h
-open_keys raw out ss start (Key first at val) h = let k = own_same raw out (drop first ss) h.0 in let d = h.1 in λ i. k i ++ d i ∷ []
+open_keys raw out ss start (Key first at) h = let k = own_same raw out (drop first ss) h.0 in let d = h.1 in λ i. k i ++ d i ∷ []
 open_keys raw out ss start (Content m) h = refl
 
 -- ---- the whole standing by the bytes as they lie
@@ -106,9 +106,9 @@ fits_raw o raw out ss from start rises (Array n) l h f = f
 fits_raw o raw out ss from start rises (Map first) l h f =
     let back = keys_flip raw out (drop first ss) h in
     (f.0, subst (Tile start (drop first ss)) (sym l) f.1, (λ t. rising_keys o out raw (drop first ss) back (f.2 t)), fronted_keys raw out (drop first ss) h f.3)
-fits_raw o raw out ss from start rises (Key first at val) l h f =
+fits_raw o raw out ss from start rises (Key first at) l h f =
     let back = keys_flip raw out (drop first ss) h.0 in
-    (f.0, f.1, f.2, f.3 ∙ sym l, (λ t. rising_keys o out raw (drop first ss) back (f.4 t)), fronted_keys raw out (drop first ss) h.0 f.5)
+    (f.0, f.1, omega (arith, l, f.2), (λ t. rising_keys o out raw (drop first ss) back (f.3 t)), fronted_keys raw out (drop first ss) h.0 f.4)
 fits_raw o raw out ss from start rises (Content m) l h f = f
 
 pub laid_raw : (o : KeyOrder) (raw out : List ℕ) (ss : List Span) (fs : List Frame) → length raw ≡ length out → Agrees raw out ss fs → Laid o out ss fs → Laid o raw ss fs
@@ -153,26 +153,28 @@ keys_stay raw out x y a (s ∷ ss) n t l m h =
     let r = tile_le s.end ss n t.3 in
     (slice_front raw x s.key s.val t.1 (omega (arith, t.2, r, l)) ∙ h.0 ∙ sym (slice_front out y s.key s.val t.1 (omega (arith, t.2, r, m))), keys_stay raw out x y s.end ss n t.3 l m h.1)
 
+last_stays : (raw out x y : List ℕ) (at : ℕ) → length raw ≡ length out → at ≤ length out → drop at raw ≡ drop at out → slice_range (raw ++ x) at (length out) ≡ slice_range (out ++ y) at (length out)
+last_stays raw out x y at l h e =
+    slice_front raw x at (length out) h (omega (arith, l)) ∙ slice_all raw at (length out) l ∙ e ∙ sym (slice_front out y at (length out) h (omega arith) ∙ slice_all out at (length out) refl)
+
 -- the key that waits, and those before it, when its value stands behind it
 pub waits_stay : (o : KeyOrder) (raw out x y : List ℕ) (ss : List Span) (f : Frame) (fs : List Frame) → length raw ≡ length out → Laid o out ss (f ∷ fs) → Agrees raw out ss (f ∷ fs)
-    → WaitsSame (raw ++ x) (out ++ y) ss f.shape
+    → WaitsSame (raw ++ x) (out ++ y) ss (length out) f.shape
 waits_stay o raw out x y ss f fs l laid a = by_shape f.shape laid.2 (top_keys raw out ss f fs a)
   where
-    by_shape : (s : Shape) → Fits o out ss f.from f.start f.rises s → HasSameKeys raw out ss s → WaitsSame (raw ++ x) (out ++ y) ss s
+    by_shape : (s : Shape) → Fits o out ss f.from f.start f.rises s → HasSameKeys raw out ss s → WaitsSame (raw ++ x) (out ++ y) ss (length out) s
     by_shape Plain fits h = tt
     by_shape (Array n) fits h = tt
     by_shape (Map first) fits h = tt
-    by_shape (Key first at val) fits h = (
-      keys_stay raw out x y f.start (drop first ss) at fits.1 (omega (arith, l, fits.2, fits.3)) (omega (arith, fits.2, fits.3)) h.0,
-      slice_front raw x at val fits.2 (omega (arith, l, fits.3)) ∙ slice_all raw at val (l ∙ sym fits.3) ∙ h.1 ∙ sym (slice_front out y at val fits.2 (omega (arith, fits.3)) ∙ slice_all out at val (sym fits.3)),
-    )
+    by_shape (Key first at) fits h =
+        (keys_stay raw out x y f.start (drop first ss) at fits.1 (omega (arith, l, fits.2)) fits.2 h.0, last_stays raw out x y at l fits.2 h.1)
     by_shape (Content m) fits h = tt
 
 pub agrees_given : (o : KeyOrder) (raw out x y : List ℕ) (ss : List Span) (from start : ℕ) (was now : Bool) (s : Shape) (fs : List Frame)
     → from ≤ start → start ≤ length out → length raw ≡ length out → Fits o out ss from start was s → Takes s
     → Agrees raw out ss (record { from = from; start = start; shape = s; rises = was } ∷ fs)
     → ((first : ℕ) → s ≡ Map first → x ≡ y) → (fs ≡ [] → x ≡ y)
-    → Agrees (raw ++ x) (out ++ y) (spans_after (out ++ y) ss s) (record { from = from; start = start; shape = shape_after (length out) (length (out ++ y)) s; rises = now } ∷ fs)
+    → Agrees (raw ++ x) (out ++ y) (spans_after (out ++ y) ss (length out) s) (record { from = from; start = start; shape = shape_after (length out) s; rises = now } ∷ fs)
 agrees_given o raw out x y ss from start was now s [] h g l fits takes a key last = let e = last refl in λ i. a i ++ e i
 agrees_given o raw out x y ss from start was now s (f ∷ fs) h g l fits takes a key last = by_shape s fits takes a.0 a.1 key
   where
@@ -182,7 +184,7 @@ agrees_given o raw out x y ss from start was now s (f ∷ fs) h g l fits takes a
         (subst (λ (zs : List ℕ). Agrees (take from raw) zs us (f ∷ fs)) (sym (take-append-le from out y (omega (arith, h, g)))) b)
 
     by_shape : (s : Shape) → Fits o out ss from start was s → Takes s → HasSameKeys raw out ss s → Agrees (take from raw) (take from out) (outer_spans ss s) (f ∷ fs) → ((first : ℕ) → s ≡ Map first → x ≡ y)
-        → Agrees (raw ++ x) (out ++ y) (spans_after (out ++ y) ss s) (record { from = from; start = start; shape = shape_after (length out) (length (out ++ y)) s; rises = now } ∷ f ∷ fs)
+        → Agrees (raw ++ x) (out ++ y) (spans_after (out ++ y) ss (length out) s) (record { from = from; start = start; shape = shape_after (length out) s; rises = now } ∷ f ∷ fs)
     by_shape Plain fits takes k b key = (tt, outer ss b)
     by_shape (Array n) fits takes k b key = (tt, outer ss b)
     by_shape (Map first) fits takes k b key = (
@@ -192,53 +194,49 @@ agrees_given o raw out x y ss from start was now s (f ∷ fs) h g l fits takes a
       ),
       outer (take first ss) b,
     )
-    by_shape (Key first at val) fits takes k b key =
-        let new = span (out ++ y) at val in
+    by_shape (Key first at) fits takes k b key =
+        let new = span (out ++ y) at (length out) in
         let ts : take first (ss ++ new ∷ []) ≡ take first ss = take-append-le first ss (new ∷ []) fits.0 in
         let ds : drop first (ss ++ new ∷ []) ≡ drop first ss ++ new ∷ [] = drop-append-le first ss (new ∷ []) fits.0 in
-        let same : slice_range (raw ++ x) at val ≡ slice_range (out ++ y) at val =
-        slice_front raw x at val fits.2 (omega (arith, l, fits.3)) ∙ slice_all raw at val (l ∙ sym fits.3) ∙ k.1 ∙ sym (slice_front out y at val fits.2 (omega (arith, fits.3)) ∙ slice_all out at val (sym fits.3)) in
-        let stay = keys_stay raw out x y start (drop first ss) at fits.1 (omega (arith, l, fits.2, fits.3)) (omega (arith, fits.2, fits.3)) k.0 in (
-          subst (AreSameKeys (raw ++ x) (out ++ y)) (sym ds) (keys_more (raw ++ x) (out ++ y) (drop first ss) new stay same),
+        let stay = keys_stay raw out x y start (drop first ss) at fits.1 (omega (arith, l, fits.2)) fits.2 k.0 in (
+          subst (AreSameKeys (raw ++ x) (out ++ y)) (sym ds) (keys_more (raw ++ x) (out ++ y) (drop first ss) new stay (last_stays raw out x y at l fits.2 k.1)),
           subst (λ (us : List Span). Agrees (take from (raw ++ x)) (take from (out ++ y)) us (f ∷ fs)) (sym ts) (outer (take first ss) b),
         )
     by_shape (Content m) fits takes k b key = absurd takes
 
 -- what was done by the bytes as they lie was done by them as they are meant
-pub completed_same : (o : KeyOrder) (raw out : List ℕ) (ss : List Span) (at : ℕ) (f : Frame) (ss' : List Span) (f' : Frame) → length raw ≡ length out → WaitsSame raw out ss f.shape
+pub completed_same : (o : KeyOrder) (raw out : List ℕ) (ss : List Span) (at : ℕ) (f : Frame) (ss' : List Span) (f' : Frame) → length raw ≡ length out → WaitsSame raw out ss at f.shape
     → Completed o ss at f raw ss' f' → Completed o ss at f out ss' f'
 completed_same o raw out ss at f ss' f' l w c =
-    (c.0, c.1, c.2 ∙ ap (λ (n : ℕ). shape_after at n f.shape) l, c.3 ∙ spans f.shape w, rises f.shape w c.4)
+    (c.0, c.1, c.2, c.3 ∙ spans f.shape w, rises f.shape w c.4)
   where
-    spans : (s : Shape) → WaitsSame raw out ss s → spans_after raw ss s ≡ spans_after out ss s
+    spans : (s : Shape) → WaitsSame raw out ss at s → spans_after raw ss at s ≡ spans_after out ss at s
     spans Plain w = refl
     spans (Array n) w = refl
     spans (Map first) w = refl
-    spans (Key first a val) w = let k = w.1 in λ i. ss ++ record { front = front_of (k i); key = a; val = val; end = l i } ∷ []
+    spans (Key first key) w = let k = w.1 in λ i. ss ++ record { front = front_of (k i); key = key; val = at; end = l i } ∷ []
     spans (Content m) w = refl
 
-    rises : (s : Shape) → WaitsSame raw out ss s → KeepsRising o raw ss s f.rises f'.rises → KeepsRising o out ss s f.rises f'.rises
+    rises : (s : Shape) → WaitsSame raw out ss at s → KeepsRising o raw ss at s f.rises f'.rises → KeepsRising o out ss at s f.rises f'.rises
     rises Plain w k = k
     rises (Array n) w k = k
     rises (Map first) w k = k
-    rises (Key first a val) w k = λ t. (
+    rises (Key first key) w k = λ t. (
       (k t).0,
       (λ r.
           let old = drop first ss in
           let was = (k t).1 (rising_keys o out raw old (keys_flip raw out old w.0) r) in
           let q = w.1 in
-          let new : span raw a val ≡ span out a val = λ i. record { front = front_of (q i); key = a; val = val; end = l i } in
+          let new : span raw key at ≡ span out key at = λ i. record { front = front_of (q i); key = key; val = at; end = l i } in
           subst (λ (s : Span). IsRising o (map (span_pair out) (old ++ s ∷ []))) new
-          (rising_keys o raw out (old ++ span raw a val ∷ []) (keys_more raw out old (span raw a val) w.0 w.1) was)),
+          (rising_keys o raw out (old ++ span raw key at ∷ []) (keys_more raw out old (span raw key at) w.0 w.1) was)),
     )
     rises (Content m) w k = k
 
-pub ready_same : (raw out : List ℕ) (ss : List Span) (s : Shape) → length raw ≡ length out → WaitsSame raw out ss s
-    → ((first a val : ℕ) → s ≡ Key first a val → (first ≤ length ss) × (a ≤ val) × (val ≤ length out) × AreFronted out (drop first ss))
-    → (first a val : ℕ) → s ≡ Key first a val → (first ≤ length ss) × (a ≤ val) × (val ≤ length raw) × AreFronted raw (drop first ss)
-ready_same raw out ss s l w h first a val e =
-    let k = subst (WaitsSame raw out ss) e w in
-    let r = h first a val e in
+pub ready_same : (raw out : List ℕ) (ss : List Span) (at : ℕ) (s : Shape) → length raw ≡ length out → WaitsSame raw out ss at s → IsReady out ss at s → IsReady raw ss at s
+ready_same raw out ss at s l w h first key e =
+    let k = subst (WaitsSame raw out ss at) e w in
+    let r = h first key e in
     (r.0, r.1, omega (arith, l, r.2), fronted_keys raw out (drop first ss) k.0 r.3)
 
 -- the same from what calls ensure
@@ -247,19 +245,20 @@ pub agrees_by : (o : KeyOrder) (raw out x y : List ℕ) (ss : List Span) (f : Fr
     → raw' ≡ raw ++ x → out' ≡ out ++ y → at ≡ length out → Completed o ss at f out' ss' f' → Agrees raw' out' ss' (f' ∷ fs)
 agrees_by o raw out x y ss f fs raw' out' at ss' f' laid l a takes key last er eo ea c =
     let made = agrees_given o raw out x y ss f.from f.start f.rises f'.rises f.shape fs laid.0 laid.1 l laid.2 takes a key last in
-    let shape : shape_after (length out) (length (out ++ y)) f.shape ≡ f'.shape = (λ i. shape_after (sym ea i) (length (sym eo i)) f.shape) ∙ sym c.2 in
-    let frame : record { from = f.from; start = f.start; shape = shape_after (length out) (length (out ++ y)) f.shape; rises = f'.rises } ≡ f' =
+    let shape : shape_after (length out) f.shape ≡ f'.shape = ap (λ (n : ℕ). shape_after n f.shape) (sym ea) ∙ sym c.2 in
+    let frame : record { from = f.from; start = f.start; shape = shape_after (length out) f.shape; rises = f'.rises } ≡ f' =
     λ i. record { from = sym c.0 i; start = sym c.1 i; shape = shape i; rises = f'.rises } in
-    let spans : spans_after (out ++ y) ss f.shape ≡ ss' = ap (λ (xs : List ℕ). spans_after xs ss f.shape) (sym eo) ∙ sym c.3 in
+    let spans : spans_after (out ++ y) ss (length out) f.shape ≡ ss' = (λ i. spans_after (sym eo i) ss (sym ea i) f.shape) ∙ sym c.3 in
     subst (λ (xs : List ℕ). Agrees xs out' ss' (f' ∷ fs)) (sym er)
     (subst (λ (xs : List ℕ). Agrees (raw ++ x) xs ss' (f' ∷ fs)) (sym eo)
     (subst (λ (us : List Span). Agrees (raw ++ x) (out ++ y) us (f' ∷ fs)) spans
-    (subst (λ (g : Frame). Agrees (raw ++ x) (out ++ y) (spans_after (out ++ y) ss f.shape) (g ∷ fs)) frame made)))
+    (subst (λ (g : Frame). Agrees (raw ++ x) (out ++ y) (spans_after (out ++ y) ss (length out) f.shape) (g ∷ fs)) frame made)))
 
-pub waits_by : (o : KeyOrder) (raw out x y : List ℕ) (ss : List Span) (f : Frame) (fs : List Frame) (raw' out' : List ℕ) → length raw ≡ length out → Laid o out ss (f ∷ fs) → Agrees raw out ss (f ∷ fs)
-    → raw' ≡ raw ++ x → out' ≡ out ++ y → WaitsSame raw' out' ss f.shape
-waits_by o raw out x y ss f fs raw' out' l laid a er eo =
-    subst (λ (xs : List ℕ). WaitsSame xs out' ss f.shape) (sym er) (subst (λ (xs : List ℕ). WaitsSame (raw ++ x) xs ss f.shape) (sym eo) (waits_stay o raw out x y ss f fs l laid a))
+pub waits_by : (o : KeyOrder) (raw out x y : List ℕ) (ss : List Span) (f : Frame) (fs : List Frame) (raw' out' : List ℕ) (at : ℕ) → length raw ≡ length out → Laid o out ss (f ∷ fs) → Agrees raw out ss (f ∷ fs)
+    → raw' ≡ raw ++ x → out' ≡ out ++ y → at ≡ length out → WaitsSame raw' out' ss at f.shape
+waits_by o raw out x y ss f fs raw' out' at l laid a er eo ea =
+    subst (λ (xs : List ℕ). WaitsSame xs out' ss at f.shape) (sym er)
+    (subst (λ (xs : List ℕ). WaitsSame (raw ++ x) xs ss at f.shape) (sym eo) (subst (λ (n : ℕ). WaitsSame (raw ++ x) (out ++ y) ss n f.shape) (sym ea) (waits_stay o raw out x y ss f fs l laid a)))
 
 -- ---- more of a string
 
@@ -275,7 +274,7 @@ agrees_longer raw out x ss f (e ∷ fs) h g s a = (
     by_shape Plain h = absurd h
     by_shape (Array n) h = absurd h
     by_shape (Map first) h = absurd h
-    by_shape (Key first at val) h = absurd h
+    by_shape (Key first at) h = absurd h
     by_shape (Content m) h = tt
 
 -- ---- nothing else is open
@@ -286,13 +285,13 @@ alone raw out ss f (g ∷ fs) c a e = cc
 
 -- ---- a key that waits
 
-pub waiting_same : (raw out : List ℕ) (ss : List Span) (f : Frame) (fs : List Frame) (first at val : ℕ) → Agrees raw out ss (f ∷ fs) → f.shape ≡ Key first at val
+pub waiting_same : (raw out : List ℕ) (ss : List Span) (f : Frame) (fs : List Frame) (first at : ℕ) → Agrees raw out ss (f ∷ fs) → f.shape ≡ Key first at
     → AreSameKeys raw out (drop first ss) × (drop at raw ≡ drop at out)
-waiting_same raw out ss f fs first at val a e = subst (HasSameKeys raw out ss) e (top_keys raw out ss f fs a)
+waiting_same raw out ss f fs first at a e = subst (HasSameKeys raw out ss) e (top_keys raw out ss f fs a)
 
 -- ---- the key that waits
 
-pub repeated_same : (raw out : List ℕ) (ss us : List Span) (start first key val : ℕ) (s : Shape) (os : List Open) (t : Bool) → s ≡ Key first key val → us ≡ drop first ss → HasSameKeys raw out ss s → val ≡ length raw
+pub repeated_same : (raw out : List ℕ) (ss us : List Span) (start first key val : ℕ) (s : Shape) (os : List Open) (t : Bool) → s ≡ Key first key → us ≡ drop first ss → HasSameKeys raw out ss s → val ≡ length raw
     → (IsTrue t ↔ HasKey (map (span_pair raw) us) (slice_range raw key val)) → (IsTrue t ↔ IsRepeatedKey (shape_open out ss start s ∷ os))
 repeated_same raw out ss us start first key val s os t e eu h l d =
     let k = subst (HasSameKeys raw out ss) e h in
@@ -303,7 +302,7 @@ repeated_same raw out ss us start first key val s os t e eu h l d =
       (λ n. one.1 (has_keys out raw (drop first ss) (drop key out) (slice_range raw key val) (keys_flip raw out (drop first ss) k.0) (sym is) n)),
     )
 
-pub waiting_is : (raw out : List ℕ) (ss : List Span) (start first key val : ℕ) (s : Shape) (os : List Open) → s ≡ Key first key val → HasSameKeys raw out ss s → val ≡ length raw
+pub waiting_is : (raw out : List ℕ) (ss : List Span) (start first key val : ℕ) (s : Shape) (os : List Open) → s ≡ Key first key → HasSameKeys raw out ss s → val ≡ length raw
     → IsWaitingKey (shape_open out ss start s ∷ os) (slice_range raw key val)
 waiting_is raw out ss start first key val s os e h l =
     let k = subst (HasSameKeys raw out ss) e h in

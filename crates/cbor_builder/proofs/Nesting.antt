@@ -10,14 +10,14 @@ use Rattle.cbor_builder.specs.declared.frame.Frame.{Frame}
 use Rattle.cbor_buffer.specs.declared.span.Span.{Span}
 
 -- a member of the item itself changes nothing in its frame
-pub rooted_given : (o : KeyOrder) (out : List ℕ) (ss : List Span) (at : ℕ) (f f' : Frame) (opened : Bool) (below : List Frame) → f'.from ≡ f.from → f'.start ≡ f.start → f'.shape ≡ shape_after at (length out) f.shape
-    → KeepsRising o out ss f.shape f.rises f'.rises → (opened ≡ false → (f ≡ outermost) × (below ≡ [])) → opened ≡ false → (f' ≡ outermost) × (below ≡ [])
+pub rooted_given : (o : KeyOrder) (out : List ℕ) (ss : List Span) (at : ℕ) (f f' : Frame) (opened : Bool) (below : List Frame) → f'.from ≡ f.from → f'.start ≡ f.start → f'.shape ≡ shape_after at f.shape
+    → KeepsRising o out ss at f.shape f.rises f'.rises → (opened ≡ false → (f ≡ outermost) × (below ≡ [])) → opened ≡ false → (f' ≡ outermost) × (below ≡ [])
 rooted_given o out ss at f f' opened below from start shape rises r is =
     let e = (r is).0 in
     let a = from ∙ ap (λ (g : Frame). g.from) e in
     let b = start ∙ ap (λ (g : Frame). g.start) e in
-    let c = shape ∙ ap (λ (g : Frame). shape_after at (length out) g.shape) e in
-    let d = subst (λ (g : Frame). KeepsRising o out ss g.shape g.rises f'.rises) e rises in
+    let c = shape ∙ ap (λ (g : Frame). shape_after at g.shape) e in
+    let d = subst (λ (g : Frame). KeepsRising o out ss at g.shape g.rises f'.rises) e rises in
     (λ i. record { from = a i; start = b i; shape = c i; rises = d i }, (r is).1)
 
 -- so many are stored as there are around the innermost, but for the outermost

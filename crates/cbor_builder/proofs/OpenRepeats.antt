@@ -87,7 +87,7 @@ shape_tells out ss start count Plain r w os e h k = no_keys (own_keys out ss Pla
 shape_tells out ss start count (Array n) r w os e h k = no_keys (own_keys out ss (Array n)) r w count (none_of (key_of out) ss) h k.0
 shape_tells out ss start count (Map first) r w os e h k =
     with_pairs (pairs_from out ss first) r w count (subst (λ (ks : List (List ℕ)). MatchOption r (AreAllDifferent ks) (IsFirstRepeat ks)) (sym (pairs_keys out ss first)) h) k.0
-shape_tells out ss start count (Key first at val) r w os e h k =
+shape_tells out ss start count (Key first at) r w os e h k =
     with_key (pairs_from out ss first) (drop at out) r w count (count_keys out ss first count e)
     (subst (λ (ks : List (List ℕ)). MatchOption r (AreAllDifferent ks) (IsFirstRepeat ks)) (sym (pairs_keys out ss first)) h) k
 shape_tells out ss start count (Content m) r w os e h k = no_keys (own_keys out ss (Content m)) r w count (none_of (key_of out) ss) h k.0
@@ -98,8 +98,8 @@ rising_different o out ss from start rises Plain f t = no_repeats (own_keys out 
 rising_different o out ss from start rises (Array n) f t = no_repeats (own_keys out ss (Array n)) (none_of (key_of out) ss)
 rising_different o out ss from start rises (Map first) f t =
     subst AreAllDifferent (pairs_keys out ss first) (distinct_different (pairs_from out ss first) (rising_distinct o (pairs_from out ss first) (f.2 t)))
-rising_different o out ss from start rises (Key first at val) f t =
-    subst AreAllDifferent (pairs_keys out ss first) (distinct_different (pairs_from out ss first) (rising_distinct o (pairs_from out ss first) (f.4 t)))
+rising_different o out ss from start rises (Key first at) f t =
+    subst AreAllDifferent (pairs_keys out ss first) (distinct_different (pairs_from out ss first) (rising_distinct o (pairs_from out ss first) (f.3 t)))
 rising_different o out ss from start rises (Content m) f t = no_repeats (own_keys out ss (Content m)) (none_of (key_of out) ss)
 
 -- ---- from what calls ensure

@@ -1,9 +1,8 @@
 -- What a builder stands for, where its buffer lies in another order than it is meant in.
-use Rattle.std.proofs.Common.{◌≡◌, ℕ, ◌≤◌, List, [], ◌∷◌, ◌++◌, length, length-take, take, drop, take-append-drop, refl, sym, ap, ◌∙◌, subst, arith, inl, inr}
+use Rattle.std.proofs.Common.{◌≡◌, ℕ, List, [], ◌∷◌, ◌++◌, length, length-take, take, drop, take-append-drop, refl, sym, ap, ◌∙◌, subst, arith, inl, inr}
 use Rattle.cbor_head.specs.declared.order.KeyOrder.{KeyOrder}
 use Rattle.cbor_canonical.specs.Parts.{plain, closed, close, give, extended}
-use Rattle.cbor_builder.specs.inner.Front.{AreFronted}
-use Rattle.cbor_builder.specs.inner.Laid.{shape_open, outer_spans, opens, Takes, Completed, Stands, IsString}
+use Rattle.cbor_builder.specs.inner.Laid.{shape_open, outer_spans, opens, Takes, IsReady, Completed, Stands, IsString}
 use Rattle.cbor_buffer.specs.Moved.{meant, IsWhole, IsSettled, KeepsFront, Stays}
 use Rattle.cbor_builder.specs.inner.BuilderState.{Stand, IsLaid, standing, outers}
 use Rattle.cbor_builder.specs.declared.builder.Core.{Core}
@@ -11,7 +10,7 @@ use Rattle.cbor_builder.specs.inner.InPlace.{Agrees, WaitsSame}
 use Rattle.cbor_buffer.specs.declared.draft.Draft.{Draft}
 use Rattle.cbor_buffer.specs.declared.span.Span.{Span}
 use Rattle.cbor_builder.specs.declared.frame.Frame.{Frame}
-use Rattle.cbor_builder.specs.declared.frame.Shape.TheVariants.{Map, Key}
+use Rattle.cbor_builder.specs.declared.frame.Shape.TheVariants.{Map}
 use Rattle.cbor_buffer.proofs.Drafts.{whole_length}
 use Rattle.cbor_builder.proofs.Growth.{given_by, ended_by, key_ready, outer_ready, lengthened, finished}
 use Rattle.cbor_builder.proofs.InPlace.{alone, agrees_refl, agrees_longer, agrees_by, waits_by, waits_refl, outer_agrees, completed_same, ready_same}
@@ -19,18 +18,18 @@ use Rattle.cbor_buffer.proofs.Written.{drop_front}
 
 -- ---- one more member
 
-pub member_ready : (o : KeyOrder) (d d' : Draft) (b : List ℕ) (ss : List Span) (f : Frame) (fs : List Frame) → Stand o d ss (f ∷ fs) → IsWhole d' → meant d' ≡ meant d ++ b → d'.buf ≡ d.buf ++ b
-    → (first a val : ℕ) → f.shape ≡ Key first a val → (first ≤ length ss) × (a ≤ val) × (val ≤ length d'.buf) × AreFronted d'.buf (drop first ss)
-member_ready o d d' b ss f fs s w em eb =
-    ready_same d'.buf (meant d') ss f.shape (whole_length d' w) (waits_by o d.buf (meant d) b b ss f fs d'.buf (meant d') (whole_length d s.1) s.0 s.2 eb em)
-    (key_ready o (meant d) b ss f fs (meant d') s.0 em)
+pub member_ready : (o : KeyOrder) (d d' : Draft) (b : List ℕ) (ss : List Span) (f : Frame) (fs : List Frame) (at : ℕ) → Stand o d ss (f ∷ fs) → IsWhole d' → meant d' ≡ meant d ++ b → d'.buf ≡ d.buf ++ b
+    → at ≡ length (meant d) → IsReady d'.buf ss at f.shape
+member_ready o d d' b ss f fs at s w em eb ea =
+    ready_same d'.buf (meant d') ss at f.shape (whole_length d' w) (waits_by o d.buf (meant d) b b ss f fs d'.buf (meant d') at (whole_length d s.1) s.0 s.2 eb em ea)
+    (key_ready o (meant d) b ss f fs (meant d') at s.0 em ea)
 
 pub member_given : (o : KeyOrder) (d d' : Draft) (b : List ℕ) (ss : List Span) (f : Frame) (fs : List Frame) (at : ℕ) (ss' : List Span) (f' : Frame) → Stand o d ss (f ∷ fs) → Takes f.shape → IsWhole d'
     → meant d' ≡ meant d ++ b → d'.buf ≡ d.buf ++ b → at ≡ length (meant d) → Completed o ss at f d'.buf ss' f'
     → Stand o d' ss' (f' ∷ fs) × (opens (meant d') ss' (f' ∷ fs) ≡ give b (opens (meant d) ss (f ∷ fs)))
 member_given o d d' b ss f fs at ss' f' s takes w em eb ea c =
     let l = whole_length d s.1 in
-    let done = completed_same o d'.buf (meant d') ss at f ss' f' (whole_length d' w) (waits_by o d.buf (meant d) b b ss f fs d'.buf (meant d') l s.0 s.2 eb em) c in
+    let done = completed_same o d'.buf (meant d') ss at f ss' f' (whole_length d' w) (waits_by o d.buf (meant d) b b ss f fs d'.buf (meant d') at l s.0 s.2 eb em ea) c in
     let st = given_by o (meant d) b ss f fs (meant d') ss' f' (meant d') at s.0 takes em refl ea done in
     ((st.0, w, agrees_by o d.buf (meant d) b b ss f fs d'.buf (meant d') at ss' f' s.0 l s.2 takes (λ first e. refl) (λ e. refl) eb em ea done), st.1)
 
@@ -49,14 +48,14 @@ keeps_stays n d d' d'' (inl k) (inl e) m = inl (ap (take n) e ∙ k)
 keeps_stays n d d' d'' (inr k) (inl e) m = inr (e ∙ k ∙ sym m)
 
 ended_waits : (o : KeyOrder) (d d' : Draft) (x : List ℕ) (ss : List Span) (f g : Frame) (fs : List Frame) → Stand o d ss (f ∷ g ∷ fs) → IsWhole d' → meant d' ≡ take f.from (meant d) ++ x → KeepsFront f.from d d'
-    → WaitsSame d'.buf (meant d') (outer_spans ss f.shape) g.shape
-ended_waits o d d' x ss f g fs s w em (inr e) = waits_refl d'.buf (meant d') (outer_spans ss f.shape) g.shape e
+    → WaitsSame d'.buf (meant d') (outer_spans ss f.shape) f.from g.shape
+ended_waits o d d' x ss f g fs s w em (inr e) = waits_refl d'.buf (meant d') (outer_spans ss f.shape) f.from g.shape e
 ended_waits o d d' x ss f g fs s w em (inl t) =
     let a = length-take f.from d.buf in
     let b = length-take f.from (meant d) in
     let l = whole_length d s.1 in
-    waits_by o (take f.from d.buf) (take f.from (meant d)) (drop f.from d'.buf) x (outer_spans ss f.shape) g fs d'.buf (meant d') (omega (arith, a, b, l)) s.0.3 (outer_agrees d.buf (meant d) ss f (g ∷ fs) s.2)
-    (sym (take-append-drop f.from d'.buf) ∙ ap (λ (xs : List ℕ). xs ++ drop f.from d'.buf) t) em
+    waits_by o (take f.from d.buf) (take f.from (meant d)) (drop f.from d'.buf) x (outer_spans ss f.shape) g fs d'.buf (meant d') f.from (omega (arith, a, b, l)) s.0.3 (outer_agrees d.buf (meant d) ss f (g ∷ fs) s.2)
+    (sym (take-append-drop f.from d'.buf) ∙ ap (λ (xs : List ℕ). xs ++ drop f.from d'.buf) t) em (omega (arith, b, s.0.0, s.0.1))
 
 ended_agrees : (o : KeyOrder) (d d' : Draft) (x : List ℕ) (ss : List Span) (f g : Frame) (fs : List Frame) (ss' : List Span) (g' : Frame) → Stand o d ss (f ∷ g ∷ fs) → IsWhole d' → Takes g.shape
     → meant d' ≡ take f.from (meant d) ++ x → KeepsFront f.from d d' → ((first : ℕ) → g.shape ≡ Map first → IsSettled f.from d') → (fs ≡ [] → IsSettled f.from d')
@@ -71,11 +70,10 @@ ended_agrees o d d' x ss f g fs ss' g' s w takes em (inl t) key last c =
     (λ first e. key first e ∙ behind) (λ e. last e ∙ behind) (sym (take-append-drop f.from d'.buf) ∙ ap (λ (xs : List ℕ). xs ++ drop f.from d'.buf) t) em (omega (arith, b, s.0.0, s.0.1)) c
 
 pub member_outer : (o : KeyOrder) (d d' : Draft) (x : List ℕ) (ss ss1 : List Span) (f g : Frame) (fs below : List Frame) → below ≡ g ∷ fs → Stand o d ss (f ∷ below) → IsWhole d' → meant d' ≡ take f.from (meant d) ++ x
-    → KeepsFront f.from d d' → ss1 ≡ outer_spans ss f.shape
-    → (first a val : ℕ) → g.shape ≡ Key first a val → (first ≤ length ss1) × (a ≤ val) × (val ≤ length d'.buf) × AreFronted d'.buf (drop first ss1)
+    → KeepsFront f.from d d' → ss1 ≡ outer_spans ss f.shape → IsReady d'.buf ss1 f.from g.shape
 member_outer o d d' x ss ss1 f g fs below eb stand w em front es =
     let s = subst (λ (gs : List Frame). Stand o d ss (f ∷ gs)) eb stand in
-    ready_same d'.buf (meant d') ss1 g.shape (whole_length d' w) (subst (λ (us : List Span). WaitsSame d'.buf (meant d') us g.shape) (sym es) (ended_waits o d d' x ss f g fs s w em front))
+    ready_same d'.buf (meant d') ss1 f.from g.shape (whole_length d' w) (subst (λ (us : List Span). WaitsSame d'.buf (meant d') us f.from g.shape) (sym es) (ended_waits o d d' x ss f g fs s w em front))
     (outer_ready o (meant d) ss ss1 f g fs below (meant d') x eb stand.0 em es)
 
 pub member_ended : (o : KeyOrder) (d d' : Draft) (ss ss1 : List Span) (f g : Frame) (fs below : List Frame) (ss' : List Span) (g' : Frame) → below ≡ g ∷ fs → Stand o d ss (f ∷ below) → IsWhole d' → Takes g.shape

@@ -179,13 +179,13 @@ impl Core {
         ensures { IsTrue result ↔ IsRepeatedKey (standing self.now) }
     {
         match self.top.shape {
-            Shape::Key(first, key, val) => has_key(
+            Shape::Key(first, key) => has_key(
                 &self.out.buf,
                 self.order,
                 &self.spans[first..],
                 self.top.rises,
                 key,
-                val,
+                self.out.len(),
             ),
             _ => false,
         }
@@ -205,7 +205,7 @@ impl Core {
             (λ key. IsWaitingKey (standing self.now) key.now) }
     {
         match self.top.shape {
-            Shape::Key(_, key, val) => Some(part(self.out.as_slice(), key, val)),
+            Shape::Key(_, key) => Some(part(self.out.as_slice(), key, self.out.len())),
             _ => None,
         }
     }

@@ -1,6 +1,6 @@
 //! What is open.
 
-ghost use Rattle.std.specs.Prelude.{List, ◌≡◌, length};
+ghost use Rattle.std.specs.Prelude.{◌≡◌};
 ghost use Rattle.cbor_builder.specs.inner.Laid.{outermost};
 ghost use Rattle.cbor_builder.specs.inner.Repeats.{first_of};
 
@@ -16,8 +16,9 @@ pub(crate) enum Shape {
     Array(u64),
     /// A map whose pairs are the spans from this index on.
     Map(usize),
-    /// The same with a key that waits for its value: it begins at the second and ends at the third.
-    Key(usize, usize, usize),
+    /// The same with a key that waits for its value: it begins at the second, and is the last that
+    /// the map has.
+    Key(usize, usize),
     /// A string.
     Content(Major),
 }

@@ -6,7 +6,7 @@ ghost use Rattle.cbor_canonical.specs.Pairs.{IsRising};
 ghost use Rattle.cbor_builder.specs.declared.frame.Shape.TheVariants.{Key, Map};
 ghost use Rattle.cbor_builder.specs.inner.Front.{AreFronted, IsFronted};
 ghost use Rattle.cbor_buffer.specs.Spans.{span_pair};
-ghost use Rattle.cbor_builder.specs.inner.Laid.{Takes, shape_after, spans_after};
+ghost use Rattle.cbor_builder.specs.inner.Laid.{Takes, IsReady, shape_after, spans_after};
 ghost use Rattle.cbor_builder.specs.inner.Laid.{KeepsRising};
 ghost use Rattle.cbor_buffer.specs.Moved.{meant, IsWhole, IsSettled, Stays};
 
@@ -53,15 +53,13 @@ pub(crate) fn complete(
     at: usize,
 ) -> Result<(), AllocError>
     requires takes { Takes frame.old.shape }
-    requires within { (first a val : ℕ) → frame.old.shape ≡ Key first a val
-        → (first ≤ length spans.old.items) × (a ≤ val) × (val ≤ length out.now)
-        × AreFronted out.now (drop first spans.old.items) }
+    requires ready { IsReady out.now spans.old.items at frame.old.shape }
     ensures from { frame.new.from ≡ frame.old.from }
     ensures start { frame.new.start ≡ frame.old.start }
-    ensures shape { frame.new.shape ≡ shape_after at (length out.now) frame.old.shape }
+    ensures shape { frame.new.shape ≡ shape_after at frame.old.shape }
     ensures spans { OnOk result
-        (spans.new.items ≡ spans_after out.now spans.old.items frame.old.shape) }
-    ensures rises { KeepsRising order out.now spans.old.items frame.old.shape
+        (spans.new.items ≡ spans_after out.now spans.old.items at frame.old.shape) }
+    ensures rises { KeepsRising order out.now spans.old.items at frame.old.shape
         frame.old.rises frame.new.rises }
 {
     if let Shape::Array(n) = &mut frame.shape {
@@ -69,10 +67,8 @@ pub(crate) fn complete(
         return Ok(());
     }
     match frame.shape {
-        Shape::Map(first) => frame.shape = Shape::Key(first, at, out.len()),
-        Shape::Key(first, key, val) => {
-            return finish_pair(frame, spans, out, order, first, key, val);
-        }
+        Shape::Map(first) => frame.shape = Shape::Key(first, at),
+        Shape::Key(first, key) => return finish_pair(frame, spans, out, order, first, key, at),
         Shape::Plain | Shape::Array(_) | Shape::Content(_) => {}
     }
     Ok(())
@@ -97,8 +93,8 @@ fn finish_pair(
     ensures start { frame.new.start ≡ frame.old.start }
     ensures shape { frame.new.shape ≡ Map first }
     ensures spans { OnOk result
-        (spans.new.items ≡ spans_after out.now spans.old.items (Key first key val)) }
-    ensures rises { KeepsRising order out.now spans.old.items (Key first key val)
+        (spans.new.items ≡ spans_after out.now spans.old.items val (Key first key)) }
+    ensures rises { KeepsRising order out.now spans.old.items val (Key first key)
         frame.old.rises frame.new.rises }
 {
     let span = Span {

@@ -16,7 +16,7 @@ AreSameKeys raw out ss = AllByRecursion (IsSameKey raw out) ss
 
 abbrev pub HasSameKeys : List ℕ → List ℕ → List Span → Shape → Type 0
 HasSameKeys raw out ss (Map first) = AreSameKeys raw out (drop first ss)
-HasSameKeys raw out ss (Key first at val) = AreSameKeys raw out (drop first ss) × (drop at raw ≡ drop at out)
+HasSameKeys raw out ss (Key first at) = AreSameKeys raw out (drop first ss) × (drop at raw ≡ drop at out)
 HasSameKeys raw out ss s = Unit {0}
 
 -- The keys of all that is open lie as they are meant, and all does where nothing else is open.
@@ -25,7 +25,7 @@ Agrees raw out ss [] = Unit {0}
 Agrees raw out ss (f ∷ []) = raw ≡ out
 Agrees raw out ss (f ∷ g ∷ fs) = HasSameKeys raw out ss f.shape × Agrees (take f.from raw) (take f.from out) (outer_spans ss f.shape) (g ∷ fs)
 
--- the key that waits, and those before it
-abbrev pub WaitsSame : List ℕ → List ℕ → List Span → Shape → Type 0
-WaitsSame raw out ss (Key first at val) = AreSameKeys raw out (drop first ss) × (slice_range raw at val ≡ slice_range out at val)
-WaitsSame raw out ss s = Unit {0}
+-- the key that waits up to a place, and those before it
+abbrev pub WaitsSame : List ℕ → List ℕ → List Span → ℕ → Shape → Type 0
+WaitsSame raw out ss at (Key first key) = AreSameKeys raw out (drop first ss) × (slice_range raw key at ≡ slice_range out key at)
+WaitsSame raw out ss at s = Unit {0}

@@ -33,13 +33,13 @@ abbrev pub shape_open : List ℕ → List Span → ℕ → Shape → Open
 shape_open out ss start Plain = plain (drop start out)
 shape_open out ss start (Array n) = an_array n (drop start out)
 shape_open out ss start (Map first) = a_map (pairs_from out ss first)
-shape_open out ss start (Key first at val) = a_key (pairs_from out ss first) (drop at out)
+shape_open out ss start (Key first at) = a_key (pairs_from out ss first) (drop at out)
 shape_open out ss start (Content m) = a_string m (drop start out)
 
 -- the spans of what holds it
 abbrev pub outer_spans : List Span → Shape → List Span
 outer_spans ss (Map first) = take first ss
-outer_spans ss (Key first at val) = take first ss
+outer_spans ss (Key first at) = take first ss
 outer_spans ss s = ss
 
 -- what stands open, the innermost first: each frame sees the buffer up to where the next one begins
@@ -56,8 +56,8 @@ abbrev pub Fits : KeyOrder → List ℕ → List Span → ℕ → ℕ → Bool �
 Fits o out ss from start rises Plain = start ≡ from
 Fits o out ss from start rises (Array n) = n < 2 ^ 64
 Fits o out ss from start rises (Map first) = (first ≤ length ss) × Tile start (drop first ss) (length out) × Rises o out ss first rises × AreFronted out (drop first ss)
-Fits o out ss from start rises (Key first at val) =
-    (first ≤ length ss) × Tile start (drop first ss) at × (at ≤ val) × (val ≡ length out) × Rises o out ss first rises × AreFronted out (drop first ss)
+Fits o out ss from start rises (Key first at) =
+    (first ≤ length ss) × Tile start (drop first ss) at × (at ≤ length out) × Rises o out ss first rises × AreFronted out (drop first ss)
 Fits o out ss from start rises (Content m) = m ≢ Simple
 
 -- the invariant
@@ -84,30 +84,34 @@ IsString s = ⊥
 
 -- no key waits for its value
 abbrev pub CanClose : Shape → Type 0
-CanClose (Key first at val) = ⊥
+CanClose (Key first at) = ⊥
 CanClose s = Unit {0}
 
--- ---- one more member, from at to end
+-- ---- one more member, from at to the end
 
-abbrev pub shape_after : ℕ → ℕ → Shape → Shape
-shape_after at end (Array n) = Array (suc n)
-shape_after at end (Map first) = Key first at end
-shape_after at end (Key first a val) = Map first
-shape_after at end s = s
+-- where a key waits for it, the key stands before it, and the pairs hold the fronts of their keys
+abbrev pub IsReady : List ℕ → List Span → ℕ → Shape → Type 0
+IsReady out ss at s = (first key : ℕ) → s ≡ Key first key → (first ≤ length ss) × (key ≤ at) × (at ≤ length out) × AreFronted out (drop first ss)
+
+abbrev pub shape_after : ℕ → Shape → Shape
+shape_after at (Array n) = Array (suc n)
+shape_after at (Map first) = Key first at
+shape_after at (Key first key) = Map first
+shape_after at s = s
 
 -- the pair that ends the buffer
 abbrev pub span : List ℕ → ℕ → ℕ → Span
 span out key val = record { front = front_of (slice_range out key val); key = key; val = val; end = length out }
 
-abbrev pub spans_after : List ℕ → List Span → Shape → List Span
-spans_after out ss (Key first at val) = ss ++ span out at val ∷ []
-spans_after out ss s = ss
+abbrev pub spans_after : List ℕ → List Span → ℕ → Shape → List Span
+spans_after out ss at (Key first key) = ss ++ span out key at ∷ []
+spans_after out ss at s = ss
 
 -- where the keys rise then, they rose before, and the new one is above them
-abbrev pub KeepsRising : KeyOrder → List ℕ → List Span → Shape → Bool → Bool → Type 0
-KeepsRising o out ss (Key first at val) was now =
-    IsTrue now → IsTrue was × (IsRising o (pairs_from out ss first) → IsRising o (map (span_pair out) (drop first ss ++ span out at val ∷ [])))
-KeepsRising o out ss s was now = now ≡ was
+abbrev pub KeepsRising : KeyOrder → List ℕ → List Span → ℕ → Shape → Bool → Bool → Type 0
+KeepsRising o out ss at (Key first key) was now =
+    IsTrue now → IsTrue was × (IsRising o (pairs_from out ss first) → IsRising o (map (span_pair out) (drop first ss ++ span out key at ∷ [])))
+KeepsRising o out ss at s was now = now ≡ was
 
 -- ---- what begins
 
@@ -125,5 +129,5 @@ Stands o out ss fs os = Laid o out ss fs × (opens out ss fs ≡ os)
 -- what has been done to the innermost for one more member
 abbrev pub Completed : KeyOrder → List Span → ℕ → Frame → List ℕ → List Span → Frame → Type 0
 Completed o ss at f out ss' f' =
-    (f'.from ≡ f.from) × (f'.start ≡ f.start) × (f'.shape ≡ shape_after at (length out) f.shape)
-    × (ss' ≡ spans_after out ss f.shape) × KeepsRising o out ss f.shape f.rises f'.rises
+    (f'.from ≡ f.from) × (f'.start ≡ f.start) × (f'.shape ≡ shape_after at f.shape)
+    × (ss' ≡ spans_after out ss at f.shape) × KeepsRising o out ss at f.shape f.rises f'.rises

@@ -39,7 +39,7 @@ IsLeastSoFar out ss n r = MatchOption r ((i : ℕ) → i + 1 < n → IsTie out s
 -- the index from which on the spans are those of the pairs of what is open
 abbrev pub first_of : List Span → Shape → ℕ
 first_of ss (Map first) = first
-first_of ss (Key first at val) = first
+first_of ss (Key first at) = first
 first_of ss s = length ss
 
 -- what is answered of what is open, with so much around it

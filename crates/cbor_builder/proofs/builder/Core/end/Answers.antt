@@ -44,8 +44,8 @@ returns-in_ok-complete-clause-closed c = λ p.
     (subst OuterTakes rev c.requires.takes) bytes front t.key (λ none. t.last (nothing_open n none)) (c.leave.ensures.spans ∙ k.spans done) (e.from, e.start, e.shape, e.spans, e.rises) in
     made.1 ∙ ap (λ (o : KeyOrder). close o (opens (meant s.out) s.spans.items (s.top ∷ outers s))) eo
 
-pub complete-requires-clause-within : goal.complete-requires-clause-within
-complete-requires-clause-within c =
+pub complete-requires-clause-ready : goal.complete-requires-clause-ready
+complete-requires-clause-ready c =
     let s = c.args.self.now in
     let k = c.in_ok-close_top.ensures in
     let t = c.in_ok-settle_member.ensures in

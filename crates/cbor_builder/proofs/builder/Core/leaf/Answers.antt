@@ -25,8 +25,8 @@ returns-clause-given c =
     on_ok_weaker c.complete.result (λ spans. (member_given s.order s.out c.head.new.self (shortest_head c.args.major c.args.n) s.spans.items s.top (outers s) c.len-at.result c.complete.new.spans.items c.complete.new.frame
     c.requires.laid.0 c.requires.takes h.whole h.meant h.lies c.len-at.ensures.meant (e.from, e.start, e.shape, spans, e.rises)).1) e.spans
 
-pub complete-requires-clause-within : goal.complete-requires-clause-within
-complete-requires-clause-within c =
+pub complete-requires-clause-ready : goal.complete-requires-clause-ready
+complete-requires-clause-ready c =
     let s = c.args.self.now in
     let h = c.in_ok-head.ensures in
-    member_ready s.order s.out c.head.new.self (shortest_head c.args.major c.args.n) s.spans.items s.top (outers s) c.requires.laid.0 h.whole h.meant h.lies
+    member_ready s.order s.out c.head.new.self (shortest_head c.args.major c.args.n) s.spans.items s.top (outers s) c.len-at.result c.requires.laid.0 h.whole h.meant h.lies c.len-at.ensures.meant

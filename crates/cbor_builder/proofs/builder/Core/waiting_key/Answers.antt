@@ -2,9 +2,7 @@ use Rattle.std.proofs.Common.{ℕ, List, sym, ap, ◌∙◌, subst}
 use Rattle.std.specs.Prelude.{slice_range}
 use Rattle.cbor_builder.specs.Built.{IsWaitingKey}
 use Rattle.cbor_builder.specs.inner.BuilderState.{standing, outers}
-use Rattle.cbor_builder.specs.inner.Laid.{Fits}
 use Rattle.cbor_buffer.specs.Moved.{meant}
-use Rattle.cbor_buffer.proofs.Drafts.{whole_length}
 use Rattle.cbor_builder.proofs.InPlace.{top_keys, waiting_is}
 use Rattle.cbor_builder.proofs.builder.Core.waiting_key.Goals as goal
 
@@ -12,6 +10,5 @@ pub returns-in-Key : goal.returns-in-Key
 returns-in-Key c =
     let s = c.args.self.now in
     let f = s.top in
-    let fits = subst (Fits s.order (meant s.out) s.spans.items f.from f.start f.rises) c.in-Key.is c.requires.laid.0.0.2 in
-    subst (IsWaitingKey (standing s)) (sym (c.part.ensures ∙ ap (λ (xs : List ℕ). slice_range xs c.in-Key.key c.in-Key.val) c.as_slice.ensures))
-    (waiting_is s.out.buf (meant s.out) s.spans.items f.start c.in-Key.field-0 c.in-Key.key c.in-Key.val f.shape _ c.in-Key.is (top_keys s.out.buf (meant s.out) s.spans.items f (outers s) c.requires.laid.0.2) (fits.3 ∙ sym (whole_length s.out c.requires.laid.0.1)))
+    subst (IsWaitingKey (standing s)) (sym (c.part.ensures ∙ ap (λ (xs : List ℕ). slice_range xs c.in-Key.key c.len.result) c.as_slice.ensures))
+    (waiting_is s.out.buf (meant s.out) s.spans.items f.start c.in-Key.field-0 c.in-Key.key c.len.result f.shape _ c.in-Key.is (top_keys s.out.buf (meant s.out) s.spans.items f (outers s) c.requires.laid.0.2) c.len.ensures.lies)
