@@ -6,8 +6,9 @@ use Rattle.cbor_head.specs.Complaint.{Rules, form, Complaint, Complains, IsCompl
 use Rattle.cbor_head.specs.Limits.{Bounds}
 use Rattle.cbor_head.specs.Verdict.{initial_reason, refusal, refused, IsReasonAt, IsFormError, IsVerdict}
 use Rattle.cbor_head.specs.declared.reason.Reason.{Reason}
-use Rattle.cbor_head.specs.declared.reason.Reason.TheVariants.{InvalidText, RepeatedKey, NotShortest, Indefinite as IndefiniteReason, KeyOrder, Read, Memory, StrayBreak, Float, NoIndefinite, Reserved, TooDeep, KeyKind}
+use Rattle.cbor_head.specs.declared.reason.Reason.TheVariants.{Truncated, TooLong, InvalidText, RepeatedKey, NotShortest, Indefinite as IndefiniteReason, KeyOrder, Read, Memory, StrayBreak, Float, NoIndefinite, Reserved, TooDeep, KeyKind}
 use Rattle.cbor_head.specs.declared.reason.Refusal.{Refusal}
+use Rattle.cbor_automaton.specs.Reasons.{IsFormReason as IsByteReason}
 use Rattle.cbor_grammar.proofs.KeyKinds.{kind_is}
 use Rattle.cbor_grammar.proofs.Reasons.{reason_of}
 use Rattle.cbor_judging.specs.Place.{Container}
@@ -19,26 +20,32 @@ use Rattle.cbor_judging.specs.Refusals.{IsFormReason, IsComplaintReason, IsKindR
 complains : (r : Rules) (at : ℕ) (s : Spelling) (c : Complaint) → Complains r at s c → IsComplaintReason r c.reason
 complains r at s c h = reason_of r (IsComplaintReason r) (λ x. x) (λ x. x) (λ x. x) (λ x. x) (λ o x. (o, x)) at s c h
 
-initial-form : (c : ℕ) → IsFormReason (initial_reason c)
-initial-form c = chain (c == 0xff) ((c == 0xf9) || (c == 0xfa) || (c == 0xfb)) ((c == 0x1f) || (c == 0x3f) || (c == 0xdf)) (nat_le 28 (c % 32) && nat_le (c % 32) 30)
+initial-byte : (c : ℕ) → IsByteReason (initial_reason c)
+initial-byte c = chain (c == 0xff) ((c == 0xf9) || (c == 0xfa) || (c == 0xfb)) ((c == 0x1f) || (c == 0x3f) || (c == 0xdf)) (nat_le 28 (c % 32) && nat_le (c % 32) 30)
   where
-    chain : (u v w x : Bool) → IsFormReason (if u then StrayBreak else if v then Float else if w then NoIndefinite else if x then Reserved else TooDeep)
+    chain : (u v w x : Bool) → IsByteReason (if u then StrayBreak else if v then Float else if w then NoIndefinite else if x then Reserved else TooDeep)
     chain true v w x = tt
     chain false true w x = tt
     chain false false true x = tt
     chain false false false true = tt
     chain false false false false = tt
 
+-- a byte that may not stand where it does
+pub byte-reason : (d : ℕ) (p : List ℕ) (c : ℕ) (reason : Reason) → IsReasonAt d p c reason → IsByteReason reason
+byte-reason d p c reason (inl b) = subst IsByteReason (sym b.1) (initial-byte c)
+byte-reason d p c reason (inr (inl b)) = subst IsByteReason (sym b.2) tt
+byte-reason d p c reason (inr (inr b)) = subst IsByteReason (sym b.2) tt
+
+byte-form : (reason : Reason) → IsByteReason reason → IsFormReason reason
+byte-form Truncated h = absurd h
+byte-form TooLong h = absurd h
+byte-form _ h = h
+
 -- a form error
 pub breaks-form : (limits : Bounds) (p behind : List ℕ) (f : Refusal) → IsFormError limits p behind f → IsFormReason f.reason
 breaks-form limits p [] f (inl h) = subst (λ (x : Refusal). IsFormReason x.reason) (sym h.1) tt
 breaks-form limits p [] f (inr h) = subst (λ (x : Refusal). IsFormReason x.reason) (sym h.1) tt
-breaks-form limits p (c ∷ cs) f h = subst (λ (x : Refusal). IsFormReason x.reason) (sym h.2) (go h.0 h.1)
-  where
-    go : (reason : Reason) → IsReasonAt limits.depth p c reason → IsFormReason reason
-    go reason (inl b) = subst IsFormReason (sym b.1) (initial-form c)
-    go reason (inr (inl b)) = subst IsFormReason (sym b.2) tt
-    go reason (inr (inr b)) = subst IsFormReason (sym b.2) tt
+breaks-form limits p (c ∷ cs) f h = subst (λ (x : Refusal). IsFormReason x.reason) (sym h.2) (byte-form h.0 (byte-reason limits.depth p c h.0 h.1))
 
 -- a complaint that is a refusal
 pub complaint-reason : (r : Rules) (at : ℕ) (s : Spelling) (c : Complaint) → Complains r at s c → (f : Refusal) → f ≡ refusal c.reason c.place c.end → IsComplaintReason r f.reason

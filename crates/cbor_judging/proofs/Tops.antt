@@ -8,7 +8,7 @@ use Rattle.cbor_head.specs.Limits.{Bounds}
 use Rattle.cbor_head.specs.Value.{Value}
 use Rattle.cbor_head.specs.Laws.{StartsWith}
 use Rattle.cbor_head.specs.Spelling.{Spelling, spell, IsItem}
-use Rattle.cbor_head.specs.Beginning.{IsBeginning, IsLongestBeginning}
+use Rattle.cbor_head.specs.Beginning.{IsLongestBeginning}
 use Rattle.cbor_head.specs.Complaint.{Rules, Complaint, complaint, form, OfKinds, IsComplaint}
 use Rattle.cbor_head.specs.Verdict.{refusal, refused, IsFormError, IsVerdict}
 use Rattle.cbor_head.specs.declared.reason.Reason.{Reason}
@@ -26,7 +26,6 @@ use Rattle.cbor_judging.specs.Refusals.{IsFreeBefore}
 use Rattle.cbor_judging.proofs.FreeBefore.{front-free}
 use Rattle.cbor_judging.proofs.Decisions.{whole_beside, complaint_decides, break_decides, kind_decides}
 use Rattle.cbor_judging.proofs.KindSteps.{KeepsBefore}
-use Rattle.cbor_judging.proofs.Within.{verdict_within}
 use Rattle.cbor_judging.proofs.SpelledBytes.{longest_always}
 
 -- ---- the first n bytes
@@ -176,11 +175,7 @@ module _ (r : Rules) (b : Bounds) (input : List ℕ) (from to : Option (List ℕ
           let decided = form_decides b r s.bytes p last (refusal Truncated (length s.bytes) (length s.bytes)) j keeps splits all v in
           elim why [
             | inl e ↦
-                let g = longest_always b.depth (take b.bytes input) in
-                let none : last ≡ [] = nil_from_length last (omega (arith, all, ap length splits, length-append p last)) in
-                let begins : IsBeginning b.depth s.bytes = subst (IsBeginning b.depth) (sym (splits ∙ ap (λ (u : List ℕ). p ++ u) none ∙ append-nil p)) (j.item, j.rest, j.is) in
-                let within : length s.bytes ≤ b.bytes = most v in
-                of_reader g.0 g.1 (short (record { begins = begins; within = within }) g.0 g.1) (flat Read e even)
+                of_reader (flat Read e even)
                 (subst (λ (u : List ℕ). IsVerdict b r u (refused (refusal Truncated f.read f.read))) (sym taken-are)
                 (subst (λ (k : ℕ). IsVerdict b r s.bytes (refused (refusal Truncated k k))) (sym read-is) decided.0))
             | inr e ↦
@@ -192,9 +187,6 @@ module _ (r : Rules) (b : Bounds) (input : List ℕ) (from to : Option (List ℕ
         where
           ended : (rest : List ℕ) → to ≡ Some rest → IsAtEnd to → rest ≡ []
           ended rest e h = subst IsAtEnd e h
-
-          most : IsVerdict b form s.bytes (refused (refusal Truncated (length s.bytes) (length s.bytes))) → length s.bytes ≤ b.bytes
-          most v = (verdict_within b s.bytes form (refusal Truncated (length s.bytes) (length s.bytes)) v).in_limit
 
       stopped-by-cause : (found : Option Complaint) → IsJudged r 0 b.depth p found → IsCause b s.bytes to (length p) found f → IsUnread b r input f
       stopped-by-cause (Some c) j h = stopped-by-complaint c j h.0 h.1

@@ -28,8 +28,7 @@ pub record IsReadAs (limits : Bounds) (r : Rules) (input : List ℕ) (v : Value)
 pub data IsUnread (limits : Bounds) (r : Rules) (input : List ℕ) (f : Refusal) : Type 0 where
   of_verdict : IsVerdict limits r input (refused f) → IsUnread limits r input f
   -- the reader failed within an item without complaint: of the bytes taken, as a whole input, the verdict is Truncated
-  of_reader : (p : List ℕ) → IsLongestBeginning limits.depth (take limits.bytes input) p → f.read ≤ length p → f ≡ refusal Read f.read f.read
-      → IsVerdict limits r (take f.read input) (refused (refusal Truncated f.read f.read)) → IsUnread limits r input f
+  of_reader : f ≡ refusal Read f.read f.read → IsVerdict limits r (take f.read input) (refused (refusal Truncated f.read f.read)) → IsUnread limits r input f
   -- memory was refused, somewhere on the longest beginning, where no complaint had ended before
   of_memory : (p : List ℕ) → IsLongestBeginning limits.depth (take limits.bytes input) p → f.read ≤ length p → f ≡ refusal Memory f.read f.read
       → IsFreeBefore limits r p f.read → IsUnread limits r input f

@@ -8,20 +8,14 @@ use Rattle.cbor_head.specs.declared.keys.Keys.TheVariants.{IntegersAndTexts}
 use Rattle.cbor_head.specs.declared.order.KeyOrder as order
 use Rattle.cbor_head.specs.declared.reason.Reason.{Reason}
 use Rattle.cbor_head.specs.declared.reason.Refusal.{Refusal}
-use Rattle.cbor_head.specs.declared.reason.Reason.TheVariants.{Truncated, TooLong, Reserved, NoIndefinite, Float, BadSimple, StrayBreak, BadChunk, TooDeep, InvalidText, RepeatedKey, NotShortest, Indefinite, KeyOrder, Read, Memory, KeyKind}
+use Rattle.cbor_head.specs.declared.reason.Reason.TheVariants.{Truncated, TooLong, InvalidText, RepeatedKey, NotShortest, Indefinite, KeyOrder, Read, Memory, KeyKind}
+use Rattle.cbor_automaton.specs.Reasons.{IsFormReason as IsByteReason}
 
 -- the reasons for which bytes are not well-formed within the limits (RFC 8949, section 3 and appendix F): 1 to 9
 abbrev pub IsFormReason : Reason → Type 0
 IsFormReason Truncated = Unit {0}
 IsFormReason TooLong = Unit {0}
-IsFormReason Reserved = Unit {0}
-IsFormReason NoIndefinite = Unit {0}
-IsFormReason Float = Unit {0}
-IsFormReason BadSimple = Unit {0}
-IsFormReason StrayBreak = Unit {0}
-IsFormReason BadChunk = Unit {0}
-IsFormReason TooDeep = Unit {0}
-IsFormReason _ = ⊥
+IsFormReason x = IsByteReason x
 
 -- The reasons of complaints: of texts 10 (section 3.1), of heads 14 and 15 (section 4.2.1), of keys 11 (section 5.6) or 16
 -- (section 4.2.1).

@@ -21,7 +21,7 @@ module _ (limits : Bounds) (input : List ℕ) where
 
   pub refusal_within : (o : KeyOrder) (f : Refusal) → IsRefusal limits o input f → StandsWithin limits.bytes input f
   refusal_within o f (of_item (unread (of_verdict v) g)) = verdict_within limits input plain f v
-  refusal_within o f (of_item (unread (of_reader p g l e v) apart)) = absurd (apart (ap (λ (x : Refusal). x.reason) e))
+  refusal_within o f (of_item (unread (of_reader e v) apart)) = absurd (apart (ap (λ (x : Refusal). x.reason) e))
   refusal_within o f (of_item (unread (of_memory p g l e free) apart)) =
       let w = longest_within limits input p g in within_at f _ f.read e (omega (arith, l, w.0)) (omega (arith, l, w.1))
   refusal_within o f (of_item (trailing k a l e)) = within_at f _ k e (omega (arith, a.size, item_within_limit limits plain input a.item a.verdict)) (omega (arith, l))
@@ -30,7 +30,7 @@ module _ (limits : Bounds) (input : List ℕ) where
 -- the canonicaliser's
 pub canonicaliser-reason : (limits : Bounds) (o : KeyOrder) (input : List ℕ) (f : Refusal) → IsRefusal limits o input f → IsCanonicaliserReason limits f.reason
 canonicaliser-reason limits o input f (of_item (unread (of_verdict v) g)) = elim (verdict-reason limits plain input f v) [ inl h ↦ inl h | inr h ↦ inr (inl h) ]
-canonicaliser-reason limits o input f (of_item (unread (of_reader p l m e v) g)) = absurd (g (ap (λ (x : Refusal). x.reason) e))
+canonicaliser-reason limits o input f (of_item (unread (of_reader e v) g)) = absurd (g (ap (λ (x : Refusal). x.reason) e))
 canonicaliser-reason limits o input f (of_item (unread (of_memory p l m e w) g)) = inr (inr (inr (inr (ap (λ (x : Refusal). x.reason) e))))
 canonicaliser-reason limits o input f (of_item (trailing k a l e)) = inr (inr (inl (ap (λ (x : Refusal). x.reason) e)))
 canonicaliser-reason limits o input f (canonical_too_long s v e l g) = inr (inr (inr (inl (ap (λ (x : Refusal). x.reason) g))))

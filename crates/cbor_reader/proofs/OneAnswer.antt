@@ -18,7 +18,7 @@ use Rattle.cbor_reader.specs.WholeItem.{IsItemRefusal, unread, trailing}
 module _ (limits : Bounds) (r : Rules) (input : List ℕ) where
   pub verdict_only : (f : Refusal) → IsUnread limits r input f → f.reason ≢ Read → f.reason ≢ Memory → IsVerdict limits r input (refused f)
   verdict_only f (of_verdict w) x y = w
-  verdict_only f (of_reader p l m is w) x y = absurd (x (ap (λ (g : Refusal). g.reason) is))
+  verdict_only f (of_reader is w) x y = absurd (x (ap (λ (g : Refusal). g.reason) is))
   verdict_only f (of_memory p l m is free) x y = absurd (y (ap (λ (g : Refusal). g.reason) is))
 
   pub item_refused_once : (f g : Refusal) → IsItemRefusal limits r input f → IsItemRefusal limits r input g → f.reason ≢ Memory → g.reason ≢ Memory → f ≡ g
@@ -32,7 +32,7 @@ module _ (limits : Bounds) (r : Rules) (input : List ℕ) where
   -- what is accepted and all of the input is refused for memory alone
   pub memory_alone : (s : Spelling) (f : Refusal) → IsVerdict limits r input (accepted s) → spell s ≡ input → IsItemRefusal limits r input f → f.reason ≡ Memory
   memory_alone s f v all (unread (of_verdict w) g) = absurd (not_both limits r input s f v w)
-  memory_alone s f v all (unread (of_reader p l m is w) g) = absurd (g (ap (λ (x : Refusal). x.reason) is))
+  memory_alone s f v all (unread (of_reader is w) g) = absurd (g (ap (λ (x : Refusal). x.reason) is))
   memory_alone s f v all (unread (of_memory p l m is x) g) = ap (λ (x : Refusal). x.reason) is
   memory_alone s f v all (trailing n t l is) =
       absurd (omega (arith, l, t.size, ap (λ (s : Spelling). length (spell s)) (one_item limits r input s t.item v t.verdict), ap length all))

@@ -121,7 +121,7 @@ no_bytes limits r input zero =
 
 pub no_bytes_told : (limits : Bounds) (r : Rules) (input : List ℕ) (f : Refusal) → limits.bytes ≡ 0 → IsUnread limits r input f → f.reason ≢ Memory → f ≡ refusal TooLong 0 0
 no_bytes_told limits r input f zero (of_verdict w) y = one_refusal limits r input f (refusal TooLong 0 0) w (no_bytes limits r input zero)
-no_bytes_told limits r input f zero (of_reader p l m is w) y =
+no_bytes_told limits r input f zero (of_reader is w) y =
     let h = one_refusal limits r (take f.read input) (refusal Truncated f.read f.read) (refusal TooLong 0 0) w (no_bytes limits r (take f.read input) zero) in
     absurd (apart (ap (λ (g : Refusal). g.reason) h))
   where

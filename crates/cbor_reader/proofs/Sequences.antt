@@ -87,7 +87,7 @@ module _ (limits : Bounds) (r : Rules) (input : List ℕ) where
 
   ends_so : (f : Refusal) → IsUnread limits r input f → IsBeforeItem f → EndsBefore limits.bytes input
   ends_so f (of_verdict w) h = verdict_before f w h
-  ends_so f (of_reader p l m is w) h = absurd (apart (sym h.0 ∙ ap (λ (g : Refusal). g.reason) is))
+  ends_so f (of_reader is w) h = absurd (apart (sym h.0 ∙ ap (λ (g : Refusal). g.reason) is))
     where
       apart : Truncated ≡ Read → ⊥
       apart e = cc e
@@ -100,7 +100,7 @@ module _ (limits : Bounds) (r : Rules) (input : List ℕ) where
   begun_so f (of_verdict w) h x y = λ (e, l).
       let same : f ≡ refusal Truncated 0 0 = one_refusal limits r input f (refusal Truncated 0 0) w (subst (λ (b : List ℕ). IsVerdict limits r b (refused (refusal Truncated 0 0))) (sym e) (empty_is_truncated limits r l)) in
       h (ap (λ (g : Refusal). g.reason) same, ap (λ (g : Refusal). g.read) same)
-  begun_so f (of_reader p l m is w) h x y = absurd (x (ap (λ (g : Refusal). g.reason) is))
+  begun_so f (of_reader is w) h x y = absurd (x (ap (λ (g : Refusal). g.reason) is))
   begun_so f (of_memory p l m is free) h x y = absurd (y (ap (λ (g : Refusal). g.reason) is))
 
 -- ---- what a call answers

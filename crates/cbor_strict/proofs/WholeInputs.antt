@@ -32,7 +32,7 @@ refused-front limits o input f w = λ v b. let (s, accepts) = strict_accepts lim
 
 no-front : (limits : Bounds) (o : KeyOrder) (input : List ℕ) (f : Refusal) → IsUnread limits (strict o) input f → f.reason ≢ Read → f.reason ≢ Memory → HasNoCanonicalFront limits o input
 no-front limits o input f (of_verdict w) g h = refused-front limits o input f w
-no-front limits o input f (of_reader p l m is w) g h = absurd (g (ap (λ (x : Refusal). x.reason) is))
+no-front limits o input f (of_reader is w) g h = absurd (g (ap (λ (x : Refusal). x.reason) is))
 no-front limits o input f (of_memory p l m is w) g h = absurd (h (ap (λ (x : Refusal). x.reason) is))
 
 pub has-no-front : (limits : Bounds) (o : KeyOrder) (from : Option (List ℕ)) (f : Refusal) → IfSome from (λ input. IsUnread limits (strict o) input f) → f.reason ≢ Read → f.reason ≢ Memory → IfSome from (HasNoCanonicalFront limits o)

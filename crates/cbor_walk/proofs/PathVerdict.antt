@@ -1,48 +1,31 @@
 -- Where the walk ends is the verdict.
-use Rattle.std.proofs.Common.{◌≡◌, ◌≢◌, ℕ, ◌-◌, ◌<◌, ◌≤◌, Bool, true, false, List, [], ◌∷◌, ◌++◌, length, take, refl, sym, ap, ◌∙◌, subst, inl, inr, arith, append_assoc, append-nil}
-use Rattle.std.specs.Prelude.{◌==◌, ◌||◌, ◌&&◌, ◌%◌, nat_le, if◌then◌else◌}
+use Rattle.std.proofs.Common.{◌≡◌, ◌≢◌, ℕ, ◌-◌, ◌<◌, ◌≤◌, List, [], ◌∷◌, ◌++◌, length, take, refl, sym, ap, ◌∙◌, subst, inl, inr, arith, append_assoc, append-nil}
 use Rattle.std.proofs.lemmas.Bool.{cases_lt}
 use Rattle.std.proofs.lemmas.List.{length-append, length-take}
 use Rattle.cbor_head.specs.Beginning.{IsBeginning, MayFollow, IsLongestBeginning}
 use Rattle.cbor_head.specs.Complaint.{Rules, IsComplaint}
 use Rattle.cbor_head.specs.Limits.{Bounds}
 use Rattle.cbor_head.specs.Spelling.{Spelling, IsItem, spell, depth}
-use Rattle.cbor_head.specs.Verdict.{initial_reason, refusal, accepted, refused, IsReasonAt, IsVerdict}
-use Rattle.cbor_head.specs.declared.reason.Reason.{Reason}
-use Rattle.cbor_head.specs.declared.reason.Reason.TheVariants.{Truncated, TooLong, Reserved, NoIndefinite, Float, StrayBreak, TooDeep, KeyKind}
+use Rattle.cbor_head.specs.Verdict.{refusal, accepted, refused, IsVerdict}
+use Rattle.cbor_head.specs.declared.reason.Reason.TheVariants.{Truncated, TooLong, KeyKind}
 use Rattle.cbor_head.specs.declared.reason.Refusal.{Refusal}
 use Rattle.cbor_grammar.proofs.Agree.{split_front}
 use Rattle.cbor_grammar.proofs.Beginnings.{item_decides}
-use Rattle.cbor_automaton.specs.Reasons.{IsFormReason}
+use Rattle.cbor_automaton.specs.Reasons.{IsFormReason as IsByteReason}
 use Rattle.cbor_automaton.proofs.Beginnings.{shorter}
 use Rattle.cbor_judging.specs.Refusals.{IsComplaintReason}
 use Rattle.cbor_judging.specs.Kinds.{KeepsToKinds}
 use Rattle.cbor_judging.proofs.Decisions.{whole_beside, complaint_decides, break_decides, kind_decides}
-use Rattle.cbor_judging.proofs.Reasons.{complaint-reason}
+use Rattle.cbor_judging.proofs.Reasons.{byte-reason, complaint-reason}
 use Rattle.cbor_judging.proofs.SpelledBytes.{longest_always}
 use Rattle.cbor_walk.specs.inner.Path.{HasEnded}
 use Rattle.cbor_walk.specs.inner.Stop.{HasComplaint, HasBadByte, EndsWithin, HasOtherKey, IsStopped, IsAnswered}
 
 -- ---- reasons
 
-initial_form : (c : ℕ) → IsFormReason (initial_reason c)
-initial_form c = chain (c == 0xff) ((c == 0xf9) || (c == 0xfa) || (c == 0xfb)) ((c == 0x1f) || (c == 0x3f) || (c == 0xdf)) (nat_le 28 (c % 32) && nat_le (c % 32) 30)
-  where
-    chain : (u v w x : Bool) → IsFormReason (if u then StrayBreak else if v then Float else if w then NoIndefinite else if x then Reserved else TooDeep)
-    chain true v w x = tt
-    chain false true w x = tt
-    chain false false true x = tt
-    chain false false false true = tt
-    chain false false false false = tt
-
-byte_reason : (d : ℕ) (p : List ℕ) (c : ℕ) (reason : Reason) → IsReasonAt d p c reason → IsFormReason reason
-byte_reason d p c reason (inl b) = subst IsFormReason (sym b.1) (initial_form c)
-byte_reason d p c reason (inr (inl b)) = subst IsFormReason (sym b.2) tt
-byte_reason d p c reason (inr (inr b)) = subst IsFormReason (sym b.2) tt
-
 -- a complaint, a bad byte and a key of another kind are no end of the input
 bad_byte_differs : (r : Rules) (limits : Bounds) (b : List ℕ) (f : Refusal) → HasBadByte r limits b f → f.reason ≢ Truncated
-bad_byte_differs r limits b f h e = subst IsFormReason e (byte_reason limits.depth h.p h.byte f.reason h.reason)
+bad_byte_differs r limits b f h e = subst IsByteReason e (byte-reason limits.depth h.p h.byte f.reason h.reason)
 
 complaint_differs : (r : Rules) (limits : Bounds) (b : List ℕ) (f : Refusal) → HasComplaint r limits b f → f.reason ≢ Truncated
 complaint_differs r limits b f h e = subst (IsComplaintReason r) e (complaint-reason r 0 h.judged.item h.complaint h.judged.finding.holds f h.is)

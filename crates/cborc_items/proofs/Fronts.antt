@@ -87,7 +87,7 @@ module _ (limits : Bounds) (front behind : List ℕ) (enough : IsEnough limits f
 
   unread_whole : (r : Rules) (f : Refusal) → f.reason ≢ Read → IsUnread limits r front f → IsUnread limits r (front ++ behind) f
   unread_whole r f apart (readers.of_verdict v) = readers.of_verdict (verdict_whole r (refused f) v)
-  unread_whole r f apart (readers.of_reader p l h e v) = absurd (apart (ap (λ (x : Refusal). x.reason) e))
+  unread_whole r f apart (readers.of_reader e v) = absurd (apart (ap (λ (x : Refusal). x.reason) e))
   unread_whole r f apart (readers.of_memory p l h e free) =
       let (q, g) = longest_always limits.depth (take limits.bytes (front ++ behind)) in
       let rest = l.rest ++ more limits r front behind in

@@ -34,7 +34,7 @@ module _ (b : Bounds) (r : Rules) (front behind : List ℕ) (f : Refusal) (known
 
   pub unread_further : IsOfInput f.reason → IsUnread b r front f → IsUnread b r (front ++ behind) f
   unread_further own (of_verdict v) = of_verdict (verdict_further v)
-  unread_further own (of_reader p l within is v) = absurd (subst IsOfInput (ap (λ (g : Refusal). g.reason) is) own)
+  unread_further own (of_reader is v) = absurd (subst IsOfInput (ap (λ (g : Refusal). g.reason) is) own)
   unread_further own (of_memory p l within is free) = absurd (subst IsOfInput (ap (λ (g : Refusal). g.reason) is) own)
 
 -- the fault of a refusal

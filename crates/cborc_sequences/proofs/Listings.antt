@@ -4,14 +4,14 @@ use Rattle.std.specs.Io.KnownBytes.{Appends}
 use Rattle.std.proofs.lemmas.List.{take-append-le}
 use Rattle.cbor_head.specs.Complaint.{form}
 use Rattle.cbor_head.specs.Limits.{Bounds}
-use Rattle.cbor_head.specs.Laws.{Decides}
-use Rattle.cbor_head.specs.Verdict.{refused, IsFormError, IsVerdict}
+use Rattle.cbor_head.specs.Verdict.{refused, IsVerdict}
 use Rattle.cbor_head.specs.declared.reason.Reason.TheVariants as reasons
 use Rattle.cbor_head.specs.declared.reason.Refusal.{Refusal}
 use Rattle.cbor_automaton.specs.Event.{events}
 use Rattle.cbor_diag.specs.Listing.{lines, IsListing, IsStopped, IsListed, IsUnlisted, of_verdict, of_reader, of_writer}
 use Rattle.cbor_judging.specs.Readers.{IsRead}
-use Rattle.cbor_standing.proofs.Form.{never}
+use Rattle.cbor_judging.specs.Refusals.{IsFormReason}
+use Rattle.cbor_judging.proofs.Reasons.{form-reason}
 use Rattle.cbor_reader.specs.Sequence.{IsAccepted}
 use Rattle.cborc_input.specs.Listed.{IsFrontNotListed}
 use Rattle.cborc_sequences.specs.EventsSequence.{gap, item_lines, before_all, within, listed_to, listed_short}
@@ -22,22 +22,13 @@ use Rattle.cborc_input.specs.Items.{IsWritten}
 use Rattle.cborc_sequences.specs.inner.Items.{IsItemNotListed}
 use Rattle.cborc_sequences.proofs.Further.{IsSettled, verdict_further}
 use Rattle.cborc_fronts.proofs.Outputs.{appends_more}
-use Rattle.cborc_fronts.proofs.Places.{IsByteReason, byte_reason, place_within}
+use Rattle.cborc_fronts.proofs.Places.{place_within}
 use Rattle.cborc_sequences.proofs.Taken.{item_accepted, written_of}
 
 -- ---- no verdict is that the writer failed
 
-form_not : (limits : Bounds) (p behind : List ℕ) (f : Refusal) → IsFormError limits p behind f → f.reason ≡ reasons.Write → ⊥
-form_not limits p (c ∷ rest) f (reason, why, is) e = subst IsByteReason (sym (ap (λ (x : Refusal). x.reason) is) ∙ e) (byte_reason limits.depth p c reason why)
-form_not limits p [] f (inl h) e = let t : reasons.TooLong ≡ reasons.Write = sym (ap (λ (x : Refusal). x.reason) h.1) ∙ e in cc t
-form_not limits p [] f (inr h) e = let t : reasons.Truncated ≡ reasons.Write = sym (ap (λ (x : Refusal). x.reason) h.1) ∙ e in cc t
-
 verdict_not : (limits : Bounds) (input : List ℕ) (f : Refusal) → IsVerdict limits form input (refused f) → f.reason ≡ reasons.Write → ⊥
-verdict_not limits input f v e = by v.decides
-  where
-    by : Decides limits form v.p v.longest.rest v.item (refused f) → ⊥
-    by (inl (c, first, is)) = never limits v.item c first.holds
-    by (inr h) = form_not limits v.p v.longest.rest f h.2 e
+verdict_not limits input f v e = subst IsFormReason e (form-reason limits input f v)
 
 -- ---- one item at the front
 
