@@ -123,7 +123,10 @@ static void tell(int (*call)(void), size_t length) {
         spent += took;
         if (took < best) best = took;
     }
-    printf(" %.1f |", (double)length / best / 1e6);
+    double speed = (double)length / best / 1e6;
+    /* It says nothing of a call that reads next to none of the bytes. */
+    if (speed < 1e6) printf(" %.1f |", speed);
+    else printf("  |");
     fflush(stdout);
 }
 

@@ -174,7 +174,8 @@ struct naltvigo_machine {
     uint64_t place;   /* the offset of what was refused */
     uint16_t depth;   /* the depth limit */
     uint16_t open;    /* how many arrays, maps and tags are open */
-    uint8_t position; /* an item, within a head, a simple value's number, within a payload, a chunk, the end */
+    uint8_t position; /* 0: an item is due; 1: within a head; 2: a simple value's number is due; 3: within a
+                       * payload; 4: a chunk is due; 5: the item's end */
     uint8_t kind;     /* the major type of the head, payload or string */
     uint8_t width;    /* of the open head: 1, 2, 3, 4 for an argument of 1, 2, 4, 8 bytes */
     uint8_t left;     /* how many bytes of the argument follow the next one */
@@ -200,7 +201,8 @@ enum { NALTVIGO_NO_ARGUMENT = 255 };
 /* An event. One that is not told is left as it was. */
 struct naltvigo_event {
     uint64_t place;  /* the offset of its first byte, from the item's first byte */
-    uint64_t number; /* the argument, the count, or how many bytes a piece has; 0 where there is none */
+    uint64_t number; /* the argument, which for kind 1 stands for -1 less it, and for a map counts pairs; how many
+                      * bytes a piece has; 0 where there is none */
     uint32_t kind;   /* the major type, or one of the numbers above */
     uint32_t width;  /* how many bytes the argument has: 0, 1, 2, 4, 8, or NALTVIGO_NO_ARGUMENT */
 };
@@ -240,7 +242,7 @@ uint32_t naltvigo_machine_take_raw(struct naltvigo_machine *machine, const uint8
  * Writes the canonical bytes, in this order of keys, of the one well-formed, valid item that the whole
  * input is to the front of `out`. `*needed` is their count where the status is OK or TOO_SMALL, else 0; with
  * `out_length` 0 a caller asks for it first, at the price of a whole call. An answer is hardly ever longer
- * than the input: only arrays and maps of indefinite length with 256 members or more grow, by at most 8
+ * than the input: only arrays and maps of indefinite length with 256 members or more grow, by at most 7
  * bytes each. Bytes of `out` behind the answer stay as they were, and all of them where the status is not OK.
  *
  * Two accepted inputs get equal answers in one order exactly if their values are the same, within
@@ -263,7 +265,7 @@ static inline uint32_t naltvigo_canonicalise(const uint8_t *in, size_t in_length
  * naltvigo_check_canonical: whether the input is canonical as it stands.
  *
  * OK exactly where the whole input is one valid item in its canonical bytes, in this order of keys: then
- * naltvigo_canonicalise, but for memory, would answer the input itself. It takes no memory.
+ * naltvigo_canonicalise would answer the input itself. It takes no memory.
  *
  * Answers OK, REFUSED (reasons 1 to 10, 12, 14 to 16, 20), BAD_ORDER, BAD_LIMITS.
  */
@@ -385,7 +387,8 @@ static inline uint32_t naltvigo_machine_start(const struct naltvigo_options *opt
  * count from the item's first byte). `*used` says how many bytes of the part were taken: give the rest, and
  * then what comes next, to the next call; `*told` says how many events were written to the front of `events`,
  * whatever the status. A payload comes in pieces as its bytes do. After OK or REFUSED a call uses nothing and
- * answers the same. An item that ends too early is seen by the caller: its bytes end, and the status is MORE.
+ * answers the same; with room for no event it uses nothing and answers EVENT. An item that ends too early is
+ * seen by the caller: its bytes end, and the status is MORE.
  * UTF-8, repeated keys and kinds of keys are not checked. A call fills 9 KiB of its stack, so many events a
  * call are cheaper than one.
  *

@@ -34,6 +34,13 @@ ROWS = [
     ("cborc show re", {"records.cbor"}),
 ]
 
+# What bash alone is asked: a name with a space, and a word with its value, which it takes apart.
+ROWS_OF_BASH = [
+    ("cborc show tw", {"two words.cbor"}),
+    ("cborc check --order=", {"bytewise", "length"}),
+    ("cborc check --order=by", {"bytewise"}),
+]
+
 
 def offered(words):
     """The words without the short options."""
@@ -41,12 +48,12 @@ def offered(words):
 
 
 def of_bash(line, folder):
-    words = line.split(" ")
+    words = re.split(r" |(?==)|(?<==)", line)
     script = f"""source {SHARE}/cborc.bash
 COMP_WORDS=({' '.join(f"'{word}'" for word in words)}); COMP_CWORD={len(words) - 1}
 _cborc; printf '%s\\n' "${{COMPREPLY[@]}}" """
     asked = subprocess.run(["bash", "-c", script], cwd=folder, capture_output=True, text=True)
-    return set(asked.stdout.split())
+    return set(asked.stdout.splitlines())
 
 
 def of_fish(line, folder):
@@ -105,12 +112,13 @@ SHELLS = {"bash": of_bash, "zsh": of_zsh, "fish": of_fish}
 def faults():
     found = []
     with tempfile.TemporaryDirectory() as folder:
-        open(os.path.join(folder, "records.cbor"), "w").close()
+        for name in ("records.cbor", "two words.cbor"):
+            open(os.path.join(folder, name), "w").close()
         for shell, ask in SHELLS.items():
             if not shutil.which(shell):
                 print(f"completions: no {shell} here")
                 continue
-            for line, wanted in ROWS:
+            for line, wanted in ROWS + (ROWS_OF_BASH if shell == "bash" else []):
                 got = offered(ask(line, folder))
                 if got != wanted:
                     found.append(f"{shell} offers behind '{line}' {sorted(got)}, and not {sorted(wanted)}")

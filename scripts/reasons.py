@@ -1,7 +1,8 @@
 #!/usr/bin/env python3
-"""Writes the reasons of refusals for the bindings, from the crates' own tables.
+"""Writes the reasons of refusals for the bindings and the man page, from the crates' own tables.
 
-    scripts/reasons.py            writes bindings/python/src/naltvigo/_reasons.py and bindings/rust/src/reason.rs
+    scripts/reasons.py            writes bindings/python/src/naltvigo/_reasons.py, bindings/rust/src/reason.rs and a part
+                                  of share/cborc.1
     scripts/reasons.py --check    fails where one of them is not what it would write
 """
 
@@ -74,9 +75,19 @@ def rust():
     return "\n".join(lines + [""])
 
 
+# The part of the man page.
+PART = re.compile(r'(?s)(\.\\" Written by scripts/reasons\.py\.\n).*?(\.\\" To here\.\n)')
+
+
+def manual():
+    rows = "".join(f".TP\n.B {number} {name}\n{meaning}\n" for number, name, _, meaning, _ in sorted(reasons()))
+    return PART.sub(lambda part: part[1] + rows + part[2], (ROOT / "share/cborc.1").read_text(encoding="utf-8"))
+
+
 def main():
     stale = []
-    for file, text in (("bindings/python/src/naltvigo/_reasons.py", python()), ("bindings/rust/src/reason.rs", rust())):
+    rust_file, python_file = "bindings/rust/src/reason.rs", "bindings/python/src/naltvigo/_reasons.py"
+    for file, text in ((python_file, python()), (rust_file, rust()), ("share/cborc.1", manual())):
         path = ROOT / file
         if "--check" not in sys.argv:
             path.write_text(text, encoding="utf-8")

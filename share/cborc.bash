@@ -4,6 +4,9 @@ _cborc() {
     local commands="show events check canon compare"
     local shared="--depth --bytes --keys --hex --quiet --explain --help"
     COMPREPLY=()
+    # Of --order=by bash makes three words.
+    [[ $before == = ]] && before=${COMP_WORDS[COMP_CWORD-2]}
+    [[ $word == = ]] && word=
     if ((COMP_CWORD == 1)); then
         COMPREPLY=($(compgen -W "$commands help --help --version" -- "$word"))
         return
@@ -18,7 +21,7 @@ _cborc() {
         --depth | --bytes) return ;;
     esac
     if [[ $word != -* ]]; then
-        COMPREPLY=($(compgen -f -- "$word"))
+        mapfile -t COMPREPLY < <(compgen -f -- "$word")
         return
     fi
     case $command in
