@@ -19,7 +19,7 @@ IN_PYTHON = [
     ("--hex", "bytes.fromhex"),
     ("--keys any", "keys='any'"),
     ("--order", "'order'"),
-    ("check --seq", "'items'"),
+    ("--seq", "'items'"),
     ("canon ", "canonicalise "),
 ]
 

@@ -40,9 +40,7 @@ pub(crate) fn advice(reason: Reason) -> &'static str
     match reason {
         Reason::Truncated => "Look whether the input was cut, or a length is wrong.",
         Reason::TooLong | Reason::CanonicalTooLong => "Give a higher limit with --bytes.",
-        Reason::Reserved | Reason::NoIndefinite => {
-            "The input may be no CBOR; hex text is read only with --hex."
-        }
+        Reason::Reserved | Reason::NoIndefinite => "The input may be no CBOR.",
         Reason::Float => "Write it as an integer, a text, or a tag over integers.",
         Reason::BadSimple => "Write the values 0 to 23 in one byte; 24 to 31 do not exist.",
         Reason::StrayBreak => "Look whether a length is wrong, or the value of a key is missing.",
@@ -50,7 +48,7 @@ pub(crate) fn advice(reason: Reason) -> &'static str
         Reason::TooDeep => "--depth sets this limit, which is 1024 at most.",
         Reason::InvalidText => "Write the text in UTF-8, or its bytes as a byte string.",
         Reason::RepeatedKey => "Leave out one of the two pairs.",
-        Reason::Trailing => "For several items in a row there is check --seq.",
+        Reason::Trailing => "For several items in a row there is --seq, for hex text --hex.",
         Reason::NotShortest | Reason::Indefinite => "canon writes the item in canonical bytes.",
         Reason::KeyOrder => "canon sorts the keys; --order names the other order.",
         Reason::Read | Reason::Write | Reason::Memory => "Try again.",

@@ -60,7 +60,7 @@ fn rows() -> [Row; 4] {
             refusal: Refusal::new(Reason::Trailing, 19, 19),
             written: "  \
   The item is complete, and a byte follows it.
-  For several items in a row there is check --seq.
+  For several items in a row there is --seq, for hex text --hex.
   bytes from 11: 00 00 00 00 00 00 00 00 01
                                          ^^
   at $

@@ -16,12 +16,12 @@ REASONS: Dict[int, Tuple[str, str, str]] = {
     3: (
         "Reserved",
         "No item begins with this byte: its low five bits are reserved.",
-        "The input may be no CBOR; hex text is read only with bytes.fromhex.",
+        "The input may be no CBOR.",
     ),
     4: (
         "NoIndefinite",
         "An integer or a tag has no indefinite length.",
-        "The input may be no CBOR; hex text is read only with bytes.fromhex.",
+        "The input may be no CBOR.",
     ),
     5: (
         "Float",
@@ -61,7 +61,7 @@ REASONS: Dict[int, Tuple[str, str, str]] = {
     12: (
         "Trailing",
         "The item is complete, and a byte follows it.",
-        "For several items in a row there is 'items'.",
+        "For several items in a row there is 'items', for hex text bytes.fromhex.",
     ),
     13: (
         "CanonicalTooLong",

@@ -38,7 +38,7 @@ const TRAILING: &str = "\
 refused 12 Trailing at 19
   in in
   The item is complete, and a byte follows it.
-  For several items in a row there is check --seq.
+  For several items in a row there is --seq, for hex text --hex.
   bytes from 11: 00 00 00 00 00 00 00 00 01
                                          ^^
   at $
@@ -80,7 +80,7 @@ const RESERVED: &str = "\
 refused 3 Reserved at 5
   in in
   No item begins with this byte: its low five bits are reserved.
-  The input may be no CBOR; hex text is read only with --hex.
+  The input may be no CBOR.
   bytes from 0: 82 7f 61 61 ff 1c
                                ^^
   at $[1]
