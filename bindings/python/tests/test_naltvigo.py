@@ -11,6 +11,7 @@ import re
 import sys
 import threading
 import time
+import tracemalloc
 import unittest
 from pathlib import Path
 
@@ -256,6 +257,24 @@ class Rest(unittest.TestCase):
                     self.assertEqual(answer, head)
                 self.assertEqual(naltvigo.canonicalise(answer), answer)
                 self.assertEqual(naltvigo.diagnostic(data), "[" + ", ".join("0" * count) + "]")
+
+    def test_an_input_far_longer_than_the_limit(self):
+        # refused as ever, and without room by the input's length
+        endless, behind = b"\x9f" + b"\x00" * (1 << 24), b"\x00" * (1 << 24)
+        for name in ("canonicalise", "diagnostic"):
+            for data, wanted in ((endless, (2, 10, 10)), (behind, (12, 1, 1))):
+                with self.subTest(name=name, wanted=wanted):
+                    tracemalloc.start()
+                    try:
+                        answer = answer_of(getattr(naltvigo, name), data, max_bytes=10)
+                        most = tracemalloc.get_traced_memory()[1]
+                    finally:
+                        tracemalloc.stop()
+                    self.assertEqual(answer, wanted)
+                    self.assertLess(most, 1 << 20)
+        # at the limit nothing changes
+        self.assertEqual(naltvigo.canonicalise(b"\x18\x00", max_bytes=2), b"\x00")
+        self.assertEqual(naltvigo.diagnostic(b"\x42\x00\x00", max_bytes=3), "h'0000'")
 
     def test_refused(self):
         with self.assertRaises(Refused) as raised:

@@ -14,7 +14,9 @@ use alloc::vec::Vec;
 ///
 /// Equal answers in one order mean equal values, and an answer is its own answer.
 pub fn canonicalise(input: &[u8], options: &Options) -> Result<Vec<u8>, Refused> {
-    written(input.len(), |out| canonicalise_into(input, options, out))
+    written(within(input, options), |out| {
+        canonicalise_into(input, options, out)
+    })
 }
 
 /// Writes the canonical bytes to the front of `out`, and answers their count. Where it answers an
@@ -55,7 +57,7 @@ pub fn canonicalise_into(
 /// # Ok::<(), naltvigo::Refused>(())
 /// ```
 pub fn diagnostic(input: &[u8], options: &Options) -> Result<String, Refused> {
-    let text = written(input.len().saturating_mul(4), |out| {
+    let text = written(within(input, options).saturating_mul(4), |out| {
         let (mut needed, mut refusal) = (0, raw::Refusal::default());
         let status = unsafe {
             raw::naltvigo_diagnostic_raw(
@@ -211,6 +213,12 @@ fn accepted(status: u32, refusal: raw::Refusal) -> Result<(), Refused> {
         OK => Ok(()),
         _ => Err(Refused::of(refusal)),
     }
+}
+
+// The input's length, or the byte limit where that is less: more is refused, and no canonical bytes
+// are longer than the limit.
+fn within(input: &[u8], options: &Options) -> usize {
+    usize::try_from(options.bytes()).map_or(input.len(), |limit| input.len().min(limit))
 }
 
 // What is written to a buffer of this room, or else of the room that is asked for.

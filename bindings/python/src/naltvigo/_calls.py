@@ -60,7 +60,8 @@ key as an integer or a text, or allow it with keys='any'.
     if kinds is None:
         raise wrong_keys(keys)
     length = len(data)
-    room = room_for(length)
+    # canonical bytes are within the limit, however long the input is
+    room = room_for(min(length, max_bytes))
     status = canonicalise_raw(
         data, length, number, kinds, depth, max_bytes, room.out_at, room.size, room.needed_at, room.why_at
     )
@@ -166,7 +167,7 @@ def diagnostic(data: Buffer, *, depth: int = 64, max_bytes: int = 1 << 20, keys:
     kinds = KEYS.get(keys)
     if kinds is None:
         raise wrong_keys(keys)
-    room = room_for(4 * len(data))
+    room = room_for(4 * min(len(data), max_bytes))
     status = diagnostic_raw(data, len(data), kinds, depth, max_bytes, room.out_at, room.size, room.needed_at, room.why_at)
     if status == TOO_SMALL:
         room = Room(room.needed.value)
