@@ -196,6 +196,15 @@ class Words(unittest.TestCase):
                     getattr(naltvigo, name)(b"\x00", **words)
                 self.assertNotIsInstance(raised.exception, Refused)
         self.assertEqual(naltvigo.canonicalise(b"\x00", depth=0, max_bytes=1 << 62), b"\x00")
+        # a limit of another type is told as one, in range or not
+        for name in (*self.CALLS, "same"):
+            inputs = [b"\x00"] * (2 if name == "same" else 1)
+            for limit in (1.5, 1e6, 2000.5, -0.5, "1", b"", None):
+                for word in ("depth", "max_bytes"):
+                    said = f"^{word} is an integer, and not {type(limit).__name__}$"
+                    with self.subTest(name=name, word=word, limit=limit), self.assertRaisesRegex(TypeError, said):
+                        getattr(naltvigo, name)(*inputs, **{word: limit})
+        self.assertEqual(naltvigo.canonicalise(b"\x00", depth=False, max_bytes=True), b"\x00")
 
     def test_orders(self):
         for name in ("canonicalise", "check_canonical", "items"):

@@ -17,9 +17,9 @@ integer, a text, or a tag over integers.
 Each call takes any buffer (bytes, bytearray, memoryview and others) and, by name, the limits: `depth`, how deep
 arrays, maps and tags may nest (0 to 1024), and `max_bytes`, how many bytes an item may have (0 to 2 ** 62); all but
 `events` also `keys`, which items may be keys of maps: 'any', or 'basic', integers and texts alone. Limits, an order
-or keys that there are not are a ValueError, and want of memory is a MemoryError. Calls may be made from any number of
-threads: the interpreter's lock is not held while the library works. A buffer that can change is copied first, so it
-may change meanwhile.
+or keys that there are not are a ValueError, a limit that is no integer is a TypeError, and want of memory is a
+MemoryError. Calls may be made from any number of threads: the interpreter's lock is not held while the library works.
+A buffer that can change is copied first, so it may change meanwhile.
 """
 
 from ._calls import canonicalise, check, check_canonical, diagnostic, same

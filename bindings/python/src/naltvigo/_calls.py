@@ -3,8 +3,6 @@
 from typing import Any, Union
 
 from ._library import (
-    BYTES_MAX,
-    DEPTH_MAX,
     DIFFERENT,
     KEYS,
     NO_MEMORY,
@@ -13,10 +11,12 @@ from ._library import (
     REFUSED,
     TOO_SMALL,
     Keys,
+    Order,
     Room,
     as_bytes,
     canonicalise_raw,
     check_canonical_raw,
+    check_limits,
     check_valid_raw,
     compare_raw,
     diagnostic_raw,
@@ -24,7 +24,6 @@ from ._library import (
     room_for,
     rooms,
     wrong_keys,
-    wrong_limits,
     wrong_order,
 )
 from ._refused import refusal
@@ -32,7 +31,7 @@ from ._refused import refusal
 Buffer = Union[bytes, bytearray, memoryview]
 
 
-def canonicalise(data: Buffer, *, order: str = "bytewise", depth: int = 64, max_bytes: int = 1 << 20, keys: Keys = "any") -> bytes:
+def canonicalise(data: Buffer, *, order: Order = "bytewise", depth: int = 64, max_bytes: int = 1 << 20, keys: Keys = "any") -> bytes:
     """The canonical bytes of the one valid item that `data` is.
 
     Equal answers in one order mean equal values, and an answer is its own answer. `order` is that of map keys:
@@ -54,8 +53,7 @@ key as an integer or a text, or allow it with keys='any'.
     number = ORDERS.get(order)
     if number is None:
         raise wrong_order(order)
-    if not (0 <= depth <= DEPTH_MAX and 0 <= max_bytes <= BYTES_MAX):
-        raise wrong_limits(depth, max_bytes)
+    check_limits(depth, max_bytes)
     kinds = KEYS.get(keys)
     if kinds is None:
         raise wrong_keys(keys)
@@ -77,7 +75,7 @@ key as an integer or a text, or allow it with keys='any'.
         )
         if status == OK:
             return room.out[: room.needed.value]
-    raise _failed(status, room, depth, max_bytes)
+    raise _failed(status, room)
 
 
 def check(data: Buffer, *, depth: int = 64, max_bytes: int = 1 << 20, keys: Keys = "any") -> None:
@@ -92,20 +90,21 @@ one of the two pairs.
     """
     if type(data) is not bytes:
         data = as_bytes(data)
-    if not (0 <= depth <= DEPTH_MAX and 0 <= max_bytes <= BYTES_MAX):
-        raise wrong_limits(depth, max_bytes)
+    check_limits(depth, max_bytes)
     kinds = KEYS.get(keys)
     if kinds is None:
         raise wrong_keys(keys)
     room = room_for(0)
     status = check_valid_raw(data, len(data), kinds, depth, max_bytes, room.why_at)
     if status != OK:
-        raise _failed(status, room, depth, max_bytes)
+        raise _failed(status, room)
     give_back(room)
 
 
-def check_canonical(data: Buffer, *, order: str = "bytewise", depth: int = 64, max_bytes: int = 1 << 20, keys: Keys = "any") -> None:
-    """Returns where `data` is one valid item in its canonical bytes; else raises Refused. It takes no memory.
+def check_canonical(data: Buffer, *, order: Order = "bytewise", depth: int = 64, max_bytes: int = 1 << 20, keys: Keys = "any") -> None:
+    """Returns where `data` is one valid item in its canonical bytes; else raises Refused.
+
+    The library takes no memory for it.
 
     >>> check_canonical(b"\\x00")
     >>> check_canonical(b"\\x18\\x00")
@@ -119,15 +118,14 @@ canonicalise writes the item in canonical bytes.
     number = ORDERS.get(order)
     if number is None:
         raise wrong_order(order)
-    if not (0 <= depth <= DEPTH_MAX and 0 <= max_bytes <= BYTES_MAX):
-        raise wrong_limits(depth, max_bytes)
+    check_limits(depth, max_bytes)
     kinds = KEYS.get(keys)
     if kinds is None:
         raise wrong_keys(keys)
     room = room_for(0)
     status = check_canonical_raw(data, len(data), number, kinds, depth, max_bytes, room.why_at)
     if status != OK:
-        raise _failed(status, room, depth, max_bytes)
+        raise _failed(status, room)
     give_back(room)
 
 
@@ -142,15 +140,14 @@ def same(left: Buffer, right: Buffer, *, depth: int = 64, max_bytes: int = 1 << 
     False
     """
     left, right = as_bytes(left), as_bytes(right)
-    if not (0 <= depth <= DEPTH_MAX and 0 <= max_bytes <= BYTES_MAX):
-        raise wrong_limits(depth, max_bytes)
+    check_limits(depth, max_bytes)
     kinds = KEYS.get(keys)
     if kinds is None:
         raise wrong_keys(keys)
     room = room_for(0)
     status = compare_raw(left, len(left), right, len(right), kinds, depth, max_bytes, room.side_at, room.why_at)
     if status not in (OK, DIFFERENT):
-        raise _failed(status, room, depth, max_bytes, ("left", "right")[room.side.value] if status == REFUSED else None)
+        raise _failed(status, room, ("left", "right")[room.side.value] if status == REFUSED else None)
     give_back(room)
     return status == OK
 
@@ -162,8 +159,7 @@ def diagnostic(data: Buffer, *, depth: int = 64, max_bytes: int = 1 << 20, keys:
     '{"a": 1, [2, null]: h\\'61\\'}'
     """
     data = as_bytes(data)
-    if not (0 <= depth <= DEPTH_MAX and 0 <= max_bytes <= BYTES_MAX):
-        raise wrong_limits(depth, max_bytes)
+    check_limits(depth, max_bytes)
     kinds = KEYS.get(keys)
     if kinds is None:
         raise wrong_keys(keys)
@@ -175,15 +171,15 @@ def diagnostic(data: Buffer, *, depth: int = 64, max_bytes: int = 1 << 20, keys:
             data, len(data), kinds, depth, max_bytes, room.out_at, room.size, room.needed_at, room.why_at
         )
     if status != OK:
-        raise _failed(status, room, depth, max_bytes)
+        raise _failed(status, room)
     text = room.out[: room.needed.value].decode()
     give_back(room)
     return text
 
 
-def _failed(status: int, room: Room, depth: Any, max_bytes: Any, side: Any = None) -> Exception:
+def _failed(status: int, room: Room, side: Any = None) -> Exception:
     if status in (REFUSED, NO_MEMORY):
         error = refusal(status, room.why, side)
         give_back(room)
         return error
-    return wrong_limits(depth, max_bytes)
+    return SystemError("naltvigo: a status that it does not have")

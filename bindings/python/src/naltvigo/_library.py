@@ -13,6 +13,7 @@ DIFFERENT, EVENT, MORE = 6, 7, 8
 DEPTH_MAX = 1024
 BYTES_MAX = 1 << 62
 
+Order = Literal["bytewise", "length"]
 ORDERS = {"bytewise": 0, "length": 1}
 
 Keys = Literal["any", "basic"]
@@ -128,13 +129,15 @@ def is_buffer(data: Any) -> bool:
     return True
 
 
-def wrong_limits(depth: Any, max_bytes: Any) -> Exception:
+def check_limits(depth: Any, max_bytes: Any) -> None:
+    # the types too, since ctypes refuses a wrong one by an error of its own, which is no TypeError
+    if isinstance(depth, int) and isinstance(max_bytes, int) and 0 <= depth <= DEPTH_MAX and 0 <= max_bytes <= BYTES_MAX:
+        return
     for name, limit, most in (("depth", depth, DEPTH_MAX), ("max_bytes", max_bytes, BYTES_MAX)):
         if not isinstance(limit, int):
-            return TypeError(f"{name} is a number, and not {type(limit).__name__}")
+            raise TypeError(f"{name} is an integer, and not {type(limit).__name__}")
         if not 0 <= limit <= most:
-            return ValueError(f"{name} is 0 to {most}, and not {limit}")
-    return SystemError("naltvigo: a status that it does not have")
+            raise ValueError(f"{name} is 0 to {most}, and not {limit}")
 
 
 def wrong_keys(keys: Any) -> Exception:

@@ -4,8 +4,6 @@ import ctypes
 from typing import Any, Iterable, Iterator, NamedTuple, Optional, Union
 
 from ._library import (
-    BYTES_MAX,
-    DEPTH_MAX,
     EVENT,
     KEYS,
     MORE,
@@ -13,16 +11,17 @@ from ._library import (
     ORDERS,
     Keys,
     Machine,
+    Order,
     Refusal,
     Told,
     as_bytes,
+    check_limits,
     is_buffer,
     machine_start_raw,
     machine_take_raw,
     next_canonical_raw,
     next_valid_raw,
     wrong_keys,
-    wrong_limits,
     wrong_order,
 )
 from ._refused import Refused, refusal
@@ -68,8 +67,7 @@ def events(chunks: Union[Buffer, Iterable[Buffer]], *, depth: int = 64, max_byte
     4 piece 1 0 b'a'
     5 piece 2 0 b'bc'
     """
-    if not (0 <= depth <= DEPTH_MAX and 0 <= max_bytes <= BYTES_MAX):
-        raise wrong_limits(depth, max_bytes)
+    check_limits(depth, max_bytes)
     parts: Any = (chunks,) if is_buffer(chunks) else chunks
     return _events(parts, depth, max_bytes)
 
@@ -124,7 +122,7 @@ def items(
     data: Buffer,
     *,
     canonical: bool = False,
-    order: str = "bytewise",
+    order: Order = "bytewise",
     depth: int = 64,
     max_bytes: int = 1 << 20,
     keys: Keys = "any",
@@ -141,8 +139,7 @@ def items(
     number = ORDERS.get(order)
     if number is None:
         raise wrong_order(order)
-    if not (0 <= depth <= DEPTH_MAX and 0 <= max_bytes <= BYTES_MAX):
-        raise wrong_limits(depth, max_bytes)
+    check_limits(depth, max_bytes)
     kinds = KEYS.get(keys)
     if kinds is None:
         raise wrong_keys(keys)
