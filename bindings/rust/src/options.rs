@@ -28,8 +28,9 @@ pub enum Keys {
 /// use naltvigo::{check, Keys, Options, Order, Reason};
 ///
 /// let options = Options::default(); // bytewise, keys of any kind, 64 levels, 2^20 bytes
-/// let deeper = options.with_limits(1024, 1 << 30).unwrap().with_order(Order::LengthFirst);
-/// assert!(options.with_limits(1025, 0).is_none());
+/// let deeper = options.with_depth(1024).unwrap().with_order(Order::LengthFirst);
+/// assert_eq!((deeper.depth(), deeper.bytes()), (1024, 1 << 20));
+/// assert!(options.with_depth(1025).is_none());
 ///
 /// let map = b"\xa1\x80\x00"; // {[]: 0}
 /// assert!(check(map, &deeper).is_ok());
@@ -45,8 +46,10 @@ pub struct Options {
 }
 
 impl Options {
-    /// These options with other limits: how deep arrays, maps and tags may nest, 0 to 1024, and how
-    /// many bytes an item and its canonical bytes may have, 0 to 2^62. None where one is greater.
+    /// These options with other limits: how many levels arrays, maps and tags may nest, 0 to 1024,
+    /// and how many bytes an item and its canonical bytes may have, 0 to 2^62. None where one of
+    /// the two is greater.
+    #[must_use]
     pub const fn with_limits(self, depth: u16, bytes: u64) -> Option<Options> {
         if depth as usize > DEPTH_MAX || bytes > 1 << 62 {
             return None;
@@ -58,30 +61,48 @@ impl Options {
         })
     }
 
+    /// These options with another depth limit, in levels, 0 to 1024. None where it is greater.
+    #[must_use]
+    pub const fn with_depth(self, depth: u16) -> Option<Options> {
+        self.with_limits(depth, self.bytes)
+    }
+
+    /// These options with another byte limit, 0 to 2^62. None where it is greater.
+    #[must_use]
+    pub const fn with_bytes(self, bytes: u64) -> Option<Options> {
+        self.with_limits(self.depth, bytes)
+    }
+
     /// These options with another order.
+    #[must_use]
     pub const fn with_order(self, order: Order) -> Options {
         Options { order, ..self }
     }
 
     /// These options for other kinds of keys. [`Machine`](crate::Machine) and
     /// [`Events`](crate::Events) don't look at keys.
+    #[must_use]
     pub const fn with_keys(self, keys: Keys) -> Options {
         Options { keys, ..self }
     }
 
-    pub(crate) fn order(&self) -> u32 {
-        self.order as u32
+    /// The order of keys, which the calls that do not ask for it leave unread.
+    pub const fn order(&self) -> Order {
+        self.order
     }
 
-    pub(crate) fn keys(&self) -> u32 {
-        self.keys as u32
+    /// The kinds of keys that maps may have.
+    pub const fn keys(&self) -> Keys {
+        self.keys
     }
 
-    pub(crate) fn depth(&self) -> u32 {
-        u32::from(self.depth)
+    /// How many levels arrays, maps and tags may nest, 0 to 1024.
+    pub const fn depth(&self) -> u16 {
+        self.depth
     }
 
-    pub(crate) fn bytes(&self) -> u64 {
+    /// How many bytes an item, and its canonical bytes, may have, 0 to 2^62.
+    pub const fn bytes(&self) -> u64 {
         self.bytes
     }
 }

@@ -67,7 +67,9 @@ impl Machine {
             kinds: [0; DEPTH_MAX],
         };
         // SAFETY: the pointer is that of a whole machine. Options are in range, so it answers OK.
-        unsafe { naltvigo_machine_start_raw(options.depth(), options.bytes(), &mut machine) };
+        unsafe {
+            naltvigo_machine_start_raw(options.depth().into(), options.bytes(), &mut machine)
+        };
         machine
     }
 }

@@ -47,9 +47,52 @@ fn defaults() {
         check_canonical(keys, &options.with_order(Order::LengthFirst)),
         Ok(())
     );
-    assert!(options.with_limits(1024, 1 << 62).is_some());
-    assert!(options.with_limits(1025, 1).is_none());
-    assert!(options.with_limits(1, (1 << 62) + 1).is_none());
+}
+
+#[test]
+fn options_are_read() {
+    let options = Options::default();
+    let read = |it: Options| (it.order(), it.keys(), it.depth(), it.bytes());
+    assert_eq!(read(options), (Order::Bytewise, Keys::Any, 64, 1 << 20));
+    let other = options
+        .with_order(Order::LengthFirst)
+        .with_keys(Keys::IntegersAndTexts)
+        .with_limits(3, 5)
+        .unwrap();
+    let wanted = (Order::LengthFirst, Keys::IntegersAndTexts, 3, 5);
+    assert_eq!(read(other), wanted);
+}
+
+#[test]
+fn limits_and_their_ranges() {
+    let other = Options::default()
+        .with_order(Order::LengthFirst)
+        .with_limits(3, 5)
+        .unwrap();
+    assert!(other.with_limits(1024, 1 << 62).is_some());
+    assert!(other.with_limits(1025, 1).is_none());
+    assert!(other.with_limits(1, (1 << 62) + 1).is_none());
+    // one limit, and the rest as it was
+    for depth in [0, 64, 1024] {
+        assert_eq!(other.with_depth(depth), other.with_limits(depth, 5));
+    }
+    assert_eq!(other.with_depth(1025), None);
+    assert_eq!(other.with_depth(u16::MAX), None);
+    for bytes in [0, 5, 1 << 62] {
+        assert_eq!(other.with_bytes(bytes), other.with_limits(3, bytes));
+    }
+    assert_eq!(other.with_bytes((1 << 62) + 1), None);
+    assert_eq!(other.with_bytes(u64::MAX), None);
+    // by the calls
+    let flat = Options::default().with_depth(0).unwrap();
+    assert_eq!(check(b"\x00", &flat), Ok(()));
+    assert_eq!(check(b"\x80", &flat), Err(refused(Reason::TooDeep, 0, 1)));
+    let short = Options::default().with_bytes(1).unwrap();
+    assert_eq!(check(b"\x00", &short), Ok(()));
+    assert_eq!(
+        check(b"\x18\x18", &short),
+        Err(refused(Reason::TooLong, 1, 1))
+    );
 }
 
 // {[]: 0}, whose key is neither an integer nor a text.
