@@ -6,6 +6,7 @@ use crate::reason::Reason;
 use crate::refused::{NotWritten, Refused, Side};
 use alloc::string::String;
 use alloc::vec::Vec;
+use core::iter::FusedIterator;
 
 // SAFETY, of each call below: a slice's pointer is not null and stands for as many bytes as its
 // length; what is written to is borrowed for the call alone, and lies apart.
@@ -155,7 +156,8 @@ pub fn same(left: &[u8], right: &[u8], options: &Options) -> Result<bool, (Side,
     }
 }
 
-/// The items of a sequence (RFC 8742), each as it is spelled, with the limits on each.
+/// The items of a sequence (RFC 8742), each as it is spelled, with the limits on each. The order of
+/// keys is left unread: it is [`canonical_items`] that asks for one.
 ///
 /// ```
 /// use naltvigo::{items, Options};
@@ -167,16 +169,79 @@ pub fn same(left: &[u8], right: &[u8], options: &Options) -> Result<bool, (Side,
 pub fn items<'a>(input: &'a [u8], options: &Options) -> Items<'a> {
     Items {
         left: input,
+        offset: 0,
+        canonical: false,
         options: *options,
     }
 }
 
-/// The items of a sequence, as [`items`] gives them. A refusal, whose place counts from its item's
-/// first byte, is the last that comes.
+/// The same, of items in their canonical bytes: another one is refused, as by [`check_canonical`].
+/// It takes no memory.
+///
+/// ```
+/// use naltvigo::{canonical_items, Options, Reason};
+///
+/// let mut found = canonical_items(b"\x61a\x18\x00", &Options::default());
+/// assert_eq!(found.next(), Some(Ok(&b"\x61a"[..])));
+/// let refused = found.next().unwrap().unwrap_err();
+/// assert_eq!((refused.reason, found.offset()), (Reason::NotShortest, 2));
+/// ```
+pub fn canonical_items<'a>(input: &'a [u8], options: &Options) -> Items<'a> {
+    Items {
+        canonical: true,
+        ..items(input, options)
+    }
+}
+
+/// The items of a sequence, as [`items`] and [`canonical_items`] give them. A refusal, whose place
+/// counts from its item's first byte, is the last that comes.
 #[derive(Clone, Debug)]
 pub struct Items<'a> {
     left: &'a [u8],
+    offset: usize,
+    canonical: bool,
     options: Options,
+}
+
+impl Items<'_> {
+    /// Where in the input the item that is due begins, or the one that was refused; at the end, the
+    /// input's length.
+    pub fn offset(&self) -> usize {
+        self.offset
+    }
+
+    // How many bytes the next item has.
+    fn size(&self) -> Result<usize, Refused> {
+        let (mut taken, mut refusal) = (0, raw::Refusal::default());
+        let status = if self.canonical {
+            unsafe {
+                raw::naltvigo_next_canonical_raw(
+                    self.left.as_ptr(),
+                    self.left.len(),
+                    self.options.order() as u32,
+                    self.options.keys() as u32,
+                    self.options.depth().into(),
+                    self.options.bytes(),
+                    &mut taken,
+                    &mut refusal,
+                )
+            }
+        } else {
+            unsafe {
+                raw::naltvigo_next_valid_raw(
+                    self.left.as_ptr(),
+                    self.left.len(),
+                    self.options.keys() as u32,
+                    self.options.depth().into(),
+                    self.options.bytes(),
+                    &mut taken,
+                    &mut refusal,
+                )
+            }
+        };
+        accepted(status, refusal)?;
+        Ok(taken as usize)
+    }
 }
 
 impl<'a> Iterator for Items<'a> {
@@ -186,27 +251,22 @@ impl<'a> Iterator for Items<'a> {
         if self.left.is_empty() {
             return None;
         }
-        let (mut taken, mut refusal) = (0, raw::Refusal::default());
-        let status = unsafe {
-            raw::naltvigo_next_valid_raw(
-                self.left.as_ptr(),
-                self.left.len(),
-                self.options.keys() as u32,
-                self.options.depth().into(),
-                self.options.bytes(),
-                &mut taken,
-                &mut refusal,
-            )
-        };
-        if status != OK {
-            self.left = &[];
-            return Some(Err(Refused::of(refusal)));
-        }
-        let (item, left) = self.left.split_at(taken as usize);
-        self.left = left;
-        Some(Ok(item))
+        Some(match self.size() {
+            Ok(size) => {
+                let (item, left) = self.left.split_at(size);
+                self.left = left;
+                self.offset += size;
+                Ok(item)
+            }
+            Err(refused) => {
+                self.left = &[];
+                Err(refused)
+            }
+        })
     }
 }
+
+impl FusedIterator for Items<'_> {}
 
 fn accepted(status: u32, refusal: raw::Refusal) -> Result<(), Refused> {
     match status {

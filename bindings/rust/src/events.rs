@@ -4,6 +4,7 @@ use crate::options::Options;
 use crate::raw::{self, EVENT, MORE, OK};
 use crate::reason::Reason;
 use crate::refused::Refused;
+use core::iter::FusedIterator;
 
 /// An event of an item.
 #[derive(Clone, Copy, Debug, PartialEq, Eq)]
@@ -222,3 +223,5 @@ impl<'a> Iterator for Events<'a> {
         Some(Ok(event_of(&self.room[self.given - 1], self.input, 0)))
     }
 }
+
+impl FusedIterator for Events<'_> {}

@@ -32,7 +32,8 @@ mod reason;
 mod refused;
 
 pub use calls::{
-    canonicalise, canonicalise_into, check, check_canonical, diagnostic, items, same, Items,
+    canonical_items, canonicalise, canonicalise_into, check, check_canonical, diagnostic, items,
+    same, Items,
 };
 pub use events::{Event, Events, Kind, Machine, Step};
 pub use options::{Keys, Options, Order};

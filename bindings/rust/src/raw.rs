@@ -114,6 +114,16 @@ extern "C" {
         taken: *mut u64,
         refusal: *mut Refusal,
     ) -> u32;
+    pub fn naltvigo_next_canonical_raw(
+        input: *const u8,
+        input_length: usize,
+        order: u32,
+        keys: u32,
+        depth: u32,
+        bytes: u64,
+        taken: *mut u64,
+        refusal: *mut Refusal,
+    ) -> u32;
     pub fn naltvigo_compare_raw(
         left: *const u8,
         left_length: usize,

@@ -1,9 +1,10 @@
 //! What no row of the table says.
 
 use naltvigo::{
-    canonicalise, check, check_canonical, diagnostic, items, library_version, same, Events, Keys,
-    Kind, Machine, Options, Order, Reason, Refused, Side, Step,
+    canonical_items, canonicalise, check, check_canonical, diagnostic, items, library_version,
+    same, Events, Keys, Kind, Machine, Options, Order, Reason, Refused, Side, Step,
 };
+use std::iter::FusedIterator;
 use std::thread;
 
 fn refused(reason: Reason, place: u64, read: u64) -> Refused {
@@ -109,6 +110,7 @@ fn kinds_of_keys() {
     assert_eq!(diagnostic(map, &basic), Err(of_kind));
     assert_eq!(same(b"\x00", map, &basic), Err((Side::Right, of_kind)));
     assert_eq!(items(map, &basic).next(), Some(Err(of_kind)));
+    assert_eq!(canonical_items(map, &basic).next(), Some(Err(of_kind)));
     // the form alone is looked at
     assert_eq!(Events::new(map, &basic).filter(Result::is_ok).count(), 3);
     // other options stand
@@ -138,6 +140,67 @@ fn a_sequence_ends_at_a_refusal() {
     assert_eq!(found.next(), Some(Ok(&b"\x18\x00"[..])));
     assert_eq!(found.next(), Some(Err(refused(Reason::StrayBreak, 0, 1))));
     assert_eq!(found.next(), None);
+}
+
+#[test]
+fn a_sequence_of_canonical_items() {
+    let options = Options::default();
+    // {-1: 0, 100: 0}, which is in the order of the shorter key first, and 0 in two bytes
+    let keys = b"\xa2\x20\x00\x18\x64\x00";
+    let input = [&b"\x61a"[..], keys, b"\x18\x00\x00"].concat();
+    let shorter = options.with_order(Order::LengthFirst);
+    let mut found = canonical_items(&input, &shorter);
+    assert_eq!(found.next(), Some(Ok(&b"\x61a"[..])));
+    assert_eq!(found.next(), Some(Ok(&keys[..])));
+    assert_eq!(found.next(), Some(Err(refused(Reason::NotShortest, 0, 2))));
+    assert_eq!(found.next(), None);
+    let mut found = canonical_items(&input, &options);
+    assert_eq!(found.next(), Some(Ok(&b"\x61a"[..])));
+    let reason = found.next().unwrap().unwrap_err().reason;
+    assert_eq!((reason, found.next()), (Reason::KeyOrder, None));
+    // each is valid, in whichever order
+    assert_eq!(items(&input, &options).filter(Result::is_ok).count(), 4);
+    assert_eq!(canonical_items(b"", &options).count(), 0);
+    // the limits hold for each item
+    let short = options.with_limits(0, 2).unwrap();
+    let found: Result<Vec<_>, _> = canonical_items(b"\x61a\x61b", &short).collect();
+    assert_eq!(found, Ok(vec![&b"\x61a"[..], b"\x61b"]));
+    let long = canonical_items(b"\x62ab", &short).next();
+    assert_eq!(long, Some(Err(refused(Reason::TooLong, 2, 2))));
+}
+
+// Where each item begins, and the one that is refused.
+#[test]
+fn offsets_of_a_sequence() {
+    let options = Options::default();
+    for found in [items, canonical_items] {
+        let mut found = found(b"\x61a\x00\x82\x00\xff\x00", &options);
+        let mut offsets = vec![found.offset()];
+        while let Some(Ok(_)) = found.next() {
+            offsets.push(found.offset());
+        }
+        assert_eq!(offsets, [0, 2, 3]);
+        // it stays where the item begins that was refused
+        assert_eq!(found.next(), None);
+        assert_eq!(found.offset(), 3);
+    }
+    let mut whole = items(b"\x61a\x00", &options);
+    assert!(whole.all(|item| item.is_ok()));
+    assert_eq!(whole.offset(), 3);
+}
+
+#[test]
+fn iterators_end_for_good() {
+    fn ends(mut it: impl FusedIterator) -> bool {
+        it.by_ref().for_each(drop);
+        (0..3).all(|_| it.next().is_none())
+    }
+    let options = Options::default();
+    for input in [&b""[..], b"\x00\x61a", b"\x00\xff\x00", b"\x82\x00"] {
+        assert!(ends(items(input, &options)));
+        assert!(ends(canonical_items(input, &options)));
+        assert!(ends(Events::new(input, &options)));
+    }
 }
 
 #[test]

@@ -2,8 +2,8 @@
 //! says what the columns are.
 
 use naltvigo::{
-    canonicalise, canonicalise_into, check, check_canonical, diagnostic, items, same, Keys,
-    NotWritten, Options, Order, Reason, Refused, Side,
+    canonical_items, canonicalise, canonicalise_into, check, check_canonical, diagnostic, items,
+    same, Keys, NotWritten, Options, Order, Reason, Refused, Side,
 };
 use std::fs;
 
@@ -132,6 +132,9 @@ fn one_row(row: &[String], order: Order, place: usize) {
             let twice = [&given[..], &given[..]].concat();
             let found: Result<Vec<&[u8]>, _> = items(&twice, &options).collect();
             assert_eq!(found, Ok(vec![&given[..]; 2]), "{row:?}");
+            let twice = [&wanted[..], &wanted[..]].concat();
+            let found: Result<Vec<&[u8]>, _> = canonical_items(&twice, &options).collect();
+            assert_eq!(found, Ok(vec![&wanted[..]; 2]), "{row:?}");
             for room in [wanted.len() - 1, wanted.len(), wanted.len() + 3] {
                 let mut out = vec![7; room];
                 let answer = canonicalise_into(&given, &options, &mut out);
@@ -157,6 +160,16 @@ fn one_row(row: &[String], order: Order, place: usize) {
         None => Err(refusal(if strict.is_empty() { &plain } else { &strict }).unwrap()),
     };
     assert_eq!(found, wanted, "{row:?}");
+    // in a sequence nothing is behind an item, and without a byte there is none
+    let trailing = Reason::Trailing.number();
+    let first = match wanted {
+        _ if given.is_empty() => None,
+        Ok(()) => Some(Ok(&given[..])),
+        Err((number, place, _)) if number == trailing => Some(Ok(&given[..place as usize])),
+        Err(wanted) => Some(Err(wanted)),
+    };
+    let found = canonical_items(&given, &options).next();
+    assert_eq!(found.map(|item| item.map_err(numbers)), first, "{row:?}");
 }
 
 #[test]
