@@ -53,7 +53,24 @@ pub enum Step<'a> {
 
 /// A machine that takes one item in parts of any length, and tells its events. It takes no memory.
 ///
-/// Form alone is judged: neither UTF-8, nor repeated keys, nor the canonical spelling.
+/// Form alone is judged: neither UTF-8, nor repeated keys, nor the canonical spelling. The end of
+/// the parts is the caller's to see: a step of no bytes then tells whether the item is complete.
+///
+/// ```
+/// use naltvigo::{Kind, Machine, Options, Step};
+///
+/// let (mut machine, mut numbers) = (Machine::new(&Options::default()), Vec::new());
+/// for part in [b"\x82\x18", b"\x64\x01"] {
+///     for event in machine.events(part) {
+///         if let Kind::Unsigned(number) = event?.kind {
+///             numbers.push(number);
+///         }
+///     }
+/// }
+/// assert_eq!(numbers, [100, 1]);
+/// assert_eq!(machine.step(b""), (0, Step::Done));
+/// # Ok::<(), naltvigo::Refused>(())
+/// ```
 #[derive(Clone, Debug)]
 pub struct Machine(raw::Machine);
 
@@ -68,8 +85,28 @@ impl Machine {
         self.0.taken
     }
 
+    /// How many arrays, maps and tags are open.
+    pub fn open(&self) -> u16 {
+        self.0.open
+    }
+
+    /// The events of a part, of which the library tells up to 64 a call. They end where the part
+    /// ends, behind the item, whose bytes alone are taken, or with a refusal.
+    ///
+    /// Go on to the end: the library may be 64 events ahead of those that were given, and what is
+    /// not asked for is lost.
+    pub fn events<'m, 'a>(&'m mut self, part: &'a [u8]) -> PartEvents<'m, 'a> {
+        PartEvents {
+            told: Told::new(part, self.taken()),
+            machine: self,
+            ended: false,
+        }
+    }
+
     /// Takes bytes from the front of a part until an event is complete, or none is left: how many,
     /// and what is told. Once the item is complete, or refused, it takes none and answers the same.
+    ///
+    /// A call fills 9 KiB of its stack, so [`events`](Machine::events) is cheaper for many events.
     pub fn step<'a>(&mut self, part: &'a [u8]) -> (usize, Step<'a>) {
         let begins = self.taken();
         let mut room = [raw::Event::default()];
@@ -118,6 +155,51 @@ struct Taken {
     refusal: raw::Refusal,
 }
 
+// How many events a call of the library tells at most.
+const MANY: usize = 64;
+
+// The events of a part that begins there in the item, those of a call of the library at a time.
+#[derive(Clone, Debug)]
+struct Told<'a> {
+    part: &'a [u8],
+    begins: u64,
+    used: usize,
+    room: [raw::Event; MANY],
+    // How many of those in the room were given.
+    given: usize,
+    last: Taken,
+}
+
+impl<'a> Told<'a> {
+    fn new(part: &'a [u8], begins: u64) -> Told<'a> {
+        Told {
+            part,
+            begins,
+            used: 0,
+            room: [raw::Event::default(); MANY],
+            given: 0,
+            last: Taken {
+                status: EVENT,
+                used: 0,
+                told: 0,
+                refusal: raw::Refusal::default(),
+            },
+        }
+    }
+
+    // The next event; none where the status of the last call says why.
+    fn next(&mut self, machine: &mut Machine) -> Option<Event<'a>> {
+        if self.given == self.last.told && self.last.status == EVENT {
+            self.last = machine.take(&self.part[self.used..], &mut self.room);
+            self.used += self.last.used;
+            self.given = 0;
+        }
+        let event = self.room[..self.last.told].get(self.given)?;
+        self.given += 1;
+        Some(event_of(event, self.part, self.begins))
+    }
+}
+
 // The event as Rust has it, of a part that begins there in the item.
 fn event_of<'a>(event: &raw::Event, part: &'a [u8], begins: u64) -> Event<'a> {
     let width = u8::try_from(event.width).ok().filter(|&width| width < 255);
@@ -160,33 +242,16 @@ fn event_of<'a>(event: &raw::Event, part: &'a [u8], begins: u64) -> Event<'a> {
 #[derive(Clone, Debug)]
 pub struct Events<'a> {
     machine: Machine,
-    input: &'a [u8],
-    used: usize,
-    room: [raw::Event; MANY],
-    // How many of those in the room were given.
-    given: usize,
-    last: Taken,
+    told: Told<'a>,
     ended: bool,
 }
-
-// How many events a call of the library tells at most.
-const MANY: usize = 64;
 
 impl<'a> Events<'a> {
     /// The events of this slice; of the options it takes the limits.
     pub fn new(input: &'a [u8], options: &Options) -> Events<'a> {
         Events {
             machine: Machine::new(options),
-            input,
-            used: 0,
-            room: [raw::Event::default(); MANY],
-            given: 0,
-            last: Taken {
-                status: EVENT,
-                used: 0,
-                told: 0,
-                refusal: raw::Refusal::default(),
-            },
+            told: Told::new(input, 0),
             ended: false,
         }
     }
@@ -197,12 +262,12 @@ impl<'a> Events<'a> {
             return None;
         }
         let taken = self.machine.taken();
-        match self.last.status {
+        match self.told.last.status {
             // all was offered, so the item is cut off
             MORE => Some(Refused::at(Reason::Truncated, taken)),
-            OK if self.used == self.input.len() => None,
+            OK if self.told.used == self.told.part.len() => None,
             OK => Some(Refused::at(Reason::Trailing, taken)),
-            _ => Some(Refused::of(self.last.refusal)),
+            _ => Some(Refused::of(self.told.last.refusal)),
         }
     }
 }
@@ -211,17 +276,40 @@ impl<'a> Iterator for Events<'a> {
     type Item = Result<Event<'a>, Refused>;
 
     fn next(&mut self) -> Option<Self::Item> {
-        if self.given == self.last.told && self.last.status == EVENT {
-            self.last = self.machine.take(&self.input[self.used..], &mut self.room);
-            self.used += self.last.used;
-            self.given = 0;
+        match self.told.next(&mut self.machine) {
+            Some(event) => Some(Ok(event)),
+            None => self.end().map(Err),
         }
-        if self.given == self.last.told {
-            return self.end().map(Err);
-        }
-        self.given += 1;
-        Some(Ok(event_of(&self.room[self.given - 1], self.input, 0)))
     }
 }
 
 impl FusedIterator for Events<'_> {}
+
+/// The events of a part of an item, as [`Machine::events`] gives them. A refusal of the item's form
+/// is the last that comes.
+#[derive(Debug)]
+#[must_use = "no byte is taken before an event is asked for"]
+pub struct PartEvents<'m, 'a> {
+    machine: &'m mut Machine,
+    told: Told<'a>,
+    ended: bool,
+}
+
+impl<'a> Iterator for PartEvents<'_, 'a> {
+    type Item = Result<Event<'a>, Refused>;
+
+    fn next(&mut self) -> Option<Self::Item> {
+        if let Some(event) = self.told.next(self.machine) {
+            return Some(Ok(event));
+        }
+        if core::mem::replace(&mut self.ended, true) {
+            return None;
+        }
+        match self.told.last.status {
+            MORE | OK => None,
+            _ => Some(Err(Refused::of(self.told.last.refusal))),
+        }
+    }
+}
+
+impl FusedIterator for PartEvents<'_, '_> {}

@@ -35,7 +35,7 @@ pub use calls::{
     canonical_items, canonicalise, canonicalise_into, check, check_canonical, diagnostic, items,
     same, Items,
 };
-pub use events::{Event, Events, Kind, Machine, Step};
+pub use events::{Event, Events, Kind, Machine, PartEvents, Step};
 pub use options::{Keys, Options, Order};
 pub use reason::Reason;
 pub use refused::{NotWritten, Refused, Side};

@@ -2,7 +2,7 @@
 
 use naltvigo::{
     canonical_items, canonicalise, check, check_canonical, diagnostic, items, library_version,
-    same, Events, Keys, Kind, Machine, Options, Order, Reason, Refused, Side, Step,
+    same, Event, Events, Keys, Kind, Machine, Options, Order, Reason, Refused, Side, Step,
 };
 use std::iter::FusedIterator;
 use std::thread;
@@ -200,6 +200,7 @@ fn iterators_end_for_good() {
         assert!(ends(items(input, &options)));
         assert!(ends(canonical_items(input, &options)));
         assert!(ends(Events::new(input, &options)));
+        assert!(ends(Machine::new(&options).events(input)));
     }
 }
 
@@ -243,6 +244,87 @@ fn a_machine_by_single_bytes() {
         assert_eq!(machine.step(b"\x00"), (0, Step::Done));
         assert_eq!(machine.taken(), 3);
     }
+}
+
+// The same events as of the whole slice, but for payloads that lie in several parts.
+#[test]
+fn a_machine_by_parts() {
+    let options = Options::default();
+    // [_ 200 times {0: "ab"}], so more events than a call of the library tells
+    let item = [vec![0x9f], b"\xa1\x00\x62ab".repeat(200), vec![0xff]].concat();
+    let joined = |told: &[Event]| {
+        let mut payload = Vec::new();
+        let mut heads = Vec::new();
+        for event in told {
+            match event.kind {
+                Kind::Piece(piece) => payload.extend_from_slice(piece),
+                _ => heads.push((event.place, event.width, format!("{:?}", event.kind))),
+            }
+        }
+        (heads, payload)
+    };
+    let whole: Result<Vec<Event>, Refused> = Events::new(&item, &options).collect();
+    let whole = joined(&whole.unwrap());
+    assert_eq!((whole.0.len(), whole.1.len()), (602, 400));
+    for size in [1, 2, 3, 64, 100, 500, item.len()] {
+        let mut machine = Machine::new(&options);
+        let mut told = Vec::new();
+        for part in item.chunks(size) {
+            let begins = machine.taken();
+            told.extend(machine.events(part).map(Result::unwrap));
+            assert_eq!(machine.taken(), begins + part.len() as u64);
+        }
+        assert_eq!(joined(&told), whole, "parts of {size}");
+        assert_eq!(machine.step(b""), (0, Step::Done));
+    }
+}
+
+#[test]
+fn the_end_of_the_parts() {
+    let options = Options::default();
+    // what is behind the item stays
+    let mut machine = Machine::new(&options);
+    let told = machine.events(b"\x61a\x00\x00");
+    assert_eq!(told.filter(Result::is_ok).count(), 2);
+    assert_eq!(
+        (machine.taken(), machine.step(b"\x00")),
+        (2, (0, Step::Done))
+    );
+    assert!(machine.events(b"\x00").next().is_none());
+    // a refusal is the last, and comes again
+    let mut machine = Machine::new(&options);
+    let float = refused(Reason::Float, 2, 3);
+    let mut told = machine.events(b"\x82\x01\xf9\x00");
+    assert_eq!(told.by_ref().take(2).filter(Result::is_ok).count(), 2);
+    assert_eq!(told.next(), Some(Err(float)));
+    assert_eq!(told.next(), None);
+    assert_eq!(machine.events(b"").next(), Some(Err(float)));
+    assert_eq!(machine.step(b"\x00"), (0, Step::Refused(float)));
+    // parts that end too early
+    let mut machine = Machine::new(&options);
+    assert_eq!(machine.events(b"\x82\x01").count(), 2);
+    assert_eq!(machine.step(b""), (0, Step::More));
+}
+
+#[test]
+fn what_is_open() {
+    let mut machine = Machine::new(&Options::default());
+    let mut open = |part| {
+        assert!(machine.events(part).all(|event| event.is_ok()));
+        machine.open()
+    };
+    // [1([_ {0: 0}])]
+    let parts = [
+        b"",
+        &b"\x81"[..],
+        b"\xc1",
+        b"\x9f",
+        b"\xa1\x00",
+        b"\x00",
+        b"\xff",
+    ];
+    assert_eq!(parts.map(&mut open), [0, 1, 2, 3, 4, 3, 0]);
+    assert_eq!(machine.step(b""), (0, Step::Done));
 }
 
 #[test]
