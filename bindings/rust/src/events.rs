@@ -85,7 +85,7 @@ impl Machine {
         self.0.taken
     }
 
-    /// How many arrays, maps and tags are open.
+    /// How many arrays, maps and tags are open: each from its head until its last member or its break.
     pub fn open(&self) -> u16 {
         self.0.open
     }
