@@ -1,6 +1,5 @@
 pub mod ByIndex
 pub mod Counting
-pub mod DistinctKeys
 pub mod Held
 pub mod Steps
 pub mod ValuesMade
