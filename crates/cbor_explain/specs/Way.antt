@@ -3,15 +3,17 @@ use Rattle.std.specs.Prelude.{ℕ, ◌≡◌, List, [], ◌∷◌, ◌++◌, dro
 use Rattle.cbor_head.specs.Complaint.{plain}
 use Rattle.cbor_head.specs.Limits.{bounds}
 use Rattle.cbor_head.specs.Value.{Value}
-use Rattle.cbor_judging.specs.Readers.{IsReadAs}
+use Rattle.cbor_head.specs.declared.reason.Refusal.{Refusal}
+use Rattle.cbor_judging.specs.Readers.{IsReadAs, IsUnread}
 use Rattle.cbor_diag.specs.Text.{text}
 use Rattle.cbor_explain.specs.declared.way.Step.{Step}
 use Rattle.cbor_explain.specs.declared.way.Step.TheVariants.{Member, Key, Value as ValueOf, Content}
 
--- the text of the key that stands at a place: its diagnostic text where it is a valid item of at most 64 bytes, else its place
+-- The text of the key that stands at a place: its diagnostic text, where it is a valid item of at most 64 bytes; its place, where
+-- that is refused, for what stands there or for want of memory.
 pub data IsKeyText (item : List ℕ) (place : ℕ) (t : List ℕ) : Type 0 where
   short : (v : Value) (count : ℕ) → IsReadAs (bounds 256 64) plain (drop place item) v count → t ≡ codes "." ++ text v → IsKeyText item place t
-  long : t ≡ codes ".(the key at " ++ decimal place ++ codes ")" → IsKeyText item place t
+  long : (f : Refusal) → IsUnread (bounds 256 64) plain (drop place item) f → t ≡ codes ".(the key at " ++ decimal place ++ codes ")" → IsKeyText item place t
 
 -- the text of a step
 abbrev pub IsStepText : List ℕ → Step → List ℕ → Type 0
