@@ -16,7 +16,7 @@ use Rattle.cbor_grammar.proofs.KeyKinds.{kind_later}
 use Rattle.cbor_grammar.proofs.OneFirst.{after_head}
 use Rattle.cbor_grammar.proofs.ReadLaws.{length_spell}
 use Rattle.cbor_judging.specs.Readers.{IsRead, IsReadAs, IsUnread, of_verdict, of_reader, of_memory, Loses}
-use Rattle.cbor_reader.specs.Sequence.{sequence_bytes, IsAccepted, IfRefused, EndsBefore, IsAtEnd, IsRefused, Given, given_by, items_of, HasGiven, GivesNext}
+use Rattle.cbor_reader.specs.Sequence.{sequence_bytes, IsAccepted, IfRefused, EndsBefore, IsAtEnd, IsRefused, Given, given_by, items_of, HasGiven, IsTaken}
 use Rattle.cbor_judging.specs.Refusals.{IsReaderReason}
 use Rattle.cbor_judging.proofs.Accepted.{item_within_limit, front_accepted, one_refusal, not_both}
 use Rattle.cbor_reader.proofs.CutShort.{truncated}
@@ -139,21 +139,21 @@ bytes_with (h ∷ hs) g more =
     append_assoc (spell h.item) (sequence_bytes (items_of (hs ++ g ∷ []))) more ∙ ap (λ (x : List ℕ). spell h.item ++ x) (bytes_with hs g more)
     ∙ sym (append_assoc (spell h.item) (sequence_bytes (items_of hs)) (spell g.item ++ more))
 
-module _ (r : Rules) (b : Bounds) (from to : Option (List ℕ)) (input : List ℕ) (given : List Given) (run : HasGiven b from input given) where
-  goes_on : (s : Spelling) (count : ℕ) → IsVerdict b r run.rest (accepted s) → count ≡ length (spell s) → Loses count (Some run.rest) to → HasGiven b to input (given ++ given_by r s ∷ [])
-  goes_on s count v size lost = record {
+module _ (r : Rules) (b : Bounds) (from to : Option (List ℕ)) (input : List ℕ) (given : List Given) where
+  goes_on : (run : HasGiven b from input given) (s : Spelling) (count : ℕ) → IsVerdict b r run.rest (accepted s) → count ≡ length (spell s) → Loses count (Some run.rest) to → HasGiven b to input (given ++ given_by r s ∷ [])
+  goes_on run s count v size lost = record {
     rest = drop (length (spell s)) run.rest;
     holds = lost.0 ∙ ap (λ (k : ℕ). Some (drop k run.rest)) size;
     each = all_with (λ g. IsAccepted b g.rules g.item) given (given_by r s) run.each (is_accepted b r run.rest s v);
     bytes = bytes_with given (given_by r s) (drop (length (spell s)) run.rest) ∙ ap (λ (x : List ℕ). sequence_bytes (items_of given) ++ x) (splits b r run.rest s v) ∙ run.bytes;
   }
 
-  pub gives_value : (v : Value) (count : ℕ) → IfSome from (λ held. IsReadAs b r held v count) → Loses count from to → GivesNext r b to input given (λ s. v ≡ value_of s)
-  gives_value v count h lost =
-      let i : IsReadAs b r run.rest v count = subst (λ (x : Option (List ℕ)). IfSome x (λ held. IsReadAs b r held v count)) run.holds h in
-      record { item = i.read.item; told = i.value; run = goes_on i.read.item count i.read.verdict i.read.size (subst (λ (x : Option (List ℕ)). Loses count x to) run.holds lost) }
+  pub gives_value : (v : Value) → HasGiven b from input given → IsTaken r b from to v → (s : Spelling) × (v ≡ value_of s) × HasGiven b to input (given ++ given_by r s ∷ [])
+  gives_value v run h =
+      let i : IsReadAs b r run.rest v h.count = subst (λ (x : Option (List ℕ)). IfSome x (λ held. IsReadAs b r held v h.count)) run.holds h.read in
+      (i.read.item, i.value, goes_on run i.read.item h.count i.read.verdict i.read.size (subst (λ (x : Option (List ℕ)). Loses h.count x to) run.holds h.taken))
 
-  pub gives_count : (count : ℕ) → IfSome from (λ held. IsRead b r held count) → Loses count from to → GivesNext r b to input given (λ s. count ≡ length (spell s))
-  gives_count count h lost =
+  pub gives_count : (count : ℕ) → HasGiven b from input given → IfSome from (λ held. IsRead b r held count) → Loses count from to → (s : Spelling) × (count ≡ length (spell s)) × HasGiven b to input (given ++ given_by r s ∷ [])
+  gives_count count run h lost =
       let i : IsRead b r run.rest count = subst (λ (x : Option (List ℕ)). IfSome x (λ held. IsRead b r held count)) run.holds h in
-      record { item = i.item; told = i.size; run = goes_on i.item count i.verdict i.size (subst (λ (x : Option (List ℕ)). Loses count x to) run.holds lost) }
+      (i.item, i.size, goes_on run i.item count i.verdict i.size (subst (λ (x : Option (List ℕ)). Loses count x to) run.holds lost))

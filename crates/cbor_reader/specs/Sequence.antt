@@ -105,9 +105,3 @@ pub record HasGiven (b : Bounds) (held : Option (List ℕ)) (input : List ℕ) (
   pub holds : held ≡ Some rest
   pub each : AllByRecursion (λ g. IsAccepted b g.rules g.item) given
   pub bytes : sequence_bytes (items_of given) ++ rest ≡ input
-
--- the run goes on with an item of which this is told
-pub record GivesNext (r : Rules) (b : Bounds) (to : Option (List ℕ)) (input : List ℕ) (given : List Given) (Told : Spelling → Type 0) : Type 0 where
-  pub item : Spelling
-  pub told : Told item
-  pub run : HasGiven b to input (given ++ given_by r item ∷ [])

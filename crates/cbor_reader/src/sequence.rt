@@ -1,13 +1,12 @@
 //! A reader together with the items of the sequence that it is at.
 
-ghost use Rattle.std.specs.Prelude.{◌≡◌, ℕ, List, length, true, false, None, Some, IfSome};
+ghost use Rattle.std.specs.Prelude.{◌≡◌, true, false, None, Some, IfSome};
 ghost use Rattle.cbor_head.specs.Complaint.{plain, strict};
-ghost use Rattle.cbor_head.specs.Spelling.{spell, value_of};
 ghost use Rattle.cbor_item.specs.View.{view};
 ghost use Rattle.cbor_judging.specs.Readers.{IsRead, IsCanonicalFront, Loses};
 ghost use Rattle.cbor_judging.specs.Refusals.{IsReaderReason};
 ghost use Rattle.cbor_reader.specs.Sequence.{SequenceView, IfGiven, IfRefused, is_last, IsTaken};
-ghost use Rattle.cbor_reader.specs.Sequence.{IsAtEnd, IsRefused, Given, HasGiven, GivesNext};
+ghost use Rattle.cbor_reader.specs.Sequence.{IsAtEnd, IsRefused};
 
 use crate::sequence_items::SequenceItems;
 use cbor_head::{KeyOrder, Limits, Refusal};
@@ -68,11 +67,6 @@ impl<R: Read> Sequence<R> {
         ensures finished { self.new.items.finished ≡ is_last result }
         ensures again { self.old.items.finished ≡ true
             → (result ≡ None) × (self.new ≡ self.old) }
-        // Whatever was given of an input before.
-        ensures run { IfGiven result (λ tree. (input : List ℕ) (given : List Given)
-            → HasGiven self.old.items.limits (R.remaining self.old.reader) input given
-            → GivesNext plain self.old.items.limits (R.remaining self.new.reader) input given
-            (λ s. view tree ≡ value_of s)) }
     {
         self.items.next(&mut self.reader)
     }
@@ -100,11 +94,6 @@ impl<R: Read> Sequence<R> {
         ensures finished { self.new.items.finished ≡ is_last result }
         ensures again { self.old.items.finished ≡ true
             → (result ≡ None) × (self.new ≡ self.old) }
-        // Whatever was given of an input before.
-        ensures run { IfGiven result (λ count. (input : List ℕ) (given : List Given)
-            → HasGiven self.old.items.limits (R.remaining self.old.reader) input given
-            → GivesNext (strict order) self.old.items.limits (R.remaining self.new.reader)
-            input given (λ s. count ≡ length (spell s))) }
     {
         self.items.next_strict(&mut self.reader, order)
     }

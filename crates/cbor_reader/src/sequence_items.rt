@@ -1,15 +1,13 @@
 //! The items of a sequence, from a reader that each call is handed.
 
-ghost use Rattle.std.specs.Prelude.{◌≡◌, ℕ, List, length, true, false, None, Some, IfSome};
+ghost use Rattle.std.specs.Prelude.{◌≡◌, true, false, None, Some, IfSome};
 ghost use Rattle.cbor_head.specs.Complaint.{plain, strict};
-ghost use Rattle.cbor_head.specs.Spelling.{spell, value_of};
 ghost use Rattle.cbor_head.specs.declared.reason.Reason.TheVariants as reasons;
 ghost use Rattle.cbor_item.specs.View.{view};
 ghost use Rattle.cbor_judging.specs.Readers.{IsRead, IsCanonicalFront, Loses};
 ghost use Rattle.cbor_judging.specs.Refusals.{IsReaderReason};
 ghost use Rattle.cbor_reader.specs.Sequence.{SequenceItemsView, IfGiven, IfRefused, is_last};
-ghost use Rattle.cbor_reader.specs.Sequence.{IsTaken, IsAtEnd, IsRefused, Given, HasGiven};
-ghost use Rattle.cbor_reader.specs.Sequence.{GivesNext};
+ghost use Rattle.cbor_reader.specs.Sequence.{IsTaken, IsAtEnd, IsRefused};
 
 use crate::tree_reader::read_tree_by;
 use cbor_events::ItemEvents;
@@ -75,11 +73,6 @@ impl SequenceItems {
         ensures finished { self.new.finished ≡ is_last result }
         ensures again { self.old.finished ≡ true
             → (result ≡ None) × (self.new ≡ self.old) × (reader.new ≡ reader.old) }
-        // Whatever was given of an input before.
-        ensures run { IfGiven result (λ tree. (input : List ℕ) (given : List Given)
-            → HasGiven self.old.limits (R.remaining reader.old) input given
-            → GivesNext plain self.old.limits (R.remaining reader.new) input given
-            (λ s. view tree ≡ value_of s)) }
     {
         if self.finished {
             return None;
@@ -114,11 +107,6 @@ impl SequenceItems {
         ensures finished { self.new.finished ≡ is_last result }
         ensures again { self.old.finished ≡ true
             → (result ≡ None) × (self.new ≡ self.old) × (reader.new ≡ reader.old) }
-        // Whatever was given of an input before.
-        ensures run { IfGiven result (λ count. (input : List ℕ) (given : List Given)
-            → HasGiven self.old.limits (R.remaining reader.old) input given
-            → GivesNext (strict order) self.old.limits (R.remaining reader.new) input given
-            (λ s. count ≡ length (spell s))) }
     {
         if self.finished {
             return None;

@@ -1,20 +1,22 @@
 //! Laws of sequences: functions with nothing to run, whose contracts are the laws.
 
 ghost use Rattle.std.specs.Prelude.{◌≡◌, ◌≢◌, ◌↔◌, ℕ, Option, Some, List, [], ◌∷◌, ◌++◌};
+ghost use Rattle.std.specs.Prelude.{length, IfSome};
 ghost use Rattle.cbor_head.specs.Canonical.{canonical};
 ghost use Rattle.cbor_head.specs.Complaint.{Rules, plain, strict};
 ghost use Rattle.cbor_head.specs.Limits.{Bounds};
 ghost use Rattle.cbor_head.specs.Spelling.{Spelling, IsItem, spell, value_of};
+ghost use Rattle.cbor_head.specs.Value.{Value};
 ghost use Rattle.cbor_head.specs.Verdict.{IsVerdict, refused, refusal};
 ghost use Rattle.cbor_head.specs.declared.order.KeyOrder.{KeyOrder};
 ghost use Rattle.cbor_head.specs.declared.reason.Reason.TheVariants.{Memory, Read, Truncated};
 ghost use Rattle.cbor_head.specs.declared.reason.Reason.TheVariants.{TooLong};
 ghost use Rattle.cbor_head.specs.declared.reason.Refusal.{Refusal};
 ghost use Rattle.cbor_reader.specs.Headline.{IsValidItem};
-ghost use Rattle.cbor_judging.specs.Readers.{BeginsWithCanonical};
-ghost use Rattle.cbor_judging.specs.Readers.{IsUnread};
+ghost use Rattle.cbor_judging.specs.Readers.{BeginsWithCanonical, IsRead, IsUnread, Loses};
 ghost use Rattle.cbor_reader.specs.Sequence.{sequence_bytes, IsAccepted, StartsWithItems};
 ghost use Rattle.cbor_reader.specs.Sequence.{IsLongestSequence, EndsBefore, IsAtEnd, IsRefused};
+ghost use Rattle.cbor_reader.specs.Sequence.{IsTaken};
 ghost use Rattle.cbor_reader.specs.Sequence.{Given, given_by, items_of, AreGivenBy, HasGiven};
 
 /// The items of a sequence: by the plain rules the valid items within the limits; by the strict
@@ -28,10 +30,18 @@ pub fn items_of_sequences()
         × (spell s ≡ canonical o (value_of s))) }
 {}
 
-/// A run begins with nothing given, and where one call gave all and gives one more, it gave all
-/// again. Then the input starts with a sequence that is accepted by the rules of this call.
+/// A run begins with nothing given, and what a call gives is one item more: a tree is its value, a
+/// number that of its bytes. Where one call gave all and gives one more, it gave all again. Then the
+/// input starts with a sequence that is accepted by the rules of this call.
 pub fn runs_of_calls()
     ensures starts { (b : Bounds) (input : List ℕ) → HasGiven b (Some input) input [] }
+    ensures value { (r : Rules) (b : Bounds) (from to : Option (List ℕ)) (input : List ℕ)
+        (given : List Given) (v : Value) → HasGiven b from input given → IsTaken r b from to v
+        → (s : Spelling) × (v ≡ value_of s) × HasGiven b to input (given ++ given_by r s ∷ []) }
+    ensures count { (r : Rules) (b : Bounds) (from to : Option (List ℕ)) (input : List ℕ)
+        (given : List Given) (n : ℕ) → HasGiven b from input given
+        → IfSome from (λ held. IsRead b r held n) → Loses n from to
+        → (s : Spelling) × (n ≡ length (spell s)) × HasGiven b to input (given ++ given_by r s ∷ []) }
     ensures by_one { (r : Rules) (b : Bounds) (held : Option (List ℕ)) (input : List ℕ)
         (given : List Given) → (run : HasGiven b held input given) → AreGivenBy r given
         → StartsWithItems b r input (items_of given) run.rest }

@@ -1,10 +1,6 @@
 use Rattle.cbor_head.specs.Complaint.{strict}
-use Rattle.cbor_reader.proofs.Sequences.{at_end, refused_as, reason_as, gives_count}
+use Rattle.cbor_reader.proofs.Sequences.{at_end, refused_as, reason_as}
 use Rattle.cbor_reader.proofs.sequence_items.SequenceItems.next_strict.Goals as goal
-
-pub returns-in-Ok-clause-run : goal.returns-in-Ok-clause-run
-returns-in-Ok-clause-run g c = rw (← c.self.view_is) (λ input given h.
-    gives_count (strict c.args.order) c.self.inside.limits _ _ input given h c.in-Ok.count c.in-Ok.ensures.accepted c.in-Ok.ensures.taken)
 
 pub returns-in-Err-clause-end : goal.returns-in-Err-clause-end
 returns-in-Err-clause-end g c = rw (← c.self.view_is) (λ none live. at_end (strict c.args.order) c.self.inside.limits _ _ c.in-Err.refusal c.in-Err.ensures.refused c.in-Err.ensures.read (c.last.ensures.end none))
