@@ -9,6 +9,7 @@ pub mod Decisions
 pub mod Frames
 pub mod FreeBefore
 pub mod Fronts
+pub mod Further
 pub mod Given
 pub mod Heads
 pub mod Items

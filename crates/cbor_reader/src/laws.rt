@@ -154,6 +154,15 @@ pub fn items_cut_short()
         → IsVerdict limits r (b ++ rest) (refused (refusal TooLong limits.bytes limits.bytes)) }
 {}
 
+/// What a front of an input is answered, the input is, unless the front ends within the item.
+pub fn fronts_decide()
+    ensures accepted { (limits : Bounds) (r : Rules) (front behind : List ℕ) (s : Spelling)
+        → IsVerdict limits r front (accepted s) → IsVerdict limits r (front ++ behind) (accepted s) }
+    ensures refused { (limits : Bounds) (r : Rules) (front behind : List ℕ) (f : Refusal)
+        → IsVerdict limits r front (refused f) → f.reason ≢ Truncated
+        → IsVerdict limits r (front ++ behind) (refused f) }
+{}
+
 /// A refusal's place is no later than the bytes read, and these are no more than the limit and no
 /// more than the input has.
 pub fn refusals_stand_within_the_input()

@@ -1,4 +1,3 @@
-pub mod Decided
 pub mod Files
 pub mod Lists
 pub mod Outputs

@@ -11,6 +11,7 @@ use Rattle.cbor_head.specs.declared.reason.Reason.TheVariants.{CanonicalTooLong,
 use Rattle.cbor_head.specs.declared.reason.Refusal.{Refusal}
 use Rattle.cbor_grammar.proofs.Agree.{split_front}
 use Rattle.cbor_reader.specs.Canonicalise.{IsCanonicalOf, IsRefusal, of_item, canonical_too_long}
+use Rattle.cbor_judging.proofs.Further.{IsFinal, further, more, splits_further}
 use Rattle.cbor_judging.proofs.Reasons.{item-reason}
 use Rattle.cbor_judging.proofs.SpelledBytes.{longest_always}
 use Rattle.cbor_judging.specs.Readers.{IsUnread, IsReadAs}
@@ -25,7 +26,6 @@ use Rattle.cborc_items.specs.Events.{IsFollowed, IsNotListed}
 use Rattle.cborc_input.specs.declared.fault.Fault.{Fault}
 use Rattle.cborc_input.specs.declared.fault.Fault.TheVariants as faults
 use Rattle.cborc_fronts.specs.Decided.{IsDecided, IsEnough}
-use Rattle.cborc_fronts.proofs.Decided.{IsFinal, further, more, splits_further}
 use Rattle.cborc_fronts.proofs.Places.{place_within}
 use Rattle.cborc_items.proofs.Whole.{AreAccepted}
 

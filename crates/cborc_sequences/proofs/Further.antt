@@ -7,6 +7,7 @@ use Rattle.cbor_head.specs.Verdict.{refused, IsVerdict}
 use Rattle.cbor_head.specs.declared.order.KeyOrder.{KeyOrder}
 use Rattle.cbor_head.specs.declared.reason.Reason.TheVariants.{Truncated}
 use Rattle.cbor_head.specs.declared.reason.Refusal.{Refusal}
+use Rattle.cbor_judging.proofs.Further.{further}
 use Rattle.cbor_judging.specs.Readers.{IsUnread, of_verdict, of_reader, of_memory}
 use Rattle.cborc_sequences.specs.CanonSequence.{unread}
 use Rattle.cborc_input.specs.Fault.{IsOfInput, refusal_fault}
@@ -14,7 +15,6 @@ use Rattle.cborc_input.specs.declared.fault.Fault.{Fault}
 use Rattle.cborc_input.specs.declared.request.Form.{Form}
 use Rattle.cborc_input.specs.declared.request.Layout.{Layout}
 use Rattle.cborc_sequences.specs.inner.Items.{IsUncounted, IsUnwritten, IsItemNotShown}
-use Rattle.cborc_fronts.proofs.Decided.{further}
 use Rattle.cborc_input.proofs.Faults.{refusal_is}
 
 -- nothing stands behind the front, or a refusal is not for its end
