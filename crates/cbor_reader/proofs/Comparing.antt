@@ -3,10 +3,9 @@ use Rattle.std.proofs.Common.{ℕ, ◌^◌, ◌≡◌, ◌≤◌, ◌↔◌, Boo
 use Rattle.std.specs.Prelude.{IsTrue}
 use Rattle.std.specs.Bool.{Decides}
 use Rattle.cbor_head.specs.Canonical.{canonical}
-use Rattle.cbor_head.specs.Limits.{Bounds, bounds, with_keys}
-use Rattle.cbor_head.specs.Spelling.{Spelling, value_of}
+use Rattle.cbor_head.specs.Limits.{Bounds}
+use Rattle.cbor_head.specs.Spelling.{Spelling, IsItem, value_of}
 use Rattle.cbor_head.specs.Value.{Same}
-use Rattle.cbor_head.specs.declared.keys.Keys.{Keys}
 use Rattle.cbor_head.specs.declared.order.KeyOrder.{KeyOrder}
 use Rattle.cbor_head.specs.declared.order.KeyOrder.TheVariants.{Bytewise}
 use Rattle.cbor_canonical.proofs.Keys.{same_exactly}
@@ -29,7 +28,7 @@ module _ (limits : Bounds) (m : limits.bytes ≤ 2 ^ 62) (left right : List ℕ)
   sound_item input s i = let v = valid_item_value limits input s m i in sound (value_of s) v.0 v.1
 
   bytes_of_item : (input out : List ℕ) (s : Spelling) → IsEncoded input out → IsValidItem limits input s → out ≡ canonical Bytewise (value_of s)
-  bytes_of_item input out s h i = h.2 ∙ ap (λ (t : Spelling). canonical Bytewise (value_of t)) (only_item limits input h.0 s h.1 i)
+  bytes_of_item input out s h i = h.2 ∙ ap (λ (t : Spelling). canonical Bytewise (value_of t)) (only_item limits limits input h.0 s h.1 i)
 
   module _ (same : Bool) (x y : List ℕ) (decides : Decides same (x ≡ y)) (h : IsEncoded left x) (g : IsEncoded right y) where
     pub same_values : (s t : Spelling) → IsValidItem limits left s → IsValidItem limits right t → IsTrue same ↔ Same (value_of s) (value_of t)
@@ -45,14 +44,6 @@ module _ (limits : Bounds) (m : limits.bytes ≤ 2 ^ 62) (left right : List ℕ)
       (λ q. (same_values q.left_item q.right_item q.left_whole q.right_whole).1 q.same),
     )
 
-    pub same_answers : (n : ℕ) (k : Keys) (o : KeyOrder) (a b : List ℕ) → n ≤ 2 ^ 62 → IsCanonicalOf (with_keys (bounds limits.depth n) k) o left a → IsCanonicalOf (with_keys (bounds limits.depth n) k) o right b
-        → IsTrue same ↔ (a ≡ b)
-    same_answers n k o a b l u v =
-        let values = same_values h.0 g.0 h.1 g.1 in
-        let others = with_keys (bounds limits.depth n) k in
-        let equal = equal_exactly others others o left right a b h.0 g.0 l l u h.1.well_formed v g.1.well_formed in
-        ((λ q. equal.1 (values.0 q)), (λ q. values.1 (equal.0 q)))
-
 -- ---- as a relation of inputs
 
 pub meaning_itself : (limits : Bounds) (x : List ℕ) → IsWholeItem limits x → MeanTheSame limits x x
@@ -65,7 +56,7 @@ meaning_back limits x y h =
 pub meaning_on : (limits : Bounds) (x y z : List ℕ) → MeanTheSame limits x y → MeanTheSame limits y z → MeanTheSame limits x z
 meaning_on limits x y z h g =
     let first : Same (value_of h.left_item) (value_of g.left_item) =
-    subst (λ (s : Spelling). Same (value_of h.left_item) (value_of s)) (only_item limits y h.right_item g.left_item h.right_whole g.left_whole) h.same in
+    subst (λ (s : Spelling). Same (value_of h.left_item) (value_of s)) (only_item limits limits y h.right_item g.left_item h.right_whole g.left_whole) h.same in
     record {
       left_item = h.left_item;
       right_item = g.right_item;
@@ -74,12 +65,15 @@ meaning_on limits x y z h g =
       same = Same-trans (value_of h.left_item) (value_of g.left_item) (value_of g.right_item) first g.same;
     }
 
-pub meaning_by_answers : (limits : Bounds) (o : KeyOrder) (x y a b : List ℕ) → limits.bytes ≤ 2 ^ 62 → IsCanonicalOf limits o x a → IsCanonicalOf limits o y b → MeanTheSame limits x y ↔ (a ≡ b)
-meaning_by_answers limits o x y a b l u v =
-    let (s, i, e, f) = (answers_exactly limits o x a).0 u in
-    let (t, j, g, h) = (answers_exactly limits o y b).0 v in
-    let equal = equal_exactly limits limits o x y a b s t l l u i.well_formed v j.well_formed in (
-      (λ q. equal.1 (subst (λ (w : Spelling). Same (value_of s) (value_of w)) (only_item limits y q.right_item t q.right_whole j)
-          (subst (λ (w : Spelling). Same (value_of w) (value_of q.right_item)) (only_item limits x q.left_item s q.left_whole i) q.same))),
-      (λ q. record { left_item = s; right_item = t; left_whole = i; right_whole = j; same = equal.0 q }),
+pub meaning_by_answers : (limits others : Bounds) (o : KeyOrder) (x y a b : List ℕ) → others.bytes ≤ 2 ^ 62 → IsWholeItem limits x → IsWholeItem limits y → IsCanonicalOf others o x a → IsCanonicalOf others o y b
+    → MeanTheSame limits x y ↔ (a ≡ b)
+meaning_by_answers limits others o x y a b l (s, i) (t, j) u v =
+    let (p, f, _, _) = (answers_exactly others o x a).0 u in
+    let (q, g, _, _) = (answers_exactly others o y b).0 v in
+    let left : IsItem others.depth s x = subst (λ (w : Spelling). IsItem others.depth w x) (only_item others limits x p s f i) f.well_formed in
+    let right : IsItem others.depth t y = subst (λ (w : Spelling). IsItem others.depth w y) (only_item others limits y q t g j) g.well_formed in
+    let equal = equal_exactly others others o x y a b s t l l u left v right in (
+      (λ h. equal.1 (subst (λ (w : Spelling). Same (value_of s) (value_of w)) (only_item limits limits y h.right_item t h.right_whole j)
+          (subst (λ (w : Spelling). Same (value_of w) (value_of h.right_item)) (only_item limits limits x h.left_item s h.left_whole i) h.same))),
+      (λ h. record { left_item = s; right_item = t; left_whole = i; right_whole = j; same = equal.0 h }),
     )

@@ -65,8 +65,8 @@ tree_too_long limits o input v a l =
 
 -- ---- an input is an item, or it isn't
 
-pub only_item : (limits : Bounds) (input : List ℕ) (s t : Spelling) → IsValidItem limits input s → IsValidItem limits input t → s ≡ t
-only_item limits input s t i j = one_list s t i.well_formed.spelled j.well_formed.spelled (i.well_formed.bytes_are ∙ sym j.well_formed.bytes_are)
+pub only_item : (limits others : Bounds) (input : List ℕ) (s t : Spelling) → IsValidItem limits input s → IsValidItem others input t → s ≡ t
+only_item limits others input s t i j = one_list s t i.well_formed.spelled j.well_formed.spelled (i.well_formed.bytes_are ∙ sym j.well_formed.bytes_are)
 
 pub refused_for_memory : (limits : Bounds) (input : List ℕ) (f : Refusal) → IsWholeItem limits input → IsItemRefusal limits plain input f → f.reason ≡ Memory
 refused_for_memory limits input f (s, i) r = memory_alone limits plain input s f (valid_item_accepted limits input s i) i.well_formed.bytes_are r

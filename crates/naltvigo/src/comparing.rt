@@ -1,12 +1,8 @@
 //! Whether two inputs mean the same.
 
-ghost use Rattle.std.specs.Prelude.{◌≡◌, ◌≢◌, ◌⊎◌, ◌≤◌, ◌^◌, ℕ, List};
-ghost use Rattle.cbor_head.specs.Limits.{bounds, with_keys};
+ghost use Rattle.std.specs.Prelude.{◌≡◌, ◌≢◌, ◌⊎◌};
 ghost use Rattle.cbor_head.specs.Spelling.{Spelling, value_of};
 ghost use Rattle.cbor_head.specs.Value.{Same};
-ghost use Rattle.cbor_head.specs.declared.keys.Keys.{Keys};
-ghost use Rattle.cbor_head.specs.declared.order.KeyOrder.{KeyOrder};
-ghost use Rattle.cbor_reader.specs.Canonicalise.{IsCanonicalOf};
 ghost use Rattle.cbor_reader.specs.Comparing.{MeanTheSame};
 ghost use Rattle.cbor_reader.specs.Headline.{IsValidItem};
 ghost use Rattle.cbor_reader.specs.WholeItem.{IsWholeItem};
@@ -52,12 +48,6 @@ pub extern "C" fn naltvigo_compare_raw(
         → IsValidItem (item_limits keys depth bytes) left.now s
         → IsValidItem (item_limits keys depth bytes) right.now t
         → ¬ Same (value_of s) (value_of t) }
-    ensures equal { result ≡ OK → (n : ℕ) (k : Keys) (o : KeyOrder) (a b : List ℕ) → n ≤ 2 ^ 62
-        → IsCanonicalOf (with_keys (bounds depth n) k) o left.now a
-        → IsCanonicalOf (with_keys (bounds depth n) k) o right.now b → a ≡ b }
-    ensures unequal { result ≡ DIFFERENT → (n : ℕ) (k : Keys) (o : KeyOrder) (a b : List ℕ) → n ≤ 2 ^ 62
-        → IsCanonicalOf (with_keys (bounds depth n) k) o left.now a
-        → IsCanonicalOf (with_keys (bounds depth n) k) o right.now b → a ≢ b }
     ensures refused { result ≡ REFUSED
         → IsSideRefused (item_limits keys depth bytes) left.now right.now side.new refusal.new }
     ensures only { result ≡ REFUSED → IsWholeItem (item_limits keys depth bytes) left.now

@@ -3,7 +3,7 @@ use Rattle.std.specs.Cow.{cow_slice_items}
 use Rattle.std.specs.Bool.{Decides}
 use Rattle.std.proofs.lemmas.Bool.Decides.{Decides-eqb}
 use Rattle.std.proofs.lemmas.Slice.Eq.{slice_eq-Decides}
-use Rattle.cbor_reader.proofs.Comparing.{same_inputs, same_values, same_answers}
+use Rattle.cbor_reader.proofs.Comparing.{same_inputs, same_values}
 use Rattle.cbor_reader.proofs.WholeItems.{refused_for_memory}
 use Rattle.cbor_reader.proofs.comparison.same_meaning.Goals as goal
 use Rattle.cbor_reader.proofs.comparison.same_meaning.Goals.{Joined-left_item, Joined-left_item-3}
@@ -28,11 +28,6 @@ returns-clause-values c =
     same_values c.args.limits (omega arith) c.args.left.now c.args.right.now c.eq-2.result (cow_slice_items c.in-Ok.bytes) (cow_slice_items c.in-Ok-encoded_item.bytes)
     (decides c) c.in-Ok.ensures.encoded c.in-Ok-encoded_item.ensures.encoded
 
-pub returns-clause-equal : goal.returns-clause-equal
-returns-clause-equal c =
-    same_answers c.args.limits (omega arith) c.args.left.now c.args.right.now c.eq-2.result (cow_slice_items c.in-Ok.bytes) (cow_slice_items c.in-Ok-encoded_item.bytes)
-    (decides c) c.in-Ok.ensures.encoded c.in-Ok-encoded_item.ensures.encoded
-
 -- ---- the same bytes on both sides
 
 alike : (c : Joined-left_item) → c.args.left.now ≡ c.args.right.now
@@ -46,9 +41,4 @@ returns-then-eq-clause-answer c = rw (← alike c) (
 pub returns-then-eq-clause-values : goal.returns-then-eq-clause-values
 returns-then-eq-clause-values c = rw (← alike c) (
     same_values c.args.limits (omega arith) c.args.left.now c.args.left.now Bool.true (cow_slice_items c.in-Ok.bytes) (cow_slice_items c.in-Ok.bytes)
-    ((λ _. refl), (λ _. refl)) c.in-Ok.ensures.encoded c.in-Ok.ensures.encoded)
-
-pub returns-then-eq-clause-equal : goal.returns-then-eq-clause-equal
-returns-then-eq-clause-equal c = rw (← alike c) (
-    same_answers c.args.limits (omega arith) c.args.left.now c.args.left.now Bool.true (cow_slice_items c.in-Ok.bytes) (cow_slice_items c.in-Ok.bytes)
     ((λ _. refl), (λ _. refl)) c.in-Ok.ensures.encoded c.in-Ok.ensures.encoded)
