@@ -1,10 +1,8 @@
 -- What a refusal of the canonicaliser can say: where it stands, and its reason.
-use Rattle.std.proofs.Common.{ℕ, ◌≡◌, ◌≤◌, List, length, sym, ap, arith, subst, inl, inr}
+use Rattle.std.proofs.Common.{ℕ, List, length, ap, arith, inl, inr}
 use Rattle.cbor_head.specs.Limits.{Bounds}
 use Rattle.cbor_head.specs.Complaint.{plain}
-use Rattle.cbor_head.specs.Verdict.{refusal}
 use Rattle.cbor_head.specs.declared.order.KeyOrder.{KeyOrder}
-use Rattle.cbor_head.specs.declared.reason.Reason.{Reason}
 use Rattle.cbor_head.specs.declared.reason.Refusal.{Refusal}
 use Rattle.cbor_judging.specs.Readers.{of_verdict, of_reader, of_memory}
 use Rattle.cbor_reader.specs.Canonicalise.{IsRefusal, of_item, canonical_too_long, IsCanonicaliserReason}
@@ -12,20 +10,14 @@ use Rattle.cbor_reader.specs.WholeItem.{unread, trailing}
 use Rattle.cbor_judging.specs.Refusals.{StandsWithin}
 use Rattle.cbor_judging.proofs.Accepted.{item_within_limit}
 use Rattle.cbor_reader.proofs.Headline.{valid_item}
-use Rattle.cbor_judging.proofs.Within.{longest_within, verdict_within}
 use Rattle.cbor_judging.proofs.Reasons.{verdict-reason}
+use Rattle.cbor_reader.proofs.Readings.{within_at, unread_within}
 
 module _ (limits : Bounds) (input : List ℕ) where
-  within_at : (f : Refusal) (x : Reason) (k : ℕ) → f ≡ refusal x k k → k ≤ limits.bytes → k ≤ length input → StandsWithin limits.bytes input f
-  within_at f x k e l m = subst (StandsWithin limits.bytes input) (sym e) (record { by_read = omega arith; in_limit = l; in_input = m })
-
   pub refusal_within : (o : KeyOrder) (f : Refusal) → IsRefusal limits o input f → StandsWithin limits.bytes input f
-  refusal_within o f (of_item (unread (of_verdict v) g)) = verdict_within limits input plain f v
-  refusal_within o f (of_item (unread (of_reader e v) apart)) = absurd (apart (ap (λ (x : Refusal). x.reason) e))
-  refusal_within o f (of_item (unread (of_memory p g l e free) apart)) =
-      let w = longest_within limits input p g in within_at f _ f.read e (omega (arith, l, w.0)) (omega (arith, l, w.1))
-  refusal_within o f (of_item (trailing k a l e)) = within_at f _ k e (omega (arith, a.size, item_within_limit limits plain input a.item a.verdict)) (omega (arith, l))
-  refusal_within o f (canonical_too_long s v w l e) = within_at f _ (length input) e (valid_item limits input s v w).fits (omega arith)
+  refusal_within o f (of_item (unread u g)) = unread_within limits plain input f u
+  refusal_within o f (of_item (trailing k a l e)) = within_at limits input f _ k e (omega (arith, a.size, item_within_limit limits plain input a.item a.verdict)) (omega (arith, l))
+  refusal_within o f (canonical_too_long s v w l e) = within_at limits input f _ (length input) e (valid_item limits input s v w).fits (omega arith)
 
 -- the canonicaliser's
 pub canonicaliser-reason : (limits : Bounds) (o : KeyOrder) (input : List ℕ) (f : Refusal) → IsRefusal limits o input f → IsCanonicaliserReason limits f.reason

@@ -7,6 +7,7 @@ pub mod Headline
 pub mod OnAnswers
 pub mod OneAnswer
 pub mod OwnAnswers
+pub mod Readings
 pub mod SequenceLaws
 pub mod Sequences
 pub mod ValidTexts

@@ -1,6 +1,6 @@
 //! Laws of the answers: functions with nothing to run, whose contracts are the laws.
 
-ghost use Rattle.std.specs.Prelude.{◌≡◌, ◌≢◌, ◌↔◌, ◌≤◌, ◌<◌, ◌^◌, ◌++◌, ℕ, List, length, take};
+ghost use Rattle.std.specs.Prelude.{◌≡◌, ◌≢◌, ◌↔◌, ◌⊎◌, ◌≤◌, ◌<◌, ◌^◌, ◌++◌, ℕ, List, length, take};
 ghost use Rattle.cbor_head.specs.Canonical.{canonical};
 ghost use Rattle.cbor_head.specs.Complaint.{Rules, Complaint, Complains, IsComplaint, plain, strict};
 ghost use Rattle.cbor_head.specs.Limits.{Bounds};
@@ -17,7 +17,7 @@ ghost use Rattle.cbor_head.specs.declared.reason.Reason.TheVariants.{Read};
 ghost use Rattle.cbor_reader.specs.Canonicalise.{IsCanonicalOf, IsRefusal};
 ghost use Rattle.cbor_reader.specs.Comparing.{MeanTheSame};
 ghost use Rattle.cbor_reader.specs.Headline.{IsValidItem, IsAnsweredBy, HasNoAnswer};
-ghost use Rattle.cbor_judging.specs.Readers.{BeginsWithCanonical, IsReadAs, IsUnread};
+ghost use Rattle.cbor_judging.specs.Readers.{BeginsWithCanonical, IsRead, IsReadAs, IsUnread};
 ghost use Rattle.cbor_judging.specs.Refusals.{StandsWithin};
 ghost use Rattle.cbor_reader.specs.Headline.{HasValidTexts};
 ghost use Rattle.cbor_plain.specs.Size.{size};
@@ -154,6 +154,35 @@ pub fn items_cut_short()
         → IsVerdict limits r (b ++ rest) (refused (refusal TooLong limits.bytes limits.bytes)) }
 {}
 
+/// The readers of the front of one input agree. What one of them reads is one value, of so many
+/// bytes; what is refused, but for the reader or for memory, has one refusal; and what is read is
+/// refused for these alone.
+pub fn one_reading()
+    ensures value { (limits : Bounds) (r : Rules) (input : List ℕ) (v w : Value) (m n : ℕ)
+        → IsReadAs limits r input v m → IsReadAs limits r input w n → (v ≡ w) × (m ≡ n) }
+    ensures refusal { (limits : Bounds) (r : Rules) (input : List ℕ) (f g : Refusal)
+        → IsUnread limits r input f → IsUnread limits r input g
+        → f.reason ≢ Read → f.reason ≢ Memory → g.reason ≢ Read → g.reason ≢ Memory → f ≡ g }
+    ensures either { (limits : Bounds) (r : Rules) (input : List ℕ) (n : ℕ) (f : Refusal)
+        → IsRead limits r input n → IsUnread limits r input f
+        → (f.reason ≡ Read) ⊎ (f.reason ≡ Memory) }
+{}
+
+/// What the strict verdict accepts in some order, the plain one accepts.
+pub fn strict_verdicts_are_plain()
+    ensures { (limits : Bounds) (o : KeyOrder) (input : List ℕ) (s : Spelling)
+        → IsVerdict limits (strict o) input (accepted s) → IsVerdict limits plain input (accepted s) }
+{}
+
+/// What is accepted is accepted within wider limits: of no lower depth and no fewer bytes, and that
+/// ask for the kinds of keys only where the others do.
+pub fn wider_limits_accept_as_much()
+    ensures { (limits others : Bounds) (r : Rules) (input : List ℕ) (s : Spelling)
+        → limits.depth ≤ others.depth → limits.bytes ≤ others.bytes
+        → (others.keys ≡ IntegersAndTexts → limits.keys ≡ IntegersAndTexts)
+        → IsVerdict limits r input (accepted s) → IsVerdict others r input (accepted s) }
+{}
+
 /// What a front of an input is answered, the input is, unless the front ends within the item.
 pub fn fronts_decide()
     ensures accepted { (limits : Bounds) (r : Rules) (front behind : List ℕ) (s : Spelling)
@@ -168,6 +197,8 @@ pub fn fronts_decide()
 pub fn refusals_stand_within_the_input()
     ensures verdict { (limits : Bounds) (r : Rules) (input : List ℕ) (f : Refusal)
         → IsVerdict limits r input (refused f) → StandsWithin limits.bytes input f }
+    ensures unread { (limits : Bounds) (r : Rules) (input : List ℕ) (f : Refusal)
+        → IsUnread limits r input f → StandsWithin limits.bytes input f }
     ensures answer { (limits : Bounds) (o : KeyOrder) (input : List ℕ) (f : Refusal)
         → IsRefusal limits o input f → StandsWithin limits.bytes input f }
 {}

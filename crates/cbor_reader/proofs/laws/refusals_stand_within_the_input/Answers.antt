@@ -1,9 +1,13 @@
 use Rattle.cbor_judging.proofs.Within.{verdict_within}
 use Rattle.cbor_reader.proofs.CanonicaliserRefusals.{refusal_within}
+use Rattle.cbor_reader.proofs.Readings.{unread_within}
 use Rattle.cbor_reader.proofs.laws.refusals_stand_within_the_input.Goals as goal
 
 pub returns-clause-verdict : goal.returns-clause-verdict
 returns-clause-verdict c = λ limits r input f. verdict_within limits input r f
+
+pub returns-clause-unread : goal.returns-clause-unread
+returns-clause-unread c = λ limits r input f. unread_within limits r input f
 
 pub returns-clause-answer : goal.returns-clause-answer
 returns-clause-answer c = λ limits o input f. refusal_within limits input o f
