@@ -37,6 +37,11 @@ pub data IsRefusal (limits : Bounds) (o : KeyOrder) (input : List ℕ) (f : Refu
   canonical_too_long : (item : Spelling) → IsVerdict limits plain input (accepted item) → spell item ≡ input
       → limits.bytes < length (canonical o (value_of item)) → f ≡ refusal CanonicalTooLong (length input) (length input) → IsRefusal limits o input f
 
+-- where memory that was refused is told: at the front of the input; or behind it, where the answer is known and could not be copied
+pub data IsMemoryRefusal (limits : Bounds) (o : KeyOrder) (input : List ℕ) (f : Refusal) : Type 0 where
+  at_front : f ≡ refusal Memory 0 0 → IsMemoryRefusal limits o input f
+  at_copy : (answer : List ℕ) → IsCanonicalOf limits o input answer → f ≡ refusal Memory (length input) (length input) → IsMemoryRefusal limits o input f
+
 -- the reasons that the canonicaliser gives: 1 to 13, 19 and 20
 abbrev pub IsCanonicaliserReason : Bounds → Reason → Type 0
 IsCanonicaliserReason limits x =

@@ -1,11 +1,12 @@
 //! The canonical bytes of a whole input.
 
-ghost use Rattle.std.specs.Prelude.{◌≢◌, IfOk, IfErr, IsOk, MatchResult};
+ghost use Rattle.std.specs.Prelude.{◌≡◌, ◌≢◌, IfOk, IfErr, IsOk, MatchResult};
 ghost use Rattle.std.specs.Cow.{cow_slice_items};
 ghost use Rattle.cbor_head.specs.declared.reason.Reason.TheVariants as reasons;
+ghost use Rattle.cbor_judging.specs.Readers.{TellsMemoryAtFront};
 ghost use Rattle.cbor_reader.specs.Canonicalise.{IsCanonicalOf, IsRefusal, TellsItsValue};
+ghost use Rattle.cbor_reader.specs.Canonicalise.{IsCanonicaliserReason, IsMemoryRefusal};
 ghost use Rattle.cbor_reader.specs.Headline.{IsAnsweredBy, HasNoAnswer};
-ghost use Rattle.cbor_reader.specs.Canonicalise.{IsCanonicaliserReason};
 
 use crate::whole_item::encoded_item;
 use cbor_head::{KeyOrder, Limits, Reason, Refusal};
@@ -32,6 +33,8 @@ pub fn canonicalise(
     ensures refused { IfErr result
         (λ f. f.reason ≢ reasons.Memory → HasNoAnswer limits order bytes.now) }
     ensures reason { IfErr result (λ f. IsCanonicaliserReason limits f.reason) }
+    ensures memory { IfErr result
+        (λ f. f.reason ≡ reasons.Memory → IsMemoryRefusal limits order bytes.now f) }
     ensures equal { IfOk result (λ v. TellsItsValue limits.depth order bytes.now v.items) }
     ensures again { IfOk result (λ v. IsCanonicalOf limits order v.items v.items) }
 {
@@ -60,6 +63,7 @@ pub fn canonical_bytes<'a>(
     ensures refused { IfErr result
         (λ f. f.reason ≢ reasons.Memory → HasNoAnswer limits order bytes.now) }
     ensures reason { IfErr result (λ f. IsCanonicaliserReason limits f.reason) }
+    ensures memory { IfErr result TellsMemoryAtFront }
     ensures equal { IfOk result
         (λ c. TellsItsValue limits.depth order bytes.now (cow_slice_items c)) }
     ensures again { IfOk result
@@ -79,6 +83,7 @@ fn answer<'a>(
         (λ c. IsCanonicalOf limits order bytes.now (cow_slice_items c))
         (λ f. IsRefusal limits order bytes.now f) }
     ensures own { IsCanonicalOf limits order bytes.now bytes.now → IsOk result }
+    ensures memory { IfErr result TellsMemoryAtFront }
 {
     let canonical = encoded_item(alloc, bytes, limits, order)?;
     if canonical.len() as u64 > limits.bytes() {

@@ -1,3 +1,5 @@
+use Rattle.std.proofs.lemmas.Result.{err_from_is_err_and}
+use Rattle.cbor_reader.specs.Canonicalise.{at_copy, at_front}
 use Rattle.cbor_reader.proofs.WholeItems.{memory_at_end}
 use Rattle.cbor_reader.proofs.canonicaliser.canonicalise.Goals as goal
 
@@ -11,3 +13,11 @@ pub returns-in-Err-clause-answer : goal.returns-in-Err-clause-answer
 returns-in-Err-clause-answer c =
     let e = c.in_ok-made.ensures.accepted in
     memory_at_end c.args.limits c.args.order c.args.bytes.now c.at.result (e.0, e.1) c.at.ensures
+
+pub returns-in_err-made-clause-memory : goal.returns-in_err-made-clause-memory
+returns-in_err-made-clause-memory c =
+    let p = err_from_is_err_and c.from_residual.result c.from_residual.ensures.1 in
+    rw (p.1, p.2) (λ e. at_front (c.in_err-made.ensures.memory e))
+
+pub returns-in-Err-clause-memory : goal.returns-in-Err-clause-memory
+returns-in-Err-clause-memory c = λ _. at_copy _ c.in_ok-made.ensures.answer c.at.ensures
