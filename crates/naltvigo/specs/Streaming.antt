@@ -96,14 +96,6 @@ pub record TellsOn (old new : MachineView) (bs : List ℕ) (status : ℕ) (event
   pub gives : Gives old mid front given
   pub ends : ((status ≡ 7) × (last ≡ []) × (new ≡ mid)) ⊎ ((out : Out) × IsToldEnd out new status r × HasAnswered out mid new last)
 
--- The machine that the numbers held did so; the new numbers hold it behind.
-pub record Streams (old new : SavedMachine) (bs : List ℕ) (status : ℕ) (events : List NaltvigoEvent) (r : NaltvigoRefusal) : Type 0 where
-  pub before : MachineView
-  pub held : Holds old before
-  pub behind : MachineView
-  pub holds : Holds new behind
-  pub tells : TellsOn before behind bs status events r
-
 -- Where the item was complete, or refused, the call used nothing and answered the same.
 pub record StaysSo (old new : SavedMachine) (used status : ℕ) (r : NaltvigoRefusal) : Type 0 where
   pub complete : (m : MachineView) → Holds old m → IsComplete m → (status ≡ 0) × (used ≡ 0) × Holds new m

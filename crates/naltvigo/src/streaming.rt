@@ -5,7 +5,7 @@ ghost use Rattle.cbor_standing.specs.Machine.{IsComplete};
 ghost use Rattle.cbor_standing.specs.MachineView.{MachineView};
 ghost use Rattle.cbor_machine.specs.Saved.{Holds, Starts};
 ghost use Rattle.cbor_head.specs.Limits.{bounds, AreBounds};
-ghost use Rattle.naltvigo.specs.Streaming.{IsToldEvent, StaysSo, Streams, TellsOn};
+ghost use Rattle.naltvigo.specs.Streaming.{IsToldEvent, StaysSo, TellsOn};
 ghost use Rattle.naltvigo.specs.Streaming.{kind_number, number_of, width_number};
 ghost use Rattle.naltvigo.specs.Told.{IsTold};
 
@@ -79,8 +79,11 @@ pub extern "C" fn naltvigo_machine_take_raw(
         × (machine.new.taken ≡ machine.old.taken + used.new) }
     // An event stands for a byte at least.
     ensures told { (told.new ≤ length events.new) × (told.new ≤ used.new) }
-    ensures streams { result ≢ BAD_MACHINE → Streams machine.old machine.new
-        (take used.new input.now) result (take told.new events.new) refusal.new }
+    // The machine that the numbers hold did so, be it of a start or of the call before.
+    ensures streams { result ≢ BAD_MACHINE → (m : MachineView) → Holds machine.old m
+        → (behind : MachineView) × Holds machine.new behind
+        × TellsOn m behind (take used.new input.now) result (take told.new events.new) refusal.new }
+    ensures held { result ≢ BAD_MACHINE → (m : MachineView) × Holds machine.old m }
     ensures full { result ≡ EVENT → told.new ≡ length events.new }
     ensures room { result ≢ EVENT → result ≢ BAD_MACHINE → told.new < length events.new }
     ensures more { result ≡ MORE → (used.new ≡ length input.now)
