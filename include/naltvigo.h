@@ -89,7 +89,7 @@ enum {
     NALTVIGO_OK = 0,         /* the answer stands in `out`, the input is accepted, the inputs mean the same */
     NALTVIGO_REFUSED = 1,    /* an input is refused; `*refusal` says why */
     NALTVIGO_TOO_SMALL = 2,  /* the answer has `*needed` bytes, more than `out`, which is as it was */
-    NALTVIGO_NO_MEMORY = 3,  /* memory was refused; `*refusal` says behind how many bytes */
+    NALTVIGO_NO_MEMORY = 3,  /* memory was refused; `*refusal` stands at 0 (but see naltvigo_diagnostic) */
     NALTVIGO_BAD_ORDER = 4,  /* `order` is none of the two */
     NALTVIGO_BAD_LIMITS = 5, /* `depth` or `bytes` is out of range, or `keys` is none of the two */
     NALTVIGO_DIFFERENT = 6,  /* the inputs do not mean the same */
@@ -354,7 +354,8 @@ static inline uint32_t naltvigo_compare(const uint8_t *left, size_t left_length,
  *
  * Writes the diagnostic text (RFC 8949, section 8) of the one well-formed, valid item that the whole input
  * is to the front of `out`, on one line, in UTF-8 and with no zero byte at its end. The pairs of a map stand
- * in their order. `*needed`, `out` and TOO_SMALL are as with naltvigo_canonicalise.
+ * in their order. `*needed`, `out` and TOO_SMALL are as with naltvigo_canonicalise. NO_MEMORY stands at 0, or
+ * behind the input, which then is such an item, where memory for its text was refused.
  *
  * Answers OK, TOO_SMALL, REFUSED (reasons 1 to 12, 20), NO_MEMORY, BAD_LIMITS.
  */

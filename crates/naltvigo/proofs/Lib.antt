@@ -1,4 +1,5 @@
 mod Compared
+mod Fronts
 mod Given
 mod Staying
 mod Told

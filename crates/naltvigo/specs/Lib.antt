@@ -2,7 +2,6 @@ pub mod Checking
 pub mod Comparing
 pub mod Diagnosing
 pub mod inner
-pub mod Sequence
 pub mod Settings
 pub mod Streaming
 pub mod Told

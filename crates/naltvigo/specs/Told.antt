@@ -1,29 +1,22 @@
 -- A refusal as C has it.
-use Rattle.std.specs.Prelude.{ℕ, ◌≡◌, ◌≢◌, List}
-use Rattle.cbor_head.specs.Limits.{Bounds}
+use Rattle.std.specs.Prelude.{ℕ, ◌≡◌, ◌≢◌}
 use Rattle.cbor_head.specs.Reason.{reason_number}
-use Rattle.cbor_head.specs.declared.order.KeyOrder.{KeyOrder}
+use Rattle.cbor_head.specs.Verdict.{refusal}
 use Rattle.cbor_head.specs.declared.reason.Reason.TheVariants.{Memory}
 use Rattle.cbor_head.specs.declared.reason.Refusal.{Refusal}
-use Rattle.cbor_reader.specs.Canonicalise.{IsRefusal}
-use Rattle.cbor_reader.specs.Canonicalise.{IsCanonicaliserReason}
 use Rattle.naltvigo.specs.declared.status.NaltvigoRefusal.{NaltvigoRefusal}
 
 -- by the number of its reason
 abbrev pub IsTold : Refusal → NaltvigoRefusal → Type 0
 IsTold f c = (c.reason ≡ reason_number f.reason) × (c.place ≡ f.place) × (c.read ≡ f.read)
 
--- the input has no canonical bytes within the limits, and this is told of it
-pub record IsRefused (limits : Bounds) (o : KeyOrder) (input : List ℕ) (c : NaltvigoRefusal) : Type 0 where
-  pub refusal : Refusal
-  pub refused : IsRefusal limits o input refusal
-  pub reason : IsCanonicaliserReason limits refusal.reason
-  pub not_memory : refusal.reason ≢ Memory
-  pub told : IsTold refusal c
+-- this is told of a refusal that P holds of, and that is not for want of memory
+pub record TellsOf (P : Refusal → Type 0) (c : NaltvigoRefusal) : Type 0 where
+  pub why : Refusal
+  pub holds : P why
+  pub not_memory : why.reason ≢ Memory
+  pub told : IsTold why c
 
--- memory was refused before that could be known, and this is told
-pub record LacksMemory (limits : Bounds) (o : KeyOrder) (input : List ℕ) (c : NaltvigoRefusal) : Type 0 where
-  pub refusal : Refusal
-  pub refused : IsRefusal limits o input refusal
-  pub memory : refusal.reason ≡ Memory
-  pub told : IsTold refusal c
+-- this is told of memory that was refused, with so many bytes as place and count
+abbrev pub TellsMemory : ℕ → NaltvigoRefusal → Type 0
+TellsMemory count c = IsTold (refusal Memory count count) c

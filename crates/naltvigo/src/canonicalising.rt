@@ -3,10 +3,11 @@
 ghost use Rattle.std.specs.Prelude.{◌≡◌, ◌≢◌, ◌↔◌, ◌<◌, ◌≤◌, ℕ, List, length, take, drop};
 ghost use Rattle.cbor_head.specs.Canonical.{canonical};
 ghost use Rattle.cbor_head.specs.Spelling.{Spelling, value_of};
-ghost use Rattle.cbor_reader.specs.Canonicalise.{IsCanonicalOf, TellsItsValue};
+ghost use Rattle.cbor_reader.specs.Canonicalise.{IsCanonicalOf, IsRefusal, TellsItsValue};
+ghost use Rattle.cbor_reader.specs.Canonicalise.{IsCanonicaliserReason};
 ghost use Rattle.cbor_reader.specs.Headline.{IsValidItem};
 ghost use Rattle.naltvigo.specs.Settings.{key_order, item_limits, AreLimits};
-ghost use Rattle.naltvigo.specs.Told.{IsRefused, LacksMemory};
+ghost use Rattle.naltvigo.specs.Told.{TellsMemory, TellsOf};
 
 use crate::buffer::give;
 use crate::settings::{limits_of, order_numbered};
@@ -49,13 +50,14 @@ pub extern "C" fn naltvigo_canonicalise_raw(
     ensures too_small { result ≡ TOO_SMALL → (x : List ℕ)
         × IsCanonicalOf (item_limits keys depth bytes) (key_order order) input.now x
         × (needed.new ≡ length x) × (length out.old < length x) }
-    ensures refused { result ≡ REFUSED → IsRefused (item_limits keys depth bytes) (key_order order)
-        input.now refusal.new }
+    ensures refused { result ≡ REFUSED
+        → TellsOf (IsRefusal (item_limits keys depth bytes) (key_order order) input.now) refusal.new }
+    ensures reason { result ≡ REFUSED
+        → TellsOf (λ f. IsCanonicaliserReason (item_limits keys depth bytes) f.reason) refusal.new }
     ensures none { result ≡ REFUSED
         → (s : Spelling) → IsValidItem (item_limits keys depth bytes) input.now s
         → bytes < length (canonical (key_order order) (value_of s)) }
-    ensures no_memory { result ≡ NO_MEMORY → LacksMemory (item_limits keys depth bytes) (key_order order)
-        input.now refusal.new }
+    ensures no_memory { result ≡ NO_MEMORY → TellsMemory 0 refusal.new }
     ensures bad_order { (result ≡ BAD_ORDER) ↔ (1 < order) }
     ensures bad_limits { result ≡ BAD_LIMITS → ¬ AreLimits keys depth bytes }
     ensures in_range { result ≢ BAD_ORDER → result ≢ BAD_LIMITS

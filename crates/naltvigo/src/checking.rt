@@ -4,10 +4,11 @@ ghost use Rattle.std.specs.Prelude.{◌≡◌, ◌≢◌, ◌↔◌, ◌⊎◌, 
 ghost use Rattle.cbor_head.specs.Complaint.{plain, strict};
 ghost use Rattle.cbor_head.specs.declared.reason.Reason.TheVariants as reasons;
 ghost use Rattle.cbor_reader.specs.Canonicalise.{IsCanonicalOf};
-ghost use Rattle.cbor_judging.specs.Readers.{IsRead, IsCanonicalFront};
+ghost use Rattle.cbor_judging.specs.Readers.{IsRead, IsCanonicalFront, TellsMemoryAtFront};
 ghost use Rattle.cbor_reader.specs.WholeItem.{IsWholeItem, IsItemRefusal};
 ghost use Rattle.naltvigo.specs.Settings.{key_order, item_limits, AreLimits};
-ghost use Rattle.naltvigo.specs.Checking.{HasNoWholeFront, IsNoItem, ItemLacksMemory};
+ghost use Rattle.naltvigo.specs.Checking.{HasNoWholeFront};
+ghost use Rattle.naltvigo.specs.Told.{TellsMemory, TellsOf};
 ghost use Rattle.naltvigo.specs.inner.Checking.{IsOwnAnswer, IsNotOwn};
 
 use crate::settings::{limits_of, order_numbered};
@@ -34,7 +35,8 @@ pub extern "C" fn naltvigo_check_canonical_raw(
     ensures canonical { result ≡ OK
         → IsCanonicalFront (item_limits keys depth bytes) (key_order order) input.now (length input.now) }
     ensures refused { result ≡ REFUSED
-        → IsNoItem (item_limits keys depth bytes) (strict (key_order order)) input.now refusal.new }
+        → TellsOf (IsItemRefusal (item_limits keys depth bytes) (strict (key_order order)) input.now)
+        refusal.new }
     ensures not_own { result ≡ REFUSED
         → ¬ IsCanonicalOf (item_limits keys depth bytes) (key_order order) input.now input.now }
     ensures front { result ≡ REFUSED
@@ -74,10 +76,9 @@ pub extern "C" fn naltvigo_check_valid_raw(
 ) -> u32
     ensures accepted { result ≡ OK → IsWholeItem (item_limits keys depth bytes) input.now }
     ensures refused { result ≡ REFUSED
-        → IsNoItem (item_limits keys depth bytes) plain input.now refusal.new }
+        → TellsOf (IsItemRefusal (item_limits keys depth bytes) plain input.now) refusal.new }
     ensures not_accepted { result ≡ REFUSED → ¬ IsWholeItem (item_limits keys depth bytes) input.now }
-    ensures no_memory { result ≡ NO_MEMORY
-        → ItemLacksMemory (item_limits keys depth bytes) input.now refusal.new }
+    ensures no_memory { result ≡ NO_MEMORY → TellsMemory 0 refusal.new }
     ensures bad_limits { (result ≡ BAD_LIMITS) → ¬ AreLimits keys depth bytes }
     ensures in_range { result ≢ BAD_LIMITS → AreLimits keys depth bytes }
     ensures statuses { (result ≡ OK) ⊎ (result ≡ REFUSED)
@@ -110,6 +111,7 @@ fn check_own_bytes(input: &[u8], limits: Limits, order: KeyOrder) -> Result<(), 
 pub(crate) fn check_whole_item(alloc: Global, input: &[u8], limits: Limits) -> Result<(), Refusal>
     ensures accepted { IfOk result (λ _. IsWholeItem limits input.now) }
     ensures refused { IfErr result (IsItemRefusal limits plain input.now) }
+    ensures memory { IfErr result TellsMemoryAtFront }
     ensures not_accepted { IfErr result (λ f. f.reason ≢ reasons.Memory
         → ¬ IsWholeItem limits input.now) }
 {

@@ -3,12 +3,13 @@
 ghost use Rattle.std.specs.Prelude.{◌≡◌, ◌≢◌, ◌⊎◌};
 ghost use Rattle.cbor_head.specs.Spelling.{Spelling, value_of};
 ghost use Rattle.cbor_head.specs.Value.{Same};
-ghost use Rattle.cbor_reader.specs.Comparing.{MeanTheSame};
+ghost use Rattle.cbor_reader.specs.Comparing.{IsSideRefusal, MeanTheSame};
 ghost use Rattle.cbor_reader.specs.Headline.{IsValidItem};
 ghost use Rattle.cbor_reader.specs.WholeItem.{IsWholeItem};
+ghost use Rattle.cbor_reader.specs.declared.comparison.Side.{Side};
 ghost use Rattle.naltvigo.specs.Comparing.{side_number as number_of};
-ghost use Rattle.naltvigo.specs.Comparing.{IsSideRefused, SideLacksMemory};
 ghost use Rattle.naltvigo.specs.Settings.{item_limits, AreLimits};
+ghost use Rattle.naltvigo.specs.Told.{TellsMemory, TellsOf};
 
 use crate::settings::limits_of;
 use crate::status::{BAD_LIMITS, DIFFERENT, NO_MEMORY, NaltvigoRefusal, OK, REFUSED, tell};
@@ -48,12 +49,13 @@ pub extern "C" fn naltvigo_compare_raw(
         → IsValidItem (item_limits keys depth bytes) left.now s
         → IsValidItem (item_limits keys depth bytes) right.now t
         → ¬ Same (value_of s) (value_of t) }
-    ensures refused { result ≡ REFUSED
-        → IsSideRefused (item_limits keys depth bytes) left.now right.now side.new refusal.new }
+    ensures refused { result ≡ REFUSED → (s : Side) × (side.new ≡ number_of s)
+        × TellsOf (IsSideRefusal (item_limits keys depth bytes) left.now right.now s) refusal.new }
     ensures only { result ≡ REFUSED → IsWholeItem (item_limits keys depth bytes) left.now
         → ¬ IsWholeItem (item_limits keys depth bytes) right.now }
-    ensures no_memory { result ≡ NO_MEMORY
-        → SideLacksMemory (item_limits keys depth bytes) left.now right.now side.new refusal.new }
+    ensures no_memory { result ≡ NO_MEMORY → TellsMemory 0 refusal.new }
+    ensures memory_side { result ≡ NO_MEMORY → (side.new ≡ LEFT)
+        ⊎ ((side.new ≡ RIGHT) × IsWholeItem (item_limits keys depth bytes) left.now) }
     ensures bad_limits { result ≡ BAD_LIMITS → ¬ AreLimits keys depth bytes }
     ensures in_range { result ≢ BAD_LIMITS → AreLimits keys depth bytes }
     ensures statuses { (result ≡ OK) ⊎ (result ≡ DIFFERENT) ⊎ (result ≡ REFUSED)

@@ -2,10 +2,10 @@
 
 ghost use Rattle.std.specs.Prelude.{◌≡◌, ◌≢◌, ◌⊎◌, ◌<◌, ◌≤◌, ℕ, List, length, take, drop};
 ghost use Rattle.cbor_head.specs.Complaint.{plain};
-ghost use Rattle.cbor_reader.specs.WholeItem.{IsWholeItem};
-ghost use Rattle.naltvigo.specs.Checking.{IsNoItem};
-ghost use Rattle.naltvigo.specs.Diagnosing.{IsTextOf, TextLacksMemory};
+ghost use Rattle.cbor_reader.specs.WholeItem.{IsItemRefusal, IsWholeItem};
+ghost use Rattle.naltvigo.specs.Diagnosing.{IsTextOf};
 ghost use Rattle.naltvigo.specs.Settings.{item_limits, AreLimits};
+ghost use Rattle.naltvigo.specs.Told.{TellsMemory, TellsOf};
 
 use crate::buffer::give;
 use crate::checking::check_whole_item;
@@ -36,10 +36,12 @@ pub extern "C" fn naltvigo_diagnostic_raw(
         → (x : List ℕ) × IsTextOf (item_limits keys depth bytes) input.now x
         × (needed.new ≡ length x) × (length out.old < length x) }
     ensures refused { result ≡ REFUSED
-        → IsNoItem (item_limits keys depth bytes) plain input.now refusal.new }
+        → TellsOf (IsItemRefusal (item_limits keys depth bytes) plain input.now) refusal.new }
     ensures not_accepted { result ≡ REFUSED → ¬ IsWholeItem (item_limits keys depth bytes) input.now }
-    ensures no_memory { result ≡ NO_MEMORY
-        → TextLacksMemory (item_limits keys depth bytes) input.now refusal.new }
+    // As the input was read; or behind it, for the text.
+    ensures no_memory { result ≡ NO_MEMORY → TellsMemory 0 refusal.new
+        ⊎ (IsWholeItem (item_limits keys depth bytes) input.now
+        × TellsMemory (length input.now) refusal.new) }
     ensures bad_limits { result ≡ BAD_LIMITS → ¬ AreLimits keys depth bytes }
     ensures in_range { result ≢ BAD_LIMITS → AreLimits keys depth bytes }
     ensures statuses { (result ≡ OK) ⊎ (result ≡ REFUSED) ⊎ (result ≡ TOO_SMALL)
@@ -75,7 +77,7 @@ fn give_text(
     ensures room { result ≡ OK → needed.new ≤ length out.old }
     ensures too_small { result ≡ TOO_SMALL → (x : List ℕ) × IsTextOf limits input.now x
         × (needed.new ≡ length x) × (length out.old < length x) }
-    ensures no_memory { result ≡ NO_MEMORY → TextLacksMemory limits input.now refusal.new }
+    ensures no_memory { result ≡ NO_MEMORY → TellsMemory (length input.now) refusal.new }
     ensures statuses { (result ≡ OK) ⊎ (result ≡ TOO_SMALL) ⊎ (result ≡ NO_MEMORY) }
     ensures kept { (result ≢ OK → out.new ≡ out.old)
         × (drop needed.new out.new ≡ drop needed.new out.old) }

@@ -2,9 +2,10 @@
 
 ghost use Rattle.std.specs.Prelude.{◌≡◌, ◌≢◌, ◌↔◌, ◌⊎◌, ◌<◌, ◌≤◌};
 ghost use Rattle.cbor_head.specs.Complaint.{plain, strict};
+ghost use Rattle.cbor_head.specs.Verdict.{IsVerdict, refused};
 ghost use Rattle.cbor_judging.specs.Readers.{HasNoCanonicalFront, IsCanonicalFront, IsRead};
 ghost use Rattle.naltvigo.specs.Settings.{key_order, item_limits, AreLimits};
-ghost use Rattle.naltvigo.specs.Sequence.{FrontLacksMemory, IsNoCanonicalFront, IsNoValidFront};
+ghost use Rattle.naltvigo.specs.Told.{TellsMemory, TellsOf};
 
 use crate::settings::{limits_of, order_numbered};
 use crate::status::{BAD_LIMITS, BAD_ORDER, NO_MEMORY, NaltvigoRefusal, OK, REFUSED, tell, told};
@@ -25,9 +26,9 @@ pub extern "C" fn naltvigo_next_valid_raw(
 ) -> u32
     ensures accepted { result ≡ OK → IsRead (item_limits keys depth bytes) plain input.now taken.new }
     ensures refused { result ≡ REFUSED
-        → IsNoValidFront (item_limits keys depth bytes) input.now refusal.new }
-    ensures no_memory { result ≡ NO_MEMORY
-        → FrontLacksMemory (item_limits keys depth bytes) input.now refusal.new }
+        → TellsOf (λ f. IsVerdict (item_limits keys depth bytes) plain input.now (refused f))
+        refusal.new }
+    ensures no_memory { result ≡ NO_MEMORY → TellsMemory 0 refusal.new }
     ensures bad_limits { result ≡ BAD_LIMITS → ¬ AreLimits keys depth bytes }
     ensures in_range { result ≢ BAD_LIMITS → AreLimits keys depth bytes }
     ensures statuses { (result ≡ OK) ⊎ (result ≡ REFUSED)
@@ -65,7 +66,8 @@ pub extern "C" fn naltvigo_next_canonical_raw(
     ensures canonical { result ≡ OK
         → IsCanonicalFront (item_limits keys depth bytes) (key_order order) input.now taken.new }
     ensures refused { result ≡ REFUSED
-        → IsNoCanonicalFront (item_limits keys depth bytes) (key_order order) input.now refusal.new }
+        → TellsOf (λ f. IsVerdict (item_limits keys depth bytes) (strict (key_order order)) input.now
+        (refused f)) refusal.new }
     ensures no_canonical { result ≡ REFUSED
         → HasNoCanonicalFront (item_limits keys depth bytes) (key_order order) input.now }
     ensures bad_order { (result ≡ BAD_ORDER) ↔ (1 < order) }

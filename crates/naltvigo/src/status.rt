@@ -2,7 +2,8 @@
 
 ghost use Rattle.std.specs.Prelude.{◌≡◌, ◌≢◌, ◌⊎◌};
 ghost use Rattle.cbor_head.specs.declared.reason.Reason.TheVariants as reasons;
-ghost use Rattle.naltvigo.specs.Told.{IsTold};
+ghost use Rattle.cbor_judging.specs.Readers.{TellsMemoryAtFront};
+ghost use Rattle.naltvigo.specs.Told.{IsTold, TellsMemory};
 
 use cbor_head::{Reason, Refusal};
 
@@ -53,8 +54,9 @@ pub(crate) fn told(refusal: Refusal) -> NaltvigoRefusal
 // Tells the refusal, and answers whether it is the input's or memory's.
 pub(crate) fn tell(refusal: Refusal, place: &mut NaltvigoRefusal) -> u32
     ensures told { IsTold refusal place.new }
-    ensures status { ((result ≡ REFUSED) × (refusal.reason ≢ reasons.Memory))
-        ⊎ ((result ≡ NO_MEMORY) × (refusal.reason ≡ reasons.Memory)) }
+    ensures refused { result ≡ REFUSED → refusal.reason ≢ reasons.Memory }
+    ensures no_memory { result ≡ NO_MEMORY → TellsMemoryAtFront refusal → TellsMemory 0 place.new }
+    ensures statuses { (result ≡ REFUSED) ⊎ (result ≡ NO_MEMORY) }
 {
     *place = told(refusal);
     match refusal.reason {

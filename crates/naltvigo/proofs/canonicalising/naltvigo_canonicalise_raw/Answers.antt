@@ -1,6 +1,10 @@
-use Rattle.std.proofs.Common.{rules, ℕ, ◌≡◌, List, length, take, sym, ap, ◌∙◌, inl, inr}
-use Rattle.naltvigo.specs.Settings.{item_limits}
-use Rattle.naltvigo.proofs.Given.{given-tells, given-item, given-refused}
+use Rattle.std.proofs.Common.{ℕ, ◌≡◌, List, length, take, sym, ap, ◌∙◌}
+use Rattle.cbor_head.specs.Limits.{Bounds}
+use Rattle.cbor_head.specs.declared.order.KeyOrder.{KeyOrder}
+use Rattle.cbor_head.specs.declared.reason.Refusal.{Refusal}
+use Rattle.cbor_reader.specs.Canonicalise.{IsCanonicaliserReason, IsRefusal}
+use Rattle.naltvigo.specs.Settings.{item_limits, key_order}
+use Rattle.naltvigo.proofs.Given.{given-tells, given-item, given-told}
 use Rattle.naltvigo.proofs.canonicalising.naltvigo_canonicalise_raw.Goals as goal
 
 in_buffer : (out answer items : List ℕ) (needed : ℕ) → needed ≡ length answer → take (length answer) out ≡ answer → answer ≡ items → take needed out ≡ items
@@ -20,12 +24,11 @@ returns-in-Ok-clause-equal c = λ e.
 
 pub returns-in-Err-clause-refused : goal.returns-in-Err-clause-refused
 returns-in-Err-clause-refused c = λ e.
-    given-refused _ (item_limits c.args.keys c.args.depth c.args.bytes) _ _ c.args.input.now _
-    (sym c.in-Some-limits_of.ensures.value.0) (sym c.in-Some.ensures.value.0)
-    record {
-      refusal = c.in-Err.reason;
-      refused = c.in-Err.ensures.answer;
-      reason = c.in-Err.ensures.reason;
-      not_memory = elim c.tell.ensures.status [ inl h ↦ h.1 | inr h ↦ absurd (search rules) ];
-      told = c.tell.ensures.told;
-    }
+    given-told (λ (b : Bounds). IsRefusal b (key_order c.args.order) c.args.input.now) c.in-Some-limits_of.ensures.value.0
+    (given-told (λ (o : KeyOrder). IsRefusal c.in-Some-limits_of.limits o c.args.input.now) c.in-Some.ensures.value.0
+    record { why = c.in-Err.reason; holds = c.in-Err.ensures.answer; not_memory = c.tell.ensures.refused e; told = c.tell.ensures.told })
+
+pub returns-in-Err-clause-reason : goal.returns-in-Err-clause-reason
+returns-in-Err-clause-reason c = λ e.
+    given-told (λ (b : Bounds) (f : Refusal). IsCanonicaliserReason b f.reason) c.in-Some-limits_of.ensures.value.0
+    record { why = c.in-Err.reason; holds = c.in-Err.ensures.reason; not_memory = c.tell.ensures.refused e; told = c.tell.ensures.told }

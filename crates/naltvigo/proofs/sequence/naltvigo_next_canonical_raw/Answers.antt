@@ -1,9 +1,25 @@
 use Rattle.std.proofs.Common.{subst}
+use Rattle.cbor_head.specs.Complaint.{strict}
 use Rattle.cbor_head.specs.Limits.{Bounds}
+use Rattle.cbor_head.specs.Verdict.{IsVerdict, refused}
 use Rattle.cbor_head.specs.declared.order.KeyOrder.{KeyOrder}
+use Rattle.cbor_head.specs.declared.reason.Refusal.{Refusal}
+use Rattle.cbor_judging.proofs.Reasons.{never-memory}
 use Rattle.cbor_judging.specs.Readers.{HasNoCanonicalFront}
 use Rattle.naltvigo.specs.Settings.{key_order}
+use Rattle.naltvigo.proofs.Given.{given-told}
 use Rattle.naltvigo.proofs.sequence.naltvigo_next_canonical_raw.Goals as goal
+
+pub returns-in-Err-clause-refused : goal.returns-in-Err-clause-refused
+returns-in-Err-clause-refused c = λ _.
+    given-told (λ (b : Bounds) (f : Refusal). IsVerdict b (strict (key_order c.args.order)) c.args.input.now (refused f)) c.in-Some-limits_of.ensures.value.0
+    (given-told (λ (o : KeyOrder) (f : Refusal). IsVerdict c.in-Some-limits_of.limits (strict o) c.args.input.now (refused f)) c.in-Some.ensures.value.0
+    record {
+      why = c.in-Err.reason;
+      holds = c.in-Err.ensures.refused;
+      not_memory = never-memory c.in-Some-limits_of.limits _ c.args.input.now c.in-Err.reason c.in-Err.ensures.refused;
+      told = c.told.ensures;
+    })
 
 pub returns-in-Err-clause-no_canonical : goal.returns-in-Err-clause-no_canonical
 returns-in-Err-clause-no_canonical c = λ _.
