@@ -42,15 +42,19 @@ Orders = Choice (codes "bytewise" ∷ codes "length" ∷ [])
 abbrev pub Kinds : Type 0
 Kinds = Choice (codes "any" ∷ codes "basic" ∷ [])
 
+-- `--order`: bytewise, where it is left out
 abbrev pub order : Orders → Rule
 order orders = option (codes "order") (codes "bytewise") (parser.Names orders.0)
 
+-- `--keys`: any, where it is left out
 abbrev pub keys : Kinds → Rule
 keys kinds = option (codes "keys") (codes "any") (parser.Names kinds.0)
 
+-- `--depth`: 256, where it is left out, up to the greatest
 abbrev pub depth : Rule
 depth = option (codes "depth") (codes "256") (parser.Signed (pos 0) (pos MAX_DEPTH))
 
+-- `--bytes`: 1048576, where it is left out, up to 2^62
 abbrev pub bytes : Rule
 bytes = option (codes "bytes") (codes "1048576") (parser.Unsigned 0 (2 ^ 62))
 
@@ -62,20 +66,25 @@ options kinds = depth ∷ bytes ∷ keys kinds ∷ flag (codes "hex") ∷ flag (
 abbrev pub subcommand : Text → List Rule → Kinds → Shape
 subcommand name rules kinds = record (new_shape name) { rules = rules ++ options kinds }
 
+-- the subcommand `show`
 abbrev pub show : Kinds → Shape
 show = subcommand (codes "show") (file (codes "FILE") ∷ flag (codes "indent") ∷ sequence ∷ [])
 
+-- the subcommand `events`
 abbrev pub events : Kinds → Shape
 events = subcommand (codes "events") (file (codes "FILE") ∷ sequence ∷ [])
 
+-- the subcommand `check`
 abbrev pub check : Orders → Kinds → Shape
 check orders = subcommand (codes "check")
     (file (codes "FILE") ∷ flag (codes "strict") ∷ sequence ∷ order orders ∷ [])
 
+-- the subcommand `canon`
 abbrev pub canon : Orders → Kinds → Shape
 canon orders = subcommand (codes "canon")
     (file (codes "IN") ∷ file (codes "OUT") ∷ flag (codes "hex-out") ∷ sequence ∷ order orders ∷ [])
 
+-- the subcommand `compare`
 abbrev pub compare : Kinds → Shape
 compare = subcommand (codes "compare") (file (codes "A") ∷ file (codes "B") ∷ [])
 

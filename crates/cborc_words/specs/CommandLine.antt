@@ -88,10 +88,11 @@ abbrev pub reads_stream_twice : Request → Bool
 reads_stream_twice (Compare left right options) = is_stream left.now && is_stream right.now
 reads_stream_twice _ = false
 
--- the file is one item; or a sequence of them
+-- the file is one item: `--seq` is not given
 abbrev pub IsOneItem : List Row → Type 0
 IsOneItem rows = one_of (codes "seq") rows ≢ Some (codes "true")
 
+-- it is a sequence of items: `--seq` is given
 abbrev pub IsSequence : List Row → Type 0
 IsSequence rows = one_of (codes "seq") rows ≢ Some (codes "false")
 

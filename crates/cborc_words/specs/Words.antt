@@ -8,6 +8,7 @@ use Rattle.cborc_words.specs.CommandLine.{reads_stream_twice, AsksFor, AsksForTa
 use Rattle.cborc_input.specs.declared.request.Request.{Request}
 use Rattle.cborc_input.specs.declared.request.Task.{Task}
 
+-- the bytes of each of these words
 abbrev pub texts_of : {Z : Type 0} → List (String Z) → List Text
 texts_of = map string_bytes
 
