@@ -11,11 +11,11 @@ use Rattle.cbor_head.specs.declared.reason.Refusal.{Refusal}
 use Rattle.cborc_commands.specs.Answer.{IsDone, IsNotDone}
 use Rattle.cborc_input.specs.Put.{IsPut, printed, written}
 use Rattle.cborc_input.specs.Rules.{rules_of}
-use Rattle.cborc_input.specs.Texts.{IsNotTaken}
-use Rattle.cborc_sequences.specs.CanonSequence.{IsSent, passed, apart, IsSequenceNotCanonised}
+use Rattle.cborc_input.specs.Texts.{GoesInPart}
+use Rattle.cborc_sequences.specs.CanonSequence.{IsSequenceNotCanonised}
 use Rattle.cborc_items.specs.Canon.{IsNotCanonised}
 use Rattle.cborc_items.specs.Check.{IsNotChecked}
-use Rattle.cborc_items.specs.Compare.{IsTold, IsToldInPart, same, different, IsUntold, AreNotCompared}
+use Rattle.cborc_items.specs.Compare.{IsTold, IsUntold, AreNotCompared}
 use Rattle.cborc_items.specs.Events.{IsNotListed, IsNotListedOf}
 use Rattle.cborc_sequences.specs.CheckSequence.{IsSequenceNotChecked}
 use Rattle.cborc_sequences.specs.EventsSequence.{IsListedSoFar, items_listed, front_listed, IsSequenceNotListed}
@@ -45,20 +45,24 @@ module _ (before mid after : Option (List ℕ)) (keeps : Keeps mid after) where
   put_sent path old new text (printed s p k) = printed s (appends_kept before mid after text p keeps) k
   put_sent path old new text (written s r o) = written s r (Keeps-trans before mid after o keeps)
 
-  told_sent : (limits : Bounds) (left right : List ℕ) (s : Status) → IsTold limits left right before mid s → IsTold limits left right before after s
-  told_sent limits left right statuses.Accepted (a, m, t) = (a, m, appends_kept before mid after _ t keeps)
-  told_sent limits left right statuses.Refused (a, m, t) = (a, m, appends_kept before mid after _ t keeps)
-  told_sent limits left right _ h = absurd h
+  -- of a line all bytes, or the first ones
+  line_sent : (line : List ℕ) → Appends before mid line → Appends before after line
+  line_sent line t = appends_kept before mid after line t keeps
 
-  -- the first bytes of a line
-  part_sent : (line : List ℕ) → IsNotTaken line before mid faults.CannotPrint → IsNotTaken line before after faults.CannotPrint
-  part_sent line (count, part, taken) = (count, part, appends_kept before mid after _ taken keeps)
+  part_sent : (text : List ℕ) → GoesInPart before mid text → GoesInPart before after text
+  part_sent text (count, part, taken) = (count, part, appends_kept before mid after _ taken keeps)
+
+  told_sent : (Told More : List ℕ → Type 0) → ((line : List ℕ) → Told line → More line) → (limits : Bounds) (left right : List ℕ) (s : Status)
+      → IsTold limits left right Told s → IsTold limits left right More s
+  told_sent Told More sent limits left right statuses.Accepted (a, m, t) = (a, m, sent _ t)
+  told_sent Told More sent limits left right statuses.Refused (a, m, t) = (a, m, sent _ t)
+  told_sent Told More sent limits left right _ h = absurd h
 
   not_checked_sent : (rules : Rules) (options : Options) (source : List ℕ) (held : Option Files) (fault : Fault) → IsNotChecked rules options source held before mid fault
       → IsNotChecked rules options source held before after fault
   not_checked_sent rules options source held (faults.Refused f) h = h
   not_checked_sent rules options source held faults.CannotPrint h =
-      record { input = h.input; is = h.is; size = h.size; whole = h.whole; taken = part_sent _ h.taken }
+      record { input = h.input; is = h.is; size = h.size; whole = h.whole; told = part_sent _ h.told }
   not_checked_sent rules options source held (faults.CannotRead named) h = h
   not_checked_sent rules options source held (faults.NotHex named) h = h
   not_checked_sent rules options source held faults.Memory h = h
@@ -68,21 +72,17 @@ module _ (before mid after : Option (List ℕ)) (keeps : Keeps mid after) where
       → IsSequenceNotChecked rules options source held before after fault
   uncounted_sent rules options source held (faults.RefusedItem index start f) h = h
   uncounted_sent rules options source held faults.CannotPrint h =
-      record { input = h.input; is = h.is; count = h.count; whole = h.whole; taken = part_sent _ h.taken }
+      record { input = h.input; is = h.is; count = h.count; whole = h.whole; told = part_sent _ h.told }
   uncounted_sent rules options source held (faults.CannotRead named) h = h
   uncounted_sent rules options source held (faults.NotHex named) h = h
   uncounted_sent rules options source held faults.Memory h = h
   uncounted_sent rules options source held _ h = absurd h
 
-  told_in_part_sent : (limits : Bounds) (left right : List ℕ) → IsToldInPart limits left right before mid → IsToldInPart limits left right before after
-  told_in_part_sent limits left right (same a m t) = same a m (part_sent _ t)
-  told_in_part_sent limits left right (different a m t) = different a m (part_sent _ t)
-
   untold_sent : (limits : Bounds) (left right : List ℕ) (fault : Fault) → IsUntold limits left right before mid fault → IsUntold limits left right before after fault
   untold_sent limits left right (faults.LeftRefused f) h = h
   untold_sent limits left right (faults.RightRefused f) h = h
   untold_sent limits left right faults.Memory h = h
-  untold_sent limits left right faults.CannotPrint h = told_in_part_sent limits left right h
+  untold_sent limits left right faults.CannotPrint (s, h) = (s, told_sent (GoesInPart before mid) (GoesInPart before after) part_sent limits left right s h)
   untold_sent limits left right _ h = absurd h
 
   not_compared_sent : (options : Options) (left right : List ℕ) (held : Option Files) (fault : Fault) → AreNotCompared options left right held before mid fault
@@ -113,13 +113,8 @@ module _ (before mid after : Option (List ℕ)) (keeps : Keeps mid after) where
 
   events_sent : (options : Options) (source : List ℕ) (held : Option Files) (fault : Fault) → IsNotListedOf options source held before mid fault
       → IsNotListedOf options source held before after fault
-  events_sent options source held (faults.Refused f) (input, is, h) = (input, is, not_listed_sent options.limits input (faults.Refused f) h)
-  events_sent options source held faults.CannotPrint (input, is, h) = (input, is, not_listed_sent options.limits input faults.CannotPrint h)
-  events_sent options source held (faults.CannotRead named) (h, k) = (h, Keeps-trans before mid after k keeps)
-  events_sent options source held (faults.NotHex named) (h, k) = (h, Keeps-trans before mid after k keeps)
-  events_sent options source held faults.Memory (inl k) = inl (Keeps-trans before mid after k keeps)
-  events_sent options source held faults.Memory (inr (input, is, h)) = inr (input, is, not_listed_sent options.limits input faults.Memory h)
-  events_sent options source held _ h = absurd h.0
+  events_sent options source held fault (inl (input, is, h)) = inl (input, is, not_listed_sent options.limits input fault h)
+  events_sent options source held fault (inr (h, k)) = inr (h, Keeps-trans before mid after k keeps)
 
   cut_sent : (P : Spelling → Type 0) (text : Spelling → List ℕ) (bytes : List ℕ) → IsCutIn P text bytes before mid → IsCutIn P text bytes before after
   cut_sent P text bytes h = record {
@@ -140,18 +135,8 @@ module _ (before mid after : Option (List ℕ)) (keeps : Keeps mid after) where
   not_canonised_sent : (o : KeyOrder) (options : Options) (source : List ℕ) (output : Output) (held : Option Files) (fault : Fault)
       → IsNotCanonised o options source output held before mid fault → IsNotCanonised o options source output held before after fault
   not_canonised_sent o options source output held (faults.Refused f) h = h
-  not_canonised_sent o options source output held faults.CannotPrint (p, n) = (
-    record {
-      input = p.input;
-      is = p.is;
-      text = p.text;
-      canonical = p.canonical;
-      count = p.count;
-      part = p.part;
-      taken = appends_kept before mid after _ p.taken keeps;
-    },
-    n,
-  )
+  not_canonised_sent o options source output held faults.CannotPrint (h, n) =
+      (record { input = h.input; is = h.is; text = h.text; canonical = h.canonical; told = part_sent h.text h.told }, n)
   not_canonised_sent o options source output held (faults.CannotWrite named) h = h
   not_canonised_sent o options source output held (faults.CannotRead named) h = h
   not_canonised_sent o options source output held (faults.NotHex named) h = h
@@ -161,15 +146,8 @@ module _ (before mid after : Option (List ℕ)) (keeps : Keeps mid after) where
   unshown_sent : (layout : Layout) (options : Options) (source : List ℕ) (held : Option Files) (fault : Fault) → IsNotShown layout options source held before mid fault
       → IsNotShown layout options source held before after fault
   unshown_sent layout options source held (faults.Refused f) h = h
-  unshown_sent layout options source held faults.CannotPrint h = record {
-    input = h.input;
-    is = h.is;
-    value = h.value;
-    whole = h.whole;
-    count = h.count;
-    part = h.part;
-    taken = appends_kept before mid after _ h.taken keeps;
-  }
+  unshown_sent layout options source held faults.CannotPrint h =
+      record { input = h.input; is = h.is; value = h.value; whole = h.whole; told = part_sent _ h.told }
   unshown_sent layout options source held (faults.CannotRead named) (h, k) = (h, Keeps-trans before mid after k keeps)
   unshown_sent layout options source held (faults.NotHex named) (h, k) = (h, Keeps-trans before mid after k keeps)
   unshown_sent layout options source held faults.Memory (h, k) = (h, Keeps-trans before mid after k keeps)
@@ -183,8 +161,7 @@ module _ (before mid after : Option (List ℕ)) (keeps : Keeps mid after) where
     items = h.items;
     rest = h.rest;
     goes_on = h.goes_on;
-    refused = h.refused;
-    of_input = h.of_input;
+    verdict = h.verdict;
     shown = appends_kept before mid after _ h.shown keeps;
   }
   shown_sent layout options source held faults.CannotPrint (input, is, h) = (input, is, cut_sent _ _ input h)
@@ -208,7 +185,6 @@ module _ (before mid after : Option (List ℕ)) (keeps : Keeps mid after) where
     goes_on = h.goes_on;
     shown = h.shown;
     refused = h.refused;
-    of_input = h.of_input;
     listed = appends_kept before mid after _ h.listed keeps;
   }
   lines_sent options source held faults.CannotPrint h = record {
@@ -228,10 +204,6 @@ module _ (before mid after : Option (List ℕ)) (keeps : Keeps mid after) where
   lines_sent options source held faults.Memory (h, w) = (h, lines_so_far_sent options source held w)
   lines_sent options source held _ h = absurd h.0
 
-  passed_on : (path : List ℕ) (taken more : Type 0) → (taken → more) → IsSent path before mid taken → IsSent path before after more
-  passed_on path taken more f (passed s t) = passed s (f t)
-  passed_on path taken more f (apart s k) = apart s (Keeps-trans before mid after k keeps)
-
   canonised_sent : (o : KeyOrder) (options : Options) (source : List ℕ) (output : Output) (held : Option Files) (fault : Fault)
       → IsSequenceNotCanonised o options source output held before mid fault → IsSequenceNotCanonised o options source output held before after fault
   canonised_sent o options source output held (faults.RefusedItem index start f) h = record {
@@ -241,27 +213,26 @@ module _ (before mid after : Option (List ℕ)) (keeps : Keeps mid after) where
     rest = h.rest;
     goes_on = h.goes_on;
     refused = h.refused;
-    of_input = h.of_input;
-    sent = passed_on output.path.now _ _ (λ t. appends_kept before mid after _ t keeps) h.sent;
+    sent = λ s. line_sent _ (h.sent s);
   }
   canonised_sent o options source output held faults.CannotPrint (s, (input, is, h)) = (s, (input, is, cut_sent _ _ input h))
-  canonised_sent o options source output held (faults.CannotWrite named) (s, t, k) = (s, t, Keeps-trans before mid after k keeps)
-  canonised_sent o options source output held (faults.CannotRead named) (h, w) = (h, passed_on output.path.now _ _ (so_far_sent _ _ options source held) w)
-  canonised_sent o options source output held (faults.NotHex named) (h, w) = (h, passed_on output.path.now _ _ (so_far_sent _ _ options source held) w)
-  canonised_sent o options source output held faults.Memory (h, w) = (h, passed_on output.path.now _ _ (so_far_sent _ _ options source held) w)
+  canonised_sent o options source output held (faults.CannotWrite named) h = h
+  canonised_sent o options source output held (faults.CannotRead named) (h, w) = (h, λ s. so_far_sent _ _ options source held (w s))
+  canonised_sent o options source output held (faults.NotHex named) (h, w) = (h, λ s. so_far_sent _ _ options source held (w s))
+  canonised_sent o options source output held faults.Memory (h, w) = (h, λ s. so_far_sent _ _ options source held (w s))
   canonised_sent o options source output held _ h = absurd h.0
 
   pub done_sent : (request : Request) (old new : Option Files) (s : Status) → IsDone request old new before mid s → IsDone request old new before after s
   done_sent (Check source accepted options) old new statuses.Accepted (h, k) =
-      (record { input = h.input; is = h.is; size = h.size; whole = h.whole; told = appends_kept before mid after _ h.told keeps }, k)
+      (record { input = h.input; is = h.is; size = h.size; whole = h.whole; told = line_sent _ h.told }, k)
   done_sent (CheckSequence source accepted options) old new statuses.Accepted (h, k) =
-      (record { input = h.input; is = h.is; count = h.count; whole = h.whole; told = appends_kept before mid after _ h.told keeps }, k)
+      (record { input = h.input; is = h.is; count = h.count; whole = h.whole; told = line_sent _ h.told }, k)
   done_sent (Canon source output order options) old new statuses.Accepted h =
-      record { input = h.input; is = h.is; text = h.text; canonical = h.canonical; put = put_sent output.path.now old new h.text h.put }
+      record { input = h.input; is = h.is; text = h.text; canonical = h.canonical; told = put_sent output.path.now old new h.text h.told }
   done_sent (CanonSequence source output order options) old new statuses.Accepted h =
       record { input = h.input; is = h.is; items = h.items; all = h.all; put = put_sent output.path.now old new _ h.put }
   done_sent (Show source layout options) old new statuses.Accepted (h, k) =
-      (record { input = h.input; is = h.is; value = h.value; whole = h.whole; shown = appends_kept before mid after _ h.shown keeps }, k)
+      (record { input = h.input; is = h.is; value = h.value; whole = h.whole; told = line_sent _ h.told }, k)
   done_sent (ShowSequence source layout options) old new statuses.Accepted (h, k) =
       (record { input = h.input; is = h.is; items = h.items; all = h.all; shown = appends_kept before mid after _ h.shown keeps }, k)
   done_sent (Events source options) old new statuses.Accepted (h, k) =
@@ -269,7 +240,7 @@ module _ (before mid after : Option (List ℕ)) (keeps : Keeps mid after) where
   done_sent (EventsSequence source options) old new statuses.Accepted (h, k) =
       (record { input = h.input; is = h.is; items = h.items; all = h.all; listed = appends_kept before mid after _ h.listed keeps }, k)
   done_sent (Compare left right options) old new s (h, k) =
-      (record { first = h.first; second = h.second; are = h.are; told = told_sent _ h.first h.second s h.told }, k)
+      (record { first = h.first; second = h.second; are = h.are; told = told_sent (Appends before mid) (Appends before after) line_sent _ h.first h.second s h.told }, k)
   done_sent _ old new _ h = absurd h
 
   pub not_done_sent : (request : Request) (held : Option Files) (fault : Fault) → IsNotDone request held before mid fault → IsNotDone request held before after fault

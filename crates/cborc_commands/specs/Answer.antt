@@ -1,7 +1,9 @@
 -- What comes of a request.
 use Rattle.std.specs.Prelude.{ℕ, List, Option}
-use Rattle.cborc_items.specs.Canon.{IsCanonised, IsNotCanonised}
+use Rattle.std.specs.Io.KnownBytes.{Appends}
+use Rattle.cborc_items.specs.Canon.{HasText, IsNotCanonised}
 use Rattle.cborc_sequences.specs.CanonSequence.{IsSequenceCanonised, IsSequenceNotCanonised}
+use Rattle.cborc_input.specs.Put.{IsPut}
 use Rattle.cborc_input.specs.Rules.{rules_of}
 use Rattle.cborc_items.specs.Check.{IsChecked, IsNotChecked}
 use Rattle.cborc_sequences.specs.CheckSequence.{IsSequenceChecked, IsSequenceNotChecked}
@@ -19,13 +21,14 @@ use Rattle.cborc_input.specs.declared.status.Status.TheVariants.{Accepted}
 
 -- what a request's answer tells, by its subcommand and status; no file is changed but by `canon`
 abbrev pub IsDone : Request → Option Files → Option Files → Option (List ℕ) → Option (List ℕ) → Status → Type 0
-IsDone (Check source accepted options) old new before after Accepted = IsChecked (rules_of accepted) options source.now old before after × KeepsFiles old new
+IsDone (Check source accepted options) old new before after Accepted = IsChecked (rules_of accepted) options source.now old (Appends before after) × KeepsFiles old new
 IsDone (CheckSequence source accepted options) old new before after Accepted =
-    IsSequenceChecked (rules_of accepted) options source.now old before after × KeepsFiles old new
-IsDone (Canon source output order options) old new before after Accepted = IsCanonised order options source.now output old new before after
+    IsSequenceChecked (rules_of accepted) options source.now old (Appends before after) × KeepsFiles old new
+IsDone (Canon source output order options) old new before after Accepted =
+    HasText order options source.now output.form old (IsPut output.path.now old new before after)
 IsDone (CanonSequence source output order options) old new before after Accepted =
     IsSequenceCanonised order options source.now output old new before after
-IsDone (Show source layout options) old new before after Accepted = IsShownOf layout options source.now old before after × KeepsFiles old new
+IsDone (Show source layout options) old new before after Accepted = IsShownOf layout options source.now old (Appends before after) × KeepsFiles old new
 IsDone (ShowSequence source layout options) old new before after Accepted =
     IsSequenceShown layout options source.now old before after × KeepsFiles old new
 IsDone (Events source options) old new before after Accepted = IsListedOf options source.now old before after × KeepsFiles old new

@@ -39,8 +39,12 @@ abbrev pub shown_text : Layout → Value → List ℕ
 shown_text OneLine v = text v ++ codes "\n"
 shown_text Indented v = indented 0 v ++ codes "\n"
 
+-- of a text the first bytes went out, not all
+abbrev pub GoesInPart : Option (List ℕ) → Option (List ℕ) → List ℕ → Type 0
+GoesInPart before after text = (count : ℕ) × (count < length text) × Appends before after (take count text)
+
 -- why a text was not taken whole: the output failed behind the first of its bytes, or memory was refused before
 abbrev pub IsNotTaken : List ℕ → Option (List ℕ) → Option (List ℕ) → Fault → Type 0
-IsNotTaken text before after faults.CannotPrint = (count : ℕ) × (count < length text) × Appends before after (take count text)
+IsNotTaken text before after faults.CannotPrint = GoesInPart before after text
 IsNotTaken text before after faults.Memory = after ≡ before
 IsNotTaken text before after _ = ⊥

@@ -1,5 +1,5 @@
 -- Which fault a part of a subcommand passes on, and what it tells of the whole.
-use Rattle.std.proofs.Common.{ℕ, ◌≡◌, ◌<◌, ◌++◌, inl, inr, List, length, take, Option, refl, sym, subst}
+use Rattle.std.proofs.Common.{ℕ, ◌≡◌, ◌++◌, inl, List, length, Option, refl, sym, subst}
 use Rattle.cbor_diag.specs.Listing.{IsListed}
 use Rattle.cbor_head.specs.Complaint.{Rules, plain}
 use Rattle.cbor_head.specs.Limits.{Bounds}
@@ -17,13 +17,13 @@ use Rattle.cborc_items.proofs.Files.{put_kept}
 use Rattle.cborc_fronts.proofs.Files.{input_before}
 use Rattle.cborc_items.proofs.Fronts.{canonical_whole, refusal_whole, is_whole, is_all_of, listed_whole, not_listed_whole, whole_item, item_refusal_whole}
 use Rattle.cborc_items.proofs.Whole.{AreAccepted, read_as}
-use Rattle.cborc_input.specs.Texts.{IsCanonicalText, IsNoText, IsNotTaken, shown_text}
+use Rattle.cborc_input.specs.Texts.{GoesInPart, IsCanonicalText, IsNoText, IsNotTaken, shown_text}
 use Rattle.cborc_input.specs.Put.{IsPut, IsNotPut}
-use Rattle.cborc_items.specs.Canon.{IsCanonised, IsNotCanonised}
+use Rattle.cborc_items.specs.Canon.{HasText, IsNotCanonised}
 use Rattle.cborc_input.specs.Start.{StartsInput}
 use Rattle.cborc_fronts.specs.Decided.{IsEnough}
 use Rattle.cborc_items.specs.Check.{accepted_bytes, IsWhole, IsChecked, IsNotChecked}
-use Rattle.cborc_items.specs.Compare.{IsTold, IsToldInPart, same, different, IsUntold, AreInputs, AreCompared, AreNotCompared}
+use Rattle.cborc_items.specs.Compare.{IsTold, IsUntold, AreInputs, AreCompared, AreNotCompared}
 use Rattle.cborc_items.specs.Events.{IsNotListed, IsListedOf, IsNotListedOf}
 use Rattle.cborc_input.specs.Fault.{IsOfInput, refusal_fault}
 use Rattle.cborc_files.specs.Folder.{Files, KeepsFiles}
@@ -50,17 +50,16 @@ module _ (o : KeyOrder) (options : Options) (source : List ℕ) (output : Output
 
   pub canonised : (mid new : Option Files) (before after : Option (List ℕ)) (bytes text : List ℕ) → StartsInput held source options bytes
       → IsCanonicalText options.limits o output.form bytes text → KeepsFiles held mid → IsPut output.path.now mid new before after text
-      → IsCanonised o options source output held new before after
+      → HasText o options source output.form held (IsPut output.path.now held new before after)
   canonised mid new before after bytes text s t k p =
-      record { input = s.input; is = s.is; text = text; canonical = text_whole bytes text s t; put = put_kept output.path.now held mid new before after text k p }
+      record { input = s.input; is = s.is; text = text; canonical = text_whole bytes text s t; told = put_kept output.path.now held mid new before after text k p }
 
   pub not_put : (before after : Option (List ℕ)) (bytes text : List ℕ) → StartsInput held source options bytes → IsCanonicalText options.limits o output.form bytes text
-      → (fault : Fault) → IsNotPut output.path.now fault × (fault ≡ faults.CannotPrint → (count : ℕ) × (count < length text) × Appends before after (take count text))
+      → (fault : Fault) → IsNotPut output.path.now fault × (fault ≡ faults.CannotPrint → GoesInPart before after text)
       → IsNotCanonised o options source output held before after fault
   not_put before after bytes text s t faults.CannotPrint (h, cut) =
-      let k = cut refl in
-      (record { input = s.input; is = s.is; text = text; canonical = text_whole bytes text s t; count = k.0; part = k.1; taken = k.2 }, h)
-  not_put before after bytes text s t (faults.CannotWrite named) (h, cut) = (record { input = s.input; is = s.is; text = text; canonical = text_whole bytes text s t }, h)
+      (record { input = s.input; is = s.is; text = text; canonical = text_whole bytes text s t; told = cut refl }, h)
+  not_put before after bytes text s t (faults.CannotWrite named) (h, cut) = record { input = s.input; is = s.is; text = text; canonical = text_whole bytes text s t; told = h }
   not_put before after bytes text s t faults.Memory h = tt
   not_put before after bytes text s t _ h = absurd h.0
 
@@ -80,13 +79,12 @@ module _ (rules : Rules) (options : Options) (source : List ℕ) (held : Option 
   whole_of : (size : ℕ) → IsWhole options.limits rules bytes size → IsWhole options.limits rules s.input size
   whole_of size w = subst (λ (b : List ℕ). IsWhole options.limits rules b size) s.splits (is_whole options.limits bytes s.behind s.enough rules size w)
 
-  pub checked : (size : ℕ) (before after : Option (List ℕ)) → IsWhole options.limits rules bytes size
-      → Appends before after (accepted_bytes size) → IsChecked rules options source held before after
-  checked size before after w t = record { input = s.input; is = s.is; size = size; whole = whole_of size w; told = t }
+  pub checked : (size : ℕ) → IsWhole options.limits rules bytes size → (Told : List ℕ → Type 0) → Told (accepted_bytes size) → IsChecked rules options source held Told
+  checked size w Told t = record { input = s.input; is = s.is; size = size; whole = whole_of size w; told = t }
 
   pub untold : (size : ℕ) (before after : Option (List ℕ)) → IsWhole options.limits rules bytes size → (fault : Fault)
       → IsNotTaken (accepted_bytes size) before after fault → IsNotChecked rules options source held before after fault
-  untold size before after w faults.CannotPrint h = record { input = s.input; is = s.is; size = size; whole = whole_of size w; taken = h }
+  untold size before after w faults.CannotPrint h = checked size w (GoesInPart before after) h
   untold size before after w faults.Memory h = tt
   untold size before after w _ h = absurd h
 
@@ -110,15 +108,17 @@ module _ (options : Options) (source : List ℕ) (held : Option Files) (bytes : 
         subst (λ (b : List ℕ). IsReadAs options.limits plain b (value_of w.0.item) (length b)) s.splits
         (is_all_of options.limits bytes s.behind s.enough (value_of w.0.item) (read_as options.limits bytes size w))
 
+    shown_by : (layout : Layout) (Told : List ℕ → Type 0) → Told (shown_text layout (value_of w.0.item)) → IsShownOf layout options source held Told
+    shown_by layout Told h = record { input = s.input; is = s.is; value = value_of w.0.item; whole = read_whole; told = h }
+
     pub shown_of : (layout : Layout) (before after : Option (List ℕ))
         → ((item : Spelling) → IsVerdict options.limits plain bytes (accepted item) → Appends before after (shown_text layout (value_of item)))
-        → IsShownOf layout options source held before after
-    shown_of layout before after h = record { input = s.input; is = s.is; value = value_of w.0.item; whole = read_whole; shown = h w.0.item w.0.verdict }
+        → IsShownOf layout options source held (Appends before after)
+    shown_of layout before after h = shown_by layout (Appends before after) (h w.0.item w.0.verdict)
 
     unshown_by : (layout : Layout) (before after : Option (List ℕ)) (fault : Fault) → IsNotTaken (shown_text layout (value_of w.0.item)) before after fault
         → IsNotShown layout options source held before after fault
-    unshown_by layout before after faults.CannotPrint h =
-        record { input = s.input; is = s.is; value = value_of w.0.item; whole = read_whole; count = h.0; part = h.1; taken = h.2 }
+    unshown_by layout before after faults.CannotPrint h = shown_by layout (GoesInPart before after) h
     unshown_by layout before after faults.Memory h = (tt, subst (Keeps before) (sym h) (Keeps-refl before))
     unshown_by layout before after _ h = absurd h
 
@@ -152,10 +152,7 @@ module _ (options : Options) (source : List ℕ) (held : Option Files) (bytes : 
 
   pub not_listed_of : (before after : Option (List ℕ)) (fault : Fault) → IsNotListed options.limits bytes before after fault
       → IsNotListedOf options source held before after fault
-  not_listed_of before after (faults.Refused f) h = (s.input, s.is, listed_so before after (faults.Refused f) h)
-  not_listed_of before after faults.CannotPrint h = (s.input, s.is, listed_so before after faults.CannotPrint h)
-  not_listed_of before after faults.Memory h = inr (s.input, s.is, listed_so before after faults.Memory h)
-  not_listed_of before after _ h = absurd h
+  not_listed_of before after fault h = inl (s.input, s.is, listed_so before after fault h)
 
 -- ---- `compare`
 
@@ -164,16 +161,16 @@ module _ (limits : Bounds) (left left_behind right right_behind : List ℕ) (eno
   fronts_equal : IsWholeItem limits left × IsWholeItem limits right → (left ≡ left ++ left_behind) × (right ≡ right ++ right_behind)
   fronts_equal (l, r) = (whole_item limits left left_behind enough are l, whole_item limits right right_behind enough_too are_too r)
 
-  same_fronts : (before after : Option (List ℕ)) (status : Status) → IsTold limits left right before after status
-      → (left ≡ left ++ left_behind) × (right ≡ right ++ right_behind) → IsTold limits (left ++ left_behind) (right ++ right_behind) before after status
-  same_fronts before after status h (l, r) =
-      subst (λ (x : List ℕ). IsTold limits (left ++ left_behind) x before after status) r
-      (subst (λ (x : List ℕ). IsTold limits x right before after status) l h)
+  same_fronts : (Told : List ℕ → Type 0) (status : Status) → IsTold limits left right Told status
+      → (left ≡ left ++ left_behind) × (right ≡ right ++ right_behind) → IsTold limits (left ++ left_behind) (right ++ right_behind) Told status
+  same_fronts Told status h (l, r) =
+      subst (λ (x : List ℕ). IsTold limits (left ++ left_behind) x Told status) r
+      (subst (λ (x : List ℕ). IsTold limits x right Told status) l h)
 
-  pub told_whole : (before after : Option (List ℕ)) (status : Status) → IsTold limits left right before after status → IsTold limits (left ++ left_behind) (right ++ right_behind) before after status
-  told_whole before after statuses.Accepted h = same_fronts before after statuses.Accepted h (fronts_equal h.0)
-  told_whole before after statuses.Refused h = same_fronts before after statuses.Refused h (fronts_equal h.0)
-  told_whole before after _ h = absurd h
+  pub told_whole : (Told : List ℕ → Type 0) (status : Status) → IsTold limits left right Told status → IsTold limits (left ++ left_behind) (right ++ right_behind) Told status
+  told_whole Told statuses.Accepted h = same_fronts Told statuses.Accepted h (fronts_equal h.0)
+  told_whole Told statuses.Refused h = same_fronts Told statuses.Refused h (fronts_equal h.0)
+  told_whole Told _ h = absurd h
 
   left_whole : IsWholeItem limits left → IsWholeItem limits (left ++ left_behind)
   left_whole l = subst (IsWholeItem limits) (whole_item limits left left_behind enough are l) l
@@ -182,23 +179,12 @@ module _ (limits : Bounds) (left left_behind right right_behind : List ℕ) (eno
   side_whole Left f h = item_refusal_whole limits left left_behind enough plain f h
   side_whole Right f (l, h) = (left_whole l, item_refusal_whole limits right right_behind enough_too plain f h)
 
-  part_of_fronts : (before after : Option (List ℕ)) → IsToldInPart limits left right before after → (left ≡ left ++ left_behind) × (right ≡ right ++ right_behind)
-      → IsToldInPart limits (left ++ left_behind) (right ++ right_behind) before after
-  part_of_fronts before after h (l, r) =
-      subst (λ (x : List ℕ). IsToldInPart limits (left ++ left_behind) x before after) r
-      (subst (λ (x : List ℕ). IsToldInPart limits x right before after) l h)
-
-  part_whole : (before after : Option (List ℕ)) → IsToldInPart limits left right before after
-      → IsToldInPart limits (left ++ left_behind) (right ++ right_behind) before after
-  part_whole before after (same are_items mean taken) = part_of_fronts before after (same are_items mean taken) (fronts_equal are_items)
-  part_whole before after (different are_items apart taken) = part_of_fronts before after (different are_items apart taken) (fronts_equal are_items)
-
   pub untold_whole : (before after : Option (List ℕ)) (fault : Fault) → IsUntold limits left right before after fault
       → IsUntold limits (left ++ left_behind) (right ++ right_behind) before after fault
   untold_whole before after (faults.LeftRefused f) (h, own) = (side_whole Left f h, own)
   untold_whole before after (faults.RightRefused f) (h, own) = (side_whole Right f h, own)
   untold_whole before after faults.Memory (side, f, h, e) = (side, f, side_whole side f h, e)
-  untold_whole before after faults.CannotPrint h = part_whole before after h
+  untold_whole before after faults.CannotPrint (status, h) = (status, told_whole (GoesInPart before after) status h)
   untold_whole before after _ h = absurd h
 
 module _ (options : Options) (left right : List ℕ) (old mid : Option Files) (keeps : KeepsFiles old mid) (first second : List ℕ)
@@ -206,15 +192,15 @@ module _ (options : Options) (left right : List ℕ) (old mid : Option Files) (k
   both : AreInputs old left right options s.input t.input
   both = record { left_is = s.is; right_is = input_before old mid right options.hex t.input keeps t.is }
 
-  pub compared : (before after : Option (List ℕ)) (status : Status) → IsTold options.limits first second before after status
+  pub compared : (before after : Option (List ℕ)) (status : Status) → IsTold options.limits first second (Appends before after) status
       → AreCompared options left right old before after status
   compared before after status h = record {
     first = s.input;
     second = t.input;
     are = both;
-    told = subst (λ (x : List ℕ). IsTold options.limits s.input x before after status) t.splits
-        (subst (λ (x : List ℕ). IsTold options.limits x (second ++ t.behind) before after status) s.splits
-        (told_whole options.limits first s.behind second t.behind s.enough t.enough are are_too before after status h));
+    told = subst (λ (x : List ℕ). IsTold options.limits s.input x (Appends before after) status) t.splits
+        (subst (λ (x : List ℕ). IsTold options.limits x (second ++ t.behind) (Appends before after) status) s.splits
+        (told_whole options.limits first s.behind second t.behind s.enough t.enough are are_too (Appends before after) status h));
   }
 
   pub not_compared : (before after : Option (List ℕ)) (fault : Fault) → IsUntold options.limits first second before after fault

@@ -1,6 +1,5 @@
 -- What `check` asks of a file's bytes.
 use Rattle.std.specs.Prelude.{ℕ, ◌≡◌, ◌++◌, List, length, codes, decimal, Option}
-use Rattle.std.specs.Io.KnownBytes.{Appends}
 use Rattle.cbor_head.specs.Complaint.{Rules}
 use Rattle.cbor_head.specs.Limits.{Bounds}
 use Rattle.cbor_judging.specs.Readers.{IsRead}
@@ -9,7 +8,7 @@ use Rattle.cborc_input.specs.Fault.{IsOfInput}
 use Rattle.cborc_files.specs.Folder.{Files}
 use Rattle.cborc_fronts.specs.Input.{IsInput}
 use Rattle.cborc_input.specs.NoInput.{IsNoInput}
-use Rattle.cborc_input.specs.Texts.{IsNotTaken}
+use Rattle.cborc_input.specs.Texts.{GoesInPart}
 use Rattle.cborc_input.specs.declared.request.Options.{Options}
 use Rattle.cborc_input.specs.declared.fault.Fault.{Fault}
 use Rattle.cborc_input.specs.declared.fault.Fault.TheVariants as faults
@@ -22,25 +21,17 @@ IsWhole limits rules input size = IsRead limits rules input size × (size ≡ le
 abbrev pub accepted_bytes : ℕ → List ℕ
 accepted_bytes size = codes "accepted " ++ decimal size ++ codes " bytes\n"
 
--- the input at a path is one item that is accepted, and standard output took its line
-pub record IsChecked (rules : Rules) (options : Options) (source : List ℕ) (held : Option Files) (before after : Option (List ℕ)) : Type 0 where
+-- the input at a path is one item that is accepted, and this is told of its line
+pub record IsChecked (rules : Rules) (options : Options) (source : List ℕ) (held : Option Files) (Told : List ℕ → Type 0) : Type 0 where
   pub input : List ℕ
   pub is : IsInput held source options.hex input
   pub size : ℕ
   pub whole : IsWhole options.limits rules input size
-  pub told : Appends before after (accepted_bytes size)
+  pub told : Told (accepted_bytes size)
 
--- it is, and standard output took the first bytes of its line, not all
-pub record IsUntoldOf (rules : Rules) (options : Options) (source : List ℕ) (held : Option Files) (before after : Option (List ℕ)) : Type 0 where
-  pub input : List ℕ
-  pub is : IsInput held source options.hex input
-  pub size : ℕ
-  pub whole : IsWhole options.limits rules input size
-  pub taken : IsNotTaken (accepted_bytes size) before after faults.CannotPrint
-
--- why nothing is told: the input is refused, there is none, or standard output failed
+-- why it is not told whole: the input is refused, there is none, or standard output took the first bytes of its line, not all
 abbrev pub IsNotChecked : Rules → Options → List ℕ → Option Files → Option (List ℕ) → Option (List ℕ) → Fault → Type 0
 IsNotChecked rules options source held before after (faults.Refused f) =
     (input : List ℕ) × IsInput held source options.hex input × IsItemRefusal options.limits rules input f × IsOfInput f.reason
-IsNotChecked rules options source held before after faults.CannotPrint = IsUntoldOf rules options source held before after
+IsNotChecked rules options source held before after faults.CannotPrint = IsChecked rules options source held (GoesInPart before after)
 IsNotChecked rules options source held before after fault = IsNoInput held source options.hex fault

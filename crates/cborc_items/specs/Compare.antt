@@ -12,7 +12,7 @@ use Rattle.cborc_input.specs.Fault.{IsOfInput}
 use Rattle.cborc_files.specs.Folder.{Files}
 use Rattle.cborc_fronts.specs.Input.{IsInput}
 use Rattle.cborc_input.specs.NoInput.{IsNoInput}
-use Rattle.cborc_input.specs.Texts.{IsNotTaken}
+use Rattle.cborc_input.specs.Texts.{GoesInPart}
 use Rattle.cborc_input.specs.declared.request.Options.{Options}
 use Rattle.cborc_input.specs.declared.fault.Fault.{Fault}
 use Rattle.cborc_input.specs.declared.fault.Fault.TheVariants as faults
@@ -23,25 +23,18 @@ use Rattle.cborc_input.specs.declared.status.Status.TheVariants.{Accepted, Refus
 abbrev pub AreAccepted : Bounds → List ℕ → List ℕ → Type 0
 AreAccepted limits left right = IsWholeItem limits left × IsWholeItem limits right
 
--- they are, and the status and the line that standard output took say whether they mean the same
-abbrev pub IsTold : Bounds → List ℕ → List ℕ → Option (List ℕ) → Option (List ℕ) → Status → Type 0
-IsTold limits left right old new Accepted = AreAccepted limits left right × MeanTheSame limits left right × Appends old new (codes "same\n")
-IsTold limits left right old new Refused = AreAccepted limits left right × ¬ MeanTheSame limits left right × Appends old new (codes "different\n")
-IsTold limits left right old new _ = ⊥
+-- they are, and the status and the line, of which this is told, say whether they mean the same
+abbrev pub IsTold : Bounds → List ℕ → List ℕ → (List ℕ → Type 0) → Status → Type 0
+IsTold limits left right Told Accepted = AreAccepted limits left right × MeanTheSame limits left right × Told (codes "same\n")
+IsTold limits left right Told Refused = AreAccepted limits left right × ¬ MeanTheSame limits left right × Told (codes "different\n")
+IsTold limits left right Told _ = ⊥
 
--- both are, and standard output took the first bytes of the line that says whether they mean the same, not all
-pub data IsToldInPart (limits : Bounds) (left right : List ℕ) (old new : Option (List ℕ)) : Type 0 where
-  same : AreAccepted limits left right → MeanTheSame limits left right → IsNotTaken (codes "same\n") old new faults.CannotPrint
-      → IsToldInPart limits left right old new
-  different : AreAccepted limits left right → ¬ MeanTheSame limits left right → IsNotTaken (codes "different\n") old new faults.CannotPrint
-      → IsToldInPart limits left right old new
-
--- why nothing is told: a side is refused, or standard output took not all of the line
+-- why nothing is told: a side is refused, or standard output took the first bytes of the line, not all
 abbrev pub IsUntold : Bounds → List ℕ → List ℕ → Option (List ℕ) → Option (List ℕ) → Fault → Type 0
 IsUntold limits left right old new (faults.LeftRefused f) = IsSideRefusal limits left right Left f × IsOfInput f.reason
 IsUntold limits left right old new (faults.RightRefused f) = IsSideRefusal limits left right Right f × IsOfInput f.reason
 IsUntold limits left right old new faults.Memory = (side : Side) × (f : Refusal) × IsSideRefusal limits left right side f × (f.reason ≡ reasons.Memory)
-IsUntold limits left right old new faults.CannotPrint = IsToldInPart limits left right old new
+IsUntold limits left right old new faults.CannotPrint = (status : Status) × IsTold limits left right (GoesInPart old new) status
 IsUntold limits left right old new _ = ⊥
 
 -- the inputs at two paths
@@ -54,7 +47,7 @@ pub record AreCompared (options : Options) (left right : List ℕ) (held : Optio
   pub first : List ℕ
   pub second : List ℕ
   pub are : AreInputs held left right options first second
-  pub told : IsTold options.limits first second before after status
+  pub told : IsTold options.limits first second (Appends before after) status
 
 -- they are not, for this fault
 pub record AreUntold (options : Options) (left right : List ℕ) (held : Option Files) (before after : Option (List ℕ)) (fault : Fault) : Type 0 where

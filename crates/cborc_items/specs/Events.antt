@@ -35,14 +35,8 @@ pub record IsListedOf (options : Options) (source : List ℕ) (held : Option Fil
   pub is : IsInput held source options.hex input
   pub listed : IsListed 0 options.limits input (length input) before after
 
--- why it ends without the whole listing: the input is refused, standard output failed, memory was refused, or there is no input, and nothing is written
+-- why it ends without the whole listing: the input is not listed; or there is none, and nothing is written
 abbrev pub IsNotListedOf : Options → List ℕ → Option Files → Option (List ℕ) → Option (List ℕ) → Fault → Type 0
-IsNotListedOf options source held before after (faults.Refused f) =
-    (input : List ℕ) × IsInput held source options.hex input
-    × IsNotListed options.limits input before after (faults.Refused f)
-IsNotListedOf options source held before after faults.CannotPrint =
-    (input : List ℕ) × IsInput held source options.hex input
-    × IsNotListed options.limits input before after faults.CannotPrint
-IsNotListedOf options source held before after faults.Memory =
-    Keeps before after ⊎ ((input : List ℕ) × IsInput held source options.hex input × IsNotListed options.limits input before after faults.Memory)
-IsNotListedOf options source held before after fault = IsNoInput held source options.hex fault × Keeps before after
+IsNotListedOf options source held before after fault =
+    ((input : List ℕ) × IsInput held source options.hex input × IsNotListed options.limits input before after fault)
+    ⊎ (IsNoInput held source options.hex fault × Keeps before after)

@@ -1,9 +1,9 @@
 //! The subcommand `canon`: the canonical bytes of an item, from file to file.
 
-ghost use Rattle.std.specs.Prelude.{◌≡◌, ◌≢◌, ◌<◌, ℕ, length, take, OnOk, OnErr, IfErr};
-ghost use Rattle.std.specs.Io.KnownBytes.{Appends};
+ghost use Rattle.std.specs.Prelude.{◌≡◌, ◌≢◌, OnOk, OnErr, IfErr};
 ghost use Rattle.cborc_input.specs.Put.{IsPut, IsNotPut};
-ghost use Rattle.cborc_items.specs.Canon.{IsCanonised, IsNotCanonised};
+ghost use Rattle.cborc_input.specs.Texts.{GoesInPart};
+ghost use Rattle.cborc_items.specs.Canon.{HasText, IsNotCanonised};
 ghost use Rattle.cborc_files.specs.Folder.{KeepsFiles};
 
 use cbor_head::{KeyOrder, Limits};
@@ -24,8 +24,9 @@ pub fn canon<'a, F: Folder, O: Write>(
     order: KeyOrder,
     options: Options,
 ) -> Result<(), Fault<'a>>
-    ensures written { OnOk result (IsCanonised order options source.now output.entry
-        (F.held files.old) (F.held files.new) (O.contents out.old) (O.contents out.new)) }
+    ensures written { OnOk result (HasText order options source.now output.entry.form
+        (F.held files.old) (IsPut output.entry.path.now (F.held files.old) (F.held files.new)
+        (O.contents out.old) (O.contents out.new))) }
     ensures untouched { OnErr result (KeepsFiles (F.held files.old) (F.held files.new)) }
     ensures same { F.behind files.new ≡ F.behind files.old }
     ensures fault { IfErr result
@@ -52,8 +53,7 @@ fn put<'a, F: Folder, O: Write>(
     ensures untouched { OnErr result (KeepsFiles (F.held files.old) (F.held files.new)) }
     ensures same { F.behind files.new ≡ F.behind files.old }
     ensures fault { IfErr result (λ fault. IsNotPut path.now fault × (fault ≡ Fault.CannotPrint
-        → (count : ℕ) × (count < length text.now)
-        × Appends (O.contents out.old) (O.contents out.new) (take count text.now))) }
+        → GoesInPart (O.contents out.old) (O.contents out.new) text.now)) }
     ensures silent { IfErr result (λ fault. fault ≢ Fault.CannotPrint → out.new ≡ out.old) }
 {
     if is_stream(path) {

@@ -26,7 +26,7 @@ pub fn check<'a, F: Folder, O: Write>(
     options: Options,
 ) -> Result<(), Fault<'a>>
     ensures told { OnOk result (IsChecked (rules_of accepted) options source.now
-        (F.held files.old) (O.contents out.old) (O.contents out.new)) }
+        (F.held files.old) (Appends (O.contents out.old) (O.contents out.new))) }
     ensures fault { IfErr result
         (IsNotChecked (rules_of accepted) options source.now (F.held files.old)
         (O.contents out.old) (O.contents out.new)) }

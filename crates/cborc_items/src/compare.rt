@@ -1,6 +1,7 @@
 //! The subcommand `compare`: whether the items in two files have the same value.
 
 ghost use Rattle.std.specs.Prelude.{◌≡◌, ◌≢◌, IfOk, IfErr};
+ghost use Rattle.std.specs.Io.KnownBytes.{Appends};
 ghost use Rattle.cborc_items.specs.Compare.{IsTold, IsUntold, AreCompared, AreNotCompared};
 ghost use Rattle.cborc_files.specs.Folder.{KeepsFiles};
 
@@ -53,7 +54,7 @@ fn tell<'a, O: Write>(
     limits: Limits,
 ) -> Result<Status, Fault<'a>>
     ensures told { IfOk result (IsTold limits left.now right.now
-        (O.contents out.old) (O.contents out.new)) }
+        (Appends (O.contents out.old) (O.contents out.new))) }
     ensures fault { IfErr result (IsUntold limits left.now right.now
         (O.contents out.old) (O.contents out.new)) }
     ensures silent { IfErr result (λ fault. fault ≢ Fault.CannotPrint → out.new ≡ out.old) }

@@ -1,6 +1,7 @@
 //! The subcommand `show`: the diagnostic text of an item.
 
 ghost use Rattle.std.specs.Prelude.{◌≡◌, ◌≢◌, OnOk, IfErr};
+ghost use Rattle.std.specs.Io.KnownBytes.{Appends};
 ghost use Rattle.cborc_items.specs.Show.{IsShownOf, IsNotShown};
 ghost use Rattle.cborc_files.specs.Folder.{KeepsFiles};
 
@@ -20,7 +21,7 @@ pub fn show<'a, F: Folder, O: Write>(
     options: Options,
 ) -> Result<(), Fault<'a>>
     ensures shown { OnOk result (IsShownOf layout options source.now
-        (F.held files.old) (O.contents out.old) (O.contents out.new)) }
+        (F.held files.old) (Appends (O.contents out.old) (O.contents out.new))) }
     ensures fault { IfErr result (IsNotShown layout options source.now
         (F.held files.old) (O.contents out.old) (O.contents out.new)) }
     ensures silent { IfErr result (λ fault. fault ≢ Fault.CannotPrint → out.new ≡ out.old) }

@@ -9,7 +9,7 @@ use Rattle.cbor_head.specs.declared.reason.Reason.TheVariants.{Truncated}
 use Rattle.cbor_head.specs.declared.reason.Refusal.{Refusal}
 use Rattle.cbor_judging.proofs.Further.{further}
 use Rattle.cbor_judging.specs.Readers.{IsUnread, of_verdict, of_reader, of_memory}
-use Rattle.cborc_sequences.specs.CanonSequence.{unread}
+use Rattle.cborc_sequences.specs.CanonSequence as canon
 use Rattle.cborc_input.specs.Fault.{IsOfInput, refusal_fault}
 use Rattle.cborc_input.specs.declared.fault.Fault.{Fault}
 use Rattle.cborc_input.specs.declared.request.Form.{Form}
@@ -32,20 +32,20 @@ module _ (b : Bounds) (r : Rules) (front behind : List ℕ) (f : Refusal) (known
     | inr apart ↦ further b r front behind (refused f) v apart
   ]
 
-  pub unread_further : IsOfInput f.reason → IsUnread b r front f → IsUnread b r (front ++ behind) f
-  unread_further own (of_verdict v) = of_verdict (verdict_further v)
+  pub unread_further : IsOfInput f.reason → IsUnread b r front f → IsVerdict b r (front ++ behind) (refused f)
+  unread_further own (of_verdict v) = verdict_further v
   unread_further own (of_reader is v) = absurd (subst IsOfInput (ap (λ (g : Refusal). g.reason) is) own)
   unread_further own (of_memory p l within is free) = absurd (subst IsOfInput (ap (λ (g : Refusal). g.reason) is) own)
 
 -- the fault of a refusal
 module _ (b : Bounds) (front behind : List ℕ) (f : Refusal) (known : IsSettled behind f) (fault : Fault) (is : fault ≡ refusal_fault f) where
   pub uncounted : (r : Rules) → IsUnread b r front f → IsUncounted b r (front ++ behind) fault
-  uncounted r h = refusal_is (IsUncounted b r (front ++ behind)) f fault is (λ own. (unread_further b r front behind f known own h, own)) tt
+  uncounted r h = refusal_is (IsUncounted b r (front ++ behind)) f fault is (λ own. unread_further b r front behind f known own h) tt
 
   pub uncanonical : (o : KeyOrder) (form : Form) (out : Option (List ℕ)) → IsUnread b plain front f → IsUnwritten b o form (front ++ behind) fault out out
   uncanonical o form out h =
-      refusal_is (λ (x : Fault). IsUnwritten b o form (front ++ behind) x out out) f fault is (λ own. (unread (unread_further b plain front behind f known own h), own, refl)) refl
+      refusal_is (λ (x : Fault). IsUnwritten b o form (front ++ behind) x out out) f fault is (λ own. (canon.of_verdict (unread_further b plain front behind f known own h), refl)) refl
 
   pub item_not_shown : (layout : Layout) (out : Option (List ℕ)) → IsUnread b plain front f → IsItemNotShown b layout (front ++ behind) fault out out
   item_not_shown layout out h =
-      refusal_is (λ (x : Fault). IsItemNotShown b layout (front ++ behind) x out out) f fault is (λ own. (unread_further b plain front behind f known own h, own, refl)) refl
+      refusal_is (λ (x : Fault). IsItemNotShown b layout (front ++ behind) x out out) f fault is (λ own. (unread_further b plain front behind f known own h, refl)) refl

@@ -50,7 +50,6 @@ module _ (start : ℕ) (limits : Bounds) (bytes : List ℕ) (before middle after
         listing = subst (λ (t : List ℕ). IsListing start limits.depth t out) (sym (take-append-le f.place bytes behind (place_within limits bytes f v))) l;
         is = refl;
       },
-      own,
       appends_more before middle after (gap start) out g a,
     )
     refused_so f own apart known (of_reader out e v l a) = absurd (subst IsOfInput (ap (λ (x : Refusal). x.reason) e) own)

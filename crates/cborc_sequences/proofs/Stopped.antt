@@ -10,7 +10,7 @@ use Rattle.cbor_head.specs.Spelling.{Spelling}
 use Rattle.cbor_head.specs.declared.order.KeyOrder.{KeyOrder}
 use Rattle.cbor_reader.specs.Sequence.{IsAccepted}
 use Rattle.cborc_input.specs.Put.{printed, written}
-use Rattle.cborc_sequences.specs.CanonSequence.{HasCanonicalBytes, canonical_text, canonical_texts, IsSequenceCanonised, IsSent, passed, apart, HasFirstTexts, IsSequenceNotCanonised}
+use Rattle.cborc_sequences.specs.CanonSequence.{HasCanonicalBytes, canonical_text, canonical_texts, IsSequenceCanonised, IsSent, HasFirstTexts, IsSequenceNotCanonised}
 use Rattle.cborc_sequences.specs.CheckSequence.{IsSequenceNotChecked}
 use Rattle.cborc_sequences.specs.EventsSequence.{item_lines, all_lines, IsListedInPart, listed_to, listed_short, IsListedSoFar, items_listed, front_listed, IsSequenceNotListed}
 use Rattle.cborc_input.specs.Fault.{at_item}
@@ -50,9 +50,9 @@ module _ (takes : Spelling → Type 0) (text : Spelling → List ℕ) (from to :
       last = t.item;
       rest = t.rest;
       starts = (one_more_starts takes bytes h.items h.rest h.goes_on.starts t.item t.rest t.has t.bytes_are).0;
-      count = t.count;
-      part = t.part;
-      taken = appends_more from h.middle to (flat_map text h.items) (take t.count (text t.item)) (took h.middle h.items h.written) t.taken;
+      count = t.taken.0;
+      part = t.taken.1;
+      taken = appends_more from h.middle to (flat_map text h.items) (take t.taken.0 (text t.item)) (took h.middle h.items h.written) t.taken.2;
     }
 
     so_far : (options : Options) (source : List ℕ) (held : Option Files) → IsFront held source options.hex bytes → (to ≡ h.middle) ⊎ IsCutText takes text h.rest h.middle to
@@ -72,9 +72,13 @@ module _ (o : KeyOrder) (options : Options) (source : List ℕ) (output : Output
   abbrev Unwritten : ℕ → List ℕ → Fault → Option (List ℕ) → Option (List ℕ) → Type 0
   Unwritten start = IsUnwritten options.limits o output.form
 
+  -- nothing is sent that belongs in a file
+  unless_stream : is_stream output.path.now ≡ false → (taken : Type 0) → IsSent output.path.now taken
+  unless_stream s taken t = let two : false ≡ true = sym s ∙ t in cc two
+
   -- an item that is not written leaves what was taken, or a part of its text
   left : (bytes : List ℕ) (middle to : Option (List ℕ)) (cause : Fault) → IsUnwritten options.limits o output.form bytes cause middle to → (to ≡ middle) ⊎ IsCutText Has text_of bytes middle to
-  left bytes middle to (faults.Refused f) why = inl why.2
+  left bytes middle to (faults.Refused f) why = inl why.1
   left bytes middle to faults.CannotPrint why = inr why
   left bytes middle to faults.Memory why = inl why
   left bytes middle to _ why = absurd why
@@ -130,9 +134,14 @@ module _ (o : KeyOrder) (options : Options) (source : List ℕ) (output : Output
           }
 
       -- what standard output took, by what was written
-      module _ (before after : Option (List ℕ)) (sends : (text : List ℕ) → Appends from to text → IsSent output.path.now before after (Appends before after text))
-          (sends_so_far : IsTakenSoFar Has text_of options source held from to → IsSent output.path.now before after (IsTakenSoFar Has text_of options source held before after))
+      module _ (before after : Option (List ℕ)) (sends : (Took : Option (List ℕ) → Option (List ℕ) → Type 0) → Took from to → IsSent output.path.now (Took before after))
           (cut : fault ≡ faults.CannotPrint → IsSequenceNotCanonised o options source output held before after faults.CannotPrint) where
+        none_more : (x : Fault) → IsNoInput held source options.hex x → IsTakenSoFar Has text_of options source held from to → IsSequenceNotCanonised o options source output held before after x
+        none_more (faults.CannotRead named) why w = (why, sends (IsTakenSoFar Has text_of options source held) w)
+        none_more (faults.NotHex named) why w = (why, sends (IsTakenSoFar Has text_of options source held) w)
+        none_more faults.Memory why w = (why, sends (IsTakenSoFar Has text_of options source held) w)
+        none_more _ why w = absurd why
+
         by_cause : (input : List ℕ) → IsInput held source options.hex input → (h : AreStopped Has (λ start. text_of) Unwritten options.limits.bytes input from to fault) (cause : Fault)
             → h.cause ≡ cause → IsUnwritten options.limits o output.form h.rest cause h.middle to → IsSequenceNotCanonised o options source output held before after (at_item h.index h.start cause)
         by_cause input is h (faults.Refused f) e why = record {
@@ -142,19 +151,12 @@ module _ (o : KeyOrder) (options : Options) (source : List ℕ) (output : Output
           rest = h.rest;
           goes_on = h.goes_on;
           refused = why.0;
-          of_input = why.1;
-          sent = sends (canonical_texts o output.form h.items) (took_so_far Has text_of from to Unwritten options.limits.bytes input fault h why.2);
+          sent = sends (λ (x y : Option (List ℕ)). Appends x y (canonical_texts o output.form h.items)) (took_so_far Has text_of from to Unwritten options.limits.bytes input fault h why.1);
         }
         by_cause input is h faults.CannotPrint e why = cut (h.fault_is ∙ ap (at_item h.index h.start) e)
         by_cause input is h faults.Memory e why =
-            (tt, sends_so_far (so_far Has text_of from to Unwritten options.limits.bytes input fault h options source held (input_front held source options.hex input is) (inl why)))
+            none_more faults.Memory tt (so_far Has text_of from to Unwritten options.limits.bytes input fault h options source held (input_front held source options.hex input is) (inl why))
         by_cause input is h _ e why = absurd why
-
-        none_more : (x : Fault) → IsNoInput held source options.hex x → IsTakenSoFar Has text_of options source held from to → IsSequenceNotCanonised o options source output held before after x
-        none_more (faults.CannotRead named) why w = (why, sends_so_far w)
-        none_more (faults.NotHex named) why w = (why, sends_so_far w)
-        none_more faults.Memory why w = (why, sends_so_far w)
-        none_more _ why w = absurd why
 
         by_stop : AreStoppedOf Has (λ start. text_of) Unwritten options source held from to fault → IsSequenceNotCanonised o options source output held before after fault
         by_stop (no_input why w) = none_more fault why (of_items w.items w.first (took Has text_of from to to w.items w.written))
@@ -165,24 +167,24 @@ module _ (o : KeyOrder) (options : Options) (source : List ℕ) (output : Output
 
       pub not_printed : is_stream output.path.now ≡ true → AreStoppedOf Has (λ start. text_of) Unwritten options source held from to fault
           → IsSequenceNotCanonised o options source output held from to fault
-      not_printed s h = by_stop from to (λ text a. passed s a) (λ w. passed s w) (λ e. (s, cut_of h e)) h
+      not_printed s h = by_stop from to (λ Took w t. w) (λ e. (s, cut_of h e)) h
 
       pub not_replaced : is_stream output.path.now ≡ false → AreStoppedOf Has (λ start. text_of) Unwritten options source held from to fault → fault ≢ faults.CannotPrint
           → (out : Option (List ℕ)) → IsSequenceNotCanonised o options source output held out out fault
-      not_replaced s h other out = by_stop out out (λ text a. apart s (Keeps-refl out)) (λ w. apart s (Keeps-refl out)) (λ e. absurd (other e)) h
+      not_replaced s h other out = by_stop out out (λ Took w. unless_stream s (Took out out)) (λ e. absurd (other e)) h
 
   -- the file failed, or memory did
   module _ (s : is_stream output.path.now ≡ false) (t : HasFirstTexts o options source held) (path : Bor (List ℕ)) (same : path.now ≡ output.path.now) (fault : Fault) (out : Option (List ℕ)) where
     pub not_written : (cause : FileFault) → (cause ≡ file_faults.Failed → fault ≡ faults.CannotWrite path) → (cause ≡ file_faults.Memory → fault ≡ faults.Memory)
         → IsSequenceNotCanonised o options source output held out out fault
     not_written file_faults.Failed failed memory =
-        subst (IsSequenceNotCanonised o options source output held out out) (sym (failed refl)) ((s, same), t, Keeps-refl out)
+        subst (IsSequenceNotCanonised o options source output held out out) (sym (failed refl)) ((s, same), t)
     not_written file_faults.Memory failed memory =
-        subst (IsSequenceNotCanonised o options source output held out out) (sym (memory refl)) (tt, apart s (Keeps-refl out))
+        subst (IsSequenceNotCanonised o options source output held out out) (sym (memory refl)) (tt, unless_stream s (IsTakenSoFar Has text_of options source held out out))
 
   -- memory was refused before anything was read
   pub none_begun : is_stream output.path.now ≡ false → (out : Option (List ℕ)) → IsSequenceNotCanonised o options source output held out out faults.Memory
-  none_begun s out = (tt, apart s (Keeps-refl out))
+  none_begun s out = (tt, unless_stream s (IsTakenSoFar Has text_of options source held out out))
 
 -- ---- `show --seq`
 
@@ -205,7 +207,7 @@ module _ (layout : Layout) (options : Options) (source : List ℕ) (held : Optio
 
   unshown_left : (bytes : List ℕ) (middle : Option (List ℕ)) (cause : Fault) → IsItemNotShown options.limits layout bytes cause middle after
       → (after ≡ middle) ⊎ IsCutText Valid (item_text layout) bytes middle after
-  unshown_left bytes middle (faults.Refused f) why = inl why.2
+  unshown_left bytes middle (faults.Refused f) why = inl why.1
   unshown_left bytes middle faults.CannotPrint why = inr why
   unshown_left bytes middle faults.Memory why = inl why
   unshown_left bytes middle _ why = absurd why
@@ -219,9 +221,8 @@ module _ (layout : Layout) (options : Options) (source : List ℕ) (held : Optio
       items = h.items;
       rest = h.rest;
       goes_on = h.goes_on;
-      refused = why.0;
-      of_input = why.1;
-      shown = took_so_far Valid (item_text layout) before after Unshown options.limits.bytes input fault h why.2;
+      verdict = why.0;
+      shown = took_so_far Valid (item_text layout) before after Unshown options.limits.bytes input fault h why.1;
     }
     not_shown_by input is h faults.CannotPrint why = (input, is, cut_in Valid (item_text layout) before after Unshown options.limits.bytes input fault h why)
     not_shown_by input is h faults.Memory why =
@@ -248,7 +249,7 @@ module _ (layout : Layout) (options : Options) (source : List ℕ) (held : Optio
 module _ (options : Options) (source : List ℕ) (held : Option Files) (before after : Option (List ℕ)) (fault : Fault) where
   listed_part : (start : ℕ) (bytes : List ℕ) (middle : Option (List ℕ)) (cause : Fault) → IsItemNotListed options.limits start bytes cause middle after
       → (shown : List ℕ) × IsListedInPart start options.limits bytes shown × Appends middle after shown
-  listed_part start bytes middle (faults.Refused f) (shown, why, own, a) = (shown, listed_to f.place why.so_far why.listing why.is, a)
+  listed_part start bytes middle (faults.Refused f) (shown, why, a) = (shown, listed_to f.place why.so_far why.listing why.is, a)
   listed_part start bytes middle faults.CannotPrint (shown, why, a) = (shown, listed_short why, a)
   listed_part start bytes middle faults.Memory why = why
   listed_part start bytes middle _ why = absurd why
@@ -274,8 +275,7 @@ module _ (options : Options) (source : List ℕ) (held : Option Files) (before a
         goes_on = h.goes_on;
         shown = why.0;
         refused = why.1;
-        of_input = why.2;
-        listed = appends_more before h.middle after (all_lines h.items) why.0 h.written why.3;
+        listed = appends_more before h.middle after (all_lines h.items) why.0 h.written why.2;
       }
   not_listed_by input is h faults.CannotPrint e =
       let why = subst (λ (x : Fault). IsItemNotListed options.limits h.start h.rest x h.middle after) e h.stopped in
@@ -317,7 +317,7 @@ module _ (rules : Rules) (options : Options) (source : List ℕ) (held : Option 
       → (cause : Fault) → h.cause ≡ cause → IsSequenceNotChecked rules options source held before after (at_item h.index h.start cause)
   not_checked_by input is h (faults.Refused f) e =
       let why = subst (IsUncounted options.limits rules h.rest) e h.stopped in
-      (input, is, record { items = h.items; rest = h.rest; goes_on = h.goes_on; unread = why.0 }, why.1)
+      (input, is, record { items = h.items; rest = h.rest; goes_on = h.goes_on; verdict = why })
   not_checked_by input is h faults.Memory e = tt
   not_checked_by input is h _ e = absurd (subst (IsUncounted options.limits rules h.rest) e h.stopped)
 

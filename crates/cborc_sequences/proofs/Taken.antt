@@ -1,5 +1,5 @@
 -- The item at the front of some bytes, of which something was written, or which is refused.
-use Rattle.std.proofs.Common.{ℕ, ◌≡◌, ◌<◌, ◌≤◌, Option, List, ◌++◌, length, take, drop, refl, sym, ap, ◌∙◌, subst}
+use Rattle.std.proofs.Common.{ℕ, ◌≡◌, ◌<◌, ◌≤◌, Option, List, ◌++◌, length, drop, refl, sym, ap, ◌∙◌, subst}
 use Rattle.std.specs.Io.KnownBytes.{Appends}
 use Rattle.std.proofs.lemmas.List.{append_assoc}
 use Rattle.cbor_head.specs.Complaint.{Rules, plain}
@@ -13,9 +13,8 @@ use Rattle.cbor_judging.specs.Readers.{IsRead}
 use Rattle.cbor_reader.specs.Sequence.{IsAccepted}
 use Rattle.cbor_reader.proofs.Sequences.{is_accepted, splits}
 use Rattle.cbor_sinks.specs.BuiltFront.{IsBuiltFront}
-use Rattle.cborc_input.specs.Texts.{in_form}
+use Rattle.cborc_input.specs.Texts.{GoesInPart, IsNotTaken, in_form}
 use Rattle.cborc_sequences.specs.CanonSequence.{HasCanonicalBytes, canonical_text, too_long}
-use Rattle.cborc_input.specs.Fault.{IsOfInput}
 use Rattle.cborc_input.specs.declared.fault.Fault.{Fault}
 use Rattle.cborc_input.specs.declared.fault.Fault.TheVariants as faults
 use Rattle.cborc_input.specs.declared.request.Form.{Form}
@@ -23,7 +22,6 @@ use Rattle.cborc_input.specs.Items.{IsWritten}
 use Rattle.cborc_input.specs.declared.request.Layout.{Layout}
 use Rattle.cborc_sequences.specs.ShowSequence.{item_text}
 use Rattle.cborc_sequences.specs.inner.Items.{IsCutText, IsUnwritten, IsItemNotShown}
-use Rattle.cborc_input.specs.Texts.{IsNotTaken}
 
 -- the item that is read at the front
 module _ (limits : Bounds) (rules : Rules) (bytes : List ℕ) (size : ℕ) (h : IsRead limits rules bytes size) where
@@ -49,14 +47,12 @@ module _ (limits : Bounds) (rules : Rules) (bytes : List ℕ) (size : ℕ) (h : 
 
   -- not all of its text was taken
   cut_of : (takes : Spelling → Type 0) (text : Spelling → List ℕ) (before after : Option (List ℕ)) (behind : List ℕ) → takes h.item
-      → (count : ℕ) × (count < length (text h.item)) × Appends before after (take count (text h.item)) → IsCutText takes text (bytes ++ behind) before after
-  cut_of takes text before after behind t (count, part, w) = record {
+      → GoesInPart before after (text h.item) → IsCutText takes text (bytes ++ behind) before after
+  cut_of takes text before after behind t w = record {
     item = h.item;
     rest = drop (length (spell h.item)) bytes ++ behind;
     has = t;
     bytes_are = stands_before behind;
-    count = count;
-    part = part;
     taken = w;
   }
 
@@ -82,17 +78,15 @@ module _ (b : Bounds) (o : KeyOrder) (bytes canonical : List ℕ) (size : ℕ) (
     canonical_of before after w = written_of b plain bytes size h.read (HasCanonicalBytes b o) (canonical_text o form) before after has_bytes (subst (Appends before after) text_is w)
 
     -- a part of its text was taken
-    pub cut_text : (before after : Option (List ℕ)) (count : ℕ) (behind : List ℕ) → count < length text → Appends before after (take count text)
+    pub cut_text : (before after : Option (List ℕ)) (behind : List ℕ) → GoesInPart before after text
         → IsCutText (HasCanonicalBytes b o) (canonical_text o form) (bytes ++ behind) before after
-    cut_text before after count behind part w =
-        cut_of b plain bytes size h.read (HasCanonicalBytes b o) (canonical_text o form) before after behind has_bytes
-        (count, subst (λ (x : List ℕ). count < length x) text_is part, subst (λ (x : List ℕ). Appends before after (take count x)) text_is w)
+    cut_text before after behind w =
+        cut_of b plain bytes size h.read (HasCanonicalBytes b o) (canonical_text o form) before after behind has_bytes (subst (GoesInPart before after) text_is w)
 
   pub grown_too_long : b.bytes < length canonical → (form : Form) (out : Option (List ℕ)) (behind : List ℕ) (f : Refusal) → f ≡ refusal reasons.CanonicalTooLong size size
       → IsUnwritten b o form (bytes ++ behind) (faults.Refused f) out out
   grown_too_long l form out behind f is = (
     too_long h.read.item (drop (length (spell h.read.item)) bytes ++ behind) (item_accepted b plain bytes size h.read) (stands_before b plain bytes size h.read behind) (rw (← h.canonical_is) l)
         (is ∙ ap (λ (k : ℕ). refusal reasons.CanonicalTooLong k k) h.read.size),
-    subst IsOfInput (ap (λ (g : Refusal). g.reason) (sym is)) tt,
     refl,
   )

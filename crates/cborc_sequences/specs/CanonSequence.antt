@@ -1,19 +1,17 @@
 -- What `canon --seq` writes, why it does not write all, and what is written then (RFC 8742).
-use Rattle.std.specs.Prelude.{ℕ, ◌≡◌, ◌<◌, ◌≤◌, ◌⊎◌, ◌++◌, true, false, List, length, flat_map, Option}
-use Rattle.std.specs.Io.KnownBytes.{Appends, Keeps}
+use Rattle.std.specs.Prelude.{ℕ, ◌≡◌, ◌<◌, ◌≤◌, ◌⊎◌, ◌++◌, true, List, length, flat_map, Option}
+use Rattle.std.specs.Io.KnownBytes.{Appends}
 use Rattle.cbor_head.specs.Canonical.{canonical}
 use Rattle.cbor_head.specs.Complaint.{plain}
 use Rattle.cbor_head.specs.Limits.{Bounds}
 use Rattle.cbor_head.specs.Spelling.{Spelling, spell, value_of}
-use Rattle.cbor_head.specs.Verdict.{refusal}
+use Rattle.cbor_head.specs.Verdict.{refusal, refused, IsVerdict}
 use Rattle.cbor_head.specs.declared.order.KeyOrder.{KeyOrder}
 use Rattle.cbor_head.specs.declared.reason.Reason.TheVariants.{CanonicalTooLong}
 use Rattle.cbor_head.specs.declared.reason.Refusal.{Refusal}
-use Rattle.cbor_judging.specs.Readers.{IsUnread}
 use Rattle.cbor_reader.specs.Sequence.{IsAccepted}
 use Rattle.cborc_input.specs.Texts.{in_form}
 use Rattle.cborc_input.specs.Put.{IsPut, IsNotPut}
-use Rattle.cborc_input.specs.Fault.{IsOfInput}
 use Rattle.cborc_files.specs.Folder.{Files, is_stream}
 use Rattle.cborc_fronts.specs.Input.{IsInput}
 use Rattle.cborc_input.specs.NoInput.{IsNoInput}
@@ -40,7 +38,7 @@ canonical_texts o form items = flat_map (canonical_text o form) items
 -- why the item at the front of an input is none
 pub data IsUncanonical (limits : Bounds) (o : KeyOrder) (input : List ℕ) (f : Refusal) : Type 0 where
   -- no item is accepted
-  unread : IsUnread limits plain input f → IsUncanonical limits o input f
+  of_verdict : IsVerdict limits plain input (refused f) → IsUncanonical limits o input f
   -- its canonical bytes are more than the limit
   too_long : (item : Spelling) (rest : List ℕ) → IsAccepted limits plain item → spell item ++ rest ≡ input → limits.bytes < length (canonical o (value_of item))
       → f ≡ refusal CanonicalTooLong (length (spell item)) (length (spell item)) → IsUncanonical limits o input f
@@ -53,10 +51,9 @@ pub record IsSequenceCanonised (o : KeyOrder) (options : Options) (source : List
   pub all : AreAll (HasCanonicalBytes options.limits o) options.limits.bytes input items
   pub put : IsPut output.path.now old new before after (canonical_texts o output.form items)
 
--- what standard output took: this, where the texts belong there, else nothing
-pub data IsSent (path : List ℕ) (before after : Option (List ℕ)) (taken : Type 0) : Type 0 where
-  passed : is_stream path ≡ true → taken → IsSent path before after taken
-  apart : is_stream path ≡ false → Keeps before after → IsSent path before after taken
+-- where the texts belong on standard output, it took this
+abbrev pub IsSent : List ℕ → Type 0 → Type 0
+IsSent path taken = is_stream path ≡ true → taken
 
 -- It isn't: behind items that have canonical bytes, whose texts are sent, comes, with this index and starting there, one that has none.
 pub record HasUncanonicalItem (o : KeyOrder) (options : Options) (source : List ℕ) (output : Output) (held : Option Files) (before after : Option (List ℕ))
@@ -67,8 +64,7 @@ pub record HasUncanonicalItem (o : KeyOrder) (options : Options) (source : List 
   pub rest : List ℕ
   pub goes_on : GoesOn (HasCanonicalBytes options.limits o) options.limits.bytes input items rest index start
   pub refused : IsUncanonical options.limits o rest f
-  pub of_input : IsOfInput f.reason
-  pub sent : IsSent output.path.now before after (Appends before after (canonical_texts o output.form items))
+  pub sent : IsSent output.path.now (Appends before after (canonical_texts o output.form items))
 
 -- the input at a path starts with such items: at least one, or these are all
 pub record HasFirstTexts (o : KeyOrder) (options : Options) (source : List ℕ) (held : Option Files) : Type 0 where
@@ -87,7 +83,7 @@ IsSequenceNotCanonised o options source output held before after faults.CannotPr
     IsNotPut output.path.now faults.CannotPrint
     × IsCutShort (HasCanonicalBytes options.limits o) (canonical_text o output.form) options source held before after
 IsSequenceNotCanonised o options source output held before after (faults.CannotWrite named) =
-    IsNotPut output.path.now (faults.CannotWrite named) × HasFirstTexts o options source held × Keeps before after
+    IsNotPut output.path.now (faults.CannotWrite named) × HasFirstTexts o options source held
 IsSequenceNotCanonised o options source output held before after fault =
     IsNoInput held source options.hex fault
-    × IsSent output.path.now before after (IsTakenSoFar (HasCanonicalBytes options.limits o) (canonical_text o output.form) options source held before after)
+    × IsSent output.path.now (IsTakenSoFar (HasCanonicalBytes options.limits o) (canonical_text o output.form) options source held before after)

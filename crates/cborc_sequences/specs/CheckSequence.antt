@@ -1,17 +1,15 @@
 -- What `check --seq` asks of a file's bytes (RFC 8742).
 use Rattle.std.specs.Prelude.{ℕ, ◌≡◌, ◌++◌, List, length, Option, codes, decimal}
-use Rattle.std.specs.Io.KnownBytes.{Appends}
 use Rattle.cbor_head.specs.Complaint.{Rules}
 use Rattle.cbor_head.specs.Limits.{Bounds}
 use Rattle.cbor_head.specs.Spelling.{Spelling}
+use Rattle.cbor_head.specs.Verdict.{refused, IsVerdict}
 use Rattle.cbor_head.specs.declared.reason.Refusal.{Refusal}
-use Rattle.cbor_judging.specs.Readers.{IsUnread}
 use Rattle.cbor_reader.specs.Sequence.{IsAccepted}
-use Rattle.cborc_input.specs.Fault.{IsOfInput}
 use Rattle.cborc_files.specs.Folder.{Files}
 use Rattle.cborc_fronts.specs.Input.{IsInput}
 use Rattle.cborc_input.specs.NoInput.{IsNoInput}
-use Rattle.cborc_input.specs.Texts.{IsNotTaken}
+use Rattle.cborc_input.specs.Texts.{GoesInPart}
 use Rattle.cborc_input.specs.Sequences.{AreAll, GoesOn}
 use Rattle.cborc_input.specs.declared.request.Options.{Options}
 use Rattle.cborc_input.specs.declared.fault.Fault.{Fault}
@@ -28,31 +26,23 @@ pub record IsRefusedAt (limits : Bounds) (rules : Rules) (input : List ℕ) (ind
   pub items : List Spelling
   pub rest : List ℕ
   pub goes_on : GoesOn (IsAccepted limits rules) limits.bytes input items rest index start
-  pub unread : IsUnread limits rules rest f
+  pub verdict : IsVerdict limits rules rest (refused f)
 
 -- the line of a sequence that is accepted, of so many items
 abbrev pub accepted_items : ℕ → List ℕ
 accepted_items count = codes "accepted " ++ decimal count ++ codes " items\n"
 
--- the input at a path is a sequence of items that are accepted, and standard output took its line
-pub record IsSequenceChecked (rules : Rules) (options : Options) (source : List ℕ) (held : Option Files) (before after : Option (List ℕ)) : Type 0 where
+-- the input at a path is a sequence of items that are accepted, and this is told of its line
+pub record IsSequenceChecked (rules : Rules) (options : Options) (source : List ℕ) (held : Option Files) (Told : List ℕ → Type 0) : Type 0 where
   pub input : List ℕ
   pub is : IsInput held source options.hex input
   pub count : ℕ
   pub whole : IsWholeSequence options.limits rules input count
-  pub told : Appends before after (accepted_items count)
+  pub told : Told (accepted_items count)
 
--- it is, and standard output took the first bytes of its line, not all
-pub record IsUntoldSequence (rules : Rules) (options : Options) (source : List ℕ) (held : Option Files) (before after : Option (List ℕ)) : Type 0 where
-  pub input : List ℕ
-  pub is : IsInput held source options.hex input
-  pub count : ℕ
-  pub whole : IsWholeSequence options.limits rules input count
-  pub taken : IsNotTaken (accepted_items count) before after faults.CannotPrint
-
--- why nothing is told: an item is refused, there is no input, or standard output failed
+-- why it is not told whole: an item is refused, there is no input, or standard output took the first bytes of its line, not all
 abbrev pub IsSequenceNotChecked : Rules → Options → List ℕ → Option Files → Option (List ℕ) → Option (List ℕ) → Fault → Type 0
 IsSequenceNotChecked rules options source held before after (faults.RefusedItem index start f) =
-    (input : List ℕ) × IsInput held source options.hex input × IsRefusedAt options.limits rules input index start f × IsOfInput f.reason
-IsSequenceNotChecked rules options source held before after faults.CannotPrint = IsUntoldSequence rules options source held before after
+    (input : List ℕ) × IsInput held source options.hex input × IsRefusedAt options.limits rules input index start f
+IsSequenceNotChecked rules options source held before after faults.CannotPrint = IsSequenceChecked rules options source held (GoesInPart before after)
 IsSequenceNotChecked rules options source held before after fault = IsNoInput held source options.hex fault

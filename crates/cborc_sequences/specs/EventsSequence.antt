@@ -9,7 +9,6 @@ use Rattle.cbor_head.specs.declared.reason.Refusal.{Refusal}
 use Rattle.cbor_automaton.specs.Event.{events}
 use Rattle.cbor_diag.specs.Listing.{lines, IsListing, IsStopped}
 use Rattle.cbor_reader.specs.Sequence.{IsAccepted, sequence_bytes}
-use Rattle.cborc_input.specs.Fault.{IsOfInput}
 use Rattle.cborc_files.specs.Folder.{Files}
 use Rattle.cborc_fronts.specs.Input.{IsInput, IsFront}
 use Rattle.cborc_input.specs.NoInput.{IsNoInput}
@@ -67,7 +66,6 @@ pub record HasUnlistedItem (options : Options) (source : List ℕ) (held : Optio
   pub goes_on : GoesOn (IsAccepted options.limits form) options.limits.bytes input items rest index start
   pub shown : List ℕ
   pub refused : IsFormRefused start options.limits rest f shown
-  pub of_input : IsOfInput f.reason
   pub listed : Appends before after (all_lines items ++ shown)
 
 -- behind well-formed items, whose lines standard output took, comes one of whose lines it took not all

@@ -3,10 +3,9 @@ use Rattle.std.specs.Prelude.{ℕ, List, flat_map, Option}
 use Rattle.std.specs.Io.KnownBytes.{Appends}
 use Rattle.cbor_head.specs.Complaint.{plain}
 use Rattle.cbor_head.specs.Spelling.{Spelling, value_of}
+use Rattle.cbor_head.specs.Verdict.{refused, IsVerdict}
 use Rattle.cbor_head.specs.declared.reason.Refusal.{Refusal}
-use Rattle.cbor_judging.specs.Readers.{IsUnread}
 use Rattle.cbor_reader.specs.Sequence.{IsAccepted}
-use Rattle.cborc_input.specs.Fault.{IsOfInput}
 use Rattle.cborc_files.specs.Folder.{Files}
 use Rattle.cborc_fronts.specs.Input.{IsInput}
 use Rattle.cborc_input.specs.NoInput.{IsNoInput}
@@ -40,8 +39,7 @@ pub record HasUnshownItem (layout : Layout) (options : Options) (source : List �
   pub items : List Spelling
   pub rest : List ℕ
   pub goes_on : GoesOn (IsAccepted options.limits plain) options.limits.bytes input items rest index start
-  pub refused : IsUnread options.limits plain rest f
-  pub of_input : IsOfInput f.reason
+  pub verdict : IsVerdict options.limits plain rest (refused f)
   pub shown : Appends before after (item_texts layout items)
 
 -- why it is not shown whole, and what standard output took: an item is refused; standard output took not all; there is no input, or memory was refused

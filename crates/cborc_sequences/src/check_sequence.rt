@@ -27,7 +27,7 @@ pub fn check_sequence<'a, F: Folder, O: Write>(
     options: Options,
 ) -> Result<(), Fault<'a>>
     ensures told { OnOk result (IsSequenceChecked (rules_of accepted) options source.now
-        (F.held files.old) (O.contents out.old) (O.contents out.new)) }
+        (F.held files.old) (Appends (O.contents out.old) (O.contents out.new))) }
     ensures fault { IfErr result
         (IsSequenceNotChecked (rules_of accepted) options source.now (F.held files.old)
         (O.contents out.old) (O.contents out.new)) }

@@ -1,15 +1,15 @@
 -- Why the item at the front of some bytes is not taken.
-use Rattle.std.specs.Prelude.{ℕ, ◌≡◌, ◌<◌, ◌++◌, List, length, take, Option}
+use Rattle.std.specs.Prelude.{ℕ, ◌≡◌, ◌++◌, List, Option}
 use Rattle.std.specs.Io.KnownBytes.{Appends}
 use Rattle.cbor_head.specs.Complaint.{Rules, plain}
 use Rattle.cbor_head.specs.Limits.{Bounds}
 use Rattle.cbor_head.specs.Spelling.{Spelling, spell}
+use Rattle.cbor_head.specs.Verdict.{refused, IsVerdict}
 use Rattle.cbor_head.specs.declared.order.KeyOrder.{KeyOrder}
-use Rattle.cbor_judging.specs.Readers.{IsUnread}
 use Rattle.cbor_reader.specs.Sequence.{IsAccepted}
 use Rattle.cborc_sequences.specs.CanonSequence.{HasCanonicalBytes, canonical_text, IsUncanonical}
 use Rattle.cborc_sequences.specs.EventsSequence.{IsFormRefused, IsCutOff, IsListedInPart}
-use Rattle.cborc_input.specs.Fault.{IsOfInput}
+use Rattle.cborc_input.specs.Texts.{GoesInPart}
 use Rattle.cborc_sequences.specs.ShowSequence.{item_text}
 use Rattle.cborc_input.specs.declared.fault.Fault.{Fault}
 use Rattle.cborc_input.specs.declared.fault.Fault.TheVariants as faults
@@ -18,7 +18,7 @@ use Rattle.cborc_input.specs.declared.request.Layout.{Layout}
 
 -- to be counted: it is refused, or memory was
 abbrev pub IsUncounted : Bounds → Rules → List ℕ → Fault → Type 0
-IsUncounted b rules bytes (faults.Refused f) = IsUnread b rules bytes f × IsOfInput f.reason
+IsUncounted b rules bytes (faults.Refused f) = IsVerdict b rules bytes (refused f)
 IsUncounted b rules bytes faults.Memory = Unit {0}
 IsUncounted b rules bytes _ = ⊥
 
@@ -28,20 +28,18 @@ pub record IsCutText (takes : Spelling → Type 0) (text : Spelling → List ℕ
   pub rest : List ℕ
   pub has : takes item
   pub bytes_are : spell item ++ rest ≡ bytes
-  pub count : ℕ
-  pub part : count < length (text item)
-  pub taken : Appends before after (take count (text item))
+  pub taken : GoesInPart before after (text item)
 
 -- to be written as canonical bytes: it is refused, or memory was, and the output took nothing; or it failed
 abbrev pub IsUnwritten : Bounds → KeyOrder → Form → List ℕ → Fault → Option (List ℕ) → Option (List ℕ) → Type 0
-IsUnwritten b o form bytes (faults.Refused f) before after = IsUncanonical b o bytes f × IsOfInput f.reason × (after ≡ before)
+IsUnwritten b o form bytes (faults.Refused f) before after = IsUncanonical b o bytes f × (after ≡ before)
 IsUnwritten b o form bytes faults.CannotPrint before after = IsCutText (HasCanonicalBytes b o) (canonical_text o form) bytes before after
 IsUnwritten b o form bytes faults.Memory before after = after ≡ before
 IsUnwritten b o form bytes _ before after = ⊥
 
 -- to be shown: the same of its diagnostic text
 abbrev pub IsItemNotShown : Bounds → Layout → List ℕ → Fault → Option (List ℕ) → Option (List ℕ) → Type 0
-IsItemNotShown b layout bytes (faults.Refused f) before after = IsUnread b plain bytes f × IsOfInput f.reason × (after ≡ before)
+IsItemNotShown b layout bytes (faults.Refused f) before after = IsVerdict b plain bytes (refused f) × (after ≡ before)
 IsItemNotShown b layout bytes faults.CannotPrint before after = IsCutText (IsAccepted b plain) (item_text layout) bytes before after
 IsItemNotShown b layout bytes faults.Memory before after = after ≡ before
 IsItemNotShown b layout bytes _ before after = ⊥
@@ -49,7 +47,7 @@ IsItemNotShown b layout bytes _ before after = ⊥
 -- to be listed: its form is refused, or memory was, and the output took its lines so far; or it failed
 abbrev pub IsItemNotListed : Bounds → ℕ → List ℕ → Fault → Option (List ℕ) → Option (List ℕ) → Type 0
 IsItemNotListed b start bytes (faults.Refused f) before after =
-    (shown : List ℕ) × IsFormRefused start b bytes f shown × IsOfInput f.reason × Appends before after shown
+    (shown : List ℕ) × IsFormRefused start b bytes f shown × Appends before after shown
 IsItemNotListed b start bytes faults.CannotPrint before after = (shown : List ℕ) × IsCutOff start b bytes shown × Appends before after shown
 IsItemNotListed b start bytes faults.Memory before after = (shown : List ℕ) × IsListedInPart start b bytes shown × Appends before after shown
 IsItemNotListed b start bytes _ before after = ⊥

@@ -1,3 +1,4 @@
+use Rattle.std.specs.Io.KnownBytes.{Appends}
 use Rattle.std.proofs.lemmas.Result.{err_from_is_err_and}
 use Rattle.cborc_input.specs.Rules.{rules_of}
 use Rattle.cborc_fronts.proofs.Results.{on_ok, if_err}
@@ -15,7 +16,7 @@ pub returns-clause-told : goal.returns-clause-told
 returns-clause-told g c =
     on_ok c.tell.result _ _
     (checked (rules_of c.args.accepted) c.args.options c.args.source.now (g.F.Folder.held c.args.files.now) c.in_ok-bytes.bytes.items c.in_ok-bytes.ensures.front c.in_ok-size.size
-    (g.O.Write.contents c.args.out.now) (g.O.Write.contents c.tell.new.out) (rw (c.as_slice.ensures.value) at c.in_ok-size.ensures.whole))
+    (rw (c.as_slice.ensures.value) at c.in_ok-size.ensures.whole) (Appends (g.O.Write.contents c.args.out.now) (g.O.Write.contents c.tell.new.out)))
     c.tell.ensures.told
 
 pub returns-clause-fault : goal.returns-clause-fault

@@ -1,6 +1,14 @@
+use Rattle.std.proofs.Common.{inr}
+use Rattle.std.proofs.KnownBytes.{Keeps-refl}
+use Rattle.std.proofs.lemmas.Result.{err_from_is_err_and}
 use Rattle.cborc_fronts.proofs.Results.{on_ok, if_err}
 use Rattle.cborc_items.proofs.Faults.{listed_of, not_listed_of}
 use Rattle.cborc_items.proofs.events.events.Goals as goal
+
+pub returns-in_err-bytes-clause-fault : goal.returns-in_err-bytes-clause-fault
+returns-in_err-bytes-clause-fault g c =
+    let p = err_from_is_err_and c.from_residual.result c.from_residual.ensures.1 in
+    rw (p.1, p.2) (inr (c.in_err-bytes.ensures.fault, Keeps-refl (g.O.Write.contents c.args.out.now)))
 
 pub returns-clause-listed : goal.returns-clause-listed
 returns-clause-listed g c =

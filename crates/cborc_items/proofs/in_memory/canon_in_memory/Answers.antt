@@ -19,7 +19,7 @@ not_held options o source output files before after raw (faults.Refused f) (inpu
     (input, subst (λ (hex : Bool). IsInput (Some files) source hex input) raw is, h, own)
 not_held options o source output files before after raw (faults.CannotRead named) h = h
 not_held options o source output files before after raw (faults.NotHex named) h = absurd (subst (λ (hex : Bool). IsNotHex (Some files) source hex) raw h.1)
-not_held options o source output files before after raw (faults.CannotWrite named) h = h.1
+not_held options o source output files before after raw (faults.CannotWrite named) h = h.told
 not_held options o source output files before after raw faults.CannotPrint h = h.1
 not_held options o source output files before after raw faults.Memory h = tt
 not_held options o source output files before after raw _ h = absurd h

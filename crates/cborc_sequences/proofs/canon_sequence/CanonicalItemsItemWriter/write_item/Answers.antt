@@ -26,4 +26,4 @@ pub returns-clause-stopped : goal.returns-clause-stopped
 returns-clause-stopped g c behind ends =
     let cut = rw (c.as_slice.ensures.value) at c.in-Err-write_whole.ensures in
     cut_text c.args.limits c.args.self.now.order c.args.bytes.now _ _ c.in-Ok.ensures.accepted (omega (arith, c.if-canonical-bytes.false)) c.args.self.now.form _
-    c.in-Ok-formed.ensures _ _ _ behind cut.0 cut.1
+    c.in-Ok-formed.ensures _ _ behind (_, cut.0, cut.1)
