@@ -78,7 +78,9 @@ static int refuse_each(const char *name, uint32_t (*call)(void), uint32_t status
             bad |= s != status || needed != length || memcmp(out, answer, sizeof out) != 0;
         } else {
             refusals++;
-            bad |= s != NALTVIGO_NO_MEMORY || why.reason != NALTVIGO_MEMORY || why.place != why.read || why.read > sizeof in;
+            bad |= s != NALTVIGO_NO_MEMORY || why.reason != NALTVIGO_MEMORY || why.place != why.read;
+            /* At the front; where the text alone could not be had, behind the input. */
+            bad |= why.read != 0 && (call != diagnostic || why.read != sizeof in);
             bad |= memcmp(out, before, sizeof out) != 0 || needed != 0;
         }
     }
