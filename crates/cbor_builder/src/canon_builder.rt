@@ -1,7 +1,7 @@
 //! The public builder: canonical bytes from the parts of an item, without a tree.
 
 ghost use Rattle.std.specs.Prelude.{◌≡◌, ◌↔◌, ◌++◌, ◌∷◌, [], List, ℕ, false, length, IsTrue, OnOk, OnErr};
-ghost use Rattle.std.specs.Prelude.{◌≤◌, IfOk, MatchOption, take};
+ghost use Rattle.std.specs.Prelude.{◌≤◌, IfOk, take};
 ghost use Rattle.cbor_head.specs.Canonical.{canonical};
 ghost use Rattle.cbor_head.specs.Head.{shortest_head, IsSimple};
 ghost use Rattle.cbor_head.specs.Value.{Value};
@@ -9,14 +9,11 @@ ghost use Rattle.cbor_head.specs.declared.major.Major.TheVariants.{Simple};
 ghost use Rattle.cbor_builder.specs.Built.{built, IsLeaf, IsStringType, IsContainer, TakesPart};
 ghost use Rattle.cbor_builder.specs.Built.{IsInString, HasDistinctKeysSoFar};
 ghost use Rattle.cbor_canonical.specs.Parts.{IsInContainer, Part, Makes, run, plain, give, opened, extended, close};
-ghost use Rattle.cbor_builder.specs.Built.{IsWaitingKey};
-ghost use Rattle.cbor_builder.specs.Built.{AreOpenKeysDifferent};
-ghost use Rattle.cbor_builder.specs.Built.{IsRepeatTold, around};
+ghost use Rattle.cbor_builder.specs.Built.{around};
 
 mod due_key;
 
 use crate::builder::Core;
-use crate::repeat::Repeat;
 use cbor_head::{KeyOrder, Major};
 use std::alloc::{AllocError, Global};
 use std::marker::Model;
@@ -87,7 +84,8 @@ impl CanonBuilder {
         mem::replace(self, fresh)
     }
 
-    /// An integer or a simple value.
+    /// An integer or a simple value. The argument of a negative integer n is -1 - n; that of a simple
+    /// value is its number, 0 to 23 or 32 to 255.
     #[inline(always)]
     pub fn leaf(&mut self, major: Major, argument: u64) -> Result<(), AllocError>
         requires kind { IsLeaf major }
@@ -106,7 +104,8 @@ impl CanonBuilder {
         done
     }
 
-    /// A whole string: what `begin_string`, `bytes` and `end_string` do in turn, in one step.
+    /// A whole byte string or text: what `begin_string`, `bytes` and `end_string` do in turn, in one
+    /// step. Whether a text is UTF-8 is not looked at.
     #[inline(always)]
     pub fn string(&mut self, major: Major, content: &[u8]) -> Result<(), AllocError>
         requires kind { IsStringType major }
@@ -164,7 +163,7 @@ impl CanonBuilder {
         done
     }
 
-    /// A string begins.
+    /// A byte string or a text begins.
     #[inline(always)]
     pub fn begin_string(&mut self, major: Major) -> Result<(), AllocError>
         requires kind { IsStringType major }
@@ -303,31 +302,6 @@ impl CanonBuilder {
         let is_distinct = self.core.give_up()?;
         self.is_sound = true;
         Ok(is_distinct)
-    }
-
-    /// The canonical bytes of the key that was just completed, where its value is still to come.
-    /// Takes no memory.
-    pub fn waiting_key(&self) -> Option<&[u8]>
-        ensures { MatchOption result ((q : List ℕ) → IsWaitingKey self.now.standing q → ⊥)
-            (λ key. IsWaitingKey self.now.standing key.now) }
-    {
-        if self.is_sound {
-            self.core.waiting_key()
-        } else {
-            None
-        }
-    }
-
-    /// Which repeated key is to be told where the parts end before the item: of the open maps, from
-    /// the outermost in, the first that has two equal keys, and of it the first key that is equal
-    /// to an earlier one. A key that waits for its value is one of its map's. None where the keys
-    /// of each open map differ. Takes no memory, and some n log n comparisons for n pairs.
-    pub fn first_repeat(self) -> Option<Repeat>
-        ensures { MatchOption result (AreOpenKeysDifferent self.standing)
-            (λ repeat. IsRepeatTold self.standing repeat.outside repeat.pair) }
-    {
-        let CanonBuilder { core, is_sound } = self;
-        if is_sound { core.first_repeat() } else { None }
     }
 
     /// The bytes, once the item is whole, as `finish` answers them. They stay where they are.

@@ -1,6 +1,6 @@
 //! A key looked for among the pairs of its map.
 
-ghost use Rattle.std.specs.Prelude.{◌≡◌, ◌↔◌, ◌≤◌, IsTrue, map, length, slice_range};
+ghost use Rattle.std.specs.Prelude.{◌↔◌, ◌≤◌, IsTrue, map, length, slice_range};
 ghost use Rattle.cbor_head.specs.declared.order.KeyOrder.{KeyOrder};
 ghost use Rattle.cbor_builder.specs.Built.{HasKey};
 ghost use Rattle.cbor_builder.specs.inner.Front.{AreFronted, IsFronted, key_of};

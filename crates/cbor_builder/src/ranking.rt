@@ -2,7 +2,7 @@
 
 ghost use Rattle.std.specs.Prelude.{◌≡◌, ◌≤◌, length, slice_range};
 ghost use Rattle.cbor_keys.specs.Front.{front_of};
-ghost use Rattle.cbor_builder.specs.inner.Front.{key_of, by_front, rank, ranked_by};
+ghost use Rattle.cbor_builder.specs.inner.Front.{by_front, rank, ranked_by};
 ghost use Rattle.cbor_head.specs.Order.{key_cmp};
 
 use cbor_buffer::out::Out;

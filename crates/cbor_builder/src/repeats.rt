@@ -1,6 +1,6 @@
 //! The first key of a map that is equal to an earlier one.
 
-ghost use Rattle.std.specs.Prelude.{ℕ, ◌≡◌, List, length, map, IsPermutation, IsSortedBy};
+ghost use Rattle.std.specs.Prelude.{length, map, IsPermutation, IsSortedBy};
 ghost use Rattle.std.specs.Prelude.{MatchOption};
 ghost use Rattle.std.specs.Ordering.{is_lt};
 ghost use Rattle.cbor_builder.specs.Built.{AreAllDifferent, IsFirstRepeat};

@@ -9,7 +9,7 @@ ghost use Rattle.cbor_builder.specs.inner.Neighbours.{DoNeighboursDiffer};
 ghost use Rattle.cbor_builder.specs.inner.Places.{by_place};
 ghost use Rattle.cbor_canonical.specs.Pairs.{HasDistinctBytes};
 ghost use Rattle.cbor_buffer.specs.Spans.{span_pair};
-ghost use Rattle.cbor_builder.specs.inner.Front.{key_of, AreFronted, rank, ranked_by};
+ghost use Rattle.cbor_builder.specs.inner.Front.{key_of, AreFronted};
 ghost use Rattle.std.specs.Ordering.{is_lt};
 
 use crate::insertion::insert_each;

@@ -1,7 +1,7 @@
 //! The parts of a text that hold no others.
 
 ghost use Rattle.std.specs.Prelude.{◌≡◌, ◌≢◌, ◌+◌, ◌≤◌, ◌↔◌, [], ◌∷◌, ◌++◌, IsTrue, codes, decimal};
-ghost use Rattle.std.specs.Prelude.{flat_map, length, MatchResult};
+ghost use Rattle.std.specs.Prelude.{flat_map, length};
 ghost use Rattle.hex.specs.Hex.{encode_lower};
 ghost use Rattle.cbor_diag.specs.IndentedText.{new_line};
 ghost use Rattle.cbor_diag.specs.inner.Outbox.{Puts};

@@ -3,7 +3,7 @@
 ghost use Rattle.std.specs.Prelude.{◌≡◌, ◌↔◌, IsSome, IfSome, IfOk, IfErr};
 ghost use Rattle.cbor_head.specs.Canonical.{canonical};
 ghost use Rattle.cbor_head.specs.Value.{IsInRange, IsValid};
-ghost use Rattle.cbor_builder.specs.Built.{built, TakesPart};
+ghost use Rattle.cbor_builder.specs.Built.{TakesPart};
 ghost use Rattle.cbor_item.specs.Sent.{no_memory};
 ghost use Rattle.cbor_item.specs.View.{view};
 ghost use Rattle.cbor_item.specs.inner.Walk.{IsBegun};

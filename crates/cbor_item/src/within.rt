@@ -1,6 +1,6 @@
 //! How deep an item is, and the ranges of its numbers.
 
-ghost use Rattle.std.specs.Prelude.{◌≡◌, ◌≤◌, ◌<◌, ◌^◌, ◌↔◌, IsTrue, length, MatchOption};
+ghost use Rattle.std.specs.Prelude.{◌≤◌, ◌<◌, ◌^◌, ◌↔◌, IsTrue, length, MatchOption};
 ghost use Rattle.cbor_head.specs.Value.{depth, AreBytes, IsInRange};
 ghost use Rattle.cbor_item.specs.View.{view};
 ghost use Rattle.cbor_item.specs.inner.Walk.{left};

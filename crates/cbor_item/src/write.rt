@@ -1,6 +1,6 @@
 //! Canonical bytes into a writer.
 
-ghost use Rattle.std.specs.Prelude.{◌≡◌, ◌<◌, length, take, MatchResult};
+ghost use Rattle.std.specs.Prelude.{◌<◌, length, take, MatchResult};
 ghost use Rattle.std.specs.Io.KnownBytes.{Appends};
 ghost use Rattle.cbor_head.specs.Canonical.{canonical};
 ghost use Rattle.cbor_item.specs.Sent.{Sends};

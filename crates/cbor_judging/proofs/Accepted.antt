@@ -1,14 +1,16 @@
 -- What an accepted item is in its input, which has one answer.
-use Rattle.std.proofs.Common.{ℕ, ◌+◌, ◌-◌, ◌≡◌, ◌≤◌, List, [], ◌++◌, length, take, sym, ap, ◌∙◌, arith}
+use Rattle.std.proofs.Common.{ℕ, ◌+◌, ◌-◌, ◌≡◌, ◌≢◌, ◌≤◌, List, [], ◌++◌, length, take, sym, ap, ◌∙◌, arith}
 use Rattle.std.proofs.lemmas.List.{append-nil, length-append, length-take, nil_from_length, take_all}
 use Rattle.std.proofs.Math.Seq.{take-append-add}
 use Rattle.cbor_head.specs.Limits.{Bounds}
 use Rattle.cbor_head.specs.Spelling.{Spelling, spell, IsItem}
 use Rattle.cbor_head.specs.Complaint.{Rules, Complaint, IsComplaint}
 use Rattle.cbor_head.specs.Verdict.{accepted, refused, IsVerdict}
+use Rattle.cbor_head.specs.declared.reason.Reason.TheVariants.{Read, Memory}
 use Rattle.cbor_head.specs.declared.reason.Refusal.{Refusal}
 use Rattle.cbor_grammar.proofs.Beginnings.{item_decides}
 use Rattle.cbor_grammar.proofs.OneVerdict.{one_verdict}
+use Rattle.cbor_judging.specs.Readers.{IsUnread, of_verdict, of_reader, of_memory}
 
 module _ (limits : Bounds) (r : Rules) (input : List ℕ) where
   pub one_item : (s t : Spelling) → IsVerdict limits r input (accepted s) → IsVerdict limits r input (accepted t) → s ≡ t
@@ -19,6 +21,12 @@ module _ (limits : Bounds) (r : Rules) (input : List ℕ) where
 
   pub not_both : (s : Spelling) (f : Refusal) → IsVerdict limits r input (accepted s) → IsVerdict limits r input (refused f) → ⊥
   not_both s f v w = let e = one_verdict limits r input (accepted s) (refused f) v w in cc e
+
+  -- a refusal for which neither the reader nor memory is the reason
+  pub verdict_only : (f : Refusal) → IsUnread limits r input f → f.reason ≢ Read → f.reason ≢ Memory → IsVerdict limits r input (refused f)
+  verdict_only f (of_verdict w) x y = w
+  verdict_only f (of_reader is w) x y = absurd (x (ap (λ (g : Refusal). g.reason) is))
+  verdict_only f (of_memory p l m is free) x y = absurd (y (ap (λ (g : Refusal). g.reason) is))
 
 module _ (limits : Bounds) (r : Rules) (input : List ℕ) (s : Spelling) (v : IsVerdict limits r input (accepted s)) where
   -- it is the longest beginning

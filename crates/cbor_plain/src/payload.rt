@@ -1,7 +1,6 @@
 //! The bytes of strings.
 
 ghost use Rattle.std.specs.Prelude.{◌≡◌, false};
-ghost use Rattle.cbor_standing.specs.NextEvent.{ItemEventsView};
 ghost use Rattle.cbor_judging.specs.Reading.{IsPayloadDue, AnswersPayload};
 
 use cbor_events::ItemEvents;

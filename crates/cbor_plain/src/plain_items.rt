@@ -1,8 +1,8 @@
 //! What the plain reader keeps of the items that are open, from event to event.
 
-ghost use Rattle.std.specs.Prelude.{◌≡◌, ◌<◌, ◌≤◌, ◌∷◌, ◌↔◌, [], ℕ, List, IfOk, IsSome, IsTrue, None, length};
-ghost use Rattle.std.specs.Prelude.{take, ◌++◌, OnOk, MatchOption, Option};
-ghost use Rattle.cbor_builder.specs.Built.{built, IsRepeatedKey};
+ghost use Rattle.std.specs.Prelude.{◌≡◌, ◌<◌, ◌∷◌, [], List, IfOk, None};
+ghost use Rattle.std.specs.Prelude.{take, ◌++◌, OnOk, Option};
+ghost use Rattle.cbor_builder.specs.Built.{built};
 ghost use Rattle.cbor_canonical.specs.Parts.{plain};
 ghost use Rattle.cbor_head.specs.Spelling.{Spelling, value_of};
 ghost use Rattle.cbor_item.specs.OpenValues.{IsWhole, TakesValue, standing};
@@ -12,7 +12,7 @@ ghost use Rattle.cbor_plain.specs.TreeValues.{IsForTree, IsTreeAt, values_with};
 ghost use Rattle.cbor_plain.specs.declared.key_set.KeySet.{KeySet as KeySetView};
 ghost use Rattle.cbor_plain.specs.inner.HeldKeys.{AreHeld};
 ghost use Rattle.cbor_plain.specs.inner.PlainItems.{CanTake, IsGiven, IsEnding, AnswersEnds};
-ghost use Rattle.cbor_plain.specs.inner.PlainItems.{sets, AreKeysBegun, AreKeysOpened, AnswersKey};
+ghost use Rattle.cbor_plain.specs.inner.PlainItems.{sets, AreKeysBegun, AnswersKey};
 ghost use Rattle.cbor_plain.specs.inner.ItemFront.{IsDueSomewhere, AnswersDue};
 
 use crate::key_set::KeySet;

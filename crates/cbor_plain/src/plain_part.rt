@@ -1,9 +1,5 @@
 //! The parts of an item, as the plain reader takes them.
 
-ghost use Rattle.std.specs.Prelude.{ℕ, List, MatchResult};
-ghost use Rattle.cbor_head.specs.Limits.{Bounds};
-ghost use Rattle.cbor_judging.specs.Place.{Container};
-ghost use Rattle.cbor_automaton.specs.declared.event.Event.{Event as EventView};
 ghost use Rattle.cbor_plain.specs.inner.PlainParts.{HasCome, AnswersPart};
 
 use crate::strings::read_string;

@@ -4,27 +4,22 @@ use Rattle.cbor_head.specs.Limits.{Bounds}
 use Rattle.cbor_head.specs.Spelling.{Spelling, spell, value_of}
 use Rattle.cbor_head.specs.Canonical.{canonical}
 use Rattle.cbor_head.specs.Complaint.{Rules, plain}
-use Rattle.cbor_head.specs.Verdict.{IsVerdict, accepted, refused, refusal}
+use Rattle.cbor_head.specs.Verdict.{IsVerdict, accepted, refusal}
 use Rattle.cbor_head.specs.declared.order.KeyOrder.{KeyOrder}
-use Rattle.cbor_head.specs.declared.reason.Reason.TheVariants.{Trailing, Read, Memory}
+use Rattle.cbor_head.specs.declared.reason.Reason.TheVariants.{Trailing, Memory}
 use Rattle.cbor_head.specs.declared.reason.Refusal.{Refusal}
-use Rattle.cbor_judging.proofs.Accepted.{one_item, one_refusal, not_both}
-use Rattle.cbor_judging.specs.Readers.{IsUnread, of_verdict, of_reader, of_memory}
+use Rattle.cbor_judging.proofs.Accepted.{one_item, one_refusal, not_both, verdict_only}
+use Rattle.cbor_judging.specs.Readers.{of_verdict, of_reader, of_memory}
 use Rattle.cbor_reader.specs.Canonicalise.{IsCanonicalOf, IsRefusal, of_item, canonical_too_long}
 use Rattle.cbor_reader.specs.WholeItem.{IsItemRefusal, unread, trailing}
 
 -- ---- an item
 
 module _ (limits : Bounds) (r : Rules) (input : List ℕ) where
-  pub verdict_only : (f : Refusal) → IsUnread limits r input f → f.reason ≢ Read → f.reason ≢ Memory → IsVerdict limits r input (refused f)
-  verdict_only f (of_verdict w) x y = w
-  verdict_only f (of_reader is w) x y = absurd (x (ap (λ (g : Refusal). g.reason) is))
-  verdict_only f (of_memory p l m is free) x y = absurd (y (ap (λ (g : Refusal). g.reason) is))
-
   pub item_refused_once : (f g : Refusal) → IsItemRefusal limits r input f → IsItemRefusal limits r input g → f.reason ≢ Memory → g.reason ≢ Memory → f ≡ g
-  item_refused_once f g (unread u x) (unread v y) h i = one_refusal limits r input f g (verdict_only f u x h) (verdict_only g v y i)
-  item_refused_once f g (unread u x) (trailing n t l e) h i = absurd (not_both limits r input t.item f t.verdict (verdict_only f u x h))
-  item_refused_once f g (trailing n s l e) (unread v y) h i = absurd (not_both limits r input s.item g s.verdict (verdict_only g v y i))
+  item_refused_once f g (unread u x) (unread v y) h i = one_refusal limits r input f g (verdict_only limits r input f u x h) (verdict_only limits r input g v y i)
+  item_refused_once f g (unread u x) (trailing n t l e) h i = absurd (not_both limits r input t.item f t.verdict (verdict_only limits r input f u x h))
+  item_refused_once f g (trailing n s l e) (unread v y) h i = absurd (not_both limits r input s.item g s.verdict (verdict_only limits r input g v y i))
   item_refused_once f g (trailing n s l e) (trailing m t k is) h i =
       let same : n ≡ m = s.size ∙ ap (λ (s : Spelling). length (spell s)) (one_item limits r input s.item t.item s.verdict t.verdict) ∙ sym t.size in
       e ∙ ap (λ (k : ℕ). refusal Trailing k k) same ∙ sym is

@@ -1,5 +1,5 @@
 -- Which inputs are their own answers: those that the strict verdict accepts whole.
-use Rattle.std.proofs.Common.{ℕ, ◌≡◌, List, length, refl, sym, ap, ◌∙◌, [], subst, ◌^◌, ◌≤◌, ◌↔◌, inl, inr}
+use Rattle.std.proofs.Common.{ℕ, ◌≡◌, List, length, refl, sym, ◌∙◌, [], subst, ◌^◌, ◌≤◌, ◌↔◌, inl, inr}
 use Rattle.std.proofs.lemmas.List.{append-nil}
 use Rattle.cbor_head.specs.Limits.{Bounds}
 use Rattle.cbor_head.specs.Spelling.{Spelling, spell, value_of}

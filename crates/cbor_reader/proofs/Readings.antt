@@ -12,10 +12,9 @@ use Rattle.cbor_head.specs.declared.reason.Reason.TheVariants.{Read, Memory, Tru
 use Rattle.cbor_head.specs.declared.reason.Refusal.{Refusal}
 use Rattle.cbor_judging.specs.Readers.{IsRead, IsReadAs, IsUnread, of_verdict, of_reader, of_memory}
 use Rattle.cbor_judging.specs.Refusals.{StandsWithin}
-use Rattle.cbor_judging.proofs.Accepted.{one_item, one_refusal, not_both}
+use Rattle.cbor_judging.proofs.Accepted.{one_item, one_refusal, not_both, verdict_only}
 use Rattle.cbor_judging.proofs.Within.{longest_within, verdict_within}
 use Rattle.cbor_reader.specs.Sequence.{IsAccepted}
-use Rattle.cbor_reader.proofs.OneAnswer.{verdict_only}
 use Rattle.cbor_reader.proofs.Sequences.{is_accepted, verdict_of, splits}
 
 pub within_at : (limits : Bounds) (input : List ℕ) (f : Refusal) (x : Reason) (k : ℕ) → f ≡ refusal x k k → k ≤ limits.bytes → k ≤ length input → StandsWithin limits.bytes input f

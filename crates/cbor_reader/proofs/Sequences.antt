@@ -15,10 +15,10 @@ use Rattle.cbor_grammar.proofs.Accepted.{accepts_exactly}
 use Rattle.cbor_grammar.proofs.KeyKinds.{kind_later}
 use Rattle.cbor_grammar.proofs.OneFirst.{after_head}
 use Rattle.cbor_grammar.proofs.ReadLaws.{length_spell}
-use Rattle.cbor_judging.specs.Readers.{IsRead, IsReadAs, IsUnread, of_verdict, of_reader, of_memory, Loses}
+use Rattle.cbor_judging.specs.Readers.{IsRead, IsReadAs, IsUnread, Loses}
 use Rattle.cbor_reader.specs.Sequence.{sequence_bytes, IsAccepted, IfRefused, EndsBefore, IsAtEnd, IsRefused, Given, given_by, items_of, HasGiven, IsTaken}
 use Rattle.cbor_judging.specs.Refusals.{IsReaderReason}
-use Rattle.cbor_judging.proofs.Accepted.{item_within_limit, front_accepted, one_refusal, not_both}
+use Rattle.cbor_judging.proofs.Accepted.{item_within_limit, front_accepted, one_refusal, not_both, verdict_only}
 use Rattle.cbor_reader.proofs.CutShort.{truncated}
 
 -- the refusal that says that the input ended before an item
@@ -86,22 +86,18 @@ module _ (limits : Bounds) (r : Rules) (input : List ℕ) where
   ]
 
   ends_so : (f : Refusal) → IsUnread limits r input f → IsBeforeItem f → EndsBefore limits.bytes input
-  ends_so f (of_verdict w) h = verdict_before f w h
-  ends_so f (of_reader is w) h = absurd (apart (sym h.0 ∙ ap (λ (g : Refusal). g.reason) is))
+  ends_so f u h = verdict_before f (verdict_only limits r input f u (λ e. not_read (sym h.0 ∙ e)) (λ e. not_memory (sym h.0 ∙ e))) h
     where
-      apart : Truncated ≡ Read → ⊥
-      apart e = cc e
-  ends_so f (of_memory p l m is free) h = absurd (apart (sym h.0 ∙ ap (λ (g : Refusal). g.reason) is))
-    where
-      apart : Truncated ≡ Memory → ⊥
-      apart e = cc e
+      not_read : Truncated ≡ Read → ⊥
+      not_read e = cc e
+
+      not_memory : Truncated ≡ Memory → ⊥
+      not_memory e = cc e
 
   begun_so : (f : Refusal) → IsUnread limits r input f → ¬ IsBeforeItem f → f.reason ≢ Read → f.reason ≢ Memory → ¬ EndsBefore limits.bytes input
-  begun_so f (of_verdict w) h x y = λ (e, l).
-      let same : f ≡ refusal Truncated 0 0 = one_refusal limits r input f (refusal Truncated 0 0) w (subst (λ (b : List ℕ). IsVerdict limits r b (refused (refusal Truncated 0 0))) (sym e) (empty_is_truncated limits r l)) in
+  begun_so f u h x y = λ (e, l).
+      let same : f ≡ refusal Truncated 0 0 = one_refusal limits r input f (refusal Truncated 0 0) (verdict_only limits r input f u x y) (subst (λ (b : List ℕ). IsVerdict limits r b (refused (refusal Truncated 0 0))) (sym e) (empty_is_truncated limits r l)) in
       h (ap (λ (g : Refusal). g.reason) same, ap (λ (g : Refusal). g.read) same)
-  begun_so f (of_reader is w) h x y = absurd (x (ap (λ (g : Refusal). g.reason) is))
-  begun_so f (of_memory p l m is free) h x y = absurd (y (ap (λ (g : Refusal). g.reason) is))
 
 -- ---- what a call answers
 

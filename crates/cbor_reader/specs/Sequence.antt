@@ -1,5 +1,5 @@
 -- Sequences of items (RFC 8742), and what was given of one.
-use Rattle.std.specs.Prelude.{ℕ, ◌≡◌, ◌≢◌, ◌<◌, ◌≤◌, ◌++◌, Bool, true, false, List, [], ◌∷◌, length, map, flat_map, Option, Some, None, Result, Ok, Err, IfSome, IfOk, IfErr}
+use Rattle.std.specs.Prelude.{ℕ, ◌≡◌, ◌≢◌, ◌<◌, ◌≤◌, ◌++◌, Bool, true, false, List, [], length, map, flat_map, Option, Some, None, Result, Ok, Err, IfSome, IfOk, IfErr}
 use Rattle.std.specs.List.{AllByRecursion}
 use Rattle.cbor_head.specs.Value.{Value}
 use Rattle.cbor_head.specs.Spelling.{Spelling, IsItem, spell}

@@ -1,9 +1,11 @@
 //! Readers of whole CBOR items, and of sequences of them.
 //!
-//! [`canonicalise`] answers the canonical bytes of an item (RFC 8949, section 4.2), [`read_tree`]
-//! reads one as a [`Tree`], [`same_meaning`] compares two items, and [`Sequence`] reads one item after
-//! another (RFC 8742). [`read_strict`], [`check_canonical`] and [`StrictReader`], which accept
-//! canonical bytes alone, are those of `cbor_strict`.
+//! Of one item: [`canonicalise`] answers its canonical bytes (RFC 8949, section 4.2), [`check_valid`]
+//! whether there is one, [`read_view`] what it holds, as a view that borrows, [`read_tree`] the same
+//! from a reader, as a [`Tree`]; [`same_meaning`] compares two. Of one item after another (RFC 8742):
+//! [`ItemCheck`] and [`ItemCanonicaliser`] go over a slice, [`Sequence`] over a reader. [`read_strict`],
+//! [`check_canonical`] and [`StrictReader`], which accept canonical bytes alone, are those of
+//! `cbor_strict`.
 //!
 //! Whatever is refused has one refusal, with its place. [`laws`] and [`sequence_laws`] have no code
 //! to run: their contracts are the laws of these answers.

@@ -1,6 +1,6 @@
 //! The item at the front of a slice, or that a whole slice is, as a view.
 
-ghost use Rattle.std.specs.Prelude.{◌≡◌, ◌≢◌, ◌≤◌, ◌^◌, IfOk, IfErr};
+ghost use Rattle.std.specs.Prelude.{◌≡◌, ◌≢◌, ◌≤◌, IfOk, IfErr};
 ghost use Rattle.cbor_head.specs.Complaint.{plain};
 ghost use Rattle.cbor_head.specs.Spelling.{Spelling, value_of};
 ghost use Rattle.cbor_head.specs.Value.{depth, IsInRange, IsValid};

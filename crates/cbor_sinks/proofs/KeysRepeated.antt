@@ -10,7 +10,7 @@ use Rattle.cbor_head.specs.declared.order.KeyOrder.{KeyOrder}
 use Rattle.cbor_builder.specs.Built.{Built, HasKey, HoldsKey}
 use Rattle.cbor_canonical.specs.Parts.{Open, a_map}
 use Rattle.cbor_judging.specs.Levels as levels
-use Rattle.cbor_judging.specs.Levels.{IsTaken, Level, a_member, a_value, some_member, some_key, some_value, tagged, Standing, item_due}
+use Rattle.cbor_judging.specs.Levels.{Level, a_member, a_value, some_member, some_key, some_value, tagged}
 use Rattle.cbor_grammar.proofs.Accepted.{accepts_exactly}
 use Rattle.cbor_judging.proofs.Levels.{clean-anywhere}
 use Rattle.cbor_judging.specs.Given.{level_open, opens}

@@ -1,16 +1,15 @@
 -- From what is read of an input to the answers that are public.
-use Rattle.std.proofs.Common.{ℕ, ◌≡◌, ◌≢◌, Option, Some, None, List, length, sym, ap, ◌∙◌, subst}
+use Rattle.std.proofs.Common.{ℕ, ◌≢◌, Option, Some, None, List, length, ap, ◌∙◌}
 use Rattle.std.specs.Option.{IfSome}
 use Rattle.cbor_head.specs.Limits.{Bounds}
-use Rattle.cbor_head.specs.Value.{Value}
 use Rattle.cbor_head.specs.Spelling.{value_of}
 use Rattle.cbor_head.specs.Complaint.{strict}
 use Rattle.cbor_head.specs.Verdict.{IsVerdict, refused}
 use Rattle.cbor_head.specs.declared.order.KeyOrder.{KeyOrder}
 use Rattle.cbor_head.specs.declared.reason.Reason.TheVariants.{Read, Memory}
 use Rattle.cbor_head.specs.declared.reason.Refusal.{Refusal}
-use Rattle.cbor_judging.specs.Readers.{IsRead, IsReadAs, IsUnread, of_verdict, of_reader, of_memory, IsCanonicalFront, HasNoCanonicalFront}
-use Rattle.cbor_judging.proofs.Accepted.{not_both}
+use Rattle.cbor_judging.specs.Readers.{IsRead, IsUnread, IsCanonicalFront, HasNoCanonicalFront}
+use Rattle.cbor_judging.proofs.Accepted.{not_both, verdict_only}
 use Rattle.cbor_judging.proofs.CanonicalFronts.{strict_bytes, strict_value, strict_accepts}
 
 -- of a known input
@@ -30,18 +29,8 @@ read-canonical limits o input count i = record {
 pub refused-front : (limits : Bounds) (o : KeyOrder) (input : List ℕ) (f : Refusal) → IsVerdict limits (strict o) input (refused f) → HasNoCanonicalFront limits o input
 refused-front limits o input f w = λ v b. let (s, accepts) = strict_accepts limits o input v b in not_both limits (strict o) input s f accepts w
 
-no-front : (limits : Bounds) (o : KeyOrder) (input : List ℕ) (f : Refusal) → IsUnread limits (strict o) input f → f.reason ≢ Read → f.reason ≢ Memory → HasNoCanonicalFront limits o input
-no-front limits o input f (of_verdict w) g h = refused-front limits o input f w
-no-front limits o input f (of_reader is w) g h = absurd (g (ap (λ (x : Refusal). x.reason) is))
-no-front limits o input f (of_memory p l m is w) g h = absurd (h (ap (λ (x : Refusal). x.reason) is))
-
 pub has-no-front : (limits : Bounds) (o : KeyOrder) (from : Option (List ℕ)) (f : Refusal) → IfSome from (λ input. IsUnread limits (strict o) input f) → f.reason ≢ Read → f.reason ≢ Memory → IfSome from (HasNoCanonicalFront limits o)
-has-no-front limits o from f h e g = some-so from (λ input. IsUnread limits (strict o) input f) (HasNoCanonicalFront limits o) (λ input i. no-front limits o input f i e g) h
-
-pub front-canonical : (limits : Bounds) (o : KeyOrder) (from : Option (List ℕ)) (v : Value) (count k : ℕ) → IfSome from (λ input. IsReadAs limits (strict o) input v count) → k ≡ count → IfSome from (λ input. IsCanonicalFront limits o input k)
-front-canonical limits o from v count k h e =
-    some-so from (λ input. IsReadAs limits (strict o) input v count) (λ input. IsCanonicalFront limits o input k)
-    (λ input i. subst (IsCanonicalFront limits o input) (sym e) (read-canonical limits o input count i.read)) h
+has-no-front limits o from f h e g = some-so from (λ input. IsUnread limits (strict o) input f) (HasNoCanonicalFront limits o) (λ input i. refused-front limits o input f (verdict_only limits (strict o) input f i e g)) h
 
 pub read-front-canonical : (limits : Bounds) (o : KeyOrder) (from : Option (List ℕ)) (count : ℕ) → IfSome from (λ input. IsRead limits (strict o) input count) → IfSome from (λ input. IsCanonicalFront limits o input count)
 read-front-canonical limits o from count h = some-so from (λ input. IsRead limits (strict o) input count) (λ input. IsCanonicalFront limits o input count) (λ input i. read-canonical limits o input count i) h

@@ -1,6 +1,6 @@
 //! The item at the front of an input, by the rules of the deterministic encoding, without a tree.
 
-ghost use Rattle.std.specs.Prelude.{◌≡◌, [], None, MatchResult};
+ghost use Rattle.std.specs.Prelude.{◌≡◌, None, MatchResult};
 ghost use Rattle.cbor_head.specs.Complaint.{strict};
 ghost use Rattle.cbor_judging.specs.Reading.{IsFrontUnread};
 ghost use Rattle.cbor_standing.specs.Machine.{KeepsLimits};

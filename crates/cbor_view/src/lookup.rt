@@ -1,6 +1,6 @@
 //! Members by their index, and values by their keys.
 
-ghost use Rattle.std.specs.Prelude.{◌≡◌, ◌↔◌, ℕ, IsTrue, MatchOption, option_map};
+ghost use Rattle.std.specs.Prelude.{◌≡◌, ◌↔◌, IsTrue, MatchOption, option_map};
 ghost use Rattle.cbor_head.specs.Value.{Value, IsValid, text};
 ghost use Rattle.cbor_view.specs.Kinds.{integer};
 ghost use Rattle.cbor_view.specs.Lookup.{member_of, HasValueAt};
@@ -19,7 +19,8 @@ impl<'a> View<'a> {
         }
     }
 
-    /// The value of a map's pair whose key is the same; none where there is none.
+    /// The value of a map's pair whose key is the same; none where there is none. It looks at one pair
+    /// after another, as the two calls below do.
     pub fn get(&self, key: &View<'_>) -> Option<&'a View<'a>>
         requires map { IsValid (seen self.now) }
         requires key { IsValid (seen key.now) }
@@ -38,7 +39,7 @@ impl<'a> View<'a> {
         None
     }
 
-    /// The value at a text.
+    /// The value at a text, likewise.
     pub fn get_text(&self, key: &str) -> Option<&'a View<'a>>
         ensures { MatchOption result
             ((v : Value) → HasValueAt (seen self.now) (text key.now) v → ⊥)
@@ -55,7 +56,7 @@ impl<'a> View<'a> {
         None
     }
 
-    /// The value at an integer, which may be negative.
+    /// The value at an integer, which may be negative, likewise.
     pub fn get_integer(&self, key: i64) -> Option<&'a View<'a>>
         ensures { MatchOption result
             ((v : Value) → HasValueAt (seen self.now) (integer key) v → ⊥)

@@ -1,6 +1,6 @@
 //! What stands where an item is due, if it is no short item: slower, and exactly.
 
-ghost use Rattle.std.specs.Prelude.{◌≡◌, ◌≤◌, ◌<◌, ◌+◌, ◌-◌, ◌^◌, ◌∷◌, ℕ, List, length, MatchOption};
+ghost use Rattle.std.specs.Prelude.{◌≡◌, ◌≤◌, ◌<◌, ◌+◌, ◌-◌, ◌^◌, length, MatchOption};
 ghost use Rattle.cbor_head.specs.Verdict.{refusal};
 ghost use Rattle.cbor_walk.specs.declared.any_item.Any.TheVariants as any;
 ghost use Rattle.cbor_walk.specs.inner.Items.{IsPlaced, IsMisplaced, IsAny};

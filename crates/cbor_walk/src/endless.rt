@@ -1,6 +1,6 @@
 //! What has no length: the openers of strings, arrays and maps, and the break that ends them.
 
-ghost use Rattle.std.specs.Prelude.{◌≡◌, ◌≤◌, ◌-◌, ◌∷◌, ℕ, length};
+ghost use Rattle.std.specs.Prelude.{◌≤◌, ◌-◌, ◌∷◌, ℕ, length};
 ghost use Rattle.cbor_walk.specs.inner.Building.{IsDueIn, Takes, IsBreakDue, TakesBreak};
 ghost use Rattle.cbor_walk.specs.inner.Parts.{IsItem};
 ghost use Rattle.cbor_walk.specs.inner.Parts.{TakesFront, Leaves, LeavesWithin};

@@ -1,6 +1,6 @@
 //! The open containers of an item, in cells that are lent.
 
-ghost use Rattle.std.specs.Prelude.{◌≡◌, ◌≤◌, ◌<◌, ◌-◌, ◌∷◌, ℕ, suc, List, IsTrue, true, length, take};
+ghost use Rattle.std.specs.Prelude.{◌≡◌, ◌≤◌, ◌<◌, ◌-◌, ◌∷◌, suc, true, length, take};
 ghost use Rattle.cbor_keys.specs.Front.{front_of};
 ghost use Rattle.cbor_head.specs.Order.{key_lt};
 ghost use Rattle.cbor_walk.specs.inner.Cells.{a_level, key_at, last_key, IsFronted, TakesKey, Advances};

@@ -1,6 +1,6 @@
 //! The next item, or the next head of a container that has items.
 
-ghost use Rattle.std.specs.Prelude.{◌≡◌, ◌≤◌, ◌<◌, ◌+◌, ◌^◌, length};
+ghost use Rattle.std.specs.Prelude.{◌≤◌, ◌<◌, ◌+◌, ◌^◌, length};
 ghost use Rattle.cbor_walk.specs.inner.Walked.{Takes};
 
 use crate::any_item::{Any, any_item, misplaced};

@@ -1,6 +1,6 @@
 //! The walk.
 
-ghost use Rattle.std.specs.Prelude.{◌≡◌, ◌≤◌, ◌<◌, ◌+◌, ◌^◌, length};
+ghost use Rattle.std.specs.Prelude.{◌≡◌, ◌≤◌, ◌<◌, ◌+◌, length};
 ghost use Rattle.cbor_walk.specs.inner.Cells.{StandsAt};
 ghost use Rattle.cbor_walk.specs.inner.Kept.{asks};
 ghost use Rattle.cbor_walk.specs.inner.Stack.{standing};

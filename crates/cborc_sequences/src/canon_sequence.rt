@@ -1,7 +1,6 @@
 //! `canon --seq`: the canonical bytes of each item of a sequence (RFC 8742), from file to file.
 
 ghost use Rattle.std.specs.Prelude.{◌≡◌, ℕ, List, Option, OnOk, OnErr, IfErr, false};
-ghost use Rattle.cbor_head.specs.Limits.{Bounds};
 ghost use Rattle.cborc_sequences.specs.CanonSequence.{HasCanonicalBytes, canonical_text};
 ghost use Rattle.cborc_sequences.specs.CanonSequence.{IsSequenceCanonised};
 ghost use Rattle.cborc_sequences.specs.CanonSequence.{IsSequenceNotCanonised};

@@ -1,5 +1,4 @@
 mod Compared
-mod Fronts
 mod Given
 mod Staying
 mod Told

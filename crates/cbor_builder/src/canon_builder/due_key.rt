@@ -1,7 +1,8 @@
-//! The key that is due, or was just completed, held against those before it.
+//! The key that is due, or was just completed, held against those before it; which key is repeated.
 
-ghost use Rattle.std.specs.Prelude.{◌≡◌, ◌↔◌, IsTrue};
-ghost use Rattle.cbor_builder.specs.Built.{HoldsKey, IsKeyDue, IsKeyDueAt, IsRepeatedKey};
+ghost use Rattle.std.specs.Prelude.{◌≡◌, ◌↔◌, List, ℕ, IsTrue, MatchOption};
+ghost use Rattle.cbor_builder.specs.Built.{AreOpenKeysDifferent, HoldsKey, IsKeyDue, IsKeyDueAt};
+ghost use Rattle.cbor_builder.specs.Built.{IsRepeatTold, IsRepeatedKey, IsWaitingKey};
 
 use crate::canon_builder::CanonBuilder;
 use crate::repeat::Repeat;
@@ -47,5 +48,30 @@ impl CanonBuilder {
         ensures { IsTrue result ↔ IsRepeatedKey self.now.standing }
     {
         self.is_sound && self.core.repeated()
+    }
+
+    /// The canonical bytes of the key that was just completed, where its value is still to come.
+    /// Takes no memory.
+    pub fn waiting_key(&self) -> Option<&[u8]>
+        ensures { MatchOption result ((q : List ℕ) → IsWaitingKey self.now.standing q → ⊥)
+            (λ key. IsWaitingKey self.now.standing key.now) }
+    {
+        if self.is_sound {
+            self.core.waiting_key()
+        } else {
+            None
+        }
+    }
+
+    /// Which repeated key is to be told where the parts end before the item: of the open maps, from
+    /// the outermost in, the first that has two equal keys, and of it the first key that is equal
+    /// to an earlier one. A key that waits for its value is one of its map's. None where the keys
+    /// of each open map differ. Takes no memory, and some n log n comparisons for n pairs.
+    pub fn first_repeat(self) -> Option<Repeat>
+        ensures { MatchOption result (AreOpenKeysDifferent self.standing)
+            (λ repeat. IsRepeatTold self.standing repeat.outside repeat.pair) }
+    {
+        let CanonBuilder { core, is_sound } = self;
+        if is_sound { core.first_repeat() } else { None }
     }
 }

@@ -1,4 +1,4 @@
-use Rattle.std.proofs.Common.{take, ◌++◌}
+use Rattle.std.proofs.Common.{take}
 use Rattle.cbor_explain.proofs.Steps.{HasWritten}
 use Rattle.cbor_explain.proofs.way_text.write_way.Given as goal
 

@@ -2,7 +2,7 @@ use Rattle.cbor_head.specs.Complaint.{plain}
 use Rattle.cbor_head.specs.Limits.{Bounds}
 use Rattle.cbor_head.specs.Verdict.{IsVerdict, refused}
 use Rattle.cbor_head.specs.declared.reason.Refusal.{Refusal}
-use Rattle.naltvigo.proofs.Fronts.{is-verdict}
+use Rattle.cbor_judging.proofs.Accepted.{verdict_only}
 use Rattle.naltvigo.proofs.Given.{given-told}
 use Rattle.naltvigo.proofs.sequence.naltvigo_next_valid_raw.Goals as goal
 
@@ -11,7 +11,7 @@ returns-in-Err-clause-refused c = λ e.
     given-told (λ (b : Bounds) (f : Refusal). IsVerdict b plain c.args.input.now (refused f)) c.in-Some.ensures.value.0
     record {
       why = c.in-Err.reason;
-      holds = is-verdict c.in-Some.limits plain c.args.input.now c.in-Err.reason c.in-Err.ensures.refused c.in-Err.ensures.no_read (c.tell.ensures.refused e);
+      holds = verdict_only c.in-Some.limits plain c.args.input.now c.in-Err.reason c.in-Err.ensures.refused c.in-Err.ensures.no_read (c.tell.ensures.refused e);
       not_memory = c.tell.ensures.refused e;
       told = c.tell.ensures.told;
     }
