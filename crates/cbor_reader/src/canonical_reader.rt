@@ -20,6 +20,7 @@ use std::borrow::CowSlice;
 /// Where these are canonical they are answered as they stand, and no memory is taken. The refusal is
 /// the one that the bytes within the limits call for; or `Memory`, where it was refused before, with
 /// 0 as place and count.
+#[inline(always)]
 pub fn read_canonical<'a>(
     alloc: Global,
     bytes: &'a [u8],

@@ -17,6 +17,7 @@ use std::borrow::CowSlice;
 
 // The canonical bytes, in this order and however many, of the one item that all the bytes are: these
 // bytes themselves, where they are canonical.
+#[inline(always)]
 pub(crate) fn encoded_item<'a>(
     alloc: Global,
     bytes: &'a [u8],
