@@ -24,9 +24,21 @@ pub fn check_valid(alloc: Global, bytes: &[u8], limits: Limits) -> Result<u64, R
     ensures no_read { IfErr result (λ f. f.reason ≢ reasons.Read) }
     ensures memory { IfErr result TellsMemoryAtFront }
 {
-    if let Ok(size) = canonical_size(bytes, limits) {
-        return Ok(size);
+    match canonical_size(bytes, limits) {
+        Ok(size) => Ok(size),
+        Err(_) => valid_size(alloc, bytes, limits),
     }
+}
+
+// The same of an item that is not canonical. It is apart, so that no room is made for the keys of one
+// that is.
+#[inline(never)]
+fn valid_size(alloc: Global, bytes: &[u8], limits: Limits) -> Result<u64, Refusal>
+    ensures accepted { IfOk result (λ count. IsRead limits plain bytes.now count) }
+    ensures refused { IfErr result (λ f. IsUnread limits plain bytes.now f) }
+    ensures no_read { IfErr result (λ f. f.reason ≢ reasons.Read) }
+    ensures memory { IfErr result TellsMemoryAtFront }
+{
     let mut building = Building::new(KeyBytes::new(alloc));
     size_by_keys(alloc, &mut building, bytes, limits)
 }
