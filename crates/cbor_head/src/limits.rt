@@ -13,9 +13,10 @@ pub const MAX_DEPTH: u16 = 1024;
 /// bytes it may have, from 0 to 2^62, and which kinds of keys its maps may have.
 #[derive(Clone, Copy, Debug, PartialEq, Eq)]
 pub struct Limits {
+    // In this order they take two words.
     depth: u16,
-    bytes: u64,
     keys: Keys,
+    bytes: u64,
 }
 
 impl Model for Limits {
