@@ -74,10 +74,7 @@ fn whole_front<const KINDS: bool>(
     match walk::<KINDS>(input, 0, &mut cells, &mut stack, limits, order) {
         Walked::Whole(at) => Ok(at),
         Walked::Refused(refusal) => Err(refusal),
-        Walked::Full(at) => match deeper::<KINDS>(input, at, &cells, stack, limits, order) {
-            Some(front) => front,
-            None => deepest::<KINDS>(input, at, &cells, stack, limits, order),
-        },
+        Walked::Full(at) => with_more_cells::<KINDS>(input, at, &cells, stack, limits, order),
     }
 }
 
@@ -87,6 +84,30 @@ fn begins_container(input: &[u8]) -> bool {
     match input.first() {
         Some(first) => *first >= 0x80 && *first < 0xe0 && *first % 32 < 24,
         None => false,
+    }
+}
+
+// The same, from the place where the cells are too few. It is apart, so that no room is made for what
+// it calls where they are not.
+#[cold]
+#[inline(never)]
+fn with_more_cells<const KINDS: bool>(
+    input: &[u8],
+    at: usize,
+    few: &[Level],
+    stack: Stack<Level>,
+    limits: Limits,
+    order: KeyOrder,
+) -> Result<usize, Refusal>
+    requires kinds { asks limits.keys ≡ KINDS }
+    requires full { IsFull order limits input.now stack few.now at }
+    requires few { length few.now ≤ SOME }
+    ensures whole { IfOk result (IsWhole order limits input.now) }
+    ensures refused { IfErr result (IsStopped (strict order) limits input.now) }
+{
+    match deeper::<KINDS>(input, at, few, stack, limits, order) {
+        Some(front) => front,
+        None => deepest::<KINDS>(input, at, few, stack, limits, order),
     }
 }
 
