@@ -289,10 +289,10 @@ fn grow(buf: &mut Vec<u8>, len: usize, n: usize) -> Result<(), AllocError>
     ensures same { take len buf.new.items ≡ take len buf.old.items }
 {
     let size = buf.len();
-    let least = n.max(FIRST).saturating_add(SLACK);
+    let least = n.max(FIRST) + SLACK;
     if buf.capacity() - size < least {
         buf.reserve_exact(least.max(size / 2))?;
     }
-    let soon = n.max(STEP).saturating_add(SLACK);
+    let soon = n.max(STEP) + SLACK;
     buf.resize(size + soon.min(buf.capacity() - size), 0)
 }

@@ -42,5 +42,5 @@ fn make_place<T: Copy>(list: &mut Vec<T>) -> Result<(), AllocError>
     ensures len { vec_len list.new ≡ vec_len list.old }
     ensures place { OnOk result (vec_len list.new < vec_capacity list.new) }
 {
-    list.reserve(ROOM)
+    list.reserve_exact(list.len().max(ROOM))
 }
