@@ -22,10 +22,6 @@ pub returns-in-Refused-walk-clause-refused : goal.returns-in-Refused-walk-clause
 returns-in-Refused-walk-clause-refused g c =
     c.in-Refused-walk.ensures (starts_at c.args.order c.args.limits c.args.input.now c.new-stack.result _ c.new-stack.ensures.height (c.new-stack.ensures.top ∙ c.new-level.ensures))
 
-pub deeper-requires-clause-full : goal.deeper-requires-clause-full
-deeper-requires-clause-full g c =
-    c.in-Full.ensures (starts_at c.args.order c.args.limits c.args.input.now c.new-stack.result _ c.new-stack.ensures.height (c.new-stack.ensures.top ∙ c.new-level.ensures))
-
-pub deepest-requires-clause-full : goal.deepest-requires-clause-full
-deepest-requires-clause-full g c =
+pub with_more_cells-requires-clause-full : goal.with_more_cells-requires-clause-full
+with_more_cells-requires-clause-full g c =
     c.in-Full.ensures (starts_at c.args.order c.args.limits c.args.input.now c.new-stack.result _ c.new-stack.ensures.height (c.new-stack.ensures.top ∙ c.new-level.ensures))
