@@ -8,9 +8,9 @@ ghost use Rattle.cbor_walk.specs.Front.{IsStop};
 ghost use Rattle.cbor_walk.specs.Sink.{IsKnownValid, IsGivenFront};
 ghost use Rattle.cbor_walk.specs.declared.level.Due.TheVariants as due;
 ghost use Rattle.cbor_walk.specs.inner.Building.{BeginsTaken, IsDue, IsDueIn};
-ghost use Rattle.cbor_walk.specs.inner.Kept.{KeepsBefore, Keeps, PassKeeps, PassKept};
+ghost use Rattle.cbor_walk.specs.inner.Kept.{KeepsBefore, PassKeeps, PassKept};
 ghost use Rattle.cbor_walk.specs.inner.Open.{counted};
-ghost use Rattle.cbor_walk.specs.inner.Building.{Passes, HasComeOver};
+ghost use Rattle.cbor_walk.specs.inner.Building.{Passes};
 ghost use Rattle.cbor_walk.specs.inner.Stack.{standing};
 
 use crate::building::{Building, Met};
@@ -54,44 +54,35 @@ impl<S> Building<S> {
         let input = within(bytes, limits.bytes());
         self.stack = Stack::new(Open::counted(Due::Item, 0));
         match past_front(self, input, limits) {
-            Past::Whole(behind) => Ok((input.len() - behind.len()) as u64),
-            Past::Refused(rest) => Err(refused(self, input, rest, limits)),
-            Past::Stopped => Err(stopped(&mut self.sink)),
+            Met::Whole(behind) => Ok((input.len() - behind.len()) as u64),
+            met => Err(stopped(self, input, met, limits)),
         }
     }
 }
 
-// Why a sink takes no more.
+// Why a walk that met this did not come to the end. Two keys of an open map that are the same are told
+// first; else, why the bytes are refused before which an item is due, or a string in chunks has begun.
 #[cold]
 #[inline(never)]
-fn stopped<'a, S: Sink<'a>>(sink: &mut S) -> Stop
-    ensures { (limits : Bounds) (bytes : List ℕ) → IsStop limits bytes result }
-{
-    match sink.first_repeat() {
-        Some(repeat) => Stop::Repeated(repeat),
-        None => Stop::Memory,
-    }
-}
-
-// Why these bytes are refused, before which an item is due, or a string in chunks has begun, where no
-// open map has two keys that are the same: such a key is refused first.
-#[cold]
-#[inline(never)]
-fn refused<'a, S: Sink<'a>>(
+fn stopped<'a, S: Sink<'a>>(
     building: &mut Building<S>,
     input: &[u8],
-    rest: &[u8],
+    met: Met<'a>,
     limits: Limits,
 ) -> Stop
-    requires come { (start : S) × HasComeOver S S.stands S.trusts S.holds start limits.depth input.now
-        building.old.stack building.old.sink rest.now }
-    requires kept { Keeps limits input.now rest.now }
+    requires come { (start : S) × Passes S S.stands S.trusts S.holds met start limits.depth input.now
+        building.old.stack building.old.sink }
+    requires kept { PassKeeps met limits input.now }
     ensures { S.trusts ≡ false → (bytes : List ℕ) → input.now ≡ take limits.bytes bytes
         → IsStop limits bytes result }
 {
     if let Some(repeat) = building.sink.first_repeat() {
         return Stop::Repeated(repeat);
     }
+    let rest = match met {
+        Met::Untaken(rest) | Met::Broken(rest) => rest,
+        Met::Whole(_) | Met::Stopped => return Stop::Memory,
+    };
     let stack = building.stack;
     let at = input.len() - rest.len();
     let room = stack.height < usize::from(limits.depth());
@@ -102,25 +93,13 @@ fn refused<'a, S: Sink<'a>>(
     }
 }
 
-/// How a walk over an input ends.
-#[derive(Clone, Copy)]
-pub(crate) enum Past<'a> {
-    /// The item is whole, before these bytes.
-    Whole(&'a [u8]),
-    /// An item is due before these bytes, and what stands there may not. If it is a string in chunks,
-    /// the sink may have some of them.
-    Refused(&'a [u8]),
-    /// As [`Met::Stopped`].
-    Stopped,
-}
-
 // Goes over the item that these bytes begin with.
 #[inline(always)]
 fn past_front<'a, S: Sink<'a>>(
     building: &mut Building<S>,
     input: &'a [u8],
     limits: Limits,
-) -> Past<'a>
+) -> Met<'a>
     requires none { building.old.stack.height ≡ 0 }
     requires top { building.old.stack.top ≡ counted due.Item 0 }
     requires fresh { S.stands building.old.sink building.old.sink (item_due []) }
@@ -141,7 +120,7 @@ fn past_item<'a, S: Sink<'a>, const KINDS: bool>(
     building: &mut Building<S>,
     input: &'a [u8],
     depth: usize,
-) -> Past<'a>
+) -> Met<'a>
     requires none { building.old.stack.height ≡ 0 }
     requires top { building.old.stack.top ≡ counted due.Item 0 }
     requires fresh { S.stands building.old.sink building.old.sink (item_due []) }
@@ -152,16 +131,11 @@ fn past_item<'a, S: Sink<'a>, const KINDS: bool>(
 {
     let mut cells = [Open::counted(Due::Item, 0); FEW];
     match building.walk::<KINDS>(input, &mut cells, depth) {
-        Met::Whole(behind) => Past::Whole(behind),
-        Met::Untaken(rest) => {
-            // With a cell left, it is not for want of one.
-            if building.stack.height < FEW {
-                return Past::Refused(rest);
-            }
+        // With a cell left, it is not for want of one.
+        Met::Untaken(rest) if building.stack.height >= FEW => {
             deeper::<S, KINDS>(building, rest, &cells, depth)
         }
-        Met::Broken(rest) => Past::Refused(rest),
-        Met::Stopped => Past::Stopped,
+        met => met,
     }
 }
 
@@ -172,7 +146,7 @@ fn deeper<'a, S: Sink<'a>, const KINDS: bool>(
     rest: &'a [u8],
     few: &[Open],
     depth: usize,
-) -> Past<'a>
+) -> Met<'a>
     requires few { length few.now ≤ SOME }
     requires full { building.old.stack.height ≡ length few.now }
     requires due { IsDueIn S S.stands S.trusts depth (standing Open building.old.stack few.now) building.old.sink rest.now }
@@ -186,15 +160,10 @@ fn deeper<'a, S: Sink<'a>, const KINDS: bool>(
     let mut cells = [Open::counted(Due::Item, 0); SOME];
     lend(few, &mut cells);
     match building.walk::<KINDS>(rest, &mut cells, depth) {
-        Met::Whole(behind) => Past::Whole(behind),
-        Met::Untaken(rest) => {
-            if building.stack.height < SOME {
-                return Past::Refused(rest);
-            }
+        Met::Untaken(rest) if building.stack.height >= SOME => {
             deepest::<S, KINDS>(building, rest, &cells, depth)
         }
-        Met::Broken(rest) => Past::Refused(rest),
-        Met::Stopped => Past::Stopped,
+        met => met,
     }
 }
 
@@ -205,7 +174,7 @@ fn deepest<'a, S: Sink<'a>, const KINDS: bool>(
     rest: &'a [u8],
     few: &[Open],
     depth: usize,
-) -> Past<'a>
+) -> Met<'a>
     requires few { length few.now ≤ MOST }
     requires full { building.old.stack.height ≡ length few.now }
     requires due { IsDueIn S S.stands S.trusts depth (standing Open building.old.stack few.now) building.old.sink rest.now }
@@ -218,10 +187,5 @@ fn deepest<'a, S: Sink<'a>, const KINDS: bool>(
 {
     let mut cells = [Open::counted(Due::Item, 0); MOST];
     lend(few, &mut cells);
-    match building.walk::<KINDS>(rest, &mut cells, depth) {
-        Met::Whole(behind) => Past::Whole(behind),
-        Met::Untaken(rest) => Past::Refused(rest),
-        Met::Broken(rest) => Past::Refused(rest),
-        Met::Stopped => Past::Stopped,
-    }
+    building.walk::<KINDS>(rest, &mut cells, depth)
 }
