@@ -7,10 +7,9 @@ ghost use Rattle.cbor_judging.specs.Levels.{item_due};
 ghost use Rattle.cbor_walk.specs.Front.{IsStop};
 ghost use Rattle.cbor_walk.specs.Sink.{IsKnownValid, IsGivenFront};
 ghost use Rattle.cbor_walk.specs.declared.level.Due.TheVariants as due;
-ghost use Rattle.cbor_walk.specs.inner.Building.{BeginsTaken, IsDue, IsDueIn};
-ghost use Rattle.cbor_walk.specs.inner.Kept.{KeepsBefore, PassKeeps, PassKept};
+ghost use Rattle.cbor_walk.specs.inner.Building.{BeginsTaken, IsDue, IsDueIn, Passes, WalksKept};
+ghost use Rattle.cbor_walk.specs.inner.Kept.{MetKept};
 ghost use Rattle.cbor_walk.specs.inner.Open.{counted};
-ghost use Rattle.cbor_walk.specs.inner.Building.{Passes};
 ghost use Rattle.cbor_walk.specs.inner.Stack.{standing};
 
 use crate::building::{Building, Met};
@@ -72,7 +71,7 @@ fn stopped<'a, S: Sink<'a>>(
 ) -> Stop
     requires come { (start : S) × Passes S S.stands S.trusts S.holds met start limits.depth input.now
         building.old.stack building.old.sink }
-    requires kept { PassKeeps met limits input.now }
+    requires kept { MetKept met limits.depth limits.keys input.now }
     ensures { S.trusts ≡ false → (bytes : List ℕ) → input.now ≡ take limits.bytes bytes
         → IsStop limits bytes result }
 {
@@ -106,7 +105,7 @@ fn past_front<'a, S: Sink<'a>>(
     requires known { S.trusts ≡ true → BeginsTaken limits.depth input.now }
     ensures passes { Passes S S.stands S.trusts S.holds result building.old.sink limits.depth input.now
         building.new.stack building.new.sink }
-    ensures keeps { PassKeeps result limits input.now }
+    ensures kept { MetKept result limits.depth limits.keys input.now }
 {
     let depth = usize::from(limits.depth());
     match limits.keys() {
@@ -127,7 +126,7 @@ fn past_item<'a, S: Sink<'a>, const KINDS: bool>(
     requires known { S.trusts ≡ true → BeginsTaken depth input.now }
     ensures passes { Passes S S.stands S.trusts S.holds result building.old.sink depth input.now
         building.new.stack building.new.sink }
-    ensures kept { KINDS ≡ true → (keys : Keys) → PassKept result depth keys input.now }
+    ensures kept { KINDS ≡ true → (keys : Keys) → MetKept result depth keys input.now }
 {
     let mut cells = [Open::counted(Due::Item, 0); FEW];
     match building.walk::<KINDS>(input, &mut cells, depth) {
@@ -153,9 +152,8 @@ fn deeper<'a, S: Sink<'a>, const KINDS: bool>(
     ensures passes { (start : S) (input : List ℕ)
         → IsDue S S.stands S.trusts start depth input (standing Open building.old.stack few.now) building.old.sink rest.now
         → Passes S S.stands S.trusts S.holds result start depth input building.new.stack building.new.sink }
-    ensures kept { KINDS ≡ true → (keys : Keys) (start : S) (input : List ℕ)
-        → IsDue S S.stands S.trusts start depth input (standing Open building.old.stack few.now) building.old.sink rest.now
-        → KeepsBefore depth keys input rest.now → PassKept result depth keys input }
+    ensures kept { WalksKept S S.stands S.trusts KINDS result depth rest.now
+        (standing Open building.old.stack few.now) building.old.sink }
 {
     let mut cells = [Open::counted(Due::Item, 0); SOME];
     lend(few, &mut cells);
@@ -181,9 +179,8 @@ fn deepest<'a, S: Sink<'a>, const KINDS: bool>(
     ensures passes { (start : S) (input : List ℕ)
         → IsDue S S.stands S.trusts start depth input (standing Open building.old.stack few.now) building.old.sink rest.now
         → Passes S S.stands S.trusts S.holds result start depth input building.new.stack building.new.sink }
-    ensures kept { KINDS ≡ true → (keys : Keys) (start : S) (input : List ℕ)
-        → IsDue S S.stands S.trusts start depth input (standing Open building.old.stack few.now) building.old.sink rest.now
-        → KeepsBefore depth keys input rest.now → PassKept result depth keys input }
+    ensures kept { WalksKept S S.stands S.trusts KINDS result depth rest.now
+        (standing Open building.old.stack few.now) building.old.sink }
 {
     let mut cells = [Open::counted(Due::Item, 0); MOST];
     lend(few, &mut cells);

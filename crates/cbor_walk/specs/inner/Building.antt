@@ -8,8 +8,6 @@ use Rattle.cbor_walk.specs.declared.building.Met.{Met}
 use Rattle.cbor_walk.specs.declared.building.Met.TheVariants as met
 use Rattle.cbor_walk.specs.declared.building.Then.{Then}
 use Rattle.cbor_walk.specs.declared.building.Then.TheVariants as then
-use Rattle.cbor_walk.specs.declared.front.Past.{Past}
-use Rattle.cbor_walk.specs.declared.front.Past.TheVariants as past
 use Rattle.cbor_walk.specs.declared.open.Open.{Open}
 use Rattle.cbor_walk.specs.declared.part.Part.{Part}
 use Rattle.cbor_walk.specs.declared.part.Part.TheVariants as part
@@ -143,12 +141,6 @@ module _ (S : Type 0) (stands : S → S → Standing → Type 0) (trusts : Bool)
     abbrev pub HasCome : S → ℕ → List ℕ → List Open → S → List ℕ → Type 0
     HasCome start d input cs g rest = StandsBefore (IsWithin S stands holds start g) d input cs rest
 
-    -- within the containers of a stack, whatever lies in its cells
-    pub record HasComeOver (start : S) (d : ℕ) (input : List ℕ) (k : Stack Open) (g : S) (rest : List ℕ) : Type 0 where
-      pub outer : List Open
-      pub count : length outer ≡ k.height
-      pub come : HasCome start d input (k.top ∷ outer) g rest
-
     -- ---- what is taken
 
     abbrev pub TakesTo : Part → S → ℕ → List ℕ → List ℕ → List Open → S → Type 0
@@ -191,8 +183,8 @@ module _ (S : Type 0) (stands : S → S → Standing → Type 0) (trusts : Bool)
     abbrev pub Walks : Met → ℕ → List ℕ → List Open → S → List Open → S → Type 0
     Walks result d rest cs g now new = (start : S) (input : List ℕ) → IsDue start d input cs g rest → Meets result start d input now new
 
-    -- all of it
-    abbrev pub Passes : Past → S → ℕ → List ℕ → Stack Open → S → Type 0
-    Passes (past.Whole rest) start d input k g = IsBuilt start d input g rest.now
-    Passes (past.Refused rest) start d input k g = HasComeOver start d input k g rest.now
-    Passes past.Stopped start d input k g = Unit {0}
+    -- all of it, within the containers of a stack, whatever lies in its cells
+    pub record Passes (result : Met) (start : S) (d : ℕ) (input : List ℕ) (k : Stack Open) (g : S) : Type 0 where
+      pub outer : List Open
+      pub count : length outer ≡ k.height
+      pub meets : Meets result start d input (k.top ∷ outer) g

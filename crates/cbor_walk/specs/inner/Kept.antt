@@ -11,8 +11,6 @@ use Rattle.cbor_walk.specs.declared.level.Due.{Due}
 use Rattle.cbor_walk.specs.declared.level.Due.TheVariants.{Key}
 use Rattle.cbor_walk.specs.declared.building.Met.{Met}
 use Rattle.cbor_walk.specs.declared.building.Met.TheVariants as met
-use Rattle.cbor_walk.specs.declared.front.Past.{Past}
-use Rattle.cbor_walk.specs.declared.front.Past.TheVariants as past
 
 -- whether kinds are asked for
 abbrev pub asks : Keys → Bool
@@ -49,17 +47,3 @@ MetKept (met.Whole rest) d keys input = KeepsBefore d keys input rest.now
 MetKept (met.Untaken rest) d keys input = KeepsBefore d keys input rest.now
 MetKept (met.Broken rest) d keys input = KeepsBefore d keys input rest.now
 MetKept met.Stopped d keys input = Unit {0}
-
-abbrev pub PassKept : Past → ℕ → Keys → List ℕ → Type 0
-PassKept (past.Whole rest) d keys input = KeepsBefore d keys input rest.now
-PassKept (past.Refused rest) d keys input = KeepsBefore d keys input rest.now
-PassKept past.Stopped d keys input = Unit {0}
-
--- the same by the limits, whether they ask for kinds or not
-abbrev pub Keeps : Bounds → List ℕ → List ℕ → Type 0
-Keeps limits input rest = (t : List ℕ) → input ≡ t ++ rest → KeepsToKinds limits plain t
-
-abbrev pub PassKeeps : Past → Bounds → List ℕ → Type 0
-PassKeeps (past.Whole rest) limits input = Keeps limits input rest.now
-PassKeeps (past.Refused rest) limits input = Keeps limits input rest.now
-PassKeeps past.Stopped limits input = Unit {0}

@@ -1,70 +1,43 @@
 use Rattle.std.proofs.Common.{refl, arith}
 use Rattle.cbor_walk.proofs.GivenKinds.{starts-kept}
 use Rattle.cbor_walk.proofs.GivenParts.{starts}
-use Rattle.cbor_walk.proofs.GivenStops.{come-over, due-over}
+use Rattle.cbor_walk.proofs.GivenStops.{passes}
 use Rattle.cbor_walk.proofs.front.past_item.Goals as goal
 
 pub deeper-requires : goal.deeper-requires
 deeper-requires g c =
     let b = c.args.building.now in
-    λ n. (
-      (refl, tt),
-      (
-        omega arith,
-        (
-          omega (arith, c.if-building-lt-FEW.false, c.in-Untaken.ensures.cells),
-          (b.sink, c.args.input.now, c.in-Untaken.ensures.walked b.sink c.args.input.now (starts g.row.S.Denot g.S.Sink.stands g.S.Sink.trusts b.stack b.sink c.args.depth c.args.input.now _ c.requires.none c.requires.top c.requires.fresh (omega arith) c.requires.known)),
-        ),
-      ),
-    )
+    let input = c.args.input.now in
+    λ n. ((refl, tt), (omega arith, (omega (arith, c.if-building-ge-FEW.true, c.in-Untaken.ensures.cells), (b.sink, input, c.in-Untaken.ensures.walked b.sink input (starts g.row.S.Denot g.S.Sink.stands g.S.Sink.trusts b.stack b.sink c.args.depth input _ c.requires.none c.requires.top c.requires.fresh (omega arith) c.requires.known)))))
 
-pub returns-in-Whole-clause-kept : goal.returns-in-Whole-clause-kept
-returns-in-Whole-clause-kept g c = λ kinds keys.
-    let S = g.row.S.Denot in
-    let stands = g.S.Sink.stands in
-    let trusts = g.S.Sink.trusts in
+pub returns-in-Untaken-clause-kept : goal.returns-in-Untaken-clause-kept
+returns-in-Untaken-clause-kept g c = λ kinds keys.
     let b = c.args.building.now in
     let input = c.args.input.now in
-    c.in-Whole.ensures.kept kinds keys b.sink input (starts S stands trusts b.stack b.sink c.args.depth input _ c.requires.none c.requires.top c.requires.fresh (omega arith) c.requires.known) (starts-kept S stands trusts b.sink c.args.depth input keys)
+    let due = starts g.row.S.Denot g.S.Sink.stands g.S.Sink.trusts b.stack b.sink c.args.depth input _ c.requires.none c.requires.top c.requires.fresh (omega arith) c.requires.known in
+    c.deeper.ensures.kept kinds keys b.sink input (c.in-Untaken.ensures.walked b.sink input due) (c.in-Untaken.ensures.kept kinds keys b.sink input due (starts-kept g.row.S.Denot g.S.Sink.stands g.S.Sink.trusts b.sink c.args.depth input keys))
 
-pub returns-else-building-lt-FEW-clause-kept : goal.returns-else-building-lt-FEW-clause-kept
-returns-else-building-lt-FEW-clause-kept g c = λ kinds keys.
-    let S = g.row.S.Denot in
-    let stands = g.S.Sink.stands in
-    let trusts = g.S.Sink.trusts in
+pub returns-in_default-clause-passes : goal.returns-in_default-clause-passes
+returns-in_default-clause-passes g c =
     let b = c.args.building.now in
     let input = c.args.input.now in
-    let due = starts S stands trusts b.stack b.sink c.args.depth input _ c.requires.none c.requires.top c.requires.fresh (omega arith) c.requires.known in
-    c.deeper.ensures.kept kinds keys b.sink input (c.in-Untaken.ensures.walked b.sink input due) (c.in-Untaken.ensures.kept kinds keys b.sink input due (starts-kept S stands trusts b.sink c.args.depth input keys))
-
-pub returns-then-building-lt-FEW-clause-passes : goal.returns-then-building-lt-FEW-clause-passes
-returns-then-building-lt-FEW-clause-passes g c =
-    let b = c.args.building.now in
-    let input = c.args.input.now in
-    due-over g.row.S.Denot g.S.Sink.stands g.S.Sink.trusts g.S.Sink.holds b.sink c.args.depth input c.walk.new.self.stack c.walk.new.cells c.walk.new.self.sink c.in-Untaken.rest.now c.in-Untaken.ensures.cells
+    let w = c.walk in
+    passes g.row.S.Denot g.S.Sink.stands g.S.Sink.trusts g.S.Sink.holds b.sink _ c.args.depth input w.new.self.stack w.new.cells w.new.self.sink w.ensures.cells
     (c.in-Untaken.ensures.walked b.sink input (starts g.row.S.Denot g.S.Sink.stands g.S.Sink.trusts b.stack b.sink c.args.depth input _ c.requires.none c.requires.top c.requires.fresh (omega arith) c.requires.known))
 
-pub returns-then-building-lt-FEW-clause-kept : goal.returns-then-building-lt-FEW-clause-kept
-returns-then-building-lt-FEW-clause-kept g c = λ kinds keys.
-    let S = g.row.S.Denot in
-    let stands = g.S.Sink.stands in
-    let trusts = g.S.Sink.trusts in
+pub returns-in_default-clause-kept : goal.returns-in_default-clause-kept
+returns-in_default-clause-kept g c = λ kinds keys.
     let b = c.args.building.now in
     let input = c.args.input.now in
-    c.in-Untaken.ensures.kept kinds keys b.sink input (starts S stands trusts b.stack b.sink c.args.depth input _ c.requires.none c.requires.top c.requires.fresh (omega arith) c.requires.known) (starts-kept S stands trusts b.sink c.args.depth input keys)
+    c.in-Untaken.ensures.kept kinds keys b.sink input (starts g.row.S.Denot g.S.Sink.stands g.S.Sink.trusts b.stack b.sink c.args.depth input _ c.requires.none c.requires.top c.requires.fresh (omega arith) c.requires.known) (starts-kept g.row.S.Denot g.S.Sink.stands g.S.Sink.trusts b.sink c.args.depth input keys)
 
-pub returns-in-Broken-clause-passes : goal.returns-in-Broken-clause-passes
-returns-in-Broken-clause-passes g c =
+pub returns-in_default-2 : goal.returns-in_default-2
+returns-in_default-2 g c =
     let b = c.args.building.now in
     let input = c.args.input.now in
-    come-over g.row.S.Denot g.S.Sink.stands g.S.Sink.trusts g.S.Sink.holds b.sink c.args.depth input c.walk.new.self.stack c.walk.new.cells c.walk.new.self.sink c.in-Broken.rest.now c.in-Broken.ensures.cells
-    (c.in-Broken.ensures.walked b.sink input (starts g.row.S.Denot g.S.Sink.stands g.S.Sink.trusts b.stack b.sink c.args.depth input _ c.requires.none c.requires.top c.requires.fresh (omega arith) c.requires.known))
-
-pub returns-in-Broken-clause-kept : goal.returns-in-Broken-clause-kept
-returns-in-Broken-clause-kept g c = λ kinds keys.
-    let S = g.row.S.Denot in
-    let stands = g.S.Sink.stands in
-    let trusts = g.S.Sink.trusts in
-    let b = c.args.building.now in
-    let input = c.args.input.now in
-    c.in-Broken.ensures.kept kinds keys b.sink input (starts S stands trusts b.stack b.sink c.args.depth input _ c.requires.none c.requires.top c.requires.fresh (omega arith) c.requires.known) (starts-kept S stands trusts b.sink c.args.depth input keys)
+    let w = c.walk in
+    let due = starts g.row.S.Denot g.S.Sink.stands g.S.Sink.trusts b.stack b.sink c.args.depth input _ c.requires.none c.requires.top c.requires.fresh (omega arith) c.requires.known in
+    record {
+      passes = passes g.row.S.Denot g.S.Sink.stands g.S.Sink.trusts g.S.Sink.holds b.sink w.result c.args.depth input w.new.self.stack w.new.cells w.new.self.sink w.ensures.cells (w.ensures.walked b.sink input due);
+      kept = λ kinds keys. w.ensures.kept kinds keys b.sink input due (starts-kept g.row.S.Denot g.S.Sink.stands g.S.Sink.trusts b.sink c.args.depth input keys);
+    }

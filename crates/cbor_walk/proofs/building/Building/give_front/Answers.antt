@@ -1,7 +1,7 @@
 use Rattle.std.proofs.Common.{◌≡◌, ◌∙◌, ◌-◌, List, ℕ, take, length, refl, ap, subst}
 use Rattle.cbor_head.specs.Spelling.{spell}
 use Rattle.cbor_walk.specs.inner.Building.{IsBuilt}
-use Rattle.cbor_walk.specs.inner.Kept.{Keeps}
+use Rattle.cbor_walk.specs.inner.Kept.{KeepsBefore}
 use Rattle.cbor_walk.proofs.GivenParts.{known-begins, front-given}
 use Rattle.cbor_walk.proofs.building.Building.give_front.Goals as goal
 
@@ -29,9 +29,6 @@ returns-in-Whole g c =
     let behind = c.in-Whole.behind.now in
     let sink = c.past_front.new.building.sink in
     let input : c.within-input.result.now ≡ take limits.bytes c.args.bytes.now = c.within-input.ensures ∙ ap (λ n. take n c.args.bytes.now) c.bytes.ensures.bytes in
-    let h = subst (λ (x : List ℕ). IsBuilt S stands trusts c.args.self.now.sink limits.depth x sink behind) input c.in-Whole.ensures.passes in
-    let keeps = subst (λ (x : List ℕ). Keeps limits x behind) input c.in-Whole.ensures.keeps (spell h.item) h.bytes in
+    let h = subst (λ (x : List ℕ). IsBuilt S stands trusts c.args.self.now.sink limits.depth x sink behind) input c.in-Whole.ensures.passes.meets in
+    let keeps = subst (λ (x : List ℕ). KeepsBefore limits.depth limits.keys x behind) input c.in-Whole.ensures.kept (spell h.item) h.bytes in
     front-given S stands trusts c.args.self.now.sink sink limits c.args.bytes.now behind _ h keeps (ap (λ (x : List ℕ). length x - length behind) input)
-
-pub returns-in-Stopped : goal.returns-in-Stopped
-returns-in-Stopped g c = λ doubts. c.stopped.ensures c.args.limits c.args.bytes.now
