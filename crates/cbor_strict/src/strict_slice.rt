@@ -15,7 +15,6 @@ use cbor_walk::canonical_front;
 /// It answers as [`read_strict`](crate::read_strict) does of a reader over the slice. It goes over
 /// the bytes once, without recursion, and takes no memory: the last key of each open map is a part
 /// of the slice.
-#[inline(always)]
 pub fn check_canonical(bytes: &[u8], limits: Limits, order: KeyOrder) -> Result<u64, Refusal>
     ensures accepted { IfOk result (λ count. IsRead limits (strict order) bytes.now count) }
     ensures canonical { IfOk result (λ count. IsCanonicalFront limits order bytes.now count) }

@@ -56,32 +56,30 @@ module _ (S : Type 0) (stands : S → S → Standing → Type 0) (trusts : Bool)
       record { ls = due.ls; levels = due.levels; cells = due.cells; given = inl due.given; bytes = due.bytes; small = due.small; known = due.known }
   come-before m rest d input cs g (inr e) h = subst (λ (x : Met). Meets S stands trusts holds x start d input cs g) e h
 
-  module _ (limits : Bounds) (bytes input : List ℕ) (within : input ≡ take limits.bytes bytes) (are : AreBytes input) (k : Stack Open) (g : S) (m : Met) (met-at : Bor (List ℕ)) (stops : StopsBefore m met-at) (over : Passes S stands trusts holds m start limits.depth input k g) (kept : MetKept m limits.depth limits.keys input) where
+  module _ (limits : Bounds) (bytes input : List ℕ) (within : input ≡ take limits.bytes bytes) (are : AreBytes input) (k : Stack Open) (g : S) (m : Met) (rest : Bor (List ℕ)) (stops : StopsBefore m rest) (over : Passes S stands trusts holds m start limits.depth input k g) (kept : MetKept m limits.depth limits.keys input) where
     -- what is found at the place of the rest, where no open map has two keys that are the same
-    pub stopped-there : (at : ℕ) (room is_key may_break : Bool) (f answer : Refusal) → FindsNoRepeat S stands holds g → at ≡ length input - length met-at.now → room ≡ nat_lt k.height limits.depth → IsAsked limits k.top.due is_key
-        → (k.top.is_endless ≡ true → k.top.due ≢ Value → may_break ≡ true) → IsFault met-at.now at room is_key may_break f → IsAnswered limits.bytes input f answer → IsVerdict limits plain bytes (refused answer)
+    pub stopped-there : (at : ℕ) (room is_key may_break : Bool) (f answer : Refusal) → FindsNoRepeat S stands holds g → at ≡ length input - length rest.now → room ≡ nat_lt k.height limits.depth → IsAsked limits k.top.due is_key
+        → (k.top.is_endless ≡ true → k.top.due ≢ Value → may_break ≡ true) → IsFault rest.now at room is_key may_break f → IsAnswered limits.bytes input f answer → IsVerdict limits plain bytes (refused answer)
     stopped-there at room is_key may_break f answer apart here roomy asked breaks fault answered =
-        let rest = met-at.now in
-        let come = come-before m met-at limits.depth input (k.top ∷ over.outer) g stops over.meets in
+        let come = come-before m rest limits.depth input (k.top ∷ over.outer) g stops over.meets in
         let ls = come.ls in
         let ps = paths_of ls in
         let same = paths_bytes ls in
         let small = come.small in
-        let size = length-append (bytes_before ls) rest in
+        let size = length-append (bytes_before ls) rest.now in
         let short : length (bytes_before ls) < 2 ^ 63 = omega (arith, small, ap length come.bytes, size) in
         let (order, different) = apart start ls come.given in
-        let whole : path.bytes_before ps ++ rest ≡ input = ap (λ (x : List ℕ). x ++ rest) same ∙ sym come.bytes in
-        let paths = paths_length ls in
-        let count = over.count in
-        let height : length ls ≡ k.height = omega (arith, count, ap length come.cells, cells-count ls) in
+        let whole : path.bytes_before ps ++ rest.now ≡ input = ap (λ (x : List ℕ). x ++ rest.now) same ∙ sym come.bytes in
+        let count = paths_length ls in
+        let height : length ls ≡ k.height = omega (arith, over.count, ap length come.cells, cells-count ls) in
         let found = fault limits ps (paths_clean order limits.depth ls come.levels short different)
         (λ b. let may = breaks_path k.top over.outer limits.depth ls come.levels come.cells b in breaks may.0 may.1)
-        (subst (KeepsToKinds limits plain) (sym same) (kept-before m met-at limits input stops kept (bytes_before ls) come.bytes))
+        (subst (KeepsToKinds limits plain) (sym same) (kept-before m rest limits input stops kept (bytes_before ls) come.bytes))
         (record { both = λ e. let both = asked.both e in (both.0, path_due k.top over.outer ls come.cells both.1); none = λ e kinds there. asked.none e kinds.1 (due_path k.top over.outer ls come.cells there) })
         (record {
           here = here ∙ omega (arith, ap length come.bytes, size) ∙ ap length (sym same);
-          fits = λ r. let below = ltb-true k.height limits.depth (sym roomy ∙ r) in omega (arith, below, paths, height);
-          full = λ r. let above = ltb-false k.height limits.depth (sym roomy ∙ r) in omega (arith, above, paths, height);
+          fits = λ r. let below = ltb-true k.height limits.depth (sym roomy ∙ r) in omega (arith, below, count, height);
+          full = λ r. let above = ltb-false k.height limits.depth (sym roomy ∙ r) in omega (arith, above, count, height);
         })
         (subst AreBytes (sym whole) are) in
         stopped plain limits bytes f (subst (λ (x : List ℕ). IsStopped plain limits x f) (whole ∙ within) found) answer (subst (λ (x : List ℕ). IsAnswered limits.bytes x f answer) within answered)

@@ -21,7 +21,6 @@ use cbor_head::{KeyOrder, Keys, Limits, Reason, Refusal};
 /// limits call for, by the rules of the deterministic encoding.
 ///
 /// It goes over the bytes once, without recursion, and takes no memory.
-#[inline(always)]
 pub fn canonical_front(bytes: &[u8], limits: Limits, order: KeyOrder) -> Result<u64, Refusal>
     ensures { MatchResult result
         (λ count. IsRead limits (strict order) bytes.now count)
