@@ -1,7 +1,6 @@
 //! The valid item at the front of a slice.
 
 ghost use Rattle.std.specs.Prelude.{◌≡◌, ◌≤◌, true, false, [], ℕ, List, length, take, MatchResult};
-ghost use Rattle.cbor_head.specs.Limits.{Bounds};
 ghost use Rattle.cbor_head.specs.declared.keys.Keys.{Keys};
 ghost use Rattle.cbor_judging.specs.Levels.{item_due};
 ghost use Rattle.cbor_walk.specs.Front.{IsStop};
