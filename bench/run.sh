@@ -6,7 +6,8 @@
 # items    proves and runs items.rattle, a program over cbor_item, on trees made from a seed
 # program  makes files from a seed (inputs.py), and runs cborc on them (program.py); then on a sequence of
 #          300 MB and on files of 1 GiB, and beside /bin/true (streams.py), some minutes; counts the
-#          instructions of an item of a sequence, by valgrind (sequence.py)
+#          instructions of an item of a sequence (sequence.py), and of inputs that are refused for equal
+#          keys (repeats.py), by valgrind
 # beside   counts the instructions of canon, check and check --strict beside those of plain C
 #          (beside.py, plain.c, floor.c), by valgrind
 # library  builds the library for C, and times its calls in process beside plain C (library.c, floor.c)
@@ -62,6 +63,8 @@ program() {
     python3 "$root/bench/streams.py" "$cborc" "$room/inputs"
     printf '\n'
     python3 "$root/bench/sequence.py" "$cborc" "$room/inputs"
+    printf '\n'
+    python3 "$root/bench/repeats.py" "$cborc" "$room/inputs"
 }
 
 beside() {

@@ -12,17 +12,17 @@ import subprocess
 import sys
 
 
-def run_under(tool, *words):
-    """Returns what the run of a program writes, and what a tool of valgrind says of it."""
+def run_under(tool, *words, status=0):
+    """Returns what the run of a program writes, which ends with this status, and what a tool of valgrind says of it."""
     ran = subprocess.run(["valgrind", f"--tool={tool}", f"--{tool}-out-file=/dev/null", *words], capture_output=True, text=True)
-    if ran.returncode:
+    if ran.returncode != status:
         sys.exit(f"{' '.join(words)}: status {ran.returncode}")
     return ran.stdout, ran.stderr
 
 
-def instructions(*words):
-    """Returns how many instructions a run takes."""
-    _, said = run_under("callgrind", *words)
+def instructions(*words, status=0):
+    """Returns how many instructions a run takes that ends with this status."""
+    _, said = run_under("callgrind", *words, status=status)
     return int(next(line.split()[-1] for line in said.splitlines() if "Collected" in line))
 
 
