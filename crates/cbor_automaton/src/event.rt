@@ -34,8 +34,8 @@ pub enum EventKind {
 pub struct Event {
     /// The offset of its first byte, from the item's first byte.
     pub place: u64,
-    /// What it tells.
-    pub kind: EventKind,
     /// The width of the head; Direct for a piece, Indefinite for what has no argument.
     pub width: Width,
+    /// What it tells.
+    pub kind: EventKind,
 }

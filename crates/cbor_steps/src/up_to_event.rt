@@ -33,8 +33,8 @@ pub enum Walked {
 #[derive(Clone, Copy)]
 pub struct Fronted {
     pub used: usize,
-    pub kind: EventKind,
     pub width: Width,
+    pub kind: EventKind,
 }
 
 /// The head, the argument of the open head or the part of a payload that stands whole at the front;
