@@ -267,8 +267,8 @@ fn head_fault(event: &Event) -> Option<Reason>
         EventKind::Piece(_) | EventKind::End => return None,
     };
     match event.width {
-        width if width == Head::shortest(Major::Unsigned, argument).width() => None,
         Width::Indefinite => Some(Reason::Indefinite),
+        width if width == Head::shortest(Major::Unsigned, argument).width() => None,
         _ => Some(Reason::NotShortest),
     }
 }
