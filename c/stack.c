@@ -70,6 +70,7 @@ static void put(const char *bytes, size_t count, size_t times) {
 /* An item that nests so deep; 0 where there is no further one. */
 static int make(int shape, size_t levels) {
     static const uint8_t zeros[2048];
+    const size_t inner = levels ? levels - 1 : 0;
     length = 0;
     switch (shape) {
     case 0: put("\x81", 1, levels), put("\0", 1, 1); break;
@@ -84,6 +85,11 @@ static int make(int shape, size_t levels) {
     case 9: put("\x81", 1, levels), put("\x59\x08\0", 3, 1), put((const char *)zeros, 2048, 1); break;
     case 10: put("\xa1", 1, levels), put("\xf9", 1, 1); break;
     case 11: put("\xa2\0", 2, levels), put("\0\0", 2, 1); break;
+    /* A key of the outermost map is repeated behind two deep values, and a break stands deep in the third. */
+    case 12:
+        put("\xa3\0", 2, 1), put("\x81", 1, inner), put("\0\1", 2, 1), put("\x81", 1, inner);
+        put("\0\0", 2, 1), put("\x81", 1, inner), put("\xff", 1, 1);
+        break;
     default: return 0;
     }
     return 1;

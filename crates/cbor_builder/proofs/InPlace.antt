@@ -1,5 +1,5 @@
 -- Keys lie as they are meant, whatever else does not.
-use Rattle.std.proofs.Common.{◌≡◌, ◌↔◌, ℕ, ◌-◌, ◌≤◌, Bool, List, [], ◌∷◌, ◌++◌, length, length-take, take, drop, map, refl, sym, ap, ◌∙◌, subst, arith, inl, inr, Option, Some, None}
+use Rattle.std.proofs.Common.{◌≡◌, ◌↔◌, ℕ, ◌+◌, ◌≤◌, Bool, List, [], ◌∷◌, ◌++◌, length, length-take, take, drop, map, refl, sym, ap, ◌∙◌, subst, arith, inl, inr, Option, Some, None}
 use Rattle.std.specs.Prelude.{IsTrue, slice_range}
 use Rattle.std.specs.List.{AllByRecursion}
 use Rattle.std.proofs.lemmas.List.{take-append-le, drop-append-le}
@@ -7,7 +7,7 @@ use Rattle.std.proofs.Math.Seq.{drop-append_seam}
 use Rattle.cbor_head.specs.Canonical.{Pair}
 use Rattle.cbor_head.specs.Order.{key_lt}
 use Rattle.cbor_head.specs.declared.order.KeyOrder.{KeyOrder}
-use Rattle.cbor_builder.specs.Built.{HasKey, HoldsKey, IsRepeatedKey, IsWaitingKey, keys_so_far, AreOpenKeysDifferent, IsRepeatTold, AreAllDifferent, IsFirstRepeat}
+use Rattle.cbor_builder.specs.Built.{HasKey, IsRepeatedKey, IsWaitingKey, keys_so_far, open_maps, AreOpenKeysDifferent, IsRepeatTold, AreAllDifferent, IsFirstRepeat}
 use Rattle.cbor_canonical.specs.Pairs.{IsRising}
 use Rattle.cbor_canonical.specs.Parts.{Open}
 use Rattle.cbor_keys.specs.Front.{front_of}
@@ -15,7 +15,7 @@ use Rattle.cbor_builder.specs.inner.Front.{key_of, AreFronted}
 use Rattle.cbor_buffer.specs.Spans.{span_pair}
 use Rattle.cbor_builder.specs.inner.Laid.{Tile, shape_open, outer_spans, opens, Fits, Laid, Takes, IsString, IsReady, shape_after, span, spans_after, KeepsRising, Completed}
 use Rattle.cbor_builder.specs.inner.InPlace.{IsSameKey, AreSameKeys, HasSameKeys, Agrees, WaitsSame}
-use Rattle.cbor_builder.specs.inner.Repeats.{Tells}
+use Rattle.cbor_builder.specs.inner.Repeats.{TellsWithin}
 use Rattle.cbor_buffer.specs.declared.span.Span.{Span}
 use Rattle.cbor_builder.specs.declared.frame.Frame.{Frame}
 use Rattle.cbor_builder.specs.declared.frame.Shape.{Shape}
@@ -23,7 +23,7 @@ use Rattle.cbor_builder.specs.declared.frame.Shape.TheVariants.{Plain, Array, Ma
 use Rattle.cbor_builder.specs.declared.repeat.Repeat.{Repeat}
 use Rattle.cbor_buffer.proofs.Slices.{slice_front, slice_all, nothing}
 use Rattle.cbor_builder.proofs.Growth.{tile_le}
-use Rattle.cbor_builder.proofs.OpenRepeats.{opens_length}
+use Rattle.cbor_builder.proofs.OpenRepeats.{maps_same}
 
 -- ---- where all lies as it is meant
 
@@ -133,17 +133,15 @@ told_at : (raw out : List ℕ) (ss : List Span) (fs : List Frame) (outside pair 
 told_at raw out ss [] outside pair a t = t
 told_at raw out ss (f ∷ fs) outside pair a (inl t) = inl (told_at (take f.from raw) (take f.from out) (outer_spans ss f.shape) fs outside pair (outer_agrees raw out ss f fs a) t)
 told_at raw out ss (f ∷ fs) outside pair a (inr t) =
-    let m = opens_length (take f.from raw) (outer_spans ss f.shape) fs in
-    let n = opens_length (take f.from out) (outer_spans ss f.shape) fs in
     inr (
       different_raw (take f.from raw) (take f.from out) (outer_spans ss f.shape) fs (outer_agrees raw out ss f fs a) t.0,
-      t.1 ∙ ap (λ (k : ℕ). k - 1) (m ∙ sym n),
+      t.1 ∙ maps_same (take f.from raw) (take f.from out) (outer_spans ss f.shape) fs,
       subst (λ (ks : List (List ℕ)). IsFirstRepeat ks pair) (open_keys raw out ss f.start f.shape (top_keys raw out ss f fs a)) t.2,
     )
 
-pub tells_raw : (raw out : List ℕ) (ss : List Span) (fs : List Frame) (r : Option Repeat) → Agrees raw out ss fs → Tells (opens raw ss fs) r → Tells (opens out ss fs) r
-tells_raw raw out ss fs None a t = different_raw raw out ss fs a t
-tells_raw raw out ss fs (Some t) a h = told_at raw out ss fs t.outside t.pair a h
+pub within_raw : (raw out : List ℕ) (ss : List Span) (fs : List Frame) (os : List Open) (found : Option Repeat) → Agrees raw out ss fs → TellsWithin (opens raw ss fs) os found → TellsWithin (opens out ss fs) os found
+within_raw raw out ss fs os None a h = ((λ x y t. told_at raw out ss fs x y a (h.0 x y t)), λ d. different_raw raw out ss fs a (h.1 d))
+within_raw raw out ss fs os (Some t) a h = ((λ x y t. told_at raw out ss fs x y a (h.0 x y t)), λ d. told_at raw out ss fs (t.outside + open_maps os) t.pair a (h.1 d))
 
 -- ---- one more member
 
@@ -307,15 +305,3 @@ pub waiting_is : (raw out : List ℕ) (ss : List Span) (start first key val : �
 waiting_is raw out ss start first key val s os e h l =
     let k = subst (HasSameKeys raw out ss) e h in
     subst (λ (s : Shape). IsWaitingKey (shape_open out ss start s ∷ os) (slice_range raw key val)) (sym e) (slice_all raw key val (sym l) ∙ k.1)
-
--- ---- a key that is due
-
-pub held_same : (raw bytes out : List ℕ) (ss us : List Span) (start first : ℕ) (s : Shape) (os : List Open) (k : List ℕ) (t : Bool) → s ≡ Map first → bytes ≡ raw → us ≡ drop first ss → HasSameKeys raw out ss s
-    → (IsTrue t ↔ HasKey (map (span_pair bytes) us) k) → (IsTrue t ↔ HoldsKey (shape_open out ss start s ∷ os) k)
-held_same raw bytes out ss us start first s os k t e eb eu h d =
-    let same = subst (HasSameKeys raw out ss) e h in
-    let one = subst (λ (xs : List ℕ). IsTrue t ↔ HasKey (map (span_pair xs) (drop first ss)) k) eb (subst (λ (xs : List Span). IsTrue t ↔ HasKey (map (span_pair bytes) xs) k) eu d) in
-    subst (λ (s : Shape). IsTrue t ↔ HoldsKey (shape_open out ss start s ∷ os) k) (sym e) (
-      (λ p. has_keys raw out (drop first ss) k k same refl (one.0 p)),
-      (λ n. one.1 (has_keys out raw (drop first ss) k k (keys_flip raw out (drop first ss) same) refl n)),
-    )

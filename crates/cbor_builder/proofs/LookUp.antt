@@ -44,13 +44,6 @@ key_step o out ks i d y r b fr fy l h0 =
       ]),
     )
 
--- where its bytes are told
-pub bytes_step : (out : List ℕ) (ks : List Span) (i : ℕ) (d : Span) (k own : List ℕ) → i < length ks → own ≡ key_of out (get_or ks i d)
-    → HasKey (map (span_pair out) (drop i ks)) k ↔ ((own ≡ k) ⊎ HasKey (map (span_pair out) (drop (i + 1) ks)) k)
-bytes_step out ks i d k own l e =
-    let x = get_or ks i d in
-    subst (λ (q : List ℕ). HasKey (map (span_pair out) (drop i ks)) k ↔ ((q ≡ k) ⊎ HasKey (map (span_pair out) (drop (i + 1) ks)) k)) (sym e) (key_at (span_pair out) ks i x k l (get_same ks i d x l))
-
 -- the key at hand is another
 pub passed : {P Q R : Type 0} (r : Ordering) → (P ↔ Q) → (Q ↔ (IsTrue (is_eq r) ⊎ R)) → is_eq r ≡ false → (P ↔ R)
 passed r inv step e = (

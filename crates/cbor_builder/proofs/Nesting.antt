@@ -1,5 +1,5 @@
 -- What is around the innermost.
-use Rattle.std.proofs.Common.{◌≡◌, ◌-◌, ℕ, vec_len, Bool, true, false, List, [], ◌∷◌, ◌++◌, length, length-append, refl, ap, ◌∙◌, subst, arith}
+use Rattle.std.proofs.Common.{◌≡◌, ◌-◌, ◌^◌, ◌≤◌, ℕ, vec_len, Bool, true, false, List, [], ◌∷◌, ◌++◌, length, length-append, refl, ap, ◌∙◌, subst, arith}
 use Rattle.std.specs.Prelude.{if◌then◌else◌, IsTrue, reverse}
 use Rattle.std.proofs.lemmas.List.{length-reverse}
 use Rattle.cbor_head.specs.declared.order.KeyOrder.{KeyOrder}
@@ -27,6 +27,14 @@ stored c r = go c.is_open r
     go : (opened : Bool) → (opened ≡ false → (c.top ≡ outermost) × (c.below.items ≡ [])) → vec_len c.below ≡ length (if opened then reverse c.below.items ++ outermost ∷ [] else []) - 1
     go true r = let l = length-append (reverse c.below.items) (outermost ∷ []) in let k = length-reverse c.below.items in omega (arith, l, k, c.below.ok.0)
     go false r = let e = ap length (r refl).1 in omega (arith, e, c.below.ok.0)
+
+-- they fit the memory
+pub outers_fit : (c : Core) → length (outers c) ≤ 2 ^ 63
+outers_fit c = go c.is_open
+  where
+    go : (opened : Bool) → length (if opened then reverse c.below.items ++ outermost ∷ [] else []) ≤ 2 ^ 63
+    go true = let l = length-append (reverse c.below.items) (outermost ∷ []) in let k = length-reverse c.below.items in omega (arith, l, k, c.below.ok.0, c.below.ok.1, c.below.small)
+    go false = omega arith
 
 pub nothing_open : (c : Core) → outers c ≡ [] → c.is_open ≡ false
 nothing_open c e = go c.is_open e

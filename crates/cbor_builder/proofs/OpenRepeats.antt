@@ -1,18 +1,17 @@
 -- Which repeated key is told, from the innermost out.
-use Rattle.std.proofs.Common.{◌≡◌, ℕ, suc, ◌-◌, List, [], ◌∷◌, ◌++◌, length, length-drop, drop, take, map, nat_eq, Option, Some, None, Bool, true, false, refl, sym, ap, ◌∙◌, subst, arith, inl, inr}
-use Rattle.std.specs.Prelude.{IsTrue, MatchOption, ◌↔◌}
+use Rattle.std.proofs.Common.{◌≡◌, ℕ, suc, ◌+◌, ◌-◌, ◌^◌, ◌<◌, ◌≤◌, List, [], ◌∷◌, ◌++◌, length, length-drop, drop, take, map, Option, Some, None, Bool, true, false, refl, sym, ap, ◌∙◌, subst, arith, inl, inr}
+use Rattle.std.specs.Prelude.{IsTrue, MatchOption, IfSome, ◌↔◌}
 use Rattle.std.specs.Option.{option_or}
 use Rattle.std.specs.Bool.{then_some}
-use Rattle.std.proofs.lemmas.Bool.Decides.{Decides-eqb}
 use Rattle.std.proofs.lemmas.List.{length-map, drop_all, take_rest}
-use Rattle.cbor_builder.specs.Built.{HasKey, IsRepeatedKey, IsKeyDueAt, keys_so_far, AreAllDifferent, IsFirstRepeat}
+use Rattle.cbor_builder.specs.Built.{HasKey, IsRepeatedKey, IsRepeatTold, keys_so_far, open_maps, AreAllDifferent, IsFirstRepeat}
 use Rattle.cbor_canonical.specs.Parts.{Open}
 use Rattle.cbor_head.specs.Canonical.{Pair}
 use Rattle.cbor_head.specs.declared.order.KeyOrder.{KeyOrder}
 use Rattle.cbor_builder.specs.inner.Front.{key_of}
 use Rattle.cbor_buffer.specs.Spans.{span_pair}
 use Rattle.cbor_builder.specs.inner.Laid.{pairs_from, shape_open, outer_spans, opens, Fits}
-use Rattle.cbor_builder.specs.inner.Repeats.{first_of, TellsOf, Tells}
+use Rattle.cbor_builder.specs.inner.Repeats.{first_of, maps_of, outward, TellsOf, TellsWithin, Tells, IsBelow}
 use Rattle.cbor_buffer.specs.declared.span.Span.{Span}
 use Rattle.cbor_builder.specs.declared.frame.Frame.{Frame}
 use Rattle.cbor_builder.specs.declared.frame.Shape.{Shape}
@@ -24,20 +23,57 @@ use Rattle.cbor_canonical.proofs.Sorting.{rising_distinct}
 
 -- ---- from the innermost out
 
-pub tells_outward : (c : Open) (os : List Open) (own found r : Option Repeat) (n : ℕ) (whole : List Open) → n ≡ length os → TellsOf c n own
-    → ((r : Option Repeat) → Tells (c ∷ os) r → Tells whole (option_or r found)) → Tells os r → Tells whole (option_or r (option_or own found))
-tells_outward c os own found (Some t) n whole e o all h = all (Some t) (inl h)
-tells_outward c os (Some t) found None n whole e o all h = all (Some t) (inr (h, o.0 ∙ ap (λ k. k - 1) e, o.1))
-tells_outward c os None found None n whole e o all h = all None (o, h)
+pub tells_outward : (c : Open) (os whole : List Open) (own : Option ℕ) (found : Option Repeat) (maps : ℕ) → TellsOf c own → maps + open_maps os ≡ open_maps (c ∷ os)
+    → TellsWithin whole (c ∷ os) found → TellsWithin whole os (outward own found maps)
+tells_outward c os whole (Some pair) found maps o e h = ((λ a b t. h.0 a b (inl t)), λ d. let none : open_maps os ≡ 0 + open_maps os = omega arith in subst (λ (n : ℕ). IsRepeatTold whole n pair) none (h.0 (open_maps os) pair (inr (d, refl, o))))
+tells_outward c os whole None (Some t) maps o e h =
+    let all : t.outside + open_maps (c ∷ os) ≡ t.outside + maps + open_maps os = omega (arith, e) in
+    ((λ a b t. h.0 a b (inl t)), λ d. subst (λ (n : ℕ). IsRepeatTold whole n t.pair) all (h.1 (o, d)))
+tells_outward c os whole None None maps o e h = ((λ a b t. h.0 a b (inl t)), λ d. h.1 (o, d))
 
-pub tells_first : (c : Open) (os : List Open) (own r : Option Repeat) (n : ℕ) → n ≡ length os → TellsOf c n own → Tells os r → Tells (c ∷ os) (option_or r own)
-tells_first c os own (Some t) n e o h = inl h
-tells_first c os (Some t) None n e o h = inr (h, o.0 ∙ ap (λ k. k - 1) e, o.1)
-tells_first c os None None n e o h = (o, h)
+pub tells_first : (c : Open) (os : List Open) (own : Option ℕ) → TellsOf c own → TellsWithin (c ∷ os) os (outward own None 0)
+tells_first c os (Some pair) o = ((λ a b t. inl t), λ d. inr (d, omega arith, o))
+tells_first c os None o = ((λ a b t. inl t), λ d. (o, d))
 
-pub opens_length : (out : List ℕ) (ss : List Span) (fs : List Frame) → length (opens out ss fs) ≡ length fs
-opens_length out ss [] = refl
-opens_length out ss (f ∷ fs) = ap (λ n. suc n) (opens_length (take f.from out) (outer_spans ss f.shape) fs)
+pub tells_all : (whole : List Open) (found : Option Repeat) → TellsWithin whole [] found → Tells whole found
+tells_all whole None h = h.1 tt
+tells_all whole (Some t) h = let e : t.outside + 0 ≡ t.outside = omega arith in subst (λ (n : ℕ). IsRepeatTold whole n t.pair) e (h.1 tt)
+
+pub maps_more : (out : List ℕ) (ss : List Span) (start : ℕ) (s : Shape) (os : List Open) → maps_of s + open_maps os ≡ open_maps (shape_open out ss start s ∷ os)
+maps_more out ss start Plain os = omega arith
+maps_more out ss start (Array n) os = omega arith
+maps_more out ss start (Map first) os = omega arith
+maps_more out ss start (Key first at) os = omega arith
+maps_more out ss start (Content m) os = omega arith
+
+pub maps_same : (raw out : List ℕ) (ss : List Span) (fs : List Frame) → open_maps (opens raw ss fs) ≡ open_maps (opens out ss fs)
+maps_same raw out ss [] = refl
+maps_same raw out ss (f ∷ fs) =
+    sym (maps_more raw ss f.start f.shape (opens (take f.from raw) (outer_spans ss f.shape) fs))
+    ∙ ap (λ (n : ℕ). maps_of f.shape + n) (maps_same (take f.from raw) (take f.from out) (outer_spans ss f.shape) fs)
+    ∙ maps_more out ss f.start f.shape (opens (take f.from out) (outer_spans ss f.shape) fs)
+
+-- ---- how many maps there are
+
+maps_least : (s : Shape) → maps_of s ≤ 1
+maps_least Plain = omega arith
+maps_least (Array n) = omega arith
+maps_least (Map first) = omega arith
+maps_least (Key first at) = omega arith
+maps_least (Content m) = omega arith
+
+pub below_fits : (found : Option Repeat) (s : Shape) (n : ℕ) → n < 2 ^ 63 → IsBelow found n → IfSome found (λ (t : Repeat). t.outside + maps_of s < 2 ^ 64)
+below_fits None s n l h = tt
+below_fits (Some t) s n l h = omega (arith, l, h, maps_least s)
+
+pub below_outward : (own : Option ℕ) (found : Option Repeat) (s : Shape) (n : ℕ) → IsBelow found n → IsBelow (outward own found (maps_of s)) (suc n)
+below_outward (Some pair) found s n h = omega arith
+below_outward None (Some t) s n h = omega (arith, h, maps_least s)
+below_outward None None s n h = tt
+
+pub below_first : (own : Option ℕ) (n : ℕ) → IsBelow (outward own None 0) n
+below_first (Some pair) n = omega arith
+below_first None n = tt
 
 -- ---- of what is open
 
@@ -125,17 +161,3 @@ pub moved : (P : KeyOrder → List ℕ → List Span → List Frame → Type 0) 
     → o' ≡ o → out' ≡ out → ss' ≡ ss → fs' ≡ fs → P o out ss fs → P o' out' ss' fs'
 moved P o o' out out' ss ss' fs fs' eo ex es ef p =
     subst (λ o. P o out' ss' fs') (sym eo) (subst (λ out. P o out ss' fs') (sym ex) (subst (λ ss. P o out ss fs') (sym es) (subst (P o out ss) (sym ef) p)))
-
-pub none_left : (out : List ℕ) (ss : List Span) (fs : List Frame) → fs ≡ [] → Tells (opens out ss fs) None
-none_left out ss fs e = subst (λ (gs : List Frame). Tells (opens out ss gs) None) (sym e) tt
-
--- ---- where a key is due
-
-pub due_at : (out : List ℕ) (ss : List Span) (start first pairs around outside pair : ℕ) (s : Shape) (os : List Open) → s ≡ Map first → pairs ≡ length ss - first → around ≡ length os - 1 → pairs ≡ pair
-    → IsTrue (nat_eq around outside) ↔ IsKeyDueAt (shape_open out ss start s ∷ os) outside pair
-due_at out ss start first pairs around outside pair s os shape p a e =
-    let count : length (pairs_from out ss first) ≡ length ss - first = length-map (drop first ss) (span_pair out) ∙ length-drop first ss in
-    rw shape (
-      (λ t. (sym ((Decides-eqb around outside).0 t) ∙ a, sym e ∙ p ∙ sym count)),
-      (λ h. (Decides-eqb around outside).1 (a ∙ sym h.0)),
-    )

@@ -1,11 +1,11 @@
 -- What contracts see of a builder, and when it takes the next part.
-use Rattle.std.specs.Prelude.{ℕ, suc, ◌≡◌, ◌<◌, ◌-◌, ◌^◌, ◌⊎◌, List, [], ◌∷◌, ◌++◌, length, map, slice_index_or}
+use Rattle.std.specs.Prelude.{ℕ, suc, ◌≡◌, ◌<◌, ◌^◌, ◌⊎◌, List, [], ◌∷◌, ◌++◌, length, map, slice_index_or}
 use Rattle.cbor_head.specs.Value.{Value, Entries, HasEntry, Same}
 use Rattle.cbor_head.specs.Canonical.{Pair}
 use Rattle.cbor_head.specs.declared.order.KeyOrder.{KeyOrder}
 use Rattle.cbor_head.specs.declared.major.Major.{Major}
 use Rattle.cbor_head.specs.declared.major.Major.TheVariants.{Unsigned, Negative, Bytes, Text, Array, Map, Tag, Simple}
-use Rattle.cbor_canonical.specs.Parts.{Open, an_array, a_map, a_key, a_string, HasNoRepeats}
+use Rattle.cbor_canonical.specs.Parts.{Open, plain, an_array, a_map, a_key, a_string, HasNoRepeats}
 
 -- the order of keys, and what is open, the innermost first: nothing, from a call that is refused memory until it is as new again
 pub record Built : Type 0 where
@@ -83,16 +83,6 @@ abbrev pub IsKeyDue : List Open → Type 0
 IsKeyDue (a_map ps ∷ os) = Unit {0}
 IsKeyDue _ = ⊥
 
--- it is a key of the innermost map, behind so many pairs; so many containers are open around that. Around all is the whole, which is no container.
-abbrev pub IsKeyDueAt : List Open → ℕ → ℕ → Type 0
-IsKeyDueAt (a_map ps ∷ os) outside pair = (outside ≡ length os - 1) × (pair ≡ length ps)
-IsKeyDueAt _ outside pair = ⊥
-
--- a map is innermost, another key of it is due, and one before has these bytes
-abbrev pub HoldsKey : List Open → List ℕ → Type 0
-HoldsKey (a_map ps ∷ os) k = HasKey ps k
-HoldsKey _ k = ⊥
-
 -- this key waits for its value
 abbrev pub IsWaitingKey : List Open → List ℕ → Type 0
 IsWaitingKey (a_key ps k ∷ os) q = q ≡ k
@@ -127,9 +117,18 @@ abbrev pub AreOpenKeysDifferent : List Open → Type 0
 AreOpenKeysDifferent [] = Unit {0}
 AreOpenKeysDifferent (c ∷ os) = AreAllDifferent (keys_so_far c) × AreOpenKeysDifferent os
 
--- of the outermost open map with two equal keys: how many containers are open around it, and the number of the pair whose key is
--- the first that is equal to an earlier one. Around all is the whole, which is no container.
+-- so many of these are maps
+abbrev pub open_maps : List Open → ℕ
+open_maps [] = 0
+open_maps (a_map ps ∷ os) = suc (open_maps os)
+open_maps (a_key ps k ∷ os) = suc (open_maps os)
+open_maps (plain bs ∷ os) = open_maps os
+open_maps (an_array n bs ∷ os) = open_maps os
+open_maps (a_string m bs ∷ os) = open_maps os
+
+-- of the outermost open map with two equal keys: how many maps are open around it, and the number of the pair whose key is the
+-- first that is equal to an earlier one
 abbrev pub IsRepeatTold : List Open → ℕ → ℕ → Type 0
 IsRepeatTold [] outside pair = ⊥
 IsRepeatTold (c ∷ os) outside pair =
-    IsRepeatTold os outside pair ⊎ (AreOpenKeysDifferent os × (outside ≡ length os - 1) × IsFirstRepeat (keys_so_far c) pair)
+    IsRepeatTold os outside pair ⊎ (AreOpenKeysDifferent os × (outside ≡ open_maps os) × IsFirstRepeat (keys_so_far c) pair)

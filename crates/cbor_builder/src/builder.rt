@@ -12,7 +12,6 @@ ghost use Rattle.cbor_builder.specs.inner.Repeats.{TellsOf, Tells};
 ghost use Rattle.cbor_buffer.specs.Moved.{meant, IsWhole};
 
 mod closing;
-mod due_key;
 mod given_up;
 mod nesting;
 
@@ -21,7 +20,7 @@ use crate::look_up::has_key;
 use crate::member::complete;
 use crate::opening::opening;
 use crate::repeat::Repeat;
-use crate::repeats::first_repeat;
+use crate::repeats::{first_repeat, outward};
 use cbor_buffer::draft::Draft;
 use cbor_buffer::span::Span;
 use cbor_head::{KeyOrder, Major};
@@ -219,18 +218,21 @@ impl Core {
         // Of keys it makes no difference: they lie as they are meant.
         let len = self.out.len();
         self.out.cut(len);
-        let mut found = self.take_repeat();
+        let own = self.take_repeat();
+        let mut found = outward(own, None, 0);
         while self.leave() {
-            found = self.take_repeat().or(found);
+            let maps = self.top.maps();
+            let own = self.take_repeat();
+            found = outward(own, found, maps);
         }
         found
     }
 
-    // The first repeated key of the innermost, whose bytes and spans are taken away.
-    fn take_repeat(&mut self) -> Option<Repeat>
+    // The pair of the first repeated key of the innermost, whose bytes and spans are taken away.
+    fn take_repeat(&mut self) -> Option<usize>
         requires laid { IsLaid self.old }
         requires lies { self.old.out.buf ≡ meant self.old.out }
-        ensures tells { TellsOf (innermost self.old) (length (outers self.old)) result }
+        ensures tells { TellsOf (innermost self.old) result }
         ensures order { self.new.order ≡ self.old.order }
         ensures whole { IsWhole self.new.out }
         ensures meant { meant self.new.out ≡ take self.old.top.from self.old.out.buf }
@@ -247,10 +249,6 @@ impl Core {
         }
         self.spans.truncate(first);
         self.out.cut(self.top.from);
-        let pair = pair.or(is_waiting_repeated.then_some(count))?;
-        Some(Repeat {
-            outside: self.below.len(),
-            pair,
-        })
+        pair.or(is_waiting_repeated.then_some(count))
     }
 }

@@ -2,7 +2,7 @@
 
 ghost use Rattle.std.specs.Prelude.{◌≡◌};
 ghost use Rattle.cbor_builder.specs.inner.Laid.{outermost};
-ghost use Rattle.cbor_builder.specs.inner.Repeats.{first_of};
+ghost use Rattle.cbor_builder.specs.inner.Repeats.{first_of, maps_of};
 
 use cbor_buffer::span::Span;
 use cbor_head::Major;
@@ -53,6 +53,16 @@ impl Frame {
         match self.shape {
             Shape::Map(first) | Shape::Key(first, ..) => first,
             _ => spans.len(),
+        }
+    }
+
+    // One of a map, of another none.
+    pub(crate) fn maps(&self) -> usize
+        ensures { result ≡ maps_of self.now.shape }
+    {
+        match self.shape {
+            Shape::Map(_) | Shape::Key(..) => 1,
+            _ => 0,
         }
     }
 }

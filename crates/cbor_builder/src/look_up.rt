@@ -12,7 +12,6 @@ use crate::ranking::{compare, front};
 use cbor_buffer::out::Out;
 use cbor_buffer::span::Span;
 use cbor_head::KeyOrder;
-use cbor_keys::part;
 
 // Whether one of the pairs has the key that stands from `key` to `val`. Where their keys rise, a
 // key above the last one costs one comparison. Else a pair costs a comparison of two numbers, where
@@ -54,18 +53,6 @@ fn has_key_of(bytes: &[u8], order: KeyOrder, spans: &[Span], wanted: &Span) -> b
 {
     for span in spans {
         if compare(bytes, order, span, wanted).is_eq() {
-            return true;
-        }
-    }
-    false
-}
-
-/// Whether one of the pairs has a key of these bytes.
-pub(crate) fn has_bytes(bytes: &[u8], spans: &[Span], key: &[u8]) -> bool
-    ensures { IsTrue result ↔ HasKey (map (span_pair bytes.now) spans.now) key.now }
-{
-    for span in spans {
-        if part(bytes, span.key, span.val) == key {
             return true;
         }
     }

@@ -1,13 +1,14 @@
 //! The first key of a map that is equal to an earlier one.
 
-ghost use Rattle.std.specs.Prelude.{length, map, IsPermutation, IsSortedBy};
-ghost use Rattle.std.specs.Prelude.{MatchOption};
+ghost use Rattle.std.specs.Prelude.{◌≡◌, ◌+◌, ◌^◌, ◌<◌, length, map, IsPermutation, IsSortedBy};
+ghost use Rattle.std.specs.Prelude.{IfSome, MatchOption};
 ghost use Rattle.std.specs.Ordering.{is_lt};
 ghost use Rattle.cbor_builder.specs.Built.{AreAllDifferent, IsFirstRepeat};
 ghost use Rattle.cbor_builder.specs.inner.Front.{key_of, AreFronted};
-ghost use Rattle.cbor_builder.specs.inner.Repeats.{by_number, AreNumbered, IsLeastSoFar};
+ghost use Rattle.cbor_builder.specs.inner.Repeats.{by_number, outward, AreNumbered, IsLeastSoFar};
 
 use crate::ranking::compare;
+use crate::repeat::Repeat;
 use cbor_buffer::span::Span;
 use cbor_head::KeyOrder;
 
@@ -21,6 +22,22 @@ pub(crate) fn first_repeat(bytes: &[u8], order: KeyOrder, spans: &mut [Span]) ->
     number(spans);
     sort_by_number(bytes, order, spans);
     least_tie(bytes, order, spans)
+}
+
+// Which is told from one container out: the first of its own pairs, or what is told within it,
+// behind so many maps more.
+pub(crate) fn outward(own: Option<usize>, within: Option<Repeat>, maps: usize) -> Option<Repeat>
+    requires fits { IfSome within (λ repeat. repeat.outside + maps < 2 ^ 64) }
+    ensures { result ≡ outward own within maps }
+{
+    match (own, within) {
+        (Some(pair), _) => Some(Repeat { outside: 0, pair }),
+        (None, Some(repeat)) => Some(Repeat {
+            outside: repeat.outside + maps,
+            pair: repeat.pair,
+        }),
+        (None, None) => None,
+    }
 }
 
 // Each span has its number in place of its end.

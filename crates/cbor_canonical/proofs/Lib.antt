@@ -8,6 +8,8 @@ pub mod Members
 pub mod Normal
 pub mod NormalValue
 pub mod Orders
+pub mod PlainRules
+pub mod PlainVerdicts
 pub mod Sameness
 pub mod Sorting
 pub mod Sound

@@ -1,3 +1,4 @@
 pub mod CanonicalSpelling
 pub mod Pairs
 pub mod Parts
+pub mod StrictReasons

@@ -1,7 +1,6 @@
 //! Examples, by trees.
 
 mod canon_builder;
-mod due_keys;
 mod failed;
 mod reused;
 mod sorted;

@@ -7,17 +7,18 @@ use Rattle.cbor_head.specs.Value.{Value, Same, HasBasicKeys}
 use Rattle.cbor_head.specs.Spelling.{Spelling, spell, value_of}
 use Rattle.cbor_head.specs.Canonical.{canonical}
 use Rattle.cbor_head.specs.Complaint.{strict, Complaint, IsComplaint}
-use Rattle.cbor_head.specs.Verdict.{accepted, IsVerdict}
+use Rattle.cbor_head.specs.Verdict.{accepted, refused, IsVerdict}
 use Rattle.cbor_head.specs.declared.keys.Keys.TheVariants.{IntegersAndTexts}
 use Rattle.cbor_head.specs.declared.order.KeyOrder.{KeyOrder}
+use Rattle.cbor_head.specs.declared.reason.Refusal.{Refusal}
 use Rattle.cbor_grammar.proofs.Accepted.{accepts_exactly}
 use Rattle.cbor_grammar.proofs.BasicKeys.{none_of_kinds, has_basic_keys, basic_same}
 use Rattle.cbor_canonical.specs.CanonicalSpelling.{IsCanonicalSpelling}
 use Rattle.cbor_canonical.proofs.Depth.{depth-value_of}
 use Rattle.cbor_canonical.proofs.Told.{told}
 use Rattle.cbor_canonical.proofs.Theorems.{canonical_spelled, strict_exactly}
-use Rattle.cbor_judging.specs.Readers.{BeginsWithCanonical}
-use Rattle.cbor_judging.proofs.Accepted.{item_within_limit}
+use Rattle.cbor_judging.specs.Readers.{IsRead, BeginsWithCanonical, IsCanonicalFront, HasNoCanonicalFront}
+use Rattle.cbor_judging.proofs.Accepted.{item_within_limit, not_both}
 
 module _ (limits : Bounds) (o : KeyOrder) (input : List ℕ) where
   -- an item that is accepted is spelled canonically
@@ -55,3 +56,11 @@ module _ (limits : Bounds) (o : KeyOrder) (input : List ℕ) where
 
   pub one_front : (v w : Value) → BeginsWithCanonical limits o input v → BeginsWithCanonical limits o input w → Same v w × (canonical o v ≡ canonical o w)
   one_front v w h k = let r = told o o v w h.range k.range h.rest k.rest (h.begins ∙ sym k.begins) in (r.same, r.bytes_are)
+
+  -- ---- what is answered of a front
+
+  pub front_read : (count : ℕ) → IsRead limits (strict o) input count → IsCanonicalFront limits o input count
+  front_read count r = record { value = value_of r.item; begins = strict_value r.item r.verdict; size = r.size ∙ ap length (strict_bytes r.item r.verdict) }
+
+  pub front_refused : (f : Refusal) → IsVerdict limits (strict o) input (refused f) → HasNoCanonicalFront limits o input
+  front_refused f w v h = let (s, accepts) = strict_accepts v h in not_both limits (strict o) input s f accepts w

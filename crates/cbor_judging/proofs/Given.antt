@@ -48,6 +48,7 @@ full-array o d e w ss n bs count are h holds room = record {
   within = omega (arith, within-all e ss h, room);
   clean = λ u at c x. elim x [ inl y ↦ no-count at majors.Array w (spellings_count ss) c y | inr y ↦ clean-all e ss _ h c y ];
   canonical_is = ap₂ (λ (k : ℕ) (ys : List ℕ). shortest_head majors.Array k ++ ys) (count ∙ sym (values_count-of ss)) are;
+  held = tt;
   container = λ other os. tt;
 }
 
@@ -68,6 +69,7 @@ full-map o d e w es ps are h holds room short = record {
       elim x [ inl y ↦ no-count at majors.Map w (entries_count es) c y | inr y ↦ pairs-clean e es [] _ h distinct (λ b m k v z s. m) c y ];
   canonical_is = map-closed o (entries_of es) ps are
       ∙ ap (λ (k : ℕ). shortest_head majors.Map k ++ flat_map (λ (p : Pair). p.key ++ p.value) (in_order o (canonical_entries o (entries_of es)))) (entries-length o (entries_of es));
+  held = ap an_open_map are;
   container = λ other os. tt;
 }
 
@@ -77,6 +79,7 @@ full-tag o d e w n s holds h room = record {
   within = omega (arith, h.within, room);
   clean = λ u at c x. elim x [ inl y ↦ cc y.0 | inr y ↦ h.clean _ c y ];
   canonical_is = refl;
+  held = tt;
   container = λ other os. tt;
 }
 

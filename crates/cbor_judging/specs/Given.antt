@@ -2,6 +2,7 @@
 use Rattle.std.specs.Prelude.{ℕ, suc, ◌≡◌, ◌-◌, ◌≤◌, ◌++◌, List, [], ◌∷◌, length, map}
 use Rattle.cbor_head.specs.Canonical.{canonical, canonical_all, canonical_entries}
 use Rattle.cbor_head.specs.Head.{shortest_head}
+use Rattle.cbor_head.specs.Spelling as spelling
 use Rattle.cbor_head.specs.Spelling.{Spelling, spell, spellings_count, IsSpelled, depth, value_of, values_of, entries_of}
 use Rattle.cbor_head.specs.declared.major.Major.TheVariants.{Tag}
 use Rattle.cbor_head.specs.declared.order.KeyOrder.{KeyOrder}
@@ -26,7 +27,31 @@ abbrev pub opens : KeyOrder → List Level → List Open
 opens o [] = a_plain [] ∷ []
 opens o (l ∷ ls) = level_open o l ∷ opens o ls
 
+-- the pairs of a map of which all was given; of another container nothing
+abbrev pub full_open : KeyOrder → Spelling → Open
+full_open o (spelling.a_map w es) = a_map (canonical_entries o (entries_of es))
+full_open o (spelling.array w ss) = a_plain []
+full_open o (spelling.tag w n s) = a_plain []
+full_open o (spelling.unsigned w n) = a_plain []
+full_open o (spelling.negative w n) = a_plain []
+full_open o (spelling.bytes w bs) = a_plain []
+full_open o (spelling.text w bs) = a_plain []
+full_open o (spelling.byte_chunks cs) = a_plain []
+full_open o (spelling.text_chunks cs) = a_plain []
+full_open o (spelling.simple n) = a_plain []
+
 -- ---- where a builder stands
+
+-- no map
+abbrev pub IsNoMap : Open → Type 0
+IsNoMap (a_map ps) = ⊥
+IsNoMap (parts.a_key ps k) = ⊥
+IsNoMap _ = Unit {0}
+
+-- of a map all pairs are there; another container is no map
+abbrev pub IsHeldAs : KeyOrder → Open → Spelling → Type 0
+IsHeldAs o c (spelling.a_map w es) = c ≡ full_open o (spelling.a_map w es)
+IsHeldAs o c _ = IsNoMap c
 
 -- The whole of this container was given, and only its end is to come. It has no complaint where no two of its keys are the same.
 pub record IsFull (o : KeyOrder) (d : ℕ) (c : Open) (s : Spelling) : Type 0 where
@@ -34,6 +59,7 @@ pub record IsFull (o : KeyOrder) (d : ℕ) (c : Open) (s : Spelling) : Type 0 wh
   pub within : depth s ≤ d
   pub clean : HasNoRepeats c → IsClean s
   pub canonical_is : closed o c ≡ canonical o (value_of s)
+  pub held : IsHeldAs o c s
   pub container : (other : Open) (os : List Open) → IsInContainer (c ∷ other ∷ os)
 
 -- behind the bytes t, at this place, with this open in a builder, in so many containers

@@ -24,7 +24,7 @@ use Rattle.cbor_reader.specs.Canonicalise.{IsCanonicalOf, IsRefusal}
 use Rattle.cbor_reader.specs.Headline.{IsValidItem, IsAnsweredBy, HasNoAnswer}
 use Rattle.cbor_judging.proofs.Accepted.{item_within_limit}
 use Rattle.cbor_reader.proofs.OneAnswer.{only_memory}
-use Rattle.cbor_reader.proofs.ValidTexts.{plain_too}
+use Rattle.cbor_canonical.proofs.PlainRules.{none_plainly}
 use Rattle.cbor_judging.proofs.Valid.{in_range_of, valid_of}
 
 -- ---- an item at the front
@@ -124,7 +124,7 @@ again limits o input out m a =
     let within : depth a.item ≤ limits.depth = (valid_item limits input a.item a.verdict a.whole).well_formed.within in
     let i : IsValidItem limits out s = record {
       well_formed = record { spelled = k.spelled; within = omega (arith, within, k.as_deep, depth-value_of a.item); bytes_are = k.bytes_are ∙ sym a.canonical_bytes };
-      valid = λ c x. elim x [ inl y ↦ plain_too o s 0 (k.clean 0) w.1 c y | inr y ↦ none_of_kinds s (basic_same (value_of s) v k.same (front_keys limits input a.item y.1 a.verdict)) 0 c y.2 ];
+      valid = λ c x. elim x [ inl y ↦ none_plainly o c.end s 0 k.spelled (λ e z l. k.clean 0 e z) c y (omega arith) | inr y ↦ none_of_kinds s (basic_same (value_of s) v k.same (front_keys limits input a.item y.1 a.verdict)) 0 c y.2 ];
       fits = a.fits;
     } in
     (answers_exactly limits o out out).1 (s, i, a.canonical_bytes ∙ sym w.2, a.fits)

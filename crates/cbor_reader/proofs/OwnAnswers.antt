@@ -1,17 +1,16 @@
 -- Which inputs are their own answers: those that the strict verdict accepts whole.
-use Rattle.std.proofs.Common.{ℕ, ◌≡◌, List, length, refl, sym, ◌∙◌, [], subst, ◌^◌, ◌≤◌, ◌↔◌, inl, inr}
+use Rattle.std.proofs.Common.{ℕ, ◌≡◌, List, length, sym, ◌∙◌, [], subst, ◌^◌, ◌≤◌, ◌↔◌}
 use Rattle.std.proofs.lemmas.List.{append-nil}
 use Rattle.cbor_head.specs.Limits.{Bounds}
 use Rattle.cbor_head.specs.Spelling.{Spelling, spell, value_of}
 use Rattle.cbor_head.specs.Canonical.{canonical}
-use Rattle.cbor_head.specs.Complaint.{Complaint, IsComplaint, plain, strict}
+use Rattle.cbor_head.specs.Complaint.{plain, strict}
 use Rattle.cbor_head.specs.Verdict.{accepted, IsVerdict}
 use Rattle.cbor_head.specs.declared.order.KeyOrder.{KeyOrder}
-use Rattle.cbor_grammar.proofs.Accepted.{accepts_exactly}
+use Rattle.cbor_canonical.proofs.PlainVerdicts.{accepted_plainly}
 use Rattle.cbor_reader.specs.Canonicalise.{IsCanonicalOf}
 use Rattle.cbor_judging.specs.Readers.{BeginsWithCanonical}
 use Rattle.cbor_reader.proofs.Headline.{front_range, front_valid, front_keys, front_depth, valid_item, answers_exactly}
-use Rattle.cbor_reader.proofs.ValidTexts.{plain_too}
 use Rattle.cbor_judging.proofs.CanonicalFronts.{strict_bytes, strict_value, strict_accepts, one_front}
 
 module _ (limits : Bounds) (o : KeyOrder) (input : List ℕ) where
@@ -34,18 +33,9 @@ module _ (limits : Bounds) (o : KeyOrder) (input : List ℕ) where
       let (s, h) = strict_accepts limits o input v begins in
       (s, h, strict_bytes limits o input s h ∙ (one_front limits o input (value_of s) v (strict_value limits o input s h) begins).1 ∙ sym a.canonical_bytes)
 
-  pub strict_is_plain : (s : Spelling) → IsVerdict limits (strict o) input (accepted s) → IsVerdict limits plain input (accepted s)
-  strict_is_plain s v =
-      let h = (accepts_exactly limits (strict o) input s).0 v in
-      let none : (c : Complaint) → IsComplaint limits plain s c → ⊥ = λ c x. elim x [
-        | inl y ↦ plain_too o s 0 (λ e z. h.2 e (inl z)) (strict_value limits o input s v).valid c y
-        | inr y ↦ h.2 c (inr (refl, y.1, y.2))
-      ] in
-      (accepts_exactly limits plain input s).1 (h.0, h.1, none)
-
   accepted_own_answer : (s : Spelling) → IsVerdict limits (strict o) input (accepted s) → spell s ≡ input → IsCanonicalOf limits o input input
   accepted_own_answer s v e =
-      let i = valid_item limits input s (strict_is_plain s v) e in
+      let i = valid_item limits input s (accepted_plainly limits o input s v) e in
       (answers_exactly limits o input input).1 (s, i, sym e ∙ strict_bytes limits o input s v, i.fits)
 
   -- it is its own answer exactly where the strict verdict accepts it whole

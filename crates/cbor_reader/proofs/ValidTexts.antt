@@ -5,8 +5,7 @@ use Rattle.std.specs.List.{AllByRecursion}
 use Rattle.cbor_head.specs.Value as value
 use Rattle.cbor_head.specs.Value.{Value, Entries, HasEntry, HasDistinctKeys, Same, IsValid, AreValid, AreEntriesValid}
 use Rattle.cbor_head.specs.Spelling.{Chunk, Spelling, Spellings, SpelledEntries, unsigned, negative, bytes, text, byte_chunks, text_chunks, array, a_map, tag, simple, no_spellings, a_spelling, no_entries, entry, spellings_count, entries_count, value_of, values_of, entries_of}
-use Rattle.cbor_head.specs.Complaint.{Rules, plain, strict, IsRepeated, OfPayload, OfChunks, Complains, ComplainsIn, ComplainsInEntries}
-use Rattle.cbor_head.specs.declared.order.KeyOrder.{KeyOrder}
+use Rattle.cbor_head.specs.Complaint.{Rules, plain, IsRepeated, OfPayload, OfChunks, Complains, ComplainsIn, ComplainsInEntries}
 use Rattle.cbor_head.specs.declared.major.Major.TheVariants.{Bytes, Text, Array, Map}
 use Rattle.cbor_canonical.proofs.Stable.{utf8_stable}
 use Rattle.cbor_reader.specs.Headline.{HasValidTexts, HaveValidTexts, EntriesHaveValidTexts}
@@ -110,7 +109,3 @@ plain_exactly s at = (
   (λ f. (texts_valid plain refl s at f, valid_of s at f)),
   (λ h. none_plain s at h.0 h.1),
 )
-
--- without strict complaint, of a valid value: without plain complaint
-pub plain_too : (o : KeyOrder) (s : Spelling) (at : ℕ) → Never (Complains (strict o) at s) → IsValid (value_of s) → Never (Complains plain at s)
-plain_too o s at f v = none_plain s at (texts_valid (strict o) refl s at f) v

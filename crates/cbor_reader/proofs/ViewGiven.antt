@@ -8,6 +8,7 @@ use Rattle.cbor_head.specs.declared.major.Major.{Major}
 use Rattle.cbor_head.specs.declared.major.Major.TheVariants as majors
 use Rattle.cbor_item.specs.OpenValues as parts
 use Rattle.cbor_item.specs.OpenValues.{OpenValue, an_array, give, close, TakesValue, MayEnd}
+use Rattle.cbor_builder.specs.declared.repeat.Repeat.{Repeat}
 use Rattle.cbor_judging.specs.Levels.{Level, some_member, some_key, item_due}
 use Rattle.cbor_judging.specs.Reading.{string_value}
 use Rattle.cbor_reader.specs.declared.view_sink.ViewSink.{ViewSink}
@@ -17,7 +18,7 @@ use Rattle.cbor_plain.proofs.TreeValues.{full-ends, levels-take, may-end, settle
 use Rattle.cbor_view.specs.Seen.{standing}
 use Rattle.cbor_sinks.specs.KeyBytes.{keys_stand, keys_hold}
 use Rattle.cbor_sinks.specs.declared.key_bytes.KeyBytes.{KeyBytes}
-use Rattle.cbor_walk.specs.Sink.{FindsNoRepeat, Told, IsOpened, IsEndedAs, StandsFull, IsItemDue, IsChunkDue, IsContainerFull, Gives, Opens, Ends, BeginsString, GrowsString, EndsString}
+use Rattle.cbor_walk.specs.Sink.{FindsNoRepeat, IsWithin, FindsRepeat, IsToldIn, Told, IsOpened, IsEndedAs, StandsFull, IsItemDue, IsChunkDue, IsContainerFull, Gives, Opens, Ends, StaysFull, BeginsString, GrowsString, EndsString}
 
 -- ---- an item
 
@@ -76,6 +77,15 @@ ended k old new keys views start d ls s fills full =
     let e = keys start.keys d ls s fills (keys-full k d start old ls s full) in
     (e.0, (e.1, settles-right ls s, views ∙ ap close (views-full k d start old ls s full).0 ∙ values-ended ls s))
 
+-- where two keys are equal it has not ended
+pub stayed : (k : Bool) (old new : ViewSink) → StaysFull KeyBytes keys_stand false k old.keys new.keys → standing new.views ≡ standing old.views → StaysFull ViewSink view_stands false k old new
+stayed k old new keys views start d ls s fills full = let are = views-full k d start old ls s full in by-keys are.0 are.1 (keys start.keys d ls s fills (keys-full k d start old ls s full))
+  where
+    by-keys : standing old.views ≡ full_value s ∷ level_values ls → IsContainer s → StandsFull KeyBytes (Told KeyBytes keys_stand k) d start.keys new.keys ls s → StandsFull ViewSink (Told ViewSink view_stands k) d start new ls s
+    by-keys are container (inl (at, told)) = inl ((at, container, views ∙ are), told)
+    by-keys are container (inr (l, ended, levels, (at, told))) =
+        inr (l, ended, levels, ((at, tt, views ∙ are ∙ ap (λ (c : OpenValue). c ∷ level_values ls) (sym (ended-as l s ended).0)), told))
+
 -- ---- strings in chunks
 
 pub whole-due : (k t : Bool) (g : ViewSink) → IsChunkDue ViewSink view_holds k t g → IsItemDue ViewSink view_stands k g
@@ -114,3 +124,10 @@ string-ended k t old new keys views start d ls content s at told done e = (
 pub no-repeat : (g : ViewSink) → FindsNoRepeat KeyBytes keys_stand keys_hold g.keys → FindsNoRepeat ViewSink view_stands view_holds g
 no-repeat g h start ls (inl at) = h start.keys ls (inl at.0)
 no-repeat g h start ls (inr (is_text, content, at)) = h start.keys ls (inl at.0)
+
+pub repeat-found : (g : ViewSink) (repeat : Repeat) → FindsRepeat KeyBytes keys_stand keys_hold g.keys repeat → FindsRepeat ViewSink view_stands view_holds g repeat
+repeat-found g repeat h = record { within = by-place; full = λ start ls s at. h.full start.keys ls s at.0 }
+  where
+    by-place : (start : ViewSink) (ls : List Level) → IsWithin ViewSink view_stands view_holds start g ls → IsToldIn ls repeat
+    by-place start ls (inl at) = h.within start.keys ls (inl at.0)
+    by-place start ls (inr (is_text, content, at)) = h.within start.keys ls (inl at.0)

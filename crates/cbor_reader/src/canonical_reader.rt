@@ -8,9 +8,9 @@ ghost use Rattle.cbor_head.specs.declared.reason.Reason.TheVariants as reasons;
 ghost use Rattle.cbor_judging.specs.Readers.{BeginsWithCanonical, IsUnread, TellsMemoryAtFront};
 ghost use Rattle.cbor_sinks.specs.BuiltFront.{IsBuiltFront};
 
+use crate::first_look::first_look;
 use cbor_head::{KeyOrder, Limits, Refusal};
 use cbor_sinks::build_front;
-use cbor_strict::check_canonical;
 use std::alloc::Global;
 use std::borrow::CowSlice;
 
@@ -34,9 +34,10 @@ pub fn read_canonical<'a>(
     ensures no_read { IfErr result (λ f. f.reason ≢ reasons.Read) }
     ensures memory { IfErr result TellsMemoryAtFront }
 {
-    match check_canonical(bytes, limits, order) {
+    match first_look(bytes, limits, order) {
         Ok(size) => Ok((CowSlice::Borrowed(&bytes[..size as usize]), size)),
-        Err(_) => match build_front(alloc, bytes, limits, order) {
+        Err(Some(refusal)) => Err(refusal),
+        Err(None) => match build_front(alloc, bytes, limits, order) {
             Ok(front) => Ok((CowSlice::Owned(front.canonical), front.size)),
             Err(refusal) => Err(refusal),
         },

@@ -1,22 +1,53 @@
-//! Whether an item of many is looked at as canonical bytes first.
+//! A look at an item for canonical bytes, before it is built.
 
-use cbor_head::{Reason, Refusal};
+ghost use Rattle.std.specs.Prelude.{◌≤◌, ◌≢◌, IfOk, IfErr, IfSome, length, take};
+ghost use Rattle.cbor_head.specs.Complaint.{plain};
+ghost use Rattle.cbor_head.specs.Verdict.{IsVerdict, refused};
+ghost use Rattle.cbor_head.specs.declared.reason.Reason.TheVariants as reasons;
+ghost use Rattle.cbor_judging.specs.Readers.{HasNoCanonicalFront};
+ghost use Rattle.cbor_sinks.specs.BuiltFront.{IsBuiltFront};
+
+use cbor_head::{KeyOrder, Limits, Reason, Refusal};
+use cbor_walk::canonical_front;
+
+/// How many bytes the item has that the slice begins with, where they are its canonical bytes in this
+/// order; else its refusal, where it is refused whether it has to be canonical or not. Err(None): it
+/// may be valid.
+pub(crate) fn first_look(
+    bytes: &[u8],
+    limits: Limits,
+    order: KeyOrder,
+) -> Result<u64, Option<Refusal>>
+    ensures accepted { IfOk result (λ count.
+        IsBuiltFront limits order bytes.now (take count bytes.now) count) }
+    ensures within { IfOk result (λ count. count ≤ length bytes.now) }
+    ensures refused { IfErr result (λ told.
+        IfSome told (λ f. IsVerdict limits plain bytes.now (refused f))) }
+    ensures reason { IfErr result (λ told.
+        IfSome told (λ f. (f.reason ≢ reasons.Read) × (f.reason ≢ reasons.Memory))) }
+    ensures no_canonical { IfErr result (λ _. HasNoCanonicalFront limits order bytes.now) }
+{
+    match canonical_front(bytes, limits, order) {
+        Ok(count) => Ok(count),
+        Err(why) => Err(why.plainly()),
+    }
+}
 
 // Behind an item that is not canonical, so many are not looked at so.
 const PAUSE: u8 = 15;
 
-/// Canonical bytes are looked for first where the item before was canonical, or [`PAUSE`] others have
-/// come since.
+/// Whether an item of many is looked at so: where the item before was canonical, or [`PAUSE`] others
+/// have come since.
 #[derive(Clone, Copy)]
-pub(crate) struct FirstLook {
+pub(crate) struct FirstLooks {
     // So many items are not looked at.
     pause: u8,
 }
 
-impl FirstLook {
+impl FirstLooks {
     /// Before the first item.
-    pub(crate) fn new() -> FirstLook {
-        FirstLook { pause: 0 }
+    pub(crate) fn new() -> FirstLooks {
+        FirstLooks { pause: 0 }
     }
 
     /// Whether the next item is looked at.

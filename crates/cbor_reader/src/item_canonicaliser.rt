@@ -6,7 +6,7 @@ ghost use Rattle.cbor_head.specs.declared.reason.Reason.TheVariants as reasons;
 ghost use Rattle.cbor_judging.specs.Readers.{IsUnread, TellsMemoryAtFront};
 ghost use Rattle.cbor_sinks.specs.BuiltFront.{IsBuiltFront};
 
-use crate::first_look::FirstLook;
+use crate::first_look::FirstLooks;
 use cbor_head::{KeyOrder, Limits, Refusal};
 use cbor_sinks::FrontBuilder;
 use cbor_strict::check_canonical;
@@ -17,7 +17,7 @@ use std::alloc::Global;
 #[derive(Drop)]
 pub struct ItemCanonicaliser {
     fronts: FrontBuilder,
-    look: FirstLook,
+    looks: FirstLooks,
 }
 
 impl ItemCanonicaliser {
@@ -25,7 +25,7 @@ impl ItemCanonicaliser {
     pub fn new(alloc: Global) -> ItemCanonicaliser {
         ItemCanonicaliser {
             fronts: FrontBuilder::new(alloc),
-            look: FirstLook::new(),
+            looks: FirstLooks::new(),
         }
     }
 
@@ -43,10 +43,10 @@ impl ItemCanonicaliser {
         ensures no_read { IfErr result (λ f. f.reason ≢ reasons.Read) }
         ensures memory { IfErr result TellsMemoryAtFront }
     {
-        if self.look.is_due() {
+        if self.looks.is_due() {
             match check_canonical(bytes, limits, order) {
                 Ok(size) => return Ok((&bytes[..size as usize], size)),
-                Err(refusal) => self.look.failed(refusal),
+                Err(refusal) => self.looks.failed(refusal),
             }
         }
         self.fronts.build(bytes, limits, order)

@@ -7,9 +7,9 @@ ghost use Rattle.cbor_judging.specs.Levels.{item_due};
 ghost use Rattle.cbor_judging.specs.Readers.{IsRead, IsUnread, TellsMemoryAtFront};
 ghost use Rattle.cbor_sinks.specs.KeyBytes.{keys_stand};
 
-use crate::first_look::FirstLook;
+use crate::first_look::FirstLooks;
 use cbor_head::{KeyOrder, Limits, Refusal};
-use cbor_sinks::{KeyBytes, refusal_by_keys};
+use cbor_sinks::KeyBytes;
 use cbor_strict::check_canonical;
 use cbor_walk::Building;
 use std::alloc::Global;
@@ -18,18 +18,16 @@ use std::alloc::Global;
 /// it keeps.
 #[derive(Drop)]
 pub struct ItemCheck {
-    alloc: Global,
     building: Building<KeyBytes>,
-    look: FirstLook,
+    looks: FirstLooks,
 }
 
 impl ItemCheck {
     /// Takes no memory.
     pub fn new(alloc: Global) -> ItemCheck {
         ItemCheck {
-            alloc,
             building: Building::new(KeyBytes::new(alloc)),
-            look: FirstLook::new(),
+            looks: FirstLooks::new(),
         }
     }
 
@@ -42,14 +40,14 @@ impl ItemCheck {
         ensures no_read { IfErr result (λ f. f.reason ≢ reasons.Read) }
         ensures memory { IfErr result TellsMemoryAtFront }
     {
-        if self.look.is_due() {
-            match canonical_size(bytes, limits) {
+        if self.looks.is_due() {
+            match check_canonical(bytes, limits, KeyOrder::Bytewise) {
                 Ok(size) => return Ok(size),
-                Err(refusal) => self.look.failed(refusal),
+                Err(refusal) => self.looks.failed(refusal),
             }
         }
         self.building.sink.clear();
-        size_by_keys(self.alloc, &mut self.building, bytes, limits)
+        size_by_keys(&mut self.building, bytes, limits)
     }
 }
 
@@ -59,7 +57,6 @@ impl ItemCheck {
 // for it.
 #[inline(never)]
 pub(crate) fn size_by_keys(
-    alloc: Global,
     building: &mut Building<KeyBytes>,
     bytes: &[u8],
     limits: Limits,
@@ -72,15 +69,6 @@ pub(crate) fn size_by_keys(
 {
     match building.give_front(bytes, limits) {
         Ok(size) => Ok(size),
-        Err(stop) => Err(refusal_by_keys(alloc, bytes, limits, stop)),
+        Err(refusal) => Err(refusal),
     }
-}
-
-/// How many bytes the item has that the slice begins with, if they are its canonical bytes by the
-/// order of RFC 8949. Else it may be valid.
-#[inline(always)]
-pub(crate) fn canonical_size(bytes: &[u8], limits: Limits) -> Result<u64, Refusal>
-    ensures { IfOk result (λ count. IsRead limits plain bytes.now count) }
-{
-    check_canonical(bytes, limits, KeyOrder::Bytewise)
 }

@@ -14,6 +14,7 @@ ghost use Rattle.cbor_head.specs.declared.reason.Refusal.{Refusal};
 ghost use Rattle.cbor_head.specs.declared.reason.Reason.TheVariants.{Memory, Truncated, TooLong};
 ghost use Rattle.cbor_head.specs.declared.reason.Reason.TheVariants.{CanonicalTooLong, Trailing};
 ghost use Rattle.cbor_head.specs.declared.reason.Reason.TheVariants.{Read};
+ghost use Rattle.cbor_canonical.specs.StrictReasons.{IsStrictReason};
 ghost use Rattle.cbor_reader.specs.Canonicalise.{IsCanonicalOf, IsRefusal};
 ghost use Rattle.cbor_reader.specs.Comparing.{MeanTheSame};
 ghost use Rattle.cbor_reader.specs.Headline.{IsValidItem, IsAnsweredBy, HasNoAnswer};
@@ -168,10 +169,15 @@ pub fn one_reading()
         → (f.reason ≡ Read) ⊎ (f.reason ≡ Memory) }
 {}
 
-/// What the strict verdict accepts in some order, the plain one accepts.
+/// The verdict of the strict rules, in some order, is the plain one too, unless it refuses for a
+/// reason that the deterministic encoding alone has: a head that is not the shortest, an indefinite
+/// length, keys that do not rise.
 pub fn strict_verdicts_are_plain()
-    ensures { (limits : Bounds) (o : KeyOrder) (input : List ℕ) (s : Spelling)
+    ensures accepted { (limits : Bounds) (o : KeyOrder) (input : List ℕ) (s : Spelling)
         → IsVerdict limits (strict o) input (accepted s) → IsVerdict limits plain input (accepted s) }
+    ensures refused { (limits : Bounds) (o : KeyOrder) (input : List ℕ) (f : Refusal)
+        → ¬ IsStrictReason f.reason
+        → IsVerdict limits (strict o) input (refused f) → IsVerdict limits plain input (refused f) }
 {}
 
 /// What is accepted is accepted within wider limits: of no lower depth and no fewer bytes, and that

@@ -5,8 +5,9 @@ ghost use Rattle.cbor_head.specs.Complaint.{plain};
 ghost use Rattle.cbor_head.specs.declared.reason.Reason.TheVariants as reasons;
 ghost use Rattle.cbor_judging.specs.Readers.{IsRead, IsUnread, TellsMemoryAtFront};
 
-use crate::item_check::{canonical_size, size_by_keys};
-use cbor_head::{Limits, Refusal};
+use crate::first_look::first_look;
+use crate::item_check::size_by_keys;
+use cbor_head::{KeyOrder, Limits, Refusal};
 use cbor_sinks::KeyBytes;
 use cbor_walk::Building;
 use std::alloc::Global;
@@ -24,9 +25,10 @@ pub fn check_valid(alloc: Global, bytes: &[u8], limits: Limits) -> Result<u64, R
     ensures no_read { IfErr result (λ f. f.reason ≢ reasons.Read) }
     ensures memory { IfErr result TellsMemoryAtFront }
 {
-    match canonical_size(bytes, limits) {
+    match first_look(bytes, limits, KeyOrder::Bytewise) {
         Ok(size) => Ok(size),
-        Err(_) => valid_size(alloc, bytes, limits),
+        Err(Some(refusal)) => Err(refusal),
+        Err(None) => valid_size(alloc, bytes, limits),
     }
 }
 
@@ -40,5 +42,5 @@ fn valid_size(alloc: Global, bytes: &[u8], limits: Limits) -> Result<u64, Refusa
     ensures memory { IfErr result TellsMemoryAtFront }
 {
     let mut building = Building::new(KeyBytes::new(alloc));
-    size_by_keys(alloc, &mut building, bytes, limits)
+    size_by_keys(&mut building, bytes, limits)
 }

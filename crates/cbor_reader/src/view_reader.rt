@@ -16,7 +16,6 @@ ghost use Rattle.cbor_view.specs.Seen.{seen};
 use crate::view_sink::ViewSink;
 use bumpalo::Bump;
 use cbor_head::{Limits, Reason, Refusal};
-use cbor_sinks::refusal_by_keys;
 use cbor_view::View;
 use cbor_walk::Building;
 use std::alloc::Global;
@@ -53,7 +52,7 @@ pub fn read_view<'a>(
     let mut building = Building::new(ViewSink::new(alloc, arena));
     match building.give_front(bytes, limits) {
         Ok(size) => Ok((building.sink.finish(), size)),
-        Err(stop) => Err(refusal_by_keys(alloc, bytes, limits, stop)),
+        Err(refusal) => Err(refusal),
     }
 }
 

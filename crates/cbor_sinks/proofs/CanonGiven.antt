@@ -1,6 +1,6 @@
 -- A builder of canonical bytes that is given the parts of an item: what it stands for behind each.
 use Rattle.std.proofs.Common.{◌≡◌, ℕ, suc, ◌+◌, ◌-◌, ◌^◌, ◌<◌, Bool, true, false, List, [], ◌∷◌, ◌++◌, length, refl, sym, ap, ap₂, ◌∙◌, subst, arith, inl, inr}
-use Rattle.std.specs.Prelude.{◌↔◌, IsTrue, Option, Some, None, MatchOption, Result, Ok, Err, IfOk}
+use Rattle.std.specs.Prelude.{◌↔◌, IsTrue, Option, Some, None, MatchOption, IfSome, Result, Ok, Err, IfOk}
 use Rattle.std.specs.Option.{is_some}
 use Rattle.std.proofs.lemmas.List.{length-append}
 use Rattle.cbor_head.specs.Canonical.{canonical, canonical_all, canonical_entries}
@@ -24,7 +24,7 @@ use Rattle.cbor_judging.specs.Place.{Place}
 use Rattle.cbor_judging.specs.Reading.{string_major, string_value}
 use Rattle.cbor_sinks.specs.CanonSink.{canon_stands, sink_stands, sink_holds}
 use Rattle.cbor_sinks.specs.declared.canonical_sink.CanonicalSink.{CanonicalSink}
-use Rattle.cbor_walk.specs.Sink.{FindsNoRepeat, leaf_value, Told, IsOpened, Completes, Fills, IsEndedAs, StandsFull, IsItemDue, Gives, Opens, IsContainerFull, Ends, IsChunkDue, EndsString}
+use Rattle.cbor_walk.specs.Sink.{FindsNoRepeat, leaf_value, Told, IsOpened, Completes, Fills, IsEndedAs, StandsFull, IsItemDue, Gives, Opens, IsContainerFull, Ends, StaysFull, IsChunkDue, EndsString}
 
 -- ---- the bytes of values
 
@@ -149,6 +149,12 @@ pub ends-if : (trusts : Bool) {E : Type 0} (r : Result Bool E) (t : Bool) (old n
 ends-if trusts (Ok d) t old new x y = λ yes. ended t old new (x.0 yes) (y yes)
 ends-if trusts (Err e) t old new x y = tt
 
+-- where two keys are equal, what it is made of is as it was
+pub stays-if : {S B E : Type 0} (stands : S → S → Standing → Type 0) (trusts t : Bool) (make : B → S) (r : Result Bool E) (old new : B) → IfOk r (λ d. d ≡ false → new ≡ old)
+    → IfOk r (λ d. d ≡ false → StaysFull S stands trusts t (make old) (make new))
+stays-if {S} {B} stands trusts t make (Ok d) old new kept = λ repeats start e ls s fills full. subst (λ (b : B). StandsFull S (Told S stands t) e start (make b) ls s) (sym (kept repeats)) full
+stays-if stands trusts t make (Err e) old new kept = tt
+
 -- ---- strings in chunks
 
 pub string-opens : (t : Bool) → parts.opened (string_major t) 0 ≡ parts.a_string (string_major t) []
@@ -173,6 +179,10 @@ string-ended key t old new is start d ls content s at told k e =
 pub none-told : {R : Type 0} (r : Option R) (X : Type 0) (P : R → Type 0) → MatchOption r X P → is_some r ≡ false → X
 none-told None X P h e = h
 none-told (Some r) X P h e = cc e
+
+pub one-told : {R : Type 0} (r : Option R) (X : Type 0) (P Q : R → Type 0) → MatchOption r X P → ((t : R) → P t → Q t) → IfSome r Q
+one-told None X P Q h f = tt
+one-told (Some r) X P Q h f = f r h
 
 pub no-repeat : (g : CanonicalSink) → AreOpenKeysDifferent g.builder.standing → FindsNoRepeat CanonicalSink sink_stands sink_holds g
 no-repeat g h start ls (inl at) = (start.builder.order, subst AreOpenKeysDifferent at.1 h)

@@ -12,12 +12,16 @@ use Rattle.cbor_walk.specs.Sink.{FindsNoRepeat}
 use Rattle.cbor_sinks.specs.KeyBytes.{in_key, bare_pairs, kept, kept_all, keys_stand, keys_hold}
 use Rattle.cbor_sinks.specs.declared.key_bytes.KeyBytes.{KeyBytes}
 
-abbrev keys : List Pair → List (List ℕ)
+abbrev pub keys : List Pair → List (List ℕ)
 keys ps = map (λ (p : Pair). p.key) ps
 
-bare-keys : (ps : List Pair) → keys (bare_pairs ps) ≡ keys ps
+pub bare-keys : (ps : List Pair) → keys (bare_pairs ps) ≡ keys ps
 bare-keys [] = refl
 bare-keys (p ∷ ps) = ap (λ (ks : List (List ℕ)). p.key ∷ ks) (bare-keys ps)
+
+-- one waits for its value
+pub waiting-keys : (ps : List Pair) (k : List ℕ) → keys (bare_pairs ps ++ pair k [] ∷ []) ≡ keys ps ++ k ∷ []
+waiting-keys ps k = map-append (λ (p : Pair). p.key) (bare_pairs ps) (pair k [] ∷ []) ∙ ap (λ (ks : List (List ℕ)). ks ++ k ∷ []) (bare-keys ps)
 
 no-keys : AreAllDifferent []
 no-keys i r = let h = r.2 in absurd (omega (arith, h))
@@ -25,12 +29,12 @@ no-keys i r = let h = r.2 in absurd (omega (arith, h))
 kept-apart : (t : Bool) (c : Open) (os : List Open) → AreOpenKeysDifferent (kept t c os) → AreAllDifferent (keys_so_far c) × AreOpenKeysDifferent os
 kept-apart true c os h = h
 kept-apart false (a_map ps) os h = (subst AreAllDifferent (bare-keys ps) h.0, h.1)
-kept-apart false (a_key ps k) os h = (subst AreAllDifferent (map-append (λ (p : Pair). p.key) (bare_pairs ps) (pair k [] ∷ []) ∙ ap (λ (ks : List (List ℕ)). ks ++ k ∷ []) (bare-keys ps)) h.0, h.1)
+kept-apart false (a_key ps k) os h = (subst AreAllDifferent (waiting-keys ps k) h.0, h.1)
 kept-apart false (plain bs) os h = (no-keys, h)
 kept-apart false (an_array n bs) os h = (no-keys, h)
 kept-apart false (a_string m bs) os h = (no-keys, h)
 
-all-apart : (o : KeyOrder) (ls : List Level) → AreOpenKeysDifferent (kept_all o ls) → AreOpenKeysDifferent (opens o ls)
+pub all-apart : (o : KeyOrder) (ls : List Level) → AreOpenKeysDifferent (kept_all o ls) → AreOpenKeysDifferent (opens o ls)
 all-apart o [] h = h
 all-apart o (l ∷ ls) h = let apart = kept-apart (in_key ls) (level_open o l) (kept_all o ls) h in (apart.0, all-apart o ls apart.1)
 

@@ -5,16 +5,9 @@ use Rattle.cbor_head.specs.Complaint.{plain}
 use Rattle.cbor_head.specs.Limits.{Bounds}
 use Rattle.cbor_head.specs.Spelling.{value_of}
 use Rattle.cbor_head.specs.declared.order.KeyOrder.{KeyOrder}
-use Rattle.cbor_builder.specs.Built.{Built, HoldsKey}
 use Rattle.cbor_judging.specs.Readers.{IsRead}
 
 -- it is accepted by the plain rules, and has so many bytes
 pub record IsBuiltFront (limits : Bounds) (o : KeyOrder) (input out : List ℕ) (size : ℕ) : Type 0 where
   pub read : IsRead limits plain input size
   pub canonical_is : out ≡ canonical o (value_of read.item)
-
--- and an earlier key of the map in which a key is due in a builder has these canonical bytes
-pub record IsHeldFront (limits : Bounds) (g : Built) (input : List ℕ) (size : ℕ) : Type 0 where
-  pub out : List ℕ
-  pub built : IsBuiltFront limits g.order input out size
-  pub held : HoldsKey g.standing out

@@ -5,10 +5,9 @@ ghost use Rattle.cbor_judging.specs.Levels.{item_due};
 ghost use Rattle.cbor_judging.specs.Reading.{string_major};
 ghost use Rattle.cbor_sinks.specs.CanonSink.{sink_stands, sink_holds};
 
-use crate::built_front::held_front;
 use cbor_builder::{CanonBuilder, Repeat};
-use cbor_head::{KeyOrder, Limits, Major};
-use cbor_walk::{KeySink, Sink};
+use cbor_head::{KeyOrder, Major};
+use cbor_walk::Sink;
 use std::alloc::{AllocError, Global};
 
 /// Builds the canonical bytes of the parts that come.
@@ -96,17 +95,6 @@ impl<'a> Sink<'a> for CanonicalSink {
 
     fn first_repeat(&mut self) -> Option<Repeat> {
         self.builder.take().first_repeat()
-    }
-}
-
-impl<'a> KeySink<'a> for CanonicalSink {
-    #[inline(always)]
-    fn is_due_at(&self, repeat: Repeat) -> bool {
-        self.builder.is_due_at(repeat)
-    }
-
-    fn repeated_front(&self, alloc: Global, rest: &[u8], limits: Limits) -> Option<u64> {
-        held_front(alloc, &self.builder, rest, limits)
     }
 }
 

@@ -1,22 +1,16 @@
 //! The canonical bytes of the keys of an item whose parts come, and of nothing else.
 
-ghost use Rattle.std.specs.Prelude.{◌≡◌, ◌≢◌, ◌<◌, [], false, IfOk, IsTrue, OnOk};
+ghost use Rattle.std.specs.Prelude.{◌≡◌, ◌<◌, [], false, IfOk, IsTrue, OnOk};
 ghost use Rattle.cbor_builder.specs.Built.{built, TakesPart};
-ghost use Rattle.cbor_head.specs.Complaint.{plain};
-ghost use Rattle.cbor_head.specs.declared.reason.Reason.TheVariants as reasons;
 ghost use Rattle.cbor_judging.specs.Levels.{item_due};
-ghost use Rattle.cbor_judging.specs.Readers.{IsUnread, TellsMemoryAtFront};
-ghost use Rattle.cbor_judging.specs.Refusals.{IsReaderReason};
 ghost use Rattle.cbor_sinks.specs.KeyBytes.{is_kept, behind_item, keys_stand, keys_hold};
 ghost use Rattle.cbor_sinks.specs.declared.key_bytes.KeyBytes.{KeyBytes};
-ghost use Rattle.cbor_walk.specs.Front.{IsStop};
 ghost use Rattle.cbor_walk.specs.Sink.{IsContainerFull, Ends};
 
-use crate::built_front::held_front;
 use crate::canonical_sink::string_type;
 use cbor_builder::{CanonBuilder, Repeat};
-use cbor_head::{KeyOrder, Limits, Major, Refusal};
-use cbor_walk::{KeySink, Sink, Stop, refusal_of};
+use cbor_head::{KeyOrder, Major};
+use cbor_walk::Sink;
 use std::alloc::{AllocError, Global};
 
 /// What finds equal keys in an item: the canonical bytes of the keys of the open maps. What is no
@@ -75,8 +69,9 @@ impl KeyBytes {
     fn end_in_key(&mut self, is_map: bool) -> Result<bool, AllocError>
         requires inside { 0 < self.old.inside }
         requires full { IsContainerFull KeyBytes keys_stand false is_map self.old }
-        ensures { IfOk result (λ is_distinct. IsTrue is_distinct
+        ensures ends { IfOk result (λ is_distinct. IsTrue is_distinct
             → Ends KeyBytes keys_stand false is_map self.old self.new) }
+        ensures kept { IfOk result (λ is_distinct. is_distinct ≡ false → self.new ≡ self.old) }
     {
         if !self.builder.end_if_distinct()? {
             return Ok(false);
@@ -175,29 +170,4 @@ impl<'a> Sink<'a> for KeyBytes {
     fn first_repeat(&mut self) -> Option<Repeat> {
         self.builder.take().first_repeat()
     }
-}
-
-impl<'a> KeySink<'a> for KeyBytes {
-    #[inline(always)]
-    fn is_due_at(&self, repeat: Repeat) -> bool {
-        self.builder.is_due_at(repeat)
-    }
-
-    fn repeated_front(&self, alloc: Global, rest: &[u8], limits: Limits) -> Option<u64> {
-        held_front(alloc, &self.builder, rest, limits)
-    }
-}
-
-/// The refusal of a slice where a walk that gave its parts to [`KeyBytes`], or to what holds one,
-/// stopped so: as [`refusal_of`] tells it.
-#[cold]
-#[inline(never)]
-pub fn refusal_by_keys(alloc: Global, bytes: &[u8], limits: Limits, stop: Stop) -> Refusal
-    requires { IsStop limits bytes.now stop }
-    ensures refused { IsUnread limits plain bytes.now result }
-    ensures reason { IsReaderReason limits plain result.reason }
-    ensures no_read { result.reason ≢ reasons.Read }
-    ensures memory { TellsMemoryAtFront result }
-{
-    refusal_of(alloc, KeyBytes::new(alloc), bytes, limits, stop)
 }

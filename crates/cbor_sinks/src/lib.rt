@@ -7,4 +7,4 @@ mod canonical_sink;
 mod key_bytes;
 
 pub use built_front::{BuiltFront, FrontBuilder, build_front};
-pub use key_bytes::{KeyBytes, refusal_by_keys};
+pub use key_bytes::KeyBytes;

@@ -10,7 +10,6 @@ pub mod OpenEnds
 pub mod OpenHeads
 pub mod OpenItems
 pub mod OpenPieces
-pub mod SliceFronts
 pub mod StrictKinds
 pub mod StrictLoop
 pub mod StrictReading

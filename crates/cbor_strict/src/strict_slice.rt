@@ -21,5 +21,8 @@ pub fn check_canonical(bytes: &[u8], limits: Limits, order: KeyOrder) -> Result<
     ensures refused { IfErr result (λ f. IsVerdict limits (strict order) bytes.now (refused f)) }
     ensures no_canonical { IfErr result (λ f. HasNoCanonicalFront limits order bytes.now) }
 {
-    canonical_front(bytes, limits, order)
+    match canonical_front(bytes, limits, order) {
+        Ok(count) => Ok(count),
+        Err(why) => Err(why.refusal),
+    }
 }

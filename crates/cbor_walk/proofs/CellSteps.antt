@@ -1,19 +1,21 @@
 -- What an item that is whole makes of the cells, one container at a time.
-use Rattle.std.proofs.Common.{◌≡◌, ◌≢◌, ℕ, zero, suc, ◌+◌, ◌-◌, ◌≤◌, true, false, true≢false, IsTrue, List, [], ◌∷◌, ◌++◌, length, take, drop, refl, sym, ap, ◌∙◌, subst, arith, append_assoc}
+use Rattle.std.proofs.Common.{◌≡◌, ◌≢◌, ℕ, zero, suc, ◌+◌, ◌-◌, ◌≤◌, true, false, true≢false, IsTrue, Some, List, [], ◌∷◌, ◌++◌, length, take, drop, refl, sym, ap, ◌∙◌, subst, arith, append_assoc}
 use Rattle.std.specs.Prelude.{slice_range}
 use Rattle.std.proofs.Math.Seq.{take-append_seam, drop-append_seam}
 use Rattle.std.proofs.lemmas.List.{length-append}
-use Rattle.cbor_head.specs.Complaint.{strict, complaint}
+use Rattle.cbor_head.specs.Complaint.{Rules, plain, strict, complaint}
 use Rattle.cbor_head.specs.Limits.{Bounds}
 use Rattle.cbor_head.specs.Order.{key_lt}
 use Rattle.cbor_head.specs.Spelling.{Spelling, SpelledEntries, array, a_map, tag, spell}
 use Rattle.cbor_head.specs.Verdict.{refusal}
 use Rattle.cbor_head.specs.declared.order.KeyOrder.{KeyOrder}
+use Rattle.cbor_head.specs.declared.reason.Reason.{Reason}
 use Rattle.cbor_head.specs.declared.reason.Reason.TheVariants as reasons
 use Rattle.cbor_head.specs.declared.width.Width.{Width}
 use Rattle.cbor_head.specs.declared.width.Width.TheVariants.{Indefinite}
 use Rattle.cbor_keys.specs.Front.{front_of}
 use Rattle.cbor_judging.specs.Frame.{keys_onto}
+use Rattle.cbor_judging.specs.Judged.{IsJudged}
 use Rattle.cbor_judging.specs.Kinds.{KeepsToKinds}
 use Rattle.cbor_judging.specs.LastKey as keys
 use Rattle.cbor_judging.proofs.LastKey.{last_key_with}
@@ -22,9 +24,11 @@ use Rattle.cbor_judging.proofs.LastKey.{key-fresh, key-falls}
 use Rattle.cbor_walk.specs.inner.Path as path
 use Rattle.cbor_walk.specs.inner.Path.{a_member, a_key, a_value, tagged, level_bytes, bytes_before, HasEnded}
 use Rattle.cbor_walk.specs.inner.Cells.{last_key, key_at, IsKeyDue, AreCells, StandsAt, HasEndedAt, HasClosed, Falls, TakesKey}
+use Rattle.cbor_walk.specs.inner.Stop.{HasComplaint}
 use Rattle.cbor_walk.specs.declared.level.Due.TheVariants.{Item, Key, Value}
 use Rattle.cbor_walk.specs.declared.level.Level.{Level}
 use Rattle.cbor_walk.proofs.PathLevels.{judged_key_path}
+use Rattle.cbor_walk.proofs.PlainPaths.{judged_repeat}
 use Rattle.cbor_walk.proofs.PathSteps.{more_members, more_pairs, member_next, member_bytes, key_next as due_next, key_bytes, value_next as pair_next, value_bytes, array_ends, array_bytes_end, map_ends, map_bytes_end, tag_ends, tag_bytes_end}
 
 -- a part of the input
@@ -192,24 +196,38 @@ module _ (o : KeyOrder) (limits : Bounds) (input : List ℕ) (at : ℕ) where
         here = k.here ∙ ap length (sym same);
       }
 
-  pub key_falls : (c new : Level) (cs : List Level) → c.due ≡ Key → TakesKey false o input at c new → HasEndedAt o limits input (c ∷ cs) at → Falls o limits input new.key at
+  module _ (c : Level) (cs : List Level) (k : IsKeyHere c cs) where
+    abbrev here : List ℕ
+    here = bytes_before (a_key k.w k.left k.done ∷ k.ls)
+
+    -- what the rules have against it
+    has_complaint : (r : Rules) (reason : Reason) → KeepsToKinds limits r (here ++ spell k.item) → IsJudged r 0 limits.depth (here ++ spell k.item) (Some (complaint (length here + length (spell k.item)) (length here) reason)) → HasComplaint r limits input (refusal reason c.key at)
+    has_complaint r reason keeps judged =
+        let end : at ≡ length here + length (spell k.item) = k.here ∙ length-append here (spell k.item) in
+        record {
+          p = here ++ spell k.item;
+          rest = k.rest;
+          splits = k.bytes;
+          complaint = complaint (length here + length (spell k.item)) (length here) reason;
+          judged = judged;
+          keeps = keeps;
+          is = ap (λ (n : ℕ). refusal reason n at) (begins_at c cs k) ∙ ap (refusal reason (length here)) end;
+        }
+
+    falls : key_lt o (last_key input c) (key_at input c at) ≡ false → Falls o limits input c (refusal reasons.KeyOrder c.key at)
+    falls below =
+        let key = key_bytes_are c cs k in
+        let same : key_lt o (last_key input c) (key_at input c at) ≡ key_lt o (keys.last_key k.done) (spell k.item) =
+        ap (λ (x : List ℕ). key_lt o x (key_at input c at)) k.is.holds.is ∙ ap (key_lt o (keys.last_key k.done)) key in
+        let not_behind : IsTrue (key_lt o (keys.last_key k.done) (spell k.item)) → ⊥ = λ g. true≢false (sym g ∙ sym same ∙ below) in
+        record {
+          falls = refl;
+          strictly = has_complaint (strict o) reasons.KeyOrder k.keeps (judged_key_path (strict o) limits.depth k.w k.left k.done k.ls k.item _ k.ended
+              (key-falls o (length here) k.item (spell k.item) refl (keys_onto [] k.done) (keys.last_key k.done) (last_is k.done) not_behind));
+          repeated = λ e. has_complaint plain reasons.RepeatedKey k.keeps (judged_repeat o limits.depth k.w k.left k.done k.ls k.item k.ended (sym k.is.holds.is ∙ e ∙ key));
+        }
+
+  pub key_falls : (c new : Level) (cs : List Level) → c.due ≡ Key → TakesKey false o input at c new → HasEndedAt o limits input (c ∷ cs) at → Falls o limits input new (refusal reasons.KeyOrder new.key at)
   key_falls c new cs due t h =
       let k = key_here c cs due h in
-      let key = key_bytes_are c cs k in
-      let p = bytes_before (a_key k.w k.left k.done ∷ k.ls) in
-      let no = t.1 (before_end c cs k) k.is.holds.fronted in
-      let same : key_lt o (last_key input c) (key_at input c at) ≡ key_lt o (keys.last_key k.done) (spell k.item) =
-      ap (λ (x : List ℕ). key_lt o x (key_at input c at)) k.is.holds.is ∙ ap (key_lt o (keys.last_key k.done)) key in
-      let falls : IsTrue (key_lt o (keys.last_key k.done) (spell k.item)) → ⊥ = λ g. true≢false (sym g ∙ sym same ∙ no) in
-      let there = begins_at c cs k in
-      let place : new.key ≡ length p = ap (λ (l : Level). l.key) t.0 ∙ there in
-      let end : at ≡ length p + length (spell k.item) = k.here ∙ length-append p (spell k.item) in
-      record {
-        p = p ++ spell k.item;
-        rest = k.rest;
-        splits = k.bytes;
-        complaint = complaint (length p + length (spell k.item)) (length p) reasons.KeyOrder;
-        judged = judged_key_path (strict o) limits.depth k.w k.left k.done k.ls k.item _ k.ended (key-falls o (length p) k.item (spell k.item) refl (keys_onto [] k.done) (keys.last_key k.done) (last_is k.done) falls);
-        keeps = k.keeps;
-        is = ap (λ (n : ℕ). refusal reasons.KeyOrder n at) place ∙ ap (refusal reasons.KeyOrder (length p)) end;
-      }
+      subst (λ (l : Level). Falls o limits input l (refusal reasons.KeyOrder l.key at)) (sym t.0) (falls c cs k (t.1 (before_end c cs k) k.is.holds.fronted))

@@ -9,22 +9,36 @@ use Rattle.cbor_head.specs.declared.order.KeyOrder.TheVariants.{Bytewise}
 use Rattle.cbor_head.specs.declared.width.Width.TheVariants.{Indefinite}
 use Rattle.cbor_canonical.specs.Parts as parts
 use Rattle.cbor_judging.proofs.Given.{settled}
-use Rattle.cbor_judging.proofs.Levels.{spelled-all, within-all, pairs-spelled, pairs-within}
+use Rattle.cbor_judging.proofs.Levels.{spelled-all, within-all, pairs-spelled, pairs-within, pairs-more}
 use Rattle.cbor_judging.specs.Frame.{with_all, with_entries}
 use Rattle.cbor_judging.specs.Given.{opens, StandsAt}
 use Rattle.cbor_judging.specs.Levels.{IsTaken, Level, a_member, a_key, a_value, some_member, some_key, some_value, tagged, frame, AreLevels, bytes_before, Standing, item_due, item_full, settle}
 use Rattle.cbor_judging.specs.Place.{close}
 use Rattle.cbor_walk.specs.Sink.{takes_key, is_map, IsEndedAs}
-use Rattle.cbor_walk.specs.inner.Building.{IsDue, HasEnded, IsToEnd, HasFilled}
-use Rattle.cbor_walk.specs.inner.Open.{pairs, counted, cell_of, cells_of, after}
+use Rattle.cbor_walk.specs.inner.Building.{IsDue, HasEnded, IsCellFull, HasFilled}
+use Rattle.cbor_walk.specs.inner.Open.{pairs, counted, opener, full_opener, behind_head, cell_of, cells_of, after}
+use Rattle.cbor_walk.specs.inner.OpenMaps.{HasTakenPairs}
 use Rattle.cbor_walk.specs.declared.level.Due.TheVariants.{Item, Value}
 use Rattle.cbor_walk.specs.declared.open.Open.{Open}
 use Rattle.cbor_walk.proofs.GivenParts.{cells-count}
+use Rattle.cbor_walk.proofs.PathSteps.{member_count, pair_count, last_member, last_pair}
+
+cell-behind : (behind : ℕ) (l : Level) → (cell_of behind l).behind ≡ behind
+cell-behind behind (a_member w left done) = refl
+cell-behind behind (a_key w left done) = refl
+cell-behind behind (a_value w left done k) = refl
+cell-behind behind (some_member done) = refl
+cell-behind behind (some_key done) = refl
+cell-behind behind (some_value done k) = refl
+cell-behind behind (tagged w n) = refl
 
 some-is : (x y : Open) → Some x ≡ Some y → x ≡ y
 some-is x y e = cc
 
 module _ (S : Type 0) (stands : S → S → Standing → Type 0) (trusts : Bool) (start : S) (d : ℕ) (input : List ℕ) where
+  begins-there : (l : Level) (ls : List Level) (item : Spelling) → opener l ≡ full_opener item → (cell_of (behind_head (length input) ls l) l).behind ≡ length input - length (bytes_before ls ++ full_opener item)
+  begins-there l ls item heads = cell-behind (behind_head (length input) ls l) l ∙ ap (λ (x : List ℕ). length input - length (bytes_before ls ++ x)) heads
+
   -- ---- behind an item
 
   module _ (c : Open) (cs : List Open) (g : S) (rest : List ℕ) (h : HasEnded S stands trusts start d input (c ∷ cs) g rest) where
@@ -32,29 +46,29 @@ module _ (S : Type 0) (stands : S → S → Standing → Type 0) (trusts : Bool)
     short ls e = let small = h.small in omega (arith, small, ap length e, length-append (bytes_before ls ++ spell h.item) rest)
 
     -- the head and the tail of the cells
-    cell-is : (l : Level) (ls : List Level) → c ∷ cs ≡ cells_of (l ∷ ls) → c ≡ cell_of l
+    cell-is : (l : Level) (ls : List Level) → c ∷ cs ≡ cells_of (length input) (l ∷ ls) → c ≡ cell_of (behind_head (length input) ls l) l
     cell-is l ls e = cc
 
-    cells-are : (l : Level) (ls : List Level) → c ∷ cs ≡ cells_of (l ∷ ls) → cs ≡ cells_of ls
+    cells-are : (l : Level) (ls : List Level) → c ∷ cs ≡ cells_of (length input) (l ∷ ls) → cs ≡ cells_of (length input) ls
     cells-are l ls e = cc
 
     no-more : (x : Open) → None ≡ Some x → ⊥
     no-more x e = cc
 
     abbrev levels-with : List Level → Type 0
-    levels-with ls = AreLevels d ls × IsTaken (d - length ls) h.item × (c ∷ cs ≡ cells_of ls) × stands start g (settle ls h.item) × (input ≡ (bytes_before ls ++ spell h.item) ++ rest)
+    levels-with ls = AreLevels d ls × IsTaken (d - length ls) h.item × (c ∷ cs ≡ cells_of (length input) ls) × stands start g (settle ls h.item) × (input ≡ (bytes_before ls ++ spell h.item) ++ rest)
 
     -- what the builder of canonical bytes would hold, of which the containers and the bytes are wanted here
     settle-here : (ls : List Level) → levels-with ls → StandsAt Bytewise d (bytes_before ls ++ spell h.item) (close (map frame ls)) (parts.give (canonical Bytewise (value_of h.item)) (opens Bytewise ls)) (length ls) (settle ls h.item)
     settle-here ls k = settled Bytewise d ls h.item k.0 k.1 (short ls k.4)
 
     -- another item is due
-    goes-on : (new : Open) (l : Level) (ls : List Level) (m : Level) → levels-with (l ∷ ls) → after (cell_of l) ≡ Some new → after (cell_of l) ≡ Some (cell_of m)
+    goes-on : (new : Open) (l : Level) (ls : List Level) (m : Level) → levels-with (l ∷ ls) → after (cell_of (behind_head (length input) ls l) l) ≡ Some new → after (cell_of (behind_head (length input) ls l) l) ≡ Some (cell_of (behind_head (length input) ls l) m) → opener l ≡ opener m
         → AreLevels d (m ∷ ls) → bytes_before (l ∷ ls) ++ spell h.item ≡ bytes_before (m ∷ ls) → stands start g (item_due (m ∷ ls)) → IsDue S stands trusts start d input (new ∷ cs) g rest
-    goes-on new l ls m k e f levels same given = record {
+    goes-on new l ls m k e f heads levels same given = record {
       ls = m ∷ ls;
       levels = levels;
-      cells = ap₂ (λ (x : Open) (xs : List Open). x ∷ xs) (some-is new (cell_of m) (sym e ∙ f)) (cells-are l ls k.2);
+      cells = ap₂ (λ (x : Open) (xs : List Open). x ∷ xs) (some-is new (cell_of (behind_head (length input) ls l) m) (sym e ∙ f) ∙ ap (λ (x : List ℕ). cell_of (length input - length (bytes_before ls ++ x)) m) heads) (cells-are l ls k.2);
       given = given;
       bytes = k.4 ∙ ap (λ (x : List ℕ). x ++ rest) same;
       small = h.small;
@@ -64,88 +78,94 @@ module _ (S : Type 0) (stands : S → S → Standing → Type 0) (trusts : Bool)
     pub goes : (new : Open) → after c ≡ Some new → IsDue S stands trusts start d input (new ∷ cs) g rest
     goes new e = go h.ls (h.levels, h.taken, h.cells, h.given, h.bytes)
       where
-        on : (l : Level) (ls : List Level) (k : levels-with (l ∷ ls)) → after (cell_of l) ≡ Some new
+        on : (l : Level) (ls : List Level) (k : levels-with (l ∷ ls)) → after (cell_of (behind_head (length input) ls l) l) ≡ Some new
         on l ls k = ap after (sym (cell-is l ls k.2)) ∙ e
 
         go : (ls : List Level) → levels-with ls → IsDue S stands trusts start d input (new ∷ cs) g rest
-        go [] k = let same : c ≡ counted Item 0 = cc in absurd (no-more new (ap after (sym same) ∙ e))
+        go [] k = let same : c ≡ counted Item 0 0 = cc in absurd (no-more new (ap after (sym same) ∙ e))
         go (a_member w zero done ∷ ls) k = absurd (no-more new (on (a_member w zero done) ls k))
         go (a_member w (suc n) done ∷ ls) k =
             let l = a_member w (suc n) done in
             let st = settle-here (l ∷ ls) k in
-            goes-on new l ls (a_member w n (with_all done (a_spelling h.item no_spellings))) k (on l ls k) refl st.0 st.1 k.3
+            goes-on new l ls (a_member w n (with_all done (a_spelling h.item no_spellings))) k (on l ls k) refl (ap (head majors.Array w) (member_count done h.item n)) st.0 st.1 k.3
         go (some_member done ∷ ls) k =
             let l = some_member done in
             let st = settle-here (l ∷ ls) k in
-            goes-on new l ls (some_member (with_all done (a_spelling h.item no_spellings))) k (on l ls k) refl st.0 st.1 k.3
+            goes-on new l ls (some_member (with_all done (a_spelling h.item no_spellings))) k (on l ls k) refl refl st.0 st.1 k.3
         go (a_key w n done ∷ ls) k =
             let l = a_key w n done in
             let st = settle-here (l ∷ ls) k in
-            goes-on new l ls (a_value w n done h.item) k (on l ls k) refl st.0 st.1 k.3
+            goes-on new l ls (a_value w n done h.item) k (on l ls k) refl refl st.0 st.1 k.3
         go (some_key done ∷ ls) k =
             let l = some_key done in
             let st = settle-here (l ∷ ls) k in
-            goes-on new l ls (some_value done h.item) k (on l ls k) refl st.0 st.1 k.3
+            goes-on new l ls (some_value done h.item) k (on l ls k) refl refl st.0 st.1 k.3
         go (a_value w zero done key ∷ ls) k = absurd (no-more new (on (a_value w zero done key) ls k))
         go (a_value w (suc n) done key ∷ ls) k =
             let l = a_value w (suc n) done key in
             let st = settle-here (l ∷ ls) k in
-            goes-on new l ls (a_key w n (with_entries done (entry key h.item no_entries))) k (on l ls k) refl st.0 st.1 k.3
+            goes-on new l ls (a_key w n (with_entries done (entry key h.item no_entries))) k (on l ls k) refl (ap (head majors.Map w) (pair_count done key h.item n)) st.0 st.1 k.3
         go (some_value done key ∷ ls) k =
             let l = some_value done key in
             let st = settle-here (l ∷ ls) k in
-            goes-on new l ls (some_key (with_entries done (entry key h.item no_entries))) k (on l ls k) refl st.0 st.1 k.3
+            goes-on new l ls (some_key (with_entries done (entry key h.item no_entries))) k (on l ls k) refl refl st.0 st.1 k.3
         go (tagged w n ∷ ls) k = absurd (no-more new (on (tagged w n) ls k))
 
-    filled : (t : Bool) (cs : List Open) (ls : List Level) → cs ≡ cells_of ls → IsToEnd S stands trusts t start d input cs g rest → HasFilled S stands trusts t start d input cs g rest
-    filled t [] ls e s = absurd (omega (arith, ap length e, cells-count ls))
-    filled t (x ∷ xs) ls e s = s
+    filled : (new : Open) (cs : List Open) (ls : List Level) → cs ≡ cells_of (length input) ls → IsCellFull S stands trusts start d input (new ∷ cs) g rest → HasFilled S stands trusts new start d input cs g rest
+    filled new [] ls e s = absurd (omega (arith, ap length e, cells-count (length input) ls))
+    filled new (x ∷ xs) ls e s = s
 
-    -- nothing is due in it
-    fills : (l : Level) (ls : List Level) → levels-with (l ∷ ls) → (item : Spelling) → pairs (cell_of l).due ≡ is_map item → AreLevels d ls → bytes_before (l ∷ ls) ++ spell h.item ≡ bytes_before ls ++ spell item
-        → IsSpelled item → depth item ≤ d - length ls → stands start g (item_full ls item) → HasFilled S stands trusts (pairs c.due) start d input cs g rest
-    fills l ls k item kind levels same spelled within given = filled (pairs c.due) cs ls (cells-are l ls k.2) (record {
-      ls = ls;
-      item = item;
-      levels = levels;
-      spelled = spelled;
-      within = within;
-      cells = cells-are l ls k.2;
-      given = inl (given, ap (λ (x : Open). pairs x.due) (cell-is l ls k.2) ∙ kind);
-      bytes = k.4 ∙ ap (λ (x : List ℕ). x ++ rest) same;
-      small = h.small;
-      known = h.known;
-    })
+    -- nothing is due in it; its cell may be another, of the same kind, which begins there
+    module _ (new : Open) (same_kind : pairs new.due ≡ pairs c.due) (same_place : new.behind ≡ c.behind) where
+      fills : (l : Level) (ls : List Level) → levels-with (l ∷ ls) → (item : Spelling) → pairs (cell_of (behind_head (length input) ls l) l).due ≡ is_map item → opener l ≡ full_opener item → AreLevels d ls → bytes_before (l ∷ ls) ++ spell h.item ≡ bytes_before ls ++ spell item
+          → IsSpelled item → depth item ≤ d - length ls → HasTakenPairs (d - suc (length ls)) item → stands start g (item_full ls item) → HasFilled S stands trusts new start d input cs g rest
+      fills l ls k item kind heads levels same spelled within taken given = filled new cs ls (cells-are l ls k.2) (record {
+        ls = ls;
+        item = item;
+        levels = levels;
+        spelled = spelled;
+        within = within;
+        complete = taken;
+        cell = new;
+        cells = ap (λ (xs : List Open). new ∷ xs) (cells-are l ls k.2);
+        is_map = pairs c.due;
+        kind = same_kind;
+        begins = same_place ∙ ap (λ (x : Open). x.behind) (cell-is l ls k.2) ∙ begins-there l ls item heads;
+        given = inl (given, ap (λ (x : Open). pairs x.due) (cell-is l ls k.2) ∙ kind);
+        bytes = k.4 ∙ ap (λ (x : List ℕ). x ++ rest) same;
+        small = h.small;
+        known = h.known;
+      })
 
-    pub is-full : after c ≡ None → HasFilled S stands trusts (pairs c.due) start d input cs g rest
-    is-full e = go h.ls (h.levels, h.taken, h.cells, h.given, h.bytes)
-      where
-        on : (l : Level) (ls : List Level) (k : levels-with (l ∷ ls)) → after (cell_of l) ≡ None
-        on l ls k = ap after (sym (cell-is l ls k.2)) ∙ e
+      pub is-full : after c ≡ None → HasFilled S stands trusts new start d input cs g rest
+      is-full e = go h.ls (h.levels, h.taken, h.cells, h.given, h.bytes)
+        where
+          on : (l : Level) (ls : List Level) (k : levels-with (l ∷ ls)) → after (cell_of (behind_head (length input) ls l) l) ≡ None
+          on l ls k = ap after (sym (cell-is l ls k.2)) ∙ e
 
-        go : (ls : List Level) → levels-with ls → HasFilled S stands trusts (pairs c.due) start d input cs g rest
-        go [] k =
-            let none : cs ≡ [] = cc in
-            let low : d - 0 ≡ d = omega arith in
-            subst (λ (x : List Open). HasFilled S stands trusts (pairs c.due) start d input x g rest) (sym none) (record { item = h.item; taken = subst (λ (n : ℕ). IsTaken n h.item) low k.1; given = k.3; bytes = k.4 })
-        go (a_member w zero done ∷ ls) k =
-            let l = a_member w zero done in
-            let st = settle-here (l ∷ ls) k in
-            fills l ls k (array w (with_all done (a_spelling h.item no_spellings))) refl st.0 st.1 st.3.1.spelled st.3.1.within k.3
-        go (a_value w zero done key ∷ ls) k =
-            let l = a_value w zero done key in
-            let st = settle-here (l ∷ ls) k in
-            fills l ls k (a_map w (with_entries done (entry key h.item no_entries))) refl st.0 st.1 st.3.1.spelled st.3.1.within k.3
-        go (tagged w n ∷ ls) k =
-            let l = tagged w n in
-            let st = settle-here (l ∷ ls) k in
-            fills l ls k (tag w n h.item) refl st.0 st.1 st.3.1.spelled st.3.1.within k.3
-        go (a_member w (suc n) done ∷ ls) k = absurd (cc (on (a_member w (suc n) done) ls k))
-        go (some_member done ∷ ls) k = absurd (cc (on (some_member done) ls k))
-        go (a_key w n done ∷ ls) k = absurd (cc (on (a_key w n done) ls k))
-        go (some_key done ∷ ls) k = absurd (cc (on (some_key done) ls k))
-        go (a_value w (suc n) done key ∷ ls) k = absurd (cc (on (a_value w (suc n) done key) ls k))
-        go (some_value done key ∷ ls) k = absurd (cc (on (some_value done key) ls k))
+          go : (ls : List Level) → levels-with ls → HasFilled S stands trusts new start d input cs g rest
+          go [] k =
+              let none : cs ≡ [] = cc in
+              let low : d - 0 ≡ d = omega arith in
+              subst (λ (x : List Open). HasFilled S stands trusts new start d input x g rest) (sym none) (record { item = h.item; taken = subst (λ (n : ℕ). IsTaken n h.item) low k.1; given = k.3; bytes = k.4 })
+          go (a_member w zero done ∷ ls) k =
+              let l = a_member w zero done in
+              let st = settle-here (l ∷ ls) k in
+              fills l ls k (array w (with_all done (a_spelling h.item no_spellings))) refl (ap (head majors.Array w) (sym (last_member done h.item))) st.0 st.1 st.3.1.spelled st.3.1.within tt k.3
+          go (a_value w zero done key ∷ ls) k =
+              let l = a_value w zero done key in
+              let st = settle-here (l ∷ ls) k in
+              fills l ls k (a_map w (with_entries done (entry key h.item no_entries))) refl (ap (head majors.Map w) (sym (last_pair done key h.item))) st.0 st.1 st.3.1.spelled st.3.1.within (pairs-more (d - suc (length ls)) done key h.item k.0.1.1 k.0.1.2 k.1) k.3
+          go (tagged w n ∷ ls) k =
+              let l = tagged w n in
+              let st = settle-here (l ∷ ls) k in
+              fills l ls k (tag w n h.item) refl refl st.0 st.1 st.3.1.spelled st.3.1.within tt k.3
+          go (a_member w (suc n) done ∷ ls) k = absurd (cc (on (a_member w (suc n) done) ls k))
+          go (some_member done ∷ ls) k = absurd (cc (on (some_member done) ls k))
+          go (a_key w n done ∷ ls) k = absurd (cc (on (a_key w n done) ls k))
+          go (some_key done ∷ ls) k = absurd (cc (on (some_key done) ls k))
+          go (a_value w (suc n) done key ∷ ls) k = absurd (cc (on (a_value w (suc n) done key) ls k))
+          go (some_value done key ∷ ls) k = absurd (cc (on (some_value done key) ls k))
 
   -- ---- a break
 
@@ -154,50 +174,55 @@ module _ (S : Type 0) (stands : S → S → Standing → Type 0) (trusts : Bool)
     pub break-inside : 0 < length cs
     break-inside = go s.ls s.cells
       where
-        go : (ls : List Level) → c ∷ cs ≡ cells_of ls → 0 < length cs
-        go [] e = let same : c ≡ counted Item 0 = cc in let f : false ≡ true = ap (λ (x : Open). x.is_endless) (sym same) ∙ open_ended in absurd (cc f)
-        go (l ∷ ls) e = omega (arith, ap length e, cells-count ls)
+        go : (ls : List Level) → c ∷ cs ≡ cells_of (length input) ls → 0 < length cs
+        go [] e = let same : c ≡ counted Item 0 0 = cc in let f : false ≡ true = ap (λ (x : Open). x.is_endless) (sym same) ∙ open_ended in absurd (cc f)
+        go (l ∷ ls) e = omega (arith, ap length e, cells-count (length input) ls)
 
     -- and it is whole
-    pub break-ends : (c.due ≡ Value → ⊥) → IsToEnd S stands trusts (pairs c.due) start d input cs g behind
+    pub break-ends : (c.due ≡ Value → ⊥) → IsCellFull S stands trusts start d input (c ∷ cs) g behind
     break-ends no_value = go s.ls s.levels s.cells s.given s.bytes
       where
-        flag : (l : Level) (ls : List Level) → c ∷ cs ≡ cells_of (l ∷ ls) → (cell_of l).is_endless ≡ true
-        flag l ls e = let same : c ≡ cell_of l = cc in ap (λ (x : Open). x.is_endless) (sym same) ∙ open_ended
+        flag : (l : Level) (ls : List Level) → c ∷ cs ≡ cells_of (length input) (l ∷ ls) → (cell_of (behind_head (length input) ls l) l).is_endless ≡ true
+        flag l ls e = let same : c ≡ cell_of (behind_head (length input) ls l) l = cc in ap (λ (x : Open). x.is_endless) (sym same) ∙ open_ended
 
         regroup : (ls : List Level) (xs : List ℕ) → input ≡ (bytes_before ls ++ xs) ++ 0xff ∷ behind → input ≡ (bytes_before ls ++ (xs ++ (0xff ∷ []))) ++ behind
         regroup ls xs e = e ∙ sym (append_assoc (bytes_before ls ++ xs) (0xff ∷ []) behind) ∙ ap (λ (x : List ℕ). x ++ behind) (append_assoc (bytes_before ls) xs (0xff ∷ []))
 
-        tail-is : (l : Level) (ls : List Level) → c ∷ cs ≡ cells_of (l ∷ ls) → cs ≡ cells_of ls
+        tail-is : (l : Level) (ls : List Level) → c ∷ cs ≡ cells_of (length input) (l ∷ ls) → cs ≡ cells_of (length input) ls
         tail-is l ls e = cc
 
-        kind : (l : Level) (ls : List Level) → c ∷ cs ≡ cells_of (l ∷ ls) → pairs c.due ≡ pairs (cell_of l).due
-        kind l ls e = let same : c ≡ cell_of l = cc in ap (λ (x : Open). pairs x.due) same
+        kind : (l : Level) (ls : List Level) → c ∷ cs ≡ cells_of (length input) (l ∷ ls) → pairs c.due ≡ pairs (cell_of (behind_head (length input) ls l) l).due
+        kind l ls e = let same : c ≡ cell_of (behind_head (length input) ls l) l = cc in ap (λ (x : Open). pairs x.due) same
 
-        ended : (l : Level) (ls : List Level) (item : Spelling) (xs : List ℕ) → pairs (cell_of l).due ≡ takes_key l → spell item ≡ xs ++ (0xff ∷ []) → IsSpelled item → depth item ≤ d - length ls → AreLevels d (l ∷ ls) → c ∷ cs ≡ cells_of (l ∷ ls)
-            → input ≡ (bytes_before ls ++ xs) ++ 0xff ∷ behind → IsEndedAs l item → stands start g (item_due (l ∷ ls)) → IsToEnd S stands trusts (pairs c.due) start d input cs g behind
-        ended l ls item xs told is spelled within levels e b whole given = record {
+        ended : (l : Level) (ls : List Level) (item : Spelling) (xs : List ℕ) → pairs (cell_of (behind_head (length input) ls l) l).due ≡ takes_key l → opener l ≡ full_opener item → spell item ≡ xs ++ (0xff ∷ []) → IsSpelled item → depth item ≤ d - length ls → HasTakenPairs (d - suc (length ls)) item → AreLevels d (l ∷ ls) → c ∷ cs ≡ cells_of (length input) (l ∷ ls)
+            → input ≡ (bytes_before ls ++ xs) ++ 0xff ∷ behind → IsEndedAs l item → stands start g (item_due (l ∷ ls)) → IsCellFull S stands trusts start d input (c ∷ cs) g behind
+        ended l ls item xs told heads is spelled within taken levels e b whole given = record {
           ls = ls;
           item = item;
           levels = levels.2;
           spelled = spelled;
           within = within;
-          cells = tail-is l ls e;
+          complete = taken;
+          cell = c;
+          cells = ap (λ (xs : List Open). c ∷ xs) (tail-is l ls e);
+          is_map = pairs c.due;
+          kind = refl;
+          begins = let same : c ≡ cell_of (behind_head (length input) ls l) l = cc in ap (λ (x : Open). x.behind) same ∙ begins-there l ls item heads;
           given = inr (l, whole, levels, (given, kind l ls e ∙ told));
           bytes = regroup ls xs b ∙ ap (λ (x : List ℕ). (bytes_before ls ++ x) ++ behind) (sym is);
           small = s.small;
           known = s.known;
         }
 
-        go : (ls : List Level) → AreLevels d ls → c ∷ cs ≡ cells_of ls → stands start g (item_due ls) → input ≡ bytes_before ls ++ 0xff ∷ behind → IsToEnd S stands trusts (pairs c.due) start d input cs g behind
-        go [] h e f b = let same : c ≡ counted Item 0 = cc in let x : false ≡ true = ap (λ (x : Open). x.is_endless) (sym same) ∙ open_ended in absurd (cc x)
+        go : (ls : List Level) → AreLevels d ls → c ∷ cs ≡ cells_of (length input) ls → stands start g (item_due ls) → input ≡ bytes_before ls ++ 0xff ∷ behind → IsCellFull S stands trusts start d input (c ∷ cs) g behind
+        go [] h e f b = let same : c ≡ counted Item 0 0 = cc in let x : false ≡ true = ap (λ (x : Open). x.is_endless) (sym same) ∙ open_ended in absurd (cc x)
         go (some_member done ∷ ls) h e f b =
             let room = h.0 in
-            ended (some_member done) ls (array Indefinite done) (head majors.Array Indefinite 0 ++ spell_all done) refl refl (tt, spelled-all (d - suc (length ls)) done h.1) (omega (arith, room, within-all (d - suc (length ls)) done h.1)) h e b refl f
+            ended (some_member done) ls (array Indefinite done) (head majors.Array Indefinite 0 ++ spell_all done) refl refl refl (tt, spelled-all (d - suc (length ls)) done h.1) (omega (arith, room, within-all (d - suc (length ls)) done h.1)) tt h e b refl f
         go (some_key done ∷ ls) h e f b =
             let room = h.0 in
-            ended (some_key done) ls (a_map Indefinite done) (head majors.Map Indefinite 0 ++ spell_entries done) refl refl (tt, pairs-spelled (d - suc (length ls)) done h.1) (omega (arith, room, pairs-within (d - suc (length ls)) done h.1)) h e b refl f
-        go (some_value done k ∷ ls) h e f b = let same : c ≡ cell_of (some_value done k) = cc in absurd (no_value (ap (λ (x : Open). x.due) same))
+            ended (some_key done) ls (a_map Indefinite done) (head majors.Map Indefinite 0 ++ spell_entries done) refl refl refl (tt, pairs-spelled (d - suc (length ls)) done h.1) (omega (arith, room, pairs-within (d - suc (length ls)) done h.1)) h.1 h e b refl f
+        go (some_value done k ∷ ls) h e f b = let same : c ≡ cell_of (behind_head (length input) ls (some_value done k)) (some_value done k) = cc in absurd (no_value (ap (λ (x : Open). x.due) same))
         go (a_member w n done ∷ ls) h e f b = absurd (cc (flag (a_member w n done) ls e))
         go (a_key w n done ∷ ls) h e f b = absurd (cc (flag (a_key w n done) ls e))
         go (a_value w n done k ∷ ls) h e f b = absurd (cc (flag (a_value w n done k) ls e))

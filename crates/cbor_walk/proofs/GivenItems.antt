@@ -15,12 +15,12 @@ use Rattle.cbor_judging.proofs.ByteLists.{bytes_front}
 use Rattle.cbor_judging.proofs.Heads.{open_or}
 use Rattle.cbor_judging.proofs.KindBytes.{head_is_one, string_is_one}
 use Rattle.cbor_judging.specs.Kinds.{IsOfOneHead}
-use Rattle.cbor_judging.specs.Levels.{IsTaken, a_member, a_key, some_member, some_key, tagged}
+use Rattle.cbor_judging.specs.Levels.{IsTaken, Level, a_member, a_key, some_member, some_key, tagged, level_bytes}
 use Rattle.cbor_judging.specs.Reading.{string_major, string_value}
 use Rattle.cbor_steps.specs.Whole.{IsArgument}
 use Rattle.cbor_walk.proofs.AnyItem.{low_bits, spells}
-use Rattle.cbor_walk.specs.Sink.{leaf_value}
-use Rattle.cbor_walk.specs.inner.Open.{counted, endless}
+use Rattle.cbor_walk.specs.Sink.{leaf_value, IsOpened}
+use Rattle.cbor_walk.specs.inner.Open.{counted, endless, opener}
 use Rattle.cbor_walk.specs.inner.Parts.{IsHead, IsOpener, IsPayload, Counts}
 use Rattle.cbor_walk.specs.declared.level.Due.{Due}
 use Rattle.cbor_walk.specs.declared.level.Due.TheVariants.{Item, Key, Value as ItsValue}
@@ -101,7 +101,7 @@ from-none n some = omega (arith, some)
 head-some : (m : Major) (w : Width) (n : ℕ) (xs : List ℕ) → 0 < length (head m w n ++ xs)
 head-some m w n xs = omega (arith, length_head m w n, length-append (head m w n) xs)
 
-pub head-opens : (m : Major) (n : ℕ) (due : Due) (rest behind : List ℕ) → Counts m due → 0 < n → IsHead m n rest behind → IsOpener m n (counted due (n - 1)) rest behind
+pub head-opens : (m : Major) (n : ℕ) (due : Due) (rest behind : List ℕ) → Counts m due → 0 < n → IsHead m n rest behind → IsOpener m n (counted due (n - 1) (length behind)) rest behind
 head-opens majors.Array n Item rest behind k some h =
     let e = from-none n some in
     record {
@@ -143,7 +143,7 @@ counts-container majors.Bytes due k = absurd k
 counts-container majors.Text due k = absurd k
 counts-container majors.Simple due k = absurd k
 
-pub tag-opens : (n : ℕ) (rest behind : List ℕ) → IsHead majors.Tag n rest behind → IsOpener majors.Tag n (counted Item 0) rest behind
+pub tag-opens : (n : ℕ) (rest behind : List ℕ) → IsHead majors.Tag n rest behind → IsOpener majors.Tag n (counted Item 0 (length behind)) rest behind
 tag-opens n rest behind h = record {
   level = tagged h.width n;
   fresh = λ d. h.holds;
@@ -153,11 +153,24 @@ tag-opens n rest behind h = record {
   is = h.is;
 }
 
-pub array-opens : (behind : List ℕ) → IsOpener majors.Array 0 (endless Item) (0x9f ∷ behind) behind
+pub array-opens : (behind : List ℕ) → IsOpener majors.Array 0 (endless Item (length behind)) (0x9f ∷ behind) behind
 array-opens behind = record { level = some_member no_spellings; fresh = λ d. tt; cell = refl; opened = inr refl; some = omega arith; is = refl }
 
-pub map-opens : (behind : List ℕ) → IsOpener majors.Map 0 (endless Key) (0xbf ∷ behind) behind
+pub map-opens : (behind : List ℕ) → IsOpener majors.Map 0 (endless Key (length behind)) (0xbf ∷ behind) behind
 map-opens behind = record { level = some_key no_entries; fresh = λ d. tt; cell = refl; opened = inr refl; some = omega arith; is = refl }
+
+-- of which nothing else is there yet
+pub opener-whole : (m : Major) (n : ℕ) (l : Level) → IsOpened m n l → level_bytes l ≡ opener l
+opener-whole majors.Array n l (inl (w, left, e)) = subst (λ (x : Level). level_bytes x ≡ opener x) (sym e) (append-nil (head majors.Array w (0 + suc left)))
+opener-whole majors.Array n l (inr e) = subst (λ (x : Level). level_bytes x ≡ opener x) (sym e) refl
+opener-whole majors.Map n l (inl (w, left, e)) = subst (λ (x : Level). level_bytes x ≡ opener x) (sym e) (append-nil (head majors.Map w (0 + suc left)))
+opener-whole majors.Map n l (inr e) = subst (λ (x : Level). level_bytes x ≡ opener x) (sym e) refl
+opener-whole majors.Tag n l (w, e) = subst (λ (x : Level). level_bytes x ≡ opener x) (sym e) refl
+opener-whole majors.Unsigned n l o = absurd o
+opener-whole majors.Negative n l o = absurd o
+opener-whole majors.Bytes n l o = absurd o
+opener-whole majors.Text n l o = absurd o
+opener-whole majors.Simple n l o = absurd o
 
 -- ---- a head, by its first byte
 

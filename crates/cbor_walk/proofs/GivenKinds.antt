@@ -7,6 +7,7 @@ use Rattle.cbor_head.specs.Limits.{bounds, with_keys}
 use Rattle.cbor_head.specs.Spelling.{Spelling, array, a_map, no_spellings, no_entries, spell, spell_all, spell_entries, spellings_count, entries_count, IsSpelled, depth}
 use Rattle.cbor_head.specs.Value as value
 use Rattle.cbor_head.specs.declared.keys.Keys.{Keys}
+use Rattle.cbor_head.specs.declared.keys.Keys.TheVariants.{Any, IntegersAndTexts}
 use Rattle.cbor_head.specs.declared.major.Major.{Major}
 use Rattle.cbor_head.specs.declared.major.Major.TheVariants as majors
 use Rattle.cbor_head.specs.declared.width.Width.{Width}
@@ -22,8 +23,8 @@ use Rattle.cbor_judging.proofs.KindSteps.{keeps_start}
 use Rattle.cbor_judging.proofs.Levels.{spelled-all, within-all, pairs-spelled, pairs-within}
 use Rattle.cbor_walk.specs.Sink.{IsOpened}
 use Rattle.cbor_walk.specs.inner.Building.{IsDue}
-use Rattle.cbor_walk.specs.inner.Kept.{KeepsBefore, IsFitFront}
-use Rattle.cbor_walk.specs.inner.Open.{counted, cell_of, cells_of}
+use Rattle.cbor_walk.specs.inner.Kept.{KeepsBefore, asks, IsFitFront}
+use Rattle.cbor_walk.specs.inner.Open.{counted, behind_head, cell_of, cells_of}
 use Rattle.cbor_walk.specs.inner.Parts.{Counts, IsHead, IsOpener, IsItem, HasBegun, HasBroken, TakesFront, EndsBefore}
 use Rattle.cbor_walk.specs.inner.Stack.{around, standing}
 use Rattle.cbor_walk.specs.declared.level.Due.{Due}
@@ -91,29 +92,34 @@ begun-takes (part.Item to) d c rest behind i e h = inl (subst (HasBegun d rest) 
 begun-takes part.Untaken d c rest behind i e h = tt
 begun-takes part.Broken d c rest behind i e h = tt
 begun-takes part.Stopped d c rest behind i e h = tt
+begun-takes (part.Repeated to) d c rest behind i e h = absurd i
 begun-takes (part.Head to) d c rest behind i e h = absurd i
-
-pub broken-takes : (p : Part) (d : ℕ) (c : Open) (rest behind : List ℕ) → IsItem p → EndsBefore p behind → HasBroken c rest behind → TakesFront p d c rest
-broken-takes (part.Item to) d c rest behind i e h = inr (subst (HasBroken c rest) (sym e) h)
-broken-takes part.Untaken d c rest behind i e h = tt
-broken-takes part.Broken d c rest behind i e h = tt
-broken-takes part.Stopped d c rest behind i e h = tt
-broken-takes (part.Head to) d c rest behind i e h = absurd i
 
 -- ---- no key of another kind begins in it
 
-level-key : (l : Level) → IsKeyLevel l → (cell_of l).due ≡ Key
-level-key (a_key w left done) h = refl
-level-key (some_key done) h = refl
-level-key (a_member w left done) h = absurd h
-level-key (a_value w left done k) h = absurd h
-level-key (some_member done) h = absurd h
-level-key (some_value done k) h = absurd h
-level-key (tagged w n) h = absurd h
+level-key : (behind : ℕ) (l : Level) → IsKeyLevel l → (cell_of behind l).due ≡ Key
+level-key behind (a_key w left done) h = refl
+level-key behind (some_key done) h = refl
+level-key behind (a_member w left done) h = absurd h
+level-key behind (a_value w left done k) h = absurd h
+level-key behind (some_member done) h = absurd h
+level-key behind (some_value done k) h = absurd h
+level-key behind (tagged w n) h = absurd h
 
-due-key : (c : Open) (cs : List Open) (ls : List Level) → c ∷ cs ≡ cells_of ls → IsKeyDueIn ls → c.due ≡ Key
-due-key c cs [] e h = absurd h
-due-key c cs (l ∷ ls) e h = let same : c ≡ cell_of l = cc in ap (λ (x : Open). x.due) same ∙ level-key l h
+due-key : (n : ℕ) (c : Open) (cs : List Open) (ls : List Level) → c ∷ cs ≡ cells_of n ls → IsKeyDueIn ls → c.due ≡ Key
+due-key n c cs [] e h = absurd h
+due-key n c cs (l ∷ ls) e h =
+    let behind = behind_head n ls l in
+    let same : c ≡ cell_of behind l = cc in
+    ap (λ (x : Open). x.due) same ∙ level-key behind l h
+
+-- kinds are asked for
+no-kinds : Any ≡ IntegersAndTexts → ⊥
+no-kinds e = cc e
+
+pub asked-kinds : (k : Keys) (kinds : Bool) → asks k ≡ kinds → k ≡ IntegersAndTexts → kinds ≡ true
+asked-kinds Any kinds e is = absurd (no-kinds is)
+asked-kinds IntegersAndTexts kinds e is = sym e
 
 -- an item begins so
 pub basic-front : (s : Spelling) → IsSpelled s → (x y z rest : List ℕ) → spell s ≡ x ++ z → rest ≡ x ++ y → IsFitFront rest → HasBasicFront x
@@ -137,14 +143,14 @@ module _ (S : Type 0) (stands : S → S → Standing → Type 0) (trusts : Bool)
       let whole : (bytes_before s.ls ++ h.front) ++ behind ≡ t ++ behind = append_assoc (bytes_before s.ls) h.front behind ∙ ap (λ (x : List ℕ). bytes_before s.ls ++ x) (sym h.is) ∙ sym s.bytes ∙ e in
       subst (KeepsToKinds (with_keys (bounds d 0) keys) plain) (append_cancel_right (bytes_before s.ls ++ h.front) t behind whole)
       (keeps_due (with_keys (bounds d 0) keys) plain s.ls s.levels h.front begins h.one
-      (λ asked due. basic-front h.item h.spelled h.front behind h.more rest h.bytes h.is (fit (due-key k.top (around Open k cells) s.ls s.cells due))) (keeps (bytes_before s.ls) s.bytes))
+      (λ asked due. basic-front h.item h.spelled h.front behind h.more rest h.bytes h.is (fit (due-key (length input) k.top (around Open k cells) s.ls s.cells due))) (keeps (bytes_before s.ls) s.bytes))
 
   -- a container without a length ends
-  broken-keeps : (c : Open) (cs : List Open) (g : S) (rest behind : List ℕ) → IsDue S stands trusts start d input (c ∷ cs) g rest → HasBroken c rest behind → KeepsBefore d keys input rest → KeepsBefore d keys input behind
+  pub broken-keeps : (c : Open) (cs : List Open) (g : S) (rest behind : List ℕ) → IsDue S stands trusts start d input (c ∷ cs) g rest → HasBroken c rest behind → KeepsBefore d keys input rest → KeepsBefore d keys input behind
   broken-keeps c cs g rest behind s h keeps = λ t e. go s.ls s.levels s.cells s.bytes t e
     where
-      flag : (l : Level) (ls : List Level) → c ∷ cs ≡ cells_of (l ∷ ls) → (cell_of l).is_endless ≡ true
-      flag l ls e = let same : c ≡ cell_of l = cc in ap (λ (x : Open). x.is_endless) (sym same) ∙ h.open_ended
+      flag : (l : Level) (ls : List Level) → c ∷ cs ≡ cells_of (length input) (l ∷ ls) → (cell_of (behind_head (length input) ls l) l).is_endless ≡ true
+      flag l ls e = let same : c ≡ cell_of (behind_head (length input) ls l) l = cc in ap (λ (x : Open). x.is_endless) (sym same) ∙ h.open_ended
 
       closed : (l : Level) (ls : List Level) → AreLevels d (l ∷ ls) → input ≡ bytes_before (l ∷ ls) ++ rest → (t : List ℕ) → input ≡ t ++ behind → (item : Spelling) → spell item ≡ level_bytes l ++ (0xff ∷ []) → IsSpelled item → depth item ≤ d - length ls
           → 0 < length (level_bytes l) → ((c : Complaint) → OfKinds (length (bytes_before ls)) item c → c.end ≤ length (bytes_before ls) + length (level_bytes l)) → KeepsToKinds (with_keys (bounds d 0) keys) plain t
@@ -156,8 +162,8 @@ module _ (S : Type 0) (stands : S → S → Standing → Type 0) (trusts : Bool)
           subst (KeepsToKinds (with_keys (bounds d 0) keys) plain) (append_cancel_right (p ++ spell item) t behind whole)
           (keeps_closed_in (with_keys (bounds d 0) keys) plain ls levels.2 item x (0xff ∷ []) spelled within is some ends (keeps (p ++ x) b))
 
-      go : (ls : List Level) → AreLevels d ls → c ∷ cs ≡ cells_of ls → input ≡ bytes_before ls ++ rest → (t : List ℕ) → input ≡ t ++ behind → KeepsToKinds (with_keys (bounds d 0) keys) plain t
-      go [] levels e b t f = let same : c ≡ counted Item 0 = cc in let x : false ≡ true = ap (λ (x : Open). x.is_endless) (sym same) ∙ h.open_ended in absurd (cc x)
+      go : (ls : List Level) → AreLevels d ls → c ∷ cs ≡ cells_of (length input) ls → input ≡ bytes_before ls ++ rest → (t : List ℕ) → input ≡ t ++ behind → KeepsToKinds (with_keys (bounds d 0) keys) plain t
+      go [] levels e b t f = let same : c ≡ counted Item 0 0 = cc in let x : false ≡ true = ap (λ (x : Open). x.is_endless) (sym same) ∙ h.open_ended in absurd (cc x)
       go (some_member done ∷ ls) levels e b t f =
           let room = levels.0 in
           let one : length (head majors.Array Indefinite 0) ≡ 1 = refl in
@@ -174,7 +180,7 @@ module _ (S : Type 0) (stands : S → S → Standing → Type 0) (trusts : Bool)
           (λ x o.
           let other : length (head majors.Map Indefinite (entries_count done)) ≡ 1 = refl in
           omega (arith, size, one, other, kind_within_entries done (length (bytes_before ls) + length (head majors.Map Indefinite (entries_count done))) x o))
-      go (some_value done k ∷ ls) levels e b t f = let same : c ≡ cell_of (some_value done k) = cc in absurd (h.no_value (ap (λ (x : Open). x.due) same))
+      go (some_value done k ∷ ls) levels e b t f = let same : c ≡ cell_of (behind_head (length input) ls (some_value done k)) (some_value done k) = cc in absurd (h.no_value (ap (λ (x : Open). x.due) same))
       go (a_member w n done ∷ ls) levels e b t f = absurd (cc (flag (a_member w n done) ls e))
       go (a_key w n done ∷ ls) levels e b t f = absurd (cc (flag (a_key w n done) ls e))
       go (a_value w n done k ∷ ls) levels e b t f = absurd (cc (flag (a_value w n done k) ls e))

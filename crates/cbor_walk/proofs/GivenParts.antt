@@ -13,45 +13,45 @@ use Rattle.cbor_grammar.proofs.Accepted.{accepts_exactly}
 use Rattle.cbor_grammar.proofs.ReadLaws.{length_spell}
 use Rattle.cbor_judging.specs.Kinds.{KeepsToKinds}
 use Rattle.cbor_judging.proofs.Arrays.{closes}
-use Rattle.cbor_judging.proofs.CleanParts.{clean-within}
 use Rattle.cbor_judging.proofs.Decisions.{whole_beside}
 use Rattle.cbor_judging.proofs.Heads.{open_or}
 use Rattle.cbor_judging.proofs.Items.{is-definite}
 use Rattle.cbor_judging.proofs.Levels.{clean-anywhere, no-count}
 use Rattle.cbor_judging.proofs.Loops.{array_bytes-whole, map_bytes-whole}
 use Rattle.cbor_judging.specs.Levels.{IsTaken, Level, a_member, a_key, a_value, some_member, some_key, some_value, tagged, AreLevels, level_bytes, bytes_before, Standing, item_due, settle}
-use Rattle.cbor_walk.specs.Sink.{takes_key, key_due, Completes, Fills, IsEndedAs, IsItemDue, Gives, Opens, IsContainerFull, Ends, IsKnownValid, IsGivenFront}
-use Rattle.cbor_walk.specs.inner.Building.{BeginsTaken, IsDue, HasEnded, IsToEnd, IsBuilt, IsDueFor, TakesTo, EndsTo}
-use Rattle.cbor_walk.specs.inner.Open.{awaits, counted, cell_of, cells_of}
+use Rattle.cbor_walk.specs.Sink.{takes_key, key_due, Completes, IsEndedAs, IsItemDue, Gives, Opens, IsKnownValid, IsGivenFront}
+use Rattle.cbor_walk.specs.inner.Building.{BeginsTaken, IsDue, HasEnded, IsToEnd, IsBuilt, IsDueFor}
+use Rattle.cbor_walk.specs.inner.Open.{awaits, counted, opener, behind_head, cell_of, cells_of}
 use Rattle.cbor_walk.specs.inner.Parts.{IsHead, IsOpener, Counts}
 use Rattle.cbor_walk.specs.inner.Stack.{standing}
 use Rattle.cbor_walk.specs.declared.level.Due.{Due}
 use Rattle.cbor_walk.specs.declared.level.Due.TheVariants.{Item, Key, Value as ItsValue}
 use Rattle.cbor_walk.specs.declared.open.Open.{Open}
-use Rattle.cbor_walk.specs.declared.part.Part.{Part}
-use Rattle.cbor_walk.specs.declared.part.Part.TheVariants as part
 use Rattle.cbor_walk.specs.declared.stack.Stack.{Stack}
-use Rattle.cbor_walk.proofs.GivenItems.{IsScalar}
+use Rattle.cbor_walk.proofs.GivenItems.{IsScalar, opener-whole}
 
 -- ---- how many are open
 
-pub cells-count : (ls : List Level) → length (cells_of ls) ≡ suc (length ls)
-cells-count [] = refl
-cells-count (l ∷ ls) = ap suc (cells-count ls)
+pub cells-count : (n : ℕ) (ls : List Level) → length (cells_of n ls) ≡ suc (length ls)
+cells-count n [] = refl
+cells-count n (l ∷ ls) = ap suc (cells-count n ls)
 
 -- a key is due in the innermost one
-cell-awaits : (l : Level) → awaits (cell_of l).due ≡ takes_key l
-cell-awaits (a_member w left done) = refl
-cell-awaits (a_key w left done) = refl
-cell-awaits (a_value w left done k) = refl
-cell-awaits (some_member done) = refl
-cell-awaits (some_key done) = refl
-cell-awaits (some_value done k) = refl
-cell-awaits (tagged w n) = refl
+cell-awaits : (behind : ℕ) (l : Level) → awaits (cell_of behind l).due ≡ takes_key l
+cell-awaits behind (a_member w left done) = refl
+cell-awaits behind (a_key w left done) = refl
+cell-awaits behind (a_value w left done k) = refl
+cell-awaits behind (some_member done) = refl
+cell-awaits behind (some_key done) = refl
+cell-awaits behind (some_value done k) = refl
+cell-awaits behind (tagged w n) = refl
 
-pub key-awaited : (ls : List Level) (top : Open) (outer : List Open) → top ∷ outer ≡ cells_of ls → awaits top.due ≡ key_due ls
-key-awaited [] top outer e = let same : top ≡ counted Item 0 = cc in ap (λ (x : Open). awaits x.due) same
-key-awaited (l ∷ ls) top outer e = let same : top ≡ cell_of l = cc in ap (λ (x : Open). awaits x.due) same ∙ cell-awaits l
+pub key-awaited : (n : ℕ) (ls : List Level) (top : Open) (outer : List Open) → top ∷ outer ≡ cells_of n ls → awaits top.due ≡ key_due ls
+key-awaited n [] top outer e = let same : top ≡ counted Item 0 0 = cc in ap (λ (x : Open). awaits x.due) same
+key-awaited n (l ∷ ls) top outer e =
+    let behind = behind_head n ls l in
+    let same : top ≡ cell_of behind l = cc in
+    ap (λ (x : Open). awaits x.due) same ∙ cell-awaits behind l
 
 -- an input whose item is known to be valid
 pub known-begins : (limits : Bounds) (bytes input : List ℕ) (d : ℕ) → d ≡ limits.depth → input ≡ take limits.bytes bytes → IsKnownValid limits bytes → BeginsTaken d input
@@ -63,10 +63,10 @@ module _ (S : Type 0) (stands : S → S → Standing → Type 0) (trusts : Bool)
   pub due-item : (top : Open) (g : S) (rest : List ℕ) (t : Bool) → t ≡ awaits top.due → IsDueFor S stands trusts top g rest → IsItemDue S stands t g
   due-item top g rest t e (d, outer, (start, input, s)) =
       let small = s.small in
-      (start, d, s.ls, record { levels = s.levels; short = omega (arith, small, ap length s.bytes, length-append (bytes_before s.ls) rest) }, (s.given, e ∙ key-awaited s.ls top outer s.cells))
+      (start, d, s.ls, record { levels = s.levels; short = omega (arith, small, ap length s.bytes, length-append (bytes_before s.ls) rest) }, (s.given, e ∙ key-awaited (length input) s.ls top outer s.cells))
 
   -- before the first part
-  pub starts : (k : Stack Open) (g : S) (d : ℕ) (input : List ℕ) (cells : List Open) → k.height ≡ 0 → k.top ≡ counted Item 0 → stands g g (item_due []) → length input < 2 ^ 63 → (trusts ≡ true → BeginsTaken d input) → IsDue S stands trusts g d input (standing Open k cells) g input
+  pub starts : (k : Stack Open) (g : S) (d : ℕ) (input : List ℕ) (cells : List Open) → k.height ≡ 0 → k.top ≡ counted Item 0 0 → stands g g (item_due []) → length input < 2 ^ 63 → (trusts ≡ true → BeginsTaken d input) → IsDue S stands trusts g d input (standing Open k cells) g input
   starts k g d input cells none top fresh small known = record {
     ls = [];
     levels = tt;
@@ -96,7 +96,7 @@ module _ (S : Type 0) (stands : S → S → Standing → Type 0) (trusts : Bool)
   module _ (start : S) (d : ℕ) (input : List ℕ) where
     -- the levels are as many as the cells but one
     pub height-is : (cs : List Open) (g : S) (rest : List ℕ) (s : IsDue S stands trusts start d input cs g rest) → length cs ≡ suc (length s.ls)
-    height-is cs g rest s = ap length s.cells ∙ cells-count s.ls
+    height-is cs g rest s = ap length s.cells ∙ cells-count (length input) s.ls
 
     module _ (cs : List Open) (g : S) (rest : List ℕ) (s : IsDue S stands trusts start d input cs g rest) where
       -- an item is taken
@@ -137,12 +137,15 @@ module _ (S : Type 0) (stands : S → S → Standing → Type 0) (trusts : Bool)
       pub opened : (m : Major) (n : ℕ) (c : Open) (behind : List ℕ) (new : S) (t : Bool) → t ≡ key_due s.ls → length s.ls < d → IsOpener m n c rest behind → Opens S stands t m n g new
           → (length behind < length rest) × IsDue S stands trusts start d input (c ∷ cs) new behind
       opened m n c behind new t told room k opens =
-          let some = k.some in (
-            omega (arith, some, ap length k.is, length-append (level_bytes k.level) behind),
+          let some = k.some in
+          let size = length-append (level_bytes k.level) behind in
+          let place : length behind ≡ behind_head (length input) s.ls k.level =
+          omega (arith, ap length s.bytes, ap length k.is, size, length-append (bytes_before s.ls) rest, length-append (bytes_before s.ls) (opener k.level), ap length (opener-whole m n k.level k.opened)) in (
+            omega (arith, some, ap length k.is, size),
             record {
               ls = k.level ∷ s.ls;
               levels = (room, k.fresh (d - suc (length s.ls)), s.levels);
-              cells = ap₂ (λ (x : Open) (xs : List Open). x ∷ xs) k.cell s.cells;
+              cells = ap₂ (λ (x : Open) (xs : List Open). x ∷ xs) (k.cell ∙ ap (λ (b : ℕ). cell_of b k.level) place) s.cells;
               given = opens start s.ls k.level (s.given, told) k.opened;
               bytes = s.bytes ∙ ap (λ (x : List ℕ). bytes_before s.ls ++ x) k.is ∙ sym (append_assoc (bytes_before s.ls) (level_bytes k.level) behind);
               small = s.small;
@@ -196,42 +199,3 @@ module _ (S : Type 0) (stands : S → S → Standing → Type 0) (trusts : Bool)
       empty-ends majors.Text due n behind new t told room k none h opens = absurd k
       empty-ends majors.Tag due n behind new t told room k none h opens = absurd k
       empty-ends majors.Simple due n behind new t told room k none h opens = absurd k
-
-    -- ---- a container ends
-
-    fills-of : (t : Bool) (cs : List Open) (g : S) (rest : List ℕ) → (s : IsToEnd S stands trusts t start d input cs g rest) → Fills trusts d s.ls s.item
-    fills-of t cs g rest s =
-        let small = s.small in
-        record {
-          levels = s.levels;
-          spelled = s.spelled;
-          within = s.within;
-          short = omega (arith, small, ap length s.bytes, length-append (bytes_before s.ls ++ spell s.item) rest);
-          clean = λ e. let (item, more, taken, front) = s.known e in clean-within d s.ls s.item item rest more s.levels s.spelled s.within taken (sym s.bytes ∙ front);
-        }
-
-    pub container-full : (t : Bool) (cs : List Open) (g : S) (rest : List ℕ) → IsToEnd S stands trusts t start d input cs g rest → IsContainerFull S stands trusts t g
-    container-full t cs g rest s = (start, d, s.ls, s.item, fills-of t cs g rest s, s.given)
-
-    pub has-ended : (t : Bool) (cs : List Open) (g new : S) (rest : List ℕ) → IsToEnd S stands trusts t start d input cs g rest → Ends S stands trusts t g new → HasEnded S stands trusts start d input cs new rest
-    has-ended t cs g new rest s ends =
-        let e = ends start d s.ls s.item (fills-of t cs g rest s) s.given in
-        record {
-          ls = s.ls;
-          item = s.item;
-          levels = s.levels;
-          taken = record { spelled = s.spelled; within = s.within; clean = e.0 };
-          cells = s.cells;
-          given = e.1;
-          bytes = s.bytes;
-          small = s.small;
-          known = s.known;
-        }
-
-    -- what ends is taken
-    pub ends-takes : (holds : S → S → List Level → Bool → List ℕ → Type 0) (p : Part) (cs : List Open) (g : S) (rest behind : List ℕ) → length behind < length rest → EndsTo S stands trusts p start d input cs g behind → TakesTo S stands trusts holds p start d input rest cs g
-    ends-takes holds (part.Item to) cs g rest behind l h = (subst (λ (x : List ℕ). length x < length rest) (sym h.0) l, subst (HasEnded S stands trusts start d input cs g) (sym h.0) h.1)
-    ends-takes holds part.Stopped cs g rest behind l h = tt
-    ends-takes holds (part.Head to) cs g rest behind l h = absurd h
-    ends-takes holds part.Untaken cs g rest behind l h = absurd h
-    ends-takes holds part.Broken cs g rest behind l h = absurd h

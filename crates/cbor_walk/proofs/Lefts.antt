@@ -5,7 +5,7 @@ use Rattle.cbor_judging.specs.Levels.{Level, Standing}
 use Rattle.cbor_walk.specs.declared.open.Open.{Open}
 use Rattle.cbor_walk.specs.declared.part.Part.{Part}
 use Rattle.cbor_walk.specs.declared.part.Part.TheVariants as part
-use Rattle.cbor_walk.specs.inner.Building.{IsDue, HasEnded, TakesTo}
+use Rattle.cbor_walk.specs.inner.Building.{IsDue, HasEnded, HasRepeats, TakesTo}
 use Rattle.cbor_walk.specs.inner.Parts.{left_of, Leaves, LeavesWithin, TakesFront, HasBegun, HasBroken}
 
 -- what is behind some of a first byte and these is the last of these
@@ -31,6 +31,8 @@ module _ (x : ℕ) (bytes : List ℕ) (e : ℕ) (c : Open) (S : Type 0) (stands 
       subst (λ (xs : List ℕ). (length xs < length (x ∷ bytes)) × IsDue S stands trusts start d input cs g xs) (sym (l ∙ ends-there x bytes e c b.now (inl f) t.0)) t
   same-takes part.Untaken part.Untaken t f l = t
   same-takes part.Broken part.Broken t f l = t
+  same-takes (part.Repeated b) (part.Repeated b') t f l =
+      subst (λ (xs : List ℕ). (length xs < length (x ∷ bytes)) × HasRepeats S stands trusts start d input cs g xs) (sym (l ∙ ends-there x bytes e c b.now (inr f) t.0)) t
   same-takes part.Stopped part.Stopped t f l = tt
   same-takes p q t f l = absurd l
 
@@ -41,12 +43,14 @@ module _ (x : ℕ) (bytes : List ℕ) (e : ℕ) (c : Open) (S : Type 0) (stands 
       subst (λ (xs : List ℕ). HasBegun e (x ∷ bytes) xs) (sym (l ∙ ends-there x bytes e c b.now (inl f) t.0)) f
   same-front part.Untaken part.Untaken t f l = tt
   same-front part.Broken part.Broken t f l = tt
+  same-front (part.Repeated b) (part.Repeated b') t f l = subst (λ (xs : List ℕ). HasBroken c (x ∷ bytes) xs) (sym (l ∙ ends-there x bytes e c b.now (inr f) t.0)) f
   same-front part.Stopped part.Stopped t f l = tt
   same-front p q t f l = absurd l
 
   pub left-within : (p : Part) → TakesTo S stands trusts holds p start d input (x ∷ bytes) cs g → LeavesWithin bytes (left_of p)
   left-within (part.Item b) t = omega (arith, t.0)
   left-within (part.Head b) t = omega (arith, t.0)
+  left-within (part.Repeated b) t = omega (arith, t.0)
   left-within part.Untaken t = tt
   left-within part.Broken t = tt
   left-within part.Stopped t = tt

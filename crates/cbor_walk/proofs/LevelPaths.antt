@@ -28,7 +28,7 @@ use Rattle.cbor_judging.proofs.Judged.{zero_item}
 use Rattle.cbor_judging.proofs.Levels.{no-count, spelled-all, within-all, clean-all, pairs-spelled, pairs-within, pairs-more, pairs-clean}
 use Rattle.cbor_judging.proofs.Valid.{in_range_entries}
 use Rattle.cbor_walk.specs.Sink.{IsKeyBehind}
-use Rattle.cbor_walk.specs.inner.Open.{cell_of, cells_of, counted}
+use Rattle.cbor_walk.specs.inner.Open.{behind_head, cell_of, cells_of, counted}
 use Rattle.cbor_walk.specs.inner.Path as path
 use Rattle.cbor_walk.specs.inner.Path.{IsClean, AreClean, IsKeyDueIn, MayBreak}
 use Rattle.cbor_walk.specs.declared.level.Due.TheVariants.{Item, Key, Value}
@@ -201,47 +201,47 @@ repeat_of_whole o d ls l es behind h small apart k i repeated = go l behind h sm
 
 -- ---- what is due, by the cells
 
-level_due : (l : Level) (ls : List path.Level) → (cell_of l).due ≡ Key → IsKeyDueIn (path_of l ∷ ls)
-level_due (a_key w left done) ls e = tt
-level_due (some_key done) ls e = tt
-level_due (a_member w left done) ls e = absurd (cc e)
-level_due (a_value w left done k) ls e = absurd (cc e)
-level_due (some_member done) ls e = absurd (cc e)
-level_due (some_value done k) ls e = absurd (cc e)
-level_due (tagged w n) ls e = absurd (cc e)
+level_due : (behind : ℕ) (l : Level) (ls : List path.Level) → (cell_of behind l).due ≡ Key → IsKeyDueIn (path_of l ∷ ls)
+level_due behind (a_key w left done) ls e = tt
+level_due behind (some_key done) ls e = tt
+level_due behind (a_member w left done) ls e = absurd (cc e)
+level_due behind (a_value w left done k) ls e = absurd (cc e)
+level_due behind (some_member done) ls e = absurd (cc e)
+level_due behind (some_value done k) ls e = absurd (cc e)
+level_due behind (tagged w n) ls e = absurd (cc e)
 
-due_level : (l : Level) (ls : List path.Level) → IsKeyDueIn (path_of l ∷ ls) → (cell_of l).due ≡ Key
-due_level (a_key w left done) ls h = refl
-due_level (some_key done) ls h = refl
-due_level (a_member w left done) ls h = absurd h
-due_level (a_value w left done k) ls h = absurd h
-due_level (some_member done) ls h = absurd h
-due_level (some_value done k) ls h = absurd h
-due_level (tagged w n) ls h = absurd h
+due_level : (behind : ℕ) (l : Level) (ls : List path.Level) → IsKeyDueIn (path_of l ∷ ls) → (cell_of behind l).due ≡ Key
+due_level behind (a_key w left done) ls h = refl
+due_level behind (some_key done) ls h = refl
+due_level behind (a_member w left done) ls h = absurd h
+due_level behind (a_value w left done k) ls h = absurd h
+due_level behind (some_member done) ls h = absurd h
+due_level behind (some_value done k) ls h = absurd h
+due_level behind (tagged w n) ls h = absurd h
 
-breaks_level : (d : ℕ) (l : Level) (ls : List path.Level) → IsLevel d l → MayBreak (path_of l ∷ ls) → ((cell_of l).is_endless ≡ true) × ((cell_of l).due ≢ Value)
-breaks_level d (some_member done) ls h b = (refl, λ e. cc e)
-breaks_level d (some_key done) ls h b = (refl, λ e. cc e)
-breaks_level d (a_member Indefinite left done) ls h b = absurd h.0
-breaks_level d (a_key Indefinite left done) ls h b = absurd h.0
-breaks_level d (a_member w left done) ls h b = absurd b
-breaks_level d (a_key w left done) ls h b = absurd b
-breaks_level d (a_value w left done k) ls h b = absurd b
-breaks_level d (some_value done k) ls h b = absurd b
-breaks_level d (tagged w n) ls h b = absurd b
+breaks_level : (behind d : ℕ) (l : Level) (ls : List path.Level) → IsLevel d l → MayBreak (path_of l ∷ ls) → ((cell_of behind l).is_endless ≡ true) × ((cell_of behind l).due ≢ Value)
+breaks_level behind d (some_member done) ls h b = (refl, λ e. cc e)
+breaks_level behind d (some_key done) ls h b = (refl, λ e. cc e)
+breaks_level behind d (a_member Indefinite left done) ls h b = absurd h.0
+breaks_level behind d (a_key Indefinite left done) ls h b = absurd h.0
+breaks_level behind d (a_member w left done) ls h b = absurd b
+breaks_level behind d (a_key w left done) ls h b = absurd b
+breaks_level behind d (a_value w left done k) ls h b = absurd b
+breaks_level behind d (some_value done k) ls h b = absurd b
+breaks_level behind d (tagged w n) ls h b = absurd b
 
-module _ (top : Open) (outer : List Open) where
-  pub path_due : (ls : List Level) → top ∷ outer ≡ cells_of ls → top.due ≡ Key → IsKeyDueIn (paths_of ls)
-  path_due [] e due = let same : top ≡ counted Item 0 = cc in absurd (cc (ap (λ (x : Open). x.due) (sym same) ∙ due))
-  path_due (l ∷ ls) e due = let same : top ≡ cell_of l = cc in level_due l (paths_of ls) (ap (λ (x : Open). x.due) (sym same) ∙ due)
+module _ (n : ℕ) (top : Open) (outer : List Open) where
+  pub path_due : (ls : List Level) → top ∷ outer ≡ cells_of n ls → top.due ≡ Key → IsKeyDueIn (paths_of ls)
+  path_due [] e due = let same : top ≡ counted Item 0 0 = cc in absurd (cc (ap (λ (x : Open). x.due) (sym same) ∙ due))
+  path_due (l ∷ ls) e due = let same : top ≡ cell_of (behind_head n ls l) l = cc in level_due (behind_head n ls l) l (paths_of ls) (ap (λ (x : Open). x.due) (sym same) ∙ due)
 
-  pub due_path : (ls : List Level) → top ∷ outer ≡ cells_of ls → IsKeyDueIn (paths_of ls) → top.due ≡ Key
+  pub due_path : (ls : List Level) → top ∷ outer ≡ cells_of n ls → IsKeyDueIn (paths_of ls) → top.due ≡ Key
   due_path [] e h = absurd h
-  due_path (l ∷ ls) e h = let same : top ≡ cell_of l = cc in ap (λ (x : Open). x.due) same ∙ due_level l (paths_of ls) h
+  due_path (l ∷ ls) e h = let same : top ≡ cell_of (behind_head n ls l) l = cc in ap (λ (x : Open). x.due) same ∙ due_level (behind_head n ls l) l (paths_of ls) h
 
-  pub breaks_path : (d : ℕ) (ls : List Level) → AreLevels d ls → top ∷ outer ≡ cells_of ls → MayBreak (paths_of ls) → (top.is_endless ≡ true) × (top.due ≢ Value)
+  pub breaks_path : (d : ℕ) (ls : List Level) → AreLevels d ls → top ∷ outer ≡ cells_of n ls → MayBreak (paths_of ls) → (top.is_endless ≡ true) × (top.due ≢ Value)
   breaks_path d [] h e b = absurd b
   breaks_path d (l ∷ ls) h e b =
-      let same : top ≡ cell_of l = cc in
-      let found = breaks_level (d - suc (length ls)) l (paths_of ls) h.1 b in
+      let same : top ≡ cell_of (behind_head n ls l) l = cc in
+      let found = breaks_level (behind_head n ls l) (d - suc (length ls)) l (paths_of ls) h.1 b in
       (ap (λ (x : Open). x.is_endless) same ∙ found.0, λ x. found.1 (ap (λ (y : Open). y.due) (sym same) ∙ x))

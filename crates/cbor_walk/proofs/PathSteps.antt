@@ -61,16 +61,16 @@ module _ (r : Rules) (at d : ℕ) (w : Width) (n : ℕ) where
 
 -- ---- numbers and places
 
-member_count : (done : Spellings) (s : Spelling) (left : ℕ) → spellings_count done + suc (suc left) ≡ spellings_count (more_members done s) + suc left
+pub member_count : (done : Spellings) (s : Spelling) (left : ℕ) → spellings_count done + suc (suc left) ≡ spellings_count (more_members done s) + suc left
 member_count done s left = omega (arith, count_with done (a_spelling s no_spellings))
 
-pair_count : (done : SpelledEntries) (k v : Spelling) (left : ℕ) → entries_count done + suc (suc left) ≡ entries_count (more_pairs done k v) + suc left
+pub pair_count : (done : SpelledEntries) (k v : Spelling) (left : ℕ) → entries_count done + suc (suc left) ≡ entries_count (more_pairs done k v) + suc left
 pair_count done k v left = omega (arith, entries_with done (entry k v no_entries))
 
-last_member : (done : Spellings) (s : Spelling) → spellings_count (more_members done s) ≡ spellings_count done + 1
+pub last_member : (done : Spellings) (s : Spelling) → spellings_count (more_members done s) ≡ spellings_count done + 1
 last_member done s = omega (arith, count_with done (a_spelling s no_spellings))
 
-last_pair : (done : SpelledEntries) (k v : Spelling) → entries_count (more_pairs done k v) ≡ entries_count done + 1
+pub last_pair : (done : SpelledEntries) (k v : Spelling) → entries_count (more_pairs done k v) ≡ entries_count done + 1
 last_pair done k v = omega (arith, entries_with done (entry k v no_entries))
 
 -- the bytes behind the item, where those of the innermost go on by it

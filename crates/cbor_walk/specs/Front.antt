@@ -1,13 +1,11 @@
 -- Why a walk over the item at the front of an input stops.
-use Rattle.std.specs.Prelude.{ℕ, List}
+use Rattle.std.specs.Prelude.{◌≡◌, ◌⊎◌, ℕ, List}
 use Rattle.cbor_head.specs.Complaint.{plain}
 use Rattle.cbor_head.specs.Limits.{Bounds}
-use Rattle.cbor_head.specs.Verdict.{IsVerdict, refused}
-use Rattle.cbor_walk.specs.declared.front.Stop.{Stop}
-use Rattle.cbor_walk.specs.declared.front.Stop.TheVariants.{Refused, Repeated, Memory}
+use Rattle.cbor_head.specs.Verdict.{IsVerdict, refusal, refused}
+use Rattle.cbor_head.specs.declared.reason.Reason.TheVariants.{Memory}
+use Rattle.cbor_head.specs.declared.reason.Refusal.{Refusal}
 
--- the item is refused so; or nothing is said of it here
-abbrev pub IsStop : Bounds → List ℕ → Stop → Type 0
-IsStop limits input (Refused f) = IsVerdict limits plain input (refused f)
-IsStop limits input (Repeated repeat) = Unit {0}
-IsStop limits input Memory = Unit {0}
+-- the item is refused so; or memory was refused, which is told at the front
+abbrev pub IsStop : Bounds → List ℕ → Refusal → Type 0
+IsStop limits input f = IsVerdict limits plain input (refused f) ⊎ (f ≡ refusal Memory 0 0)

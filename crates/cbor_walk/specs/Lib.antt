@@ -1,3 +1,4 @@
 pub mod Front
+pub mod NotCanonical
 pub mod Sink
 pub mod inner

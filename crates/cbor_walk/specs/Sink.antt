@@ -1,6 +1,5 @@
 -- What a sink was given of a valid item, as a walk comes to its parts.
 use Rattle.std.specs.Prelude.{ℕ, ◌≡◌, ◌<◌, ◌≤◌, ◌-◌, ◌^◌, ◌⊎◌, ◌++◌, Bool, true, false, List, [], ◌∷◌, length}
-use Rattle.cbor_head.specs.Canonical.{canonical, canonical_entries}
 use Rattle.cbor_head.specs.Complaint.{plain}
 use Rattle.cbor_head.specs.Limits.{Bounds}
 use Rattle.cbor_head.specs.Spelling as spelling
@@ -10,9 +9,10 @@ use Rattle.cbor_head.specs.Value.{Value}
 use Rattle.cbor_head.specs.declared.major.Major.{Major}
 use Rattle.cbor_head.specs.declared.major.Major.TheVariants.{Array, Map, Tag, Negative, Simple}
 use Rattle.cbor_head.specs.declared.width.Width.{Width}
-use Rattle.cbor_builder.specs.Built.{HasKey, AreOpenKeysDifferent}
+use Rattle.cbor_builder.specs.Built.{AreOpenKeysDifferent, IsRepeatTold}
+use Rattle.cbor_builder.specs.declared.repeat.Repeat.{Repeat}
 use Rattle.cbor_head.specs.declared.order.KeyOrder.{KeyOrder}
-use Rattle.cbor_judging.specs.Given.{opens}
+use Rattle.cbor_judging.specs.Given.{opens, full_open}
 use Rattle.cbor_judging.specs.Levels.{IsClean, IsTaken, Level, a_member, a_key, a_value, some_member, some_key, some_value, tagged, AreLevels, bytes_before, Standing, item_due, item_full, item_whole, settle}
 use Rattle.cbor_judging.specs.Reading.{string_value}
 use Rattle.cbor_judging.specs.Readers.{IsRead}
@@ -126,6 +126,11 @@ abbrev pub Ends : (S : Type 0) → (S → S → Standing → Type 0) → Bool �
 Ends S stands trusts is_map old new =
     (start : S) (d : ℕ) (ls : List Level) (s : Spelling) → Fills trusts d ls s → StandsFull S (Told S stands is_map) d start old ls s → IsClean s × stands start new (settle ls s)
 
+-- a container that was to end stays as it was: two of its keys are equal
+abbrev pub StaysFull : (S : Type 0) → (S → S → Standing → Type 0) → Bool → Bool → S → S → Type 0
+StaysFull S stands trusts is_map old new =
+    (start : S) (d : ℕ) (ls : List Level) (s : Spelling) → Fills trusts d ls s → StandsFull S (Told S stands is_map) d start old ls s → StandsFull S (Told S stands is_map) d start new ls s
+
 -- ---- a string in chunks, by the relation that says of what it consists so far
 
 -- a string begins, of no chunks
@@ -162,6 +167,19 @@ IsWithin S stands holds start g ls = stands start g (item_due ls) ⊎ ((is_text 
 abbrev pub FindsNoRepeat : (S : Type 0) → (S → S → Standing → Type 0) → (S → S → List Level → Bool → List ℕ → Type 0) → S → Type 0
 FindsNoRepeat S stands holds g = (start : S) (ls : List Level) → IsWithin S stands holds start g ls → AreKeysDistinct ls
 
+-- of the open maps, from the outermost in, the first with two equal keys, and of it the first key that is equal to an earlier one
+abbrev pub IsToldIn : List Level → Repeat → Type 0
+IsToldIn ls repeat = (o : KeyOrder) × IsRepeatTold (opens o ls) repeat.outside repeat.pair
+
+-- the same where the innermost container is whole
+abbrev pub IsToldFull : List Level → Spelling → Repeat → Type 0
+IsToldFull ls s repeat = (o : KeyOrder) × IsRepeatTold (full_open o s ∷ opens o ls) repeat.outside repeat.pair
+
+-- so wherever an item or a chunk is due, or a container is to end
+pub record FindsRepeat (S : Type 0) (stands : S → S → Standing → Type 0) (holds : S → S → List Level → Bool → List ℕ → Type 0) (g : S) (repeat : Repeat) : Type 0 where
+  pub within : (start : S) (ls : List Level) → IsWithin S stands holds start g ls → IsToldIn ls repeat
+  pub full : (start : S) (ls : List Level) (s : Spelling) → stands start g (item_full ls s) → IsToldFull ls s repeat
+
 -- ---- a key that is due
 
 -- in this container, behind these pairs
@@ -169,27 +187,6 @@ abbrev pub IsKeyBehind : Level → SpelledEntries → Type 0
 IsKeyBehind (a_key w left done) es = es ≡ done
 IsKeyBehind (some_key done) es = es ≡ done
 IsKeyBehind _ es = ⊥
-
--- The bytes begin with a key, of so many bytes, that is valid, nests no deeper than this, and has the canonical bytes of an
--- earlier one.
-pub record IsRepeatDue (d : ℕ) (ls : List Level) (rest : List ℕ) (size : ℕ) : Type 0 where
-  pub level : Level
-  pub outer : List Level
-  pub levels_are : ls ≡ level ∷ outer
-  pub done : SpelledEntries
-  pub behind : IsKeyBehind level done
-  pub key : Spelling
-  pub taken : IsTaken d key
-  pub order : KeyOrder
-  pub held : HasKey (canonical_entries order (entries_of done)) (canonical order (value_of key))
-  pub more : List ℕ
-  pub front : rest ≡ spell key ++ more
-  pub size_is : size ≡ length (spell key)
-
--- so wherever a key is due
-abbrev pub TellsRepeat : (S : Type 0) → (S → S → Standing → Type 0) → Bounds → List ℕ → S → ℕ → Type 0
-TellsRepeat S stands limits rest g size =
-    (start : S) (d : ℕ) (ls : List Level) → AreOpenLevels d ls → Told S stands true start g (item_due ls) → IsRepeatDue limits.depth ls rest size
 
 -- ---- the whole
 

@@ -5,9 +5,11 @@ pub mod Items
 pub mod Kept
 pub mod Leaves
 pub mod Open
+pub mod OpenMaps
 pub mod Parts
 pub mod Path
-pub mod Repeat
+pub mod Repeated
+pub mod Skip
 pub mod Stack
 pub mod Stop
 pub mod Walked

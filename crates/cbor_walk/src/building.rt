@@ -3,7 +3,6 @@
 ghost use Rattle.std.specs.Prelude.{◌≡◌, ◌≤◌, length};
 ghost use Rattle.cbor_walk.specs.inner.Building.{IsDueIn, HasEndedIn, HasFilledIn};
 ghost use Rattle.cbor_walk.specs.inner.Building.{Leads, LeadsFull, Walks, WalksKept};
-ghost use Rattle.cbor_walk.specs.inner.Open.{pairs};
 ghost use Rattle.cbor_walk.specs.inner.Stack.{around, standing};
 
 use crate::level::Due;
@@ -27,7 +26,9 @@ pub(crate) enum Then {
     Item,
     /// Nothing: the input's item is whole.
     Done,
-    /// Two keys of a map are the same, or memory is refused.
+    /// Nothing: two keys of the map that is to end are the same. It is still open.
+    Repeated,
+    /// Nothing: memory is refused.
     Stopped,
 }
 
@@ -40,7 +41,9 @@ pub(crate) enum Met<'a> {
     Untaken(&'a [u8]),
     /// A string in chunks stands before these bytes, and is refused. The sink has some chunks of it.
     Broken(&'a [u8]),
-    /// Memory is refused, or two keys of a map are the same.
+    /// Two keys of the map that is to end before these bytes are the same. It is still open.
+    Repeated(&'a [u8]),
+    /// Memory is refused.
     Stopped,
 }
 
@@ -50,7 +53,7 @@ impl<S> Building<S> {
     pub fn new(sink: S) -> Building<S>
         ensures { result.sink ≡ sink }
     {
-        let stack = Stack::new(Open::counted(Due::Item, 0));
+        let stack = Stack::new(Open::counted(Due::Item, 0, 0));
         Building { stack, sink }
     }
 
@@ -74,18 +77,20 @@ impl<S> Building<S> {
     {
         let mut rest = start;
         'parts: loop {
-            match self.take_part::<KINDS, false>(rest, cells, depth) {
+            match self.take_part::<KINDS>(rest, cells, depth) {
                 Part::Head(behind) => rest = behind,
                 Part::Item(behind) => {
                     rest = behind;
                     match self.complete(cells) {
                         Then::Item => {}
                         Then::Done => return Met::Whole(rest),
+                        Then::Repeated => return Met::Repeated(rest),
                         Then::Stopped => return Met::Stopped,
                     }
                 }
                 Part::Untaken => return Met::Untaken(rest),
                 Part::Broken => return Met::Broken(rest),
+                Part::Repeated(behind) => return Met::Repeated(behind),
                 Part::Stopped => return Met::Stopped,
             }
         }
@@ -108,25 +113,25 @@ impl<S> Building<S> {
         self.close(cells)
     }
 
-    // The innermost container is whole, and perhaps those around it.
+    // The innermost container is whole, and perhaps those around it. Each is ended in the sink first:
+    // where two of its keys are the same, its cell still tells what stands behind its head.
     #[inline(always)]
     fn close<'a>(&mut self, cells: &[Open]) -> Then
     where
         S: Sink<'a>,
         requires cells { self.old.stack.height ≤ length cells.now }
-        requires filled { HasFilledIn S S.stands S.trusts (pairs self.old.stack.top.due)
+        requires filled { HasFilledIn S S.stands S.trusts self.old.stack.top
             (around Open self.old.stack cells.now) self.old.sink }
         ensures cells { self.new.stack.height ≤ length cells.now }
-        ensures leads { LeadsFull S S.stands S.trusts (pairs self.old.stack.top.due) result
+        ensures leads { LeadsFull S S.stands S.trusts self.old.stack.top result
             (around Open self.old.stack cells.now) self.old.sink
             (standing Open self.new.stack cells.now) self.new.sink }
     {
         'levels: while self.stack.height > 0 {
-            let is_map = self.stack.top.due.is_in_map();
-            self.stack.pop(cells);
-            match self.sink.end(is_map) {
-                Ok(true) => {}
-                _ => return Then::Stopped,
+            match self.sink.end(self.stack.top.due.is_in_map()) {
+                Ok(true) => self.stack.pop(cells),
+                Ok(false) => return Then::Repeated,
+                Err(_) => return Then::Stopped,
             }
             if self.stack.top.advance() {
                 return Then::Item;

@@ -2,29 +2,31 @@
 
 ghost use Rattle.std.specs.Prelude.{◌≡◌, ◌≤◌, IfOk, IfErr, IfSome, MatchResult, length};
 ghost use Rattle.cbor_head.specs.Complaint.{strict};
-ghost use Rattle.cbor_head.specs.Verdict.{IsVerdict, refused};
 ghost use Rattle.cbor_judging.specs.Readers.{IsRead};
+ghost use Rattle.cbor_walk.specs.NotCanonical.{IsNotCanonical};
 ghost use Rattle.cbor_walk.specs.inner.Cells.{IsWhole};
 ghost use Rattle.cbor_walk.specs.inner.Kept.{asks};
-ghost use Rattle.cbor_walk.specs.inner.Stop.{IsStopped, IsAnswered};
+ghost use Rattle.cbor_walk.specs.inner.Stop.{IsRefused, IsAnswered};
 ghost use Rattle.cbor_walk.specs.inner.Walked.{IsFull};
 
 use crate::any_item::{Any, any_item};
 use crate::level::{Due, Level};
+use crate::not_canonical::NotCanonical;
 use crate::stack::{FEW, MOST, SOME, Stack, lend};
 use crate::walk::{Walked, walk};
 use crate::within::within;
 use cbor_head::{KeyOrder, Keys, Limits, Reason, Refusal};
 
 /// How many bytes the item has that the slice begins with, where they are its canonical bytes in
-/// this order (RFC 8949, sections 4.2.1 and 4.2.3); else the refusal that the bytes within the
-/// limits call for, by the rules of the deterministic encoding.
+/// this order (RFC 8949, sections 4.2.1 and 4.2.3); else why there are none.
 ///
-/// It goes over the bytes once, without recursion, and takes no memory.
-pub fn canonical_front(bytes: &[u8], limits: Limits, order: KeyOrder) -> Result<u64, Refusal>
+/// It goes over the bytes once, without recursion, and takes no memory. It is part of what asks for
+/// it, so that no answer is copied.
+#[inline(always)]
+pub fn canonical_front(bytes: &[u8], limits: Limits, order: KeyOrder) -> Result<u64, NotCanonical>
     ensures { MatchResult result
         (λ count. IsRead limits (strict order) bytes.now count)
-        (λ f. IsVerdict limits (strict order) bytes.now (refused f)) }
+        (IsNotCanonical limits order bytes.now) }
 {
     let input = within(bytes, limits.bytes());
     let front = match limits.keys() {
@@ -33,7 +35,10 @@ pub fn canonical_front(bytes: &[u8], limits: Limits, order: KeyOrder) -> Result<
     };
     match front {
         Ok(count) => Ok(count as u64),
-        Err(refusal) => Err(at_the_limit(refusal, input, limits.bytes())),
+        Err(why) => Err(NotCanonical {
+            refusal: at_the_limit(why.refusal, input, limits.bytes()),
+            repeats: why.repeats,
+        }),
     }
 }
 
@@ -50,20 +55,21 @@ pub(crate) fn at_the_limit(refusal: Refusal, input: &[u8], limit: u64) -> Refusa
 }
 
 // The same of all of an input, at whose end an item is `Truncated`.
+#[inline(always)]
 fn whole_front<const KINDS: bool>(
     input: &[u8],
     limits: Limits,
     order: KeyOrder,
-) -> Result<usize, Refusal>
+) -> Result<usize, NotCanonical>
     requires { asks limits.keys ≡ KINDS }
     ensures whole { IfOk result (IsWhole order limits input.now) }
-    ensures refused { IfErr result (IsStopped (strict order) limits input.now) }
+    ensures refused { IfErr result (IsRefused order limits input.now) }
 {
     // An item that is no container wants no cells.
     if !begins_container(input) {
         match any_item(input, 0, limits.depth() > 0) {
             Any::Leaf(used) => return Ok(used),
-            Any::Refused(refusal) => return Err(refusal),
+            Any::Refused(refusal) => return Err(NotCanonical::new(refusal)),
             Any::Opens(..) => {}
         }
     }
@@ -72,7 +78,8 @@ fn whole_front<const KINDS: bool>(
     let mut stack = Stack::new(level);
     match walk::<KINDS>(input, 0, &mut cells, &mut stack, limits, order) {
         Walked::Whole(at) => Ok(at),
-        Walked::Refused(refusal) => Err(refusal),
+        Walked::Refused(refusal) => Err(NotCanonical::new(refusal)),
+        Walked::Falls(refusal) => Err(NotCanonical::key_falls(input, stack.top, refusal)),
         Walked::Full(at) => with_more_cells::<KINDS>(input, at, &cells, stack, limits, order),
     }
 }
@@ -97,12 +104,12 @@ fn with_more_cells<const KINDS: bool>(
     stack: Stack<Level>,
     limits: Limits,
     order: KeyOrder,
-) -> Result<usize, Refusal>
+) -> Result<usize, NotCanonical>
     requires kinds { asks limits.keys ≡ KINDS }
     requires full { IsFull order limits input.now stack few.now at }
     requires few { length few.now ≤ SOME }
     ensures whole { IfOk result (IsWhole order limits input.now) }
-    ensures refused { IfErr result (IsStopped (strict order) limits input.now) }
+    ensures refused { IfErr result (IsRefused order limits input.now) }
 {
     match deeper::<KINDS>(input, at, few, stack, limits, order) {
         Some(front) => front,
@@ -121,20 +128,21 @@ fn deeper<const KINDS: bool>(
     stack: Stack<Level>,
     limits: Limits,
     order: KeyOrder,
-) -> Option<Result<usize, Refusal>>
+) -> Option<Result<usize, NotCanonical>>
     requires kinds { asks limits.keys ≡ KINDS }
     requires full { IsFull order limits input.now stack few.now at }
     requires few { length few.now ≤ SOME }
     ensures whole { IfSome result (λ front. IfOk front (IsWhole order limits input.now)) }
     ensures refused { IfSome result
-        (λ front. IfErr front (IsStopped (strict order) limits input.now)) }
+        (λ front. IfErr front (IsRefused order limits input.now)) }
 {
     let mut cells = [Level::new(Due::Item, 0, 0); SOME];
     lend(few, &mut cells);
     let mut stack = stack;
     match walk::<KINDS>(input, at, &mut cells, &mut stack, limits, order) {
         Walked::Whole(at) => Some(Ok(at)),
-        Walked::Refused(refusal) => Some(Err(refusal)),
+        Walked::Refused(refusal) => Some(Err(NotCanonical::new(refusal))),
+        Walked::Falls(refusal) => Some(Err(NotCanonical::key_falls(input, stack.top, refusal))),
         Walked::Full(_) => None,
     }
 }
@@ -148,19 +156,20 @@ fn deepest<const KINDS: bool>(
     stack: Stack<Level>,
     limits: Limits,
     order: KeyOrder,
-) -> Result<usize, Refusal>
+) -> Result<usize, NotCanonical>
     requires kinds { asks limits.keys ≡ KINDS }
     requires full { IsFull order limits input.now stack few.now at }
     requires few { length few.now ≤ MOST }
     ensures whole { IfOk result (IsWhole order limits input.now) }
-    ensures refused { IfErr result (IsStopped (strict order) limits input.now) }
+    ensures refused { IfErr result (IsRefused order limits input.now) }
 {
     let mut cells = [Level::new(Due::Item, 0, 0); MOST];
     lend(few, &mut cells);
     let mut stack = stack;
     match walk::<KINDS>(input, at, &mut cells, &mut stack, limits, order) {
         Walked::Whole(at) => Ok(at),
-        Walked::Refused(refusal) => Err(refusal),
+        Walked::Refused(refusal) => Err(NotCanonical::new(refusal)),
+        Walked::Falls(refusal) => Err(NotCanonical::key_falls(input, stack.top, refusal)),
         Walked::Full(_) => unreachable!(),
     }
 }

@@ -2,7 +2,6 @@
 
 ghost use Rattle.std.specs.Prelude.{◌≤◌, ◌-◌, ◌∷◌, ℕ, length};
 ghost use Rattle.cbor_walk.specs.inner.Building.{IsDueIn, Takes, IsBreakDue, TakesBreak};
-ghost use Rattle.cbor_walk.specs.inner.Parts.{IsItem};
 ghost use Rattle.cbor_walk.specs.inner.Parts.{TakesFront, Leaves, LeavesWithin};
 ghost use Rattle.cbor_walk.specs.declared.part.Part.{Part};
 ghost use Rattle.cbor_walk.specs.inner.Stack.{standing};
@@ -69,12 +68,19 @@ impl<S> Building<S> {
             0x9f => self.open(
                 Major::Array,
                 0,
-                Open::endless(Due::Item),
+                Open::endless(Due::Item, behind.len()),
                 behind,
                 cells,
                 depth,
             ),
-            0xbf => self.open(Major::Map, 0, Open::endless(Due::Key), behind, cells, depth),
+            0xbf => self.open(
+                Major::Map,
+                0,
+                Open::endless(Due::Key, behind.len()),
+                behind,
+                cells,
+                depth,
+            ),
             0xff => self.take_break(behind, cells),
             _ => Part::Untaken,
         }
@@ -89,7 +95,6 @@ impl<S> Building<S> {
         ensures cells { self.new.stack.height ≤ length cells.now }
         ensures takes { TakesBreak S S.stands S.trusts S.holds result behind.now (standing Open self.old.stack cells.now)
             self.old.sink (standing Open self.new.stack cells.now) self.new.sink }
-        ensures kind { IsItem result }
         ensures front { (d : ℕ) → TakesFront result d self.old.stack.top (0xff ∷ behind.now) }
     {
         if !self.stack.top.is_endless {
@@ -98,8 +103,13 @@ impl<S> Building<S> {
         if let Due::Value = self.stack.top.due {
             return Part::Untaken;
         }
-        let is_map = self.stack.top.due.is_in_map();
-        self.stack.pop(cells);
-        self.end(is_map, behind)
+        match self.sink.end(self.stack.top.due.is_in_map()) {
+            Ok(true) => {
+                self.stack.pop(cells);
+                Part::Item(behind)
+            }
+            Ok(false) => Part::Repeated(behind),
+            Err(_) => Part::Stopped,
+        }
     }
 }

@@ -3,9 +3,8 @@
 //! [`canonical_front`] goes over the canonical bytes at the front of a slice once; at the first
 //! byte, head, text or key that is none of a canonical item it stops with the refusal.
 //! [`Building::give_front`] goes over any valid item, whose parts it gives to a [`Sink`], and stops at
-//! what is none, with the refusal but for equal keys. Both hold what is due in each open container
-//! in cells that are made as they are wanted, so that depth that is not used costs nothing. Of equal
-//! keys [`refusal_of`] tells the refusal, in one further walk.
+//! what is none, with the refusal. Both hold what is due in each open container in cells that are made
+//! as they are wanted, so that depth that is not used costs nothing.
 #![tactic(auto)]
 
 mod any_item;
@@ -20,10 +19,12 @@ mod fault;
 mod front;
 mod kinds;
 mod level;
+mod not_canonical;
 mod open;
 mod part;
-mod repeat;
+mod repeated_key;
 mod sink;
+mod skip;
 mod stack;
 mod take;
 mod walk;
@@ -31,6 +32,5 @@ mod within;
 
 pub use building::Building;
 pub use canonical::canonical_front;
-pub use front::Stop;
-pub use repeat::{KeySink, refusal_of};
+pub use not_canonical::NotCanonical;
 pub use sink::Sink;

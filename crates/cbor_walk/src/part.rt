@@ -30,7 +30,9 @@ pub(crate) enum Part<'a> {
     Untaken,
     /// Some chunks of a string: what follows them is no chunk of it.
     Broken,
-    /// No more: memory is refused, or two keys of a map are the same.
+    /// A break, but two keys of the map that it ends are the same. It is still open.
+    Repeated(&'a [u8]),
+    /// No more: memory is refused.
     Stopped,
 }
 
@@ -41,6 +43,7 @@ pub(crate) enum Left {
     Head(usize),
     Untaken,
     Broken,
+    Repeated(usize),
     Stopped,
 }
 
@@ -56,6 +59,7 @@ impl Left {
             Left::Head(count) => Part::Head(&bytes[bytes.len() - count..]),
             Left::Untaken => Part::Untaken,
             Left::Broken => Part::Broken,
+            Left::Repeated(count) => Part::Repeated(&bytes[bytes.len() - count..]),
             Left::Stopped => Part::Stopped,
         }
     }
@@ -71,6 +75,7 @@ impl<'a> Part<'a> {
             Part::Head(behind) => Left::Head(behind.len()),
             Part::Untaken => Left::Untaken,
             Part::Broken => Left::Broken,
+            Part::Repeated(behind) => Left::Repeated(behind.len()),
             Part::Stopped => Left::Stopped,
         }
     }
@@ -86,16 +91,16 @@ impl<'a> Part<'a> {
             Part::Head(behind) => Part::Head(behind),
             Part::Untaken => Part::Untaken,
             Part::Broken => Part::Broken,
+            Part::Repeated(behind) => Part::Repeated(behind),
             Part::Stopped => Part::Stopped,
         }
     }
 }
 
 impl<S> Building<S> {
-    /// Takes what stands in front, but for a key of another kind where kinds are asked for. The loop
-    /// that goes over an item again has one of its own, so that each is part of its loop.
+    /// Takes what stands in front, but for a key of another kind where kinds are asked for.
     #[inline(always)]
-    pub(crate) fn take_part<'a, const KINDS: bool, const AGAIN: bool>(
+    pub(crate) fn take_part<'a, const KINDS: bool>(
         &mut self,
         rest: &'a [u8],
         cells: &mut [Open],
@@ -139,7 +144,7 @@ impl<S> Building<S> {
                 .take_counted(Major::Map, Due::Key, number, behind, cells, depth)
                 .unpacked(),
             6 => {
-                let opened = Open::counted(Due::Item, 0);
+                let opened = Open::counted(Due::Item, 0, behind.len());
                 self.open(Major::Tag, number, opened, behind, cells, depth)
             }
             _ => {
@@ -194,7 +199,7 @@ impl<S> Building<S> {
         ensures front { TakesCountedFront result (depth - self.old.stack.height) major number behind.now }
     {
         if number > 0 {
-            let opened = Open::counted(due, number - 1);
+            let opened = Open::counted(due, number - 1, behind.len());
             return self.open(major, number, opened, behind, cells, depth);
         }
         if self.stack.height >= depth {
@@ -238,9 +243,10 @@ impl<S> Building<S> {
         Part::Head(behind)
     }
 
-    // The innermost container of the sink, a map or not, has no more to come, before these bytes.
+    // The innermost container of the sink, a map or not, is empty, before these bytes. There is no cell
+    // for it; as it has no keys, no two are the same.
     #[inline(always)]
-    pub(crate) fn end<'a>(&mut self, is_map: bool, behind: &'a [u8]) -> Part<'a>
+    fn end<'a>(&mut self, is_map: bool, behind: &'a [u8]) -> Part<'a>
     where
         S: Sink<'a>,
         requires full { IsToEndFor S S.stands S.trusts is_map self.old.sink behind.now }

@@ -1,6 +1,6 @@
 //! What takes the parts of an item.
 
-ghost use Rattle.std.specs.Prelude.{◌≡◌, ◌≤◌, true, false, ℕ, Bool, List, IfOk, IsNone, IsTrue, IsUtf8, OnOk};
+ghost use Rattle.std.specs.Prelude.{◌≡◌, ◌≤◌, true, false, ℕ, Bool, List, IfOk, IfSome, IsNone, IsTrue, IsUtf8, OnOk};
 ghost use Rattle.std.specs.Prelude.{length, take};
 ghost use Rattle.cbor_head.specs.Head.{IsSimple};
 ghost use Rattle.cbor_head.specs.declared.major.Major.TheVariants as majors;
@@ -8,17 +8,17 @@ ghost use Rattle.cbor_builder.specs.Built.{IsLeaf, IsContainer};
 ghost use Rattle.cbor_judging.specs.Levels.{Level, Standing};
 ghost use Rattle.cbor_judging.specs.Reading.{string_value};
 ghost use Rattle.cbor_walk.specs.Sink.{leaf_value, IsItemDue, Gives, Opens};
-ghost use Rattle.cbor_walk.specs.Sink.{IsContainerFull, Ends};
+ghost use Rattle.cbor_walk.specs.Sink.{IsContainerFull, Ends, StaysFull};
 ghost use Rattle.cbor_walk.specs.Sink.{BeginsString, IsChunkDue, GrowsString, EndsString};
-ghost use Rattle.cbor_walk.specs.Sink.{FindsNoRepeat};
+ghost use Rattle.cbor_walk.specs.Sink.{FindsNoRepeat, FindsRepeat};
 
 use cbor_builder::Repeat;
 use cbor_head::Major;
 use std::alloc::AllocError;
 
 /// What takes the parts of a valid item, as a walk over a slice comes to them. Of each item it is
-/// told whether it is a key. After a call was refused memory, or a container ended with equal keys,
-/// it is given nothing more.
+/// told whether it is a key. After a call was refused memory, or a container was to end with two equal
+/// keys, it is given nothing more.
 pub trait Sink<'a> {
     // Where the item stands whose parts it took since the first state.
     ghost stands: { Self → Self → Standing → Type 0 };
@@ -81,15 +81,19 @@ pub trait Sink<'a> {
         requires due { IsItemDue Self stands is_key self.old }
         ensures { OnOk result (Opens Self stands is_key major number self.old self.new) };
 
-    /// The innermost container ends, a map or not. False where two of its keys are equal.
+    /// The innermost container ends, a map or not. False where two of its keys are equal: then it
+    /// stays open.
     fn end(&mut self, is_map: bool) -> Result<bool, AllocError>
         requires full { IsContainerFull Self stands trusts is_map self.old }
-        ensures { IfOk result (λ is_distinct. IsTrue is_distinct
-            → Ends Self stands trusts is_map self.old self.new) };
+        ensures ends { IfOk result (λ is_distinct. IsTrue is_distinct
+            → Ends Self stands trusts is_map self.old self.new) }
+        ensures stays { IfOk result (λ is_distinct. is_distinct ≡ false
+            → StaysFull Self stands trusts is_map self.old self.new) };
 
     /// From the outermost open map in, the first key that is equal to an earlier one of its map. None
-    /// where no two that are complete are equal, whether an item or a chunk is due. What was taken is
-    /// given up.
+    /// where no two that are complete are equal, whether an item or a chunk is due, or a container is
+    /// to end. What was taken is given up.
     fn first_repeat(&mut self) -> Option<Repeat>
-        ensures { IsNone result → trusts ≡ false → FindsNoRepeat Self stands holds self.old };
+        ensures none { IsNone result → trusts ≡ false → FindsNoRepeat Self stands holds self.old }
+        ensures found { IfSome result (FindsRepeat Self stands holds self.old) };
 }

@@ -18,6 +18,9 @@ pub(crate) enum Walked {
     Whole(usize),
     /// It is refused.
     Refused(Refusal),
+    /// It is refused for the key that is due in the innermost container, which does not come behind the
+    /// last one.
+    Falls(Refusal),
     /// More levels are wanted than there are cells. An item is due there.
     Full(usize),
 }
@@ -51,8 +54,9 @@ pub(crate) fn walk<const KINDS: bool>(
                     Next::Item => {}
                     Next::Done => return Walked::Whole(at),
                     Next::Falls => {
+                        // Made whole here: else the compiler keeps its parts in registers at each item.
                         let (place, read) = (stack.top.key as u64, at as u64);
-                        return Walked::Refused(Refusal::new(Reason::KeyOrder, place, read));
+                        return Walked::Falls(Refusal::new(Reason::KeyOrder, place, read));
                     }
                 }
             }

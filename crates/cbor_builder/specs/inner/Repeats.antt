@@ -1,14 +1,14 @@
 -- Spans sorted by their keys, and those of equal keys as they came.
-use Rattle.std.specs.Prelude.{ℕ, ◌+◌, ◌-◌, ◌≡◌, ◌<◌, ◌≤◌, List, length, Option, slice_index_or, MatchOption}
+use Rattle.std.specs.Prelude.{ℕ, ◌+◌, ◌≡◌, ◌<◌, ◌≤◌, List, length, Option, Some, None, IfSome, slice_index_or, MatchOption}
 use Rattle.std.specs.declared.cmp.Ordering.{Ordering}
 use Rattle.std.specs.Ordering.{nat_cmp, then_cmp, on}
 use Rattle.cbor_head.specs.declared.order.KeyOrder.{KeyOrder}
-use Rattle.cbor_builder.specs.Built.{keys_so_far, IsFirstRepeat, AreAllDifferent, AreOpenKeysDifferent, IsRepeatTold}
+use Rattle.cbor_builder.specs.Built.{keys_so_far, open_maps, IsFirstRepeat, AreAllDifferent, AreOpenKeysDifferent, IsRepeatTold}
 use Rattle.cbor_canonical.specs.Parts.{Open}
 use Rattle.cbor_builder.specs.inner.Front.{key_of, rank, ranked_by}
 use Rattle.cbor_buffer.specs.declared.span.Span.{Span}
 use Rattle.cbor_builder.specs.declared.frame.Shape.{Shape}
-use Rattle.cbor_builder.specs.declared.frame.Shape.TheVariants.{Map, Key}
+use Rattle.cbor_builder.specs.declared.frame.Shape.TheVariants.{Plain, Array, Map, Key, Content}
 use Rattle.cbor_builder.specs.declared.repeat.Repeat.{Repeat}
 use Rattle.cbor_buffer.specs.Spans.{no_span}
 
@@ -42,9 +42,34 @@ first_of ss (Map first) = first
 first_of ss (Key first at) = first
 first_of ss s = length ss
 
--- what is answered of what is open, with so much around it
-abbrev pub TellsOf : Open → ℕ → Option Repeat → Type 0
-TellsOf c n r = MatchOption r (AreAllDifferent (keys_so_far c)) (λ (t : Repeat). (t.outside ≡ n - 1) × IsFirstRepeat (keys_so_far c) t.pair)
+-- what is answered of what is open: the pair
+abbrev pub TellsOf : Open → Option ℕ → Type 0
+TellsOf c r = MatchOption r (AreAllDifferent (keys_so_far c)) (IsFirstRepeat (keys_so_far c))
+
+-- one of a map, of another none
+abbrev pub maps_of : Shape → ℕ
+maps_of (Map first) = 1
+maps_of (Key first at) = 1
+maps_of Plain = 0
+maps_of (Array n) = 0
+maps_of (Content m) = 0
+
+-- what is found in one of these, from what is found within it; it has so many maps itself
+abbrev pub outward : Option ℕ → Option Repeat → ℕ → Option Repeat
+outward (Some pair) within maps = Some (record { outside = 0; pair = pair })
+outward None (Some t) maps = Some (record { outside = t.outside + maps; pair = t.pair })
+outward None None maps = None
+
+-- What is found of the whole, where this is still around it: a repeated key in that is told first, and what was found is told with
+-- its maps around it.
+abbrev pub TellsWithin : List Open → List Open → Option Repeat → Type 0
+TellsWithin whole os found =
+    ((outside pair : ℕ) → IsRepeatTold os outside pair → IsRepeatTold whole outside pair)
+    × (AreOpenKeysDifferent os → MatchOption found (AreOpenKeysDifferent whole) (λ (t : Repeat). IsRepeatTold whole (t.outside + open_maps os) t.pair))
+
+-- it is behind at most so many maps
+abbrev pub IsBelow : Option Repeat → ℕ → Type 0
+IsBelow found n = IfSome found (λ (t : Repeat). t.outside ≤ n)
 
 abbrev pub Tells : List Open → Option Repeat → Type 0
 Tells os r = MatchOption r (AreOpenKeysDifferent os) (λ (t : Repeat). IsRepeatTold os t.outside t.pair)

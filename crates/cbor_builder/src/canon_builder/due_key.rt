@@ -1,7 +1,7 @@
-//! The key that is due, or was just completed, held against those before it; which key is repeated.
+//! Whether a key is due, which one waits for its value, and which is repeated.
 
 ghost use Rattle.std.specs.Prelude.{◌≡◌, ◌↔◌, List, ℕ, IsTrue, MatchOption};
-ghost use Rattle.cbor_builder.specs.Built.{AreOpenKeysDifferent, HoldsKey, IsKeyDue, IsKeyDueAt};
+ghost use Rattle.cbor_builder.specs.Built.{AreOpenKeysDifferent, IsKeyDue};
 ghost use Rattle.cbor_builder.specs.Built.{IsRepeatTold, IsRepeatedKey, IsWaitingKey};
 
 use crate::canon_builder::CanonBuilder;
@@ -21,23 +21,6 @@ impl CanonBuilder {
         ensures { IsTrue result ↔ IsKeyDue self.now.standing }
     {
         self.is_sound && self.core.is_key_due()
-    }
-
-    /// Whether a key is due, within as many containers and behind as many pairs of its map as the key
-    /// that is told. Takes no memory.
-    #[inline(always)]
-    pub fn is_due_at(&self, repeat: Repeat) -> bool
-        ensures { IsTrue result ↔ IsKeyDueAt self.now.standing repeat.outside repeat.pair }
-    {
-        self.is_sound && self.core.is_due_at(repeat)
-    }
-
-    /// Whether a key is due, and an earlier one of its map has these canonical bytes. Takes no
-    /// memory, and at most as many comparisons as the map has pairs.
-    pub fn has_key(&self, key: &[u8]) -> bool
-        ensures { IsTrue result ↔ HoldsKey self.now.standing key.now }
-    {
-        self.is_sound && self.core.has_key(key)
     }
 
     /// Whether the part that was just completed is a key that is the same as an earlier key of its

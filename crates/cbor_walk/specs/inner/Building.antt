@@ -1,5 +1,6 @@
 -- What the walk over a valid item holds: of the open containers what is still to come, and a sink that took what is complete.
-use Rattle.std.specs.Prelude.{◌≡◌, ℕ, ◌-◌, ◌^◌, ◌<◌, ◌≤◌, Bool, true, List, [], ◌∷◌, ◌++◌, length}
+use Rattle.std.specs.Prelude.{◌≡◌, ℕ, suc, ◌-◌, ◌^◌, ◌<◌, ◌≤◌, Bool, true, false, List, [], ◌∷◌, ◌++◌, length, take}
+use Rattle.cbor_head.specs.Limits.{Bounds}
 use Rattle.cbor_head.specs.Spelling.{Spelling, spell, IsSpelled, depth}
 use Rattle.cbor_head.specs.declared.keys.Keys.{Keys}
 use Rattle.cbor_head.specs.declared.major.Major.{Major}
@@ -8,13 +9,17 @@ use Rattle.cbor_walk.specs.declared.building.Met.{Met}
 use Rattle.cbor_walk.specs.declared.building.Met.TheVariants as met
 use Rattle.cbor_walk.specs.declared.building.Then.{Then}
 use Rattle.cbor_walk.specs.declared.building.Then.TheVariants as then
+use Rattle.cbor_walk.specs.declared.front.Stop.{Stop}
+use Rattle.cbor_walk.specs.declared.front.Stop.TheVariants as stop
+use Rattle.cbor_walk.specs.inner.Repeated.{IsKeyTold}
 use Rattle.cbor_walk.specs.declared.open.Open.{Open}
 use Rattle.cbor_walk.specs.declared.part.Part.{Part}
 use Rattle.cbor_walk.specs.declared.part.Part.TheVariants as part
-use Rattle.cbor_walk.specs.declared.stack.Stack.{Stack}
+use Rattle.cbor_walk.specs.Front.{IsStop}
 use Rattle.cbor_walk.specs.Sink.{StandsFull, Told, IsWithin}
 use Rattle.cbor_walk.specs.inner.Kept.{KeepsBefore, MetKept}
-use Rattle.cbor_walk.specs.inner.Open.{cells_of}
+use Rattle.cbor_walk.specs.inner.Open.{pairs, full_opener, cells_of}
+use Rattle.cbor_walk.specs.inner.OpenMaps.{HasTakenPairs}
 use Rattle.cbor_walk.specs.inner.Parts.{IsHead, IsOpener}
 
 -- ---- what is known of an input
@@ -23,6 +28,12 @@ use Rattle.cbor_walk.specs.inner.Parts.{IsHead, IsOpener}
 abbrev pub BeginsTaken : ℕ → List ℕ → Type 0
 BeginsTaken d input = (item : Spelling) × (rest : List ℕ) × IsTaken d item × (input ≡ spell item ++ rest)
 
+-- why it begins no item, where these are the bytes within the limits; unless it is known to begin one. Or a key of an open map is
+-- told that is the same as an earlier one.
+abbrev pub IsStopWithin : Bool → Bounds → List ℕ → Stop → Type 0
+IsStopWithin trusts limits input (stop.Refused f) = trusts ≡ false → (bytes : List ℕ) → input ≡ take limits.bytes bytes → IsStop limits bytes f
+IsStopWithin trusts limits input (stop.Repeated behind pair) = IsKeyTold limits input behind pair
+
 -- ---- where the walk stands, before the rest of an input, with a sink that began in its first state
 
 module _ (S : Type 0) (stands : S → S → Standing → Type 0) (trusts : Bool) where
@@ -30,7 +41,7 @@ module _ (S : Type 0) (stands : S → S → Standing → Type 0) (trusts : Bool)
   pub record StandsBefore (given_in : List Level → Type 0) (d : ℕ) (input : List ℕ) (cs : List Open) (rest : List ℕ) : Type 0 where
     pub ls : List Level
     pub levels : AreLevels d ls
-    pub cells : cs ≡ cells_of ls
+    pub cells : cs ≡ cells_of (length input) ls
     pub given : given_in ls
     pub bytes : input ≡ bytes_before ls ++ rest
     pub small : length input < 2 ^ 63
@@ -46,7 +57,7 @@ module _ (S : Type 0) (stands : S → S → Standing → Type 0) (trusts : Bool)
     pub item : Spelling
     pub levels : AreLevels d ls
     pub taken : IsTaken (d - length ls) item
-    pub cells : cs ≡ cells_of ls
+    pub cells : cs ≡ cells_of (length input) ls
     pub given : stands start g (settle ls item)
     pub bytes : input ≡ (bytes_before ls ++ spell item) ++ rest
     pub small : length input < 2 ^ 63
@@ -59,7 +70,7 @@ module _ (S : Type 0) (stands : S → S → Standing → Type 0) (trusts : Bool)
     pub levels : AreLevels d ls
     pub spelled : IsSpelled item
     pub within : depth item ≤ d - length ls
-    pub cells : cs ≡ cells_of ls
+    pub cells : cs ≡ cells_of (length input) ls
     pub given : StandsFull S (Told S stands is_map) d start g ls item
     pub bytes : input ≡ (bytes_before ls ++ spell item) ++ rest
     pub small : length input < 2 ^ 63
@@ -72,10 +83,32 @@ module _ (S : Type 0) (stands : S → S → Standing → Type 0) (trusts : Bool)
     pub given : stands start g (item_whole item)
     pub bytes : input ≡ spell item ++ rest
 
-  -- the innermost container is whole, a map or not, where these cells are around it; where none is, the input's item
-  abbrev pub HasFilled : Bool → S → ℕ → List ℕ → List Open → S → List ℕ → Type 0
-  HasFilled is_map start d input [] g rest = IsBuilt start d input g rest
-  HasFilled is_map start d input (c ∷ cs) g rest = IsToEnd is_map start d input (c ∷ cs) g rest
+  -- a container is whole, and is to end in the sink; its cell is still the innermost
+  pub record IsCellFull (start : S) (d : ℕ) (input : List ℕ) (cs : List Open) (g : S) (rest : List ℕ) : Type 0 where
+    pub ls : List Level
+    pub item : Spelling
+    pub levels : AreLevels d ls
+    pub spelled : IsSpelled item
+    pub within : depth item ≤ d - length ls
+    pub complete : HasTakenPairs (d - suc (length ls)) item
+    pub cell : Open
+    pub cells : cs ≡ cell ∷ cells_of (length input) ls
+    pub is_map : Bool
+    pub kind : pairs cell.due ≡ is_map
+    pub begins : cell.behind ≡ length input - length (bytes_before ls ++ full_opener item)
+    pub given : StandsFull S (Told S stands is_map) d start g ls item
+    pub bytes : input ≡ (bytes_before ls ++ spell item) ++ rest
+    pub small : length input < 2 ^ 63
+    pub known : trusts ≡ true → BeginsTaken d input
+
+  -- the container of this cell is whole, where these cells are around it; where none is, the input's item
+  abbrev pub HasFilled : Open → S → ℕ → List ℕ → List Open → S → List ℕ → Type 0
+  HasFilled top start d input [] g rest = IsBuilt start d input g rest
+  HasFilled top start d input (c ∷ cs) g rest = IsCellFull start d input (top ∷ c ∷ cs) g rest
+
+  -- a container was to end, and did not: two keys of a map are the same, and its cell is still the innermost
+  abbrev pub HasRepeats : S → ℕ → List ℕ → List Open → S → List ℕ → Type 0
+  HasRepeats start d input cs g rest = IsCellFull start d input cs g rest
 
   -- ---- what the calls ask for: some input of which this is true
 
@@ -88,8 +121,8 @@ module _ (S : Type 0) (stands : S → S → Standing → Type 0) (trusts : Bool)
   abbrev pub HasEndedIn : List Open → S → Type 0
   HasEndedIn cs g = (start : S) × (d : ℕ) × (input : List ℕ) × (rest : List ℕ) × HasEnded start d input cs g rest
 
-  abbrev pub HasFilledIn : Bool → List Open → S → Type 0
-  HasFilledIn is_map cs g = (start : S) × (d : ℕ) × (input : List ℕ) × (rest : List ℕ) × HasFilled is_map start d input cs g rest
+  abbrev pub HasFilledIn : Open → List Open → S → Type 0
+  HasFilledIn top cs g = (start : S) × (d : ℕ) × (input : List ℕ) × (rest : List ℕ) × HasFilled top start d input cs g rest
 
   abbrev pub IsToEndFor : Bool → S → List ℕ → Type 0
   IsToEndFor is_map g rest = (start : S) × (d : ℕ) × (input : List ℕ) × (cs : List Open) × IsToEnd is_map start d input cs g rest
@@ -124,13 +157,14 @@ module _ (S : Type 0) (stands : S → S → Standing → Type 0) (trusts : Bool)
   abbrev pub LeadsTo : Then → S → ℕ → List ℕ → List ℕ → List Open → S → Type 0
   LeadsTo then.Item start d input rest cs g = IsDue start d input cs g rest
   LeadsTo then.Done start d input rest cs g = IsBuilt start d input g rest
+  LeadsTo then.Repeated start d input rest cs g = HasRepeats start d input cs g rest
   LeadsTo then.Stopped start d input rest cs g = Unit {0}
 
   abbrev pub Leads : Then → List Open → S → List Open → S → Type 0
   Leads result cs g now new = (start : S) (d : ℕ) (input rest : List ℕ) → HasEnded start d input cs g rest → LeadsTo result start d input rest now new
 
-  abbrev pub LeadsFull : Bool → Then → List Open → S → List Open → S → Type 0
-  LeadsFull is_map result cs g now new = (start : S) (d : ℕ) (input rest : List ℕ) → HasFilled is_map start d input cs g rest → LeadsTo result start d input rest now new
+  abbrev pub LeadsFull : Open → Then → List Open → S → List Open → S → Type 0
+  LeadsFull top result cs g now new = (start : S) (d : ℕ) (input rest : List ℕ) → HasFilled top start d input cs g rest → LeadsTo result start d input rest now new
 
   -- where kinds are asked for
   abbrev pub WalksKept : Bool → Met → ℕ → List ℕ → List Open → S → Type 0
@@ -148,6 +182,7 @@ module _ (S : Type 0) (stands : S → S → Standing → Type 0) (trusts : Bool)
     TakesTo (part.Head behind) start d input rest cs g = (length behind.now < length rest) × IsDue start d input cs g behind.now
     TakesTo part.Untaken start d input rest cs g = IsDue start d input cs g rest
     TakesTo part.Broken start d input rest cs g = HasCome start d input cs g rest
+    TakesTo (part.Repeated behind) start d input rest cs g = (length behind.now < length rest) × HasRepeats start d input cs g behind.now
     TakesTo part.Stopped start d input rest cs g = Unit {0}
 
     -- from these cells and this sink to those
@@ -178,13 +213,14 @@ module _ (S : Type 0) (stands : S → S → Standing → Type 0) (trusts : Bool)
     Meets (met.Whole rest) start d input cs g = IsBuilt start d input g rest.now
     Meets (met.Untaken rest) start d input cs g = IsDue start d input cs g rest.now
     Meets (met.Broken rest) start d input cs g = HasCome start d input cs g rest.now
+    Meets (met.Repeated rest) start d input cs g = HasRepeats start d input cs g rest.now
     Meets met.Stopped start d input cs g = Unit {0}
 
     abbrev pub Walks : Met → ℕ → List ℕ → List Open → S → List Open → S → Type 0
     Walks result d rest cs g now new = (start : S) (input : List ℕ) → IsDue start d input cs g rest → Meets result start d input now new
 
-    -- all of it, within the containers of a stack, whatever lies in its cells
-    pub record Passes (result : Met) (start : S) (d : ℕ) (input : List ℕ) (k : Stack Open) (g : S) : Type 0 where
-      pub outer : List Open
-      pub count : length outer ≡ k.height
-      pub meets : Meets result start d input (k.top ∷ outer) g
+  -- ---- the whole
+
+  -- the item ends before these bytes
+  abbrev pub HasPassed : S → Bounds → List ℕ → S → List ℕ → Type 0
+  HasPassed start limits input g rest = IsBuilt start limits.depth input g rest × KeepsBefore limits.depth limits.keys input rest

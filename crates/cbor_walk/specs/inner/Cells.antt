@@ -1,12 +1,13 @@
 -- What the walk holds of the open containers, and what an item that is whole makes of it.
 use Rattle.std.specs.Prelude.{◌≡◌, ◌≢◌, ℕ, ◌+◌, ◌≤◌, Bool, true, false, List, [], ◌∷◌, ◌++◌, length, slice_range}
-use Rattle.cbor_head.specs.Complaint.{strict}
+use Rattle.cbor_head.specs.Complaint.{plain, strict}
 use Rattle.cbor_head.specs.Limits.{Bounds}
 use Rattle.cbor_head.specs.Order.{key_lt}
 use Rattle.cbor_head.specs.Spelling.{Spelling, spell}
 use Rattle.cbor_head.specs.Verdict.{refusal}
 use Rattle.cbor_head.specs.declared.order.KeyOrder.{KeyOrder}
 use Rattle.cbor_head.specs.declared.reason.Reason.TheVariants as reasons
+use Rattle.cbor_head.specs.declared.reason.Refusal.{Refusal}
 use Rattle.cbor_head.specs.declared.width.Width.TheVariants.{Indefinite}
 use Rattle.cbor_keys.specs.Front.{front_of}
 use Rattle.cbor_judging.specs.Kinds.{KeepsToKinds}
@@ -108,9 +109,12 @@ abbrev pub HasClosed : KeyOrder → Bounds → List ℕ → List Level → ℕ �
 HasClosed o limits input [] at = IsWhole o limits input at
 HasClosed o limits input (c ∷ cs) at = HasEndedAt o limits input (c ∷ cs) at
 
--- the refusal of a key that begins there
-abbrev pub Falls : KeyOrder → Bounds → List ℕ → ℕ → ℕ → Type 0
-Falls o limits input place at = HasComplaint (strict o) limits input (refusal reasons.KeyOrder place at)
+-- the key that is due in the map is refused, since it does not come behind the last one; where it has the bytes of that one, the
+-- plain rules refuse it, too
+pub record Falls (o : KeyOrder) (limits : Bounds) (input : List ℕ) (c : Level) (f : Refusal) : Type 0 where
+  pub falls : f.reason ≡ reasons.KeyOrder
+  pub strictly : HasComplaint (strict o) limits input f
+  pub repeated : last_key input c ≡ key_at input c f.read → HasComplaint plain limits input (refusal reasons.RepeatedKey f.place f.read)
 
 -- ---- what the calls do
 
@@ -124,10 +128,10 @@ TakesKey false o input at old new = (new ≡ old) × (old.key ≤ at → IsFront
 abbrev pub Advances : Step → KeyOrder → List ℕ → ℕ → Level → Level → Type 0
 Advances steps.Next o input at old new = (limits : Bounds) (cs : List Level) → HasEndedAt o limits input (old ∷ cs) at → StandsAt o limits input (new ∷ cs) at
 Advances steps.Full o input at old new = (limits : Bounds) (cs : List Level) → HasEndedAt o limits input (old ∷ cs) at → HasClosed o limits input cs at
-Advances steps.Falls o input at old new = (limits : Bounds) (cs : List Level) → HasEndedAt o limits input (old ∷ cs) at → Falls o limits input new.key at
+Advances steps.Falls o input at old new = (limits : Bounds) (cs : List Level) → HasEndedAt o limits input (old ∷ cs) at → Falls o limits input new (refusal reasons.KeyOrder new.key at)
 
 -- from what has ended, that is what is due
 abbrev pub Leads : Next → KeyOrder → List ℕ → ℕ → List Level → Stack Level → List Level → Type 0
 Leads nexts.Item o input at old new cells = (limits : Bounds) → HasClosed o limits input old at → StandsAt o limits input (standing Level new cells) at
 Leads nexts.Done o input at old new cells = (limits : Bounds) → HasClosed o limits input old at → IsWhole o limits input at
-Leads nexts.Falls o input at old new cells = (limits : Bounds) → HasClosed o limits input old at → Falls o limits input new.top.key at
+Leads nexts.Falls o input at old new cells = (limits : Bounds) → HasClosed o limits input old at → Falls o limits input new.top (refusal reasons.KeyOrder new.top.key at)

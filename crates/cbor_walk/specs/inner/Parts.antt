@@ -44,7 +44,7 @@ Counts m due = ⊥
 pub record IsOpener (m : Major) (n : ℕ) (c : Open) (rest behind : List ℕ) : Type 0 where
   pub level : Level
   pub fresh : (d : ℕ) → IsLevel d level
-  pub cell : c ≡ cell_of level
+  pub cell : c ≡ cell_of (length behind) level
   pub opened : IsOpened m n level
   pub some : 0 < length (level_bytes level)
   pub is : rest ≡ level_bytes level ++ behind
@@ -81,6 +81,7 @@ pub record HasBroken (c : Open) (rest behind : List ℕ) : Type 0 where
 abbrev pub TakesFront : Part → ℕ → Open → List ℕ → Type 0
 TakesFront (part.Item behind) d c rest = HasBegun d rest behind.now ⊎ HasBroken c rest behind.now
 TakesFront (part.Head behind) d c rest = HasBegun d rest behind.now
+TakesFront (part.Repeated behind) d c rest = HasBroken c rest behind.now
 TakesFront _ d c rest = Unit {0}
 
 -- within whatever containers
@@ -108,11 +109,13 @@ left_of (part.Item behind) = left.Item (length behind.now)
 left_of (part.Head behind) = left.Head (length behind.now)
 left_of part.Untaken = left.Untaken
 left_of part.Broken = left.Broken
+left_of (part.Repeated behind) = left.Repeated (length behind.now)
 left_of part.Stopped = left.Stopped
 
 abbrev pub LeavesWithin : List ℕ → Left → Type 0
 LeavesWithin bytes (left.Item count) = count ≤ length bytes
 LeavesWithin bytes (left.Head count) = count ≤ length bytes
+LeavesWithin bytes (left.Repeated count) = count ≤ length bytes
 LeavesWithin bytes _ = Unit {0}
 
 -- behind it are so many of these bytes, the last
@@ -121,6 +124,7 @@ Leaves bytes (left.Item count) (part.Item behind) = behind.now ≡ drop (length 
 Leaves bytes (left.Head count) (part.Head behind) = behind.now ≡ drop (length bytes - count) bytes
 Leaves bytes left.Untaken part.Untaken = Unit {0}
 Leaves bytes left.Broken part.Broken = Unit {0}
+Leaves bytes (left.Repeated count) (part.Repeated behind) = behind.now ≡ drop (length bytes - count) bytes
 Leaves bytes left.Stopped part.Stopped = Unit {0}
 Leaves bytes _ _ = ⊥
 

@@ -1,15 +1,17 @@
 -- Why a walk over an item goes no further: what the bytes, all that there are of an input within its limit, have against it.
-use Rattle.std.specs.Prelude.{◌≡◌, ◌≢◌, ℕ, ◌+◌, ◌++◌, ◌⊎◌, List, [], ◌∷◌, length, Some, None}
+use Rattle.std.specs.Prelude.{◌≡◌, ◌≢◌, ℕ, ◌+◌, true, ◌++◌, ◌⊎◌, List, [], ◌∷◌, length, Some, None}
 use Rattle.cbor_head.specs.Beginning.{MayFollow}
-use Rattle.cbor_head.specs.Complaint.{Rules, Complaint, complaint, OfKinds}
+use Rattle.cbor_head.specs.Complaint.{Rules, Complaint, complaint, plain, strict, OfKinds}
 use Rattle.cbor_head.specs.Laws.{StartsWith}
 use Rattle.cbor_head.specs.Limits.{Bounds}
 use Rattle.cbor_head.specs.Spelling.{Spelling}
 use Rattle.cbor_head.specs.Verdict.{IsReasonAt, refusal}
-use Rattle.cbor_head.specs.declared.reason.Reason.TheVariants.{Truncated, TooLong, KeyKind}
+use Rattle.cbor_head.specs.declared.order.KeyOrder as orders
+use Rattle.cbor_head.specs.declared.reason.Reason.TheVariants.{Truncated, TooLong, RepeatedKey, KeyOrder, KeyKind}
 use Rattle.cbor_head.specs.declared.reason.Refusal.{Refusal}
 use Rattle.cbor_judging.specs.Judged.{IsJudged}
 use Rattle.cbor_judging.specs.Kinds.{AsksForKinds, KeepsToKinds}
+use Rattle.cbor_walk.specs.declared.not_canonical.NotCanonical.{NotCanonical}
 
 -- The item that they begin has this complaint first.
 pub record HasComplaint (r : Rules) (limits : Bounds) (b : List ℕ) (f : Refusal) : Type 0 where
@@ -55,6 +57,16 @@ pub record HasOtherKey (r : Rules) (limits : Bounds) (b : List ℕ) (f : Refusal
 
 abbrev pub IsStopped : Rules → Bounds → List ℕ → Refusal → Type 0
 IsStopped r limits b f = HasComplaint r limits b f ⊎ HasBadByte r limits b f ⊎ EndsWithin r limits b f ⊎ HasOtherKey r limits b f
+
+-- The key that does not come behind the one before it is the same, and so the plain rules refuse it, too.
+pub record RepeatsKey (limits : Bounds) (b : List ℕ) (f : Refusal) : Type 0 where
+  pub falls : f.reason ≡ KeyOrder
+  pub plainly : HasComplaint plain limits b (refusal RepeatedKey f.place f.read)
+
+-- The deterministic encoding has this against them; and where it is told that a key repeats the one before it, it does.
+pub record IsRefused (o : orders.KeyOrder) (limits : Bounds) (b : List ℕ) (n : NotCanonical) : Type 0 where
+  pub strictly : IsStopped (strict o) limits b n.refusal
+  pub repeated : n.repeats ≡ true → RepeatsKey limits b n.refusal
 
 -- the end of the input is that of the limit, if it comes there
 pub record IsAnswered (n : ℕ) (b : List ℕ) (f g : Refusal) : Type 0 where

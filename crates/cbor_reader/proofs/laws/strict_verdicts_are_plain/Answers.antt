@@ -1,5 +1,5 @@
-use Rattle.cbor_reader.proofs.OwnAnswers.{strict_is_plain}
+use Rattle.cbor_canonical.proofs.PlainVerdicts.{accepted_plainly, refused_plainly}
 use Rattle.cbor_reader.proofs.laws.strict_verdicts_are_plain.Goals as goal
 
 pub returns : goal.returns
-returns c = strict_is_plain
+returns c = record { accepted = accepted_plainly; refused = refused_plainly }

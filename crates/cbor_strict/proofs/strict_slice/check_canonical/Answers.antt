@@ -1,7 +1,8 @@
-use Rattle.cbor_strict.proofs.SliceFronts.{answers}
+use Rattle.cbor_judging.proofs.CanonicalFronts.{front_read, front_refused}
 use Rattle.cbor_strict.proofs.strict_slice.check_canonical.Goals as goal
 
-pub returns : goal.returns
-returns c =
-    let a = answers c.args.limits c.args.order c.args.bytes.now c.canonical_front.result c.canonical_front.ensures in
-    record { accepted = a.accepted_so; canonical = a.canonical_so; refused = a.refused_so; no_canonical = a.no_canonical }
+pub returns-in-Ok-clause-canonical : goal.returns-in-Ok-clause-canonical
+returns-in-Ok-clause-canonical c = front_read c.args.limits c.args.order c.args.bytes.now c.in-Ok.count c.in-Ok.ensures
+
+pub returns-in-Err-clause-no_canonical : goal.returns-in-Err-clause-no_canonical
+returns-in-Err-clause-no_canonical c = front_refused c.args.limits c.args.order c.args.bytes.now c.in-Err.why.refusal c.in-Err.ensures.strictly

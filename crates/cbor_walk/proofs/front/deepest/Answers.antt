@@ -1,14 +1,33 @@
-use Rattle.cbor_walk.proofs.GivenStops.{lent, passes}
+use Rattle.std.proofs.Common.{◌∙◌, nat_eq, not, refl}
+use Rattle.cbor_walk.specs.declared.building.Met.TheVariants as met
+use Rattle.cbor_walk.specs.declared.open.Open.{Open}
+use Rattle.cbor_walk.specs.inner.Stack.{standing}
+use Rattle.cbor_walk.proofs.GivenStops.{lent, walk-met}
 use Rattle.cbor_walk.proofs.front.deepest.Goals as goal
 
-pub returns-clause-passes : goal.returns-clause-passes
-returns-clause-passes g c = λ start input due.
+pub returns-in-Whole : goal.returns-in-Whole
+returns-in-Whole g c = λ start due.
+    let S = g.row.S.Denot in
+    let stands = g.S.Sink.stands in
+    let trusts = g.S.Sink.trusts in
+    let holds = g.S.Sink.holds in
     let a = c.args in
-    let w = c.walk in
-    passes g.row.S.Denot g.S.Sink.stands g.S.Sink.trusts g.S.Sink.holds start w.result a.depth input w.new.self.stack w.new.cells w.new.self.sink w.ensures.cells
-    (w.ensures.walked start input (lent g.row.S.Denot g.S.Sink.stands g.S.Sink.trusts g.S.Sink.holds start a.depth input a.building.now.stack a.few.now c.lend.new.cells a.building.now.sink a.rest.now c.requires.full c.lend.ensures due))
+    let b = a.building.now in
+    let w = c.walk-met in
+    let due = lent S stands trusts holds start a.limits.depth a.input.now b.stack a.few.now c.lend.new.cells b.sink a.rest.now c.requires.full c.lend.ensures due in
+    walk-met S stands trusts holds start (not (nat_eq g.row.KINDS 0)) a.limits c.from-depth.result a.input.now a.rest.now (met.Whole c.in-Whole.behind) _ b.sink (standing Open w.new.self.stack w.new.cells) w.new.self.sink (c.from-depth.ensures ∙ c.depth.ensures.depth) c.requires.kinds
+    due c.requires.kept c.in-Whole.ensures.walked c.in-Whole.ensures.kept
 
-pub returns-clause-kept : goal.returns-clause-kept
-returns-clause-kept g c = λ kinds keys start input due.
+pub stopped-requires : goal.stopped-requires
+stopped-requires g c =
+    let S = g.row.S.Denot in
+    let stands = g.S.Sink.stands in
+    let trusts = g.S.Sink.trusts in
+    let holds = g.S.Sink.holds in
     let a = c.args in
-    c.walk.ensures.kept kinds keys start input (lent g.row.S.Denot g.S.Sink.stands g.S.Sink.trusts g.S.Sink.holds start a.depth input a.building.now.stack a.few.now c.lend.new.cells a.building.now.sink a.rest.now c.requires.full c.lend.ensures due)
+    let b = a.building.now in
+    let w = c.walk-met in
+    let due = lent S stands trusts holds c.requires.due.0 a.limits.depth a.input.now b.stack a.few.now c.lend.new.cells b.sink a.rest.now c.requires.full c.lend.ensures c.requires.due.1 in
+    let met = walk-met S stands trusts holds c.requires.due.0 (not (nat_eq g.row.KINDS 0)) a.limits c.from-depth.result a.input.now a.rest.now w.result _ b.sink (standing Open w.new.self.stack w.new.cells) w.new.self.sink (c.from-depth.ensures ∙ c.depth.ensures.depth) c.requires.kinds
+    due c.requires.kept w.ensures.walked w.ensures.kept in
+    λ n. ((refl, tt), (w.ensures.cells, ((c.requires.due.0, met.0), (met.1, c.requires.within))))

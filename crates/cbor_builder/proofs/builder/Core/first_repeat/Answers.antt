@@ -1,18 +1,20 @@
-use Rattle.std.proofs.Common.{ℕ, List, ◌∷◌, length, take, take_all, sym, ap, ◌∙◌, subst, arith, Option, None}
-use Rattle.std.specs.Option.{option_or}
+use Rattle.std.proofs.Common.{◌≡◌, ◌+◌, ◌-◌, ◌^◌, ◌<◌, ◌≤◌, ℕ, suc, List, ◌∷◌, length, take, take_all, sym, ap, ◌∙◌, subst, arith}
+use Rattle.std.specs.Prelude.{Option, None, IfSome}
 use Rattle.cbor_builder.specs.inner.BuilderState.{standing, frames, outers}
 use Rattle.cbor_builder.specs.inner.Laid.{opens, outer_spans, shape_open, Laid}
 use Rattle.cbor_buffer.specs.Moved.{meant, IsWhole}
-use Rattle.cbor_builder.specs.inner.Repeats.{Tells, TellsOf}
+use Rattle.cbor_builder.specs.inner.Repeats.{maps_of, outward, TellsWithin, TellsOf, IsBelow}
 use Rattle.cbor_buffer.specs.declared.draft.Draft.{Draft}
+use Rattle.cbor_builder.specs.declared.frame.Frame.{Frame}
 use Rattle.cbor_builder.specs.declared.repeat.Repeat.{Repeat}
 use Rattle.cbor_buffer.proofs.Drafts.{whole_length}
-use Rattle.cbor_builder.proofs.InPlace.{agrees_refl, laid_raw, tells_raw}
-use Rattle.cbor_builder.proofs.OpenRepeats.{tells_first, tells_outward, opens_length, moved, none_left}
+use Rattle.cbor_builder.proofs.InPlace.{agrees_refl, laid_raw, within_raw}
+use Rattle.cbor_builder.proofs.Nesting.{outers_fit}
+use Rattle.cbor_builder.proofs.OpenRepeats.{tells_first, tells_outward, tells_all, maps_more, below_fits, below_outward, below_first, moved}
 use Rattle.cbor_builder.proofs.builder.Core.first_repeat.Goals as goal
 
-pub take_repeat-found-requires-clause-laid : goal.take_repeat-found-requires-clause-laid
-take_repeat-found-requires-clause-laid c =
+pub take_repeat-own-requires-clause-laid : goal.take_repeat-own-requires-clause-laid
+take_repeat-own-requires-clause-laid c =
     let s = c.args.self in
     let raw = s.out.buf in
     let fs = s.top ∷ outers s in
@@ -25,25 +27,26 @@ loop-self-init c =
     let s = c.args.self in
     let raw = s.out.buf in
     let fs = s.top ∷ outers s in
-    let n = c.take_repeat-found.new.self in
-    let e = c.take_repeat-found.ensures in
+    let n = c.take_repeat-own.new.self in
+    let e = c.take_repeat-own.ensures in
     let all = ap (λ (k : ℕ). take k raw) c.len-len.ensures.lies ∙ take_all (length raw) raw (omega arith) in
     let is = c.cut.ensures.meant ∙ all in
     let lies = c.cut.ensures.lies ∙ all in
     let laid = laid_raw s.order raw (meant s.out) s.spans.items fs (whole_length s.out c.requires.laid.0.1) c.requires.laid.0.2 c.requires.laid.0.0 in
     let out = e.meant ∙ ap (take s.top.from) lies in
-    let tells = subst (λ (xs : List ℕ). TellsOf (shape_open xs s.spans.items s.top.start s.top.shape) (length (outers s)) c.take_repeat-found.result) is e.tells in (
+    let tells = subst (λ (xs : List ℕ). TellsOf (shape_open xs s.spans.items s.top.start s.top.shape) c.take_repeat-own.result) is e.tells in (
       moved Laid s.order n.order (take s.top.from raw) (meant n.out) (outer_spans s.spans.items s.top.shape) n.spans.items (outers s) (outers n) e.order out e.spans (e.around) laid.3,
       e.whole,
       e.lies ∙ sym e.meant,
-      (λ r h. tells_raw raw (meant s.out) s.spans.items fs (option_or r c.take_repeat-found.result) c.requires.laid.0.2
-          (tells_first (shape_open raw s.spans.items s.top.start s.top.shape) (opens (take s.top.from raw) (outer_spans s.spans.items s.top.shape) (outers s)) c.take_repeat-found.result r (length (outers s))
-          (sym (opens_length (take s.top.from raw) (outer_spans s.spans.items s.top.shape) (outers s))) tells
-          (moved (λ o out ss fs. Tells (opens out ss fs) r) n.order s.order (meant n.out) (take s.top.from raw) n.spans.items (outer_spans s.spans.items s.top.shape) (outers n) (outers s) (sym e.order) (sym out) (sym e.spans) (sym (e.around)) h))),
+      subst (TellsWithin (standing s) _) (sym c.outward-found.ensures)
+          (moved (λ o out ss fs. TellsWithin (standing s) (opens out ss fs) (outward c.take_repeat-own.result None 0)) s.order n.order (take s.top.from raw) (meant n.out) (outer_spans s.spans.items s.top.shape) n.spans.items (outers s) (outers n) e.order out e.spans e.around
+          (within_raw raw (meant s.out) s.spans.items fs _ _ c.requires.laid.0.2 (tells_first (shape_open raw s.spans.items s.top.start s.top.shape) (opens (take s.top.from raw) (outer_spans s.spans.items s.top.shape) (outers s)) c.take_repeat-own.result tells))),
+      subst (λ (fs : List Frame). length fs ≤ 2 ^ 63) (sym e.around) (outers_fit s),
+      subst (λ (x : Option Repeat). IsBelow x (2 ^ 63 - length (outers n))) (sym c.outward-found.ensures) (below_first c.take_repeat-own.result (2 ^ 63 - length (outers n))),
     )
 
-pub take_repeat-requires-clause-laid : goal.take_repeat-requires-clause-laid
-take_repeat-requires-clause-laid c =
+pub take_repeat-own-requires-in-loop-self-clause-laid : goal.take_repeat-own-requires-in-loop-self-clause-laid
+take_repeat-own-requires-in-loop-self-clause-laid c =
     let s = c.loop-self.self in
     let i = c.loop-self.invariant in
     let b = c.leave.new.self in
@@ -66,23 +69,41 @@ loop-self-preserved c =
     let b = c.leave.new.self in
     let l = c.leave.ensures in
     let f = b.top in
-    let n = c.take_repeat.new.self in
-    let e = c.take_repeat.ensures in
+    let n = c.take_repeat-own-in-loop-self.new.self in
+    let e = c.take_repeat-own-in-loop-self.ensures in
     let t = c.loop-self-test.true in
     let was = ap meant l.out in
     let laid : Laid b.order (meant b.out) b.spans.items (frames b) = moved Laid s.order b.order (meant s.out) (meant b.out) s.spans.items b.spans.items (outers s) (frames b) l.order was l.spans (sym (l.frames t)) i.0 in
-    let out = e.meant ∙ ap (take f.from) (ap (λ (d : Draft). d.buf) l.out ∙ i.2 ∙ sym was) in (
+    let out = e.meant ∙ ap (take f.from) (ap (λ (d : Draft). d.buf) l.out ∙ i.2 ∙ sym was) in
+    let os = opens (take f.from (meant b.out)) (outer_spans b.spans.items f.shape) (outers b) in
+    let count : length (outers s) ≡ suc (length (outers n)) = ap length (l.frames t) ∙ ap (λ (fs : List Frame). suc (length fs)) (sym e.around) in
+    let found = c.outward-found-in-loop-self.ensures ∙ ap (outward c.take_repeat-own-in-loop-self.result c.loop-self.found) c.maps-maps.ensures in
+    let least = i.4 in (
       moved Laid b.order n.order (take f.from (meant b.out)) (meant n.out) (outer_spans b.spans.items f.shape) n.spans.items (outers b) (outers n) e.order out e.spans e.around laid.3,
       e.whole,
       e.lies ∙ sym e.meant,
-      (λ r h. subst (λ (x : Option Repeat). Tells (standing c.args.self) (option_or r x)) (sym c.or-found.ensures)
-          (tells_outward (shape_open (meant b.out) b.spans.items f.start f.shape) (opens (take f.from (meant b.out)) (outer_spans b.spans.items f.shape) (outers b)) c.take_repeat.result c.loop-self.found r (length (outers b)) (standing c.args.self)
-          (sym (opens_length (take f.from (meant b.out)) (outer_spans b.spans.items f.shape) (outers b))) e.tells
-          (λ q k. i.3 q (moved (λ o out ss fs. Tells (opens out ss fs) q) b.order s.order (meant b.out) (meant s.out) b.spans.items s.spans.items (frames b) (outers s) (sym l.order) (sym was) (sym l.spans) (l.frames t) k))
-          (moved (λ o out ss fs. Tells (opens out ss fs) r) n.order b.order (meant n.out) (take f.from (meant b.out)) n.spans.items (outer_spans b.spans.items f.shape) (outers n) (outers b) (sym e.order) (sym out) (sym e.spans) (sym e.around) h))),
+      subst (TellsWithin (standing c.args.self) _) (sym found)
+          (moved (λ o out ss fs. TellsWithin (standing c.args.self) (opens out ss fs) (outward c.take_repeat-own-in-loop-self.result c.loop-self.found (maps_of f.shape))) b.order n.order (take f.from (meant b.out)) (meant n.out) (outer_spans b.spans.items f.shape) n.spans.items (outers b) (outers n) e.order out e.spans e.around
+          (tells_outward (shape_open (meant b.out) b.spans.items f.start f.shape) os (standing c.args.self) c.take_repeat-own-in-loop-self.result c.loop-self.found (maps_of f.shape) e.tells (maps_more (meant b.out) b.spans.items f.start f.shape os)
+          (moved (λ o out ss fs. TellsWithin (standing c.args.self) (opens out ss fs) c.loop-self.found) s.order b.order (meant s.out) (meant b.out) s.spans.items b.spans.items (outers s) (frames b) l.order was l.spans (sym (l.frames t)) i.3))),
+      omega (arith, count, least),
+      subst (λ (x : Option Repeat). IsBelow x (2 ^ 63 - length (outers n))) (sym found)
+          (let more : suc (2 ^ 63 - length (outers s)) ≡ 2 ^ 63 - length (outers n) = omega (arith, count, least) in
+          subst (IsBelow (outward c.take_repeat-own-in-loop-self.result c.loop-self.found (maps_of f.shape))) more (below_outward c.take_repeat-own-in-loop-self.result c.loop-self.found f.shape (2 ^ 63 - length (outers s)) i.5)),
     )
+
+pub outward-found-requires-in-loop-self : goal.outward-found-requires-in-loop-self
+outward-found-requires-in-loop-self c =
+    let s = c.loop-self.self in
+    let i = c.loop-self.invariant in
+    let some : 1 ≤ length (outers s) = omega (arith, ap length (c.leave.ensures.frames c.loop-self-test.true)) in
+    record {
+      fits = subst (λ (n : ℕ). IfSome c.loop-self.found (λ (t : Repeat). t.outside + n < 2 ^ 64)) (sym c.maps-maps.ensures)
+          (below_fits c.loop-self.found c.leave.new.self.top.shape (2 ^ 63 - length (outers s)) (omega (arith, some)) i.5);
+    }
 
 pub returns : goal.returns
 returns c =
     let s = c.loop-self.self in
-    c.loop-self.invariant.3 None (none_left (meant s.out) s.spans.items (outers s) (c.leave.ensures.none c.loop-self-test.false))
+    tells_all (standing c.args.self) c.loop-self.found
+    (subst (λ (fs : List Frame). TellsWithin (standing c.args.self) (opens (meant s.out) s.spans.items fs) c.loop-self.found) (c.leave.ensures.none c.loop-self-test.false) c.loop-self.invariant.3)

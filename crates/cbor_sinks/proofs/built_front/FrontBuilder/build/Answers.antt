@@ -1,8 +1,9 @@
-use Rattle.std.proofs.Common.{◌∙◌, [], ◌∷◌, ap}
+use Rattle.std.proofs.Common.{◌∙◌, [], ◌∷◌, refl, ap}
 use Rattle.cbor_head.specs.Canonical.{canonical}
 use Rattle.cbor_head.specs.Spelling.{value_of}
 use Rattle.cbor_head.specs.declared.order.KeyOrder.{KeyOrder}
 use Rattle.cbor_canonical.specs.Parts.{plain}
+use Rattle.cbor_walk.proofs.FrontStops.{told_at_front}
 use Rattle.cbor_sinks.proofs.built_front.FrontBuilder.build.Goals as goal
 
 pub returns-in-Ok : goal.returns-in-Ok
@@ -18,3 +19,8 @@ returns-in-Ok c =
       no_read = tt;
       memory = tt;
     }
+
+pub returns-in-Err : goal.returns-in-Err
+returns-in-Err c =
+    let told = told_at_front c.args.limits c.args.bytes.now c.in-Err.refusal (c.in-Err.ensures refl) in
+    record { accepted = tt; refused = told.refused; no_read = told.no_read; memory = told.memory }

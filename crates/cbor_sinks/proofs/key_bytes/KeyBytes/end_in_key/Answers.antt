@@ -15,8 +15,8 @@ settle-requires c = λ none.
     let some : suc (old.inside - 1) ≡ old.inside = omega (arith, inside) in
     end-takes c.args.is_map (old.inside - 1) old (record { builder = c.end_if_distinct.new.self; inside = old.inside - 1 }) c.requires.full (c.in_ok-end_if_distinct.ensures.ended c.if-not-branch.false) some none
 
-pub returns : goal.returns
-returns c = λ yes.
+pub returns-clause-ends : goal.returns-clause-ends
+returns-clause-ends c = λ yes.
     let old = c.args.self.now in
     let inside = c.requires.inside in
     let stays = c.in_ok-settle.ensures.inside in

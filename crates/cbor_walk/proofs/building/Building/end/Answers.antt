@@ -1,5 +1,5 @@
 use Rattle.std.proofs.Common.{refl}
-use Rattle.cbor_walk.proofs.GivenParts.{container-full, has-ended}
+use Rattle.cbor_walk.proofs.GivenFull.{container-full, has-ended}
 use Rattle.cbor_walk.specs.inner.Building.{IsToEndFor}
 use Rattle.cbor_walk.proofs.building.Building.end.Goals as goal
 
@@ -10,4 +10,4 @@ end-requires g c =
 
 pub returns-in-Ok-true-clause-ends : goal.returns-in-Ok-true-clause-ends
 returns-in-Ok-true-clause-ends g c = λ start d input cs h.
-    (refl, has-ended g.row.S.Denot g.S.Sink.stands g.S.Sink.trusts start d input c.args.is_map cs c.args.self.now.sink c.end.new.self c.args.behind.now h (c.in-Ok-true.ensures c.in-Ok-true.field-0-test))
+    (refl, has-ended g.row.S.Denot g.S.Sink.stands g.S.Sink.trusts start d input c.args.is_map cs c.args.self.now.sink c.end.new.self c.args.behind.now h (c.in-Ok-true.ensures.ends c.in-Ok-true.field-0-test))

@@ -1,4 +1,5 @@
-use Rattle.std.proofs.Common.{◌≡◌, ◌∙◌, ◌-◌, List, ℕ, take, length, refl, ap, subst}
+use Rattle.std.proofs.Common.{◌≡◌, ◌∙◌, ◌-◌, List, ℕ, take, length, refl, ap, subst, arith}
+use Rattle.std.proofs.lemmas.List.{length-take}
 use Rattle.cbor_head.specs.Spelling.{spell}
 use Rattle.cbor_walk.specs.inner.Building.{IsBuilt}
 use Rattle.cbor_walk.specs.inner.Kept.{KeepsBefore}
@@ -6,7 +7,7 @@ use Rattle.cbor_walk.proofs.GivenParts.{known-begins, front-given}
 use Rattle.cbor_walk.proofs.building.Building.give_front.Goals as goal
 
 pub past_front-requires : goal.past_front-requires
-past_front-requires g c = λ n. (
+past_front-requires g c = λ n. let most = c.bytes.ensures.most in (
   (refl, tt),
   (
     c.new-self.ensures.height,
@@ -14,21 +15,22 @@ past_front-requires g c = λ n. (
       c.new-self.ensures.top ∙ c.counted.ensures,
       (
         c.requires.fresh,
-        λ t. known-begins c.args.limits c.args.bytes.now c.within-input.result.now c.args.limits.depth refl (c.within-input.ensures ∙ ap (λ n. take n c.args.bytes.now) c.bytes.ensures.bytes) (c.requires.known t),
+        (λ t. known-begins c.args.limits c.args.bytes.now c.within-input.result.now c.args.limits.depth refl (c.within-input.ensures ∙ ap (λ n. take n c.args.bytes.now) c.bytes.ensures.bytes) (c.requires.known t), omega (arith, most, ap length c.within-input.ensures, length-take c.bytes.result c.args.bytes.now)),
       ),
     ),
   ),
 )
 
-pub returns-in-Whole : goal.returns-in-Whole
-returns-in-Whole g c =
+pub returns-in-Ok : goal.returns-in-Ok
+returns-in-Ok g c =
     let S = g.row.S.Denot in
     let stands = g.S.Sink.stands in
     let trusts = g.S.Sink.trusts in
     let limits = c.args.limits in
-    let behind = c.in-Whole.behind.now in
+    let behind = c.in-Ok.behind.now in
     let sink = c.past_front.new.building.sink in
     let input : c.within-input.result.now ≡ take limits.bytes c.args.bytes.now = c.within-input.ensures ∙ ap (λ n. take n c.args.bytes.now) c.bytes.ensures.bytes in
-    let h = subst (λ (x : List ℕ). IsBuilt S stands trusts c.args.self.now.sink limits.depth x sink behind) input c.in-Whole.ensures.passes.meets in
-    let keeps = subst (λ (x : List ℕ). KeepsBefore limits.depth limits.keys x behind) input c.in-Whole.ensures.kept (spell h.item) h.bytes in
+    let passed = c.in-Ok.ensures in
+    let h = subst (λ (x : List ℕ). IsBuilt S stands trusts c.args.self.now.sink limits.depth x sink behind) input passed.0 in
+    let keeps = subst (λ (x : List ℕ). KeepsBefore limits.depth limits.keys x behind) input passed.1 (spell h.item) h.bytes in
     front-given S stands trusts c.args.self.now.sink sink limits c.args.bytes.now behind _ h keeps (ap (λ (x : List ℕ). length x - length behind) input)

@@ -1,4 +1,4 @@
-use Rattle.std.proofs.Common.{◌∙◌, ◌∷◌, refl, inl}
+use Rattle.std.proofs.Common.{◌∙◌, ◌∷◌, length, refl, inl}
 use Rattle.cbor_walk.specs.Sink.{leaf_value}
 use Rattle.cbor_walk.specs.inner.Building.{IsHeadDue}
 use Rattle.cbor_walk.proofs.GivenItems.{scalar-head}
@@ -16,7 +16,7 @@ pub returns-in-Ok-clause-takes : goal.returns-in-Ok-clause-takes
 returns-in-Ok-clause-takes g c = λ rest head d outer start input due.
     let top = c.args.self.now.stack.top in
     scalar-ends g.row.S.Denot g.S.Sink.stands g.S.Sink.trusts start d input (top ∷ outer) c.args.self.now.sink rest due c.args.behind.now (leaf_value c.args.major c.args.number) c.leaf.new.self
-    c.is_key.result (c.is_key.ensures ∙ key-awaited due.ls top outer due.cells) (scalar-head c.args.major c.args.number rest c.args.behind.now c.requires.kind head) c.in-Ok.ensures
+    c.is_key.result (c.is_key.ensures ∙ key-awaited (length input) due.ls top outer due.cells) (scalar-head c.args.major c.args.number rest c.args.behind.now c.requires.kind head) c.in-Ok.ensures
 
 pub returns-in-Ok-clause-front : goal.returns-in-Ok-clause-front
 returns-in-Ok-clause-front g c = λ rest head d o.

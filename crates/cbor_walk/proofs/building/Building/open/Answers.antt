@@ -23,7 +23,7 @@ returns-clause-takes g c = λ rest opener start input due.
     let cs = standing Open c.args.self.now.stack c.args.cells.now in
     let room : length due.ls < c.args.depth = omega (arith, c.if-self-depth.false, height-is S stands trusts start c.args.depth input cs sink rest due, standing_count Open c.args.self.now.stack c.args.cells.now c.requires.cells) in
     subst (λ (x : List Open). (length behind < length rest) × IsDue S stands trusts start c.args.depth input x c.begin.new.self behind) (sym c.push.ensures.levels)
-    (opened S stands trusts start c.args.depth input cs sink rest due c.args.major c.args.number c.args.opened behind c.begin.new.self c.is_key.result (c.is_key.ensures ∙ key-awaited due.ls c.args.self.now.stack.top (around Open c.args.self.now.stack c.args.cells.now) due.cells) room opener c.in-Ok.ensures)
+    (opened S stands trusts start c.args.depth input cs sink rest due c.args.major c.args.number c.args.opened behind c.begin.new.self c.is_key.result (c.is_key.ensures ∙ key-awaited (length input) due.ls c.args.self.now.stack.top (around Open c.args.self.now.stack c.args.cells.now) due.cells) room opener c.in-Ok.ensures)
 
 pub returns-clause-front : goal.returns-clause-front
 returns-clause-front g c = λ rest opener o.

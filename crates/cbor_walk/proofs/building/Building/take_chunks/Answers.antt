@@ -52,7 +52,7 @@ chunks-preserved g c =
 pub returns-in-Ok-end_string-clause-takes : goal.returns-in-Ok-end_string-clause-takes
 returns-in-Ok-end_string-clause-takes g c = λ d outer start input due.
     let top = c.args.self.now.stack.top in
-    let told = c.is_key-is_key.ensures ∙ key-awaited due.ls top outer due.cells in
+    let told = c.is_key-is_key.ensures ∙ key-awaited (length input) due.ls top outer due.cells in
     let S = g.row.S.Denot in
     let stands = g.S.Sink.stands in
     let trusts = g.S.Sink.trusts in

@@ -5,7 +5,8 @@ use Rattle.cbor_walk.specs.inner.Parts.{IsOpener}
 use Rattle.cbor_walk.specs.inner.Stack.{around, standing}
 use Rattle.cbor_walk.proofs.GivenItems.{counts-container, head-opens}
 use Rattle.cbor_walk.proofs.GivenKinds.{counted-begun, begun-takes}
-use Rattle.cbor_walk.proofs.GivenParts.{due-item, key-awaited, height-is, empty-ends, ends-takes}
+use Rattle.cbor_walk.proofs.GivenFull.{ends-takes}
+use Rattle.cbor_walk.proofs.GivenParts.{due-item, key-awaited, height-is, empty-ends}
 use Rattle.cbor_walk.proofs.Taking.{standing_count}
 use Rattle.cbor_walk.proofs.building.Building.take_counted.Goals as goal
 
@@ -60,7 +61,7 @@ end-requires g c =
         input,
         cs,
         subst (λ (t : Bool). IsToEnd S stands trusts t start c.args.depth input cs c.begin.new.self c.args.behind.now) (sym c.is_key-2.ensures)
-            (empty-ends S stands trusts start c.args.depth input cs sink head.0 due c.args.major c.args.due c.args.number c.args.behind.now c.begin.new.self c.is_key.result (c.is_key.ensures ∙ key-awaited due.ls c.args.self.now.stack.top (around Open c.args.self.now.stack c.args.cells.now) due.cells) room c.requires.kind (omega (arith, c.if-number-gt0.false)) head.1 c.in-Ok.ensures).1,
+            (empty-ends S stands trusts start c.args.depth input cs sink head.0 due c.args.major c.args.due c.args.number c.args.behind.now c.begin.new.self c.is_key.result (c.is_key.ensures ∙ key-awaited (length input) due.ls c.args.self.now.stack.top (around Open c.args.self.now.stack c.args.cells.now) due.cells) room c.requires.kind (omega (arith, c.if-number-gt0.false)) head.1 c.in-Ok.ensures).1,
       ),
     )
 
@@ -73,7 +74,7 @@ returns-clause-takes g c = λ rest head start input due.
     let sink = c.args.self.now.sink in
     let cs = standing Open c.args.self.now.stack c.args.cells.now in
     let room : length due.ls < c.args.depth = omega (arith, c.if-self-depth.false, height-is S stands trusts start c.args.depth input cs sink rest due, standing_count Open c.args.self.now.stack c.args.cells.now c.requires.cells) in
-    let e = empty-ends S stands trusts start c.args.depth input cs sink rest due c.args.major c.args.due c.args.number c.args.behind.now c.begin.new.self c.is_key.result (c.is_key.ensures ∙ key-awaited due.ls c.args.self.now.stack.top (around Open c.args.self.now.stack c.args.cells.now) due.cells) room c.requires.kind (omega (arith, c.if-number-gt0.false)) head c.in-Ok.ensures in
+    let e = empty-ends S stands trusts start c.args.depth input cs sink rest due c.args.major c.args.due c.args.number c.args.behind.now c.begin.new.self c.is_key.result (c.is_key.ensures ∙ key-awaited (length input) due.ls c.args.self.now.stack.top (around Open c.args.self.now.stack c.args.cells.now) due.cells) room c.requires.kind (omega (arith, c.if-number-gt0.false)) head c.in-Ok.ensures in
     subst (λ s. TakesTo S stands trusts holds c.end.result start c.args.depth input rest (standing Open s c.args.cells.now) c.end.new.self.sink) (sym c.end.ensures.stack)
     (ends-takes S stands trusts start c.args.depth input holds c.end.result cs c.end.new.self.sink rest c.args.behind.now e.0 (c.end.ensures.ends start c.args.depth input cs (subst (λ (t : Bool). IsToEnd S stands trusts t start c.args.depth input cs c.begin.new.self c.args.behind.now) (sym c.is_key-2.ensures) e.1)))
 

@@ -39,7 +39,7 @@ returns-in-Ok-clause-takes g c = λ rest head d outer start input due.
     let whole : take (length behind - size) (drop size behind) ≡ drop size behind = ap (λ n. take n (drop size behind)) (sym (length-drop size behind)) ∙ take-length (drop size behind) in
     subst (λ (x : List ℕ). (length x < length rest) × HasEnded S stands trusts start d input (top ∷ outer) c.string.new.self x) (sym whole)
     (scalar-ends S stands trusts start d input (top ∷ outer) c.args.self.now.sink rest due (drop size behind) (string_value c.args.is_text (take size behind)) c.string.new.self
-    c.is_key-is_key.result (c.is_key-is_key.ensures ∙ key-awaited due.ls top outer due.cells)
+    c.is_key-is_key.result (c.is_key-is_key.ensures ∙ key-awaited (length input) due.ls top outer due.cells)
     (scalar-string c.args.is_text c.args.count size rest behind head c.in-Some.ensures all) c.in-Ok.ensures)
 
 pub returns-in-Ok-clause-front : goal.returns-in-Ok-clause-front

@@ -1,8 +1,8 @@
 use Rattle.std.proofs.Common.{refl}
 use Rattle.cbor_walk.specs.declared.open.Open.{Open}
 use Rattle.cbor_walk.specs.inner.Building.{IsDueIn}
-use Rattle.cbor_walk.specs.inner.Stack.{standing}
-use Rattle.cbor_walk.proofs.GivenKinds.{begun-keeps, item-keeps}
+use Rattle.cbor_walk.specs.inner.Stack.{around, standing}
+use Rattle.cbor_walk.proofs.GivenKinds.{begun-keeps, broken-keeps, item-keeps}
 use Rattle.cbor_walk.proofs.building.Building.walk.Goals as goal
 
 pub parts-smaller-in-Head : goal.parts-smaller-in-Head
@@ -43,6 +43,20 @@ parts-preserved g c =
           item-keeps g.row.S.Denot g.S.Sink.stands g.S.Sink.trusts start c.args.depth input keys p.self.stack p.cells p.self.sink p.rest.now c.in-Item.behind.now before.cells (before.due start input due) c.in-Item.ensures.front
           (c.in-Item.ensures.fits tt kinds) (before.kept kinds keys start input due keeps);
     }
+
+pub returns-in-Repeated-complete-clause-kept : goal.returns-in-Repeated-complete-clause-kept
+returns-in-Repeated-complete-clause-kept g c = λ kinds keys start input due keeps.
+    let p = c.parts in
+    let before = p.invariant in
+    item-keeps g.row.S.Denot g.S.Sink.stands g.S.Sink.trusts start c.args.depth input keys p.self.stack p.cells p.self.sink p.rest.now c.in-Item.behind.now before.cells (before.due start input due) c.in-Item.ensures.front
+    (c.in-Item.ensures.fits tt kinds) (before.kept kinds keys start input due keeps)
+
+pub returns-in-Repeated-clause-kept : goal.returns-in-Repeated-clause-kept
+returns-in-Repeated-clause-kept g c = λ kinds keys start input due keeps.
+    let p = c.parts in
+    let before = p.invariant in
+    broken-keeps g.row.S.Denot g.S.Sink.stands g.S.Sink.trusts start c.args.depth input keys p.self.stack.top (around Open p.self.stack p.cells) p.self.sink p.rest.now c.in-Repeated.behind.now (before.due start input due) c.in-Repeated.ensures.front
+    (before.kept kinds keys start input due keeps)
 
 pub returns-in-Done-clause-kept : goal.returns-in-Done-clause-kept
 returns-in-Done-clause-kept g c = λ kinds keys start input due keeps.

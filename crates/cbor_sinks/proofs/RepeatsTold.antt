@@ -1,0 +1,133 @@
+-- The repeated key that a builder tells of what it holds of an item is the one of all of its open maps.
+use Rattle.std.proofs.Common.{◌≡◌, ℕ, suc, Bool, true, false, List, [], ◌∷◌, ◌++◌, refl, ap, ◌∙◌, subst, inl, inr, arith}
+use Rattle.cbor_builder.specs.Built.{keys_so_far, open_maps, AreOpenKeysDifferent, IsFirstRepeat, IsRepeatTold}
+use Rattle.cbor_builder.specs.declared.repeat.Repeat.{Repeat}
+use Rattle.cbor_canonical.specs.Parts.{Open, plain, an_array, a_map, a_key, a_string}
+use Rattle.cbor_canonical.specs.Parts as parts
+use Rattle.cbor_head.specs.Spelling as spelling
+use Rattle.cbor_head.specs.Spelling.{Spelling}
+use Rattle.cbor_head.specs.declared.order.KeyOrder.{KeyOrder}
+use Rattle.cbor_judging.specs.Given.{level_open, opens, full_open, IsHeldAs, IsNoMap}
+use Rattle.cbor_judging.specs.Levels.{Level}
+use Rattle.cbor_judging.specs.Reading.{string_major}
+use Rattle.cbor_sinks.proofs.KeysApart.{bare-keys, waiting-keys, all-apart}
+use Rattle.cbor_sinks.specs.CanonSink.{sink_stands, sink_holds}
+use Rattle.cbor_sinks.specs.KeyBytes.{in_key, bare_pairs, kept, kept_all, keys_stand, keys_hold}
+use Rattle.cbor_sinks.specs.declared.canonical_sink.CanonicalSink.{CanonicalSink}
+use Rattle.cbor_sinks.specs.declared.key_bytes.KeyBytes.{KeyBytes}
+use Rattle.cbor_walk.specs.Sink.{IsWithin, IsToldIn, FindsRepeat}
+
+-- ---- by the keys of the innermost alone
+
+same-keys-told : (c x : Open) (os : List Open) (outside pair : ℕ) → keys_so_far c ≡ keys_so_far x → IsRepeatTold (c ∷ os) outside pair → IsRepeatTold (x ∷ os) outside pair
+same-keys-told c x os outside pair e (inl h) = inl h
+same-keys-told c x os outside pair e (inr (apart, maps, first)) = inr (apart, maps, subst (λ (ks : List (List ℕ)). IsFirstRepeat ks pair) e first)
+
+-- it has none
+around-told : (c : Open) (os : List Open) (outside pair : ℕ) → keys_so_far c ≡ [] → IsRepeatTold (c ∷ os) outside pair → IsRepeatTold os outside pair
+around-told c os outside pair e (inl h) = h
+around-told c os outside pair e (inr (apart, maps, first)) = let f = subst (λ (ks : List (List ℕ)). IsFirstRepeat ks pair) e first in absurd (omega (arith, f.0.2))
+
+no-map-keys : (c : Open) → IsNoMap c → keys_so_far c ≡ []
+no-map-keys (a_map ps) h = absurd h
+no-map-keys (a_key ps k) h = absurd h
+no-map-keys (plain bs) h = refl
+no-map-keys (an_array n bs) h = refl
+no-map-keys (a_string m bs) h = refl
+
+-- a container of which all was given
+held-keys : (o : KeyOrder) (c : Open) (s : Spelling) → IsHeldAs o c s → keys_so_far c ≡ keys_so_far (full_open o s)
+held-keys o c (spelling.a_map w es) h = ap keys_so_far h
+held-keys o c (spelling.array w ss) h = no-map-keys c h
+held-keys o c (spelling.tag w n s) h = no-map-keys c h
+held-keys o c (spelling.unsigned w n) h = no-map-keys c h
+held-keys o c (spelling.negative w n) h = no-map-keys c h
+held-keys o c (spelling.bytes w bs) h = no-map-keys c h
+held-keys o c (spelling.text w bs) h = no-map-keys c h
+held-keys o c (spelling.byte_chunks cs) h = no-map-keys c h
+held-keys o c (spelling.text_chunks cs) h = no-map-keys c h
+held-keys o c (spelling.simple n) h = no-map-keys c h
+
+full-told : (o : KeyOrder) (c : Open) (s : Spelling) (os : List Open) (outside pair : ℕ) → IsHeldAs o c s → IsRepeatTold (c ∷ os) outside pair → IsRepeatTold (full_open o s ∷ os) outside pair
+full-told o c s os outside pair held = same-keys-told c (full_open o s) os outside pair (held-keys o c s held)
+
+-- ---- by the keys that are kept
+
+more-maps : (c : Open) (os us : List Open) → open_maps os ≡ open_maps us → open_maps (c ∷ os) ≡ open_maps (c ∷ us)
+more-maps (a_map ps) os us e = ap suc e
+more-maps (a_key ps k) os us e = ap suc e
+more-maps (plain bs) os us e = e
+more-maps (an_array n bs) os us e = e
+more-maps (a_string m bs) os us e = e
+
+kept-maps : (t : Bool) (c : Open) (os us : List Open) → open_maps os ≡ open_maps us → open_maps (kept t c os) ≡ open_maps (c ∷ us)
+kept-maps true c os us e = more-maps c os us e
+kept-maps false (a_map ps) os us e = ap suc e
+kept-maps false (a_key ps k) os us e = ap suc e
+kept-maps false (plain bs) os us e = e
+kept-maps false (an_array n bs) os us e = e
+kept-maps false (a_string m bs) os us e = e
+
+all-maps : (o : KeyOrder) (ls : List Level) → open_maps (kept_all o ls) ≡ open_maps (opens o ls)
+all-maps o [] = refl
+all-maps o (l ∷ ls) = kept-maps (in_key ls) (level_open o l) (kept_all o ls) (opens o ls) (all-maps o ls)
+
+module _ (os us : List Open) (outside pair : ℕ) (told : IsRepeatTold os outside pair → IsRepeatTold us outside pair) (apart : AreOpenKeysDifferent os → AreOpenKeysDifferent us) (maps : open_maps os ≡ open_maps us) where
+  more-told : (c x : Open) → keys_so_far c ≡ keys_so_far x → IsRepeatTold (c ∷ os) outside pair → IsRepeatTold (x ∷ us) outside pair
+  more-told c x e (inl h) = inl (told h)
+  more-told c x e (inr (h, n, first)) = inr (apart h, n ∙ maps, subst (λ (ks : List (List ℕ)). IsFirstRepeat ks pair) e first)
+
+  kept-told : (t : Bool) (c : Open) → IsRepeatTold (kept t c os) outside pair → IsRepeatTold (c ∷ us) outside pair
+  kept-told true c h = more-told c c refl h
+  kept-told false (a_map ps) h = more-told (a_map (bare_pairs ps)) (a_map ps) (bare-keys ps) h
+  kept-told false (a_key ps k) h = more-told (a_map (bare_pairs ps ++ parts.pair k [] ∷ [])) (a_key ps k) (waiting-keys ps k) h
+  kept-told false (plain bs) h = inl (told h)
+  kept-told false (an_array n bs) h = inl (told h)
+  kept-told false (a_string m bs) h = inl (told h)
+
+all-told : (o : KeyOrder) (ls : List Level) (outside pair : ℕ) → IsRepeatTold (kept_all o ls) outside pair → IsRepeatTold (opens o ls) outside pair
+all-told o [] outside pair h = h
+all-told o (l ∷ ls) outside pair h = kept-told (kept_all o ls) (opens o ls) outside pair (all-told o ls outside pair) (all-apart o ls) (all-maps o ls) (in_key ls) (level_open o l) h
+
+-- with another open within
+within-told : (o : KeyOrder) (ls : List Level) (c : Open) (outside pair : ℕ) → IsRepeatTold (kept (in_key ls) c (kept_all o ls)) outside pair → IsRepeatTold (c ∷ opens o ls) outside pair
+within-told o ls c outside pair h = kept-told (kept_all o ls) (opens o ls) outside pair (all-told o ls outside pair) (all-apart o ls) (all-maps o ls) (in_key ls) c h
+
+-- ---- of the sinks
+
+module _ (g : CanonicalSink) (repeat : Repeat) (h : IsRepeatTold g.builder.standing repeat.outside repeat.pair) where
+  abbrev in-canon : List Open → Type 0
+  in-canon os = IsRepeatTold os repeat.outside repeat.pair
+
+  canon-within : (start : CanonicalSink) (ls : List Level) → IsWithin CanonicalSink sink_stands sink_holds start g ls → IsToldIn ls repeat
+  canon-within start ls (inl at) = (start.builder.order, subst in-canon at.1 h)
+  canon-within start ls (inr (is_text, content, at)) =
+      let o = start.builder.order in
+      (o, around-told (a_string (string_major is_text) content) (opens o ls) repeat.outside repeat.pair refl (subst in-canon at.1 h))
+
+  pub canon-finds : FindsRepeat CanonicalSink sink_stands sink_holds g repeat
+  canon-finds = record {
+    within = canon-within;
+    full = λ start ls s at.
+        let o = start.builder.order in
+        (o, full-told o at.1.1 s (opens o ls) repeat.outside repeat.pair at.1.2.held (subst in-canon at.1.3 h));
+  }
+
+module _ (g : KeyBytes) (repeat : Repeat) (h : IsRepeatTold g.builder.standing repeat.outside repeat.pair) where
+  abbrev in-keys : List Open → Type 0
+  in-keys os = IsRepeatTold os repeat.outside repeat.pair
+
+  keys-within : (start : KeyBytes) (ls : List Level) → IsWithin KeyBytes keys_stand keys_hold start g ls → IsToldIn ls repeat
+  keys-within start ls (inl at) = (g.builder.order, all-told g.builder.order ls repeat.outside repeat.pair (subst in-keys at.0 h))
+  keys-within start ls (inr (is_text, content, at)) =
+      let o = g.builder.order in
+      let c = a_string (string_major is_text) content in
+      (o, around-told c (opens o ls) repeat.outside repeat.pair refl (within-told o ls c repeat.outside repeat.pair (subst in-keys at.0 h)))
+
+  pub keys-find : FindsRepeat KeyBytes keys_stand keys_hold g repeat
+  keys-find = record {
+    within = keys-within;
+    full = λ start ls s at.
+        let o = g.builder.order in
+        (o, full-told o at.1 s (opens o ls) repeat.outside repeat.pair at.2.held (within-told o ls at.1 repeat.outside repeat.pair (subst in-keys at.4 h)));
+  }

@@ -1,0 +1,22 @@
+use Rattle.std.proofs.Common.{◌∙◌, [], ◌∷◌, refl, ap}
+use Rattle.cbor_head.specs.Canonical.{canonical}
+use Rattle.cbor_head.specs.Spelling.{value_of}
+use Rattle.cbor_head.specs.declared.order.KeyOrder.{KeyOrder}
+use Rattle.cbor_canonical.specs.Parts.{plain}
+use Rattle.cbor_sinks.specs.declared.canonical_sink.CanonicalSink.{CanonicalSink}
+use Rattle.cbor_walk.proofs.FrontStops.{told_at_front}
+use Rattle.cbor_sinks.proofs.built_front.build_front.Goals as goal
+
+pub returns-in-Ok-clause-accepted : goal.returns-in-Ok-clause-accepted
+returns-in-Ok-clause-accepted c =
+    let h = c.in-Ok.ensures in
+    let v = value_of h.read.item in
+    record {
+      read = h.read;
+      canonical_is = c.finish.ensures.bytes (canonical c.args.order v) (h.whole.1 ∙ ap (λ (o : KeyOrder). plain (canonical o v) ∷ []) (ap (λ (s : CanonicalSink). s.builder.order) c.new-building.ensures ∙ c.new.ensures.order));
+    }
+
+pub returns-in-Err : goal.returns-in-Err
+returns-in-Err c =
+    let told = told_at_front c.args.limits c.args.bytes.now c.in-Err.refusal (c.in-Err.ensures refl) in
+    record { accepted = tt; refused = told.refused; no_read = told.no_read; memory = told.memory }

@@ -1,0 +1,34 @@
+-- What the refusal tells where a walk over the item at the front of an input stops.
+use Rattle.std.proofs.Common.{◌≢◌, ℕ, List, take, refl, sym, ap, subst, inl, inr, arith}
+use Rattle.cbor_head.specs.Complaint.{plain}
+use Rattle.cbor_head.specs.Limits.{Bounds}
+use Rattle.cbor_head.specs.declared.reason.Reason.{Reason}
+use Rattle.cbor_head.specs.declared.reason.Reason.TheVariants.{Read}
+use Rattle.cbor_head.specs.declared.reason.Refusal.{Refusal}
+use Rattle.cbor_judging.specs.Readers.{IsUnread, of_verdict, of_memory, TellsMemoryAtFront}
+use Rattle.cbor_judging.specs.Refusals.{IsReaderReason}
+use Rattle.cbor_judging.proofs.Reasons.{never-read, never-memory, verdict-reason}
+use Rattle.cbor_judging.proofs.SpelledBytes.{longest_always}
+use Rattle.cbor_walk.specs.Front.{IsStop}
+
+pub record IsToldAtFront (limits : Bounds) (input : List ℕ) (f : Refusal) : Type 0 where
+  pub refused : IsUnread limits plain input f
+  pub reason : IsReaderReason limits plain f.reason
+  pub no_read : f.reason ≢ Read
+  pub memory : TellsMemoryAtFront f
+
+pub told_at_front : (limits : Bounds) (input : List ℕ) (f : Refusal) → IsStop limits input f → IsToldAtFront limits input f
+told_at_front limits input f (inl v) = record {
+  refused = of_verdict v;
+  reason = elim (verdict-reason limits plain input f v) [ inl h ↦ inl h | inr h ↦ inr (inl h) ];
+  no_read = never-read limits plain input f v;
+  memory = λ e. absurd (never-memory limits plain input f v e);
+}
+told_at_front limits input f (inr is) =
+    let (p, longest) = longest_always limits.depth (take limits.bytes input) in
+    let because = ap (λ (g : Refusal). g.reason) is in record {
+      refused = subst (IsUnread limits plain input) (sym is) (of_memory p longest (omega arith) refl (λ s c starts complains. omega arith));
+      reason = subst (IsReaderReason limits plain) (sym because) (inr (inr (inr refl)));
+      no_read = subst (λ (r : Reason). r ≢ Read) (sym because) (λ e. cc e);
+      memory = λ e. is;
+    }

@@ -1,0 +1,230 @@
+-- The open map with a key that is the same as an earlier one, and the verdict.
+use Rattle.std.proofs.Common.{◌≡◌, ℕ, suc, ◌+◌, ◌-◌, ◌^◌, ◌<◌, ◌≤◌, Bool, true, List, [], ◌∷◌, ◌++◌, length, take, refl, sym, ap, ◌∙◌, subst, inl, inr, arith, append_assoc, append-nil, ◌⊎◌}
+use Rattle.std.proofs.lemmas.List.{length-append}
+use Rattle.cbor_head.specs.Beginning.{IsBeginning}
+use Rattle.cbor_head.specs.Complaint.{plain, complaint}
+use Rattle.cbor_head.specs.Limits.{Bounds}
+use Rattle.cbor_head.specs.Spelling as spelling
+use Rattle.cbor_head.specs.Spelling.{Spelling, array, a_map, unsigned, spell, IsSpelled, depth}
+use Rattle.cbor_head.specs.Verdict.{IsVerdict, refused, refusal}
+use Rattle.cbor_head.specs.declared.order.KeyOrder.{KeyOrder}
+use Rattle.cbor_head.specs.declared.reason.Reason.TheVariants.{RepeatedKey}
+use Rattle.cbor_head.specs.declared.width.Width.TheVariants.{Direct}
+use Rattle.cbor_automaton.proofs.Beginnings.{shorter}
+use Rattle.cbor_builder.specs.Built.{keys_so_far, IsFirstRepeat, AreOpenKeysDifferent, IsRepeatTold, open_maps}
+use Rattle.cbor_builder.specs.declared.repeat.Repeat.{Repeat}
+use Rattle.cbor_judging.specs.Given.{level_open, opens, full_open}
+use Rattle.cbor_judging.specs.Kinds.{KeepsToKinds, plug_all}
+use Rattle.cbor_judging.specs.Levels.{Level, a_member, a_key, a_value, some_member, some_key, some_value, tagged, level_bytes, AreLevels, bytes_before, Standing}
+use Rattle.cbor_judging.proofs.KindFrames.{spell_along, item_along}
+use Rattle.cbor_judging.proofs.KindSteps.{keeps_front}
+use Rattle.cbor_judging.proofs.LevelFrames.{path, path_length, path_bytes, path_open}
+use Rattle.cbor_walk.specs.Sink.{is_map as its_kind, takes_key, IsEndedAs, Told, StandsFull, IsToldIn, IsToldFull, FindsRepeat}
+use Rattle.cbor_walk.specs.inner.Open.{opener, full_opener}
+use Rattle.cbor_walk.specs.inner.OpenMaps.{HasTakenPairs, is_map_level, map_levels}
+use Rattle.cbor_walk.specs.inner.Repeated.{IsKeyTold}
+use Rattle.cbor_walk.proofs.LevelPaths.{repeat_of_whole}
+use Rattle.cbor_walk.proofs.PathVerdict.{complaint_stops}
+use Rattle.cbor_walk.proofs.Repeats.{repeated_by_bytes}
+use Rattle.cbor_walk.proofs.ToldKeys.{IsKeyIn, key_in_level, key_in_map}
+
+-- ---- the bytes so far are those of a beginning
+
+pub begins_so_far : (d : ℕ) (ls : List Level) (s : Spelling) → AreLevels d ls → IsSpelled s → depth s ≤ d - length ls → IsBeginning d (bytes_before ls ++ spell s)
+begins_so_far d ls s h i l =
+    let open_are = path_open d ls h in
+    let levels = open_are.levels in
+    let fs = path ls in
+    let r = spell_along fs s in
+    let whole = item_along fs s open_are.left open_are.path i (omega (arith, l, levels, path_length ls)) in
+    (plug_all fs s, r.0, record { spelled = whole.0; within = omega (arith, whole.1, levels); bytes_are = r.1 ∙ ap (λ (x : List ℕ). x ++ (spell s ++ r.0)) (path_bytes ls) ∙ sym (append_assoc (bytes_before ls) (spell s) r.0) })
+
+begins_before : (d : ℕ) (ls : List Level) → AreLevels d ls → IsBeginning d (bytes_before ls)
+begins_before d ls h = shorter d (bytes_before ls) (spell (unsigned Direct 0)) (begins_so_far d ls (unsigned Direct 0) h (omega arith) (omega arith))
+
+-- ---- the map
+
+-- of these open containers
+record IsMapTold (o : KeyOrder) (ls : List Level) (outside pair : ℕ) : Type 0 where
+  inner : List Level
+  level : Level
+  outer : List Level
+  splits : ls ≡ inner ++ level ∷ outer
+  outside_is : outside ≡ open_maps (opens o outer)
+  apart : AreOpenKeysDifferent (opens o outer)
+  first : IsFirstRepeat (keys_so_far (level_open o level)) pair
+
+told_in : (o : KeyOrder) (ls : List Level) (outside pair : ℕ) → IsRepeatTold (opens o ls) outside pair → IsMapTold o ls outside pair
+told_in o [] outside pair (inl x) = absurd x
+told_in o [] outside pair (inr x) = absurd (omega (arith, x.2.0.2))
+told_in o (l ∷ ls) outside pair (inl x) =
+    let r = told_in o ls outside pair x in
+    record { inner = l ∷ r.inner; level = r.level; outer = r.outer; splits = ap (λ (ms : List Level). l ∷ ms) r.splits; outside_is = r.outside_is; apart = r.apart; first = r.first }
+told_in o (l ∷ ls) outside pair (inr (apart, is, first)) = record { inner = []; level = l; outer = ls; splits = refl; outside_is = is; apart = apart; first = first }
+
+-- so many of them are maps
+maps_open : (o : KeyOrder) (ls : List Level) → open_maps (opens o ls) ≡ map_levels ls
+maps_open o [] = refl
+maps_open o (a_member w left done ∷ ls) = maps_open o ls
+maps_open o (a_key w left done ∷ ls) = ap suc (maps_open o ls)
+maps_open o (a_value w left done k ∷ ls) = ap suc (maps_open o ls)
+maps_open o (some_member done ∷ ls) = maps_open o ls
+maps_open o (some_key done ∷ ls) = ap suc (maps_open o ls)
+maps_open o (some_value done k ∷ ls) = ap suc (maps_open o ls)
+maps_open o (tagged w n ∷ ls) = maps_open o ls
+
+-- what has equal keys is a map
+is_map : (o : KeyOrder) (l : Level) (pair : ℕ) → IsFirstRepeat (keys_so_far (level_open o l)) pair → is_map_level l ≡ true
+is_map o (a_key w left done) pair h = refl
+is_map o (a_value w left done k) pair h = refl
+is_map o (some_key done) pair h = refl
+is_map o (some_value done k) pair h = refl
+is_map o (a_member w left done) pair h = absurd (omega (arith, h.0.2))
+is_map o (some_member done) pair h = absurd (omega (arith, h.0.2))
+is_map o (tagged w n) pair h = absurd (omega (arith, h.0.2))
+
+outer_levels : (d : ℕ) (inner ls : List Level) → AreLevels d (inner ++ ls) → AreLevels d ls
+outer_levels d [] ls h = h
+outer_levels d (l ∷ inner) ls h = outer_levels d inner ls h.2
+
+outer_bytes : (inner ls : List Level) → (x : List ℕ) × (bytes_before (inner ++ ls) ≡ bytes_before ls ++ x)
+outer_bytes [] ls = ([], sym (append-nil (bytes_before ls)))
+outer_bytes (l ∷ inner) ls = let r = outer_bytes inner ls in (r.0 ++ level_bytes l, ap (λ (x : List ℕ). x ++ level_bytes l) r.1 ∙ append_assoc (bytes_before ls) r.0 (level_bytes l))
+
+-- ---- the key
+
+module _ (limits : Bounds) (input : List ℕ) (small : length input ≤ 2 ^ 62) where
+  -- of a map within these
+  key_told : (o : KeyOrder) (outer : List Level) (opening bytes : List ℕ) (pair : ℕ) (rest : List ℕ) → IsKeyIn o (limits.depth - suc (length outer)) opening bytes pair → length outer < limits.depth → AreLevels limits.depth outer → AreOpenKeysDifferent (opens o outer)
+      → input ≡ (bytes_before outer ++ bytes) ++ rest → IsBeginning limits.depth (bytes_before outer ++ bytes) → KeepsToKinds limits plain (bytes_before outer ++ bytes)
+      → IsKeyTold limits input (length input - length (bytes_before outer ++ opening)) pair
+  key_told o outer opening bytes pair rest k room levels apart e begins keeps =
+      let before = bytes_before outer in
+      let here = level_bytes k.level in
+      let all : before ++ bytes ≡ ((before ++ here) ++ spell k.key) ++ k.more = ap (λ (x : List ℕ). before ++ x) k.bytes_are ∙ sym (append_assoc before here (spell k.key ++ k.more)) ∙ sym (append_assoc (before ++ here) (spell k.key) k.more) in
+      record {
+        level = k.level;
+        outer = outer;
+        levels = (room, k.holds, levels);
+        es = k.es;
+        is_behind = k.is_behind;
+        count = k.count;
+        key = k.key;
+        taken = k.taken;
+        order = o;
+        held = k.held;
+        apart = (k.apart, apart);
+        more = k.more ++ rest;
+        bytes = e ∙ ap (λ (x : List ℕ). x ++ rest) all ∙ append_assoc ((before ++ here) ++ spell k.key) k.more rest ∙ append_assoc (before ++ here) (spell k.key) (k.more ++ rest);
+        small = small;
+        keeps = keeps_front limits plain ((before ++ here) ++ spell k.key) k.more (subst (IsBeginning limits.depth) all begins) (subst (KeepsToKinds limits plain) all keeps);
+        begins = ap (λ (x : List ℕ). length input - length (before ++ x)) (sym k.begins);
+      }
+
+  -- one of these open containers is the map whose key is told
+  pub record IsToldWithin (ls : List Level) (outside pair : ℕ) : Type 0 where
+    pub inner : List Level
+    pub level : Level
+    pub outer : List Level
+    pub splits : ls ≡ inner ++ level ∷ outer
+    pub is_map : is_map_level level ≡ true
+    pub outside_is : outside ≡ map_levels outer
+    pub key : IsKeyTold limits input (length input - length (bytes_before outer ++ opener level)) pair
+
+  -- where an item is due
+  told_here : (ls : List Level) (rest : List ℕ) (o : KeyOrder) (outside pair : ℕ) → AreLevels limits.depth ls → input ≡ bytes_before ls ++ rest → KeepsToKinds limits plain (bytes_before ls) → IsRepeatTold (opens o ls) outside pair → IsToldWithin ls outside pair
+  told_here ls rest o outside pair levels e keeps told =
+      let r = told_in o ls outside pair told in
+      let m = r.level ∷ r.outer in
+      let within : AreLevels limits.depth m = outer_levels limits.depth r.inner m (subst (AreLevels limits.depth) r.splits levels) in
+      let (x, f) = outer_bytes r.inner m in
+      let all : bytes_before ls ≡ bytes_before m ++ x = ap bytes_before r.splits ∙ f in
+      let begins : IsBeginning limits.depth (bytes_before m) = begins_before limits.depth m within in
+      let kept : KeepsToKinds limits plain (bytes_before m) = keeps_front limits plain (bytes_before m) x (subst (IsBeginning limits.depth) all (begins_before limits.depth ls levels)) (subst (KeepsToKinds limits plain) all keeps) in
+      record {
+        inner = r.inner;
+        level = r.level;
+        outer = r.outer;
+        splits = r.splits;
+        is_map = is_map o r.level pair r.first;
+        outside_is = r.outside_is ∙ maps_open o r.outer;
+        key = key_told o r.outer (opener r.level) (level_bytes r.level) pair (x ++ rest) (key_in_level o (limits.depth - suc (length r.outer)) r.level pair within.1 r.first) within.0 within.2 r.apart
+            (e ∙ ap (λ (y : List ℕ). y ++ rest) all ∙ append_assoc (bytes_before m) x rest) begins kept;
+      }
+
+  pub told_within : (ls : List Level) (rest : List ℕ) (repeat : Repeat) → AreLevels limits.depth ls → input ≡ bytes_before ls ++ rest → KeepsToKinds limits plain (bytes_before ls) → IsToldIn ls repeat → IsToldWithin ls repeat.outside repeat.pair
+  told_within ls rest repeat levels e keeps told = told_here ls rest told.0 repeat.outside repeat.pair levels e keeps told.1
+
+  -- this container, which is whole within these, is the map
+  pub record IsToldWhole (ls : List Level) (s : Spelling) (outside pair : ℕ) : Type 0 where
+    pub is_map : its_kind s ≡ true
+    pub outside_is : outside ≡ map_levels ls
+    pub key : IsKeyTold limits input (length input - length (bytes_before ls ++ full_opener s)) pair
+
+  no_keys : (pair : ℕ) → IsFirstRepeat [] pair → {A : Type 0} → A
+  no_keys pair h = absurd (omega (arith, h.0.2))
+
+  whole_told : (ls : List Level) (s : Spelling) (rest : List ℕ) (o : KeyOrder) (outside pair : ℕ) → AreLevels limits.depth ls → IsSpelled s → depth s ≤ limits.depth - length ls → HasTakenPairs (limits.depth - suc (length ls)) s
+      → input ≡ (bytes_before ls ++ spell s) ++ rest → KeepsToKinds limits plain (bytes_before ls ++ spell s) → AreOpenKeysDifferent (opens o ls) → outside ≡ open_maps (opens o ls) → IsFirstRepeat (keys_so_far (full_open o s)) pair → IsToldWhole ls s outside pair
+  whole_told ls (a_map w es) rest o outside pair levels h l taken e keeps apart is first = record {
+    is_map = refl;
+    outside_is = is ∙ maps_open o ls;
+    key = key_told o ls _ (spell (a_map w es)) pair rest (key_in_map o (limits.depth - suc (length ls)) w es pair h.0 taken first) (omega (arith, l)) levels apart e (begins_so_far limits.depth ls (a_map w es) levels h l) keeps;
+  }
+  whole_told ls (array w ss) rest o outside pair levels h l taken e keeps apart is first = no_keys pair first
+  whole_told ls (spelling.tag w n s) rest o outside pair levels h l taken e keeps apart is first = no_keys pair first
+  whole_told ls (unsigned w n) rest o outside pair levels h l taken e keeps apart is first = no_keys pair first
+  whole_told ls (spelling.negative w n) rest o outside pair levels h l taken e keeps apart is first = no_keys pair first
+  whole_told ls (spelling.bytes w bs) rest o outside pair levels h l taken e keeps apart is first = no_keys pair first
+  whole_told ls (spelling.text w bs) rest o outside pair levels h l taken e keeps apart is first = no_keys pair first
+  whole_told ls (spelling.byte_chunks cs) rest o outside pair levels h l taken e keeps apart is first = no_keys pair first
+  whole_told ls (spelling.text_chunks cs) rest o outside pair levels h l taken e keeps apart is first = no_keys pair first
+  whole_told ls (spelling.simple n) rest o outside pair levels h l taken e keeps apart is first = no_keys pair first
+
+  pub told_full : (ls : List Level) (s : Spelling) (rest : List ℕ) (repeat : Repeat) → AreLevels limits.depth ls → IsSpelled s → depth s ≤ limits.depth - length ls → HasTakenPairs (limits.depth - suc (length ls)) s
+      → input ≡ (bytes_before ls ++ spell s) ++ rest → KeepsToKinds limits plain (bytes_before ls ++ spell s) → IsToldFull ls s repeat
+      → IsToldWhole ls s repeat.outside repeat.pair ⊎ IsToldWithin ls repeat.outside repeat.pair
+  told_full ls s rest repeat levels h l taken e keeps (o, inl x) =
+      inr (told_here ls (spell s ++ rest) o repeat.outside repeat.pair levels (e ∙ append_assoc (bytes_before ls) (spell s) rest) (keeps_front limits plain (bytes_before ls) (spell s) (begins_so_far limits.depth ls s levels h l) keeps) x)
+  told_full ls s rest repeat levels h l taken e keeps (o, inr (apart, is, first)) = inl (whole_told ls s rest o repeat.outside repeat.pair levels h l taken e keeps apart is first)
+
+-- where a container without a length is to end, it is as if it were whole
+pub ended_told : (l : Level) (ls : List Level) (s : Spelling) (repeat : Repeat) → IsEndedAs l s → IsToldIn (l ∷ ls) repeat → IsToldFull ls s repeat
+ended_told (some_key done) ls (a_map w es) repeat e told = subst (λ (x : spelling.SpelledEntries). IsToldFull ls (a_map w x) repeat) (sym e) told
+ended_told (some_member done) ls (array w ss) repeat e (o, inl x) = (o, inl x)
+ended_told (some_member done) ls (array w ss) repeat e (o, inr x) = (o, inr x)
+ended_told l ls s repeat e told = absurd e
+
+-- a container that a sink has to end, by what it tells
+module _ (S : Type 0) (stands : S → S → Standing → Type 0) (holds : S → S → List Level → Bool → List ℕ → Type 0) where
+  pub told_to_end : (is_map : Bool) (start g : S) (d : ℕ) (ls : List Level) (s : Spelling) (repeat : Repeat) → StandsFull S (Told S stands is_map) d start g ls s → FindsRepeat S stands holds g repeat → (is_map ≡ its_kind s) × IsToldFull ls s repeat
+  told_to_end is_map start g d ls s repeat (inl (given, kind)) finds = (kind, finds.full start ls s given)
+  told_to_end is_map start g d ls s repeat (inr (l, ended, levels, (given, kind))) finds = (kind ∙ go l s ended, ended_told l ls s repeat ended (finds.within start (l ∷ ls) (inl given)))
+    where
+      go : (l : Level) (s : Spelling) → IsEndedAs l s → takes_key l ≡ its_kind s
+      go (some_key done) (a_map w es) e = refl
+      go (some_member done) (array w ss) e = refl
+      go l s e = absurd e
+
+-- ---- the verdict
+
+pub told_verdict : (limits : Bounds) (input : List ℕ) (behind pair : ℕ) (bytes : List ℕ) → (h : IsKeyTold limits input behind pair) → input ≡ take limits.bytes bytes
+    → IsVerdict limits plain bytes (refused (refusal RepeatedKey (length (bytes_before (h.level ∷ h.outer))) (length (bytes_before (h.level ∷ h.outer)) + length (spell h.key))))
+told_verdict limits input behind pair bytes h within =
+    let before = bytes_before (h.level ∷ h.outer) in
+    let small = h.small in
+    let size = ap length h.bytes in
+    let parts = length-append before (spell h.key ++ h.more) in
+    let behind_it = length-append (spell h.key) h.more in
+    let early : length before < 2 ^ 63 = omega (arith, small, size, parts) in
+    let key_short : length (spell h.key) < 2 ^ 63 = omega (arith, small, size, parts, behind_it) in
+    let repeated = repeated_by_bytes h.order limits.depth (limits.depth - suc (length h.outer)) h.outer h.level h.es h.is_behind h.levels early h.key h.taken key_short h.held in
+    complaint_stops plain limits bytes _ (record {
+      p = before ++ spell h.key;
+      rest = h.more;
+      splits = sym within ∙ h.bytes ∙ sym (append_assoc before (spell h.key) h.more);
+      complaint = complaint (length before + length (spell h.key)) (length before) RepeatedKey;
+      judged = repeat_of_whole h.order limits.depth h.outer h.level h.es h.is_behind h.levels early h.apart h.key h.taken repeated;
+      keeps = h.keeps;
+      is = refl;
+    })

@@ -1,0 +1,12 @@
+use Rattle.std.proofs.Common.{ℕ, subst, arith}
+use Rattle.cbor_walk.specs.inner.Skip.{StandInFront}
+use Rattle.cbor_walk.proofs.Skips.{none_in_front}
+use Rattle.cbor_walk.proofs.skip.past_items.Goals as goal
+
+pub returns-then-count-eq0 : goal.returns-then-count-eq0
+returns-then-count-eq0 c = λ behind h. none_in_front c.args.depth c.args.rest.now c.args.count behind c.if-count-eq0.true h
+
+pub returns-in-Whole : goal.returns-in-Whole
+returns-in-Whole c = λ behind h.
+    let some = c.if-count-eq0.false in
+    c.in-Whole.ensures behind (subst (λ (n : ℕ). StandInFront c.args.depth c.args.rest.now n behind) (omega (arith, some)) h)

@@ -1,0 +1,49 @@
+-- Which of the open containers are maps.
+use Rattle.std.specs.Prelude.{ℕ, suc, ◌≡◌, Bool, true, false, Option, Some, List, [], ◌∷◌, ◌++◌}
+use Rattle.cbor_head.specs.Spelling as spelling
+use Rattle.cbor_head.specs.Spelling.{Spelling, array, a_map}
+use Rattle.cbor_judging.specs.Levels.{Level, a_member, a_key, a_value, some_member, some_key, some_value, tagged, ArePairsTaken}
+use Rattle.cbor_walk.specs.declared.open.Open.{Open}
+use Rattle.cbor_walk.specs.inner.Open.{pairs}
+
+-- the keys and values of a map are taken; two keys may be the same
+abbrev pub HasTakenPairs : ℕ → Spelling → Type 0
+HasTakenPairs d (a_map w es) = ArePairsTaken d es
+HasTakenPairs d (array w ss) = Unit {0}
+HasTakenPairs d (spelling.tag w n s) = Unit {0}
+HasTakenPairs d (spelling.unsigned w n) = Unit {0}
+HasTakenPairs d (spelling.negative w n) = Unit {0}
+HasTakenPairs d (spelling.bytes w bs) = Unit {0}
+HasTakenPairs d (spelling.text w bs) = Unit {0}
+HasTakenPairs d (spelling.byte_chunks cs) = Unit {0}
+HasTakenPairs d (spelling.text_chunks cs) = Unit {0}
+HasTakenPairs d (spelling.simple n) = Unit {0}
+
+-- ---- maps
+
+abbrev pub is_map_level : Level → Bool
+is_map_level (a_member w left done) = false
+is_map_level (a_key w left done) = true
+is_map_level (a_value w left done k) = true
+is_map_level (some_member done) = false
+is_map_level (some_key done) = true
+is_map_level (some_value done k) = true
+is_map_level (tagged w n) = false
+
+abbrev pub counts_one : Bool → ℕ → ℕ
+counts_one true n = suc n
+counts_one false n = n
+
+-- so many of the open containers are maps
+abbrev pub map_levels : List Level → ℕ
+map_levels [] = 0
+map_levels (l ∷ ls) = counts_one (is_map_level l) (map_levels ls)
+
+-- so many of the cells are those of maps
+abbrev pub map_cells : List Open → ℕ
+map_cells [] = 0
+map_cells (c ∷ cs) = counts_one (pairs c.due) (map_cells cs)
+
+-- the cell, in these, of the map around which so many maps are open
+abbrev pub FindsMap : List Open → ℕ → Option Open → Type 0
+FindsMap cells outside found = (inner outer : List Open) (c : Open) → cells ≡ inner ++ c ∷ outer → pairs c.due ≡ true → map_cells outer ≡ outside → found ≡ Some c

@@ -1,0 +1,38 @@
+-- A key of an open map that is the same as an earlier one, by what stands behind the map's head and how many pairs stand before it.
+use Rattle.std.specs.Prelude.{ℕ, suc, ◌≡◌, ◌≤◌, ◌-◌, ◌^◌, ◌++◌, Option, Some, List, ◌∷◌, length}
+use Rattle.cbor_head.specs.Canonical.{canonical, canonical_entries}
+use Rattle.cbor_head.specs.Complaint.{plain}
+use Rattle.cbor_head.specs.Limits.{Bounds}
+use Rattle.cbor_head.specs.Spelling.{Spelling, SpelledEntries, spell, entries_count, value_of, entries_of}
+use Rattle.cbor_head.specs.declared.order.KeyOrder.{KeyOrder}
+use Rattle.cbor_builder.specs.Built.{HasKey, AreOpenKeysDifferent}
+use Rattle.cbor_judging.specs.Given.{opens}
+use Rattle.cbor_judging.specs.Kinds.{KeepsToKinds}
+use Rattle.cbor_judging.specs.Levels.{IsTaken, Level, AreLevels, bytes_before}
+use Rattle.cbor_walk.specs.Sink.{IsKeyBehind}
+use Rattle.cbor_walk.specs.inner.Open.{opener}
+use Rattle.cbor_walk.specs.declared.open.Open.{Open}
+
+-- The input's item has come to a key that has the canonical bytes of an earlier one of its map, as no two keys before it. So many
+-- bytes of the input stand behind the map's head.
+pub record IsKeyTold (limits : Bounds) (input : List ℕ) (behind pair : ℕ) : Type 0 where
+  pub level : Level
+  pub outer : List Level
+  pub levels : AreLevels limits.depth (level ∷ outer)
+  pub es : SpelledEntries
+  pub is_behind : IsKeyBehind level es
+  pub count : entries_count es ≡ pair
+  pub key : Spelling
+  pub taken : IsTaken (limits.depth - suc (length outer)) key
+  pub order : KeyOrder
+  pub held : HasKey (canonical_entries order (entries_of es)) (canonical order (value_of key))
+  pub apart : AreOpenKeysDifferent (opens order (level ∷ outer))
+  pub more : List ℕ
+  pub bytes : input ≡ bytes_before (level ∷ outer) ++ (spell key ++ more)
+  pub small : length input ≤ 2 ^ 62
+  pub keeps : KeepsToKinds limits plain (bytes_before (level ∷ outer) ++ spell key)
+  pub begins : behind ≡ length input - length (bytes_before outer ++ opener level)
+
+-- a cell that is found has what is told of its map's key
+abbrev pub IsCellTold : Bounds → List ℕ → Option Open → ℕ → Type 0
+IsCellTold limits input found pair = (c : Open) × (found ≡ Some c) × IsKeyTold limits input c.behind pair
