@@ -22,8 +22,8 @@ pub struct BuiltFront {
 /// slice begins with (RFC 8949, sections 3, 4.2 and 5.3.1), within the limits; else its refusal.
 ///
 /// It goes over the bytes once, without recursion; where a key is repeated, once more over its map, up
-/// to that key. It is a call of its own, so that what looks for
-/// canonical bytes before it has no room on the stack for the walk.
+/// to that key. It is a call of its own, so that what looks for canonical bytes before it has no room
+/// on the stack for the walk.
 #[inline(never)]
 pub fn build_front(
     alloc: Global,
