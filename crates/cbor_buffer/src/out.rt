@@ -20,8 +20,11 @@ const BLOCK: usize = 32;
 // So many bytes of room lie behind what is written, where the buffer has grown for it.
 const SLACK: usize = 40;
 
-// The buffer grows by so many bytes at least, so that a small item takes memory once,
-const FIRST: usize = 512;
+// The buffer begins with so many bytes at least, so that a small item takes memory once,
+const FIRST: usize = 256;
+
+// grows by so many at least,
+const NEXT: usize = 512;
 
 // and is made longer by as many, or by so many at once: what is to be written soon is in reach then.
 const STEP: usize = 1024;
@@ -289,7 +292,12 @@ fn grow(buf: &mut Vec<u8>, len: usize, n: usize) -> Result<(), AllocError>
     ensures same { take len buf.new.items ≡ take len buf.old.items }
 {
     let size = buf.len();
-    let least = n.max(FIRST) + SLACK;
+    if size == 0 {
+        // Made and filled at once.
+        *buf = Vec::from_elem(*buf.allocator(), 0, n.max(FIRST) + SLACK)?;
+        return Ok(());
+    }
+    let least = n.max(NEXT) + SLACK;
     if buf.capacity() - size < least {
         buf.reserve_exact(least.max(size / 2))?;
     }
