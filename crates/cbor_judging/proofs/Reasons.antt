@@ -76,7 +76,7 @@ pub form-reason : (limits : Bounds) (input : List ℕ) (f : Refusal) → IsVerdi
 form-reason limits input f v = elim (verdict-reason limits form input f v) [ inl h ↦ h | inr (inl h) ↦ absurd (none-by-form f.reason h) | inr (inr h) ↦ absurd (cc h.1) ]
 
 -- no verdict gives a reason that is none of these
-never-given : (limits : Bounds) (r : Rules) (input : List ℕ) (f : Refusal) (x : Reason) → ¬ IsFormReason x → ¬ IsComplaintReason r x → x ≢ KeyKind → IsVerdict limits r input (refused f) → f.reason ≢ x
+pub never-given : (limits : Bounds) (r : Rules) (input : List ℕ) (f : Refusal) (x : Reason) → ¬ IsFormReason x → ¬ IsComplaintReason r x → x ≢ KeyKind → IsVerdict limits r input (refused f) → f.reason ≢ x
 never-given limits r input f x form complaint kind v e = elim (verdict-reason limits r input f v) [
   | inl h ↦ form (subst IsFormReason e h)
   | inr (inl h) ↦ complaint (subst (IsComplaintReason r) e h)

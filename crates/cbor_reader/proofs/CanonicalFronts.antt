@@ -1,21 +1,22 @@
 -- What the look for canonical bytes tells of a valid item.
-use Rattle.std.proofs.Common.{ℕ, ◌≤◌, ◌≢◌, Option, Some, None, List, length, take, sym, ap, ◌∙◌, arith}
-use Rattle.std.specs.Option.{IfSome}
+use Rattle.std.proofs.Common.{ℕ, ◌≤◌, ◌≢◌, List, length, take, sym, ap, ◌∙◌, arith}
+use Rattle.std.specs.Prelude.{Result, Ok, Err, IfOk, IfErr, MatchResult}
 use Rattle.std.proofs.lemmas.List.{length-append}
 use Rattle.std.proofs.Math.Seq.{take-append_seam}
 use Rattle.cbor_head.specs.Canonical.{canonical}
 use Rattle.cbor_head.specs.Complaint.{plain, strict}
 use Rattle.cbor_head.specs.Limits.{Bounds}
 use Rattle.cbor_head.specs.Spelling.{value_of}
-use Rattle.cbor_head.specs.Verdict.{refused, IsVerdict}
 use Rattle.cbor_head.specs.declared.order.KeyOrder.{KeyOrder}
 use Rattle.cbor_head.specs.declared.reason.Reason.TheVariants.{Read, Memory}
 use Rattle.cbor_head.specs.declared.reason.Refusal.{Refusal}
 use Rattle.cbor_canonical.proofs.PlainVerdicts.{accepted_plainly}
-use Rattle.cbor_judging.proofs.CanonicalFronts.{strict_bytes, strict_value}
+use Rattle.cbor_canonical.specs.StrictReasons.{IsStrictReason}
+use Rattle.cbor_judging.proofs.CanonicalFronts.{strict_bytes, strict_value, front_read, front_refused}
 use Rattle.cbor_judging.proofs.Reasons.{never-read, never-memory}
-use Rattle.cbor_judging.specs.Readers.{IsRead, IsCanonicalFront}
+use Rattle.cbor_judging.specs.Readers.{IsRead, IsCanonicalFront, HasNoCanonicalFront}
 use Rattle.cbor_sinks.specs.BuiltFront.{IsBuiltFront}
+use Rattle.cbor_walk.specs.NotCanonical.{IsNotCanonical}
 
 module _ (limits : Bounds) (o : KeyOrder) (input : List ℕ) where
   pub canonical_built : (count : ℕ) → IsRead limits (strict o) input count → IsBuiltFront limits o input (take count input) count
@@ -31,7 +32,24 @@ module _ (limits : Bounds) (o : KeyOrder) (input : List ℕ) where
   pub front_within : (count : ℕ) → IsCanonicalFront limits o input count → count ≤ length input
   front_within count h = omega (arith, h.size, ap length h.begins.begins, length-append (canonical o h.value) h.begins.rest)
 
--- a verdict tells neither that a reader failed nor that memory was refused
-pub some_reason : (limits : Bounds) (input : List ℕ) (told : Option Refusal) → IfSome told (λ f. IsVerdict limits plain input (refused f)) → IfSome told (λ f. (f.reason ≢ Read) × (f.reason ≢ Memory))
-some_reason limits input None h = tt
-some_reason limits input (Some f) h = (never-read limits plain input f h, never-memory limits plain input f h)
+  -- ---- what the look answers
+
+  abbrev IsLook : Result ℕ Refusal → Type 0
+  IsLook r = MatchResult r (λ count. IsRead limits (strict o) input count) (IsNotCanonical limits o input)
+
+  pub looks_built : (r : Result ℕ Refusal) → IsLook r → IfOk r (λ count. IsBuiltFront limits o input (take count input) count)
+  looks_built (Ok count) h = canonical_built count h
+  looks_built (Err f) h = tt
+
+  pub looks_within : (r : Result ℕ Refusal) → IsLook r → IfOk r (λ count. count ≤ length input)
+  looks_within (Ok count) h = front_within count (front_read limits o input count h)
+  looks_within (Err f) h = tt
+
+  -- a verdict tells neither that a reader failed nor that memory was refused
+  pub tells_reason : (r : Result ℕ Refusal) → IsLook r → IfErr r (λ f. ¬ IsStrictReason f.reason → (f.reason ≢ Read) × (f.reason ≢ Memory))
+  tells_reason (Ok count) h = tt
+  tells_reason (Err f) h = λ apart. (let v = h.plainly apart in (never-read limits plain input f v, never-memory limits plain input f v))
+
+  pub finds_none : (r : Result ℕ Refusal) → IsLook r → IfErr r (λ f. HasNoCanonicalFront limits o input)
+  finds_none (Ok count) h = tt
+  finds_none (Err f) h = front_refused limits o input _ h.strictly

@@ -8,7 +8,7 @@ ghost use Rattle.cbor_head.specs.declared.reason.Reason.TheVariants as reasons;
 ghost use Rattle.cbor_judging.specs.Readers.{BeginsWithCanonical, IsUnread, TellsMemoryAtFront};
 ghost use Rattle.cbor_sinks.specs.BuiltFront.{IsBuiltFront};
 
-use crate::first_look::first_look;
+use crate::first_look::{first_look, may_be_valid};
 use cbor_head::{KeyOrder, Limits, Refusal};
 use cbor_sinks::build_front;
 use std::alloc::Global;
@@ -36,8 +36,8 @@ pub fn read_canonical<'a>(
 {
     match first_look(bytes, limits, order) {
         Ok(size) => Ok((CowSlice::Borrowed(&bytes[..size as usize]), size)),
-        Err(Some(refusal)) => Err(refusal),
-        Err(None) => match build_front(alloc, bytes, limits, order) {
+        Err(refusal) if !may_be_valid(&refusal) => Err(refusal),
+        Err(_) => match build_front(alloc, bytes, limits, order) {
             Ok(front) => Ok((CowSlice::Owned(front.canonical), front.size)),
             Err(refusal) => Err(refusal),
         },

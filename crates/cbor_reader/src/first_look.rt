@@ -1,9 +1,10 @@
 //! A look at an item for canonical bytes, before it is built.
 
-ghost use Rattle.std.specs.Prelude.{◌≤◌, ◌≢◌, IfOk, IfErr, IfSome, length, take};
+ghost use Rattle.std.specs.Prelude.{◌≤◌, ◌≢◌, ◌↔◌, IfOk, IfErr, IsTrue, length, take};
 ghost use Rattle.cbor_head.specs.Complaint.{plain};
 ghost use Rattle.cbor_head.specs.Verdict.{IsVerdict, refused};
 ghost use Rattle.cbor_head.specs.declared.reason.Reason.TheVariants as reasons;
+ghost use Rattle.cbor_canonical.specs.StrictReasons.{IsStrictReason};
 ghost use Rattle.cbor_judging.specs.Readers.{HasNoCanonicalFront};
 ghost use Rattle.cbor_sinks.specs.BuiltFront.{IsBuiltFront};
 
@@ -11,26 +12,30 @@ use cbor_head::{KeyOrder, Limits, Reason, Refusal};
 use cbor_walk::canonical_front;
 
 /// How many bytes the item has that the slice begins with, where they are its canonical bytes in this
-/// order; else its refusal, where it is refused whether it has to be canonical or not. Err(None): it
-/// may be valid.
-pub(crate) fn first_look(
-    bytes: &[u8],
-    limits: Limits,
-    order: KeyOrder,
-) -> Result<u64, Option<Refusal>>
+/// order; else why there are none, and, but where it [`may_be_valid`], the item's refusal.
+#[inline(always)]
+pub(crate) fn first_look(bytes: &[u8], limits: Limits, order: KeyOrder) -> Result<u64, Refusal>
     ensures accepted { IfOk result (λ count.
         IsBuiltFront limits order bytes.now (take count bytes.now) count) }
     ensures within { IfOk result (λ count. count ≤ length bytes.now) }
-    ensures refused { IfErr result (λ told.
-        IfSome told (λ f. IsVerdict limits plain bytes.now (refused f))) }
-    ensures reason { IfErr result (λ told.
-        IfSome told (λ f. (f.reason ≢ reasons.Read) × (f.reason ≢ reasons.Memory))) }
+    ensures refused { IfErr result (λ f. ¬ IsStrictReason f.reason
+        → IsVerdict limits plain bytes.now (refused f)) }
+    ensures reason { IfErr result (λ f. ¬ IsStrictReason f.reason
+        → (f.reason ≢ reasons.Read) × (f.reason ≢ reasons.Memory)) }
     ensures no_canonical { IfErr result (λ _. HasNoCanonicalFront limits order bytes.now) }
 {
-    match canonical_front(bytes, limits, order) {
-        Ok(count) => Ok(count),
-        Err(why) => Err(why.plainly()),
-    }
+    canonical_front(bytes, limits, order)
+}
+
+/// Whether what is refused for this reason, since it is not canonical, may be valid.
+#[inline(always)]
+pub(crate) fn may_be_valid(refusal: &Refusal) -> bool
+    ensures { IsTrue result ↔ IsStrictReason refusal.now.reason }
+{
+    matches!(
+        refusal.reason,
+        Reason::NotShortest | Reason::Indefinite | Reason::KeyOrder
+    )
 }
 
 // Behind an item that is not canonical, so many are not looked at so.
@@ -60,12 +65,9 @@ impl FirstLooks {
         false
     }
 
-    /// It was, and it is not canonical, by this refusal. That bytes end within an item says nothing of
-    /// the items behind it.
+    /// It was, and it is not canonical.
     #[inline(always)]
-    pub(crate) fn failed(&mut self, refusal: Refusal) {
-        if refusal.reason != Reason::Truncated {
-            self.pause = PAUSE;
-        }
+    pub(crate) fn failed(&mut self) {
+        self.pause = PAUSE;
     }
 }

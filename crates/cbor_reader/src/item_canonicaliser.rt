@@ -6,10 +6,9 @@ ghost use Rattle.cbor_head.specs.declared.reason.Reason.TheVariants as reasons;
 ghost use Rattle.cbor_judging.specs.Readers.{IsUnread, TellsMemoryAtFront};
 ghost use Rattle.cbor_sinks.specs.BuiltFront.{IsBuiltFront};
 
-use crate::first_look::FirstLooks;
+use crate::first_look::{FirstLooks, first_look, may_be_valid};
 use cbor_head::{KeyOrder, Limits, Refusal};
 use cbor_sinks::FrontBuilder;
-use cbor_strict::check_canonical;
 use std::alloc::Global;
 
 /// Answers the canonical bytes of one item after another, each as
@@ -44,9 +43,10 @@ impl ItemCanonicaliser {
         ensures memory { IfErr result TellsMemoryAtFront }
     {
         if self.looks.is_due() {
-            match check_canonical(bytes, limits, order) {
+            match first_look(bytes, limits, order) {
                 Ok(size) => return Ok((&bytes[..size as usize], size)),
-                Err(refusal) => self.looks.failed(refusal),
+                Err(refusal) if !may_be_valid(&refusal) => return Err(refusal),
+                Err(_) => self.looks.failed(),
             }
         }
         self.fronts.build(bytes, limits, order)

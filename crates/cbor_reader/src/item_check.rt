@@ -7,10 +7,9 @@ ghost use Rattle.cbor_judging.specs.Levels.{item_due};
 ghost use Rattle.cbor_judging.specs.Readers.{IsRead, IsUnread, TellsMemoryAtFront};
 ghost use Rattle.cbor_sinks.specs.KeyBytes.{keys_stand};
 
-use crate::first_look::FirstLooks;
+use crate::first_look::{FirstLooks, first_look, may_be_valid};
 use cbor_head::{KeyOrder, Limits, Refusal};
 use cbor_sinks::KeyBytes;
-use cbor_strict::check_canonical;
 use cbor_walk::Building;
 use std::alloc::Global;
 
@@ -41,9 +40,10 @@ impl ItemCheck {
         ensures memory { IfErr result TellsMemoryAtFront }
     {
         if self.looks.is_due() {
-            match check_canonical(bytes, limits, KeyOrder::Bytewise) {
+            match first_look(bytes, limits, KeyOrder::Bytewise) {
                 Ok(size) => return Ok(size),
-                Err(refusal) => self.looks.failed(refusal),
+                Err(refusal) if !may_be_valid(&refusal) => return Err(refusal),
+                Err(_) => self.looks.failed(),
             }
         }
         self.building.sink.clear();

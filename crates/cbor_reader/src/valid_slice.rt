@@ -5,7 +5,7 @@ ghost use Rattle.cbor_head.specs.Complaint.{plain};
 ghost use Rattle.cbor_head.specs.declared.reason.Reason.TheVariants as reasons;
 ghost use Rattle.cbor_judging.specs.Readers.{IsRead, IsUnread, TellsMemoryAtFront};
 
-use crate::first_look::first_look;
+use crate::first_look::{first_look, may_be_valid};
 use crate::item_check::size_by_keys;
 use cbor_head::{KeyOrder, Limits, Refusal};
 use cbor_sinks::KeyBytes;
@@ -27,8 +27,8 @@ pub fn check_valid(alloc: Global, bytes: &[u8], limits: Limits) -> Result<u64, R
 {
     match first_look(bytes, limits, KeyOrder::Bytewise) {
         Ok(size) => Ok(size),
-        Err(Some(refusal)) => Err(refusal),
-        Err(None) => valid_size(alloc, bytes, limits),
+        Err(refusal) if !may_be_valid(&refusal) => Err(refusal),
+        Err(_) => valid_size(alloc, bytes, limits),
     }
 }
 

@@ -1,11 +1,12 @@
 //! The item at the front of a slice, if it is canonical.
 
-ghost use Rattle.std.specs.Prelude.{IfOk, IfErr};
+ghost use Rattle.std.specs.Prelude.{◌≡◌, IfOk, IfErr};
 ghost use Rattle.cbor_head.specs.Complaint.{strict};
 ghost use Rattle.cbor_head.specs.Verdict.{IsVerdict, refused};
 ghost use Rattle.cbor_judging.specs.Readers.{IsRead, IsCanonicalFront, HasNoCanonicalFront};
+ghost use Rattle.cbor_walk.specs.NotCanonical.{strict_refusal};
 
-use cbor_head::{KeyOrder, Limits, Refusal};
+use cbor_head::{KeyOrder, Limits, Reason, Refusal};
 use cbor_walk::canonical_front;
 
 /// How many bytes the item has that the slice begins with, where they are its canonical bytes in
@@ -23,6 +24,16 @@ pub fn check_canonical(bytes: &[u8], limits: Limits, order: KeyOrder) -> Result<
 {
     match canonical_front(bytes, limits, order) {
         Ok(count) => Ok(count),
-        Err(why) => Err(why.refusal),
+        Err(refusal) => Err(strictly(refusal)),
+    }
+}
+
+// Of keys that do not rise the rules say only that, be they the same or not.
+fn strictly(refusal: Refusal) -> Refusal
+    ensures { result ≡ strict_refusal refusal }
+{
+    match refusal.reason {
+        Reason::RepeatedKey => Refusal::new(Reason::KeyOrder, refusal.place, refusal.read),
+        _ => refusal,
     }
 }

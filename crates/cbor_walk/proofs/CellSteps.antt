@@ -214,20 +214,19 @@ module _ (o : KeyOrder) (limits : Bounds) (input : List ℕ) (at : ℕ) where
           is = ap (λ (n : ℕ). refusal reason n at) (begins_at c cs k) ∙ ap (refusal reason (length here)) end;
         }
 
-    falls : key_lt o (last_key input c) (key_at input c at) ≡ false → Falls o limits input c (refusal reasons.KeyOrder c.key at)
+    falls : key_lt o (last_key input c) (key_at input c at) ≡ false → Falls o limits input c at
     falls below =
         let key = key_bytes_are c cs k in
         let same : key_lt o (last_key input c) (key_at input c at) ≡ key_lt o (keys.last_key k.done) (spell k.item) =
         ap (λ (x : List ℕ). key_lt o x (key_at input c at)) k.is.holds.is ∙ ap (key_lt o (keys.last_key k.done)) key in
         let not_behind : IsTrue (key_lt o (keys.last_key k.done) (spell k.item)) → ⊥ = λ g. true≢false (sym g ∙ sym same ∙ below) in
         record {
-          falls = refl;
           strictly = has_complaint (strict o) reasons.KeyOrder k.keeps (judged_key_path (strict o) limits.depth k.w k.left k.done k.ls k.item _ k.ended
               (key-falls o (length here) k.item (spell k.item) refl (keys_onto [] k.done) (keys.last_key k.done) (last_is k.done) not_behind));
           repeated = λ e. has_complaint plain reasons.RepeatedKey k.keeps (judged_repeat o limits.depth k.w k.left k.done k.ls k.item k.ended (sym k.is.holds.is ∙ e ∙ key));
         }
 
-  pub key_falls : (c new : Level) (cs : List Level) → c.due ≡ Key → TakesKey false o input at c new → HasEndedAt o limits input (c ∷ cs) at → Falls o limits input new (refusal reasons.KeyOrder new.key at)
+  pub key_falls : (c new : Level) (cs : List Level) → c.due ≡ Key → TakesKey false o input at c new → HasEndedAt o limits input (c ∷ cs) at → Falls o limits input new at
   key_falls c new cs due t h =
       let k = key_here c cs due h in
-      subst (λ (l : Level). Falls o limits input l (refusal reasons.KeyOrder l.key at)) (sym t.0) (falls c cs k (t.1 (before_end c cs k) k.is.holds.fronted))
+      subst (λ (l : Level). Falls o limits input l at) (sym t.0) (falls c cs k (t.1 (before_end c cs k) k.is.holds.fronted))

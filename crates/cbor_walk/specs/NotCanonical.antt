@@ -1,13 +1,24 @@
 -- Why a slice begins with no canonical item.
-use Rattle.std.specs.Prelude.{ℕ, ◌≡◌, true, List}
+use Rattle.std.specs.Prelude.{ℕ, List}
 use Rattle.cbor_head.specs.Complaint.{plain, strict}
 use Rattle.cbor_head.specs.Limits.{Bounds}
 use Rattle.cbor_head.specs.Verdict.{IsVerdict, refusal, refused}
-use Rattle.cbor_head.specs.declared.order.KeyOrder.{KeyOrder}
-use Rattle.cbor_head.specs.declared.reason.Reason.TheVariants.{RepeatedKey}
-use Rattle.cbor_walk.specs.declared.not_canonical.NotCanonical.{NotCanonical}
+use Rattle.cbor_head.specs.declared.order.KeyOrder as orders
+use Rattle.cbor_head.specs.declared.reason.Reason.{Reason}
+use Rattle.cbor_head.specs.declared.reason.Reason.TheVariants.{KeyOrder, RepeatedKey}
+use Rattle.cbor_head.specs.declared.reason.Refusal.{Refusal}
+use Rattle.cbor_canonical.specs.StrictReasons.{IsStrictReason}
 
--- the verdict of the strict rules; where a key repeats the one before it, that of the plain rules tells the same key
-pub record IsNotCanonical (limits : Bounds) (o : KeyOrder) (input : List ℕ) (n : NotCanonical) : Type 0 where
-  pub strictly : IsVerdict limits (strict o) input (refused n.refusal)
-  pub repeated : n.repeats ≡ true → IsVerdict limits plain input (refused (refusal RepeatedKey n.refusal.place n.refusal.read))
+-- of keys that do not rise the deterministic encoding says only that, be they the same or not
+abbrev pub strict_reason : Reason → Reason
+strict_reason RepeatedKey = KeyOrder
+strict_reason r = r
+
+abbrev pub strict_refusal : Refusal → Refusal
+strict_refusal f = refusal (strict_reason f.reason) f.place f.read
+
+-- The verdict of the strict rules, but for a key that is the same as the one before it, which is told as repeated; for a reason that
+-- is not one of the deterministic encoding alone, that of the plain rules too.
+pub record IsNotCanonical (limits : Bounds) (o : orders.KeyOrder) (input : List ℕ) (f : Refusal) : Type 0 where
+  pub strictly : IsVerdict limits (strict o) input (refused (strict_refusal f))
+  pub plainly : ¬ IsStrictReason f.reason → IsVerdict limits plain input (refused f)

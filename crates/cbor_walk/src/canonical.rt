@@ -11,19 +11,20 @@ ghost use Rattle.cbor_walk.specs.inner.Walked.{IsFull};
 
 use crate::any_item::{Any, any_item};
 use crate::level::{Due, Level};
-use crate::not_canonical::NotCanonical;
 use crate::stack::{FEW, MOST, SOME, Stack, lend};
 use crate::walk::{Walked, walk};
 use crate::within::within;
 use cbor_head::{KeyOrder, Keys, Limits, Reason, Refusal};
 
 /// How many bytes the item has that the slice begins with, where they are its canonical bytes in
-/// this order (RFC 8949, sections 4.2.1 and 4.2.3); else why there are none.
+/// this order (RFC 8949, sections 4.2.1 and 4.2.3); else the refusal that the bytes within the limits
+/// call for, by the rules of the deterministic encoding: but a key that is the same as the one before
+/// it is a `RepeatedKey`.
 ///
 /// It goes over the bytes once, without recursion, and takes no memory. It is part of what asks for
 /// it, so that no answer is copied.
 #[inline(always)]
-pub fn canonical_front(bytes: &[u8], limits: Limits, order: KeyOrder) -> Result<u64, NotCanonical>
+pub fn canonical_front(bytes: &[u8], limits: Limits, order: KeyOrder) -> Result<u64, Refusal>
     ensures { MatchResult result
         (λ count. IsRead limits (strict order) bytes.now count)
         (IsNotCanonical limits order bytes.now) }
@@ -35,10 +36,7 @@ pub fn canonical_front(bytes: &[u8], limits: Limits, order: KeyOrder) -> Result<
     };
     match front {
         Ok(count) => Ok(count as u64),
-        Err(why) => Err(NotCanonical {
-            refusal: at_the_limit(why.refusal, input, limits.bytes()),
-            repeats: why.repeats,
-        }),
+        Err(refusal) => Err(at_the_limit(refusal, input, limits.bytes())),
     }
 }
 
@@ -60,7 +58,7 @@ fn whole_front<const KINDS: bool>(
     input: &[u8],
     limits: Limits,
     order: KeyOrder,
-) -> Result<usize, NotCanonical>
+) -> Result<usize, Refusal>
     requires { asks limits.keys ≡ KINDS }
     ensures whole { IfOk result (IsWhole order limits input.now) }
     ensures refused { IfErr result (IsRefused order limits input.now) }
@@ -69,7 +67,7 @@ fn whole_front<const KINDS: bool>(
     if !begins_container(input) {
         match any_item(input, 0, limits.depth() > 0) {
             Any::Leaf(used) => return Ok(used),
-            Any::Refused(refusal) => return Err(NotCanonical::new(refusal)),
+            Any::Refused(refusal) => return Err(refusal),
             Any::Opens(..) => {}
         }
     }
@@ -78,8 +76,7 @@ fn whole_front<const KINDS: bool>(
     let mut stack = Stack::new(level);
     match walk::<KINDS>(input, 0, &mut cells, &mut stack, limits, order) {
         Walked::Whole(at) => Ok(at),
-        Walked::Refused(refusal) => Err(NotCanonical::new(refusal)),
-        Walked::Falls(refusal) => Err(NotCanonical::key_falls(input, stack.top, refusal)),
+        Walked::Refused(refusal) => Err(refusal),
         Walked::Full(at) => with_more_cells::<KINDS>(input, at, &cells, stack, limits, order),
     }
 }
@@ -104,7 +101,7 @@ fn with_more_cells<const KINDS: bool>(
     stack: Stack<Level>,
     limits: Limits,
     order: KeyOrder,
-) -> Result<usize, NotCanonical>
+) -> Result<usize, Refusal>
     requires kinds { asks limits.keys ≡ KINDS }
     requires full { IsFull order limits input.now stack few.now at }
     requires few { length few.now ≤ SOME }
@@ -128,7 +125,7 @@ fn deeper<const KINDS: bool>(
     stack: Stack<Level>,
     limits: Limits,
     order: KeyOrder,
-) -> Option<Result<usize, NotCanonical>>
+) -> Option<Result<usize, Refusal>>
     requires kinds { asks limits.keys ≡ KINDS }
     requires full { IsFull order limits input.now stack few.now at }
     requires few { length few.now ≤ SOME }
@@ -141,8 +138,7 @@ fn deeper<const KINDS: bool>(
     let mut stack = stack;
     match walk::<KINDS>(input, at, &mut cells, &mut stack, limits, order) {
         Walked::Whole(at) => Some(Ok(at)),
-        Walked::Refused(refusal) => Some(Err(NotCanonical::new(refusal))),
-        Walked::Falls(refusal) => Some(Err(NotCanonical::key_falls(input, stack.top, refusal))),
+        Walked::Refused(refusal) => Some(Err(refusal)),
         Walked::Full(_) => None,
     }
 }
@@ -156,7 +152,7 @@ fn deepest<const KINDS: bool>(
     stack: Stack<Level>,
     limits: Limits,
     order: KeyOrder,
-) -> Result<usize, NotCanonical>
+) -> Result<usize, Refusal>
     requires kinds { asks limits.keys ≡ KINDS }
     requires full { IsFull order limits input.now stack few.now at }
     requires few { length few.now ≤ MOST }
@@ -168,8 +164,7 @@ fn deepest<const KINDS: bool>(
     let mut stack = stack;
     match walk::<KINDS>(input, at, &mut cells, &mut stack, limits, order) {
         Walked::Whole(at) => Ok(at),
-        Walked::Refused(refusal) => Err(NotCanonical::new(refusal)),
-        Walked::Falls(refusal) => Err(NotCanonical::key_falls(input, stack.top, refusal)),
+        Walked::Refused(refusal) => Err(refusal),
         Walked::Full(_) => unreachable!(),
     }
 }

@@ -19,7 +19,6 @@ mod fault;
 mod front;
 mod kinds;
 mod level;
-mod not_canonical;
 mod open;
 mod part;
 mod repeated_key;
@@ -32,5 +31,4 @@ mod within;
 
 pub use building::Building;
 pub use canonical::canonical_front;
-pub use not_canonical::NotCanonical;
 pub use sink::Sink;

@@ -1,15 +1,19 @@
 //! The walk.
 
-ghost use Rattle.std.specs.Prelude.{◌≡◌, ◌≤◌, ◌<◌, ◌+◌, length};
-ghost use Rattle.cbor_walk.specs.inner.Cells.{StandsAt};
+ghost use Rattle.std.specs.Prelude.{◌≡◌, ◌≤◌, length};
+ghost use Rattle.cbor_head.specs.Limits.{Bounds};
+ghost use Rattle.cbor_head.specs.declared.order.KeyOrder as orders;
+ghost use Rattle.cbor_walk.specs.inner.Cells.{Falls, StandsAt};
 ghost use Rattle.cbor_walk.specs.inner.Kept.{asks};
 ghost use Rattle.cbor_walk.specs.inner.Stack.{standing};
+ghost use Rattle.cbor_walk.specs.inner.Stop.{IsRefused};
 ghost use Rattle.cbor_walk.specs.inner.Walked.{IsWalked};
 
 use crate::level::{Level, Next};
 use crate::stack::Stack;
 use crate::take::{Taken, take_next};
 use cbor_head::{KeyOrder, Limits, Reason, Refusal};
+use cbor_keys::part;
 
 /// How a walk ends.
 #[derive(Clone, Copy)]
@@ -18,9 +22,6 @@ pub(crate) enum Walked {
     Whole(usize),
     /// It is refused.
     Refused(Refusal),
-    /// It is refused for the key that is due in the innermost container, which does not come behind the
-    /// last one.
-    Falls(Refusal),
     /// More levels are wanted than there are cells. An item is due there.
     Full(usize),
 }
@@ -53,15 +54,29 @@ pub(crate) fn walk<const KINDS: bool>(
                 match stack.complete(cells, input, order, at) {
                     Next::Item => {}
                     Next::Done => return Walked::Whole(at),
-                    Next::Falls => {
-                        // Made whole here: else the compiler keeps its parts in registers at each item.
-                        let (place, read) = (stack.top.key as u64, at as u64);
-                        return Walked::Falls(Refusal::new(Reason::KeyOrder, place, read));
-                    }
+                    Next::Falls => return Walked::Refused(key_falls(input, &stack.top, at)),
                 }
             }
             Taken::Refused(refusal) => return Walked::Refused(refusal),
             Taken::Full => return Walked::Full(at),
         }
     }
+}
+
+// The refusal of the key that is due in the map and ends there, which does not come behind the last
+// one: it may be the same. It is a call, so that the compiler keeps none of it in registers at each item.
+#[cold]
+#[inline(never)]
+fn key_falls(input: &[u8], map: &Level, at: usize) -> Refusal
+    ensures { (order : orders.KeyOrder) (limits : Bounds) → Falls order limits input.now map.now at
+        → IsRefused order limits input.now result }
+{
+    let last = part(input, map.last, map.last_end);
+    let key = part(input, map.key, at);
+    let reason = if last == key {
+        Reason::RepeatedKey
+    } else {
+        Reason::KeyOrder
+    };
+    Refusal::new(reason, map.key as u64, at as u64)
 }

@@ -7,7 +7,6 @@ use Rattle.cbor_head.specs.Spelling.{Spelling, spell}
 use Rattle.cbor_head.specs.Verdict.{refusal}
 use Rattle.cbor_head.specs.declared.order.KeyOrder.{KeyOrder}
 use Rattle.cbor_head.specs.declared.reason.Reason.TheVariants as reasons
-use Rattle.cbor_head.specs.declared.reason.Refusal.{Refusal}
 use Rattle.cbor_head.specs.declared.width.Width.TheVariants.{Indefinite}
 use Rattle.cbor_keys.specs.Front.{front_of}
 use Rattle.cbor_judging.specs.Kinds.{KeepsToKinds}
@@ -109,12 +108,11 @@ abbrev pub HasClosed : KeyOrder → Bounds → List ℕ → List Level → ℕ �
 HasClosed o limits input [] at = IsWhole o limits input at
 HasClosed o limits input (c ∷ cs) at = HasEndedAt o limits input (c ∷ cs) at
 
--- the key that is due in the map is refused, since it does not come behind the last one; where it has the bytes of that one, the
--- plain rules refuse it, too
-pub record Falls (o : KeyOrder) (limits : Bounds) (input : List ℕ) (c : Level) (f : Refusal) : Type 0 where
-  pub falls : f.reason ≡ reasons.KeyOrder
-  pub strictly : HasComplaint (strict o) limits input f
-  pub repeated : last_key input c ≡ key_at input c f.read → HasComplaint plain limits input (refusal reasons.RepeatedKey f.place f.read)
+-- the key that is due in the map ends there and does not come behind the last one, which is refused; where it has the bytes of that
+-- one, the plain rules refuse it, too
+pub record Falls (o : KeyOrder) (limits : Bounds) (input : List ℕ) (c : Level) (at : ℕ) : Type 0 where
+  pub strictly : HasComplaint (strict o) limits input (refusal reasons.KeyOrder c.key at)
+  pub repeated : last_key input c ≡ key_at input c at → HasComplaint plain limits input (refusal reasons.RepeatedKey c.key at)
 
 -- ---- what the calls do
 
@@ -128,10 +126,10 @@ TakesKey false o input at old new = (new ≡ old) × (old.key ≤ at → IsFront
 abbrev pub Advances : Step → KeyOrder → List ℕ → ℕ → Level → Level → Type 0
 Advances steps.Next o input at old new = (limits : Bounds) (cs : List Level) → HasEndedAt o limits input (old ∷ cs) at → StandsAt o limits input (new ∷ cs) at
 Advances steps.Full o input at old new = (limits : Bounds) (cs : List Level) → HasEndedAt o limits input (old ∷ cs) at → HasClosed o limits input cs at
-Advances steps.Falls o input at old new = (limits : Bounds) (cs : List Level) → HasEndedAt o limits input (old ∷ cs) at → Falls o limits input new (refusal reasons.KeyOrder new.key at)
+Advances steps.Falls o input at old new = (limits : Bounds) (cs : List Level) → HasEndedAt o limits input (old ∷ cs) at → Falls o limits input new at
 
 -- from what has ended, that is what is due
 abbrev pub Leads : Next → KeyOrder → List ℕ → ℕ → List Level → Stack Level → List Level → Type 0
 Leads nexts.Item o input at old new cells = (limits : Bounds) → HasClosed o limits input old at → StandsAt o limits input (standing Level new cells) at
 Leads nexts.Done o input at old new cells = (limits : Bounds) → HasClosed o limits input old at → IsWhole o limits input at
-Leads nexts.Falls o input at old new cells = (limits : Bounds) → HasClosed o limits input old at → Falls o limits input new.top (refusal reasons.KeyOrder new.top.key at)
+Leads nexts.Falls o input at old new cells = (limits : Bounds) → HasClosed o limits input old at → Falls o limits input new.top at

@@ -1,5 +1,5 @@
 -- Why a walk over an item goes no further: what the bytes, all that there are of an input within its limit, have against it.
-use Rattle.std.specs.Prelude.{◌≡◌, ◌≢◌, ℕ, ◌+◌, true, ◌++◌, ◌⊎◌, List, [], ◌∷◌, length, Some, None}
+use Rattle.std.specs.Prelude.{◌≡◌, ◌≢◌, ℕ, ◌+◌, ◌++◌, ◌⊎◌, List, [], ◌∷◌, length, Some, None}
 use Rattle.cbor_head.specs.Beginning.{MayFollow}
 use Rattle.cbor_head.specs.Complaint.{Rules, Complaint, complaint, plain, strict, OfKinds}
 use Rattle.cbor_head.specs.Laws.{StartsWith}
@@ -11,7 +11,6 @@ use Rattle.cbor_head.specs.declared.reason.Reason.TheVariants.{Truncated, TooLon
 use Rattle.cbor_head.specs.declared.reason.Refusal.{Refusal}
 use Rattle.cbor_judging.specs.Judged.{IsJudged}
 use Rattle.cbor_judging.specs.Kinds.{AsksForKinds, KeepsToKinds}
-use Rattle.cbor_walk.specs.declared.not_canonical.NotCanonical.{NotCanonical}
 
 -- The item that they begin has this complaint first.
 pub record HasComplaint (r : Rules) (limits : Bounds) (b : List ℕ) (f : Refusal) : Type 0 where
@@ -58,15 +57,16 @@ pub record HasOtherKey (r : Rules) (limits : Bounds) (b : List ℕ) (f : Refusal
 abbrev pub IsStopped : Rules → Bounds → List ℕ → Refusal → Type 0
 IsStopped r limits b f = HasComplaint r limits b f ⊎ HasBadByte r limits b f ⊎ EndsWithin r limits b f ⊎ HasOtherKey r limits b f
 
--- The key that does not come behind the one before it is the same, and so the plain rules refuse it, too.
-pub record RepeatsKey (limits : Bounds) (b : List ℕ) (f : Refusal) : Type 0 where
-  pub falls : f.reason ≡ KeyOrder
-  pub plainly : HasComplaint plain limits b (refusal RepeatedKey f.place f.read)
+-- A key is the same as the one before it: the deterministic encoding has against it that the keys do not rise, the plain rules that
+-- it is repeated.
+pub record RepeatsKey (o : orders.KeyOrder) (limits : Bounds) (b : List ℕ) (f : Refusal) : Type 0 where
+  pub is : f.reason ≡ RepeatedKey
+  pub strictly : HasComplaint (strict o) limits b (refusal KeyOrder f.place f.read)
+  pub plainly : HasComplaint plain limits b f
 
--- The deterministic encoding has this against them; and where it is told that a key repeats the one before it, it does.
-pub record IsRefused (o : orders.KeyOrder) (limits : Bounds) (b : List ℕ) (n : NotCanonical) : Type 0 where
-  pub strictly : IsStopped (strict o) limits b n.refusal
-  pub repeated : n.repeats ≡ true → RepeatsKey limits b n.refusal
+-- what the deterministic encoding has against them, or that a key is the same as the one before it
+abbrev pub IsRefused : orders.KeyOrder → Bounds → List ℕ → Refusal → Type 0
+IsRefused o limits b f = IsStopped (strict o) limits b f ⊎ RepeatsKey o limits b f
 
 -- the end of the input is that of the limit, if it comes there
 pub record IsAnswered (n : ℕ) (b : List ℕ) (f g : Refusal) : Type 0 where

@@ -4,10 +4,10 @@ use Rattle.cbor_head.specs.Complaint.{strict}
 use Rattle.cbor_head.specs.Limits.{Bounds}
 use Rattle.cbor_head.specs.Value.{AreBytes}
 use Rattle.cbor_head.specs.declared.order.KeyOrder.{KeyOrder}
-use Rattle.cbor_walk.specs.inner.Cells.{StandsAt, HasEndedAt, IsWhole, Falls}
+use Rattle.cbor_walk.specs.inner.Cells.{StandsAt, HasEndedAt, IsWhole}
 use Rattle.cbor_walk.specs.inner.Kept.{asks}
 use Rattle.cbor_walk.specs.inner.Stack.{standing}
-use Rattle.cbor_walk.specs.inner.Stop.{IsStopped}
+use Rattle.cbor_walk.specs.inner.Stop.{IsStopped, IsRefused}
 use Rattle.cbor_walk.specs.declared.level.Level.{Level}
 use Rattle.cbor_walk.specs.declared.stack.Stack.{Stack}
 use Rattle.cbor_walk.specs.declared.take.Taken.{Taken}
@@ -38,6 +38,5 @@ pub record IsFull (o : KeyOrder) (limits : Bounds) (input : List ℕ) (stack : S
 
 abbrev pub IsWalked : KeyOrder → Bounds → List ℕ → Stack Level → List Level → Walked → Type 0
 IsWalked o limits input stack cells (walked.Whole at) = IsWhole o limits input at
-IsWalked o limits input stack cells (walked.Refused f) = IsStopped (strict o) limits input f
-IsWalked o limits input stack cells (walked.Falls f) = Falls o limits input stack.top f
+IsWalked o limits input stack cells (walked.Refused f) = IsRefused o limits input f
 IsWalked o limits input stack cells (walked.Full at) = IsFull o limits input stack cells at

@@ -23,12 +23,12 @@ returns-in-Err c =
     let o = c.args.order in
     let limits = c.args.limits in
     let input : c.within-input.result.now ≡ take limits.bytes c.args.bytes.now = c.within-input.ensures ∙ ap (λ n. take n c.args.bytes.now) c.bytes.ensures.bytes in
-    let n = c.in-Err.why in
+    let f = c.in-Err.refusal in
     let g = c.at_the_limit.result in
-    let s : IsRefused o limits c.within-input.result.now n = elim c.match-keys.branch [
+    let s : IsRefused o limits c.within-input.result.now f = elim c.match-keys.branch [
       | in-Any w ↦ subst (λ r. IfErr r (IsRefused o limits c.within-input.result.now)) (sym w.front-is ∙ c.in-Err.is) w.whole_front-front.ensures.refused
       | in-IntegersAndTexts w ↦ subst (λ r. IfErr r (IsRefused o limits c.within-input.result.now)) (sym w.front-is ∙ c.in-Err.is) w.whole_front-front-in-IntegersAndTexts.ensures.refused
     ] in
-    not_canonical o limits c.args.bytes.now n (subst (λ (xs : List ℕ). IsRefused o limits xs n) input s) g
-    (subst (λ m. IsAnswered m (take limits.bytes c.args.bytes.now) n.refusal g) c.bytes-in-Err.ensures.bytes
-    (subst (λ (xs : List ℕ). IsAnswered c.bytes-in-Err.result xs n.refusal g) input c.at_the_limit.ensures))
+    not_canonical o limits c.args.bytes.now f (subst (λ (xs : List ℕ). IsRefused o limits xs f) input s) g
+    (subst (λ m. IsAnswered m (take limits.bytes c.args.bytes.now) f g) c.bytes-in-Err.ensures.bytes
+    (subst (λ (xs : List ℕ). IsAnswered c.bytes-in-Err.result xs f g) input c.at_the_limit.ensures))

@@ -1,7 +1,6 @@
-use Rattle.std.proofs.Common.{[], ◌∙◌, arith}
+use Rattle.std.proofs.Common.{[], inl, ◌∙◌, arith}
 use Rattle.cbor_keys.proofs.KeyFronts.{are_bytes}
 use Rattle.cbor_walk.proofs.AnyRefusals.{no_break, no_break_here}
-use Rattle.cbor_walk.proofs.CanonicalStops.{key_refused, other_refused}
 use Rattle.cbor_walk.proofs.Taking.{starts_at, start_keeps, start_place, leaf_is_whole}
 use Rattle.cbor_walk.proofs.canonical.whole_front.Goals as goal
 
@@ -13,8 +12,7 @@ returns-in-Refused-clause-refused g c =
     let o = c.args.order in
     let limits = c.args.limits in
     let input = c.args.input.now in
-    let stops = c.in-Refused.ensures o limits [] tt (no_break_here [] input (no_break o limits.depth [] tt)) (start_keeps o limits input) (start_place limits c.depth.result c.depth.ensures.depth) (are_bytes input (λ i. omega (arith, c.type_inv.input i))) in
-    other_refused o limits input c.in-Refused.refusal c.new.result stops c.new.ensures.refusal c.new.ensures.repeats
+    inl (c.in-Refused.ensures o limits [] tt (no_break_here [] input (no_break o limits.depth [] tt)) (start_keeps o limits input) (start_place limits c.depth.result c.depth.ensures.depth) (are_bytes input (λ i. omega (arith, c.type_inv.input i))))
 
 pub returns-in-Whole-clause-whole : goal.returns-in-Whole-clause-whole
 returns-in-Whole-clause-whole g c =
@@ -22,13 +20,7 @@ returns-in-Whole-clause-whole g c =
 
 pub returns-in-Refused-walk-clause-refused : goal.returns-in-Refused-walk-clause-refused
 returns-in-Refused-walk-clause-refused g c =
-    let stops = c.in-Refused-walk.ensures (starts_at c.args.order c.args.limits c.args.input.now c.new-stack.result _ c.new-stack.ensures.height (c.new-stack.ensures.top ∙ c.new-level.ensures)) in
-    other_refused c.args.order c.args.limits c.args.input.now c.in-Refused-walk.refusal c.new-in-Refused-walk.result stops c.new-in-Refused-walk.ensures.refusal c.new-in-Refused-walk.ensures.repeats
-
-pub returns-in-Falls-clause-refused : goal.returns-in-Falls-clause-refused
-returns-in-Falls-clause-refused g c =
-    let falls = c.in-Falls.ensures (starts_at c.args.order c.args.limits c.args.input.now c.new-stack.result _ c.new-stack.ensures.height (c.new-stack.ensures.top ∙ c.new-level.ensures)) in
-    key_refused c.args.order c.args.limits c.args.input.now _ _ c.key_falls.result falls c.key_falls.ensures.refusal c.key_falls.ensures.repeats.0
+    c.in-Refused-walk.ensures (starts_at c.args.order c.args.limits c.args.input.now c.new-stack.result _ c.new-stack.ensures.height (c.new-stack.ensures.top ∙ c.new-level.ensures))
 
 pub with_more_cells-requires-clause-full : goal.with_more_cells-requires-clause-full
 with_more_cells-requires-clause-full g c =

@@ -1,4 +1,4 @@
-use Rattle.std.proofs.Common.{◌<◌, ◌≤◌, ◌-◌, ◌≡◌, ◌∙◌, length, length-drop, take, drop, sym, ap, arith}
+use Rattle.std.proofs.Common.{inl, ◌<◌, ◌≤◌, ◌-◌, ◌≡◌, ◌∙◌, length, length-drop, take, drop, sym, ap, arith}
 use Rattle.std.proofs.lemmas.List.{take_rest}
 use Rattle.cbor_head.specs.Value.{AreBytes}
 use Rattle.cbor_keys.proofs.KeyFronts.{are_bytes}
@@ -69,4 +69,16 @@ returns-in-Refused g c = λ s.
     let whole : rest ≡ drop p.at input = take_rest input p.at in
     let deep : limits.depth ≡ c.from-depth.result = sym (c.from-depth.ensures ∙ c.depth.ensures.depth) in
     let are : AreBytes input = are_bytes input (λ i. omega (arith, c.type_inv.input i)) in
-    c.in-Refused.ensures.takes o limits input c.requires.kinds deep whole are (p.invariant.stands s)
+    inl (c.in-Refused.ensures.takes o limits input c.requires.kinds deep whole are (p.invariant.stands s))
+
+pub returns-in-Falls : goal.returns-in-Falls
+returns-in-Falls g c = λ s.
+    let o = c.args.order in
+    let limits = c.args.limits in
+    let input = c.args.input.now in
+    let p = c.items in
+    let rest = take (length input - p.at) (drop p.at input) in
+    let whole : rest ≡ drop p.at input = take_rest input p.at in
+    let deep : limits.depth ≡ c.from-depth.result = sym (c.from-depth.ensures ∙ c.depth.ensures.depth) in
+    let are : AreBytes input = are_bytes input (λ i. omega (arith, c.type_inv.input i)) in
+    c.key_falls.ensures o limits (c.in-Falls.ensures.leads limits (c.in-Item.ensures.takes.1 o limits input c.requires.kinds deep whole are (p.invariant.stands s)))
