@@ -1,9 +1,8 @@
 -- What a public builder stands for, from what its core does.
 use Rattle.std.proofs.Common.{◌≡◌, ℕ, Bool, true, false, List, [], ◌∷◌, refl, sym, ap, ◌∙◌, subst}
 use Rattle.std.specs.Prelude.{IsTrue}
-use Rattle.cbor_head.specs.declared.order.KeyOrder.{KeyOrder}
 use Rattle.cbor_builder.specs.Built.{Built}
-use Rattle.cbor_canonical.specs.Parts.{IsInContainer, Open, plain, an_array, a_map, a_key, a_string, close}
+use Rattle.cbor_canonical.specs.Parts.{Open, plain}
 use Rattle.cbor_builder.specs.inner.BuilderState.{standing, IsLaid}
 use Rattle.cbor_builder.specs.inner.CanonState.{if_sound, seen, IsNested, IsKept}
 use Rattle.cbor_builder.specs.declared.canon_builder.CanonBuilder.TheInside.{Inside}
@@ -40,18 +39,3 @@ IsOpen (c ∷ os) = Unit {0}
 pub laid_whole : (b : Inside) (w : Built) (bs : List ℕ) → IsKept b → seen b ≡ w → w.standing ≡ plain bs ∷ [] → IsLaid b.core × (standing b.core ≡ plain bs ∷ [])
 laid_whole b w bs kept e p =
     let k = known IsOpen (λ h. h) b w kept e (subst IsOpen (sym p) tt) in (k.laid, k.standing_is ∙ p)
-
--- ---- what ends, or stays open
-
-nested_closed : (o : KeyOrder) (os : List Open) → IsInContainer os → IsNested os → IsNested (close o os)
-nested_closed o [] h n = absurd h
-nested_closed o (plain bs ∷ []) h n = absurd h
-nested_closed o (an_array k bs ∷ []) h n = absurd h
-nested_closed o (a_map ps ∷ []) h n = absurd h
-nested_closed o (a_key ps k ∷ []) h n = absurd h
-nested_closed o (a_string m bs ∷ []) h n = absurd h
-nested_closed o (c ∷ d ∷ os) h n = n.1
-
-pub nested_ended : (o : KeyOrder) (t : Bool) (old new : List Open) → (IsTrue t → new ≡ close o old) → (t ≡ false → new ≡ old) → IsInContainer old → IsNested old → IsNested new
-nested_ended o true old new c k h n = subst IsNested (sym (c refl)) (nested_closed o old h n)
-nested_ended o false old new c k h n = subst IsNested (sym (k refl)) n

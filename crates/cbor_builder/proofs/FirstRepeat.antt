@@ -1,310 +1,213 @@
--- The first key that is equal to an earlier one, found by sorting.
-use Rattle.std.proofs.Common.{◌≡◌, ◌≢◌, ℕ, zero, suc, ◌+◌, ◌-◌, ◌<◌, ◌≤◌, Bool, true, false, List, [], ◌∷◌, ◌++◌, length, length-append, get_or, map, min, max, Option, Some, None, refl, sym, ap, ◌∙◌, subst, arith, inl, inr, IsPermutation, IsSortedBy, Contains, Bor}
-use Rattle.std.specs.Prelude.{MatchOption, unwrap_or}
-use Rattle.std.specs.List.{AllByRecursion}
-use Rattle.std.specs.declared.cmp.Ordering.{Ordering}
-use Rattle.std.specs.declared.cmp.Ordering.TheVariants.{Less, Equal, Greater}
-use Rattle.std.specs.Ordering.{nat_cmp, is_lt, is_eq, ordering_then, ordering_reverse, MatchOrdering}
-use Rattle.std.specs.Cmp.{IsTotalOrder, IsStrictWeakOrder}
-use Rattle.std.specs.Fn.{Called, ComparesAs}
-use Rattle.std.proofs.lemmas.Fn.{always_returns_same}
-use Rattle.std.proofs.lemmas.Bool.{cases_lt}
-use Rattle.std.proofs.lemmas.Cmp.{nat_cmp_total, on_total, then_total, ranked, tied_itself}
+-- The first key that is equal to an earlier one.
+use Rattle.std.proofs.Common.{◌≡◌, ◌≢◌, ℕ, zero, suc, ◌+◌, ◌^◌, ◌<◌, ◌≤◌, Bool, true, false, List, [], ◌∷◌, length, get_or, map, Option, Some, None, refl, sym, ap, ◌∙◌, subst, arith, inl, inr, IsPermutation}
+use Rattle.std.specs.Prelude.{cond, slice_range, ◌==◌}
+use Rattle.std.specs.List.{count_by}
+use mir.Val.{bool_byte}
+use Rattle.std.proofs.lemmas.Bool.{cases_lt, cases_eq, lt-ltb, le-ltb, ne_eqb, eq-eqb}
 use Rattle.std.proofs.lemmas.List.{get_or-map, length-map}
-use Rattle.std.proofs.lemmas.List.Sorted.{ranks_by, sorted_far, IsPermutation-sym, Contains-permutation}
-use Rattle.std.proofs.lemmas.Map.Keys.{IsDistinct-IsPermutation}
-use Rattle.cbor_head.specs.Order.{key_cmp, key_lt}
-use Rattle.cbor_head.specs.Canonical.{Pair}
-use Rattle.cbor_head.specs.Value.{AreBytes}
-use Rattle.cbor_head.specs.declared.order.KeyOrder.{KeyOrder}
-use Rattle.cbor_builder.specs.Built.{HasKey, IsRepeatAt, AreAllDifferent, IsFirstRepeat}
-use Rattle.cbor_canonical.specs.Pairs.{HasDistinctBytes}
-use Rattle.cbor_builder.specs.inner.Front.{key_of, IsFronted, AreFronted, rank, ranked_by}
-use Rattle.cbor_buffer.specs.Spans.{no_span}
-use Rattle.cbor_builder.specs.inner.Repeats.{nth, by_number, AreNumbered, IsTie, IsLeastSoFar}
+use Rattle.std.proofs.lemmas.List.Sorted.{IsPermutation-sym, IsPermutation-trans, sum_by-IsPermutation}
+use Rattle.std.proofs.lemmas.List.Sums.{sum_by-cons, count_by-le-length}
+use Rattle.cbor_builder.specs.Built.{IsRepeatAt, AreAllDifferent, IsFirstRepeat}
+use Rattle.cbor_builder.specs.inner.Front.{key_of}
+use Rattle.cbor_builder.specs.inner.Laid.{Tile}
+use Rattle.cbor_builder.specs.inner.Repeats.{nth, place, lies_before, HasPlace, ArePlaced, AreOf, HasTie, IsFirstTie}
+use Rattle.cbor_buffer.specs.Spans.{no_span, IsWithin, AreWithin}
 use Rattle.cbor_buffer.specs.declared.span.Span.{Span}
-use Rattle.cbor_builder.proofs.Ranks.{rank_total, agree_spans, fronted_at, fronted_permuted}
-use Rattle.cbor_builder.proofs.Neighbours.{keys}
-use Rattle.cbor_canonical.proofs.Orders.{key_cmp_total, tied}
-use Rattle.cbor_builder.proofs.SortedSpans.{equal_keys, other_keys}
-use Rattle.cbor_buffer.proofs.Slices.{get_same}
-use denote.Param.Members.{Mut}
-use Rattle.cbor_builder.proofs.Numbers.{fronted_from, same_number, number_flips, numbers_differ, differ_beside}
+use Rattle.cbor_builder.specs.declared.repeats.Tie.{Tie}
+use Rattle.cbor_canonical.proofs.Members.{all_at, all_from}
+use Rattle.cbor_builder.proofs.Growth.{tile_within}
+use Rattle.cbor_builder.proofs.SortedSpans.{within_permuted}
+use Rattle.cbor_builder.proofs.Ties.{tie_permuted}
 
--- ---- the order by keys and numbers
+-- ---- the places of pairs one behind the other
 
-pub number_total : (o : KeyOrder) (out : List ℕ) → IsTotalOrder (by_number o out)
-number_total o out = then_total (on_total (ranked_by out) (rank_total o)) (on_total (λ (s : Span). s.end) nat_cmp_total)
+tile_at : (a n : ℕ) (ss : List Span) (i : ℕ) → Tile a ss n → i < length ss → (a ≤ (nth ss i).key) × ((nth ss i).key ≤ (nth ss i).val) × ((nth ss i).val ≤ (nth ss i).end)
+tile_at a n [] i h l = absurd (omega (arith, l))
+tile_at a n (s ∷ ss) zero h l = (omega (arith, h.0), h.1, h.2)
+tile_at a n (s ∷ ss) (suc i) h l = let r = tile_at s.end n ss i h.3 (omega (arith, l)) in (omega (arith, h.0, h.1, h.2, r.0), r.1, r.2)
 
-pub number_ranks : (o : KeyOrder) (out : List ℕ) → IsStrictWeakOrder (λ (x y : Span). is_lt (by_number o out x y))
-number_ranks o out = ranks_by (number_total o out) (λ (s : Span). s)
+tile_apart : (a n : ℕ) (ss : List Span) (i j : ℕ) → Tile a ss n → i < j → j < length ss → (nth ss i).end ≤ (nth ss j).key
+tile_apart a n [] i j h l k = absurd (omega (arith, k))
+tile_apart a n (s ∷ ss) i zero h l k = absurd (omega (arith, l))
+tile_apart a n (s ∷ ss) zero (suc j) h l k = (tile_at s.end n ss j h.3 (omega (arith, k))).0
+tile_apart a n (s ∷ ss) (suc i) (suc j) h l k = tile_apart s.end n ss i j h.3 (omega (arith, l)) (omega (arith, k))
 
-pub sorted_by_number : (o : KeyOrder) (out : List ℕ) {F : Type 0} {g : Mut F (Bor Span × (Bor Span × Unit {0})) Ordering} {f : F} (ys : List Span)
-    → ((lt : Span → Span → Bool) → IsStrictWeakOrder lt → ComparesAs g lt f → IsSortedBy lt ys)
-    → ((a : Bor Span × (Bor Span × Unit {0})) (r : Ordering) (f' : F) → Called g f a r f' → (r ≡ by_number o out a.0.now a.1.0.now) × (f' ≡ f))
-    → IsSortedBy (λ x y. is_lt (by_number o out x y)) ys
-sorted_by_number o out {g = g} {f = f} ys s h =
-    s (λ x y. is_lt (by_number o out x y)) (number_ranks o out)
-    (always_returns_same g (λ a r. is_lt r ≡ is_lt (by_number o out a.0.now a.1.0.now)) f (λ a r f' k. (ap is_lt (h a r f' k).0, (h a r f' k).1)))
+-- the places rise, and where two are equal the keys are
+abbrev Rise : List ℕ → List Span → Type 0
+Rise out ss = (i j : ℕ) → i < j → j < length ss → (place (nth ss i) ≤ place (nth ss j)) × (place (nth ss i) ≡ place (nth ss j) → key_of out (nth ss i) ≡ key_of out (nth ss j))
 
-pub not_less_first : (r s : Ordering) → is_lt (ordering_then r s) ≡ false → is_lt r ≡ false
-not_less_first Less s e = e
-not_less_first Equal s e = refl
-not_less_first Greater s e = refl
-
-pub not_less_number : (m n : ℕ) → is_lt (nat_cmp m n) ≡ false → n ≤ m
-not_less_number m n e = go (nat_cmp m n) e (ranked m n (nat_cmp m n) refl)
-  where
-    go : (r : Ordering) → is_lt r ≡ false → MatchOrdering r (m < n) (m ≡ n) (n < m) → n ≤ m
-    go Less e m = cc
-    go Equal e m = omega (arith, m)
-    go Greater e m = omega (arith, m)
-
--- a span that is not before another has no lower key
-key_not_less : (o : KeyOrder) (out : List ℕ) (x y : Span) → AreBytes out → IsFronted out x → IsFronted out y → is_lt (by_number o out x y) ≡ false
-    → key_lt o (key_of out x) (key_of out y) ≡ false
-key_not_less o out x y b fx fy e =
-    sym (ap is_lt (agree_spans o out x y b fx fy)) ∙ not_less_first (rank o (ranked_by out x) (ranked_by out y)) (nat_cmp x.end y.end) e
-
--- and where the keys are equal no lower number
-number_not_less : (o : KeyOrder) (out : List ℕ) (x y : Span) → AreBytes out → IsFronted out x → IsFronted out y → is_lt (by_number o out x y) ≡ false
-    → key_of out x ≡ key_of out y → y.end ≤ x.end
-number_not_less o out x y b fx fy e k =
-    let t : rank o (ranked_by out x) (ranked_by out y) ≡ Equal =
-    agree_spans o out x y b fx fy ∙ ap (λ (q : List ℕ). key_cmp o q (key_of out y)) k ∙ tied_itself (key_cmp_total o) (key_of out y) in
-    not_less_number x.end y.end (sym (ap (λ (r : Ordering). is_lt (ordering_then r (nat_cmp x.end y.end))) t) ∙ e)
-
--- neither of two keys before the other
-neither : (o : KeyOrder) (x y : List ℕ) → key_lt o x y ≡ false → key_lt o y x ≡ false → x ≡ y
-neither o x y h g = go (key_cmp o x y) refl
-  where
-    go : (r : Ordering) → key_cmp o x y ≡ r → x ≡ y
-    go Less e = let l : key_lt o x y ≡ true = ap is_lt e in cc
-    go Equal e = tied o x y e
-    go Greater e = let l : key_lt o y x ≡ true = ap is_lt ((key_cmp_total o).antisymm y x ∙ ap ordering_reverse e) in cc
-
--- ---- the theorem
-
-keys_at : (out : List ℕ) (xs : List Span) (i : ℕ) → i < length xs → get_or (map (key_of out) xs) i [] ≡ key_of out (nth xs i)
-keys_at out xs i l = get_or-map (key_of out) xs i no_span [] l
-
-contains_at : (ss : List Span) (i : ℕ) → i < length ss → Contains ss (nth ss i)
-contains_at ss i l = (i, l, get_same ss i (nth ss i) no_span l)
-
-at_contained : (ss : List Span) (x : Span) → Contains ss x → (i : ℕ) × (i < length ss) × (nth ss i ≡ x)
-at_contained ss x c = (c.0, c.1, get_same ss c.0 no_span x c.1 ∙ c.2)
-
-pub all_fronted : (out : List ℕ) (xs ns ys : List Span) → AreFronted out xs → length ns ≡ length xs → AreNumbered xs ns (length xs) → IsPermutation ns ys → AreFronted out ys
-all_fronted out xs ns ys fronted as_long numbered moved =
-    fronted_permuted out ns ys moved (fronted_from out ns (λ i l. let k : i < length xs = omega (arith, l, as_long) in
-    subst (IsFronted out) (sym (numbered.0 i k)) (fronted_at out xs i no_span fronted k)))
-
-module _ (o : KeyOrder) (out : List ℕ) (xs ns ys : List Span) (bytes : AreBytes out) (fronted : AreFronted out xs) (as_long : length ns ≡ length xs)
-    (numbered : AreNumbered xs ns (length xs)) (moved : IsPermutation ns ys) (sorted : IsSortedBy (λ x y. is_lt (by_number o out x y)) ys) where
-  fronted_all : AreFronted out ys
-  fronted_all = all_fronted out xs ns ys fronted as_long numbered moved
-
-  -- where the span with a number came to stand
-  place : (i : ℕ) → i < length xs → (p : ℕ) × (p < length ys) × (nth ys p ≡ record (nth xs i) { end = i })
-  place i l =
-      let k : i < length ns = omega (arith, l, as_long) in
-      let c = at_contained ys (nth ns i) (Contains-permutation ns ys (nth ns i) moved (contains_at ns i k)) in
-      (c.0, c.1, c.2 ∙ numbered.0 i l)
-
-  -- the number and the key of one that stands somewhere
-  origin : (p : ℕ) → p < length ys → ((nth ys p).end < length xs) × (key_of out (nth ys p) ≡ get_or (map (key_of out) xs) (nth ys p).end [])
-  origin p l =
-      let c = at_contained ns (nth ys p) (Contains-permutation ys ns (nth ys p) (IsPermutation-sym ns ys moved) (contains_at ys p l)) in
-      let k : c.0 < length xs = omega (arith, c.1, as_long) in
-      let e : nth ys p ≡ record (nth xs c.0) { end = c.0 } = sym c.2 ∙ numbered.0 c.0 k in
-      let n : (nth ys p).end ≡ c.0 = ap (λ (s : Span). s.end) e in (
-        omega (arith, n, k),
-        ap (key_of out) e ∙ sym (keys_at out xs c.0 k) ∙ ap (λ i. get_or (map (key_of out) xs) i []) (sym n),
-      )
-
-  behind : (p q : ℕ) → p ≤ q → q < length ys → is_lt (by_number o out (nth ys q) (nth ys p)) ≡ false
-  behind p q l h = sorted_far (λ x y. is_lt (by_number o out x y)) (number_ranks o out) ys sorted p q no_span l h
-
-  front_at : (p : ℕ) → p < length ys → IsFronted out (nth ys p)
-  front_at p l = fronted_at out ys p no_span fronted_all l
-
-  -- a tie is a repeat
-  tie_repeats : (p : ℕ) → p + 1 < length ys → IsTie out ys p → IsRepeatAt (map (key_of out) xs) (nth ys (p + 1)).end
-  tie_repeats p l t =
-      let h : p < length ys = omega (arith, l) in
-      let low = number_not_less o out (nth ys (p + 1)) (nth ys p) bytes (front_at (p + 1) l) (front_at p h) (behind p (p + 1) (omega arith) l) (sym t) in
-      let other = differ_beside ys p (IsDistinct-IsPermutation same_number number_flips ns ys moved (numbers_differ 0 ns (λ i k. let j : i < length xs = omega (arith, k, as_long) in let e = ap (λ (s : Span). s.end) (numbered.0 i j) in omega (arith, e)))) (omega (arith, l)) in
-      let next : suc p ≡ p + 1 = omega arith in
-      let there = ap (λ i. (nth ys i).end) next in
-      let a = origin p h in
-      let b = origin (p + 1) l in
-      let long = length-map xs (key_of out) in
-      ((nth ys p).end, omega (arith, low, other, there), omega (arith, b.0, long), sym a.1 ∙ t ∙ b.1)
-
-  -- a repeat is a tie
-  repeat_ties : (k : ℕ) → IsRepeatAt (map (key_of out) xs) k → (p : ℕ) × (p + 1 < length ys) × IsTie out ys p × ((nth ys (p + 1)).end ≡ k)
-  repeat_ties k r =
-      let long = length-map xs (key_of out) in
-      let lk : k < length xs = omega (arith, r.2, long) in
-      let lj : r.0 < length xs = omega (arith, r.1, lk) in
-      let a = place k lk in
-      let b = place r.0 lj in
-      let ek : key_of out (nth ys a.0) ≡ key_of out (nth xs k) = ap (key_of out) a.2 in
-      let ej : key_of out (nth ys b.0) ≡ key_of out (nth xs r.0) = ap (key_of out) b.2 in
-      let same : key_of out (nth ys b.0) ≡ key_of out (nth ys a.0) = ej ∙ sym (keys_at out xs r.0 lj) ∙ r.3 ∙ keys_at out xs k lk ∙ sym ek in
-      let nk : (nth ys a.0).end ≡ k = ap (λ (s : Span). s.end) a.2 in
-      let nj : (nth ys b.0).end ≡ r.0 = ap (λ (s : Span). s.end) b.2 in
-      elim (cases_lt b.0 a.0) [
-        | inl l ↦ beside k (a.0 - 1) a.0 b.0 (omega (arith, l)) (omega (arith, l)) a.1 same nk
-        | inr l ↦
-            let low = number_not_less o out (nth ys b.0) (nth ys a.0) bytes (front_at b.0 b.1) (front_at a.0 a.1) (behind a.0 b.0 l b.1) same in
-            absurd (omega (arith, low, nk, nj, r.1))
-      ]
-    where
-      beside : (k p q j : ℕ) → p + 1 ≡ q → j ≤ p → q < length ys → key_of out (nth ys j) ≡ key_of out (nth ys q) → (nth ys q).end ≡ k
-          → (p : ℕ) × (p + 1 < length ys) × IsTie out ys p × ((nth ys (p + 1)).end ≡ k)
-      beside k p q j e l h same n =
-          let hp : p < length ys = omega (arith, e, h) in
-          let hj : j < length ys = omega (arith, l, hp) in
-          let first = key_not_less o out (nth ys p) (nth ys j) bytes (front_at p hp) (front_at j hj) (behind j p l hp) in
-          let second = key_not_less o out (nth ys q) (nth ys p) bytes (front_at q h) (front_at p hp) (behind p q (omega (arith, e)) h) in
-          let tie : key_of out (nth ys p) ≡ key_of out (nth ys q) =
-          neither o (key_of out (nth ys p)) (key_of out (nth ys q)) (subst (λ (x : List ℕ). key_lt o (key_of out (nth ys p)) x ≡ false) same first) second in
-          (p, omega (arith, e, h), tie ∙ ap (λ i. key_of out (nth ys i)) (sym e), ap (λ i. (nth ys i).end) e ∙ n)
-
-  pub first_found : (r : Option ℕ) → IsLeastSoFar out ys (length ys) r → MatchOption r (AreAllDifferent (map (key_of out) xs)) (IsFirstRepeat (map (key_of out) xs))
-  first_found None h = λ k r. let t = repeat_ties k r in h t.0 t.1 t.2
-  first_found (Some m) h = (
-    subst (IsRepeatAt (map (key_of out) xs)) h.0.3 (tie_repeats h.0.0 h.0.1 h.0.2),
-    λ k l r. let t = repeat_ties k r in let g = h.1 t.0 t.1 t.2 in absurd (omega (arith, l, g, t.3)),
-  )
-
--- the key at i is another than the one before it
-pub least_passed : (o : KeyOrder) (out : List ℕ) (ss : List Span) (i : ℕ) (d e : Span) (r : Ordering) (least : Option ℕ) → AreBytes out → AreFronted out ss → 1 ≤ i → i < length ss
-    → r ≡ rank o (ranked_by out (get_or ss (i - 1) d)) (ranked_by out (get_or ss i e)) → is_eq r ≡ false → IsLeastSoFar out ss i least → IsLeastSoFar out ss (i + 1) least
-least_passed o out ss i d e r least b f low l is other_one h = by_least least h
-  where
-    other : (k : ℕ) → k + 1 ≡ i → IsTie out ss k → ⊥
-    other k ek t =
-        let x = get_or ss (i - 1) d in
-        let y = get_or ss i e in
-        let fx = fronted_at out ss (i - 1) d f (omega (arith, l)) in
-        let fy = fronted_at out ss i e f l in
-        let sx : x ≡ nth ss k = get_same ss (i - 1) d no_span (omega (arith, l)) ∙ ap (nth ss) (let q : i - 1 ≡ k = omega (arith, ek) in q) in
-        let sy : y ≡ nth ss (k + 1) = get_same ss i e no_span l ∙ ap (nth ss) (sym ek) in
-        other_keys o (key_of out x) (key_of out y) (sym (ap is_eq (is ∙ agree_spans o out x y b fx fy)) ∙ other_one) (ap (key_of out) sx ∙ t ∙ ap (key_of out) (sym sy))
-
-    by_least : (least : Option ℕ) → IsLeastSoFar out ss i least → IsLeastSoFar out ss (i + 1) least
-    by_least None h = λ k lk t. elim (cases_lt (k + 1) i) [ inl q ↦ h k q t | inr q ↦ other k (omega (arith, lk, q)) t ]
-    by_least (Some m) h = (
-      (h.0.0, omega (arith, h.0.1), h.0.2, h.0.3),
-      λ k lk t. elim (cases_lt (k + 1) i) [ inl q ↦ h.1 k q t | inr q ↦ absurd (other k (omega (arith, lk, q)) t) ],
+tile_rises : (out : List ℕ) (a n : ℕ) (ss : List Span) → Tile a ss n → Rise out ss
+tile_rises out a n ss h i j l k =
+    let p = tile_at a n ss i h (omega (arith, l, k)) in
+    let q = tile_at a n ss j h k in
+    let r = tile_apart a n ss i j h l k in (
+      omega (arith, p.1, p.2, q.1, q.2, r),
+      λ e.
+          let key : (nth ss i).key ≡ (nth ss j).key = omega (arith, p.1, p.2, q.1, q.2, r, e) in
+          let val : (nth ss i).val ≡ (nth ss j).val = omega (arith, p.1, p.2, q.1, q.2, r, e) in
+          λ t. slice_range out (key t) (val t),
     )
 
--- it is the same
-pub least_met : (o : KeyOrder) (out : List ℕ) (ss : List Span) (i : ℕ) (d e g : Span) (r : Ordering) (least : Option ℕ) (number : ℕ) → AreBytes out → AreFronted out ss → 1 ≤ i → i < length ss
-    → r ≡ rank o (ranked_by out (get_or ss (i - 1) d)) (ranked_by out (get_or ss i e)) → is_eq r ≡ true → number ≡ (get_or ss i g).end
-    → IsLeastSoFar out ss i least → IsLeastSoFar out ss (i + 1) (Some (min (unwrap_or least number) number))
-least_met o out ss i d e g r least number b f low l is same_one en h = by_least least h
-  where
-    here : IsTie out ss (i - 1)
-    here =
-        let x = get_or ss (i - 1) d in
-        let y = get_or ss i e in
-        let fx = fronted_at out ss (i - 1) d f (omega (arith, l)) in
-        let fy = fronted_at out ss i e f l in
-        let n : i ≡ i - 1 + 1 = omega (arith, low) in
-        let sx : x ≡ nth ss (i - 1) = get_same ss (i - 1) d no_span (omega (arith, l)) in
-        let sy : y ≡ nth ss (i - 1 + 1) = get_same ss i e no_span l ∙ ap (nth ss) n in
-        ap (key_of out) (sym sx) ∙ equal_keys o (key_of out x) (key_of out y) (sym (ap is_eq (is ∙ agree_spans o out x y b fx fy)) ∙ same_one) ∙ ap (key_of out) sy
+by_index : (P : Span → Type 0) (s : Span) (ss : List Span) (i : ℕ) → (i ≡ 0 → P s) → ((j : ℕ) → i ≡ suc j → P (nth ss j)) → P (nth (s ∷ ss) i)
+by_index P s ss zero f g = f refl
+by_index P s ss (suc i) f g = g i refl
 
-    at : (k : ℕ) → k + 1 ≡ i → (nth ss (k + 1)).end ≡ number
-    at k ek = ap (λ j. (nth ss j).end) ek ∙ ap (λ (s : Span). s.end) (get_same ss i no_span g l) ∙ sym en
-
-    by_least : (least : Option ℕ) → IsLeastSoFar out ss i least → IsLeastSoFar out ss (i + 1) (Some (min (unwrap_or least number) number))
-    by_least None h =
-        let own = at (i - 1) (omega (arith, low)) in (
-          (i - 1, omega (arith, low), here, omega (arith, own)),
-          λ k lk t. elim (cases_lt (k + 1) i) [ inl q ↦ absurd (h k q t) | inr q ↦ let w = at k (omega (arith, lk, q)) in omega (arith, w) ],
-        )
-    by_least (Some m) h =
-        let own = at (i - 1) (omega (arith, low)) in
-        let rest = λ (k : ℕ) (lk : k + 1 < i + 1) (t : IsTie out ss k). let w : min m number ≤ (nth ss (k + 1)).end = elim (cases_lt (k + 1) i) [ inl q ↦ omega (arith, h.1 k q t) | inr q ↦ omega (arith, at k (omega (arith, lk, q))) ] in w in
-        elim (cases_lt m number) [
-          | inl q ↦ ((h.0.0, omega (arith, h.0.1), h.0.2, omega (arith, h.0.3, q)), rest)
-          | inr q ↦ ((i - 1, omega (arith, low), here, omega (arith, own, q)), rest)
-        ]
-
--- all have been looked at
-pub least_end : (out : List ℕ) (ss : List Span) (i n : ℕ) (least : Option ℕ) → n ≤ i → i ≤ max 1 n → IsLeastSoFar out ss i least → IsLeastSoFar out ss n least
-least_end out ss i n None l k h = λ j lj t. h j (omega (arith, l, lj)) t
-least_end out ss i n (Some m) l k h = elim (cases_lt n i) [
-  | inl q ↦ absurd (omega (arith, h.0.1, k, q))
-  | inr q ↦ ((h.0.0, omega (arith, h.0.1, q), h.0.2, h.0.3), λ j lj t. h.1 j (omega (arith, l, lj)) t)
-]
-
--- ---- with a key that waits for its value
-
-key_exactly : (ps : List Pair) (k : List ℕ) → HasKey ps k → (j : ℕ) × (j < length (keys ps)) × (get_or (keys ps) j [] ≡ k)
-key_exactly [] k h = absurd h
-key_exactly (p ∷ ps) k (inl e) = (zero, omega arith, e)
-key_exactly (p ∷ ps) k (inr h) = let r = key_exactly ps k h in (suc r.0, omega (arith, r.1), r.2)
-
-key_there : (ps : List Pair) (k : List ℕ) (j : ℕ) → j < length (keys ps) → get_or (keys ps) j [] ≡ k → HasKey ps k
-key_there [] k j l e = absurd (omega (arith, l))
-key_there (p ∷ ps) k zero l e = inl e
-key_there (p ∷ ps) k (suc j) l e = inr (key_there ps k j (omega (arith, l)) e)
-
-in_front : (ks : List (List ℕ)) (k : List ℕ) (i : ℕ) → i < length ks → get_or (ks ++ k ∷ []) i [] ≡ get_or ks i []
-in_front [] k i l = absurd (omega (arith, l))
-in_front (x ∷ ks) k zero l = refl
-in_front (x ∷ ks) k (suc i) l = in_front ks k i (omega (arith, l))
-
-at_end : (ks : List (List ℕ)) (k : List ℕ) → get_or (ks ++ k ∷ []) (length ks) [] ≡ k
-at_end [] k = refl
-at_end (x ∷ ks) k = at_end ks k
-
-repeat_less : (ks : List (List ℕ)) (k : List ℕ) (i : ℕ) → i < length ks → IsRepeatAt (ks ++ k ∷ []) i → IsRepeatAt ks i
-repeat_less ks k i l r = (r.0, r.1, l, sym (in_front ks k r.0 (omega (arith, l, r.1))) ∙ r.3 ∙ in_front ks k i l)
-
-repeat_more : (ks : List (List ℕ)) (k : List ℕ) (i : ℕ) → IsRepeatAt ks i → IsRepeatAt (ks ++ k ∷ []) i
-repeat_more ks k i r =
-    let n = length-append ks (k ∷ []) in
-    (r.0, r.1, omega (arith, n, r.2), in_front ks k r.0 (omega (arith, r.1, r.2)) ∙ r.3 ∙ sym (in_front ks k i r.2))
-
-pub first_more : (ks : List (List ℕ)) (k : List ℕ) (i : ℕ) → IsFirstRepeat ks i → IsFirstRepeat (ks ++ k ∷ []) i
-first_more ks k i f = (repeat_more ks k i f.0, λ j l r. f.1 j l (repeat_less ks k j (omega (arith, l, f.0.2)) r))
-
-pub waits_repeated : (ps : List Pair) (k : List ℕ) → AreAllDifferent (keys ps) → HasKey ps k → IsFirstRepeat (keys ps ++ k ∷ []) (length (keys ps))
-waits_repeated ps k d h =
-    let m = key_exactly ps k h in
-    let n = length-append (keys ps) (k ∷ []) in (
-      (m.0, m.1, omega (arith, n), in_front (keys ps) k m.0 m.1 ∙ m.2 ∙ sym (at_end (keys ps) k)),
-      λ j l r. d j (repeat_less (keys ps) k j l r),
-    )
-
-pub waits_alone : (ps : List Pair) (k : List ℕ) → AreAllDifferent (keys ps) → (HasKey ps k → ⊥) → AreAllDifferent (keys ps ++ k ∷ [])
-waits_alone ps k d h i r =
-    let n = length-append (keys ps) (k ∷ []) in
-    elim (cases_lt i (length (keys ps))) [
-      | inl l ↦ d i (repeat_less (keys ps) k i l r)
+-- so many lie before a place: those, and no others
+counted : (out : List ℕ) (ss : List Span) (at : ℕ) → Rise out ss
+    → ((i : ℕ) → i < count_by (lies_before at) ss → place (nth ss i) < at) × ((i : ℕ) → count_by (lies_before at) ss ≤ i → i < length ss → at ≤ place (nth ss i))
+counted out [] at h = ((λ i l. absurd (omega (arith, l))), (λ i k l. absurd (omega (arith, l))))
+counted out (s ∷ ss) at h =
+    let rest = counted out ss at (λ i j l k. h (suc i) (suc j) (omega (arith, l)) (omega (arith, k))) in
+    let ones : Span → ℕ = λ x. cond (lies_before at x) 1 0 in
+    let all = sum_by-cons ones s ss in
+    let less = by_index (λ x. place x < at) s ss in
+    let more = by_index (λ x. at ≤ place x) s ss in
+    elim (cases_lt (place s) at) [
+      | inl l ↦
+          let one : ones s ≡ 1 = ap (λ (b : Bool). cond b 1 0) (lt-ltb (place s) at l) in (
+            (λ i k. less i (λ e. l) (λ j e. rest.0 j (omega (arith, k, e, one, all)))),
+            (λ i k m. more i (λ e. absurd (omega (arith, k, e, one, all))) (λ j e. rest.1 j (omega (arith, k, e, one, all)) (omega (arith, m, e)))),
+          )
       | inr l ↦
-          let e : i ≡ length (keys ps) = omega (arith, l, n, r.2) in
-          h (key_there ps k r.0 (omega (arith, r.1, e)) (sym (in_front (keys ps) k r.0 (omega (arith, r.1, e))) ∙ r.3 ∙ ap (λ (j : ℕ). get_or (keys ps ++ k ∷ []) j []) e ∙ at_end (keys ps) k))
+          let none : ones s ≡ 0 = ap (λ (b : Bool). cond b 1 0) (le-ltb (place s) at l) in
+          let no_more : count_by (lies_before at) ss ≡ 0 = elim (cases_lt 0 (count_by (lies_before at) ss)) [
+            | inl g ↦
+                let here = rest.0 0 g in
+                let some = count_by-le-length (lies_before at) ss in
+                let up = (h 0 1 (omega arith) (omega (arith, g, some))).0 in
+                absurd (omega (arith, l, here, up))
+            | inr g ↦ omega (arith, g)
+          ] in (
+            (λ i k. absurd (omega (arith, k, none, all, no_more))),
+            (λ i k m. more i (λ e. l) (λ j e. rest.1 j (omega (arith, no_more)) (omega (arith, m, e)))),
+          )
     ]
 
--- ---- distinct keys repeat none
+-- ---- the first tie gives the first repeat
 
-differs_later : (k : List ℕ) (ps : List Pair) (i : ℕ) → AllByRecursion (λ (q : Pair). q.key ≢ k) ps → i < length (keys ps) → k ≡ get_or (keys ps) i [] → ⊥
-differs_later k [] i a l e = absurd (omega (arith, l))
-differs_later k (p ∷ ps) zero a l e = a.0 (sym e)
-differs_later k (p ∷ ps) (suc i) a l e = differs_later k ps i a.1 (omega (arith, l)) e
+module _ (out : List ℕ) (xs : List Span) (rise : Rise out xs) where
+  keys_at : (i : ℕ) → i < length xs → get_or (map (key_of out) xs) i [] ≡ key_of out (nth xs i)
+  keys_at i l = get_or-map (key_of out) xs i no_span [] l
 
-pub distinct_different : (ps : List Pair) → HasDistinctBytes ps → AreAllDifferent (keys ps)
-distinct_different ps d i r = by_index ps r.0 i d r.1 r.2 r.3
+  -- a repeated key is that of a tie
+  repeat_ties : (i : ℕ) → IsRepeatAt (map (key_of out) xs) i → (j : ℕ) × (j < i) × (i < length xs) × HasTie out xs (length xs) (place (nth xs j)) (place (nth xs i))
+  repeat_ties i (j, less, within, same) =
+      let long = length-map xs (key_of out) in
+      let l : i < length xs = omega (arith, within, long) in
+      let k : j < length xs = omega (arith, l, less) in
+      (j, less, l, (j, i, k, l, (λ e. omega (arith, less, e)), (sym (keys_at j k) ∙ same ∙ keys_at i l, refl, refl, (rise j i less l).0)))
+
+  -- and a later span with the key of an earlier one repeats it
+  repeats_at : (j i : ℕ) → j < i → i < length xs → key_of out (nth xs j) ≡ key_of out (nth xs i) → IsRepeatAt (map (key_of out) xs) i
+  repeats_at j i less l same =
+      let long = length-map xs (key_of out) in
+      (j, less, omega (arith, l, long), keys_at j (omega (arith, less, l)) ∙ same ∙ sym (keys_at i l))
+
+  pub none_found : IsFirstTie out xs (length xs) None → AreAllDifferent (map (key_of out) xs)
+  none_found h i r = let t = repeat_ties i r in h _ _ t.3
+
+  -- what lies at the place of another and has none of lower place before it
+  same_place : (i j at : ℕ) → i ≤ j → j < length xs → at ≤ place (nth xs i) → place (nth xs j) ≡ at → (place (nth xs i) ≡ at) × (key_of out (nth xs i) ≡ key_of out (nth xs j))
+  same_place i j at l k low e = elim (cases_lt i j) [
+    | inl less ↦
+        let r = rise i j less k in
+        let is : place (nth xs i) ≡ at = omega (arith, low, r.0, e) in
+        (is, r.1 (is ∙ sym e))
+    | inr h ↦ let is : j ≡ i = omega (arith, l, h) in (ap (λ n. place (nth xs n)) (sym is) ∙ e, ap (λ n. key_of out (nth xs n)) (sym is))
+  ]
+
+  pub one_found : (t : Tie) (n : ℕ) → IsFirstTie out xs (length xs) (Some t) → n ≡ count_by (lies_before t.later) xs → IsFirstRepeat (map (key_of out) xs) (n + bool_byte (t.earlier == t.later))
+  one_found t n h e = elim (cases_eq t.earlier t.later) [
+    | inl same ↦ subst (λ b. IsFirstRepeat (map (key_of out) xs) (n + bool_byte b)) (sym (eq-eqb t.earlier t.later same)) (at_one_place same)
+    | inr other ↦ subst (λ b. IsFirstRepeat (map (key_of out) xs) (n + bool_byte b)) (sym (ne_eqb t.earlier t.later other)) (apart other)
+  ]
+    where
+      before : (k : ℕ) → k < n → place (nth xs k) < t.later
+      before k l = (counted out xs t.later rise).0 k (omega (arith, l, e))
+
+      behind : (k : ℕ) → n ≤ k → k < length xs → t.later ≤ place (nth xs k)
+      behind k l m = (counted out xs t.later rise).1 k (omega (arith, l, e)) m
+
+      early : (k : ℕ) → k < n → IsRepeatAt (map (key_of out) xs) k → ⊥
+      early k l r =
+          let first = (h.1 _ _ (repeat_ties k r).3).0 in
+          let low = before k l in
+          absurd (omega (arith, first, low))
+
+      not_less : (k : ℕ) → place (nth xs k) ≡ t.later → n ≤ k
+      not_less k at = elim (cases_lt k n) [ inl l ↦ (let low = before k l in absurd (omega (arith, low, at))) | inr l ↦ l ]
+
+      apart : t.earlier ≢ t.later → IsFirstRepeat (map (key_of out) xs) (n + 0)
+      apart other =
+          let (i, j, li, lj, ne, tie) = h.0 in
+          let (same, first, second, le) = tie in
+          let l : n ≤ j = not_less j second in
+          let less : i < n = elim (cases_lt i n) [ inl g ↦ g | inr g ↦ (let low = behind i g li in absurd (other (omega (arith, low, first, le)))) ] in
+          let there = same_place n j t.later l lj (behind n (omega arith) (omega (arith, l, lj))) second in
+          let all : n ≡ n + 0 = omega arith in
+          subst (IsFirstRepeat (map (key_of out) xs)) all (repeats_at i n less (omega (arith, l, lj)) (same ∙ sym there.1), early)
+
+      -- two are there, and the first of these repeats none
+      two : (j k : ℕ) → j < k → k < length xs → place (nth xs j) ≡ t.later → place (nth xs k) ≡ t.later → t.earlier ≡ t.later → IsFirstRepeat (map (key_of out) xs) (n + 1)
+      two j k less lk first second same =
+          let l : n ≤ j = not_less j first in
+          let a = same_place n k t.later (omega (arith, l, less)) lk (behind n (omega arith) (omega (arith, l, less, lk))) second in
+          let b = same_place (n + 1) k t.later (omega (arith, l, less)) lk (behind (n + 1) (omega arith) (omega (arith, l, less, lk))) second in (
+            repeats_at n (n + 1) (omega arith) (omega (arith, l, less, lk)) (a.1 ∙ sym b.1),
+            λ i li r. elim (cases_lt i n) [
+              | inl g ↦ early i g r
+              | inr g ↦
+                  let is : i ≡ n = omega (arith, g, li) in
+                  let (q, lq, ln, tie) = repeat_ties n (subst (IsRepeatAt (map (key_of out) xs)) is r) in
+                  let up = (h.1 _ _ tie).1 (sym a.0) in
+                  let low = before q lq in
+                  absurd (omega (arith, up, low, same))
+            ],
+          )
+
+      at_one_place : t.earlier ≡ t.later → IsFirstRepeat (map (key_of out) xs) (n + 1)
+      at_one_place is =
+          let (i, j, li, lj, ne, tie) = h.0 in
+          let (same, first, second, le) = tie in
+          elim (cases_lt i j) [
+            | inl l ↦ two i j l lj (first ∙ is) second is
+            | inr l ↦ elim (cases_lt j i) [ inl g ↦ two j i g li second (first ∙ is) is | inr g ↦ absurd (ne (omega (arith, l, g))) ]
+          ]
+
+-- ---- of spans in whatever order
+
+pub bit_most : (b : Bool) → bool_byte b ≤ 1
+bit_most true = omega arith
+bit_most false = omega arith
+
+-- their places fit a word
+pub placed : (out : List ℕ) (xs ys zs : List Span) → length out < 2 ^ 63 → AreOf out xs ys → IsPermutation ys zs → ArePlaced zs
+placed out xs ys zs short (start, end, tile, ends, fronted, moved) m = all_from HasPlace zs (λ s i. fits s (all_at (IsWithin out) zs s within i))
   where
-    by_index : (ps : List Pair) (j i : ℕ) → HasDistinctBytes ps → j < i → i < length (keys ps) → get_or (keys ps) j [] ≡ get_or (keys ps) i [] → ⊥
-    by_index [] j i d l h e = absurd (omega (arith, h))
-    by_index (p ∷ ps) j zero d l h e = absurd (omega (arith, l))
-    by_index (p ∷ ps) zero (suc i) d l h e = differs_later p.key ps i d.0 (omega (arith, h)) e
-    by_index (p ∷ ps) (suc j) (suc i) d l h e = by_index ps j i d.1 (omega (arith, l)) (omega (arith, h)) e
+    within : AreWithin out zs
+    within = within_permuted out ys zs m (within_permuted out xs ys moved (tile_within out start xs end tile ends))
+
+    fits : (s : Span) → IsWithin out s → HasPlace s
+    fits s w = omega (arith, w.0, w.1, w.2, short)
+
+tie_back : (out : List ℕ) (xs ys zs : List Span) (r : Option Tie) → AreOf out xs ys → IsPermutation ys zs → IsFirstTie out zs (length zs) r → IsFirstTie out xs (length xs) r
+tie_back out xs ys zs r of m h = by_first r h
+  where
+    there : IsPermutation xs zs
+    there = IsPermutation-trans xs ys zs of.5 m
+
+    forth : (earlier later : ℕ) → HasTie out xs (length xs) earlier later → HasTie out zs (length zs) earlier later
+    forth earlier later t = tie_permuted out xs zs earlier later there t
+
+    by_first : (r : Option Tie) → IsFirstTie out zs (length zs) r → IsFirstTie out xs (length xs) r
+    by_first None h = λ earlier later t. h earlier later (forth earlier later t)
+    by_first (Some f) h = (tie_permuted out zs xs f.earlier f.later (IsPermutation-sym xs zs there) h.0, λ earlier later t. h.1 earlier later (forth earlier later t))
+
+pub none_told : (out : List ℕ) (xs ys zs : List Span) → AreOf out xs ys → IsPermutation ys zs → IsFirstTie out zs (length zs) None → AreAllDifferent (map (key_of out) xs)
+none_told out xs ys zs of m h = none_found out xs (tile_rises out of.0 of.1 xs of.2) (tie_back out xs ys zs None of m h)
+
+pub one_told : (out : List ℕ) (xs ys zs : List Span) (t : Tie) (n twin : ℕ) → AreOf out xs ys → IsPermutation ys zs → IsFirstTie out zs (length zs) (Some t) → n ≡ count_by (lies_before t.later) zs
+    → twin ≡ bool_byte (t.earlier == t.later) → IsFirstRepeat (map (key_of out) xs) (n + twin)
+one_told out xs ys zs t n twin of m h e et =
+    let same = sum_by-IsPermutation (λ s. cond (lies_before t.later s) 1 0) xs zs (IsPermutation-trans xs ys zs of.5 m) in
+    subst (λ k. IsFirstRepeat (map (key_of out) xs) (n + k)) (sym et) (one_found out xs (tile_rises out of.0 of.1 xs of.2) t n (tie_back out xs ys zs (Some t) of m h) (e ∙ same))

@@ -4,14 +4,15 @@ pub mod Growth
 pub mod InOrder
 pub mod InPlace
 pub mod Inserted
+pub mod KeysSoFar
 pub mod LookUp
 pub mod Neighbours
 pub mod Nesting
-pub mod Numbers
 pub mod OpenRepeats
 pub mod PartsMade
-pub mod Places
 pub mod Ranks
+pub mod Reordered
 pub mod SortedPairs
 pub mod SortedSpans
 pub mod Standing
+pub mod Ties

@@ -11,14 +11,14 @@ use Rattle.cbor_head.specs.declared.order.KeyOrder.{KeyOrder}
 use Rattle.cbor_builder.specs.inner.Front.{key_of}
 use Rattle.cbor_buffer.specs.Spans.{span_pair}
 use Rattle.cbor_builder.specs.inner.Laid.{pairs_from, shape_open, outer_spans, opens, Fits}
-use Rattle.cbor_builder.specs.inner.Repeats.{first_of, maps_of, outward, TellsOf, TellsWithin, Tells, IsBelow}
+use Rattle.cbor_builder.specs.inner.Repeats.{first_of, maps_of, AreOf, outward, TellsOf, TellsWithin, Tells, IsBelow}
 use Rattle.cbor_buffer.specs.declared.span.Span.{Span}
 use Rattle.cbor_builder.specs.declared.frame.Frame.{Frame}
 use Rattle.cbor_builder.specs.declared.frame.Shape.{Shape}
 use Rattle.cbor_builder.specs.declared.frame.Shape.TheVariants.{Plain, Array, Map, Key, Content}
 use Rattle.cbor_builder.specs.declared.repeat.Repeat.{Repeat}
 use Rattle.cbor_builder.proofs.Neighbours.{keys, keys-map}
-use Rattle.cbor_builder.proofs.FirstRepeat.{first_more, waits_repeated, waits_alone, distinct_different}
+use Rattle.cbor_builder.proofs.KeysSoFar.{first_more, waits_repeated, waits_alone, distinct_different}
 use Rattle.cbor_canonical.proofs.Sorting.{rising_distinct}
 
 -- ---- from the innermost out
@@ -148,14 +148,20 @@ told_of out ss start first count s r x waiting waits os ef ec h k ew ex =
     subst (λ (x : Option ℕ). MatchOption x (AreAllDifferent (keys_so_far (shape_open out ss start s))) (IsFirstRepeat (keys_so_far (shape_open out ss start s)))) (sym (ex ∙ ap (option_or r) ew))
     (shape_tells out ss start (count - first) s r waits os (λ i. ec i - ef i) h k)
 
-pub searched : (out bytes : List ℕ) (ss ds : List Span) (first : ℕ) (s : Shape) (r found : Option ℕ) → bytes ≡ out → ds ≡ ss → first ≡ first_of ss s → r ≡ found
-    → MatchOption found (AreAllDifferent (map (key_of bytes) (take (length ds - first) (drop first ds)))) (IsFirstRepeat (map (key_of bytes) (take (length ds - first) (drop first ds))))
-    → MatchOption r (AreAllDifferent (own_keys out ss s)) (IsFirstRepeat (own_keys out ss s))
-searched out bytes ss ds first s r found eb ed ef er h =
-    let e : map (key_of bytes) (take (length ds - first) (drop first ds)) ≡ own_keys out ss s =
-    ap (map (key_of bytes)) (take_rest ds first) ∙ (λ i. map (key_of (eb i)) (drop (ef i) (ed i))) in
-    subst (λ (x : Option ℕ). MatchOption x (AreAllDifferent (own_keys out ss s)) (IsFirstRepeat (own_keys out ss s))) (sym er)
-    (subst (λ (ks : List (List ℕ)). MatchOption found (AreAllDifferent ks) (IsFirstRepeat ks)) e h)
+-- what is given to the search, and what it answers
+pub own_spans : (out bytes : List ℕ) (came ss ds : List Span) (first : ℕ) (s : Shape) → bytes ≡ out → ds ≡ ss → first ≡ first_of came s → AreOf out (drop (first_of came s) came) (drop (first_of came s) ss)
+    → AreOf bytes (drop (first_of came s) came) (take (length ds - first) (drop first ds))
+own_spans out bytes came ss ds first s eb ed ef own =
+    let us : take (length ds - first) (drop first ds) ≡ drop (first_of came s) ss = take_rest ds first ∙ (λ i. drop (ef i) (ed i)) in
+    subst (λ (bs : List ℕ). AreOf bs (drop (first_of came s) came) (take (length ds - first) (drop first ds))) (sym eb) (subst (AreOf out (drop (first_of came s) came)) (sym us) own)
+
+pub own_found : (out bytes : List ℕ) (came ss ds : List Span) (first : ℕ) (s : Shape) (r found : Option ℕ) → bytes ≡ out → ds ≡ ss → first ≡ first_of came s
+    → AreOf out (drop (first_of came s) came) (drop (first_of came s) ss) → r ≡ found
+    → ((xs : List Span) → AreOf bytes xs (take (length ds - first) (drop first ds)) → MatchOption found (AreAllDifferent (map (key_of bytes) xs)) (IsFirstRepeat (map (key_of bytes) xs)))
+    → MatchOption r (AreAllDifferent (own_keys out came s)) (IsFirstRepeat (own_keys out came s))
+own_found out bytes came ss ds first s r found eb ed ef own er h =
+    subst (λ (x : Option ℕ). MatchOption x (AreAllDifferent (own_keys out came s)) (IsFirstRepeat (own_keys out came s))) (sym er)
+    (subst (λ (bs : List ℕ). MatchOption found (AreAllDifferent (own_keys bs came s)) (IsFirstRepeat (own_keys bs came s))) eb (h (drop (first_of came s) came) (own_spans out bytes came ss ds first s eb ed ef own)))
 
 pub moved : (P : KeyOrder → List ℕ → List Span → List Frame → Type 0) (o o' : KeyOrder) (out out' : List ℕ) (ss ss' : List Span) (fs fs' : List Frame)
     → o' ≡ o → out' ≡ out → ss' ≡ ss → fs' ≡ fs → P o out ss fs → P o' out' ss' fs'

@@ -19,8 +19,9 @@ use Rattle.cbor_canonical.proofs.Orders.{key_cmp_total, tied, lt_trans}
 use Rattle.cbor_builder.proofs.Neighbours.{differ_at, keys-map, differ_from_distinct, rising_from_differ, distinct_permuted}
 use Rattle.cbor_builder.proofs.SortedPairs.{sorted_is_in_order, sorted_view}
 use Rattle.cbor_canonical.proofs.Sorting.{rises_at, rising_cons, rising_distinct}
-use Rattle.cbor_buffer.specs.Spans.{span_pair, IsWithin, AreWithin}
+use Rattle.cbor_buffer.specs.Spans.{span_pair, no_span, IsWithin, AreWithin}
 use Rattle.cbor_builder.specs.inner.Front.{key_of, AreFronted, rank, ranked_by}
+use Rattle.cbor_builder.specs.inner.Repeats.{nth}
 use Rattle.cbor_head.specs.Value.{AreBytes}
 use Rattle.cbor_builder.proofs.Ranks.{agree_spans, fronted_at, sorted_keys, fronted_permuted}
 use Rattle.cbor_buffer.specs.declared.span.Span.{Span}
@@ -94,6 +95,18 @@ other_keys o x y e is = true≢false (ap is_eq (sym (tied_itself (key_cmp_total 
 pub within_permuted : (out : List ℕ) (xs ys : List Span) → IsPermutation xs ys → AreWithin out xs → AreWithin out ys
 within_permuted out xs ys m h =
     all_from (IsWithin out) ys (λ s i. all_at (IsWithin out) xs s h (contains_in xs s (Contains-permutation ys xs s (IsPermutation-sym xs ys m) (in_contains ys s i))))
+
+-- what a comparison of two of them says of their keys
+pub compared : (o : KeyOrder) (out : List ℕ) (ss : List Span) (i j : ℕ) (d e : Span) (r : Ordering) → AreBytes out → AreFronted out ss → i < length ss → j < length ss
+    → r ≡ rank o (ranked_by out (get_or ss i d)) (ranked_by out (get_or ss j e))
+    → (is_eq r ≡ true → key_of out (nth ss i) ≡ key_of out (nth ss j)) × (is_eq r ≡ false → key_of out (nth ss i) ≢ key_of out (nth ss j))
+compared o out ss i j d e r b f l m is =
+    let x = get_same ss i d no_span l in
+    let y = get_same ss j e no_span m in
+    let keys = is ∙ agree_spans o out (get_or ss i d) (get_or ss j e) b (fronted_at out ss i d f l) (fronted_at out ss j e f m) ∙ (λ t. key_cmp o (key_of out (x t)) (key_of out (y t))) in (
+      (λ t. equal_keys o (key_of out (nth ss i)) (key_of out (nth ss j)) (ap is_eq (sym keys) ∙ t)),
+      (λ t. other_keys o (key_of out (nth ss i)) (key_of out (nth ss j)) (ap is_eq (sym keys) ∙ t)),
+    )
 
 pub differ_step : (o : KeyOrder) (out : List ℕ) (ks : List Span) (j i : ℕ) (d e : Span) (r : Ordering) → AreBytes out → AreFronted out ks → j + 1 ≡ i → i < length ks
     → r ≡ rank o (ranked_by out (get_or ks j d)) (ranked_by out (get_or ks i e))

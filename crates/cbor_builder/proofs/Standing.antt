@@ -2,7 +2,7 @@
 use Rattle.std.proofs.Common.{◌≡◌, ℕ, List, [], ◌∷◌, ◌++◌, length, length-take, take, drop, take-append-drop, refl, sym, ap, ◌∙◌, subst, arith, inl, inr}
 use Rattle.cbor_head.specs.declared.order.KeyOrder.{KeyOrder}
 use Rattle.cbor_canonical.specs.Parts.{plain, closed, close, give, extended}
-use Rattle.cbor_builder.specs.inner.Laid.{shape_open, outer_spans, opens, Takes, IsReady, Completed, Stands, IsString}
+use Rattle.cbor_builder.specs.inner.Laid.{shape_open, outer_spans, opens, Takes, IsReady, Completed, Stands, IsString, Laid}
 use Rattle.cbor_buffer.specs.Moved.{meant, IsWhole, IsSettled, KeepsFront, Stays}
 use Rattle.cbor_builder.specs.inner.BuilderState.{Stand, IsLaid, standing, outers}
 use Rattle.cbor_builder.specs.declared.builder.Core.{Core}
@@ -13,7 +13,7 @@ use Rattle.cbor_builder.specs.declared.frame.Frame.{Frame}
 use Rattle.cbor_builder.specs.declared.frame.Shape.TheVariants.{Map}
 use Rattle.cbor_buffer.proofs.Drafts.{whole_length}
 use Rattle.cbor_builder.proofs.Growth.{given_by, ended_by, key_ready, outer_ready, lengthened, finished}
-use Rattle.cbor_builder.proofs.InPlace.{alone, agrees_refl, agrees_longer, agrees_by, waits_by, waits_refl, outer_agrees, completed_same, ready_same}
+use Rattle.cbor_builder.proofs.InPlace.{alone, agrees_refl, agrees_longer, agrees_by, waits_by, waits_refl, outer_agrees, completed_same, ready_same, laid_raw}
 use Rattle.cbor_buffer.proofs.Written.{drop_front}
 
 -- ---- one more member
@@ -95,3 +95,11 @@ member_longer o d d' b ss f fs s string w em el =
     let st = subst (λ (xs : List ℕ). Stands o xs ss (f ∷ fs) (extended b (opens (meant d) ss (f ∷ fs)))) (sym em) (lengthened o (meant d) b ss f fs s.0 string) in
     let a = agrees_longer d.buf (meant d) b ss f fs (omega (arith, l, s.0.0, s.0.1)) (omega (arith, s.0.0, s.0.1)) string s.2 in
     ((st.0, w, subst (λ (xs : List ℕ). Agrees xs (meant d') ss (f ∷ fs)) (sym el) (subst (λ (xs : List ℕ). Agrees (d.buf ++ b) xs ss (f ∷ fs)) (sym em) a)), st.1)
+
+-- the bytes as they lie in place of those that are meant: of what is open it makes no difference
+pub stand_cut : (o : KeyOrder) (d d' : Draft) (ss : List Span) (fs : List Frame) → Stand o d ss fs → IsWhole d' → meant d' ≡ d.buf → d'.buf ≡ d.buf → Stand o d' ss fs
+stand_cut o d d' ss fs s w em el = (
+  subst (λ (xs : List ℕ). Laid o xs ss fs) (sym em) (laid_raw o d.buf (meant d) ss fs (whole_length d s.1) s.2 s.0),
+  w,
+  agrees_refl d'.buf (meant d') ss fs (el ∙ sym em),
+)

@@ -6,5 +6,4 @@ pub mod InPlace
 pub mod Insertion
 pub mod Laid
 pub mod Neighbours
-pub mod Places
 pub mod Repeats

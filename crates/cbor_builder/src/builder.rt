@@ -6,8 +6,11 @@ ghost use Rattle.cbor_head.specs.Head.{shortest_head, IsSimple};
 ghost use Rattle.cbor_head.specs.declared.major.Major.TheVariants.{Simple};
 ghost use Rattle.cbor_builder.specs.Built.{IsKeyDue, IsRepeatedKey, IsWaitingKey};
 ghost use Rattle.cbor_canonical.specs.Parts.{plain, give, opened, extended};
-ghost use Rattle.cbor_builder.specs.inner.Laid.{Takes, IsString, outer_spans};
-ghost use Rattle.cbor_builder.specs.inner.BuilderState.{standing, innermost, outers, IsLaid};
+ghost use Rattle.cbor_builder.specs.inner.Laid.{Takes, IsString, outer_spans, shape_open};
+ghost use Rattle.cbor_builder.specs.inner.BuilderState.{standing, frames, outers, IsLaid, Stand};
+ghost use Rattle.cbor_builder.specs.inner.BuilderState.{WasLaid, came_standing};
+ghost use Rattle.cbor_builder.specs.declared.frame.Shape.TheVariants.{Key};
+ghost use Rattle.cbor_buffer.specs.declared.span.Span.{Span};
 ghost use Rattle.cbor_builder.specs.inner.Repeats.{TellsOf, Tells};
 ghost use Rattle.cbor_buffer.specs.Moved.{meant, IsWhole};
 
@@ -174,7 +177,8 @@ impl Core {
 
     // Whether the key that waits for its value is equal to an earlier one of its map.
     pub(crate) fn repeated(&self) -> bool
-        requires laid { IsLaid self.now }
+        requires laid { (first : ℕ) → (key : ℕ) → self.now.top.shape ≡ Key first key
+            → Stand self.now.order self.now.out self.now.spans.items (frames self.now) }
         ensures { IsTrue result ↔ IsRepeatedKey (standing self.now) }
     {
         match self.top.shape {
@@ -209,11 +213,15 @@ impl Core {
         }
     }
 
-    // Which repeated key is told: of the outermost open map that has one its first. Takes no
-    // memory.
-    pub(crate) fn first_repeat(mut self) -> Option<Repeat>
-        requires laid { IsLaid self }
-        ensures { Tells (standing self) result }
+    /// Which repeated key is told: of the outermost open map that has one its first. The spans of the
+    /// innermost may stand in another order than they came in. Then nothing is open. Takes no memory.
+    #[cold]
+    #[inline(never)]
+    pub(crate) fn first_repeat(&mut self) -> Option<Repeat>
+        requires laid { (came : List Span) × WasLaid came self.old }
+        ensures order { self.new.order ≡ self.old.order }
+        ensures tells { (came : List Span) → WasLaid came self.old
+            → Tells (came_standing came self.old) result }
     {
         // Of keys it makes no difference: they lie as they are meant.
         let len = self.out.len();
@@ -230,9 +238,11 @@ impl Core {
 
     // The pair of the first repeated key of the innermost, whose bytes and spans are taken away.
     fn take_repeat(&mut self) -> Option<usize>
-        requires laid { IsLaid self.old }
+        requires laid { (came : List Span) × WasLaid came self.old }
         requires lies { self.old.out.buf ≡ meant self.old.out }
-        ensures tells { TellsOf (innermost self.old) result }
+        ensures tells { (came : List Span) → WasLaid came self.old
+            → TellsOf (shape_open (meant self.old.out) came self.old.top.start self.old.top.shape)
+            result }
         ensures order { self.new.order ≡ self.old.order }
         ensures whole { IsWhole self.new.out }
         ensures meant { meant self.new.out ≡ take self.old.top.from self.old.out.buf }

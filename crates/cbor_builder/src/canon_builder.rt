@@ -1,23 +1,23 @@
 //! The public builder: canonical bytes from the parts of an item, without a tree.
 
-ghost use Rattle.std.specs.Prelude.{◌≡◌, ◌↔◌, ◌++◌, ◌∷◌, [], List, ℕ, false, length, IsTrue, OnOk, OnErr};
-ghost use Rattle.std.specs.Prelude.{◌≤◌, IfOk, take};
+ghost use Rattle.std.specs.Prelude.{◌≡◌, ◌↔◌, ◌≤◌, ◌++◌, ◌∷◌, [], List, ℕ, length, take};
+ghost use Rattle.std.specs.Prelude.{OnOk, OnErr, IfOk, IfSome, IsNone};
 ghost use Rattle.cbor_head.specs.Canonical.{canonical};
 ghost use Rattle.cbor_head.specs.Head.{shortest_head, IsSimple};
 ghost use Rattle.cbor_head.specs.Value.{Value};
 ghost use Rattle.cbor_head.specs.declared.major.Major.TheVariants.{Simple};
 ghost use Rattle.cbor_builder.specs.Built.{built, IsLeaf, IsStringType, IsContainer, TakesPart};
-ghost use Rattle.cbor_builder.specs.Built.{IsInString, HasDistinctKeysSoFar};
+ghost use Rattle.cbor_builder.specs.Built.{IsInString, HasDistinctKeysSoFar, IsRepeatTold};
 ghost use Rattle.cbor_canonical.specs.Parts.{IsInContainer, Part, Makes, run, plain, give, opened, extended, close};
 ghost use Rattle.cbor_builder.specs.Built.{around};
 
 mod due_key;
 
 use crate::builder::Core;
+use crate::repeat::Repeat;
 use cbor_head::{KeyOrder, Major};
 use std::alloc::{AllocError, Global};
 use std::marker::Model;
-use std::mem;
 
 /// Canonical bytes (RFC 8949, sections 4.2.1 and 4.2.3) from the parts of one item as they come,
 /// without a tree. A map's pairs are put in order as the map ends. A call that is refused memory
@@ -72,16 +72,6 @@ impl CanonBuilder {
     {
         self.core.clear(order);
         self.is_sound = true;
-    }
-
-    /// What it has been given, as a builder of its own. It is as new then, and takes no memory.
-    #[inline(always)]
-    pub fn take(&mut self) -> CanonBuilder
-        ensures taken { result ≡ self.old }
-        ensures new { self.new ≡ built self.old.order (plain [] ∷ []) }
-    {
-        let fresh = CanonBuilder::new(*self.core.spans.allocator(), self.core.order);
-        mem::replace(self, fresh)
     }
 
     /// An integer or a simple value. The argument of a negative integer n is -1 - n; that of a simple
@@ -264,44 +254,48 @@ impl CanonBuilder {
         Ok(())
     }
 
-    /// The array, map or tag ends, where its keys haven't been looked at: false where two keys of
-    /// the map are the same. Then it stays open, and `first_repeat` tells which. A map of n pairs
-    /// whose keys don't come in order takes some n log n comparisons.
+    /// The array, map or tag ends, where its keys haven't been looked at. Where two keys of the map are
+    /// the same it does not: then it answers what `first_repeat` would tell, and nothing is open, so
+    /// that the builder takes no more parts until it is cleared. A map of n pairs whose keys don't come
+    /// in order takes some n log n comparisons, once.
     #[inline(always)]
-    pub fn end_if_distinct(&mut self) -> Result<bool, AllocError>
+    pub fn end_if_distinct(&mut self) -> Result<Option<Repeat>, AllocError>
         requires container { IsInContainer self.old.standing }
         ensures order { self.new.order ≡ self.old.order }
         ensures distinct { IfOk result
-            (λ distinct. IsTrue distinct ↔ HasDistinctKeysSoFar self.old.standing) }
-        ensures ended { IfOk result (λ distinct. IsTrue distinct
+            (λ told. IsNone told ↔ HasDistinctKeysSoFar self.old.standing) }
+        ensures ended { IfOk result (λ told. IsNone told
             → self.new ≡ built self.old.order (close self.old.order self.old.standing)) }
-        ensures kept { IfOk result (λ distinct. distinct ≡ false → self.new ≡ self.old) }
+        ensures told { IfOk result (λ told. IfSome told
+            (λ repeat. IsRepeatTold self.old.standing repeat.outside repeat.pair)) }
+        ensures left { IfOk result (λ told. IfSome told (λ _. self.new.standing ≡ [])) }
         ensures refused { OnErr result (self.new.standing ≡ []) }
     {
         self.is_sound = false;
-        let is_distinct = self.core.end()?;
-        self.is_sound = true;
-        Ok(is_distinct)
+        let told = self.core.end()?;
+        self.is_sound = told.is_none();
+        Ok(told)
     }
 
-    /// The array, map or tag ends, and nothing of it is kept: false where two keys of the map are the
-    /// same. Then it stays open, and `first_repeat` tells which. It takes as many comparisons as
-    /// `end_if_distinct`.
+    /// The array, map or tag ends, and nothing of it is kept. Where two keys of the map are the same it
+    /// does not, as in `end_if_distinct`. It takes as many comparisons.
     #[inline(always)]
-    pub fn give_up_if_distinct(&mut self) -> Result<bool, AllocError>
+    pub fn give_up_if_distinct(&mut self) -> Result<Option<Repeat>, AllocError>
         requires container { IsInContainer self.old.standing }
         ensures order { self.new.order ≡ self.old.order }
         ensures distinct { IfOk result
-            (λ distinct. IsTrue distinct ↔ HasDistinctKeysSoFar self.old.standing) }
-        ensures around { IfOk result (λ distinct. IsTrue distinct
+            (λ told. IsNone told ↔ HasDistinctKeysSoFar self.old.standing) }
+        ensures around { IfOk result (λ told. IsNone told
             → self.new ≡ built self.old.order (around self.old.standing)) }
-        ensures kept { IfOk result (λ distinct. distinct ≡ false → self.new ≡ self.old) }
+        ensures told { IfOk result (λ told. IfSome told
+            (λ repeat. IsRepeatTold self.old.standing repeat.outside repeat.pair)) }
+        ensures left { IfOk result (λ told. IfSome told (λ _. self.new.standing ≡ [])) }
         ensures refused { OnErr result (self.new.standing ≡ []) }
     {
         self.is_sound = false;
-        let is_distinct = self.core.give_up()?;
-        self.is_sound = true;
-        Ok(is_distinct)
+        let told = self.core.give_up()?;
+        self.is_sound = told.is_none();
+        Ok(told)
     }
 
     /// The bytes, once the item is whole, as `finish` answers them. They stay where they are.

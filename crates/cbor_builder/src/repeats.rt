@@ -1,27 +1,39 @@
 //! The first key of a map that is equal to an earlier one.
 
-ghost use Rattle.std.specs.Prelude.{◌≡◌, ◌+◌, ◌^◌, ◌<◌, length, map, IsPermutation, IsSortedBy};
+ghost use Rattle.std.specs.Prelude.{◌≡◌, ◌+◌, ◌^◌, ◌<◌, List, length, map};
 ghost use Rattle.std.specs.Prelude.{IfSome, MatchOption};
-ghost use Rattle.std.specs.Ordering.{is_lt};
+ghost use Rattle.std.specs.List.{count_by};
+ghost use Rattle.cbor_buffer.specs.declared.span.Span.{Span};
 ghost use Rattle.cbor_builder.specs.Built.{AreAllDifferent, IsFirstRepeat};
 ghost use Rattle.cbor_builder.specs.inner.Front.{key_of, AreFronted};
-ghost use Rattle.cbor_builder.specs.inner.Repeats.{by_number, outward, AreNumbered, IsLeastSoFar};
+ghost use Rattle.cbor_builder.specs.inner.Repeats.{place, lies_before, HasPlace, ArePlaced, outward};
+ghost use Rattle.cbor_builder.specs.inner.Repeats.{AreOf, AreGrouped, IsFirstTie, IsFirstOf};
 
 use crate::ranking::compare;
 use crate::repeat::Repeat;
+use crate::sort::sort_by_keys;
 use cbor_buffer::span::Span;
 use cbor_head::KeyOrder;
 
-// The number of the first pair whose key is equal to an earlier one. The spans are put in order,
-// and their ends are lost. Takes no memory.
+/// Two pairs with equal keys, by their places.
+#[derive(Clone, Copy)]
+struct Tie {
+    earlier: usize,
+    later: usize,
+}
+
+/// The number of the first pair whose key is equal to an earlier one. The spans may lie in any
+/// order, and are sorted by their keys. Takes no memory.
 pub(crate) fn first_repeat(bytes: &[u8], order: KeyOrder, spans: &mut [Span]) -> Option<usize>
-    requires { AreFronted bytes.now spans.old }
-    ensures { let keys = map (key_of bytes.now) spans.old in
-        MatchOption result (AreAllDifferent keys) (IsFirstRepeat keys) }
+    requires { (xs : List Span) × AreOf bytes.now xs spans.old }
+    ensures { (xs : List Span) → AreOf bytes.now xs spans.old
+        → MatchOption result (AreAllDifferent (map (key_of bytes.now) xs))
+        (IsFirstRepeat (map (key_of bytes.now) xs)) }
 {
-    number(spans);
-    sort_by_number(bytes, order, spans);
-    least_tie(bytes, order, spans)
+    sort_by_keys(bytes, order, spans);
+    let tie = first_tie(bytes, order, spans)?;
+    // Where both lie at one place, one comes before the other all the same.
+    Some(count_before(spans, tie.later) + usize::from(tie.earlier == tie.later))
 }
 
 // Which is told from one container out: the first of its own pairs, or what is told within it,
@@ -40,34 +52,62 @@ pub(crate) fn outward(own: Option<usize>, within: Option<Repeat>, maps: usize) -
     }
 }
 
-// Each span has its number in place of its end.
-fn number(spans: &mut [Span])
-    ensures { AreNumbered spans.old spans.new (length spans.old) }
+// Of the pairs with equal keys, which stand together, those two whose later one comes first.
+fn first_tie(bytes: &[u8], order: KeyOrder, spans: &[Span]) -> Option<Tie>
+    requires fronted { AreFronted bytes.now spans.now }
+    requires placed { ArePlaced spans.now }
+    requires grouped { AreGrouped bytes.now spans.now }
+    ensures { IsFirstTie bytes.now spans.now (length spans.now) result }
 {
-    for i in 0..spans.len() {
-        spans[i].end = i;
+    if spans.is_empty() {
+        return None;
     }
-}
-
-// Sorts by the keys, and by the numbers where these are equal.
-fn sort_by_number(bytes: &[u8], order: KeyOrder, spans: &mut [Span])
-    ensures permuted { IsPermutation spans.old spans.new }
-    ensures sorted { IsSortedBy (λ x y. is_lt (by_number order bytes.now x y)) spans.new }
-{
-    spans.sort_unstable_by(|x, y| compare(bytes, order, x, y).then(x.end.cmp(&y.end)));
-}
-
-// The least number of a span whose left neighbour has an equal key.
-fn least_tie(bytes: &[u8], order: KeyOrder, spans: &[Span]) -> Option<usize>
-    requires { AreFronted bytes.now spans.now }
-    ensures { IsLeastSoFar bytes.now spans.now (length spans.now) result }
-{
-    let mut least = None;
+    let mut first = None;
+    // Of the key that stands here, where the first of its pairs lies.
+    let mut least = place(&spans[0]);
     for i in 1..spans.len() {
+        let here = place(&spans[i]);
         if compare(bytes, order, &spans[i - 1], &spans[i]).is_eq() {
-            let number = spans[i].end;
-            least = Some(least.unwrap_or(number).min(number));
+            let earlier = least.min(here);
+            let later = least.max(here);
+            first = Some(first_of(first, Tie { earlier, later }));
+            least = earlier;
+        } else {
+            least = here;
         }
     }
-    least
+    first
+}
+
+// The one whose later pair comes first, and where they share that, whose earlier one does.
+fn first_of(first: Option<Tie>, tie: Tie) -> Tie
+    ensures { IsFirstOf first tie result }
+{
+    match first {
+        Some(first) if (first.later, first.earlier) < (tie.later, tie.earlier) => first,
+        _ => tie,
+    }
+}
+
+// How many pairs lie before this place.
+fn count_before(spans: &[Span], at: usize) -> usize
+    requires { ArePlaced spans.now }
+    ensures { result ≡ count_by (lies_before at) spans.now }
+{
+    let mut count = 0;
+    for span in spans {
+        if place(span) < at {
+            count += 1;
+        }
+    }
+    count
+}
+
+// Where a pair lies: twice its middle. That tells apart all pairs but those of no bytes that lie at
+// one place, whose keys are equal.
+fn place(span: &Span) -> usize
+    requires { HasPlace span.now }
+    ensures { result ≡ place span.now }
+{
+    span.key + span.end
 }

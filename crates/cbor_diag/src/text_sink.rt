@@ -168,13 +168,13 @@ impl<'a, 'o> Sink<'a> for TextSink<'o> {
     }
 
     #[inline(always)]
-    fn end(&mut self, _is_map: bool) -> Result<bool, AllocError> {
+    fn end(&mut self, _is_map: bool) -> Result<Option<Repeat>, AllocError> {
         let Some(open) = self.inner else {
             unreachable!();
         };
         put_closer(open.kind, self.out, self.shown)?;
         self.inner = self.around.pop();
-        Ok(true)
+        Ok(None)
     }
 
     // It keeps none.

@@ -58,7 +58,7 @@ pub(crate) fn encode_distinct(
                 let Some(behind) = outer.pop() else {
                     break;
                 };
-                if !builder.end_if_distinct()? {
+                if builder.end_if_distinct()?.is_some() {
                     return Ok(None);
                 }
                 rest = behind;

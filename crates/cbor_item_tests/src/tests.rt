@@ -2,6 +2,7 @@
 
 mod canon_builder;
 mod failed;
+mod repeats;
 mod reused;
 mod sorted;
 mod tree_builder;

@@ -8,7 +8,7 @@ use Rattle.cbor_head.specs.Complaint.{plain, Complaint}
 use Rattle.cbor_head.specs.declared.order.KeyOrder.{KeyOrder}
 use Rattle.cbor_head.specs.declared.reason.Reason.TheVariants.{RepeatedKey}
 use Rattle.cbor_builder.specs.Built.{HasKey, IsRepeatedKey, keys_so_far, AreAllDifferent, AreOpenKeysDifferent}
-use Rattle.cbor_builder.proofs.FirstRepeat.{distinct_different}
+use Rattle.cbor_builder.proofs.KeysSoFar.{distinct_different}
 use Rattle.cbor_canonical.specs.Pairs.{HasDistinctBytes}
 use Rattle.cbor_canonical.specs.Parts.{Open, plain as a_plain, an_array, a_map, a_key, a_string, pair}
 use Rattle.cbor_judging.specs.Judged.{IsJudged}

@@ -18,7 +18,7 @@ use Rattle.cbor_plain.proofs.TreeValues.{full-ends, levels-take, may-end, settle
 use Rattle.cbor_view.specs.Seen.{standing}
 use Rattle.cbor_sinks.specs.KeyBytes.{keys_stand, keys_hold}
 use Rattle.cbor_sinks.specs.declared.key_bytes.KeyBytes.{KeyBytes}
-use Rattle.cbor_walk.specs.Sink.{FindsNoRepeat, IsWithin, FindsRepeat, IsToldIn, Told, IsOpened, IsEndedAs, StandsFull, IsItemDue, IsChunkDue, IsContainerFull, Gives, Opens, Ends, StaysFull, BeginsString, GrowsString, EndsString}
+use Rattle.cbor_walk.specs.Sink.{FindsNoRepeat, FindsRepeat, Told, IsOpened, IsEndedAs, StandsFull, IsItemDue, IsChunkDue, IsContainerFull, Gives, Opens, Ends, Repeats, BeginsString, GrowsString, EndsString}
 
 -- ---- an item
 
@@ -77,14 +77,9 @@ ended k old new keys views start d ls s fills full =
     let e = keys start.keys d ls s fills (keys-full k d start old ls s full) in
     (e.0, (e.1, settles-right ls s, views ∙ ap close (views-full k d start old ls s full).0 ∙ values-ended ls s))
 
--- where two keys are equal it has not ended
-pub stayed : (k : Bool) (old new : ViewSink) → StaysFull KeyBytes keys_stand false k old.keys new.keys → standing new.views ≡ standing old.views → StaysFull ViewSink view_stands false k old new
-stayed k old new keys views start d ls s fills full = let are = views-full k d start old ls s full in by-keys are.0 are.1 (keys start.keys d ls s fills (keys-full k d start old ls s full))
-  where
-    by-keys : standing old.views ≡ full_value s ∷ level_values ls → IsContainer s → StandsFull KeyBytes (Told KeyBytes keys_stand k) d start.keys new.keys ls s → StandsFull ViewSink (Told ViewSink view_stands k) d start new ls s
-    by-keys are container (inl (at, told)) = inl ((at, container, views ∙ are), told)
-    by-keys are container (inr (l, ended, levels, (at, told))) =
-        inr (l, ended, levels, ((at, tt, views ∙ are ∙ ap (λ (c : OpenValue). c ∷ level_values ls) (sym (ended-as l s ended).0)), told))
+-- two keys are equal
+pub repeats : (k : Bool) (g : ViewSink) (repeat : Repeat) → Repeats KeyBytes keys_stand false k g.keys repeat → Repeats ViewSink view_stands false k g repeat
+repeats k g repeat keys start d ls s fills full = keys start.keys d ls s fills (keys-full k d start g ls s full)
 
 -- ---- strings in chunks
 
@@ -126,8 +121,5 @@ no-repeat g h start ls (inl at) = h start.keys ls (inl at.0)
 no-repeat g h start ls (inr (is_text, content, at)) = h start.keys ls (inl at.0)
 
 pub repeat-found : (g : ViewSink) (repeat : Repeat) → FindsRepeat KeyBytes keys_stand keys_hold g.keys repeat → FindsRepeat ViewSink view_stands view_holds g repeat
-repeat-found g repeat h = record { within = by-place; full = λ start ls s at. h.full start.keys ls s at.0 }
-  where
-    by-place : (start : ViewSink) (ls : List Level) → IsWithin ViewSink view_stands view_holds start g ls → IsToldIn ls repeat
-    by-place start ls (inl at) = h.within start.keys ls (inl at.0)
-    by-place start ls (inr (is_text, content, at)) = h.within start.keys ls (inl at.0)
+repeat-found g repeat h start ls (inl at) = h start.keys ls (inl at.0)
+repeat-found g repeat h start ls (inr (is_text, content, at)) = h start.keys ls (inl at.0)

@@ -12,7 +12,7 @@ use cbor_head::{KeyOrder, Limits, Reason, Refusal};
 use cbor_walk::canonical_front;
 
 /// How many bytes the item has that the slice begins with, where they are its canonical bytes in this
-/// order; else why there are none, and, but where it [`may_be_valid`], the item's refusal.
+/// order; else why they are none: unless the item [`may_be_valid`], that is its refusal.
 #[inline(always)]
 pub(crate) fn first_look(bytes: &[u8], limits: Limits, order: KeyOrder) -> Result<u64, Refusal>
     ensures accepted { IfOk result (λ count.

@@ -121,12 +121,12 @@ impl<'a> Sink<'a> for ViewSink<'a> {
     }
 
     #[inline(never)]
-    fn end(&mut self, is_map: bool) -> Result<bool, AllocError> {
-        let is_distinct = self.keys.end(is_map)?;
-        if is_distinct {
-            self.views.end()?;
+    fn end(&mut self, is_map: bool) -> Result<Option<Repeat>, AllocError> {
+        if let Some(repeat) = self.keys.end(is_map)? {
+            return Ok(Some(repeat));
         }
-        Ok(is_distinct)
+        self.views.end()?;
+        Ok(None)
     }
 
     fn first_repeat(&mut self) -> Option<Repeat> {

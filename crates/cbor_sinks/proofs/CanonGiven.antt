@@ -1,6 +1,6 @@
 -- A builder of canonical bytes that is given the parts of an item: what it stands for behind each.
 use Rattle.std.proofs.Common.{◌≡◌, ℕ, suc, ◌+◌, ◌-◌, ◌^◌, ◌<◌, Bool, true, false, List, [], ◌∷◌, ◌++◌, length, refl, sym, ap, ap₂, ◌∙◌, subst, arith, inl, inr}
-use Rattle.std.specs.Prelude.{◌↔◌, IsTrue, Option, Some, None, MatchOption, IfSome, Result, Ok, Err, IfOk}
+use Rattle.std.specs.Prelude.{◌↔◌, IsNone, Option, Some, None, MatchOption, IfSome, Result, Ok, Err, IfOk}
 use Rattle.std.specs.Option.{is_some}
 use Rattle.std.proofs.lemmas.List.{length-append}
 use Rattle.cbor_head.specs.Canonical.{canonical, canonical_all, canonical_entries}
@@ -12,6 +12,7 @@ use Rattle.cbor_head.specs.declared.major.Major.TheVariants as majors
 use Rattle.cbor_head.specs.declared.order.KeyOrder.{KeyOrder}
 use Rattle.cbor_head.specs.declared.width.Width.TheVariants.{Indefinite}
 use Rattle.cbor_builder.specs.Built.{Built, built, AreOpenKeysDifferent, IsLeaf, IsInString, HasDistinctKeysSoFar, TakesPart}
+use Rattle.cbor_builder.specs.declared.repeat.Repeat.{Repeat}
 use Rattle.cbor_canonical.specs.Parts.{IsInContainer}
 use Rattle.cbor_canonical.specs.Parts as parts
 use Rattle.cbor_grammar.proofs.Counts.{holds_fits}
@@ -24,7 +25,7 @@ use Rattle.cbor_judging.specs.Place.{Place}
 use Rattle.cbor_judging.specs.Reading.{string_major, string_value}
 use Rattle.cbor_sinks.specs.CanonSink.{canon_stands, sink_stands, sink_holds}
 use Rattle.cbor_sinks.specs.declared.canonical_sink.CanonicalSink.{CanonicalSink}
-use Rattle.cbor_walk.specs.Sink.{FindsNoRepeat, leaf_value, Told, IsOpened, Completes, Fills, IsEndedAs, StandsFull, IsItemDue, Gives, Opens, IsContainerFull, Ends, StaysFull, IsChunkDue, EndsString}
+use Rattle.cbor_walk.specs.Sink.{FindsNoRepeat, leaf_value, Told, IsOpened, Completes, Fills, IsEndedAs, StandsFull, IsItemDue, Gives, Opens, IsContainerFull, Ends, IsChunkDue, EndsString}
 
 -- ---- the bytes of values
 
@@ -123,7 +124,7 @@ full-endless start g d ls (some_key done) (a_map w es) at levels ended k =
     )
 full-endless start g d ls l s at levels ended k = absurd ended
 
-stands-full : {trusts : Bool} (t : Bool) (start g : CanonicalSink) (d : ℕ) (ls : List Level) (s : Spelling) → Fills trusts d ls s → StandsFull CanonicalSink (Told CanonicalSink sink_stands t) d start g ls s → sink_stands start g (item_full ls s)
+pub stands-full : {trusts : Bool} (t : Bool) (start g : CanonicalSink) (d : ℕ) (ls : List Level) (s : Spelling) → Fills trusts d ls s → StandsFull CanonicalSink (Told CanonicalSink sink_stands t) d start g ls s → sink_stands start g (item_full ls s)
 stands-full t start g d ls s k (inl at) = at.0
 stands-full t start g d ls s k (inr (l, ended, levels, at)) = full-endless start.builder g.builder d ls l s at.0 levels ended k
 
@@ -144,16 +145,16 @@ ended t old new distinct is start d ls s k stood =
           (ap (λ (x : Built). x.standing) is ∙ ap₂ (λ (o : KeyOrder) (os : List parts.Open). parts.close o os) at.0 at.1.3 ∙ ap (λ (x : List ℕ). parts.give x (opens start.builder.order ls)) full.canonical_is),
     )
 
-pub ends-if : (trusts : Bool) {E : Type 0} (r : Result Bool E) (t : Bool) (old new : CanonicalSink) → IfOk r (λ d. IsTrue d ↔ HasDistinctKeysSoFar old.builder.standing) → IfOk r (λ d. IsTrue d → new.builder ≡ built old.builder.order (parts.close old.builder.order old.builder.standing))
-    → IfOk r (λ d. IsTrue d → Ends CanonicalSink sink_stands trusts t old new)
-ends-if trusts (Ok d) t old new x y = λ yes. ended t old new (x.0 yes) (y yes)
+-- by what the builder answers
+pub ends-if : (trusts : Bool) {E : Type 0} (r : Result (Option Repeat) E) (t : Bool) (old new : CanonicalSink) → IfOk r (λ told. IsNone told ↔ HasDistinctKeysSoFar old.builder.standing) → IfOk r (λ told. IsNone told → new.builder ≡ built old.builder.order (parts.close old.builder.order old.builder.standing))
+    → IfOk r (λ told. IsNone told → Ends CanonicalSink sink_stands trusts t old new)
+ends-if trusts (Ok told) t old new x y = λ none. ended t old new (x.0 none) (y none)
 ends-if trusts (Err e) t old new x y = tt
 
--- where two keys are equal, what it is made of is as it was
-pub stays-if : {S B E : Type 0} (stands : S → S → Standing → Type 0) (trusts t : Bool) (make : B → S) (r : Result Bool E) (old new : B) → IfOk r (λ d. d ≡ false → new ≡ old)
-    → IfOk r (λ d. d ≡ false → StaysFull S stands trusts t (make old) (make new))
-stays-if {S} {B} stands trusts t make (Ok d) old new kept = λ repeats start e ls s fills full. subst (λ (b : B). StandsFull S (Told S stands t) e start (make b) ls s) (sym (kept repeats)) full
-stays-if stands trusts t make (Err e) old new kept = tt
+pub repeats-if : {E : Type 0} (r : Result (Option Repeat) E) (P Q : Repeat → Type 0) → ((repeat : Repeat) → P repeat → Q repeat) → IfOk r (λ told. IfSome told P) → IfOk r (λ told. IfSome told Q)
+repeats-if (Ok None) P Q f h = tt
+repeats-if (Ok (Some repeat)) P Q f h = f repeat h
+repeats-if (Err e) P Q f h = tt
 
 -- ---- strings in chunks
 

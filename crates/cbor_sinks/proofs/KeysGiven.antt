@@ -1,8 +1,9 @@
 -- What finds equal keys, and is given the parts of an item: what it stands for behind each.
 use Rattle.std.proofs.Common.{◌≡◌, ℕ, zero, suc, ◌^◌, ◌<◌, Bool, true, false, List, [], ◌∷◌, refl, sym, ap, ◌∙◌, subst, inl, inr, arith}
-use Rattle.std.specs.Prelude.{◌⊎◌, ◌↔◌, IsTrue, Result, Ok, Err, IfOk}
+use Rattle.std.specs.Prelude.{◌⊎◌, ◌↔◌, IsNone, Option, Result, Ok, Err, IfOk}
 use Rattle.std.proofs.lemmas.Bool.{false≢true}
 use Rattle.cbor_builder.specs.Built.{Built, built, HasDistinctKeysSoFar, TakesPart, around}
+use Rattle.cbor_builder.specs.declared.repeat.Repeat.{Repeat}
 use Rattle.cbor_canonical.specs.Parts.{IsInContainer, Open, plain, give, close}
 use Rattle.cbor_head.specs.Canonical.{canonical}
 use Rattle.cbor_head.specs.Spelling.{Spelling, array, a_map, value_of}
@@ -79,7 +80,7 @@ endless o d ls l s levels ended fills =
     let at = (full-endless (built o []) (built o (opens o (l ∷ ls))) d ls l s (refl, refl) levels ended fills).1 in
     (at.0, subst (λ (c : Open). IsFull o at.0 c s) (sym (ap innermost at.3)) at.2)
 
-full-at : (k : Bool) (d : ℕ) (start g : KeyBytes) (ls : List Level) (s : Spelling) → Fills false d ls s → StandsFull KeyBytes (Told KeyBytes keys_stand k) d start g ls s → Told KeyBytes keys_stand k start g (item_full ls s)
+pub full-at : (k : Bool) (d : ℕ) (start g : KeyBytes) (ls : List Level) (s : Spelling) → Fills false d ls s → StandsFull KeyBytes (Told KeyBytes keys_stand k) d start g ls s → Told KeyBytes keys_stand k start g (item_full ls s)
 full-at k d start g ls s fills (inl at) = at
 full-at k d start g ls s fills (inr (l, ended, levels, at)) =
     let o = g.builder.order in
@@ -143,7 +144,7 @@ ended-inner k old new some distinct is =
     let behind = inner-ended o (in_key ls) (inside ls) new.inside (key_due ls) c (kept_all o ls) (in_key-is ls) (some ∙ n) (subst HasDistinctKeysSoFar at distinct) in
     record { differ = behind.differ; holds = ap (λ (x : Built). x.standing) is ∙ ap (λ (os : List Open). behind_item new.inside (close o os)) at ∙ behind.holds; count = behind.count })
 
-pub map-ends : {E : Type 0} (r : Result Bool E) (k : Bool) (old : KeyBytes) (new : Built) → k ≡ true → old.inside ≡ 0 → IfOk r (λ d. IsTrue d ↔ HasDistinctKeysSoFar old.builder.standing)
-    → IfOk r (λ d. IsTrue d → new ≡ built old.builder.order (around old.builder.standing)) → IfOk r (λ d. IsTrue d → Ends KeyBytes keys_stand false k old (record { builder = new; inside = old.inside }))
-map-ends (Ok d) k old new keeps none x y = λ t. ended-map k old (record { builder = new; inside = old.inside }) keeps none (x.0 t) (y t) refl
+pub map-ends : {E : Type 0} (r : Result (Option Repeat) E) (k : Bool) (old : KeyBytes) (new : Built) → k ≡ true → old.inside ≡ 0 → IfOk r (λ told. IsNone told ↔ HasDistinctKeysSoFar old.builder.standing)
+    → IfOk r (λ told. IsNone told → new ≡ built old.builder.order (around old.builder.standing)) → IfOk r (λ told. IsNone told → Ends KeyBytes keys_stand false k old (record { builder = new; inside = old.inside }))
+map-ends (Ok told) k old new keeps none x y = λ t. ended-map k old (record { builder = new; inside = old.inside }) keeps none (x.0 t) (y t) refl
 map-ends (Err e) k old new keeps none x y = tt

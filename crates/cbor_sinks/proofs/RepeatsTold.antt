@@ -10,12 +10,14 @@ use Rattle.cbor_head.specs.declared.order.KeyOrder.{KeyOrder}
 use Rattle.cbor_judging.specs.Given.{level_open, opens, full_open, IsHeldAs, IsNoMap}
 use Rattle.cbor_judging.specs.Levels.{Level}
 use Rattle.cbor_judging.specs.Reading.{string_major}
+use Rattle.cbor_sinks.proofs.CanonGiven.{stands-full}
+use Rattle.cbor_sinks.proofs.KeysGiven.{full-at}
 use Rattle.cbor_sinks.proofs.KeysApart.{bare-keys, waiting-keys, all-apart}
 use Rattle.cbor_sinks.specs.CanonSink.{sink_stands, sink_holds}
 use Rattle.cbor_sinks.specs.KeyBytes.{in_key, bare_pairs, kept, kept_all, keys_stand, keys_hold}
 use Rattle.cbor_sinks.specs.declared.canonical_sink.CanonicalSink.{CanonicalSink}
 use Rattle.cbor_sinks.specs.declared.key_bytes.KeyBytes.{KeyBytes}
-use Rattle.cbor_walk.specs.Sink.{IsWithin, IsToldIn, FindsRepeat}
+use Rattle.cbor_walk.specs.Sink.{FindsRepeat, Repeats}
 
 -- ---- by the keys of the innermost alone
 
@@ -99,35 +101,31 @@ module _ (g : CanonicalSink) (repeat : Repeat) (h : IsRepeatTold g.builder.stand
   abbrev in-canon : List Open → Type 0
   in-canon os = IsRepeatTold os repeat.outside repeat.pair
 
-  canon-within : (start : CanonicalSink) (ls : List Level) → IsWithin CanonicalSink sink_stands sink_holds start g ls → IsToldIn ls repeat
-  canon-within start ls (inl at) = (start.builder.order, subst in-canon at.1 h)
-  canon-within start ls (inr (is_text, content, at)) =
+  pub canon-finds : FindsRepeat CanonicalSink sink_stands sink_holds g repeat
+  canon-finds start ls (inl at) = (start.builder.order, subst in-canon at.1 h)
+  canon-finds start ls (inr (is_text, content, at)) =
       let o = start.builder.order in
       (o, around-told (a_string (string_major is_text) content) (opens o ls) repeat.outside repeat.pair refl (subst in-canon at.1 h))
 
-  pub canon-finds : FindsRepeat CanonicalSink sink_stands sink_holds g repeat
-  canon-finds = record {
-    within = canon-within;
-    full = λ start ls s at.
-        let o = start.builder.order in
-        (o, full-told o at.1.1 s (opens o ls) repeat.outside repeat.pair at.1.2.held (subst in-canon at.1.3 h));
-  }
+  pub canon-repeats : (trusts t : Bool) → Repeats CanonicalSink sink_stands trusts t g repeat
+  canon-repeats trusts t start d ls s fills full =
+      let o = start.builder.order in
+      let at = (stands-full t start g d ls s fills full).1 in
+      (o, full-told o at.1 s (opens o ls) repeat.outside repeat.pair at.2.held (subst in-canon at.3 h))
 
 module _ (g : KeyBytes) (repeat : Repeat) (h : IsRepeatTold g.builder.standing repeat.outside repeat.pair) where
   abbrev in-keys : List Open → Type 0
   in-keys os = IsRepeatTold os repeat.outside repeat.pair
 
-  keys-within : (start : KeyBytes) (ls : List Level) → IsWithin KeyBytes keys_stand keys_hold start g ls → IsToldIn ls repeat
-  keys-within start ls (inl at) = (g.builder.order, all-told g.builder.order ls repeat.outside repeat.pair (subst in-keys at.0 h))
-  keys-within start ls (inr (is_text, content, at)) =
+  pub keys-find : FindsRepeat KeyBytes keys_stand keys_hold g repeat
+  keys-find start ls (inl at) = (g.builder.order, all-told g.builder.order ls repeat.outside repeat.pair (subst in-keys at.0 h))
+  keys-find start ls (inr (is_text, content, at)) =
       let o = g.builder.order in
       let c = a_string (string_major is_text) content in
       (o, around-told c (opens o ls) repeat.outside repeat.pair refl (within-told o ls c repeat.outside repeat.pair (subst in-keys at.0 h)))
 
-  pub keys-find : FindsRepeat KeyBytes keys_stand keys_hold g repeat
-  keys-find = record {
-    within = keys-within;
-    full = λ start ls s at.
-        let o = g.builder.order in
-        (o, full-told o at.1 s (opens o ls) repeat.outside repeat.pair at.2.held (within-told o ls at.1 repeat.outside repeat.pair (subst in-keys at.4 h)));
-  }
+  pub keys-repeat : (t : Bool) → Repeats KeyBytes keys_stand false t g repeat
+  keys-repeat t start d ls s fills full =
+      let o = g.builder.order in
+      let at = (full-at t d start g ls s fills full).0 in
+      (o, full-told o at.1 s (opens o ls) repeat.outside repeat.pair at.2.held (within-told o ls at.1 repeat.outside repeat.pair (subst in-keys at.4 h)))

@@ -89,12 +89,12 @@ impl<'a> Sink<'a> for CanonicalSink {
     }
 
     #[inline(always)]
-    fn end(&mut self, _is_map: bool) -> Result<bool, AllocError> {
+    fn end(&mut self, _is_map: bool) -> Result<Option<Repeat>, AllocError> {
         self.builder.end_if_distinct()
     }
 
     fn first_repeat(&mut self) -> Option<Repeat> {
-        self.builder.take().first_repeat()
+        self.builder.first_repeat()
     }
 }
 

@@ -1,11 +1,11 @@
 //! The canonical bytes of the keys of an item whose parts come, and of nothing else.
 
-ghost use Rattle.std.specs.Prelude.{◌≡◌, ◌<◌, [], false, IfOk, IsTrue, OnOk};
+ghost use Rattle.std.specs.Prelude.{◌≡◌, ◌<◌, [], false, IfOk, IfSome, IsNone, OnOk};
 ghost use Rattle.cbor_builder.specs.Built.{built, TakesPart};
 ghost use Rattle.cbor_judging.specs.Levels.{item_due};
 ghost use Rattle.cbor_sinks.specs.KeyBytes.{is_kept, behind_item, keys_stand, keys_hold};
 ghost use Rattle.cbor_sinks.specs.declared.key_bytes.KeyBytes.{KeyBytes};
-ghost use Rattle.cbor_walk.specs.Sink.{IsContainerFull, Ends};
+ghost use Rattle.cbor_walk.specs.Sink.{IsContainerFull, Ends, Repeats};
 
 use crate::canonical_sink::string_type;
 use cbor_builder::{CanonBuilder, Repeat};
@@ -64,21 +64,22 @@ impl KeyBytes {
         Ok(())
     }
 
-    // A container that stands in a key ends.
+    // A container that stands in a key ends, as in the sink.
     #[inline(never)]
-    fn end_in_key(&mut self, is_map: bool) -> Result<bool, AllocError>
+    fn end_in_key(&mut self, is_map: bool) -> Result<Option<Repeat>, AllocError>
         requires inside { 0 < self.old.inside }
         requires full { IsContainerFull KeyBytes keys_stand false is_map self.old }
-        ensures ends { IfOk result (λ is_distinct. IsTrue is_distinct
+        ensures ends { IfOk result (λ told. IsNone told
             → Ends KeyBytes keys_stand false is_map self.old self.new) }
-        ensures kept { IfOk result (λ is_distinct. is_distinct ≡ false → self.new ≡ self.old) }
+        ensures repeats { IfOk result (λ told. IfSome told
+            (Repeats KeyBytes keys_stand false is_map self.old)) }
     {
-        if !self.builder.end_if_distinct()? {
-            return Ok(false);
+        if let Some(repeat) = self.builder.end_if_distinct()? {
+            return Ok(Some(repeat));
         }
         self.inside -= 1;
         self.settle()?;
-        Ok(true)
+        Ok(None)
     }
 }
 
@@ -157,17 +158,17 @@ impl<'a> Sink<'a> for KeyBytes {
     }
 
     #[inline(always)]
-    fn end(&mut self, is_map: bool) -> Result<bool, AllocError> {
+    fn end(&mut self, is_map: bool) -> Result<Option<Repeat>, AllocError> {
         if self.inside == 0 {
             if is_map {
                 return self.builder.give_up_if_distinct();
             }
-            return Ok(true);
+            return Ok(None);
         }
         self.end_in_key(is_map)
     }
 
     fn first_repeat(&mut self) -> Option<Repeat> {
-        self.builder.take().first_repeat()
+        self.builder.first_repeat()
     }
 }

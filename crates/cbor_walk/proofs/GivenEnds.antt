@@ -14,7 +14,7 @@ use Rattle.cbor_judging.specs.Frame.{with_all, with_entries}
 use Rattle.cbor_judging.specs.Given.{opens, StandsAt}
 use Rattle.cbor_judging.specs.Levels.{IsTaken, Level, a_member, a_key, a_value, some_member, some_key, some_value, tagged, frame, AreLevels, bytes_before, Standing, item_due, item_full, settle}
 use Rattle.cbor_judging.specs.Place.{close}
-use Rattle.cbor_walk.specs.Sink.{takes_key, is_map, IsEndedAs}
+use Rattle.cbor_walk.specs.Sink.{is_map, IsEndedAs, StandsFull}
 use Rattle.cbor_walk.specs.inner.Building.{IsDue, HasEnded, IsCellFull, HasFilled}
 use Rattle.cbor_walk.specs.inner.Open.{pairs, counted, opener, full_opener, behind_head, cell_of, cells_of, after}
 use Rattle.cbor_walk.specs.inner.OpenMaps.{HasTakenPairs}
@@ -23,7 +23,7 @@ use Rattle.cbor_walk.specs.declared.open.Open.{Open}
 use Rattle.cbor_walk.proofs.GivenParts.{cells-count}
 use Rattle.cbor_walk.proofs.PathSteps.{member_count, pair_count, last_member, last_pair}
 
-cell-behind : (behind : ℕ) (l : Level) → (cell_of behind l).behind ≡ behind
+pub cell-behind : (behind : ℕ) (l : Level) → (cell_of behind l).behind ≡ behind
 cell-behind behind (a_member w left done) = refl
 cell-behind behind (a_key w left done) = refl
 cell-behind behind (a_value w left done k) = refl
@@ -38,6 +38,11 @@ some-is x y e = cc
 module _ (S : Type 0) (stands : S → S → Standing → Type 0) (trusts : Bool) (start : S) (d : ℕ) (input : List ℕ) where
   begins-there : (l : Level) (ls : List Level) (item : Spelling) → opener l ≡ full_opener item → (cell_of (behind_head (length input) ls l) l).behind ≡ length input - length (bytes_before ls ++ full_opener item)
   begins-there l ls item heads = cell-behind (behind_head (length input) ls l) l ∙ ap (λ (x : List ℕ). length input - length (bytes_before ls ++ x)) heads
+
+  -- it has a cell, and so others are around it
+  filled : (top : Open) (cs : List Open) (g : S) (rest : List ℕ) → IsCellFull S stands trusts (StandsFull S stands d start g) d input top cs rest → HasFilled S stands trusts start d input (top ∷ cs) g rest
+  filled top [] g rest s = absurd (omega (arith, ap length s.cells, cells-count (length input) s.ls))
+  filled top (c ∷ cs) g rest s = s
 
   -- ---- behind an item
 
@@ -111,43 +116,41 @@ module _ (S : Type 0) (stands : S → S → Standing → Type 0) (trusts : Bool)
             goes-on new l ls (some_key (with_entries done (entry key h.item no_entries))) k (on l ls k) refl refl st.0 st.1 k.3
         go (tagged w n ∷ ls) k = absurd (no-more new (on (tagged w n) ls k))
 
-    filled : (new : Open) (cs : List Open) (ls : List Level) → cs ≡ cells_of (length input) ls → IsCellFull S stands trusts start d input (new ∷ cs) g rest → HasFilled S stands trusts new start d input cs g rest
-    filled new [] ls e s = absurd (omega (arith, ap length e, cells-count (length input) ls))
-    filled new (x ∷ xs) ls e s = s
-
     -- nothing is due in it; its cell may be another, of the same kind, which begins there
     module _ (new : Open) (same_kind : pairs new.due ≡ pairs c.due) (same_place : new.behind ≡ c.behind) where
       fills : (l : Level) (ls : List Level) → levels-with (l ∷ ls) → (item : Spelling) → pairs (cell_of (behind_head (length input) ls l) l).due ≡ is_map item → opener l ≡ full_opener item → AreLevels d ls → bytes_before (l ∷ ls) ++ spell h.item ≡ bytes_before ls ++ spell item
-          → IsSpelled item → depth item ≤ d - length ls → HasTakenPairs (d - suc (length ls)) item → stands start g (item_full ls item) → HasFilled S stands trusts new start d input cs g rest
-      fills l ls k item kind heads levels same spelled within taken given = filled new cs ls (cells-are l ls k.2) (record {
+          → IsSpelled item → depth item ≤ d - length ls → HasTakenPairs (d - suc (length ls)) item → stands start g (item_full ls item) → HasFilled S stands trusts start d input (new ∷ cs) g rest
+      fills l ls k item kind heads levels same spelled within taken given = filled new cs g rest (record {
         ls = ls;
         item = item;
         levels = levels;
         spelled = spelled;
         within = within;
-        complete = taken;
-        cell = new;
-        cells = ap (λ (xs : List Open). new ∷ xs) (cells-are l ls k.2);
-        is_map = pairs c.due;
-        kind = same_kind;
-        begins = same_place ∙ ap (λ (x : Open). x.behind) (cell-is l ls k.2) ∙ begins-there l ls item heads;
-        given = inl (given, ap (λ (x : Open). pairs x.due) (cell-is l ls k.2) ∙ kind);
+        cells = cells-are l ls k.2;
+        given = (
+          inl given,
+          record {
+            kind = same_kind ∙ ap (λ (x : Open). pairs x.due) (cell-is l ls k.2) ∙ kind;
+            place = same_place ∙ ap (λ (x : Open). x.behind) (cell-is l ls k.2) ∙ begins-there l ls item heads;
+            taken = taken;
+          },
+        );
         bytes = k.4 ∙ ap (λ (x : List ℕ). x ++ rest) same;
         small = h.small;
         known = h.known;
       })
 
-      pub is-full : after c ≡ None → HasFilled S stands trusts new start d input cs g rest
+      pub is-full : after c ≡ None → HasFilled S stands trusts start d input (new ∷ cs) g rest
       is-full e = go h.ls (h.levels, h.taken, h.cells, h.given, h.bytes)
         where
           on : (l : Level) (ls : List Level) (k : levels-with (l ∷ ls)) → after (cell_of (behind_head (length input) ls l) l) ≡ None
           on l ls k = ap after (sym (cell-is l ls k.2)) ∙ e
 
-          go : (ls : List Level) → levels-with ls → HasFilled S stands trusts new start d input cs g rest
+          go : (ls : List Level) → levels-with ls → HasFilled S stands trusts start d input (new ∷ cs) g rest
           go [] k =
               let none : cs ≡ [] = cc in
               let low : d - 0 ≡ d = omega arith in
-              subst (λ (x : List Open). HasFilled S stands trusts new start d input x g rest) (sym none) (record { item = h.item; taken = subst (λ (n : ℕ). IsTaken n h.item) low k.1; given = k.3; bytes = k.4 })
+              subst (λ (x : List Open). HasFilled S stands trusts start d input (new ∷ x) g rest) (sym none) (record { item = h.item; taken = subst (λ (n : ℕ). IsTaken n h.item) low k.1; given = k.3; bytes = k.4 })
           go (a_member w zero done ∷ ls) k =
               let l = a_member w zero done in
               let st = settle-here (l ∷ ls) k in
@@ -170,17 +173,9 @@ module _ (S : Type 0) (stands : S → S → Standing → Type 0) (trusts : Bool)
   -- ---- a break
 
   module _ (c : Open) (cs : List Open) (g : S) (behind : List ℕ) (s : IsDue S stands trusts start d input (c ∷ cs) g (0xff ∷ behind)) (open_ended : c.is_endless ≡ true) where
-    -- a container is open
-    pub break-inside : 0 < length cs
-    break-inside = go s.ls s.cells
-      where
-        go : (ls : List Level) → c ∷ cs ≡ cells_of (length input) ls → 0 < length cs
-        go [] e = let same : c ≡ counted Item 0 0 = cc in let f : false ≡ true = ap (λ (x : Open). x.is_endless) (sym same) ∙ open_ended in absurd (cc f)
-        go (l ∷ ls) e = omega (arith, ap length e, cells-count (length input) ls)
-
-    -- and it is whole
-    pub break-ends : (c.due ≡ Value → ⊥) → IsCellFull S stands trusts start d input (c ∷ cs) g behind
-    break-ends no_value = go s.ls s.levels s.cells s.given s.bytes
+    -- the innermost container is whole
+    pub break-ends : (c.due ≡ Value → ⊥) → HasFilled S stands trusts start d input (c ∷ cs) g behind
+    break-ends no_value = filled c cs g behind (go s.ls s.levels s.cells s.given s.bytes)
       where
         flag : (l : Level) (ls : List Level) → c ∷ cs ≡ cells_of (length input) (l ∷ ls) → (cell_of (behind_head (length input) ls l) l).is_endless ≡ true
         flag l ls e = let same : c ≡ cell_of (behind_head (length input) ls l) l = cc in ap (λ (x : Open). x.is_endless) (sym same) ∙ open_ended
@@ -191,30 +186,31 @@ module _ (S : Type 0) (stands : S → S → Standing → Type 0) (trusts : Bool)
         tail-is : (l : Level) (ls : List Level) → c ∷ cs ≡ cells_of (length input) (l ∷ ls) → cs ≡ cells_of (length input) ls
         tail-is l ls e = cc
 
-        kind : (l : Level) (ls : List Level) → c ∷ cs ≡ cells_of (length input) (l ∷ ls) → pairs c.due ≡ pairs (cell_of (behind_head (length input) ls l) l).due
-        kind l ls e = let same : c ≡ cell_of (behind_head (length input) ls l) l = cc in ap (λ (x : Open). pairs x.due) same
+        ended : (l : Level) (ls : List Level) (item : Spelling) (xs : List ℕ) → pairs (cell_of (behind_head (length input) ls l) l).due ≡ is_map item → opener l ≡ full_opener item → spell item ≡ xs ++ (0xff ∷ []) → IsSpelled item → depth item ≤ d - length ls → HasTakenPairs (d - suc (length ls)) item → AreLevels d (l ∷ ls) → c ∷ cs ≡ cells_of (length input) (l ∷ ls)
+            → input ≡ (bytes_before ls ++ xs) ++ 0xff ∷ behind → IsEndedAs l item → stands start g (item_due (l ∷ ls)) → IsCellFull S stands trusts (StandsFull S stands d start g) d input c cs behind
+        ended l ls item xs told heads is spelled within taken levels e b whole given =
+            let same : c ≡ cell_of (behind_head (length input) ls l) l = cc in
+            record {
+              ls = ls;
+              item = item;
+              levels = levels.2;
+              spelled = spelled;
+              within = within;
+              cells = tail-is l ls e;
+              given = (
+                inr (l, whole, levels, given),
+                record {
+                  kind = ap (λ (x : Open). pairs x.due) same ∙ told;
+                  place = ap (λ (x : Open). x.behind) same ∙ begins-there l ls item heads;
+                  taken = taken;
+                },
+              );
+              bytes = regroup ls xs b ∙ ap (λ (x : List ℕ). (bytes_before ls ++ x) ++ behind) (sym is);
+              small = s.small;
+              known = s.known;
+            }
 
-        ended : (l : Level) (ls : List Level) (item : Spelling) (xs : List ℕ) → pairs (cell_of (behind_head (length input) ls l) l).due ≡ takes_key l → opener l ≡ full_opener item → spell item ≡ xs ++ (0xff ∷ []) → IsSpelled item → depth item ≤ d - length ls → HasTakenPairs (d - suc (length ls)) item → AreLevels d (l ∷ ls) → c ∷ cs ≡ cells_of (length input) (l ∷ ls)
-            → input ≡ (bytes_before ls ++ xs) ++ 0xff ∷ behind → IsEndedAs l item → stands start g (item_due (l ∷ ls)) → IsCellFull S stands trusts start d input (c ∷ cs) g behind
-        ended l ls item xs told heads is spelled within taken levels e b whole given = record {
-          ls = ls;
-          item = item;
-          levels = levels.2;
-          spelled = spelled;
-          within = within;
-          complete = taken;
-          cell = c;
-          cells = ap (λ (xs : List Open). c ∷ xs) (tail-is l ls e);
-          is_map = pairs c.due;
-          kind = refl;
-          begins = let same : c ≡ cell_of (behind_head (length input) ls l) l = cc in ap (λ (x : Open). x.behind) same ∙ begins-there l ls item heads;
-          given = inr (l, whole, levels, (given, kind l ls e ∙ told));
-          bytes = regroup ls xs b ∙ ap (λ (x : List ℕ). (bytes_before ls ++ x) ++ behind) (sym is);
-          small = s.small;
-          known = s.known;
-        }
-
-        go : (ls : List Level) → AreLevels d ls → c ∷ cs ≡ cells_of (length input) ls → stands start g (item_due ls) → input ≡ bytes_before ls ++ 0xff ∷ behind → IsCellFull S stands trusts start d input (c ∷ cs) g behind
+        go : (ls : List Level) → AreLevels d ls → c ∷ cs ≡ cells_of (length input) ls → stands start g (item_due ls) → input ≡ bytes_before ls ++ 0xff ∷ behind → IsCellFull S stands trusts (StandsFull S stands d start g) d input c cs behind
         go [] h e f b = let same : c ≡ counted Item 0 0 = cc in let x : false ≡ true = ap (λ (x : Open). x.is_endless) (sym same) ∙ open_ended in absurd (cc x)
         go (some_member done ∷ ls) h e f b =
             let room = h.0 in

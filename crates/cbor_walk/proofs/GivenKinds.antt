@@ -1,5 +1,5 @@
 -- A valid item, part by part: of which kinds the keys are that begin in what was taken.
-use Rattle.std.proofs.Common.{◌≡◌, ℕ, suc, ◌+◌, ◌-◌, ◌<◌, ◌≤◌, ◌⊎◌, Bool, false, true, List, [], ◌∷◌, ◌++◌, length, refl, sym, ap, ◌∙◌, subst, inl, inr, arith, append_assoc, append-nil}
+use Rattle.std.proofs.Common.{◌≡◌, ℕ, suc, ◌+◌, ◌-◌, ◌<◌, ◌≤◌, Bool, false, true, List, [], ◌∷◌, ◌++◌, length, refl, sym, ap, ◌∙◌, subst, inl, inr, arith, append_assoc, append-nil}
 use Rattle.std.proofs.lemmas.List.{length-append, append_cancel_right, nil_from_length}
 use Rattle.cbor_head.specs.Complaint.{Complaint, plain, OfKinds}
 use Rattle.cbor_head.specs.Head.{Holds, head}
@@ -88,11 +88,11 @@ opener-begun d m n c rest behind room k = subst (λ (x : List ℕ). HasBegun d x
 -- ---- what is taken
 
 pub begun-takes : (p : Part) (d : ℕ) (c : Open) (rest behind : List ℕ) → IsItem p → EndsBefore p behind → HasBegun d rest behind → TakesFront p d c rest
-begun-takes (part.Item to) d c rest behind i e h = inl (subst (HasBegun d rest) (sym e) h)
+begun-takes (part.Item to) d c rest behind i e h = subst (HasBegun d rest) (sym e) h
 begun-takes part.Untaken d c rest behind i e h = tt
 begun-takes part.Broken d c rest behind i e h = tt
 begun-takes part.Stopped d c rest behind i e h = tt
-begun-takes (part.Repeated to) d c rest behind i e h = absurd i
+begun-takes (part.Break to) d c rest behind i e h = absurd i
 begun-takes (part.Head to) d c rest behind i e h = absurd i
 
 -- ---- no key of another kind begins in it
@@ -185,7 +185,3 @@ module _ (S : Type 0) (stands : S → S → Standing → Type 0) (trusts : Bool)
       go (a_key w n done ∷ ls) levels e b t f = absurd (cc (flag (a_key w n done) ls e))
       go (a_value w n done k ∷ ls) levels e b t f = absurd (cc (flag (a_value w n done k) ls e))
       go (tagged w n ∷ ls) levels e b t f = absurd (cc (flag (tagged w n) ls e))
-
-  pub item-keeps : (k : Stack Open) (cells : List Open) (g : S) (rest behind : List ℕ) → k.height ≤ length cells → IsDue S stands trusts start d input (standing Open k cells) g rest → HasBegun (d - k.height) rest behind ⊎ HasBroken k.top rest behind
-      → (k.top.due ≡ Key → IsFitFront rest) → KeepsBefore d keys input rest → KeepsBefore d keys input behind
-  item-keeps k cells g rest behind low s h fit keeps = elim h [ inl x ↦ begun-keeps k cells g rest behind low s x fit keeps | inr x ↦ broken-keeps k.top (around Open k cells) g rest behind s x keeps ]

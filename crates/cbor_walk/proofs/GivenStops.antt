@@ -50,7 +50,7 @@ met-kept : (kinds : Bool) (m : Met) (limits : Bounds) (input : List ℕ) → ask
 met-kept kinds (met.Whole rest) limits input = keeps-asked kinds limits input rest.now
 met-kept kinds (met.Untaken rest) limits input = keeps-asked kinds limits input rest.now
 met-kept kinds (met.Broken rest) limits input = keeps-asked kinds limits input rest.now
-met-kept kinds (met.Repeated rest) limits input = keeps-asked kinds limits input rest.now
+met-kept kinds (met.Repeated rest repeat) limits input = keeps-asked kinds limits input rest.now
 met-kept kinds met.Stopped limits input = λ asked h. tt
 
 module _ (S : Type 0) (stands : S → S → Standing → Type 0) (trusts : Bool) (holds : S → S → List Level → Bool → List ℕ → Type 0) (start : S) where

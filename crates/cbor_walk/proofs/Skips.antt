@@ -66,7 +66,7 @@ module _ (S : Type 0) (start : S) (d left : ℕ) (rest behind : List ℕ) (h : S
   goes_to (met.Whole to) (item, taken, e) = (unique item (array Eight h.items) taken.spelled all_taken.spelled to.now behind (sym e ∙ whole)).1
   goes_to (met.Untaken to) b = tt
   goes_to (met.Broken to) b = tt
-  goes_to (met.Repeated to) b = tt
+  goes_to (met.Repeated to repeat) b = tt
   goes_to met.Stopped b = tt
 
 -- where a walk that keeps nothing ends
@@ -74,7 +74,7 @@ pub ends_item : (S : Type 0) (start g : S) (d : ℕ) (input : List ℕ) (m : Met
 ends_item S start g d input (met.Whole to) cs b = (b.item, b.taken, b.bytes)
 ends_item S start g d input (met.Untaken to) cs b = tt
 ends_item S start g d input (met.Broken to) cs b = tt
-ends_item S start g d input (met.Repeated to) cs b = tt
+ends_item S start g d input (met.Repeated to repeat) cs b = tt
 ends_item S start g d input met.Stopped cs b = tt
 
 -- no items

@@ -1,5 +1,5 @@
 -- The open map with a key that is the same as an earlier one, and the verdict.
-use Rattle.std.proofs.Common.{◌≡◌, ℕ, suc, ◌+◌, ◌-◌, ◌^◌, ◌<◌, ◌≤◌, Bool, true, List, [], ◌∷◌, ◌++◌, length, take, refl, sym, ap, ◌∙◌, subst, inl, inr, arith, append_assoc, append-nil, ◌⊎◌}
+use Rattle.std.proofs.Common.{◌≡◌, ℕ, suc, ◌+◌, ◌-◌, ◌^◌, ◌<◌, ◌≤◌, true, List, [], ◌∷◌, ◌++◌, length, take, refl, sym, ap, ◌∙◌, subst, inl, inr, arith, append_assoc, append-nil, ◌⊎◌}
 use Rattle.std.proofs.lemmas.List.{length-append}
 use Rattle.cbor_head.specs.Beginning.{IsBeginning}
 use Rattle.cbor_head.specs.Complaint.{plain, complaint}
@@ -15,11 +15,11 @@ use Rattle.cbor_builder.specs.Built.{keys_so_far, IsFirstRepeat, AreOpenKeysDiff
 use Rattle.cbor_builder.specs.declared.repeat.Repeat.{Repeat}
 use Rattle.cbor_judging.specs.Given.{level_open, opens, full_open}
 use Rattle.cbor_judging.specs.Kinds.{KeepsToKinds, plug_all}
-use Rattle.cbor_judging.specs.Levels.{Level, a_member, a_key, a_value, some_member, some_key, some_value, tagged, level_bytes, AreLevels, bytes_before, Standing}
+use Rattle.cbor_judging.specs.Levels.{Level, a_member, a_key, a_value, some_member, some_key, some_value, tagged, level_bytes, AreLevels, bytes_before}
 use Rattle.cbor_judging.proofs.KindFrames.{spell_along, item_along}
 use Rattle.cbor_judging.proofs.KindSteps.{keeps_front}
 use Rattle.cbor_judging.proofs.LevelFrames.{path, path_length, path_bytes, path_open}
-use Rattle.cbor_walk.specs.Sink.{is_map as its_kind, takes_key, IsEndedAs, Told, StandsFull, IsToldIn, IsToldFull, FindsRepeat}
+use Rattle.cbor_walk.specs.Sink.{is_map as its_kind, IsToldIn, IsToldFull}
 use Rattle.cbor_walk.specs.inner.Open.{opener, full_opener}
 use Rattle.cbor_walk.specs.inner.OpenMaps.{HasTakenPairs, is_map_level, map_levels}
 use Rattle.cbor_walk.specs.inner.Repeated.{IsKeyTold}
@@ -187,24 +187,6 @@ module _ (limits : Bounds) (input : List ℕ) (small : length input ≤ 2 ^ 62) 
   told_full ls s rest repeat levels h l taken e keeps (o, inl x) =
       inr (told_here ls (spell s ++ rest) o repeat.outside repeat.pair levels (e ∙ append_assoc (bytes_before ls) (spell s) rest) (keeps_front limits plain (bytes_before ls) (spell s) (begins_so_far limits.depth ls s levels h l) keeps) x)
   told_full ls s rest repeat levels h l taken e keeps (o, inr (apart, is, first)) = inl (whole_told ls s rest o repeat.outside repeat.pair levels h l taken e keeps apart is first)
-
--- where a container without a length is to end, it is as if it were whole
-pub ended_told : (l : Level) (ls : List Level) (s : Spelling) (repeat : Repeat) → IsEndedAs l s → IsToldIn (l ∷ ls) repeat → IsToldFull ls s repeat
-ended_told (some_key done) ls (a_map w es) repeat e told = subst (λ (x : spelling.SpelledEntries). IsToldFull ls (a_map w x) repeat) (sym e) told
-ended_told (some_member done) ls (array w ss) repeat e (o, inl x) = (o, inl x)
-ended_told (some_member done) ls (array w ss) repeat e (o, inr x) = (o, inr x)
-ended_told l ls s repeat e told = absurd e
-
--- a container that a sink has to end, by what it tells
-module _ (S : Type 0) (stands : S → S → Standing → Type 0) (holds : S → S → List Level → Bool → List ℕ → Type 0) where
-  pub told_to_end : (is_map : Bool) (start g : S) (d : ℕ) (ls : List Level) (s : Spelling) (repeat : Repeat) → StandsFull S (Told S stands is_map) d start g ls s → FindsRepeat S stands holds g repeat → (is_map ≡ its_kind s) × IsToldFull ls s repeat
-  told_to_end is_map start g d ls s repeat (inl (given, kind)) finds = (kind, finds.full start ls s given)
-  told_to_end is_map start g d ls s repeat (inr (l, ended, levels, (given, kind))) finds = (kind ∙ go l s ended, ended_told l ls s repeat ended (finds.within start (l ∷ ls) (inl given)))
-    where
-      go : (l : Level) (s : Spelling) → IsEndedAs l s → takes_key l ≡ its_kind s
-      go (some_key done) (a_map w es) e = refl
-      go (some_member done) (array w ss) e = refl
-      go l s e = absurd e
 
 -- ---- the verdict
 

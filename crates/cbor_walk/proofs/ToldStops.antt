@@ -1,20 +1,21 @@
 -- Where a walk stops and the sink tells a key that is the same as an earlier one: the cell of its map, and what is told of it.
-use Rattle.std.proofs.Common.{◌≡◌, ◌≤◌, ℕ, ◌^◌, ◌⊎◌, Bool, Bor, Option, List, [], ◌∷◌, ◌++◌, length, refl, sym, ap, ◌∙◌, subst, append_assoc, inl, inr}
+use Rattle.std.proofs.Common.{◌≡◌, ◌≤◌, ℕ, ◌^◌, Bool, Bor, Option, List, [], ◌∷◌, ◌++◌, length, refl, sym, ap, ◌∙◌, subst, append_assoc, inl, inr}
 use Rattle.cbor_head.specs.Limits.{Bounds}
 use Rattle.cbor_head.specs.Spelling.{spell}
 use Rattle.cbor_builder.specs.declared.repeat.Repeat.{Repeat}
 use Rattle.cbor_judging.specs.Levels.{Level, a_member, a_key, a_value, some_member, some_key, some_value, tagged, bytes_before, Standing}
 use Rattle.cbor_walk.specs.Sink.{FindsRepeat}
-use Rattle.cbor_walk.specs.inner.Building.{HasCome, HasRepeats, Meets}
+use Rattle.cbor_walk.specs.inner.Building.{IsRepeatMet, Meets}
 use Rattle.cbor_walk.specs.inner.Kept.{KeepsBefore, MetKept}
 use Rattle.cbor_walk.specs.inner.Open.{pairs, cell_of, cells_of, behind_head}
 use Rattle.cbor_walk.specs.inner.OpenMaps.{is_map_level, map_levels, map_cells, counts_one, FindsMap}
-use Rattle.cbor_walk.specs.inner.Repeated.{IsKeyTold, IsCellTold}
+use Rattle.cbor_walk.specs.inner.Repeated.{IsKeyTold, IsCellTold, IsKeyToldIn}
 use Rattle.cbor_walk.specs.declared.building.Met.{Met}
 use Rattle.cbor_walk.specs.declared.building.Met.TheVariants as met
 use Rattle.cbor_walk.specs.declared.open.Open.{Open}
+use Rattle.cbor_walk.proofs.GivenEnds.{cell-behind}
 use Rattle.cbor_walk.proofs.GivenStops.{StopsBefore, kept-before, come-before}
-use Rattle.cbor_walk.proofs.ToldMaps.{IsToldWithin, told_within, told_full, told_to_end}
+use Rattle.cbor_walk.proofs.ToldMaps.{IsToldWithin, told_within, told_full}
 
 -- ---- the cells
 
@@ -26,15 +27,6 @@ kind_of n (some_member done) = refl
 kind_of n (some_key done) = refl
 kind_of n (some_value done k) = refl
 kind_of n (tagged w m) = refl
-
-behind_of : (n : ℕ) (l : Level) → (cell_of n l).behind ≡ n
-behind_of n (a_member w left done) = refl
-behind_of n (a_key w left done) = refl
-behind_of n (a_value w left done k) = refl
-behind_of n (some_member done) = refl
-behind_of n (some_key done) = refl
-behind_of n (some_value done k) = refl
-behind_of n (tagged w m) = refl
 
 -- as many are those of maps as there are maps
 cells_maps : (n : ℕ) (ls : List Level) → map_cells (cells_of n ls) ≡ map_levels ls
@@ -58,43 +50,30 @@ module _ (limits : Bounds) (input : List ℕ) (small : length input ≤ 2 ^ 62) 
       let behind = behind_head n t.outer t.level in
       let c = cell_of behind t.level in
       let split : around ++ cells_of n ls ≡ (around ++ cs) ++ c ∷ cells_of n t.outer = ap (λ (ms : List Level). around ++ cells_of n ms) t.splits ∙ ap (λ (ds : List Open). around ++ ds) e ∙ sym (append_assoc around cs (c ∷ cells_of n t.outer)) in
-      (c, finds (around ++ cs) (cells_of n t.outer) c split (kind_of behind t.level ∙ t.is_map) (cells_maps n t.outer ∙ sym t.outside_is), subst (λ (m : ℕ). IsKeyTold limits input m pair) (sym (behind_of behind t.level)) t.key)
+      (c, finds (around ++ cs) (cells_of n t.outer) c split (kind_of behind t.level ∙ t.is_map) (cells_maps n t.outer ∙ sym t.outside_is), subst (λ (m : ℕ). IsKeyTold limits input m pair) (sym (cell-behind behind t.level)) t.key)
 
-  module _ (S : Type 0) (stands : S → S → Standing → Type 0) (trusts : Bool) (holds : S → S → List Level → Bool → List ℕ → Type 0) (start g : S) (repeat : Repeat) (tells : FindsRepeat S stands holds g repeat) (cs : List Open) (rest : List ℕ) (keeps : KeepsBefore limits.depth limits.keys input rest) (found : Option Open) (finds : FindsMap cs repeat.outside found) where
+  module _ (S : Type 0) (stands : S → S → Standing → Type 0) (trusts : Bool) (holds : S → S → List Level → Bool → List ℕ → Type 0) (start g : S) (m : Met) (cs : List Open) (repeat : Repeat) (meets : Meets S stands trusts holds m start limits.depth input cs g) (kept : MetKept m limits.depth limits.keys input) where
     -- where an item is due, or a chunk
-    pub told_where_due : HasCome S stands trusts holds start limits.depth input cs g rest → IsCellTold limits input found repeat.pair
-    told_where_due h =
-        among [] h.ls repeat.outside repeat.pair found (told_within limits input small h.ls rest repeat h.levels h.bytes (keeps (bytes_before h.ls) h.bytes) (tells.within start h.ls h.given)) (subst (λ (ds : List Open). FindsMap ds repeat.outside found) h.cells finds)
+    pub told_where_due : (rest : Bor (List ℕ)) → StopsBefore m rest → FindsRepeat S stands holds g repeat → IsKeyToldIn limits input cs repeat
+    told_where_due rest stops tells = λ found finds.
+        let h = come-before S stands trusts holds start m rest limits.depth input cs g stops meets in
+        let keeps = kept-before m rest limits input stops kept in
+        among [] h.ls repeat.outside repeat.pair found (told_within limits input small h.ls rest.now repeat h.levels h.bytes (keeps (bytes_before h.ls) h.bytes) (tells start h.ls h.given)) (subst (λ (ds : List Open). FindsMap ds repeat.outside found) h.cells finds)
 
-    -- where a container is to end, whose cell is still the innermost
-    pub told_at_end : HasRepeats S stands trusts start limits.depth input cs g rest → IsCellTold limits input found repeat.pair
-    told_at_end h =
-        let n = length input in
-        let (of_kind, told) = told_to_end S stands holds h.is_map start g limits.depth h.ls h.item repeat h.given tells in
-        let here = subst (λ (ds : List Open). FindsMap ds repeat.outside found) h.cells finds in
-        elim (told_full limits input small h.ls h.item rest repeat h.levels h.spelled h.within h.complete h.bytes (keeps (bytes_before h.ls ++ spell h.item) h.bytes) told) [
-          | inl t ↦ (h.cell, here [] (cells_of n h.ls) h.cell refl (h.kind ∙ of_kind ∙ t.is_map) (cells_maps n h.ls ∙ sym t.outside_is), subst (λ (m : ℕ). IsKeyTold limits input m repeat.pair) (sym h.begins) t.key)
-          | inr t ↦ among (h.cell ∷ []) h.ls repeat.outside repeat.pair found t here
-        ]
+    -- where a container was to end, whose cell is still the innermost
+    pub told_at_end : (rest : Bor (List ℕ)) → m ≡ met.Repeated rest repeat → IsKeyToldIn limits input cs repeat
+    told_at_end rest e = go cs (subst (λ (x : Met). Meets S stands trusts holds x start limits.depth input cs g) e meets)
+      where
+        keeps : KeepsBefore limits.depth limits.keys input rest.now
+        keeps = subst (λ (x : Met). MetKept x limits.depth limits.keys input) e kept
 
--- where a walk met these bytes
-abbrev pub MeetsThere : Met → Bor (List ℕ) → Type 0
-MeetsThere m rest = (m ≡ met.Untaken rest) ⊎ (m ≡ met.Broken rest) ⊎ (m ≡ met.Repeated rest)
-
-pub stops_there : (m : Met) (rest : Bor (List ℕ)) → MeetsThere m rest → ((r : Bor (List ℕ)) → m ≡ met.Repeated r → ⊥) → StopsBefore m rest
-stops_there m rest (inl e) other = inl e
-stops_there m rest (inr (inl e)) other = inr e
-stops_there m rest (inr (inr e)) other = absurd (other rest e)
-
-pub told_where_met : (S : Type 0) (stands : S → S → Standing → Type 0) (trusts : Bool) (holds : S → S → List Level → Bool → List ℕ → Type 0) (start g : S) (limits : Bounds) (input : List ℕ) (m : Met) (rest : Bor (List ℕ)) (cs : List Open) (repeat : Repeat) → length input ≤ 2 ^ 62 → MeetsThere m rest
-    → Meets S stands trusts holds m start limits.depth input cs g → MetKept m limits.depth limits.keys input → FindsRepeat S stands holds g repeat → (found : Option Open) → FindsMap cs repeat.outside found → IsCellTold limits input found repeat.pair
-told_where_met S stands trusts holds start g limits input m rest cs repeat small there meets kept tells found finds = go there
-  where
-    stops : StopsBefore m rest → IsCellTold limits input found repeat.pair
-    stops s = told_where_due limits input small S stands trusts holds start g repeat tells cs rest.now (kept-before m rest limits input s kept) found finds (come-before S stands trusts holds start m rest limits.depth input cs g s meets)
-
-    go : MeetsThere m rest → IsCellTold limits input found repeat.pair
-    go (inl e) = stops (inl e)
-    go (inr (inl e)) = stops (inr e)
-    go (inr (inr e)) =
-        told_at_end limits input small S stands trusts holds start g repeat tells cs rest.now (subst (λ (x : Met). MetKept x limits.depth limits.keys input) e kept) found finds (subst (λ (x : Met). Meets S stands trusts holds x start limits.depth input cs g) e meets)
+        go : (cs : List Open) → IsRepeatMet S stands trusts repeat limits.depth input cs rest.now → IsKeyToldIn limits input cs repeat
+        go [] h = absurd h
+        go (c ∷ cs) h = λ found finds.
+            let n = length input in
+            let its = h.given.1 in
+            let here = subst (λ (ds : List Open). FindsMap (c ∷ ds) repeat.outside found) h.cells finds in
+            elim (told_full limits input small h.ls h.item rest.now repeat h.levels h.spelled h.within its.taken h.bytes (keeps (bytes_before h.ls ++ spell h.item) h.bytes) h.given.0) [
+              | inl t ↦ (c, here [] (cells_of n h.ls) c refl (its.kind ∙ t.is_map) (cells_maps n h.ls ∙ sym t.outside_is), subst (λ (m : ℕ). IsKeyTold limits input m repeat.pair) (sym its.place) t.key)
+              | inr t ↦ among (c ∷ []) h.ls repeat.outside repeat.pair found t here
+            ]

@@ -97,6 +97,16 @@ IsEndedAs (some_member done) (array w ss) = ss ≡ done
 IsEndedAs (some_key done) (a_map w es) = es ≡ done
 IsEndedAs l s = ⊥
 
+-- ---- equal keys
+
+-- of the open maps, from the outermost in, the first with two equal keys, and of it the first key that is equal to an earlier one
+abbrev pub IsToldIn : List Level → Repeat → Type 0
+IsToldIn ls repeat = (o : KeyOrder) × IsRepeatTold (opens o ls) repeat.outside repeat.pair
+
+-- the same where the innermost container is whole
+abbrev pub IsToldFull : List Level → Spelling → Repeat → Type 0
+IsToldFull ls s repeat = (o : KeyOrder) × IsRepeatTold (full_open o s ∷ opens o ls) repeat.outside repeat.pair
+
 -- ---- what is given, by the relation that says where a sink stands since its first state
 
 -- an item is due, a key or not
@@ -126,10 +136,10 @@ abbrev pub Ends : (S : Type 0) → (S → S → Standing → Type 0) → Bool �
 Ends S stands trusts is_map old new =
     (start : S) (d : ℕ) (ls : List Level) (s : Spelling) → Fills trusts d ls s → StandsFull S (Told S stands is_map) d start old ls s → IsClean s × stands start new (settle ls s)
 
--- a container that was to end stays as it was: two of its keys are equal
-abbrev pub StaysFull : (S : Type 0) → (S → S → Standing → Type 0) → Bool → Bool → S → S → Type 0
-StaysFull S stands trusts is_map old new =
-    (start : S) (d : ℕ) (ls : List Level) (s : Spelling) → Fills trusts d ls s → StandsFull S (Told S stands is_map) d start old ls s → StandsFull S (Told S stands is_map) d start new ls s
+-- it does not end, since two of its keys are equal, and this key is told
+abbrev pub Repeats : (S : Type 0) → (S → S → Standing → Type 0) → Bool → Bool → S → Repeat → Type 0
+Repeats S stands trusts is_map old repeat =
+    (start : S) (d : ℕ) (ls : List Level) (s : Spelling) → Fills trusts d ls s → StandsFull S (Told S stands is_map) d start old ls s → IsToldFull ls s repeat
 
 -- ---- a string in chunks, by the relation that says of what it consists so far
 
@@ -167,18 +177,9 @@ IsWithin S stands holds start g ls = stands start g (item_due ls) ⊎ ((is_text 
 abbrev pub FindsNoRepeat : (S : Type 0) → (S → S → Standing → Type 0) → (S → S → List Level → Bool → List ℕ → Type 0) → S → Type 0
 FindsNoRepeat S stands holds g = (start : S) (ls : List Level) → IsWithin S stands holds start g ls → AreKeysDistinct ls
 
--- of the open maps, from the outermost in, the first with two equal keys, and of it the first key that is equal to an earlier one
-abbrev pub IsToldIn : List Level → Repeat → Type 0
-IsToldIn ls repeat = (o : KeyOrder) × IsRepeatTold (opens o ls) repeat.outside repeat.pair
-
--- the same where the innermost container is whole
-abbrev pub IsToldFull : List Level → Spelling → Repeat → Type 0
-IsToldFull ls s repeat = (o : KeyOrder) × IsRepeatTold (full_open o s ∷ opens o ls) repeat.outside repeat.pair
-
--- so wherever an item or a chunk is due, or a container is to end
-pub record FindsRepeat (S : Type 0) (stands : S → S → Standing → Type 0) (holds : S → S → List Level → Bool → List ℕ → Type 0) (g : S) (repeat : Repeat) : Type 0 where
-  pub within : (start : S) (ls : List Level) → IsWithin S stands holds start g ls → IsToldIn ls repeat
-  pub full : (start : S) (ls : List Level) (s : Spelling) → stands start g (item_full ls s) → IsToldFull ls s repeat
+-- wherever an item or a chunk is due: it is the key that is told
+abbrev pub FindsRepeat : (S : Type 0) → (S → S → Standing → Type 0) → (S → S → List Level → Bool → List ℕ → Type 0) → S → Repeat → Type 0
+FindsRepeat S stands holds g repeat = (start : S) (ls : List Level) → IsWithin S stands holds start g ls → IsToldIn ls repeat
 
 -- ---- a key that is due
 

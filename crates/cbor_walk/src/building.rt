@@ -1,15 +1,16 @@
 //! The walk over a valid item, whose parts go to a sink.
 
 ghost use Rattle.std.specs.Prelude.{◌≡◌, ◌≤◌, length};
-ghost use Rattle.cbor_walk.specs.inner.Building.{IsDueIn, HasEndedIn, HasFilledIn};
-ghost use Rattle.cbor_walk.specs.inner.Building.{Leads, LeadsFull, Walks, WalksKept};
-ghost use Rattle.cbor_walk.specs.inner.Stack.{around, standing};
+ghost use Rattle.cbor_walk.specs.inner.Building.{IsDueIn, HasFilledIn};
+ghost use Rattle.cbor_walk.specs.inner.Building.{Leads, Walks, WalksKept};
+ghost use Rattle.cbor_walk.specs.inner.Stack.{standing};
 
 use crate::level::Due;
 use crate::open::Open;
 use crate::part::Part;
 use crate::sink::Sink;
 use crate::stack::Stack;
+use cbor_builder::Repeat;
 
 /// What came of an item so far: the open containers, and what took what is complete in them.
 #[derive(Drop)]
@@ -19,15 +20,15 @@ pub struct Building<S> {
     pub sink: S,
 }
 
-/// What is due behind an item.
+/// What is due behind a container that is whole.
 #[derive(Clone, Copy)]
 pub(crate) enum Then {
     /// Another item.
     Item,
     /// Nothing: the input's item is whole.
     Done,
-    /// Nothing: two keys of the map that is to end are the same. It is still open.
-    Repeated,
+    /// Nothing: two keys of the map that is to end are the same. It is still open, and this one is told.
+    Repeated(Repeat),
     /// Nothing: memory is refused.
     Stopped,
 }
@@ -41,8 +42,9 @@ pub(crate) enum Met<'a> {
     Untaken(&'a [u8]),
     /// A string in chunks stands before these bytes, and is refused. The sink has some chunks of it.
     Broken(&'a [u8]),
-    /// Two keys of the map that is to end before these bytes are the same. It is still open.
-    Repeated(&'a [u8]),
+    /// Two keys of the map that is to end before these bytes are the same. It is still open, and this
+    /// one is told.
+    Repeated(&'a [u8], Repeat),
     /// Memory is refused.
     Stopped,
 }
@@ -81,36 +83,31 @@ impl<S> Building<S> {
                 Part::Head(behind) => rest = behind,
                 Part::Item(behind) => {
                     rest = behind;
-                    match self.complete(cells) {
+                    // First, so that nothing of what a container's end answers is made ready before.
+                    if self.stack.top.advance() {
+                        continue 'parts;
+                    }
+                    match self.close(cells) {
                         Then::Item => {}
                         Then::Done => return Met::Whole(rest),
-                        Then::Repeated => return Met::Repeated(rest),
+                        Then::Repeated(repeat) => return Met::Repeated(rest, repeat),
+                        Then::Stopped => return Met::Stopped,
+                    }
+                }
+                Part::Break(behind) => {
+                    rest = behind;
+                    match self.close(cells) {
+                        Then::Item => {}
+                        Then::Done => return Met::Whole(rest),
+                        Then::Repeated(repeat) => return Met::Repeated(rest, repeat),
                         Then::Stopped => return Met::Stopped,
                     }
                 }
                 Part::Untaken => return Met::Untaken(rest),
                 Part::Broken => return Met::Broken(rest),
-                Part::Repeated(behind) => return Met::Repeated(behind),
                 Part::Stopped => return Met::Stopped,
             }
         }
-    }
-
-    /// An item is whole: with it the containers whose last item it was.
-    #[inline(always)]
-    pub(crate) fn complete<'a>(&mut self, cells: &[Open]) -> Then
-    where
-        S: Sink<'a>,
-        requires cells { self.old.stack.height ≤ length cells.now }
-        requires ended { HasEndedIn S S.stands S.trusts (standing Open self.old.stack cells.now) self.old.sink }
-        ensures cells { self.new.stack.height ≤ length cells.now }
-        ensures leads { Leads S S.stands S.trusts result (standing Open self.old.stack cells.now) self.old.sink
-            (standing Open self.new.stack cells.now) self.new.sink }
-    {
-        if self.stack.top.advance() {
-            return Then::Item;
-        }
-        self.close(cells)
     }
 
     // The innermost container is whole, and perhaps those around it. Each is ended in the sink first:
@@ -120,17 +117,15 @@ impl<S> Building<S> {
     where
         S: Sink<'a>,
         requires cells { self.old.stack.height ≤ length cells.now }
-        requires filled { HasFilledIn S S.stands S.trusts self.old.stack.top
-            (around Open self.old.stack cells.now) self.old.sink }
+        requires filled { HasFilledIn S S.stands S.trusts (standing Open self.old.stack cells.now) self.old.sink }
         ensures cells { self.new.stack.height ≤ length cells.now }
-        ensures leads { LeadsFull S S.stands S.trusts self.old.stack.top result
-            (around Open self.old.stack cells.now) self.old.sink
+        ensures leads { Leads S S.stands S.trusts result (standing Open self.old.stack cells.now) self.old.sink
             (standing Open self.new.stack cells.now) self.new.sink }
     {
         'levels: while self.stack.height > 0 {
             match self.sink.end(self.stack.top.due.is_in_map()) {
-                Ok(true) => self.stack.pop(cells),
-                Ok(false) => return Then::Repeated,
+                Ok(None) => self.stack.pop(cells),
+                Ok(Some(repeat)) => return Then::Repeated(repeat),
                 Err(_) => return Then::Stopped,
             }
             if self.stack.top.advance() {

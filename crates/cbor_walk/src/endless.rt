@@ -1,7 +1,7 @@
 //! What has no length: the openers of strings, arrays and maps, and the break that ends them.
 
 ghost use Rattle.std.specs.Prelude.{◌≤◌, ◌-◌, ◌∷◌, ℕ, length};
-ghost use Rattle.cbor_walk.specs.inner.Building.{IsDueIn, Takes, IsBreakDue, TakesBreak};
+ghost use Rattle.cbor_walk.specs.inner.Building.{IsDueIn, Takes};
 ghost use Rattle.cbor_walk.specs.inner.Parts.{TakesFront, Leaves, LeavesWithin};
 ghost use Rattle.cbor_walk.specs.declared.part.Part.{Part};
 ghost use Rattle.cbor_walk.specs.inner.Stack.{standing};
@@ -81,35 +81,8 @@ impl<S> Building<S> {
                 cells,
                 depth,
             ),
-            0xff => self.take_break(behind, cells),
+            0xff if self.stack.top.may_break() => Part::Break(behind),
             _ => Part::Untaken,
-        }
-    }
-
-    // The break before these bytes.
-    fn take_break<'a>(&mut self, behind: &'a [u8], cells: &[Open]) -> Part<'a>
-    where
-        S: Sink<'a>,
-        requires cells { self.old.stack.height ≤ length cells.now }
-        requires due { IsBreakDue S S.stands S.trusts (standing Open self.old.stack cells.now) self.old.sink behind.now }
-        ensures cells { self.new.stack.height ≤ length cells.now }
-        ensures takes { TakesBreak S S.stands S.trusts S.holds result behind.now (standing Open self.old.stack cells.now)
-            self.old.sink (standing Open self.new.stack cells.now) self.new.sink }
-        ensures front { (d : ℕ) → TakesFront result d self.old.stack.top (0xff ∷ behind.now) }
-    {
-        if !self.stack.top.is_endless {
-            return Part::Untaken;
-        }
-        if let Due::Value = self.stack.top.due {
-            return Part::Untaken;
-        }
-        match self.sink.end(self.stack.top.due.is_in_map()) {
-            Ok(true) => {
-                self.stack.pop(cells);
-                Part::Item(behind)
-            }
-            Ok(false) => Part::Repeated(behind),
-            Err(_) => Part::Stopped,
         }
     }
 }

@@ -1,6 +1,7 @@
 //! The valid item at the front of a slice.
 
-ghost use Rattle.std.specs.Prelude.{◌≡◌, ◌≤◌, ◌^◌, true, false, [], length, MatchResult};
+ghost use Rattle.std.specs.Prelude.{◌≡◌, ◌≤◌, ◌^◌, ℕ, Bool, List, true, false, [], length, MatchResult};
+ghost use Rattle.cbor_head.specs.Limits.{Bounds};
 ghost use Rattle.cbor_judging.specs.Levels.{item_due};
 ghost use Rattle.cbor_walk.specs.Front.{IsStop};
 ghost use Rattle.cbor_walk.specs.Sink.{IsKnownValid, IsGivenFront};
@@ -8,6 +9,7 @@ ghost use Rattle.cbor_walk.specs.declared.level.Due.TheVariants as due;
 ghost use Rattle.cbor_walk.specs.inner.Building.{BeginsTaken, IsDue, Meets, HasPassed, IsStopWithin};
 ghost use Rattle.cbor_walk.specs.inner.Kept.{asks, KeepsBefore, MetKept};
 ghost use Rattle.cbor_walk.specs.inner.Open.{counted};
+ghost use Rattle.cbor_walk.specs.inner.Repeated.{IsKeyToldIn};
 ghost use Rattle.cbor_walk.specs.inner.Stack.{standing};
 
 use crate::building::{Building, Met};
@@ -19,6 +21,7 @@ use crate::repeated_key::{repeated_key, told_map};
 use crate::sink::Sink;
 use crate::stack::{FEW, MOST, SOME, Stack, lend};
 use crate::within::within;
+use cbor_builder::Repeat;
 use cbor_head::{Keys, Limits, Reason, Refusal};
 
 /// Why a walk did not come to the item's end.
@@ -88,20 +91,13 @@ fn stopped<'a, S: Sink<'a>>(
     ensures { IsStopWithin S.trusts limits input.now result }
 {
     let memory = Stop::Refused(Refusal::at(Reason::Memory, 0));
-    let (Met::Untaken(rest) | Met::Broken(rest) | Met::Repeated(rest)) = met else {
-        return memory;
+    let rest = match met {
+        Met::Untaken(rest) | Met::Broken(rest) => rest,
+        Met::Repeated(_, repeat) => return repeated(&building.stack, cells, repeat),
+        Met::Whole(_) | Met::Stopped => return memory,
     };
     if let Some(repeat) = building.sink.first_repeat() {
-        return match told_map(&building.stack, cells, repeat.outside) {
-            Some(map) => Stop::Repeated {
-                behind: map.behind,
-                pair: repeat.pair,
-            },
-            None => unreachable!(),
-        };
-    }
-    if let Met::Repeated(_) = met {
-        return memory;
+        return repeated(&building.stack, cells, repeat);
     }
     let stack = building.stack;
     let at = input.len() - rest.len();
@@ -110,6 +106,24 @@ fn stopped<'a, S: Sink<'a>>(
     match fault(rest, at, room, is_key, stack.top.may_break()) {
         Some(refusal) => Stop::Refused(at_the_limit(refusal, input, limits.bytes())),
         None => memory,
+    }
+}
+
+// Where the key stands that is told, by the cells of the open maps.
+fn repeated(stack: &Stack<Open>, cells: &[Open], repeat: Repeat) -> Stop
+    requires cells { stack.now.height ≤ length cells.now }
+    requires told { (limits : Bounds) × (input : List ℕ)
+        × IsKeyToldIn limits input (standing Open stack.now cells.now) repeat }
+    ensures { (trusts : Bool) (limits : Bounds) (input : List ℕ)
+        → IsKeyToldIn limits input (standing Open stack.now cells.now) repeat
+        → IsStopWithin trusts limits input result }
+{
+    match told_map(stack, cells, repeat.outside) {
+        Some(map) => Stop::Repeated {
+            behind: map.behind,
+            pair: repeat.pair,
+        },
+        None => unreachable!(),
     }
 }
 

@@ -46,8 +46,10 @@ impl Open {
     }
 
     /// Whether a break may stand here.
+    #[inline(always)]
     pub(crate) fn may_break(self) -> bool
-        ensures { self.is_endless ≡ true → self.due ≢ Due.Value → result ≡ true }
+        ensures may { self.is_endless ≡ true → self.due ≢ Due.Value → result ≡ true }
+        ensures only { result ≡ true → (self.is_endless ≡ true) × (self.due ≢ Due.Value) }
     {
         self.is_endless && !matches!(self.due, Due::Value)
     }

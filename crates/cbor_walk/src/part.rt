@@ -22,16 +22,16 @@ use cbor_head::Major;
 /// What was taken where an item was due, and the bytes behind it.
 #[derive(Clone, Copy)]
 pub(crate) enum Part<'a> {
-    /// An item: perhaps a container, by its break.
+    /// An item.
     Item(&'a [u8]),
     /// The head of a container. In it an item is due, or a break.
     Head(&'a [u8]),
+    /// The break of the innermost container, which is whole, and is still open.
+    Break(&'a [u8]),
     /// Nothing: it may not stand there, or it is a container for which there is no cell.
     Untaken,
     /// Some chunks of a string: what follows them is no chunk of it.
     Broken,
-    /// A break, but two keys of the map that it ends are the same. It is still open.
-    Repeated(&'a [u8]),
     /// No more: memory is refused.
     Stopped,
 }
@@ -41,9 +41,9 @@ pub(crate) enum Part<'a> {
 pub(crate) enum Left {
     Item(usize),
     Head(usize),
+    Break(usize),
     Untaken,
     Broken,
-    Repeated(usize),
     Stopped,
 }
 
@@ -57,9 +57,9 @@ impl Left {
         match self {
             Left::Item(count) => Part::Item(&bytes[bytes.len() - count..]),
             Left::Head(count) => Part::Head(&bytes[bytes.len() - count..]),
+            Left::Break(count) => Part::Break(&bytes[bytes.len() - count..]),
             Left::Untaken => Part::Untaken,
             Left::Broken => Part::Broken,
-            Left::Repeated(count) => Part::Repeated(&bytes[bytes.len() - count..]),
             Left::Stopped => Part::Stopped,
         }
     }
@@ -73,9 +73,9 @@ impl<'a> Part<'a> {
         match self {
             Part::Item(behind) => Left::Item(behind.len()),
             Part::Head(behind) => Left::Head(behind.len()),
+            Part::Break(behind) => Left::Break(behind.len()),
             Part::Untaken => Left::Untaken,
             Part::Broken => Left::Broken,
-            Part::Repeated(behind) => Left::Repeated(behind.len()),
             Part::Stopped => Left::Stopped,
         }
     }
@@ -89,9 +89,9 @@ impl<'a> Part<'a> {
         match self {
             Part::Item(behind) => Part::Item(behind),
             Part::Head(behind) => Part::Head(behind),
+            Part::Break(behind) => Part::Break(behind),
             Part::Untaken => Part::Untaken,
             Part::Broken => Part::Broken,
-            Part::Repeated(behind) => Part::Repeated(behind),
             Part::Stopped => Part::Stopped,
         }
     }
@@ -256,7 +256,7 @@ impl<S> Building<S> {
         ensures before { EndsBefore result behind.now }
     {
         match self.sink.end(is_map) {
-            Ok(true) => Part::Item(behind),
+            Ok(None) => Part::Item(behind),
             _ => Part::Stopped,
         }
     }

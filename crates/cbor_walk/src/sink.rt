@@ -1,6 +1,6 @@
 //! What takes the parts of an item.
 
-ghost use Rattle.std.specs.Prelude.{◌≡◌, ◌≤◌, true, false, ℕ, Bool, List, IfOk, IfSome, IsNone, IsTrue, IsUtf8, OnOk};
+ghost use Rattle.std.specs.Prelude.{◌≡◌, ◌≤◌, true, false, ℕ, Bool, List, IfOk, IfSome, IsNone, IsUtf8, OnOk};
 ghost use Rattle.std.specs.Prelude.{length, take};
 ghost use Rattle.cbor_head.specs.Head.{IsSimple};
 ghost use Rattle.cbor_head.specs.declared.major.Major.TheVariants as majors;
@@ -8,7 +8,7 @@ ghost use Rattle.cbor_builder.specs.Built.{IsLeaf, IsContainer};
 ghost use Rattle.cbor_judging.specs.Levels.{Level, Standing};
 ghost use Rattle.cbor_judging.specs.Reading.{string_value};
 ghost use Rattle.cbor_walk.specs.Sink.{leaf_value, IsItemDue, Gives, Opens};
-ghost use Rattle.cbor_walk.specs.Sink.{IsContainerFull, Ends, StaysFull};
+ghost use Rattle.cbor_walk.specs.Sink.{IsContainerFull, Ends, Repeats};
 ghost use Rattle.cbor_walk.specs.Sink.{BeginsString, IsChunkDue, GrowsString, EndsString};
 ghost use Rattle.cbor_walk.specs.Sink.{FindsNoRepeat, FindsRepeat};
 
@@ -81,18 +81,19 @@ pub trait Sink<'a> {
         requires due { IsItemDue Self stands is_key self.old }
         ensures { OnOk result (Opens Self stands is_key major number self.old self.new) };
 
-    /// The innermost container ends, a map or not. False where two of its keys are equal: then it
-    /// stays open.
-    fn end(&mut self, is_map: bool) -> Result<bool, AllocError>
+    /// The innermost container ends, a map or not. Where two of its keys are equal it does not, and
+    /// the key that is told is the one that `first_repeat` tells: from the outermost open map in, the
+    /// first that is equal to an earlier one of its map.
+    fn end(&mut self, is_map: bool) -> Result<Option<Repeat>, AllocError>
         requires full { IsContainerFull Self stands trusts is_map self.old }
-        ensures ends { IfOk result (λ is_distinct. IsTrue is_distinct
+        ensures ends { IfOk result (λ told. IsNone told
             → Ends Self stands trusts is_map self.old self.new) }
-        ensures stays { IfOk result (λ is_distinct. is_distinct ≡ false
-            → StaysFull Self stands trusts is_map self.old self.new) };
+        ensures repeats { IfOk result (λ told. IfSome told
+            (Repeats Self stands trusts is_map self.old)) };
 
     /// From the outermost open map in, the first key that is equal to an earlier one of its map. None
-    /// where no two that are complete are equal, whether an item or a chunk is due, or a container is
-    /// to end. What was taken is given up.
+    /// where no two that are complete are equal. An item is due, or a chunk of a string. What was taken
+    /// is given up.
     fn first_repeat(&mut self) -> Option<Repeat>
         ensures none { IsNone result → trusts ≡ false → FindsNoRepeat Self stands holds self.old }
         ensures found { IfSome result (FindsRepeat Self stands holds self.old) };

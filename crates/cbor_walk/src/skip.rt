@@ -68,8 +68,8 @@ impl<'a> Sink<'a> for Nothing {
     }
 
     #[inline(always)]
-    fn end(&mut self, _is_map: bool) -> Result<bool, AllocError> {
-        Ok(true)
+    fn end(&mut self, _is_map: bool) -> Result<Option<Repeat>, AllocError> {
+        Ok(None)
     }
 
     #[inline(always)]

@@ -1,11 +1,13 @@
 -- What a builder stands for.
-use Rattle.std.specs.Prelude.{if◌then◌else◌, false, ◌≡◌, List, [], ◌∷◌, ◌++◌, reverse}
+use Rattle.std.specs.Prelude.{if◌then◌else◌, false, ◌≡◌, List, [], ◌∷◌, ◌++◌, reverse, take, drop, IsPermutation}
 use Rattle.cbor_canonical.specs.Parts.{Open}
 use Rattle.cbor_builder.specs.inner.Laid.{outermost, shape_open, opens, Laid}
 use Rattle.cbor_buffer.specs.Moved.{meant, IsWhole}
 use Rattle.cbor_builder.specs.inner.InPlace.{Agrees}
 use Rattle.cbor_builder.specs.declared.builder.Core.{Core}
 use Rattle.cbor_builder.specs.declared.frame.Frame.{Frame}
+use Rattle.cbor_builder.specs.declared.frame.Shape.{Shape}
+use Rattle.cbor_builder.specs.declared.frame.Shape.TheVariants.{Map}
 use Rattle.cbor_buffer.specs.declared.draft.Draft.{Draft}
 use Rattle.cbor_buffer.specs.declared.span.Span.{Span}
 use Rattle.cbor_head.specs.declared.order.KeyOrder.{KeyOrder}
@@ -32,3 +34,17 @@ Stand o d ss fs = Laid o (meant d) ss fs × IsWhole d × Agrees d.buf (meant d) 
 
 abbrev pub IsLaid : Core → Type 0
 IsLaid c = Stand c.order c.out c.spans.items (frames c) × IsRooted c
+
+-- ---- while the pairs of a map are looked at
+
+-- the spans of the innermost stand in another order than they came in, where it is a map whose next key is due
+abbrev pub IsReordered : List Span → List Span → Shape → Type 0
+IsReordered came ss (Map first) = (take first ss ≡ take first came) × IsPermutation (drop first came) (drop first ss)
+IsReordered came ss s = ss ≡ came
+
+-- what is laid as these came
+abbrev pub WasLaid : List Span → Core → Type 0
+WasLaid came c = Stand c.order c.out came (frames c) × IsReordered came c.spans.items c.top.shape
+
+abbrev pub came_standing : List Span → Core → List Open
+came_standing came c = opens (meant c.out) came (frames c)

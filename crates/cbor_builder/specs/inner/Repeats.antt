@@ -1,40 +1,70 @@
--- Spans sorted by their keys, and those of equal keys as they came.
-use Rattle.std.specs.Prelude.{ℕ, ◌+◌, ◌≡◌, ◌<◌, ◌≤◌, List, length, Option, Some, None, IfSome, slice_index_or, MatchOption}
-use Rattle.std.specs.declared.cmp.Ordering.{Ordering}
-use Rattle.std.specs.Ordering.{nat_cmp, then_cmp, on}
-use Rattle.cbor_head.specs.declared.order.KeyOrder.{KeyOrder}
+-- Which pairs of a map have equal keys, and which one is told.
+use Rattle.std.specs.Prelude.{ℕ, Bool, nat_lt, ◌+◌, ◌-◌, ◌^◌, ◌≡◌, ◌≢◌, ◌<◌, ◌≤◌, ◌⊎◌, List, length, Option, Some, None, IfSome, slice_index_or, MatchOption, IsPermutation}
+use Rattle.std.specs.List.{AllByRecursion}
 use Rattle.cbor_builder.specs.Built.{keys_so_far, open_maps, IsFirstRepeat, AreAllDifferent, AreOpenKeysDifferent, IsRepeatTold}
 use Rattle.cbor_canonical.specs.Parts.{Open}
-use Rattle.cbor_builder.specs.inner.Front.{key_of, rank, ranked_by}
+use Rattle.cbor_builder.specs.inner.Front.{key_of, AreFronted}
+use Rattle.cbor_builder.specs.inner.Laid.{Tile}
 use Rattle.cbor_buffer.specs.declared.span.Span.{Span}
 use Rattle.cbor_builder.specs.declared.frame.Shape.{Shape}
 use Rattle.cbor_builder.specs.declared.frame.Shape.TheVariants.{Plain, Array, Map, Key, Content}
 use Rattle.cbor_builder.specs.declared.repeat.Repeat.{Repeat}
+use Rattle.cbor_builder.specs.declared.repeats.Tie.{Tie}
 use Rattle.cbor_buffer.specs.Spans.{no_span}
 
 abbrev pub nth : List Span → ℕ → Span
 nth ss i = slice_index_or ss i no_span
 
--- by the keys, and by the numbers in place of the ends where these are equal
-abbrev pub by_number : KeyOrder → List ℕ → Span → Span → Ordering
-by_number o out = then_cmp (on (ranked_by out) (rank o)) (on (λ (s : Span). s.end) nat_cmp)
+-- where a pair lies: twice its middle, which rises from pair to pair, but for those of no bytes at one place
+abbrev pub place : Span → ℕ
+place s = s.key + s.end
 
--- each of the first n has its number in place of its end, and the others are as they were
-abbrev pub AreNumbered : List Span → List Span → ℕ → Type 0
-AreNumbered old new n =
-    ((i : ℕ) → i < n → nth new i ≡ record (nth old i) { end = i }) × ((i : ℕ) → n ≤ i → nth new i ≡ nth old i)
+-- it fits a word
+abbrev pub HasPlace : Span → Type 0
+HasPlace s = place s < 2 ^ 64
 
--- the one at i and the one behind it have equal keys
-abbrev pub IsTie : List ℕ → List Span → ℕ → Type 0
-IsTie out ss i = key_of out (nth ss i) ≡ key_of out (nth ss (i + 1))
+abbrev pub ArePlaced : List Span → Type 0
+ArePlaced ss = AllByRecursion HasPlace ss
 
--- m is the least number of the first n that have a left neighbour with an equal key
-abbrev pub IsLeastTie : List ℕ → List Span → ℕ → ℕ → Type 0
-IsLeastTie out ss n m =
-    ((i : ℕ) × (i + 1 < n) × IsTie out ss i × ((nth ss (i + 1)).end ≡ m)) × ((i : ℕ) → i + 1 < n → IsTie out ss i → m ≤ (nth ss (i + 1)).end)
+abbrev pub lies_before : ℕ → Span → Bool
+lies_before at s = nat_lt (place s) at
 
-abbrev pub IsLeastSoFar : List ℕ → List Span → ℕ → Option ℕ → Type 0
-IsLeastSoFar out ss n r = MatchOption r ((i : ℕ) → i + 1 < n → IsTie out ss i → ⊥) (IsLeastTie out ss n)
+-- the second are the spans of pairs in whatever order, and the first are those as they came
+abbrev pub AreOf : List ℕ → List Span → List Span → Type 0
+AreOf out xs ys = (start : ℕ) × (end : ℕ) × Tile start xs end × (end ≤ length out) × AreFronted out xs × IsPermutation xs ys
+
+-- equal keys stand together
+abbrev pub AreGrouped : List ℕ → List Span → Type 0
+AreGrouped out ss = (i j k : ℕ) → i ≤ j → j ≤ k → k < length ss → key_of out (nth ss i) ≡ key_of out (nth ss k) → key_of out (nth ss j) ≡ key_of out (nth ss k)
+
+-- two with equal keys, by their places
+abbrev pub IsTie : List ℕ → ℕ → ℕ → Span → Span → Type 0
+IsTie out earlier later x y = (key_of out x ≡ key_of out y) × (place x ≡ earlier) × (place y ≡ later) × (earlier ≤ later)
+
+-- two of the first n are such
+abbrev pub HasTie : List ℕ → List Span → ℕ → ℕ → ℕ → Type 0
+HasTie out ss n earlier later = (i : ℕ) × (j : ℕ) × (i < n) × (j < n) × (i ≢ j) × IsTie out earlier later (nth ss i) (nth ss j)
+
+-- it comes no later than another: by the later pair, and where that is the same by the earlier one
+abbrev pub IsUpTo : Tie → ℕ → ℕ → Type 0
+IsUpTo t earlier later = (t.later ≤ later) × (t.later ≡ later → t.earlier ≤ earlier)
+
+-- the first tie among the first n
+abbrev pub IsFirstTie : List ℕ → List Span → ℕ → Option Tie → Type 0
+IsFirstTie out ss n r =
+    MatchOption r ((earlier later : ℕ) → HasTie out ss n earlier later → ⊥)
+    (λ (t : Tie). HasTie out ss n t.earlier t.later × ((earlier later : ℕ) → HasTie out ss n earlier later → IsUpTo t earlier later))
+
+-- the first of a tie that was found, if there is one, and another
+abbrev pub IsFirstOf : Option Tie → Tie → Tie → Type 0
+IsFirstOf found tie t =
+    ((found ≡ Some t) ⊎ (t ≡ tie)) × IsUpTo t tie.earlier tie.later × IfSome found (λ (f : Tie). IsUpTo t f.earlier f.later)
+
+-- of those of the first n that have the key of the last of these, the least place
+abbrev pub IsLeastOfKey : List ℕ → List Span → ℕ → ℕ → Type 0
+IsLeastOfKey out ss n least =
+    ((i : ℕ) × (i < n) × (key_of out (nth ss i) ≡ key_of out (nth ss (n - 1))) × (place (nth ss i) ≡ least))
+    × ((i : ℕ) → i < n → key_of out (nth ss i) ≡ key_of out (nth ss (n - 1)) → least ≤ place (nth ss i))
 
 -- the index from which on the spans are those of the pairs of what is open
 abbrev pub first_of : List Span → Shape → ℕ

@@ -1,12 +1,14 @@
 //! What is open ends, and its bytes take their final form.
 
 ghost use Rattle.std.specs.Prelude.{◌≡◌, ◌↔◌, ◌≤◌, ◌++◌, IsTrue, false, OnOk, IfOk, drop};
+ghost use Rattle.std.specs.Prelude.{IsNone, IfSome};
 ghost use Rattle.std.specs.Prelude.{take, length, flat_map, IsPermutation};
 ghost use Rattle.cbor_buffer.specs.Moved.{meant, IsWhole, KeepsFront};
 ghost use Rattle.cbor_canonical.specs.Pairs.{pair_bytes, HasDistinctBytes};
 ghost use Rattle.cbor_canonical.specs.Parts.{close, closed, HasNoRepeats};
 ghost use Rattle.cbor_builder.specs.declared.frame.Shape.TheVariants.{Map};
-ghost use Rattle.cbor_builder.specs.inner.BuilderState.{standing, innermost, outers, IsLaid};
+ghost use Rattle.cbor_builder.specs.inner.BuilderState.{standing, innermost, outers, IsLaid, IsReordered};
+ghost use Rattle.cbor_builder.specs.Built.{IsRepeatTold};
 ghost use Rattle.cbor_builder.specs.inner.InPlace.{AreSameKeys};
 ghost use Rattle.cbor_builder.specs.inner.Laid.{CanClose, OuterTakes, outer_spans, Fits};
 ghost use Rattle.cbor_builder.specs.inner.Laid.{pairs_from};
@@ -15,13 +17,13 @@ ghost use Rattle.cbor_head.specs.Canonical.{in_order};
 use crate::builder::Core;
 use crate::frame::{Frame, Shape};
 use crate::member::{complete, settle_member};
-use crate::sort::put_in_order;
+use crate::repeat::Repeat;
+use crate::sort::sort_distinct;
 use cbor_head::Major;
 use std::alloc::AllocError;
 
 impl Core {
-    /// The spans of the open map in order. False where two keys of it are equal: then they stay as
-    /// they are.
+    /// The spans of the open map in order. False where two keys of it are equal: then not all are.
     #[inline(always)]
     pub(crate) fn order_spans(&mut self, first: usize) -> bool
         requires fits { Fits self.old.order (meant self.old.out) self.old.spans.items
@@ -40,10 +42,9 @@ impl Core {
         ensures pairs { IsTrue result
             → pairs_from (meant self.old.out) self.new.spans.items first
             ≡ in_order self.old.order (pairs_from (meant self.old.out) self.old.spans.items first) }
-        ensures kept { result ≡ false → self.new.spans.items ≡ self.old.spans.items }
     {
         let order = self.order;
-        put_in_order(self.out.as_slice(), order, &mut self.spans[first..])
+        sort_distinct(self.out.as_slice(), order, &mut self.spans[first..])
     }
 
     // The pairs of the open map in order. False where two keys of it are equal.
@@ -68,8 +69,8 @@ impl Core {
             (pairs_from (meant self.old.out) self.old.spans.items first))) }
         ensures front { IfOk result (λ distinct. IsTrue distinct
             → KeepsFront self.old.top.start self.old.out self.new.out) }
-        ensures kept { IfOk result (λ distinct. distinct ≡ false
-            → (self.new.out ≡ self.old.out) × (self.new.spans.items ≡ self.old.spans.items)) }
+        ensures left { IfOk result (λ distinct. distinct ≡ false → (self.new.out ≡ self.old.out)
+            × IsPermutation (drop first self.old.spans.items) (drop first self.new.spans.items)) }
     {
         if self.top.rises {
             return Ok(true);
@@ -99,8 +100,8 @@ impl Core {
         ensures whole { OnOk result (IsWhole self.new.out) }
         ensures front { IfOk result (λ distinct. IsTrue distinct
             → KeepsFront self.old.top.from self.old.out self.new.out) }
-        ensures kept { IfOk result (λ distinct. distinct ≡ false
-            → (self.new.out ≡ self.old.out) × (self.new.spans.items ≡ self.old.spans.items)) }
+        ensures left { IfOk result (λ distinct. distinct ≡ false → (self.new.out ≡ self.old.out)
+            × IsReordered self.old.spans.items self.new.spans.items self.old.top.shape) }
     {
         let Frame {
             from,
@@ -127,24 +128,23 @@ impl Core {
         Ok(true)
     }
 
-    /// What is open ends. False where it is a map of which two keys are equal: it stays open then.
+    /// What is open ends. Where it is a map of which two keys are equal it does not: then which
+    /// repeated key is told, and nothing is open.
     #[inline(always)]
-    pub(crate) fn end(&mut self) -> Result<bool, AllocError>
+    pub(crate) fn end(&mut self) -> Result<Option<Repeat>, AllocError>
         requires laid { IsLaid self.old }
         requires closes { CanClose self.old.top.shape }
         requires takes { OuterTakes (outers self.old) }
         ensures order { self.new.order ≡ self.old.order }
-        ensures distinct { IfOk result (λ distinct.
-            IsTrue distinct ↔ HasNoRepeats (innermost self.old)) }
-        ensures laid { OnOk result (IsLaid self.new) }
-        ensures closed { IfOk result (λ distinct. IsTrue distinct
-            → standing self.new ≡ close self.old.order (standing self.old)) }
-        ensures kept { IfOk result (λ distinct. distinct ≡ false
-            → standing self.new ≡ standing self.old) }
+        ensures distinct { IfOk result (λ told. IsNone told ↔ HasNoRepeats (innermost self.old)) }
+        ensures closed { IfOk result (λ told. IsNone told → IsLaid self.new
+            × (standing self.new ≡ close self.old.order (standing self.old))) }
+        ensures told { IfOk result (λ told. IfSome told
+            (λ repeat. IsRepeatTold (standing self.old) repeat.outside repeat.pair)) }
     {
         let from = self.top.from;
         if !self.close_top()? {
-            return Ok(false);
+            return Ok(self.first_repeat());
         }
         if self.leave() {
             settle_member(&mut self.out, from, &self.top, self.is_open)?;
@@ -156,6 +156,6 @@ impl Core {
                 from,
             )?;
         }
-        Ok(true)
+        Ok(None)
     }
 }

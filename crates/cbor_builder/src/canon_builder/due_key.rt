@@ -1,6 +1,6 @@
 //! Whether a key is due, which one waits for its value, and which is repeated.
 
-ghost use Rattle.std.specs.Prelude.{◌≡◌, ◌↔◌, List, ℕ, IsTrue, MatchOption};
+ghost use Rattle.std.specs.Prelude.{◌≡◌, ◌↔◌, [], List, ℕ, IsTrue, MatchOption};
 ghost use Rattle.cbor_builder.specs.Built.{AreOpenKeysDifferent, IsKeyDue};
 ghost use Rattle.cbor_builder.specs.Built.{IsRepeatTold, IsRepeatedKey, IsWaitingKey};
 
@@ -49,12 +49,18 @@ impl CanonBuilder {
     /// Which repeated key is to be told where the parts end before the item: of the open maps, from
     /// the outermost in, the first that has two equal keys, and of it the first key that is equal
     /// to an earlier one. A key that waits for its value is one of its map's. None where the keys
-    /// of each open map differ. Takes no memory, and some n log n comparisons for n pairs.
-    pub fn first_repeat(self) -> Option<Repeat>
-        ensures { MatchOption result (AreOpenKeysDifferent self.standing)
-            (λ repeat. IsRepeatTold self.standing repeat.outside repeat.pair) }
+    /// of each open map differ. Then nothing is open, so that the builder takes no more parts until
+    /// it is cleared. Takes no memory, and some n log n comparisons for n pairs.
+    pub fn first_repeat(&mut self) -> Option<Repeat>
+        ensures order { self.new.order ≡ self.old.order }
+        ensures told { MatchOption result (AreOpenKeysDifferent self.old.standing)
+            (λ repeat. IsRepeatTold self.old.standing repeat.outside repeat.pair) }
+        ensures left { self.new.standing ≡ [] }
     {
-        let CanonBuilder { core, is_sound } = self;
-        if is_sound { core.first_repeat() } else { None }
+        if !self.is_sound {
+            return None;
+        }
+        self.is_sound = false;
+        self.core.first_repeat()
     }
 }

@@ -1,10 +1,9 @@
 //! Canonical bytes from the parts of an item.
 
-ghost use Rattle.std.specs.Prelude.{List, ◌≡◌, ◌∷◌, [], OnOk};
-ghost use Rattle.cbor_head.specs.Canonical.{Pair};
-ghost use Rattle.cbor_builder.specs.Built.{TakesPart};
-ghost use Rattle.cbor_canonical.specs.Parts.{a_map, plain};
+ghost use Rattle.std.specs.Prelude.{◌≡◌, ◌∷◌, []};
+ghost use Rattle.cbor_canonical.specs.Parts.{plain};
 
+use crate::tests::repeats::told;
 use cbor_head::Major;
 use cbor_item::{CanonBuilder, KeyOrder, Repeat};
 use std::alloc::{AllocError, Global};
@@ -12,20 +11,6 @@ use std::process::Abort;
 
 // The parts are given by functions that borrow the builder: an owner of it would owe at each `?` that
 // it may be let go there.
-
-// A map begins, with a pair for each number, which is its key; its value is 0.
-fn open_map(builder: &mut CanonBuilder, keys: &[u64]) -> Result<(), AllocError>
-    requires takes { TakesPart builder.old.standing }
-    ensures { OnOk result ((ps : List Pair)
-        × (builder.new.standing ≡ a_map ps ∷ builder.old.standing)) }
-{
-    builder.begin(Major::Map, 0)?;
-    for key in keys {
-        builder.leaf(Major::Unsigned, *key)?;
-        builder.leaf(Major::Unsigned, 0)?;
-    }
-    Ok(())
-}
 
 // {1: [2], 0: "a", -1: h'01020304'} as it comes, the strings in pieces
 fn give_in_pieces(rt: &impl Abort, builder: &mut CanonBuilder) -> Result<(), AllocError>
@@ -46,7 +31,7 @@ fn give_in_pieces(rt: &impl Abort, builder: &mut CanonBuilder) -> Result<(), All
     builder.bytes(b"\x01\x02\x03")?;
     builder.bytes(b"\x04")?;
     builder.end_string()?;
-    assert!(rt; builder.end_if_distinct()?);
+    assert!(rt; builder.end_if_distinct()? == None);
     Ok(())
 }
 
@@ -98,7 +83,7 @@ fn give_a_key_again(rt: &impl Abort, builder: &mut CanonBuilder) -> Result<(), A
     builder.string(Major::Text, b"aa")?;
     assert!(rt; builder.repeated());
     builder.leaf(Major::Unsigned, 0)?;
-    assert!(rt; !builder.end_if_distinct()?);
+    assert!(rt; builder.end_if_distinct()? == told(0, 2));
     Ok(())
 }
 
@@ -158,18 +143,8 @@ fn takes_the_front_of_what_is_given(rt: HostRuntime) -> Result<(), AllocError> {
     Ok(())
 }
 
-#[test]
-fn what_was_given_is_taken_away(rt: HostRuntime) -> Result<(), AllocError> {
-    let mut builder = CanonBuilder::new(rt.alloc(), KeyOrder::Bytewise);
-    give_fronts(&mut builder)?;
-    assert!(rt; builder.take().finish().as_slice() == b"\x82\x62ab\x41x".as_slice());
-    builder.leaf(Major::Unsigned, 7)?;
-    assert!(rt; builder.finish().as_slice() == b"\x07".as_slice());
-    Ok(())
-}
-
 // Two pairs in falling order, with one value.
-fn give_falling(builder: &mut CanonBuilder, content: &[u8]) -> Result<bool, AllocError>
+fn give_falling(builder: &mut CanonBuilder, content: &[u8]) -> Result<Option<Repeat>, AllocError>
     requires empty { builder.old.standing ≡ plain [] ∷ [] }
 {
     builder.begin(Major::Map, 2)?;
@@ -204,7 +179,7 @@ fn in_order(alloc: Global, size: u8) -> Result<Vec<u8>, AllocError> {
 fn falling(rt: &impl Abort, alloc: Global, size: u8) -> Result<Vec<u8>, AllocError> {
     let content = Vec::from_elem(alloc, 7, usize::from(size))?;
     let mut builder = CanonBuilder::new(alloc, KeyOrder::Bytewise);
-    assert!(rt; give_falling(&mut builder, content.as_slice())?);
+    assert!(rt; give_falling(&mut builder, content.as_slice())? == None);
     Ok(builder.finish())
 }
 
@@ -220,99 +195,6 @@ fn pairs_of_each_length(rt: HostRuntime) -> Result<(), AllocError> {
     Ok(())
 }
 
-// {OUTER, 4: [{INNER, and a last key that waits for its value
-fn give_opened(
-    builder: &mut CanonBuilder,
-    outer: &[u64],
-    inner: &[u64],
-    last: u64,
-) -> Result<(), AllocError>
-    requires takes { TakesPart builder.old.standing }
-{
-    open_map(builder, outer)?;
-    builder.leaf(Major::Unsigned, 4)?;
-    builder.begin(Major::Array, 0)?;
-    open_map(builder, inner)?;
-    builder.leaf(Major::Unsigned, last)
-}
-
-fn told_of(
-    alloc: Global,
-    outer: &[u64],
-    inner: &[u64],
-    last: u64,
-) -> Result<Option<Repeat>, AllocError> {
-    let mut builder = CanonBuilder::new(alloc, KeyOrder::Bytewise);
-    give_opened(&mut builder, outer, inner, last)?;
-    Ok(builder.first_repeat())
-}
-
-#[test]
-fn the_outermost_repeated_key_is_told(rt: HostRuntime) -> Result<(), AllocError> {
-    let alloc = rt.alloc();
-    let told = |outside, pair| Some(Repeat { outside, pair });
-    // no key is equal to another, or one of the outer map, or the last of it, which waits
-    assert!(rt; told_of(alloc, &[3, 1, 2], &[7, 5, 6], 8)? == None);
-    assert!(rt; told_of(alloc, &[3, 1, 2, 1, 3], &[7, 7], 8)? == told(0, 3));
-    assert!(rt; told_of(alloc, &[3, 4, 2], &[7, 7], 7)? == told(0, 3));
-    // one of the inner map, or the last of it, which waits, behind keys that fall or rise
-    assert!(rt; told_of(alloc, &[3, 1, 2], &[7, 5, 5, 7], 7)? == told(1, 2));
-    assert!(rt; told_of(alloc, &[3, 1, 2], &[7, 5, 6], 5)? == told(1, 3));
-    assert!(rt; told_of(alloc, &[1, 2, 3], &[5, 6, 7], 6)? == told(1, 3));
-    let empty = CanonBuilder::new(alloc, KeyOrder::Bytewise);
-    assert!(rt; empty.first_repeat() == None);
-    Ok(())
-}
-
-// A map of which two keys are equal stays open, with all that was given.
-fn give_a_repeat(rt: &impl Abort, builder: &mut CanonBuilder) -> Result<(), AllocError>
-    requires empty { builder.old.standing ≡ plain [] ∷ [] }
-{
-    open_map(builder, &[9, 1, 9])?;
-    if builder.end_if_distinct()? || builder.end_if_distinct()? {
-        panic!(rt; "two keys are equal");
-    }
-    builder.leaf(Major::Unsigned, 1)?;
-    assert!(rt; builder.repeated());
-    Ok(())
-}
-
-#[test]
-fn a_map_that_repeats_a_key_stays_open(rt: HostRuntime) -> Result<(), AllocError> {
-    let mut builder = CanonBuilder::new(rt.alloc(), KeyOrder::LengthFirst);
-    give_a_repeat(&rt, &mut builder)?;
-    let told = Repeat {
-        outside: 0,
-        pair: 2,
-    };
-    assert!(rt; builder.first_repeat() == Some(told));
-    Ok(())
-}
-
-// Falling keys of nine bytes, alike in the first eight, and then the key of one of them again.
-#[test]
-fn the_pair_is_told_in_maps_of_each_size(rt: HostRuntime) -> Result<(), AllocError> {
-    let alloc = rt.alloc();
-    for size in [1, 2, 3, 19, 20, 21, 50, 51, 200] {
-        for again in [1, size / 2 + 1, size] {
-            let mut keys = Vec::new(alloc);
-            for i in 0..size {
-                keys.push((1 << 32) | (size - i))?;
-            }
-            keys.push((1 << 32) | again)?;
-            keys.push((1 << 32) | size)?;
-            let mut builder = CanonBuilder::new(alloc, KeyOrder::Bytewise);
-            open_map(&mut builder, &keys)?;
-            let told = Repeat {
-                outside: 0,
-                pair: size as usize,
-            };
-            assert!(rt; builder.first_repeat() == Some(told));
-        }
-    }
-    Ok(())
-}
-
 // [1, {2: .., 1: ..}], where the map is given up and an item of no bytes stands behind it
 fn give_without_a_map(rt: &impl Abort, builder: &mut CanonBuilder) -> Result<(), AllocError>
     requires empty { builder.old.standing ≡ plain [] ∷ [] }
@@ -324,7 +206,7 @@ fn give_without_a_map(rt: &impl Abort, builder: &mut CanonBuilder) -> Result<(),
     builder.nothing()?;
     builder.leaf(Major::Unsigned, 1)?;
     builder.nothing()?;
-    assert!(rt; builder.give_up_if_distinct()?);
+    assert!(rt; builder.give_up_if_distinct()? == None);
     Ok(())
 }
 
@@ -332,19 +214,5 @@ fn give_without_a_map(rt: &impl Abort, builder: &mut CanonBuilder) -> Result<(),
 fn a_map_is_given_up(rt: HostRuntime) -> Result<(), AllocError> {
     let mut builder = CanonBuilder::new(rt.alloc(), KeyOrder::Bytewise);
     give_without_a_map(&rt, &mut builder)?;
-    Ok(())
-}
-
-fn give_up_a_repeat(builder: &mut CanonBuilder) -> Result<bool, AllocError>
-    requires empty { builder.old.standing ≡ plain [] ∷ [] }
-{
-    open_map(builder, &[9, 1, 9])?;
-    builder.give_up_if_distinct()
-}
-
-#[test]
-fn a_map_that_repeats_a_key_is_not_given_up(rt: HostRuntime) -> Result<(), AllocError> {
-    let mut builder = CanonBuilder::new(rt.alloc(), KeyOrder::Bytewise);
-    assert!(rt; !give_up_a_repeat(&mut builder)?);
     Ok(())
 }

@@ -1,9 +1,10 @@
 -- What the walk over a valid item holds: of the open containers what is still to come, and a sink that took what is complete.
-use Rattle.std.specs.Prelude.{◌≡◌, ℕ, suc, ◌-◌, ◌^◌, ◌<◌, ◌≤◌, Bool, true, false, List, [], ◌∷◌, ◌++◌, length, take}
+use Rattle.std.specs.Prelude.{◌≡◌, ℕ, ◌-◌, ◌^◌, ◌<◌, ◌≤◌, Bool, true, false, List, [], ◌∷◌, ◌++◌, length, take}
 use Rattle.cbor_head.specs.Limits.{Bounds}
 use Rattle.cbor_head.specs.Spelling.{Spelling, spell, IsSpelled, depth}
 use Rattle.cbor_head.specs.declared.keys.Keys.{Keys}
 use Rattle.cbor_head.specs.declared.major.Major.{Major}
+use Rattle.cbor_builder.specs.declared.repeat.Repeat.{Repeat}
 use Rattle.cbor_judging.specs.Levels.{IsTaken, Level, AreLevels, bytes_before, Standing, item_due, item_whole, settle}
 use Rattle.cbor_walk.specs.declared.building.Met.{Met}
 use Rattle.cbor_walk.specs.declared.building.Met.TheVariants as met
@@ -16,10 +17,10 @@ use Rattle.cbor_walk.specs.declared.open.Open.{Open}
 use Rattle.cbor_walk.specs.declared.part.Part.{Part}
 use Rattle.cbor_walk.specs.declared.part.Part.TheVariants as part
 use Rattle.cbor_walk.specs.Front.{IsStop}
-use Rattle.cbor_walk.specs.Sink.{StandsFull, Told, IsWithin}
+use Rattle.cbor_walk.specs.Sink.{StandsFull, Told, IsToldFull, IsWithin}
 use Rattle.cbor_walk.specs.inner.Kept.{KeepsBefore, MetKept}
-use Rattle.cbor_walk.specs.inner.Open.{pairs, full_opener, cells_of}
-use Rattle.cbor_walk.specs.inner.OpenMaps.{HasTakenPairs}
+use Rattle.cbor_walk.specs.inner.Open.{cells_of}
+use Rattle.cbor_walk.specs.inner.OpenMaps.{IsCellOf}
 use Rattle.cbor_walk.specs.inner.Parts.{IsHead, IsOpener}
 
 -- ---- what is known of an input
@@ -63,18 +64,26 @@ module _ (S : Type 0) (stands : S → S → Standing → Type 0) (trusts : Bool)
     pub small : length input < 2 ^ 63
     pub known : trusts ≡ true → BeginsTaken d input
 
-  -- a container is whole, a map or not, and is to end in the sink
-  pub record IsToEnd (is_map : Bool) (start : S) (d : ℕ) (input : List ℕ) (cs : List Open) (g : S) (rest : List ℕ) : Type 0 where
+  -- a container is whole, of which so much is known; two of its keys may be the same
+  pub record IsFull (is_known : List Level → Spelling → Type 0) (d : ℕ) (input : List ℕ) (cs : List Open) (rest : List ℕ) : Type 0 where
     pub ls : List Level
     pub item : Spelling
     pub levels : AreLevels d ls
     pub spelled : IsSpelled item
     pub within : depth item ≤ d - length ls
     pub cells : cs ≡ cells_of (length input) ls
-    pub given : StandsFull S (Told S stands is_map) d start g ls item
+    pub given : is_known ls item
     pub bytes : input ≡ (bytes_before ls ++ spell item) ++ rest
     pub small : length input < 2 ^ 63
     pub known : trusts ≡ true → BeginsTaken d input
+
+  -- it is to end in the sink, a map or not
+  abbrev pub IsToEnd : Bool → S → ℕ → List ℕ → List Open → S → List ℕ → Type 0
+  IsToEnd is_map start d input cs g rest = IsFull (StandsFull S (Told S stands is_map) d start g) d input cs rest
+
+  -- it has a cell, which is still the innermost
+  abbrev pub IsCellFull : (List Level → Spelling → Type 0) → ℕ → List ℕ → Open → List Open → List ℕ → Type 0
+  IsCellFull is_known d input c cs rest = IsFull (λ ls s. is_known ls s × IsCellOf (length input) d c ls s) d input cs rest
 
   -- the input's item is whole
   pub record IsBuilt (start : S) (d : ℕ) (input : List ℕ) (g : S) (rest : List ℕ) : Type 0 where
@@ -83,32 +92,16 @@ module _ (S : Type 0) (stands : S → S → Standing → Type 0) (trusts : Bool)
     pub given : stands start g (item_whole item)
     pub bytes : input ≡ spell item ++ rest
 
-  -- a container is whole, and is to end in the sink; its cell is still the innermost
-  pub record IsCellFull (start : S) (d : ℕ) (input : List ℕ) (cs : List Open) (g : S) (rest : List ℕ) : Type 0 where
-    pub ls : List Level
-    pub item : Spelling
-    pub levels : AreLevels d ls
-    pub spelled : IsSpelled item
-    pub within : depth item ≤ d - length ls
-    pub complete : HasTakenPairs (d - suc (length ls)) item
-    pub cell : Open
-    pub cells : cs ≡ cell ∷ cells_of (length input) ls
-    pub is_map : Bool
-    pub kind : pairs cell.due ≡ is_map
-    pub begins : cell.behind ≡ length input - length (bytes_before ls ++ full_opener item)
-    pub given : StandsFull S (Told S stands is_map) d start g ls item
-    pub bytes : input ≡ (bytes_before ls ++ spell item) ++ rest
-    pub small : length input < 2 ^ 63
-    pub known : trusts ≡ true → BeginsTaken d input
+  -- the innermost container is whole; or, where no other cell is around its cell, the input's item
+  abbrev pub HasFilled : S → ℕ → List ℕ → List Open → S → List ℕ → Type 0
+  HasFilled start d input [] g rest = ⊥
+  HasFilled start d input (top ∷ []) g rest = IsBuilt start d input g rest
+  HasFilled start d input (top ∷ c ∷ cs) g rest = IsCellFull (StandsFull S stands d start g) d input top (c ∷ cs) rest
 
-  -- the container of this cell is whole, where these cells are around it; where none is, the input's item
-  abbrev pub HasFilled : Open → S → ℕ → List ℕ → List Open → S → List ℕ → Type 0
-  HasFilled top start d input [] g rest = IsBuilt start d input g rest
-  HasFilled top start d input (c ∷ cs) g rest = IsCellFull start d input (top ∷ c ∷ cs) g rest
-
-  -- a container was to end, and did not: two keys of a map are the same, and its cell is still the innermost
-  abbrev pub HasRepeats : S → ℕ → List ℕ → List Open → S → List ℕ → Type 0
-  HasRepeats start d input cs g rest = IsCellFull start d input cs g rest
+  -- the innermost container was to end, and did not: two of its keys are the same, and this one is told
+  abbrev pub IsRepeatMet : Repeat → ℕ → List ℕ → List Open → List ℕ → Type 0
+  IsRepeatMet repeat d input [] rest = ⊥
+  IsRepeatMet repeat d input (top ∷ cs) rest = IsCellFull (λ ls s. IsToldFull ls s repeat) d input top cs rest
 
   -- ---- what the calls ask for: some input of which this is true
 
@@ -118,11 +111,8 @@ module _ (S : Type 0) (stands : S → S → Standing → Type 0) (trusts : Bool)
   abbrev pub IsDueFor : Open → S → List ℕ → Type 0
   IsDueFor top g rest = (d : ℕ) × (outer : List Open) × IsDueIn d (top ∷ outer) g rest
 
-  abbrev pub HasEndedIn : List Open → S → Type 0
-  HasEndedIn cs g = (start : S) × (d : ℕ) × (input : List ℕ) × (rest : List ℕ) × HasEnded start d input cs g rest
-
-  abbrev pub HasFilledIn : Open → List Open → S → Type 0
-  HasFilledIn top cs g = (start : S) × (d : ℕ) × (input : List ℕ) × (rest : List ℕ) × HasFilled top start d input cs g rest
+  abbrev pub HasFilledIn : List Open → S → Type 0
+  HasFilledIn cs g = (start : S) × (d : ℕ) × (input : List ℕ) × (rest : List ℕ) × HasFilled start d input cs g rest
 
   abbrev pub IsToEndFor : Bool → S → List ℕ → Type 0
   IsToEndFor is_map g rest = (start : S) × (d : ℕ) × (input : List ℕ) × (cs : List Open) × IsToEnd is_map start d input cs g rest
@@ -147,24 +137,16 @@ module _ (S : Type 0) (stands : S → S → Standing → Type 0) (trusts : Bool)
   abbrev pub EndsItem : Bool → Part → List ℕ → S → S → Type 0
   EndsItem is_map result behind g new = (start : S) (d : ℕ) (input : List ℕ) (cs : List Open) → IsToEnd is_map start d input cs g behind → EndsTo result start d input cs new behind
 
-  -- ---- a break
-
-  abbrev pub IsBreakDue : List Open → S → List ℕ → Type 0
-  IsBreakDue cs g behind = (d : ℕ) × IsDueIn d cs g (0xff ∷ behind)
-
-  -- ---- behind an item
+  -- ---- behind a container
 
   abbrev pub LeadsTo : Then → S → ℕ → List ℕ → List ℕ → List Open → S → Type 0
   LeadsTo then.Item start d input rest cs g = IsDue start d input cs g rest
   LeadsTo then.Done start d input rest cs g = IsBuilt start d input g rest
-  LeadsTo then.Repeated start d input rest cs g = HasRepeats start d input cs g rest
+  LeadsTo (then.Repeated repeat) start d input rest cs g = IsRepeatMet repeat d input cs rest
   LeadsTo then.Stopped start d input rest cs g = Unit {0}
 
   abbrev pub Leads : Then → List Open → S → List Open → S → Type 0
-  Leads result cs g now new = (start : S) (d : ℕ) (input rest : List ℕ) → HasEnded start d input cs g rest → LeadsTo result start d input rest now new
-
-  abbrev pub LeadsFull : Open → Then → List Open → S → List Open → S → Type 0
-  LeadsFull top result cs g now new = (start : S) (d : ℕ) (input rest : List ℕ) → HasFilled top start d input cs g rest → LeadsTo result start d input rest now new
+  Leads result cs g now new = (start : S) (d : ℕ) (input rest : List ℕ) → HasFilled start d input cs g rest → LeadsTo result start d input rest now new
 
   -- where kinds are asked for
   abbrev pub WalksKept : Bool → Met → ℕ → List ℕ → List Open → S → Type 0
@@ -180,9 +162,9 @@ module _ (S : Type 0) (stands : S → S → Standing → Type 0) (trusts : Bool)
     abbrev pub TakesTo : Part → S → ℕ → List ℕ → List ℕ → List Open → S → Type 0
     TakesTo (part.Item behind) start d input rest cs g = (length behind.now < length rest) × HasEnded start d input cs g behind.now
     TakesTo (part.Head behind) start d input rest cs g = (length behind.now < length rest) × IsDue start d input cs g behind.now
+    TakesTo (part.Break behind) start d input rest cs g = (length behind.now < length rest) × HasFilled start d input cs g behind.now
     TakesTo part.Untaken start d input rest cs g = IsDue start d input cs g rest
     TakesTo part.Broken start d input rest cs g = HasCome start d input cs g rest
-    TakesTo (part.Repeated behind) start d input rest cs g = (length behind.now < length rest) × HasRepeats start d input cs g behind.now
     TakesTo part.Stopped start d input rest cs g = Unit {0}
 
     -- from these cells and this sink to those
@@ -203,17 +185,13 @@ module _ (S : Type 0) (stands : S → S → Standing → Type 0) (trusts : Bool)
     abbrev pub TakesOpener : Part → ℕ → Major → ℕ → Open → List ℕ → List Open → S → List Open → S → Type 0
     TakesOpener result d m n c behind cs g now new = (rest : List ℕ) → IsOpener m n c rest behind → Takes result d rest cs g now new
 
-    -- a break
-    abbrev pub TakesBreak : Part → List ℕ → List Open → S → List Open → S → Type 0
-    TakesBreak result behind cs g now new = (d : ℕ) → Takes result d (0xff ∷ behind) cs g now new
-
     -- ---- the walk
 
     abbrev pub Meets : Met → S → ℕ → List ℕ → List Open → S → Type 0
     Meets (met.Whole rest) start d input cs g = IsBuilt start d input g rest.now
     Meets (met.Untaken rest) start d input cs g = IsDue start d input cs g rest.now
     Meets (met.Broken rest) start d input cs g = HasCome start d input cs g rest.now
-    Meets (met.Repeated rest) start d input cs g = HasRepeats start d input cs g rest.now
+    Meets (met.Repeated rest repeat) start d input cs g = IsRepeatMet repeat d input cs rest.now
     Meets met.Stopped start d input cs g = Unit {0}
 
     abbrev pub Walks : Met → ℕ → List ℕ → List Open → S → List Open → S → Type 0

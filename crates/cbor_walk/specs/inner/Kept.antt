@@ -46,5 +46,5 @@ abbrev pub MetKept : Met → ℕ → Keys → List ℕ → Type 0
 MetKept (met.Whole rest) d keys input = KeepsBefore d keys input rest.now
 MetKept (met.Untaken rest) d keys input = KeepsBefore d keys input rest.now
 MetKept (met.Broken rest) d keys input = KeepsBefore d keys input rest.now
-MetKept (met.Repeated rest) d keys input = KeepsBefore d keys input rest.now
+MetKept (met.Repeated rest repeat) d keys input = KeepsBefore d keys input rest.now
 MetKept met.Stopped d keys input = Unit {0}

@@ -1,23 +1,21 @@
 -- Which of the open containers are maps.
-use Rattle.std.specs.Prelude.{ℕ, suc, ◌≡◌, Bool, true, false, Option, Some, List, [], ◌∷◌, ◌++◌}
-use Rattle.cbor_head.specs.Spelling as spelling
-use Rattle.cbor_head.specs.Spelling.{Spelling, array, a_map}
-use Rattle.cbor_judging.specs.Levels.{Level, a_member, a_key, a_value, some_member, some_key, some_value, tagged, ArePairsTaken}
+use Rattle.std.specs.Prelude.{ℕ, suc, ◌≡◌, ◌-◌, Bool, true, false, Option, Some, List, [], ◌∷◌, ◌++◌, length}
+use Rattle.cbor_head.specs.Spelling.{Spelling, a_map}
+use Rattle.cbor_judging.specs.Levels.{Level, a_member, a_key, a_value, some_member, some_key, some_value, tagged, ArePairsTaken, bytes_before}
 use Rattle.cbor_walk.specs.declared.open.Open.{Open}
-use Rattle.cbor_walk.specs.inner.Open.{pairs}
+use Rattle.cbor_walk.specs.Sink.{is_map}
+use Rattle.cbor_walk.specs.inner.Open.{pairs, full_opener}
 
 -- the keys and values of a map are taken; two keys may be the same
 abbrev pub HasTakenPairs : ℕ → Spelling → Type 0
 HasTakenPairs d (a_map w es) = ArePairsTaken d es
-HasTakenPairs d (array w ss) = Unit {0}
-HasTakenPairs d (spelling.tag w n s) = Unit {0}
-HasTakenPairs d (spelling.unsigned w n) = Unit {0}
-HasTakenPairs d (spelling.negative w n) = Unit {0}
-HasTakenPairs d (spelling.bytes w bs) = Unit {0}
-HasTakenPairs d (spelling.text w bs) = Unit {0}
-HasTakenPairs d (spelling.byte_chunks cs) = Unit {0}
-HasTakenPairs d (spelling.text_chunks cs) = Unit {0}
-HasTakenPairs d (spelling.simple n) = Unit {0}
+HasTakenPairs d _ = Unit {0}
+
+-- this container, whole within these, is that of a cell, in an input of so many bytes
+pub record IsCellOf (n d : ℕ) (c : Open) (ls : List Level) (s : Spelling) : Type 0 where
+  pub kind : pairs c.due ≡ is_map s
+  pub place : c.behind ≡ n - length (bytes_before ls ++ full_opener s)
+  pub taken : HasTakenPairs (d - suc (length ls)) s
 
 -- ---- maps
 

@@ -1,5 +1,5 @@
 -- What is taken of the bytes that are left: an item, a head, a break.
-use Rattle.std.specs.Prelude.{◌≡◌, ℕ, ◌-◌, ◌<◌, ◌≤◌, ◌⊎◌, Bool, true, List, ◌∷◌, ◌++◌, length, take, drop, IsUtf8}
+use Rattle.std.specs.Prelude.{◌≡◌, ℕ, ◌-◌, ◌<◌, ◌≤◌, Bool, true, List, ◌∷◌, ◌++◌, length, take, drop, IsUtf8}
 use Rattle.cbor_head.specs.Head.{Holds, IsSimple, head, shortest}
 use Rattle.cbor_head.specs.Spelling.{Spelling, spell, IsSpelled, depth}
 use Rattle.cbor_head.specs.declared.major.Major.{Major}
@@ -79,9 +79,9 @@ pub record HasBroken (c : Open) (rest behind : List ℕ) : Type 0 where
   pub is : rest ≡ 0xff ∷ behind
 
 abbrev pub TakesFront : Part → ℕ → Open → List ℕ → Type 0
-TakesFront (part.Item behind) d c rest = HasBegun d rest behind.now ⊎ HasBroken c rest behind.now
+TakesFront (part.Item behind) d c rest = HasBegun d rest behind.now
 TakesFront (part.Head behind) d c rest = HasBegun d rest behind.now
-TakesFront (part.Repeated behind) d c rest = HasBroken c rest behind.now
+TakesFront (part.Break behind) d c rest = HasBroken c rest behind.now
 TakesFront _ d c rest = Unit {0}
 
 -- within whatever containers
@@ -97,7 +97,7 @@ TakesCountedFront result d m n behind = (rest : List ℕ) → IsHead m n rest be
 abbrev pub TakesOpenerFront : Part → ℕ → Major → ℕ → Open → List ℕ → Type 0
 TakesOpenerFront result d m n o behind = (rest : List ℕ) → IsOpener m n o rest behind → (c : Open) → TakesFront result d c rest
 
--- something is taken
+-- an item is taken, or a head
 abbrev pub HasTaken : Part → Type 0
 HasTaken (part.Item behind) = Unit {0}
 HasTaken (part.Head behind) = Unit {0}
@@ -107,24 +107,24 @@ HasTaken _ = ⊥
 abbrev pub left_of : Part → Left
 left_of (part.Item behind) = left.Item (length behind.now)
 left_of (part.Head behind) = left.Head (length behind.now)
+left_of (part.Break behind) = left.Break (length behind.now)
 left_of part.Untaken = left.Untaken
 left_of part.Broken = left.Broken
-left_of (part.Repeated behind) = left.Repeated (length behind.now)
 left_of part.Stopped = left.Stopped
 
 abbrev pub LeavesWithin : List ℕ → Left → Type 0
 LeavesWithin bytes (left.Item count) = count ≤ length bytes
 LeavesWithin bytes (left.Head count) = count ≤ length bytes
-LeavesWithin bytes (left.Repeated count) = count ≤ length bytes
+LeavesWithin bytes (left.Break count) = count ≤ length bytes
 LeavesWithin bytes _ = Unit {0}
 
 -- behind it are so many of these bytes, the last
 abbrev pub Leaves : List ℕ → Left → Part → Type 0
 Leaves bytes (left.Item count) (part.Item behind) = behind.now ≡ drop (length bytes - count) bytes
 Leaves bytes (left.Head count) (part.Head behind) = behind.now ≡ drop (length bytes - count) bytes
+Leaves bytes (left.Break count) (part.Break behind) = behind.now ≡ drop (length bytes - count) bytes
 Leaves bytes left.Untaken part.Untaken = Unit {0}
 Leaves bytes left.Broken part.Broken = Unit {0}
-Leaves bytes (left.Repeated count) (part.Repeated behind) = behind.now ≡ drop (length bytes - count) bytes
 Leaves bytes left.Stopped part.Stopped = Unit {0}
 Leaves bytes _ _ = ⊥
 

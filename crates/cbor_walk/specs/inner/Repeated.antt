@@ -6,11 +6,13 @@ use Rattle.cbor_head.specs.Limits.{Bounds}
 use Rattle.cbor_head.specs.Spelling.{Spelling, SpelledEntries, spell, entries_count, value_of, entries_of}
 use Rattle.cbor_head.specs.declared.order.KeyOrder.{KeyOrder}
 use Rattle.cbor_builder.specs.Built.{HasKey, AreOpenKeysDifferent}
+use Rattle.cbor_builder.specs.declared.repeat.Repeat.{Repeat}
 use Rattle.cbor_judging.specs.Given.{opens}
 use Rattle.cbor_judging.specs.Kinds.{KeepsToKinds}
 use Rattle.cbor_judging.specs.Levels.{IsTaken, Level, AreLevels, bytes_before}
 use Rattle.cbor_walk.specs.Sink.{IsKeyBehind}
 use Rattle.cbor_walk.specs.inner.Open.{opener}
+use Rattle.cbor_walk.specs.inner.OpenMaps.{FindsMap}
 use Rattle.cbor_walk.specs.declared.open.Open.{Open}
 
 -- The input's item has come to a key that has the canonical bytes of an earlier one of its map, as no two keys before it. So many
@@ -36,3 +38,7 @@ pub record IsKeyTold (limits : Bounds) (input : List ℕ) (behind pair : ℕ) : 
 -- a cell that is found has what is told of its map's key
 abbrev pub IsCellTold : Bounds → List ℕ → Option Open → ℕ → Type 0
 IsCellTold limits input found pair = (c : Open) × (found ≡ Some c) × IsKeyTold limits input c.behind pair
+
+-- the map of the key that is told has one of these cells
+abbrev pub IsKeyToldIn : Bounds → List ℕ → List Open → Repeat → Type 0
+IsKeyToldIn limits input cells repeat = (found : Option Open) → FindsMap cells repeat.outside found → IsCellTold limits input found repeat.pair

@@ -25,7 +25,7 @@ abbrev pub EndsItem : Met → ℕ → List ℕ → Type 0
 EndsItem (met.Whole rest) d input = (item : Spelling) × IsTaken d item × (input ≡ spell item ++ rest.now)
 EndsItem (met.Untaken rest) d input = Unit {0}
 EndsItem (met.Broken rest) d input = Unit {0}
-EndsItem (met.Repeated rest) d input = Unit {0}
+EndsItem (met.Repeated rest repeat) d input = Unit {0}
 EndsItem met.Stopped d input = Unit {0}
 
 -- these bytes stand behind them, if any are met there
@@ -33,5 +33,5 @@ abbrev pub GoesTo : Met → List ℕ → Type 0
 GoesTo (met.Whole rest) behind = rest.now ≡ behind
 GoesTo (met.Untaken rest) behind = Unit {0}
 GoesTo (met.Broken rest) behind = Unit {0}
-GoesTo (met.Repeated rest) behind = Unit {0}
+GoesTo (met.Repeated rest repeat) behind = Unit {0}
 GoesTo met.Stopped behind = Unit {0}

@@ -1,13 +1,43 @@
-use Rattle.std.proofs.Common.{arith}
+use Rattle.std.proofs.Common.{ℕ, Option, map, sym, subst, arith}
+use Rattle.std.specs.Prelude.{MatchOption, ◌==◌}
+use Rattle.cbor_builder.specs.Built.{AreAllDifferent, IsFirstRepeat}
+use Rattle.cbor_builder.specs.inner.Front.{key_of}
+use Rattle.std.proofs.lemmas.List.Sums.{count_by-le-length}
 use Rattle.cbor_keys.proofs.KeyFronts.{are_bytes}
-use Rattle.cbor_builder.proofs.FirstRepeat.{first_found, all_fronted}
+use Rattle.cbor_builder.specs.inner.Repeats.{lies_before}
+use Rattle.cbor_builder.proofs.Ranks.{fronted_permuted, sorted_keys}
+use Rattle.cbor_builder.proofs.FirstRepeat.{bit_most, none_told, one_told, placed}
+use Rattle.cbor_builder.proofs.Ties.{grouped}
 use Rattle.cbor_builder.proofs.repeats.first_repeat.Goals as goal
 
-pub returns : goal.returns
-returns c =
-    let b = are_bytes c.args.bytes.now (λ i. omega (arith, c.type_inv.bytes i)) in
-    first_found c.args.order c.args.bytes.now c.args.spans.now c.number.new.spans c.sort_by_number.new.spans b c.requires (omega arith) c.number.ensures c.sort_by_number.ensures.permuted c.sort_by_number.ensures.sorted c.least_tie.result c.least_tie.ensures
+pub first_tie-requires-clause-fronted : goal.first_tie-requires-clause-fronted
+first_tie-requires-clause-fronted c =
+    let of = c.requires.1 in
+    fronted_permuted c.args.bytes.now c.args.spans.now c.sort_by_keys.new.spans c.sort_by_keys.ensures.permuted (fronted_permuted c.args.bytes.now c.requires.0 c.args.spans.now of.5 of.4)
 
-pub least_tie-requires : goal.least_tie-requires
-least_tie-requires c =
-    all_fronted c.args.bytes.now c.args.spans.now c.number.new.spans c.sort_by_number.new.spans c.requires (omega arith) c.number.ensures c.sort_by_number.ensures.permuted
+pub first_tie-requires-clause-placed : goal.first_tie-requires-clause-placed
+first_tie-requires-clause-placed c = placed c.args.bytes.now c.requires.0 c.args.spans.now c.sort_by_keys.new.spans (omega arith) c.requires.1 c.sort_by_keys.ensures.permuted
+
+pub first_tie-requires-clause-grouped : goal.first_tie-requires-clause-grouped
+first_tie-requires-clause-grouped c =
+    let of = c.requires.1 in
+    let sound = fronted_permuted c.args.bytes.now c.args.spans.now c.sort_by_keys.new.spans c.sort_by_keys.ensures.permuted (fronted_permuted c.args.bytes.now c.requires.0 c.args.spans.now of.5 of.4) in
+    grouped c.args.order c.args.bytes.now c.sort_by_keys.new.spans (sorted_keys c.args.order c.args.bytes.now c.sort_by_keys.new.spans (are_bytes c.args.bytes.now (λ i. omega (arith, c.type_inv.bytes i))) sound c.sort_by_keys.ensures.sorted)
+
+pub returns-in_err-tie : goal.returns-in_err-tie
+returns-in_err-tie c xs of =
+    let keys = map (key_of c.args.bytes.now) xs in
+    subst (λ (r : Option ℕ). MatchOption r (AreAllDifferent keys) (IsFirstRepeat keys)) (sym c.from_residual.ensures) (none_told c.args.bytes.now xs c.args.spans.now c.sort_by_keys.new.spans of c.sort_by_keys.ensures.permuted c.in_err-tie.ensures)
+
+pub count_before-requires : goal.count_before-requires
+count_before-requires c = placed c.args.bytes.now c.requires.0 c.args.spans.now c.sort_by_keys.new.spans (omega arith) c.requires.1 c.sort_by_keys.ensures.permuted
+
+pub overflow_add-result : goal.overflow_add-result
+overflow_add-result c =
+    let most = count_by-le-length (lies_before c.in_ok-tie.tie.later) c.sort_by_keys.new.spans in
+    let one = bit_most (c.in_ok-tie.tie.earlier == c.in_ok-tie.tie.later) in
+    omega (arith, most, one, c.count_before.ensures, c.from.ensures)
+
+pub returns : goal.returns
+returns c xs of =
+    one_told c.args.bytes.now xs c.args.spans.now c.sort_by_keys.new.spans c.in_ok-tie.tie c.count_before.result c.from.result of c.sort_by_keys.ensures.permuted c.in_ok-tie.ensures c.count_before.ensures c.from.ensures

@@ -5,29 +5,12 @@ use Rattle.cbor_builder.specs.inner.Laid.{OuterTakes, opens, shape_open}
 use Rattle.cbor_buffer.specs.Moved.{meant, KeepsFront}
 use Rattle.cbor_canonical.specs.Parts.{close, closed}
 use Rattle.cbor_builder.proofs.Nesting.{nothing_open, rooted_given}
+use Rattle.cbor_builder.proofs.Reordered.{was_laid, told_there}
 use Rattle.cbor_builder.proofs.Standing.{member_ended, member_outer, keeps_stays}
 use Rattle.cbor_builder.proofs.builder.Core.end.Goals as goal
 
-pub returns-in_ok-complete-clause-laid : goal.returns-in_ok-complete-clause-laid
-returns-in_ok-complete-clause-laid c =
-    let s = c.args.self.now in
-    let e = c.in_ok-complete.ensures in
-    let k = c.in_ok-close_top.ensures in
-    let t = c.in_ok-settle_member.ensures in
-    let done = c.if-not-branch.false in
-    let n = c.leave.new.self in
-    let o = n.order in
-    let eo = c.leave.ensures.order ∙ k.order in
-    let rev = sym k.around ∙ c.leave.ensures.frames c.if-leave.true in
-    let stand = subst (λ (o : KeyOrder). Stand o s.out s.spans.items (s.top ∷ outers s)) (sym eo) c.requires.laid.0 in
-    let bytes = t.meant ∙ ap meant c.leave.ensures.out ∙ k.bytes done ∙ ap (λ (o : KeyOrder). take s.top.from (meant s.out) ++ closed o (shape_open (meant s.out) s.spans.items s.top.start s.top.shape)) (sym eo) in
-    let front = keeps_stays s.top.from s.out n.out c.settle_member.new.out (subst (KeepsFront s.top.from s.out) (sym c.leave.ensures.out) (k.front done)) t.stays t.meant in
-    let made = member_ended o s.out c.settle_member.new.out s.spans.items n.spans.items s.top n.top (outers n) (outers s) c.complete.new.spans.items c.complete.new.frame rev stand t.whole
-    (subst OuterTakes rev c.requires.takes) bytes front t.key (λ none. t.last (nothing_open n none)) (c.leave.ensures.spans ∙ k.spans done) (e.from, e.start, e.shape, e.spans, e.rises) in
-    (made.0, rooted_given o c.settle_member.new.out.buf n.spans.items s.top.from n.top c.complete.new.frame n.is_open n.below.items e.from e.start e.shape e.rises (c.leave.ensures.rooted c.if-leave.true))
-
 pub returns-in_ok-complete-clause-closed : goal.returns-in_ok-complete-clause-closed
-returns-in_ok-complete-clause-closed c = λ p.
+returns-in_ok-complete-clause-closed c = λ none.
     let s = c.args.self.now in
     let e = c.in_ok-complete.ensures in
     let k = c.in_ok-close_top.ensures in
@@ -41,8 +24,39 @@ returns-in_ok-complete-clause-closed c = λ p.
     let bytes = t.meant ∙ ap meant c.leave.ensures.out ∙ k.bytes done ∙ ap (λ (o : KeyOrder). take s.top.from (meant s.out) ++ closed o (shape_open (meant s.out) s.spans.items s.top.start s.top.shape)) (sym eo) in
     let front = keeps_stays s.top.from s.out n.out c.settle_member.new.out (subst (KeepsFront s.top.from s.out) (sym c.leave.ensures.out) (k.front done)) t.stays t.meant in
     let made = member_ended o s.out c.settle_member.new.out s.spans.items n.spans.items s.top n.top (outers n) (outers s) c.complete.new.spans.items c.complete.new.frame rev stand t.whole
-    (subst OuterTakes rev c.requires.takes) bytes front t.key (λ none. t.last (nothing_open n none)) (c.leave.ensures.spans ∙ k.spans done) (e.from, e.start, e.shape, e.spans, e.rises) in
-    made.1 ∙ ap (λ (o : KeyOrder). close o (opens (meant s.out) s.spans.items (s.top ∷ outers s))) eo
+    (subst OuterTakes rev c.requires.takes) bytes front t.key (λ none. t.last (nothing_open n none)) (c.leave.ensures.spans ∙ k.spans done) (e.from, e.start, e.shape, e.spans, e.rises) in (
+      (made.0, rooted_given o c.settle_member.new.out.buf n.spans.items s.top.from n.top c.complete.new.frame n.is_open n.below.items e.from e.start e.shape e.rises (c.leave.ensures.rooted c.if-leave.true)),
+      made.1 ∙ ap (λ (o : KeyOrder). close o (opens (meant s.out) s.spans.items (s.top ∷ outers s))) eo,
+    )
+
+pub first_repeat-requires : goal.first_repeat-requires
+first_repeat-requires c =
+    let s = c.args.self.now in
+    let k = c.in_ok-close_top.ensures in
+    let left = k.left c.if-not-branch.true in
+    record { laid = (s.spans.items, was_laid s c.close_top.new.self c.requires.laid.0 k.order left.0 k.top k.around left.1) }
+
+pub returns-then-not-branch-clause-distinct : goal.returns-then-not-branch-clause-distinct
+returns-then-not-branch-clause-distinct c =
+    let s = c.args.self.now in
+    let k = c.in_ok-close_top.ensures in
+    let left = k.left c.if-not-branch.true in
+    let told = told_there s c.close_top.new.self _ c.first_repeat.result c.requires.laid.0 k.order left.0 k.top k.around left.1 c.if-not-branch.true k.distinct c.first_repeat.ensures.tells in
+    ((λ none. absurd (told.0 none)), (λ h. absurd (told.1 h)))
+
+pub returns-then-not-branch-clause-closed : goal.returns-then-not-branch-clause-closed
+returns-then-not-branch-clause-closed c = λ none.
+    let s = c.args.self.now in
+    let k = c.in_ok-close_top.ensures in
+    let left = k.left c.if-not-branch.true in
+    absurd ((told_there s c.close_top.new.self _ c.first_repeat.result c.requires.laid.0 k.order left.0 k.top k.around left.1 c.if-not-branch.true k.distinct c.first_repeat.ensures.tells).0 none)
+
+pub returns-then-not-branch-clause-told : goal.returns-then-not-branch-clause-told
+returns-then-not-branch-clause-told c =
+    let s = c.args.self.now in
+    let k = c.in_ok-close_top.ensures in
+    let left = k.left c.if-not-branch.true in
+    (told_there s c.close_top.new.self _ c.first_repeat.result c.requires.laid.0 k.order left.0 k.top k.around left.1 c.if-not-branch.true k.distinct c.first_repeat.ensures.tells).2
 
 pub complete-requires-clause-ready : goal.complete-requires-clause-ready
 complete-requires-clause-ready c =

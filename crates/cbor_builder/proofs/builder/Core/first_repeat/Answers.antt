@@ -1,6 +1,6 @@
 use Rattle.std.proofs.Common.{◌≡◌, ◌+◌, ◌-◌, ◌^◌, ◌<◌, ◌≤◌, ℕ, suc, List, ◌∷◌, length, take, take_all, sym, ap, ◌∙◌, subst, arith}
 use Rattle.std.specs.Prelude.{Option, None, IfSome}
-use Rattle.cbor_builder.specs.inner.BuilderState.{standing, frames, outers}
+use Rattle.cbor_builder.specs.inner.BuilderState.{frames, outers, Stand, came_standing}
 use Rattle.cbor_builder.specs.inner.Laid.{opens, outer_spans, shape_open, Laid}
 use Rattle.cbor_buffer.specs.Moved.{meant, IsWhole}
 use Rattle.cbor_builder.specs.inner.Repeats.{maps_of, outward, TellsWithin, TellsOf, IsBelow}
@@ -9,40 +9,45 @@ use Rattle.cbor_builder.specs.declared.frame.Frame.{Frame}
 use Rattle.cbor_builder.specs.declared.repeat.Repeat.{Repeat}
 use Rattle.cbor_buffer.proofs.Drafts.{whole_length}
 use Rattle.cbor_builder.proofs.InPlace.{agrees_refl, laid_raw, within_raw}
+use Rattle.cbor_builder.proofs.Reordered.{reordered_refl, reordered_outer}
+use Rattle.cbor_builder.proofs.Standing.{stand_cut}
 use Rattle.cbor_builder.proofs.Nesting.{outers_fit}
 use Rattle.cbor_builder.proofs.OpenRepeats.{tells_first, tells_outward, tells_all, maps_more, below_fits, below_outward, below_first, moved}
 use Rattle.cbor_builder.proofs.builder.Core.first_repeat.Goals as goal
 
 pub take_repeat-own-requires-clause-laid : goal.take_repeat-own-requires-clause-laid
 take_repeat-own-requires-clause-laid c =
-    let s = c.args.self in
-    let raw = s.out.buf in
-    let fs = s.top ∷ outers s in
-    let all = ap (λ (k : ℕ). take k raw) c.len-len.ensures.lies ∙ take_all (length raw) raw (omega arith) in
-    let is = c.cut.ensures.meant ∙ all in
-    ((subst (λ (xs : List ℕ). Laid s.order xs s.spans.items fs) (sym is) (laid_raw s.order raw (meant s.out) s.spans.items fs (whole_length s.out c.requires.laid.0.1) c.requires.laid.0.2 c.requires.laid.0.0), c.cut.ensures.whole, agrees_refl c.cut.new.self.buf (meant c.cut.new.self) s.spans.items fs (c.cut.ensures.lies ∙ sym c.cut.ensures.meant)), c.requires.laid.1)
+    let s = c.args.self.now in
+    let was = c.requires.laid.1 in
+    let all = ap (λ (k : ℕ). take k s.out.buf) c.len-len.ensures.lies ∙ take_all (length s.out.buf) s.out.buf (omega arith) in
+    (c.requires.laid.0, (stand_cut s.order s.out c.cut.new.self c.requires.laid.0 (s.top ∷ outers s) was.0 c.cut.ensures.whole (c.cut.ensures.meant ∙ all) (c.cut.ensures.lies ∙ all), was.1))
 
 pub loop-self-init : goal.loop-self-init
 loop-self-init c =
-    let s = c.args.self in
+    let s = c.args.self.now in
     let raw = s.out.buf in
     let fs = s.top ∷ outers s in
     let n = c.take_repeat-own.new.self in
     let e = c.take_repeat-own.ensures in
+    let own = c.take_repeat-own.result in
     let all = ap (λ (k : ℕ). take k raw) c.len-len.ensures.lies ∙ take_all (length raw) raw (omega arith) in
     let is = c.cut.ensures.meant ∙ all in
     let lies = c.cut.ensures.lies ∙ all in
-    let laid = laid_raw s.order raw (meant s.out) s.spans.items fs (whole_length s.out c.requires.laid.0.1) c.requires.laid.0.2 c.requires.laid.0.0 in
     let out = e.meant ∙ ap (take s.top.from) lies in
-    let tells = subst (λ (xs : List ℕ). TellsOf (shape_open xs s.spans.items s.top.start s.top.shape) c.take_repeat-own.result) is e.tells in (
-      moved Laid s.order n.order (take s.top.from raw) (meant n.out) (outer_spans s.spans.items s.top.shape) n.spans.items (outers s) (outers n) e.order out e.spans (e.around) laid.3,
+    let first = c.requires.laid.0 in
+    let laid = c.requires.laid.1 in (
+      moved Laid s.order n.order (take s.top.from raw) (meant n.out) (outer_spans first s.top.shape) n.spans.items (outers s) (outers n) e.order out (e.spans ∙ reordered_outer first s.spans.items s.top.shape laid.1) e.around
+          (laid_raw s.order raw (meant s.out) first fs (whole_length s.out laid.0.1) laid.0.2 laid.0.0).3,
       e.whole,
       e.lies ∙ sym e.meant,
-      subst (TellsWithin (standing s) _) (sym c.outward-found.ensures)
-          (moved (λ o out ss fs. TellsWithin (standing s) (opens out ss fs) (outward c.take_repeat-own.result None 0)) s.order n.order (take s.top.from raw) (meant n.out) (outer_spans s.spans.items s.top.shape) n.spans.items (outers s) (outers n) e.order out e.spans e.around
-          (within_raw raw (meant s.out) s.spans.items fs _ _ c.requires.laid.0.2 (tells_first (shape_open raw s.spans.items s.top.start s.top.shape) (opens (take s.top.from raw) (outer_spans s.spans.items s.top.shape) (outers s)) c.take_repeat-own.result tells))),
+      (λ came was.
+          let tells = subst (λ (xs : List ℕ). TellsOf (shape_open xs came s.top.start s.top.shape) own) is (e.tells came (stand_cut s.order s.out c.cut.new.self came fs was.0 c.cut.ensures.whole is lies, was.1)) in
+          subst (TellsWithin (came_standing came s) _) (sym c.outward-found.ensures)
+          (moved (λ o out ss fs. TellsWithin (came_standing came s) (opens out ss fs) (outward own None 0)) s.order n.order (take s.top.from raw) (meant n.out) (outer_spans came s.top.shape) n.spans.items (outers s) (outers n) e.order out (e.spans ∙ reordered_outer came s.spans.items s.top.shape was.1) e.around
+          (within_raw raw (meant s.out) came fs _ _ was.0.2 (tells_first (shape_open raw came s.top.start s.top.shape) (opens (take s.top.from raw) (outer_spans came s.top.shape) (outers s)) own tells)))),
       subst (λ (fs : List Frame). length fs ≤ 2 ^ 63) (sym e.around) (outers_fit s),
-      subst (λ (x : Option Repeat). IsBelow x (2 ^ 63 - length (outers n))) (sym c.outward-found.ensures) (below_first c.take_repeat-own.result (2 ^ 63 - length (outers n))),
+      subst (λ (x : Option Repeat). IsBelow x (2 ^ 63 - length (outers n))) (sym c.outward-found.ensures) (below_first own (2 ^ 63 - length (outers n))),
+      e.order,
     )
 
 pub take_repeat-own-requires-in-loop-self-clause-laid : goal.take_repeat-own-requires-in-loop-self-clause-laid
@@ -54,12 +59,15 @@ take_repeat-own-requires-in-loop-self-clause-laid c =
     let t = c.loop-self-test.true in
     let out = ap meant e.out in
     let lies = ap (λ (d : Draft). d.buf) e.out ∙ i.2 ∙ sym out in (
+      b.spans.items,
       (
-        moved Laid s.order b.order (meant s.out) (meant b.out) s.spans.items b.spans.items (outers s) (frames b) e.order out e.spans (sym (e.frames t)) i.0,
-        subst IsWhole (sym e.out) i.1,
-        agrees_refl b.out.buf (meant b.out) b.spans.items (frames b) lies,
+        (
+          moved Laid s.order b.order (meant s.out) (meant b.out) s.spans.items b.spans.items (outers s) (frames b) e.order out e.spans (sym (e.frames t)) i.0,
+          subst IsWhole (sym e.out) i.1,
+          agrees_refl b.out.buf (meant b.out) b.spans.items (frames b) lies,
+        ),
+        reordered_refl b.spans.items b.top.shape,
       ),
-      e.rooted t,
     )
 
 pub loop-self-preserved : goal.loop-self-preserved
@@ -71,25 +79,32 @@ loop-self-preserved c =
     let f = b.top in
     let n = c.take_repeat-own-in-loop-self.new.self in
     let e = c.take_repeat-own-in-loop-self.ensures in
+    let own = c.take_repeat-own-in-loop-self.result in
     let t = c.loop-self-test.true in
     let was = ap meant l.out in
+    let lies = ap (λ (d : Draft). d.buf) l.out ∙ i.2 ∙ sym was in
     let laid : Laid b.order (meant b.out) b.spans.items (frames b) = moved Laid s.order b.order (meant s.out) (meant b.out) s.spans.items b.spans.items (outers s) (frames b) l.order was l.spans (sym (l.frames t)) i.0 in
-    let out = e.meant ∙ ap (take f.from) (ap (λ (d : Draft). d.buf) l.out ∙ i.2 ∙ sym was) in
+    let stand : Stand b.order b.out b.spans.items (frames b) = (laid, subst IsWhole (sym l.out) i.1, agrees_refl b.out.buf (meant b.out) b.spans.items (frames b) lies) in
+    let tells = e.tells b.spans.items (stand, reordered_refl b.spans.items f.shape) in
+    let out = e.meant ∙ ap (take f.from) lies in
     let os = opens (take f.from (meant b.out)) (outer_spans b.spans.items f.shape) (outers b) in
     let count : length (outers s) ≡ suc (length (outers n)) = ap length (l.frames t) ∙ ap (λ (fs : List Frame). suc (length fs)) (sym e.around) in
-    let found = c.outward-found-in-loop-self.ensures ∙ ap (outward c.take_repeat-own-in-loop-self.result c.loop-self.found) c.maps-maps.ensures in
+    let found = c.outward-found-in-loop-self.ensures ∙ ap (outward own c.loop-self.found) c.maps-maps.ensures in
     let least = i.4 in (
       moved Laid b.order n.order (take f.from (meant b.out)) (meant n.out) (outer_spans b.spans.items f.shape) n.spans.items (outers b) (outers n) e.order out e.spans e.around laid.3,
       e.whole,
       e.lies ∙ sym e.meant,
-      subst (TellsWithin (standing c.args.self) _) (sym found)
-          (moved (λ o out ss fs. TellsWithin (standing c.args.self) (opens out ss fs) (outward c.take_repeat-own-in-loop-self.result c.loop-self.found (maps_of f.shape))) b.order n.order (take f.from (meant b.out)) (meant n.out) (outer_spans b.spans.items f.shape) n.spans.items (outers b) (outers n) e.order out e.spans e.around
-          (tells_outward (shape_open (meant b.out) b.spans.items f.start f.shape) os (standing c.args.self) c.take_repeat-own-in-loop-self.result c.loop-self.found (maps_of f.shape) e.tells (maps_more (meant b.out) b.spans.items f.start f.shape os)
-          (moved (λ o out ss fs. TellsWithin (standing c.args.self) (opens out ss fs) c.loop-self.found) s.order b.order (meant s.out) (meant b.out) s.spans.items b.spans.items (outers s) (frames b) l.order was l.spans (sym (l.frames t)) i.3))),
+      (λ came first.
+          let whole = came_standing came c.args.self.now in
+          subst (TellsWithin whole _) (sym found)
+          (moved (λ o out ss fs. TellsWithin whole (opens out ss fs) (outward own c.loop-self.found (maps_of f.shape))) b.order n.order (take f.from (meant b.out)) (meant n.out) (outer_spans b.spans.items f.shape) n.spans.items (outers b) (outers n) e.order out e.spans e.around
+          (tells_outward (shape_open (meant b.out) b.spans.items f.start f.shape) os whole own c.loop-self.found (maps_of f.shape) tells (maps_more (meant b.out) b.spans.items f.start f.shape os)
+          (moved (λ o out ss fs. TellsWithin whole (opens out ss fs) c.loop-self.found) s.order b.order (meant s.out) (meant b.out) s.spans.items b.spans.items (outers s) (frames b) l.order was l.spans (sym (l.frames t)) (i.3 came first))))),
       omega (arith, count, least),
       subst (λ (x : Option Repeat). IsBelow x (2 ^ 63 - length (outers n))) (sym found)
           (let more : suc (2 ^ 63 - length (outers s)) ≡ 2 ^ 63 - length (outers n) = omega (arith, count, least) in
-          subst (IsBelow (outward c.take_repeat-own-in-loop-self.result c.loop-self.found (maps_of f.shape))) more (below_outward c.take_repeat-own-in-loop-self.result c.loop-self.found f.shape (2 ^ 63 - length (outers s)) i.5)),
+          subst (IsBelow (outward own c.loop-self.found (maps_of f.shape))) more (below_outward own c.loop-self.found f.shape (2 ^ 63 - length (outers s)) i.5)),
+      e.order ∙ l.order ∙ i.6,
     )
 
 pub outward-found-requires-in-loop-self : goal.outward-found-requires-in-loop-self
@@ -102,8 +117,9 @@ outward-found-requires-in-loop-self c =
           (below_fits c.loop-self.found c.leave.new.self.top.shape (2 ^ 63 - length (outers s)) (omega (arith, some)) i.5);
     }
 
-pub returns : goal.returns
-returns c =
+pub returns-clause-tells : goal.returns-clause-tells
+returns-clause-tells c came was =
     let s = c.loop-self.self in
-    tells_all (standing c.args.self) c.loop-self.found
-    (subst (λ (fs : List Frame). TellsWithin (standing c.args.self) (opens (meant s.out) s.spans.items fs) c.loop-self.found) (c.leave.ensures.none c.loop-self-test.false) c.loop-self.invariant.3)
+    let whole = came_standing came c.args.self.now in
+    tells_all whole c.loop-self.found
+    (subst (λ (fs : List Frame). TellsWithin whole (opens (meant s.out) s.spans.items fs) c.loop-self.found) (c.leave.ensures.none c.loop-self-test.false) (c.loop-self.invariant.3 came was))

@@ -1,8 +1,9 @@
-use Rattle.std.proofs.Common.{◌≡◌, ◌-◌, ◌^◌, ◌≤◌, length}
-use Rattle.cbor_builder.specs.inner.BuilderState.{standing, outers}
+use Rattle.std.proofs.Common.{◌≡◌, ◌-◌, ◌^◌, ◌≤◌, List, length}
+use Rattle.cbor_builder.specs.inner.BuilderState.{outers, WasLaid, came_standing}
 use Rattle.cbor_builder.specs.inner.Laid.{opens, Laid}
 use Rattle.cbor_buffer.specs.Moved.{meant, IsWhole}
 use Rattle.cbor_builder.specs.inner.Repeats.{TellsWithin, IsBelow}
+use Rattle.cbor_buffer.specs.declared.span.Span.{Span}
 use Rattle.cbor_builder.proofs.builder.Core.first_repeat.Given as goal
 
 abbrev pub invariant-loop-self : goal.invariant-loop-self
@@ -10,9 +11,10 @@ invariant-loop-self l =
     Laid l.self.order (meant l.self.out) l.self.spans.items (outers l.self)
     × IsWhole l.self.out
     × (l.self.out.buf ≡ meant l.self.out)
-    × TellsWithin (standing l.fn.self) (opens (meant l.self.out) l.self.spans.items (outers l.self)) l.found
+    × ((came : List Span) → WasLaid came l.fn.self → TellsWithin (came_standing came l.fn.self) (opens (meant l.self.out) l.self.spans.items (outers l.self)) l.found)
     × (length (outers l.self) ≤ 2 ^ 63)
     × IsBelow l.found (2 ^ 63 - length (outers l.self))
+    × (l.self.order ≡ l.fn.self.order)
 
 abbrev pub decreases-loop-self : goal.decreases-loop-self
 decreases-loop-self l = length (outers l.self)

@@ -7,10 +7,11 @@ use Rattle.cbor_builder.specs.declared.frame.Frame.{Frame}
 use Rattle.cbor_builder.proofs.InPlace.{agrees_refl}
 use Rattle.cbor_builder.proofs.Nesting.{found_around}
 use Rattle.cbor_builder.proofs.OpenRepeats.{moved}
+use Rattle.cbor_builder.proofs.Reordered.{was_laid, told_there}
 use Rattle.cbor_builder.proofs.builder.Core.give_up.Goals as goal
 
-pub returns-clause-laid : goal.returns-clause-laid
-returns-clause-laid c =
+pub returns-clause-around : goal.returns-clause-around
+returns-clause-around c = λ none.
     let s = c.args.self.now in
     let n = c.give_up_pairs.new.self in
     let e = c.give_up_pairs.ensures in
@@ -21,22 +22,38 @@ returns-clause-laid c =
     let out = ap meant l.out ∙ c.cut.ensures.meant ∙ ap (take n.top.from) (c.in_ok-settle.ensures.lies ∙ c.in_ok-settle.ensures.meant ∙ ap meant e.out) ∙ ap (λ (g : Frame). take g.from (meant s.out)) e.top in
     let lies = ap (λ (x : Draft). x.buf) l.out ∙ c.cut.ensures.lies ∙ sym c.cut.ensures.meant ∙ sym (ap meant l.out) in (
       (
-        moved Laid s.order b.order (take s.top.from (meant s.out)) (meant b.out) (outer_spans s.spans.items s.top.shape) b.spans.items (outers s) (frames b) (l.order ∙ e.order) out (l.spans ∙ e.spans c.if-not-give_up_pairs.false) (sym (l.frames t) ∙ e.around) c.requires.laid.0.0.3,
-        subst IsWhole (sym l.out) c.cut.ensures.whole,
-        agrees_refl b.out.buf (meant b.out) b.spans.items (frames b) lies,
+        (
+          moved Laid s.order b.order (take s.top.from (meant s.out)) (meant b.out) (outer_spans s.spans.items s.top.shape) b.spans.items (outers s) (frames b) (l.order ∙ e.order) out (l.spans ∙ e.spans c.if-not-give_up_pairs.false) (sym (l.frames t) ∙ e.around) c.requires.laid.0.0.3,
+          subst IsWhole (sym l.out) c.cut.ensures.whole,
+          agrees_refl b.out.buf (meant b.out) b.spans.items (frames b) lies,
+        ),
+        l.rooted t,
       ),
-      l.rooted t,
+      moved (λ o xs ss fs. opens xs ss fs ≡ opens (take s.top.from (meant s.out)) (outer_spans s.spans.items s.top.shape) (outers s)) s.order b.order (take s.top.from (meant s.out)) (meant b.out) (outer_spans s.spans.items s.top.shape) b.spans.items (outers s) (frames b)
+          (l.order ∙ e.order) out (l.spans ∙ e.spans c.if-not-give_up_pairs.false) (sym (l.frames t) ∙ e.around) refl,
     )
 
-pub returns-clause-around : goal.returns-clause-around
-returns-clause-around c = λ ok.
+pub first_repeat-requires : goal.first_repeat-requires
+first_repeat-requires c =
     let s = c.args.self.now in
-    let n = c.give_up_pairs.new.self in
     let e = c.give_up_pairs.ensures in
-    let d = c.cut.new.self in
-    let b = c.leave.new.self in
-    let l = c.leave.ensures in
-    let t = found_around c.leave.result (outers s) c.requires.takes (λ none. sym e.around ∙ l.none none) in
-    let out = ap meant l.out ∙ c.cut.ensures.meant ∙ ap (take n.top.from) (c.in_ok-settle.ensures.lies ∙ c.in_ok-settle.ensures.meant ∙ ap meant e.out) ∙ ap (λ (g : Frame). take g.from (meant s.out)) e.top in
-    moved (λ o xs ss fs. opens xs ss fs ≡ opens (take s.top.from (meant s.out)) (outer_spans s.spans.items s.top.shape) (outers s)) s.order b.order (take s.top.from (meant s.out)) (meant b.out) (outer_spans s.spans.items s.top.shape) b.spans.items (outers s) (frames b)
-    (l.order ∙ e.order) out (l.spans ∙ e.spans c.if-not-give_up_pairs.false) (sym (l.frames t) ∙ e.around) refl
+    record { laid = (s.spans.items, was_laid s c.give_up_pairs.new.self c.requires.laid.0 e.order e.out e.top e.around (e.left c.if-not-give_up_pairs.true)) }
+
+pub returns-then-not-give_up_pairs-clause-distinct : goal.returns-then-not-give_up_pairs-clause-distinct
+returns-then-not-give_up_pairs-clause-distinct c =
+    let s = c.args.self.now in
+    let e = c.give_up_pairs.ensures in
+    let told = told_there s c.give_up_pairs.new.self c.give_up_pairs.result c.first_repeat.result c.requires.laid.0 e.order e.out e.top e.around (e.left c.if-not-give_up_pairs.true) c.if-not-give_up_pairs.true e.distinct c.first_repeat.ensures.tells in
+    ((λ none. absurd (told.0 none)), (λ h. absurd (told.1 h)))
+
+pub returns-then-not-give_up_pairs-clause-around : goal.returns-then-not-give_up_pairs-clause-around
+returns-then-not-give_up_pairs-clause-around c = λ none.
+    let s = c.args.self.now in
+    let e = c.give_up_pairs.ensures in
+    absurd ((told_there s c.give_up_pairs.new.self c.give_up_pairs.result c.first_repeat.result c.requires.laid.0 e.order e.out e.top e.around (e.left c.if-not-give_up_pairs.true) c.if-not-give_up_pairs.true e.distinct c.first_repeat.ensures.tells).0 none)
+
+pub returns-then-not-give_up_pairs-clause-told : goal.returns-then-not-give_up_pairs-clause-told
+returns-then-not-give_up_pairs-clause-told c =
+    let s = c.args.self.now in
+    let e = c.give_up_pairs.ensures in
+    (told_there s c.give_up_pairs.new.self c.give_up_pairs.result c.first_repeat.result c.requires.laid.0 e.order e.out e.top e.around (e.left c.if-not-give_up_pairs.true) c.if-not-give_up_pairs.true e.distinct c.first_repeat.ensures.tells).2

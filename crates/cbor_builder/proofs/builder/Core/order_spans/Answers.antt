@@ -1,4 +1,4 @@
-use Rattle.std.proofs.Common.{◌≡◌, ◌+◌, ◌≤◌, ◌++◌, ◌∙◌, ℕ, List, length, length-append, length-drop, length-take, take, take-append-drop, drop, map, sym, ap, subst, arith, IsPermutation, IsSortedBy}
+use Rattle.std.proofs.Common.{◌≡◌, ◌+◌, ◌≤◌, ◌++◌, ◌∙◌, ℕ, List, length, length-append, length-drop, length-take, take, drop, map, sym, ap, subst, arith, IsPermutation, IsSortedBy}
 use Rattle.std.proofs.lemmas.List.{append_assoc, take_rest}
 use Rattle.std.proofs.lemmas.List.Sorted.{length_permutation}
 use Rattle.cbor_head.specs.Order.{key_lt}
@@ -6,30 +6,23 @@ use Rattle.cbor_buffer.specs.Spans.{span_pair}
 use Rattle.cbor_buffer.specs.declared.span.Span.{Span}
 use Rattle.cbor_buffer.specs.Moved.{meant}
 use Rattle.cbor_builder.specs.inner.Front.{AreFronted, key_of}
-use Rattle.cbor_builder.specs.inner.Laid.{Tile}
 use Rattle.cbor_builder.proofs.InPlace.{fronted_keys}
 use Rattle.cbor_builder.proofs.InOrder.{distinct_iff, order_meant}
 use Rattle.cbor_builder.proofs.Inserted.{taken_front, rest_front}
 use Rattle.cbor_builder.proofs.builder.Core.order_spans.Goals as goal
 
-pub put_in_order-requires-clause-fronted : goal.put_in_order-requires-clause-fronted
-put_in_order-requires-clause-fronted c =
+pub sort_distinct-requires : goal.sort_distinct-requires
+sort_distinct-requires c =
     let s = c.args.self.now in
     let us = take_rest c.deref_mut.result.now c.args.first ∙ ap (drop c.args.first) c.deref_mut.ensures.value in
     subst (AreFronted c.as_slice.result.now) (sym us) (subst (λ (xs : List ℕ). AreFronted xs (drop c.args.first s.spans.items)) (sym c.as_slice.ensures)
     (fronted_keys s.out.buf (meant s.out) (drop c.args.first s.spans.items) c.requires.keys c.requires.fits.3))
 
-pub put_in_order-requires-clause-places : goal.put_in_order-requires-clause-places
-put_in_order-requires-clause-places c =
-    let s = c.args.self.now in
-    let us = take_rest c.deref_mut.result.now c.args.first ∙ ap (drop c.args.first) c.deref_mut.ensures.value in
-    (s.top.start, length (meant s.out), subst (λ (ts : List Span). Tile s.top.start ts (length (meant s.out))) (sym us) c.requires.fits.1)
-
 pub returns-clause-distinct : goal.returns-clause-distinct
 returns-clause-distinct c =
     let s = c.args.self.now in
     let us = take_rest c.deref_mut.result.now c.args.first ∙ ap (drop c.args.first) c.deref_mut.ensures.value in
-    distinct_iff s.out.buf (meant s.out) c.as_slice.result.now _ (drop c.args.first s.spans.items) c.put_in_order.result c.as_slice.ensures us c.requires.keys c.put_in_order.ensures.distinct
+    distinct_iff s.out.buf (meant s.out) c.as_slice.result.now _ (drop c.args.first s.spans.items) c.sort_distinct.result c.as_slice.ensures us c.requires.keys c.sort_distinct.ensures.distinct
 
 -- what a part that is put in order leaves
 placed : (n m : ℕ) (us ys post zs : List Span) → n ≤ length us → n + length ys ≡ m → take m ((take n us ++ (ys ++ post)) ++ zs) ≡ take n us ++ ys
@@ -43,8 +36,8 @@ pub returns-clause-front : goal.returns-clause-front
 returns-clause-front c =
     let s = c.args.self.now in
     let us = take_rest c.deref_mut.result.now c.args.first ∙ ap (drop c.args.first) c.deref_mut.ensures.value in
-    let ys = c.put_in_order.new.spans in
-    let moved = subst (λ (xs : List Span). IsPermutation xs ys) us c.put_in_order.ensures.permuted in
+    let ys = c.sort_distinct.new.spans in
+    let moved = subst (λ (xs : List Span). IsPermutation xs ys) us c.sort_distinct.ensures.permuted in
     let long = length_permutation (drop c.args.first s.spans.items) ys moved in
     let short = length-drop c.args.first s.spans.items in
     let given = ap length c.deref_mut.ensures.value in
@@ -56,8 +49,8 @@ pub returns-clause-permuted : goal.returns-clause-permuted
 returns-clause-permuted c =
     let s = c.args.self.now in
     let us = take_rest c.deref_mut.result.now c.args.first ∙ ap (drop c.args.first) c.deref_mut.ensures.value in
-    let ys = c.put_in_order.new.spans in
-    let moved = subst (λ (xs : List Span). IsPermutation xs ys) us c.put_in_order.ensures.permuted in
+    let ys = c.sort_distinct.new.spans in
+    let moved = subst (λ (xs : List Span). IsPermutation xs ys) us c.sort_distinct.ensures.permuted in
     let long = length_permutation (drop c.args.first s.spans.items) ys moved in
     let short = length-drop c.args.first s.spans.items in
     let given = ap length c.deref_mut.ensures.value in
@@ -70,8 +63,8 @@ pub returns-clause-pairs : goal.returns-clause-pairs
 returns-clause-pairs c = λ t.
     let s = c.args.self.now in
     let us = take_rest c.deref_mut.result.now c.args.first ∙ ap (drop c.args.first) c.deref_mut.ensures.value in
-    let ys = c.put_in_order.new.spans in
-    let e = c.put_in_order.ensures in
+    let ys = c.sort_distinct.new.spans in
+    let e = c.sort_distinct.ensures in
     let moved = subst (λ (xs : List Span). IsPermutation xs ys) us e.permuted in
     let long = length_permutation (drop c.args.first s.spans.items) ys moved in
     let short = length-drop c.args.first s.spans.items in
@@ -79,18 +72,6 @@ returns-clause-pairs c = λ t.
     let front = length-take c.args.first c.deref_mut.result.now in
     let all = ap (drop c.args.first) (placed c.args.first s.spans.len c.deref_mut.result.now ys _ _ (omega (arith, c.requires.fits.0, given)) (omega (arith, c.requires.fits.0, long, short, s.spans.ok.0)))
     ∙ rest_front c.args.first (take c.args.first c.deref_mut.result.now) ys (omega (arith, front, c.requires.fits.0, given)) in
-    let distinct = (distinct_iff s.out.buf (meant s.out) c.as_slice.result.now _ (drop c.args.first s.spans.items) c.put_in_order.result c.as_slice.ensures us c.requires.keys e.distinct).0 t in
+    let distinct = (distinct_iff s.out.buf (meant s.out) c.as_slice.result.now _ (drop c.args.first s.spans.items) c.sort_distinct.result c.as_slice.ensures us c.requires.keys e.distinct).0 t in
     let sorted = subst (λ (bs : List ℕ). IsSortedBy (λ x y. key_lt s.order (key_of bs x) (key_of bs y)) ys) c.as_slice.ensures (e.sorted t) in
     ap (map (span_pair (meant s.out))) all ∙ order_meant s.order s.out.buf (meant s.out) (drop c.args.first s.spans.items) ys c.requires.keys moved sorted distinct
-
-pub returns-clause-kept : goal.returns-clause-kept
-returns-clause-kept c = λ f.
-    let s = c.args.self.now in
-    let us = take_rest c.deref_mut.result.now c.args.first ∙ ap (drop c.args.first) c.deref_mut.ensures.value in
-    let ys = c.put_in_order.new.spans in
-    let same : ys ≡ drop c.args.first s.spans.items = c.put_in_order.ensures.kept f ∙ us in
-    let long = ap length same in
-    let short = length-drop c.args.first s.spans.items in
-    let given = ap length c.deref_mut.ensures.value in
-    placed c.args.first s.spans.len c.deref_mut.result.now ys _ _ (omega (arith, c.requires.fits.0, given)) (omega (arith, c.requires.fits.0, long, short, s.spans.ok.0))
-    ∙ ap (λ (ts : List Span). take c.args.first ts ++ ys) c.deref_mut.ensures.value ∙ ap (λ (ts : List Span). take c.args.first s.spans.items ++ ts) same ∙ take-append-drop c.args.first s.spans.items

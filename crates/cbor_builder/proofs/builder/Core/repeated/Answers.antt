@@ -14,18 +14,20 @@ pub has_key-requires-clause-fronted : goal.has_key-requires-clause-fronted
 has_key-requires-clause-fronted c =
     let s = c.args.self.now in
     let f = s.top in
-    let fits = subst (Fits s.order (meant s.out) s.spans.items f.from f.start f.rises) c.in-Key.is c.requires.laid.0.0.2 in
+    let laid = c.requires.laid c.in-Key.first c.in-Key.key c.in-Key.is in
+    let fits = subst (Fits s.order (meant s.out) s.spans.items f.from f.start f.rises) c.in-Key.is laid.0.2 in
     let us = take_rest c.deref.result.now c.in-Key.first ∙ ap (drop c.in-Key.first) c.deref.ensures.value in
-    let k = waiting_same s.out.buf (meant s.out) s.spans.items f (outers s) c.in-Key.first c.in-Key.key c.requires.laid.0.2 c.in-Key.is in
+    let k = waiting_same s.out.buf (meant s.out) s.spans.items f (outers s) c.in-Key.first c.in-Key.key laid.2 c.in-Key.is in
     subst (AreFronted s.out.buf) (sym us) (fronted_keys s.out.buf (meant s.out) (drop c.in-Key.first s.spans.items) k.0 fits.4)
 
 pub has_key-requires-clause-rises : goal.has_key-requires-clause-rises
 has_key-requires-clause-rises c = λ t.
     let s = c.args.self.now in
     let f = s.top in
-    let fits = subst (Fits s.order (meant s.out) s.spans.items f.from f.start f.rises) c.in-Key.is c.requires.laid.0.0.2 in
+    let laid = c.requires.laid c.in-Key.first c.in-Key.key c.in-Key.is in
+    let fits = subst (Fits s.order (meant s.out) s.spans.items f.from f.start f.rises) c.in-Key.is laid.0.2 in
     let us = take_rest c.deref.result.now c.in-Key.first ∙ ap (drop c.in-Key.first) c.deref.ensures.value in
-    let k = waiting_same s.out.buf (meant s.out) s.spans.items f (outers s) c.in-Key.first c.in-Key.key c.requires.laid.0.2 c.in-Key.is in
+    let k = waiting_same s.out.buf (meant s.out) s.spans.items f (outers s) c.in-Key.first c.in-Key.key laid.2 c.in-Key.is in
     subst (λ (xs : List Span). IsRising s.order (map (span_pair s.out.buf) xs)) (sym us)
     (rising_keys s.order (meant s.out) s.out.buf (drop c.in-Key.first s.spans.items) (keys_flip s.out.buf (meant s.out) (drop c.in-Key.first s.spans.items) k.0) (fits.3 t))
 
@@ -33,13 +35,15 @@ pub has_key-requires-clause-begins : goal.has_key-requires-clause-begins
 has_key-requires-clause-begins c =
     let s = c.args.self.now in
     let f = s.top in
-    let fits = subst (Fits s.order (meant s.out) s.spans.items f.from f.start f.rises) c.in-Key.is c.requires.laid.0.0.2 in
+    let laid = c.requires.laid c.in-Key.first c.in-Key.key c.in-Key.is in
+    let fits = subst (Fits s.order (meant s.out) s.spans.items f.from f.start f.rises) c.in-Key.is laid.0.2 in
     omega (arith, c.len.ensures.meant, fits.2)
 
 pub returns-in-Key : goal.returns-in-Key
 returns-in-Key c =
     let s = c.args.self.now in
     let f = s.top in
+    let laid = c.requires.laid c.in-Key.first c.in-Key.key c.in-Key.is in
     let us = take_rest c.deref.result.now c.in-Key.first ∙ ap (drop c.in-Key.first) c.deref.ensures.value in
     repeated_same s.out.buf (meant s.out) s.spans.items _ f.start c.in-Key.first c.in-Key.key c.len.result f.shape _ c.has_key.result c.in-Key.is us
-    (top_keys s.out.buf (meant s.out) s.spans.items f (outers s) c.requires.laid.0.2) c.len.ensures.lies c.has_key.ensures
+    (top_keys s.out.buf (meant s.out) s.spans.items f (outers s) laid.2) c.len.ensures.lies c.has_key.ensures

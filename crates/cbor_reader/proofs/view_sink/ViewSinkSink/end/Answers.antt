@@ -1,19 +1,24 @@
-use Rattle.std.proofs.Common.{refl}
-use Rattle.cbor_reader.proofs.ViewGiven.{keys-end, views-end, ended, stayed}
+use Rattle.std.proofs.Common.{ap, subst}
+use Rattle.std.specs.Option.{is_some}
+use Rattle.std.specs.Prelude.{false, IfSome}
+use Rattle.cbor_sinks.specs.KeyBytes.{keys_stand}
+use Rattle.cbor_sinks.specs.declared.key_bytes.KeyBytes.{KeyBytes}
+use Rattle.cbor_walk.specs.Sink.{Repeats}
+use Rattle.cbor_reader.proofs.ViewGiven.{keys-end, views-end, ended, repeats}
 use Rattle.cbor_reader.proofs.view_sink.ViewSinkSink.end.Goals as goal
 
 pub end-requires : goal.end-requires
 end-requires c = keys-end c.args.is_map c.args.self.now c.requires.full
 
-pub end-requires-then-is_distinct : goal.end-requires-then-is_distinct
-end-requires-then-is_distinct c = record { container = views-end c.args.is_map c.args.self.now c.requires.full }
+pub end-requires-2 : goal.end-requires-2
+end-requires-2 c = record { container = views-end c.args.is_map c.args.self.now c.requires.full }
 
-pub returns-in_ok-end-clause-ends : goal.returns-in_ok-end-clause-ends
-returns-in_ok-end-clause-ends c = λ yes.
+pub returns-in-Some-clause-repeats : goal.returns-in-Some-clause-repeats
+returns-in-Some-clause-repeats c =
     let old = c.args.self.now in
-    ended c.args.is_map old (record { keys = c.end.new.self; views = c.end-then-is_distinct.new.self; joined = old.joined }) (c.in_ok-is_distinct.ensures.ends yes) c.in_ok-end.ensures
+    repeats c.args.is_map old c.in-Some.repeat (subst (λ told. IfSome told (Repeats KeyBytes keys_stand false c.args.is_map old.keys)) c.in-Some.is c.in_ok-repeat.ensures.repeats)
 
-pub returns-else-is_distinct-clause-stays : goal.returns-else-is_distinct-clause-stays
-returns-else-is_distinct-clause-stays c = λ no.
+pub returns-clause-ends : goal.returns-clause-ends
+returns-clause-ends c = λ yes.
     let old = c.args.self.now in
-    stayed c.args.is_map old (record { keys = c.end.new.self; views = old.views; joined = old.joined }) (c.in_ok-is_distinct.ensures.stays no) refl
+    ended c.args.is_map old (record { keys = c.end.new.self; views = c.end-2.new.self; joined = old.joined }) (c.in_ok-repeat.ensures.ends (ap is_some c.in_default.is)) c.in_ok-end.ensures

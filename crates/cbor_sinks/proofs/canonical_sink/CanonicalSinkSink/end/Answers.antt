@@ -1,7 +1,6 @@
-use Rattle.cbor_builder.specs.Built.{Built}
-use Rattle.cbor_sinks.specs.CanonSink.{sink_stands}
 use Rattle.cbor_sinks.specs.declared.canonical_sink.CanonicalSink.{CanonicalSink}
-use Rattle.cbor_sinks.proofs.CanonGiven.{in-container, ends-if, stays-if}
+use Rattle.cbor_sinks.proofs.CanonGiven.{in-container, ends-if, repeats-if}
+use Rattle.cbor_sinks.proofs.RepeatsTold.{canon-repeats}
 use Rattle.cbor_sinks.proofs.canonical_sink.CanonicalSinkSink.end.Goals as goal
 
 pub end_if_distinct-requires : goal.end_if_distinct-requires
@@ -9,8 +8,9 @@ end_if_distinct-requires c = record { container = in-container c.args._is_map c.
 
 pub returns : goal.returns
 returns c =
-    let make : Built → CanonicalSink = λ b. record { builder = b } in
+    let old = c.args.self.now in
+    let new : CanonicalSink = record { builder = c.end_if_distinct.new.self } in
     record {
-      ends = ends-if _ c.end_if_distinct.result c.args._is_map c.args.self.now (make c.end_if_distinct.new.self) c.end_if_distinct.ensures.distinct c.end_if_distinct.ensures.ended;
-      stays = stays-if sink_stands _ c.args._is_map make c.end_if_distinct.result c.args.self.now.builder c.end_if_distinct.new.self c.end_if_distinct.ensures.kept;
+      ends = ends-if _ c.end_if_distinct.result c.args._is_map old new c.end_if_distinct.ensures.distinct c.end_if_distinct.ensures.ended;
+      repeats = repeats-if c.end_if_distinct.result _ _ (λ repeat h. canon-repeats old repeat h _ c.args._is_map) c.end_if_distinct.ensures.told;
     }

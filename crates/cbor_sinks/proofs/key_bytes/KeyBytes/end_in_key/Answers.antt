@@ -1,8 +1,11 @@
-use Rattle.std.proofs.Common.{◌∙◌, ℕ, suc, ◌-◌, ◌≡◌, sym, ap, inl, arith}
-use Rattle.cbor_builder.specs.Built.{Built, built}
+use Rattle.std.proofs.Common.{◌∙◌, ℕ, suc, ◌-◌, ◌≡◌, sym, ap, subst, inl, arith}
+use Rattle.std.specs.Option.{is_some}
+use Rattle.std.specs.Prelude.{IfSome}
+use Rattle.cbor_builder.specs.Built.{Built, built, IsRepeatTold}
 use Rattle.cbor_canonical.specs.Parts.{close}
 use Rattle.cbor_sinks.specs.KeyBytes.{behind_item}
 use Rattle.cbor_sinks.proofs.KeysGiven.{in-container, end-takes, ended-inner}
+use Rattle.cbor_sinks.proofs.RepeatsTold.{keys-repeat}
 use Rattle.cbor_sinks.proofs.key_bytes.KeyBytes.end_in_key.Goals as goal
 
 pub end_if_distinct-requires : goal.end_if_distinct-requires
@@ -13,7 +16,12 @@ settle-requires c = λ none.
     let old = c.args.self.now in
     let inside = c.requires.inside in
     let some : suc (old.inside - 1) ≡ old.inside = omega (arith, inside) in
-    end-takes c.args.is_map (old.inside - 1) old (record { builder = c.end_if_distinct.new.self; inside = old.inside - 1 }) c.requires.full (c.in_ok-end_if_distinct.ensures.ended c.if-not-branch.false) some none
+    end-takes c.args.is_map (old.inside - 1) old (record { builder = c.end_if_distinct.new.self; inside = old.inside - 1 }) c.requires.full (c.in_ok-repeat.ensures.ended (ap is_some c.in_default.is)) some none
+
+pub returns-in-Some-clause-repeats : goal.returns-in-Some-clause-repeats
+returns-in-Some-clause-repeats c =
+    let old = c.args.self.now in
+    keys-repeat old c.in-Some.repeat (subst (λ told. IfSome told (λ repeat. IsRepeatTold old.builder.standing repeat.outside repeat.pair)) c.in-Some.is c.in_ok-repeat.ensures.told) c.args.is_map
 
 pub returns-clause-ends : goal.returns-clause-ends
 returns-clause-ends c = λ yes.
@@ -21,6 +29,7 @@ returns-clause-ends c = λ yes.
     let inside = c.requires.inside in
     let stays = c.in_ok-settle.ensures.inside in
     let some : suc c.settle.new.self.inside ≡ old.inside = omega (arith, inside, stays) in
-    ended-inner c.args.is_map old c.settle.new.self some (c.in_ok-end_if_distinct.ensures.distinct.0 c.if-not-branch.false)
-    (c.in_ok-settle.ensures.builder ∙ ap (λ (x : Built). built x.order (behind_item (old.inside - 1) x.standing)) (c.in_ok-end_if_distinct.ensures.ended c.if-not-branch.false)
+    let none = ap is_some c.in_default.is in
+    ended-inner c.args.is_map old c.settle.new.self some (c.in_ok-repeat.ensures.distinct.0 none)
+    (c.in_ok-settle.ensures.builder ∙ ap (λ (x : Built). built x.order (behind_item (old.inside - 1) x.standing)) (c.in_ok-repeat.ensures.ended none)
     ∙ ap (λ (n : ℕ). built old.builder.order (behind_item n (close old.builder.order old.builder.standing))) (sym stays))

@@ -1,9 +1,7 @@
 use Rattle.std.proofs.Common.{refl, inr}
-use Rattle.cbor_builder.specs.Built.{Built}
-use Rattle.cbor_sinks.specs.KeyBytes.{keys_stand}
-use Rattle.cbor_sinks.specs.declared.key_bytes.KeyBytes.{KeyBytes}
-use Rattle.cbor_sinks.proofs.CanonGiven.{stays-if}
+use Rattle.cbor_sinks.proofs.CanonGiven.{repeats-if}
 use Rattle.cbor_sinks.proofs.KeysGiven.{in-container, map-ends, ended-other}
+use Rattle.cbor_sinks.proofs.RepeatsTold.{keys-repeat}
 use Rattle.cbor_sinks.proofs.key_bytes.KeyBytesSink.end.Goals as goal
 
 pub give_up_if_distinct-requires : goal.give_up_if_distinct-requires
@@ -12,14 +10,10 @@ give_up_if_distinct-requires c = record { container = in-container c.args.is_map
 pub returns-then-is_map : goal.returns-then-is_map
 returns-then-is_map c =
     let old = c.args.self.now in
-    let make : Built → KeyBytes = λ b. record { builder = b; inside = old.inside } in
     record {
       ends = map-ends c.give_up_if_distinct.result c.args.is_map old c.give_up_if_distinct.new.self c.if-is_map.true c.if-self-eq0.true c.give_up_if_distinct.ensures.distinct c.give_up_if_distinct.ensures.around;
-      stays = stays-if keys_stand _ c.args.is_map make c.give_up_if_distinct.result old.builder c.give_up_if_distinct.new.self c.give_up_if_distinct.ensures.kept;
+      repeats = repeats-if c.give_up_if_distinct.result _ _ (λ repeat h. keys-repeat old repeat h c.args.is_map) c.give_up_if_distinct.ensures.told;
     }
 
 pub returns-then-self-eq0-clause-ends : goal.returns-then-self-eq0-clause-ends
 returns-then-self-eq0-clause-ends c = λ yes. ended-other c.args.is_map c.args.self.now c.args.self.now c.if-is_map.false c.if-self-eq0.true refl refl
-
-pub returns-clause-stays : goal.returns-clause-stays
-returns-clause-stays c = stays-if keys_stand _ c.args.is_map (λ (g : KeyBytes). g) c.end_in_key.result c.args.self.now c.end_in_key.new.self c.end_in_key.ensures.kept

@@ -1,8 +1,11 @@
-use Rattle.std.proofs.Common.{List, sym, subst, arith, refl}
+use Rattle.std.proofs.Common.{List, sym, ap, subst, arith, refl}
+use Rattle.std.specs.Option.{is_some}
+use Rattle.std.specs.Prelude.{IfSome}
+use Rattle.cbor_walk.specs.Sink.{Repeats}
 use Rattle.cbor_walk.specs.declared.open.Open.{Open}
 use Rattle.cbor_walk.specs.inner.Building.{HasEnded, HasFilledIn}
-use Rattle.cbor_walk.specs.inner.Stack.{around}
-use Rattle.cbor_walk.proofs.GivenFull.{filled-full, full-asked, full-ended, still-full}
+use Rattle.cbor_walk.specs.inner.Stack.{around, standing}
+use Rattle.cbor_walk.proofs.GivenFull.{filled-full, full-asked, full-ended, full-repeats}
 use Rattle.cbor_walk.proofs.GivenEnds.{goes, is-full}
 use Rattle.cbor_walk.proofs.Taking.{standing_count}
 use Rattle.cbor_walk.proofs.building.Building.close.Goals as goal
@@ -16,12 +19,12 @@ end-requires g c =
     let k = c.levels.self.stack in
     let cs = around Open k cells in
     let sink = c.levels.self.sink in
-    let (start, d, input, rest, h) : HasFilledIn S stands trusts c.args.self.now.stack.top (around Open c.args.self.now.stack cells) c.args.self.now.sink = c.requires.filled in
+    let (start, d, input, rest, h) : HasFilledIn S stands trusts (standing Open c.args.self.now.stack cells) c.args.self.now.sink = c.requires.filled in
     let full = filled-full S stands trusts start d input k.top cs sink rest (omega (arith, c.levels-test.true, standing_count Open k cells c.levels.invariant.cells)) (c.levels.invariant.filled start d input rest h) in
     λ n. ((refl, tt), full-asked S stands trusts start d input c.is_in_map.result k.top cs sink rest c.is_in_map.ensures full)
 
-pub returns-in-Ok-false-clause-leads : goal.returns-in-Ok-false-clause-leads
-returns-in-Ok-false-clause-leads g c = λ start d input rest h.
+pub returns-in-Ok-Some-clause-leads : goal.returns-in-Ok-Some-clause-leads
+returns-in-Ok-Some-clause-leads g c = λ start d input rest h.
     let S = g.row.S.Denot in
     let stands = g.S.Sink.stands in
     let trusts = g.S.Sink.trusts in
@@ -30,7 +33,7 @@ returns-in-Ok-false-clause-leads g c = λ start d input rest h.
     let cs = around Open k cells in
     let sink = c.levels.self.sink in
     let full = filled-full S stands trusts start d input k.top cs sink rest (omega (arith, c.levels-test.true, standing_count Open k cells c.levels.invariant.cells)) (c.levels.invariant.filled start d input rest h) in
-    still-full S stands trusts start d input c.is_in_map.result k.top cs sink c.end.new.self rest c.is_in_map.ensures full (c.in-Ok-false.ensures.stays c.in-Ok-false.field-0-test)
+    full-repeats S stands trusts start d input c.is_in_map.result k.top cs sink rest c.is_in_map.ensures full c.in-Ok-Some.repeat (subst (λ told. IfSome told (Repeats S stands trusts c.is_in_map.result sink)) c.in-Ok-Some.field-0-is c.in-Ok-Some.ensures.repeats)
 
 pub returns-then-advance-clause-leads : goal.returns-then-advance-clause-leads
 returns-then-advance-clause-leads g c = λ start d input rest h.
@@ -42,7 +45,7 @@ returns-then-advance-clause-leads g c = λ start d input rest h.
     let cs = around Open k cells in
     let sink = c.levels.self.sink in
     let full = filled-full S stands trusts start d input k.top cs sink rest (omega (arith, c.levels-test.true, standing_count Open k cells c.levels.invariant.cells)) (c.levels.invariant.filled start d input rest h) in
-    let ended = full-ended S stands trusts start d input c.is_in_map.result k.top cs sink c.end.new.self rest c.is_in_map.ensures full (c.in-Ok-true.ensures.ends c.in-Ok-true.field-0-test) in
+    let ended = full-ended S stands trusts start d input c.is_in_map.result k.top cs sink rest c.is_in_map.ensures full c.end.new.self (c.in-Ok-None.ensures.ends (ap is_some c.in-Ok-None.field-0-is)) in
     let popped = c.pop.new.self in
     goes S stands trusts start d input popped.top (around Open popped cells) c.end.new.self rest (subst (λ (x : List Open). HasEnded S stands trusts start d input x c.end.new.self rest) (sym c.pop.ensures.levels) ended) c.advance.new.self (c.advance.ensures.more c.if-advance.true)
 
@@ -62,7 +65,7 @@ levels-preserved g c =
       cells = omega (arith, low, height);
       filled = λ start d input rest h.
           let full = filled-full S stands trusts start d input k.top cs sink rest (omega (arith, c.levels-test.true, standing_count Open k cells low)) (c.levels.invariant.filled start d input rest h) in
-          let ended = full-ended S stands trusts start d input c.is_in_map.result k.top cs sink c.end.new.self rest c.is_in_map.ensures full (c.in-Ok-true.ensures.ends c.in-Ok-true.field-0-test) in
+          let ended = full-ended S stands trusts start d input c.is_in_map.result k.top cs sink rest c.is_in_map.ensures full c.end.new.self (c.in-Ok-None.ensures.ends (ap is_some c.in-Ok-None.field-0-is)) in
           is-full S stands trusts start d input popped.top (around Open popped cells) c.end.new.self rest (subst (λ (x : List Open). HasEnded S stands trusts start d input x c.end.new.self rest) (sym c.pop.ensures.levels) ended)
           c.advance.new.self c.advance.ensures.kind c.advance.ensures.place (c.advance.ensures.full c.if-advance.false);
     }

@@ -1,6 +1,6 @@
 use Rattle.std.proofs.Common.{ℕ, ◌≤◌, List, length}
 use Rattle.cbor_walk.specs.inner.Building.{HasFilled}
-use Rattle.cbor_walk.specs.inner.Stack.{around}
+use Rattle.cbor_walk.specs.inner.Stack.{standing}
 use Rattle.cbor_walk.specs.declared.open.Open.{Open}
 use Rattle.cbor_walk.proofs.building.Building.close.Given as goal
 
@@ -11,7 +11,7 @@ invariant-levels g l =
     let trusts = g.S.Sink.trusts in
     record {
       cells : l.self.stack.height ≤ length l.cells;
-      filled : (start : S) (d : ℕ) (input rest : List ℕ) → HasFilled S stands trusts l.fn.self.stack.top start d input (around Open l.fn.self.stack l.cells) l.fn.self.sink rest → HasFilled S stands trusts l.self.stack.top start d input (around Open l.self.stack l.cells) l.self.sink rest;
+      filled : (start : S) (d : ℕ) (input rest : List ℕ) → HasFilled S stands trusts start d input (standing Open l.fn.self.stack l.cells) l.fn.self.sink rest → HasFilled S stands trusts start d input (standing Open l.self.stack l.cells) l.self.sink rest;
     }
 
 abbrev pub decreases-levels : goal.decreases-levels

@@ -1,9 +1,10 @@
-use Rattle.std.proofs.Common.{ℕ, ◌-◌, ◌∷◌, sym, subst, refl}
+use Rattle.std.proofs.Common.{ℕ, ◌-◌, ◌<◌, ◌∷◌, length, sym, subst, arith, refl}
 use Rattle.cbor_head.specs.declared.major.Major.TheVariants.{Array, Map}
 use Rattle.cbor_walk.specs.declared.open.Open.{Open}
 use Rattle.cbor_walk.specs.inner.Building.{IsDue, IsDueIn, TakesTo}
 use Rattle.cbor_walk.specs.inner.Parts.{IsOpener, TakesFront}
 use Rattle.cbor_walk.specs.inner.Stack.{around, standing}
+use Rattle.cbor_walk.proofs.GivenEnds.{break-ends}
 use Rattle.cbor_walk.proofs.GivenItems.{array-opens, map-opens}
 use Rattle.cbor_walk.proofs.building.Building.endless_part.Goals as goal
 
@@ -82,3 +83,14 @@ returns-in-191-clause-front g c =
     let k = c.args.self.now.stack in
     subst (λ (x : ℕ). TakesFront c.open-in-191.result (c.args.depth - k.height) k.top (x ∷ behind)) (sym c.in-191.is)
     (c.open-in-191.ensures.front (191 ∷ behind) (subst (λ (x : Open). IsOpener Map 0 x (191 ∷ behind) behind) (sym c.endless-in-191.ensures) (map-opens behind)) k.top)
+
+pub returns-in-255-clause-takes : goal.returns-in-255-clause-takes
+returns-in-255-clause-takes g c = λ start input due.
+    let S = g.row.S.Denot in
+    let stands = g.S.Sink.stands in
+    let trusts = g.S.Sink.trusts in
+    let k = c.args.self.now.stack in
+    let behind = c.args.behind.now in
+    let may = c.may_break.ensures.only c.if-may_break.true in
+    let shorter : length behind < length (c.args.first ∷ behind) = omega arith in
+    (shorter, break-ends S stands trusts start c.args.depth input k.top (around Open k c.args.cells.now) c.args.self.now.sink behind (subst (λ (x : ℕ). IsDue S stands trusts start c.args.depth input (standing Open k c.args.cells.now) c.args.self.now.sink (x ∷ behind)) c.in-255.is due) may.0 may.1)

@@ -1,4 +1,4 @@
-use Rattle.std.proofs.Common.{◌∙◌, ◌∷◌, length, refl, inl}
+use Rattle.std.proofs.Common.{◌∙◌, ◌∷◌, length, refl}
 use Rattle.cbor_walk.specs.Sink.{leaf_value}
 use Rattle.cbor_walk.specs.inner.Building.{IsHeadDue}
 use Rattle.cbor_walk.proofs.GivenItems.{scalar-head}
@@ -20,4 +20,4 @@ returns-in-Ok-clause-takes g c = λ rest head d outer start input due.
 
 pub returns-in-Ok-clause-front : goal.returns-in-Ok-clause-front
 returns-in-Ok-clause-front g c = λ rest head d o.
-    inl (scalar-begun (leaf_value c.args.major c.args.number) d rest c.args.behind.now (scalar-head c.args.major c.args.number rest c.args.behind.now c.requires.kind head))
+    scalar-begun (leaf_value c.args.major c.args.number) d rest c.args.behind.now (scalar-head c.args.major c.args.number rest c.args.behind.now c.requires.kind head)

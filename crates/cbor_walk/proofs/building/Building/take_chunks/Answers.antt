@@ -1,4 +1,4 @@
-use Rattle.std.proofs.Common.{◌≡◌, ◌≤◌, ◌∙◌, ◌-◌, List, ℕ, ◌∷◌, length, take, drop, refl, ap, sym, subst, inl, arith, length-drop}
+use Rattle.std.proofs.Common.{◌≡◌, ◌≤◌, ◌∙◌, ◌-◌, List, ℕ, ◌∷◌, length, take, drop, refl, ap, sym, subst, arith, length-drop}
 use Rattle.std.proofs.Math.Seq.{take-length}
 use Rattle.std.specs.Prelude.{IsUtf8}
 use Rattle.cbor_keys.proofs.KeyFronts.{are_bytes}
@@ -78,4 +78,4 @@ returns-in-Ok-end_string-clause-front g c = λ d o.
     let s = c.chunks.invariant.chunks in
     let is : c.chunks.rest.now ≡ 0xff ∷ behind = c.in-Some.ensures.cases.0 ∙ ap (λ (x : ℕ). x ∷ behind) c.if-first.true in
     let all = all-chunks g.row.S.Denot g.S.Sink.stands g.S.Sink.holds c.is_key-is_key.result t c.args.behind.now c.args.self.now.sink c.chunks.rest.now c.chunks.self.sink s behind is in
-    inl (scalar-begun (string_value t (chunks_joined s.read.done)) d (chunked_from t c.args.behind.now) behind all)
+    scalar-begun (string_value t (chunks_joined s.read.done)) d (chunked_from t c.args.behind.now) behind all

@@ -1,4 +1,4 @@
-use Rattle.std.proofs.Common.{◌≡◌, ◌∙◌, ◌∷◌, ◌-◌, ◌<◌, ◌≤◌, List, ℕ, length, take, drop, ap, sym, subst, inl, arith, length-drop, refl}
+use Rattle.std.proofs.Common.{◌≡◌, ◌∙◌, ◌∷◌, ◌-◌, ◌<◌, ◌≤◌, List, ℕ, length, take, drop, ap, sym, subst, arith, length-drop, refl}
 use Rattle.std.proofs.Math.Seq.{take-length}
 use Rattle.std.specs.Prelude.{IsUtf8}
 use Rattle.cbor_head.specs.Value.{AreBytes}
@@ -48,5 +48,5 @@ returns-in-Ok-clause-front g c = λ rest head d o.
     let size = c.in-Some.size in
     let all : AreBytes behind = are_bytes behind (λ i. omega (arith, c.type_inv.behind i)) in
     let whole : take (length behind - size) (drop size behind) ≡ drop size behind = ap (λ n. take n (drop size behind)) (sym (length-drop size behind)) ∙ take-length (drop size behind) in
-    inl (subst (HasBegun d rest) (sym whole)
-    (scalar-begun (string_value c.args.is_text (take size behind)) d rest (drop size behind) (scalar-string c.args.is_text c.args.count size rest behind head c.in-Some.ensures all)))
+    subst (HasBegun d rest) (sym whole)
+    (scalar-begun (string_value c.args.is_text (take size behind)) d rest (drop size behind) (scalar-string c.args.is_text c.args.count size rest behind head c.in-Some.ensures all))

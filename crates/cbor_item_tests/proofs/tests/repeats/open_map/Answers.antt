@@ -3,7 +3,7 @@ use Rattle.cbor_head.specs.Canonical.{Pair}
 use Rattle.cbor_head.specs.declared.order.KeyOrder.{KeyOrder}
 use Rattle.cbor_builder.specs.Built.{Built, built}
 use Rattle.cbor_canonical.specs.Parts.{Open, a_map, give, pair}
-use Rattle.cbor_item_tests.proofs.tests.canon_builder.open_map.Goals as goal
+use Rattle.cbor_item_tests.proofs.tests.repeats.open_map.Goals as goal
 
 -- one more pair
 pair_given : (o p : KeyOrder) (k b : List ℕ) (ps : List Pair) (os s : List Open) (v w : Built) → s ≡ a_map ps ∷ os → v ≡ built o (give k s) → w ≡ built p (give b v.standing)

@@ -1,7 +1,7 @@
 use Rattle.std.proofs.Common.{List, ◌≡◌, ◌∷◌}
 use Rattle.cbor_head.specs.Canonical.{Pair}
 use Rattle.cbor_canonical.specs.Parts.{a_map}
-use Rattle.cbor_item_tests.proofs.tests.canon_builder.open_map.Given as goal
+use Rattle.cbor_item_tests.proofs.tests.repeats.open_map.Given as goal
 
 abbrev pub invariant-loop-key : goal.invariant-loop-key
 invariant-loop-key l = (ps : List Pair) × (l.builder.standing ≡ a_map ps ∷ l.fn.builder.standing)

@@ -1,0 +1,111 @@
+-- Spans of the innermost in another order than they came in.
+use Rattle.std.proofs.Common.{◌≡◌, ℕ, Bool, false, List, [], ◌∷◌, length, length-drop, length-take, drop, take, Option, Some, None, true≢false, refl, sym, ap, ◌∙◌, subst, arith, IsPermutation}
+use Rattle.std.specs.Prelude.{IsTrue, IfSome, IsNone, ◌↔◌}
+use Rattle.std.proofs.lemmas.List.{drop_all}
+use Rattle.std.proofs.lemmas.List.Sorted.{IsPermutation-refl, length_permutation}
+use Rattle.cbor_head.specs.declared.order.KeyOrder.{KeyOrder}
+use Rattle.cbor_canonical.specs.Parts.{Open, plain, an_array, a_map, a_key, a_string, HasNoRepeats}
+use Rattle.cbor_builder.specs.Built.{IsRepeatedKey, IsRepeatTold, keys_so_far, AreAllDifferent}
+use Rattle.cbor_buffer.specs.declared.draft.Draft.{Draft}
+use Rattle.cbor_buffer.specs.declared.span.Span.{Span}
+use Rattle.cbor_builder.specs.declared.builder.Core.{Core}
+use Rattle.cbor_builder.specs.declared.frame.Frame.{Frame}
+use Rattle.cbor_builder.specs.declared.frame.Shape.{Shape}
+use Rattle.cbor_builder.specs.declared.frame.Shape.TheVariants.{Plain, Array, Map, Key, Content}
+use Rattle.cbor_builder.specs.declared.repeat.Repeat.{Repeat}
+use Rattle.cbor_builder.specs.inner.BuilderState.{outers, frames, standing, innermost, Stand, IsReordered, WasLaid, came_standing}
+use Rattle.cbor_builder.specs.inner.Laid.{shape_open, outer_spans, opens, Fits}
+use Rattle.cbor_builder.specs.inner.Repeats.{first_of, AreOf, Tells}
+use Rattle.cbor_buffer.specs.Moved.{meant}
+use Rattle.cbor_builder.proofs.KeysSoFar.{different_distinct}
+
+pub reordered_refl : (ss : List Span) (s : Shape) → IsReordered ss ss s
+reordered_refl ss Plain = refl
+reordered_refl ss (Array n) = refl
+reordered_refl ss (Map first) = (refl, IsPermutation-refl (drop first ss))
+reordered_refl ss (Key first at) = refl
+reordered_refl ss (Content m) = refl
+
+pub reordered_outer : (came ss : List Span) (s : Shape) → IsReordered came ss s → outer_spans ss s ≡ outer_spans came s
+reordered_outer came ss Plain h = h
+reordered_outer came ss (Array n) h = h
+reordered_outer came ss (Map first) h = h.0
+reordered_outer came ss (Key first at) h = ap (take first) h
+reordered_outer came ss (Content m) h = h
+
+pub reordered_length : (came ss : List Span) (s : Shape) → IsReordered came ss s → length ss ≡ length came
+reordered_length came ss Plain h = ap length h
+reordered_length came ss (Array n) h = ap length h
+reordered_length came ss (Map first) h =
+    let a = length-take first came in
+    let b = length-take first ss in
+    let c = length-drop first came in
+    let d = length-drop first ss in
+    let behind = length_permutation (drop first came) (drop first ss) h.1 in
+    omega (arith, a, b, c, d, ap length h.0, behind)
+reordered_length came ss (Key first at) h = ap length h
+reordered_length came ss (Content m) h = ap length h
+
+pub reordered_first : (came ss : List Span) (s : Shape) → IsReordered came ss s → first_of ss s ≡ first_of came s
+reordered_first came ss Plain h = ap length h
+reordered_first came ss (Array n) h = ap length h
+reordered_first came ss (Map first) h = refl
+reordered_first came ss (Key first at) h = refl
+reordered_first came ss (Content m) h = ap length h
+
+-- a key that waits came last
+pub reordered_key : (came ss : List Span) (s : Shape) (first at : ℕ) → s ≡ Key first at → IsReordered came ss s → ss ≡ came
+reordered_key came ss s first at e h = subst (IsReordered came ss) e h
+
+pub reordered_waits : (out : List ℕ) (came ss : List Span) (start : ℕ) (s : Shape) (os : List Open) (t : Bool) → IsReordered came ss s → (IsTrue t ↔ IsRepeatedKey (shape_open out ss start s ∷ os))
+    → (IsTrue t ↔ IsRepeatedKey (shape_open out came start s ∷ os))
+reordered_waits out came ss start Plain os t h w = w
+reordered_waits out came ss start (Array n) os t h w = w
+reordered_waits out came ss start (Map first) os t h w = w
+reordered_waits out came ss start (Key first at) os t h w = subst (λ (ss : List Span). IsTrue t ↔ IsRepeatedKey (shape_open out ss start (Key first at) ∷ os)) h w
+reordered_waits out came ss start (Content m) os t h w = w
+
+none_of : (out : List ℕ) (came ss : List Span) → ss ≡ came → AreOf out (drop (length came) came) (drop (length came) ss)
+none_of out came ss e =
+    let none = drop_all (length came) came (omega arith) in
+    subst (λ (ss : List Span). AreOf out (drop (length came) came) (drop (length came) ss)) (sym e) (subst (λ (xs : List Span). AreOf out xs xs) (sym none) (0, 0, refl, omega arith, tt, IsPermutation-refl []))
+
+-- the spans of its own pairs
+pub reordered_own : (o : KeyOrder) (out : List ℕ) (came ss : List Span) (from start : ℕ) (rises : Bool) (s : Shape) → Fits o out came from start rises s → IsReordered came ss s
+    → AreOf out (drop (first_of came s) came) (drop (first_of came s) ss)
+reordered_own o out came ss from start rises Plain f h = none_of out came ss h
+reordered_own o out came ss from start rises (Array n) f h = none_of out came ss h
+reordered_own o out came ss from start rises (Map first) f h = (start, length out, f.1, omega arith, f.3, h.1)
+reordered_own o out came ss from start rises (Key first at) f h = (start, at, f.1, f.2, f.4, subst (λ (ss : List Span). IsPermutation (drop first came) (drop first ss)) (sym h) (IsPermutation-refl (drop first came)))
+reordered_own o out came ss from start rises (Content m) f h = none_of out came ss h
+
+-- ---- where a map does not end
+
+pub was_laid : (s n : Core) → Stand s.order s.out s.spans.items (frames s) → n.order ≡ s.order → n.out ≡ s.out → n.top ≡ s.top → outers n ≡ outers s → IsReordered s.spans.items n.spans.items s.top.shape → WasLaid s.spans.items n
+was_laid s n stand order out top around h = (
+  subst (λ (o : KeyOrder). Stand o n.out s.spans.items (frames n)) (sym order)
+      (subst (λ (d : Draft). Stand s.order d s.spans.items (frames n)) (sym out) (subst (Stand s.order s.out s.spans.items) (λ i. sym top i ∷ sym around i) stand)),
+  subst (λ (f : Frame). IsReordered s.spans.items n.spans.items f.shape) (sym top) h,
+)
+
+different_repeats : (c : Open) → AreAllDifferent (keys_so_far c) → HasNoRepeats c
+different_repeats (plain bs) d = tt
+different_repeats (an_array n bs) d = tt
+different_repeats (a_map ps) d = different_distinct ps d
+different_repeats (a_key ps k) d = tt
+different_repeats (a_string m bs) d = tt
+
+-- what is told of a map with two equal keys
+pub told_there : (s n : Core) (distinct : Bool) (r : Option Repeat) → Stand s.order s.out s.spans.items (frames s) → n.order ≡ s.order → n.out ≡ s.out → n.top ≡ s.top → outers n ≡ outers s
+    → IsReordered s.spans.items n.spans.items s.top.shape → distinct ≡ false → (IsTrue distinct ↔ HasNoRepeats (innermost s)) → ((came : List Span) → WasLaid came n → Tells (came_standing came n) r)
+    → (IsNone r → ⊥) × (HasNoRepeats (innermost s) → ⊥) × IfSome r (λ (t : Repeat). IsRepeatTold (standing s) t.outside t.pair)
+told_there s n distinct r stand order out top around h e d tells =
+    let still : came_standing s.spans.items n ≡ standing s = λ i. opens (meant (out i)) s.spans.items (top i ∷ around i) in
+    by_result r (subst (λ (os : List Open). Tells os r) still (tells s.spans.items (was_laid s n stand order out top around h)))
+  where
+    not_distinct : HasNoRepeats (innermost s) → ⊥
+    not_distinct h = true≢false (sym (d.1 h) ∙ e)
+
+    by_result : (r : Option Repeat) → Tells (standing s) r → (IsNone r → ⊥) × (HasNoRepeats (innermost s) → ⊥) × IfSome r (λ (t : Repeat). IsRepeatTold (standing s) t.outside t.pair)
+    by_result None t = absurd (not_distinct (different_repeats (innermost s) t.0))
+    by_result (Some u) t = ((λ n. cc), not_distinct, t)

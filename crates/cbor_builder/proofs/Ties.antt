@@ -1,0 +1,178 @@
+-- Pairs with equal keys among sorted spans.
+use Rattle.std.proofs.Common.{◌≡◌, ◌≢◌, ℕ, ◌+◌, ◌-◌, ◌<◌, ◌≤◌, true, false, List, length, get_or, Option, Some, None, min, max, refl, sym, ap, ◌∙◌, subst, arith, inl, inr, IsPermutation, IsSortedBy}
+use Rattle.std.specs.Prelude.{IfSome}
+use Rattle.std.specs.List.{swap}
+use Rattle.std.specs.Ordering.{is_lt, ordering_reverse}
+use Rattle.std.specs.declared.cmp.Ordering.{Ordering}
+use Rattle.std.specs.declared.cmp.Ordering.TheVariants.{Less, Equal, Greater}
+use Rattle.std.proofs.lemmas.Bool.{cases_lt, cases_eq}
+use Rattle.std.proofs.lemmas.List.Edits.{Swapped, swapped_from_swap, length-swap}
+use Rattle.std.proofs.lemmas.List.Sorted.{IsPermutation-keeps, ranks_by, sorted_far}
+use Rattle.cbor_head.specs.Order.{key_cmp, key_lt}
+use Rattle.cbor_head.specs.declared.order.KeyOrder.{KeyOrder}
+use Rattle.cbor_canonical.proofs.Orders.{key_cmp_total, tied}
+use Rattle.cbor_builder.specs.inner.Front.{key_of}
+use Rattle.cbor_builder.specs.inner.Repeats.{nth, place, AreGrouped, IsTie, HasTie, IsUpTo, IsFirstTie, IsFirstOf, IsLeastOfKey}
+use Rattle.cbor_buffer.specs.Spans.{no_span}
+use Rattle.cbor_buffer.specs.declared.span.Span.{Span}
+use Rattle.cbor_builder.specs.declared.repeats.Tie.{Tie}
+use Rattle.cbor_builder.proofs.Neighbours.{keys}
+
+-- ---- two of a list are found again in another order
+
+module _ {X : Type 0} (d : X) (R : X → X → Type 0) where
+  abbrev Two : List X → Type 0
+  Two xs = (i : ℕ) × (j : ℕ) × (i < length xs) × (j < length xs) × (i ≢ j) × R (get_or xs i d) (get_or xs j d)
+
+  -- where what stood at an index stands when those at a and b have changed places
+  moved_to : (f g : ℕ → X) (a b n i : ℕ) → Swapped f g a b → a < n → b < n → i < n → (j : ℕ) × (j < n) × (g j ≡ f i) × (i ≡ a → j ≡ b) × (i ≡ b → j ≡ a) × (i ≢ a → i ≢ b → j ≡ i)
+  moved_to f g a b n i w la lb li = elim (cases_eq i a) [
+    | inl ea ↦ (b, lb, w.1 ∙ ap f (sym ea), (λ e. refl), (λ e. sym e ∙ ea), (λ u v. absurd (u ea)))
+    | inr na ↦ elim (cases_eq i b) [
+      | inl eb ↦ (a, la, w.0 ∙ ap f (sym eb), (λ e. absurd (na e)), (λ e. refl), (λ u v. absurd (v eb)))
+      | inr nb ↦ (i, li, w.2 i na nb, (λ e. absurd (na e)), (λ e. absurd (nb e)), (λ u v. refl))
+    ]
+  ]
+
+  moved_apart : (a b i j k l : ℕ) → i ≢ j → (i ≡ a → k ≡ b) → (i ≡ b → k ≡ a) → (i ≢ a → i ≢ b → k ≡ i) → (j ≡ a → l ≡ b) → (j ≡ b → l ≡ a) → (j ≢ a → j ≢ b → l ≡ j) → k ≢ l
+  moved_apart a b i j k l ne p q r x y z e = grind arith
+
+  two_swapped : (xs : List X) (a b : ℕ) → a < length xs → b < length xs → Two xs → Two (swap xs a b)
+  two_swapped xs a b la lb (i, j, li, lj, ne, r) =
+      let f : ℕ → X = λ i. get_or xs i d in
+      let g : ℕ → X = λ i. get_or (swap xs a b) i d in
+      let w = swapped_from_swap xs (swap xs a b) a b d la lb refl in
+      let long = length-swap xs a b in
+      let k = moved_to f g a b (length xs) i w la lb li in
+      let l = moved_to f g a b (length xs) j w la lb lj in
+      (k.0, l.0, omega (arith, k.1, long), omega (arith, l.1, long), moved_apart a b i j k.0 l.0 ne k.3 k.4 k.5 l.3 l.4 l.5, subst (λ x. R x (g l.0)) (sym k.2) (subst (R (f i)) (sym l.2) r))
+
+  two_permuted : (xs ys : List X) → IsPermutation xs ys → Two xs → Two ys
+  two_permuted xs ys m t = IsPermutation-keeps xs Two t (λ xs a b la lb h. two_swapped xs a b la lb h) ys m
+
+pub tie_permuted : (out : List ℕ) (xs ys : List Span) (earlier later : ℕ) → IsPermutation xs ys → HasTie out xs (length xs) earlier later → HasTie out ys (length ys) earlier later
+tie_permuted out xs ys earlier later m t = two_permuted no_span (IsTie out earlier later) xs ys m t
+
+-- ---- what a look at sorted spans finds
+
+-- keys in order stand together
+pub grouped : (o : KeyOrder) (out : List ℕ) (ss : List Span) → IsSortedBy (λ x y. key_lt o (key_of out x) (key_of out y)) ss → AreGrouped out ss
+grouped o out ss sorted i j k l m h same =
+    let lt = λ (x y : Span). key_lt o (key_of out x) (key_of out y) in
+    let ranks = ranks_by (key_cmp_total o) (key_of out) in
+    let low = sorted_far lt ranks ss sorted i j no_span l (omega (arith, m, h)) in
+    let high = sorted_far lt ranks ss sorted j k no_span m h in
+    neither o (key_of out (nth ss j)) (key_of out (nth ss k)) (subst (λ q. key_lt o (key_of out (nth ss j)) q ≡ false) same low) high
+  where
+    -- neither of two keys is before the other
+    neither : (o : KeyOrder) (x y : List ℕ) → key_lt o x y ≡ false → key_lt o y x ≡ false → x ≡ y
+    neither o x y h g = go (key_cmp o x y) refl
+      where
+        go : (r : Ordering) → key_cmp o x y ≡ r → x ≡ y
+        go Less e = let l : key_lt o x y ≡ true = ap is_lt e in cc
+        go Equal e = tied o x y e
+        go Greater e = let l : key_lt o y x ≡ true = ap is_lt ((key_cmp_total o).antisymm y x ∙ ap ordering_reverse e) in cc
+
+-- one alone
+pub tie_alone : (out : List ℕ) (ss : List Span) (at : ℕ) → at ≡ place (nth ss 0) → IsFirstTie out ss 1 None × IsLeastOfKey out ss 1 at
+tie_alone out ss at is = ((λ earlier later t. t.4 (omega (arith, t.2, t.3))), ((0, omega arith, refl, sym is), λ i l e. let none : 0 ≡ i = omega (arith, l) in omega (arith, is, ap (λ k. place (nth ss k)) none)))
+
+tie_longer : (out : List ℕ) (ss : List Span) (n earlier later : ℕ) → HasTie out ss n earlier later → HasTie out ss (n + 1) earlier later
+tie_longer out ss n earlier later (i, j, li, lj, ne, tie) = (i, j, omega (arith, li), omega (arith, lj), ne, tie)
+
+-- the key at n is another than the one before it
+pub tie_passed : (out : List ℕ) (ss : List Span) (n at : ℕ) (r : Option Tie) → AreGrouped out ss → 1 ≤ n → n < length ss → key_of out (nth ss (n - 1)) ≢ key_of out (nth ss n) → at ≡ place (nth ss n)
+    → IsFirstTie out ss n r → IsFirstTie out ss (n + 1) r × IsLeastOfKey out ss (n + 1) at
+tie_passed out ss n at r group low l other is h = (
+  by_first r h,
+  (
+    (n, omega arith, ap (λ k. key_of out (nth ss k)) last, sym is),
+    λ i li e. elim (cases_lt i n) [
+      | inl g ↦ absurd (alone i g (e ∙ ap (λ k. key_of out (nth ss k)) (sym last)))
+      | inr g ↦ let same : n ≡ i = omega (arith, li, g) in omega (arith, is, ap (λ k. place (nth ss k)) same)
+    ],
+  ),
+)
+  where
+    last : n ≡ n + 1 - 1
+    last = omega arith
+
+    alone : (i : ℕ) → i < n → key_of out (nth ss i) ≡ key_of out (nth ss n) → ⊥
+    alone i g e = other (group i (n - 1) n (omega (arith, g)) (omega arith) l e)
+
+    shorter : (earlier later : ℕ) → HasTie out ss (n + 1) earlier later → HasTie out ss n earlier later
+    shorter earlier later (i, j, li, lj, ne, tie) = elim (cases_lt i n) [
+      | inl g ↦ elim (cases_lt j n) [
+        | inl k ↦ (i, j, g, k, ne, tie)
+        | inr k ↦ let e : j ≡ n = omega (arith, lj, k) in absurd (alone i g (tie.0 ∙ ap (λ k. key_of out (nth ss k)) e))
+      ]
+      | inr g ↦
+          let e : i ≡ n = omega (arith, li, g) in
+          let k : j < n = elim (cases_lt j n) [ inl k ↦ k | inr k ↦ absurd (ne (omega (arith, e, lj, k))) ] in
+          absurd (alone j k (sym tie.0 ∙ ap (λ k. key_of out (nth ss k)) e))
+    ]
+
+    by_first : (r : Option Tie) → IsFirstTie out ss n r → IsFirstTie out ss (n + 1) r
+    by_first None h = λ earlier later t. h earlier later (shorter earlier later t)
+    by_first (Some f) h = (tie_longer out ss n f.earlier f.later h.0, λ earlier later t. h.1 earlier later (shorter earlier later t))
+
+up_to : (t : Tie) (a b earlier later : ℕ) → IsUpTo t a b → b ≤ later → (b ≡ later → a ≤ earlier) → IsUpTo t earlier later
+up_to t a b earlier later u l k = (omega (arith, u.0, l), λ e. let same : b ≡ later = omega (arith, u.0, l, e) in let first = u.1 (e ∙ sym same) in omega (arith, first, k same))
+
+-- it is the same
+pub tie_met : (out : List ℕ) (ss : List Span) (n at least : ℕ) (r : Option Tie) (t : Tie) → 1 ≤ n → key_of out (nth ss (n - 1)) ≡ key_of out (nth ss n) → at ≡ place (nth ss n)
+    → IsLeastOfKey out ss n least → IsFirstTie out ss n r → IsFirstOf r (record { earlier = min least at; later = max least at }) t
+    → IsFirstTie out ss (n + 1) (Some t) × IsLeastOfKey out ss (n + 1) (min least at)
+tie_met out ss n at least r t low same is ((q, lq, key, lies), all) h (one, up, found) = ((there, first), (least_there, least_first))
+  where
+    last : n ≡ n + 1 - 1
+    last = omega arith
+
+    made : HasTie out ss (n + 1) (min least at) (max least at)
+    made = elim (cases_lt at least) [
+      | inl g ↦ (n, q, omega arith, omega (arith, lq), (λ e. omega (arith, lq, e)), (sym same ∙ sym key, omega (arith, g, is), omega (arith, g, lies), omega arith))
+      | inr g ↦ (q, n, omega (arith, lq), omega arith, (λ e. omega (arith, lq, e)), (key ∙ same, omega (arith, g, lies), omega (arith, g, is), omega arith))
+    ]
+
+    there : HasTie out ss (n + 1) t.earlier t.later
+    there = elim one [
+      | inl e ↦ tie_longer out ss n t.earlier t.later (subst (IsFirstTie out ss n) e h).0
+      | inr e ↦ subst (λ (u : Tie). HasTie out ss (n + 1) u.earlier u.later) (sym e) made
+    ]
+
+    old : (r : Option Tie) → IsFirstTie out ss n r → IfSome r (λ (f : Tie). IsUpTo t f.earlier f.later) → (earlier later : ℕ) → HasTie out ss n earlier later → IsUpTo t earlier later
+    old None h u earlier later tie = absurd (h earlier later tie)
+    old (Some f) h u earlier later tie = let v = h.1 earlier later tie in up_to t f.earlier f.later earlier later u v.0 v.1
+
+    at_least : (i : ℕ) → i < n → key_of out (nth ss i) ≡ key_of out (nth ss n) → least ≤ place (nth ss i)
+    at_least i l e = all i l (e ∙ sym same)
+
+    first : (earlier later : ℕ) → HasTie out ss (n + 1) earlier later → IsUpTo t earlier later
+    first earlier later (i, j, li, lj, ne, (keys, a, b, le)) = elim (cases_lt i n) [
+      | inl g ↦ elim (cases_lt j n) [
+        | inl k ↦ old r h found earlier later (i, j, g, k, ne, (keys, a, b, le))
+        | inr k ↦
+            let e : j ≡ n = omega (arith, lj, k) in
+            let w = at_least i g (keys ∙ ap (λ k. key_of out (nth ss k)) e) in
+            let here = ap (λ k. place (nth ss k)) e in
+            up_to t (min least at) (max least at) earlier later up (omega (arith, w, a, b, le, here, is)) (λ s. omega (arith, w, a))
+      ]
+      | inr g ↦
+          let e : i ≡ n = omega (arith, li, g) in
+          let k : j < n = elim (cases_lt j n) [ inl k ↦ k | inr k ↦ absurd (ne (omega (arith, e, lj, k))) ] in
+          let w = at_least j k (sym keys ∙ ap (λ k. key_of out (nth ss k)) e) in
+          let here = ap (λ k. place (nth ss k)) e in
+          up_to t (min least at) (max least at) earlier later up (omega (arith, w, a, b, le, here, is)) (λ s. omega (arith, a, here, is))
+    ]
+
+    least_there : (i : ℕ) × (i < n + 1) × (key_of out (nth ss i) ≡ key_of out (nth ss (n + 1 - 1))) × (place (nth ss i) ≡ min least at)
+    least_there = elim (cases_lt at least) [
+      | inl g ↦ (n, omega arith, ap (λ k. key_of out (nth ss k)) last, omega (arith, g, is))
+      | inr g ↦ (q, omega (arith, lq), key ∙ same ∙ ap (λ k. key_of out (nth ss k)) last, omega (arith, g, lies))
+    ]
+
+    least_first : (i : ℕ) → i < n + 1 → key_of out (nth ss i) ≡ key_of out (nth ss (n + 1 - 1)) → min least at ≤ place (nth ss i)
+    least_first i li e = elim (cases_lt i n) [
+      | inl g ↦ (let w = at_least i g (e ∙ ap (λ k. key_of out (nth ss k)) (sym last)) in omega (arith, w))
+      | inr g ↦ let same : n ≡ i = omega (arith, li, g) in omega (arith, is, ap (λ k. place (nth ss k)) same)
+    ]

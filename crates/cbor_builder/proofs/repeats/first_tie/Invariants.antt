@@ -1,0 +1,6 @@
+use Rattle.std.proofs.Common.{◌≤◌, length}
+use Rattle.cbor_builder.specs.inner.Repeats.{IsFirstTie, IsLeastOfKey}
+use Rattle.cbor_builder.proofs.repeats.first_tie.Given as goal
+
+abbrev pub invariant-loop-i : goal.invariant-loop-i
+invariant-loop-i l = (l.i ≤ length l.spans) × IsFirstTie l.bytes l.spans l.i l.first × IsLeastOfKey l.bytes l.spans l.i l.least

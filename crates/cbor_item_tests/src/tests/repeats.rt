@@ -1,0 +1,204 @@
+//! Which repeated key a builder tells.
+
+ghost use Rattle.std.specs.Prelude.{ℕ, List, ◌≡◌, ◌∷◌, [], OnOk};
+ghost use Rattle.cbor_head.specs.Canonical.{Pair};
+ghost use Rattle.cbor_builder.specs.Built.{TakesPart};
+ghost use Rattle.cbor_canonical.specs.Parts.{Open, a_map, a_key, plain};
+
+use cbor_head::Major;
+use cbor_item::{CanonBuilder, KeyOrder, Repeat};
+use std::alloc::{AllocError, Global};
+use std::process::Abort;
+
+pub(crate) fn told(outside: usize, pair: usize) -> Option<Repeat> {
+    Some(Repeat { outside, pair })
+}
+
+// A map begins, with a pair for each number, which is its key; its value is 0.
+fn open_map(builder: &mut CanonBuilder, keys: &[u64]) -> Result<(), AllocError>
+    requires takes { TakesPart builder.old.standing }
+    ensures { OnOk result ((ps : List Pair)
+        × (builder.new.standing ≡ a_map ps ∷ builder.old.standing)) }
+{
+    builder.begin(Major::Map, 0)?;
+    for key in keys {
+        builder.leaf(Major::Unsigned, *key)?;
+        builder.leaf(Major::Unsigned, 0)?;
+    }
+    Ok(())
+}
+
+// {OUTER, 4: [{INNER, and a last key that waits for its value
+fn give_opened(
+    builder: &mut CanonBuilder,
+    outer: &[u64],
+    inner: &[u64],
+    last: u64,
+) -> Result<(), AllocError>
+    requires takes { TakesPart builder.old.standing }
+    ensures { OnOk result ((ps : List Pair) × (k : List ℕ) × (c : Open) × (os : List Open)
+        × (builder.new.standing ≡ a_key ps k ∷ c ∷ os)) }
+{
+    open_map(builder, outer)?;
+    builder.leaf(Major::Unsigned, 4)?;
+    builder.begin(Major::Array, 0)?;
+    open_map(builder, inner)?;
+    builder.leaf(Major::Unsigned, last)
+}
+
+// What is told of that, asked for and as the inner map ends
+fn told_of(
+    rt: &impl Abort,
+    alloc: Global,
+    outer: &[u64],
+    inner: &[u64],
+    last: u64,
+) -> Result<Option<Repeat>, AllocError> {
+    let mut builder = CanonBuilder::new(alloc, KeyOrder::Bytewise);
+    give_opened(&mut builder, outer, inner, last)?;
+    let told = builder.first_repeat();
+    builder.clear(KeyOrder::Bytewise);
+    give_opened(&mut builder, outer, inner, last)?;
+    builder.leaf(Major::Unsigned, 0)?;
+    assert!(rt; builder.end_if_distinct()? == told);
+    Ok(told)
+}
+
+#[test]
+fn the_outermost_repeated_key_is_told(rt: HostRuntime) -> Result<(), AllocError> {
+    let alloc = rt.alloc();
+    // no key is equal to another, or one of the outer map, or the last of it, which waits
+    assert!(rt; told_of(&rt, alloc, &[3, 1, 2], &[7, 5, 6], 8)? == None);
+    assert!(rt; told_of(&rt, alloc, &[3, 1, 2, 1, 3], &[7, 7], 8)? == told(0, 3));
+    assert!(rt; told_of(&rt, alloc, &[3, 4, 2], &[7, 7], 7)? == told(0, 3));
+    // one of the inner map, or the last of it, behind keys that fall or rise
+    assert!(rt; told_of(&rt, alloc, &[3, 1, 2], &[7, 5, 5, 7], 7)? == told(1, 2));
+    assert!(rt; told_of(&rt, alloc, &[3, 1, 2], &[7, 5, 6], 5)? == told(1, 3));
+    assert!(rt; told_of(&rt, alloc, &[1, 2, 3], &[5, 6, 7], 6)? == told(1, 3));
+    let mut empty = CanonBuilder::new(alloc, KeyOrder::Bytewise);
+    assert!(rt; empty.first_repeat() == None);
+    Ok(())
+}
+
+// What is told of a map with these keys as it ends. Then nothing is open.
+fn told_at_end(
+    rt: &impl Abort,
+    builder: &mut CanonBuilder,
+    keys: &[u64],
+) -> Result<Option<Repeat>, AllocError>
+    requires empty { builder.old.standing ≡ plain [] ∷ [] }
+{
+    open_map(builder, keys)?;
+    let told = builder.end_if_distinct()?;
+    if told.is_some() {
+        assert!(rt; builder.first_repeat() == None);
+    }
+    Ok(told)
+}
+
+fn told_when_asked(builder: &mut CanonBuilder, keys: &[u64]) -> Result<Option<Repeat>, AllocError>
+    requires empty { builder.old.standing ≡ plain [] ∷ [] }
+{
+    open_map(builder, keys)?;
+    Ok(builder.first_repeat())
+}
+
+#[test]
+fn a_map_that_repeats_a_key_does_not_end(rt: HostRuntime) -> Result<(), AllocError> {
+    let mut builder = CanonBuilder::new(rt.alloc(), KeyOrder::LengthFirst);
+    assert!(rt; told_at_end(&rt, &mut builder, &[9, 1, 9])? == told(0, 2));
+    // it may be cleared
+    builder.clear(KeyOrder::Bytewise);
+    assert!(rt; told_at_end(&rt, &mut builder, &[2, 1])? == None);
+    assert!(rt; builder.finish().as_slice() == b"\xa2\x01\x00\x02\x00".as_slice());
+    Ok(())
+}
+
+// Keys of nine bytes, alike in the first eight, of which so many differ, and then they come again.
+fn keys_again(alloc: Global, size: u64, step: u64, differ: u64) -> Result<Vec<u64>, AllocError> {
+    let mut keys = Vec::new(alloc);
+    for i in 0..size {
+        keys.push((1 << 32) | (i.wrapping_mul(step) % differ.max(1)))?;
+    }
+    Ok(keys)
+}
+
+// The keys rise, fall or do neither.
+#[test]
+fn the_pair_is_told_in_maps_of_each_size(rt: HostRuntime) -> Result<(), AllocError> {
+    let alloc = rt.alloc();
+    let mut builder = CanonBuilder::new(alloc, KeyOrder::Bytewise);
+    for size in 2u64..201 {
+        for differ in [1, size / 2, size - 1] {
+            for step in [1, differ - 1, 211] {
+                let keys = keys_again(alloc, size, step, differ)?;
+                builder.clear(KeyOrder::Bytewise);
+                assert!(rt; told_at_end(&rt, &mut builder, &keys)? == told(0, differ as usize));
+                builder.clear(KeyOrder::Bytewise);
+                assert!(rt; told_when_asked(&mut builder, &keys)? == told(0, differ as usize));
+            }
+        }
+        let keys = keys_again(alloc, size, size - 1, size)?;
+        builder.clear(KeyOrder::Bytewise);
+        assert!(rt; told_at_end(&rt, &mut builder, &keys)? == None);
+    }
+    Ok(())
+}
+
+// Three pairs of no bytes behind others
+fn told_of_nothing(builder: &mut CanonBuilder, keys: &[u64]) -> Result<Option<Repeat>, AllocError>
+    requires empty { builder.old.standing ≡ plain [] ∷ [] }
+{
+    open_map(builder, keys)?;
+    builder.nothing()?;
+    builder.nothing()?;
+    builder.nothing()?;
+    builder.nothing()?;
+    builder.nothing()?;
+    builder.nothing()?;
+    builder.end_if_distinct()
+}
+
+// Two pairs of no bytes behind one that has only a value, and another
+fn told_of_an_empty_key(builder: &mut CanonBuilder) -> Result<Option<Repeat>, AllocError>
+    requires empty { builder.old.standing ≡ plain [] ∷ [] }
+{
+    builder.begin(Major::Map, 0)?;
+    builder.nothing()?;
+    builder.leaf(Major::Unsigned, 0)?;
+    builder.leaf(Major::Unsigned, 1)?;
+    builder.nothing()?;
+    builder.nothing()?;
+    builder.nothing()?;
+    builder.nothing()?;
+    builder.nothing()?;
+    builder.end_if_distinct()
+}
+
+#[test]
+fn pairs_of_no_bytes_are_told_apart(rt: HostRuntime) -> Result<(), AllocError> {
+    let alloc = rt.alloc();
+    let mut builder = CanonBuilder::new(alloc, KeyOrder::Bytewise);
+    assert!(rt; told_of_an_empty_key(&mut builder)? == told(0, 2));
+    for size in [1, 2, 14, 40] {
+        let keys = keys_again(alloc, size, size - 1, size)?;
+        builder.clear(KeyOrder::Bytewise);
+        assert!(rt; told_of_nothing(&mut builder, &keys)? == told(0, size as usize + 1));
+    }
+    Ok(())
+}
+
+fn give_up_a_repeat(builder: &mut CanonBuilder) -> Result<Option<Repeat>, AllocError>
+    requires empty { builder.old.standing ≡ plain [] ∷ [] }
+{
+    open_map(builder, &[9, 1, 9])?;
+    builder.give_up_if_distinct()
+}
+
+#[test]
+fn a_map_that_repeats_a_key_is_not_given_up(rt: HostRuntime) -> Result<(), AllocError> {
+    let mut builder = CanonBuilder::new(rt.alloc(), KeyOrder::Bytewise);
+    assert!(rt; give_up_a_repeat(&mut builder)? == told(0, 2));
+    assert!(rt; builder.first_repeat() == None);
+    Ok(())
+}
