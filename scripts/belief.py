@@ -30,7 +30,7 @@ from sources import CRATES, IMPORT, NAME, OF_MODELS, ROOT, Exports, Module, Sour
 # The calls whose contracts are the headline, and a crate that hands each of them out.
 HEADLINE = [("cbor_reader", "canonicalise"), ("cbor_reader", "read_strict")]
 # Crates that only crates of ours see: of what they hand out that alone is public which another crate hands on.
-MACHINERY = {"cbor_steps", "cbor_machine", "cbor_buffer", "cbor_walk", "cbor_sinks", "cbor_plain"}
+MACHINERY = {"cbor_steps", "cbor_machine", "cbor_buffer", "cbor_front", "cbor_walk", "cbor_sinks", "cbor_plain"}
 MACHINERY |= {"cborc_input", "cborc_items", "cborc_sequences", "cborc_grammar"}
 # Crates of specs, proofs and laws alone, made to be taken from.
 THEORY = {"cbor_grammar", "cbor_automaton", "cbor_standing", "cbor_canonical", "cbor_judging", "cborc_fronts"}

@@ -5,8 +5,12 @@ pub mod Kinds
 pub mod LastKey
 pub mod Levels
 pub mod OpenMaps
+pub mod Path
+pub mod PathKinds
 pub mod Place
 pub mod Readers
 pub mod Reading
 pub mod Refusals
+pub mod RefusedHere
 pub mod SoFar
+pub mod Stop

@@ -16,7 +16,7 @@ use Rattle.cbor_judging.proofs.CanonicalFronts.{strict_bytes, strict_value, fron
 use Rattle.cbor_judging.proofs.Reasons.{never-read, never-memory}
 use Rattle.cbor_judging.specs.Readers.{IsRead, IsCanonicalFront, HasNoCanonicalFront}
 use Rattle.cbor_sinks.specs.BuiltFront.{IsBuiltFront}
-use Rattle.cbor_walk.specs.NotCanonical.{IsNotCanonical}
+use Rattle.cbor_front.specs.NotCanonical.{IsNotCanonical}
 
 module _ (limits : Bounds) (o : KeyOrder) (input : List ℕ) where
   pub canonical_built : (count : ℕ) → IsRead limits (strict o) input count → IsBuiltFront limits o input (take count input) count

@@ -8,8 +8,8 @@ ghost use Rattle.cbor_canonical.specs.StrictReasons.{IsStrictReason};
 ghost use Rattle.cbor_judging.specs.Readers.{HasNoCanonicalFront};
 ghost use Rattle.cbor_sinks.specs.BuiltFront.{IsBuiltFront};
 
+use cbor_front::canonical_front;
 use cbor_head::{KeyOrder, Limits, Reason, Refusal};
-use cbor_walk::canonical_front;
 
 /// How many bytes the item has that the slice begins with, where they are its canonical bytes in this
 /// order; else why they are none: unless the item [`may_be_valid`], that is its refusal.

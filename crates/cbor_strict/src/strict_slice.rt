@@ -4,10 +4,10 @@ ghost use Rattle.std.specs.Prelude.{◌≡◌, IfOk, IfErr};
 ghost use Rattle.cbor_head.specs.Complaint.{strict};
 ghost use Rattle.cbor_head.specs.Verdict.{IsVerdict, refused};
 ghost use Rattle.cbor_judging.specs.Readers.{IsRead, IsCanonicalFront, HasNoCanonicalFront};
-ghost use Rattle.cbor_walk.specs.NotCanonical.{strict_refusal};
+ghost use Rattle.cbor_front.specs.NotCanonical.{strict_refusal};
 
+use cbor_front::canonical_front;
 use cbor_head::{KeyOrder, Limits, Reason, Refusal};
-use cbor_walk::canonical_front;
 
 /// How many bytes the item has that the slice begins with, where they are its canonical bytes in
 /// this order (RFC 8949, sections 4.2.1 and 4.2.3); else the refusal that the bytes within the

@@ -31,19 +31,21 @@ use Rattle.cbor_judging.specs.Kinds.{IsOfOneHead}
 use Rattle.cbor_judging.specs.Reading.{string_major}
 use Rattle.cbor_steps.specs.Whole.{IsArgument}
 use Rattle.cbor_walk.specs.inner.Parts.{IsHead, chunked_from}
-use Rattle.cbor_walk.specs.inner.Items.{IsRefusedBy, AreChunksRefused, IsStringFault}
-use Rattle.cbor_walk.specs.inner.Kept.{KeepsHere}
-use Rattle.cbor_walk.specs.inner.Path.{bytes_before}
-use Rattle.cbor_walk.specs.inner.Stop.{HasComplaint, HasBadByte}
-use Rattle.cbor_walk.specs.declared.argument.Argument.{Argument}
-use Rattle.cbor_walk.proofs.AnyItem.{ends_here}
+use Rattle.cbor_judging.specs.RefusedHere.{IsRefusedBy}
+use Rattle.cbor_walk.specs.inner.Faults.{AreChunksRefused}
+use Rattle.cbor_front.specs.Strings.{IsStringFault}
+use Rattle.cbor_judging.specs.PathKinds.{KeepsHere}
+use Rattle.cbor_judging.specs.Path.{bytes_before}
+use Rattle.cbor_judging.specs.Stop.{HasComplaint, HasBadByte}
+use Rattle.cbor_front.specs.declared.argument.Argument.{Argument}
+use Rattle.cbor_judging.proofs.RefusedHere.{ends_here}
 use Rattle.cbor_walk.proofs.Chunked.{AreRead, kind}
-use Rattle.cbor_walk.proofs.CutHeads.{Within, head_starts, chunk_cut}
+use Rattle.cbor_judging.proofs.CutHeads.{Within, head_starts, chunk_cut}
 use Rattle.cbor_walk.proofs.Faults.{heads_free}
 use Rattle.cbor_walk.proofs.GivenItems.{head-here}
-use Rattle.cbor_walk.proofs.PathForm.{Leads, leads_on, containers}
-use Rattle.cbor_walk.proofs.PathKinds.{kept_front}
-use Rattle.cbor_walk.proofs.PathStops.{complaint_here, bad_byte_here}
+use Rattle.cbor_judging.proofs.PathForm.{Leads, leads_on, containers}
+use Rattle.cbor_judging.proofs.PathKinds.{kept_front}
+use Rattle.cbor_judging.proofs.PathStops.{complaint_here, bad_byte_here}
 
 -- ---- the automaton
 

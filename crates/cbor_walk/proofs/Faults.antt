@@ -10,11 +10,14 @@ use Rattle.cbor_head.specs.declared.reason.Refusal.{Refusal}
 use Rattle.cbor_head.specs.declared.width.Width.{Width}
 use Rattle.cbor_grammar.specs.FirstBytes.{is_basic}
 use Rattle.cbor_judging.specs.Judged.{Never}
-use Rattle.cbor_walk.specs.inner.Items.{IsPlaced, IsMisplaced, IsRefusedBy, IsStringHead, IsStringWhole, IsStringFault, IsFault, AreChunksRefused}
-use Rattle.cbor_walk.specs.inner.Kept.{IsFitFront}
-use Rattle.cbor_walk.specs.declared.argument.Argument.{Argument}
-use Rattle.cbor_walk.proofs.AnyRefusals.{nothing_here, misplaced_stops, string_refused}
-use Rattle.cbor_walk.proofs.OtherKeys.{kind_refused}
+use Rattle.cbor_judging.specs.RefusedHere.{MayBegin, IsMisplaced, IsRefusedBy}
+use Rattle.cbor_judging.specs.PathKinds.{IsFitFront}
+use Rattle.cbor_judging.proofs.RefusedHere.{nothing_here, misplaced_stops}
+use Rattle.cbor_judging.proofs.OtherKeys.{kind_refused}
+use Rattle.cbor_front.specs.Strings.{IsStringHead, IsStringWhole, IsStringFault}
+use Rattle.cbor_front.specs.declared.argument.Argument.{Argument}
+use Rattle.cbor_front.proofs.AnyRefusals.{string_refused}
+use Rattle.cbor_walk.specs.inner.Faults.{IsFault, AreChunksRefused}
 
 -- the plain rules ask nothing of heads
 pub heads_free : (to : ℕ) (m : Major) (w : Width) (n : ℕ) → Never (OfHead plain to m w n)
@@ -35,7 +38,7 @@ module _ (first : ℕ) (behind : List ℕ) (at : ℕ) (room is_key may_break : B
   pub fault_misplaced : (reason : Reason) → IsMisplaced first room reason → IsFault b at room is_key may_break (refusal reason at (at + 1))
   fault_misplaced reason h = λ limits ls clean breaks keeps asked place are. misplaced_stops plain room first behind at reason h limits ls clean (λ e m. stray e (breaks m)) keeps place are
 
-  pub fault_of_kind : IsPlaced first room → is_key ≡ true → ¬ IsTrue (is_basic (first / 32)) → IsFault b at room is_key may_break (refusal KeyKind at (at + 1))
+  pub fault_of_kind : MayBegin first room → is_key ≡ true → ¬ IsTrue (is_basic (first / 32)) → IsFault b at room is_key may_break (refusal KeyKind at (at + 1))
   fault_of_kind placed key other = λ limits ls clean breaks keeps asked place are. let both = asked.both key in kind_refused room first behind at placed other plain refl limits ls clean keeps both.0 both.1 place are
 
   -- where a key whose kind is asked for is fit

@@ -14,14 +14,15 @@ use Rattle.cbor_judging.specs.Frame.{with_all, with_entries}
 use Rattle.cbor_judging.specs.Given.{opens, StandsAt}
 use Rattle.cbor_judging.specs.Levels.{IsTaken, Level, a_member, a_key, a_value, some_member, some_key, some_value, tagged, frame, AreLevels, bytes_before, Standing, item_due, item_full, settle}
 use Rattle.cbor_judging.specs.Place.{close}
+use Rattle.cbor_judging.proofs.PathSteps.{member_count, pair_count, last_member, last_pair}
+use Rattle.cbor_front.specs.Due.{pairs}
+use Rattle.cbor_front.specs.declared.level.Due.TheVariants.{Item, Value}
 use Rattle.cbor_walk.specs.Sink.{is_map, IsEndedAs, StandsFull}
 use Rattle.cbor_walk.specs.inner.Building.{IsDue, HasEnded, IsCellFull, HasFilled}
-use Rattle.cbor_walk.specs.inner.Open.{pairs, counted, opener, full_opener, behind_head, cell_of, cells_of, after}
+use Rattle.cbor_walk.specs.inner.Open.{counted, opener, full_opener, behind_head, cell_of, cells_of, after}
 use Rattle.cbor_walk.specs.inner.OpenMaps.{HasTakenPairs}
-use Rattle.cbor_walk.specs.declared.level.Due.TheVariants.{Item, Value}
 use Rattle.cbor_walk.specs.declared.open.Open.{Open}
 use Rattle.cbor_walk.proofs.GivenParts.{cells-count}
-use Rattle.cbor_walk.proofs.PathSteps.{member_count, pair_count, last_member, last_pair}
 
 pub cell-behind : (behind : ℕ) (l : Level) → (cell_of behind l).behind ≡ behind
 cell-behind behind (a_member w left done) = refl

@@ -18,12 +18,12 @@ use Rattle.cbor_judging.specs.Kinds.{IsOfOneHead}
 use Rattle.cbor_judging.specs.Levels.{IsTaken, Level, a_member, a_key, some_member, some_key, tagged, level_bytes}
 use Rattle.cbor_judging.specs.Reading.{string_major, string_value}
 use Rattle.cbor_steps.specs.Whole.{IsArgument}
-use Rattle.cbor_walk.proofs.AnyItem.{low_bits, spells}
+use Rattle.cbor_judging.proofs.Arguments.{low_bits, spells}
 use Rattle.cbor_walk.specs.Sink.{leaf_value, IsOpened}
 use Rattle.cbor_walk.specs.inner.Open.{counted, endless, opener}
 use Rattle.cbor_walk.specs.inner.Parts.{IsHead, IsOpener, IsPayload, Counts}
-use Rattle.cbor_walk.specs.declared.level.Due.{Due}
-use Rattle.cbor_walk.specs.declared.level.Due.TheVariants.{Item, Key, Value as ItsValue}
+use Rattle.cbor_front.specs.declared.level.Due.{Due}
+use Rattle.cbor_front.specs.declared.level.Due.TheVariants.{Item, Key, Value as ItsValue}
 
 -- ---- items without members
 

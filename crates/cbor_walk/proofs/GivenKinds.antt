@@ -21,22 +21,23 @@ use Rattle.cbor_judging.proofs.KindBytes.{Begins, head_is_one, keeps_due}
 use Rattle.cbor_judging.proofs.KindLevels.{keeps_closed_in}
 use Rattle.cbor_judging.proofs.KindSteps.{keeps_start}
 use Rattle.cbor_judging.proofs.Levels.{spelled-all, within-all, pairs-spelled, pairs-within}
+use Rattle.cbor_judging.specs.PathKinds.{asks, IsFitFront}
+use Rattle.cbor_judging.proofs.PathKinds.{no_break, head_begun}
+use Rattle.cbor_front.specs.Stack.{around, standing}
+use Rattle.cbor_front.specs.declared.level.Due.{Due}
+use Rattle.cbor_front.specs.declared.level.Due.TheVariants.{Item, Key}
+use Rattle.cbor_front.specs.declared.stack.Stack.{Stack}
+use Rattle.cbor_front.proofs.Stacks.{standing_count}
 use Rattle.cbor_walk.specs.Sink.{IsOpened}
 use Rattle.cbor_walk.specs.inner.Building.{IsDue}
-use Rattle.cbor_walk.specs.inner.Kept.{KeepsBefore, asks, IsFitFront}
+use Rattle.cbor_walk.specs.inner.Kept.{KeepsBefore}
 use Rattle.cbor_walk.specs.inner.Open.{counted, behind_head, cell_of, cells_of}
 use Rattle.cbor_walk.specs.inner.Parts.{Counts, IsHead, IsOpener, IsItem, HasBegun, HasBroken, TakesFront, EndsBefore}
-use Rattle.cbor_walk.specs.inner.Stack.{around, standing}
-use Rattle.cbor_walk.specs.declared.level.Due.{Due}
-use Rattle.cbor_walk.specs.declared.level.Due.TheVariants.{Item, Key}
 use Rattle.cbor_walk.specs.declared.open.Open.{Open}
 use Rattle.cbor_walk.specs.declared.part.Part.{Part}
 use Rattle.cbor_walk.specs.declared.part.Part.TheVariants as part
-use Rattle.cbor_walk.specs.declared.stack.Stack.{Stack}
 use Rattle.cbor_walk.proofs.GivenItems.{IsScalar}
 use Rattle.cbor_walk.proofs.GivenParts.{height-is}
-use Rattle.cbor_walk.proofs.PathKinds.{no_break, head_begun}
-use Rattle.cbor_walk.proofs.Taking.{standing_count}
 
 -- ---- what begins so
 

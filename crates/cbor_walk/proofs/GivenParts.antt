@@ -19,15 +19,16 @@ use Rattle.cbor_judging.proofs.Items.{is-definite}
 use Rattle.cbor_judging.proofs.Levels.{clean-anywhere, no-count}
 use Rattle.cbor_judging.proofs.Loops.{array_bytes-whole, map_bytes-whole}
 use Rattle.cbor_judging.specs.Levels.{IsTaken, Level, a_member, a_key, a_value, some_member, some_key, some_value, tagged, AreLevels, level_bytes, bytes_before, Standing, item_due, settle}
+use Rattle.cbor_front.specs.Due.{awaits}
+use Rattle.cbor_front.specs.Stack.{standing}
+use Rattle.cbor_front.specs.declared.level.Due.{Due}
+use Rattle.cbor_front.specs.declared.level.Due.TheVariants.{Item, Key, Value as ItsValue}
+use Rattle.cbor_front.specs.declared.stack.Stack.{Stack}
 use Rattle.cbor_walk.specs.Sink.{takes_key, key_due, Completes, IsEndedAs, IsItemDue, Gives, Opens, IsKnownValid, IsGivenFront}
 use Rattle.cbor_walk.specs.inner.Building.{BeginsTaken, IsDue, HasEnded, IsToEnd, IsBuilt, IsDueFor}
-use Rattle.cbor_walk.specs.inner.Open.{awaits, counted, opener, behind_head, cell_of, cells_of}
+use Rattle.cbor_walk.specs.inner.Open.{counted, opener, behind_head, cell_of, cells_of}
 use Rattle.cbor_walk.specs.inner.Parts.{IsHead, IsOpener, Counts}
-use Rattle.cbor_walk.specs.inner.Stack.{standing}
-use Rattle.cbor_walk.specs.declared.level.Due.{Due}
-use Rattle.cbor_walk.specs.declared.level.Due.TheVariants.{Item, Key, Value as ItsValue}
 use Rattle.cbor_walk.specs.declared.open.Open.{Open}
-use Rattle.cbor_walk.specs.declared.stack.Stack.{Stack}
 use Rattle.cbor_walk.proofs.GivenItems.{IsScalar, opener-whole}
 
 -- ---- how many are open

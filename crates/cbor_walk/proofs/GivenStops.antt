@@ -10,24 +10,25 @@ use Rattle.cbor_head.specs.declared.keys.Keys.TheVariants.{IntegersAndTexts}
 use Rattle.cbor_head.specs.declared.reason.Refusal.{Refusal}
 use Rattle.cbor_judging.specs.Kinds.{KeepsToKinds}
 use Rattle.cbor_judging.specs.Levels.{Level, Standing, bytes_before}
+use Rattle.cbor_judging.specs.PathKinds.{asks}
+use Rattle.cbor_judging.specs.Path as path
+use Rattle.cbor_judging.specs.Stop.{IsStopped, IsAnswered}
+use Rattle.cbor_judging.proofs.PathVerdict.{stopped}
+use Rattle.cbor_front.specs.Stack.{around, standing}
+use Rattle.cbor_front.specs.declared.level.Due.{Due}
+use Rattle.cbor_front.specs.declared.level.Due.TheVariants.{Key, Value}
+use Rattle.cbor_front.specs.declared.stack.Stack.{Stack}
+use Rattle.cbor_front.proofs.Stacks.{more_cells, standing_count}
 use Rattle.cbor_walk.specs.Sink.{FindsNoRepeat}
 use Rattle.cbor_walk.specs.inner.Building.{IsDue, HasCome, Meets, Walks, WalksKept}
-use Rattle.cbor_walk.specs.inner.Kept.{KeepsBefore, MetKept, asks}
-use Rattle.cbor_walk.specs.inner.Items.{IsFault}
-use Rattle.cbor_walk.specs.inner.Path as path
-use Rattle.cbor_walk.specs.inner.Stack.{around, standing}
-use Rattle.cbor_walk.specs.inner.Stop.{IsStopped, IsAnswered}
+use Rattle.cbor_walk.specs.inner.Kept.{KeepsBefore, MetKept}
+use Rattle.cbor_walk.specs.inner.Faults.{IsFault}
 use Rattle.cbor_walk.specs.declared.building.Met.{Met}
 use Rattle.cbor_walk.specs.declared.building.Met.TheVariants as met
-use Rattle.cbor_walk.specs.declared.level.Due.{Due}
-use Rattle.cbor_walk.specs.declared.level.Due.TheVariants.{Key, Value}
 use Rattle.cbor_walk.specs.declared.open.Open.{Open}
-use Rattle.cbor_walk.specs.declared.stack.Stack.{Stack}
 use Rattle.cbor_walk.proofs.GivenKinds.{asked-kinds}
 use Rattle.cbor_walk.proofs.GivenParts.{cells-count}
 use Rattle.cbor_walk.proofs.LevelPaths.{paths_of, paths_length, paths_bytes, paths_clean, path_due, due_path, breaks_path}
-use Rattle.cbor_walk.proofs.PathVerdict.{stopped}
-use Rattle.cbor_walk.proofs.Taking.{more_cells, standing_count}
 
 -- that kinds are asked for, and a key is due
 pub record IsAsked (limits : Bounds) (due : Due) (is_key : Bool) : Type 0 where

@@ -29,11 +29,11 @@ use Rattle.cbor_judging.proofs.Levels.{no-count, spelled-all, within-all, clean-
 use Rattle.cbor_judging.proofs.Valid.{in_range_entries}
 use Rattle.cbor_walk.specs.Sink.{IsKeyBehind}
 use Rattle.cbor_walk.specs.inner.Open.{behind_head, cell_of, cells_of, counted}
-use Rattle.cbor_walk.specs.inner.Path as path
-use Rattle.cbor_walk.specs.inner.Path.{IsClean, AreClean, IsKeyDueIn, MayBreak}
-use Rattle.cbor_walk.specs.declared.level.Due.TheVariants.{Item, Key, Value}
+use Rattle.cbor_judging.specs.Path as path
+use Rattle.cbor_judging.specs.Path.{IsClean, AreClean, IsKeyDueIn, MayBreak}
+use Rattle.cbor_front.specs.declared.level.Due.TheVariants.{Item, Key, Value}
 use Rattle.cbor_walk.specs.declared.open.Open.{Open}
-use Rattle.cbor_walk.proofs.PathLevels.{judged_path, judged_key_path}
+use Rattle.cbor_judging.proofs.PathLevels.{judged_path, judged_key_path}
 
 -- ---- the path
 

@@ -8,12 +8,12 @@ use Rattle.cbor_head.specs.declared.width.Width.TheVariants.{Eight}
 use Rattle.cbor_grammar.proofs.ReadLaws.{unique}
 use Rattle.cbor_judging.proofs.Levels.{no-count, spelled-all, within-all, clean-all}
 use Rattle.cbor_judging.specs.Levels.{IsTaken, Level, a_member, bytes_before}
+use Rattle.cbor_front.specs.declared.level.Due.TheVariants.{Item}
 use Rattle.cbor_walk.specs.inner.Building.{IsDue, Meets}
 use Rattle.cbor_walk.specs.inner.Open.{counted}
 use Rattle.cbor_walk.specs.inner.Skip.{anywhere, anything, StandInFront, EndsItem, GoesTo}
 use Rattle.cbor_walk.specs.declared.building.Met.{Met}
 use Rattle.cbor_walk.specs.declared.building.Met.TheVariants as met
-use Rattle.cbor_walk.specs.declared.level.Due.TheVariants.{Item}
 use Rattle.cbor_walk.specs.declared.open.Open.{Open}
 
 -- the array, before its first member

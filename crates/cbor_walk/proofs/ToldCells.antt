@@ -2,7 +2,7 @@
 use Rattle.std.proofs.Common.{◌≡◌, ℕ, zero, suc, ◌+◌, ◌<◌, ◌≤◌, Bool, true, false, Some, List, [], ◌∷◌, ◌++◌, length, take, drop, get_or, refl, sym, ap, ◌∙◌, arith, append_assoc}
 use Rattle.std.specs.Prelude.{reverse}
 use Rattle.std.proofs.lemmas.List.{reverse-append, reverse-reverse, take_all, take_more, take-append-drop, drop_more}
-use Rattle.cbor_walk.specs.inner.Open.{pairs}
+use Rattle.cbor_front.specs.Due.{pairs}
 use Rattle.cbor_walk.specs.inner.OpenMaps.{map_cells, counts_one}
 use Rattle.cbor_walk.specs.declared.open.Open.{Open}
 

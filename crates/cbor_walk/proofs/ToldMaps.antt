@@ -19,12 +19,12 @@ use Rattle.cbor_judging.specs.Levels.{Level, a_member, a_key, a_value, some_memb
 use Rattle.cbor_judging.proofs.KindFrames.{spell_along, item_along}
 use Rattle.cbor_judging.proofs.KindSteps.{keeps_front}
 use Rattle.cbor_judging.proofs.LevelFrames.{path, path_length, path_bytes, path_open}
+use Rattle.cbor_judging.proofs.PathVerdict.{complaint_stops}
 use Rattle.cbor_walk.specs.Sink.{is_map as its_kind, IsToldIn, IsToldFull}
 use Rattle.cbor_walk.specs.inner.Open.{opener, full_opener}
 use Rattle.cbor_walk.specs.inner.OpenMaps.{HasTakenPairs, is_map_level, map_levels}
 use Rattle.cbor_walk.specs.inner.Repeated.{IsKeyTold}
 use Rattle.cbor_walk.proofs.LevelPaths.{repeat_of_whole}
-use Rattle.cbor_walk.proofs.PathVerdict.{complaint_stops}
 use Rattle.cbor_walk.proofs.Repeats.{repeated_by_bytes}
 use Rattle.cbor_walk.proofs.ToldKeys.{IsKeyIn, key_in_level, key_in_map}
 

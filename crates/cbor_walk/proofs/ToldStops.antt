@@ -4,10 +4,11 @@ use Rattle.cbor_head.specs.Limits.{Bounds}
 use Rattle.cbor_head.specs.Spelling.{spell}
 use Rattle.cbor_builder.specs.declared.repeat.Repeat.{Repeat}
 use Rattle.cbor_judging.specs.Levels.{Level, a_member, a_key, a_value, some_member, some_key, some_value, tagged, bytes_before, Standing}
+use Rattle.cbor_front.specs.Due.{pairs}
 use Rattle.cbor_walk.specs.Sink.{FindsRepeat}
 use Rattle.cbor_walk.specs.inner.Building.{IsRepeatMet, Meets}
 use Rattle.cbor_walk.specs.inner.Kept.{KeepsBefore, MetKept}
-use Rattle.cbor_walk.specs.inner.Open.{pairs, cell_of, cells_of, behind_head}
+use Rattle.cbor_walk.specs.inner.Open.{cell_of, cells_of, behind_head}
 use Rattle.cbor_walk.specs.inner.OpenMaps.{is_map_level, map_levels, map_cells, counts_one, FindsMap}
 use Rattle.cbor_walk.specs.inner.Repeated.{IsKeyTold, IsCellTold, IsKeyToldIn}
 use Rattle.cbor_walk.specs.declared.building.Met.{Met}

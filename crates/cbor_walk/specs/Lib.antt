@@ -1,4 +1,3 @@
 pub mod Front
-pub mod NotCanonical
 pub mod Sink
 pub mod inner

@@ -1,16 +1,15 @@
 //! The walk over a valid item, whose parts go to a sink.
 
 ghost use Rattle.std.specs.Prelude.{◌≡◌, ◌≤◌, length};
+ghost use Rattle.cbor_front.specs.Stack.{standing};
 ghost use Rattle.cbor_walk.specs.inner.Building.{IsDueIn, HasFilledIn};
 ghost use Rattle.cbor_walk.specs.inner.Building.{Leads, Walks, WalksKept};
-ghost use Rattle.cbor_walk.specs.inner.Stack.{standing};
 
-use crate::level::Due;
 use crate::open::Open;
 use crate::part::Part;
 use crate::sink::Sink;
-use crate::stack::Stack;
 use cbor_builder::Repeat;
+use cbor_front::{Due, Stack};
 
 /// What came of an item so far: the open containers, and what took what is complete in them.
 #[derive(Drop)]
@@ -96,7 +95,7 @@ impl<S> Building<S> {
                 }
                 Part::Break(behind) => {
                     rest = behind;
-                    match self.close(cells) {
+                    match self.close_at_break(cells) {
                         Then::Item => {}
                         Then::Done => return Met::Whole(rest),
                         Then::Repeated(repeat) => return Met::Repeated(rest, repeat),
@@ -133,5 +132,19 @@ impl<S> Building<S> {
             }
         }
         Then::Done
+    }
+
+    // The same, at a break. It is a call, so that what ends a container stands in the loop once.
+    #[inline(never)]
+    fn close_at_break<'a>(&mut self, cells: &[Open]) -> Then
+    where
+        S: Sink<'a>,
+        requires cells { self.old.stack.height ≤ length cells.now }
+        requires filled { HasFilledIn S S.stands S.trusts (standing Open self.old.stack cells.now) self.old.sink }
+        ensures cells { self.new.stack.height ≤ length cells.now }
+        ensures leads { Leads S S.stands S.trusts result (standing Open self.old.stack cells.now) self.old.sink
+            (standing Open self.new.stack cells.now) self.new.sink }
+    {
+        self.close(cells)
     }
 }

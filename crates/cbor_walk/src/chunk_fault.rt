@@ -2,10 +2,9 @@
 
 ghost use Rattle.std.specs.Prelude.{◌<◌, ◌+◌, ◌^◌, length, IfSome};
 ghost use Rattle.cbor_walk.specs.inner.Parts.{chunked_from};
-ghost use Rattle.cbor_walk.specs.inner.Items.{AreChunksRefused};
+ghost use Rattle.cbor_walk.specs.inner.Faults.{AreChunksRefused};
 
-use crate::any_item::{refusal_at, string_fault};
-use crate::argument::read_argument;
+use cbor_front::{read_argument, refusal_at, string_fault};
 use cbor_head::{Reason, Refusal};
 
 /// The refusal of the string in chunks whose opener stands at this place of the input, before these

@@ -8,10 +8,10 @@ ghost use Rattle.cbor_walk.specs.inner.Building.{IsDueFor, TakesItem};
 ghost use Rattle.cbor_walk.specs.inner.Parts.{IsPayload, chunked_from};
 ghost use Rattle.cbor_walk.specs.inner.Parts.{TakesScalar, TakesHeadFront};
 
-use crate::argument::{Argument, read_argument};
 use crate::building::Building;
 use crate::part::Part;
 use crate::sink::Sink;
+use cbor_front::{Argument, read_argument};
 use cbor_text::is_text_front;
 
 impl<S> Building<S> {

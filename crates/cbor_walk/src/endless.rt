@@ -1,16 +1,16 @@
 //! What has no length: the openers of strings, arrays and maps, and the break that ends them.
 
 ghost use Rattle.std.specs.Prelude.{◌≤◌, ◌-◌, ◌∷◌, ℕ, length};
+ghost use Rattle.cbor_front.specs.Stack.{standing};
 ghost use Rattle.cbor_walk.specs.inner.Building.{IsDueIn, Takes};
 ghost use Rattle.cbor_walk.specs.inner.Parts.{TakesFront, Leaves, LeavesWithin};
 ghost use Rattle.cbor_walk.specs.declared.part.Part.{Part};
-ghost use Rattle.cbor_walk.specs.inner.Stack.{standing};
 
 use crate::building::Building;
-use crate::level::Due;
 use crate::open::Open;
 use crate::part::{Left, Part};
 use crate::sink::Sink;
+use cbor_front::Due;
 use cbor_head::Major;
 
 impl<S> Building<S> {

@@ -2,13 +2,10 @@
 
 ghost use Rattle.std.specs.Prelude.{◌≡◌, ◌<◌, ◌+◌, ◌^◌, true, false, length, IfSome};
 ghost use Rattle.cbor_head.specs.declared.keys.Keys.TheVariants as kinds;
-ghost use Rattle.cbor_walk.specs.inner.Items.{IsFault};
+ghost use Rattle.cbor_walk.specs.inner.Faults.{IsFault};
 
-use crate::any_item::{misplaced, refusal_at, string_fault};
-use crate::argument::read_argument;
 use crate::chunk_fault::chunks_fault;
-use crate::kinds::is_other_key;
-use crate::level::Due;
+use cbor_front::{Due, is_other_key, misplaced, read_argument, refusal_at, string_fault};
 use cbor_head::{Keys, Reason, Refusal};
 
 /// The refusal of what stands there, at this place of the input, where one more container may open

@@ -3,25 +3,23 @@
 ghost use Rattle.std.specs.Prelude.{◌≡◌, ◌≤◌, ◌^◌, ℕ, Bool, List, true, false, [], length, MatchResult};
 ghost use Rattle.cbor_head.specs.Limits.{Bounds};
 ghost use Rattle.cbor_judging.specs.Levels.{item_due};
+ghost use Rattle.cbor_judging.specs.PathKinds.{asks};
+ghost use Rattle.cbor_front.specs.declared.level.Due.TheVariants as due;
+ghost use Rattle.cbor_front.specs.Stack.{standing};
 ghost use Rattle.cbor_walk.specs.Front.{IsStop};
 ghost use Rattle.cbor_walk.specs.Sink.{IsKnownValid, IsGivenFront};
-ghost use Rattle.cbor_walk.specs.declared.level.Due.TheVariants as due;
 ghost use Rattle.cbor_walk.specs.inner.Building.{BeginsTaken, IsDue, Meets, HasPassed, IsStopWithin};
-ghost use Rattle.cbor_walk.specs.inner.Kept.{asks, KeepsBefore, MetKept};
+ghost use Rattle.cbor_walk.specs.inner.Kept.{KeepsBefore, MetKept};
 ghost use Rattle.cbor_walk.specs.inner.Open.{counted};
 ghost use Rattle.cbor_walk.specs.inner.Repeated.{IsKeyToldIn};
-ghost use Rattle.cbor_walk.specs.inner.Stack.{standing};
 
 use crate::building::{Building, Met};
-use crate::canonical::at_the_limit;
 use crate::fault::{fault, is_asked};
-use crate::level::Due;
 use crate::open::Open;
 use crate::repeated_key::{repeated_key, told_map};
 use crate::sink::Sink;
-use crate::stack::{FEW, MOST, SOME, Stack, lend};
-use crate::within::within;
 use cbor_builder::Repeat;
+use cbor_front::{Due, FEW, MOST, SOME, Stack, at_the_limit, lend, within};
 use cbor_head::{Keys, Limits, Reason, Refusal};
 
 /// Why a walk did not come to the item's end.

@@ -1,9 +1,10 @@
 //! What is still to come in an open container, with a length or without, and what stands behind its head.
 
 ghost use Rattle.std.specs.Prelude.{◌≡◌, ◌≢◌, Some, None, true, false};
-ghost use Rattle.cbor_walk.specs.inner.Open.{after, counted, endless, pairs};
+ghost use Rattle.cbor_front.specs.Due.{pairs};
+ghost use Rattle.cbor_walk.specs.inner.Open.{after, counted, endless};
 
-use crate::level::Due;
+use cbor_front::Due;
 
 /// An open container.
 #[derive(Clone, Copy)]

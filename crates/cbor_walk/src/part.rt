@@ -2,21 +2,19 @@
 
 ghost use Rattle.std.specs.Prelude.{◌≡◌, ◌≤◌, ◌-◌, true, length};
 ghost use Rattle.cbor_builder.specs.Built.{IsLeaf, IsContainer};
+ghost use Rattle.cbor_judging.specs.PathKinds.{IsFitFront};
+ghost use Rattle.cbor_front.specs.Stack.{standing};
 ghost use Rattle.cbor_walk.specs.inner.Building.{IsDueIn, Takes, IsHeadDue, IsHeadIn, TakesHead};
 ghost use Rattle.cbor_walk.specs.inner.Building.{IsOpenerDue, TakesOpener, TakesCounted};
 ghost use Rattle.cbor_walk.specs.inner.Building.{IsToEndFor, EndsItem};
 ghost use Rattle.cbor_walk.specs.inner.Parts.{IsItem, EndsBefore, Counts};
 ghost use Rattle.cbor_walk.specs.inner.Parts.{HasTaken, TakesFront, TakesHeadFront, TakesCountedFront, TakesOpenerFront};
 ghost use Rattle.cbor_walk.specs.inner.Parts.{left_of, Leaves, LeavesWithin};
-ghost use Rattle.cbor_walk.specs.inner.Kept.{IsFitFront};
-ghost use Rattle.cbor_walk.specs.inner.Stack.{standing};
 
-use crate::argument::read_argument;
 use crate::building::Building;
-use crate::kinds::is_other_key;
-use crate::level::Due;
 use crate::open::Open;
 use crate::sink::Sink;
+use cbor_front::{Due, is_other_key, read_argument};
 use cbor_head::Major;
 
 /// What was taken where an item was due, and the bytes behind it.

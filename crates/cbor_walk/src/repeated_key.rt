@@ -3,13 +3,13 @@
 ghost use Rattle.std.specs.Prelude.{◌≡◌, ◌≤◌, ℕ, List, length, take, IfSome};
 ghost use Rattle.cbor_head.specs.Complaint.{plain};
 ghost use Rattle.cbor_head.specs.Verdict.{IsVerdict, refused};
+ghost use Rattle.cbor_front.specs.Stack.{standing};
 ghost use Rattle.cbor_walk.specs.inner.OpenMaps.{FindsMap};
 ghost use Rattle.cbor_walk.specs.inner.Repeated.{IsKeyTold};
-ghost use Rattle.cbor_walk.specs.inner.Stack.{standing};
 
 use crate::open::Open;
 use crate::skip::past_items;
-use crate::stack::Stack;
+use cbor_front::Stack;
 use cbor_head::{Limits, Reason, Refusal};
 
 /// The refusal of a key that is the same as an earlier one, by how many bytes of the input stand

@@ -1,16 +1,15 @@
 //! Over items that are known to be valid, with nothing kept of them.
 
 ghost use Rattle.std.specs.Prelude.{◌≡◌, ◌<◌, ◌≤◌, ◌^◌, ℕ, suc, true, List, length, IfSome};
+ghost use Rattle.cbor_front.specs.Stack.{standing};
 ghost use Rattle.cbor_walk.specs.inner.Building.{IsDue, IsDueIn};
 ghost use Rattle.cbor_walk.specs.inner.Skip.{anywhere, anything, StandInFront, EndsItem, GoesTo};
-ghost use Rattle.cbor_walk.specs.inner.Stack.{standing};
 
 use crate::building::{Building, Met};
-use crate::level::Due;
 use crate::open::Open;
 use crate::sink::Sink;
-use crate::stack::{FEW, MOST, Stack, lend};
 use cbor_builder::Repeat;
+use cbor_front::{Due, FEW, MOST, Stack, lend};
 use cbor_head::Major;
 use std::alloc::AllocError;
 

@@ -6,8 +6,8 @@ use Rattle.cbor_head.specs.Spelling.{Spelling, spellings_count, entries_count}
 use Rattle.cbor_head.specs.declared.major.Major.TheVariants.{Array, Map, Tag}
 use Rattle.cbor_head.specs.declared.width.Width.TheVariants.{Indefinite}
 use Rattle.cbor_judging.specs.Levels.{Level, a_member, a_key, a_value, some_member, some_key, some_value, tagged, bytes_before}
-use Rattle.cbor_walk.specs.declared.level.Due.{Due}
-use Rattle.cbor_walk.specs.declared.level.Due.TheVariants.{Item, Key, Value}
+use Rattle.cbor_front.specs.declared.level.Due.{Due}
+use Rattle.cbor_front.specs.declared.level.Due.TheVariants.{Item, Key, Value}
 use Rattle.cbor_walk.specs.declared.open.Open.{Open}
 
 abbrev pub counted : Due → ℕ → ℕ → Open
@@ -80,17 +80,3 @@ after_due Value c = after_member (record c { due = Key })
 -- behind an item
 abbrev pub after : Open → Option Open
 after c = after_due c.due c
-
--- ---- what is due
-
--- a key is due
-abbrev pub awaits : Due → Bool
-awaits Key = true
-awaits Item = false
-awaits Value = false
-
--- a key, or its value
-abbrev pub pairs : Due → Bool
-pairs Item = false
-pairs Key = true
-pairs Value = true

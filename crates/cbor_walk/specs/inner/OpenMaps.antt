@@ -2,9 +2,10 @@
 use Rattle.std.specs.Prelude.{ℕ, suc, ◌≡◌, ◌-◌, Bool, true, false, Option, Some, List, [], ◌∷◌, ◌++◌, length}
 use Rattle.cbor_head.specs.Spelling.{Spelling, a_map}
 use Rattle.cbor_judging.specs.Levels.{Level, a_member, a_key, a_value, some_member, some_key, some_value, tagged, ArePairsTaken, bytes_before}
+use Rattle.cbor_front.specs.Due.{pairs}
 use Rattle.cbor_walk.specs.declared.open.Open.{Open}
 use Rattle.cbor_walk.specs.Sink.{is_map}
-use Rattle.cbor_walk.specs.inner.Open.{pairs, full_opener}
+use Rattle.cbor_walk.specs.inner.Open.{full_opener}
 
 -- the keys and values of a map are taken; two keys may be the same
 abbrev pub HasTakenPairs : ℕ → Spelling → Type 0

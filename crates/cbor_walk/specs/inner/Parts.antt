@@ -9,8 +9,8 @@ use Rattle.cbor_head.specs.declared.width.Width.TheVariants.{Indefinite}
 use Rattle.cbor_judging.specs.Kinds.{IsOfOneHead}
 use Rattle.cbor_judging.specs.Levels.{Level, IsLevel, level_bytes}
 use Rattle.cbor_judging.specs.Reading.{string_major}
-use Rattle.cbor_walk.specs.declared.level.Due.{Due}
-use Rattle.cbor_walk.specs.declared.level.Due.TheVariants.{Item, Key, Value}
+use Rattle.cbor_front.specs.declared.level.Due.{Due}
+use Rattle.cbor_front.specs.declared.level.Due.TheVariants.{Item, Key, Value}
 use Rattle.cbor_walk.specs.declared.open.Open.{Open}
 use Rattle.cbor_walk.specs.declared.part.Part.{Part}
 use Rattle.cbor_walk.specs.declared.part.Left.{Left}

@@ -1,7 +1,7 @@
 use Rattle.std.proofs.Common.{◌∙◌, nat_eq, not, refl, arith}
+use Rattle.cbor_front.specs.Stack.{standing}
 use Rattle.cbor_walk.specs.declared.building.Met.TheVariants as met
 use Rattle.cbor_walk.specs.declared.open.Open.{Open}
-use Rattle.cbor_walk.specs.inner.Stack.{standing}
 use Rattle.cbor_walk.proofs.GivenStops.{lent, walk-met}
 use Rattle.cbor_walk.proofs.front.deeper.Goals as goal
 

@@ -1,6 +1,6 @@
 use Rattle.std.proofs.Common.{◌∙◌, ℕ, nat_lt, refl, sym, ap, subst, arith, inl}
 use Rattle.cbor_keys.proofs.KeyFronts.{are_bytes}
-use Rattle.cbor_walk.specs.inner.Stop.{IsAnswered}
+use Rattle.cbor_judging.specs.Stop.{IsAnswered}
 use Rattle.cbor_walk.proofs.GivenStops.{StopsBefore, stopped-there}
 use Rattle.cbor_walk.proofs.ToldStops.{told_where_due, told_at_end}
 use Rattle.cbor_walk.proofs.front.stopped.Goals as goal

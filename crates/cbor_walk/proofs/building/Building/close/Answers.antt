@@ -1,13 +1,13 @@
 use Rattle.std.proofs.Common.{List, sym, ap, subst, arith, refl}
 use Rattle.std.specs.Option.{is_some}
 use Rattle.std.specs.Prelude.{IfSome}
+use Rattle.cbor_front.specs.Stack.{around, standing}
+use Rattle.cbor_front.proofs.Stacks.{standing_count}
 use Rattle.cbor_walk.specs.Sink.{Repeats}
 use Rattle.cbor_walk.specs.declared.open.Open.{Open}
 use Rattle.cbor_walk.specs.inner.Building.{HasEnded, HasFilledIn}
-use Rattle.cbor_walk.specs.inner.Stack.{around, standing}
 use Rattle.cbor_walk.proofs.GivenFull.{filled-full, full-asked, full-ended, full-repeats}
 use Rattle.cbor_walk.proofs.GivenEnds.{goes, is-full}
-use Rattle.cbor_walk.proofs.Taking.{standing_count}
 use Rattle.cbor_walk.proofs.building.Building.close.Goals as goal
 
 pub end-requires : goal.end-requires

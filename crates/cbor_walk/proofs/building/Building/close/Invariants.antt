@@ -1,6 +1,6 @@
 use Rattle.std.proofs.Common.{ℕ, ◌≤◌, List, length}
+use Rattle.cbor_front.specs.Stack.{standing}
 use Rattle.cbor_walk.specs.inner.Building.{HasFilled}
-use Rattle.cbor_walk.specs.inner.Stack.{standing}
 use Rattle.cbor_walk.specs.declared.open.Open.{Open}
 use Rattle.cbor_walk.proofs.building.Building.close.Given as goal
 

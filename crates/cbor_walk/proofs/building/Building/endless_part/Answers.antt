@@ -1,9 +1,9 @@
 use Rattle.std.proofs.Common.{ℕ, ◌-◌, ◌<◌, ◌∷◌, length, sym, subst, arith, refl}
 use Rattle.cbor_head.specs.declared.major.Major.TheVariants.{Array, Map}
+use Rattle.cbor_front.specs.Stack.{around, standing}
 use Rattle.cbor_walk.specs.declared.open.Open.{Open}
 use Rattle.cbor_walk.specs.inner.Building.{IsDue, IsDueIn, TakesTo}
 use Rattle.cbor_walk.specs.inner.Parts.{IsOpener, TakesFront}
-use Rattle.cbor_walk.specs.inner.Stack.{around, standing}
 use Rattle.cbor_walk.proofs.GivenEnds.{break-ends}
 use Rattle.cbor_walk.proofs.GivenItems.{array-opens, map-opens}
 use Rattle.cbor_walk.proofs.building.Building.endless_part.Goals as goal

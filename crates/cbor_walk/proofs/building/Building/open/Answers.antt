@@ -1,10 +1,10 @@
 use Rattle.std.proofs.Common.{◌∙◌, ◌-◌, ◌<◌, List, length, sym, subst, arith, refl}
+use Rattle.cbor_front.specs.Stack.{around, standing}
+use Rattle.cbor_front.proofs.Stacks.{standing_count}
 use Rattle.cbor_walk.specs.declared.open.Open.{Open}
 use Rattle.cbor_walk.specs.inner.Building.{IsOpenerDue, IsDue}
-use Rattle.cbor_walk.specs.inner.Stack.{around, standing}
 use Rattle.cbor_walk.proofs.GivenKinds.{opener-begun}
 use Rattle.cbor_walk.proofs.GivenParts.{due-item, key-awaited, height-is, opened}
-use Rattle.cbor_walk.proofs.Taking.{standing_count}
 use Rattle.cbor_walk.proofs.building.Building.open.Goals as goal
 
 pub begin-requires : goal.begin-requires

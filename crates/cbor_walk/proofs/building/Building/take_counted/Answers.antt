@@ -1,13 +1,13 @@
 use Rattle.std.proofs.Common.{◌∙◌, ◌-◌, ◌<◌, Bool, length, sym, subst, arith, refl}
+use Rattle.cbor_front.specs.Stack.{around, standing}
+use Rattle.cbor_front.proofs.Stacks.{standing_count}
 use Rattle.cbor_walk.specs.declared.open.Open.{Open}
 use Rattle.cbor_walk.specs.inner.Building.{IsHeadIn, IsToEnd, TakesTo}
 use Rattle.cbor_walk.specs.inner.Parts.{IsOpener}
-use Rattle.cbor_walk.specs.inner.Stack.{around, standing}
 use Rattle.cbor_walk.proofs.GivenItems.{counts-container, head-opens}
 use Rattle.cbor_walk.proofs.GivenKinds.{counted-begun, begun-takes}
 use Rattle.cbor_walk.proofs.GivenFull.{ends-takes}
 use Rattle.cbor_walk.proofs.GivenParts.{due-item, key-awaited, height-is, empty-ends}
-use Rattle.cbor_walk.proofs.Taking.{standing_count}
 use Rattle.cbor_walk.proofs.building.Building.take_counted.Goals as goal
 
 pub open-requires : goal.open-requires

@@ -1,7 +1,7 @@
 use Rattle.std.proofs.Common.{refl}
+use Rattle.cbor_front.specs.Stack.{around, standing}
 use Rattle.cbor_walk.specs.declared.open.Open.{Open}
 use Rattle.cbor_walk.specs.inner.Building.{IsDueIn}
-use Rattle.cbor_walk.specs.inner.Stack.{around, standing}
 use Rattle.cbor_walk.proofs.GivenEnds.{goes, is-full}
 use Rattle.cbor_walk.proofs.GivenKinds.{begun-keeps, broken-keeps}
 use Rattle.cbor_walk.proofs.building.Building.walk.Goals as goal
@@ -93,8 +93,8 @@ returns-in-Repeated-clause-kept g c = λ kinds keys start input due keeps.
 
 -- ---- a break
 
-pub close-requires-in-Break : goal.close-requires-in-Break
-close-requires-in-Break g c =
+pub close_at_break-requires : goal.close_at_break-requires
+close_at_break-requires g c =
     let (start, input, due) : IsDueIn g.row.S.Denot g.S.Sink.stands g.S.Sink.trusts c.args.depth (standing Open c.args.self.now.stack c.args.cells.now) c.args.self.now.sink c.args.start.now = c.requires.due in
     λ n. ((refl, tt), (c.in-Break.ensures.cells, (start, c.args.depth, input, c.in-Break.behind.now, (c.in-Break.ensures.takes start input (c.parts.invariant.due start input due)).1)))
 
@@ -108,26 +108,26 @@ parts-preserved g c =
     let p = c.parts in
     let before = p.invariant in
     record {
-      cells = c.in-Item-close-2.ensures.cells;
-      due = λ start input due. c.in-Item-close-2.ensures.leads start c.args.depth input c.in-Break.behind.now (c.in-Break.ensures.takes start input (before.due start input due)).1;
+      cells = c.in-Item-close_at_break.ensures.cells;
+      due = λ start input due. c.in-Item-close_at_break.ensures.leads start c.args.depth input c.in-Break.behind.now (c.in-Break.ensures.takes start input (before.due start input due)).1;
       kept = λ kinds keys start input due keeps.
           broken-keeps g.row.S.Denot g.S.Sink.stands g.S.Sink.trusts start c.args.depth input keys p.self.stack.top (around Open p.self.stack p.cells) p.self.sink p.rest.now c.in-Break.behind.now (before.due start input due) c.in-Break.ensures.front
           (before.kept kinds keys start input due keeps);
     }
 
-pub returns-in-Done-close-clause-kept : goal.returns-in-Done-close-clause-kept
-returns-in-Done-close-clause-kept g c = λ kinds keys start input due keeps.
+pub returns-in-Done-close_at_break-clause-kept : goal.returns-in-Done-close_at_break-clause-kept
+returns-in-Done-close_at_break-clause-kept g c = λ kinds keys start input due keeps.
     let p = c.parts in
     let before = p.invariant in
     broken-keeps g.row.S.Denot g.S.Sink.stands g.S.Sink.trusts start c.args.depth input keys p.self.stack.top (around Open p.self.stack p.cells) p.self.sink p.rest.now c.in-Break.behind.now (before.due start input due) c.in-Break.ensures.front
     (before.kept kinds keys start input due keeps)
 
-pub returns-in-Repeated-close-clause-kept : goal.returns-in-Repeated-close-clause-kept
-returns-in-Repeated-close-clause-kept g c = λ kinds keys start input due keeps.
+pub returns-in-Repeated-close_at_break-clause-kept : goal.returns-in-Repeated-close_at_break-clause-kept
+returns-in-Repeated-close_at_break-clause-kept g c = λ kinds keys start input due keeps.
     let p = c.parts in
     let before = p.invariant in
     broken-keeps g.row.S.Denot g.S.Sink.stands g.S.Sink.trusts start c.args.depth input keys p.self.stack.top (around Open p.self.stack p.cells) p.self.sink p.rest.now c.in-Break.behind.now (before.due start input due) c.in-Break.ensures.front
     (before.kept kinds keys start input due keeps)
 
-pub returns-in-Repeated-close-clause-walked : goal.returns-in-Repeated-close-clause-walked
-returns-in-Repeated-close-clause-walked g c = λ start input due. c.in-Repeated-close.ensures.leads start c.args.depth input c.in-Break.behind.now (c.in-Break.ensures.takes start input (c.parts.invariant.due start input due)).1
+pub returns-in-Repeated-close_at_break-clause-walked : goal.returns-in-Repeated-close_at_break-clause-walked
+returns-in-Repeated-close_at_break-clause-walked g c = λ start input due. c.in-Repeated-close_at_break.ensures.leads start c.args.depth input c.in-Break.behind.now (c.in-Break.ensures.takes start input (c.parts.invariant.due start input due)).1

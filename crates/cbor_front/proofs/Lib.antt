@@ -1,0 +1,10 @@
+pub mod AnyItem
+pub mod AnyRefusals
+pub mod CanonicalStops
+pub mod CellSteps
+pub mod KeyOrder
+pub mod OtherKeys
+pub mod ShortHeads
+pub mod ShortLeaves
+pub mod Stacks
+pub mod Taking

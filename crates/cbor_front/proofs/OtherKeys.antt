@@ -1,0 +1,46 @@
+-- The refusal of a key of another kind than is asked for, where the walk stands.
+use Rattle.std.proofs.Common.{◌≡◌, ℕ, ◌+◌, ◌≤◌, nat_lt, Bool, true, Option, Some, None, List, [], ◌∷◌, ◌++◌, length, drop, get_or, refl, sym, ap, ◌∙◌, subst}
+use Rattle.std.specs.Prelude.{MatchOption}
+use Rattle.std.specs.Option.{unwrap_or}
+use Rattle.cbor_head.specs.Complaint.{strict}
+use Rattle.cbor_head.specs.Limits.{Bounds}
+use Rattle.cbor_head.specs.Value.{AreBytes}
+use Rattle.cbor_head.specs.Verdict.{refusal}
+use Rattle.cbor_head.specs.declared.keys.Keys.{Keys}
+use Rattle.cbor_head.specs.declared.keys.Keys.TheVariants.{Any, IntegersAndTexts}
+use Rattle.cbor_head.specs.declared.order.KeyOrder.{KeyOrder}
+use Rattle.cbor_head.specs.declared.reason.Reason.{Reason}
+use Rattle.cbor_head.specs.declared.reason.Reason.TheVariants.{KeyKind}
+use Rattle.cbor_judging.specs.RefusedHere.{MayBegin, IsMisplaced, IsPlaceFor}
+use Rattle.cbor_judging.specs.PathKinds.{asks, IsOtherFront}
+use Rattle.cbor_judging.specs.Path.{bytes_before}
+use Rattle.cbor_judging.specs.Stop.{IsStopped}
+use Rattle.cbor_judging.proofs.RefusedHere.{no_break, misplaced_stops}
+use Rattle.cbor_judging.proofs.OtherKeys.{kind_refused}
+use Rattle.cbor_front.specs.declared.level.Due.TheVariants.{Key}
+use Rattle.cbor_front.specs.declared.level.Level as cell
+use Rattle.cbor_front.specs.declared.stack.Stack.{Stack}
+use Rattle.cbor_front.specs.inner.Cells.{StandsAt}
+use Rattle.cbor_front.specs.Stack.{around, standing}
+use Rattle.cbor_front.proofs.Taking.{whole_is, place_for, key_due}
+
+pub asked_of : (keys : Keys) → asks keys ≡ true → keys ≡ IntegersAndTexts
+asked_of Any e = absurd (cc e)
+asked_of IntegersAndTexts e = refl
+
+pub other_key_stops : (o : KeyOrder) (limits : Bounds) (d : ℕ) (input : List ℕ) (k : Stack cell.Level) (cells : List cell.Level) (at : ℕ) → StandsAt o limits input (standing cell.Level k cells) at → k.height ≤ length cells → limits.depth ≡ d
+    → limits.keys ≡ IntegersAndTexts → k.top.due ≡ Key → AreBytes input → (rest : List ℕ) → rest ≡ drop at input → IsOtherFront rest
+    → (found : Option Reason) → MatchOption found (MayBegin (get_or rest 0 0) (nat_lt k.height d)) (IsMisplaced (get_or rest 0 0) (nat_lt k.height d)) → IsStopped (strict o) limits input (refusal (unwrap_or found KeyKind) at (at + 1))
+other_key_stops o limits d input k cells at s low e asked due are [] is other found h = absurd other
+other_key_stops o limits d input k cells at s low e asked due are (first ∷ behind) is other found h =
+    let whole : input ≡ bytes_before s.ls ++ first ∷ behind = whole_is o limits input (standing cell.Level k cells) at s ∙ ap (λ (x : List ℕ). bytes_before s.ls ++ x) (sym is) in
+    subst (λ (x : List ℕ). IsStopped (strict o) limits x (refusal (unwrap_or found KeyKind) at (at + 1))) (sym whole)
+    (go (place_for o limits d input k cells at s low e) (subst AreBytes whole are) found h)
+  where
+    room : Bool
+    room = nat_lt k.height d
+
+    go : IsPlaceFor room limits.depth s.ls at → AreBytes (bytes_before s.ls ++ first ∷ behind) → (found : Option Reason) → MatchOption found (MayBegin first room) (IsMisplaced first room)
+        → IsStopped (strict o) limits (bytes_before s.ls ++ first ∷ behind) (refusal (unwrap_or found KeyKind) at (at + 1))
+    go place all None h = kind_refused room first behind at h other (strict o) refl limits s.ls s.clean s.keeps asked (key_due input s.ls k.top (around cell.Level k cells) s.are due) place all
+    go place all (Some reason) h = misplaced_stops (strict o) room first behind at reason h limits s.ls s.clean (λ e. no_break o limits.depth s.ls s.clean) s.keeps place all

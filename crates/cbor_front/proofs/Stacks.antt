@@ -1,0 +1,14 @@
+-- How many containers are open in a stack, and the same in other cells.
+use Rattle.std.proofs.Common.{◌≡◌, ℕ, suc, ◌≤◌, List, ◌∷◌, length, take, sym, ap, ◌∙◌}
+use Rattle.std.specs.Prelude.{reverse}
+use Rattle.std.proofs.Math.Seq.{take-length}
+use Rattle.std.proofs.lemmas.List.{length-reverse, length-take-le}
+use Rattle.cbor_front.specs.Stack.{standing}
+use Rattle.cbor_front.specs.declared.stack.Stack.{Stack}
+
+pub standing_count : (L : Type 0) (s : Stack L) (cells : List L) → s.height ≤ length cells → length (standing L s cells) ≡ suc s.height
+standing_count L s cells l = ap suc (length-reverse (take s.height cells) ∙ length-take-le s.height cells l)
+
+-- the same levels in other cells
+pub more_cells : (L : Type 0) (k : Stack L) (few more : List L) → k.height ≡ length few → take (length few) more ≡ few → standing L k few ≡ standing L k more
+more_cells L k few more h e = ap (λ (x : List L). k.top ∷ reverse x) (ap (λ (n : ℕ). take n few) h ∙ take-length few ∙ sym e ∙ ap (λ (n : ℕ). take n more) (sym h))

@@ -1,0 +1,11 @@
+use Rattle.std.proofs.Common.{inl}
+use Rattle.cbor_front.proofs.Taking.{in_more_cells}
+use Rattle.cbor_front.proofs.canonical.deeper.Goals as goal
+
+pub returns-in-Refused-clause-refused : goal.returns-in-Refused-clause-refused
+returns-in-Refused-clause-refused g c =
+    inl (c.in-Refused.ensures (in_more_cells c.args.order c.args.limits c.args.input.now c.args.stack c.args.few.now c.lend.new.cells c.args.at c.requires.full.stands c.requires.full.height c.lend.ensures))
+
+pub returns-in-Falls-clause-refused : goal.returns-in-Falls-clause-refused
+returns-in-Falls-clause-refused g c =
+    c.key_falls.ensures c.args.order c.args.limits (c.in-Falls.ensures (in_more_cells c.args.order c.args.limits c.args.input.now c.args.stack c.args.few.now c.lend.new.cells c.args.at c.requires.full.stands c.requires.full.height c.lend.ensures))

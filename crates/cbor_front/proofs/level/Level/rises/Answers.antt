@@ -1,0 +1,16 @@
+use Rattle.std.proofs.Common.{◌≡◌, nat_lt, sym, subst, arith}
+use Rattle.cbor_head.specs.Order.{key_lt}
+use Rattle.cbor_keys.proofs.KeyFronts.{are_bytes, bytes_slice}
+use Rattle.cbor_front.specs.inner.Cells.{last_key, key_at}
+use Rattle.cbor_front.proofs.KeyOrder.{by_front}
+use Rattle.cbor_front.proofs.level.Level.rises.Goals as goal
+
+pub returns-then-self-front : goal.returns-then-self-front
+returns-then-self-front c = λ f.
+    let input = c.args.input.now in
+    let self = c.args.self.now in
+    let all = are_bytes input (λ i. omega (arith, c.type_inv.input i)) in
+    let last = last_key input self in
+    let key = key_at input self c.args.at in
+    subst (λ o. nat_lt self.front c.args.front ≡ key_lt o last key) (sym c.in-Bytewise.is)
+    (by_front self.front c.args.front last key (bytes_slice input self.last self.last_end all) (bytes_slice input self.key c.args.at all) f c.requires c.if-self-front.true)

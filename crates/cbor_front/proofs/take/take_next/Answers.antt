@@ -1,0 +1,42 @@
+use Rattle.std.proofs.Common.{◌+◌, ◌<◌, ℕ, false, true≢false, List, ◌∷◌, length, drop, sym, ap, ◌∙◌, subst, arith}
+use Rattle.cbor_head.specs.Complaint.{strict}
+use Rattle.cbor_judging.specs.PathKinds.{asks, KeepsHere}
+use Rattle.cbor_front.specs.inner.Leaves.{IsLeaf}
+use Rattle.cbor_front.specs.inner.Items.{IsFit, OpensWith}
+use Rattle.cbor_front.specs.inner.Cells.{StandsAt}
+use Rattle.cbor_front.specs.Stack.{around, standing}
+use Rattle.cbor_front.specs.declared.level.Level.{Level}
+use Rattle.cbor_front.proofs.Taking.{leaf_ends, opener_opens, height_is, fit_here}
+use Rattle.cbor_front.proofs.take.take_next.Goals as goal
+
+pub returns-in-Item-clause-takes : goal.returns-in-Item-clause-takes
+returns-in-Item-clause-takes g c =
+    let k = c.args.stack.now in
+    let cells = c.args.cells.now in
+    let used = c.in-Item.used in
+    let leaf : IsLeaf false c.args.rest.now used = c.in-Item.ensures.front.1 in (
+      (c.in-Item.ensures.front.0, leaf.inside),
+      λ o limits input asked deep e are s.
+          let fit : IsFit limits k.top.due c.args.rest.now = λ kinds due. c.in-Item.ensures.fits tt (sym asked ∙ ap asks kinds) due in
+          leaf_ends o limits input (standing Level k cells) c.args.at s false used (subst (λ (x : List ℕ). IsLeaf false x used) e leaf) (λ r. absurd (true≢false (sym r)))
+          (subst (KeepsHere limits (strict o) s.ls) e (fit_here o limits input k.top (around Level k cells) c.args.at s c.args.rest.now fit)),
+    )
+
+pub returns-then-stack-cells-clause-takes : goal.returns-then-stack-cells-clause-takes
+returns-then-stack-cells-clause-takes g c =
+    let k = c.args.stack.now in
+    let cells = c.args.cells.now in
+    let d = c.args.depth in
+    let due = c.in-Opens.due in
+    let left = c.in-Opens.left in
+    let used = c.in-Opens.used in
+    let h : OpensWith due left used c.args.rest.now = c.in-Opens.ensures.front in (
+      (h.some, h.inside),
+      λ o limits input asked deep e are s.
+          let fit : IsFit limits k.top.due c.args.rest.now = λ kinds due. c.in-Opens.ensures.fits tt (sym asked ∙ ap asks kinds) due in
+          let cs = standing Level k cells in
+          let room : length s.ls < limits.depth = omega (arith, c.if-stack-depth.true, deep, height_is o limits input k cells c.args.at s c.requires.cells) in
+          let here : OpensWith due left used (drop c.args.at input) = subst (OpensWith due left used) e h in
+          subst (λ (x : List Level). StandsAt o limits input x (c.args.at + used)) (sym (c.push.ensures.levels ∙ ap (λ (l : Level). l ∷ cs) c.new.ensures))
+          (opener_opens o limits input cs c.args.at s used here.inside room (subst (KeepsHere limits (strict o) s.ls) e (fit_here o limits input k.top (around Level k cells) c.args.at s c.args.rest.now fit)) due left here.opener),
+    )

@@ -1,0 +1,16 @@
+use Rattle.std.proofs.Common.{◌-◌, ◌≤◌, length}
+use Rattle.cbor_front.specs.inner.Cells.{StandsAt}
+use Rattle.cbor_front.specs.Stack.{standing}
+use Rattle.cbor_front.specs.declared.level.Level.{Level}
+use Rattle.cbor_front.proofs.walk.walk.Given as goal
+
+abbrev pub invariant-items : goal.invariant-items
+invariant-items g l = record {
+  inside : l.at ≤ length l.input;
+  cells : l.stack.height ≤ length l.cells;
+  depth : l.stack.height ≤ l.depth;
+  stands : StandsAt l.order l.fn.limits l.input (standing Level l.fn.stack l.fn.cells) l.start → StandsAt l.order l.fn.limits l.input (standing Level l.stack l.cells) l.at;
+}
+
+abbrev pub decreases-items : goal.decreases-items
+decreases-items g l = length l.input - l.at

@@ -1,0 +1,5 @@
+pub mod Due
+pub mod NotCanonical
+pub mod Stack
+pub mod Strings
+pub mod inner

@@ -1,0 +1,43 @@
+-- What a walk takes, and how it ends.
+use Rattle.std.specs.Prelude.{◌≡◌, ℕ, ◌+◌, ◌<◌, ◌≤◌, Bool, List, length, drop}
+use Rattle.cbor_head.specs.Complaint.{strict}
+use Rattle.cbor_head.specs.Limits.{Bounds}
+use Rattle.cbor_head.specs.Value.{AreBytes}
+use Rattle.cbor_head.specs.declared.order.KeyOrder.{KeyOrder}
+use Rattle.cbor_judging.specs.PathKinds.{asks}
+use Rattle.cbor_judging.specs.Stop.{IsStopped}
+use Rattle.cbor_front.specs.inner.Cells.{StandsAt, HasEndedAt, IsWhole, IsKeyRefused}
+use Rattle.cbor_front.specs.Stack.{standing}
+use Rattle.cbor_front.specs.declared.level.Level.{Level}
+use Rattle.cbor_front.specs.declared.stack.Stack.{Stack}
+use Rattle.cbor_front.specs.declared.take.Taken.{Taken}
+use Rattle.cbor_front.specs.declared.take.Taken.TheVariants as taken
+use Rattle.cbor_front.specs.declared.walk.Walked.{Walked}
+use Rattle.cbor_front.specs.declared.walk.Walked.TheVariants as walked
+
+-- wherever an item was due before these bytes, within limits that ask for kinds of keys or not, so it stands now
+abbrev pub FromDue : (KeyOrder → Bounds → List ℕ → Type 0) → Bool → ℕ → List ℕ → ℕ → Stack Level → List Level → Type 0
+FromDue P kinds d rest at old cells =
+    (o : KeyOrder) (limits : Bounds) (input : List ℕ) → asks limits.keys ≡ kinds → limits.depth ≡ d → rest ≡ drop at input → AreBytes input → StandsAt o limits input (standing Level old cells) at → P o limits input
+
+-- the bytes, at least one, are there
+abbrev pub IsFront : ℕ → List ℕ → Type 0
+IsFront used rest = (0 < used) × (used ≤ length rest)
+
+abbrev pub Takes : Taken → Bool → ℕ → List ℕ → ℕ → Stack Level → List Level → Stack Level → List Level → Type 0
+Takes (taken.Head used) kinds d rest at old cells new now = IsFront used rest × FromDue (λ o limits input. StandsAt o limits input (standing Level new now) (at + used)) kinds d rest at old cells
+Takes (taken.Item used) kinds d rest at old cells new now = IsFront used rest × FromDue (λ o limits input. HasEndedAt o limits input (standing Level new now) (at + used)) kinds d rest at old cells
+Takes (taken.Refused f) kinds d rest at old cells new now = FromDue (λ o limits input. IsStopped (strict o) limits input f) kinds d rest at old cells
+Takes taken.Full kinds d rest at old cells new now = (new ≡ old) × (now ≡ cells) × (new.height ≡ length now) × (new.height < d)
+
+-- an item is due there, and all cells are in use, but not all levels that there may be
+pub record IsFull (o : KeyOrder) (limits : Bounds) (input : List ℕ) (stack : Stack Level) (cells : List Level) (at : ℕ) : Type 0 where
+  pub stands : StandsAt o limits input (standing Level stack cells) at
+  pub height : stack.height ≡ length cells
+  pub more : stack.height < limits.depth
+
+abbrev pub IsWalked : KeyOrder → Bounds → List ℕ → Stack Level → List Level → Walked → Type 0
+IsWalked o limits input stack cells (walked.Whole at) = IsWhole o limits input at
+IsWalked o limits input stack cells (walked.Refused f) = IsStopped (strict o) limits input f
+IsWalked o limits input stack cells (walked.Falls f) = IsKeyRefused o limits input stack.top f
+IsWalked o limits input stack cells (walked.Full at) = IsFull o limits input stack cells at

@@ -1,0 +1,161 @@
+//! The canonical item at the front of a slice.
+
+ghost use Rattle.std.specs.Prelude.{◌≡◌, ◌≤◌, IfOk, IfErr, IfSome, MatchResult, length};
+ghost use Rattle.cbor_head.specs.Complaint.{strict};
+ghost use Rattle.cbor_judging.specs.Readers.{IsRead};
+ghost use Rattle.cbor_judging.specs.PathKinds.{asks};
+ghost use Rattle.cbor_judging.specs.Stop.{IsRefused};
+ghost use Rattle.cbor_front.specs.NotCanonical.{IsNotCanonical};
+ghost use Rattle.cbor_front.specs.inner.Cells.{IsWhole};
+ghost use Rattle.cbor_front.specs.inner.Walked.{IsFull};
+
+use crate::any_item::{Any, any_item};
+use crate::level::{Due, Level};
+use crate::limit::{at_the_limit, within};
+use crate::stack::{FEW, MOST, SOME, Stack, lend};
+use crate::walk::{Walked, key_falls, walk};
+use cbor_head::{KeyOrder, Keys, Limits, Refusal};
+
+/// How many bytes the item has that the slice begins with, where they are its canonical bytes in
+/// this order (RFC 8949, sections 4.2.1 and 4.2.3); else the refusal that the bytes within the limits
+/// call for, by the rules of the deterministic encoding: but a key that is the same as the one before
+/// it is a `RepeatedKey`.
+///
+/// It goes over the bytes once, without recursion, and takes no memory. It is part of what asks for
+/// it, so that no answer is copied.
+#[inline(always)]
+pub fn canonical_front(bytes: &[u8], limits: Limits, order: KeyOrder) -> Result<u64, Refusal>
+    ensures { MatchResult result
+        (λ count. IsRead limits (strict order) bytes.now count)
+        (IsNotCanonical limits order bytes.now) }
+{
+    let input = within(bytes, limits.bytes());
+    let front = match limits.keys() {
+        Keys::Any => whole_front::<false>(input, limits, order),
+        Keys::IntegersAndTexts => whole_front::<true>(input, limits, order),
+    };
+    match front {
+        Ok(count) => Ok(count as u64),
+        Err(refusal) => Err(at_the_limit(refusal, input, limits.bytes())),
+    }
+}
+
+// The same of all of an input, at whose end an item is `Truncated`.
+#[inline(always)]
+fn whole_front<const KINDS: bool>(
+    input: &[u8],
+    limits: Limits,
+    order: KeyOrder,
+) -> Result<usize, Refusal>
+    requires { asks limits.keys ≡ KINDS }
+    ensures whole { IfOk result (IsWhole order limits input.now) }
+    ensures refused { IfErr result (IsRefused order limits input.now) }
+{
+    // An item that is no container wants no cells.
+    if !begins_container(input) {
+        match any_item(input, 0, limits.depth() > 0) {
+            Any::Leaf(used) => return Ok(used),
+            Any::Refused(refusal) => return Err(refusal),
+            Any::Opens(..) => {}
+        }
+    }
+    let level = Level::new(Due::Item, 0, 0);
+    let mut cells = [level; FEW];
+    let mut stack = Stack::new(level);
+    match walk::<KINDS>(input, 0, &mut cells, &mut stack, limits, order) {
+        Walked::Whole(at) => Ok(at),
+        Walked::Refused(refusal) => Err(refusal),
+        Walked::Falls(refusal) => Err(key_falls(input, &stack.top, refusal)),
+        Walked::Full(at) => with_more_cells::<KINDS>(input, at, &cells, stack, limits, order),
+    }
+}
+
+// Whether the first byte is the whole head of an array, a map or a tag.
+#[inline(always)]
+fn begins_container(input: &[u8]) -> bool {
+    match input.first() {
+        Some(first) => *first >= 0x80 && *first < 0xe0 && *first % 32 < 24,
+        None => false,
+    }
+}
+
+// The same, from the place where the cells are too few. It is apart, so that no room is made for what
+// it calls where they are not.
+#[cold]
+#[inline(never)]
+fn with_more_cells<const KINDS: bool>(
+    input: &[u8],
+    at: usize,
+    few: &[Level],
+    stack: Stack<Level>,
+    limits: Limits,
+    order: KeyOrder,
+) -> Result<usize, Refusal>
+    requires kinds { asks limits.keys ≡ KINDS }
+    requires full { IsFull order limits input.now stack few.now at }
+    requires few { length few.now ≤ SOME }
+    ensures whole { IfOk result (IsWhole order limits input.now) }
+    ensures refused { IfErr result (IsRefused order limits input.now) }
+{
+    match deeper::<KINDS>(input, at, few, stack, limits, order) {
+        Some(front) => front,
+        None => deepest::<KINDS>(input, at, few, stack, limits, order),
+    }
+}
+
+// The same, from the place where the cells are too few; none where these are too few, too. Then it is
+// left before more cells are made, so that all of them have room on a small stack, and what it went
+// over is gone over once more.
+#[inline(never)]
+fn deeper<const KINDS: bool>(
+    input: &[u8],
+    at: usize,
+    few: &[Level],
+    stack: Stack<Level>,
+    limits: Limits,
+    order: KeyOrder,
+) -> Option<Result<usize, Refusal>>
+    requires kinds { asks limits.keys ≡ KINDS }
+    requires full { IsFull order limits input.now stack few.now at }
+    requires few { length few.now ≤ SOME }
+    ensures whole { IfSome result (λ front. IfOk front (IsWhole order limits input.now)) }
+    ensures refused { IfSome result
+        (λ front. IfErr front (IsRefused order limits input.now)) }
+{
+    let mut cells = [Level::new(Due::Item, 0, 0); SOME];
+    lend(few, &mut cells);
+    let mut stack = stack;
+    match walk::<KINDS>(input, at, &mut cells, &mut stack, limits, order) {
+        Walked::Whole(at) => Some(Ok(at)),
+        Walked::Refused(refusal) => Some(Err(refusal)),
+        Walked::Falls(refusal) => Some(Err(key_falls(input, &stack.top, refusal))),
+        Walked::Full(_) => None,
+    }
+}
+
+// The same, with a cell for each container that may be open.
+#[inline(never)]
+fn deepest<const KINDS: bool>(
+    input: &[u8],
+    at: usize,
+    few: &[Level],
+    stack: Stack<Level>,
+    limits: Limits,
+    order: KeyOrder,
+) -> Result<usize, Refusal>
+    requires kinds { asks limits.keys ≡ KINDS }
+    requires full { IsFull order limits input.now stack few.now at }
+    requires few { length few.now ≤ MOST }
+    ensures whole { IfOk result (IsWhole order limits input.now) }
+    ensures refused { IfErr result (IsRefused order limits input.now) }
+{
+    let mut cells = [Level::new(Due::Item, 0, 0); MOST];
+    lend(few, &mut cells);
+    let mut stack = stack;
+    match walk::<KINDS>(input, at, &mut cells, &mut stack, limits, order) {
+        Walked::Whole(at) => Ok(at),
+        Walked::Refused(refusal) => Err(refusal),
+        Walked::Falls(refusal) => Err(key_falls(input, &stack.top, refusal)),
+        Walked::Full(_) => unreachable!(),
+    }
+}

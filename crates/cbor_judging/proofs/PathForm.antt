@@ -1,0 +1,168 @@
+-- Where the automaton stands before the item that is due.
+use Rattle.std.proofs.Common.{◌≡◌, ℕ, suc, ◌+◌, ◌-◌, ◌<◌, ◌≤◌, true, false, cond, List, [], ◌∷◌, ◌++◌, length, refl, sym, ap, ◌∙◌, subst, arith, append-nil}
+use Rattle.cbor_head.specs.Complaint.{Rules}
+use Rattle.cbor_head.specs.Head.{Holds, head}
+use Rattle.cbor_head.specs.Spelling.{Spelling, Spellings, SpelledEntries, no_spellings, a_spelling, no_entries, entry, spell, spell_all, spell_entries, spellings_count, entries_count, IsSpelled, AreSpelled, AreEntriesSpelled, depth, depth_all, depth_entries, HoldsOrIndefinite}
+use Rattle.cbor_head.specs.Verdict.{initial_reason}
+use Rattle.cbor_head.specs.declared.major.Major.{Major}
+use Rattle.cbor_head.specs.declared.major.Major.TheVariants.{Array, Map, Tag}
+use Rattle.cbor_head.specs.declared.width.Width.{Width}
+use Rattle.cbor_head.specs.declared.width.Width.TheVariants.{Indefinite}
+use Rattle.cbor_automaton.specs.Trace.{Mark, a_head, trace}
+use Rattle.cbor_automaton.specs.Automaton.{Frame, counted, indefinite_array, indefinite_map, State, start, at_item, refuses, tells, close, expect, after, has_room, numbered_tail, tail, and_then, run, reached}
+use Rattle.cbor_automaton.proofs.Beginnings.{onwards, run-append, telling_all-reached}
+use Rattle.cbor_automaton.proofs.Forward.{forward, head-taken, item_starts, room-above, telling_all}
+use Rattle.cbor_judging.specs.SoFar.{array_bytes, map_bytes}
+use Rattle.cbor_judging.specs.Path.{Level, a_member, a_key, a_value, tagged, level_bytes, IsClean, bytes_before, AreClean}
+
+-- ---- the frames
+
+abbrev pub container : Level → Frame
+container (a_member Indefinite left done) = indefinite_array
+container (a_member w left done) = counted left
+container (a_key Indefinite left done) = indefinite_map false
+container (a_key w left done) = counted (suc (left + left))
+container (a_value Indefinite left done k) = indefinite_map true
+container (a_value w left done k) = counted (left + left)
+container (tagged w n) = counted 0
+
+abbrev pub containers : List Level → List Frame
+containers [] = []
+containers (l ∷ ls) = container l ∷ containers ls
+
+pub containers_count : (ls : List Level) → length (containers ls) ≡ length ls
+containers_count [] = refl
+containers_count (l ∷ ls) = ap suc (containers_count ls)
+
+-- ---- from one state to another
+
+abbrev pub Leads : ℕ → State → List ℕ → State → Type 0
+Leads d q xs t = (ms : List Mark) × (run d q xs ≡ reached t ms)
+
+module _ (d : ℕ) where
+  pub leads_on : (q t u : State) (xs ys : List ℕ) → Leads d q xs t → Leads d t ys u → Leads d q (xs ++ ys) u
+  unfolding onwards
+  leads_on q t u xs ys a b = (a.0 ++ b.0, run-append d xs ys q ∙ ap (λ o. onwards o (λ v. run d v ys)) a.1 ∙ ap (telling_all a.0) b.1 ∙ telling_all-reached a.0 b.0 u)
+
+  pub item_leads : (s : Spelling) (fs : List Frame) → IsSpelled s → depth s + length fs ≤ d → Leads d (at_item fs) (spell s) (close fs)
+  item_leads s fs h b = (trace s ++ [], ap (run d (at_item fs)) (sym (append-nil (spell s))) ∙ forward d s fs [] h b ∙ telling_all-reached (trace s) [] (close fs))
+
+  -- the head of a container
+  module _ (fs : List Frame) (room : length fs < d) where
+    head_leads : (m : Major) → ((k : ℕ) → tail m k ≡ numbered_tail m k) → has_room d fs m ≡ true → (w : Width) (n : ℕ) → Holds w n → Leads d (at_item fs) (head m w n) (after false m n fs)
+    head_leads m plain e w n h =
+        (a_head m w n ∷ [], ap (run d (at_item fs)) (sym (append-nil (head m w n))) ∙ head-taken d (at_item fs) false m fs (item_starts d m fs plain e) w n [] h)
+
+    is_room : has_room d fs Array ≡ true
+    is_room = room-above d fs 0 (omega (arith, room))
+
+    array_opens : Leads d (at_item fs) (head Array Indefinite 0) (at_item (indefinite_array ∷ fs))
+    array_opens =
+        (a_head Array Indefinite 0 ∷ [], ap (λ b. and_then (cond b (tells (a_head Array Indefinite 0) (at_item (indefinite_array ∷ fs))) (refuses (initial_reason 0x9f))) (λ t. run d t [])) is_room)
+
+    map_opens : Leads d (at_item fs) (head Map Indefinite 0) (at_item (indefinite_map false ∷ fs))
+    map_opens =
+        (a_head Map Indefinite 0 ∷ [], ap (λ b. and_then (cond b (tells (a_head Map Indefinite 0) (at_item (indefinite_map false ∷ fs))) (refuses (initial_reason 0xbf))) (λ t. run d t [])) is_room)
+
+  -- ---- complete members and pairs
+
+  module _ (fs : List Frame) where
+    members_counted : (left : ℕ) (done : Spellings) → AreSpelled done → depth_all done + suc (length fs) ≤ d → Leads d (at_item (counted (spellings_count done + left) ∷ fs)) (spell_all done) (at_item (counted left ∷ fs))
+    members_counted left no_spellings h b =
+        let e : 0 + left ≡ left = omega arith in
+        ([], ap (λ (n : ℕ). reached (at_item (counted n ∷ fs)) []) e)
+    members_counted left (a_spelling s ss) h b =
+        let n = spellings_count ss + left in
+        let e : suc (spellings_count ss) + left ≡ suc n = omega arith in
+        leads_on (at_item (counted (suc (spellings_count ss) + left) ∷ fs)) (at_item (counted n ∷ fs)) (at_item (counted left ∷ fs)) (spell s) (spell_all ss)
+        (subst (λ (m : ℕ). Leads d (at_item (counted m ∷ fs)) (spell s) (at_item (counted n ∷ fs))) (sym e) (item_leads s (counted (suc n) ∷ fs) h.0 (omega (arith, b))))
+        (members_counted left ss h.1 (omega (arith, b)))
+
+    members_open : (done : Spellings) → AreSpelled done → depth_all done + suc (length fs) ≤ d → Leads d (at_item (indefinite_array ∷ fs)) (spell_all done) (at_item (indefinite_array ∷ fs))
+    members_open no_spellings h b = ([], refl)
+    members_open (a_spelling s ss) h b =
+        let q = at_item (indefinite_array ∷ fs) in
+        leads_on q q q (spell s) (spell_all ss) (item_leads s (indefinite_array ∷ fs) h.0 (omega (arith, b))) (members_open ss h.1 (omega (arith, b)))
+
+    -- so many items follow the first of these pairs
+    abbrev items : ℕ → SpelledEntries → ℕ
+    items left done = suc ((entries_count done + left) + (entries_count done + left))
+
+    pairs_counted : (left : ℕ) (done : SpelledEntries) → AreEntriesSpelled done → depth_entries done + suc (length fs) ≤ d → Leads d (at_item (counted (items left done) ∷ fs)) (spell_entries done) (at_item (counted (suc (left + left)) ∷ fs))
+    pairs_counted left no_entries h b =
+        let e : suc ((0 + left) + (0 + left)) ≡ suc (left + left) = omega arith in
+        ([], ap (λ (n : ℕ). reached (at_item (counted n ∷ fs)) []) e)
+    pairs_counted left (entry k v es) h b =
+        let n = items left es in
+        let e : items left (entry k v es) ≡ suc (suc n) = omega arith in
+        let q = at_item (counted (items left (entry k v es)) ∷ fs) in
+        let t = at_item (counted n ∷ fs) in
+        leads_on q t (at_item (counted (suc (left + left)) ∷ fs)) (spell k ++ spell v) (spell_entries es)
+        (leads_on q (at_item (counted (suc n) ∷ fs)) t (spell k) (spell v)
+        (subst (λ (m : ℕ). Leads d (at_item (counted m ∷ fs)) (spell k) (at_item (counted (suc n) ∷ fs))) (sym e) (item_leads k (counted (suc (suc n)) ∷ fs) h.0 (omega (arith, b))))
+        (item_leads v (counted (suc n) ∷ fs) h.1 (omega (arith, b))))
+        (pairs_counted left es h.2 (omega (arith, b)))
+
+    pairs_open : (done : SpelledEntries) → AreEntriesSpelled done → depth_entries done + suc (length fs) ≤ d → Leads d (at_item (indefinite_map false ∷ fs)) (spell_entries done) (at_item (indefinite_map false ∷ fs))
+    pairs_open no_entries h b = ([], refl)
+    pairs_open (entry k v es) h b =
+        let q = at_item (indefinite_map false ∷ fs) in
+        let t = at_item (indefinite_map true ∷ fs) in
+        leads_on q q q (spell k ++ spell v) (spell_entries es)
+        (leads_on q t q (spell k) (spell v) (item_leads k (indefinite_map false ∷ fs) h.0 (omega (arith, b))) (item_leads v (indefinite_map true ∷ fs) h.1 (omega (arith, b))))
+        (pairs_open es h.2 (omega (arith, b)))
+
+  -- ---- a level
+
+  module _ (fs : List Frame) (room : length fs < d) where
+    array_leads : (w : Width) (left : ℕ) (done : Spellings) → HoldsOrIndefinite w (spellings_count done + suc left) → AreSpelled done → depth_all done + suc (length fs) ≤ d
+        → Leads d (at_item fs) (array_bytes w (spellings_count done + suc left) done) (at_item (container (a_member w left done) ∷ fs))
+    array_leads Indefinite left done h i b =
+        let q = at_item (indefinite_array ∷ fs) in
+        leads_on (at_item fs) q q (head Array Indefinite 0) (spell_all done) (array_opens fs room) (members_open fs done i b)
+    array_leads w left done h i b =
+        let n = spellings_count done + left in
+        let e : spellings_count done + suc left ≡ suc n = omega arith in
+        leads_on (at_item fs) (at_item (counted n ∷ fs)) (at_item (counted left ∷ fs)) (head Array w (spellings_count done + suc left)) (spell_all done)
+        (subst (λ (m : ℕ). Leads d (at_item fs) (head Array w (spellings_count done + suc left)) (expect m fs)) e (head_leads fs room Array (λ k. refl) (is_room fs room) w (spellings_count done + suc left) h))
+        (members_counted fs left done i b)
+
+    map_leads : (w : Width) (left : ℕ) (done : SpelledEntries) → HoldsOrIndefinite w (entries_count done + suc left) → AreEntriesSpelled done → depth_entries done + suc (length fs) ≤ d
+        → Leads d (at_item fs) (map_bytes w (entries_count done + suc left) done) (at_item (container (a_key w left done) ∷ fs))
+    map_leads Indefinite left done h i b =
+        let q = at_item (indefinite_map false ∷ fs) in
+        leads_on (at_item fs) q q (head Map Indefinite 0) (spell_entries done) (map_opens fs room) (pairs_open fs done i b)
+    map_leads w left done h i b =
+        let n = entries_count done + suc left in
+        let e : n + n ≡ suc (items fs left done) = omega arith in
+        leads_on (at_item fs) (at_item (counted (items fs left done) ∷ fs)) (at_item (counted (suc (left + left)) ∷ fs)) (head Map w n) (spell_entries done)
+        (subst (λ (m : ℕ). Leads d (at_item fs) (head Map w n) (expect m fs)) e (head_leads fs room Map (λ k. refl) (is_room fs room) w n h))
+        (pairs_counted fs left done i b)
+
+    key_leads : (w : Width) (left : ℕ) (done : SpelledEntries) (k : Spelling) → IsSpelled k → depth k + suc (length fs) ≤ d
+        → Leads d (at_item (container (a_key w left done) ∷ fs)) (spell k) (at_item (container (a_value w left done k) ∷ fs))
+    key_leads Indefinite left done k h b = item_leads k (indefinite_map false ∷ fs) h b
+    key_leads w left done k h b = item_leads k (counted (suc (left + left)) ∷ fs) h b
+
+    level_leads : (r : Rules) (at k : ℕ) (l : Level) → k ≡ d - suc (length fs) → IsClean r at k l → Leads d (at_item fs) (level_bytes l) (at_item (container l ∷ fs))
+    level_leads r at k (a_member w left done) e h = let low = h.within in array_leads w left done h.holds h.spelled (omega (arith, low, e, room))
+    level_leads r at k (a_key w left done) e h = let low = h.within in map_leads w left done h.holds h.spelled (omega (arith, low, e, room))
+    level_leads r at k (a_value w left done key) e h =
+        let low = h.so_far.within in
+        let small = h.within in
+        leads_on (at_item fs) (at_item (container (a_key w left done) ∷ fs)) (at_item (container (a_value w left done key) ∷ fs)) (map_bytes w (entries_count done + suc left) done) (spell key)
+        (map_leads w left done h.so_far.holds h.so_far.spelled (omega (arith, low, e, room)))
+        (key_leads w left done key h.spelled (omega (arith, small, e, room)))
+    level_leads r at k (tagged w n) e h = head_leads fs room Tag (λ k. refl) (is_room fs room) w n h.0
+
+-- ---- the path
+
+-- the bytes before the item lead to where it is due
+pub path_run : (r : Rules) (d : ℕ) (ls : List Level) → AreClean r d ls → (ms : List Mark) × (run d start (bytes_before ls) ≡ reached (at_item (containers ls)) ms)
+path_run r d [] h = ([], refl)
+path_run r d (l ∷ ls) h =
+    let fs = containers ls in
+    let room : length fs < d = omega (arith, h.0, containers_count ls) in
+    let e : d - suc (length ls) ≡ d - suc (length fs) = omega (arith, containers_count ls) in
+    leads_on d start (at_item fs) (at_item (container l ∷ fs)) (bytes_before ls) (level_bytes l) (path_run r d ls h.2)
+    (level_leads d fs room r (length (bytes_before ls)) (d - suc (length ls)) l e h.1)

@@ -1,0 +1,206 @@
+-- What is refused where an item is due, whatever walk stands there.
+use Rattle.std.proofs.Common.{◌≡◌, ◌≢◌, ℕ, suc, ◌+◌, ◌-◌, ◌*◌, ◌^◌, ◌%◌, ◌<◌, ◌≤◌, ◌⊎◌, Bool, true, None, List, [], ◌∷◌, ◌++◌, length, take, drop, refl, sym, ap, ◌∙◌, subst, inl, inr, arith, append_assoc, take-append-drop, append-nil}
+use Rattle.std.specs.Prelude.{IsTrue, IsUtf8}
+use Rattle.std.specs.Str.Lossy.{utf8_valid_len}
+use Rattle.std.proofs.lemmas.Bool.{cases_lt}
+use Rattle.std.proofs.lemmas.List.{length-append, length-take-le}
+use Rattle.cbor_head.specs.Complaint.{Rules, strict, complaint, OfHead}
+use Rattle.cbor_head.specs.Head.{Holds, head, major_number, shortest, with_argument}
+use Rattle.cbor_head.specs.Limits.{Bounds}
+use Rattle.cbor_head.specs.Value.{AreBytes}
+use Rattle.cbor_head.specs.Verdict.{refusal}
+use Rattle.cbor_head.specs.declared.major.Major.{Major}
+use Rattle.cbor_head.specs.declared.major.Major.TheVariants.{Bytes, Text, Array, Map}
+use Rattle.cbor_head.specs.declared.order.KeyOrder.{KeyOrder}
+use Rattle.cbor_head.specs.declared.reason.Reason.{Reason}
+use Rattle.cbor_head.specs.declared.reason.Reason.TheVariants as reasons
+use Rattle.cbor_head.specs.declared.reason.Refusal.{Refusal}
+use Rattle.cbor_head.specs.declared.width.Width.{Width}
+use Rattle.cbor_head.specs.declared.width.Width.TheVariants.{Indefinite}
+use Rattle.cbor_steps.specs.Whole.{IsArgument}
+use Rattle.cbor_automaton.proofs.FirstByte.{split}
+use Rattle.cbor_judging.specs.Judged.{IsJudged, Never}
+use Rattle.cbor_judging.specs.Kinds.{KeepsToKinds, IsOfOneHead}
+use Rattle.cbor_judging.proofs.ByteLists.{bytes_back, bytes_front}
+use Rattle.cbor_judging.proofs.Heads.{open_or}
+use Rattle.cbor_judging.proofs.KindBytes.{head_is_one, string_is_one}
+use Rattle.cbor_judging.proofs.Judged.{judged_start}
+use Rattle.cbor_judging.proofs.Leaves.{text_complains}
+use Rattle.cbor_judging.specs.Path.{Level, a_member, a_key, a_value, tagged, bytes_before, AreClean, MayBreak}
+use Rattle.cbor_judging.specs.RefusedHere.{IsMisplaced, IsPlaceFor, IsRefusedBy, HasNoBreak}
+use Rattle.cbor_judging.specs.PathKinds.{KeepsHere}
+use Rattle.cbor_judging.specs.Stop.{HasComplaint, HasBadByte, IsStopped, EndsWithin}
+use Rattle.cbor_judging.proofs.Arguments.{low_bits, number_byte, fits as fits_in, numbered, spells}
+use Rattle.cbor_judging.proofs.CutHeads.{head_cut, bytes_cut, text_cut}
+use Rattle.cbor_judging.proofs.FirstBytes.{reserved, no_indefinite, a_float, stray_break, too_deep, bad_simple}
+use Rattle.cbor_judging.proofs.HeadComplaints.{IsOpener as MayOpen, not_shortest, indefinite_length}
+use Rattle.cbor_judging.proofs.PathKinds.{kept_front}
+use Rattle.cbor_judging.proofs.PathStops.{complaint_here, end_here}
+
+-- the input ends within the item
+pub ends_here : (r : Rules) (room : Bool) (b : List ℕ) (at end : ℕ) → end ≡ at + length b → IsOfOneHead b
+    → ((d : ℕ) (ls : List Level) → (room ≡ true → length ls < d) → AreBytes b → IsJudged r (length (bytes_before ls)) (d - length ls) b None) → IsRefusedBy r room b at (refusal reasons.Truncated end end)
+ends_here r room b at end e one j = λ limits ls clean broken kept place are.
+    let whole = bytes_before ls ++ b in
+    let size : length whole ≡ end = length-append (bytes_before ls) b ∙ omega (arith, e, place.here) in
+    inr (inr (inl (subst (λ (n : ℕ). EndsWithin r limits whole (refusal reasons.Truncated n n)) size
+    (end_here r limits ls clean whole b [] (ap (λ (z : List ℕ). bytes_before ls ++ z) (sym (append-nil b))) kept one (j limits.depth ls place.fits (bytes_back (bytes_before ls) b are)) refl))))
+
+pub refused_same : (r : Rules) (room : Bool) (at : ℕ) (b c : List ℕ) (f g : Refusal) → b ≡ c → g ≡ f → IsRefusedBy r room c at f → IsRefusedBy r room b at g
+refused_same r room at b c f g is e h = subst (λ (x : List ℕ). IsRefusedBy r room x at g) (sym is) (subst (IsRefusedBy r room c at) (sym e) h)
+
+-- by the strict rules each open container has a length
+pub no_break : (o : KeyOrder) (d : ℕ) (ls : List Level) → AreClean (strict o) d ls → MayBreak ls → ⊥
+no_break o d (a_member Indefinite left done ∷ ls) h b = h.1.head_clean _ (refl, refl)
+no_break o d (a_key Indefinite left done ∷ ls) h b = h.1.head_clean _ (refl, refl)
+no_break o d [] h b = b
+no_break o d (a_member w left done ∷ ls) h b = b
+no_break o d (a_key w left done ∷ ls) h b = b
+no_break o d (a_value w left done k ∷ ls) h b = b
+no_break o d (tagged w n ∷ ls) h b = b
+
+pub no_break_here : (ls : List Level) (b : List ℕ) → (MayBreak ls → ⊥) → HasNoBreak ls b
+no_break_here ls [] h = tt
+no_break_here ls (x ∷ b) h = λ e. h
+
+-- nothing is left
+pub nothing_here : (r : Rules) (room : Bool) (at end : ℕ) → end ≡ at + 0 → IsRefusedBy r room [] at (refusal reasons.Truncated end end)
+nothing_here r room at end e = ends_here r room [] at end e tt (λ d ls fits are. judged_start r (length (bytes_before ls)) (d - length ls))
+
+module _ (r : Rules) (room : Bool) (first : ℕ) (behind : List ℕ) (at : ℕ) where
+  at_place : (reason : Reason) (limits : Bounds) (ls : List Level) → IsPlaceFor room limits.depth ls at → HasBadByte r limits (bytes_before ls ++ first ∷ behind) (refusal reason (length (bytes_before ls)) (length (bytes_before ls) + 1))
+      → IsStopped r limits (bytes_before ls ++ first ∷ behind) (refusal reason at (at + 1))
+  at_place reason limits ls place h = subst (λ (n : ℕ). IsStopped r limits (bytes_before ls ++ first ∷ behind) (refusal reason n (n + 1))) (sym place.here) (inr (inl h))
+
+  -- the first byte may not stand there, whichever keys are asked for
+  pub misplaced_stops : (reason : Reason) → IsMisplaced first room reason → (limits : Bounds) (ls : List Level) → AreClean r limits.depth ls → (first ≡ 0xff → MayBreak ls → ⊥) → KeepsToKinds limits r (bytes_before ls) → IsPlaceFor room limits.depth ls at
+      → AreBytes (bytes_before ls ++ first ∷ behind) → IsStopped r limits (bytes_before ls ++ first ∷ behind) (refusal reason at (at + 1))
+  misplaced_stops reasons.Reserved h limits ls clean broken keeps place are =
+      at_place reasons.Reserved limits ls place (reserved r limits ls clean keeps (bytes_before ls ++ first ∷ behind) are first behind refl h.0 h.1)
+  misplaced_stops reasons.NoIndefinite h limits ls clean broken keeps place are =
+      at_place reasons.NoIndefinite limits ls place (no_indefinite r limits ls clean keeps (bytes_before ls ++ first ∷ behind) are first behind refl h.0 h.1)
+  misplaced_stops reasons.Float h limits ls clean broken keeps place are =
+      at_place reasons.Float limits ls place (a_float r limits ls clean keeps (bytes_before ls ++ first ∷ behind) are first behind refl h.0 h.1)
+  misplaced_stops reasons.StrayBreak h limits ls clean broken keeps place are =
+      at_place reasons.StrayBreak limits ls place (stray_break r limits ls clean keeps (bytes_before ls ++ first ∷ behind) are first behind refl h (broken h))
+  misplaced_stops reasons.TooDeep h limits ls clean broken keeps place are =
+      at_place reasons.TooDeep limits ls place (too_deep r limits ls clean keeps (bytes_before ls ++ first ∷ behind) are first behind refl (place.full h.0) h.1 h.2 h.3)
+  misplaced_stops _ h limits ls clean broken keeps place are = absurd h
+
+  pub misplaced_here : (reason : Reason) → IsMisplaced first room reason → IsRefusedBy r room (first ∷ behind) at (refusal reason at (at + 1))
+  misplaced_here reason h = λ limits ls clean broken kept place are. misplaced_stops reason h limits ls clean broken kept.before place are
+
+  -- a front of these bytes is of the kinds that are asked for
+  front_kept : (limits : Bounds) (ls : List Level) (x y : List ℕ) → first ∷ behind ≡ x ++ y → KeepsHere limits r ls (first ∷ behind) → KeepsHere limits r ls x
+  front_kept limits ls x y e kept = kept_front limits r ls x y (subst (KeepsHere limits r ls) e kept)
+
+  -- no length is told
+  pub endless_here : IsTrue r.heads → first % 32 ≡ 31 → 64 ≤ first → first < 192 → (128 ≤ first → first < 224 → room ≡ true) → IsRefusedBy r room (first ∷ behind) at (refusal reasons.Indefinite at (at + 1))
+  endless_here heads low l h is_room = λ limits ls clean broken kept place are.
+      let deep : 128 ≤ first → 1 ≤ limits.depth - length ls = λ k. let r : length ls < limits.depth = place.fits (is_room k (omega (arith, h))) in omega (arith, r) in
+      subst (λ (n : ℕ). IsStopped r limits (bytes_before ls ++ first ∷ behind) (refusal reasons.Indefinite n (n + 1))) (sym place.here) (inl (elim (cases_lt first 96) [
+        | inl k ↦ opens limits ls clean kept Bytes tt (omega (arith, low, l, k))
+        | inr k ↦ elim (cases_lt first 128) [
+          | inl j ↦ opens limits ls clean kept Text tt (omega (arith, low, k, j))
+          | inr j ↦ elim (cases_lt first 160) [ inl i ↦ opens limits ls clean kept Array (deep j) (omega (arith, low, j, i)) | inr i ↦ opens limits ls clean kept Map (deep j) (omega (arith, low, i, h)) ]
+        ]
+      ]))
+    where
+      opens : (limits : Bounds) (ls : List Level) → AreClean r limits.depth ls → KeepsHere limits r ls (first ∷ behind) → (m : Major) → MayOpen m (limits.depth - length ls) → 32 * major_number m + 31 ≡ first
+          → HasComplaint r limits (bytes_before ls ++ first ∷ behind) (refusal reasons.Indefinite (length (bytes_before ls)) (length (bytes_before ls) + 1))
+      opens limits ls clean kept m i e =
+          let opener = head m Indefinite 0 in
+          let is : first ∷ behind ≡ opener ++ behind = ap (λ (x : ℕ). x ∷ behind) (sym e) in
+          complaint_here r limits ls clean (bytes_before ls ++ first ∷ behind) opener behind (ap (λ (x : List ℕ). bytes_before ls ++ x) is) (front_kept limits ls opener behind is kept) (head_is_one m Indefinite 0 tt) _
+          (indefinite_length r heads (length (bytes_before ls)) (limits.depth - length ls) m i)
+
+  -- the argument is cut
+  pub cut_here : 24 ≤ first % 32 → first % 32 < 28 → first < 249 → (128 ≤ first → first < 224 → room ≡ true) → length behind < 2 ^ (first % 32 - 24) → (end : ℕ) → end ≡ at + suc (length behind)
+      → IsRefusedBy r room (first ∷ behind) at (refusal reasons.Truncated end end)
+  cut_here l h small is_room short end e = ends_here r room (first ∷ behind) at end e (λ container some. (l, h, omega (arith, short))) (λ d ls fits are.
+      head_cut r (length (bytes_before ls)) d ls first behind l (omega (arith, h)) (kind (cases_lt first 224)) (λ k j. fits (is_room k j)) are.1 short)
+    where
+      kind : (first < 224) ⊎ (224 ≤ first) → (first < 224) ⊎ (first ≡ 0xf8)
+      kind (inl k) = inl k
+      kind (inr k) = inr (omega (arith, k, l, small))
+
+  module _ (w : Width) (n : ℕ) (rest : List ℕ) (a : IsArgument (first % 32) behind w n rest) where
+    -- there is no such simple value
+    pub no_simple_here : first ≡ 0xf8 → n < 32 → IsRefusedBy r room (first ∷ behind) at (refusal reasons.BadSimple (at + 1) (at + 2))
+    no_simple_here e small = λ limits ls clean broken kept place are.
+        let low : first % 32 ≡ 24 = omega (arith, e) in
+        let byte = number_byte behind w n rest (subst (λ (k : ℕ). IsArgument k behind w n rest) low a) in
+        let is : first ∷ behind ≡ 0xf8 ∷ (n % 256) ∷ rest = ap (λ (x : ℕ). x ∷ behind) e ∙ ap (λ (x : List ℕ). 0xf8 ∷ x) byte in
+        let two : at + 2 ≡ length (bytes_before ls) + 1 + 1 = omega (arith, place.here) in
+        let one : at + 1 ≡ length (bytes_before ls) + 1 = omega (arith, place.here) in
+        subst (λ (k : ℕ). IsStopped r limits (bytes_before ls ++ first ∷ behind) (refusal reasons.BadSimple (at + 1) k)) (sym two) (subst (λ (k : ℕ). IsStopped r limits (bytes_before ls ++ first ∷ behind) (refusal reasons.BadSimple k (length (bytes_before ls) + 1 + 1))) (sym one)
+        (inr (inl (bad_simple r limits ls clean kept.before (bytes_before ls ++ first ∷ behind) are (n % 256) rest (front_kept limits ls (0xf8 ∷ []) ((n % 256) ∷ rest) is kept) (ap (λ (x : List ℕ). bytes_before ls ++ x) is) (omega (arith, small))))))
+
+    -- a shorter head holds it
+    pub long_here : IsTrue r.heads → first < 249 → (first ≡ 0xf8 → 32 ≤ n) → (128 ≤ first → first < 224 → room ≡ true) → w ≢ shortest n → (used : ℕ) → used ≡ suc (length behind) - length rest → length rest ≤ length behind
+        → IsRefusedBy r room (first ∷ behind) at (refusal reasons.NotShortest at (at + used))
+    long_here heads small wide is_room long used u fewer = λ limits ls clean broken kept place are. elim (cases_lt first 224) [
+      | inr k ↦ absurd (long (low_bits (first % 32) behind w n rest a (omega (arith, k, small)) (λ e. wide (omega (arith, k, small, e)))))
+      | inl k ↦
+          let s = split first (omega (arith, k)) in
+          let low_is : s.low ≡ first % 32 = omega (arith, s.made, s.fits) in
+          let is = spells first behind (32 * major_number s.major) w n rest a (omega (arith, s.made, low_is)) in
+          let room_in : 128 ≤ first → first < 224 → 1 ≤ limits.depth - length ls = λ i j. let r : length ls < limits.depth = place.fits (is_room i j) in omega (arith, r) in
+          let j = not_shortest r heads (length (bytes_before ls)) (limits.depth - length ls) s.major w n (numbered s.major s.low first s.made k) a.holds (fits_in s.major s.low first (limits.depth - length ls) s.made s.fits room_in) long in
+          let size : length (head s.major w n) ≡ used = omega (arith, u, fewer, ap length is, length-append (head s.major w n) rest) in
+          let end : length (bytes_before ls) + length (head s.major w n) ≡ at + used = omega (arith, place.here, size) in
+          subst (λ (x : ℕ). IsStopped r limits (bytes_before ls ++ first ∷ behind) (refusal reasons.NotShortest x (at + used))) (sym place.here) (subst (λ (x : ℕ). IsStopped r limits (bytes_before ls ++ first ∷ behind) (refusal reasons.NotShortest (length (bytes_before ls)) x)) end
+          (inl (complaint_here r limits ls clean (bytes_before ls ++ first ∷ behind) (head s.major w n) rest (ap (λ (x : List ℕ). bytes_before ls ++ x) is) (front_kept limits ls (head s.major w n) rest is kept) (head_is_one s.major w n (open_or w n a.holds)) _ j)))
+    ]
+
+    -- ---- strings
+
+    module _ (fewer : length rest ≤ length behind) (quiet : (to : ℕ) (m : Major) → Never (OfHead r to m w n)) (l : 64 ≤ first) (h : first < 128) where
+      string_is : (base : ℕ) → base + first % 32 ≡ first → first ∷ behind ≡ with_argument w base n ++ rest
+      string_is base e = spells first behind base w n rest a e
+
+      -- they are of a string
+      one : IsOfOneHead (first ∷ behind)
+      one = elim (cases_lt first 96) [
+        | inl k ↦ subst IsOfOneHead (sym (string_is 64 (omega (arith, l, k)))) (string_is_one Bytes w n rest tt (open_or w n a.holds))
+        | inr k ↦ subst IsOfOneHead (sym (string_is 96 (omega (arith, k, h)))) (string_is_one Text w n rest tt (open_or w n a.holds))
+      ]
+
+      -- the payload is cut
+      pub payload_cut_here : length rest < n → (end : ℕ) → end ≡ at + suc (length behind) → IsRefusedBy r room (first ∷ behind) at (refusal reasons.Truncated end end)
+      payload_cut_here less end e = ends_here r room (first ∷ behind) at end e one (λ d ls fits are. elim (cases_lt first 96) [
+        | inl k ↦
+            let is = string_is 64 (omega (arith, l, k)) in
+            subst (λ (x : List ℕ). IsJudged r (length (bytes_before ls)) (d - length ls) x None) (sym is)
+            (bytes_cut w n rest a.holds (bytes_back (head Bytes w n) rest (subst AreBytes is are)) less r (length (bytes_before ls)) (d - length ls) (quiet (length (bytes_before ls)) Bytes))
+        | inr k ↦
+            let is = string_is 96 (omega (arith, k, h)) in
+            subst (λ (x : List ℕ). IsJudged r (length (bytes_before ls)) (d - length ls) x None) (sym is)
+            (text_cut w n rest a.holds (bytes_back (head Text w n) rest (subst AreBytes is are)) less r (length (bytes_before ls)) (d - length ls) (quiet (length (bytes_before ls)) Text))
+      ])
+
+      -- the text is none
+      pub no_text_here : IsTrue r.texts → 96 ≤ first → n ≤ length rest → (used valid end : ℕ) → used ≡ suc (length behind) - length rest → (IsUtf8 (take n rest) → ⊥) → valid ≡ utf8_valid_len (take n rest) → end ≡ used + n
+          → IsRefusedBy r room (first ∷ behind) at (refusal reasons.InvalidText (at + used + valid) (at + end))
+      no_text_here texts k inside used valid end u none valid_is end_is = λ limits ls clean broken kept place are.
+          let q = take n rest in
+          let is = string_is 96 (omega (arith, k, h)) in
+          let count : length q ≡ n = length-take-le n rest inside in
+          let hd = head Text w n in
+          let size : length hd ≡ used = omega (arith, u, fewer, ap length is, length-append hd rest) in
+          let all : AreBytes (hd ++ rest) = subst AreBytes is (bytes_back (bytes_before ls) (first ∷ behind) are) in
+          let bytes : AreBytes q = bytes_front q (drop n rest) (subst AreBytes (sym (take-append-drop n rest)) (bytes_back hd rest all)) in
+          let to = length (bytes_before ls) + length (head Text w (length q)) in
+          let same : head Text w (length q) ≡ hd = ap (head Text w) count in
+          let c = complaint (to + length q) (to + utf8_valid_len q) reasons.InvalidText in
+          let j = text_complains w q r (length (bytes_before ls)) (limits.depth - length ls) c (subst (Holds w) (sym count) a.holds, bytes)
+          (subst (λ (x : ℕ). Never (OfHead r (length (bytes_before ls)) Text w x)) (sym count) (quiet (length (bytes_before ls)) Text)) (texts, none, refl) in
+          let there : to ≡ at + used = omega (arith, place.here, ap length same, size) in
+          let place_is : to + utf8_valid_len q ≡ at + used + valid = omega (arith, there, valid_is) in
+          let read : to + length q ≡ at + end = omega (arith, there, count, end_is) in
+          let x = head Text w (length q) ++ q in
+          let parts : first ∷ behind ≡ x ++ drop n rest = is ∙ ap (λ (z : List ℕ). hd ++ z) (sym (take-append-drop n rest)) ∙ sym (append_assoc hd q (drop n rest)) ∙ ap (λ (z : List ℕ). (z ++ q) ++ drop n rest) (sym same) in
+          let text = string_is_one Text w (length q) q tt (open_or w (length q) (subst (Holds w) (sym count) a.holds)) in
+          let found = complaint_here r limits ls clean (bytes_before ls ++ first ∷ behind) x (drop n rest) (ap (λ (z : List ℕ). bytes_before ls ++ z) parts) (front_kept limits ls x (drop n rest) parts kept) text c j in
+          inl (subst (λ (z : ℕ). HasComplaint r limits (bytes_before ls ++ first ∷ behind) (refusal reasons.InvalidText (at + used + valid) z)) read
+          (subst (λ (z : ℕ). HasComplaint r limits (bytes_before ls ++ first ∷ behind) (refusal reasons.InvalidText z (to + length q))) place_is found))

@@ -1,0 +1,26 @@
+-- What the plain rules have against the bytes that are left at a place.
+use Rattle.std.specs.Prelude.{◌≡◌, ℕ, ◌++◌, Bool, true, false, List}
+use Rattle.cbor_head.specs.Complaint.{plain}
+use Rattle.cbor_head.specs.Limits.{Bounds}
+use Rattle.cbor_head.specs.declared.keys.Keys.TheVariants.{IntegersAndTexts}
+use Rattle.cbor_head.specs.declared.reason.Refusal.{Refusal}
+use Rattle.cbor_head.specs.Value.{AreBytes}
+use Rattle.cbor_judging.specs.Kinds.{AsksForKinds, KeepsToKinds}
+use Rattle.cbor_judging.specs.Path.{Level, bytes_before, AreClean, IsKeyDueIn, MayBreak}
+use Rattle.cbor_judging.specs.Stop.{IsStopped}
+use Rattle.cbor_judging.specs.RefusedHere.{IsPlaceFor, IsRefusedBy}
+
+-- kinds of keys are asked for, and a key is due; or not both
+pub record IsKeyAsked (is_key : Bool) (limits : Bounds) (ls : List Level) : Type 0 where
+  pub both : is_key ≡ true → (limits.keys ≡ IntegersAndTexts) × IsKeyDueIn ls
+  pub none : is_key ≡ false → AsksForKinds limits plain → IsKeyDueIn ls → ⊥
+
+-- The bytes that are left at this place are refused so, where one more container may open or not, and a break stand or not.
+abbrev pub IsFault : List ℕ → ℕ → Bool → Bool → Bool → Refusal → Type 0
+IsFault b at room is_key may_break f =
+    (limits : Bounds) (ls : List Level) → AreClean plain limits.depth ls → (MayBreak ls → may_break ≡ true) → KeepsToKinds limits plain (bytes_before ls) → IsKeyAsked is_key limits ls → IsPlaceFor room limits.depth ls at → AreBytes (bytes_before ls ++ b)
+    → IsStopped plain limits (bytes_before ls ++ b) f
+
+-- So is refused what begins with the opener of a string in chunks.
+abbrev pub AreChunksRefused : List ℕ → ℕ → Refusal → Type 0
+AreChunksRefused b at f = (room : Bool) → IsRefusedBy plain room b at f
