@@ -1,11 +1,16 @@
 -- What a public builder stands for, from what its core does.
-use Rattle.std.proofs.Common.{◌≡◌, ℕ, Bool, true, false, List, [], ◌∷◌, refl, sym, ap, ◌∙◌, subst}
-use Rattle.std.specs.Prelude.{IsTrue}
-use Rattle.cbor_builder.specs.Built.{Built}
-use Rattle.cbor_canonical.specs.Parts.{Open, plain}
-use Rattle.cbor_builder.specs.inner.BuilderState.{standing, IsLaid}
+use Rattle.std.proofs.Common.{◌≡◌, ℕ, Bool, true, false, List, [], ◌∷◌, Option, Some, None, true≢false, refl, sym, ap, ◌∙◌, subst}
+use Rattle.std.specs.Prelude.{IsTrue, IfSome, IsNone, ◌↔◌}
+use Rattle.cbor_builder.specs.Built.{Built, HasDistinctKeysSoFar, IsRepeatTold, keys_so_far, AreAllDifferent}
+use Rattle.cbor_canonical.specs.Parts.{Open, plain, an_array, a_map, a_key, a_string, HasNoRepeats, IsInContainer}
+use Rattle.cbor_buffer.specs.declared.span.Span.{Span}
+use Rattle.cbor_builder.specs.declared.builder.Core.{Core}
+use Rattle.cbor_builder.specs.declared.repeat.Repeat.{Repeat}
+use Rattle.cbor_builder.specs.inner.BuilderState.{standing, innermost, IsLaid, WasLaid, IsLeftOpen, came_standing}
+use Rattle.cbor_builder.specs.inner.Repeats.{Tells}
 use Rattle.cbor_builder.specs.inner.CanonState.{if_sound, seen, IsNested, IsKept}
 use Rattle.cbor_builder.specs.declared.canon_builder.CanonBuilder.TheInside.{Inside}
+use Rattle.cbor_builder.proofs.KeysSoFar.{different_distinct}
 
 -- ---- a builder that takes a part is sound
 
@@ -39,3 +44,26 @@ IsOpen (c ∷ os) = Unit {0}
 pub laid_whole : (b : Inside) (w : Built) (bs : List ℕ) → IsKept b → seen b ≡ w → w.standing ≡ plain bs ∷ [] → IsLaid b.core × (standing b.core ≡ plain bs ∷ [])
 laid_whole b w bs kept e p =
     let k = known IsOpen (λ h. h) b w kept e (subst IsOpen (sym p) tt) in (k.laid, k.standing_is ∙ p)
+
+-- ---- a map that does not end
+
+different_repeats : (c : Open) → AreAllDifferent (keys_so_far c) → HasNoRepeats c
+different_repeats (plain bs) d = tt
+different_repeats (an_array n bs) d = tt
+different_repeats (a_map ps) d = different_distinct ps d
+different_repeats (a_key ps k) d = tt
+different_repeats (a_string m bs) d = tt
+
+-- what is told of it
+pub told_there : (b : Inside) (w : Built) (n : Core) (distinct : Bool) (r : Option Repeat) → IsKept b → seen b ≡ w → IsInContainer w.standing → IsLeftOpen b.core n → distinct ≡ false → (IsTrue distinct ↔ HasNoRepeats (innermost b.core))
+    → ((came : List Span) → WasLaid came n → Tells (came_standing came n) r) → (IsNone r → ⊥) × (HasDistinctKeysSoFar w.standing → ⊥) × IfSome r (λ (t : Repeat). IsRepeatTold w.standing t.outside t.pair)
+told_there b w n distinct r kept is inside left e d tells =
+    subst (λ (os : List Open). (IsNone r → ⊥) × (HasDistinctKeysSoFar os → ⊥) × IfSome r (λ (t : Repeat). IsRepeatTold os t.outside t.pair)) (known IsInContainer (λ h. h) b w kept is inside).standing_is
+    (by_result r (subst (λ (os : List Open). Tells os r) left.1 (tells b.core.spans.items left.0)))
+  where
+    not_distinct : HasNoRepeats (innermost b.core) → ⊥
+    not_distinct h = true≢false (sym (d.1 h) ∙ e)
+
+    by_result : (r : Option Repeat) → Tells (standing b.core) r → (IsNone r → ⊥) × (HasNoRepeats (innermost b.core) → ⊥) × IfSome r (λ (t : Repeat). IsRepeatTold (standing b.core) t.outside t.pair)
+    by_result None t = absurd (not_distinct (different_repeats (innermost b.core) t.0))
+    by_result (Some u) t = ((λ n. cc), not_distinct, t)

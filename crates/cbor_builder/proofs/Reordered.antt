@@ -1,23 +1,21 @@
 -- Spans of the innermost in another order than they came in.
-use Rattle.std.proofs.Common.{◌≡◌, ℕ, Bool, false, List, [], ◌∷◌, length, length-drop, length-take, drop, take, Option, Some, None, true≢false, refl, sym, ap, ◌∙◌, subst, arith, IsPermutation}
-use Rattle.std.specs.Prelude.{IsTrue, IfSome, IsNone, ◌↔◌}
+use Rattle.std.proofs.Common.{◌≡◌, ℕ, Bool, List, [], ◌∷◌, length, length-drop, length-take, drop, take, refl, sym, ap, subst, arith, IsPermutation}
+use Rattle.std.specs.Prelude.{IsTrue, ◌↔◌}
 use Rattle.std.proofs.lemmas.List.{drop_all}
 use Rattle.std.proofs.lemmas.List.Sorted.{IsPermutation-refl, length_permutation}
 use Rattle.cbor_head.specs.declared.order.KeyOrder.{KeyOrder}
-use Rattle.cbor_canonical.specs.Parts.{Open, plain, an_array, a_map, a_key, a_string, HasNoRepeats}
-use Rattle.cbor_builder.specs.Built.{IsRepeatedKey, IsRepeatTold, keys_so_far, AreAllDifferent}
+use Rattle.cbor_canonical.specs.Parts.{Open}
+use Rattle.cbor_builder.specs.Built.{IsRepeatedKey}
 use Rattle.cbor_buffer.specs.declared.draft.Draft.{Draft}
 use Rattle.cbor_buffer.specs.declared.span.Span.{Span}
 use Rattle.cbor_builder.specs.declared.builder.Core.{Core}
 use Rattle.cbor_builder.specs.declared.frame.Frame.{Frame}
 use Rattle.cbor_builder.specs.declared.frame.Shape.{Shape}
 use Rattle.cbor_builder.specs.declared.frame.Shape.TheVariants.{Plain, Array, Map, Key, Content}
-use Rattle.cbor_builder.specs.declared.repeat.Repeat.{Repeat}
-use Rattle.cbor_builder.specs.inner.BuilderState.{outers, frames, standing, innermost, Stand, IsReordered, WasLaid, came_standing}
+use Rattle.cbor_builder.specs.inner.BuilderState.{outers, frames, Stand, IsReordered, IsLeftOpen}
 use Rattle.cbor_builder.specs.inner.Laid.{shape_open, outer_spans, opens, Fits}
-use Rattle.cbor_builder.specs.inner.Repeats.{first_of, AreOf, Tells}
+use Rattle.cbor_builder.specs.inner.Repeats.{first_of, AreOf}
 use Rattle.cbor_buffer.specs.Moved.{meant}
-use Rattle.cbor_builder.proofs.KeysSoFar.{different_distinct}
 
 pub reordered_refl : (ss : List Span) (s : Shape) → IsReordered ss ss s
 reordered_refl ss Plain = refl
@@ -81,31 +79,12 @@ reordered_own o out came ss from start rises (Content m) f h = none_of out came 
 
 -- ---- where a map does not end
 
-pub was_laid : (s n : Core) → Stand s.order s.out s.spans.items (frames s) → n.order ≡ s.order → n.out ≡ s.out → n.top ≡ s.top → outers n ≡ outers s → IsReordered s.spans.items n.spans.items s.top.shape → WasLaid s.spans.items n
-was_laid s n stand order out top around h = (
-  subst (λ (o : KeyOrder). Stand o n.out s.spans.items (frames n)) (sym order)
-      (subst (λ (d : Draft). Stand s.order d s.spans.items (frames n)) (sym out) (subst (Stand s.order s.out s.spans.items) (λ i. sym top i ∷ sym around i) stand)),
-  subst (λ (f : Frame). IsReordered s.spans.items n.spans.items f.shape) (sym top) h,
+pub left_open : (s n : Core) → Stand s.order s.out s.spans.items (frames s) → n.order ≡ s.order → n.out ≡ s.out → n.top ≡ s.top → outers n ≡ outers s → IsReordered s.spans.items n.spans.items s.top.shape → IsLeftOpen s n
+left_open s n stand order out top around h = (
+  (
+    subst (λ (o : KeyOrder). Stand o n.out s.spans.items (frames n)) (sym order)
+        (subst (λ (d : Draft). Stand s.order d s.spans.items (frames n)) (sym out) (subst (Stand s.order s.out s.spans.items) (λ i. sym top i ∷ sym around i) stand)),
+    subst (λ (f : Frame). IsReordered s.spans.items n.spans.items f.shape) (sym top) h,
+  ),
+  λ i. opens (meant (out i)) s.spans.items (top i ∷ around i),
 )
-
-different_repeats : (c : Open) → AreAllDifferent (keys_so_far c) → HasNoRepeats c
-different_repeats (plain bs) d = tt
-different_repeats (an_array n bs) d = tt
-different_repeats (a_map ps) d = different_distinct ps d
-different_repeats (a_key ps k) d = tt
-different_repeats (a_string m bs) d = tt
-
--- what is told of a map with two equal keys
-pub told_there : (s n : Core) (distinct : Bool) (r : Option Repeat) → Stand s.order s.out s.spans.items (frames s) → n.order ≡ s.order → n.out ≡ s.out → n.top ≡ s.top → outers n ≡ outers s
-    → IsReordered s.spans.items n.spans.items s.top.shape → distinct ≡ false → (IsTrue distinct ↔ HasNoRepeats (innermost s)) → ((came : List Span) → WasLaid came n → Tells (came_standing came n) r)
-    → (IsNone r → ⊥) × (HasNoRepeats (innermost s) → ⊥) × IfSome r (λ (t : Repeat). IsRepeatTold (standing s) t.outside t.pair)
-told_there s n distinct r stand order out top around h e d tells =
-    let still : came_standing s.spans.items n ≡ standing s = λ i. opens (meant (out i)) s.spans.items (top i ∷ around i) in
-    by_result r (subst (λ (os : List Open). Tells os r) still (tells s.spans.items (was_laid s n stand order out top around h)))
-  where
-    not_distinct : HasNoRepeats (innermost s) → ⊥
-    not_distinct h = true≢false (sym (d.1 h) ∙ e)
-
-    by_result : (r : Option Repeat) → Tells (standing s) r → (IsNone r → ⊥) × (HasNoRepeats (innermost s) → ⊥) × IfSome r (λ (t : Repeat). IsRepeatTold (standing s) t.outside t.pair)
-    by_result None t = absurd (not_distinct (different_repeats (innermost s) t.0))
-    by_result (Some u) t = ((λ n. cc), not_distinct, t)

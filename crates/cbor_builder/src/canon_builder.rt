@@ -272,9 +272,11 @@ impl CanonBuilder {
         ensures refused { OnErr result (self.new.standing ≡ []) }
     {
         self.is_sound = false;
-        let told = self.core.end()?;
-        self.is_sound = told.is_none();
-        Ok(told)
+        if !self.core.end()? {
+            return Ok(self.core.first_repeat());
+        }
+        self.is_sound = true;
+        Ok(None)
     }
 
     /// The array, map or tag ends, and nothing of it is kept. Where two keys of the map are the same it
@@ -293,9 +295,11 @@ impl CanonBuilder {
         ensures refused { OnErr result (self.new.standing ≡ []) }
     {
         self.is_sound = false;
-        let told = self.core.give_up()?;
-        self.is_sound = told.is_none();
-        Ok(told)
+        if !self.core.give_up()? {
+            return Ok(self.core.first_repeat());
+        }
+        self.is_sound = true;
+        Ok(None)
     }
 
     /// The bytes, once the item is whole, as `finish` answers them. They stay where they are.

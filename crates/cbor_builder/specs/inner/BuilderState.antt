@@ -48,3 +48,7 @@ WasLaid came c = Stand c.order c.out came (frames c) × IsReordered came c.spans
 
 abbrev pub came_standing : List Span → Core → List Open
 came_standing came c = opens (meant c.out) came (frames c)
+
+-- what is open does not end: its pairs may stand in another order, and all else stands as it did
+abbrev pub IsLeftOpen : Core → Core → Type 0
+IsLeftOpen old new = WasLaid old.spans.items new × (came_standing old.spans.items new ≡ standing old)

@@ -1,14 +1,13 @@
 //! What is open ends, and its bytes take their final form.
 
 ghost use Rattle.std.specs.Prelude.{◌≡◌, ◌↔◌, ◌≤◌, ◌++◌, IsTrue, false, OnOk, IfOk, drop};
-ghost use Rattle.std.specs.Prelude.{IsNone, IfSome};
 ghost use Rattle.std.specs.Prelude.{take, length, flat_map, IsPermutation};
 ghost use Rattle.cbor_buffer.specs.Moved.{meant, IsWhole, KeepsFront};
 ghost use Rattle.cbor_canonical.specs.Pairs.{pair_bytes, HasDistinctBytes};
 ghost use Rattle.cbor_canonical.specs.Parts.{close, closed, HasNoRepeats};
 ghost use Rattle.cbor_builder.specs.declared.frame.Shape.TheVariants.{Map};
 ghost use Rattle.cbor_builder.specs.inner.BuilderState.{standing, innermost, outers, IsLaid, IsReordered};
-ghost use Rattle.cbor_builder.specs.Built.{IsRepeatTold};
+ghost use Rattle.cbor_builder.specs.inner.BuilderState.{IsLeftOpen};
 ghost use Rattle.cbor_builder.specs.inner.InPlace.{AreSameKeys};
 ghost use Rattle.cbor_builder.specs.inner.Laid.{CanClose, OuterTakes, outer_spans, Fits};
 ghost use Rattle.cbor_builder.specs.inner.Laid.{pairs_from};
@@ -17,7 +16,6 @@ ghost use Rattle.cbor_head.specs.Canonical.{in_order};
 use crate::builder::Core;
 use crate::frame::{Frame, Shape};
 use crate::member::{complete, settle_member};
-use crate::repeat::Repeat;
 use crate::sort::sort_distinct;
 use cbor_head::Major;
 use std::alloc::AllocError;
@@ -128,23 +126,22 @@ impl Core {
         Ok(true)
     }
 
-    /// What is open ends. Where it is a map of which two keys are equal it does not: then which
-    /// repeated key is told, and nothing is open.
+    /// What is open ends. False where it is a map of which two keys are equal: then it does not.
     #[inline(always)]
-    pub(crate) fn end(&mut self) -> Result<Option<Repeat>, AllocError>
+    pub(crate) fn end(&mut self) -> Result<bool, AllocError>
         requires laid { IsLaid self.old }
         requires closes { CanClose self.old.top.shape }
         requires takes { OuterTakes (outers self.old) }
         ensures order { self.new.order ≡ self.old.order }
-        ensures distinct { IfOk result (λ told. IsNone told ↔ HasNoRepeats (innermost self.old)) }
-        ensures closed { IfOk result (λ told. IsNone told → IsLaid self.new
+        ensures distinct { IfOk result (λ distinct.
+            IsTrue distinct ↔ HasNoRepeats (innermost self.old)) }
+        ensures closed { IfOk result (λ distinct. IsTrue distinct → IsLaid self.new
             × (standing self.new ≡ close self.old.order (standing self.old))) }
-        ensures told { IfOk result (λ told. IfSome told
-            (λ repeat. IsRepeatTold (standing self.old) repeat.outside repeat.pair)) }
+        ensures left { IfOk result (λ distinct. distinct ≡ false → IsLeftOpen self.old self.new) }
     {
         let from = self.top.from;
         if !self.close_top()? {
-            return Ok(self.first_repeat());
+            return Ok(false);
         }
         if self.leave() {
             settle_member(&mut self.out, from, &self.top, self.is_open)?;
@@ -156,6 +153,6 @@ impl Core {
                 from,
             )?;
         }
-        Ok(None)
+        Ok(true)
     }
 }

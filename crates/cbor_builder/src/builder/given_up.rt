@@ -1,41 +1,41 @@
 //! What is open ends, and nothing of it is kept.
 
-ghost use Rattle.std.specs.Prelude.{◌≡◌, ◌↔◌, IsTrue, IfOk, IfSome, IsNone, false};
-ghost use Rattle.cbor_builder.specs.Built.{around, IsRepeatTold};
+ghost use Rattle.std.specs.Prelude.{◌≡◌, ◌↔◌, IsTrue, IfOk, false};
+ghost use Rattle.cbor_builder.specs.Built.{around};
 ghost use Rattle.cbor_canonical.specs.Parts.{HasNoRepeats};
 ghost use Rattle.cbor_builder.specs.inner.BuilderState.{standing, innermost, outers, IsLaid, IsReordered};
+ghost use Rattle.cbor_builder.specs.inner.BuilderState.{IsLeftOpen};
 ghost use Rattle.cbor_builder.specs.inner.Laid.{CanClose, OuterTakes, outer_spans};
 
 use crate::builder::Core;
 use crate::frame::Shape;
-use crate::repeat::Repeat;
 use std::alloc::AllocError;
 
 // Room for so many pairs stays.
 const KEPT: usize = 256;
 
 impl Core {
-    /// What is open ends, and nothing of it is kept. Where it is a map of which two keys are equal,
-    /// which repeated key is told, and nothing is open.
+    /// What is open ends, and nothing of it is kept. False where it is a map of which two keys are
+    /// equal: then it does not.
     #[inline(always)]
-    pub(crate) fn give_up(&mut self) -> Result<Option<Repeat>, AllocError>
+    pub(crate) fn give_up(&mut self) -> Result<bool, AllocError>
         requires laid { IsLaid self.old }
         requires closes { CanClose self.old.top.shape }
         requires takes { OuterTakes (outers self.old) }
         ensures order { self.new.order ≡ self.old.order }
-        ensures distinct { IfOk result (λ told. IsNone told ↔ HasNoRepeats (innermost self.old)) }
-        ensures around { IfOk result (λ told. IsNone told → IsLaid self.new
+        ensures distinct { IfOk result (λ distinct.
+            IsTrue distinct ↔ HasNoRepeats (innermost self.old)) }
+        ensures around { IfOk result (λ distinct. IsTrue distinct → IsLaid self.new
             × (standing self.new ≡ around (standing self.old))) }
-        ensures told { IfOk result (λ told. IfSome told
-            (λ repeat. IsRepeatTold (standing self.old) repeat.outside repeat.pair)) }
+        ensures left { IfOk result (λ distinct. distinct ≡ false → IsLeftOpen self.old self.new) }
     {
         if !self.give_up_pairs() {
-            return Ok(self.first_repeat());
+            return Ok(false);
         }
         self.out.settle(0)?;
         self.out.cut(self.top.from);
         self.leave();
-        Ok(None)
+        Ok(true)
     }
 
     // The pairs of what is open are given up. False where two keys of it are equal.

@@ -5,12 +5,12 @@ use Rattle.cbor_builder.specs.inner.Laid.{OuterTakes, opens, shape_open}
 use Rattle.cbor_buffer.specs.Moved.{meant, KeepsFront}
 use Rattle.cbor_canonical.specs.Parts.{close, closed}
 use Rattle.cbor_builder.proofs.Nesting.{nothing_open, rooted_given}
-use Rattle.cbor_builder.proofs.Reordered.{was_laid, told_there}
+use Rattle.cbor_builder.proofs.Reordered.{left_open}
 use Rattle.cbor_builder.proofs.Standing.{member_ended, member_outer, keeps_stays}
 use Rattle.cbor_builder.proofs.builder.Core.end.Goals as goal
 
 pub returns-in_ok-complete-clause-closed : goal.returns-in_ok-complete-clause-closed
-returns-in_ok-complete-clause-closed c = λ none.
+returns-in_ok-complete-clause-closed c = λ distinct.
     let s = c.args.self.now in
     let e = c.in_ok-complete.ensures in
     let k = c.in_ok-close_top.ensures in
@@ -29,34 +29,11 @@ returns-in_ok-complete-clause-closed c = λ none.
       made.1 ∙ ap (λ (o : KeyOrder). close o (opens (meant s.out) s.spans.items (s.top ∷ outers s))) eo,
     )
 
-pub first_repeat-requires : goal.first_repeat-requires
-first_repeat-requires c =
-    let s = c.args.self.now in
+pub returns-then-not-branch-clause-left : goal.returns-then-not-branch-clause-left
+returns-then-not-branch-clause-left c = λ e.
     let k = c.in_ok-close_top.ensures in
     let left = k.left c.if-not-branch.true in
-    record { laid = (s.spans.items, was_laid s c.close_top.new.self c.requires.laid.0 k.order left.0 k.top k.around left.1) }
-
-pub returns-then-not-branch-clause-distinct : goal.returns-then-not-branch-clause-distinct
-returns-then-not-branch-clause-distinct c =
-    let s = c.args.self.now in
-    let k = c.in_ok-close_top.ensures in
-    let left = k.left c.if-not-branch.true in
-    let told = told_there s c.close_top.new.self _ c.first_repeat.result c.requires.laid.0 k.order left.0 k.top k.around left.1 c.if-not-branch.true k.distinct c.first_repeat.ensures.tells in
-    ((λ none. absurd (told.0 none)), (λ h. absurd (told.1 h)))
-
-pub returns-then-not-branch-clause-closed : goal.returns-then-not-branch-clause-closed
-returns-then-not-branch-clause-closed c = λ none.
-    let s = c.args.self.now in
-    let k = c.in_ok-close_top.ensures in
-    let left = k.left c.if-not-branch.true in
-    absurd ((told_there s c.close_top.new.self _ c.first_repeat.result c.requires.laid.0 k.order left.0 k.top k.around left.1 c.if-not-branch.true k.distinct c.first_repeat.ensures.tells).0 none)
-
-pub returns-then-not-branch-clause-told : goal.returns-then-not-branch-clause-told
-returns-then-not-branch-clause-told c =
-    let s = c.args.self.now in
-    let k = c.in_ok-close_top.ensures in
-    let left = k.left c.if-not-branch.true in
-    (told_there s c.close_top.new.self _ c.first_repeat.result c.requires.laid.0 k.order left.0 k.top k.around left.1 c.if-not-branch.true k.distinct c.first_repeat.ensures.tells).2
+    left_open c.args.self.now c.close_top.new.self c.requires.laid.0 k.order left.0 k.top k.around left.1
 
 pub complete-requires-clause-ready : goal.complete-requires-clause-ready
 complete-requires-clause-ready c =

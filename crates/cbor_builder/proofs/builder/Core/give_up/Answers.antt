@@ -7,11 +7,11 @@ use Rattle.cbor_builder.specs.declared.frame.Frame.{Frame}
 use Rattle.cbor_builder.proofs.InPlace.{agrees_refl}
 use Rattle.cbor_builder.proofs.Nesting.{found_around}
 use Rattle.cbor_builder.proofs.OpenRepeats.{moved}
-use Rattle.cbor_builder.proofs.Reordered.{was_laid, told_there}
+use Rattle.cbor_builder.proofs.Reordered.{left_open}
 use Rattle.cbor_builder.proofs.builder.Core.give_up.Goals as goal
 
 pub returns-clause-around : goal.returns-clause-around
-returns-clause-around c = λ none.
+returns-clause-around c = λ distinct.
     let s = c.args.self.now in
     let n = c.give_up_pairs.new.self in
     let e = c.give_up_pairs.ensures in
@@ -33,27 +33,7 @@ returns-clause-around c = λ none.
           (l.order ∙ e.order) out (l.spans ∙ e.spans c.if-not-give_up_pairs.false) (sym (l.frames t) ∙ e.around) refl,
     )
 
-pub first_repeat-requires : goal.first_repeat-requires
-first_repeat-requires c =
-    let s = c.args.self.now in
+pub returns-then-not-give_up_pairs-clause-left : goal.returns-then-not-give_up_pairs-clause-left
+returns-then-not-give_up_pairs-clause-left c = λ no.
     let e = c.give_up_pairs.ensures in
-    record { laid = (s.spans.items, was_laid s c.give_up_pairs.new.self c.requires.laid.0 e.order e.out e.top e.around (e.left c.if-not-give_up_pairs.true)) }
-
-pub returns-then-not-give_up_pairs-clause-distinct : goal.returns-then-not-give_up_pairs-clause-distinct
-returns-then-not-give_up_pairs-clause-distinct c =
-    let s = c.args.self.now in
-    let e = c.give_up_pairs.ensures in
-    let told = told_there s c.give_up_pairs.new.self c.give_up_pairs.result c.first_repeat.result c.requires.laid.0 e.order e.out e.top e.around (e.left c.if-not-give_up_pairs.true) c.if-not-give_up_pairs.true e.distinct c.first_repeat.ensures.tells in
-    ((λ none. absurd (told.0 none)), (λ h. absurd (told.1 h)))
-
-pub returns-then-not-give_up_pairs-clause-around : goal.returns-then-not-give_up_pairs-clause-around
-returns-then-not-give_up_pairs-clause-around c = λ none.
-    let s = c.args.self.now in
-    let e = c.give_up_pairs.ensures in
-    absurd ((told_there s c.give_up_pairs.new.self c.give_up_pairs.result c.first_repeat.result c.requires.laid.0 e.order e.out e.top e.around (e.left c.if-not-give_up_pairs.true) c.if-not-give_up_pairs.true e.distinct c.first_repeat.ensures.tells).0 none)
-
-pub returns-then-not-give_up_pairs-clause-told : goal.returns-then-not-give_up_pairs-clause-told
-returns-then-not-give_up_pairs-clause-told c =
-    let s = c.args.self.now in
-    let e = c.give_up_pairs.ensures in
-    (told_there s c.give_up_pairs.new.self c.give_up_pairs.result c.first_repeat.result c.requires.laid.0 e.order e.out e.top e.around (e.left c.if-not-give_up_pairs.true) c.if-not-give_up_pairs.true e.distinct c.first_repeat.ensures.tells).2
+    left_open c.args.self.now c.give_up_pairs.new.self c.requires.laid.0 e.order e.out e.top e.around (e.left c.if-not-give_up_pairs.true)
