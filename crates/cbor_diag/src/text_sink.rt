@@ -111,6 +111,13 @@ impl<'a, 'o> Sink<'a> for TextSink<'o> {
     ghost trusts = { true };
 
     #[inline(always)]
+    fn is_trusting() -> bool
+        ensures { result ≡ true }
+    {
+        true
+    }
+
+    #[inline(always)]
     fn leaf(&mut self, is_key: bool, major: Major, number: u64) -> Result<(), AllocError> {
         self.reach(is_key)?;
         put_leaf(major, number, self.out, self.shown)?;

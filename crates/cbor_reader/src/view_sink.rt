@@ -1,6 +1,6 @@
 //! A builder of views, as what takes the parts of an item.
 
-ghost use Rattle.std.specs.Prelude.{◌≡◌, [], true, IsUtf8};
+ghost use Rattle.std.specs.Prelude.{◌≡◌, [], true, false, IsUtf8};
 ghost use Rattle.cbor_builder.specs.Built.{IsLeaf};
 ghost use Rattle.cbor_head.specs.Head.{IsSimple};
 ghost use Rattle.cbor_head.specs.Spelling.{Spelling, value_of};
@@ -61,6 +61,13 @@ impl<'a> Sink<'a> for ViewSink<'a> {
     ghost stands = { view_stands };
 
     ghost holds = { view_holds };
+
+    #[inline(always)]
+    fn is_trusting() -> bool
+        ensures { result ≡ false }
+    {
+        false
+    }
 
     #[inline(always)]
     fn leaf(&mut self, is_key: bool, major: Major, number: u64) -> Result<(), AllocError> {

@@ -42,6 +42,11 @@ impl<'a> Sink<'a> for CanonicalSink {
     ghost holds = { sink_holds };
 
     #[inline(always)]
+    fn is_trusting() -> bool {
+        false
+    }
+
+    #[inline(always)]
     fn leaf(&mut self, _is_key: bool, major: Major, number: u64) -> Result<(), AllocError> {
         self.builder.leaf(major, number)?;
         Ok(())

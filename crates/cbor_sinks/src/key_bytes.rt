@@ -89,6 +89,11 @@ impl<'a> Sink<'a> for KeyBytes {
     ghost holds = { keys_hold };
 
     #[inline(always)]
+    fn is_trusting() -> bool {
+        false
+    }
+
+    #[inline(always)]
     fn leaf(&mut self, is_key: bool, major: Major, number: u64) -> Result<(), AllocError> {
         if self.keeps(is_key) {
             self.builder.leaf(major, number)?;

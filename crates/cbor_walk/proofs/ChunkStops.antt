@@ -1,5 +1,5 @@
 -- Why a string in chunks is refused, of which some chunks are read.
-use Rattle.std.proofs.Common.{◌≡◌, ◌≢◌, ℕ, zero, suc, ◌+◌, ◌-◌, ◌^◌, ◌/◌, ◌%◌, ◌<◌, ◌≤◌, Bool, true, false, true≢false, cond, None, List, [], ◌∷◌, ◌++◌, length, take, drop, get_or, flat_map, refl, sym, ap, ap₂, ◌∙◌, subst, inl, inr, arith, append_assoc, append-nil}
+use Rattle.std.proofs.Common.{◌≡◌, ◌≢◌, ℕ, zero, suc, ◌+◌, ◌-◌, ◌^◌, ◌/◌, ◌%◌, ◌<◌, ◌≤◌, Bool, true, false, true≢false, cond, None, Some, List, [], ◌∷◌, ◌++◌, length, take, drop, get_or, flat_map, refl, sym, ap, ap₂, ◌∙◌, subst, inl, inr, arith, append_assoc, append-nil}
 use Rattle.std.specs.List.{AllByRecursion}
 use Rattle.std.specs.Prelude.{IsUtf8}
 use Rattle.std.specs.Str.Lossy.{utf8_valid_len}
@@ -138,11 +138,47 @@ no-chunk d fs t c small stray other =
           ∙ tail-refused m fs s.major (s.low - 24) (omega (arith, fits, l)) (λ k. differs (omega (arith, k, l))) (λ e k. stray (omega (arith, made, e, k, l)))
     ]
 
--- ---- what follows the chunks that are read
+-- ---- a chunk that is no text
 
 of-text : (t : Bool) (at : ℕ) (w : Width) (q : List ℕ) (c : Complaint) → t ≡ true → OfPayload plain (at + length (head (string_major t) w (length q))) q c → OfString plain at (string_major t) w q c
 of-text true at w q c e h = inr h
 of-text false at w q c e h = cc e
+
+module _ (t : Bool) (behind rest : List ℕ) (s : AreRead t behind rest) (w : Width) (n : ℕ) (from : List ℕ) (is : rest ≡ head (string_major t) w n ++ from) (holds : Holds w n) (inside : n ≤ length from) where
+  abbrev pub payload : List ℕ
+  payload = take n from
+
+  -- the bytes of the string to the end of it
+  abbrev pub to_its_end : List ℕ
+  to_its_end = chunks_bytes (string_major t) s.done ++ (head (string_major t) w (length payload) ++ payload)
+
+  payload_size : length payload ≡ n
+  payload_size = length-take-le n from inside
+
+  pub in_front : chunked_from t behind ≡ to_its_end ++ drop n from
+  in_front =
+      let m = string_major t in
+      let hd = head m w (length payload) in
+      let chunk_is : rest ≡ (hd ++ payload) ++ drop n from = is ∙ ap₂ (λ (k : ℕ) (x : List ℕ). head m w k ++ x) (sym payload_size) (sym (take-append-drop n from)) ∙ sym (append_assoc hd payload (drop n from)) in
+      s.bytes ∙ ap (λ (y : List ℕ). chunks_bytes m s.done ++ y) chunk_is ∙ sym (append_assoc (chunks_bytes m s.done) (hd ++ payload) (drop n from))
+
+  -- where its payload begins, of a string at this place
+  abbrev pub payload_at : ℕ → ℕ
+  payload_at to = to + length (chunks_bytes (string_major t) s.done) + length (head (string_major t) w (length payload))
+
+  abbrev pub its_complaint : ℕ → Complaint
+  its_complaint to = complaint (payload_at to + length payload) (payload_at to + utf8_valid_len payload) InvalidText
+
+  pub no_text_judged : t ≡ true → (IsUtf8 payload → ⊥) → (to d : ℕ) → IsJudged plain to d to_its_end (Some (its_complaint to))
+  no_text_judged text none to d =
+      let m = string_major t in
+      let from_small : AreBytes from = bytes_back (head m w n) from (subst AreBytes is s.small) in
+      let small : AreBytes payload = bytes_front payload (drop n from) (subst AreBytes (sym (take-append-drop n from)) from_small) in
+      let pay : OfPayload plain (payload_at to) payload (its_complaint to) = (refl, none, refl) in
+      chunk_complains m (kind t).0 (kind t).1 s.done plain to d (s.so_far to) w payload (its_complaint to) (subst (Holds w) (sym payload_size) holds, small) (heads_free _ m w (length payload))
+      (of-text t (to + length (chunks_bytes m s.done)) w payload (its_complaint to) text pay) pay
+
+-- ---- what follows the chunks that are read
 
 module _ (t : Bool) (behind rest : List ℕ) (s : AreRead t behind rest) (at : ℕ) (f : Refusal) where
   abbrev m : Major
@@ -214,23 +250,17 @@ module _ (t : Bool) (behind rest : List ℕ) (s : AreRead t behind rest) (at : �
 
     pub no_text_chunk_here : t ≡ true → n ≤ length from → (IsUtf8 (take n from) → ⊥) → f ≡ refusal InvalidText (place + (length rest - length from) + utf8_valid_len (take n from)) (place + (length rest - length from) + n) → AreChunksRefused b at f
     no_text_chunk_here text inside none e = λ room limits ls clean broken kept here are.
-        let to = length (bytes_before ls) in
         let q = take n from in
+        let before_end = to_its_end t behind rest s w n from is holds inside in
+        let front = in_front t behind rest s w n from is holds inside in
+        let start = payload_at t behind rest s w n from is holds inside (length (bytes_before ls)) in
         let long : length q ≡ n = length-take-le n from inside in
-        let parts = take-append-drop n from in
-        let small : AreBytes q = bytes_front q (drop n from) (subst AreBytes (sym parts) from_small) in
-        let hd = head m w (length q) in
-        let chunk_is : rest ≡ (hd ++ q) ++ drop n from = is ∙ ap₂ (λ (k : ℕ) (x : List ℕ). head m w k ++ x) (sym long) (sym parts) ∙ sym (append_assoc hd q (drop n from)) in
-        let front : b ≡ (before ++ (hd ++ q)) ++ drop n from = s.bytes ∙ ap (λ (y : List ℕ). before ++ y) chunk_is ∙ sym (append_assoc before (hd ++ q) (drop n from)) in
-        let start = to + length before + length hd in
-        let c = complaint (start + length q) (start + utf8_valid_len q) InvalidText in
-        let pay : OfPayload plain start q c = (refl, none, refl) in
-        let j = chunk_complains m (kind t).0 (kind t).1 s.done plain to (limits.depth - length ls) (s.so_far to) w q c (subst (Holds w) (sym long) holds, small) (heads_free _ m w (length q)) (of-text t (to + length before) w q c text pay) pay in
-        let used : length hd + length from ≡ length rest = ap (λ (k : ℕ). length (head m w k) + length from) long ∙ sym (length-append (head m w n) from) ∙ sym (ap length is) in
+        let used : length (head m w (length q)) + length from ≡ length rest = ap (λ (k : ℕ). length (head m w k) + length from) long ∙ sym (length-append (head m w n) from) ∙ sym (ap length is) in
         let at_payload : start ≡ place + (length rest - length from) = omega (arith, there, here.here, used) in
         let same = ap₂ (λ (i k : ℕ). refusal InvalidText (i + utf8_valid_len q) (i + k)) at_payload long ∙ sym e in
-        let found = complaint_here plain limits ls clean (bytes_before ls ++ b) (before ++ (hd ++ q)) (drop n from) (ap (λ (y : List ℕ). bytes_before ls ++ y) front)
-        (kept_front limits plain ls (before ++ (hd ++ q)) (drop n from) (subst (KeepsHere limits plain ls) front kept)) (one (before ++ (hd ++ q)) (drop n from) front) c j in
+        let found = complaint_here plain limits ls clean (bytes_before ls ++ b) before_end (drop n from) (ap (λ (y : List ℕ). bytes_before ls ++ y) front)
+        (kept_front limits plain ls before_end (drop n from) (subst (KeepsHere limits plain ls) front kept)) (one before_end (drop n from) front) _
+        (no_text_judged t behind rest s w n from is holds inside text none (length (bytes_before ls)) (limits.depth - length ls)) in
         inl (subst (HasComplaint plain limits (bytes_before ls ++ b)) same found)
 
 -- what is at fault with it as with a string

@@ -94,9 +94,9 @@ module _ (S : Type 0) (stands : S → S → Standing → Type 0) (holds : S → 
     pub chunk-due : IsItemDue S stands key g → IsChunkDue S holds key t now
     chunk-due (start, d, ls, room, due) = (start, d, ls, chunks_joined s.read.done, room, s.given start ls due, due.1)
 
-    pub one-more : (n size : ℕ) (from : List ℕ) (new : S) → IsHead (string_major t) n rest from → IsPayload t n size from → GrowsString S holds key t (take size from) now new → AreChunks S stands holds key t behind (drop size from) g new
+    pub one-more : (n size : ℕ) (from : List ℕ) (new : S) → IsHead (string_major t) n rest from → IsPayload false t n size from → GrowsString S holds key t (take size from) now new → AreChunks S stands holds key t behind (drop size from) g new
     one-more n size from new h p grows =
-        let (read, joined) = one-read t behind rest s.read n from h p.inside p.utf8 in
+        let (read, joined) = one-read t behind rest s.read n from h p.inside (p.utf8 refl) in
         subst (λ (i : ℕ). AreChunks S stands holds key t behind (drop i from) g new) (sym p.all) (record {
           read = read;
           given = λ start ls due.

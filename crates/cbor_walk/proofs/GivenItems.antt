@@ -64,17 +64,17 @@ scalar-head majors.Map n rest behind l h = absurd l
 scalar-head majors.Tag n rest behind l h = absurd l
 
 -- the head of a string before its payload
-string-bytes : (m : Major) (n : ℕ) (rest behind : List ℕ) (h : IsHead m n rest behind) → n ≤ length behind → rest ≡ (head m h.width (length (take n behind)) ++ take n behind) ++ drop n behind
+pub string-bytes : (m : Major) (n : ℕ) (rest behind : List ℕ) (h : IsHead m n rest behind) → n ≤ length behind → rest ≡ (head m h.width (length (take n behind)) ++ take n behind) ++ drop n behind
 string-bytes m n rest behind h inside =
     h.is
     ∙ ap₂ (λ (k : ℕ) (x : List ℕ). head m h.width k ++ x) (sym (length-take-le n behind inside)) (sym (take-append-drop n behind))
     ∙ sym (append_assoc (head m h.width (length (take n behind))) (take n behind) (drop n behind))
 
-pub scalar-string : (t : Bool) (n size : ℕ) (rest behind : List ℕ) → IsHead (string_major t) n rest behind → IsPayload t n size behind → AreBytes behind
+pub scalar-string : (t : Bool) (n size : ℕ) (rest behind : List ℕ) → IsHead (string_major t) n rest behind → IsPayload false t n size behind → AreBytes behind
     → IsScalar rest (drop size behind) (string_value t (take size behind))
 scalar-string t n size rest behind h p are =
     subst (λ (k : ℕ). IsScalar rest (drop k behind) (string_value t (take k behind))) (sym p.all)
-    (go t h p.utf8 (length-take-le n behind p.inside) (bytes_front (take n behind) (drop n behind) (subst AreBytes (sym (take-append-drop n behind)) are)))
+    (go t h (p.utf8 refl) (length-take-le n behind p.inside) (bytes_front (take n behind) (drop n behind) (subst AreBytes (sym (take-append-drop n behind)) are)))
   where
     go : (t : Bool) (h : IsHead (string_major t) n rest behind) → (t ≡ true → IsUtf8 (take n behind)) → length (take n behind) ≡ n → AreBytes (take n behind)
         → IsScalar rest (drop n behind) (string_value t (take n behind))

@@ -8,6 +8,7 @@ pub mod GivenItems
 pub mod GivenKinds
 pub mod GivenParts
 pub mod GivenStops
+pub mod KnownTexts
 pub mod Lefts
 pub mod LevelPaths
 pub mod RepeatedKeys

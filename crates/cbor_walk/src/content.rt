@@ -33,7 +33,7 @@ impl<S> Building<S> {
         ensures kind { IsItem result }
         ensures front { TakesHeadFront result (string_major is_text) count behind.now }
     {
-        let Some(size) = payload_size(is_text, count, behind) else {
+        let Some(size) = payload_size::<S>(is_text, count, behind) else {
             return Part::Untaken;
         };
         let is_key = self.stack.top.due.is_key();
@@ -73,7 +73,7 @@ impl<S> Building<S> {
             let Some(head) = chunk_head(is_text, *first, behind) else {
                 return Part::Broken;
             };
-            let Some(size) = payload_size(is_text, head.number, head.rest) else {
+            let Some(size) = payload_size::<S>(is_text, head.number, head.rest) else {
                 return Part::Broken;
             };
             let Ok(()) = self.sink.chunk(is_key, is_text, head.rest, size) else {
@@ -97,16 +97,17 @@ fn chunk_head<'a>(is_text: bool, first: u8, behind: &'a [u8]) -> Option<Argument
     read_argument(first % 32, behind)
 }
 
-// A payload of so many bytes as a size, if it stands in front, and is UTF-8 where it is a text's.
+// A payload of so many bytes as a size, if it stands in front, and is UTF-8 where it is a text's. Where
+// the item is known to be valid, its texts are UTF-8, and are not looked through.
 #[inline(always)]
-fn payload_size(is_text: bool, count: u64, rest: &[u8]) -> Option<usize>
-    ensures { IfSome result (λ size. IsPayload is_text count size rest.now) }
+fn payload_size<'a, S: Sink<'a>>(is_text: bool, count: u64, rest: &'a [u8]) -> Option<usize>
+    ensures { IfSome result (λ size. IsPayload S.trusts is_text count size rest.now) }
 {
     if count > rest.len() as u64 {
         return None;
     }
     let size = count as usize;
-    if is_text && !is_text_front(rest, size) {
+    if is_text && !S::is_trusting() && !is_text_front(rest, size) {
         return None;
     }
     Some(size)

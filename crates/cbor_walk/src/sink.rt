@@ -30,6 +30,11 @@ pub trait Sink<'a> {
     // Whether it takes only what is known to be valid, and so looks for no equal keys.
     ghost trusts: { Bool } = { false };
 
+    /// Whether it takes only what is known to be valid. Then no text is looked through for UTF-8 before
+    /// it is given.
+    fn is_trusting() -> bool
+        ensures { result ≡ trusts };
+
     /// An integer or a simple value.
     fn leaf(&mut self, is_key: bool, major: Major, number: u64) -> Result<(), AllocError>
         requires kind { IsLeaf major }

@@ -25,6 +25,11 @@ impl<'a> Sink<'a> for Nothing {
     ghost trusts = { true };
 
     #[inline(always)]
+    fn is_trusting() -> bool {
+        true
+    }
+
+    #[inline(always)]
     fn leaf(&mut self, _is_key: bool, _major: Major, _number: u64) -> Result<(), AllocError> {
         Ok(())
     }

@@ -1,5 +1,5 @@
 -- What is taken of the bytes that are left: an item, a head, a break.
-use Rattle.std.specs.Prelude.{◌≡◌, ℕ, ◌-◌, ◌<◌, ◌≤◌, Bool, true, List, ◌∷◌, ◌++◌, length, take, drop, IsUtf8}
+use Rattle.std.specs.Prelude.{◌≡◌, ℕ, ◌-◌, ◌<◌, ◌≤◌, Bool, true, false, List, ◌∷◌, ◌++◌, length, take, drop, IsUtf8}
 use Rattle.cbor_head.specs.Head.{Holds, IsSimple, head, shortest}
 use Rattle.cbor_head.specs.Spelling.{Spelling, spell, IsSpelled, depth}
 use Rattle.cbor_head.specs.declared.major.Major.{Major}
@@ -49,11 +49,11 @@ pub record IsOpener (m : Major) (n : ℕ) (c : Open) (rest behind : List ℕ) : 
   pub some : 0 < length (level_bytes level)
   pub is : rest ≡ level_bytes level ++ behind
 
--- a payload of so many bytes stands in front, which is UTF-8 where it is a text's
-pub record IsPayload (is_text : Bool) (count size : ℕ) (rest : List ℕ) : Type 0 where
+-- a payload of so many bytes stands in front, which is UTF-8 where it is a text's, unless that is known of the whole
+pub record IsPayload (trusts is_text : Bool) (count size : ℕ) (rest : List ℕ) : Type 0 where
   pub all : size ≡ count
   pub inside : count ≤ length rest
-  pub utf8 : is_text ≡ true → IsUtf8 (take count rest)
+  pub utf8 : trusts ≡ false → is_text ≡ true → IsUtf8 (take count rest)
 
 -- behind the opener of a string in chunks
 abbrev pub chunked_from : Bool → List ℕ → List ℕ

@@ -8,6 +8,7 @@ use Rattle.cbor_walk.specs.inner.Parts.{IsHead, chunked_from}
 use Rattle.cbor_walk.proofs.GivenKinds.{scalar-begun}
 use Rattle.cbor_walk.proofs.GivenParts.{due-item, key-awaited, scalar-settles}
 use Rattle.cbor_walk.proofs.Chunked.{AreChunks, no-chunks, chunk-due, one-more, all-chunks}
+use Rattle.cbor_walk.proofs.KnownTexts.{known-chunk}
 use Rattle.cbor_walk.proofs.building.Building.take_chunks.Goals as goal
 
 pub begin_string-requires : goal.begin_string-requires
@@ -22,15 +23,18 @@ end_string-requires g c = λ k. (
 
 pub chunk-requires : goal.chunk-requires
 chunk-requires g c = λ n.
-    let p = c.in-Some-payload_size.ensures in
-    let from = c.in-Some-chunk_head.head.rest.now in (
+    let t = c.args.is_text in
+    let top = c.args.self.now.stack.top in
+    let from = c.in-Some-chunk_head.head.rest.now in
+    let head : IsHead (string_major t) c.in-Some-chunk_head.head.number c.chunks.rest.now from = subst (λ (x : List ℕ). IsHead (string_major t) c.in-Some-chunk_head.head.number x from) (sym c.in-Some.ensures.cases.0) c.in-Some-chunk_head.ensures in
+    let p = known-chunk g.row.S.Denot g.S.Sink.stands g.S.Sink.trusts t top c.args.self.now.sink c.in-Some-chunk_head.head.number c.in-Some-payload_size.size c.args.behind.now c.chunks.rest.now c.requires.opener c.chunks.invariant.chunks.read from head c.in-Some-payload_size.ensures in (
       (refl, tt),
       (
         subst (λ (k : ℕ). k ≤ length from) (sym p.all) p.inside,
         (
-          λ e. subst (λ (k : ℕ). IsUtf8 (take k from)) (sym p.all) (p.utf8 e),
-          chunk-due g.row.S.Denot g.S.Sink.stands g.S.Sink.holds c.is_key-is_key.result c.args.is_text c.args.behind.now c.args.self.now.sink c.chunks.rest.now c.chunks.self.sink c.chunks.invariant.chunks
-              (due-item g.row.S.Denot g.S.Sink.stands g.S.Sink.trusts c.args.self.now.stack.top c.args.self.now.sink (chunked_from c.args.is_text c.args.behind.now) c.is_key-is_key.result c.is_key-is_key.ensures c.requires.opener),
+          λ e. subst (λ (k : ℕ). IsUtf8 (take k from)) (sym p.all) (p.utf8 refl e),
+          chunk-due g.row.S.Denot g.S.Sink.stands g.S.Sink.holds c.is_key-is_key.result t c.args.behind.now c.args.self.now.sink c.chunks.rest.now c.chunks.self.sink c.chunks.invariant.chunks
+              (due-item g.row.S.Denot g.S.Sink.stands g.S.Sink.trusts top c.args.self.now.sink (chunked_from t c.args.behind.now) c.is_key-is_key.result c.is_key-is_key.ensures c.requires.opener),
         ),
       ),
     )
@@ -43,9 +47,10 @@ chunks-preserved g c =
     let n = c.in-Some-chunk_head.head.number in
     let whole : take (length from - size) (drop size from) ≡ drop size from = ap (λ n. take n (drop size from)) (sym (length-drop size from)) ∙ take-length (drop size from) in
     let head : IsHead (string_major t) n c.chunks.rest.now from = subst (λ (x : List ℕ). IsHead (string_major t) n x from) (sym c.in-Some.ensures.cases.0) c.in-Some-chunk_head.ensures in
+    let p = known-chunk g.row.S.Denot g.S.Sink.stands g.S.Sink.trusts t c.args.self.now.stack.top c.args.self.now.sink n size c.args.behind.now c.chunks.rest.now c.requires.opener c.chunks.invariant.chunks.read from head c.in-Some-payload_size.ensures in
     record {
       chunks = subst (λ (x : List ℕ). AreChunks g.row.S.Denot g.S.Sink.stands g.S.Sink.holds c.is_key-is_key.result t c.args.behind.now x c.args.self.now.sink c.chunk.new.self) (sym whole)
-          (one-more g.row.S.Denot g.S.Sink.stands g.S.Sink.holds c.is_key-is_key.result t c.args.behind.now c.args.self.now.sink c.chunks.rest.now c.chunks.self.sink c.chunks.invariant.chunks n size from c.chunk.new.self head c.in-Some-payload_size.ensures c.in-Ok-chunk.ensures);
+          (one-more g.row.S.Denot g.S.Sink.stands g.S.Sink.holds c.is_key-is_key.result t c.args.behind.now c.args.self.now.sink c.chunks.rest.now c.chunks.self.sink c.chunks.invariant.chunks n size from c.chunk.new.self head p c.in-Ok-chunk.ensures);
       stack = c.chunks.invariant.stack;
     }
 

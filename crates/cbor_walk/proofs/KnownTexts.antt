@@ -1,0 +1,66 @@
+-- The texts of an item that is known to be valid are UTF-8, where the walk stands within it.
+use Rattle.std.proofs.Common.{◌≡◌, ℕ, ◌+◌, ◌-◌, ◌≤◌, Bool, true, false, true≢false, Some, List, ◌∷◌, ◌++◌, length, take, drop, refl, sym, ap, ◌∙◌, subst, append_assoc}
+use Rattle.std.specs.Prelude.{IsUtf8}
+use Rattle.std.specs.Str.{is_utf8}
+use Rattle.std.specs.Str.Lossy.{utf8_valid_len}
+use Rattle.std.proofs.lemmas.List.{length-take-le, take-append-drop}
+use Rattle.std.proofs.lemmas.Str.{IsUtf8-from_is_utf8, is_utf8-from_IsUtf8}
+use Rattle.cbor_head.specs.Complaint.{Complaint, plain, complaint}
+use Rattle.cbor_head.specs.Head.{Holds, head}
+use Rattle.cbor_head.specs.Value.{AreBytes}
+use Rattle.cbor_head.specs.declared.major.Major.TheVariants.{Text}
+use Rattle.cbor_head.specs.declared.reason.Reason.TheVariants.{InvalidText}
+use Rattle.cbor_judging.proofs.ByteLists.{bytes_front}
+use Rattle.cbor_judging.proofs.CleanParts.{clean-front}
+use Rattle.cbor_judging.proofs.Leaves.{text_complains}
+use Rattle.cbor_judging.specs.Judged.{IsJudged}
+use Rattle.cbor_judging.specs.Levels.{Level, Standing, bytes_before}
+use Rattle.cbor_judging.specs.Reading.{string_major}
+use Rattle.cbor_walk.specs.inner.Building.{StandsBefore, IsHeadDue, IsDueFor}
+use Rattle.cbor_walk.specs.inner.Parts.{IsHead, IsPayload, chunked_from}
+use Rattle.cbor_walk.specs.declared.open.Open.{Open}
+use Rattle.cbor_walk.proofs.Chunked.{AreRead}
+use Rattle.cbor_walk.proofs.ChunkStops.{to_its_end, in_front, its_complaint, no_text_judged}
+use Rattle.cbor_walk.proofs.Faults.{heads_free}
+use Rattle.cbor_walk.proofs.GivenItems.{string-bytes}
+
+decided : (q : List ℕ) → ((IsUtf8 q → ⊥) → ⊥) → IsUtf8 q
+decided q h = go (is_utf8 q) refl
+  where
+    go : (b : Bool) → is_utf8 q ≡ b → IsUtf8 q
+    go true e = IsUtf8-from_is_utf8 q e
+    go false e = absurd (h (λ u. true≢false (sym (is_utf8-from_IsUtf8 q u) ∙ e)))
+
+-- what is not looked through is known not to be other than UTF-8
+looked-through : (trusts t : Bool) (n size : ℕ) (bytes : List ℕ) → IsPayload trusts t n size bytes → (trusts ≡ true → t ≡ true → (IsUtf8 (take n bytes) → ⊥) → ⊥) → IsPayload false t n size bytes
+looked-through false t n size bytes p known = p
+looked-through true t n size bytes p known = record { all = p.all; inside = p.inside; utf8 = λ _ e. decided (take n bytes) (known refl e) }
+
+module _ (S : Type 0) (stands : S → S → Standing → Type 0) (trusts : Bool) (P : List Level → Type 0) (d : ℕ) (input : List ℕ) (cs : List Open) where
+  -- nothing in front has a complaint
+  never-refused : (rest : List ℕ) (s : StandsBefore S stands trusts P d input cs rest) → trusts ≡ true → (p after : List ℕ) → rest ≡ p ++ after → (c : Complaint) → IsJudged plain (length (bytes_before s.ls)) (d - length s.ls) p (Some c) → ⊥
+  never-refused rest s e p after is c j =
+      let (item, more, taken, front) = s.known e in
+      clean-front d s.ls j.item item p j.rest after more s.levels j.is taken (append_assoc (bytes_before s.ls) p after ∙ ap (λ (x : List ℕ). bytes_before s.ls ++ x) (sym is) ∙ sym s.bytes ∙ front)
+      c j.finding.holds j.finding.ends
+
+  no-other-text : (rest : List ℕ) → StandsBefore S stands trusts P d input cs rest → trusts ≡ true → (n : ℕ) (behind : List ℕ) → IsHead Text n rest behind → n ≤ length behind → AreBytes behind → (IsUtf8 (take n behind) → ⊥) → ⊥
+  no-other-text rest s e n behind h inside are none =
+      let q = take n behind in
+      let small : AreBytes q = bytes_front q (drop n behind) (subst AreBytes (sym (take-append-drop n behind)) are) in
+      let hd = head Text h.width (length q) in
+      let at = length (bytes_before s.ls) in
+      let c = complaint (at + length hd + length q) (at + length hd + utf8_valid_len q) InvalidText in
+      never-refused rest s e (hd ++ q) (drop n behind) (string-bytes Text n rest behind h inside) c
+      (text_complains h.width q plain at (d - length s.ls) c (subst (Holds h.width) (sym (length-take-le n behind inside)) h.holds, small) (heads_free at Text h.width (length q)) (refl, none, refl))
+
+module _ (S : Type 0) (stands : S → S → Standing → Type 0) (trusts t : Bool) (top : Open) (g : S) (n size : ℕ) where
+  pub known-string : (behind : List ℕ) → IsHeadDue S stands trusts (string_major t) n behind top g → AreBytes behind → IsPayload trusts t n size behind → IsPayload false t n size behind
+  known-string behind (rest, h, (d, outer, (start, input, due))) are p =
+      looked-through trusts t n size behind p (λ e text. no-other-text S stands trusts _ d input (top ∷ outer) rest due e n behind (subst (λ (u : Bool). IsHead (string_major u) n rest behind) text h) p.inside are)
+
+  pub known-chunk : (behind rest : List ℕ) → IsDueFor S stands trusts top g (chunked_from t behind) → (r : AreRead t behind rest) (from : List ℕ) → IsHead (string_major t) n rest from → IsPayload trusts t n size from → IsPayload false t n size from
+  known-chunk behind rest (d, outer, (start, input, due)) r from h p = looked-through trusts t n size from p (λ e text none.
+      never-refused S stands trusts _ d input (top ∷ outer) (chunked_from t behind) due e (to_its_end t behind rest r h.width n from h.is h.holds p.inside) (drop n from) (in_front t behind rest r h.width n from h.is h.holds p.inside)
+      (its_complaint t behind rest r h.width n from h.is h.holds p.inside (length (bytes_before due.ls)))
+      (no_text_judged t behind rest r h.width n from h.is h.holds p.inside text none (length (bytes_before due.ls)) (d - length due.ls)))
