@@ -8,7 +8,7 @@ use Rattle.cbor_head.specs.Spelling.{Chunk, IsChunk, Spelling, Spellings, unsign
 use Rattle.cbor_automaton.specs.Trace.{Mark, trace}
 use Rattle.cbor_automaton.specs.Automaton.{start, Frame, counted, indefinite_array, indefinite_map, State, at_item, in_head, in_simple, in_payload, in_chunks, done, Next, refuses, goes, tells, close, expect, payload, after, take_byte, Outcome, refused, reached, telling, and_then, run}
 use Rattle.cbor_head.specs.declared.major.Major.{Major}
-use Rattle.cbor_head.specs.declared.major.Major.TheVariants.{Unsigned, Negative, Bytes, Text, Array, Map, Tag, Simple}
+use Rattle.cbor_head.specs.declared.major.Major.TheVariants.{Bytes, Text, Array, Map, Tag}
 use Rattle.cbor_head.specs.declared.width.Width.TheVariants.{Direct}
 use Rattle.cbor_automaton.proofs.Forward.{forward, telling_all}
 use Rattle.cbor_automaton.proofs.Stands.{Rest, closing, Opened, IsString, Chunked, Before, Stands, room-of, head-done}
@@ -20,10 +20,10 @@ shorter d xs ys b = (b.0, ys ++ b.1, record { spelled = b.2.spelled; within = b.
 begins-along : (d : ℕ) (xs ys : List ℕ) → xs ≡ ys → IsBeginning d xs → IsBeginning d ys
 begins-along d xs ys e b = subst (λ (zs : List ℕ). IsBeginning d zs) e b
 
-abbrev zero_item : Spelling
+abbrev pub zero_item : Spelling
 zero_item = unsigned Direct 0
 
-abbrev zeros : ℕ → Spellings
+abbrev pub zeros : ℕ → Spellings
 zeros zero = no_spellings
 zeros (suc n) = a_spelling zero_item (zeros n)
 
@@ -33,17 +33,17 @@ pub record IsFilling (f : Frame) (ss : Spellings) : Type 0 where
   pub spelled : AreSpelled ss
   pub flat : depth_all ss ≡ 0
 
-zeros-count : (n : ℕ) → spellings_count (zeros n) ≡ n
-zeros-count zero = refl
-zeros-count (suc n) = ap suc (zeros-count n)
+pub zeros_count : (n : ℕ) → spellings_count (zeros n) ≡ n
+zeros_count zero = refl
+zeros_count (suc n) = ap suc (zeros_count n)
 
-zeros-spelled : (n : ℕ) → AreSpelled (zeros n)
-zeros-spelled zero = tt
-zeros-spelled (suc n) = let h : 0 < 24 = omega arith in (h, zeros-spelled n)
+pub zeros_spelled : (n : ℕ) → AreSpelled (zeros n)
+zeros_spelled zero = tt
+zeros_spelled (suc n) = let h : 0 < 24 = omega arith in (h, zeros_spelled n)
 
-zeros-flat : (n : ℕ) → depth_all (zeros n) ≡ 0
-zeros-flat zero = refl
-zeros-flat (suc n) = let h = zeros-flat n in omega (arith, h)
+pub zeros_flat : (n : ℕ) → depth_all (zeros n) ≡ 0
+zeros_flat zero = refl
+zeros_flat (suc n) = let h = zeros_flat n in omega (arith, h)
 
 abbrev fill : Frame → Spellings
 fill (counted n) = zeros n
@@ -52,10 +52,10 @@ fill (indefinite_map true) = no_spellings
 fill (indefinite_map false) = zeros 1
 
 filling : (f : Frame) → IsFilling f (fill f)
-filling (counted n) = record { rest = λ s. ap suc (zeros-count n); spelled = zeros-spelled n; flat = zeros-flat n }
+filling (counted n) = record { rest = λ s. ap suc (zeros_count n); spelled = zeros_spelled n; flat = zeros_flat n }
 filling indefinite_array = record { rest = λ s. tt; spelled = tt; flat = refl }
 filling (indefinite_map true) = record { rest = λ s. refl; spelled = tt; flat = refl }
-filling (indefinite_map false) = record { rest = λ s. refl; spelled = zeros-spelled 1; flat = zeros-flat 1 }
+filling (indefinite_map false) = record { rest = λ s. refl; spelled = zeros_spelled 1; flat = zeros_flat 1 }
 
 -- wherever an item may begin, one can stand
 pub complete : (d : ℕ) (fs : List Frame) (p : List ℕ) (s : Spelling) → Opened d fs p → IsSpelled s → depth s + length fs ≤ d → IsBeginning d (p ++ spell s)
@@ -76,7 +76,7 @@ complete-chunks d m fs p b cs h =
     let whole = b.3 cs h in
     shorter d _ (0xff ∷ []) (begins-along d _ _ whole.bytes_are (complete d fs b.0 whole.item b.1 whole.spelled whole.fits))
 
-zero_bytes : (n : ℕ) → AreBytes (replicate n 0)
+pub zero_bytes : (n : ℕ) → AreBytes (replicate n 0)
 zero_bytes zero = tt
 zero_bytes (suc n) = let h : 0 < 256 = omega arith in (h, zero_bytes n)
 
@@ -105,11 +105,8 @@ settled d (in_chunks m fs) p i o = begins-along d _ _ (append-nil p) (complete-c
 settled d done p i o = (o.0, [], record { spelled = o.1.spelled; within = o.1.within; bytes_are = o.1.bytes_are ∙ sym (append-nil p) })
 
 close-settled : (fs : List Frame) → IsSettled (close fs)
-close-settled [] = tt
 close-settled (counted zero ∷ fs) = close-settled fs
-close-settled (counted (suc n) ∷ fs) = tt
-close-settled (indefinite_array ∷ fs) = tt
-close-settled (indefinite_map due ∷ fs) = tt
+close-settled _ = tt
 
 expect-settled : (n : ℕ) (fs : List Frame) → IsSettled (expect n fs)
 expect-settled zero fs = close-settled fs
@@ -122,14 +119,12 @@ payload-settled chunk m (suc n) fs = tt
 
 after-settled : (chunk : Bool) (m : Major) (n : ℕ) (fs : List Frame) → IsSettled (after chunk m n fs)
 after-settled true m n fs = payload-settled true m n fs
-after-settled false Unsigned n fs = close-settled fs
-after-settled false Negative n fs = close-settled fs
 after-settled false Bytes n fs = payload-settled false Bytes n fs
 after-settled false Text n fs = payload-settled false Text n fs
 after-settled false Array n fs = expect-settled n fs
 after-settled false Map n fs = expect-settled (n + n) fs
 after-settled false Tag n fs = expect-settled 1 fs
-after-settled false Simple n fs = close-settled fs
+after-settled false _ n fs = close-settled fs
 
 -- what led the machine anywhere is a beginning
 pub stands-begins : (d : ℕ) (q : State) (p : List ℕ) → Stands d q p → IsBeginning d p
@@ -137,11 +132,7 @@ stands-begins d (in_head chunk m w k acc fs) p o =
     let more = replicate (suc k) 0 in
     let whole = o.2 more (length-replicate (suc k) 0) (zero_bytes (suc k)) in
     shorter d p more (begins-along d _ _ (sym whole.0) (settled d _ _ (after-settled chunk m _ fs) (head-done d chunk m w _ fs o.0 o.1 whole.1)))
-stands-begins d (at_item fs) p o = settled d (at_item fs) p tt o
-stands-begins d (in_simple fs) p o = settled d (in_simple fs) p tt o
-stands-begins d (in_payload chunk m n fs) p o = settled d (in_payload chunk m n fs) p tt o
-stands-begins d (in_chunks m fs) p o = settled d (in_chunks m fs) p tt o
-stands-begins d done p o = settled d done p tt o
+stands-begins d q p o = settled d q p tt o
 
 -- ---- the two directions
 

@@ -5,7 +5,7 @@ use Rattle.cbor_head.specs.Spelling.{Spelling, IsItem}
 use Rattle.cbor_automaton.specs.Trace.{Mark, size, more_bytes, trace, within}
 use Rattle.cbor_automaton.specs.Automaton.{start, major_at, Frame, counted, indefinite_array, indefinite_map, State, at_item, in_head, in_simple, in_payload, in_chunks, done, Opening, direct, long, indefinite_string, indefinite_container, long_simple, breaks, bad, Next, refuses, goes, tells, opening, opening_of, numbered_tail, simple_tail, indefinite_length, tail, has_room, close, expect, close_string, payload, after, mark, break_at, begin, is_major, in_string, take_byte, Outcome, refused, reached, telling, and_then, run}
 use Rattle.cbor_head.specs.declared.major.Major.{Major}
-use Rattle.cbor_head.specs.declared.major.Major.TheVariants.{Unsigned, Negative, Bytes, Text, Array, Map, Tag, Simple}
+use Rattle.cbor_head.specs.declared.major.Major.TheVariants.{Bytes, Text, Array, Map, Tag, Simple}
 use Rattle.cbor_head.specs.declared.width.Width.{Width}
 use Rattle.cbor_head.specs.declared.reason.Reason.{Reason}
 use Rattle.cbor_automaton.proofs.Beginnings.{item-done}
@@ -27,19 +27,13 @@ IsClear (in_simple fs) = ⊥
 IsClear _ = Unit {0}
 
 pub clear-pending : (q : State) → IsClear q → (pending q ≡ 0) × IsSane q
-clear-pending (at_item fs) h = (refl, tt)
 clear-pending (in_head chunk m w k acc fs) h = absurd h
 clear-pending (in_simple fs) h = absurd h
-clear-pending (in_payload chunk m n fs) h = (refl, tt)
-clear-pending (in_chunks m fs) h = (refl, tt)
-clear-pending done h = (refl, tt)
+clear-pending _ h = (refl, tt)
 
 pub close-clear : (fs : List Frame) → IsClear (close fs)
-close-clear [] = tt
 close-clear (counted zero ∷ fs) = close-clear fs
-close-clear (counted (suc n) ∷ fs) = tt
-close-clear (indefinite_array ∷ fs) = tt
-close-clear (indefinite_map due ∷ fs) = tt
+close-clear _ = tt
 
 expect-clear : (n : ℕ) (fs : List Frame) → IsClear (expect n fs)
 expect-clear zero fs = close-clear fs
@@ -55,14 +49,12 @@ payload-clear chunk m (suc n) fs = tt
 
 pub after-clear : (chunk : Bool) (m : Major) (n : ℕ) (fs : List Frame) → IsClear (after chunk m n fs)
 after-clear true m n fs = payload-clear true m n fs
-after-clear false Unsigned n fs = close-clear fs
-after-clear false Negative n fs = close-clear fs
 after-clear false Bytes n fs = payload-clear false Bytes n fs
 after-clear false Text n fs = payload-clear false Text n fs
 after-clear false Array n fs = expect-clear n fs
 after-clear false Map n fs = expect-clear (n + n) fs
 after-clear false Tag n fs = expect-clear 1 fs
-after-clear false Simple n fs = close-clear fs
+after-clear false _ n fs = close-clear fs
 
 -- one byte more is pending, or a mark takes all that was, and the byte
 abbrev pub Balances : ℕ → Next → Type 0
@@ -114,11 +106,9 @@ long-balances : (chunk : Bool) (m : Major) (w : Width) (fs : List Frame) → 0 <
 long-balances chunk m w fs h = (omega arith, omega arith)
 
 break-balances : (fs : List Frame) (c : ℕ) → Balances 0 (break_at fs c)
-break-balances [] c = tt
-break-balances (counted n ∷ fs) c = tt
-break-balances (indefinite_map true ∷ fs) c = tt
 break-balances (indefinite_array ∷ fs) c = (refl, close-clear fs)
 break-balances (indefinite_map false ∷ fs) c = (refl, close-clear fs)
+break-balances _ c = tt
 
 begin-balances : (d : ℕ) (fs : List Frame) (c : ℕ) (o : Opening) → IsWide o → Balances 0 (begin d fs c o)
 begin-balances d fs c (direct m n) i = guard-balances 0 (has_room d fs m) _ _ (refl, after-clear false m n fs)
@@ -132,11 +122,8 @@ begin-balances d fs c bad i = tt
 string-balances : (m : Major) (fs : List Frame) (o : Opening) → IsWide o → Balances 0 (in_string m fs o)
 string-balances m fs (direct n x) i = guard-balances 0 (is_major m n) _ _ (refl, payload-clear true m x fs)
 string-balances m fs (long n w) i = guard-balances 0 (is_major m n) _ _ (long-balances true m w fs i)
-string-balances m fs (indefinite_string n) i = tt
-string-balances m fs (indefinite_container n f) i = tt
-string-balances m fs long_simple i = tt
 string-balances m fs breaks i = (refl, close-clear fs)
-string-balances m fs bad i = tt
+string-balances m fs _ i = tt
 
 mark-size : (chunk : Bool) (m : Major) (w : Width) (n : ℕ) → size (mark chunk m w n) ≡ suc (more_bytes w)
 mark-size true m w n = refl

@@ -1,31 +1,17 @@
 -- The first byte of a head, by its high three and low five bits.
-use Rattle.std.proofs.Common.{◌≡◌, ℕ, zero, suc, ◌+◌, ◌-◌, ◌*◌, ◌/◌, ◌%◌, ◌<◌, cond, refl, ap, ap₂, ◌∙◌, arith, mod-lt}
-use Rattle.std.proofs.lemmas.Bool.{lt-ltb}
+use Rattle.std.proofs.Common.{◌≡◌, ℕ, suc, ◌+◌, ◌-◌, ◌*◌, ◌/◌, ◌%◌, ◌<◌, cond, refl, ap, ap₂, ◌∙◌, arith, mod-lt, lt-ltb}
 use Rattle.cbor_head.specs.Head.{major_number}
 use Rattle.cbor_automaton.specs.Automaton.{direct, major_at, opening, opening_of, tail}
 use Rattle.cbor_head.specs.declared.major.Major.{Major}
-use Rattle.cbor_head.specs.declared.major.Major.TheVariants.{Unsigned, Negative, Bytes, Text, Array, Map, Tag, Simple}
+use Rattle.cbor_head.specs.declared.major.Major.TheVariants.{Unsigned}
 
 pub major_at-number : (m : Major) → major_at (major_number m) ≡ m
 major_at-number Unsigned = refl
-major_at-number Negative = refl
-major_at-number Bytes = refl
-major_at-number Text = refl
-major_at-number Array = refl
-major_at-number Map = refl
-major_at-number Tag = refl
-major_at-number Simple = refl
+major_at-number _ = refl
 
 pub number-major_at : (k : ℕ) → k < 8 → major_number (major_at k) ≡ k
-number-major_at zero h = refl
-number-major_at (suc zero) h = refl
-number-major_at (suc (suc zero)) h = refl
-number-major_at (suc (suc (suc zero))) h = refl
-number-major_at (suc (suc (suc (suc zero)))) h = refl
-number-major_at (suc (suc (suc (suc (suc zero))))) h = refl
-number-major_at (suc (suc (suc (suc (suc (suc zero)))))) h = refl
-number-major_at (suc (suc (suc (suc (suc (suc (suc zero))))))) h = refl
 number-major_at (suc (suc (suc (suc (suc (suc (suc (suc k)))))))) h = absurd (omega arith)
+number-major_at _ h = refl
 
 high : (k n : ℕ) → n < 32 → (32 * k + n) / 32 ≡ k
 high k n h = omega arith

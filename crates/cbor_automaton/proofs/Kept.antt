@@ -6,9 +6,9 @@ use Rattle.cbor_head.specs.Value.{AreBytes}
 use Rattle.cbor_head.specs.Head.{Holds, head, major_number, shortest}
 use Rattle.cbor_head.specs.Spelling.{byte_chunks, text_chunks, array, a_map, simple, no_spellings, spell_all, chunk_bytes}
 use Rattle.cbor_automaton.specs.Trace.{Mark, more_bytes}
-use Rattle.cbor_automaton.specs.Automaton.{Frame, counted, indefinite_array, indefinite_map, State, at_item, in_head, in_simple, in_payload, in_chunks, done, Opening, direct, long, Next, refuses, goes, tells, numbered_tail, simple_tail, tail, indefinite_length, opening_of, opening, close, close_string, payload, after, has_room, break_at, begin, is_major, in_string, take_byte, Outcome, refused, reached, telling, and_then, run}
+use Rattle.cbor_automaton.specs.Automaton.{Frame, indefinite_array, indefinite_map, State, at_item, in_head, in_simple, in_payload, in_chunks, done, Opening, direct, long, Next, refuses, goes, tells, numbered_tail, simple_tail, tail, indefinite_length, opening_of, opening, close, close_string, payload, after, has_room, break_at, begin, is_major, in_string, take_byte, Outcome, refused, reached, telling, and_then, run}
 use Rattle.cbor_head.specs.declared.major.Major.{Major}
-use Rattle.cbor_head.specs.declared.major.Major.TheVariants.{Unsigned, Negative, Bytes, Text, Array, Map, Tag, Simple}
+use Rattle.cbor_head.specs.declared.major.Major.TheVariants.{Bytes, Text, Array, Map, Simple}
 use Rattle.cbor_head.specs.declared.width.Width.{Width}
 use Rattle.cbor_head.specs.declared.width.Width.TheVariants.{Direct, One, Two, Four, Eight, Indefinite}
 use Rattle.cbor_head.specs.declared.reason.Reason.{Reason}
@@ -119,9 +119,6 @@ numbered-kept d fs p m (suc (suc (suc (suc (suc (suc (suc zero))))))) i o = open
 numbered-kept d fs p m _ i o = tt
 
 break-kept : (d : ℕ) (fs : List Frame) (p : List ℕ) → Opened d fs p → StandsNext d (break_at fs 0xff) (p ++ 0xff ∷ [])
-break-kept d [] p o = tt
-break-kept d (counted n ∷ fs) p o = tt
-break-kept d (indefinite_map true ∷ fs) p o = tt
 break-kept d (indefinite_array ∷ fs) p o =
     let room : length fs < d = o.2 in
     let whole = o.3 no_spellings tt tt (omega arith) in
@@ -130,6 +127,7 @@ break-kept d (indefinite_map false ∷ fs) p o =
     let room : length fs < d = o.2 in
     let whole = o.3 no_spellings refl tt (omega arith) in
     along d (close fs) _ _ (whole.bytes_are ∙ ap (λ xs. xs ++ 0xff ∷ []) (append-nil p)) (item-closes d fs o.0 whole.item o.1 whole.spelled whole.fits)
+break-kept d _ p o = tt
 
 simple-kept : (d : ℕ) (fs : List Frame) (p : List ℕ) (k : ℕ) → Opened d fs p → Keeps d fs p (32 * 7 + (24 + k)) (simple_tail k)
 simple-kept d fs p zero o = (p, o, refl)
@@ -138,13 +136,7 @@ simple-kept d fs p _ o = tt
 
 tail-kept : (d : ℕ) (fs : List Frame) (p : List ℕ) (m : Major) (k : ℕ) → Opened d fs p → Keeps d fs p (32 * major_number m + (24 + k)) (tail m k)
 tail-kept d fs p Simple k o = simple-kept d fs p k o
-tail-kept d fs p Unsigned k o = numbered-kept d fs p Unsigned k tt o
-tail-kept d fs p Negative k o = numbered-kept d fs p Negative k tt o
-tail-kept d fs p Bytes k o = numbered-kept d fs p Bytes k tt o
-tail-kept d fs p Text k o = numbered-kept d fs p Text k tt o
-tail-kept d fs p Array k o = numbered-kept d fs p Array k tt o
-tail-kept d fs p Map k o = numbered-kept d fs p Map k tt o
-tail-kept d fs p Tag k o = numbered-kept d fs p Tag k tt o
+tail-kept d fs p m k o = numbered-kept d fs p m k tt o
 
 numbered-direct : (d : ℕ) (fs : List Frame) (p : List ℕ) (m : Major) (n : ℕ) → IsNumbered m → n < 24 → Opened d fs p → Keeps d fs p (32 * major_number m + n) (direct m n)
 numbered-direct d fs p m n i h o = guarded d _ (has_room d fs m) _ _ (λ e. head-done d false m Direct n fs p (o, i, e) h)
@@ -153,13 +145,7 @@ direct-kept : (d : ℕ) (fs : List Frame) (p : List ℕ) (m : Major) (n : ℕ) �
 direct-kept d fs p Simple n h o =
     let e : shortest n ≡ Direct = rw (lt-ltb n 24 h) in
     along d (close fs) _ _ (ap (λ w. p ++ head Simple w n) e) (item-closes d fs p (simple n) o (omega arith, λ l. absurd (omega arith)) (room-of d fs p o))
-direct-kept d fs p Unsigned n h o = numbered-direct d fs p Unsigned n tt h o
-direct-kept d fs p Negative n h o = numbered-direct d fs p Negative n tt h o
-direct-kept d fs p Bytes n h o = numbered-direct d fs p Bytes n tt h o
-direct-kept d fs p Text n h o = numbered-direct d fs p Text n tt h o
-direct-kept d fs p Array n h o = numbered-direct d fs p Array n tt h o
-direct-kept d fs p Map n h o = numbered-direct d fs p Map n tt h o
-direct-kept d fs p Tag n h o = numbered-direct d fs p Tag n tt h o
+direct-kept d fs p m n h o = numbered-direct d fs p m n tt h o
 
 first-kept : (d : ℕ) (fs : List Frame) (p : List ℕ) (m : Major) (low : ℕ) → Opened d fs p → Keeps d fs p (32 * major_number m + low) (opening_of m low)
 first-kept d fs p m low o = elim (cases_lt low 24) [
@@ -213,13 +199,7 @@ chunk-simple-kept d m fs p _ b = tt
 
 chunk-any-tail : (d : ℕ) (m n : Major) (fs : List Frame) (p : List ℕ) (k : ℕ) → Chunked d m fs p → KeepsChunk d m fs p (32 * major_number n + (24 + k)) (tail n k)
 chunk-any-tail d m Simple fs p k b = chunk-simple-kept d m fs p k b
-chunk-any-tail d m Unsigned fs p k b = chunk-tail-kept d m Unsigned fs p k b
-chunk-any-tail d m Negative fs p k b = chunk-tail-kept d m Negative fs p k b
-chunk-any-tail d m Bytes fs p k b = chunk-tail-kept d m Bytes fs p k b
-chunk-any-tail d m Text fs p k b = chunk-tail-kept d m Text fs p k b
-chunk-any-tail d m Array fs p k b = chunk-tail-kept d m Array fs p k b
-chunk-any-tail d m Map fs p k b = chunk-tail-kept d m Map fs p k b
-chunk-any-tail d m Tag fs p k b = chunk-tail-kept d m Tag fs p k b
+chunk-any-tail d m n fs p k b = chunk-tail-kept d m n fs p k b
 
 chunk-direct : (d : ℕ) (m n : Major) (fs : List Frame) (p : List ℕ) (x : ℕ) → x < 24 → Chunked d m fs p → KeepsChunk d m fs p (32 * major_number n + x) (direct n x)
 chunk-direct d m n fs p x h b =

@@ -320,13 +320,7 @@ after-none : (t : ℕ) (s : Spelling) → length (spell s) ≤ t → open_after 
 after-none t (array w ss) h = over-none t _ _ _ h
 after-none t (a_map w es) h = over-none t _ _ _ h
 after-none t (tag w n s) h = over-none t _ _ _ h
-after-none t (unsigned w n) h = refl
-after-none t (negative w n) h = refl
-after-none t (bytes w payload) h = refl
-after-none t (text w payload) h = refl
-after-none t (byte_chunks cs) h = refl
-after-none t (text_chunks cs) h = refl
-after-none t (simple n) h = refl
+after-none t _ h = refl
 
 -- the open containers of each item that starts with these bytes are those on the stack
 pub opens : (d : ℕ) (s : Spelling) (p rest : List ℕ) (q : State) (ms : List Mark) → IsItem d s (p ++ rest) → run d start p ≡ reached q ms → length (stack q) ≡ open_after (length p) s

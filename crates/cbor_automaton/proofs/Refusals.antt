@@ -1,10 +1,10 @@
 -- A byte is refused exactly where it may not follow, and for which reason.
-use Rattle.std.proofs.Common.{◌≡◌, ◌↔◌, ℕ, zero, suc, ◌<◌, Bool, true, false, nat_lt, cond, List, [], ◌∷◌, ◌++◌, refl, ap, ◌∙◌, subst, arith, true≢false, ◌⊎◌, inl, inr}
+use Rattle.std.proofs.Common.{◌≡◌, ◌↔◌, ℕ, zero, ◌<◌, Bool, true, false, nat_lt, cond, List, [], ◌∷◌, ◌++◌, refl, ap, ◌∙◌, subst, arith, true≢false, ◌⊎◌, inl, inr}
 use Rattle.cbor_head.specs.Beginning.{IsBeginning, MayFollow}
 use Rattle.cbor_head.specs.Value.{AreBytes}
 use Rattle.cbor_head.specs.Verdict.{IsReasonAt, initial_reason}
 use Rattle.cbor_automaton.specs.Trace.{Mark}
-use Rattle.cbor_automaton.specs.Automaton.{start, Frame, counted, indefinite_array, indefinite_map, State, at_item, in_head, in_simple, in_payload, in_chunks, done, Opening, direct, long, indefinite_string, indefinite_container, long_simple, breaks, bad, Next, refuses, goes, tells, opening, has_room, break_at, begin, is_major, in_string, take_byte, Outcome, refused, reached, telling, and_then, run}
+use Rattle.cbor_automaton.specs.Automaton.{start, Frame, indefinite_array, indefinite_map, State, at_item, in_head, in_simple, in_payload, in_chunks, done, Opening, direct, long, indefinite_string, indefinite_container, long_simple, breaks, bad, Next, refuses, goes, tells, opening, has_room, break_at, begin, is_major, in_string, take_byte, Outcome, refused, reached, telling, and_then, run}
 use Rattle.cbor_head.specs.declared.major.Major.{Major}
 use Rattle.cbor_head.specs.declared.major.Major.TheVariants.{Unsigned, Negative, Bytes, Text}
 use Rattle.cbor_head.specs.declared.reason.Reason.{Reason}
@@ -54,11 +54,9 @@ guard-reason true next a r t e = absurd (subst IsTaken e t)
 guard-reason false next a r t e = cc
 
 break-reason : (fs : List Frame) (c : ℕ) (r : Reason) → break_at fs c ≡ refuses r → r ≡ initial_reason c
-break-reason [] c r e = cc
-break-reason (counted n ∷ fs) c r e = cc
-break-reason (indefinite_map true ∷ fs) c r e = cc
 break-reason (indefinite_array ∷ fs) c r e = absurd (cc)
 break-reason (indefinite_map false ∷ fs) c r e = absurd (cc)
+break-reason _ c r e = cc
 
 begin-reason : (d : ℕ) (fs : List Frame) (c : ℕ) (o : Opening) (r : Reason) → begin d fs c o ≡ refuses r → r ≡ initial_reason c
 begin-reason d fs c (direct m n) r e = guard-reason (has_room d fs m) _ _ r tt e
@@ -72,11 +70,8 @@ begin-reason d fs c bad r e = cc
 string-reason : (m : Major) (fs : List Frame) (o : Opening) (r : Reason) → in_string m fs o ≡ refuses r → r ≡ BadChunk
 string-reason m fs (direct n x) r e = guard-reason (is_major m n) _ _ r tt e
 string-reason m fs (long n w) r e = guard-reason (is_major m n) _ _ r tt e
-string-reason m fs (indefinite_string n) r e = cc
-string-reason m fs (indefinite_container n f) r e = cc
-string-reason m fs long_simple r e = cc
 string-reason m fs breaks r e = absurd (cc)
-string-reason m fs bad r e = cc
+string-reason m fs _ r e = cc
 
 simple-reason : (b : Bool) (next : Next) (r : Reason) → IsTaken next → cond b (refuses BadSimple) next ≡ refuses r → r ≡ BadSimple
 simple-reason true next r t e = cc
@@ -103,14 +98,13 @@ ByOthers d q c r =
 
 by-others : (d : ℕ) (q : State) (c : ℕ) (r : Reason) → IsUnfinished q → take_byte d q c ≡ refuses r → ByOthers d q c r
 by-others d (at_item fs) c r u e = inl (tt, begin-reason d fs c (opening c) r e)
-by-others d (in_head chunk m w zero acc fs) c r u e = absurd (cc)
-by-others d (in_head chunk m w (suc k) acc fs) c r u e = absurd (cc)
 by-others d (in_simple fs) c r u e = inr (inl (λ t. t, tt, simple-reason (nat_lt c 32) _ r tt e))
-by-others d (in_payload chunk m zero fs) c r u e = absurd (cc)
-by-others d (in_payload chunk m (suc n) fs) c r u e = absurd (cc)
 by-others d (in_chunks m fs) c r u e =
     inr (inr (refused-by (is_major m Unsigned) _ _ (no-integer m).0, refused-by (is_major m Negative) _ _ (no-integer m).1, string-reason m fs (opening c) r e))
 by-others d done c r u e = absurd u
+by-others d (in_head chunk m w zero acc fs) c r u e = absurd (cc)
+by-others d (in_payload chunk m zero fs) c r u e = absurd (cc)
+by-others d _ c r u e = absurd (cc)
 
 -- a byte is refused where it may not follow, and for the right reason
 pub refuses-rightly : (d : ℕ) (p : List ℕ) (q : State) (ms : List Mark) (c : ℕ) (r : Reason) → AreBytes p → c < 256 → run d start p ≡ reached q ms → IsUnfinished q

@@ -1,6 +1,5 @@
 -- What bytes have led the machine to a state, said by what may still come.
-use Rattle.std.proofs.Common.{◌≡◌, ℕ, zero, suc, max, ◌+◌, ◌<◌, ◌≤◌, Bool, true, false, not, nat_lt, List, [], ◌∷◌, ◌++◌, length, flat_map, refl, sym, ap, ap₂, ◌∙◌, subst, arith, append_assoc, append-nil}
-use Rattle.std.proofs.lemmas.Bool.{ltb-true}
+use Rattle.std.proofs.Common.{◌≡◌, ℕ, zero, suc, max, ◌+◌, ◌<◌, ◌≤◌, Bool, true, false, not, nat_lt, List, [], ◌∷◌, ◌++◌, length, flat_map, refl, sym, ap, ap₂, ◌∙◌, subst, arith, append_assoc, append-nil, ltb-true}
 use Rattle.std.specs.List.{AllByRecursion}
 use Rattle.cbor_head.specs.Value.{AreBytes}
 use Rattle.cbor_head.specs.Head.{Holds, head}
@@ -9,7 +8,7 @@ use Rattle.cbor_automaton.specs.Automaton.{Frame, counted, indefinite_array, ind
 use Rattle.cbor_head.specs.declared.major.Major.{Major}
 use Rattle.cbor_head.specs.declared.major.Major.TheVariants.{Unsigned, Negative, Bytes, Text, Array, Map, Tag, Simple}
 use Rattle.cbor_head.specs.declared.width.Width.{Width}
-use Rattle.cbor_head.specs.declared.width.Width.TheVariants.{Direct, One, Two, Four, Eight, Indefinite}
+use Rattle.cbor_head.specs.declared.width.Width.TheVariants.{Indefinite}
 use Rattle.cbor_automaton.proofs.Arguments.{number}
 
 abbrev pub is_odd : ℕ → Bool
@@ -132,12 +131,8 @@ pub record Definite (w : Width) (n : ℕ) : Type 0 where
   pub closes : break_of w ≡ []
 
 pub definite : (w : Width) (n : ℕ) → Holds w n → Definite w n
-definite Direct n h = record { holds = h; closes = refl }
-definite One n h = record { holds = h; closes = refl }
-definite Two n h = record { holds = h; closes = refl }
-definite Four n h = record { holds = h; closes = refl }
-definite Eight n h = record { holds = h; closes = refl }
 definite Indefinite n h = absurd h
+definite _ n h = record { holds = h; closes = refl }
 
 -- members in pairs
 pub record Paired (ss : Spellings) : Type 0 where

@@ -5,10 +5,10 @@ use Rattle.std.specs.Int.{bytes_high_first}
 use Rattle.cbor_head.specs.Head.{Holds, IsSimple, head, major_number, shortest}
 use Rattle.cbor_head.specs.Value.{AreBytes}
 use Rattle.cbor_automaton.specs.Trace.{Mark, a_head, more_bytes}
-use Rattle.cbor_automaton.specs.Automaton.{Frame, counted, indefinite_array, indefinite_map, State, at_item, in_head, in_simple, in_payload, in_chunks, done, Opening, long, Next, refuses, goes, tells, numbered_tail, simple_tail, tail, indefinite_length, opening_of, opening, after, has_room, break_at, begin, is_major, in_string, take_byte, Outcome, refused, reached, telling, and_then, run}
+use Rattle.cbor_automaton.specs.Automaton.{Frame, indefinite_array, indefinite_map, State, at_item, in_head, in_simple, in_payload, in_chunks, done, Opening, long, Next, refuses, goes, tells, numbered_tail, simple_tail, tail, indefinite_length, opening_of, opening, after, has_room, break_at, begin, is_major, in_string, take_byte, Outcome, refused, reached, telling, and_then, run}
 use Rattle.cbor_automaton.specs.Taking.{Follows, IsTaking}
 use Rattle.cbor_head.specs.declared.major.Major.{Major}
-use Rattle.cbor_head.specs.declared.major.Major.TheVariants.{Unsigned, Negative, Bytes, Text, Array, Map, Tag, Simple}
+use Rattle.cbor_head.specs.declared.major.Major.TheVariants.{Bytes, Text, Array, Map, Tag, Simple}
 use Rattle.cbor_head.specs.declared.width.Width.{Width}
 use Rattle.cbor_head.specs.declared.width.Width.TheVariants.{Direct, One, Two, Four, Eight, Indefinite}
 use Rattle.cbor_head.specs.declared.reason.Reason.{Reason}
@@ -41,32 +41,22 @@ room : (d : ℕ) (fs : List Frame) → nat_lt (length fs) d ≡ true → length 
 room d fs e = ltb-true (length fs) d e
 
 follows : (d : ℕ) (fs : List Frame) (m : Major) (w : Width) (n : ℕ) → IsNumbered m → has_room d fs m ≡ true → Follows d fs m w n (after false m n fs)
-follows d fs Unsigned w n k e = refl
-follows d fs Negative w n k e = refl
-follows d fs Bytes w n k e = refl
-follows d fs Text w n k e = refl
 follows d fs Array w n k e = (room d fs e, refl)
 follows d fs Map w n k e = (room d fs e, refl)
 follows d fs Tag w n k e = (room d fs e, refl)
 follows d fs Simple w n k e = absurd k
+follows d fs _ w n k e = refl
 
 follows-direct : (d : ℕ) (fs : List Frame) (m : Major) (n : ℕ) → n < 24 → has_room d fs m ≡ true → Follows d fs m Direct n (after false m n fs)
 follows-direct d fs Simple n h e = ((omega arith, λ l. absurd (omega arith)), rw (lt-ltb n 24 h) refl, refl)
-follows-direct d fs Unsigned n h e = refl
-follows-direct d fs Negative n h e = refl
-follows-direct d fs Bytes n h e = refl
-follows-direct d fs Text n h e = refl
 follows-direct d fs Array n h e = (room d fs e, refl)
 follows-direct d fs Map n h e = (room d fs e, refl)
 follows-direct d fs Tag n h e = (room d fs e, refl)
+follows-direct d fs _ n h e = refl
 
 definite : (d : ℕ) (fs : List Frame) (m : Major) (w : Width) (n : ℕ) (bs : List ℕ) (to : State) → bs ≡ head m w n → Holds w n → Follows d fs m w n to → IsTaking d (at_item fs) (a_head m w n) bs to
 definite d fs m Indefinite n bs to e h f = absurd h
-definite d fs m Direct n bs to e h f = (e, h, f)
-definite d fs m One n bs to e h f = (e, h, f)
-definite d fs m Two n bs to e h f = (e, h, f)
-definite d fs m Four n bs to e h f = (e, h, f)
-definite d fs m Eight n bs to e h f = (e, h, f)
+definite d fs m _ n bs to e h f = (e, h, f)
 
 argument-made : (k : ℕ) (more : List ℕ) → length more ≡ k → AreBytes more → bytes_high_first k (number 0 more) ≡ more
 argument-made k more e h = ap (λ j. bytes_high_first j (number 0 more)) (sym e) ∙ bytes-number 0 more h
@@ -107,11 +97,9 @@ numbered-taken d fs m (suc (suc (suc (suc (suc (suc (suc zero))))))) i = open-ta
 numbered-taken d fs m _ i = tt
 
 break-taken : (d : ℕ) (fs : List Frame) → IsTakingNext d (at_item fs) (break_at fs 0xff) (0xff ∷ [])
-break-taken d [] = tt
-break-taken d (counted n ∷ fs) = tt
-break-taken d (indefinite_map true ∷ fs) = tt
 break-taken d (indefinite_array ∷ fs) = ((refl, refl), close-clear fs)
 break-taken d (indefinite_map false ∷ fs) = ((refl, refl), close-clear fs)
+break-taken d _ = tt
 
 simple-taken : (d : ℕ) (fs : List Frame) (k : ℕ) → IsTakingFirst d fs (32 * 7 + (24 + k)) (simple_tail k)
 simple-taken d fs zero = (refl, refl)
@@ -120,13 +108,7 @@ simple-taken d fs _ = tt
 
 tail-taken : (d : ℕ) (fs : List Frame) (m : Major) (k : ℕ) → IsTakingFirst d fs (32 * major_number m + (24 + k)) (tail m k)
 tail-taken d fs Simple k = simple-taken d fs k
-tail-taken d fs Unsigned k = numbered-taken d fs Unsigned k tt
-tail-taken d fs Negative k = numbered-taken d fs Negative k tt
-tail-taken d fs Bytes k = numbered-taken d fs Bytes k tt
-tail-taken d fs Text k = numbered-taken d fs Text k tt
-tail-taken d fs Array k = numbered-taken d fs Array k tt
-tail-taken d fs Map k = numbered-taken d fs Map k tt
-tail-taken d fs Tag k = numbered-taken d fs Tag k tt
+tail-taken d fs m k = numbered-taken d fs m k tt
 
 first-taken : (d : ℕ) (fs : List Frame) (m : Major) (low : ℕ) → IsTakingFirst d fs (32 * major_number m + low) (opening_of m low)
 first-taken d fs m low = elim (cases_lt low 24) [
@@ -172,13 +154,7 @@ chunk-simple d m fs _ = tt
 
 chunk-tail : (d : ℕ) (m n : Major) (fs : List Frame) (k : ℕ) → IsTakingChunk d m fs (32 * major_number n + (24 + k)) (tail n k)
 chunk-tail d m Simple fs k = chunk-simple d m fs k
-chunk-tail d m Unsigned fs k = chunk-numbered d m Unsigned fs k
-chunk-tail d m Negative fs k = chunk-numbered d m Negative fs k
-chunk-tail d m Bytes fs k = chunk-numbered d m Bytes fs k
-chunk-tail d m Text fs k = chunk-numbered d m Text fs k
-chunk-tail d m Array fs k = chunk-numbered d m Array fs k
-chunk-tail d m Map fs k = chunk-numbered d m Map fs k
-chunk-tail d m Tag fs k = chunk-numbered d m Tag fs k
+chunk-tail d m n fs k = chunk-numbered d m n fs k
 
 chunk-first : (d : ℕ) (m n : Major) (fs : List Frame) (low : ℕ) → IsTakingChunk d m fs (32 * major_number n + low) (opening_of n low)
 chunk-first d m n fs low = elim (cases_lt low 24) [
@@ -223,12 +199,9 @@ byte-taken d from (in_chunks m fs) bs c e h = rw (e.0, e.1) (chunk-taken d m fs 
 byte-taken d from done bs c e h = tt
 
 pub within-start : (d : ℕ) (q : State) → IsClear q → IsWithin d q q []
-within-start d (at_item fs) h = (refl, refl)
 within-start d (in_head chunk m w k acc fs) h = absurd h
 within-start d (in_simple fs) h = absurd h
-within-start d (in_payload chunk m n fs) h = (refl, refl)
-within-start d (in_chunks m fs) h = (refl, refl)
-within-start d done h = (refl, refl)
+within-start d _ h = (refl, refl)
 
 -- ---- runs
 
@@ -240,12 +213,9 @@ IsTakingRun d from (reached q (m ∷ [])) bs = IsClear q → IsTaking d from m b
 IsTakingRun d from (reached q (m ∷ n ∷ ms)) bs = Unit {0}
 
 pub clear-nothing : (d : ℕ) (from q : State) (bs : List ℕ) → IsClear q → IsWithin d from q bs → (from ≡ q) × (bs ≡ [])
-clear-nothing d from (at_item fs) bs h p = p
 clear-nothing d from (in_head chunk m w k acc fs) bs h p = absurd h
 clear-nothing d from (in_simple fs) bs h p = absurd h
-clear-nothing d from (in_payload chunk m n fs) bs h p = p
-clear-nothing d from (in_chunks m fs) bs h p = p
-clear-nothing d from done bs h p = p
+clear-nothing d from _ bs h p = p
 
 telling-taken : (d : ℕ) (from q : State) (m : Mark) (o : Outcome) (bs cs : List ℕ) → IsTaking d from m bs q → IsTakingRun d q o cs → IsTakingRun d from (telling m o) (bs ++ cs)
 telling-taken d from q m (refused r) bs cs h k = tt

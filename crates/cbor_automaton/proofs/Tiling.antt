@@ -1,15 +1,14 @@
 -- Marks tile the bytes taken, each with its own bytes.
-use Rattle.std.proofs.Common.{◌≡◌, ℕ, zero, suc, ◌+◌, Bool, true, false, Option, Some, None, List, [], ◌∷◌, ◌++◌, length, drop, replicate, refl, sym, ap, ◌∙◌, subst, arith, append_assoc, append-nil}
-use Rattle.std.proofs.lemmas.List.{length-append}
+use Rattle.std.proofs.Common.{◌≡◌, ℕ, zero, suc, ◌+◌, Bool, true, false, Option, Some, None, List, [], ◌∷◌, ◌++◌, length, drop, replicate, refl, sym, ap, ◌∙◌, subst, arith, append_assoc, append-nil, length-append}
 use Rattle.std.proofs.Math.Seq.{drop-append_seam}
 use Rattle.cbor_head.specs.Head.{Holds, IsHead, head}
 use Rattle.cbor_head.specs.Value.{AreBytes}
 use Rattle.cbor_head.specs.declared.major.Major.{Major}
 use Rattle.cbor_head.specs.declared.major.Major.TheVariants.{Unsigned, Negative, Bytes, Text, Array, Map, Tag, Simple}
 use Rattle.cbor_head.specs.declared.width.Width.{Width}
-use Rattle.cbor_head.specs.declared.width.Width.TheVariants.{Direct, One, Two, Four, Eight, Indefinite}
+use Rattle.cbor_head.specs.declared.width.Width.TheVariants.{Direct, Indefinite}
 use Rattle.cbor_automaton.specs.Trace.{Mark, a_head, a_chunk, a_byte, a_break, more_bytes, size, total}
-use Rattle.cbor_automaton.specs.Automaton.{Frame, counted, indefinite_array, indefinite_map, close, expect, close_string, payload, State, start, at_item, in_head, in_simple, in_payload, in_chunks, done, Next, refuses, goes, tells, take_byte, and_then, run, reached}
+use Rattle.cbor_automaton.specs.Automaton.{Frame, counted, indefinite_array, indefinite_map, close, expect, close_string, payload, State, start, at_item, in_payload, in_chunks, Next, refuses, goes, tells, take_byte, and_then, run, reached}
 use Rattle.cbor_automaton.specs.Taking.{IsTaking, Follows, Opens, Ends}
 use Rattle.cbor_automaton.specs.Marks.{mark_of, marks_of, IsProper}
 use Rattle.cbor_automaton.specs.Bytes.{type_behind, last_type, IsChunkHead, IsMarkBytes, IsBytesOf, IsEventBytes}
@@ -20,13 +19,7 @@ use Rattle.cbor_automaton.proofs.Taking.{IsClear, IsWithin, IsTakingNext, byte-t
 
 is-head : (d : ℕ) (fs : List Frame) (m : Major) (w : Width) (n : ℕ) (to : State) → Holds w n → Follows d fs m w n to → IsHead m w n
 is-head d fs Simple w n to h f = (f.0, f.1)
-is-head d fs Unsigned w n to h f = h
-is-head d fs Negative w n to h f = h
-is-head d fs Bytes w n to h f = h
-is-head d fs Text w n to h f = h
-is-head d fs Array w n to h f = h
-is-head d fs Map w n to h f = h
-is-head d fs Tag w n to h f = h
+is-head d fs _ w n to h f = h
 
 -- In an indefinite string the last head told was that string's.
 abbrev pub IsTyped : State → Option Major → Type 0
@@ -35,11 +28,8 @@ IsTyped (in_payload true m n fs) type = type ≡ Some m
 IsTyped _ type = Unit {0}
 
 typed-close : (fs : List Frame) (type : Option Major) → IsTyped (close fs) type
-typed-close [] type = tt
 typed-close (counted zero ∷ fs) type = typed-close fs type
-typed-close (counted (suc n) ∷ fs) type = tt
-typed-close (indefinite_array ∷ fs) type = tt
-typed-close (indefinite_map due ∷ fs) type = tt
+typed-close _ type = tt
 
 typed-expect : (n : ℕ) (fs : List Frame) (type : Option Major) → IsTyped (expect n fs) type
 typed-expect zero fs type = typed-close fs type
@@ -68,17 +58,12 @@ typed-opens d fs Bytes to h = subst (λ q. IsTyped q (Some Bytes)) (sym h) refl
 typed-opens d fs Text to h = subst (λ q. IsTyped q (Some Text)) (sym h) refl
 typed-opens d fs Array to h = subst (λ q. IsTyped q (Some Array)) (sym h.1) tt
 typed-opens d fs Map to h = subst (λ q. IsTyped q (Some Map)) (sym h.1) tt
-typed-opens d fs Unsigned to h = absurd h
-typed-opens d fs Negative to h = absurd h
-typed-opens d fs Tag to h = absurd h
-typed-opens d fs Simple to h = absurd h
+typed-opens d fs _ to h = absurd h
 
 typed-ends : (fs : List Frame) (to : State) (type : Option Major) → Ends fs to → IsTyped to type
-typed-ends [] to type h = absurd h
-typed-ends (counted n ∷ fs) to type h = absurd h
 typed-ends (indefinite_array ∷ fs) to type h = subst (λ q. IsTyped q type) (sym h) (typed-close fs type)
 typed-ends (indefinite_map false ∷ fs) to type h = subst (λ q. IsTyped q type) (sym h) (typed-close fs type)
-typed-ends (indefinite_map true ∷ fs) to type h = absurd h
+typed-ends _ to type h = absurd h
 
 typed-string : (chunk : Bool) (m : Major) (n : ℕ) (fs : List Frame) (type : Option Major) → IsTyped (in_payload chunk m n fs) type → IsTyped (close_string chunk m fs) type
 typed-string true m n fs type h = h
@@ -91,53 +76,29 @@ typed-more false m n k fs type h = tt
 -- a mark's bytes, behind a head of some type
 mark-bytes : (d : ℕ) (q t : State) (m : Mark) (bs : List ℕ) (type : Option Major) → IsTyped q type → IsTaking d q m bs t → IsMarkBytes type m bs × IsTyped t (type_behind type m)
 mark-bytes d (at_item fs) t (a_head m Indefinite n) bs type y h = ((h.0, h.1), typed-opens d fs m t h.2)
-mark-bytes d (at_item fs) t (a_head m Direct n) bs type y h = ((is-head d fs m Direct n t h.1 h.2, h.0), typed-follows d fs m Direct n t h.2)
-mark-bytes d (at_item fs) t (a_head m One n) bs type y h = ((is-head d fs m One n t h.1 h.2, h.0), typed-follows d fs m One n t h.2)
-mark-bytes d (at_item fs) t (a_head m Two n) bs type y h = ((is-head d fs m Two n t h.1 h.2, h.0), typed-follows d fs m Two n t h.2)
-mark-bytes d (at_item fs) t (a_head m Four n) bs type y h = ((is-head d fs m Four n t h.1 h.2, h.0), typed-follows d fs m Four n t h.2)
-mark-bytes d (at_item fs) t (a_head m Eight n) bs type y h = ((is-head d fs m Eight n t h.1 h.2, h.0), typed-follows d fs m Eight n t h.2)
+mark-bytes d (at_item fs) t (a_head m w n) bs type y h = ((is-head d fs m w n t h.1 h.2, h.0), typed-follows d fs m w n t h.2)
 mark-bytes d (at_item fs) t a_break bs type y h = (h.0, typed-ends fs t type h.1)
-mark-bytes d (at_item fs) t (a_chunk w n) bs type y h = absurd h
-mark-bytes d (at_item fs) t a_byte bs type y h = absurd h
 mark-bytes d (in_chunks m fs) t (a_chunk w n) bs type y h =
     (subst (λ o. IsChunkHead o w n bs) (sym y) (h.1, h.0), subst (λ q. IsTyped q type) (sym h.2) (typed-chunk m n fs type y))
 mark-bytes d (in_chunks m fs) t a_break bs type y h = (h.0, subst (λ q. IsTyped q type) (sym h.1) (typed-close fs type))
-mark-bytes d (in_chunks m fs) t (a_head k w n) bs type y h = absurd h
-mark-bytes d (in_chunks m fs) t a_byte bs type y h = absurd h
 mark-bytes d (in_payload chunk m zero fs) t a_byte bs type y h = (h.0, subst (λ q. IsTyped q type) (sym h.1) (typed-string chunk m 0 fs type y))
 mark-bytes d (in_payload chunk m (suc n) fs) t a_byte bs type y h = (h.0, subst (λ q. IsTyped q type) (sym h.1) (typed-more chunk m (suc n) n fs type y))
-mark-bytes d (in_payload chunk m zero fs) t (a_head k w x) bs type y h = absurd h
-mark-bytes d (in_payload chunk m (suc n) fs) t (a_head k w x) bs type y h = absurd h
-mark-bytes d (in_payload chunk m zero fs) t (a_chunk w x) bs type y h = absurd h
-mark-bytes d (in_payload chunk m (suc n) fs) t (a_chunk w x) bs type y h = absurd h
-mark-bytes d (in_payload chunk m zero fs) t a_break bs type y h = absurd h
-mark-bytes d (in_payload chunk m (suc n) fs) t a_break bs type y h = absurd h
-mark-bytes d (in_head chunk m w k acc fs) t mk bs type y h = absurd h
-mark-bytes d (in_simple fs) t mk bs type y h = absurd h
-mark-bytes d done t mk bs type y h = absurd h
+mark-bytes d _ t _ bs type y h = absurd h
 
 pub head-size : (m : Major) (w : Width) (n : ℕ) → length (head m w n) ≡ suc (more_bytes w)
 head-size m Direct n = refl
-head-size m One n = refl
-head-size m Two n = refl
-head-size m Four n = refl
-head-size m Eight n = refl
-head-size m Indefinite n = refl
+head-size m _ n = refl
 
 chunk-size : (type : Option Major) (w : Width) (n : ℕ) (bs : List ℕ) → IsChunkHead type w n bs → length bs ≡ suc (more_bytes w)
 chunk-size (Some m) w n bs h = ap length h.1 ∙ head-size m w n
 chunk-size None w n bs h = absurd h
 
 mark-size : (type : Option Major) (m : Mark) (bs : List ℕ) → IsMarkBytes type m bs → length bs ≡ size m
-mark-size type (a_head m Indefinite n) bs h = ap length h.1
-mark-size type (a_head m Direct n) bs h = ap length h.1
-mark-size type (a_head m One n) bs h = ap length h.1
-mark-size type (a_head m Two n) bs h = ap length h.1
-mark-size type (a_head m Four n) bs h = ap length h.1
-mark-size type (a_head m Eight n) bs h = ap length h.1
 mark-size type (a_chunk w n) bs h = chunk-size type w n bs h
 mark-size type a_byte bs h = h
 mark-size type a_break bs h = ap length h
+mark-size type (a_head m Indefinite n) bs h = ap length h.1
+mark-size type _ bs h = ap length h.1
 
 -- each mark with its bytes, one after another, behind a head of some type
 abbrev pub AreMarkBytes : Option Major → List Mark → List ℕ → Type 0
@@ -225,16 +186,9 @@ pieces type (suc n) bs h =
 
 event-bytes : (type : Option Major) (w : Width) (kind : EventKind) (bs : List ℕ) → AreMarkBytes type (marks_of w kind) bs → IsBytesOf type w kind bs
 event-bytes type w (kinds.Piece n) bs h = pieces type n bs h
-event-bytes type w (kinds.Unsigned n) bs h = alone type (mark_of w (kinds.Unsigned n)) bs h
-event-bytes type w (kinds.Negative n) bs h = alone type (mark_of w (kinds.Negative n)) bs h
-event-bytes type w (kinds.Simple n) bs h = alone type (mark_of w (kinds.Simple n)) bs h
-event-bytes type w (kinds.Bytes n) bs h = alone type (mark_of w (kinds.Bytes n)) bs h
-event-bytes type w (kinds.Text n) bs h = alone type (mark_of w (kinds.Text n)) bs h
 event-bytes type w (kinds.Chunk n) bs h = alone type (a_chunk w n) bs h
-event-bytes type w (kinds.Array n) bs h = alone type (mark_of w (kinds.Array n)) bs h
-event-bytes type w (kinds.Map n) bs h = alone type (mark_of w (kinds.Map n)) bs h
-event-bytes type w (kinds.Tag n) bs h = alone type (mark_of w (kinds.Tag n)) bs h
 event-bytes type w kinds.End bs h = alone type a_break bs h
+event-bytes type w kind bs h = alone type (mark_of w kind) bs h
 
 -- the bytes of the event behind these marks, where no head is open
 pub last-bytes : (d : ℕ) (t : State) (bs : List ℕ) (ms : List Mark) (w : Width) (kind : EventKind) → AreBytes bs → run d start bs ≡ reached t (ms ++ marks_of w kind) → IsClear t

@@ -1,6 +1,5 @@
 -- Values that are the same have the same canonical bytes.
-use Rattle.std.proofs.Common.{◌≡◌, suc, ◌++◌, length, refl, sym, ap, ◌∙◌, subst}
-use Rattle.std.specs.Prelude.{flat_map}
+use Rattle.std.proofs.Common.{◌≡◌, suc, ◌++◌, length, refl, sym, ap, ◌∙◌, subst, flat_map}
 use Rattle.cbor_head.specs.Head.{shortest_head}
 use Rattle.cbor_head.specs.Value.{Value, Values, Entries, unsigned, negative, bytes, text, array, map, tag, simple, no_values, a_value, HasEntry, Same, SameValues, values_count, entries_count, AreInRange, AreValid}
 use Rattle.cbor_head.specs.Canonical.{Pair, in_order, canonical, canonical_all, canonical_entries}

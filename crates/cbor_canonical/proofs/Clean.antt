@@ -1,6 +1,5 @@
 -- The normal spelling has no strict complaint.
-use Rattle.std.proofs.Common.{◌≡◌, ℕ, ◌+◌, ◌^◌, ◌<◌, List, [], ◌∷◌, length, inl, inr, refl, sym, ap, subst}
-use Rattle.std.specs.Prelude.{IsTrue}
+use Rattle.std.proofs.Common.{◌≡◌, ℕ, ◌+◌, ◌^◌, ◌<◌, List, [], ◌∷◌, length, inl, inr, refl, sym, ap, subst, IsTrue}
 use Rattle.cbor_head.specs.Value as value
 use Rattle.cbor_head.specs.Head.{Holds, shortest}
 use Rattle.cbor_head.specs.Value.{Value, Values, Entries, values_count, AreInRange, AreValid, AreEntriesInRange, AreEntriesValid}

@@ -1,6 +1,5 @@
 -- The normal spelling of a value has its canonical bytes.
-use Rattle.std.proofs.Common.{◌≡◌, ℕ, suc, ◌^◌, ◌<◌, Bool, true, false, List, [], ◌∷◌, ◌++◌, length, refl, sym, ap, ◌∙◌, subst, append-nil}
-use Rattle.std.specs.Prelude.{flat_map, if◌then◌else◌, nat_lt}
+use Rattle.std.proofs.Common.{◌≡◌, ℕ, suc, ◌^◌, ◌<◌, Bool, true, false, List, [], ◌∷◌, ◌++◌, length, refl, sym, ap, ◌∙◌, subst, append-nil, flat_map, if◌then◌else◌, nat_lt}
 use Rattle.cbor_head.specs.Value as value
 use Rattle.cbor_head.specs.Head.{Holds, shortest, shortest_head, head}
 use Rattle.cbor_head.specs.Value.{Value, Values, Entries, values_count, IsInRange, AreInRange, AreEntriesInRange}

@@ -1,6 +1,5 @@
 -- The normal spelling means the same value, and is as deep.
-use Rattle.std.proofs.Common.{◌≡◌, suc, max, true, false, inl, inr, refl, sym, ap, ◌∙◌, subst, arith}
-use Rattle.std.specs.Prelude.{if◌then◌else◌}
+use Rattle.std.proofs.Common.{◌≡◌, suc, max, true, false, inl, inr, refl, sym, ap, ◌∙◌, subst, arith, if◌then◌else◌}
 use Rattle.cbor_head.specs.Value as value
 use Rattle.cbor_head.specs.Value.{Value, Values, Entries, HasEntry, Same, SameValues}
 use Rattle.cbor_head.specs.Spelling.{Spelling, SpelledEntries, no_entries, entry, spell, value_of, values_of, entries_of, depth, depth_all, depth_entries}

@@ -1,7 +1,6 @@
 -- The strict rules beside the plain ones: where no strict complaint has ended, no plain one has, and each strict complaint on a
 -- text is a plain one.
-use Rattle.std.proofs.Common.{◌≡◌, ℕ, ◌+◌, ◌≤◌, List, [], ◌∷◌, length, inl, inr, refl, sym, ap, ◌∙◌, subst, arith}
-use Rattle.std.specs.Prelude.{IsTrue}
+use Rattle.std.proofs.Common.{◌≡◌, ℕ, ◌+◌, ◌≤◌, List, [], ◌∷◌, length, inl, inr, refl, sym, ap, ◌∙◌, subst, arith, IsTrue}
 use Rattle.std.proofs.lemmas.Bool.{true_from_ne_false, true≢false}
 use Rattle.cbor_head.specs.Order.{key_lt}
 use Rattle.cbor_head.specs.Spelling.{Chunk, Spelling, Spellings, SpelledEntries, unsigned, negative, bytes, text, byte_chunks, text_chunks, array, a_map, tag, simple, no_spellings, a_spelling, no_entries, entry, spell, spellings_count, entries_count, value_of, IsSpelled, AreSpelled, AreEntriesSpelled}
@@ -10,7 +9,7 @@ use Rattle.cbor_head.specs.declared.order.KeyOrder.{KeyOrder}
 use Rattle.cbor_head.specs.declared.major.Major.{Major}
 use Rattle.cbor_head.specs.declared.major.Major.TheVariants.{Unsigned, Negative, Bytes, Text, Array, Map, Tag}
 use Rattle.cbor_head.specs.declared.width.Width.{Width}
-use Rattle.cbor_head.specs.declared.width.Width.TheVariants.{Direct, One, Two, Four, Eight, Indefinite}
+use Rattle.cbor_head.specs.declared.width.Width.TheVariants.{Indefinite}
 use Rattle.cbor_head.specs.declared.reason.Reason.TheVariants.{InvalidText, NotShortest, Indefinite as IndefiniteReason, KeyOrder as KeyOrderReason}
 use Rattle.cbor_grammar.proofs.Ends.{chunks_later, key_end, later_entries}
 use Rattle.cbor_grammar.proofs.OneFirst.{bounded}
@@ -22,11 +21,7 @@ use Rattle.cbor_canonical.proofs.Strict.{IsStrict, strict_spelling}
 
 pub no_count : (at : ℕ) (m : Major) (w : Width) (n : ℕ) (c : Complaint) → OfCount plain at m w n c → ⊥
 no_count at m Indefinite n c h = cc h.0
-no_count at m Direct n c h = cc h.0
-no_count at m One n c h = cc h.0
-no_count at m Two n c h = cc h.0
-no_count at m Four n c h = cc h.0
-no_count at m Eight n c h = cc h.0
+no_count at m _ n c h = cc h.0
 
 -- ---- keys that rise
 
@@ -117,11 +112,7 @@ module _ (o : KeyOrder) (c : Complaint) (is : c.reason ≡ InvalidText) where
 
   no_text_count : (at : ℕ) (m : Major) (w : Width) (n : ℕ) → OfCount (strict o) at m w n c → ⊥
   no_text_count at m Indefinite n h = no_text_opener at h
-  no_text_count at m Direct n h = no_text_head at m Direct n h
-  no_text_count at m One n h = no_text_head at m One n h
-  no_text_count at m Two n h = no_text_head at m Two n h
-  no_text_count at m Four n h = no_text_head at m Four n h
-  no_text_count at m Eight n h = no_text_head at m Eight n h
+  no_text_count at m w n h = no_text_head at m w n h
 
   no_text_key : (at : ℕ) (bs : List Spelling) (k : Spelling) → OfKey (rising o) at bs k c → ⊥
   no_text_key at [] k h = h

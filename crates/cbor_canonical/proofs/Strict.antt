@@ -1,6 +1,5 @@
 -- A spelling without strict complaint spells the canonical bytes of a value in range and valid.
-use Rattle.std.proofs.Common.{◌≡◌, ℕ, ◌+◌, ◌^◌, ◌<◌, List, [], ◌∷◌, ◌++◌, length, inl, inr, refl, sym, ap, ◌∙◌, subst, arith, append-nil}
-use Rattle.std.specs.Prelude.{IsTrue, flat_map}
+use Rattle.std.proofs.Common.{◌≡◌, ℕ, ◌+◌, ◌^◌, ◌<◌, List, [], ◌∷◌, ◌++◌, length, inl, inr, refl, sym, ap, ◌∙◌, subst, arith, append-nil, IsTrue, flat_map}
 use Rattle.std.proofs.lemmas.Bool.{true_from_ne_false, true≢false}
 use Rattle.cbor_head.specs.Value as value
 use Rattle.cbor_head.specs.Head.{shortest, shortest_head, head}
@@ -13,7 +12,7 @@ use Rattle.cbor_head.specs.declared.order.KeyOrder.{KeyOrder}
 use Rattle.cbor_head.specs.declared.major.Major.{Major}
 use Rattle.cbor_head.specs.declared.major.Major.TheVariants.{Unsigned, Negative, Bytes, Text, Array, Map, Tag}
 use Rattle.cbor_head.specs.declared.width.Width.{Width}
-use Rattle.cbor_head.specs.declared.width.Width.TheVariants.{Direct, One, Two, Four, Eight, Indefinite}
+use Rattle.cbor_head.specs.declared.width.Width.TheVariants.{Indefinite}
 use Rattle.cbor_grammar.proofs.Counts.{holds_fits, values_count-of, entries_count-of}
 use Rattle.cbor_canonical.specs.Pairs.{IsRising, pair_bytes}
 use Rattle.cbor_canonical.proofs.Members.{In}
@@ -51,11 +50,7 @@ record IsCounted (w : Width) (n k : ℕ) : Type 0 where
 
 counted : (o : KeyOrder) (at : ℕ) (m : Major) (w : Width) (n k : ℕ) → k ≡ n → HoldsOrIndefinite w n → ((c : Complaint) → OfCount (strict o) at m w n c → ⊥) → IsCounted w n k
 counted o at m Indefinite n k e h f = absurd (f _ (refl, refl))
-counted o at m Direct n k e h f = record { shortest_is = head_clean o at m Direct n f; count = e; fits = omega arith }
-counted o at m One n k e h f = record { shortest_is = head_clean o at m One n f; count = e; fits = omega arith }
-counted o at m Two n k e h f = record { shortest_is = head_clean o at m Two n f; count = e; fits = omega arith }
-counted o at m Four n k e h f = record { shortest_is = head_clean o at m Four n f; count = e; fits = omega arith }
-counted o at m Eight n k e h f = record { shortest_is = head_clean o at m Eight n f; count = e; fits = omega arith }
+counted o at m w n k e h f = record { shortest_is = head_clean o at m w n f; count = e; fits = omega arith }
 
 -- the bytes of an array or map whose count is so
 counted_bytes : (m : Major) (w : Width) (n k : ℕ) (xs ys : List ℕ) → IsCounted w n k → xs ≡ ys → head m w n ++ xs ++ break_of w ≡ shortest_head m k ++ ys

@@ -15,8 +15,7 @@ use Rattle.cbor_judging.specs.RefusedHere.{MayBegin, IsMisplaced, IsPlaceFor}
 use Rattle.cbor_judging.specs.PathKinds.{asks, IsOtherFront}
 use Rattle.cbor_judging.specs.Path.{bytes_before}
 use Rattle.cbor_judging.specs.Stop.{IsStopped}
-use Rattle.cbor_judging.proofs.RefusedHere.{no_break, misplaced_stops}
-use Rattle.cbor_judging.proofs.OtherKeys.{kind_refused}
+use Rattle.cbor_judging.proofs.RefusedHere.{no_break, misplaced_stops, kind_refused}
 use Rattle.cbor_front.specs.declared.level.Due.TheVariants.{Key}
 use Rattle.cbor_front.specs.declared.level.Level as cell
 use Rattle.cbor_front.specs.declared.stack.Stack.{Stack}

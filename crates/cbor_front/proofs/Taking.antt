@@ -19,7 +19,7 @@ use Rattle.cbor_canonical.proofs.Normal.{Holds-shortest}
 use Rattle.cbor_front.specs.inner.Leaves.{IsLeaf}
 use Rattle.cbor_judging.proofs.Heads.{open_or, takes}
 use Rattle.cbor_judging.proofs.KindBytes.{head_is_one}
-use Rattle.cbor_judging.proofs.KindSteps.{keeps_start}
+use Rattle.cbor_judging.proofs.KindFrames.{keeps_start}
 use Rattle.cbor_judging.specs.Judged.{Never}
 use Rattle.cbor_judging.specs.Kinds.{KeepsToKinds}
 use Rattle.cbor_judging.specs.Path as path

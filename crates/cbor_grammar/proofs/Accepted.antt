@@ -1,6 +1,5 @@
 -- What is accepted: exactly an item at the front of the input, without complaint.
-use Rattle.std.proofs.Common.{ℕ, ◌↔◌, List, [], ◌++◌, length, take, refl, sym, ap, ◌∙◌, subst}
-use Rattle.std.proofs.lemmas.List.{append-nil}
+use Rattle.std.proofs.Common.{ℕ, ◌↔◌, List, [], ◌++◌, length, take, refl, sym, ap, ◌∙◌, subst, append-nil}
 use Rattle.cbor_head.specs.Complaint.{Rules, Complaint, IsComplaint}
 use Rattle.cbor_head.specs.Laws.{IsAtFront, IsFrontWithoutComplaint, IsWithout}
 use Rattle.cbor_head.specs.Limits.{Bounds}

@@ -1,14 +1,13 @@
 -- Items that begin alike have the same complaints as far as they are alike.
-use Rattle.std.proofs.Common.{ℕ, suc, ◌+◌, ◌≡◌, ◌≤◌, ◌⊎◌, Bool, true, false, List, [], ◌∷◌, ◌++◌, length, refl, sym, ap, ◌∙◌, arith, subst, flat_map, inl, inr}
+use Rattle.std.proofs.Common.{ℕ, suc, ◌+◌, ◌≡◌, ◌≤◌, ◌⊎◌, Bool, true, false, List, [], ◌∷◌, ◌++◌, length, refl, sym, ap, ◌∙◌, arith, subst, flat_map, inl, inr, length-append, append_assoc, append-nil}
 use Rattle.std.specs.List.{AllByRecursion}
-use Rattle.std.proofs.lemmas.List.{length-append, append_assoc, append-nil}
 use Rattle.cbor_head.specs.Head.{head, Holds}
 use Rattle.cbor_head.specs.Spelling.{Chunk, Spelling, Spellings, SpelledEntries, unsigned, negative, bytes, text, byte_chunks, text_chunks, array, a_map, tag, simple, no_spellings, a_spelling, no_entries, entry, spell, spell_all, spell_entries, spellings_count, entries_count, IsSpelled, AreSpelled, AreEntriesSpelled, IsChunk, chunk_bytes, break_of, IsItem}
 use Rattle.cbor_head.specs.Complaint.{Rules, Complaint, OfHead, OfIndefinite, OfCount, OfString, OfChunks, OfKey, Complains, ComplainsIn, ComplainsInEntries}
 use Rattle.cbor_head.specs.declared.major.Major.{Major}
 use Rattle.cbor_head.specs.declared.major.Major.TheVariants.{Unsigned, Negative, Bytes, Text, Array, Map, Tag}
 use Rattle.cbor_head.specs.declared.width.Width.{Width}
-use Rattle.cbor_head.specs.declared.width.Width.TheVariants.{Direct, One, Two, Four, Eight, Indefinite}
+use Rattle.cbor_head.specs.declared.width.Width.TheVariants.{Direct, Indefinite}
 use Rattle.cbor_head.proofs.HeadLaws.{told}
 use Rattle.cbor_grammar.proofs.ReadLaws.{unique}
 use Rattle.cbor_grammar.proofs.Alike.{Both, Past, past, past_length, front_both, recut, enter, enter_same, whole, past_item, not_break, not_closed}
@@ -123,19 +122,11 @@ agree_chunked b cs ds i j r at p c q m (inr h) =
 
 as_count : (r : Rules) (at : ℕ) (m : Major) (w : Width) (n i : ℕ) (c : Complaint) → told w n ≡ told w i → OfCount r at m w n c → OfCount r at m w i c
 as_count r at m Indefinite n i c e h = h
-as_count r at m Direct n i c e h = subst (λ (n : ℕ). OfHead r at m Direct n c) e h
-as_count r at m One n i c e h = subst (λ (n : ℕ). OfHead r at m One n c) e h
-as_count r at m Two n i c e h = subst (λ (n : ℕ). OfHead r at m Two n c) e h
-as_count r at m Four n i c e h = subst (λ (n : ℕ). OfHead r at m Four n c) e h
-as_count r at m Eight n i c e h = subst (λ (n : ℕ). OfHead r at m Eight n c) e h
+as_count r at m w n i c e h = subst (λ (n : ℕ). OfHead r at m w n c) e h
 
 pub same_length : (m : Major) (w : Width) (n i : ℕ) → length (head m w n) ≡ length (head m w i)
 same_length m Direct n i = refl
-same_length m One n i = refl
-same_length m Two n i = refl
-same_length m Four n i = refl
-same_length m Eight n i = refl
-same_length m Indefinite n i = refl
+same_length m _ n i = refl
 
 pub told_less : (w : Width) (n i : ℕ) → told w (suc n) ≡ told w (suc i) → told w n ≡ told w i
 told_less Indefinite n i e = refl

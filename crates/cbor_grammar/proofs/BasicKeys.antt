@@ -3,35 +3,23 @@ use Rattle.std.proofs.Common.{ℕ, ◌+◌, ◌↔◌, refl, length, inl, inr}
 use Rattle.cbor_head.specs.Head.{head}
 use Rattle.cbor_head.specs.Value as value
 use Rattle.cbor_head.specs.Value.{Value, Values, Entries, HasEntry, Same, SameValues, Covers, IsIntegerOrText, HasBasicKeys, HaveBasicKeys, EntriesHaveBasicKeys}
-use Rattle.cbor_head.specs.Spelling.{Spelling, Spellings, SpelledEntries, unsigned, negative, bytes, text, byte_chunks, text_chunks, array, a_map, tag, simple, no_spellings, a_spelling, no_entries, entry, spell, spellings_count, entries_count, value_of, values_of, entries_of}
+use Rattle.cbor_head.specs.Spelling.{Spelling, Spellings, SpelledEntries, array, a_map, tag, no_spellings, a_spelling, no_entries, entry, spell, spellings_count, entries_count, value_of, values_of, entries_of}
 use Rattle.cbor_head.specs.Complaint.{Complaint, OfKinds, OfKindsIn, OfKindsInEntries}
 use Rattle.cbor_head.specs.declared.major.Major.TheVariants.{Array, Map, Tag}
 
 -- an integer or a text has no keys
-pub basic_has_none : (s : Spelling) → IsIntegerOrText (value_of s) → (at : ℕ) (c : Complaint) → OfKinds at s c → ⊥
-basic_has_none (unsigned w n) h at c x = x
-basic_has_none (negative w n) h at c x = x
-basic_has_none (text w q) h at c x = x
-basic_has_none (text_chunks cs) h at c x = x
-basic_has_none (bytes w q) h at c x = x
-basic_has_none (byte_chunks cs) h at c x = x
+basic_has_none : (s : Spelling) → IsIntegerOrText (value_of s) → (at : ℕ) (c : Complaint) → OfKinds at s c → ⊥
 basic_has_none (array w ss) h at c x = h
 basic_has_none (a_map w es) h at c x = h
 basic_has_none (tag w n s) h at c x = h
-basic_has_none (simple n) h at c x = x
+basic_has_none _ h at c x = x
 
 mutual
   pub none_of_kinds : (s : Spelling) → HasBasicKeys (value_of s) → (at : ℕ) (c : Complaint) → OfKinds at s c → ⊥
   none_of_kinds (array w ss) h at c x = none_in ss h (at + length (head Array w (spellings_count ss))) c x
   none_of_kinds (a_map w es) h at c x = none_in_entries es h (at + length (head Map w (entries_count es))) c x
   none_of_kinds (tag w n s) h at c x = none_of_kinds s h (at + length (head Tag w n)) c x
-  none_of_kinds (unsigned w n) h at c x = x
-  none_of_kinds (negative w n) h at c x = x
-  none_of_kinds (bytes w q) h at c x = x
-  none_of_kinds (text w q) h at c x = x
-  none_of_kinds (byte_chunks cs) h at c x = x
-  none_of_kinds (text_chunks cs) h at c x = x
-  none_of_kinds (simple n) h at c x = x
+  none_of_kinds _ h at c x = x
 
   none_in : (ss : Spellings) → HaveBasicKeys (values_of ss) → (at : ℕ) (c : Complaint) → OfKindsIn at ss c → ⊥
   none_in no_spellings h at c x = x
@@ -50,24 +38,14 @@ told : (v : Value) → (¬ IsIntegerOrText v → ⊥) → IsIntegerOrText v
 told (value.unsigned n) h = tt
 told (value.negative n) h = tt
 told (value.text s) h = tt
-told (value.bytes s) h = absurd (h (λ x. x))
-told (value.array vs) h = absurd (h (λ x. x))
-told (value.map es) h = absurd (h (λ x. x))
-told (value.tag n v) h = absurd (h (λ x. x))
-told (value.simple n) h = absurd (h (λ x. x))
+told _ h = absurd (h (λ x. x))
 
 mutual
   pub has_basic_keys : (s : Spelling) (at : ℕ) → ((c : Complaint) → OfKinds at s c → ⊥) → HasBasicKeys (value_of s)
   has_basic_keys (array w ss) at f = have_basic_keys ss (at + length (head Array w (spellings_count ss))) f
   has_basic_keys (a_map w es) at f = entries_have_basic_keys es (at + length (head Map w (entries_count es))) f
   has_basic_keys (tag w n s) at f = has_basic_keys s (at + length (head Tag w n)) f
-  has_basic_keys (unsigned w n) at f = tt
-  has_basic_keys (negative w n) at f = tt
-  has_basic_keys (bytes w q) at f = tt
-  has_basic_keys (text w q) at f = tt
-  has_basic_keys (byte_chunks cs) at f = tt
-  has_basic_keys (text_chunks cs) at f = tt
-  has_basic_keys (simple n) at f = tt
+  has_basic_keys _ at f = tt
 
   have_basic_keys : (ss : Spellings) (at : ℕ) → ((c : Complaint) → OfKindsIn at ss c → ⊥) → HaveBasicKeys (values_of ss)
   have_basic_keys no_spellings at f = tt
@@ -90,16 +68,10 @@ key_same : (k l : Value) → Same l k → IsIntegerOrText l → IsIntegerOrText 
 key_same (value.unsigned n) l h b = tt
 key_same (value.negative n) l h b = tt
 key_same (value.text s) l h b = tt
-key_same (value.bytes s) (value.bytes t) h b = absurd b
-key_same (value.bytes s) l h b = absurd h
-key_same (value.array vs) (value.array ws) h b = absurd b
-key_same (value.array vs) l h b = absurd h
-key_same (value.map es) (value.map fs) h b = absurd b
-key_same (value.map es) l h b = absurd h
-key_same (value.tag n v) (value.tag m w) h b = absurd b
-key_same (value.tag n v) l h b = absurd h
-key_same (value.simple n) (value.simple m) h b = absurd b
-key_same (value.simple n) l h b = absurd h
+key_same _ (value.unsigned n) h b = absurd h
+key_same _ (value.negative n) h b = absurd h
+key_same _ (value.text s) h b = absurd h
+key_same _ _ h b = absurd b
 
 -- a pair that is the same as this one
 record Found (k v : Value) : Type 0 where
@@ -123,11 +95,7 @@ mutual
   basic_same (value.map fs) v h b = absurd h
   basic_same (value.tag n w) (value.tag m v) h b = basic_same w v h.1 b
   basic_same (value.tag n w) v h b = absurd h
-  basic_same (value.unsigned n) v h b = tt
-  basic_same (value.negative n) v h b = tt
-  basic_same (value.bytes s) v h b = tt
-  basic_same (value.text s) v h b = tt
-  basic_same (value.simple n) v h b = tt
+  basic_same _ v h b = tt
 
   all_same : (ws vs : Values) → SameValues vs ws → HaveBasicKeys vs → HaveBasicKeys ws
   all_same value.no_values vs h b = tt

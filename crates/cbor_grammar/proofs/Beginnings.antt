@@ -1,6 +1,5 @@
 -- What is answered of an item at the front.
-use Rattle.std.proofs.Common.{ℕ, ◌≡◌, List, [], ◌++◌, take, refl, sym}
-use Rattle.std.proofs.lemmas.List.{append-nil}
+use Rattle.std.proofs.Common.{ℕ, ◌≡◌, List, [], ◌++◌, take, refl, sym, append-nil}
 use Rattle.cbor_head.specs.Limits.{Bounds}
 use Rattle.cbor_head.specs.Spelling.{Spelling, spell, IsItem}
 use Rattle.cbor_head.specs.Complaint.{Complaint}

@@ -1,14 +1,13 @@
 -- Complaints of items that are told by their bytes: one comes first, and of each item that starts with these bytes the same.
-use Rattle.std.proofs.Common.{ℕ, ◌+◌, ◌≡◌, ◌≤◌, List, ◌++◌, length, ap, ◌∙◌, arith, inl, inr}
+use Rattle.std.proofs.Common.{ℕ, ◌≡◌, ◌≤◌, List, ◌++◌, length, ap, arith, inl, inr, IsTrue}
 use Rattle.std.proofs.lemmas.Bool.{cases_lt}
 use Rattle.cbor_head.specs.Limits.{Bounds}
 use Rattle.cbor_head.specs.Spelling.{Spelling, spell, IsItem}
 use Rattle.cbor_head.specs.Complaint.{Rules, Complaint, OfKinds, Complains, IsComplaint}
-use Rattle.std.specs.Prelude.{IsTrue}
 use Rattle.cbor_head.specs.Verdict.{rank, IsFirstOf, HasNoneOf}
 use Rattle.cbor_head.specs.declared.keys.Keys.TheVariants.{IntegersAndTexts}
 use Rattle.cbor_grammar.proofs.Agree.{same_complaints}
-use Rattle.cbor_grammar.proofs.KeyKinds.{kind_is, kind_within, one_kind}
+use Rattle.cbor_grammar.proofs.KeyKinds.{of_kind, one_kind}
 use Rattle.cbor_grammar.proofs.KindsAgree.{same_kinds}
 use Rattle.cbor_grammar.proofs.OneFirst.{bounded, apart}
 use Rattle.cbor_grammar.proofs.Reasons.{ranked}
@@ -25,7 +24,7 @@ complains_told r = record { agree = λ d s t p a b i j c l h. same_complaints d 
 
 -- one on a key's kind has the least rank
 pub kind_rank : (s : Spelling) (c : Complaint) → OfKinds 0 s c → rank c.reason ≡ 0
-kind_rank s c h = ap (λ (x : Complaint). rank x.reason) (kind_is s 0 c h)
+kind_rank s c h = ap (λ (x : Complaint). rank x.reason) ((of_kind s 0 c h).is)
 
 pub complaints_told : (limits : Bounds) (r : Rules) → AreToldByBytes (IsComplaint limits r)
 complaints_told limits r = record { agree = agrees; alone = one }
@@ -43,7 +42,7 @@ complaints_told limits r = record { agree = agrees; alone = one }
 -- it ends within the item
 pub complaint_within : (limits : Bounds) (r : Rules) (s : Spelling) (c : Complaint) → IsComplaint limits r s c → c.end ≤ length (spell s)
 complaint_within limits r s c (inl h) = omega (arith, bounded s r 0 c h)
-complaint_within limits r s c (inr h) = omega (arith, kind_within s 0 c h.2)
+complaint_within limits r s c (inr h) = omega (arith, (of_kind s 0 c h.2).within)
 
 -- one on a key's kind comes first where none ends before it
 pub kind_comes_first : (limits : Bounds) (r : Rules) (s : Spelling) (t : ℕ) (c : Complaint) → IsTrue r.kinds → limits.keys ≡ IntegersAndTexts → OfKinds 0 s c → c.end ≤ t

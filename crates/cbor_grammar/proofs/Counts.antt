@@ -4,15 +4,12 @@ use Rattle.cbor_head.specs.Head.{Holds}
 use Rattle.cbor_head.specs.Value as value
 use Rattle.cbor_head.specs.Spelling.{Spellings, SpelledEntries, no_spellings, a_spelling, no_entries, entry, spellings_count, entries_count, values_of, entries_of}
 use Rattle.cbor_head.specs.declared.width.Width.{Width}
-use Rattle.cbor_head.specs.declared.width.Width.TheVariants.{Direct, One, Two, Four, Eight, Indefinite}
+use Rattle.cbor_head.specs.declared.width.Width.TheVariants.{Eight, Indefinite}
 
 pub holds_fits : (w : Width) (n : ℕ) → Holds w n → n < 2 ^ 64
-holds_fits Direct n h = omega arith
-holds_fits One n h = omega arith
-holds_fits Two n h = omega arith
-holds_fits Four n h = omega arith
 holds_fits Eight n h = h
 holds_fits Indefinite n h = absurd h
+holds_fits _ n h = omega arith
 
 pub values_count-of : (ss : Spellings) → value.values_count (values_of ss) ≡ spellings_count ss
 values_count-of no_spellings = refl

@@ -6,7 +6,7 @@ use Rattle.cbor_head.specs.Complaint.{KeyRule, unasked, distinct, rising, Rules,
 use Rattle.cbor_head.specs.declared.major.Major.{Major}
 use Rattle.cbor_head.specs.declared.major.Major.TheVariants.{Unsigned, Negative, Bytes, Text, Array, Map, Tag}
 use Rattle.cbor_head.specs.declared.width.Width.{Width}
-use Rattle.cbor_head.specs.declared.width.Width.TheVariants.{Direct, One, Two, Four, Eight, Indefinite}
+use Rattle.cbor_head.specs.declared.width.Width.TheVariants.{Indefinite}
 use Rattle.cbor_grammar.proofs.ReadLaws.{length_head, length_spell}
 use Rattle.cbor_grammar.proofs.Parts.{major, width, count, head_of}
 
@@ -21,11 +21,7 @@ opener_later r at c h = let e : c.end ≡ at + 1 = ap (λ (c : Complaint). c.end
 
 pub count_later : (r : Rules) (at : ℕ) (m : Major) (w : Width) (n : ℕ) (c : Complaint) → OfCount r at m w n c → at + length (head m w n) ≤ c.end
 count_later r at m Indefinite n c h = opener_later r at c h
-count_later r at m Direct n c h = head_later r at m Direct n c h
-count_later r at m One n c h = head_later r at m One n c h
-count_later r at m Two n c h = head_later r at m Two n c h
-count_later r at m Four n c h = head_later r at m Four n c h
-count_later r at m Eight n c h = head_later r at m Eight n c h
+count_later r at m w n c h = head_later r at m w n c h
 
 pub payload_end : (r : Rules) (at : ℕ) (q : List ℕ) (c : Complaint) → OfPayload r at q c → c.end ≡ at + length q
 payload_end r at q c h = ap (λ (c : Complaint). c.end) h.2

@@ -1,7 +1,5 @@
 -- Examples of verdicts for keys that are integers and texts.
-use Rattle.std.proofs.Common.{ℕ, ◌+◌, ◌≡◌, ◌<◌, ◌≤◌, inl, inr, List, [], ◌∷◌, ◌++◌, length, take, None, refl, ap, ◌∙◌, sym, arith, subst}
-use Rattle.std.specs.Prelude.{IsTrue}
-use Rattle.std.proofs.lemmas.List.{append-nil}
+use Rattle.std.proofs.Common.{ℕ, ◌+◌, ◌≡◌, ◌≤◌, inl, inr, List, [], ◌∷◌, ◌++◌, length, take, None, refl, ap, ◌∙◌, sym, arith, subst, IsTrue, append-nil}
 use Rattle.cbor_head.specs.Beginning.{IsBeginning}
 use Rattle.cbor_head.specs.Complaint.{Rules, plain, strict, Complaint, complaint, OfKinds, IsComplaint}
 use Rattle.cbor_head.specs.Limits.{Bounds, bounds, with_keys}

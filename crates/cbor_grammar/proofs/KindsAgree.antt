@@ -1,21 +1,20 @@
 -- Items that begin alike have the same complaints on the kinds of keys, as far as they are alike.
-use Rattle.std.proofs.Common.{ℕ, ◌+◌, ◌≡◌, ◌≤◌, List, [], ◌∷◌, ◌++◌, length, refl, sym, ◌∙◌, arith, subst, inl, inr}
-use Rattle.std.proofs.lemmas.List.{append_assoc, append-nil}
+use Rattle.std.proofs.Common.{ℕ, ◌+◌, ◌≡◌, ◌≤◌, List, [], ◌++◌, length, refl, sym, ◌∙◌, arith, subst, inl, inr, append_assoc, append-nil}
 use Rattle.cbor_head.specs.Head.{head}
-use Rattle.cbor_head.specs.Spelling.{Spelling, Spellings, SpelledEntries, unsigned, negative, bytes, text, byte_chunks, text_chunks, array, a_map, tag, simple, no_spellings, a_spelling, no_entries, entry, spell, spell_all, spell_entries, spellings_count, entries_count, IsSpelled, AreSpelled, AreEntriesSpelled, break_of, IsItem}
+use Rattle.cbor_head.specs.Spelling.{Spelling, Spellings, SpelledEntries, array, a_map, tag, no_spellings, a_spelling, no_entries, entry, spell, spell_all, spell_entries, spellings_count, entries_count, IsSpelled, AreSpelled, AreEntriesSpelled, break_of, IsItem}
 use Rattle.cbor_head.specs.Complaint.{Complaint, OfKinds, OfKindsIn, OfKindsInEntries}
 use Rattle.cbor_head.specs.declared.major.Major.TheVariants.{Array, Map, Tag}
 use Rattle.cbor_head.specs.declared.width.Width.{Width}
 use Rattle.cbor_head.proofs.HeadLaws.{told}
 use Rattle.cbor_grammar.proofs.Alike.{Both, past_length, front_both, recut, enter, enter_same, past_item, not_closed}
 use Rattle.cbor_grammar.proofs.Agree.{same_length, told_less, told_none, pairs_assoc}
-use Rattle.cbor_grammar.proofs.KeyKinds.{kind_too, kind_later, kind_later_in, kind_later_entries, kind_end}
+use Rattle.cbor_grammar.proofs.KeyKinds.{kind_too, of_kind, of_kind_in, of_kind_entries, kind_end}
 use Rattle.cbor_grammar.proofs.Parts.{body, as_array, as_map, as_tag}
 
 mutual
   pub kinds_agree : (s t : Spelling) → IsSpelled s → IsSpelled t → (p : List ℕ) → Both (spell s) (spell t) p → (at : ℕ) (c : Complaint) → c.end ≤ at + length p → OfKinds at s c → OfKinds at t c
   kinds_agree (array w ss) t i j p both at c l h =
-      let first = kind_later (array w ss) at c h in
+      let first = (of_kind (array w ss) at c h).later in
       let e = enter (array w ss) t i j p both (omega (arith, first, l)) in
       let v = as_array t w (spellings_count ss) e.same in
       let q = enter_same (array w ss) t (array w v.0) i j v.1 p both (omega (arith, first, l)) in
@@ -24,7 +23,7 @@ mutual
       let more = kinds_agree_in ss v.0 i.1 k.1 w v.2 q.k q.both (at + length (head Array w (spellings_count ss))) c (omega (arith, len, l)) h in
       subst (λ (t : Spelling). OfKinds at t c) (sym v.1) (subst (λ (n : ℕ). OfKindsIn (at + n) v.0 c) (same_length Array w (spellings_count ss) (spellings_count v.0)) more)
   kinds_agree (a_map w es) t i j p both at c l h =
-      let first = kind_later (a_map w es) at c h in
+      let first = (of_kind (a_map w es) at c h).later in
       let e = enter (a_map w es) t i j p both (omega (arith, first, l)) in
       let v = as_map t w (entries_count es) e.same in
       let q = enter_same (a_map w es) t (a_map w v.0) i j v.1 p both (omega (arith, first, l)) in
@@ -33,33 +32,27 @@ mutual
       let more = kinds_agree_entries es v.0 i.1 k.1 w v.2 q.k q.both (at + length (head Map w (entries_count es))) c (omega (arith, len, l)) h in
       subst (λ (t : Spelling). OfKinds at t c) (sym v.1) (subst (λ (n : ℕ). OfKindsInEntries (at + n) v.0 c) (same_length Map w (entries_count es) (entries_count v.0)) more)
   kinds_agree (tag w n s) t i j p both at c l h =
-      let first = kind_later (tag w n s) at c h in
+      let first = (of_kind (tag w n s) at c h).later in
       let e = enter (tag w n s) t i j p both (omega (arith, first, l)) in
       let v = as_tag t w n j i.0 e.same in
       let q = enter_same (tag w n s) t (tag w n v.0) i j v.1 p both (omega (arith, first, l)) in
       let len = past_length (head Tag w n) (spell s) (spell v.0) p (Unit {0}) q in
       let k : IsSpelled (tag w n v.0) = subst IsSpelled v.1 j in
       subst (λ (t : Spelling). OfKinds at t c) (sym v.1) (kinds_agree s v.0 i.1 k.1 q.k q.both (at + length (head Tag w n)) c (omega (arith, len, l)) h)
-  kinds_agree (unsigned w n) t i j p both at c l h = absurd h
-  kinds_agree (negative w n) t i j p both at c l h = absurd h
-  kinds_agree (bytes w q) t i j p both at c l h = absurd h
-  kinds_agree (text w q) t i j p both at c l h = absurd h
-  kinds_agree (byte_chunks cs) t i j p both at c l h = absurd h
-  kinds_agree (text_chunks cs) t i j p both at c l h = absurd h
-  kinds_agree (simple n) t i j p both at c l h = absurd h
+  kinds_agree _ t i j p both at c l h = absurd h
 
   kinds_agree_in : (ss ts : Spellings) → AreSpelled ss → AreSpelled ts → (w : Width) → told w (spellings_count ss) ≡ told w (spellings_count ts) → (p : List ℕ) → Both (spell_all ss ++ break_of w) (spell_all ts ++ break_of w) p
       → (at : ℕ) (c : Complaint) → c.end ≤ at + length p → OfKindsIn at ss c → OfKindsIn at ts c
   kinds_agree_in no_spellings ts i j w n p both at c l h = absurd h
   kinds_agree_in (a_spelling s ss) no_spellings i j w n p both at c l h =
-      let some = kind_later_in (a_spelling s ss) at c h in
+      let some = (of_kind_in (a_spelling s ss) at c h).later in
       absurd (not_closed s i.0 w (told_none w (spellings_count ss) n) (spell_all ss ++ break_of w) p (recut p (append_assoc (spell s) (spell_all ss) (break_of w)) refl both) (omega (arith, some, l)))
   kinds_agree_in (a_spelling s ss) (a_spelling t ts) i j w n p both at c l (inl h) =
       let b = recut p (append_assoc (spell s) (spell_all ss) (break_of w)) (append_assoc (spell t) (spell_all ts) (break_of w)) both in
       inl (kinds_agree s t i.0 j.0 p (front_both (spell s) (spell_all ss ++ break_of w) (spell t) (spell_all ts ++ break_of w) p b) at c l h)
   kinds_agree_in (a_spelling s ss) (a_spelling t ts) i j w n p both at c l (inr h) =
       let b = recut p (append_assoc (spell s) (spell_all ss) (break_of w)) (append_assoc (spell t) (spell_all ts) (break_of w)) both in
-      let end = kind_later_in ss (at + length (spell s)) c h in
+      let end = (of_kind_in ss (at + length (spell s)) c h).later in
       let q = past_item s t i.0 j.0 (spell_all ss ++ break_of w) (spell_all ts ++ break_of w) p b (omega (arith, end, l)) in
       let len = past_length (spell s) (spell_all ss ++ break_of w) (spell_all ts ++ break_of w) p (s ≡ t) q in
       inr (subst (λ (o : Spelling). OfKindsIn (at + length (spell o)) ts c) q.same (kinds_agree_in ss ts i.1 j.1 w (told_less w (spellings_count ss) (spellings_count ts) n) q.k q.both (at + length (spell s)) c (omega (arith, len, l)) h))
@@ -68,7 +61,7 @@ mutual
       → (at : ℕ) (c : Complaint) → c.end ≤ at + length p → OfKindsInEntries at es c → OfKindsInEntries at fs c
   kinds_agree_entries no_entries fs i j w n p both at c l h = absurd h
   kinds_agree_entries (entry k v es) no_entries i j w n p both at c l h =
-      let some = kind_later_entries (entry k v es) at c h in
+      let some = (of_kind_entries (entry k v es) at c h).later in
       absurd (not_closed k i.0 w (told_none w (entries_count es) n) (spell v ++ (spell_entries es ++ break_of w)) p (recut p (pairs_assoc (spell k) (spell v) (spell_entries es) (break_of w)) refl both) (omega (arith, some, l)))
   kinds_agree_entries (entry k v es) (entry m o fs) i j w n p both at c l (inl h) =
       let b = recut p (pairs_assoc (spell k) (spell v) (spell_entries es) (break_of w)) (pairs_assoc (spell m) (spell o) (spell_entries fs) (break_of w)) both in
@@ -79,14 +72,14 @@ mutual
       inr (inl (kinds_agree k m i.0 j.0 p (front_both (spell k) (spell v ++ (spell_entries es ++ break_of w)) (spell m) (spell o ++ (spell_entries fs ++ break_of w)) p b) at c l h))
   kinds_agree_entries (entry k v es) (entry m o fs) i j w n p both at c l (inr (inr (inl h))) =
       let b = recut p (pairs_assoc (spell k) (spell v) (spell_entries es) (break_of w)) (pairs_assoc (spell m) (spell o) (spell_entries fs) (break_of w)) both in
-      let end = kind_later v (at + length (spell k)) c h in
+      let end = (of_kind v (at + length (spell k)) c h).later in
       let q = past_item k m i.0 j.0 (spell v ++ (spell_entries es ++ break_of w)) (spell o ++ (spell_entries fs ++ break_of w)) p b (omega (arith, end, l)) in
       let len = past_length (spell k) (spell v ++ (spell_entries es ++ break_of w)) (spell o ++ (spell_entries fs ++ break_of w)) p (k ≡ m) q in
       let f = front_both (spell v) (spell_entries es ++ break_of w) (spell o) (spell_entries fs ++ break_of w) q.k q.both in
       inr (inr (inl (subst (λ (k : Spelling). OfKinds (at + length (spell k)) o c) q.same (kinds_agree v o i.1 j.1 q.k f (at + length (spell k)) c (omega (arith, len, l)) h))))
   kinds_agree_entries (entry k v es) (entry m o fs) i j w n p both at c l (inr (inr (inr h))) =
       let b = recut p (pairs_assoc (spell k) (spell v) (spell_entries es) (break_of w)) (pairs_assoc (spell m) (spell o) (spell_entries fs) (break_of w)) both in
-      let end = kind_later_entries es (at + length (spell k) + length (spell v)) c h in
+      let end = (of_kind_entries es (at + length (spell k) + length (spell v)) c h).later in
       let q = past_item k m i.0 j.0 (spell v ++ (spell_entries es ++ break_of w)) (spell o ++ (spell_entries fs ++ break_of w)) p b (omega (arith, end, l)) in
       let len = past_length (spell k) (spell v ++ (spell_entries es ++ break_of w)) (spell o ++ (spell_entries fs ++ break_of w)) p (k ≡ m) q in
       let q2 = past_item v o i.1 j.1 (spell_entries es ++ break_of w) (spell_entries fs ++ break_of w) q.k q.both (omega (arith, end, len, l)) in

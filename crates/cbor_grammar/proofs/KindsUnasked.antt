@@ -1,6 +1,5 @@
 -- Verdicts by other words for the same complaints; and where no kind of keys is asked for.
-use Rattle.std.proofs.Common.{ℕ, ◌≡◌, ◌↔◌, ◌++◌, List, [], ◌∷◌, length, sym, ◌∙◌, subst, inl, inr}
-use Rattle.std.specs.Prelude.{IsTrue}
+use Rattle.std.proofs.Common.{ℕ, ◌≡◌, ◌↔◌, List, [], ◌∷◌, length, sym, ◌∙◌, subst, inl, inr, IsTrue}
 use Rattle.cbor_head.specs.Limits.{Bounds, bounds, with_keys}
 use Rattle.cbor_head.specs.Spelling.{Spelling}
 use Rattle.cbor_head.specs.Complaint.{form, Rules, Complaint, Complains, IsComplaint}

@@ -1,6 +1,5 @@
 -- Where complaints end, by rank: no two of an item at one place with one rank.
-use Rattle.std.proofs.Common.{ℕ, ◌+◌, ◌-◌, ◌≡◌, ◌<◌, ◌≤◌, List, [], ◌∷◌, ◌++◌, length, sym, ap, ◌∙◌, arith, flat_map, inl, inr}
-use Rattle.std.proofs.lemmas.List.{length-append}
+use Rattle.std.proofs.Common.{ℕ, ◌+◌, ◌-◌, ◌≡◌, ◌<◌, ◌≤◌, List, [], ◌∷◌, ◌++◌, length, sym, ap, ◌∙◌, arith, flat_map, inl, inr, length-append}
 use Rattle.std.proofs.lemmas.Str.{IsUtf8-nil}
 use Rattle.cbor_head.specs.Head.{head}
 use Rattle.cbor_head.specs.Spelling.{Chunk, Spelling, Spellings, SpelledEntries, unsigned, negative, bytes, text, byte_chunks, text_chunks, array, a_map, tag, simple, no_spellings, a_spelling, no_entries, entry, spell, spell_all, spell_entries, spellings_count, entries_count, chunk_bytes, break_of}
@@ -9,7 +8,7 @@ use Rattle.cbor_head.specs.Verdict.{rank}
 use Rattle.cbor_head.specs.declared.major.Major.{Major}
 use Rattle.cbor_head.specs.declared.major.Major.TheVariants.{Unsigned, Negative, Bytes, Text, Array, Map, Tag}
 use Rattle.cbor_head.specs.declared.width.Width.{Width}
-use Rattle.cbor_head.specs.declared.width.Width.TheVariants.{Direct, One, Two, Four, Eight, Indefinite}
+use Rattle.cbor_head.specs.declared.width.Width.TheVariants.{Indefinite}
 use Rattle.cbor_grammar.proofs.ReadLaws.{length_head, length_spell}
 use Rattle.cbor_grammar.proofs.Ends.{head_end, payload_end, chunks_later, key_end, later, later_in, later_entries}
 use Rattle.cbor_grammar.proofs.Parts.{major, width, count}
@@ -26,11 +25,7 @@ opener_last r at c h = ap last h.1 ∙ omega arith
 
 pub count_last : (r : Rules) (at : ℕ) (m : Major) (w : Width) (n : ℕ) (c : Complaint) → OfCount r at m w n c → last c ≡ at + length (head m w n)
 count_last r at m Indefinite n c h = opener_last r at c h
-count_last r at m Direct n c h = head_last r at m Direct n c h
-count_last r at m One n c h = head_last r at m One n c h
-count_last r at m Two n c h = head_last r at m Two n c h
-count_last r at m Four n c h = head_last r at m Four n c h
-count_last r at m Eight n c h = head_last r at m Eight n c h
+count_last r at m w n c h = head_last r at m w n c h
 
 pub payload_last : (r : Rules) (at : ℕ) (q : List ℕ) (c : Complaint) → OfPayload r at q c → last c ≡ at + length q
 payload_last r at q c h = ap last h.2 ∙ omega arith
@@ -95,11 +90,7 @@ same_opener r at c e h i = h.1 ∙ sym i.1
 
 same_count : (r : Rules) (at : ℕ) (m : Major) (w : Width) (n : ℕ) (c e : Complaint) → OfCount r at m w n c → OfCount r at m w n e → c ≡ e
 same_count r at m Indefinite n c e h i = same_opener r at c e h i
-same_count r at m Direct n c e h i = same_head r at m Direct n c e h i
-same_count r at m One n c e h i = same_head r at m One n c e h i
-same_count r at m Two n c e h i = same_head r at m Two n c e h i
-same_count r at m Four n c e h i = same_head r at m Four n c e h i
-same_count r at m Eight n c e h i = same_head r at m Eight n c e h i
+same_count r at m w n c e h i = same_head r at m w n c e h i
 
 same_payload : (r : Rules) (at : ℕ) (q : List ℕ) (c e : Complaint) → OfPayload r at q c → OfPayload r at q e → c ≡ e
 same_payload r at q c e h i = h.2 ∙ sym i.2

@@ -1,6 +1,5 @@
 -- The parts of an item: its head, and what stands behind it.
-use Rattle.std.proofs.Common.{ℕ, ◌≡◌, List, [], ◌∷◌, ◌++◌, length, Some, refl, sym, ap, ◌∙◌, subst, flat_map, inl, inr}
-use Rattle.std.proofs.lemmas.List.{append_assoc, append-nil}
+use Rattle.std.proofs.Common.{ℕ, ◌≡◌, List, [], ◌∷◌, ◌++◌, length, Some, refl, sym, ap, ◌∙◌, subst, flat_map, inl, inr, append_assoc, append-nil}
 use Rattle.std.proofs.lemmas.Bool.{cases_lt, lt-ltb, le-ltb}
 use Rattle.cbor_head.specs.Head.{head, Holds, IsSimple, shortest}
 use Rattle.cbor_head.specs.Spelling.{Chunk, Spelling, Spellings, SpelledEntries, unsigned, negative, bytes, text, byte_chunks, text_chunks, array, a_map, tag, simple, spell, spell_all, spell_entries, spellings_count, entries_count, IsSpelled, HoldsOrIndefinite, chunk_bytes, break_of}
@@ -53,8 +52,6 @@ count (simple n) = n
 
 -- what stands behind an item's first head
 abbrev pub body : Spelling → List ℕ
-body (unsigned w n) = []
-body (negative w n) = []
 body (bytes w p) = p
 body (text w p) = p
 body (byte_chunks cs) = flat_map (chunk_bytes Bytes) cs ++ (0xff ∷ [])
@@ -62,7 +59,7 @@ body (text_chunks cs) = flat_map (chunk_bytes Text) cs ++ (0xff ∷ [])
 body (array w ss) = spell_all ss ++ break_of w
 body (a_map w es) = spell_entries es ++ break_of w
 body (tag w n s) = spell s
-body (simple n) = []
+body _ = []
 
 -- the bytes of an item's first head
 abbrev pub head_of : Spelling → List ℕ
@@ -71,14 +68,12 @@ head_of s = head (major s) (width s) (count s)
 pub parts : (s : Spelling) → spell s ≡ head_of s ++ body s
 parts (unsigned w n) = sym (append-nil (head Unsigned w n))
 parts (negative w n) = sym (append-nil (head Negative w n))
-parts (bytes w p) = refl
-parts (text w p) = refl
 parts (byte_chunks cs) = append_assoc (head Bytes Indefinite 0) (flat_map (chunk_bytes Bytes) cs) (0xff ∷ [])
 parts (text_chunks cs) = append_assoc (head Text Indefinite 0) (flat_map (chunk_bytes Text) cs) (0xff ∷ [])
 parts (array w ss) = append_assoc (head Array w (spellings_count ss)) (spell_all ss) (break_of w)
 parts (a_map w es) = append_assoc (head Map w (entries_count es)) (spell_entries es) (break_of w)
-parts (tag w n s) = refl
 parts (simple n) = sym (append-nil (head Simple (shortest n) n))
+parts _ = refl
 
 simple_holds : (n : ℕ) → IsSimple n → HoldsOrIndefinite (shortest n) n
 simple_holds n h = elim (cases_lt n 24) [

@@ -1,16 +1,15 @@
 -- What is spelled is read back, whatever follows it; so a byte list has one spelling.
-use Rattle.std.proofs.Common.{ℕ, zero, suc, max, ◌≡◌, ◌<◌, ◌≤◌, true, false, List, [], ◌∷◌, ◌++◌, length, Option, Some, None, refl, sym, ap, ◌∙◌, arith, nat_le, flat_map, inl, inr}
+use Rattle.std.proofs.Common.{ℕ, zero, suc, max, ◌≡◌, ◌<◌, ◌≤◌, true, false, List, [], ◌∷◌, ◌++◌, length, Option, Some, None, refl, sym, ap, ◌∙◌, arith, nat_le, flat_map, inl, inr, length-append, append_assoc, append-nil}
 use Rattle.std.specs.List.{AllByRecursion}
 use Rattle.std.proofs.lemmas.Bool.{cases_lt, lt-ltb, le-leb, le-ltb}
 use Rattle.std.proofs.Math.Seq.{drop-append_seam, take-append_seam}
-use Rattle.std.proofs.lemmas.List.{length-append, append_assoc, append-nil}
 use Rattle.cbor_head.specs.Head.{head, Holds, IsSimple, shortest}
 use Rattle.cbor_head.specs.Spelling.{Chunk, Spelling, Spellings, SpelledEntries, unsigned, negative, bytes, text, byte_chunks, text_chunks, array, a_map, tag, simple, no_spellings, a_spelling, no_entries, entry, spell, spell_all, spell_entries, spellings_count, entries_count, IsSpelled, AreSpelled, AreEntriesSpelled, depth, depth_all, depth_entries, IsChunk, HoldsOrIndefinite, chunk_bytes, chunked, break_of}
 use Rattle.cbor_head.specs.Read.{front, read_head, payload, is_break, same_major, read_chunk, read_chunks, read_many, read_pairs, past_break, read_until, read_pairs_until, leaf, nest, read}
 use Rattle.cbor_head.specs.declared.major.Major.{Major}
 use Rattle.cbor_head.specs.declared.major.Major.TheVariants.{Unsigned, Negative, Bytes, Text, Array, Map, Tag, Simple}
 use Rattle.cbor_head.specs.declared.width.Width.{Width}
-use Rattle.cbor_head.specs.declared.width.Width.TheVariants.{Direct, One, Two, Four, Eight, Indefinite}
+use Rattle.cbor_head.specs.declared.width.Width.TheVariants.{Direct, One, Indefinite}
 use Rattle.cbor_head.proofs.HeadLaws.{told, read_head-head}
 
 payload_back : {A : Type 0} (xs x : List ℕ) (f : List ℕ → A) → payload (length xs) (xs ++ x) f ≡ Some (f xs, x)
@@ -24,11 +23,7 @@ holds_or_open _ n h = h
 
 pub length_head : (m : Major) (w : Width) (n : ℕ) → 1 ≤ length (head m w n)
 length_head m Direct n = omega arith
-length_head m One n = omega arith
-length_head m Two n = omega arith
-length_head m Four n = omega arith
-length_head m Eight n = omega arith
-length_head m Indefinite n = omega arith
+length_head m _ n = omega arith
 
 same_major-refl : (m : Major) → same_major m m ≡ true
 same_major-refl Unsigned = refl
@@ -169,19 +164,17 @@ mutual
       ∙ leaf_read d Text w (length p) (p ++ x) (holds_or_open w (length p) h.0) (text_back w p x h.0)
   reads (byte_chunks cs) h d deep x = chunked_back d Bytes cs (byte_chunks cs) x h (λ body rest e. rw e refl)
   reads (text_chunks cs) h d deep x = chunked_back d Text cs (text_chunks cs) x h (λ body rest e. rw e refl)
-  reads (array w ss) h zero deep x = absurd (omega arith)
   reads (array w ss) h (suc d) deep x =
       let shallow : depth_all ss ≤ d = omega arith in
       array_back d w ss x h.0 (reads_all ss h.1 d shallow) (reads_until ss h.1 d shallow)
-  reads (a_map w es) h zero deep x = absurd (omega arith)
   reads (a_map w es) h (suc d) deep x =
       let shallow : depth_entries es ≤ d = omega arith in
       map_back d w es x h.0 (reads_pairs es h.1 d shallow) (reads_pairs_until es h.1 d shallow)
-  reads (tag w n s) h zero deep x = absurd (omega arith)
   reads (tag w n s) h (suc d) deep x =
       ap (read (suc d)) (append_assoc (head Tag w n) (spell s) x)
       ∙ tag_back d w n s (spell s ++ x) x h.0 (reads s h.1 d (omega arith) x)
   reads (simple n) h d deep x = simple_back d n x h
+  reads _ h zero deep x = absurd (omega arith)
 
   pub reads_all : (ss : Spellings) → AreSpelled ss → (d : ℕ) → depth_all ss ≤ d → (x : List ℕ) → read_many (read d) (spellings_count ss) (spell_all ss ++ x) ≡ Some (ss, x)
   reads_all no_spellings h d deep x = refl

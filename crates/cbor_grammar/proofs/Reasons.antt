@@ -1,6 +1,5 @@
 -- A complaint is for a reason that its rules ask for.
-use Rattle.std.proofs.Common.{ℕ, ◌+◌, ◌≡◌, ◌≤◌, List, [], ◌∷◌, length, refl, sym, ap, subst, inl, inr, arith}
-use Rattle.std.specs.Prelude.{IsTrue}
+use Rattle.std.proofs.Common.{ℕ, ◌+◌, ◌≡◌, ◌≤◌, List, [], ◌∷◌, length, refl, sym, ap, subst, inl, inr, arith, IsTrue}
 use Rattle.cbor_head.specs.Head.{head}
 use Rattle.cbor_head.specs.Spelling.{Chunk, Spelling, Spellings, SpelledEntries, unsigned, negative, bytes, text, byte_chunks, text_chunks, array, a_map, tag, simple, no_spellings, a_spelling, no_entries, entry, spell, chunk_bytes, spellings_count, entries_count}
 use Rattle.cbor_head.specs.Complaint.{KeyRule, unasked, distinct, rising, Rules, Complaint, OfHead, OfIndefinite, OfCount, OfPayload, OfString, OfChunks, OfKey, Complains, ComplainsIn, ComplainsInEntries}
@@ -9,9 +8,9 @@ use Rattle.cbor_head.specs.declared.order.KeyOrder as order
 use Rattle.cbor_head.specs.declared.reason.Reason.{Reason}
 use Rattle.cbor_head.specs.declared.reason.Reason.TheVariants.{InvalidText, RepeatedKey, NotShortest, Indefinite as IndefiniteReason, KeyOrder}
 use Rattle.cbor_head.specs.declared.major.Major.{Major}
-use Rattle.cbor_head.specs.declared.major.Major.TheVariants.{Unsigned, Negative, Bytes, Text, Array, Map, Tag, Simple}
+use Rattle.cbor_head.specs.declared.major.Major.TheVariants.{Unsigned, Negative, Bytes, Text, Array, Map, Tag}
 use Rattle.cbor_head.specs.declared.width.Width.{Width}
-use Rattle.cbor_head.specs.declared.width.Width.TheVariants.{Direct, One, Two, Four, Eight, Indefinite}
+use Rattle.cbor_head.specs.declared.width.Width.TheVariants.{Indefinite}
 
 -- what holds of the reasons that the rules ask for
 module _ (r : Rules) (Q : Reason → Type 0) (of_texts : IsTrue r.texts → Q InvalidText) (of_heads : IsTrue r.heads → Q NotShortest) (of_lengths : IsTrue r.heads → Q IndefiniteReason)
@@ -27,11 +26,7 @@ module _ (r : Rules) (Q : Reason → Type 0) (of_texts : IsTrue r.texts → Q In
 
   of_count : (at : ℕ) (m : Major) (w : Width) (n : ℕ) (c : Complaint) → OfCount r at m w n c → Q c.reason
   of_count at m Indefinite n c h = of_opener at c h
-  of_count at m Direct n c h = of_head at m Direct n c h
-  of_count at m One n c h = of_head at m One n c h
-  of_count at m Two n c h = of_head at m Two n c h
-  of_count at m Four n c h = of_head at m Four n c h
-  of_count at m Eight n c h = of_head at m Eight n c h
+  of_count at m w n c h = of_head at m w n c h
 
   of_payload : (at : ℕ) (q : List ℕ) (c : Complaint) → OfPayload r at q c → Q c.reason
   of_payload at q c h = by_reason c _ h.2 (of_texts h.0)
@@ -39,13 +34,7 @@ module _ (r : Rules) (Q : Reason → Type 0) (of_texts : IsTrue r.texts → Q In
   pub of_string : (at : ℕ) (m : Major) (w : Width) (q : List ℕ) (c : Complaint) → OfString r at m w q c → Q c.reason
   of_string at Text w q c (inl h) = of_head at Text w (length q) c h
   of_string at Text w q c (inr h) = of_payload _ q c h
-  of_string at Unsigned w q c h = of_head at Unsigned w (length q) c h
-  of_string at Negative w q c h = of_head at Negative w (length q) c h
-  of_string at Bytes w q c h = of_head at Bytes w (length q) c h
-  of_string at Array w q c h = of_head at Array w (length q) c h
-  of_string at Map w q c h = of_head at Map w (length q) c h
-  of_string at Tag w q c h = of_head at Tag w (length q) c h
-  of_string at Simple w q c h = of_head at Simple w (length q) c h
+  of_string at m w q c h = of_head at m w (length q) c h
 
   of_chunks : (at : ℕ) (m : Major) (ks : List Chunk) (c : Complaint) → OfChunks r at m ks c → Q c.reason
   of_chunks at m [] c h = absurd h

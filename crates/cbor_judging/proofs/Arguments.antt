@@ -3,7 +3,7 @@ use Rattle.std.proofs.Common.{◌≡◌, ℕ, ◌+◌, ◌*◌, ◌^◌, ◌%◌
 use Rattle.std.proofs.lemmas.Bool.Decides.{nat_tests}
 use Rattle.cbor_head.specs.Head.{major_number, shortest, with_argument}
 use Rattle.cbor_head.specs.declared.major.Major.{Major}
-use Rattle.cbor_head.specs.declared.major.Major.TheVariants.{Unsigned, Negative, Bytes, Text, Array, Map, Tag, Simple}
+use Rattle.cbor_head.specs.declared.major.Major.TheVariants.{Array, Map, Tag, Simple}
 use Rattle.cbor_head.specs.declared.width.Width.{Width}
 use Rattle.cbor_head.specs.declared.width.Width.TheVariants.{Direct, One, Two, Four, Eight, Indefinite}
 use Rattle.cbor_steps.specs.Whole.{IsArgument}
@@ -49,21 +49,11 @@ pub fits : (m : Major) (low c d : ℕ) → c ≡ 32 * major_number m + low → l
 fits Array low c d e l room = room (omega (arith, e)) (omega (arith, e, l))
 fits Map low c d e l room = room (omega (arith, e)) (omega (arith, e, l))
 fits Tag low c d e l room = room (omega (arith, e)) (omega (arith, e, l))
-fits Unsigned low c d e l room = omega arith
-fits Negative low c d e l room = omega arith
-fits Bytes low c d e l room = omega arith
-fits Text low c d e l room = omega arith
-fits Simple low c d e l room = omega arith
+fits _ low c d e l room = omega arith
 
 pub numbered : (m : Major) (low c : ℕ) → c ≡ 32 * major_number m + low → c < 224 → IsNumbered m
 numbered Simple low c e l = absurd (omega (arith, e, l))
-numbered Unsigned low c e l = tt
-numbered Negative low c e l = tt
-numbered Bytes low c e l = tt
-numbered Text low c e l = tt
-numbered Array low c e l = tt
-numbered Map low c e l = tt
-numbered Tag low c e l = tt
+numbered _ low c e l = tt
 
 module _ (first : ℕ) (behind : List ℕ) where
   -- what the head spells, by its type

@@ -1,8 +1,6 @@
 -- Strings of chunks.
-use Rattle.std.proofs.Common.{◌≡◌, ℕ, ◌+◌, ◌-◌, ◌<◌, ◌≤◌, ◌⊎◌, Bool, true, false, true≢false, Option, Some, None, List, [], ◌∷◌, ◌++◌, length, replicate, flat_map, refl, sym, ap, ◌∙◌, subst, inl, inr, arith, append_assoc, append-nil}
-use Rattle.std.specs.Prelude.{IsTrue, IsUtf8}
+use Rattle.std.proofs.Common.{◌≡◌, ℕ, ◌+◌, ◌-◌, ◌<◌, ◌≤◌, ◌⊎◌, Bool, true, false, true≢false, Option, Some, None, List, [], ◌∷◌, ◌++◌, length, replicate, flat_map, refl, sym, ap, ◌∙◌, subst, inl, inr, arith, append_assoc, append-nil, IsTrue, IsUtf8, length-append}
 use Rattle.std.specs.Str.Lossy.{utf8_valid_len}
-use Rattle.std.proofs.lemmas.List.{length-append}
 use Rattle.std.proofs.lemmas.Grind.{flat_map-append}
 use Rattle.std.proofs.lemmas.Str.{IsUtf8-nil, IsUtf8-append}
 use Rattle.cbor_head.specs.Head.{Holds, head}
@@ -30,16 +28,14 @@ use Rattle.std.proofs.KnownBytes.{Consumes-trans}
 use Rattle.cbor_judging.specs.Place.{Container, Place, at_item, in_chunks, close, payload, IsTaking}
 use Rattle.cbor_standing.specs.NextEvent.{ItemEventsView}
 use Rattle.cbor_judging.specs.Judged.{IsJudged, Never}
-use Rattle.cbor_judging.specs.Reading.{IsAt, IsFormRefusal, IsNextHead, Extends, IsBegun, OfMark, ReadsItem, StopsItem, StopsHead, ReadsPayload, StopsPayload, string_major, string_kind, string_value}
+use Rattle.cbor_judging.specs.Reading.{IsAt, IsFormRefusal, IsNextHead, Extends, IsBegun, OfMark, ReadsItem, StopsItem, StopsHead, ReadsPayload, StopsPayload, string_major, string_kind, string_value, state_at}
 use Rattle.cbor_judging.proofs.Items.{is-definite, head-count, extends-none, extends-on}
 use Rattle.cbor_judging.proofs.Scalars.{at-as}
 use Rattle.cbor_judging.proofs.Heads.{zero_bytes, zero_length}
-use Rattle.cbor_judging.proofs.Leaves.{IsChunked, bytes_chunked, text_chunked, chunks_bytes, chunk_judged}
-use Rattle.cbor_judging.proofs.Chunks.{chunk, AreChunksSoFar, cut_chunk, cut_payload, chunk_complains, chunks_more, chunks_whole}
+use Rattle.cbor_judging.proofs.Leaves.{IsChunked, bytes_chunked, text_chunked, chunks_bytes, chunk_judged, chunk, AreChunksSoFar, cut_chunk, cut_payload, chunk_complains, chunks_more, chunks_whole}
 use Rattle.cbor_judging.proofs.ByteLists.{bytes_join}
 use Rattle.cbor_automaton.proofs.Taking.{nothing-taken}
 use Rattle.cbor_judging.proofs.Steps.{reached-as}
-use Rattle.cbor_judging.specs.Reading.{state_at}
 use Rattle.cbor_judging.proofs.WholeStrings.{is-text}
 
 -- ---- of chunks
@@ -96,15 +92,7 @@ starts-chunks r b fs t x e w text from i =
 pub chunk-or-end : (d : ℕ) (m : Major) (fs : List Container) (w : Width) (kind : EventKind) (bs : List ℕ) (next : Place) → IsTaking d (in_chunks m fs) (mark_of w kind) bs next → ((n : ℕ) × (kind ≡ kinds.Chunk n)) ⊎ (kind ≡ kinds.End)
 chunk-or-end d m fs w (kinds.Chunk n) bs next h = inl (n, refl)
 chunk-or-end d m fs w kinds.End bs next h = inr refl
-chunk-or-end d m fs w (kinds.Unsigned n) bs next h = absurd h
-chunk-or-end d m fs w (kinds.Negative n) bs next h = absurd h
-chunk-or-end d m fs w (kinds.Simple n) bs next h = absurd h
-chunk-or-end d m fs w (kinds.Bytes n) bs next h = absurd h
-chunk-or-end d m fs w (kinds.Text n) bs next h = absurd h
-chunk-or-end d m fs w (kinds.Piece n) bs next h = absurd h
-chunk-or-end d m fs w (kinds.Array n) bs next h = absurd h
-chunk-or-end d m fs w (kinds.Map n) bs next h = absurd h
-chunk-or-end d m fs w (kinds.Tag n) bs next h = absurd h
+chunk-or-end d m fs w _ bs next h = absurd h
 
 string-clean : (text : Bool) (w : Width) (q : List ℕ) (r : Rules) (at : ℕ) → Never (OfHead r at (string_major text) w (length q)) → (text ≡ true → IsUtf8 q) → Never (OfString r at (string_major text) w q)
 string-clean true w q r at h u c g = elim g [ inl y ↦ h c y | inr y ↦ is-text r (at + length (head majors.Text w (length q))) q c (u refl) y ]
@@ -133,13 +121,7 @@ chunk-head-judged m made kind done r at d a w n c h o =
   where
     of-string : (m : Major) → OfHead r (at + length (chunks_bytes m done)) m w (length {A = ℕ} (replicate n 0)) c → OfString r (at + length (chunks_bytes m done)) m w (replicate n 0) c
     of-string majors.Text o = inl o
-    of-string majors.Unsigned o = o
-    of-string majors.Negative o = o
-    of-string majors.Bytes o = o
-    of-string majors.Array o = o
-    of-string majors.Map o = o
-    of-string majors.Tag o = o
-    of-string majors.Simple o = o
+    of-string _ o = o
 
 -- a chunk's head
 record ChunkHead (r : Rules) (at : ℕ) (m : Major) (fs : List Container) (w : Width) (n : ℕ) (bs : List ℕ) (next : Place) : Type 0 where

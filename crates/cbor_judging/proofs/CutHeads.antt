@@ -7,19 +7,17 @@ use Rattle.cbor_head.specs.Head.{Holds, head, major_number}
 use Rattle.cbor_head.specs.Spelling.{Chunk, Spelling}
 use Rattle.cbor_head.specs.Value.{AreBytes}
 use Rattle.cbor_head.specs.declared.major.Major.{Major}
-use Rattle.cbor_head.specs.declared.major.Major.TheVariants.{Unsigned, Negative, Bytes, Text, Array, Map, Tag, Simple}
+use Rattle.cbor_head.specs.declared.major.Major.TheVariants.{Bytes, Text, Array, Map, Tag, Simple}
 use Rattle.cbor_head.specs.declared.width.Width.{Width}
 use Rattle.cbor_head.specs.declared.width.Width.TheVariants.{One, Two, Four, Eight}
 use Rattle.cbor_automaton.specs.Automaton.{Frame, State, at_item, in_head, in_simple, goes, numbered_tail, tail, has_room, take_byte, and_then, run, reached}
 use Rattle.cbor_automaton.proofs.FirstByte.{split}
 use Rattle.cbor_automaton.proofs.Forward.{Starts, item_starts, room-above}
 use Rattle.cbor_automaton.proofs.Taking.{nothing-taken}
-use Rattle.cbor_judging.specs.Judged.{IsJudged}
+use Rattle.cbor_judging.specs.Judged.{IsJudged, Never}
 use Rattle.cbor_judging.proofs.ByteLists.{bytes_join}
 use Rattle.cbor_judging.proofs.Heads.{cut_head, zero_bytes, zero_length}
-use Rattle.cbor_judging.specs.Judged.{Never}
-use Rattle.cbor_judging.proofs.Chunks.{AreChunksSoFar, cut_payload}
-use Rattle.cbor_judging.proofs.Leaves.{IsChunked, chunks_bytes, bytes_so_far, text_so_far}
+use Rattle.cbor_judging.proofs.Leaves.{IsChunked, chunks_bytes, bytes_so_far, text_so_far, AreChunksSoFar, cut_payload}
 use Rattle.cbor_judging.specs.Path.{Level}
 use Rattle.cbor_judging.proofs.PathForm.{containers, containers_count}
 
@@ -73,10 +71,6 @@ module _ (d : ℕ) (fs : List Frame) (c : ℕ) (behind : List ℕ) where
       fits_in a b = let few : length fs < d = room a b in room-above d fs 0 (omega (arith, few))
 
       go : (m : Major) (low : ℕ) → c ≡ 32 * major_number m + low → low < 32 → 24 ≤ low → low ≤ 27 → length behind < 2 ^ (low - 24) → Within d (at_item fs) (c ∷ behind)
-      go Unsigned low is fits l h k = numbered_goes Unsigned (λ k. refl) refl low is l h k
-      go Negative low is fits l h k = numbered_goes Negative (λ k. refl) refl low is l h k
-      go Bytes low is fits l h k = numbered_goes Bytes (λ k. refl) refl low is l h k
-      go Text low is fits l h k = numbered_goes Text (λ k. refl) refl low is l h k
       go Array low is fits l h k = numbered_goes Array (λ k. refl) (fits_in (omega (arith, is)) (omega (arith, is, fits))) low is l h k
       go Map low is fits l h k = numbered_goes Map (λ k. refl) (fits_in (omega (arith, is)) (omega (arith, is, fits))) low is l h k
       go Tag low is fits l h k = numbered_goes Tag (λ k. refl) (fits_in (omega (arith, is)) (omega (arith, is, fits))) low is l h k
@@ -88,6 +82,7 @@ module _ (d : ℕ) (fs : List Frame) (c : ℕ) (behind : List ℕ) where
             let none : behind ≡ [] = nil_from_length behind (omega (arith, one)) in
             (in_simple fs, ap (λ (x : ℕ). run d (at_item fs) (x ∷ behind)) j ∙ ap (λ (xs : List ℕ). run d (at_item fs) (0xf8 ∷ xs)) none)
       ]
+      go m low is fits l h k = numbered_goes m (λ k. refl) refl low is l h k
 
 -- its first byte, and of its argument all that is left
 pub head_cut : (r : Rules) (at d : ℕ) (ls : List Level) (c : ℕ) (behind : List ℕ) → 24 ≤ c % 32 → c % 32 ≤ 27 → (c < 224) ⊎ (c ≡ 0xf8) → (128 ≤ c → c < 224 → length ls < d) → AreBytes behind

@@ -1,6 +1,5 @@
 -- What a reader found is the verdict.
-use Rattle.std.proofs.Common.{ℕ, ◌+◌, ◌≡◌, ◌<◌, ◌≤◌, Some, None, List, [], ◌∷◌, ◌++◌, length, take, refl, sym, ap, ◌∙◌, arith, subst, inl, inr}
-use Rattle.std.proofs.lemmas.List.{append_assoc, append-nil, length-append}
+use Rattle.std.proofs.Common.{ℕ, ◌+◌, ◌≡◌, ◌<◌, ◌≤◌, Some, None, List, [], ◌∷◌, ◌++◌, length, take, refl, sym, ap, ◌∙◌, arith, subst, inl, inr, append_assoc, append-nil, length-append}
 use Rattle.std.proofs.lemmas.Bool.{cases_lt}
 use Rattle.cbor_head.specs.Laws.{StartsWith}
 use Rattle.cbor_head.specs.Limits.{Bounds}
@@ -14,7 +13,7 @@ use Rattle.cbor_judging.specs.Judged.{IsJudged}
 use Rattle.cbor_judging.specs.Kinds.{AsksForKinds, KeepsToKinds}
 use Rattle.cbor_grammar.proofs.Agree.{split_front, same_complaints}
 use Rattle.cbor_grammar.proofs.Complaints.{complains_told, first_for_each, kind_comes_first}
-use Rattle.cbor_grammar.proofs.KeyKinds.{kind_within}
+use Rattle.cbor_grammar.proofs.KeyKinds.{of_kind}
 use Rattle.cbor_grammar.proofs.KindsAgree.{same_kinds}
 
 pub first_at_start : (r : Rules) (s : Spelling) (p : List ℕ) (c : Complaint) → IsFirstOf (Complains r 0 s) (0 + length p) c → IsFirstOf (Complains r 0 s) (length p) c
@@ -42,7 +41,7 @@ pub whole_beside : (limits : Bounds) (r : Rules) (s : Spelling) → IsItem limit
 whole_beside limits r s i keeps clean c (inl h) = clean c h
 whole_beside limits r s i keeps clean c (inr h) =
     let item : IsItem limits.depth s (spell s ++ []) = subst (IsItem limits.depth s) (sym (append-nil (spell s))) i in
-    keeps (h.0, h.1) s c ([], item) h.2 (omega (arith, kind_within s 0 c h.2))
+    keeps (h.0, h.1) s c ([], item) h.2 (omega (arith, (of_kind s 0 c h.2).within))
 
 -- a complaint, wherever it was found first
 pub complaint_decides : (limits : Bounds) (r : Rules) (input p u q : List ℕ) (c : Complaint) → IsJudged r 0 limits.depth p (Some c) → KeepsToKinds limits r p → take limits.bytes input ≡ p ++ u

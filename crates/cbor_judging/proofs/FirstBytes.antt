@@ -1,7 +1,6 @@
 -- Which first bytes begin no item where one is due, and why.
-use Rattle.std.proofs.Common.{◌≡◌, ◌≢◌, ℕ, ◌+◌, ◌-◌, ◌/◌, ◌%◌, ◌<◌, ◌≤◌, ◌⊎◌, false, nat_lt, cond, None, List, [], ◌∷◌, ◌++◌, length, refl, sym, ap, ◌∙◌, subst, inl, inr, arith, append-nil}
+use Rattle.std.proofs.Common.{◌≡◌, ◌≢◌, ℕ, ◌+◌, ◌-◌, ◌/◌, ◌%◌, ◌<◌, ◌≤◌, ◌⊎◌, false, nat_lt, cond, None, List, [], ◌∷◌, ◌++◌, length, refl, sym, ap, ◌∙◌, subst, inl, inr, arith, append-nil, length-append}
 use Rattle.std.proofs.lemmas.Bool.{lt-ltb, le-ltb, le-leb, lt-leb, cases_lt, ne_eqb}
-use Rattle.std.proofs.lemmas.List.{length-append}
 use Rattle.cbor_head.specs.Complaint.{Rules}
 use Rattle.cbor_head.specs.Limits.{Bounds}
 use Rattle.cbor_head.specs.Spelling.{simple}
@@ -12,12 +11,12 @@ use Rattle.cbor_head.specs.declared.major.Major.TheVariants.{Array, Map, Tag, Si
 use Rattle.cbor_head.specs.declared.reason.Reason.{Reason}
 use Rattle.cbor_head.specs.declared.reason.Reason.TheVariants.{Reserved, NoIndefinite, Float, BadSimple, StrayBreak, TooDeep}
 use Rattle.cbor_head.specs.declared.width.Width.TheVariants.{Indefinite}
-use Rattle.cbor_automaton.specs.Automaton.{Frame, at_item, in_simple, Opening, direct, long, indefinite_string, indefinite_container, long_simple, breaks, bad, refuses, major_at, tail, numbered_tail, opening, opening_of, has_room, begin, take_byte}
+use Rattle.cbor_automaton.specs.Automaton.{Frame, at_item, in_simple, Opening, direct, long, indefinite_container, bad, refuses, major_at, tail, numbered_tail, opening, opening_of, has_room, begin, take_byte}
 use Rattle.cbor_judging.specs.Judged.{IsJudged}
 use Rattle.cbor_judging.specs.Kinds.{KeepsToKinds}
 use Rattle.cbor_judging.proofs.Judged.{judged_start, judged_head}
 use Rattle.cbor_judging.specs.PathKinds.{KeepsHere}
-use Rattle.cbor_judging.specs.Path.{Level, a_member, a_key, a_value, tagged, bytes_before, AreClean, MayBreak}
+use Rattle.cbor_judging.specs.Path.{Level, a_member, a_key, a_value, bytes_before, AreClean, MayBreak}
 use Rattle.cbor_judging.specs.Stop.{HasBadByte}
 use Rattle.cbor_judging.proofs.PathForm.{containers, containers_count}
 use Rattle.cbor_judging.proofs.PathKinds.{kept_before}
@@ -97,11 +96,7 @@ pub break_byte : (d : ℕ) (ls : List Level) → (MayBreak ls → ⊥) → take_
 break_byte d (a_member Indefinite left done ∷ ls) h = absurd (h tt)
 break_byte d (a_key Indefinite left done ∷ ls) h = absurd (h tt)
 break_byte d (a_value Indefinite left done k ∷ ls) h = refl
-break_byte d (a_member w left done ∷ ls) h = refl
-break_byte d (a_key w left done ∷ ls) h = refl
-break_byte d (a_value w left done k ∷ ls) h = refl
-break_byte d (tagged w n ∷ ls) h = refl
-break_byte d [] h = refl
+break_byte d _ h = refl
 
 -- ---- no room
 
@@ -116,12 +111,9 @@ no_room : (d : ℕ) (fs : List Frame) (c : ℕ) (m : Major) (o : Opening) → ha
 no_room d fs c m (direct k n) e h = rw (h, e) refl
 no_room d fs c m (long k w) e h = rw (h, e) refl
 no_room d fs c m (indefinite_container k f) e h = rw (h, e) refl
-no_room d fs c m (indefinite_string k) e h = absurd h
-no_room d fs c m long_simple e h = absurd h
-no_room d fs c m breaks e h = absurd h
-no_room d fs c m bad e h = absurd h
+no_room d fs c m _ e h = absurd h
 
-pub four : (n : ℕ) → 24 ≤ n → n < 28 → (n ≡ 24) ⊎ (n ≡ 25) ⊎ (n ≡ 26) ⊎ (n ≡ 27)
+four : (n : ℕ) → 24 ≤ n → n < 28 → (n ≡ 24) ⊎ (n ≡ 25) ⊎ (n ≡ 26) ⊎ (n ≡ 27)
 four n l h = elim (cases_lt n 25) [
   | inl k ↦ inl (omega (arith, l, k))
   | inr k ↦ elim (cases_lt n 26) [

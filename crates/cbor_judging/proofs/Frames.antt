@@ -1,6 +1,5 @@
 -- What a container with an item in it is, by its parts.
-use Rattle.std.proofs.Common.{ℕ, suc, max, ◌+◌, ◌≡◌, ◌<◌, ◌⊎◌, List, [], ◌∷◌, ◌++◌, length, refl, sym, ap, ◌∙◌, arith, subst, inl, inr}
-use Rattle.std.proofs.lemmas.List.{length-append, append_assoc, append-nil}
+use Rattle.std.proofs.Common.{ℕ, suc, max, ◌+◌, ◌≡◌, ◌<◌, ◌⊎◌, List, [], ◌∷◌, ◌++◌, length, refl, sym, ap, ◌∙◌, arith, subst, inl, inr, length-append, append_assoc, append-nil}
 use Rattle.cbor_head.specs.Head.{head}
 use Rattle.cbor_head.specs.Spelling.{Spelling, Spellings, SpelledEntries, no_spellings, a_spelling, no_entries, entry, spell, spell_all, spell_entries, spellings_count, entries_count, break_of, IsSpelled, AreSpelled, AreEntriesSpelled, HoldsOrIndefinite, depth, depth_all, depth_entries}
 use Rattle.cbor_head.specs.Complaint.{Rules, Complaint, OfCount, Complains, ComplainsIn, ComplainsInEntries}
@@ -187,6 +186,4 @@ back_later (tagged w n) s r at c h = absurd h
 
 pub key_at_end : (f : Frame) (s : Spelling) (r : Rules) (at : ℕ) (c : Complaint) → OfKeyAt r at f s c → c.end ≡ at + length (spell s)
 key_at_end (a_key w a v b) s r at c h = key_end r.keys at (keys_onto [] a) s c h
-key_at_end (a_member w a b) s r at c h = absurd h
-key_at_end (a_content w a k b) s r at c h = absurd h
-key_at_end (tagged w n) s r at c h = absurd h
+key_at_end _ s r at c h = absurd h

@@ -1,29 +1,23 @@
 -- A head that is cut: some item within the depth starts with the bytes so far, and has no complaint on them.
-use Rattle.std.proofs.Common.{ℕ, zero, suc, ◌-◌, ◌≡◌, ◌<◌, ◌≤◌, true, false, None, List, [], ◌∷◌, ◌++◌, length, replicate, refl, sym, ap, ◌∙◌, arith, subst}
-use Rattle.std.proofs.lemmas.Bool.{ltb-true}
-use Rattle.std.proofs.lemmas.List.{length-append, append_assoc}
+use Rattle.std.proofs.Common.{ℕ, suc, ◌-◌, ◌≡◌, ◌<◌, ◌≤◌, true, false, None, List, [], ◌∷◌, ◌++◌, length, replicate, refl, sym, ap, ◌∙◌, arith, subst, ltb-true}
+use Rattle.std.proofs.lemmas.List.{length-append, append_assoc, length-replicate}
 use Rattle.cbor_head.specs.Head.{Holds, head}
-use Rattle.cbor_head.specs.Value.{AreBytes}
 use Rattle.cbor_head.specs.Spelling.{Spelling, unsigned, negative, bytes, text, array, a_map, tag, simple, IsSpelled, HoldsOrIndefinite, depth, IsItem}
 use Rattle.cbor_head.specs.Complaint.{Rules}
 use Rattle.cbor_head.specs.declared.major.Major.{Major}
 use Rattle.cbor_head.specs.declared.major.Major.TheVariants.{Unsigned, Negative, Bytes, Text, Array, Map, Tag, Simple}
 use Rattle.cbor_head.specs.declared.width.Width.{Width}
-use Rattle.cbor_head.specs.declared.width.Width.TheVariants.{Direct, One, Two, Four, Eight, Indefinite}
 use Rattle.cbor_grammar.proofs.Agree.{head_of, body, parts}
-use Rattle.cbor_automaton.specs.Automaton.{Frame, State, at_item, in_head, in_simple, in_payload, in_chunks, done, has_room}
+use Rattle.cbor_automaton.specs.Automaton.{Frame, State, at_item, in_head, in_simple, in_chunks, has_room}
 use Rattle.cbor_automaton.proofs.Arguments.{number}
 use Rattle.cbor_automaton.proofs.Taking.{IsNumbered, IsWithin}
 use Rattle.cbor_judging.specs.Judged.{IsJudged}
 use Rattle.cbor_judging.proofs.Judged.{judged_start, judged_head, zero_item, zeros, zero_pairs, zeros_count, zeros_spelled, zeros_flat, pairs_count, pairs_spelled, pairs_flat}
-
-pub zero_bytes : (n : ℕ) → AreBytes (replicate n 0)
-zero_bytes zero = tt
-zero_bytes (suc n) = (omega arith, zero_bytes n)
+pub use Rattle.cbor_grammar.proofs.ReadLaws.{holds_or_open as open_or}
+pub use Rattle.cbor_automaton.proofs.Beginnings.{zero_bytes}
 
 pub zero_length : (n : ℕ) → length {A = ℕ} (replicate n 0) ≡ n
-zero_length zero = refl
-zero_length (suc n) = ap suc (zero_length n)
+zero_length n = length-replicate n 0
 
 -- an item with this head
 pub record Headed (d : ℕ) (bs : List ℕ) : Type 0 where
@@ -31,14 +25,6 @@ pub record Headed (d : ℕ) (bs : List ℕ) : Type 0 where
   pub spelled : IsSpelled item
   pub within : depth item ≤ d
   pub head_is : head_of item ≡ bs
-
-pub open_or : (w : Width) (n : ℕ) → Holds w n → HoldsOrIndefinite w n
-open_or Indefinite n h = tt
-open_or Direct n h = h
-open_or One n h = h
-open_or Two n h = h
-open_or Four n h = h
-open_or Eight n h = h
 
 -- so many containers more
 abbrev pub takes : Major → ℕ
@@ -65,11 +51,7 @@ pub room_for : (d : ℕ) (fs : List Frame) (m : Major) → has_room d fs m ≡ t
 room_for d fs Array e = omega (arith, ltb-true (length fs) d e)
 room_for d fs Map e = omega (arith, ltb-true (length fs) d e)
 room_for d fs Tag e = omega (arith, ltb-true (length fs) d e)
-room_for d fs Unsigned e = omega arith
-room_for d fs Negative e = omega arith
-room_for d fs Bytes e = omega arith
-room_for d fs Text e = omega arith
-room_for d fs Simple e = omega arith
+room_for d fs _ e = omega arith
 
 starts_with : (d : ℕ) (s : Spelling) (h p more : List ℕ) → IsSpelled s → depth s ≤ d → head_of s ≡ h → p ++ more ≡ h → IsItem d s (p ++ (more ++ body s))
 starts_with d s h p more i l e f = record { spelled = i; within = l; bytes_are = parts s ∙ ap (λ (x : List ℕ). x ++ body s) (e ∙ sym f) ∙ append_assoc p more (body s) }
@@ -92,7 +74,4 @@ cut_head r at d fs (in_simple gs) p h =
     let n : 32 < 256 = omega arith in
     subst (λ (x : List ℕ). IsJudged r at (d - length fs) x None) (sym h.1)
     (judged_head r at (d - length fs) (0xf8 ∷ []) (simple 32) (0x20 ∷ []) (record { spelled = (n, λ l. omega arith); within = omega arith; bytes_are = refl }) (omega arith))
-cut_head r at d fs (at_item gs) p h = subst (λ (x : List ℕ). IsJudged r at (d - length fs) x None) (sym h.1) (judged_start r at (d - length fs))
-cut_head r at d fs (in_payload c m n gs) p h = subst (λ (x : List ℕ). IsJudged r at (d - length fs) x None) (sym h.1) (judged_start r at (d - length fs))
-cut_head r at d fs (in_chunks m gs) p h = subst (λ (x : List ℕ). IsJudged r at (d - length fs) x None) (sym h.1) (judged_start r at (d - length fs))
-cut_head r at d fs done p h = subst (λ (x : List ℕ). IsJudged r at (d - length fs) x None) (sym h.1) (judged_start r at (d - length fs))
+cut_head r at d fs _ p h = subst (λ (x : List ℕ). IsJudged r at (d - length fs) x None) (sym h.1) (judged_start r at (d - length fs))

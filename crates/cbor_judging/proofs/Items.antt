@@ -9,7 +9,7 @@ use Rattle.cbor_head.specs.Complaint.{Rules, Complaint, OfHead, OfIndefinite, Of
 use Rattle.cbor_head.specs.declared.major.Major.{Major}
 use Rattle.cbor_head.specs.declared.major.Major.TheVariants as majors
 use Rattle.cbor_head.specs.declared.width.Width.{Width}
-use Rattle.cbor_head.specs.declared.width.Width.TheVariants.{Direct, One, Two, Four, Eight, Indefinite}
+use Rattle.cbor_head.specs.declared.width.Width.TheVariants.{Indefinite}
 use Rattle.cbor_head.specs.declared.reason.Refusal.{Refusal}
 use Rattle.cbor_grammar.proofs.OneFirst.{last, count_last}
 use Rattle.cbor_grammar.proofs.ReadLaws.{length_head}
@@ -87,11 +87,7 @@ pub record IsDefinite (d : ℕ) (fs : List Container) (m : Major) (w : Width) (n
 
 pub definite : (d : ℕ) (fs : List Container) (m : Major) (w : Width) (n : ℕ) (bs : List ℕ) (next : Place) → w ≢ Indefinite → IsTaking d (at_item fs) (a_head m w n) bs next → IsDefinite d fs m w n bs next
 definite d fs m Indefinite n bs next f h = absurd (f refl)
-definite d fs m Direct n bs next f h = record { bytes_are = h.0; holds = h.1; follows = h.2 }
-definite d fs m One n bs next f h = record { bytes_are = h.0; holds = h.1; follows = h.2 }
-definite d fs m Two n bs next f h = record { bytes_are = h.0; holds = h.1; follows = h.2 }
-definite d fs m Four n bs next f h = record { bytes_are = h.0; holds = h.1; follows = h.2 }
-definite d fs m Eight n bs next f h = record { bytes_are = h.0; holds = h.1; follows = h.2 }
+definite d fs m _ n bs next f h = record { bytes_are = h.0; holds = h.1; follows = h.2 }
 
 pub is-definite : (w : Width) (n : ℕ) → Holds w n → w ≢ Indefinite
 is-definite w n h e = subst (λ (x : Width). Holds x n) e h
@@ -111,22 +107,15 @@ pub never-open : (d : ℕ) (fs : List Container) (m : Major) (w : Width) (n : �
 never-open d fs m w n bs next i h e = no m i (subst (λ (x : Width). IsTaking d (at_item fs) (a_head m x n) bs next) e h)
   where
     no : (m : Major) → IsPlainMajor m → IsTaking d (at_item fs) (a_head m Indefinite n) bs next → ⊥
-    no majors.Unsigned i h = h.2
-    no majors.Negative i h = h.2
-    no majors.Tag i h = h.2
-    no majors.Simple i h = h.2
     no majors.Bytes i h = i
     no majors.Text i h = i
     no majors.Array i h = i
     no majors.Map i h = i
+    no _ i h = h.2
 
 pub head-count : (r : Rules) (at : ℕ) (m : Major) (w : Width) (n : ℕ) (c : Complaint) → w ≢ Indefinite → OfHead r at m w n c → OfCount r at m w n c
 head-count r at m Indefinite n c f h = absurd (f refl)
-head-count r at m Direct n c f h = h
-head-count r at m One n c f h = h
-head-count r at m Two n c f h = h
-head-count r at m Four n c f h = h
-head-count r at m Eight n c f h = h
+head-count r at m _ n c f h = h
 
 -- a definite head with a complaint
 definite-judged : (r : Rules) (at d : ℕ) (fs : List Container) (m : Major) (w : Width) (n : ℕ) (bs : List ℕ) (next : Place) (c : Complaint) → IsDefinite d fs m w n bs next → OfHead r at m w n c
@@ -161,11 +150,7 @@ opener-judged r at d fs _ next c f o = absurd f
 
 pub head-judged : (r : Rules) (at d : ℕ) (fs : List Container) (mark : Mark) (bs : List ℕ) (next : Place) (c : Complaint) → IsTaking d (at_item fs) mark bs next → OfMark r at (at_item fs) mark c → IsJudged r at (d - length fs) bs (Some c)
 head-judged r at d fs (a_head m Indefinite n) bs next c h o = subst (λ (xs : List ℕ). IsJudged r at (d - length fs) xs (Some c)) (sym h.1) (opener-judged r at d fs m next c h.2 o)
-head-judged r at d fs (a_head m Direct n) bs next c h o = subst (λ (xs : List ℕ). IsJudged r at (d - length fs) xs (Some c)) (sym h.0) (definite-judged r at d fs m Direct n bs next c (definite d fs m Direct n bs next (is-definite Direct n h.1) h) o)
-head-judged r at d fs (a_head m One n) bs next c h o = subst (λ (xs : List ℕ). IsJudged r at (d - length fs) xs (Some c)) (sym h.0) (definite-judged r at d fs m One n bs next c (definite d fs m One n bs next (is-definite One n h.1) h) o)
-head-judged r at d fs (a_head m Two n) bs next c h o = subst (λ (xs : List ℕ). IsJudged r at (d - length fs) xs (Some c)) (sym h.0) (definite-judged r at d fs m Two n bs next c (definite d fs m Two n bs next (is-definite Two n h.1) h) o)
-head-judged r at d fs (a_head m Four n) bs next c h o = subst (λ (xs : List ℕ). IsJudged r at (d - length fs) xs (Some c)) (sym h.0) (definite-judged r at d fs m Four n bs next c (definite d fs m Four n bs next (is-definite Four n h.1) h) o)
-head-judged r at d fs (a_head m Eight n) bs next c h o = subst (λ (xs : List ℕ). IsJudged r at (d - length fs) xs (Some c)) (sym h.0) (definite-judged r at d fs m Eight n bs next c (definite d fs m Eight n bs next (is-definite Eight n h.1) h) o)
+head-judged r at d fs (a_head m w n) bs next c h o = subst (λ (xs : List ℕ). IsJudged r at (d - length fs) xs (Some c)) (sym h.0) (definite-judged r at d fs m w n bs next c (definite d fs m w n bs next (is-definite w n h.1) h) o)
 head-judged r at d fs (a_chunk w n) bs next c h o = absurd h
 head-judged r at d fs a_byte bs next c h o = absurd h
 head-judged r at d fs a_break bs next c h o = absurd o
@@ -179,11 +164,7 @@ cut-judged r b fs t taken to f c =
 
 pub taking-some : (d : ℕ) (fs : List Container) (mark : Mark) (bs : List ℕ) (next : Place) → IsTaking d (at_item fs) mark bs next → 0 < length bs
 taking-some d fs (a_head m Indefinite n) bs next h = omega (arith, ap length h.1, length_head m Indefinite 0)
-taking-some d fs (a_head m Direct n) bs next h = omega (arith, ap length h.0, length_head m Direct n)
-taking-some d fs (a_head m One n) bs next h = omega (arith, ap length h.0, length_head m One n)
-taking-some d fs (a_head m Two n) bs next h = omega (arith, ap length h.0, length_head m Two n)
-taking-some d fs (a_head m Four n) bs next h = omega (arith, ap length h.0, length_head m Four n)
-taking-some d fs (a_head m Eight n) bs next h = omega (arith, ap length h.0, length_head m Eight n)
+taking-some d fs (a_head m w n) bs next h = omega (arith, ap length h.0, length_head m w n)
 taking-some d fs a_break bs next h = omega (arith, ap length h.0)
 taking-some d fs (a_chunk w n) bs next h = absurd h
 taking-some d fs a_byte bs next h = absurd h

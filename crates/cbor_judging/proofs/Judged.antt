@@ -1,16 +1,17 @@
 -- What is found in a part is found in the whole.
-use Rattle.std.proofs.Common.{ℕ, zero, suc, ◌+◌, ◌-◌, ◌≡◌, ◌<◌, ◌≤◌, ◌⊎◌, Option, Some, None, List, [], ◌++◌, length, refl, sym, ap, ◌∙◌, arith, inl, inr}
-use Rattle.std.proofs.lemmas.List.{length-append, append_assoc}
+use Rattle.std.proofs.Common.{ℕ, zero, suc, ◌+◌, ◌-◌, ◌≡◌, ◌<◌, ◌≤◌, ◌⊎◌, Option, Some, None, List, [], ◌++◌, length, refl, sym, ap, ◌∙◌, arith, inl, inr, length-append, append_assoc}
 use Rattle.std.proofs.lemmas.Bool.{cases_lt}
-use Rattle.cbor_head.specs.Spelling.{Spelling, Spellings, SpelledEntries, unsigned, no_spellings, a_spelling, no_entries, entry, spell, spellings_count, entries_count, IsSpelled, AreSpelled, AreEntriesSpelled, depth, depth_all, depth_entries, IsItem}
+use Rattle.cbor_head.specs.Spelling.{Spelling, Spellings, SpelledEntries, no_entries, entry, spell, spellings_count, entries_count, IsSpelled, AreEntriesSpelled, depth, depth_entries, IsItem, array, a_map}
 use Rattle.cbor_head.specs.Complaint.{Rules, Complaint, Complains}
 use Rattle.cbor_head.specs.Verdict.{rank}
 use Rattle.cbor_judging.specs.Frame.{Frame, a_member, a_key, a_content, tagged, keys_onto, plug, before, behind, IsFrame, depth_beside, OfFront, OfKeyAt}
 use Rattle.cbor_judging.specs.Judged.{IsFinding, IsJudged, Never}
-use Rattle.cbor_head.specs.declared.width.Width.TheVariants.{Direct}
 use Rattle.cbor_grammar.proofs.Agree.{head_of, body, parts, later}
 use Rattle.cbor_grammar.proofs.OneFirst.{bounded, key_last}
 use Rattle.cbor_judging.proofs.Frames.{spell_plug, spelled_plug, depth_plug, plug_split, plug_item, back_later, key_at_end}
+use Rattle.cbor_head.specs.declared.width.Width.{Width}
+use Rattle.cbor_judging.specs.SoFar.{IsArraySoFar, IsMapSoFar}
+pub use Rattle.cbor_automaton.proofs.Beginnings.{zero_item, zeros, zeros_count, zeros_spelled, zeros_flat}
 
 -- ---- one container
 
@@ -24,9 +25,7 @@ ahead a e m n h k = elim (cases_lt a e) [ inl l ↦ inl l | inr l ↦ inr (omega
 
 key_ranked : (f : Frame) (to : ℕ) (r : Rules) (k : Spelling) (c : Complaint) → OfKeyAt r to f k c → 1 ≤ rank c.reason
 key_ranked (a_key w a v b) to r k c o = omega (arith, key_last r.keys to (keys_onto [] a) k c o, key_at_end (a_key w a v b) k r to c o)
-key_ranked (a_member w a b) to r k c o = absurd o
-key_ranked (a_content w a l b) to r k c o = absurd o
-key_ranked (tagged w n) to r k c o = absurd o
+key_ranked _ to r k c o = absurd o
 
 module _ (f : Frame) (r : Rules) (at d : ℕ) (fits : IsFrame f) (flat : depth_beside f ≤ d) (clean : Never (OfFront r at f)) where
   finding_in : (s : Spelling) (p rest : List ℕ) (found : Option Complaint) → spell s ≡ p ++ rest
@@ -112,28 +111,9 @@ module _ (f : Frame) (r : Rules) (at d : ℕ) (fits : IsFrame f) (flat : depth_b
 
 -- ---- members that may still come
 
-abbrev pub zero_item : Spelling
-zero_item = unsigned Direct 0
-
-abbrev pub zeros : ℕ → Spellings
-zeros zero = no_spellings
-zeros (suc n) = a_spelling zero_item (zeros n)
-
 abbrev pub zero_pairs : ℕ → SpelledEntries
 zero_pairs zero = no_entries
 zero_pairs (suc n) = entry zero_item zero_item (zero_pairs n)
-
-pub zeros_count : (n : ℕ) → spellings_count (zeros n) ≡ n
-zeros_count zero = refl
-zeros_count (suc n) = ap suc (zeros_count n)
-
-pub zeros_spelled : (n : ℕ) → AreSpelled (zeros n)
-zeros_spelled zero = tt
-zeros_spelled (suc n) = let h : 0 < 24 = omega arith in (h, zeros_spelled n)
-
-pub zeros_flat : (n : ℕ) → depth_all (zeros n) ≡ 0
-zeros_flat zero = refl
-zeros_flat (suc n) = omega (arith, zeros_flat n)
 
 pub pairs_count : (n : ℕ) → entries_count (zero_pairs n) ≡ n
 pairs_count zero = refl
@@ -165,3 +145,11 @@ judged_head r at d p s rest i l = record { item = s; rest = rest; is = i; findin
   where
     longer : (s : Spelling) → length (head_of s) ≤ length (spell s)
     longer s = omega (arith, ap length (parts s) ∙ length-append (head_of s) (body s))
+
+-- ---- an array or a map of which all was read
+
+pub array_whole : (w : Width) (done : Spellings) (r : Rules) (at d : ℕ) → IsArraySoFar r at d w (spellings_count done) done → IsSpelled (array w done) × (depth (array w done) ≤ suc d) × Never (Complains r at (array w done))
+array_whole w done r at d a = ((a.holds, a.spelled), omega (arith, a.within), λ c h. elim h [ inl x ↦ a.head_clean c x | inr x ↦ a.clean c x ])
+
+pub map_whole : (w : Width) (done : SpelledEntries) (r : Rules) (at d : ℕ) → IsMapSoFar r at d w (entries_count done) done → IsSpelled (a_map w done) × (depth (a_map w done) ≤ suc d) × Never (Complains r at (a_map w done))
+map_whole w done r at d a = ((a.holds, a.spelled), omega (arith, a.within), λ c h. elim h [ inl x ↦ a.head_clean c x | inr x ↦ a.clean c x ])

@@ -1,34 +1,37 @@
 -- In which bytes of an item no key begins behind the first of them: of one head, or of what is no container.
-use Rattle.std.proofs.Common.{ℕ, suc, ◌+◌, ◌*◌, ◌-◌, ◌^◌, ◌/◌, ◌%◌, ◌≡◌, ◌<◌, ◌≤◌, true, false, List, [], ◌∷◌, ◌++◌, length, replicate, refl, sym, ap, ◌∙◌, arith, subst, inl, inr}
-use Rattle.std.specs.Prelude.{IsTrue, Option}
+use Rattle.std.proofs.Common.{ℕ, suc, ◌+◌, ◌*◌, ◌-◌, ◌^◌, ◌/◌, ◌%◌, ◌≡◌, ◌<◌, ◌≤◌, true, false, List, [], ◌∷◌, ◌++◌, length, replicate, refl, sym, ap, ◌∙◌, arith, subst, inl, inr, ◌≢◌, None, IsTrue, Option, length-append, append-nil}
 use Rattle.std.proofs.lemmas.Bool.{cases_lt}
-use Rattle.std.proofs.lemmas.List.{length-append, append-nil}
 use Rattle.cbor_head.specs.Head.{Holds, head, major_number}
 use Rattle.cbor_head.specs.Limits.{Bounds}
 use Rattle.cbor_head.specs.Value.{IsIntegerOrText, AreBytes}
-use Rattle.cbor_head.specs.Spelling.{Spelling, unsigned, negative, bytes, text, byte_chunks, text_chunks, array, a_map, tag, simple, no_spellings, no_entries, spell, depth, spellings_count, entries_count, value_of, IsSpelled, HoldsOrIndefinite}
-use Rattle.cbor_head.specs.Complaint.{Rules, Complaint, OfKinds}
+use Rattle.cbor_head.specs.Spelling.{Spelling, byte_chunks, text_chunks, array, a_map, tag, simple, no_spellings, no_entries, spell, depth, spellings_count, entries_count, value_of, IsSpelled, HoldsOrIndefinite}
+use Rattle.cbor_head.specs.Complaint.{Rules, Complaint, OfKinds, form}
 use Rattle.cbor_head.specs.declared.major.Major.{Major}
-use Rattle.cbor_head.specs.declared.major.Major.TheVariants.{Unsigned, Negative, Bytes, Text, Array, Map, Tag, Simple}
+use Rattle.cbor_head.specs.declared.major.Major.TheVariants.{Bytes, Text, Array, Map, Tag, Simple}
 use Rattle.cbor_head.specs.declared.width.Width.{Width}
 use Rattle.cbor_head.specs.declared.width.Width.TheVariants.{Direct, One, Two, Four, Eight, Indefinite}
-use Rattle.cbor_grammar.specs.FirstBytes.{is_container}
-use Rattle.cbor_grammar.proofs.KeyKinds.{number_is, byte_basic, kind_later}
+use Rattle.cbor_grammar.specs.FirstBytes.{is_basic, is_container}
+use Rattle.cbor_grammar.proofs.KeyKinds.{number_is, byte_basic, of_kind, first_of_head}
 use Rattle.cbor_grammar.proofs.Parts.{head_of, body, parts, holds_of}
 use Rattle.cbor_automaton.specs.Trace.{Mark, a_head, a_chunk, a_byte, a_break}
 use Rattle.cbor_automaton.specs.Automaton as automaton
-use Rattle.cbor_automaton.specs.Automaton.{State, at_item as due_at, in_head, in_simple, in_payload, in_chunks, done, run, reached}
+use Rattle.cbor_automaton.specs.Automaton.{State, at_item as due_at, in_head, in_simple, in_payload, in_chunks, done, run, reached, Next, refuses, goes, tells, take_byte}
 use Rattle.cbor_automaton.proofs.Arguments.{number}
-use Rattle.cbor_automaton.proofs.Taking.{IsWithin, nothing-taken}
+use Rattle.cbor_automaton.proofs.Taking.{IsWithin, nothing-taken, IsTakingNext, byte-taken, within-start}
 use Rattle.cbor_judging.specs.Frame.{Frame}
 use Rattle.cbor_judging.specs.Judged.{IsJudged}
-use Rattle.cbor_judging.specs.Kinds.{IsOfOneHead, HasBasicFront, AsksForKinds, KeepsToKinds, IsKeyDue, IsKeyDueIn}
-use Rattle.cbor_judging.specs.Levels.{Level, AreLevels, bytes_before}
-use Rattle.cbor_judging.specs.OpenMaps.{before_all, ArePath}
+use Rattle.cbor_judging.specs.Kinds.{IsOfOneHead, HasBasicFront, AsksForKinds, KeepsToKinds}
 use Rattle.cbor_judging.specs.Place.{Container, Place, at_item, Opens, Follows, IsTaking}
-use Rattle.cbor_judging.proofs.Heads.{Headed, headed, open_or, zero_bytes, zero_length}
-use Rattle.cbor_judging.proofs.KindLevels.{keeps_in}
-use Rattle.cbor_judging.proofs.KindSteps.{keeps_on}
+use Rattle.cbor_judging.proofs.Heads.{Headed, headed, open_or, zero_bytes, cut_head, zero_length}
+use Rattle.cbor_judging.proofs.KindFrames.{IsAround, keeps_on}
+use Rattle.cbor_head.specs.Beginning.{MayFollow}
+use Rattle.cbor_automaton.proofs.Refusals.{IsTaken, taken-follows}
+use Rattle.cbor_standing.specs.NextEvent.{ItemEventsView}
+use Rattle.cbor_judging.specs.Reading.{IsAt, state_at}
+use Rattle.cbor_judging.proofs.ByteLists.{bytes_back}
+use Rattle.cbor_judging.proofs.Places.{place_of, clear-at, taking-at}
+use Rattle.cbor_judging.proofs.SpelledBytes.{beginning_bytes}
+use Rattle.cbor_judging.proofs.Steps.{at-run}
 
 -- ---- bytes of one head
 
@@ -79,29 +82,23 @@ within_head m Indefinite n b k y z h e f =
 -- ---- no key but the item itself begins in them
 
 pub kinds_behind : (s : Spelling) → IsSpelled s → (x z : List ℕ) → spell s ≡ x ++ z → IsOfOneHead x → (at : ℕ) (c : Complaint) → OfKinds at s c → at + length x < c.end
-kinds_behind s h [] z e one at c o = omega (arith, kind_later s at c o)
+kinds_behind s h [] z e one at c o = omega (arith, (of_kind s at c o).later)
 kinds_behind (array w ss) h (b ∷ bs) z e one at c o =
     let n = number_is (array w ss) h b [] (bs ++ z) (append-nil (spell (array w ss)) ∙ e) in
     let behind = one (subst (λ (k : ℕ). IsTrue (is_container k)) n refl) in
     let short = within_head Array w (spellings_count ss) b (length bs) (bs ++ z) (body (array w ss)) (holds_of (array w ss) h) (sym (parts (array w ss)) ∙ e) behind in
-    omega (arith, short, kind_later (array w ss) at c o)
+    omega (arith, short, (of_kind (array w ss) at c o).later)
 kinds_behind (a_map w es) h (b ∷ bs) z e one at c o =
     let n = number_is (a_map w es) h b [] (bs ++ z) (append-nil (spell (a_map w es)) ∙ e) in
     let behind = one (subst (λ (k : ℕ). IsTrue (is_container k)) n refl) in
     let short = within_head Map w (entries_count es) b (length bs) (bs ++ z) (body (a_map w es)) (holds_of (a_map w es) h) (sym (parts (a_map w es)) ∙ e) behind in
-    omega (arith, short, kind_later (a_map w es) at c o)
+    omega (arith, short, (of_kind (a_map w es) at c o).later)
 kinds_behind (tag w n s) h (b ∷ bs) z e one at c o =
     let k = number_is (tag w n s) h b [] (bs ++ z) (append-nil (spell (tag w n s)) ∙ e) in
     let behind = one (subst (λ (k : ℕ). IsTrue (is_container k)) k refl) in
     let short = within_head Tag w n b (length bs) (bs ++ z) (body (tag w n s)) (holds_of (tag w n s) h) (sym (parts (tag w n s)) ∙ e) behind in
-    omega (arith, short, kind_later (tag w n s) at c o)
-kinds_behind (unsigned w n) h (b ∷ bs) z e one at c o = absurd o
-kinds_behind (negative w n) h (b ∷ bs) z e one at c o = absurd o
-kinds_behind (bytes w q) h (b ∷ bs) z e one at c o = absurd o
-kinds_behind (text w q) h (b ∷ bs) z e one at c o = absurd o
-kinds_behind (byte_chunks cs) h (b ∷ bs) z e one at c o = absurd o
-kinds_behind (text_chunks cs) h (b ∷ bs) z e one at c o = absurd o
-kinds_behind (simple n) h (b ∷ bs) z e one at c o = absurd o
+    omega (arith, short, (of_kind (tag w n s) at c o).later)
+kinds_behind _ h (b ∷ bs) z e one at c o = absurd o
 
 -- a front of them
 pub one_head_front : (x y : List ℕ) → IsOfOneHead (x ++ y) → IsOfOneHead x
@@ -132,10 +129,7 @@ begun_is_one d fs (in_head false m w k acc gs) x h =
     one_head_front x more (subst IsOfOneHead (sym whole.0) (head_is_one m w (number acc more) (open_or w (number acc more) whole.1)))
 begun_is_one d fs (in_head true m w k acc gs) x h = absurd (cc h.0)
 begun_is_one d fs (in_simple gs) x h = subst IsOfOneHead (sym h.1) (λ container some. absurd (omega (arith, some)))
-begun_is_one d fs (due_at gs) x h = subst IsOfOneHead (sym h.1) tt
-begun_is_one d fs (in_payload chunk m n gs) x h = subst IsOfOneHead (sym h.1) tt
-begun_is_one d fs (in_chunks m gs) x h = subst IsOfOneHead (sym h.1) tt
-begun_is_one d fs done x h = subst IsOfOneHead (sym h.1) tt
+begun_is_one d fs _ x h = subst IsOfOneHead (sym h.1) tt
 
 pub silent_is_one : (d : ℕ) (fs : List automaton.Frame) (q : State) (x : List ℕ) → AreBytes x → run d (due_at fs) x ≡ reached q [] → IsOfOneHead x
 silent_is_one d fs q x b e = begun_is_one d fs q x (nothing-taken d (due_at fs) q x tt b e)
@@ -149,18 +143,24 @@ IsString _ = ⊥
 -- a string, whole or not
 pub string_is_one : (m : Major) (w : Width) (n : ℕ) (q : List ℕ) → IsString m → HoldsOrIndefinite w n → IsOfOneHead (head m w n ++ q)
 string_is_one Bytes Direct n q i h = λ container. let e : (64 + n) / 32 ≡ 2 = omega (arith, h) in absurd (cc (subst (λ (k : ℕ). IsTrue (is_container k)) e container))
-string_is_one Bytes One n q i h = λ container. absurd (cc container)
-string_is_one Bytes Two n q i h = λ container. absurd (cc container)
-string_is_one Bytes Four n q i h = λ container. absurd (cc container)
-string_is_one Bytes Eight n q i h = λ container. absurd (cc container)
-string_is_one Bytes Indefinite n q i h = λ container. absurd (cc container)
+string_is_one Bytes _ n q i h = λ container. absurd (cc container)
 string_is_one Text Direct n q i h = λ container. let e : (96 + n) / 32 ≡ 3 = omega (arith, h) in absurd (cc (subst (λ (k : ℕ). IsTrue (is_container k)) e container))
-string_is_one Text One n q i h = λ container. absurd (cc container)
-string_is_one Text Two n q i h = λ container. absurd (cc container)
-string_is_one Text Four n q i h = λ container. absurd (cc container)
-string_is_one Text Eight n q i h = λ container. absurd (cc container)
-string_is_one Text Indefinite n q i h = λ container. absurd (cc container)
+string_is_one Text _ n q i h = λ container. absurd (cc container)
 string_is_one _ w n q i h = absurd i
+
+-- ---- the bytes of a head that comes
+
+pub head_bytes : (d : ℕ) (cs : List Container) (m : Major) (w : Width) (n : ℕ) (x : List ℕ) (next : Place) → IsTaking d (at_item cs) (a_head m w n) x next → HoldsOrIndefinite w n × (x ≡ head m w n)
+head_bytes d cs m Indefinite n x next h = (tt, h.1)
+head_bytes d cs m _ n x next h = (h.1, h.0)
+
+-- of an integer or a text
+pub basic_mark : (d : ℕ) (cs : List Container) (m : Major) (w : Width) (n : ℕ) (x : List ℕ) (next : Place) → IsTaking d (at_item cs) (a_head m w n) x next → IsTrue (is_basic (major_number m)) → HasBasicFront x
+basic_mark d cs m w n x next h basic =
+    let g = head_bytes d cs m w n x next h in
+    let f = first_of_head m w n g.0 in
+    let same : major_number m ≡ (32 * major_number m + f.low) / 32 = omega (arith, f.small) in
+    subst HasBasicFront (sym (g.1 ∙ f.is)) (subst (λ (k : ℕ). IsTrue (is_basic k)) same basic)
 
 -- ---- the item that a head begins
 
@@ -185,44 +185,55 @@ of_headed : {d : ℕ} {x : List ℕ} → Headed d x → Begins d x
 of_headed h = begins_by _ _ h.item h.spelled h.within h.head_is
 
 head_begins : (d : ℕ) (cs : List Container) (m : Major) (w : Width) (n : ℕ) (next : Place) → Holds w n → Follows d cs m w n next → Begins (d - length cs) (head m w n)
-head_begins d cs Unsigned w n next h f = of_headed (headed (d - length cs) Unsigned w n tt h (omega arith))
-head_begins d cs Negative w n next h f = of_headed (headed (d - length cs) Negative w n tt h (omega arith))
-head_begins d cs Bytes w n next h f = of_headed (headed (d - length cs) Bytes w n tt h (omega arith))
-head_begins d cs Text w n next h f = of_headed (headed (d - length cs) Text w n tt h (omega arith))
 head_begins d cs Array w n next h f = of_headed (headed (d - length cs) Array w n tt h (omega (arith, f.0)))
 head_begins d cs Map w n next h f = of_headed (headed (d - length cs) Map w n tt h (omega (arith, f.0)))
 head_begins d cs Tag w n next h f = of_headed (headed (d - length cs) Tag w n tt h (omega (arith, f.0)))
 head_begins d cs Simple w n next h f = begins_by (d - length cs) _ (simple n) f.0 (omega arith) (ap (λ (v : Width). head Simple v n) (sym f.1))
+head_begins d cs m w n next h f = of_headed (headed (d - length cs) m w n tt h (omega arith))
 
 pub mark_begins : (d : ℕ) (cs : List Container) (mark : Mark) (x : List ℕ) (next : Place) → IsTaking d (at_item cs) mark x next → (mark ≡ a_break → ⊥) → Begins (d - length cs) x × IsOfOneHead x
 mark_begins d cs (a_head m Indefinite n) x next h b = (subst (Begins (d - length cs)) (sym h.1) (opener_begins d cs m next h.2), subst IsOfOneHead (sym h.1) (head_is_one m Indefinite 0 tt))
-mark_begins d cs (a_head m Direct n) x next h b = (subst (Begins (d - length cs)) (sym h.0) (head_begins d cs m Direct n next h.1 h.2), subst IsOfOneHead (sym h.0) (head_is_one m Direct n h.1))
-mark_begins d cs (a_head m One n) x next h b = (subst (Begins (d - length cs)) (sym h.0) (head_begins d cs m One n next h.1 h.2), subst IsOfOneHead (sym h.0) (head_is_one m One n h.1))
-mark_begins d cs (a_head m Two n) x next h b = (subst (Begins (d - length cs)) (sym h.0) (head_begins d cs m Two n next h.1 h.2), subst IsOfOneHead (sym h.0) (head_is_one m Two n h.1))
-mark_begins d cs (a_head m Four n) x next h b = (subst (Begins (d - length cs)) (sym h.0) (head_begins d cs m Four n next h.1 h.2), subst IsOfOneHead (sym h.0) (head_is_one m Four n h.1))
-mark_begins d cs (a_head m Eight n) x next h b = (subst (Begins (d - length cs)) (sym h.0) (head_begins d cs m Eight n next h.1 h.2), subst IsOfOneHead (sym h.0) (head_is_one m Eight n h.1))
+mark_begins d cs (a_head m w n) x next h b = (subst (Begins (d - length cs)) (sym h.0) (head_begins d cs m w n next h.1 h.2), subst IsOfOneHead (sym h.0) (head_is_one m w n h.1))
 mark_begins d cs (a_chunk w n) x next h b = absurd h
 mark_begins d cs a_byte x next h b = absurd h
 mark_begins d cs a_break x next h b = absurd (b refl)
 
 -- ---- the bytes so far, with what was found of the item that is due
 
-basic_due : {Due : Type 0} → (limits : Bounds) (r : Rules) (s : Spelling) (x z : List ℕ) → IsSpelled s → spell s ≡ x ++ z → (AsksForKinds limits r → Due → HasBasicFront x) → AsksForKinds limits r → Due → 0 < length x → IsIntegerOrText (value_of s)
-basic_due limits r s [] z h e basic asked due some = absurd (omega (arith, some))
-basic_due limits r s (b ∷ bs) z h e basic asked due some = byte_basic s h b [] (bs ++ z) (append-nil (spell s) ∙ e) (basic asked due)
+pub item_basic : (s : Spelling) (x z : List ℕ) → IsSpelled s → spell s ≡ x ++ z → 0 < length x → HasBasicFront x → IsIntegerOrText (value_of s)
+item_basic s [] z h e some basic = absurd (omega (arith, some))
+item_basic s (b ∷ bs) z h e some basic = byte_basic s h b [] (bs ++ z) (append-nil (spell s) ∙ e) basic
 
--- where the containers around it are known as frames
-pub keeps_along : (limits : Bounds) (r : Rules) (fs : List Frame) (left : ℕ) → length fs + left ≡ limits.depth → ArePath left fs → (x : List ℕ) → Begins left x → IsOfOneHead x → (AsksForKinds limits r → IsKeyDue fs → HasBasicFront x)
-    → KeepsToKinds limits r (before_all fs) → KeepsToKinds limits r (before_all fs ++ x)
-keeps_along limits r fs left levels path x g one basic keeps =
-    keeps_on limits r fs left levels path g.item x g.rest g.spelled g.within g.bytes (basic_due limits r g.item x g.rest g.spelled g.bytes basic) (kinds_behind g.item g.spelled x g.rest g.bytes one (length (before_all fs))) keeps
-
--- and as levels
-module _ (limits : Bounds) (r : Rules) (ls : List Level) (levels : AreLevels limits.depth ls) where
-  pub keeps_due : (x : List ℕ) → Begins (limits.depth - length ls) x → IsOfOneHead x → (AsksForKinds limits r → IsKeyDueIn ls → HasBasicFront x) → KeepsToKinds limits r (bytes_before ls) → KeepsToKinds limits r (bytes_before ls ++ x)
-  keeps_due x g one basic keeps =
-      keeps_in limits r ls levels g.item x g.rest g.spelled g.within g.bytes (basic_due limits r g.item x g.rest g.spelled g.bytes basic) (kinds_behind g.item g.spelled x g.rest g.bytes one (length (bytes_before ls))) keeps
+pub keeps_due : {left : ℕ} {fs : List Frame} {before : List ℕ} {Due : Type 0} → (limits : Bounds) (r : Rules) → IsAround limits.depth left fs before Due → (x : List ℕ) → Begins left x → IsOfOneHead x → (AsksForKinds limits r → Due → HasBasicFront x)
+    → KeepsToKinds limits r before → KeepsToKinds limits r (before ++ x)
+keeps_due limits r around x g one basic keeps =
+    keeps_on limits r around g.item x g.rest g.spelled g.within g.bytes (λ asked due some. item_basic g.item x g.rest g.spelled g.bytes some (basic asked due)) (kinds_behind g.item g.spelled x g.rest g.bytes one _) keeps
 
 -- what was found of an item is of one that begins so
 pub judged_begins : (r : Rules) (at d : ℕ) (x : List ℕ) (found : Option Complaint) → IsJudged r at d x found → Begins d x
 judged_begins r at d x found j = record { item = j.item; spelled = j.is.spelled; within = j.is.within; rest = j.rest; bytes = j.is.bytes_are }
+
+-- ---- where an item is due: that no payload is open, and the item that a byte begins
+
+no_break : (d : ℕ) (cs : List Container) (m : Mark) (c : ℕ) (to : Place) → c ≢ 0xff → IsTaking d (at_item cs) m (c ∷ []) to → m ≡ a_break → ⊥
+no_break d cs m c to other h e =
+    let taking : IsTaking d (at_item cs) a_break (c ∷ []) to = subst (λ (k : Mark). IsTaking d (at_item cs) k (c ∷ []) to) e h in
+    let all : c ∷ [] ≡ 0xff ∷ [] = taking.0 in
+    let same : c ≡ 0xff = cc all in
+    other same
+
+taken_begins : (d : ℕ) (cs : List Container) (c : ℕ) (next : Next) → c ≢ 0xff → IsTaken next → IsTakingNext d (state_at (at_item cs)) next (c ∷ []) → Begins (d - length cs) (c ∷ [])
+taken_begins d cs c (refuses r) other taken h = absurd taken
+taken_begins d cs c (goes q) other taken h =
+    judged_begins form 0 (d - length cs) (c ∷ []) None (cut_head form 0 d cs q (c ∷ []) h)
+taken_begins d cs c (tells m q) other taken h =
+    let taking = taking-at d (at_item cs) m (c ∷ []) q h.0 in
+    (mark_begins d cs m (c ∷ []) (place_of q) taking (no_break d cs m c (place_of q) other taking)).0
+
+-- a byte that may follow begins one, if it is no break
+pub byte_begins : (b : Bounds) (e : ItemEventsView) (t : List ℕ) (cs : List Container) (c : ℕ) → IsAt b e t (at_item cs) → MayFollow b.depth t c → c ≢ 0xff → Begins (b.depth - length cs) (c ∷ [])
+byte_begins b e t cs c a follows other =
+    let q = state_at (at_item cs) in
+    let small : c < 256 = (bytes_back t (c ∷ []) (beginning_bytes b.depth (t ++ c ∷ []) follows)).0 in
+    let taken = (taken-follows b.depth t q a.marks c a.stands.stands.are_bytes small (at-run b e t (at_item cs) a)).1 follows in
+    taken_begins b.depth cs c (take_byte b.depth q c) other taken (byte-taken b.depth q q [] c (within-start b.depth q (clear-at (at_item cs))) small)

@@ -1,18 +1,23 @@
 -- Complaints on the kinds of keys over the open containers: where those of the whole end, and which are the item's.
-use Rattle.std.proofs.Common.{ℕ, suc, ◌+◌, ◌≡◌, ◌<◌, ◌≤◌, ◌⊎◌, List, [], ◌∷◌, ◌++◌, length, refl, sym, ap, ◌∙◌, arith, subst, inl, inr}
-use Rattle.std.proofs.lemmas.List.{length-append, append_assoc, append-nil}
+use Rattle.std.proofs.Common.{ℕ, suc, ◌+◌, ◌≡◌, ◌<◌, ◌≤◌, ◌⊎◌, ◌↔◌, List, [], ◌∷◌, ◌++◌, length, refl, sym, ap, ◌∙◌, arith, subst, inl, inr, length-append, append_assoc, append-nil, Option}
 use Rattle.cbor_head.specs.Head.{head}
 use Rattle.cbor_head.specs.Value.{IsIntegerOrText}
-use Rattle.cbor_head.specs.Spelling.{Spelling, Spellings, SpelledEntries, no_spellings, a_spelling, no_entries, entry, spell, spell_all, spell_entries, spellings_count, entries_count, IsSpelled, depth, value_of}
-use Rattle.cbor_head.specs.Complaint.{Complaint, complaint, OfKinds, OfKindsIn, OfKindsInEntries}
+use Rattle.cbor_head.specs.Spelling.{Spelling, Spellings, SpelledEntries, no_spellings, a_spelling, no_entries, entry, spell, spell_all, spell_entries, spellings_count, entries_count, IsSpelled, depth, value_of, IsItem}
+use Rattle.cbor_head.specs.Complaint.{Complaint, complaint, OfKinds, OfKindsIn, OfKindsInEntries, Rules}
 use Rattle.cbor_head.specs.declared.major.Major.TheVariants.{Array, Map, Tag}
 use Rattle.cbor_head.specs.declared.reason.Reason.TheVariants.{KeyKind}
-use Rattle.cbor_grammar.proofs.KeyKinds.{kind_end, kind_later, kind_later_in, kind_later_entries, kind_within, kind_within_in, kind_within_entries}
+use Rattle.cbor_grammar.proofs.KeyKinds.{kind_end, of_kind, of_kind_in, of_kind_entries}
 use Rattle.cbor_grammar.proofs.ReadLaws.{length_head, length_spell}
 use Rattle.cbor_judging.specs.Frame.{Frame, a_member, a_key, a_content, tagged, with_all, with_entries, plug, before, behind}
-use Rattle.cbor_judging.specs.Kinds.{IsKeyFrame, IsKeyDue, plug_all}
+use Rattle.cbor_judging.specs.Kinds.{IsKeyFrame, IsKeyDue, plug_all, AsksForKinds, KeepsToKinds}
 use Rattle.cbor_judging.specs.OpenMaps.{before_all, ArePath}
 use Rattle.cbor_judging.proofs.Frames.{count_with, entries_with, pair_size, spell_plug, spelled_plug, depth_plug}
+use Rattle.cbor_head.specs.Laws.{StartsWith}
+use Rattle.cbor_head.specs.Limits.{Bounds}
+use Rattle.cbor_head.specs.Beginning.{IsBeginning}
+use Rattle.cbor_head.specs.declared.reason.Refusal.{Refusal}
+use Rattle.cbor_grammar.proofs.KindsAgree.{same_kinds}
+use Rattle.cbor_judging.specs.Reading.{IsMemory, IsReached, IsUndecided, HasCause}
 
 -- ---- of two lists
 
@@ -51,20 +56,20 @@ kind_split (a_member w a b) s at to c e h =
     let size = length-append h0 (spell_all a) in
     let g : OfKindsIn (at + length h0) (with_all a (a_spelling s b)) c = subst (λ (m : ℕ). OfKindsIn (at + length (head Array w m)) (with_all a (a_spelling s b)) c) (count_with a (a_spelling s b)) h in
     elim (in_split a (a_spelling s b) (at + length h0) to c (omega (arith, e, size)) g) [
-      | inl x ↦ inl (omega (arith, kind_within_in a (at + length h0) c x, e, size))
-      | inr y ↦ elim y [ inl x ↦ inr (inr (inl x)) | inr x ↦ inr (inr (inr (kind_later_in b (to + length (spell s)) c x))) ]
+      | inl x ↦ inl (omega (arith, (of_kind_in a (at + length h0) c x).within, e, size))
+      | inr y ↦ elim y [ inl x ↦ inr (inr (inl x)) | inr x ↦ inr (inr (inr ((of_kind_in b (to + length (spell s)) c x).later))) ]
     ]
 kind_split (a_key w a v b) s at to c e h =
     let h0 = head Map w (entries_count a + suc (entries_count b)) in
     let size = length-append h0 (spell_entries a) in
     let g : OfKindsInEntries (at + length h0) (with_entries a (entry s v b)) c = subst (λ (m : ℕ). OfKindsInEntries (at + length (head Map w m)) (with_entries a (entry s v b)) c) (entries_with a (entry s v b)) h in
     elim (entries_split a (entry s v b) (at + length h0) to c (omega (arith, e, size)) g) [
-      | inl x ↦ inl (omega (arith, kind_within_entries a (at + length h0) c x, e, size))
+      | inl x ↦ inl (omega (arith, (of_kind_entries a (at + length h0) c x).within, e, size))
       | inr y ↦ elim y [
         | inl x ↦ inr (inl (tt, x))
         | inr (inl x) ↦ inr (inr (inl x))
-        | inr (inr (inl x)) ↦ inr (inr (inr (omega (arith, kind_later v (to + length (spell s)) c x))))
-        | inr (inr (inr x)) ↦ inr (inr (inr (omega (arith, kind_later_entries b (to + length (spell s) + length (spell v)) c x))))
+        | inr (inr (inl x)) ↦ inr (inr (inr (omega (arith, (of_kind v (to + length (spell s)) c x).later))))
+        | inr (inr (inr x)) ↦ inr (inr (inr (omega (arith, (of_kind_entries b (to + length (spell s) + length (spell v)) c x).later))))
       ]
     ]
 kind_split (a_content w a k b) s at to c e h =
@@ -74,12 +79,12 @@ kind_split (a_content w a k b) s at to c e h =
     let there : here + length (spell k) ≡ to = omega (arith, e, length-append (h0 ++ spell_entries a) (spell k)) in
     let g : OfKindsInEntries (at + length h0) (with_entries a (entry k s b)) c = subst (λ (m : ℕ). OfKindsInEntries (at + length (head Map w m)) (with_entries a (entry k s b)) c) (entries_with a (entry k s b)) h in
     elim (entries_split a (entry k s b) (at + length h0) here c (omega (arith, size)) g) [
-      | inl x ↦ inl (omega (arith, kind_within_entries a (at + length h0) c x, there, size))
+      | inl x ↦ inl (omega (arith, (of_kind_entries a (at + length h0) c x).within, there, size))
       | inr y ↦ elim y [
         | inl x ↦ inl (omega (arith, kind_end c here x.1, there, length_spell k))
-        | inr (inl x) ↦ inl (omega (arith, kind_within k here c x, there))
+        | inr (inl x) ↦ inl (omega (arith, (of_kind k here c x).within, there))
         | inr (inr (inl x)) ↦ inr (inr (inl (subst (λ (m : ℕ). OfKinds m s c) there x)))
-        | inr (inr (inr x)) ↦ inr (inr (inr (omega (arith, kind_later_entries b (here + length (spell k) + length (spell s)) c x, there))))
+        | inr (inr (inr x)) ↦ inr (inr (inr (omega (arith, (of_kind_entries b (here + length (spell k) + length (spell s)) c x).later, there))))
       ]
     ]
 kind_split (tagged w n) s at to c e h = inr (inr (inl (subst (λ (m : ℕ). OfKinds m s c) (sym e) h)))
@@ -162,12 +167,97 @@ key_along (f ∷ g ∷ fs) s at to c e due h =
 
 -- ---- the innermost is the last
 
-pub due_last : (fs : List Frame) (f : Frame) → IsKeyFrame f → IsKeyDue (fs ++ f ∷ [])
-due_last [] f h = h
-due_last (g ∷ []) f h = h
-due_last (g ∷ k ∷ fs) f h = due_last (k ∷ fs) f h
+pub due_last : (fs : List Frame) (f : Frame) → IsKeyDue (fs ++ f ∷ []) ↔ IsKeyFrame f
+due_last [] f = (λ h. h, λ h. h)
+due_last (g ∷ []) f = (λ h. h, λ h. h)
+due_last (g ∷ k ∷ fs) f = due_last (k ∷ fs) f
 
-pub last_due : (fs : List Frame) (f : Frame) → IsKeyDue (fs ++ f ∷ []) → IsKeyFrame f
-last_due [] f h = h
-last_due (g ∷ []) f h = h
-last_due (g ∷ k ∷ fs) f h = last_due (k ∷ fs) f h
+-- ---- no key of another kind begins in the bytes so far, from one event to the next
+
+-- no key of another kind begins in the bytes before what refuses them
+abbrev pub KeepsBefore : (r : Rules) (b : Bounds) (bytes : List ℕ) (to : Option (List ℕ)) (f : Refusal) → (IsMemory f × IsReached b bytes × IsUndecided r b [] [] bytes) ⊎ HasCause r b [] [] bytes to f → Type 0
+KeepsBefore r b bytes to f (inl m) = KeepsToKinds b r m.2.p
+KeepsBefore r b bytes to f (inr h) = KeepsToKinds b r h.p
+
+-- no bytes have any key
+pub keeps_start : (limits : Bounds) (r : Rules) → KeepsToKinds limits r []
+keeps_start limits r asked s c begins h l = omega (arith, l, (of_kind s 0 c h).later)
+
+-- where one item that starts with these bytes has none, no item has
+pub keeps_of_one : (limits : Bounds) (r : Rules) (t : List ℕ) (s : Spelling) → StartsWith limits.depth s t → (AsksForKinds limits r → (c : Complaint) → OfKinds 0 s c → c.end ≤ length t → ⊥) → KeepsToKinds limits r t
+keeps_of_one limits r t s i none asked o c j h l = none asked c (same_kinds limits.depth o s t j.0 i.0 j.1 i.1 c l h) l
+
+-- a front of bytes that an item starts with
+pub keeps_front : (limits : Bounds) (r : Rules) (p q : List ℕ) → IsBeginning limits.depth (p ++ q) → KeepsToKinds limits r (p ++ q) → KeepsToKinds limits r p
+keeps_front limits r p q b keeps =
+    let i : IsItem limits.depth b.0 (p ++ (q ++ b.1)) = subst (IsItem limits.depth b.0) (append_assoc p q b.1) b.2 in
+    keeps_of_one limits r p b.0 (q ++ b.1, i) (λ asked c h l. keeps asked b.0 c (b.1, b.2) h (omega (arith, l, length-append p q)))
+
+-- Containers around an item that is due, the outermost first: so much stands before it in them, and it is a key or not.
+pub record IsAround (d left : ℕ) (fs : List Frame) (before : List ℕ) (Due : Type 0) : Type 0 where
+  pub levels : length fs + left ≡ d
+  pub path : ArePath left fs
+  pub before_is : before_all fs ≡ before
+  pub due : IsKeyDue fs ↔ Due
+
+pub around_frames : (d left : ℕ) (fs : List Frame) (before : List ℕ) → length fs + left ≡ d → ArePath left fs → before_all fs ≡ before → IsAround d left fs before (IsKeyDue fs)
+around_frames d left fs before levels path is = record { levels = levels; path = path; before_is = is; due = (λ h. h, λ h. h) }
+
+module _ {left : ℕ} {fs : List Frame} {before : List ℕ} {Due : Type 0} (limits : Bounds) (r : Rules) (around : IsAround limits.depth left fs before Due) where
+  at_item : length before ≡ 0 + length (before_all fs)
+  at_item = omega (arith, ap length around.before_is)
+
+  -- the whole starts with what stands before the item, and a front of the item
+  starts_along : (s : Spelling) (y z : List ℕ) → IsSpelled s → depth s ≤ left → spell s ≡ y ++ z → StartsWith limits.depth (plug_all fs s) (before ++ y)
+  starts_along s y z h l e =
+      let r = spell_along fs s in
+      let i = item_along fs s left around.path h l in (
+        z ++ r.0,
+        record {
+          spelled = i.0;
+          within = omega (arith, i.1, around.levels);
+          bytes_are = r.1 ∙ ap (λ (x : List ℕ). x ++ (spell s ++ r.0)) around.before_is ∙ ap (λ (x : List ℕ). before ++ (x ++ r.0)) e ∙ ap (λ (x : List ℕ). before ++ x) (append_assoc y z r.0) ∙ sym (append_assoc before y (z ++ r.0));
+        },
+      )
+
+  -- behind a front of the item that is due, where no key within it has begun: if it is a key, it is of a kind that is asked for
+  pub keeps_on : (s : Spelling) (y z : List ℕ) → IsSpelled s → depth s ≤ left → spell s ≡ y ++ z → (AsksForKinds limits r → Due → 0 < length y → IsIntegerOrText (value_of s))
+      → ((c : Complaint) → OfKinds (length before) s c → length before + length y < c.end) → KeepsToKinds limits r before → KeepsToKinds limits r (before ++ y)
+  keeps_on s y z h l e kind later keeps =
+      let size = length-append before y in
+      let whole = ap length e ∙ length-append y z in
+      let starts = subst (StartsWith limits.depth (plug_all fs s)) (append-nil before) (starts_along s [] (spell s) h l refl) in
+      keeps_of_one limits r (before ++ y) (plug_all fs s) (starts_along s y z h l e)
+      (λ asked c o m. elim (kind_along fs s 0 (length before) c at_item o) [
+        | inl x ↦ keeps asked (plug_all fs s) c starts o x
+        | inr (inl x) ↦ x.1.0 (kind asked (around.due.0 x.0) (omega (arith, kind_end c (length before) x.1.1, m, size)))
+        | inr (inr (inl x)) ↦ omega (arith, later c x, m, size)
+        | inr (inr (inr x)) ↦ omega (arith, x, m, size, whole)
+      ])
+
+  -- more of an item comes, of which some is there: no key within it begins there
+  pub keeps_more : (s : Spelling) (x y z : List ℕ) → IsSpelled s → depth s ≤ left → spell s ≡ (x ++ y) ++ z → 0 < length x
+      → ((c : Complaint) → OfKinds (length before) s c → (c.end ≤ length before + length x) ⊎ (length before + length (x ++ y) < c.end)) → KeepsToKinds limits r (before ++ x) → KeepsToKinds limits r (before ++ (x ++ y))
+  keeps_more s x y z h l e some apart keeps =
+      let size = length-append before x in
+      let more = length-append before (x ++ y) in
+      let whole = ap length e ∙ length-append (x ++ y) z in
+      let starts = starts_along s x (y ++ z) h l (e ∙ append_assoc x y z) in
+      keeps_of_one limits r (before ++ (x ++ y)) (plug_all fs s) (starts_along s (x ++ y) z h l e)
+      (λ asked c o m. keeps asked (plug_all fs s) c starts o (elim (kind_along fs s 0 (length before) c at_item o) [
+        | inl k ↦ omega (arith, k, size)
+        | inr (inl k) ↦ omega (arith, kind_end c (length before) k.1.1, some, size)
+        | inr (inr (inl k)) ↦ elim (apart c k) [ inl q ↦ omega (arith, q, size) | inr q ↦ absurd (omega (arith, q, m, more)) ]
+        | inr (inr (inr k)) ↦ absurd (omega (arith, k, m, more, whole))
+      ]))
+
+  -- a container is closed: its keys began before
+  pub keeps_closed : (s : Spelling) (y z : List ℕ) → IsSpelled s → depth s ≤ left → spell s ≡ y ++ z → 0 < length y → ((c : Complaint) → OfKinds (length before) s c → c.end ≤ length before + length y)
+      → KeepsToKinds limits r (before ++ y) → KeepsToKinds limits r (before ++ spell s)
+  keeps_closed s y z h l e some within keeps =
+      subst (λ (x : List ℕ). KeepsToKinds limits r (before ++ x)) (sym e) (keeps_more s y z [] h l (e ∙ sym (append-nil (y ++ z))) some (λ c o. inl (within c o)) keeps)
+
+  -- where a key is due, and another item begins: what kind_decides asks for
+  pub other_key : (s : Spelling) (x : ℕ) (z : List ℕ) → IsSpelled s → depth s ≤ left → spell s ≡ (x ∷ []) ++ z → Due → ¬ IsIntegerOrText (value_of s)
+      → (o : Spelling) × StartsWith limits.depth o (before ++ x ∷ []) × OfKinds 0 o (complaint (length before + 1) (length before) KeyKind)
+  other_key s x z h l e due other = (plug_all fs s, starts_along s (x ∷ []) z h l e, key_along fs s 0 (length before) _ at_item (around.due.1 due) (other, refl))

@@ -1,9 +1,8 @@
 -- The last key before another, and what the strict rules have against a key behind it.
-use Rattle.std.proofs.Common.{◌≡◌, ℕ, cond, ◌+◌, ◌<◌, true, IsTrue, List, [], ◌∷◌, length, refl, sym, ap, subst, arith}
+use Rattle.std.proofs.Common.{◌≡◌, ℕ, cond, ◌+◌, ◌<◌, true, IsTrue, List, [], ◌∷◌, length, refl, sym, ap, subst, arith, nat_lt, ◌==◌}
 use Rattle.std.proofs.lemmas.Bool.Decides.{nat_tests}
 use Rattle.std.specs.Ordering.{is_lt, ordering_then}
 use Rattle.std.specs.declared.cmp.Ordering.TheVariants.{Less, Equal, Greater}
-use Rattle.std.specs.Prelude.{nat_lt, ◌==◌}
 use Rattle.cbor_head.specs.Spelling.{Spelling, SpelledEntries, no_entries, entry, spell}
 use Rattle.cbor_head.specs.Order.{key_lt}
 use Rattle.cbor_head.specs.Complaint as complaint

@@ -1,6 +1,5 @@
 -- The open containers with what is complete in them, as frames around the item that is due.
-use Rattle.std.proofs.Common.{◌≡◌, ℕ, suc, ◌+◌, ◌-◌, ◌<◌, ◌≤◌, List, [], ◌∷◌, ◌++◌, length, refl, sym, ap, ◌∙◌, subst, inl, inr, arith}
-use Rattle.std.proofs.lemmas.List.{length-append}
+use Rattle.std.proofs.Common.{◌≡◌, ℕ, suc, ◌+◌, ◌-◌, ◌<◌, ◌≤◌, List, [], ◌∷◌, ◌++◌, length, refl, sym, ap, ◌∙◌, subst, inl, inr, arith, ◌↔◌, length-append}
 use Rattle.cbor_head.specs.Head.{Holds, head}
 use Rattle.cbor_head.specs.Spelling.{SpelledEntries, no_spellings, no_entries, entry, spell, spell_all, spell_entries, spellings_count, entries_count}
 use Rattle.cbor_head.specs.Complaint.{plain}
@@ -9,13 +8,14 @@ use Rattle.cbor_head.specs.declared.width.Width.TheVariants.{Indefinite}
 use Rattle.cbor_judging.specs.Frame as frames
 use Rattle.cbor_judging.specs.Frame.{Frame, before, IsFrame, depth_beside}
 use Rattle.cbor_judging.specs.Judged.{Never}
-use Rattle.cbor_judging.specs.OpenMaps.{OfClosed, ComplainsWithin, before_all, AreOpen}
+use Rattle.cbor_judging.specs.OpenMaps.{OfClosed, ComplainsWithin, before_all, AreOpen, ArePath}
 use Rattle.cbor_judging.proofs.Heads.{open_or}
 use Rattle.cbor_judging.proofs.Judged.{zero_item, zeros, zeros_count, zeros_spelled, zeros_flat, zero_pairs, pairs_count, pairs_spelled, pairs_flat}
-use Rattle.cbor_judging.proofs.OpenSteps.{before_snoc}
-use Rattle.cbor_judging.proofs.OpenWalk.{none_open, opens as one_opens}
+use Rattle.cbor_judging.proofs.OpenSteps.{before_snoc, none_open, opens as one_opens}
 use Rattle.cbor_judging.specs.Levels.{ArePairsTaken, Level, a_member, a_key, a_value, some_member, some_key, some_value, tagged, level_bytes, IsLevel, AreLevels, bytes_before}
 use Rattle.cbor_judging.proofs.Levels.{no-count, spelled-all, within-all, clean-all, pairs-spelled, pairs-within}
+use Rattle.cbor_judging.specs.Kinds.{IsKeyFrame, IsKeyDue, IsKeyLevel, IsKeyDueIn}
+use Rattle.cbor_judging.proofs.KindFrames.{due_last, IsAround}
 
 -- ---- one container
 
@@ -32,10 +32,7 @@ pub frame_bytes : (l : Level) → before (frame_of l) ≡ level_bytes l
 frame_bytes (a_member w left done) = ap (λ (n : ℕ). head majors.Array w (spellings_count done + suc n) ++ spell_all done) (zeros_count left)
 frame_bytes (a_key w left done) = ap (λ (n : ℕ). head majors.Map w (entries_count done + suc n) ++ spell_entries done) (pairs_count left)
 frame_bytes (a_value w left done k) = ap (λ (n : ℕ). (head majors.Map w (entries_count done + suc n) ++ spell_entries done) ++ spell k) (pairs_count left)
-frame_bytes (some_member done) = refl
-frame_bytes (some_key done) = refl
-frame_bytes (some_value done k) = refl
-frame_bytes (tagged w n) = refl
+frame_bytes _ = refl
 
 -- each complete pair has no complaint within
 quiet : (d : ℕ) (es : SpelledEntries) (at : ℕ) → ArePairsTaken d es → Never (ComplainsWithin plain at es)
@@ -109,3 +106,22 @@ path_open d (l ∷ ls) h =
     let room = h.0 in
     let i = fitting (d - suc (length ls)) l h.1 in
     one_opens plain d (path ls) (frame_of l) (d - suc (length ls)) (path_open d ls h.2) (omega (arith, room, path_length ls)) i.fits i.flat (i.clean _)
+
+-- ---- the containers around the item that is due, where it is known what is complete in them
+
+key_level : (l : Level) → IsKeyFrame (frame_of l) ↔ IsKeyLevel l
+key_level (tagged w n) = (λ h. h, λ h. h)
+key_level _ = (λ h. h, λ h. h)
+
+due_in : (ls : List Level) → IsKeyDue (path ls) ↔ IsKeyDueIn ls
+unfolding path
+due_in [] = (λ h. h, λ h. h)
+due_in (l ∷ ls) =
+    let last = due_last (path ls) (frame_of l) in
+    (λ h. (key_level l).0 (last.0 h), λ h. last.1 ((key_level l).1 h))
+
+pub around_levels : (d : ℕ) (ls : List Level) → AreLevels d ls → IsAround d (d - length ls) (path ls) (bytes_before ls) (IsKeyDueIn ls)
+around_levels d ls levels =
+    let are = path_open d ls levels in
+    let left : are.left ≡ d - length ls = omega (arith, are.levels, path_length ls) in
+    record { levels = omega (arith, are.levels, left); path = subst (λ (n : ℕ). ArePath n (path ls)) left are.path; before_is = path_bytes ls; due = due_in ls }

@@ -1,9 +1,8 @@
 -- What is complete in the open containers, and grows by an item.
-use Rattle.std.proofs.Common.{◌≡◌, ℕ, suc, ◌+◌, ◌≤◌, ◌⊎◌, List, [], ◌∷◌, ◌++◌, length, refl, sym, ◌∙◌, subst, inl, inr, arith}
-use Rattle.std.proofs.lemmas.List.{length-append}
+use Rattle.std.proofs.Common.{◌≡◌, ℕ, suc, ◌+◌, ◌≤◌, ◌⊎◌, List, [], ◌∷◌, ◌++◌, length, refl, sym, ◌∙◌, subst, inl, inr, arith, length-append}
 use Rattle.cbor_head.specs.Head.{Holds, head}
 use Rattle.cbor_head.specs.Value.{Value, HasEntry, HasDistinctKeys, Same}
-use Rattle.cbor_head.specs.Spelling.{Chunk, Spelling, Spellings, SpelledEntries, unsigned, negative, bytes, text, byte_chunks, text_chunks, array, a_map, tag, simple, no_spellings, a_spelling, no_entries, entry, spell, spell_all, spell_entries, spellings_count, entries_count, chunk_bytes, break_of, AreSpelled, AreEntriesSpelled, depth_all, depth_entries, value_of, entries_of}
+use Rattle.cbor_head.specs.Spelling.{Chunk, Spelling, Spellings, SpelledEntries, text, byte_chunks, text_chunks, array, a_map, tag, simple, no_spellings, a_spelling, no_entries, entry, spell, spell_all, spell_entries, spellings_count, entries_count, chunk_bytes, break_of, AreSpelled, AreEntriesSpelled, depth_all, depth_entries, value_of, entries_of}
 use Rattle.cbor_head.specs.Complaint.{plain, Complaint, OfCount, OfChunks, Complains, ComplainsIn, ComplainsInEntries, IsRepeated}
 use Rattle.cbor_head.specs.declared.major.Major.{Major}
 use Rattle.cbor_head.specs.declared.major.Major.TheVariants as majors
@@ -11,7 +10,7 @@ use Rattle.cbor_head.specs.declared.width.Width.{Width}
 use Rattle.cbor_head.specs.declared.width.Width.TheVariants.{Indefinite}
 use Rattle.cbor_judging.specs.Frame.{with_all, with_entries}
 use Rattle.cbor_judging.specs.Levels.{IsClean, IsTaken, AreTaken, ArePairsTaken}
-use Rattle.cbor_judging.proofs.Arrays.{closes}
+use Rattle.cbor_judging.proofs.Members.{closes}
 use Rattle.cbor_judging.proofs.Frames.{count_with, entries_with}
 use Rattle.cbor_judging.proofs.Items.{is-definite}
 use Rattle.cbor_judging.specs.Judged.{Never}
@@ -28,19 +27,10 @@ chunks-move m [] at to c h = absurd h
 chunks-move m (k ∷ ks) at to c (inr h) = let r = chunks-move m ks (at + length (chunk_bytes m k)) (to + length (chunk_bytes m k)) c h in (r.0, inr r.1)
 chunks-move majors.Text (k ∷ ks) at to c (inl (inl h)) = absurd (cc h.0)
 chunks-move majors.Text (k ∷ ks) at to c (inl (inr h)) = (_, inl (inr (h.0, h.1, refl)))
-chunks-move majors.Unsigned (k ∷ ks) at to c (inl h) = absurd (cc h.0)
-chunks-move majors.Negative (k ∷ ks) at to c (inl h) = absurd (cc h.0)
-chunks-move majors.Bytes (k ∷ ks) at to c (inl h) = absurd (cc h.0)
-chunks-move majors.Array (k ∷ ks) at to c (inl h) = absurd (cc h.0)
-chunks-move majors.Map (k ∷ ks) at to c (inl h) = absurd (cc h.0)
-chunks-move majors.Tag (k ∷ ks) at to c (inl h) = absurd (cc h.0)
-chunks-move majors.Simple (k ∷ ks) at to c (inl h) = absurd (cc h.0)
+chunks-move _ (k ∷ ks) at to c (inl h) = absurd (cc h.0)
 
 mutual
   moves : (s : Spelling) (at to : ℕ) (c : Complaint) → Complains plain at s c → (e : Complaint) × Complains plain to s e
-  moves (unsigned w n) at to c h = absurd (cc h.0)
-  moves (negative w n) at to c h = absurd (cc h.0)
-  moves (bytes w q) at to c h = absurd (cc h.0)
   moves (text w q) at to c (inl h) = absurd (cc h.0)
   moves (text w q) at to c (inr h) = (_, inr (h.0, h.1, refl))
   moves (byte_chunks ks) at to c (inl h) = absurd (cc h.0)
@@ -54,6 +44,7 @@ mutual
   moves (tag w n s) at to c (inl h) = absurd (cc h.0)
   moves (tag w n s) at to c (inr h) = let r = moves s _ (to + length (head majors.Tag w n)) c h in (r.0, inr r.1)
   moves (simple n) at to c h = absurd h
+  moves _ at to c h = absurd (cc h.0)
 
   moves-in : (ss : Spellings) (at to : ℕ) (c : Complaint) → ComplainsIn plain at ss c → (e : Complaint) × ComplainsIn plain to ss e
   moves-in no_spellings at to c h = absurd h
@@ -111,7 +102,7 @@ pub pair-count-more : (es : SpelledEntries) (k v : Spelling) → entries_count (
 pair-count-more es k v = omega (arith, entries_with es (entry k v no_entries))
 
 -- b is one of these
-abbrev Among : Spelling → List Spelling → Type 0
+abbrev pub Among : Spelling → List Spelling → Type 0
 Among b [] = ⊥
 Among b (x ∷ xs) = (x ≡ b) ⊎ Among b xs
 

@@ -1,29 +1,25 @@
 -- That no key of another kind begins in the bytes so far, over the containers that are open around the item that is due.
-use Rattle.std.proofs.Common.{◌≡◌, ℕ, suc, ◌+◌, ◌-◌, ◌<◌, ◌≤◌, List, [], ◌∷◌, ◌++◌, length, refl, sym, ap, ◌∙◌, subst, inl, inr, arith}
-use Rattle.std.proofs.lemmas.List.{length-append, append-nil}
+use Rattle.std.proofs.Common.{◌≡◌, ℕ, suc, ◌-◌, ◌<◌, ◌≤◌, ◌↔◌, List, [], ◌∷◌, ◌++◌, length, refl, sym, ap, ◌∙◌, subst, inl, inr, arith, length-append, append-nil}
 use Rattle.cbor_head.specs.Head.{Holds, head}
-use Rattle.cbor_head.specs.Laws.{StartsWith}
 use Rattle.cbor_head.specs.Limits.{Bounds}
 use Rattle.cbor_head.specs.Value.{IsIntegerOrText}
-use Rattle.cbor_head.specs.Complaint.{Rules, Complaint, complaint, OfKinds}
+use Rattle.cbor_head.specs.Complaint.{Rules, Complaint, OfKinds}
 use Rattle.cbor_head.specs.Spelling.{Spelling, spell, IsSpelled, depth, value_of}
 use Rattle.cbor_head.specs.declared.major.Major.{Major}
-use Rattle.cbor_head.specs.declared.reason.Reason.TheVariants.{KeyKind}
 use Rattle.cbor_head.specs.declared.width.Width.{Width}
 use Rattle.cbor_grammar.proofs.Alike.{not_break}
 use Rattle.cbor_grammar.proofs.KeyKinds.{byte_basic}
 use Rattle.cbor_grammar.proofs.Parts.{body, parts}
 use Rattle.cbor_automaton.proofs.Taking.{IsNumbered}
 use Rattle.cbor_judging.specs.Frame.{Frame, before}
-use Rattle.cbor_judging.specs.Kinds.{AsksForKinds, KeepsToKinds, IsKeyDue, IsOfOneHead, plug_all}
+use Rattle.cbor_judging.specs.Kinds.{KeepsToKinds, IsKeyFrame, IsKeyDue, IsOfOneHead}
 use Rattle.cbor_judging.specs.OpenMaps.{before_all, ArePath}
 use Rattle.cbor_judging.proofs.Heads.{takes, headed}
 use Rattle.cbor_judging.proofs.KindBytes.{Begins, kinds_behind}
-use Rattle.cbor_judging.proofs.KindFrames.{due_last, last_due}
-use Rattle.cbor_judging.proofs.KindSteps.{keeps_on, key_begins, key_complains}
+use Rattle.cbor_judging.proofs.KindFrames.{due_last, IsAround, keeps_on}
 use Rattle.cbor_judging.proofs.OpenSteps.{before_snoc, path_snoc}
 use Rattle.cbor_judging.specs.PathKinds.{IsFitFront, KeepsHere}
-use Rattle.cbor_judging.specs.Path.{Level, a_member, a_key, a_value, tagged, bytes_before, AreClean, IsKeyDueIn}
+use Rattle.cbor_judging.specs.Path.{Level, tagged, bytes_before, AreClean, IsKeyDueIn}
 use Rattle.cbor_judging.proofs.PathLevels.{frame_of, before_frame, frame_fits, frame_flat}
 
 -- ---- the levels as frames, the outermost first
@@ -53,21 +49,16 @@ frames_path r d (l ∷ ls) h =
 
 -- ---- a key is due
 
-due_in : (ls : List Level) → IsKeyDue (frames ls) → IsKeyDueIn ls
-unfolding frames
-due_in [] h = h
-due_in (a_key w left done ∷ ls) h = tt
-due_in (a_member w left done ∷ ls) h = last_due (frames ls) (frame_of (a_member w left done)) h
-due_in (a_value w left done k ∷ ls) h = last_due (frames ls) (frame_of (a_value w left done k)) h
-due_in (tagged w n ∷ ls) h = last_due (frames ls) (frame_of (tagged w n)) h
+key_level : (l : Level) (ls : List Level) → IsKeyFrame (frame_of l) ↔ IsKeyDueIn (l ∷ ls)
+key_level (tagged w n) ls = (λ h. h, λ h. h)
+key_level _ ls = (λ h. h, λ h. h)
 
-due_of : (ls : List Level) → IsKeyDueIn ls → IsKeyDue (frames ls)
+due_in : (ls : List Level) → IsKeyDue (frames ls) ↔ IsKeyDueIn ls
 unfolding frames
-due_of [] h = h
-due_of (a_key w left done ∷ ls) h = due_last (frames ls) (frame_of (a_key w left done)) tt
-due_of (a_member w left done ∷ ls) h = absurd h
-due_of (a_value w left done k ∷ ls) h = absurd h
-due_of (tagged w n ∷ ls) h = absurd h
+due_in [] = (λ h. h, λ h. h)
+due_in (l ∷ ls) =
+    let last = due_last (frames ls) (frame_of l) in
+    (λ h. (key_level l ls).0 (last.0 h), λ h. last.1 ((key_level l ls).1 h))
 
 -- ---- a front of an item
 
@@ -102,40 +93,17 @@ pub clean_room : (r : Rules) (d : ℕ) (ls : List Level) → AreClean r d ls →
 clean_room r d [] h = omega arith
 clean_room r d (l ∷ ls) h = let below : length ls < d = h.0 in omega (arith, below)
 
+pub around_clean : (r : Rules) (d : ℕ) (ls : List Level) → AreClean r d ls → IsAround d (d - length ls) (frames ls) (bytes_before ls) (IsKeyDueIn ls)
+around_clean r d ls clean = record { levels = omega (arith, clean_room r d ls clean, frames_length ls); path = frames_path r d ls clean; before_is = frames_bytes ls; due = due_in ls }
+
 module _ (limits : Bounds) (r : Rules) (ls : List Level) (clean : AreClean r limits.depth ls) where
-  levels : length (frames ls) + (limits.depth - length ls) ≡ limits.depth
-  levels = omega (arith, clean_room r limits.depth ls clean, frames_length ls)
-
-  same : length (before_all (frames ls)) ≡ length (bytes_before ls)
-  same = ap length (frames_bytes ls)
-
-  -- behind a front of the item that is due, where no key within it has begun: if it is a key, it is of a kind that is asked for
-  keeps_here : (s : Spelling) (y z : List ℕ) → IsSpelled s → depth s ≤ limits.depth - length ls → spell s ≡ y ++ z → (AsksForKinds limits r → IsKeyDueIn ls → 0 < length y → IsIntegerOrText (value_of s))
-      → ((c : Complaint) → OfKinds (length (bytes_before ls)) s c → length (bytes_before ls) + length y < c.end) → KeepsToKinds limits r (bytes_before ls) → KeepsToKinds limits r (bytes_before ls ++ y)
-  keeps_here s y z h l e kind later keeps =
-      subst (λ (b : List ℕ). KeepsToKinds limits r (b ++ y)) (frames_bytes ls)
-      (keeps_on limits r (frames ls) (limits.depth - length ls) levels (frames_path r limits.depth ls clean) s y z h l e (λ asked due some. kind asked (due_in ls due) some)
-      (λ c o. omega (arith, same, later c (subst (λ (n : ℕ). OfKinds n s c) same o))) (subst (KeepsToKinds limits r) (sym (frames_bytes ls)) keeps))
-
   -- behind bytes of one head
   pub keeps_begun : (x : List ℕ) → Begins (limits.depth - length ls) x → IsOfOneHead x → KeepsHere limits r ls x → KeepsToKinds limits r (bytes_before ls ++ x)
   keeps_begun x g one kept =
-      keeps_here g.item x g.rest g.spelled g.within g.bytes (λ asked due some. kind_of_front g.item x g.rest g.spelled g.bytes (kept.here asked due) some) (kinds_behind g.item g.spelled x g.rest g.bytes one (length (bytes_before ls))) kept.before
+      keeps_on limits r (around_clean r limits.depth ls clean) g.item x g.rest g.spelled g.within g.bytes (λ asked due some. kind_of_front g.item x g.rest g.spelled g.bytes (kept.here asked due) some) (kinds_behind g.item g.spelled x g.rest g.bytes one (length (bytes_before ls))) kept.before
 
   -- behind an item without keys
   pub keeps_item : (s : Spelling) → IsSpelled s → depth s ≤ limits.depth - length ls → ((at : ℕ) (c : Complaint) → OfKinds at s c → ⊥) → KeepsHere limits r ls (spell s) → KeepsToKinds limits r (bytes_before ls ++ spell s)
   keeps_item s h l none kept =
       let e = sym (append-nil (spell s)) in
-      keeps_here s (spell s) [] h l e (λ asked due some. kind_of_front s (spell s) [] h e (kept.here asked due) some) (λ c o. absurd (none (length (bytes_before ls)) c o)) kept.before
-
-  -- where a key is due, and another item begins: what kind_decides asks for
-  pub other_key_here : (s : Spelling) (x : ℕ) (z : List ℕ) → IsSpelled s → depth s ≤ limits.depth - length ls → spell s ≡ (x ∷ []) ++ z → IsKeyDueIn ls → ¬ IsIntegerOrText (value_of s)
-      → (o : Spelling) × StartsWith limits.depth o (bytes_before ls ++ x ∷ []) × OfKinds 0 o (complaint (length (bytes_before ls) + 1) (length (bytes_before ls)) KeyKind)
-  other_key_here s x z h l e due other =
-      let fs = frames ls in
-      let left = limits.depth - length ls in
-      let path = frames_path r limits.depth ls clean in (
-        plug_all fs s,
-        subst (λ (b : List ℕ). StartsWith limits.depth (plug_all fs s) (b ++ x ∷ [])) (frames_bytes ls) (key_begins limits r fs left levels path s x z h l e),
-        subst (λ (n : ℕ). OfKinds 0 (plug_all fs s) (complaint (n + 1) n KeyKind)) same (key_complains limits r fs left levels path s (due_of ls due) other),
-      )
+      keeps_on limits r (around_clean r limits.depth ls clean) s (spell s) [] h l e (λ asked due some. kind_of_front s (spell s) [] h e (kept.here asked due) some) (λ c o. absurd (none (length (bytes_before ls)) c o)) kept.before

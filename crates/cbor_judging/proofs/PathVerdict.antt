@@ -1,7 +1,6 @@
 -- Where the walk ends is the verdict.
-use Rattle.std.proofs.Common.{◌≡◌, ◌≢◌, ℕ, ◌-◌, ◌<◌, ◌≤◌, List, [], ◌∷◌, ◌++◌, length, take, refl, sym, ap, ◌∙◌, subst, inl, inr, arith, append_assoc, append-nil}
+use Rattle.std.proofs.Common.{◌≡◌, ◌≢◌, ℕ, ◌-◌, ◌<◌, ◌≤◌, List, [], ◌∷◌, ◌++◌, length, take, refl, sym, ap, ◌∙◌, subst, inl, inr, arith, append_assoc, append-nil, length-append, length-take}
 use Rattle.std.proofs.lemmas.Bool.{cases_lt}
-use Rattle.std.proofs.lemmas.List.{length-append, length-take}
 use Rattle.cbor_head.specs.Beginning.{IsBeginning, MayFollow, IsLongestBeginning}
 use Rattle.cbor_head.specs.Complaint.{Rules, IsComplaint}
 use Rattle.cbor_head.specs.Limits.{Bounds}

@@ -1,8 +1,6 @@
 -- Strings: a payload, the chunk that it is of, and the whole.
-use Rattle.std.proofs.Common.{◌≡◌, ℕ, zero, suc, ◌+◌, ◌-◌, ◌<◌, ◌≤◌, Bool, true, false, Option, None, List, [], ◌∷◌, ◌++◌, length, drop, replicate, refl, true≢false, sym, ap, ◌∙◌, subst, inl, inr, arith, append_assoc, append-nil}
-use Rattle.std.specs.Prelude.{IsUtf8}
+use Rattle.std.proofs.Common.{◌≡◌, ℕ, zero, suc, ◌+◌, ◌-◌, ◌<◌, ◌≤◌, Bool, true, false, Option, None, List, [], ◌∷◌, ◌++◌, length, drop, replicate, refl, true≢false, sym, ap, ◌∙◌, subst, inl, inr, arith, append_assoc, append-nil, IsUtf8, length-append}
 use Rattle.std.specs.Str.Lossy.{utf8_valid_len}
-use Rattle.std.proofs.lemmas.List.{length-append}
 use Rattle.std.proofs.Math.Seq.{drop-append_seam}
 use Rattle.std.specs.Io.KnownBytes.{Consumes}
 use Rattle.std.proofs.KnownBytes.{Consumes-nil, Consumes-trans}
@@ -14,11 +12,11 @@ use Rattle.cbor_head.specs.declared.width.Width.{Width}
 use Rattle.cbor_head.specs.declared.reason.Refusal.{Refusal}
 use Rattle.cbor_head.specs.declared.reason.Reason.TheVariants.{InvalidText}
 use Rattle.cbor_automaton.specs.Trace.{Mark, a_byte}
-use Rattle.cbor_judging.specs.Place.{Container, Place, at_item, in_payload, in_chunks, done as at_end, close_string, payload}
+use Rattle.cbor_judging.specs.Place.{Container, Place, in_payload, done as at_end, close_string, payload}
 use Rattle.cbor_automaton.specs.Automaton as automaton
 use Rattle.cbor_automaton.specs.Automaton.{State, Outcome, refused, telling, run, reached}
 use Rattle.cbor_automaton.specs.Taking as taking
-use Rattle.cbor_judging.specs.Reading.{state_at}
+use Rattle.cbor_judging.specs.Reading.{state_at, IsAt, IsFormRefusal, IsMemory, ReadsPayload, StopsPayload}
 use Rattle.cbor_judging.proofs.Places.{place_of, place-back, payload-at, clear-at}
 use Rattle.cbor_automaton.specs.Marks.{marks_of}
 use Rattle.cbor_steps.specs.State.{state_of, is_in_payload}
@@ -33,7 +31,6 @@ use Rattle.cbor_automaton.specs.declared.event.Event.{Event}
 use Rattle.cbor_automaton.specs.declared.event.EventKind.{EventKind}
 use Rattle.cbor_automaton.specs.declared.event.EventKind.TheVariants as kinds
 use Rattle.cbor_automaton.proofs.Taking.{IsClear, IsWithin, nothing-taken, first-mark, within-start}
-use Rattle.cbor_judging.specs.Reading.{IsAt, IsFormRefusal, IsMemory, ReadsPayload, StopsPayload}
 use Rattle.cbor_judging.proofs.Steps.{due-by, Stops, SameLimits, stands-reached, at-reached, reached-as, next-at, place_in, since}
 use Rattle.cbor_judging.proofs.ByteLists.{bytes_join, bytes_back}
 use Rattle.cbor_judging.proofs.Scalars.{at-as}
@@ -73,36 +70,9 @@ IsPayload q = ⊥
 
 due-piece : (position : Position) (fs : List frames.Frame) (q : Place) (kind : EventKind) → state_of position fs ≡ state_at q → IsPayload q → item_events.IsDue (is_in_payload position) kind → IsPiece kind
 due-piece (positions.Payload chunk type left) fs q (kinds.Piece n) e h d = tt
-due-piece (positions.Payload chunk type left) fs q (kinds.Unsigned n) e h d = absurd d
-due-piece (positions.Payload chunk type left) fs q (kinds.Negative n) e h d = absurd d
-due-piece (positions.Payload chunk type left) fs q (kinds.Simple n) e h d = absurd d
-due-piece (positions.Payload chunk type left) fs q (kinds.Bytes n) e h d = absurd d
-due-piece (positions.Payload chunk type left) fs q (kinds.Text n) e h d = absurd d
-due-piece (positions.Payload chunk type left) fs q (kinds.Chunk n) e h d = absurd d
-due-piece (positions.Payload chunk type left) fs q (kinds.Array n) e h d = absurd d
-due-piece (positions.Payload chunk type left) fs q (kinds.Map n) e h d = absurd d
-due-piece (positions.Payload chunk type left) fs q (kinds.Tag n) e h d = absurd d
-due-piece (positions.Payload chunk type left) fs q kinds.End e h d = absurd d
-due-piece positions.Item fs (in_payload c m n gs) kind e h d = absurd (cc e)
-due-piece positions.Item fs (at_item gs) kind e h d = absurd h
-due-piece positions.Item fs (in_chunks m gs) kind e h d = absurd h
-due-piece positions.Item fs at_end kind e h d = absurd h
-due-piece (positions.Head chunk k width left argument) fs (in_payload c m n gs) kind e h d = absurd (cc e)
-due-piece (positions.Head chunk k width left argument) fs (at_item gs) kind e h d = absurd h
-due-piece (positions.Head chunk k width left argument) fs (in_chunks m gs) kind e h d = absurd h
-due-piece (positions.Head chunk k width left argument) fs at_end kind e h d = absurd h
-due-piece positions.SimpleNumber fs (in_payload c m n gs) kind e h d = absurd (cc e)
-due-piece positions.SimpleNumber fs (at_item gs) kind e h d = absurd h
-due-piece positions.SimpleNumber fs (in_chunks m gs) kind e h d = absurd h
-due-piece positions.SimpleNumber fs at_end kind e h d = absurd h
-due-piece (positions.Chunks k) fs (in_payload c m n gs) kind e h d = absurd (cc e)
-due-piece (positions.Chunks k) fs (at_item gs) kind e h d = absurd h
-due-piece (positions.Chunks k) fs (in_chunks m gs) kind e h d = absurd h
-due-piece (positions.Chunks k) fs at_end kind e h d = absurd h
-due-piece positions.Done fs (in_payload c m n gs) kind e h d = absurd (cc e)
-due-piece positions.Done fs (at_item gs) kind e h d = absurd h
-due-piece positions.Done fs (in_chunks m gs) kind e h d = absurd h
-due-piece positions.Done fs at_end kind e h d = absurd h
+due-piece (positions.Payload chunk type left) fs q _ e h d = absurd d
+due-piece _ fs (in_payload c m n gs) kind e h d = absurd (cc e)
+due-piece _ fs _ kind e h d = absurd h
 
 -- the next event is a piece
 pub piece-due : (b : Bounds) (e : ItemEventsView) (t : List ℕ) (q : Place) (kind : EventKind) → IsAt b e t q → IsPayload q → item_events.IsDue e.machine.in_payload kind → IsPiece kind
@@ -116,34 +86,19 @@ record PieceBytes (w : Width) (kind : EventKind) (kept piece bs : List ℕ) : Ty
 
 piece-bytes : (told : List Mark) (w : Width) (kind : EventKind) (kept piece bs : List ℕ) → IsPiece kind → IsKept kind kept piece bs → IsEventBytes told w kind bs → PieceBytes w kind kept piece bs
 piece-bytes told w (kinds.Piece n) kept piece bs h k e = record { same = k; some = omega (arith, e.0.1, e.1); marks = ap (λ (j : ℕ). replicate j a_byte) (sym e.1) }
-piece-bytes told w (kinds.Unsigned n) kept piece bs h k e = absurd h
-piece-bytes told w (kinds.Negative n) kept piece bs h k e = absurd h
-piece-bytes told w (kinds.Simple n) kept piece bs h k e = absurd h
-piece-bytes told w (kinds.Bytes n) kept piece bs h k e = absurd h
-piece-bytes told w (kinds.Text n) kept piece bs h k e = absurd h
-piece-bytes told w (kinds.Chunk n) kept piece bs h k e = absurd h
-piece-bytes told w (kinds.Array n) kept piece bs h k e = absurd h
-piece-bytes told w (kinds.Map n) kept piece bs h k e = absurd h
-piece-bytes told w (kinds.Tag n) kept piece bs h k e = absurd h
-piece-bytes told w kinds.End kept piece bs h k e = absurd h
+piece-bytes told w _ kept piece bs h k e = absurd h
 
 clear-close : (fs : List automaton.Frame) → IsClear (automaton.close fs)
-clear-close [] = tt
 clear-close (automaton.counted zero ∷ fs) = clear-close fs
-clear-close (automaton.counted (suc n) ∷ fs) = tt
-clear-close (automaton.indefinite_array ∷ fs) = tt
-clear-close (automaton.indefinite_map due ∷ fs) = tt
+clear-close _ = tt
 
 clear-string : (chunk : Bool) (m : Major) (fs : List automaton.Frame) → IsClear (automaton.close_string chunk m fs)
 clear-string true m fs = tt
 clear-string false m fs = clear-close fs
 
 no-byte : (d : ℕ) (fs : List automaton.Frame) (cs : List ℕ) (u : State) → taking.IsTaking d (automaton.close fs) a_byte cs u → ⊥
-no-byte d [] cs u h = h
 no-byte d (automaton.counted zero ∷ fs) cs u h = no-byte d fs cs u h
-no-byte d (automaton.counted (suc n) ∷ fs) cs u h = h
-no-byte d (automaton.indefinite_array ∷ fs) cs u h = h
-no-byte d (automaton.indefinite_map due ∷ fs) cs u h = h
+no-byte d _ cs u h = h
 
 no-byte-behind : (d : ℕ) (chunk : Bool) (m : Major) (fs : List automaton.Frame) (cs : List ℕ) (u : State) → taking.IsTaking d (automaton.close_string chunk m fs) a_byte cs u → ⊥
 no-byte-behind d true m fs cs u h = h
@@ -264,10 +219,7 @@ module _ (b : Bounds) (chunk : Bool) (m : Major) (fs : List Container) (t : List
           behind (automaton.in_head false l w i acc gs) taking = absurd (cc taking.0)
           behind (automaton.in_head true l w i acc gs) taking = absurd (cc taking.0)
           behind (automaton.in_simple gs) taking = absurd (cc taking.0)
-          behind (automaton.at_item gs) taking = taking.1
-          behind (automaton.in_payload c l i gs) taking = taking.1
-          behind (automaton.in_chunks l gs) taking = taking.1
-          behind automaton.done taking = taking.1
+          behind _ taking = taking.1
 
 -- all of it has come
 pub all-come : (b : Bounds) (chunk : Bool) (m : Major) (fs : List Container) (t : List ℕ) (left : ℕ) (old grown : List ℕ) (from now : Option (List ℕ)) (e : ItemEventsView) (n : ℕ)

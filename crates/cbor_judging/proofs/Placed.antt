@@ -1,12 +1,11 @@
 -- Where the events told lead is where the machine stands.
-use Rattle.std.proofs.Common.{◌≡◌, ◌↔◌, ℕ, zero, suc, ◌+◌, ◌^◌, ◌<◌, Bool, true, false, List, [], ◌∷◌, ◌++◌, length, replicate, refl, sym, ap, ◌∙◌, subst, inl, inr, arith, append-nil, append_assoc}
+use Rattle.std.proofs.Common.{◌≡◌, ◌↔◌, ℕ, zero, suc, ◌+◌, ◌^◌, ◌<◌, Bool, true, false, List, [], ◌∷◌, ◌++◌, length, replicate, refl, sym, ap, ◌∙◌, subst, inl, inr, arith, append-nil, append_assoc, nat_lt}
 use Rattle.std.proofs.lemmas.Bool.{lt-ltb, le-ltb, cases_lt}
-use Rattle.std.specs.Prelude.{nat_lt}
 use Rattle.cbor_head.specs.Head.{Holds, head}
 use Rattle.cbor_head.specs.declared.major.Major.{Major}
 use Rattle.cbor_head.specs.declared.major.Major.TheVariants as majors
 use Rattle.cbor_head.specs.declared.width.Width.{Width}
-use Rattle.cbor_head.specs.declared.width.Width.TheVariants.{Direct, One, Two, Four, Eight, Indefinite}
+use Rattle.cbor_head.specs.declared.width.Width.TheVariants.{Direct, One, Indefinite}
 use Rattle.cbor_automaton.specs.Trace.{Mark, a_head, a_chunk, a_byte, a_break}
 use Rattle.cbor_automaton.specs.Automaton as automaton
 use Rattle.cbor_automaton.specs.Automaton.{State, Outcome, run, reached}
@@ -48,11 +47,8 @@ IsSane (in_payload true m n cs) = IsString m
 IsSane _ = Unit {0}
 
 sane-close : (cs : List Container) → IsSane (close cs)
-sane-close [] = tt
 sane-close (counted zero ∷ cs) = sane-close cs
-sane-close (counted (suc n) ∷ cs) = tt
-sane-close (indefinite_array ∷ cs) = tt
-sane-close (indefinite_map due ∷ cs) = tt
+sane-close _ = tt
 
 sane-expect : (n : ℕ) (cs : List Container) → IsSane (expect n cs)
 sane-expect zero cs = sane-close cs
@@ -119,29 +115,19 @@ module _ (d : ℕ) (cs : List Container) (w : Width) (n : ℕ) (h : Holds w n) (
       taken : (m : Major) → IsString m → run d (state_at (in_chunks m cs)) (head m w n ++ []) ≡ reached (automaton.payload true m n cs) (a_chunk w n ∷ [])
       taken majors.Bytes i = head-taken d (state_at (in_chunks majors.Bytes cs)) true majors.Bytes cs (chunk_starts d majors.Bytes cs (λ k. refl) refl) w n [] h
       taken majors.Text i = head-taken d (state_at (in_chunks majors.Text cs)) true majors.Text cs (chunk_starts d majors.Text cs (λ k. refl) refl) w n [] h
-      taken majors.Unsigned i = absurd i
-      taken majors.Negative i = absurd i
-      taken majors.Array i = absurd i
-      taken majors.Map i = absurd i
-      taken majors.Tag i = absurd i
-      taken majors.Simple i = absurd i
+      taken _ i = absurd i
 
 opens : (d : ℕ) (cs : List Container) (m : Major) (q : Place) → Opens d cs m q → Leads d (at_item cs) (a_head m Indefinite 0) (head m Indefinite 0) q
 opens d cs majors.Bytes q f = record { ran = ap (λ (p : Place). reached (state_at p) (a_head majors.Bytes Indefinite 0 ∷ [])) (sym f); sane = subst IsSane (sym f) tt }
 opens d cs majors.Text q f = record { ran = ap (λ (p : Place). reached (state_at p) (a_head majors.Text Indefinite 0 ∷ [])) (sym f); sane = subst IsSane (sym f) tt }
 opens d cs majors.Array q f = record { ran = rw (lt-ltb (length cs) d f.0) (ap (λ (p : Place). reached (state_at p) (a_head majors.Array Indefinite 0 ∷ [])) (sym f.1)); sane = subst IsSane (sym f.1) tt }
 opens d cs majors.Map q f = record { ran = rw (lt-ltb (length cs) d f.0) (ap (λ (p : Place). reached (state_at p) (a_head majors.Map Indefinite 0 ∷ [])) (sym f.1)); sane = subst IsSane (sym f.1) tt }
-opens d cs majors.Unsigned q f = absurd f
-opens d cs majors.Negative q f = absurd f
-opens d cs majors.Tag q f = absurd f
-opens d cs majors.Simple q f = absurd f
+opens d cs _ q f = absurd f
 
 ends : (d : ℕ) (cs : List Container) (q : Place) → Ends cs q → Leads d (at_item cs) a_break (0xff ∷ []) q
-ends d [] q f = absurd f
-ends d (counted n ∷ cs) q f = absurd f
-ends d (indefinite_map true ∷ cs) q f = absurd f
 ends d (indefinite_array ∷ cs) q f = record { ran = ap (λ (s : State). reached s (a_break ∷ [])) (close-at cs ∙ ap state_at (sym f)); sane = subst IsSane (sym f) (sane-close cs) }
 ends d (indefinite_map false ∷ cs) q f = record { ran = ap (λ (s : State). reached s (a_break ∷ [])) (close-at cs ∙ ap state_at (sym f)); sane = subst IsSane (sym f) (sane-close cs) }
+ends d _ q f = absurd f
 
 byte-taken : (d : ℕ) (chunk : Bool) (k : Major) (n : ℕ) (cs : List Container) (c : ℕ) → run d (state_at (in_payload chunk k n cs)) (c ∷ []) ≡ reached (state_at (payload chunk k n cs)) (a_byte ∷ [])
 byte-taken d chunk k zero cs c = ap (λ (s : State). reached s (a_byte ∷ [])) (string-at chunk k cs)
@@ -161,28 +147,14 @@ by-bytes d p m bs cs q e h = subst (λ (x : List ℕ). Leads d p m x q) (sym e) 
 
 taking-leads : (d : ℕ) (p : Place) (m : Mark) (bs : List ℕ) (q : Place) → IsSane p → IsTaking d p m bs q → Leads d p m bs q
 taking-leads d (at_item cs) (a_head m Indefinite n) bs q i h = by-bytes d _ _ bs _ q h.1 (subst (λ (j : ℕ). Leads d (at_item cs) (a_head m Indefinite j) (head m Indefinite 0) q) (sym h.0) (opens d cs m q h.2))
-taking-leads d (at_item cs) (a_head m Direct n) bs q i h = by-bytes d _ _ bs _ q h.0 (follows d cs Direct n h.1 q m h.2)
-taking-leads d (at_item cs) (a_head m One n) bs q i h = by-bytes d _ _ bs _ q h.0 (follows d cs One n h.1 q m h.2)
-taking-leads d (at_item cs) (a_head m Two n) bs q i h = by-bytes d _ _ bs _ q h.0 (follows d cs Two n h.1 q m h.2)
-taking-leads d (at_item cs) (a_head m Four n) bs q i h = by-bytes d _ _ bs _ q h.0 (follows d cs Four n h.1 q m h.2)
-taking-leads d (at_item cs) (a_head m Eight n) bs q i h = by-bytes d _ _ bs _ q h.0 (follows d cs Eight n h.1 q m h.2)
+taking-leads d (at_item cs) (a_head m w n) bs q i h = by-bytes d _ _ bs _ q h.0 (follows d cs w n h.1 q m h.2)
 taking-leads d (at_item cs) a_break bs q i h = by-bytes d _ _ bs _ q h.0 (ends d cs q h.1)
-taking-leads d (at_item cs) (a_chunk w n) bs q i h = absurd h
-taking-leads d (at_item cs) a_byte bs q i h = absurd h
 taking-leads d (in_chunks k cs) (a_chunk w n) bs q i h = by-bytes d _ _ bs _ q h.0 (chunk-head d cs w n h.1 q k i h.2)
 taking-leads d (in_chunks k cs) a_break bs q i h =
     by-bytes d _ _ bs _ q h.0 (record { ran = ap (λ (s : State). reached s (a_break ∷ [])) (close-at cs ∙ ap state_at (sym h.1)); sane = subst IsSane (sym h.1) (sane-close cs) })
-taking-leads d (in_chunks k cs) (a_head m w n) bs q i h = absurd h
-taking-leads d (in_chunks k cs) a_byte bs q i h = absurd h
 taking-leads d (in_payload chunk k zero cs) a_byte bs q i h = a-byte d chunk k zero cs bs q i h.0 h.1
 taking-leads d (in_payload chunk k (suc n) cs) a_byte bs q i h = a-byte d chunk k (suc n) cs bs q i h.0 h.1
-taking-leads d (in_payload chunk k zero cs) (a_head m w n) bs q i h = absurd h
-taking-leads d (in_payload chunk k (suc j) cs) (a_head m w n) bs q i h = absurd h
-taking-leads d (in_payload chunk k zero cs) (a_chunk w n) bs q i h = absurd h
-taking-leads d (in_payload chunk k (suc j) cs) (a_chunk w n) bs q i h = absurd h
-taking-leads d (in_payload chunk k zero cs) a_break bs q i h = absurd h
-taking-leads d (in_payload chunk k (suc j) cs) a_break bs q i h = absurd h
-taking-leads d done m bs q i h = absurd h
+taking-leads d _ _ bs q i h = absurd h
 
 -- ---- and from the first byte on
 
@@ -242,16 +214,7 @@ data Told (kind : EventKind) (w : Width) (bs : List ℕ) : Type 0 where
 
 told-by : (told : List Mark) (w : Width) (kind : EventKind) (bs : List ℕ) → IsEventBytes told w kind bs → Told kind w bs
 told-by told w (kinds.Piece n) bs h = by_bytes (ap (λ (j : ℕ). replicate j a_byte) (sym h.1)) (λ x. x)
-told-by told w (kinds.Unsigned n) bs h = once refl
-told-by told w (kinds.Negative n) bs h = once refl
-told-by told w (kinds.Simple n) bs h = once refl
-told-by told w (kinds.Bytes n) bs h = once refl
-told-by told w (kinds.Text n) bs h = once refl
-told-by told w (kinds.Chunk n) bs h = once refl
-told-by told w (kinds.Array n) bs h = once refl
-told-by told w (kinds.Map n) bs h = once refl
-told-by told w (kinds.Tag n) bs h = once refl
-told-by told w kinds.End bs h = once refl
+told-by told w _ bs h = once refl
 
 pub event-leads : (e : Event) (c : Call) (p : Place) → StandsBetween c.old c.taken c.told → IsPlaced c.old.depth c.taken c.told p → c.new.depth ≡ c.old.depth → (n : IsNextEvent e c) → LeadsOn e c n.bytes p
 event-leads e c p s h same n =

@@ -1,9 +1,9 @@
 -- A place between two events, and the automaton there.
-use Rattle.std.proofs.Common.{◌≡◌, ℕ, zero, suc, ◌+◌, Bool, true, false, List, [], ◌∷◌, length, refl, sym, ap, ◌∙◌}
+use Rattle.std.proofs.Common.{◌≡◌, ℕ, zero, suc, ◌+◌, Bool, true, false, List, ◌∷◌, length, refl, sym, ap, ◌∙◌}
 use Rattle.cbor_head.specs.declared.major.Major.{Major}
 use Rattle.cbor_head.specs.declared.major.Major.TheVariants as majors
 use Rattle.cbor_head.specs.declared.width.Width.{Width}
-use Rattle.cbor_head.specs.declared.width.Width.TheVariants.{Direct, One, Two, Four, Eight, Indefinite}
+use Rattle.cbor_head.specs.declared.width.Width.TheVariants.{Indefinite}
 use Rattle.cbor_automaton.specs.Trace.{Mark, a_head, a_chunk, a_byte, a_break}
 use Rattle.cbor_automaton.specs.Automaton as automaton
 use Rattle.cbor_automaton.specs.Automaton.{State}
@@ -27,17 +27,12 @@ place_of automaton.done = done
 
 pub place-back : (q : Place) → place_of (state_at q) ≡ q
 place-back (at_item cs) = refl
-place-back (in_payload chunk m n cs) = refl
-place-back (in_chunks m cs) = refl
-place-back done = refl
+place-back _ = refl
 
 pub state-back : (s : State) → IsClear s → state_at (place_of s) ≡ s
-state-back (automaton.at_item fs) h = refl
 state-back (automaton.in_head chunk m w k acc fs) h = absurd h
 state-back (automaton.in_simple fs) h = absurd h
-state-back (automaton.in_payload chunk m n fs) h = refl
-state-back (automaton.in_chunks m fs) h = refl
-state-back automaton.done h = refl
+state-back _ h = refl
 
 -- two places with one state are one
 pub one-place : (p q : Place) → state_at p ≡ state_at q → p ≡ q
@@ -45,24 +40,17 @@ one-place p q e = sym (place-back p) ∙ ap place_of e ∙ place-back q
 
 pub clear-at : (q : Place) → IsClear (state_at q)
 clear-at (at_item cs) = tt
-clear-at (in_payload chunk m n cs) = tt
-clear-at (in_chunks m cs) = tt
-clear-at done = tt
+clear-at _ = tt
 
 pub open-frames : (q : Place) → length (stack (state_at q)) ≡ length (open_at q)
 open-frames (at_item cs) = refl
-open-frames (in_payload chunk m n cs) = refl
-open-frames (in_chunks m cs) = refl
-open-frames done = refl
+open-frames _ = refl
 
 -- ---- where an item, or a part of one, leaves off
 
 pub close-at : (cs : List Container) → automaton.close cs ≡ state_at (close cs)
-close-at [] = refl
 close-at (counted zero ∷ cs) = close-at cs
-close-at (counted (suc n) ∷ cs) = refl
-close-at (indefinite_array ∷ cs) = refl
-close-at (indefinite_map due ∷ cs) = refl
+close-at _ = refl
 
 pub expect-at : (n : ℕ) (cs : List Container) → automaton.expect n cs ≡ state_at (expect n cs)
 expect-at zero cs = close-at cs
@@ -97,39 +85,20 @@ module _ (d : ℕ) (cs : List Container) (u : State) where
   opens majors.Text h = leads u _ (in_chunks majors.Text cs) h refl
   opens majors.Array h = (h.0, leads u _ (at_item (indefinite_array ∷ cs)) h.1 refl)
   opens majors.Map h = (h.0, leads u _ (at_item (indefinite_map false ∷ cs)) h.1 refl)
-  opens majors.Unsigned h = absurd h
-  opens majors.Negative h = absurd h
-  opens majors.Tag h = absurd h
-  opens majors.Simple h = absurd h
+  opens _ h = absurd h
 
 ends : (cs : List Container) (u : State) → taking.Ends cs u → Ends cs (place_of u)
-ends [] u h = absurd h
-ends (counted n ∷ cs) u h = absurd h
 ends (indefinite_array ∷ cs) u h = leads u _ (close cs) h (close-at cs)
-ends (indefinite_map true ∷ cs) u h = absurd h
 ends (indefinite_map false ∷ cs) u h = leads u _ (close cs) h (close-at cs)
+ends _ u h = absurd h
 
 -- what one mark is there, and where it leads
 pub taking-at : (d : ℕ) (q : Place) (m : Mark) (bs : List ℕ) (u : State) → taking.IsTaking d (state_at q) m bs u → IsTaking d q m bs (place_of u)
 taking-at d (at_item cs) (a_head m Indefinite n) bs u h = (h.0, h.1, opens d cs u m h.2)
-taking-at d (at_item cs) (a_head m Direct n) bs u h = (h.0, h.1, follows d cs u m Direct n h.2)
-taking-at d (at_item cs) (a_head m One n) bs u h = (h.0, h.1, follows d cs u m One n h.2)
-taking-at d (at_item cs) (a_head m Two n) bs u h = (h.0, h.1, follows d cs u m Two n h.2)
-taking-at d (at_item cs) (a_head m Four n) bs u h = (h.0, h.1, follows d cs u m Four n h.2)
-taking-at d (at_item cs) (a_head m Eight n) bs u h = (h.0, h.1, follows d cs u m Eight n h.2)
+taking-at d (at_item cs) (a_head m w n) bs u h = (h.0, h.1, follows d cs u m w n h.2)
 taking-at d (at_item cs) a_break bs u h = (h.0, ends cs u h.1)
-taking-at d (at_item cs) (a_chunk w n) bs u h = absurd h
-taking-at d (at_item cs) a_byte bs u h = absurd h
 taking-at d (in_chunks k cs) (a_chunk w n) bs u h = (h.0, h.1, leads u _ (payload true k n cs) h.2 (payload-at true k n cs))
 taking-at d (in_chunks k cs) a_break bs u h = (h.0, leads u _ (close cs) h.1 (close-at cs))
-taking-at d (in_chunks k cs) (a_head m w n) bs u h = absurd h
-taking-at d (in_chunks k cs) a_byte bs u h = absurd h
 taking-at d (in_payload chunk k zero cs) a_byte bs u h = (h.0, leads u _ (close_string chunk k cs) h.1 (string-at chunk k cs))
 taking-at d (in_payload chunk k (suc n) cs) a_byte bs u h = (h.0, leads u _ (in_payload chunk k n cs) h.1 refl)
-taking-at d (in_payload chunk k zero cs) (a_head m w n) bs u h = absurd h
-taking-at d (in_payload chunk k (suc i) cs) (a_head m w n) bs u h = absurd h
-taking-at d (in_payload chunk k zero cs) (a_chunk w n) bs u h = absurd h
-taking-at d (in_payload chunk k (suc i) cs) (a_chunk w n) bs u h = absurd h
-taking-at d (in_payload chunk k zero cs) a_break bs u h = absurd h
-taking-at d (in_payload chunk k (suc i) cs) a_break bs u h = absurd h
-taking-at d done m bs u h = absurd h
+taking-at d _ _ bs u h = absurd h

@@ -1,6 +1,5 @@
 -- Which reasons a refusal has.
-use Rattle.std.proofs.Common.{ℕ, ◌+◌, ◌≡◌, ◌≢◌, ◌⊎◌, Option, Some, None, List, [], ◌∷◌, ◌++◌, length, sym, ap, ◌∙◌, subst, inl, inr, Bool, true, false}
-use Rattle.std.specs.Prelude.{◌==◌, ◌||◌, ◌&&◌, ◌%◌, nat_le, if◌then◌else◌}
+use Rattle.std.proofs.Common.{ℕ, ◌+◌, ◌≡◌, ◌≢◌, ◌⊎◌, Option, Some, None, List, [], ◌∷◌, ◌++◌, length, sym, ap, ◌∙◌, subst, inl, inr, Bool, true, false, ◌==◌, ◌||◌, ◌&&◌, ◌%◌, nat_le, if◌then◌else◌}
 use Rattle.cbor_head.specs.Spelling.{Spelling, spell}
 use Rattle.cbor_head.specs.Complaint.{Rules, form, Complaint, Complains, IsComplaint}
 use Rattle.cbor_head.specs.Limits.{Bounds}
@@ -9,7 +8,7 @@ use Rattle.cbor_head.specs.declared.reason.Reason.{Reason}
 use Rattle.cbor_head.specs.declared.reason.Reason.TheVariants.{Truncated, TooLong, InvalidText, RepeatedKey, NotShortest, Indefinite as IndefiniteReason, KeyOrder, Read, Memory, StrayBreak, Float, NoIndefinite, Reserved, TooDeep, KeyKind}
 use Rattle.cbor_head.specs.declared.reason.Refusal.{Refusal}
 use Rattle.cbor_automaton.specs.Reasons.{IsFormReason as IsByteReason}
-use Rattle.cbor_grammar.proofs.KeyKinds.{kind_is}
+use Rattle.cbor_grammar.proofs.KeyKinds.{of_kind}
 use Rattle.cbor_grammar.proofs.Reasons.{reason_of}
 use Rattle.cbor_judging.specs.Place.{Container}
 use Rattle.cbor_judging.specs.Judged.{IsFinding}
@@ -54,7 +53,7 @@ complaint-reason r at s c h f is = subst (λ (x : Refusal). IsComplaintReason r 
 -- or one on a key's kind
 pub item-reason : (limits : Bounds) (r : Rules) (s : Spelling) (c : Complaint) → IsComplaint limits r s c → (f : Refusal) → f ≡ refusal c.reason c.place c.end → IsComplaintReason r f.reason ⊎ IsKindReason limits r f.reason
 item-reason limits r s c (inl h) f is = inl (complaint-reason r 0 s c h f is)
-item-reason limits r s c (inr h) f is = inr (ap (λ (x : Refusal). x.reason) is ∙ ap (λ (x : Complaint). x.reason) (kind_is s 0 c h.2), h.0, h.1)
+item-reason limits r s c (inr h) f is = inr (ap (λ (x : Refusal). x.reason) is ∙ ap (λ (x : Complaint). x.reason) ((of_kind s 0 c h.2).is), h.0, h.1)
 
 -- a verdict
 pub verdict-reason : (limits : Bounds) (r : Rules) (input : List ℕ) (f : Refusal) → IsVerdict limits r input (refused f) → IsFormReason f.reason ⊎ (IsComplaintReason r f.reason ⊎ IsKindReason limits r f.reason)

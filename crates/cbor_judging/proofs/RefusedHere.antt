@@ -1,41 +1,65 @@
 -- What is refused where an item is due, whatever walk stands there.
-use Rattle.std.proofs.Common.{◌≡◌, ◌≢◌, ℕ, suc, ◌+◌, ◌-◌, ◌*◌, ◌^◌, ◌%◌, ◌<◌, ◌≤◌, ◌⊎◌, Bool, true, None, List, [], ◌∷◌, ◌++◌, length, take, drop, refl, sym, ap, ◌∙◌, subst, inl, inr, arith, append_assoc, take-append-drop, append-nil}
-use Rattle.std.specs.Prelude.{IsTrue, IsUtf8}
+use Rattle.std.proofs.Common.{◌≡◌, ◌≢◌, ℕ, suc, ◌+◌, ◌-◌, ◌*◌, ◌^◌, ◌%◌, ◌<◌, ◌≤◌, ◌⊎◌, Bool, true, None, List, [], ◌∷◌, ◌++◌, length, take, drop, refl, sym, ap, ◌∙◌, subst, inl, inr, arith, append_assoc, take-append-drop, append-nil, IsTrue, IsUtf8, length-append, length-take-le, ◌/◌}
 use Rattle.std.specs.Str.Lossy.{utf8_valid_len}
 use Rattle.std.proofs.lemmas.Bool.{cases_lt}
-use Rattle.std.proofs.lemmas.List.{length-append, length-take-le}
-use Rattle.cbor_head.specs.Complaint.{Rules, strict, complaint, OfHead}
+use Rattle.std.proofs.lemmas.Nat.{pow_pos}
+use Rattle.cbor_head.specs.Complaint.{Rules, strict, complaint, OfHead, form}
 use Rattle.cbor_head.specs.Head.{Holds, head, major_number, shortest, with_argument}
 use Rattle.cbor_head.specs.Limits.{Bounds}
-use Rattle.cbor_head.specs.Value.{AreBytes}
+use Rattle.cbor_head.specs.Value.{AreBytes, IsIntegerOrText}
 use Rattle.cbor_head.specs.Verdict.{refusal}
 use Rattle.cbor_head.specs.declared.major.Major.{Major}
-use Rattle.cbor_head.specs.declared.major.Major.TheVariants.{Bytes, Text, Array, Map}
+use Rattle.cbor_head.specs.declared.major.Major.TheVariants.{Bytes, Text, Array, Map, Simple}
 use Rattle.cbor_head.specs.declared.order.KeyOrder.{KeyOrder}
 use Rattle.cbor_head.specs.declared.reason.Reason.{Reason}
 use Rattle.cbor_head.specs.declared.reason.Reason.TheVariants as reasons
 use Rattle.cbor_head.specs.declared.reason.Refusal.{Refusal}
 use Rattle.cbor_head.specs.declared.width.Width.{Width}
-use Rattle.cbor_head.specs.declared.width.Width.TheVariants.{Indefinite}
+use Rattle.cbor_head.specs.declared.width.Width.TheVariants.{Indefinite, Direct}
 use Rattle.cbor_steps.specs.Whole.{IsArgument}
 use Rattle.cbor_automaton.proofs.FirstByte.{split}
 use Rattle.cbor_judging.specs.Judged.{IsJudged, Never}
 use Rattle.cbor_judging.specs.Kinds.{KeepsToKinds, IsOfOneHead}
 use Rattle.cbor_judging.proofs.ByteLists.{bytes_back, bytes_front}
 use Rattle.cbor_judging.proofs.Heads.{open_or}
-use Rattle.cbor_judging.proofs.KindBytes.{head_is_one, string_is_one}
+use Rattle.cbor_judging.proofs.KindBytes.{head_is_one, string_is_one, Begins, judged_begins}
 use Rattle.cbor_judging.proofs.Judged.{judged_start}
 use Rattle.cbor_judging.proofs.Leaves.{text_complains}
-use Rattle.cbor_judging.specs.Path.{Level, a_member, a_key, a_value, tagged, bytes_before, AreClean, MayBreak}
-use Rattle.cbor_judging.specs.RefusedHere.{IsMisplaced, IsPlaceFor, IsRefusedBy, HasNoBreak}
+use Rattle.cbor_judging.specs.Path.{Level, a_member, a_key, bytes_before, AreClean, MayBreak, IsKeyDueIn}
+use Rattle.cbor_judging.specs.RefusedHere.{IsMisplaced, IsPlaceFor, IsRefusedBy, HasNoBreak, MayBegin}
 use Rattle.cbor_judging.specs.PathKinds.{KeepsHere}
 use Rattle.cbor_judging.specs.Stop.{HasComplaint, HasBadByte, IsStopped, EndsWithin}
-use Rattle.cbor_judging.proofs.Arguments.{low_bits, number_byte, fits as fits_in, numbered, spells}
+use Rattle.cbor_judging.proofs.Arguments.{low_bits, number_byte, fits as fits_in, numbered, spells, fits, direct-is}
 use Rattle.cbor_judging.proofs.CutHeads.{head_cut, bytes_cut, text_cut}
 use Rattle.cbor_judging.proofs.FirstBytes.{reserved, no_indefinite, a_float, stray_break, too_deep, bad_simple}
 use Rattle.cbor_judging.proofs.HeadComplaints.{IsOpener as MayOpen, not_shortest, indefinite_length}
-use Rattle.cbor_judging.proofs.PathKinds.{kept_front}
+use Rattle.cbor_judging.proofs.PathKinds.{kept_front, head_begun, around_clean}
 use Rattle.cbor_judging.proofs.PathStops.{complaint_here, end_here}
+use Rattle.cbor_head.specs.Spelling.{simple, spell, value_of}
+use Rattle.cbor_head.specs.declared.keys.Keys.TheVariants.{IntegersAndTexts}
+use Rattle.cbor_head.specs.declared.order.KeyOrder.TheVariants.{Bytewise}
+use Rattle.cbor_head.specs.declared.reason.Reason.TheVariants.{KeyKind}
+use Rattle.cbor_grammar.specs.FirstBytes.{is_basic}
+use Rattle.cbor_grammar.proofs.KeyKinds.{basic_byte}
+use Rattle.cbor_judging.proofs.KindFrames.{other_key}
+use Rattle.cbor_judging.proofs.PathLevels.{judged_path}
+
+-- ---- first bytes
+
+below_float : (first : ℕ) → 24 ≤ first % 32 → first < 249 → (first < 224) ⊎ (first ≡ 0xf8)
+below_float first l small = elim (cases_lt first 224) [ inl k ↦ inl k | inr k ↦ inr (omega (arith, k, l, small)) ]
+
+-- of what has no length
+opener_of : (first left : ℕ) → first % 32 ≡ 31 → 64 ≤ first → first < 192 → (128 ≤ first → 1 ≤ left) → (m : Major) × MayOpen m left × (32 * major_number m + 31 ≡ first)
+opener_of first left low l h deep = elim (cases_lt first 96) [
+  | inl k ↦ (Bytes, tt, omega (arith, low, l, k))
+  | inr k ↦ elim (cases_lt first 128) [
+    | inl j ↦ (Text, tt, omega (arith, low, k, j))
+    | inr j ↦ elim (cases_lt first 160) [ inl i ↦ (Array, deep j, omega (arith, low, j, i)) | inr i ↦ (Map, deep j, omega (arith, low, i, h)) ]
+  ]
+]
+
+-- ---- what is refused
 
 -- the input ends within the item
 pub ends_here : (r : Rules) (room : Bool) (b : List ℕ) (at end : ℕ) → end ≡ at + length b → IsOfOneHead b
@@ -53,11 +77,7 @@ refused_same r room at b c f g is e h = subst (λ (x : List ℕ). IsRefusedBy r 
 pub no_break : (o : KeyOrder) (d : ℕ) (ls : List Level) → AreClean (strict o) d ls → MayBreak ls → ⊥
 no_break o d (a_member Indefinite left done ∷ ls) h b = h.1.head_clean _ (refl, refl)
 no_break o d (a_key Indefinite left done ∷ ls) h b = h.1.head_clean _ (refl, refl)
-no_break o d [] h b = b
-no_break o d (a_member w left done ∷ ls) h b = b
-no_break o d (a_key w left done ∷ ls) h b = b
-no_break o d (a_value w left done k ∷ ls) h b = b
-no_break o d (tagged w n ∷ ls) h b = b
+no_break o d _ h b = b
 
 pub no_break_here : (ls : List Level) (b : List ℕ) → (MayBreak ls → ⊥) → HasNoBreak ls b
 no_break_here ls [] h = tt
@@ -98,13 +118,7 @@ module _ (r : Rules) (room : Bool) (first : ℕ) (behind : List ℕ) (at : ℕ) 
   pub endless_here : IsTrue r.heads → first % 32 ≡ 31 → 64 ≤ first → first < 192 → (128 ≤ first → first < 224 → room ≡ true) → IsRefusedBy r room (first ∷ behind) at (refusal reasons.Indefinite at (at + 1))
   endless_here heads low l h is_room = λ limits ls clean broken kept place are.
       let deep : 128 ≤ first → 1 ≤ limits.depth - length ls = λ k. let r : length ls < limits.depth = place.fits (is_room k (omega (arith, h))) in omega (arith, r) in
-      subst (λ (n : ℕ). IsStopped r limits (bytes_before ls ++ first ∷ behind) (refusal reasons.Indefinite n (n + 1))) (sym place.here) (inl (elim (cases_lt first 96) [
-        | inl k ↦ opens limits ls clean kept Bytes tt (omega (arith, low, l, k))
-        | inr k ↦ elim (cases_lt first 128) [
-          | inl j ↦ opens limits ls clean kept Text tt (omega (arith, low, k, j))
-          | inr j ↦ elim (cases_lt first 160) [ inl i ↦ opens limits ls clean kept Array (deep j) (omega (arith, low, j, i)) | inr i ↦ opens limits ls clean kept Map (deep j) (omega (arith, low, i, h)) ]
-        ]
-      ]))
+      subst (λ (n : ℕ). IsStopped r limits (bytes_before ls ++ first ∷ behind) (refusal reasons.Indefinite n (n + 1))) (sym place.here) (inl (let o = opener_of first (limits.depth - length ls) low l h deep in opens limits ls clean kept o.0 o.1 o.2))
     where
       opens : (limits : Bounds) (ls : List Level) → AreClean r limits.depth ls → KeepsHere limits r ls (first ∷ behind) → (m : Major) → MayOpen m (limits.depth - length ls) → 32 * major_number m + 31 ≡ first
           → HasComplaint r limits (bytes_before ls ++ first ∷ behind) (refusal reasons.Indefinite (length (bytes_before ls)) (length (bytes_before ls) + 1))
@@ -118,11 +132,7 @@ module _ (r : Rules) (room : Bool) (first : ℕ) (behind : List ℕ) (at : ℕ) 
   pub cut_here : 24 ≤ first % 32 → first % 32 < 28 → first < 249 → (128 ≤ first → first < 224 → room ≡ true) → length behind < 2 ^ (first % 32 - 24) → (end : ℕ) → end ≡ at + suc (length behind)
       → IsRefusedBy r room (first ∷ behind) at (refusal reasons.Truncated end end)
   cut_here l h small is_room short end e = ends_here r room (first ∷ behind) at end e (λ container some. (l, h, omega (arith, short))) (λ d ls fits are.
-      head_cut r (length (bytes_before ls)) d ls first behind l (omega (arith, h)) (kind (cases_lt first 224)) (λ k j. fits (is_room k j)) are.1 short)
-    where
-      kind : (first < 224) ⊎ (224 ≤ first) → (first < 224) ⊎ (first ≡ 0xf8)
-      kind (inl k) = inl k
-      kind (inr k) = inr (omega (arith, k, l, small))
+      head_cut r (length (bytes_before ls)) d ls first behind l (omega (arith, h)) (below_float first l small) (λ k j. fits (is_room k j)) are.1 short)
 
   module _ (w : Width) (n : ℕ) (rest : List ℕ) (a : IsArgument (first % 32) behind w n rest) where
     -- there is no such simple value
@@ -204,3 +214,78 @@ module _ (r : Rules) (room : Bool) (first : ℕ) (behind : List ℕ) (at : ℕ) 
           let found = complaint_here r limits ls clean (bytes_before ls ++ first ∷ behind) x (drop n rest) (ap (λ (z : List ℕ). bytes_before ls ++ z) parts) (front_kept limits ls x (drop n rest) parts kept) text c j in
           inl (subst (λ (z : ℕ). HasComplaint r limits (bytes_before ls ++ first ∷ behind) (refusal reasons.InvalidText (at + used + valid) z)) read
           (subst (λ (z : ℕ). HasComplaint r limits (bytes_before ls ++ first ∷ behind) (refusal reasons.InvalidText z (to + length q))) place_is found))
+
+-- ---- a key of another kind than is asked for
+
+-- ---- some item begins with a byte that may stand where an item is due
+
+module _ (ls : List Level) (d : ℕ) (room : Bool) (first : ℕ) (small : first < 256) (placed : MayBegin first room) (inside : room ≡ true → length ls < d) where
+  abbrev left : ℕ
+  left = d - length ls
+
+  deep : 128 ≤ first → first < 224 → 1 ≤ left
+  deep k j = let below : length ls < d = inside (placed.fits k j) in omega (arith, below)
+
+  -- a head of one byte
+  direct_begins : first % 32 < 24 → Begins left (first ∷ [])
+  direct_begins l = elim (cases_lt first 224) [
+    | inl k ↦
+        let s = split first small in
+        let low : s.low < 24 = omega (arith, s.made, s.fits, l) in
+        subst (λ (x : ℕ). Begins left (x ∷ [])) (sym s.made) (head_begun left s.major Direct s.low (numbered s.major s.low first s.made k) low (fits s.major s.low first left s.made s.fits deep))
+    | inr k ↦
+        let n = first % 32 in
+        let below : first < 249 = placed.no_float in
+        let made : 224 + n ≡ first = omega (arith, k, below) in
+        record {
+          item = simple n;
+          spelled = (omega arith, λ j. absurd (omega (arith, j, l)));
+          within = omega arith;
+          rest = [];
+          bytes = ap (λ (w : Width). head Simple w n) (direct-is n l) ∙ ap (λ (x : ℕ). x ∷ []) made;
+        }
+  ]
+
+  -- the first byte of a longer one
+  long_begins : 24 ≤ first % 32 → first % 32 < 28 → Begins left (first ∷ [])
+  long_begins l h = judged_begins form 0 left (first ∷ []) None (head_cut form 0 d ls first [] l (omega (arith, h)) (below_float first l placed.no_float) (λ k j. inside (placed.fits k j)) tt (pow_pos (first % 32 - 24)))
+
+  -- an opener without a length
+  endless_begins : first % 32 ≡ 31 → 64 ≤ first → first < 192 → Begins left (first ∷ [])
+  endless_begins low l h = let o = opener_of first left low l h (λ k. deep k (omega (arith, h))) in opens o.0 o.1 o.2
+    where
+      opens : (m : Major) → MayOpen m left → 32 * major_number m + 31 ≡ first → Begins left (first ∷ [])
+      opens m i e = subst (λ (x : ℕ). Begins left (x ∷ [])) e (judged_begins (strict Bytewise) 0 left _ _ (indefinite_length (strict Bytewise) refl 0 left m i))
+
+  placed_begins : Begins left (first ∷ [])
+  placed_begins = elim placed.low [
+    | inl l ↦ elim (cases_lt (first % 32) 24) [ inl k ↦ direct_begins k | inr k ↦ long_begins k l ]
+    | inr e ↦ endless_begins e.0 e.1 e.2
+  ]
+
+-- ---- the refusal
+
+pub kind_refused : (room : Bool) (first : ℕ) (behind : List ℕ) (at : ℕ) → MayBegin first room → ¬ IsTrue (is_basic (first / 32)) → (r : Rules) → IsTrue r.kinds → (limits : Bounds) (ls : List Level) → AreClean r limits.depth ls
+    → KeepsToKinds limits r (bytes_before ls) → limits.keys ≡ IntegersAndTexts → IsKeyDueIn ls → IsPlaceFor room limits.depth ls at → AreBytes (bytes_before ls ++ first ∷ behind)
+    → IsStopped r limits (bytes_before ls ++ first ∷ behind) (refusal KeyKind at (at + 1))
+kind_refused room first behind at placed other r kinds limits ls clean keeps asked due place are =
+    let p = bytes_before ls in
+    let left = limits.depth - length ls in
+    let small : first < 256 = (bytes_back p (first ∷ behind) are).0 in
+    let g = placed_begins ls limits.depth room first small placed place.fits in
+    let none : IsIntegerOrText (value_of g.item) → ⊥ = λ k. other (basic_byte g.item g.spelled first [] g.rest (append-nil (spell g.item) ∙ g.bytes) k) in
+    let (item, starts, complains) = other_key limits r (around_clean r limits.depth ls clean) g.item first g.rest g.spelled g.within g.bytes due none in
+    let judged = subst (λ (x : List ℕ). IsJudged r 0 limits.depth x None) (append-nil p) (judged_path r limits.depth ls clean [] None (judged_start r (length p) left)) in
+    subst (λ (n : ℕ). IsStopped r limits (p ++ first ∷ behind) (refusal KeyKind n (n + 1))) (sym place.here) (inr (inr (inr (record {
+      p = p;
+      byte = first;
+      rest = behind;
+      splits = sym (append_assoc p (first ∷ []) behind);
+      judged = judged;
+      keeps = keeps;
+      asked = (kinds, asked);
+      item = item;
+      starts = starts;
+      other = complains;
+      is = refl;
+    }))))

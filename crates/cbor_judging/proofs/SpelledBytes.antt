@@ -28,13 +28,7 @@ high_bytes (suc k) n = (small_byte k n, high_bytes k n)
 
 small_major : (m : Major) → major_number m < 8
 small_major Unsigned = omega arith
-small_major Negative = omega arith
-small_major Bytes = omega arith
-small_major Text = omega arith
-small_major Array = omega arith
-small_major Map = omega arith
-small_major Tag = omega arith
-small_major Simple = omega arith
+small_major _ = omega arith
 
 -- a width has room for the argument, where it is direct
 abbrev HasRoom : Width → ℕ → Type 0
@@ -54,27 +48,15 @@ head_bytes m w n h = argument_bytes w (major_number m) n (small_major m) h
 
 room : (w : Width) (n : ℕ) → Holds w n → HasRoom w n
 room Direct n h = h
-room One n h = tt
-room Two n h = tt
-room Four n h = tt
-room Eight n h = tt
-room Indefinite n h = tt
+room _ n h = tt
 
 open_room : (w : Width) (n : ℕ) → HoldsOrIndefinite w n → HasRoom w n
 open_room Direct n h = h
-open_room One n h = tt
-open_room Two n h = tt
-open_room Four n h = tt
-open_room Eight n h = tt
-open_room Indefinite n h = tt
+open_room _ n h = tt
 
 closer_bytes : (w : Width) → AreBytes (break_of w)
-closer_bytes Direct = tt
-closer_bytes One = tt
-closer_bytes Two = tt
-closer_bytes Four = tt
-closer_bytes Eight = tt
 closer_bytes Indefinite = (omega arith, tt)
+closer_bytes _ = tt
 
 -- ---- items
 

@@ -1,16 +1,15 @@
 -- Between two events: how many containers are open, and that few bytes are taken.
-use Rattle.std.proofs.Common.{◌≡◌, ℕ, zero, suc, ◌^◌, ◌<◌, ◌≤◌, List, ◌∷◌, [], length, refl, sym, ap, ◌∙◌, arith}
+use Rattle.std.proofs.Common.{◌≡◌, ℕ, zero, ◌^◌, ◌<◌, ◌≤◌, List, ◌∷◌, length, refl, sym, ap, ◌∙◌, arith}
 use Rattle.cbor_head.specs.Limits.{Bounds}
 use Rattle.cbor_standing.specs.NextEvent.{ItemEventsView}
-use Rattle.cbor_judging.specs.Place.{Container, counted, indefinite_array, indefinite_map, Place, close, done, open_at}
+use Rattle.cbor_judging.specs.Place.{Container, counted, Place, close, done, open_at}
 use Rattle.cbor_automaton.specs.Automaton as automaton
 use Rattle.cbor_automaton.specs.Automaton.{State, reached}
 use Rattle.cbor_standing.specs.Machine.{IsComplete}
 use Rattle.cbor_steps.proofs.Frames.{position-done}
 use Rattle.cbor_automaton.proofs.Opens.{opens as opens-stack}
-use Rattle.cbor_judging.specs.Reading.{state_at}
+use Rattle.cbor_judging.specs.Reading.{state_at, IsAt}
 use Rattle.cbor_judging.proofs.Places.{open-frames, one-place}
-use Rattle.cbor_judging.specs.Reading.{IsAt}
 use Rattle.cbor_steps.specs.State.{state_of}
 use Rattle.cbor_steps.specs.declared.frame.Frame as frames
 use Rattle.cbor_steps.specs.declared.position.Position.{Position}
@@ -25,11 +24,8 @@ open-is b e t q a =
     ∙ open-frames q
 
 pub fewer-open : (fs : List Container) → length (open_at (close fs)) ≤ length fs
-fewer-open [] = omega arith
 fewer-open (counted zero ∷ fs) = omega (arith, fewer-open fs)
-fewer-open (counted (suc n) ∷ fs) = omega arith
-fewer-open (indefinite_array ∷ fs) = omega arith
-fewer-open (indefinite_map b ∷ fs) = omega arith
+fewer-open _ = omega arith
 
 -- few bytes are taken
 pub short-at : (b : Bounds) (e : ItemEventsView) (t : List ℕ) (q : Place) → IsAt b e t q → length t < 2 ^ 64
@@ -39,11 +35,7 @@ short-at b e t q a = omega (arith, a.stands.stands.taken, a.stands.stands.limite
 
 pub done_position : (position : Position) (fr : List frames.Frame) → state_of position fr ≡ automaton.done → position ≡ positions.Done
 done_position positions.Done fr e = refl
-done_position positions.Item fr e = absurd (cc e)
-done_position (positions.Head chunk kind width left argument) fr e = absurd (cc e)
-done_position positions.SimpleNumber fr e = absurd (cc e)
-done_position (positions.Payload chunk kind left) fr e = absurd (cc e)
-done_position (positions.Chunks kind) fr e = absurd (cc e)
+done_position _ fr e = absurd (cc e)
 
 pub is-complete : (b : Bounds) (e : ItemEventsView) (t : List ℕ) → IsAt b e t done → IsComplete e.machine
 is-complete b e t a = (rw (done_position e.machine.inner.position e.machine.inner.frames a.state) at a.stands.stands.inner.shown.complete, a.stands.stands.live)

@@ -1,14 +1,12 @@
 -- From one event to the next: which it can be, its bytes, and where it leads.
-use Rattle.std.proofs.Common.{◌≡◌, ℕ, zero, suc, ◌+◌, ◌-◌, ◌<◌, ◌≤◌, ◌⊎◌, Bool, Option, Some, None, List, [], ◌∷◌, ◌++◌, length, refl, sym, ap, ◌∙◌, subst, inl, inr, arith, append_assoc, append-nil}
-use Rattle.std.proofs.lemmas.List.{length-append}
-use Rattle.std.specs.Prelude.{Ok}
+use Rattle.std.proofs.Common.{◌≡◌, ℕ, zero, ◌+◌, ◌-◌, ◌<◌, ◌≤◌, ◌⊎◌, Bool, Option, Some, None, List, [], ◌∷◌, ◌++◌, length, refl, sym, ap, ◌∙◌, subst, inl, inr, arith, append_assoc, append-nil, length-append, Ok}
 use Rattle.std.specs.Io.KnownBytes.{Consumes}
 use Rattle.cbor_head.specs.Limits.{Bounds, bounds}
 use Rattle.cbor_head.specs.Complaint.{Rules, form, strict, Complaint, complaint}
 use Rattle.cbor_head.specs.Beginning.{IsBeginning}
 use Rattle.cbor_head.specs.Verdict.{refused, IsVerdict}
 use Rattle.cbor_head.specs.declared.width.Width.{Width}
-use Rattle.cbor_head.specs.declared.width.Width.TheVariants.{Direct, One, Two, Four, Eight, Indefinite}
+use Rattle.cbor_head.specs.declared.width.Width.TheVariants.{Indefinite}
 use Rattle.cbor_head.specs.declared.order.KeyOrder.{KeyOrder}
 use Rattle.cbor_head.specs.declared.reason.Reason.{Reason}
 use Rattle.cbor_head.specs.declared.reason.Reason.TheVariants as reasons
@@ -33,10 +31,9 @@ use Rattle.cbor_steps.specs.declared.position.Position.TheVariants as positions
 use Rattle.cbor_steps.proofs.Frames.{position-done}
 use Rattle.cbor_automaton.proofs.Runs.{once-marks}
 use Rattle.cbor_automaton.proofs.Taking.{IsClear, mark-taken}
-use Rattle.cbor_judging.specs.Reading.{state_at}
+use Rattle.cbor_judging.specs.Reading.{state_at, IsAt, IsReached, OfMark, IsHeadDue, IsNextHead, IsCutHead, StopsHead, IsFault}
 use Rattle.cbor_judging.proofs.Places.{place_of, state-back, one-place, clear-at, taking-at}
 use Rattle.cbor_judging.proofs.ByteLists.{bytes_back}
-use Rattle.cbor_judging.specs.Reading.{IsAt, IsReached, OfMark, IsHeadDue, IsNextHead, IsCutHead, StopsHead, IsFault}
 use Rattle.cbor_standing.proofs.NextEvents.{whole-clear, run-rest}
 
 -- what has become of the limits
@@ -119,24 +116,12 @@ head-state done h = absurd h
 
 no_piece : (position : Position) (fs : List frames.Frame) (n : ℕ) → IsHeadState (state_of position fs) → item_events.IsDue (is_in_payload position) (kinds.Piece n) → ⊥
 no_piece positions.Item fs n h d = d
-no_piece (positions.Head chunk kind width left argument) fs n h d = h
-no_piece positions.SimpleNumber fs n h d = h
-no_piece (positions.Payload chunk kind left) fs n h d = h
 no_piece (positions.Chunks kind) fs n h d = d
-no_piece positions.Done fs n h d = h
+no_piece _ fs n h d = h
 
 once : (position : Position) (fs : List frames.Frame) (kind : EventKind) → IsHeadState (state_of position fs) → item_events.IsDue (is_in_payload position) kind → times kind ≡ 1
 once position fs (kinds.Piece n) h d = absurd (no_piece position fs n h d)
-once position fs (kinds.Unsigned n) h d = refl
-once position fs (kinds.Negative n) h d = refl
-once position fs (kinds.Simple n) h d = refl
-once position fs (kinds.Bytes n) h d = refl
-once position fs (kinds.Text n) h d = refl
-once position fs (kinds.Chunk n) h d = refl
-once position fs (kinds.Array n) h d = refl
-once position fs (kinds.Map n) h d = refl
-once position fs (kinds.Tag n) h d = refl
-once position fs kinds.End h d = refl
+once position fs _ h d = refl
 
 -- which event is due, by the inner state
 pub due-by : (b : Bounds) (e : ItemEventsView) (t : List ℕ) (q : Place) (kind : EventKind) → IsAt b e t q → item_events.IsDue e.machine.in_payload kind → item_events.IsDue (is_in_payload e.machine.inner.position) kind
@@ -159,40 +144,19 @@ head-taken b old new t q ev from to due a n same =
 
 pub head-size : (d : ℕ) (q next : Place) (m : Mark) (bs : List ℕ) (r : Rules) (at : ℕ) (reason : Reason) → IsTaking d q m bs next → IsFault r m reason → OfMark r at q m (complaint (at + length bs) at reason)
 head-size d (at_item fs) next (a_head m Indefinite n) bs r at reason h f = (f.0, ap (λ (x : Reason). complaint (at + length bs) at x) f.1 ∙ ap (λ (xs : List ℕ). complaint (at + length xs) at reasons.Indefinite) h.1)
-head-size d (at_item fs) next (a_head m Direct n) bs r at reason h f = (f.0, f.1.0, ap (λ (x : Reason). complaint (at + length bs) at x) f.1.1 ∙ ap (λ (xs : List ℕ). complaint (at + length xs) at reasons.NotShortest) h.0)
-head-size d (at_item fs) next (a_head m One n) bs r at reason h f = (f.0, f.1.0, ap (λ (x : Reason). complaint (at + length bs) at x) f.1.1 ∙ ap (λ (xs : List ℕ). complaint (at + length xs) at reasons.NotShortest) h.0)
-head-size d (at_item fs) next (a_head m Two n) bs r at reason h f = (f.0, f.1.0, ap (λ (x : Reason). complaint (at + length bs) at x) f.1.1 ∙ ap (λ (xs : List ℕ). complaint (at + length xs) at reasons.NotShortest) h.0)
-head-size d (at_item fs) next (a_head m Four n) bs r at reason h f = (f.0, f.1.0, ap (λ (x : Reason). complaint (at + length bs) at x) f.1.1 ∙ ap (λ (xs : List ℕ). complaint (at + length xs) at reasons.NotShortest) h.0)
-head-size d (at_item fs) next (a_head m Eight n) bs r at reason h f = (f.0, f.1.0, ap (λ (x : Reason). complaint (at + length bs) at x) f.1.1 ∙ ap (λ (xs : List ℕ). complaint (at + length xs) at reasons.NotShortest) h.0)
-head-size d (in_chunks k fs) next (a_chunk Direct n) bs r at reason h f = (f.0, f.1.0, ap (λ (x : Reason). complaint (at + length bs) at x) f.1.1 ∙ ap (λ (xs : List ℕ). complaint (at + length xs) at reasons.NotShortest) h.0)
-head-size d (in_chunks k fs) next (a_chunk One n) bs r at reason h f = (f.0, f.1.0, ap (λ (x : Reason). complaint (at + length bs) at x) f.1.1 ∙ ap (λ (xs : List ℕ). complaint (at + length xs) at reasons.NotShortest) h.0)
-head-size d (in_chunks k fs) next (a_chunk Two n) bs r at reason h f = (f.0, f.1.0, ap (λ (x : Reason). complaint (at + length bs) at x) f.1.1 ∙ ap (λ (xs : List ℕ). complaint (at + length xs) at reasons.NotShortest) h.0)
-head-size d (in_chunks k fs) next (a_chunk Four n) bs r at reason h f = (f.0, f.1.0, ap (λ (x : Reason). complaint (at + length bs) at x) f.1.1 ∙ ap (λ (xs : List ℕ). complaint (at + length xs) at reasons.NotShortest) h.0)
-head-size d (in_chunks k fs) next (a_chunk Eight n) bs r at reason h f = (f.0, f.1.0, ap (λ (x : Reason). complaint (at + length bs) at x) f.1.1 ∙ ap (λ (xs : List ℕ). complaint (at + length xs) at reasons.NotShortest) h.0)
+head-size d (at_item fs) next (a_head m w n) bs r at reason h f = (f.0, f.1.0, ap (λ (x : Reason). complaint (at + length bs) at x) f.1.1 ∙ ap (λ (xs : List ℕ). complaint (at + length xs) at reasons.NotShortest) h.0)
 head-size d (in_chunks k fs) next (a_chunk Indefinite n) bs r at reason h f = absurd h.1
-head-size d (at_item fs) next (a_chunk w n) bs r at reason h f = absurd h
+head-size d (in_chunks k fs) next (a_chunk w n) bs r at reason h f = (f.0, f.1.0, ap (λ (x : Reason). complaint (at + length bs) at x) f.1.1 ∙ ap (λ (xs : List ℕ). complaint (at + length xs) at reasons.NotShortest) h.0)
 head-size d q next a_byte bs r at reason h f = absurd f.1
 head-size d q next a_break bs r at reason h f = absurd f.1
-head-size d (in_chunks k fs) next (a_head m w n) bs r at reason h f = absurd h
-head-size d (in_payload c k zero fs) next (a_head m w n) bs r at reason h f = absurd h
-head-size d (in_payload c k (suc x) fs) next (a_head m w n) bs r at reason h f = absurd h
-head-size d (in_payload c k zero fs) next (a_chunk w n) bs r at reason h f = absurd h
-head-size d (in_payload c k (suc x) fs) next (a_chunk w n) bs r at reason h f = absurd h
-head-size d done next m bs r at reason h f = absurd h
+head-size d (in_payload c k zero fs) next _ bs r at reason h f = absurd h
+head-size d _ next _ bs r at reason h f = absurd h
 
 pub fault_of : (q : Place) (m : Mark) (r : Rules) (at : ℕ) (c : Complaint) → OfMark r at q m c → (reason : Reason) × IsFault r m reason
 fault_of (at_item fs) (a_head m Indefinite n) r at c h = (reasons.Indefinite, (h.0, refl))
-fault_of (at_item fs) (a_head m Direct n) r at c h = (reasons.NotShortest, (h.0, (h.1, refl)))
-fault_of (at_item fs) (a_head m One n) r at c h = (reasons.NotShortest, (h.0, (h.1, refl)))
-fault_of (at_item fs) (a_head m Two n) r at c h = (reasons.NotShortest, (h.0, (h.1, refl)))
-fault_of (at_item fs) (a_head m Four n) r at c h = (reasons.NotShortest, (h.0, (h.1, refl)))
-fault_of (at_item fs) (a_head m Eight n) r at c h = (reasons.NotShortest, (h.0, (h.1, refl)))
-fault_of (in_chunks k fs) (a_chunk Direct n) r at c h = (reasons.NotShortest, (h.0, (h.1, refl)))
-fault_of (in_chunks k fs) (a_chunk One n) r at c h = (reasons.NotShortest, (h.0, (h.1, refl)))
-fault_of (in_chunks k fs) (a_chunk Two n) r at c h = (reasons.NotShortest, (h.0, (h.1, refl)))
-fault_of (in_chunks k fs) (a_chunk Four n) r at c h = (reasons.NotShortest, (h.0, (h.1, refl)))
-fault_of (in_chunks k fs) (a_chunk Eight n) r at c h = (reasons.NotShortest, (h.0, (h.1, refl)))
+fault_of (at_item fs) (a_head m w n) r at c h = (reasons.NotShortest, (h.0, (h.1, refl)))
 fault_of (in_chunks k fs) (a_chunk Indefinite n) r at c h = (reasons.Indefinite, (h.0, refl))
+fault_of (in_chunks k fs) (a_chunk w n) r at c h = (reasons.NotShortest, (h.0, (h.1, refl)))
 fault_of _ _ _ at c h = absurd h
 
 -- ---- as the reader meets them
@@ -333,12 +297,4 @@ open-fault o w kind e h = subst (λ (v : Width). IsFault (strict o) (mark_of v k
     go : (kind : EventKind) → IsHeadKind kind → IsFault (strict o) (mark_of Indefinite kind) reasons.Indefinite
     go (kinds.Piece n) h = absurd h
     go kinds.End h = absurd h
-    go (kinds.Unsigned n) h = (refl, refl)
-    go (kinds.Negative n) h = (refl, refl)
-    go (kinds.Simple n) h = (refl, refl)
-    go (kinds.Bytes n) h = (refl, refl)
-    go (kinds.Text n) h = (refl, refl)
-    go (kinds.Chunk n) h = (refl, refl)
-    go (kinds.Array n) h = (refl, refl)
-    go (kinds.Map n) h = (refl, refl)
-    go (kinds.Tag n) h = (refl, refl)
+    go _ h = (refl, refl)

@@ -1,12 +1,12 @@
 -- What was found of the one item that an input starts with is its verdict.
 use Rattle.std.proofs.Common.{ℕ, ◌+◌, ◌-◌, ◌≡◌, ◌<◌, ◌≤◌, ◌⊎◌, Option, Some, None, List, [], ◌∷◌, ◌++◌, length, take, drop, refl, sym, ap, ◌∙◌, arith, subst, inl, inr, append_assoc, append-nil, take-append-drop}
-use Rattle.std.proofs.Math.Seq.{take-append_seam, drop-append_seam, take-append-add}
+use Rattle.std.proofs.Math.Seq.{take-append_seam, drop-append_seam}
 use Rattle.std.proofs.lemmas.Bool.{cases_lt}
 use Rattle.std.proofs.lemmas.List.{length-append, nil_from_length}
 use Rattle.std.specs.Io.KnownBytes.{Consumes, IsAtEnd}
-use Rattle.cbor_head.specs.Limits.{Bounds}
+use Rattle.cbor_head.specs.Limits.{Bounds, AreBounds}
 use Rattle.cbor_head.specs.Value.{Value}
-use Rattle.cbor_head.specs.Laws.{StartsWith}
+use Rattle.cbor_head.specs.Laws.{StartsWith, IsWithout}
 use Rattle.cbor_head.specs.Spelling.{Spelling, spell, IsItem}
 use Rattle.cbor_head.specs.Beginning.{IsLongestBeginning}
 use Rattle.cbor_head.specs.Complaint.{Rules, Complaint, complaint, form, OfKinds, IsComplaint}
@@ -16,25 +16,40 @@ use Rattle.cbor_head.specs.declared.reason.Reason.TheVariants.{Truncated, Read, 
 use Rattle.cbor_head.specs.declared.reason.Refusal.{Refusal}
 use Rattle.cbor_grammar.proofs.Agree.{split_front}
 use Rattle.cbor_grammar.proofs.Beginnings.{item_decides}
+use Rattle.cbor_automaton.proofs.Runs.{take-behind}
 use Rattle.cbor_standing.proofs.Form.{never}
-use Rattle.cbor_standing.specs.NextEvent.{ItemEventsView}
+use Rattle.cbor_standing.specs.NextEvent.{ItemEventsView, StandsBetween}
 use Rattle.cbor_judging.specs.Judged.{IsJudged}
 use Rattle.cbor_judging.specs.Kinds.{AsksForKinds, KeepsToKinds}
 use Rattle.cbor_judging.specs.Readers.{IsReadAs, IsUnread, of_verdict, of_reader, of_memory, Loses}
-use Rattle.cbor_judging.specs.Reading.{IsReached, IsMemory, IsCause, HasCause, Extends, ReadsItem, IsUndecided, StopsItem}
+use Rattle.cbor_judging.specs.Reading.{IsReached, IsMemory, IsCause, HasCause, Extends, ReadsItem, IsUndecided, StopsItem, IsFrontUnread, IsAt}
 use Rattle.cbor_judging.specs.Refusals.{IsFreeBefore}
-use Rattle.cbor_judging.proofs.FreeBefore.{front-free}
 use Rattle.cbor_judging.proofs.Decisions.{whole_beside, complaint_decides, break_decides, kind_decides}
-use Rattle.cbor_judging.proofs.KindSteps.{KeepsBefore}
+use Rattle.cbor_judging.proofs.KindFrames.{KeepsBefore}
 use Rattle.cbor_judging.proofs.SpelledBytes.{longest_always}
+use Rattle.cbor_grammar.proofs.Complaints.{complaints_told}
+use Rattle.std.specs.Option.{IfSome}
+use Rattle.cbor_judging.specs.Place.{at_item}
+use Rattle.cbor_judging.proofs.Reasons.{reader-reason}
+
+-- ---- no complaint ends before a place of an input's longest beginning
+
+-- where one item has no complaint within q, none that starts with q has
+pub front-free : (limits : Bounds) (r : Rules) (q p k : List ℕ) (s : Spelling) (rest : List ℕ) (place : ℕ) → IsItem limits.depth s (q ++ rest) → p ≡ q ++ k → ((c : Complaint) → IsComplaint limits r s c → length q < c.end)
+    → place ≤ length q + 1 → IsFreeBefore limits r p place
+front-free limits r q p k s rest place item is none l = λ z c start holds.
+    let bytes_are : p ++ start.0 ≡ q ++ (k ++ start.0) = ap (λ (u : List ℕ). u ++ start.0) is ∙ append_assoc q k start.0 in
+    elim (cases_lt (length q) c.end) [
+      | inl h ↦ omega (arith, h, l)
+      | inr h ↦
+          let found = (complaints_told limits r).agree limits.depth z s q (k ++ start.0) rest (subst (IsItem limits.depth z) bytes_are start.1) item c h holds in
+          absurd (omega (arith, h, none c found))
+    ]
+
+pub without : (limits : Bounds) (r : Rules) (s : Spelling) (t : ℕ) → IsWithout limits r s t → (c : Complaint) → IsComplaint limits r s c → t < c.end
+without limits r s t h c g = elim (cases_lt t c.end) [ inl l ↦ l | inr l ↦ absurd (h c g l) ]
 
 -- ---- the first n bytes
-
--- of more than it has
-cut_behind : (n : ℕ) (p rest : List ℕ) → length p ≤ n → take n (p ++ rest) ≡ p ++ take (n - length p) rest
-cut_behind n p rest l =
-    let e : n ≡ length p + (n - length p) = omega (arith, l) in
-    ap (λ (k : ℕ). take k (p ++ rest)) e ∙ take-append-add p rest (n - length p)
 
 -- two fronts of one length
 same_front : (p q x y : List ℕ) → p ++ x ≡ q ++ y → length p ≡ length q → p ≡ q
@@ -106,7 +121,7 @@ module _ (r : Rules) (b : Bounds) (input : List ℕ) (from to : Option (List ℕ
       read = record {
         item = i.item;
         verdict = item_decides (IsComplaint b r) b input (take (b.bytes - length (spell i.item)) gone.rest) i.item whole
-            (ap (take b.bytes) gone.splits ∙ cut_behind b.bytes (spell i.item) gone.rest fits)
+            (ap (take b.bytes) gone.splits ∙ take-behind b.bytes (spell i.item) gone.rest fits)
             (whole_beside b r i.item whole keeps i.clean);
         size = refl;
       };
@@ -127,7 +142,7 @@ module _ (r : Rules) (b : Bounds) (input : List ℕ) (from to : Option (List ℕ
 
     -- the bytes taken are within the longest beginning, if they are one
     short : IsReached b s.bytes → (p : List ℕ) → IsLongestBeginning b.depth (take b.bytes input) p → f.read ≤ length p
-    short h p g = omega (arith, read-is, g.longest s.bytes (take (b.bytes - length s.bytes) left.rest) h.begins (ap (take b.bytes) left.splits ∙ cut_behind b.bytes s.bytes left.rest h.within))
+    short h p g = omega (arith, read-is, g.longest s.bytes (take (b.bytes - length s.bytes) left.rest) h.begins (ap (take b.bytes) left.splits ∙ take-behind b.bytes s.bytes left.rest h.within))
 
     flat : (reason : Reason) → f.reason ≡ reason → f.place ≡ f.read → f ≡ refusal reason f.read f.read
     flat reason e g = ap (λ (x : Reason). refusal x f.place f.read) e ∙ ap (λ (k : ℕ). refusal reason k f.read) g
@@ -135,7 +150,7 @@ module _ (r : Rules) (b : Bounds) (input : List ℕ) (from to : Option (List ℕ
     -- where all but the last byte taken tells nothing against the item, no complaint ends before
     free : IsReached b s.bytes → (u : IsUndecided r b [] [] s.bytes) → KeepsToKinds b r u.p → (p : List ℕ) → IsLongestBeginning b.depth (take b.bytes input) p → IsFreeBefore b r p f.read
     free h u keeps p g =
-        let front : take b.bytes input ≡ s.bytes ++ take (b.bytes - length s.bytes) left.rest = ap (take b.bytes) left.splits ∙ cut_behind b.bytes s.bytes left.rest h.within in
+        let front : take b.bytes input ≡ s.bytes ++ take (b.bytes - length s.bytes) left.rest = ap (take b.bytes) left.splits ∙ take-behind b.bytes s.bytes left.rest h.within in
         let (k, is, other) = split_front s.bytes (take (b.bytes - length s.bytes) left.rest) p g.rest (sym front ∙ g.splits) (omega (arith, read-is, short h p g)) in
         let item : IsItem b.depth u.judged.item (u.p ++ u.judged.rest) = subst (λ (m : ℕ). IsItem m u.judged.item (u.p ++ u.judged.rest)) level u.judged.is in
         front-free b r u.p p (u.last ++ k) u.judged.item u.judged.rest f.read item (is ∙ ap (λ (v : List ℕ). v ++ k) u.splits ∙ append_assoc u.p u.last k)
@@ -165,7 +180,7 @@ module _ (r : Rules) (b : Bounds) (input : List ℕ) (from to : Option (List ℕ
           let g = longest_always b.depth (take b.bytes input) in
           of_verdict (subst (λ (x : Refusal). IsVerdict b r input (refused x)) (sym is)
           (complaint_decides b r input p (take (b.bytes - length p) (last ++ left.rest)) g.0 c j keeps
-          (ap (take b.bytes) input-is ∙ cut_behind b.bytes p (last ++ left.rest) (omega (arith, l, shorter))) g.1))
+          (ap (take b.bytes) input-is ∙ take-behind b.bytes p (last ++ left.rest) (omega (arith, l, shorter))) g.1))
 
       -- the input ends, or the reader failed, within an item
       cut : IsJudged r 0 b.depth p None → f.place ≡ length p → IsVerdict b form s.bytes (refused (refusal Truncated (length s.bytes) (length s.bytes))) → f.place ≡ f.read
@@ -213,7 +228,7 @@ module _ (r : Rules) (b : Bounds) (input : List ℕ) (from to : Option (List ℕ
       let front = p ++ x ∷ [] in
       let gone = lost input front from to known taken in
       let g = longest_always b.depth (take b.bytes input) in
-      of_verdict (kind_decides b r input p (take (b.bytes - length front) gone.rest) g.0 x s asked j keeps begins o (ap (take b.bytes) gone.splits ∙ cut_behind b.bytes front gone.rest l) g.1)
+      of_verdict (kind_decides b r input p (take (b.bytes - length front) gone.rest) g.0 x s asked j keeps begins o (ap (take b.bytes) gone.splits ∙ take-behind b.bytes front gone.rest l) g.1)
 
 -- ---- what the reader lost
 
@@ -224,3 +239,20 @@ loses bs k (Some xs) to e h =
       g.left ∙ ap Some (sym (ap (drop k) g.splits ∙ ap (λ (j : ℕ). drop j (bs ++ g.rest)) e ∙ drop-append_seam bs g.rest)),
       omega (arith, e, ap length g.splits, length-append bs g.rest),
     )
+
+-- ---- each reader is told what was found, and of its known bytes
+
+-- before the first byte
+pub starts-at : (b : Bounds) (e : ItemEventsView) → AreBounds b → e.refusal ≡ None → (e.machine.depth ≡ b.depth) × (e.machine.bytes ≡ b.bytes) → StandsBetween e.machine [] [] → IsAt b e [] (at_item [])
+starts-at b e l live limits s = record { live = live; limits = l; depth = limits.0; bytes = limits.1; marks = []; stands = s; state = sym (cc (s.stands.inner.ran)) }
+
+pub known : (from : Option (List ℕ)) (P : List ℕ → Type 0) → ((input : List ℕ) → from ≡ Some input → P input) → IfSome from P
+known None P f = tt
+known (Some input) P f = f input refl
+
+pub front-unread : (r : Rules) (b : Bounds) (from to : Option (List ℕ)) (f : Refusal) → (s : StopsItem r b [] [] [] from to f) → KeepsBefore r b s.bytes to f s.why → IsFrontUnread r b from to f
+front-unread r b from to f s keeps = record {
+  refused = known from (λ input. IsUnread b r input f) (λ input k. item-unread r b input from to k f s keeps);
+  reason = reader-reason r b b [] [] [] from to f s;
+  taken = loses s.bytes f.read from to s.read s.taken;
+}

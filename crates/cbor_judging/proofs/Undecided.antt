@@ -1,6 +1,5 @@
 -- Where memory is refused: all but the last byte taken tells nothing against the item.
-use Rattle.std.proofs.Common.{ℕ, ◌-◌, ◌≡◌, ◌<◌, ◌≤◌, Option, List, [], ◌∷◌, ◌++◌, length, refl, sym, ap, ◌∙◌, append_assoc, arith, subst}
-use Rattle.std.proofs.lemmas.List.{length-append}
+use Rattle.std.proofs.Common.{ℕ, ◌-◌, ◌≡◌, ◌<◌, ◌≤◌, Option, List, [], ◌∷◌, ◌++◌, length, refl, sym, ap, ◌∙◌, append_assoc, arith, subst, length-append}
 use Rattle.cbor_head.specs.Limits.{Bounds}
 use Rattle.cbor_head.specs.Value.{Value, AreBytes}
 use Rattle.cbor_head.specs.Head.{head}
@@ -70,14 +69,11 @@ pub head-item : (d : ℕ) (fs : List Container) (m : Major) (w : Width) (n : ℕ
 head-item d fs m w n x next i = go m i.follows
   where
     go : (m : Major) → Follows d fs m w n next → Headed (d - length fs) (head m w n)
-    go majors.Unsigned f = headed (d - length fs) majors.Unsigned w n tt i.holds (omega arith)
-    go majors.Negative f = headed (d - length fs) majors.Negative w n tt i.holds (omega arith)
-    go majors.Bytes f = headed (d - length fs) majors.Bytes w n tt i.holds (omega arith)
-    go majors.Text f = headed (d - length fs) majors.Text w n tt i.holds (omega arith)
     go majors.Array f = headed (d - length fs) majors.Array w n tt i.holds (omega (arith, f.0))
     go majors.Map f = headed (d - length fs) majors.Map w n tt i.holds (omega (arith, f.0))
     go majors.Tag f = headed (d - length fs) majors.Tag w n tt i.holds (omega (arith, f.0))
     go majors.Simple f = record { item = simple n; spelled = f.0; within = omega arith; head_is = ap (λ (v : Width). head majors.Simple v n) (sym f.1) }
+    go m f = headed (d - length fs) m w n tt i.holds (omega arith)
 
 pub head-undecided : (r : Rules) (b : Bounds) (fs : List Container) (t x : List ℕ) → Headed (b.depth - length fs) x → 0 < length x → IsUndecided r b fs t x
 head-undecided r b fs t x h some =

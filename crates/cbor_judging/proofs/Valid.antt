@@ -1,8 +1,7 @@
 -- The value of an item of fewer than 2^64 bytes is in range, and of one without plain complaint valid.
-use Rattle.std.proofs.Common.{ℕ, ◌+◌, ◌^◌, ◌≡◌, ◌<◌, ◌≤◌, ◌⊎◌, List, [], ◌∷◌, ◌++◌, length, flat_map, refl, arith, subst, inl, inr, IsUtf8}
+use Rattle.std.proofs.Common.{sym, ℕ, ◌+◌, ◌^◌, ◌<◌, ◌≤◌, List, [], ◌∷◌, ◌++◌, length, flat_map, refl, arith, subst, inl, inr, IsUtf8, length-append}
 use Rattle.std.specs.List.{AllByRecursion}
 use Rattle.std.proofs.lemmas.Str.{IsUtf8-append, IsUtf8-nil}
-use Rattle.std.proofs.lemmas.List.{length-append}
 use Rattle.cbor_head.specs.Head.{head}
 use Rattle.cbor_head.specs.Value.{Value, AreBytes, HasEntry, HasDistinctKeys, Same, IsInRange, AreInRange, AreEntriesInRange, IsValid, AreValid, AreEntriesValid}
 use Rattle.cbor_head.specs.Spelling.{Chunk, IsChunk, Spelling, Spellings, SpelledEntries, unsigned, negative, bytes, text, byte_chunks, text_chunks, array, a_map, tag, simple, no_spellings, a_spelling, no_entries, entry, spell, spell_all, spell_entries, spellings_count, entries_count, value_of, values_of, entries_of, chunks_joined, chunk_bytes, chunked, break_of, IsSpelled, AreSpelled, AreEntriesSpelled}
@@ -15,6 +14,7 @@ use Rattle.cbor_grammar.proofs.ReadLaws.{length_spell}
 use Rattle.cbor_canonical.proofs.Stable.{utf8_stable}
 use Rattle.cbor_judging.specs.Judged.{Never}
 use Rattle.cbor_judging.proofs.ByteLists.{bytes_join}
+use Rattle.cbor_judging.proofs.Levels.{Among}
 
 -- ---- counts
 
@@ -48,13 +48,9 @@ joined_text (k ∷ ks) at f =
 
 -- ---- keys
 
-abbrev Among : Spelling → List Spelling → Type 0
-Among b [] = ⊥
-Among b (x ∷ xs) = (b ≡ x) ⊎ Among b xs
-
 is_repeated : (b k : Spelling) (ks : List Spelling) → Among b ks → Same (value_of b) (value_of k) → IsRepeated ks k
 is_repeated b k [] m s = absurd m
-is_repeated b k (x ∷ xs) (inl e) s = inl (subst (λ (x : Spelling). Same (value_of x) (value_of k)) e s)
+is_repeated b k (x ∷ xs) (inl e) s = inl (subst (λ (x : Spelling). Same (value_of x) (value_of k)) (sym e) s)
 is_repeated b k (x ∷ xs) (inr m) s = inr (is_repeated b k xs m s)
 
 -- no key of es is the same as one before
@@ -102,16 +98,12 @@ mutual
 
 mutual
   pub valid_of : (s : Spelling) (at : ℕ) → Never (Complains plain at s) → IsValid (value_of s)
-  valid_of (unsigned w n) at f = tt
-  valid_of (negative w n) at f = tt
-  valid_of (bytes w q) at f = tt
   valid_of (text w q) at f = utf8_stable q (λ n. f _ (inr (refl, n, refl)))
-  valid_of (byte_chunks cs) at f = tt
   valid_of (text_chunks cs) at f = joined_text cs (at + 1) (λ c x. f c (inr x))
   valid_of (array w ss) at f = valid_all ss _ (λ c x. f c (inr x))
   valid_of (a_map w es) at f = valid_entries es [] _ (λ c x. f c (inr x))
   valid_of (tag w n s) at f = valid_of s _ (λ c x. f c (inr x))
-  valid_of (simple n) at f = tt
+  valid_of _ at f = tt
 
   valid_all : (ss : Spellings) (at : ℕ) → Never (ComplainsIn plain at ss) → AreValid (values_of ss)
   valid_all no_spellings at f = tt

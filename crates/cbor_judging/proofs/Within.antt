@@ -1,6 +1,5 @@
 -- Where refusals stand: a place is no later than the end, and the end no later than the input's or the limit.
-use Rattle.std.proofs.Common.{ℕ, ◌+◌, ◌≤◌, List, [], ◌∷◌, length, take, ap, ◌∙◌, arith, inl, inr}
-use Rattle.std.proofs.lemmas.List.{length-append, length-take}
+use Rattle.std.proofs.Common.{ℕ, ◌+◌, ◌≤◌, List, [], ◌∷◌, length, take, ap, ◌∙◌, arith, inl, inr, length-append, length-take}
 use Rattle.std.proofs.lemmas.Str.{utf8_valid_len_le}
 use Rattle.cbor_head.specs.Limits.{Bounds}
 use Rattle.cbor_head.specs.Spelling.{Chunk, Spelling, Spellings, SpelledEntries, unsigned, negative, bytes, text, byte_chunks, text_chunks, array, a_map, tag, simple, no_spellings, a_spelling, no_entries, entry, spellings_count, entries_count, chunk_bytes}
@@ -12,7 +11,7 @@ use Rattle.cbor_head.specs.declared.major.Major.TheVariants.{Unsigned, Negative,
 use Rattle.cbor_head.specs.declared.reason.Refusal.{Refusal}
 use Rattle.cbor_head.specs.declared.width.Width.{Width}
 use Rattle.cbor_head.specs.declared.width.Width.TheVariants.{Indefinite}
-use Rattle.cbor_grammar.proofs.KeyKinds.{kind_is}
+use Rattle.cbor_grammar.proofs.KeyKinds.{of_kind}
 use Rattle.cbor_judging.specs.Refusals.{StandsWithin}
 
 -- ---- complaints
@@ -78,7 +77,7 @@ mutual
 
 complaint_place : (limits : Bounds) (r : Rules) (s : Spelling) (c : Complaint) → IsComplaint limits r s c → c.place ≤ c.end
 complaint_place limits r s c (inl h) = place_by_end s r 0 c h
-complaint_place limits r s c (inr h) = omega (arith, ap (λ (x : Complaint). x.end) (kind_is s 0 c h.2))
+complaint_place limits r s c (inr h) = omega (arith, ap (λ (x : Complaint). x.end) ((of_kind s 0 c h.2).is))
 
 -- ---- refusals
 

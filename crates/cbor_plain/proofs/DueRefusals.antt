@@ -1,6 +1,5 @@
 -- What is refused where an item is due: its head, what is behind it, or the first byte of a key of another kind.
-use Rattle.std.proofs.Common.{◌≡◌, ◌≢◌, ℕ, ◌+◌, ◌-◌, ◌^◌, ◌/◌, ◌<◌, ◌≤◌, Option, None, List, [], ◌∷◌, ◌++◌, length, map, refl, sym, ap, ◌∙◌, subst, inl, inr, arith, append-nil}
-use Rattle.std.specs.Prelude.{IsTrue, IsSome}
+use Rattle.std.proofs.Common.{◌≡◌, ◌≢◌, ℕ, ◌+◌, ◌-◌, ◌^◌, ◌/◌, ◌<◌, ◌≤◌, Option, None, List, [], ◌∷◌, ◌++◌, length, map, refl, sym, ap, ◌∙◌, subst, inl, inr, arith, append-nil, IsTrue, IsSome}
 use Rattle.std.specs.Io.KnownBytes.{Consumes}
 use Rattle.std.proofs.lemmas.List.{length-append, length-map}
 use Rattle.cbor_head.specs.Beginning.{MayFollow}
@@ -23,9 +22,9 @@ use Rattle.cbor_plain.specs.inner.ItemFront.{IsDueAt, IsStopped, WhyStopped, for
 use Rattle.cbor_plain.specs.inner.PlainItems.{AreApart}
 use Rattle.cbor_judging.proofs.Items.{cause-in, cause-front, undecided-in, undecided-front, cut-judged}
 use Rattle.cbor_judging.proofs.Judged.{judged_start}
-use Rattle.cbor_judging.proofs.KindBytes.{Begins, keeps_due, judged_begins, one_head_front, silent_is_one}
-use Rattle.cbor_judging.proofs.KindLevels.{other_key}
-use Rattle.cbor_judging.proofs.KindStarts.{byte_begins}
+use Rattle.cbor_judging.proofs.KindBytes.{Begins, keeps_due, judged_begins, one_head_front, silent_is_one, byte_begins}
+use Rattle.cbor_judging.proofs.LevelFrames.{around_levels}
+use Rattle.cbor_judging.proofs.KindFrames.{other_key}
 use Rattle.cbor_judging.proofs.Steps.{fault_of}
 use Rattle.cbor_plain.proofs.PartKinds.{basic-front}
 use Rattle.cbor_plain.proofs.PathFrames.{found_within}
@@ -58,7 +57,7 @@ module _ (v : PlainItems) (b : Bounds) (e : ItemEventsView) (t : List ℕ) (d : 
   keeps-judged : (x : List ℕ) (found : Option Complaint) → IsJudged plain (length due-before) (b.depth - length gs) x found → IsOfOneHead x → IsBasicDue x → KeepsToKinds b plain (due-before ++ x)
   keeps-judged x found j one basic =
       let begins = judged_begins plain (length due-before) (b.depth - length d.ls) x found (subst (λ (n : ℕ). IsJudged plain (length due-before) (b.depth - n) x found) (length-map d.ls frame) j) in
-      keeps_due b plain d.ls d.levels x begins one basic due-keeps
+      keeps_due b plain (around_levels b.depth d.ls d.levels) x begins one basic due-keeps
 
   keeps-split : (bytes x last : List ℕ) (found : Option Complaint) → bytes ≡ x ++ last → IsJudged plain (length due-before) (b.depth - length gs) x found → IsOfOneHead bytes → IsBasicDue bytes → KeepsToKinds b plain (due-before ++ x)
   keeps-split bytes x last found e j one basic =
@@ -110,7 +109,7 @@ module _ (v : PlainItems) (b : Bounds) (e : ItemEventsView) (t : List ℕ) (d : 
       let same = ap length d.taken in
       let size = length-append due-before (first ∷ []) in
       let g = subst (λ (n : ℕ). Begins (b.depth - n) (first ∷ [])) (length-map d.ls frame) (byte_begins b e t gs first d.at follows item) in
-      let k = other_key b plain d.ls d.levels g.item first g.rest g.spelled g.within g.bytes due (λ basic. other (basic_byte g.item g.spelled first [] g.rest (append-nil (spell g.item) ∙ g.bytes) basic)) in
+      let k = other_key b plain (around_levels b.depth d.ls d.levels) g.item first g.rest g.spelled g.within g.bytes due (λ basic. other (basic_byte g.item g.spelled first [] g.rest (append-nil (spell g.item) ∙ g.bytes) basic)) in
       let at : f ≡ refusal KeyKind (length due-before) (length due-before + 1) = is ∙ ap (λ (n : ℕ). refusal KeyKind n (n + 1)) same in
       stopped-before (first ∷ []) from to f consumed (ap (λ (x : Refusal). x.read) at ∙ sym size)
       (for_kind (record {

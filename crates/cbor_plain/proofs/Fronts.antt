@@ -16,8 +16,7 @@ use Rattle.cbor_canonical.proofs.Sound.{sound}
 use Rattle.cbor_canonical.proofs.Depth.{depth-value_of}
 use Rattle.cbor_judging.specs.Judged.{Never}
 use Rattle.cbor_plain.proofs.Sizes.{size_bounded}
-use Rattle.cbor_judging.proofs.Tops.{item-read, loses}
-use Rattle.cbor_judging.proofs.Fronts.{known}
+use Rattle.cbor_judging.proofs.Tops.{item-read, loses, known}
 
 -- the value of an item without complaint has canonical bytes
 canonical-of : (s : Spelling) → IsSpelled s → length (spell s) < 2 ^ 64 → Never (Complains plain 0 s) → depth s ≤ MAX_DEPTH → HasCanonicalBytes (value_of s)

@@ -1,5 +1,5 @@
 -- Sets of the keys of open containers: what an item's parts do to them.
-use Rattle.std.proofs.Common.{◌≡◌, ℕ, ◌<◌, ◌≤◌, ◌⊎◌, ◌↔◌, Bool, true, false, not, List, [], ◌∷◌, ◌++◌, length, refl, sym, ap, ◌∙◌, subst, inl, inr, arith, Vec, Global}
+use Rattle.std.proofs.Common.{◌≡◌, ℕ, ◌<◌, ◌≤◌, ◌⊎◌, ◌↔◌, Bool, true, false, not, List, [], ◌∷◌, ◌++◌, length, refl, sym, ap, ◌∙◌, subst, inl, inr, arith, Vec, Global, map}
 use Rattle.std.specs.Ordering.{nat_cmp}
 use Rattle.std.specs.Cmp.Lexicographic.{slice_cmp}
 use Rattle.std.specs.BTreeSet.{BTreeSet, Updates}
@@ -10,14 +10,13 @@ use Rattle.cbor_head.specs.declared.major.Major.TheVariants as majors
 use Rattle.cbor_head.specs.declared.order.KeyOrder.{KeyOrder}
 use Rattle.cbor_judging.specs.Place.{Place, Ends}
 use Rattle.cbor_builder.specs.Built.{HasKey, IsRepeatedKey, IsWaitingKey, IsContainer}
-use Rattle.cbor_canonical.specs.Parts.{Open, plain, an_array, a_map, a_key, a_string, pair, closed, give, close, opened}
+use Rattle.cbor_canonical.specs.Parts.{Open, plain, a_key, pair, closed, give, close, opened}
 use Rattle.cbor_plain.specs.declared.key_set.KeySet.{KeySet}
 use Rattle.cbor_plain.specs.inner.HeldKeys.{is_in, IsAmong, HasKeyBytes, IsAdded, pair_keys, keys_before, AreHeld, AreHeldSoFar}
 use Rattle.cbor_judging.specs.Levels as levels
 use Rattle.cbor_judging.specs.Levels.{Level, frame}
 use Rattle.cbor_judging.specs.Given.{level_open, opens}
 use Rattle.cbor_plain.proofs.KeySets.{not_both, in_more, opposite}
-use Rattle.std.specs.Prelude.{map}
 
 -- ---- one key more in a set
 
@@ -72,11 +71,8 @@ pub held-given : (b : List ℕ) (ss : List KeySet) (os : List Open) → AreHeld 
 held-given b [] [] h = tt
 held-given b [] (c ∷ os) h = absurd h
 held-given b (s ∷ ss) [] h = absurd h
-held-given b (s ∷ ss) (plain bs ∷ os) h = h
-held-given b (s ∷ ss) (an_array n bs ∷ os) h = h
-held-given b (s ∷ ss) (a_map ps ∷ os) h = h
 held-given b (s ∷ ss) (a_key ps k ∷ os) h = (same-keys s (k ∷ pair_keys ps) (pair_keys (ps ++ pair k b ∷ [])) (among-more ps k b) h.0, h.1)
-held-given b (s ∷ ss) (a_string m bs ∷ os) h = h
+held-given b (s ∷ ss) (_ ∷ os) h = h
 
 pub held-closed : (o : KeyOrder) (s : KeySet) (ss : List KeySet) (os : List Open) → AreHeldSoFar (s ∷ ss) os → AreHeldSoFar ss (close o os)
 held-closed o s ss [] h = absurd h
@@ -86,11 +82,7 @@ pub held-opened : (m : Major) (n : ℕ) (s : KeySet) (ss : List KeySet) (os : Li
 held-opened majors.Array n s ss os i e h = (e, h)
 held-opened majors.Map n s ss os i e h = (e, h)
 held-opened majors.Tag n s ss os i e h = (e, h)
-held-opened majors.Unsigned n s ss os i e h = absurd i
-held-opened majors.Negative n s ss os i e h = absurd i
-held-opened majors.Bytes n s ss os i e h = absurd i
-held-opened majors.Text n s ss os i e h = absurd i
-held-opened majors.Simple n s ss os i e h = absurd i
+held-opened _ n s ss os i e h = absurd i
 
 -- no key waits where a break may come
 pub held-broken : (o : KeyOrder) (ss : List KeySet) (ls : List Level) (next : Place) → Ends (map frame ls) next → AreHeld ss (opens o ls) → AreHeldSoFar ss (opens o ls)
@@ -98,11 +90,7 @@ held-broken o ss [] next e h = absurd e
 held-broken o [] (l ∷ ls) next e h = absurd h
 held-broken o (s ∷ ss) (levels.some_member done ∷ ls) next e h = h
 held-broken o (s ∷ ss) (levels.some_key done ∷ ls) next e h = h
-held-broken o (s ∷ ss) (levels.some_value done k ∷ ls) next e h = absurd e
-held-broken o (s ∷ ss) (levels.a_member w left done ∷ ls) next e h = absurd e
-held-broken o (s ∷ ss) (levels.a_key w left done ∷ ls) next e h = absurd e
-held-broken o (s ∷ ss) (levels.a_value w left done k ∷ ls) next e h = absurd e
-held-broken o (s ∷ ss) (levels.tagged w n ∷ ls) next e h = absurd e
+held-broken o (s ∷ ss) (_ ∷ ls) next e h = absurd e
 
 -- ---- the key that has just come
 
@@ -110,11 +98,8 @@ pub none-waits : (ss : List KeySet) (os : List Open) → ((q : List ℕ) → IsW
 none-waits [] [] w h = (tt, (λ x. x))
 none-waits [] (c ∷ os) w h = absurd h
 none-waits (s ∷ ss) [] w h = absurd h
-none-waits (s ∷ ss) (plain bs ∷ os) w h = (h, (λ x. x))
-none-waits (s ∷ ss) (an_array n bs ∷ os) w h = (h, (λ x. x))
-none-waits (s ∷ ss) (a_map ps ∷ os) w h = (h, (λ x. x))
 none-waits (s ∷ ss) (a_key ps k ∷ os) w h = absurd (w k refl)
-none-waits (s ∷ ss) (a_string m bs ∷ os) w h = (h, (λ x. x))
+none-waits (s ∷ ss) (_ ∷ os) w h = (h, (λ x. x))
 
 -- the keys that it is held against
 abbrev pub keys_at_top : List Open → List (List ℕ)
@@ -129,18 +114,11 @@ pub fresh-key : (s new : KeySet) (ss : List KeySet) (os : List Open) (q : List �
 fresh-key s new ss [] q w h a = absurd h
 fresh-key s new ss (a_key ps k ∷ os) q w h a =
     ((subst (λ (x : List ℕ). HasKeyBytes new (x ∷ pair_keys ps)) w a.1, h.1), (λ x. a.0 (subst (λ (y : List ℕ). IsAmong y (pair_keys ps)) (sym w) ((among-exactly ps k).1 x))))
-fresh-key s new ss (plain bs ∷ os) q w h a = absurd w
-fresh-key s new ss (an_array n bs ∷ os) q w h a = absurd w
-fresh-key s new ss (a_map ps ∷ os) q w h a = absurd w
-fresh-key s new ss (a_string m bs ∷ os) q w h a = absurd w
+fresh-key s new ss (_ ∷ os) q w h a = absurd w
 
 pub old-key : (os : List Open) (q : List ℕ) (new : KeySet) → IsWaitingKey os q → IsAdded q (keys_at_top os) new false → IsRepeatedKey os
-old-key [] q new w a = absurd w
 old-key (a_key ps k ∷ os) q new w a = (among-exactly ps k).0 (subst (λ (y : List ℕ). IsAmong y (pair_keys ps)) w a)
-old-key (plain bs ∷ os) q new w a = absurd w
-old-key (an_array n bs ∷ os) q new w a = absurd w
-old-key (a_map ps ∷ os) q new w a = absurd w
-old-key (a_string m bs ∷ os) q new w a = absurd w
+old-key _ q new w a = absurd w
 
 -- ---- a container ends
 

@@ -1,6 +1,5 @@
 -- What ends behind a part: the containers that are full, and the item, or a key that came before.
-use Rattle.std.proofs.Common.{Vec, Global, ◌≡◌, ℕ, zero, suc, ◌+◌, ◌-◌, ◌^◌, ◌<◌, ◌≤◌, Bool, true, Option, Some, List, [], ◌∷◌, ◌++◌, length, map, slice_get, refl, sym, ap, ap₂, ◌∙◌, subst, arith, append_assoc, append-nil}
-use Rattle.std.specs.Prelude.{nat_lt}
+use Rattle.std.proofs.Common.{Vec, Global, ◌≡◌, ℕ, zero, suc, ◌+◌, ◌-◌, ◌^◌, ◌<◌, ◌≤◌, Bool, true, Option, Some, List, [], ◌∷◌, ◌++◌, length, map, slice_get, refl, sym, ap, ap₂, ◌∙◌, subst, arith, append_assoc, append-nil, nat_lt}
 use Rattle.std.proofs.lemmas.List.{length-append, length-map}
 use Rattle.cbor_head.specs.Canonical.{canonical}
 use Rattle.cbor_head.specs.Limits.{Bounds}
@@ -19,7 +18,7 @@ use Rattle.cbor_item.specs.OpenValues as trees
 use Rattle.cbor_item.specs.OpenValues.{OpenItem, MayEnd}
 use Rattle.cbor_plain.specs.declared.plain_items.PlainItems.{PlainItems}
 use Rattle.cbor_judging.specs.Judged.{IsJudged}
-use Rattle.cbor_judging.specs.Levels.{IsTaken, Level, a_member, a_key, a_value, some_member, some_key, some_value, tagged, frame, bytes_before, Standing, item_due, item_full, item_whole, settle}
+use Rattle.cbor_judging.specs.Levels.{IsTaken, Level, a_key, a_value, some_key, some_value, frame, bytes_before, Standing, item_due, item_full, item_whole, settle}
 use Rattle.cbor_judging.specs.Given.{level_open, opens, StandsAt}
 use Rattle.cbor_plain.specs.inner.ItemFront.{IsDueAt, IsWholeAt, GoesOnOrNot, WhyStopped, for_cause}
 use Rattle.cbor_plain.specs.inner.PlainItems.{AreApart, AreApartSoFar, HaveBegun, HaveBegunIn, HasItsPlace, IsEndingAt, sets}
@@ -167,14 +166,8 @@ module _ (v : PlainItems) (b : Bounds) (e : ItemEventsView) (t : List ℕ) (h : 
           (subst (λ (x : List ℕ). IsJudged plain 0 b.depth x (Some (complaint.complaint (length (bytes_before (l ∷ ls)) + length (spell k)) (length (bytes_before (l ∷ ls))) RepeatedKey))) (sym bytes_are)
           (repeat_found o b.depth ls l done refl (levels.0, levels.1.0, levels.2) (omega (arith, short)) (apart.0, (λ x. x), apart.1) k levels.1.1 (omega (arith, short)) (subst IsRepeatedKey s.3 repeated)))
           (ap length bytes_are ∙ size) (place_is _ (ap (λ (i : ℕ). slice_get v.starts.items i) s.4 ∙ place_so))
-      go (item_due []) s place_so = absurd (subst IsRepeatedKey s.3 repeated)
-      go (item_due (a_member w left done ∷ ls)) s place_so = absurd (subst IsRepeatedKey s.3 repeated)
-      go (item_due (some_member done ∷ ls)) s place_so = absurd (subst IsRepeatedKey s.3 repeated)
-      go (item_due (a_key w left done ∷ ls)) s place_so = absurd (subst IsRepeatedKey s.3 repeated)
-      go (item_due (some_key done ∷ ls)) s place_so = absurd (subst IsRepeatedKey s.3 repeated)
-      go (item_due (tagged w n ∷ ls)) s place_so = absurd (subst IsRepeatedKey s.3 repeated)
       go (item_full ls u) s place_so = absurd (omega (arith, full-count v b e t e.machine.open_count h ls s.2, s.4))
-      go (item_whole u) s place_so = absurd (subst IsRepeatedKey s.3 repeated)
+      go _ s place_so = absurd (subst IsRepeatedKey s.3 repeated)
 
   -- the same, where the key is among those of its map
   module _ (now : PlainItems) (same : now.builder ≡ v.builder) (starts : now.starts ≡ v.starts) (same_tree : now.tree ≡ v.tree) (same_kinds : now.kinds ≡ v.kinds) where

@@ -10,7 +10,7 @@ use Rattle.cbor_head.specs.declared.major.Major.{Major}
 use Rattle.cbor_head.specs.declared.major.Major.TheVariants as majors
 use Rattle.cbor_head.specs.declared.order.KeyOrder.{KeyOrder}
 use Rattle.cbor_head.specs.declared.width.Width.{Width}
-use Rattle.cbor_head.specs.declared.width.Width.TheVariants.{Direct, One, Two, Four, Eight, Indefinite}
+use Rattle.cbor_head.specs.declared.width.Width.TheVariants.{Indefinite}
 use Rattle.cbor_standing.specs.NextEvent.{ItemEventsView}
 use Rattle.cbor_automaton.specs.Marks.{mark_of}
 use Rattle.cbor_automaton.specs.Trace.{Mark, a_head, a_chunk, a_byte, a_break}
@@ -21,12 +21,12 @@ use Rattle.cbor_builder.specs.Built.{IsContainer, IsLeaf}
 use Rattle.cbor_canonical.specs.Parts.{Open, an_array, a_map as an_open_map, opened}
 use Rattle.cbor_item.specs.OpenValues as trees
 use Rattle.cbor_item.specs.OpenValues.{OpenValue}
-use Rattle.cbor_judging.specs.Levels.{Level, a_member, a_key, a_value, some_member, some_key, some_value, tagged, frame, AreLevels, bytes_before, Standing, item_due, item_full}
+use Rattle.cbor_judging.specs.Levels.{Level, a_member, a_key, some_member, some_key, tagged, frame, AreLevels, bytes_before, Standing, item_due, item_full}
 use Rattle.cbor_judging.specs.Given.{opens, StandsAt}
 use Rattle.cbor_judging.specs.Reading.{string_major, IsUndecided, IsBegun, string_value}
 use Rattle.cbor_plain.specs.inner.PlainItems.{HaveBegun, HaveBegunIn, HasItsPlace}
 use Rattle.cbor_plain.specs.inner.PlainParts.{IsCome, leaf_value, IsLeafMajor, Begins}
-use Rattle.cbor_judging.proofs.Arrays.{closes}
+use Rattle.cbor_judging.proofs.Members.{closes}
 use Rattle.cbor_judging.proofs.Heads.{open_or, Headed}
 use Rattle.cbor_judging.proofs.Items.{definite, is-definite, proper-definite, never-open, taking-some}
 use Rattle.cbor_judging.proofs.Judged.{judged_start}
@@ -67,11 +67,7 @@ mark-undecided b fs t x (a_head m w n) next h = go w h
 
     go : (v : Width) → IsTaking b.depth (at_item fs) (a_head m v n) x next → IsUndecided plain b fs t x
     go Indefinite g = short-undecided b fs t x (omega (arith, ap length g.1))
-    go Direct g = by Direct (λ e. cc e) g
-    go One g = by One (λ e. cc e) g
-    go Two g = by Two (λ e. cc e) g
-    go Four g = by Four (λ e. cc e) g
-    go Eight g = by Eight (λ e. cc e) g
+    go v g = by v (λ e. cc e) g
 mark-undecided b fs t x a_break next h = short-undecided b fs t x (omega (arith, ap length h.0))
 mark-undecided b fs t x (a_chunk w n) next h = absurd h
 mark-undecided b fs t x a_byte next h = absurd h
@@ -82,21 +78,13 @@ pub leaf-canonical : (o : KeyOrder) (m : Major) (k : ℕ) → IsLeafMajor m k �
 leaf-canonical o majors.Unsigned k h = refl
 leaf-canonical o majors.Negative k h = refl
 leaf-canonical o majors.Simple k h = refl
-leaf-canonical o majors.Bytes k h = absurd h
-leaf-canonical o majors.Text k h = absurd h
-leaf-canonical o majors.Array k h = absurd h
-leaf-canonical o majors.Map k h = absurd h
-leaf-canonical o majors.Tag k h = absurd h
+leaf-canonical o _ k h = absurd h
 
 pub leaf-major : (m : Major) (k : ℕ) → IsLeafMajor m k → IsLeaf m × (m ≡ majors.Simple → IsSimple k)
 leaf-major majors.Unsigned k h = (tt, (λ e. cc e))
 leaf-major majors.Negative k h = (tt, (λ e. cc e))
 leaf-major majors.Simple k h = (tt, (λ e. h))
-leaf-major majors.Bytes k h = absurd h
-leaf-major majors.Text k h = absurd h
-leaf-major majors.Array k h = absurd h
-leaf-major majors.Map k h = absurd h
-leaf-major majors.Tag k h = absurd h
+leaf-major _ k h = absurd h
 
 pub begins-container : (kind : EventKind) (m : Major) (k : ℕ) → Begins kind m k → IsContainer m
 begins-container (kinds.Array (Some n)) m k h = subst IsContainer (sym h.0) tt
@@ -104,14 +92,7 @@ begins-container (kinds.Array None) m k h = subst IsContainer (sym h.0) tt
 begins-container (kinds.Map (Some n)) m k h = subst IsContainer (sym h.0) tt
 begins-container (kinds.Map None) m k h = subst IsContainer (sym h.0) tt
 begins-container (kinds.Tag n) m k h = subst IsContainer (sym h.0) tt
-begins-container (kinds.Unsigned n) m k h = absurd h
-begins-container (kinds.Negative n) m k h = absurd h
-begins-container (kinds.Simple n) m k h = absurd h
-begins-container (kinds.Bytes n) m k h = absurd h
-begins-container (kinds.Text n) m k h = absurd h
-begins-container (kinds.Chunk n) m k h = absurd h
-begins-container (kinds.Piece n) m k h = absurd h
-begins-container kinds.End m k h = absurd h
+begins-container _ m k h = absurd h
 
 pub simple-begun : (b : Bounds) (fs : List Container) (t x : List ℕ) (e : ItemEventsView) (w : Width) (n : ℕ) → IsBegun plain b fs t x e w (kinds.Simple n) → IsSimple n
 simple-begun b fs t x e w n i = (definite b.depth fs majors.Simple w n x i.next (never-open b.depth fs majors.Simple w n x i.next tt i.taking) i.taking).follows.0
@@ -241,19 +222,11 @@ module _ (o : KeyOrder) (b : Bounds) (ls : List Level) (levels : AreLevels b.dep
           right = tt;
           values = refl;
         })
-    opens-by (kinds.Unsigned n) m k i g = absurd g
-    opens-by (kinds.Negative n) m k i g = absurd g
-    opens-by (kinds.Simple n) m k i g = absurd g
-    opens-by (kinds.Bytes n) m k i g = absurd g
-    opens-by (kinds.Text n) m k i g = absurd g
-    opens-by (kinds.Chunk n) m k i g = absurd g
-    opens-by (kinds.Piece n) m k i g = absurd g
-    opens-by kinds.End m k i g = absurd g
+    opens-by _ m k i g = absurd g
 
 -- the break
 pub breaks : (o : KeyOrder) (b : Bounds) (ls : List Level) (next : Place) (xs : List ℕ) → AreLevels b.depth ls → HaveBegun xs ls → length (bytes_before ls) < 2 ^ 63 → Ends (map frame ls) next
     → IsPlaced o b.depth (bytes_before ls ++ 0xff ∷ []) next (opens o ls) (length ls) xs (level_values ls)
-breaks o b [] next xs h begun s x = absurd x
 breaks o b (some_member done ∷ ms) next xs h begun s x = record {
   standing = item_full ms (array Indefinite done);
   stands = (
@@ -287,8 +260,4 @@ breaks o b (some_key done ∷ ms) next xs h begun s x = record {
   right = tt;
   values = refl;
 }
-breaks o b (some_value done k ∷ ms) next xs h begun s x = absurd x
-breaks o b (a_member w left done ∷ ms) next xs h begun s x = absurd x
-breaks o b (a_key w left done ∷ ms) next xs h begun s x = absurd x
-breaks o b (a_value w left done k ∷ ms) next xs h begun s x = absurd x
-breaks o b (tagged w n ∷ ms) next xs h begun s x = absurd x
+breaks o b _ next xs h begun s x = absurd x

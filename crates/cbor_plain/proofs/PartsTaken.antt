@@ -30,7 +30,7 @@ use Rattle.cbor_plain.specs.declared.plain_items.PlainItems.{PlainItems}
 use Rattle.cbor_plain.specs.declared.plain_part.Part.{Part}
 use Rattle.cbor_plain.specs.declared.plain_part.Part.TheVariants.{Leaf, String, Begin, Break}
 use Rattle.cbor_judging.specs.Kinds.{AsksForKinds, KeepsToKinds, IsKeyDueIn, IsOfOneHead, HasBasicFront}
-use Rattle.cbor_judging.specs.Levels.{IsTaken, Level, a_member, a_key, a_value, some_member, some_key, some_value, tagged, frame, AreLevels, bytes_before, item_due, settle}
+use Rattle.cbor_judging.specs.Levels.{IsTaken, Level, a_member, some_member, frame, AreLevels, bytes_before, item_due, settle}
 use Rattle.cbor_judging.specs.Given.{opens, StandsAt}
 use Rattle.cbor_judging.specs.Reading.{IsAt, IsUndecided, IsNextHead, ReadsItem, StopsItem, string_value}
 use Rattle.cbor_plain.specs.inner.ItemFront.{IsStopped, IsDueAt, IsNextDue, for_memory}
@@ -40,9 +40,9 @@ use Rattle.cbor_plain.specs.declared.key_set.KeySet.{KeySet}
 use Rattle.cbor_plain.specs.inner.HeldKeys.{AreHeld, AreHeldSoFar}
 use Rattle.cbor_plain.proofs.HeldKeys.{held-given, held-opened, held-broken}
 use Rattle.cbor_judging.proofs.Items.{extends-by, extends-in, taking-some}
-use Rattle.cbor_judging.proofs.KindBytes.{Begins, mark_begins, keeps_due}
-use Rattle.cbor_judging.proofs.KindLevels.{keeps_in}
-use Rattle.cbor_judging.proofs.KindSteps.{keeps_front}
+use Rattle.cbor_judging.proofs.KindBytes.{item_basic, Begins, mark_begins, keeps_due}
+use Rattle.cbor_judging.proofs.LevelFrames.{around_levels}
+use Rattle.cbor_judging.proofs.KindFrames.{keeps_on, keeps_front}
 use Rattle.cbor_judging.proofs.Standing.{open-is, short-at}
 use Rattle.cbor_judging.proofs.Levels.{clean-anywhere}
 use Rattle.cbor_judging.proofs.Given.{settled}
@@ -50,7 +50,7 @@ use Rattle.cbor_judging.proofs.Undecided.{item-undecided}
 use Rattle.cbor_plain.specs.TreeValues.{level_values, values_with, IsForTree}
 use Rattle.cbor_plain.proofs.DueRefusals.{few, due-keeps, refused-item, undecided-whole}
 use Rattle.cbor_plain.proofs.TreeValues.{values-given, settles-right, tree-step}
-use Rattle.cbor_plain.proofs.PartKinds.{basic-more, item-basic, mark-basic, mark-string, string-item, begins-item, no-break, HoldsNone, leaf-holds-none, string-holds-none, no-kinds, keeps-broken}
+use Rattle.cbor_plain.proofs.PartKinds.{basic-more, mark-basic, mark-string, string-item, begins-item, no-break, HoldsNone, leaf-holds-none, string-holds-none, no-kinds, keeps-broken}
 use Rattle.cbor_plain.proofs.Paths.{given-apart, opened-apart, so-far, settled-begun, settled-place, begun-more, begun-room, begins-at}
 use Rattle.cbor_judging.proofs.Steps.{at-reached}
 use Rattle.cbor_judging.proofs.Valid.{count_bounded}
@@ -64,15 +64,10 @@ module _ (v : PlainItems) (b : Bounds) (e : ItemEventsView) (t : List ℕ) (d : 
   takes-part = subst TakesPart (sym d.standing) (go d.ls d.levels (few v b e t d))
     where
       go : (ms : List Level) → AreLevels b.depth ms → length (bytes_before ms) < 2 ^ 63 → TakesPart (opens v.builder.order ms)
-      go [] h s = tt
       go (a_member w left done ∷ ms) h s = omega (arith, holds_fits w (spellings_count done + suc left) h.1.0)
       go (some_member done ∷ ms) h s =
           omega (arith, s, count_bounded done, length-append (bytes_before ms) (head majors.Array Indefinite 0 ++ spell_all done), length-append (head majors.Array Indefinite 0) (spell_all done))
-      go (a_key w left done ∷ ms) h s = tt
-      go (a_value w left done k ∷ ms) h s = tt
-      go (some_key done ∷ ms) h s = tt
-      go (some_value done k ∷ ms) h s = tt
-      go (tagged w n ∷ ms) h s = tt
+      go _ h s = tt
 
   pub due-height : e.machine.open_count ≡ length d.ls
   due-height = open-is b e t (at_item (map frame d.ls)) d.at ∙ length-map d.ls frame
@@ -160,8 +155,8 @@ module _ (v : PlainItems) (b : Bounds) (e : ItemEventsView) (t : List ℕ) (d : 
         let short : length (bytes_before d.ls ++ spell m.item) < 2 ^ 64 = subst (λ (y : List ℕ). length (y ++ spell m.item) < 2 ^ 64) d.taken (short-at b new (t ++ spell m.item) (close gs) m.at) in
         let is : IsTaken (b.depth - length d.ls) m.item = record { spelled = m.spelled; within = omega (arith, m.within, length-map d.ls frame); clean = clean-anywhere m.item (length t) m.clean } in
         let keeps = subst (λ (y : List ℕ). KeepsToKinds b plain (y ++ spell r.item)) (sym d.taken)
-        (keeps_in b plain d.ls d.levels r.item (spell r.item) [] r.spelled is.within (sym (append-nil (spell r.item)))
-        (λ asked is_key some. item-basic r.item n.bytes r.taken.more r.spelled r.taken.are some-head (first-kind whole asked is_key))
+        (keeps_on b plain (around_levels b.depth d.ls d.levels) r.item (spell r.item) [] r.spelled is.within (sym (append-nil (spell r.item)))
+        (λ asked is_key some. item_basic r.item n.bytes r.taken.more r.spelled r.taken.are some-head (first-kind whole asked is_key))
         (λ c o. absurd (no-kinds r.item (subst HoldsNone (sym r.value) none) (length (bytes_before d.ls)) c o)) (due-keeps v b e t d)) in
         record {
           bytes = spell m.item;
@@ -221,7 +216,7 @@ module _ (v : PlainItems) (b : Bounds) (e : ItemEventsView) (t : List ℕ) (d : 
         let item = begins-item ev.kind m k r.0 in
         let begun = mark_begins b.depth gs (mark_of ev.width ev.kind) n.bytes n.next n.taking (no-break ev.width ev.kind item) in
         let keeps = subst (λ (y : List ℕ). KeepsToKinds b plain (y ++ n.bytes)) (sym d.taken)
-        (keeps_due b plain d.ls d.levels n.bytes (subst (λ (i : ℕ). Begins (b.depth - i) n.bytes) (length-map d.ls frame) begun.0) begun.1 (first-kind item) (due-keeps v b e t d)) in
+        (keeps_due b plain (around_levels b.depth d.ls d.levels) n.bytes (subst (λ (i : ℕ). Begins (b.depth - i) n.bytes) (length-map d.ls frame) begun.0) begun.1 (first-kind item) (due-keeps v b e t d)) in
         head-taken (Begin m k) r.1 keeps
         (λ now height place count same same_place starts same_kinds given step keys at.
         let l = opens-by v.builder.order b d.ls d.levels now.starts.items (begun-so now height place same same_place starts same_kinds) (here-so now height place same same_place starts same_kinds) t n.bytes after ev.width ev.kind m k came r.0 in

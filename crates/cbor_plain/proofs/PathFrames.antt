@@ -10,7 +10,7 @@ use Rattle.cbor_head.specs.declared.reason.Reason.TheVariants.{RepeatedKey}
 use Rattle.cbor_builder.specs.Built.{HasKey, IsRepeatedKey, keys_so_far, AreAllDifferent, AreOpenKeysDifferent}
 use Rattle.cbor_builder.proofs.KeysSoFar.{distinct_different}
 use Rattle.cbor_canonical.specs.Pairs.{HasDistinctBytes}
-use Rattle.cbor_canonical.specs.Parts.{Open, plain as a_plain, an_array, a_map, a_key, a_string, pair}
+use Rattle.cbor_canonical.specs.Parts.{Open, a_map, a_key, pair}
 use Rattle.cbor_judging.specs.Judged.{IsJudged}
 use Rattle.cbor_judging.specs.Levels.{IsTaken, Level, AreLevels, bytes_before}
 use Rattle.cbor_judging.specs.Given.{opens}
@@ -28,9 +28,7 @@ different ps k h fresh = subst AreAllDifferent (map-append (λ (p : Pair). p.key
 keys-different : (c : Open) (os : List Open) → HasKeysApart c → (IsRepeatedKey (c ∷ os) → ⊥) → AreAllDifferent (keys_so_far c)
 keys-different (a_map ps) os h fresh = distinct_different ps h
 keys-different (a_key ps k) os h fresh = different ps k h fresh
-keys-different (a_plain bs) os h fresh = λ i r. let none = r.2 in absurd (omega (arith, none))
-keys-different (an_array n bs) os h fresh = λ i r. let none = r.2 in absurd (omega (arith, none))
-keys-different (a_string m bs) os h fresh = λ i r. let none = r.2 in absurd (omega (arith, none))
+keys-different _ os h fresh = λ i r. let none = r.2 in absurd (omega (arith, none))
 
 apart-different : (os : List Open) → AreApart os → AreOpenKeysDifferent os
 apart-different [] h = tt

@@ -1,9 +1,8 @@
 -- From part to part of an item: which keys are known to differ, and where each open item began.
-use Rattle.std.proofs.Common.{◌≡◌, ◌≢◌, ℕ, zero, suc, ◌<◌, ◌≤◌, List, [], ◌∷◌, ◌++◌, length, take, slice_get, get_or, Some, ap, sym, ◌∙◌, inl, inr, arith}
+use Rattle.std.proofs.Common.{◌≡◌, ◌≢◌, ℕ, zero, ◌<◌, ◌≤◌, List, [], ◌∷◌, ◌++◌, length, take, slice_get, get_or, Some, ap, sym, ◌∙◌, inl, inr, arith, get_or-take, length-append, length-take-le}
 use Rattle.std.specs.List.{AllByRecursion}
 use Rattle.std.proofs.Math.ListN.{get_or-append}
 use Rattle.std.proofs.Math.Seq.{get_or-append_seam}
-use Rattle.std.proofs.lemmas.List.{get_or-take, length-append, length-take-le}
 use Rattle.std.proofs.lemmas.Option.{get_or_from_slice_get, slice_get-get_or, slice_get_within}
 use Rattle.cbor_head.specs.Canonical.{Pair}
 use Rattle.cbor_head.specs.Spelling.{Spelling}
@@ -12,7 +11,7 @@ use Rattle.cbor_head.specs.declared.major.Major.TheVariants as majors
 use Rattle.cbor_head.specs.declared.order.KeyOrder.{KeyOrder}
 use Rattle.cbor_builder.specs.Built.{HasKey, IsRepeatedKey, IsContainer}
 use Rattle.cbor_canonical.specs.Pairs.{HasDistinctBytes}
-use Rattle.cbor_canonical.specs.Parts.{Open, plain, an_array, a_map, a_key, a_string, pair, closed, give, close, opened, HasNoRepeats}
+use Rattle.cbor_canonical.specs.Parts.{Open, a_map, a_key, pair, closed, give, close, opened, HasNoRepeats}
 use Rattle.cbor_judging.specs.Levels as levels
 use Rattle.cbor_judging.specs.Levels.{Level, bytes_before, settle}
 use Rattle.cbor_plain.specs.inner.PlainItems.{HasKeysApart, AreApart, AreApartSoFar, HaveBegun, HaveBegunIn, HasItsPlace}
@@ -30,11 +29,9 @@ distinct-more (p ∷ ps) k b h fresh = (all ps h.0, distinct-more ps k b h.1 (λ
 
 pub given-apart : (b : List ℕ) (os : List Open) → AreApart os → AreApartSoFar (give b os)
 given-apart b [] h = tt
-given-apart b (plain bs ∷ os) h = (tt, h.2)
-given-apart b (an_array n bs ∷ os) h = (tt, h.2)
 given-apart b (a_map ps ∷ os) h = (h.0, h.2)
 given-apart b (a_key ps k ∷ os) h = (distinct-more ps k b h.0 h.1, h.2)
-given-apart b (a_string m bs ∷ os) h = (tt, h.2)
+given-apart b (_ ∷ os) h = (tt, h.2)
 
 pub closed-apart : (o : KeyOrder) (os : List Open) → AreApartSoFar os → AreApartSoFar (close o os)
 closed-apart o [] h = tt
@@ -44,11 +41,7 @@ pub opened-apart : (m : Major) (n : ℕ) (os : List Open) → IsContainer m → 
 opened-apart majors.Array n os i h = (tt, h)
 opened-apart majors.Map n os i h = (tt, h)
 opened-apart majors.Tag n os i h = (tt, h)
-opened-apart majors.Unsigned n os i h = absurd i
-opened-apart majors.Negative n os i h = absurd i
-opened-apart majors.Bytes n os i h = absurd i
-opened-apart majors.Text n os i h = absurd i
-opened-apart majors.Simple n os i h = absurd i
+opened-apart _ n os i h = absurd i
 
 pub so-far : (os : List Open) → AreApart os → AreApartSoFar os
 so-far [] h = tt
@@ -62,10 +55,7 @@ apart-now (c ∷ os) h fresh = (h.0, fresh, h.1)
 -- what ends has no two keys that are the same
 pub ends-apart : (c : Open) → HasKeysApart c → HasNoRepeats c
 ends-apart (a_map ps) h = h
-ends-apart (plain bs) h = tt
-ends-apart (an_array n bs) h = tt
-ends-apart (a_key ps k) h = tt
-ends-apart (a_string m bs) h = tt
+ends-apart _ h = tt
 
 -- ---- places
 
@@ -73,26 +63,17 @@ ends-apart (a_string m bs) h = tt
 pub settled-begun : (xs : List ℕ) (ls : List Level) (s : Spelling) → HaveBegun xs ls → HaveBegunIn xs (settle ls s)
 settled-begun xs [] s h = tt
 settled-begun xs (levels.a_member w zero done ∷ ls) s h = h.1
-settled-begun xs (levels.a_member w (suc left) done ∷ ls) s h = h
-settled-begun xs (levels.some_member done ∷ ls) s h = h
-settled-begun xs (levels.a_key w left done ∷ ls) s h = h
-settled-begun xs (levels.some_key done ∷ ls) s h = h
 settled-begun xs (levels.a_value w zero done k ∷ ls) s h = h.1
-settled-begun xs (levels.a_value w (suc left) done k ∷ ls) s h = h
-settled-begun xs (levels.some_value done k ∷ ls) s h = h
 settled-begun xs (levels.tagged w n ∷ ls) s h = h.1
+settled-begun xs _ s h = h
 
 pub settled-place : (xs : List ℕ) (ls : List Level) (s : Spelling) → HaveBegun xs ls → slice_get xs (length ls) ≡ Some (length (bytes_before ls)) → HasItsPlace xs (settle ls s)
-settled-place xs [] s h e = tt
 settled-place xs (levels.a_member w zero done ∷ ls) s h e = h.0
-settled-place xs (levels.a_member w (suc left) done ∷ ls) s h e = tt
-settled-place xs (levels.some_member done ∷ ls) s h e = tt
 settled-place xs (levels.a_key w left done ∷ ls) s h e = e
 settled-place xs (levels.some_key done ∷ ls) s h e = e
 settled-place xs (levels.a_value w zero done k ∷ ls) s h e = h.0
-settled-place xs (levels.a_value w (suc left) done k ∷ ls) s h e = tt
-settled-place xs (levels.some_value done k ∷ ls) s h e = tt
 settled-place xs (levels.tagged w n ∷ ls) s h e = h.0
+settled-place xs _ s h e = tt
 
 -- an item begins
 pub begun-room : (xs : List ℕ) (ls : List Level) → HaveBegun xs ls → length ls ≤ length xs

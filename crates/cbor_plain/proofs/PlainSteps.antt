@@ -1,9 +1,7 @@
 -- From part to part of an item, by the plain rules, to its end.
-use Rattle.std.proofs.Common.{◌≡◌, ℕ, ◌-◌, ◌<◌, ◌≤◌, true, false, Option, List, [], ◌∷◌, ◌++◌, length, refl, sym, ap, ◌∙◌, subst, inl, inr, arith, append_assoc, append-nil}
+use Rattle.std.proofs.Common.{◌≡◌, ℕ, ◌-◌, ◌<◌, ◌≤◌, true, false, Option, List, [], ◌∷◌, ◌++◌, length, refl, sym, ap, ◌∙◌, subst, inl, inr, arith, append_assoc, append-nil, IsSome, length-append}
 use Rattle.std.specs.Io.KnownBytes.{Consumes}
 use Rattle.std.proofs.KnownBytes.{Consumes-nil, Consumes-trans}
-use Rattle.std.specs.Prelude.{IsSome}
-use Rattle.std.proofs.lemmas.List.{length-append}
 use Rattle.cbor_head.specs.Limits.{Bounds, AreBounds}
 use Rattle.cbor_head.specs.Spelling.{spell, value_of}
 use Rattle.cbor_head.specs.Complaint.{plain}
@@ -23,10 +21,9 @@ use Rattle.cbor_plain.specs.inner.ItemFront.{EndInOtherKey, WhyStopped, for_memo
 use Rattle.cbor_plain.specs.inner.PlainItems.{AreApart, sets}
 use Rattle.cbor_plain.proofs.Fronts.{front-read}
 use Rattle.cbor_plain.proofs.PartKinds.{known-on}
-use Rattle.cbor_judging.proofs.Fronts.{known}
-use Rattle.cbor_judging.proofs.KindSteps.{KeepsBefore, keeps_start}
+use Rattle.cbor_judging.proofs.KindFrames.{KeepsBefore, keeps_start}
 use Rattle.cbor_judging.proofs.Reasons.{reader-reason}
-use Rattle.cbor_judging.proofs.Tops.{item-unread, kind-unread, loses}
+use Rattle.cbor_judging.proofs.Tops.{item-unread, kind-unread, loses, known}
 use Rattle.cbor_plain.specs.inner.HeldKeys.{AreHeld}
 use Rattle.cbor_plain.specs.TreeValues.{IsTreeAt}
 use Rattle.cbor_judging.proofs.Scalars.{at-as}

@@ -1,8 +1,7 @@
 -- A value holds no more than its item has bytes: each item has a head, and each byte of a string stands in it.
-use Rattle.std.proofs.Common.{ℕ, suc, ◌≤◌, List, [], ◌∷◌, ◌++◌, length, flat_map, arith}
-use Rattle.std.proofs.lemmas.List.{length-append}
+use Rattle.std.proofs.Common.{ℕ, suc, ◌≤◌, List, [], ◌∷◌, ◌++◌, length, flat_map, arith, length-append}
 use Rattle.cbor_head.specs.Head.{head}
-use Rattle.cbor_head.specs.Spelling.{Chunk, Spelling, Spellings, SpelledEntries, unsigned, negative, bytes, text, byte_chunks, text_chunks, array, a_map, tag, simple, no_spellings, a_spelling, no_entries, entry, spell, spell_all, spell_entries, spellings_count, entries_count, value_of, values_of, entries_of, chunks_joined, chunk_bytes, chunked, break_of}
+use Rattle.cbor_head.specs.Spelling.{Chunk, Spelling, Spellings, SpelledEntries, bytes, text, byte_chunks, text_chunks, array, a_map, tag, no_spellings, a_spelling, no_entries, entry, spell, spell_all, spell_entries, spellings_count, entries_count, value_of, values_of, entries_of, chunks_joined, chunk_bytes, chunked, break_of}
 use Rattle.cbor_head.specs.declared.major.Major.{Major}
 use Rattle.cbor_head.specs.declared.major.Major.TheVariants.{Bytes, Text, Array, Map, Tag}
 use Rattle.cbor_head.specs.declared.width.Width.{Width}
@@ -34,9 +33,7 @@ mutual
   size_bounded (a_map w es) =
       within_front _ (head Map w (entries_count es) ++ spell_entries es) (break_of w) (behind_head Map w (entries_count es) (size_entries (entries_of es)) (spell_entries es) (entries_bounded es))
   size_bounded (tag w n s) = behind_head Tag w n (size (value_of s)) (spell s) (size_bounded s)
-  size_bounded (unsigned w n) = length_spell (unsigned w n)
-  size_bounded (negative w n) = length_spell (negative w n)
-  size_bounded (simple n) = length_spell (simple n)
+  size_bounded s = length_spell s
 
   sizes_bounded : (ss : Spellings) → size_all (values_of ss) ≤ length (spell_all ss)
   sizes_bounded no_spellings = omega arith

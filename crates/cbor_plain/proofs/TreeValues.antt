@@ -1,13 +1,13 @@
 -- A tree builder that is given the parts of an item: what each does to the values that it holds.
 use Rattle.std.proofs.Common.{◌≡◌, zero, suc, List, [], ◌∷◌, ◌++◌, refl, sym, ap, ◌∙◌, subst}
-use Rattle.cbor_head.specs.Spelling.{Spelling, Spellings, SpelledEntries, unsigned, negative, bytes, text, byte_chunks, text_chunks, array, a_map, tag, simple, no_spellings, a_spelling, no_entries, entry, value_of, values_of, entries_of}
+use Rattle.cbor_head.specs.Spelling.{Spelling, Spellings, SpelledEntries, array, a_map, tag, no_spellings, a_spelling, no_entries, entry, value_of, values_of, entries_of}
 use Rattle.cbor_head.specs.Value as value
 use Rattle.cbor_head.specs.Value.{Value}
 use Rattle.cbor_item.specs.View as view
 use Rattle.cbor_item.specs.OpenValues as parts
 use Rattle.cbor_item.specs.OpenValues.{OpenItem, OpenValue, standing, an_array, give, closed, close, TakesValue, MayEnd, CanEnd, CanHold, IsWhole}
 use Rattle.cbor_judging.specs.Frame.{with_all, with_entries}
-use Rattle.cbor_judging.specs.Levels.{Level, a_member, a_key, a_value, some_member, some_key, some_value, tagged, Standing, item_due, item_full, item_whole, settle}
+use Rattle.cbor_judging.specs.Levels.{Level, a_member, a_value, some_member, some_value, tagged, Standing, item_due, item_full, item_whole, settle}
 use Rattle.cbor_plain.specs.TreeValues.{member_values, pair_values, level_value, level_values, full_value, values_at, IsContainer, IsFullRight, IsTreeAt}
 
 -- ---- members and pairs
@@ -31,28 +31,18 @@ pairs-are (entry k v es) = ap (value.entry (value_of k) (value_of v)) (pairs-are
 -- ---- an item is complete
 
 pub values-given : (ls : List Level) (s : Spelling) → give (value_of s) (level_values ls) ≡ values_at (settle ls s)
-values-given [] s = refl
 values-given (a_member w zero done ∷ ls) s = ap (λ (vs : List Value). an_array vs ∷ level_values ls) (sym (members-more done s))
 values-given (a_member w (suc left) done ∷ ls) s = ap (λ (vs : List Value). an_array vs ∷ level_values ls) (sym (members-more done s))
 values-given (some_member done ∷ ls) s = ap (λ (vs : List Value). an_array vs ∷ level_values ls) (sym (members-more done s))
-values-given (a_key w left done ∷ ls) s = refl
-values-given (some_key done ∷ ls) s = refl
 values-given (a_value w zero done k ∷ ls) s = ap (λ (ps : List (Value × Value)). parts.a_map ps ∷ level_values ls) (sym (pairs-more done k s))
 values-given (a_value w (suc left) done k ∷ ls) s = ap (λ (ps : List (Value × Value)). parts.a_map ps ∷ level_values ls) (sym (pairs-more done k s))
 values-given (some_value done k ∷ ls) s = ap (λ (ps : List (Value × Value)). parts.a_map ps ∷ level_values ls) (sym (pairs-more done k s))
-values-given (tagged w n ∷ ls) s = refl
+values-given _ s = refl
 
 pub settles-right : (ls : List Level) (s : Spelling) → IsFullRight (settle ls s)
-settles-right [] s = tt
 settles-right (a_member w zero done ∷ ls) s = tt
-settles-right (a_member w (suc left) done ∷ ls) s = tt
-settles-right (some_member done ∷ ls) s = tt
-settles-right (a_key w left done ∷ ls) s = tt
-settles-right (some_key done ∷ ls) s = tt
 settles-right (a_value w zero done k ∷ ls) s = tt
-settles-right (a_value w (suc left) done k ∷ ls) s = tt
-settles-right (some_value done k ∷ ls) s = tt
-settles-right (tagged w n ∷ ls) s = tt
+settles-right _ s = tt
 
 -- from one place to another
 pub tree-step : (f : List OpenValue → List OpenValue) (old new : List OpenItem) (x y : Standing) → IsTreeAt old x → standing new ≡ f (standing old) → f (values_at x) ≡ values_at y → IsFullRight y → IsTreeAt new y
@@ -61,37 +51,19 @@ tree-step f old new x y h step is right = (right, step ∙ ap f h.1 ∙ is)
 -- ---- a container ends
 
 full-closed : (s : Spelling) → closed (full_value s) ≡ value_of s
-full-closed (unsigned w n) = refl
-full-closed (negative w n) = refl
-full-closed (bytes w p) = refl
-full-closed (text w p) = refl
-full-closed (byte_chunks cs) = refl
-full-closed (text_chunks cs) = refl
 full-closed (array w ss) = ap value.array (members-are ss)
 full-closed (a_map w es) = ap value.map (pairs-are es)
-full-closed (tag w n s) = refl
-full-closed (simple n) = refl
+full-closed _ = refl
 
 pub full-ends : (s : Spelling) → IsContainer s → CanEnd (full_value s)
 full-ends (array w ss) h = tt
 full-ends (a_map w es) h = tt
 full-ends (tag w n s) h = tt
-full-ends (unsigned w n) h = absurd h
-full-ends (negative w n) h = absurd h
-full-ends (bytes w p) h = absurd h
-full-ends (text w p) h = absurd h
-full-ends (byte_chunks cs) h = absurd h
-full-ends (text_chunks cs) h = absurd h
-full-ends (simple n) h = absurd h
+full-ends _ h = absurd h
 
 level-holds : (l : Level) → CanHold (level_value l)
-level-holds (a_member w left done) = tt
-level-holds (a_key w left done) = tt
-level-holds (a_value w left done k) = tt
-level-holds (some_member done) = tt
-level-holds (some_key done) = tt
-level-holds (some_value done k) = tt
 level-holds (tagged w n) = refl
+level-holds _ = tt
 
 pub levels-take : (ls : List Level) → TakesValue (level_values ls)
 levels-take [] = refl

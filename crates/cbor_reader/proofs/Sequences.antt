@@ -12,7 +12,7 @@ use Rattle.cbor_head.specs.Verdict.{accepted, refused, refusal, IsFormError, IsV
 use Rattle.cbor_head.specs.declared.reason.Reason.TheVariants.{Read, Memory, Truncated, TooLong}
 use Rattle.cbor_head.specs.declared.reason.Refusal.{Refusal}
 use Rattle.cbor_grammar.proofs.Accepted.{accepts_exactly}
-use Rattle.cbor_grammar.proofs.KeyKinds.{kind_later}
+use Rattle.cbor_grammar.proofs.KeyKinds.{of_kind}
 use Rattle.cbor_grammar.proofs.OneFirst.{after_head}
 use Rattle.cbor_grammar.proofs.ReadLaws.{length_spell}
 use Rattle.cbor_judging.specs.Readers.{IsRead, IsReadAs, IsUnread, Loses}
@@ -58,7 +58,7 @@ simple_is_fine limits r n c (inr h) = h.2
 -- a complaint ends behind the first byte
 some_end : (limits : Bounds) (r : Rules) (s : Spelling) (c : Complaint) → IsComplaint limits r s c → 0 < c.end
 some_end limits r s c (inl h) = after_head s r 0 c h
-some_end limits r s c (inr h) = omega (arith, kind_later s 0 c h.2)
+some_end limits r s c (inr h) = omega (arith, (of_kind s 0 c h.2).later)
 
 -- an input without bytes is truncated, where the limit would let it have one
 pub empty_is_truncated : (limits : Bounds) (r : Rules) → 0 < limits.bytes → IsVerdict limits r [] (refused (refusal Truncated 0 0))

@@ -9,7 +9,7 @@ use Rattle.cbor_head.specs.Verdict.{refusal}
 use Rattle.cbor_head.specs.declared.reason.Reason.TheVariants.{Memory}
 use Rattle.cbor_head.specs.declared.reason.Refusal.{Refusal}
 use Rattle.cbor_judging.specs.Readers.{IsRead, IsReadAs, IsUnread, of_memory}
-use Rattle.cbor_judging.proofs.FreeBefore.{front-free, without}
+use Rattle.cbor_judging.proofs.Tops.{front-free, without}
 use Rattle.cbor_plain.specs.Size.{size}
 use Rattle.cbor_reader.proofs.Headline.{front_range, front_valid, front_depth}
 use Rattle.cbor_plain.proofs.Sizes.{size_bounded}

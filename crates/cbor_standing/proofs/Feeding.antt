@@ -1,6 +1,5 @@
 -- One step after another.
-use Rattle.std.proofs.Common.{◌≡◌, ℕ, ◌+◌, ◌-◌, ◌≤◌, List, [], ◌++◌, length, take, drop, ap, sym, ◌∙◌, arith, append-nil, append_assoc, subst}
-use Rattle.std.proofs.lemmas.List.{length-drop, take-append-drop, take_all}
+use Rattle.std.proofs.Common.{◌≡◌, ℕ, ◌+◌, ◌-◌, ◌≤◌, List, [], ◌++◌, length, take, drop, ap, sym, ◌∙◌, arith, append-nil, append_assoc, subst, length-drop, take-append-drop, take_all}
 use Rattle.std.proofs.Math.Seq.{take-add, take-length}
 use Rattle.cbor_automaton.specs.Trace.{Mark}
 use Rattle.cbor_standing.specs.MachineView.{MachineView}
@@ -20,9 +19,7 @@ goes-on old mid new xs ys all added g next e = λ t ms h.
 
 pub more-answers : (out : Out) (m : MachineView) (t bs : List ℕ) (ms : List Mark) → IsMore out → IsAnswer out m t bs ms → StandsFor m (t ++ bs) (ms ++ [])
 more-answers outs.More m t bs ms i a = subst (λ (ns : List Mark). StandsFor m (t ++ bs) ns) (sym (append-nil ms)) a
-more-answers (outs.Event e) m t bs ms i a = absurd i
-more-answers outs.Done m t bs ms i a = absurd i
-more-answers (outs.Refused r) m t bs ms i a = absurd i
+more-answers _ m t bs ms i a = absurd i
 
 pub split-at : (at used : ℕ) (xs : List ℕ) → take at xs ++ take used (drop at xs) ≡ take (at + used) xs
 split-at at used xs = sym (take-add at used xs)

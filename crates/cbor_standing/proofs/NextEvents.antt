@@ -1,6 +1,5 @@
 -- The next event, from one read after another.
-use Rattle.std.proofs.Common.{◌≡◌, ℕ, zero, suc, ◌+◌, ◌-◌, ◌<◌, ◌≤◌, Bool, true, false, true≢false, List, [], ◌∷◌, ◌++◌, length, take, drop, replicate, refl, sym, ap, subst, ◌∙◌, arith, append_assoc, append-nil, length-append, take_all}
-use Rattle.std.specs.Prelude.{Option, Some, None, min}
+use Rattle.std.proofs.Common.{◌≡◌, ℕ, zero, suc, ◌+◌, ◌-◌, ◌<◌, ◌≤◌, Bool, true, false, true≢false, List, [], ◌∷◌, ◌++◌, length, take, drop, replicate, refl, sym, ap, subst, ◌∙◌, arith, append_assoc, append-nil, length-append, take_all, Option, Some, None, min}
 use Rattle.std.specs.Io.KnownBytes.{Consumes}
 use Rattle.std.proofs.KnownBytes.{Consumes-trans}
 use lib.Seq.{drop-append_seam}
@@ -8,8 +7,8 @@ use Rattle.cbor_head.specs.Value.{AreBytes}
 use Rattle.cbor_head.specs.declared.reason.Refusal.{Refusal}
 use Rattle.cbor_head.specs.declared.major.Major.{Major}
 use Rattle.cbor_head.specs.declared.width.Width.{Width}
-use Rattle.cbor_automaton.specs.Trace.{Mark, a_head, a_chunk, a_byte, a_break, size, total}
-use Rattle.cbor_automaton.specs.Automaton.{Frame, State, start, at_item, in_head, in_simple, in_payload, in_chunks, done, run, Outcome, refused, reached, telling}
+use Rattle.cbor_automaton.specs.Trace.{Mark, a_byte, total}
+use Rattle.cbor_automaton.specs.Automaton.{Frame, State, start, in_head, in_simple, in_payload, done, run, Outcome, refused, reached, telling}
 use Rattle.cbor_automaton.specs.Marks.{mark_of, marks_of}
 use Rattle.cbor_steps.specs.State.{wanted_at, state_of, is_in_payload, is_done}
 use Rattle.cbor_standing.specs.inner.Machine.{IsShown}
@@ -37,12 +36,9 @@ use Rattle.cbor_automaton.proofs.Taking.{IsClear, IsWithin, mark-taken, nothing-
 -- ---- between events no head is open
 
 sane-clear : (q : State) → IsSane q → pending q ≡ 0 → IsClear q
-sane-clear (at_item fs) s h = tt
 sane-clear (in_head chunk m w k acc fs) s h = absurd (omega arith)
 sane-clear (in_simple fs) s h = absurd (omega arith)
-sane-clear (in_payload chunk m n fs) s h = tt
-sane-clear (in_chunks m fs) s h = tt
-sane-clear done s h = tt
+sane-clear _ s h = tt
 
 pub whole-clear : (d : ℕ) (t : List ℕ) (q : State) (ms : List Mark) → run d start t ≡ reached q ms → total ms ≡ length t → IsClear q
 whole-clear d t q ms e whole =
@@ -70,20 +66,12 @@ IsPayload (in_payload chunk m n fs) = Unit {0}
 IsPayload _ = ⊥
 
 byte-payload : (d : ℕ) (q : State) (bs : List ℕ) (u : State) → IsTaking d q a_byte bs u → IsPayload q
-byte-payload d (at_item fs) bs u h = absurd h
-byte-payload d (in_head chunk m w k acc fs) bs u h = absurd h
-byte-payload d (in_simple fs) bs u h = absurd h
 byte-payload d (in_payload chunk m n fs) bs u h = tt
-byte-payload d (in_chunks m fs) bs u h = absurd h
-byte-payload d done bs u h = absurd h
+byte-payload d _ bs u h = absurd h
 
 payload-due : (position : Position) (fs : List frames.Frame) (n : ℕ) → IsPayload (state_of position fs) → (is_done position ≡ false) × IsDue (is_in_payload position) (kinds.Piece n)
-payload-due positions.Item fs n h = absurd h
-payload-due (positions.Head chunk kind w left argument) fs n h = absurd h
-payload-due positions.SimpleNumber fs n h = absurd h
 payload-due (positions.Payload chunk kind left) fs n h = (refl, tt)
-payload-due (positions.Chunks kind) fs n h = absurd h
-payload-due positions.Done fs n h = absurd h
+payload-due _ fs n h = absurd h
 
 -- no byte of a payload
 abbrev IsOther : Mark → Type 0
@@ -97,20 +85,12 @@ IsOpen position = (is_done position ≡ false) × (is_in_payload position ≡ fa
 in-no-payload : (d : ℕ) (chunk : Bool) (major : Major) (n : ℕ) (fs : List Frame) (m : Mark) (bs : List ℕ) (u : State) → IsOther m → IsTaking d (in_payload chunk major n fs) m bs u → ⊥
 in-no-payload d chunk major zero fs a_byte bs u o h = o
 in-no-payload d chunk major (suc n) fs a_byte bs u o h = o
-in-no-payload d chunk major zero fs (a_head m w x) bs u o h = h
-in-no-payload d chunk major (suc n) fs (a_head m w x) bs u o h = h
-in-no-payload d chunk major zero fs (a_chunk w x) bs u o h = h
-in-no-payload d chunk major (suc n) fs (a_chunk w x) bs u o h = h
-in-no-payload d chunk major zero fs a_break bs u o h = h
-in-no-payload d chunk major (suc n) fs a_break bs u o h = h
+in-no-payload d chunk major _ fs _ bs u o h = h
 
 other-open : (d : ℕ) (position : Position) (fs : List frames.Frame) (m : Mark) (bs : List ℕ) (u : State) → IsOther m → IsTaking d (state_of position fs) m bs u → IsOpen position
-other-open d positions.Item fs m bs u o h = (refl, refl)
-other-open d (positions.Head chunk kind w left argument) fs m bs u o h = (refl, refl)
-other-open d positions.SimpleNumber fs m bs u o h = (refl, refl)
 other-open d (positions.Payload chunk kind left) fs m bs u o h = absurd (in-no-payload d chunk _ left _ m bs u o h)
-other-open d (positions.Chunks kind) fs m bs u o h = (refl, refl)
 other-open d positions.Done fs m bs u o h = absurd h
+other-open d _ fs m bs u o h = (refl, refl)
 
 -- ---- the bytes of one event
 
@@ -119,12 +99,9 @@ total-bytes zero = refl
 total-bytes (suc n) = omega (arith, total-bytes n)
 
 clear-sane : (q : State) → IsClear q → IsSane q × (pending q ≡ 0)
-clear-sane (at_item fs) h = (tt, refl)
 clear-sane (in_head chunk m w k acc fs) h = absurd h
 clear-sane (in_simple fs) h = absurd h
-clear-sane (in_payload chunk m n fs) h = (tt, refl)
-clear-sane (in_chunks m fs) h = (tt, refl)
-clear-sane done h = (tt, refl)
+clear-sane _ h = (tt, refl)
 
 -- from one end of an event to another the marks have as many bytes as there are
 clear-total : (d : ℕ) (bs : List ℕ) (q u : State) (ms : List Mark) → IsClear q → IsClear u → run d q bs ≡ reached u ms → total ms ≡ length bs
@@ -138,13 +115,10 @@ unfolding onwards
 run-joined d pre last q r u ms e f = run-append d pre last q ∙ ap (λ o. onwards o (λ s. run d s last)) e ∙ f
 
 payload-within : (d : ℕ) (q r : State) (pre : List ℕ) → IsPayload q → IsWithin d q r pre → pre ≡ []
-payload-within d q (at_item fs) pre h w = w.1
 payload-within d q (in_head false m x k acc fs) pre h w = absurd (subst IsPayload w.0 h)
 payload-within d q (in_head true m x k acc fs) pre h w = absurd (subst IsPayload w.0 h)
 payload-within d q (in_simple fs) pre h w = absurd (subst IsPayload w.0 h)
-payload-within d q (in_payload chunk m n fs) pre h w = w.1
-payload-within d q (in_chunks m fs) pre h w = w.1
-payload-within d q done pre h w = w.1
+payload-within d q _ pre h w = w.1
 
 -- the bytes of a payload come with no others before them
 alone : (d : ℕ) (q r u : State) (pre last : List ℕ) (ms : List Mark) → IsClear q → AreBytes pre → AreBytes last → run d q pre ≡ reached r [] → run d r last ≡ reached u (a_byte ∷ ms) → (pre ≡ []) × IsPayload q

@@ -1,6 +1,5 @@
 -- What a machine stands for, after each kind of step.
-use Rattle.std.proofs.Common.{◌≡◌, ◌⊎◌, ℕ, zero, suc, ◌+◌, ◌-◌, ◌≤◌, ◌<◌, List, [], ◌∷◌, ◌++◌, length, take, drop, None, refl, ap, sym, ◌∙◌, arith, append-nil, append_assoc, subst, inl, inr}
-use Rattle.std.proofs.lemmas.List.{length-append, length-take, take-take}
+use Rattle.std.proofs.Common.{◌≡◌, ◌⊎◌, ℕ, zero, suc, ◌+◌, ◌-◌, ◌≤◌, ◌<◌, List, [], ◌∷◌, ◌++◌, length, take, drop, None, refl, ap, sym, ◌∙◌, arith, append-nil, append_assoc, subst, inl, inr, length-append, length-take, take-take}
 use Rattle.std.proofs.Math.Seq.{take-append_seam}
 use Rattle.cbor_head.specs.Value.{AreBytes}
 use Rattle.cbor_head.specs.Verdict.{refusal}
@@ -21,7 +20,7 @@ use Rattle.cbor_standing.specs.declared.step.Out.TheVariants as outs
 use Rattle.cbor_automaton.specs.declared.event.Event.{Event}
 use Rattle.cbor_steps.specs.declared.frame.Frame.{Frame}
 use Rattle.cbor_steps.specs.declared.position.Position.{Position}
-use Rattle.cbor_steps.specs.declared.position.Position.TheVariants.{Item, Head, SimpleNumber, Payload, Chunks, Done}
+use Rattle.cbor_steps.specs.declared.position.Position.TheVariants.{Head, SimpleNumber, Done}
 use Rattle.cbor_steps.specs.declared.up_to_event.Walked.{Walked}
 use Rattle.cbor_steps.specs.declared.up_to_event.Walked.TheVariants.{Refused}
 use Rattle.cbor_automaton.proofs.Beginnings.{item-done, done-item, reached-begins}
@@ -48,38 +47,23 @@ are_bytes-take (suc n) (x ∷ xs) h = (h.0, are_bytes-take n xs h.1)
 
 pub unfinished-position : (position : Position) (fs : List Frame) → ¬ (position ≡ Done) → IsUnfinished (state_of position fs)
 unfinished-position Done fs h = absurd (h refl)
-unfinished-position Item fs h = tt
-unfinished-position (Head chunk kind w left argument) fs h = tt
-unfinished-position SimpleNumber fs h = tt
-unfinished-position (Payload chunk kind left) fs h = tt
-unfinished-position (Chunks kind) fs h = tt
+unfinished-position _ fs h = tt
 
 done-position : (position : Position) (fs : List Frame) → done ≡ state_of position fs → position ≡ Done
 done-position Done fs h = refl
-done-position Item fs h = absurd (cc)
-done-position (Head chunk kind w left argument) fs h = absurd (cc)
-done-position SimpleNumber fs h = absurd (cc)
-done-position (Payload chunk kind left) fs h = absurd (cc)
-done-position (Chunks kind) fs h = absurd (cc)
+done-position _ fs h = absurd (cc)
 
 settled-clear : (position : Position) (fs : List Frame) → IsSettled fs position → IsClear (state_of position fs)
-settled-clear Done fs h = tt
-settled-clear Item fs h = tt
 settled-clear (Head chunk kind w left argument) fs h = absurd h
 settled-clear SimpleNumber fs h = absurd h
-settled-clear (Payload chunk kind left) fs h = tt
-settled-clear (Chunks kind) fs h = tt
+settled-clear _ fs h = tt
 
 pub fit-empty : (d : ℕ) (fs : List Frame) (position : Position) → IsFit d fs position → position ≡ Done → fs ≡ []
 fit-empty d fs position h e = subst (IsFit d fs) e h
 
 stack-size : (position : Position) (fs : List Frame) → (position ≡ Done → fs ≡ []) → length (stack (state_of position fs)) ≡ length fs
 stack-size Done fs h = sym (ap length (h refl))
-stack-size Item fs h = length_frames fs
-stack-size (Head chunk kind w left argument) fs h = length_frames fs
-stack-size SimpleNumber fs h = length_frames fs
-stack-size (Payload chunk kind left) fs h = length_frames fs
-stack-size (Chunks kind) fs h = length_frames fs
+stack-size _ fs h = length_frames fs
 
 -- ---- what a run means
 

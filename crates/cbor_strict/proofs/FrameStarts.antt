@@ -4,7 +4,7 @@ use Rattle.cbor_head.specs.Head.{head}
 use Rattle.cbor_head.specs.Spelling.{Spelling, Spellings, SpelledEntries, array, a_map, no_spellings, a_spelling, no_entries, entry, spell, spell_all, spell_entries, spellings_count, entries_count, break_of, IsSpelled, AreSpelled, AreEntriesSpelled}
 use Rattle.cbor_head.specs.declared.major.Major.TheVariants.{Array, Map, Tag}
 use Rattle.cbor_head.specs.declared.width.Width.{Width}
-use Rattle.cbor_head.specs.declared.width.Width.TheVariants.{Direct, One, Two, Four, Eight, Indefinite}
+use Rattle.cbor_head.specs.declared.width.Width.TheVariants.{Indefinite}
 use Rattle.cbor_head.proofs.HeadLaws.{told}
 use Rattle.cbor_grammar.proofs.Parts.{major, width, count, head_of, body, parts, holds_of, one_head, as_array, as_map, as_tag}
 use Rattle.cbor_grammar.proofs.ReadLaws.{unique, holds_or_open}
@@ -22,11 +22,7 @@ HasLength (tagged w n) = Unit {0}
 
 told_is : (w : Width) (n i : ℕ) → w ≢ Indefinite → told w n ≡ told w i → n ≡ i
 told_is Indefinite n i f e = absurd (f refl)
-told_is Direct n i f e = e
-told_is One n i f e = e
-told_is Two n i f e = e
-told_is Four n i f e = e
-told_is Eight n i f e = e
+told_is _ n i f e = e
 
 -- members that start with these, and have so many more behind the next
 record MembersStart (a ss : Spellings) (y rest : List ℕ) (m : ℕ) : Type 0 where

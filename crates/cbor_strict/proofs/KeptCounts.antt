@@ -1,9 +1,7 @@
 -- How many maps are open, and how many bytes of keys are kept, is what each item that starts with the bytes read tells of them.
-use Rattle.std.proofs.Common.{◌≡◌, ℕ, ◌+◌, ◌-◌, ◌<◌, ◌≤◌, List, [], ◌∷◌, ◌++◌, length, refl, sym, ap, ◌∙◌, subst, arith, append_assoc}
-use Rattle.std.proofs.lemmas.Bool.{le-ltb}
-use Rattle.std.proofs.lemmas.List.{length-append}
+use Rattle.std.proofs.Common.{◌≡◌, ℕ, ◌+◌, ◌-◌, ◌<◌, ◌≤◌, List, [], ◌∷◌, ◌++◌, length, refl, sym, ap, ◌∙◌, subst, arith, append_assoc, le-ltb, length-append}
 use Rattle.cbor_head.specs.Head.{head}
-use Rattle.cbor_head.specs.Spelling.{Spelling, Spellings, unsigned, negative, bytes, text, byte_chunks, text_chunks, array, a_map, tag, simple, no_spellings, a_spelling, spell, spell_all, spellings_count, entries_count, break_of, IsSpelled}
+use Rattle.cbor_head.specs.Spelling.{Spelling, Spellings, array, a_map, tag, no_spellings, a_spelling, spell, spell_all, spellings_count, entries_count, break_of, IsSpelled}
 use Rattle.cbor_head.specs.declared.major.Major.TheVariants.{Array, Map, Tag}
 use Rattle.cbor_automaton.proofs.Opens.{over-none}
 use Rattle.cbor_strict.specs.KeptKeys.{open_maps, open_maps_in, key_bytes, key_bytes_in}
@@ -51,13 +49,7 @@ mutual
       maps_past_in ss (n - length hd) (omega (arith, l, length-append (hd ++ spell_all ss) (break_of w), length-append hd (spell_all ss)))
   maps_past (a_map w es) n l = over-none n (length (head Map w (entries_count es))) (length (spell (a_map w es))) _ l
   maps_past (tag w k s) n l = maps_past s (n - length (head Tag w k)) (omega (arith, l, length-append (head Tag w k) (spell s)))
-  maps_past (unsigned w k) n l = refl
-  maps_past (negative w k) n l = refl
-  maps_past (bytes w q) n l = refl
-  maps_past (text w q) n l = refl
-  maps_past (byte_chunks cs) n l = refl
-  maps_past (text_chunks cs) n l = refl
-  maps_past (simple k) n l = refl
+  maps_past _ n l = refl
 
   maps_past_in : (ss : Spellings) (n : ℕ) → length (spell_all ss) ≤ n → open_maps_in n ss ≡ 0
   maps_past_in no_spellings n l = refl
@@ -72,13 +64,7 @@ mutual
       keys_past_in ss (n - length hd) (omega (arith, l, length-append (hd ++ spell_all ss) (break_of w), length-append hd (spell_all ss)))
   keys_past (a_map w es) n l = rw (le-ltb n (length (spell (a_map w es))) l) refl
   keys_past (tag w k s) n l = keys_past s (n - length (head Tag w k)) (omega (arith, l, length-append (head Tag w k) (spell s)))
-  keys_past (unsigned w k) n l = refl
-  keys_past (negative w k) n l = refl
-  keys_past (bytes w q) n l = refl
-  keys_past (text w q) n l = refl
-  keys_past (byte_chunks cs) n l = refl
-  keys_past (text_chunks cs) n l = refl
-  keys_past (simple k) n l = refl
+  keys_past _ n l = refl
 
   keys_past_in : (ss : Spellings) (n : ℕ) → length (spell_all ss) ≤ n → key_bytes_in n ss ≡ 0
   keys_past_in no_spellings n l = refl

@@ -1,38 +1,27 @@
 -- What is kept of the keys where a container ends, and those around it.
-use Rattle.std.proofs.Common.{◌≡◌, ◌≢◌, ℕ, suc, ◌+◌, ◌<◌, ◌≤◌, Bool, true, false, List, [], ◌∷◌, ◌++◌, length, take, refl, sym, ap, ◌∙◌, subst, inl, inr, arith, append-nil}
-use Rattle.std.specs.Prelude.{if◌then◌else◌}
-use Rattle.std.proofs.lemmas.List.{length-append}
+use Rattle.std.proofs.Common.{◌≡◌, ◌≢◌, ℕ, suc, ◌+◌, ◌<◌, ◌≤◌, Bool, true, false, List, [], ◌∷◌, ◌++◌, length, take, refl, sym, ap, ◌∙◌, subst, inl, inr, arith, append-nil, if◌then◌else◌, length-append}
 use Rattle.std.proofs.Math.Seq.{take-append_seam}
 use Rattle.cbor_head.specs.Head.{head}
-use Rattle.cbor_head.specs.Spelling.{Spelling, SpelledEntries, no_spellings, a_spelling, no_entries, entry, spell, spell_entries, break_of, entries_count}
+use Rattle.cbor_head.specs.Spelling.{Spelling, SpelledEntries, no_spellings, no_entries, entry, spell, spell_entries, entries_count}
 use Rattle.cbor_head.specs.declared.major.Major.TheVariants.{Map}
 use Rattle.cbor_head.specs.declared.width.Width.{Width}
-use Rattle.cbor_head.specs.declared.width.Width.TheVariants.{Direct, One, Two, Four, Eight, Indefinite}
+use Rattle.cbor_head.specs.declared.width.Width.TheVariants.{Indefinite}
 use Rattle.cbor_strict.specs.declared.last_keys.Due.{Due}
 use Rattle.cbor_strict.specs.declared.last_keys.Due.TheVariants.{Member}
 use Rattle.cbor_strict.specs.declared.last_keys.Span.{Span}
 use Rattle.cbor_judging.specs.Frame.{Frame, a_member, a_key, a_content, tagged, plug, before, behind}
 use Rattle.cbor_strict.specs.inner.LastKeys.{AreDefinite, still_open, ended_item, KeysView, is_key, stands_in_key, keys_around, due_of, levels_of, complete_key, kept_bytes, kept_before, span, spans_in, spans_of, IsKept, IsFull}
+use Rattle.cbor_judging.proofs.Members.{closes}
 use Rattle.cbor_judging.proofs.Frames.{spell_plug}
 use Rattle.cbor_strict.proofs.KeptKeys.{either_way, in_some_key, in_no_key, few_keys, kept_if_in, kept_if_out, kept_out}
 
 -- ---- one closes
 
-definite_none : (w : Width) → w ≢ Indefinite → break_of w ≡ []
-definite_none Indefinite f = absurd (f refl)
-definite_none Direct f = refl
-definite_none One f = refl
-definite_none Two f = refl
-definite_none Four f = refl
-definite_none Eight f = refl
-
 nothing_behind : (f : Frame) → IsFull f → behind f ≡ []
-nothing_behind (a_member w a no_spellings) h = definite_none w h
-nothing_behind (a_content w a k no_entries) h = definite_none w h
+nothing_behind (a_member w a no_spellings) h = closes w h
+nothing_behind (a_content w a k no_entries) h = closes w h
 nothing_behind (tagged w n) h = refl
-nothing_behind (a_member w a (a_spelling s b)) h = absurd h
-nothing_behind (a_content w a k (entry l m b)) h = absurd h
-nothing_behind (a_key w a v b) h = absurd h
+nothing_behind _ h = absurd h
 
 -- the bytes of a container whose last item this is
 pub full_bytes : (f : Frame) (s : Spelling) → IsFull f → spell (plug f s) ≡ before f ++ spell s
@@ -40,9 +29,7 @@ full_bytes f s h = spell_plug f s ∙ ap (λ (x : List ℕ). before f ++ (spell 
 
 full_no_key : (f : Frame) → IsFull f → is_key f ≡ false
 full_no_key (a_key w a v b) h = absurd h
-full_no_key (a_member w a b) h = refl
-full_no_key (a_content w a k b) h = refl
-full_no_key (tagged w n) h = refl
+full_no_key _ h = refl
 
 full_around : (f : Frame) (fs : List Frame) → IsFull f → keys_around (f ∷ fs) ≡ keys_around fs
 full_around f fs h = ap (λ (b : Bool). if b then suc (keys_around fs) else keys_around fs) (full_no_key f h)
@@ -181,23 +168,17 @@ pub kept_levels : (k : KeysView) (fs : List Frame) (p : List ℕ) → IsKept k f
 kept_levels k fs p h = ap length h.levels ∙ levels_length fs
 
 still_fewer : (fs : List Frame) → length (still_open fs) ≤ length fs
-still_fewer [] = omega arith
 still_fewer (a_member w a no_spellings ∷ fs) = omega (arith, still_fewer fs)
-still_fewer (a_member w a (a_spelling t b) ∷ fs) = omega arith
 still_fewer (a_content w a k no_entries ∷ fs) = omega (arith, still_fewer fs)
-still_fewer (a_content w a k (entry l m b) ∷ fs) = omega arith
-still_fewer (a_key w a v b ∷ fs) = omega arith
 still_fewer (tagged w n ∷ fs) = omega (arith, still_fewer fs)
+still_fewer _ = omega arith
 
 -- those that all stay
 still_all : (gs : List Frame) (s : Spelling) → length gs ≤ length (still_open gs) → (still_open gs ≡ gs) × (ended_item gs s ≡ s)
-still_all [] s l = (refl, refl)
 still_all (a_member w a no_spellings ∷ fs) s l = absurd (omega (arith, l, still_fewer fs))
-still_all (a_member w a (a_spelling t b) ∷ fs) s l = (refl, refl)
 still_all (a_content w a k no_entries ∷ fs) s l = absurd (omega (arith, l, still_fewer fs))
-still_all (a_content w a k (entry n m b) ∷ fs) s l = (refl, refl)
-still_all (a_key w a v b ∷ fs) s l = (refl, refl)
 still_all (tagged w n ∷ fs) s l = absurd (omega (arith, l, still_fewer fs))
+still_all _ s l = (refl, refl)
 
 pub all_shut : (k : KeysView) (fs : List Frame) (s : Spelling) (left n : ℕ) → HasShut k fs s → n ≡ length k.levels → length (still_open fs) ≡ left → n ≤ left → IsKept k (still_open fs) (spell (ended_item fs s))
 all_shut k fs s left n h e g l =
@@ -212,15 +193,12 @@ pub one_shut : (k new : KeysView) (fs : List Frame) (s : Spelling) (left n : ℕ
 one_shut k new fs s left n h e g l step = go h.gs h.kept h.definite h.same h.same_item (omega (arith, e, kept_levels k h.gs (spell h.item) h.kept, g, l, ap length h.same))
   where
     go : (gs : List Frame) → IsKept k gs (spell h.item) → AreDefinite gs → still_open gs ≡ still_open fs → ended_item gs h.item ≡ ended_item fs s → length (still_open gs) < length gs → HasShut new fs s
-    go [] kept d same it l = absurd (omega (arith, l))
     go (a_member w a no_spellings ∷ gs) kept d same it l =
         record { gs = gs; item = plug (a_member w a no_spellings) h.item; kept = step (a_member w a no_spellings) gs h.item d.0 kept; definite = d.1; same = same; same_item = it }
-    go (a_member w a (a_spelling t b) ∷ gs) kept d same it l = absurd (omega (arith, l))
     go (a_content w a k2 no_entries ∷ gs) kept d same it l =
         record { gs = gs; item = plug (a_content w a k2 no_entries) h.item; kept = step (a_content w a k2 no_entries) gs h.item d.0 kept; definite = d.1; same = same; same_item = it }
-    go (a_content w a k2 (entry x m b) ∷ gs) kept d same it l = absurd (omega (arith, l))
-    go (a_key w a v b ∷ gs) kept d same it l = absurd (omega (arith, l))
     go (tagged w n ∷ gs) kept d same it l = record { gs = gs; item = plug (tagged w n) h.item; kept = step (tagged w n) gs h.item tt kept; definite = d; same = same; same_item = it }
+    go _ kept d same it l = absurd (omega (arith, l))
 
 spans_length : (fs : List Frame) → length (spans_of fs) ≤ length fs
 spans_length [] = omega arith

@@ -1,7 +1,5 @@
 -- What is kept of a path of open containers for the order of keys: within a key, and where a container opens.
-use Rattle.std.proofs.Common.{◌≡◌, ℕ, zero, suc, ◌+◌, ◌<◌, ◌≤◌, ◌⊎◌, Bool, true, false, true≢false, List, [], ◌∷◌, ◌++◌, length, refl, sym, ap, ◌∙◌, inl, inr, arith, append_assoc, append-nil}
-use Rattle.std.specs.Prelude.{if◌then◌else◌, ◌↔◌, IsTrue, Result, Ok, Err, OnOk, is_ok}
-use Rattle.std.proofs.lemmas.List.{length-append}
+use Rattle.std.proofs.Common.{◌≡◌, ℕ, zero, suc, ◌+◌, ◌<◌, ◌≤◌, ◌⊎◌, Bool, true, false, true≢false, List, [], ◌∷◌, ◌++◌, length, refl, sym, ap, ◌∙◌, inl, inr, arith, append_assoc, append-nil, if◌then◌else◌, ◌↔◌, IsTrue, Result, Ok, Err, OnOk, is_ok, length-append}
 use Rattle.cbor_head.specs.Head.{head}
 use Rattle.cbor_head.specs.Spelling.{Spelling, SpelledEntries, no_entries, entries_count}
 use Rattle.cbor_head.specs.declared.major.Major.TheVariants.{Map}
@@ -21,23 +19,17 @@ either_way false = inr refl
 pub in_some_key : (fs : List Frame) → 0 < keys_around fs → stands_in_key fs ≡ true
 in_some_key [] l = absurd (omega (arith, l))
 in_some_key (a_key w a v b ∷ fs) l = refl
-in_some_key (a_member w a b ∷ fs) l = in_some_key fs l
-in_some_key (a_content w a k b ∷ fs) l = in_some_key fs l
-in_some_key (tagged w n ∷ fs) l = in_some_key fs l
+in_some_key (_ ∷ fs) l = in_some_key fs l
 
 pub in_no_key : (fs : List Frame) → keys_around fs ≡ 0 → stands_in_key fs ≡ false
 in_no_key [] e = refl
 in_no_key (a_key w a v b ∷ fs) e = absurd (omega (arith, e))
-in_no_key (a_member w a b ∷ fs) e = in_no_key fs e
-in_no_key (a_content w a k b ∷ fs) e = in_no_key fs e
-in_no_key (tagged w n ∷ fs) e = in_no_key fs e
+in_no_key (_ ∷ fs) e = in_no_key fs e
 
 pub few_keys : (fs : List Frame) → keys_around fs ≤ length fs
 few_keys [] = omega arith
 few_keys (a_key w a v b ∷ fs) = omega (arith, few_keys fs)
-few_keys (a_member w a b ∷ fs) = omega (arith, few_keys fs)
-few_keys (a_content w a k b ∷ fs) = omega (arith, few_keys fs)
-few_keys (tagged w n ∷ fs) = omega (arith, few_keys fs)
+few_keys (_ ∷ fs) = omega (arith, few_keys fs)
 
 pub none_open : (n : ℕ) (inside : Bool) → IsTrue inside ↔ (0 < n) → inside ≡ false → n ≡ 0
 none_open zero inside h e = refl

@@ -1,11 +1,9 @@
 -- What the strict reader keeps, by the items that start with the bytes it read.
-use Rattle.std.proofs.Common.{◌≡◌, ◌≢◌, ℕ, zero, suc, ◌+◌, ◌-◌, ◌<◌, ◌≤◌, Bool, true, false, true≢false, List, [], ◌∷◌, ◌++◌, length, refl, sym, ap, ◌∙◌, subst, inl, inr, arith, append_assoc, append-nil}
-use Rattle.std.specs.Prelude.{nat_lt, if◌then◌else◌}
+use Rattle.std.proofs.Common.{◌≡◌, ◌≢◌, ℕ, zero, suc, ◌+◌, ◌-◌, ◌<◌, ◌≤◌, Bool, true, false, true≢false, List, [], ◌∷◌, ◌++◌, length, refl, sym, ap, ◌∙◌, subst, inl, inr, arith, append_assoc, append-nil, nat_lt, if◌then◌else◌, length-append}
 use Rattle.std.proofs.lemmas.Bool.{lt-ltb, lt-leb}
-use Rattle.std.proofs.lemmas.List.{length-append}
 use Rattle.cbor_head.specs.Head.{head, Holds}
 use Rattle.cbor_head.specs.Limits.{Bounds}
-use Rattle.cbor_head.specs.Spelling.{Spelling, Spellings, SpelledEntries, unsigned, negative, bytes, text, byte_chunks, text_chunks, array, a_map, tag, simple, no_spellings, a_spelling, no_entries, entry, spell, spell_entries, spellings_count, entries_count, IsSpelled}
+use Rattle.cbor_head.specs.Spelling.{Spelling, Spellings, SpelledEntries, bytes, text, array, a_map, tag, no_spellings, a_spelling, no_entries, entry, spell, spell_entries, spellings_count, entries_count, IsSpelled}
 use Rattle.cbor_head.specs.Complaint as complaint
 use Rattle.cbor_head.specs.Complaint.{strict, OfCount}
 use Rattle.cbor_head.specs.Laws.{StartsWith}
@@ -44,13 +42,7 @@ mutual
   maps_zero (array w ss) n e = maps_zero_in ss (n - length (head Array w (spellings_count ss))) (omega (arith, e))
   maps_zero (a_map w es) n e = rw (lt-leb (length (head Map w (entries_count es))) n (omega (arith, e, length_head Map w (entries_count es)))) refl
   maps_zero (tag w k s) n e = maps_zero s (n - length (head Tag w k)) (omega (arith, e))
-  maps_zero (unsigned w k) n e = refl
-  maps_zero (negative w k) n e = refl
-  maps_zero (bytes w q) n e = refl
-  maps_zero (text w q) n e = refl
-  maps_zero (byte_chunks cs) n e = refl
-  maps_zero (text_chunks cs) n e = refl
-  maps_zero (simple k) n e = refl
+  maps_zero _ n e = refl
 
   maps_zero_in : (ss : Spellings) (n : ℕ) → n ≡ 0 → open_maps_in n ss ≡ 0
   maps_zero_in no_spellings n e = refl
@@ -69,13 +61,7 @@ mutual
   keys_zero (array w ss) n e = keys_zero_in ss (n - length (head Array w (spellings_count ss))) (omega (arith, e))
   keys_zero (a_map w es) n e = either_none (nat_lt n (length (spell (a_map w es)))) _ (keys_zero_entries es (n - length (head Map w (entries_count es))) (omega (arith, e)))
   keys_zero (tag w k s) n e = keys_zero s (n - length (head Tag w k)) (omega (arith, e))
-  keys_zero (unsigned w k) n e = refl
-  keys_zero (negative w k) n e = refl
-  keys_zero (bytes w q) n e = refl
-  keys_zero (text w q) n e = refl
-  keys_zero (byte_chunks cs) n e = refl
-  keys_zero (text_chunks cs) n e = refl
-  keys_zero (simple k) n e = refl
+  keys_zero _ n e = refl
 
   keys_zero_in : (ss : Spellings) (n : ℕ) → n ≡ 0 → key_bytes_in n ss ≡ 0
   keys_zero_in no_spellings n e = refl
@@ -110,9 +96,7 @@ count_snoc (g ∷ gs) f = omega (arith, count_snoc gs f)
 
 one_span : (f : Frame) (fs : List Frame) → length (spans_in f fs) ≡ one_map f
 one_span (a_member w a b) fs = refl
-one_span (a_key w a v b) fs = refl
-one_span (a_content w a k b) fs = refl
-one_span (tagged w n) fs = refl
+one_span _ fs = refl
 
 spans_counted : (fs : List Frame) → length (spans_of fs) ≡ map_count (from_outside fs)
 spans_counted [] = refl
@@ -125,9 +109,7 @@ key_snoc (a_key w a v b ∷ gs) f = sym (one_true (is_key f))
     one_true : (b : Bool) → (if b then true else true) ≡ true
     one_true true = refl
     one_true false = refl
-key_snoc (a_member w a b ∷ gs) f = key_snoc gs f
-key_snoc (a_content w a k b ∷ gs) f = key_snoc gs f
-key_snoc (tagged w n ∷ gs) f = key_snoc gs f
+key_snoc (_ ∷ gs) f = key_snoc gs f
 
 key_outside : (fs : List Frame) → stands_in_key (from_outside fs) ≡ stands_in_key fs
 key_outside [] = refl
@@ -147,15 +129,11 @@ snoc_out [] f n e = alone (is_key f) (length (complete_key f))
     alone true k = omega arith
     alone false k = omega arith
 snoc_out (a_key w a v b ∷ gs) f n e = absurd (true≢false e)
-snoc_out (a_member w a b ∷ gs) f n e = omega (arith, snoc_out gs f n e)
-snoc_out (a_content w a k b ∷ gs) f n e = omega (arith, snoc_out gs f n e)
-snoc_out (tagged w k ∷ gs) f n e = omega (arith, snoc_out gs f n e)
+snoc_out (_ ∷ gs) f n e = omega (arith, snoc_out gs f n e)
 
 size_if : (f : Frame) (p : List ℕ) → length (if is_key f then p else []) ≡ (if is_key f then length p else 0)
 size_if (a_key w a v b) p = refl
-size_if (a_member w a b) p = refl
-size_if (a_content w a k b) p = refl
-size_if (tagged w n) p = refl
+size_if _ p = refl
 
 kept_counted : (fs : List Frame) (p : List ℕ) → length (kept_bytes fs p) ≡ keys_size (from_outside fs) (length p)
 kept_counted [] p = refl

@@ -23,14 +23,12 @@ use Rattle.cbor_judging.specs.Frame.{Frame, a_member, a_key, a_content, tagged, 
 use Rattle.cbor_judging.specs.Judged.{IsJudged, Never}
 use Rattle.cbor_judging.specs.OpenMaps.{AreOpen, AreOpenDistinct}
 use Rattle.cbor_judging.specs.Reading.{IsAt, OfMark, IsBegun, ReadsItem, ReadsPayload, string_kind, string_major}
-use Rattle.cbor_judging.proofs.Arrays.{starts-array, array-whole}
+use Rattle.cbor_judging.proofs.Members.{starts-array, array-whole, starts-with, map-whole}
 use Rattle.cbor_judging.proofs.Heads.{open_or}
 use Rattle.cbor_judging.proofs.Items.{definite, proper-definite, never-open, is-definite, head-count}
 use Rattle.cbor_judging.proofs.Judged.{zero_item, zeros, zeros_count, zero_pairs, pairs_count}
-use Rattle.cbor_judging.proofs.Maps.{starts-with, map-whole}
 use Rattle.cbor_judging.proofs.OpenMaps.{judged_within}
-use Rattle.cbor_judging.proofs.OpenSteps.{distinct_snoc}
-use Rattle.cbor_judging.proofs.OpenWalk.{array_opens, map_opens, tag_opens}
+use Rattle.cbor_judging.proofs.OpenSteps.{distinct_snoc, array_opens, map_opens, tag_opens}
 use Rattle.cbor_judging.proofs.Scalars.{at-as, reads-unsigned, reads-negative, reads-simple}
 use Rattle.cbor_judging.proofs.WholeStrings.{string-due, reads-string}
 use Rattle.std.proofs.KnownBytes.{Consumes-nil}
@@ -143,16 +141,7 @@ module _ (o : KeyOrder) (b : Bounds) (fs : List Frame) (t x : List ℕ) (e : Ite
           at = at-as b e (t ++ x) (t ++ x) begun.next (at_item (frames_in (f ∷ fs))) refl i.follows.1 begun.at;
         },
       )
-  other_opens (kinds.Array None) begun l = absurd l
-  other_opens (kinds.Unsigned n) begun l = absurd l
-  other_opens (kinds.Negative n) begun l = absurd l
-  other_opens (kinds.Simple n) begun l = absurd l
-  other_opens (kinds.Bytes n) begun l = absurd l
-  other_opens (kinds.Text n) begun l = absurd l
-  other_opens (kinds.Chunk n) begun l = absurd l
-  other_opens (kinds.Piece n) begun l = absurd l
-  other_opens (kinds.Map n) begun l = absurd l
-  other_opens kinds.End begun l = absurd l
+  other_opens _ begun l = absurd l
 
   pub pairs_open : (kind : EventKind) → IsBegun (strict o) b (frames_in fs) t x e w kind → IsMap kind → (v : Spelling) × (es : SpelledEntries) × HasOpened o b fs t x e (a_key w no_entries v es)
   pairs_open (kinds.Map (Some zero)) begun l = absurd (omega (arith, l))
@@ -173,14 +162,4 @@ module _ (o : KeyOrder) (b : Bounds) (fs : List Frame) (t x : List ℕ) (e : Ite
           at = at-as b e (t ++ x) (t ++ x) begun.next (at_item (frames_in (f ∷ fs))) refl (i.follows.1 ∙ state) begun.at;
         },
       )
-  pairs_open (kinds.Map None) begun l = absurd l
-  pairs_open (kinds.Array n) begun l = absurd l
-  pairs_open (kinds.Unsigned n) begun l = absurd l
-  pairs_open (kinds.Negative n) begun l = absurd l
-  pairs_open (kinds.Simple n) begun l = absurd l
-  pairs_open (kinds.Bytes n) begun l = absurd l
-  pairs_open (kinds.Text n) begun l = absurd l
-  pairs_open (kinds.Chunk n) begun l = absurd l
-  pairs_open (kinds.Piece n) begun l = absurd l
-  pairs_open (kinds.Tag n) begun l = absurd l
-  pairs_open kinds.End begun l = absurd l
+  pairs_open _ begun l = absurd l

@@ -1,6 +1,5 @@
 -- What becomes of the open containers as an item ends in them, whatever is kept of them.
-use Rattle.std.proofs.Common.{◌≡◌, ℕ, suc, ◌+◌, ◌-◌, ◌≤◌, IsTrue, Option, Some, List, [], ◌∷◌, ◌++◌, length, refl, sym, ap, ◌∙◌, subst, inl, inr, arith, append_assoc, append-nil}
-use Rattle.std.proofs.lemmas.List.{length-append}
+use Rattle.std.proofs.Common.{◌≡◌, ℕ, suc, ◌+◌, ◌-◌, ◌≤◌, IsTrue, Option, Some, List, [], ◌∷◌, ◌++◌, length, refl, sym, ap, ◌∙◌, subst, inl, inr, arith, append_assoc, append-nil, length-append}
 use Rattle.cbor_head.specs.Limits.{Bounds}
 use Rattle.cbor_head.specs.Order.{key_lt}
 use Rattle.cbor_head.specs.Spelling.{Spelling, Spellings, SpelledEntries, no_spellings, a_spelling, no_entries, entry, spell, spellings_count, entries_count, IsSpelled, depth}
@@ -23,8 +22,7 @@ use Rattle.cbor_judging.proofs.Frames.{spelled_plug, depth_plug}
 use Rattle.cbor_judging.proofs.Judged.{judged_key}
 use Rattle.cbor_judging.proofs.OpenKeys.{on_keys_split, onto_keys, front_apart}
 use Rattle.cbor_judging.proofs.OpenMaps.{judged_within}
-use Rattle.cbor_judging.proofs.OpenSteps.{before_snoc, distinct_snoc, member_before, content_before, content_keys, map_closes, array_closes, tag_closes}
-use Rattle.cbor_judging.proofs.OpenWalk.{shuts, innermost, member_ends, key_ends, content_ends}
+use Rattle.cbor_judging.proofs.OpenSteps.{before_snoc, distinct_snoc, member_before, content_before, content_keys, map_closes, array_closes, tag_closes, shuts, innermost, member_ends, key_ends, content_ends}
 use Rattle.cbor_judging.proofs.Scalars.{at-as}
 use Rattle.cbor_judging.proofs.LastKey.{key-fresh, key-falls, last_is}
 use Rattle.cbor_judging.proofs.Steps.{at-reached}
@@ -127,38 +125,29 @@ closes_one o d f fs s h step =
     }
 
 pub ends_closed : (o : KeyOrder) (d : ℕ) (fs : List Frame) (s : Spelling) → EndsClean o d fs s → EndsClean o d (still_open fs) (ended_item fs s)
-ends_closed o d [] s h = h
 ends_closed o d (a_member w a no_spellings ∷ fs) s h =
     ends_closed o d fs (plug (a_member w a no_spellings) s) (closes_one o d (a_member w a no_spellings) fs s h (λ at clean distinct none. array_closes w a s (strict o) at clean none))
-ends_closed o d (a_member w a (a_spelling t b) ∷ fs) s h = h
-ends_closed o d (a_key w a v b ∷ fs) s h = h
 ends_closed o d (a_content w a k no_entries ∷ fs) s h =
     ends_closed o d fs (plug (a_content w a k no_entries) s) (closes_one o d (a_content w a k no_entries) fs s h (λ at clean distinct none. map_closes w a k s (strict o) at clean distinct none))
-ends_closed o d (a_content w a k (entry l m b) ∷ fs) s h = h
 ends_closed o d (tagged w n ∷ fs) s h =
     ends_closed o d fs (plug (tagged w n) s) (closes_one o d (tagged w n) fs s h (λ at clean distinct none. tag_closes w n s (strict o) at clean none))
+ends_closed o d _ s h = h
 
 same_one : (f : Frame) (fs : List Frame) (s : Spelling) → IsFull f → bytes_before (f ∷ fs) ++ spell s ≡ bytes_before fs ++ spell (plug f s)
 same_one f fs s full =
     ap (λ (x : List ℕ). x ++ spell s) (before_more fs f) ∙ append_assoc (bytes_before fs) (before f) (spell s) ∙ ap (λ (x : List ℕ). bytes_before fs ++ x) (sym (full_bytes f s full))
 
 pub ended_bytes : (fs : List Frame) (s : Spelling) → AreDefinite fs → bytes_before fs ++ spell s ≡ bytes_before (still_open fs) ++ spell (ended_item fs s)
-ended_bytes [] s d = refl
 ended_bytes (a_member w a no_spellings ∷ fs) s d = same_one (a_member w a no_spellings) fs s d.0 ∙ ended_bytes fs (plug (a_member w a no_spellings) s) d.1
-ended_bytes (a_member w a (a_spelling t b) ∷ fs) s d = refl
-ended_bytes (a_key w a v b ∷ fs) s d = refl
 ended_bytes (a_content w a k no_entries ∷ fs) s d = same_one (a_content w a k no_entries) fs s d.0 ∙ ended_bytes fs (plug (a_content w a k no_entries) s) d.1
-ended_bytes (a_content w a k (entry l m b) ∷ fs) s d = refl
 ended_bytes (tagged w n ∷ fs) s d = same_one (tagged w n) fs s tt ∙ ended_bytes fs (plug (tagged w n) s) d
+ended_bytes _ s d = refl
 
 pub ended_state : (fs : List Frame) → close (frames_in fs) ≡ close (frames_in (still_open fs))
-ended_state [] = refl
 ended_state (a_member w a no_spellings ∷ fs) = ended_state fs
-ended_state (a_member w a (a_spelling t b) ∷ fs) = refl
-ended_state (a_key w a v b ∷ fs) = refl
 ended_state (a_content w a k no_entries ∷ fs) = ended_state fs
-ended_state (a_content w a k (entry l m b) ∷ fs) = refl
 ended_state (tagged w n ∷ fs) = ended_state fs
+ended_state _ = refl
 
 -- ---- how many the events count
 

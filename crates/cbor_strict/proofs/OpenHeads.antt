@@ -111,11 +111,7 @@ width_of _ = Indefinite
 
 width_back : (w : Width) → width_of (width_number w) ≡ w
 width_back Direct = refl
-width_back One = refl
-width_back Two = refl
-width_back Four = refl
-width_back Eight = refl
-width_back Indefinite = refl
+width_back _ = refl
 
 same_width : (v w : Width) → (v ≡ w) ⊎ (v ≡ w → ⊥)
 same_width v w = elim (cases_lt (width_number v) (width_number w)) [
@@ -283,16 +279,7 @@ module _ (v : OpenItems) (b : Bounds) (w : Width) (kind : EventKind) (t x : List
       go (kinds.Array (Some n)) i l = let d = definite b.depth (frames_in h.fs) majors.Array w n x i.next (proper-definite w i.proper) i.taking in omega (arith, d.follows.0, frames_length h.fs)
       go (kinds.Map (Some n)) i l = let d = definite b.depth (frames_in h.fs) majors.Map w n x i.next (proper-definite w i.proper) i.taking in omega (arith, d.follows.0, frames_length h.fs)
       go (kinds.Tag n) i l = let d = definite b.depth (frames_in h.fs) majors.Tag w n x i.next (never-open b.depth (frames_in h.fs) majors.Tag w n x i.next tt i.taking) i.taking in omega (arith, d.follows.0, frames_length h.fs)
-      go (kinds.Array None) i l = elim l [ inl y ↦ absurd y | inr y ↦ absurd y ]
-      go (kinds.Map None) i l = elim l [ inl y ↦ absurd y | inr y ↦ absurd y ]
-      go (kinds.Unsigned n) i l = elim l [ inl y ↦ absurd y | inr y ↦ absurd y ]
-      go (kinds.Negative n) i l = elim l [ inl y ↦ absurd y | inr y ↦ absurd y ]
-      go (kinds.Simple n) i l = elim l [ inl y ↦ absurd y | inr y ↦ absurd y ]
-      go (kinds.Bytes n) i l = elim l [ inl y ↦ absurd y | inr y ↦ absurd y ]
-      go (kinds.Text n) i l = elim l [ inl y ↦ absurd y | inr y ↦ absurd y ]
-      go (kinds.Chunk n) i l = elim l [ inl y ↦ absurd y | inr y ↦ absurd y ]
-      go (kinds.Piece n) i l = elim l [ inl y ↦ absurd y | inr y ↦ absurd y ]
-      go kinds.End i l = elim l [ inl y ↦ absurd y | inr y ↦ absurd y ]
+      go _ i l = elim l [ inl y ↦ absurd y | inr y ↦ absurd y ]
 
   pub room_levels : IsOther kind ⊎ IsMap kind → length (seen v.keys).levels < MAX_DEPTH
   room_levels l = omega (arith, kept_levels (seen v.keys) h.fs x h.kept, room_so l, h.begun.at.limits.0)

@@ -1,11 +1,9 @@
 -- The strict reader's events, one after another, until the item is complete or refused.
-use Rattle.std.proofs.Common.{◌≡◌, ℕ, ◌+◌, ◌-◌, ◌<◌, ◌≤◌, Option, Some, None, List, [], ◌++◌, length, refl, sym, ap, ◌∙◌, subst, arith, append-nil}
+use Rattle.std.proofs.Common.{◌≡◌, ℕ, ◌+◌, ◌-◌, ◌<◌, ◌≤◌, Option, Some, None, List, [], ◌++◌, length, refl, sym, ap, ◌∙◌, subst, arith, append-nil, take, length-append}
 use Rattle.std.specs.Option.{IfSome}
-use Rattle.std.specs.Prelude.{take}
 use Rattle.std.proofs.Math.Seq.{take-append-add}
 use Rattle.std.specs.Io.KnownBytes.{Consumes}
 use Rattle.std.proofs.KnownBytes.{Consumes-nil, Consumes-trans}
-use Rattle.std.proofs.lemmas.List.{length-append}
 use Rattle.cbor_head.specs.Limits.{Bounds, AreBounds}
 use Rattle.cbor_head.specs.Spelling.{Spelling, IsItem, spell}
 use Rattle.cbor_head.specs.Complaint.{strict, Complaint, IsComplaint}
@@ -19,7 +17,7 @@ use Rattle.cbor_judging.specs.Kinds.{KeepsToKinds}
 use Rattle.cbor_judging.specs.Readers.{IsRead, IsUnread}
 use Rattle.cbor_judging.specs.Reading.{IsFrontUnread}
 use Rattle.cbor_judging.proofs.Decisions.{whole_beside}
-use Rattle.cbor_judging.proofs.KindSteps.{keeps_start}
+use Rattle.cbor_judging.proofs.KindFrames.{keeps_start}
 use Rattle.cbor_judging.proofs.Tops.{loses}
 use Rattle.cbor_strict.specs.declared.open_items.OpenItems.{OpenItems}
 use Rattle.cbor_strict.specs.inner.LastKeys.{seen, IsKept}

@@ -1,9 +1,8 @@
 -- What the strict reader's state says of the bytes behind it.
-use Rattle.std.proofs.Common.{◌≡◌, ℕ, ◌-◌, ◌≤◌, ◌⊎◌, Option, Some, None, List, [], ◌++◌, length, refl, sym, ap, ◌∙◌, subst, inl, inr, arith, append-nil}
+use Rattle.std.proofs.Common.{◌≡◌, ℕ, ◌-◌, ◌≤◌, ◌⊎◌, Option, Some, None, List, [], ◌++◌, length, refl, sym, ap, ◌∙◌, subst, inl, inr, arith, append-nil, Ok, Err}
 use Rattle.std.specs.Option.{IfSome}
 use Rattle.cbor_head.specs.Head.{head}
 use Rattle.cbor_head.specs.Limits.{Bounds, AreBounds, bounds, with_keys}
-use Rattle.std.specs.Prelude.{Ok, Err}
 use Rattle.cbor_head.specs.Spelling.{Spelling, IsItem}
 use Rattle.cbor_head.specs.Complaint.{Rules, strict, Complains}
 use Rattle.cbor_head.specs.Laws.{StartsWith}
@@ -31,14 +30,14 @@ use Rattle.cbor_strict.specs.StrictReader.{StrictEventsView, StandsStrictly, IsN
 use Rattle.cbor_strict.specs.inner.LastKeys.{seen, IsKept}
 use Rattle.cbor_strict.specs.inner.StrictEvents.{StandsSomewhere, IsStep, AnswersStep, IsLittle, bounds_of, piece_unless}
 use Rattle.cbor_strict.proofs.KeptReading.{stands_counted, stands_little}
-use Rattle.cbor_judging.proofs.Fronts.{starts-at}
-use Rattle.cbor_judging.proofs.KindSteps.{keeps_start}
+use Rattle.cbor_judging.proofs.Tops.{starts-at}
+use Rattle.cbor_judging.proofs.KindFrames.{keeps_start}
 use Rattle.cbor_judging.proofs.Decisions.{none_beside}
 use Rattle.cbor_judging.specs.Kinds.{KeepsToKinds}
 use Rattle.cbor_judging.proofs.Judged.{judged_start}
 use Rattle.cbor_strict.proofs.OpenBegins.{lift}
 use Rattle.cbor_strict.proofs.OpenPieces.{string_judged}
-use Rattle.cbor_judging.proofs.OpenWalk.{none_open}
+use Rattle.cbor_judging.proofs.OpenSteps.{none_open}
 use Rattle.cbor_judging.proofs.Steps.{same-marks}
 
 -- ---- nothing has a complaint

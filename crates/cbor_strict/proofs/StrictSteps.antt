@@ -1,6 +1,5 @@
 -- From one event to the next, by the strict rules.
-use Rattle.std.proofs.Common.{◌≡◌, ℕ, zero, suc, ◌<◌, Bool, true, false, true≢false, Option, Some, None, List, [], ◌++◌, length, refl, sym, ap, ◌∙◌, subst, inl, inr, arith, append_assoc}
-use Rattle.std.proofs.lemmas.List.{length-append}
+use Rattle.std.proofs.Common.{◌≡◌, ℕ, zero, suc, ◌<◌, Bool, true, false, true≢false, Option, Some, None, List, [], ◌++◌, length, refl, sym, ap, ◌∙◌, subst, inl, inr, arith, append_assoc, length-append, Ok}
 use Rattle.cbor_head.specs.Head.{head}
 use Rattle.cbor_head.specs.Limits.{Bounds}
 use Rattle.cbor_head.specs.Value.{AreBytes}
@@ -24,30 +23,18 @@ use Rattle.cbor_strict.proofs.StrictKinds.{basic_kind, keeps_mark, keeps_string}
 use Rattle.cbor_events.specs.NextKey.{IsBasicKind}
 use Rattle.cbor_head.specs.Beginning.{IsBeginning}
 use Rattle.cbor_judging.specs.Kinds.{AsksForKinds, KeepsToKinds, IsKeyDue}
-use Rattle.std.specs.Prelude.{Ok}
 use Rattle.cbor_judging.proofs.Items.{taking-some}
 use Rattle.cbor_judging.proofs.ByteLists.{bytes_join}
-use Rattle.cbor_judging.proofs.Payloads.{IsPiece, IsPayload, none-come, part-fits, part-comes}
+use Rattle.cbor_judging.proofs.Payloads.{IsPiece, IsPayload, none-come, part-fits, part-comes, piece-due}
 use Rattle.cbor_judging.proofs.Scalars.{at-as}
-use Rattle.cbor_judging.proofs.Steps.{SameLimits, next-at, head-taken, at-reached}
+use Rattle.cbor_judging.proofs.Steps.{SameLimits, next-at, head-taken, at-reached, same-place}
 use Rattle.cbor_judging.proofs.Standing.{is-complete, is-done}
-use Rattle.cbor_judging.proofs.Payloads.{piece-due}
-use Rattle.cbor_judging.proofs.Steps.{same-place}
 
 -- ---- what an event can be
 
 piece_bytes : (kind : EventKind) → IsPiece kind → (kept piece bytes : List ℕ) → IsPieceKept kind kept piece bytes → piece ≡ bytes
 piece_bytes (kinds.Piece n) h kept piece bytes k = k
-piece_bytes (kinds.Unsigned n) h kept piece bytes k = absurd h
-piece_bytes (kinds.Negative n) h kept piece bytes k = absurd h
-piece_bytes (kinds.Simple n) h kept piece bytes k = absurd h
-piece_bytes (kinds.Bytes n) h kept piece bytes k = absurd h
-piece_bytes (kinds.Text n) h kept piece bytes k = absurd h
-piece_bytes (kinds.Chunk n) h kept piece bytes k = absurd h
-piece_bytes (kinds.Array n) h kept piece bytes k = absurd h
-piece_bytes (kinds.Map n) h kept piece bytes k = absurd h
-piece_bytes (kinds.Tag n) h kept piece bytes k = absurd h
-piece_bytes kinds.End h kept piece bytes k = absurd h
+piece_bytes _ h kept piece bytes k = absurd h
 
 payload_not_done : (m : Major) (n : ℕ) (fs : List Container) → 0 < n → payload false m n fs ≡ done → ⊥
 payload_not_done m zero fs l e = absurd (omega (arith, l))
@@ -112,16 +99,7 @@ module _ (v : OpenItems) (b : Bounds) (e new : ItemEventsView) (t : List ℕ) (f
     where
       no_piece : (kind : EventKind) → IsPiece kind → (bs : List ℕ) (q : Place) → IsTaking b.depth (at_item (frames_in h.fs)) (mark_of ev.width kind) bs q → ⊥
       no_piece (kinds.Piece k) is bs q taking = taking
-      no_piece (kinds.Unsigned k) is bs q taking = is
-      no_piece (kinds.Negative k) is bs q taking = is
-      no_piece (kinds.Simple k) is bs q taking = is
-      no_piece (kinds.Bytes k) is bs q taking = is
-      no_piece (kinds.Text k) is bs q taking = is
-      no_piece (kinds.Chunk k) is bs q taking = is
-      no_piece (kinds.Array k) is bs q taking = is
-      no_piece (kinds.Map k) is bs q taking = is
-      no_piece (kinds.Tag k) is bs q taking = is
-      no_piece kinds.End is bs q taking = is
+      no_piece _ is bs q taking = is
   piece_told ev (inr (inr h)) next is = absurd ((next t h.at.marks h.at.stands).unfinished (is-complete b e t h.at))
   piece_told ev (inr (inl h)) next is =
       let m = string_major v.is_text in
@@ -188,7 +166,7 @@ piece_keeps v b old t x e h keeps =
     let there : t ++ x ≡ y ++ (hd ++ (d.q ++ x)) = ap (λ (z : List ℕ). z ++ x) d.taken ∙ append_assoc y (hd ++ d.q) x ∙ ap (λ (z : List ℕ). y ++ z) (append_assoc hd d.q x) in
     subst (KeepsToKinds b (strict v.order)) (sym there)
     (keeps_string b (strict v.order) (from_outside d.fs) are.left are.levels are.path v.is_text d.w d.n d.q x d.holds (bytes_join d.q x d.are_bytes h.are_bytes) (omega (arith, count, fits, length-append d.q x))
-    (subst (IsBeginning b.depth) d.taken (begun b old t _ d.at)) (subst (KeepsToKinds b (strict v.order)) d.taken keeps))
+    (subst (KeepsToKinds b (strict v.order)) d.taken keeps))
 
 pub live_of : (v : OpenItems) (b : Bounds) (e : ItemEventsView) (t : List ℕ) → Stands v b e t → e.refusal ≡ None
 live_of v b e t (inl h) = h.at.live
@@ -197,15 +175,6 @@ live_of v b e t (inr (inr h)) = h.at.live
 
 pub piece_is : (kind : EventKind) → IsPiece kind → (n : ℕ) × (kind ≡ kinds.Piece n)
 piece_is (kinds.Piece n) h = (n, refl)
-piece_is (kinds.Unsigned n) h = absurd h
-piece_is (kinds.Negative n) h = absurd h
-piece_is (kinds.Simple n) h = absurd h
-piece_is (kinds.Bytes n) h = absurd h
-piece_is (kinds.Text n) h = absurd h
-piece_is (kinds.Chunk n) h = absurd h
-piece_is (kinds.Array n) h = absurd h
-piece_is (kinds.Map n) h = absurd h
-piece_is (kinds.Tag n) h = absurd h
-piece_is kinds.End h = absurd h
+piece_is _ h = absurd h
 
 -- ---- each event has a byte

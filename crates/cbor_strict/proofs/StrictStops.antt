@@ -1,15 +1,12 @@
 -- Why no more is told: the refusal is that of what was taken, and of what the reader held behind it.
-use Rattle.std.proofs.Common.{◌≡◌, ℕ, ◌+◌, ◌-◌, ◌/◌, ◌<◌, ◌≤◌, ◌⊎◌, ◌↔◌, Bool, true, false, true≢false, Option, Some, None, List, [], ◌∷◌, ◌++◌, length, refl, sym, ap, ◌∙◌, subst, inl, inr, arith, append_assoc, append-nil}
-use Rattle.std.specs.Prelude.{Err, IsTrue}
+use Rattle.std.proofs.Common.{◌≡◌, ℕ, ◌-◌, ◌/◌, ◌<◌, ◌≤◌, ◌⊎◌, ◌↔◌, Bool, true, false, true≢false, Option, Some, None, List, [], ◌∷◌, ◌++◌, length, refl, sym, ap, ◌∙◌, subst, inl, inr, arith, append_assoc, append-nil, Err, IsTrue, length-append}
 use Rattle.std.specs.Io.KnownBytes.{Consumes}
-use Rattle.std.proofs.lemmas.List.{length-append}
 use Rattle.cbor_head.specs.Head.{head}
 use Rattle.cbor_head.specs.Limits.{Bounds}
 use Rattle.cbor_head.specs.Beginning.{IsBeginning, MayFollow}
 use Rattle.cbor_head.specs.Value.{IsIntegerOrText}
 use Rattle.cbor_head.specs.Spelling.{spell, value_of}
-use Rattle.cbor_head.specs.Complaint.{strict, complaint, OfKinds}
-use Rattle.cbor_head.specs.Laws.{StartsWith}
+use Rattle.cbor_head.specs.Complaint.{strict}
 use Rattle.cbor_head.specs.declared.order.KeyOrder.{KeyOrder}
 use Rattle.cbor_head.specs.declared.reason.Reason.TheVariants.{Memory, KeyKind}
 use Rattle.cbor_head.specs.declared.reason.Refusal.{Refusal}
@@ -17,29 +14,27 @@ use Rattle.cbor_grammar.specs.FirstBytes.{is_basic}
 use Rattle.cbor_grammar.proofs.KeyKinds.{basic_byte}
 use Rattle.cbor_automaton.specs.Reasons.{IsEventReason}
 use Rattle.cbor_automaton.specs.Trace.{Mark}
-use Rattle.cbor_automaton.proofs.Refusals.{taken-follows}
 use Rattle.cbor_standing.specs.Machine.{IsComplete}
 use Rattle.cbor_standing.specs.NextEvent.{ItemEventsView, StandsBetween, IsNext, call}
 use Rattle.cbor_events.specs.NextKey.{IsBehindBasic, IsOtherKey, IsKeyReason}
 use Rattle.cbor_events.proofs.Keys.{no-payload}
 use Rattle.cbor_judging.specs.Frame.{Frame}
 use Rattle.cbor_judging.specs.Judged.{IsJudged}
-use Rattle.cbor_judging.specs.Kinds.{AsksForKinds, KeepsToKinds, IsKeyDue, HasBasicFront, plug_all}
+use Rattle.cbor_judging.specs.Kinds.{AsksForKinds, KeepsToKinds, IsKeyDue, HasBasicFront}
 use Rattle.cbor_judging.specs.OpenMaps.{AreOpen}
 use Rattle.cbor_judging.specs.Place.{at_item}
 use Rattle.cbor_judging.specs.Readers.{IsUnread}
-use Rattle.cbor_judging.specs.Reading.{AreRefused, IsMemory, IsReached, IsUndecided, HasCause, IsCutHead, state_at, string_major}
+use Rattle.cbor_judging.specs.Reading.{AreRefused, IsMemory, IsReached, IsUndecided, HasCause, IsCutHead, string_major}
 use Rattle.cbor_judging.proofs.ByteLists.{bytes_join}
-use Rattle.cbor_judging.proofs.Fronts.{front-unread, known}
 use Rattle.cbor_judging.proofs.Items.{cut-judged}
 use Rattle.cbor_judging.proofs.Judged.{judged_start}
-use Rattle.cbor_judging.proofs.KindBytes.{Begins, judged_begins, silent_is_one, keeps_along}
-use Rattle.cbor_judging.proofs.KindSteps.{KeepsBefore, keeps_front, key_begins, key_complains}
+use Rattle.cbor_judging.proofs.KindBytes.{Begins, judged_begins, silent_is_one, keeps_due, byte_begins}
+use Rattle.cbor_judging.proofs.KindFrames.{KeepsBefore, IsAround, around_frames, keeps_front, other_key}
 use Rattle.cbor_judging.proofs.Payloads.{none-come, part-cut}
 use Rattle.cbor_judging.proofs.Reasons.{reader-reason}
 use Rattle.cbor_judging.proofs.Standing.{is-complete}
-use Rattle.cbor_judging.proofs.Steps.{SameLimits, at-run, stops}
-use Rattle.cbor_judging.proofs.Tops.{kind-unread}
+use Rattle.cbor_judging.proofs.Steps.{SameLimits, stops}
+use Rattle.cbor_judging.proofs.Tops.{kind-unread, front-unread, known}
 use Rattle.cbor_strict.specs.declared.open_items.OpenItems.{OpenItems}
 use Rattle.cbor_strict.specs.StrictReader.{StopsAtOnce}
 use Rattle.cbor_strict.specs.inner.LastKeys.{seen, from_outside, IsKept}
@@ -50,7 +45,7 @@ use Rattle.cbor_strict.specs.inner.OpenItems.{frames_in, bytes_before, Stands, I
 use Rattle.cbor_strict.specs.inner.StrictEvents.{IsNextOf, IsStopped}
 use Rattle.cbor_strict.proofs.OpenBegins.{room_left, lift}
 use Rattle.cbor_strict.proofs.OpenPieces.{string_judged}
-use Rattle.cbor_strict.proofs.StrictKinds.{byte_begins, keeps_string}
+use Rattle.cbor_strict.proofs.StrictKinds.{keeps_string}
 
 -- ---- what the reader held behind what was taken
 
@@ -105,6 +100,9 @@ module _ (v : OpenItems) (b : Bounds) (e : ItemEventsView) (t : List ℕ) (from 
       subst (λ (x : List ℕ). IsJudged (strict v.order) 0 (b.depth - 0) (x ++ p) None) (sym h.taken)
       (lift v.order b h.fs are h.around.distinct p None (subst (λ (x : List ℕ). IsJudged (strict v.order) (length x) (b.depth - length (frames_in h.fs)) p None) h.taken j))
 
+  around : IsAround b.depth are.left (from_outside h.fs) t (IsKeyDue (from_outside h.fs))
+  around = around_frames b.depth are.left (from_outside h.fs) t are.levels are.path (sym h.taken)
+
   pub stopped_within : (bytes : List ℕ) → ¬ IsComplete e.machine → Consumes from to bytes → f.read ≡ length (t ++ bytes) → (c : IsCutHead b (at_item (frames_in h.fs)) t bytes to f)
       → (AsksForKinds b (strict v.order) → IsKeyDue (from_outside h.fs) → (rest : List ℕ) → from ≡ Some rest → HasBasicFront c.p) → IsStopped (strict v.order) b e t from to f
   stopped_within bytes unfinished consumed read c basic =
@@ -118,10 +116,10 @@ module _ (v : OpenItems) (b : Bounds) (e : ItemEventsView) (t : List ℕ) (from 
         cause = (c.place, c.refused);
       } in
       stopped_by v.order b e t from to f bytes unfinished consumed read (inr cause)
-      (λ rest is. subst (λ (x : List ℕ). KeepsToKinds b (strict v.order) (x ++ c.p)) (sym h.taken)
-      (keeps_along b (strict v.order) (from_outside h.fs) are.left are.levels are.path c.p
+      (λ rest is.
+      keeps_due b (strict v.order) around c.p
       (subst (λ (n : ℕ). Begins n c.p) (room_left v.order b h.fs are h.around.distinct) (judged_begins (strict v.order) (length t) (b.depth - length (frames_in h.fs)) c.p None j))
-      (silent_is_one b.depth (frames_in h.fs) c.begun c.p c.are_bytes c.ran) (λ asked due. basic asked due rest is) (subst (KeepsToKinds b (strict v.order)) h.taken keeps)))
+      (silent_is_one b.depth (frames_in h.fs) c.begun c.p c.are_bytes c.ran) (λ asked due. basic asked due rest is) keeps)
 
   -- a key of another kind begins
   pub stopped_other : (new : ItemEventsView) (ms : List Mark) → SameLimits e.machine new.machine → new.machine.taken ≡ f.read → new.machine.taken ≤ new.machine.bytes → AsksForKinds b (strict v.order) → IsKeyDue (from_outside h.fs)
@@ -130,10 +128,10 @@ module _ (v : OpenItems) (b : Bounds) (e : ItemEventsView) (t : List ℕ) (from 
       let read : f.read ≡ length (t ++ k.byte ∷ []) = ap (λ (x : Refusal). x.read) k.is ∙ sym (length-append t (k.byte ∷ [])) in
       let depth : new.machine.depth ≡ b.depth = same.depth ∙ h.at.depth in
       let follows : MayFollow b.depth t k.byte = subst (λ (d : ℕ). MayFollow d t k.byte) depth k.follows in
-      let taken = (taken-follows b.depth t (state_at (at_item (frames_in h.fs))) h.at.marks k.byte h.at.stands.stands.are_bytes k.small (at-run b e t (at_item (frames_in h.fs)) h.at)).1 follows in
-      let g = subst (λ (n : ℕ). Begins n (k.byte ∷ [])) (room_left v.order b h.fs are h.around.distinct) (byte_begins b.depth (frames_in h.fs) k.byte k.small k.item taken) in
+      let g = subst (λ (n : ℕ). Begins n (k.byte ∷ [])) (room_left v.order b h.fs are h.around.distinct) (byte_begins b e t (frames_in h.fs) k.byte h.at follows k.item) in
       let other : ¬ IsIntegerOrText (value_of g.item) = λ i. k.other (basic_byte g.item g.spelled k.byte [] g.rest (append-nil (spell g.item) ∙ g.bytes) i) in
       let fits : length (t ++ k.byte ∷ []) ≤ b.bytes = omega (arith, all, most, read, same.bytes, h.at.bytes) in
+      let (o, begins, complains) = other_key b (strict v.order) around g.item k.byte g.rest g.spelled g.within g.bytes due other in
       let judged : IsJudged (strict v.order) 0 b.depth t None = whole (lifted [] (judged_start (strict v.order) (length t) (b.depth - length (frames_in h.fs)))) in
       record {
         unfinished = k.unfinished;
@@ -143,23 +141,13 @@ module _ (v : OpenItems) (b : Bounds) (e : ItemEventsView) (t : List ℕ) (from 
         reason = inr (inl (inr (ap (λ (x : Refusal). x.reason) k.is, asked.0, asked.1)));
         unread = known from (λ rest. IsUnread b (strict v.order) (t ++ rest) f) (λ rest is.
             subst (IsUnread b (strict v.order) (t ++ rest)) (sym k.is)
-            (kind-unread (strict v.order) b (t ++ rest) (Some (t ++ rest)) to refl t k.byte (plug_all (from_outside h.fs) g.item)
+            (kind-unread (strict v.order) b (t ++ rest) (Some (t ++ rest)) to refl t k.byte o
             (record { more = t ++ k.byte ∷ []; consumed = held_whole t rest (k.byte ∷ []) to (subst (λ (x : Option (List ℕ)). Consumes x to (k.byte ∷ [])) is k.consumed); are = refl }) fits asked judged keeps
-            (begins g) (complains g other)));
+            begins complains));
       }
     where
       whole : IsJudged (strict v.order) 0 (b.depth - 0) (t ++ []) None → IsJudged (strict v.order) 0 b.depth t None
       whole j = let e : b.depth - 0 ≡ b.depth = omega arith in subst (λ (n : ℕ). IsJudged (strict v.order) 0 n t None) e (subst (λ (x : List ℕ). IsJudged (strict v.order) 0 (b.depth - 0) x None) (append-nil t) j)
-
-      begins : (g : Begins are.left (k.byte ∷ [])) → StartsWith b.depth (plug_all (from_outside h.fs) g.item) (t ++ k.byte ∷ [])
-      begins g =
-          subst (λ (x : List ℕ). StartsWith b.depth (plug_all (from_outside h.fs) g.item) (x ++ k.byte ∷ [])) (sym h.taken)
-          (key_begins b (strict v.order) (from_outside h.fs) are.left are.levels are.path g.item k.byte g.rest g.spelled g.within g.bytes)
-
-      complains : (g : Begins are.left (k.byte ∷ [])) → ¬ IsIntegerOrText (value_of g.item) → OfKinds 0 (plug_all (from_outside h.fs) g.item) (complaint (length t + 1) (length t) KeyKind)
-      complains g other =
-          subst (λ (x : List ℕ). OfKinds 0 (plug_all (from_outside h.fs) g.item) (complaint (length x + 1) (length x) KeyKind)) (sym h.taken)
-          (key_complains b (strict v.order) (from_outside h.fs) are.left are.levels are.path g.item due other)
 
 -- ---- what was answered
 
@@ -211,11 +199,10 @@ module _ (v : OpenItems) (b : Bounds) (e new : ItemEventsView) (t : List ℕ) (f
               judged = subst (λ (x : List ℕ). IsJudged (strict v.order) 0 (b.depth - 0) x None) (sym there) (lift v.order b h.fs are h.around.distinct (hd ++ (h.q ++ c.p)) None j);
               cause = (c.place, c.refused);
             } in
-            let begins : IsBeginning b.depth t = subst (λ (d : ℕ). IsBeginning d t) h.at.depth h.at.stands.stands.beginning in
             stopped_by v.order b e t from to f s.bytes (next t h.at.marks h.at.stands).0 s.consumed s.read (inr cause)
             (λ rest is. subst (KeepsToKinds b (strict v.order)) (sym there)
             (keeps_string b (strict v.order) (from_outside h.fs) are.left are.levels are.path v.is_text h.w h.n h.q c.p h.holds joined (omega (arith, short, count, length-append h.q c.p))
-            (subst (IsBeginning b.depth) h.taken begins) (subst (KeepsToKinds b (strict v.order)) h.taken keeps)))
+            (subst (KeepsToKinds b (strict v.order)) h.taken keeps)))
       ]
 
 -- whether a key is due that is asked for, as the code knows it

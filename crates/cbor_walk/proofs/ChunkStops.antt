@@ -23,9 +23,8 @@ use Rattle.cbor_automaton.proofs.FirstByte.{split}
 use Rattle.cbor_automaton.proofs.Forward.{Starts, chunk_starts, string-taken}
 use Rattle.cbor_automaton.proofs.Taking.{nothing-taken}
 use Rattle.cbor_judging.proofs.ByteLists.{bytes_front, bytes_back}
-use Rattle.cbor_judging.proofs.Chunks.{between, cut_chunk, chunk_complains}
 use Rattle.cbor_judging.proofs.KindBytes.{one_head_front}
-use Rattle.cbor_judging.proofs.Leaves.{chunks_bytes}
+use Rattle.cbor_judging.proofs.Leaves.{chunks_bytes, between, cut_chunk, chunk_complains}
 use Rattle.cbor_judging.specs.Judged.{IsJudged}
 use Rattle.cbor_judging.specs.Kinds.{IsOfOneHead}
 use Rattle.cbor_judging.specs.Reading.{string_major}

@@ -12,8 +12,7 @@ use Rattle.cbor_grammar.specs.FirstBytes.{is_basic}
 use Rattle.cbor_judging.specs.Judged.{Never}
 use Rattle.cbor_judging.specs.RefusedHere.{MayBegin, IsMisplaced, IsRefusedBy}
 use Rattle.cbor_judging.specs.PathKinds.{IsFitFront}
-use Rattle.cbor_judging.proofs.RefusedHere.{nothing_here, misplaced_stops}
-use Rattle.cbor_judging.proofs.OtherKeys.{kind_refused}
+use Rattle.cbor_judging.proofs.RefusedHere.{nothing_here, misplaced_stops, kind_refused}
 use Rattle.cbor_front.specs.Strings.{IsStringHead, IsStringWhole, IsStringFault}
 use Rattle.cbor_front.specs.declared.argument.Argument.{Argument}
 use Rattle.cbor_front.proofs.AnyRefusals.{string_refused}

@@ -12,14 +12,14 @@ use Rattle.cbor_head.specs.declared.major.Major.{Major}
 use Rattle.cbor_head.specs.declared.major.Major.TheVariants as majors
 use Rattle.cbor_head.specs.declared.width.Width.{Width}
 use Rattle.cbor_head.specs.declared.width.Width.TheVariants.{Indefinite}
-use Rattle.cbor_grammar.proofs.KeyKinds.{kind_within_in, kind_within_entries}
+use Rattle.cbor_grammar.proofs.KeyKinds.{of_kind_in, of_kind_entries}
 use Rattle.cbor_automaton.proofs.Taking.{IsNumbered}
 use Rattle.cbor_judging.specs.Kinds.{KeepsToKinds, IsKeyLevel, IsKeyDueIn, HasBasicFront}
 use Rattle.cbor_judging.specs.Levels.{Level, a_member, a_key, a_value, some_member, some_key, some_value, tagged, IsLevel, AreLevels, level_bytes, bytes_before, Standing}
 use Rattle.cbor_judging.proofs.Heads.{open_or, takes}
 use Rattle.cbor_judging.proofs.KindBytes.{Begins, head_is_one, keeps_due}
-use Rattle.cbor_judging.proofs.KindLevels.{keeps_closed_in}
-use Rattle.cbor_judging.proofs.KindSteps.{keeps_start}
+use Rattle.cbor_judging.proofs.LevelFrames.{around_levels}
+use Rattle.cbor_judging.proofs.KindFrames.{keeps_closed, keeps_start}
 use Rattle.cbor_judging.proofs.Levels.{spelled-all, within-all, pairs-spelled, pairs-within}
 use Rattle.cbor_judging.specs.PathKinds.{asks, IsFitFront}
 use Rattle.cbor_judging.proofs.PathKinds.{no_break, head_begun}
@@ -143,7 +143,7 @@ module _ (S : Type 0) (stands : S → S → Standing → Type 0) (trusts : Bool)
       let begins : Begins (d - length s.ls) h.front = record { item = h.item; spelled = h.spelled; within = within; rest = h.more; bytes = h.bytes } in
       let whole : (bytes_before s.ls ++ h.front) ++ behind ≡ t ++ behind = append_assoc (bytes_before s.ls) h.front behind ∙ ap (λ (x : List ℕ). bytes_before s.ls ++ x) (sym h.is) ∙ sym s.bytes ∙ e in
       subst (KeepsToKinds (with_keys (bounds d 0) keys) plain) (append_cancel_right (bytes_before s.ls ++ h.front) t behind whole)
-      (keeps_due (with_keys (bounds d 0) keys) plain s.ls s.levels h.front begins h.one
+      (keeps_due (with_keys (bounds d 0) keys) plain (around_levels d s.ls s.levels) h.front begins h.one
       (λ asked due. basic-front h.item h.spelled h.front behind h.more rest h.bytes h.is (fit (due-key (length input) k.top (around Open k cells) s.ls s.cells due))) (keeps (bytes_before s.ls) s.bytes))
 
   -- a container without a length ends
@@ -161,7 +161,7 @@ module _ (S : Type 0) (stands : S → S → Standing → Type 0) (trusts : Bool)
           let whole : (p ++ spell item) ++ behind ≡ t ++ behind =
           ap (λ (y : List ℕ). (p ++ y) ++ behind) is ∙ ap (λ (y : List ℕ). y ++ behind) (sym (append_assoc p x (0xff ∷ []))) ∙ append_assoc (p ++ x) (0xff ∷ []) behind ∙ ap (λ (y : List ℕ). (p ++ x) ++ y) (sym h.is) ∙ sym b ∙ e in
           subst (KeepsToKinds (with_keys (bounds d 0) keys) plain) (append_cancel_right (p ++ spell item) t behind whole)
-          (keeps_closed_in (with_keys (bounds d 0) keys) plain ls levels.2 item x (0xff ∷ []) spelled within is some ends (keeps (p ++ x) b))
+          (keeps_closed (with_keys (bounds d 0) keys) plain (around_levels d ls levels.2) item x (0xff ∷ []) spelled within is some ends (keeps (p ++ x) b))
 
       go : (ls : List Level) → AreLevels d ls → c ∷ cs ≡ cells_of (length input) ls → input ≡ bytes_before ls ++ rest → (t : List ℕ) → input ≡ t ++ behind → KeepsToKinds (with_keys (bounds d 0) keys) plain t
       go [] levels e b t f = let same : c ≡ counted Item 0 0 = cc in let x : false ≡ true = ap (λ (x : Open). x.is_endless) (sym same) ∙ h.open_ended in absurd (cc x)
@@ -172,7 +172,7 @@ module _ (S : Type 0) (stands : S → S → Standing → Type 0) (trusts : Bool)
           closed (some_member done) ls levels b t f (array Indefinite done) refl (tt, spelled-all (d - suc (length ls)) done levels.1) (omega (arith, room, within-all (d - suc (length ls)) done levels.1)) (omega (arith, size, one))
           (λ x o.
           let other : length (head majors.Array Indefinite (spellings_count done)) ≡ 1 = refl in
-          omega (arith, size, one, other, kind_within_in done (length (bytes_before ls) + length (head majors.Array Indefinite (spellings_count done))) x o))
+          omega (arith, size, one, other, (of_kind_in done (length (bytes_before ls) + length (head majors.Array Indefinite (spellings_count done))) x o).within))
       go (some_key done ∷ ls) levels e b t f =
           let room = levels.0 in
           let one : length (head majors.Map Indefinite 0) ≡ 1 = refl in
@@ -180,7 +180,7 @@ module _ (S : Type 0) (stands : S → S → Standing → Type 0) (trusts : Bool)
           closed (some_key done) ls levels b t f (a_map Indefinite done) refl (tt, pairs-spelled (d - suc (length ls)) done levels.1) (omega (arith, room, pairs-within (d - suc (length ls)) done levels.1)) (omega (arith, size, one))
           (λ x o.
           let other : length (head majors.Map Indefinite (entries_count done)) ≡ 1 = refl in
-          omega (arith, size, one, other, kind_within_entries done (length (bytes_before ls) + length (head majors.Map Indefinite (entries_count done))) x o))
+          omega (arith, size, one, other, (of_kind_entries done (length (bytes_before ls) + length (head majors.Map Indefinite (entries_count done))) x o).within))
       go (some_value done k ∷ ls) levels e b t f = let same : c ≡ cell_of (behind_head (length input) ls (some_value done k)) (some_value done k) = cc in absurd (h.no_value (ap (λ (x : Open). x.due) same))
       go (a_member w n done ∷ ls) levels e b t f = absurd (cc (flag (a_member w n done) ls e))
       go (a_key w n done ∷ ls) levels e b t f = absurd (cc (flag (a_key w n done) ls e))

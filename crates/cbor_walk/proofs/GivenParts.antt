@@ -12,7 +12,7 @@ use Rattle.cbor_head.specs.declared.major.Major.TheVariants as majors
 use Rattle.cbor_grammar.proofs.Accepted.{accepts_exactly}
 use Rattle.cbor_grammar.proofs.ReadLaws.{length_spell}
 use Rattle.cbor_judging.specs.Kinds.{KeepsToKinds}
-use Rattle.cbor_judging.proofs.Arrays.{closes}
+use Rattle.cbor_judging.proofs.Members.{closes}
 use Rattle.cbor_judging.proofs.Decisions.{whole_beside}
 use Rattle.cbor_judging.proofs.Heads.{open_or}
 use Rattle.cbor_judging.proofs.Items.{is-definite}

@@ -16,8 +16,7 @@ use Rattle.cbor_builder.specs.declared.repeat.Repeat.{Repeat}
 use Rattle.cbor_judging.specs.Given.{level_open, opens, full_open}
 use Rattle.cbor_judging.specs.Kinds.{KeepsToKinds, plug_all}
 use Rattle.cbor_judging.specs.Levels.{Level, a_member, a_key, a_value, some_member, some_key, some_value, tagged, level_bytes, AreLevels, bytes_before}
-use Rattle.cbor_judging.proofs.KindFrames.{spell_along, item_along}
-use Rattle.cbor_judging.proofs.KindSteps.{keeps_front}
+use Rattle.cbor_judging.proofs.KindFrames.{spell_along, item_along, keeps_front}
 use Rattle.cbor_judging.proofs.LevelFrames.{path, path_length, path_bytes, path_open}
 use Rattle.cbor_judging.proofs.PathVerdict.{complaint_stops}
 use Rattle.cbor_walk.specs.Sink.{is_map as its_kind, IsToldIn, IsToldFull}

@@ -1,5 +1,4 @@
-use Rattle.std.proofs.Common.{◌++◌, ◌∙◌, ℕ, slice_get, map, ap, refl, arith}
-use Rattle.std.proofs.lemmas.List.{length-append}
+use Rattle.std.proofs.Common.{◌++◌, ◌∙◌, ℕ, slice_get, map, ap, refl, arith, length-append}
 use Rattle.cbor_head.specs.Verdict.{refusal}
 use Rattle.cbor_head.specs.declared.reason.Reason.TheVariants.{RepeatedKey}
 use Rattle.cbor_head.specs.declared.reason.Refusal.{Refusal}

@@ -2,7 +2,7 @@ use Rattle.std.proofs.Common.{[], ◌∙◌, subst, sym, arith}
 use Rattle.cbor_head.specs.Complaint.{plain}
 use Rattle.cbor_head.specs.Value.{Value}
 use Rattle.cbor_plain.specs.Front.{IsFrontRead}
-use Rattle.cbor_judging.proofs.Fronts.{starts-at}
+use Rattle.cbor_judging.proofs.Tops.{starts-at}
 use Rattle.cbor_plain.proofs.PlainSteps.{due-first, front-whole, front-stopped}
 use Rattle.cbor_plain.proofs.TreeValues.{whole-in}
 use Rattle.cbor_plain.proofs.item_front.read_item_front.Goals as goal

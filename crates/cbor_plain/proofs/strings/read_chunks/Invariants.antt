@@ -1,8 +1,7 @@
-use Rattle.std.proofs.Common.{ℕ, List, ◌-◌}
+use Rattle.std.proofs.Common.{ℕ, List, ◌-◌, None}
 use Rattle.cbor_head.specs.Limits.{Bounds}
 use Rattle.cbor_head.specs.declared.width.Width.{Width}
 use Rattle.cbor_judging.specs.Place.{Container}
-use Rattle.std.specs.Prelude.{None}
 use Rattle.cbor_judging.specs.Reading.{IsBegun, string_kind}
 use Rattle.cbor_head.specs.Complaint.{plain}
 use Rattle.cbor_judging.proofs.ChunkedStrings.{IsReadingChunks}

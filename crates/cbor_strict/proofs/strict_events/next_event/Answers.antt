@@ -1,5 +1,4 @@
-use Rattle.std.proofs.Common.{◌<◌, ◌++◌, ◌∙◌, [], length, sym, subst}
-use Rattle.std.specs.Prelude.{Ok}
+use Rattle.std.proofs.Common.{◌<◌, ◌++◌, ◌∙◌, [], length, sym, subst, Ok}
 use Rattle.cbor_head.specs.Complaint.{strict}
 use Rattle.std.specs.Io.KnownBytes.{Consumes}
 use Rattle.cbor_standing.specs.NextEvent.{call}

@@ -1,6 +1,5 @@
-use Rattle.std.proofs.Common.{ℕ, ◌∷◌, ◌∙◌, List, Option, slice_get, unwrap_or, ap, arith, subst}
+use Rattle.std.proofs.Common.{ℕ, ◌∷◌, ◌∙◌, List, Option, slice_get, unwrap_or, ap, arith, subst, reverse}
 use Rattle.std.proofs.lemmas.Option.{get_or_from_slice_get}
-use Rattle.std.specs.Prelude.{reverse}
 use Rattle.cbor_plain.specs.inner.HeldKeys.{IsAdded}
 use Rattle.cbor_plain.proofs.HeldKeys.{none-waits, keys_at_top, top-held, fresh-key, old-key}
 use Rattle.cbor_plain.proofs.plain_items.PlainItems.repeated.Goals as goal

@@ -3,7 +3,7 @@ use Rattle.cbor_head.specs.Complaint.{strict}
 use Rattle.cbor_head.specs.declared.order.KeyOrder.{KeyOrder}
 use Rattle.cbor_head.specs.declared.reason.Reason.{Reason}
 use Rattle.cbor_head.specs.declared.width.Width.{Width}
-use Rattle.cbor_head.specs.declared.width.Width.TheVariants.{Direct, One, Two, Four, Eight, Indefinite}
+use Rattle.cbor_head.specs.declared.width.Width.TheVariants.{Indefinite}
 use Rattle.cbor_automaton.specs.Trace.{Mark, a_head, a_chunk, a_byte, a_break}
 use Rattle.cbor_automaton.specs.Marks.{mark_of}
 use Rattle.cbor_judging.specs.Refusals.{IsComplaintReason}
@@ -16,11 +16,7 @@ use Rattle.cbor_strict.proofs.open_items.OpenItems.admit_head.Goals as goal
 -- what the rules have against a head is a complaint
 head_reason : (o : KeyOrder) (w : Width) (n : ℕ) (reason : Reason) → IsHeadFault w n reason → IsComplaintReason (strict o) reason
 head_reason o Indefinite n reason h = subst (IsComplaintReason (strict o)) (sym h) refl
-head_reason o Direct n reason h = subst (IsComplaintReason (strict o)) (sym h.1) refl
-head_reason o One n reason h = subst (IsComplaintReason (strict o)) (sym h.1) refl
-head_reason o Two n reason h = subst (IsComplaintReason (strict o)) (sym h.1) refl
-head_reason o Four n reason h = subst (IsComplaintReason (strict o)) (sym h.1) refl
-head_reason o Eight n reason h = subst (IsComplaintReason (strict o)) (sym h.1) refl
+head_reason o _ n reason h = subst (IsComplaintReason (strict o)) (sym h.1) refl
 
 mark_reason : (o : KeyOrder) (m : Mark) (reason : Reason) → IsFault (strict o) m reason → IsComplaintReason (strict o) reason
 mark_reason o (a_head m w n) reason h = head_reason o w n reason h.1

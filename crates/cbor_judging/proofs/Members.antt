@@ -1,0 +1,175 @@
+-- The loops of a reader over an array's members and over a map's pairs.
+use Rattle.std.proofs.Common.{◌≡◌, ◌≢◌, ℕ, suc, ◌+◌, ◌-◌, ◌<◌, Option, Some, None, List, [], ◌∷◌, ◌++◌, length, refl, sym, ap, ◌∙◌, subst, arith, append-nil, false}
+use Rattle.cbor_head.specs.Head.{head}
+use Rattle.cbor_head.specs.Limits.{Bounds}
+use Rattle.cbor_head.specs.Value as value
+use Rattle.cbor_head.specs.Value.{Values, Entries}
+use Rattle.cbor_head.specs.Spelling.{Spellings, array, no_spellings, spell, spellings_count, break_of, HoldsOrIndefinite, values_of, Spelling, SpelledEntries, a_map, no_entries, entries_count, entries_of}
+use Rattle.cbor_head.specs.Complaint.{Rules}
+use Rattle.cbor_head.specs.declared.major.Major.TheVariants as majors
+use Rattle.cbor_head.specs.declared.width.Width.{Width}
+use Rattle.cbor_head.specs.declared.width.Width.TheVariants.{Indefinite}
+use Rattle.cbor_automaton.specs.Trace.{a_head}
+use Rattle.cbor_judging.specs.Place.{Container, indefinite_array, Place, at_item, close, expect, IsTaking, indefinite_map}
+use Rattle.cbor_automaton.specs.Marks.{count_of}
+use Rattle.cbor_standing.specs.NextEvent.{ItemEventsView}
+use Rattle.cbor_automaton.specs.declared.event.EventKind.TheVariants as kinds
+use Rattle.cbor_judging.specs.Reading.{IsAt, Extends, IsBegun, ReadsItem}
+use Rattle.cbor_judging.specs.SoFar.{IsArraySoFar, array_bytes, IsMapSoFar, map_bytes}
+use Rattle.cbor_judging.proofs.Judged.{array_whole, map_whole}
+use Rattle.cbor_judging.proofs.Heads.{open_or}
+use Rattle.cbor_judging.proofs.Loops.{array_bytes-whole, map_bytes-whole}
+use Rattle.cbor_judging.proofs.Items.{definite, proper-definite, extends-none}
+use Rattle.cbor_judging.proofs.Scalars.{at-as}
+use Rattle.cbor_judging.specs.Frame.{keys_onto}
+
+-- how many members are left, where that is known
+abbrev pub IsLeft : Width → ℕ → ℕ → Option ℕ → Type 0
+IsLeft w n done (Some left) = (w ≢ Indefinite) × (done + left ≡ n)
+IsLeft w n done None = w ≡ Indefinite
+
+abbrev pub members_due : Option ℕ → List Container → Place
+members_due (Some left) fs = expect left fs
+members_due None fs = at_item (indefinite_array ∷ fs)
+
+pub any_open : (w : Width) (n : ℕ) → w ≡ Indefinite → HoldsOrIndefinite w n
+any_open w n e = subst (λ (v : Width). HoldsOrIndefinite v n) (sym e) tt
+
+-- The members so far of an array that stands behind t, and of which x was read when from was left; so many are left.
+pub record IsReadingArray (r : Rules) (b : Bounds) (fs : List Container) (t x : List ℕ) (w : Width) (n : ℕ) (left : Option ℕ) (vs : Values) (from now : Option (List ℕ)) (e : ItemEventsView) : Type 0 where
+  pub done : Spellings
+  pub so_far : IsArraySoFar r (length t) (b.depth - suc (length fs)) w n done
+  pub taken : Extends x (array_bytes w n done) from now
+  pub at : IsAt b e (t ++ array_bytes w n done) (members_due left fs)
+  pub counts : IsLeft w n (spellings_count done) left
+  pub values : values_of done ≡ vs
+  pub room : length fs < b.depth
+
+-- ---- the head
+
+pub starts-array : (r : Rules) (b : Bounds) (fs : List Container) (t x : List ℕ) (w : Width) (count : Option ℕ) (from : Option (List ℕ)) (e : ItemEventsView)
+    → IsBegun r b fs t x e w (kinds.Array count) → IsReadingArray r b fs t x w (count_of count) count value.no_values from from e
+starts-array r b fs t x w (Some n) from e i =
+    let f = definite b.depth fs majors.Array w n x i.next (proper-definite w i.proper) i.taking in
+    let bytes_are : x ≡ array_bytes w n no_spellings = f.bytes_are ∙ sym (append-nil (head majors.Array w n)) in
+    record {
+      done = no_spellings;
+      so_far = record { holds = open_or w n f.holds; spelled = tt; within = omega arith; head_clean = i.clean; clean = λ c h. h };
+      taken = subst (λ (y : List ℕ). Extends x y from from) bytes_are (extends-none x from);
+      at = at-as b e (t ++ x) (t ++ array_bytes w n no_spellings) i.next (expect n fs) (ap (λ (y : List ℕ). t ++ y) bytes_are) f.follows.1 i.at;
+      counts = (proper-definite w i.proper, omega arith);
+      values = refl;
+      room = f.follows.0;
+    }
+starts-array r b fs t x w None from e i =
+    let taking = subst (λ (v : Width). IsTaking b.depth (at_item fs) (a_head majors.Array v 0) x i.next) i.proper i.taking in
+    let bytes_are : x ≡ array_bytes w 0 no_spellings = taking.1 ∙ ap (λ (v : Width). head majors.Array v 0) (sym i.proper) ∙ sym (append-nil (head majors.Array w 0)) in
+    record {
+      done = no_spellings;
+      so_far = record { holds = any_open w 0 i.proper; spelled = tt; within = omega arith; head_clean = i.clean; clean = λ c h. h };
+      taken = subst (λ (y : List ℕ). Extends x y from from) bytes_are (extends-none x from);
+      at = at-as b e (t ++ x) (t ++ array_bytes w 0 no_spellings) i.next (at_item (indefinite_array ∷ fs)) (ap (λ (y : List ℕ). t ++ y) bytes_are) taking.2.1 i.at;
+      counts = i.proper;
+      values = refl;
+      room = taking.2.0;
+    }
+
+-- ---- the members
+
+pub closes : (w : Width) → w ≢ Indefinite → break_of w ≡ []
+closes Indefinite f = absurd (f refl)
+closes _ f = refl
+
+module _ (r : Rules) (b : Bounds) (fs : List Container) (t x : List ℕ) (w : Width) (n : ℕ) (left : Option ℕ) (vs : Values) (from mid : Option (List ℕ)) (e : ItemEventsView)
+    (a : IsReadingArray r b fs t x w n left vs from mid e) where
+  -- no member is left
+  pub array-whole : left ≡ Some 0 → ReadsItem r b fs t x from mid e (value.array vs)
+  array-whole none =
+      let counts : (w ≢ Indefinite) × (spellings_count a.done + 0 ≡ n) = subst (IsLeft w n (spellings_count a.done)) none a.counts in
+      let same : spellings_count a.done ≡ n = omega (arith, counts.1) in
+      let whole = array_whole w a.done r (length t) (b.depth - suc (length fs)) (subst (λ (k : ℕ). IsArraySoFar r (length t) (b.depth - suc (length fs)) w k a.done) (sym same) a.so_far) in
+      let bytes_are : array_bytes w n a.done ≡ spell (array w a.done) = sym (array_bytes-whole w n a.done (closes w counts.0) same) in
+      let room : length fs < b.depth = a.room in
+      record {
+        item = array w a.done;
+        spelled = whole.0;
+        within = omega (arith, whole.1, room);
+        clean = whole.2;
+        taken = subst (λ (u : List ℕ). Extends x u from mid) bytes_are a.taken;
+        value = ap value.array a.values;
+        at = at-as b e (t ++ array_bytes w n a.done) (t ++ spell (array w a.done)) (members_due left fs) (close fs) (ap (λ (u : List ℕ). t ++ u) bytes_are) (ap (λ (l : Option ℕ). members_due l fs) none) a.at;
+      }
+
+-- ---- maps
+
+-- how far the pairs are, where so many are left
+abbrev pub pairs_due : Option ℕ → List Container → Place
+pairs_due (Some left) fs = expect (left + left) fs
+pairs_due None fs = at_item (indefinite_map false ∷ fs)
+
+-- The pairs so far of a map that stands behind t, and of which x was read when from was left; so many are left.
+pub record IsReadingMap (r : Rules) (b : Bounds) (fs : List Container) (t x : List ℕ) (w : Width) (n : ℕ) (left : Option ℕ) (es : Entries) (from now : Option (List ℕ)) (e : ItemEventsView) : Type 0 where
+  pub done : SpelledEntries
+  pub so_far : IsMapSoFar r (length t) (b.depth - suc (length fs)) w n done
+  pub taken : Extends x (map_bytes w n done) from now
+  pub at : IsAt b e (t ++ map_bytes w n done) (pairs_due left fs)
+  pub counts : IsLeft w n (entries_count done) left
+  pub values : entries_of done ≡ es
+  pub room : length fs < b.depth
+
+-- ---- the head
+
+pub starts-map : (r : Rules) (b : Bounds) (fs : List Container) (t x : List ℕ) (w : Width) (count : Option ℕ) (from : Option (List ℕ)) (e : ItemEventsView)
+    → IsBegun r b fs t x e w (kinds.Map count) → IsReadingMap r b fs t x w (count_of count) count value.no_entries from from e
+starts-map r b fs t x w (Some n) from e i =
+    let f = definite b.depth fs majors.Map w n x i.next (proper-definite w i.proper) i.taking in
+    let bytes_are : x ≡ map_bytes w n no_entries = f.bytes_are ∙ sym (append-nil (head majors.Map w n)) in
+    record {
+      done = no_entries;
+      so_far = record { holds = open_or w n f.holds; spelled = tt; within = omega arith; head_clean = i.clean; clean = λ c h. h };
+      taken = subst (λ (y : List ℕ). Extends x y from from) bytes_are (extends-none x from);
+      at = at-as b e (t ++ x) (t ++ map_bytes w n no_entries) i.next (expect (n + n) fs) (ap (λ (y : List ℕ). t ++ y) bytes_are) f.follows.1 i.at;
+      counts = (proper-definite w i.proper, omega arith);
+      values = refl;
+      room = f.follows.0;
+    }
+starts-map r b fs t x w None from e i =
+    let taking = subst (λ (v : Width). IsTaking b.depth (at_item fs) (a_head majors.Map v 0) x i.next) i.proper i.taking in
+    let bytes_are : x ≡ map_bytes w 0 no_entries = taking.1 ∙ ap (λ (v : Width). head majors.Map v 0) (sym i.proper) ∙ sym (append-nil (head majors.Map w 0)) in
+    record {
+      done = no_entries;
+      so_far = record { holds = any_open w 0 i.proper; spelled = tt; within = omega arith; head_clean = i.clean; clean = λ c h. h };
+      taken = subst (λ (y : List ℕ). Extends x y from from) bytes_are (extends-none x from);
+      at = at-as b e (t ++ x) (t ++ map_bytes w 0 no_entries) i.next (at_item (indefinite_map false ∷ fs)) (ap (λ (y : List ℕ). t ++ y) bytes_are) taking.2.1 i.at;
+      counts = i.proper;
+      values = refl;
+      room = taking.2.0;
+    }
+
+-- ---- the pairs
+
+module _ (r : Rules) (b : Bounds) (fs : List Container) (t x : List ℕ) (w : Width) (n : ℕ) (left : Option ℕ) (es : Entries) (from mid : Option (List ℕ)) (e : ItemEventsView)
+    (a : IsReadingMap r b fs t x w n left es from mid e) where
+  -- no pair is left
+  pub map-whole : left ≡ Some 0 → ReadsItem r b fs t x from mid e (value.map es)
+  map-whole none =
+      let counts : (w ≢ Indefinite) × (entries_count a.done + 0 ≡ n) = subst (IsLeft w n (entries_count a.done)) none a.counts in
+      let same : entries_count a.done ≡ n = omega (arith, counts.1) in
+      let whole = map_whole w a.done r (length t) (b.depth - suc (length fs)) (subst (λ (k : ℕ). IsMapSoFar r (length t) (b.depth - suc (length fs)) w k a.done) (sym same) a.so_far) in
+      let bytes_are : map_bytes w n a.done ≡ spell (a_map w a.done) = sym (map_bytes-whole w n a.done (closes w counts.0) same) in
+      let room : length fs < b.depth = a.room in
+      record {
+        item = a_map w a.done;
+        spelled = whole.0;
+        within = omega (arith, whole.1, room);
+        clean = whole.2;
+        taken = subst (λ (u : List ℕ). Extends x u from mid) bytes_are a.taken;
+        value = ap value.map a.values;
+        at = at-as b e (t ++ map_bytes w n a.done) (t ++ spell (a_map w a.done)) (pairs_due left fs) (close fs) (ap (λ (u : List ℕ). t ++ u) bytes_are) (ap (λ (l : Option ℕ). pairs_due l fs) none) a.at;
+      }
+
+-- with what is known of no keys
+pub starts-with : (r : Rules) (b : Bounds) (fs : List Container) (t x : List ℕ) (w : Width) (n : ℕ) (from : Option (List ℕ)) (e : ItemEventsView) → IsBegun r b fs t x e w (kinds.Map (Some n)) → (P : List Spelling → Type 0) → P []
+    → (h : IsReadingMap r b fs t x w n (Some n) value.no_entries from from e) × P (keys_onto [] h.done)
+unfolding starts-map
+starts-with r b fs t x w n from e i P k = (starts-map r b fs t x w (Some n) from e i, k)
