@@ -1,5 +1,5 @@
 -- What two inputs mean: by their canonical bytes, and as a relation of inputs.
-use Rattle.std.proofs.Common.{ℕ, ◌^◌, ◌≡◌, ◌≤◌, ◌↔◌, Bool, List, sym, ap, ◌∙◌, subst}
+use Rattle.std.proofs.Common.{ℕ, ◌^◌, ◌≡◌, ◌≤◌, ◌↔◌, Bool, List, length, sym, ap, ◌∙◌, subst}
 use Rattle.std.specs.Prelude.{IsTrue}
 use Rattle.std.specs.Bool.{Decides}
 use Rattle.cbor_head.specs.Canonical.{canonical}
@@ -15,8 +15,8 @@ use Rattle.cbor_reader.specs.Canonicalise.{IsCanonicalOf}
 use Rattle.cbor_reader.specs.Comparing.{MeanTheSame}
 use Rattle.cbor_reader.specs.Headline.{IsValidItem}
 use Rattle.cbor_reader.specs.WholeItem.{IsWholeItem}
-use Rattle.cbor_reader.proofs.Headline.{answers_exactly, equal_exactly, valid_item_value}
-use Rattle.cbor_reader.proofs.WholeItems.{only_item}
+use Rattle.cbor_reader.proofs.Headline.{again, answers_exactly, equal_exactly, valid_item_value}
+use Rattle.cbor_reader.proofs.WholeItems.{becomes, only_item}
 
 -- ---- by canonical bytes
 
@@ -29,6 +29,13 @@ module _ (limits : Bounds) (m : limits.bytes ≤ 2 ^ 62) (left right : List ℕ)
 
   bytes_of_item : (input out : List ℕ) (s : Spelling) → IsEncoded input out → IsValidItem limits input s → out ≡ canonical Bytewise (value_of s)
   bytes_of_item input out s h i = h.2 ∙ ap (λ (t : Spelling). canonical Bytewise (value_of t)) (only_item limits limits input h.0 s h.1 i)
+
+  -- the canonical bytes of an item are an item, of the same canonical bytes
+  pub encoded_again : (out : List ℕ) → IsEncoded left out → right ≡ out → length right ≤ limits.bytes → IsEncoded right out
+  encoded_again out h e l =
+      let item : IsEncoded left right = subst (IsEncoded left) (sym e) h in
+      let (s, i, is, _) = (answers_exactly limits Bytewise right right).0 (again limits Bytewise left right m (becomes limits Bytewise left right item l)) in
+      (s, i, sym e ∙ is)
 
   module _ (same : Bool) (x y : List ℕ) (decides : Decides same (x ≡ y)) (h : IsEncoded left x) (g : IsEncoded right y) where
     pub same_values : (s t : Spelling) → IsValidItem limits left s → IsValidItem limits right t → IsTrue same ↔ Same (value_of s) (value_of t)

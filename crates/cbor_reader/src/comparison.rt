@@ -1,6 +1,6 @@
 //! Whether two inputs mean the same.
 
-ghost use Rattle.std.specs.Prelude.{◌≢◌, ◌↔◌, IsTrue, IfOk, IfErr};
+ghost use Rattle.std.specs.Prelude.{◌≡◌, ◌≢◌, ◌↔◌, ◌≤◌, IsTrue, IfOk, IfErr, length};
 ghost use Rattle.cbor_head.specs.Spelling.{Spelling, value_of};
 ghost use Rattle.cbor_head.specs.Value.{Same};
 ghost use Rattle.cbor_head.specs.declared.reason.Reason.TheVariants as reasons;
@@ -57,9 +57,22 @@ pub fn same_meaning(
     if left == right {
         return Ok(true);
     }
+    // So are its canonical bytes, which are judged to be a valid item by that.
+    if is_within(right, left_item.as_slice(), limits.bytes()) {
+        return Ok(true);
+    }
     let right_item = match encoded_item(alloc, right, limits, KeyOrder::Bytewise) {
         Ok(bytes) => bytes,
         Err(refusal) => return Err((Side::Right, refusal)),
     };
     Ok(left_item.as_slice() == right_item.as_slice())
+}
+
+// Whether an input is these bytes, and they are no more than the limit.
+#[inline(always)]
+fn is_within(input: &[u8], canonical: &[u8], limit: u64) -> bool
+    ensures equal { IsTrue result → input.now ≡ canonical.now }
+    ensures within { IsTrue result → length input.now ≤ limit }
+{
+    input.len() as u64 <= limit && input == canonical
 }
