@@ -51,12 +51,11 @@ impl ItemCheck {
     }
 }
 
-/// How many bytes the item has that the slice begins with, and what kept the keys of its maps, which
-/// held none before; else its refusal.
-// It is a call of its own, so that what looks for canonical bytes before it has no room on the stack
-// for it.
+// How many bytes the item has that the slice begins with, and what kept the keys of its maps, which
+// held none before; else its refusal. It is a call of its own, so that what looks for canonical bytes
+// before it has no room on the stack for it.
 #[inline(never)]
-pub(crate) fn size_by_keys(
+fn size_by_keys(
     building: &mut Building<KeyBytes>,
     bytes: &[u8],
     limits: Limits,

@@ -6,7 +6,6 @@ ghost use Rattle.cbor_head.specs.declared.reason.Reason.TheVariants as reasons;
 ghost use Rattle.cbor_judging.specs.Readers.{IsRead, IsUnread, TellsMemoryAtFront};
 
 use crate::first_look::{first_look, may_be_valid};
-use crate::item_check::size_by_keys;
 use cbor_head::{KeyOrder, Limits, Refusal};
 use cbor_sinks::KeyBytes;
 use cbor_walk::Building;
@@ -42,5 +41,8 @@ fn valid_size(alloc: Global, bytes: &[u8], limits: Limits) -> Result<u64, Refusa
     ensures memory { IfErr result TellsMemoryAtFront }
 {
     let mut building = Building::new(KeyBytes::new(alloc));
-    size_by_keys(&mut building, bytes, limits)
+    match building.give_front(bytes, limits) {
+        Ok(size) => Ok(size),
+        Err(refusal) => Err(refusal),
+    }
 }
