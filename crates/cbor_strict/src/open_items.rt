@@ -105,7 +105,7 @@ impl OpenItems {
         ensures answers { AnswersHead self.old self.new event.now «open» taken result }
         ensures against { IfErr result (λ f. IsAgainstEvent self.old.order f.reason) }
     {
-        match head_fault(event) {
+        match fault_of(event) {
             Some(reason) => return Err(Refusal::new(reason, event.place, taken)),
             None => {}
         }
@@ -248,6 +248,22 @@ impl OpenItems {
             },
         }
     }
+}
+
+// What the rules have against a head that an item may have. One of a single byte is as short as can
+// be, so its argument is not looked at.
+#[inline(always)]
+fn fault_of(event: &Event) -> Option<Reason>
+    requires { (o : KeyOrder) (reason : Reason) → event.now.width ≡ Width.Direct
+        → IsFault (strict o) (mark_of event.now.width event.now.kind) reason → ⊥ }
+    ensures { (o : KeyOrder) → MatchOption result
+        ((reason : Reason) → IsFault (strict o) (mark_of event.now.width event.now.kind) reason → ⊥)
+        (λ reason. IsFault (strict o) (mark_of event.now.width event.now.kind) reason) }
+{
+    if let Width::Direct = event.width {
+        return None;
+    }
+    head_fault(event)
 }
 
 // What the rules have against a head, in whichever order.

@@ -1,15 +1,19 @@
-use Rattle.std.proofs.Common.{ℕ, ◌++◌, refl, sym, subst, inl}
+use Rattle.std.proofs.Common.{ℕ, ◌++◌, List, refl, sym, subst, inl}
 use Rattle.cbor_head.specs.Complaint.{strict}
 use Rattle.cbor_head.specs.declared.order.KeyOrder.{KeyOrder}
 use Rattle.cbor_head.specs.declared.reason.Reason.{Reason}
 use Rattle.cbor_head.specs.declared.width.Width.{Width}
 use Rattle.cbor_head.specs.declared.width.Width.TheVariants.{Indefinite}
 use Rattle.cbor_automaton.specs.Trace.{Mark, a_head, a_chunk, a_byte, a_break}
-use Rattle.cbor_automaton.specs.Marks.{mark_of}
+use Rattle.cbor_automaton.specs.Marks.{mark_of, count_of}
+use Rattle.cbor_automaton.specs.declared.event.EventKind.{EventKind}
+use Rattle.cbor_automaton.specs.declared.event.EventKind.TheVariants as kinds
 use Rattle.cbor_judging.specs.Refusals.{IsComplaintReason}
 use Rattle.cbor_strict.specs.StrictReader.{IsAgainstEvent}
-use Rattle.cbor_strict.specs.inner.OpenItems.{Answers}
+use Rattle.cbor_strict.specs.inner.OpenItems.{Answers, frames_in}
+use Rattle.cbor_judging.specs.Place.{Container, Place, at_item, IsTaking}
 use Rattle.cbor_judging.specs.Reading.{IsHeadFault, IsFault}
+use Rattle.cbor_judging.proofs.Arguments.{direct-is}
 use Rattle.cbor_strict.proofs.OpenHeads.{refused_head, begun_in, begun_no_memory, begun_kept}
 use Rattle.cbor_strict.proofs.open_items.OpenItems.admit_head.Goals as goal
 
@@ -23,6 +27,27 @@ mark_reason o (a_head m w n) reason h = head_reason o w n reason h.1
 mark_reason o (a_chunk w n) reason h = head_reason o w n reason h.1
 mark_reason o a_byte reason h = absurd h.1
 mark_reason o a_break reason h = absurd h.1
+
+-- a head of one byte that was taken has no complaint
+direct_clean : (o : KeyOrder) (d : ℕ) (cs : List Container) (kind : EventKind) (x : List ℕ) (q : Place) (reason : Reason) → IsTaking d (at_item cs) (mark_of Direct kind) x q → IsFault (strict o) (mark_of Direct kind) reason → ⊥
+direct_clean o d cs (kinds.Unsigned n) x q reason h f = f.1.0 (sym (direct-is n h.1))
+direct_clean o d cs (kinds.Negative n) x q reason h f = f.1.0 (sym (direct-is n h.1))
+direct_clean o d cs (kinds.Simple n) x q reason h f = f.1.0 (sym (direct-is n h.1))
+direct_clean o d cs (kinds.Bytes n) x q reason h f = f.1.0 (sym (direct-is (count_of n) h.1))
+direct_clean o d cs (kinds.Text n) x q reason h f = f.1.0 (sym (direct-is (count_of n) h.1))
+direct_clean o d cs (kinds.Array n) x q reason h f = f.1.0 (sym (direct-is (count_of n) h.1))
+direct_clean o d cs (kinds.Map n) x q reason h f = f.1.0 (sym (direct-is (count_of n) h.1))
+direct_clean o d cs (kinds.Tag n) x q reason h f = f.1.0 (sym (direct-is n h.1))
+direct_clean o d cs (kinds.Chunk n) x q reason h f = absurd h
+direct_clean o d cs (kinds.Piece n) x q reason h f = absurd h
+direct_clean o d cs kinds.End x q reason h f = absurd f.1
+
+pub fault_of-requires : goal.fault_of-requires
+fault_of-requires c o reason direct fault =
+    let r = c.requires.come in
+    direct_clean o c.requires.b.depth (frames_in r.fs) c.args.event.now.kind c.requires.x r.next reason
+    (subst (λ w. IsTaking c.requires.b.depth (at_item (frames_in r.fs)) (mark_of w c.args.event.now.kind) c.requires.x r.next) direct r.taking)
+    (subst (λ w. IsFault (strict o) (mark_of w c.args.event.now.kind) reason) direct fault)
 
 pub returns-in-Some-clause-against : goal.returns-in-Some-clause-against
 returns-in-Some-clause-against c =
