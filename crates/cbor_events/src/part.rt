@@ -26,6 +26,19 @@ enum Asked {
     Failed,
 }
 
+// As many as were got. Where one was wanted it is one, and the compiler knows so.
+#[inline(always)]
+fn got(count: usize, want: usize) -> usize
+    requires some { 0 < count }
+    requires most { count ≤ want }
+    ensures { result ≡ count }
+{
+    if want == 1 {
+        return 1;
+    }
+    count
+}
+
 // Reads at most `want` bytes into the front of the buffer, by one call of `read`.
 #[inline(always)]
 fn ask<R: Read>(reader: &mut R, buffer: &mut [u8], want: usize) -> Asked
@@ -36,7 +49,7 @@ fn ask<R: Read>(reader: &mut R, buffer: &mut [u8], want: usize) -> Asked
 {
     match reader.read(&mut buffer[..want]) {
         Ok(0) => Asked::End,
-        Ok(n) => Asked::Got(n),
+        Ok(n) => Asked::Got(got(n, want)),
         Err(_) => Asked::Failed,
     }
 }
