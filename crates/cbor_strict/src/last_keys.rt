@@ -1,7 +1,7 @@
 //! The last complete key of each open map, as spelled, in one buffer.
 
 ghost use Rattle.std.specs.Prelude.{◌≡◌, ◌-◌, ◌<◌, ◌≤◌, ◌++◌, ◌∷◌, ℕ, List, [], length, take, drop};
-ghost use Rattle.std.specs.Prelude.{IsTrue, ◌↔◌, OnOk};
+ghost use Rattle.std.specs.Prelude.{IsTrue, ◌↔◌, OnOk, true};
 ghost use Rattle.cbor_head.specs.Order.{key_lt};
 ghost use Rattle.cbor_head.specs.Spelling.{Spelling, SpelledEntries, no_entries, entry, spell};
 ghost use Rattle.cbor_head.specs.declared.width.Width.{Width};
@@ -192,6 +192,12 @@ impl LastKeys {
             unreachable!()
         };
         let span = *last;
+        if self.is_first(span) {
+            // The first key of its map comes behind none, and lies where it is to.
+            self.open_keys -= 1;
+            self.put_key(span.next);
+            return Ok(());
+        }
         if !self.rises(order, span) {
             return Err(self.bytes.len() - span.next);
         }
@@ -203,6 +209,14 @@ impl LastKeys {
         cut_out(&mut self.bytes, span.from, span.next);
         self.put_key(span.from);
         Ok(())
+    }
+
+    // Whether no key of the map stands before the next one.
+    fn is_first(&self, span: Span) -> bool
+        ensures { result ≡ true → (span.from ≡ span.next)
+            × (span.next < length self.now.bytes.items) }
+    {
+        span.from == span.next && span.next < self.bytes.len()
     }
 
     // Whether the next key comes behind the last one.

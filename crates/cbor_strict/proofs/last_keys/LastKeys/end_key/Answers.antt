@@ -1,5 +1,16 @@
-use Rattle.std.proofs.Common.{◌∙◌, true≢false, sym, arith}
-use Rattle.cbor_strict.specs.inner.LastKeys.{seen}
+use Rattle.std.proofs.Common.{◌≡◌, ◌<◌, ◌+◌, ◌-◌, ℕ, zero, suc, List, [], ◌∷◌, ◌++◌, length, take, drop, IsTrue, ◌∙◌, true≢false, refl, sym, ap, subst, arith}
+use Rattle.std.proofs.lemmas.List.{take-append-drop}
+use Rattle.std.proofs.lemmas.Bool.Decides.{nat_tests}
+use Rattle.std.specs.Prelude.{slice_index_or}
+use Rattle.cbor_head.specs.Order.{key_lt}
+use Rattle.cbor_head.specs.Spelling.{Spelling, SpelledEntries, spell}
+use Rattle.cbor_head.specs.declared.order.KeyOrder.{KeyOrder}
+use Rattle.cbor_head.specs.declared.order.KeyOrder.TheVariants.{Bytewise, LengthFirst}
+use Rattle.cbor_head.specs.declared.width.Width.{Width}
+use Rattle.cbor_strict.specs.declared.last_keys.Span.{Span}
+use Rattle.cbor_judging.specs.Frame.{Frame, a_key, a_content}
+use Rattle.cbor_judging.specs.LastKey.{last_key}
+use Rattle.cbor_strict.specs.inner.LastKeys.{KeysView, IsKept, seen, with_key}
 use Rattle.cbor_strict.proofs.KeptKeys.{none_open}
 use Rattle.cbor_strict.proofs.KeptPairs.{key_bounds, key_compared, key_put_in, key_put_out, ended_bounds}
 use Rattle.cbor_strict.proofs.last_keys.LastKeys.end_key.Goals as goal
@@ -25,6 +36,40 @@ cut_out-requires-clause-order c =
 pub cut_out-requires-clause-within : goal.cut_out-requires-clause-within
 cut_out-requires-clause-within c = (ended_bounds (seen c.args.self.now) c.requires c.in-Some.last.now (rw c.deref.ensures.value at c.in-Some.ensures.item.1)).2
 
+-- no bytes come before some
+none_before_some : (o : KeyOrder) (xs : List ℕ) → 0 < length xs → IsTrue (key_lt o [] xs)
+none_before_some o [] some = absurd (omega (arith, some))
+none_before_some Bytewise (x ∷ xs) some = refl
+none_before_some LengthFirst (x ∷ xs) some = grind (arith, nat_tests)
+
+module _ (k : KeysView) (w : Width) (a : SpelledEntries) (v : Spelling) (b : SpelledEntries) (fs : List Frame) (s : Spelling) (sp : Span) (h : IsKept k (a_key w a v b ∷ fs) (spell s))
+    (g : sp ≡ slice_index_or k.spans (length k.spans - 1) sp) (first : sp.from ≡ sp.next) where
+  -- the first key of a map is kept where it is
+  first_kept : (keys : ℕ) → keys + 1 ≡ k.open_keys → IsKept (with_key (record k { open_keys = keys }) sp.next) (a_content w a s b ∷ fs) []
+  first_kept zero less =
+      subst (λ n. IsKept (with_key (record k { open_keys = 0 }) n) (a_content w a s b ∷ fs) []) first
+      (key_put_out k w a v b fs s sp h g 0 k.bytes less refl (sym (take-append-drop sp.from k.bytes) ∙ ap (λ n. take sp.from k.bytes ++ drop n k.bytes) first))
+  first_kept (suc n) less = key_put_in k w a v b fs s sp h g (suc n) less (omega arith)
+
+  -- and comes behind none
+  first_rises : (o : KeyOrder) → sp.next < length k.bytes → IsTrue (key_lt o (last_key a) (spell s))
+  first_rises o some =
+      let q = key_bounds k w a v b fs s sp h g in
+      let m = key_compared k w a v b fs s sp h g in
+      let none : sp.to - sp.from ≡ 0 = omega (arith, q.0, q.1, first) in
+      let last : last_key a ≡ [] = sym m.0 ∙ ap (λ n. take n (drop sp.from k.bytes)) none in
+      subst (λ xs. IsTrue (key_lt o xs (spell s))) (sym last) (none_before_some o (spell s) (omega (arith, q.2, some)))
+
+pub returns-then-is_first : goal.returns-then-is_first
+returns-then-is_first c = λ w a v b fs s h.
+    let g = rw c.deref.ensures.value at c.in-Some.ensures.item.1 in
+    let k = seen c.args.self.now in
+    let sp = c.in-Some.last.now in
+    let f = c.is_first.ensures c.if-is_first.true in (
+      first_rises k w a v b fs s sp h g f.0 c.args.order f.1,
+      rw c.put_key.ensures (first_kept k w a v b fs s sp h g f.0 _ (omega (arith, h.open_keys))),
+    )
+
 pub returns-then-not-rises : goal.returns-then-not-rises
 returns-then-not-rises c = λ w a v b fs s h.
     let g = rw c.deref.ensures.value at c.in-Some.ensures.item.1 in
@@ -39,7 +84,7 @@ returns-then-is_inside c = λ w a v b fs s h.
     let g = rw c.deref.ensures.value at c.in-Some.ensures.item.1 in
     let m = key_compared (seen c.args.self.now) w a v b fs s c.in-Some.last.now h g in (
       rw (← m.0, ← m.1) (c.rises.ensures.0 c.if-not-rises.false),
-      rw c.put_key.ensures (key_put_in (seen c.args.self.now) w a v b fs s c.in-Some.last.now h g _ (omega (arith, h.open_keys)) (c.is_inside.ensures.0 c.if-is_inside.true)),
+      rw c.put_key-then-is_inside.ensures (key_put_in (seen c.args.self.now) w a v b fs s c.in-Some.last.now h g _ (omega (arith, h.open_keys)) (c.is_inside.ensures.0 c.if-is_inside.true)),
     )
 
 pub returns : goal.returns
