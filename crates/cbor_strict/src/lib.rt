@@ -15,6 +15,7 @@
 //! ```
 #![tactic(auto)]
 
+mod head_faults;
 mod last_keys;
 mod open_items;
 mod rises;

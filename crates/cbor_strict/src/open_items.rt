@@ -5,23 +5,21 @@ ghost use Rattle.std.specs.Prelude.{length};
 ghost use Rattle.std.specs.Prelude.{OnOk, IfErr, MatchOption, MatchResult, IsUtf8};
 ghost use Rattle.std.specs.Str.Lossy.{utf8_valid_len};
 ghost use Rattle.cbor_head.specs.Head.{IsSimple, major_number, shortest_head};
-ghost use Rattle.cbor_head.specs.Complaint.{strict};
-ghost use Rattle.cbor_automaton.specs.Marks.{mark_of};
 ghost use Rattle.cbor_text.specs.TextCheck.{HasChecked};
 ghost use Rattle.cbor_strict.specs.StrictReader.{IsAgainstEvent};
 ghost use Rattle.cbor_judging.specs.Frame.{Frame};
 ghost use Rattle.cbor_judging.specs.Kinds.{IsKeyDue};
 ghost use Rattle.cbor_strict.specs.inner.LastKeys.{IsKept, seen, from_outside};
-ghost use Rattle.cbor_judging.specs.Reading.{IsFault};
 ghost use Rattle.cbor_strict.specs.inner.OpenItems.{IsItemEnded, AnswersEnd, IsHeadCome};
 ghost use Rattle.cbor_strict.specs.inner.OpenItems.{AnswersHead};
 ghost use Rattle.cbor_strict.specs.inner.OpenItems.{IsPartCome, AnswersPart, IsBegunIn};
 ghost use Rattle.cbor_strict.specs.inner.OpenItems.{AnswersBegun};
 ghost use Rattle.cbor_strict.specs.inner.OpenItems.{IsSameString, IsBegunBy, short_head};
 
+use crate::head_faults::fault_of;
 use crate::last_keys::{Due, LastKeys};
 use cbor_automaton::{Event, EventKind};
-use cbor_head::{Head, KeyOrder, Keys, Major, Reason, Refusal, Width};
+use cbor_head::{Head, KeyOrder, Keys, Major, Reason, Refusal};
 use cbor_text::TextCheck;
 use std::alloc::{AllocError, Global};
 
@@ -247,45 +245,6 @@ impl OpenItems {
                 Err(length) => { Err(Refusal::new(Reason::KeyOrder, taken - length as u64, taken)) }
             },
         }
-    }
-}
-
-// What the rules have against a head that an item may have. One of a single byte is as short as can
-// be, so its argument is not looked at.
-#[inline(always)]
-fn fault_of(event: &Event) -> Option<Reason>
-    requires { (o : KeyOrder) (reason : Reason) → event.now.width ≡ Width.Direct
-        → IsFault (strict o) (mark_of event.now.width event.now.kind) reason → ⊥ }
-    ensures { (o : KeyOrder) → MatchOption result
-        ((reason : Reason) → IsFault (strict o) (mark_of event.now.width event.now.kind) reason → ⊥)
-        (λ reason. IsFault (strict o) (mark_of event.now.width event.now.kind) reason) }
-{
-    if let Width::Direct = event.width {
-        return None;
-    }
-    head_fault(event)
-}
-
-// What the rules have against a head, in whichever order.
-fn head_fault(event: &Event) -> Option<Reason>
-    ensures { (o : KeyOrder) → MatchOption result
-        ((reason : Reason) → IsFault (strict o) (mark_of event.now.width event.now.kind) reason → ⊥)
-        (λ reason. IsFault (strict o) (mark_of event.now.width event.now.kind) reason) }
-{
-    let argument = match &event.kind {
-        EventKind::Unsigned(n) | EventKind::Negative(n) | EventKind::Chunk(n) | EventKind::Tag(n) =>
-            *n,
-        EventKind::Simple(simple) => u64::from(simple.number()),
-        EventKind::Bytes(count)
-        | EventKind::Text(count)
-        | EventKind::Array(count)
-        | EventKind::Map(count) => count.unwrap_or(0),
-        EventKind::Piece(_) | EventKind::End => return None,
-    };
-    match event.width {
-        Width::Indefinite => Some(Reason::Indefinite),
-        width if width == Head::shortest(Major::Unsigned, argument).width() => None,
-        _ => Some(Reason::NotShortest),
     }
 }
 

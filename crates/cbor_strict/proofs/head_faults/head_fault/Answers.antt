@@ -1,7 +1,7 @@
 use Rattle.std.proofs.Common.{rules}
 use Rattle.cbor_judging.proofs.Steps.{open-fault, IsHeadKind}
-use Rattle.cbor_strict.proofs.open_items.head_fault.Goals as goal
-use Rattle.cbor_strict.proofs.open_items.head_fault.Goals.{in-Simple, in-Bytes2, in-Unsigned2}
+use Rattle.cbor_strict.proofs.head_faults.head_fault.Goals as goal
+use Rattle.cbor_strict.proofs.head_faults.head_fault.Goals.{in-Simple, in-Bytes2, in-Unsigned2}
 
 pub returns-in-Indefinite : goal.returns-in-Indefinite
 returns-in-Indefinite c = λ o.
