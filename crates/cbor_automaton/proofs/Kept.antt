@@ -1,10 +1,8 @@
 -- Each byte that the machine takes leads to a state that stands for the bytes so far.
-use Rattle.std.proofs.Common.{◌≡◌, ℕ, zero, suc, ◌+◌, ◌-◌, ◌*◌, ◌^◌, ◌<◌, Bool, true, false, nat_lt, cond, List, [], ◌∷◌, ◌++◌, length, flat_map, refl, sym, ap, ◌∙◌, subst, inl, inr, arith, append_assoc, append-nil, true≢false, mod-eq_of_lt}
-use Rattle.std.proofs.lemmas.Bool.{lt-ltb, le-ltb, cases_lt}
+use Rattle.std.proofs.Common.{◌≡◌, ℕ, zero, suc, ◌+◌, ◌-◌, ◌*◌, ◌^◌, ◌<◌, Bool, true, false, nat_lt, cond, List, [], ◌∷◌, ◌++◌, length, flat_map, refl, sym, ap, ◌∙◌, subst, inl, inr, arith, append_assoc, append-nil, true≢false, mod-eq_of_lt, lt-ltb, le-ltb}
+use Rattle.std.proofs.lemmas.Bool.{cases_lt}
 use Rattle.std.specs.Int.{bytes_high_first}
-use Rattle.cbor_head.specs.Value.{AreBytes}
-use Rattle.cbor_head.specs.Head.{Holds, head, major_number, shortest}
-use Rattle.cbor_head.specs.Spelling.{byte_chunks, text_chunks, array, a_map, simple, no_spellings, spell_all, chunk_bytes}
+use Rattle.cbor_head.specs.Prelude.{AreBytes, Holds, head, major_number, shortest, byte_chunks, text_chunks, array, a_map, simple, no_spellings, spell_all, chunk_bytes}
 use Rattle.cbor_automaton.specs.Trace.{Mark, more_bytes}
 use Rattle.cbor_automaton.specs.Automaton.{Frame, indefinite_array, indefinite_map, State, at_item, in_head, in_simple, in_payload, in_chunks, done, Opening, direct, long, Next, refuses, goes, tells, numbered_tail, simple_tail, tail, indefinite_length, opening_of, opening, close, close_string, payload, after, has_room, break_at, begin, is_major, in_string, take_byte, Outcome, refused, reached, telling, and_then, run}
 use Rattle.cbor_head.specs.declared.major.Major.{Major}

@@ -1,6 +1,6 @@
 -- A map's keys and values as the members of an array.
 use Rattle.std.proofs.Common.{◌≡◌, ℕ, ◌+◌, ◌-◌, ◌≤◌, nat_lt, cond, ◌++◌, length, refl, sym, ap, ◌∙◌, arith, append_assoc}
-use Rattle.cbor_head.specs.Spelling.{Spellings, SpelledEntries, no_spellings, a_spelling, no_entries, entry, spellings_count, entries_count, spell, spell_all, spell_entries, AreSpelled, AreEntriesSpelled, depth_all, depth_entries}
+use Rattle.cbor_head.specs.Prelude.{Spellings, SpelledEntries, no_spellings, a_spelling, no_entries, entry, spellings_count, entries_count, spell, spell_all, spell_entries, AreSpelled, AreEntriesSpelled, depth_all, depth_entries}
 use Rattle.cbor_automaton.specs.Open.{open_after, open_in, open_in_entries}
 
 abbrev pub members : SpelledEntries → Spellings

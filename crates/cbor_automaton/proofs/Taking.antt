@@ -1,9 +1,8 @@
 -- One mark from where the machine stands: which it can be, its bytes, and where it leaves the machine.
-use Rattle.std.proofs.Common.{◌≡◌, ℕ, zero, suc, ◌+◌, ◌-◌, ◌*◌, ◌^◌, ◌<◌, ◌≤◌, Bool, true, false, nat_lt, cond, List, [], ◌∷◌, ◌++◌, length, refl, sym, ap, ◌∙◌, subst, inl, inr, arith, append_assoc, append-nil, mod-eq_of_lt}
-use Rattle.std.proofs.lemmas.Bool.{lt-ltb, le-ltb, ltb-true, cases_lt}
+use Rattle.std.proofs.Common.{◌≡◌, ℕ, zero, suc, ◌+◌, ◌-◌, ◌*◌, ◌^◌, ◌<◌, ◌≤◌, Bool, true, false, nat_lt, cond, List, [], ◌∷◌, ◌++◌, length, refl, sym, ap, ◌∙◌, subst, inl, inr, arith, append_assoc, append-nil, mod-eq_of_lt, lt-ltb, le-ltb, ltb-true}
+use Rattle.std.proofs.lemmas.Bool.{cases_lt}
 use Rattle.std.specs.Int.{bytes_high_first}
-use Rattle.cbor_head.specs.Head.{Holds, IsSimple, head, major_number, shortest}
-use Rattle.cbor_head.specs.Value.{AreBytes}
+use Rattle.cbor_head.specs.Prelude.{Holds, IsSimple, head, major_number, shortest, AreBytes}
 use Rattle.cbor_automaton.specs.Trace.{Mark, a_head, more_bytes}
 use Rattle.cbor_automaton.specs.Automaton.{Frame, indefinite_array, indefinite_map, State, at_item, in_head, in_simple, in_payload, in_chunks, done, Opening, long, Next, refuses, goes, tells, numbered_tail, simple_tail, tail, indefinite_length, opening_of, opening, after, has_room, break_at, begin, is_major, in_string, take_byte, Outcome, refused, reached, telling, and_then, run}
 use Rattle.cbor_automaton.specs.Taking.{Follows, IsTaking}

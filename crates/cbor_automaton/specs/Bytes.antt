@@ -1,6 +1,6 @@
 -- The bytes that marks and events stand for (RFC 8949, section 3).
 use Rattle.std.specs.Prelude.{◌≡◌, ℕ, List, [], ◌∷◌, length, Option, Some, None}
-use Rattle.cbor_head.specs.Head.{Holds, IsHead, head}
+use Rattle.cbor_head.specs.Prelude.{Holds, IsHead, head}
 use Rattle.cbor_head.specs.declared.major.Major.{Major}
 use Rattle.cbor_head.specs.declared.width.Width.{Width}
 use Rattle.cbor_head.specs.declared.width.Width.TheVariants.{Indefinite}

@@ -1,7 +1,6 @@
 -- How many containers are open within an item (RFC 8949, section 3).
 use Rattle.std.specs.Prelude.{ℕ, suc, ◌+◌, ◌-◌, ◌&&◌, nat_lt, nat_le, if◌then◌else◌, length}
-use Rattle.cbor_head.specs.Head.{head}
-use Rattle.cbor_head.specs.Spelling.{Spelling, Spellings, SpelledEntries, array, a_map, tag, no_spellings, a_spelling, no_entries, entry, spellings_count, entries_count, spell}
+use Rattle.cbor_head.specs.Prelude.{head, Spelling, Spellings, SpelledEntries, array, a_map, tag, no_spellings, a_spelling, no_entries, entry, spellings_count, entries_count, spell}
 use Rattle.cbor_head.specs.declared.major.Major.TheVariants.{Array, Map, Tag}
 
 -- A container is open from its head until its last member or its break is complete: of `all` bytes, with a head of so many,

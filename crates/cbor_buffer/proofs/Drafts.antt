@@ -1,7 +1,6 @@
 -- What a draft's bytes are meant to be, as its steps change it.
-use Rattle.std.proofs.Common.{◌≡◌, ℕ, ◌+◌, ◌-◌, ◌≤◌, List, [], ◌∷◌, ◌++◌, append_assoc, append-nil, length, length-append, length-drop, take, drop, drop-drop, refl, sym, ap, ◌∙◌, subst, arith, inl, inr, map}
-use Rattle.std.specs.Prelude.{slice_range, reverse, flat_map}
-use Rattle.std.proofs.lemmas.List.{drop-append-le, drop_all, length-take-le, drop-take, take-take}
+use Rattle.std.proofs.Common.{◌≡◌, ℕ, ◌+◌, ◌-◌, ◌≤◌, List, [], ◌∷◌, ◌++◌, append_assoc, append-nil, length, length-append, length-drop, take, drop, drop-drop, refl, sym, ap, ◌∙◌, subst, arith, inl, inr, map, slice_range, reverse, flat_map, length-take-le, take-take}
+use Rattle.std.proofs.lemmas.List.{drop-append-le, drop_all, drop-take}
 use Rattle.std.proofs.Math.Seq.{drop-append_seam, take-append_seam}
 use Rattle.cbor_buffer.specs.Moved.{rope, Run, gap, Blocks, meant, IsWhole, IsRope, IsLoose, IsFree, KeepsFront, Stays}
 use Rattle.cbor_buffer.specs.Spans.{AreBehind, span_pair, AreWithin}

@@ -1,6 +1,5 @@
 -- Pairs gathered one behind the other.
-use Rattle.std.proofs.Common.{◌≡◌, ℕ, zero, suc, ◌+◌, ◌<◌, ◌≤◌, List, [], ◌∷◌, ◌++◌, append_assoc, append-nil, length, drop, get_or, map, sym, ap, ◌∙◌, arith}
-use Rattle.std.specs.Prelude.{slice_range, flat_map}
+use Rattle.std.proofs.Common.{◌≡◌, ℕ, zero, suc, ◌+◌, ◌<◌, ◌≤◌, List, [], ◌∷◌, ◌++◌, append_assoc, append-nil, length, drop, get_or, map, sym, ap, ◌∙◌, arith, slice_range, flat_map}
 use Rattle.std.proofs.lemmas.List.{drop_all}
 use Rattle.cbor_canonical.specs.Pairs.{pair_bytes}
 use Rattle.cbor_buffer.proofs.ByIndex.{at_read}

@@ -1,8 +1,7 @@
 -- Bytes that are meant in another order than they lie in.
-use Rattle.std.proofs.Common.{◌≡◌, ℕ, zero, suc, ◌+◌, ◌-◌, ◌<◌, ◌≤◌, List, [], ◌∷◌, ◌++◌, append_assoc, append-nil, length, length-append, take, drop, take-append-drop, min, get_or, refl, sym, ap, ◌∙◌, subst, arith, Option, Some, None, inl, inr}
-use Rattle.std.specs.Prelude.{slice_range, reverse, option_to_list}
+use Rattle.std.proofs.Common.{◌≡◌, ℕ, zero, suc, ◌+◌, ◌-◌, ◌<◌, ◌≤◌, List, [], ◌∷◌, ◌++◌, append_assoc, append-nil, length, length-append, take, drop, take-append-drop, min, get_or, refl, sym, ap, ◌∙◌, subst, arith, Option, Some, None, inl, inr, slice_range, reverse, option_to_list, take-take}
 use Rattle.std.proofs.lemmas.Grind.{flat_map-append}
-use Rattle.std.proofs.lemmas.List.{take-append-le, drop_all, reverse-append, length-reverse, take-take}
+use Rattle.std.proofs.lemmas.List.{take-append-le, drop_all, reverse-append, length-reverse}
 use Rattle.std.proofs.lemmas.Bool.{cases_lt}
 use Rattle.cbor_buffer.specs.Moved.{piece, rope, IsInside, AreInside, Run, gap, Blocks, IsAdded}
 use Rattle.cbor_buffer.specs.Spans.{AreBehind}

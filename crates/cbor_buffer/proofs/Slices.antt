@@ -1,7 +1,6 @@
 -- Parts of byte lists.
-use Rattle.std.proofs.Common.{◌≡◌, ℕ, ◌+◌, ◌-◌, ◌≤◌, List, ◌++◌, append_assoc, length, length-drop, take, drop, take_all, take-append-drop, length-take, sym, ap, ◌∙◌, subst, arith, zero, suc, ◌<◌, [], ◌∷◌, drop-drop, get_or, refl}
-use Rattle.std.specs.Prelude.{slice_range}
-use Rattle.std.proofs.lemmas.List.{take-append-le, drop-append-le, take_rest, take-take, length-take-le}
+use Rattle.std.proofs.Common.{◌≡◌, ℕ, ◌+◌, ◌-◌, ◌≤◌, List, ◌++◌, append_assoc, length, length-drop, take, drop, take_all, take-append-drop, length-take, sym, ap, ◌∙◌, subst, arith, zero, suc, ◌<◌, [], ◌∷◌, drop-drop, get_or, refl, slice_range, take-take, length-take-le}
+use Rattle.std.proofs.lemmas.List.{take-append-le, drop-append-le, take_rest}
 use Rattle.std.proofs.Math.Seq.{take-add, drop-append-add, drop-append_seam, take-append-add}
 
 -- a part of what stands in front

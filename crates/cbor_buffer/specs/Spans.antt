@@ -1,7 +1,7 @@
 -- Pairs of maps as spans of the buffer.
 use Rattle.std.specs.Prelude.{ℕ, ◌≤◌, List, length, slice_range}
 use Rattle.std.specs.List.{AllByRecursion}
-use Rattle.cbor_head.specs.Canonical.{Pair}
+use Rattle.cbor_head.specs.Prelude.{Pair}
 use Rattle.cbor_buffer.specs.declared.span.Span.{Span}
 
 abbrev pub span_pair : List ℕ → Span → Pair

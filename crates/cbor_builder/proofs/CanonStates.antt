@@ -1,6 +1,5 @@
 -- What a public builder stands for, from what its core does.
-use Rattle.std.proofs.Common.{◌≡◌, ℕ, Bool, true, false, List, [], ◌∷◌, Option, Some, None, true≢false, refl, sym, ap, ◌∙◌, subst}
-use Rattle.std.specs.Prelude.{IsTrue, IfSome, IsNone, ◌↔◌}
+use Rattle.std.proofs.Common.{◌≡◌, ℕ, Bool, true, false, List, [], ◌∷◌, Option, Some, None, true≢false, refl, sym, ap, ◌∙◌, subst, IsTrue, IfSome, IsNone, ◌↔◌}
 use Rattle.cbor_builder.specs.Built.{Built, HasDistinctKeysSoFar, IsRepeatTold, keys_so_far, AreAllDifferent}
 use Rattle.cbor_canonical.specs.Parts.{Open, plain, an_array, a_map, a_key, a_string, HasNoRepeats, IsInContainer}
 use Rattle.cbor_buffer.specs.declared.span.Span.{Span}

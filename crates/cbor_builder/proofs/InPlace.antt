@@ -1,11 +1,9 @@
 -- Keys lie as they are meant, whatever else does not.
-use Rattle.std.proofs.Common.{◌≡◌, ◌↔◌, ℕ, ◌+◌, ◌≤◌, Bool, List, [], ◌∷◌, ◌++◌, length, length-take, take, drop, map, refl, sym, ap, ◌∙◌, subst, arith, inl, inr, Option, Some, None}
-use Rattle.std.specs.Prelude.{IsTrue, slice_range}
+use Rattle.std.proofs.Common.{◌≡◌, ◌↔◌, ℕ, ◌+◌, ◌≤◌, Bool, List, [], ◌∷◌, ◌++◌, length, length-take, take, drop, map, refl, sym, ap, ◌∙◌, subst, arith, inl, inr, Option, Some, None, IsTrue, slice_range}
 use Rattle.std.specs.List.{AllByRecursion}
 use Rattle.std.proofs.lemmas.List.{take-append-le, drop-append-le}
 use Rattle.std.proofs.Math.Seq.{drop-append_seam}
-use Rattle.cbor_head.specs.Canonical.{Pair}
-use Rattle.cbor_head.specs.Order.{key_lt}
+use Rattle.cbor_head.specs.Prelude.{Pair, key_lt}
 use Rattle.cbor_head.specs.declared.order.KeyOrder.{KeyOrder}
 use Rattle.cbor_builder.specs.Built.{HasKey, IsRepeatedKey, IsWaitingKey, keys_so_far, open_maps, AreOpenKeysDifferent, IsRepeatTold, AreAllDifferent, IsFirstRepeat}
 use Rattle.cbor_canonical.specs.Pairs.{IsRising}

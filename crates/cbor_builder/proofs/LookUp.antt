@@ -1,14 +1,12 @@
 -- A key looked for among the pairs of its map.
-use Rattle.std.proofs.Common.{◌≡◌, ◌↔◌, ℕ, ◌+◌, ◌<◌, ◌≤◌, ◌⊎◌, List, [], ◌∷◌, ◌++◌, length, drop, get_or, map, Bool, false, true≢false, inl, inr, refl, sym, ap, ◌∙◌, subst}
-use Rattle.std.specs.Prelude.{IsTrue}
+use Rattle.std.proofs.Common.{◌≡◌, ◌↔◌, ℕ, ◌+◌, ◌<◌, ◌≤◌, ◌⊎◌, List, [], ◌∷◌, ◌++◌, length, drop, get_or, map, Bool, false, true≢false, inl, inr, refl, sym, ap, ◌∙◌, subst, IsTrue}
 use Rattle.std.specs.List.{AllByRecursion}
 use Rattle.std.specs.Ordering.{is_eq}
 use Rattle.std.specs.declared.cmp.Ordering.{Ordering}
 use Rattle.std.proofs.lemmas.Cmp.{tied_itself}
 use Rattle.std.proofs.lemmas.List.{drop_all}
-use Rattle.cbor_head.specs.Order.{key_cmp, key_lt}
-use Rattle.cbor_head.specs.Value.{Value, Entries, no_entries, entry, HasEntry, Same, AreBytes, AreEntriesInRange, IsInRange, IsValid}
-use Rattle.cbor_head.specs.Canonical.{Pair, canonical, canonical_entries}
+use Rattle.cbor_head.specs.Prelude.{key_cmp, key_lt, Value, Entries, HasEntry, Same, AreBytes, AreEntriesInRange, IsInRange, IsValid, Pair, canonical, canonical_entries}
+use Rattle.cbor_head.specs.Value.{no_entries, entry}
 use Rattle.cbor_head.specs.declared.order.KeyOrder.{KeyOrder}
 use Rattle.cbor_builder.specs.Built.{HasKey, HasSameKey}
 use Rattle.cbor_canonical.specs.Pairs.{IsRising, AreKeysValid}

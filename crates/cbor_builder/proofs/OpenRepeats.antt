@@ -1,12 +1,11 @@
 -- Which repeated key is told, from the innermost out.
-use Rattle.std.proofs.Common.{◌≡◌, ℕ, suc, ◌+◌, ◌-◌, ◌^◌, ◌<◌, ◌≤◌, List, [], ◌∷◌, ◌++◌, length, length-drop, drop, take, map, Option, Some, None, Bool, true, false, refl, sym, ap, ◌∙◌, subst, arith, inl, inr}
-use Rattle.std.specs.Prelude.{IsTrue, MatchOption, IfSome, ◌↔◌}
+use Rattle.std.proofs.Common.{◌≡◌, ℕ, suc, ◌+◌, ◌-◌, ◌^◌, ◌<◌, ◌≤◌, List, [], ◌∷◌, ◌++◌, length, length-drop, drop, take, map, Option, Some, None, Bool, true, false, refl, sym, ap, ◌∙◌, subst, arith, inl, inr, IsTrue, MatchOption, IfSome, ◌↔◌}
 use Rattle.std.specs.Option.{option_or}
 use Rattle.std.specs.Bool.{then_some}
 use Rattle.std.proofs.lemmas.List.{length-map, drop_all, take_rest}
 use Rattle.cbor_builder.specs.Built.{HasKey, IsRepeatedKey, IsRepeatTold, keys_so_far, open_maps, AreAllDifferent, IsFirstRepeat}
 use Rattle.cbor_canonical.specs.Parts.{Open}
-use Rattle.cbor_head.specs.Canonical.{Pair}
+use Rattle.cbor_head.specs.Prelude.{Pair}
 use Rattle.cbor_head.specs.declared.order.KeyOrder.{KeyOrder}
 use Rattle.cbor_builder.specs.inner.Front.{key_of}
 use Rattle.cbor_buffer.specs.Spans.{span_pair}

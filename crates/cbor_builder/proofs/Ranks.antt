@@ -9,8 +9,7 @@ use Rattle.std.proofs.lemmas.List.Sorted.{ranks_by, IsPermutation-sym, Contains-
 use Rattle.std.proofs.lemmas.Cmp.{nat_cmp_total, on_total, then_total}
 use denote.Param.Members.{Mut}
 use Rattle.cbor_canonical.proofs.Members.{all_at, all_from, in_contains, contains_in}
-use Rattle.cbor_head.specs.Order.{key_cmp, key_lt}
-use Rattle.cbor_head.specs.Value.{AreBytes}
+use Rattle.cbor_head.specs.Prelude.{key_cmp, key_lt, AreBytes}
 use Rattle.cbor_head.specs.declared.order.KeyOrder.{KeyOrder}
 use Rattle.cbor_head.specs.declared.order.KeyOrder.TheVariants.{Bytewise, LengthFirst}
 use Rattle.cbor_canonical.proofs.Orders.{key_cmp_total}

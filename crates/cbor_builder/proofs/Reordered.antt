@@ -1,6 +1,5 @@
 -- Spans of the innermost in another order than they came in.
-use Rattle.std.proofs.Common.{◌≡◌, ℕ, Bool, List, [], ◌∷◌, length, length-drop, length-take, drop, take, refl, sym, ap, subst, arith, IsPermutation}
-use Rattle.std.specs.Prelude.{IsTrue, ◌↔◌}
+use Rattle.std.proofs.Common.{◌≡◌, ℕ, Bool, List, [], ◌∷◌, length, length-drop, length-take, drop, take, refl, sym, ap, subst, arith, IsPermutation, IsTrue, ◌↔◌}
 use Rattle.std.proofs.lemmas.List.{drop_all}
 use Rattle.std.proofs.lemmas.List.Sorted.{IsPermutation-refl, length_permutation}
 use Rattle.cbor_head.specs.declared.order.KeyOrder.{KeyOrder}

@@ -1,6 +1,5 @@
 -- What std's sorts ensure gives `in_order`.
-use Rattle.std.proofs.Common.{◌≡◌, ℕ, suc, ◌+◌, Bool, true, false, true≢false, List, [], ◌∷◌, get_or, inl, inr, refl, sym, ap, ◌∙◌, subst, arith, IsPermutation, IsSortedBy, map}
-use Rattle.std.specs.Prelude.{IsTrue}
+use Rattle.std.proofs.Common.{◌≡◌, ℕ, suc, ◌+◌, Bool, true, false, true≢false, List, [], ◌∷◌, get_or, inl, inr, refl, sym, ap, ◌∙◌, subst, arith, IsPermutation, IsSortedBy, map, IsTrue}
 use Rattle.std.specs.List.{IsDistinct, AllByRecursion}
 use Rattle.std.specs.Ordering.{is_eq, ordering_reverse}
 use Rattle.std.specs.declared.cmp.Ordering.{Ordering}
@@ -10,8 +9,7 @@ use Rattle.std.proofs.lemmas.Bool.{false_from_ne_true}
 use Rattle.std.proofs.lemmas.Map.Keys.{IsDistinct-IsPermutation}
 use Rattle.std.proofs.lemmas.List.Sorted.{IsPermutation-sym, Contains-permutation}
 use Rattle.std.proofs.lemmas.List.{get_or-map, length-map}
-use Rattle.cbor_head.specs.Order.{key_cmp, key_lt}
-use Rattle.cbor_head.specs.Canonical.{Pair, in_order}
+use Rattle.cbor_head.specs.Prelude.{key_cmp, key_lt, Pair, in_order}
 use Rattle.cbor_canonical.specs.Pairs.{IsRising, HasDistinctBytes}
 use Rattle.cbor_head.specs.declared.order.KeyOrder.{KeyOrder}
 use Rattle.cbor_canonical.proofs.Orders.{key_cmp_total, tied, lt_other, lt_trans}

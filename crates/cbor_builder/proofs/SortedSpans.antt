@@ -1,6 +1,5 @@
 -- Spans sorted by their keys: equal ones are neighbours.
-use Rattle.std.proofs.Common.{◌≡◌, ◌≢◌, ◌↔◌, ℕ, ◌+◌, ◌-◌, ◌<◌, List, [], ◌∷◌, ◌++◌, length, drop, drop-drop, take, take-append-drop, get_or, map, true, false, true≢false, refl, sym, ap, ◌∙◌, subst, arith, inl, inr, IsPermutation, IsSortedBy}
-use Rattle.std.specs.Prelude.{IsTrue}
+use Rattle.std.proofs.Common.{◌≡◌, ◌≢◌, ◌↔◌, ℕ, ◌+◌, ◌-◌, ◌<◌, List, [], ◌∷◌, ◌++◌, length, drop, drop-drop, take, take-append-drop, get_or, map, true, false, true≢false, refl, sym, ap, ◌∙◌, subst, arith, inl, inr, IsPermutation, IsSortedBy, IsTrue}
 use Rattle.std.proofs.lemmas.List.{map-append, drop_all}
 use Rattle.std.specs.Ordering.{is_eq, is_lt}
 use Rattle.std.specs.declared.cmp.Ordering.{Ordering}
@@ -8,8 +7,7 @@ use Rattle.std.specs.declared.cmp.Ordering.TheVariants.{Less, Equal, Greater}
 use Rattle.std.proofs.lemmas.Bool.{false_from_ne_true}
 use Rattle.std.proofs.lemmas.Cmp.{tied_itself}
 use Rattle.std.proofs.lemmas.List.Sorted.{IsPermutation-sym, IsPermutation-map, Contains-permutation}
-use Rattle.cbor_head.specs.Order.{key_cmp, key_lt}
-use Rattle.cbor_head.specs.Canonical.{Pair, in_order}
+use Rattle.cbor_head.specs.Prelude.{key_cmp, key_lt, Pair, in_order, AreBytes}
 use Rattle.cbor_head.specs.declared.order.KeyOrder.{KeyOrder}
 use Rattle.cbor_builder.specs.inner.Neighbours.{DoNeighboursDiffer}
 use Rattle.cbor_canonical.specs.Pairs.{HasDistinctBytes, IsRising}
@@ -22,7 +20,6 @@ use Rattle.cbor_canonical.proofs.Sorting.{rises_at, rising_cons, rising_distinct
 use Rattle.cbor_buffer.specs.Spans.{span_pair, no_span, IsWithin, AreWithin}
 use Rattle.cbor_builder.specs.inner.Front.{key_of, AreFronted, rank, ranked_by}
 use Rattle.cbor_builder.specs.inner.Repeats.{nth}
-use Rattle.cbor_head.specs.Value.{AreBytes}
 use Rattle.cbor_builder.proofs.Ranks.{agree_spans, fronted_at, sorted_keys, fronted_permuted}
 use Rattle.cbor_buffer.specs.declared.span.Span.{Span}
 use Rattle.cbor_buffer.proofs.Slices.{get_same}

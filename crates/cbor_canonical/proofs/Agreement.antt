@@ -1,8 +1,7 @@
 -- Values that are the same have the same canonical bytes.
 use Rattle.std.proofs.Common.{◌≡◌, suc, ◌++◌, length, refl, sym, ap, ◌∙◌, subst, flat_map}
-use Rattle.cbor_head.specs.Head.{shortest_head}
-use Rattle.cbor_head.specs.Value.{Value, Values, Entries, unsigned, negative, bytes, text, array, map, tag, simple, no_values, a_value, HasEntry, Same, SameValues, values_count, entries_count, AreInRange, AreValid}
-use Rattle.cbor_head.specs.Canonical.{Pair, in_order, canonical, canonical_all, canonical_entries}
+use Rattle.cbor_head.specs.Prelude.{shortest_head, Value, Values, Entries, map, no_values, a_value, HasEntry, Same, SameValues, values_count, AreInRange, AreValid, Pair, in_order, canonical, canonical_all, canonical_entries}
+use Rattle.cbor_head.specs.Value.{unsigned, negative, bytes, text, array, tag, simple, entries_count}
 use Rattle.cbor_head.specs.declared.order.KeyOrder.{KeyOrder}
 use Rattle.cbor_head.specs.declared.major.Major.TheVariants.{Array, Map, Tag}
 use Rattle.cbor_canonical.proofs.Members.{In}

@@ -1,12 +1,7 @@
 -- The normal spelling has no strict complaint.
 use Rattle.std.proofs.Common.{◌≡◌, ℕ, ◌+◌, ◌^◌, ◌<◌, List, [], ◌∷◌, length, inl, inr, refl, sym, ap, subst, IsTrue}
 use Rattle.cbor_head.specs.Value as value
-use Rattle.cbor_head.specs.Head.{Holds, shortest}
-use Rattle.cbor_head.specs.Value.{Value, Values, Entries, values_count, AreInRange, AreValid, AreEntriesInRange, AreEntriesValid}
-use Rattle.cbor_head.specs.Spelling.{Spelling, SpelledEntries, no_entries, entry, spell}
-use Rattle.cbor_head.specs.Order.{key_lt}
-use Rattle.cbor_head.specs.Canonical.{Pair, canonical_entries}
-use Rattle.cbor_head.specs.Complaint.{strict, Complaint, ComplainsIn, ComplainsInEntries, OfCount, OfKey}
+use Rattle.cbor_head.specs.Prelude.{Holds, shortest, Value, Values, Entries, values_count, AreInRange, AreValid, AreEntriesInRange, AreEntriesValid, Spelling, SpelledEntries, no_entries, entry, spell, key_lt, Pair, canonical_entries, strict, Complaint, ComplainsIn, ComplainsInEntries, OfCount, OfKey}
 use Rattle.cbor_head.specs.declared.order.KeyOrder.{KeyOrder}
 use Rattle.cbor_head.specs.declared.major.Major.{Major}
 use Rattle.cbor_head.specs.declared.major.Major.TheVariants.{Array, Map}

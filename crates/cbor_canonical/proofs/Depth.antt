@@ -1,7 +1,7 @@
 -- A spelling is as deep as its value.
 use Rattle.std.proofs.Common.{◌≡◌, max, suc, refl, ap}
 use Rattle.cbor_head.specs.Value as value
-use Rattle.cbor_head.specs.Spelling.{Spelling, Spellings, SpelledEntries, array, a_map, tag, no_spellings, a_spelling, no_entries, entry, value_of, values_of, entries_of, depth, depth_all, depth_entries}
+use Rattle.cbor_head.specs.Prelude.{Spelling, Spellings, SpelledEntries, array, a_map, tag, no_spellings, a_spelling, no_entries, entry, value_of, values_of, entries_of, depth, depth_all, depth_entries}
 
 mutual
   pub depth-value_of : (s : Spelling) → value.depth (value_of s) ≡ depth s

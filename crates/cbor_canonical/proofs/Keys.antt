@@ -1,7 +1,7 @@
 -- Keys that are the same are found by their canonical bytes.
 use Rattle.std.proofs.Common.{◌≡◌, ◌↔◌, sym}
-use Rattle.cbor_head.specs.Value.{Value, Entries, no_entries, entry, HasDistinctKeys, Same, AreEntriesInRange}
-use Rattle.cbor_head.specs.Canonical.{canonical, canonical_entries}
+use Rattle.cbor_head.specs.Prelude.{Value, Entries, HasDistinctKeys, Same, AreEntriesInRange, canonical, canonical_entries}
+use Rattle.cbor_head.specs.Value.{no_entries, entry}
 use Rattle.cbor_head.specs.declared.order.KeyOrder.{KeyOrder}
 use Rattle.cbor_canonical.specs.Pairs.{AreKeysValid, HasDistinctBytes}
 use Rattle.cbor_canonical.proofs.Sorting.{differs_at}

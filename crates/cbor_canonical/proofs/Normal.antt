@@ -1,11 +1,7 @@
 -- The normal spelling of a value has its canonical bytes.
 use Rattle.std.proofs.Common.{◌≡◌, ℕ, suc, ◌^◌, ◌<◌, Bool, true, false, List, [], ◌∷◌, ◌++◌, length, refl, sym, ap, ◌∙◌, subst, append-nil, flat_map, if◌then◌else◌, nat_lt}
 use Rattle.cbor_head.specs.Value as value
-use Rattle.cbor_head.specs.Head.{Holds, shortest, shortest_head, head}
-use Rattle.cbor_head.specs.Value.{Value, Values, Entries, values_count, IsInRange, AreInRange, AreEntriesInRange}
-use Rattle.cbor_head.specs.Spelling.{Spelling, Spellings, SpelledEntries, unsigned, negative, bytes, text, array, a_map, tag, simple, no_spellings, a_spelling, no_entries, entry, spell, spell_all, spell_entries, spellings_count, entries_count, break_of, IsSpelled, AreSpelled, AreEntriesSpelled, HoldsOrIndefinite}
-use Rattle.cbor_head.specs.Order.{key_lt}
-use Rattle.cbor_head.specs.Canonical.{Pair, put, in_order, canonical, canonical_all, canonical_entries}
+use Rattle.cbor_head.specs.Prelude.{Holds, shortest, shortest_head, head, Value, Values, Entries, values_count, IsInRange, AreInRange, AreEntriesInRange, Spelling, Spellings, SpelledEntries, unsigned, negative, bytes, text, array, a_map, tag, simple, no_spellings, a_spelling, no_entries, entry, spell, spell_all, spell_entries, spellings_count, entries_count, break_of, IsSpelled, AreSpelled, AreEntriesSpelled, HoldsOrIndefinite, key_lt, Pair, put, in_order, canonical, canonical_all, canonical_entries}
 use Rattle.cbor_head.specs.declared.order.KeyOrder.{KeyOrder}
 use Rattle.cbor_head.specs.declared.major.Major.TheVariants.{Unsigned, Array, Map, Tag}
 use Rattle.cbor_head.specs.declared.width.Width.TheVariants.{Direct, One, Two, Four, Eight}

@@ -1,9 +1,7 @@
 -- The normal spelling means the same value, and is as deep.
 use Rattle.std.proofs.Common.{◌≡◌, suc, max, true, false, inl, inr, refl, sym, ap, ◌∙◌, subst, arith, if◌then◌else◌}
 use Rattle.cbor_head.specs.Value as value
-use Rattle.cbor_head.specs.Value.{Value, Values, Entries, HasEntry, Same, SameValues}
-use Rattle.cbor_head.specs.Spelling.{Spelling, SpelledEntries, no_entries, entry, spell, value_of, values_of, entries_of, depth, depth_all, depth_entries}
-use Rattle.cbor_head.specs.Order.{key_lt}
+use Rattle.cbor_head.specs.Prelude.{Value, Values, Entries, HasEntry, Same, SameValues, Spelling, SpelledEntries, no_entries, entry, spell, value_of, values_of, entries_of, depth, depth_all, depth_entries, key_lt}
 use Rattle.cbor_head.specs.declared.order.KeyOrder.{KeyOrder}
 use Rattle.cbor_canonical.proofs.Induction.{AllOf, AllIn, by_cases}
 use Rattle.cbor_canonical.proofs.Sameness.{HasSame, IsSameOf, Same-maps}

@@ -1,10 +1,8 @@
 -- The strict rules beside the plain ones: where no strict complaint has ended, no plain one has, and each strict complaint on a
 -- text is a plain one.
-use Rattle.std.proofs.Common.{◌≡◌, ℕ, ◌+◌, ◌≤◌, List, [], ◌∷◌, length, inl, inr, refl, sym, ap, ◌∙◌, subst, arith, IsTrue}
-use Rattle.std.proofs.lemmas.Bool.{true_from_ne_false, true≢false}
-use Rattle.cbor_head.specs.Order.{key_lt}
-use Rattle.cbor_head.specs.Spelling.{Chunk, Spelling, Spellings, SpelledEntries, unsigned, negative, bytes, text, byte_chunks, text_chunks, array, a_map, tag, simple, no_spellings, a_spelling, no_entries, entry, spell, spellings_count, entries_count, value_of, IsSpelled, AreSpelled, AreEntriesSpelled}
-use Rattle.cbor_head.specs.Complaint.{plain, strict, Complaint, Complains, ComplainsIn, ComplainsInEntries, OfHead, OfIndefinite, OfCount, OfChunks, OfKey, distinct, rising, IsRepeated}
+use Rattle.std.proofs.Common.{◌≡◌, ℕ, ◌+◌, ◌≤◌, List, [], ◌∷◌, length, inl, inr, refl, sym, ap, ◌∙◌, subst, arith, IsTrue, true≢false}
+use Rattle.std.proofs.lemmas.Bool.{true_from_ne_false}
+use Rattle.cbor_head.specs.Prelude.{key_lt, Chunk, Spelling, Spellings, SpelledEntries, unsigned, negative, bytes, text, byte_chunks, text_chunks, array, a_map, tag, simple, no_spellings, a_spelling, no_entries, entry, spell, spellings_count, entries_count, value_of, IsSpelled, AreSpelled, AreEntriesSpelled, plain, strict, Complaint, Complains, ComplainsIn, ComplainsInEntries, OfHead, OfIndefinite, OfCount, OfChunks, OfKey, distinct, rising, IsRepeated}
 use Rattle.cbor_head.specs.declared.order.KeyOrder.{KeyOrder}
 use Rattle.cbor_head.specs.declared.major.Major.{Major}
 use Rattle.cbor_head.specs.declared.major.Major.TheVariants.{Unsigned, Negative, Bytes, Text, Array, Map, Tag}

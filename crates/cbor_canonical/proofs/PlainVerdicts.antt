@@ -1,10 +1,7 @@
 -- The verdict of the strict rules, which is that of the plain ones too, unless it refuses for a reason that these have not.
 use Rattle.std.proofs.Common.{◌≡◌, ◌≢◌, ◌⊎◌, ℕ, ◌<◌, ◌≤◌, List, length, inl, inr, refl, ap, subst, arith}
 use Rattle.std.proofs.lemmas.Bool.{cases_lt}
-use Rattle.cbor_head.specs.Limits.{Bounds}
-use Rattle.cbor_head.specs.Spelling.{Spelling, IsSpelled}
-use Rattle.cbor_head.specs.Complaint.{plain, strict, Complaint, IsComplaint}
-use Rattle.cbor_head.specs.Verdict.{rank, IsFirstOf, HasNoneOf, accepted, refused, IsVerdict}
+use Rattle.cbor_head.specs.Prelude.{Bounds, Spelling, IsSpelled, plain, strict, Complaint, IsComplaint, rank, IsFirstOf, HasNoneOf, accepted, refused, IsVerdict}
 use Rattle.cbor_head.specs.declared.order.KeyOrder.{KeyOrder}
 use Rattle.cbor_head.specs.declared.reason.Reason.{Reason}
 use Rattle.cbor_head.specs.declared.reason.Reason.TheVariants.{InvalidText, NotShortest, Indefinite, KeyOrder as KeyOrderReason}

@@ -1,6 +1,7 @@
 -- Sameness of maps by their pairs; sameness is an equivalence.
 use Rattle.std.proofs.Common.{inl, inr, refl, sym, ◌∙◌, subst}
-use Rattle.cbor_head.specs.Value.{Value, Values, Entries, unsigned, negative, bytes, text, array, map, tag, simple, no_values, a_value, no_entries, entry, HasEntry, AnyEntry, Same, SameValues, Covered, Covers}
+use Rattle.cbor_head.specs.Prelude.{Value, Values, Entries, map, no_values, a_value, HasEntry, AnyEntry, Same, SameValues, Covered, Covers}
+use Rattle.cbor_head.specs.Value.{unsigned, negative, bytes, text, array, tag, simple, no_entries, entry}
 use Rattle.cbor_canonical.proofs.Induction.{AllOf, AllIn, AllIn-at, by_cases}
 
 -- fs has a pair that is the same as this one

@@ -2,8 +2,7 @@
 use Rattle.std.proofs.Common.{◌≡◌, ℕ, suc, Bool, true, false, List, [], ◌∷◌, length, ◌⊎◌, inl, inr, refl, sym, ap, ◌∙◌, subst, IsTrue, if◌then◌else◌}
 use Rattle.std.specs.List.Sorted.{IsPermutation}
 use Rattle.std.proofs.lemmas.List.Sorted.{IsPermutation-refl, IsPermutation-sym, IsPermutation-trans, IsPermutation-cons, IsPermutation-middle}
-use Rattle.cbor_head.specs.Order.{key_lt}
-use Rattle.cbor_head.specs.Canonical.{Pair, put, in_order}
+use Rattle.cbor_head.specs.Prelude.{key_lt, Pair, put, in_order}
 use Rattle.cbor_head.specs.declared.order.KeyOrder.{KeyOrder}
 use Rattle.cbor_canonical.specs.Pairs.{IsRising, HasDistinctBytes}
 use Rattle.cbor_canonical.proofs.Members.{In, all_at, all_from}

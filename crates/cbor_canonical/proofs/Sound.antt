@@ -1,6 +1,7 @@
 -- Values in range and valid, at every depth.
 use Rattle.std.proofs.Common.{◌↔◌, inl, inr, sym, subst}
-use Rattle.cbor_head.specs.Value.{Value, Entries, no_entries, entry, HasEntry, IsInRange, IsValid, AreEntriesInRange, AreEntriesValid}
+use Rattle.cbor_head.specs.Prelude.{Value, Entries, HasEntry, IsInRange, IsValid, AreEntriesInRange, AreEntriesValid}
+use Rattle.cbor_head.specs.Value.{no_entries, entry}
 use Rattle.cbor_canonical.specs.Pairs.{AreKeysValid}
 
 pub record IsSound (v : Value) : Type 0 where

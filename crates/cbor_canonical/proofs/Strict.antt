@@ -1,13 +1,8 @@
 -- A spelling without strict complaint spells the canonical bytes of a value in range and valid.
-use Rattle.std.proofs.Common.{◌≡◌, ℕ, ◌+◌, ◌^◌, ◌<◌, List, [], ◌∷◌, ◌++◌, length, inl, inr, refl, sym, ap, ◌∙◌, subst, arith, append-nil, IsTrue, flat_map}
-use Rattle.std.proofs.lemmas.Bool.{true_from_ne_false, true≢false}
+use Rattle.std.proofs.Common.{◌≡◌, ℕ, ◌+◌, ◌^◌, ◌<◌, List, [], ◌∷◌, ◌++◌, length, inl, inr, refl, sym, ap, ◌∙◌, subst, arith, append-nil, IsTrue, flat_map, true≢false}
+use Rattle.std.proofs.lemmas.Bool.{true_from_ne_false}
 use Rattle.cbor_head.specs.Value as value
-use Rattle.cbor_head.specs.Head.{shortest, shortest_head, head}
-use Rattle.cbor_head.specs.Value.{values_count, AreInRange, AreValid, AreEntriesInRange, AreEntriesValid}
-use Rattle.cbor_head.specs.Spelling.{Spelling, Spellings, SpelledEntries, unsigned, negative, bytes, text, byte_chunks, text_chunks, array, a_map, tag, simple, no_spellings, a_spelling, no_entries, entry, spell, spell_all, spell_entries, spellings_count, entries_count, break_of, value_of, values_of, entries_of, IsSpelled, AreSpelled, AreEntriesSpelled, HoldsOrIndefinite}
-use Rattle.cbor_head.specs.Order.{key_lt}
-use Rattle.cbor_head.specs.Canonical.{Pair, in_order, canonical, canonical_all, canonical_entries}
-use Rattle.cbor_head.specs.Complaint.{strict, Complaint, Complains, ComplainsIn, ComplainsInEntries, OfHead, OfCount}
+use Rattle.cbor_head.specs.Prelude.{shortest, shortest_head, head, values_count, AreInRange, AreValid, AreEntriesInRange, AreEntriesValid, Spelling, Spellings, SpelledEntries, unsigned, negative, bytes, text, byte_chunks, text_chunks, array, a_map, tag, simple, no_spellings, a_spelling, no_entries, entry, spell, spell_all, spell_entries, spellings_count, entries_count, break_of, value_of, values_of, entries_of, IsSpelled, AreSpelled, AreEntriesSpelled, HoldsOrIndefinite, key_lt, Pair, in_order, canonical, canonical_all, canonical_entries, strict, Complaint, Complains, ComplainsIn, ComplainsInEntries, OfHead, OfCount}
 use Rattle.cbor_head.specs.declared.order.KeyOrder.{KeyOrder}
 use Rattle.cbor_head.specs.declared.major.Major.{Major}
 use Rattle.cbor_head.specs.declared.major.Major.TheVariants.{Unsigned, Negative, Bytes, Text, Array, Map, Tag}

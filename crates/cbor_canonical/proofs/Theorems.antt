@@ -1,9 +1,6 @@
 -- What canonical bytes spell, and which spellings have them.
 use Rattle.std.proofs.Common.{◌≡◌, ℕ, List, [], ◌++◌, sym, ap, ◌∙◌, subst}
-use Rattle.cbor_head.specs.Value.{Value, IsInRange, IsValid}
-use Rattle.cbor_head.specs.Spelling.{Spelling, spell, value_of, IsSpelled}
-use Rattle.cbor_head.specs.Canonical.{canonical}
-use Rattle.cbor_head.specs.Complaint.{strict, Complaint, Complains}
+use Rattle.cbor_head.specs.Prelude.{Value, IsInRange, IsValid, Spelling, spell, value_of, IsSpelled, canonical, strict, Complaint, Complains}
 use Rattle.cbor_head.specs.declared.order.KeyOrder.{KeyOrder}
 use Rattle.cbor_grammar.proofs.ReadLaws.{unique}
 use Rattle.cbor_canonical.specs.CanonicalSpelling.{IsCanonicalSpelling}

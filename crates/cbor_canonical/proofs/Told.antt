@@ -1,8 +1,7 @@
 -- Canonical bytes tell the value, whatever follows them.
 use Rattle.std.proofs.Common.{◌≡◌, ℕ, suc, List, [], ◌++◌, length, inl, inr, refl, sym, ap, ◌∙◌, subst}
-use Rattle.cbor_head.specs.Value.{Value, Entries, no_entries, entry, HasEntry, HasDistinctKeys, Same, entries_count, IsInRange, AreEntriesInRange}
-use Rattle.cbor_head.specs.Spelling.{spell, value_of}
-use Rattle.cbor_head.specs.Canonical.{Pair, canonical, canonical_entries}
+use Rattle.cbor_head.specs.Prelude.{Value, Entries, HasEntry, HasDistinctKeys, Same, IsInRange, AreEntriesInRange, spell, value_of, Pair, canonical, canonical_entries}
+use Rattle.cbor_head.specs.Value.{no_entries, entry, entries_count}
 use Rattle.cbor_head.specs.declared.order.KeyOrder.{KeyOrder}
 use Rattle.cbor_grammar.proofs.ReadLaws.{unique}
 use Rattle.cbor_canonical.specs.Pairs.{HasDistinctBytes}

@@ -1,7 +1,7 @@
 -- Examples of canonical bytes and of sameness.
 use Rattle.std.proofs.Common.{◌≡◌, [], ◌∷◌, inl, inr, refl, sym, subst, arith}
-use Rattle.cbor_head.specs.Value.{Value, Same, IsInRange, IsValid, unsigned, negative, bytes, text, array, map, simple, no_values, a_value, no_entries, entry}
-use Rattle.cbor_head.specs.Canonical.{canonical}
+use Rattle.cbor_head.specs.Prelude.{Value, Same, IsInRange, IsValid, map, no_values, a_value, canonical}
+use Rattle.cbor_head.specs.Value.{unsigned, negative, bytes, text, array, simple, no_entries, entry}
 use Rattle.cbor_head.specs.declared.order.KeyOrder.TheVariants.{Bytewise, LengthFirst}
 
 -- the eight keys of RFC 8949, sections 4.2.1 and 4.2.3: {"aa": 1, 10: 2, 100: 3, -1: 4, "z": 5, [100]: 6, [-1]: 7, false: 8}

@@ -1,10 +1,7 @@
 -- The spelling that canonical bytes are of.
 use Rattle.std.specs.Prelude.{ℕ, ◌≡◌}
 use Rattle.cbor_head.specs.Value as value
-use Rattle.cbor_head.specs.Value.{Value, Same}
-use Rattle.cbor_head.specs.Spelling.{Spelling, spell, value_of, depth, IsSpelled}
-use Rattle.cbor_head.specs.Canonical.{canonical}
-use Rattle.cbor_head.specs.Complaint.{strict, Complaint, Complains}
+use Rattle.cbor_head.specs.Prelude.{Value, Same, Spelling, spell, value_of, depth, IsSpelled, canonical, strict, Complaint, Complains}
 use Rattle.cbor_head.specs.declared.order.KeyOrder.{KeyOrder}
 
 -- no complaint by the rules of deterministic encoding, wherever the item stands (RFC 8949, section 4.2)

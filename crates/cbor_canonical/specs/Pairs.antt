@@ -1,10 +1,9 @@
 -- Lists of encoded pairs, by their keys (RFC 8949, sections 4.2.1 and 4.2.3).
 use Rattle.std.specs.Prelude.{ℕ, ◌≢◌, ◌++◌, IsTrue, List, [], ◌∷◌}
 use Rattle.std.specs.List.{AllByRecursion}
-use Rattle.cbor_head.specs.Order.{key_lt}
-use Rattle.cbor_head.specs.Canonical.{Pair}
+use Rattle.cbor_head.specs.Prelude.{key_lt, Pair, Entries, IsValid}
 use Rattle.cbor_head.specs.declared.order.KeyOrder.{KeyOrder}
-use Rattle.cbor_head.specs.Value.{Entries, no_entries, entry, IsValid}
+use Rattle.cbor_head.specs.Value.{no_entries, entry}
 
 -- the bytes of a pair: its key, and its value behind it
 abbrev pub pair_bytes : Pair → List ℕ

@@ -1,9 +1,8 @@
 -- What the parts given to a builder stand for: lists, with no buffer (RFC 8949, section 4.2.1).
 use Rattle.std.specs.Prelude.{ℕ, suc, ◌≡◌, ◌++◌, List, [], ◌∷◌, length, flat_map}
 use Rattle.cbor_head.specs.Value as value
-use Rattle.cbor_head.specs.Head.{shortest_head}
-use Rattle.cbor_head.specs.Value.{Value, Values, Entries, no_entries, entry}
-use Rattle.cbor_head.specs.Canonical.{Pair, in_order}
+use Rattle.cbor_head.specs.Prelude.{shortest_head, Value, Values, Entries, Pair, in_order}
+use Rattle.cbor_head.specs.Value.{no_entries, entry}
 use Rattle.cbor_head.specs.declared.order.KeyOrder.{KeyOrder}
 use Rattle.cbor_head.specs.declared.major.Major.{Major}
 use Rattle.cbor_head.specs.declared.major.Major.TheVariants.{Unsigned, Negative, Bytes, Text, Array, Map, Tag, Simple}

@@ -1,7 +1,7 @@
 -- Text as it is written is text as it is defined.
 use Rattle.std.proofs.Common.{◌≡◌, ℕ, ◌+◌, true, false, List, ◌++◌, flat_map, codes, decimal, refl, sym, ap, ◌∙◌, append_assoc}
 use Rattle.cbor_head.specs.Value as value
-use Rattle.cbor_head.specs.Value.{Value, Values, Entries}
+use Rattle.cbor_head.specs.Prelude.{Value, Values, Entries}
 use Rattle.cbor_diag.specs.Text.{text, texts, pair_texts, joined}
 use Rattle.cbor_diag.specs.IndentedText.{new_line, lines, indented, indented_texts, indented_pairs}
 use Rattle.cbor_diag.specs.inner.Layout.{laid_out, members_left, pairs_left}

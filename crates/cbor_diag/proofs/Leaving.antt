@@ -1,8 +1,8 @@
 -- What is left of a text, from one put to the next.
-use Rattle.std.proofs.Common.{◌≡◌, ℕ, ◌+◌, ◌<◌, ◌≤◌, Bool, true, false, List, [], ◌∷◌, ◌++◌, length, Option, Some, None, Result, Ok, Err, Bor, codes, decimal, refl, sym, ap, ◌∙◌, subst, append_assoc, append-nil, length-append, arith}
-use Rattle.std.specs.Prelude.{reverse, IsSome, option_to_list}
+use Rattle.std.proofs.Common.{◌≡◌, ℕ, ◌+◌, ◌<◌, ◌≤◌, Bool, true, false, List, [], ◌∷◌, ◌++◌, length, Option, Some, None, Result, Ok, Err, Bor, codes, decimal, refl, sym, ap, ◌∙◌, subst, append_assoc, append-nil, length-append, arith, reverse, IsSome, option_to_list}
 use Rattle.std.proofs.lemmas.List.{reverse-append}
-use Rattle.cbor_head.specs.Value.{Value, array, map, tag}
+use Rattle.cbor_head.specs.Prelude.{Value, map}
+use Rattle.cbor_head.specs.Value.{array, tag}
 use Rattle.cbor_diag.specs.declared.outbox.Stopped.{Stopped}
 use Rattle.cbor_diag.specs.inner.Layout.{gap, end, laid_out, members_left, pairs_left}
 use Rattle.cbor_diag.specs.inner.Nodes.{entries_in, values_in}

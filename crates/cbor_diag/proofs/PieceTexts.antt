@@ -1,9 +1,8 @@
 -- The texts of what holds no other items.
-use Rattle.std.proofs.Common.{◌≡◌, ℕ, ◌+◌, ◌-◌, ◌*◌, ◌/◌, ◌%◌, ◌<◌, ◌≤◌, Bool, true, false, ◌||◌, cond, List, [], ◌∷◌, ◌++◌, length, take, drop, replicate, flat_map, codes, decimal, Option, Result, refl, sym, ap, ◌∙◌, subst, append_assoc, append-nil, take-append-drop, arith, get_or, eqb, ltb}
-use Rattle.std.proofs.lemmas.List.{take-replicate, take_more, take_all, get_or-drop, length-drop}
+use Rattle.std.proofs.Common.{◌≡◌, ℕ, ◌+◌, ◌-◌, ◌*◌, ◌/◌, ◌%◌, ◌<◌, ◌≤◌, Bool, true, false, ◌||◌, cond, List, [], ◌∷◌, ◌++◌, length, take, drop, replicate, flat_map, codes, decimal, Option, Result, refl, sym, ap, ◌∙◌, subst, append_assoc, append-nil, take-append-drop, arith, get_or, eqb, ltb, take_all, get_or-drop, length-drop, take-add}
+use Rattle.std.proofs.lemmas.List.{take-replicate, take_more}
 use Rattle.std.proofs.lemmas.List.Concat.{flat_map-append}
 use Rattle.std.proofs.lemmas.Bool.Decides.{nat_tests}
-use lib.Seq.{take-add}
 use Rattle.hex.specs.Hex.{encode_with, encode_lower, lower_digits}
 use Rattle.cbor_head.specs.declared.limits.TheConstants.{MAX_DEPTH}
 use Rattle.cbor_diag.specs.inner.Outbox.{HasPut, HasStopped, Puts}

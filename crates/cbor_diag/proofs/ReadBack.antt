@@ -2,7 +2,7 @@
 use Rattle.std.proofs.Common.{◌≡◌, ℕ, zero, suc, ◌+◌, ◌*◌, ◌<◌, ◌≤◌, Bool, true, false, List, [], ◌∷◌, ◌++◌, drop, replicate, flat_map, codes, decimal, inl, inr, eqb, refl, sym, ap, ◌∙◌, subst, append_assoc, ◌↔◌, arith}
 use Rattle.hex.specs.Hex.{encode_lower}
 use Rattle.cbor_head.specs.Value as value
-use Rattle.cbor_head.specs.Value.{Value, Values, Entries, IsInRange, AreInRange, AreEntriesInRange}
+use Rattle.cbor_head.specs.Prelude.{Value, Values, Entries, IsInRange, AreInRange, AreEntriesInRange}
 use Rattle.cbor_diag.specs.Text.{text, escaped}
 use Rattle.cbor_diag.specs.IndentedText.{new_line, indented}
 use Rattle.cbor_diag.specs.Follows.{Ends}

@@ -1,11 +1,10 @@
 -- A reader of texts in either layout, how texts begin, and what it reads of leaves.
-use Rattle.std.proofs.Common.{◌≡◌, ℕ, zero, suc, ◌+◌, ◌-◌, ◌^◌, ◌<◌, ◌≤◌, Bool, true, false, cond, List, [], ◌∷◌, ◌++◌, length, drop, flat_map, codes, decimal, eqb, refl, sym, ap, ◌∙◌, subst, append_assoc, length-append, ◌||◌, arith}
+use Rattle.std.proofs.Common.{◌≡◌, ℕ, zero, suc, ◌+◌, ◌-◌, ◌^◌, ◌<◌, ◌≤◌, Bool, true, false, cond, List, [], ◌∷◌, ◌++◌, length, drop, flat_map, codes, decimal, eqb, refl, sym, ap, ◌∙◌, subst, append_assoc, length-append, ◌||◌, arith, eqb-true}
 use Rattle.std.specs.Str.Parse.{digits_value}
-use Rattle.std.proofs.lemmas.Bool.{eqb-true}
 use Rattle.std.proofs.lemmas.Bool.Decides.{nat_tests}
 use Rattle.hex.specs.Hex.{encode_lower, decode_of, is_hex_digit}
 use Rattle.cbor_head.specs.Value as value
-use Rattle.cbor_head.specs.Value.{Value, Values, Entries, IsInRange}
+use Rattle.cbor_head.specs.Prelude.{Value, Values, Entries, IsInRange}
 use Rattle.cbor_diag.specs.Text.{escaped, simple_text}
 use Rattle.cbor_diag.specs.Follows.{Ends}
 use Rattle.cbor_diag.specs.inner.Layout.{laid_out, members_left, pairs_left}

@@ -2,7 +2,7 @@
 use Rattle.std.specs.Prelude.{ℕ, ◌+◌, ◌==◌, ◌||◌, nat_lt, if◌then◌else◌, List, [], ◌∷◌, ◌++◌, flat_map, codes, decimal}
 use Rattle.hex.specs.Hex.{encode_lower}
 use Rattle.cbor_head.specs.Value as value
-use Rattle.cbor_head.specs.Value.{Value, Values, Entries}
+use Rattle.cbor_head.specs.Prelude.{Value, Values, Entries}
 
 -- a byte of a text: a quote and a backslash behind a backslash, controls as \u00 and two hex digits,
 -- all else raw

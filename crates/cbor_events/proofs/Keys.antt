@@ -1,14 +1,9 @@
 -- The kind of a key, by its first byte.
-use Rattle.std.proofs.Common.{◌≡◌, ◌≢◌, ℕ, zero, suc, ◌+◌, ◌-◌, ◌*◌, ◌/◌, ◌<◌, ◌≤◌, ◌⊎◌, true, false, inl, inr, List, [], ◌∷◌, ◌++◌, length, take, drop, refl, sym, ap, subst, ◌∙◌, arith, append-nil, length-append, slice_index_or}
+use Rattle.std.proofs.Common.{◌≡◌, ◌≢◌, ℕ, zero, suc, ◌+◌, ◌-◌, ◌*◌, ◌/◌, ◌<◌, ◌≤◌, ◌⊎◌, true, false, inl, inr, List, [], ◌∷◌, ◌++◌, length, take, drop, refl, sym, ap, subst, ◌∙◌, arith, append-nil, length-append, slice_index_or, IsTrue, Option, Some, None, Result, Ok, Err, min}
 use Rattle.std.proofs.lemmas.Bool.{cases_lt}
-use Rattle.std.specs.Prelude.{IsTrue, Option, Some, None, Result, Ok, Err, min}
 use Rattle.std.specs.Io.KnownBytes.{Consumes}
 use lib.Seq.{drop-append_seam}
-use Rattle.cbor_head.specs.Head.{Holds, IsHead, head, major_number}
-use Rattle.cbor_head.specs.Beginning.{MayFollow}
-use Rattle.cbor_head.specs.Value.{AreBytes}
-use Rattle.cbor_head.specs.Spelling.{HoldsOrIndefinite}
-use Rattle.cbor_head.specs.Verdict.{refusal}
+use Rattle.cbor_head.specs.Prelude.{Holds, IsHead, head, major_number, MayFollow, AreBytes, HoldsOrIndefinite, refusal}
 use Rattle.cbor_head.specs.declared.major.Major.{Major}
 use Rattle.cbor_head.specs.declared.major.Major.TheVariants as majors
 use Rattle.cbor_head.specs.declared.reason.Reason.TheVariants.{TooLong, KeyKind}

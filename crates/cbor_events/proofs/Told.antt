@@ -1,7 +1,7 @@
 -- The events of a machine, joined, are those of the item that end within what it took.
 use Rattle.std.proofs.Common.{◌≡◌, ℕ, ◌+◌, List, [], ◌∷◌, ◌++◌, ◌≤◌, cond, length, drop, refl, sym, ap, ◌∙◌, subst, arith, append-nil}
 use Rattle.std.proofs.lemmas.Grind.{flat_map-append}
-use Rattle.cbor_head.specs.Spelling.{Spelling, IsItem}
+use Rattle.cbor_head.specs.Prelude.{Spelling, IsItem}
 use Rattle.cbor_automaton.specs.Trace.{Mark, total, within}
 use Rattle.cbor_automaton.specs.Marks.{marks_of}
 use Rattle.cbor_automaton.specs.Event.{events, marks_in, event_size, front_of, joined, cut, IsRow, AreTold}

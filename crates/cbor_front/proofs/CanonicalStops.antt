@@ -1,8 +1,6 @@
 -- Why an input begins with no canonical item, by what is told where the walk over it stops.
 use Rattle.std.proofs.Common.{◌≡◌, ◌≢◌, ℕ, List, take, refl, inl, inr, sym, ap, ◌∙◌, subst}
-use Rattle.cbor_head.specs.Complaint.{plain, strict}
-use Rattle.cbor_head.specs.Limits.{Bounds}
-use Rattle.cbor_head.specs.Verdict.{IsVerdict, refused, refusal}
+use Rattle.cbor_head.specs.Prelude.{plain, strict, Bounds, IsVerdict, refused, refusal}
 use Rattle.cbor_head.specs.declared.order.KeyOrder as orders
 use Rattle.cbor_head.specs.declared.reason.Reason.{Reason}
 use Rattle.cbor_head.specs.declared.reason.Reason.TheVariants.{Truncated, RepeatedKey, KeyOrder}

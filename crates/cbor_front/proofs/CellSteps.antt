@@ -1,13 +1,7 @@
 -- What an item that is whole makes of the cells, one container at a time.
-use Rattle.std.proofs.Common.{◌≡◌, ◌≢◌, ℕ, zero, suc, ◌+◌, ◌-◌, ◌≤◌, true, false, true≢false, IsTrue, Some, List, [], ◌∷◌, ◌++◌, length, take, drop, refl, sym, ap, ◌∙◌, subst, arith, append_assoc}
-use Rattle.std.specs.Prelude.{slice_range}
+use Rattle.std.proofs.Common.{◌≡◌, ◌≢◌, ℕ, zero, suc, ◌+◌, ◌-◌, ◌≤◌, true, false, true≢false, IsTrue, Some, List, [], ◌∷◌, ◌++◌, length, take, drop, refl, sym, ap, ◌∙◌, subst, arith, append_assoc, slice_range, length-append}
 use Rattle.std.proofs.Math.Seq.{take-append_seam, drop-append_seam}
-use Rattle.std.proofs.lemmas.List.{length-append}
-use Rattle.cbor_head.specs.Complaint.{Rules, plain, strict, complaint}
-use Rattle.cbor_head.specs.Limits.{Bounds}
-use Rattle.cbor_head.specs.Order.{key_lt}
-use Rattle.cbor_head.specs.Spelling.{Spelling, SpelledEntries, array, a_map, tag, spell}
-use Rattle.cbor_head.specs.Verdict.{refusal}
+use Rattle.cbor_head.specs.Prelude.{Rules, plain, strict, complaint, Bounds, key_lt, Spelling, SpelledEntries, array, a_map, tag, spell, refusal}
 use Rattle.cbor_head.specs.declared.order.KeyOrder.{KeyOrder}
 use Rattle.cbor_head.specs.declared.reason.Reason.{Reason}
 use Rattle.cbor_head.specs.declared.reason.Reason.TheVariants as reasons

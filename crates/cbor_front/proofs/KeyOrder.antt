@@ -3,8 +3,7 @@ use Rattle.std.proofs.Common.{◌≡◌, ℕ, nat_lt, List, ap, ◌∙◌, arith
 use Rattle.std.specs.Ordering.{is_lt, nat_cmp, ordering_then}
 use Rattle.std.specs.declared.cmp.Ordering.{Ordering}
 use Rattle.std.proofs.lemmas.Bool.Decides.{nat_tests}
-use Rattle.cbor_head.specs.Value.{AreBytes}
-use Rattle.cbor_head.specs.Order.{key_lt}
+use Rattle.cbor_head.specs.Prelude.{AreBytes, key_lt}
 use Rattle.cbor_head.specs.declared.order.KeyOrder.TheVariants.{Bytewise}
 use Rattle.cbor_keys.specs.Front.{front_of}
 use Rattle.cbor_keys.proofs.KeyFronts.{agree_front}

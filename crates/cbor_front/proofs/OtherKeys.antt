@@ -1,11 +1,7 @@
 -- The refusal of a key of another kind than is asked for, where the walk stands.
-use Rattle.std.proofs.Common.{◌≡◌, ℕ, ◌+◌, ◌≤◌, nat_lt, Bool, true, Option, Some, None, List, [], ◌∷◌, ◌++◌, length, drop, get_or, refl, sym, ap, ◌∙◌, subst}
-use Rattle.std.specs.Prelude.{MatchOption}
+use Rattle.std.proofs.Common.{◌≡◌, ℕ, ◌+◌, ◌≤◌, nat_lt, Bool, true, Option, Some, None, List, [], ◌∷◌, ◌++◌, length, drop, get_or, refl, sym, ap, ◌∙◌, subst, MatchOption}
 use Rattle.std.specs.Option.{unwrap_or}
-use Rattle.cbor_head.specs.Complaint.{strict}
-use Rattle.cbor_head.specs.Limits.{Bounds}
-use Rattle.cbor_head.specs.Value.{AreBytes}
-use Rattle.cbor_head.specs.Verdict.{refusal}
+use Rattle.cbor_head.specs.Prelude.{strict, Bounds, AreBytes, refusal}
 use Rattle.cbor_head.specs.declared.keys.Keys.{Keys}
 use Rattle.cbor_head.specs.declared.keys.Keys.TheVariants.{Any, IntegersAndTexts}
 use Rattle.cbor_head.specs.declared.order.KeyOrder.{KeyOrder}

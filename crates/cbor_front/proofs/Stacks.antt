@@ -1,8 +1,7 @@
 -- How many containers are open in a stack, and the same in other cells.
-use Rattle.std.proofs.Common.{◌≡◌, ℕ, suc, ◌≤◌, List, ◌∷◌, length, take, sym, ap, ◌∙◌}
-use Rattle.std.specs.Prelude.{reverse}
+use Rattle.std.proofs.Common.{◌≡◌, ℕ, suc, ◌≤◌, List, ◌∷◌, length, take, sym, ap, ◌∙◌, reverse, length-take-le}
 use Rattle.std.proofs.Math.Seq.{take-length}
-use Rattle.std.proofs.lemmas.List.{length-reverse, length-take-le}
+use Rattle.std.proofs.lemmas.List.{length-reverse}
 use Rattle.cbor_front.specs.Stack.{standing}
 use Rattle.cbor_front.specs.declared.stack.Stack.{Stack}
 

@@ -1,8 +1,6 @@
 -- Why a slice begins with no canonical item.
 use Rattle.std.specs.Prelude.{ℕ, List}
-use Rattle.cbor_head.specs.Complaint.{plain, strict}
-use Rattle.cbor_head.specs.Limits.{Bounds}
-use Rattle.cbor_head.specs.Verdict.{IsVerdict, refusal, refused}
+use Rattle.cbor_head.specs.Prelude.{plain, strict, Bounds, IsVerdict, refusal, refused}
 use Rattle.cbor_head.specs.declared.order.KeyOrder as orders
 use Rattle.cbor_head.specs.declared.reason.Reason.{Reason}
 use Rattle.cbor_head.specs.declared.reason.Reason.TheVariants.{KeyOrder, RepeatedKey}

@@ -1,11 +1,10 @@
 -- The string, or the chunk of one, whose head stands in front.
 use Rattle.std.specs.Prelude.{◌≡◌, ℕ, ◌+◌, ◌-◌, ◌%◌, ◌<◌, ◌≤◌, ◌⊎◌, Bool, IsTrue, IsUtf8, List, ◌∷◌, length, take, get_or}
 use Rattle.std.specs.Str.Lossy.{utf8_valid_len}
-use Rattle.cbor_head.specs.Complaint.{Rules, OfHead}
+use Rattle.cbor_head.specs.Prelude.{Rules, OfHead, refusal}
 use Rattle.cbor_head.specs.declared.major.Major.{Major}
 use Rattle.cbor_head.specs.declared.reason.Reason.TheVariants.{Truncated, InvalidText}
 use Rattle.cbor_head.specs.declared.reason.Refusal.{Refusal}
-use Rattle.cbor_head.specs.Verdict.{refusal}
 use Rattle.cbor_steps.specs.Whole.{IsArgument}
 use Rattle.cbor_judging.specs.Judged.{Never}
 use Rattle.cbor_judging.specs.RefusedHere.{IsRefusedBy}

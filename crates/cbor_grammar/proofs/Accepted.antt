@@ -1,10 +1,7 @@
 -- What is accepted: exactly an item at the front of the input, without complaint.
 use Rattle.std.proofs.Common.{ℕ, ◌↔◌, List, [], ◌++◌, length, take, refl, sym, ap, ◌∙◌, subst, append-nil}
-use Rattle.cbor_head.specs.Complaint.{Rules, Complaint, IsComplaint}
+use Rattle.cbor_head.specs.Prelude.{Rules, Complaint, IsComplaint, Bounds, Spelling, spell, IsVerdict, accepted}
 use Rattle.cbor_head.specs.Laws.{IsAtFront, IsFrontWithoutComplaint, IsWithout}
-use Rattle.cbor_head.specs.Limits.{Bounds}
-use Rattle.cbor_head.specs.Spelling.{Spelling, spell}
-use Rattle.cbor_head.specs.Verdict.{IsVerdict, accepted}
 use Rattle.cbor_grammar.proofs.Complaints.{complaint_within}
 use Rattle.cbor_grammar.proofs.Verdicts.{whole_longest}
 

@@ -1,6 +1,6 @@
 -- Byte lists and items that begin alike, up to where they differ.
 use Rattle.std.proofs.Common.{ℕ, ◌+◌, ◌≡◌, ◌<◌, ◌≤◌, List, [], ◌∷◌, ◌++◌, length, Some, None, refl, sym, ap, ◌∙◌, arith, subst, length-append, append_assoc}
-use Rattle.cbor_head.specs.Spelling.{Spelling, spell, IsSpelled, depth, break_of}
+use Rattle.cbor_head.specs.Prelude.{Spelling, spell, IsSpelled, depth, break_of}
 use Rattle.cbor_head.specs.Read.{read}
 use Rattle.cbor_head.specs.declared.width.Width.{Width}
 use Rattle.cbor_head.specs.declared.width.Width.TheVariants.{Indefinite}

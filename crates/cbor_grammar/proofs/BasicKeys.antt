@@ -1,10 +1,7 @@
 -- An item has no complaint on the kind of a key exactly where each key of its value is an integer or a text.
 use Rattle.std.proofs.Common.{ℕ, ◌+◌, ◌↔◌, refl, length, inl, inr}
-use Rattle.cbor_head.specs.Head.{head}
+use Rattle.cbor_head.specs.Prelude.{head, Value, Values, Entries, HasEntry, Same, SameValues, Covers, IsIntegerOrText, HasBasicKeys, HaveBasicKeys, EntriesHaveBasicKeys, Spelling, Spellings, SpelledEntries, array, a_map, tag, no_spellings, a_spelling, no_entries, entry, spell, spellings_count, entries_count, value_of, values_of, entries_of, Complaint, OfKinds, OfKindsIn, OfKindsInEntries}
 use Rattle.cbor_head.specs.Value as value
-use Rattle.cbor_head.specs.Value.{Value, Values, Entries, HasEntry, Same, SameValues, Covers, IsIntegerOrText, HasBasicKeys, HaveBasicKeys, EntriesHaveBasicKeys}
-use Rattle.cbor_head.specs.Spelling.{Spelling, Spellings, SpelledEntries, array, a_map, tag, no_spellings, a_spelling, no_entries, entry, spell, spellings_count, entries_count, value_of, values_of, entries_of}
-use Rattle.cbor_head.specs.Complaint.{Complaint, OfKinds, OfKindsIn, OfKindsInEntries}
 use Rattle.cbor_head.specs.declared.major.Major.TheVariants.{Array, Map, Tag}
 
 -- an integer or a text has no keys

@@ -1,9 +1,6 @@
 -- What is answered of an item at the front.
 use Rattle.std.proofs.Common.{ℕ, ◌≡◌, List, [], ◌++◌, take, refl, sym, append-nil}
-use Rattle.cbor_head.specs.Limits.{Bounds}
-use Rattle.cbor_head.specs.Spelling.{Spelling, spell, IsItem}
-use Rattle.cbor_head.specs.Complaint.{Complaint}
-use Rattle.cbor_head.specs.Verdict.{accepted, IsVerdictBy}
+use Rattle.cbor_head.specs.Prelude.{Bounds, Spelling, spell, IsItem, Complaint, accepted, IsVerdictBy}
 use Rattle.cbor_grammar.proofs.Verdicts.{whole_longest}
 
 -- an item without complaint, whatever stands behind it

@@ -1,10 +1,7 @@
 -- Complaints of items that are told by their bytes: one comes first, and of each item that starts with these bytes the same.
 use Rattle.std.proofs.Common.{ℕ, ◌≡◌, ◌≤◌, List, ◌++◌, length, ap, arith, inl, inr, IsTrue}
 use Rattle.std.proofs.lemmas.Bool.{cases_lt}
-use Rattle.cbor_head.specs.Limits.{Bounds}
-use Rattle.cbor_head.specs.Spelling.{Spelling, spell, IsItem}
-use Rattle.cbor_head.specs.Complaint.{Rules, Complaint, OfKinds, Complains, IsComplaint}
-use Rattle.cbor_head.specs.Verdict.{rank, IsFirstOf, HasNoneOf}
+use Rattle.cbor_head.specs.Prelude.{Bounds, Spelling, spell, IsItem, Rules, Complaint, OfKinds, Complains, IsComplaint, rank, IsFirstOf, HasNoneOf}
 use Rattle.cbor_head.specs.declared.keys.Keys.TheVariants.{IntegersAndTexts}
 use Rattle.cbor_grammar.proofs.Agree.{same_complaints}
 use Rattle.cbor_grammar.proofs.KeyKinds.{of_kind, one_kind}

@@ -1,8 +1,7 @@
 -- What fits in a head, and the counts of a spelling's members.
 use Rattle.std.proofs.Common.{ℕ, suc, ◌^◌, ◌≡◌, ◌<◌, refl, ap, arith}
-use Rattle.cbor_head.specs.Head.{Holds}
+use Rattle.cbor_head.specs.Prelude.{Holds, Spellings, SpelledEntries, no_spellings, a_spelling, no_entries, entry, spellings_count, entries_count, values_of, entries_of}
 use Rattle.cbor_head.specs.Value as value
-use Rattle.cbor_head.specs.Spelling.{Spellings, SpelledEntries, no_spellings, a_spelling, no_entries, entry, spellings_count, entries_count, values_of, entries_of}
 use Rattle.cbor_head.specs.declared.width.Width.{Width}
 use Rattle.cbor_head.specs.declared.width.Width.TheVariants.{Eight, Indefinite}
 

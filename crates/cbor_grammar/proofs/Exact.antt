@@ -2,8 +2,7 @@
 use Rattle.std.proofs.Common.{ℕ, ◌≡◌, ◌↔◌, List, Option, Some, None, refl, ◌∙◌, sym, ap}
 use Rattle.cbor_head.specs.Laws.{IsAtFront}
 use Rattle.cbor_head.specs.Read.{read}
-use Rattle.cbor_head.specs.Spelling.{Spelling}
-use Rattle.cbor_head.specs.Value.{AreBytes}
+use Rattle.cbor_head.specs.Prelude.{Spelling, AreBytes}
 use Rattle.cbor_grammar.proofs.ReadBack.{read_fits, by_place}
 use Rattle.cbor_grammar.proofs.ReadLaws.{reads}
 

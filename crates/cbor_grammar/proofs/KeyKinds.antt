@@ -1,9 +1,6 @@
 -- Complaints on the kinds of keys: which byte tells the kind, and where they end.
 use Rattle.std.proofs.Common.{ℕ, ◌+◌, ◌*◌, ◌≡◌, ◌<◌, ◌≤◌, ◌/◌, List, [], ◌∷◌, ◌++◌, length, refl, sym, ap, ◌∙◌, arith, subst, inl, inr, IsTrue, length-append}
-use Rattle.cbor_head.specs.Head.{head, major_number}
-use Rattle.cbor_head.specs.Value.{IsIntegerOrText}
-use Rattle.cbor_head.specs.Spelling.{Spelling, Spellings, SpelledEntries, unsigned, negative, text, text_chunks, array, a_map, tag, no_spellings, a_spelling, no_entries, entry, spell, spell_all, spell_entries, IsSpelled, HoldsOrIndefinite, value_of}
-use Rattle.cbor_head.specs.Complaint.{Complaint, complaint, OfKinds, OfKindsIn, OfKindsInEntries}
+use Rattle.cbor_head.specs.Prelude.{head, major_number, IsIntegerOrText, Spelling, Spellings, SpelledEntries, unsigned, negative, text, text_chunks, array, a_map, tag, no_spellings, a_spelling, no_entries, entry, spell, spell_all, spell_entries, IsSpelled, HoldsOrIndefinite, value_of, Complaint, complaint, OfKinds, OfKindsIn, OfKindsInEntries}
 use Rattle.cbor_head.specs.declared.major.Major.{Major}
 use Rattle.cbor_head.specs.declared.reason.Reason.TheVariants.{KeyKind}
 use Rattle.cbor_head.specs.declared.width.Width.{Width}

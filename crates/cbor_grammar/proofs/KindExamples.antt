@@ -1,11 +1,7 @@
 -- Examples of verdicts for keys that are integers and texts.
 use Rattle.std.proofs.Common.{ℕ, ◌+◌, ◌≡◌, ◌≤◌, inl, inr, List, [], ◌∷◌, ◌++◌, length, take, None, refl, ap, ◌∙◌, sym, arith, subst, IsTrue, append-nil}
-use Rattle.cbor_head.specs.Beginning.{IsBeginning}
-use Rattle.cbor_head.specs.Complaint.{Rules, plain, strict, Complaint, complaint, OfKinds, IsComplaint}
-use Rattle.cbor_head.specs.Limits.{Bounds, bounds, with_keys}
+use Rattle.cbor_head.specs.Prelude.{IsBeginning, Rules, plain, strict, Complaint, complaint, OfKinds, IsComplaint, Bounds, bounds, with_keys, Spelling, unsigned, text_chunks, array, a_map, simple, IsItem, IsSpelled, spell, depth, IsVerdict, accepted, refused, refusal}
 use Rattle.cbor_head.specs.Read.{read, read_head}
-use Rattle.cbor_head.specs.Spelling.{Spelling, unsigned, text_chunks, array, a_map, simple, IsItem, IsSpelled, spell, depth}
-use Rattle.cbor_head.specs.Verdict.{IsVerdict, accepted, refused, refusal}
 use Rattle.cbor_head.specs.declared.keys.Keys.TheVariants.{IntegersAndTexts}
 use Rattle.cbor_head.specs.declared.order.KeyOrder.TheVariants.{Bytewise}
 use Rattle.cbor_head.specs.declared.reason.Reason.TheVariants.{TooDeep, Indefinite as IndefiniteReason, KeyKind}

@@ -1,9 +1,6 @@
 -- Verdicts by other words for the same complaints; and where no kind of keys is asked for.
 use Rattle.std.proofs.Common.{ℕ, ◌≡◌, ◌↔◌, List, [], ◌∷◌, length, sym, ◌∙◌, subst, inl, inr, IsTrue}
-use Rattle.cbor_head.specs.Limits.{Bounds, bounds, with_keys}
-use Rattle.cbor_head.specs.Spelling.{Spelling}
-use Rattle.cbor_head.specs.Complaint.{form, Rules, Complaint, Complains, IsComplaint}
-use Rattle.cbor_head.specs.Verdict.{Answer, accepted, refused, IsFormError, IsFirstOf, HasNoneOf, DecidesBy, IsVerdictBy, IsVerdict}
+use Rattle.cbor_head.specs.Prelude.{Bounds, bounds, with_keys, Spelling, form, Rules, Complaint, Complains, IsComplaint, Answer, accepted, refused, IsFormError, IsFirstOf, HasNoneOf, DecidesBy, IsVerdictBy, IsVerdict}
 use Rattle.cbor_head.specs.declared.keys.Keys.{Keys}
 use Rattle.cbor_head.specs.declared.keys.Keys.TheVariants.{Any, IntegersAndTexts}
 use Rattle.cbor_head.specs.declared.reason.Refusal.{Refusal}

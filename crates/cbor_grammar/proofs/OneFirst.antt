@@ -1,10 +1,7 @@
 -- Where complaints end, by rank: no two of an item at one place with one rank.
 use Rattle.std.proofs.Common.{ℕ, ◌+◌, ◌-◌, ◌≡◌, ◌<◌, ◌≤◌, List, [], ◌∷◌, ◌++◌, length, sym, ap, ◌∙◌, arith, flat_map, inl, inr, length-append}
 use Rattle.std.proofs.lemmas.Str.{IsUtf8-nil}
-use Rattle.cbor_head.specs.Head.{head}
-use Rattle.cbor_head.specs.Spelling.{Chunk, Spelling, Spellings, SpelledEntries, unsigned, negative, bytes, text, byte_chunks, text_chunks, array, a_map, tag, simple, no_spellings, a_spelling, no_entries, entry, spell, spell_all, spell_entries, spellings_count, entries_count, chunk_bytes, break_of}
-use Rattle.cbor_head.specs.Complaint.{KeyRule, unasked, distinct, rising, Rules, Complaint, OfHead, OfIndefinite, OfCount, OfPayload, OfString, OfChunks, OfKey, Complains, ComplainsIn, ComplainsInEntries}
-use Rattle.cbor_head.specs.Verdict.{rank}
+use Rattle.cbor_head.specs.Prelude.{head, Chunk, Spelling, Spellings, SpelledEntries, unsigned, negative, bytes, text, byte_chunks, text_chunks, array, a_map, tag, simple, no_spellings, a_spelling, no_entries, entry, spell, spell_all, spell_entries, spellings_count, entries_count, chunk_bytes, break_of, KeyRule, unasked, distinct, rising, Rules, Complaint, OfHead, OfIndefinite, OfCount, OfPayload, OfString, OfChunks, OfKey, Complains, ComplainsIn, ComplainsInEntries, rank}
 use Rattle.cbor_head.specs.declared.major.Major.{Major}
 use Rattle.cbor_head.specs.declared.major.Major.TheVariants.{Unsigned, Negative, Bytes, Text, Array, Map, Tag}
 use Rattle.cbor_head.specs.declared.width.Width.{Width}

@@ -4,12 +4,8 @@ use Rattle.std.specs.Char.{encode_utf8}
 use Rattle.std.specs.Str.{chars, is_utf8}
 use Rattle.std.specs.Str.Lossy.{utf8_valid_len}
 use Rattle.std.proofs.lemmas.Str.{is_utf8-from_IsUtf8}
-use Rattle.cbor_head.specs.Beginning.{IsBeginning}
-use Rattle.cbor_head.specs.Complaint.{Rules, form, plain, strict, Complaint, complaint, Complains}
-use Rattle.cbor_head.specs.Limits.{Bounds, bounds}
+use Rattle.cbor_head.specs.Prelude.{IsBeginning, Rules, form, plain, strict, Complaint, complaint, Complains, Bounds, bounds, Spelling, unsigned, negative, text, text_chunks, array, a_map, IsItem, IsSpelled, spell, depth, IsFirstOf, IsVerdictBy, IsVerdict, DecidesBy, Answer, rank, accepted, refused, refusal}
 use Rattle.cbor_head.specs.Read.{read}
-use Rattle.cbor_head.specs.Spelling.{Spelling, unsigned, negative, text, text_chunks, array, a_map, IsItem, IsSpelled, spell, depth}
-use Rattle.cbor_head.specs.Verdict.{IsFirstOf, IsVerdictBy, IsVerdict, DecidesBy, Answer, rank, accepted, refused, refusal}
 use Rattle.cbor_head.specs.declared.order.KeyOrder.TheVariants.{Bytewise, LengthFirst}
 use Rattle.cbor_head.specs.declared.reason.Reason.TheVariants.{Truncated, TooLong, StrayBreak, InvalidText, RepeatedKey, NotShortest, Indefinite as IndefiniteReason, KeyOrder}
 use Rattle.cbor_head.specs.declared.width.Width.TheVariants.{Direct, One, Indefinite}

@@ -1,12 +1,9 @@
 -- A head is read back.
-use Rattle.std.proofs.Common.{ℕ, ◌+◌, ◌*◌, ◌/◌, ◌%◌, ◌^◌, ◌≡◌, ◌<◌, true, List, ◌∷◌, ◌++◌, length, drop, Some, refl, ◌∙◌, arith, nat_le, subst}
-use Rattle.std.proofs.lemmas.Bool.{lt-ltb, le-leb}
+use Rattle.std.proofs.Common.{ℕ, ◌+◌, ◌*◌, ◌/◌, ◌%◌, ◌^◌, ◌≡◌, ◌<◌, true, List, ◌∷◌, ◌++◌, length, drop, Some, refl, ◌∙◌, arith, nat_le, subst, lt-ltb, le-leb, length-append}
 use Rattle.std.proofs.Math.Seq.{drop-append_seam}
-use Rattle.std.proofs.lemmas.List.{length-append}
 use Rattle.byteorder.specs.Endian.{big_number, big_bytes}
 use Rattle.byteorder.specs.Numbers.{big_number-reads_back, length-bytes_high_first}
-use Rattle.cbor_head.specs.Head.{head, Holds, major_number}
-use Rattle.cbor_head.specs.Spelling.{HoldsOrIndefinite}
+use Rattle.cbor_head.specs.Prelude.{head, Holds, major_number, HoldsOrIndefinite}
 use Rattle.cbor_head.specs.Read.{front, major_of, numbered, with_low, read_head}
 use Rattle.cbor_head.specs.declared.major.Major.{Major}
 use Rattle.cbor_head.specs.declared.major.Major.TheVariants.{Unsigned, Negative, Bytes, Text, Array, Map, Tag, Simple}

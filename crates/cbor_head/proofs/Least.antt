@@ -1,8 +1,7 @@
 -- The shortest head is the least.
-use Rattle.std.proofs.Common.{ℕ, ◌+◌, ◌*◌, ◌^◌, ◌≡◌, ◌<◌, ◌≤◌, [], ◌∷◌, inl, inr, length, arith, subst, refl, sym, ap, ◌∙◌}
-use Rattle.std.specs.Prelude.{nat_lt, if◌then◌else◌}
-use Rattle.std.proofs.lemmas.Bool.{cases_lt, lt-ltb, le-ltb}
-use Rattle.cbor_head.specs.Head.{head, Holds, shortest, shortest_head, major_number}
+use Rattle.std.proofs.Common.{ℕ, ◌+◌, ◌*◌, ◌^◌, ◌≡◌, ◌<◌, ◌≤◌, [], ◌∷◌, inl, inr, length, arith, subst, refl, sym, ap, ◌∙◌, nat_lt, if◌then◌else◌, lt-ltb, le-ltb}
+use Rattle.std.proofs.lemmas.Bool.{cases_lt}
+use Rattle.cbor_head.specs.Prelude.{head, Holds, shortest, shortest_head, major_number}
 use Rattle.cbor_head.specs.declared.major.Major.{Major}
 use Rattle.cbor_head.specs.declared.width.Width.{Width}
 use Rattle.cbor_head.specs.declared.width.Width.TheVariants.{Direct, One, Two, Four, Eight, Indefinite}

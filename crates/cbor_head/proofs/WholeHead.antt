@@ -1,8 +1,6 @@
 -- Which bytes are one definite head.
-use Rattle.std.proofs.Common.{ℕ, ◌≡◌, List, [], ◌++◌, Option, Some, refl, sym, ap, ◌∙◌, subst}
-use Rattle.std.proofs.lemmas.List.{append-nil}
-use Rattle.cbor_head.specs.Head.{Holds, IsHead, head, head_parts}
-use Rattle.cbor_head.specs.Spelling.{HoldsOrIndefinite}
+use Rattle.std.proofs.Common.{ℕ, ◌≡◌, List, [], ◌++◌, Option, Some, refl, sym, ap, ◌∙◌, subst, append-nil}
+use Rattle.cbor_head.specs.Prelude.{Holds, IsHead, head, head_parts, HoldsOrIndefinite}
 use Rattle.cbor_head.specs.Read.{Front, front, read_head}
 use Rattle.cbor_head.specs.declared.major.Major.{Major}
 use Rattle.cbor_head.specs.declared.major.Major.TheVariants.{Unsigned, Negative, Bytes, Text, Array, Map, Tag, Simple}

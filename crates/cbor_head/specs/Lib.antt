@@ -5,6 +5,7 @@ pub mod Head
 pub mod Laws
 pub mod Limits
 pub mod Order
+pub mod Prelude
 pub mod Printed
 pub mod Read
 pub mod Reason

@@ -1,6 +1,6 @@
 -- Items read from a list, by their index.
 use Rattle.std.proofs.Common.{◌≡◌, ℕ, zero, suc, ◌<◌, List, [], ◌∷◌, length, get_or, sym, subst, arith}
-use Rattle.cbor_head.specs.Value.{IsValid, AreEntriesValid}
+use Rattle.cbor_head.specs.Prelude.{IsValid, AreEntriesValid}
 use Rattle.cbor_item.specs.View.{view}
 use Rattle.cbor_item.specs.inner.Members.{entries_view}
 use Rattle.cbor_item.specs.declared.item.Item.{Item}

@@ -1,6 +1,7 @@
 -- Of maps without repeated keys, sameness needs the counts and one direction.
 use Rattle.std.proofs.Common.{◌≡◌, suc, ◌≤◌, ◌↔◌, ◌⊎◌, inl, inr, refl, sym, ap, ◌∙◌, subst, arith}
-use Rattle.cbor_head.specs.Value.{Value, Entries, map, no_entries, entry, entries_count, HasEntry, HasDistinctKeys, Same, Covered}
+use Rattle.cbor_head.specs.Prelude.{Value, Entries, map, HasEntry, HasDistinctKeys, Same, Covered}
+use Rattle.cbor_head.specs.Value.{no_entries, entry, entries_count}
 use Rattle.cbor_canonical.proofs.Sameness.{HasSame, IsSameOf, same_maps, Same-maps, Same-sym, Same-trans, from_covered}
 
 -- fs without one pair

@@ -1,6 +1,7 @@
 -- What an item holds, and how deep it nests.
 use Rattle.std.proofs.Common.{◌≡◌, ℕ, suc, ◌<◌, ◌^◌, List, [], ◌∷◌, length, map, Vec, Global, refl, sym, ap, ◌∙◌, subst, arith}
-use Rattle.cbor_head.specs.Value.{AreInRange, AreEntriesInRange, IsInRange, depth, depth_all, depth_entries}
+use Rattle.cbor_head.specs.Prelude.{AreInRange, AreEntriesInRange, IsInRange}
+use Rattle.cbor_head.specs.Value.{depth, depth_all, depth_entries}
 use Rattle.cbor_item.specs.View.{view, values_of}
 use Rattle.cbor_item.specs.inner.Members.{entries_view}
 use Rattle.cbor_item.specs.inner.Walk.{flat, size}

@@ -1,7 +1,7 @@
 -- Sameness of lists of items, a step of a loop at a time: what is left decides the whole, W.
-use Rattle.std.proofs.Common.{◌≡◌, ℕ, suc, ◌+◌, ◌-◌, ◌<◌, ◌≤◌, List, [], ◌∷◌, ◌++◌, length, take, drop, get_or, slice_range, ◌↔◌, ◌⊎◌, inl, inr, sym, ap, ◌∙◌, subst, arith}
-use Rattle.std.proofs.lemmas.List.{take_rest, take-append-drop}
-use Rattle.cbor_head.specs.Value.{Entries, Same, Covered, AnyEntry}
+use Rattle.std.proofs.Common.{◌≡◌, ℕ, suc, ◌+◌, ◌-◌, ◌<◌, ◌≤◌, List, [], ◌∷◌, ◌++◌, length, take, drop, get_or, slice_range, ◌↔◌, ◌⊎◌, inl, inr, sym, ap, ◌∙◌, subst, arith, take-append-drop}
+use Rattle.std.proofs.lemmas.List.{take_rest}
+use Rattle.cbor_head.specs.Prelude.{Entries, Same, Covered, AnyEntry}
 use Rattle.cbor_item.specs.declared.item.Item.{Item}
 use Rattle.cbor_item.specs.View.{view}
 use Rattle.cbor_item.specs.inner.Members.{entries_view}

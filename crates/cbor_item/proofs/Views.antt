@@ -1,7 +1,8 @@
 -- An item's value, a level at a time.
 use Rattle.std.proofs.Common.{◌≡◌, ℕ, suc, List, [], ◌∷◌, length, Vec, Global, String, Box, string_bytes, refl, ap, rules}
 use Rattle.cbor_head.specs.Value as value
-use Rattle.cbor_head.specs.Value.{Values, values_count, entries_count, SameValues}
+use Rattle.cbor_head.specs.Prelude.{Values, values_count, SameValues}
+use Rattle.cbor_head.specs.Value.{entries_count}
 use Rattle.cbor_item.specs.View.{view}
 use Rattle.cbor_item.specs.inner.Members.{entries_view, values_view}
 use Rattle.cbor_item.specs.declared.item.Item.{Item, the_lemmas}

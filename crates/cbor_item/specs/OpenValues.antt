@@ -1,7 +1,7 @@
 -- What the parts given to a tree builder stand for (RFC 8949, section 2).
 use Rattle.std.specs.Prelude.{ℕ, ◌≡◌, ◌++◌, List, [], ◌∷◌, map}
 use Rattle.cbor_head.specs.Value as value
-use Rattle.cbor_head.specs.Value.{Value, Values, Entries}
+use Rattle.cbor_head.specs.Prelude.{Value, Values, Entries}
 use Rattle.cbor_head.specs.declared.major.Major.{Major}
 use Rattle.cbor_head.specs.declared.major.Major.TheVariants.{Array, Map, Tag}
 use Rattle.cbor_item.specs.View.{view, values_of, entries_of}

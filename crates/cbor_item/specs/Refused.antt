@@ -1,6 +1,7 @@
 -- Why an item is no tree (RFC 8949, section 5.6).
 use Rattle.std.specs.Prelude.{◌<◌, ◌≤◌}
-use Rattle.cbor_head.specs.Value.{Value, depth, IsValid}
+use Rattle.cbor_head.specs.Prelude.{Value, IsValid}
+use Rattle.cbor_head.specs.Value.{depth}
 use Rattle.cbor_head.specs.declared.limits.TheConstants.{MAX_DEPTH}
 use Rattle.cbor_head.specs.declared.reason.Reason.{Reason}
 use Rattle.cbor_head.specs.declared.reason.Reason.TheVariants.{TooDeep, RepeatedKey, Memory}

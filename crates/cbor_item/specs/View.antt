@@ -1,7 +1,7 @@
 -- The value that an item stands for (RFC 8949, section 2).
 use Rattle.std.specs.Prelude.{List, [], ◌∷◌, string_bytes}
 use Rattle.cbor_head.specs.Value as value
-use Rattle.cbor_head.specs.Value.{Value, Values, Entries}
+use Rattle.cbor_head.specs.Prelude.{Value, Values, Entries}
 use Rattle.cbor_item.specs.declared.item.Item.{Item}
 use Rattle.cbor_item.specs.declared.item.Item.TheOpen.{Item-F}
 use Rattle.cbor_item.specs.declared.item.Item.TheFolds.{fold-Item}

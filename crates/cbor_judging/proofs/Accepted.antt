@@ -1,11 +1,8 @@
 -- What an accepted item is in its input, which has one answer.
-use Rattle.std.proofs.Common.{ℕ, ◌+◌, ◌-◌, ◌≡◌, ◌≢◌, ◌≤◌, List, [], ◌++◌, length, take, sym, ap, ◌∙◌, arith}
-use Rattle.std.proofs.lemmas.List.{append-nil, length-append, length-take, nil_from_length, take_all}
+use Rattle.std.proofs.Common.{ℕ, ◌+◌, ◌-◌, ◌≡◌, ◌≢◌, ◌≤◌, List, [], ◌++◌, length, take, sym, ap, ◌∙◌, arith, append-nil, length-append, length-take, take_all}
+use Rattle.std.proofs.lemmas.List.{nil_from_length}
 use Rattle.std.proofs.Math.Seq.{take-append-add}
-use Rattle.cbor_head.specs.Limits.{Bounds}
-use Rattle.cbor_head.specs.Spelling.{Spelling, spell, IsItem}
-use Rattle.cbor_head.specs.Complaint.{Rules, Complaint, IsComplaint}
-use Rattle.cbor_head.specs.Verdict.{accepted, refused, IsVerdict}
+use Rattle.cbor_head.specs.Prelude.{Bounds, Spelling, spell, IsItem, Rules, Complaint, IsComplaint, accepted, refused, IsVerdict}
 use Rattle.cbor_head.specs.declared.reason.Reason.TheVariants.{Read, Memory}
 use Rattle.cbor_head.specs.declared.reason.Refusal.{Refusal}
 use Rattle.cbor_grammar.proofs.Beginnings.{item_decides}

@@ -1,7 +1,7 @@
 -- The argument behind a first byte, and the head that both spell.
 use Rattle.std.proofs.Common.{◌≡◌, ℕ, ◌+◌, ◌*◌, ◌^◌, ◌%◌, ◌<◌, ◌≤◌, List, ◌∷◌, ◌++◌, drop, get_or, sym, ap, ◌∙◌, arith}
 use Rattle.std.proofs.lemmas.Bool.Decides.{nat_tests}
-use Rattle.cbor_head.specs.Head.{major_number, shortest, with_argument}
+use Rattle.cbor_head.specs.Prelude.{major_number, shortest, with_argument}
 use Rattle.cbor_head.specs.declared.major.Major.{Major}
 use Rattle.cbor_head.specs.declared.major.Major.TheVariants.{Array, Map, Tag, Simple}
 use Rattle.cbor_head.specs.declared.width.Width.{Width}

@@ -1,6 +1,6 @@
 -- Lists of bytes, in parts and joined.
 use Rattle.std.proofs.Common.{ℕ, List, [], ◌∷◌, ◌++◌}
-use Rattle.cbor_head.specs.Value.{AreBytes}
+use Rattle.cbor_head.specs.Prelude.{AreBytes}
 
 pub bytes_join : (xs ys : List ℕ) → AreBytes xs → AreBytes ys → AreBytes (xs ++ ys)
 bytes_join [] ys g h = h

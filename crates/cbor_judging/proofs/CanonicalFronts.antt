@@ -1,12 +1,7 @@
 -- What the strict verdict accepts: the canonical bytes of a valid value, at the front of the input.
 use Rattle.std.proofs.Common.{ℕ, ◌+◌, ◌-◌, ◌≡◌, List, ◌++◌, length, take, drop, refl, sym, ap, ◌∙◌, arith, inl, inr, append_assoc, take-append-drop}
 use Rattle.std.proofs.Math.Seq.{take-append-add}
-use Rattle.cbor_head.specs.Limits.{Bounds}
-use Rattle.cbor_head.specs.Value.{Value, Same, HasBasicKeys}
-use Rattle.cbor_head.specs.Spelling.{Spelling, spell, value_of}
-use Rattle.cbor_head.specs.Canonical.{canonical}
-use Rattle.cbor_head.specs.Complaint.{strict, Complaint, IsComplaint}
-use Rattle.cbor_head.specs.Verdict.{accepted, refused, IsVerdict}
+use Rattle.cbor_head.specs.Prelude.{Bounds, Value, Same, HasBasicKeys, Spelling, spell, value_of, canonical, strict, Complaint, IsComplaint, accepted, refused, IsVerdict}
 use Rattle.cbor_head.specs.declared.keys.Keys.TheVariants.{IntegersAndTexts}
 use Rattle.cbor_head.specs.declared.order.KeyOrder.{KeyOrder}
 use Rattle.cbor_head.specs.declared.reason.Refusal.{Refusal}

@@ -1,7 +1,6 @@
 -- What is complete in the open containers has no complaint, where the whole is known to have none.
 use Rattle.std.proofs.Common.{◌≡◌, ℕ, ◌+◌, ◌-◌, ◌≤◌, List, [], ◌∷◌, ◌++◌, length, refl, sym, ap, ap₂, ◌∙◌, subst, inl, arith, append-nil, append_assoc, length-append}
-use Rattle.cbor_head.specs.Complaint.{plain, Rules, Complaint, Complains}
-use Rattle.cbor_head.specs.Spelling.{Spelling, spell, IsItem, IsSpelled, depth}
+use Rattle.cbor_head.specs.Prelude.{plain, Rules, Complaint, Complains, Spelling, spell, IsItem, IsSpelled, depth}
 use Rattle.cbor_grammar.proofs.Agree.{split_front, same_complaints}
 use Rattle.cbor_grammar.proofs.OneFirst.{bounded}
 use Rattle.cbor_grammar.proofs.Verdicts.{whole_longest}

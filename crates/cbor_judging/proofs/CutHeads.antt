@@ -1,11 +1,8 @@
 -- The input ends within a head or a payload: nothing is to be said against what there is of the item.
-use Rattle.std.proofs.Common.{◌≡◌, ℕ, zero, suc, ◌+◌, ◌*◌, ◌-◌, ◌^◌, ◌%◌, ◌<◌, ◌≤◌, ◌⊎◌, Bool, true, false, None, List, [], ◌∷◌, ◌++◌, length, replicate, refl, sym, ap, ◌∙◌, subst, inl, inr, arith}
+use Rattle.std.proofs.Common.{◌≡◌, ℕ, zero, suc, ◌+◌, ◌*◌, ◌-◌, ◌^◌, ◌%◌, ◌<◌, ◌≤◌, ◌⊎◌, Bool, true, false, None, List, [], ◌∷◌, ◌++◌, length, replicate, refl, sym, ap, ◌∙◌, subst, inl, inr, arith, length-append}
 use Rattle.std.proofs.lemmas.Bool.{cases_lt}
-use Rattle.std.proofs.lemmas.List.{length-append, nil_from_length}
-use Rattle.cbor_head.specs.Complaint.{Rules, OfHead}
-use Rattle.cbor_head.specs.Head.{Holds, head, major_number}
-use Rattle.cbor_head.specs.Spelling.{Chunk, Spelling}
-use Rattle.cbor_head.specs.Value.{AreBytes}
+use Rattle.std.proofs.lemmas.List.{nil_from_length}
+use Rattle.cbor_head.specs.Prelude.{Rules, OfHead, Holds, head, major_number, Chunk, Spelling, AreBytes}
 use Rattle.cbor_head.specs.declared.major.Major.{Major}
 use Rattle.cbor_head.specs.declared.major.Major.TheVariants.{Bytes, Text, Array, Map, Tag, Simple}
 use Rattle.cbor_head.specs.declared.width.Width.{Width}

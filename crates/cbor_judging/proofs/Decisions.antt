@@ -2,11 +2,7 @@
 use Rattle.std.proofs.Common.{ℕ, ◌+◌, ◌≡◌, ◌<◌, ◌≤◌, Some, None, List, [], ◌∷◌, ◌++◌, length, take, refl, sym, ap, ◌∙◌, arith, subst, inl, inr, append_assoc, append-nil, length-append}
 use Rattle.std.proofs.lemmas.Bool.{cases_lt}
 use Rattle.cbor_head.specs.Laws.{StartsWith}
-use Rattle.cbor_head.specs.Limits.{Bounds}
-use Rattle.cbor_head.specs.Spelling.{Spelling, spell, IsItem}
-use Rattle.cbor_head.specs.Complaint.{Rules, Complaint, complaint, OfKinds, Complains, IsComplaint}
-use Rattle.cbor_head.specs.Verdict.{refusal, refused, IsFormError, IsFirstOf, HasNoneOf, IsVerdict}
-use Rattle.cbor_head.specs.Beginning.{IsLongestBeginning}
+use Rattle.cbor_head.specs.Prelude.{Bounds, Spelling, spell, IsItem, Rules, Complaint, complaint, OfKinds, Complains, IsComplaint, refusal, refused, IsFormError, IsFirstOf, HasNoneOf, IsVerdict, IsLongestBeginning}
 use Rattle.cbor_head.specs.declared.reason.Reason.TheVariants.{KeyKind}
 use Rattle.cbor_head.specs.declared.reason.Refusal.{Refusal}
 use Rattle.cbor_judging.specs.Judged.{IsJudged}

@@ -1,14 +1,10 @@
 -- What the front of an input tells of its first item, however it goes on: all but that it ends within it.
-use Rattle.std.proofs.Common.{ℕ, ◌+◌, ◌-◌, ◌≡◌, ◌≢◌, ◌≤◌, inl, inr, List, [], ◌∷◌, ◌++◌, length, take, refl, sym, ap, ◌∙◌, arith, subst}
+use Rattle.std.proofs.Common.{ℕ, ◌+◌, ◌-◌, ◌≡◌, ◌≢◌, ◌≤◌, inl, inr, List, [], ◌∷◌, ◌++◌, length, take, refl, sym, ap, ◌∙◌, arith, subst, append_assoc, append-nil, length-append, length-take, take_all}
 use Rattle.std.proofs.lemmas.Bool.{cases_lt}
-use Rattle.std.proofs.lemmas.List.{append_assoc, append-nil, length-append, length-take, take_all, take-append-le}
+use Rattle.std.proofs.lemmas.List.{take-append-le}
 use Rattle.std.proofs.Math.Seq.{take-append-add}
-use Rattle.cbor_head.specs.Beginning.{IsBeginning, IsLongestBeginning}
-use Rattle.cbor_head.specs.Complaint.{Rules, Complaint, IsComplaint}
+use Rattle.cbor_head.specs.Prelude.{IsBeginning, IsLongestBeginning, Rules, Complaint, IsComplaint, Bounds, Spelling, spell, IsItem, Answer, accepted, refused, refusal, IsFormError, IsVerdict}
 use Rattle.cbor_head.specs.Laws.{IsFirstComplaint, IsWithout}
-use Rattle.cbor_head.specs.Limits.{Bounds}
-use Rattle.cbor_head.specs.Spelling.{Spelling, spell, IsItem}
-use Rattle.cbor_head.specs.Verdict.{Answer, accepted, refused, refusal, IsFormError, IsVerdict}
 use Rattle.cbor_head.specs.declared.reason.Reason.TheVariants.{Truncated}
 use Rattle.cbor_head.specs.declared.reason.Refusal.{Refusal}
 use Rattle.cbor_grammar.proofs.Agree.{split_front}

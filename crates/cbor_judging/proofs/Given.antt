@@ -1,10 +1,7 @@
 -- A builder that is given an item's events: what it holds grows by each item that is complete.
 use Rattle.std.proofs.Common.{◌≡◌, ℕ, zero, suc, ◌+◌, ◌-◌, ◌^◌, ◌<◌, ◌≤◌, List, [], ◌∷◌, ◌++◌, length, map, flat_map, refl, sym, ap, ap₂, ◌∙◌, subst, inl, inr, arith, append_assoc, append-nil, length-append}
-use Rattle.cbor_head.specs.Head.{Holds, head, shortest_head}
+use Rattle.cbor_head.specs.Prelude.{Holds, head, shortest_head, Entries, Pair, canonical, canonical_all, canonical_entries, in_order, Spelling, Spellings, SpelledEntries, array, a_map, tag, no_spellings, a_spelling, no_entries, entry, spell, spell_all, spell_entries, spellings_count, entries_count, HoldsOrIndefinite, value_of, values_of, entries_of}
 use Rattle.cbor_head.specs.Value as value
-use Rattle.cbor_head.specs.Value.{Entries}
-use Rattle.cbor_head.specs.Canonical.{Pair, canonical, canonical_all, canonical_entries, in_order}
-use Rattle.cbor_head.specs.Spelling.{Spelling, Spellings, SpelledEntries, array, a_map, tag, no_spellings, a_spelling, no_entries, entry, spell, spell_all, spell_entries, spellings_count, entries_count, HoldsOrIndefinite, value_of, values_of, entries_of}
 use Rattle.cbor_head.specs.declared.major.Major.TheVariants as majors
 use Rattle.cbor_head.specs.declared.order.KeyOrder.{KeyOrder}
 use Rattle.cbor_head.specs.declared.width.Width.{Width}

@@ -1,8 +1,6 @@
 -- What the rules have against a head comes first of all that they have against its item.
 use Rattle.std.proofs.Common.{◌≡◌, ◌≢◌, ℕ, ◌+◌, ◌<◌, ◌≤◌, Some, List, [], length, replicate, refl, sym, subst, inl, arith, IsTrue}
-use Rattle.cbor_head.specs.Complaint.{Rules, Complaint, complaint, OfHead, OfIndefinite, OfCount}
-use Rattle.cbor_head.specs.Head.{Holds, head, shortest}
-use Rattle.cbor_head.specs.Spelling.{unsigned, negative, bytes, text, byte_chunks, text_chunks, tag}
+use Rattle.cbor_head.specs.Prelude.{Rules, Complaint, complaint, OfHead, OfIndefinite, OfCount, Holds, head, shortest, unsigned, negative, bytes, text, byte_chunks, text_chunks, tag}
 use Rattle.cbor_head.specs.declared.major.Major.{Major}
 use Rattle.cbor_head.specs.declared.major.Major.TheVariants.{Unsigned, Negative, Bytes, Text, Array, Map, Tag, Simple}
 use Rattle.cbor_head.specs.declared.reason.Reason.TheVariants.{NotShortest, Indefinite as IndefiniteReason}

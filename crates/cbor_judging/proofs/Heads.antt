@@ -1,9 +1,7 @@
 -- A head that is cut: some item within the depth starts with the bytes so far, and has no complaint on them.
-use Rattle.std.proofs.Common.{ℕ, suc, ◌-◌, ◌≡◌, ◌<◌, ◌≤◌, true, false, None, List, [], ◌∷◌, ◌++◌, length, replicate, refl, sym, ap, ◌∙◌, arith, subst, ltb-true}
-use Rattle.std.proofs.lemmas.List.{length-append, append_assoc, length-replicate}
-use Rattle.cbor_head.specs.Head.{Holds, head}
-use Rattle.cbor_head.specs.Spelling.{Spelling, unsigned, negative, bytes, text, array, a_map, tag, simple, IsSpelled, HoldsOrIndefinite, depth, IsItem}
-use Rattle.cbor_head.specs.Complaint.{Rules}
+use Rattle.std.proofs.Common.{ℕ, suc, ◌-◌, ◌≡◌, ◌<◌, ◌≤◌, true, false, None, List, [], ◌∷◌, ◌++◌, length, replicate, refl, sym, ap, ◌∙◌, arith, subst, ltb-true, length-append, append_assoc}
+use Rattle.std.proofs.lemmas.List.{length-replicate}
+use Rattle.cbor_head.specs.Prelude.{Holds, head, Spelling, unsigned, negative, bytes, text, array, a_map, tag, simple, IsSpelled, HoldsOrIndefinite, depth, IsItem, Rules}
 use Rattle.cbor_head.specs.declared.major.Major.{Major}
 use Rattle.cbor_head.specs.declared.major.Major.TheVariants.{Unsigned, Negative, Bytes, Text, Array, Map, Tag, Simple}
 use Rattle.cbor_head.specs.declared.width.Width.{Width}

@@ -1,9 +1,7 @@
 -- What is found in a part is found in the whole.
 use Rattle.std.proofs.Common.{ℕ, zero, suc, ◌+◌, ◌-◌, ◌≡◌, ◌<◌, ◌≤◌, ◌⊎◌, Option, Some, None, List, [], ◌++◌, length, refl, sym, ap, ◌∙◌, arith, inl, inr, length-append, append_assoc}
 use Rattle.std.proofs.lemmas.Bool.{cases_lt}
-use Rattle.cbor_head.specs.Spelling.{Spelling, Spellings, SpelledEntries, no_entries, entry, spell, spellings_count, entries_count, IsSpelled, AreEntriesSpelled, depth, depth_entries, IsItem, array, a_map}
-use Rattle.cbor_head.specs.Complaint.{Rules, Complaint, Complains}
-use Rattle.cbor_head.specs.Verdict.{rank}
+use Rattle.cbor_head.specs.Prelude.{Spelling, Spellings, SpelledEntries, no_entries, entry, spell, spellings_count, entries_count, IsSpelled, AreEntriesSpelled, depth, depth_entries, IsItem, array, a_map, Rules, Complaint, Complains, rank}
 use Rattle.cbor_judging.specs.Frame.{Frame, a_member, a_key, a_content, tagged, keys_onto, plug, before, behind, IsFrame, depth_beside, OfFront, OfKeyAt}
 use Rattle.cbor_judging.specs.Judged.{IsFinding, IsJudged, Never}
 use Rattle.cbor_grammar.proofs.Agree.{head_of, body, parts, later}

@@ -1,11 +1,7 @@
 -- In which bytes of an item no key begins behind the first of them: of one head, or of what is no container.
 use Rattle.std.proofs.Common.{ℕ, suc, ◌+◌, ◌*◌, ◌-◌, ◌^◌, ◌/◌, ◌%◌, ◌≡◌, ◌<◌, ◌≤◌, true, false, List, [], ◌∷◌, ◌++◌, length, replicate, refl, sym, ap, ◌∙◌, arith, subst, inl, inr, ◌≢◌, None, IsTrue, Option, length-append, append-nil}
 use Rattle.std.proofs.lemmas.Bool.{cases_lt}
-use Rattle.cbor_head.specs.Head.{Holds, head, major_number}
-use Rattle.cbor_head.specs.Limits.{Bounds}
-use Rattle.cbor_head.specs.Value.{IsIntegerOrText, AreBytes}
-use Rattle.cbor_head.specs.Spelling.{Spelling, byte_chunks, text_chunks, array, a_map, tag, simple, no_spellings, no_entries, spell, depth, spellings_count, entries_count, value_of, IsSpelled, HoldsOrIndefinite}
-use Rattle.cbor_head.specs.Complaint.{Rules, Complaint, OfKinds, form}
+use Rattle.cbor_head.specs.Prelude.{Holds, head, major_number, Bounds, IsIntegerOrText, AreBytes, Spelling, byte_chunks, text_chunks, array, a_map, tag, simple, no_spellings, no_entries, spell, depth, spellings_count, entries_count, value_of, IsSpelled, HoldsOrIndefinite, Rules, Complaint, OfKinds, form, MayFollow}
 use Rattle.cbor_head.specs.declared.major.Major.{Major}
 use Rattle.cbor_head.specs.declared.major.Major.TheVariants.{Bytes, Text, Array, Map, Tag, Simple}
 use Rattle.cbor_head.specs.declared.width.Width.{Width}
@@ -24,7 +20,6 @@ use Rattle.cbor_judging.specs.Kinds.{IsOfOneHead, HasBasicFront, AsksForKinds, K
 use Rattle.cbor_judging.specs.Place.{Container, Place, at_item, Opens, Follows, IsTaking}
 use Rattle.cbor_judging.proofs.Heads.{Headed, headed, open_or, zero_bytes, cut_head, zero_length}
 use Rattle.cbor_judging.proofs.KindFrames.{IsAround, keeps_on}
-use Rattle.cbor_head.specs.Beginning.{MayFollow}
 use Rattle.cbor_automaton.proofs.Refusals.{IsTaken, taken-follows}
 use Rattle.cbor_standing.specs.NextEvent.{ItemEventsView}
 use Rattle.cbor_judging.specs.Reading.{IsAt, state_at}

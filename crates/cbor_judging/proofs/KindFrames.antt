@@ -1,9 +1,6 @@
 -- Complaints on the kinds of keys over the open containers: where those of the whole end, and which are the item's.
 use Rattle.std.proofs.Common.{ℕ, suc, ◌+◌, ◌≡◌, ◌<◌, ◌≤◌, ◌⊎◌, ◌↔◌, List, [], ◌∷◌, ◌++◌, length, refl, sym, ap, ◌∙◌, arith, subst, inl, inr, length-append, append_assoc, append-nil, Option}
-use Rattle.cbor_head.specs.Head.{head}
-use Rattle.cbor_head.specs.Value.{IsIntegerOrText}
-use Rattle.cbor_head.specs.Spelling.{Spelling, Spellings, SpelledEntries, no_spellings, a_spelling, no_entries, entry, spell, spell_all, spell_entries, spellings_count, entries_count, IsSpelled, depth, value_of, IsItem}
-use Rattle.cbor_head.specs.Complaint.{Complaint, complaint, OfKinds, OfKindsIn, OfKindsInEntries, Rules}
+use Rattle.cbor_head.specs.Prelude.{head, IsIntegerOrText, Spelling, Spellings, SpelledEntries, no_spellings, a_spelling, no_entries, entry, spell, spell_all, spell_entries, spellings_count, entries_count, IsSpelled, depth, value_of, IsItem, Complaint, complaint, OfKinds, OfKindsIn, OfKindsInEntries, Rules, Bounds, IsBeginning}
 use Rattle.cbor_head.specs.declared.major.Major.TheVariants.{Array, Map, Tag}
 use Rattle.cbor_head.specs.declared.reason.Reason.TheVariants.{KeyKind}
 use Rattle.cbor_grammar.proofs.KeyKinds.{kind_end, of_kind, of_kind_in, of_kind_entries}
@@ -13,8 +10,6 @@ use Rattle.cbor_judging.specs.Kinds.{IsKeyFrame, IsKeyDue, plug_all, AsksForKind
 use Rattle.cbor_judging.specs.OpenMaps.{before_all, ArePath}
 use Rattle.cbor_judging.proofs.Frames.{count_with, entries_with, pair_size, spell_plug, spelled_plug, depth_plug}
 use Rattle.cbor_head.specs.Laws.{StartsWith}
-use Rattle.cbor_head.specs.Limits.{Bounds}
-use Rattle.cbor_head.specs.Beginning.{IsBeginning}
 use Rattle.cbor_head.specs.declared.reason.Refusal.{Refusal}
 use Rattle.cbor_grammar.proofs.KindsAgree.{same_kinds}
 use Rattle.cbor_judging.specs.Reading.{IsMemory, IsReached, IsUndecided, HasCause}

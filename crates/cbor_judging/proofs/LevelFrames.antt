@@ -1,8 +1,6 @@
 -- The open containers with what is complete in them, as frames around the item that is due.
 use Rattle.std.proofs.Common.{◌≡◌, ℕ, suc, ◌+◌, ◌-◌, ◌<◌, ◌≤◌, List, [], ◌∷◌, ◌++◌, length, refl, sym, ap, ◌∙◌, subst, inl, inr, arith, ◌↔◌, length-append}
-use Rattle.cbor_head.specs.Head.{Holds, head}
-use Rattle.cbor_head.specs.Spelling.{SpelledEntries, no_spellings, no_entries, entry, spell, spell_all, spell_entries, spellings_count, entries_count}
-use Rattle.cbor_head.specs.Complaint.{plain}
+use Rattle.cbor_head.specs.Prelude.{Holds, head, SpelledEntries, no_spellings, no_entries, entry, spell, spell_all, spell_entries, spellings_count, entries_count, plain}
 use Rattle.cbor_head.specs.declared.major.Major.TheVariants as majors
 use Rattle.cbor_head.specs.declared.width.Width.TheVariants.{Indefinite}
 use Rattle.cbor_judging.specs.Frame as frames

@@ -1,9 +1,6 @@
 -- What is complete in the open containers, and grows by an item.
 use Rattle.std.proofs.Common.{◌≡◌, ℕ, suc, ◌+◌, ◌≤◌, ◌⊎◌, List, [], ◌∷◌, ◌++◌, length, refl, sym, ◌∙◌, subst, inl, inr, arith, length-append}
-use Rattle.cbor_head.specs.Head.{Holds, head}
-use Rattle.cbor_head.specs.Value.{Value, HasEntry, HasDistinctKeys, Same}
-use Rattle.cbor_head.specs.Spelling.{Chunk, Spelling, Spellings, SpelledEntries, text, byte_chunks, text_chunks, array, a_map, tag, simple, no_spellings, a_spelling, no_entries, entry, spell, spell_all, spell_entries, spellings_count, entries_count, chunk_bytes, break_of, AreSpelled, AreEntriesSpelled, depth_all, depth_entries, value_of, entries_of}
-use Rattle.cbor_head.specs.Complaint.{plain, Complaint, OfCount, OfChunks, Complains, ComplainsIn, ComplainsInEntries, IsRepeated}
+use Rattle.cbor_head.specs.Prelude.{Holds, head, Value, HasEntry, HasDistinctKeys, Same, Chunk, Spelling, Spellings, SpelledEntries, text, byte_chunks, text_chunks, array, a_map, tag, simple, no_spellings, a_spelling, no_entries, entry, spell, spell_all, spell_entries, spellings_count, entries_count, chunk_bytes, break_of, AreSpelled, AreEntriesSpelled, depth_all, depth_entries, value_of, entries_of, plain, Complaint, OfCount, OfChunks, Complains, ComplainsIn, ComplainsInEntries, IsRepeated}
 use Rattle.cbor_head.specs.declared.major.Major.{Major}
 use Rattle.cbor_head.specs.declared.major.Major.TheVariants as majors
 use Rattle.cbor_head.specs.declared.width.Width.{Width}

@@ -1,11 +1,7 @@
 -- The loops of a reader over an array's members and over a map's pairs.
 use Rattle.std.proofs.Common.{◌≡◌, ◌≢◌, ℕ, suc, ◌+◌, ◌-◌, ◌<◌, Option, Some, None, List, [], ◌∷◌, ◌++◌, length, refl, sym, ap, ◌∙◌, subst, arith, append-nil, false}
-use Rattle.cbor_head.specs.Head.{head}
-use Rattle.cbor_head.specs.Limits.{Bounds}
+use Rattle.cbor_head.specs.Prelude.{head, Bounds, Values, Entries, Spellings, array, no_spellings, spell, spellings_count, break_of, HoldsOrIndefinite, values_of, Spelling, SpelledEntries, a_map, no_entries, entries_count, entries_of, Rules}
 use Rattle.cbor_head.specs.Value as value
-use Rattle.cbor_head.specs.Value.{Values, Entries}
-use Rattle.cbor_head.specs.Spelling.{Spellings, array, no_spellings, spell, spellings_count, break_of, HoldsOrIndefinite, values_of, Spelling, SpelledEntries, a_map, no_entries, entries_count, entries_of}
-use Rattle.cbor_head.specs.Complaint.{Rules}
 use Rattle.cbor_head.specs.declared.major.Major.TheVariants as majors
 use Rattle.cbor_head.specs.declared.width.Width.{Width}
 use Rattle.cbor_head.specs.declared.width.Width.TheVariants.{Indefinite}

@@ -1,8 +1,6 @@
 -- Complaints on the completed keys of a map, apart from those within its pairs.
 use Rattle.std.proofs.Common.{ℕ, suc, ◌+◌, ◌≡◌, ◌⊎◌, List, [], ◌∷◌, ◌++◌, length, refl, sym, subst, inl, inr}
-use Rattle.cbor_head.specs.Head.{head}
-use Rattle.cbor_head.specs.Spelling.{Spelling, SpelledEntries, no_entries, entry, spell, spell_entries, entries_count}
-use Rattle.cbor_head.specs.Complaint.{Rules, Complaint, OfKey, ComplainsInEntries}
+use Rattle.cbor_head.specs.Prelude.{head, Spelling, SpelledEntries, no_entries, entry, spell, spell_entries, entries_count, Rules, Complaint, OfKey, ComplainsInEntries}
 use Rattle.cbor_head.specs.declared.major.Major.TheVariants.{Map}
 use Rattle.cbor_judging.specs.Frame.{Frame, a_member, a_key, a_content, tagged, keys_onto, OfFront}
 use Rattle.cbor_judging.specs.OpenMaps.{Placed, placed, keys_at, open_keys, onto, OnKeys, ComplainsWithin, OfClosed}

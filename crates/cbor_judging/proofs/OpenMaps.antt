@@ -1,6 +1,6 @@
 -- What is found of an item is found of the open containers around it, where nothing before it has a complaint.
 use Rattle.std.proofs.Common.{ℕ, suc, ◌+◌, ◌≡◌, ◌≤◌, Option, List, [], ◌∷◌, ◌++◌, length, sym, arith, subst, inl, inr, length-append, append_assoc}
-use Rattle.cbor_head.specs.Complaint.{Rules, Complaint}
+use Rattle.cbor_head.specs.Prelude.{Rules, Complaint}
 use Rattle.cbor_judging.specs.Frame.{Frame, before, IsFrame, depth_beside}
 use Rattle.cbor_judging.specs.Judged.{IsJudged, Never}
 use Rattle.cbor_judging.specs.OpenMaps.{open_keys, AreDistinct, OfClosed, before_all, ArePath, AreClosedClean, AreOpenDistinct}

@@ -1,10 +1,6 @@
 -- That no key of another kind begins in the bytes so far, over the containers that are open around the item that is due.
 use Rattle.std.proofs.Common.{◌≡◌, ℕ, suc, ◌-◌, ◌<◌, ◌≤◌, ◌↔◌, List, [], ◌∷◌, ◌++◌, length, refl, sym, ap, ◌∙◌, subst, inl, inr, arith, length-append, append-nil}
-use Rattle.cbor_head.specs.Head.{Holds, head}
-use Rattle.cbor_head.specs.Limits.{Bounds}
-use Rattle.cbor_head.specs.Value.{IsIntegerOrText}
-use Rattle.cbor_head.specs.Complaint.{Rules, Complaint, OfKinds}
-use Rattle.cbor_head.specs.Spelling.{Spelling, spell, IsSpelled, depth, value_of}
+use Rattle.cbor_head.specs.Prelude.{Holds, head, Bounds, IsIntegerOrText, Rules, Complaint, OfKinds, Spelling, spell, IsSpelled, depth, value_of}
 use Rattle.cbor_head.specs.declared.major.Major.{Major}
 use Rattle.cbor_head.specs.declared.width.Width.{Width}
 use Rattle.cbor_grammar.proofs.Alike.{not_break}

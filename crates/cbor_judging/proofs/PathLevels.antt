@@ -1,8 +1,6 @@
 -- What is found of an item is found of the open containers around it.
 use Rattle.std.proofs.Common.{◌≡◌, ℕ, suc, ◌+◌, ◌-◌, ◌<◌, ◌≤◌, ◌⊎◌, Option, Some, List, [], ◌∷◌, ◌++◌, length, refl, sym, ap, subst, inl, inr, arith, append_assoc, length-append}
-use Rattle.cbor_head.specs.Head.{head}
-use Rattle.cbor_head.specs.Complaint.{Rules, Complaint, OfCount, OfKey, Complains, ComplainsIn, ComplainsInEntries}
-use Rattle.cbor_head.specs.Spelling.{Spelling, SpelledEntries, spell, IsSpelled, depth, spell_entries, spellings_count, entries_count, HoldsOrIndefinite}
+use Rattle.cbor_head.specs.Prelude.{head, Rules, Complaint, OfCount, OfKey, Complains, ComplainsIn, ComplainsInEntries, Spelling, SpelledEntries, spell, IsSpelled, depth, spell_entries, spellings_count, entries_count, HoldsOrIndefinite}
 use Rattle.cbor_head.specs.declared.major.Major.TheVariants.{Array, Map}
 use Rattle.cbor_head.specs.declared.width.Width.{Width}
 use Rattle.cbor_judging.specs.Frame as frames

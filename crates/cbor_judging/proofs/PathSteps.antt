@@ -1,8 +1,6 @@
 -- What an item that is complete makes of the containers around it.
 use Rattle.std.proofs.Common.{◌≡◌, ◌≢◌, ℕ, suc, ◌+◌, ◌-◌, ◌<◌, ◌≤◌, List, [], ◌∷◌, ◌++◌, length, refl, sym, ap, ◌∙◌, subst, inl, inr, arith, append_assoc, length-append}
-use Rattle.cbor_head.specs.Head.{head}
-use Rattle.cbor_head.specs.Complaint.{Rules, OfKey, Complains}
-use Rattle.cbor_head.specs.Spelling.{Spelling, Spellings, SpelledEntries, array, a_map, tag, no_spellings, a_spelling, no_entries, entry, spell, spell_all, spell_entries, spellings_count, entries_count, IsSpelled, depth}
+use Rattle.cbor_head.specs.Prelude.{head, Rules, OfKey, Complains, Spelling, Spellings, SpelledEntries, array, a_map, tag, no_spellings, a_spelling, no_entries, entry, spell, spell_all, spell_entries, spellings_count, entries_count, IsSpelled, depth}
 use Rattle.cbor_head.specs.declared.major.Major.TheVariants.{Array, Map, Tag}
 use Rattle.cbor_head.specs.declared.width.Width.{Width}
 use Rattle.cbor_head.specs.declared.width.Width.TheVariants.{Indefinite}

@@ -1,11 +1,7 @@
 -- Where the walk ends is the verdict.
 use Rattle.std.proofs.Common.{◌≡◌, ◌≢◌, ℕ, ◌-◌, ◌<◌, ◌≤◌, List, [], ◌∷◌, ◌++◌, length, take, refl, sym, ap, ◌∙◌, subst, inl, inr, arith, append_assoc, append-nil, length-append, length-take}
 use Rattle.std.proofs.lemmas.Bool.{cases_lt}
-use Rattle.cbor_head.specs.Beginning.{IsBeginning, MayFollow, IsLongestBeginning}
-use Rattle.cbor_head.specs.Complaint.{Rules, IsComplaint}
-use Rattle.cbor_head.specs.Limits.{Bounds}
-use Rattle.cbor_head.specs.Spelling.{Spelling, IsItem, spell, depth}
-use Rattle.cbor_head.specs.Verdict.{refusal, accepted, refused, IsVerdict}
+use Rattle.cbor_head.specs.Prelude.{IsBeginning, MayFollow, IsLongestBeginning, Rules, IsComplaint, Bounds, Spelling, IsItem, spell, depth, refusal, accepted, refused, IsVerdict}
 use Rattle.cbor_head.specs.declared.reason.Reason.TheVariants.{Truncated, TooLong, KeyKind}
 use Rattle.cbor_head.specs.declared.reason.Refusal.{Refusal}
 use Rattle.cbor_grammar.proofs.Agree.{split_front}

@@ -1,8 +1,7 @@
 -- What is clean by the strict rules is clean by the plain ones, in the open containers too; and a key that has the bytes of the
 -- one before it is repeated.
 use Rattle.std.proofs.Common.{◌≡◌, ℕ, suc, ◌+◌, Some, List, [], ◌∷◌, ◌++◌, length, inl, inr, refl, sym, ap, ◌∙◌, arith}
-use Rattle.cbor_head.specs.Complaint.{plain, strict, complaint, Complains, ComplainsIn, ComplainsInEntries, IsRepeated}
-use Rattle.cbor_head.specs.Spelling.{Spelling, Spellings, SpelledEntries, no_entries, entry, spell, spellings_count, entries_count, value_of, IsSpelled, AreSpelled, AreEntriesSpelled}
+use Rattle.cbor_head.specs.Prelude.{plain, strict, complaint, Complains, ComplainsIn, ComplainsInEntries, IsRepeated, Spelling, Spellings, SpelledEntries, no_entries, entry, spell, spellings_count, entries_count, value_of, IsSpelled, AreSpelled, AreEntriesSpelled}
 use Rattle.cbor_head.specs.declared.order.KeyOrder.{KeyOrder}
 use Rattle.cbor_head.specs.declared.major.Major.TheVariants.{Array, Map}
 use Rattle.cbor_head.specs.declared.reason.Reason.TheVariants.{RepeatedKey}

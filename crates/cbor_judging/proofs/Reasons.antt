@@ -1,9 +1,6 @@
 -- Which reasons a refusal has.
 use Rattle.std.proofs.Common.{ℕ, ◌+◌, ◌≡◌, ◌≢◌, ◌⊎◌, Option, Some, None, List, [], ◌∷◌, ◌++◌, length, sym, ap, ◌∙◌, subst, inl, inr, Bool, true, false, ◌==◌, ◌||◌, ◌&&◌, ◌%◌, nat_le, if◌then◌else◌}
-use Rattle.cbor_head.specs.Spelling.{Spelling, spell}
-use Rattle.cbor_head.specs.Complaint.{Rules, form, Complaint, Complains, IsComplaint}
-use Rattle.cbor_head.specs.Limits.{Bounds}
-use Rattle.cbor_head.specs.Verdict.{initial_reason, refusal, refused, IsReasonAt, IsFormError, IsVerdict}
+use Rattle.cbor_head.specs.Prelude.{Spelling, spell, Rules, form, Complaint, Complains, IsComplaint, Bounds, initial_reason, refusal, refused, IsReasonAt, IsFormError, IsVerdict}
 use Rattle.cbor_head.specs.declared.reason.Reason.{Reason}
 use Rattle.cbor_head.specs.declared.reason.Reason.TheVariants.{Truncated, TooLong, InvalidText, RepeatedKey, NotShortest, Indefinite as IndefiniteReason, KeyOrder, Read, Memory, StrayBreak, Float, NoIndefinite, Reserved, TooDeep, KeyKind}
 use Rattle.cbor_head.specs.declared.reason.Refusal.{Refusal}

@@ -1,13 +1,8 @@
 -- What is refused where an item is due, whatever walk stands there.
-use Rattle.std.proofs.Common.{◌≡◌, ◌≢◌, ℕ, suc, ◌+◌, ◌-◌, ◌*◌, ◌^◌, ◌%◌, ◌<◌, ◌≤◌, ◌⊎◌, Bool, true, None, List, [], ◌∷◌, ◌++◌, length, take, drop, refl, sym, ap, ◌∙◌, subst, inl, inr, arith, append_assoc, take-append-drop, append-nil, IsTrue, IsUtf8, length-append, length-take-le, ◌/◌}
+use Rattle.std.proofs.Common.{◌≡◌, ◌≢◌, ℕ, suc, ◌+◌, ◌-◌, ◌*◌, ◌^◌, ◌%◌, ◌<◌, ◌≤◌, ◌⊎◌, Bool, true, None, List, [], ◌∷◌, ◌++◌, length, take, drop, refl, sym, ap, ◌∙◌, subst, inl, inr, arith, append_assoc, take-append-drop, append-nil, IsTrue, IsUtf8, length-append, length-take-le, ◌/◌, pow_pos}
 use Rattle.std.specs.Str.Lossy.{utf8_valid_len}
 use Rattle.std.proofs.lemmas.Bool.{cases_lt}
-use Rattle.std.proofs.lemmas.Nat.{pow_pos}
-use Rattle.cbor_head.specs.Complaint.{Rules, strict, complaint, OfHead, form}
-use Rattle.cbor_head.specs.Head.{Holds, head, major_number, shortest, with_argument}
-use Rattle.cbor_head.specs.Limits.{Bounds}
-use Rattle.cbor_head.specs.Value.{AreBytes, IsIntegerOrText}
-use Rattle.cbor_head.specs.Verdict.{refusal}
+use Rattle.cbor_head.specs.Prelude.{Rules, strict, complaint, OfHead, form, Holds, head, major_number, shortest, with_argument, Bounds, AreBytes, IsIntegerOrText, refusal, simple, spell, value_of}
 use Rattle.cbor_head.specs.declared.major.Major.{Major}
 use Rattle.cbor_head.specs.declared.major.Major.TheVariants.{Bytes, Text, Array, Map, Simple}
 use Rattle.cbor_head.specs.declared.order.KeyOrder.{KeyOrder}
@@ -35,7 +30,6 @@ use Rattle.cbor_judging.proofs.FirstBytes.{reserved, no_indefinite, a_float, str
 use Rattle.cbor_judging.proofs.HeadComplaints.{IsOpener as MayOpen, not_shortest, indefinite_length}
 use Rattle.cbor_judging.proofs.PathKinds.{kept_front, head_begun, around_clean}
 use Rattle.cbor_judging.proofs.PathStops.{complaint_here, end_here}
-use Rattle.cbor_head.specs.Spelling.{simple, spell, value_of}
 use Rattle.cbor_head.specs.declared.keys.Keys.TheVariants.{IntegersAndTexts}
 use Rattle.cbor_head.specs.declared.order.KeyOrder.TheVariants.{Bytewise}
 use Rattle.cbor_head.specs.declared.reason.Reason.TheVariants.{KeyKind}

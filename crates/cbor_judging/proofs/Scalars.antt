@@ -1,10 +1,7 @@
 -- Items of one head, and tags.
 use Rattle.std.proofs.Common.{◌≡◌, ℕ, Option, List, ◌++◌, length, refl, ap, ◌∙◌, subst, arith}
-use Rattle.cbor_head.specs.Head.{head, shortest}
-use Rattle.cbor_head.specs.Limits.{Bounds}
+use Rattle.cbor_head.specs.Prelude.{head, shortest, Bounds, unsigned, negative, simple, Rules}
 use Rattle.cbor_head.specs.Value as value
-use Rattle.cbor_head.specs.Spelling.{unsigned, negative, simple}
-use Rattle.cbor_head.specs.Complaint.{Rules}
 use Rattle.cbor_head.specs.declared.major.Major.TheVariants as majors
 use Rattle.cbor_head.specs.declared.width.Width.{Width}
 use Rattle.cbor_judging.specs.Place.{Container, Place, close}

@@ -3,10 +3,7 @@ use Rattle.std.proofs.Common.{ℕ, zero, suc, ◌*◌, ◌/◌, ◌^◌, ◌≡�
 use Rattle.std.specs.List.{AllByRecursion}
 use Rattle.std.specs.Int.{bytes_high_first, byte_at}
 use Rattle.std.proofs.lemmas.Bool.{cases_lt}
-use Rattle.cbor_head.specs.Head.{Holds, head, shortest, major_number, with_argument}
-use Rattle.cbor_head.specs.Value.{AreBytes}
-use Rattle.cbor_head.specs.Spelling.{Chunk, IsChunk, Spelling, Spellings, SpelledEntries, unsigned, negative, bytes, text, byte_chunks, text_chunks, array, a_map, tag, simple, no_spellings, a_spelling, no_entries, entry, spell, spell_all, spell_entries, spellings_count, entries_count, chunk_bytes, break_of, HoldsOrIndefinite, IsSpelled, AreSpelled, AreEntriesSpelled}
-use Rattle.cbor_head.specs.Beginning.{IsBeginning, IsLongestBeginning}
+use Rattle.cbor_head.specs.Prelude.{Holds, head, shortest, major_number, with_argument, AreBytes, Chunk, IsChunk, Spelling, Spellings, SpelledEntries, unsigned, negative, bytes, text, byte_chunks, text_chunks, array, a_map, tag, simple, no_spellings, a_spelling, no_entries, entry, spell, spell_all, spell_entries, spellings_count, entries_count, chunk_bytes, break_of, HoldsOrIndefinite, IsSpelled, AreSpelled, AreEntriesSpelled, IsBeginning, IsLongestBeginning}
 use Rattle.cbor_head.specs.declared.major.Major.{Major}
 use Rattle.cbor_head.specs.declared.major.Major.TheVariants.{Unsigned, Negative, Bytes, Text, Array, Map, Tag, Simple}
 use Rattle.cbor_head.specs.declared.width.Width.{Width}

@@ -1,16 +1,11 @@
 -- What was found of the one item that an input starts with is its verdict.
-use Rattle.std.proofs.Common.{ℕ, ◌+◌, ◌-◌, ◌≡◌, ◌<◌, ◌≤◌, ◌⊎◌, Option, Some, None, List, [], ◌∷◌, ◌++◌, length, take, drop, refl, sym, ap, ◌∙◌, arith, subst, inl, inr, append_assoc, append-nil, take-append-drop}
+use Rattle.std.proofs.Common.{ℕ, ◌+◌, ◌-◌, ◌≡◌, ◌<◌, ◌≤◌, ◌⊎◌, Option, Some, None, List, [], ◌∷◌, ◌++◌, length, take, drop, refl, sym, ap, ◌∙◌, arith, subst, inl, inr, append_assoc, append-nil, take-append-drop, length-append}
 use Rattle.std.proofs.Math.Seq.{take-append_seam, drop-append_seam}
 use Rattle.std.proofs.lemmas.Bool.{cases_lt}
-use Rattle.std.proofs.lemmas.List.{length-append, nil_from_length}
+use Rattle.std.proofs.lemmas.List.{nil_from_length}
 use Rattle.std.specs.Io.KnownBytes.{Consumes, IsAtEnd}
-use Rattle.cbor_head.specs.Limits.{Bounds, AreBounds}
-use Rattle.cbor_head.specs.Value.{Value}
+use Rattle.cbor_head.specs.Prelude.{Bounds, AreBounds, Value, Spelling, spell, IsItem, IsLongestBeginning, Rules, Complaint, complaint, form, OfKinds, IsComplaint, refusal, refused, IsFormError, IsVerdict}
 use Rattle.cbor_head.specs.Laws.{StartsWith, IsWithout}
-use Rattle.cbor_head.specs.Spelling.{Spelling, spell, IsItem}
-use Rattle.cbor_head.specs.Beginning.{IsLongestBeginning}
-use Rattle.cbor_head.specs.Complaint.{Rules, Complaint, complaint, form, OfKinds, IsComplaint}
-use Rattle.cbor_head.specs.Verdict.{refusal, refused, IsFormError, IsVerdict}
 use Rattle.cbor_head.specs.declared.reason.Reason.{Reason}
 use Rattle.cbor_head.specs.declared.reason.Reason.TheVariants.{Truncated, Read, Memory, KeyKind}
 use Rattle.cbor_head.specs.declared.reason.Refusal.{Refusal}

@@ -1,10 +1,6 @@
 -- Where memory is refused: all but the last byte taken tells nothing against the item.
 use Rattle.std.proofs.Common.{ℕ, ◌-◌, ◌≡◌, ◌<◌, ◌≤◌, Option, List, [], ◌∷◌, ◌++◌, length, refl, sym, ap, ◌∙◌, append_assoc, arith, subst, length-append}
-use Rattle.cbor_head.specs.Limits.{Bounds}
-use Rattle.cbor_head.specs.Value.{Value, AreBytes}
-use Rattle.cbor_head.specs.Head.{head}
-use Rattle.cbor_head.specs.Spelling.{simple, spell}
-use Rattle.cbor_head.specs.Complaint.{Rules}
+use Rattle.cbor_head.specs.Prelude.{Bounds, Value, AreBytes, head, simple, spell, Rules}
 use Rattle.cbor_head.specs.declared.major.Major.{Major}
 use Rattle.cbor_head.specs.declared.major.Major.TheVariants as majors
 use Rattle.cbor_head.specs.declared.width.Width.{Width}

@@ -2,10 +2,7 @@
 use Rattle.std.proofs.Common.{sym, ℕ, ◌+◌, ◌^◌, ◌<◌, ◌≤◌, List, [], ◌∷◌, ◌++◌, length, flat_map, refl, arith, subst, inl, inr, IsUtf8, length-append}
 use Rattle.std.specs.List.{AllByRecursion}
 use Rattle.std.proofs.lemmas.Str.{IsUtf8-append, IsUtf8-nil}
-use Rattle.cbor_head.specs.Head.{head}
-use Rattle.cbor_head.specs.Value.{Value, AreBytes, HasEntry, HasDistinctKeys, Same, IsInRange, AreInRange, AreEntriesInRange, IsValid, AreValid, AreEntriesValid}
-use Rattle.cbor_head.specs.Spelling.{Chunk, IsChunk, Spelling, Spellings, SpelledEntries, unsigned, negative, bytes, text, byte_chunks, text_chunks, array, a_map, tag, simple, no_spellings, a_spelling, no_entries, entry, spell, spell_all, spell_entries, spellings_count, entries_count, value_of, values_of, entries_of, chunks_joined, chunk_bytes, chunked, break_of, IsSpelled, AreSpelled, AreEntriesSpelled}
-use Rattle.cbor_head.specs.Complaint.{plain, Complains, ComplainsIn, ComplainsInEntries, OfChunks, IsRepeated}
+use Rattle.cbor_head.specs.Prelude.{head, Value, AreBytes, HasEntry, HasDistinctKeys, Same, IsInRange, AreInRange, AreEntriesInRange, IsValid, AreValid, AreEntriesValid, Chunk, IsChunk, Spelling, Spellings, SpelledEntries, unsigned, negative, bytes, text, byte_chunks, text_chunks, array, a_map, tag, simple, no_spellings, a_spelling, no_entries, entry, spell, spell_all, spell_entries, spellings_count, entries_count, value_of, values_of, entries_of, chunks_joined, chunk_bytes, chunked, break_of, IsSpelled, AreSpelled, AreEntriesSpelled, plain, Complains, ComplainsIn, ComplainsInEntries, OfChunks, IsRepeated}
 use Rattle.cbor_head.specs.declared.major.Major.{Major}
 use Rattle.cbor_head.specs.declared.major.Major.TheVariants.{Bytes, Text, Array, Map, Tag}
 use Rattle.cbor_head.specs.declared.width.Width.TheVariants.{Indefinite}

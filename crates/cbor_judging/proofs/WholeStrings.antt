@@ -1,12 +1,7 @@
 -- Strings of one piece.
 use Rattle.std.proofs.Common.{◌≡◌, ℕ, ◌+◌, ◌-◌, ◌<◌, ◌≤◌, Bool, true, false, Option, Some, None, List, [], ◌++◌, length, replicate, refl, sym, ap, ◌∙◌, subst, inl, inr, arith, append_assoc, append-nil, IsTrue, IsUtf8, length-append}
 use Rattle.std.specs.Str.Lossy.{utf8_valid_len}
-use Rattle.cbor_head.specs.Head.{Holds, head}
-use Rattle.cbor_head.specs.Limits.{Bounds}
-use Rattle.cbor_head.specs.Value.{AreBytes}
-use Rattle.cbor_head.specs.Spelling.{Spelling, bytes, text as a_text, spell, IsSpelled, depth, value_of}
-use Rattle.cbor_head.specs.Complaint.{Rules, Complaint, complaint, OfHead, OfPayload, Complains}
-use Rattle.cbor_head.specs.Verdict.{refusal}
+use Rattle.cbor_head.specs.Prelude.{Holds, head, Bounds, AreBytes, Spelling, bytes, text as a_text, spell, IsSpelled, depth, value_of, Rules, Complaint, complaint, OfHead, OfPayload, Complains, refusal}
 use Rattle.cbor_head.specs.declared.major.Major.TheVariants as majors
 use Rattle.cbor_head.specs.declared.width.Width.{Width}
 use Rattle.cbor_head.specs.declared.reason.Refusal.{Refusal}

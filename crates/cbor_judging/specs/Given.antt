@@ -1,9 +1,7 @@
 -- What a builder holds of an item whose parts it was given.
 use Rattle.std.specs.Prelude.{ℕ, suc, ◌≡◌, ◌-◌, ◌≤◌, ◌++◌, List, [], ◌∷◌, length, map}
-use Rattle.cbor_head.specs.Canonical.{canonical, canonical_all, canonical_entries}
-use Rattle.cbor_head.specs.Head.{shortest_head}
+use Rattle.cbor_head.specs.Prelude.{canonical, canonical_all, canonical_entries, shortest_head, Spelling, spell, spellings_count, IsSpelled, depth, value_of, values_of, entries_of}
 use Rattle.cbor_head.specs.Spelling as spelling
-use Rattle.cbor_head.specs.Spelling.{Spelling, spell, spellings_count, IsSpelled, depth, value_of, values_of, entries_of}
 use Rattle.cbor_head.specs.declared.major.Major.TheVariants.{Tag}
 use Rattle.cbor_head.specs.declared.order.KeyOrder.{KeyOrder}
 use Rattle.cbor_judging.specs.Levels.{IsClean, IsTaken, Level, a_member, a_key, a_value, some_member, some_key, some_value, tagged, frame, AreLevels, bytes_before, Standing, item_due, item_full, item_whole}

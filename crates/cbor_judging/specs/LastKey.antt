@@ -1,6 +1,6 @@
 -- The last key before another.
 use Rattle.std.specs.Prelude.{◌≡◌, ℕ, List, [], ◌∷◌}
-use Rattle.cbor_head.specs.Spelling.{Spelling, SpelledEntries, no_entries, entry, spell}
+use Rattle.cbor_head.specs.Prelude.{Spelling, SpelledEntries, no_entries, entry, spell}
 
 -- the bytes of the last key of these pairs, or none
 abbrev pub last_key : SpelledEntries → List ℕ

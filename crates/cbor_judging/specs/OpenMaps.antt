@@ -1,8 +1,6 @@
 -- The containers that are open around an item, and the keys that are complete in the maps among them.
 use Rattle.std.specs.Prelude.{ℕ, suc, ◌+◌, ◌≡◌, ◌≤◌, ◌⊎◌, ◌++◌, List, [], ◌∷◌, length}
-use Rattle.cbor_head.specs.Head.{head}
-use Rattle.cbor_head.specs.Spelling.{Spelling, SpelledEntries, no_entries, entry, spell, spell_entries, spellings_count, entries_count}
-use Rattle.cbor_head.specs.Complaint.{Rules, Complaint, OfHead, OfCount, OfKey, Complains, ComplainsIn}
+use Rattle.cbor_head.specs.Prelude.{head, Spelling, SpelledEntries, no_entries, entry, spell, spell_entries, spellings_count, entries_count, Rules, Complaint, OfHead, OfCount, OfKey, Complains, ComplainsIn}
 use Rattle.cbor_head.specs.declared.major.Major.TheVariants.{Array, Map, Tag}
 use Rattle.cbor_judging.specs.Frame.{Frame, a_member, a_key, a_content, tagged, before, IsFrame, depth_beside}
 

@@ -1,8 +1,6 @@
 -- Where an item stands: the containers that are open around it, and what is complete in each.
 use Rattle.std.specs.Prelude.{ℕ, suc, ◌+◌, ◌-◌, ◌<◌, ◌≤◌, ◌++◌, List, [], ◌∷◌, length}
-use Rattle.cbor_head.specs.Head.{Holds, head}
-use Rattle.cbor_head.specs.Complaint.{Rules, Complaint, OfHead, OfKey, Complains}
-use Rattle.cbor_head.specs.Spelling.{Spelling, Spellings, SpelledEntries, spell, spellings_count, entries_count, IsSpelled, depth}
+use Rattle.cbor_head.specs.Prelude.{Holds, head, Rules, Complaint, OfHead, OfKey, Complains, Spelling, Spellings, SpelledEntries, spell, spellings_count, entries_count, IsSpelled, depth}
 use Rattle.cbor_head.specs.declared.major.Major.TheVariants.{Tag}
 use Rattle.cbor_head.specs.declared.width.Width.{Width}
 use Rattle.cbor_head.specs.declared.width.Width.TheVariants.{Indefinite}

@@ -1,7 +1,7 @@
 -- Where an item stands between two events: which containers are open and what is due; and where each event leads (RFC 8949,
 -- section 3).
 use Rattle.std.specs.Prelude.{◌≡◌, ℕ, zero, suc, ◌+◌, ◌<◌, ◌++◌, Bool, true, false, not, List, [], ◌∷◌, length}
-use Rattle.cbor_head.specs.Head.{Holds, IsSimple, head, shortest}
+use Rattle.cbor_head.specs.Prelude.{Holds, IsSimple, head, shortest}
 use Rattle.cbor_head.specs.declared.major.Major.{Major}
 use Rattle.cbor_head.specs.declared.major.Major.TheVariants.{Unsigned, Negative, Bytes, Text, Array, Map, Tag, Simple}
 use Rattle.cbor_head.specs.declared.width.Width.{Width}

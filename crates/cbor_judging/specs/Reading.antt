@@ -2,14 +2,8 @@
 use Rattle.std.specs.Prelude.{◌≡◌, ◌≢◌, ℕ, ◌+◌, ◌-◌, ◌<◌, ◌≤◌, ◌⊎◌, ◌++◌, Bool, true, false, List, [], length, Option, Some, None, IfSome, IsTrue, Result, MatchResult, IsUtf8}
 use Rattle.std.specs.Str.Lossy.{utf8_valid_len}
 use Rattle.std.specs.Io.KnownBytes.{Consumes, IsAtEnd}
-use Rattle.cbor_head.specs.Limits.{Bounds, AreBounds}
+use Rattle.cbor_head.specs.Prelude.{Bounds, AreBounds, Value, AreBytes, Spelling, spell, IsSpelled, depth, value_of, shortest, Rules, form, Complaint, OfHead, OfCount, Complains, IsBeginning, refusal, refused, IsVerdict}
 use Rattle.cbor_head.specs.Value as value
-use Rattle.cbor_head.specs.Value.{Value, AreBytes}
-use Rattle.cbor_head.specs.Spelling.{Spelling, spell, IsSpelled, depth, value_of}
-use Rattle.cbor_head.specs.Head.{shortest}
-use Rattle.cbor_head.specs.Complaint.{Rules, form, Complaint, OfHead, OfCount, Complains}
-use Rattle.cbor_head.specs.Beginning.{IsBeginning}
-use Rattle.cbor_head.specs.Verdict.{refusal, refused, IsVerdict}
 use Rattle.cbor_head.specs.declared.major.Major.{Major}
 use Rattle.cbor_head.specs.declared.major.Major.TheVariants as majors
 use Rattle.cbor_head.specs.declared.width.Width.{Width}

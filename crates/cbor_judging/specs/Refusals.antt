@@ -1,9 +1,7 @@
 -- What a reader's refusal can say: its reason, and what stands before its place.
 use Rattle.std.specs.Prelude.{ℕ, ◌≡◌, ◌≤◌, ◌⊎◌, IsTrue, List, length}
-use Rattle.cbor_head.specs.Complaint.{distinct, rising, Rules, Complaint, IsComplaint}
+use Rattle.cbor_head.specs.Prelude.{distinct, rising, Rules, Complaint, IsComplaint, Bounds, Spelling}
 use Rattle.cbor_head.specs.Laws.{StartsWith}
-use Rattle.cbor_head.specs.Limits.{Bounds}
-use Rattle.cbor_head.specs.Spelling.{Spelling}
 use Rattle.cbor_head.specs.declared.keys.Keys.TheVariants.{IntegersAndTexts}
 use Rattle.cbor_head.specs.declared.order.KeyOrder as order
 use Rattle.cbor_head.specs.declared.reason.Reason.{Reason}

@@ -1,11 +1,9 @@
 -- What may stand where an item is due, and what is refused there.
 use Rattle.std.specs.Prelude.{◌≡◌, ℕ, ◌%◌, ◌<◌, ◌≤◌, ◌⊎◌, ◌++◌, Bool, true, false, List, [], ◌∷◌, length}
-use Rattle.cbor_head.specs.Complaint.{Rules}
-use Rattle.cbor_head.specs.Limits.{Bounds}
+use Rattle.cbor_head.specs.Prelude.{Rules, Bounds, AreBytes}
 use Rattle.cbor_head.specs.declared.reason.Reason.{Reason}
 use Rattle.cbor_head.specs.declared.reason.Reason.TheVariants.{Reserved, NoIndefinite, Float, StrayBreak, TooDeep}
 use Rattle.cbor_head.specs.declared.reason.Refusal.{Refusal}
-use Rattle.cbor_head.specs.Value.{AreBytes}
 use Rattle.cbor_judging.specs.PathKinds.{KeepsHere}
 use Rattle.cbor_judging.specs.Path.{Level, bytes_before, AreClean, MayBreak}
 use Rattle.cbor_judging.specs.Stop.{IsStopped}

@@ -1,8 +1,6 @@
 -- An array or a map of which some members or pairs have been read, without complaint, and its bytes so far.
 use Rattle.std.specs.Prelude.{ℕ, ◌+◌, ◌≤◌, ◌++◌, List, [], length}
-use Rattle.cbor_head.specs.Head.{head}
-use Rattle.cbor_head.specs.Spelling.{Spellings, SpelledEntries, spell_all, spell_entries, AreSpelled, AreEntriesSpelled, HoldsOrIndefinite, depth_all, depth_entries}
-use Rattle.cbor_head.specs.Complaint.{Rules, OfCount, ComplainsIn, ComplainsInEntries}
+use Rattle.cbor_head.specs.Prelude.{head, Spellings, SpelledEntries, spell_all, spell_entries, AreSpelled, AreEntriesSpelled, HoldsOrIndefinite, depth_all, depth_entries, Rules, OfCount, ComplainsIn, ComplainsInEntries}
 use Rattle.cbor_head.specs.declared.major.Major.TheVariants.{Array, Map}
 use Rattle.cbor_head.specs.declared.width.Width.{Width}
 use Rattle.cbor_judging.specs.Judged.{Never}

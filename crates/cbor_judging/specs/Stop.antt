@@ -1,11 +1,7 @@
 -- Why a walk over an item goes no further: what the bytes, all that there are of an input within its limit, have against it.
 use Rattle.std.specs.Prelude.{◌≡◌, ◌≢◌, ℕ, ◌+◌, ◌++◌, ◌⊎◌, List, [], ◌∷◌, length, Some, None}
-use Rattle.cbor_head.specs.Beginning.{MayFollow}
-use Rattle.cbor_head.specs.Complaint.{Rules, Complaint, complaint, plain, strict, OfKinds}
+use Rattle.cbor_head.specs.Prelude.{MayFollow, Rules, Complaint, complaint, plain, strict, OfKinds, Bounds, Spelling, IsReasonAt, refusal}
 use Rattle.cbor_head.specs.Laws.{StartsWith}
-use Rattle.cbor_head.specs.Limits.{Bounds}
-use Rattle.cbor_head.specs.Spelling.{Spelling}
-use Rattle.cbor_head.specs.Verdict.{IsReasonAt, refusal}
 use Rattle.cbor_head.specs.declared.order.KeyOrder as orders
 use Rattle.cbor_head.specs.declared.reason.Reason.TheVariants.{Truncated, TooLong, RepeatedKey, KeyOrder, KeyKind}
 use Rattle.cbor_head.specs.declared.reason.Refusal.{Refusal}

@@ -1,14 +1,14 @@
 -- Keys compared by words of eight bytes.
-use Rattle.std.proofs.Common.{◌≡◌, ◌≢◌, ◌⊎◌, ℕ, zero, suc, ◌+◌, ◌*◌, ◌^◌, ◌<◌, ◌≤◌, ◌++◌, List, [], ◌∷◌, length, length-drop, take, drop, refl, sym, ap, ◌∙◌, arith, inl, inr, mul-le-mul_left, mul-suc}
+use Rattle.std.proofs.Common.{◌≡◌, ◌≢◌, ◌⊎◌, ℕ, zero, suc, ◌+◌, ◌*◌, ◌^◌, ◌<◌, ◌≤◌, ◌++◌, List, [], ◌∷◌, length, length-drop, take, drop, refl, sym, ap, ◌∙◌, arith, inl, inr, mul-le-mul_left, mul-suc, take-take}
 use Rattle.std.proofs.Math.Seq.{take-add}
-use Rattle.std.proofs.lemmas.List.{take-take, drop_all}
+use Rattle.std.proofs.lemmas.List.{drop_all}
 use Rattle.std.proofs.lemmas.Bool.{cases_lt}
 use Rattle.std.proofs.lemmas.Cmp.{ranked, nat_cmp_total, tied_itself}
 use Rattle.std.specs.declared.cmp.Ordering.{Ordering}
 use Rattle.std.specs.declared.cmp.Ordering.TheVariants.{Less, Equal, Greater}
 use Rattle.std.specs.Ordering.{nat_cmp, ordering_then, MatchOrdering}
 use Rattle.std.specs.Cmp.Lexicographic.{slice_cmp}
-use Rattle.cbor_head.specs.Value.{AreBytes}
+use Rattle.cbor_head.specs.Prelude.{AreBytes}
 use Rattle.cbor_keys.specs.Front.{digits, front_of}
 use Rattle.cbor_keys.proofs.KeyFronts.{agree_front, below, bytes_drop}
 

@@ -1,6 +1,5 @@
 -- The open containers in the numbers of a saved machine.
-use Rattle.std.proofs.Common.{◌≡◌, ℕ, zero, suc, ◌+◌, ◌-◌, ◌<◌, List, [], ◌∷◌, ◌++◌, length, take, drop, set, get_or, replicate, Some, refl, sym, ap, ◌∙◌, add-one, arith}
-use Rattle.std.specs.Prelude.{slice_get}
+use Rattle.std.proofs.Common.{◌≡◌, ℕ, zero, suc, ◌+◌, ◌-◌, ◌<◌, List, [], ◌∷◌, ◌++◌, length, take, drop, set, get_or, replicate, Some, refl, sym, ap, ◌∙◌, add-one, arith, slice_get}
 use Rattle.std.proofs.lemmas.List.{drop-replicate, length-replicate, set-get_or, take_more}
 use Rattle.std.proofs.lemmas.Option.{get_or_from_slice_get}
 use Rattle.cbor_steps.specs.declared.frame.Frame.{Frame}

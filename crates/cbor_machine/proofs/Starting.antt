@@ -1,6 +1,6 @@
 -- A machine before an item's first byte.
 use Rattle.std.proofs.Common.{◌≡◌, List, length, [], None, refl, ap, sym, arith}
-use Rattle.cbor_head.specs.Limits.{Bounds}
+use Rattle.cbor_head.specs.Prelude.{Bounds}
 use Rattle.cbor_automaton.specs.Automaton.{at_item, reached}
 use Rattle.cbor_steps.specs.State.{frames_of}
 use Rattle.cbor_steps.specs.declared.frame.Frame.{Frame}

@@ -1,12 +1,8 @@
 -- What is refused where an item is due: its head, what is behind it, or the first byte of a key of another kind.
-use Rattle.std.proofs.Common.{◌≡◌, ◌≢◌, ℕ, ◌+◌, ◌-◌, ◌^◌, ◌/◌, ◌<◌, ◌≤◌, Option, None, List, [], ◌∷◌, ◌++◌, length, map, refl, sym, ap, ◌∙◌, subst, inl, inr, arith, append-nil, IsTrue, IsSome}
+use Rattle.std.proofs.Common.{◌≡◌, ◌≢◌, ℕ, ◌+◌, ◌-◌, ◌^◌, ◌/◌, ◌<◌, ◌≤◌, Option, None, List, [], ◌∷◌, ◌++◌, length, map, refl, sym, ap, ◌∙◌, subst, inl, inr, arith, append-nil, IsTrue, IsSome, length-append}
 use Rattle.std.specs.Io.KnownBytes.{Consumes}
-use Rattle.std.proofs.lemmas.List.{length-append, length-map}
-use Rattle.cbor_head.specs.Beginning.{MayFollow}
-use Rattle.cbor_head.specs.Complaint.{plain, Complaint}
-use Rattle.cbor_head.specs.Limits.{Bounds}
-use Rattle.cbor_head.specs.Spelling.{spell}
-use Rattle.cbor_head.specs.Verdict.{refusal}
+use Rattle.std.proofs.lemmas.List.{length-map}
+use Rattle.cbor_head.specs.Prelude.{MayFollow, plain, Complaint, Bounds, spell, refusal}
 use Rattle.cbor_head.specs.declared.reason.Reason.TheVariants.{KeyKind}
 use Rattle.cbor_head.specs.declared.reason.Refusal.{Refusal}
 use Rattle.cbor_grammar.specs.FirstBytes.{is_basic}

@@ -1,10 +1,7 @@
 -- What was read of the item that is due first is told of each reader, and of its known bytes.
 use Rattle.std.proofs.Common.{ℕ, ◌^◌, ◌≡◌, ◌<◌, ◌≤◌, Option, List, [], length, sym, ◌∙◌, arith, subst}
-use Rattle.cbor_head.specs.Limits.{Bounds, AreBounds}
+use Rattle.cbor_head.specs.Prelude.{Bounds, AreBounds, Value, Spelling, spell, value_of, depth, IsSpelled, plain, Complains}
 use Rattle.cbor_head.specs.declared.limits.TheConstants.{MAX_DEPTH}
-use Rattle.cbor_head.specs.Value.{Value}
-use Rattle.cbor_head.specs.Spelling.{Spelling, spell, value_of, depth, IsSpelled}
-use Rattle.cbor_head.specs.Complaint.{plain, Complains}
 use Rattle.cbor_standing.specs.NextEvent.{ItemEventsView}
 use Rattle.cbor_plain.specs.Size.{size}
 use Rattle.cbor_judging.specs.Kinds.{KeepsToKinds}

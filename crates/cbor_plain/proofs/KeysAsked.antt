@@ -1,9 +1,7 @@
 -- The head of the item that is due, where its kind is asked for and where it is not.
 use Rattle.std.proofs.Common.{◌≡◌, ℕ, ◌+◌, ◌/◌, ◌<◌, Option, Some, None, List, [], ◌∷◌, ◌++◌, length, map, ap, ◌∙◌, subst, inl, inr, arith, IsTrue, IsSome, Result, Ok, Err, MatchResult, length-append}
 use Rattle.std.specs.Io.KnownBytes.{Consumes}
-use Rattle.cbor_head.specs.Beginning.{MayFollow}
-use Rattle.cbor_head.specs.Complaint.{plain}
-use Rattle.cbor_head.specs.Limits.{Bounds}
+use Rattle.cbor_head.specs.Prelude.{MayFollow, plain, Bounds}
 use Rattle.cbor_head.specs.declared.reason.Refusal.{Refusal}
 use Rattle.cbor_grammar.specs.FirstBytes.{is_basic}
 use Rattle.cbor_automaton.specs.declared.event.Event.{Event}

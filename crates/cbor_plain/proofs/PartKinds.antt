@@ -1,12 +1,8 @@
 -- The kinds of keys in what was read: of the first byte of a head, of what a part is, and behind a break.
 use Rattle.std.proofs.Common.{◌≡◌, ◌≢◌, ◌↔◌, ℕ, suc, ◌+◌, ◌-◌, ◌*◌, ◌/◌, ◌^◌, ◌<◌, true, false, Bool, Option, Some, None, List, [], ◌∷◌, ◌++◌, length, map, refl, sym, ◌∙◌, subst, arith, append_assoc, append-nil, IsTrue, IsSome, length-append}
 use Rattle.std.specs.Io.KnownBytes.{Consumes}
-use Rattle.cbor_head.specs.Complaint.{plain, Complaint, OfKinds}
-use Rattle.cbor_head.specs.Head.{head, major_number}
-use Rattle.cbor_head.specs.Limits.{Bounds}
-use Rattle.cbor_head.specs.Spelling.{Spelling, array, a_map, tag, spell, spell_all, spell_entries, spellings_count, value_of, IsSpelled, HoldsOrIndefinite}
+use Rattle.cbor_head.specs.Prelude.{plain, Complaint, OfKinds, head, major_number, Bounds, Spelling, array, a_map, tag, spell, spell_all, spell_entries, spellings_count, value_of, IsSpelled, HoldsOrIndefinite, Value, IsIntegerOrText}
 use Rattle.cbor_head.specs.Value as value
-use Rattle.cbor_head.specs.Value.{Value, IsIntegerOrText}
 use Rattle.cbor_head.specs.declared.major.Major.{Major}
 use Rattle.cbor_head.specs.declared.major.Major.TheVariants as majors
 use Rattle.cbor_head.specs.declared.order.KeyOrder.{KeyOrder}

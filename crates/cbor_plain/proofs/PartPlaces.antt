@@ -1,11 +1,7 @@
 -- What a part of an item is, and where it leads: the containers that are open behind it.
-use Rattle.std.proofs.Common.{◌≡◌, ◌≢◌, ℕ, zero, suc, ◌+◌, ◌-◌, ◌^◌, ◌<◌, ◌≤◌, Bool, true, false, Some, None, List, [], ◌∷◌, ◌++◌, length, map, slice_get, refl, sym, ap, ◌∙◌, subst, arith, append_assoc, append-nil}
-use Rattle.std.proofs.lemmas.List.{length-append, length-map}
-use Rattle.cbor_head.specs.Head.{Holds, IsSimple, head, shortest_head}
-use Rattle.cbor_head.specs.Canonical.{canonical}
-use Rattle.cbor_head.specs.Limits.{Bounds}
-use Rattle.cbor_head.specs.Spelling.{array, a_map, no_spellings, no_entries, spell_all, spell_entries, spellings_count}
-use Rattle.cbor_head.specs.Complaint.{plain}
+use Rattle.std.proofs.Common.{◌≡◌, ◌≢◌, ℕ, zero, suc, ◌+◌, ◌-◌, ◌^◌, ◌<◌, ◌≤◌, Bool, true, false, Some, None, List, [], ◌∷◌, ◌++◌, length, map, slice_get, refl, sym, ap, ◌∙◌, subst, arith, append_assoc, append-nil, length-append}
+use Rattle.std.proofs.lemmas.List.{length-map}
+use Rattle.cbor_head.specs.Prelude.{Holds, IsSimple, head, shortest_head, canonical, Bounds, array, a_map, no_spellings, no_entries, spell_all, spell_entries, spellings_count, plain}
 use Rattle.cbor_head.specs.declared.major.Major.{Major}
 use Rattle.cbor_head.specs.declared.major.Major.TheVariants as majors
 use Rattle.cbor_head.specs.declared.order.KeyOrder.{KeyOrder}

@@ -1,10 +1,8 @@
 -- The open containers in a builder that has no two keys that are the same: what is found of the item is found of the whole.
 use Rattle.std.proofs.Common.{ℕ, suc, ◌+◌, ◌-◌, ◌^◌, ◌<◌, Option, Some, List, [], ◌∷◌, ◌++◌, length, map, subst, arith}
 use Rattle.std.proofs.lemmas.List.{map-append}
-use Rattle.cbor_head.specs.Canonical.{Pair, canonical, canonical_entries}
-use Rattle.cbor_head.specs.Spelling.{Spelling, SpelledEntries, spell, value_of, entries_of}
+use Rattle.cbor_head.specs.Prelude.{Pair, canonical, canonical_entries, Spelling, SpelledEntries, spell, value_of, entries_of, plain, Complaint}
 use Rattle.cbor_head.specs.Complaint as complaint
-use Rattle.cbor_head.specs.Complaint.{plain, Complaint}
 use Rattle.cbor_head.specs.declared.order.KeyOrder.{KeyOrder}
 use Rattle.cbor_head.specs.declared.reason.Reason.TheVariants.{RepeatedKey}
 use Rattle.cbor_builder.specs.Built.{HasKey, IsRepeatedKey, keys_so_far, AreAllDifferent, AreOpenKeysDifferent}

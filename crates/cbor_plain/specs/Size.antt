@@ -1,6 +1,7 @@
 -- How much a value holds.
 use Rattle.std.specs.Prelude.{ℕ, suc, ◌+◌, length}
-use Rattle.cbor_head.specs.Value.{Value, Values, Entries, bytes, text, array, map, tag, no_values, a_value, no_entries, entry}
+use Rattle.cbor_head.specs.Prelude.{Value, Values, Entries, map, no_values, a_value}
+use Rattle.cbor_head.specs.Value.{bytes, text, array, tag, no_entries, entry}
 
 -- its items, at every depth, and the bytes of its strings
 abbrev mutual

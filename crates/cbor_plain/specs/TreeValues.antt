@@ -1,7 +1,6 @@
 -- What a tree builder holds where a reader of events stands.
 use Rattle.std.specs.Prelude.{◌≡◌, true, List, [], ◌∷◌, IsUtf8}
-use Rattle.cbor_head.specs.Spelling.{Spelling, Spellings, SpelledEntries, array, a_map, tag, no_spellings, a_spelling, no_entries, entry, value_of}
-use Rattle.cbor_head.specs.Value.{Value}
+use Rattle.cbor_head.specs.Prelude.{Spelling, Spellings, SpelledEntries, array, a_map, tag, no_spellings, a_spelling, no_entries, entry, value_of, Value}
 use Rattle.cbor_item.specs.OpenValues as parts
 use Rattle.cbor_builder.specs.Built.{IsContainer as IsOpener}
 use Rattle.cbor_item.specs.OpenValues.{OpenItem, OpenValue, the_whole, an_array, a_tag, standing, give, opened}

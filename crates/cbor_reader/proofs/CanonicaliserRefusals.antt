@@ -1,7 +1,6 @@
 -- What a refusal of the canonicaliser can say: where it stands, and its reason.
 use Rattle.std.proofs.Common.{ℕ, List, length, ap, arith, inl, inr}
-use Rattle.cbor_head.specs.Limits.{Bounds}
-use Rattle.cbor_head.specs.Complaint.{plain}
+use Rattle.cbor_head.specs.Prelude.{Bounds, plain}
 use Rattle.cbor_head.specs.declared.order.KeyOrder.{KeyOrder}
 use Rattle.cbor_head.specs.declared.reason.Refusal.{Refusal}
 use Rattle.cbor_judging.specs.Readers.{of_verdict, of_reader, of_memory}

@@ -1,11 +1,7 @@
 -- What two inputs mean: by their canonical bytes, and as a relation of inputs.
-use Rattle.std.proofs.Common.{ℕ, ◌^◌, ◌≡◌, ◌≤◌, ◌↔◌, Bool, List, length, sym, ap, ◌∙◌, subst}
-use Rattle.std.specs.Prelude.{IsTrue}
+use Rattle.std.proofs.Common.{ℕ, ◌^◌, ◌≡◌, ◌≤◌, ◌↔◌, Bool, List, length, sym, ap, ◌∙◌, subst, IsTrue}
 use Rattle.std.specs.Bool.{Decides}
-use Rattle.cbor_head.specs.Canonical.{canonical}
-use Rattle.cbor_head.specs.Limits.{Bounds}
-use Rattle.cbor_head.specs.Spelling.{Spelling, IsItem, value_of}
-use Rattle.cbor_head.specs.Value.{Same}
+use Rattle.cbor_head.specs.Prelude.{canonical, Bounds, Spelling, IsItem, value_of, Same}
 use Rattle.cbor_head.specs.declared.order.KeyOrder.{KeyOrder}
 use Rattle.cbor_head.specs.declared.order.KeyOrder.TheVariants.{Bytewise}
 use Rattle.cbor_canonical.proofs.Keys.{same_exactly}

@@ -4,13 +4,8 @@ use Rattle.std.specs.Char.{encode_utf8}
 use Rattle.std.specs.Str.{chars, is_utf8}
 use Rattle.std.specs.Str.Lossy.{utf8_valid_len}
 use Rattle.std.proofs.lemmas.Str.{is_utf8-from_IsUtf8, IsUtf8-from_is_utf8}
-use Rattle.cbor_head.specs.Complaint.{plain, Complaint, complaint, Complains, IsComplaint}
-use Rattle.cbor_head.specs.Limits.{bounds}
-use Rattle.cbor_head.specs.Spelling.{Spelling, unsigned, negative, text_chunks, a_map, spell, value_of, depth, IsSpelled}
+use Rattle.cbor_head.specs.Prelude.{plain, Complaint, complaint, Complains, IsComplaint, bounds, Spelling, unsigned, negative, text_chunks, a_map, spell, value_of, depth, IsSpelled, IsValid, canonical, IsVerdict, refused, refusal}
 use Rattle.cbor_head.specs.Value as value
-use Rattle.cbor_head.specs.Value.{IsValid}
-use Rattle.cbor_head.specs.Canonical.{canonical}
-use Rattle.cbor_head.specs.Verdict.{IsVerdict, refused, refusal}
 use Rattle.cbor_head.specs.declared.order.KeyOrder.{KeyOrder}
 use Rattle.cbor_head.specs.declared.order.KeyOrder.TheVariants.{Bytewise, LengthFirst}
 use Rattle.cbor_head.specs.declared.reason.Reason.TheVariants.{Truncated, TooLong, InvalidText}

@@ -1,7 +1,7 @@
 -- The headline's clauses on a result, where it is known to be the answer.
 use Rattle.std.proofs.Common.{ℕ, ◌^◌, ◌≢◌, ◌≤◌, List, Result, Ok, Err}
 use Rattle.std.specs.Result.{MatchResult, IfOk, IfErr}
-use Rattle.cbor_head.specs.Limits.{Bounds}
+use Rattle.cbor_head.specs.Prelude.{Bounds}
 use Rattle.cbor_head.specs.declared.order.KeyOrder.{KeyOrder}
 use Rattle.cbor_head.specs.declared.reason.Reason.TheVariants.{Memory}
 use Rattle.cbor_head.specs.declared.reason.Refusal.{Refusal}

@@ -1,10 +1,6 @@
 -- An input has one answer but for want of memory.
 use Rattle.std.proofs.Common.{ℕ, ◌≡◌, ◌≢◌, List, length, sym, ap, ◌∙◌, arith}
-use Rattle.cbor_head.specs.Limits.{Bounds}
-use Rattle.cbor_head.specs.Spelling.{Spelling, spell, value_of}
-use Rattle.cbor_head.specs.Canonical.{canonical}
-use Rattle.cbor_head.specs.Complaint.{Rules, plain}
-use Rattle.cbor_head.specs.Verdict.{IsVerdict, accepted, refusal}
+use Rattle.cbor_head.specs.Prelude.{Bounds, Spelling, spell, value_of, canonical, Rules, plain, IsVerdict, accepted, refusal}
 use Rattle.cbor_head.specs.declared.order.KeyOrder.{KeyOrder}
 use Rattle.cbor_head.specs.declared.reason.Reason.TheVariants.{Trailing, Memory}
 use Rattle.cbor_head.specs.declared.reason.Refusal.{Refusal}

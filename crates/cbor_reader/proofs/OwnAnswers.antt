@@ -1,11 +1,6 @@
 -- Which inputs are their own answers: those that the strict verdict accepts whole.
-use Rattle.std.proofs.Common.{ℕ, ◌≡◌, List, length, sym, ◌∙◌, [], subst, ◌^◌, ◌≤◌, ◌↔◌}
-use Rattle.std.proofs.lemmas.List.{append-nil}
-use Rattle.cbor_head.specs.Limits.{Bounds}
-use Rattle.cbor_head.specs.Spelling.{Spelling, spell, value_of}
-use Rattle.cbor_head.specs.Canonical.{canonical}
-use Rattle.cbor_head.specs.Complaint.{plain, strict}
-use Rattle.cbor_head.specs.Verdict.{accepted, IsVerdict}
+use Rattle.std.proofs.Common.{ℕ, ◌≡◌, List, length, sym, ◌∙◌, [], subst, ◌^◌, ◌≤◌, ◌↔◌, append-nil}
+use Rattle.cbor_head.specs.Prelude.{Bounds, Spelling, spell, value_of, canonical, plain, strict, accepted, IsVerdict}
 use Rattle.cbor_head.specs.declared.order.KeyOrder.{KeyOrder}
 use Rattle.cbor_canonical.proofs.PlainVerdicts.{accepted_plainly}
 use Rattle.cbor_reader.specs.Canonicalise.{IsCanonicalOf}

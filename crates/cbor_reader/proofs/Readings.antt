@@ -1,11 +1,6 @@
 -- What the readers of one input agree on, and what is accepted within wider limits.
-use Rattle.std.proofs.Common.{ℕ, ◌≡◌, ◌≢◌, ◌≤◌, ◌⊎◌, List, length, take, drop, refl, sym, ap, ◌∙◌, arith, subst, inl, inr}
-use Rattle.std.proofs.lemmas.List.{length-take}
-use Rattle.cbor_head.specs.Complaint.{Rules}
-use Rattle.cbor_head.specs.Limits.{Bounds}
-use Rattle.cbor_head.specs.Spelling.{Spelling, spell, value_of}
-use Rattle.cbor_head.specs.Value.{Value}
-use Rattle.cbor_head.specs.Verdict.{accepted, refused, refusal, IsVerdict}
+use Rattle.std.proofs.Common.{ℕ, ◌≡◌, ◌≢◌, ◌≤◌, ◌⊎◌, List, length, take, drop, refl, sym, ap, ◌∙◌, arith, subst, inl, inr, length-take}
+use Rattle.cbor_head.specs.Prelude.{Rules, Bounds, Spelling, spell, value_of, Value, accepted, refused, refusal, IsVerdict}
 use Rattle.cbor_head.specs.declared.keys.Keys.TheVariants.{IntegersAndTexts}
 use Rattle.cbor_head.specs.declared.reason.Reason.{Reason}
 use Rattle.cbor_head.specs.declared.reason.Reason.TheVariants.{Read, Memory, Truncated}

@@ -1,12 +1,6 @@
 -- Whole inputs: from what is read of one to the item that it is, or the refusal; and from that to what `canonicalise` answers.
-use Rattle.std.proofs.Common.{ℕ, ◌<◌, arith, ◌≡◌, ◌≤◌, List, length, refl, sym, ap, ◌∙◌, subst}
-use Rattle.std.specs.Prelude.{◌↔◌}
-use Rattle.cbor_head.specs.Canonical.{canonical}
-use Rattle.cbor_head.specs.Limits.{Bounds}
-use Rattle.cbor_head.specs.Value.{Value}
-use Rattle.cbor_head.specs.Spelling.{Spelling, value_of}
-use Rattle.cbor_head.specs.Complaint.{plain}
-use Rattle.cbor_head.specs.Verdict.{refusal}
+use Rattle.std.proofs.Common.{ℕ, ◌<◌, arith, ◌≡◌, ◌≤◌, List, length, refl, sym, ap, ◌∙◌, subst, ◌↔◌}
+use Rattle.cbor_head.specs.Prelude.{canonical, Bounds, Value, Spelling, value_of, plain, refusal}
 use Rattle.cbor_head.specs.declared.order.KeyOrder.{KeyOrder}
 use Rattle.cbor_head.specs.declared.reason.Reason.TheVariants.{Read, Memory, CanonicalTooLong}
 use Rattle.cbor_head.specs.declared.reason.Refusal.{Refusal}

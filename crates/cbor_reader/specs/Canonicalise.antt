@@ -1,11 +1,6 @@
 -- What an input becomes: the canonical bytes of its item, or the refusal (RFC 8949, sections 4.2 and 5.3).
 use Rattle.std.specs.Prelude.{ℕ, ◌^◌, ◌≡◌, ◌<◌, ◌≤◌, ◌↔◌, ◌⊎◌, List, length}
-use Rattle.cbor_head.specs.Limits.{Bounds}
-use Rattle.cbor_head.specs.Value.{Same}
-use Rattle.cbor_head.specs.Spelling.{Spelling, IsItem, spell, value_of}
-use Rattle.cbor_head.specs.Canonical.{canonical}
-use Rattle.cbor_head.specs.Complaint.{plain}
-use Rattle.cbor_head.specs.Verdict.{IsVerdict, accepted, refusal}
+use Rattle.cbor_head.specs.Prelude.{Bounds, Same, Spelling, IsItem, spell, value_of, canonical, plain, IsVerdict, accepted, refusal}
 use Rattle.cbor_head.specs.declared.order.KeyOrder.{KeyOrder}
 use Rattle.cbor_head.specs.declared.reason.Reason.TheVariants.{Trailing, CanonicalTooLong, Memory}
 use Rattle.cbor_head.specs.declared.reason.Refusal.{Refusal}

@@ -1,9 +1,6 @@
 -- When two inputs mean the same, and which side is refused (RFC 8949, section 5.6.1).
 use Rattle.std.specs.Prelude.{ℕ, List}
-use Rattle.cbor_head.specs.Complaint.{plain}
-use Rattle.cbor_head.specs.Limits.{Bounds}
-use Rattle.cbor_head.specs.Spelling.{Spelling, value_of}
-use Rattle.cbor_head.specs.Value.{Same}
+use Rattle.cbor_head.specs.Prelude.{plain, Bounds, Spelling, value_of, Same}
 use Rattle.cbor_head.specs.declared.reason.Refusal.{Refusal}
 use Rattle.cbor_reader.specs.declared.comparison.Side.{Side}
 use Rattle.cbor_reader.specs.declared.comparison.Side.TheVariants.{Left, Right}

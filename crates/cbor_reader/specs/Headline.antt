@@ -1,10 +1,7 @@
 -- Which inputs are accepted, and what is answered of them (RFC 8949, sections 3, 4.2 and 5.3).
 use Rattle.std.specs.Prelude.{ℕ, ◌≡◌, ◌<◌, ◌≤◌, List, length, IsUtf8}
 use Rattle.std.specs.List.{AllByRecursion}
-use Rattle.cbor_head.specs.Canonical.{canonical}
-use Rattle.cbor_head.specs.Limits.{Bounds}
-use Rattle.cbor_head.specs.Spelling.{Spelling, Spellings, SpelledEntries, text, text_chunks, array, a_map, tag, no_spellings, a_spelling, no_entries, entry, IsItem, value_of}
-use Rattle.cbor_head.specs.Complaint.{plain, Complaint, IsComplaint}
+use Rattle.cbor_head.specs.Prelude.{canonical, Bounds, Spelling, Spellings, SpelledEntries, text, text_chunks, array, a_map, tag, no_spellings, a_spelling, no_entries, entry, IsItem, value_of, plain, Complaint, IsComplaint}
 use Rattle.cbor_head.specs.declared.order.KeyOrder.{KeyOrder}
 
 -- the whole input is this one item: well-formed, valid, and within the limits

@@ -1,9 +1,6 @@
 -- Which inputs are one whole valid item, and why others are not (RFC 8949, sections 3, 4.2 and 5.3).
 use Rattle.std.specs.Prelude.{ℕ, ◌≡◌, ◌≢◌, ◌<◌, List, length}
-use Rattle.cbor_head.specs.Limits.{Bounds}
-use Rattle.cbor_head.specs.Spelling.{Spelling}
-use Rattle.cbor_head.specs.Complaint.{Rules}
-use Rattle.cbor_head.specs.Verdict.{refusal}
+use Rattle.cbor_head.specs.Prelude.{Bounds, Spelling, Rules, refusal}
 use Rattle.cbor_head.specs.declared.reason.Reason.TheVariants.{Trailing, Read}
 use Rattle.cbor_head.specs.declared.reason.Refusal.{Refusal}
 use Rattle.cbor_reader.specs.Headline.{IsValidItem}

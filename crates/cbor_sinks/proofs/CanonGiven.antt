@@ -1,12 +1,7 @@
 -- A builder of canonical bytes that is given the parts of an item: what it stands for behind each.
-use Rattle.std.proofs.Common.{◌≡◌, ℕ, suc, ◌+◌, ◌-◌, ◌^◌, ◌<◌, Bool, true, false, List, [], ◌∷◌, ◌++◌, length, refl, sym, ap, ap₂, ◌∙◌, subst, arith, inl, inr}
-use Rattle.std.specs.Prelude.{◌↔◌, IsNone, Option, Some, None, MatchOption, IfSome, Result, Ok, Err, IfOk}
+use Rattle.std.proofs.Common.{◌≡◌, ℕ, suc, ◌+◌, ◌-◌, ◌^◌, ◌<◌, Bool, true, false, List, [], ◌∷◌, ◌++◌, length, refl, sym, ap, ap₂, ◌∙◌, subst, arith, inl, inr, ◌↔◌, IsNone, Option, Some, None, MatchOption, IfSome, Result, Ok, Err, IfOk, length-append}
 use Rattle.std.specs.Option.{is_some}
-use Rattle.std.proofs.lemmas.List.{length-append}
-use Rattle.cbor_head.specs.Canonical.{canonical, canonical_all, canonical_entries}
-use Rattle.cbor_head.specs.Head.{head, shortest_head}
-use Rattle.cbor_head.specs.Spelling.{Spelling, Spellings, SpelledEntries, array, a_map, spell, spell_all, spellings_count, value_of, values_of, entries_of}
-use Rattle.cbor_head.specs.Value.{Value}
+use Rattle.cbor_head.specs.Prelude.{canonical, canonical_all, canonical_entries, head, shortest_head, Spelling, Spellings, SpelledEntries, array, a_map, spell, spell_all, spellings_count, value_of, values_of, entries_of, Value}
 use Rattle.cbor_head.specs.declared.major.Major.{Major}
 use Rattle.cbor_head.specs.declared.major.Major.TheVariants as majors
 use Rattle.cbor_head.specs.declared.order.KeyOrder.{KeyOrder}

@@ -2,9 +2,7 @@
 use Rattle.std.proofs.Common.{◌≡◌, ℕ, Bool, true, false, List, [], ◌∷◌, ◌++◌, length, refl, sym, ap, ap₂, ◌∙◌, subst, arith}
 use Rattle.cbor_builder.specs.Built.{Built, built, IsInString, TakesPart}
 use Rattle.cbor_canonical.specs.Parts.{Open, a_string, give, extended, close, opened}
-use Rattle.cbor_head.specs.Canonical.{canonical}
-use Rattle.cbor_head.specs.Head.{shortest_head}
-use Rattle.cbor_head.specs.Spelling.{Spelling, value_of}
+use Rattle.cbor_head.specs.Prelude.{canonical, shortest_head, Spelling, value_of}
 use Rattle.cbor_head.specs.declared.order.KeyOrder.{KeyOrder}
 use Rattle.cbor_judging.specs.Levels.{Level, settle}
 use Rattle.cbor_judging.specs.Reading.{string_major, string_value}

@@ -1,13 +1,10 @@
 -- What finds equal keys, and is given the parts of an item: what it stands for behind each.
-use Rattle.std.proofs.Common.{◌≡◌, ℕ, zero, suc, ◌^◌, ◌<◌, Bool, true, false, List, [], ◌∷◌, refl, sym, ap, ◌∙◌, subst, inl, inr, arith}
-use Rattle.std.specs.Prelude.{◌⊎◌, ◌↔◌, IsNone, Option, Result, Ok, Err, IfOk}
+use Rattle.std.proofs.Common.{◌≡◌, ℕ, zero, suc, ◌^◌, ◌<◌, Bool, true, false, List, [], ◌∷◌, refl, sym, ap, ◌∙◌, subst, inl, inr, arith, ◌⊎◌, ◌↔◌, IsNone, Option, Result, Ok, Err, IfOk}
 use Rattle.std.proofs.lemmas.Bool.{false≢true}
 use Rattle.cbor_builder.specs.Built.{Built, built, HasDistinctKeysSoFar, TakesPart, around}
 use Rattle.cbor_builder.specs.declared.repeat.Repeat.{Repeat}
 use Rattle.cbor_canonical.specs.Parts.{IsInContainer, Open, plain, give, close}
-use Rattle.cbor_head.specs.Canonical.{canonical}
-use Rattle.cbor_head.specs.Spelling.{Spelling, array, a_map, value_of}
-use Rattle.cbor_head.specs.Value.{Value}
+use Rattle.cbor_head.specs.Prelude.{canonical, Spelling, array, a_map, value_of, Value}
 use Rattle.cbor_head.specs.declared.order.KeyOrder.{KeyOrder}
 use Rattle.cbor_judging.specs.Given.{level_open, opens, IsFull}
 use Rattle.cbor_judging.specs.Levels.{Level, some_member, some_key, AreLevels, Standing, item_full, settle}

@@ -5,7 +5,7 @@ use Rattle.cbor_builder.specs.declared.repeat.Repeat.{Repeat}
 use Rattle.cbor_canonical.specs.Parts.{Open, plain, an_array, a_map, a_key, a_string}
 use Rattle.cbor_canonical.specs.Parts as parts
 use Rattle.cbor_head.specs.Spelling as spelling
-use Rattle.cbor_head.specs.Spelling.{Spelling}
+use Rattle.cbor_head.specs.Prelude.{Spelling}
 use Rattle.cbor_head.specs.declared.order.KeyOrder.{KeyOrder}
 use Rattle.cbor_judging.specs.Given.{level_open, opens, full_open, IsHeldAs, IsNoMap}
 use Rattle.cbor_judging.specs.Levels.{Level}

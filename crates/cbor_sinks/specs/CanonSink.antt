@@ -1,7 +1,6 @@
 -- What a builder of canonical bytes holds of an item whose parts it took.
 use Rattle.std.specs.Prelude.{ℕ, ◌≡◌, Bool, List, [], ◌∷◌}
-use Rattle.cbor_head.specs.Canonical.{canonical}
-use Rattle.cbor_head.specs.Spelling.{value_of}
+use Rattle.cbor_head.specs.Prelude.{canonical, value_of}
 use Rattle.cbor_builder.specs.Built.{Built}
 use Rattle.cbor_canonical.specs.Parts as parts
 use Rattle.cbor_judging.specs.Given.{opens, IsFull}

@@ -1,12 +1,8 @@
 -- The verdict of form: by its rules nothing is complained of, so a form error decides.
 use Rattle.std.proofs.Common.{◌≡◌, ℕ, ◌+◌, ◌-◌, List, [], ◌++◌, length, take, refl, sym, ap, ◌∙◌, subst, inl, inr, arith, append_assoc, append-nil, length-append}
 use Rattle.std.proofs.lemmas.Bool.{cases_lt}
-use Rattle.cbor_head.specs.Limits.{Bounds, bounds}
-use Rattle.cbor_head.specs.Spelling.{Spelling, IsItem}
-use Rattle.cbor_head.specs.Beginning.{IsLongestBeginning}
-use Rattle.cbor_head.specs.Complaint.{form, Complaint, Complains, IsComplaint}
+use Rattle.cbor_head.specs.Prelude.{Bounds, bounds, Spelling, IsItem, IsLongestBeginning, form, Complaint, Complains, IsComplaint, IsVerdict}
 use Rattle.cbor_head.specs.Verdict as verdict
-use Rattle.cbor_head.specs.Verdict.{IsVerdict}
 use Rattle.cbor_head.specs.declared.reason.Refusal.{Refusal}
 use Rattle.cbor_grammar.proofs.Agree.{split_front}
 use Rattle.cbor_grammar.proofs.KindsUnasked.{form_complaint}

@@ -2,12 +2,7 @@
 use Rattle.std.proofs.Common.{◌≡◌, ℕ, ◌+◌, ◌<◌, ◌≤◌, ◌⊎◌, inl, inr, List, [], ◌∷◌, ◌++◌, length, refl, sym, ap, subst, ◌∙◌, arith, append-nil, append_assoc, length-append, take, take_all, Option}
 use Rattle.std.specs.Io.KnownBytes.{Consumes, IsAtEnd}
 use Rattle.std.proofs.KnownBytes.{Consumes-trans}
-use Rattle.cbor_head.specs.Limits.{Bounds, bounds}
-use Rattle.cbor_head.specs.Value.{AreBytes}
-use Rattle.cbor_head.specs.Beginning.{IsBeginning}
-use Rattle.cbor_head.specs.Spelling.{IsItem}
-use Rattle.cbor_head.specs.Complaint.{form}
-use Rattle.cbor_head.specs.Verdict.{refusal, refused, IsVerdict}
+use Rattle.cbor_head.specs.Prelude.{Bounds, bounds, AreBytes, IsBeginning, IsItem, form, refusal, refused, IsVerdict}
 use Rattle.cbor_head.specs.declared.reason.Reason.{Reason}
 use Rattle.cbor_head.specs.declared.reason.Reason.TheVariants.{Read, Truncated, TooLong}
 use Rattle.cbor_head.specs.declared.reason.Refusal.{Refusal}

@@ -1,8 +1,7 @@
 -- What a machine stands for, after each kind of step.
 use Rattle.std.proofs.Common.{◌≡◌, ◌⊎◌, ℕ, zero, suc, ◌+◌, ◌-◌, ◌≤◌, ◌<◌, List, [], ◌∷◌, ◌++◌, length, take, drop, None, refl, ap, sym, ◌∙◌, arith, append-nil, append_assoc, subst, inl, inr, length-append, length-take, take-take}
 use Rattle.std.proofs.Math.Seq.{take-append_seam}
-use Rattle.cbor_head.specs.Value.{AreBytes}
-use Rattle.cbor_head.specs.Verdict.{refusal}
+use Rattle.cbor_head.specs.Prelude.{AreBytes, refusal}
 use Rattle.cbor_head.specs.declared.reason.Reason.TheVariants.{TooLong}
 use Rattle.cbor_head.specs.declared.reason.Refusal.{Refusal}
 use Rattle.cbor_automaton.specs.Trace.{Mark, total}

@@ -1,10 +1,6 @@
 -- What a machine stands for: the bytes taken so far, and the marks told.
 use Rattle.std.specs.Prelude.{true, ◌≡◌, ◌↔◌, ◌⊎◌, ℕ, ◌-◌, ◌≤◌, ◌++◌, min, List, length, take, drop, Option, Some, None, IfSome}
-use Rattle.cbor_head.specs.Limits.{Bounds, bounds}
-use Rattle.cbor_head.specs.Value.{AreBytes}
-use Rattle.cbor_head.specs.Spelling.{Spelling, IsItem}
-use Rattle.cbor_head.specs.Beginning.{IsBeginning, IsLongestBeginning}
-use Rattle.cbor_head.specs.Verdict.{IsFormError}
+use Rattle.cbor_head.specs.Prelude.{Bounds, bounds, AreBytes, Spelling, IsItem, IsBeginning, IsLongestBeginning, IsFormError}
 use Rattle.cbor_head.specs.declared.reason.Refusal.{Refusal}
 use Rattle.cbor_automaton.specs.Trace.{Mark, total, trace, within}
 use Rattle.cbor_automaton.specs.Open.{open_after}

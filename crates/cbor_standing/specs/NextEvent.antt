@@ -1,10 +1,7 @@
 -- What is told of an item that is read from a reader.
 use Rattle.std.specs.Prelude.{◌≡◌, ℕ, ◌+◌, ◌<◌, ◌⊎◌, ◌++◌, Bool, true, false, List, [], ◌∷◌, length, Option, Some, None, Result, Ok, Err}
 use Rattle.std.specs.Io.KnownBytes.{Consumes, IsAtEnd}
-use Rattle.cbor_head.specs.Beginning.{MayFollow}
-use Rattle.cbor_head.specs.Complaint.{form}
-use Rattle.cbor_head.specs.Limits.{bounds}
-use Rattle.cbor_head.specs.Verdict.{refusal, refused, IsVerdict}
+use Rattle.cbor_head.specs.Prelude.{MayFollow, form, bounds, refusal, refused, IsVerdict}
 use Rattle.cbor_head.specs.declared.reason.Reason.TheVariants.{Read, Truncated, TooLong}
 use Rattle.cbor_head.specs.declared.reason.Refusal.{Refusal}
 use Rattle.cbor_automaton.specs.Trace.{Mark, total}

@@ -1,6 +1,6 @@
 -- What a step does with the inner state.
 use Rattle.std.specs.Prelude.{◌≡◌, ◌⊎◌, ℕ, ◌+◌, ◌++◌, List, [], ◌∷◌, length, None}
-use Rattle.cbor_head.specs.Verdict.{refusal}
+use Rattle.cbor_head.specs.Prelude.{refusal}
 use Rattle.cbor_head.specs.declared.reason.Reason.TheVariants.{TooLong}
 use Rattle.cbor_head.specs.declared.reason.Refusal.{Refusal}
 use Rattle.cbor_automaton.specs.Trace.{Mark}

@@ -2,7 +2,7 @@
 use Rattle.std.specs.Prelude.{◌≡◌, ℕ, ◌+◌, ◌≤◌, Bool, true, false, List, [], ◌∷◌, ◌++◌, map, take, drop, length}
 use Rattle.cbor_automaton.specs.Automaton as automaton
 use Rattle.cbor_automaton.specs.Automaton.{indefinite_array, indefinite_map}
-use Rattle.cbor_head.specs.Verdict.{initial_reason}
+use Rattle.cbor_head.specs.Prelude.{initial_reason}
 use Rattle.cbor_automaton.specs.Trace.{a_break}
 use Rattle.cbor_steps.specs.State.{frames_of, state_of}
 use Rattle.cbor_steps.specs.declared.frame.Frame.{Frame}

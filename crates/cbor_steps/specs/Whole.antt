@@ -1,6 +1,6 @@
 -- Events that are taken from a slice at once.
 use Rattle.std.specs.Prelude.{◌≡◌, ℕ, ◌+◌, ◌-◌, ◌/◌, ◌%◌, ◌<◌, ◌≤◌, Bool, true, List, [], ◌∷◌, ◌++◌, length, take}
-use Rattle.cbor_head.specs.Head.{Holds, IsSimple, with_argument}
+use Rattle.cbor_head.specs.Prelude.{Holds, IsSimple, with_argument}
 use Rattle.cbor_head.specs.declared.major.Major.{Major}
 use Rattle.cbor_head.specs.declared.width.Width.{Width}
 use Rattle.cbor_automaton.specs.Automaton.{Frame, State, in_head, after, mark, run, reached, has_room, major_at}

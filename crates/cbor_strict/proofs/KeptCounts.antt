@@ -1,7 +1,6 @@
 -- How many maps are open, and how many bytes of keys are kept, is what each item that starts with the bytes read tells of them.
 use Rattle.std.proofs.Common.{◌≡◌, ℕ, ◌+◌, ◌-◌, ◌<◌, ◌≤◌, List, [], ◌∷◌, ◌++◌, length, refl, sym, ap, ◌∙◌, subst, arith, append_assoc, le-ltb, length-append}
-use Rattle.cbor_head.specs.Head.{head}
-use Rattle.cbor_head.specs.Spelling.{Spelling, Spellings, array, a_map, tag, no_spellings, a_spelling, spell, spell_all, spellings_count, entries_count, break_of, IsSpelled}
+use Rattle.cbor_head.specs.Prelude.{head, Spelling, Spellings, array, a_map, tag, no_spellings, a_spelling, spell, spell_all, spellings_count, entries_count, break_of, IsSpelled}
 use Rattle.cbor_head.specs.declared.major.Major.TheVariants.{Array, Map, Tag}
 use Rattle.cbor_automaton.proofs.Opens.{over-none}
 use Rattle.cbor_strict.specs.KeptKeys.{open_maps, open_maps_in, key_bytes, key_bytes_in}

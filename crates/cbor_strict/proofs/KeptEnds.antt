@@ -1,8 +1,7 @@
 -- What is kept of the keys where a container ends, and those around it.
 use Rattle.std.proofs.Common.{◌≡◌, ◌≢◌, ℕ, suc, ◌+◌, ◌<◌, ◌≤◌, Bool, true, false, List, [], ◌∷◌, ◌++◌, length, take, refl, sym, ap, ◌∙◌, subst, inl, inr, arith, append-nil, if◌then◌else◌, length-append}
 use Rattle.std.proofs.Math.Seq.{take-append_seam}
-use Rattle.cbor_head.specs.Head.{head}
-use Rattle.cbor_head.specs.Spelling.{Spelling, SpelledEntries, no_spellings, no_entries, entry, spell, spell_entries, entries_count}
+use Rattle.cbor_head.specs.Prelude.{head, Spelling, SpelledEntries, no_spellings, no_entries, entry, spell, spell_entries, entries_count}
 use Rattle.cbor_head.specs.declared.major.Major.TheVariants.{Map}
 use Rattle.cbor_head.specs.declared.width.Width.{Width}
 use Rattle.cbor_head.specs.declared.width.Width.TheVariants.{Indefinite}

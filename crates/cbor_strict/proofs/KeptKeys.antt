@@ -1,7 +1,6 @@
 -- What is kept of a path of open containers for the order of keys: within a key, and where a container opens.
 use Rattle.std.proofs.Common.{◌≡◌, ℕ, zero, suc, ◌+◌, ◌<◌, ◌≤◌, ◌⊎◌, Bool, true, false, true≢false, List, [], ◌∷◌, ◌++◌, length, refl, sym, ap, ◌∙◌, inl, inr, arith, append_assoc, append-nil, if◌then◌else◌, ◌↔◌, IsTrue, Result, Ok, Err, OnOk, is_ok, length-append}
-use Rattle.cbor_head.specs.Head.{head}
-use Rattle.cbor_head.specs.Spelling.{Spelling, SpelledEntries, no_entries, entries_count}
+use Rattle.cbor_head.specs.Prelude.{head, Spelling, SpelledEntries, no_entries, entries_count}
 use Rattle.cbor_head.specs.declared.major.Major.TheVariants.{Map}
 use Rattle.cbor_head.specs.declared.width.Width.{Width}
 use Rattle.cbor_strict.specs.declared.last_keys.Due.{Due}

@@ -1,13 +1,8 @@
 -- What becomes of the open containers as the parts of a payload come.
 use Rattle.std.proofs.Common.{◌≡◌, ℕ, ◌+◌, ◌-◌, ◌<◌, ◌≤◌, Bool, true, false, Option, Some, None, List, [], ◌++◌, length, replicate, refl, sym, ap, ◌∙◌, subst, inl, inr, arith, append_assoc, append-nil, IsUtf8, length-append}
 use Rattle.std.specs.Str.Lossy.{utf8_valid_len}
-use Rattle.cbor_head.specs.Head.{Holds, head}
-use Rattle.cbor_head.specs.Limits.{Bounds}
-use Rattle.cbor_head.specs.Value.{AreBytes}
-use Rattle.cbor_head.specs.Spelling.{spell}
+use Rattle.cbor_head.specs.Prelude.{Holds, head, Bounds, AreBytes, spell, Rules, strict, OfHead, Complains, refusal}
 use Rattle.cbor_head.specs.Complaint as complaint
-use Rattle.cbor_head.specs.Complaint.{Rules, strict, OfHead, Complains}
-use Rattle.cbor_head.specs.Verdict.{refusal}
 use Rattle.cbor_head.specs.declared.major.Major.TheVariants as majors
 use Rattle.cbor_head.specs.declared.order.KeyOrder.{KeyOrder}
 use Rattle.cbor_head.specs.declared.reason.Reason.TheVariants.{Memory, InvalidText}

@@ -1,10 +1,6 @@
 -- That no key of another kind begins in what was read, from one event to the next.
 use Rattle.std.proofs.Common.{◌≡◌, ℕ, ◌+◌, ◌-◌, ◌<◌, ◌≤◌, ◌↔◌, Bool, true, false, List, [], ◌∷◌, ◌++◌, length, replicate, refl, sym, ap, ◌∙◌, subst, inr, arith, append_assoc, length-append}
-use Rattle.cbor_head.specs.Head.{Holds, head}
-use Rattle.cbor_head.specs.Limits.{Bounds}
-use Rattle.cbor_head.specs.Value.{AreBytes}
-use Rattle.cbor_head.specs.Spelling.{HoldsOrIndefinite}
-use Rattle.cbor_head.specs.Complaint.{Rules}
+use Rattle.cbor_head.specs.Prelude.{Holds, head, Bounds, AreBytes, HoldsOrIndefinite, Rules}
 use Rattle.cbor_head.specs.declared.major.Major.TheVariants as majors
 use Rattle.cbor_head.specs.declared.width.Width.{Width}
 use Rattle.cbor_grammar.proofs.ReadLaws.{length_head}

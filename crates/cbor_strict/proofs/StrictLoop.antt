@@ -4,9 +4,7 @@ use Rattle.std.specs.Option.{IfSome}
 use Rattle.std.proofs.Math.Seq.{take-append-add}
 use Rattle.std.specs.Io.KnownBytes.{Consumes}
 use Rattle.std.proofs.KnownBytes.{Consumes-nil, Consumes-trans}
-use Rattle.cbor_head.specs.Limits.{Bounds, AreBounds}
-use Rattle.cbor_head.specs.Spelling.{Spelling, IsItem, spell}
-use Rattle.cbor_head.specs.Complaint.{strict, Complaint, IsComplaint}
+use Rattle.cbor_head.specs.Prelude.{Bounds, AreBounds, Spelling, IsItem, spell, strict, Complaint, IsComplaint}
 use Rattle.cbor_head.specs.declared.order.KeyOrder.{KeyOrder}
 use Rattle.cbor_head.specs.declared.reason.Refusal.{Refusal}
 use Rattle.cbor_grammar.proofs.Accepted.{accepts_exactly}

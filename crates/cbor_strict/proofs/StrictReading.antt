@@ -1,12 +1,8 @@
 -- What the strict reader's state says of the bytes behind it.
 use Rattle.std.proofs.Common.{◌≡◌, ℕ, ◌-◌, ◌≤◌, ◌⊎◌, Option, Some, None, List, [], ◌++◌, length, refl, sym, ap, ◌∙◌, subst, inl, inr, arith, append-nil, Ok, Err}
 use Rattle.std.specs.Option.{IfSome}
-use Rattle.cbor_head.specs.Head.{head}
-use Rattle.cbor_head.specs.Limits.{Bounds, AreBounds, bounds, with_keys}
-use Rattle.cbor_head.specs.Spelling.{Spelling, IsItem}
-use Rattle.cbor_head.specs.Complaint.{Rules, strict, Complains}
+use Rattle.cbor_head.specs.Prelude.{head, Bounds, AreBounds, bounds, with_keys, Spelling, IsItem, Rules, strict, Complains, HasNoneOf}
 use Rattle.cbor_head.specs.Laws.{StartsWith}
-use Rattle.cbor_head.specs.Verdict.{HasNoneOf}
 use Rattle.cbor_head.specs.declared.keys.Keys.{Keys}
 use Rattle.cbor_head.specs.declared.order.KeyOrder.{KeyOrder}
 use Rattle.cbor_head.specs.declared.reason.Refusal.{Refusal}

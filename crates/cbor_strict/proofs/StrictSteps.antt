@@ -1,9 +1,6 @@
 -- From one event to the next, by the strict rules.
 use Rattle.std.proofs.Common.{◌≡◌, ℕ, zero, suc, ◌<◌, Bool, true, false, true≢false, Option, Some, None, List, [], ◌++◌, length, refl, sym, ap, ◌∙◌, subst, inl, inr, arith, append_assoc, length-append, Ok}
-use Rattle.cbor_head.specs.Head.{head}
-use Rattle.cbor_head.specs.Limits.{Bounds}
-use Rattle.cbor_head.specs.Value.{AreBytes}
-use Rattle.cbor_head.specs.Complaint.{strict}
+use Rattle.cbor_head.specs.Prelude.{head, Bounds, AreBytes, strict, IsBeginning}
 use Rattle.cbor_head.specs.declared.major.Major.{Major}
 use Rattle.cbor_judging.specs.Place.{Container, Place, at_item, payload, done, IsTaking}
 use Rattle.cbor_automaton.specs.Trace.{Mark, a_break}
@@ -21,7 +18,6 @@ use Rattle.cbor_strict.specs.inner.LastKeys.{from_outside}
 use Rattle.cbor_strict.proofs.OpenBegins.{no_break, room_left}
 use Rattle.cbor_strict.proofs.StrictKinds.{basic_kind, keeps_mark, keeps_string}
 use Rattle.cbor_events.specs.NextKey.{IsBasicKind}
-use Rattle.cbor_head.specs.Beginning.{IsBeginning}
 use Rattle.cbor_judging.specs.Kinds.{AsksForKinds, KeepsToKinds, IsKeyDue}
 use Rattle.cbor_judging.proofs.Items.{taking-some}
 use Rattle.cbor_judging.proofs.ByteLists.{bytes_join}

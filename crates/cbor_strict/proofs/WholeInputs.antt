@@ -1,8 +1,7 @@
 -- From what is read of an input to the answers that are public.
 use Rattle.std.proofs.Common.{ℕ, ◌≢◌, Option, Some, None, List}
 use Rattle.std.specs.Option.{IfSome}
-use Rattle.cbor_head.specs.Limits.{Bounds}
-use Rattle.cbor_head.specs.Complaint.{strict}
+use Rattle.cbor_head.specs.Prelude.{Bounds, strict}
 use Rattle.cbor_head.specs.declared.order.KeyOrder.{KeyOrder}
 use Rattle.cbor_head.specs.declared.reason.Reason.TheVariants.{Read, Memory}
 use Rattle.cbor_head.specs.declared.reason.Refusal.{Refusal}

@@ -1,9 +1,7 @@
 -- What the strict reader tells of the item at the front of an input, event by event (RFC 8949, section 4.2).
 use Rattle.std.specs.Prelude.{◌≡◌, ℕ, ◌≤◌, ◌⊎◌, ◌++◌, List, length, Option, Some, None, Result, Ok, Err, IfSome}
 use Rattle.std.specs.Io.KnownBytes.{Consumes}
-use Rattle.cbor_head.specs.Limits.{Bounds, bounds, with_keys}
-use Rattle.cbor_head.specs.Spelling.{Spelling}
-use Rattle.cbor_head.specs.Complaint.{strict}
+use Rattle.cbor_head.specs.Prelude.{Bounds, bounds, with_keys, Spelling, strict}
 use Rattle.cbor_head.specs.Laws.{StartsWith, IsWithout}
 use Rattle.cbor_head.specs.declared.keys.Keys.{Keys}
 use Rattle.cbor_head.specs.declared.order.KeyOrder.{KeyOrder}

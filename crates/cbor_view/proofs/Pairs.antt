@@ -1,7 +1,8 @@
 -- Pairs of views, one after the other.
 use Rattle.std.proofs.Common.{◌≡◌, ℕ, zero, suc, ◌+◌, ◌≤◌, List, [], ◌∷◌, length, drop, slice_get, Some, ◌↔◌, ◌⊎◌, inl, inr, refl, sym, ap, ◌∙◌, subst, arith, add-one, get_or, Bool, IsTrue}
 use Rattle.std.proofs.lemmas.Option.{get_or_from_slice_get}
-use Rattle.cbor_head.specs.Value.{Values, Entries, Same, SameValues, Covered, AnyEntry, IsValid, AreEntriesValid, values_count, entries_count}
+use Rattle.cbor_head.specs.Prelude.{Values, Entries, Same, SameValues, Covered, AnyEntry, IsValid, AreEntriesValid, values_count}
+use Rattle.cbor_head.specs.Value.{entries_count}
 use Rattle.cbor_head.specs.Value as value
 use Rattle.cbor_item.specs.View.{values_of}
 use Rattle.cbor_item.proofs.Counting.{same_by_count}

@@ -1,6 +1,7 @@
 -- Members of arrays by their index, and values of maps by their keys (RFC 8949, section 5.6).
 use Rattle.std.specs.Prelude.{ℕ, zero, suc, Option, Some, None}
-use Rattle.cbor_head.specs.Value.{Value, Values, array, map, no_values, a_value, HasEntry, Same}
+use Rattle.cbor_head.specs.Prelude.{Value, Values, map, no_values, a_value, HasEntry, Same}
+use Rattle.cbor_head.specs.Value.{array}
 
 -- from the first on, which has index 0
 abbrev pub member_at : Values → ℕ → Option Value

@@ -1,8 +1,6 @@
 -- Why nothing valid stands where an item is due: what any rules have against it, and the kinds of keys.
-use Rattle.std.proofs.Common.{◌≡◌, ℕ, ◌+◌, ◌/◌, Bool, true, false, List, [], ◌∷◌, refl, sym, subst}
-use Rattle.std.specs.Prelude.{IsTrue, Option, Some, None, MatchOption, IfSome}
-use Rattle.cbor_head.specs.Complaint.{plain, OfHead}
-use Rattle.cbor_head.specs.Verdict.{refusal}
+use Rattle.std.proofs.Common.{◌≡◌, ℕ, ◌+◌, ◌/◌, Bool, true, false, List, [], ◌∷◌, refl, sym, subst, IsTrue, Option, Some, None, MatchOption, IfSome}
+use Rattle.cbor_head.specs.Prelude.{plain, OfHead, refusal}
 use Rattle.cbor_head.specs.declared.major.Major.{Major}
 use Rattle.cbor_head.specs.declared.reason.Reason.{Reason}
 use Rattle.cbor_head.specs.declared.reason.Reason.TheVariants.{Truncated, KeyKind}

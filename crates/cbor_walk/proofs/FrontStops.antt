@@ -1,7 +1,6 @@
 -- What the refusal tells where a walk over the item at the front of an input stops.
 use Rattle.std.proofs.Common.{◌≢◌, ℕ, List, take, refl, sym, ap, subst, inl, inr, arith}
-use Rattle.cbor_head.specs.Complaint.{plain}
-use Rattle.cbor_head.specs.Limits.{Bounds}
+use Rattle.cbor_head.specs.Prelude.{plain, Bounds}
 use Rattle.cbor_head.specs.declared.reason.Reason.{Reason}
 use Rattle.cbor_head.specs.declared.reason.Reason.TheVariants.{Read}
 use Rattle.cbor_head.specs.declared.reason.Refusal.{Refusal}

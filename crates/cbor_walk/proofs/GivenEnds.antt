@@ -1,9 +1,6 @@
 -- A valid item, given to a sink: what an item's end makes of the open containers, and the break.
-use Rattle.std.proofs.Common.{◌≡◌, ℕ, Bool, zero, suc, ◌-◌, ◌^◌, ◌<◌, ◌≤◌, true, false, Some, None, List, [], ◌∷◌, ◌++◌, length, map, refl, sym, ap, ap₂, ◌∙◌, subst, arith, inl, inr, append_assoc}
-use Rattle.std.proofs.lemmas.List.{length-append}
-use Rattle.cbor_head.specs.Canonical.{canonical}
-use Rattle.cbor_head.specs.Head.{head}
-use Rattle.cbor_head.specs.Spelling.{Spelling, array, a_map, tag, no_spellings, a_spelling, no_entries, entry, spell, spell_all, spell_entries, value_of, IsSpelled, depth}
+use Rattle.std.proofs.Common.{◌≡◌, ℕ, Bool, zero, suc, ◌-◌, ◌^◌, ◌<◌, ◌≤◌, true, false, Some, None, List, [], ◌∷◌, ◌++◌, length, map, refl, sym, ap, ap₂, ◌∙◌, subst, arith, inl, inr, append_assoc, length-append}
+use Rattle.cbor_head.specs.Prelude.{canonical, head, Spelling, array, a_map, tag, no_spellings, a_spelling, no_entries, entry, spell, spell_all, spell_entries, value_of, IsSpelled, depth}
 use Rattle.cbor_head.specs.declared.major.Major.TheVariants as majors
 use Rattle.cbor_head.specs.declared.order.KeyOrder.TheVariants.{Bytewise}
 use Rattle.cbor_head.specs.declared.width.Width.TheVariants.{Indefinite}

@@ -1,7 +1,6 @@
 -- A container without more to come, given to a sink: it ends, or a key is told that is the same as an earlier one.
-use Rattle.std.proofs.Common.{◌≡◌, ℕ, Bool, ◌<◌, List, [], ◌∷◌, ◌++◌, length, refl, sym, ◌∙◌, ap, subst, inl, inr, arith}
-use Rattle.std.proofs.lemmas.List.{length-append}
-use Rattle.cbor_head.specs.Spelling.{Spelling, array, a_map, spell}
+use Rattle.std.proofs.Common.{◌≡◌, ℕ, Bool, ◌<◌, List, [], ◌∷◌, ◌++◌, length, refl, sym, ◌∙◌, ap, subst, inl, inr, arith, length-append}
+use Rattle.cbor_head.specs.Prelude.{Spelling, array, a_map, spell}
 use Rattle.cbor_builder.specs.declared.repeat.Repeat.{Repeat}
 use Rattle.cbor_judging.proofs.CleanParts.{clean-within}
 use Rattle.cbor_judging.specs.Levels.{Level, some_member, some_key, bytes_before, Standing}

@@ -1,11 +1,7 @@
 -- The parts of a valid item, by their bytes: items without members, and the openers of containers.
-use Rattle.std.proofs.Common.{◌≡◌, ℕ, suc, ◌+◌, ◌-◌, ◌*◌, ◌%◌, ◌<◌, ◌≤◌, Bool, true, false, List, [], ◌∷◌, ◌++◌, length, take, drop, refl, sym, ap, ap₂, ◌∙◌, subst, arith, inl, inr, append_assoc, append-nil}
-use Rattle.std.specs.Prelude.{IsUtf8}
+use Rattle.std.proofs.Common.{◌≡◌, ℕ, suc, ◌+◌, ◌-◌, ◌*◌, ◌%◌, ◌<◌, ◌≤◌, Bool, true, false, List, [], ◌∷◌, ◌++◌, length, take, drop, refl, sym, ap, ap₂, ◌∙◌, subst, arith, inl, inr, append_assoc, append-nil, IsUtf8, length-append, length-take-le, take-append-drop}
 use Rattle.std.proofs.lemmas.Bool.{cases_lt}
-use Rattle.std.proofs.lemmas.List.{length-append, length-take-le, take-append-drop}
-use Rattle.cbor_head.specs.Head.{Holds, IsSimple, head, major_number, shortest}
-use Rattle.cbor_head.specs.Spelling.{Spelling, unsigned, negative, bytes, text, simple, no_spellings, no_entries, spell, value_of, HoldsOrIndefinite}
-use Rattle.cbor_head.specs.Value.{Value, AreBytes}
+use Rattle.cbor_head.specs.Prelude.{Holds, IsSimple, head, major_number, shortest, Spelling, unsigned, negative, bytes, text, simple, no_spellings, no_entries, spell, value_of, HoldsOrIndefinite, Value, AreBytes}
 use Rattle.cbor_head.specs.declared.major.Major.{Major}
 use Rattle.cbor_head.specs.declared.major.Major.TheVariants as majors
 use Rattle.cbor_head.specs.declared.width.Width.{Width}

@@ -1,7 +1,6 @@
 -- The open map that is told, among the cells.
-use Rattle.std.proofs.Common.{◌≡◌, ℕ, zero, suc, ◌+◌, ◌<◌, ◌≤◌, Bool, true, false, Some, List, [], ◌∷◌, ◌++◌, length, take, drop, get_or, refl, sym, ap, ◌∙◌, arith, append_assoc}
-use Rattle.std.specs.Prelude.{reverse}
-use Rattle.std.proofs.lemmas.List.{reverse-append, reverse-reverse, take_all, take_more, take-append-drop, drop_more}
+use Rattle.std.proofs.Common.{◌≡◌, ℕ, zero, suc, ◌+◌, ◌<◌, ◌≤◌, Bool, true, false, Some, List, [], ◌∷◌, ◌++◌, length, take, drop, get_or, refl, sym, ap, ◌∙◌, arith, append_assoc, reverse, take_all, take-append-drop}
+use Rattle.std.proofs.lemmas.List.{reverse-append, reverse-reverse, take_more, drop_more}
 use Rattle.cbor_front.specs.Due.{pairs}
 use Rattle.cbor_walk.specs.inner.OpenMaps.{map_cells, counts_one}
 use Rattle.cbor_walk.specs.declared.open.Open.{Open}

@@ -1,12 +1,7 @@
 -- The open map with a key that is the same as an earlier one, and the verdict.
-use Rattle.std.proofs.Common.{◌≡◌, ℕ, suc, ◌+◌, ◌-◌, ◌^◌, ◌<◌, ◌≤◌, true, List, [], ◌∷◌, ◌++◌, length, take, refl, sym, ap, ◌∙◌, subst, inl, inr, arith, append_assoc, append-nil, ◌⊎◌}
-use Rattle.std.proofs.lemmas.List.{length-append}
-use Rattle.cbor_head.specs.Beginning.{IsBeginning}
-use Rattle.cbor_head.specs.Complaint.{plain, complaint}
-use Rattle.cbor_head.specs.Limits.{Bounds}
+use Rattle.std.proofs.Common.{◌≡◌, ℕ, suc, ◌+◌, ◌-◌, ◌^◌, ◌<◌, ◌≤◌, true, List, [], ◌∷◌, ◌++◌, length, take, refl, sym, ap, ◌∙◌, subst, inl, inr, arith, append_assoc, append-nil, ◌⊎◌, length-append}
+use Rattle.cbor_head.specs.Prelude.{IsBeginning, plain, complaint, Bounds, Spelling, array, a_map, unsigned, spell, IsSpelled, depth, IsVerdict, refused, refusal}
 use Rattle.cbor_head.specs.Spelling as spelling
-use Rattle.cbor_head.specs.Spelling.{Spelling, array, a_map, unsigned, spell, IsSpelled, depth}
-use Rattle.cbor_head.specs.Verdict.{IsVerdict, refused, refusal}
 use Rattle.cbor_head.specs.declared.order.KeyOrder.{KeyOrder}
 use Rattle.cbor_head.specs.declared.reason.Reason.TheVariants.{RepeatedKey}
 use Rattle.cbor_head.specs.declared.width.Width.TheVariants.{Direct}

@@ -1,7 +1,6 @@
 -- Where a walk stops and the sink tells a key that is the same as an earlier one: the cell of its map, and what is told of it.
 use Rattle.std.proofs.Common.{◌≡◌, ◌≤◌, ℕ, ◌^◌, Bool, Bor, Option, List, [], ◌∷◌, ◌++◌, length, refl, sym, ap, ◌∙◌, subst, append_assoc, inl, inr}
-use Rattle.cbor_head.specs.Limits.{Bounds}
-use Rattle.cbor_head.specs.Spelling.{spell}
+use Rattle.cbor_head.specs.Prelude.{Bounds, spell}
 use Rattle.cbor_builder.specs.declared.repeat.Repeat.{Repeat}
 use Rattle.cbor_judging.specs.Levels.{Level, a_member, a_key, a_value, some_member, some_key, some_value, tagged, bytes_before, Standing}
 use Rattle.cbor_front.specs.Due.{pairs}

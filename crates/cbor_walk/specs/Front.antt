@@ -1,8 +1,6 @@
 -- Why a walk over the item at the front of an input stops.
 use Rattle.std.specs.Prelude.{◌≡◌, ◌⊎◌, ℕ, List}
-use Rattle.cbor_head.specs.Complaint.{plain}
-use Rattle.cbor_head.specs.Limits.{Bounds}
-use Rattle.cbor_head.specs.Verdict.{IsVerdict, refusal, refused}
+use Rattle.cbor_head.specs.Prelude.{plain, Bounds, IsVerdict, refusal, refused}
 use Rattle.cbor_head.specs.declared.reason.Reason.TheVariants.{Memory}
 use Rattle.cbor_head.specs.declared.reason.Refusal.{Refusal}
 

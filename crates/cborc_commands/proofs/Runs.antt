@@ -1,6 +1,5 @@
 -- What a run leaves, by the parts of its end.
-use Rattle.std.proofs.Common.{ℕ, ◌≡◌, ◌≢◌, ◌⊎◌, ◌∙◌, ap, inl, inr, refl, sym, subst, List, Option, None}
-use Rattle.std.specs.Prelude.{Result, Ok, Err, OnErr, IfOk, IfErr}
+use Rattle.std.proofs.Common.{ℕ, ◌≡◌, ◌≢◌, ◌⊎◌, ◌∙◌, ap, inl, inr, refl, sym, subst, List, Option, None, Result, Ok, Err, OnErr, IfOk, IfErr}
 use Rattle.std.specs.Borrow.{Bor}
 use Rattle.std.specs.Io.KnownBytes.{Keeps}
 use Rattle.cbor_head.specs.declared.order.KeyOrder.{KeyOrder}

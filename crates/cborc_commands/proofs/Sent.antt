@@ -3,9 +3,7 @@ use Rattle.std.proofs.Common.{ℕ, List, Option, Some, None, inl, inr, ◌∙◌
 use Rattle.std.specs.Io.KnownBytes.{Appends, Keeps}
 use Rattle.std.proofs.KnownBytes.{Keeps-trans}
 use Rattle.cbor_diag.specs.Listing.{IsListed, IsUnlisted, of_verdict, of_reader, of_writer}
-use Rattle.cbor_head.specs.Complaint.{Rules}
-use Rattle.cbor_head.specs.Limits.{Bounds}
-use Rattle.cbor_head.specs.Spelling.{Spelling}
+use Rattle.cbor_head.specs.Prelude.{Rules, Bounds, Spelling}
 use Rattle.cbor_head.specs.declared.order.KeyOrder.{KeyOrder}
 use Rattle.cbor_head.specs.declared.reason.Refusal.{Refusal}
 use Rattle.cborc_commands.specs.Answer.{IsDone, IsNotDone}

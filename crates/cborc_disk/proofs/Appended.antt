@@ -1,7 +1,7 @@
 -- Bytes that a reader gave, behind those that were there.
-use Rattle.std.proofs.Common.{ℕ, ◌+◌, ◌-◌, ◌≡◌, ◌≤◌, None, Option, List, ◌++◌, append_assoc, length, length-append, take, drop, replicate, sym, ap, ◌∙◌, arith}
+use Rattle.std.proofs.Common.{ℕ, ◌+◌, ◌-◌, ◌≡◌, ◌≤◌, None, Option, List, ◌++◌, append_assoc, length, length-append, take, drop, replicate, sym, ap, ◌∙◌, arith, length-take-le, take_all}
 use Rattle.std.proofs.Math.Seq.{drop-append_seam}
-use Rattle.std.proofs.lemmas.List.{length-replicate, length-take-le, take-append-le, take_all}
+use Rattle.std.proofs.lemmas.List.{length-replicate, take-append-le}
 use Rattle.std.proofs.KnownBytes.{Consumes-trans, Consumes-kept}
 use Rattle.std.specs.Io.KnownBytes.{Consumes, Keeps}
 use Rattle.std.specs.declared.io.ErrorKind.{ErrorKind}

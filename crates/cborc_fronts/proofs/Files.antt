@@ -1,8 +1,6 @@
 -- What stays known of files from call to call.
-use Rattle.std.proofs.Common.{List, [], ℕ, ◌%◌, ◌≡◌, Bool, true, false, Option, Some, None, Result, Ok, Err, ◌∙◌, ap, arith, length, subst, sym}
-use Rattle.std.specs.Prelude.{◌==◌, if◌then◌else◌, IfSome}
+use Rattle.std.proofs.Common.{List, [], ℕ, ◌%◌, ◌≡◌, Bool, true, false, Option, Some, None, Result, Ok, Err, ◌∙◌, ap, arith, length, subst, sym, ◌==◌, if◌then◌else◌, IfSome, take_all}
 use Rattle.std.specs.List.{filter}
-use Rattle.std.proofs.lemmas.List.{take_all}
 use Rattle.hex.specs.Hex.{decode_pairs}
 use Rattle.hex.specs.declared.error.FromHexError.{FromHexError}
 use Rattle.hex.specs.declared.error.FromHexError.TheVariants.{OddLength}

@@ -1,10 +1,7 @@
 -- Where bytes are refused by their form.
-use Rattle.std.proofs.Common.{ℕ, ◌≤◌, inl, inr, List, [], ◌∷◌, length, ap, arith}
-use Rattle.std.proofs.lemmas.List.{length-append, length-take}
-use Rattle.cbor_head.specs.Complaint.{form}
-use Rattle.cbor_head.specs.Limits.{Bounds}
+use Rattle.std.proofs.Common.{ℕ, ◌≤◌, inl, inr, List, [], ◌∷◌, length, ap, arith, length-append, length-take}
+use Rattle.cbor_head.specs.Prelude.{form, Bounds, refused, IsFormError, IsVerdict}
 use Rattle.cbor_head.specs.Laws.{Decides}
-use Rattle.cbor_head.specs.Verdict.{refused, IsFormError, IsVerdict}
 use Rattle.cbor_head.specs.declared.reason.Refusal.{Refusal}
 use Rattle.cbor_standing.proofs.Form.{never}
 

@@ -1,5 +1,5 @@
 -- What follows of an answer.
-use Rattle.std.specs.Prelude.{Result, Ok, Err, OnOk, IfOk, IfErr}
+use Rattle.std.proofs.Common.{Result, Ok, Err, OnOk, IfOk, IfErr}
 
 -- of one that carries nothing
 pub on_ok : {E : Type 0} → (r : Result (Unit {0}) E) (P Q : Type 0) → (P → Q) → OnOk r P → OnOk r Q

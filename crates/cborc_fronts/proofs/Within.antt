@@ -1,10 +1,6 @@
 -- Nothing is read but of the input.
-use Rattle.std.proofs.Common.{ℕ, ◌+◌, ◌≤◌, arith, ◌≡◌, List, length, take, ap, ◌∙◌}
-use Rattle.std.proofs.lemmas.List.{length-take, length-append}
-use Rattle.cbor_head.specs.Complaint.{Rules}
-use Rattle.cbor_head.specs.Limits.{Bounds}
-use Rattle.cbor_head.specs.Spelling.{Spelling, spell}
-use Rattle.cbor_head.specs.Verdict.{accepted, IsVerdict}
+use Rattle.std.proofs.Common.{ℕ, ◌+◌, ◌≤◌, arith, ◌≡◌, List, length, take, ap, ◌∙◌, length-take, length-append}
+use Rattle.cbor_head.specs.Prelude.{Rules, Bounds, Spelling, spell, accepted, IsVerdict}
 use Rattle.cbor_judging.specs.Readers.{IsRead}
 
 -- no more than the input is read

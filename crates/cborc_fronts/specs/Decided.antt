@@ -1,9 +1,6 @@
 -- Which bytes tell all of their first item.
 use Rattle.std.specs.Prelude.{ℕ, ◌≡◌, ◌≢◌, ◌<◌, ◌⊎◌, List, [], length}
-use Rattle.cbor_head.specs.Complaint.{form}
-use Rattle.cbor_head.specs.Limits.{Bounds}
-use Rattle.cbor_head.specs.Spelling.{Spelling, spell}
-use Rattle.cbor_head.specs.Verdict.{accepted, refused, IsVerdict}
+use Rattle.cbor_head.specs.Prelude.{form, Bounds, Spelling, spell, accepted, refused, IsVerdict}
 use Rattle.cbor_head.specs.declared.reason.Reason.TheVariants.{Truncated}
 use Rattle.cbor_head.specs.declared.reason.Refusal.{Refusal}
 

@@ -1,9 +1,8 @@
 -- The items of a sequence, of each of which something was written.
-use Rattle.std.proofs.Common.{ℕ, inl, inr, ◌+◌, ◌<◌, ◌≤◌, ◌≡◌, true, Option, List, [], ◌∷◌, ◌++◌, length, drop, refl, sym, ap, ◌∙◌, arith, subst}
+use Rattle.std.proofs.Common.{ℕ, inl, inr, ◌+◌, ◌<◌, ◌≤◌, ◌≡◌, true, Option, List, [], ◌∷◌, ◌++◌, length, drop, refl, sym, ap, ◌∙◌, arith, subst, append_assoc, append-nil, length-append, length-drop}
 use Rattle.std.specs.List.{AllByRecursion}
 use Rattle.std.specs.Io.KnownBytes.{Appends}
-use Rattle.std.proofs.lemmas.List.{append_assoc, append-nil, length-append, length-drop}
-use Rattle.cbor_head.specs.Spelling.{Spelling, spell}
+use Rattle.cbor_head.specs.Prelude.{Spelling, spell}
 use Rattle.cbor_grammar.proofs.ReadLaws.{length_spell}
 use Rattle.cbor_reader.specs.Sequence.{sequence_bytes, EndsBefore}
 use Rattle.cborc_files.specs.Folder.{Files, KeepsFiles}

@@ -1,9 +1,7 @@
 -- Whether what follows some bytes tells of their item.
 use Rattle.std.proofs.Common.{ℕ, ◌≡◌, ◌≢◌, ◌∙◌, true, false, eqb, List, length, Option, sym, ap, arith}
 use Rattle.std.proofs.lemmas.Bool.Decides.{Decides-eqb}
-use Rattle.cbor_head.specs.Complaint.{form}
-use Rattle.cbor_head.specs.Limits.{Bounds}
-use Rattle.cbor_head.specs.Spelling.{Spelling, spell}
+use Rattle.cbor_head.specs.Prelude.{form, Bounds, Spelling, spell}
 use Rattle.cbor_head.specs.declared.reason.Reason.TheVariants as reasons
 use Rattle.cbor_head.specs.declared.reason.Refusal.{Refusal}
 use Rattle.cbor_diag.specs.Listing.{IsListed, IsUnlisted, of_verdict, of_reader, of_writer}

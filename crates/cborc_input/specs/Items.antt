@@ -1,7 +1,7 @@
 -- What is written of the items of a sequence, one behind another.
 use Rattle.std.specs.Prelude.{ℕ, ◌≡◌, ◌++◌, Bool, true, List, length, Option}
 use Rattle.std.specs.Io.KnownBytes.{Appends}
-use Rattle.cbor_head.specs.Spelling.{Spelling, spell}
+use Rattle.cbor_head.specs.Prelude.{Spelling, spell}
 use Rattle.cborc_input.specs.Fault.{at_item}
 use Rattle.cborc_fronts.specs.Input.{IsInput, IsFront}
 use Rattle.cborc_input.specs.NoInput.{IsNoInput}

@@ -1,5 +1,5 @@
 -- By which rules items are accepted.
-use Rattle.cbor_head.specs.Complaint.{Rules, plain, strict}
+use Rattle.cbor_head.specs.Prelude.{Rules, plain, strict}
 use Rattle.cborc_input.specs.declared.request.Accepted.{Accepted}
 use Rattle.cborc_input.specs.declared.request.Accepted.TheVariants.{Valid, Canonical}
 

@@ -2,7 +2,7 @@
 use Rattle.std.specs.Prelude.{ℕ, ◌+◌, ◌≡◌, ◌<◌, ◌⊎◌, ◌++◌, List, [], ◌∷◌, length, take, flat_map, Option}
 use Rattle.std.specs.Io.KnownBytes.{Appends}
 use Rattle.std.specs.List.{AllByRecursion}
-use Rattle.cbor_head.specs.Spelling.{Spelling, spell}
+use Rattle.cbor_head.specs.Prelude.{Spelling, spell}
 use Rattle.cbor_reader.specs.Sequence.{sequence_bytes, EndsBefore}
 use Rattle.cborc_fronts.specs.Input.{IsInput, IsFront}
 use Rattle.cborc_input.specs.declared.request.Options.{Options}

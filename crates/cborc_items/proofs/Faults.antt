@@ -1,10 +1,7 @@
 -- Which fault a part of a subcommand passes on, and what it tells of the whole.
 use Rattle.std.proofs.Common.{ℕ, ◌≡◌, ◌++◌, inl, List, length, Option, refl, sym, subst}
 use Rattle.cbor_diag.specs.Listing.{IsListed}
-use Rattle.cbor_head.specs.Complaint.{Rules, plain}
-use Rattle.cbor_head.specs.Limits.{Bounds}
-use Rattle.cbor_head.specs.Verdict.{accepted, IsVerdict}
-use Rattle.cbor_head.specs.Spelling.{Spelling, value_of}
+use Rattle.cbor_head.specs.Prelude.{Rules, plain, Bounds, accepted, IsVerdict, Spelling, value_of}
 use Rattle.cbor_head.specs.declared.order.KeyOrder.{KeyOrder}
 use Rattle.cbor_head.specs.declared.reason.Refusal.{Refusal}
 use Rattle.cbor_reader.specs.Canonicalise.{IsCanonicalOf, IsRefusal}

@@ -1,11 +1,7 @@
 -- What is told of the front of an input that is enough is told of the whole.
-use Rattle.std.proofs.Common.{ℕ, ◌≡◌, ◌≢◌, ◌≤◌, inl, inr, Option, List, [], ◌++◌, length, take, sym, ap, ◌∙◌, arith, subst}
-use Rattle.std.proofs.lemmas.List.{append_assoc, append-nil, length-append, take-append-le}
-use Rattle.cbor_head.specs.Complaint.{Rules, form, plain}
-use Rattle.cbor_head.specs.Limits.{Bounds}
-use Rattle.cbor_head.specs.Value.{Value}
-use Rattle.cbor_head.specs.Spelling.{Spelling, spell, IsItem}
-use Rattle.cbor_head.specs.Verdict.{Answer, accepted, refused, refusal, IsVerdict}
+use Rattle.std.proofs.Common.{ℕ, ◌≡◌, ◌≢◌, ◌≤◌, inl, inr, Option, List, [], ◌++◌, length, take, sym, ap, ◌∙◌, arith, subst, append_assoc, append-nil, length-append}
+use Rattle.std.proofs.lemmas.List.{take-append-le}
+use Rattle.cbor_head.specs.Prelude.{Rules, form, plain, Bounds, Value, Spelling, spell, IsItem, Answer, accepted, refused, refusal, IsVerdict}
 use Rattle.cbor_head.specs.declared.order.KeyOrder.{KeyOrder}
 use Rattle.cbor_head.specs.declared.reason.Reason.TheVariants.{CanonicalTooLong, Truncated, Read, KeyKind}
 use Rattle.cbor_head.specs.declared.reason.Refusal.{Refusal}

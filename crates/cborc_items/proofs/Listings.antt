@@ -1,6 +1,6 @@
 -- Why the lines of an item are not all written.
 use Rattle.std.proofs.Common.{ℕ, List, Option, inl}
-use Rattle.cbor_head.specs.Limits.{Bounds}
+use Rattle.cbor_head.specs.Prelude.{Bounds}
 use Rattle.cborc_items.specs.Events.{IsNotListed}
 use Rattle.cborc_input.specs.Listed.{IsFrontNotListed}
 use Rattle.cborc_input.specs.declared.fault.Fault.{Fault}

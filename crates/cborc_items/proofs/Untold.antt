@@ -1,7 +1,6 @@
 -- The fault of a side's refusal tells which side and why.
 use Rattle.std.proofs.Common.{ℕ, ◌≡◌, ◌∙◌, List, Option, ap, refl, sym, subst}
-use Rattle.cbor_head.specs.Complaint.{plain}
-use Rattle.cbor_head.specs.Limits.{Bounds}
+use Rattle.cbor_head.specs.Prelude.{plain, Bounds}
 use Rattle.cbor_head.specs.declared.reason.Reason.{Reason}
 use Rattle.cbor_head.specs.declared.reason.Reason.TheVariants as reasons
 use Rattle.cbor_head.specs.declared.reason.Refusal.{Refusal}

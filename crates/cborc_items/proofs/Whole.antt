@@ -1,10 +1,6 @@
 -- Whether the bytes of a file are one accepted item, and which.
-use Rattle.std.proofs.Common.{ℕ, ◌≡◌, ◌∙◌, List, length, sym, refl}
-use Rattle.std.specs.Prelude.{◌↔◌}
-use Rattle.cbor_head.specs.Complaint.{plain}
-use Rattle.cbor_head.specs.Limits.{Bounds}
-use Rattle.cbor_head.specs.Spelling.{Spelling, spell, value_of}
-use Rattle.cbor_head.specs.Verdict.{accepted, IsVerdict}
+use Rattle.std.proofs.Common.{ℕ, ◌≡◌, ◌∙◌, List, length, sym, refl, ◌↔◌}
+use Rattle.cbor_head.specs.Prelude.{plain, Bounds, Spelling, spell, value_of, accepted, IsVerdict}
 use Rattle.cbor_judging.specs.Readers.{IsReadAs}
 use Rattle.cbor_reader.specs.Headline.{IsValidItem}
 use Rattle.cborc_items.specs.Check.{IsWhole}

@@ -1,7 +1,6 @@
 -- What `check` asks of a file's bytes.
 use Rattle.std.specs.Prelude.{ℕ, ◌≡◌, ◌++◌, List, length, codes, decimal, Option}
-use Rattle.cbor_head.specs.Complaint.{Rules}
-use Rattle.cbor_head.specs.Limits.{Bounds}
+use Rattle.cbor_head.specs.Prelude.{Rules, Bounds}
 use Rattle.cbor_judging.specs.Readers.{IsRead}
 use Rattle.cbor_reader.specs.WholeItem.{IsItemRefusal}
 use Rattle.cborc_input.specs.Fault.{IsOfInput}

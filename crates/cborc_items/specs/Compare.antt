@@ -1,7 +1,7 @@
 -- What `compare` tells of two inputs.
 use Rattle.std.specs.Prelude.{ℕ, ◌≡◌, ◌⊎◌, List, Option, codes}
 use Rattle.std.specs.Io.KnownBytes.{Appends}
-use Rattle.cbor_head.specs.Limits.{Bounds}
+use Rattle.cbor_head.specs.Prelude.{Bounds}
 use Rattle.cbor_head.specs.declared.reason.Reason.TheVariants as reasons
 use Rattle.cbor_head.specs.declared.reason.Refusal.{Refusal}
 use Rattle.cbor_reader.specs.Comparing.{MeanTheSame, IsSideRefusal}

@@ -1,8 +1,7 @@
 -- Why `events` ends without the listing of a whole file.
 use Rattle.std.specs.Prelude.{ℕ, ◌≡◌, ◌≢◌, ◌<◌, ◌≤◌, ◌⊎◌, List, length, Option}
 use Rattle.std.specs.Io.KnownBytes.{Keeps}
-use Rattle.cbor_head.specs.Limits.{Bounds}
-use Rattle.cbor_head.specs.Verdict.{refusal}
+use Rattle.cbor_head.specs.Prelude.{Bounds, refusal}
 use Rattle.cbor_head.specs.declared.reason.Reason.TheVariants.{Trailing, Write}
 use Rattle.cbor_head.specs.declared.reason.Refusal.{Refusal}
 use Rattle.cbor_diag.specs.Listing.{IsListed, IsUnlisted}

@@ -1,8 +1,7 @@
 -- What `show` asks of a file's bytes, and what it writes.
 use Rattle.std.specs.Prelude.{ℕ, List, length, Option}
 use Rattle.std.specs.Io.KnownBytes.{Keeps}
-use Rattle.cbor_head.specs.Complaint.{plain}
-use Rattle.cbor_head.specs.Value.{Value}
+use Rattle.cbor_head.specs.Prelude.{plain, Value}
 use Rattle.cbor_judging.specs.Readers.{IsReadAs}
 use Rattle.cbor_reader.specs.WholeItem.{IsItemRefusal}
 use Rattle.cborc_input.specs.Fault.{IsOfInput}

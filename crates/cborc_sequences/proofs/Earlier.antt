@@ -1,6 +1,6 @@
 -- What a later state of the same files gives of a sequence, an earlier one did.
 use Rattle.std.proofs.Common.{ℕ, inl, inr, List, Option}
-use Rattle.cbor_head.specs.Spelling.{Spelling}
+use Rattle.cbor_head.specs.Prelude.{Spelling}
 use Rattle.cborc_files.specs.Folder.{Files, KeepsFiles}
 use Rattle.cborc_input.specs.Sequences.{AreFirst}
 use Rattle.cborc_input.specs.declared.fault.Fault.{Fault}

@@ -1,7 +1,6 @@
 -- The items of a sequence, and one more.
-use Rattle.std.proofs.Common.{ℕ, ◌+◌, ◌<◌, ◌≡◌, List, [], ◌∷◌, ◌++◌, length, flat_map, refl, ap, ◌∙◌, arith}
-use Rattle.std.proofs.lemmas.List.{append_assoc, length-append}
-use Rattle.cbor_head.specs.Spelling.{Spelling, spell}
+use Rattle.std.proofs.Common.{ℕ, ◌+◌, ◌<◌, ◌≡◌, List, [], ◌∷◌, ◌++◌, length, flat_map, refl, ap, ◌∙◌, arith, append_assoc, length-append}
+use Rattle.cbor_head.specs.Prelude.{Spelling, spell}
 use Rattle.cbor_reader.specs.Sequence.{sequence_bytes}
 use Rattle.cborc_input.specs.Sequences.{texts_from, StartsWithEach}
 use Rattle.cborc_fronts.proofs.Lists.{all_with, joined_with}

@@ -1,12 +1,9 @@
 -- Which fault of a sequence comes of the fault of an item.
-use Rattle.std.proofs.Common.{ℕ, ◌≡◌, ◌≢◌, ◌⊎◌, ◌∙◌, inl, inr, true, false, List, [], ◌∷◌, ◌++◌, take, Option, flat_map, refl, sym, ap, subst, arith}
+use Rattle.std.proofs.Common.{ℕ, ◌≡◌, ◌≢◌, ◌⊎◌, ◌∙◌, inl, inr, true, false, List, [], ◌∷◌, ◌++◌, take, Option, flat_map, refl, sym, ap, subst, arith, IfSome, length-append}
 use Rattle.std.specs.Borrow.{Bor}
-use Rattle.std.specs.Prelude.{IfSome}
 use Rattle.std.specs.Io.KnownBytes.{Appends}
 use Rattle.std.proofs.KnownBytes.{Keeps-refl}
-use Rattle.std.proofs.lemmas.List.{length-append}
-use Rattle.cbor_head.specs.Complaint.{Rules, form, plain}
-use Rattle.cbor_head.specs.Spelling.{Spelling}
+use Rattle.cbor_head.specs.Prelude.{Rules, form, plain, Spelling}
 use Rattle.cbor_head.specs.declared.order.KeyOrder.{KeyOrder}
 use Rattle.cbor_reader.specs.Sequence.{IsAccepted}
 use Rattle.cborc_input.specs.Put.{printed, written}

@@ -1,11 +1,7 @@
 -- What `canon --seq` writes, why it does not write all, and what is written then (RFC 8742).
 use Rattle.std.specs.Prelude.{ℕ, ◌≡◌, ◌<◌, ◌≤◌, ◌⊎◌, ◌++◌, true, List, length, flat_map, Option}
 use Rattle.std.specs.Io.KnownBytes.{Appends}
-use Rattle.cbor_head.specs.Canonical.{canonical}
-use Rattle.cbor_head.specs.Complaint.{plain}
-use Rattle.cbor_head.specs.Limits.{Bounds}
-use Rattle.cbor_head.specs.Spelling.{Spelling, spell, value_of}
-use Rattle.cbor_head.specs.Verdict.{refusal, refused, IsVerdict}
+use Rattle.cbor_head.specs.Prelude.{canonical, plain, Bounds, Spelling, spell, value_of, refusal, refused, IsVerdict}
 use Rattle.cbor_head.specs.declared.order.KeyOrder.{KeyOrder}
 use Rattle.cbor_head.specs.declared.reason.Reason.TheVariants.{CanonicalTooLong}
 use Rattle.cbor_head.specs.declared.reason.Refusal.{Refusal}

@@ -1,9 +1,6 @@
 -- What `check --seq` asks of a file's bytes (RFC 8742).
 use Rattle.std.specs.Prelude.{ℕ, ◌≡◌, ◌++◌, List, length, Option, codes, decimal}
-use Rattle.cbor_head.specs.Complaint.{Rules}
-use Rattle.cbor_head.specs.Limits.{Bounds}
-use Rattle.cbor_head.specs.Spelling.{Spelling}
-use Rattle.cbor_head.specs.Verdict.{refused, IsVerdict}
+use Rattle.cbor_head.specs.Prelude.{Rules, Bounds, Spelling, refused, IsVerdict}
 use Rattle.cbor_head.specs.declared.reason.Refusal.{Refusal}
 use Rattle.cbor_reader.specs.Sequence.{IsAccepted}
 use Rattle.cborc_files.specs.Folder.{Files}

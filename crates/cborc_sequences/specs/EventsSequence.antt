@@ -1,10 +1,7 @@
 -- What `events --seq` asks of a file's bytes, and what it writes (RFC 8742).
 use Rattle.std.specs.Prelude.{ℕ, ◌≡◌, ◌++◌, ◌<◌, nat_lt, if◌then◌else◌, List, [], length, take, codes, Option}
 use Rattle.std.specs.Io.KnownBytes.{Appends}
-use Rattle.cbor_head.specs.Complaint.{form}
-use Rattle.cbor_head.specs.Limits.{Bounds}
-use Rattle.cbor_head.specs.Spelling.{Spelling}
-use Rattle.cbor_head.specs.Verdict.{refused, IsVerdict}
+use Rattle.cbor_head.specs.Prelude.{form, Bounds, Spelling, refused, IsVerdict}
 use Rattle.cbor_head.specs.declared.reason.Refusal.{Refusal}
 use Rattle.cbor_automaton.specs.Event.{events}
 use Rattle.cbor_diag.specs.Listing.{lines, IsListing, IsStopped}

@@ -1,9 +1,7 @@
 -- What `show --seq` asks of a file's bytes, and what it writes (RFC 8742).
 use Rattle.std.specs.Prelude.{ℕ, List, flat_map, Option}
 use Rattle.std.specs.Io.KnownBytes.{Appends}
-use Rattle.cbor_head.specs.Complaint.{plain}
-use Rattle.cbor_head.specs.Spelling.{Spelling, value_of}
-use Rattle.cbor_head.specs.Verdict.{refused, IsVerdict}
+use Rattle.cbor_head.specs.Prelude.{plain, Spelling, value_of, refused, IsVerdict}
 use Rattle.cbor_head.specs.declared.reason.Refusal.{Refusal}
 use Rattle.cbor_reader.specs.Sequence.{IsAccepted}
 use Rattle.cborc_files.specs.Folder.{Files}

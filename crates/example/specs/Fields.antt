@@ -1,8 +1,7 @@
 -- The integers at two keys of each record, of records that stand one behind another (RFC 8742).
 use Rattle.std.specs.Prelude.{ℕ, ℤ, pos, negsuc, ◌≤ℤ◌, ◌-◌, ◌^◌, ◌<◌, ◌≡◌, ◌≢◌, ◌⊎◌, List, [], ◌∷◌, length, drop}
-use Rattle.cbor_head.specs.Complaint.{plain}
-use Rattle.cbor_head.specs.Limits.{Bounds}
-use Rattle.cbor_head.specs.Value.{Value, text}
+use Rattle.cbor_head.specs.Prelude.{plain, Bounds, Value}
+use Rattle.cbor_head.specs.Value.{text}
 use Rattle.cbor_judging.specs.Readers.{IsReadAs, IsUnread}
 use Rattle.cbor_view.specs.Kinds.{integer}
 use Rattle.cbor_view.specs.Lookup.{HasValueAt}

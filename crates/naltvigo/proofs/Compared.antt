@@ -1,9 +1,6 @@
 -- What a comparison tells of values, by the numbers that C gave.
-use Rattle.std.proofs.Common.{ℕ, ◌≡◌, ◌↔◌, Bool, true, false, List, subst, sym, ◌∙◌}
-use Rattle.std.specs.Prelude.{IsTrue}
-use Rattle.cbor_head.specs.Limits.{Bounds}
-use Rattle.cbor_head.specs.Spelling.{Spelling, value_of}
-use Rattle.cbor_head.specs.Value.{Same}
+use Rattle.std.proofs.Common.{ℕ, ◌≡◌, ◌↔◌, Bool, true, false, List, subst, sym, ◌∙◌, IsTrue}
+use Rattle.cbor_head.specs.Prelude.{Bounds, Spelling, value_of, Same}
 use Rattle.cbor_reader.specs.Headline.{IsValidItem}
 
 apart : false ≡ true → ⊥

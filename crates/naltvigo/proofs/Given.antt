@@ -1,8 +1,6 @@
 -- What is known of an answer is known of the bytes in the buffer, by the numbers that C gave.
 use Rattle.std.proofs.Common.{ℕ, ◌≡◌, ◌≤◌, List, length, subst}
-use Rattle.cbor_head.specs.Canonical.{canonical}
-use Rattle.cbor_head.specs.Limits.{Bounds}
-use Rattle.cbor_head.specs.Spelling.{Spelling, value_of}
+use Rattle.cbor_head.specs.Prelude.{canonical, Bounds, Spelling, value_of}
 use Rattle.cbor_head.specs.declared.order.KeyOrder.{KeyOrder}
 use Rattle.cbor_head.specs.declared.reason.Refusal.{Refusal}
 use Rattle.cbor_reader.specs.Canonicalise.{TellsItsValue}

@@ -1,9 +1,6 @@
 -- Checks of a whole input.
 use Rattle.std.proofs.Common.{ℕ, ◌<◌, ◌≤◌, ◌≡◌, ◌↔◌, List, length, inl, inr, sym, ap, ◌∙◌, arith, subst}
-use Rattle.cbor_head.specs.Limits.{Bounds}
-use Rattle.cbor_head.specs.Spelling.{Spelling, spell}
-use Rattle.cbor_head.specs.Complaint.{plain, strict}
-use Rattle.cbor_head.specs.Verdict.{IsVerdict, accepted, refused, refusal}
+use Rattle.cbor_head.specs.Prelude.{Bounds, Spelling, spell, plain, strict, IsVerdict, accepted, refused, refusal}
 use Rattle.cbor_head.specs.declared.order.KeyOrder.{KeyOrder}
 use Rattle.cbor_head.specs.declared.reason.Reason.TheVariants.{Trailing, Memory}
 use Rattle.cbor_head.specs.declared.reason.Refusal.{Refusal}

@@ -1,8 +1,7 @@
 -- The diagnostic text of an input (RFC 8949, section 8).
 use Rattle.std.specs.Prelude.{ℕ, ◌≡◌, List}
 use Rattle.cbor_diag.specs.Text.{text}
-use Rattle.cbor_head.specs.Limits.{Bounds}
-use Rattle.cbor_head.specs.Spelling.{Spelling, value_of}
+use Rattle.cbor_head.specs.Prelude.{Bounds, Spelling, value_of}
 use Rattle.cbor_reader.specs.Headline.{IsValidItem}
 
 -- the input is one valid item within the limits, and this is the text of its value

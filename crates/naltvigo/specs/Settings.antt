@@ -1,6 +1,6 @@
 -- Orders of keys, kinds of keys and limits, as numbers.
 use Rattle.std.specs.Prelude.{ℕ, ◌==◌, ◌≤◌, if◌then◌else◌}
-use Rattle.cbor_head.specs.Limits.{Bounds, bounds, with_keys, AreBounds}
+use Rattle.cbor_head.specs.Prelude.{Bounds, bounds, with_keys, AreBounds}
 use Rattle.cbor_head.specs.declared.keys.Keys.{Keys}
 use Rattle.cbor_head.specs.declared.keys.Keys.TheVariants.{Any, IntegersAndTexts}
 use Rattle.cbor_head.specs.declared.order.KeyOrder.{KeyOrder}

@@ -1,7 +1,7 @@
 -- What a builder's buffer, spans and frames stand for.
 use Rattle.std.specs.Prelude.{ℕ, suc, Bool, true, IsTrue, ◌≡◌, ◌≢◌, ◌≤◌, ◌<◌, ◌^◌, ◌++◌, List, [], ◌∷◌, length, slice_range, map, take, drop}
 use Rattle.cbor_head.specs.declared.major.Major.TheVariants as of_major
-use Rattle.cbor_head.specs.Canonical.{Pair}
+use Rattle.cbor_head.specs.Prelude.{Pair}
 use Rattle.cbor_head.specs.declared.order.KeyOrder.{KeyOrder}
 use Rattle.cbor_head.specs.declared.major.Major.{Major}
 use Rattle.cbor_head.specs.declared.major.Major.TheVariants.{Simple}

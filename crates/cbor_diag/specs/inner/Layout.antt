@@ -1,7 +1,7 @@
 -- Text in either layout, as it is written: members one after the other, each behind a gap.
 use Rattle.std.specs.Prelude.{ℕ, ◌+◌, Bool, true, false, if◌then◌else◌, List, [], ◌++◌, codes, decimal}
 use Rattle.cbor_head.specs.Value as value
-use Rattle.cbor_head.specs.Value.{Value, Values, Entries}
+use Rattle.cbor_head.specs.Prelude.{Value, Values, Entries}
 use Rattle.cbor_diag.specs.Text.{text}
 use Rattle.cbor_diag.specs.IndentedText.{new_line}
 use Rattle.cbor_diag.specs.declared.layout.Layout.{Layout}

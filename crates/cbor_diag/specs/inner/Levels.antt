@@ -1,6 +1,7 @@
 -- What is left of a text that is being written, by the containers that are open.
 use Rattle.std.specs.Prelude.{ℕ, ◌≡◌, ◌+◌, ◌≤◌, max, false, List, [], ◌∷◌, ◌++◌, length, codes, Option, Some, None, Result, Ok, Err}
-use Rattle.cbor_head.specs.Value.{Value, depth, depth_all, depth_entries}
+use Rattle.cbor_head.specs.Prelude.{Value}
+use Rattle.cbor_head.specs.Value.{depth, depth_all, depth_entries}
 use Rattle.cbor_head.specs.declared.limits.TheConstants.{MAX_DEPTH}
 use Rattle.cbor_diag.specs.inner.Layout.{laid_out, members_left, pairs_left}
 use Rattle.cbor_diag.specs.inner.Nodes.{entries_in, values_in}

@@ -1,7 +1,7 @@
 -- The value that a node stands for, by those of the nodes that it holds.
 use Rattle.std.specs.Prelude.{List, map}
 use Rattle.cbor_head.specs.Value as value
-use Rattle.cbor_head.specs.Value.{Value, Values, Entries}
+use Rattle.cbor_head.specs.Prelude.{Value, Values, Entries}
 use Rattle.cbor_item.specs.View.{values_of, entries_of}
 use Rattle.cbor_diag.specs.declared.node.Part.{Part}
 use Rattle.cbor_diag.specs.declared.node.Part.TheVariants as parts

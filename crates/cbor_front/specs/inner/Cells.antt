@@ -1,10 +1,6 @@
 -- What the walk holds of the open containers, and what an item that is whole makes of it.
 use Rattle.std.specs.Prelude.{◌≡◌, ◌≢◌, ℕ, ◌+◌, ◌≤◌, Bool, true, false, List, [], ◌∷◌, ◌++◌, length, slice_range}
-use Rattle.cbor_head.specs.Complaint.{plain, strict}
-use Rattle.cbor_head.specs.Limits.{Bounds}
-use Rattle.cbor_head.specs.Order.{key_lt}
-use Rattle.cbor_head.specs.Spelling.{Spelling, spell}
-use Rattle.cbor_head.specs.Verdict.{refusal}
+use Rattle.cbor_head.specs.Prelude.{plain, strict, Bounds, key_lt, Spelling, spell, refusal}
 use Rattle.cbor_head.specs.declared.order.KeyOrder.{KeyOrder}
 use Rattle.cbor_head.specs.declared.reason.Reason.TheVariants as reasons
 use Rattle.cbor_head.specs.declared.reason.Refusal.{Refusal}

@@ -1,8 +1,6 @@
 -- Items without members in their shortest form, at the front of some bytes.
 use Rattle.std.specs.Prelude.{ℕ, ◌+◌, ◌-◌, ◌^◌, ◌%◌, ◌≡◌, ◌<◌, ◌≤◌, Bool, true, List, ◌∷◌, ◌++◌, length, drop}
-use Rattle.cbor_head.specs.Head.{with_argument, shortest}
-use Rattle.cbor_head.specs.Spelling.{Spelling, IsSpelled, spell, depth}
-use Rattle.cbor_head.specs.Complaint.{strict, Complaint, Complains, OfKinds}
+use Rattle.cbor_head.specs.Prelude.{with_argument, shortest, Spelling, IsSpelled, spell, depth, strict, Complaint, Complains, OfKinds}
 use Rattle.cbor_head.specs.declared.order.KeyOrder.{KeyOrder}
 
 -- well-formed within the depth, and nothing is to be said against it, wherever it stands

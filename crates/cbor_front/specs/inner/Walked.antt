@@ -1,8 +1,6 @@
 -- What a walk takes, and how it ends.
 use Rattle.std.specs.Prelude.{◌≡◌, ℕ, ◌+◌, ◌<◌, ◌≤◌, Bool, List, length, drop}
-use Rattle.cbor_head.specs.Complaint.{strict}
-use Rattle.cbor_head.specs.Limits.{Bounds}
-use Rattle.cbor_head.specs.Value.{AreBytes}
+use Rattle.cbor_head.specs.Prelude.{strict, Bounds, AreBytes}
 use Rattle.cbor_head.specs.declared.order.KeyOrder.{KeyOrder}
 use Rattle.cbor_judging.specs.PathKinds.{asks}
 use Rattle.cbor_judging.specs.Stop.{IsStopped}

@@ -1,6 +1,6 @@
 -- The values of the members of items.
 use Rattle.std.specs.Prelude.{List, map}
-use Rattle.cbor_head.specs.Value.{Values, Entries}
+use Rattle.cbor_head.specs.Prelude.{Values, Entries}
 use Rattle.cbor_item.specs.View.{view, values_of, entries_of}
 use Rattle.cbor_item.specs.declared.item.Item.{Item}
 

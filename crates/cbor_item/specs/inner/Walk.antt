@@ -1,8 +1,8 @@
 -- A walk over an item that gives its parts to a builder: what is still to come, and what comes of it.
 use Rattle.std.specs.Prelude.{ℕ, suc, ◌+◌, ◌≡◌, ◌↔◌, List, [], ◌∷◌, Option, Some, None, reverse}
 use Rattle.std.specs.Prelude as list
-use Rattle.cbor_head.specs.Canonical.{canonical}
-use Rattle.cbor_head.specs.Value.{Value, Values, Entries, array, map, tag, no_values, a_value, no_entries, entry, IsInRange, IsValid}
+use Rattle.cbor_head.specs.Prelude.{canonical, Value, Values, Entries, map, no_values, a_value, IsInRange, IsValid}
+use Rattle.cbor_head.specs.Value.{array, tag, no_entries, entry}
 use Rattle.cbor_head.specs.declared.order.KeyOrder.{KeyOrder}
 use Rattle.cbor_builder.specs.Built.{CanHold}
 use Rattle.cbor_canonical.specs.Parts.{Open, plain, a_key, a_string, with_member, closed, give, HasNoRepeats}

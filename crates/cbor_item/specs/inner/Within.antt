@@ -1,6 +1,7 @@
 -- How deep what is still to come of open containers nests.
 use Rattle.std.specs.Prelude.{ℕ, suc, ◌+◌, ◌≡◌, ◌≤◌, List, [], ◌∷◌, length}
-use Rattle.cbor_head.specs.Value.{Value, depth, depth_all, IsInRange, AreInRange}
+use Rattle.cbor_head.specs.Prelude.{Value, IsInRange, AreInRange}
+use Rattle.cbor_head.specs.Value.{depth, depth_all}
 use Rattle.cbor_item.specs.View.{values_of}
 use Rattle.cbor_item.specs.inner.Walk.{size, weight}
 

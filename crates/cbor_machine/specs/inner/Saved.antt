@@ -1,7 +1,6 @@
 -- What the numbers of a saved machine stand for.
 use Rattle.std.specs.Prelude.{ℕ, zero, suc, ◌≡◌, ◌≤◌, Bool, true, false, List, [], ◌∷◌, take, Option, Some, None}
-use Rattle.cbor_head.specs.Limits.{bounds, AreBounds}
-use Rattle.cbor_head.specs.Verdict.{refusal}
+use Rattle.cbor_head.specs.Prelude.{bounds, AreBounds, refusal}
 use Rattle.cbor_head.specs.declared.reason.Reason.TheVariants.{TooLong, Reserved, NoIndefinite, Float, BadSimple, StrayBreak, BadChunk, TooDeep}
 use Rattle.cbor_head.specs.declared.reason.Refusal.{Refusal}
 use Rattle.cbor_head.specs.declared.width.Width.{Width}

@@ -5,7 +5,7 @@ use Rattle.std.specs.Ordering.{nat_cmp}
 use Rattle.std.specs.Cmp.Lexicographic.{slice_cmp}
 use Rattle.std.specs.BTreeSet.{BTreeSet, contains}
 use Rattle.arrayvec.specs.ArrayVec.{ArrayVec}
-use Rattle.cbor_head.specs.Canonical.{Pair}
+use Rattle.cbor_head.specs.Prelude.{Pair}
 use Rattle.cbor_canonical.specs.Parts.{Open, a_map, a_key}
 use Rattle.cbor_plain.specs.declared.key_set.KeySet.{KeySet}
 use Rattle.cbor_plain.specs.declared.key_set.TheConstants.{SHORT_KEY}

@@ -1,9 +1,7 @@
 -- What the plain reader keeps: what a builder holds, in which no two keys of an open map are the same, and where each open
 -- item began.
 use Rattle.std.specs.Prelude.{ℕ, suc, ◌≡◌, ◌<◌, ◌++◌, List, [], ◌∷◌, length, reverse, slice_get, Option, Some, Result, OnOk, IfOk, MatchOption}
-use Rattle.cbor_head.specs.Complaint.{plain}
-use Rattle.cbor_head.specs.Head.{shortest_head, IsSimple}
-use Rattle.cbor_head.specs.Limits.{Bounds}
+use Rattle.cbor_head.specs.Prelude.{plain, shortest_head, IsSimple, Bounds}
 use Rattle.cbor_head.specs.declared.major.Major.TheVariants as majors
 use Rattle.cbor_standing.specs.NextEvent.{ItemEventsView}
 use Rattle.cbor_judging.specs.Place.{Place}

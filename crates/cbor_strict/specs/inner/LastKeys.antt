@@ -1,8 +1,6 @@
 -- What is kept of the keys of the maps that are open around an item. The open containers stand with the innermost first.
 use Rattle.std.specs.Prelude.{◌≡◌, ◌≢◌, ℕ, suc, ◌+◌, ◌-◌, ◌++◌, Bool, true, false, if◌then◌else◌, IsTrue, List, [], ◌∷◌, length, slice_set, Result, MatchResult}
-use Rattle.cbor_head.specs.Head.{head}
-use Rattle.cbor_head.specs.Order.{key_lt}
-use Rattle.cbor_head.specs.Spelling.{Spelling, SpelledEntries, no_spellings, no_entries, entry, spell, spell_entries, entries_count}
+use Rattle.cbor_head.specs.Prelude.{head, key_lt, Spelling, SpelledEntries, no_spellings, no_entries, entry, spell, spell_entries, entries_count}
 use Rattle.cbor_head.specs.declared.major.Major.TheVariants.{Map}
 use Rattle.cbor_head.specs.declared.order.KeyOrder.{KeyOrder}
 use Rattle.cbor_head.specs.declared.width.Width.{Width}

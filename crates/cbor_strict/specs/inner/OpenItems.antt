@@ -1,11 +1,7 @@
 -- Where the strict reader stands between two events: which containers are open, what was read of the item in the innermost, and
 -- what is kept. Nothing read has a complaint.
 use Rattle.std.specs.Prelude.{◌≡◌, ℕ, suc, ◌+◌, ◌-◌, ◌<◌, ◌≤◌, ◌⊎◌, ◌++◌, true, false, List, [], ◌∷◌, length, Option, Some, Result, MatchResult}
-use Rattle.cbor_head.specs.Head.{Holds, head, shortest_head}
-use Rattle.cbor_head.specs.Value.{AreBytes}
-use Rattle.cbor_head.specs.Spelling.{Spelling, spell, spellings_count, entries_count, IsSpelled, depth}
-use Rattle.cbor_head.specs.Complaint.{Rules, strict, Complaint, OfHead, Complains}
-use Rattle.cbor_head.specs.Limits.{Bounds}
+use Rattle.cbor_head.specs.Prelude.{Holds, head, shortest_head, AreBytes, Spelling, spell, spellings_count, entries_count, IsSpelled, depth, Rules, strict, Complaint, OfHead, Complains, Bounds}
 use Rattle.cbor_head.specs.declared.reason.Refusal.{Refusal}
 use Rattle.cbor_head.specs.declared.width.Width.{Width}
 use Rattle.cbor_judging.specs.Place.{Container, Place, at_item, counted, close, payload, done as at_end, IsTaking}

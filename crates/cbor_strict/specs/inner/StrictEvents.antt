@@ -1,8 +1,7 @@
 -- What is told of the item at the front of an input, event by event, by the strict rules.
 use Rattle.std.specs.Prelude.{◌≡◌, ℕ, ◌<◌, ◌≤◌, ◌++◌, Bool, true, false, List, [], length, Option, Some, None, Result, MatchResult, IfSome}
 use Rattle.std.specs.Io.KnownBytes.{Consumes}
-use Rattle.cbor_head.specs.Complaint.{Rules, strict}
-use Rattle.cbor_head.specs.Limits.{Bounds, bounds, with_keys}
+use Rattle.cbor_head.specs.Prelude.{Rules, strict, Bounds, bounds, with_keys}
 use Rattle.cbor_head.specs.declared.keys.Keys.{Keys}
 use Rattle.cbor_head.specs.declared.order.KeyOrder.{KeyOrder}
 use Rattle.cbor_head.specs.declared.reason.Refusal.{Refusal}

@@ -1,6 +1,6 @@
 -- Pairs of views.
 use Rattle.std.specs.Prelude.{List}
-use Rattle.cbor_head.specs.Value.{Entries, Same, AnyEntry}
+use Rattle.cbor_head.specs.Prelude.{Entries, Same, AnyEntry}
 use Rattle.cbor_item.specs.View.{entries_of}
 use Rattle.cbor_view.specs.Seen.{seen, seen_pairs}
 use Rattle.cbor_view.specs.declared.view.View.{View}

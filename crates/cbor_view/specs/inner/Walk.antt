@@ -1,6 +1,6 @@
 -- A walk over a view that gives its parts to a builder: what is still to come.
 use Rattle.std.specs.Prelude.{◌≡◌, List, [], ◌∷◌, ◌++◌, Option, Some, None, reverse, map}
-use Rattle.cbor_head.specs.Value.{Value, AreInRange}
+use Rattle.cbor_head.specs.Prelude.{Value, AreInRange}
 use Rattle.cbor_item.specs.OpenValues.{OpenValue, ValuePart, end, after, parts_of, parts_of_all}
 use Rattle.cbor_item.specs.View.{values_of}
 use Rattle.cbor_view.specs.Seen.{seen, seen_all}

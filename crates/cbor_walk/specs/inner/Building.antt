@@ -1,7 +1,6 @@
 -- What the walk over a valid item holds: of the open containers what is still to come, and a sink that took what is complete.
 use Rattle.std.specs.Prelude.{◌≡◌, ℕ, ◌-◌, ◌^◌, ◌<◌, ◌≤◌, Bool, true, false, List, [], ◌∷◌, ◌++◌, length, take}
-use Rattle.cbor_head.specs.Limits.{Bounds}
-use Rattle.cbor_head.specs.Spelling.{Spelling, spell, IsSpelled, depth}
+use Rattle.cbor_head.specs.Prelude.{Bounds, Spelling, spell, IsSpelled, depth}
 use Rattle.cbor_head.specs.declared.keys.Keys.{Keys}
 use Rattle.cbor_head.specs.declared.major.Major.{Major}
 use Rattle.cbor_builder.specs.declared.repeat.Repeat.{Repeat}

@@ -1,10 +1,8 @@
 -- What the plain rules have against the bytes that are left at a place.
 use Rattle.std.specs.Prelude.{◌≡◌, ℕ, ◌++◌, Bool, true, false, List}
-use Rattle.cbor_head.specs.Complaint.{plain}
-use Rattle.cbor_head.specs.Limits.{Bounds}
+use Rattle.cbor_head.specs.Prelude.{plain, Bounds, AreBytes}
 use Rattle.cbor_head.specs.declared.keys.Keys.TheVariants.{IntegersAndTexts}
 use Rattle.cbor_head.specs.declared.reason.Refusal.{Refusal}
-use Rattle.cbor_head.specs.Value.{AreBytes}
 use Rattle.cbor_judging.specs.Kinds.{AsksForKinds, KeepsToKinds}
 use Rattle.cbor_judging.specs.Path.{Level, bytes_before, AreClean, IsKeyDueIn, MayBreak}
 use Rattle.cbor_judging.specs.Stop.{IsStopped}

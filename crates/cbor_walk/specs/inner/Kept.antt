@@ -1,7 +1,6 @@
 -- What a walk keeps of the kinds of keys.
 use Rattle.std.specs.Prelude.{ℕ, ◌≡◌, List, ◌++◌}
-use Rattle.cbor_head.specs.Complaint.{plain}
-use Rattle.cbor_head.specs.Limits.{bounds, with_keys}
+use Rattle.cbor_head.specs.Prelude.{plain, bounds, with_keys}
 use Rattle.cbor_head.specs.declared.keys.Keys.{Keys}
 use Rattle.cbor_judging.specs.Kinds.{KeepsToKinds}
 use Rattle.cbor_walk.specs.declared.building.Met.{Met}

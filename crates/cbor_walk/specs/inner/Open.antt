@@ -1,8 +1,7 @@
 -- What is still to come in an open container, and what stands behind its head.
 use Rattle.std.specs.Prelude.{ℕ, zero, suc, ◌+◌, ◌-◌, ◌++◌, Bool, true, false, Option, Some, None, List, [], ◌∷◌, length}
-use Rattle.cbor_head.specs.Head.{head}
+use Rattle.cbor_head.specs.Prelude.{head, Spelling, spellings_count, entries_count}
 use Rattle.cbor_head.specs.Spelling as spelling
-use Rattle.cbor_head.specs.Spelling.{Spelling, spellings_count, entries_count}
 use Rattle.cbor_head.specs.declared.major.Major.TheVariants.{Array, Map, Tag}
 use Rattle.cbor_head.specs.declared.width.Width.TheVariants.{Indefinite}
 use Rattle.cbor_judging.specs.Levels.{Level, a_member, a_key, a_value, some_member, some_key, some_value, tagged, bytes_before}

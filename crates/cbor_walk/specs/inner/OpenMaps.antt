@@ -1,6 +1,6 @@
 -- Which of the open containers are maps.
 use Rattle.std.specs.Prelude.{ℕ, suc, ◌≡◌, ◌-◌, Bool, true, false, Option, Some, List, [], ◌∷◌, ◌++◌, length}
-use Rattle.cbor_head.specs.Spelling.{Spelling, a_map}
+use Rattle.cbor_head.specs.Prelude.{Spelling, a_map}
 use Rattle.cbor_judging.specs.Levels.{Level, a_member, a_key, a_value, some_member, some_key, some_value, tagged, ArePairsTaken, bytes_before}
 use Rattle.cbor_front.specs.Due.{pairs}
 use Rattle.cbor_walk.specs.declared.open.Open.{Open}

@@ -1,7 +1,6 @@
 -- What is taken of the bytes that are left: an item, a head, a break.
 use Rattle.std.specs.Prelude.{◌≡◌, ℕ, ◌-◌, ◌<◌, ◌≤◌, Bool, true, false, List, ◌∷◌, ◌++◌, length, take, drop, IsUtf8}
-use Rattle.cbor_head.specs.Head.{Holds, IsSimple, head, shortest}
-use Rattle.cbor_head.specs.Spelling.{Spelling, spell, IsSpelled, depth}
+use Rattle.cbor_head.specs.Prelude.{Holds, IsSimple, head, shortest, Spelling, spell, IsSpelled, depth}
 use Rattle.cbor_head.specs.declared.major.Major.{Major}
 use Rattle.cbor_head.specs.declared.major.Major.TheVariants.{Array, Map, Simple}
 use Rattle.cbor_head.specs.declared.width.Width.{Width}

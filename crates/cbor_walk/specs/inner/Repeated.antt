@@ -1,9 +1,6 @@
 -- A key of an open map that is the same as an earlier one, by what stands behind the map's head and how many pairs stand before it.
 use Rattle.std.specs.Prelude.{ℕ, suc, ◌≡◌, ◌≤◌, ◌-◌, ◌^◌, ◌++◌, Option, Some, List, ◌∷◌, length}
-use Rattle.cbor_head.specs.Canonical.{canonical, canonical_entries}
-use Rattle.cbor_head.specs.Complaint.{plain}
-use Rattle.cbor_head.specs.Limits.{Bounds}
-use Rattle.cbor_head.specs.Spelling.{Spelling, SpelledEntries, spell, entries_count, value_of, entries_of}
+use Rattle.cbor_head.specs.Prelude.{canonical, canonical_entries, plain, Bounds, Spelling, SpelledEntries, spell, entries_count, value_of, entries_of}
 use Rattle.cbor_head.specs.declared.order.KeyOrder.{KeyOrder}
 use Rattle.cbor_builder.specs.Built.{HasKey, AreOpenKeysDifferent}
 use Rattle.cbor_builder.specs.declared.repeat.Repeat.{Repeat}

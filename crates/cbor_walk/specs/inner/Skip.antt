@@ -1,6 +1,6 @@
 -- Items that are gone over, with nothing kept of them.
 use Rattle.std.specs.Prelude.{ℕ, ◌≡◌, ◌<◌, ◌-◌, ◌++◌, Bool, List}
-use Rattle.cbor_head.specs.Spelling.{Spelling, Spellings, spell, spell_all, spellings_count}
+use Rattle.cbor_head.specs.Prelude.{Spelling, Spellings, spell, spell_all, spellings_count}
 use Rattle.cbor_judging.specs.Levels.{IsTaken, AreTaken, Level, Standing}
 use Rattle.cbor_walk.specs.declared.building.Met.{Met}
 use Rattle.cbor_walk.specs.declared.building.Met.TheVariants as met

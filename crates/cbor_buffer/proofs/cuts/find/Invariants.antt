@@ -1,5 +1,4 @@
-use Rattle.std.proofs.Common.{◌≤◌, ◌<◌, ◌-◌, length}
-use Rattle.std.specs.Prelude.{slice_index_or}
+use Rattle.std.proofs.Common.{◌≤◌, ◌<◌, ◌-◌, length, slice_index_or}
 use Rattle.cbor_buffer.specs.declared.cuts.Cut.{Cut}
 use Rattle.cbor_buffer.proofs.cuts.find.Given as goal
 

@@ -1,5 +1,5 @@
-use Rattle.std.proofs.Common.{◌≡◌, ◌≤◌, ◌+◌, ◌-◌, ◌++◌, take, drop, length, ap, ◌∙◌, sym, arith}
-use Rattle.std.proofs.lemmas.List.{with_items_is, take_all}
+use Rattle.std.proofs.Common.{◌≡◌, ◌≤◌, ◌+◌, ◌-◌, ◌++◌, take, drop, length, ap, ◌∙◌, sym, arith, take_all}
+use Rattle.std.proofs.lemmas.List.{with_items_is}
 use Rattle.cbor_buffer.proofs.Written.{written, length_kept}
 use Rattle.cbor_buffer.proofs.head.put.Goals as goal
 

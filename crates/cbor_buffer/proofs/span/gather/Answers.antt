@@ -1,5 +1,4 @@
-use Rattle.std.proofs.Common.{List, ℕ, ◌++◌, length, length-take, take, ap, ◌∙◌, arith}
-use Rattle.std.specs.Prelude.{slice_index_or}
+use Rattle.std.proofs.Common.{List, ℕ, ◌++◌, length, length-take, take, ap, ◌∙◌, arith, slice_index_or}
 use Rattle.cbor_buffer.specs.Spans.{no_span}
 use Rattle.cbor_buffer.proofs.Gathered.{gathered_at, gathered_all, within_at}
 use Rattle.cbor_buffer.proofs.Slices.{front_kept, slice_within}

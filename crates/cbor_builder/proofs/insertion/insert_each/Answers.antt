@@ -1,5 +1,4 @@
-use Rattle.std.proofs.Common.{◌≡◌, ℕ, ◌+◌, ◌++◌, ◌∷◌, List, length, length-take, take, take-append-drop, drop, get_or, map, refl, sym, ◌∙◌, subst, arith, IsPermutation}
-use Rattle.std.proofs.lemmas.List.{take_all}
+use Rattle.std.proofs.Common.{◌≡◌, ℕ, ◌+◌, ◌++◌, ◌∷◌, List, length, length-take, take, take-append-drop, drop, get_or, map, refl, sym, ◌∙◌, subst, arith, IsPermutation, take_all}
 use Rattle.std.proofs.lemmas.List.Sorted.{IsPermutation-sym, IsPermutation-map, IsPermutation-append_left}
 use Rattle.cbor_buffer.specs.Spans.{span_pair, no_span}
 use Rattle.cbor_buffer.specs.declared.span.Span.{Span}

@@ -1,5 +1,4 @@
-use Rattle.std.proofs.Common.{ℕ, Option, map, sym, subst, arith}
-use Rattle.std.specs.Prelude.{MatchOption, ◌==◌}
+use Rattle.std.proofs.Common.{ℕ, Option, map, sym, subst, arith, MatchOption, ◌==◌}
 use Rattle.cbor_builder.specs.Built.{AreAllDifferent, IsFirstRepeat}
 use Rattle.cbor_builder.specs.inner.Front.{key_of}
 use Rattle.std.proofs.lemmas.List.Sums.{count_by-le-length}

@@ -1,4 +1,4 @@
-use Rattle.cbor_head.specs.Canonical.{canonical_entries}
+use Rattle.cbor_head.specs.Prelude.{canonical_entries}
 use Rattle.cbor_canonical.proofs.Members.{in_contains, contains_in}
 use Rattle.cbor_canonical.proofs.Sorting.{rising_unique, in_order_rising, in_order_permutes}
 use Rattle.cbor_canonical.proofs.Told.{distinct_bytes}

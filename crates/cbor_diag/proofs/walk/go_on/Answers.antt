@@ -1,5 +1,4 @@
-use Rattle.std.proofs.Common.{◌++◌, codes, sym, ap, arith}
-use Rattle.std.specs.Prelude.{reverse, take}
+use Rattle.std.proofs.Common.{◌++◌, codes, sym, ap, arith, reverse, take}
 use Rattle.std.proofs.lemmas.Result.{err_from_is_err_and}
 use Rattle.cbor_diag.specs.inner.Layout.{gap, end}
 use Rattle.cbor_diag.specs.inner.Levels.{behind, left_of}

@@ -1,5 +1,4 @@
-use Rattle.std.proofs.Common.{◌++◌, ◌≤◌, length}
-use Rattle.std.specs.Prelude.{reverse, take}
+use Rattle.std.proofs.Common.{◌++◌, ◌≤◌, length, reverse, take}
 use Rattle.cbor_diag.specs.inner.Levels.{AreAllShallow, HasLeft, all_left, behind, rest_of}
 use Rattle.cbor_diag.proofs.walk.put_within.Given as goal
 

@@ -1,5 +1,4 @@
-use Rattle.std.proofs.Common.{◌++◌, ap, sym, append_assoc}
-use Rattle.std.specs.Prelude.{codes, decimal}
+use Rattle.std.proofs.Common.{◌++◌, ap, sym, append_assoc, codes, decimal}
 use Rattle.cbor_explain.specs.Way.{IsStepText}
 use Rattle.cbor_explain.specs.declared.way.Step.TheVariants as steps
 use Rattle.cbor_explain.proofs.Steps.{on_ok, just}

@@ -1,5 +1,4 @@
-use Rattle.std.proofs.Common.{take, subst, sym, get_or, arith}
-use Rattle.std.proofs.lemmas.List.{take_all}
+use Rattle.std.proofs.Common.{take, subst, sym, get_or, arith, take_all}
 use Rattle.cbor_explain.specs.declared.way.Step.TheVariants.{Member}
 use Rattle.cbor_explain.proofs.Lines.{take_next}
 use Rattle.cbor_explain.proofs.Steps.{HasWritten, on_ok, one_more, way_written}

@@ -1,8 +1,7 @@
-use Rattle.std.proofs.Common.{◌≡◌, ◌⊎◌, ℕ, ◌+◌, ◌-◌, ◌%◌, ◌<◌, ◌≤◌, true, List, [], ◌∷◌, length, take, get_or, refl, sym, ap, subst, inl, inr, arith}
+use Rattle.std.proofs.Common.{◌≡◌, ◌⊎◌, ℕ, ◌+◌, ◌-◌, ◌%◌, ◌<◌, ◌≤◌, true, List, [], ◌∷◌, length, take, get_or, refl, sym, ap, subst, inl, inr, arith, length-take-le}
 use Rattle.std.proofs.lemmas.Bool.{cases_lt}
-use Rattle.std.proofs.lemmas.List.{length-take-le, nil_from_length}
-use Rattle.cbor_head.specs.Complaint.{strict}
-use Rattle.cbor_head.specs.Value.{AreBytes}
+use Rattle.std.proofs.lemmas.List.{nil_from_length}
+use Rattle.cbor_head.specs.Prelude.{strict, AreBytes}
 use Rattle.cbor_keys.proofs.KeyFronts.{are_bytes}
 use Rattle.cbor_judging.proofs.RefusedHere.{nothing_here, misplaced_here, endless_here, cut_here, no_simple_here, long_here}
 use Rattle.cbor_judging.proofs.HeadComplaints.{shortest_clean}

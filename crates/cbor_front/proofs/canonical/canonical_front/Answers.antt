@@ -1,5 +1,5 @@
 use Rattle.std.proofs.Common.{◌≡◌, List, ℕ, take, sym, ap, ◌∙◌, subst, IfOk, IfErr}
-use Rattle.cbor_head.specs.Complaint.{strict}
+use Rattle.cbor_head.specs.Prelude.{strict}
 use Rattle.cbor_judging.specs.Stop.{IsRefused, IsAnswered}
 use Rattle.cbor_judging.proofs.PathVerdict.{accepts}
 use Rattle.cbor_front.specs.inner.Cells.{IsWhole}

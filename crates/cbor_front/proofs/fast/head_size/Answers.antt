@@ -1,5 +1,4 @@
-use Rattle.std.proofs.Common.{◌≡◌, ◌∙◌, ◌<◌, ◌≤◌, ◌+◌, ◌-◌, ◌%◌, ℕ, suc, List, length, get_or, take, drop, w64, sym, ap, subst, arith}
-use Rattle.std.proofs.lemmas.List.{take_all}
+use Rattle.std.proofs.Common.{◌≡◌, ◌∙◌, ◌<◌, ◌≤◌, ◌+◌, ◌-◌, ◌%◌, ℕ, suc, List, length, get_or, take, drop, w64, sym, ap, subst, arith, take_all}
 use Rattle.std.specs.Int.{from_be_bytes}
 use Rattle.cbor_front.specs.inner.Leaves.{IsShortestHead}
 use Rattle.cbor_front.proofs.ShortHeads.{IsLeast, IsSize, shortest-head}

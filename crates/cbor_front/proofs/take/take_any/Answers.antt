@@ -1,6 +1,5 @@
 use Rattle.std.proofs.Common.{◌≡◌, ◌+◌, ◌≤◌, ℕ, nat_lt, List, ◌∷◌, ◌++◌, length, drop, sym, ap, ◌∙◌, subst}
-use Rattle.cbor_head.specs.Complaint.{strict}
-use Rattle.cbor_head.specs.Value.{AreBytes}
+use Rattle.cbor_head.specs.Prelude.{strict, AreBytes, refusal}
 use Rattle.cbor_front.specs.inner.Leaves.{IsLeaf}
 use Rattle.cbor_judging.specs.Path.{bytes_before}
 use Rattle.cbor_front.specs.inner.Cells.{StandsAt}
@@ -9,7 +8,6 @@ use Rattle.cbor_front.specs.inner.Items.{IsFit, IsOpener}
 use Rattle.cbor_front.specs.Stack.{around, standing}
 use Rattle.cbor_judging.specs.Stop.{IsStopped}
 use Rattle.cbor_front.specs.declared.level.Level.{Level}
-use Rattle.cbor_head.specs.Verdict.{refusal}
 use Rattle.cbor_judging.proofs.RefusedHere.{no_break, no_break_here}
 use Rattle.cbor_front.proofs.OtherKeys.{asked_of, other_key_stops}
 use Rattle.cbor_front.proofs.Taking.{leaf_ends, opener_opens, whole_is, place_for, fit_here}

@@ -1,5 +1,5 @@
 use Rattle.std.proofs.Common.{◌+◌, ◌<◌, ℕ, false, true≢false, List, ◌∷◌, length, drop, sym, ap, ◌∙◌, subst, arith}
-use Rattle.cbor_head.specs.Complaint.{strict}
+use Rattle.cbor_head.specs.Prelude.{strict}
 use Rattle.cbor_judging.specs.PathKinds.{asks, KeepsHere}
 use Rattle.cbor_front.specs.inner.Leaves.{IsLeaf}
 use Rattle.cbor_front.specs.inner.Items.{IsFit, OpensWith}

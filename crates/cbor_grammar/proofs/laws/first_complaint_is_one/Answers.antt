@@ -1,4 +1,4 @@
-use Rattle.cbor_head.specs.Complaint.{IsComplaint}
+use Rattle.cbor_head.specs.Prelude.{IsComplaint}
 use Rattle.cbor_grammar.proofs.Complaints.{complaints_told, one_first, first_for_each}
 use Rattle.cbor_grammar.proofs.laws.first_complaint_is_one.Goals as goal
 

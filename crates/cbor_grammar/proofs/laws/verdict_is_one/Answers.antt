@@ -1,4 +1,4 @@
-use Rattle.cbor_head.specs.Complaint.{IsComplaint}
+use Rattle.cbor_head.specs.Prelude.{IsComplaint}
 use Rattle.cbor_grammar.proofs.Complaints.{complaints_told}
 use Rattle.cbor_grammar.proofs.OneVerdict.{one_verdict, decides_for_each}
 use Rattle.cbor_grammar.proofs.laws.verdict_is_one.Goals as goal

@@ -1,5 +1,5 @@
 use Rattle.std.proofs.Common.{◌↔◌, ◌≤◌, drop, length, slice_range}
-use Rattle.cbor_head.specs.Value.{SameValues, Covered, AreValid}
+use Rattle.cbor_head.specs.Prelude.{SameValues, Covered, AreValid}
 use Rattle.cbor_item.specs.inner.Members.{entries_view, values_view}
 use Rattle.cbor_item.proofs.Steps.{IsMet}
 use Rattle.cbor_item.proofs.compare.+same.Given as goal

@@ -1,8 +1,6 @@
 use Rattle.std.proofs.Common.{◌≡◌, List, [], ◌∷◌, ◌++◌, length, map, sym, ap, ◌∙◌, subst}
 use Rattle.std.proofs.lemmas.Str.{IsUtf8-string_bytes}
-use Rattle.cbor_head.specs.Canonical.{canonical}
-use Rattle.cbor_head.specs.Head.{shortest_head}
-use Rattle.cbor_head.specs.Value.{IsInRange, IsValid}
+use Rattle.cbor_head.specs.Prelude.{canonical, shortest_head, IsInRange, IsValid}
 use Rattle.cbor_head.specs.declared.major.Major.TheVariants as Major
 use Rattle.cbor_builder.specs.Built.{Built}
 use Rattle.cbor_canonical.specs.Parts.{plain, an_array, a_map, give}

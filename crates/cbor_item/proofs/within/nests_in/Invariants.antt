@@ -1,7 +1,7 @@
-use Rattle.std.proofs.Common.{◌≤◌, ◌↔◌, length}
+use Rattle.std.proofs.Common.{◌≤◌, ◌↔◌, length, take}
 use Rattle.std.specs.List.{AllByRecursion}
-use Rattle.std.specs.Prelude.{take}
-use Rattle.cbor_head.specs.Value.{depth, IsInRange, AreInRange}
+use Rattle.cbor_head.specs.Prelude.{IsInRange, AreInRange}
+use Rattle.cbor_head.specs.Value.{depth}
 use Rattle.cbor_item.specs.View.{view, values_of}
 use Rattle.cbor_item.specs.inner.Walk.{left_of_all, weight_of_all}
 use Rattle.cbor_item.specs.inner.Within.{AreWithin}

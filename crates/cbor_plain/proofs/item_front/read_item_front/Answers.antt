@@ -1,6 +1,5 @@
 use Rattle.std.proofs.Common.{[], ◌∙◌, subst, sym, arith}
-use Rattle.cbor_head.specs.Complaint.{plain}
-use Rattle.cbor_head.specs.Value.{Value}
+use Rattle.cbor_head.specs.Prelude.{plain, Value}
 use Rattle.cbor_plain.specs.Front.{IsFrontRead}
 use Rattle.cbor_judging.proofs.Tops.{starts-at}
 use Rattle.cbor_plain.proofs.PlainSteps.{due-first, front-whole, front-stopped}

@@ -1,5 +1,5 @@
 use Rattle.std.proofs.Common.{ℕ, List, ◌-◌}
-use Rattle.cbor_head.specs.Limits.{Bounds}
+use Rattle.cbor_head.specs.Prelude.{Bounds}
 use Rattle.cbor_plain.specs.inner.ItemFront.{IsDueAt}
 use Rattle.cbor_plain.proofs.PlainSteps.{TakesSoFar}
 use Rattle.cbor_plain.proofs.item_front.read_parts.Given as goal

@@ -1,4 +1,4 @@
-use Rattle.cbor_head.specs.Complaint.{plain}
+use Rattle.cbor_head.specs.Prelude.{plain}
 use Rattle.cbor_judging.proofs.Steps.{next-head, no-head, stops, limits-as, told, not-ended, head-open}
 use Rattle.cbor_plain.proofs.next_head.next_head.Goals as goal
 

@@ -1,5 +1,5 @@
 use Rattle.std.proofs.Common.{ℕ, List, Bool}
-use Rattle.cbor_head.specs.Limits.{Bounds}
+use Rattle.cbor_head.specs.Prelude.{Bounds}
 use Rattle.cbor_head.specs.declared.major.Major.{Major}
 use Rattle.cbor_judging.specs.Place.{Container, payload}
 use Rattle.cbor_judging.specs.Reading.{IsAt}

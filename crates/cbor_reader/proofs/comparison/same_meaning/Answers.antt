@@ -3,8 +3,7 @@ use Rattle.std.specs.Cow.{cow_slice_items}
 use Rattle.std.specs.Bool.{Decides}
 use Rattle.std.proofs.lemmas.Bool.Decides.{Decides-eqb}
 use Rattle.std.proofs.lemmas.Slice.Eq.{slice_eq-Decides}
-use Rattle.cbor_head.specs.Canonical.{canonical}
-use Rattle.cbor_head.specs.Spelling.{Spelling, value_of}
+use Rattle.cbor_head.specs.Prelude.{canonical, Spelling, value_of}
 use Rattle.cbor_head.specs.declared.order.KeyOrder.TheVariants.{Bytewise}
 use Rattle.cbor_reader.specs.Headline.{IsValidItem}
 use Rattle.cbor_reader.proofs.Comparing.{encoded_again, same_inputs, same_values}

@@ -1,4 +1,4 @@
-use Rattle.cbor_head.specs.Verdict.{accepted, refused}
+use Rattle.cbor_head.specs.Prelude.{accepted, refused}
 use Rattle.cbor_judging.proofs.Further.{further}
 use Rattle.cbor_reader.proofs.laws.fronts_decide.Goals as goal
 

@@ -1,4 +1,4 @@
-use Rattle.cbor_head.specs.Complaint.{plain}
+use Rattle.cbor_head.specs.Prelude.{plain}
 use Rattle.cbor_judging.proofs.Accepted.{item_within_limit}
 use Rattle.cbor_reader.proofs.Headline.{front_range, front_valid, front_depth, front_keys}
 use Rattle.cbor_reader.proofs.laws.plainly_accepted_values.Goals as goal

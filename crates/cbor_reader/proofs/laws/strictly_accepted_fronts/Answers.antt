@@ -1,5 +1,5 @@
 use Rattle.std.proofs.Common.{◌∙◌}
-use Rattle.cbor_head.specs.Spelling.{value_of}
+use Rattle.cbor_head.specs.Prelude.{value_of}
 use Rattle.cbor_judging.proofs.CanonicalFronts.{strict_bytes, strict_value, strict_accepts, one_front}
 use Rattle.cbor_reader.proofs.laws.strictly_accepted_fronts.Goals as goal
 

@@ -1,5 +1,5 @@
 use Rattle.std.proofs.Common.{arith}
-use Rattle.cbor_head.specs.Spelling.{value_of}
+use Rattle.cbor_head.specs.Prelude.{value_of}
 use Rattle.cbor_reader.specs.WholeItem.{unread, trailing}
 use Rattle.cbor_reader.proofs.OwnAnswers.{own_front}
 use Rattle.cbor_reader.proofs.WholeItems.{all-of-it}

@@ -1,5 +1,4 @@
-use Rattle.std.proofs.Common.{◌+◌, ◌∙◌, take, length, arith, sym, ap, refl, replicate}
-use Rattle.std.proofs.lemmas.List.{length-take-le}
+use Rattle.std.proofs.Common.{◌+◌, ◌∙◌, take, length, arith, sym, ap, refl, replicate, length-take-le}
 use Rattle.cbor_automaton.specs.Automaton.{reached}
 use Rattle.cbor_automaton.specs.Trace.{a_byte}
 use Rattle.cbor_steps.specs.State.{frames_of, major_of}

@@ -1,5 +1,5 @@
 use Rattle.std.proofs.Common.{◌<◌, ◌++◌, ◌∙◌, [], length, sym, subst, Ok}
-use Rattle.cbor_head.specs.Complaint.{strict}
+use Rattle.cbor_head.specs.Prelude.{strict}
 use Rattle.std.specs.Io.KnownBytes.{Consumes}
 use Rattle.cbor_standing.specs.NextEvent.{call}
 use Rattle.cbor_judging.specs.Kinds.{KeepsToKinds}

@@ -1,6 +1,5 @@
 use Rattle.std.proofs.Common.{sym, subst}
-use Rattle.cbor_head.specs.Complaint.{strict}
-use Rattle.cbor_head.specs.Verdict.{IsVerdict, refused}
+use Rattle.cbor_head.specs.Prelude.{strict, IsVerdict, refused}
 use Rattle.cbor_head.specs.declared.reason.Refusal.{Refusal}
 use Rattle.cbor_judging.proofs.CanonicalFronts.{front_read, front_refused}
 use Rattle.cbor_strict.proofs.strict_slice.check_canonical.Goals as goal

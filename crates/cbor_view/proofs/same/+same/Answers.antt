@@ -1,6 +1,6 @@
 use Rattle.std.proofs.Common.{◌≡◌, ◌↔◌, ℕ, Bool, IsTrue, get_or, slice_get, Some, sym, ◌∙◌, subst, arith, rules}
 use Rattle.std.proofs.lemmas.Option.{slice_get-get_or}
-use Rattle.cbor_head.specs.Value.{SameValues, Covered}
+use Rattle.cbor_head.specs.Prelude.{SameValues, Covered}
 use Rattle.cbor_item.specs.View.{values_of}
 use Rattle.cbor_canonical.proofs.Decided.{was_true, was_false, holds, fails}
 use Rattle.cbor_view.specs.Seen.{seen_all}

@@ -1,5 +1,5 @@
 use Rattle.std.proofs.Common.{◌≡◌, ◌↔◌, Some, drop, slice_get}
-use Rattle.cbor_head.specs.Value.{SameValues, Covered, AreValid}
+use Rattle.cbor_head.specs.Prelude.{SameValues, Covered, AreValid}
 use Rattle.cbor_item.specs.View.{values_of}
 use Rattle.cbor_view.specs.Seen.{seen_all}
 use Rattle.cbor_view.specs.inner.Pairs.{Pair, IsMet, entries}

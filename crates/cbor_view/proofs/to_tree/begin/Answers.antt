@@ -1,6 +1,6 @@
 use Rattle.std.proofs.Common.{refl, subst, rules}
 use Rattle.cbor_head.specs.Value as value
-use Rattle.cbor_head.specs.Value.{IsInRange}
+use Rattle.cbor_head.specs.Prelude.{IsInRange}
 use Rattle.cbor_item.specs.OpenValues.{standing}
 use Rattle.cbor_item.specs.declared.item.Item as items
 use Rattle.cbor_view.specs.Seen.{seen}

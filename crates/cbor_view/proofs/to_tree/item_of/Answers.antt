@@ -1,6 +1,5 @@
-use Rattle.std.proofs.Common.{List, ◌∷◌, map, subst}
-use Rattle.std.specs.Prelude.{reverse}
-use Rattle.cbor_head.specs.Value.{Value}
+use Rattle.std.proofs.Common.{List, ◌∷◌, map, subst, reverse}
+use Rattle.cbor_head.specs.Prelude.{Value}
 use Rattle.cbor_item.specs.OpenValues.{standing}
 use Rattle.cbor_view.specs.Seen.{seen}
 use Rattle.cbor_view.specs.inner.Walk.{left, IsBegun}

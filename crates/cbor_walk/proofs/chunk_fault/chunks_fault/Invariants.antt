@@ -1,5 +1,5 @@
 use Rattle.std.proofs.Common.{◌≡◌, length}
-use Rattle.cbor_head.specs.Head.{major_number}
+use Rattle.cbor_head.specs.Prelude.{major_number}
 use Rattle.cbor_judging.specs.Reading.{string_major}
 use Rattle.cbor_walk.proofs.Chunked.{AreRead}
 use Rattle.cbor_walk.proofs.chunk_fault.chunks_fault.Given as goal

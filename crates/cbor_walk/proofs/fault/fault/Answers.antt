@@ -1,6 +1,6 @@
 use Rattle.std.proofs.Common.{◌≡◌, ℕ, ◌+◌, ◌<◌, ◌%◌, true, false, List, [], ◌∷◌, length, refl, sym, ap, subst, inl, inr}
 use Rattle.std.proofs.lemmas.List.{nil_from_length}
-use Rattle.cbor_head.specs.Complaint.{plain}
+use Rattle.cbor_head.specs.Prelude.{plain}
 use Rattle.cbor_judging.specs.PathKinds.{IsFitFront, IsOtherFront}
 use Rattle.cbor_judging.proofs.RefusedHere.{cut_here, no_simple_here}
 use Rattle.cbor_front.specs.Strings.{IsStringHead}

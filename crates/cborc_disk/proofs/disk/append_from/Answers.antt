@@ -1,5 +1,4 @@
-use Rattle.std.proofs.Common.{◌≤◌, Result, Ok, Err, IfErr, IsErrAnd, take, drop, arith}
-use Rattle.std.proofs.lemmas.List.{length-take}
+use Rattle.std.proofs.Common.{◌≤◌, Result, Ok, Err, IfErr, IsErrAnd, take, drop, arith, length-take}
 use Rattle.cborc_disk.proofs.Appended.{one_part, none_lost, cut_by_memory}
 use Rattle.std.specs.IoError.{error_kind}
 use Rattle.cborc_disk.proofs.disk.append_from.Goals as goal

@@ -1,5 +1,5 @@
 use Rattle.std.proofs.Common.{length, refl}
-use Rattle.cbor_head.specs.Spelling.{spell}
+use Rattle.cbor_head.specs.Prelude.{spell}
 use Rattle.naltvigo.proofs.diagnosing.give_text.Goals as goal
 
 pub diagnostic_front-requires : goal.diagnostic_front-requires

@@ -1,7 +1,5 @@
 use Rattle.std.proofs.Common.{subst}
-use Rattle.cbor_head.specs.Complaint.{strict}
-use Rattle.cbor_head.specs.Limits.{Bounds}
-use Rattle.cbor_head.specs.Verdict.{IsVerdict, refused}
+use Rattle.cbor_head.specs.Prelude.{strict, Bounds, IsVerdict, refused}
 use Rattle.cbor_head.specs.declared.order.KeyOrder.{KeyOrder}
 use Rattle.cbor_head.specs.declared.reason.Refusal.{Refusal}
 use Rattle.cbor_judging.proofs.Reasons.{never-memory}

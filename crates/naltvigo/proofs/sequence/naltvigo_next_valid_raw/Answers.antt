@@ -1,6 +1,4 @@
-use Rattle.cbor_head.specs.Complaint.{plain}
-use Rattle.cbor_head.specs.Limits.{Bounds}
-use Rattle.cbor_head.specs.Verdict.{IsVerdict, refused}
+use Rattle.cbor_head.specs.Prelude.{plain, Bounds, IsVerdict, refused}
 use Rattle.cbor_head.specs.declared.reason.Refusal.{Refusal}
 use Rattle.cbor_judging.proofs.Accepted.{verdict_only}
 use Rattle.naltvigo.proofs.Given.{given-told}

@@ -1,6 +1,6 @@
-use Rattle.std.proofs.Common.{◌∙◌, ◌+◌, refl, inl, inr, subst, ap, arith, rules, drop, sym, take}
+use Rattle.std.proofs.Common.{◌∙◌, ◌+◌, refl, inl, inr, subst, ap, arith, rules, drop, sym, take, drop-drop, drop-set-lt}
 use Rattle.std.proofs.Math.Seq.{take-add}
-use Rattle.std.proofs.lemmas.List.{drop-drop, drop-set-lt, take_more_set, take_rest}
+use Rattle.std.proofs.lemmas.List.{take_more_set, take_rest}
 use Rattle.cbor_automaton.specs.declared.event.Event.{Event}
 use Rattle.cbor_head.specs.declared.reason.Refusal.{Refusal}
 use Rattle.cbor_standing.specs.Machine.{IsDone, IsEvent, IsMore}

@@ -1,5 +1,4 @@
-use Rattle.std.proofs.Common.{List, ◌-◌, take, drop, sym, ap, ◌∙◌, subst}
-use Rattle.std.specs.Prelude.{slice_index_or}
+use Rattle.std.proofs.Common.{List, ◌-◌, take, drop, sym, ap, ◌∙◌, subst, slice_index_or}
 use Rattle.std.proofs.lemmas.List.{take_rest}
 use Rattle.cbor_buffer.specs.Moved.{rope, AreInside, IsPicked}
 use Rattle.cbor_buffer.specs.declared.cuts.Cut.{Cut}

@@ -1,5 +1,4 @@
-use Rattle.std.proofs.Common.{ℕ, List, ◌+◌, ◌-◌, ◌++◌, length, take, drop, sym, ap, ◌∙◌, arith}
-use Rattle.std.specs.Prelude.{slice_index_or, slice_range}
+use Rattle.std.proofs.Common.{ℕ, List, ◌+◌, ◌-◌, ◌++◌, length, take, drop, sym, ap, ◌∙◌, arith, slice_index_or, slice_range}
 use Rattle.cbor_buffer.specs.Moved.{rope}
 use Rattle.cbor_buffer.specs.declared.cuts.Cut.{Cut}
 use Rattle.cbor_buffer.proofs.Moved.{taken_up, inside_wider, picked_more}

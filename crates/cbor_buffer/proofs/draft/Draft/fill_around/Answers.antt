@@ -1,6 +1,6 @@
 use Rattle.std.proofs.Common.{length, sym, ap, ◌∙◌, arith}
 use Rattle.std.proofs.lemmas.Result.{on_ok_weaker}
-use Rattle.cbor_head.specs.Head.{shortest_head}
+use Rattle.cbor_head.specs.Prelude.{shortest_head}
 use Rattle.cbor_buffer.proofs.Drafts.{filled_in_gap, filled_settled, same_meant, whole_rope, length_same}
 use Rattle.cbor_buffer.proofs.draft.Draft.fill_around.Goals as goal
 

@@ -1,5 +1,5 @@
 use Rattle.std.proofs.lemmas.Result.{on_ok_weaker}
-use Rattle.cbor_head.specs.Head.{shortest_head}
+use Rattle.cbor_head.specs.Prelude.{shortest_head}
 use Rattle.cbor_buffer.proofs.Drafts.{whole_more, meant_more}
 use Rattle.cbor_buffer.proofs.draft.Draft.head.Goals as goal
 

@@ -1,5 +1,4 @@
-use Rattle.std.proofs.Common.{◌-◌, length, sym, ap, ◌∙◌, arith}
-use Rattle.std.specs.Prelude.{reverse}
+use Rattle.std.proofs.Common.{◌-◌, length, sym, ap, ◌∙◌, arith, reverse}
 use Rattle.std.proofs.lemmas.Option.{get_or_from_slice_get}
 use Rattle.cbor_buffer.proofs.Moved.{last_off}
 use Rattle.cbor_buffer.proofs.draft.Draft.is_in_gap.Goals as goal

@@ -1,5 +1,4 @@
-use Rattle.std.proofs.Common.{◌≡◌, ◌≤◌, ◌∷◌, [], ◌++◌, Option, length, sym, ap, ◌∙◌, subst}
-use Rattle.std.specs.Prelude.{MatchOption}
+use Rattle.std.proofs.Common.{◌≡◌, ◌≤◌, ◌∷◌, [], ◌++◌, Option, length, sym, ap, ◌∙◌, subst, MatchOption}
 use Rattle.cbor_buffer.specs.declared.draft.Region.{Region}
 use Rattle.cbor_buffer.proofs.Drafts.{loosened}
 use Rattle.cbor_buffer.proofs.draft.Draft.loosen.Goals as goal

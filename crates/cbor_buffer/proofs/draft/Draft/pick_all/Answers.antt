@@ -1,5 +1,4 @@
-use Rattle.std.proofs.Common.{ℕ, List, ◌∷◌, ◌-◌, ◌++◌, length, take, drop, sym, ap, ◌∙◌, subst, arith, map}
-use Rattle.std.specs.Prelude.{slice_index_or, flat_map}
+use Rattle.std.proofs.Common.{ℕ, List, ◌∷◌, ◌-◌, ◌++◌, length, take, drop, sym, ap, ◌∙◌, subst, arith, map, slice_index_or, flat_map}
 use Rattle.std.specs.Global.{Vec}
 use Rattle.std.proofs.lemmas.List.{take_rest}
 use Rattle.cbor_buffer.specs.Spans.{span_pair}

@@ -1,5 +1,4 @@
-use Rattle.std.proofs.Common.{List, ◌≡◌, ◌∷◌, [], ◌++◌, length, take, drop, sym, ap, ◌∙◌, subst, arith, map}
-use Rattle.std.specs.Prelude.{flat_map, reverse}
+use Rattle.std.proofs.Common.{List, ◌≡◌, ◌∷◌, [], ◌++◌, length, take, drop, sym, ap, ◌∙◌, subst, arith, map, flat_map, reverse}
 use Rattle.cbor_buffer.specs.Spans.{span_pair}
 use Rattle.cbor_buffer.specs.Moved.{rope, gap, meant, Blocks}
 use Rattle.cbor_canonical.specs.Pairs.{pair_bytes}

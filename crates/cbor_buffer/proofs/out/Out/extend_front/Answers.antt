@@ -1,5 +1,4 @@
-use Rattle.std.proofs.Common.{List, ℕ, ◌++◌, take, ap, ◌∙◌}
-use Rattle.std.proofs.lemmas.List.{take-take}
+use Rattle.std.proofs.Common.{List, ℕ, ◌++◌, take, ap, ◌∙◌, take-take}
 use Rattle.std.proofs.lemmas.Result.{on_ok_weaker}
 use Rattle.cbor_buffer.proofs.out.Out.extend_front.Goals as goal
 

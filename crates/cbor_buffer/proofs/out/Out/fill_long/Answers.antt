@@ -1,5 +1,5 @@
 use Rattle.std.proofs.Common.{◌∙◌, arith}
-use Rattle.cbor_head.specs.Head.{shortest_head}
+use Rattle.cbor_head.specs.Prelude.{shortest_head}
 use Rattle.cbor_buffer.proofs.Written.{vec_kept, vec_moved}
 use Rattle.cbor_buffer.proofs.out.Out.fill_long.Goals as goal
 

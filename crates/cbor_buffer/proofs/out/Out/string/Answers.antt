@@ -1,6 +1,5 @@
-use Rattle.std.proofs.Common.{List, ℕ, ◌++◌, append_assoc, take, ap, ◌∙◌}
-use Rattle.std.proofs.lemmas.List.{take-take}
-use Rattle.cbor_head.specs.Head.{shortest_head}
+use Rattle.std.proofs.Common.{List, ℕ, ◌++◌, append_assoc, take, ap, ◌∙◌, take-take}
+use Rattle.cbor_head.specs.Prelude.{shortest_head}
 use Rattle.cbor_buffer.proofs.out.Out.string.Goals as goal
 
 pub returns-in-Some : goal.returns-in-Some

@@ -1,7 +1,5 @@
-use Rattle.std.proofs.Common.{◌≡◌, ◌-◌, ◌++◌, ℕ, take, length, length-append, sym, ap, ◌∙◌, subst, arith}
-use Rattle.std.specs.Prelude.{flat_map}
-use Rattle.std.proofs.lemmas.List.{length-take-le}
-use Rattle.cbor_head.specs.Canonical.{in_order}
+use Rattle.std.proofs.Common.{◌≡◌, ◌-◌, ◌++◌, ℕ, take, length, length-append, sym, ap, ◌∙◌, subst, arith, flat_map, length-take-le}
+use Rattle.cbor_head.specs.Prelude.{in_order}
 use Rattle.cbor_canonical.specs.Parts.{closed, HasNoRepeats}
 use Rattle.cbor_canonical.specs.Pairs.{pair_bytes}
 use Rattle.cbor_builder.specs.inner.BuilderState.{outers}

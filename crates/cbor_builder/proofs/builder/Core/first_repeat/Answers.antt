@@ -1,5 +1,4 @@
-use Rattle.std.proofs.Common.{◌≡◌, ◌+◌, ◌-◌, ◌^◌, ◌<◌, ◌≤◌, ℕ, suc, List, ◌∷◌, length, take, take_all, sym, ap, ◌∙◌, subst, arith}
-use Rattle.std.specs.Prelude.{Option, None, IfSome}
+use Rattle.std.proofs.Common.{◌≡◌, ◌+◌, ◌-◌, ◌^◌, ◌<◌, ◌≤◌, ℕ, suc, List, ◌∷◌, length, take, take_all, sym, ap, ◌∙◌, subst, arith, Option, None, IfSome}
 use Rattle.cbor_builder.specs.inner.BuilderState.{frames, outers, Stand, came_standing}
 use Rattle.cbor_builder.specs.inner.Laid.{opens, outer_spans, shape_open, Laid}
 use Rattle.cbor_buffer.specs.Moved.{meant, IsWhole}

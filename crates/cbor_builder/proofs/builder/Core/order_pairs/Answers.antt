@@ -1,8 +1,7 @@
-use Rattle.std.proofs.Common.{◌≡◌, ◌∙◌, ◌++◌, List, take, drop, length, map, sym, ap, subst, arith}
-use Rattle.std.specs.Prelude.{flat_map}
+use Rattle.std.proofs.Common.{◌≡◌, ◌∙◌, ◌++◌, List, take, drop, length, map, sym, ap, subst, arith, flat_map}
 use Rattle.std.proofs.lemmas.List.{take_rest}
 use Rattle.cbor_canonical.specs.Pairs.{pair_bytes}
-use Rattle.cbor_head.specs.Canonical.{Pair}
+use Rattle.cbor_head.specs.Prelude.{Pair}
 use Rattle.cbor_buffer.specs.Moved.{meant}
 use Rattle.cbor_buffer.specs.Spans.{span_pair, AreBehind, AreWithin}
 use Rattle.cbor_buffer.specs.declared.draft.Draft.{Draft}

@@ -1,7 +1,7 @@
-use Rattle.std.proofs.Common.{◌≡◌, ◌+◌, ◌≤◌, ◌++◌, ◌∙◌, ℕ, List, length, length-append, length-drop, length-take, take, drop, map, sym, ap, subst, arith, IsPermutation, IsSortedBy}
-use Rattle.std.proofs.lemmas.List.{append_assoc, take_rest}
+use Rattle.std.proofs.Common.{◌≡◌, ◌+◌, ◌≤◌, ◌++◌, ◌∙◌, ℕ, List, length, length-append, length-drop, length-take, take, drop, map, sym, ap, subst, arith, IsPermutation, IsSortedBy, append_assoc}
+use Rattle.std.proofs.lemmas.List.{take_rest}
 use Rattle.std.proofs.lemmas.List.Sorted.{length_permutation}
-use Rattle.cbor_head.specs.Order.{key_lt}
+use Rattle.cbor_head.specs.Prelude.{key_lt}
 use Rattle.cbor_buffer.specs.Spans.{span_pair}
 use Rattle.cbor_buffer.specs.declared.span.Span.{Span}
 use Rattle.cbor_buffer.specs.Moved.{meant}

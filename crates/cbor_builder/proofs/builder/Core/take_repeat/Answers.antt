@@ -1,5 +1,4 @@
-use Rattle.std.proofs.Common.{ℕ, List, drop, Option, sym, ap, ◌∙◌, subst}
-use Rattle.std.specs.Prelude.{MatchOption}
+use Rattle.std.proofs.Common.{ℕ, List, drop, Option, sym, ap, ◌∙◌, subst, MatchOption}
 use Rattle.cbor_builder.specs.Built.{AreAllDifferent, IsFirstRepeat}
 use Rattle.cbor_builder.specs.inner.BuilderState.{frames, Stand}
 use Rattle.cbor_builder.specs.inner.Laid.{opens}

@@ -1,5 +1,4 @@
-use Rattle.std.proofs.Common.{ℕ, List, sym, ap, ◌∙◌, subst}
-use Rattle.std.specs.Prelude.{slice_range}
+use Rattle.std.proofs.Common.{ℕ, List, sym, ap, ◌∙◌, subst, slice_range}
 use Rattle.cbor_builder.specs.Built.{IsWaitingKey}
 use Rattle.cbor_builder.specs.inner.BuilderState.{standing, outers}
 use Rattle.cbor_buffer.specs.Moved.{meant}

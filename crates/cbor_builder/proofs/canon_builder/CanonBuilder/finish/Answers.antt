@@ -1,5 +1,5 @@
 use Rattle.std.proofs.Common.{◌∙◌}
-use Rattle.cbor_head.specs.Canonical.{canonical}
+use Rattle.cbor_head.specs.Prelude.{canonical}
 use Rattle.cbor_builder.proofs.CanonStates.{laid_whole}
 use Rattle.cbor_builder.proofs.PartsMade.{builds_whole}
 use Rattle.cbor_builder.proofs.Standing.{lies_finished}

@@ -1,8 +1,6 @@
 use Rattle.std.proofs.Common.{◌≡◌, ap, ◌∙◌}
 use Rattle.std.proofs.lemmas.Result.{IfOk-weaker}
-use Rattle.cbor_head.specs.Complaint.{plain}
-use Rattle.cbor_head.specs.Spelling.{Spelling, value_of}
-use Rattle.cbor_head.specs.Verdict.{accepted}
+use Rattle.cbor_head.specs.Prelude.{plain, Spelling, value_of, accepted}
 use Rattle.cbor_diag.specs.Text.{text}
 use Rattle.cbor_diag.proofs.text_buffer.TextBuffer.diagnostic_front.Goals as goal
 

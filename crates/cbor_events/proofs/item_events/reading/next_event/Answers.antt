@@ -1,5 +1,4 @@
-use Rattle.std.proofs.Common.{[], ◌++◌, ◌∙◌, refl, sym, subst, arith, append-nil, append_assoc, Some}
-use Rattle.std.specs.Prelude.{Ok}
+use Rattle.std.proofs.Common.{[], ◌++◌, ◌∙◌, refl, sym, subst, arith, append-nil, append_assoc, Some, Ok}
 use Rattle.cbor_standing.specs.Machine.{StandsFor}
 use Rattle.cbor_events.proofs.Parts.{end-answer, given-on, told-given, silent-on}
 use Rattle.cbor_events.proofs.item_events.reading.next_event.Goals as goal

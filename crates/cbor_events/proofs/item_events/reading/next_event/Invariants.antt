@@ -1,5 +1,4 @@
-use Rattle.std.proofs.Common.{◌≡◌, ◌-◌, ◌<◌, ◌≤◌, ℕ, List, ◌++◌, length}
-use Rattle.std.specs.Prelude.{Option}
+use Rattle.std.proofs.Common.{◌≡◌, ◌-◌, ◌<◌, ◌≤◌, ℕ, List, ◌++◌, length, Option}
 use Rattle.cbor_automaton.specs.Trace.{Mark}
 use Rattle.cbor_standing.specs.MachineView.{MachineView}
 use Rattle.cbor_standing.specs.Machine.{IsIdle, StandsFor}

@@ -1,5 +1,5 @@
 use Rattle.std.proofs.Common.{◌≤◌}
-use Rattle.cbor_head.specs.Limits.{Bounds}
+use Rattle.cbor_head.specs.Prelude.{Bounds}
 use Rattle.cbor_front.specs.inner.Cells.{HasClosed}
 use Rattle.cbor_front.specs.Stack.{around}
 use Rattle.cbor_front.specs.declared.level.Level.{Level}

@@ -1,5 +1,5 @@
 use Rattle.std.proofs.Common.{List, ℕ, ◌≡◌, ◌∷◌, [], ◌++◌, ap, ◌∙◌}
-use Rattle.cbor_head.specs.Canonical.{Pair}
+use Rattle.cbor_head.specs.Prelude.{Pair}
 use Rattle.cbor_head.specs.declared.order.KeyOrder.{KeyOrder}
 use Rattle.cbor_builder.specs.Built.{Built, built}
 use Rattle.cbor_canonical.specs.Parts.{Open, a_map, give, pair}

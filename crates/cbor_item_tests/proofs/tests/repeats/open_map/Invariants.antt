@@ -1,5 +1,5 @@
 use Rattle.std.proofs.Common.{List, ◌≡◌, ◌∷◌}
-use Rattle.cbor_head.specs.Canonical.{Pair}
+use Rattle.cbor_head.specs.Prelude.{Pair}
 use Rattle.cbor_canonical.specs.Parts.{a_map}
 use Rattle.cbor_item_tests.proofs.tests.repeats.open_map.Given as goal
 

@@ -1,5 +1,4 @@
-use Rattle.std.proofs.Common.{◌≡◌, length, arith, rules, None}
-use Rattle.std.proofs.lemmas.List.{length-take}
+use Rattle.std.proofs.Common.{◌≡◌, length, arith, rules, None, length-take}
 use Rattle.cbor_steps.specs.State.{IsFit, IsSettled}
 use Rattle.cbor_machine.proofs.machine.Machine.resume.Goals as goal
 use Rattle.cbor_machine.proofs.machine.Machine.resume.Goals.{else-is_none-via-then-is_none+then-saved-3+else-is_settled, else-is_none-via-then-is_none+else-saved-3, else-is_none-via-else-is_none}

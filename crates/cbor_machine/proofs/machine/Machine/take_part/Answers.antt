@@ -1,6 +1,5 @@
-use Rattle.std.proofs.Common.{subst, ◌≡◌, ◌+◌, ◌-◌, take, length, arith, ap, sym, refl, ◌∙◌, inl, inr}
-use Rattle.std.proofs.lemmas.List.{length-take}
-use Rattle.cbor_head.specs.Verdict.{refusal}
+use Rattle.std.proofs.Common.{subst, ◌≡◌, ◌+◌, ◌-◌, take, length, arith, ap, sym, refl, ◌∙◌, inl, inr, length-take}
+use Rattle.cbor_head.specs.Prelude.{refusal}
 use Rattle.cbor_head.specs.declared.reason.Reason.TheVariants.{TooLong}
 use Rattle.cbor_standing.specs.declared.step.Out.TheVariants as outs
 use Rattle.cbor_standing.specs.MachineView.{MachineView}

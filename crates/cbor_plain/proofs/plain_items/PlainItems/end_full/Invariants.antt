@@ -1,5 +1,5 @@
 use Rattle.std.proofs.Common.{◌≡◌, ℕ, List}
-use Rattle.cbor_head.specs.Limits.{Bounds}
+use Rattle.cbor_head.specs.Prelude.{Bounds}
 use Rattle.cbor_standing.specs.NextEvent.{ItemEventsView}
 use Rattle.cbor_plain.specs.inner.PlainItems.{IsEndingAt}
 use Rattle.cbor_plain.proofs.plain_items.PlainItems.end_full.Given as goal

@@ -1,4 +1,4 @@
-use Rattle.cbor_head.specs.Complaint.{plain}
+use Rattle.cbor_head.specs.Prelude.{plain}
 use Rattle.cbor_reader.proofs.Sequences.{at_end, refused_as, reason_as}
 use Rattle.cbor_reader.proofs.sequence_items.SequenceItems.next.Goals as goal
 

@@ -1,4 +1,4 @@
-use Rattle.cbor_head.specs.Complaint.{strict}
+use Rattle.cbor_head.specs.Prelude.{strict}
 use Rattle.cbor_reader.proofs.Sequences.{at_end, refused_as, reason_as}
 use Rattle.cbor_reader.proofs.sequence_items.SequenceItems.next_strict.Goals as goal
 

@@ -1,6 +1,5 @@
-use Rattle.std.proofs.Common.{ap, subst}
+use Rattle.std.proofs.Common.{ap, subst, false, IfSome}
 use Rattle.std.specs.Option.{is_some}
-use Rattle.std.specs.Prelude.{false, IfSome}
 use Rattle.cbor_sinks.specs.KeyBytes.{keys_stand}
 use Rattle.cbor_sinks.specs.declared.key_bytes.KeyBytes.{KeyBytes}
 use Rattle.cbor_walk.specs.Sink.{Repeats}

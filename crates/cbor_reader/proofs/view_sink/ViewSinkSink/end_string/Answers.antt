@@ -1,6 +1,4 @@
-use Rattle.std.proofs.Common.{ℕ, Bool, List, length, ◌∙◌, ap₂, sym, subst, arith}
-use Rattle.std.specs.Prelude.{IsUtf8}
-use Rattle.std.proofs.lemmas.List.{take_all}
+use Rattle.std.proofs.Common.{ℕ, Bool, List, length, ◌∙◌, ap₂, sym, subst, arith, IsUtf8, take_all}
 use Rattle.cbor_item.specs.OpenValues.{give}
 use Rattle.cbor_judging.specs.Reading.{string_value}
 use Rattle.cbor_view.specs.Seen.{standing}

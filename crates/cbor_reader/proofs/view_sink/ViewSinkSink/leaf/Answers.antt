@@ -1,5 +1,5 @@
 use Rattle.std.proofs.Common.{◌∙◌, ap}
-use Rattle.cbor_head.specs.Value.{Value}
+use Rattle.cbor_head.specs.Prelude.{Value}
 use Rattle.cbor_item.specs.OpenValues.{give}
 use Rattle.cbor_view.specs.Seen.{standing}
 use Rattle.cbor_walk.specs.Sink.{leaf_value}

@@ -1,4 +1,4 @@
-use Rattle.cbor_head.specs.Head.{shortest_head}
+use Rattle.cbor_head.specs.Prelude.{shortest_head}
 use Rattle.cbor_walk.specs.Sink.{leaf_value}
 use Rattle.cbor_sinks.proofs.CanonGiven.{takes, given, leaf-bytes}
 use Rattle.cbor_sinks.proofs.canonical_sink.CanonicalSinkSink.leaf.Goals as goal

@@ -1,6 +1,5 @@
-use Rattle.std.proofs.Common.{◌∙◌, ℕ, suc, ◌-◌, ◌≡◌, sym, ap, subst, inl, arith}
+use Rattle.std.proofs.Common.{◌∙◌, ℕ, suc, ◌-◌, ◌≡◌, sym, ap, subst, inl, arith, IfSome}
 use Rattle.std.specs.Option.{is_some}
-use Rattle.std.specs.Prelude.{IfSome}
 use Rattle.cbor_builder.specs.Built.{Built, built, IsRepeatTold}
 use Rattle.cbor_canonical.specs.Parts.{close}
 use Rattle.cbor_sinks.specs.KeyBytes.{behind_item}

@@ -1,5 +1,5 @@
 use Rattle.std.proofs.Common.{◌∙◌, sym}
-use Rattle.cbor_head.specs.Head.{shortest_head}
+use Rattle.cbor_head.specs.Prelude.{shortest_head}
 use Rattle.cbor_walk.specs.Sink.{leaf_value}
 use Rattle.cbor_sinks.proofs.CanonGiven.{leaf-bytes}
 use Rattle.cbor_sinks.proofs.KeysGiven.{takes, key-takes, given-kept, given-left}

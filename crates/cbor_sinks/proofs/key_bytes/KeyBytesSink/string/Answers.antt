@@ -1,8 +1,7 @@
-use Rattle.std.proofs.Common.{◌∙◌, ◌++◌, ℕ, take, sym, ap}
-use Rattle.std.proofs.lemmas.List.{length-take-le}
+use Rattle.std.proofs.Common.{◌∙◌, ◌++◌, ℕ, take, sym, ap, length-take-le}
 use Rattle.cbor_builder.specs.Built.{built}
 use Rattle.cbor_canonical.specs.Parts.{give}
-use Rattle.cbor_head.specs.Head.{shortest_head}
+use Rattle.cbor_head.specs.Prelude.{shortest_head}
 use Rattle.cbor_head.specs.declared.major.Major.{Major}
 use Rattle.cbor_judging.specs.Reading.{string_major, string_value}
 use Rattle.cbor_sinks.proofs.CanonGiven.{string-bytes}

@@ -1,5 +1,4 @@
-use Rattle.std.proofs.Common.{Some, length, ap, ◌∙◌, sym, arith}
-use Rattle.std.specs.Prelude.{slice_get}
+use Rattle.std.proofs.Common.{Some, length, ap, ◌∙◌, sym, arith, slice_get}
 use Rattle.cbor_steps.specs.Nest.{joined}
 use Rattle.cbor_steps.proofs.Nests.{nested-length, frame-innermost}
 use Rattle.cbor_steps.proofs.nest.Nest.frame.Goals as goal

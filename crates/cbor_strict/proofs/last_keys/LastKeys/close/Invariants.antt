@@ -1,5 +1,5 @@
 use Rattle.std.proofs.Common.{◌≡◌, List, length}
-use Rattle.cbor_head.specs.Spelling.{Spelling, spell}
+use Rattle.cbor_head.specs.Prelude.{Spelling, spell}
 use Rattle.cbor_judging.specs.Frame.{Frame}
 use Rattle.cbor_strict.specs.inner.LastKeys.{seen, IsKept, AreDefinite, still_open}
 use Rattle.cbor_strict.proofs.KeptEnds.{HasShut}

@@ -1,6 +1,6 @@
 use Rattle.std.proofs.Common.{◌≡◌, ◌++◌, ◌∙◌, subst, sym, arith}
 use Rattle.std.proofs.lemmas.Str.{utf8_valid_len_le}
-use Rattle.cbor_head.specs.Complaint.{strict}
+use Rattle.cbor_head.specs.Prelude.{strict}
 use Rattle.cbor_strict.specs.inner.OpenItems.{Answers}
 use Rattle.cbor_strict.proofs.OpenPieces.{part_no_memory, part_goes_on, part_ends, part_no_text, part_room}
 use Rattle.cbor_strict.proofs.open_items.OpenItems.admit_piece.Goals as goal

@@ -1,6 +1,5 @@
 use Rattle.std.proofs.Common.{[], sym, arith}
-use Rattle.cbor_head.specs.Complaint.{strict}
-use Rattle.cbor_head.specs.Limits.{AreBounds}
+use Rattle.cbor_head.specs.Prelude.{strict, AreBounds}
 use Rattle.cbor_judging.proofs.KindFrames.{keeps_start}
 use Rattle.cbor_strict.specs.inner.StrictEvents.{StandsSomewhere}
 use Rattle.cbor_strict.proofs.StrictReading.{stands_first, starts_strictly, somewhere_little}

@@ -1,5 +1,5 @@
 use Rattle.std.proofs.Common.{Some, length, refl, sym, ap, ◌∙◌, subst, arith, Ok}
-use Rattle.cbor_head.specs.Complaint.{strict}
+use Rattle.cbor_head.specs.Prelude.{strict}
 use Rattle.cbor_standing.specs.Machine.{KeepsLimits}
 use Rattle.cbor_judging.specs.Refusals.{IsReaderReason}
 use Rattle.cbor_strict.specs.StrictReader.{StrictEventsView, StandsStrictly, IsNextStrict, IsStrictRefusal, limits_of, strict_call}

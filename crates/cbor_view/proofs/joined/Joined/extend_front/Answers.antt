@@ -1,6 +1,6 @@
-use Rattle.std.proofs.Common.{List, ℕ, ◌≡◌, ◌≤◌, ◌+◌, ◌-◌, ◌++◌, take, drop, length, length-append, length-take, length-drop, ap, ◌∙◌, sym, arith}
+use Rattle.std.proofs.Common.{List, ℕ, ◌≡◌, ◌≤◌, ◌+◌, ◌-◌, ◌++◌, take, drop, length, length-append, length-take, length-drop, ap, ◌∙◌, sym, arith, take-take}
 use Rattle.std.proofs.Math.Seq.{take-append-add}
-use Rattle.std.proofs.lemmas.List.{take-append-le, take-take, with_items_is}
+use Rattle.std.proofs.lemmas.List.{take-append-le, with_items_is}
 use Rattle.cbor_view.proofs.joined.Joined.extend_front.Goals as goal
 
 -- the first k of the bytes that are written behind the first n

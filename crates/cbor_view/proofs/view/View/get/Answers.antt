@@ -1,6 +1,6 @@
 use Rattle.std.proofs.Common.{◌≡◌, get_or, sym, ap, ◌∙◌, subst, arith}
 use Rattle.cbor_head.specs.Value as value
-use Rattle.cbor_head.specs.Value.{Value, IsValid}
+use Rattle.cbor_head.specs.Prelude.{Value, IsValid}
 use Rattle.cbor_canonical.proofs.Decided.{was_true, was_false}
 use Rattle.cbor_view.specs.Lookup.{HasValueAt}
 use Rattle.cbor_view.specs.Seen.{seen}

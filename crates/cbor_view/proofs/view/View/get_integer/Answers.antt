@@ -1,7 +1,7 @@
 use Rattle.std.proofs.Common.{◌≡◌, get_or, sym, ap, ◌∙◌, subst, arith, ℤ, to_z, of_z, w64}
 use Rattle.std.proofs.lemmas.Int.{to_z-of_z}
 use Rattle.cbor_head.specs.Value as value
-use Rattle.cbor_head.specs.Value.{Value}
+use Rattle.cbor_head.specs.Prelude.{Value}
 use Rattle.cbor_canonical.proofs.Decided.{was_true, was_false}
 use Rattle.cbor_view.specs.Kinds.{integer}
 use Rattle.cbor_view.specs.Lookup.{HasValueAt}

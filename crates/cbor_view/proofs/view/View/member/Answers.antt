@@ -1,6 +1,6 @@
 use Rattle.std.proofs.Common.{◌≡◌, sym, ap, ◌∙◌}
 use Rattle.cbor_head.specs.Value as value
-use Rattle.cbor_head.specs.Value.{Value}
+use Rattle.cbor_head.specs.Prelude.{Value}
 use Rattle.cbor_item.specs.View.{values_of}
 use Rattle.cbor_view.specs.Lookup.{member_of}
 use Rattle.cbor_view.specs.Seen.{seen, seen_all}

@@ -1,6 +1,5 @@
-use Rattle.std.proofs.Common.{List, sym, ap, subst, arith, refl}
+use Rattle.std.proofs.Common.{List, sym, ap, subst, arith, refl, IfSome}
 use Rattle.std.specs.Option.{is_some}
-use Rattle.std.specs.Prelude.{IfSome}
 use Rattle.cbor_front.specs.Stack.{around, standing}
 use Rattle.cbor_front.proofs.Stacks.{standing_count}
 use Rattle.cbor_walk.specs.Sink.{Repeats}

@@ -1,6 +1,5 @@
-use Rattle.std.proofs.Common.{◌≡◌, ◌∙◌, ◌-◌, List, ℕ, take, length, refl, ap, subst, arith}
-use Rattle.std.proofs.lemmas.List.{length-take}
-use Rattle.cbor_head.specs.Spelling.{spell}
+use Rattle.std.proofs.Common.{◌≡◌, ◌∙◌, ◌-◌, List, ℕ, take, length, refl, ap, subst, arith, length-take}
+use Rattle.cbor_head.specs.Prelude.{spell}
 use Rattle.cbor_walk.specs.inner.Building.{IsBuilt}
 use Rattle.cbor_walk.specs.inner.Kept.{KeepsBefore}
 use Rattle.cbor_walk.proofs.GivenParts.{known-begins, front-given}

@@ -1,5 +1,5 @@
 use Rattle.std.proofs.Common.{sym, subst}
-use Rattle.cbor_head.specs.Spelling.{value_of}
+use Rattle.cbor_head.specs.Prelude.{value_of}
 use Rattle.cborc_fronts.proofs.Results.{if_err}
 use Rattle.cborc_input.specs.Texts.{shown_text, IsNotTaken}
 use Rattle.cborc_input.specs.declared.request.Layout.{Layout}

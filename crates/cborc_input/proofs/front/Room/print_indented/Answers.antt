@@ -2,9 +2,7 @@ use Rattle.std.proofs.Common.{◌∙◌, ◌++◌, codes, ap, subst}
 use Rattle.std.specs.Io.KnownBytes.{Appends}
 use Rattle.std.proofs.lemmas.Result.{on_ok_weaker}
 use Rattle.cbor_diag.specs.IndentedText.{indented}
-use Rattle.cbor_head.specs.Complaint.{plain}
-use Rattle.cbor_head.specs.Spelling.{value_of}
-use Rattle.cbor_head.specs.Value.{Value}
+use Rattle.cbor_head.specs.Prelude.{plain, value_of, Value}
 use Rattle.cbor_judging.proofs.Accepted.{one_item}
 use Rattle.cborc_fronts.proofs.Results.{if_err}
 use Rattle.cborc_input.specs.Texts.{IsNotTaken}

@@ -1,5 +1,5 @@
 use Rattle.std.proofs.lemmas.Result.{err_from_is_err_and}
-use Rattle.cbor_head.specs.Complaint.{plain}
+use Rattle.cbor_head.specs.Prelude.{plain}
 use Rattle.cbor_reader.specs.Sequence.{IsAccepted}
 use Rattle.cborc_sequences.specs.ShowSequence.{item_text}
 use Rattle.cborc_fronts.proofs.Results.{if_err}
