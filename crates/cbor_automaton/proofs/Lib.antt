@@ -3,11 +3,13 @@ pub mod Beginnings
 pub mod Events
 pub mod FirstByte
 pub mod Forward
+pub mod Joining
 pub mod Kept
 pub mod Longest
 pub mod Members
 pub mod Opens
 pub mod Refusals
+pub mod Rows
 pub mod Runs
 pub mod Stands
 pub mod Taking

@@ -16,7 +16,8 @@ use Rattle.cbor_canonical.proofs.Orders.{key_cmp_total}
 use Rattle.cbor_keys.specs.Front.{front_of}
 use Rattle.cbor_builder.specs.inner.Front.{key_of, IsFronted, AreFronted, by_front, rank, ranked_by}
 use Rattle.cbor_buffer.specs.declared.span.Span.{Span}
-use Rattle.cbor_keys.proofs.KeyFronts.{bytes_slice, agree_front}
+use Rattle.cbor_keys.proofs.KeyFronts.{agree_front}
+use Rattle.cbor_canonical.proofs.ByteLists.{bytes_slice}
 
 -- with the right fronts, the ranks are the order of the keys
 pub agree : (o : KeyOrder) (a b : ℕ) (xs ys : List ℕ) → AreBytes xs → AreBytes ys → a ≡ front_of xs → b ≡ front_of ys → rank o (a, xs) (b, ys) ≡ key_cmp o xs ys

@@ -1,4 +1,5 @@
 pub mod Agreement
+pub mod ByteLists
 pub mod Clean
 pub mod Decided
 pub mod Depth

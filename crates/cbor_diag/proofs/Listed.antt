@@ -21,9 +21,9 @@ use Rattle.cbor_automaton.specs.declared.event.Event.{Event}
 use Rattle.cbor_automaton.specs.declared.event.EventKind.{EventKind}
 use Rattle.cbor_automaton.specs.declared.event.EventKind.TheVariants.{Unsigned, Negative, Simple, Bytes, Text, Chunk, Piece, Array, Map, Tag, End}
 use Rattle.cbor_standing.proofs.Form.{complete-verdict}
-use Rattle.cbor_events.proofs.Joining.{bytes-total}
-use Rattle.cbor_events.proofs.Rows.{total-append}
-use Rattle.cbor_events.proofs.Told.{told-none, told-joined, next-more, next-all}
+use Rattle.cbor_automaton.proofs.Joining.{bytes-total}
+use Rattle.cbor_automaton.proofs.Rows.{total-append}
+use Rattle.cbor_standing.proofs.Told.{told-none, told-joined, next-more, next-all}
 use Rattle.cbor_judging.specs.Readers.{Loses}
 use Rattle.cbor_diag.specs.Listing.{line, lines, IsListing, IsStopped, IsListed, IsUnlisted, of_verdict, of_reader, of_writer}
 use Rattle.cbor_diag.proofs.Lines.{lines-more, lines-joined, has-line, joined-last}

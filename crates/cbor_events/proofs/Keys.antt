@@ -14,16 +14,15 @@ use Rattle.cbor_grammar.specs.FirstBytes.{is_basic}
 use Rattle.cbor_automaton.specs.Trace.{Mark}
 use Rattle.cbor_automaton.specs.Marks.{count_of}
 use Rattle.cbor_automaton.specs.Bytes.{IsHeadBytes, IsEventBytes}
-use Rattle.cbor_automaton.specs.Automaton.{Frame, counted, indefinite_array, indefinite_map, State, start, at_item, in_head, in_simple, in_payload, in_chunks, done, run, reached}
+use Rattle.cbor_automaton.specs.Automaton.{counted, indefinite_array, indefinite_map, State, start, at_item, in_head, in_simple, in_payload, in_chunks, done, run, reached}
 use Rattle.cbor_automaton.specs.declared.event.Event.{Event}
 use Rattle.cbor_automaton.specs.declared.event.EventKind.{EventKind}
 use Rattle.cbor_automaton.specs.declared.event.EventKind.TheVariants as kinds
 use Rattle.cbor_automaton.proofs.Beginnings.{reached-begins}
 use Rattle.cbor_automaton.proofs.Runs.{run-on}
 use Rattle.cbor_automaton.proofs.Taking.{IsClear}
-use Rattle.cbor_steps.specs.State.{state_of, wanted_at, is_done, is_in_payload}
+use Rattle.cbor_steps.specs.State.{state_of, wanted_at, is_done}
 use Rattle.cbor_steps.specs.declared.frame.Frame as frames
-use Rattle.cbor_standing.specs.inner.Machine.{IsShown}
 use Rattle.cbor_steps.specs.declared.position.Position.{Position}
 use Rattle.cbor_steps.specs.declared.position.Position.TheVariants as positions
 use Rattle.cbor_standing.specs.MachineView.{MachineView}
@@ -33,7 +32,7 @@ use Rattle.cbor_standing.specs.Calls.{HasRead}
 use Rattle.cbor_standing.specs.Steps.{Ran, Stopped as HasRefused}
 use Rattle.cbor_standing.proofs.Buffers.{head-answer, refused-call}
 use Rattle.cbor_standing.proofs.NextEvents.{run-rest, whole-clear}
-use Rattle.cbor_standing.proofs.Standing.{are_bytes-append}
+use Rattle.cbor_grammar.proofs.ByteLists.{bytes_join}
 use Rattle.cbor_events.specs.NextKey.{IsBasicKind, IsOtherKey, IsNextKey}
 use Rattle.cbor_events.specs.inner.Reads.{IsPartTaken, IsPartRead, HasTaken, HasStopped, IfGiven, HasFirst, IsFirstAnswer, IsTakenAt}
 use Rattle.cbor_events.specs.declared.part.Part.{Part}
@@ -250,7 +249,7 @@ other-here p f old new from to b kept t ms h (inl k) at other item depth going i
             let u = state_of new.inner.position new.inner.frames in
             let ran = run-on old.depth t (b ∷ []) q u ms [] h.stands.inner.ran x.0.ran in (
               x.0.taken ∙ ap (λ (n : ℕ). n + 1) h.stands.taken,
-              subst (λ (d : ℕ). MayFollow d t b) (sym depth) (reached-begins old.depth (t ++ b ∷ []) u (ms ++ []) (are_bytes-append t (b ∷ []) h.stands.are_bytes k.are_bytes) ran),
+              subst (λ (d : ℕ). MayFollow d t b) (sym depth) (reached-begins old.depth (t ++ b ∷ []) u (ms ++ []) (bytes_join t (b ∷ []) h.stands.are_bytes k.are_bytes) ran),
             )
         step (inr x) = absurd (omega (arith, at, ap (λ (y : Refusal). y.place) x.is, ap length x.splits, length-append x.front (x.byte ∷ [])))
 
@@ -290,16 +289,3 @@ refused-key f from same to held left piece t ms e (inl h) = inl (refused-call f 
 refused-key f from same to held left piece t ms e (inr h) =
     subst (λ (v : ItemEventsView). IsNextKey (Err f) (call v to held left t ms)) e
     (inr (record { unfinished = h.unfinished; byte = h.byte; small = h.small; consumed = h.consumed; other = h.other; item = h.item; follows = h.follows; is = h.is }))
-
--- ---- where an item is due no payload is open
-
-pub no-payload : (m : MachineView) (fs : List Frame) → IsShown m → state_of m.inner.position m.inner.frames ≡ at_item fs → m.in_payload ≡ false
-no-payload m fs shown e = shown.in_payload ∙ item m.inner.position m.inner.frames e
-  where
-    item : (position : Position) (fr : List frames.Frame) → state_of position fr ≡ at_item fs → is_in_payload position ≡ false
-    item positions.Item fr e = refl
-    item (positions.Head chunk kind w left argument) fr e = refl
-    item positions.SimpleNumber fr e = refl
-    item (positions.Payload chunk kind left) fr e = absurd (cc e)
-    item (positions.Chunks kind) fr e = refl
-    item positions.Done fr e = refl

@@ -1,21 +1,16 @@
 -- Items without members, from their first byte.
-use Rattle.std.proofs.Common.{◌≡◌, ℕ, zero, suc, ◌+◌, ◌-◌, ◌%◌, ◌<◌, ◌≤◌, ◌⊎◌, Bool, true, List, [], ◌∷◌, ◌++◌, length, take, drop, get_or, length-drop, refl, sym, ap, ◌∙◌, subst, inl, inr, arith, IsUtf8, length-take-le, take-append-drop, drop-drop}
+use Rattle.std.proofs.Common.{◌≡◌, ℕ, suc, ◌+◌, ◌-◌, ◌%◌, ◌<◌, ◌≤◌, ◌⊎◌, Bool, true, List, [], ◌∷◌, ◌++◌, length, take, drop, get_or, length-drop, refl, sym, ap, ◌∙◌, subst, inl, inr, arith, IsUtf8, length-take-le, take-append-drop, drop-drop}
 use Rattle.std.proofs.lemmas.Bool.{cases_lt}
 use Rattle.byteorder.specs.Endian.{big_number}
 use Rattle.cbor_head.specs.Prelude.{AreBytes, Holds, shortest, with_argument}
 use Rattle.cbor_head.specs.declared.order.KeyOrder.{KeyOrder}
 use Rattle.cbor_head.specs.declared.width.Width.{Width}
 use Rattle.cbor_head.specs.declared.width.Width.TheVariants.{Direct, One, Two, Four, Eight, Indefinite}
-use Rattle.cbor_keys.proofs.KeyFronts.{bytes_drop}
+use Rattle.cbor_canonical.proofs.ByteLists.{bytes_take, bytes_drop}
 use Rattle.cbor_canonical.proofs.Normal.{Holds-shortest}
 use Rattle.cbor_front.specs.inner.Items.{IsShortString}
 use Rattle.cbor_front.specs.inner.Leaves.{IsItemThen, IsShortest, IsShortestHead, IsLeaf}
 use Rattle.cbor_front.proofs.ShortHeads.{ByPlace, direct, an-unsigned, a-negative, a-simple, some-bytes, a-text, no-array, no-map, of-one, rest-is}
-
-take-bytes : (n : ℕ) (xs : List ℕ) → AreBytes xs → AreBytes (take n xs)
-take-bytes zero xs h = tt
-take-bytes (suc n) [] h = tt
-take-bytes (suc n) (x ∷ xs) h = (h.0, take-bytes n xs h.1)
 
 -- the argument of a head of at most two bytes
 small-argument : (w : Width) (low n : ℕ) (behind rest : List ℕ) → Holds w n → (0 + low) ∷ behind ≡ with_argument w 0 n ++ rest → low ≤ 24 → (n < 256) × (low < 24 → n ≡ low)
@@ -103,7 +98,7 @@ module _ (room : Bool) (first : ℕ) (behind : List ℕ) where
       text-first l h = omega (arith, l, h)
 
       bytes : AreBytes p
-      bytes = subst AreBytes (sym is) (take-bytes n rest (subst AreBytes here (bytes_drop (1 + (length behind - length rest)) (first ∷ behind) all)))
+      bytes = subst AreBytes (sym is) (bytes_take n rest (subst AreBytes here (bytes_drop (1 + (length behind - length rest)) (first ∷ behind) all)))
 
       pub leaf-bytes : 64 ≤ first → first < 96 → IsLeaf room (first ∷ behind) (1 + (length behind - length rest) + length p)
       leaf-bytes l h = record {

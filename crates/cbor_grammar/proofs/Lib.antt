@@ -3,6 +3,7 @@ pub mod Agree
 pub mod Alike
 pub mod BasicKeys
 pub mod Beginnings
+pub mod ByteLists
 pub mod Complaints
 pub mod Counts
 pub mod Ends

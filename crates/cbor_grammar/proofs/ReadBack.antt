@@ -8,6 +8,7 @@ use Rattle.cbor_head.specs.declared.major.Major.TheVariants.{Unsigned, Negative,
 use Rattle.cbor_head.specs.declared.width.Width.{Width}
 use Rattle.cbor_head.specs.declared.width.Width.TheVariants.{Direct, One, Two, Four, Eight, Indefinite}
 use Rattle.cbor_head.proofs.HeadLaws.{major_back}
+use Rattle.cbor_grammar.proofs.ByteLists.{are_bytes}
 use Rattle.cbor_head.proofs.HeadBack.{ByPlace, by_place-cons, by_place-take, chosen, bind_some, IsFront, read_head-back}
 
 -- what was read of b
@@ -23,10 +24,6 @@ by_place-rest (x ∷ xs) ys h = by_place-rest xs ys (λ i. h (suc i))
 -- of the bytes that follow
 after : (xs ys b : List ℕ) → xs ++ ys ≡ b → ByPlace b → ByPlace ys
 after xs ys b e h = by_place-rest xs ys (subst ByPlace (sym e) h)
-
-are_bytes : (xs : List ℕ) → ByPlace xs → AreBytes xs
-are_bytes [] h = tt
-are_bytes (x ∷ xs) h = (h zero, are_bytes xs (λ i. h (suc i)))
 
 pub by_place : (xs : List ℕ) → AreBytes xs → ByPlace xs
 by_place [] h = λ i. omega arith

@@ -28,7 +28,7 @@ use Rattle.cbor_judging.proofs.Items.{is-definite, head-count, extends-none, ext
 use Rattle.cbor_judging.proofs.Scalars.{at-as}
 use Rattle.cbor_judging.proofs.Heads.{zero_bytes, zero_length}
 use Rattle.cbor_judging.proofs.Leaves.{IsChunked, bytes_chunked, text_chunked, chunks_bytes, chunk_judged, chunk, AreChunksSoFar, cut_chunk, cut_payload, chunk_complains, chunks_more, chunks_whole}
-use Rattle.cbor_judging.proofs.ByteLists.{bytes_join}
+use Rattle.cbor_grammar.proofs.ByteLists.{bytes_join}
 use Rattle.cbor_automaton.proofs.Taking.{nothing-taken}
 use Rattle.cbor_judging.proofs.Steps.{reached-as}
 use Rattle.cbor_judging.proofs.WholeStrings.{is-text}

@@ -12,7 +12,7 @@ use Rattle.cbor_automaton.proofs.FirstByte.{split}
 use Rattle.cbor_automaton.proofs.Forward.{Starts, item_starts, room-above}
 use Rattle.cbor_automaton.proofs.Taking.{nothing-taken}
 use Rattle.cbor_judging.specs.Judged.{IsJudged, Never}
-use Rattle.cbor_judging.proofs.ByteLists.{bytes_join}
+use Rattle.cbor_grammar.proofs.ByteLists.{bytes_join}
 use Rattle.cbor_judging.proofs.Heads.{cut_head, zero_bytes, zero_length}
 use Rattle.cbor_judging.proofs.Leaves.{IsChunked, chunks_bytes, bytes_so_far, text_so_far, AreChunksSoFar, cut_payload}
 use Rattle.cbor_judging.specs.Path.{Level}

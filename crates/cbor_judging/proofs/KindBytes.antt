@@ -11,7 +11,7 @@ use Rattle.cbor_grammar.proofs.KeyKinds.{number_is, byte_basic, of_kind, first_o
 use Rattle.cbor_grammar.proofs.Parts.{head_of, body, parts, holds_of}
 use Rattle.cbor_automaton.specs.Trace.{Mark, a_head, a_chunk, a_byte, a_break}
 use Rattle.cbor_automaton.specs.Automaton as automaton
-use Rattle.cbor_automaton.specs.Automaton.{State, at_item as due_at, in_head, in_simple, in_payload, in_chunks, done, run, reached, Next, refuses, goes, tells, take_byte}
+use Rattle.cbor_automaton.specs.Automaton.{State, at_item as due_at, in_head, in_simple, run, reached, Next, refuses, goes, tells, take_byte}
 use Rattle.cbor_automaton.proofs.Arguments.{number}
 use Rattle.cbor_automaton.proofs.Taking.{IsWithin, nothing-taken, IsTakingNext, byte-taken, within-start}
 use Rattle.cbor_judging.specs.Frame.{Frame}
@@ -23,7 +23,7 @@ use Rattle.cbor_judging.proofs.KindFrames.{IsAround, keeps_on}
 use Rattle.cbor_automaton.proofs.Refusals.{IsTaken, taken-follows}
 use Rattle.cbor_standing.specs.NextEvent.{ItemEventsView}
 use Rattle.cbor_judging.specs.Reading.{IsAt, state_at}
-use Rattle.cbor_judging.proofs.ByteLists.{bytes_back}
+use Rattle.cbor_grammar.proofs.ByteLists.{bytes_back}
 use Rattle.cbor_judging.proofs.Places.{place_of, clear-at, taking-at}
 use Rattle.cbor_judging.proofs.SpelledBytes.{beginning_bytes}
 use Rattle.cbor_judging.proofs.Steps.{at-run}

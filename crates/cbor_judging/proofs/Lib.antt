@@ -1,6 +1,5 @@
 pub mod Accepted
 pub mod Arguments
-pub mod ByteLists
 pub mod CanonicalFronts
 pub mod CleanParts
 pub mod CutHeads

@@ -9,7 +9,7 @@ use Rattle.cbor_automaton.proofs.Refusals.{IsUnfinished, refuses-rightly}
 use Rattle.cbor_automaton.proofs.Runs.{run-on}
 use Rattle.cbor_judging.specs.Judged.{IsJudged}
 use Rattle.cbor_judging.specs.Kinds.{KeepsToKinds, IsOfOneHead}
-use Rattle.cbor_judging.proofs.ByteLists.{bytes_front, bytes_back}
+use Rattle.cbor_grammar.proofs.ByteLists.{bytes_front, bytes_back}
 use Rattle.cbor_judging.proofs.KindBytes.{judged_begins}
 use Rattle.cbor_judging.specs.PathKinds.{KeepsHere}
 use Rattle.cbor_judging.specs.Path.{Level, bytes_before, AreClean}

@@ -30,7 +30,7 @@ use Rattle.cbor_automaton.specs.declared.event.EventKind.{EventKind}
 use Rattle.cbor_automaton.specs.declared.event.EventKind.TheVariants as kinds
 use Rattle.cbor_automaton.proofs.Taking.{IsClear, IsWithin, nothing-taken, first-mark, within-start}
 use Rattle.cbor_judging.proofs.Steps.{due-by, Stops, SameLimits, stands-reached, at-reached, reached-as, next-at, place_in, since}
-use Rattle.cbor_judging.proofs.ByteLists.{bytes_join, bytes_back}
+use Rattle.cbor_grammar.proofs.ByteLists.{bytes_join, bytes_back}
 use Rattle.cbor_judging.proofs.Scalars.{at-as}
 use Rattle.cbor_judging.proofs.Undecided.{is-part}
 

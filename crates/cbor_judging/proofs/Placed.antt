@@ -24,11 +24,11 @@ use Rattle.cbor_automaton.specs.declared.event.EventKind.{EventKind}
 use Rattle.cbor_automaton.specs.declared.event.EventKind.TheVariants as kinds
 use Rattle.cbor_steps.specs.declared.position.Position.{Position}
 use Rattle.cbor_steps.specs.State.{state_of}
-use Rattle.cbor_steps.proofs.Frames.{position-done}
+use Rattle.cbor_standing.proofs.Positions.{position-done}
 use Rattle.cbor_standing.proofs.NextEvents.{whole-clear, run-rest}
 use Rattle.cbor_automaton.proofs.Opens.{opens as opens-stack}
 use Rattle.cbor_automaton.proofs.Runs.{once-marks}
-use Rattle.cbor_judging.proofs.ByteLists.{bytes_back}
+use Rattle.cbor_grammar.proofs.ByteLists.{bytes_back}
 use Rattle.cbor_judging.proofs.Standing.{done_position}
 use Rattle.cbor_judging.specs.Reading.{state_at}
 use Rattle.cbor_judging.proofs.Places.{place_of, one-place, clear-at, open-frames, taking-at, close-at, expect-at, string-at, payload-at}

@@ -15,7 +15,7 @@ use Rattle.cbor_steps.specs.Whole.{IsArgument}
 use Rattle.cbor_automaton.proofs.FirstByte.{split}
 use Rattle.cbor_judging.specs.Judged.{IsJudged, Never}
 use Rattle.cbor_judging.specs.Kinds.{KeepsToKinds, IsOfOneHead}
-use Rattle.cbor_judging.proofs.ByteLists.{bytes_back, bytes_front}
+use Rattle.cbor_grammar.proofs.ByteLists.{bytes_back, bytes_front}
 use Rattle.cbor_judging.proofs.Heads.{open_or}
 use Rattle.cbor_judging.proofs.KindBytes.{head_is_one, string_is_one, Begins, judged_begins}
 use Rattle.cbor_judging.proofs.Judged.{judged_start}

@@ -10,7 +10,7 @@ use Rattle.cbor_head.specs.declared.width.Width.{Width}
 use Rattle.cbor_head.specs.declared.width.Width.TheVariants.{Direct, One, Two, Four, Eight, Indefinite}
 use Rattle.cbor_grammar.proofs.Agree.{split_front}
 use Rattle.cbor_grammar.proofs.Parts.{holds_of}
-use Rattle.cbor_judging.proofs.ByteLists.{bytes_join, bytes_front}
+use Rattle.cbor_grammar.proofs.ByteLists.{bytes_join, bytes_front}
 use Rattle.cbor_automaton.proofs.Longest.{longest_exists}
 
 -- ---- heads

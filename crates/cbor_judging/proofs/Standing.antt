@@ -6,7 +6,7 @@ use Rattle.cbor_judging.specs.Place.{Container, counted, Place, close, done, ope
 use Rattle.cbor_automaton.specs.Automaton as automaton
 use Rattle.cbor_automaton.specs.Automaton.{State, reached}
 use Rattle.cbor_standing.specs.Machine.{IsComplete}
-use Rattle.cbor_steps.proofs.Frames.{position-done}
+use Rattle.cbor_standing.proofs.Positions.{position-done}
 use Rattle.cbor_automaton.proofs.Opens.{opens as opens-stack}
 use Rattle.cbor_judging.specs.Reading.{state_at, IsAt}
 use Rattle.cbor_judging.proofs.Places.{open-frames, one-place}

@@ -25,12 +25,12 @@ use Rattle.cbor_automaton.specs.declared.event.EventKind.TheVariants as kinds
 use Rattle.cbor_steps.specs.declared.frame.Frame as frames
 use Rattle.cbor_steps.specs.declared.position.Position.{Position}
 use Rattle.cbor_steps.specs.declared.position.Position.TheVariants as positions
-use Rattle.cbor_steps.proofs.Frames.{position-done}
+use Rattle.cbor_standing.proofs.Positions.{position-done}
 use Rattle.cbor_automaton.proofs.Runs.{once-marks}
 use Rattle.cbor_automaton.proofs.Taking.{IsClear, mark-taken}
 use Rattle.cbor_judging.specs.Reading.{state_at, IsAt, IsReached, OfMark, IsHeadDue, IsNextHead, IsCutHead, StopsHead, IsFault}
 use Rattle.cbor_judging.proofs.Places.{place_of, state-back, one-place, clear-at, taking-at}
-use Rattle.cbor_judging.proofs.ByteLists.{bytes_back}
+use Rattle.cbor_grammar.proofs.ByteLists.{bytes_back}
 use Rattle.cbor_standing.proofs.NextEvents.{whole-clear, run-rest}
 
 -- what has become of the limits

@@ -8,7 +8,7 @@ use Rattle.cbor_grammar.proofs.Agree.{body, parts}
 use Rattle.cbor_grammar.proofs.ReadLaws.{length_spell}
 use Rattle.cbor_judging.specs.Place.{Container, Place, Follows}
 use Rattle.cbor_standing.specs.NextEvent.{ItemEventsView}
-use Rattle.cbor_judging.proofs.ByteLists.{bytes_front}
+use Rattle.cbor_grammar.proofs.ByteLists.{bytes_front}
 use Rattle.cbor_judging.proofs.Heads.{Headed, headed}
 use Rattle.cbor_judging.proofs.Items.{IsDefinite}
 use Rattle.cbor_judging.proofs.Judged.{judged_head}

@@ -10,7 +10,7 @@ use Rattle.cbor_grammar.proofs.Counts.{holds_fits, values_count-of, entries_coun
 use Rattle.cbor_grammar.proofs.ReadLaws.{length_spell}
 use Rattle.cbor_canonical.proofs.Stable.{utf8_stable}
 use Rattle.cbor_judging.specs.Judged.{Never}
-use Rattle.cbor_judging.proofs.ByteLists.{bytes_join}
+use Rattle.cbor_grammar.proofs.ByteLists.{bytes_join}
 use Rattle.cbor_judging.proofs.Levels.{Among}
 
 -- ---- counts

@@ -14,7 +14,7 @@ use Rattle.cbor_judging.proofs.Items.{definite, proper-definite, is-definite, he
 use Rattle.cbor_judging.proofs.Scalars.{at-as}
 use Rattle.cbor_judging.proofs.Heads.{zero_bytes, zero_length}
 use Rattle.cbor_judging.proofs.Leaves.{bytes_so_far, text_so_far, text_complains}
-use Rattle.cbor_judging.proofs.ByteLists.{bytes_join}
+use Rattle.cbor_grammar.proofs.ByteLists.{bytes_join}
 use Rattle.cbor_judging.proofs.Steps.{reached-as}
 
 pub is-text : (r : Rules) (at : ℕ) (q : List ℕ) (c : Complaint) → IsUtf8 q → OfPayload r at q c → ⊥

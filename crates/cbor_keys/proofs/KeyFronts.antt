@@ -1,5 +1,5 @@
 -- The first eight bytes of a key as a number.
-use Rattle.std.proofs.Common.{◌≡◌, ℕ, zero, suc, ◌-◌, ◌*◌, ◌/◌, ◌^◌, ◌<◌, ◌≤◌, List, [], ◌∷◌, length, take, drop, get_or, w64, refl, sym, ap, ◌∙◌, arith, inl, inr, lit<, pow-suc, mul-le-mul_left, mul-suc, slice_range}
+use Rattle.std.proofs.Common.{◌≡◌, ℕ, zero, suc, ◌-◌, ◌*◌, ◌/◌, ◌^◌, ◌<◌, ◌≤◌, List, [], ◌∷◌, length, take, w64, refl, sym, ap, ◌∙◌, arith, inl, inr, lit<, pow-suc, mul-le-mul_left, mul-suc}
 use Rattle.std.specs.Int.{from_be_bytes}
 use Rattle.std.specs.declared.cmp.Ordering.{Ordering}
 use Rattle.std.specs.declared.cmp.Ordering.TheVariants.{Less, Equal, Greater}
@@ -11,25 +11,6 @@ use Rattle.cbor_head.specs.Prelude.{key_cmp, AreBytes}
 use Rattle.cbor_head.specs.declared.order.KeyOrder.TheVariants.{Bytewise}
 use Rattle.cbor_canonical.proofs.Orders.{key_cmp_total}
 use Rattle.cbor_keys.specs.Front.{digits, front_of}
-
--- ---- bytes
-
-pub are_bytes : (xs : List ℕ) → ((i : ℕ) → get_or xs i 0 < 256) → AreBytes xs
-are_bytes [] h = tt
-are_bytes (x ∷ xs) h = (h zero, are_bytes xs (λ i. h (suc i)))
-
-bytes_take : (n : ℕ) (xs : List ℕ) → AreBytes xs → AreBytes (take n xs)
-bytes_take zero xs h = tt
-bytes_take (suc n) [] h = tt
-bytes_take (suc n) (x ∷ xs) h = (h.0, bytes_take n xs h.1)
-
-pub bytes_drop : (n : ℕ) (xs : List ℕ) → AreBytes xs → AreBytes (drop n xs)
-bytes_drop zero xs h = h
-bytes_drop (suc n) [] h = tt
-bytes_drop (suc n) (x ∷ xs) h = bytes_drop n xs h.1
-
-pub bytes_slice : (xs : List ℕ) (a b : ℕ) → AreBytes xs → AreBytes (slice_range xs a b)
-bytes_slice xs a b h = bytes_take (b - a) (drop a xs) (bytes_drop a xs h)
 
 -- ---- fronts and order
 

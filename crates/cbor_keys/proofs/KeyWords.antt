@@ -10,7 +10,8 @@ use Rattle.std.specs.Ordering.{nat_cmp, ordering_then, MatchOrdering}
 use Rattle.std.specs.Cmp.Lexicographic.{slice_cmp}
 use Rattle.cbor_head.specs.Prelude.{AreBytes}
 use Rattle.cbor_keys.specs.Front.{digits, front_of}
-use Rattle.cbor_keys.proofs.KeyFronts.{agree_front, below, bytes_drop}
+use Rattle.cbor_keys.proofs.KeyFronts.{agree_front, below}
+use Rattle.cbor_canonical.proofs.ByteLists.{bytes_drop}
 
 -- what two lists begin with alike doesn't decide
 pub behind_same : (n : ℕ) (xs ys : List ℕ) → take n xs ≡ take n ys → n ≤ length xs → n ≤ length ys → slice_cmp nat_cmp xs ys ≡ slice_cmp nat_cmp (drop n xs) (drop n ys)

@@ -1,18 +1,17 @@
 -- The kinds of keys in what was read: of the first byte of a head, of what a part is, and behind a break.
-use Rattle.std.proofs.Common.{◌≡◌, ◌≢◌, ◌↔◌, ℕ, suc, ◌+◌, ◌-◌, ◌*◌, ◌/◌, ◌^◌, ◌<◌, true, false, Bool, Option, Some, None, List, [], ◌∷◌, ◌++◌, length, map, refl, sym, ◌∙◌, subst, arith, append_assoc, append-nil, IsTrue, IsSome, length-append}
+use Rattle.std.proofs.Common.{◌≡◌, ◌≢◌, ◌↔◌, ℕ, suc, ◌+◌, ◌-◌, ◌^◌, ◌<◌, true, false, Bool, Option, Some, None, List, [], ◌∷◌, ◌++◌, length, map, refl, sym, subst, arith, append_assoc, IsSome, length-append}
 use Rattle.std.specs.Io.KnownBytes.{Consumes}
-use Rattle.cbor_head.specs.Prelude.{plain, Complaint, OfKinds, head, major_number, Bounds, Spelling, array, a_map, tag, spell, spell_all, spell_entries, spellings_count, value_of, IsSpelled, HoldsOrIndefinite, Value, IsIntegerOrText}
+use Rattle.cbor_head.specs.Prelude.{plain, Complaint, OfKinds, head, Bounds, Spelling, array, a_map, tag, spell_all, spell_entries, spellings_count, value_of, Value}
 use Rattle.cbor_head.specs.Value as value
 use Rattle.cbor_head.specs.declared.major.Major.{Major}
 use Rattle.cbor_head.specs.declared.major.Major.TheVariants as majors
 use Rattle.cbor_head.specs.declared.order.KeyOrder.{KeyOrder}
 use Rattle.cbor_head.specs.declared.order.KeyOrder.TheVariants.{Bytewise}
 use Rattle.cbor_head.specs.declared.width.Width.{Width}
-use Rattle.cbor_head.specs.declared.width.Width.TheVariants.{Direct, One, Two, Four, Eight, Indefinite}
-use Rattle.cbor_grammar.specs.FirstBytes.{is_basic}
-use Rattle.cbor_grammar.proofs.KeyKinds.{byte_basic, of_kind_in, of_kind_entries}
+use Rattle.cbor_head.specs.declared.width.Width.TheVariants.{Indefinite}
+use Rattle.cbor_grammar.proofs.KeyKinds.{of_kind_in, of_kind_entries}
 use Rattle.cbor_automaton.specs.Marks.{mark_of, count_of}
-use Rattle.cbor_automaton.specs.Trace.{a_head, a_break}
+use Rattle.cbor_automaton.specs.Trace.{a_break}
 use Rattle.cbor_automaton.specs.declared.event.EventKind.{EventKind}
 use Rattle.cbor_automaton.specs.declared.event.EventKind.TheVariants as kinds
 use Rattle.cbor_builder.specs.Built.{IsKeyDue}

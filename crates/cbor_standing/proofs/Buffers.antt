@@ -10,7 +10,7 @@ use Rattle.cbor_automaton.specs.Pieces.{piece_by, kind_size}
 use Rattle.cbor_automaton.specs.declared.event.Event.{Event}
 use Rattle.cbor_automaton.specs.declared.event.EventKind.{EventKind}
 use Rattle.cbor_automaton.specs.declared.event.EventKind.TheVariants as kinds
-use Rattle.cbor_steps.proofs.Frames.{no-payload-done}
+use Rattle.cbor_standing.proofs.Positions.{no-payload-done}
 
 head-kept : (b : Bool) (kind : EventKind) (kept buffer : List ℕ) → b ≡ false → IsDue b kind → piece_by kind kept buffer ≡ kept
 head-kept true kind kept buffer p d = absurd (true≢false p)

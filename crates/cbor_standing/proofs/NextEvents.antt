@@ -29,8 +29,8 @@ use Rattle.cbor_automaton.proofs.Forward.{telling_all}
 use Rattle.cbor_automaton.proofs.Beginnings.{onwards, run-append}
 use Rattle.cbor_automaton.proofs.Events.{pending, IsSane}
 use Rattle.cbor_automaton.proofs.Runs.{tiles, sane-run}
-use Rattle.cbor_standing.proofs.Standing.{are_bytes-append}
-use Rattle.cbor_steps.proofs.Frames.{position-done}
+use Rattle.cbor_grammar.proofs.ByteLists.{bytes_join, bytes_back}
+use Rattle.cbor_standing.proofs.Positions.{position-done}
 use Rattle.cbor_automaton.proofs.Taking.{IsClear, IsWithin, mark-taken, nothing-taken, first-mark}
 
 -- ---- between events no head is open
@@ -157,10 +157,6 @@ module _ (d : ℕ) (position : Position) (fs : List frames.Frame) (r u : State) 
 
 -- ---- the answers
 
-are_bytes-behind : (xs ys : List ℕ) → AreBytes (xs ++ ys) → AreBytes ys
-are_bytes-behind [] ys h = h
-are_bytes-behind (x ∷ xs) ys h = are_bytes-behind xs ys h.1
-
 -- an event is complete
 pub event-here : (e : Event) (from mid_from to : Option (List ℕ)) (old mid new : MachineView) (kept buffer t last : List ℕ) (ms : List Mark) → StandsBetween old t ms → (r : HasRead from mid_from mid t ms)
     → mid.depth ≡ old.depth → new.depth ≡ old.depth → Consumes mid_from to last → AreBytes last → 0 < length last → last ≡ take (length last) buffer → IsGiven e new (t ++ r.bytes) last ms
@@ -176,9 +172,9 @@ event-here e from mid_from to old mid new kept buffer t last ms h r mid_depth de
     let whole : run d start ((t ++ pre) ++ last) ≡ reached u (ms ++ marks) = subst (λ (x : ℕ). run x start ((t ++ pre) ++ last) ≡ reached u (ms ++ marks)) depth g.stands.inner.ran in
     let first = run-rest d t pre q m ms [] h.stands.inner.ran (silent ∙ ap (reached m) (sym (append-nil ms))) in
     let then_told = run-rest d (t ++ pre) last m u ms marks silent whole in
-    let bytes = are_bytes-behind t pre r.stands.are_bytes in
+    let bytes = bytes_back t pre r.stands.are_bytes in
     let known = event-known d old.inner.position old.inner.frames m u pre last buffer kept (whole-clear d t q ms h.stands.inner.ran h.whole) (whole-clear d ((t ++ pre) ++ last) u (ms ++ marks) whole g.ends)
-    bytes b (are_bytes-append pre last bytes b) first some here e.width e.kind then_told in
+    bytes b (bytes_join pre last bytes b) first some here e.width e.kind then_told in
     let mine : drop e.place ((t ++ pre) ++ last) ≡ pre ++ last =
     ap (λ n. drop n ((t ++ pre) ++ last)) (g.place ∙ h.whole) ∙ ap (drop (length t)) (append_assoc t pre last) ∙ drop-append_seam t (pre ++ last) in
     let shown = h.stands.inner.shown in
@@ -204,7 +200,7 @@ end-here from mid_from to old mid new kept t last ms h r depth complete same c n
     let at_end : mid.inner.position ≡ positions.Done = position-done mid.inner.position (sym r.stands.inner.shown.complete ∙ complete.0) in
     let over : run d start (t ++ r.bytes) ≡ reached done (ms ++ []) = silent ∙ ap (λ p. reached (state_of p mid.inner.frames) ms) at_end ∙ ap (reached done) (sym (append-nil ms)) in
     let first = run-rest d t r.bytes q done ms [] h.stands.inner.ran over in
-    let none : r.bytes ≡ [] = (nothing-taken d q done r.bytes (whole-clear d t q ms h.stands.inner.ran h.whole) (are_bytes-behind t r.bytes r.stands.are_bytes) first).1 in
+    let none : r.bytes ≡ [] = (nothing-taken d q done r.bytes (whole-clear d t q ms h.stands.inner.ran h.whole) (bytes_back t r.bytes r.stands.are_bytes) first).1 in
     let here : t ++ r.bytes ≡ t = ap (λ xs. t ++ xs) none ∙ append-nil t in
     record {
       complete = h.stands.complete.1 (subst (λ d. IsWhole d t) depth (subst (IsWhole mid.depth) here (r.stands.complete.0 complete)));

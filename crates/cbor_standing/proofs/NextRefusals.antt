@@ -19,7 +19,8 @@ use Rattle.cbor_standing.specs.declared.step.Out.TheVariants as outs
 use Rattle.cbor_automaton.proofs.Refusals.{IsUnfinished, refuses-rightly}
 use Rattle.cbor_grammar.proofs.Verdicts.{item_one}
 use Rattle.cbor_automaton.proofs.Runs.{run-on, silent-unfinished, sane-run}
-use Rattle.cbor_standing.proofs.Standing.{are_bytes-append, meant, not-whole, shown-before, shown-after, unfinished-position}
+use Rattle.cbor_standing.proofs.Standing.{meant, not-whole, shown-before, shown-after, unfinished-position}
+use Rattle.cbor_grammar.proofs.ByteLists.{bytes_join}
 use Rattle.cbor_standing.proofs.Form.{never, refusal-verdict}
 
 -- a beginning that is the whole input, within the limit, and no item
@@ -104,7 +105,7 @@ module _ (f : Refusal) (c : Call) (mid_from : Option (List ℕ)) (mid : MachineV
       let here : (t ++ r.bytes) ++ xs ≡ t ++ (r.bytes ++ xs) = append_assoc t r.bytes xs in (
         ap (λ d. run d start (t ++ (r.bytes ++ xs))) depth ∙ sym (ap (run mid.depth start) here) ∙ whole ∙ ap (reached q) (append-nil ms),
         silent-unfinished mid.depth xs p q (sane-run mid.depth (t ++ r.bytes) start p ms tt r.stands.inner.ran) within_item e,
-        subst AreBytes here (are_bytes-append (t ++ r.bytes) xs r.stands.are_bytes b),
+        subst AreBytes here (bytes_join (t ++ r.bytes) xs r.stands.are_bytes b),
       )
 
   taken-there : (xs : List ℕ) → mid.taken + length xs ≡ length (t ++ (r.bytes ++ xs))

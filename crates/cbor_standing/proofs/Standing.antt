@@ -1,5 +1,5 @@
 -- What a machine stands for, after each kind of step.
-use Rattle.std.proofs.Common.{◌≡◌, ◌⊎◌, ℕ, zero, suc, ◌+◌, ◌-◌, ◌≤◌, ◌<◌, List, [], ◌∷◌, ◌++◌, length, take, drop, None, refl, ap, sym, ◌∙◌, arith, append-nil, append_assoc, subst, inl, inr, length-append, length-take, take-take}
+use Rattle.std.proofs.Common.{◌≡◌, ◌⊎◌, ℕ, ◌+◌, ◌-◌, ◌≤◌, ◌<◌, List, [], ◌∷◌, ◌++◌, length, take, drop, None, refl, ap, sym, ◌∙◌, arith, append-nil, append_assoc, subst, inl, inr, length-append, length-take, take-take}
 use Rattle.std.proofs.Math.Seq.{take-append_seam}
 use Rattle.cbor_head.specs.Prelude.{AreBytes, refusal}
 use Rattle.cbor_head.specs.declared.reason.Reason.TheVariants.{TooLong}
@@ -29,18 +29,11 @@ use Rattle.cbor_automaton.proofs.Events.{IsClear, clear-pending, pending}
 use Rattle.cbor_automaton.proofs.Longest.{longest}
 use Rattle.cbor_automaton.proofs.Tiling.{last-bytes}
 use Rattle.cbor_automaton.specs.Bytes.{IsEventBytes}
-use Rattle.cbor_steps.proofs.Frames.{length_frames, position-done}
+use Rattle.cbor_grammar.proofs.ByteLists.{bytes_join}
+pub use Rattle.cbor_grammar.proofs.ByteLists.{bytes_take}
+use Rattle.cbor_standing.proofs.Positions.{length_frames, position-done}
 use Rattle.cbor_automaton.proofs.Opens.{stack, opens}
 use Rattle.cbor_automaton.proofs.Runs.{take-behind, run-on, silent-unfinished, sane-run, tiles}
-
-pub are_bytes-append : (xs ys : List ℕ) → AreBytes xs → AreBytes ys → AreBytes (xs ++ ys)
-are_bytes-append [] ys h k = k
-are_bytes-append (x ∷ xs) ys h k = (h.0, are_bytes-append xs ys h.1 k)
-
-pub are_bytes-take : (n : ℕ) (xs : List ℕ) → AreBytes xs → AreBytes (take n xs)
-are_bytes-take zero xs h = tt
-are_bytes-take (suc n) [] h = tt
-are_bytes-take (suc n) (x ∷ xs) h = (h.0, are_bytes-take n xs h.1)
 
 -- ---- the position of a machine, and its state
 
@@ -125,7 +118,7 @@ module _ (old new : MachineView) (t bs : List ℕ) (ms ns : List Mark) (h : Stan
   all-taken = r.taken ∙ ap (λ n. n + length bs) h.taken ∙ sym (length-append t bs)
 
   stands-on : new.open_count ≤ new.depth → new.taken ≤ new.bytes → new.refusal ≡ None → new.told ≡ total (ms ++ ns) → StandsFor new (t ++ bs) (ms ++ ns)
-  stands-on bounded limited live next = meant new (t ++ bs) (ms ++ ns) (are_bytes-append t bs h.are_bytes b) on sound bounded all-taken limited next live
+  stands-on bounded limited live next = meant new (t ++ bs) (ms ++ ns) (bytes_join t bs h.are_bytes b) on sound bounded all-taken limited next live
 
   all-told : IsSettled new.inner.frames new.inner.position → total (ms ++ ns) ≡ length (t ++ bs)
   all-told settled =
@@ -151,7 +144,7 @@ given old new e t bs ms h b depth sound bounded limited s =
       place = s.2 ∙ h.next;
       ends = all;
       bytes =
-          let bytes = are_bytes-append t bs h.are_bytes b in
+          let bytes = bytes_join t bs h.are_bytes b in
           let ran = on old new t bs ms ns h b depth sound s.0 in
           subst (λ (n : ℕ). IsEventBytes ms e.width e.kind (drop n (t ++ bs))) (sym (s.2 ∙ h.next))
           (last-bytes new.depth (state_of new.inner.position new.inner.frames) (t ++ bs) ms e.width e.kind bytes ran (settled-clear new.inner.position new.inner.frames s.4) s.5);
@@ -175,7 +168,7 @@ byte-refused old new r t bs ms h b going depth sound bounded taken limit told s 
     let refuses : take_byte new.depth q c ≡ automaton.refuses r.reason = ap (λ d. take_byte d q c) depth ∙ s.refuses in
     let ran : run new.depth start p ≡ reached q ms = run-on new.depth t front before_it q ms [] began walked ∙ ap (reached q) (append-nil ms) in
     let unfinished = silent-unfinished new.depth front before_it q (sane-run new.depth t start before_it ms tt began) (unfinished-position old.inner.position old.inner.frames going) walked in
-    let bytes : AreBytes p = are_bytes-append t front h.are_bytes small.0 in
+    let bytes : AreBytes p = bytes_join t front h.are_bytes small.0 in
     let all : t ++ bs ≡ p ++ c ∷ [] = ap (λ xs. t ++ xs) s.splits ∙ sym (append_assoc t front (c ∷ [])) in
     let size : length (p ++ c ∷ []) ≡ new.taken = sym (ap length all) ∙ length-append t bs ∙ ap (λ n. n + length bs) (sym h.taken) ∙ sym taken in
     let limited : length p ≤ new.bytes = omega (arith, one-more p c, size, limit) in
@@ -211,7 +204,7 @@ limit-refused old new r t bs ms h b going depth sound bounded told s limit is =
     let q = state_of new.inner.position new.inner.frames in
     let ran : run new.depth start p ≡ reached q ms = on old new t bs ms [] h b depth sound s ∙ ap (reached q) (append-nil ms) in
     let unfinished = silent-unfinished old.depth bs before_it q (sane-run old.depth t start before_it ms tt h.inner.ran) (unfinished-position old.inner.position old.inner.frames going) s.ran in
-    let bytes : AreBytes p = are_bytes-append t bs h.are_bytes b in
+    let bytes : AreBytes p = bytes_join t bs h.are_bytes b in
     let size : length p ≡ new.bytes = sym (all-taken old new t bs ms [] h b depth sound s) ∙ limit in
     record {
       front = bs;

@@ -18,7 +18,7 @@ use Rattle.cbor_judging.specs.Judged.{IsJudged, Never}
 use Rattle.cbor_strict.specs.inner.LastKeys.{seen, IsKept}
 use Rattle.cbor_strict.specs.inner.OpenItems.{frames_in, bytes_before, Stands, HasEnded, HasPartCome}
 use Rattle.cbor_judging.specs.Reading.{AreRefused, IsAt, IsUndecided, string_major}
-use Rattle.cbor_judging.proofs.ByteLists.{bytes_join, bytes_front}
+use Rattle.cbor_grammar.proofs.ByteLists.{bytes_join, bytes_front}
 use Rattle.cbor_judging.proofs.Heads.{zero_bytes, zero_length}
 use Rattle.cbor_judging.proofs.Leaves.{text_complains}
 use Rattle.cbor_strict.proofs.OpenHeads.{refused_part, memory_part}

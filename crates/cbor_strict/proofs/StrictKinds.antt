@@ -14,7 +14,7 @@ use Rattle.cbor_judging.specs.Kinds.{AsksForKinds, KeepsToKinds, IsKeyDue, HasBa
 use Rattle.cbor_judging.specs.OpenMaps.{before_all, ArePath}
 use Rattle.cbor_judging.specs.Place.{Container, Place, at_item, IsTaking}
 use Rattle.cbor_judging.specs.Reading.{string_major}
-use Rattle.cbor_judging.proofs.ByteLists.{bytes_join}
+use Rattle.cbor_grammar.proofs.ByteLists.{bytes_join}
 use Rattle.cbor_judging.proofs.Heads.{open_or, zero_bytes, zero_length}
 use Rattle.cbor_judging.proofs.KindBytes.{basic_mark, kinds_behind, Begins, mark_begins, string_is_one, keeps_due}
 use Rattle.cbor_judging.proofs.KindFrames.{due_last, IsAround, around_frames, keeps_more}

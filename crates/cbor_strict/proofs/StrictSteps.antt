@@ -20,7 +20,7 @@ use Rattle.cbor_strict.proofs.StrictKinds.{basic_kind, keeps_mark, keeps_string}
 use Rattle.cbor_events.specs.NextKey.{IsBasicKind}
 use Rattle.cbor_judging.specs.Kinds.{AsksForKinds, KeepsToKinds, IsKeyDue}
 use Rattle.cbor_judging.proofs.Items.{taking-some}
-use Rattle.cbor_judging.proofs.ByteLists.{bytes_join}
+use Rattle.cbor_grammar.proofs.ByteLists.{bytes_join}
 use Rattle.cbor_judging.proofs.Payloads.{IsPiece, IsPayload, none-come, part-fits, part-comes, piece-due}
 use Rattle.cbor_judging.proofs.Scalars.{at-as}
 use Rattle.cbor_judging.proofs.Steps.{SameLimits, next-at, head-taken, at-reached, same-place}

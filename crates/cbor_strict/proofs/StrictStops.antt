@@ -12,7 +12,7 @@ use Rattle.cbor_automaton.specs.Trace.{Mark}
 use Rattle.cbor_standing.specs.Machine.{IsComplete}
 use Rattle.cbor_standing.specs.NextEvent.{ItemEventsView, StandsBetween, IsNext, call}
 use Rattle.cbor_events.specs.NextKey.{IsBehindBasic, IsOtherKey, IsKeyReason}
-use Rattle.cbor_events.proofs.Keys.{no-payload}
+use Rattle.cbor_standing.proofs.Positions.{no-payload}
 use Rattle.cbor_judging.specs.Frame.{Frame}
 use Rattle.cbor_judging.specs.Judged.{IsJudged}
 use Rattle.cbor_judging.specs.Kinds.{AsksForKinds, KeepsToKinds, IsKeyDue, HasBasicFront}
@@ -20,7 +20,7 @@ use Rattle.cbor_judging.specs.OpenMaps.{AreOpen}
 use Rattle.cbor_judging.specs.Place.{at_item}
 use Rattle.cbor_judging.specs.Readers.{IsUnread}
 use Rattle.cbor_judging.specs.Reading.{AreRefused, IsMemory, IsReached, IsUndecided, HasCause, IsCutHead, string_major}
-use Rattle.cbor_judging.proofs.ByteLists.{bytes_join}
+use Rattle.cbor_grammar.proofs.ByteLists.{bytes_join}
 use Rattle.cbor_judging.proofs.Items.{cut-judged}
 use Rattle.cbor_judging.proofs.Judged.{judged_start}
 use Rattle.cbor_judging.proofs.KindBytes.{Begins, judged_begins, silent_is_one, keeps_due, byte_begins}

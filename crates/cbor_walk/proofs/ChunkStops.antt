@@ -16,7 +16,7 @@ use Rattle.cbor_automaton.proofs.Beginnings.{telling_all-reached}
 use Rattle.cbor_automaton.proofs.FirstByte.{split}
 use Rattle.cbor_automaton.proofs.Forward.{Starts, chunk_starts, string-taken}
 use Rattle.cbor_automaton.proofs.Taking.{nothing-taken}
-use Rattle.cbor_judging.proofs.ByteLists.{bytes_front, bytes_back}
+use Rattle.cbor_grammar.proofs.ByteLists.{bytes_front, bytes_back}
 use Rattle.cbor_judging.proofs.KindBytes.{one_head_front}
 use Rattle.cbor_judging.proofs.Leaves.{chunks_bytes, between, cut_chunk, chunk_complains}
 use Rattle.cbor_judging.specs.Judged.{IsJudged}

@@ -6,7 +6,7 @@ use Rattle.cbor_head.specs.declared.major.Major.{Major}
 use Rattle.cbor_head.specs.declared.major.Major.TheVariants as majors
 use Rattle.cbor_head.specs.declared.width.Width.{Width}
 use Rattle.cbor_head.specs.declared.width.Width.TheVariants.{Indefinite}
-use Rattle.cbor_judging.proofs.ByteLists.{bytes_front, bytes_back}
+use Rattle.cbor_grammar.proofs.ByteLists.{bytes_front, bytes_back}
 use Rattle.cbor_judging.proofs.Leaves.{IsChunked, bytes_chunked, text_chunked, chunks_bytes, AreChunksSoFar, chunk, chunks_more, chunks_whole}
 use Rattle.cbor_judging.proofs.Levels.{clean-anywhere}
 use Rattle.cbor_judging.specs.Judged.{Never}

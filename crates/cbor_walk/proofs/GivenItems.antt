@@ -7,7 +7,7 @@ use Rattle.cbor_head.specs.declared.major.Major.TheVariants as majors
 use Rattle.cbor_head.specs.declared.width.Width.{Width}
 use Rattle.cbor_builder.specs.Built.{IsLeaf, IsContainer}
 use Rattle.cbor_grammar.proofs.ReadLaws.{length_head}
-use Rattle.cbor_judging.proofs.ByteLists.{bytes_front}
+use Rattle.cbor_grammar.proofs.ByteLists.{bytes_front}
 use Rattle.cbor_judging.proofs.Heads.{open_or}
 use Rattle.cbor_judging.proofs.KindBytes.{head_is_one, string_is_one}
 use Rattle.cbor_judging.specs.Kinds.{IsOfOneHead}

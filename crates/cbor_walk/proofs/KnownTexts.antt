@@ -6,7 +6,7 @@ use Rattle.std.proofs.lemmas.Str.{IsUtf8-from_is_utf8, is_utf8-from_IsUtf8}
 use Rattle.cbor_head.specs.Prelude.{Complaint, plain, complaint, Holds, head, AreBytes}
 use Rattle.cbor_head.specs.declared.major.Major.TheVariants.{Text}
 use Rattle.cbor_head.specs.declared.reason.Reason.TheVariants.{InvalidText}
-use Rattle.cbor_judging.proofs.ByteLists.{bytes_front}
+use Rattle.cbor_grammar.proofs.ByteLists.{bytes_front}
 use Rattle.cbor_judging.proofs.CleanParts.{clean-front}
 use Rattle.cbor_judging.proofs.Leaves.{text_complains}
 use Rattle.cbor_judging.specs.Judged.{IsJudged}

@@ -1,6 +1,6 @@
 -- What a sink was given of a valid item, as a walk comes to its parts.
 use Rattle.std.specs.Prelude.{ℕ, ◌≡◌, ◌<◌, ◌≤◌, ◌-◌, ◌^◌, ◌⊎◌, ◌++◌, Bool, true, false, List, [], ◌∷◌, length}
-use Rattle.cbor_head.specs.Prelude.{plain, Bounds, Spelling, SpelledEntries, array, a_map, no_spellings, no_entries, spell, value_of, entries_of, IsSpelled, depth, Value}
+use Rattle.cbor_head.specs.Prelude.{plain, Bounds, Spelling, SpelledEntries, array, a_map, no_spellings, no_entries, spell, value_of, IsSpelled, depth, Value}
 use Rattle.cbor_head.specs.Spelling as spelling
 use Rattle.cbor_head.specs.Value as value
 use Rattle.cbor_head.specs.declared.major.Major.{Major}

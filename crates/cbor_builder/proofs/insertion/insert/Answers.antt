@@ -4,7 +4,7 @@ use Rattle.std.proofs.lemmas.List.Sorted.{IsPermutation-insert}
 use Rattle.cbor_buffer.specs.Spans.{span_pair, no_span}
 use Rattle.cbor_buffer.specs.declared.span.Span.{Span}
 use Rattle.cbor_buffer.proofs.Slices.{get_same}
-use Rattle.cbor_keys.proofs.KeyFronts.{are_bytes}
+use Rattle.cbor_canonical.proofs.ByteLists.{are_bytes}
 use Rattle.cbor_canonical.proofs.Orders.{tied}
 use Rattle.cbor_canonical.specs.Pairs.{IsRising}
 use Rattle.cbor_builder.specs.inner.Front.{key_of}

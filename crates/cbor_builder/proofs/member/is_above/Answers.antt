@@ -2,7 +2,7 @@ use Rattle.std.proofs.Common.{◌-◌, length, ◌∙◌, ap, sym, subst, arith}
 use Rattle.std.specs.Ordering.{is_lt}
 use Rattle.std.proofs.lemmas.Option.{get_or_from_slice_get}
 use Rattle.cbor_builder.specs.inner.Front.{IsFronted}
-use Rattle.cbor_keys.proofs.KeyFronts.{are_bytes}
+use Rattle.cbor_canonical.proofs.ByteLists.{are_bytes}
 use Rattle.cbor_builder.proofs.Ranks.{agree_spans, fronted_drop}
 use Rattle.cbor_builder.proofs.SortedSpans.{above_last}
 use Rattle.cbor_builder.proofs.member.is_above.Goals as goal

@@ -2,7 +2,7 @@ use Rattle.std.proofs.Common.{ℕ, Option, map, sym, subst, arith, MatchOption, 
 use Rattle.cbor_builder.specs.Built.{AreAllDifferent, IsFirstRepeat}
 use Rattle.cbor_builder.specs.inner.Front.{key_of}
 use Rattle.std.proofs.lemmas.List.Sums.{count_by-le-length}
-use Rattle.cbor_keys.proofs.KeyFronts.{are_bytes}
+use Rattle.cbor_canonical.proofs.ByteLists.{are_bytes}
 use Rattle.cbor_builder.specs.inner.Repeats.{lies_before}
 use Rattle.cbor_builder.proofs.Ranks.{fronted_permuted, sorted_keys}
 use Rattle.cbor_builder.proofs.FirstRepeat.{bit_most, none_told, one_told, placed}

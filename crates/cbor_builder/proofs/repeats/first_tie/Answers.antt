@@ -2,7 +2,7 @@ use Rattle.std.proofs.Common.{◌≡◌, ◌+◌, ◌-◌, ◌≤◌, length, mi
 use Rattle.std.proofs.lemmas.Bool.{eqb-false}
 use Rattle.cbor_builder.specs.inner.Repeats.{IsFirstTie, IsLeastOfKey, IsFirstOf}
 use Rattle.cbor_builder.specs.declared.repeats.Tie.{Tie}
-use Rattle.cbor_keys.proofs.KeyFronts.{are_bytes}
+use Rattle.cbor_canonical.proofs.ByteLists.{are_bytes}
 use Rattle.cbor_builder.proofs.Ties.{tie_alone, tie_passed, tie_met}
 use Rattle.cbor_builder.proofs.SortedSpans.{compared}
 use Rattle.cbor_builder.proofs.repeats.first_tie.Goals as goal

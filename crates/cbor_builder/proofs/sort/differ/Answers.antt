@@ -2,7 +2,7 @@ use Rattle.std.proofs.Common.{◌≡◌, ◌↔◌, ◌+◌, ◌-◌, map, drop,
 use Rattle.cbor_builder.specs.inner.Neighbours.{DoNeighboursDiffer}
 use Rattle.cbor_canonical.proofs.Decided.{fails}
 use Rattle.cbor_builder.specs.inner.Front.{key_of}
-use Rattle.cbor_keys.proofs.KeyFronts.{are_bytes}
+use Rattle.cbor_canonical.proofs.ByteLists.{are_bytes}
 use Rattle.cbor_builder.proofs.Neighbours.{differ_end}
 use Rattle.cbor_builder.proofs.SortedSpans.{differ_step}
 use Rattle.cbor_builder.proofs.sort.differ.Goals as goal

@@ -1,5 +1,5 @@
 use Rattle.std.proofs.Common.{arith}
-use Rattle.cbor_keys.proofs.KeyFronts.{are_bytes}
+use Rattle.cbor_canonical.proofs.ByteLists.{are_bytes}
 use Rattle.cbor_builder.proofs.Ranks.{fronted_permuted, sorted_keys}
 use Rattle.cbor_builder.proofs.SortedSpans.{all_sorted}
 use Rattle.cbor_builder.proofs.sort.sort_distinct.Goals as goal

@@ -1,4 +1,4 @@
-use Rattle.cbor_events.proofs.Told.{told-none, told-more, told-joined}
+use Rattle.cbor_standing.proofs.Told.{told-none, told-more, told-joined}
 use Rattle.cbor_events.proofs.laws.told_events.Goals as goal
 
 pub returns-clause-none : goal.returns-clause-none

@@ -2,7 +2,7 @@ use Rattle.std.proofs.Common.{◌≡◌, ◌⊎◌, ℕ, ◌+◌, ◌-◌, ◌%�
 use Rattle.std.proofs.lemmas.Bool.{cases_lt}
 use Rattle.std.proofs.lemmas.List.{nil_from_length}
 use Rattle.cbor_head.specs.Prelude.{strict, AreBytes}
-use Rattle.cbor_keys.proofs.KeyFronts.{are_bytes}
+use Rattle.cbor_canonical.proofs.ByteLists.{are_bytes}
 use Rattle.cbor_judging.proofs.RefusedHere.{nothing_here, misplaced_here, endless_here, cut_here, no_simple_here, long_here}
 use Rattle.cbor_judging.proofs.HeadComplaints.{shortest_clean}
 use Rattle.cbor_front.specs.Strings.{IsStringHead}

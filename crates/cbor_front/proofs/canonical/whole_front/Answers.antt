@@ -1,5 +1,5 @@
 use Rattle.std.proofs.Common.{[], inl, ◌∙◌, arith}
-use Rattle.cbor_keys.proofs.KeyFronts.{are_bytes}
+use Rattle.cbor_canonical.proofs.ByteLists.{are_bytes}
 use Rattle.cbor_judging.proofs.RefusedHere.{no_break, no_break_here}
 use Rattle.cbor_front.proofs.Taking.{starts_at, start_keeps, start_place, leaf_is_whole}
 use Rattle.cbor_front.proofs.canonical.whole_front.Goals as goal

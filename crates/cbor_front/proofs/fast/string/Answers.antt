@@ -1,7 +1,7 @@
 use Rattle.std.proofs.Common.{false, arith}
 use Rattle.std.proofs.lemmas.List.{take_rest}
 use Rattle.cbor_head.specs.Prelude.{AreBytes}
-use Rattle.cbor_keys.proofs.KeyFronts.{are_bytes}
+use Rattle.cbor_canonical.proofs.ByteLists.{are_bytes}
 use Rattle.cbor_front.specs.inner.Items.{IsShortString}
 use Rattle.cbor_front.proofs.ShortLeaves.{short-bytes, short-text}
 use Rattle.cbor_front.proofs.fast.string.Goals as goal

@@ -1,7 +1,7 @@
 use Rattle.std.proofs.Common.{◌≡◌, ◌↔◌, IsTrue, slice_range, refl, sym, ap, ◌∙◌, subst, rules, arith}
 use Rattle.std.proofs.lemmas.Option.{get_or_from_slice_get}
 use Rattle.cbor_head.specs.Value as value
-use Rattle.cbor_head.specs.Prelude.{Value, Same, SameValues, IsValid}
+use Rattle.cbor_head.specs.Prelude.{Same, SameValues, IsValid}
 use Rattle.cbor_head.specs.Value.{entries_count}
 use Rattle.cbor_item.specs.declared.item.Item.TheViews.{the_lemmas}
 use Rattle.cbor_item.specs.View.{view}

@@ -2,7 +2,7 @@ use Rattle.std.proofs.Common.{◌≡◌, ◌∙◌, ◌-◌, Bool, length, take,
 use Rattle.std.proofs.Math.Seq.{take-length}
 use Rattle.std.proofs.lemmas.List.{nil_from_length}
 use Rattle.cbor_head.specs.Prelude.{major_number}
-use Rattle.cbor_keys.proofs.KeyFronts.{are_bytes}
+use Rattle.cbor_grammar.proofs.ByteLists.{are_bytes}
 use Rattle.cbor_judging.specs.Reading.{string_major}
 use Rattle.cbor_walk.proofs.ChunkStops.{chunks_end_here, chunk_head_cut_here, no_chunk_here, chunk_fault_here, chunk-head, chunk-text, text-chunk}
 use Rattle.cbor_walk.proofs.Chunked.{AreRead, none-read, one-read}

@@ -1,5 +1,5 @@
 use Rattle.std.proofs.Common.{◌∙◌, ℕ, nat_lt, refl, sym, ap, subst, arith, inl}
-use Rattle.cbor_keys.proofs.KeyFronts.{are_bytes}
+use Rattle.cbor_grammar.proofs.ByteLists.{are_bytes}
 use Rattle.cbor_judging.specs.Stop.{IsAnswered}
 use Rattle.cbor_walk.proofs.GivenStops.{StopsBefore, stopped-there}
 use Rattle.cbor_walk.proofs.ToldStops.{told_where_due, told_at_end}

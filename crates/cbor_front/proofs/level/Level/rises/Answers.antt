@@ -1,6 +1,6 @@
 use Rattle.std.proofs.Common.{◌≡◌, nat_lt, sym, subst, arith}
 use Rattle.cbor_head.specs.Prelude.{key_lt}
-use Rattle.cbor_keys.proofs.KeyFronts.{are_bytes, bytes_slice}
+use Rattle.cbor_canonical.proofs.ByteLists.{are_bytes, bytes_slice}
 use Rattle.cbor_front.specs.inner.Cells.{last_key, key_at}
 use Rattle.cbor_front.proofs.KeyOrder.{by_front}
 use Rattle.cbor_front.proofs.level.Level.rises.Goals as goal

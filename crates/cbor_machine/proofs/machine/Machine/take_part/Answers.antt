@@ -4,11 +4,11 @@ use Rattle.cbor_head.specs.declared.reason.Reason.TheVariants.{TooLong}
 use Rattle.cbor_standing.specs.declared.step.Out.TheVariants as outs
 use Rattle.cbor_standing.specs.MachineView.{MachineView}
 use Rattle.cbor_standing.specs.Steps.{Ran}
-use Rattle.cbor_standing.proofs.Standing.{are_bytes-take, fit-sound, front-walked, length-front, step-from, stopped, answered}
+use Rattle.cbor_standing.proofs.Standing.{bytes_take, fit-sound, front-walked, length-front, step-from, stopped, answered}
 use Rattle.cbor_steps.specs.State.{IsFit}
 use Rattle.cbor_machine.proofs.Reasons.{form-machine}
 use Rattle.cbor_machine.proofs.Wanting.{goes-within, nothing-refused, wants-more}
-use Rattle.cbor_steps.proofs.Frames.{not-done}
+use Rattle.cbor_standing.proofs.Positions.{not-done}
 use Rattle.cbor_machine.proofs.machine.Machine.take_part.Goals as goal
 
 pub returns-in-Told-clause-walked : goal.returns-in-Told-clause-walked
@@ -27,7 +27,7 @@ returns-in-Told-clause-answers c = λ t ms h.
     let u = c.walk-used.ensures.used in
     let len = length-front c.walk-used.result.0 c.part-end.result c.args.input.now u (omega (arith, c.part-end.ensures)) in
     let depth : c.from-depth.result ≡ c.self.inside.limits.depth = c.from-depth.ensures ∙ c.depth.ensures.depth in
-    answered (outs.Event (record { place = c.self.inside.told; width = c.in-Told.width; kind = c.in-Told.kind })) _ _ t (take c.walk-used.result.0 c.args.input.now) ms h (are_bytes-take c.walk-used.result.0 c.args.input.now c.below_256.ensures)
+    answered (outs.Event (record { place = c.self.inside.told; width = c.in-Told.width; kind = c.in-Told.kind })) _ _ t (take c.walk-used.result.0 c.args.input.now) ms h (bytes_take c.walk-used.result.0 c.args.input.now c.below_256.ensures)
     (λ e. c.in_default-position.not-Done (ap (λ (m : MachineView). m.inner.position) c.self.view_is ∙ e)) (ap (λ (m : MachineView). m.depth) c.self.view_is) (fit-sound _ _ (record { open_count = refl; due = refl; item_due = refl; in_payload = refl; complete = refl }) c.walk-used.ensures.fits) (omega arith)
     (ap (λ n. c.self.inside.taken + n) (sym len.1) ∙ ap (λ (m : MachineView). m.taken + length (take c.walk-used.result.0 c.args.input.now)) c.self.view_is)
     (omega (arith, length-take c.part-end.result c.args.input.now)) (returns-in-Told-clause-walked c h.live)
@@ -47,7 +47,7 @@ returns-then-self-bytes-clause-answers c = λ t ms h.
     let u = c.walk-used.ensures.used in
     let len = length-front c.walk-used.result.0 c.part-end.result c.args.input.now u (omega (arith, c.part-end.ensures)) in
     let depth : c.from-depth.result ≡ c.self.inside.limits.depth = c.from-depth.ensures ∙ c.depth.ensures.depth in
-    answered outs.More _ _ t (take c.walk-used.result.0 c.args.input.now) ms h (are_bytes-take c.walk-used.result.0 c.args.input.now c.below_256.ensures)
+    answered outs.More _ _ t (take c.walk-used.result.0 c.args.input.now) ms h (bytes_take c.walk-used.result.0 c.args.input.now c.below_256.ensures)
     (λ e. c.in_default-position.not-Done (ap (λ (m : MachineView). m.inner.position) c.self.view_is ∙ e)) (ap (λ (m : MachineView). m.depth) c.self.view_is) (fit-sound _ _ (record { open_count = refl; due = refl; item_due = refl; in_payload = refl; complete = refl }) c.walk-used.ensures.fits) (omega arith)
     (ap (λ n. c.self.inside.taken + n) (sym len.1) ∙ ap (λ (m : MachineView). m.taken + length (take c.walk-used.result.0 c.args.input.now)) c.self.view_is)
     (omega (arith, length-take c.part-end.result c.args.input.now)) (returns-then-self-bytes-clause-walked c h.live)
@@ -68,7 +68,7 @@ returns-else-self-bytes-clause-answers c = λ t ms h.
     let u = c.walk-used.ensures.used in
     let len = length-front c.walk-used.result.0 c.part-end.result c.args.input.now u (omega (arith, c.part-end.ensures)) in
     let depth : c.from-depth.result ≡ c.self.inside.limits.depth = c.from-depth.ensures ∙ c.depth.ensures.depth in
-    rw c.new-refusal.ensures (answered (outs.Refused (refusal TooLong c.bytes-bytes.result c.bytes-bytes.result)) _ _ t (take c.walk-used.result.0 c.args.input.now) ms h (are_bytes-take c.walk-used.result.0 c.args.input.now c.below_256.ensures)
+    rw c.new-refusal.ensures (answered (outs.Refused (refusal TooLong c.bytes-bytes.result c.bytes-bytes.result)) _ _ t (take c.walk-used.result.0 c.args.input.now) ms h (bytes_take c.walk-used.result.0 c.args.input.now c.below_256.ensures)
     (λ e. c.in_default-position.not-Done (ap (λ (m : MachineView). m.inner.position) c.self.view_is ∙ e)) (ap (λ (m : MachineView). m.depth) c.self.view_is) (fit-sound _ _ (record { open_count = refl; due = refl; item_due = refl; in_payload = refl; complete = refl }) c.walk-used.ensures.fits) (omega arith)
     (ap (λ n. c.self.inside.taken + n) (sym len.1) ∙ ap (λ (m : MachineView). m.taken + length (take c.walk-used.result.0 c.args.input.now)) c.self.view_is)
     (omega (arith, length-take c.part-end.result c.args.input.now)) (rw c.new-refusal.ensures at (returns-else-self-bytes-clause-walked c h.live)))
@@ -86,7 +86,7 @@ returns-in-Refused-clause-answers c = λ t ms h.
     let u = c.walk-used.ensures.used in
     let len = length-front c.walk-used.result.0 c.part-end.result c.args.input.now u (omega (arith, c.part-end.ensures)) in
     let depth : c.from-depth.result ≡ c.self.inside.limits.depth = c.from-depth.ensures ∙ c.depth.ensures.depth in
-    rw c.new-refusal-in-Refused.ensures (answered (outs.Refused (refusal c.in-Refused.reason (c.self.inside.taken + c.walk-used.result.0 - 1) (c.self.inside.taken + c.walk-used.result.0))) _ _ t (take c.walk-used.result.0 c.args.input.now) ms h (are_bytes-take c.walk-used.result.0 c.args.input.now c.below_256.ensures)
+    rw c.new-refusal-in-Refused.ensures (answered (outs.Refused (refusal c.in-Refused.reason (c.self.inside.taken + c.walk-used.result.0 - 1) (c.self.inside.taken + c.walk-used.result.0))) _ _ t (take c.walk-used.result.0 c.args.input.now) ms h (bytes_take c.walk-used.result.0 c.args.input.now c.below_256.ensures)
     (λ e. c.in_default-position.not-Done (ap (λ (m : MachineView). m.inner.position) c.self.view_is ∙ e)) (ap (λ (m : MachineView). m.depth) c.self.view_is) (fit-sound _ _ (record { open_count = refl; due = refl; item_due = refl; in_payload = refl; complete = refl }) c.walk-used.ensures.fits) (omega arith)
     (ap (λ n. c.self.inside.taken + n) (sym len.1) ∙ ap (λ (m : MachineView). m.taken + length (take c.walk-used.result.0 c.args.input.now)) c.self.view_is)
     (omega (arith, length-take c.part-end.result c.args.input.now)) (rw c.new-refusal-in-Refused.ensures at (returns-in-Refused-clause-walked c h.live)))

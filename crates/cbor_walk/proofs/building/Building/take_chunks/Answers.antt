@@ -1,6 +1,6 @@
 use Rattle.std.proofs.Common.{◌≡◌, ◌≤◌, ◌∙◌, ◌-◌, List, ℕ, ◌∷◌, length, take, drop, refl, ap, sym, subst, arith, length-drop, IsUtf8}
 use Rattle.std.proofs.Math.Seq.{take-length}
-use Rattle.cbor_keys.proofs.KeyFronts.{are_bytes}
+use Rattle.cbor_grammar.proofs.ByteLists.{are_bytes}
 use Rattle.cbor_judging.specs.Reading.{string_major, string_value}
 use Rattle.cbor_head.specs.Prelude.{chunks_joined}
 use Rattle.cbor_walk.specs.inner.Parts.{IsHead, chunked_from}

@@ -1,7 +1,7 @@
 use Rattle.std.proofs.Common.{◌≡◌, ◌∙◌, ◌∷◌, ◌-◌, ◌<◌, ◌≤◌, List, ℕ, length, take, drop, ap, sym, subst, arith, length-drop, refl, IsUtf8}
 use Rattle.std.proofs.Math.Seq.{take-length}
 use Rattle.cbor_head.specs.Prelude.{AreBytes}
-use Rattle.cbor_keys.proofs.KeyFronts.{are_bytes}
+use Rattle.cbor_grammar.proofs.ByteLists.{are_bytes}
 use Rattle.cbor_judging.specs.Reading.{string_major, string_value}
 use Rattle.cbor_walk.specs.inner.Building.{IsHeadDue, HasEnded}
 use Rattle.cbor_walk.specs.inner.Parts.{HasBegun}

@@ -11,8 +11,8 @@ use Rattle.cbor_standing.specs.NextEvent.{Call, StandsBetween, IsNextEvent, IsEn
 use Rattle.cbor_automaton.specs.Bytes.{IsEventBytes}
 use Rattle.cbor_automaton.proofs.Events.{le-leb}
 use Rattle.cbor_automaton.specs.declared.event.Event.{Event}
-use Rattle.cbor_events.proofs.Joining.{rejoin, joined-rejoin, cut-rejoin}
-use Rattle.cbor_events.proofs.Rows.{total-append, row-append, events-row}
+use Rattle.cbor_automaton.proofs.Joining.{rejoin, joined-rejoin, cut-rejoin}
+use Rattle.cbor_automaton.proofs.Rows.{total-append, row-append, events-row}
 
 pub told-none : AreTold [] []
 told-none = record { row = tt; marks = refl }

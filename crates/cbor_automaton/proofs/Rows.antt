@@ -14,7 +14,7 @@ use Rattle.cbor_automaton.specs.declared.event.Event.{Event}
 use Rattle.cbor_automaton.specs.declared.event.EventKind.{EventKind}
 use Rattle.cbor_automaton.specs.declared.event.EventKind.TheVariants.{Unsigned, Negative, Simple, Bytes, Text, Chunk as ChunkHead, Array, Map, Tag, End}
 use Rattle.cbor_automaton.proofs.Tiling.{head-size}
-use Rattle.cbor_events.proofs.Joining.{IsSingle, IsFresh, AreApart}
+use Rattle.cbor_automaton.proofs.Joining.{IsSingle, IsFresh, AreApart}
 
 pub total-append : (ms ns : List Mark) → total (ms ++ ns) ≡ total ms + total ns
 total-append [] ns = omega arith
