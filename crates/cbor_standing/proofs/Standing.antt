@@ -31,7 +31,8 @@ use Rattle.cbor_automaton.proofs.Tiling.{last-bytes}
 use Rattle.cbor_automaton.specs.Bytes.{IsEventBytes}
 use Rattle.cbor_grammar.proofs.ByteLists.{bytes_join}
 pub use Rattle.cbor_grammar.proofs.ByteLists.{bytes_take}
-use Rattle.cbor_standing.proofs.Positions.{length_frames, position-done}
+use Rattle.cbor_steps.proofs.Frames.{length_frames}
+use Rattle.cbor_standing.proofs.Positions.{position-done}
 use Rattle.cbor_automaton.proofs.Opens.{stack, opens}
 use Rattle.cbor_automaton.proofs.Runs.{take-behind, run-on, silent-unfinished, sane-run, tiles}
 

@@ -1,15 +1,20 @@
 -- The stack of frames, whose last is the innermost.
-use Rattle.std.proofs.Common.{◌≡◌, ℕ, ◌+◌, List, [], ◌∷◌, ◌++◌, map, refl, ap, ◌∙◌, arith, pow-suc, mul_comm, mul-le-mul_left, mul-le-mul_right, subst, add-one, ◌*◌, ◌^◌, ◌≤◌, ◌<◌, ◌-◌, true, false}
-use Rattle.std.proofs.lemmas.List.{reverse-append}
+use Rattle.std.proofs.Common.{◌≡◌, ℕ, ◌+◌, List, [], ◌∷◌, ◌++◌, map, reverse, length, refl, ap, ◌∙◌, arith, pow-suc, mul_comm, mul-le-mul_left, mul-le-mul_right, subst, add-one, ◌*◌, ◌^◌, ◌≤◌, ◌<◌, ◌-◌, true, false}
+use Rattle.std.proofs.lemmas.List.{reverse-append, length-reverse, length-map}
 use Rattle.std.proofs.Math.Nat.{pow-le-pow_right}
-use Rattle.cbor_steps.specs.State.{frame_of, frames_of, head_left, wanted_at, IsFit, IsSettled, is_in_payload, is_done}
+use Rattle.cbor_steps.specs.State.{frame_of, frames_of, head_left, wanted_at, IsFit, IsNextFit, IsSettled, IsNextSettled, is_in_payload, is_done}
 use Rattle.cbor_steps.specs.declared.position.Position.{Position}
 use Rattle.cbor_steps.specs.declared.position.Position.TheVariants.{Item, Head, SimpleNumber, Payload, Chunks, Done}
+use Rattle.cbor_steps.specs.declared.take_byte.Next.{Next}
+use Rattle.cbor_steps.specs.declared.take_byte.Next.TheVariants.{Refuses, Goes, Tells}
 use Rattle.cbor_steps.specs.declared.frame.Frame.{Frame}
 
 -- the innermost frame stands last
 pub frames_push : (xs : List Frame) (f : Frame) → frames_of (xs ++ f ∷ []) ≡ frame_of f ∷ frames_of xs
 frames_push xs f = ap (map frame_of) (reverse-append xs (f ∷ []))
+
+pub length_frames : (xs : List Frame) → length (frames_of xs) ≡ length xs
+length_frames xs = length-map (reverse xs) frame_of ∙ length-reverse xs
 
 -- an argument with so many bytes to come has room for the next
 pub room_now : (a k : ℕ) → (a + 1) * 256 ^ (k + 1) ≤ 2 ^ 64 → (a + 1) * 256 ≤ 2 ^ 64
@@ -26,6 +31,16 @@ room_next a k c hc hk h =
     let all : (a + 1) * (256 * unit) ≤ 2 ^ 64 = subst (λ (x : ℕ). (a + 1) * x ≤ 2 ^ 64) wider h in
     let up : (a * 256 + c + 1) * unit ≤ ((a + 1) * 256) * unit = mul-le-mul_right unit (omega arith) in
     rw same (omega arith)
+
+pub settled_fit : (depth : ℕ) (fs : List Frame) (position : Position) → IsSettled fs position → IsFit depth fs position
+settled_fit depth fs (Head chunk kind width left argument) h = absurd h
+settled_fit depth fs Done h = h
+settled_fit depth fs _ h = tt
+
+pub next_settled_fit : (depth : ℕ) (fs : List Frame) (next : Next) → IsNextSettled fs next → IsNextFit depth fs next
+next_settled_fit depth fs (Refuses r) h = tt
+next_settled_fit depth fs (Goes position) h = settled_fit depth fs position h
+next_settled_fit depth fs (Tells w kind position) h = settled_fit depth fs position h
 
 -- outside a payload what is open is a head
 pub wanted-head : (position : Position) → (is_in_payload position ≡ true → ⊥) → wanted_at position ≡ head_left position

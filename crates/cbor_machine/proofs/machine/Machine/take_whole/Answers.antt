@@ -5,7 +5,7 @@ use Rattle.cbor_standing.specs.Steps.{Ran}
 use Rattle.cbor_steps.specs.Walk.{IsWalked}
 use Rattle.cbor_standing.specs.declared.step.Out.TheVariants as outs
 use Rattle.cbor_steps.specs.declared.up_to_event.Walked.TheVariants.{Told}
-use Rattle.cbor_standing.proofs.Positions.{settled_fit}
+use Rattle.cbor_steps.proofs.Frames.{settled_fit}
 use Rattle.cbor_standing.proofs.NextEvents.{all-used, wants-all}
 use Rattle.cbor_standing.proofs.Standing.{answered, fit-sound, step-from}
 use Rattle.cbor_machine.proofs.machine.Machine.take_whole.Goals as goal
