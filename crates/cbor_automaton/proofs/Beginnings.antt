@@ -4,7 +4,7 @@ use Rattle.std.specs.List.{AllByRecursion}
 use Rattle.std.proofs.lemmas.List.{length-replicate}
 use Rattle.cbor_head.specs.Prelude.{IsBeginning, AreBytes, Chunk, IsChunk, Spelling, Spellings, unsigned, bytes, text, simple, no_spellings, a_spelling, spellings_count, spell, spell_all, chunk_bytes, IsSpelled, AreSpelled, depth, depth_all, IsItem}
 use Rattle.cbor_automaton.specs.Trace.{Mark, trace}
-use Rattle.cbor_automaton.specs.Automaton.{start, Frame, counted, indefinite_array, indefinite_map, State, at_item, in_head, in_simple, in_payload, in_chunks, done, Next, refuses, goes, tells, close, expect, payload, after, take_byte, Outcome, refused, reached, telling, and_then, run}
+use Rattle.cbor_automaton.specs.Automaton.{start, Frame, counted, indefinite_array, indefinite_map, State, at_item, in_head, in_simple, in_payload, in_chunks, done, Next, refuses, goes, tells, close, close_string, expect, payload, after, take_byte, Outcome, refused, reached, telling, and_then, run}
 use Rattle.cbor_head.specs.declared.major.Major.{Major}
 use Rattle.cbor_head.specs.declared.major.Major.TheVariants.{Bytes, Text, Array, Map, Tag}
 use Rattle.cbor_head.specs.declared.width.Width.TheVariants.{Direct}
@@ -84,17 +84,41 @@ complete-chunk d false Bytes fs p c b s h = complete d fs p (bytes c.width c.pay
 complete-chunk d false Text fs p c b s h = complete d fs p (text c.width c.payload) b.0 h (room-of d fs p b.0)
 complete-chunk d false _ fs p c b s h = absurd s
 
-abbrev IsSettled : State → Type 0
-IsSettled (in_head chunk m w k acc fs) = ⊥
-IsSettled _ = Unit {0}
+-- no head is open
+abbrev pub IsClear : State → Type 0
+IsClear (in_head chunk m w k acc fs) = ⊥
+IsClear (in_simple fs) = ⊥
+IsClear _ = Unit {0}
 
-settled : (d : ℕ) (q : State) (p : List ℕ) → IsSettled q → Stands d q p → IsBeginning d p
+pub close-clear : (fs : List Frame) → IsClear (close fs)
+close-clear (counted zero ∷ fs) = close-clear fs
+close-clear _ = tt
+
+expect-clear : (n : ℕ) (fs : List Frame) → IsClear (expect n fs)
+expect-clear zero fs = close-clear fs
+expect-clear (suc n) fs = tt
+
+pub close_string-clear : (chunk : Bool) (m : Major) (fs : List Frame) → IsClear (close_string chunk m fs)
+close_string-clear true m fs = tt
+close_string-clear false m fs = close-clear fs
+
+pub payload-clear : (chunk : Bool) (m : Major) (n : ℕ) (fs : List Frame) → IsClear (payload chunk m n fs)
+payload-clear chunk m zero fs = close_string-clear chunk m fs
+payload-clear chunk m (suc n) fs = tt
+
+pub after-clear : (chunk : Bool) (m : Major) (n : ℕ) (fs : List Frame) → IsClear (after chunk m n fs)
+after-clear true m n fs = payload-clear true m n fs
+after-clear false Bytes n fs = payload-clear false Bytes n fs
+after-clear false Text n fs = payload-clear false Text n fs
+after-clear false Array n fs = expect-clear n fs
+after-clear false Map n fs = expect-clear (n + n) fs
+after-clear false Tag n fs = expect-clear 1 fs
+after-clear false _ n fs = close-clear fs
+
+settled : (d : ℕ) (q : State) (p : List ℕ) → IsClear q → Stands d q p → IsBeginning d p
 settled d (at_item fs) p i o = let h : 0 < 24 = omega arith in shorter d p (0 ∷ []) (complete d fs p zero_item o h (room-of d fs p o))
 settled d (in_head chunk m w k acc fs) p i o = absurd i
-settled d (in_simple fs) p i o =
-    let h : 32 ≤ 32 = omega arith in
-    let k : 32 < 256 = omega arith in
-    shorter d p (32 ∷ []) (begins-along d _ _ (sym (append_assoc o.0 (0xf8 ∷ []) (32 ∷ [])) ∙ ap (λ xs. xs ++ 32 ∷ []) (sym o.2)) (complete d fs o.0 (simple 32) o.1 (k, λ _. h) (room-of d fs o.0 o.1)))
+settled d (in_simple fs) p i o = absurd i
 settled d (in_payload chunk m n fs) p i o =
     let more = replicate (suc n) 0 in
     let whole = o.3 more (length-replicate (suc n) 0) (zero_bytes (suc n)) in
@@ -102,34 +126,16 @@ settled d (in_payload chunk m n fs) p i o =
 settled d (in_chunks m fs) p i o = begins-along d _ _ (append-nil p) (complete-chunks d m fs p o [] tt)
 settled d done p i o = (o.0, [], record { spelled = o.1.spelled; within = o.1.within; bytes_are = o.1.bytes_are ∙ sym (append-nil p) })
 
-close-settled : (fs : List Frame) → IsSettled (close fs)
-close-settled (counted zero ∷ fs) = close-settled fs
-close-settled _ = tt
-
-expect-settled : (n : ℕ) (fs : List Frame) → IsSettled (expect n fs)
-expect-settled zero fs = close-settled fs
-expect-settled (suc n) fs = tt
-
-payload-settled : (chunk : Bool) (m : Major) (n : ℕ) (fs : List Frame) → IsSettled (payload chunk m n fs)
-payload-settled true m zero fs = tt
-payload-settled false m zero fs = close-settled fs
-payload-settled chunk m (suc n) fs = tt
-
-after-settled : (chunk : Bool) (m : Major) (n : ℕ) (fs : List Frame) → IsSettled (after chunk m n fs)
-after-settled true m n fs = payload-settled true m n fs
-after-settled false Bytes n fs = payload-settled false Bytes n fs
-after-settled false Text n fs = payload-settled false Text n fs
-after-settled false Array n fs = expect-settled n fs
-after-settled false Map n fs = expect-settled (n + n) fs
-after-settled false Tag n fs = expect-settled 1 fs
-after-settled false _ n fs = close-settled fs
-
 -- what led the machine anywhere is a beginning
 pub stands-begins : (d : ℕ) (q : State) (p : List ℕ) → Stands d q p → IsBeginning d p
 stands-begins d (in_head chunk m w k acc fs) p o =
     let more = replicate (suc k) 0 in
     let whole = o.2 more (length-replicate (suc k) 0) (zero_bytes (suc k)) in
-    shorter d p more (begins-along d _ _ (sym whole.0) (settled d _ _ (after-settled chunk m _ fs) (head-done d chunk m w _ fs o.0 o.1 whole.1)))
+    shorter d p more (begins-along d _ _ (sym whole.0) (settled d _ _ (after-clear chunk m _ fs) (head-done d chunk m w _ fs o.0 o.1 whole.1)))
+stands-begins d (in_simple fs) p o =
+    let h : 32 ≤ 32 = omega arith in
+    let k : 32 < 256 = omega arith in
+    shorter d p (32 ∷ []) (begins-along d _ _ (sym (append_assoc o.0 (0xf8 ∷ []) (32 ∷ [])) ∙ ap (λ xs. xs ++ 32 ∷ []) (sym o.2)) (complete d fs o.0 (simple 32) o.1 (k, λ _. h) (room-of d fs o.0 o.1)))
 stands-begins d q p o = settled d q p tt o
 
 -- ---- the two directions

@@ -1,14 +1,16 @@
 -- The marks so far are those of the trace that end within the bytes so far.
-use Rattle.std.proofs.Common.{◌≡◌, ℕ, zero, suc, ◌+◌, ◌-◌, ◌/◌, ◌%◌, ◌<◌, ◌≤◌, Bool, true, false, nat_lt, nat_le, cond, List, [], ◌∷◌, ◌++◌, length, refl, sym, ap, ◌∙◌, arith}
-use Rattle.std.proofs.lemmas.Bool.Decides.{nat_tests}
+use Rattle.std.proofs.Common.{◌≡◌, ℕ, zero, suc, ◌+◌, ◌-◌, ◌/◌, ◌%◌, ◌<◌, ◌≤◌, Bool, true, false, nat_lt, cond, List, [], ◌∷◌, ◌++◌, length, refl, sym, ap, ◌∙◌, subst, arith}
+use Rattle.std.proofs.lemmas.Bool.{le-leb, lt-leb}
 use Rattle.cbor_head.specs.Prelude.{Spelling, IsItem}
 use Rattle.cbor_automaton.specs.Trace.{Mark, size, more_bytes, trace, within}
-use Rattle.cbor_automaton.specs.Automaton.{start, major_at, Frame, counted, indefinite_array, indefinite_map, State, at_item, in_head, in_simple, in_payload, in_chunks, done, Opening, direct, long, indefinite_string, indefinite_container, long_simple, breaks, bad, Next, refuses, goes, tells, opening, opening_of, numbered_tail, simple_tail, indefinite_length, tail, has_room, close, expect, close_string, payload, after, mark, break_at, begin, is_major, in_string, take_byte, Outcome, refused, reached, telling, and_then, run}
+use Rattle.cbor_automaton.specs.Automaton.{start, major_at, Frame, indefinite_array, indefinite_map, State, at_item, in_head, in_simple, in_payload, in_chunks, done, Opening, direct, long, indefinite_string, indefinite_container, long_simple, breaks, bad, Next, refuses, goes, tells, opening, opening_of, indefinite_length, has_room, mark, break_at, begin, is_major, in_string, take_byte, Outcome, refused, reached, telling, and_then, run}
 use Rattle.cbor_head.specs.declared.major.Major.{Major}
-use Rattle.cbor_head.specs.declared.major.Major.TheVariants.{Bytes, Text, Array, Map, Tag, Simple}
+use Rattle.cbor_head.specs.declared.major.Major.TheVariants.{Bytes}
 use Rattle.cbor_head.specs.declared.width.Width.{Width}
 use Rattle.cbor_head.specs.declared.reason.Reason.{Reason}
+use Rattle.cbor_automaton.proofs.Openings.{by-low}
 use Rattle.cbor_automaton.proofs.Beginnings.{item-done}
+pub use Rattle.cbor_automaton.proofs.Beginnings.{IsClear, close-clear, close_string-clear, payload-clear, after-clear}
 
 -- the bytes of a head that is not complete
 abbrev pub pending : State → ℕ
@@ -20,41 +22,10 @@ abbrev pub IsSane : State → Type 0
 IsSane (in_head chunk m w k acc fs) = k < more_bytes w
 IsSane _ = Unit {0}
 
--- nothing is pending
-abbrev pub IsClear : State → Type 0
-IsClear (in_head chunk m w k acc fs) = ⊥
-IsClear (in_simple fs) = ⊥
-IsClear _ = Unit {0}
-
 pub clear-pending : (q : State) → IsClear q → (pending q ≡ 0) × IsSane q
 clear-pending (in_head chunk m w k acc fs) h = absurd h
 clear-pending (in_simple fs) h = absurd h
 clear-pending _ h = (refl, tt)
-
-pub close-clear : (fs : List Frame) → IsClear (close fs)
-close-clear (counted zero ∷ fs) = close-clear fs
-close-clear _ = tt
-
-expect-clear : (n : ℕ) (fs : List Frame) → IsClear (expect n fs)
-expect-clear zero fs = close-clear fs
-expect-clear (suc n) fs = tt
-
-pub close_string-clear : (chunk : Bool) (m : Major) (fs : List Frame) → IsClear (close_string chunk m fs)
-close_string-clear true m fs = tt
-close_string-clear false m fs = close-clear fs
-
-pub payload-clear : (chunk : Bool) (m : Major) (n : ℕ) (fs : List Frame) → IsClear (payload chunk m n fs)
-payload-clear chunk m zero fs = close_string-clear chunk m fs
-payload-clear chunk m (suc n) fs = tt
-
-pub after-clear : (chunk : Bool) (m : Major) (n : ℕ) (fs : List Frame) → IsClear (after chunk m n fs)
-after-clear true m n fs = payload-clear true m n fs
-after-clear false Bytes n fs = payload-clear false Bytes n fs
-after-clear false Text n fs = payload-clear false Text n fs
-after-clear false Array n fs = expect-clear n fs
-after-clear false Map n fs = expect-clear (n + n) fs
-after-clear false Tag n fs = expect-clear 1 fs
-after-clear false _ n fs = close-clear fs
 
 -- one byte more is pending, or a mark takes all that was, and the byte
 abbrev pub Balances : ℕ → Next → Type 0
@@ -71,36 +42,12 @@ abbrev IsWide : Opening → Type 0
 IsWide (long m w) = 0 < more_bytes w
 IsWide _ = Unit {0}
 
-indefinite_length-wide : (m : Major) → IsWide (indefinite_length m)
-indefinite_length-wide Bytes = tt
-indefinite_length-wide Text = tt
-indefinite_length-wide Array = tt
-indefinite_length-wide Map = tt
-indefinite_length-wide _ = tt
-
-numbered-wide : (m : Major) (k : ℕ) → IsWide (numbered_tail m k)
-numbered-wide m zero = omega arith
-numbered-wide m (suc zero) = omega arith
-numbered-wide m (suc (suc zero)) = omega arith
-numbered-wide m (suc (suc (suc zero))) = omega arith
-numbered-wide m (suc (suc (suc (suc (suc (suc (suc zero))))))) = indefinite_length-wide m
-numbered-wide m _ = tt
-
-simple-wide : (k : ℕ) → IsWide (simple_tail k)
-simple-wide zero = tt
-simple-wide (suc (suc (suc (suc (suc (suc (suc zero))))))) = tt
-simple-wide _ = tt
-
-tail-wide : (m : Major) (k : ℕ) → IsWide (tail m k)
-tail-wide Simple k = simple-wide k
-tail-wide _ k = numbered-wide _ k
-
 opening-wide : (m : Major) (low : ℕ) → IsWide (opening_of m low)
-opening-wide m low = go (nat_lt low 24)
+opening-wide = by-low (λ c o. IsWide o) (λ m n l. tt) (λ m w k low i is. omega (arith, is.size)) without tt tt (λ c. tt)
   where
-    go : (b : Bool) → IsWide (cond b (direct m low) (tail m (low - 24)))
-    go true = tt
-    go false = tail-wide m (low - 24)
+    without : (m : Major) → IsWide (indefinite_length m)
+    without Bytes = tt
+    without _ = tt
 
 long-balances : (chunk : Bool) (m : Major) (w : Width) (fs : List Frame) → 0 < more_bytes w → Balances 0 (goes (in_head chunk m w (more_bytes w - 1) 0 fs))
 long-balances chunk m w fs h = (omega arith, omega arith)
@@ -150,37 +97,34 @@ telling-reached m (reached q ns) t ms e =
     let more : ms ≡ m ∷ ns = cc in
     (ns, ap (λ x. reached x ns) same, more)
 
-pub le-leb : (a b : ℕ) → a ≤ b → nat_le a b ≡ true
-le-leb a b h = grind (arith, nat_tests)
-
-pub lt-leb : (a b : ℕ) → b < a → nat_le a b ≡ false
-lt-leb a b h = grind (arith, nat_tests)
-
 pub within-none : (x : ℕ) (m : Mark) (ms : List Mark) → x < size m → within x (m ∷ ms) ≡ []
 within-none x m ms h = ap (λ b. cond b (m ∷ within (x - size m) ms) []) (lt-leb (size m) x h)
 
 pub within-some : (x : ℕ) (m : Mark) (ms : List Mark) → size m ≤ x → within x (m ∷ ms) ≡ m ∷ within (x - size m) ms
 within-some x m ms h = ap (λ b. cond b (m ∷ within (x - size m) ms) []) (le-leb (size m) x h)
 
+-- By the bytes of a run to t, the last first: each is one more that is pending, or ends a mark that takes all that was.
+module _ (d : ℕ) (t : State) (P : State → List ℕ → List Mark → Type 0) (at_end : P t [] [])
+    (on_going : (q u : State) (c : ℕ) (cs : List ℕ) (ms : List Mark) → (pending u ≡ suc (pending q)) × IsSane u → P u cs ms → P q (c ∷ cs) ms)
+    (on_telling : (q u : State) (c : ℕ) (cs : List ℕ) (m : Mark) (ms : List Mark) → (size m ≡ suc (pending q)) × IsClear u → P u cs ms → P q (c ∷ cs) (m ∷ ms)) where
+  pub by-run : (xs : List ℕ) (q : State) (ms : List Mark) → IsSane q → run d q xs ≡ reached t ms → P q xs ms
+  by-run [] q ms s e =
+      let same : t ≡ q = cc in
+      let none : [] ≡ ms = cc in
+      subst (λ (u : State). P u [] ms) same (subst (P t []) none at_end)
+  by-run (c ∷ cs) q ms s e = go (take_byte d q c) (byte-balances d q c s) e (λ u ns i f. by-run cs u ns i f)
+    where
+      go : (next : Next) → Balances (pending q) next → and_then next (λ u. run d u cs) ≡ reached t ms → ((u : State) (ns : List Mark) → IsSane u → run d u cs ≡ reached t ns → P u cs ns) → P q (c ∷ cs) ms
+      go (refuses r) b e ih = absurd (cc)
+      go (goes u) b e ih = on_going q u c cs ms b (ih u ms b.1 e)
+      go (tells m u) b e ih =
+          let is = telling-reached m (run d u cs) t ms e in
+          subst (P q (c ∷ cs)) (sym is.2) (on_telling q u c cs m is.0 b (ih u is.0 (clear-pending u b.1).1 is.1))
+
 -- the next mark ends behind what is pending
 late : (d : ℕ) (rest : List ℕ) (q u : State) (ns : List Mark) (x : ℕ) → IsSane q → x ≤ pending q → run d q rest ≡ reached u ns → within x ns ≡ []
-late d [] q u ns x s h f =
-    let none : ns ≡ [] = cc in
-    ap (within x) none
-late d (c ∷ cs) q u ns x s h f = go (take_byte d q c) (byte-balances d q c s) f (λ q' y s' h' f'. late d cs q' u ns y s' h' f')
-  where
-    go : (next : Next) → Balances (pending q) next → and_then next (λ t. run d t cs) ≡ reached u ns
-        → ((q' : State) (y : ℕ) → IsSane q' → y ≤ pending q' → run d q' cs ≡ reached u ns → within y ns ≡ []) → within x ns ≡ []
-    go (refuses r) b f ih = absurd (cc)
-    go (goes q') b f ih =
-        let up = b.0 in
-        let fits : x ≤ pending q' = omega (arith, up) in
-        ih q' x b.1 fits f
-    go (tells m q') b f ih =
-        let is = telling-reached m (run d q' cs) u ns f in
-        let big = b.0 in
-        let above : x < size m = omega (arith, big) in
-        ap (within x) is.2 ∙ within-none x m is.0 above
+late d rest q u ns x s h f =
+    by-run d u (λ q cs ms. x ≤ pending q → within x ms ≡ []) (λ h. refl) (λ q v c cs ms b ih h. ih (omega (arith, b.0, h))) (λ q v c cs m ms b ih h. within-none x m ms (omega (arith, b.0, h))) rest q ns s f h
 
 -- Of what a longer run tells, within gives what its front tells.
 pub cut : (d : ℕ) (p : List ℕ) (q : State) (rest : List ℕ) (t u : State) (ms ns : List Mark) → IsSane q

@@ -165,7 +165,7 @@ left_of a b n d h = omega arith
 right_of : (a b n d : ℕ) → max a b + n ≤ d → b + n ≤ d
 right_of a b n d h = omega arith
 
-one-down : (a n d : ℕ) → suc a + n ≤ d → a + suc n ≤ d
+pub one-down : (a n d : ℕ) → suc a + n ≤ d → a + suc n ≤ d
 one-down a n d h = omega arith
 
 -- a container with a definite head

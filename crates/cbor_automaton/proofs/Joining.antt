@@ -1,17 +1,17 @@
 -- Events, neighbouring pieces joined, are told by their marks.
 use Rattle.std.proofs.Common.{◌≡◌, ℕ, zero, suc, ◌+◌, ◌-◌, ◌<◌, ◌≤◌, ◌⊎◌, Bool, true, false, nat_lt, nat_le, cond, List, [], ◌∷◌, ◌++◌, replicate, Some, None, refl, sym, ap, ap₂, ◌∙◌, subst, inl, inr, arith, append-nil, lt-ltb, le-ltb}
-use Rattle.std.proofs.lemmas.Bool.{cases_lt}
+use Rattle.std.proofs.lemmas.Bool.{cases_lt, le-leb, lt-leb}
 use Rattle.cbor_head.specs.declared.major.Major.{Major}
 use Rattle.cbor_head.specs.declared.major.Major.TheVariants as majors
 use Rattle.cbor_head.specs.declared.width.Width.{Width}
-use Rattle.cbor_head.specs.declared.width.Width.TheVariants.{Direct, One, Two, Four, Eight, Indefinite}
+use Rattle.cbor_head.specs.declared.width.Width.TheVariants.{Direct, Indefinite}
 use Rattle.cbor_automaton.specs.Trace.{Mark, a_head, a_chunk, a_byte, a_break, size, total, within}
 use Rattle.cbor_automaton.specs.Marks.{mark_of, marks_of, IsProper, IsDefinite}
 use Rattle.cbor_automaton.specs.Event.{event, count_at, marks_in, event_size, joined_with, onto, joined, front_of, cut, IsRow}
 use Rattle.cbor_automaton.specs.declared.event.Event.{Event}
 use Rattle.cbor_automaton.specs.declared.event.EventKind.{EventKind}
 use Rattle.cbor_automaton.specs.declared.event.EventKind.TheVariants.{Unsigned, Negative, Simple, Bytes, Text, Chunk, Piece, Array, Map, Tag, End}
-use Rattle.cbor_automaton.proofs.Events.{le-leb, lt-leb, within-none, within-some}
+use Rattle.cbor_automaton.proofs.Events.{within-none, within-some}
 
 -- ---- the event of a mark
 
@@ -37,12 +37,8 @@ rejoin at [] = []
 rejoin at (m ∷ ms) = onto (event_of at m) (rejoin (at + size m) ms)
 
 some-count : (w : Width) (n : ℕ) → IsDefinite w → count_at w n ≡ Some n
-some-count Direct n h = refl
-some-count One n h = refl
-some-count Two n h = refl
-some-count Four n h = refl
-some-count Eight n h = refl
 some-count Indefinite n h = absurd h
+some-count _ n h = refl
 
 none-count : (w : Width) → w ≡ Indefinite → count_at w 0 ≡ None
 none-count w e = ap (λ v. count_at v 0) e
@@ -54,11 +50,6 @@ IsSingle _ = Unit {0}
 
 back : (at : ℕ) (w : Width) (kind : EventKind) → IsSingle kind → IsProper w kind → event_of at (mark_of w kind) ≡ event at w kind
 back at w (Piece n) s p = absurd s
-back at w (Unsigned n) s p = refl
-back at w (Negative n) s p = refl
-back at w (Simple n) s p = refl
-back at w (Chunk n) s p = refl
-back at w (Tag n) s p = refl
 back at w (Bytes None) s p = ap (λ c. event at w (Bytes c)) (none-count w p)
 back at w (Bytes (Some n)) s p = ap (λ c. event at w (Bytes c)) (some-count w n p)
 back at w (Text None) s p = ap (λ c. event at w (Text c)) (none-count w p)
@@ -68,6 +59,7 @@ back at w (Array (Some n)) s p = ap (λ c. event at w (Array c)) (some-count w n
 back at w (Map None) s p = ap (λ c. event at w (Map c)) (none-count w p)
 back at w (Map (Some n)) s p = ap (λ c. event at w (Map c)) (some-count w n p)
 back at w End s p = ap (λ v. event at v End) (sym p)
+back at w _ s p = refl
 
 -- what an event is but a piece: one mark, that stands alone
 record Single (at : ℕ) (w : Width) (kind : EventKind) : Type 0 where
@@ -77,16 +69,7 @@ record Single (at : ℕ) (w : Width) (kind : EventKind) : Type 0 where
 
 single : (at : ℕ) (w : Width) (kind : EventKind) → IsSingle kind → Single at w kind
 single at w (Piece n) s = absurd s
-single at w (Unsigned n) s = record { marks = refl; alone = λ es. refl; front = λ t. refl }
-single at w (Negative n) s = record { marks = refl; alone = λ es. refl; front = λ t. refl }
-single at w (Simple n) s = record { marks = refl; alone = λ es. refl; front = λ t. refl }
-single at w (Chunk n) s = record { marks = refl; alone = λ es. refl; front = λ t. refl }
-single at w (Tag n) s = record { marks = refl; alone = λ es. refl; front = λ t. refl }
-single at w (Bytes n) s = record { marks = refl; alone = λ es. refl; front = λ t. refl }
-single at w (Text n) s = record { marks = refl; alone = λ es. refl; front = λ t. refl }
-single at w (Array n) s = record { marks = refl; alone = λ es. refl; front = λ t. refl }
-single at w (Map n) s = record { marks = refl; alone = λ es. refl; front = λ t. refl }
-single at w End s = record { marks = refl; alone = λ es. refl; front = λ t. refl }
+single at w _ s = record { marks = refl; alone = λ es. refl; front = λ t. refl }
 
 -- ---- pieces
 
@@ -100,16 +83,7 @@ bytes-total (suc n) = let e = bytes-total n in omega (arith, e)
 -- a piece before what is joined with a piece
 piece-joined : (at to k n : ℕ) (kind : EventKind) (f : Event) (es : List Event) → onto (piece at k) (joined_with (piece to n) n kind f es) ≡ joined_with (piece at (k + n)) (k + n) kind f es
 piece-joined at to k n (Piece m) f es = let e : k + (n + m) ≡ k + n + m = omega arith in ap (λ j. piece at j ∷ es) e
-piece-joined at to k n (Unsigned m) f es = refl
-piece-joined at to k n (Negative m) f es = refl
-piece-joined at to k n (Simple m) f es = refl
-piece-joined at to k n (Bytes m) f es = refl
-piece-joined at to k n (Text m) f es = refl
-piece-joined at to k n (Chunk m) f es = refl
-piece-joined at to k n (Array m) f es = refl
-piece-joined at to k n (Map m) f es = refl
-piece-joined at to k n (Tag m) f es = refl
-piece-joined at to k n End f es = refl
+piece-joined at to k n _ f es = refl
 
 pieces-join : (at to k n : ℕ) (es : List Event) → onto (piece at k) (onto (piece to n) es) ≡ onto (piece at (k + n)) es
 pieces-join at to k n [] = refl
@@ -139,16 +113,7 @@ single-rejoin at w kind ms s p =
 event-rejoin : (at : ℕ) (w : Width) (kind : EventKind) (ms : List Mark) → IsProper w kind → rejoin at (marks_of w kind ++ ms) ≡ onto (event at w kind) (rejoin (at + total (marks_of w kind)) ms)
 event-rejoin at w (Piece n) ms p =
     pieces-rejoin at n ms p.1 ∙ ap₂ (λ v k. onto (event at v (Piece n)) (rejoin (at + k) ms)) (sym p.0) (sym (bytes-total n))
-event-rejoin at w (Unsigned n) ms p = single-rejoin at w (Unsigned n) ms tt p
-event-rejoin at w (Negative n) ms p = single-rejoin at w (Negative n) ms tt p
-event-rejoin at w (Simple n) ms p = single-rejoin at w (Simple n) ms tt p
-event-rejoin at w (Bytes n) ms p = single-rejoin at w (Bytes n) ms tt p
-event-rejoin at w (Text n) ms p = single-rejoin at w (Text n) ms tt p
-event-rejoin at w (Chunk n) ms p = single-rejoin at w (Chunk n) ms tt p
-event-rejoin at w (Array n) ms p = single-rejoin at w (Array n) ms tt p
-event-rejoin at w (Map n) ms p = single-rejoin at w (Map n) ms tt p
-event-rejoin at w (Tag n) ms p = single-rejoin at w (Tag n) ms tt p
-event-rejoin at w End ms p = single-rejoin at w End ms tt p
+event-rejoin at w kind ms p = single-rejoin at w kind ms tt p
 
 -- events that follow one another are told by their marks
 pub joined-rejoin : (at : ℕ) (es : List Event) → IsRow at es → joined es ≡ rejoin at (marks_in es)
@@ -180,16 +145,7 @@ cut-fresh t (e ∷ es) h = go (nat_le (e.place + event_size e) t)
 
 apart-kind : (e f : Event) (n : ℕ) (kind : EventKind) (es : List Event) → IsSingle kind → joined_with e n kind f es ≡ e ∷ f ∷ es
 apart-kind e f n (Piece m) es h = absurd h
-apart-kind e f n (Unsigned m) es h = refl
-apart-kind e f n (Negative m) es h = refl
-apart-kind e f n (Simple m) es h = refl
-apart-kind e f n (Bytes m) es h = refl
-apart-kind e f n (Text m) es h = refl
-apart-kind e f n (Chunk m) es h = refl
-apart-kind e f n (Array m) es h = refl
-apart-kind e f n (Map m) es h = refl
-apart-kind e f n (Tag m) es h = refl
-apart-kind e f n End es h = refl
+apart-kind e f n _ es h = refl
 
 onto-fresh : (at n : ℕ) (es : List Event) → IsFresh es → onto (piece at n) es ≡ piece at n ∷ es
 onto-fresh at n [] h = refl
@@ -275,16 +231,7 @@ kind-cut : (at : ℕ) (w : Width) (kind : EventKind) (es : List Event) (t : ℕ)
     → rejoin at (within t (marks_of w kind ++ marks_in es)) ≡ CutFirst at w kind es t
 kind-cut at w (Piece n) es t p (inl h) rest = absurd h
 kind-cut at w (Piece n) es t p (inr h) rest = piece-cut at n es t p.1 h rest ∙ ap (λ v. CutFirst at v (Piece n) es t) (sym p.0)
-kind-cut at w (Unsigned n) es t p h rest = single-cut at w (Unsigned n) es t tt p rest
-kind-cut at w (Negative n) es t p h rest = single-cut at w (Negative n) es t tt p rest
-kind-cut at w (Simple n) es t p h rest = single-cut at w (Simple n) es t tt p rest
-kind-cut at w (Bytes n) es t p h rest = single-cut at w (Bytes n) es t tt p rest
-kind-cut at w (Text n) es t p h rest = single-cut at w (Text n) es t tt p rest
-kind-cut at w (Chunk n) es t p h rest = single-cut at w (Chunk n) es t tt p rest
-kind-cut at w (Array n) es t p h rest = single-cut at w (Array n) es t tt p rest
-kind-cut at w (Map n) es t p h rest = single-cut at w (Map n) es t tt p rest
-kind-cut at w (Tag n) es t p h rest = single-cut at w (Tag n) es t tt p rest
-kind-cut at w End es t p h rest = single-cut at w End es t tt p rest
+kind-cut at w kind es t p h rest = single-cut at w kind es t tt p rest
 
 -- events apart, as far as the first bytes
 pub cut-rejoin : (es : List Event) (at t : ℕ) → IsRow at es → AreApart es → rejoin at (within t (marks_in es)) ≡ cut (at + t) es

@@ -1,16 +1,17 @@
 -- Each byte that the machine takes leads to a state that stands for the bytes so far.
 use Rattle.std.proofs.Common.{◌≡◌, ℕ, zero, suc, ◌+◌, ◌-◌, ◌*◌, ◌^◌, ◌<◌, Bool, true, false, nat_lt, cond, List, [], ◌∷◌, ◌++◌, length, flat_map, refl, sym, ap, ◌∙◌, subst, inl, inr, arith, append_assoc, append-nil, true≢false, mod-eq_of_lt, lt-ltb, le-ltb}
 use Rattle.std.proofs.lemmas.Bool.{cases_lt}
+use Rattle.std.specs.List.{AllByRecursion}
 use Rattle.std.specs.Int.{bytes_high_first}
-use Rattle.cbor_head.specs.Prelude.{AreBytes, Holds, head, major_number, shortest, byte_chunks, text_chunks, array, a_map, simple, no_spellings, spell_all, chunk_bytes}
+use Rattle.cbor_head.specs.Prelude.{AreBytes, Holds, head, major_number, shortest, Chunk, IsChunk, Spelling, byte_chunks, text_chunks, array, a_map, simple, no_spellings, spell, spell_all, chunk_bytes, IsSpelled, depth}
 use Rattle.cbor_automaton.specs.Trace.{Mark, more_bytes}
-use Rattle.cbor_automaton.specs.Automaton.{Frame, indefinite_array, indefinite_map, State, at_item, in_head, in_simple, in_payload, in_chunks, done, Opening, direct, long, Next, refuses, goes, tells, numbered_tail, simple_tail, tail, indefinite_length, opening_of, opening, close, close_string, payload, after, has_room, break_at, begin, is_major, in_string, take_byte, Outcome, refused, reached, telling, and_then, run}
+use Rattle.cbor_automaton.specs.Automaton.{Frame, indefinite_array, indefinite_map, State, at_item, in_head, in_simple, in_payload, in_chunks, done, Opening, direct, long, breaks, Next, refuses, goes, tells, indefinite_length, opening, close, close_string, payload, after, has_room, break_at, begin, is_major, in_string, take_byte, Outcome, refused, reached, telling, and_then, run}
 use Rattle.cbor_head.specs.declared.major.Major.{Major}
 use Rattle.cbor_head.specs.declared.major.Major.TheVariants.{Bytes, Text, Array, Map, Simple}
 use Rattle.cbor_head.specs.declared.width.Width.{Width}
-use Rattle.cbor_head.specs.declared.width.Width.TheVariants.{Direct, One, Two, Four, Eight, Indefinite}
+use Rattle.cbor_head.specs.declared.width.Width.TheVariants.{Direct, One, Indefinite}
 use Rattle.cbor_head.specs.declared.reason.Reason.{Reason}
-use Rattle.cbor_automaton.proofs.FirstByte.{split}
+use Rattle.cbor_automaton.proofs.Openings.{IsLong, by-byte}
 use Rattle.cbor_automaton.proofs.Arguments.{number, number-between, bytes-number}
 use Rattle.cbor_automaton.proofs.Stands.{Opened, IsString, IsNumbered, Chunked, Before, Stands, along, item-closes, paired, room-of, room-true, chunk-closes, head-done}
 
@@ -23,11 +24,14 @@ guarded : (d : ℕ) (p : List ℕ) (b : Bool) (next : Next) (r : Reason) → (b 
 guarded d p true next r h = h refl
 guarded d p false next r h = tt
 
-argument-made : (k : ℕ) (more : List ℕ) → length more ≡ k → AreBytes more → (bytes_high_first k (number 0 more) ≡ more) × (number 0 more < 256 ^ k)
-argument-made k more e h =
-    let b = (number-between 0 more h).1 in
-    let small : number 0 more < 256 ^ length more = omega (arith, b) in
-    (ap (λ j. bytes_high_first j (number 0 more)) (sym e) ∙ bytes-number 0 more h, subst (λ (j : ℕ). number 0 more < 256 ^ j) e small)
+-- a first byte and its argument are a head
+pub long-head : (m : Major) (w : Width) (k c : ℕ) → ((n : ℕ) → head m w n ≡ c ∷ bytes_high_first (suc k) n) → ((n : ℕ) → n < 256 ^ suc k → Holds w n)
+    → (more : List ℕ) → length more ≡ suc k → AreBytes more → (c ∷ more ≡ head m w (number 0 more)) × Holds w (number 0 more)
+long-head m w k c made holds more e b =
+    let range = number-between 0 more b in
+    let fits : number 0 more < 256 ^ suc k = subst (λ j. number 0 more < 256 ^ j) e (omega (arith, range.1)) in
+    let bytes : bytes_high_first (suc k) (number 0 more) ≡ more = ap (λ j. bytes_high_first j (number 0 more)) (sym e) ∙ bytes-number 0 more b in
+    (ap (λ xs. c ∷ xs) (sym bytes) ∙ sym (made (number 0 more)), holds (number 0 more) fits)
 
 -- the first byte of a head with an argument behind it
 long-begins : (d : ℕ) (chunk : Bool) (m : Major) (w : Width) (k : ℕ) (fs : List Frame) (p : List ℕ) (c : ℕ) → Before d chunk m fs p
@@ -36,8 +40,8 @@ long-begins d chunk m w k fs p c b made holds = (
   p,
   b,
   λ more e hm.
-      let a = argument-made (suc k) more e hm in
-      (append_assoc p (c ∷ []) more ∙ ap (λ xs. p ++ (c ∷ xs)) (sym a.0) ∙ ap (λ xs. p ++ xs) (sym (made (number 0 more))), holds (number 0 more) a.1),
+      let a = long-head m w k c made holds more e hm in
+      (append_assoc p (c ∷ []) more ∙ ap (λ xs. p ++ xs) a.0, a.1),
 )
 
 -- the first byte of an array or map without a length
@@ -72,31 +76,26 @@ map-opens d fs p o room = (
 )
 
 chunks-open : (d : ℕ) (m : Major) (fs : List Frame) (p : List ℕ) (first : ℕ) → Opened d fs p → IsString m → head m Indefinite 0 ≡ first ∷ [] → Chunked d m fs (p ++ first ∷ [])
-chunks-open d Bytes fs p first o s e = (
+chunks-open d m fs p first o s e = (
   p,
   o,
-  tt,
-  λ cs h. record {
-    item = byte_chunks cs;
-    spelled = h;
-    fits = room-of d fs p o;
-    bytes_are = ap (λ xs. p ++ ((xs ++ flat_map (chunk_bytes Bytes) cs) ++ 0xff ∷ [])) e
-        ∙ sym (append_assoc p (first ∷ []) (flat_map (chunk_bytes Bytes) cs ++ 0xff ∷ [])) ∙ sym (append_assoc (p ++ first ∷ []) (flat_map (chunk_bytes Bytes) cs) (0xff ∷ []));
-  },
+  s,
+  λ cs h.
+      let joined = flat_map (chunk_bytes m) cs in
+      let is = made m s cs h in
+      record {
+        item = is.0;
+        spelled = is.1;
+        fits = omega (arith, is.2, room-of d fs p o);
+        bytes_are = ap (λ xs. p ++ xs) is.3 ∙ ap (λ xs. p ++ ((xs ++ joined) ++ 0xff ∷ [])) e
+            ∙ sym (append_assoc p (first ∷ []) (joined ++ 0xff ∷ [])) ∙ sym (append_assoc (p ++ first ∷ []) joined (0xff ∷ []));
+      },
 )
-chunks-open d Text fs p first o s e = (
-  p,
-  o,
-  tt,
-  λ cs h. record {
-    item = text_chunks cs;
-    spelled = h;
-    fits = room-of d fs p o;
-    bytes_are = ap (λ xs. p ++ ((xs ++ flat_map (chunk_bytes Text) cs) ++ 0xff ∷ [])) e
-        ∙ sym (append_assoc p (first ∷ []) (flat_map (chunk_bytes Text) cs ++ 0xff ∷ [])) ∙ sym (append_assoc (p ++ first ∷ []) (flat_map (chunk_bytes Text) cs) (0xff ∷ []));
-  },
-)
-chunks-open d _ fs p first o s e = absurd s
+  where
+    made : (m : Major) → IsString m → (cs : List Chunk) → AllByRecursion IsChunk cs → (s : Spelling) × IsSpelled s × (depth s ≡ 0) × (spell s ≡ (head m Indefinite 0 ++ flat_map (chunk_bytes m) cs) ++ 0xff ∷ [])
+    made Bytes s cs h = (byte_chunks cs, h, refl, refl)
+    made Text s cs h = (text_chunks cs, h, refl, refl)
+    made _ s cs h = absurd s
 
 abbrev Keeps : ℕ → List Frame → List ℕ → ℕ → Opening → Type 0
 Keeps d fs p c opens = StandsNext d (begin d fs c opens) (p ++ c ∷ [])
@@ -107,14 +106,6 @@ open-kept d fs p Text o = chunks-open d Text fs p 0x7f o tt refl
 open-kept d fs p Array o = guarded d (p ++ 0x9f ∷ []) (nat_lt (length fs) d) _ _ (λ e. array-opens d fs p o (room-true (length fs) d e))
 open-kept d fs p Map o = guarded d (p ++ 0xbf ∷ []) (nat_lt (length fs) d) _ _ (λ e. map-opens d fs p o (room-true (length fs) d e))
 open-kept d fs p _ o = tt
-
-numbered-kept : (d : ℕ) (fs : List Frame) (p : List ℕ) (m : Major) (k : ℕ) → IsNumbered m → Opened d fs p → Keeps d fs p (32 * major_number m + (24 + k)) (numbered_tail m k)
-numbered-kept d fs p m zero i o = guarded d _ (has_room d fs m) _ _ (λ e. long-begins d false m One 0 fs p _ (o, i, e) (λ n. refl) (λ n h. h))
-numbered-kept d fs p m (suc zero) i o = guarded d _ (has_room d fs m) _ _ (λ e. long-begins d false m Two 1 fs p _ (o, i, e) (λ n. refl) (λ n h. h))
-numbered-kept d fs p m (suc (suc zero)) i o = guarded d _ (has_room d fs m) _ _ (λ e. long-begins d false m Four 3 fs p _ (o, i, e) (λ n. refl) (λ n h. h))
-numbered-kept d fs p m (suc (suc (suc zero))) i o = guarded d _ (has_room d fs m) _ _ (λ e. long-begins d false m Eight 7 fs p _ (o, i, e) (λ n. refl) (λ n h. h))
-numbered-kept d fs p m (suc (suc (suc (suc (suc (suc (suc zero))))))) i o = open-kept d fs p m o
-numbered-kept d fs p m _ i o = tt
 
 break-kept : (d : ℕ) (fs : List Frame) (p : List ℕ) → Opened d fs p → StandsNext d (break_at fs 0xff) (p ++ 0xff ∷ [])
 break-kept d (indefinite_array ∷ fs) p o =
@@ -127,15 +118,6 @@ break-kept d (indefinite_map false ∷ fs) p o =
     along d (close fs) _ _ (whole.bytes_are ∙ ap (λ xs. xs ++ 0xff ∷ []) (append-nil p)) (item-closes d fs o.0 whole.item o.1 whole.spelled whole.fits)
 break-kept d _ p o = tt
 
-simple-kept : (d : ℕ) (fs : List Frame) (p : List ℕ) (k : ℕ) → Opened d fs p → Keeps d fs p (32 * 7 + (24 + k)) (simple_tail k)
-simple-kept d fs p zero o = (p, o, refl)
-simple-kept d fs p (suc (suc (suc (suc (suc (suc (suc zero))))))) o = break-kept d fs p o
-simple-kept d fs p _ o = tt
-
-tail-kept : (d : ℕ) (fs : List Frame) (p : List ℕ) (m : Major) (k : ℕ) → Opened d fs p → Keeps d fs p (32 * major_number m + (24 + k)) (tail m k)
-tail-kept d fs p Simple k o = simple-kept d fs p k o
-tail-kept d fs p m k o = numbered-kept d fs p m k tt o
-
 numbered-direct : (d : ℕ) (fs : List Frame) (p : List ℕ) (m : Major) (n : ℕ) → IsNumbered m → n < 24 → Opened d fs p → Keeps d fs p (32 * major_number m + n) (direct m n)
 numbered-direct d fs p m n i h o = guarded d _ (has_room d fs m) _ _ (λ e. head-done d false m Direct n fs p (o, i, e) h)
 
@@ -145,18 +127,11 @@ direct-kept d fs p Simple n h o =
     along d (close fs) _ _ (ap (λ w. p ++ head Simple w n) e) (item-closes d fs p (simple n) o (omega arith, λ l. absurd (omega arith)) (room-of d fs p o))
 direct-kept d fs p m n h o = numbered-direct d fs p m n tt h o
 
-first-kept : (d : ℕ) (fs : List Frame) (p : List ℕ) (m : Major) (low : ℕ) → Opened d fs p → Keeps d fs p (32 * major_number m + low) (opening_of m low)
-first-kept d fs p m low o = elim (cases_lt low 24) [
-  | inl h ↦ rw (lt-ltb low 24 h) (direct-kept d fs p m low h o)
-  | inr h ↦
-      let above : low ≡ 24 + (low - 24) = omega arith in
-      rw (le-ltb low 24 h) (subst (λ (x : ℕ). Keeps d fs p (32 * major_number m + x) (tail m (low - 24))) (sym above) (tail-kept d fs p m (low - 24) o))
-]
-
 item-kept : (d : ℕ) (fs : List Frame) (p : List ℕ) (c : ℕ) → Opened d fs p → c < 256 → Keeps d fs p c (opening c)
 item-kept d fs p c o h =
-    let s = split c h in
-    rw s.opens (subst (λ (x : ℕ). Keeps d fs p x (opening_of s.major s.low)) (sym s.made) (first-kept d fs p s.major s.low o))
+    by-byte (Keeps d fs p) (λ m n l. direct-kept d fs p m n l o)
+    (λ m w k low i is. let size : more_bytes w - 1 ≡ k = omega (arith, is.size) in rw size (guarded d _ (has_room d fs m) _ _ (λ e. long-begins d false m w k fs p _ (o, i, e) is.made is.holds)))
+    (λ m. open-kept d fs p m o) (p, o, refl) (break-kept d fs p o) (λ c. tt) c h
 
 pub is_major-same : (m n : Major) → is_major m n ≡ true → m ≡ n
 is_major-same Bytes Bytes e = refl
@@ -166,38 +141,12 @@ is_major-same _ _ e = absurd (true≢false (sym e))
 abbrev KeepsChunk : ℕ → Major → List Frame → List ℕ → ℕ → Opening → Type 0
 KeepsChunk d m fs p c opens = StandsNext d (in_string m fs opens) (p ++ c ∷ [])
 
-long-chunk : (d : ℕ) (m n : Major) (w : Width) (k : ℕ) (fs : List Frame) (p : List ℕ) (more : ℕ) → Chunked d m fs p
-    → ((x : ℕ) → head n w x ≡ (32 * major_number n + more) ∷ bytes_high_first (suc k) x) → ((x : ℕ) → x < 256 ^ suc k → Holds w x) → more_bytes w - 1 ≡ k
-    → KeepsChunk d m fs p (32 * major_number n + more) (long n w)
-long-chunk d m n w k fs p more b made holds is =
-    rw is (guarded d _ (is_major m n) _ _ (λ e.
+long-chunk : (d : ℕ) (m n : Major) (w : Width) (k : ℕ) (fs : List Frame) (p : List ℕ) (low : ℕ) → Chunked d m fs p → IsLong n w k low → KeepsChunk d m fs p (32 * major_number n + low) (long n w)
+long-chunk d m n w k fs p low b is =
+    let size : more_bytes w - 1 ≡ k = omega (arith, is.size) in
+    rw size (guarded d _ (is_major m n) _ _ (λ e.
     let same = is_major-same m n e in
-    long-begins d true m w k fs p (32 * major_number n + more) b (λ x. ap (λ j. head j w x) same ∙ made x) holds))
-
-chunk-tail-kept : (d : ℕ) (m n : Major) (fs : List Frame) (p : List ℕ) (k : ℕ) → Chunked d m fs p → KeepsChunk d m fs p (32 * major_number n + (24 + k)) (numbered_tail n k)
-chunk-tail-kept d m n fs p zero b = long-chunk d m n One 0 fs p 24 b (λ x. refl) (λ x h. h) refl
-chunk-tail-kept d m n fs p (suc zero) b = long-chunk d m n Two 1 fs p 25 b (λ x. refl) (λ x h. h) refl
-chunk-tail-kept d m n fs p (suc (suc zero)) b = long-chunk d m n Four 3 fs p 26 b (λ x. refl) (λ x h. h) refl
-chunk-tail-kept d m n fs p (suc (suc (suc zero))) b = long-chunk d m n Eight 7 fs p 27 b (λ x. refl) (λ x h. h) refl
-chunk-tail-kept d m n fs p (suc (suc (suc (suc (suc (suc (suc zero))))))) b = without n
-  where
-    without : (n : Major) → KeepsChunk d m fs p (32 * major_number n + 31) (indefinite_length n)
-    without Bytes = tt
-    without Text = tt
-    without Array = tt
-    without Map = tt
-    without _ = tt
-chunk-tail-kept d m n fs p _ b = tt
-
-chunk-simple-kept : (d : ℕ) (m : Major) (fs : List Frame) (p : List ℕ) (k : ℕ) → Chunked d m fs p → KeepsChunk d m fs p (32 * 7 + (24 + k)) (simple_tail k)
-chunk-simple-kept d m fs p (suc (suc (suc (suc (suc (suc (suc zero))))))) b =
-    let whole = b.3 [] tt in
-    along d (close fs) _ _ (whole.bytes_are ∙ ap (λ xs. xs ++ 0xff ∷ []) (append-nil p)) (item-closes d fs b.0 whole.item b.1 whole.spelled whole.fits)
-chunk-simple-kept d m fs p _ b = tt
-
-chunk-any-tail : (d : ℕ) (m n : Major) (fs : List Frame) (p : List ℕ) (k : ℕ) → Chunked d m fs p → KeepsChunk d m fs p (32 * major_number n + (24 + k)) (tail n k)
-chunk-any-tail d m Simple fs p k b = chunk-simple-kept d m fs p k b
-chunk-any-tail d m n fs p k b = chunk-tail-kept d m n fs p k b
+    long-begins d true m w k fs p (32 * major_number n + low) b (λ x. ap (λ j. head j w x) same ∙ is.made x) is.holds))
 
 chunk-direct : (d : ℕ) (m n : Major) (fs : List Frame) (p : List ℕ) (x : ℕ) → x < 24 → Chunked d m fs p → KeepsChunk d m fs p (32 * major_number n + x) (direct n x)
 chunk-direct d m n fs p x h b =
@@ -205,18 +154,18 @@ chunk-direct d m n fs p x h b =
     let same = is_major-same m n e in
     subst (λ (j : Major). Stands d (payload true m x fs) (p ++ (32 * major_number j + x) ∷ [])) same (head-done d true m Direct x fs p b h))
 
-chunk-kept : (d : ℕ) (m n : Major) (fs : List Frame) (p : List ℕ) (low : ℕ) → Chunked d m fs p → KeepsChunk d m fs p (32 * major_number n + low) (opening_of n low)
-chunk-kept d m n fs p low b = elim (cases_lt low 24) [
-  | inl h ↦ rw (lt-ltb low 24 h) (chunk-direct d m n fs p low h b)
-  | inr h ↦
-      let above : low ≡ 24 + (low - 24) = omega arith in
-      rw (le-ltb low 24 h) (subst (λ (x : ℕ). KeepsChunk d m fs p (32 * major_number n + x) (tail n (low - 24))) (sym above) (chunk-any-tail d m n fs p (low - 24) b))
-]
-
 string-kept : (d : ℕ) (m : Major) (fs : List Frame) (p : List ℕ) (c : ℕ) → Chunked d m fs p → c < 256 → KeepsChunk d m fs p c (opening c)
 string-kept d m fs p c b h =
-    let s = split c h in
-    rw s.opens (subst (λ (x : ℕ). KeepsChunk d m fs p x (opening_of s.major s.low)) (sym s.made) (chunk-kept d m s.major fs p s.low b))
+    by-byte (KeepsChunk d m fs p) (λ n x l. chunk-direct d m n fs p x l b) (λ n w k low i is. long-chunk d m n w k fs p low b is) without tt ends (λ c. tt) c h
+  where
+    without : (n : Major) → KeepsChunk d m fs p (32 * major_number n + 31) (indefinite_length n)
+    without Bytes = tt
+    without _ = tt
+
+    ends : KeepsChunk d m fs p 0xff breaks
+    ends =
+        let whole = b.3 [] tt in
+        along d (close fs) _ _ (whole.bytes_are ∙ ap (λ xs. xs ++ 0xff ∷ []) (append-nil p)) (item-closes d fs b.0 whole.item b.1 whole.spelled whole.fits)
 
 simple-number-kept : (d : ℕ) (fs : List Frame) (p : List ℕ) (c : ℕ) → Stands d (in_simple fs) p → c < 256 → StandsNext d (take_byte d (in_simple fs) c) (p ++ c ∷ [])
 simple-number-kept d fs p c o h = elim (cases_lt c 32) [

@@ -7,6 +7,7 @@ pub mod Joining
 pub mod Kept
 pub mod Longest
 pub mod Members
+pub mod Openings
 pub mod Opens
 pub mod Refusals
 pub mod Rows

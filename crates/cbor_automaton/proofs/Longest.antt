@@ -11,11 +11,10 @@ use Rattle.cbor_automaton.proofs.Forward.{telling_all}
 use Rattle.cbor_automaton.proofs.Beginnings.{onwards, run-append, reached-begins, shorter, telling_all-reached}
 use Rattle.cbor_automaton.proofs.Refusals.{taken-follows, IsTaken}
 
--- where a byte is refused, what was taken is the longest beginning
-pub longest : (d : ℕ) (p : List ℕ) (q : State) (ms : List Mark) (c : ℕ) (rest : List ℕ) (r : Reason) → AreBytes p → c < 256 → run d start p ≡ reached q ms → take_byte d q c ≡ refuses r
-    → IsLongestBeginning d (p ++ c ∷ rest) p
-longest d p q ms c rest r hp hc e h = record {
-  beginning = reached-begins d p q ms hp e;
+-- a beginning that a byte may not follow
+pub stands_longest : (d : ℕ) (p : List ℕ) (c : ℕ) (rest : List ℕ) → IsBeginning d p → (MayFollow d p c → ⊥) → IsLongestBeginning d (p ++ c ∷ rest) p
+stands_longest d p c rest begins misplaced = record {
+  beginning = begins;
   rest = c ∷ rest;
   splits = refl;
   longest = λ x y b same. elim (cases_lt (length p) (length x)) [
@@ -30,9 +29,14 @@ longest d p q ms c rest r hp hc e h = record {
         let whole : IsBeginning d (take (length (p ++ c ∷ [])) x ++ drop (length (p ++ c ∷ [])) x) =
         subst (λ (zs : List ℕ). IsBeginning d zs) (sym (take-append-drop (length (p ++ c ∷ [])) x)) b in
         let follows : MayFollow d p c = subst (λ (zs : List ℕ). IsBeginning d zs) front (shorter d (take (length (p ++ c ∷ [])) x) (drop (length (p ++ c ∷ [])) x) whole) in
-        absurd (subst IsTaken h ((taken-follows d p q ms c hp hc e).1 follows))
+        absurd (misplaced follows)
   ];
 }
+
+-- where a byte is refused, what was taken is the longest beginning
+pub longest : (d : ℕ) (p : List ℕ) (q : State) (ms : List Mark) (c : ℕ) (rest : List ℕ) (r : Reason) → AreBytes p → c < 256 → run d start p ≡ reached q ms → take_byte d q c ≡ refuses r
+    → IsLongestBeginning d (p ++ c ∷ rest) p
+longest d p q ms c rest r hp hc e h = stands_longest d p c rest (reached-begins d p q ms hp e) (λ f. subst IsTaken h ((taken-follows d p q ms c hp hc e).1 f))
 
 bytes_more : (p : List ℕ) (c : ℕ) → AreBytes p → c < 256 → AreBytes (p ++ c ∷ [])
 bytes_more [] c h k = (k, tt)

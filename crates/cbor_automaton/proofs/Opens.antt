@@ -1,6 +1,6 @@
 -- The containers that are open after some bytes of an item are those on the stack.
 use Rattle.std.proofs.Common.{◌≡◌, ℕ, zero, suc, ◌+◌, ◌-◌, ◌*◌, ◌^◌, ◌&&◌, ◌<◌, ◌≤◌, Bool, true, false, not, nat_le, cond, List, [], ◌∷◌, ◌++◌, length, take, flat_map, refl, sym, ap, ◌∙◌, subst, inl, inr, arith, append_assoc, append-nil, lt-ltb, le-ltb, length-append, length-take-le}
-use Rattle.std.proofs.lemmas.Bool.{cases_lt}
+use Rattle.std.proofs.lemmas.Bool.{cases_lt, le-leb, lt-leb}
 use Rattle.std.proofs.lemmas.List.{take-append-le}
 use Rattle.std.proofs.Math.Seq.{take-append_seam}
 use Rattle.std.specs.List.{AllByRecursion}
@@ -13,11 +13,10 @@ use Rattle.cbor_head.specs.declared.width.Width.TheVariants.{Direct, One, Two, F
 use Rattle.cbor_automaton.specs.Trace.{Mark, a_head, chunk_marks, trace}
 use Rattle.cbor_automaton.specs.Automaton.{Frame, counted, indefinite_array, indefinite_map, State, start, at_item, in_head, in_simple, in_payload, in_chunks, done, close, expect, payload, after, has_room, mark, refuses, tail, numbered_tail, take_byte, goes, tells, Outcome, refused, reached, telling, run}
 use Rattle.cbor_automaton.specs.Open.{if_open, open_after, open_in}
-use Rattle.cbor_automaton.proofs.Forward.{Starts, item_starts, chunk_starts, step, head-taken, string-taken, telling_all, forward, close-counted, room-above}
+use Rattle.cbor_automaton.proofs.Forward.{Starts, item_starts, chunk_starts, step, head-taken, string-taken, telling_all, forward, one-down, close-counted, room-above}
 use Rattle.cbor_automaton.proofs.Stands.{is_odd, not-not, double-even}
 use Rattle.cbor_automaton.proofs.Beginnings.{item-done}
 use Rattle.cbor_automaton.proofs.Runs.{take-behind}
-use Rattle.cbor_automaton.proofs.Events.{le-leb, lt-leb}
 use Rattle.cbor_automaton.proofs.Members.{members, members-count, members-bytes, members-spelled, members-depth, members-open}
 
 abbrev pub stack : State → List Frame
@@ -40,10 +39,6 @@ telling-has k m (reached q ms) h = h
 telling_all-has : (k : ℕ) (ms : List Mark) (o : Outcome) → Has k o → Has k (telling_all ms o)
 telling_all-has k [] o h = h
 telling_all-has k (m ∷ ms) o h = telling-has k m (telling_all ms o) (telling_all-has k ms o h)
-
--- a front of xs and ys
-take-front : (t : ℕ) (xs ys : List ℕ) → t ≤ length xs → take t (xs ++ ys) ≡ take t xs
-take-front t xs ys h = take-append-le t xs ys h
 
 -- ---- within a head
 
@@ -82,7 +77,7 @@ payload-has d chunk m fs (b ∷ c ∷ bs) (suc t) h =
 string-has : (d : ℕ) (q : State) (chunk : Bool) (m : Major) (fs : List Frame) → length (stack q) ≡ length fs → Starts d q chunk m fs → ((n : ℕ) → after chunk m n fs ≡ payload chunk m n fs)
     → (w : Width) (bs : List ℕ) (t : ℕ) → Holds w (length bs) → t < length (string_bytes_of m w bs) → Has (length fs) (run d q (take t (string_bytes_of m w bs)))
 string-has d q chunk m fs same starts leads w bs t h b = elim (cases_lt t (length (head m w (length bs)))) [
-  | inl k ↦ subst (λ (xs : List ℕ). Has (length fs) (run d q xs)) (sym (take-front t (head m w (length bs)) bs (omega arith))) (head-has d q chunk m fs same starts w (length bs) t h k)
+  | inl k ↦ subst (λ (xs : List ℕ). Has (length fs) (run d q xs)) (sym (take-append-le t (head m w (length bs)) bs (omega arith))) (head-has d q chunk m fs same starts w (length bs) t h k)
   | inr k ↦
       let n = length bs in
       let j = t - length (head m w n) in
@@ -103,7 +98,7 @@ chunks-has d m fs starts (c ∷ cs) t h b =
     let all : (here ++ flat_map (chunk_bytes m) cs) ++ 0xff ∷ [] ≡ here ++ rest = append_assoc here (flat_map (chunk_bytes m) cs) (0xff ∷ []) in
     let sizes : length ((here ++ flat_map (chunk_bytes m) cs) ++ 0xff ∷ []) ≡ length here + length rest = ap length all ∙ length-append here rest in
     subst (λ (xs : List ℕ). Has (length fs) (run d (in_chunks m fs) (take t xs))) (sym all) (elim (cases_lt t (length here)) [
-      | inl k ↦ subst (λ (xs : List ℕ). Has (length fs) (run d (in_chunks m fs) xs)) (sym (take-front t here rest (omega arith)))
+      | inl k ↦ subst (λ (xs : List ℕ). Has (length fs) (run d (in_chunks m fs) xs)) (sym (take-append-le t here rest (omega arith)))
           (string-has d (in_chunks m fs) true m fs refl starts (λ n. refl) c.width c.payload t h.0.0 k)
       | inr k ↦
           let j = t - length here in
@@ -146,7 +141,7 @@ members-has d fs ending l (a_spelling s ss) f h b t from k less =
     (subst (λ (q : State). Has (suc (length fs) + open_in t from (a_spelling s ss)) (run d q (take (t - from) (spell s ++ rest)))) (sym (l.begins s ss))
     (elim (cases_lt (t - from) (length (spell s))) [
       | inl i ↦ rw (lt-ltb (t - from) (length (spell s)) i)
-          (subst (λ (xs : List ℕ). Has (suc (length fs) + open_after (t - from) s) (run d (at_item (l.due ss ∷ fs)) xs)) (sym (take-front (t - from) (spell s) rest (omega arith)))
+          (subst (λ (xs : List ℕ). Has (suc (length fs) + open_after (t - from) s) (run d (at_item (l.due ss ∷ fs)) xs)) (sym (take-append-le (t - from) (spell s) rest (omega arith)))
           (f.0 d (l.due ss ∷ fs) (t - from) h.0 (omega arith) i))
       | inr i ↦
           let j = from + length (spell s) in
@@ -169,7 +164,7 @@ container-has : (d : ℕ) (fs : List Frame) (hd xs all : List ℕ) (m : Mark) (u
     → all ≡ hd ++ xs → t < length all → Has (length fs + if_open t (length hd) (length all) inner) (run d (at_item fs) (take t all))
 container-has d fs hd xs all m u inner t heads taken within e b = elim (cases_lt t (length hd)) [
   | inl k ↦
-      let cut : take t all ≡ take t hd = ap (take t) e ∙ take-front t hd xs (omega arith) in
+      let cut : take t all ≡ take t hd = ap (take t) e ∙ take-append-le t hd xs (omega arith) in
       rw (lt-leb (length hd) t k) (subst (λ (ys : List ℕ). Has (length fs + 0) (run d (at_item fs) ys)) (sym cut) (none-more (length fs) _ (heads k)))
   | inr k ↦
       let sizes : length all ≡ length hd + length xs = ap length e ∙ length-append hd xs in
@@ -248,9 +243,6 @@ counted-has d fs m w n ss all t plain room h leads f hs b e l =
     (λ k less. members-has d fs [] (counted-leads d fs) ss f hs b t (length (head m w n)) k less)
     e l
 
-deeper : (a n d : ℕ) → suc a + n ≤ d → a + suc n ≤ d
-deeper a n d h = omega arith
-
 mutual
   front : (s : Spelling) → Front s
   front (unsigned w n) = λ d fs t h b l. none-more (length fs) _ (head-has d (at_item fs) false Unsigned fs refl (item_starts d Unsigned fs (λ k. refl) refl) w n t h l)
@@ -264,10 +256,10 @@ mutual
       (λ k. first-has d (at_item fs) fs 0x9f t refl k)
       (λ more. step d (at_item fs) 0x9f (tells (a_head Array Indefinite 0) (at_item (indefinite_array ∷ fs))) more
       (ap (λ b. cond b (tells (a_head Array Indefinite 0) (at_item (indefinite_array ∷ fs))) (refuses (initial_reason 0x9f))) (room-above d fs (depth_all ss) b)))
-      (λ k less. members-has d fs (0xff ∷ []) (array-leads d fs) ss (fronts ss) h.1 (deeper (depth_all ss) (length fs) d b) t 1 k less)
+      (λ k less. members-has d fs (0xff ∷ []) (array-leads d fs) ss (fronts ss) h.1 (one-down (depth_all ss) (length fs) d b) t 1 k less)
       refl l
   front (array w ss) = λ d fs t h b l.
-      counted-has d fs Array w (spellings_count ss) ss (spell (array w ss)) t (λ k. refl) (room-above d fs (depth_all ss) b) h.0 refl (fronts ss) h.1 (deeper (depth_all ss) (length fs) d b)
+      counted-has d fs Array w (spellings_count ss) ss (spell (array w ss)) t (λ k. refl) (room-above d fs (depth_all ss) b) h.0 refl (fronts ss) h.1 (one-down (depth_all ss) (length fs) d b)
       (append_assoc (head Array w (spellings_count ss)) (spell_all ss) []) l
   front (a_map Indefinite es) = λ d fs t h b l.
       let deep = members-depth es in
@@ -278,14 +270,14 @@ mutual
       (λ more. step d (at_item fs) 0xbf (tells (a_head Map Indefinite 0) (at_item (indefinite_map false ∷ fs))) more
       (ap (λ b. cond b (tells (a_head Map Indefinite 0) (at_item (indefinite_map false ∷ fs))) (refuses (initial_reason 0xbf))) (room-above d fs (depth_entries es) b))
       ∙ ap (λ due. telling (a_head Map Indefinite 0) (run d (at_item (indefinite_map due ∷ fs)) more)) (sym even))
-      (λ k less. members-has d fs (0xff ∷ []) (map-leads d fs) (members es) (fronts-entries es) (members-spelled es h.1) (omega (arith, deep, deeper (depth_entries es) (length fs) d b)) t 1 k less)
+      (λ k less. members-has d fs (0xff ∷ []) (map-leads d fs) (members es) (fronts-entries es) (members-spelled es h.1) (omega (arith, deep, one-down (depth_entries es) (length fs) d b)) t 1 k less)
       (ap (λ xs. 0xbf ∷ (xs ++ 0xff ∷ [])) (sym (members-bytes es))) l)
   front (a_map w es) = λ d fs t h b l.
       let deep = members-depth es in
       let hd = head Map w (entries_count es) in
       subst (λ (n : ℕ). Has (length fs + if_open t (length hd) (length (spell (a_map w es))) n) (run d (at_item fs) (take t (spell (a_map w es))))) (members-open t (length hd) es)
       (counted-has d fs Map w (entries_count es) (members es) (spell (a_map w es)) t (λ k. refl) (room-above d fs (depth_entries es) b) h.0 (ap (λ n. expect n fs) (sym (members-count es)))
-      (fronts-entries es) (members-spelled es h.1) (omega (arith, deep, deeper (depth_entries es) (length fs) d b))
+      (fronts-entries es) (members-spelled es h.1) (omega (arith, deep, one-down (depth_entries es) (length fs) d b))
       (append_assoc hd (spell_entries es) [] ∙ ap (λ xs. hd ++ (xs ++ [])) (sym (members-bytes es))) l)
   front (tag w n s) = λ d fs t h b l.
       let hd = head Tag w n in
@@ -293,7 +285,7 @@ mutual
       container-has d fs hd (spell s) (spell (tag w n s)) (a_head Tag w n) (at_item (counted 0 ∷ fs)) (open_after (t - length hd) s) t
       (λ k. head-has d (at_item fs) false Tag fs refl starts w n t h.0 k)
       (λ more. head-taken d (at_item fs) false Tag fs starts w n more h.0)
-      (λ k less. front s d (counted 0 ∷ fs) (t - length hd) h.1 (deeper (depth s) (length fs) d b) less)
+      (λ k less. front s d (counted 0 ∷ fs) (t - length hd) h.1 (one-down (depth s) (length fs) d b) less)
       refl l
   front (simple n) = λ d fs t h b l. none-more (length fs) _ (simple-has d fs n t h l)
 

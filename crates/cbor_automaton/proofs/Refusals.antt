@@ -4,7 +4,7 @@ use Rattle.cbor_head.specs.Prelude.{IsBeginning, MayFollow, AreBytes, IsReasonAt
 use Rattle.cbor_automaton.specs.Trace.{Mark}
 use Rattle.cbor_automaton.specs.Automaton.{start, Frame, indefinite_array, indefinite_map, State, at_item, in_head, in_simple, in_payload, in_chunks, done, Opening, direct, long, indefinite_string, indefinite_container, long_simple, breaks, bad, Next, refuses, goes, tells, opening, has_room, break_at, begin, is_major, in_string, take_byte, Outcome, refused, reached, telling, and_then, run}
 use Rattle.cbor_head.specs.declared.major.Major.{Major}
-use Rattle.cbor_head.specs.declared.major.Major.TheVariants.{Unsigned, Negative, Bytes, Text}
+use Rattle.cbor_head.specs.declared.major.Major.TheVariants.{Unsigned, Negative, Bytes}
 use Rattle.cbor_head.specs.declared.reason.Reason.{Reason}
 use Rattle.cbor_head.specs.declared.reason.Reason.TheVariants.{BadSimple, BadChunk}
 use Rattle.cbor_automaton.proofs.Forward.{telling_all}
@@ -77,7 +77,6 @@ simple-reason false next r t e = absurd (subst IsTaken e t)
 
 no-integer : (m : Major) → (is_major m Unsigned ≡ false) × (is_major m Negative ≡ false)
 no-integer Bytes = (refl, refl)
-no-integer Text = (refl, refl)
 no-integer _ = (refl, refl)
 
 refused-by : (b : Bool) (next : Next) (r : Reason) → b ≡ false → IsTaken (cond b next (refuses r)) → ⊥

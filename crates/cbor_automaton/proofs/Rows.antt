@@ -1,12 +1,13 @@
 -- The events of an item follow one another, tell its trace, and have no two pieces side by side.
 use Rattle.std.proofs.Common.{◌≡◌, ℕ, suc, ◌+◌, ◌<◌, ◌^◌, Bool, true, false, cond, nat_lt, List, [], ◌∷◌, ◌++◌, length, replicate, flat_map, Some, None, refl, sym, ap, ap₂, ◌∙◌, subst, inl, inr, arith, append_assoc, append-nil, length-append}
+use Rattle.std.proofs.lemmas.Bool.{cond_both}
 use Rattle.std.proofs.lemmas.Grind.{flat_map-append}
 use Rattle.std.specs.List.{AllByRecursion}
 use Rattle.cbor_head.specs.Prelude.{Holds, head, shortest, Chunk, IsChunk, Spelling, Spellings, SpelledEntries, unsigned, negative, bytes, text, byte_chunks, text_chunks, array, a_map, tag, simple, no_spellings, a_spelling, no_entries, entry, spellings_count, entries_count, chunk_bytes, spell, spell_all, spell_entries, break_of, IsSpelled, AreSpelled, AreEntriesSpelled}
 use Rattle.cbor_head.specs.declared.major.Major.{Major}
 use Rattle.cbor_head.specs.declared.major.Major.TheVariants as majors
 use Rattle.cbor_head.specs.declared.width.Width.{Width}
-use Rattle.cbor_head.specs.declared.width.Width.TheVariants.{Direct, One, Two, Four, Eight, Indefinite}
+use Rattle.cbor_head.specs.declared.width.Width.TheVariants.{Indefinite}
 use Rattle.cbor_automaton.specs.Trace.{Mark, a_head, a_chunk, a_byte, a_break, size, total, payload_marks, chunk_marks, opener, break_marks, trace, trace_all, trace_entries}
 use Rattle.cbor_automaton.specs.Marks.{marks_of, IsProper, IsDefinite}
 use Rattle.cbor_automaton.specs.Event.{event, count_at, payload_events, chunks_events, break_events, events, events_in, events_in_entries, marks_in, event_size, IsRow}
@@ -74,38 +75,22 @@ one at w kind m n s p e l = record {
   bytes = omega (arith, l);
 }
 
-definite : (w : Width) (n : ℕ) → Holds w n → IsDefinite w
-definite Direct n h = tt
-definite One n h = tt
-definite Two n h = tt
-definite Four n h = tt
-definite Eight n h = tt
+pub definite : (w : Width) (n : ℕ) → Holds w n → IsDefinite w
 definite Indefinite n h = absurd h
+definite _ n h = tt
 
 -- the head of an array or map, of any width
 array-head : (at : ℕ) (w : Width) (n : ℕ) → Row at (event at w (Array (count_at w n)) ∷ []) (opener majors.Array w n ∷ []) (length (head majors.Array w n))
-array-head at Direct n = one at Direct (Array (Some n)) (a_head majors.Array Direct n) _ tt tt refl refl
-array-head at One n = one at One (Array (Some n)) (a_head majors.Array One n) _ tt tt refl refl
-array-head at Two n = one at Two (Array (Some n)) (a_head majors.Array Two n) _ tt tt refl refl
-array-head at Four n = one at Four (Array (Some n)) (a_head majors.Array Four n) _ tt tt refl refl
-array-head at Eight n = one at Eight (Array (Some n)) (a_head majors.Array Eight n) _ tt tt refl refl
 array-head at Indefinite n = one at Indefinite (Array None) (a_head majors.Array Indefinite 0) _ tt refl refl refl
+array-head at w n = one at w (Array (Some n)) (a_head majors.Array w n) _ tt tt refl refl
 
 map-head : (at : ℕ) (w : Width) (n : ℕ) → Row at (event at w (Map (count_at w n)) ∷ []) (opener majors.Map w n ∷ []) (length (head majors.Map w n))
-map-head at Direct n = one at Direct (Map (Some n)) (a_head majors.Map Direct n) _ tt tt refl refl
-map-head at One n = one at One (Map (Some n)) (a_head majors.Map One n) _ tt tt refl refl
-map-head at Two n = one at Two (Map (Some n)) (a_head majors.Map Two n) _ tt tt refl refl
-map-head at Four n = one at Four (Map (Some n)) (a_head majors.Map Four n) _ tt tt refl refl
-map-head at Eight n = one at Eight (Map (Some n)) (a_head majors.Map Eight n) _ tt tt refl refl
 map-head at Indefinite n = one at Indefinite (Map None) (a_head majors.Map Indefinite 0) _ tt refl refl refl
+map-head at w n = one at w (Map (Some n)) (a_head majors.Map w n) _ tt tt refl refl
 
 end-row : (at : ℕ) (w : Width) → Row at (break_events at w) (break_marks w) (length (break_of w))
 end-row at Indefinite = one at Indefinite End a_break 1 tt refl refl refl
-end-row at Direct = none at
-end-row at One = none at
-end-row at Two = none at
-end-row at Four = none at
-end-row at Eight = none at
+end-row at _ = none at
 
 -- ---- strings
 
@@ -162,14 +147,18 @@ integer : (at : ℕ) (major : Major) (w : Width) (n : ℕ) (kind : EventKind) �
 integer at major w n kind s p e = one at w kind (a_head major w n) _ s p e (sym (head-size major w n))
 
 simple-width : (n : ℕ) → IsDefinite (shortest n)
-simple-width n = go (nat_lt n 24) (nat_lt n (2 ^ 8)) (nat_lt n (2 ^ 16)) (nat_lt n (2 ^ 32))
+simple-width n = chosen (nat_lt n 24) _ _ (λ a. tt) (λ a. chosen (nat_lt n (2 ^ 8)) _ _ (λ b. tt) (λ b. chosen (nat_lt n (2 ^ 16)) _ _ (λ c. tt) (λ c. chosen (nat_lt n (2 ^ 32)) _ _ (λ e. tt) (λ e. tt))))
   where
-    go : (a b c d : Bool) → IsDefinite (cond a Direct (cond b One (cond c Two (cond d Four Eight))))
-    go true b c d = tt
-    go false true c d = tt
-    go false false true d = tt
-    go false false false true = tt
-    go false false false false = tt
+    chosen : (b : Bool) (v w : Width) → (b ≡ true → IsDefinite v) → (b ≡ false → IsDefinite w) → IsDefinite (cond b v w)
+    chosen b v w f g = cond_both b v w IsDefinite f g
+
+-- a head, what is within, and a break if there is one
+container-row : (at : ℕ) (w : Width) (hd xs : List ℕ) (es fs : List Event) (ms ns : List Mark) → Row at es ms (length hd) → Row (at + length hd) fs ns (length xs)
+    → Row at (es ++ (fs ++ break_events (at + length hd + length xs) w)) (ms ++ (ns ++ break_marks w)) (length ((hd ++ xs) ++ break_of w))
+container-row at w hd xs es fs ms ns h i =
+    let n = length xs + length (break_of w) in
+    sized at (length hd + n) _ _ _ (omega (arith, length-append (hd ++ xs) (break_of w), length-append hd xs))
+    (append at (length hd) n _ _ _ _ h (append (at + length hd) (length xs) (length (break_of w)) _ _ _ _ i (end-row (at + length hd + length xs) w)))
 
 mutual
   pub events-row : (at : ℕ) (s : Spelling) → IsSpelled s → Row at (events at s) (trace s) (length (spell s))
@@ -187,18 +176,10 @@ mutual
   events-row at (text_chunks cs) h = indefinite_string-row at majors.Text (Text None) (a_head majors.Text Indefinite 0) 0x7f cs tt refl refl refl h
   events-row at (array w ss) h =
       let hd = head majors.Array w (spellings_count ss) in
-      let n = length hd in
-      let k = length (spell_all ss) in
-      let all : n + (k + length (break_of w)) ≡ length ((hd ++ spell_all ss) ++ break_of w) = omega (arith, length-append (hd ++ spell_all ss) (break_of w), length-append hd (spell_all ss)) in
-      sized at (n + (k + length (break_of w))) _ _ _ all
-      (append at n (k + length (break_of w)) _ _ _ _ (array-head at w (spellings_count ss)) (append (at + n) k (length (break_of w)) _ _ _ _ (members-row (at + n) ss h.1) (end-row (at + n + k) w)))
+      container-row at w hd (spell_all ss) _ _ _ _ (array-head at w (spellings_count ss)) (members-row (at + length hd) ss h.1)
   events-row at (a_map w es) h =
       let hd = head majors.Map w (entries_count es) in
-      let n = length hd in
-      let k = length (spell_entries es) in
-      let all : n + (k + length (break_of w)) ≡ length ((hd ++ spell_entries es) ++ break_of w) = omega (arith, length-append (hd ++ spell_entries es) (break_of w), length-append hd (spell_entries es)) in
-      sized at (n + (k + length (break_of w))) _ _ _ all
-      (append at n (k + length (break_of w)) _ _ _ _ (map-head at w (entries_count es)) (append (at + n) k (length (break_of w)) _ _ _ _ (entries-row (at + n) es h.1) (end-row (at + n + k) w)))
+      container-row at w hd (spell_entries es) _ _ _ _ (map-head at w (entries_count es)) (entries-row (at + length hd) es h.1)
   events-row at (tag w n s) h =
       let hd = head majors.Tag w n in
       sized at (length hd + length (spell s)) _ _ _ (sym (length-append hd (spell s)))

@@ -1,8 +1,8 @@
 -- Runs of the automaton, one after another.
-use Rattle.std.proofs.Common.{◌≡◌, ℕ, zero, suc, ◌+◌, ◌-◌, ◌≤◌, ◌<◌, List, [], ◌∷◌, ◌++◌, length, take, get_or, replicate, Bool, ap, ◌∙◌, arith, add-one, subst}
+use Rattle.std.proofs.Common.{◌≡◌, ℕ, zero, suc, ◌+◌, ◌-◌, ◌≤◌, ◌<◌, List, [], ◌∷◌, ◌++◌, length, take, get_or, replicate, Bool, refl, ap, ◌∙◌, arith, add-one, subst}
 use Rattle.std.proofs.Math.Seq.{take-suc, take-append-add}
 use Rattle.cbor_head.specs.declared.major.Major.{Major}
-use Rattle.cbor_automaton.specs.Trace.{Mark, a_byte, size, total}
+use Rattle.cbor_automaton.specs.Trace.{Mark, a_byte, total}
 use Rattle.cbor_automaton.specs.Automaton as automaton
 use Rattle.cbor_automaton.specs.Automaton.{payload, close_string, State, start, at_item, in_head, in_simple, in_payload, in_chunks, done, Next, refuses, goes, tells, take_byte, and_then, telling, run, reached}
 use Rattle.cbor_automaton.specs.Marks.{mark_of, marks_of, times}
@@ -11,7 +11,7 @@ use Rattle.cbor_head.specs.declared.width.Width.{Width}
 use Rattle.cbor_automaton.proofs.Forward.{telling_all}
 use Rattle.cbor_automaton.proofs.Beginnings.{onwards, run-append, telling_all-reached}
 use Rattle.cbor_automaton.proofs.Refusals.{IsUnfinished}
-use Rattle.cbor_automaton.proofs.Events.{Balances, IsSane, pending, byte-balances, telling-reached, clear-pending}
+use Rattle.cbor_automaton.proofs.Events.{IsSane, pending, clear-pending, by-run}
 
 -- a front of xs and ys that ends within ys
 pub take-behind : (t : ℕ) (xs ys : List ℕ) → length xs ≤ t → take t (xs ++ ys) ≡ xs ++ take (t - length xs) ys
@@ -26,13 +26,9 @@ run-more d xs c q t e = run-append d xs (c ∷ []) q ∙ ap (λ o. onwards o (λ
 pub run-one : (d c : ℕ) (q u : State) → take_byte d q c ≡ goes u → run d q (c ∷ []) ≡ reached u []
 run-one d c q u e = ap (λ n. and_then n (λ v. run d v [])) e
 
-pub run-goes : (d i : ℕ) (xs : List ℕ) (q t u : State) → i < length xs → run d q (take i xs) ≡ reached t [] → take_byte d t (get_or xs i 0) ≡ goes u → run d q (take (i + 1) xs) ≡ reached u []
-run-goes d i xs q t u h e f =
-    let front : take (i + 1) xs ≡ take i xs ++ get_or xs i 0 ∷ [] = rw add-one (take-suc xs i 0 h) in
-    ap (run d q) front ∙ run-more d (take i xs) (get_or xs i 0) q t e ∙ ap (λ n. and_then n (λ v. run d v [])) f
-
-pub run-tells : (d i : ℕ) (xs : List ℕ) (q t u : State) (m : Mark) → i < length xs → run d q (take i xs) ≡ reached t [] → take_byte d t (get_or xs i 0) ≡ tells m u → run d q (take (i + 1) xs) ≡ reached u (m ∷ [])
-run-tells d i xs q t u m h e f =
+-- a byte more
+pub run-next : (d i : ℕ) (xs : List ℕ) (q t : State) (next : Next) → i < length xs → run d q (take i xs) ≡ reached t [] → take_byte d t (get_or xs i 0) ≡ next → run d q (take (i + 1) xs) ≡ and_then next (λ v. run d v [])
+run-next d i xs q t next h e f =
     let front : take (i + 1) xs ≡ take i xs ++ get_or xs i 0 ∷ [] = rw add-one (take-suc xs i 0 h) in
     ap (run d q) front ∙ run-more d (take i xs) (get_or xs i 0) q t e ∙ ap (λ n. and_then n (λ v. run d v [])) f
 
@@ -45,68 +41,21 @@ pub once-marks : (w : Width) (kind : EventKind) → times kind ≡ 1 → marks_o
 once-marks w kind e = ap (λ n. replicate n (mark_of w kind)) e
 
 -- nothing silent leads to the end
-silent-step : (d : ℕ) (was : ℕ) (next : Next) (cs : List ℕ) (t : State) → Balances was next → and_then next (λ u. run d u cs) ≡ reached t []
-    → ((q : State) → IsSane q → IsUnfinished q → run d q cs ≡ reached t [] → IsUnfinished t) → IsUnfinished t
-silent-step d was (refuses r) cs t b e ih = absurd (cc)
-silent-step d was (goes q) cs t b e ih = ih q b.1 (never q b.0) e
-  where
-    never : (q : State) → pending q ≡ suc was → IsUnfinished q
-    never done h = absurd (omega arith)
-    never (at_item fs) h = tt
-    never (in_head chunk m w k acc fs) h = tt
-    never (in_simple fs) h = tt
-    never (in_payload chunk m n fs) h = tt
-    never (in_chunks m fs) h = tt
-silent-step d was (tells m q) cs t b e ih =
-    let none = telling-reached m (run d q cs) t [] e in
-    let no : [] ≡ m ∷ none.0 = none.2 in
-    absurd (cc)
-
 pub silent-unfinished : (d : ℕ) (xs : List ℕ) (q t : State) → IsSane q → IsUnfinished q → run d q xs ≡ reached t [] → IsUnfinished t
-silent-unfinished d [] q t s u e =
-    let same : q ≡ t = cc in
-    subst IsUnfinished same u
-silent-unfinished d (c ∷ cs) q t s u e =
-    silent-step d (pending q) (take_byte d q c) cs t (byte-balances d q c s) e (λ q' s' u' e'. silent-unfinished d cs q' t s' u' e')
+silent-unfinished d xs q t s u e =
+    by-run d t (λ q cs ms. ms ≡ [] → IsUnfinished q → IsUnfinished t) (λ none u. u) (λ q v c cs ms b ih none u. ih none (never v b.0)) (λ q v c cs m ms b ih none. absurd (cc none)) xs q [] s e refl u
+  where
+    never : (v : State) → {was : ℕ} → pending v ≡ suc was → IsUnfinished v
+    never done h = absurd (omega arith)
+    never _ h = tt
 
 pub sane-run : (d : ℕ) (xs : List ℕ) (q t : State) (ms : List Mark) → IsSane q → run d q xs ≡ reached t ms → IsSane t
-sane-run d [] q t ms s e =
-    let same : q ≡ t = cc in
-    subst IsSane same s
-sane-run d (c ∷ cs) q t ms s e = go (take_byte d q c) (byte-balances d q c s) e (λ q' ms' s' e'. sane-run d cs q' t ms' s' e')
-  where
-    go : (next : Next) → Balances (pending q) next → and_then next (λ u. run d u cs) ≡ reached t ms → ((q' : State) (ms' : List Mark) → IsSane q' → run d q' cs ≡ reached t ms' → IsSane t) → IsSane t
-    go (refuses r) b e ih = absurd (cc)
-    go (goes q') b e ih = ih q' ms b.1 e
-    go (tells m q') b e ih =
-        let is = telling-reached m (run d q' cs) t ms e in
-        ih q' is.0 (clear-pending q' b.1).1 is.1
+sane-run d xs q t ms s e = by-run d t (λ q cs ms. IsSane q → IsSane t) (λ s. s) (λ q v c cs ms b ih s. ih b.1) (λ q v c cs m ms b ih s. ih (clear-pending v b.1).1) xs q ms s e s
 
 -- marks tile the bytes up to the head that is open
 pub tiles : (d : ℕ) (xs : List ℕ) (q t : State) (ms : List Mark) → IsSane q → run d q xs ≡ reached t ms → total ms + pending t ≡ length xs + pending q
-tiles d [] q t ms s e =
-    let same : q ≡ t = cc in
-    let none : [] ≡ ms = cc in
-    let left : pending q ≡ pending t = ap pending same in
-    let nothing : 0 ≡ total ms = ap total none in
-    omega arith
-tiles d (c ∷ cs) q t ms s e = go (take_byte d q c) (byte-balances d q c s) e (λ q' ms' s' e'. tiles d cs q' t ms' s' e')
-  where
-    go : (next : Next) → Balances (pending q) next → and_then next (λ u. run d u cs) ≡ reached t ms
-        → ((q' : State) (ms' : List Mark) → IsSane q' → run d q' cs ≡ reached t ms' → total ms' + pending t ≡ length cs + pending q') → total ms + pending t ≡ suc (length cs) + pending q
-    go (refuses r) b e ih = absurd (cc)
-    go (goes q') b e ih =
-        let up = b.0 in
-        let rest = ih q' ms b.1 e in
-        omega (arith, up, rest)
-    go (tells m q') b e ih =
-        let is = telling-reached m (run d q' cs) t ms e in
-        let clear = clear-pending q' b.1 in
-        let rest = ih q' is.0 clear.1 is.1 in
-        let big = b.0 in
-        let none = clear.0 in
-        let all : total ms ≡ size m + total is.0 = ap total is.2 in
-        omega (arith, rest, big, none, all)
+tiles d xs q t ms s e =
+    by-run d t (λ q cs ms. total ms + pending t ≡ length cs + pending q) refl (λ q v c cs ms b ih. omega (arith, b.0, ih)) (λ q v c cs m ms b ih. omega (arith, b.0, ih, (clear-pending v b.1).0)) xs q ms s e
 
 -- ---- a part of a payload
 

@@ -4,19 +4,19 @@ use Rattle.std.proofs.lemmas.Bool.{cases_lt}
 use Rattle.std.specs.Int.{bytes_high_first}
 use Rattle.cbor_head.specs.Prelude.{Holds, IsSimple, head, major_number, shortest, AreBytes}
 use Rattle.cbor_automaton.specs.Trace.{Mark, a_head, more_bytes}
-use Rattle.cbor_automaton.specs.Automaton.{Frame, indefinite_array, indefinite_map, State, at_item, in_head, in_simple, in_payload, in_chunks, done, Opening, long, Next, refuses, goes, tells, numbered_tail, simple_tail, tail, indefinite_length, opening_of, opening, after, has_room, break_at, begin, is_major, in_string, take_byte, Outcome, refused, reached, telling, and_then, run}
+use Rattle.cbor_automaton.specs.Automaton.{Frame, indefinite_array, indefinite_map, State, at_item, in_head, in_simple, in_payload, in_chunks, done, Opening, Next, refuses, goes, tells, indefinite_length, opening, after, has_room, break_at, begin, is_major, in_string, take_byte, Outcome, refused, reached, telling, and_then, run}
 use Rattle.cbor_automaton.specs.Taking.{Follows, IsTaking}
 use Rattle.cbor_head.specs.declared.major.Major.{Major}
 use Rattle.cbor_head.specs.declared.major.Major.TheVariants.{Bytes, Text, Array, Map, Tag, Simple}
 use Rattle.cbor_head.specs.declared.width.Width.{Width}
-use Rattle.cbor_head.specs.declared.width.Width.TheVariants.{Direct, One, Two, Four, Eight, Indefinite}
+use Rattle.cbor_head.specs.declared.width.Width.TheVariants.{Direct, One, Indefinite}
 use Rattle.cbor_head.specs.declared.reason.Reason.{Reason}
-use Rattle.cbor_automaton.proofs.FirstByte.{split}
-use Rattle.cbor_automaton.proofs.Arguments.{number, number-between, bytes-number}
+use Rattle.cbor_automaton.proofs.Openings.{by-byte}
+use Rattle.cbor_automaton.proofs.Arguments.{number}
 pub use Rattle.cbor_automaton.proofs.Events.{IsClear}
 pub use Rattle.cbor_automaton.proofs.Stands.{IsNumbered}
 use Rattle.cbor_automaton.proofs.Events.{close-clear, close_string-clear, payload-clear, after-clear}
-use Rattle.cbor_automaton.proofs.Kept.{is_major-same}
+use Rattle.cbor_automaton.proofs.Kept.{is_major-same, long-head}
 
 -- the head so far, and the state that it was begun in
 abbrev pub IsWithin : ℕ → State → State → List ℕ → Type 0
@@ -57,21 +57,11 @@ definite : (d : ℕ) (fs : List Frame) (m : Major) (w : Width) (n : ℕ) (bs : L
 definite d fs m Indefinite n bs to e h f = absurd h
 definite d fs m _ n bs to e h f = (e, h, f)
 
-argument-made : (k : ℕ) (more : List ℕ) → length more ≡ k → AreBytes more → bytes_high_first k (number 0 more) ≡ more
-argument-made k more e h = ap (λ j. bytes_high_first j (number 0 more)) (sym e) ∙ bytes-number 0 more h
-
 -- ---- the first byte of an item
 
 guarded : (d : ℕ) (from : State) (bs : List ℕ) (b : Bool) (next : Next) (r : Reason) → (b ≡ true → IsTakingNext d from next bs) → IsTakingNext d from (cond b next (refuses r)) bs
 guarded d from bs true next r h = h refl
 guarded d from bs false next r h = tt
-
-long-head : (m : Major) (w : Width) (k c : ℕ) → ((n : ℕ) → head m w n ≡ c ∷ bytes_high_first (suc k) n) → ((n : ℕ) → n < 256 ^ suc k → Holds w n)
-    → (more : List ℕ) → length more ≡ suc k → AreBytes more → (c ∷ more ≡ head m w (number 0 more)) × Holds w (number 0 more)
-long-head m w k c made holds more e b =
-    let range = number-between 0 more b in
-    let fits : number 0 more < 256 ^ suc k = subst (λ j. number 0 more < 256 ^ j) e (omega (arith, range.1)) in
-    (ap (λ xs. c ∷ xs) (sym (argument-made (suc k) more e b)) ∙ sym (made (number 0 more)), holds (number 0 more) fits)
 
 item-long : (d : ℕ) (fs : List Frame) (m : Major) (w : Width) (k c : ℕ) → IsNumbered m → ((n : ℕ) → head m w n ≡ c ∷ bytes_high_first (suc k) n) → ((n : ℕ) → n < 256 ^ suc k → Holds w n)
     → has_room d fs m ≡ true → IsWithin d (at_item fs) (in_head false m w k 0 fs) (c ∷ [])
@@ -87,86 +77,33 @@ open-taken d fs Array = guarded d _ _ (nat_lt (length fs) d) _ _ (λ e. ((refl, 
 open-taken d fs Map = guarded d _ _ (nat_lt (length fs) d) _ _ (λ e. ((refl, refl, (room d fs e, refl)), tt))
 open-taken d fs _ = tt
 
-numbered-taken : (d : ℕ) (fs : List Frame) (m : Major) (k : ℕ) → IsNumbered m → IsTakingFirst d fs (32 * major_number m + (24 + k)) (numbered_tail m k)
-numbered-taken d fs m zero i = guarded d _ _ (has_room d fs m) _ _ (item-long d fs m One 0 _ i (λ n. refl) (λ n h. h))
-numbered-taken d fs m (suc zero) i = guarded d _ _ (has_room d fs m) _ _ (item-long d fs m Two 1 _ i (λ n. refl) (λ n h. h))
-numbered-taken d fs m (suc (suc zero)) i = guarded d _ _ (has_room d fs m) _ _ (item-long d fs m Four 3 _ i (λ n. refl) (λ n h. h))
-numbered-taken d fs m (suc (suc (suc zero))) i = guarded d _ _ (has_room d fs m) _ _ (item-long d fs m Eight 7 _ i (λ n. refl) (λ n h. h))
-numbered-taken d fs m (suc (suc (suc (suc (suc (suc (suc zero))))))) i = open-taken d fs m
-numbered-taken d fs m _ i = tt
-
 break-taken : (d : ℕ) (fs : List Frame) → IsTakingNext d (at_item fs) (break_at fs 0xff) (0xff ∷ [])
 break-taken d (indefinite_array ∷ fs) = ((refl, refl), close-clear fs)
 break-taken d (indefinite_map false ∷ fs) = ((refl, refl), close-clear fs)
 break-taken d _ = tt
 
-simple-taken : (d : ℕ) (fs : List Frame) (k : ℕ) → IsTakingFirst d fs (32 * 7 + (24 + k)) (simple_tail k)
-simple-taken d fs zero = (refl, refl)
-simple-taken d fs (suc (suc (suc (suc (suc (suc (suc zero))))))) = break-taken d fs
-simple-taken d fs _ = tt
-
-tail-taken : (d : ℕ) (fs : List Frame) (m : Major) (k : ℕ) → IsTakingFirst d fs (32 * major_number m + (24 + k)) (tail m k)
-tail-taken d fs Simple k = simple-taken d fs k
-tail-taken d fs m k = numbered-taken d fs m k tt
-
-first-taken : (d : ℕ) (fs : List Frame) (m : Major) (low : ℕ) → IsTakingFirst d fs (32 * major_number m + low) (opening_of m low)
-first-taken d fs m low = elim (cases_lt low 24) [
-  | inl h ↦ rw (lt-ltb low 24 h) (guarded d _ _ (has_room d fs m) _ _ (λ e. ((refl, h, follows-direct d fs m low h e), after-clear false m low fs)))
-  | inr h ↦
-      let above : 24 + (low - 24) ≡ low = omega arith in
-      rw (le-ltb low 24 h) (subst (λ (x : ℕ). IsTakingFirst d fs (32 * major_number m + x) (tail m (low - 24))) above (tail-taken d fs m (low - 24)))
-]
-
 item-taken : (d : ℕ) (fs : List Frame) (c : ℕ) → c < 256 → IsTakingFirst d fs c (opening c)
 item-taken d fs c h =
-    let s = split c h in
-    rw s.opens (subst (λ (x : ℕ). IsTakingFirst d fs x (opening_of s.major s.low)) (sym s.made) (first-taken d fs s.major s.low))
+    by-byte (IsTakingFirst d fs) (λ m n l. guarded d _ _ (has_room d fs m) _ _ (λ e. ((refl, l, follows-direct d fs m n l e), after-clear false m n fs)))
+    (λ m w k low i is. let size : more_bytes w - 1 ≡ k = omega (arith, is.size) in rw size (guarded d _ _ (has_room d fs m) _ _ (item-long d fs m w k _ i is.made is.holds)))
+    (open-taken d fs) (refl, refl) (break-taken d fs) (λ c. tt) c h
 
 -- ---- the first byte of a chunk
 
 abbrev IsTakingChunk : ℕ → Major → List Frame → ℕ → Opening → Type 0
 IsTakingChunk d m fs c o = IsTakingNext d (in_chunks m fs) (in_string m fs o) (c ∷ [])
 
-chunk-long : (d : ℕ) (m n : Major) (w : Width) (k : ℕ) (fs : List Frame) (more : ℕ) → ((x : ℕ) → head n w x ≡ (32 * major_number n + more) ∷ bytes_high_first (suc k) x) → ((x : ℕ) → x < 256 ^ suc k → Holds w x)
-    → more_bytes w - 1 ≡ k → IsTakingChunk d m fs (32 * major_number n + more) (long n w)
-chunk-long d m n w k fs more made holds is =
-    rw is (guarded d _ _ (is_major m n) _ _ (λ e. (refl, long-head m w k _ (λ x. ap (λ j. head j w x) (is_major-same m n e) ∙ made x) holds)))
-
-without-taken : (d : ℕ) (m n : Major) (fs : List Frame) → IsTakingChunk d m fs (32 * major_number n + 31) (indefinite_length n)
-without-taken d m Bytes fs = tt
-without-taken d m Text fs = tt
-without-taken d m Array fs = tt
-without-taken d m Map fs = tt
-without-taken d m _ fs = tt
-
-chunk-numbered : (d : ℕ) (m n : Major) (fs : List Frame) (k : ℕ) → IsTakingChunk d m fs (32 * major_number n + (24 + k)) (numbered_tail n k)
-chunk-numbered d m n fs zero = chunk-long d m n One 0 fs 24 (λ x. refl) (λ x h. h) refl
-chunk-numbered d m n fs (suc zero) = chunk-long d m n Two 1 fs 25 (λ x. refl) (λ x h. h) refl
-chunk-numbered d m n fs (suc (suc zero)) = chunk-long d m n Four 3 fs 26 (λ x. refl) (λ x h. h) refl
-chunk-numbered d m n fs (suc (suc (suc zero))) = chunk-long d m n Eight 7 fs 27 (λ x. refl) (λ x h. h) refl
-chunk-numbered d m n fs (suc (suc (suc (suc (suc (suc (suc zero))))))) = without-taken d m n fs
-chunk-numbered d m n fs _ = tt
-
-chunk-simple : (d : ℕ) (m : Major) (fs : List Frame) (k : ℕ) → IsTakingChunk d m fs (32 * 7 + (24 + k)) (simple_tail k)
-chunk-simple d m fs (suc (suc (suc (suc (suc (suc (suc zero))))))) = ((refl, refl), close-clear fs)
-chunk-simple d m fs _ = tt
-
-chunk-tail : (d : ℕ) (m n : Major) (fs : List Frame) (k : ℕ) → IsTakingChunk d m fs (32 * major_number n + (24 + k)) (tail n k)
-chunk-tail d m Simple fs k = chunk-simple d m fs k
-chunk-tail d m n fs k = chunk-numbered d m n fs k
-
-chunk-first : (d : ℕ) (m n : Major) (fs : List Frame) (low : ℕ) → IsTakingChunk d m fs (32 * major_number n + low) (opening_of n low)
-chunk-first d m n fs low = elim (cases_lt low 24) [
-  | inl h ↦ rw (lt-ltb low 24 h) (guarded d _ _ (is_major m n) _ _ (λ e. ((ap (λ j. (32 * major_number j + low) ∷ []) (sym (is_major-same m n e)), h, refl), payload-clear true m low fs)))
-  | inr h ↦
-      let above : 24 + (low - 24) ≡ low = omega arith in
-      rw (le-ltb low 24 h) (subst (λ (x : ℕ). IsTakingChunk d m fs (32 * major_number n + x) (tail n (low - 24))) above (chunk-tail d m n fs (low - 24)))
-]
-
 chunk-taken : (d : ℕ) (m : Major) (fs : List Frame) (c : ℕ) → c < 256 → IsTakingChunk d m fs c (opening c)
 chunk-taken d m fs c h =
-    let s = split c h in
-    rw s.opens (subst (λ (x : ℕ). IsTakingChunk d m fs x (opening_of s.major s.low)) (sym s.made) (chunk-first d m s.major fs s.low))
+    by-byte (IsTakingChunk d m fs) (λ n x l. guarded d _ _ (is_major m n) _ _ (λ e. ((ap (λ j. (32 * major_number j + x) ∷ []) (sym (is_major-same m n e)), l, refl), payload-clear true m x fs)))
+    (λ n w k low i is.
+    let size : more_bytes w - 1 ≡ k = omega (arith, is.size) in
+    rw size (guarded d _ _ (is_major m n) _ _ (λ e. (refl, long-head m w k _ (λ x. ap (λ j. head j w x) (is_major-same m n e) ∙ is.made x) is.holds))))
+    without tt ((refl, refl), close-clear fs) (λ c. tt) c h
+  where
+    without : (n : Major) → IsTakingChunk d m fs (32 * major_number n + 31) (indefinite_length n)
+    without Bytes = tt
+    without _ = tt
 
 -- ---- any byte
 
@@ -245,7 +182,7 @@ nothing-taken d q t bs h b e = subst (λ o. IsTakingRun d q o bs) e (run-taken d
 
 -- ---- more marks than one
 
-tells-first : (m n : Mark) (o : Outcome) (t : State) (ms : List Mark) → telling n o ≡ reached t (m ∷ ms) → (m ≡ n) × (o ≡ reached t ms)
+pub tells-first : (m n : Mark) (o : Outcome) (t : State) (ms : List Mark) → telling n o ≡ reached t (m ∷ ms) → (m ≡ n) × (o ≡ reached t ms)
 tells-first m n (refused r) t ms e = absurd (cc e)
 tells-first m n (reached q ns) t ms e = (cc e, cc e)
 

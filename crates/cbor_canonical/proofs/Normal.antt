@@ -1,10 +1,12 @@
 -- The normal spelling of a value has its canonical bytes.
 use Rattle.std.proofs.Common.{◌≡◌, ℕ, suc, ◌^◌, ◌<◌, Bool, true, false, List, [], ◌∷◌, ◌++◌, length, refl, sym, ap, ◌∙◌, subst, append-nil, flat_map, if◌then◌else◌, nat_lt}
+use Rattle.std.proofs.lemmas.Bool.{cond_both}
 use Rattle.cbor_head.specs.Value as value
 use Rattle.cbor_head.specs.Prelude.{Holds, shortest, shortest_head, head, Value, Values, Entries, values_count, IsInRange, AreInRange, AreEntriesInRange, Spelling, Spellings, SpelledEntries, unsigned, negative, bytes, text, array, a_map, tag, simple, no_spellings, a_spelling, no_entries, entry, spell, spell_all, spell_entries, spellings_count, entries_count, break_of, IsSpelled, AreSpelled, AreEntriesSpelled, HoldsOrIndefinite, key_lt, Pair, put, in_order, canonical, canonical_all, canonical_entries}
 use Rattle.cbor_head.specs.declared.order.KeyOrder.{KeyOrder}
 use Rattle.cbor_head.specs.declared.major.Major.TheVariants.{Unsigned, Array, Map, Tag}
-use Rattle.cbor_head.specs.declared.width.Width.TheVariants.{Direct, One, Two, Four, Eight}
+use Rattle.cbor_head.specs.declared.width.Width.{Width}
+use Rattle.cbor_head.specs.declared.width.Width.TheVariants.{Eight}
 use Rattle.cbor_head.proofs.Least.{least}
 use Rattle.cbor_grammar.proofs.ReadLaws.{holds_or_open}
 use Rattle.cbor_canonical.proofs.Induction.{AllOf, AllIn, AllIn-every, by_cases}
@@ -43,13 +45,18 @@ abbrev pub AllSpelled : (Spelling → Type 0) → SpelledEntries → Type 0
 AllSpelled P no_entries = Unit {0}
 AllSpelled P (entry k v es) = P k × P v × AllSpelled P es
 
-pub put_entry-all : (P : Spelling → Type 0) (o : KeyOrder) (k v : Spelling) (es : SpelledEntries) → P k → P v → AllSpelled P es → AllSpelled P (put_entry o k v es)
-put_entry-all P o k v no_entries p q a = (p, q, tt)
-put_entry-all P o k v (entry k' v' es) p q a =
-    elim (key_lt o (spell k) (spell k')) as (λ b. AllSpelled P (if b then entry k v (entry k' v' es) else entry k' v' (put_entry o k v es))) [
-      | true ↦ (p, q, a)
-      | false ↦ (a.0, a.1, put_entry-all P o k v es p q a.2)
+-- into pairs es, by them: before those that it comes before, behind the others
+pub by_put : (o : KeyOrder) (k v : Spelling) (P : SpelledEntries → SpelledEntries → Type 0) → P no_entries (entry k v no_entries) → ((k' v' : Spelling) (es : SpelledEntries) → P (entry k' v' es) (entry k v (entry k' v' es)))
+    → ((k' v' : Spelling) (es put : SpelledEntries) → P es put → P (entry k' v' es) (entry k' v' put)) → (es : SpelledEntries) → P es (put_entry o k v es)
+by_put o k v P none here there no_entries = none
+by_put o k v P none here there (entry k' v' es) =
+    elim (key_lt o (spell k) (spell k')) as (λ b. P (entry k' v' es) (if b then entry k v (entry k' v' es) else entry k' v' (put_entry o k v es))) [
+      | true ↦ here k' v' es
+      | false ↦ there k' v' es (put_entry o k v es) (by_put o k v P none here there es)
     ]
+
+pub put_entry-all : (P : Spelling → Type 0) (o : KeyOrder) (k v : Spelling) (es : SpelledEntries) → P k → P v → AllSpelled P es → AllSpelled P (put_entry o k v es)
+put_entry-all P o k v es p q a = by_put o k v (λ es put. AllSpelled P es → AllSpelled P put) (λ a. (p, q, tt)) (λ k' v' es a. (p, q, a)) (λ k' v' es put ih a. (a.0, a.1, ih a.2)) es a
 
 pairs-put_entry : (o : KeyOrder) (k v : Spelling) (es : SpelledEntries) → pairs (put_entry o k v es) ≡ put o (record { key = spell k; value = spell v }) (pairs es)
 pairs-put_entry o k v no_entries = refl
@@ -66,12 +73,7 @@ spell_entries-pairs no_entries = refl
 spell_entries-pairs (entry k v es) = ap (λ (l : List ℕ). spell k ++ spell v ++ l) (spell_entries-pairs es)
 
 entries_count-put_entry : (o : KeyOrder) (k v : Spelling) (es : SpelledEntries) → entries_count (put_entry o k v es) ≡ suc (entries_count es)
-entries_count-put_entry o k v no_entries = refl
-entries_count-put_entry o k v (entry k' v' es) =
-    elim (key_lt o (spell k) (spell k')) as (λ b. entries_count (if b then entry k v (entry k' v' es) else entry k' v' (put_entry o k v es)) ≡ suc (suc (entries_count es))) [
-      | true ↦ refl
-      | false ↦ ap suc (entries_count-put_entry o k v es)
-    ]
+entries_count-put_entry o k v es = by_put o k v (λ es put. entries_count put ≡ suc (entries_count es)) refl (λ k' v' es. refl) (λ k' v' es put ih. ap suc ih) es
 
 pub entries_count-normal : (o : KeyOrder) (es : Entries) → entries_count (normal_entries o es) ≡ value.entries_count es
 entries_count-normal o value.no_entries = refl
@@ -81,16 +83,12 @@ pub spellings_count-normal : (o : KeyOrder) (vs : Values) → spellings_count (n
 spellings_count-normal o value.no_values = refl
 spellings_count-normal o (value.a_value v vs) = ap suc (spellings_count-normal o vs)
 
-closer_chosen : (a b c d : Bool) → break_of (if a then Direct else if b then One else if c then Two else if d then Four else Eight) ≡ []
-closer_chosen true b c d = refl
-closer_chosen false true c d = refl
-closer_chosen false false true d = refl
-closer_chosen false false false true = refl
-closer_chosen false false false false = refl
-
 -- a shortest head is definite
 pub break_of-shortest : (n : ℕ) → break_of (shortest n) ≡ []
-break_of-shortest n = closer_chosen (nat_lt n 24) (nat_lt n (2 ^ 8)) (nat_lt n (2 ^ 16)) (nat_lt n (2 ^ 32))
+break_of-shortest n = chosen (nat_lt n 24) _ _ refl (chosen (nat_lt n (2 ^ 8)) _ _ refl (chosen (nat_lt n (2 ^ 16)) _ _ refl (chosen (nat_lt n (2 ^ 32)) _ _ refl refl)))
+  where
+    chosen : (b : Bool) (v w : Width) → break_of v ≡ [] → break_of w ≡ [] → break_of (if b then v else w) ≡ []
+    chosen b v w f g = cond_both b v w (λ x. break_of x ≡ []) (λ e. f) (λ e. g)
 
 pub Holds-shortest : (n : ℕ) → n < 2 ^ 64 → Holds (shortest n) n
 Holds-shortest n h = (least Unsigned Eight n h).0

@@ -1,11 +1,11 @@
 -- The normal spelling means the same value, and is as deep.
-use Rattle.std.proofs.Common.{◌≡◌, suc, max, true, false, inl, inr, refl, sym, ap, ◌∙◌, subst, arith, if◌then◌else◌}
+use Rattle.std.proofs.Common.{◌≡◌, suc, max, inl, inr, refl, sym, ap, ◌∙◌, subst, arith}
 use Rattle.cbor_head.specs.Value as value
-use Rattle.cbor_head.specs.Prelude.{Value, Values, Entries, HasEntry, Same, SameValues, Spelling, SpelledEntries, no_entries, entry, spell, value_of, values_of, entries_of, depth, depth_all, depth_entries, key_lt}
+use Rattle.cbor_head.specs.Prelude.{Value, Values, Entries, HasEntry, Same, SameValues, Spelling, SpelledEntries, value_of, values_of, entries_of, depth, depth_all, depth_entries}
 use Rattle.cbor_head.specs.declared.order.KeyOrder.{KeyOrder}
 use Rattle.cbor_canonical.proofs.Induction.{AllOf, AllIn, by_cases}
 use Rattle.cbor_canonical.proofs.Sameness.{HasSame, IsSameOf, Same-maps}
-use Rattle.cbor_canonical.proofs.Normal.{put_entry, normal, normal_all, normal_entries}
+use Rattle.cbor_canonical.proofs.Normal.{put_entry, normal, normal_all, normal_entries, by_put}
 
 -- ---- the value
 
@@ -13,28 +13,14 @@ abbrev Means : KeyOrder → Value → Type 0
 Means o v = Same v (value_of (normal o v))
 
 entry_put : (o : KeyOrder) (k v : Spelling) (es : SpelledEntries) (a b : Value) → HasEntry (value.entry (value_of k) (value_of v) (entries_of es)) a b → HasEntry (entries_of (put_entry o k v es)) a b
-entry_put o k v no_entries a b h = h
-entry_put o k v (entry k' v' es) a b h =
-    elim (key_lt o (spell k) (spell k')) as (λ t. HasEntry (entries_of (if t then entry k v (entry k' v' es) else entry k' v' (put_entry o k v es))) a b) [
-      | true ↦ h
-      | false ↦ elim h [
-        | inl e ↦ inr (entry_put o k v es a b (inl e))
-        | inr g ↦ elim g [ inl e ↦ inl e | inr l ↦ inr (entry_put o k v es a b (inr l)) ]
-      ]
-    ]
+entry_put o k v es a b h =
+    by_put o k v (λ es put. HasEntry (value.entry (value_of k) (value_of v) (entries_of es)) a b → HasEntry (entries_of put) a b) (λ h. h) (λ k' v' es h. h)
+    (λ k' v' es put ih h. elim h [ inl e ↦ inr (ih (inl e)) | inr (inl e) ↦ inl e | inr (inr l) ↦ inr (ih (inr l)) ]) es h
 
 put_entry_has : (o : KeyOrder) (k v : Spelling) (es : SpelledEntries) (a b : Value) → HasEntry (entries_of (put_entry o k v es)) a b → HasEntry (value.entry (value_of k) (value_of v) (entries_of es)) a b
-put_entry_has o k v no_entries a b h = h
-put_entry_has o k v (entry k' v' es) a b h =
-    let split : HasEntry (entries_of (if key_lt o (spell k) (spell k') then entry k v (entry k' v' es) else entry k' v' (put_entry o k v es))) a b → HasEntry (value.entry (value_of k) (value_of v) (entries_of (entry k' v' es))) a b =
-    elim (key_lt o (spell k) (spell k')) as (λ t. HasEntry (entries_of (if t then entry k v (entry k' v' es) else entry k' v' (put_entry o k v es))) a b → HasEntry (value.entry (value_of k) (value_of v) (entries_of (entry k' v' es))) a b) [
-      | true ↦ λ g. g
-      | false ↦ λ g. elim g [
-        | inl e ↦ inr (inl e)
-        | inr l ↦ elim (put_entry_has o k v es a b l) [ inl e ↦ inl e | inr m ↦ inr (inr m) ]
-      ]
-    ] in
-    split h
+put_entry_has o k v es a b h =
+    by_put o k v (λ es put. HasEntry (entries_of put) a b → HasEntry (value.entry (value_of k) (value_of v) (entries_of es)) a b) (λ h. h) (λ k' v' es h. h)
+    (λ k' v' es put ih h. elim h [ inl e ↦ inr (inl e) | inr l ↦ elim (ih l) [ inl e ↦ inl e | inr m ↦ inr (inr m) ] ]) es h
 
 means_forth : (o : KeyOrder) (es : Entries) → AllIn (Means o) es → (k v : Value) → HasEntry es k v → HasSame (entries_of (normal_entries o es)) k v
 means_forth o value.no_entries a k v h = absurd h
@@ -78,13 +64,7 @@ abbrev AsDeep : KeyOrder → Value → Type 0
 AsDeep o v = depth (normal o v) ≡ value.depth v
 
 depth-put_entry : (o : KeyOrder) (k v : Spelling) (es : SpelledEntries) → depth_entries (put_entry o k v es) ≡ max (max (depth k) (depth v)) (depth_entries es)
-depth-put_entry o k v no_entries = refl
-depth-put_entry o k v (entry k' v' es) =
-    let ih = depth-put_entry o k v es in
-    elim (key_lt o (spell k) (spell k')) as (λ b. depth_entries (if b then entry k v (entry k' v' es) else entry k' v' (put_entry o k v es)) ≡ max (max (depth k) (depth v)) (depth_entries (entry k' v' es))) [
-      | true ↦ refl
-      | false ↦ omega (arith, ih)
-    ]
+depth-put_entry o k v es = by_put o k v (λ es put. depth_entries put ≡ max (max (depth k) (depth v)) (depth_entries es)) refl (λ k' v' es. refl) (λ k' v' es put ih. omega (arith, ih)) es
 
 deep_all : (o : KeyOrder) (vs : Values) → AllOf (AsDeep o) vs → depth_all (normal_all o vs) ≡ value.depth_all vs
 deep_all o value.no_values a = refl

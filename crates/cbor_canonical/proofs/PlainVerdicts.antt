@@ -1,13 +1,13 @@
 -- The verdict of the strict rules, which is that of the plain ones too, unless it refuses for a reason that these have not.
 use Rattle.std.proofs.Common.{◌≡◌, ◌≢◌, ◌⊎◌, ℕ, ◌<◌, ◌≤◌, List, length, inl, inr, refl, ap, subst, arith}
 use Rattle.std.proofs.lemmas.Bool.{cases_lt}
-use Rattle.cbor_head.specs.Prelude.{Bounds, Spelling, IsSpelled, plain, strict, Complaint, IsComplaint, rank, IsFirstOf, HasNoneOf, accepted, refused, IsVerdict}
+use Rattle.cbor_head.specs.Prelude.{Bounds, Spelling, IsSpelled, plain, strict, Complaint, Complains, IsComplaint, rank, IsFirstOf, HasNoneOf, accepted, refused, IsVerdict}
 use Rattle.cbor_head.specs.declared.order.KeyOrder.{KeyOrder}
 use Rattle.cbor_head.specs.declared.reason.Reason.{Reason}
 use Rattle.cbor_head.specs.declared.reason.Reason.TheVariants.{InvalidText, NotShortest, Indefinite, KeyOrder as KeyOrderReason}
 use Rattle.cbor_head.specs.declared.reason.Refusal.{Refusal}
 use Rattle.cbor_grammar.proofs.Complaints.{kind_rank}
-use Rattle.cbor_grammar.proofs.Reasons.{reason_of, ranked}
+use Rattle.cbor_grammar.proofs.Reasons.{each_complaint, ranked}
 use Rattle.cbor_canonical.specs.StrictReasons.{IsStrictReason}
 use Rattle.cbor_canonical.proofs.PlainRules.{none_plainly, plainly}
 
@@ -22,12 +22,15 @@ module _ (limits : Bounds) (o : KeyOrder) (s : Spelling) (spelled : IsSpelled s)
   none_of_plain t h c (inl x) l = none_plainly o t s 0 spelled (λ e y m. h e (inl y) m) c x l
   none_of_plain t h c (inr x) l = h c (inr x) l
 
+  -- beyond the strict reasons there is one, which the plain rules know
+  split : (c : Complaint) → Complains (strict o) 0 s c → IsStrictReason c.reason ⊎ (c.reason ≡ InvalidText)
+  split c x =
+      each_complaint (strict o) (λ e. IsStrictReason e.reason ⊎ (e.reason ≡ InvalidText)) (λ t at q. inr refl) (λ t at n. inl tt) (λ t at. inl tt)
+      (λ e at n. inl (cc e)) (λ p e at n. inl tt) 0 s c x
+
   -- a complaint for a reason of the plain rules is one of theirs
   complains_plainly : (c : Complaint) → ¬ IsStrictReason c.reason → IsComplaint limits (strict o) s c → IsComplaint limits plain s c
-  complains_plainly c apart (inl x) =
-      let is : IsStrictReason c.reason ⊎ (c.reason ≡ InvalidText) =
-      reason_of (strict o) (λ r. IsStrictReason r ⊎ (r ≡ InvalidText)) (λ t. inr refl) (λ t. inl tt) (λ t. inl tt) (λ e. inl (cc e)) (λ p e. inl tt) 0 s c x in
-      elim is [ inl y ↦ absurd (apart y) | inr y ↦ inl (plainly o c y s 0 x) ]
+  complains_plainly c apart (inl x) = elim (split c x) [ inl y ↦ absurd (apart y) | inr y ↦ inl (plainly o c y s 0 x) ]
   complains_plainly c apart (inr x) = inr x
 
   pub first_of_plain : (t : ℕ) (c : Complaint) → ¬ IsStrictReason c.reason → IsFirstOf (IsComplaint limits (strict o) s) t c → IsFirstOf (IsComplaint limits plain s) t c
@@ -42,7 +45,7 @@ module _ (limits : Bounds) (o : KeyOrder) (s : Spelling) (spelled : IsSpelled s)
         where
           low : IsComplaint limits (strict o) s c → rank c.reason ≤ 1
           low (inr y) = omega (arith, kind_rank s c y.2)
-          low (inl y) = elim (reason_of (strict o) (λ r. IsStrictReason r ⊎ (rank r ≤ 1)) (λ t. inr (omega arith)) (λ t. inl tt) (λ t. inl tt) (λ e. inl (cc e)) (λ p e. inl tt) 0 s c y) [ inl z ↦ absurd (apart z) | inr z ↦ z ]
+          low (inl y) = elim (split c y) [ inl z ↦ absurd (apart z) | inr z ↦ omega (arith, ap rank z) ]
 
       first : (e : Complaint) → IsComplaint limits plain s e → e.end ≤ t → (c.end < e.end) ⊎ ((c.end ≡ e.end) × (rank c.reason ≤ rank e.reason))
       first e x l = elim (cases_lt c.end e.end) [

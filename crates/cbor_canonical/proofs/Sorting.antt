@@ -54,32 +54,28 @@ rising_unique o (p ∷ ps) (q ∷ qs) u v f g =
       | inr n ↦ n
     ]
 
+-- into a list, by its members: before those that it comes before, behind the others
+by_put : (o : KeyOrder) (p : Pair) (P : List Pair → List Pair → Type 0) → P [] (p ∷ []) → ((q : Pair) (qs : List Pair) → P (q ∷ qs) (p ∷ q ∷ qs)) → ((q : Pair) (qs rs : List Pair) → P qs rs → P (q ∷ qs) (q ∷ rs)) → (qs : List Pair) → P qs (put o p qs)
+by_put o p P none here there [] = none
+by_put o p P none here there (q ∷ qs) =
+    elim (key_lt o p.key q.key) as (λ b. P (q ∷ qs) (if b then p ∷ q ∷ qs else q ∷ put o p qs)) [
+      | true ↦ here q qs
+      | false ↦ there q qs (put o p qs) (by_put o p P none here there qs)
+    ]
+
 -- the members after an insert
 pub in_put : (o : KeyOrder) (p : Pair) (qs : List Pair) (r : Pair) → In r (put o p qs) → (r ≡ p) ⊎ In r qs
-in_put o p [] r m = m
-in_put o p (q ∷ qs) r m =
-    let split : In r (if key_lt o p.key q.key then p ∷ q ∷ qs else q ∷ put o p qs) → (r ≡ p) ⊎ In r (q ∷ qs) =
-    elim (key_lt o p.key q.key) as (λ b. In r (if b then p ∷ q ∷ qs else q ∷ put o p qs) → (r ≡ p) ⊎ In r (q ∷ qs)) [
-      | true ↦ λ n. n
-      | false ↦ λ n. elim n [ inl e ↦ inr (inl e) | inr k ↦ elim (in_put o p qs r k) [ inl e ↦ inl e | inr l ↦ inr (inr l) ] ]
-    ] in
-    split m
+in_put o p qs r m =
+    by_put o p (λ qs rs. In r rs → (r ≡ p) ⊎ In r qs) (λ n. n) (λ q qs n. n)
+    (λ q qs rs ih n. elim n [ inl e ↦ inr (inl e) | inr k ↦ elim (ih k) [ inl e ↦ inl e | inr l ↦ inr (inr l) ] ]) qs m
 
 pub put_in : (o : KeyOrder) (p : Pair) (qs : List Pair) (r : Pair) → (r ≡ p) ⊎ In r qs → In r (put o p qs)
-put_in o p [] r m = m
-put_in o p (q ∷ qs) r m =
-    elim (key_lt o p.key q.key) as (λ b. In r (if b then p ∷ q ∷ qs else q ∷ put o p qs)) [
-      | true ↦ m
-      | false ↦ elim m [ inl e ↦ inr (put_in o p qs r (inl e)) | inr k ↦ elim k [ inl e ↦ inl e | inr l ↦ inr (put_in o p qs r (inr l)) ] ]
-    ]
+put_in o p qs r m =
+    by_put o p (λ qs rs. (r ≡ p) ⊎ In r qs → In r rs) (λ n. n) (λ q qs n. n)
+    (λ q qs rs ih n. elim n [ inl e ↦ inr (ih (inl e)) | inr (inl e) ↦ inl e | inr (inr l) ↦ inr (ih (inr l)) ]) qs m
 
 pub length-put : (o : KeyOrder) (p : Pair) (qs : List Pair) → length (put o p qs) ≡ suc (length qs)
-length-put o p [] = refl
-length-put o p (q ∷ qs) =
-    elim (key_lt o p.key q.key) as (λ b. length (if b then p ∷ q ∷ qs else q ∷ put o p qs) ≡ suc (suc (length qs))) [
-      | true ↦ refl
-      | false ↦ ap suc (length-put o p qs)
-    ]
+length-put o p qs = by_put o p (λ qs rs. length rs ≡ suc (length qs)) refl (λ q qs. refl) (λ q qs rs ih. ap suc ih) qs
 
 pub put_rising : (o : KeyOrder) (p : Pair) (qs : List Pair) → IsRising o qs → ((q : Pair) → In q qs → q.key ≡ p.key → ⊥) → IsRising o (put o p qs)
 put_rising o p [] u n = (tt, tt)
@@ -123,14 +119,11 @@ in_order-rising o [] u = refl
 in_order-rising o (p ∷ ps) u = ap (put o p) (in_order-rising o ps u.1) ∙ put-rising o p ps u
 
 put_permutes : (o : KeyOrder) (p : Pair) (qs : List Pair) → IsPermutation (p ∷ qs) (put o p qs)
-put_permutes o p [] = IsPermutation-refl (p ∷ [])
-put_permutes o p (q ∷ qs) =
-    elim (key_lt o p.key q.key) as (λ b. IsPermutation (p ∷ q ∷ qs) (if b then p ∷ q ∷ qs else q ∷ put o p qs)) [
-      | true ↦ IsPermutation-refl (p ∷ q ∷ qs)
-      | false ↦
-          IsPermutation-trans (p ∷ q ∷ qs) (q ∷ p ∷ qs) (q ∷ put o p qs) (IsPermutation-sym (q ∷ p ∷ qs) (p ∷ q ∷ qs) (IsPermutation-middle (q ∷ []) p qs))
-          (IsPermutation-cons q (p ∷ qs) (put o p qs) (put_permutes o p qs))
-    ]
+put_permutes o p qs =
+    by_put o p (λ qs rs. IsPermutation (p ∷ qs) rs) (IsPermutation-refl (p ∷ [])) (λ q qs. IsPermutation-refl (p ∷ q ∷ qs))
+    (λ q qs rs ih.
+    IsPermutation-trans (p ∷ q ∷ qs) (q ∷ p ∷ qs) (q ∷ rs) (IsPermutation-sym (q ∷ p ∷ qs) (p ∷ q ∷ qs) (IsPermutation-middle (q ∷ []) p qs))
+    (IsPermutation-cons q (p ∷ qs) rs ih)) qs
 
 pub in_order_permutes : (o : KeyOrder) (ps : List Pair) → IsPermutation ps (in_order o ps)
 in_order_permutes o [] = IsPermutation-refl []

@@ -1,19 +1,15 @@
 -- What is accepted: exactly an item at the front of the input, without complaint.
-use Rattle.std.proofs.Common.{ℕ, ◌↔◌, List, [], ◌++◌, length, take, refl, sym, ap, ◌∙◌, subst, append-nil}
+use Rattle.std.proofs.Common.{ℕ, ◌↔◌, List, [], ◌++◌, length, take, refl, sym, ap, ◌∙◌, subst, arith, append-nil}
 use Rattle.cbor_head.specs.Prelude.{Rules, Complaint, IsComplaint, Bounds, Spelling, spell, IsVerdict, accepted}
-use Rattle.cbor_head.specs.Laws.{IsAtFront, IsFrontWithoutComplaint, IsWithout}
+use Rattle.cbor_head.specs.Laws.{IsAtFront, IsFrontWithoutComplaint}
 use Rattle.cbor_grammar.proofs.Complaints.{complaint_within}
 use Rattle.cbor_grammar.proofs.Verdicts.{whole_longest}
-
--- an item has no complaint that ends behind it
-none_at_all : (limits : Bounds) (r : Rules) (s : Spelling) → IsWithout limits r s (length (spell s)) → (c : Complaint) → IsComplaint limits r s c → ⊥
-none_at_all limits r s h c k = h c k (complaint_within limits r s c k)
 
 sound : (limits : Bounds) (r : Rules) (input : List ℕ) (s : Spelling) → IsVerdict limits r input (accepted s) → IsFrontWithoutComplaint limits r input s
 sound limits r input s v =
     let (same, whole, without) = v.decides in
     let at_front : IsAtFront limits.depth (take limits.bytes input) v.item v.longest.rest = (v.starts.spelled, v.starts.within, ap (λ (p : List ℕ). p ++ v.longest.rest) whole ∙ sym v.longest.splits) in
-    let none = none_at_all limits r v.item (subst (λ (p : List ℕ). IsWithout limits r v.item (length p)) (sym whole) without) in
+    let none : (c : Complaint) → IsComplaint limits r v.item c → ⊥ = λ c k. without c k (omega (arith, ap length whole, complaint_within limits r v.item c k)) in
     subst (IsFrontWithoutComplaint limits r input) (sym same) (v.longest.rest, at_front, none)
 
 accepts : (limits : Bounds) (r : Rules) (input : List ℕ) (s : Spelling) → IsFrontWithoutComplaint limits r input s → IsVerdict limits r input (accepted s)

@@ -1,7 +1,7 @@
 -- Items that begin alike have the same complaints as far as they are alike.
 use Rattle.std.proofs.Common.{ℕ, suc, ◌+◌, ◌≡◌, ◌≤◌, ◌⊎◌, Bool, true, false, List, [], ◌∷◌, ◌++◌, length, refl, sym, ap, ◌∙◌, arith, subst, flat_map, inl, inr, length-append, append_assoc, append-nil}
 use Rattle.std.specs.List.{AllByRecursion}
-use Rattle.cbor_head.specs.Prelude.{head, Holds, Chunk, Spelling, Spellings, SpelledEntries, unsigned, negative, bytes, text, byte_chunks, text_chunks, array, a_map, tag, simple, no_spellings, a_spelling, no_entries, entry, spell, spell_all, spell_entries, spellings_count, entries_count, IsSpelled, AreSpelled, AreEntriesSpelled, IsChunk, chunk_bytes, break_of, IsItem, Rules, Complaint, OfHead, OfIndefinite, OfCount, OfString, OfChunks, OfKey, Complains, ComplainsIn, ComplainsInEntries}
+use Rattle.cbor_head.specs.Prelude.{head, Chunk, Spelling, Spellings, SpelledEntries, unsigned, negative, bytes, text, byte_chunks, text_chunks, array, a_map, tag, simple, no_spellings, a_spelling, no_entries, entry, spell, spell_all, spell_entries, spellings_count, entries_count, IsSpelled, AreSpelled, AreEntriesSpelled, IsChunk, chunk_bytes, break_of, IsItem, Rules, Complaint, OfHead, OfIndefinite, OfCount, OfString, OfChunks, OfKey, Complains, ComplainsIn, ComplainsInEntries}
 use Rattle.cbor_head.specs.declared.major.Major.{Major}
 use Rattle.cbor_head.specs.declared.major.Major.TheVariants.{Unsigned, Negative, Bytes, Text, Array, Map, Tag}
 use Rattle.cbor_head.specs.declared.width.Width.{Width}
@@ -17,18 +17,6 @@ pub use Rattle.cbor_grammar.proofs.Ends.{head_end, count_later, payload_end, str
 pub use Rattle.cbor_grammar.proofs.Parts.{major, width, count, body, head_of, parts}
 
 -- ---- numbers and strings
-
-agree_unsigned : (w : Width) (n : ℕ) (t : Spelling) → Holds w n → IsSpelled t → (p : List ℕ) → Both (head Unsigned w n) (spell t) p → (r : Rules) (at : ℕ) (c : Complaint) → c.end ≤ at + length p → OfHead r at Unsigned w n c → Complains r at t c
-agree_unsigned w n t i j p both r at c l h =
-    let first = head_later r at Unsigned w n c h in
-    let e = enter (unsigned w n) t i j p both (omega arith) in
-    subst (λ (t : Spelling). Complains r at t c) (sym (as_unsigned t w n j i e.same)) h
-
-agree_negative : (w : Width) (n : ℕ) (t : Spelling) → Holds w n → IsSpelled t → (p : List ℕ) → Both (head Negative w n) (spell t) p → (r : Rules) (at : ℕ) (c : Complaint) → c.end ≤ at + length p → OfHead r at Negative w n c → Complains r at t c
-agree_negative w n t i j p both r at c l h =
-    let first = head_later r at Negative w n c h in
-    let e = enter (negative w n) t i j p both (omega arith) in
-    subst (λ (t : Spelling). Complains r at t c) (sym (as_negative t w n j i e.same)) h
 
 agree_bytes : (w : Width) (q : List ℕ) (t : Spelling) → IsSpelled (bytes w q) → IsSpelled t → (p : List ℕ) → Both (spell (bytes w q)) (spell t) p → (r : Rules) (at : ℕ) (c : Complaint) → c.end ≤ at + length p → Complains r at (bytes w q) c → Complains r at t c
 agree_bytes w q t i j p both r at c l h =
@@ -144,8 +132,14 @@ pairs_assoc a b c d = append_assoc (a ++ b) c d ∙ append_assoc a b (c ++ d)
 
 mutual
   pub agree : (s t : Spelling) → IsSpelled s → IsSpelled t → (p : List ℕ) → Both (spell s) (spell t) p → (r : Rules) (at : ℕ) (c : Complaint) → c.end ≤ at + length p → Complains r at s c → Complains r at t c
-  agree (unsigned w n) t i j p both r at c l h = agree_unsigned w n t i j p both r at c l h
-  agree (negative w n) t i j p both r at c l h = agree_negative w n t i j p both r at c l h
+  agree (unsigned w n) t i j p both r at c l h =
+      let first = head_later r at Unsigned w n c h in
+      let e = enter (unsigned w n) t i j p both (omega arith) in
+      subst (λ (t : Spelling). Complains r at t c) (sym (as_unsigned t w n j i e.same)) h
+  agree (negative w n) t i j p both r at c l h =
+      let first = head_later r at Negative w n c h in
+      let e = enter (negative w n) t i j p both (omega arith) in
+      subst (λ (t : Spelling). Complains r at t c) (sym (as_negative t w n j i e.same)) h
   agree (bytes w q) t i j p both r at c l h = agree_bytes w q t i j p both r at c l h
   agree (text w q) t i j p both r at c l h = agree_text w q t i j p both r at c l h
   agree (byte_chunks cs) t i j p both r at c l h =

@@ -89,9 +89,6 @@ same_count : (r : Rules) (at : ℕ) (m : Major) (w : Width) (n : ℕ) (c e : Com
 same_count r at m Indefinite n c e h i = same_opener r at c e h i
 same_count r at m w n c e h i = same_head r at m w n c e h i
 
-same_payload : (r : Rules) (at : ℕ) (q : List ℕ) (c e : Complaint) → OfPayload r at q c → OfPayload r at q e → c ≡ e
-same_payload r at q c e h i = h.2 ∙ sym i.2
-
 -- no bytes are a text
 payload_some : (r : Rules) (at : ℕ) (q : List ℕ) (c : Complaint) → OfPayload r at q c → 0 < length q
 payload_some r at [] c h = absurd (h.1 IsUtf8-nil)
@@ -101,7 +98,7 @@ same_string : (r : Rules) (at : ℕ) (m : Major) (w : Width) (q : List ℕ) (c e
 same_string r at Text w q c e f (inl h) (inl i) = same_head r at Text w (length q) c e h i
 same_string r at Text w q c e f (inl h) (inr i) = absurd (omega (arith, head_end r at Text w (length q) c h, payload_end r (at + length (head Text w (length q))) q e i, payload_some r (at + length (head Text w (length q))) q e i))
 same_string r at Text w q c e f (inr h) (inl i) = absurd (omega (arith, head_end r at Text w (length q) e i, payload_end r (at + length (head Text w (length q))) q c h, payload_some r (at + length (head Text w (length q))) q c h))
-same_string r at Text w q c e f (inr h) (inr i) = same_payload r (at + length (head Text w (length q))) q c e h i
+same_string r at Text w q c e f (inr h) (inr i) = h.2 ∙ sym i.2
 same_string r at m w q c e f h i = same_head r at m w (length q) c e h i
 
 same_chunks : (r : Rules) (at : ℕ) (m : Major) (ks : List Chunk) (c e : Complaint) → c.end ≡ e.end → OfChunks r at m ks c → OfChunks r at m ks e → c ≡ e

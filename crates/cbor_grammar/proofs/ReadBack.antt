@@ -6,7 +6,7 @@ use Rattle.cbor_head.specs.Read.{◌>>=◌, either, Front, front, read_head, pay
 use Rattle.cbor_head.specs.declared.major.Major.{Major}
 use Rattle.cbor_head.specs.declared.major.Major.TheVariants.{Unsigned, Negative, Bytes, Text, Array, Map, Tag, Simple}
 use Rattle.cbor_head.specs.declared.width.Width.{Width}
-use Rattle.cbor_head.specs.declared.width.Width.TheVariants.{Direct, One, Two, Four, Eight, Indefinite}
+use Rattle.cbor_head.specs.declared.width.Width.TheVariants.{Direct, One, Indefinite}
 use Rattle.cbor_head.proofs.HeadLaws.{major_back}
 use Rattle.cbor_grammar.proofs.ByteLists.{are_bytes}
 use Rattle.cbor_head.proofs.HeadBack.{ByPlace, by_place-cons, by_place-take, chosen, bind_some, IsFront, read_head-back}
@@ -48,11 +48,7 @@ string_whole m w n bs l =
 break_is : (m : Major) (w : Width) (n : ℕ) (bs : List ℕ) → is_break (front m w n bs) ≡ true → head m w n ≡ 0xff ∷ []
 break_is Simple Indefinite n bs e = refl
 break_is _ Indefinite n bs e = absurd (cc e)
-break_is m Direct n bs e = absurd (cc e)
-break_is m One n bs e = absurd (cc e)
-break_is m Two n bs e = absurd (cc e)
-break_is m Four n bs e = absurd (cc e)
-break_is m Eight n bs e = absurd (cc e)
+break_is _ _ n bs e = absurd (cc e)
 
 same_major-eq : (m o : Major) → same_major m o ≡ true → m ≡ o
 same_major-eq m o e = sym (major_back m) ∙ ap major_of (eqb-true (major_number m) (major_number o) e) ∙ major_back o
@@ -264,49 +260,37 @@ pairs_until_fit : (d : ℕ) (one : Reader) → IsExact d one → (k : ℕ) (bs :
 pairs_until_fit d one exact zero bs r small e = absurd (cc e)
 pairs_until_fit d one exact (suc k) bs r small e = pairs_until_step d one k bs r small exact (λ b l q g. pairs_until_fit d one exact k b q l g) (one bs) refl e
 
--- a count that was read
-counted : (m : Major) (w : Width) (n c : ℕ) (body stop rest bs : List ℕ) → c ≡ n → stop ≡ break_of w → body ++ (stop ++ rest) ≡ bs → (head m w c ++ body ++ break_of w) ++ rest ≡ head m w n ++ bs
-counted m w n c body stop rest bs e f g =
-    append_assoc (head m w c ++ body) (break_of w) rest ∙ append_assoc (head m w c) body (break_of w ++ rest)
-    ∙ ap (λ (l : List ℕ). head m w c ++ (body ++ (l ++ rest))) (sym f) ∙ ap (λ (l : List ℕ). head m w c ++ l) g ∙ ap (λ (k : ℕ). head m w k ++ bs) e
+-- a container whose members, as many as were told, and whose end were read
+closed : (d : ℕ) (m : Major) (w : Width) (n c : ℕ) (body stop rest bs : List ℕ) (s : Spelling) → IsSpelled s → depth s ≤ d → spell s ≡ head m w c ++ body ++ break_of w → c ≡ n → stop ≡ break_of w → body ++ (stop ++ rest) ≡ bs
+    → Fits d (head m w n ++ bs) (s, rest)
+closed d m w n c body stop rest bs s h l is e f g = record {
+  spelled = h;
+  within = l;
+  bytes_are = ap (λ (x : List ℕ). x ++ rest) is ∙ append_assoc (head m w c ++ body) (break_of w) rest ∙ append_assoc (head m w c) body (break_of w ++ rest)
+      ∙ ap (λ (x : List ℕ). head m w c ++ (body ++ (x ++ rest))) (sym f) ∙ ap (λ (x : List ℕ). head m w c ++ x) g ∙ ap (λ (k : ℕ). head m w k ++ bs) e;
+}
 
 nest_fits : (d : ℕ) (one : Reader) → IsExact d one → (m : Major) (w : Width) (n : ℕ) (bs : List ℕ) (r : Spelling × List ℕ) → HoldsOrIndefinite w n → ByPlace bs → nest one m w n bs ≡ Some r → Fits (suc d) (head m w n ++ bs) r
 nest_fits d one exact Array Indefinite n bs r h small e =
     let (ss, got, f) = bind_some (read_until one (length bs) bs) (λ ss. Some (array Indefinite ss.0, ss.1)) r e in
     let k = until_fit d one exact (length bs) bs ss small got in
-    let deep = k.within in
-    subst (Fits (suc d) (head Array Indefinite n ++ bs)) (some_same f) (record {
-      spelled = (tt, k.spelled);
-      within = omega arith;
-      bytes_are = counted Array Indefinite n n (spell_all ss.0) (0xff ∷ []) ss.1 bs refl refl k.bytes_are;
-    })
+    subst (Fits (suc d) (head Array Indefinite n ++ bs)) (some_same f)
+    (closed (suc d) Array Indefinite n n (spell_all ss.0) (0xff ∷ []) ss.1 bs (array Indefinite ss.0) (tt, k.spelled) (omega (arith, k.within)) refl refl refl k.bytes_are)
 nest_fits d one exact Array w n bs r h small e =
     let (ss, got, f) = bind_some (read_many one n bs) (λ ss. Some (array w ss.0, ss.1)) r e in
     let k = many_fit d one exact n bs ss small got in
-    let deep = k.0.within in
-    subst (Fits (suc d) (head Array w n ++ bs)) (some_same f) (record {
-      spelled = (subst (HoldsOrIndefinite w) (sym k.1) h, k.0.spelled);
-      within = omega arith;
-      bytes_are = counted Array w n (spellings_count ss.0) (spell_all ss.0) [] ss.1 bs k.1 refl k.0.bytes_are;
-    })
+    subst (Fits (suc d) (head Array w n ++ bs)) (some_same f)
+    (closed (suc d) Array w n (spellings_count ss.0) (spell_all ss.0) [] ss.1 bs (array w ss.0) (subst (HoldsOrIndefinite w) (sym k.1) h, k.0.spelled) (omega (arith, k.0.within)) refl k.1 refl k.0.bytes_are)
 nest_fits d one exact Map Indefinite n bs r h small e =
     let (es, got, f) = bind_some (read_pairs_until one (length bs) bs) (λ es. Some (a_map Indefinite es.0, es.1)) r e in
     let k = pairs_until_fit d one exact (length bs) bs es small got in
-    let deep = k.within in
-    subst (Fits (suc d) (head Map Indefinite n ++ bs)) (some_same f) (record {
-      spelled = (tt, k.spelled);
-      within = omega arith;
-      bytes_are = counted Map Indefinite n n (spell_entries es.0) (0xff ∷ []) es.1 bs refl refl k.bytes_are;
-    })
+    subst (Fits (suc d) (head Map Indefinite n ++ bs)) (some_same f)
+    (closed (suc d) Map Indefinite n n (spell_entries es.0) (0xff ∷ []) es.1 bs (a_map Indefinite es.0) (tt, k.spelled) (omega (arith, k.within)) refl refl refl k.bytes_are)
 nest_fits d one exact Map w n bs r h small e =
     let (es, got, f) = bind_some (read_pairs one n bs) (λ es. Some (a_map w es.0, es.1)) r e in
     let k = pairs_fit d one exact n bs es small got in
-    let deep = k.0.within in
-    subst (Fits (suc d) (head Map w n ++ bs)) (some_same f) (record {
-      spelled = (subst (HoldsOrIndefinite w) (sym k.1) h, k.0.spelled);
-      within = omega arith;
-      bytes_are = counted Map w n (entries_count es.0) (spell_entries es.0) [] es.1 bs k.1 refl k.0.bytes_are;
-    })
+    subst (Fits (suc d) (head Map w n ++ bs)) (some_same f)
+    (closed (suc d) Map w n (entries_count es.0) (spell_entries es.0) [] es.1 bs (a_map w es.0) (subst (HoldsOrIndefinite w) (sym k.1) h, k.0.spelled) (omega (arith, k.0.within)) refl k.1 refl k.0.bytes_are)
 nest_fits d one exact Tag Indefinite n bs r h small e = absurd (cc e)
 nest_fits d one exact Tag w n bs r h small e =
     let (s, got, f) = bind_some (one bs) (λ s. Some (tag w n s.0, s.1)) r e in

@@ -70,23 +70,6 @@ break_none (suc d) x = rw (read_head-head Simple Indefinite 0 x tt) refl
 break_past : (x : List ℕ) → past_break (0xff ∷ x) ≡ Some x
 break_past x = rw (read_head-head Simple Indefinite 0 x tt) refl
 
--- leaves
-unsigned_back : (w : Width) (n : ℕ) (x : List ℕ) → Holds w n → leaf Unsigned w (told w n) x ≡ Some (unsigned w n, x)
-unsigned_back Indefinite n x h = absurd h
-unsigned_back _ n x h = refl
-
-negative_back : (w : Width) (n : ℕ) (x : List ℕ) → Holds w n → leaf Negative w (told w n) x ≡ Some (negative w n, x)
-negative_back Indefinite n x h = absurd h
-negative_back _ n x h = refl
-
-bytes_back : (w : Width) (p x : List ℕ) → Holds w (length p) → leaf Bytes w (told w (length p)) (p ++ x) ≡ Some (bytes w p, x)
-bytes_back Indefinite p x h = absurd h
-bytes_back w p x h = payload_back p x (bytes w)
-
-text_back : (w : Width) (p x : List ℕ) → Holds w (length p) → leaf Text w (told w (length p)) (p ++ x) ≡ Some (text w p, x)
-text_back Indefinite p x h = absurd h
-text_back w p x h = payload_back p x (text w)
-
 chunked_back : (d : ℕ) (m : Major) (cs : List Chunk) (s : Spelling) (x : List ℕ) → AllByRecursion IsChunk cs
     → ((body rest : List ℕ) → read_chunks m (length body) body ≡ Some (cs, rest) → leaf m Indefinite 0 body ≡ Some (s, rest))
     → read d (chunked m cs ++ x) ≡ Some (s, x)
@@ -103,34 +86,13 @@ simple_back d n x h = elim (cases_lt n 24) [
   | inr l ↦ rw (le-ltb n 24 l, lt-ltb n 256 h.0) (leaf_read d Simple One n x (omega arith) (rw (le-leb 32 n (h.1 l)) refl))
 ]
 
--- a definite count, or up to the break
-array_back : (d : ℕ) (w : Width) (ss : Spellings) (x : List ℕ) → HoldsOrIndefinite w (spellings_count ss)
-    → ((y : List ℕ) → read_many (read d) (spellings_count ss) (spell_all ss ++ y) ≡ Some (ss, y))
-    → ((k : ℕ) → length (spell_all ss) < k → (y : List ℕ) → read_until (read d) k (spell_all ss ++ (0xff ∷ y)) ≡ Some (ss, y))
-    → read (suc d) (spell (array w ss) ++ x) ≡ Some (array w ss, x)
-array_back d Indefinite ss x h all until =
-    let body = spell_all ss ++ (0xff ∷ x) in
-    ap (read (suc d)) (append_assoc (head Array Indefinite (spellings_count ss) ++ spell_all ss) (0xff ∷ []) x ∙ append_assoc (head Array Indefinite (spellings_count ss)) (spell_all ss) (0xff ∷ x))
-    ∙ nest_read d Array Indefinite (spellings_count ss) body tt refl (rw (until (length body) (omega (arith, length-append (spell_all ss) (0xff ∷ x))) x) refl)
-array_back d w ss x h all until =
-    ap (read (suc d)) (ap (λ (l : List ℕ). l ++ x) (append-nil (head Array w (spellings_count ss) ++ spell_all ss)) ∙ append_assoc (head Array w (spellings_count ss)) (spell_all ss) x)
-    ∙ nest_read d Array w (spellings_count ss) (spell_all ss ++ x) h refl (rw (all x) refl)
-
-map_back : (d : ℕ) (w : Width) (es : SpelledEntries) (x : List ℕ) → HoldsOrIndefinite w (entries_count es)
-    → ((y : List ℕ) → read_pairs (read d) (entries_count es) (spell_entries es ++ y) ≡ Some (es, y))
-    → ((k : ℕ) → length (spell_entries es) < k → (y : List ℕ) → read_pairs_until (read d) k (spell_entries es ++ (0xff ∷ y)) ≡ Some (es, y))
-    → read (suc d) (spell (a_map w es) ++ x) ≡ Some (a_map w es, x)
-map_back d Indefinite es x h all until =
-    let body = spell_entries es ++ (0xff ∷ x) in
-    ap (read (suc d)) (append_assoc (head Map Indefinite (entries_count es) ++ spell_entries es) (0xff ∷ []) x ∙ append_assoc (head Map Indefinite (entries_count es)) (spell_entries es) (0xff ∷ x))
-    ∙ nest_read d Map Indefinite (entries_count es) body tt refl (rw (until (length body) (omega (arith, length-append (spell_entries es) (0xff ∷ x))) x) refl)
-map_back d w es x h all until =
-    ap (read (suc d)) (ap (λ (l : List ℕ). l ++ x) (append-nil (head Map w (entries_count es) ++ spell_entries es)) ∙ append_assoc (head Map w (entries_count es)) (spell_entries es) x)
-    ∙ nest_read d Map w (entries_count es) (spell_entries es ++ x) h refl (rw (all x) refl)
-
-tag_back : (d : ℕ) (w : Width) (n : ℕ) (s : Spelling) (body x : List ℕ) → Holds w n → read d body ≡ Some (s, x) → read (suc d) (head Tag w n ++ body) ≡ Some (tag w n s, x)
-tag_back d Indefinite n s body x h e = absurd h
-tag_back d w n s body x h e = nest_read d Tag w n body h refl (rw e refl)
+-- what a container holds, and its break if it has one
+closed_back : (d : ℕ) (m : Major) (w : Width) (n : ℕ) (body x : List ℕ) (r : Spelling × List ℕ) → HoldsOrIndefinite w n
+    → leaf m w (told w n) (body ++ (break_of w ++ x)) ≡ None → nest (read d) m w (told w n) (body ++ (break_of w ++ x)) ≡ Some r
+    → read (suc d) ((head m w n ++ body ++ break_of w) ++ x) ≡ Some r
+closed_back d m w n body x r h none e =
+    ap (read (suc d)) (append_assoc (head m w n ++ body) (break_of w) x ∙ append_assoc (head m w n) body (break_of w ++ x))
+    ∙ nest_read d m w n (body ++ (break_of w ++ x)) h none e
 
 -- each item has at least one byte
 from_head : (m : Major) (w : Width) (n : ℕ) (l : List ℕ) → 1 ≤ length (head m w n ++ l)
@@ -153,25 +115,34 @@ length_spell (simple n) = length_head Simple (shortest n) n
 
 mutual
   pub reads : (s : Spelling) → IsSpelled s → (d : ℕ) → depth s ≤ d → (x : List ℕ) → read d (spell s ++ x) ≡ Some (s, x)
-  reads (unsigned w n) h d deep x = leaf_read d Unsigned w n x (holds_or_open w n h) (unsigned_back w n x h)
-  reads (negative w n) h d deep x = leaf_read d Negative w n x (holds_or_open w n h) (negative_back w n x h)
+  reads (unsigned Indefinite n) h d deep x = absurd h
+  reads (unsigned w n) h d deep x = leaf_read d Unsigned w n x h refl
+  reads (negative Indefinite n) h d deep x = absurd h
+  reads (negative w n) h d deep x = leaf_read d Negative w n x h refl
+  reads (bytes Indefinite p) h d deep x = absurd h.0
   reads (bytes w p) h d deep x =
       ap (read d) (append_assoc (head Bytes w (length p)) p x)
-      ∙ leaf_read d Bytes w (length p) (p ++ x) (holds_or_open w (length p) h.0) (bytes_back w p x h.0)
+      ∙ leaf_read d Bytes w (length p) (p ++ x) h.0 (payload_back p x (bytes w))
+  reads (text Indefinite p) h d deep x = absurd h.0
   reads (text w p) h d deep x =
       ap (read d) (append_assoc (head Text w (length p)) p x)
-      ∙ leaf_read d Text w (length p) (p ++ x) (holds_or_open w (length p) h.0) (text_back w p x h.0)
+      ∙ leaf_read d Text w (length p) (p ++ x) h.0 (payload_back p x (text w))
   reads (byte_chunks cs) h d deep x = chunked_back d Bytes cs (byte_chunks cs) x h (λ body rest e. rw e refl)
   reads (text_chunks cs) h d deep x = chunked_back d Text cs (text_chunks cs) x h (λ body rest e. rw e refl)
+  reads (array Indefinite ss) h (suc d) deep x =
+      closed_back d Array Indefinite (spellings_count ss) (spell_all ss) x _ tt refl
+      (rw (reads_until ss h.1 d (omega arith) (length (spell_all ss ++ (0xff ∷ x))) (omega (arith, length-append (spell_all ss) (0xff ∷ x))) x) refl)
   reads (array w ss) h (suc d) deep x =
-      let shallow : depth_all ss ≤ d = omega arith in
-      array_back d w ss x h.0 (reads_all ss h.1 d shallow) (reads_until ss h.1 d shallow)
+      closed_back d Array w (spellings_count ss) (spell_all ss) x _ h.0 refl (rw (reads_all ss h.1 d (omega arith) x) refl)
+  reads (a_map Indefinite es) h (suc d) deep x =
+      closed_back d Map Indefinite (entries_count es) (spell_entries es) x _ tt refl
+      (rw (reads_pairs_until es h.1 d (omega arith) (length (spell_entries es ++ (0xff ∷ x))) (omega (arith, length-append (spell_entries es) (0xff ∷ x))) x) refl)
   reads (a_map w es) h (suc d) deep x =
-      let shallow : depth_entries es ≤ d = omega arith in
-      map_back d w es x h.0 (reads_pairs es h.1 d shallow) (reads_pairs_until es h.1 d shallow)
+      closed_back d Map w (entries_count es) (spell_entries es) x _ h.0 refl (rw (reads_pairs es h.1 d (omega arith) x) refl)
+  reads (tag Indefinite n s) h d deep x = absurd h.0
   reads (tag w n s) h (suc d) deep x =
       ap (read (suc d)) (append_assoc (head Tag w n) (spell s) x)
-      ∙ tag_back d w n s (spell s ++ x) x h.0 (reads s h.1 d (omega arith) x)
+      ∙ nest_read d Tag w n (spell s ++ x) h.0 refl (rw (reads s h.1 d (omega arith) x) refl)
   reads (simple n) h d deep x = simple_back d n x h
   reads _ h zero deep x = absurd (omega arith)
 

@@ -4,7 +4,7 @@ use Rattle.std.specs.Char.{encode_utf8}
 use Rattle.std.specs.Str.{chars, is_utf8}
 use Rattle.std.specs.Str.Lossy.{utf8_valid_len}
 use Rattle.std.proofs.lemmas.Str.{is_utf8-from_IsUtf8}
-use Rattle.cbor_head.specs.Prelude.{IsBeginning, Rules, form, plain, strict, Complaint, complaint, Complains, Bounds, bounds, Spelling, unsigned, negative, text, text_chunks, array, a_map, IsItem, IsSpelled, spell, depth, IsFirstOf, IsVerdictBy, IsVerdict, DecidesBy, Answer, rank, accepted, refused, refusal}
+use Rattle.cbor_head.specs.Prelude.{IsBeginning, Rules, form, plain, strict, Complaint, complaint, Complains, Bounds, bounds, Spelling, unsigned, negative, text, text_chunks, array, a_map, IsItem, IsSpelled, spell, depth, IsVerdictBy, IsVerdict, DecidesBy, Answer, rank, accepted, refused, refusal}
 use Rattle.cbor_head.specs.Read.{read}
 use Rattle.cbor_head.specs.declared.order.KeyOrder.TheVariants.{Bytewise, LengthFirst}
 use Rattle.cbor_head.specs.declared.reason.Reason.TheVariants.{Truncated, TooLong, StrayBreak, InvalidText, RepeatedKey, NotShortest, Indefinite as IndefiniteReason, KeyOrder}
@@ -12,14 +12,6 @@ use Rattle.cbor_head.specs.declared.width.Width.TheVariants.{Direct, One, Indefi
 use Rattle.cbor_grammar.proofs.Examples.{chunk, members, pairs}
 use Rattle.cbor_grammar.proofs.KindsUnasked.{any_verdict}
 use Rattle.cbor_grammar.proofs.ReadLaws.{reads, break_none}
-
--- the first complaint for keys of any kind
-abbrev First : Rules → Spelling → ℕ → Complaint → Type 0
-First r s t c = IsFirstOf (Complains r 0 s) t c
-
--- it comes first where each other one ends later, or ends there and is on a key
-first_of : (r : Rules) (s : Spelling) (t : ℕ) (c : Complaint) → Complains r 0 s c → c.end ≤ t → ((e : Complaint) → Complains r 0 s e → (c.end < e.end) ⊎ ((c.end ≡ e.end) × (rank c.reason ≤ rank e.reason))) → First r s t c
-first_of r s t c h l f = record { holds = h; ends = l; first = λ e i m. f e i }
 
 -- what is answered where the first n bytes of the input are a beginning
 pub by_beginning : (P : Spelling → Complaint → Type 0) (limits : Bounds) (input p : List ℕ) (s : Spelling) (rest : List ℕ) (a : Answer) → take limits.bytes input ≡ p → IsSpelled s → depth s ≤ limits.depth → spell s ≡ p ++ rest → DecidesBy P limits p [] s a
@@ -44,6 +36,11 @@ by_beginning P limits input p s rest a e k l m h =
 on_beginning : (n : ℕ) (r : Rules) (input p : List ℕ) (s : Spelling) (rest : List ℕ) (a : Answer) → take n input ≡ p → IsSpelled s → depth s ≤ 256 → spell s ≡ p ++ rest → DecidesBy (Complains r 0) (bounds 256 n) p [] s a → IsVerdict (bounds 256 n) r input a
 on_beginning n r input p s rest a e k l m h = (any_verdict (bounds 256 n) r refl input a).1 (by_beginning (Complains r 0) (bounds 256 n) input p s rest a e k l m h)
 
+-- it is refused for a complaint where each other one ends later, or ends there and is on a key
+refused_for : (n : ℕ) (r : Rules) (input p : List ℕ) (s : Spelling) (rest : List ℕ) (c : Complaint) → take n input ≡ p → IsSpelled s → depth s ≤ 256 → spell s ≡ p ++ rest → Complains r 0 s c → c.end ≤ length p
+    → ((e : Complaint) → Complains r 0 s e → (c.end < e.end) ⊎ ((c.end ≡ e.end) × (rank c.reason ≤ rank e.reason))) → IsVerdict (bounds 256 n) r input (refused (refusal c.reason c.place c.end))
+refused_for n r input p s rest c e k l m h ends f = on_beginning n r input p s rest _ e k l m (inl (c, record { holds = h; ends = ends; first = λ e i m. f e i }, refl))
+
 -- ---- {1: 2, 3: 4}
 
 abbrev in_order : Spelling
@@ -57,28 +54,19 @@ in_order-accepted = on_beginning _ _ _ _ in_order [] _ refl (search arith) (omeg
 abbrev repeated : Spelling
 repeated = a_map Direct (pairs ((unsigned Direct 1, unsigned Direct 0) ∷ (unsigned One 1, unsigned Direct 0) ∷ []))
 
-repeated-plain : First plain repeated 6 (complaint 5 3 RepeatedKey)
-repeated-plain = first_of plain repeated _ _ (search arith) (omega arith) (λ e h. grind arith)
-
 repeated-plain_verdict : IsVerdict (bounds 256 1048576) plain (0xa2 ∷ 0x01 ∷ 0x00 ∷ 0x18 ∷ 0x01 ∷ 0x00 ∷ []) (refused (refusal RepeatedKey 3 5))
-repeated-plain_verdict = on_beginning _ _ _ _ repeated [] _ refl (search arith) (omega arith) refl (inl (_, repeated-plain, refl))
-
-repeated-strict : First (strict Bytewise) repeated 6 (complaint 5 3 NotShortest)
-repeated-strict = first_of (strict Bytewise) repeated _ _ (search arith) (omega arith) (λ e h. grind arith)
+repeated-plain_verdict = refused_for _ _ _ _ repeated [] (complaint 5 3 RepeatedKey) refl (search arith) (omega arith) refl (search arith) (omega arith) (λ e h. grind arith)
 
 repeated-strict_verdict : IsVerdict (bounds 256 1048576) (strict Bytewise) (0xa2 ∷ 0x01 ∷ 0x00 ∷ 0x18 ∷ 0x01 ∷ 0x00 ∷ []) (refused (refusal NotShortest 3 5))
-repeated-strict_verdict = on_beginning _ _ _ _ repeated [] _ refl (search arith) (omega arith) refl (inl (_, repeated-strict, refl))
+repeated-strict_verdict = refused_for _ _ _ _ repeated [] (complaint 5 3 NotShortest) refl (search arith) (omega arith) refl (search arith) (omega arith) (λ e h. grind arith)
 
 -- ---- {1: 0, 1: 0}, in shortest heads
 
 abbrev equal_keys : Spelling
 equal_keys = a_map Direct (pairs ((unsigned Direct 1, unsigned Direct 0) ∷ (unsigned Direct 1, unsigned Direct 0) ∷ []))
 
-equal_keys-strict : First (strict Bytewise) equal_keys 5 (complaint 4 3 KeyOrder)
-equal_keys-strict = first_of (strict Bytewise) equal_keys _ _ (search arith) (omega arith) (λ e h. grind arith)
-
 equal_keys-verdict : IsVerdict (bounds 256 1048576) (strict Bytewise) (0xa2 ∷ 0x01 ∷ 0x00 ∷ 0x01 ∷ 0x00 ∷ []) (refused (refusal KeyOrder 3 4))
-equal_keys-verdict = on_beginning _ _ _ _ equal_keys [] _ refl (search arith) (omega arith) refl (inl (_, equal_keys-strict, refl))
+equal_keys-verdict = refused_for _ _ _ _ equal_keys [] (complaint 4 3 KeyOrder) refl (search arith) (omega arith) refl (search arith) (omega arith) (λ e h. grind arith)
 
 -- ---- {{1: 0, 0: 0}: 0, 0: 0}: keys out of order within a key, and then behind it
 
@@ -88,11 +76,8 @@ keys_within = a_map Direct (pairs ((a_map Direct (pairs ((unsigned Direct 1, uns
 keys_within-outer : Complains (strict Bytewise) 0 keys_within (complaint 8 7 KeyOrder)
 keys_within-outer = search arith
 
-keys_within-strict : First (strict Bytewise) keys_within 9 (complaint 5 4 KeyOrder)
-keys_within-strict = first_of (strict Bytewise) keys_within _ _ (search arith) (omega arith) (λ e h. grind arith)
-
 keys_within-verdict : IsVerdict (bounds 256 1048576) (strict Bytewise) (0xa2 ∷ 0xa2 ∷ 0x01 ∷ 0x00 ∷ 0x00 ∷ 0x00 ∷ 0x00 ∷ 0x00 ∷ 0x00 ∷ []) (refused (refusal KeyOrder 4 5))
-keys_within-verdict = on_beginning _ _ _ _ keys_within [] _ refl (search arith) (omega arith) refl (inl (_, keys_within-strict, refl))
+keys_within-verdict = refused_for _ _ _ _ keys_within [] (complaint 5 4 KeyOrder) refl (search arith) (omega arith) refl (search arith) (omega arith) (λ e h. grind arith)
 
 -- ---- {100: 0, 1: 0}, the second key in a longer head and out of order: at one end, the complaint on the key comes last
 
@@ -102,11 +87,8 @@ long_and_late = a_map Direct (pairs ((unsigned One 100, unsigned Direct 0) ∷ (
 long_and_late-key : Complains (strict Bytewise) 0 long_and_late (complaint 6 4 KeyOrder)
 long_and_late-key = search arith
 
-long_and_late-strict : First (strict Bytewise) long_and_late 7 (complaint 6 4 NotShortest)
-long_and_late-strict = first_of (strict Bytewise) long_and_late _ _ (search arith) (omega arith) (λ e h. grind arith)
-
 long_and_late-verdict : IsVerdict (bounds 256 1048576) (strict Bytewise) (0xa2 ∷ 0x18 ∷ 0x64 ∷ 0x00 ∷ 0x18 ∷ 0x01 ∷ 0x00 ∷ []) (refused (refusal NotShortest 4 6))
-long_and_late-verdict = on_beginning _ _ _ _ long_and_late [] _ refl (search arith) (omega arith) refl (inl (_, long_and_late-strict, refl))
+long_and_late-verdict = refused_for _ _ _ _ long_and_late [] (complaint 6 4 NotShortest) refl (search arith) (omega arith) refl (search arith) (omega arith) (λ e h. grind arith)
 
 -- ---- {100: 0, -1: 0}: in order bytewise, and not by length
 
@@ -116,11 +98,8 @@ by_length = a_map Direct (pairs ((unsigned One 100, unsigned Direct 0) ∷ (nega
 by_length-bytewise : IsVerdict (bounds 256 1048576) (strict Bytewise) (0xa2 ∷ 0x18 ∷ 0x64 ∷ 0x00 ∷ 0x20 ∷ 0x00 ∷ []) (accepted by_length)
 by_length-bytewise = on_beginning _ _ _ _ by_length [] _ refl (search arith) (omega arith) refl (refl, refl, λ c h l. grind arith)
 
-by_length-first : First (strict LengthFirst) by_length 6 (complaint 5 4 KeyOrder)
-by_length-first = first_of (strict LengthFirst) by_length _ _ (search arith) (omega arith) (λ e h. grind arith)
-
 by_length-verdict : IsVerdict (bounds 256 1048576) (strict LengthFirst) (0xa2 ∷ 0x18 ∷ 0x64 ∷ 0x00 ∷ 0x20 ∷ 0x00 ∷ []) (refused (refusal KeyOrder 4 5))
-by_length-verdict = on_beginning _ _ _ _ by_length [] _ refl (search arith) (omega arith) refl (inl (_, by_length-first, refl))
+by_length-verdict = refused_for _ _ _ _ by_length [] (complaint 5 4 KeyOrder) refl (search arith) (omega arith) refl (search arith) (omega arith) (λ e h. grind arith)
 
 -- ---- [], without a length
 
@@ -130,35 +109,26 @@ open_array = array Indefinite (members [])
 open_array-plain : IsVerdict (bounds 256 1048576) plain (0x9f ∷ 0xff ∷ []) (accepted open_array)
 open_array-plain = on_beginning _ _ _ _ open_array [] _ refl (search arith) (omega arith) refl (refl, refl, λ c h l. grind arith)
 
-open_array-strict : First (strict Bytewise) open_array 2 (complaint 1 0 IndefiniteReason)
-open_array-strict = first_of (strict Bytewise) open_array _ _ (search arith) (omega arith) (λ e h. grind arith)
-
 open_array-verdict : IsVerdict (bounds 256 1048576) (strict Bytewise) (0x9f ∷ 0xff ∷ []) (refused (refusal IndefiniteReason 0 1))
-open_array-verdict = on_beginning _ _ _ _ open_array [] _ refl (search arith) (omega arith) refl (inl (_, open_array-strict, refl))
+open_array-verdict = refused_for _ _ _ _ open_array [] (complaint 1 0 IndefiniteReason) refl (search arith) (omega arith) refl (search arith) (omega arith) (λ e h. grind arith)
 
 -- ---- a character split between two chunks: UTF-8 when joined, and neither chunk is
 
 abbrev split_character : Spelling
 split_character = text_chunks (chunk Direct (0xc3 ∷ []) ∷ chunk Direct (0xbc ∷ []) ∷ [])
 
-split_character-plain : First plain split_character 6 (complaint 3 2 InvalidText)
-unfolding utf8_valid_len is_utf8 chars encode_utf8
-split_character-plain = first_of plain split_character _ _ (inr (inl (inr (refl, (λ u. cc (is_utf8-from_IsUtf8 (0xc3 ∷ []) u)), refl)))) (omega arith) (λ e h. grind arith)
-
 split_character-verdict : IsVerdict (bounds 256 1048576) plain (0x7f ∷ 0x61 ∷ 0xc3 ∷ 0x61 ∷ 0xbc ∷ 0xff ∷ []) (refused (refusal InvalidText 2 3))
-split_character-verdict = on_beginning _ _ _ _ split_character [] _ refl (search arith) (omega arith) refl (inl (_, split_character-plain, refl))
+unfolding utf8_valid_len is_utf8 chars encode_utf8
+split_character-verdict = refused_for _ _ _ _ split_character [] (complaint 3 2 InvalidText) refl (search arith) (omega arith) refl (inr (inl (inr (refl, (λ u. cc (is_utf8-from_IsUtf8 (0xc3 ∷ []) u)), refl)))) (omega arith) (λ e h. grind arith)
 
 -- ---- a key that is not UTF-8, and the input ends before its value
 
 abbrev no_text : Spelling
 no_text = a_map Direct (pairs ((text Direct (0xff ∷ []), unsigned Direct 0) ∷ []))
 
-no_text-plain : First plain no_text 3 (complaint 3 2 InvalidText)
-unfolding utf8_valid_len is_utf8 chars encode_utf8
-no_text-plain = first_of plain no_text _ _ (inr (inl (inr (refl, (λ u. cc (is_utf8-from_IsUtf8 (0xff ∷ []) u)), refl)))) (omega arith) (λ e h. grind arith)
-
 no_text-verdict : IsVerdict (bounds 256 1048576) plain (0xa1 ∷ 0x61 ∷ 0xff ∷ []) (refused (refusal InvalidText 2 3))
-no_text-verdict = on_beginning _ _ _ _ no_text (0x00 ∷ []) _ refl (search arith) (omega arith) refl (inl (_, no_text-plain, refl))
+unfolding utf8_valid_len is_utf8 chars encode_utf8
+no_text-verdict = refused_for _ _ _ _ no_text (0x00 ∷ []) (complaint 3 2 InvalidText) refl (search arith) (omega arith) refl (inr (inl (inr (refl, (λ u. cc (is_utf8-from_IsUtf8 (0xff ∷ []) u)), refl)))) (omega arith) (λ e h. grind arith)
 
 -- ---- a text that is not UTF-8 so far, and the input ends within it
 

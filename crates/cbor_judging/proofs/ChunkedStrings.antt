@@ -27,10 +27,10 @@ use Rattle.cbor_judging.specs.Reading.{IsAt, IsFormRefusal, IsNextHead, Extends,
 use Rattle.cbor_judging.proofs.Items.{is-definite, head-count, extends-none, extends-on}
 use Rattle.cbor_judging.proofs.Scalars.{at-as}
 use Rattle.cbor_judging.proofs.Heads.{zero_bytes, zero_length}
-use Rattle.cbor_judging.proofs.Leaves.{IsChunked, bytes_chunked, text_chunked, chunks_bytes, chunk_judged, chunk, AreChunksSoFar, cut_chunk, cut_payload, chunk_complains, chunks_more, chunks_whole}
-use Rattle.cbor_grammar.proofs.ByteLists.{bytes_join}
+use Rattle.cbor_judging.proofs.Leaves.{IsChunked, bytes_chunked, text_chunked, chunks_bytes, chunk_judged, chunk, AreChunksSoFar, cut_chunk, chunk_complains, chunks_more, chunks_whole}
 use Rattle.cbor_automaton.proofs.Taking.{nothing-taken}
 use Rattle.cbor_judging.proofs.Steps.{reached-as}
+use Rattle.cbor_judging.proofs.CutHeads.{chunk_cut}
 use Rattle.cbor_judging.proofs.WholeStrings.{is-text}
 
 -- ---- of chunks
@@ -244,13 +244,8 @@ module _ (r : Rules) (b : Bounds) (fs : List Container) (t x : List ℕ) (text :
       chunk-part : (p : List ℕ) → length p < k → AreBytes p → IsJudged r (length t) (b.depth - length fs) (chunks_bytes (string_major text) a.done ++ (n.bytes ++ p)) None
       chunk-part p short are_bytes =
           let y = chunks_bytes (string_major text) a.done in
-          let more : List ℕ = replicate (k - length p) 0 in
-          let same : length (p ++ more) ≡ k = omega (arith, length-append p more, zero_length (k - length p), short) in
-          let head_as : n.bytes ≡ head (string_major text) ev.width (length (p ++ more)) = hd.bytes_are ∙ ap (head (string_major text) ev.width) (sym same) in
-          subst (λ (u : List ℕ). IsJudged r (length t) (b.depth - length fs) (y ++ (u ++ p)) None) (sym head_as)
-          (cut_payload (string_major text) (chunks_of text) (is-chunked text) a.done r (length t) (b.depth - length fs) a.so_far ev.width p more
-          (subst (Holds ev.width) (sym same) hd.holds, bytes_join p more are_bytes (zero_bytes (k - length p))) (omega (arith, zero_length (k - length p), short))
-          (subst (λ (j : ℕ). Never (OfHead r (length t + length y) (string_major text) ev.width j)) (sym same) clean-head))
+          subst (λ (u : List ℕ). IsJudged r (length t) (b.depth - length fs) (y ++ (u ++ p)) None) (sym hd.bytes_are)
+          (chunk_cut ev.width k p hd.holds are_bytes short r (length t) (b.depth - length fs) (string_major text) (chunks_of text) (is-chunked text) a.done a.so_far clean-head)
 
       chunk-split : (all p last : List ℕ) → all ≡ p ++ last → chunks_bytes (string_major text) a.done ++ (n.bytes ++ all) ≡ (chunks_bytes (string_major text) a.done ++ (n.bytes ++ p)) ++ last
       chunk-split all p last e =

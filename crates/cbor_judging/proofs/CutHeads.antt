@@ -4,7 +4,7 @@ use Rattle.std.proofs.lemmas.Bool.{cases_lt}
 use Rattle.std.proofs.lemmas.List.{nil_from_length}
 use Rattle.cbor_head.specs.Prelude.{Rules, OfHead, Holds, head, major_number, Chunk, Spelling, AreBytes}
 use Rattle.cbor_head.specs.declared.major.Major.{Major}
-use Rattle.cbor_head.specs.declared.major.Major.TheVariants.{Bytes, Text, Array, Map, Tag, Simple}
+use Rattle.cbor_head.specs.declared.major.Major.TheVariants.{Array, Map, Tag, Simple}
 use Rattle.cbor_head.specs.declared.width.Width.{Width}
 use Rattle.cbor_head.specs.declared.width.Width.TheVariants.{One, Two, Four, Eight}
 use Rattle.cbor_automaton.specs.Automaton.{Frame, State, at_item, in_head, in_simple, goes, numbered_tail, tail, has_room, take_byte, and_then, run, reached}
@@ -14,8 +14,9 @@ use Rattle.cbor_automaton.proofs.Taking.{nothing-taken}
 use Rattle.cbor_judging.specs.Judged.{IsJudged, Never}
 use Rattle.cbor_grammar.proofs.ByteLists.{bytes_join}
 use Rattle.cbor_judging.proofs.Heads.{cut_head, zero_bytes, zero_length}
-use Rattle.cbor_judging.proofs.Leaves.{IsChunked, chunks_bytes, bytes_so_far, text_so_far, AreChunksSoFar, cut_payload}
+use Rattle.cbor_judging.proofs.Leaves.{IsChunked, chunks_bytes, so-far, AreChunksSoFar, cut_payload}
 use Rattle.cbor_judging.specs.Path.{Level}
+use Rattle.cbor_judging.specs.Reading.{string_major}
 use Rattle.cbor_judging.proofs.PathForm.{containers, containers_count}
 
 -- ---- a head
@@ -108,15 +109,11 @@ module _ (w : Width) (n : ℕ) (q : List ℕ) (holds : Holds w n) (are : AreByte
   some = omega (arith, short, zero_length (n - length q))
 
   module _ (r : Rules) (at d : ℕ) where
-    pub bytes_cut : Never (OfHead r at Bytes w n) → IsJudged r at d (head Bytes w n ++ q) None
-    bytes_cut clean =
-        subst (λ (k : ℕ). IsJudged r at d (head Bytes w k ++ q) None) (filled n q short)
-        (bytes_so_far w q more r at d spelled some (subst (λ (k : ℕ). Never (OfHead r at Bytes w k)) (sym (filled n q short)) clean))
-
-    pub text_cut : Never (OfHead r at Text w n) → IsJudged r at d (head Text w n ++ q) None
-    text_cut clean =
-        subst (λ (k : ℕ). IsJudged r at d (head Text w k ++ q) None) (filled n q short)
-        (text_so_far w q more r at d spelled some (subst (λ (k : ℕ). Never (OfHead r at Text w k)) (sym (filled n q short)) clean))
+    pub string_cut : (text : Bool) → Never (OfHead r at (string_major text) w n) → IsJudged r at d (head (string_major text) w n ++ q) None
+    string_cut text clean =
+        let m = string_major text in
+        subst (λ (k : ℕ). IsJudged r at d (head m w k ++ q) None) (filled n q short)
+        (so-far text w q more r at d spelled.0 spelled.1 some (subst (λ (k : ℕ). Never (OfHead r at m w k)) (sym (filled n q short)) clean))
 
     -- of a chunk behind others
     pub chunk_cut : (m : Major) (made : List Chunk → Spelling) → IsChunked m made → (done : List Chunk) → AreChunksSoFar r at m done → Never (OfHead r (at + length (chunks_bytes m done)) m w n)

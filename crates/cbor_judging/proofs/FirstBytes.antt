@@ -1,5 +1,5 @@
 -- Which first bytes begin no item where one is due, and why.
-use Rattle.std.proofs.Common.{◌≡◌, ◌≢◌, ℕ, ◌+◌, ◌-◌, ◌/◌, ◌%◌, ◌<◌, ◌≤◌, ◌⊎◌, false, nat_lt, cond, None, List, [], ◌∷◌, ◌++◌, length, refl, sym, ap, ◌∙◌, subst, inl, inr, arith, append-nil, length-append, lt-ltb, le-ltb, le-leb, ne_eqb}
+use Rattle.std.proofs.Common.{◌≡◌, ◌≢◌, ℕ, ◌+◌, ◌-◌, ◌/◌, ◌%◌, ◌<◌, ◌≤◌, ◌⊎◌, ◌&&◌, if◌then◌else◌, nat_le, Bool, false, nat_lt, cond, None, List, [], ◌∷◌, ◌++◌, length, refl, sym, ap, ◌∙◌, subst, inl, inr, arith, append-nil, length-append, lt-ltb, le-ltb, le-leb, ne_eqb}
 use Rattle.std.proofs.lemmas.Bool.{lt-leb, cases_lt}
 use Rattle.cbor_head.specs.Prelude.{Rules, Bounds, simple, AreBytes, initial_reason, refusal}
 use Rattle.cbor_head.specs.declared.major.Major.{Major}
@@ -13,6 +13,7 @@ use Rattle.cbor_judging.specs.Kinds.{KeepsToKinds}
 use Rattle.cbor_judging.proofs.Judged.{judged_start, judged_head}
 use Rattle.cbor_judging.specs.PathKinds.{KeepsHere}
 use Rattle.cbor_judging.specs.Path.{Level, a_member, a_key, a_value, bytes_before, AreClean, MayBreak}
+use Rattle.cbor_judging.specs.RefusedHere.{IsMisplaced}
 use Rattle.cbor_judging.specs.Stop.{HasBadByte}
 use Rattle.cbor_judging.proofs.PathForm.{containers, containers_count}
 use Rattle.cbor_judging.proofs.PathKinds.{kept_before}
@@ -39,26 +40,18 @@ bad_opening c l h =
       | inr (inr e) ↦ ap (opening_of m) e ∙ (bad_tail m).2
     ]
 
+-- of a byte that is no break, no float, and has a length
+common_reason : (c : ℕ) → c ≢ 0xff → c ≢ 0xf9 → c ≢ 0xfa → c ≢ 0xfb → c ≢ 0x1f → c ≢ 0x3f → c ≢ 0xdf → initial_reason c ≡ (if nat_le 28 (c % 32) && nat_le (c % 32) 30 then Reserved else TooDeep)
+common_reason c a b d e f g h = rw (ne_eqb c 0xff a, ne_eqb c 0xf9 b, ne_eqb c 0xfa d, ne_eqb c 0xfb e, ne_eqb c 0x1f f, ne_eqb c 0x3f g, ne_eqb c 0xdf h) refl
+
 reserved_reason : (c : ℕ) → 28 ≤ c % 32 → c % 32 < 31 → initial_reason c ≡ Reserved
 reserved_reason c l h =
-    rw (
-      ne_eqb c 0xff (λ e. omega (arith, l, h, e)),
-      ne_eqb c 0xf9 (λ e. omega (arith, l, h, e)),
-      ne_eqb c 0xfa (λ e. omega (arith, l, h, e)),
-      ne_eqb c 0xfb (λ e. omega (arith, l, h, e)),
-      ne_eqb c 0x1f (λ e. omega (arith, l, h, e)),
-      ne_eqb c 0x3f (λ e. omega (arith, l, h, e)),
-      ne_eqb c 0xdf (λ e. omega (arith, l, h, e)),
-      le-leb 28 (c % 32) l,
-      le-leb (c % 32) 30 (omega (arith, h)),
-    ) refl
-
-pub reserved_byte : (d : ℕ) (fs : List Frame) (c : ℕ) → 28 ≤ c % 32 → c % 32 < 31 → take_byte d (at_item fs) c ≡ refuses Reserved
-reserved_byte d fs c l h = ap (begin d fs c) (bad_opening c l h) ∙ ap refuses (reserved_reason c l h)
+    common_reason c (λ e. omega (arith, h, e)) (λ e. omega (arith, l, e)) (λ e. omega (arith, l, e)) (λ e. omega (arith, l, e)) (λ e. omega (arith, h, e)) (λ e. omega (arith, h, e)) (λ e. omega (arith, h, e))
+    ∙ rw (le-leb 28 (c % 32) l, le-leb (c % 32) 30 (omega (arith, h))) refl
 
 -- ---- no length where there must be one; a float; a break
 
-pub no_indefinite_byte : (d : ℕ) (fs : List Frame) (c : ℕ) → c % 32 ≡ 31 → (c < 64) ⊎ ((192 ≤ c) × (c < 224)) → take_byte d (at_item fs) c ≡ refuses NoIndefinite
+no_indefinite_byte : (d : ℕ) (fs : List Frame) (c : ℕ) → c % 32 ≡ 31 → (c < 64) ⊎ ((192 ≤ c) × (c < 224)) → take_byte d (at_item fs) c ≡ refuses NoIndefinite
 no_indefinite_byte d fs c e (inl l) = elim (cases_lt c 32) [
   | inl k ↦
       let same : c ≡ 0x1f = omega (arith, e, k) in
@@ -73,7 +66,7 @@ no_indefinite_byte d fs c e (inr h) =
     let same : c ≡ 0xdf = omega (arith, e, l, k) in
     ap (take_byte d (at_item fs)) same
 
-pub float_byte : (d : ℕ) (fs : List Frame) (c : ℕ) → 249 ≤ c → c ≤ 251 → take_byte d (at_item fs) c ≡ refuses Float
+float_byte : (d : ℕ) (fs : List Frame) (c : ℕ) → 249 ≤ c → c ≤ 251 → take_byte d (at_item fs) c ≡ refuses Float
 float_byte d fs c l h = elim (cases_lt c 250) [
   | inl k ↦
       let same : c ≡ 0xf9 = omega (arith, l, k) in
@@ -88,7 +81,7 @@ float_byte d fs c l h = elim (cases_lt c 250) [
   ]
 ]
 
-pub break_byte : (d : ℕ) (ls : List Level) → (MayBreak ls → ⊥) → take_byte d (at_item (containers ls)) 0xff ≡ refuses StrayBreak
+break_byte : (d : ℕ) (ls : List Level) → (MayBreak ls → ⊥) → take_byte d (at_item (containers ls)) 0xff ≡ refuses StrayBreak
 break_byte d (a_member Indefinite left done ∷ ls) h = absurd (h tt)
 break_byte d (a_key Indefinite left done ∷ ls) h = absurd (h tt)
 break_byte d (a_value Indefinite left done k ∷ ls) h = refl
@@ -135,29 +128,11 @@ IsLow c = (c % 32 < 28) ⊎ ((c % 32 ≡ 31) × (c < 192))
 
 deep_reason : (c : ℕ) → 128 ≤ c → c < 224 → IsLow c → initial_reason c ≡ TooDeep
 deep_reason c l h i =
-    let apart : (c ≢ 0xdf) × (c % 32 < 28) ⊎ (c ≢ 0xdf) × (30 < c % 32) = elim i [ inl k ↦ inl ((λ e. omega (arith, k, e)), k) | inr k ↦ inr ((λ e. omega (arith, k.1, e)), omega (arith, k.0)) ] in
-    elim apart [
-      | inl k ↦ rw (
-        ne_eqb c 0xff (λ e. omega (arith, h, e)),
-        ne_eqb c 0xf9 (λ e. omega (arith, h, e)),
-        ne_eqb c 0xfa (λ e. omega (arith, h, e)),
-        ne_eqb c 0xfb (λ e. omega (arith, h, e)),
-        ne_eqb c 0x1f (λ e. omega (arith, l, e)),
-        ne_eqb c 0x3f (λ e. omega (arith, l, e)),
-        ne_eqb c 0xdf k.0,
-        lt-leb 28 (c % 32) k.1,
-      ) refl
-      | inr k ↦ rw (
-        ne_eqb c 0xff (λ e. omega (arith, h, e)),
-        ne_eqb c 0xf9 (λ e. omega (arith, h, e)),
-        ne_eqb c 0xfa (λ e. omega (arith, h, e)),
-        ne_eqb c 0xfb (λ e. omega (arith, h, e)),
-        ne_eqb c 0x1f (λ e. omega (arith, l, e)),
-        ne_eqb c 0x3f (λ e. omega (arith, l, e)),
-        ne_eqb c 0xdf k.0,
-        le-leb 28 (c % 32) (omega (arith, k.1)),
-        lt-leb (c % 32) 30 k.1,
-      ) refl
+    let apart : c ≢ 0xdf = λ e. elim i [ inl k ↦ omega (arith, k, e) | inr k ↦ omega (arith, k.1, e) ] in
+    common_reason c (λ e. omega (arith, h, e)) (λ e. omega (arith, h, e)) (λ e. omega (arith, h, e)) (λ e. omega (arith, h, e)) (λ e. omega (arith, l, e)) (λ e. omega (arith, l, e)) apart
+    ∙ elim i [
+      | inl k ↦ rw (lt-leb 28 (c % 32) k) refl
+      | inr k ↦ rw (le-leb 28 (c % 32) (omega (arith, k.0)), lt-leb (c % 32) 30 (omega (arith, k.0))) refl
     ]
 
 module _ (d : ℕ) (fs : List Frame) (full : d ≤ length fs) where
@@ -191,12 +166,9 @@ module _ (d : ℕ) (fs : List Frame) (full : d ≤ length fs) where
       low_tag j (inl s) = opens_numbered Tag (c % 32) (λ k. refl) s
       low_tag j (inr s) = let small = s.1 in absurd (omega (arith, j, small))
 
-  pub deep_byte : (c : ℕ) → 128 ≤ c → c < 224 → (c % 32 < 28) ⊎ ((c % 32 ≡ 31) × (c < 192)) → take_byte d (at_item fs) c ≡ refuses TooDeep
-  deep_byte c l h i = deep c l h i ∙ ap refuses (deep_reason c l h i)
-
 -- ---- a simple value in two bytes
 
-pub simple_byte : (d : ℕ) (fs : List Frame) (c : ℕ) → c < 32 → take_byte d (in_simple fs) c ≡ refuses BadSimple
+simple_byte : (d : ℕ) (fs : List Frame) (c : ℕ) → c < 32 → take_byte d (in_simple fs) c ≡ refuses BadSimple
 simple_byte d fs c h = rw (lt-ltb c 32 h) refl
 
 -- ---- of the whole input
@@ -207,25 +179,22 @@ module _ (r : Rules) (limits : Bounds) (ls : List Level) (clean : AreClean r lim
 
   -- a byte begins no item here
   module _ (splits : b ≡ bytes_before ls ++ c ∷ rest) where
-    pub refused_here : (reason : Reason) → take_byte limits.depth (at_item (containers ls)) c ≡ refuses reason → HasBadByte r limits b (refusal reason at (at + 1))
+    refused_here : (reason : Reason) → take_byte limits.depth (at_item (containers ls)) c ≡ refuses reason → HasBadByte r limits b (refusal reason at (at + 1))
     refused_here reason e =
         subst (λ (x : List ℕ). HasBadByte r limits b (refusal reason (length x) (length x + 1))) (append-nil (bytes_before ls))
         (bad_byte_here r limits ls clean b [] (c ∷ rest) splits (kept_before limits r ls keeps) tt (judged_start r at (limits.depth - length ls)) c rest (at_item (containers ls)) [] reason refl are refl tt e)
 
-    pub reserved : 28 ≤ c % 32 → c % 32 < 31 → HasBadByte r limits b (refusal Reserved at (at + 1))
-    reserved l h = refused_here Reserved (reserved_byte limits.depth (containers ls) c l h)
-
-    pub no_indefinite : c % 32 ≡ 31 → (c < 64) ⊎ ((192 ≤ c) × (c < 224)) → HasBadByte r limits b (refusal NoIndefinite at (at + 1))
-    no_indefinite e l = refused_here NoIndefinite (no_indefinite_byte limits.depth (containers ls) c e l)
-
-    pub a_float : 249 ≤ c → c ≤ 251 → HasBadByte r limits b (refusal Float at (at + 1))
-    a_float l h = refused_here Float (float_byte limits.depth (containers ls) c l h)
-
-    pub stray_break : c ≡ 0xff → (MayBreak ls → ⊥) → HasBadByte r limits b (refusal StrayBreak at (at + 1))
-    stray_break e h = refused_here StrayBreak (ap (take_byte limits.depth (at_item (containers ls))) e ∙ break_byte limits.depth ls h)
-
-    pub too_deep : limits.depth ≤ length ls → 128 ≤ c → c < 224 → (c % 32 < 28) ⊎ ((c % 32 ≡ 31) × (c < 192)) → HasBadByte r limits b (refusal TooDeep at (at + 1))
-    too_deep full l h i = refused_here TooDeep (deep_byte limits.depth (containers ls) (omega (arith, full, containers_count ls)) c l h i)
+    -- it may not stand there
+    pub misplaced : (room : Bool) (reason : Reason) → IsMisplaced c room reason → (c ≡ 0xff → MayBreak ls → ⊥) → (room ≡ false → limits.depth ≤ length ls) → HasBadByte r limits b (refusal reason at (at + 1))
+    misplaced room reason h broken full = refused_here reason (go reason h)
+      where
+        go : (reason : Reason) → IsMisplaced c room reason → take_byte limits.depth (at_item (containers ls)) c ≡ refuses reason
+        go Reserved h = ap (begin limits.depth (containers ls) c) (bad_opening c h.0 h.1) ∙ ap refuses (reserved_reason c h.0 h.1)
+        go NoIndefinite h = no_indefinite_byte limits.depth (containers ls) c h.0 h.1
+        go Float h = float_byte limits.depth (containers ls) c h.0 h.1
+        go StrayBreak h = ap (take_byte limits.depth (at_item (containers ls))) h ∙ break_byte limits.depth ls (broken h)
+        go TooDeep h = deep limits.depth (containers ls) (omega (arith, full h.0, containers_count ls)) c h.1 h.2 h.3 ∙ ap refuses (deep_reason c h.1 h.2 h.3)
+        go _ h = absurd h
 
   pub bad_simple : KeepsHere limits r ls (0xf8 ∷ []) → b ≡ bytes_before ls ++ 0xf8 ∷ c ∷ rest → c < 32 → HasBadByte r limits b (refusal BadSimple (at + 1) (at + 1 + 1))
   bad_simple kept splits small =

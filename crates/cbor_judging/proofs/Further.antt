@@ -1,15 +1,16 @@
 -- What the front of an input tells of its first item, however it goes on: all but that it ends within it.
-use Rattle.std.proofs.Common.{ℕ, ◌+◌, ◌-◌, ◌≡◌, ◌≢◌, ◌≤◌, inl, inr, List, [], ◌∷◌, ◌++◌, length, take, refl, sym, ap, ◌∙◌, arith, subst, append_assoc, append-nil, length-append, length-take, take_all}
+use Rattle.std.proofs.Common.{ℕ, ◌+◌, ◌-◌, ◌≡◌, ◌≢◌, inl, inr, List, [], ◌∷◌, ◌++◌, length, take, refl, sym, ap, ◌∙◌, arith, subst, append_assoc, append-nil, length-append, length-take, take_all}
 use Rattle.std.proofs.lemmas.Bool.{cases_lt}
 use Rattle.std.proofs.lemmas.List.{take-append-le}
 use Rattle.std.proofs.Math.Seq.{take-append-add}
-use Rattle.cbor_head.specs.Prelude.{IsBeginning, IsLongestBeginning, Rules, Complaint, IsComplaint, Bounds, Spelling, spell, IsItem, Answer, accepted, refused, refusal, IsFormError, IsVerdict}
+use Rattle.cbor_head.specs.Prelude.{IsLongestBeginning, Rules, Complaint, IsComplaint, Bounds, Spelling, spell, IsItem, Answer, accepted, refused, refusal, IsFormError, IsVerdict}
 use Rattle.cbor_head.specs.Laws.{IsFirstComplaint, IsWithout}
 use Rattle.cbor_head.specs.declared.reason.Reason.TheVariants.{Truncated}
 use Rattle.cbor_head.specs.declared.reason.Refusal.{Refusal}
 use Rattle.cbor_grammar.proofs.Agree.{split_front}
 use Rattle.cbor_grammar.proofs.Complaints.{complaints_told, first_for_each}
-use Rattle.cbor_grammar.proofs.Verdicts.{beginning_front, whole_longest}
+use Rattle.cbor_grammar.proofs.Verdicts.{whole_longest}
+use Rattle.cbor_automaton.proofs.Longest.{stands_longest}
 use Rattle.cbor_judging.proofs.Decisions.{first_further}
 use Rattle.cbor_judging.proofs.SpelledBytes.{longest_always}
 
@@ -20,21 +21,7 @@ IsFinal (refused f) = f.reason ≢ Truncated
 
 -- the longest beginning, where a byte that may not follow it stands behind it
 stopped_longest : (d : ℕ) (p : List ℕ) (c : ℕ) (cs more : List ℕ) → IsLongestBeginning d (p ++ c ∷ cs) p → IsLongestBeginning d (p ++ c ∷ (cs ++ more)) p
-stopped_longest d p c cs more l = record {
-  beginning = l.beginning;
-  rest = c ∷ (cs ++ more);
-  splits = refl;
-  longest = λ q r b e. elim (cases_lt (length p) (length q)) [
-    | inr short ↦ short
-    | inl long ↦
-        let one : length (p ++ c ∷ []) ≡ length p + 1 = length-append p (c ∷ []) in
-        let there : (p ++ c ∷ []) ++ (cs ++ more) ≡ q ++ r = append_assoc p (c ∷ []) (cs ++ more) ∙ e in
-        let (k, f, g) = split_front (p ++ c ∷ []) (cs ++ more) q r there (omega (arith, one, long)) in
-        let too_long : length (p ++ c ∷ []) ≤ length p =
-        l.longest (p ++ c ∷ []) cs (beginning_front d (p ++ c ∷ []) k (subst (IsBeginning d) f b)) (sym (append_assoc p (c ∷ []) cs)) in
-        absurd (omega (arith, one, too_long))
-  ];
-}
+stopped_longest d p c cs more l = stands_longest d p c (cs ++ more) l.beginning (λ f. omega (arith, length-append p (c ∷ []), l.longest (p ++ c ∷ []) cs f (sym (append_assoc p (c ∷ []) cs))))
 
 module _ (limits : Bounds) (rules : Rules) (front behind : List ℕ) where
   -- the bytes within the limit go on so, if at all

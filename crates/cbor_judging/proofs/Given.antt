@@ -48,9 +48,6 @@ full-array o d e w ss n bs count are h holds room = record {
   container = λ other os. tt;
 }
 
-map-closed : (o : KeyOrder) (es : Entries) (ps : List Pair) → ps ≡ canonical_entries o es → closed o (an_open_map ps) ≡ closed o (an_open_map (canonical_entries o es))
-map-closed o es ps e = ap (λ (qs : List Pair). closed o (an_open_map qs)) e
-
 entries-length : (o : KeyOrder) (es : Entries) → length (canonical_entries o es) ≡ value.entries_count es
 entries-length o value.no_entries = refl
 entries-length o (value.entry k v es) = ap suc (entries-length o es)
@@ -63,7 +60,7 @@ full-map o d e w es ps are h holds room short = record {
   clean = λ u at c x.
       let distinct = (distinct_exactly o (entries_of es) (in_range_entries es (pairs-spelled e es h) short) (pairs-valid e es h)).1 (subst HasDistinctBytes are u) in
       elim x [ inl y ↦ no-count at majors.Map w (entries_count es) c y | inr y ↦ pairs-clean e es [] _ h distinct (λ b m k v z s. m) c y ];
-  canonical_is = map-closed o (entries_of es) ps are
+  canonical_is = ap (λ (qs : List Pair). closed o (an_open_map qs)) are
       ∙ ap (λ (k : ℕ). shortest_head majors.Map k ++ flat_map (λ (p : Pair). p.key ++ p.value) (in_order o (canonical_entries o (entries_of es)))) (entries-length o (entries_of es));
   held = ap an_open_map are;
   container = λ other os. tt;

@@ -1,14 +1,14 @@
 -- An item in another: what is read and what is refused of it, for the whole.
-use Rattle.std.proofs.Common.{◌≡◌, ◌≢◌, ℕ, ◌+◌, ◌-◌, ◌<◌, ◌≤◌, Option, Some, None, List, [], ◌++◌, length, replicate, refl, sym, ap, ◌∙◌, subst, inl, arith, append_assoc, append-nil}
+use Rattle.std.proofs.Common.{◌≡◌, ◌≢◌, ℕ, ◌-◌, ◌<◌, ◌≤◌, Option, Some, None, List, [], ◌++◌, length, refl, sym, ap, ◌∙◌, subst, inl, arith, append_assoc, append-nil}
 use Rattle.std.specs.Io.KnownBytes.{Consumes}
 use Rattle.std.proofs.KnownBytes.{Consumes-nil, Consumes-trans}
-use Rattle.cbor_head.specs.Prelude.{Holds, head, Bounds, unsigned, negative, bytes, text, byte_chunks, text_chunks, tag, Rules, Complaint, OfHead, OfIndefinite, OfCount}
+use Rattle.cbor_head.specs.Prelude.{Holds, head, Bounds, byte_chunks, text_chunks, simple, Rules, Complaint, OfHead, OfIndefinite, OfCount}
 use Rattle.cbor_head.specs.declared.major.Major.{Major}
 use Rattle.cbor_head.specs.declared.major.Major.TheVariants as majors
 use Rattle.cbor_head.specs.declared.width.Width.{Width}
 use Rattle.cbor_head.specs.declared.width.Width.TheVariants.{Indefinite}
 use Rattle.cbor_head.specs.declared.reason.Refusal.{Refusal}
-use Rattle.cbor_grammar.proofs.OneFirst.{last, count_last}
+use Rattle.cbor_grammar.proofs.OneFirst.{count_last}
 use Rattle.cbor_grammar.proofs.ReadLaws.{length_head}
 use Rattle.cbor_automaton.specs.Trace.{Mark, a_head, a_chunk, a_byte, a_break}
 use Rattle.cbor_judging.specs.Place.{Container, Place, at_item, Follows, Opens, IsTaking}
@@ -16,9 +16,10 @@ use Rattle.cbor_automaton.specs.Marks as marks
 use Rattle.cbor_automaton.proofs.Taking.{nothing-taken}
 use Rattle.cbor_judging.specs.Judged.{IsJudged}
 use Rattle.cbor_judging.specs.Reading.{Extends, IsFormRefusal, OfMark, IsCause, HasCause, IsUndecided, IsCutHead, state_at}
-use Rattle.cbor_judging.proofs.Judged.{zero_item}
 use Rattle.cbor_judging.proofs.Leaves.{head_complains, array_head_complains, map_head_complains}
-use Rattle.cbor_judging.proofs.Heads.{open_or, zero_bytes, zero_length, cut_head}
+use Rattle.cbor_judging.proofs.HeadComplaints.{head_judged as complaint_judged}
+use Rattle.cbor_judging.proofs.Heads.{takes, Headed, headed, cut_head}
+use Rattle.cbor_automaton.proofs.Taking.{IsNumbered}
 
 -- ---- what was taken
 
@@ -114,29 +115,25 @@ pub head-count : (r : Rules) (at : ℕ) (m : Major) (w : Width) (n : ℕ) (c : C
 head-count r at m Indefinite n c f h = absurd (f refl)
 head-count r at m _ n c f h = h
 
+pub follows-takes : (d : ℕ) (fs : List Container) (m : Major) (w : Width) (n : ℕ) (next : Place) → IsNumbered m → Follows d fs m w n next → takes m ≤ d - length fs
+follows-takes d fs majors.Array w n next i f = omega (arith, f.0)
+follows-takes d fs majors.Map w n next i f = omega (arith, f.0)
+follows-takes d fs majors.Tag w n next i f = omega (arith, f.0)
+follows-takes d fs _ w n next i f = omega arith
+
+-- an item with this head
+pub head-item : (d : ℕ) (fs : List Container) (m : Major) (w : Width) (n : ℕ) (x : List ℕ) (next : Place) → IsDefinite d fs m w n x next → Headed (d - length fs) (head m w n)
+head-item d fs majors.Simple w n x next i = record { item = simple n; spelled = i.follows.0; within = omega arith; head_is = ap (λ (v : Width). head majors.Simple v n) (sym i.follows.1) }
+head-item d fs m w n x next i = headed (d - length fs) m w n tt i.holds (follows-takes d fs m w n next tt i.follows)
+
 -- a definite head with a complaint
 definite-judged : (r : Rules) (at d : ℕ) (fs : List Container) (m : Major) (w : Width) (n : ℕ) (bs : List ℕ) (next : Place) (c : Complaint) → IsDefinite d fs m w n bs next → OfHead r at m w n c
     → IsJudged r at (d - length fs) (head m w n) (Some c)
-definite-judged r at d fs m w n bs next c i o = go m i.follows o (count_last r at m w n c (head-count r at m w n c (is-definite w n i.holds) o))
+definite-judged r at d fs m w n bs next c i o = go m i.follows o
   where
-    z : 0 < 24
-    z = omega arith
-
-    go : (m : Major) → Follows d fs m w n next → OfHead r at m w n c → last c ≡ at + length (head m w n) → IsJudged r at (d - length fs) (head m w n) (Some c)
-    go majors.Unsigned f o e = head_complains (unsigned w n) r at (d - length fs) c i.holds (omega arith) o e
-    go majors.Negative f o e = head_complains (negative w n) r at (d - length fs) c i.holds (omega arith) o e
-    go majors.Bytes f o e =
-        subst (λ (k : ℕ). IsJudged r at (d - length fs) (head majors.Bytes w k) (Some c)) (zero_length n)
-        (head_complains (bytes w (replicate n 0)) r at (d - length fs) c (subst (Holds w) (sym (zero_length n)) i.holds, zero_bytes n) (omega arith)
-        (subst (λ (k : ℕ). OfHead r at majors.Bytes w k c) (sym (zero_length n)) o) (subst (λ (k : ℕ). last c ≡ at + length (head majors.Bytes w k)) (sym (zero_length n)) e))
-    go majors.Text f o e =
-        subst (λ (k : ℕ). IsJudged r at (d - length fs) (head majors.Text w k) (Some c)) (zero_length n)
-        (head_complains (text w (replicate n 0)) r at (d - length fs) c (subst (Holds w) (sym (zero_length n)) i.holds, zero_bytes n) (omega arith)
-        (inl (subst (λ (k : ℕ). OfHead r at majors.Text w k c) (sym (zero_length n)) o)) (subst (λ (k : ℕ). last c ≡ at + length (head majors.Text w k)) (sym (zero_length n)) e))
-    go majors.Array f o e = array_head_complains w n r at (d - length fs) c (open_or w n i.holds) (omega (arith, f.0)) (head-count r at majors.Array w n c (is-definite w n i.holds) o)
-    go majors.Map f o e = map_head_complains w n r at (d - length fs) c (open_or w n i.holds) (omega (arith, f.0)) (head-count r at majors.Map w n c (is-definite w n i.holds) o)
-    go majors.Tag f o e = head_complains (tag w n zero_item) r at (d - length fs) c (i.holds, z) (omega (arith, f.0)) (inl o) e
-    go majors.Simple f o e = absurd (o.1 f.1)
+    go : (m : Major) → Follows d fs m w n next → OfHead r at m w n c → IsJudged r at (d - length fs) (head m w n) (Some c)
+    go majors.Simple f o = absurd (o.1 f.1)
+    go m f o = complaint_judged r at (d - length fs) w n c i.holds m tt (follows-takes d fs m w n next tt f) o
 
 opener-judged : (r : Rules) (at d : ℕ) (fs : List Container) (m : Major) (next : Place) (c : Complaint) → Opens d fs m next → OfIndefinite r at c → IsJudged r at (d - length fs) (head m Indefinite 0) (Some c)
 opener-judged r at d fs majors.Bytes next c f o = head_complains (byte_chunks []) r at (d - length fs) c tt (omega arith) (inl o) (count_last r at majors.Bytes Indefinite 0 c o)

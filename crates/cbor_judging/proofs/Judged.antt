@@ -2,7 +2,7 @@
 use Rattle.std.proofs.Common.{ℕ, zero, suc, ◌+◌, ◌-◌, ◌≡◌, ◌<◌, ◌≤◌, ◌⊎◌, Option, Some, None, List, [], ◌++◌, length, refl, sym, ap, ◌∙◌, arith, inl, inr, length-append, append_assoc}
 use Rattle.std.proofs.lemmas.Bool.{cases_lt}
 use Rattle.cbor_head.specs.Prelude.{Spelling, Spellings, SpelledEntries, no_entries, entry, spell, spellings_count, entries_count, IsSpelled, AreEntriesSpelled, depth, depth_entries, IsItem, array, a_map, Rules, Complaint, Complains, rank}
-use Rattle.cbor_judging.specs.Frame.{Frame, a_member, a_key, a_content, tagged, keys_onto, plug, before, behind, IsFrame, depth_beside, OfFront, OfKeyAt}
+use Rattle.cbor_judging.specs.Frame.{Frame, a_key, keys_onto, plug, before, behind, IsFrame, depth_beside, OfFront, OfKeyAt}
 use Rattle.cbor_judging.specs.Judged.{IsFinding, IsJudged, Never}
 use Rattle.cbor_grammar.proofs.Agree.{head_of, body, parts, later}
 use Rattle.cbor_grammar.proofs.OneFirst.{bounded, key_last}
@@ -103,9 +103,7 @@ module _ (f : Frame) (r : Rules) (at d : ℕ) (fits : IsFrame f) (flat : depth_b
           let e = key_at_end (a_key w a v b) k r to c o in
           let g = key_at_end (a_key w a v b) k r to x y in
           omega (arith, m, n, e, g)
-      key_ranks (a_member w a b) to k c x o y = absurd o
-      key_ranks (a_content w a l b) to k c x o y = absurd o
-      key_ranks (tagged w n) to k c x o y = absurd o
+      key_ranks _ to k c x o y = absurd o
 
 -- ---- members that may still come
 

@@ -1,14 +1,14 @@
 -- In which bytes of an item no key begins behind the first of them: of one head, or of what is no container.
 use Rattle.std.proofs.Common.{ℕ, suc, ◌+◌, ◌*◌, ◌-◌, ◌^◌, ◌/◌, ◌%◌, ◌≡◌, ◌<◌, ◌≤◌, true, false, List, [], ◌∷◌, ◌++◌, length, replicate, refl, sym, ap, ◌∙◌, arith, subst, inl, inr, ◌≢◌, None, IsTrue, Option, length-append, append-nil}
 use Rattle.std.proofs.lemmas.Bool.{cases_lt}
-use Rattle.cbor_head.specs.Prelude.{Holds, head, major_number, Bounds, IsIntegerOrText, AreBytes, Spelling, byte_chunks, text_chunks, array, a_map, tag, simple, no_spellings, no_entries, spell, depth, spellings_count, entries_count, value_of, IsSpelled, HoldsOrIndefinite, Rules, Complaint, OfKinds, form, MayFollow}
+use Rattle.cbor_head.specs.Prelude.{head, major_number, Bounds, IsIntegerOrText, AreBytes, Spelling, byte_chunks, text_chunks, array, a_map, tag, no_spellings, no_entries, spell, depth, value_of, IsSpelled, HoldsOrIndefinite, Rules, Complaint, OfKinds, form, MayFollow}
 use Rattle.cbor_head.specs.declared.major.Major.{Major}
-use Rattle.cbor_head.specs.declared.major.Major.TheVariants.{Bytes, Text, Array, Map, Tag, Simple}
+use Rattle.cbor_head.specs.declared.major.Major.TheVariants.{Bytes, Text, Array, Map}
 use Rattle.cbor_head.specs.declared.width.Width.{Width}
 use Rattle.cbor_head.specs.declared.width.Width.TheVariants.{Direct, One, Two, Four, Eight, Indefinite}
 use Rattle.cbor_grammar.specs.FirstBytes.{is_basic, is_container}
 use Rattle.cbor_grammar.proofs.KeyKinds.{number_is, byte_basic, of_kind, first_of_head}
-use Rattle.cbor_grammar.proofs.Parts.{head_of, body, parts, holds_of}
+use Rattle.cbor_grammar.proofs.Parts.{major, width, count, head_of, body, parts, holds_of}
 use Rattle.cbor_automaton.specs.Trace.{Mark, a_head, a_chunk, a_byte, a_break}
 use Rattle.cbor_automaton.specs.Automaton as automaton
 use Rattle.cbor_automaton.specs.Automaton.{State, at_item as due_at, in_head, in_simple, run, reached, Next, refuses, goes, tells, take_byte}
@@ -17,8 +17,10 @@ use Rattle.cbor_automaton.proofs.Taking.{IsWithin, nothing-taken, IsTakingNext, 
 use Rattle.cbor_judging.specs.Frame.{Frame}
 use Rattle.cbor_judging.specs.Judged.{IsJudged}
 use Rattle.cbor_judging.specs.Kinds.{IsOfOneHead, HasBasicFront, AsksForKinds, KeepsToKinds}
-use Rattle.cbor_judging.specs.Place.{Container, Place, at_item, Opens, Follows, IsTaking}
-use Rattle.cbor_judging.proofs.Heads.{Headed, headed, open_or, zero_bytes, cut_head, zero_length}
+use Rattle.cbor_judging.specs.Place.{Container, Place, at_item, Opens, IsTaking}
+use Rattle.cbor_judging.proofs.Heads.{Headed, open_or, zero_bytes, cut_head, zero_length}
+use Rattle.cbor_judging.proofs.Items.{head-item}
+use Rattle.cbor_automaton.proofs.Stands.{IsString}
 use Rattle.cbor_judging.proofs.KindFrames.{IsAround, keeps_on}
 use Rattle.cbor_automaton.proofs.Refusals.{IsTaken, taken-follows}
 use Rattle.cbor_standing.specs.NextEvent.{ItemEventsView}
@@ -44,31 +46,18 @@ no_end : (b k : ℕ) → b % 32 ≡ 31 → Behind b k → k ≡ 0
 no_end b k e f = elim (cases_lt 0 k) [ inl p ↦ let g = f p in absurd (omega (arith, e, g.1)) | inr p ↦ omega (arith, p) ]
 
 -- they are no more than the head has
+within_wide : (m : Major) (b low k size : ℕ) → 32 * major_number m + low ≡ b → low < 32 → 2 ^ (low - 24) < size → Behind b k → suc k ≤ size
+within_wide m b low k size e h s f = let most : k ≤ 2 ^ (low - 24) = some_behind b low k (omega (arith, e, h)) f in omega (arith, most, s)
+
 within_head : (m : Major) (w : Width) (n b k : ℕ) (y z : List ℕ) → HoldsOrIndefinite w n → head m w n ++ z ≡ b ∷ y → Behind b k → suc k ≤ length (head m w n)
 within_head m Direct n b k y z h e f =
     let first : 32 * major_number m + n ≡ b = cc e in
     let none : k ≡ 0 = none_behind b n k (omega (arith, first, h)) h f in
     omega (arith, none)
-within_head m One n b k y z h e f =
-    let first : 32 * major_number m + 24 ≡ b = cc e in
-    let most : k ≤ 2 ^ (24 - 24) = some_behind b 24 k (omega (arith, first)) f in
-    let size : length (head m One n) ≡ 2 = refl in
-    omega (arith, most, size)
-within_head m Two n b k y z h e f =
-    let first : 32 * major_number m + 25 ≡ b = cc e in
-    let most : k ≤ 2 ^ (25 - 24) = some_behind b 25 k (omega (arith, first)) f in
-    let size : length (head m Two n) ≡ 3 = refl in
-    omega (arith, most, size)
-within_head m Four n b k y z h e f =
-    let first : 32 * major_number m + 26 ≡ b = cc e in
-    let most : k ≤ 2 ^ (26 - 24) = some_behind b 26 k (omega (arith, first)) f in
-    let size : length (head m Four n) ≡ 5 = refl in
-    omega (arith, most, size)
-within_head m Eight n b k y z h e f =
-    let first : 32 * major_number m + 27 ≡ b = cc e in
-    let most : k ≤ 2 ^ (27 - 24) = some_behind b 27 k (omega (arith, first)) f in
-    let size : length (head m Eight n) ≡ 9 = refl in
-    omega (arith, most, size)
+within_head m One n b k y z h e f = within_wide m b 24 k 2 (cc e) (omega arith) (omega arith) f
+within_head m Two n b k y z h e f = within_wide m b 25 k 3 (cc e) (omega arith) (omega arith) f
+within_head m Four n b k y z h e f = within_wide m b 26 k 5 (cc e) (omega arith) (omega arith) f
+within_head m Eight n b k y z h e f = within_wide m b 27 k 9 (cc e) (omega arith) (omega arith) f
 within_head m Indefinite n b k y z h e f =
     let first : 32 * major_number m + 31 ≡ b = cc e in
     let none : k ≡ 0 = no_end b k (omega (arith, first)) f in
@@ -76,23 +65,16 @@ within_head m Indefinite n b k y z h e f =
 
 -- ---- no key but the item itself begins in them
 
+within_first : (s : Spelling) → IsSpelled s → (b : ℕ) (bs z : List ℕ) → spell s ≡ b ∷ (bs ++ z) → IsTrue (is_container (major_number (major s))) → IsOfOneHead (b ∷ bs) → suc (length bs) ≤ length (head_of s)
+within_first s h b bs z e container one =
+    let n = number_is s h b [] (bs ++ z) (append-nil (spell s) ∙ e) in
+    within_head (major s) (width s) (count s) b (length bs) (bs ++ z) (body s) (holds_of s h) (sym (parts s) ∙ e) (one (subst (λ (k : ℕ). IsTrue (is_container k)) n container))
+
 pub kinds_behind : (s : Spelling) → IsSpelled s → (x z : List ℕ) → spell s ≡ x ++ z → IsOfOneHead x → (at : ℕ) (c : Complaint) → OfKinds at s c → at + length x < c.end
 kinds_behind s h [] z e one at c o = omega (arith, (of_kind s at c o).later)
-kinds_behind (array w ss) h (b ∷ bs) z e one at c o =
-    let n = number_is (array w ss) h b [] (bs ++ z) (append-nil (spell (array w ss)) ∙ e) in
-    let behind = one (subst (λ (k : ℕ). IsTrue (is_container k)) n refl) in
-    let short = within_head Array w (spellings_count ss) b (length bs) (bs ++ z) (body (array w ss)) (holds_of (array w ss) h) (sym (parts (array w ss)) ∙ e) behind in
-    omega (arith, short, (of_kind (array w ss) at c o).later)
-kinds_behind (a_map w es) h (b ∷ bs) z e one at c o =
-    let n = number_is (a_map w es) h b [] (bs ++ z) (append-nil (spell (a_map w es)) ∙ e) in
-    let behind = one (subst (λ (k : ℕ). IsTrue (is_container k)) n refl) in
-    let short = within_head Map w (entries_count es) b (length bs) (bs ++ z) (body (a_map w es)) (holds_of (a_map w es) h) (sym (parts (a_map w es)) ∙ e) behind in
-    omega (arith, short, (of_kind (a_map w es) at c o).later)
-kinds_behind (tag w n s) h (b ∷ bs) z e one at c o =
-    let k = number_is (tag w n s) h b [] (bs ++ z) (append-nil (spell (tag w n s)) ∙ e) in
-    let behind = one (subst (λ (k : ℕ). IsTrue (is_container k)) k refl) in
-    let short = within_head Tag w n b (length bs) (bs ++ z) (body (tag w n s)) (holds_of (tag w n s) h) (sym (parts (tag w n s)) ∙ e) behind in
-    omega (arith, short, (of_kind (tag w n s) at c o).later)
+kinds_behind (array w ss) h (b ∷ bs) z e one at c o = omega (arith, within_first (array w ss) h b bs z e refl one, (of_kind (array w ss) at c o).later)
+kinds_behind (a_map w es) h (b ∷ bs) z e one at c o = omega (arith, within_first (a_map w es) h b bs z e refl one, (of_kind (a_map w es) at c o).later)
+kinds_behind (tag w n s) h (b ∷ bs) z e one at c o = omega (arith, within_first (tag w n s) h b bs z e refl one, (of_kind (tag w n s) at c o).later)
 kinds_behind _ h (b ∷ bs) z e one at c o = absurd o
 
 -- a front of them
@@ -128,12 +110,6 @@ begun_is_one d fs _ x h = subst IsOfOneHead (sym h.1) tt
 
 pub silent_is_one : (d : ℕ) (fs : List automaton.Frame) (q : State) (x : List ℕ) → AreBytes x → run d (due_at fs) x ≡ reached q [] → IsOfOneHead x
 silent_is_one d fs q x b e = begun_is_one d fs q x (nothing-taken d (due_at fs) q x tt b e)
-
--- of bytes, or of text
-abbrev IsString : Major → Type 0
-IsString Bytes = Unit {0}
-IsString Text = Unit {0}
-IsString _ = ⊥
 
 -- a string, whole or not
 pub string_is_one : (m : Major) (w : Width) (n : ℕ) (q : List ℕ) → IsString m → HoldsOrIndefinite w n → IsOfOneHead (head m w n ++ q)
@@ -176,19 +152,12 @@ opener_begins d cs Array next h = begins_by (d - length cs) _ (array Indefinite 
 opener_begins d cs Map next h = begins_by (d - length cs) _ (a_map Indefinite no_entries) (tt, tt) (omega (arith, h.0)) refl
 opener_begins d cs _ next h = absurd h
 
-of_headed : {d : ℕ} {x : List ℕ} → Headed d x → Begins d x
+pub of_headed : {d : ℕ} {x : List ℕ} → Headed d x → Begins d x
 of_headed h = begins_by _ _ h.item h.spelled h.within h.head_is
-
-head_begins : (d : ℕ) (cs : List Container) (m : Major) (w : Width) (n : ℕ) (next : Place) → Holds w n → Follows d cs m w n next → Begins (d - length cs) (head m w n)
-head_begins d cs Array w n next h f = of_headed (headed (d - length cs) Array w n tt h (omega (arith, f.0)))
-head_begins d cs Map w n next h f = of_headed (headed (d - length cs) Map w n tt h (omega (arith, f.0)))
-head_begins d cs Tag w n next h f = of_headed (headed (d - length cs) Tag w n tt h (omega (arith, f.0)))
-head_begins d cs Simple w n next h f = begins_by (d - length cs) _ (simple n) f.0 (omega arith) (ap (λ (v : Width). head Simple v n) (sym f.1))
-head_begins d cs m w n next h f = of_headed (headed (d - length cs) m w n tt h (omega arith))
 
 pub mark_begins : (d : ℕ) (cs : List Container) (mark : Mark) (x : List ℕ) (next : Place) → IsTaking d (at_item cs) mark x next → (mark ≡ a_break → ⊥) → Begins (d - length cs) x × IsOfOneHead x
 mark_begins d cs (a_head m Indefinite n) x next h b = (subst (Begins (d - length cs)) (sym h.1) (opener_begins d cs m next h.2), subst IsOfOneHead (sym h.1) (head_is_one m Indefinite 0 tt))
-mark_begins d cs (a_head m w n) x next h b = (subst (Begins (d - length cs)) (sym h.0) (head_begins d cs m w n next h.1 h.2), subst IsOfOneHead (sym h.0) (head_is_one m w n h.1))
+mark_begins d cs (a_head m w n) x next h b = (subst (Begins (d - length cs)) (sym h.0) (of_headed (head-item d cs m w n (head m w n) next (record { bytes_are = refl; holds = h.1; follows = h.2 }))), subst IsOfOneHead (sym h.0) (head_is_one m w n h.1))
 mark_begins d cs (a_chunk w n) x next h b = absurd h
 mark_begins d cs a_byte x next h b = absurd h
 mark_begins d cs a_break x next h b = absurd (b refl)

@@ -1,9 +1,10 @@
 -- Heads, payloads and chunks: the first complaint of an item, or none so far.
-use Rattle.std.proofs.Common.{ℕ, ◌+◌, ◌≡◌, ◌<◌, ◌≤◌, ◌⊎◌, Option, Some, None, List, [], ◌∷◌, ◌++◌, length, flat_map, refl, sym, ap, ◌∙◌, arith, subst, inl, inr, length-append, append_assoc, append-nil, suc, true, false, replicate}
+use Rattle.std.proofs.Common.{ℕ, ◌+◌, ◌≡◌, ◌<◌, ◌≤◌, ◌⊎◌, Option, Some, None, List, [], ◌∷◌, ◌++◌, length, flat_map, refl, sym, ap, ◌∙◌, arith, subst, inl, inr, length-append, append_assoc, append-nil, suc, Bool, true, false, replicate}
 use Rattle.std.specs.List.{AllByRecursion}
 use Rattle.std.proofs.lemmas.Grind.{flat_map-append}
-use Rattle.cbor_head.specs.Prelude.{head, Holds, Chunk, IsChunk, Spelling, bytes, text, byte_chunks, text_chunks, array, a_map, spell, chunk_bytes, chunked, IsSpelled, HoldsOrIndefinite, spellings_count, entries_count, depth, Rules, Complaint, OfHead, OfIndefinite, OfCount, OfPayload, OfString, OfChunks, Complains}
+use Rattle.cbor_head.specs.Prelude.{head, Holds, Chunk, IsChunk, Spelling, bytes, text, byte_chunks, text_chunks, array, a_map, spell, chunk_bytes, chunked, IsSpelled, HoldsOrIndefinite, spellings_count, entries_count, depth, Rules, Complaint, OfHead, OfIndefinite, OfCount, OfPayload, OfString, OfChunks, Complains, AreBytes, value_of}
 use Rattle.cbor_judging.specs.Judged.{IsFinding, IsJudged, Never}
+use Rattle.cbor_judging.specs.Reading.{string_major, string_value}
 use Rattle.cbor_head.specs.declared.major.Major.{Major}
 use Rattle.cbor_head.specs.declared.major.Major.TheVariants.{Bytes, Text, Array, Map}
 use Rattle.cbor_head.specs.declared.width.Width.{Width}
@@ -46,29 +47,47 @@ map_head_complains w n r at d c h l o =
 
 -- ---- definite strings
 
--- a payload that goes on
-pub bytes_so_far : (w : Width) (q more : List ℕ) (r : Rules) (at d : ℕ) → IsSpelled (bytes w (q ++ more)) → 0 < length more → Never (OfHead r at Bytes w (length (q ++ more)))
-    → IsJudged r at d (head Bytes w (length (q ++ more)) ++ q) None
-bytes_so_far w q more r at d h some clean =
-    let hd = head Bytes w (length (q ++ more)) in
-    record {
-      item = bytes w (q ++ more);
-      rest = more;
-      is = record { spelled = h; within = omega arith; bytes_are = sym (append_assoc hd q more) };
-      finding = (omega (arith, some, length-append hd (q ++ more), length-append q more, length-append hd q), λ e g. absurd (clean e g));
-    }
+abbrev pub made_of : Bool → Width → List ℕ → Spelling
+made_of true w q = text w q
+made_of false w q = bytes w q
 
-pub text_so_far : (w : Width) (q more : List ℕ) (r : Rules) (at d : ℕ) → IsSpelled (text w (q ++ more)) → 0 < length more → Never (OfHead r at Text w (length (q ++ more)))
-    → IsJudged r at d (head Text w (length (q ++ more)) ++ q) None
-text_so_far w q more r at d h some clean =
-    let hd = head Text w (length (q ++ more)) in
+pub made-spells : (is_text : Bool) (w : Width) (q : List ℕ) → spell (made_of is_text w q) ≡ head (string_major is_text) w (length q) ++ q
+made-spells true w q = refl
+made-spells false w q = refl
+
+pub made-spelled : (is_text : Bool) (w : Width) (q : List ℕ) → Holds w (length q) → AreBytes q → IsSpelled (made_of is_text w q)
+made-spelled true w q h g = (h, g)
+made-spelled false w q h g = (h, g)
+
+pub made-flat : (is_text : Bool) (w : Width) (q : List ℕ) → depth (made_of is_text w q) ≡ 0
+made-flat true w q = refl
+made-flat false w q = refl
+
+pub made-value : (is_text : Bool) (w : Width) (q : List ℕ) → value_of (made_of is_text w q) ≡ string_value is_text q
+made-value true w q = refl
+made-value false w q = refl
+
+made-complains : (is_text : Bool) (w : Width) (q : List ℕ) (r : Rules) (at : ℕ) (c : Complaint) → Complains r at (made_of is_text w q) c
+    → OfHead r at (string_major is_text) w (length q) c ⊎ OfPayload r (at + length (head (string_major is_text) w (length q))) q c
+made-complains true w q r at c h = h
+made-complains false w q r at c h = inl h
+
+-- a payload that goes on
+pub so-far : (is_text : Bool) (w : Width) (q more : List ℕ) (r : Rules) (at d : ℕ) → Holds w (length (q ++ more)) → AreBytes (q ++ more) → 0 < length more → Never (OfHead r at (string_major is_text) w (length (q ++ more)))
+    → IsJudged r at d (head (string_major is_text) w (length (q ++ more)) ++ q) None
+so-far is_text w q more r at d holds are some clean =
+    let hd = head (string_major is_text) w (length (q ++ more)) in
+    let spells = made-spells is_text w (q ++ more) in
     record {
-      item = text w (q ++ more);
+      item = made_of is_text w (q ++ more);
       rest = more;
-      is = record { spelled = h; within = omega arith; bytes_are = sym (append_assoc hd q more) };
+      is = record { spelled = made-spelled is_text w (q ++ more) holds are; within = omega (arith, made-flat is_text w (q ++ more)); bytes_are = spells ∙ sym (append_assoc hd q more) };
       finding = (
-        omega (arith, some, length-append hd (q ++ more), length-append q more, length-append hd q),
-        λ e g. elim g [ inl x ↦ absurd (clean e x) | inr x ↦ omega (arith, some, payload_end r (at + length hd) (q ++ more) e x, length-append q more, length-append hd q) ],
+        omega (arith, some, ap length spells, length-append hd (q ++ more), length-append q more, length-append hd q),
+        λ e g. elim (made-complains is_text w (q ++ more) r at e g) [
+          | inl x ↦ absurd (clean e x)
+          | inr x ↦ omega (arith, some, payload_end r (at + length hd) (q ++ more) e x, length-append q more, length-append hd q)
+        ],
       );
     }
 
@@ -169,19 +188,6 @@ chunk_judged m made kind done r at d are clean_opener clean k p rest is e found 
         }
     go None there size h = (omega (arith, size), λ x g. omega (arith, h.1 x (split x there g), length-append (chunks_bytes m done) p))
 
--- between two chunks
-pub chunks_so_far : (m : Major) (made : List Chunk → Spelling) → IsChunked m made → (done : List Chunk) (r : Rules) (at d : ℕ) → AllByRecursion IsChunk done → Never (OfIndefinite r at) → Never (OfChunks r (at + 1) m done)
-    → IsJudged r at d (chunks_bytes m done) None
-chunks_so_far m made kind done r at d are clean_opener clean = record {
-  item = made done;
-  rest = 0xff ∷ [];
-  is = record { spelled = kind.spelled done are; within = omega (arith, kind.flat done); bytes_are = kind.bytes_are done };
-  finding = (
-    omega (arith, ap length (kind.bytes_are done) ∙ length-append (chunks_bytes m done) (0xff ∷ [])),
-    λ x g. elim (kind.has r at done x g) [ inl y ↦ absurd (clean_opener x y) | inr y ↦ absurd (clean x y) ],
-  );
-}
-
 -- ---- a chunk, cut or whole: what it has is the string's
 
 abbrev pub chunk : Width → List ℕ → Chunk
@@ -200,7 +206,15 @@ of_string r at _ w q c h = inl h
 module _ (m : Major) (made : List Chunk → Spelling) (kind : IsChunked m made) (done : List Chunk) (r : Rules) (at d : ℕ) (so_far : AreChunksSoFar r at m done) where
   -- between two chunks
   pub between : IsJudged r at d (chunks_bytes m done) None
-  between = chunks_so_far m made kind done r at d so_far.are so_far.opener_clean so_far.clean
+  between = record {
+    item = made done;
+    rest = 0xff ∷ [];
+    is = record { spelled = kind.spelled done so_far.are; within = omega (arith, kind.flat done); bytes_are = kind.bytes_are done };
+    finding = (
+      omega (arith, ap length (kind.bytes_are done) ∙ length-append (chunks_bytes m done) (0xff ∷ [])),
+      λ x g. elim (kind.has r at done x g) [ inl y ↦ absurd (so_far.opener_clean x y) | inr y ↦ absurd (so_far.clean x y) ],
+    );
+  }
 
   -- the head of the next chunk, cut
   cut : (w : Width) (n : ℕ) (p more : List ℕ) → Holds w n → p ++ more ≡ head m w n → 0 < length more → IsJudged r at d (chunks_bytes m done ++ p) None

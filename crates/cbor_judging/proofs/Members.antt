@@ -1,6 +1,6 @@
 -- The loops of a reader over an array's members and over a map's pairs.
 use Rattle.std.proofs.Common.{◌≡◌, ◌≢◌, ℕ, suc, ◌+◌, ◌-◌, ◌<◌, Option, Some, None, List, [], ◌∷◌, ◌++◌, length, refl, sym, ap, ◌∙◌, subst, arith, append-nil, false}
-use Rattle.cbor_head.specs.Prelude.{head, Bounds, Values, Entries, Spellings, array, no_spellings, spell, spellings_count, break_of, HoldsOrIndefinite, values_of, Spelling, SpelledEntries, a_map, no_entries, entries_count, entries_of, Rules}
+use Rattle.cbor_head.specs.Prelude.{head, Bounds, Values, Entries, Spellings, array, no_spellings, spell, spellings_count, break_of, HoldsOrIndefinite, values_of, Spelling, SpelledEntries, a_map, no_entries, entries_count, entries_of, Rules, OfCount}
 use Rattle.cbor_head.specs.Value as value
 use Rattle.cbor_head.specs.declared.major.Major.TheVariants as majors
 use Rattle.cbor_head.specs.declared.width.Width.{Width}
@@ -11,6 +11,7 @@ use Rattle.cbor_automaton.specs.Marks.{count_of}
 use Rattle.cbor_standing.specs.NextEvent.{ItemEventsView}
 use Rattle.cbor_automaton.specs.declared.event.EventKind.TheVariants as kinds
 use Rattle.cbor_judging.specs.Reading.{IsAt, Extends, IsBegun, ReadsItem}
+use Rattle.cbor_judging.specs.Judged.{Never}
 use Rattle.cbor_judging.specs.SoFar.{IsArraySoFar, array_bytes, IsMapSoFar, map_bytes}
 use Rattle.cbor_judging.proofs.Judged.{array_whole, map_whole}
 use Rattle.cbor_judging.proofs.Heads.{open_or}
@@ -43,32 +44,29 @@ pub record IsReadingArray (r : Rules) (b : Bounds) (fs : List Container) (t x : 
 
 -- ---- the head
 
+array-begun : (r : Rules) (b : Bounds) (fs : List Container) (t x : List ℕ) (w : Width) (count : Option ℕ) (from : Option (List ℕ)) (e : ItemEventsView) → (i : IsBegun r b fs t x e w (kinds.Array count)) → x ≡ head majors.Array w (count_of count)
+    → HoldsOrIndefinite w (count_of count) → IsLeft w (count_of count) 0 count → i.next ≡ members_due count fs → length fs < b.depth → Never (OfCount r (length t) majors.Array w (count_of count)) → IsReadingArray r b fs t x w (count_of count) count value.no_values from from e
+array-begun r b fs t x w count from e i is holds counts follows room clean =
+    let n = count_of count in
+    let bytes_are : x ≡ array_bytes w n no_spellings = is ∙ sym (append-nil (head majors.Array w n)) in
+    record {
+      done = no_spellings;
+      so_far = record { holds = holds; spelled = tt; within = omega arith; head_clean = clean; clean = λ c h. h };
+      taken = subst (λ (y : List ℕ). Extends x y from from) bytes_are (extends-none x from);
+      at = at-as b e (t ++ x) (t ++ array_bytes w n no_spellings) i.next (members_due count fs) (ap (λ (y : List ℕ). t ++ y) bytes_are) follows i.at;
+      counts = counts;
+      values = refl;
+      room = room;
+    }
+
 pub starts-array : (r : Rules) (b : Bounds) (fs : List Container) (t x : List ℕ) (w : Width) (count : Option ℕ) (from : Option (List ℕ)) (e : ItemEventsView)
     → IsBegun r b fs t x e w (kinds.Array count) → IsReadingArray r b fs t x w (count_of count) count value.no_values from from e
 starts-array r b fs t x w (Some n) from e i =
     let f = definite b.depth fs majors.Array w n x i.next (proper-definite w i.proper) i.taking in
-    let bytes_are : x ≡ array_bytes w n no_spellings = f.bytes_are ∙ sym (append-nil (head majors.Array w n)) in
-    record {
-      done = no_spellings;
-      so_far = record { holds = open_or w n f.holds; spelled = tt; within = omega arith; head_clean = i.clean; clean = λ c h. h };
-      taken = subst (λ (y : List ℕ). Extends x y from from) bytes_are (extends-none x from);
-      at = at-as b e (t ++ x) (t ++ array_bytes w n no_spellings) i.next (expect n fs) (ap (λ (y : List ℕ). t ++ y) bytes_are) f.follows.1 i.at;
-      counts = (proper-definite w i.proper, omega arith);
-      values = refl;
-      room = f.follows.0;
-    }
+    array-begun r b fs t x w (Some n) from e i f.bytes_are (open_or w n f.holds) (proper-definite w i.proper, omega arith) f.follows.1 f.follows.0 i.clean
 starts-array r b fs t x w None from e i =
     let taking = subst (λ (v : Width). IsTaking b.depth (at_item fs) (a_head majors.Array v 0) x i.next) i.proper i.taking in
-    let bytes_are : x ≡ array_bytes w 0 no_spellings = taking.1 ∙ ap (λ (v : Width). head majors.Array v 0) (sym i.proper) ∙ sym (append-nil (head majors.Array w 0)) in
-    record {
-      done = no_spellings;
-      so_far = record { holds = any_open w 0 i.proper; spelled = tt; within = omega arith; head_clean = i.clean; clean = λ c h. h };
-      taken = subst (λ (y : List ℕ). Extends x y from from) bytes_are (extends-none x from);
-      at = at-as b e (t ++ x) (t ++ array_bytes w 0 no_spellings) i.next (at_item (indefinite_array ∷ fs)) (ap (λ (y : List ℕ). t ++ y) bytes_are) taking.2.1 i.at;
-      counts = i.proper;
-      values = refl;
-      room = taking.2.0;
-    }
+    array-begun r b fs t x w None from e i (taking.1 ∙ ap (λ (v : Width). head majors.Array v 0) (sym i.proper)) (any_open w 0 i.proper) i.proper taking.2.1 taking.2.0 i.clean
 
 -- ---- the members
 
@@ -115,32 +113,29 @@ pub record IsReadingMap (r : Rules) (b : Bounds) (fs : List Container) (t x : Li
 
 -- ---- the head
 
+map-begun : (r : Rules) (b : Bounds) (fs : List Container) (t x : List ℕ) (w : Width) (count : Option ℕ) (from : Option (List ℕ)) (e : ItemEventsView) → (i : IsBegun r b fs t x e w (kinds.Map count)) → x ≡ head majors.Map w (count_of count)
+    → HoldsOrIndefinite w (count_of count) → IsLeft w (count_of count) 0 count → i.next ≡ pairs_due count fs → length fs < b.depth → Never (OfCount r (length t) majors.Map w (count_of count)) → IsReadingMap r b fs t x w (count_of count) count value.no_entries from from e
+map-begun r b fs t x w count from e i is holds counts follows room clean =
+    let n = count_of count in
+    let bytes_are : x ≡ map_bytes w n no_entries = is ∙ sym (append-nil (head majors.Map w n)) in
+    record {
+      done = no_entries;
+      so_far = record { holds = holds; spelled = tt; within = omega arith; head_clean = clean; clean = λ c h. h };
+      taken = subst (λ (y : List ℕ). Extends x y from from) bytes_are (extends-none x from);
+      at = at-as b e (t ++ x) (t ++ map_bytes w n no_entries) i.next (pairs_due count fs) (ap (λ (y : List ℕ). t ++ y) bytes_are) follows i.at;
+      counts = counts;
+      values = refl;
+      room = room;
+    }
+
 pub starts-map : (r : Rules) (b : Bounds) (fs : List Container) (t x : List ℕ) (w : Width) (count : Option ℕ) (from : Option (List ℕ)) (e : ItemEventsView)
     → IsBegun r b fs t x e w (kinds.Map count) → IsReadingMap r b fs t x w (count_of count) count value.no_entries from from e
 starts-map r b fs t x w (Some n) from e i =
     let f = definite b.depth fs majors.Map w n x i.next (proper-definite w i.proper) i.taking in
-    let bytes_are : x ≡ map_bytes w n no_entries = f.bytes_are ∙ sym (append-nil (head majors.Map w n)) in
-    record {
-      done = no_entries;
-      so_far = record { holds = open_or w n f.holds; spelled = tt; within = omega arith; head_clean = i.clean; clean = λ c h. h };
-      taken = subst (λ (y : List ℕ). Extends x y from from) bytes_are (extends-none x from);
-      at = at-as b e (t ++ x) (t ++ map_bytes w n no_entries) i.next (expect (n + n) fs) (ap (λ (y : List ℕ). t ++ y) bytes_are) f.follows.1 i.at;
-      counts = (proper-definite w i.proper, omega arith);
-      values = refl;
-      room = f.follows.0;
-    }
+    map-begun r b fs t x w (Some n) from e i f.bytes_are (open_or w n f.holds) (proper-definite w i.proper, omega arith) f.follows.1 f.follows.0 i.clean
 starts-map r b fs t x w None from e i =
     let taking = subst (λ (v : Width). IsTaking b.depth (at_item fs) (a_head majors.Map v 0) x i.next) i.proper i.taking in
-    let bytes_are : x ≡ map_bytes w 0 no_entries = taking.1 ∙ ap (λ (v : Width). head majors.Map v 0) (sym i.proper) ∙ sym (append-nil (head majors.Map w 0)) in
-    record {
-      done = no_entries;
-      so_far = record { holds = any_open w 0 i.proper; spelled = tt; within = omega arith; head_clean = i.clean; clean = λ c h. h };
-      taken = subst (λ (y : List ℕ). Extends x y from from) bytes_are (extends-none x from);
-      at = at-as b e (t ++ x) (t ++ map_bytes w 0 no_entries) i.next (at_item (indefinite_map false ∷ fs)) (ap (λ (y : List ℕ). t ++ y) bytes_are) taking.2.1 i.at;
-      counts = i.proper;
-      values = refl;
-      room = taking.2.0;
-    }
+    map-begun r b fs t x w None from e i (taking.1 ∙ ap (λ (v : Width). head majors.Map v 0) (sym i.proper)) (any_open w 0 i.proper) i.proper taking.2.1 taking.2.0 i.clean
 
 -- ---- the pairs
 
@@ -167,5 +162,5 @@ module _ (r : Rules) (b : Bounds) (fs : List Container) (t x : List ℕ) (w : Wi
 -- with what is known of no keys
 pub starts-with : (r : Rules) (b : Bounds) (fs : List Container) (t x : List ℕ) (w : Width) (n : ℕ) (from : Option (List ℕ)) (e : ItemEventsView) → IsBegun r b fs t x e w (kinds.Map (Some n)) → (P : List Spelling → Type 0) → P []
     → (h : IsReadingMap r b fs t x w n (Some n) value.no_entries from from e) × P (keys_onto [] h.done)
-unfolding starts-map
+unfolding starts-map map-begun
 starts-with r b fs t x w n from e i P k = (starts-map r b fs t x w (Some n) from e i, k)

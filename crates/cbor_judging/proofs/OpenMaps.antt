@@ -1,18 +1,11 @@
 -- What is found of an item is found of the open containers around it, where nothing before it has a complaint.
-use Rattle.std.proofs.Common.{ℕ, suc, ◌+◌, ◌≡◌, ◌≤◌, Option, List, [], ◌∷◌, ◌++◌, length, sym, arith, subst, inl, inr, length-append, append_assoc}
+use Rattle.std.proofs.Common.{ℕ, suc, ◌+◌, ◌≡◌, Option, List, [], ◌∷◌, ◌++◌, length, sym, arith, subst, inl, inr, length-append, append_assoc}
 use Rattle.cbor_head.specs.Prelude.{Rules, Complaint}
-use Rattle.cbor_judging.specs.Frame.{Frame, before, IsFrame, depth_beside}
-use Rattle.cbor_judging.specs.Judged.{IsJudged, Never}
-use Rattle.cbor_judging.specs.OpenMaps.{open_keys, AreDistinct, OfClosed, before_all, ArePath, AreClosedClean, AreOpenDistinct}
+use Rattle.cbor_judging.specs.Frame.{Frame, before}
+use Rattle.cbor_judging.specs.Judged.{IsJudged}
+use Rattle.cbor_judging.specs.OpenMaps.{before_all, ArePath, AreClosedClean, AreOpenDistinct}
 use Rattle.cbor_judging.proofs.Judged.{judged_in}
 use Rattle.cbor_judging.proofs.OpenKeys.{front_apart}
-
--- ---- one container
-
-module _ (f : Frame) (r : Rules) (at d : ℕ) (fits : IsFrame f) (flat : depth_beside f ≤ d) (clean : Never (OfClosed r at f)) where
-  -- where they have none, what is found of the item is found of the container
-  judged_past : AreDistinct r (open_keys at f) → (p : List ℕ) (found : Option Complaint) → IsJudged r (at + length (before f)) d p found → IsJudged r at (suc d) (before f ++ p) found
-  judged_past none p found j = judged_in f r at d fits flat (λ c h. elim (front_apart f r at c h) [ inl x ↦ clean c x | inr x ↦ none c x ]) p found j
 
 -- ---- all containers
 
@@ -34,4 +27,4 @@ judged_within [] r at to d p found e h clean none j =
 judged_within (f ∷ fs) r at to d p found e h clean none j =
     let next = at + length (before f) in
     let deeper = judged_within fs r next to d p found (omega (arith, e, length-append (before f) (before_all fs))) h.2 clean.1 none.1 j in
-    around f fs r at d p found (judged_past f r at (length fs + d) h.0 h.1 clean.0 none.0 (before_all fs ++ p) found deeper)
+    around f fs r at d p found (judged_in f r at (length fs + d) h.0 h.1 (λ c g. elim (front_apart f r at c g) [ inl x ↦ clean.0 c x | inr x ↦ none.0 c x ]) (before_all fs ++ p) found deeper)

@@ -5,13 +5,12 @@ use Rattle.cbor_head.specs.declared.major.Major.{Major}
 use Rattle.cbor_head.specs.declared.width.Width.{Width}
 use Rattle.cbor_grammar.proofs.Alike.{not_break}
 use Rattle.cbor_grammar.proofs.KeyKinds.{byte_basic}
-use Rattle.cbor_grammar.proofs.Parts.{body, parts}
 use Rattle.cbor_automaton.proofs.Taking.{IsNumbered}
 use Rattle.cbor_judging.specs.Frame.{Frame, before}
 use Rattle.cbor_judging.specs.Kinds.{KeepsToKinds, IsKeyFrame, IsKeyDue, IsOfOneHead}
 use Rattle.cbor_judging.specs.OpenMaps.{before_all, ArePath}
 use Rattle.cbor_judging.proofs.Heads.{takes, headed}
-use Rattle.cbor_judging.proofs.KindBytes.{Begins, kinds_behind}
+use Rattle.cbor_judging.proofs.KindBytes.{Begins, kinds_behind, of_headed}
 use Rattle.cbor_judging.proofs.KindFrames.{due_last, IsAround, keeps_on}
 use Rattle.cbor_judging.proofs.OpenSteps.{before_snoc, path_snoc}
 use Rattle.cbor_judging.specs.PathKinds.{IsFitFront, KeepsHere}
@@ -79,9 +78,7 @@ kept_before limits r ls keeps = record { before = keeps; here = λ asked due. tt
 
 -- a head
 pub head_begun : (d : ℕ) (m : Major) (w : Width) (n : ℕ) → IsNumbered m → Holds w n → takes m ≤ d → Begins d (head m w n)
-head_begun d m w n i holds l =
-    let h = headed d m w n i holds l in
-    record { item = h.item; spelled = h.spelled; within = h.within; rest = body h.item; bytes = parts h.item ∙ ap (λ (x : List ℕ). x ++ body h.item) h.head_is }
+head_begun d m w n i holds l = of_headed (headed d m w n i holds l)
 
 -- ---- the bytes so far
 

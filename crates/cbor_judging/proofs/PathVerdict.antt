@@ -1,13 +1,12 @@
 -- Where the walk ends is the verdict.
-use Rattle.std.proofs.Common.{◌≡◌, ◌≢◌, ℕ, ◌-◌, ◌<◌, ◌≤◌, List, [], ◌∷◌, ◌++◌, length, take, refl, sym, ap, ◌∙◌, subst, inl, inr, arith, append_assoc, append-nil, length-append, length-take}
+use Rattle.std.proofs.Common.{◌≡◌, ◌≢◌, ℕ, ◌-◌, ◌<◌, ◌≤◌, List, [], ◌∷◌, ◌++◌, length, take, refl, sym, ap, ◌∙◌, subst, inl, inr, arith, append-nil, length-append, length-take}
 use Rattle.std.proofs.lemmas.Bool.{cases_lt}
-use Rattle.cbor_head.specs.Prelude.{IsBeginning, MayFollow, IsLongestBeginning, Rules, IsComplaint, Bounds, Spelling, IsItem, spell, depth, refusal, accepted, refused, IsVerdict}
+use Rattle.cbor_head.specs.Prelude.{IsBeginning, IsLongestBeginning, Rules, IsComplaint, Bounds, Spelling, IsItem, spell, depth, refusal, accepted, refused, IsVerdict}
 use Rattle.cbor_head.specs.declared.reason.Reason.TheVariants.{Truncated, TooLong, KeyKind}
 use Rattle.cbor_head.specs.declared.reason.Refusal.{Refusal}
-use Rattle.cbor_grammar.proofs.Agree.{split_front}
 use Rattle.cbor_grammar.proofs.Beginnings.{item_decides}
 use Rattle.cbor_automaton.specs.Reasons.{IsFormReason as IsByteReason}
-use Rattle.cbor_automaton.proofs.Beginnings.{shorter}
+use Rattle.cbor_automaton.proofs.Longest.{stands_longest}
 use Rattle.cbor_judging.specs.Refusals.{IsComplaintReason}
 use Rattle.cbor_judging.specs.Kinds.{KeepsToKinds}
 use Rattle.cbor_judging.proofs.Decisions.{whole_beside, complaint_decides, break_decides, kind_decides}
@@ -29,20 +28,6 @@ other_key_differs : (r : Rules) (limits : Bounds) (b : List ℕ) (f : Refusal) �
 other_key_differs r limits b f h e = let same : KeyKind ≡ Truncated = sym (ap (λ (x : Refusal). x.reason) h.is) ∙ e in cc same
 
 -- ---- the longest beginning
-
--- a beginning that a byte may not follow
-stands_longest : (d : ℕ) (p : List ℕ) (byte : ℕ) (rest : List ℕ) → IsBeginning d p → (MayFollow d p byte → ⊥) → IsLongestBeginning d (p ++ byte ∷ rest) p
-stands_longest d p byte rest b misplaced = record {
-  beginning = b;
-  rest = byte ∷ rest;
-  splits = refl;
-  longest = λ x y i e. elim (cases_lt (length p) (length x)) [
-    | inr k ↦ k
-    | inl k ↦
-        let (z, f, g) = split_front (p ++ byte ∷ []) rest x y (append_assoc p (byte ∷ []) rest ∙ e) (omega (arith, k, length-append p (byte ∷ []))) in
-        absurd (misplaced (shorter d (p ++ byte ∷ []) z (subst (IsBeginning d) f i)))
-  ];
-}
 
 -- all that there is
 abbrev whole_longest : (d : ℕ) (b : List ℕ) → IsBeginning d b → IsLongestBeginning d b b

@@ -28,7 +28,8 @@ use Rattle.cbor_automaton.proofs.Forward.{payload-byte}
 use Rattle.cbor_automaton.specs.declared.event.Event.{Event}
 use Rattle.cbor_automaton.specs.declared.event.EventKind.{EventKind}
 use Rattle.cbor_automaton.specs.declared.event.EventKind.TheVariants as kinds
-use Rattle.cbor_automaton.proofs.Taking.{IsClear, IsWithin, nothing-taken, first-mark, within-start}
+use Rattle.cbor_automaton.proofs.Events.{close_string-clear}
+use Rattle.cbor_automaton.proofs.Taking.{IsWithin, nothing-taken, first-mark, tells-first, within-start}
 use Rattle.cbor_judging.proofs.Steps.{due-by, Stops, SameLimits, stands-reached, at-reached, reached-as, next-at, place_in, since}
 use Rattle.cbor_grammar.proofs.ByteLists.{bytes_join, bytes_back}
 use Rattle.cbor_judging.proofs.Scalars.{at-as}
@@ -86,14 +87,6 @@ piece-bytes : (told : List Mark) (w : Width) (kind : EventKind) (kept piece bs :
 piece-bytes told w (kinds.Piece n) kept piece bs h k e = record { same = k; some = omega (arith, e.0.1, e.1); marks = ap (λ (j : ℕ). replicate j a_byte) (sym e.1) }
 piece-bytes told w _ kept piece bs h k e = absurd h
 
-clear-close : (fs : List automaton.Frame) → IsClear (automaton.close fs)
-clear-close (automaton.counted zero ∷ fs) = clear-close fs
-clear-close _ = tt
-
-clear-string : (chunk : Bool) (m : Major) (fs : List automaton.Frame) → IsClear (automaton.close_string chunk m fs)
-clear-string true m fs = tt
-clear-string false m fs = clear-close fs
-
 no-byte : (d : ℕ) (fs : List automaton.Frame) (cs : List ℕ) (u : State) → taking.IsTaking d (automaton.close fs) a_byte cs u → ⊥
 no-byte d (automaton.counted zero ∷ fs) cs u h = no-byte d fs cs u h
 no-byte d _ cs u h = h
@@ -101,10 +94,6 @@ no-byte d _ cs u h = h
 no-byte-behind : (d : ℕ) (chunk : Bool) (m : Major) (fs : List automaton.Frame) (cs : List ℕ) (u : State) → taking.IsTaking d (automaton.close_string chunk m fs) a_byte cs u → ⊥
 no-byte-behind d true m fs cs u h = h
 no-byte-behind d false m fs cs u h = no-byte d fs cs u h
-
-pub untell : (o : Outcome) (u : State) (ms : List Mark) → telling a_byte o ≡ reached u (a_byte ∷ ms) → o ≡ reached u ms
-untell (refused r) u ms e = cc
-untell (reached q ns) u ms e = cc
 
 -- bytes that told so many bytes of a payload are its next
 part : (d : ℕ) (chunk : Bool) (m : Major) (fs : List automaton.Frame) (n : ℕ) (bs : List ℕ) (u : State) → AreBytes bs → run d (automaton.payload chunk m n fs) bs ≡ reached u (replicate (length bs) a_byte)
@@ -115,10 +104,10 @@ part d chunk m fs n [] u b e =
     (omega arith, sym same ∙ ap (λ (j : ℕ). automaton.payload chunk m j fs) none)
 part d chunk m fs zero (c ∷ cs) u b e =
     let q = automaton.close_string chunk m fs in
-    let f = first-mark d (c ∷ cs) q q u [] a_byte (replicate (length cs) a_byte) (within-start d q (clear-string chunk m fs)) b e in
+    let f = first-mark d (c ∷ cs) q q u [] a_byte (replicate (length cs) a_byte) (within-start d q (close_string-clear chunk m fs)) b e in
     absurd (no-byte-behind d chunk m fs f.0 f.1 f.2)
 part d chunk m fs (suc n) (c ∷ cs) u b e =
-    let rest = part d chunk m fs n cs u b.1 (untell (run d (automaton.payload chunk m n fs) cs) u (replicate (length cs) a_byte) (sym (payload-byte d chunk m n fs c cs) ∙ e)) in
+    let rest = part d chunk m fs n cs u b.1 ((tells-first a_byte a_byte (run d (automaton.payload chunk m n fs) cs) u (replicate (length cs) a_byte) (sym (payload-byte d chunk m n fs c cs) ∙ e)).1) in
     let fits : length cs ≤ n = rest.0 in
     let same : n - length cs ≡ suc n - suc (length cs) = omega arith in
     (omega (arith, fits), rest.1 ∙ ap (λ (j : ℕ). automaton.payload chunk m j fs) same)

@@ -12,8 +12,7 @@ use Rattle.cbor_automaton.specs.Automaton.{State, Outcome, run, reached}
 use Rattle.cbor_automaton.proofs.Beginnings.{onwards, run-append, telling_all-reached}
 use Rattle.cbor_automaton.proofs.Forward.{telling_all, payload-byte, head-taken, item_starts, chunk_starts, simple-direct, simple-one}
 use Rattle.cbor_judging.specs.Place.{Container, counted, indefinite_array, indefinite_map, Place, at_item, in_payload, in_chunks, done, close, expect, payload, Follows, Opens, Ends, IsTaking, IsPlaced, begins, leads_on, LeadsOn, open_at}
-use Rattle.cbor_automaton.proofs.Taking.{IsClear, first-mark, within-start, mark-taken}
-use Rattle.cbor_judging.proofs.Payloads.{untell}
+use Rattle.cbor_automaton.proofs.Taking.{IsClear, first-mark, tells-first, within-start, mark-taken}
 use Rattle.cbor_automaton.specs.Bytes.{IsEventBytes}
 use Rattle.cbor_automaton.specs.Marks.{mark_of, marks_of, times}
 use Rattle.cbor_standing.specs.Machine.{IsComplete}
@@ -22,23 +21,16 @@ use Rattle.cbor_standing.specs.NextEvent.{Call, StandsBetween, IsNextEvent, IsDu
 use Rattle.cbor_automaton.specs.declared.event.Event.{Event}
 use Rattle.cbor_automaton.specs.declared.event.EventKind.{EventKind}
 use Rattle.cbor_automaton.specs.declared.event.EventKind.TheVariants as kinds
-use Rattle.cbor_steps.specs.declared.position.Position.{Position}
 use Rattle.cbor_steps.specs.State.{state_of}
-use Rattle.cbor_standing.proofs.Positions.{position-done}
 use Rattle.cbor_standing.proofs.NextEvents.{whole-clear, run-rest}
-use Rattle.cbor_automaton.proofs.Opens.{opens as opens-stack}
 use Rattle.cbor_automaton.proofs.Runs.{once-marks}
+use Rattle.cbor_automaton.proofs.Stands.{IsString}
 use Rattle.cbor_grammar.proofs.ByteLists.{bytes_back}
-use Rattle.cbor_judging.proofs.Standing.{done_position}
+use Rattle.cbor_judging.proofs.Standing as standing
 use Rattle.cbor_judging.specs.Reading.{state_at}
-use Rattle.cbor_judging.proofs.Places.{place_of, one-place, clear-at, open-frames, taking-at, close-at, expect-at, string-at, payload-at}
+use Rattle.cbor_judging.proofs.Places.{place_of, clear-at, taking-at, close-at, expect-at, string-at, payload-at}
 
 -- ---- chunks are of a string
-
-abbrev IsString : Major → Type 0
-IsString majors.Bytes = Unit {0}
-IsString majors.Text = Unit {0}
-IsString _ = ⊥
 
 abbrev IsSane : Place → Type 0
 IsSane (in_chunks m cs) = IsString m
@@ -189,7 +181,7 @@ piece-placed d [] t ms p u h b e = record {
 }
 piece-placed d (c ∷ cs) t ms (in_payload chunk k n gs) u h b e =
     let q = payload chunk k n gs in
-    let told = untell (run d (automaton.payload chunk k n gs) cs) u (replicate (length cs) a_byte) (sym (payload-byte d chunk k n gs c cs) ∙ e) in
+    let told = (tells-first a_byte a_byte (run d (automaton.payload chunk k n gs) cs) u (replicate (length cs) a_byte) (sym (payload-byte d chunk k n gs c cs) ∙ e)).1 in
     let one = leads_on t (c ∷ []) ms a_byte (in_payload chunk k n gs) q h (a-byte-taken d chunk k n gs c) in
     let more = piece-placed d cs (t ++ c ∷ []) (ms ++ a_byte ∷ []) q u one b.1 (ap (λ (s : State). run d s cs) (sym (payload-at chunk k n gs)) ∙ told) in
     record {
@@ -255,12 +247,7 @@ module _ (m : MachineView) (t : List ℕ) (ms : List Mark) (p : Place) (s : Stan
   state-is = cc (sym s.stands.inner.ran ∙ (placed-stands m.depth t ms p h).ran)
 
   pub open-there : m.open_count ≡ length (open_at p)
-  open-there =
-      let b = s.stands.beginning in
-      s.stands.counted b.0 b.1 b.2 ∙ sym (opens-stack m.depth b.0 t b.1 (state_at p) ms b.2 (placed-stands m.depth t ms p h).ran) ∙ open-frames p
+  open-there = standing.open-there m t ms p s state-is
 
   pub complete-there : IsComplete m ↔ (p ≡ done)
-  complete-there = (
-    (λ c. one-place p done (sym state-is ∙ ap (λ (x : Position). state_of x m.inner.frames) (position-done m.inner.position (sym s.stands.inner.shown.complete ∙ c.0)))),
-    (λ e. (rw (done_position m.inner.position m.inner.frames (state-is ∙ ap state_at e)) at s.stands.inner.shown.complete, s.stands.live)),
-  )
+  complete-there = standing.complete-there m t ms p s state-is

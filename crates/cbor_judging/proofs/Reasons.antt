@@ -1,12 +1,13 @@
 -- Which reasons a refusal has.
-use Rattle.std.proofs.Common.{ℕ, ◌+◌, ◌≡◌, ◌≢◌, ◌⊎◌, Option, Some, None, List, [], ◌∷◌, ◌++◌, length, sym, ap, ◌∙◌, subst, inl, inr, Bool, true, false, ◌==◌, ◌||◌, ◌&&◌, ◌%◌, nat_le, if◌then◌else◌}
+use Rattle.std.proofs.Common.{ℕ, ◌+◌, ◌≡◌, ◌≢◌, ◌⊎◌, Option, Some, None, List, [], ◌∷◌, ◌++◌, length, sym, ap, ◌∙◌, subst, inl, inr, Bool, ◌==◌, ◌||◌, ◌&&◌, ◌%◌, nat_le, if◌then◌else◌}
+use Rattle.std.proofs.lemmas.Bool.{cond_both}
 use Rattle.cbor_head.specs.Prelude.{Spelling, spell, Rules, form, Complaint, Complains, IsComplaint, Bounds, initial_reason, refusal, refused, IsReasonAt, IsFormError, IsVerdict}
 use Rattle.cbor_head.specs.declared.reason.Reason.{Reason}
-use Rattle.cbor_head.specs.declared.reason.Reason.TheVariants.{Truncated, TooLong, InvalidText, RepeatedKey, NotShortest, Indefinite as IndefiniteReason, KeyOrder, Read, Memory, StrayBreak, Float, NoIndefinite, Reserved, TooDeep, KeyKind}
+use Rattle.cbor_head.specs.declared.reason.Reason.TheVariants.{Truncated, TooLong, InvalidText, RepeatedKey, NotShortest, Indefinite as IndefiniteReason, KeyOrder, Read, Memory, KeyKind}
 use Rattle.cbor_head.specs.declared.reason.Refusal.{Refusal}
 use Rattle.cbor_automaton.specs.Reasons.{IsFormReason as IsByteReason}
 use Rattle.cbor_grammar.proofs.KeyKinds.{of_kind}
-use Rattle.cbor_grammar.proofs.Reasons.{reason_of}
+use Rattle.cbor_grammar.proofs.Reasons.{each_complaint}
 use Rattle.cbor_judging.specs.Place.{Container}
 use Rattle.cbor_judging.specs.Judged.{IsFinding}
 use Rattle.cbor_judging.specs.Reading.{IsFormRefusal, IsCause, HasCause, StopsItem}
@@ -14,17 +15,13 @@ use Rattle.cbor_judging.specs.Refusals.{IsFormReason, IsComplaintReason, IsKindR
 
 -- a complaint for a reason that the rules have
 complains : (r : Rules) (at : ℕ) (s : Spelling) (c : Complaint) → Complains r at s c → IsComplaintReason r c.reason
-complains r at s c h = reason_of r (IsComplaintReason r) (λ x. x) (λ x. x) (λ x. x) (λ x. x) (λ o x. (o, x)) at s c h
+complains r at s c h = each_complaint r (λ e. IsComplaintReason r e.reason) (λ x at q. x) (λ x at n. x) (λ x at. x) (λ x at n. x) (λ o x at n. (o, x)) at s c h
 
 initial-byte : (c : ℕ) → IsByteReason (initial_reason c)
-initial-byte c = chain (c == 0xff) ((c == 0xf9) || (c == 0xfa) || (c == 0xfb)) ((c == 0x1f) || (c == 0x3f) || (c == 0xdf)) (nat_le 28 (c % 32) && nat_le (c % 32) 30)
+initial-byte c = chosen (c == 0xff) _ _ tt (chosen ((c == 0xf9) || (c == 0xfa) || (c == 0xfb)) _ _ tt (chosen ((c == 0x1f) || (c == 0x3f) || (c == 0xdf)) _ _ tt (chosen (nat_le 28 (c % 32) && nat_le (c % 32) 30) _ _ tt tt)))
   where
-    chain : (u v w x : Bool) → IsByteReason (if u then StrayBreak else if v then Float else if w then NoIndefinite else if x then Reserved else TooDeep)
-    chain true v w x = tt
-    chain false true w x = tt
-    chain false false true x = tt
-    chain false false false true = tt
-    chain false false false false = tt
+    chosen : (b : Bool) (x y : Reason) → IsByteReason x → IsByteReason y → IsByteReason (if b then x else y)
+    chosen b x y f g = cond_both b x y IsByteReason (λ e. f) (λ e. g)
 
 -- a byte that may not stand where it does
 pub byte-reason : (d : ℕ) (p : List ℕ) (c : ℕ) (reason : Reason) → IsReasonAt d p c reason → IsByteReason reason

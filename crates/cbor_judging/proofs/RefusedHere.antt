@@ -1,5 +1,5 @@
 -- What is refused where an item is due, whatever walk stands there.
-use Rattle.std.proofs.Common.{◌≡◌, ◌≢◌, ℕ, suc, ◌+◌, ◌-◌, ◌*◌, ◌^◌, ◌%◌, ◌<◌, ◌≤◌, ◌⊎◌, Bool, true, None, List, [], ◌∷◌, ◌++◌, length, take, drop, refl, sym, ap, ◌∙◌, subst, inl, inr, arith, append_assoc, take-append-drop, append-nil, IsTrue, IsUtf8, length-append, length-take-le, ◌/◌, pow_pos}
+use Rattle.std.proofs.Common.{◌≡◌, ◌≢◌, ℕ, suc, ◌+◌, ◌-◌, ◌*◌, ◌^◌, ◌%◌, ◌<◌, ◌≤◌, ◌⊎◌, Bool, true, false, None, List, [], ◌∷◌, ◌++◌, length, take, drop, refl, sym, ap, ◌∙◌, subst, inl, inr, arith, append_assoc, take-append-drop, append-nil, IsTrue, IsUtf8, length-append, length-take-le, ◌/◌, pow_pos}
 use Rattle.std.specs.Str.Lossy.{utf8_valid_len}
 use Rattle.std.proofs.lemmas.Bool.{cases_lt}
 use Rattle.cbor_head.specs.Prelude.{Rules, strict, complaint, OfHead, form, Holds, head, major_number, shortest, with_argument, Bounds, AreBytes, IsIntegerOrText, refusal, simple, spell, value_of}
@@ -23,10 +23,10 @@ use Rattle.cbor_judging.proofs.Leaves.{text_complains}
 use Rattle.cbor_judging.specs.Path.{Level, a_member, a_key, bytes_before, AreClean, MayBreak, IsKeyDueIn}
 use Rattle.cbor_judging.specs.RefusedHere.{IsMisplaced, IsPlaceFor, IsRefusedBy, HasNoBreak, MayBegin}
 use Rattle.cbor_judging.specs.PathKinds.{KeepsHere}
-use Rattle.cbor_judging.specs.Stop.{HasComplaint, HasBadByte, IsStopped, EndsWithin}
+use Rattle.cbor_judging.specs.Stop.{HasComplaint, IsStopped, EndsWithin}
 use Rattle.cbor_judging.proofs.Arguments.{low_bits, number_byte, fits as fits_in, numbered, spells, fits, direct-is}
-use Rattle.cbor_judging.proofs.CutHeads.{head_cut, bytes_cut, text_cut}
-use Rattle.cbor_judging.proofs.FirstBytes.{reserved, no_indefinite, a_float, stray_break, too_deep, bad_simple}
+use Rattle.cbor_judging.proofs.CutHeads.{head_cut, string_cut}
+use Rattle.cbor_judging.proofs.FirstBytes.{misplaced, bad_simple}
 use Rattle.cbor_judging.proofs.HeadComplaints.{IsOpener as MayOpen, not_shortest, indefinite_length}
 use Rattle.cbor_judging.proofs.PathKinds.{kept_front, head_begun, around_clean}
 use Rattle.cbor_judging.proofs.PathStops.{complaint_here, end_here}
@@ -82,24 +82,12 @@ pub nothing_here : (r : Rules) (room : Bool) (at end : ℕ) → end ≡ at + 0 �
 nothing_here r room at end e = ends_here r room [] at end e tt (λ d ls fits are. judged_start r (length (bytes_before ls)) (d - length ls))
 
 module _ (r : Rules) (room : Bool) (first : ℕ) (behind : List ℕ) (at : ℕ) where
-  at_place : (reason : Reason) (limits : Bounds) (ls : List Level) → IsPlaceFor room limits.depth ls at → HasBadByte r limits (bytes_before ls ++ first ∷ behind) (refusal reason (length (bytes_before ls)) (length (bytes_before ls) + 1))
-      → IsStopped r limits (bytes_before ls ++ first ∷ behind) (refusal reason at (at + 1))
-  at_place reason limits ls place h = subst (λ (n : ℕ). IsStopped r limits (bytes_before ls ++ first ∷ behind) (refusal reason n (n + 1))) (sym place.here) (inr (inl h))
-
   -- the first byte may not stand there, whichever keys are asked for
   pub misplaced_stops : (reason : Reason) → IsMisplaced first room reason → (limits : Bounds) (ls : List Level) → AreClean r limits.depth ls → (first ≡ 0xff → MayBreak ls → ⊥) → KeepsToKinds limits r (bytes_before ls) → IsPlaceFor room limits.depth ls at
       → AreBytes (bytes_before ls ++ first ∷ behind) → IsStopped r limits (bytes_before ls ++ first ∷ behind) (refusal reason at (at + 1))
-  misplaced_stops reasons.Reserved h limits ls clean broken keeps place are =
-      at_place reasons.Reserved limits ls place (reserved r limits ls clean keeps (bytes_before ls ++ first ∷ behind) are first behind refl h.0 h.1)
-  misplaced_stops reasons.NoIndefinite h limits ls clean broken keeps place are =
-      at_place reasons.NoIndefinite limits ls place (no_indefinite r limits ls clean keeps (bytes_before ls ++ first ∷ behind) are first behind refl h.0 h.1)
-  misplaced_stops reasons.Float h limits ls clean broken keeps place are =
-      at_place reasons.Float limits ls place (a_float r limits ls clean keeps (bytes_before ls ++ first ∷ behind) are first behind refl h.0 h.1)
-  misplaced_stops reasons.StrayBreak h limits ls clean broken keeps place are =
-      at_place reasons.StrayBreak limits ls place (stray_break r limits ls clean keeps (bytes_before ls ++ first ∷ behind) are first behind refl h (broken h))
-  misplaced_stops reasons.TooDeep h limits ls clean broken keeps place are =
-      at_place reasons.TooDeep limits ls place (too_deep r limits ls clean keeps (bytes_before ls ++ first ∷ behind) are first behind refl (place.full h.0) h.1 h.2 h.3)
-  misplaced_stops _ h limits ls clean broken keeps place are = absurd h
+  misplaced_stops reason h limits ls clean broken keeps place are =
+      subst (λ (n : ℕ). IsStopped r limits (bytes_before ls ++ first ∷ behind) (refusal reason n (n + 1))) (sym place.here)
+      (inr (inl (misplaced r limits ls clean keeps (bytes_before ls ++ first ∷ behind) are first behind refl room reason h broken place.full)))
 
   pub misplaced_here : (reason : Reason) → IsMisplaced first room reason → IsRefusedBy r room (first ∷ behind) at (refusal reason at (at + 1))
   misplaced_here reason h = λ limits ls clean broken kept place are. misplaced_stops reason h limits ls clean broken kept.before place are
@@ -176,11 +164,11 @@ module _ (r : Rules) (room : Bool) (first : ℕ) (behind : List ℕ) (at : ℕ) 
         | inl k ↦
             let is = string_is 64 (omega (arith, l, k)) in
             subst (λ (x : List ℕ). IsJudged r (length (bytes_before ls)) (d - length ls) x None) (sym is)
-            (bytes_cut w n rest a.holds (bytes_back (head Bytes w n) rest (subst AreBytes is are)) less r (length (bytes_before ls)) (d - length ls) (quiet (length (bytes_before ls)) Bytes))
+            (string_cut w n rest a.holds (bytes_back (head Bytes w n) rest (subst AreBytes is are)) less r (length (bytes_before ls)) (d - length ls) false (quiet (length (bytes_before ls)) Bytes))
         | inr k ↦
             let is = string_is 96 (omega (arith, k, h)) in
             subst (λ (x : List ℕ). IsJudged r (length (bytes_before ls)) (d - length ls) x None) (sym is)
-            (text_cut w n rest a.holds (bytes_back (head Text w n) rest (subst AreBytes is are)) less r (length (bytes_before ls)) (d - length ls) (quiet (length (bytes_before ls)) Text))
+            (string_cut w n rest a.holds (bytes_back (head Text w n) rest (subst AreBytes is are)) less r (length (bytes_before ls)) (d - length ls) true (quiet (length (bytes_before ls)) Text))
       ])
 
       -- the text is none
@@ -208,8 +196,6 @@ module _ (r : Rules) (room : Bool) (first : ℕ) (behind : List ℕ) (at : ℕ) 
           let found = complaint_here r limits ls clean (bytes_before ls ++ first ∷ behind) x (drop n rest) (ap (λ (z : List ℕ). bytes_before ls ++ z) parts) (front_kept limits ls x (drop n rest) parts kept) text c j in
           inl (subst (λ (z : ℕ). HasComplaint r limits (bytes_before ls ++ first ∷ behind) (refusal reasons.InvalidText (at + used + valid) z)) read
           (subst (λ (z : ℕ). HasComplaint r limits (bytes_before ls ++ first ∷ behind) (refusal reasons.InvalidText z (to + length q))) place_is found))
-
--- ---- a key of another kind than is asked for
 
 -- ---- some item begins with a byte that may stand where an item is due
 

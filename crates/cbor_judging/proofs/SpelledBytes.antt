@@ -3,13 +3,14 @@ use Rattle.std.proofs.Common.{ℕ, zero, suc, ◌*◌, ◌/◌, ◌^◌, ◌≡�
 use Rattle.std.specs.List.{AllByRecursion}
 use Rattle.std.specs.Int.{bytes_high_first, byte_at}
 use Rattle.std.proofs.lemmas.Bool.{cases_lt}
-use Rattle.cbor_head.specs.Prelude.{Holds, head, shortest, major_number, with_argument, AreBytes, Chunk, IsChunk, Spelling, Spellings, SpelledEntries, unsigned, negative, bytes, text, byte_chunks, text_chunks, array, a_map, tag, simple, no_spellings, a_spelling, no_entries, entry, spell, spell_all, spell_entries, spellings_count, entries_count, chunk_bytes, break_of, HoldsOrIndefinite, IsSpelled, AreSpelled, AreEntriesSpelled, IsBeginning, IsLongestBeginning}
+use Rattle.cbor_head.specs.Prelude.{head, major_number, with_argument, AreBytes, Chunk, IsChunk, Spelling, Spellings, SpelledEntries, bytes, text, byte_chunks, text_chunks, array, a_map, tag, no_spellings, a_spelling, no_entries, entry, spell, spell_all, spell_entries, chunk_bytes, break_of, HoldsOrIndefinite, IsSpelled, AreSpelled, AreEntriesSpelled, IsBeginning, IsLongestBeginning}
 use Rattle.cbor_head.specs.declared.major.Major.{Major}
-use Rattle.cbor_head.specs.declared.major.Major.TheVariants.{Unsigned, Negative, Bytes, Text, Array, Map, Tag, Simple}
+use Rattle.cbor_head.specs.declared.major.Major.TheVariants.{Unsigned, Bytes, Text}
 use Rattle.cbor_head.specs.declared.width.Width.{Width}
 use Rattle.cbor_head.specs.declared.width.Width.TheVariants.{Direct, One, Two, Four, Eight, Indefinite}
 use Rattle.cbor_grammar.proofs.Agree.{split_front}
-use Rattle.cbor_grammar.proofs.Parts.{holds_of}
+use Rattle.cbor_grammar.proofs.Parts.{major, width, count, body, head_of, parts, holds_of}
+use Rattle.cbor_grammar.proofs.ReadLaws.{holds_or_open}
 use Rattle.cbor_grammar.proofs.ByteLists.{bytes_join, bytes_front}
 use Rattle.cbor_automaton.proofs.Longest.{longest_exists}
 
@@ -27,12 +28,7 @@ small_major : (m : Major) → major_number m < 8
 small_major Unsigned = omega arith
 small_major _ = omega arith
 
--- a width has room for the argument, where it is direct
-abbrev HasRoom : Width → ℕ → Type 0
-HasRoom Direct n = n < 24
-HasRoom _ n = Unit {0}
-
-argument_bytes : (w : Width) (k n : ℕ) → k < 8 → HasRoom w n → AreBytes (with_argument w (32 * k) n)
+argument_bytes : (w : Width) (k n : ℕ) → k < 8 → HoldsOrIndefinite w n → AreBytes (with_argument w (32 * k) n)
 argument_bytes Direct k n l h = (omega (arith, l, h), tt)
 argument_bytes One k n l h = (omega (arith, l), high_bytes 1 n)
 argument_bytes Two k n l h = (omega (arith, l), high_bytes 2 n)
@@ -40,20 +36,12 @@ argument_bytes Four k n l h = (omega (arith, l), high_bytes 4 n)
 argument_bytes Eight k n l h = (omega (arith, l), high_bytes 8 n)
 argument_bytes Indefinite k n l h = (omega (arith, l), tt)
 
-head_bytes : (m : Major) (w : Width) (n : ℕ) → HasRoom w n → AreBytes (head m w n)
+head_bytes : (m : Major) (w : Width) (n : ℕ) → HoldsOrIndefinite w n → AreBytes (head m w n)
 head_bytes m w n h = argument_bytes w (major_number m) n (small_major m) h
 
-room : (w : Width) (n : ℕ) → Holds w n → HasRoom w n
-room Direct n h = h
-room _ n h = tt
-
-open_room : (w : Width) (n : ℕ) → HoldsOrIndefinite w n → HasRoom w n
-open_room Direct n h = h
-open_room _ n h = tt
-
-closer_bytes : (w : Width) → AreBytes (break_of w)
-closer_bytes Indefinite = (omega arith, tt)
-closer_bytes _ = tt
+break_bytes : (w : Width) → AreBytes (break_of w)
+break_bytes Indefinite = (omega arith, tt)
+break_bytes _ = tt
 
 -- ---- items
 
@@ -61,48 +49,35 @@ chunks_are_bytes : (m : Major) (cs : List Chunk) → AllByRecursion IsChunk cs �
 chunks_are_bytes m [] h = tt
 chunks_are_bytes m (c ∷ cs) h =
     bytes_join (chunk_bytes m c) (flat_map (chunk_bytes m) cs)
-    (bytes_join (head m c.width (length c.payload)) c.payload (head_bytes m c.width (length c.payload) (room c.width (length c.payload) h.0.0)) h.0.1)
+    (bytes_join (head m c.width (length c.payload)) c.payload (head_bytes m c.width (length c.payload) (holds_or_open c.width (length c.payload) h.0.0)) h.0.1)
     (chunks_are_bytes m cs h.1)
 
-chunked_bytes : (m : Major) (cs : List Chunk) → AllByRecursion IsChunk cs → AreBytes ((head m Indefinite 0 ++ flat_map (chunk_bytes m) cs) ++ 0xff ∷ [])
-chunked_bytes m cs h =
-    bytes_join (head m Indefinite 0 ++ flat_map (chunk_bytes m) cs) (0xff ∷ [])
-    (bytes_join (head m Indefinite 0) (flat_map (chunk_bytes m) cs) (head_bytes m Indefinite 0 tt) (chunks_are_bytes m cs h))
-    (omega arith, tt)
-
-string_bytes : (m : Major) (w : Width) (q : List ℕ) → Holds w (length q) → AreBytes q → AreBytes (head m w (length q) ++ q)
-string_bytes m w q h g = bytes_join (head m w (length q)) q (head_bytes m w (length q) (room w (length q) h)) g
+-- its head, and what stands behind it
+joined_bytes : (s : Spelling) → IsSpelled s → AreBytes (body s) → AreBytes (spell s)
+joined_bytes s h b = subst AreBytes (sym (parts s)) (bytes_join (head_of s) (body s) (head_bytes (major s) (width s) (count s) (holds_of s h)) b)
 
 mutual
-  spelled_bytes : (s : Spelling) → IsSpelled s → AreBytes (spell s)
-  spelled_bytes (unsigned w n) h = head_bytes Unsigned w n (room w n h)
-  spelled_bytes (negative w n) h = head_bytes Negative w n (room w n h)
-  spelled_bytes (bytes w q) h = string_bytes Bytes w q h.0 h.1
-  spelled_bytes (text w q) h = string_bytes Text w q h.0 h.1
-  spelled_bytes (byte_chunks cs) h = chunked_bytes Bytes cs h
-  spelled_bytes (text_chunks cs) h = chunked_bytes Text cs h
-  spelled_bytes (array w ss) h =
-      bytes_join (head Array w (spellings_count ss) ++ spell_all ss) (break_of w)
-      (bytes_join (head Array w (spellings_count ss)) (spell_all ss) (head_bytes Array w (spellings_count ss) (open_room w (spellings_count ss) h.0)) (spelled_all_bytes ss h.1))
-      (closer_bytes w)
-  spelled_bytes (a_map w es) h =
-      bytes_join (head Map w (entries_count es) ++ spell_entries es) (break_of w)
-      (bytes_join (head Map w (entries_count es)) (spell_entries es) (head_bytes Map w (entries_count es) (open_room w (entries_count es) h.0)) (spelled_entries_bytes es h.1))
-      (closer_bytes w)
-  spelled_bytes (tag w n s) h = bytes_join (head Tag w n) (spell s) (head_bytes Tag w n (room w n h.0)) (spelled_bytes s h.1)
-  spelled_bytes (simple n) h = head_bytes Simple (shortest n) n (open_room (shortest n) n (holds_of (simple n) h))
+  body_bytes : (s : Spelling) → IsSpelled s → AreBytes (body s)
+  body_bytes (bytes w q) h = h.1
+  body_bytes (text w q) h = h.1
+  body_bytes (byte_chunks cs) h = bytes_join (flat_map (chunk_bytes Bytes) cs) (0xff ∷ []) (chunks_are_bytes Bytes cs h) (omega arith, tt)
+  body_bytes (text_chunks cs) h = bytes_join (flat_map (chunk_bytes Text) cs) (0xff ∷ []) (chunks_are_bytes Text cs h) (omega arith, tt)
+  body_bytes (array w ss) h = bytes_join (spell_all ss) (break_of w) (all_bytes ss h.1) (break_bytes w)
+  body_bytes (a_map w es) h = bytes_join (spell_entries es) (break_of w) (entries_bytes es h.1) (break_bytes w)
+  body_bytes (tag w n s) h = joined_bytes s h.1 (body_bytes s h.1)
+  body_bytes _ h = tt
 
-  spelled_all_bytes : (ss : Spellings) → AreSpelled ss → AreBytes (spell_all ss)
-  spelled_all_bytes no_spellings h = tt
-  spelled_all_bytes (a_spelling s ss) h = bytes_join (spell s) (spell_all ss) (spelled_bytes s h.0) (spelled_all_bytes ss h.1)
+  all_bytes : (ss : Spellings) → AreSpelled ss → AreBytes (spell_all ss)
+  all_bytes no_spellings h = tt
+  all_bytes (a_spelling s ss) h = bytes_join (spell s) (spell_all ss) (joined_bytes s h.0 (body_bytes s h.0)) (all_bytes ss h.1)
 
-  spelled_entries_bytes : (es : SpelledEntries) → AreEntriesSpelled es → AreBytes (spell_entries es)
-  spelled_entries_bytes no_entries h = tt
-  spelled_entries_bytes (entry k v es) h =
-      bytes_join (spell k ++ spell v) (spell_entries es) (bytes_join (spell k) (spell v) (spelled_bytes k h.0) (spelled_bytes v h.1)) (spelled_entries_bytes es h.2)
+  entries_bytes : (es : SpelledEntries) → AreEntriesSpelled es → AreBytes (spell_entries es)
+  entries_bytes no_entries h = tt
+  entries_bytes (entry k v es) h =
+      bytes_join (spell k ++ spell v) (spell_entries es) (bytes_join (spell k) (spell v) (joined_bytes k h.0 (body_bytes k h.0)) (joined_bytes v h.1 (body_bytes v h.1))) (entries_bytes es h.2)
 
 pub beginning_bytes : (d : ℕ) (p : List ℕ) → IsBeginning d p → AreBytes p
-beginning_bytes d p b = bytes_front p b.1 (subst AreBytes b.2.bytes_are (spelled_bytes b.0 b.2.spelled))
+beginning_bytes d p b = bytes_front p b.1 (subst AreBytes b.2.bytes_are (joined_bytes b.0 b.2.spelled (body_bytes b.0 b.2.spelled)))
 
 -- ---- the longest beginning, whatever the input has
 

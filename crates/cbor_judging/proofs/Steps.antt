@@ -28,7 +28,7 @@ use Rattle.cbor_steps.specs.declared.position.Position.TheVariants as positions
 use Rattle.cbor_standing.proofs.Positions.{position-done}
 use Rattle.cbor_automaton.proofs.Runs.{once-marks}
 use Rattle.cbor_automaton.proofs.Taking.{IsClear, mark-taken}
-use Rattle.cbor_judging.specs.Reading.{state_at, IsAt, IsReached, OfMark, IsHeadDue, IsNextHead, IsCutHead, StopsHead, IsFault}
+use Rattle.cbor_judging.specs.Reading.{state_at, IsAt, IsReached, OfMark, IsHeadDue, IsNextHead, IsCutHead, StopsHead, IsFault, IsFormRefusal}
 use Rattle.cbor_judging.proofs.Places.{place_of, state-back, one-place, clear-at, taking-at}
 use Rattle.cbor_grammar.proofs.ByteLists.{bytes_back}
 use Rattle.cbor_standing.proofs.NextEvents.{whole-clear, run-rest}
@@ -198,6 +198,18 @@ module _ (b : Bounds) (old new : ItemEventsView) (t : List ℕ) (q : Place) (fro
   silent : (m : MachineView) (bs : List ℕ) → m.depth ≡ now.depth → StandsFor m (t ++ bs) a.marks → run b.depth (state_at q) bs ≡ reached (state_of m.inner.position m.inner.frames) []
   silent m bs e s = since b old m t bs q [] a (e ∙ deep) (s.inner.ran ∙ ap (λ (ms : List Mark). reached (state_of m.inner.position m.inner.frames) ms) (sym (append-nil a.marks)))
 
+  cut-at : (m : MachineView) (p last bytes : List ℕ) → m.depth ≡ now.depth → StandsFor m (t ++ p) a.marks → bytes ≡ p ++ last → f.place ≡ length (t ++ p) → IsFormRefusal b (t ++ bytes) to f → IsCutHead b q t bytes to f
+  cut-at m p last bytes e s splits place why = record {
+    p = p;
+    last = last;
+    splits = splits;
+    are_bytes = bytes_back t p s.are_bytes;
+    begun = state_of m.inner.position m.inner.frames;
+    ran = silent m p e s;
+    place = place;
+    refused = why;
+  }
+
   pub stops-cut : IsCut f (call old new from to t a.marks) → Stops b q t from to f
   stops-cut c =
       let place : f.place ≡ length (t ++ c.bytes) = ap (λ (x : Refusal). x.place) c.is in
@@ -206,16 +218,8 @@ module _ (b : Bounds) (old new : ItemEventsView) (t : List ℕ) (q : Place) (fro
         bytes = c.bytes;
         consumed = c.consumed;
         read = read;
-        cut = record {
-          p = c.bytes;
-          last = [];
-          splits = sym (append-nil c.bytes);
-          are_bytes = bytes_back t c.bytes c.stands.are_bytes;
-          begun = state_of now.inner.position now.inner.frames;
-          ran = silent now c.bytes refl c.stands;
-          place = place;
-          refused = inr (verdict-within b now.depth now.bytes (t ++ c.bytes) _ deep most c.verdict, place ∙ sym read, c.reason);
-        };
+        cut = cut-at now c.bytes [] c.bytes refl c.stands (sym (append-nil c.bytes)) place
+            (inr (verdict-within b now.depth now.bytes (t ++ c.bytes) _ deep most c.verdict, place ∙ sym read, c.reason));
       }
 
   pub stops-full : IsTooLong f (call old new from to t a.marks) → Stops b q t from to f
@@ -224,16 +228,8 @@ module _ (b : Bounds) (old new : ItemEventsView) (t : List ℕ) (q : Place) (fro
         bytes = c.bytes;
         consumed = c.consumed;
         read = ap (λ (x : Refusal). x.read) c.is ∙ sym c.full;
-        cut = record {
-          p = c.bytes;
-          last = [];
-          splits = sym (append-nil c.bytes);
-          are_bytes = bytes_back t c.bytes c.stands.are_bytes;
-          begun = state_of now.inner.position now.inner.frames;
-          ran = silent (before now (length (t ++ c.bytes))) c.bytes refl c.stands;
-          place = ap (λ (x : Refusal). x.place) c.is ∙ sym c.full;
-          refused = inl (λ more. verdict-within b now.depth now.bytes ((t ++ c.bytes) ++ more) f deep most (c.verdict more));
-        };
+        cut = cut-at (before now (length (t ++ c.bytes))) c.bytes [] c.bytes refl c.stands (sym (append-nil c.bytes)) (ap (λ (x : Refusal). x.place) c.is ∙ sym c.full)
+            (inl (λ more. verdict-within b now.depth now.bytes ((t ++ c.bytes) ++ more) f deep most (c.verdict more)));
       }
 
   pub stops-error : HasFormError f (call old new from to t a.marks) → Stops b q t from to f
@@ -243,16 +239,8 @@ module _ (b : Bounds) (old new : ItemEventsView) (t : List ℕ) (q : Place) (fro
         bytes = c.bytes ++ c.byte ∷ [];
         consumed = c.consumed;
         read = ap (λ (x : Refusal). x.read) c.is ∙ sym (ap length all ∙ length-append (t ++ c.bytes) (c.byte ∷ []));
-        cut = record {
-          p = c.bytes;
-          last = c.byte ∷ [];
-          splits = refl;
-          are_bytes = bytes_back t c.bytes c.stands.are_bytes;
-          begun = state_of now.inner.position now.inner.frames;
-          ran = silent (before now (length (t ++ c.bytes))) c.bytes refl c.stands;
-          place = ap (λ (x : Refusal). x.place) c.is;
-          refused = inl (λ more. subst (λ (xs : List ℕ). IsVerdict b form (xs ++ more) (refused f)) (sym all) (verdict-within b now.depth now.bytes (((t ++ c.bytes) ++ c.byte ∷ []) ++ more) f deep most (c.verdict more)));
-        };
+        cut = cut-at (before now (length (t ++ c.bytes))) c.bytes (c.byte ∷ []) (c.bytes ++ c.byte ∷ []) refl c.stands refl (ap (λ (x : Refusal). x.place) c.is)
+            (inl (λ more. subst (λ (xs : List ℕ). IsVerdict b form (xs ++ more) (refused f)) (sym all) (verdict-within b now.depth now.bytes (((t ++ c.bytes) ++ c.byte ∷ []) ++ more) f deep most (c.verdict more))));
       }
 
   pub stops : IsCut f (call old new from to t a.marks) ⊎ IsTooLong f (call old new from to t a.marks) ⊎ HasFormError f (call old new from to t a.marks) → Stops b q t from to f

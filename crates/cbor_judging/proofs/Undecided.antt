@@ -1,16 +1,13 @@
 -- Where memory is refused: all but the last byte taken tells nothing against the item.
-use Rattle.std.proofs.Common.{ℕ, ◌-◌, ◌≡◌, ◌<◌, ◌≤◌, Option, List, [], ◌∷◌, ◌++◌, length, refl, sym, ap, ◌∙◌, append_assoc, arith, subst, length-append}
-use Rattle.cbor_head.specs.Prelude.{Bounds, Value, AreBytes, head, simple, spell, Rules}
-use Rattle.cbor_head.specs.declared.major.Major.{Major}
-use Rattle.cbor_head.specs.declared.major.Major.TheVariants as majors
-use Rattle.cbor_head.specs.declared.width.Width.{Width}
+use Rattle.std.proofs.Common.{ℕ, ◌-◌, ◌≡◌, ◌<◌, ◌≤◌, Option, List, [], ◌∷◌, ◌++◌, length, refl, ap, ◌∙◌, append_assoc, arith, subst, length-append}
+use Rattle.cbor_head.specs.Prelude.{Bounds, Value, AreBytes, spell, Rules}
 use Rattle.cbor_grammar.proofs.Agree.{body, parts}
 use Rattle.cbor_grammar.proofs.ReadLaws.{length_spell}
-use Rattle.cbor_judging.specs.Place.{Container, Place, Follows}
+use Rattle.cbor_judging.specs.Place.{Container}
 use Rattle.cbor_standing.specs.NextEvent.{ItemEventsView}
 use Rattle.cbor_grammar.proofs.ByteLists.{bytes_front}
-use Rattle.cbor_judging.proofs.Heads.{Headed, headed}
-use Rattle.cbor_judging.proofs.Items.{IsDefinite}
+use Rattle.cbor_judging.proofs.Heads.{Headed}
+pub use Rattle.cbor_judging.proofs.Items.{head-item}
 use Rattle.cbor_judging.proofs.Judged.{judged_head}
 use Rattle.cbor_judging.specs.Reading.{IsUndecided, IsPart, ReadsItem}
 
@@ -60,16 +57,6 @@ is-part n bytes some most h =
     }
 
 -- ---- a head
-
-pub head-item : (d : ℕ) (fs : List Container) (m : Major) (w : Width) (n : ℕ) (x : List ℕ) (next : Place) → IsDefinite d fs m w n x next → Headed (d - length fs) (head m w n)
-head-item d fs m w n x next i = go m i.follows
-  where
-    go : (m : Major) → Follows d fs m w n next → Headed (d - length fs) (head m w n)
-    go majors.Array f = headed (d - length fs) majors.Array w n tt i.holds (omega (arith, f.0))
-    go majors.Map f = headed (d - length fs) majors.Map w n tt i.holds (omega (arith, f.0))
-    go majors.Tag f = headed (d - length fs) majors.Tag w n tt i.holds (omega (arith, f.0))
-    go majors.Simple f = record { item = simple n; spelled = f.0; within = omega arith; head_is = ap (λ (v : Width). head majors.Simple v n) (sym f.1) }
-    go m f = headed (d - length fs) m w n tt i.holds (omega arith)
 
 pub head-undecided : (r : Rules) (b : Bounds) (fs : List Container) (t x : List ℕ) → Headed (b.depth - length fs) x → 0 < length x → IsUndecided r b fs t x
 head-undecided r b fs t x h some =

@@ -1,7 +1,7 @@
 -- Strings of one piece.
-use Rattle.std.proofs.Common.{◌≡◌, ℕ, ◌+◌, ◌-◌, ◌<◌, ◌≤◌, Bool, true, false, Option, Some, None, List, [], ◌++◌, length, replicate, refl, sym, ap, ◌∙◌, subst, inl, inr, arith, append_assoc, append-nil, IsTrue, IsUtf8, length-append}
+use Rattle.std.proofs.Common.{◌≡◌, ℕ, ◌+◌, ◌-◌, ◌<◌, ◌≤◌, Bool, true, false, Option, Some, None, List, [], ◌++◌, length, refl, sym, ap, ◌∙◌, subst, inl, inr, arith, append_assoc, append-nil, IsTrue, IsUtf8, length-append}
 use Rattle.std.specs.Str.Lossy.{utf8_valid_len}
-use Rattle.cbor_head.specs.Prelude.{Holds, head, Bounds, AreBytes, Spelling, bytes, text as a_text, spell, IsSpelled, depth, value_of, Rules, Complaint, complaint, OfHead, OfPayload, Complains, refusal}
+use Rattle.cbor_head.specs.Prelude.{Holds, head, Bounds, AreBytes, spell, Rules, Complaint, complaint, OfHead, OfPayload, Complains, refusal}
 use Rattle.cbor_head.specs.declared.major.Major.TheVariants as majors
 use Rattle.cbor_head.specs.declared.width.Width.{Width}
 use Rattle.cbor_head.specs.declared.reason.Refusal.{Refusal}
@@ -12,9 +12,9 @@ use Rattle.cbor_judging.specs.Judged.{IsJudged, Never}
 use Rattle.cbor_judging.specs.Reading.{IsAt, IsFormRefusal, IsNoText, IsBegun, ReadsItem, StopsItem, HasCause, ReadsPayload, StopsPayload, string_major, string_kind, string_value}
 use Rattle.cbor_judging.proofs.Items.{definite, proper-definite, is-definite, head-count}
 use Rattle.cbor_judging.proofs.Scalars.{at-as}
-use Rattle.cbor_judging.proofs.Heads.{zero_bytes, zero_length}
-use Rattle.cbor_judging.proofs.Leaves.{bytes_so_far, text_so_far, text_complains}
-use Rattle.cbor_grammar.proofs.ByteLists.{bytes_join}
+use Rattle.cbor_judging.proofs.CutHeads.{string_cut}
+use Rattle.cbor_judging.proofs.Leaves.{text_complains}
+pub use Rattle.cbor_judging.proofs.Leaves.{made_of, made-spells, made-spelled, made-flat, made-value, so-far}
 use Rattle.cbor_judging.proofs.Steps.{reached-as}
 
 pub is-text : (r : Rules) (at : ℕ) (q : List ℕ) (c : Complaint) → IsUtf8 q → OfPayload r at q c → ⊥
@@ -37,34 +37,9 @@ string-head r b fs t x e w false n i =
     let f = definite b.depth fs majors.Bytes w n x i.next (proper-definite w i.proper) i.taking in
     record { bytes_are = f.bytes_are; holds = f.holds; follows = f.follows; clean = λ c h. i.clean c (head-count r (length t) majors.Bytes w n c (is-definite w n f.holds) h) }
 
-abbrev pub made_of : Bool → Width → List ℕ → Spelling
-made_of true w q = a_text w q
-made_of false w q = bytes w q
-
-pub made-spells : (text : Bool) (w : Width) (q : List ℕ) → spell (made_of text w q) ≡ head (string_major text) w (length q) ++ q
-made-spells true w q = refl
-made-spells false w q = refl
-
-pub made-spelled : (text : Bool) (w : Width) (q : List ℕ) → Holds w (length q) → AreBytes q → IsSpelled (made_of text w q)
-made-spelled true w q h g = (h, g)
-made-spelled false w q h g = (h, g)
-
-pub made-flat : (text : Bool) (w : Width) (q : List ℕ) → depth (made_of text w q) ≡ 0
-made-flat true w q = refl
-made-flat false w q = refl
-
-pub made-value : (text : Bool) (w : Width) (q : List ℕ) → value_of (made_of text w q) ≡ string_value text q
-made-value true w q = refl
-made-value false w q = refl
-
 pub made-clean : (text : Bool) (w : Width) (q : List ℕ) (r : Rules) (at : ℕ) → Never (OfHead r at (string_major text) w (length q)) → (text ≡ true → IsUtf8 q) → Never (Complains r at (made_of text w q))
 made-clean true w q r at h u c g = elim g [ inl y ↦ h c y | inr y ↦ is-text r (at + length (head majors.Text w (length q))) q c (u refl) y ]
 made-clean false w q r at h u c g = h c g
-
-pub so-far : (text : Bool) (w : Width) (q more : List ℕ) (r : Rules) (at d : ℕ) → Holds w (length (q ++ more)) → AreBytes (q ++ more) → 0 < length more → Never (OfHead r at (string_major text) w (length (q ++ more)))
-    → IsJudged r at d (head (string_major text) w (length (q ++ more)) ++ q) None
-so-far true w q more r at d h g some clean = text_so_far w q more r at d (h, g) some clean
-so-far false w q more r at d h g some clean = bytes_so_far w q more r at d (h, g) some clean
 
 text-judged : (r : Rules) (b : Bounds) (fs : List Container) (t x : List ℕ) (w : Width) (n : ℕ) (next : Place) (to : Option (List ℕ)) (f : Refusal) → IsTrue r.texts → StringHead r b fs t x w true n next
     → (q : List ℕ) → IsNoText b (t ++ x) n q f → HasCause r b fs t (x ++ q) to f
@@ -82,10 +57,6 @@ text-judged r b fs t x w n next to f looks h q y =
           (text_complains w q r (length t) (b.depth - length fs) c (subst (Holds w) (sym y.count) h.holds, y.are_bytes) (subst (λ (k : ℕ). Never (OfHead r (length t) majors.Text w k)) (sym y.count) h.clean) (looks, y.no_text, refl));
       cause = (y.is ∙ ap (λ (k : ℕ). refusal InvalidText (k + utf8_valid_len q) (k + length q)) there, subst (λ (u : List ℕ). length u ≤ b.bytes) (append_assoc t x q) y.within);
     }
-
-no-text : (r : Rules) (b : Bounds) (fs : List Container) (t x : List ℕ) (w : Width) (text : Bool) (n : ℕ) (next : Place) (to : Option (List ℕ)) (f : Refusal) → IsTrue r.texts → StringHead r b fs t x w text n next → text ≡ true
-    → (q : List ℕ) → IsNoText b (t ++ x) n q f → HasCause r b fs t (x ++ q) to f
-no-text r b fs t x w text n next to f looks h e q y = text-judged r b fs t x w n next to f looks (subst (λ (v : Bool). StringHead r b fs t x w v n next) e h) q y
 
 module _ (r : Rules) (b : Bounds) (fs : List Container) (t x : List ℕ) (e : ItemEventsView) (w : Width) (text : Bool) (n : ℕ) (i : IsBegun r b fs t x e w (string_kind text (Some n))) where
   head-is : StringHead r b fs t x w text n i.next
@@ -116,12 +87,8 @@ module _ (r : Rules) (b : Bounds) (fs : List Container) (t x : List ℕ) (e : It
   -- a part of the payload has come
   string-part : (p : List ℕ) → length p < n → AreBytes p → IsJudged r (length t) (b.depth - length fs) (x ++ p) None
   string-part p short are_bytes =
-      let more : List ℕ = replicate (n - length p) 0 in
-      let same : length (p ++ more) ≡ n = omega (arith, length-append p more, zero_length (n - length p), short) in
-      let head_as : x ≡ head (string_major text) w (length (p ++ more)) = head-is.bytes_are ∙ ap (head (string_major text) w) (sym same) in
-      subst (λ (u : List ℕ). IsJudged r (length t) (b.depth - length fs) (u ++ p) None) (sym head_as)
-      (so-far text w p more r (length t) (b.depth - length fs) (subst (Holds w) (sym same) head-is.holds) (bytes_join p more are_bytes (zero_bytes (n - length p))) (omega (arith, zero_length (n - length p), short))
-      (subst (λ (k : ℕ). Never (OfHead r (length t) (string_major text) w k)) (sym same) head-is.clean))
+      subst (λ (u : List ℕ). IsJudged r (length t) (b.depth - length fs) (u ++ p) None) (sym head-is.bytes_are)
+      (string_cut w n p head-is.holds are_bytes short r (length t) (b.depth - length fs) text head-is.clean)
 
   pub stops-string : IsTrue r.texts → (from to : Option (List ℕ)) (f : Refusal) → StopsPayload b (t ++ x) n text from to f → StopsItem r b fs t x from to f
   stops-string looks from to f s = record {
@@ -143,6 +110,6 @@ module _ (r : Rules) (b : Bounds) (fs : List Container) (t x : List ℕ) (e : It
             judged = string-part c.p c.short c.are_bytes;
             cause = (c.place ∙ ap length (append_assoc t x c.p), subst (λ (u : List ℕ). IsFormRefusal b u to f) (append_assoc t x s.bytes) c.refused);
           })
-      | inr (inr y) ↦ inr (no-text r b fs t x w text n i.next to f looks head-is y.0 s.bytes y.1)
+      | inr (inr y) ↦ inr (text-judged r b fs t x w n i.next to f looks (subst (λ (v : Bool). StringHead r b fs t x w v n i.next) y.0 head-is) s.bytes y.1)
     ];
   }

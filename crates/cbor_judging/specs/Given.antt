@@ -28,15 +28,7 @@ opens o (l ∷ ls) = level_open o l ∷ opens o ls
 -- the pairs of a map of which all was given; of another container nothing
 abbrev pub full_open : KeyOrder → Spelling → Open
 full_open o (spelling.a_map w es) = a_map (canonical_entries o (entries_of es))
-full_open o (spelling.array w ss) = a_plain []
-full_open o (spelling.tag w n s) = a_plain []
-full_open o (spelling.unsigned w n) = a_plain []
-full_open o (spelling.negative w n) = a_plain []
-full_open o (spelling.bytes w bs) = a_plain []
-full_open o (spelling.text w bs) = a_plain []
-full_open o (spelling.byte_chunks cs) = a_plain []
-full_open o (spelling.text_chunks cs) = a_plain []
-full_open o (spelling.simple n) = a_plain []
+full_open o _ = a_plain []
 
 -- ---- where a builder stands
 

@@ -8,7 +8,7 @@ use Rattle.cbor_head.specs.declared.reason.Refusal.{Refusal}
 use Rattle.cbor_head.specs.declared.major.Major.{Major}
 use Rattle.cbor_head.specs.declared.width.Width.{Width}
 use Rattle.cbor_automaton.specs.Trace.{Mark, a_byte, total}
-use Rattle.cbor_automaton.specs.Automaton.{Frame, State, start, in_head, in_simple, in_payload, done, run, Outcome, refused, reached, telling}
+use Rattle.cbor_automaton.specs.Automaton.{Frame, State, start, in_head, in_simple, in_payload, done, run, Outcome, reached}
 use Rattle.cbor_automaton.specs.Marks.{mark_of, marks_of}
 use Rattle.cbor_steps.specs.State.{wanted_at, state_of, is_in_payload, is_done}
 use Rattle.cbor_standing.specs.inner.Machine.{IsShown}
@@ -27,11 +27,12 @@ use Rattle.cbor_steps.specs.declared.position.Position.{Position}
 use Rattle.cbor_steps.specs.declared.position.Position.TheVariants as positions
 use Rattle.cbor_automaton.proofs.Forward.{telling_all}
 use Rattle.cbor_automaton.proofs.Beginnings.{onwards, run-append}
-use Rattle.cbor_automaton.proofs.Events.{pending, IsSane}
+use Rattle.cbor_automaton.proofs.Events.{pending, IsSane, clear-pending}
+use Rattle.cbor_automaton.proofs.Joining.{bytes-total}
 use Rattle.cbor_automaton.proofs.Runs.{tiles, sane-run}
 use Rattle.cbor_grammar.proofs.ByteLists.{bytes_join, bytes_back}
 use Rattle.cbor_standing.proofs.Positions.{position-done}
-use Rattle.cbor_automaton.proofs.Taking.{IsClear, IsWithin, mark-taken, nothing-taken, first-mark}
+use Rattle.cbor_automaton.proofs.Taking.{IsClear, IsWithin, mark-taken, nothing-taken, first-mark, tells-first}
 
 -- ---- between events no head is open
 
@@ -47,13 +48,9 @@ whole-clear d t q ms e whole =
 
 -- ---- what a run goes on with
 
-untell-one : (m : Mark) (o : Outcome) (q : State) (ns : List Mark) → telling m o ≡ reached q (m ∷ ns) → o ≡ reached q ns
-untell-one m (refused r) q ns e = cc
-untell-one m (reached t ms) q ns e = cc
-
 untell : (ms ns : List Mark) (o : Outcome) (q : State) → telling_all ms o ≡ reached q (ms ++ ns) → o ≡ reached q ns
 untell [] ns o q e = e
-untell (m ∷ ms) ns o q e = untell ms ns o q (untell-one m (telling_all ms o) q (ms ++ ns) e)
+untell (m ∷ ms) ns o q e = untell ms ns o q ((tells-first m m (telling_all ms o) q (ms ++ ns) e).1)
 
 pub run-rest : (d : ℕ) (t bs : List ℕ) (q u : State) (ms ns : List Mark) → run d start t ≡ reached q ms → run d start (t ++ bs) ≡ reached u (ms ++ ns) → run d q bs ≡ reached u ns
 unfolding onwards
@@ -94,21 +91,11 @@ other-open d _ fs m bs u o h = (refl, refl)
 
 -- ---- the bytes of one event
 
-total-bytes : (n : ℕ) → total (replicate n a_byte) ≡ n
-total-bytes zero = refl
-total-bytes (suc n) = omega (arith, total-bytes n)
-
-clear-sane : (q : State) → IsClear q → IsSane q × (pending q ≡ 0)
-clear-sane (in_head chunk m w k acc fs) h = absurd h
-clear-sane (in_simple fs) h = absurd h
-clear-sane _ h = (tt, refl)
-
 -- from one end of an event to another the marks have as many bytes as there are
 clear-total : (d : ℕ) (bs : List ℕ) (q u : State) (ms : List Mark) → IsClear q → IsClear u → run d q bs ≡ reached u ms → total ms ≡ length bs
 clear-total d bs q u ms h k e =
-    let from = clear-sane q h in
-    let to = clear-sane u k in
-    omega (arith, tiles d bs q u ms from.0 e, from.1, to.1)
+    let from = clear-pending q h in
+    omega (arith, tiles d bs q u ms from.1 e, from.0, (clear-pending u k).0)
 
 pub run-joined : (d : ℕ) (pre last : List ℕ) (q r u : State) (ms : List Mark) → run d q pre ≡ reached r [] → run d r last ≡ reached u ms → run d q (pre ++ last) ≡ reached u ms
 unfolding onwards
@@ -142,7 +129,7 @@ module _ (d : ℕ) (position : Position) (fs : List frames.Frame) (r u : State) 
       let none = clear-total d (pre ++ last) q u [] from to (run-joined d pre last q r u [] e f) in
       absurd (omega (arith, none, length-append pre last))
   piece-known (suc n) f =
-      let size = sym (clear-total d (pre ++ last) q u (replicate (suc n) a_byte) from to (run-joined d pre last q r u (replicate (suc n) a_byte) e f)) ∙ total-bytes (suc n) in
+      let size = sym (clear-total d (pre ++ last) q u (replicate (suc n) a_byte) from to (run-joined d pre last q r u (replicate (suc n) a_byte) e f)) ∙ bytes-total (suc n) in
       let only = alone d q r u pre last (replicate n a_byte) from b c e f in
       let same : pre ++ last ≡ last = ap (λ xs. xs ++ last) only.0 in
       let long : length last ≡ suc n = sym (ap length same) ∙ size in

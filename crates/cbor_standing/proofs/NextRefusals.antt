@@ -20,7 +20,7 @@ use Rattle.cbor_automaton.proofs.Refusals.{IsUnfinished, refuses-rightly}
 use Rattle.cbor_grammar.proofs.Verdicts.{item_one}
 use Rattle.cbor_automaton.proofs.Runs.{run-on, silent-unfinished, sane-run}
 use Rattle.cbor_standing.proofs.Standing.{meant, not-whole, shown-before, shown-after, unfinished-position}
-use Rattle.cbor_grammar.proofs.ByteLists.{bytes_join}
+use Rattle.cbor_grammar.proofs.ByteLists.{bytes_join, bytes_front, bytes_back}
 use Rattle.cbor_standing.proofs.Form.{never, refusal-verdict}
 
 -- a beginning that is the whole input, within the limit, and no item
@@ -139,8 +139,8 @@ module _ (f : Refusal) (c : Call) (mid_from : Option (List ℕ)) (mid : MachineV
 
   misplaced : Stopped mid new last f → HasFormError f c
   misplaced s =
-      let small = parts s.front s.byte (subst AreBytes s.splits bytes) in
-      let b = beyond s.front small.0 s.ran in
+      let small = subst AreBytes s.splits bytes in
+      let b = beyond s.front (bytes_front s.front (s.byte ∷ []) small) s.ran in
       let all : r.bytes ++ last ≡ (r.bytes ++ s.front) ++ s.byte ∷ [] = ap (λ xs. r.bytes ++ xs) s.splits ∙ sym (append_assoc r.bytes s.front (s.byte ∷ [])) in
       let here : (t ++ (r.bytes ++ s.front)) ++ s.byte ∷ [] ≡ (t ++ r.bytes) ++ last =
       append_assoc t (r.bytes ++ s.front) (s.byte ∷ []) ∙ ap (λ xs. t ++ xs) (sym all) ∙ sym (append_assoc t r.bytes last) in
@@ -150,15 +150,11 @@ module _ (f : Refusal) (c : Call) (mid_from : Option (List ℕ)) (mid : MachineV
         byte = s.byte;
         consumed = subst (Consumes c.held c.left) all lost;
         is = s.is ∙ ap (λ n. refusal f.reason n (n + 1)) (taken-there s.front);
-        misplaced = (refuses-rightly new.depth (t ++ (r.bytes ++ s.front)) q ms s.byte f.reason b.2 small.1 b.0 b.1 (ap (λ d. take_byte d q s.byte) depth ∙ s.refuses)).0;
+        misplaced = (refuses-rightly new.depth (t ++ (r.bytes ++ s.front)) q ms s.byte f.reason b.2 ((bytes_back s.front (s.byte ∷ []) small).0) b.0 b.1 (ap (λ d. take_byte d q s.byte) depth ∙ s.refuses)).0;
         verdict = λ more. judged ((t ++ (r.bytes ++ s.front)) ++ s.byte ∷ []) more here;
         stands = stood s.front within b.0 b.1 b.2;
         unfinished = not-whole new.depth (t ++ (r.bytes ++ s.front)) q ms b.0 b.1;
       }
-    where
-      parts : (xs : List ℕ) (c : ℕ) → AreBytes (xs ++ c ∷ []) → AreBytes xs × (c < 256)
-      parts [] c h = (tt, h.0)
-      parts (x ∷ xs) c h = let p = parts xs c h.1 in ((h.0, p.0), p.1)
 
   pub stopped-here : IsStep (outs.Refused f) mid new last → IsTooLong f c ⊎ HasFormError f c
   stopped-here s = go s.1

@@ -1,5 +1,5 @@
 -- What a machine stands for, after each kind of step.
-use Rattle.std.proofs.Common.{◌≡◌, ◌⊎◌, ℕ, ◌+◌, ◌-◌, ◌≤◌, ◌<◌, List, [], ◌∷◌, ◌++◌, length, take, drop, None, refl, ap, sym, ◌∙◌, arith, append-nil, append_assoc, subst, inl, inr, length-append, length-take, take-take}
+use Rattle.std.proofs.Common.{◌≡◌, ◌⊎◌, ℕ, ◌+◌, ◌-◌, ◌≤◌, List, [], ◌∷◌, ◌++◌, length, take, drop, None, refl, ap, sym, ◌∙◌, arith, append-nil, append_assoc, subst, inl, inr, length-append, length-take, take-take}
 use Rattle.std.proofs.Math.Seq.{take-append_seam}
 use Rattle.cbor_head.specs.Prelude.{AreBytes, refusal}
 use Rattle.cbor_head.specs.declared.reason.Reason.TheVariants.{TooLong}
@@ -29,7 +29,7 @@ use Rattle.cbor_automaton.proofs.Events.{IsClear, clear-pending, pending}
 use Rattle.cbor_automaton.proofs.Longest.{longest}
 use Rattle.cbor_automaton.proofs.Tiling.{last-bytes}
 use Rattle.cbor_automaton.specs.Bytes.{IsEventBytes}
-use Rattle.cbor_grammar.proofs.ByteLists.{bytes_join}
+use Rattle.cbor_grammar.proofs.ByteLists.{bytes_join, bytes_front, bytes_back}
 pub use Rattle.cbor_grammar.proofs.ByteLists.{bytes_take}
 use Rattle.cbor_steps.proofs.Frames.{length_frames}
 use Rattle.cbor_standing.proofs.Positions.{position-done}
@@ -151,9 +151,6 @@ given old new e t bs ms h b depth sound bounded limited s =
           (last-bytes new.depth (state_of new.inner.position new.inner.frames) (t ++ bs) ms e.width e.kind bytes ran (settled-clear new.inner.position new.inner.frames s.4) s.5);
     }
 
-one-more : (p : List ℕ) (c : ℕ) → length (p ++ c ∷ []) ≡ length p + 1
-one-more p c = length-append p (c ∷ [])
-
 -- a byte is refused
 byte-refused : (old new : MachineView) (r : Refusal) (t bs : List ℕ) (ms : List Mark) → StandsFor old t ms → AreBytes bs → ¬ (old.inner.position ≡ Done) → new.depth ≡ old.depth → IsSound new → new.open_count ≤ new.depth
     → new.taken ≡ old.taken + length bs → new.taken ≤ new.bytes → new.told ≡ old.told → Stopped old new bs r → IsRefused r new t bs ms
@@ -162,17 +159,17 @@ byte-refused old new r t bs ms h b going depth sound bounded taken limit told s 
     let c = s.byte in
     let before_it = state_of old.inner.position old.inner.frames in
     let q = state_of new.inner.position new.inner.frames in
-    let small = parts front c (subst AreBytes s.splits b) in
+    let small = subst AreBytes s.splits b in
     let p = t ++ front in
     let began : run new.depth start t ≡ reached before_it ms = ap (λ d. run d start t) depth ∙ h.inner.ran in
     let walked : run new.depth before_it front ≡ reached q [] = ap (λ d. run d before_it front) depth ∙ s.ran in
     let refuses : take_byte new.depth q c ≡ automaton.refuses r.reason = ap (λ d. take_byte d q c) depth ∙ s.refuses in
     let ran : run new.depth start p ≡ reached q ms = run-on new.depth t front before_it q ms [] began walked ∙ ap (reached q) (append-nil ms) in
     let unfinished = silent-unfinished new.depth front before_it q (sane-run new.depth t start before_it ms tt began) (unfinished-position old.inner.position old.inner.frames going) walked in
-    let bytes : AreBytes p = bytes_join t front h.are_bytes small.0 in
+    let bytes : AreBytes p = bytes_join t front h.are_bytes (bytes_front front (c ∷ []) small) in
     let all : t ++ bs ≡ p ++ c ∷ [] = ap (λ xs. t ++ xs) s.splits ∙ sym (append_assoc t front (c ∷ [])) in
     let size : length (p ++ c ∷ []) ≡ new.taken = sym (ap length all) ∙ length-append t bs ∙ ap (λ n. n + length bs) (sym h.taken) ∙ sym taken in
-    let limited : length p ≤ new.bytes = omega (arith, one-more p c, size, limit) in
+    let limited : length p ≤ new.bytes = omega (arith, length-append p (c ∷ []), size, limit) in
     let place : old.taken + length front ≡ length p = ap (λ n. n + length front) h.taken ∙ sym (length-append t front) in
     let answer : r ≡ refusal r.reason (length p) (length p + 1) = s.is ∙ ap (λ n. refusal r.reason n (n + 1)) place in
     record {
@@ -185,16 +182,12 @@ byte-refused old new r t bs ms h b going depth sound bounded taken limit told s 
           let k = new.bytes in
           let rest = take (k - length (p ++ c ∷ [])) more in
           let cut : take k ((t ++ bs) ++ more) ≡ p ++ c ∷ rest = ap (λ xs. take k (xs ++ more)) all ∙ take-behind k (p ++ c ∷ []) more (omega arith) ∙ append_assoc p (c ∷ []) rest in
-          let l = longest new.depth p q ms c rest r.reason bytes small.1 ran refuses in
+          let l = longest new.depth p q ms c rest r.reason bytes ((bytes_back front (c ∷ []) small).0) ran refuses in
           record {
             longest = record { beginning = l.beginning; rest = c ∷ rest; splits = cut; longest = λ x y s e. l.longest x y s (sym cut ∙ e) };
-            error = (r.reason, (refuses-rightly new.depth p q ms c r.reason bytes small.1 ran unfinished refuses).1, answer);
+            error = (r.reason, (refuses-rightly new.depth p q ms c r.reason bytes ((bytes_back front (c ∷ []) small).0) ran unfinished refuses).1, answer);
           };
     }
-  where
-    parts : (xs : List ℕ) (c : ℕ) → AreBytes (xs ++ c ∷ []) → AreBytes xs × (c < 256)
-    parts [] c h = (tt, h.0)
-    parts (x ∷ xs) c h = let p = parts xs c h.1 in ((h.0, p.0), p.1)
 
 -- the limit is reached
 limit-refused : (old new : MachineView) (r : Refusal) (t bs : List ℕ) (ms : List Mark) → StandsFor old t ms → AreBytes bs → ¬ (old.inner.position ≡ Done) → new.depth ≡ old.depth → IsSound new → new.open_count ≤ new.depth

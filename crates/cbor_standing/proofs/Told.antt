@@ -1,6 +1,7 @@
 -- The events of a machine, joined, are those of the item that end within what it took.
 use Rattle.std.proofs.Common.{◌≡◌, ℕ, ◌+◌, List, [], ◌∷◌, ◌++◌, ◌≤◌, cond, length, drop, refl, sym, ap, ◌∙◌, subst, arith, append-nil}
 use Rattle.std.proofs.lemmas.Grind.{flat_map-append}
+use Rattle.std.proofs.Math.Seq.{drop-append_seam}
 use Rattle.cbor_head.specs.Prelude.{Spelling, IsItem}
 use Rattle.cbor_automaton.specs.Trace.{Mark, total, within}
 use Rattle.cbor_automaton.specs.Marks.{marks_of}
@@ -9,7 +10,7 @@ use Rattle.cbor_standing.specs.MachineView.{MachineView}
 use Rattle.cbor_standing.specs.Machine.{StandsFor, IsWhole, IsGiven}
 use Rattle.cbor_standing.specs.NextEvent.{Call, StandsBetween, IsNextEvent, IsEnd}
 use Rattle.cbor_automaton.specs.Bytes.{IsEventBytes}
-use Rattle.cbor_automaton.proofs.Events.{le-leb}
+use Rattle.std.proofs.lemmas.Bool.{le-leb}
 use Rattle.cbor_automaton.specs.declared.event.Event.{Event}
 use Rattle.cbor_automaton.proofs.Joining.{rejoin, joined-rejoin, cut-rejoin}
 use Rattle.cbor_automaton.proofs.Rows.{total-append, row-append, events-row}
@@ -36,15 +37,11 @@ told-joined m t ms es h told s rest i =
     ∙ cut-rejoin (events 0 s) 0 (length t) row.row row.apart
     ∙ ap (λ k. cut k (events 0 s)) here
 
-drop-front : (t bs : List ℕ) → drop (length t) (t ++ bs) ≡ bs
-drop-front [] bs = refl
-drop-front (c ∷ t) bs = drop-front t bs
-
 pub next-more : (c : Call) (es : List Event) (e : Event) → AreTold es c.told → StandsBetween c.old c.taken c.told → IsNextEvent e c → AreTold (es ++ e ∷ []) (c.told ++ marks_of e.width e.kind)
 next-more c es e told between h =
     let at : e.place ≡ total c.told = h.place ∙ sym between.whole in
     let bytes : IsEventBytes c.told e.width e.kind (drop e.place (c.taken ++ h.bytes)) =
-    subst (λ (bs : List ℕ). IsEventBytes c.told e.width e.kind bs) (sym (ap (λ k. drop k (c.taken ++ h.bytes)) h.place ∙ drop-front c.taken h.bytes)) h.are in
+    subst (λ (bs : List ℕ). IsEventBytes c.told e.width e.kind bs) (sym (ap (λ k. drop k (c.taken ++ h.bytes)) h.place ∙ drop-append_seam c.taken h.bytes)) h.are in
     told-more es c.told e c.new c.taken h.bytes told (record { stands = h.stands.stands; place = at; ends = h.stands.whole; bytes = bytes })
 
 -- events that end within n bytes are all there

@@ -4,7 +4,7 @@ use Rattle.std.proofs.lemmas.List.{reverse-append, length-reverse, length-map}
 use Rattle.std.proofs.Math.Nat.{pow-le-pow_right}
 use Rattle.cbor_steps.specs.State.{frame_of, frames_of, head_left, wanted_at, IsFit, IsNextFit, IsSettled, IsNextSettled, is_in_payload, is_done}
 use Rattle.cbor_steps.specs.declared.position.Position.{Position}
-use Rattle.cbor_steps.specs.declared.position.Position.TheVariants.{Item, Head, SimpleNumber, Payload, Chunks, Done}
+use Rattle.cbor_steps.specs.declared.position.Position.TheVariants.{Head, Payload, Done}
 use Rattle.cbor_steps.specs.declared.take_byte.Next.{Next}
 use Rattle.cbor_steps.specs.declared.take_byte.Next.TheVariants.{Refuses, Goes, Tells}
 use Rattle.cbor_steps.specs.declared.frame.Frame.{Frame}
@@ -45,17 +45,9 @@ next_settled_fit depth fs (Tells w kind position) h = settled_fit depth fs posit
 -- outside a payload what is open is a head
 pub wanted-head : (position : Position) → (is_in_payload position ≡ true → ⊥) → wanted_at position ≡ head_left position
 wanted-head (Payload chunk kind left) h = absurd (h refl)
-wanted-head Item h = refl
-wanted-head (Head chunk kind width left argument) h = refl
-wanted-head SimpleNumber h = refl
-wanted-head (Chunks kind) h = refl
-wanted-head Done h = refl
+wanted-head _ h = refl
 
 -- what goes on without an event goes on within the item
 pub still-going : (position : Position) (depth : ℕ) (fs : List Frame) → IsFit depth fs position → (IsSettled fs position → ⊥) → is_done position ≡ false
 still-going Done depth fs fit within = absurd (within fit)
-still-going Item depth fs fit within = refl
-still-going (Head chunk kind width left argument) depth fs fit within = refl
-still-going SimpleNumber depth fs fit within = refl
-still-going (Payload chunk kind left) depth fs fit within = refl
-still-going (Chunks kind) depth fs fit within = refl
+still-going _ depth fs fit within = refl

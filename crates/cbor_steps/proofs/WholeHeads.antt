@@ -3,7 +3,7 @@ use Rattle.std.proofs.Common.{◌≡◌, ℕ, suc, ◌+◌, ◌-◌, ◌*◌, �
 use Rattle.std.proofs.Math.Seq.{take-append_seam}
 use Rattle.std.specs.Int.{bytes_high_first}
 use Rattle.byteorder.specs.Numbers.{length-bytes_high_first}
-use Rattle.cbor_head.specs.Prelude.{Holds, head, major_number}
+use Rattle.cbor_head.specs.Prelude.{head, major_number}
 use Rattle.cbor_head.specs.declared.major.Major.{Major}
 use Rattle.cbor_head.specs.declared.major.Major.TheVariants.{Simple}
 use Rattle.cbor_head.specs.declared.width.Width.{Width}
@@ -19,23 +19,11 @@ use Rattle.cbor_automaton.specs.declared.event.EventKind.{EventKind}
 use Rattle.cbor_automaton.specs.declared.event.EventKind.TheVariants as kinds
 use Rattle.cbor_automaton.proofs.FirstByte.{number-major_at}
 use Rattle.cbor_automaton.proofs.Forward.{feed-fits, head-taken, item_starts, simple-direct, simple-one}
+use Rattle.cbor_automaton.proofs.Rows.{definite}
 
 plain : (kind : Numbered) (k : ℕ) → tail (major_of kind) k ≡ numbered_tail (major_of kind) k
 plain numbered.Unsigned k = refl
-plain numbered.Negative k = refl
-plain numbered.Bytes k = refl
-plain numbered.Text k = refl
-plain numbered.Array k = refl
-plain numbered.Map k = refl
-plain numbered.Tag k = refl
-
-definite : (w : Width) (n : ℕ) → Holds w n → IsDefinite w
-definite Indefinite n h = h
-definite Direct n h = tt
-definite One n h = tt
-definite Two n h = tt
-definite Four n h = tt
-definite Eight n h = tt
+plain _ k = refl
 
 -- what stands in front of the rest
 pub front-of : (xs hs rest : List ℕ) → xs ≡ hs ++ rest → take (length xs - length rest) xs ≡ hs

@@ -1,18 +1,18 @@
 use Rattle.std.proofs.Common.{arith, length, ap, ◌∙◌, sym}
 use Rattle.cbor_automaton.specs.Automaton.{reached}
 use Rattle.cbor_steps.specs.State.{state_of}
-use Rattle.cbor_automaton.proofs.Runs.{run-goes, run-tells, once-marks}
+use Rattle.cbor_automaton.proofs.Runs.{run-next, once-marks}
 use Rattle.cbor_steps.proofs.Frames.{wanted-head, still-going}
 use Rattle.cbor_steps.proofs.up_to_event.walk_bytes.Goals as goal
 
 pub returns-in-Tells-clause-walked : goal.returns-in-Tells-clause-walked
 returns-in-Tells-clause-walked c =
-    run-tells c.args.depth c.loop-i.i c.args.input.now _ _ _ _ c.loop-i-test.true c.loop-i.invariant.ran (sym c.in-Tells.ensures.next)
+    run-next c.args.depth c.loop-i.i c.args.input.now _ _ _ c.loop-i-test.true c.loop-i.invariant.ran (sym c.in-Tells.ensures.next)
     ∙ ap (reached (state_of c.in-Tells.next c.take_byte.new.nest)) (sym (once-marks c.in-Tells.width c.in-Tells.kind c.in-Tells.ensures.once))
 
 pub loop-i-preserved : goal.loop-i-preserved
 loop-i-preserved c = record {
-  ran = run-goes c.args.depth c.loop-i.i c.args.input.now _ _ _ c.loop-i-test.true c.loop-i.invariant.ran (sym c.in-Goes.ensures.next);
+  ran = run-next c.args.depth c.loop-i.i c.args.input.now _ _ _ c.loop-i-test.true c.loop-i.invariant.ran (sym c.in-Goes.ensures.next);
   within = c.in-Goes.ensures.within;
   fits = c.in-Goes.ensures.fits;
   began = λ settled. absurd (c.in-Goes.ensures.open settled);
