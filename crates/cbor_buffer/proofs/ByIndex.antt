@@ -1,8 +1,8 @@
 -- A list read at an index.
-use Rattle.std.proofs.Common.{◌≡◌, ℕ, ◌+◌, ◌<◌, List, [], ◌∷◌, length, drop, get_or, Some, ap, sym, ◌∙◌, arith}
+use Rattle.std.proofs.Common.{◌≡◌, ℕ, zero, suc, ◌+◌, ◌<◌, List, [], ◌∷◌, length, drop, get_or, Some, ap, sym, ◌∙◌, arith}
 use Rattle.std.proofs.lemmas.List.{drop_more}
 use Rattle.std.proofs.lemmas.Option.{slice_get-get_or}
-use Rattle.std.specs.List.{slice_get}
+use Rattle.std.specs.List.{slice_get, AllByRecursion}
 
 -- an element that was read by index
 pub at_read : {A : Type 0} (xs : List A) (i : ℕ) (x : A) → i < length xs → x ≡ get_or xs i x → drop i xs ≡ x ∷ drop (i + 1) xs
@@ -12,3 +12,9 @@ at_read xs i x h is = drop_more xs i x h ∙ ap (λ y. y ∷ drop (i + 1) xs) (s
 pub at_index : {A : Type 0} (xs : List A) (i : ℕ) → i < length xs → (p : A) × (slice_get xs i ≡ Some p) × (drop i xs ≡ p ∷ drop (i + 1) xs)
 at_index [] i h = absurd (omega arith)
 at_index (x ∷ xs) i h = let y = get_or (x ∷ xs) i x in (y, slice_get-get_or (x ∷ xs) i x h, drop_more (x ∷ xs) i x h)
+
+-- what holds of each holds of it
+pub all_index : {X : Type 0} (P : X → Type 0) (xs : List X) (i : ℕ) (d : X) → AllByRecursion P xs → i < length xs → P (get_or xs i d)
+all_index P [] i d a l = absurd (omega (arith, l))
+all_index P (x ∷ xs) zero d a l = a.0
+all_index P (x ∷ xs) (suc i) d a l = all_index P xs i d a.1 (omega (arith, l))

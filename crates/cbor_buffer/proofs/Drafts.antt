@@ -1,15 +1,15 @@
 -- What a draft's bytes are meant to be, as its steps change it.
 use Rattle.std.proofs.Common.{◌≡◌, ℕ, ◌+◌, ◌-◌, ◌≤◌, List, [], ◌∷◌, ◌++◌, append_assoc, append-nil, length, length-append, length-drop, take, drop, drop-drop, refl, sym, ap, ◌∙◌, subst, arith, inl, inr, map, slice_range, reverse, flat_map, length-take-le, take-take}
-use Rattle.std.proofs.lemmas.List.{drop-append-le, drop_all, drop-take}
+use Rattle.std.proofs.lemmas.List.{drop-append-le, drop_all, drop-take, nil_from_length}
 use Rattle.std.proofs.Math.Seq.{drop-append_seam, take-append_seam}
-use Rattle.cbor_buffer.specs.Moved.{rope, Run, gap, Blocks, meant, IsWhole, IsRope, IsLoose, IsFree, KeepsFront, Stays}
+use Rattle.cbor_buffer.specs.Moved.{rope, Run, gap, Blocks, meant, IsWhole, IsRope, IsLoose, IsFree, KeepsFront, Stays, Extends, Fills, PutsDown}
 use Rattle.cbor_buffer.specs.Spans.{AreBehind, span_pair, AreWithin}
 use Rattle.cbor_canonical.specs.Pairs.{pair_bytes}
 use Rattle.cbor_buffer.specs.declared.span.Span.{Span}
 use Rattle.cbor_buffer.specs.declared.cuts.Cut.{Cut}
 use Rattle.cbor_buffer.specs.declared.draft.Draft.{Draft}
 use Rattle.cbor_buffer.specs.declared.draft.Region.{Region}
-use Rattle.cbor_buffer.proofs.Slices.{slices_join, slice_take, slice_drop, slice_length, drop_alike, drop_behind, take_behind, nothing}
+use Rattle.cbor_buffer.proofs.Slices.{slices_join, slice_take, slice_drop, slice_length, drop_alike, drop_behind, take_behind}
 use Rattle.cbor_buffer.proofs.Written.{take_front, drop_front}
 use Rattle.cbor_buffer.proofs.Moved.{rope_append, rope_front, rope_behind, rope_more, run_length, run_wider, blocks_run, blocks_longer, popped, limited}
 
@@ -28,27 +28,26 @@ whole_length d w =
 
 -- nothing is out of place
 pub plain : (d : Draft) → IsRope d → d.end ≡ 0 → meant d ≡ d.buf
-plain d r e = (λ i. nothing (rope d.buf d.cuts.items) (rope_length d r ∙ e) i ++ drop (e i) d.buf)
+plain d r e = (λ i. nil_from_length (rope d.buf d.cuts.items) (rope_length d r ∙ e) i ++ drop (e i) d.buf)
 
 -- ---- more behind it
 
-pub meant_with : (d : Draft) (buf x : List ℕ) → IsWhole d → buf ≡ d.buf ++ x → rope buf d.cuts.items ++ drop d.end buf ≡ meant d ++ x
-meant_with d buf x w e =
+pub extended : (d : Draft) (buf x : List ℕ) → IsWhole d → buf ≡ d.buf ++ x → Extends d (record d { buf = buf }) x
+extended d buf x w e =
+    let l = length-append d.buf x in
     let a = rope_more d.buf x 0 d.end 0 d.end d.cuts.items w.1 (blocks_run d.cuts.items (reverse d.regions.items) d.end w.0) in
     let b = drop-append-le d.end d.buf x w.1 in
-    ap (λ (xs : List ℕ). rope xs d.cuts.items ++ drop d.end xs) e ∙ (λ i. a i ++ b i) ∙ sym (append_assoc (rope d.buf d.cuts.items) (drop d.end d.buf) x)
-
-pub whole_more : (d : Draft) (buf x : List ℕ) → IsWhole d → buf ≡ d.buf ++ x → IsWhole (record d { buf = buf })
-whole_more d buf x w e = let l = length-append d.buf x in (w.0, omega (arith, w.1, l, ap length e))
-
-pub meant_more : (d : Draft) (buf x : List ℕ) → IsWhole d → buf ≡ d.buf ++ x → meant (record d { buf = buf }) ≡ meant d ++ x
-meant_more d buf x w e = meant_with d buf x w e
+    record {
+      whole = (w.0, omega (arith, w.1, l, ap length e));
+      lies = e;
+      meant_is = ap (λ (xs : List ℕ). rope xs d.cuts.items ++ drop d.end xs) e ∙ (λ i. a i ++ b i) ∙ sym (append_assoc (rope d.buf d.cuts.items) (drop d.end d.buf) x);
+    }
 
 -- ---- a head filled in behind all regions
 
-pub tail_filled : (d : Draft) (buf h : List ℕ) (from start : ℕ) → IsWhole d → d.end ≤ from → from ≤ start → start ≤ length d.buf → buf ≡ take from d.buf ++ (h ++ drop start d.buf)
-    → IsWhole (record d { buf = buf }) × (meant (record d { buf = buf }) ≡ take from (meant d) ++ (h ++ drop start (meant d)))
-tail_filled d buf h from start w g b n e =
+pub filled_behind : (d : Draft) (buf h : List ℕ) (from start : ℕ) → IsWhole d → d.end ≤ from → from ≤ start → start ≤ length d.buf → buf ≡ take from d.buf ++ (h ++ drop start d.buf)
+    → Fills d (record d { buf = buf }) from start h
+filled_behind d buf h from start w g b n e =
     let end = d.end in
     let cs = d.cuts.items in
     let run = blocks_run cs (reverse d.regions.items) end w.0 in
@@ -64,10 +63,14 @@ tail_filled d buf h from start w g b n e =
     let rest : drop end buf ≡ take (from - end) (drop end d.buf) ++ X = ap (drop end) e ∙ drop-append-le end (take from d.buf) X (omega (arith, lf, g)) ∙ ap (λ (xs : List ℕ). xs ++ X) mid in
     let front : take from (meant d) ≡ A ++ take (from - end) (drop end d.buf) = take_behind A (drop end d.buf) end from la g in
     let s : end + (start - end) ≡ start = omega (arith, g, b) in
-    let back : drop start (meant d) ≡ drop start d.buf = drop_behind A (drop end d.buf) end start la (omega (arith, g, b)) ∙ drop-drop (start - end) end d.buf ∙ ap (λ (k : ℕ). drop k d.buf) s in (
-      (w.0, long),
-      (λ i. same i ++ rest i) ∙ sym (append_assoc A (take (from - end) (drop end d.buf)) X) ∙ (λ i. sym front i ++ (h ++ sym back i)),
-    )
+    let back : drop start (meant d) ≡ drop start d.buf = drop_behind A (drop end d.buf) end start la (omega (arith, g, b)) ∙ drop-drop (start - end) end d.buf ∙ ap (λ (k : ℕ). drop k d.buf) s in
+    let is = (λ i. same i ++ rest i) ∙ sym (append_assoc A (take (from - end) (drop end d.buf)) X) ∙ (λ i. sym front i ++ (h ++ sym back i)) in
+    record {
+      whole = (w.0, long);
+      meant_is = is;
+      front = inl (ap (take from) e ∙ take_front from from d.buf X (omega arith) (omega (arith, b, n)));
+      lies = λ k. e ∙ (λ i. take from (k i) ++ (h ++ drop start (k i))) ∙ sym is;
+    }
 
 -- ---- in the gap of the last region
 
@@ -123,18 +126,6 @@ gap_filled raw buf h cs r rs e from start b g hb hs hr lh eb =
   where
     regroup : (A P S Q C D : List ℕ) → (A ++ ((P ++ (S ++ Q)) ++ C)) ++ D ≡ (A ++ P) ++ (S ++ (Q ++ (C ++ D)))
     regroup A P S Q C D = simp append_assoc
-
-pub free_filled : (d : Draft) (buf h : List ℕ) (from start : ℕ) → IsWhole d → IsFree d from start → from ≤ start → start ≤ length d.buf → length h ≡ start - from → buf ≡ take from d.buf ++ (h ++ drop start d.buf)
-    → IsWhole (record d { buf = buf }) × (meant (record d { buf = buf }) ≡ take from (meant d) ++ (h ++ drop start (meant d)))
-free_filled d buf h from start w f b n lh e =
-    let blocks = subst (λ (rs : List Region). Blocks d.cuts.items rs d.end) f.2 w.0 in
-    let lf = length-take-le from d.buf (omega (arith, b, n)) in
-    let ly = length-drop start d.buf in
-    let l1 = length-append (take from d.buf) (h ++ drop start d.buf) in
-    let l2 = length-append h (drop start d.buf) in (
-      (w.0, omega (arith, ap length e, l1, l2, lf, ly, lh, b, n, w.1)),
-      gap_filled d.buf buf h d.cuts.items f.0 f.1 d.end from start blocks w.1 f.3 b f.4 lh e,
-    )
 
 -- ---- what comes of settling
 
@@ -203,36 +194,30 @@ tail_plain d n w g =
     let s : d.end + (n - d.end) ≡ n = omega (arith, g) in
     sym (drop_behind (rope d.buf d.cuts.items) (drop d.end d.buf) d.end n la g ∙ drop-drop (n - d.end) d.end d.buf ∙ ap (λ (k : ℕ). drop k d.buf) s)
 
-pub record Filled (d d' : Draft) (h : List ℕ) (from start : ℕ) : Type 0 where
-  pub whole : IsWhole d'
-  pub meant_is : meant d' ≡ take from (meant d) ++ (h ++ drop start (meant d))
-  pub front : KeepsFront from d d'
-  pub lies : d.buf ≡ meant d → d'.buf ≡ meant d'
-
-pub filled_behind : (d : Draft) (buf h : List ℕ) (from start : ℕ) → IsWhole d → d.end ≤ from → from ≤ start → start ≤ length d.buf → buf ≡ take from d.buf ++ (h ++ drop start d.buf)
-    → Filled d (record d { buf = buf }) h from start
-filled_behind d buf h from start w g b n e =
-    let t = tail_filled d buf h from start w g b n e in
-    record { whole = t.0; meant_is = t.1; front = inl (ap (take from) e ∙ take_front from from d.buf (h ++ drop start d.buf) (omega arith) (omega (arith, b, n))); lies = λ k. e ∙ (λ i. take from (k i) ++ (h ++ drop start (k i))) ∙ sym t.1 }
-
 pub filled_in_gap : (d m : Draft) (buf h : List ℕ) (from start : ℕ) → IsWhole m → m.buf ≡ d.buf → meant m ≡ meant d → IsFree m from start → from ≤ start → start ≤ length d.buf → length h ≡ start - from
-    → buf ≡ take from m.buf ++ (h ++ drop start m.buf) → Filled d (record m { buf = buf }) h from start
+    → buf ≡ take from m.buf ++ (h ++ drop start m.buf) → Fills d (record m { buf = buf }) from start h
 filled_in_gap d m buf h from start w eb em f b n lh e =
-    let t = free_filled m buf h from start w f b (omega (arith, n, ap length eb)) lh e in
+    let blocks = subst (λ (rs : List Region). Blocks m.cuts.items rs m.end) f.2 w.0 in
+    let lf = length-take-le from m.buf (omega (arith, b, n, ap length eb)) in
+    let ly = length-drop start m.buf in
+    let l1 = length-append (take from m.buf) (h ++ drop start m.buf) in
+    let l2 = length-append h (drop start m.buf) in
+    let is = gap_filled m.buf buf h m.cuts.items f.0 f.1 m.end from start blocks w.1 f.3 b f.4 lh e in
     record {
-      whole = t.0;
-      meant_is = t.1 ∙ (λ i. take from (em i) ++ (h ++ drop start (em i)));
+      whole = (w.0, omega (arith, ap length e, l1, l2, lf, ly, lh, b, n, w.1, ap length eb));
+      meant_is = is ∙ (λ i. take from (em i) ++ (h ++ drop start (em i)));
       front = inl (ap (take from) e ∙ take_front from from m.buf (h ++ drop start m.buf) (omega arith) (omega (arith, b, n, ap length eb)) ∙ ap (take from) eb);
-      lies = λ k. let j = eb ∙ k ∙ sym em in e ∙ (λ i. take from (j i) ++ (h ++ drop start (j i))) ∙ sym t.1;
+      lies = λ k. let j = eb ∙ k ∙ sym em in e ∙ (λ i. take from (j i) ++ (h ++ drop start (j i))) ∙ sym is;
     }
 
 pub filled_settled : (d m : Draft) (buf h : List ℕ) (from start : ℕ) → IsWhole d → IsWhole m → m.end ≡ 0 → meant m ≡ meant d → from ≤ start → start ≤ length d.buf
-    → buf ≡ take from m.buf ++ (h ++ drop start m.buf) → Filled d (record m { buf = buf }) h from start
+    → buf ≡ take from m.buf ++ (h ++ drop start m.buf) → Fills d (record m { buf = buf }) from start h
 filled_settled d m buf h from start wd w z em b n e =
     let ld = whole_length d wd in
     let lm = whole_length m w in
-    let t = tail_filled m buf h from start w (omega (arith, z)) b (omega (arith, n, ld, lm, ap length em)) e in
-    record { whole = t.0; meant_is = t.1 ∙ (λ i. take from (em i) ++ (h ++ drop start (em i))); front = inr (sym (plain (record m { buf = buf }) (whole_rope (record m { buf = buf }) t.0) z)); lies = λ k. sym (plain (record m { buf = buf }) (whole_rope (record m { buf = buf }) t.0) z) }
+    let t = filled_behind m buf h from start w (omega (arith, z)) b (omega (arith, n, ld, lm, ap length em)) e in
+    let lies = sym (plain (record m { buf = buf }) (whole_rope (record m { buf = buf }) t.whole) z) in
+    record { whole = t.whole; meant_is = t.meant_is ∙ (λ i. take from (em i) ++ (h ++ drop start (em i))); front = inr lies; lies = λ k. lies }
 
 -- ---- spans put down
 
@@ -251,14 +236,9 @@ within_same raw out (s ∷ ss) e w = ((w.0.0, w.0.1, omega (arith, e, w.0.2)), w
 pub length_same : (d d' : Draft) → IsWhole d → IsWhole d' → meant d' ≡ meant d → length d'.buf ≡ length d.buf
 length_same d d' w w' e = let a = whole_length d w in let b = whole_length d' w' in omega (arith, a, b, ap length e)
 
-pub record PutDown (d d' : Draft) (start : ℕ) (ss : List Span) : Type 0 where
-  pub whole : IsWhole d'
-  pub meant_is : meant d' ≡ take start (meant d) ++ flat_map pair_bytes (map (span_pair (meant d)) ss)
-  pub front : KeepsFront start d d'
-  pub lies : d.buf ≡ meant d → d'.buf ≡ meant d'
-
 pub put_down : (d m : Draft) (buf : List ℕ) (start : ℕ) (ss : List Span) → IsWhole d → start ≤ length d.buf → AreBehind start ss → AreWithin (meant d) ss → IsWhole m → meant m ≡ meant d → m.end ≤ start → Stays d m
-    → buf ≡ take start m.buf ++ flat_map pair_bytes (map (span_pair m.buf) ss) → PutDown d (record m { buf = buf }) start ss
+    → buf ≡ take start m.buf ++ flat_map pair_bytes (map (span_pair m.buf) ss)
+    → PutsDown d (record m { buf = buf }) start (flat_map pair_bytes (map (span_pair (meant d)) ss)) × (d.buf ≡ meant d → buf ≡ meant (record m { buf = buf }))
 put_down d m buf start ss wd n behind within w em g stays e =
     let N = length m.buf in
     let long = length_same d m wd w em in
@@ -267,19 +247,20 @@ put_down d m buf start ss wd n behind within w em g stays e =
     let G = flat_map pair_bytes (map (span_pair (meant d)) ss) in
     let same : G' ≡ G = ap (flat_map pair_bytes) (pairs_same m.buf (meant m) start ss (tail_plain m start w g) behind (within_same (meant m) (meant d) ss (ap length em) within)) ∙ ap (λ (xs : List ℕ). flat_map pair_bytes (map (span_pair xs) ss)) em in
     let full : buf ≡ take start m.buf ++ (G' ++ drop N m.buf) = e ∙ ap (λ (xs : List ℕ). take start m.buf ++ xs) (sym (append-nil G') ∙ ap (λ (xs : List ℕ). G' ++ xs) (sym (drop_all N m.buf (omega arith)))) in
-    let t = tail_filled m buf G' start N w g (omega (arith, n, long)) (omega arith) full in
-    let now = t.1 ∙ ap (λ (xs : List ℕ). take start (meant m) ++ (G' ++ xs)) (drop_all N (meant m) (omega (arith, lm))) ∙ ap (λ (xs : List ℕ). take start (meant m) ++ xs) (append-nil G') in
+    let t = filled_behind m buf G' start N w g (omega (arith, n, long)) (omega arith) full in
+    let now = t.meant_is ∙ ap (λ (xs : List ℕ). take start (meant m) ++ (G' ++ xs)) (drop_all N (meant m) (omega (arith, lm))) ∙ ap (λ (xs : List ℕ). take start (meant m) ++ xs) (append-nil G') in
     let is = now ∙ (λ i. take start (em i) ++ same i) in
-    let all : m.buf ≡ meant m → buf ≡ meant (record m { buf = buf }) = λ k. e ∙ ap (λ (xs : List ℕ). take start xs ++ G') k ∙ sym now in
-    record {
-      whole = t.0;
-      meant_is = is;
-      front = elim stays [
-        | inl k ↦ inl (ap (take start) e ∙ take_front start start m.buf G' (omega arith) (omega (arith, n, long)) ∙ ap (take start) k)
-        | inr k ↦ inr (all k)
-      ];
-      lies = λ k. elim stays [ inl j ↦ all (j ∙ k ∙ sym em) | inr j ↦ all j ];
-    }
+    let all : m.buf ≡ meant m → buf ≡ meant (record m { buf = buf }) = λ k. e ∙ ap (λ (xs : List ℕ). take start xs ++ G') k ∙ sym now in (
+      record {
+        whole = t.whole;
+        meant_is = is;
+        front = elim stays [
+          | inl k ↦ inl (ap (take start) e ∙ take_front start start m.buf G' (omega arith) (omega (arith, n, long)) ∙ ap (take start) k)
+          | inr k ↦ inr (all k)
+        ];
+      },
+      λ k. elim stays [ inl j ↦ all (j ∙ k ∙ sym em) | inr j ↦ all j ],
+    )
 
 -- the last region taken off, and the cuts gone on to the end
 pub loosened : (d m : Draft) (r : Region) (n : ℕ) (cs : List Cut) → IsWhole d → d.regions.items ≡ m.regions.items ++ r ∷ [] → m.buf ≡ d.buf → m.cuts.items ≡ d.cuts.items → n ≡ length d.buf → cs ≡ m.cuts.items ++ gap d.end n ∷ []

@@ -1,16 +1,11 @@
 -- Pairs gathered one behind the other.
-use Rattle.std.proofs.Common.{◌≡◌, ℕ, zero, suc, ◌+◌, ◌<◌, ◌≤◌, List, [], ◌∷◌, ◌++◌, append_assoc, append-nil, length, drop, get_or, map, sym, ap, ◌∙◌, arith, slice_range, flat_map}
-use Rattle.std.proofs.lemmas.List.{drop_all}
+use Rattle.std.proofs.Common.{◌≡◌, ℕ, ◌+◌, ◌<◌, ◌≤◌, List, ◌++◌, append_assoc, append-nil, length, drop, get_or, map, sym, ap, ◌∙◌, slice_range, flat_map}
+use Rattle.std.proofs.lemmas.List.{drop_all, get_or_default}
 use Rattle.cbor_canonical.specs.Pairs.{pair_bytes}
-use Rattle.cbor_buffer.proofs.ByIndex.{at_read}
+use Rattle.cbor_buffer.proofs.ByIndex.{at_read, all_index}
 use Rattle.cbor_buffer.specs.Spans.{span_pair, IsWithin, AreWithin}
 use Rattle.cbor_buffer.specs.declared.span.Span.{Span}
-use Rattle.cbor_buffer.proofs.Slices.{get_same, slices_join}
-
-pub within_at : (out : List ℕ) (ks : List Span) (i : ℕ) (d : Span) → AreWithin out ks → i < length ks → IsWithin out (get_or ks i d)
-within_at out [] i d h l = absurd (omega (arith, l))
-within_at out (k ∷ ks) zero d h l = h.0
-within_at out (k ∷ ks) (suc i) d h l = within_at out ks i d h.1 (omega (arith, l))
+use Rattle.cbor_buffer.proofs.Slices.{slices_join}
 
 gathered : (out : List ℕ) (ss : List Span) (i : ℕ) (x : Span) (whole was now : List ℕ) → IsWithin out x → i < length ss → x ≡ get_or ss i x
     → whole ≡ was ++ flat_map pair_bytes (map (span_pair out) (drop i ss))
@@ -31,4 +26,4 @@ pub gathered_at : (out : List ℕ) (ss : List Span) (i : ℕ) (d : Span) (whole 
     → now ≡ was ++ slice_range out (get_or ss i d).key (get_or ss i d).end
     → whole ≡ now ++ flat_map pair_bytes (map (span_pair out) (drop (i + 1) ss))
 gathered_at out ss i d whole was now w l h a =
-    gathered out ss i (get_or ss i d) whole was now (within_at out ss i d w l) l (get_same ss i d (get_or ss i d) l) h a
+    gathered out ss i (get_or ss i d) whole was now (all_index _ ss i d w l) l (get_or_default ss i d (get_or ss i d) l) h a

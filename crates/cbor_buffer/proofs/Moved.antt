@@ -1,16 +1,14 @@
 -- Bytes that are meant in another order than they lie in.
 use Rattle.std.proofs.Common.{◌≡◌, ℕ, zero, suc, ◌+◌, ◌-◌, ◌<◌, ◌≤◌, List, [], ◌∷◌, ◌++◌, append_assoc, append-nil, length, length-append, take, drop, take-append-drop, min, get_or, refl, sym, ap, ◌∙◌, subst, arith, Option, Some, None, inl, inr, slice_range, reverse, option_to_list, take-take}
 use Rattle.std.proofs.lemmas.Grind.{flat_map-append}
-use Rattle.std.proofs.lemmas.List.{take-append-le, drop_all, reverse-append, length-reverse}
+use Rattle.std.proofs.lemmas.List.{take-append-le, drop_all, reverse-append, length-reverse, get_or_default, nil_from_length}
 use Rattle.std.proofs.lemmas.Bool.{cases_lt}
-use Rattle.cbor_buffer.specs.Moved.{piece, rope, IsInside, AreInside, Run, gap, Blocks, IsAdded}
-use Rattle.cbor_buffer.specs.Spans.{AreBehind}
-use Rattle.cbor_buffer.specs.declared.span.Span.{Span}
+use Rattle.cbor_buffer.specs.Moved.{piece, rope, AreInside, Run, gap, Blocks, IsAdded}
 use Rattle.cbor_buffer.specs.declared.cuts.Cut.{Cut}
 use Rattle.cbor_buffer.specs.declared.cuts.Picked.{Picked}
 use Rattle.cbor_buffer.specs.declared.draft.Region.{Region}
-use Rattle.cbor_buffer.proofs.ByIndex.{at_read}
-use Rattle.cbor_buffer.proofs.Slices.{slices_join, get_same, drop_behind, nothing, slice_drop, slice_length, slice_take, take_behind}
+use Rattle.cbor_buffer.proofs.ByIndex.{at_read, all_index}
+use Rattle.cbor_buffer.proofs.Slices.{slices_join, drop_behind, slice_drop, slice_length, slice_take, take_behind}
 
 -- ---- cuts
 
@@ -74,30 +72,25 @@ rope_from raw l h p e (c ∷ cs) (suc i) key d g r n a =
 
 -- ---- regions
 
+-- the cuts of a region, with its gap
+pub last_run : (l : ℕ) (r : Region) (e : ℕ) (bs : List Cut) → l ≤ r.behind → r.behind ≤ r.start → r.start ≤ e → Run r.start e r.start bs e → Run l e r.behind (gap r.behind r.start ∷ bs) e
+last_run l r e bs k h g run =
+    let next : r.start ≡ r.behind + (r.start - r.behind) = omega (arith, h) in
+    (refl, k, h, g, subst (λ (p : ℕ). Run l e p bs e) next (run_wider r.start e l e r.start e bs (omega (arith, k, h)) (omega arith) run))
+
 pub blocks_run : (cs : List Cut) (rs : List Region) (e : ℕ) → Blocks cs rs e → Run 0 e 0 cs e
 blocks_run cs [] e b = subst (λ (xs : List Cut). Run 0 e 0 xs e) (sym b.0) (sym b.1)
 blocks_run cs (r ∷ rs) e b =
     let p = r.behind in
     let front : Run 0 e 0 b.0 p = run_wider 0 p 0 e 0 p b.0 (omega arith) (omega (arith, b.4, b.5)) (blocks_run b.0 rs p b.7) in
-    let next : r.start ≡ p + (r.start - p) = omega (arith, b.4) in
-    let mid : Run 0 e p (gap p r.start ∷ b.1) e =
-    (refl, omega arith, b.4, b.5, subst (λ (k : ℕ). Run 0 e k b.1 e) next (run_wider r.start e 0 e r.start e b.1 (omega arith) (omega arith) b.6)) in
-    subst (λ (xs : List Cut). Run 0 e 0 xs e) (sym b.2) (run_append 0 e 0 p e b.0 (gap p r.start ∷ b.1) front mid)
-
--- the cuts of the last region, with its gap
-pub last_run : (r : Region) (e : ℕ) (bs : List Cut) → r.behind ≤ r.start → r.start ≤ e → Run r.start e r.start bs e → Run 0 e r.behind (gap r.behind r.start ∷ bs) e
-last_run r e bs h g run =
-    let next : r.start ≡ r.behind + (r.start - r.behind) = omega (arith, h) in
-    (refl, omega arith, h, g, subst (λ (k : ℕ). Run 0 e k bs e) next (run_wider r.start e 0 e r.start e bs (omega arith) (omega arith) run))
+    subst (λ (xs : List Cut). Run 0 e 0 xs e) (sym b.2) (run_append 0 e 0 p e b.0 (gap p r.start ∷ b.1) front (last_run 0 r e b.1 (omega arith) b.4 b.5 b.6))
 
 pub merged : (cs : List Cut) (r : Region) (rs : List Region) (e : ℕ) → Blocks cs (r ∷ rs) e → 0 < length rs → Blocks cs rs e
 merged cs r [] e b n = absurd (omega (arith, n))
 merged cs r (s ∷ rs) e b n =
     let c = b.7 in
     let more = gap r.behind r.start ∷ b.1 in
-    let next : r.start ≡ r.behind + (r.start - r.behind) = omega (arith, b.4) in
-    let behind : Run s.start e r.behind more e =
-    (refl, c.5, b.4, b.5, subst (λ (k : ℕ). Run s.start e k b.1 e) next (run_wider r.start e s.start e r.start e b.1 (omega (arith, c.5, b.4)) (omega arith) b.6)) in (
+    let behind = last_run s.start r e b.1 c.5 b.4 b.5 b.6 in (
       c.0,
       c.1 ++ more,
       b.2 ∙ ap (λ (xs : List Cut). xs ++ more) c.2 ∙ append_assoc c.0 (gap s.behind s.start ∷ c.1) more,
@@ -116,11 +109,8 @@ pub merged_off : (cs : List Cut) (old new : List Region) (o : Option Region) (e 
 merged_off cs old new None e is n b = subst (λ (rs : List Region). Blocks cs (reverse rs) e) (is ∙ append-nil new) b
 merged_off cs old new (Some r) e is n b =
     let l = length-append new (r ∷ []) in
-    let v = length_reversed new in
+    let v = length-reverse new in
     merged cs r (reverse new) e (subst (λ (rs : List Region). Blocks cs rs e) (popped old new r is) b) (omega (arith, ap length is, l, n, v))
-  where
-    length_reversed : (xs : List Region) → length (reverse xs) ≡ length xs
-    length_reversed xs = length-reverse xs
 
 -- the cuts go on
 pub blocks_longer : (cs : List Cut) (r : Region) (rs : List Region) (e n : ℕ) → Blocks cs (r ∷ rs) e → e ≤ n → Blocks (cs ++ gap e n ∷ []) (r ∷ rs) n
@@ -147,11 +137,6 @@ last_off xs r h e =
 
 -- ---- cuts taken up one by one
 
-pub inside_at : (n : ℕ) (cs : List Cut) (i : ℕ) (d : Cut) → AreInside n cs → i < length cs → IsInside n (get_or cs i d)
-inside_at n [] i d h l = absurd (omega (arith, l))
-inside_at n (c ∷ cs) zero d h l = h.0
-inside_at n (c ∷ cs) (suc i) d h l = inside_at n cs i d h.1 (omega (arith, l))
-
 pub inside_drop : (n : ℕ) (cs : List Cut) (i : ℕ) → AreInside n cs → AreInside n (drop i cs)
 inside_drop n cs zero h = h
 inside_drop n [] (suc i) h = tt
@@ -159,7 +144,7 @@ inside_drop n (c ∷ cs) (suc i) h = inside_drop n cs i h.1
 
 -- the cut at i, and those behind it
 pub rope_at : (raw : List ℕ) (cs : List Cut) (i : ℕ) (d : Cut) → i < length cs → rope raw (drop i cs) ≡ piece raw (get_or cs i d) ++ rope raw (drop (i + 1) cs)
-rope_at raw cs i d l = ap (rope raw) (at_read cs i (get_or cs i d) l (get_same cs i d (get_or cs i d) l))
+rope_at raw cs i d l = ap (rope raw) (at_read cs i (get_or cs i d) l (get_or_default cs i d (get_or cs i d) l))
 
 pub emitted_at : (raw : List ℕ) (cs : List Cut) (i : ℕ) (d : Cut) (whole was now : List ℕ) → i < length cs → whole ≡ was ++ rope raw (drop i cs)
     → now ≡ was ++ slice_range raw (get_or cs i d).from (get_or cs i d).to → whole ≡ now ++ rope raw (drop (i + 1) cs)
@@ -186,7 +171,7 @@ skipped raw R c skip from h g e = elim (cases_lt skip (c.to - c.from)) [
   | inr p ↦
       let at : from ≡ c.to = omega (arith, e, p, h) in
       let lb = slice_length raw from c.to g in
-      let none : slice_range raw from c.to ≡ [] = nothing (slice_range raw from c.to) (omega (arith, lb, at)) in
+      let none : slice_range raw from c.to ≡ [] = nil_from_length (slice_range raw from c.to) (omega (arith, lb, at)) in
       drop_behind (piece raw c) R (c.to - c.from) skip (slice_length raw c.from c.to g) p ∙ ap (λ (xs : List ℕ). xs ++ drop (skip - (c.to - c.from)) R) (sym none)
 ]
 
@@ -213,7 +198,7 @@ pub taken_up : (raw : List ℕ) (cs : List Cut) (i : ℕ) (d : Cut) (skip left f
     ≡ slice_range raw from to ++ take (left - (to - from)) (drop (skip - ((get_or cs i d).to - (get_or cs i d).from)) (rope raw (drop (i + 1) cs)))
 taken_up raw cs i d skip left from to h l ef et =
     let c = get_or cs i d in
-    let k = inside_at (length raw) cs i d h l in
+    let k = all_index _ cs i d h l in
     let R = rope raw (drop (i + 1) cs) in
     ap (λ (xs : List ℕ). take left (drop skip xs)) (rope_at raw cs i d l) ∙ ap (take left) (skipped raw R c skip from k.0 k.1 ef)
     ∙ limited raw (drop (skip - (c.to - c.from)) R) c.to left from to (omega (arith, ef, k.0)) k.1 et
@@ -236,9 +221,3 @@ picked_more raw q q' q'' from to bytes rest h a b =
       a.4 ∙ b.4,
       a.5 ∙ b.5,
     )
-
--- no span begins before n
-pub behind_at : (n : ℕ) (ss : List Span) (i : ℕ) (d : Span) → AreBehind n ss → i < length ss → n ≤ (get_or ss i d).key
-behind_at n [] i d h l = absurd (omega (arith, l))
-behind_at n (s ∷ ss) zero d h l = h.0
-behind_at n (s ∷ ss) (suc i) d h l = behind_at n ss i d h.1 (omega (arith, l))

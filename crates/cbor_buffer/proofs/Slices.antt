@@ -1,5 +1,5 @@
 -- Parts of byte lists.
-use Rattle.std.proofs.Common.{◌≡◌, ℕ, ◌+◌, ◌-◌, ◌≤◌, List, ◌++◌, append_assoc, length, length-drop, take, drop, take_all, take-append-drop, length-take, sym, ap, ◌∙◌, subst, arith, zero, suc, ◌<◌, [], ◌∷◌, drop-drop, get_or, refl, slice_range, take-take, length-take-le}
+use Rattle.std.proofs.Common.{◌≡◌, ℕ, ◌+◌, ◌-◌, ◌≤◌, List, ◌++◌, append_assoc, length, length-drop, take, drop, take-append-drop, length-take, sym, ap, ◌∙◌, subst, arith, drop-drop, slice_range, take-take, length-take-le}
 use Rattle.std.proofs.lemmas.List.{take-append-le, drop-append-le, take_rest}
 use Rattle.std.proofs.Math.Seq.{take-add, drop-append-add, drop-append_seam, take-append-add}
 
@@ -38,8 +38,7 @@ moved_down xs ys zs start end e h is =
 
 -- the part to the end
 pub slice_all : (xs : List ℕ) (s n : ℕ) → length xs ≡ n → slice_range xs s n ≡ drop s xs
-slice_all xs s n e =
-    let l = length-drop s xs in take_all (n - s) (drop s xs) (omega (arith, l, e))
+slice_all xs s n e = ap (λ k. slice_range xs s k) (sym e) ∙ take_rest xs s
 
 -- the same of what was written behind it in two steps, the second out of the list itself
 pub settled_down : (xs ys us zs : List ℕ) (end len : ℕ) → len ≡ length xs → end ≤ len → us ≡ xs ++ ys → zs ≡ us ++ slice_range us end len → take 0 zs ++ drop len zs ≡ ys ++ drop end xs
@@ -53,11 +52,6 @@ slices_join xs a b c h g =
     let m : (b - a) + (c - b) ≡ c - a = omega (arith, h, g) in
     let d : drop b xs ≡ drop (b - a) (drop a xs) = sym (drop-drop (b - a) a xs ∙ ap (λ k. drop k xs) n) in
     ap (λ (ys : List ℕ). take (b - a) (drop a xs) ++ take (c - b) ys) d ∙ sym (take-add (b - a) (c - b) (drop a xs)) ∙ ap (λ k. take k (drop a xs)) m
-
-pub get_same : {X : Type 0} (xs : List X) (i : ℕ) (d e : X) → i < length xs → get_or xs i d ≡ get_or xs i e
-get_same [] i d e l = absurd (omega arith)
-get_same (x ∷ xs) zero d e l = refl
-get_same (x ∷ xs) (suc i) d e l = get_same xs i d e (omega arith)
 
 -- ---- parts of lists that are alike
 
@@ -91,7 +85,3 @@ slice_length xs s e h =
     let l = length-take (e - s) (drop s xs) in
     let m = length-drop s xs in
     omega (arith, l, m, h)
-
-pub nothing : (xs : List ℕ) → length xs ≡ 0 → xs ≡ []
-nothing [] h = refl
-nothing (x ∷ xs) h = absurd (omega (arith, h))

@@ -36,11 +36,8 @@ written xs ys rest len k h g =
     let c = length-take k ys in
     let n : len + k ≡ length front = omega (arith, a, b, c, h, g) in
     let split : take len xs ++ (ys ++ rest) ≡ front ++ (drop k ys ++ rest) =
-    ap (λ (us : List ℕ). take len xs ++ (us ++ rest)) (sym (take-append-drop k ys)) ∙ regroup (take len xs) (take k ys) (drop k ys) rest in
+    ap (λ (us : List ℕ). take len xs ++ (us ++ rest)) (sym (take-append-drop k ys)) ∙ simp append_assoc in
     (λ i. take (n i) (split i)) ∙ take-append_seam front (drop k ys ++ rest)
-  where
-    regroup : (a b c d : List ℕ) → a ++ ((b ++ c) ++ d) ≡ (a ++ b) ++ (c ++ d)
-    regroup a b c d = simp append_assoc
 
 -- one byte in place of one
 pub byte_written : (xs : List ℕ) (at start len x : ℕ) → start ≡ at + 1 → start ≤ len → len ≤ length xs → take len (set xs at x) ≡ take at (take len xs) ++ (x ∷ drop start (take len xs))
@@ -57,10 +54,8 @@ head_and_tail front h tail rest m e =
     let a = length-append front (h ++ tail) in
     let b = length-append h tail in
     let n : m ≡ length (front ++ (h ++ tail)) = omega (arith, a, b, e) in
-    (λ i. take (n i) (regroup front h tail rest i)) ∙ take-append_seam (front ++ (h ++ tail)) rest
-  where
-    regroup : (a b c d : List ℕ) → a ++ (b ++ (c ++ d)) ≡ (a ++ (b ++ c)) ++ d
-    regroup a b c d = simp append_assoc
+    let regroup : front ++ (h ++ (tail ++ rest)) ≡ (front ++ (h ++ tail)) ++ rest = simp append_assoc in
+    (λ i. take (n i) (regroup i)) ∙ take-append_seam (front ++ (h ++ tail)) rest
 
 -- a head in place of one of the same length
 pub head_kept : (xs h : List ℕ) (len from start k : ℕ) → len ≤ length xs → from ≤ start → start ≤ len → k ≡ start - from → length h ≡ k

@@ -1,6 +1,8 @@
 -- A buffer of which parts lie in another order than they are meant in.
 use Rattle.std.specs.Prelude.{ℕ, ◌+◌, ◌-◌, ◌≡◌, ◌≤◌, ◌++◌, ◌⊎◌, List, [], ◌∷◌, length, slice_range, flat_map, take, drop, reverse}
 use Rattle.std.specs.List.{AllByRecursion}
+use Rattle.cbor_buffer.specs.Spans.{AreBehind, AreWithin}
+use Rattle.cbor_buffer.specs.declared.span.Span.{Span}
 use Rattle.cbor_buffer.specs.declared.cuts.Cut.{Cut}
 use Rattle.cbor_buffer.specs.declared.cuts.Picked.{Picked}
 use Rattle.cbor_buffer.specs.declared.draft.Draft.{Draft}
@@ -53,6 +55,32 @@ Stays d d' = (d'.buf ≡ d.buf) ⊎ (d'.buf ≡ meant d')
 -- what stands from n on lies as it is meant
 abbrev pub IsSettled : ℕ → Draft → Type 0
 IsSettled n d = drop n d.buf ≡ drop n (meant d)
+
+-- these bytes behind what is there
+pub record Extends (d d' : Draft) (b : List ℕ) : Type 0 where
+  pub whole : IsWhole d'
+  pub lies : d'.buf ≡ d.buf ++ b
+  pub meant_is : meant d' ≡ meant d ++ b
+
+-- these bytes in place of what stands between from and start
+pub record Fills (d d' : Draft) (from start : ℕ) (b : List ℕ) : Type 0 where
+  pub whole : IsWhole d'
+  pub meant_is : meant d' ≡ take from (meant d) ++ (b ++ drop start (meant d))
+  pub front : KeepsFront from d d'
+  pub lies : d.buf ≡ meant d → d'.buf ≡ meant d'
+
+-- these spans lie in what is there from start on
+pub record AreThere (d : Draft) (start : ℕ) (ss : List Span) : Type 0 where
+  pub whole : IsWhole d
+  pub begins : start ≤ length d.buf
+  pub behind : AreBehind start ss
+  pub within : AreWithin (meant d) ss
+
+-- these bytes in place of what is meant from start on
+pub record PutsDown (d d' : Draft) (start : ℕ) (b : List ℕ) : Type 0 where
+  pub whole : IsWhole d'
+  pub meant_is : meant d' ≡ take start (meant d) ++ b
+  pub front : KeepsFront start d d'
 
 -- ---- what the steps of a rearrangement leave
 

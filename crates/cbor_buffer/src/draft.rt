@@ -1,9 +1,10 @@
 //! The output, in which large maps lie in the order in which their pairs came.
 
-ghost use Rattle.std.specs.Prelude.{◌≡◌, ◌≢◌, ◌≤◌, ◌++◌, ◌-◌, [], OnOk, IsTrue, length, take, drop};
+ghost use Rattle.std.specs.Prelude.{◌≡◌, ◌≢◌, ◌≤◌, ◌++◌, ◌-◌, [], OnOk, IsTrue, length, take};
 ghost use Rattle.cbor_head.specs.Head.{shortest_head, IsSimple};
 ghost use Rattle.cbor_head.specs.declared.major.Major.TheVariants.{Simple};
-ghost use Rattle.cbor_buffer.specs.Moved.{meant, IsWhole, IsRope, IsFree, KeepsFront, Stays, IsSettled};
+ghost use Rattle.cbor_buffer.specs.Moved.{meant, IsWhole, IsRope, IsFree, Stays, IsSettled};
+ghost use Rattle.cbor_buffer.specs.Moved.{Extends, Fills};
 
 mod order;
 
@@ -96,9 +97,7 @@ impl Draft {
     pub fn head(&mut self, major: Major, n: u64) -> Result<(), AllocError>
         requires whole { IsWhole self.old }
         requires simple { major ≡ Simple → IsSimple n }
-        ensures whole { OnOk result (IsWhole self.new) }
-        ensures meant { OnOk result (meant self.new ≡ meant self.old ++ shortest_head major n) }
-        ensures lies { OnOk result (self.new.buf ≡ self.old.buf ++ shortest_head major n) }
+        ensures { OnOk result (Extends self.old self.new (shortest_head major n)) }
     {
         self.buf.head(major, n)
     }
@@ -108,9 +107,7 @@ impl Draft {
     pub fn extend(&mut self, front: &[u8], count: usize) -> Result<(), AllocError>
         requires whole { IsWhole self.old }
         requires within { count ≤ length front.now }
-        ensures whole { OnOk result (IsWhole self.new) }
-        ensures meant { OnOk result (meant self.new ≡ meant self.old ++ take count front.now) }
-        ensures lies { OnOk result (self.new.buf ≡ self.old.buf ++ take count front.now) }
+        ensures { OnOk result (Extends self.old self.new (take count front.now)) }
     {
         self.buf.extend_front(front, count)
     }
@@ -121,11 +118,8 @@ impl Draft {
         requires whole { IsWhole self.old }
         requires within { count ≤ length front.now }
         requires kind { major ≢ Simple }
-        ensures whole { OnOk result (IsWhole self.new) }
-        ensures meant { OnOk result (meant self.new
-            ≡ meant self.old ++ (shortest_head major count ++ take count front.now)) }
-        ensures lies { OnOk result (self.new.buf
-            ≡ self.old.buf ++ (shortest_head major count ++ take count front.now)) }
+        ensures { OnOk result (Extends self.old self.new
+            (shortest_head major count ++ take count front.now)) }
     {
         self.buf.string(major, front, count)
     }
@@ -156,11 +150,7 @@ impl Draft {
         requires ends { start ≤ length self.old.buf }
         requires begins { from ≤ start }
         requires simple { major ≡ Simple → IsSimple n }
-        ensures whole { OnOk result (IsWhole self.new) }
-        ensures meant { OnOk result (meant self.new
-            ≡ take from (meant self.old) ++ (shortest_head major n ++ drop start (meant self.old))) }
-        ensures front { OnOk result (KeepsFront from self.old self.new) }
-        ensures lies { OnOk result (self.old.buf ≡ meant self.old → self.new.buf ≡ meant self.new) }
+        ensures { OnOk result (Fills self.old self.new from start (shortest_head major n)) }
     {
         if self.end <= from {
             return self.buf.fill_head(from, start, major, n);
@@ -181,11 +171,7 @@ impl Draft {
         requires ends { start ≤ length self.old.buf }
         requires begins { from ≤ start }
         requires simple { major ≡ Simple → IsSimple n }
-        ensures whole { OnOk result (IsWhole self.new) }
-        ensures meant { OnOk result (meant self.new
-            ≡ take from (meant self.old) ++ (shortest_head major n ++ drop start (meant self.old))) }
-        ensures front { OnOk result (KeepsFront from self.old self.new) }
-        ensures lies { OnOk result (self.old.buf ≡ meant self.old → self.new.buf ≡ meant self.new) }
+        ensures { OnOk result (Fills self.old self.new from start (shortest_head major n)) }
     {
         self.merge(start);
         if self.is_in_gap(from, start, head_len(major, n)) {

@@ -1,7 +1,7 @@
 -- What a public builder stands for, from what its core does.
-use Rattle.std.proofs.Common.{◌≡◌, ℕ, Bool, true, false, List, [], ◌∷◌, Option, Some, None, true≢false, refl, sym, ap, ◌∙◌, subst, IsTrue, IfSome, IsNone, ◌↔◌}
-use Rattle.cbor_builder.specs.Built.{Built, HasDistinctKeysSoFar, IsRepeatTold, keys_so_far, AreAllDifferent}
-use Rattle.cbor_canonical.specs.Parts.{Open, plain, an_array, a_map, a_key, a_string, HasNoRepeats, IsInContainer}
+use Rattle.std.proofs.Common.{◌≡◌, ℕ, Bool, true, false, List, [], ◌∷◌, Option, Some, None, true≢false, refl, sym, ap, ◌∙◌, subst, IsTrue, IfSome, IsNone, ◌↔◌, Ok}
+use Rattle.cbor_builder.specs.Built.{Built, HasDistinctKeysSoFar, IsRepeatTold, LeavesIfDistinct, keys_so_far, AreAllDifferent}
+use Rattle.cbor_canonical.specs.Parts.{Open, plain, a_map, HasNoRepeats, IsInContainer}
 use Rattle.cbor_buffer.specs.declared.span.Span.{Span}
 use Rattle.cbor_builder.specs.declared.builder.Core.{Core}
 use Rattle.cbor_builder.specs.declared.repeat.Repeat.{Repeat}
@@ -47,19 +47,30 @@ laid_whole b w bs kept e p =
 -- ---- a map that does not end
 
 different_repeats : (c : Open) → AreAllDifferent (keys_so_far c) → HasNoRepeats c
-different_repeats (plain bs) d = tt
-different_repeats (an_array n bs) d = tt
 different_repeats (a_map ps) d = different_distinct ps d
-different_repeats (a_key ps k) d = tt
-different_repeats (a_string m bs) d = tt
+different_repeats c d = tt
 
 -- what is told of it
-pub told_there : (b : Inside) (w : Built) (n : Core) (distinct : Bool) (r : Option Repeat) → IsKept b → seen b ≡ w → IsInContainer w.standing → IsLeftOpen b.core n → distinct ≡ false → (IsTrue distinct ↔ HasNoRepeats (innermost b.core))
-    → ((came : List Span) → WasLaid came n → Tells (came_standing came n) r) → (IsNone r → ⊥) × (HasDistinctKeysSoFar w.standing → ⊥) × IfSome r (λ (t : Repeat). IsRepeatTold w.standing t.outside t.pair)
-told_there b w n distinct r kept is inside left e d tells =
-    subst (λ (os : List Open). (IsNone r → ⊥) × (HasDistinctKeysSoFar os → ⊥) × IfSome r (λ (t : Repeat). IsRepeatTold os t.outside t.pair)) (known IsInContainer (λ h. h) b w kept is inside).standing_is
-    (by_result r (subst (λ (os : List Open). Tells os r) left.1 (tells b.core.spans.items left.0)))
+pub told_there : {E : Type 0} (b : Inside) (w : Built) (n : Core) (distinct : Bool) (r : Option Repeat) (new : Built) (os : List Open) → IsKept b → seen b ≡ w → IsInContainer w.standing → IsLeftOpen b.core n
+    → distinct ≡ false → (IsTrue distinct ↔ HasNoRepeats (innermost b.core)) → ((came : List Span) → WasLaid came n → Tells (came_standing came n) r)
+    → new.order ≡ b.core.order → new.standing ≡ [] → LeavesIfDistinct {E = E} (Ok r) w new os
+told_there b w n distinct r new os kept is inside left e d tells order nothing =
+    let k = known IsInContainer (λ h. h) b w kept is inside in
+    let t = subst (λ (os : List Open). (IsNone r → ⊥) × (HasDistinctKeysSoFar os → ⊥) × IfSome r (λ (t : Repeat). IsRepeatTold os t.outside t.pair)) k.standing_is
+    (by_result r (subst (λ (os : List Open). Tells os r) left.1 (tells b.core.spans.items left.0))) in
+    record {
+      order = order ∙ k.order;
+      distinct = ((λ none. absurd (t.0 none)), (λ h. absurd (t.1 h)));
+      ended = λ none. absurd (t.0 none);
+      told = t.2;
+      left = always r;
+      refused = tt;
+    }
   where
+    always : (r : Option Repeat) → IfSome r (λ _. new.standing ≡ [])
+    always None = tt
+    always (Some t) = nothing
+
     not_distinct : HasNoRepeats (innermost b.core) → ⊥
     not_distinct h = true≢false (sym (d.1 h) ∙ e)
 

@@ -15,8 +15,8 @@ use Rattle.cbor_buffer.specs.declared.span.Span.{Span}
 use Rattle.cbor_builder.specs.declared.repeats.Tie.{Tie}
 use Rattle.cbor_canonical.proofs.Members.{all_at, all_from}
 use Rattle.cbor_builder.proofs.Growth.{tile_within}
-use Rattle.cbor_builder.proofs.SortedSpans.{within_permuted}
-use Rattle.cbor_builder.proofs.Ties.{tie_permuted}
+use Rattle.cbor_builder.proofs.Ranks.{all_permuted}
+use Rattle.cbor_builder.proofs.Ties.{tie_permuted, first_same}
 
 -- ---- the places of pairs one behind the other
 
@@ -184,23 +184,15 @@ pub placed : (out : List ℕ) (xs ys zs : List Span) → length out < 2 ^ 63 →
 placed out xs ys zs short (start, end, tile, ends, fronted, moved) m = all_from HasPlace zs (λ s i. fits s (all_at (IsWithin out) zs s within i))
   where
     within : AreWithin out zs
-    within = within_permuted out ys zs m (within_permuted out xs ys moved (tile_within out start xs end tile ends))
+    within = all_permuted _ ys zs m (all_permuted _ xs ys moved (tile_within out start xs end tile ends))
 
     fits : (s : Span) → IsWithin out s → HasPlace s
     fits s w = omega (arith, w.0, w.1, w.2, short)
 
 tie_back : (out : List ℕ) (xs ys zs : List Span) (r : Option Tie) → AreOf out xs ys → IsPermutation ys zs → IsFirstTie out zs (length zs) r → IsFirstTie out xs (length xs) r
-tie_back out xs ys zs r of m h = by_first r h
-  where
-    there : IsPermutation xs zs
-    there = IsPermutation-trans xs ys zs of.5 m
-
-    forth : (earlier later : ℕ) → HasTie out xs (length xs) earlier later → HasTie out zs (length zs) earlier later
-    forth earlier later t = tie_permuted out xs zs earlier later there t
-
-    by_first : (r : Option Tie) → IsFirstTie out zs (length zs) r → IsFirstTie out xs (length xs) r
-    by_first None h = λ earlier later t. h earlier later (forth earlier later t)
-    by_first (Some f) h = (tie_permuted out zs xs f.earlier f.later (IsPermutation-sym xs zs there) h.0, λ earlier later t. h.1 earlier later (forth earlier later t))
+tie_back out xs ys zs r of m h =
+    let there = IsPermutation-trans xs ys zs of.5 m in
+    first_same out zs xs (length zs) (length xs) r (λ earlier later. tie_permuted out zs xs earlier later (IsPermutation-sym xs zs there)) (λ earlier later. tie_permuted out xs zs earlier later there) h
 
 pub none_told : (out : List ℕ) (xs ys zs : List Span) → AreOf out xs ys → IsPermutation ys zs → IsFirstTie out zs (length zs) None → AreAllDifferent (map (key_of out) xs)
 none_told out xs ys zs of m h = none_found out xs (tile_rises out of.0 of.1 xs of.2) (tie_back out xs ys zs None of m h)

@@ -1,6 +1,6 @@
 -- What stands open when the buffer grows.
 use Rattle.std.proofs.Common.{◌≡◌, ℕ, suc, ◌+◌, ◌-◌, ◌≤◌, Bool, List, [], ◌∷◌, ◌++◌, append_assoc, length, length-append, length-drop, take, drop, take-append-drop, length-take, drop-drop, refl, sym, ap, ◌∙◌, subst, arith, map, slice_range, flat_map, take_all}
-use Rattle.std.proofs.lemmas.List.{take-append-le, drop-append-le, drop_all, map-append, length-map}
+use Rattle.std.proofs.lemmas.List.{take-append-le, drop-append-le, drop_all, map-append, length-map, nil_from_length}
 use Rattle.std.proofs.Math.Seq.{drop-append_seam}
 use Rattle.cbor_head.specs.declared.major.Major.{Major}
 use Rattle.cbor_head.specs.declared.major.Major.TheVariants as of_major
@@ -55,11 +55,7 @@ fronted_more out (s ∷ ss) key val h = (h.0, fronted_more out ss key val h.1)
 -- the parts up to an end, joined
 pub tile_joins : (out : List ℕ) (a : ℕ) (ss : List Span) (n : ℕ) → Tile a ss n → n ≡ length out → flat_map pair_bytes (map (span_pair out) ss) ≡ drop a out
 tile_joins out a [] n t e =
-    let l = length-drop a out in none (drop a out) (omega (arith, t, e, l))
-  where
-    none : (xs : List ℕ) → length xs ≡ 0 → [] ≡ xs
-    none [] h = refl
-    none (x ∷ xs) h = absurd (omega (arith, h))
+    let l = length-drop a out in sym (nil_from_length (drop a out) (omega (arith, t, e, l)))
 tile_joins out a (s ∷ ss) n t e =
     let r = tile_le s.end ss n t.3 in
     ap (λ (xs : List ℕ). (slice_range out s.key s.val ++ slice_range out s.val s.end) ++ xs) (tile_joins out s.end ss n t.3 e)
@@ -187,14 +183,11 @@ lengthened o out b ss f fs laid string = by_shape f.shape laid.2 laid.3 string
   where
     by_shape : (s : Shape) → Fits o out ss f.from f.start f.rises s → Laid o (take f.from out) (outer_spans ss s) fs → IsString s
         → Stands o (out ++ b) ss (record { from = f.from; start = f.start; shape = s; rises = f.rises } ∷ fs) (with_content b (shape_open out ss f.start s) ∷ opens (take f.from out) (outer_spans ss s) fs)
-    by_shape Plain fits outer h = absurd h
-    by_shape (Array n) fits outer h = absurd h
-    by_shape (Map first) fits outer h = absurd h
-    by_shape (Key first at) fits outer h = absurd h
     by_shape (Content m) fits outer h =
         let l = length-append out b in
         let t = take-append-le f.from out b (omega (arith, laid.0, laid.1)) in
         ((laid.0, omega (arith, l, laid.1), fits, subst (λ (xs : List ℕ). Laid o xs ss fs) (sym t) outer), (λ i. a_string m (drop-append-le f.start out b laid.1 i) ∷ opens (t i) ss fs))
+    by_shape s fits outer h = absurd h
 
 -- ---- what ends
 
@@ -220,10 +213,7 @@ finished o out ss f [] laid bs e =
     by_shape Plain fits none c =
         let d : drop f.start out ≡ bs = cc in
         sym (take-append-drop f.from out) ∙ (λ i. none i ++ drop (sym fits i) out) ∙ d
-    by_shape (Array n) fits none c = cc
-    by_shape (Map first) fits none c = cc
-    by_shape (Key first at) fits none c = cc
-    by_shape (Content m) fits none c = cc
+    by_shape s fits none c = cc
 finished o out ss f (g ∷ fs) laid bs e = cc
 
 -- ---- the same from what calls ensure
@@ -243,8 +233,8 @@ begun m n from end out out' ss fs ef ee eo = by_major m (ap (drop from) eo ∙ a
     front : take from out' ≡ out
     front = ap (take from) eo ∙ take-append-le from out (shortest_head m n) (omega (arith, ef)) ∙ take_all from out (omega (arith, ef))
 
-    nothing : drop end out' ≡ []
-    nothing = drop_all end out' (omega (arith, ee))
+    no_bytes : drop end out' ≡ []
+    no_bytes = drop_all end out' (omega (arith, ee))
 
     no_pairs : pairs_from out' ss (length ss) ≡ []
     no_pairs = ap (map (span_pair out')) (drop_all (length ss) ss (omega arith))
@@ -253,14 +243,10 @@ begun m n from end out out' ss fs ef ee eo = by_major m (ap (drop from) eo ∙ a
     all = take_all (length ss) ss (omega arith)
 
     by_major : (k : Major) → drop from out' ≡ shortest_head k n → opens out' ss (opening_frame k from end (length ss) ∷ fs) ≡ opened k n ∷ opens out ss fs
-    by_major of_major.Array h = λ i. an_array 0 (nothing i) ∷ opens (front i) ss fs
+    by_major of_major.Array h = λ i. an_array 0 (no_bytes i) ∷ opens (front i) ss fs
     by_major of_major.Map h = λ i. a_map (no_pairs i) ∷ opens (front i) (all i) fs
     by_major of_major.Tag h = λ i. plain (h i) ∷ opens (front i) ss fs
-    by_major of_major.Unsigned h = λ i. a_string of_major.Unsigned (nothing i) ∷ opens (front i) ss fs
-    by_major of_major.Negative h = λ i. a_string of_major.Negative (nothing i) ∷ opens (front i) ss fs
-    by_major of_major.Bytes h = λ i. a_string of_major.Bytes (nothing i) ∷ opens (front i) ss fs
-    by_major of_major.Text h = λ i. a_string of_major.Text (nothing i) ∷ opens (front i) ss fs
-    by_major of_major.Simple h = λ i. a_string of_major.Simple (nothing i) ∷ opens (front i) ss fs
+    by_major k h = λ i. a_string k (no_bytes i) ∷ opens (front i) ss fs
 
 pub ended_by : (o : KeyOrder) (out : List ℕ) (ss : List Span) (f g : Frame) (fs below : List Frame) (out' : List ℕ) (ss1 ss' : List Span) (g' : Frame) (bytes : List ℕ) (at : ℕ)
     → below ≡ g ∷ fs → Laid o out ss (f ∷ below) → Takes g.shape → out' ≡ take f.from out ++ closed o (shape_open out ss f.start f.shape)

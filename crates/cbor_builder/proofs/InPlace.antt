@@ -1,7 +1,7 @@
 -- Keys lie as they are meant, whatever else does not.
 use Rattle.std.proofs.Common.{◌≡◌, ◌↔◌, ℕ, ◌+◌, ◌≤◌, Bool, List, [], ◌∷◌, ◌++◌, length, length-take, take, drop, map, refl, sym, ap, ◌∙◌, subst, arith, inl, inr, Option, Some, None, IsTrue, slice_range}
 use Rattle.std.specs.List.{AllByRecursion}
-use Rattle.std.proofs.lemmas.List.{take-append-le, drop-append-le}
+use Rattle.std.proofs.lemmas.List.{take-append-le, drop-append-le, nil_from_length}
 use Rattle.std.proofs.Math.Seq.{drop-append_seam}
 use Rattle.cbor_head.specs.Prelude.{Pair, key_lt}
 use Rattle.cbor_head.specs.declared.order.KeyOrder.{KeyOrder}
@@ -17,9 +17,9 @@ use Rattle.cbor_builder.specs.inner.Repeats.{TellsWithin}
 use Rattle.cbor_buffer.specs.declared.span.Span.{Span}
 use Rattle.cbor_builder.specs.declared.frame.Frame.{Frame}
 use Rattle.cbor_builder.specs.declared.frame.Shape.{Shape}
-use Rattle.cbor_builder.specs.declared.frame.Shape.TheVariants.{Plain, Array, Map, Key, Content}
+use Rattle.cbor_builder.specs.declared.frame.Shape.TheVariants.{Map, Key, Content}
 use Rattle.cbor_builder.specs.declared.repeat.Repeat.{Repeat}
-use Rattle.cbor_buffer.proofs.Slices.{slice_front, slice_all, nothing}
+use Rattle.cbor_buffer.proofs.Slices.{slice_front, slice_all}
 use Rattle.cbor_builder.proofs.Growth.{tile_le}
 use Rattle.cbor_builder.proofs.OpenRepeats.{maps_same}
 
@@ -30,11 +30,9 @@ keys_refl raw out [] e = tt
 keys_refl raw out (s ∷ ss) e = (ap (λ (xs : List ℕ). key_of xs s) e, keys_refl raw out ss e)
 
 pub shape_refl : (raw out : List ℕ) (ss : List Span) (s : Shape) → raw ≡ out → HasSameKeys raw out ss s
-shape_refl raw out ss Plain e = tt
-shape_refl raw out ss (Array n) e = tt
 shape_refl raw out ss (Map first) e = keys_refl raw out (drop first ss) e
 shape_refl raw out ss (Key first at) e = (keys_refl raw out (drop first ss) e, ap (drop at) e)
-shape_refl raw out ss (Content m) e = tt
+shape_refl raw out ss s e = tt
 
 pub agrees_refl : (raw out : List ℕ) (ss : List Span) (fs : List Frame) → raw ≡ out → Agrees raw out ss fs
 agrees_refl raw out ss [] e = tt
@@ -42,11 +40,8 @@ agrees_refl raw out ss (f ∷ []) e = e
 agrees_refl raw out ss (f ∷ g ∷ fs) e = (shape_refl raw out ss f.shape e, agrees_refl (take f.from raw) (take f.from out) (outer_spans ss f.shape) (g ∷ fs) (ap (take f.from) e))
 
 pub waits_refl : (raw out : List ℕ) (ss : List Span) (at : ℕ) (s : Shape) → raw ≡ out → WaitsSame raw out ss at s
-waits_refl raw out ss at Plain e = tt
-waits_refl raw out ss at (Array n) e = tt
-waits_refl raw out ss at (Map first) e = tt
 waits_refl raw out ss at (Key first key) e = (keys_refl raw out (drop first ss) e, ap (λ (xs : List ℕ). slice_range xs key at) e)
-waits_refl raw out ss at (Content m) e = tt
+waits_refl raw out ss at s e = tt
 
 -- of the innermost
 pub top_keys : (raw out : List ℕ) (ss : List Span) (f : Frame) (fs : List Frame) → Agrees raw out ss (f ∷ fs) → HasSameKeys raw out ss f.shape
@@ -90,27 +85,23 @@ own_same raw out [] h = refl
 own_same raw out (s ∷ ss) h = let k = h.0 in let r = own_same raw out ss h.1 in λ i. k i ∷ r i
 
 pub open_keys : (raw out : List ℕ) (ss : List Span) (start : ℕ) (s : Shape) → HasSameKeys raw out ss s → keys_so_far (shape_open raw ss start s) ≡ keys_so_far (shape_open out ss start s)
-open_keys raw out ss start Plain h = refl
-open_keys raw out ss start (Array n) h = refl
 open_keys raw out ss start (Map first) h = own_same raw out (drop first ss) h
 open_keys raw out ss start (Key first at) h = let k = own_same raw out (drop first ss) h.0 in let d = h.1 in λ i. k i ++ d i ∷ []
-open_keys raw out ss start (Content m) h = refl
+open_keys raw out ss start s h = refl
 
 -- ---- the whole standing by the bytes as they lie
 
 fits_raw : (o : KeyOrder) (raw out : List ℕ) (ss : List Span) (from start : ℕ) (rises : Bool) (s : Shape) → length raw ≡ length out → HasSameKeys raw out ss s → Fits o out ss from start rises s → Fits o raw ss from start rises s
-fits_raw o raw out ss from start rises Plain l h f = f
-fits_raw o raw out ss from start rises (Array n) l h f = f
 fits_raw o raw out ss from start rises (Map first) l h f =
     let back = keys_flip raw out (drop first ss) h in
     (f.0, subst (Tile start (drop first ss)) (sym l) f.1, (λ t. rising_keys o out raw (drop first ss) back (f.2 t)), fronted_keys raw out (drop first ss) h f.3)
 fits_raw o raw out ss from start rises (Key first at) l h f =
     let back = keys_flip raw out (drop first ss) h.0 in
     (f.0, f.1, omega (arith, l, f.2), (λ t. rising_keys o out raw (drop first ss) back (f.3 t)), fronted_keys raw out (drop first ss) h.0 f.4)
-fits_raw o raw out ss from start rises (Content m) l h f = f
+fits_raw o raw out ss from start rises s l h f = f
 
 pub laid_raw : (o : KeyOrder) (raw out : List ℕ) (ss : List Span) (fs : List Frame) → length raw ≡ length out → Agrees raw out ss fs → Laid o out ss fs → Laid o raw ss fs
-laid_raw o raw out ss [] l a laid = nothing raw (l ∙ ap length laid)
+laid_raw o raw out ss [] l a laid = nil_from_length raw (l ∙ ap length laid)
 laid_raw o raw out ss (f ∷ fs) l a laid =
     let x = length-take f.from raw in
     let y = length-take f.from out in (
@@ -159,12 +150,9 @@ pub waits_stay : (o : KeyOrder) (raw out x y : List ℕ) (ss : List Span) (f : F
 waits_stay o raw out x y ss f fs l laid a = by_shape f.shape laid.2 (top_keys raw out ss f fs a)
   where
     by_shape : (s : Shape) → Fits o out ss f.from f.start f.rises s → HasSameKeys raw out ss s → WaitsSame (raw ++ x) (out ++ y) ss (length out) s
-    by_shape Plain fits h = tt
-    by_shape (Array n) fits h = tt
-    by_shape (Map first) fits h = tt
     by_shape (Key first at) fits h =
         (keys_stay raw out x y f.start (drop first ss) at fits.1 (omega (arith, l, fits.2)) fits.2 h.0, last_stays raw out x y at l fits.2 h.1)
-    by_shape (Content m) fits h = tt
+    by_shape s fits h = tt
 
 pub agrees_given : (o : KeyOrder) (raw out x y : List ℕ) (ss : List Span) (from start : ℕ) (was now : Bool) (s : Shape) (fs : List Frame)
     → from ≤ start → start ≤ length out → length raw ≡ length out → Fits o out ss from start was s → Takes s
@@ -181,8 +169,6 @@ agrees_given o raw out x y ss from start was now s (f ∷ fs) h g l fits takes a
 
     by_shape : (s : Shape) → Fits o out ss from start was s → Takes s → HasSameKeys raw out ss s → Agrees (take from raw) (take from out) (outer_spans ss s) (f ∷ fs) → ((first : ℕ) → s ≡ Map first → x ≡ y)
         → Agrees (raw ++ x) (out ++ y) (spans_after (out ++ y) ss (length out) s) (record { from = from; start = start; shape = shape_after (length out) s; rises = now } ∷ f ∷ fs)
-    by_shape Plain fits takes k b key = (tt, outer ss b)
-    by_shape (Array n) fits takes k b key = (tt, outer ss b)
     by_shape (Map first) fits takes k b key = (
       (
         keys_stay raw out x y start (drop first ss) (length out) fits.1 (omega (arith, l)) (omega arith) k,
@@ -199,6 +185,7 @@ agrees_given o raw out x y ss from start was now s (f ∷ fs) h g l fits takes a
           subst (λ (us : List Span). Agrees (take from (raw ++ x)) (take from (out ++ y)) us (f ∷ fs)) (sym ts) (outer (take first ss) b),
         )
     by_shape (Content m) fits takes k b key = absurd takes
+    by_shape s fits takes k b key = (tt, outer ss b)
 
 -- what was done by the bytes as they lie was done by them as they are meant
 pub completed_same : (o : KeyOrder) (raw out : List ℕ) (ss : List Span) (at : ℕ) (f : Frame) (ss' : List Span) (f' : Frame) → length raw ≡ length out → WaitsSame raw out ss at f.shape
@@ -207,16 +194,10 @@ completed_same o raw out ss at f ss' f' l w c =
     (c.0, c.1, c.2, c.3 ∙ spans f.shape w, rises f.shape w c.4)
   where
     spans : (s : Shape) → WaitsSame raw out ss at s → spans_after raw ss at s ≡ spans_after out ss at s
-    spans Plain w = refl
-    spans (Array n) w = refl
-    spans (Map first) w = refl
     spans (Key first key) w = let k = w.1 in λ i. ss ++ record { front = front_of (k i); key = key; val = at; end = l i } ∷ []
-    spans (Content m) w = refl
+    spans s w = refl
 
     rises : (s : Shape) → WaitsSame raw out ss at s → KeepsRising o raw ss at s f.rises f'.rises → KeepsRising o out ss at s f.rises f'.rises
-    rises Plain w k = k
-    rises (Array n) w k = k
-    rises (Map first) w k = k
     rises (Key first key) w k = λ t. (
       (k t).0,
       (λ r.
@@ -227,7 +208,7 @@ completed_same o raw out ss at f ss' f' l w c =
           subst (λ (s : Span). IsRising o (map (span_pair out) (old ++ s ∷ []))) new
           (rising_keys o raw out (old ++ span raw key at ∷ []) (keys_more raw out old (span raw key at) w.0 w.1) was)),
     )
-    rises (Content m) w k = k
+    rises s w k = k
 
 pub ready_same : (raw out : List ℕ) (ss : List Span) (at : ℕ) (s : Shape) → length raw ≡ length out → WaitsSame raw out ss at s → IsReady out ss at s → IsReady raw ss at s
 ready_same raw out ss at s l w h first key e =
@@ -267,11 +248,8 @@ agrees_longer raw out x ss f (e ∷ fs) h g s a = (
 )
   where
     by_shape : (s : Shape) → IsString s → HasSameKeys (raw ++ x) (out ++ x) ss s
-    by_shape Plain h = absurd h
-    by_shape (Array n) h = absurd h
-    by_shape (Map first) h = absurd h
-    by_shape (Key first at) h = absurd h
     by_shape (Content m) h = tt
+    by_shape s h = absurd h
 
 -- ---- nothing else is open
 

@@ -1,7 +1,9 @@
 -- Spans put in order one by one.
 use Rattle.std.proofs.Common.{◌≡◌, ℕ, zero, suc, ◌+◌, ◌-◌, ◌<◌, ◌≤◌, List, [], ◌∷◌, ◌++◌, length, length-take, take, drop, drop-drop, get_or, set, map, refl, sym, ap, ◌∙◌, subst, arith, inl, inr, IsPermutation, IsSortedBy, false, IsTrue, take-take}
 use Rattle.std.specs.List.{AllByRecursion, insert}
-use Rattle.std.proofs.lemmas.List.{take_more}
+use Rattle.std.proofs.lemmas.List.{take_more, take-map}
+use Rattle.std.proofs.lemmas.List.Edits.{get_or-insert_below}
+use Rattle.std.proofs.Math.Seq.{take-append_seam, drop-append_seam}
 use Rattle.std.proofs.lemmas.Bool.{false_from_ne_true}
 use Rattle.std.proofs.lemmas.List.Sorted.{IsPermutation-trans, IsPermutation-append_comm, IsPermutation-append_right, IsPermutation-map}
 use Rattle.std.specs.declared.cmp.Ordering.{Ordering}
@@ -16,18 +18,17 @@ use Rattle.cbor_buffer.specs.declared.span.Span.{Span}
 use Rattle.cbor_builder.specs.Built.{HasKey}
 use Rattle.cbor_builder.specs.inner.Front.{key_of, IsFronted, AreFronted, rank, ranked_by}
 use Rattle.cbor_builder.specs.inner.Insertion.{in_front}
-use Rattle.cbor_builder.proofs.Ranks.{agree_spans, fronted_at}
+use Rattle.cbor_buffer.proofs.ByIndex.{all_index}
+use Rattle.cbor_builder.proofs.Ranks.{agree_spans}
 use Rattle.cbor_builder.proofs.Neighbours.{distinct_permuted}
 
 -- ---- a list with one more at a place
 
 -- the last one stands where one more does
 pub free_place : (n : ℕ) (ss : List Span) → n + 1 ≡ length ss → (h : Span) × (ss ≡ insert (take n ss) n h)
-free_place zero [] e = absurd (omega (arith, e))
 free_place zero (s ∷ []) e = (s, refl)
-free_place zero (s ∷ t ∷ ss) e = absurd (omega (arith, e))
-free_place (suc n) [] e = absurd (omega (arith, e))
 free_place (suc n) (s ∷ ss) e = let r = free_place n ss (omega (arith, e)) in (r.0, ap (λ (us : List Span). s ∷ us) r.1)
+free_place n ss e = absurd (omega (arith, e))
 
 pub set_free : (ss : List Span) (n : ℕ) (h s : Span) → n ≤ length ss → set (insert ss n h) n s ≡ insert ss n s
 set_free ss zero h s l = refl
@@ -40,16 +41,11 @@ doubled [] n s l e = absurd (omega (arith, l))
 doubled (x ∷ ss) zero s l e = let f : s ≡ x = e in ap (λ (t : Span). t ∷ s ∷ ss) (sym f) ∙ ap (λ (t : Span). s ∷ t ∷ ss) f
 doubled (x ∷ ss) (suc n) s l e = ap (λ (us : List Span). x ∷ us) (doubled ss n s (omega (arith, l)) e)
 
-pub get_free : (ss : List Span) (n : ℕ) (h d : Span) → n < length ss → get_or (insert ss (suc n) h) n d ≡ get_or ss n d
-get_free [] n h d l = absurd (omega (arith, l))
-get_free (x ∷ ss) zero h d l = refl
-get_free (x ∷ ss) (suc n) h d l = get_free ss n h d (omega (arith, l))
-
 -- the free place moves one to the front
 pub free_moved : (ss us : List Span) (at n : ℕ) (h s : Span) → suc n ≡ at → n < length ss → us ≡ insert ss at h → s ≡ get_or us n s → (s ≡ get_or ss n s) × (set us at s ≡ insert ss n s)
 free_moved ss us at n h s q l e r =
     let stands : us ≡ insert ss (suc n) h = e ∙ ap (λ k. insert ss k h) (sym q) in
-    let same : s ≡ get_or ss n s = r ∙ ap (λ (ts : List Span). get_or ts n s) stands ∙ get_free ss n h s l in
+    let same : s ≡ get_or ss n s = r ∙ ap (λ (ts : List Span). get_or ts n s) stands ∙ get_or-insert_below ss (suc n) h s n (omega arith) (omega (arith, l)) in
     (same, ap (λ k. set us k s) (sym q) ∙ ap (λ (ts : List Span). set ts (suc n) s) stands ∙ set_free ss (suc n) h s (omega (arith, l)) ∙ doubled ss n s l same)
 
 -- those in front of the last of the first ones
@@ -59,17 +55,11 @@ in_front_taken n us l =
     ap (λ k. take k (take (n + 1) us)) len ∙ take-take n (n + 1) us (omega arith)
 
 pub taken_front : (n : ℕ) (us ts : List Span) → length us ≡ n → take n (us ++ ts) ≡ us
-taken_front zero [] ts e = refl
-taken_front zero (s ∷ us) ts e = absurd (omega (arith, e))
-taken_front (suc n) [] ts e = absurd (omega (arith, e))
-taken_front (suc n) (s ∷ us) ts e = ap (λ (xs : List Span). s ∷ xs) (taken_front n us ts (omega (arith, e)))
+taken_front n us ts e = ap (λ k. take k (us ++ ts)) (sym e) ∙ take-append_seam us ts
 
 -- what lies behind the first ones is as it was
 pub rest_front : (n : ℕ) (us ts : List Span) → length us ≡ n → drop n (us ++ ts) ≡ ts
-rest_front zero [] ts e = refl
-rest_front zero (s ∷ us) ts e = absurd (omega (arith, e))
-rest_front (suc n) [] ts e = absurd (omega (arith, e))
-rest_front (suc n) (s ∷ us) ts e = rest_front n us ts (omega (arith, e))
+rest_front n us ts e = ap (λ k. drop k (us ++ ts)) (sym e) ∙ drop-append_seam us ts
 
 pub same_at : (n : ℕ) (ss us : List Span) (d : Span) → drop n ss ≡ drop n us → n < length ss → n < length us → get_or ss n d ≡ get_or us n d
 same_at zero ss us d e h g = ap (λ (ts : List Span). get_or ts 0 d) e
@@ -156,7 +146,7 @@ rising_sorted o out ss r = λ k d l h.
 -- of one that stands in a list, and the next
 pub ranked_key : (o : KeyOrder) (out : List ℕ) (ss : List Span) (n : ℕ) (s next : Span) (r : Ordering) → AreBytes out → AreFronted out ss → IsFronted out next → n < length ss → s ≡ get_or ss n s
     → r ≡ rank o (ranked_by out s) (ranked_by out next) → r ≡ key_cmp o (key_of out s) (key_of out next)
-ranked_key o out ss n s next r b f g l e h = h ∙ agree_spans o out s next b (subst (IsFronted out) (sym e) (fronted_at out ss n s f l)) g
+ranked_key o out ss n s next r b f g l e h = h ∙ agree_spans o out s next b (subst (IsFronted out) (sym e) (all_index _ ss n s f l)) g
 
 pub less_key : (o : KeyOrder) (k l : List ℕ) → Less ≡ key_cmp o k l → IsTrue (key_lt o k l)
 less_key o k l e = sym (ap is_lt e)
@@ -176,20 +166,13 @@ no_key out next [] d h = h
 no_key out next (s ∷ ss) d (inl e) = d.0.0 e
 no_key out next (s ∷ ss) d (inr h) = no_key out next ss (d.0.1, d.1.1) h
 
-all_taken : {X : Type 0} (P : X → Type 0) (n : ℕ) (xs : List X) → AllByRecursion P xs → AllByRecursion P (take n xs)
-all_taken P zero xs a = tt
-all_taken P (suc n) [] a = tt
+pub all_taken : {X : Type 0} (P : X → Type 0) (n : ℕ) (xs : List X) → AllByRecursion P xs → AllByRecursion P (take n xs)
 all_taken P (suc n) (x ∷ xs) a = (a.0, all_taken P n xs a.1)
+all_taken P n xs a = tt
 
-taken_of : (out k : List ℕ) (n : ℕ) (ss : List Span) → AllByRecursion (λ q. q.key ≡ k → ⊥) (map (span_pair out) ss) → AllByRecursion (λ q. q.key ≡ k → ⊥) (map (span_pair out) (take n ss))
-taken_of out k zero ss a = tt
-taken_of out k (suc n) [] a = tt
-taken_of out k (suc n) (s ∷ ss) a = (a.0, taken_of out k n ss a.1)
-
-distinct_taken : (out : List ℕ) (n : ℕ) (ss : List Span) → HasDistinctBytes (map (span_pair out) ss) → HasDistinctBytes (map (span_pair out) (take n ss))
-distinct_taken out zero ss d = tt
-distinct_taken out (suc n) [] d = tt
-distinct_taken out (suc n) (s ∷ ss) d = (taken_of out (key_of out s) n ss d.0, distinct_taken out n ss d.1)
+distinct_taken : (n : ℕ) (ps : List Pair) → HasDistinctBytes ps → HasDistinctBytes (take n ps)
+distinct_taken (suc n) (p ∷ ps) d = (all_taken _ n ps d.0, distinct_taken n ps d.1)
+distinct_taken n ps d = tt
 
 -- ---- a turn of the loop
 
@@ -207,7 +190,4 @@ pub repeats : (o : KeyOrder) (out : List ℕ) (ss us : List Span) (n : ℕ) (nex
 repeats o out ss us n next l e m h d =
     let f = span_pair out in
     let moved = IsPermutation-trans _ _ _ (one_more ss n next l e) (IsPermutation-append_right (next ∷ []) (take n ss) us m) in
-    no_key out next us (distinct_permuted o (map f (take (n + 1) ss)) (map f (next ∷ us)) (IsPermutation-map f (take (n + 1) ss) (next ∷ us) moved) (distinct_taken out (n + 1) ss d)) h
-
-pub fronted_taken : (out : List ℕ) (n : ℕ) (ss : List Span) → AreFronted out ss → AreFronted out (take n ss)
-fronted_taken out n ss f = all_taken _ n ss f
+    no_key out next us (distinct_permuted o (map f (take (n + 1) ss)) (map f (next ∷ us)) (IsPermutation-map f (take (n + 1) ss) (next ∷ us) moved) (subst HasDistinctBytes (take-map f (n + 1) ss) (distinct_taken (n + 1) (map f ss) d))) h

@@ -1,7 +1,9 @@
 -- Keys of a map of which none is equal to another, with the one that waits for its value.
-use Rattle.std.proofs.Common.{◌≡◌, ◌≢◌, ℕ, zero, suc, ◌<◌, List, [], ◌∷◌, ◌++◌, length, length-append, get_or, refl, sym, ap, ◌∙◌, arith, inl, inr}
+use Rattle.std.proofs.Common.{◌≡◌, ◌≢◌, ℕ, zero, suc, ◌<◌, List, [], ◌∷◌, ◌++◌, length, length-append, get_or, sym, ap, ◌∙◌, arith, inl, inr}
 use Rattle.std.specs.List.{AllByRecursion}
 use Rattle.std.proofs.lemmas.Bool.{cases_lt}
+use Rattle.std.proofs.Math.ListN.{get_or-append}
+use Rattle.std.proofs.Math.Seq.{get_or-append_seam}
 use Rattle.cbor_head.specs.Prelude.{Pair}
 use Rattle.cbor_builder.specs.Built.{HasKey, IsRepeatAt, AreAllDifferent, IsFirstRepeat}
 use Rattle.cbor_canonical.specs.Pairs.{HasDistinctBytes}
@@ -20,22 +22,13 @@ key_there [] k j l e = absurd (omega (arith, l))
 key_there (p ∷ ps) k zero l e = inl e
 key_there (p ∷ ps) k (suc j) l e = inr (key_there ps k j (omega (arith, l)) e)
 
-in_front : (ks : List (List ℕ)) (k : List ℕ) (i : ℕ) → i < length ks → get_or (ks ++ k ∷ []) i [] ≡ get_or ks i []
-in_front [] k i l = absurd (omega (arith, l))
-in_front (x ∷ ks) k zero l = refl
-in_front (x ∷ ks) k (suc i) l = in_front ks k i (omega (arith, l))
-
-at_end : (ks : List (List ℕ)) (k : List ℕ) → get_or (ks ++ k ∷ []) (length ks) [] ≡ k
-at_end [] k = refl
-at_end (x ∷ ks) k = at_end ks k
-
 repeat_less : (ks : List (List ℕ)) (k : List ℕ) (i : ℕ) → i < length ks → IsRepeatAt (ks ++ k ∷ []) i → IsRepeatAt ks i
-repeat_less ks k i l r = (r.0, r.1, l, sym (in_front ks k r.0 (omega (arith, l, r.1))) ∙ r.3 ∙ in_front ks k i l)
+repeat_less ks k i l r = (r.0, r.1, l, sym (get_or-append ks (k ∷ []) [] r.0 (omega (arith, l, r.1))) ∙ r.3 ∙ get_or-append ks (k ∷ []) [] i l)
 
 repeat_more : (ks : List (List ℕ)) (k : List ℕ) (i : ℕ) → IsRepeatAt ks i → IsRepeatAt (ks ++ k ∷ []) i
 repeat_more ks k i r =
     let n = length-append ks (k ∷ []) in
-    (r.0, r.1, omega (arith, n, r.2), in_front ks k r.0 (omega (arith, r.1, r.2)) ∙ r.3 ∙ sym (in_front ks k i r.2))
+    (r.0, r.1, omega (arith, n, r.2), get_or-append ks (k ∷ []) [] r.0 (omega (arith, r.1, r.2)) ∙ r.3 ∙ sym (get_or-append ks (k ∷ []) [] i r.2))
 
 pub first_more : (ks : List (List ℕ)) (k : List ℕ) (i : ℕ) → IsFirstRepeat ks i → IsFirstRepeat (ks ++ k ∷ []) i
 first_more ks k i f = (repeat_more ks k i f.0, λ j l r. f.1 j l (repeat_less ks k j (omega (arith, l, f.0.2)) r))
@@ -44,7 +37,7 @@ pub waits_repeated : (ps : List Pair) (k : List ℕ) → AreAllDifferent (keys p
 waits_repeated ps k d h =
     let m = key_exactly ps k h in
     let n = length-append (keys ps) (k ∷ []) in (
-      (m.0, m.1, omega (arith, n), in_front (keys ps) k m.0 m.1 ∙ m.2 ∙ sym (at_end (keys ps) k)),
+      (m.0, m.1, omega (arith, n), get_or-append (keys ps) (k ∷ []) [] m.0 m.1 ∙ m.2 ∙ sym (get_or-append_seam (keys ps) k [] [])),
       λ j l r. d j (repeat_less (keys ps) k j l r),
     )
 
@@ -55,7 +48,7 @@ waits_alone ps k d h i r =
       | inl l ↦ d i (repeat_less (keys ps) k i l r)
       | inr l ↦
           let e : i ≡ length (keys ps) = omega (arith, l, n, r.2) in
-          h (key_there ps k r.0 (omega (arith, r.1, e)) (sym (in_front (keys ps) k r.0 (omega (arith, r.1, e))) ∙ r.3 ∙ ap (λ (j : ℕ). get_or (keys ps ++ k ∷ []) j []) e ∙ at_end (keys ps) k))
+          h (key_there ps k r.0 (omega (arith, r.1, e)) (sym (get_or-append (keys ps) (k ∷ []) [] r.0 (omega (arith, r.1, e))) ∙ r.3 ∙ ap (λ (j : ℕ). get_or (keys ps ++ k ∷ []) j []) e ∙ get_or-append_seam (keys ps) k [] []))
     ]
 
 -- ---- distinct keys repeat none

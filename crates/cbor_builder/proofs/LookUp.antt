@@ -4,7 +4,7 @@ use Rattle.std.specs.List.{AllByRecursion}
 use Rattle.std.specs.Ordering.{is_eq}
 use Rattle.std.specs.declared.cmp.Ordering.{Ordering}
 use Rattle.std.proofs.lemmas.Cmp.{tied_itself}
-use Rattle.std.proofs.lemmas.List.{drop_all}
+use Rattle.std.proofs.lemmas.List.{drop_all, get_or_default}
 use Rattle.cbor_head.specs.Prelude.{key_cmp, key_lt, Value, Entries, HasEntry, Same, AreBytes, AreEntriesInRange, IsInRange, IsValid, Pair, canonical, canonical_entries}
 use Rattle.cbor_head.specs.Value.{no_entries, entry}
 use Rattle.cbor_head.specs.declared.order.KeyOrder.{KeyOrder}
@@ -13,12 +13,11 @@ use Rattle.cbor_canonical.specs.Pairs.{IsRising, AreKeysValid}
 use Rattle.cbor_builder.specs.inner.Front.{key_of, IsFronted, AreFronted, rank, ranked_by}
 use Rattle.cbor_buffer.specs.Spans.{span_pair}
 use Rattle.cbor_buffer.specs.declared.span.Span.{Span}
-use Rattle.cbor_buffer.proofs.ByIndex.{at_read}
+use Rattle.cbor_buffer.proofs.ByIndex.{at_read, all_index}
 use Rattle.cbor_canonical.proofs.Keys.{same_exactly}
-use Rattle.cbor_builder.proofs.Ranks.{agree_spans, fronted_at}
+use Rattle.cbor_builder.proofs.Ranks.{agree_spans}
 use Rattle.cbor_canonical.proofs.Orders.{key_cmp_total, lt_irrefl}
 use Rattle.cbor_builder.proofs.SortedSpans.{equal_keys}
-use Rattle.cbor_buffer.proofs.Slices.{get_same}
 use Rattle.cbor_canonical.proofs.Sound.{IsSound, sound}
 
 key_at : (f : Span → Pair) (ks : List Span) (i : ℕ) (x : Span) (k : List ℕ) → i < length ks → x ≡ get_or ks i x
@@ -30,8 +29,8 @@ pub key_step : (o : KeyOrder) (out : List ℕ) (ks : List Span) (i : ℕ) (d y :
     → HasKey (map (span_pair out) (drop i ks)) (key_of out y) ↔ (IsTrue (is_eq r) ⊎ HasKey (map (span_pair out) (drop (i + 1) ks)) (key_of out y))
 key_step o out ks i d y r b fr fy l h0 =
     let x = get_or ks i d in
-    let h = h0 ∙ agree_spans o out x y b (fronted_at out ks i d fr l) fy in
-    let step = key_at (span_pair out) ks i x (key_of out y) l (get_same ks i d x l) in (
+    let h = h0 ∙ agree_spans o out x y b (all_index _ ks i d fr l) fy in
+    let step = key_at (span_pair out) ks i x (key_of out y) l (get_or_default ks i d x l) in (
       (λ a. elim (step.0 a) [
         | inl e ↦ inl (ap is_eq (h ∙ ap (λ (k : List ℕ). key_cmp o k (key_of out y)) e ∙ tied_itself (key_cmp_total o) (key_of out y)))
         | inr n ↦ inr n

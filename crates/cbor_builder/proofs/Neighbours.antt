@@ -4,15 +4,16 @@ use Rattle.std.specs.List.{IsDistinct}
 use Rattle.std.specs.Ordering.{is_eq}
 use Rattle.std.proofs.lemmas.Cmp.{tied_itself}
 use Rattle.std.proofs.lemmas.Map.Keys.{IsDistinct-IsPermutation}
-use Rattle.cbor_head.specs.Prelude.{key_cmp, key_lt, Pair}
+use Rattle.std.proofs.lemmas.List.Sorted.{IsPermutation-sym, Contains-permutation}
+use Rattle.cbor_head.specs.Prelude.{key_cmp, key_lt, Pair, in_order}
 use Rattle.cbor_head.specs.declared.order.KeyOrder.{KeyOrder}
 use Rattle.cbor_builder.specs.inner.Neighbours.{IsNotFirst, DoNeighboursDiffer}
 use Rattle.cbor_canonical.specs.Pairs.{HasDistinctBytes, IsRising}
 use Rattle.cbor_buffer.proofs.ByIndex.{at_read}
-use Rattle.cbor_canonical.proofs.Members.{all_at, all_from}
+use Rattle.cbor_canonical.proofs.Members.{all_at, all_from, in_contains, contains_in}
 use Rattle.cbor_canonical.proofs.Orders.{key_cmp_total, lt_trans, lt_other}
 use Rattle.cbor_builder.proofs.SortedPairs.{pair_lt, same_key, same_key-flips, IsDistinct-keys}
-use Rattle.cbor_canonical.proofs.Sorting.{rises_at, rising_cons}
+use Rattle.cbor_canonical.proofs.Sorting.{rises_at, rising_cons, rising_unique, in_order_rising, in_order_in, in_in_order}
 
 -- ---- along a list, through a view of each element
 
@@ -67,3 +68,10 @@ distinct_from_keys o (p ∷ ps) d = (
 
 pub distinct_permuted : (o : KeyOrder) (ps qs : List Pair) → IsPermutation ps qs → HasDistinctBytes ps → HasDistinctBytes qs
 distinct_permuted o ps qs m d = distinct_from_keys o qs (IsDistinct-IsPermutation (same_key o) (same_key-flips o) ps qs m (IsDistinct-keys o ps d))
+
+-- a sorted permutation of pairs whose keys differ is the list in order
+pub sorted_is_in_order : (o : KeyOrder) (ps qs : List Pair) → HasDistinctBytes ps → IsPermutation ps qs → IsSortedBy (pair_lt o) qs → qs ≡ in_order o ps
+sorted_is_in_order o ps qs d m s =
+    rising_unique o qs (in_order o ps) (rising_from_differ o qs s (differ_from_distinct qs (distinct_permuted o ps qs m d))) (in_order_rising o ps d)
+    (λ p i. in_in_order o ps p (contains_in ps p (Contains-permutation qs ps p (IsPermutation-sym ps qs m) (in_contains qs p i))))
+    (λ p i. contains_in qs p (Contains-permutation ps qs p m (in_contains ps p (in_order_in o ps p i))))

@@ -14,7 +14,7 @@ use Rattle.cbor_builder.specs.inner.Repeats.{first_of, maps_of, AreOf, outward, 
 use Rattle.cbor_buffer.specs.declared.span.Span.{Span}
 use Rattle.cbor_builder.specs.declared.frame.Frame.{Frame}
 use Rattle.cbor_builder.specs.declared.frame.Shape.{Shape}
-use Rattle.cbor_builder.specs.declared.frame.Shape.TheVariants.{Plain, Array, Map, Key, Content}
+use Rattle.cbor_builder.specs.declared.frame.Shape.TheVariants.{Plain, Map, Key}
 use Rattle.cbor_builder.specs.declared.repeat.Repeat.{Repeat}
 use Rattle.cbor_builder.proofs.Neighbours.{keys, keys-map}
 use Rattle.cbor_builder.proofs.KeysSoFar.{first_more, waits_repeated, waits_alone, distinct_different}
@@ -40,10 +40,7 @@ tells_all whole (Some t) h = let e : t.outside + 0 ≡ t.outside = omega arith i
 
 pub maps_more : (out : List ℕ) (ss : List Span) (start : ℕ) (s : Shape) (os : List Open) → maps_of s + open_maps os ≡ open_maps (shape_open out ss start s ∷ os)
 maps_more out ss start Plain os = omega arith
-maps_more out ss start (Array n) os = omega arith
-maps_more out ss start (Map first) os = omega arith
-maps_more out ss start (Key first at) os = omega arith
-maps_more out ss start (Content m) os = omega arith
+maps_more out ss start s os = omega arith
 
 pub maps_same : (raw out : List ℕ) (ss : List Span) (fs : List Frame) → open_maps (opens raw ss fs) ≡ open_maps (opens out ss fs)
 maps_same raw out ss [] = refl
@@ -56,10 +53,7 @@ maps_same raw out ss (f ∷ fs) =
 
 maps_least : (s : Shape) → maps_of s ≤ 1
 maps_least Plain = omega arith
-maps_least (Array n) = omega arith
-maps_least (Map first) = omega arith
-maps_least (Key first at) = omega arith
-maps_least (Content m) = omega arith
+maps_least s = omega arith
 
 pub below_fits : (found : Option Repeat) (s : Shape) (n : ℕ) → n < 2 ^ 63 → IsBelow found n → IfSome found (λ (t : Repeat). t.outside + maps_of s < 2 ^ 64)
 below_fits None s n l h = tt
@@ -89,17 +83,11 @@ none_of f ss = ap (map f) (drop_all (length ss) ss (omega arith))
 pairs_keys : (out : List ℕ) (ss : List Span) (first : ℕ) → keys (pairs_from out ss first) ≡ map (key_of out) (drop first ss)
 pairs_keys out ss first = keys-map (span_pair out) (drop first ss)
 
-no_keys : (ks : List (List ℕ)) (r : Option ℕ) (waits : Bool) (count : ℕ) → ks ≡ [] → MatchOption r (AreAllDifferent ks) (IsFirstRepeat ks) → (IsTrue waits → ⊥)
-    → MatchOption (option_or r (then_some waits count)) (AreAllDifferent []) (IsFirstRepeat [])
-no_keys ks (Some m) waits count e h w = let f = subst (λ (ks : List (List ℕ)). IsFirstRepeat ks m) e h in absurd (omega (arith, f.0.2))
-no_keys ks None true count e h w = absurd (w refl)
-no_keys ks None false count e h w = λ i t. absurd (omega (arith, t.2))
-
-with_pairs : (ps : List Pair) (r : Option ℕ) (waits : Bool) (count : ℕ) → MatchOption r (AreAllDifferent (keys ps)) (IsFirstRepeat (keys ps)) → (IsTrue waits → ⊥)
-    → MatchOption (option_or r (then_some waits count)) (AreAllDifferent (keys ps)) (IsFirstRepeat (keys ps))
-with_pairs ps (Some m) waits count h w = h
-with_pairs ps None true count h w = absurd (w refl)
-with_pairs ps None false count h w = h
+-- no key waits
+without_key : (ks : List (List ℕ)) (r : Option ℕ) (waits : Bool) (count : ℕ) → MatchOption r (AreAllDifferent ks) (IsFirstRepeat ks) → (IsTrue waits → ⊥)
+    → MatchOption (option_or r (then_some waits count)) (AreAllDifferent ks) (IsFirstRepeat ks)
+without_key ks None true count h w = absurd (w refl)
+without_key ks r waits count h w = h
 
 with_key : (ps : List Pair) (k : List ℕ) (r : Option ℕ) (waits : Bool) (count : ℕ) → count ≡ length (keys ps) → MatchOption r (AreAllDifferent (keys ps)) (IsFirstRepeat (keys ps))
     → (IsTrue waits ↔ HasKey ps k) → MatchOption (option_or r (then_some waits count)) (AreAllDifferent (keys ps ++ k ∷ [])) (IsFirstRepeat (keys ps ++ k ∷ []))
@@ -118,24 +106,21 @@ count_keys out ss first count e =
 pub shape_tells : (out : List ℕ) (ss : List Span) (start count : ℕ) (s : Shape) (r : Option ℕ) (waits : Bool) (os : List Open) → count ≡ length ss - first_of ss s
     → MatchOption r (AreAllDifferent (own_keys out ss s)) (IsFirstRepeat (own_keys out ss s)) → (IsTrue waits ↔ IsRepeatedKey (shape_open out ss start s ∷ os))
     → MatchOption (option_or r (then_some waits count)) (AreAllDifferent (keys_so_far (shape_open out ss start s))) (IsFirstRepeat (keys_so_far (shape_open out ss start s)))
-shape_tells out ss start count Plain r w os e h k = no_keys (own_keys out ss Plain) r w count (none_of (key_of out) ss) h k.0
-shape_tells out ss start count (Array n) r w os e h k = no_keys (own_keys out ss (Array n)) r w count (none_of (key_of out) ss) h k.0
 shape_tells out ss start count (Map first) r w os e h k =
-    with_pairs (pairs_from out ss first) r w count (subst (λ (ks : List (List ℕ)). MatchOption r (AreAllDifferent ks) (IsFirstRepeat ks)) (sym (pairs_keys out ss first)) h) k.0
+    without_key (keys (pairs_from out ss first)) r w count (subst (λ (ks : List (List ℕ)). MatchOption r (AreAllDifferent ks) (IsFirstRepeat ks)) (sym (pairs_keys out ss first)) h) k.0
 shape_tells out ss start count (Key first at) r w os e h k =
     with_key (pairs_from out ss first) (drop at out) r w count (count_keys out ss first count e)
     (subst (λ (ks : List (List ℕ)). MatchOption r (AreAllDifferent ks) (IsFirstRepeat ks)) (sym (pairs_keys out ss first)) h) k
-shape_tells out ss start count (Content m) r w os e h k = no_keys (own_keys out ss (Content m)) r w count (none_of (key_of out) ss) h k.0
+shape_tells out ss start count s r w os e h k =
+    subst (λ (ks : List (List ℕ)). MatchOption (option_or r (then_some w count)) (AreAllDifferent ks) (IsFirstRepeat ks)) (none_of (key_of out) ss) (without_key (own_keys out ss s) r w count h k.0)
 
 -- keys that rise differ
 pub rising_different : (o : KeyOrder) (out : List ℕ) (ss : List Span) (from start : ℕ) (rises : Bool) (s : Shape) → Fits o out ss from start rises s → IsTrue rises → AreAllDifferent (own_keys out ss s)
-rising_different o out ss from start rises Plain f t = no_repeats (own_keys out ss Plain) (none_of (key_of out) ss)
-rising_different o out ss from start rises (Array n) f t = no_repeats (own_keys out ss (Array n)) (none_of (key_of out) ss)
 rising_different o out ss from start rises (Map first) f t =
     subst AreAllDifferent (pairs_keys out ss first) (distinct_different (pairs_from out ss first) (rising_distinct o (pairs_from out ss first) (f.2 t)))
 rising_different o out ss from start rises (Key first at) f t =
     subst AreAllDifferent (pairs_keys out ss first) (distinct_different (pairs_from out ss first) (rising_distinct o (pairs_from out ss first) (f.3 t)))
-rising_different o out ss from start rises (Content m) f t = no_repeats (own_keys out ss (Content m)) (none_of (key_of out) ss)
+rising_different o out ss from start rises s f t = no_repeats (own_keys out ss s) (none_of (key_of out) ss)
 
 -- ---- from what calls ensure
 

@@ -7,7 +7,7 @@ use Rattle.cbor_head.specs.declared.major.Major.{Major}
 use Rattle.cbor_head.specs.declared.major.Major.TheVariants.{Bytes, Text, Array, Map, Tag}
 use Rattle.cbor_canonical.proofs.Induction.{AllOf, AllIn, by_cases}
 use Rattle.cbor_canonical.proofs.Told.{length-canonical_entries}
-use Rattle.cbor_canonical.specs.Parts.{Open, plain, an_array, a_map, a_key, a_string, pair, closed, give, run, after, Part, end, string_parts, chunks_joined, Makes, MakesAll, MakesEntries, MakesString}
+use Rattle.cbor_canonical.specs.Parts.{Open, plain, an_array, a_map, a_key, a_string, pair, closed, give, opened, run, after, Part, begin, end, string_parts, chunks_joined, Makes, MakesAll, MakesEntries, MakesString}
 use Rattle.cbor_canonical.specs.Pairs.{pair_bytes}
 
 pub run-append : (o : KeyOrder) (ps qs : List Part) (os : List Open) → run o (ps ++ qs) os ≡ run o qs (run o ps os)
@@ -23,11 +23,9 @@ runs_string o m (b ∷ bs) s os =
 abbrev pub Builds : KeyOrder → Value → Type 0
 Builds o v = (ps : List Part) → Makes v ps → (os : List Open) → run o ps os ≡ give (canonical o v) os
 
-builds_bytes : (o : KeyOrder) (s : List ℕ) (ps : List Part) → MakesString Bytes s ps → (os : List Open) → run o ps os ≡ give (shortest_head Bytes (length s) ++ s) os
-builds_bytes o s ps h os = ap (λ (p : List Part). run o p os) h.3 ∙ runs_string o Bytes h.1 [] os ∙ ap (λ (t : List ℕ). give (closed o (a_string Bytes t)) os) h.2
-
-builds_text : (o : KeyOrder) (s : List ℕ) (ps : List Part) → MakesString Text s ps → (os : List Open) → run o ps os ≡ give (shortest_head Text (length s) ++ s) os
-builds_text o s ps h os = ap (λ (p : List Part). run o p os) h.3 ∙ runs_string o Text h.1 [] os ∙ ap (λ (t : List ℕ). give (closed o (a_string Text t)) os) h.2
+builds_string : (o : KeyOrder) (m : Major) (s : List ℕ) (ps : List Part) → ((n : ℕ) → opened m n ≡ a_string m []) → MakesString m s ps → (os : List Open) → run o ps os ≡ give (shortest_head m (length s) ++ s) os
+builds_string o m s ps is h os =
+    ap (λ (p : List Part). run o p os) h.3 ∙ ap (λ (c : Open). run o (string_parts h.1) (c ∷ os)) (is h.0) ∙ runs_string o m h.1 [] os ∙ ap (λ (t : List ℕ). give (closed o (a_string m t)) os) h.2
 
 runs_all : (o : KeyOrder) (vs : Values) → AllOf (Builds o) vs → (ps : List Part) → MakesAll vs ps → (n : ℕ) (bs : List ℕ) (os : List Open)
     → run o ps (an_array n bs ∷ os) ≡ an_array (n + values_count vs) (bs ++ canonical_all o vs) ∷ os
@@ -58,34 +56,30 @@ runs_entries o (value.entry k v es) b ps m acc os =
     ∙ runs_entries o es b.2 m.2 m.5 (acc ++ pair (canonical o k) (canonical o v) ∷ []) os
     ∙ ap (λ (qs : List Pair). a_map qs ∷ os) (append_assoc acc (pair (canonical o k) (canonical o v) ∷ []) (canonical_entries o es))
 
+-- the parts of what is within, between a beginning and an end
+runs_around : (o : KeyOrder) (m : Major) (n : ℕ) (qs ps : List Part) (c : Open) (os : List Open) → ps ≡ begin m n ∷ qs ++ end ∷ [] → run o qs (opened m n ∷ os) ≡ c ∷ os → run o ps os ≡ give (closed o c) os
+runs_around o m n qs ps c os is within = ap (λ (p : List Part). run o p os) is ∙ run-append o qs (end ∷ []) (opened m n ∷ os) ∙ ap (run o (end ∷ [])) within
+
 builds_array : (o : KeyOrder) (vs : Values) → AllOf (Builds o) vs → Builds o (value.array vs)
 builds_array o vs b ps m os =
     let count : 0 + values_count vs ≡ values_count vs = omega arith in
-    ap (λ (p : List Part). run o p os) m.3
-    ∙ run-append o m.1 (end ∷ []) (an_array 0 [] ∷ os)
-    ∙ ap (run o (end ∷ [])) (runs_all o vs b m.1 m.2 0 [] os)
-    ∙ ap (λ (n : ℕ). give (shortest_head Array n ++ canonical_all o vs) os) count
+    runs_around o Array m.0 m.1 ps _ os m.3 (runs_all o vs b m.1 m.2 0 [] os) ∙ ap (λ (n : ℕ). give (shortest_head Array n ++ canonical_all o vs) os) count
 
 builds_map : (o : KeyOrder) (es : Entries) → AllIn (Builds o) es → Builds o (value.map es)
 builds_map o es b ps m os =
-    ap (λ (p : List Part). run o p os) m.3
-    ∙ run-append o m.1 (end ∷ []) (a_map [] ∷ os)
-    ∙ ap (run o (end ∷ [])) (runs_entries o es b m.1 m.2 [] os)
+    runs_around o Map m.0 m.1 ps _ os m.3 (runs_entries o es b m.1 m.2 [] os)
     ∙ ap (λ (n : ℕ). give (shortest_head Map n ++ flat_map pair_bytes (in_order o (canonical_entries o es))) os) (length-canonical_entries o es)
 
 builds_tag : (o : KeyOrder) (n : ℕ) (v : Value) → Builds o v → Builds o (value.tag n v)
-builds_tag o n v b ps m os =
-    ap (λ (p : List Part). run o p os) m.2
-    ∙ run-append o m.0 (end ∷ []) (plain (shortest_head Tag n) ∷ os)
-    ∙ ap (run o (end ∷ [])) (b m.0 m.1 (plain (shortest_head Tag n) ∷ os))
+builds_tag o n v b ps m os = runs_around o Tag n m.0 ps _ os m.2 (b m.0 m.1 (plain (shortest_head Tag n) ∷ os))
 
 -- whatever is open, the parts of a value leave its canonical bytes as one finished member, equal keys or not
 pub builds : (o : KeyOrder) (v : Value) → Builds o v
 builds o = by_cases {P = Builds o} (record {
   at_unsigned = λ n ps m os. ap (λ (p : List Part). run o p os) m;
   at_negative = λ n ps m os. ap (λ (p : List Part). run o p os) m;
-  at_bytes = λ s ps m os. builds_bytes o s ps m os;
-  at_text = λ s ps m os. builds_text o s ps m os;
+  at_bytes = λ s ps m os. builds_string o Bytes s ps (λ n. refl) m os;
+  at_text = λ s ps m os. builds_string o Text s ps (λ n. refl) m os;
   at_array = builds_array o;
   at_map = builds_map o;
   at_tag = builds_tag o;

@@ -1,5 +1,6 @@
 -- Spans ranked by the fronts of their keys.
-use Rattle.std.proofs.Common.{◌≡◌, ℕ, zero, suc, ◌+◌, ◌<◌, ◌≤◌, List, [], ◌∷◌, length, drop, get_or, sym, ap, ◌∙◌, arith, Bool, Bor, IsPermutation, IsSortedBy}
+use Rattle.std.proofs.Common.{◌≡◌, ℕ, ◌+◌, List, length, get_or, sym, ap, ◌∙◌, arith, Bool, Bor, IsPermutation, IsSortedBy}
+use Rattle.std.specs.List.{AllByRecursion}
 use Rattle.std.specs.declared.cmp.Ordering.{Ordering}
 use Rattle.std.specs.Ordering.{nat_cmp, is_lt, ordering_then}
 use Rattle.std.specs.Cmp.{IsTotalOrder, IsStrictWeakOrder}
@@ -13,6 +14,7 @@ use Rattle.cbor_head.specs.Prelude.{key_cmp, key_lt, AreBytes}
 use Rattle.cbor_head.specs.declared.order.KeyOrder.{KeyOrder}
 use Rattle.cbor_head.specs.declared.order.KeyOrder.TheVariants.{Bytewise, LengthFirst}
 use Rattle.cbor_canonical.proofs.Orders.{key_cmp_total}
+use Rattle.cbor_buffer.proofs.ByIndex.{all_index}
 use Rattle.cbor_keys.specs.Front.{front_of}
 use Rattle.cbor_builder.specs.inner.Front.{key_of, IsFronted, AreFronted, by_front, rank, ranked_by}
 use Rattle.cbor_buffer.specs.declared.span.Span.{Span}
@@ -34,16 +36,10 @@ rank_total LengthFirst = then_total (on_total (λ (p : ℕ × List ℕ). length 
 pub agree_spans : (o : KeyOrder) (out : List ℕ) (x y : Span) → AreBytes out → IsFronted out x → IsFronted out y → rank o (ranked_by out x) (ranked_by out y) ≡ key_cmp o (key_of out x) (key_of out y)
 agree_spans o out x y h a b = agree o x.front y.front (key_of out x) (key_of out y) (bytes_slice out x.key x.val h) (bytes_slice out y.key y.val h) a b
 
-pub fronted_at : (out : List ℕ) (ks : List Span) (i : ℕ) (d : Span) → AreFronted out ks → i < length ks → IsFronted out (get_or ks i d)
-fronted_at out [] i d h l = absurd (omega (arith, l))
-fronted_at out (k ∷ ks) zero d h l = h.0
-fronted_at out (k ∷ ks) (suc i) d h l = fronted_at out ks i d h.1 (omega (arith, l))
+-- ---- of each of a list
 
-pub fronted_drop : (out : List ℕ) (n : ℕ) (ks : List Span) (i : ℕ) (d : Span) → AreFronted out (drop n ks) → n ≤ i → i < length ks → IsFronted out (get_or ks i d)
-fronted_drop out zero ks i d h g l = fronted_at out ks i d h l
-fronted_drop out (suc n) [] i d h g l = absurd (omega (arith, l))
-fronted_drop out (suc n) (k ∷ ks) zero d h g l = absurd (omega (arith, g))
-fronted_drop out (suc n) (k ∷ ks) (suc i) d h g l = fronted_drop out n ks i d h (omega (arith, g)) (omega (arith, l))
+pub all_permuted : {X : Type 0} (P : X → Type 0) (xs ys : List X) → IsPermutation xs ys → AllByRecursion P xs → AllByRecursion P ys
+all_permuted P xs ys m a = all_from P ys (λ y i. all_at P xs y a (contains_in xs y (Contains-permutation ys xs y (IsPermutation-sym xs ys m) (in_contains ys y i))))
 
 -- ---- what a sort by ranks leaves
 
@@ -55,14 +51,10 @@ sorted_by_rank o out {g = g} {f = f} ys s h =
     s (λ x y. is_lt (rank o (ranked_by out x) (ranked_by out y))) (ranks_by (rank_total o) (ranked_by out))
     (always_returns_same g (λ a r. is_lt r ≡ is_lt (rank o (ranked_by out a.0.now) (ranked_by out a.1.0.now))) f (λ a r f' k. (ap is_lt (h a r f' k).0, (h a r f' k).1)))
 
-pub fronted_permuted : (out : List ℕ) (xs ys : List Span) → IsPermutation xs ys → AreFronted out xs → AreFronted out ys
-fronted_permuted out xs ys m h =
-    all_from (IsFronted out) ys (λ s i. all_at (IsFronted out) xs s h (contains_in xs s (Contains-permutation ys xs s (IsPermutation-sym xs ys m) (in_contains ys s i))))
-
 -- where the fronts are right, it is sorted by the keys
 pub sorted_keys : (o : KeyOrder) (out : List ℕ) (ys : List Span) → AreBytes out → AreFronted out ys
     → IsSortedBy (λ x y. is_lt (rank o (ranked_by out x) (ranked_by out y))) ys → IsSortedBy (λ x y. key_lt o (key_of out x) (key_of out y)) ys
 sorted_keys o out ys b h s = λ k d l g.
-    let upper = fronted_at out ys (k + 1) d h g in
-    let lower = fronted_at out ys k d h (omega (arith, g)) in
+    let upper = all_index _ ys (k + 1) d h g in
+    let lower = all_index _ ys k d h (omega (arith, g)) in
     sym (ap is_lt (agree_spans o out (get_or ys (k + 1) d) (get_or ys k d) b upper lower)) ∙ s k d l g

@@ -10,29 +10,22 @@ use Rattle.cbor_buffer.specs.declared.span.Span.{Span}
 use Rattle.cbor_builder.specs.declared.builder.Core.{Core}
 use Rattle.cbor_builder.specs.declared.frame.Frame.{Frame}
 use Rattle.cbor_builder.specs.declared.frame.Shape.{Shape}
-use Rattle.cbor_builder.specs.declared.frame.Shape.TheVariants.{Plain, Array, Map, Key, Content}
+use Rattle.cbor_builder.specs.declared.frame.Shape.TheVariants.{Map, Key}
 use Rattle.cbor_builder.specs.inner.BuilderState.{outers, frames, Stand, IsReordered, IsLeftOpen}
 use Rattle.cbor_builder.specs.inner.Laid.{shape_open, outer_spans, opens, Fits}
 use Rattle.cbor_builder.specs.inner.Repeats.{first_of, AreOf}
 use Rattle.cbor_buffer.specs.Moved.{meant}
 
 pub reordered_refl : (ss : List Span) (s : Shape) → IsReordered ss ss s
-reordered_refl ss Plain = refl
-reordered_refl ss (Array n) = refl
 reordered_refl ss (Map first) = (refl, IsPermutation-refl (drop first ss))
-reordered_refl ss (Key first at) = refl
-reordered_refl ss (Content m) = refl
+reordered_refl ss s = refl
 
 pub reordered_outer : (came ss : List Span) (s : Shape) → IsReordered came ss s → outer_spans ss s ≡ outer_spans came s
-reordered_outer came ss Plain h = h
-reordered_outer came ss (Array n) h = h
 reordered_outer came ss (Map first) h = h.0
 reordered_outer came ss (Key first at) h = ap (take first) h
-reordered_outer came ss (Content m) h = h
+reordered_outer came ss s h = h
 
 pub reordered_length : (came ss : List Span) (s : Shape) → IsReordered came ss s → length ss ≡ length came
-reordered_length came ss Plain h = ap length h
-reordered_length came ss (Array n) h = ap length h
 reordered_length came ss (Map first) h =
     let a = length-take first came in
     let b = length-take first ss in
@@ -40,27 +33,17 @@ reordered_length came ss (Map first) h =
     let d = length-drop first ss in
     let behind = length_permutation (drop first came) (drop first ss) h.1 in
     omega (arith, a, b, c, d, ap length h.0, behind)
-reordered_length came ss (Key first at) h = ap length h
-reordered_length came ss (Content m) h = ap length h
+reordered_length came ss s h = ap length h
 
 pub reordered_first : (came ss : List Span) (s : Shape) → IsReordered came ss s → first_of ss s ≡ first_of came s
-reordered_first came ss Plain h = ap length h
-reordered_first came ss (Array n) h = ap length h
 reordered_first came ss (Map first) h = refl
 reordered_first came ss (Key first at) h = refl
-reordered_first came ss (Content m) h = ap length h
-
--- a key that waits came last
-pub reordered_key : (came ss : List Span) (s : Shape) (first at : ℕ) → s ≡ Key first at → IsReordered came ss s → ss ≡ came
-reordered_key came ss s first at e h = subst (IsReordered came ss) e h
+reordered_first came ss s h = ap length h
 
 pub reordered_waits : (out : List ℕ) (came ss : List Span) (start : ℕ) (s : Shape) (os : List Open) (t : Bool) → IsReordered came ss s → (IsTrue t ↔ IsRepeatedKey (shape_open out ss start s ∷ os))
     → (IsTrue t ↔ IsRepeatedKey (shape_open out came start s ∷ os))
-reordered_waits out came ss start Plain os t h w = w
-reordered_waits out came ss start (Array n) os t h w = w
-reordered_waits out came ss start (Map first) os t h w = w
 reordered_waits out came ss start (Key first at) os t h w = subst (λ (ss : List Span). IsTrue t ↔ IsRepeatedKey (shape_open out ss start (Key first at) ∷ os)) h w
-reordered_waits out came ss start (Content m) os t h w = w
+reordered_waits out came ss start s os t h w = w
 
 none_of : (out : List ℕ) (came ss : List Span) → ss ≡ came → AreOf out (drop (length came) came) (drop (length came) ss)
 none_of out came ss e =
@@ -70,11 +53,9 @@ none_of out came ss e =
 -- the spans of its own pairs
 pub reordered_own : (o : KeyOrder) (out : List ℕ) (came ss : List Span) (from start : ℕ) (rises : Bool) (s : Shape) → Fits o out came from start rises s → IsReordered came ss s
     → AreOf out (drop (first_of came s) came) (drop (first_of came s) ss)
-reordered_own o out came ss from start rises Plain f h = none_of out came ss h
-reordered_own o out came ss from start rises (Array n) f h = none_of out came ss h
 reordered_own o out came ss from start rises (Map first) f h = (start, length out, f.1, omega arith, f.3, h.1)
 reordered_own o out came ss from start rises (Key first at) f h = (start, at, f.1, f.2, f.4, subst (λ (ss : List Span). IsPermutation (drop first came) (drop first ss)) (sym h) (IsPermutation-refl (drop first came)))
-reordered_own o out came ss from start rises (Content m) f h = none_of out came ss h
+reordered_own o out came ss from start rises s f h = none_of out came ss h
 
 -- ---- where a map does not end
 

@@ -1,28 +1,26 @@
 -- Spans sorted by their keys: equal ones are neighbours.
 use Rattle.std.proofs.Common.{◌≡◌, ◌≢◌, ◌↔◌, ℕ, ◌+◌, ◌-◌, ◌<◌, List, [], ◌∷◌, ◌++◌, length, drop, drop-drop, take, take-append-drop, get_or, map, true, false, true≢false, refl, sym, ap, ◌∙◌, subst, arith, inl, inr, IsPermutation, IsSortedBy, IsTrue}
-use Rattle.std.proofs.lemmas.List.{map-append, drop_all}
+use Rattle.std.proofs.lemmas.List.{map-append, drop_all, get_or_default}
 use Rattle.std.specs.Ordering.{is_eq, is_lt}
 use Rattle.std.specs.declared.cmp.Ordering.{Ordering}
-use Rattle.std.specs.declared.cmp.Ordering.TheVariants.{Less, Equal, Greater}
 use Rattle.std.proofs.lemmas.Bool.{false_from_ne_true}
 use Rattle.std.proofs.lemmas.Cmp.{tied_itself}
-use Rattle.std.proofs.lemmas.List.Sorted.{IsPermutation-sym, IsPermutation-map, Contains-permutation}
+use Rattle.std.proofs.lemmas.List.Sorted.{IsPermutation-sym, IsPermutation-map}
 use Rattle.cbor_head.specs.Prelude.{key_cmp, key_lt, Pair, in_order, AreBytes}
 use Rattle.cbor_head.specs.declared.order.KeyOrder.{KeyOrder}
 use Rattle.cbor_builder.specs.inner.Neighbours.{DoNeighboursDiffer}
 use Rattle.cbor_canonical.specs.Pairs.{HasDistinctBytes, IsRising}
-use Rattle.cbor_buffer.proofs.ByIndex.{at_read}
-use Rattle.cbor_canonical.proofs.Members.{In, all_at, all_from, in_contains, contains_in}
+use Rattle.cbor_buffer.proofs.ByIndex.{at_read, all_index}
+use Rattle.cbor_canonical.proofs.Members.{In}
 use Rattle.cbor_canonical.proofs.Orders.{key_cmp_total, tied, lt_trans}
-use Rattle.cbor_builder.proofs.Neighbours.{differ_at, keys-map, differ_from_distinct, rising_from_differ, distinct_permuted}
-use Rattle.cbor_builder.proofs.SortedPairs.{sorted_is_in_order, sorted_view}
+use Rattle.cbor_builder.proofs.Neighbours.{differ_at, keys-map, differ_from_distinct, rising_from_differ, distinct_permuted, sorted_is_in_order}
+use Rattle.cbor_builder.proofs.SortedPairs.{is_tied, sorted_view}
 use Rattle.cbor_canonical.proofs.Sorting.{rises_at, rising_cons, rising_distinct}
-use Rattle.cbor_buffer.specs.Spans.{span_pair, no_span, IsWithin, AreWithin}
+use Rattle.cbor_buffer.specs.Spans.{span_pair, no_span}
 use Rattle.cbor_builder.specs.inner.Front.{key_of, AreFronted, rank, ranked_by}
 use Rattle.cbor_builder.specs.inner.Repeats.{nth}
-use Rattle.cbor_builder.proofs.Ranks.{agree_spans, fronted_at, sorted_keys, fronted_permuted}
+use Rattle.cbor_builder.proofs.Ranks.{agree_spans, sorted_keys, all_permuted}
 use Rattle.cbor_buffer.specs.declared.span.Span.{Span}
-use Rattle.cbor_buffer.proofs.Slices.{get_same}
 
 -- what a sort of spans tells: neighbours differ exactly if all do, and then the pairs are in order
 pub record AreSorted (o : KeyOrder) (out : List ℕ) (xs ys : List Span) : Type 0 where
@@ -32,7 +30,7 @@ pub record AreSorted (o : KeyOrder) (out : List ℕ) (xs ys : List Span) : Type 
 pub all_sorted : (o : KeyOrder) (out : List ℕ) (xs ys : List Span) → AreBytes out → AreFronted out xs → IsPermutation xs ys
     → IsSortedBy (λ x y. is_lt (rank o (ranked_by out x) (ranked_by out y))) ys → AreSorted o out xs ys
 all_sorted o out xs ys b h m r =
-    let s = sorted_keys o out ys b (fronted_permuted out xs ys m h) r in
+    let s = sorted_keys o out ys b (all_permuted _ xs ys m h) r in
     let f = span_pair out in
     let moved = IsPermutation-map f xs ys m in
     let sorted = sorted_view f o ys s in
@@ -79,28 +77,19 @@ above_last o out ss first last next h e l r =
     subst (IsRising o) (sym more) (rising_snoc o (map f xs) (f last) (f next) (subst (IsRising o) mapped r) l)
 
 pub equal_keys : (o : KeyOrder) (x y : List ℕ) → is_eq (key_cmp o x y) ≡ true → x ≡ y
-equal_keys o x y e = tied o x y (equal (key_cmp o x y) e)
-  where
-    equal : (r : Ordering) → is_eq r ≡ true → r ≡ Equal
-    equal Less e = cc
-    equal Equal e = refl
-    equal Greater e = cc
+equal_keys o x y e = tied o x y (is_tied _ e)
 
 pub other_keys : (o : KeyOrder) (x y : List ℕ) → is_eq (key_cmp o x y) ≡ false → x ≢ y
 other_keys o x y e is = true≢false (ap is_eq (sym (tied_itself (key_cmp_total o) x)) ∙ ap (λ (k : List ℕ). is_eq (key_cmp o x k)) is ∙ e)
-
-pub within_permuted : (out : List ℕ) (xs ys : List Span) → IsPermutation xs ys → AreWithin out xs → AreWithin out ys
-within_permuted out xs ys m h =
-    all_from (IsWithin out) ys (λ s i. all_at (IsWithin out) xs s h (contains_in xs s (Contains-permutation ys xs s (IsPermutation-sym xs ys m) (in_contains ys s i))))
 
 -- what a comparison of two of them says of their keys
 pub compared : (o : KeyOrder) (out : List ℕ) (ss : List Span) (i j : ℕ) (d e : Span) (r : Ordering) → AreBytes out → AreFronted out ss → i < length ss → j < length ss
     → r ≡ rank o (ranked_by out (get_or ss i d)) (ranked_by out (get_or ss j e))
     → (is_eq r ≡ true → key_of out (nth ss i) ≡ key_of out (nth ss j)) × (is_eq r ≡ false → key_of out (nth ss i) ≢ key_of out (nth ss j))
 compared o out ss i j d e r b f l m is =
-    let x = get_same ss i d no_span l in
-    let y = get_same ss j e no_span m in
-    let keys = is ∙ agree_spans o out (get_or ss i d) (get_or ss j e) b (fronted_at out ss i d f l) (fronted_at out ss j e f m) ∙ (λ t. key_cmp o (key_of out (x t)) (key_of out (y t))) in (
+    let x = get_or_default ss i d no_span l in
+    let y = get_or_default ss j e no_span m in
+    let keys = is ∙ agree_spans o out (get_or ss i d) (get_or ss j e) b (all_index _ ss i d f l) (all_index _ ss j e f m) ∙ (λ t. key_cmp o (key_of out (x t)) (key_of out (y t))) in (
       (λ t. equal_keys o (key_of out (nth ss i)) (key_of out (nth ss j)) (ap is_eq (sym keys) ∙ t)),
       (λ t. other_keys o (key_of out (nth ss i)) (key_of out (nth ss j)) (ap is_eq (sym keys) ∙ t)),
     )
@@ -111,8 +100,8 @@ pub differ_step : (o : KeyOrder) (out : List ℕ) (ks : List Span) (j i : ℕ) (
 differ_step o out ks j i d e r b fr n l h0 =
     let x = get_or ks j d in
     let y = get_or ks i e in
-    let h = h0 ∙ agree_spans o out x y b (fronted_at out ks j d fr (omega arith)) (fronted_at out ks i e fr l) in
-    let step = differ_at (key_of out) ks j i x y n l (get_same ks j d x (omega arith)) (get_same ks i e y l) in (
+    let h = h0 ∙ agree_spans o out x y b (all_index _ ks j d fr (omega arith)) (all_index _ ks i e fr l) in
+    let step = differ_at (key_of out) ks j i x y n l (get_or_default ks j d x (omega arith)) (get_or_default ks i e y l) in (
       (λ a. (false_from_ne_true (is_eq r) (λ t. (step.0 a).0 (equal_keys o (key_of out x) (key_of out y) (ap is_eq (sym h) ∙ t))), (step.0 a).1)),
       (λ a. step.1 (other_keys o (key_of out x) (key_of out y) (ap is_eq (sym h) ∙ a.0), a.1)),
     )

@@ -1,10 +1,13 @@
 -- What a builder stands for, where its buffer lies in another order than it is meant in.
-use Rattle.std.proofs.Common.{◌≡◌, ℕ, List, [], ◌∷◌, ◌++◌, length, length-take, take, drop, take-append-drop, refl, sym, ap, ◌∙◌, subst, arith, inl, inr}
+use Rattle.std.proofs.Common.{◌≡◌, ℕ, List, [], ◌∷◌, ◌++◌, length, length-take, take, drop, take-append-drop, refl, sym, ap, ◌∙◌, subst, arith, inl, inr, Result, OnOk}
 use Rattle.cbor_head.specs.declared.order.KeyOrder.{KeyOrder}
 use Rattle.cbor_canonical.specs.Parts.{plain, closed, close, give, extended}
-use Rattle.cbor_builder.specs.inner.Laid.{shape_open, outer_spans, opens, Takes, IsReady, Completed, Stands, IsString, Laid}
-use Rattle.cbor_buffer.specs.Moved.{meant, IsWhole, IsSettled, KeepsFront, Stays}
-use Rattle.cbor_builder.specs.inner.BuilderState.{Stand, IsLaid, standing, outers}
+use Rattle.std.specs.Global.{Vec}
+use Rattle.std.proofs.lemmas.Result.{on_ok_weaker}
+use Rattle.cbor_builder.specs.inner.Laid.{shape_open, outer_spans, opens, Takes, IsReady, shape_after, spans_after, KeepsRising, Completed, Stands, IsString, Laid}
+use Rattle.cbor_buffer.specs.Moved.{meant, IsWhole, IsSettled, KeepsFront, Stays, Extends}
+use Rattle.cbor_builder.specs.inner.BuilderState.{Stand, IsLaid, StandsAs, CoreLeaves, standing, frames, outers}
+use Rattle.cbor_builder.proofs.Nesting.{rooted_given}
 use Rattle.cbor_builder.specs.declared.builder.Core.{Core}
 use Rattle.cbor_builder.specs.inner.InPlace.{Agrees, WaitsSame}
 use Rattle.cbor_buffer.specs.declared.draft.Draft.{Draft}
@@ -18,20 +21,32 @@ use Rattle.cbor_buffer.proofs.Written.{drop_front}
 
 -- ---- one more member
 
-pub member_ready : (o : KeyOrder) (d d' : Draft) (b : List ℕ) (ss : List Span) (f : Frame) (fs : List Frame) (at : ℕ) → Stand o d ss (f ∷ fs) → IsWhole d' → meant d' ≡ meant d ++ b → d'.buf ≡ d.buf ++ b
-    → at ≡ length (meant d) → IsReady d'.buf ss at f.shape
-member_ready o d d' b ss f fs at s w em eb ea =
-    ready_same d'.buf (meant d') ss at f.shape (whole_length d' w) (waits_by o d.buf (meant d) b b ss f fs d'.buf (meant d') at (whole_length d s.1) s.0 s.2 eb em ea)
-    (key_ready o (meant d) b ss f fs (meant d') at s.0 em ea)
+pub member_ready : (s : Core) (d' : Draft) (b : List ℕ) (at : ℕ) → IsLaid s → Extends s.out d' b → at ≡ length (meant s.out) → IsReady d'.buf s.spans.items at s.top.shape
+member_ready s d' b at laid x ea =
+    let d = s.out in
+    let st = laid.0 in
+    ready_same d'.buf (meant d') s.spans.items at s.top.shape (whole_length d' x.whole) (waits_by s.order d.buf (meant d) b b s.spans.items s.top (outers s) d'.buf (meant d') at (whole_length d st.1) st.0 st.2 x.lies x.meant_is ea)
+    (key_ready s.order (meant d) b s.spans.items s.top (outers s) (meant d') at st.0 x.meant_is ea)
 
-pub member_given : (o : KeyOrder) (d d' : Draft) (b : List ℕ) (ss : List Span) (f : Frame) (fs : List Frame) (at : ℕ) (ss' : List Span) (f' : Frame) → Stand o d ss (f ∷ fs) → Takes f.shape → IsWhole d'
-    → meant d' ≡ meant d ++ b → d'.buf ≡ d.buf ++ b → at ≡ length (meant d) → Completed o ss at f d'.buf ss' f'
-    → Stand o d' ss' (f' ∷ fs) × (opens (meant d') ss' (f' ∷ fs) ≡ give b (opens (meant d) ss (f ∷ fs)))
-member_given o d d' b ss f fs at ss' f' s takes w em eb ea c =
-    let l = whole_length d s.1 in
-    let done = completed_same o d'.buf (meant d') ss at f ss' f' (whole_length d' w) (waits_by o d.buf (meant d) b b ss f fs d'.buf (meant d') at l s.0 s.2 eb em ea) c in
-    let st = given_by o (meant d) b ss f fs (meant d') ss' f' (meant d') at s.0 takes em refl ea done in
-    ((st.0, w, agrees_by o d.buf (meant d) b b ss f fs d'.buf (meant d') at ss' f' s.0 l s.2 takes (λ first e. refl) (λ e. refl) eb em ea done), st.1)
+pub member_given : {A E : Type 0} (r : Result A E) (s : Core) (d' : Draft) (b : List ℕ) (at : ℕ) (f' : Frame) (spans : Vec Span) → IsLaid s → Takes s.top.shape → Extends s.out d' b → at ≡ length (meant s.out)
+    → f'.from ≡ s.top.from → f'.start ≡ s.top.start → f'.shape ≡ shape_after at s.top.shape → OnOk r (spans.items ≡ spans_after d'.buf s.spans.items at s.top.shape)
+    → KeepsRising s.order d'.buf s.spans.items at s.top.shape s.top.rises f'.rises → CoreLeaves r s (record s { out = d'; top = f'; spans = spans }) (give b (standing s))
+member_given r s d' b at f' spans laid takes x ea from start shape made rises =
+    record { order = refl; laid = on_ok_weaker r (λ e. (stands (from, start, shape, e, rises)).0) made; given = on_ok_weaker r (λ e. (stands (from, start, shape, e, rises)).1) made }
+  where
+    stands : Completed s.order s.spans.items at s.top d'.buf spans.items f' → StandsAs (record s { out = d'; top = f'; spans = spans }) (give b (standing s))
+    stands c =
+        let o = s.order in
+        let d = s.out in
+        let ss = s.spans.items in
+        let f = s.top in
+        let fs = outers s in
+        let w = laid.0 in
+        let l = whole_length d w.1 in
+        let done = completed_same o d'.buf (meant d') ss at f spans.items f' (whole_length d' x.whole) (waits_by o d.buf (meant d) b b ss f fs d'.buf (meant d') at l w.0 w.2 x.lies x.meant_is ea) c in
+        let g = given_by o (meant d) b ss f fs (meant d') spans.items f' (meant d') at w.0 takes x.meant_is refl ea done in
+        let a = agrees_by o d.buf (meant d) b b ss f fs d'.buf (meant d') at spans.items f' w.0 l w.2 takes (λ first e. refl) (λ e. refl) x.lies x.meant_is ea done in
+        (((g.0, x.whole, a), rooted_given o d'.buf ss at f f' s.is_open s.below.items from start shape rises laid.1), g.1)
 
 -- ---- nothing open
 
@@ -88,13 +103,16 @@ member_ended o d d' ss ss1 f g fs below ss' g' eb stand w takes em front key las
     let st = ended_by o (meant d) ss f g fs below (meant d') (outer_spans ss f.shape) ss' g' (meant d') f.from eb stand.0 takes em refl refl refl done in
     ((st.0, w, ended_agrees o d d' x ss f g fs ss' g' s w takes em front key last done), st.1)
 
-pub member_longer : (o : KeyOrder) (d d' : Draft) (b : List ℕ) (ss : List Span) (f : Frame) (fs : List Frame) → Stand o d ss (f ∷ fs) → IsString f.shape → IsWhole d' → meant d' ≡ meant d ++ b → d'.buf ≡ d.buf ++ b
-    → Stand o d' ss (f ∷ fs) × (opens (meant d') ss (f ∷ fs) ≡ extended b (opens (meant d) ss (f ∷ fs)))
-member_longer o d d' b ss f fs s string w em el =
-    let l = whole_length d s.1 in
-    let st = subst (λ (xs : List ℕ). Stands o xs ss (f ∷ fs) (extended b (opens (meant d) ss (f ∷ fs)))) (sym em) (lengthened o (meant d) b ss f fs s.0 string) in
-    let a = agrees_longer d.buf (meant d) b ss f fs (omega (arith, l, s.0.0, s.0.1)) (omega (arith, s.0.0, s.0.1)) string s.2 in
-    ((st.0, w, subst (λ (xs : List ℕ). Agrees xs (meant d') ss (f ∷ fs)) (sym el) (subst (λ (xs : List ℕ). Agrees (d.buf ++ b) xs ss (f ∷ fs)) (sym em) a)), st.1)
+pub member_longer : (s : Core) (d' : Draft) (b : List ℕ) → IsLaid s → IsString s.top.shape → Extends s.out d' b → StandsAs (record s { out = d' }) (extended b (standing s))
+member_longer s d' b laid string x =
+    let d = s.out in
+    let ss = s.spans.items in
+    let fs = frames s in
+    let w = laid.0 in
+    let l = whole_length d w.1 in
+    let st = subst (λ (xs : List ℕ). Stands s.order xs ss fs (extended b (standing s))) (sym x.meant_is) (lengthened s.order (meant d) b ss s.top (outers s) w.0 string) in
+    let a = agrees_longer d.buf (meant d) b ss s.top (outers s) (omega (arith, l, w.0.0, w.0.1)) (omega (arith, w.0.0, w.0.1)) string w.2 in
+    (((st.0, x.whole, subst (λ (xs : List ℕ). Agrees xs (meant d') ss fs) (sym x.lies) (subst (λ (xs : List ℕ). Agrees (d.buf ++ b) xs ss fs) (sym x.meant_is) a)), laid.1), st.1)
 
 -- the bytes as they lie in place of those that are meant: of what is open it makes no difference
 pub stand_cut : (o : KeyOrder) (d d' : Draft) (ss : List Span) (fs : List Frame) → Stand o d ss fs → IsWhole d' → meant d' ≡ d.buf → d'.buf ≡ d.buf → Stand o d' ss fs

@@ -76,6 +76,12 @@ grouped o out ss sorted i j k l m h same =
 pub tie_alone : (out : List ℕ) (ss : List Span) (at : ℕ) → at ≡ place (nth ss 0) → IsFirstTie out ss 1 None × IsLeastOfKey out ss 1 at
 tie_alone out ss at is = ((λ earlier later t. t.4 (omega (arith, t.2, t.3))), ((0, omega arith, refl, sym is), λ i l e. let none : 0 ≡ i = omega (arith, l) in omega (arith, is, ap (λ k. place (nth ss k)) none)))
 
+-- where the ties are the same, the first of them is
+pub first_same : (out : List ℕ) (xs ys : List Span) (n m : ℕ) (r : Option Tie) → ((earlier later : ℕ) → HasTie out xs n earlier later → HasTie out ys m earlier later)
+    → ((earlier later : ℕ) → HasTie out ys m earlier later → HasTie out xs n earlier later) → IsFirstTie out xs n r → IsFirstTie out ys m r
+first_same out xs ys n m None forth back h = λ earlier later t. h earlier later (back earlier later t)
+first_same out xs ys n m (Some f) forth back h = (forth f.earlier f.later h.0, λ earlier later t. h.1 earlier later (back earlier later t))
+
 tie_longer : (out : List ℕ) (ss : List Span) (n earlier later : ℕ) → HasTie out ss n earlier later → HasTie out ss (n + 1) earlier later
 tie_longer out ss n earlier later (i, j, li, lj, ne, tie) = (i, j, omega (arith, li), omega (arith, lj), ne, tie)
 
@@ -83,7 +89,7 @@ tie_longer out ss n earlier later (i, j, li, lj, ne, tie) = (i, j, omega (arith,
 pub tie_passed : (out : List ℕ) (ss : List Span) (n at : ℕ) (r : Option Tie) → AreGrouped out ss → 1 ≤ n → n < length ss → key_of out (nth ss (n - 1)) ≢ key_of out (nth ss n) → at ≡ place (nth ss n)
     → IsFirstTie out ss n r → IsFirstTie out ss (n + 1) r × IsLeastOfKey out ss (n + 1) at
 tie_passed out ss n at r group low l other is h = (
-  by_first r h,
+  first_same out ss ss n (n + 1) r (tie_longer out ss n) shorter h,
   (
     (n, omega arith, ap (λ k. key_of out (nth ss k)) last, sym is),
     λ i li e. elim (cases_lt i n) [
@@ -110,10 +116,6 @@ tie_passed out ss n at r group low l other is h = (
           let k : j < n = elim (cases_lt j n) [ inl k ↦ k | inr k ↦ absurd (ne (omega (arith, e, lj, k))) ] in
           absurd (alone j k (sym tie.0 ∙ ap (λ k. key_of out (nth ss k)) e))
     ]
-
-    by_first : (r : Option Tie) → IsFirstTie out ss n r → IsFirstTie out ss (n + 1) r
-    by_first None h = λ earlier later t. h earlier later (shorter earlier later t)
-    by_first (Some f) h = (tie_longer out ss n f.earlier f.later h.0, λ earlier later t. h.1 earlier later (shorter earlier later t))
 
 up_to : (t : Tie) (a b earlier later : ℕ) → IsUpTo t a b → b ≤ later → (b ≡ later → a ≤ earlier) → IsUpTo t earlier later
 up_to t a b earlier later u l k = (omega (arith, u.0, l), λ e. let same : b ≡ later = omega (arith, u.0, l, e) in let first = u.1 (e ∙ sym same) in omega (arith, first, k same))

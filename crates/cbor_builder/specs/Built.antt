@@ -1,10 +1,11 @@
 -- What contracts see of a builder, and when it takes the next part.
-use Rattle.std.specs.Prelude.{ℕ, suc, ◌≡◌, ◌<◌, ◌^◌, ◌⊎◌, List, [], ◌∷◌, ◌++◌, length, map, slice_index_or}
+use Rattle.std.specs.Prelude.{ℕ, suc, ◌≡◌, ◌↔◌, ◌<◌, ◌^◌, ◌⊎◌, List, [], ◌∷◌, ◌++◌, length, map, slice_index_or, Option, IsNone, IfSome, Result, OnOk, OnErr, IfOk}
 use Rattle.cbor_head.specs.Prelude.{Value, Entries, HasEntry, Same, Pair}
 use Rattle.cbor_head.specs.declared.order.KeyOrder.{KeyOrder}
 use Rattle.cbor_head.specs.declared.major.Major.{Major}
 use Rattle.cbor_head.specs.declared.major.Major.TheVariants.{Unsigned, Negative, Bytes, Text, Array, Map, Tag, Simple}
-use Rattle.cbor_canonical.specs.Parts.{Open, plain, an_array, a_map, a_key, a_string, HasNoRepeats}
+use Rattle.cbor_builder.specs.declared.repeat.Repeat.{Repeat}
+use Rattle.cbor_canonical.specs.Parts.{Open, an_array, a_map, a_key, a_string, HasNoRepeats}
 
 -- the order of keys, and what is open, the innermost first: nothing, from a call that is refused memory until it is as new again
 pub record Built : Type 0 where
@@ -121,9 +122,7 @@ abbrev pub open_maps : List Open → ℕ
 open_maps [] = 0
 open_maps (a_map ps ∷ os) = suc (open_maps os)
 open_maps (a_key ps k ∷ os) = suc (open_maps os)
-open_maps (plain bs ∷ os) = open_maps os
-open_maps (an_array n bs ∷ os) = open_maps os
-open_maps (a_string m bs ∷ os) = open_maps os
+open_maps (c ∷ os) = open_maps os
 
 -- of the outermost open map with two equal keys: how many maps are open around it, and the number of the pair whose key is the
 -- first that is equal to an earlier one
@@ -131,3 +130,20 @@ abbrev pub IsRepeatTold : List Open → ℕ → ℕ → Type 0
 IsRepeatTold [] outside pair = ⊥
 IsRepeatTold (c ∷ os) outside pair =
     IsRepeatTold os outside pair ⊎ (AreOpenKeysDifferent os × (outside ≡ open_maps os) × IsFirstRepeat (keys_so_far c) pair)
+
+-- ---- what a call leaves
+
+-- a call leaves the order, and these open, or nothing where it was refused memory
+pub record Leaves {A E : Type 0} (r : Result A E) (old new : Built) (os : List Open) : Type 0 where
+  pub order : new.order ≡ old.order
+  pub given : OnOk r (new ≡ built old.order os)
+  pub refused : OnErr r (new.standing ≡ [])
+
+-- the same where no two keys of the innermost are equal, else nothing, and then the repeated key is told
+pub record LeavesIfDistinct {E : Type 0} (r : Result (Option Repeat) E) (old new : Built) (os : List Open) : Type 0 where
+  pub order : new.order ≡ old.order
+  pub distinct : IfOk r (λ told. IsNone told ↔ HasDistinctKeysSoFar old.standing)
+  pub ended : IfOk r (λ told. IsNone told → new ≡ built old.order os)
+  pub told : IfOk r (λ told. IfSome told (λ repeat. IsRepeatTold old.standing repeat.outside repeat.pair))
+  pub left : IfOk r (λ told. IfSome told (λ _. new.standing ≡ []))
+  pub refused : OnErr r (new.standing ≡ [])

@@ -9,6 +9,7 @@ ghost use Rattle.cbor_canonical.specs.Parts.{plain, give, opened, extended};
 ghost use Rattle.cbor_builder.specs.inner.Laid.{Takes, IsString, outer_spans, shape_open};
 ghost use Rattle.cbor_builder.specs.inner.BuilderState.{standing, frames, outers, IsLaid, Stand};
 ghost use Rattle.cbor_builder.specs.inner.BuilderState.{WasLaid, came_standing};
+ghost use Rattle.cbor_builder.specs.inner.BuilderState.{StandsAs, CoreLeaves};
 ghost use Rattle.cbor_builder.specs.declared.frame.Shape.TheVariants.{Key};
 ghost use Rattle.cbor_buffer.specs.declared.span.Span.{Span};
 ghost use Rattle.cbor_builder.specs.inner.Repeats.{TellsOf, Tells};
@@ -46,8 +47,7 @@ pub(crate) struct Core {
 impl Core {
     pub(crate) fn new(alloc: Global, order: KeyOrder) -> Core
         ensures order { result.order ≡ order }
-        ensures laid { IsLaid result }
-        ensures standing { standing result ≡ plain [] ∷ [] }
+        ensures stands { StandsAs result (plain [] ∷ []) }
     {
         Core {
             order,
@@ -62,8 +62,7 @@ impl Core {
     // As it was then, for keys in this order, with the memory that it has taken since.
     pub(crate) fn clear(&mut self, order: KeyOrder)
         ensures order { self.new.order ≡ order }
-        ensures laid { IsLaid self.new }
-        ensures standing { standing self.new ≡ plain [] ∷ [] }
+        ensures stands { StandsAs self.new (plain [] ∷ []) }
     {
         self.order = order;
         self.out.cut(0);
@@ -79,10 +78,8 @@ impl Core {
         requires laid { IsLaid self.old }
         requires takes { Takes self.old.top.shape }
         requires simple { major ≡ Simple → IsSimple n }
-        ensures order { self.new.order ≡ self.old.order }
-        ensures laid { OnOk result (IsLaid self.new) }
-        ensures given { OnOk result
-            (standing self.new ≡ give (shortest_head major n) (standing self.old)) }
+        ensures { CoreLeaves result self.old self.new
+            (give (shortest_head major n) (standing self.old)) }
     {
         let at = self.out.len();
         self.out.head(major, n)?;
@@ -107,11 +104,8 @@ impl Core {
         requires laid { IsLaid self.old }
         requires takes { Takes self.old.top.shape }
         requires kind { major ≢ Simple }
-        ensures order { self.new.order ≡ self.old.order }
-        ensures laid { OnOk result (IsLaid self.new) }
-        ensures given { OnOk result
-            (standing self.new
-            ≡ give (shortest_head major count ++ take count front.now) (standing self.old)) }
+        ensures { CoreLeaves result self.old self.new
+            (give (shortest_head major count ++ take count front.now) (standing self.old)) }
     {
         let at = self.out.len();
         self.out.string(major, front, count)?;
@@ -129,9 +123,7 @@ impl Core {
     pub(crate) fn nothing(&mut self) -> Result<(), AllocError>
         requires laid { IsLaid self.old }
         requires takes { Takes self.old.top.shape }
-        ensures order { self.new.order ≡ self.old.order }
-        ensures laid { OnOk result (IsLaid self.new) }
-        ensures given { OnOk result (standing self.new ≡ give [] (standing self.old)) }
+        ensures { CoreLeaves result self.old self.new (give [] (standing self.old)) }
     {
         let at = self.out.len();
         complete(
@@ -151,7 +143,7 @@ impl Core {
         requires kind { major ≢ Simple }
         ensures order { self.new.order ≡ self.old.order }
         ensures laid { OnOk result (IsLaid self.new) }
-        ensures opened { OnOk result (standing self.new ≡ opened major n ∷ standing self.old) }
+        ensures given { OnOk result (standing self.new ≡ opened major n ∷ standing self.old) }
     {
         let from = self.out.len();
         self.out.head(major, n)?;
@@ -166,10 +158,8 @@ impl Core {
         requires within { count ≤ length front.now }
         requires laid { IsLaid self.old }
         requires string { IsString self.old.top.shape }
-        ensures order { self.new.order ≡ self.old.order }
-        ensures laid { OnOk result (IsLaid self.new) }
-        ensures extended { OnOk result
-            (standing self.new ≡ extended (take count front.now) (standing self.old)) }
+        ensures { CoreLeaves result self.old self.new
+            (extended (take count front.now) (standing self.old)) }
     {
         self.out.extend(front, count)?;
         Ok(())

@@ -1,15 +1,14 @@
 //! The public builder: canonical bytes from the parts of an item, without a tree.
 
-ghost use Rattle.std.specs.Prelude.{◌≡◌, ◌↔◌, ◌≤◌, ◌++◌, ◌∷◌, [], List, ℕ, length, take};
-ghost use Rattle.std.specs.Prelude.{OnOk, OnErr, IfOk, IfSome, IsNone};
+ghost use Rattle.std.specs.Prelude.{◌≡◌, ◌≤◌, ◌++◌, ◌∷◌, [], List, ℕ, length, take};
 ghost use Rattle.cbor_head.specs.Canonical.{canonical};
 ghost use Rattle.cbor_head.specs.Head.{shortest_head, IsSimple};
 ghost use Rattle.cbor_head.specs.Value.{Value};
 ghost use Rattle.cbor_head.specs.declared.major.Major.TheVariants.{Simple};
 ghost use Rattle.cbor_builder.specs.Built.{built, IsLeaf, IsStringType, IsContainer, TakesPart};
-ghost use Rattle.cbor_builder.specs.Built.{IsInString, HasDistinctKeysSoFar, IsRepeatTold};
+ghost use Rattle.cbor_builder.specs.Built.{IsInString, HasDistinctKeysSoFar};
 ghost use Rattle.cbor_canonical.specs.Parts.{IsInContainer, Part, Makes, run, plain, give, opened, extended, close};
-ghost use Rattle.cbor_builder.specs.Built.{around};
+ghost use Rattle.cbor_builder.specs.Built.{around, Leaves, LeavesIfDistinct};
 
 mod due_key;
 
@@ -81,11 +80,8 @@ impl CanonBuilder {
         requires kind { IsLeaf major }
         requires simple { major ≡ Simple → IsSimple argument }
         requires takes { TakesPart self.old.standing }
-        ensures order { self.new.order ≡ self.old.order }
-        ensures given { OnOk result
-            (self.new ≡ built self.old.order
-            (give (shortest_head major argument) self.old.standing)) }
-        ensures refused { OnErr result (self.new.standing ≡ []) }
+        ensures { Leaves result self.old self.new
+            (give (shortest_head major argument) self.old.standing) }
     {
         let done = self.core.leaf(major, argument);
         if done.is_err() {
@@ -100,11 +96,8 @@ impl CanonBuilder {
     pub fn string(&mut self, major: Major, content: &[u8]) -> Result<(), AllocError>
         requires kind { IsStringType major }
         requires takes { TakesPart self.old.standing }
-        ensures order { self.new.order ≡ self.old.order }
-        ensures given { OnOk result
-            (self.new ≡ built self.old.order
-            (give (shortest_head major (length content.now) ++ content.now) self.old.standing)) }
-        ensures refused { OnErr result (self.new.standing ≡ []) }
+        ensures { Leaves result self.old self.new
+            (give (shortest_head major (length content.now) ++ content.now) self.old.standing) }
     {
         let done = self.core.string(major, content, content.len());
         if done.is_err() {
@@ -125,11 +118,8 @@ impl CanonBuilder {
         requires kind { IsStringType major }
         requires within { count ≤ length front.now }
         requires takes { TakesPart self.old.standing }
-        ensures order { self.new.order ≡ self.old.order }
-        ensures given { OnOk result
-            (self.new ≡ built self.old.order
-            (give (shortest_head major count ++ take count front.now) self.old.standing)) }
-        ensures refused { OnErr result (self.new.standing ≡ []) }
+        ensures { Leaves result self.old self.new
+            (give (shortest_head major count ++ take count front.now) self.old.standing) }
     {
         let done = self.core.string(major, front, count);
         if done.is_err() {
@@ -142,9 +132,7 @@ impl CanonBuilder {
     #[inline(always)]
     pub fn nothing(&mut self) -> Result<(), AllocError>
         requires takes { TakesPart self.old.standing }
-        ensures order { self.new.order ≡ self.old.order }
-        ensures given { OnOk result (self.new ≡ built self.old.order (give [] self.old.standing)) }
-        ensures refused { OnErr result (self.new.standing ≡ []) }
+        ensures { Leaves result self.old self.new (give [] self.old.standing) }
     {
         let done = self.core.nothing();
         if done.is_err() {
@@ -158,10 +146,7 @@ impl CanonBuilder {
     pub fn begin_string(&mut self, major: Major) -> Result<(), AllocError>
         requires kind { IsStringType major }
         requires takes { TakesPart self.old.standing }
-        ensures order { self.new.order ≡ self.old.order }
-        ensures opened { OnOk result
-            (self.new ≡ built self.old.order (opened major 0 ∷ self.old.standing)) }
-        ensures refused { OnErr result (self.new.standing ≡ []) }
+        ensures { Leaves result self.old self.new (opened major 0 ∷ self.old.standing) }
     {
         let done = self.core.begin(major, 0);
         if done.is_err() {
@@ -174,10 +159,7 @@ impl CanonBuilder {
     #[inline(always)]
     pub fn bytes(&mut self, content: &[u8]) -> Result<(), AllocError>
         requires string { IsInString self.old.standing }
-        ensures order { self.new.order ≡ self.old.order }
-        ensures extended { OnOk result
-            (self.new ≡ built self.old.order (extended content.now self.old.standing)) }
-        ensures refused { OnErr result (self.new.standing ≡ []) }
+        ensures { Leaves result self.old self.new (extended content.now self.old.standing) }
     {
         let done = self.core.bytes(content, content.len());
         if done.is_err() {
@@ -191,10 +173,8 @@ impl CanonBuilder {
     pub fn front_bytes(&mut self, front: &[u8], count: usize) -> Result<(), AllocError>
         requires string { IsInString self.old.standing }
         requires within { count ≤ length front.now }
-        ensures order { self.new.order ≡ self.old.order }
-        ensures extended { OnOk result
-            (self.new ≡ built self.old.order (extended (take count front.now) self.old.standing)) }
-        ensures refused { OnErr result (self.new.standing ≡ []) }
+        ensures { Leaves result self.old self.new
+            (extended (take count front.now) self.old.standing) }
     {
         let done = self.core.bytes(front, count);
         if done.is_err() {
@@ -207,10 +187,7 @@ impl CanonBuilder {
     #[inline(always)]
     pub fn end_string(&mut self) -> Result<(), AllocError>
         requires string { IsInString self.old.standing }
-        ensures order { self.new.order ≡ self.old.order }
-        ensures ended { OnOk result
-            (self.new ≡ built self.old.order (close self.old.order self.old.standing)) }
-        ensures refused { OnErr result (self.new.standing ≡ []) }
+        ensures { Leaves result self.old self.new (close self.old.order self.old.standing) }
     {
         self.is_sound = false;
         // No string has keys that could be equal.
@@ -225,10 +202,7 @@ impl CanonBuilder {
     pub fn begin(&mut self, major: Major, number: u64) -> Result<(), AllocError>
         requires kind { IsContainer major }
         requires takes { TakesPart self.old.standing }
-        ensures order { self.new.order ≡ self.old.order }
-        ensures opened { OnOk result
-            (self.new ≡ built self.old.order (opened major number ∷ self.old.standing)) }
-        ensures refused { OnErr result (self.new.standing ≡ []) }
+        ensures { Leaves result self.old self.new (opened major number ∷ self.old.standing) }
     {
         let done = self.core.begin(major, number);
         if done.is_err() {
@@ -242,10 +216,7 @@ impl CanonBuilder {
     pub fn end(&mut self) -> Result<(), AllocError>
         requires container { IsInContainer self.old.standing }
         requires distinct { HasDistinctKeysSoFar self.old.standing }
-        ensures order { self.new.order ≡ self.old.order }
-        ensures ended { OnOk result
-            (self.new ≡ built self.old.order (close self.old.order self.old.standing)) }
-        ensures refused { OnErr result (self.new.standing ≡ []) }
+        ensures { Leaves result self.old self.new (close self.old.order self.old.standing) }
     {
         self.is_sound = false;
         // No two keys are the same.
@@ -261,15 +232,8 @@ impl CanonBuilder {
     #[inline(always)]
     pub fn end_if_distinct(&mut self) -> Result<Option<Repeat>, AllocError>
         requires container { IsInContainer self.old.standing }
-        ensures order { self.new.order ≡ self.old.order }
-        ensures distinct { IfOk result
-            (λ told. IsNone told ↔ HasDistinctKeysSoFar self.old.standing) }
-        ensures ended { IfOk result (λ told. IsNone told
-            → self.new ≡ built self.old.order (close self.old.order self.old.standing)) }
-        ensures told { IfOk result (λ told. IfSome told
-            (λ repeat. IsRepeatTold self.old.standing repeat.outside repeat.pair)) }
-        ensures left { IfOk result (λ told. IfSome told (λ _. self.new.standing ≡ [])) }
-        ensures refused { OnErr result (self.new.standing ≡ []) }
+        ensures { LeavesIfDistinct result self.old self.new
+            (close self.old.order self.old.standing) }
     {
         self.is_sound = false;
         if !self.core.end()? {
@@ -284,15 +248,7 @@ impl CanonBuilder {
     #[inline(always)]
     pub fn give_up_if_distinct(&mut self) -> Result<Option<Repeat>, AllocError>
         requires container { IsInContainer self.old.standing }
-        ensures order { self.new.order ≡ self.old.order }
-        ensures distinct { IfOk result
-            (λ told. IsNone told ↔ HasDistinctKeysSoFar self.old.standing) }
-        ensures around { IfOk result (λ told. IsNone told
-            → self.new ≡ built self.old.order (around self.old.standing)) }
-        ensures told { IfOk result (λ told. IfSome told
-            (λ repeat. IsRepeatTold self.old.standing repeat.outside repeat.pair)) }
-        ensures left { IfOk result (λ told. IfSome told (λ _. self.new.standing ≡ [])) }
-        ensures refused { OnErr result (self.new.standing ≡ []) }
+        ensures { LeavesIfDistinct result self.old self.new (around self.old.standing) }
     {
         self.is_sound = false;
         if !self.core.give_up()? {

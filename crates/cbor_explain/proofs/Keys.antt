@@ -1,8 +1,8 @@
 -- The text of a key.
-use Rattle.std.proofs.Common.{ℕ, ◌<◌, ◌≤◌, ◌≡◌, ◌⊎◌, inl, inr, min, Option, List, ◌++◌, ◌-◌, length, take, drop, refl, sym, ap, ◌∙◌, subst, arith, codes, decimal, take_all, length-drop}
+use Rattle.std.proofs.Common.{ℕ, ◌<◌, ◌≤◌, ◌≡◌, ◌⊎◌, inl, inr, min, Option, List, ◌++◌, ◌-◌, length, take, drop, refl, sym, ap, ◌∙◌, subst, arith, codes, decimal}
 use Rattle.std.specs.Io.KnownBytes.{Appends}
 use Rattle.std.proofs.KnownBytes.{Appends-trans}
-use Rattle.std.proofs.lemmas.List.{drop_all}
+use Rattle.std.proofs.lemmas.List.{drop_all, take_rest}
 use Rattle.std.proofs.lemmas.Bool.{cases_lt}
 use Rattle.cbor_head.specs.Prelude.{plain, Bounds, bounds, Value}
 use Rattle.cbor_head.specs.declared.reason.Refusal.{Refusal}
@@ -22,8 +22,7 @@ drop_within item place = by (cases_lt place (length item))
 read_at : (P : Bounds → List ℕ → Type 0) (item : List ℕ) (place start : ℕ) (limits : Bounds) → start ≡ min (length item) place → limits ≡ bounds 256 64
     → P limits (take (length item - start) (drop start item)) → P (bounds 256 64) (drop place item)
 read_at P item place start limits start_is limits_is read =
-    let rest : take (length item - start) (drop start item) ≡ drop place item =
-    take_all (length item - start) (drop start item) (omega (arith, length-drop start item)) ∙ ap (λ k. drop k item) start_is ∙ drop_within item place in
+    let rest = take_rest item start ∙ ap (λ k. drop k item) start_is ∙ drop_within item place in
     subst (λ (l : Bounds). P l (drop place item)) limits_is (subst (P limits) rest read)
 
 pub short_key : (item : List ℕ) (place start : ℕ) (limits : Bounds) → start ≡ min (length item) place → limits ≡ bounds 256 64 → (v : Value) (count : ℕ) (a b c : Option (List ℕ))

@@ -3,12 +3,8 @@ use Rattle.std.proofs.Common.{ℕ, ◌+◌, ◌-◌, ◌*◌, ◌/◌, ◌%◌, 
 use Rattle.std.specs.Io.KnownBytes.{Appends}
 use Rattle.std.proofs.KnownBytes.{Appends-trans}
 use Rattle.std.proofs.lemmas.Grind.{flat_map-append}
-use Rattle.std.proofs.lemmas.List.{take_min}
-use Rattle.std.proofs.Math.Seq.{take-add, drop-cons}
+use Rattle.std.proofs.lemmas.List.{take_min, take_more}
 use Rattle.cbor_explain.specs.Surroundings.{digit, spaced, label, lines_from, lines_around, surroundings}
-
-pub take_next : {A : Type 0} → (xs : List A) (i : ℕ) (d : A) → i < length xs → take (i + 1) xs ≡ take i xs ++ get_or xs i d ∷ []
-take_next xs i d l = take-add i 1 xs ∙ ap (λ r. take i xs ++ take 1 r) (drop-cons xs i d l)
 
 -- what is written of a byte
 abbrev pub digits_of : ℕ → List ℕ
@@ -16,7 +12,7 @@ digits_of b = 32 ∷ digit (b / 16) ∷ digit (b % 16) ∷ []
 
 spaced_next : (bytes : List ℕ) (i d : ℕ) → i < length bytes → spaced (take (i + 1) bytes) ≡ spaced (take i bytes) ++ digits_of (get_or bytes i d)
 spaced_next bytes i d l =
-    ap spaced (take_next bytes i d l) ∙ flat_map-append digits_of (take i bytes) (get_or bytes i d ∷ [])
+    ap spaced (take_more bytes i d l) ∙ flat_map-append digits_of (take i bytes) (get_or bytes i d ∷ [])
     ∙ ap (λ r. spaced (take i bytes) ++ r) (append-nil (digits_of (get_or bytes i d)))
 
 pub digits_more : (bytes : List ℕ) (i b first second : ℕ) → i < length bytes → b ≡ get_or bytes i 0 → first ≡ digit (b / 16) → second ≡ digit (b % 16) → (x y z : Option (List ℕ))

@@ -1,5 +1,5 @@
 -- The texts of the first steps of a way.
-use Rattle.std.proofs.Common.{ℕ, Option, List, [], ◌∷◌, ◌++◌, refl, sym, ap, ◌∙◌, append_assoc, append-nil, subst, codes, Result, OnOk, Ok, Err}
+use Rattle.std.proofs.Common.{ℕ, Option, List, [], ◌∷◌, ◌++◌, refl, sym, ap, ◌∙◌, append_assoc, append-nil, subst, codes}
 use Rattle.std.specs.Io.KnownBytes.{Appends}
 use Rattle.std.proofs.KnownBytes.{Appends-trans}
 use Rattle.cbor_explain.specs.Way.{AreStepTexts, IsStepText, IsWayText}
@@ -30,11 +30,6 @@ way_written item way old mid new h w = record {
   is = record { steps = h.steps; are = h.are; is = refl };
   written = subst (Appends old new) (append_assoc (codes "  at $") h.steps (codes "\n")) (Appends-trans old mid new (codes "  at $" ++ h.steps) (codes "\n") h.written w);
 }
-
--- what follows of an answer
-pub on_ok : {E : Type 0} → (r : Result (Unit {0}) E) (P Q : Type 0) → (P → Q) → OnOk r P → OnOk r Q
-on_ok (Ok done) P Q f h = f h
-on_ok (Err fault) P Q f h = tt
 
 -- a text that is what it says
 pub just : (Is : List ℕ → Type 0) (old new : Option (List ℕ)) (t : List ℕ) → Is t → Appends old new t → Writes Is old new

@@ -77,15 +77,8 @@ pub record IsFront (b : List ℕ) (h : Front) : Type 0 where
   pub bytes_are : head h.major h.width h.argument ++ h.rest ≡ b
 
 major_kept : (q : ℕ) → q < 8 → major_number (major_of q) ≡ q
-major_kept zero h = refl
-major_kept (suc zero) h = refl
-major_kept (suc (suc zero)) h = refl
-major_kept (suc (suc (suc zero))) h = refl
-major_kept (suc (suc (suc (suc zero)))) h = refl
-major_kept (suc (suc (suc (suc (suc zero))))) h = refl
-major_kept (suc (suc (suc (suc (suc (suc zero)))))) h = refl
-major_kept (suc (suc (suc (suc (suc (suc (suc zero))))))) h = refl
 major_kept (suc (suc (suc (suc (suc (suc (suc (suc q)))))))) h = absurd (omega arith)
+major_kept q h = refl
 
 first_kept : (b : ℕ) → b < 256 → 32 * major_number (major_of (b / 32)) + b % 32 ≡ b
 first_kept b h = rw (major_kept (b / 32) (omega arith)) (omega arith)
@@ -105,60 +98,41 @@ numbered_front b m w k bs h small holds tells spelled e =
       | inr p ↦ absurd (cc p.1)
     ]
 
-abbrev with31 : Major → ℕ → List ℕ → Option Front
-with31 m low bs = if low == 31 then Some (front m Indefinite 0 bs) else None
-
-abbrev with27 : Major → ℕ → List ℕ → Option Front
-with27 m low bs = if low == 27 then numbered m Eight 8 bs else with31 m low bs
-
-abbrev with26 : Major → ℕ → List ℕ → Option Front
-with26 m low bs = if low == 26 then numbered m Four 4 bs else with27 m low bs
-
-abbrev with25 : Major → ℕ → List ℕ → Option Front
-with25 m low bs = if low == 25 then numbered m Two 2 bs else with26 m low bs
-
-abbrev with24 : Major → ℕ → List ℕ → Option Front
-with24 m low bs = if low == 24 then numbered m One 1 bs else with25 m low bs
+-- a case of the low five bits, and what is read in the others
+one_case : (b k : ℕ) (m : Major) (low n : ℕ) (w : Width) (bs : List ℕ) (h : Front) (rest : Option Front) → ByPlace bs → 32 * major_number m + low ≡ b
+    → ((x : ℕ) → x < 256 ^ n → HoldsOrIndefinite w x) → ((x : ℕ) → told w x ≡ x) → ((x : ℕ) → head m w x ≡ (32 * major_number m + k) ∷ big_bytes n x)
+    → (if low == k then numbered m w n bs else rest) ≡ Some h → (rest ≡ Some h → IsFront (b ∷ bs) h) → IsFront (b ∷ bs) h
+one_case b k m low n w bs h rest small e holds tells spelled f other =
+    elim (chosen (low == k) (numbered m w n bs) rest (Some h) f) [
+      | inl p ↦
+          let is : low ≡ k = eqb-true low k p.0 in
+          let first : 32 * major_number m + k ≡ b = omega arith in
+          numbered_front b m w n bs h small holds tells (λ x. spelled x ∙ ap (λ (y : ℕ). y ∷ big_bytes n x) first) p.1
+      | inr p ↦ other p.1
+    ]
 
 low_front : (b : ℕ) (m : Major) (low : ℕ) (bs : List ℕ) (h : Front) → ByPlace bs → 32 * major_number m + low ≡ b → with_low m low bs ≡ Some h → IsFront (b ∷ bs) h
 low_front b m low bs h small e f =
-    elim (chosen (nat_lt low 24) (Some (front m Direct low bs)) (with24 m low bs) (Some h) f) [
+    elim (chosen (nat_lt low 24) (Some (front m Direct low bs)) _ (Some h) f) [
       | inl p ↦
           let same : front m Direct low bs ≡ h = cc p.1 in
           let less : low < 24 = ltb-true low 24 p.0 in
           subst (IsFront (b ∷ bs)) same (record { holds = less; tells = refl; bytes_are = ap (λ (x : ℕ). x ∷ bs) e })
-      | inr p1 ↦ elim (chosen (low == 24) (numbered m One 1 bs) (with25 m low bs) (Some h) p1.1) [
-        | inl p ↦ (
-            let is : low ≡ 24 = eqb-true low 24 p.0 in
-            let first : 32 * major_number m + 24 ≡ b = omega arith in
-            numbered_front b m One 1 bs h small (λ n l. l) (λ n. refl) (λ n. ap (λ (x : ℕ). x ∷ big_bytes 1 n) first) p.1)
-        | inr q0 ↦ elim (chosen (low == 25) (numbered m Two 2 bs) (with26 m low bs) (Some h) q0.1) [
-          | inl p ↦ (
-              let is : low ≡ 25 = eqb-true low 25 p.0 in
-              let first : 32 * major_number m + 25 ≡ b = omega arith in
-              numbered_front b m Two 2 bs h small (λ n l. l) (λ n. refl) (λ n. ap (λ (x : ℕ). x ∷ big_bytes 2 n) first) p.1)
-          | inr q1 ↦ elim (chosen (low == 26) (numbered m Four 4 bs) (with27 m low bs) (Some h) q1.1) [
-            | inl p ↦ (
-                let is : low ≡ 26 = eqb-true low 26 p.0 in
-                let first : 32 * major_number m + 26 ≡ b = omega arith in
-                numbered_front b m Four 4 bs h small (λ n l. l) (λ n. refl) (λ n. ap (λ (x : ℕ). x ∷ big_bytes 4 n) first) p.1)
-            | inr q2 ↦ elim (chosen (low == 27) (numbered m Eight 8 bs) (with31 m low bs) (Some h) q2.1) [
-              | inl p ↦ (
-                  let is : low ≡ 27 = eqb-true low 27 p.0 in
-                  let first : 32 * major_number m + 27 ≡ b = omega arith in
-                  numbered_front b m Eight 8 bs h small (λ n l. l) (λ n. refl) (λ n. ap (λ (x : ℕ). x ∷ big_bytes 8 n) first) p.1)
-              | inr q3 ↦ elim (chosen (low == 31) (Some (front m Indefinite 0 bs)) None (Some h) q3.1) [
-                | inl p ↦ (
-                    let is : low ≡ 31 = eqb-true low 31 p.0 in
-                    let first : 32 * major_number m + 31 ≡ b = omega arith in
-                    let same : front m Indefinite 0 bs ≡ h = cc p.1 in
-                    subst (IsFront (b ∷ bs)) same (record { holds = tt; tells = refl; bytes_are = ap (λ (x : ℕ). x ∷ bs) first }))
-                | inr p ↦ absurd (cc p.1)
-              ]
-            ]
-          ]
-        ]
-      ]
+      | inr p ↦
+          one_case b 24 m low 1 One bs h _ small e (λ n l. l) (λ n. refl) (λ n. refl) p.1
+          (λ f1. one_case b 25 m low 2 Two bs h _ small e (λ n l. l) (λ n. refl) (λ n. refl) f1
+          (λ f2. one_case b 26 m low 4 Four bs h _ small e (λ n l. l) (λ n. refl) (λ n. refl) f2
+          (λ f3. one_case b 27 m low 8 Eight bs h _ small e (λ n l. l) (λ n. refl) (λ n. refl) f3 opener)))
+    ]
+  where
+    opener : (if low == 31 then Some (front m Indefinite 0 bs) else None) ≡ Some h → IsFront (b ∷ bs) h
+    opener f = elim (chosen (low == 31) (Some (front m Indefinite 0 bs)) None (Some h) f) [
+      | inl p ↦
+          let is : low ≡ 31 = eqb-true low 31 p.0 in
+          let first : 32 * major_number m + 31 ≡ b = omega arith in
+          let same : front m Indefinite 0 bs ≡ h = cc p.1 in
+          subst (IsFront (b ∷ bs)) same (record { holds = tt; tells = refl; bytes_are = ap (λ (x : ℕ). x ∷ bs) first })
+      | inr p ↦ absurd (cc p.1)
     ]
 
 pub read_head-back : (b : List ℕ) (h : Front) → ByPlace b → read_head b ≡ Some h → IsFront b h

@@ -6,7 +6,7 @@ use Rattle.byteorder.specs.Numbers.{big_number-reads_back, length-bytes_high_fir
 use Rattle.cbor_head.specs.Prelude.{head, Holds, major_number, HoldsOrIndefinite}
 use Rattle.cbor_head.specs.Read.{front, major_of, numbered, with_low, read_head}
 use Rattle.cbor_head.specs.declared.major.Major.{Major}
-use Rattle.cbor_head.specs.declared.major.Major.TheVariants.{Unsigned, Negative, Bytes, Text, Array, Map, Tag, Simple}
+use Rattle.cbor_head.specs.declared.major.Major.TheVariants.{Unsigned}
 use Rattle.cbor_head.specs.declared.width.Width.{Width}
 use Rattle.cbor_head.specs.declared.width.Width.TheVariants.{Direct, One, Two, Four, Eight, Indefinite}
 
@@ -21,13 +21,7 @@ told_holds _ n h = refl
 
 pub major_back : (m : Major) → major_of (major_number m) ≡ m
 major_back Unsigned = refl
-major_back Negative = refl
-major_back Bytes = refl
-major_back Text = refl
-major_back Array = refl
-major_back Map = refl
-major_back Tag = refl
-major_back Simple = refl
+major_back m = refl
 
 high : (m low : ℕ) → low < 32 → (32 * m + low) / 32 ≡ m
 high m low h = omega arith

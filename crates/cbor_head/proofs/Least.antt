@@ -35,71 +35,36 @@ IsLeast m w n v = Holds v n × (length (head m v n) ≤ length (head m w n))
 least_at : (m : Major) (w : Width) (n : ℕ) → Holds w n → (v : Width) → shortest n ≡ v → Holds v n → length (head m v n) ≤ length (head m w n) → IsLeast m w n (shortest n)
 least_at m w n h v e a l = subst (IsLeast m w n) (sym e) (a, l)
 
+-- how long a head is at least, by its argument
+at_least : (m : Major) (w : Width) (n : ℕ) → Holds w n
+    → (length (head m Direct n) ≤ length (head m w n)) × (24 ≤ n → length (head m One n) ≤ length (head m w n)) × (2 ^ 8 ≤ n → length (head m Two n) ≤ length (head m w n))
+    × (2 ^ 16 ≤ n → length (head m Four n) ≤ length (head m w n)) × (2 ^ 32 ≤ n → length (head m Eight n) ≤ length (head m w n)) × (n < 2 ^ 64)
+at_least m Indefinite n h = absurd h
+at_least m w n h = (omega arith, (λ l. omega arith), (λ l. omega arith), (λ l. omega arith), (λ l. omega arith), omega arith)
+
 by_size : (m : Major) (w : Width) (n : ℕ) → Holds w n → Size n → IsLeast m w n (shortest n)
-by_size m Indefinite n h k = absurd h
-by_size m Direct n h (direct a e) = least_at m Direct n h Direct e a (omega arith)
-by_size m Direct n h (one a b e) = absurd (omega arith)
-by_size m Direct n h (two a b e) = absurd (omega arith)
-by_size m Direct n h (four a b e) = absurd (omega arith)
-by_size m Direct n h (eight a e) = absurd (omega arith)
-by_size m One n h (direct a e) = least_at m One n h Direct e a (omega arith)
-by_size m One n h (one a b e) = least_at m One n h One e b (omega arith)
-by_size m One n h (two a b e) = absurd (omega arith)
-by_size m One n h (four a b e) = absurd (omega arith)
-by_size m One n h (eight a e) = absurd (omega arith)
-by_size m Two n h (direct a e) = least_at m Two n h Direct e a (omega arith)
-by_size m Two n h (one a b e) = least_at m Two n h One e b (omega arith)
-by_size m Two n h (two a b e) = least_at m Two n h Two e b (omega arith)
-by_size m Two n h (four a b e) = absurd (omega arith)
-by_size m Two n h (eight a e) = absurd (omega arith)
-by_size m Four n h (direct a e) = least_at m Four n h Direct e a (omega arith)
-by_size m Four n h (one a b e) = least_at m Four n h One e b (omega arith)
-by_size m Four n h (two a b e) = least_at m Four n h Two e b (omega arith)
-by_size m Four n h (four a b e) = least_at m Four n h Four e b (omega arith)
-by_size m Four n h (eight a e) = absurd (omega arith)
-by_size m Eight n h (direct a e) = least_at m Eight n h Direct e a (omega arith)
-by_size m Eight n h (one a b e) = least_at m Eight n h One e b (omega arith)
-by_size m Eight n h (two a b e) = least_at m Eight n h Two e b (omega arith)
-by_size m Eight n h (four a b e) = least_at m Eight n h Four e b (omega arith)
-by_size m Eight n h (eight a e) = least_at m Eight n h Eight e h (omega arith)
-
--- a head with no more bytes than the shortest has its width
-more_at : (m : Major) (w : Width) (n : ℕ) (v : Width) → shortest n ≡ v → length (head m v n) < length (head m w n) → length (head m w n) ≤ length (head m (shortest n) n) → w ≡ shortest n
-more_at m w n v e less l = let same = ap (λ (x : Width). length (head m x n)) e in absurd (omega (arith, less, l, same))
-
-only_one : (m : Major) (w : Width) (n : ℕ) → Holds w n → Size n → length (head m w n) ≤ length (head m (shortest n) n) → w ≡ shortest n
-only_one m Indefinite n h k = absurd h
-only_one m Direct n h (direct a e) = λ l. sym e
-only_one m Direct n h (one a b e) = absurd (omega arith)
-only_one m Direct n h (two a b e) = absurd (omega arith)
-only_one m Direct n h (four a b e) = absurd (omega arith)
-only_one m Direct n h (eight a e) = absurd (omega arith)
-only_one m One n h (direct a e) = more_at m One n Direct e (omega arith)
-only_one m One n h (one a b e) = λ l. sym e
-only_one m One n h (two a b e) = absurd (omega arith)
-only_one m One n h (four a b e) = absurd (omega arith)
-only_one m One n h (eight a e) = absurd (omega arith)
-only_one m Two n h (direct a e) = more_at m Two n Direct e (omega arith)
-only_one m Two n h (one a b e) = more_at m Two n One e (omega arith)
-only_one m Two n h (two a b e) = λ l. sym e
-only_one m Two n h (four a b e) = absurd (omega arith)
-only_one m Two n h (eight a e) = absurd (omega arith)
-only_one m Four n h (direct a e) = more_at m Four n Direct e (omega arith)
-only_one m Four n h (one a b e) = more_at m Four n One e (omega arith)
-only_one m Four n h (two a b e) = more_at m Four n Two e (omega arith)
-only_one m Four n h (four a b e) = λ l. sym e
-only_one m Four n h (eight a e) = absurd (omega arith)
-only_one m Eight n h (direct a e) = more_at m Eight n Direct e (omega arith)
-only_one m Eight n h (one a b e) = more_at m Eight n One e (omega arith)
-only_one m Eight n h (two a b e) = more_at m Eight n Two e (omega arith)
-only_one m Eight n h (four a b e) = more_at m Eight n Four e (omega arith)
-only_one m Eight n h (eight a e) = λ l. sym e
-
-pub only : (m : Major) (w : Width) (n : ℕ) → Holds w n → length (head m w n) ≤ length (head m (shortest n) n) → w ≡ shortest n
-only m w n h = only_one m w n h (size n)
+by_size m w n h (direct a e) = least_at m w n h Direct e a (at_least m w n h).0
+by_size m w n h (one a b e) = least_at m w n h One e b ((at_least m w n h).1 a)
+by_size m w n h (two a b e) = least_at m w n h Two e b ((at_least m w n h).2 a)
+by_size m w n h (four a b e) = least_at m w n h Four e b ((at_least m w n h).3 a)
+by_size m w n h (eight a e) = let k = at_least m w n h in least_at m w n h Eight e k.5 (k.4 a)
 
 pub least : (m : Major) (w : Width) (n : ℕ) → Holds w n → IsLeast m w n (shortest n)
 least m w n h = by_size m w n h (size n)
+
+-- a head with no more bytes than the shortest has its width
+pub only : (m : Major) (w : Width) (n : ℕ) → Holds w n → length (head m w n) ≤ length (head m (shortest n) n) → w ≡ shortest n
+only m w n h l = let k = least m w n h in by_length w (shortest n) h k.0 (omega (arith, l, k.1))
+  where
+    by_length : (v w : Width) → Holds v n → Holds w n → length (head m v n) ≡ length (head m w n) → v ≡ w
+    by_length Direct Direct g h e = refl
+    by_length One One g h e = refl
+    by_length Two Two g h e = refl
+    by_length Four Four g h e = refl
+    by_length Eight Eight g h e = refl
+    by_length Indefinite w g h e = absurd g
+    by_length v Indefinite g h e = absurd h
+    by_length v w g h e = absurd (omega (arith, e))
 
 -- a head of one byte
 pub one_byte : (m : Major) (n first : ℕ) → n < 24 → first ≡ major_number m → (32 * first + n) ∷ [] ≡ shortest_head m n

@@ -3,9 +3,9 @@ use Rattle.std.proofs.Common.{ℕ, ◌≡◌, List, [], ◌++◌, Option, Some, 
 use Rattle.cbor_head.specs.Prelude.{Holds, IsHead, head, head_parts, HoldsOrIndefinite}
 use Rattle.cbor_head.specs.Read.{Front, front, read_head}
 use Rattle.cbor_head.specs.declared.major.Major.{Major}
-use Rattle.cbor_head.specs.declared.major.Major.TheVariants.{Unsigned, Negative, Bytes, Text, Array, Map, Tag, Simple}
+use Rattle.cbor_head.specs.declared.major.Major.TheVariants.{Simple}
 use Rattle.cbor_head.specs.declared.width.Width.{Width}
-use Rattle.cbor_head.specs.declared.width.Width.TheVariants.{Direct, One, Two, Four, Eight, Indefinite}
+use Rattle.cbor_head.specs.declared.width.Width.TheVariants.{One, Indefinite}
 use Rattle.cbor_head.proofs.HeadLaws.{told, read_head-head}
 use Rattle.cbor_head.proofs.HeadBack.{ByPlace, read_head-back}
 use Rattle.cbor_head.proofs.Least.{least}
@@ -13,21 +13,11 @@ use Rattle.cbor_head.proofs.Least.{least}
 -- a definite head has room for its argument
 pub head_holds : (m : Major) (w : Width) (n : ℕ) → IsHead m w n → Holds w n
 head_holds Simple w n h = subst (λ (v : Width). Holds v n) (sym h.1) (least Simple One n h.0.0).0
-head_holds Unsigned w n h = h
-head_holds Negative w n h = h
-head_holds Bytes w n h = h
-head_holds Text w n h = h
-head_holds Array w n h = h
-head_holds Map w n h = h
-head_holds Tag w n h = h
+head_holds m w n h = h
 
 told_of : (w : Width) (n : ℕ) → Holds w n → HoldsOrIndefinite w n × (told w n ≡ n)
 told_of Indefinite n h = absurd h
-told_of Direct n h = (h, refl)
-told_of One n h = (h, refl)
-told_of Two n h = (h, refl)
-told_of Four n h = (h, refl)
-told_of Eight n h = (h, refl)
+told_of w n h = (h, refl)
 
 -- a definite head is read, whatever follows it
 pub head_reads : (m : Major) (w : Width) (n : ℕ) (x : List ℕ) → IsHead m w n → read_head (head m w n ++ x) ≡ Some (front m w n x)

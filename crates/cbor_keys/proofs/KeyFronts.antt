@@ -30,10 +30,7 @@ below (suc n) (x ∷ xs) h =
 
 -- a lower front, a lower key
 pub front_less : (n : ℕ) (xs ys : List ℕ) → AreBytes xs → AreBytes ys → digits n xs < digits n ys → slice_cmp nat_cmp xs ys ≡ Less
-front_less zero xs ys h g l = absurd (omega (arith, l))
-front_less (suc n) [] [] h g l = absurd (omega (arith, l))
 front_less (suc n) [] (y ∷ ys) h g l = refl
-front_less (suc n) (x ∷ xs) [] h g l = absurd (omega (arith, l))
 front_less (suc n) (x ∷ xs) (y ∷ ys) h g l = go (front_less n xs ys h.1 g.1) (nat_cmp x y) refl (ranked x y (nat_cmp x y) refl)
   where
     go : (digits n xs < digits n ys → slice_cmp nat_cmp xs ys ≡ Less) → (r : Ordering) → nat_cmp x y ≡ r → MatchOrdering r (x < y) (x ≡ y) (y < x) → slice_cmp nat_cmp (x ∷ xs) (y ∷ ys) ≡ Less
@@ -47,6 +44,7 @@ front_less (suc n) (x ∷ xs) (y ∷ ys) h g l = go (front_less n xs ys h.1 g.1)
         let more = mul-le-mul_left (256 ^ n) next in
         let d = mul-suc (256 ^ n) y in
         absurd (omega (arith, l, b, more, d))
+front_less n xs ys h g l = absurd (omega (arith, l))
 
 -- numbers that are the fronts of two keys, and these where the fronts are equal, are in the order of the keys
 pub agree_front : (a b : ℕ) (xs ys : List ℕ) → AreBytes xs → AreBytes ys → a ≡ front_of xs → b ≡ front_of ys → ordering_then (nat_cmp a b) (slice_cmp nat_cmp xs ys) ≡ key_cmp Bytewise xs ys
@@ -67,14 +65,8 @@ kept_part (a ∷ b ∷ c ∷ d ∷ e ∷ f ∷ g ∷ h ∷ rest) n k l p q = by_
   where
     by_count : (n : ℕ) → 0 < n → n < 8 → from_be_bytes w64 (take 8 (a ∷ b ∷ c ∷ d ∷ e ∷ f ∷ g ∷ h ∷ rest)) / 2 ^ (64 - 8 * n) * 2 ^ (64 - 8 * n) ≡ front_of (take n (a ∷ b ∷ c ∷ d ∷ e ∷ f ∷ g ∷ h ∷ rest))
     by_count zero p q = absurd (omega (arith, p))
-    by_count (suc zero) p q = omega (arith, k.1.0, k.1.1.0, k.1.1.1.0, k.1.1.1.1.0, k.1.1.1.1.1.0, k.1.1.1.1.1.1.0, k.1.1.1.1.1.1.1.0)
-    by_count (suc (suc zero)) p q = omega (arith, k.1.1.0, k.1.1.1.0, k.1.1.1.1.0, k.1.1.1.1.1.0, k.1.1.1.1.1.1.0, k.1.1.1.1.1.1.1.0)
-    by_count (suc (suc (suc zero))) p q = omega (arith, k.1.1.1.0, k.1.1.1.1.0, k.1.1.1.1.1.0, k.1.1.1.1.1.1.0, k.1.1.1.1.1.1.1.0)
-    by_count (suc (suc (suc (suc zero)))) p q = omega (arith, k.1.1.1.1.0, k.1.1.1.1.1.0, k.1.1.1.1.1.1.0, k.1.1.1.1.1.1.1.0)
-    by_count (suc (suc (suc (suc (suc zero))))) p q = omega (arith, k.1.1.1.1.1.0, k.1.1.1.1.1.1.0, k.1.1.1.1.1.1.1.0)
-    by_count (suc (suc (suc (suc (suc (suc zero)))))) p q = omega (arith, k.1.1.1.1.1.1.0, k.1.1.1.1.1.1.1.0)
-    by_count (suc (suc (suc (suc (suc (suc (suc zero))))))) p q = omega (arith, k.1.1.1.1.1.1.1.0)
     by_count (suc (suc (suc (suc (suc (suc (suc (suc m)))))))) p q = absurd (omega (arith, q))
+    by_count n p q = omega (arith, k.1.0, k.1.1.0, k.1.1.1.0, k.1.1.1.1.0, k.1.1.1.1.1.0, k.1.1.1.1.1.1.0, k.1.1.1.1.1.1.1.0)
 kept_part xs n k l p q = absurd (omega (arith, l))
 
 pub kept_whole : (xs : List ℕ) (n : ℕ) → 8 ≤ length xs → 8 ≤ n → from_be_bytes w64 (take 8 xs) ≡ front_of (take n xs)

@@ -1,8 +1,8 @@
 -- Keys compared by words of eight bytes.
-use Rattle.std.proofs.Common.{◌≡◌, ◌≢◌, ◌⊎◌, ℕ, zero, suc, ◌+◌, ◌*◌, ◌^◌, ◌<◌, ◌≤◌, ◌++◌, List, [], ◌∷◌, length, length-drop, take, drop, refl, sym, ap, ◌∙◌, arith, inl, inr, mul-le-mul_left, mul-suc, take-take}
+use Rattle.std.proofs.Common.{◌≡◌, ◌≢◌, ◌⊎◌, ℕ, zero, suc, ◌+◌, ◌*◌, ◌^◌, ◌<◌, ◌≤◌, ◌++◌, List, [], ◌∷◌, length, length-drop, take, drop, refl, sym, ap, ◌∙◌, arith, inl, inr, mul_comm, take-take}
 use Rattle.std.proofs.Math.Seq.{take-add}
 use Rattle.std.proofs.lemmas.List.{drop_all}
-use Rattle.std.proofs.lemmas.Bool.{cases_lt}
+use Rattle.std.proofs.lemmas.Nat.{same_from_place}
 use Rattle.std.proofs.lemmas.Cmp.{ranked, nat_cmp_total, tied_itself}
 use Rattle.std.specs.declared.cmp.Ordering.{Ordering}
 use Rattle.std.specs.declared.cmp.Ordering.TheVariants.{Less, Equal, Greater}
@@ -31,24 +31,9 @@ same_digits zero xs ys h g l m e = refl
 same_digits (suc n) [] ys h g l m e = absurd (omega (arith, l))
 same_digits (suc n) (x ∷ xs) [] h g l m e = absurd (omega (arith, m))
 same_digits (suc n) (x ∷ xs) (y ∷ ys) h g l m e =
-    let b = below n xs h.1 in
-    let d = below n ys g.1 in
-    elim (cases_lt x y) [
-      | inl p ↦
-          let next : suc x ≤ y = p in
-          let more = mul-le-mul_left (256 ^ n) next in
-          let s = mul-suc (256 ^ n) x in absurd (omega (arith, e, b, more, s))
-      | inr q ↦ elim (cases_lt y x) [
-        | inl p ↦
-            let next : suc y ≤ x = p in
-            let more = mul-le-mul_left (256 ^ n) next in
-            let s = mul-suc (256 ^ n) y in absurd (omega (arith, e, d, more, s))
-        | inr p ↦
-            let first : x ≡ y = omega (arith, p, q) in
-            let product : 256 ^ n * x ≡ 256 ^ n * y = ap (λ k. 256 ^ n * k) first in
-            let rest = same_digits n xs ys h.1 g.1 (omega (arith, l)) (omega (arith, m)) (omega (arith, e, product)) in cc
-      ]
-    ]
+    let split : x * 256 ^ n + digits n xs ≡ y * 256 ^ n + digits n ys = ap (λ k. k + digits n xs) (mul_comm x (256 ^ n)) ∙ e ∙ ap (λ k. k + digits n ys) (mul_comm (256 ^ n) y) in
+    let same = same_from_place x (digits n xs) y (digits n ys) (256 ^ n) (below n xs h.1) (below n ys g.1) split in
+    let rest = same_digits n xs ys h.1 g.1 (omega (arith, l)) (omega (arith, m)) same.1 in cc (same.0, rest)
 
 -- eight bytes more
 pub word_more : (n : ℕ) (xs ys : List ℕ) → AreBytes xs → AreBytes ys → n + 8 ≤ length xs → n + 8 ≤ length ys → take n xs ≡ take n ys
@@ -66,9 +51,8 @@ word_decides n xs ys a b h g l m e f k d =
     ∙ sym (behind_same n xs ys e l m)
   where
     go : (r : Ordering) → nat_cmp a b ≡ r → MatchOrdering r (a < b) (a ≡ b) (b < a) → nat_cmp a b ≡ ordering_then (nat_cmp a b) (slice_cmp nat_cmp (drop n xs) (drop n ys))
-    go Less c t = c ∙ ap (λ (r : Ordering). ordering_then r (slice_cmp nat_cmp (drop n xs) (drop n ys))) (sym c)
     go Equal c t = absurd (d t)
-    go Greater c t = c ∙ ap (λ (r : Ordering). ordering_then r (slice_cmp nat_cmp (drop n xs) (drop n ys))) (sym c)
+    go r c t = c ∙ ap (λ (r : Ordering). ordering_then r (slice_cmp nat_cmp (drop n xs) (drop n ys))) (sym c)
 
 none_less : (ys : List ℕ) → 0 < length ys → slice_cmp nat_cmp [] ys ≡ Less
 none_less [] l = absurd (omega (arith, l))

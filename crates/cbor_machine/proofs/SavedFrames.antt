@@ -8,10 +8,9 @@ use Rattle.cbor_machine.specs.inner.Saved.{frame_by, frames_by}
 
 -- one more is written
 frames-written : (ls ks : List ℕ) (i n k : ℕ) → i < length ls → i < length ks → frames_by (take (suc i) (set ls i n)) (take (suc i) (set ks i k)) ≡ frames_by (take i ls) (take i ks) ++ frame_by n k ∷ []
-frames-written [] ks i n k l m = absurd (omega arith)
-frames-written (x ∷ ls) [] i n k l m = absurd (omega arith)
 frames-written (x ∷ ls) (y ∷ ks) zero n k l m = refl
 frames-written (x ∷ ls) (y ∷ ks) (suc i) n k l m = ap (λ fs. frame_by x y ∷ fs) (frames-written ls ks i n k (omega arith) (omega arith))
+frames-written ls ks i n k l m = absurd (omega arith)
 
 pub written : (ls ks : List ℕ) (fs : List Frame) (i n k : ℕ) (f : Frame) → i < length ls → i < length ks → i < length fs → frames_by (take i ls) (take i ks) ≡ take i fs → slice_get fs i ≡ Some f → frame_by n k ≡ f
     → frames_by (take (i + 1) (set ls i n)) (take (i + 1) (set ks i k)) ≡ take (i + 1) fs

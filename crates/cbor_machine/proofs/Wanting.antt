@@ -6,27 +6,19 @@ use Rattle.cbor_standing.specs.Machine.{wanted_within}
 use Rattle.cbor_steps.specs.State.{state_of, wanted_at, IsFit, IsSettled}
 use Rattle.cbor_steps.specs.declared.frame.Frame.{Frame}
 use Rattle.cbor_steps.specs.declared.position.Position.{Position}
-use Rattle.cbor_steps.specs.declared.position.Position.TheVariants.{Item, Head, SimpleNumber, Payload, Chunks, Done}
+use Rattle.cbor_steps.specs.declared.position.Position.TheVariants.{Done}
 
 -- anywhere but behind the item
 pub wants-within : (position : Position) → (position ≡ Done → ⊥) → 0 < wanted_at position
 wants-within Done h = absurd (h refl)
-wants-within Item h = omega arith
-wants-within (Head chunk kind width left argument) h = omega arith
-wants-within SimpleNumber h = omega arith
-wants-within (Payload chunk kind left) h = omega arith
-wants-within (Chunks kind) h = omega arith
+wants-within position h = omega arith
 
 same-state : (q t : State) → reached q [] ≡ reached t [] → q ≡ t
 same-state q t e = cc
 
 done-state : (position : Position) (fs : List Frame) → state_of position fs ≡ state_of Done [] → position ≡ Done
 done-state Done fs e = refl
-done-state Item fs e = cc
-done-state (Head chunk kind width left argument) fs e = cc
-done-state SimpleNumber fs e = cc
-done-state (Payload chunk kind left) fs e = cc
-done-state (Chunks kind) fs e = cc
+done-state position fs e = cc
 
 -- bytes that tell nothing lead from nowhere else behind the item
 pub goes-within : (d : ℕ) (old new : Position) (from to : List Frame) (used : ℕ) (bs : List ℕ) → (old ≡ Done → ⊥) → IsFit d to new

@@ -42,10 +42,9 @@ shifted m s k e z =
 
 -- the first bytes, of those that stand in the mask
 reads-take : (n : ℕ) (xs : List ℕ) → ((k : ℕ) → k < n → get_or xs k 0 < 128) → (i : ℕ) → get_or (take n xs) i 0 < 128
-reads-take zero xs h i = omega arith
-reads-take (suc n) [] h i = omega arith
 reads-take (suc n) (x ∷ xs) h zero = h zero (omega arith)
 reads-take (suc n) (x ∷ xs) h (suc i) = reads-take n xs (λ k l. h (suc k) (omega (arith, l))) i
+reads-take n xs h i = omega arith
 
 pub mask-ascii : (xs : List ℕ) (count : ℕ) → length xs ≡ 32 → count < 32 → eqb (mask_l (map (top 7) (zip2 at_least (replicate 32 128) xs)) % 2 ^ 64 * 2 ^ (63 - count) % 2 ^ 64) 0 ≡ true → (i : ℕ) → get_or (take (count + 1) xs) i 0 < 128
 mask-ascii xs count long small e =

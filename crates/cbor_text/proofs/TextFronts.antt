@@ -92,13 +92,12 @@ first-char bs u some = by u.0 u.1.0 u.1.1
 
 -- bytes that text may go on from, and that end before their first character does
 pub begun : (t ys : List ℕ) → IsUtf8 (t ++ ys) → IsUnfinished t → 0 < length t → length t < 4 → utf8_error_len t ≡ None
-begun [] ys u none some short = absurd (omega arith)
 begun t [] u none some short =
     absurd (none (length t) some (omega arith) (subst IsUtf8 (append-nil t ∙ sym (take_all (length t) t (omega arith))) u))
 begun (x ∷ []) (y ∷ ys) u none some short = one-open x y ys u none
 begun (x ∷ y ∷ []) (z ∷ ys) u none some short = two-open x y z ys u none
 begun (x ∷ y ∷ z ∷ []) (w ∷ ys) u none some short = three-open x y z w ys u none
-begun (x ∷ y ∷ z ∷ w ∷ ts) ys u none some short = absurd (omega arith)
+begun t ys u none some short = absurd (omega arith)
 
 -- ---- what fixes the front for good
 

@@ -4,7 +4,8 @@ ghost use Rattle.std.specs.Prelude.{◌≡◌, ◌≤◌, ◌++◌, OnOk, IfOk, 
 ghost use Rattle.std.specs.Prelude.{map, flat_map, ◌∷◌, [], MatchOption};
 ghost use Rattle.cbor_canonical.specs.Pairs.{pair_bytes};
 ghost use Rattle.cbor_buffer.specs.Spans.{span_pair, AreWithin, AreBehind};
-ghost use Rattle.cbor_buffer.specs.Moved.{meant, IsWhole, IsLoose, KeepsFront, Stays, rope, Run};
+ghost use Rattle.cbor_buffer.specs.Moved.{meant, IsWhole, IsLoose, Stays, rope, Run};
+ghost use Rattle.cbor_buffer.specs.Moved.{AreThere, PutsDown};
 
 use crate::cuts::Cut;
 use crate::draft::{Draft, Region};
@@ -25,14 +26,9 @@ const COPIES: usize = 8;
 impl Draft {
     // The spans in this order in place of what is there from `start` on.
     pub fn rearrange(&mut self, start: usize, spans: &[Span]) -> Result<(), AllocError>
-        requires whole { IsWhole self.old }
-        requires begins { start ≤ length self.old.buf }
-        requires behind { AreBehind start spans.now }
-        requires within { AreWithin (meant self.old) spans.now }
-        ensures whole { OnOk result (IsWhole self.new) }
-        ensures meant { OnOk result (meant self.new ≡ take start (meant self.old)
-            ++ flat_map pair_bytes (map (span_pair (meant self.old)) spans.now)) }
-        ensures front { OnOk result (KeepsFront start self.old self.new) }
+        requires { AreThere self.old start spans.now }
+        ensures { OnOk result (PutsDown self.old self.new start
+            (flat_map pair_bytes (map (span_pair (meant self.old)) spans.now))) }
     {
         if self.defer(start, spans)? {
             return Ok(());
@@ -42,14 +38,9 @@ impl Draft {
 
     // The same, by the bytes themselves.
     fn put_down(&mut self, start: usize, spans: &[Span]) -> Result<(), AllocError>
-        requires whole { IsWhole self.old }
-        requires begins { start ≤ length self.old.buf }
-        requires behind { AreBehind start spans.now }
-        requires within { AreWithin (meant self.old) spans.now }
-        ensures whole { OnOk result (IsWhole self.new) }
-        ensures meant { OnOk result (meant self.new ≡ take start (meant self.old)
-            ++ flat_map pair_bytes (map (span_pair (meant self.old)) spans.now)) }
-        ensures front { OnOk result (KeepsFront start self.old self.new) }
+        requires { AreThere self.old start spans.now }
+        ensures put { OnOk result (PutsDown self.old self.new start
+            (flat_map pair_bytes (map (span_pair (meant self.old)) spans.now))) }
         ensures lies { OnOk result (self.old.buf ≡ meant self.old
             → self.new.buf ≡ meant self.new) }
     {
@@ -76,10 +67,7 @@ impl Draft {
 
     // The same as `rearrange`, by cuts alone. False where it is not done.
     fn defer(&mut self, start: usize, spans: &[Span]) -> Result<bool, AllocError>
-        requires whole { IsWhole self.old }
-        requires begins { start ≤ length self.old.buf }
-        requires behind { AreBehind start spans.now }
-        requires within { AreWithin (meant self.old) spans.now }
+        requires { AreThere self.old start spans.now }
         ensures whole { OnOk result (IsWhole self.new) }
         ensures done { IfOk result (λ done. IsTrue done → (self.new.buf ≡ self.old.buf)
             × (meant self.new ≡ take start (meant self.old)

@@ -1,6 +1,6 @@
 -- What a builder stands for.
-use Rattle.std.specs.Prelude.{if◌then◌else◌, false, ◌≡◌, List, [], ◌∷◌, ◌++◌, reverse, take, drop, IsPermutation}
-use Rattle.cbor_canonical.specs.Parts.{Open}
+use Rattle.std.specs.Prelude.{if◌then◌else◌, Bool, false, ◌≡◌, ◌↔◌, List, [], ◌∷◌, ◌++◌, reverse, take, drop, IsPermutation, IsTrue, Result, OnOk, IfOk}
+use Rattle.cbor_canonical.specs.Parts.{Open, HasNoRepeats}
 use Rattle.cbor_builder.specs.inner.Laid.{outermost, shape_open, opens, Laid}
 use Rattle.cbor_buffer.specs.Moved.{meant, IsWhole}
 use Rattle.cbor_builder.specs.inner.InPlace.{Agrees}
@@ -35,6 +35,16 @@ Stand o d ss fs = Laid o (meant d) ss fs × IsWhole d × Agrees d.buf (meant d) 
 abbrev pub IsLaid : Core → Type 0
 IsLaid c = Stand c.order c.out c.spans.items (frames c) × IsRooted c
 
+-- it is laid, and these are open
+abbrev pub StandsAs : Core → List Open → Type 0
+StandsAs c os = IsLaid c × (standing c ≡ os)
+
+-- what a call leaves: the order, and these open where it had its memory
+pub record CoreLeaves {A E : Type 0} (r : Result A E) (old new : Core) (os : List Open) : Type 0 where
+  pub order : new.order ≡ old.order
+  pub laid : OnOk r (IsLaid new)
+  pub given : OnOk r (standing new ≡ os)
+
 -- ---- while the pairs of a map are looked at
 
 -- the spans of the innermost stand in another order than they came in, where it is a map whose next key is due
@@ -52,3 +62,10 @@ came_standing came c = opens (meant c.out) came (frames c)
 -- what is open does not end: its pairs may stand in another order, and all else stands as it did
 abbrev pub IsLeftOpen : Core → Core → Type 0
 IsLeftOpen old new = WasLaid old.spans.items new × (came_standing old.spans.items new ≡ standing old)
+
+-- what a call leaves that is to end the innermost: where no two keys of it are equal these open, else what was
+pub record CoreEnds {E : Type 0} (r : Result Bool E) (old new : Core) (os : List Open) : Type 0 where
+  pub order : new.order ≡ old.order
+  pub distinct : IfOk r (λ distinct. IsTrue distinct ↔ HasNoRepeats (innermost old))
+  pub ended : IfOk r (λ distinct. IsTrue distinct → StandsAs new os)
+  pub left : IfOk r (λ distinct. distinct ≡ false → IsLeftOpen old new)

@@ -7,7 +7,7 @@ use Rattle.cbor_builder.specs.inner.Front.{key_of, AreFronted}
 use Rattle.cbor_builder.specs.inner.Laid.{Tile}
 use Rattle.cbor_buffer.specs.declared.span.Span.{Span}
 use Rattle.cbor_builder.specs.declared.frame.Shape.{Shape}
-use Rattle.cbor_builder.specs.declared.frame.Shape.TheVariants.{Plain, Array, Map, Key, Content}
+use Rattle.cbor_builder.specs.declared.frame.Shape.TheVariants.{Map, Key}
 use Rattle.cbor_builder.specs.declared.repeat.Repeat.{Repeat}
 use Rattle.cbor_builder.specs.declared.repeats.Tie.{Tie}
 use Rattle.cbor_buffer.specs.Spans.{no_span}
@@ -80,9 +80,7 @@ TellsOf c r = MatchOption r (AreAllDifferent (keys_so_far c)) (IsFirstRepeat (ke
 abbrev pub maps_of : Shape → ℕ
 maps_of (Map first) = 1
 maps_of (Key first at) = 1
-maps_of Plain = 0
-maps_of (Array n) = 0
-maps_of (Content m) = 0
+maps_of s = 0
 
 -- what is found in one of these, from what is found within it; it has so many maps itself
 abbrev pub outward : Option ℕ → Option Repeat → ℕ → Option Repeat

@@ -7,7 +7,7 @@ ghost use Rattle.cbor_canonical.specs.Pairs.{pair_bytes, HasDistinctBytes};
 ghost use Rattle.cbor_canonical.specs.Parts.{close, closed, HasNoRepeats};
 ghost use Rattle.cbor_builder.specs.declared.frame.Shape.TheVariants.{Map};
 ghost use Rattle.cbor_builder.specs.inner.BuilderState.{standing, innermost, outers, IsLaid, IsReordered};
-ghost use Rattle.cbor_builder.specs.inner.BuilderState.{IsLeftOpen};
+ghost use Rattle.cbor_builder.specs.inner.BuilderState.{CoreEnds};
 ghost use Rattle.cbor_builder.specs.inner.InPlace.{AreSameKeys};
 ghost use Rattle.cbor_builder.specs.inner.Laid.{CanClose, OuterTakes, outer_spans, Fits};
 ghost use Rattle.cbor_builder.specs.inner.Laid.{pairs_from};
@@ -132,12 +132,7 @@ impl Core {
         requires laid { IsLaid self.old }
         requires closes { CanClose self.old.top.shape }
         requires takes { OuterTakes (outers self.old) }
-        ensures order { self.new.order ≡ self.old.order }
-        ensures distinct { IfOk result (λ distinct.
-            IsTrue distinct ↔ HasNoRepeats (innermost self.old)) }
-        ensures closed { IfOk result (λ distinct. IsTrue distinct → IsLaid self.new
-            × (standing self.new ≡ close self.old.order (standing self.old))) }
-        ensures left { IfOk result (λ distinct. distinct ≡ false → IsLeftOpen self.old self.new) }
+        ensures { CoreEnds result self.old self.new (close self.old.order (standing self.old)) }
     {
         let from = self.top.from;
         if !self.close_top()? {

@@ -1,10 +1,10 @@
 //! What is open ends, and nothing of it is kept.
 
-ghost use Rattle.std.specs.Prelude.{◌≡◌, ◌↔◌, IsTrue, IfOk, false};
+ghost use Rattle.std.specs.Prelude.{◌≡◌, ◌↔◌, IsTrue, false};
 ghost use Rattle.cbor_builder.specs.Built.{around};
 ghost use Rattle.cbor_canonical.specs.Parts.{HasNoRepeats};
 ghost use Rattle.cbor_builder.specs.inner.BuilderState.{standing, innermost, outers, IsLaid, IsReordered};
-ghost use Rattle.cbor_builder.specs.inner.BuilderState.{IsLeftOpen};
+ghost use Rattle.cbor_builder.specs.inner.BuilderState.{CoreEnds};
 ghost use Rattle.cbor_builder.specs.inner.Laid.{CanClose, OuterTakes, outer_spans};
 
 use crate::builder::Core;
@@ -22,12 +22,7 @@ impl Core {
         requires laid { IsLaid self.old }
         requires closes { CanClose self.old.top.shape }
         requires takes { OuterTakes (outers self.old) }
-        ensures order { self.new.order ≡ self.old.order }
-        ensures distinct { IfOk result (λ distinct.
-            IsTrue distinct ↔ HasNoRepeats (innermost self.old)) }
-        ensures around { IfOk result (λ distinct. IsTrue distinct → IsLaid self.new
-            × (standing self.new ≡ around (standing self.old))) }
-        ensures left { IfOk result (λ distinct. distinct ≡ false → IsLeftOpen self.old self.new) }
+        ensures { CoreEnds result self.old self.new (around (standing self.old)) }
     {
         if !self.give_up_pairs() {
             return Ok(false);

@@ -1,6 +1,7 @@
 use Rattle.std.proofs.Common.{List, ℕ, ◌++◌, length, length-take, take, ap, ◌∙◌, arith, slice_index_or}
 use Rattle.cbor_buffer.specs.declared.cuts.Cut.{Cut}
-use Rattle.cbor_buffer.proofs.Moved.{emitted_at, emitted_all, inside_at}
+use Rattle.cbor_buffer.proofs.Moved.{emitted_at, emitted_all}
+use Rattle.cbor_buffer.proofs.ByIndex.{all_index}
 use Rattle.cbor_buffer.proofs.Slices.{front_kept, slice_within}
 use Rattle.cbor_buffer.proofs.cuts.emit.Goals as goal
 
@@ -13,7 +14,7 @@ loop-cut-preserved c =
     let cs = c.args.cuts.now in
     let at = c.loop-cut.cut-index in
     let x = slice_index_or cs at no_cut in
-    let w = inside_at (length out) cs at no_cut c.requires c.loop-cut-test.true in
+    let w = all_index _ cs at no_cut c.requires c.loop-cut-test.true in
     let i = c.loop-cut.invariant in
     let more = c.in_ok-extend_within.ensures ∙ ap (λ (xs : List ℕ). c.loop-cut.out ++ xs) (slice_within c.loop-cut.out out x.from x.to i.1 w.0 w.1) in (
       emitted_at out cs at no_cut _ c.loop-cut.out c.extend_within.new.self c.loop-cut-test.true i.0 more,
@@ -22,7 +23,7 @@ loop-cut-preserved c =
 
 pub extend_within-requires : goal.extend_within-requires
 extend_within-requires c =
-    let w = inside_at (length c.args.out.now) c.args.cuts.now c.loop-cut.cut-index _ c.requires c.loop-cut-test.true in
+    let w = all_index _ c.args.cuts.now c.loop-cut.cut-index _ c.requires c.loop-cut-test.true in
     let l = length-take (length c.args.out.now) c.loop-cut.out in
     record { begins = w.0; ends = omega (arith, w.1, l, ap length c.loop-cut.invariant.1) }
 

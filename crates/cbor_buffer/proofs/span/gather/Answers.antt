@@ -1,6 +1,7 @@
 use Rattle.std.proofs.Common.{List, ℕ, ◌++◌, length, length-take, take, ap, ◌∙◌, arith, slice_index_or}
 use Rattle.cbor_buffer.specs.Spans.{no_span}
-use Rattle.cbor_buffer.proofs.Gathered.{gathered_at, gathered_all, within_at}
+use Rattle.cbor_buffer.proofs.Gathered.{gathered_at, gathered_all}
+use Rattle.cbor_buffer.proofs.ByIndex.{all_index}
 use Rattle.cbor_buffer.proofs.Slices.{front_kept, slice_within}
 use Rattle.cbor_buffer.proofs.span.gather.Goals as goal
 
@@ -8,7 +9,7 @@ pub loop-span-preserved : goal.loop-span-preserved
 loop-span-preserved c =
     let out = c.args.out.now in
     let s = slice_index_or c.args.spans.now c.loop-span.span-index no_span in
-    let w = within_at out c.args.spans.now c.loop-span.span-index no_span c.requires c.loop-span-test.true in
+    let w = all_index _ c.args.spans.now c.loop-span.span-index no_span c.requires c.loop-span-test.true in
     let i = c.loop-span.invariant in
     let same = slice_within c.loop-span.out out s.key s.end i.1 (omega (arith, w.0, w.1)) w.2 in
     let more = c.in_ok-extend_within.ensures ∙ ap (λ (xs : List ℕ). c.loop-span.out ++ xs) same in (
@@ -18,7 +19,7 @@ loop-span-preserved c =
 
 pub extend_within-requires : goal.extend_within-requires
 extend_within-requires c =
-    let w = within_at c.args.out.now c.args.spans.now c.loop-span.span-index no_span c.requires c.loop-span-test.true in
+    let w = all_index _ c.args.spans.now c.loop-span.span-index no_span c.requires c.loop-span-test.true in
     let l = length-take (length c.args.out.now) c.loop-span.out in
     record { begins = omega (arith, w.0, w.1); ends = omega (arith, w.2, l, ap length c.loop-span.invariant.1) }
 

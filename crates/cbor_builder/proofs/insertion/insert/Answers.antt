@@ -1,9 +1,8 @@
 use Rattle.std.proofs.Common.{◌-◌, ◌∷◌, List, length, length-take, take, get_or, set, map, sym, ap, ◌∙◌, subst, arith, IsPermutation}
-use Rattle.std.proofs.lemmas.List.{drop_all}
+use Rattle.std.proofs.lemmas.List.{drop_all, get_or_default}
 use Rattle.std.proofs.lemmas.List.Sorted.{IsPermutation-insert}
 use Rattle.cbor_buffer.specs.Spans.{span_pair, no_span}
 use Rattle.cbor_buffer.specs.declared.span.Span.{Span}
-use Rattle.cbor_buffer.proofs.Slices.{get_same}
 use Rattle.cbor_canonical.proofs.ByteLists.{are_bytes}
 use Rattle.cbor_canonical.proofs.Orders.{tied}
 use Rattle.cbor_canonical.specs.Pairs.{IsRising}
@@ -35,7 +34,7 @@ returns-in-Equal-clause-equal c = λ t.
     let n = c.loop-at.at - 1 in
     let s = get_or c.loop-at.places n no_span in
     let l = length-take (length c.args.places.now - 1) c.args.places.now in
-    let moved = free_moved front c.loop-at.places c.loop-at.at n c.loop-at.invariant.0 s (omega arith) (omega (arith, c.loop-at.invariant.2)) c.loop-at.invariant.1 (get_same c.loop-at.places n no_span s (omega (arith, l, c.loop-at.invariant.2))) in
+    let moved = free_moved front c.loop-at.places c.loop-at.at n c.loop-at.invariant.0 s (omega arith) (omega (arith, c.loop-at.invariant.2)) c.loop-at.invariant.1 (get_or_default c.loop-at.places n no_span s (omega (arith, l, c.loop-at.invariant.2))) in
     let b = are_bytes c.args.bytes.now (λ i. omega (arith, c.type_inv.bytes i)) in
     let e = ranked_key c.args.order c.args.bytes.now front n s c.args.next.now _ b c.requires.fronted c.requires.next (omega (arith, c.loop-at.invariant.2)) moved.0 c.in-Equal.ensures in
     has_key_at c.args.bytes.now (key_of c.args.bytes.now c.args.next.now) front n s (omega (arith, c.loop-at.invariant.2)) moved.0 (tied c.args.order _ _ (sym e))
@@ -46,7 +45,7 @@ loop-at-preserved c =
     let n = c.loop-at.at - 1 in
     let s = get_or c.loop-at.places n no_span in
     let l = length-take (length c.args.places.now - 1) c.args.places.now in
-    let moved = free_moved front c.loop-at.places c.loop-at.at n c.loop-at.invariant.0 s (omega arith) (omega (arith, c.loop-at.invariant.2)) c.loop-at.invariant.1 (get_same c.loop-at.places n no_span s (omega (arith, l, c.loop-at.invariant.2))) in
+    let moved = free_moved front c.loop-at.places c.loop-at.at n c.loop-at.invariant.0 s (omega arith) (omega (arith, c.loop-at.invariant.2)) c.loop-at.invariant.1 (get_or_default c.loop-at.places n no_span s (omega (arith, l, c.loop-at.invariant.2))) in
     let b = are_bytes c.args.bytes.now (λ i. omega (arith, c.type_inv.bytes i)) in
     let e = ranked_key c.args.order c.args.bytes.now front n s c.args.next.now _ b c.requires.fronted c.requires.next (omega (arith, c.loop-at.invariant.2)) moved.0 c.in-Greater.ensures in
     let more = above_more c.args.order c.args.bytes.now c.args.next.now front c.loop-at.at n s (omega arith) (omega (arith, c.loop-at.invariant.2)) moved.0 (greater_key c.args.order _ _ e) c.loop-at.invariant.3 in
@@ -73,7 +72,7 @@ returns-clause-rising c = λ t.
           let n = c.loop-at.at - 1 in
           let s = get_or c.loop-at.places n no_span in
           let l = length-take (length c.args.places.now - 1) c.args.places.now in
-          let moved = free_moved front c.loop-at.places c.loop-at.at n i.0 s (omega (arith, w.loop-at-test)) (omega (arith, i.2, w.loop-at-test)) i.1 (get_same c.loop-at.places n no_span s (omega (arith, l, i.2, w.loop-at-test))) in
+          let moved = free_moved front c.loop-at.places c.loop-at.at n i.0 s (omega (arith, w.loop-at-test)) (omega (arith, i.2, w.loop-at-test)) i.1 (get_or_default c.loop-at.places n no_span s (omega (arith, l, i.2, w.loop-at-test))) in
           let b = are_bytes bytes (λ i. omega (arith, c.type_inv.bytes i)) in
           let k = ranked_key o bytes front n s next _ b c.requires.fronted c.requires.next (omega (arith, i.2, w.loop-at-test)) moved.0 w.in-Less.ensures in
           below_all o bytes next front c.loop-at.at n s (omega (arith, w.loop-at-test)) (omega (arith, i.2, w.loop-at-test)) moved.0 (less_key o _ _ k) c.requires.rising

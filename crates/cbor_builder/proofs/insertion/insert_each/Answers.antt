@@ -1,16 +1,17 @@
 use Rattle.std.proofs.Common.{◌≡◌, ℕ, ◌+◌, ◌++◌, ◌∷◌, List, length, length-take, take, take-append-drop, drop, get_or, map, refl, sym, ◌∙◌, subst, arith, IsPermutation, take_all}
+use Rattle.std.proofs.lemmas.List.{get_or_default}
 use Rattle.std.proofs.lemmas.List.Sorted.{IsPermutation-sym, IsPermutation-map, IsPermutation-append_left}
 use Rattle.cbor_buffer.specs.Spans.{span_pair, no_span}
 use Rattle.cbor_buffer.specs.declared.span.Span.{Span}
-use Rattle.cbor_buffer.proofs.Slices.{get_same}
-use Rattle.cbor_canonical.specs.Pairs.{IsRising, HasDistinctBytes}
+use Rattle.cbor_canonical.specs.Pairs.{IsRising}
 use Rattle.cbor_canonical.proofs.Sorting.{rising_distinct}
 use Rattle.cbor_builder.specs.Built.{HasKey}
 use Rattle.cbor_builder.specs.inner.Front.{key_of, IsFronted, AreFronted}
 use Rattle.cbor_canonical.proofs.Decided.{holds, fails}
 use Rattle.cbor_builder.proofs.Neighbours.{distinct_permuted}
-use Rattle.cbor_builder.proofs.Ranks.{fronted_at, fronted_permuted}
-use Rattle.cbor_builder.proofs.Inserted.{in_front_taken, taken_front, rest_front, same_at, rest_more, fronted_taken, more_permuted, repeats, rising_sorted}
+use Rattle.cbor_buffer.proofs.ByIndex.{all_index}
+use Rattle.cbor_builder.proofs.Ranks.{all_permuted}
+use Rattle.cbor_builder.proofs.Inserted.{in_front_taken, taken_front, rest_front, same_at, rest_more, all_taken, more_permuted, repeats, rising_sorted}
 use Rattle.cbor_builder.proofs.insertion.insert_each.Goals as goal
 
 pub insert-requires-clause-fronted : goal.insert-requires-clause-fronted
@@ -18,22 +19,13 @@ insert-requires-clause-fronted c =
     let i = c.loop-i.i in
     let bytes = c.args.bytes.now in
     subst (AreFronted bytes) (sym (in_front_taken i c.loop-i.spans (omega arith)))
-    (fronted_permuted bytes (take i c.args.spans.now) (take i c.loop-i.spans) c.loop-i.invariant.0 (fronted_taken bytes i c.args.spans.now c.requires))
+    (all_permuted _ (take i c.args.spans.now) (take i c.loop-i.spans) c.loop-i.invariant.0 (all_taken _ i c.args.spans.now c.requires))
 
 pub insert-requires-clause-next : goal.insert-requires-clause-next
 insert-requires-clause-next c =
     let i = c.loop-i.i in
     let same = same_at i c.loop-i.spans c.args.spans.now no_span c.loop-i.invariant.2 (omega arith) (omega arith) in
-    subst (IsFronted c.args.bytes.now) (sym same) (fronted_at c.args.bytes.now c.args.spans.now i no_span c.requires (omega arith))
-
-pub returns-then-not-insert-clause-distinct : goal.returns-then-not-insert-clause-distinct
-returns-then-not-insert-clause-distinct c =
-    let i = c.loop-i.i in
-    let bytes = c.args.bytes.now in
-    let next = get_or c.loop-i.spans i no_span in
-    let same = same_at i c.loop-i.spans c.args.spans.now no_span c.loop-i.invariant.2 (omega arith) (omega arith) ∙ get_same c.args.spans.now i no_span next (omega arith) in
-    let key = subst (λ (us : List Span). HasKey (map (span_pair bytes) us) (key_of bytes next)) (in_front_taken i c.loop-i.spans (omega arith)) (c.if-not-insert.ensures.equal refl) in
-    fails (repeats c.args.order bytes c.args.spans.now (take i c.loop-i.spans) i next (omega arith) same c.loop-i.invariant.0 key)
+    subst (IsFronted c.args.bytes.now) (sym same) (all_index _ c.args.spans.now i no_span c.requires (omega arith))
 
 -- the first ones are put in order among themselves, and the others stay
 whole : (n : ℕ) (given us ys : List Span) → IsPermutation (take n given) ys → drop n us ≡ drop n given → IsPermutation given (ys ++ drop n us)
@@ -41,21 +33,31 @@ whole n given us ys m e =
     subst (λ (zs : List Span). IsPermutation given (ys ++ zs)) (sym e)
     (subst (λ (zs : List Span). IsPermutation zs (ys ++ drop n given)) (take-append-drop n given) (IsPermutation-append_left (drop n given) (take n given) ys m))
 
-pub returns-then-not-insert-clause-permuted : goal.returns-then-not-insert-clause-permuted
-returns-then-not-insert-clause-permuted c =
+pub returns-then-not-insert : goal.returns-then-not-insert
+returns-then-not-insert c =
     let i = c.loop-i.i in
+    let bytes = c.args.bytes.now in
+    let given = c.args.spans.now in
+    let us = take i c.loop-i.spans in
     let next = get_or c.loop-i.spans i no_span in
-    let same = same_at i c.loop-i.spans c.args.spans.now no_span c.loop-i.invariant.2 (omega arith) (omega arith) ∙ get_same c.args.spans.now i no_span next (omega arith) in
-    let moved : IsPermutation (next ∷ take i c.loop-i.spans) c.insert.new.places = subst (λ (us : List Span). IsPermutation (next ∷ us) c.insert.new.places) (in_front_taken i c.loop-i.spans (omega arith)) c.if-not-insert.ensures.permuted in
-    whole (i + 1) c.args.spans.now c.loop-i.spans c.insert.new.places (more_permuted c.args.spans.now (take i c.loop-i.spans) c.insert.new.places i next (omega arith) same c.loop-i.invariant.0 moved)
-    (rest_more i c.loop-i.spans c.args.spans.now c.loop-i.invariant.2)
+    let same = same_at i c.loop-i.spans given no_span c.loop-i.invariant.2 (omega arith) (omega arith) ∙ get_or_default given i no_span next (omega arith) in
+    let front = in_front_taken i c.loop-i.spans (omega arith) in
+    let ys = c.insert.new.places in
+    let e = c.if-not-insert.ensures in
+    let key = subst (λ (us : List Span). HasKey (map (span_pair bytes) us) (key_of bytes next)) front (e.equal refl) in
+    let moved = subst (λ (us : List Span). IsPermutation (next ∷ us) ys) front e.permuted in
+    record {
+      distinct = fails (repeats c.args.order bytes given us i next (omega arith) same c.loop-i.invariant.0 key);
+      permuted = whole (i + 1) given c.loop-i.spans ys (more_permuted given us ys i next (omega arith) same c.loop-i.invariant.0 moved) (rest_more i c.loop-i.spans given c.loop-i.invariant.2);
+      sorted = λ t. cc;
+    }
 
 pub loop-i-preserved : goal.loop-i-preserved
 loop-i-preserved c =
     let i = c.loop-i.i in
     let bytes = c.args.bytes.now in
     let next = get_or c.loop-i.spans i no_span in
-    let same = same_at i c.loop-i.spans c.args.spans.now no_span c.loop-i.invariant.2 (omega arith) (omega arith) ∙ get_same c.args.spans.now i no_span next (omega arith) in
+    let same = same_at i c.loop-i.spans c.args.spans.now no_span c.loop-i.invariant.2 (omega arith) (omega arith) ∙ get_or_default c.args.spans.now i no_span next (omega arith) in
     let ys = c.insert.new.places in
     let rest = drop (i + 1) c.loop-i.spans in
     let long = length-take (i + 1) c.loop-i.spans in
@@ -67,22 +69,18 @@ loop-i-preserved c =
       rest_front (i + 1) ys rest size ∙ rest_more i c.loop-i.spans c.args.spans.now c.loop-i.invariant.2,
     )
 
-pub returns-clause-distinct : goal.returns-clause-distinct
-returns-clause-distinct c =
+pub returns : goal.returns
+returns c =
     let i = c.loop-i.i in
+    let was = c.args.spans.now in
+    let ys = c.loop-i.spans in
     let f = span_pair c.args.bytes.now in
-    let all : take i c.args.spans.now ≡ c.args.spans.now = take_all i c.args.spans.now (omega arith) in
-    let moved = IsPermutation-map f _ _ (IsPermutation-sym _ _ c.loop-i.invariant.0) in
-    holds (subst (λ (us : List Span). HasDistinctBytes (map f us)) all (distinct_permuted c.args.order _ _ moved (rising_distinct c.args.order _ c.loop-i.invariant.1)))
-
-pub returns-clause-permuted : goal.returns-clause-permuted
-returns-clause-permuted c =
-    let i = c.loop-i.i in
-    let given : take i c.args.spans.now ≡ c.args.spans.now = take_all i c.args.spans.now (omega arith) in
-    let all : take i c.loop-i.spans ≡ c.loop-i.spans = take_all i c.loop-i.spans (omega arith) in
-    subst (IsPermutation c.args.spans.now) all (subst (λ (us : List Span). IsPermutation us (take i c.loop-i.spans)) given c.loop-i.invariant.0)
-
-pub returns-clause-sorted : goal.returns-clause-sorted
-returns-clause-sorted c = λ t.
-    let all : take c.loop-i.i c.loop-i.spans ≡ c.loop-i.spans = take_all c.loop-i.i c.loop-i.spans (omega arith) in
-    rising_sorted c.args.order c.args.bytes.now c.loop-i.spans (subst (λ (us : List Span). IsRising c.args.order (map (span_pair c.args.bytes.now) us)) all c.loop-i.invariant.1)
+    let given : take i was ≡ was = take_all i was (omega arith) in
+    let all : take i ys ≡ ys = take_all i ys (omega arith) in
+    let permuted = subst (IsPermutation was) all (subst (λ (us : List Span). IsPermutation us (take i ys)) given c.loop-i.invariant.0) in
+    let rising = subst (λ (us : List Span). IsRising c.args.order (map f us)) all c.loop-i.invariant.1 in
+    record {
+      distinct = holds (distinct_permuted c.args.order (map f ys) (map f was) (IsPermutation-map f ys was (IsPermutation-sym was ys permuted)) (rising_distinct c.args.order (map f ys) rising));
+      permuted = permuted;
+      sorted = λ t. rising_sorted c.args.order c.args.bytes.now ys rising;
+    }

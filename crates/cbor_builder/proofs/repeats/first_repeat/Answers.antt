@@ -4,24 +4,23 @@ use Rattle.cbor_builder.specs.inner.Front.{key_of}
 use Rattle.std.proofs.lemmas.List.Sums.{count_by-le-length}
 use Rattle.cbor_canonical.proofs.ByteLists.{are_bytes}
 use Rattle.cbor_builder.specs.inner.Repeats.{lies_before}
-use Rattle.cbor_builder.proofs.Ranks.{fronted_permuted, sorted_keys}
+use Rattle.cbor_builder.proofs.Ranks.{all_permuted, sorted_keys}
 use Rattle.cbor_builder.proofs.FirstRepeat.{bit_most, none_told, one_told, placed}
 use Rattle.cbor_builder.proofs.Ties.{grouped}
 use Rattle.cbor_builder.proofs.repeats.first_repeat.Goals as goal
 
-pub first_tie-requires-clause-fronted : goal.first_tie-requires-clause-fronted
-first_tie-requires-clause-fronted c =
+pub first_tie-requires : goal.first_tie-requires
+first_tie-requires c =
     let of = c.requires.1 in
-    fronted_permuted c.args.bytes.now c.args.spans.now c.sort_by_keys.new.spans c.sort_by_keys.ensures.permuted (fronted_permuted c.args.bytes.now c.requires.0 c.args.spans.now of.5 of.4)
-
-pub first_tie-requires-clause-placed : goal.first_tie-requires-clause-placed
-first_tie-requires-clause-placed c = placed c.args.bytes.now c.requires.0 c.args.spans.now c.sort_by_keys.new.spans (omega arith) c.requires.1 c.sort_by_keys.ensures.permuted
-
-pub first_tie-requires-clause-grouped : goal.first_tie-requires-clause-grouped
-first_tie-requires-clause-grouped c =
-    let of = c.requires.1 in
-    let sound = fronted_permuted c.args.bytes.now c.args.spans.now c.sort_by_keys.new.spans c.sort_by_keys.ensures.permuted (fronted_permuted c.args.bytes.now c.requires.0 c.args.spans.now of.5 of.4) in
-    grouped c.args.order c.args.bytes.now c.sort_by_keys.new.spans (sorted_keys c.args.order c.args.bytes.now c.sort_by_keys.new.spans (are_bytes c.args.bytes.now (λ i. omega (arith, c.type_inv.bytes i))) sound c.sort_by_keys.ensures.sorted)
+    let bytes = c.args.bytes.now in
+    let ys = c.sort_by_keys.new.spans in
+    let e = c.sort_by_keys.ensures in
+    let sound = all_permuted _ c.args.spans.now ys e.permuted (all_permuted _ c.requires.0 c.args.spans.now of.5 of.4) in
+    record {
+      fronted = sound;
+      placed = placed bytes c.requires.0 c.args.spans.now ys (omega arith) of e.permuted;
+      grouped = grouped c.args.order bytes ys (sorted_keys c.args.order bytes ys (are_bytes bytes (λ i. omega (arith, c.type_inv.bytes i))) sound e.sorted);
+    }
 
 pub returns-in_err-tie : goal.returns-in_err-tie
 returns-in_err-tie c xs of =

@@ -1,11 +1,11 @@
 use Rattle.std.proofs.Common.{arith}
 use Rattle.cbor_canonical.proofs.ByteLists.{are_bytes}
-use Rattle.cbor_builder.proofs.Ranks.{fronted_permuted, sorted_keys}
+use Rattle.cbor_builder.proofs.Ranks.{all_permuted, sorted_keys}
 use Rattle.cbor_builder.proofs.SortedSpans.{all_sorted}
 use Rattle.cbor_builder.proofs.sort.sort_distinct.Goals as goal
 
 pub differ-requires : goal.differ-requires
-differ-requires c = fronted_permuted c.args.bytes.now c.args.spans.now c.sort_by_keys.new.spans c.sort_by_keys.ensures.permuted c.requires
+differ-requires c = all_permuted _ c.args.spans.now c.sort_by_keys.new.spans c.sort_by_keys.ensures.permuted c.requires
 
 pub returns-then-spans-gt-FEW-clause-distinct : goal.returns-then-spans-gt-FEW-clause-distinct
 returns-then-spans-gt-FEW-clause-distinct c =
@@ -15,4 +15,4 @@ returns-then-spans-gt-FEW-clause-distinct c =
 pub returns-then-spans-gt-FEW-clause-sorted : goal.returns-then-spans-gt-FEW-clause-sorted
 returns-then-spans-gt-FEW-clause-sorted c = λ t.
     sorted_keys c.args.order c.args.bytes.now c.sort_by_keys.new.spans (are_bytes c.args.bytes.now (λ i. omega (arith, c.type_inv.bytes i)))
-    (fronted_permuted c.args.bytes.now c.args.spans.now c.sort_by_keys.new.spans c.sort_by_keys.ensures.permuted c.requires) c.sort_by_keys.ensures.sorted
+    (all_permuted _ c.args.spans.now c.sort_by_keys.new.spans c.sort_by_keys.ensures.permuted c.requires) c.sort_by_keys.ensures.sorted

@@ -1,6 +1,7 @@
 use Rattle.cbor_explain.specs.Way.{IsKeyText}
 use Rattle.cbor_explain.proofs.Keys.{short_key, unread_key}
-use Rattle.cbor_explain.proofs.Steps.{on_ok, just}
+use Rattle.std.proofs.lemmas.Result.{on_ok_weaker}
+use Rattle.cbor_explain.proofs.Steps.{just}
 use Rattle.cbor_explain.proofs.way_text.write_key.Goals as goal
 
 pub returns-in-Ok-diagnostic : goal.returns-in-Ok-diagnostic
@@ -13,4 +14,4 @@ pub returns : goal.returns
 returns g c =
     let limits = rw c.unwrap-short.ensures at c.new.ensures.value in
     let key = unread_key c.args.item.now c.args.place c.min-start.result _ c.min-start.ensures limits _ c.in-Err.ensures.refused in
-    on_ok c.write.result _ _ (just (IsKeyText c.args.item.now c.args.place) _ _ _ key) c.write.ensures.bytes
+    on_ok_weaker c.write.result (just (IsKeyText c.args.item.now c.args.place) _ _ _ key) c.write.ensures.bytes

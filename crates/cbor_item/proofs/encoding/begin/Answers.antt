@@ -19,7 +19,7 @@ returns-in-Array-clause-begun c =
     let opened = opens_array o v (subst (λ (i : Item). IsInRange (view i)) c.in-Array.is c.requires.in_range) in
     let at = subst (λ (i : Item). Opens o (view i) (an_array 0 []) (map view v.items)) (sym c.in-Array.is) opened in (
       an_array 0 [],
-      ap (λ (b : Built). b.standing) c.in_ok-begin-in-Array.ensures.opened,
+      ap (λ (b : Built). b.standing) c.in_ok-begin-in-Array.ensures.given,
       subst (λ (is : List Item). Opens o (view c.args.item.now) (an_array 0 []) (map view is)) (sym c.deref-in-Array.ensures.value) at,
     )
 
@@ -30,7 +30,7 @@ returns-in-Map-clause-begun c =
     let opened = opens_map o v (subst (λ (i : Item). IsInRange (view i)) c.in-Map.is c.requires.in_range) in
     let at = subst (λ (i : Item). Opens o (view i) (a_map []) (flat v.items)) (sym c.in-Map.is) opened in (
       a_map [],
-      ap (λ (b : Built). b.standing) c.in_ok-begin-in-Map.ensures.opened,
+      ap (λ (b : Built). b.standing) c.in_ok-begin-in-Map.ensures.given,
       subst (λ (ps : List (Item × Item)). Opens o (view c.args.item.now) (a_map []) (flat ps)) (sym c.deref-in-Map.ensures.value) at,
     )
 
@@ -44,7 +44,7 @@ returns-in-Tag-clause-begun c =
     let at = subst (λ (i : Item). Opens o (view i) head (view b.value ∷ [])) (sym c.in-Tag.is) opened in
     let one : b.value ∷ [] ≡ c.from_ref.result.now = ap (λ (i : Item). i ∷ []) (sym c.deref-in-Tag.ensures) ∙ sym c.from_ref.ensures.value in (
       head,
-      ap (λ (b : Built). b.standing) c.in_ok-begin-in-Tag.ensures.opened,
+      ap (λ (b : Built). b.standing) c.in_ok-begin-in-Tag.ensures.given,
       subst (λ (is : List Item). Opens o (view c.args.item.now) head (map view is)) one at,
     )
 

@@ -1,7 +1,7 @@
 use Rattle.std.proofs.Common.{◌-◌, ◌++◌, length, take, drop, sym, ap, subst, ◌∙◌, arith}
 use Rattle.std.proofs.lemmas.List.{take_rest}
-use Rattle.cbor_text.specs.inner.TextCheck.{IsUnfinished, IsOpen}
-use Rattle.cbor_text.proofs.TextFronts.{open-whole, open-rest, rest-unfinished, fixed-now}
+use Rattle.cbor_text.specs.inner.TextCheck.{IsOpen}
+use Rattle.cbor_text.proofs.TextFronts.{open-whole, open-rest, fixed-now}
 use Rattle.cbor_text.proofs.text_check.scan.Goals as goal
 
 pub returns-in-Open-clause-found : goal.returns-in-Open-clause-found
@@ -12,11 +12,7 @@ returns-in-Open-clause-found c =
     subst (IsOpen piece) (sym kept) (open-rest piece n c.in-Open.ensures.0 c.in-Open.ensures.1)
 
 pub returns-in-Open-clause-unfinished : goal.returns-in-Open-clause-unfinished
-returns-in-Open-clause-unfinished c =
-    let piece = c.args.piece.now in
-    let n = c.in-Open.n in
-    let kept = c.append.ensures ∙ ap (λ l. l ++ take (length piece - n) (drop n piece)) c.requires ∙ take_rest piece n in
-    subst IsUnfinished (sym kept) (rest-unfinished piece n c.in-Open.ensures.0)
+returns-in-Open-clause-unfinished c = (returns-in-Open-clause-found c).unfinished
 
 pub returns-in-Fixed-clause-inside : goal.returns-in-Fixed-clause-inside
 returns-in-Fixed-clause-inside c = omega (arith, (fixed-now c.args.piece.now c.in-Fixed.n (λ xs. c.in-Fixed.ensures xs)).short)

@@ -1,10 +1,7 @@
 use Rattle.std.proofs.Common.{take}
 use Rattle.std.proofs.lemmas.Result.{on_ok_weaker}
-use Rattle.cbor_buffer.proofs.Drafts.{whole_more, meant_more}
+use Rattle.cbor_buffer.proofs.Drafts.{extended}
 use Rattle.cbor_buffer.proofs.draft.Draft.extend.Goals as goal
 
-pub returns-clause-whole : goal.returns-clause-whole
-returns-clause-whole c = on_ok_weaker c.extend_front.result (λ e. whole_more c.args.self.now c.extend_front.new.self (take c.args.count c.args.front.now) c.requires.whole e) c.extend_front.ensures
-
-pub returns-clause-meant : goal.returns-clause-meant
-returns-clause-meant c = on_ok_weaker c.extend_front.result (λ e. meant_more c.args.self.now c.extend_front.new.self (take c.args.count c.args.front.now) c.requires.whole e) c.extend_front.ensures
+pub returns : goal.returns
+returns c = on_ok_weaker c.extend_front.result (λ e. extended c.args.self.now c.extend_front.new.self (take c.args.count c.args.front.now) c.requires.whole e) c.extend_front.ensures

@@ -7,7 +7,8 @@ use Rattle.cbor_buffer.specs.Spans.{no_span}
 use Rattle.cbor_canonical.specs.Pairs.{pair_bytes}
 use Rattle.cbor_buffer.specs.declared.cuts.Cut.{Cut}
 use Rattle.cbor_buffer.proofs.Drafts.{loose_cuts, loose_slice}
-use Rattle.cbor_buffer.proofs.Moved.{last_run, behind_at, rope_append, run_append}
+use Rattle.cbor_buffer.proofs.Moved.{last_run, rope_append, run_append}
+use Rattle.cbor_buffer.proofs.ByIndex.{all_index}
 use Rattle.cbor_buffer.proofs.Gathered.{gathered_at}
 use Rattle.cbor_buffer.proofs.draft.Draft.pick_all.Goals as goal
 
@@ -18,7 +19,7 @@ pick-requires-clause-run c =
     let w = c.requires.loose in
     let i = c.loop-span.invariant in
     let cuts = take_rest c.deref.result.now r.first ∙ ap (drop r.first) (c.deref.ensures.value ∙ ap (λ (v : Vec Cut). v.items) i.1) ∙ loose_cuts d c.args.start r w in
-    let run = last_run r (length d.buf) w.0.1 w.0.4 w.0.5 w.0.6 in
+    let run = last_run 0 r (length d.buf) w.0.1 (omega arith) w.0.4 w.0.5 w.0.6 in
     subst (λ (us : List Cut). Run 0 c.loop-span.self.picked.high r.behind us c.loop-span.self.picked.high) (sym cuts) (subst (λ (k : ℕ). Run 0 k r.behind (gap r.behind r.start ∷ w.0.1) k) (sym i.5) run)
 
 pub loop-span-preserved : goal.loop-span-preserved
@@ -32,7 +33,7 @@ loop-span-preserved c =
     let x = slice_index_or c.args.spans.now at no_span in
     let cuts = take_rest c.deref.result.now r.first ∙ ap (drop r.first) (c.deref.ensures.value ∙ ap (λ (v : Vec Cut). v.items) i.1) ∙ loose_cuts d c.args.start r w in
     let k = c.in_ok-pick.ensures c.if-not-branch.false d.buf (omega (arith, i.5)) in
-    let behind = behind_at c.args.start c.args.spans.now at no_span c.requires.behind c.loop-span-test.true in
+    let behind = all_index _ c.args.spans.now at no_span c.requires.behind c.loop-span-test.true in
     let bytes = ap (λ (us : List Cut). take (x.end - x.key) (drop (x.key - r.behind) (rope d.buf us))) cuts ∙ loose_slice d c.args.start r w x.key x.end (omega (arith, c.requires.base, behind)) in
     let now = ap (rope d.buf) k.1 ∙ rope_append d.buf q.cuts.items k.0 ∙ ap (λ (xs : List ℕ). rope d.buf q.cuts.items ++ xs) (k.3 ∙ bytes) in
     let n = length d.buf in

@@ -15,34 +15,11 @@ close_up-requires-clause-begins c =
     let e = c.in_ok-settle.ensures in
     let l = length_same c.args.self.now c.settle.new.self c.requires.whole e.whole e.meant in omega (arith, l, c.requires.begins, c.len-len.ensures)
 
-pub returns-clause-whole : goal.returns-clause-whole
-returns-clause-whole c =
+pub returns : goal.returns
+returns c =
     let m = c.settle.new.self in
     let e = c.in_ok-settle.ensures in
     let l = length_same c.args.self.now m c.requires.whole e.whole e.meant in
-    (put_down c.args.self.now m c.close_up.new.self c.args.start c.args.spans.now c.requires.whole c.requires.begins c.requires.behind c.requires.within e.whole e.meant e.end e.stays
-    (c.close_up.ensures ∙ moved_down m.buf _ c.gather.new.out c.args.start c.len-len.result c.len-len.ensures (omega (arith, l, c.requires.begins, c.len-len.ensures)) c.in_ok-gather.ensures)).whole
-
-pub returns-clause-meant : goal.returns-clause-meant
-returns-clause-meant c =
-    let m = c.settle.new.self in
-    let e = c.in_ok-settle.ensures in
-    let l = length_same c.args.self.now m c.requires.whole e.whole e.meant in
-    (put_down c.args.self.now m c.close_up.new.self c.args.start c.args.spans.now c.requires.whole c.requires.begins c.requires.behind c.requires.within e.whole e.meant e.end e.stays
-    (c.close_up.ensures ∙ moved_down m.buf _ c.gather.new.out c.args.start c.len-len.result c.len-len.ensures (omega (arith, l, c.requires.begins, c.len-len.ensures)) c.in_ok-gather.ensures)).meant_is
-
-pub returns-clause-front : goal.returns-clause-front
-returns-clause-front c =
-    let m = c.settle.new.self in
-    let e = c.in_ok-settle.ensures in
-    let l = length_same c.args.self.now m c.requires.whole e.whole e.meant in
-    (put_down c.args.self.now m c.close_up.new.self c.args.start c.args.spans.now c.requires.whole c.requires.begins c.requires.behind c.requires.within e.whole e.meant e.end e.stays
-    (c.close_up.ensures ∙ moved_down m.buf _ c.gather.new.out c.args.start c.len-len.result c.len-len.ensures (omega (arith, l, c.requires.begins, c.len-len.ensures)) c.in_ok-gather.ensures)).front
-
-pub returns-clause-lies : goal.returns-clause-lies
-returns-clause-lies c =
-    let m = c.settle.new.self in
-    let e = c.in_ok-settle.ensures in
-    let l = length_same c.args.self.now m c.requires.whole e.whole e.meant in
-    (put_down c.args.self.now m c.close_up.new.self c.args.start c.args.spans.now c.requires.whole c.requires.begins c.requires.behind c.requires.within e.whole e.meant e.end e.stays
-    (c.close_up.ensures ∙ moved_down m.buf _ c.gather.new.out c.args.start c.len-len.result c.len-len.ensures (omega (arith, l, c.requires.begins, c.len-len.ensures)) c.in_ok-gather.ensures)).lies
+    let k = put_down c.args.self.now m c.close_up.new.self c.args.start c.args.spans.now c.requires.whole c.requires.begins c.requires.behind c.requires.within e.whole e.meant e.end e.stays
+    (c.close_up.ensures ∙ moved_down m.buf _ c.gather.new.out c.args.start c.len-len.result c.len-len.ensures (omega (arith, l, c.requires.begins, c.len-len.ensures)) c.in_ok-gather.ensures) in
+    record { put = k.0; lies = k.1 }

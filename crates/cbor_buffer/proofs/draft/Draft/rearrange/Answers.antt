@@ -1,8 +1,11 @@
-use Rattle.std.proofs.Common.{arith}
+use Rattle.std.proofs.Common.{List, ℕ, sym, subst, arith}
+use Rattle.cbor_buffer.specs.Spans.{AreWithin}
 use Rattle.cbor_buffer.proofs.Drafts.{length_same}
 use Rattle.cbor_buffer.proofs.draft.Draft.rearrange.Goals as goal
 
-pub put_down-requires-clause-begins : goal.put_down-requires-clause-begins
-put_down-requires-clause-begins c =
+pub put_down-requires : goal.put_down-requires
+put_down-requires c =
     let e = c.in_ok-defer.ensures in
-    let l = length_same c.args.self.now c.defer.new.self c.requires.whole e.whole (e.meant c.if-branch.false) in omega (arith, l, c.requires.begins)
+    let same = e.meant c.if-branch.false in
+    let l = length_same c.args.self.now c.defer.new.self c.requires.whole e.whole same in
+    record { whole = e.whole; begins = omega (arith, l, c.requires.begins); behind = c.requires.behind; within = subst (λ (xs : List ℕ). AreWithin xs c.args.spans.now) (sym same) c.requires.within }

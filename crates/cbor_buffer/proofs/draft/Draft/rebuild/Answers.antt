@@ -7,8 +7,8 @@ use Rattle.cbor_buffer.specs.declared.draft.Region.{Region}
 use Rattle.cbor_buffer.proofs.Drafts.{rebuilt}
 use Rattle.cbor_buffer.proofs.draft.Draft.rebuild.Goals as goal
 
-pub returns-clause-whole : goal.returns-clause-whole
-returns-clause-whole c = λ t.
+pub returns : goal.returns
+returns c =
     let d = c.args.self.now in
     let r = c.args.loose in
     let e = c.in_ok-pick_all.ensures in
@@ -17,16 +17,8 @@ returns-clause-whole c = λ t.
     let k = rebuilt d c.args.start r c.requires.loose c.pick_all.new.self.picked.cuts.items c.extend_from_slice.new.self.items c.push-2.new.list.items (flat_map pair_bytes (map (span_pair (meant d)) c.args.spans.now)) c.if-behind-start.false c.requires.begins
     (e.run done) (e.rope done) cuts (c.in_ok-push-2.ensures ∙ ap (λ (rs : List Region). rs ++ record { behind = r.behind; start = c.args.start; first = r.first } ∷ []) e.regions) in
     let end : c.pick_all.new.self.end ≡ length d.buf = e.end ∙ c.requires.loose.1 in
-    (subst (Blocks c.extend_from_slice.new.self.items (reverse c.push-2.new.list.items)) (sym end) k.0, omega (arith, end, ap length e.buf))
-
-pub returns-clause-done : goal.returns-clause-done
-returns-clause-done c = λ t.
-    let d = c.args.self.now in
-    let r = c.args.loose in
-    let e = c.in_ok-pick_all.ensures in
-    let done = c.if-not-branch.false in
-    let cuts = c.in_ok-extend_from_slice.ensures.items ∙ (λ i. (c.in_ok-push.ensures ∙ ap (λ (us : List Cut). us ++ gap r.behind c.args.start ∷ []) (c.truncate.ensures.items ∙ ap (take r.first) e.cuts)) i ++ c.deref.ensures.value i) in
-    let k = rebuilt d c.args.start r c.requires.loose c.pick_all.new.self.picked.cuts.items c.extend_from_slice.new.self.items c.push-2.new.list.items (flat_map pair_bytes (map (span_pair (meant d)) c.args.spans.now)) c.if-behind-start.false c.requires.begins
-    (e.run done) (e.rope done) cuts (c.in_ok-push-2.ensures ∙ ap (λ (rs : List Region). rs ++ record { behind = r.behind; start = c.args.start; first = r.first } ∷ []) e.regions) in
-    let end : c.pick_all.new.self.end ≡ length d.buf = e.end ∙ c.requires.loose.1 in
-    (e.buf, (λ i. rope (e.buf i) c.extend_from_slice.new.self.items ++ drop (end i) (e.buf i)) ∙ k.1)
+    record {
+      whole = λ t. (subst (Blocks c.extend_from_slice.new.self.items (reverse c.push-2.new.list.items)) (sym end) k.0, omega (arith, end, ap length e.buf));
+      done = λ t. (e.buf, (λ i. rope (e.buf i) c.extend_from_slice.new.self.items ++ drop (end i) (e.buf i)) ∙ k.1);
+      kept = λ no. cc;
+    }

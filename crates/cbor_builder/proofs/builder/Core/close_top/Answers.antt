@@ -43,7 +43,7 @@ returns-in_ok-fill_head-in-Map-clause-bytes c = λ t.
     let k = c.in_ok-order_pairs-in-Map.ensures in
     subst (λ (h : Shape). meant c.fill_head-in-Map.new.self ≡ take f.from (meant s.out) ++ closed s.order (shape_open (meant s.out) s.spans.items f.start h)) (sym c.in-Map.is)
     (map_sorted s.order (meant s.out) s.spans.items f.from f.start c.in-Map.first (c.len.result - c.in-Map.first) (meant c.order_pairs.new.self.out) (meant c.fill_head-in-Map.new.self) c.requires.laid.0.0.0 c.requires.laid.0.0.1
-    (ap (λ (n : ℕ). n - c.in-Map.first) (c.len.ensures ∙ s.spans.ok.0)) (k.meant c.if-not-branch.false) c.in_ok-fill_head-in-Map.ensures.meant)
+    (ap (λ (n : ℕ). n - c.in-Map.first) (c.len.ensures ∙ s.spans.ok.0)) (k.meant c.if-not-branch.false) c.in_ok-fill_head-in-Map.ensures.meant_is)
 
 pub returns-in_ok-fill_head-in-Map-clause-front : goal.returns-in_ok-fill_head-in-Map-clause-front
 returns-in_ok-fill_head-in-Map-clause-front c = λ t.

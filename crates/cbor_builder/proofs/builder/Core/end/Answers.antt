@@ -1,16 +1,17 @@
-use Rattle.std.proofs.Common.{◌∷◌, ◌++◌, take, sym, ap, ◌∙◌, subst}
+use Rattle.std.proofs.Common.{◌∷◌, ◌++◌, take, sym, ap, ◌∙◌, subst, rules}
 use Rattle.cbor_head.specs.declared.order.KeyOrder.{KeyOrder}
 use Rattle.cbor_builder.specs.inner.BuilderState.{outers, Stand}
 use Rattle.cbor_builder.specs.inner.Laid.{OuterTakes, opens, shape_open}
 use Rattle.cbor_buffer.specs.Moved.{meant, KeepsFront}
 use Rattle.cbor_canonical.specs.Parts.{close, closed}
+use Rattle.cbor_canonical.proofs.Decided.{holds}
 use Rattle.cbor_builder.proofs.Nesting.{nothing_open, rooted_given}
 use Rattle.cbor_builder.proofs.Reordered.{left_open}
 use Rattle.cbor_builder.proofs.Standing.{member_ended, member_outer, keeps_stays}
 use Rattle.cbor_builder.proofs.builder.Core.end.Goals as goal
 
-pub returns-in_ok-complete-clause-closed : goal.returns-in_ok-complete-clause-closed
-returns-in_ok-complete-clause-closed c = λ distinct.
+pub returns-in_ok-complete : goal.returns-in_ok-complete
+returns-in_ok-complete c =
     let s = c.args.self.now in
     let e = c.in_ok-complete.ensures in
     let k = c.in_ok-close_top.ensures in
@@ -24,16 +25,20 @@ returns-in_ok-complete-clause-closed c = λ distinct.
     let bytes = t.meant ∙ ap meant c.leave.ensures.out ∙ k.bytes done ∙ ap (λ (o : KeyOrder). take s.top.from (meant s.out) ++ closed o (shape_open (meant s.out) s.spans.items s.top.start s.top.shape)) (sym eo) in
     let front = keeps_stays s.top.from s.out n.out c.settle_member.new.out (subst (KeepsFront s.top.from s.out) (sym c.leave.ensures.out) (k.front done)) t.stays t.meant in
     let made = member_ended o s.out c.settle_member.new.out s.spans.items n.spans.items s.top n.top (outers n) (outers s) c.complete.new.spans.items c.complete.new.frame rev stand t.whole
-    (subst OuterTakes rev c.requires.takes) bytes front t.key (λ none. t.last (nothing_open n none)) (c.leave.ensures.spans ∙ k.spans done) (e.from, e.start, e.shape, e.spans, e.rises) in (
-      (made.0, rooted_given o c.settle_member.new.out.buf n.spans.items s.top.from n.top c.complete.new.frame n.is_open n.below.items e.from e.start e.shape e.rises (c.leave.ensures.rooted c.if-leave.true)),
-      made.1 ∙ ap (λ (o : KeyOrder). close o (opens (meant s.out) s.spans.items (s.top ∷ outers s))) eo,
-    )
+    (subst OuterTakes rev c.requires.takes) bytes front t.key (λ none. t.last (nothing_open n none)) (c.leave.ensures.spans ∙ k.spans done) (e.from, e.start, e.shape, e.spans, e.rises) in
+    let rooted = rooted_given o c.settle_member.new.out.buf n.spans.items s.top.from n.top c.complete.new.frame n.is_open n.below.items e.from e.start e.shape e.rises (c.leave.ensures.rooted c.if-leave.true) in
+    record {
+      order = eo;
+      distinct = holds (k.distinct.0 done);
+      ended = λ t. ((made.0, rooted), made.1 ∙ ap (λ (o : KeyOrder). close o (opens (meant s.out) s.spans.items (s.top ∷ outers s))) eo);
+      left = λ e. cc;
+    }
 
-pub returns-then-not-branch-clause-left : goal.returns-then-not-branch-clause-left
-returns-then-not-branch-clause-left c = λ e.
+pub returns-then-not-branch : goal.returns-then-not-branch
+returns-then-not-branch c =
     let k = c.in_ok-close_top.ensures in
     let left = k.left c.if-not-branch.true in
-    left_open c.args.self.now c.close_top.new.self c.requires.laid.0 k.order left.0 k.top k.around left.1
+    record { order = k.order; distinct = search rules; ended = λ t. cc; left = λ e. left_open c.args.self.now c.close_top.new.self c.requires.laid.0 k.order left.0 k.top k.around left.1 }
 
 pub complete-requires-clause-ready : goal.complete-requires-clause-ready
 complete-requires-clause-ready c =

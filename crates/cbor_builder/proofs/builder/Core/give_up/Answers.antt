@@ -1,4 +1,5 @@
-use Rattle.std.proofs.Common.{◌≡◌, take, refl, sym, ap, ◌∙◌, subst}
+use Rattle.std.proofs.Common.{take, sym, ap, ◌∙◌, subst, rules}
+use Rattle.cbor_canonical.proofs.Decided.{holds}
 use Rattle.cbor_builder.specs.inner.BuilderState.{outers, frames}
 use Rattle.cbor_builder.specs.inner.Laid.{outer_spans, opens, Laid}
 use Rattle.cbor_buffer.specs.Moved.{meant, IsWhole}
@@ -10,8 +11,8 @@ use Rattle.cbor_builder.proofs.OpenRepeats.{moved}
 use Rattle.cbor_builder.proofs.Reordered.{left_open}
 use Rattle.cbor_builder.proofs.builder.Core.give_up.Goals as goal
 
-pub returns-clause-around : goal.returns-clause-around
-returns-clause-around c = λ distinct.
+pub returns : goal.returns
+returns c =
     let s = c.args.self.now in
     let n = c.give_up_pairs.new.self in
     let e = c.give_up_pairs.ensures in
@@ -20,20 +21,22 @@ returns-clause-around c = λ distinct.
     let l = c.leave.ensures in
     let t = found_around c.leave.result (outers s) c.requires.takes (λ none. sym e.around ∙ l.none none) in
     let out = ap meant l.out ∙ c.cut.ensures.meant ∙ ap (take n.top.from) (c.in_ok-settle.ensures.lies ∙ c.in_ok-settle.ensures.meant ∙ ap meant e.out) ∙ ap (λ (g : Frame). take g.from (meant s.out)) e.top in
-    let lies = ap (λ (x : Draft). x.buf) l.out ∙ c.cut.ensures.lies ∙ sym c.cut.ensures.meant ∙ sym (ap meant l.out) in (
-      (
-        (
-          moved Laid s.order b.order (take s.top.from (meant s.out)) (meant b.out) (outer_spans s.spans.items s.top.shape) b.spans.items (outers s) (frames b) (l.order ∙ e.order) out (l.spans ∙ e.spans c.if-not-give_up_pairs.false) (sym (l.frames t) ∙ e.around) c.requires.laid.0.0.3,
-          subst IsWhole (sym l.out) c.cut.ensures.whole,
-          agrees_refl b.out.buf (meant b.out) b.spans.items (frames b) lies,
-        ),
-        l.rooted t,
-      ),
-      moved (λ o xs ss fs. opens xs ss fs ≡ opens (take s.top.from (meant s.out)) (outer_spans s.spans.items s.top.shape) (outers s)) s.order b.order (take s.top.from (meant s.out)) (meant b.out) (outer_spans s.spans.items s.top.shape) b.spans.items (outers s) (frames b)
-          (l.order ∙ e.order) out (l.spans ∙ e.spans c.if-not-give_up_pairs.false) (sym (l.frames t) ∙ e.around) refl,
-    )
+    let lies = ap (λ (x : Draft). x.buf) l.out ∙ c.cut.ensures.lies ∙ sym c.cut.ensures.meant ∙ sym (ap meant l.out) in
+    let frames_are = sym (l.frames t) ∙ e.around in
+    let spans = l.spans ∙ e.spans c.if-not-give_up_pairs.false in
+    let order = l.order ∙ e.order in
+    let laid = moved Laid s.order b.order (take s.top.from (meant s.out)) (meant b.out) (outer_spans s.spans.items s.top.shape) b.spans.items (outers s) (frames b) order out spans frames_are c.requires.laid.0.0.3 in
+    record {
+      order = order;
+      distinct = holds (e.distinct.0 c.if-not-give_up_pairs.false);
+      ended = λ _. (
+        ((laid, subst IsWhole (sym l.out) c.cut.ensures.whole, agrees_refl b.out.buf (meant b.out) b.spans.items (frames b) lies), l.rooted t),
+        λ i. opens (out i) (spans i) (frames_are i),
+      );
+      left = λ e. cc;
+    }
 
-pub returns-then-not-give_up_pairs-clause-left : goal.returns-then-not-give_up_pairs-clause-left
-returns-then-not-give_up_pairs-clause-left c = λ no.
+pub returns-then-not-give_up_pairs : goal.returns-then-not-give_up_pairs
+returns-then-not-give_up_pairs c =
     let e = c.give_up_pairs.ensures in
-    left_open c.args.self.now c.give_up_pairs.new.self c.requires.laid.0 e.order e.out e.top e.around (e.left c.if-not-give_up_pairs.true)
+    record { order = e.order; distinct = search rules; ended = λ t. cc; left = λ no. left_open c.args.self.now c.give_up_pairs.new.self c.requires.laid.0 e.order e.out e.top e.around (e.left c.if-not-give_up_pairs.true) }

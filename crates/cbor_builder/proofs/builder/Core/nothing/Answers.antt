@@ -1,30 +1,19 @@
 use Rattle.std.proofs.Common.{append-nil, sym, []}
-use Rattle.cbor_builder.specs.inner.BuilderState.{outers}
-use Rattle.std.proofs.lemmas.Result.{on_ok_weaker}
-use Rattle.cbor_buffer.specs.Moved.{meant}
-use Rattle.cbor_builder.proofs.Nesting.{rooted_given}
+use Rattle.cbor_buffer.specs.Moved.{meant, Extends}
+use Rattle.cbor_builder.specs.inner.BuilderState.{IsLaid}
+use Rattle.cbor_builder.specs.declared.builder.Core.{Core}
 use Rattle.cbor_builder.proofs.Standing.{member_given, member_ready}
 use Rattle.cbor_builder.proofs.builder.Core.nothing.Goals as goal
 
-pub returns-clause-laid : goal.returns-clause-laid
-returns-clause-laid c =
-    let s = c.args.self.now in
-    let e = c.complete.ensures in
-    let rooted = rooted_given s.order s.out.buf s.spans.items c.len-at.result s.top c.complete.new.frame s.is_open s.below.items e.from e.start e.shape e.rises c.requires.laid.1 in
-    on_ok_weaker c.complete.result (λ spans. (
-      (member_given s.order s.out s.out [] s.spans.items s.top (outers s) c.len-at.result c.complete.new.spans.items c.complete.new.frame
-          c.requires.laid.0 c.requires.takes c.requires.laid.0.1 (sym (append-nil (meant s.out))) (sym (append-nil s.out.buf)) c.len-at.ensures.meant (e.from, e.start, e.shape, spans, e.rises)).0,
-      rooted,
-    )) e.spans
+by_nothing : (s : Core) → IsLaid s → Extends s.out s.out []
+by_nothing s laid = record { whole = laid.0.1; lies = sym (append-nil s.out.buf); meant_is = sym (append-nil (meant s.out)) }
 
-pub returns-clause-given : goal.returns-clause-given
-returns-clause-given c =
+pub returns : goal.returns
+returns c =
     let s = c.args.self.now in
     let e = c.complete.ensures in
-    on_ok_weaker c.complete.result (λ spans. (member_given s.order s.out s.out [] s.spans.items s.top (outers s) c.len-at.result c.complete.new.spans.items c.complete.new.frame
-    c.requires.laid.0 c.requires.takes c.requires.laid.0.1 (sym (append-nil (meant s.out))) (sym (append-nil s.out.buf)) c.len-at.ensures.meant (e.from, e.start, e.shape, spans, e.rises)).1) e.spans
+    member_given c.complete.result s s.out [] c.len-at.result c.complete.new.frame c.complete.new.spans c.requires.laid c.requires.takes (by_nothing s c.requires.laid) c.len-at.ensures.meant e.from e.start e.shape e.spans e.rises
 
 pub complete-requires-clause-ready : goal.complete-requires-clause-ready
 complete-requires-clause-ready c =
-    let s = c.args.self.now in
-    member_ready s.order s.out s.out [] s.spans.items s.top (outers s) c.len-at.result c.requires.laid.0 c.requires.laid.0.1 (sym (append-nil (meant s.out))) (sym (append-nil s.out.buf)) c.len-at.ensures.meant
+    let s = c.args.self.now in member_ready s s.out [] c.len-at.result c.requires.laid (by_nothing s c.requires.laid) c.len-at.ensures.meant

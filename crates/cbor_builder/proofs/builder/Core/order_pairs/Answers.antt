@@ -2,7 +2,7 @@ use Rattle.std.proofs.Common.{◌≡◌, ◌∙◌, ◌++◌, List, take, drop, 
 use Rattle.std.proofs.lemmas.List.{take_rest}
 use Rattle.cbor_canonical.specs.Pairs.{pair_bytes}
 use Rattle.cbor_head.specs.Prelude.{Pair}
-use Rattle.cbor_buffer.specs.Moved.{meant}
+use Rattle.cbor_buffer.specs.Moved.{meant, IsWhole}
 use Rattle.cbor_buffer.specs.Spans.{span_pair, AreBehind, AreWithin}
 use Rattle.cbor_buffer.specs.declared.draft.Draft.{Draft}
 use Rattle.cbor_buffer.specs.declared.span.Span.{Span}
@@ -10,8 +10,8 @@ use Rattle.cbor_builder.specs.declared.frame.Frame.{Frame}
 use Rattle.cbor_buffer.proofs.Drafts.{whole_length}
 use Rattle.cbor_builder.specs.inner.Laid.{pairs_from}
 use Rattle.cbor_builder.proofs.Growth.{tile_within}
-use Rattle.cbor_builder.proofs.InOrder.{behind_permuted, tile_behind, risen}
-use Rattle.cbor_builder.proofs.SortedSpans.{within_permuted}
+use Rattle.cbor_builder.proofs.InOrder.{tile_behind, risen}
+use Rattle.cbor_builder.proofs.Ranks.{all_permuted}
 use Rattle.cbor_canonical.proofs.Decided.{holds}
 use Rattle.cbor_canonical.proofs.Sorting.{rising_distinct}
 use Rattle.cbor_builder.proofs.builder.Core.order_pairs.Goals as goal
@@ -30,7 +30,7 @@ returns-clause-meant c = λ t.
     let n = c.order_spans.new.self in
     let e = c.order_spans.ensures in
     let us = take_rest c.deref.result.now c.args.first ∙ ap (drop c.args.first) c.deref.ensures.value in
-    c.in_ok-rearrange.ensures.meant
+    c.in_ok-rearrange.ensures.meant_is
     ∙ ap (λ (ts : List Span). take n.top.start (meant n.out) ++ flat_map pair_bytes (map (span_pair (meant n.out)) ts)) us
     ∙ ap (λ (d : Draft). take n.top.start (meant d) ++ flat_map pair_bytes (pairs_from (meant d) n.spans.items c.args.first)) e.out
     ∙ ap (λ (f : Frame). take f.start (meant s.out) ++ flat_map pair_bytes (pairs_from (meant s.out) n.spans.items c.args.first)) e.top
@@ -39,27 +39,17 @@ returns-clause-meant c = λ t.
 stands : {A B : Type 0} (P : A → B → Type 0) (a b : A) (c d : B) → a ≡ b → c ≡ d → P b d → P a c
 stands P a b c d e f h = subst (λ x. P x c) (sym e) (subst (P b) (sym f) h)
 
-pub rearrange-requires-clause-behind : goal.rearrange-requires-clause-behind
-rearrange-requires-clause-behind c =
+pub rearrange-requires : goal.rearrange-requires
+rearrange-requires c =
     let s = c.args.self.now in
     let xs = drop c.args.first s.spans.items in
     let e = c.order_spans.ensures in
     let us = take_rest c.deref.result.now c.args.first ∙ ap (drop c.args.first) c.deref.ensures.value in
-    stands AreBehind _ s.top.start _ _ (ap (λ (f : Frame). f.start) e.top) us (behind_permuted s.top.start xs _ e.permuted (tile_behind s.top.start xs (length (meant s.out)) c.requires.fits.1))
-
-pub rearrange-requires-clause-within : goal.rearrange-requires-clause-within
-rearrange-requires-clause-within c =
-    let s = c.args.self.now in
-    let xs = drop c.args.first s.spans.items in
-    let e = c.order_spans.ensures in
-    let us = take_rest c.deref.result.now c.args.first ∙ ap (drop c.args.first) c.deref.ensures.value in
-    stands AreWithin _ (meant s.out) _ _ (ap meant e.out) us (within_permuted (meant s.out) xs _ e.permuted (tile_within (meant s.out) s.top.start xs (length (meant s.out)) c.requires.fits.1 (omega arith)))
-
-pub rearrange-requires-clause-begins : goal.rearrange-requires-clause-begins
-rearrange-requires-clause-begins c =
-    let s = c.args.self.now in
-    let e = c.order_spans.ensures in
     let l = whole_length s.out c.requires.whole in
-    let top = ap (λ (f : Frame). f.start) e.top in
-    let out = ap (λ (d : Draft). length d.buf) e.out in
-    omega (arith, l, c.requires.within, top, out)
+    let start = ap (λ (f : Frame). f.start) e.top in
+    record {
+      whole = subst IsWhole (sym e.out) c.requires.whole;
+      begins = omega (arith, l, c.requires.within, start, ap (λ (d : Draft). length d.buf) e.out);
+      behind = stands AreBehind _ s.top.start _ _ start us (all_permuted _ xs _ e.permuted (tile_behind s.top.start xs (length (meant s.out)) c.requires.fits.1));
+      within = stands AreWithin _ (meant s.out) _ _ (ap meant e.out) us (all_permuted _ xs _ e.permuted (tile_within (meant s.out) s.top.start xs (length (meant s.out)) c.requires.fits.1 (omega arith)));
+    }

@@ -10,34 +10,23 @@ use Rattle.cbor_builder.proofs.InPlace.{top_keys, waiting_same, fronted_keys, ri
 use Rattle.cbor_builder.specs.inner.BuilderState.{outers}
 use Rattle.cbor_builder.proofs.builder.Core.repeated.Goals as goal
 
-pub has_key-requires-clause-fronted : goal.has_key-requires-clause-fronted
-has_key-requires-clause-fronted c =
+pub has_key-requires : goal.has_key-requires
+has_key-requires c =
     let s = c.args.self.now in
     let f = s.top in
+    let bytes = s.out.buf in
+    let came = drop c.in-Key.first s.spans.items in
     let laid = c.requires.laid c.in-Key.first c.in-Key.key c.in-Key.is in
     let fits = subst (Fits s.order (meant s.out) s.spans.items f.from f.start f.rises) c.in-Key.is laid.0.2 in
     let us = take_rest c.deref.result.now c.in-Key.first ∙ ap (drop c.in-Key.first) c.deref.ensures.value in
-    let k = waiting_same s.out.buf (meant s.out) s.spans.items f (outers s) c.in-Key.first c.in-Key.key laid.2 c.in-Key.is in
-    subst (AreFronted s.out.buf) (sym us) (fronted_keys s.out.buf (meant s.out) (drop c.in-Key.first s.spans.items) k.0 fits.4)
-
-pub has_key-requires-clause-rises : goal.has_key-requires-clause-rises
-has_key-requires-clause-rises c = λ t.
-    let s = c.args.self.now in
-    let f = s.top in
-    let laid = c.requires.laid c.in-Key.first c.in-Key.key c.in-Key.is in
-    let fits = subst (Fits s.order (meant s.out) s.spans.items f.from f.start f.rises) c.in-Key.is laid.0.2 in
-    let us = take_rest c.deref.result.now c.in-Key.first ∙ ap (drop c.in-Key.first) c.deref.ensures.value in
-    let k = waiting_same s.out.buf (meant s.out) s.spans.items f (outers s) c.in-Key.first c.in-Key.key laid.2 c.in-Key.is in
-    subst (λ (xs : List Span). IsRising s.order (map (span_pair s.out.buf) xs)) (sym us)
-    (rising_keys s.order (meant s.out) s.out.buf (drop c.in-Key.first s.spans.items) (keys_flip s.out.buf (meant s.out) (drop c.in-Key.first s.spans.items) k.0) (fits.3 t))
-
-pub has_key-requires-clause-begins : goal.has_key-requires-clause-begins
-has_key-requires-clause-begins c =
-    let s = c.args.self.now in
-    let f = s.top in
-    let laid = c.requires.laid c.in-Key.first c.in-Key.key c.in-Key.is in
-    let fits = subst (Fits s.order (meant s.out) s.spans.items f.from f.start f.rises) c.in-Key.is laid.0.2 in
-    omega (arith, c.len.ensures.meant, fits.2)
+    let k = waiting_same bytes (meant s.out) s.spans.items f (outers s) c.in-Key.first c.in-Key.key laid.2 c.in-Key.is in
+    record {
+      fronted = subst (AreFronted bytes) (sym us) (fronted_keys bytes (meant s.out) came k.0 fits.4);
+      rises = λ t. subst (λ (xs : List Span). IsRising s.order (map (span_pair bytes) xs)) (sym us)
+          (rising_keys s.order (meant s.out) bytes came (keys_flip bytes (meant s.out) came k.0) (fits.3 t));
+      begins = omega (arith, c.len.ensures.meant, fits.2);
+      ends = omega (arith, c.len.ensures.lies);
+    }
 
 pub returns-in-Key : goal.returns-in-Key
 returns-in-Key c =

@@ -1,12 +1,12 @@
 use Rattle.std.proofs.Common.{ℕ, List, drop, Option, sym, ap, ◌∙◌, subst, MatchOption}
 use Rattle.cbor_builder.specs.Built.{AreAllDifferent, IsFirstRepeat}
-use Rattle.cbor_builder.specs.inner.BuilderState.{frames, Stand}
+use Rattle.cbor_builder.specs.inner.BuilderState.{frames, Stand, IsReordered}
 use Rattle.cbor_builder.specs.inner.Laid.{opens}
 use Rattle.cbor_buffer.specs.Moved.{meant}
 use Rattle.cbor_buffer.specs.declared.span.Span.{Span}
 use Rattle.cbor_builder.specs.inner.Repeats.{first_of}
 use Rattle.cbor_builder.proofs.OpenRepeats.{own_keys, told_of, own_found, own_spans, rising_different}
-use Rattle.cbor_builder.proofs.Reordered.{reordered_key, reordered_first, reordered_length, reordered_own, reordered_waits}
+use Rattle.cbor_builder.proofs.Reordered.{reordered_first, reordered_length, reordered_own, reordered_waits}
 use Rattle.cbor_builder.proofs.builder.Core.take_repeat.Goals as goal
 use Rattle.cbor_builder.proofs.builder.Core.take_repeat.Goals.{then-not-self, else-not-self}
 
@@ -14,7 +14,7 @@ pub repeated-is_waiting_repeated-requires : goal.repeated-is_waiting_repeated-re
 repeated-is_waiting_repeated-requires c =
     let s = c.args.self.now in
     let was = c.requires.laid.1 in
-    record { laid = λ first key e. subst (λ (ss : List Span). Stand s.order s.out ss (frames s)) (sym (reordered_key c.requires.laid.0 s.spans.items s.top.shape first key e was.1)) was.0 }
+    record { laid = λ first key e. subst (λ (ss : List Span). Stand s.order s.out ss (frames s)) (sym (subst (IsReordered c.requires.laid.0 s.spans.items) e was.1)) was.0 }
 
 pub first_repeat-pair-requires : goal.first_repeat-pair-requires
 first_repeat-pair-requires c =

@@ -1,18 +1,9 @@
+use Rattle.std.proofs.Common.{◌∙◌, refl}
 use Rattle.cbor_builder.proofs.CanonStates.{told_there}
 use Rattle.cbor_builder.proofs.canon_builder.CanonBuilder.end_if_distinct.Goals as goal
 
-pub returns-then-not-branch-clause-distinct : goal.returns-then-not-branch-clause-distinct
-returns-then-not-branch-clause-distinct c =
+pub returns-then-not-branch : goal.returns-then-not-branch
+returns-then-not-branch c =
     let e = c.in_ok-end.ensures in
-    let told = told_there c.self.inside c.args.self.now c.end.new.self _ c.first_repeat.result c.self.invariant c.self.view_is c.requires.container (e.left c.if-not-branch.true) c.if-not-branch.true e.distinct c.first_repeat.ensures.tells in
-    ((λ none. absurd (told.0 none)), (λ h. absurd (told.1 h)))
-
-pub returns-then-not-branch-clause-ended : goal.returns-then-not-branch-clause-ended
-returns-then-not-branch-clause-ended c = λ none.
-    let e = c.in_ok-end.ensures in
-    absurd ((told_there c.self.inside c.args.self.now c.end.new.self _ c.first_repeat.result c.self.invariant c.self.view_is c.requires.container (e.left c.if-not-branch.true) c.if-not-branch.true e.distinct c.first_repeat.ensures.tells).0 none)
-
-pub returns-then-not-branch-clause-told : goal.returns-then-not-branch-clause-told
-returns-then-not-branch-clause-told c =
-    let e = c.in_ok-end.ensures in
-    (told_there c.self.inside c.args.self.now c.end.new.self _ c.first_repeat.result c.self.invariant c.self.view_is c.requires.container (e.left c.if-not-branch.true) c.if-not-branch.true e.distinct c.first_repeat.ensures.tells).2
+    told_there c.self.inside c.args.self.now c.end.new.self _ c.first_repeat.result _ _ c.self.invariant c.self.view_is c.requires.container (e.left c.if-not-branch.true) c.if-not-branch.true e.distinct c.first_repeat.ensures.tells
+    (c.first_repeat.ensures.order ∙ e.order) refl

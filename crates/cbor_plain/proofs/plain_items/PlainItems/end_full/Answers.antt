@@ -26,7 +26,7 @@ full-preserved c = (
   c.end_keys.ensures.same.1 ∙ c.full.invariant.0,
   λ b e t h counted.
       let k = c.full.invariant.1 b e t h counted in
-      ends-one c.full.self b e t c.full.left k (omega (arith, counted, c.full-test.true)) _ (c.end_keys.ensures.same.0 ∙ c.in_ok-end.ensures.ended) c.end_keys.ensures.same.1 c.end_keys.ensures.same.3
+      ends-one c.full.self b e t c.full.left k (omega (arith, counted, c.full-test.true)) _ (c.end_keys.ensures.same.0 ∙ c.in_ok-end.ensures.given) c.end_keys.ensures.same.1 c.end_keys.ensures.same.3
       (subst (λ (os : List OpenItem). standing os ≡ close (standing c.full.self.tree)) (sym c.end_keys.ensures.same.2) c.in_ok-end-2.ensures) c.end_keys.ensures.sets,
 )
 

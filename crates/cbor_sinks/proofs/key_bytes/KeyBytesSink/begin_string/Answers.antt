@@ -13,7 +13,7 @@ pub returns-in_ok-begin_string : goal.returns-in_ok-begin_string
 returns-in_ok-begin_string c =
     let old = c.args.self.now in
     let typed = ap (λ (m : Major). built old.builder.order (opened m 0 ∷ old.builder.standing)) c.string_type.ensures in
-    begins-kept c.args.is_key c.args.is_text old (record { builder = c.begin_string.new.self; inside = old.inside }) (sym c.keeps.ensures ∙ c.if-keeps.true) (c.in_ok-begin_string.ensures.opened ∙ typed) refl
+    begins-kept c.args.is_key c.args.is_text old (record { builder = c.begin_string.new.self; inside = old.inside }) (sym c.keeps.ensures ∙ c.if-keeps.true) (c.in_ok-begin_string.ensures.given ∙ typed) refl
 
 pub returns-else-keeps : goal.returns-else-keeps
 returns-else-keeps c = begins-left c.args.is_key c.args.is_text c.args.self.now (sym c.keeps.ensures ∙ c.if-keeps.false)

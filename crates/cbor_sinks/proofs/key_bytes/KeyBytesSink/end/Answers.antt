@@ -11,7 +11,7 @@ pub returns-then-is_map : goal.returns-then-is_map
 returns-then-is_map c =
     let old = c.args.self.now in
     record {
-      ends = map-ends c.give_up_if_distinct.result c.args.is_map old c.give_up_if_distinct.new.self c.if-is_map.true c.if-self-eq0.true c.give_up_if_distinct.ensures.distinct c.give_up_if_distinct.ensures.around;
+      ends = map-ends c.give_up_if_distinct.result c.args.is_map old c.give_up_if_distinct.new.self c.if-is_map.true c.if-self-eq0.true c.give_up_if_distinct.ensures.distinct c.give_up_if_distinct.ensures.ended;
       repeats = repeats-if c.give_up_if_distinct.result _ _ (λ repeat h. keys-repeat old repeat h c.args.is_map) c.give_up_if_distinct.ensures.told;
     }
 

@@ -8,11 +8,11 @@ end_string-requires c = record { string = in-string c.args.is_key c.args._is_tex
 pub settle-requires : goal.settle-requires
 settle-requires c = λ none.
     let old = c.args.self.now in
-    string-takes c.args.is_key c.args._is_text old (record { builder = c.end_string.new.self; inside = old.inside }) (sym c.keeps.ensures ∙ c.if-keeps.true) c.requires.due c.in_ok-end_string.ensures.ended none
+    string-takes c.args.is_key c.args._is_text old (record { builder = c.end_string.new.self; inside = old.inside }) (sym c.keeps.ensures ∙ c.if-keeps.true) c.requires.due c.in_ok-end_string.ensures.given none
 
 pub returns-in_ok-settle : goal.returns-in_ok-settle
 returns-in_ok-settle c =
-    ends-kept c.args.is_key c.args._is_text c.args.self.now c.settle.new.self c.end_string.new.self (sym c.keeps.ensures ∙ c.if-keeps.true) c.in_ok-end_string.ensures.ended c.in_ok-settle.ensures.builder c.in_ok-settle.ensures.inside
+    ends-kept c.args.is_key c.args._is_text c.args.self.now c.settle.new.self c.end_string.new.self (sym c.keeps.ensures ∙ c.if-keeps.true) c.in_ok-end_string.ensures.given c.in_ok-settle.ensures.builder c.in_ok-settle.ensures.inside
 
 pub returns-else-keeps : goal.returns-else-keeps
 returns-else-keeps c = ends-left c.args.is_key c.args._is_text c.args.self.now (sym c.keeps.ensures ∙ c.if-keeps.false)
