@@ -14,14 +14,10 @@ later u = codes ", " ++ u
 
 mutual
   pub one-line : (v : Value) (n : ℕ) → laid_out OneLine n v ≡ text v
-  one-line (value.unsigned m) n = refl
-  one-line (value.negative m) n = refl
-  one-line (value.bytes bs) n = refl
-  one-line (value.text bs) n = refl
   one-line (value.array vs) n = ap (λ (l : List ℕ). codes "[" ++ l ++ codes "]") (line-members vs n)
   one-line (value.map es) n = ap (λ (l : List ℕ). codes "{" ++ l ++ codes "}") (line-pairs es n)
   one-line (value.tag m v) n = ap (λ (l : List ℕ). decimal m ++ codes "(" ++ l ++ codes ")") (one-line v n)
-  one-line (value.simple m) n = refl
+  one-line _ n = refl
 
   line-members : (vs : Values) (n : ℕ) → members_left OneLine n true vs ≡ joined (texts vs)
   line-members value.no_values n = refl
@@ -49,14 +45,10 @@ pair_joined g k v = ap (λ (l : List ℕ). l ++ v) (append_assoc g k (codes ": "
 
 mutual
   pub on-lines : (v : Value) (n : ℕ) → laid_out Indented n v ≡ indented n v
-  on-lines (value.unsigned m) n = refl
-  on-lines (value.negative m) n = refl
-  on-lines (value.bytes bs) n = refl
-  on-lines (value.text bs) n = refl
   on-lines (value.array vs) n = ap (λ (l : List ℕ). codes "[" ++ l ++ codes "]") (lines-members vs n)
   on-lines (value.map es) n = ap (λ (l : List ℕ). codes "{" ++ l ++ codes "}") (lines-pairs es n)
   on-lines (value.tag m v) n = ap (λ (l : List ℕ). decimal m ++ codes "(" ++ l ++ codes ")") (on-lines v n)
-  on-lines (value.simple m) n = refl
+  on-lines _ n = refl
 
   lines-members : (vs : Values) (n : ℕ) → members_left Indented n true vs ≡ lines n (indented_texts (n + 1) vs)
   lines-members value.no_values n = refl

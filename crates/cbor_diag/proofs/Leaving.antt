@@ -1,6 +1,6 @@
 -- What is left of a text, from one put to the next.
 use Rattle.std.proofs.Common.{◌≡◌, ℕ, ◌+◌, ◌<◌, ◌≤◌, Bool, true, false, List, [], ◌∷◌, ◌++◌, length, Option, Some, None, Result, Ok, Err, Bor, codes, decimal, refl, sym, ap, ◌∙◌, subst, append_assoc, append-nil, length-append, arith, reverse, IsSome, option_to_list}
-use Rattle.std.proofs.lemmas.List.{reverse-append}
+use Rattle.std.proofs.lemmas.List.{reverse-append, nil_from_length}
 use Rattle.cbor_head.specs.Prelude.{Value, map}
 use Rattle.cbor_head.specs.Value.{array, tag}
 use Rattle.cbor_diag.specs.declared.outbox.Stopped.{Stopped}
@@ -57,23 +57,16 @@ four g x m e r = simp append_assoc
 six : (g k c v p e r : List ℕ) → g ++ (k ++ ((((c ++ v) ++ p) ++ e) ++ r)) ≡ (((((g ++ k) ++ c) ++ v) ++ p) ++ e) ++ r
 six g k c v p e r = simp append_assoc
 
-empty : {A : Type 0} (xs : List A) → length xs ≡ 0 → xs ≡ []
-empty [] h = refl
-empty (x ∷ xs) h = absurd (omega (arith, h))
-
 without : {A : Type 0} (xs : List A) → (0 < length xs → ⊥) → xs ≡ []
 without [] h = refl
 without (x ∷ xs) h = absurd (h (omega arith))
-
-on_top : {A : Type 0} (vs us : List A) (v : A) → us ≡ vs ++ v ∷ [] → reverse us ≡ v ∷ reverse vs
-on_top vs us v is = ap reverse is ∙ reverse-append vs (v ∷ [])
 
 -- of nodes that have these values
 module _ {N : Type 0} (see : N → Value) where
   -- ---- one more container, or one less
 
   pub behind-top : (l : Layout) (vs us : List (Level N)) (v : Level N) → us ≡ vs ++ v ∷ [] → behind see l (reverse us) ≡ rest_of see l v ++ behind see l (reverse vs)
-  behind-top l vs us v is = ap (behind see l) (on_top vs us v is)
+  behind-top l vs us v is = ap (behind see l) (ap reverse is ∙ reverse-append vs (v ∷ []))
 
   -- the container that was around the one that ended, if there was one
   popped : (l : Layout) (vs us : List (Level N)) (o : Option (Level N)) → vs ≡ us ++ option_to_list o → (0 < length vs → IsSome o) → behind see l (reverse vs) ≡ all_left see l o (reverse us)
@@ -121,7 +114,7 @@ module _ {N : Type 0} (see : N → Value) where
 
   pub members-end : (l : Layout) (n : ℕ) (first : Bool) (left : Left N) (b : Bor (List N)) (rest : List ℕ) → left ≡ parts.Array b first → length b.now ≡ 0 → end l n first ++ (codes "]" ++ rest) ≡ left_of see l n left ++ rest
   members-end l n first left b rest is none =
-      sym (append_assoc (end l n first) (codes "]") rest) ∙ ap (λ (ns : List N). (members_left l n first (values_in see ns) ++ codes "]") ++ rest) (sym (empty b.now none)) ∙ left_as l n left (parts.Array b first) rest is
+      sym (append_assoc (end l n first) (codes "]") rest) ∙ ap (λ (ns : List N). (members_left l n first (values_in see ns) ++ codes "]") ++ rest) (sym (nil_from_length b.now none)) ∙ left_as l n left (parts.Array b first) rest is
 
   pub pair-next : (l : Layout) (n : ℕ) (first : Bool) (left : Left N) (b : Bor (List (N × N))) (x : N × N) (more : List (N × N)) (rest : List ℕ) → left ≡ parts.Map b first → b.now ≡ x ∷ more
       → gap l n first ++ (laid_out l (n + 1) (see x.0) ++ ((((codes ": " ++ laid_out l (n + 1) (see x.1)) ++ pairs_left l n false (entries_in see more)) ++ codes "}") ++ rest)) ≡ left_of see l n left ++ rest
@@ -131,7 +124,7 @@ module _ {N : Type 0} (see : N → Value) where
 
   pub pairs-end : (l : Layout) (n : ℕ) (first : Bool) (left : Left N) (b : Bor (List (N × N))) (rest : List ℕ) → left ≡ parts.Map b first → length b.now ≡ 0 → end l n first ++ (codes "}" ++ rest) ≡ left_of see l n left ++ rest
   pairs-end l n first left b rest is none =
-      sym (append_assoc (end l n first) (codes "}") rest) ∙ ap (λ (ps : List (N × N)). (pairs_left l n first (entries_in see ps) ++ codes "}") ++ rest) (sym (empty b.now none)) ∙ left_as l n left (parts.Map b first) rest is
+      sym (append_assoc (end l n first) (codes "}") rest) ∙ ap (λ (ps : List (N × N)). (pairs_left l n first (entries_in see ps) ++ codes "}") ++ rest) (sym (nil_from_length b.now none)) ∙ left_as l n left (parts.Map b first) rest is
 
   pub value-next : (l : Layout) (n : ℕ) (left : Left N) (x : Bor N) (b : Bor (List (N × N))) (rest : List ℕ) → left ≡ parts.Value x b
       → codes ": " ++ (laid_out l (n + 1) (see x.now) ++ ((pairs_left l n false (entries_in see b.now) ++ codes "}") ++ rest)) ≡ left_of see l n left ++ rest

@@ -1,9 +1,10 @@
 -- What a listing has written so far, and what it answers.
 use Rattle.std.proofs.Common.{◌≡◌, ℕ, ◌+◌, ◌-◌, ◌^◌, ◌<◌, ◌≤◌, ◌⊎◌, min, List, [], ◌∷◌, ◌++◌, length, take, drop, Option, Some, None, Ok, refl, sym, ap, ◌∙◌, subst, inl, inr, arith, append_assoc, append-nil, length-append, take-append-drop, length-take-le}
+use Rattle.std.proofs.lemmas.List.{take_at}
 use Rattle.std.specs.Option.{IfSome}
 use Rattle.std.specs.Io.KnownBytes.{Consumes, Appends, IsAtEnd}
 use Rattle.std.proofs.KnownBytes.{Consumes-nil, Consumes-trans, Appends-nil, Appends-trans}
-use lib.Seq.{drop-append_seam, take-append_seam}
+use lib.Seq.{drop-append_seam}
 use Rattle.cbor_head.specs.Prelude.{Bounds, bounds, Spelling, spell, IsItem, form, refusal, accepted, refused, IsVerdict}
 use Rattle.cbor_head.specs.declared.width.Width.{Width}
 use Rattle.cbor_head.specs.declared.reason.Reason.TheVariants.{Read, Write, Truncated}
@@ -16,10 +17,10 @@ use Rattle.cbor_automaton.specs.Marks.{marks_of, IsProper}
 use Rattle.cbor_automaton.specs.Event.{joined, AreTold}
 use Rattle.cbor_standing.specs.Machine.{StandsFor, before}
 use Rattle.cbor_standing.specs.MachineView.{MachineView}
-use Rattle.cbor_standing.specs.NextEvent.{Call, StandsBetween, IsNext, IsNextEvent, IsEnd, IsCut, IsTooLong, HasFormError}
+use Rattle.cbor_standing.specs.NextEvent.{machine_call, StandsBetween, IsNext, IsNextEvent, IsEnd, IsCut, IsTooLong, HasFormError}
 use Rattle.cbor_automaton.specs.declared.event.Event.{Event}
 use Rattle.cbor_automaton.specs.declared.event.EventKind.{EventKind}
-use Rattle.cbor_automaton.specs.declared.event.EventKind.TheVariants.{Unsigned, Negative, Simple, Bytes, Text, Chunk, Piece, Array, Map, Tag, End}
+use Rattle.cbor_automaton.specs.declared.event.EventKind.TheVariants.{Piece}
 use Rattle.cbor_standing.proofs.Form.{complete-verdict}
 use Rattle.cbor_automaton.proofs.Joining.{bytes-total}
 use Rattle.cbor_automaton.proofs.Rows.{total-append}
@@ -27,10 +28,6 @@ use Rattle.cbor_standing.proofs.Told.{told-none, told-joined, next-more, next-al
 use Rattle.cbor_judging.specs.Readers.{Loses}
 use Rattle.cbor_diag.specs.Listing.{line, lines, IsListing, IsStopped, IsListed, IsUnlisted, of_verdict, of_reader, of_writer}
 use Rattle.cbor_diag.proofs.Lines.{lines-more, lines-joined, has-line, joined-last}
-
--- a call for the next event
-abbrev pub call_of : MachineView → MachineView → Option (List ℕ) → Option (List ℕ) → List ℕ → List ℕ → List ℕ → List Mark → Call
-call_of m new now to kept piece t ms = record { old = m; new = new; held = now; left = to; old_piece = kept; new_piece = piece; taken = t; told = ms }
 
 -- The lines of all events so far were written, and no byte behind these events was taken.
 pub record HasListed (start : ℕ) (m : MachineView) (from now old new : Option (List ℕ)) (written : ℕ) : Type 0 where
@@ -47,51 +44,36 @@ pub none-listed : (start : ℕ) (m : MachineView) (from old : Option (List ℕ))
 none-listed start m from old s = record { t = []; marks = []; told = []; between = s; are_told = told-none; taken = Consumes-nil from; listed = Appends-nil old; count = refl }
 
 pub one-more : (start : ℕ) (m new : MachineView) (from now to old mid out : Option (List ℕ)) (written more : ℕ) (kept piece : List ℕ) (e : Event) (h : HasListed start m from now old mid written)
-    → IsNextEvent e (call_of m new now to kept piece h.t h.marks) → Appends mid out (line start e) → more ≡ min (written + length (line start e)) (2 ^ 64 - 1) → HasListed start new from to old out more
+    → IsNextEvent e (machine_call m new now to kept piece h.t h.marks) → Appends mid out (line start e) → more ≡ min (written + length (line start e)) (2 ^ 64 - 1) → HasListed start new from to old out more
 one-more start m new from now to old mid out written more kept piece e h next wrote sum =
     let size : length (lines start (h.told ++ e ∷ [])) ≡ length (lines start h.told) + length (line start e) = ap length (lines-more start h.told e) ∙ length-append (lines start h.told) (line start e) in
-    let count = h.count in
     record {
       t = h.t ++ next.bytes;
       marks = h.marks ++ marks_of e.width e.kind;
       told = h.told ++ e ∷ [];
       between = next.stands;
-      are_told = next-more (call_of m new now to kept piece h.t h.marks) h.told e h.are_told h.between next;
+      are_told = next-more (machine_call m new now to kept piece h.t h.marks) h.told e h.are_told h.between next;
       taken = Consumes-trans from now to h.t next.bytes h.taken next.consumed;
       listed = subst (Appends old out) (sym (lines-more start h.told e)) (Appends-trans old mid out (lines start h.told) (line start e) h.listed wrote);
-      count = omega (arith, size, count, sum);
+      count = omega (arith, size, h.count, sum);
     }
 
 -- ---- each event has a byte
 
 some-marks : (w : Width) (k : EventKind) → IsProper w k → 0 < total (marks_of w k)
 some-marks w (Piece n) h = let size = bytes-total n in let some = h.1 in omega (arith, size, some)
-some-marks w (Unsigned n) h = omega arith
-some-marks w (Negative n) h = omega arith
-some-marks w (Simple n) h = omega arith
-some-marks w (Bytes n) h = omega arith
-some-marks w (Text n) h = omega arith
-some-marks w (Chunk n) h = omega arith
-some-marks w (Array n) h = omega arith
-some-marks w (Map n) h = omega arith
-some-marks w (Tag n) h = omega arith
-some-marks w End h = omega arith
+some-marks w _ h = omega arith
 
 pub takes-more : (m new : MachineView) (now to : Option (List ℕ)) (kept piece t : List ℕ) (ms : List Mark) (e : Event) → StandsBetween m t ms
-    → IsNextEvent e (call_of m new now to kept piece t ms) → (m.taken < new.taken) × (new.taken ≤ new.bytes)
+    → IsNextEvent e (machine_call m new now to kept piece t ms) → (m.taken < new.taken) × (new.taken ≤ new.bytes)
 takes-more m new now to kept piece t ms e s next =
     let some = some-marks e.width e.kind next.are.0 in
     let sum = total-append ms (marks_of e.width e.kind) in
-    let was = s.stands.taken in
-    let whole = s.whole in
-    let is = next.stands.stands.taken in
-    let all = next.stands.whole in
-    let limit = next.stands.stands.limited in
-    (omega (arith, some, sum, was, whole, is, all), limit)
+    (omega (arith, some, sum, s.stands.taken, s.whole, next.stands.stands.taken, next.stands.whole), next.stands.stands.limited)
 
 -- the place of the next event is within the limit
 pub place-within : (m new : MachineView) (now to : Option (List ℕ)) (kept piece t : List ℕ) (ms : List Mark) (e : Event) → StandsBetween m t ms
-    → IsNextEvent e (call_of m new now to kept piece t ms) → e.place ≤ new.bytes
+    → IsNextEvent e (machine_call m new now to kept piece t ms) → e.place ≤ new.bytes
 place-within m new now to kept piece t ms e s next =
     let more = takes-more m new now to kept piece t ms e s next in
     omega (arith, more, next.place, s.stands.taken)
@@ -123,9 +105,9 @@ accepted-item limits t more s i a v =
     (unique a s sound.1.0 i.spelled _ _ all).0
 
 pub all-listed : (start : ℕ) (m new : MachineView) (from now to old out : Option (List ℕ)) (written count : ℕ) (kept piece : List ℕ) (h : HasListed start m from now old out written)
-    → IsEnd (call_of m new now to kept piece h.t h.marks) → count ≡ new.taken → IfSome from (λ input. IsListed start (bounds m.depth m.bytes) input count old out)
+    → IsEnd (machine_call m new now to kept piece h.t h.marks) → count ≡ new.taken → IfSome from (λ input. IsListed start (bounds m.depth m.bytes) input count old out)
 all-listed start m new from now to old out written count kept piece h end e =
-    let whole = next-all (call_of m new now to kept piece h.t h.marks) h.told h.are_told h.between end in
+    let whole = next-all (machine_call m new now to kept piece h.t h.marks) h.told h.are_told h.between end in
     let s = whole.0 in
     known from now h.t (λ input. IsListed start (bounds m.depth m.bytes) input count old out) h.taken
     (λ rest k. let v = complete-verdict m h.t h.marks h.between.stands end.complete rest in record {
@@ -136,7 +118,7 @@ all-listed start m new from now to old out written count kept piece h end e =
     })
 
 pub all-lost : (start : ℕ) (m new : MachineView) (from now to old out : Option (List ℕ)) (written count : ℕ) (kept piece : List ℕ) (h : HasListed start m from now old out written)
-    → IsEnd (call_of m new now to kept piece h.t h.marks) → count ≡ new.taken → Loses count from to
+    → IsEnd (machine_call m new now to kept piece h.t h.marks) → count ≡ new.taken → Loses count from to
 all-lost start m new from now to old out written count kept piece h end e =
     loses (h.t ++ []) count from to (e ∙ end.stands.stands.taken ∙ ap length (sym (append-nil h.t))) (Consumes-trans from now to h.t [] h.taken end.consumed)
 
@@ -149,13 +131,10 @@ listing-of start m t ms es stands told = record {
 }
 
 -- the first k bytes of an input are those taken
-front-is : (k : ℕ) (t rest : List ℕ) → k ≡ length t → take k (t ++ rest) ≡ t
-front-is k t rest e = ap (λ (j : ℕ). take j (t ++ rest)) e ∙ take-append_seam t rest
-
 front-listed : (start : ℕ) (d k : ℕ) (t rest out : List ℕ) → k ≡ length t → IsListing start d t out → IsListing start d (take k (t ++ rest)) out
-front-listed start d k t rest out e h = subst (λ (xs : List ℕ). IsListing start d xs out) (sym (front-is k t rest e)) h
+front-listed start d k t rest out e h = subst (λ (xs : List ℕ). IsListing start d xs out) (sym (take_at t rest k (sym e))) h
 
-cut-unlisted : (start : ℕ) (m new : MachineView) (from now to old out : Option (List ℕ)) (written : ℕ) (kept piece : List ℕ) (h : HasListed start m from now old out written) (f : Refusal) → IsCut f (call_of m new now to kept piece h.t h.marks)
+cut-unlisted : (start : ℕ) (m new : MachineView) (from now to old out : Option (List ℕ)) (written : ℕ) (kept piece : List ℕ) (h : HasListed start m from now old out written) (f : Refusal) → IsCut f (machine_call m new now to kept piece h.t h.marks)
     → IfSome from (λ input. IsUnlisted start (bounds new.depth new.bytes) input f old out)
 cut-unlisted start m new from now to old out written kept piece h f i =
     let all = h.t ++ i.bytes in
@@ -168,7 +147,7 @@ cut-unlisted start m new from now to old out written kept piece h f i =
           of_reader (lines start h.told)
           (i.is ∙ ap (λ r. refusal r (length all) (length all)) failed ∙ ap (λ n. refusal Read n n) (sym size))
           (subst (λ (n : ℕ). IsVerdict (bounds new.depth new.bytes) form (take n (all ++ rest)) (refused (refusal Truncated n n))) (sym size)
-          (subst (λ (xs : List ℕ). IsVerdict (bounds new.depth new.bytes) form xs (refused (refusal Truncated (length all) (length all)))) (sym (front-is (length all) all rest refl)) i.verdict))
+          (subst (λ (xs : List ℕ). IsVerdict (bounds new.depth new.bytes) form xs (refused (refusal Truncated (length all) (length all)))) (sym (take_at all rest (length all) refl)) i.verdict))
           (front-listed start new.depth f.read all rest (lines start h.told) size listing)
           h.listed
       | inr ended ↦
@@ -181,7 +160,7 @@ cut-unlisted start m new from now to old out written kept piece h f i =
           h.listed
     ])
 
-long-unlisted : (start : ℕ) (m new : MachineView) (from now to old out : Option (List ℕ)) (written : ℕ) (kept piece : List ℕ) (h : HasListed start m from now old out written) (f : Refusal) → IsTooLong f (call_of m new now to kept piece h.t h.marks)
+long-unlisted : (start : ℕ) (m new : MachineView) (from now to old out : Option (List ℕ)) (written : ℕ) (kept piece : List ℕ) (h : HasListed start m from now old out written) (f : Refusal) → IsTooLong f (machine_call m new now to kept piece h.t h.marks)
     → IfSome from (λ input. IsUnlisted start (bounds new.depth new.bytes) input f old out)
 long-unlisted start m new from now to old out written kept piece h f i =
     let all = h.t ++ i.bytes in
@@ -191,12 +170,12 @@ long-unlisted start m new from now to old out written kept piece h f i =
     (front-listed start new.depth f.place all rest (lines start h.told) place (listing-of start (before new (length all)) all h.marks h.told i.stands h.are_told)) h.listed)
 
 -- what was taken, with the byte that is refused
-broken-taken : (start : ℕ) (m new : MachineView) (from now to old out : Option (List ℕ)) (written : ℕ) (kept piece : List ℕ) (h : HasListed start m from now old out written) (f : Refusal) (i : HasFormError f (call_of m new now to kept piece h.t h.marks))
+broken-taken : (start : ℕ) (m new : MachineView) (from now to old out : Option (List ℕ)) (written : ℕ) (kept piece : List ℕ) (h : HasListed start m from now old out written) (f : Refusal) (i : HasFormError f (machine_call m new now to kept piece h.t h.marks))
     → Consumes from to ((h.t ++ i.bytes) ++ i.byte ∷ [])
 broken-taken start m new from now to old out written kept piece h f i =
     subst (Consumes from to) (sym (append_assoc h.t i.bytes (i.byte ∷ []))) (Consumes-trans from now to h.t (i.bytes ++ i.byte ∷ []) h.taken i.consumed)
 
-broken-unlisted : (start : ℕ) (m new : MachineView) (from now to old out : Option (List ℕ)) (written : ℕ) (kept piece : List ℕ) (h : HasListed start m from now old out written) (f : Refusal) → HasFormError f (call_of m new now to kept piece h.t h.marks)
+broken-unlisted : (start : ℕ) (m new : MachineView) (from now to old out : Option (List ℕ)) (written : ℕ) (kept piece : List ℕ) (h : HasListed start m from now old out written) (f : Refusal) → HasFormError f (machine_call m new now to kept piece h.t h.marks)
     → IfSome from (λ input. IsUnlisted start (bounds new.depth new.bytes) input f old out)
 broken-unlisted start m new from now to old out written kept piece h f i =
     let all = h.t ++ i.bytes in
@@ -207,13 +186,13 @@ broken-unlisted start m new from now to old out written kept piece h f i =
     (front-listed start new.depth f.place all (i.byte ∷ rest) (lines start h.told) place (listing-of start (before new (length all)) all h.marks h.told i.stands h.are_told))) h.listed)
 
 pub refused-unlisted : (start : ℕ) (m new : MachineView) (from now to old out : Option (List ℕ)) (written : ℕ) (kept piece : List ℕ) (h : HasListed start m from now old out written) (f : Refusal)
-    → IsCut f (call_of m new now to kept piece h.t h.marks) ⊎ IsTooLong f (call_of m new now to kept piece h.t h.marks) ⊎ HasFormError f (call_of m new now to kept piece h.t h.marks) → IfSome from (λ input. IsUnlisted start (bounds new.depth new.bytes) input f old out)
+    → IsCut f (machine_call m new now to kept piece h.t h.marks) ⊎ IsTooLong f (machine_call m new now to kept piece h.t h.marks) ⊎ HasFormError f (machine_call m new now to kept piece h.t h.marks) → IfSome from (λ input. IsUnlisted start (bounds new.depth new.bytes) input f old out)
 refused-unlisted start m new from now to old out written kept piece h f (inl i) = cut-unlisted start m new from now to old out written kept piece h f i
 refused-unlisted start m new from now to old out written kept piece h f (inr (inl i)) = long-unlisted start m new from now to old out written kept piece h f i
 refused-unlisted start m new from now to old out written kept piece h f (inr (inr i)) = broken-unlisted start m new from now to old out written kept piece h f i
 
 pub refused-lost : (start : ℕ) (m new : MachineView) (from now to old out : Option (List ℕ)) (written : ℕ) (kept piece : List ℕ) (h : HasListed start m from now old out written) (f : Refusal)
-    → IsCut f (call_of m new now to kept piece h.t h.marks) ⊎ IsTooLong f (call_of m new now to kept piece h.t h.marks) ⊎ HasFormError f (call_of m new now to kept piece h.t h.marks) → Loses f.read from to
+    → IsCut f (machine_call m new now to kept piece h.t h.marks) ⊎ IsTooLong f (machine_call m new now to kept piece h.t h.marks) ⊎ HasFormError f (machine_call m new now to kept piece h.t h.marks) → Loses f.read from to
 refused-lost start m new from now to old out written kept piece h f (inl i) =
     loses (h.t ++ i.bytes) f.read from to (ap (λ (r : Refusal). r.read) i.is) (Consumes-trans from now to h.t i.bytes h.taken i.consumed)
 refused-lost start m new from now to old out written kept piece h f (inr (inl i)) =
@@ -228,55 +207,51 @@ abbrev stopped_lines : ℕ → List Event → Event → ℕ → List ℕ
 stopped_lines start es e n = lines start es ++ take n (line start e)
 
 stops-within : (start : ℕ) (m new : MachineView) (now to : Option (List ℕ)) (kept piece t : List ℕ) (ms : List Mark) (es : List Event) (e : Event) (count : ℕ) → StandsBetween m t ms → AreTold es ms
-    → (next : IsNextEvent e (call_of m new now to kept piece t ms)) → count < length (line start e) → IsStopped start new.depth (t ++ next.bytes) (stopped_lines start es e count)
+    → (next : IsNextEvent e (machine_call m new now to kept piece t ms)) → count < length (line start e) → IsStopped start new.depth (t ++ next.bytes) (stopped_lines start es e count)
 stops-within start m new now to kept piece t ms es e count s told next short =
     let sum = total-append ms (marks_of e.width e.kind) in
-    let was = s.whole in
-    let place = next.place in
-    let whole = next.stands.whole in
     record {
       beginning = next.stands.stands.beginning;
       earlier = joined es;
       last = e;
-      of_events = λ item rest i. sym (told-joined new (t ++ next.bytes) (ms ++ marks_of e.width e.kind) (es ++ e ∷ []) next.stands.stands (next-more (call_of m new now to kept piece t ms) es e told s next) item rest i)
+      of_events = λ item rest i. sym (told-joined new (t ++ next.bytes) (ms ++ marks_of e.width e.kind) (es ++ e ∷ []) next.stands.stands (next-more (machine_call m new now to kept piece t ms) es e told s next) item rest i)
           ∙ joined-last es e (has-line start e count short);
-      ends = omega (arith, sum, was, place, whole);
+      ends = omega (arith, sum, s.whole, next.place, next.stands.whole);
       part = count;
       within = short;
       is = ap (λ l. l ++ take count (line start e)) (sym (lines-joined start es));
     }
 
 pub stopped-unlisted : (start : ℕ) (m new : MachineView) (from now to old mid out : Option (List ℕ)) (written count : ℕ) (kept piece : List ℕ) (e : Event) (h : HasListed start m from now old mid written) (f : Refusal)
-    → IsNextEvent e (call_of m new now to kept piece h.t h.marks) → count < length (line start e) → Appends mid out (take count (line start e)) → f ≡ refusal Write (min (written + count) (2 ^ 64 - 1)) new.taken
+    → IsNextEvent e (machine_call m new now to kept piece h.t h.marks) → count < length (line start e) → Appends mid out (take count (line start e)) → f ≡ refusal Write (min (written + count) (2 ^ 64 - 1)) new.taken
     → IfSome from (λ input. IsUnlisted start (bounds new.depth new.bytes) input f old out)
 stopped-unlisted start m new from now to old mid out written count kept piece e h f next short wrote is =
     let all = h.t ++ next.bytes in
     let read : f.read ≡ length all = ap (λ (r : Refusal). r.read) is ∙ next.stands.stands.taken in
     let fits : count ≤ length (line start e) = omega arith in
     let size : length (stopped_lines start h.told e count) ≡ length (lines start h.told) + count = length-append (lines start h.told) (take count (line start e)) ∙ ap (λ n. length (lines start h.told) + n) (length-take-le count (line start e) fits) in
-    let was = h.count in
-    let place : min (written + count) (2 ^ 64 - 1) ≡ min (length (stopped_lines start h.told e count)) (2 ^ 64 - 1) = omega (arith, size, was) in
+    let place : min (written + count) (2 ^ 64 - 1) ≡ min (length (stopped_lines start h.told e count)) (2 ^ 64 - 1) = omega (arith, size, h.count) in
     known from to all (λ input. IsUnlisted start (bounds new.depth new.bytes) input f old out) (Consumes-trans from now to h.t next.bytes h.taken next.consumed)
     (λ rest k. of_writer (stopped_lines start h.told e count)
     (is ∙ ap (λ n. refusal Write n new.taken) place ∙ ap (λ n. refusal Write (min (length (stopped_lines start h.told e count)) (2 ^ 64 - 1)) n) (sym (ap (λ (r : Refusal). r.read) is)))
-    (subst (λ (xs : List ℕ). IsStopped start new.depth xs (stopped_lines start h.told e count)) (sym (front-is f.read all rest read))
+    (subst (λ (xs : List ℕ). IsStopped start new.depth xs (stopped_lines start h.told e count)) (sym (take_at all rest f.read (sym read)))
     (stops-within start m new now to kept piece h.t h.marks h.told e count h.between h.are_told next short))
     (Appends-trans old mid out (lines start h.told) (take count (line start e)) h.listed wrote))
 
 pub stopped-lost : (start : ℕ) (m new : MachineView) (from now to old mid : Option (List ℕ)) (written : ℕ) (kept piece : List ℕ) (e : Event) (h : HasListed start m from now old mid written) (n : ℕ)
-    → IsNextEvent e (call_of m new now to kept piece h.t h.marks) → n ≡ new.taken → Loses n from to
+    → IsNextEvent e (machine_call m new now to kept piece h.t h.marks) → n ≡ new.taken → Loses n from to
 stopped-lost start m new from now to old mid written kept piece e h n next is =
     loses (h.t ++ next.bytes) n from to (is ∙ next.stands.stands.taken) (Consumes-trans from now to h.t next.bytes h.taken next.consumed)
 
 -- ---- what a call of `next` answers, and the limits
 
-pub next-event : (m new : MachineView) (now to : Option (List ℕ)) (kept piece t : List ℕ) (ms : List Mark) (v : Option Event) (e : Event) → v ≡ Some e → IsNext (Ok v) (call_of m new now to kept piece t ms)
-    → IsNextEvent e (call_of m new now to kept piece t ms)
-next-event m new now to kept piece t ms v e is h = subst (λ (x : Option Event). IsNext (Ok x) (call_of m new now to kept piece t ms)) is h
+pub next-event : (m new : MachineView) (now to : Option (List ℕ)) (kept piece t : List ℕ) (ms : List Mark) (v : Option Event) (e : Event) → v ≡ Some e → IsNext (Ok v) (machine_call m new now to kept piece t ms)
+    → IsNextEvent e (machine_call m new now to kept piece t ms)
+next-event m new now to kept piece t ms v e is h = subst (λ (x : Option Event). IsNext (Ok x) (machine_call m new now to kept piece t ms)) is h
 
-pub no-event : (m new : MachineView) (now to : Option (List ℕ)) (kept piece t : List ℕ) (ms : List Mark) (v : Option Event) → v ≡ None → IsNext (Ok v) (call_of m new now to kept piece t ms)
-    → IsEnd (call_of m new now to kept piece t ms)
-no-event m new now to kept piece t ms v is h = subst (λ (x : Option Event). IsNext (Ok x) (call_of m new now to kept piece t ms)) is h
+pub no-event : (m new : MachineView) (now to : Option (List ℕ)) (kept piece t : List ℕ) (ms : List Mark) (v : Option Event) → v ≡ None → IsNext (Ok v) (machine_call m new now to kept piece t ms)
+    → IsEnd (machine_call m new now to kept piece t ms)
+no-event m new now to kept piece t ms v is h = subst (λ (x : Option Event). IsNext (Ok x) (machine_call m new now to kept piece t ms)) is h
 
 -- by form alone, whichever keys are asked for
 pub listed-within : (start : ℕ) (limits : Bounds) (m : MachineView) (from old out : Option (List ℕ)) (count : ℕ) → m.depth ≡ limits.depth → m.bytes ≡ limits.bytes

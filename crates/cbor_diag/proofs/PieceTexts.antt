@@ -1,8 +1,8 @@
 -- The texts of what holds no other items.
-use Rattle.std.proofs.Common.{◌≡◌, ℕ, ◌+◌, ◌-◌, ◌*◌, ◌/◌, ◌%◌, ◌<◌, ◌≤◌, Bool, true, false, ◌||◌, cond, List, [], ◌∷◌, ◌++◌, length, take, drop, replicate, flat_map, codes, decimal, Option, Result, refl, sym, ap, ◌∙◌, subst, append_assoc, append-nil, take-append-drop, arith, get_or, eqb, ltb, take_all, get_or-drop, length-drop, take-add}
+use Rattle.std.proofs.Common.{◌≡◌, ℕ, ◌+◌, ◌-◌, ◌*◌, ◌/◌, ◌%◌, ◌<◌, ◌≤◌, Bool, true, false, ◌||◌, cond, List, [], ◌∷◌, ◌++◌, length, take, drop, replicate, flat_map, codes, decimal, Option, Result, refl, sym, ap, ◌∙◌, subst, append_assoc, append-nil, take-append-drop, arith, get_or, eqb, ltb, ne_eqb, take_all, get_or-drop, length-drop, take-add}
+use Rattle.std.proofs.lemmas.Bool.{or_from}
 use Rattle.std.proofs.lemmas.List.{take-replicate, take_more}
 use Rattle.std.proofs.lemmas.List.Concat.{flat_map-append}
-use Rattle.std.proofs.lemmas.Bool.Decides.{nat_tests}
 use Rattle.hex.specs.Hex.{encode_with, encode_lower, lower_digits}
 use Rattle.cbor_head.specs.declared.limits.TheConstants.{MAX_DEPTH}
 use Rattle.cbor_diag.specs.inner.Outbox.{HasPut, HasStopped, Puts}
@@ -14,23 +14,16 @@ use Rattle.cbor_diag.proofs.Putting.{puts-next, puts-then, puts-stops, stops-mor
 pub spaces-front : (level n : ℕ) → n ≡ level → level ≤ MAX_DEPTH → take {A = ℕ} (2 * n) (replicate (2 * MAX_DEPTH) 32) ≡ replicate (2 * level) 32
 spaces-front level n e few = rw e (take-replicate (2 * level) (2 * MAX_DEPTH) 32 (omega arith))
 
-eqb-no : (m n : ℕ) → (m ≡ n → ⊥) → eqb m n ≡ false
-eqb-no m n h = grind (arith, nat_tests)
-
 pub simple-other : (n : ℕ) → (n ≡ 20 → ⊥) → (n ≡ 21 → ⊥) → (n ≡ 22 → ⊥) → (n ≡ 23 → ⊥) → simple_text n ≡ (codes "simple(" ++ decimal n) ++ codes ")"
-simple-other n a b c d = rw (eqb-no n 20 a, eqb-no n 21 b, eqb-no n 22 c, eqb-no n 23 d) refl
+simple-other n a b c d = rw (ne_eqb n 20 a, ne_eqb n 21 b, ne_eqb n 22 c, ne_eqb n 23 d) refl
 
 middle : (p q : Bool) (x y z : List ℕ) → p ≡ false → ((cond p x (cond q y z)) ≡ z → ⊥) → cond p x (cond q y z) ≡ y
 middle true q x y z e h = absurd (cc e)
 middle false true x y z e h = refl
 middle false false x y z e h = absurd (h refl)
 
-neither : (p q : Bool) → p ≡ false → q ≡ false → (p || q) ≡ false
-neither true q e f = absurd (cc e)
-neither false q e f = f
-
 pub escape-other : (b : ℕ) → (b ≡ 34 → ⊥) → (b ≡ 92 → ⊥) → (escaped b ≡ b ∷ [] → ⊥) → escaped b ≡ codes "\\u00" ++ encode_lower (b ∷ [])
-escape-other b p q h = middle (eqb b 34 || eqb b 92) (ltb b 32 || eqb b 127) (92 ∷ b ∷ []) (codes "\\u00" ++ encode_lower (b ∷ [])) (b ∷ []) (neither (eqb b 34) (eqb b 92) (eqb-no b 34 p) (eqb-no b 92 q)) h
+escape-other b p q h = middle (eqb b 34 || eqb b 92) (ltb b 32 || eqb b 127) (92 ∷ b ∷ []) (codes "\\u00" ++ encode_lower (b ∷ [])) (b ∷ []) (or_from (eqb b 34) (eqb b 92) (ne_eqb b 34 p) (ne_eqb b 92 q)) h
 
 -- ---- byte strings
 

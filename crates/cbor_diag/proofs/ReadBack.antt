@@ -1,5 +1,6 @@
 -- A text in either layout is read back as its value, and as far as it goes.
 use Rattle.std.proofs.Common.{◌≡◌, ℕ, zero, suc, ◌+◌, ◌*◌, ◌<◌, ◌≤◌, Bool, true, false, List, [], ◌∷◌, ◌++◌, drop, replicate, flat_map, codes, decimal, inl, inr, eqb, refl, sym, ap, ◌∙◌, subst, append_assoc, ◌↔◌, arith}
+use Rattle.std.proofs.lemmas.Bool.{cond-false}
 use Rattle.hex.specs.Hex.{encode_lower}
 use Rattle.cbor_head.specs.Value as value
 use Rattle.cbor_head.specs.Prelude.{Value, Values, Entries, IsInRange, AreInRange, AreEntriesInRange}
@@ -11,7 +12,7 @@ use Rattle.cbor_diag.specs.declared.layout.Layout.{Layout}
 use Rattle.cbor_diag.specs.declared.layout.Layout.TheVariants.{OneLine, Indented}
 use Rattle.cbor_diag.proofs.Reading.{rest, Pass, Stands, rest-all, first}
 use Rattle.cbor_diag.proofs.Layouts.{one-line, on-lines}
-use Rattle.cbor_diag.proofs.ReadLeaves.{Begins, Read, begins, blank, bytes-back, closes, closes-pairs, got, negative-back, pick-false, read, read_members, read_pairs, simple-back, size, size_all, size_entries, tag-back, tag_joined, text-back, unsigned-back, with-key, with-value}
+use Rattle.cbor_diag.proofs.ReadLeaves.{Begins, Read, begins, blank, bytes-back, closes, closes-pairs, got, negative-back, read, read_members, read_pairs, simple-back, size, size_all, size_entries, tag-back, tag_joined, text-back, unsigned-back, with-key, with-value}
 
 -- ---- between members
 
@@ -36,9 +37,8 @@ blank-gap Indented level true = blank-line (level + 1)
 blank-gap Indented level false = (refl, blank-line (level + 1))
 
 blank-end : (l : Layout) (level : ℕ) (b : Bool) → Pass blank (end l level b)
-blank-end OneLine level b = tt
-blank-end Indented level true = tt
 blank-end Indented level false = blank-line level
+blank-end _ level _ = tt
 
 gap-ends : (l : Layout) (level : ℕ) (xs : List ℕ) → Ends (gap l level false ++ xs)
 gap-ends OneLine level xs = (inl (omega arith), λ e. absurd (omega arith))
@@ -75,7 +75,7 @@ one-more : (k : ℕ) (gs : List ℕ) (v : Value) (vs : Values) (cs others x : Li
     → read_members (suc k) (gs ++ cs) ≡ (value.a_value v vs, x)
 one-more k gs v vs cs others x h b one more =
     ap (closes k) (skipped gs cs h b)
-    ∙ pick-false {A = Values × List ℕ} (eqb (first cs) 93) (value.no_values, drop 1 cs) (value.a_value (read k cs).0 (read_members k (read k cs).1).0, (read_members k (read k cs).1).1)
+    ∙ cond-false {A = Values × List ℕ} (eqb (first cs) 93) (value.no_values, drop 1 cs) (value.a_value (read k cs).0 (read_members k (read k cs).1).0, (read_members k (read k cs).1).1)
     (ap (λ (l : List ℕ). eqb (first l) 93) b.is ∙ b.no_array_end)
     ∙ ap (λ (r : Read). got (value.a_value r.0 (read_members k r.1).0) (read_members k r.1).1) one
     ∙ ap (λ (r : Values × List ℕ). got (value.a_value v r.0) r.1) more
@@ -84,20 +84,14 @@ one-more-pair : (k : ℕ) (gs : List ℕ) (key v : Value) (es : Entries) (cs ds 
     → read_pairs k others ≡ (es, x) → read_pairs (suc k) (gs ++ cs) ≡ (value.entry key v es, x)
 one-more-pair k gs key v es cs ds others x h b one two more =
     ap (closes-pairs k) (skipped gs cs h b)
-    ∙ pick-false {A = Entries × List ℕ} (eqb (first cs) 125) (value.no_entries, drop 1 cs) (with-key k (read k cs)) (ap (λ (l : List ℕ). eqb (first l) 125) b.is ∙ b.no_map_end)
+    ∙ cond-false {A = Entries × List ℕ} (eqb (first cs) 125) (value.no_entries, drop 1 cs) (with-key k (read k cs)) (ap (λ (l : List ℕ). eqb (first l) 125) b.is ∙ b.no_map_end)
     ∙ ap (with-key k) one
     ∙ ap (with-value k key) two
     ∙ ap (λ (r : Entries × List ℕ). got (value.entry key v r.0) r.1) more
 
 nothing : (v : Value) → size v ≤ 0 → ⊥
 nothing (value.unsigned n) s = omega arith
-nothing (value.negative n) s = omega arith
-nothing (value.bytes n) s = omega arith
-nothing (value.text n) s = omega arith
-nothing (value.array n) s = omega arith
-nothing (value.map n) s = omega arith
-nothing (value.tag n v) s = omega arith
-nothing (value.simple n) s = omega arith
+nothing _ s = omega arith
 
 nothing_all : (vs : Values) → size_all vs ≤ 0 → ⊥
 nothing_all value.no_values s = omega arith

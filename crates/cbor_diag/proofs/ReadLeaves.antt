@@ -1,7 +1,7 @@
 -- A reader of texts in either layout, how texts begin, and what it reads of leaves.
-use Rattle.std.proofs.Common.{◌≡◌, ℕ, zero, suc, ◌+◌, ◌-◌, ◌^◌, ◌<◌, ◌≤◌, Bool, true, false, cond, List, [], ◌∷◌, ◌++◌, length, drop, flat_map, codes, decimal, eqb, refl, sym, ap, ◌∙◌, subst, append_assoc, length-append, ◌||◌, arith, eqb-true}
+use Rattle.std.proofs.Common.{◌≡◌, ℕ, zero, suc, ◌+◌, ◌-◌, ◌^◌, ◌<◌, ◌≤◌, Bool, true, false, cond, List, [], ◌∷◌, ◌++◌, length, drop, flat_map, codes, decimal, eqb, refl, sym, ap, ◌∙◌, subst, append_assoc, length-append, ◌||◌, arith, eqb-true, ne_eqb}
+use Rattle.std.proofs.lemmas.Bool.{cond-true, cond-false}
 use Rattle.std.specs.Str.Parse.{digits_value}
-use Rattle.std.proofs.lemmas.Bool.Decides.{nat_tests}
 use Rattle.hex.specs.Hex.{encode_lower, decode_of, is_hex_digit}
 use Rattle.cbor_head.specs.Value as value
 use Rattle.cbor_head.specs.Prelude.{Value, Values, Entries, IsInRange}
@@ -110,9 +110,6 @@ pub record Begins (cs : List ℕ) : Type 0 where
   pub no_array_end : eqb byte 93 ≡ false
   pub no_map_end : eqb byte 125 ≡ false
 
-eqb-no : (m n : ℕ) → (m ≡ n → ⊥) → eqb m n ≡ false
-eqb-no m n h = grind (arith, nat_tests)
-
 digit-begins : (cs : List ℕ) → 0 < length cs → Pass digit cs → (xs : List ℕ) → Begins (cs ++ xs)
 digit-begins [] l h xs = absurd (omega arith)
 digit-begins (c ∷ cs) l h xs =
@@ -121,19 +118,13 @@ digit-begins (c ∷ cs) l h xs =
       byte = c;
       others = cs ++ xs;
       is = refl;
-      no_blank = rw (eqb-no c 44 (λ e. omega (arith, r.0, e)), eqb-no c 32 (λ e. omega (arith, r.0, e)), eqb-no c 10 (λ e. omega (arith, r.0, e))) refl;
-      no_array_end = eqb-no c 93 (λ e. omega (arith, r.1, e));
-      no_map_end = eqb-no c 125 (λ e. omega (arith, r.1, e));
+      no_blank = rw (ne_eqb c 44 (λ e. omega (arith, r.0, e)), ne_eqb c 32 (λ e. omega (arith, r.0, e)), ne_eqb c 10 (λ e. omega (arith, r.0, e))) refl;
+      no_array_end = ne_eqb c 93 (λ e. omega (arith, r.1, e));
+      no_map_end = ne_eqb c 125 (λ e. omega (arith, r.1, e));
     }
 
 literal : (c : ℕ) (cs xs : List ℕ) → blank c ≡ false → eqb c 93 ≡ false → eqb c 125 ≡ false → Begins ((c ∷ cs) ++ xs)
 literal c cs xs a b d = record { byte = c; others = cs ++ xs; is = refl; no_blank = a; no_array_end = b; no_map_end = d }
-
-pick-true : {A : Type 0} (b : Bool) (x y : A) → b ≡ true → cond b x y ≡ x
-pick-true b x y h = rw h refl
-
-pub pick-false : {A : Type 0} (b : Bool) (x y : A) → b ≡ false → cond b x y ≡ y
-pick-false b x y h = rw h refl
 
 by-tests : (P : ℕ → Type 0) (n : ℕ) (p q r s : Bool) → eqb n 20 ≡ p → eqb n 21 ≡ q → eqb n 22 ≡ r → eqb n 23 ≡ s → P 20 → P 21 → P 22 → P 23 → (simple_text n ≡ (codes "simple(" ++ decimal n) ++ codes ")" → P n) → P n
 by-tests P n true q r s e1 e2 e3 e4 a b c d f = subst P (sym (eqb-true n 20 e1)) a
@@ -195,14 +186,14 @@ ends-stand (c ∷ cs) h = no-digit c h.0
 
 ends-open : (x : List ℕ) → Ends x → eqb (first x) 40 ≡ false
 ends-open [] h = refl
-ends-open (c ∷ cs) h = eqb-no c 40 h.1
+ends-open (c ∷ cs) h = ne_eqb c 40 h.1
 
 pub unsigned-back : (k n : ℕ) (x : List ℕ) → n < 2 ^ 64 → Ends x → read (suc k) (decimal n ++ x) ≡ (value.unsigned n, x)
 unsigned-back k n x small h =
     let cs = decimal n ++ x in
     let m = numeral n x (omega arith) (ends-stand x h) in
-    pick-true (digit (first cs)) (numbered cs (read k (drop 1 (behind cs)))) (other cs (read_members k (drop 1 cs)) (read_pairs k (drop 1 cs))) m.begun
-    ∙ pick-false {A = Read} (eqb (first (behind cs)) 40) (value.tag (number cs) (read k (drop 1 (behind cs))).0, drop 1 (read k (drop 1 (behind cs))).1) (value.unsigned (number cs), behind cs)
+    cond-true (digit (first cs)) (numbered cs (read k (drop 1 (behind cs)))) (other cs (read_members k (drop 1 cs)) (read_pairs k (drop 1 cs))) m.begun
+    ∙ cond-false {A = Read} (eqb (first (behind cs)) 40) (value.tag (number cs) (read k (drop 1 (behind cs))).0, drop 1 (read k (drop 1 (behind cs))).1) (value.unsigned (number cs), behind cs)
     (ap (λ (b : List ℕ). eqb (first b) 40) m.behind_is ∙ ends-open x h)
     ∙ ap (λ (j : ℕ). got (value.unsigned j) (behind cs)) m.number_is ∙ ap (got (value.unsigned n)) m.behind_is
 
@@ -237,7 +228,7 @@ tag-back k n v t x small inside =
     let ys = 40 ∷ (t ++ 41 ∷ x) in
     let cs = decimal n ++ ys in
     let m = numeral n ys (omega arith) refl in
-    pick-true (digit (first cs)) (numbered cs (read k (drop 1 (behind cs)))) (other cs (read_members k (drop 1 cs)) (read_pairs k (drop 1 cs))) m.begun
+    cond-true (digit (first cs)) (numbered cs (read k (drop 1 (behind cs)))) (other cs (read_members k (drop 1 cs)) (read_pairs k (drop 1 cs))) m.begun
     ∙ ap (numbered cs) (ap (λ (b : List ℕ). read k (drop 1 b)) m.behind_is ∙ inside)
-    ∙ pick-true {A = Read} (eqb (first (behind cs)) 40) (value.tag (number cs) v, x) (value.unsigned (number cs), behind cs) (ap (λ (b : List ℕ). eqb (first b) 40) m.behind_is)
+    ∙ cond-true {A = Read} (eqb (first (behind cs)) 40) (value.tag (number cs) v, x) (value.unsigned (number cs), behind cs) (ap (λ (b : List ℕ). eqb (first b) 40) m.behind_is)
     ∙ ap (λ (j : ℕ). got (value.tag j v) x) m.number_is

@@ -1,5 +1,6 @@
 -- Texts read back, so that they tell their values. It reads more than texts: only texts matter.
 use Rattle.std.proofs.Common.{◌≡◌, ℕ, zero, suc, ◌/◌, ◌%◌, ◌^◌, ◌<◌, ◌≤◌, Bool, true, false, cond, List, [], ◌∷◌, ◌++◌, length, take, drop, get_or, flat_map, codes, decimal, Result, Ok, Err, is_some, ◌⊎◌, inl, inr, eqb, ltb, refl, ap, ◌∙◌, length-append, arith, lt-ltb, ltb-true, eqb-true}
+use Rattle.std.proofs.lemmas.Bool.{cases_Bool}
 use Rattle.std.specs.List.{AllByRecursion}
 use Rattle.std.specs.Char.{digit_value}
 use Rattle.std.specs.Str.Parse.{digits_value, AllDigits}
@@ -66,12 +67,8 @@ decimals n h = let d = decimal_is_IsNumeral_wide n (omega arith) in record { som
 pub digit-range : (c : ℕ) → digit c ≡ true → (48 ≤ c) × (c ≤ 57)
 digit-range c h = let r = digit_from_value c (ltb-true (digit_value c) 10 h) in (omega (arith, r), omega (arith, r))
 
-cases_bool : (b : Bool) → (b ≡ true) ⊎ (b ≡ false)
-cases_bool true = inl refl
-cases_bool false = inr refl
-
 pub no-digit : (c : ℕ) → (c < 48) ⊎ (57 < c) → digit c ≡ false
-no-digit c h = elim (cases_bool (digit c)) [
+no-digit c h = elim (cases_Bool (digit c)) [
   | inl t ↦ (let r = digit-range c t in elim h [ inl a ↦ absurd (omega arith) | inr a ↦ absurd (omega arith) ])
   | inr f ↦ f
 ]

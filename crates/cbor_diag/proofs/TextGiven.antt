@@ -7,8 +7,9 @@ use Rattle.cbor_head.specs.Prelude.{Spelling, Spellings, SpelledEntries, array, 
 use Rattle.cbor_head.specs.declared.major.Major.{Major}
 use Rattle.cbor_head.specs.declared.major.Major.TheVariants as majors
 use Rattle.cbor_judging.specs.Frame.{with_all, with_entries}
-use Rattle.cbor_judging.specs.Levels.{Level, a_member, a_key, a_value, some_member, some_key, some_value, tagged, item_due, item_full, settle}
+use Rattle.cbor_judging.specs.Levels.{Level, a_member, a_value, some_member, some_key, some_value, tagged, item_due, item_full, settle}
 use Rattle.cbor_judging.specs.Reading.{string_value}
+use Rattle.cbor_walk.proofs.GivenItems.{of-opened}
 use Rattle.cbor_walk.specs.Sink.{Told, IsOpened, IsEndedAs, StandsFull, IsContainerFull, Gives, Opens, Ends, BeginsString, GrowsString, EndsString}
 use Rattle.cbor_diag.specs.Text.{text, texts, pair_texts, joined, escaped}
 use Rattle.cbor_diag.specs.declared.text_sink.Kind.{Kind}
@@ -111,12 +112,9 @@ value-given g u done k s around at =
     (grouped ((u ++ (codes "{" ++ joined ts)) ++ comma (are_none ts)) (text (value_of k)) (codes ": ") (text (value_of s))) at
 
 pub settles : (start g : TextSink) (vs : List Level) (s : Spelling) → IsWithin g (text_to vs ++ text (value_of s)) vs → text_stands start g (settle vs s)
-settles start g [] s at = at
 settles start g (a_member w zero done ∷ vs) s at = (_, _, refl, member-given g (text_to vs) done s _ at)
 settles start g (a_member w (suc left) done ∷ vs) s at = member-given g (text_to vs) done s _ at
 settles start g (some_member done ∷ vs) s at = member-given g (text_to vs) done s _ at
-settles start g (a_key w left done ∷ vs) s at = at
-settles start g (some_key done ∷ vs) s at = at
 settles start g (a_value w zero done k ∷ vs) s at = (_, _, refl, value-given g (text_to vs) done k s _ at)
 settles start g (a_value w (suc left) done k ∷ vs) s at = value-given g (text_to vs) done k s _ at
 settles start g (some_value done k ∷ vs) s at = value-given g (text_to vs) done k s _ at
@@ -126,6 +124,7 @@ settles start g (tagged w n ∷ vs) s at =
     let x = text (value_of s) in
     let is : ((u ++ front) ++ []) ++ x ≡ u ++ (front ++ x) = ap (λ (z : List ℕ). z ++ x) (append-nil (u ++ front)) ∙ append_assoc u front x in
     (front ++ x, an_open kinds.Tag true, refl, record { given = at.given ∙ is; innermost = at.innermost; around = at.around })
+settles start g _ s at = at
 
 pub given : (k : Bool) (v : Value) (y : List ℕ) (old mid new : TextSink) → Reaches k old mid → text v ≡ y → Writes mid new y → Gives TextSink text_stands k v old new
 given k v y old mid new reaches is wrote start d vs s told done e =
@@ -152,12 +151,7 @@ string-ended k t old new wrote start d vs content s at told done e =
 -- ---- containers
 
 level-opened : (u : List ℕ) (m : Major) (i : ℕ) (v : Level) → IsOpened m i v → (u ++ opener m i ≡ text_in u v) × (an_open (kind_of m) true ≡ open_of v)
-level-opened u majors.Array i v (inl (w, left, e)) = (ap (text_in u) (sym e), ap open_of (sym e))
-level-opened u majors.Array i v (inr e) = (ap (text_in u) (sym e), ap open_of (sym e))
-level-opened u majors.Map i v (inl (w, left, e)) = (ap (text_in u) (sym e), ap open_of (sym e))
-level-opened u majors.Map i v (inr e) = (ap (text_in u) (sym e), ap open_of (sym e))
-level-opened u majors.Tag i v (w, e) = (ap (text_in u) (sym e), ap open_of (sym e))
-level-opened u m i v e = absurd e
+level-opened u = of-opened (λ m i v. (u ++ opener m i ≡ text_in u v) × (an_open (kind_of m) true ≡ open_of v)) (λ w left i. (refl, refl)) (λ i. (refl, refl)) (λ w left i. (refl, refl)) (λ i. (refl, refl)) (λ w i. (refl, refl))
 
 pub opened : (k : Bool) (m : Major) (i : ℕ) (old mid new : TextSink) → Reaches k old mid → HasPut (Some mid.shown.now.items) (Some new.shown.now.items) mid.out.now new.out.now (opener m i)
     → new.inner ≡ Some (an_open (kind_of m) true) → new.around.items ≡ mid.around.items ++ option_to_list mid.inner → Opens TextSink text_stands k m i old new

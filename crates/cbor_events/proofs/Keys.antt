@@ -1,5 +1,5 @@
 -- The kind of a key, by its first byte.
-use Rattle.std.proofs.Common.{◌≡◌, ◌≢◌, ℕ, zero, suc, ◌+◌, ◌-◌, ◌*◌, ◌/◌, ◌<◌, ◌≤◌, ◌⊎◌, true, false, inl, inr, List, [], ◌∷◌, ◌++◌, length, take, drop, refl, sym, ap, subst, ◌∙◌, arith, append-nil, length-append, slice_index_or, IsTrue, Option, Some, None, Result, Ok, Err, min}
+use Rattle.std.proofs.Common.{◌≡◌, ◌≢◌, ℕ, zero, ◌+◌, ◌-◌, ◌*◌, ◌/◌, ◌<◌, ◌≤◌, ◌⊎◌, true, false, inl, inr, List, [], ◌∷◌, ◌++◌, length, take, drop, refl, sym, ap, subst, ◌∙◌, arith, append-nil, length-append, slice_index_or, IsTrue, Option, Some, None, Result, Ok, Err, min}
 use Rattle.std.proofs.lemmas.Bool.{cases_lt}
 use Rattle.std.specs.Io.KnownBytes.{Consumes}
 use lib.Seq.{drop-append_seam}
@@ -14,7 +14,7 @@ use Rattle.cbor_grammar.specs.FirstBytes.{is_basic}
 use Rattle.cbor_automaton.specs.Trace.{Mark}
 use Rattle.cbor_automaton.specs.Marks.{count_of}
 use Rattle.cbor_automaton.specs.Bytes.{IsHeadBytes, IsEventBytes}
-use Rattle.cbor_automaton.specs.Automaton.{counted, indefinite_array, indefinite_map, State, start, at_item, in_head, in_simple, in_payload, in_chunks, done, run, reached}
+use Rattle.cbor_automaton.specs.Automaton.{indefinite_map, State, start, at_item, in_head, in_simple, in_payload, run, reached}
 use Rattle.cbor_automaton.specs.declared.event.Event.{Event}
 use Rattle.cbor_automaton.specs.declared.event.EventKind.{EventKind}
 use Rattle.cbor_automaton.specs.declared.event.EventKind.TheVariants as kinds
@@ -77,8 +77,7 @@ high-simple b low f l (inr e) = omega (arith, f, l, e)
 no-simple : (w : Width) (n b : ℕ) (y : List ℕ) → b < 256 → IsEventBytes [] w (kinds.Simple n) (b ∷ y) → IsBasicFirst b → ⊥
 no-simple Direct n b y small h k =
     let f : 224 + n ≡ b = cc (sym h.1.1) in
-    let number = h.1.0.0 in
-    high-simple b n f (elim (cases_lt n 24) [ inl l ↦ omega (arith, l) | inr l ↦ omega (arith, number.1 l, small, f) ]) k
+    high-simple b n f (elim (cases_lt n 24) [ inl l ↦ omega (arith, l) | inr l ↦ omega (arith, h.1.0.0.1 l, small, f) ]) k
 no-simple One n b y small h k = let f : 224 + 24 ≡ b = cc (sym h.1.1) in high-simple b 24 f (omega arith) k
 no-simple Two n b y small h k = let f : 224 + 25 ≡ b = cc (sym h.1.1) in high-simple b 25 f (omega arith) k
 no-simple Four n b y small h k = let f : 224 + 26 ≡ b = cc (sym h.1.1) in high-simple b 26 f (omega arith) k
@@ -91,12 +90,7 @@ basic-kind ms w (kinds.Array n) b y small h k = other-high majors.Array b (omega
 basic-kind ms w (kinds.Map n) b y small h k = other-high majors.Map b (omega arith) (λ x. cc x) (high-of majors.Map w (count_of n) b y (λ x. x) h.1) k
 basic-kind ms w (kinds.Tag n) b y small h k = other-high majors.Tag b (omega arith) (λ x. cc x) (high-of majors.Tag w n b y (λ x. x) h.1) k
 basic-kind ms w (kinds.Simple n) b y small h k = no-simple w n b y small h k
-basic-kind ms w (kinds.Unsigned n) b y small h k = tt
-basic-kind ms w (kinds.Negative n) b y small h k = tt
-basic-kind ms w (kinds.Text n) b y small h k = tt
-basic-kind ms w (kinds.Chunk n) b y small h k = tt
-basic-kind ms w (kinds.Piece n) b y small h k = tt
-basic-kind ms w kinds.End b y small h k = tt
+basic-kind ms w _ b y small h k = tt
 
 -- an event behind what was told, which begins with this byte
 pub given-kind : (e : Event) (old new : MachineView) (t bs : List ℕ) (ms : List Mark) (b : ℕ) → b < 256 → StandsBetween old t ms → IsGiven e new (t ++ b ∷ []) bs ms → IsBasicFirst b → IsBasicKind e.kind
@@ -116,17 +110,11 @@ told-kind e old new t ms b small h g k =
 -- ---- a break tells something, or is refused
 
 no-silent-break : (d : ℕ) (q u : State) → IsClear q → run d q (0xff ∷ []) ≡ reached u [] → ⊥
-no-silent-break d (at_item []) u c e = cc e
-no-silent-break d (at_item (counted n ∷ fs)) u c e = cc e
-no-silent-break d (at_item (indefinite_array ∷ fs)) u c e = cc e
 no-silent-break d (at_item (indefinite_map true ∷ fs)) u c e = cc e
-no-silent-break d (at_item (indefinite_map false ∷ fs)) u c e = cc e
 no-silent-break d (in_head chunk m w k acc fs) u c e = c
 no-silent-break d (in_simple fs) u c e = c
 no-silent-break d (in_payload chunk m zero fs) u c e = cc e
-no-silent-break d (in_payload chunk m (suc n) fs) u c e = cc e
-no-silent-break d (in_chunks m fs) u c e = cc e
-no-silent-break d done u c e = cc e
+no-silent-break d _ u c e = cc e
 
 module _ (old : MachineView) (t : List ℕ) (ms : List Mark) (h : StandsBetween old t ms) where
   clear-here : IsClear (state_of old.inner.position old.inner.frames)

@@ -1,5 +1,5 @@
 -- What one read makes of a call for the next event.
-use Rattle.std.proofs.Common.{◌≡◌, ℕ, zero, suc, ◌<◌, ◌≤◌, ◌⊎◌, inl, inr, append_assoc, List, [], ◌++◌, length, take, drop, refl, sym, subst, ◌∙◌, arith, append-nil, Option, Some, None, Result, Ok, Err}
+use Rattle.std.proofs.Common.{◌≡◌, ℕ, zero, suc, ◌<◌, ◌≤◌, ◌⊎◌, inl, inr, append_assoc, List, [], ◌++◌, length, take, drop, refl, sym, subst, ◌∙◌, arith, append-nil, Option, Some, Result, Ok}
 use Rattle.std.specs.Io.KnownBytes.{Consumes}
 use Rattle.std.proofs.KnownBytes.{Consumes-nil}
 use Rattle.cbor_head.specs.Prelude.{AreBytes}
@@ -44,8 +44,7 @@ none-read from m t ms h = record { bytes = []; consumed = Consumes-nil from; sta
 pub end-answer : (r : Result (Option Event) Refusal) (from to : Option (List ℕ)) (was new : MachineView) (kept buffer t : List ℕ) (ms : List Mark) → IfTold r (λ e. ⊥)
     → IsNext r (machine_call was new from to kept kept t ms) → IsNext r (machine_call was new from to kept (piece_after r kept buffer) t ms)
 end-answer (Ok (Some e)) from to was new kept buffer t ms none h = absurd none
-end-answer (Ok None) from to was new kept buffer t ms none h = h
-end-answer (Err f) from to was new kept buffer t ms none h = h
+end-answer _ from to was new kept buffer t ms none h = h
 
 -- ---- what the machine took, whichever call began
 
@@ -61,8 +60,7 @@ given-on (Ok (Some e)) new t bs ms g =
         bytes = subst (λ (xs : List ℕ). IsEventBytes ms e.width e.kind (drop e.place xs)) same g.1.bytes;
       },
     )
-given-on (Ok None) new t bs ms g = tt
-given-on (Err f) new t bs ms g = tt
+given-on _ new t bs ms g = tt
 
 pub told-given : (e : Event) (old new : MachineView) (want : ℕ) (from to : Option (List ℕ)) (buffer t : List ℕ) (ms : List Mark) → HasTaken (Told e) old new want from to buffer t ms ⊎ HasStopped (Told e) old → IfGiven (Ok (Some e)) new t ms
 told-given e old new want from to buffer t ms (inl h) = (h.bytes, h.taken)

@@ -4,7 +4,7 @@ use Rattle.std.proofs.lemmas.Bool.{cases_lt}
 use Rattle.cbor_head.specs.Prelude.{Holds, shortest, shortest_head, with_argument, AreBytes}
 use Rattle.cbor_head.specs.declared.major.Major.TheVariants.{Array, Map}
 use Rattle.cbor_head.specs.declared.width.Width.{Width}
-use Rattle.cbor_head.specs.declared.width.Width.TheVariants.{Direct, One, Two, Four, Eight, Indefinite}
+use Rattle.cbor_head.specs.declared.width.Width.TheVariants.{Eight, Indefinite}
 use Rattle.cbor_steps.specs.Whole.{IsArgument}
 use Rattle.cbor_judging.specs.RefusedHere.{MayBegin}
 use Rattle.cbor_front.specs.inner.Leaves.{IsShortest, IsLeaf}
@@ -16,12 +16,9 @@ use Rattle.cbor_front.specs.declared.level.Due.TheVariants.{Item, Key}
 -- ---- arguments
 
 below : (w : Width) (n : ℕ) → Holds w n → n < 2 ^ 64
-below Direct n h = omega (arith, h)
-below One n h = omega (arith, h)
-below Two n h = omega (arith, h)
-below Four n h = omega (arith, h)
 below Eight n h = h
 below Indefinite n h = absurd h
+below _ n h = omega (arith, h)
 
 module _ (low : ℕ) (behind : List ℕ) (w : Width) (n : ℕ) (rest : List ℕ) (a : IsArgument low behind w n rest) where
   pub shortest_argument : w ≡ shortest n → IsShortest low behind n rest

@@ -137,19 +137,17 @@ module _ (o : KeyOrder) (d : ℕ) where
 
   pub some-bytes : (low : ℕ) (behind p rest : List ℕ) (n : ℕ) → IsShortest low behind n (p ++ rest) → n ≡ length p → AreBytes p → IsItemThen o d ((64 + low) ∷ behind) rest
   some-bytes low behind p rest n s e b =
-      let range = s.range in
       record {
         item = bytes (shortest (length p)) p;
-        fine = record { spelled = (Holds-shortest (length p) (omega (arith, range, e)), b); within = omega arith; clean = λ at c x. x.1 refl; keyless = λ at c x. x };
+        fine = record { spelled = (Holds-shortest (length p) (omega (arith, s.range, e)), b); within = omega arith; clean = λ at c x. x.1 refl; keyless = λ at c x. x };
         bytes = s.spelled 64 ∙ sym (append_assoc (head Bytes (shortest n) n) p rest) ∙ ap (λ k. (head Bytes (shortest k) k ++ p) ++ rest) e;
       }
 
   pub a-text : (low : ℕ) (behind p rest : List ℕ) (n : ℕ) → IsShortest low behind n (p ++ rest) → n ≡ length p → AreBytes p → IsUtf8 p → IsItemThen o d ((96 + low) ∷ behind) rest
   a-text low behind p rest n s e b u =
-      let range = s.range in
       record {
         item = text (shortest (length p)) p;
-        fine = record { spelled = (Holds-shortest (length p) (omega (arith, range, e)), b); within = omega arith; clean = λ at c x. elim x [ inl y ↦ y.1 refl | inr y ↦ y.1 u ]; keyless = λ at c x. x };
+        fine = record { spelled = (Holds-shortest (length p) (omega (arith, s.range, e)), b); within = omega arith; clean = λ at c x. elim x [ inl y ↦ y.1 refl | inr y ↦ y.1 u ]; keyless = λ at c x. x };
         bytes = s.spelled 96 ∙ sym (append_assoc (head Text (shortest n) n) p rest) ∙ ap (λ k. (head Text (shortest k) k ++ p) ++ rest) e;
       }
 

@@ -1,5 +1,5 @@
 -- Items without members, from their first byte.
-use Rattle.std.proofs.Common.{◌≡◌, ℕ, suc, ◌+◌, ◌-◌, ◌%◌, ◌<◌, ◌≤◌, ◌⊎◌, Bool, true, List, [], ◌∷◌, ◌++◌, length, take, drop, get_or, length-drop, refl, sym, ap, ◌∙◌, subst, inl, inr, arith, IsUtf8, length-take-le, take-append-drop, drop-drop}
+use Rattle.std.proofs.Common.{◌≡◌, ℕ, suc, ◌+◌, ◌-◌, ◌%◌, ◌<◌, ◌≤◌, ◌⊎◌, Bool, true, List, ◌∷◌, ◌++◌, length, take, drop, get_or, length-drop, refl, sym, ap, ◌∙◌, subst, inl, inr, arith, IsUtf8, length-take-le, take-append-drop, drop-drop}
 use Rattle.std.proofs.lemmas.Bool.{cases_lt}
 use Rattle.byteorder.specs.Endian.{big_number}
 use Rattle.cbor_head.specs.Prelude.{AreBytes, Holds, shortest, with_argument}
@@ -37,10 +37,9 @@ module _ (room : Bool) (first : ℕ) (behind : List ℕ) where
   pub leaf-integer : (size : ℕ) → first < 64 → IsShortestHead (first % 32) behind size → IsLeaf room (first ∷ behind) size
   leaf-integer size l h =
       let some = h.some in
-      let inside = h.inside in
       let e : size ≡ suc (size - 1) = omega (arith, some) in
       record {
-        inside = omega (arith, some, inside);
+        inside = omega (arith, some, h.inside);
         item = λ o d r. subst (λ k. IsItemThen o d (first ∷ behind) (drop k (first ∷ behind))) (sym e) (an-integer o d first behind (drop (size - 1) behind) h.number l h.shortest);
       }
 
@@ -121,17 +120,11 @@ module _ (room : Bool) (first : ℕ) (b : List ℕ) (payload end : ℕ) (s : IsS
 
   within : s.count ≤ length s.rest
   within =
-      let fewer = s.fewer in
-      let begins = s.begins in
-      let size = s.size in
-      let inside = s.inside in
-      omega (arith, fewer, begins, size, inside, ap length s.is)
+      omega (arith, s.fewer, s.begins, s.size, s.inside, ap length s.is)
 
   ends : 1 + (length s.behind - length s.rest) + length content ≡ end
   ends =
-      let begins = s.begins in
-      let size = s.size in
-      omega (arith, begins, size, length-take-le s.count s.rest within)
+      omega (arith, s.begins, s.size, length-take-le s.count s.rest within)
 
   back : IsLeaf room (first ∷ s.behind) (1 + (length s.behind - length s.rest) + length content) → IsLeaf room b end
   back l = subst (λ (x : List ℕ). IsLeaf room x end) (sym s.is) (subst (IsLeaf room (first ∷ s.behind)) ends l)
@@ -141,10 +134,8 @@ module _ (room : Bool) (first : ℕ) (b : List ℕ) (payload end : ℕ) (s : IsS
 
   pub short-text : 96 ≤ first → first < 128 → (front : List ℕ) → front ≡ drop payload b → IsUtf8 (take (end - payload) front) → IsLeaf room b end
   short-text l h front is u =
-      let begins = s.begins in
-      let size = s.size in
-      let count : end - payload ≡ s.count = omega (arith, size) in
-      let there : front ≡ s.rest = is ∙ ap (λ (k : ℕ). drop k b) begins ∙ ap (drop (1 + (length s.behind - length s.rest))) s.is ∙ here room first s.behind s.count s.rest s.head s.fewer in
+      let count : end - payload ≡ s.count = omega (arith, s.size) in
+      let there : front ≡ s.rest = is ∙ ap (λ (k : ℕ). drop k b) s.begins ∙ ap (drop (1 + (length s.behind - length s.rest))) s.is ∙ here room first s.behind s.count s.rest s.head s.fewer in
       let text : IsUtf8 content = subst (λ (k : ℕ). IsUtf8 (take k s.rest)) count (subst (λ (x : List ℕ). IsUtf8 (take (end - payload) x)) there u) in
       back (leaf-text room first s.behind s.count s.rest s.head s.fewer content refl within (subst AreBytes s.is all) l h text)
 

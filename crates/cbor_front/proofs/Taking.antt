@@ -1,16 +1,17 @@
 -- What is taken where an item is due, in the cells.
-use Rattle.std.proofs.Common.{◌≡◌, ◌≢◌, ℕ, suc, ◌+◌, ◌-◌, ◌<◌, ◌≤◌, Bool, true, nat_lt, List, [], ◌∷◌, ◌++◌, length, take, drop, refl, sym, ap, ◌∙◌, subst, inl, inr, arith, append_assoc, append-nil, length-drop, reverse, slice_range, ltb-true, ltb-false, length-append}
+use Rattle.std.proofs.Common.{◌≡◌, ℕ, suc, ◌+◌, ◌-◌, ◌<◌, ◌≤◌, Bool, true, nat_lt, List, [], ◌∷◌, ◌++◌, length, take, drop, refl, sym, ap, ◌∙◌, subst, inl, inr, arith, append_assoc, append-nil, length-drop, reverse, slice_range, ltb-true, ltb-false, length-append}
 use Rattle.std.proofs.Math.Seq.{drop-append_seam}
 use Rattle.cbor_head.specs.Prelude.{strict, OfCount, Holds, head, shortest, Bounds, spell, no_spellings, no_entries, HoldsOrIndefinite}
 use Rattle.cbor_head.specs.declared.major.Major.{Major}
 use Rattle.cbor_head.specs.declared.major.Major.TheVariants.{Array, Map, Tag}
 use Rattle.cbor_head.specs.declared.order.KeyOrder.{KeyOrder}
 use Rattle.cbor_head.specs.declared.width.Width.{Width}
-use Rattle.cbor_head.specs.declared.width.Width.TheVariants.{Direct, One, Two, Four, Eight, Indefinite}
+use Rattle.cbor_head.specs.declared.width.Width.TheVariants.{Indefinite}
 use Rattle.cbor_automaton.proofs.Taking.{IsNumbered}
 use Rattle.cbor_keys.specs.Front.{front_of}
 use Rattle.cbor_canonical.proofs.Normal.{Holds-shortest}
 use Rattle.cbor_front.specs.inner.Leaves.{IsLeaf}
+use Rattle.cbor_judging.proofs.Items.{is-definite}
 use Rattle.cbor_judging.proofs.Heads.{open_or, takes}
 use Rattle.cbor_judging.proofs.KindBytes.{head_is_one}
 use Rattle.cbor_judging.proofs.KindFrames.{keeps_start}
@@ -35,19 +36,14 @@ use Rattle.cbor_front.proofs.Stacks.{standing_count, more_cells}
 
 pub cells_count : (input : List ℕ) (ls : List path.Level) (cs : List Level) → AreCells input ls cs → length cs ≡ suc (length ls)
 cells_count input [] (c ∷ []) a = refl
-cells_count input [] [] a = absurd a
-cells_count input [] (c ∷ e ∷ cs) a = absurd a
-cells_count input (l ∷ ls) [] a = absurd a
 cells_count input (l ∷ ls) (c ∷ cs) a = ap suc (cells_count input ls cs a.1)
+cells_count input _ _ a = absurd a
 
 -- ---- a key is due
 
 due_key : (input : List ℕ) (ls : List path.Level) (c : Level) (cs : List Level) → AreCells input ls (c ∷ cs) → IsKeyDueIn ls → c.due ≡ Key
 due_key input (a_key w left done ∷ ls) c cs a h = a.0.1.due
-due_key input (a_member w left done ∷ ls) c cs a h = absurd h
-due_key input (a_value w left done k ∷ ls) c cs a h = absurd h
-due_key input (tagged w n ∷ ls) c cs a h = absurd h
-due_key input [] c cs a h = absurd h
+due_key input _ c cs a h = absurd h
 
 pub key_due : (input : List ℕ) (ls : List path.Level) (c : Level) (cs : List Level) → AreCells input ls (c ∷ cs) → c.due ≡ Key → IsKeyDueIn ls
 key_due input (a_key w left done ∷ ls) c cs a e = tt
@@ -61,14 +57,7 @@ key_due input [] c (x ∷ xs) a e = absurd a
 
 never_long : (o : KeyOrder) (at : ℕ) (m : Major) (w : Width) (n : ℕ) → Holds w n → w ≡ shortest n → Never (OfCount (strict o) at m w n)
 never_long o at m Indefinite n h e c x = h
-never_long o at m Direct n h e c x = x.1 e
-never_long o at m One n h e c x = x.1 e
-never_long o at m Two n h e c x = x.1 e
-never_long o at m Four n h e c x = x.1 e
-never_long o at m Eight n h e c x = x.1 e
-
-definite : (w : Width) (n : ℕ) → Holds w n → w ≢ Indefinite
-definite w n h e = subst (λ (v : Width). Holds v n) e h
+never_long o at m _ n h e c x = x.1 e
 
 from_none : (left : ℕ) → 0 + suc left ≡ suc left
 from_none left = omega arith
@@ -87,9 +76,7 @@ module _ (o : KeyOrder) (limits : Bounds) (input : List ℕ) (cs : List Level) (
   leaf_ends room used leaf fits kept =
       let b = drop at input in
       let i = leaf.item o (limits.depth - length s.ls) (λ e. let l : length s.ls < limits.depth = fits e in omega (arith, l)) in
-      let inside = leaf.inside in
-      let here = s.here in
-      let size : length (spell i.item) ≡ used = omega (arith, ap length i.bytes, length-append (spell i.item) (drop used b), length-drop used b, inside) in
+      let size : length (spell i.item) ≡ used = omega (arith, ap length i.bytes, length-append (spell i.item) (drop used b), length-drop used b, leaf.inside) in
       record {
         ls = s.ls;
         item = i.item;
@@ -98,7 +85,7 @@ module _ (o : KeyOrder) (limits : Bounds) (input : List ℕ) (cs : List Level) (
         are = s.are;
         rest = drop used b;
         bytes = whole_is ∙ ap (λ (x : List ℕ). bytes_before s.ls ++ x) i.bytes ∙ sym (append_assoc (bytes_before s.ls) (spell i.item) (drop used b));
-        here = omega (arith, here, size, length-append (bytes_before s.ls) (spell i.item));
+        here = omega (arith, s.here, size, length-append (bytes_before s.ls) (spell i.item));
       }
 
   -- a container opens, whose head these bytes are
@@ -109,9 +96,8 @@ module _ (o : KeyOrder) (limits : Bounds) (input : List ℕ) (cs : List Level) (
         let b = drop at input in
         let hs = head m w n in
         let fit = kept_front limits (strict o) s.ls hs (drop used b) (subst (KeepsHere limits (strict o) s.ls) e kept) in
-        let before = s.here in
         let size : length hs ≡ used = omega (arith, ap length e, length-append hs (drop used b), length-drop used b, inside) in
-        let here : at + used ≡ length (bytes_before (l ∷ s.ls)) = omega (arith, before, size, ap length is, length-append (bytes_before s.ls) (level_bytes l)) in
+        let here : at + used ≡ length (bytes_before (l ∷ s.ls)) = omega (arith, s.here, size, ap length is, length-append (bytes_before s.ls) (level_bytes l)) in
         record {
           ls = l ∷ s.ls;
           clean = (room, clean, s.clean);
@@ -137,7 +123,7 @@ module _ (o : KeyOrder) (limits : Bounds) (input : List ℕ) (cs : List Level) (
           head_clean = subst (λ (k : ℕ). Never (OfCount (strict o) (length (bytes_before s.ls)) Array w k)) (sym from) (never_long o (length (bytes_before s.ls)) Array w n holds refl);
           clean = λ c x. x;
         })
-        (λ here. ((definite w n holds, refl, refl), s.are))
+        (λ here. ((is-definite w n holds, refl, refl), s.are))
     opener_opens Item left (inr (none, (n, range, e))) =
         let w = shortest n in
         opened (tagged w n) (a_level Item left (at + used)) Tag w n tt (omega (arith, room)) (Holds-shortest n range) e refl (Holds-shortest n range, λ c x. x.1 refl) (λ here. ((refl, none), s.are))
@@ -157,7 +143,7 @@ module _ (o : KeyOrder) (limits : Bounds) (input : List ℕ) (cs : List Level) (
           clean = λ x y. y;
         })
         (λ here. (
-          (definite w n holds, record { due = refl; left = refl; begins = here ∙ length-append (bytes_before s.ls) (level_bytes l); holds = record { is = no_bytes input (at + used); fronted = ap front_of (sym (no_bytes input (at + used))) } }),
+          (is-definite w n holds, record { due = refl; left = refl; begins = here ∙ length-append (bytes_before s.ls) (level_bytes l); holds = record { is = no_bytes input (at + used); fronted = ap front_of (sym (no_bytes input (at + used))) } }),
           s.are,
         ))
     opener_opens Value left h = absurd h

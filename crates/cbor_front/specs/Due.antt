@@ -1,16 +1,14 @@
 -- What is due in an open container.
 use Rattle.std.specs.Prelude.{Bool, true, false}
 use Rattle.cbor_front.specs.declared.level.Due.{Due}
-use Rattle.cbor_front.specs.declared.level.Due.TheVariants.{Item, Key, Value}
+use Rattle.cbor_front.specs.declared.level.Due.TheVariants.{Item, Key}
 
 -- a key is due
 abbrev pub awaits : Due → Bool
 awaits Key = true
-awaits Item = false
-awaits Value = false
+awaits _ = false
 
 -- a key, or its value
 abbrev pub pairs : Due → Bool
 pairs Item = false
-pairs Key = true
-pairs Value = true
+pairs _ = true

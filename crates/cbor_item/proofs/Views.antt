@@ -42,6 +42,5 @@ entries_count-view (p ∷ ps) = ap suc (entries_count-view ps)
 
 pub SameValues-count : (vs ws : Values) → SameValues vs ws → values_count vs ≡ values_count ws
 SameValues-count value.no_values value.no_values h = refl
-SameValues-count value.no_values (value.a_value w ws) h = absurd h
-SameValues-count (value.a_value v vs) value.no_values h = absurd h
 SameValues-count (value.a_value v vs) (value.a_value w ws) h = ap suc (SameValues-count vs ws h.1)
+SameValues-count _ _ h = absurd h

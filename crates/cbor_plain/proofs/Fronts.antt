@@ -25,12 +25,11 @@ pub front-read : (b : Bounds) (from to : Option (List ℕ)) (new : ItemEventsVie
     → IsFrontRead plain b from to v count
 front-read b from to new v count l i keeps e =
     let sized : count ≡ length (spell i.item) = e ∙ i.at.stands.stands.taken in
-    let flat = i.within in
     record {
       read = known from (λ input. IsReadAs b plain input v count)
           (λ input k. subst (IsReadAs b plain input v) (sym sized) (item-read plain b input from to k new v i keeps));
       taken = loses (spell i.item) count from to sized i.taken;
       bounded = subst (λ (w : Value). size w ≤ count) i.value (subst (λ (n : ℕ). size (value_of i.item) ≤ n) (sym sized) (size_bounded i.item));
       sound = subst HasCanonicalBytes i.value
-          (canonical-of i.item i.spelled (omega (arith, i.at.stands.stands.taken, i.at.stands.stands.limited, i.at.bytes, l.1)) i.clean (omega (arith, flat, l.0)));
+          (canonical-of i.item i.spelled (omega (arith, i.at.stands.stands.taken, i.at.stands.stands.limited, i.at.bytes, l.1)) i.clean (omega (arith, i.within, l.0)));
     }

@@ -1,5 +1,6 @@
 -- Sets of the keys of open containers: what an item's parts do to them.
-use Rattle.std.proofs.Common.{◌≡◌, ℕ, ◌<◌, ◌≤◌, ◌⊎◌, ◌↔◌, Bool, true, false, not, List, [], ◌∷◌, ◌++◌, length, refl, sym, ap, ◌∙◌, subst, inl, inr, arith, Vec, Global, map}
+use Rattle.std.proofs.Common.{◌≡◌, ℕ, ◌<◌, ◌≤◌, ◌⊎◌, ◌↔◌, Bool, true, false, not, List, [], ◌∷◌, ◌++◌, length, refl, sym, ap, ◌∙◌, subst, inl, inr, arith, Vec, Global, map, true≢false}
+use Rattle.std.proofs.lemmas.Bool.{not-true, not-false}
 use Rattle.std.specs.Ordering.{nat_cmp}
 use Rattle.std.specs.Cmp.Lexicographic.{slice_cmp}
 use Rattle.std.specs.BTreeSet.{BTreeSet, Updates}
@@ -16,7 +17,7 @@ use Rattle.cbor_plain.specs.inner.HeldKeys.{is_in, IsAmong, HasKeyBytes, IsAdded
 use Rattle.cbor_judging.specs.Levels as levels
 use Rattle.cbor_judging.specs.Levels.{Level, frame}
 use Rattle.cbor_judging.specs.Given.{level_open, opens}
-use Rattle.cbor_plain.proofs.KeySets.{not_both, in_more, opposite}
+use Rattle.cbor_plain.proofs.KeySets.{in_more}
 
 -- ---- one key more in a set
 
@@ -24,24 +25,24 @@ module _ (ks : List (List ℕ)) (b : List ℕ) (set : KeySet) (h : HasKeyBytes s
   pub adds-short : (all : BTreeSet (ArrayVec ℕ)) (v : ArrayVec ℕ) (fresh : Bool) → length v.items ≤ 16 → v.items ≡ b → Updates (λ x y. slice_cmp nat_cmp x.items y.items) set.short all v true
       → fresh ≡ not (is_in (λ x. x.items) set.short v) → IsAdded b ks (record { short = all; long = set.long }) fresh
   adds-short all v true l is u f = (
-    (λ x. not_both (sym ((h.short v l).1 (subst (λ (q : List ℕ). IsAmong q ks) (sym is) x)) ∙ opposite true _ f)),
+    (λ x. true≢false (sym ((h.short v l).1 (subst (λ (q : List ℕ). IsAmong q ks) (sym is) x)) ∙ not-true _ (sym f))),
     record {
       short = λ q m. subst (λ (x : List ℕ). (is_in (λ y. y.items) all q ≡ true) ↔ ((q.items ≡ x) ⊎ IsAmong q.items ks)) is (in_more (λ y. y.items) set.short all v q (IsAmong q.items ks) u (h.short q m));
       long = λ q m. ((λ e. inr ((h.long q m).0 e)), (elim [ inl e ↦ absurd (omega (arith, m, l, ap length e, ap length is)) | inr x ↦ (h.long q m).1 x ]));
     },
   )
-  adds-short all v false l is u f = subst (λ (q : List ℕ). IsAmong q ks) is ((h.short v l).0 (opposite false _ f))
+  adds-short all v false l is u f = subst (λ (q : List ℕ). IsAmong q ks) is ((h.short v l).0 (not-false _ (sym f)))
 
   pub adds-long : (all : BTreeSet (Vec ℕ Global)) (v : Vec ℕ Global) (fresh : Bool) → 16 < length v.items → v.items ≡ b → Updates (λ x y. slice_cmp nat_cmp x.items y.items) set.long all v true
       → fresh ≡ not (is_in (λ x. x.items) set.long v) → IsAdded b ks (record { short = set.short; long = all }) fresh
   adds-long all v true l is u f = (
-    (λ x. not_both (sym ((h.long v l).1 (subst (λ (q : List ℕ). IsAmong q ks) (sym is) x)) ∙ opposite true _ f)),
+    (λ x. true≢false (sym ((h.long v l).1 (subst (λ (q : List ℕ). IsAmong q ks) (sym is) x)) ∙ not-true _ (sym f))),
     record {
       short = λ q m. ((λ e. inr ((h.short q m).0 e)), (elim [ inl e ↦ absurd (omega (arith, m, l, ap length e, ap length is)) | inr x ↦ (h.short q m).1 x ]));
       long = λ q m. subst (λ (x : List ℕ). (is_in (λ y. y.items) all q ≡ true) ↔ ((q.items ≡ x) ⊎ IsAmong q.items ks)) is (in_more (λ y. y.items) set.long all v q (IsAmong q.items ks) u (h.long q m));
     },
   )
-  adds-long all v false l is u f = subst (λ (q : List ℕ). IsAmong q ks) is ((h.long v l).0 (opposite false _ f))
+  adds-long all v false l is u f = subst (λ (q : List ℕ). IsAmong q ks) is ((h.long v l).0 (not-false _ (sym f)))
 
 -- ---- the keys of pairs
 
@@ -69,10 +70,9 @@ same-keys s ks ls e h = record {
 
 pub held-given : (b : List ℕ) (ss : List KeySet) (os : List Open) → AreHeld ss os → AreHeldSoFar ss (give b os)
 held-given b [] [] h = tt
-held-given b [] (c ∷ os) h = absurd h
-held-given b (s ∷ ss) [] h = absurd h
 held-given b (s ∷ ss) (a_key ps k ∷ os) h = (same-keys s (k ∷ pair_keys ps) (pair_keys (ps ++ pair k b ∷ [])) (among-more ps k b) h.0, h.1)
 held-given b (s ∷ ss) (_ ∷ os) h = h
+held-given b _ _ h = absurd h
 
 pub held-closed : (o : KeyOrder) (s : KeySet) (ss : List KeySet) (os : List Open) → AreHeldSoFar (s ∷ ss) os → AreHeldSoFar ss (close o os)
 held-closed o s ss [] h = absurd h
@@ -86,20 +86,18 @@ held-opened _ n s ss os i e h = absurd i
 
 -- no key waits where a break may come
 pub held-broken : (o : KeyOrder) (ss : List KeySet) (ls : List Level) (next : Place) → Ends (map frame ls) next → AreHeld ss (opens o ls) → AreHeldSoFar ss (opens o ls)
-held-broken o ss [] next e h = absurd e
 held-broken o [] (l ∷ ls) next e h = absurd h
 held-broken o (s ∷ ss) (levels.some_member done ∷ ls) next e h = h
 held-broken o (s ∷ ss) (levels.some_key done ∷ ls) next e h = h
-held-broken o (s ∷ ss) (_ ∷ ls) next e h = absurd e
+held-broken o _ _ next e h = absurd e
 
 -- ---- the key that has just come
 
 pub none-waits : (ss : List KeySet) (os : List Open) → ((q : List ℕ) → IsWaitingKey os q → ⊥) → AreHeldSoFar ss os → AreHeld ss os × (IsRepeatedKey os → ⊥)
 none-waits [] [] w h = (tt, (λ x. x))
-none-waits [] (c ∷ os) w h = absurd h
-none-waits (s ∷ ss) [] w h = absurd h
 none-waits (s ∷ ss) (a_key ps k ∷ os) w h = absurd (w k refl)
 none-waits (s ∷ ss) (_ ∷ os) w h = (h, (λ x. x))
+none-waits _ _ w h = absurd h
 
 -- the keys that it is held against
 abbrev pub keys_at_top : List Open → List (List ℕ)
@@ -135,8 +133,7 @@ some-opens o (l ∷ ls) = record { c = level_open o l; rest = opens o ls; are = 
 pub held-popped : (o : KeyOrder) (ss now : List KeySet) (c : Open) (os : List Open) → HasOne os → ((s u : KeySet) (rest : List KeySet) → ss ≡ s ∷ u ∷ rest → now ≡ u ∷ rest) → AreHeldSoFar ss (c ∷ os)
     → AreHeldSoFar now (close o (c ∷ os))
 held-popped o [] now c os more popped h = absurd h
-held-popped o (s ∷ []) now c [] more popped h = absurd (cc more.are)
 held-popped o (s ∷ []) now c (d ∷ os) more popped h = absurd h.1
-held-popped o (s ∷ u ∷ ss) now c [] more popped h = absurd (cc more.are)
 held-popped o (s ∷ u ∷ ss) now c (d ∷ os) more popped h =
     subst (λ (xs : List KeySet). AreHeldSoFar xs (close o (c ∷ d ∷ os))) (sym (popped s u ss refl)) (held-closed o s (u ∷ ss) (c ∷ d ∷ os) h)
+held-popped o _ now c [] more popped h = absurd (cc more.are)

@@ -1,14 +1,11 @@
 -- One more in a set of bytes.
-use Rattle.std.proofs.Common.{ℕ, ◌≡◌, ◌↔◌, ◌⊎◌, Bool, true, false, cond, not, List, refl, sym, ◌∙◌, inl, inr}
+use Rattle.std.proofs.Common.{ℕ, ◌≡◌, ◌↔◌, ◌⊎◌, Bool, true, false, cond, List, refl, sym, ◌∙◌, inl, inr, true≢false}
 use Rattle.std.specs.Ordering.{nat_cmp}
 use Rattle.std.specs.Cmp.Lexicographic.{slice_cmp}
 use Rattle.std.specs.BTreeSet.{BTreeSet, Updates}
 use Rattle.std.proofs.lemmas.Map.Text.{is_eq-slice_cmp}
 use Rattle.std.proofs.lemmas.Slice.Eq.{bytes_eq-Decides}
 use Rattle.cbor_plain.specs.inner.HeldKeys.{is_in}
-
-pub not_both : true ≡ false → ⊥
-not_both e = cc e
 
 -- what is in a set with one more
 pub in_more : {X : Type 0} (bytes : X → List ℕ) (set new : BTreeSet X) (b q : X) (P : Type 0) → Updates (λ x y. slice_cmp nat_cmp (bytes x) (bytes y)) set new b true
@@ -27,14 +24,8 @@ in_more bytes set new b q P u h =
 
     first_there : (x y : Bool) → x ≡ true → cond x true y ≡ true
     first_there true y e = refl
-    first_there false y e = absurd (not_both (sym e))
+    first_there false y e = absurd (true≢false (sym e))
 
     there_too : (x y : Bool) → y ≡ true → cond x true y ≡ true
     there_too true y e = refl
     there_too false y e = e
-
-pub opposite : (x y : Bool) → x ≡ not y → y ≡ not x
-opposite true true e = e
-opposite true false e = refl
-opposite false true e = refl
-opposite false false e = e

@@ -138,7 +138,6 @@ module _ (v : PlainItems) (b : Bounds) (e : ItemEventsView) (t : List ℕ) (h : 
 
       go : (x : Standing) → StandsAt v.builder.order b.depth t h.q v.builder.standing e.machine.open_count x → HasItsPlace v.starts.items x → WhyStopped plain b t from to f
       go (item_due (a_value w left done k ∷ ls)) s place_so =
-          let o = v.builder.order in
           let l = a_key w left done in
           let levels = s.0 in
           let bytes_are : t ≡ bytes_before (l ∷ ls) ++ spell k = s.1 ∙ sym (append_assoc (bytes_before ls) _ (spell k)) in
@@ -148,10 +147,9 @@ module _ (v : PlainItems) (b : Bounds) (e : ItemEventsView) (t : List ℕ) (h : 
           let short : length (bytes_before (l ∷ ls)) + length (spell k) < 2 ^ 63 = omega (arith, few-bytes, ap length bytes_are, size) in
           found (length (bytes_before (l ∷ ls))) (length (spell k))
           (subst (λ (x : List ℕ). IsJudged plain 0 b.depth x (Some (complaint.complaint (length (bytes_before (l ∷ ls)) + length (spell k)) (length (bytes_before (l ∷ ls))) RepeatedKey))) (sym bytes_are)
-          (repeat_found o b.depth ls l done refl (levels.0, (levels.1.0, levels.1.1), levels.2) (omega (arith, short)) (apart.0, (λ x. x), apart.1) k levels.1.2 (omega (arith, short)) (subst IsRepeatedKey s.3 repeated)))
+          (repeat_found v.builder.order b.depth ls l done refl (levels.0, (levels.1.0, levels.1.1), levels.2) (omega (arith, short)) (apart.0, (λ x. x), apart.1) k levels.1.2 (omega (arith, short)) (subst IsRepeatedKey s.3 repeated)))
           (ap length bytes_are ∙ size) (place_is _ (ap (λ (i : ℕ). slice_get v.starts.items i) s.4 ∙ place_so))
       go (item_due (some_value done k ∷ ls)) s place_so =
-          let o = v.builder.order in
           let l = some_key done in
           let levels = s.0 in
           let bytes_are : t ≡ bytes_before (l ∷ ls) ++ spell k = s.1 ∙ sym (append_assoc (bytes_before ls) _ (spell k)) in
@@ -160,7 +158,7 @@ module _ (v : PlainItems) (b : Bounds) (e : ItemEventsView) (t : List ℕ) (h : 
           let short : length (bytes_before (l ∷ ls)) + length (spell k) < 2 ^ 63 = omega (arith, few-bytes, ap length bytes_are, size) in
           found (length (bytes_before (l ∷ ls))) (length (spell k))
           (subst (λ (x : List ℕ). IsJudged plain 0 b.depth x (Some (complaint.complaint (length (bytes_before (l ∷ ls)) + length (spell k)) (length (bytes_before (l ∷ ls))) RepeatedKey))) (sym bytes_are)
-          (repeat_found o b.depth ls l done refl (levels.0, levels.1.0, levels.2) (omega (arith, short)) (apart.0, (λ x. x), apart.1) k levels.1.1 (omega (arith, short)) (subst IsRepeatedKey s.3 repeated)))
+          (repeat_found v.builder.order b.depth ls l done refl (levels.0, levels.1.0, levels.2) (omega (arith, short)) (apart.0, (λ x. x), apart.1) k levels.1.1 (omega (arith, short)) (subst IsRepeatedKey s.3 repeated)))
           (ap length bytes_are ∙ size) (place_is _ (ap (λ (i : ℕ). slice_get v.starts.items i) s.4 ∙ place_so))
       go (item_full ls u) s place_so = absurd (omega (arith, full-count v b e t e.machine.open_count h ls s.2, s.4))
       go _ s place_so = absurd (subst IsRepeatedKey s.3 repeated)

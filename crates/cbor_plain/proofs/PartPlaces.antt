@@ -9,7 +9,7 @@ use Rattle.cbor_head.specs.declared.width.Width.{Width}
 use Rattle.cbor_head.specs.declared.width.Width.TheVariants.{Indefinite}
 use Rattle.cbor_standing.specs.NextEvent.{ItemEventsView}
 use Rattle.cbor_automaton.specs.Marks.{mark_of}
-use Rattle.cbor_automaton.specs.Trace.{Mark, a_head, a_chunk, a_byte, a_break}
+use Rattle.cbor_automaton.specs.Trace.{Mark, a_head, a_break}
 use Rattle.cbor_automaton.specs.declared.event.EventKind.{EventKind}
 use Rattle.cbor_automaton.specs.declared.event.EventKind.TheVariants as kinds
 use Rattle.cbor_judging.specs.Place.{Container, Place, at_item, expect, Ends, IsTaking}
@@ -65,8 +65,7 @@ mark-undecided b fs t x (a_head m w n) next h = go w h
     go Indefinite g = short-undecided b fs t x (omega (arith, ap length g.1))
     go v g = by v (λ e. cc e) g
 mark-undecided b fs t x a_break next h = short-undecided b fs t x (omega (arith, ap length h.0))
-mark-undecided b fs t x (a_chunk w n) next h = absurd h
-mark-undecided b fs t x a_byte next h = absurd h
+mark-undecided b fs t x _ next h = absurd h
 
 -- ---- parts
 

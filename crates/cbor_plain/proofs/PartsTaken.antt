@@ -7,6 +7,7 @@ use Rattle.cbor_head.specs.declared.major.Major.TheVariants as majors
 use Rattle.cbor_head.specs.declared.order.KeyOrder.{KeyOrder}
 use Rattle.cbor_head.specs.declared.reason.Reason.TheVariants.{Memory}
 use Rattle.cbor_head.specs.declared.reason.Refusal.{Refusal}
+use Rattle.cbor_head.specs.declared.width.Width.{Width}
 use Rattle.cbor_head.specs.declared.width.Width.TheVariants.{Indefinite}
 use Rattle.cbor_grammar.proofs.Counts.{holds_fits}
 use Rattle.cbor_grammar.proofs.ReadLaws.{length_spell}
@@ -197,16 +198,16 @@ module _ (v : PlainItems) (b : Bounds) (e : ItemEventsView) (t : List ℕ) (d : 
           leads = λ now height place count same same_place starts same_kinds given step keys. leads now height place count same same_place starts same_kinds given step keys at;
         }
 
-    pub part-taken : (part : Part) → ReadsPart b gs t n.bytes ev.kind after new mid to part → IsPartTaken part
-    part-taken (Leaf m k) r =
+    take-read : (part : Part) → ReadsPart b gs t n.bytes ev.kind after new mid to part → IsPartTaken part
+    take-read (Leaf m k) r =
         item-taken (Leaf m k) (leaf_value m k) r.2 (leaf-holds-none m k) r.1
         (λ g now count h. (h.0 ∙ ap (λ (x : List ℕ). built g.order (give x g.standing)) (leaf-canonical g.order m k r.0), h.1))
         refl
-    part-taken (String is_text content) r =
+    take-read (String is_text content) r =
         item-taken (String is_text content) (string_value is_text content.items) r.2 (string-holds-none is_text content.items) r.1
         (λ g now count h. (h.0 ∙ ap (λ (x : List ℕ). built g.order (give x g.standing)) (string-canonical g.order is_text content.items), h.1))
         refl
-    part-taken (Begin m k) r =
+    take-read (Begin m k) r =
         let item = begins-item ev.kind m k r.0 in
         let begun = mark_begins b.depth gs (mark_of ev.width ev.kind) n.bytes n.next n.taking (no-break ev.width ev.kind item) in
         let keeps = subst (λ (y : List ℕ). KeepsToKinds b plain (y ++ n.bytes)) (sym d.taken)
@@ -222,7 +223,7 @@ module _ (v : PlainItems) (b : Bounds) (e : ItemEventsView) (t : List ℕ) (d : 
         (let k2 = keys.opened (omega (arith, given.1)) in
         subst (λ (ss : List KeySet). AreHeldSoFar ss (opened m k ∷ v.builder.standing)) (sym k2.are) (held-opened m k k2.fresh (sets v) v.builder.standing (begins-container ev.kind m k r.0) k2.none d.held))
         keeps)
-    part-taken Break r =
+    take-read Break r =
         let taking = subst (λ (k : EventKind). IsTaking b.depth (at_item gs) (mark_of ev.width k) n.bytes n.next) r.0 n.taking in
         let broken = keeps-broken b d.ls n.next d.levels (few v b e t d) taking.1 (due-keeps v b e t d) in
         let keeps = subst (λ (y : List ℕ). KeepsToKinds b plain (y ++ n.bytes)) (sym d.taken) (subst (λ (y : List ℕ). KeepsToKinds b plain (bytes_before d.ls ++ y)) (sym taking.0) broken) in
@@ -239,9 +240,17 @@ module _ (v : PlainItems) (b : Bounds) (e : ItemEventsView) (t : List ℕ) (d : 
         (subst (AreHeldSoFar (sets v)) (sym d.standing) (held-broken v.builder.order (sets v) d.ls n.next taking.1 (subst (AreHeld (sets v)) d.standing d.held))))
         keeps)
 
+    -- however it is read
+    abbrev IsReadSo : Part → Type 0
+    IsReadSo part = (fs : List Container) (s x : List ℕ) (w : Width) → IsCome b fs s x after w ev.kind → ReadsPart b fs s x ev.kind after new mid to part
+
+    pub part-taken : (part : Part) → IsReadSo part → IsPartTaken part
+    part-taken part read = take-read part (read gs t n.bytes ev.width came)
+
     -- a part that is refused
-    pub refused-part : (f : Refusal) → BeginsString ev.kind × StopsItem plain b gs t n.bytes mid to f → IsStopped plain b t from to f
-    refused-part f h =
+    pub refused-part : (f : Refusal) → ((fs : List Container) (s x : List ℕ) (w : Width) → IsCome b fs s x after w ev.kind → BeginsString ev.kind × StopsItem plain b fs s x mid to f) → IsStopped plain b t from to f
+    refused-part f refused =
+        let h = refused gs t n.bytes ev.width came in
         let s = subst (λ (y : List ℕ). StopsItem plain b gs y n.bytes mid to f) d.taken h.1 in
         let are = sym s.taken.are in
         refused-item v b e t d from to f
@@ -249,17 +258,14 @@ module _ (v : PlainItems) (b : Bounds) (e : ItemEventsView) (t : List ℕ) (d : 
         (subst IsOfOneHead are (mark-string b.depth gs ev.width ev.kind n.bytes s.taken.more n.next h.0 n.taking))
         (λ asked is_key. subst HasBasicFront are (basic-more n.bytes s.taken.more some-head (first-kind (string-item ev.kind h.0) asked is_key)))
 
-    pub part-fits : (part : Part) → ReadsPart b gs t n.bytes ev.kind after new mid to part → CanTake v.builder part
-    part-fits (Leaf m k) r = let l = leaf-major m k r.0 in (l.0, l.1, takes-part)
-    part-fits (String is_text content) r = takes-part
-    part-fits (Begin m k) r = (begins-container ev.kind m k r.0, takes-part)
-    part-fits Break r = tt
-
-    pub part-fits-tree : (part : Part) → ReadsPart b gs t n.bytes ev.kind after new mid to part → IsForTree part
-    part-fits-tree (Leaf m k) r = r.0
-    part-fits-tree (String is_text content) r = r.0
-    part-fits-tree (Begin m k) r = begins-container ev.kind m k r.0
-    part-fits-tree Break r = tt
+    pub part-fits : (part : Part) → IsReadSo part → CanTake v.builder part × IsForTree part
+    part-fits part read = go part (read gs t n.bytes ev.width came)
+      where
+        go : (part : Part) → ReadsPart b gs t n.bytes ev.kind after new mid to part → CanTake v.builder part × IsForTree part
+        go (Leaf m k) r = let l = leaf-major m k r.0 in ((l.0, l.1, takes-part), r.0)
+        go (String is_text content) r = (takes-part, r.0)
+        go (Begin m k) r = let c = begins-container ev.kind m k r.0 in ((c, takes-part), c)
+        go Break r = (tt, tt)
 
     -- memory is refused behind it
     pub part-no-memory : (part : Part) → IsPartTaken part → (f : Refusal) → f.reason ≡ Memory → f.place ≡ f.read → f.read ≡ new.machine.taken → IsStopped plain b t from to f

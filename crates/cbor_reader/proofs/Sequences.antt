@@ -1,5 +1,5 @@
 -- What a sequence gives of an input.
-use Rattle.std.proofs.Common.{ℕ, ◌+◌, ◌≡◌, ◌≢◌, ◌<◌, Option, Some, None, Result, Ok, Err, List, [], ◌∷◌, ◌++◌, length, take, drop, refl, sym, ap, ◌∙◌, arith, subst, inl, inr, append_assoc, append-nil, take-append-drop, length-append, length-take}
+use Rattle.std.proofs.Common.{ℕ, ◌+◌, ◌≡◌, ◌≢◌, ◌<◌, Option, Some, None, Result, Err, List, [], ◌∷◌, ◌++◌, length, take, drop, refl, sym, ap, ◌∙◌, arith, subst, inl, inr, append_assoc, append-nil, take-append-drop, length-append, length-take}
 use Rattle.std.specs.Option.{IfSome}
 use Rattle.std.specs.List.{AllByRecursion}
 use Rattle.std.proofs.Math.Seq.{drop-append_seam}
@@ -108,15 +108,13 @@ module _ (r : Rules) (b : Bounds) where
 
   pub refused_as : {A : Type 0} → (answer : Option (Result A Refusal)) (from to : Option (List ℕ)) (f : Refusal) → IfSome from (λ input. IsUnread b r input f) → Loses f.read from to
       → IfRefused answer (λ g. (g ≡ f) × ¬ IsBeforeItem f) → IfRefused answer (IsRefused r b from to)
-  refused_as None from to f u l h = tt
-  refused_as (Some (Ok x)) from to f u l h = tt
   refused_as (Some (Err g)) from to f u l h = subst (IsRefused r b from to) (sym h.0) (refused_so from to f u l h.1)
+  refused_as _ from to f u l h = tt
 
 -- what holds of the reader's reason
 pub reason_as : {A : Type 0} → (b : Bounds) (r : Rules) (answer : Option (Result A Refusal)) (f : Refusal) → IsReaderReason b r f.reason → IfRefused answer (λ g. (g ≡ f) × ¬ IsBeforeItem f) → IfRefused answer (λ g. IsReaderReason b r g.reason)
-reason_as b r None f x h = tt
-reason_as b r (Some (Ok given)) f x h = tt
 reason_as b r (Some (Err g)) f x h = subst (λ (y : Refusal). IsReaderReason b r y.reason) (sym h.0) x
+reason_as b r _ f x h = tt
 
 -- ---- a run of calls
 

@@ -3,7 +3,6 @@ use Rattle.std.proofs.Common.{◌≡◌, ℕ, Bool, true, false, List, [], ◌�
 use Rattle.std.proofs.lemmas.Str.{IsUtf8-append}
 use Rattle.cbor_head.specs.Prelude.{Spelling, Spellings, SpelledEntries, array, a_map, value_of, Value}
 use Rattle.cbor_head.specs.declared.major.Major.{Major}
-use Rattle.cbor_head.specs.declared.major.Major.TheVariants as majors
 use Rattle.cbor_item.specs.OpenValues as parts
 use Rattle.cbor_item.specs.OpenValues.{OpenValue, an_array, give, close, TakesValue, MayEnd}
 use Rattle.cbor_builder.specs.declared.repeat.Repeat.{Repeat}
@@ -16,6 +15,7 @@ use Rattle.cbor_plain.proofs.TreeValues.{full-ends, levels-take, may-end, settle
 use Rattle.cbor_view.specs.Seen.{standing}
 use Rattle.cbor_sinks.specs.KeyBytes.{keys_stand, keys_hold}
 use Rattle.cbor_sinks.specs.declared.key_bytes.KeyBytes.{KeyBytes}
+use Rattle.cbor_walk.proofs.GivenItems.{of-opened}
 use Rattle.cbor_walk.specs.Sink.{FindsNoRepeat, FindsRepeat, Told, IsOpened, IsEndedAs, StandsFull, IsItemDue, IsChunkDue, IsContainerFull, Gives, Opens, Ends, Repeats, BeginsString, GrowsString, EndsString}
 
 -- ---- an item
@@ -36,16 +36,7 @@ given k v old new keys views start d ls s (at, told) done e =
 -- ---- containers
 
 level-opened : (m : Major) (n : ℕ) (l : Level) → IsOpened m n l → level_value l ≡ parts.opened m n
-level-opened majors.Array n l (inl (w, left, e)) = ap level_value e
-level-opened majors.Array n l (inr e) = ap level_value e
-level-opened majors.Map n l (inl (w, left, e)) = ap level_value e
-level-opened majors.Map n l (inr e) = ap level_value e
-level-opened majors.Tag n l (w, e) = ap level_value e
-level-opened majors.Unsigned n l e = absurd e
-level-opened majors.Negative n l e = absurd e
-level-opened majors.Bytes n l e = absurd e
-level-opened majors.Text n l e = absurd e
-level-opened majors.Simple n l e = absurd e
+level-opened = of-opened (λ m n l. level_value l ≡ parts.opened m n) (λ w left n. refl) (λ n. refl) (λ w left n. refl) (λ n. refl) (λ w n. refl)
 
 pub opened : (k : Bool) (m : Major) (n : ℕ) (old new : ViewSink) → Opens KeyBytes keys_stand k m n old.keys new.keys → standing new.views ≡ parts.opened m n ∷ standing old.views → Opens ViewSink view_stands k m n old new
 opened k m n old new keys views start ls l (at, told) e =

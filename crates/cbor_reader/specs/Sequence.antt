@@ -1,5 +1,5 @@
 -- Sequences of items (RFC 8742), and what was given of one.
-use Rattle.std.specs.Prelude.{ℕ, ◌≡◌, ◌≢◌, ◌<◌, ◌≤◌, ◌++◌, Bool, true, false, List, [], length, map, flat_map, Option, Some, None, Result, Ok, Err, IfSome, IfOk, IfErr}
+use Rattle.std.specs.Prelude.{ℕ, ◌≡◌, ◌≢◌, ◌<◌, ◌≤◌, ◌++◌, Bool, true, false, List, [], length, map, flat_map, Option, Some, Result, Ok, IfSome, IfOk, IfErr}
 use Rattle.std.specs.List.{AllByRecursion}
 use Rattle.cbor_head.specs.Prelude.{Value, Spelling, IsItem, spell, Rules, Complaint, IsComplaint, Bounds}
 use Rattle.cbor_head.specs.declared.reason.Reason.TheVariants.{Read, Memory}
@@ -50,9 +50,8 @@ IfRefused answer P = IfSome answer (λ given. IfErr given P)
 
 -- whether an answer is the last one: none, or a refusal
 abbrev pub is_last : {A : Type 0} → Option (Result A Refusal) → Bool
-is_last None = true
 is_last (Some (Ok given)) = false
-is_last (Some (Err f)) = true
+is_last _ = true
 
 -- the item at the front of what the reader holds is accepted, with this value, and the reader lost just its bytes
 pub record IsTaken (r : Rules) (b : Bounds) (from to : Option (List ℕ)) (v : Value) : Type 0 where

@@ -15,11 +15,12 @@ use Rattle.cbor_judging.proofs.Given.{full-array, full-map, settled}
 use Rattle.cbor_judging.proofs.Levels.{pairs-shorter}
 use Rattle.cbor_judging.proofs.Valid.{count_bounded}
 use Rattle.cbor_judging.specs.Given.{level_open, opens, StandsAt}
-use Rattle.cbor_judging.specs.Levels.{AreTaken, ArePairsTaken, Level, a_member, a_key, a_value, some_member, some_key, some_value, tagged, AreLevels, bytes_before, Standing, item_due, item_full, item_whole, settle}
+use Rattle.cbor_judging.specs.Levels.{AreTaken, ArePairsTaken, Level, a_member, some_member, some_key, AreLevels, bytes_before, Standing, item_due, item_full, settle}
 use Rattle.cbor_judging.specs.Place.{Place}
 use Rattle.cbor_judging.specs.Reading.{string_major, string_value}
 use Rattle.cbor_sinks.specs.CanonSink.{canon_stands, sink_stands, sink_holds}
 use Rattle.cbor_sinks.specs.declared.canonical_sink.CanonicalSink.{CanonicalSink}
+use Rattle.cbor_walk.proofs.GivenItems.{of-opened}
 use Rattle.cbor_walk.specs.Sink.{FindsNoRepeat, leaf_value, Told, IsOpened, Completes, Fills, IsEndedAs, StandsFull, IsItemDue, Gives, Opens, IsContainerFull, Ends, IsChunkDue, EndsString}
 
 -- ---- the bytes of values
@@ -28,11 +29,7 @@ pub leaf-bytes : (o : KeyOrder) (m : Major) (n : ℕ) → IsLeaf m → canonical
 leaf-bytes o majors.Unsigned n l = refl
 leaf-bytes o majors.Negative n l = refl
 leaf-bytes o majors.Simple n l = refl
-leaf-bytes o majors.Bytes n l = absurd l
-leaf-bytes o majors.Text n l = absurd l
-leaf-bytes o majors.Array n l = absurd l
-leaf-bytes o majors.Map n l = absurd l
-leaf-bytes o majors.Tag n l = absurd l
+leaf-bytes o _ n l = absurd l
 
 pub string-bytes : (o : KeyOrder) (t : Bool) (content : List ℕ) → canonical o (string_value t content) ≡ shortest_head (string_major t) (length content) ++ content
 string-bytes o true content = refl
@@ -41,29 +38,22 @@ string-bytes o false content = refl
 -- ---- an item is due
 
 pub opens-take : (o : KeyOrder) (d : ℕ) (ms : List Level) → AreLevels d ms → length (bytes_before ms) < 2 ^ 63 → TakesPart (opens o ms)
-opens-take o d [] h l = tt
 opens-take o d (a_member w left done ∷ ms) h l = omega (arith, holds_fits w (spellings_count done + suc left) h.1.0)
 opens-take o d (some_member done ∷ ms) h l =
     omega (arith, l, count_bounded done, length-append (bytes_before ms) (head majors.Array Indefinite 0 ++ spell_all done), length-append (head majors.Array Indefinite 0) (spell_all done))
-opens-take o d (a_key w left done ∷ ms) h l = tt
-opens-take o d (a_value w left done k ∷ ms) h l = tt
-opens-take o d (some_key done ∷ ms) h l = tt
-opens-take o d (some_value done k ∷ ms) h l = tt
-opens-take o d (tagged w n ∷ ms) h l = tt
+opens-take o d _ h l = tt
 
 pub takes : (t : Bool) (g : CanonicalSink) → IsItemDue CanonicalSink sink_stands t g → TakesPart g.builder.standing
 takes t g (start, d, ls, k, (at, told)) = subst TakesPart (sym at.1) (opens-take start.builder.order d ls k.levels k.short)
 
 -- it is given
 stood : (start new : Built) (d : ℕ) (t : List ℕ) (q : Place) (os : List parts.Open) (height : ℕ) (st : Standing) → StandsAt start.order d t q os height st → new.order ≡ start.order → new.standing ≡ os → canon_stands start new st
-stood start new d t q os height (item_due ls) h same is = (same, is ∙ h.3)
 stood start new d t q os height (item_full ls s) h same is = (same, (d - length ls, h.3.0, h.3.1, is ∙ h.3.2))
-stood start new d t q os height (item_whole s) h same is = (same, is ∙ h.3)
+stood start new d t q os height _ h same is = (same, is ∙ h.3)
 
 settles : (start new : Built) (d : ℕ) (ls : List Level) (s : Spelling) → Completes d ls s → new.order ≡ start.order → new.standing ≡ parts.give (canonical start.order (value_of s)) (opens start.order ls) → canon_stands start new (settle ls s)
 settles start new d ls s k same is =
-    let short = k.short in
-    stood start new d _ _ _ _ (settle ls s) (settled start.order d ls s k.levels k.taken (omega (arith, short))) same is
+    stood start new d _ _ _ _ (settle ls s) (settled start.order d ls s k.levels k.taken (omega (arith, k.short))) same is
 
 pub given : (t : Bool) (v : Value) (out : List ℕ) (old new : CanonicalSink) → ((o : KeyOrder) → canonical o v ≡ out) → new.builder ≡ built old.builder.order (parts.give out old.builder.standing) → Gives CanonicalSink sink_stands t v old new
 given t v out old new same is start d ls s (at, told) k e =
@@ -74,16 +64,7 @@ given t v out old new same is start d ls s (at, told) k e =
 -- ---- containers
 
 pub level-opened : (o : KeyOrder) (m : Major) (n : ℕ) (l : Level) → IsOpened m n l → level_open o l ≡ parts.opened m n
-level-opened o majors.Array n l (inl (w, left, e)) = ap (level_open o) e
-level-opened o majors.Array n l (inr e) = ap (level_open o) e
-level-opened o majors.Map n l (inl (w, left, e)) = ap (level_open o) e
-level-opened o majors.Map n l (inr e) = ap (level_open o) e
-level-opened o majors.Tag n l (w, e) = ap (level_open o) e
-level-opened o majors.Unsigned n l e = absurd e
-level-opened o majors.Negative n l e = absurd e
-level-opened o majors.Bytes n l e = absurd e
-level-opened o majors.Text n l e = absurd e
-level-opened o majors.Simple n l e = absurd e
+level-opened o = of-opened (λ m n l. level_open o l ≡ parts.opened m n) (λ w left n. refl) (λ n. refl) (λ w left n. refl) (λ n. refl) (λ w n. refl)
 
 pub opened : (t : Bool) (m : Major) (n : ℕ) (old new : CanonicalSink) → new.builder ≡ built old.builder.order (parts.opened m n ∷ old.builder.standing) → Opens CanonicalSink sink_stands t m n old new
 opened t m n old new is start ls l (at, told) k = (
@@ -147,9 +128,8 @@ ends-if trusts (Ok told) t old new x y = λ none. ended t old new (x.0 none) (y 
 ends-if trusts (Err e) t old new x y = tt
 
 pub repeats-if : {E : Type 0} (r : Result (Option Repeat) E) (P Q : Repeat → Type 0) → ((repeat : Repeat) → P repeat → Q repeat) → IfOk r (λ told. IfSome told P) → IfOk r (λ told. IfSome told Q)
-repeats-if (Ok None) P Q f h = tt
 repeats-if (Ok (Some repeat)) P Q f h = f repeat h
-repeats-if (Err e) P Q f h = tt
+repeats-if _ P Q f h = tt
 
 -- ---- strings in chunks
 

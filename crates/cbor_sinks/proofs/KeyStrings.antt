@@ -73,9 +73,8 @@ settled : (k : Bool) (start old new : KeyBytes) (d : ℕ) (ls : List Level) (s :
     → new.builder.standing ≡ with_item old.inside k (canonical old.builder.order (value_of s)) (kept_all old.builder.order ls) → new.inside ≡ old.inside → keys_stand start new (settle ls s)
 settled k start old new d ls s done count told same stands stays =
     let o = old.builder.order in
-    let short = done.short in
     stands-by o new.builder.order _ new.builder.standing _ new.inside (settle ls s) same (stands ∙ (λ i. with_item (count i) (told i) (canonical o (value_of s)) (kept_all o ls))) (stays ∙ count)
-    (item-kept o d ls s done.levels done.taken (omega (arith, short)))
+    (item-kept o d ls s done.levels done.taken (omega (arith, done.short)))
 
 pub ends-kept : (k t : Bool) (old new : KeyBytes) (mid : Built) → is_kept old.inside k ≡ true → mid ≡ built old.builder.order (close old.builder.order old.builder.standing)
     → new.builder ≡ built mid.order (behind_item old.inside mid.standing) → new.inside ≡ old.inside → EndsString KeyBytes keys_stand keys_hold k t old new

@@ -2,7 +2,7 @@
 use Rattle.std.proofs.Common.{◌≡◌, ℕ, Bool, true, false, List, [], ◌∷◌, ◌++◌, map, refl, ap, ◌∙◌, subst, inl, inr, arith}
 use Rattle.std.proofs.lemmas.List.{map-append}
 use Rattle.cbor_builder.specs.Built.{keys_so_far, AreAllDifferent, AreOpenKeysDifferent}
-use Rattle.cbor_canonical.specs.Parts.{Open, plain, an_array, a_map, a_key, a_string, pair}
+use Rattle.cbor_canonical.specs.Parts.{Open, a_map, a_key, a_string, pair}
 use Rattle.cbor_head.specs.Prelude.{Pair}
 use Rattle.cbor_head.specs.declared.order.KeyOrder.{KeyOrder}
 use Rattle.cbor_judging.specs.Given.{level_open, opens}
@@ -30,9 +30,7 @@ kept-apart : (t : Bool) (c : Open) (os : List Open) → AreOpenKeysDifferent (ke
 kept-apart true c os h = h
 kept-apart false (a_map ps) os h = (subst AreAllDifferent (bare-keys ps) h.0, h.1)
 kept-apart false (a_key ps k) os h = (subst AreAllDifferent (waiting-keys ps k) h.0, h.1)
-kept-apart false (plain bs) os h = (no-keys, h)
-kept-apart false (an_array n bs) os h = (no-keys, h)
-kept-apart false (a_string m bs) os h = (no-keys, h)
+kept-apart false _ os h = (no-keys, h)
 
 pub all-apart : (o : KeyOrder) (ls : List Level) → AreOpenKeysDifferent (kept_all o ls) → AreOpenKeysDifferent (opens o ls)
 all-apart o [] h = h

@@ -37,23 +37,20 @@ given : (k : Bool) (v : Value) (b : List ℕ) (old new : KeyBytes) → ((o : Key
     → Gives KeyBytes keys_stand k v old new
 given k v b old new same is stays start d ls s at done e =
     let o = old.builder.order in
-    let short = done.short in
     let bytes : b ≡ canonical o (value_of s) = sym (same o) ∙ ap (canonical o) (sym e) in
     let told : with_item old.inside k b old.builder.standing ≡ with_item (inside ls) (key_due ls) (canonical o (value_of s)) (kept_all o ls) = λ i. with_item (at.0.1 i) (at.1 i) (bytes i) (at.0.0 i) in
     stands-by o new.builder.order _ new.builder.standing _ new.inside (settle ls s) (ap (λ (x : Built). x.order) is)
     (ap (λ (x : Built). x.standing) is ∙ told) (stays ∙ at.0.1)
-    (item-kept o d ls s done.levels done.taken (omega (arith, short)))
+    (item-kept o d ls s done.levels done.taken (omega (arith, done.short)))
 
 -- it is kept, or not
 pub with-kept : (n : ℕ) (k : Bool) (b : List ℕ) (os : List Open) → is_kept n k ≡ true → behind_item n (give b os) ≡ with_item n k b os
-with-kept zero true b os e = refl
 with-kept zero false b os e = absurd (false≢true e)
-with-kept (suc n) k b os e = refl
+with-kept _ _ b os e = refl
 
 pub with-left : (n : ℕ) (k : Bool) (b : List ℕ) (os : List Open) → is_kept n k ≡ false → os ≡ with_item n k b os
-with-left zero true b os e = absurd (false≢true (sym e))
 with-left zero false b os e = refl
-with-left (suc n) k b os e = absurd (false≢true (sym e))
+with-left _ _ b os e = absurd (false≢true (sym e))
 
 pub given-kept : (k : Bool) (v : Value) (b : List ℕ) (old new : KeyBytes) (mid : Built) → ((o : KeyOrder) → canonical o v ≡ b) → is_kept old.inside k ≡ true → mid ≡ built old.builder.order (give b old.builder.standing)
     → new.builder ≡ built mid.order (behind_item old.inside mid.standing) → new.inside ≡ old.inside → Gives KeyBytes keys_stand k v old new

@@ -37,12 +37,7 @@ bare-distinct (p ∷ ps) h = (others-differ p.key ps h.0, bare-distinct ps h.1)
 
 map-key : (o : KeyOrder) (l : Level) → takes_key l ≡ is_open_map (level_open o l)
 map-key o (a_member w left done) = refl
-map-key o (levels.a_key w left done) = refl
-map-key o (a_value w left done k) = refl
-map-key o (some_member done) = refl
-map-key o (some_key done) = refl
-map-key o (some_value done k) = refl
-map-key o (tagged w n) = refl
+map-key o _ = refl
 
 -- by how many containers are open of a key, and whether one is due
 pub in_key-is : (ls : List Level) → in_key ls ≡ is_kept (inside ls) (key_due ls)
@@ -58,12 +53,8 @@ in_key-is (l ∷ ls) = one (takes_key l) (in_key ls)
 -- ---- an item is complete
 
 kept-more : (t : Bool) (n : ℕ) (b : List ℕ) (c : Open) (os : List Open) → with_item (one_more t n) (is_open_map c) b (kept t c os) ≡ kept t (with_member b c) os
-kept-more true n b c os = refl
-kept-more false n b (a_map ps) os = refl
 kept-more false n b (a_key ps k) os = ap (λ (qs : List Pair). a_map qs ∷ os) (sym (bare-more ps k b))
-kept-more false n b (plain bs) os = refl
-kept-more false n b (an_array m bs) os = refl
-kept-more false n b (a_string m bs) os = refl
+kept-more _ n b _ os = refl
 
 abbrev pub innermost : List Open → Open
 innermost [] = plain []
@@ -105,9 +96,7 @@ module _ (o : KeyOrder) where
 bare-takes : (c : Open) (os : List Open) → TakesPart os → TakesPart (bare c os)
 bare-takes (a_map ps) os h = tt
 bare-takes (a_key ps k) os h = tt
-bare-takes (plain bs) os h = h
-bare-takes (an_array n bs) os h = h
-bare-takes (a_string m bs) os h = h
+bare-takes _ os h = h
 
 kept-takes : (t : Bool) (c : Open) (os : List Open) → CanHold c → TakesPart os → TakesPart (kept t c os)
 kept-takes true c os holds h = holds
@@ -121,10 +110,7 @@ takes-part o d (l ∷ ls) h short =
 map-takes : (t : Bool) (n : ℕ) (b : List ℕ) (c : Open) (os : List Open) → one_more t n ≡ 0 → is_kept (one_more t n) (is_open_map c) ≡ true → TakesPart (give b (kept t c os))
 map-takes true n b c os none e = absurd (omega (arith, none))
 map-takes false n b (a_map ps) os none e = tt
-map-takes false n b (a_key ps k) os none e = absurd (false≢true e)
-map-takes false n b (plain bs) os none e = absurd (false≢true e)
-map-takes false n b (an_array m bs) os none e = absurd (false≢true e)
-map-takes false n b (a_string m bs) os none e = absurd (false≢true e)
+map-takes false n b _ os none e = absurd (false≢true e)
 
 -- the value of a key
 pub value-takes : (o : KeyOrder) (ls : List Level) (b : List ℕ) → inside ls ≡ 0 → is_kept (inside ls) (key_due ls) ≡ true → TakesPart (give b (kept_all o ls))
@@ -166,9 +152,7 @@ kept-some : (t : Bool) (c : Open) (os : List Open) → Some os → Some (kept t 
 kept-some true c os h = (c, os, refl)
 kept-some false (a_map ps) os h = (_, os, refl)
 kept-some false (a_key ps k) os h = (_, os, refl)
-kept-some false (plain bs) os h = h
-kept-some false (an_array n bs) os h = h
-kept-some false (a_string m bs) os h = h
+kept-some false _ os h = h
 
 pub some-kept : (o : KeyOrder) (ls : List Level) → Some (kept_all o ls)
 some-kept o [] = (plain [], [], refl)
@@ -181,10 +165,7 @@ kept-ends : (t : Bool) (n : ℕ) (c : Open) (os : List Open) → ((other : Open)
 kept-ends true n c os inner some h = within-some c os inner some
 kept-ends false n c os inner some (inl h) = absurd (omega (arith, h))
 kept-ends false n (a_map ps) os inner some (inr e) = within-some (a_map (bare_pairs ps)) os (λ other cs. tt) some
-kept-ends false n (a_key ps k) os inner some (inr e) = absurd (false≢true e)
-kept-ends false n (plain bs) os inner some (inr e) = absurd (false≢true e)
-kept-ends false n (an_array m bs) os inner some (inr e) = absurd (false≢true e)
-kept-ends false n (a_string m bs) os inner some (inr e) = absurd (false≢true e)
+kept-ends false n _ os inner some (inr e) = absurd (false≢true e)
 
 pub may-end : (o : KeyOrder) (c : Open) (ls : List Level) → ((other : Open) (cs : List Open) → IsInContainer (c ∷ other ∷ cs)) → (0 < one_more (in_key ls) (inside ls)) ⊎ (is_open_map c ≡ true)
     → IsInContainer (kept (in_key ls) c (kept_all o ls))
@@ -197,19 +178,15 @@ pub record IsBehind (o : KeyOrder) (n : ℕ) (k : Bool) (c : Open) (os new : Lis
   pub count : m ≡ n
 
 outside : (n : ℕ) (k : Bool) (b : List ℕ) (os : List Open) → false ≡ is_kept n k → (os ≡ with_item n k b os) × (0 ≡ n)
-outside zero true b os e = absurd (false≢true e)
 outside zero false b os e = (refl, refl)
-outside (suc n) k b os e = absurd (false≢true e)
+outside _ _ b os e = absurd (false≢true e)
 
 -- a map in no key is given up
 pub map-ended : (o : KeyOrder) (t : Bool) (n : ℕ) (k : Bool) (c : Open) (os : List Open) → t ≡ is_kept n k → one_more t n ≡ 0 → is_open_map c ≡ true → HasDistinctKeysSoFar (kept t c os)
     → IsBehind o n k c os (around (kept t c os)) 0
 map-ended o true n k c os is none e h = absurd (omega (arith, none))
 map-ended o false n k (a_map ps) os is none e h = let out = outside n k (closed o (a_map ps)) os is in record { differ = bare-distinct ps h; holds = out.0; count = out.1 }
-map-ended o false n k (a_key ps q) os is none e h = absurd (false≢true e)
-map-ended o false n k (plain bs) os is none e h = absurd (false≢true e)
-map-ended o false n k (an_array m bs) os is none e h = absurd (false≢true e)
-map-ended o false n k (a_string m bs) os is none e h = absurd (false≢true e)
+map-ended o false n k _ os is none e h = absurd (false≢true e)
 
 -- of an array or a tag in no key nothing is kept
 pub other-ended : (o : KeyOrder) (t : Bool) (n : ℕ) (k : Bool) (c : Open) (os : List Open) → t ≡ is_kept n k → one_more t n ≡ 0 → is_open_map c ≡ false → IsInContainer (c ∷ plain [] ∷ [])

@@ -2,7 +2,7 @@
 use Rattle.std.proofs.Common.{◌≡◌, ℕ, suc, Bool, true, false, List, [], ◌∷◌, ◌++◌, refl, ap, ◌∙◌, subst, inl, inr, arith}
 use Rattle.cbor_builder.specs.Built.{keys_so_far, open_maps, AreOpenKeysDifferent, IsFirstRepeat, IsRepeatTold}
 use Rattle.cbor_builder.specs.declared.repeat.Repeat.{Repeat}
-use Rattle.cbor_canonical.specs.Parts.{Open, plain, an_array, a_map, a_key, a_string}
+use Rattle.cbor_canonical.specs.Parts.{Open, a_map, a_key, a_string}
 use Rattle.cbor_canonical.specs.Parts as parts
 use Rattle.cbor_head.specs.Spelling as spelling
 use Rattle.cbor_head.specs.Prelude.{Spelling}
@@ -33,22 +33,12 @@ around-told c os outside pair e (inr (apart, maps, first)) = let f = subst (λ (
 no-map-keys : (c : Open) → IsNoMap c → keys_so_far c ≡ []
 no-map-keys (a_map ps) h = absurd h
 no-map-keys (a_key ps k) h = absurd h
-no-map-keys (plain bs) h = refl
-no-map-keys (an_array n bs) h = refl
-no-map-keys (a_string m bs) h = refl
+no-map-keys _ h = refl
 
 -- a container of which all was given
 held-keys : (o : KeyOrder) (c : Open) (s : Spelling) → IsHeldAs o c s → keys_so_far c ≡ keys_so_far (full_open o s)
 held-keys o c (spelling.a_map w es) h = ap keys_so_far h
-held-keys o c (spelling.array w ss) h = no-map-keys c h
-held-keys o c (spelling.tag w n s) h = no-map-keys c h
-held-keys o c (spelling.unsigned w n) h = no-map-keys c h
-held-keys o c (spelling.negative w n) h = no-map-keys c h
-held-keys o c (spelling.bytes w bs) h = no-map-keys c h
-held-keys o c (spelling.text w bs) h = no-map-keys c h
-held-keys o c (spelling.byte_chunks cs) h = no-map-keys c h
-held-keys o c (spelling.text_chunks cs) h = no-map-keys c h
-held-keys o c (spelling.simple n) h = no-map-keys c h
+held-keys o c _ h = no-map-keys c h
 
 full-told : (o : KeyOrder) (c : Open) (s : Spelling) (os : List Open) (outside pair : ℕ) → IsHeldAs o c s → IsRepeatTold (c ∷ os) outside pair → IsRepeatTold (full_open o s ∷ os) outside pair
 full-told o c s os outside pair held = same-keys-told c (full_open o s) os outside pair (held-keys o c s held)
@@ -58,17 +48,13 @@ full-told o c s os outside pair held = same-keys-told c (full_open o s) os outsi
 more-maps : (c : Open) (os us : List Open) → open_maps os ≡ open_maps us → open_maps (c ∷ os) ≡ open_maps (c ∷ us)
 more-maps (a_map ps) os us e = ap suc e
 more-maps (a_key ps k) os us e = ap suc e
-more-maps (plain bs) os us e = e
-more-maps (an_array n bs) os us e = e
-more-maps (a_string m bs) os us e = e
+more-maps _ os us e = e
 
 kept-maps : (t : Bool) (c : Open) (os us : List Open) → open_maps os ≡ open_maps us → open_maps (kept t c os) ≡ open_maps (c ∷ us)
 kept-maps true c os us e = more-maps c os us e
 kept-maps false (a_map ps) os us e = ap suc e
 kept-maps false (a_key ps k) os us e = ap suc e
-kept-maps false (plain bs) os us e = e
-kept-maps false (an_array n bs) os us e = e
-kept-maps false (a_string m bs) os us e = e
+kept-maps false _ os us e = e
 
 all-maps : (o : KeyOrder) (ls : List Level) → open_maps (kept_all o ls) ≡ open_maps (opens o ls)
 all-maps o [] = refl
@@ -83,9 +69,7 @@ module _ (os us : List Open) (outside pair : ℕ) (told : IsRepeatTold os outsid
   kept-told true c h = more-told c c refl h
   kept-told false (a_map ps) h = more-told (a_map (bare_pairs ps)) (a_map ps) (bare-keys ps) h
   kept-told false (a_key ps k) h = more-told (a_map (bare_pairs ps ++ parts.pair k [] ∷ [])) (a_key ps k) (waiting-keys ps k) h
-  kept-told false (plain bs) h = inl (told h)
-  kept-told false (an_array n bs) h = inl (told h)
-  kept-told false (a_string m bs) h = inl (told h)
+  kept-told false _ h = inl (told h)
 
 all-told : (o : KeyOrder) (ls : List Level) (outside pair : ℕ) → IsRepeatTold (kept_all o ls) outside pair → IsRepeatTold (opens o ls) outside pair
 all-told o [] outside pair h = h

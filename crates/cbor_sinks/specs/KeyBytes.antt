@@ -1,6 +1,6 @@
 -- The canonical bytes of keys alone: what is kept of an item, and what is given of it.
 use Rattle.std.specs.Prelude.{ℕ, zero, suc, ◌≡◌, ◌||◌, ◌++◌, if◌then◌else◌, Bool, true, false, List, [], ◌∷◌}
-use Rattle.cbor_canonical.specs.Parts.{Open, plain, an_array, a_map, a_key, a_string, pair, give}
+use Rattle.cbor_canonical.specs.Parts.{Open, plain, a_map, a_key, a_string, pair, give}
 use Rattle.cbor_head.specs.Prelude.{Pair}
 use Rattle.cbor_head.specs.declared.order.KeyOrder.{KeyOrder}
 use Rattle.cbor_judging.specs.Given.{level_open, IsFull}
@@ -13,10 +13,7 @@ use Rattle.cbor_sinks.specs.declared.key_bytes.KeyBytes.{KeyBytes}
 
 abbrev pub is_open_map : Open → Bool
 is_open_map (a_map ps) = true
-is_open_map (a_key ps k) = false
-is_open_map (plain bs) = false
-is_open_map (an_array n bs) = false
-is_open_map (a_string m bs) = false
+is_open_map _ = false
 
 -- it is a key, or stands in one
 abbrev pub in_key : List Level → Bool
@@ -34,9 +31,7 @@ bare_pairs (p ∷ ps) = pair p.key [] ∷ bare_pairs ps
 abbrev pub bare : Open → List Open → List Open
 bare (a_map ps) os = a_map (bare_pairs ps) ∷ os
 bare (a_key ps k) os = a_map (bare_pairs ps ++ pair k [] ∷ []) ∷ os
-bare (plain bs) os = os
-bare (an_array n bs) os = os
-bare (a_string m bs) os = os
+bare _ os = os
 
 -- of one that stands in a key, or in none
 abbrev pub kept : Bool → Open → List Open → List Open

@@ -12,10 +12,9 @@ use Rattle.cbor_judging.proofs.Frames.{count_with, entries_with, pair_size, spel
 -- ---- what a path of containers counts, the outermost first
 
 abbrev pub one_map : Frame → ℕ
-one_map (a_key w a v b) = 1
-one_map (a_content w a k b) = 1
 one_map (a_member w a b) = 0
 one_map (tagged w n) = 0
+one_map _ = 1
 
 abbrev pub map_count : List Frame → ℕ
 map_count [] = 0

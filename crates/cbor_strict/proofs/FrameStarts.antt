@@ -33,14 +33,13 @@ record MembersStart (a ss : Spellings) (y rest : List ℕ) (m : ℕ) : Type 0 wh
   bytes_are : spell item ++ (spell_all others ++ y) ≡ rest
 
 members_start : (a ss : Spellings) (y rest : List ℕ) (m : ℕ) → AreSpelled a → AreSpelled ss → spellings_count ss ≡ spellings_count a + suc m → spell_all ss ++ y ≡ spell_all a ++ rest → MembersStart a ss y rest m
-members_start no_spellings no_spellings y rest m h i c e = absurd (omega (arith, c))
 members_start no_spellings (a_spelling s ss) y rest m h i c e =
     record { item = s; others = ss; are = refl; spelled = i.0; counts = omega (arith, c); bytes_are = sym (append_assoc (spell s) (spell_all ss) y) ∙ e }
-members_start (a_spelling t a) no_spellings y rest m h i c e = absurd (omega (arith, c))
 members_start (a_spelling t a) (a_spelling s ss) y rest m h i c e =
     let u = unique s t i.0 h.0 (spell_all ss ++ y) (spell_all a ++ rest) (sym (append_assoc (spell s) (spell_all ss) y) ∙ e ∙ append_assoc (spell t) (spell_all a) rest) in
     let k = members_start a ss y rest m h.1 i.1 (omega (arith, c)) u.1 in
     record { item = k.item; others = k.others; are = ap (λ (x : Spelling). a_spelling x ss) u.0 ∙ ap (λ (x : Spellings). a_spelling t x) k.are; spelled = k.spelled; counts = k.counts; bytes_are = k.bytes_are }
+members_start _ no_spellings y rest m h i c e = absurd (omega (arith, c))
 
 record EntriesStart (a es : SpelledEntries) (y rest : List ℕ) (m : ℕ) : Type 0 where
   key : Spelling
@@ -55,10 +54,8 @@ pair_apart : (k v c d : List ℕ) → ((k ++ v) ++ c) ++ d ≡ k ++ (v ++ (c ++ 
 pair_apart k v c d = append_assoc (k ++ v) c d ∙ append_assoc k v (c ++ d)
 
 entries_start : (a es : SpelledEntries) (y rest : List ℕ) (m : ℕ) → AreEntriesSpelled a → AreEntriesSpelled es → entries_count es ≡ entries_count a + suc m → spell_entries es ++ y ≡ spell_entries a ++ rest → EntriesStart a es y rest m
-entries_start no_entries no_entries y rest m h i c e = absurd (omega (arith, c))
 entries_start no_entries (entry k v es) y rest m h i c e =
     record { key = k; content = v; others = es; are = refl; spelled = (i.0, i.1); counts = omega (arith, c); bytes_are = sym (pair_apart (spell k) (spell v) (spell_entries es) y) ∙ e }
-entries_start (entry j u a) no_entries y rest m h i c e = absurd (omega (arith, c))
 entries_start (entry j u a) (entry k v es) y rest m h i c e =
     let x = unique k j i.0 h.0 (spell v ++ (spell_entries es ++ y)) (spell u ++ (spell_entries a ++ rest)) (sym (pair_apart (spell k) (spell v) (spell_entries es) y) ∙ e ∙ pair_apart (spell j) (spell u) (spell_entries a) rest) in
     let z = unique v u i.1 h.1 (spell_entries es ++ y) (spell_entries a ++ rest) x.1 in
@@ -72,6 +69,7 @@ entries_start (entry j u a) (entry k v es) y rest m h i c e =
       counts = o.counts;
       bytes_are = o.bytes_are;
     }
+entries_start _ no_entries y rest m h i c e = absurd (omega (arith, c))
 
 -- the same container, with its last items unknown
 pub record StartsIn (f : Frame) (s : Spelling) (x rest : List ℕ) : Type 0 where

@@ -1,5 +1,6 @@
 -- What is kept of the keys where a container ends, and those around it.
 use Rattle.std.proofs.Common.{◌≡◌, ◌≢◌, ℕ, suc, ◌+◌, ◌<◌, ◌≤◌, Bool, true, false, List, [], ◌∷◌, ◌++◌, length, take, refl, sym, ap, ◌∙◌, subst, inl, inr, arith, append-nil, if◌then◌else◌, length-append}
+use Rattle.std.proofs.lemmas.Bool.{cases_Bool}
 use Rattle.std.proofs.Math.Seq.{take-append_seam}
 use Rattle.cbor_head.specs.Prelude.{head, Spelling, SpelledEntries, no_spellings, no_entries, entry, spell, spell_entries, entries_count}
 use Rattle.cbor_head.specs.declared.major.Major.TheVariants.{Map}
@@ -12,7 +13,7 @@ use Rattle.cbor_judging.specs.Frame.{Frame, a_member, a_key, a_content, tagged, 
 use Rattle.cbor_strict.specs.inner.LastKeys.{AreDefinite, still_open, ended_item, KeysView, is_key, stands_in_key, keys_around, due_of, levels_of, complete_key, kept_bytes, kept_before, span, spans_in, spans_of, IsKept, IsFull}
 use Rattle.cbor_judging.proofs.Members.{closes}
 use Rattle.cbor_judging.proofs.Frames.{spell_plug}
-use Rattle.cbor_strict.proofs.KeptKeys.{either_way, in_some_key, in_no_key, few_keys, kept_if_in, kept_if_out, kept_out}
+use Rattle.cbor_strict.proofs.KeptKeys.{in_some_key, in_no_key, few_keys, kept_if_in, kept_if_out, kept_out}
 
 -- ---- one closes
 
@@ -74,7 +75,7 @@ pub closes_other : (k : KeysView) (f : Frame) (fs : List Frame) (s : Spelling) (
 closes_other k f fs s ls l full h e d = go f full h (sym (top_level k f fs (spell s) h ls l e).1 ∙ d)
   where
     same : (f : Frame) → IsFull f → complete_key f ≡ [] → kept_bytes (f ∷ fs) (spell s) ≡ kept_bytes fs (spell (plug f s))
-    same f full none = elim (either_way (stands_in_key fs)) [
+    same f full none = elim (cases_Bool (stands_in_key fs)) [
       | inl i ↦ closed_in f fs s full i
       | inr i ↦ closed_out f fs s full i ∙ ap (λ (x : List ℕ). kept_bytes fs [] ++ (x ++ [])) none ∙ append-nil (kept_bytes fs []) ∙ kept_out fs [] (spell (plug f s)) i
     ]

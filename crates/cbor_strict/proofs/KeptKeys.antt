@@ -1,19 +1,16 @@
 -- What is kept of a path of open containers for the order of keys: within a key, and where a container opens.
-use Rattle.std.proofs.Common.{◌≡◌, ℕ, zero, suc, ◌+◌, ◌<◌, ◌≤◌, ◌⊎◌, Bool, true, false, true≢false, List, [], ◌∷◌, ◌++◌, length, refl, sym, ap, ◌∙◌, inl, inr, arith, append_assoc, append-nil, if◌then◌else◌, ◌↔◌, IsTrue, Result, Ok, Err, OnOk, is_ok, length-append}
+use Rattle.std.proofs.Common.{◌≡◌, ℕ, zero, suc, ◌+◌, ◌<◌, ◌≤◌, Bool, true, false, true≢false, List, [], ◌∷◌, ◌++◌, length, refl, sym, ap, ◌∙◌, inl, inr, arith, append_assoc, append-nil, if◌then◌else◌, ◌↔◌, IsTrue, Result, Ok, Err, OnOk, is_ok, length-append}
+use Rattle.std.proofs.lemmas.Bool.{cases_Bool}
 use Rattle.cbor_head.specs.Prelude.{head, Spelling, SpelledEntries, no_entries, entries_count}
 use Rattle.cbor_head.specs.declared.major.Major.TheVariants.{Map}
 use Rattle.cbor_head.specs.declared.width.Width.{Width}
 use Rattle.cbor_strict.specs.declared.last_keys.Due.{Due}
 use Rattle.cbor_strict.specs.declared.last_keys.Due.TheVariants.{Member, Key}
 use Rattle.cbor_strict.specs.declared.last_keys.Span.{Span}
-use Rattle.cbor_judging.specs.Frame.{Frame, a_member, a_key, a_content, tagged, before}
+use Rattle.cbor_judging.specs.Frame.{Frame, a_member, a_key, tagged, before}
 use Rattle.cbor_strict.specs.inner.LastKeys.{KeysView, is_key, stands_in_key, keys_around, due_of, levels_of, complete_key, kept_bytes, kept_before, span, spans_of, IsKept}
 
 -- ---- in a key, or not
-
-pub either_way : (b : Bool) → (b ≡ true) ⊎ (b ≡ false)
-either_way true = inl refl
-either_way false = inr refl
 
 pub in_some_key : (fs : List Frame) → 0 < keys_around fs → stands_in_key fs ≡ true
 in_some_key [] l = absurd (omega (arith, l))
@@ -47,11 +44,11 @@ stands_around f fs e = ap (λ (b : Bool). if b then true else stands_in_key fs) 
 -- what is kept of more bytes
 pub kept_in_key : (fs : List Frame) (p q : List ℕ) → stands_in_key fs ≡ true → kept_bytes fs (p ++ q) ≡ kept_bytes fs p ++ q
 kept_in_key [] p q e = absurd (true≢false (sym e))
-kept_in_key (f ∷ fs) p q e = elim (either_way (stands_in_key fs)) [
+kept_in_key (f ∷ fs) p q e = elim (cases_Bool (stands_in_key fs)) [
   | inl i ↦
       kept_if_in f fs (p ++ q) i ∙ ap (kept_bytes fs) (sym (append_assoc (before f) p q)) ∙ kept_in_key fs (before f ++ p) q i
       ∙ ap (λ (x : List ℕ). x ++ q) (sym (kept_if_in f fs p i))
-  | inr i ↦ elim (either_way (is_key f)) [
+  | inr i ↦ elim (cases_Bool (is_key f)) [
     | inl k ↦
         kept_if_out f fs (p ++ q) i
         ∙ ap (λ (b : Bool). kept_bytes fs [] ++ (complete_key f ++ (if b then p ++ q else []))) k
@@ -64,7 +61,7 @@ kept_in_key (f ∷ fs) p q e = elim (either_way (stands_in_key fs)) [
 
 pub kept_out : (fs : List Frame) (p q : List ℕ) → stands_in_key fs ≡ false → kept_bytes fs p ≡ kept_bytes fs q
 kept_out [] p q e = refl
-kept_out (f ∷ fs) p q e = elim (either_way (is_key f)) [
+kept_out (f ∷ fs) p q e = elim (cases_Bool (is_key f)) [
   | inl k ↦ absurd (true≢false (sym (ap (λ (b : Bool). if b then true else stands_in_key fs) k) ∙ e))
   | inr k ↦
       let i : stands_in_key fs ≡ false = sym (stands_around f fs k) ∙ e in
@@ -105,7 +102,7 @@ opens_other k f fs p d h e = go f d e
     level f d = ap (λ (ls : List Due). ls ++ Member ∷ []) h.levels ∙ ap (λ (x : Due). levels_of fs ++ x ∷ []) (sym d)
 
     same : (f : Frame) → complete_key f ++ (if is_key f then [] else []) ≡ [] → before f ≡ p → kept_bytes fs p ≡ kept_bytes (f ∷ fs) []
-    same f none e = elim (either_way (stands_in_key fs)) [
+    same f none e = elim (cases_Bool (stands_in_key fs)) [
       | inl i ↦ ap (kept_bytes fs) (sym e ∙ sym (append-nil (before f))) ∙ sym (kept_if_in f fs [] i)
       | inr i ↦ kept_out fs p [] i ∙ sym (append-nil (kept_bytes fs [])) ∙ ap (λ (x : List ℕ). kept_bytes fs [] ++ x) (sym none) ∙ sym (kept_if_out f fs [] i)
     ]
@@ -113,8 +110,7 @@ opens_other k f fs p d h e = go f d e
     go : (f : Frame) → due_of f ≡ Member → before f ≡ p → IsKept (record k { levels = k.levels ++ Member ∷ [] }) (f ∷ fs) []
     go (a_member w a b) d e = record { levels = level (a_member w a b) d; spans = h.spans ∙ sym (append-nil (spans_of fs)); bytes = h.bytes ∙ same (a_member w a b) refl e; open_keys = h.open_keys }
     go (tagged w n) d e = record { levels = level (tagged w n) d; spans = h.spans ∙ sym (append-nil (spans_of fs)); bytes = h.bytes ∙ same (tagged w n) refl e; open_keys = h.open_keys }
-    go (a_key w a v b) d e = absurd (cc d)
-    go (a_content w a l b) d e = absurd (cc d)
+    go _ d e = absurd (cc d)
 
 -- a map
 pub opens_map : (k : KeysView) (w : Width) (v : Spelling) (b : SpelledEntries) (fs : List Frame) (p : List ℕ) (here : ℕ) → IsKept k fs p → before (a_key w no_entries v b) ≡ p → here ≡ length k.bytes
@@ -139,7 +135,7 @@ opens_map k w v b fs p here h e g = record {
     at = g ∙ ap length h.bytes
 
     place : span here here here ≡ span (kept_before fs + (if stands_in_key fs then length hd + 0 else 0)) (kept_before fs + (if stands_in_key fs then length hd + 0 else 0) + 0) (kept_before fs + (if stands_in_key fs then length (hd ++ []) else 0))
-    place = elim (either_way (stands_in_key fs)) [
+    place = elim (cases_Bool (stands_in_key fs)) [
       | inl i ↦
           let there : here ≡ kept_before fs + (length hd + 0) = omega (arith, at, kept_size fs p i, size) in
           let there2 : here ≡ kept_before fs + (length hd + 0) + 0 = omega (arith, there) in
@@ -154,7 +150,7 @@ opens_map k w v b fs p here h e g = record {
     ]
 
     same : kept_bytes fs p ≡ kept_bytes (f ∷ fs) []
-    same = elim (either_way (stands_in_key fs)) [
+    same = elim (cases_Bool (stands_in_key fs)) [
       | inl i ↦ ap (kept_bytes fs) (sym e ∙ sym (append-nil (before f))) ∙ sym (kept_if_in f fs [] i)
       | inr i ↦ kept_out fs p [] i ∙ sym (append-nil (kept_bytes fs [])) ∙ sym (kept_if_out f fs [] i)
     ]

@@ -1,5 +1,6 @@
 -- What is kept of the keys of a map as its keys and values end.
 use Rattle.std.proofs.Common.{◌≡◌, ℕ, suc, ◌+◌, ◌-◌, ◌<◌, ◌≤◌, Bool, true, false, List, [], ◌∷◌, ◌++◌, length, take, drop, refl, sym, ap, ◌∙◌, inl, inr, arith, append_assoc, append-nil, if◌then◌else◌, slice_index_or, slice_set, length-append}
+use Rattle.std.proofs.lemmas.Bool.{cases_Bool}
 use Rattle.std.proofs.lemmas.List.{get_or_push}
 use Rattle.std.proofs.Math.Seq.{take-append_seam, drop-append_seam, set-append_seam}
 use Rattle.cbor_head.specs.Prelude.{head, Spelling, SpelledEntries, no_entries, entry, spell, spell_entries, entries_count}
@@ -12,7 +13,7 @@ use Rattle.cbor_strict.specs.inner.LastKeys.{KeysView, stands_in_key, keys_aroun
 use Rattle.cbor_judging.specs.LastKey.{last_key}
 use Rattle.cbor_judging.proofs.OpenSteps.{content_before, pair_count}
 use Rattle.cbor_judging.proofs.LastKey.{last_key_with}
-use Rattle.cbor_strict.proofs.KeptKeys.{either_way, in_some_key, in_no_key, kept_if_in, kept_if_out, kept_in_key, kept_size}
+use Rattle.cbor_strict.proofs.KeptKeys.{in_some_key, in_no_key, kept_if_in, kept_if_out, kept_in_key, kept_size}
 use Rattle.cbor_strict.proofs.KeptEnds.{span_is}
 
 -- ---- keys
@@ -128,7 +129,7 @@ module _ (k : KeysView) (w : Width) (a : SpelledEntries) (v : Spelling) (b : Spe
       }
 
   key_places : KeyPlaces k.bytes (last_key a) (spell s) sp
-  key_places = elim (either_way (stands_in_key fs)) [ inl i ↦ places_in i | inr i ↦ places_out i ]
+  key_places = elim (cases_Bool (stands_in_key fs)) [ inl i ↦ places_in i | inr i ↦ places_out i ]
 
   pub key_bounds : (sp.from ≤ sp.to) × (sp.to ≤ sp.next) × (sp.next + length (spell s) ≡ length k.bytes)
   key_bounds = places_bounds k.bytes (last_key a) (spell s) sp key_places
@@ -155,8 +156,7 @@ module _ (k : KeysView) (w : Width) (a : SpelledEntries) (v : Spelling) (b : Spe
       let so : keys ≡ keys_around fs = omega (arith, less, h.open_keys) in
       let i : stands_in_key fs ≡ true = in_some_key fs (omega (arith, so, inside)) in
       let from : sp.next ≡ kept_before fs + length (hd ++ spell_entries a) = ap (λ (y : Span). y.next) (span_so ∙ ap sp_of i) in
-      let all = key_bounds.2 in
-      let to : length k.bytes ≡ kept_before fs + length (hd ++ spell_entries a) + length (spell s) = omega (arith, all, from) in
+      let to : length k.bytes ≡ kept_before fs + length (hd ++ spell_entries a) + length (spell s) = omega (arith, key_bounds.2, from) in
       record {
         levels = levels_put;
         spans = spans_put true sp.next (length k.bytes) i (span_is sp.next (length k.bytes) (length k.bytes) _ _ _ from to to);
@@ -247,10 +247,10 @@ module _ (k : KeysView) (w : Width) (a : SpelledEntries) (key s n m : Spelling) 
       span_is sp.from sp.to (length k.bytes) _ _ _ (ap (λ (y : Span). y.from) is) (ap (λ (y : Span). y.to) is ∙ ap (λ (y : List ℕ). kept_before fs + 0 + length y) (sym last_so)) all
 
   span_put : span sp.from sp.to (length k.bytes) ≡ new_span (stands_in_key fs)
-  span_put = elim (either_way (stands_in_key fs)) [ inl i ↦ span_in i ∙ ap new_span (sym i) | inr i ↦ span_out i ∙ ap new_span (sym i) ]
+  span_put = elim (cases_Bool (stands_in_key fs)) [ inl i ↦ span_in i ∙ ap new_span (sym i) | inr i ↦ span_out i ∙ ap new_span (sym i) ]
 
   bytes_put : kept_bytes (old_frame ∷ fs) (spell s) ≡ kept_bytes (new_frame ∷ fs) []
-  bytes_put = elim (either_way (stands_in_key fs)) [
+  bytes_put = elim (cases_Bool (stands_in_key fs)) [
     | inl i ↦ kept_if_in old_frame fs (spell s) i ∙ ap (kept_bytes fs) (sym bytes_so ∙ sym (append-nil (before new_frame))) ∙ sym (kept_if_in new_frame fs [] i)
     | inr i ↦ kept_if_out old_frame fs (spell s) i ∙ ap (λ (y : List ℕ). kept_bytes fs [] ++ (y ++ [])) (sym last_so) ∙ sym (kept_if_out new_frame fs [] i)
   ]

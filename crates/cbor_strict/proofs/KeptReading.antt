@@ -1,6 +1,6 @@
 -- What the strict reader keeps, by the items that start with the bytes it read.
 use Rattle.std.proofs.Common.{◌≡◌, ◌≢◌, ℕ, zero, suc, ◌+◌, ◌-◌, ◌<◌, ◌≤◌, Bool, true, false, true≢false, List, [], ◌∷◌, ◌++◌, length, refl, sym, ap, ◌∙◌, subst, inl, inr, arith, append_assoc, append-nil, nat_lt, if◌then◌else◌, length-append, lt-ltb}
-use Rattle.std.proofs.lemmas.Bool.{lt-leb}
+use Rattle.std.proofs.lemmas.Bool.{lt-leb, cases_Bool}
 use Rattle.cbor_head.specs.Prelude.{head, Holds, Bounds, Spelling, Spellings, SpelledEntries, bytes, text, array, a_map, tag, no_spellings, a_spelling, no_entries, entry, spell, spell_entries, spellings_count, entries_count, IsSpelled, strict, OfCount}
 use Rattle.cbor_head.specs.Complaint as complaint
 use Rattle.cbor_head.specs.Laws.{StartsWith}
@@ -26,7 +26,7 @@ use Rattle.cbor_strict.specs.inner.StrictEvents.{IsLittle}
 use Rattle.cbor_judging.specs.Judged.{Never}
 use Rattle.cbor_strict.proofs.KeptCounts.{Counts, AreAround, path_counts, maps_past, keys_past}
 use Rattle.cbor_strict.proofs.FrameCounts.{one_map, map_count, keys_size}
-use Rattle.cbor_strict.proofs.KeptKeys.{either_way, kept_if_in, kept_if_out}
+use Rattle.cbor_strict.proofs.KeptKeys.{kept_if_in, kept_if_out}
 use Rattle.cbor_strict.proofs.KeptEnds.{kept_levels, kept_spans}
 use Rattle.cbor_judging.proofs.Standing.{open-is}
 use Rattle.cbor_strict.proofs.OpenEnds.{frames_length}
@@ -134,7 +134,7 @@ size_if _ p = refl
 
 kept_counted : (fs : List Frame) (p : List ℕ) → length (kept_bytes fs p) ≡ keys_size (from_outside fs) (length p)
 kept_counted [] p = refl
-kept_counted (f ∷ fs) p = elim (either_way (stands_in_key fs)) [
+kept_counted (f ∷ fs) p = elim (cases_Bool (stands_in_key fs)) [
   | inl i ↦
       ap length (kept_if_in f fs p i) ∙ kept_counted fs (before f ++ p) ∙ ap (keys_size (from_outside fs)) (length-append (before f) p)
       ∙ sym (snoc_in (from_outside fs) f (length p) (key_outside fs ∙ i))
@@ -178,10 +178,8 @@ stands_counted v b e t (inl h) s i =
     (append-nil (spell s) ∙ i.1.bytes_are ∙ ap (λ (x : List ℕ). x ++ i.0) (h.taken ∙ sym none)))
 stands_counted v b e t (inr (inl h)) s i =
     let p = head (string_major v.is_text) h.w h.n ++ h.q in
-    let sum = h.count in
-    let some = h.some in
     counted_by v h.fs p t s h.kept h.taken
-    (path_counts (from_outside h.fs) p (around_path v.order h.around.are.left (from_outside h.fs) 0 h.around.are.path h.around.are.closed) (in_string v.is_text h.w h.n h.q h.holds (omega (arith, sum, some))) s [] i.0 i.1.spelled
+    (path_counts (from_outside h.fs) p (around_path v.order h.around.are.left (from_outside h.fs) 0 h.around.are.path h.around.are.closed) (in_string v.is_text h.w h.n h.q h.holds (omega (arith, h.count, h.some))) s [] i.0 i.1.spelled
     (append-nil (spell s) ∙ i.1.bytes_are ∙ ap (λ (x : List ℕ). x ++ i.0) h.taken))
 stands_counted v b e t (inr (inr h)) s i =
     let same : s ≡ h.item = (unique s h.item i.1.spelled h.spelled [] i.0 (append-nil (spell s) ∙ i.1.bytes_are ∙ ap (λ (x : List ℕ). x ++ i.0) h.taken)).0 in
@@ -194,10 +192,9 @@ last_within (entry k v no_entries) = omega (arith, length-append (spell k ++ spe
 last_within (entry k v (entry l w es)) = omega (arith, last_within (entry l w es), length-append (spell k ++ spell v) (spell_entries (entry l w es)))
 
 key_within : (f : Frame) → length (complete_key f) ≤ length (before f)
-key_within (a_member w a b) = omega arith
 key_within (a_key w a v b) = omega (arith, last_within a, length-append (head Map w (entries_count a + suc (entries_count b))) (spell_entries a))
 key_within (a_content w a k b) = omega (arith, length-append (head Map w (entries_count a + suc (entries_count b)) ++ spell_entries a) (spell k))
-key_within (tagged w n) = omega arith
+key_within _ = omega arith
 
 keys_within : (gs : List Frame) (n : ℕ) → keys_size gs n ≤ length (before_all gs) + n
 keys_within [] n = omega arith

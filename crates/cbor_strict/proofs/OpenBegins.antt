@@ -15,7 +15,7 @@ use Rattle.cbor_standing.specs.NextEvent.{ItemEventsView}
 use Rattle.cbor_automaton.specs.Marks.{mark_of}
 use Rattle.cbor_automaton.specs.declared.event.EventKind.{EventKind}
 use Rattle.cbor_automaton.specs.declared.event.EventKind.TheVariants as kinds
-use Rattle.cbor_judging.specs.Frame.{Frame, a_member, a_key, a_content, tagged, before}
+use Rattle.cbor_judging.specs.Frame.{Frame, a_member, a_key, tagged, before}
 use Rattle.cbor_judging.specs.Judged.{IsJudged, Never}
 use Rattle.cbor_judging.specs.OpenMaps.{AreOpen, AreOpenDistinct}
 use Rattle.cbor_judging.specs.Reading.{IsAt, OfMark, IsBegun, ReadsItem, ReadsPayload, string_kind, string_major}
@@ -49,11 +49,8 @@ module _ (o : KeyOrder) (b : Bounds) (fs : List Frame) (are : AreOpen (strict o)
 
 -- no break may come where an item is due
 pub no_break : (fs : List Frame) (next : Place) → Ends (frames_in fs) next → ⊥
-no_break [] next h = h
 no_break (a_member w a b ∷ fs) next h = h
-no_break (a_key w a v b ∷ fs) next h = h
-no_break (a_content w a k b ∷ fs) next h = h
-no_break (tagged w n ∷ fs) next h = h
+no_break _ next h = h
 
 -- without complaint no head is without a length
 pub no_openers : (o : KeyOrder) (b : Bounds) (fs : List Container) (t x : List ℕ) (e : ItemEventsView) (w : Width) (m : Major) (n : ℕ) (kind : EventKind) → mark_of w kind ≡ a_head m w n → w ≡ Indefinite → IsBegun (strict o) b fs t x e w kind → ⊥
@@ -89,9 +86,8 @@ module _ (o : KeyOrder) (b : Bounds) (gs : List Container) (t x : List ℕ) (e :
   leaf_reads (kinds.Text None) i l = absurd (no_openers o b gs t x e w majors.Text 0 (kinds.Text None) refl i.proper i)
   leaf_reads (kinds.Array None) i l = absurd (no_openers o b gs t x e w majors.Array 0 (kinds.Array None) refl i.proper i)
   leaf_reads (kinds.Map None) i l = absurd (no_openers o b gs t x e w majors.Map 0 (kinds.Map None) refl i.proper i)
-  leaf_reads (kinds.Chunk n) i l = absurd i.taking
-  leaf_reads (kinds.Piece n) i l = absurd i.taking
   leaf_reads kinds.End i l = absurd (i.item refl)
+  leaf_reads _ i l = absurd i.taking
 
 -- ---- a container opens
 

@@ -97,9 +97,7 @@ pub record EndsClean (o : KeyOrder) (d : ℕ) (fs : List Frame) (s : Spelling) :
 
 pub level_back : (o : KeyOrder) (d : ℕ) (f : Frame) (fs : List Frame) (h : AreOpen (strict o) d (from_outside (f ∷ fs))) (out : AreOpen (strict o) d (from_outside fs)) → out.left ≡ suc h.left
 level_back o d f fs h out =
-    let a = h.levels in
-    let b = out.levels in
-    omega (arith, a, b, outside_length fs, outside_length (f ∷ fs))
+    omega (arith, h.levels, out.levels, outside_length fs, outside_length (f ∷ fs))
 
 -- with the innermost, which is full
 closes_one : (o : KeyOrder) (d : ℕ) (f : Frame) (fs : List Frame) (s : Spelling) → EndsClean o d (f ∷ fs) s
@@ -109,14 +107,12 @@ closes_one o d f fs s h step =
     let i = innermost (strict o) d (from_outside fs) f h.are in
     let u = distinct_outer (from_outside fs) f (strict o) 0 (length (bytes_before fs)) (omega arith) h.distinct in
     let deep = depth_plug f s in
-    let flat = i.flat in
-    let low = h.within in
     let room = level_back o d f fs h.are (shuts (strict o) d (from_outside fs) f h.are) in
     record {
       are = shuts (strict o) d (from_outside fs) f h.are;
       distinct = u.0;
       spelled = spelled_plug f s i.fits h.spelled;
-      within = omega (arith, deep, flat, low, room);
+      within = omega (arith, deep, i.flat, h.within, room);
       clean = step (length (bytes_before fs)) i.clean u.1 (subst (λ (k : ℕ). Never (Complains (strict o) k s)) (before_size fs f) h.clean);
     }
 

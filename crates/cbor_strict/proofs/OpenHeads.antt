@@ -143,9 +143,8 @@ short_begun o b fs t x e w (kinds.Bytes None) i = absurd (no_openers o b fs t x 
 short_begun o b fs t x e w (kinds.Text None) i = absurd (no_openers o b fs t x e w majors.Text 0 (kinds.Text None) refl i.proper i)
 short_begun o b fs t x e w (kinds.Array None) i = absurd (no_openers o b fs t x e w majors.Array 0 (kinds.Array None) refl i.proper i)
 short_begun o b fs t x e w (kinds.Map None) i = absurd (no_openers o b fs t x e w majors.Map 0 (kinds.Map None) refl i.proper i)
-short_begun o b fs t x e w (kinds.Chunk n) i = absurd i.taking
-short_begun o b fs t x e w (kinds.Piece n) i = absurd i.taking
 short_begun o b fs t x e w kinds.End i = absurd (i.item refl)
+short_begun o b fs t x e w _ i = absurd i.taking
 
 -- the item that is due has begun
 pub begun_in : (v : OpenItems) (b : Bounds) (event : Event) (t x : List ℕ) (e : ItemEventsView) → (h : HasHeadCome v b event t x e) → ((reason : Reason) → IsFault (strict v.order) (mark_of event.width event.kind) reason → ⊥)
@@ -195,13 +194,12 @@ module _ (v : OpenItems) (b : Bounds) (w : Width) (kind : EventKind) (t x : List
   read_ended : (u : Value) → ReadsItem (strict v.order) b (frames_in h.fs) t x None None e u → HasEnded v b e (t ++ x)
   read_ended u m =
       let same : spell m.item ≡ x = same_bytes t x (spell m.item) m.taken.more e.machine.taken (h.begun.at.stands.stands.taken) (m.at.stands.stands.taken) m.taken.are in
-      let low = m.within in
       record {
         fs = h.fs;
         around = h.around;
         item = m.item;
         spelled = m.spelled;
-        within = omega (arith, low, frames_length h.fs);
+        within = omega (arith, m.within, frames_length h.fs);
         clean = subst (λ (y : List ℕ). Never (Complains (strict v.order) (length y) m.item)) h.taken m.clean;
         none = h.none;
         kept = subst (IsKept (seen v.keys) h.fs) (sym same) h.kept;

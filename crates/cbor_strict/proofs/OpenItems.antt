@@ -1,5 +1,6 @@
 -- What becomes of the open containers as an item ends.
 use Rattle.std.proofs.Common.{◌≡◌, ℕ, ◌+◌, ◌-◌, ◌≤◌, IsTrue, Option, List, [], ◌∷◌, ◌++◌, length, sym, ap, ◌∙◌, subst, inl, inr, arith, append-nil, length-append}
+use Rattle.std.proofs.lemmas.Bool.{cases_Bool}
 use Rattle.cbor_head.specs.Prelude.{Bounds, key_lt, Spelling, Spellings, SpelledEntries, no_spellings, a_spelling, no_entries, entry, spell, strict, Complains, refusal}
 use Rattle.cbor_head.specs.declared.limits.TheConstants.{MAX_DEPTH}
 use Rattle.cbor_head.specs.declared.order.KeyOrder.{KeyOrder}
@@ -19,7 +20,7 @@ use Rattle.cbor_strict.specs.inner.OpenItems.{frames_in, bytes_before, AreOpenCl
 use Rattle.cbor_judging.specs.Reading.{AreRefused, IsAt}
 use Rattle.cbor_judging.specs.OpenMaps.{AreOpen, AreOpenDistinct}
 use Rattle.cbor_judging.specs.Judged.{Never}
-use Rattle.cbor_strict.proofs.KeptKeys.{either_way, kept_if_in, kept_if_out}
+use Rattle.cbor_strict.proofs.KeptKeys.{kept_if_in, kept_if_out}
 use Rattle.cbor_strict.proofs.KeptEnds.{kept_keys}
 use Rattle.cbor_judging.proofs.OpenSteps.{member_before}
 use Rattle.cbor_strict.proofs.OpenEnds.{definite_of, outside_length, StaysOpen, none_open, member_open, key_open, content_open, stays_open, EndsClean, open_so, EndsIn, IsDueIn, ends_in, member_next, content_next, key_next, key_refused}
@@ -44,10 +45,8 @@ pub has_closed : (old : OpenItems) (keys : LastKeys) (count taken : ℕ) (due : 
     → HasClosed old.order b e t keys (still_open h.fs) (ended_item h.fs h.item)
 has_closed old keys count taken due b e t k h c =
     let definite = definite_of old.order b.depth h.fs h.around.are in
-    let levels = h.around.are.levels in
-    let low = h.within in
     let m = ends_in old.order b e t h.fs h.item (record {
-      clean = record { are = h.around.are; distinct = h.around.distinct; spelled = h.spelled; within = omega (arith, low, levels, outside_length h.fs); clean = h.clean };
+      clean = record { are = h.around.are; distinct = h.around.distinct; spelled = h.spelled; within = omega (arith, h.within, h.around.are.levels, outside_length h.fs); clean = h.clean };
       taken = h.taken;
       at = h.at;
     }) in
@@ -78,7 +77,7 @@ member_kept k w a s t b fs h =
     record {
       levels = h.levels;
       spans = h.spans;
-      bytes = h.bytes ∙ elim (either_way (stands_in_key fs)) [
+      bytes = h.bytes ∙ elim (cases_Bool (stands_in_key fs)) [
         | inl i ↦ kept_if_in f fs (spell s) i ∙ ap (kept_bytes fs) (sym (member_before w a s t b) ∙ sym (append-nil (before g))) ∙ sym (kept_if_in g fs [] i)
         | inr i ↦ kept_if_out f fs (spell s) i ∙ sym (kept_if_out g fs [] i)
       ];
@@ -95,12 +94,10 @@ behind_member old new keys count taken due b e t k h c d same_order same_keys sa
 
     go : (gs : List Frame) (s : Spelling) → StaysOpen gs → HasClosed old.order b e t keys gs s → Stands new b e t
     go [] s none_open m =
-        let levels = m.clean.are.levels in
-        let low = m.clean.within in
         inr (inr (record {
           item = s;
           spelled = m.clean.spelled;
-          within = omega (arith, levels, low);
+          within = omega (arith, m.clean.are.levels, m.clean.within);
           clean = subst (λ (o : KeyOrder). Never (Complains (strict o) 0 s)) (sym same_order) m.clean.clean;
           none = left_so;
           kept = subst (λ (x : LastKeys). IsKept (seen x) [] (spell s)) (sym same_keys) m.kept;
@@ -130,52 +127,45 @@ behind_content old new keys last count taken due b e t k h c d same_order same_k
         stands_due old.order new b e t (g ∷ gs) (content_next old.order b e t gs s w a key l x c2 (ends_of old.order b e t keys _ s m)) (sym same_order) (same_left ∙ h.none)
         (subst (λ (y : LastKeys). IsKept (seen y) (g ∷ gs) []) (sym same_keys) (step w a key s l x c2 gs m.kept))
 
--- a key
+-- a key, and nothing else
+by_key : (old : OpenItems) (keys : LastKeys) (count taken : ℕ) (due : Due) (b : Bounds) (e : ItemEventsView) (t : List ℕ) → Closing old keys count taken due → (h : HasEnded old b e t) → count ≡ e.machine.open_count → due ≡ Key → (P : Type 0)
+    → ((w : Width) (a : SpelledEntries) (v : Spelling) (others : SpelledEntries) (gs : List Frame) (s : Spelling) → HasClosed old.order b e t keys (a_key w a v others ∷ gs) s → P) → P
+by_key old keys count taken due b e t k h c d P of_key = go (still_open h.fs) (ended_item h.fs h.item) (has_closed old keys count taken due b e t k h c).stays (has_closed old keys count taken due b e t k h c)
+  where
+    go : (gs : List Frame) (s : Spelling) → StaysOpen gs → HasClosed old.order b e t keys gs s → P
+    go [] s none_open m = absurd (cc (sym d ∙ k.none (spell s) m.kept))
+    go _ s (member_open w a x others gs) m = absurd (cc (sym d ∙ k.some (a_member w a (a_spelling x others)) gs (spell s) m.kept))
+    go _ s (content_open w a key l x others gs) m = absurd (cc (sym d ∙ k.some (a_content w a key (entry l x others)) gs (spell s) m.kept))
+    go _ s (key_open w a v others gs) m = of_key w a v others gs s m
+
 pub key_has_ended : (old : OpenItems) (keys : LastKeys) (count taken : ℕ) (due : Due) (b : Bounds) (e : ItemEventsView) (t : List ℕ) → Closing old keys count taken due → (h : HasEnded old b e t)
     → count ≡ e.machine.open_count → due ≡ Key → HasKeyEnded (seen keys)
-key_has_ended old keys count taken due b e t k h c d = go (still_open h.fs) (ended_item h.fs h.item) (has_closed old keys count taken due b e t k h c).stays (has_closed old keys count taken due b e t k h c)
-  where
-    go : (gs : List Frame) (s : Spelling) → StaysOpen gs → HasClosed old.order b e t keys gs s → HasKeyEnded (seen keys)
-    go [] s none_open m = absurd (cc (sym d ∙ k.none (spell s) m.kept))
-    go _ s (member_open w a x c2 gs) m = absurd (cc (sym d ∙ k.some (a_member w a (a_spelling x c2)) gs (spell s) m.kept))
-    go _ s (key_open w a v c2 gs) m = record { w = w; a = a; v = v; b = c2; fs = gs; s = s; kept = m.kept }
-    go _ s (content_open w a key l x c2 gs) m = absurd (cc (sym d ∙ k.some (a_content w a key (entry l x c2)) gs (spell s) m.kept))
+key_has_ended old keys count taken due b e t k h c d = by_key old keys count taken due b e t k h c d (HasKeyEnded (seen keys)) (λ w a v others gs s m. record { w = w; a = a; v = v; b = others; fs = gs; s = s; kept = m.kept })
 
 pub behind_key : (old new : OpenItems) (keys last : LastKeys) (count taken : ℕ) (due : Due) (b : Bounds) (e : ItemEventsView) (t : List ℕ) → Closing old keys count taken due → (h : HasEnded old b e t)
     → count ≡ e.machine.open_count → due ≡ Key → new.order ≡ old.order → new.keys ≡ last → new.left ≡ old.left
     → ((w : Width) (a : SpelledEntries) (v : Spelling) (b : SpelledEntries) (fs : List Frame) (s : Spelling) → IsKept (seen keys) (a_key w a v b ∷ fs) (spell s) → IsTrue (key_lt old.order (last_key a) (spell s)) × IsKept (seen last) (a_content w a s b ∷ fs) [])
     → Stands new b e t
-behind_key old new keys last count taken due b e t k h c d same_order same_keys same_left step = go (still_open h.fs) (ended_item h.fs h.item) (has_closed old keys count taken due b e t k h c).stays (has_closed old keys count taken due b e t k h c)
-  where
-    go : (gs : List Frame) (s : Spelling) → StaysOpen gs → HasClosed old.order b e t keys gs s → Stands new b e t
-    go [] s none_open m = absurd (cc (sym d ∙ k.none (spell s) m.kept))
-    go _ s (member_open w a x c2 gs) m = absurd (cc (sym d ∙ k.some (a_member w a (a_spelling x c2)) gs (spell s) m.kept))
-    go _ s (content_open w a key l x c2 gs) m = absurd (cc (sym d ∙ k.some (a_content w a key (entry l x c2)) gs (spell s) m.kept))
-    go _ s (key_open w a v c2 gs) m =
-        let r = step w a v c2 gs s m.kept in
-        stands_due old.order new b e t (a_content w a s c2 ∷ gs) (key_next old.order b e t gs s w a v c2 (ends_of old.order b e t keys _ s m) r.0) (sym same_order) (same_left ∙ h.none)
-        (subst (λ (y : LastKeys). IsKept (seen y) (a_content w a s c2 ∷ gs) []) (sym same_keys) r.1)
+behind_key old new keys last count taken due b e t k h c d same_order same_keys same_left step = by_key old keys count taken due b e t k h c d (Stands new b e t)
+    (λ w a v others gs s m.
+    let r = step w a v others gs s m.kept in
+    stands_due old.order new b e t (a_content w a s others ∷ gs) (key_next old.order b e t gs s w a v others (ends_of old.order b e t keys _ s m) r.0) (sym same_order) (same_left ∙ h.none)
+    (subst (λ (y : LastKeys). IsKept (seen y) (a_content w a s others ∷ gs) []) (sym same_keys) r.1))
 
 pub refused_key : (old : OpenItems) (keys : LastKeys) (count taken size : ℕ) (due : Due) (b : Bounds) (e : ItemEventsView) (t : List ℕ) (f : Refusal) → Closing old keys count taken due → (h : HasEnded old b e t)
     → count ≡ e.machine.open_count → taken ≡ e.machine.taken → due ≡ Key
     → ((w : Width) (a : SpelledEntries) (v : Spelling) (b : SpelledEntries) (fs : List Frame) (s : Spelling) → IsKept (seen keys) (a_key w a v b ∷ fs) (spell s) → ¬ IsTrue (key_lt old.order (last_key a) (spell s)) × (size ≡ length (spell s)))
     → (size ≤ taken) × ((to : Option (List ℕ)) → f ≡ refusal reasons.KeyOrder (taken - size) taken → AreRefused (strict old.order) b t to f)
-refused_key old keys count taken size due b e t f k h c all d step = go (still_open h.fs) (ended_item h.fs h.item) (has_closed old keys count taken due b e t k h c).stays (has_closed old keys count taken due b e t k h c)
-  where
-    go : (gs : List Frame) (s : Spelling) → StaysOpen gs → HasClosed old.order b e t keys gs s → (size ≤ taken) × ((to : Option (List ℕ)) → f ≡ refusal reasons.KeyOrder (taken - size) taken → AreRefused (strict old.order) b t to f)
-    go [] s none_open m = absurd (cc (sym d ∙ k.none (spell s) m.kept))
-    go _ s (member_open w a x c2 gs) m = absurd (cc (sym d ∙ k.some (a_member w a (a_spelling x c2)) gs (spell s) m.kept))
-    go _ s (content_open w a key l x c2 gs) m = absurd (cc (sym d ∙ k.some (a_content w a key (entry l x c2)) gs (spell s) m.kept))
-    go _ s (key_open w a v c2 gs) m =
-        let fr = a_key w a v c2 in
-        let r = step w a v c2 gs s m.kept in
-        let size_is = r.1 in
-        let read : taken ≡ length t = all ∙ m.at.stands.stands.taken in
-        let count_all : taken ≡ length (bytes_before (fr ∷ gs)) + length (spell s) = read ∙ ap length m.taken ∙ length-append (bytes_before (fr ∷ gs)) (spell s) in
-        let place : taken - size ≡ length (bytes_before (fr ∷ gs)) = omega (arith, count_all, size_is) in (
-          omega (arith, count_all, size_is),
-          λ to is. record {
-            read = ap (λ (x : Refusal). x.read) is ∙ read;
-            why = inr (key_refused old.order b e t gs s w a v c2 to f (ends_of old.order b e t keys _ s m) r.0 (is ∙ ap (λ (n : ℕ). refusal reasons.KeyOrder n taken) place ∙ ap (refusal reasons.KeyOrder (length (bytes_before (fr ∷ gs)))) read));
-          },
-        )
+refused_key old keys count taken size due b e t f k h c all d step = by_key old keys count taken due b e t k h c d ((size ≤ taken) × ((to : Option (List ℕ)) → f ≡ refusal reasons.KeyOrder (taken - size) taken → AreRefused (strict old.order) b t to f))
+    (λ w a v others gs s m.
+    let fr = a_key w a v others in
+    let r = step w a v others gs s m.kept in
+    let read : taken ≡ length t = all ∙ m.at.stands.stands.taken in
+    let count_all : taken ≡ length (bytes_before (fr ∷ gs)) + length (spell s) = read ∙ ap length m.taken ∙ length-append (bytes_before (fr ∷ gs)) (spell s) in
+    let place : taken - size ≡ length (bytes_before (fr ∷ gs)) = omega (arith, count_all, r.1) in (
+      omega (arith, count_all, r.1),
+      λ to is. record {
+        read = ap (λ (x : Refusal). x.read) is ∙ read;
+        why = inr (key_refused old.order b e t gs s w a v others to f (ends_of old.order b e t keys _ s m) r.0 (is ∙ ap (λ (n : ℕ). refusal reasons.KeyOrder n taken) place ∙ ap (refusal reasons.KeyOrder (length (bytes_before (fr ∷ gs)))) read));
+      },
+    ))

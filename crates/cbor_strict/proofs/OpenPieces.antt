@@ -55,15 +55,13 @@ module _ (v : OpenItems) (b : Bounds) (old : ItemEventsView) (t x : List ℕ) (e
   pub part_no_memory : (f : Refusal) (taken : ℕ) (to : Option (List ℕ)) → taken ≡ e.machine.taken → f ≡ refusal Memory taken taken → AreRefused (strict v.order) b (t ++ x) to f
   part_no_memory f taken to all is =
       let k = last-apart (h.due.q ++ x) (omega (arith, length-append h.due.q x, h.some)) in
-      let count = h.due.count in
-      let fits = h.fits in
       let undecided : IsUndecided (strict v.order) b (frames_in h.due.fs) (bytes_before h.due.fs) (hd ++ (h.due.q ++ x)) = record {
         p = hd ++ k.front;
         last = k.last;
         splits = ap (λ (y : List ℕ). hd ++ y) k.splits ∙ sym (append_assoc hd k.front k.last);
         byte = omega (arith, k.byte);
         judged = string_judged v.is_text h.due.w h.due.n k.front (strict v.order) (length (bytes_before h.due.fs)) (b.depth - length (frames_in h.due.fs)) h.due.holds (bytes_front k.front k.last (subst AreBytes k.splits all_bytes))
-            (omega (arith, k.byte, ap length k.splits, length-append k.front k.last, length-append h.due.q x, count, fits)) h.due.clean;
+            (omega (arith, k.byte, ap length k.splits, length-append k.front k.last, length-append h.due.q x, h.due.count, h.fits)) h.due.clean;
       } in
       memory_part v.order b h.due.fs h.due.around.are h.due.around.distinct (hd ++ (h.due.q ++ x)) (t ++ x) to f taken bytes_so (all ∙ h.at.stands.stands.taken) is (at-reached b e (t ++ x) _ h.at) undecided
 
@@ -80,7 +78,6 @@ module _ (v : OpenItems) (b : Bounds) (old : ItemEventsView) (t x : List ℕ) (e
     -- more is due
     pub part_goes_on : 0 < new.left → ((q : List ℕ) → v.is_text ≡ true → HasChecked v.check q → HasChecked new.check (q ++ x)) → Stands new b e (t ++ x)
     part_goes_on some checked =
-        let count = h.due.count in
         let heads : head (string_major v.is_text) h.due.w h.due.n ≡ head (string_major new.is_text) h.due.w h.due.n = ap (λ (y : Bool). head (string_major y) h.due.w h.due.n) (sym same_text) in
         inr (inl (record {
           fs = h.due.fs;
@@ -89,7 +86,7 @@ module _ (v : OpenItems) (b : Bounds) (old : ItemEventsView) (t x : List ℕ) (e
           n = h.due.n;
           q = h.due.q ++ x;
           some = some;
-          count = omega (arith, count, left, length-append h.due.q x);
+          count = omega (arith, h.due.count, left, length-append h.due.q x);
           holds = h.due.holds;
           clean = subst (λ (o : KeyOrder). Never (OfHead (strict o) (length (bytes_before h.due.fs)) (string_major new.is_text) h.due.w h.due.n)) (sym same_order)
               (subst (λ (y : Bool). Never (OfHead (strict v.order) (length (bytes_before h.due.fs)) (string_major y) h.due.w h.due.n)) (sym same_text) h.due.clean);

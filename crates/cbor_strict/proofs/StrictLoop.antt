@@ -46,11 +46,7 @@ module _ (o : KeyOrder) (b : Bounds) (v new : OpenItems) (e after : ItemEventsVi
 
   pub runs_farther : (ev : Event) → GoesOn new b e after h.t now to ev → KeepsLimits e.machine after.machine → after.machine.bytes - after.machine.taken < e.machine.bytes - e.machine.taken
   runs_farther ev n l =
-      let was = n.between.stands.taken in
-      let is = n.next.stands.stands.taken in
-      let limit = n.next.stands.stands.limited in
-      let same = l.bytes in
-      omega (arith, was, is, limit, same, n.some, length-append h.t n.next.bytes)
+      omega (arith, n.between.stands.taken, n.next.stands.stands.taken, n.next.stands.stands.limited, l.bytes, n.some, length-append h.t n.next.bytes)
 
   -- the whole item is read
   pub runs_out : (count : ℕ) → HasCome new b e after h.t now to → new.order ≡ v.order → count ≡ after.machine.taken → IsStrictlyRead (strict o) b from to count
@@ -58,7 +54,6 @@ module _ (o : KeyOrder) (b : Bounds) (v new : OpenItems) (e after : ItemEventsVi
       let s = n.over.item in
       let whole : spell s ≡ h.t = sym n.over.taken in
       let all : count ≡ length h.t = c ∙ n.over.at.stands.stands.taken in
-      let limit = n.over.at.stands.stands.limited in
       let item : IsItem b.depth s (spell s) = record { spelled = n.over.spelled; within = n.over.within; bytes_are = refl } in
       let none : (x : Complaint) → IsComplaint b (strict o) s x → ⊥ =
       subst (λ (p : KeyOrder). (x : Complaint) → IsComplaint b (strict p) s x → ⊥) (same ∙ h.order) (whole_beside b (strict new.order) s item (subst (KeepsToKinds b (strict new.order)) n.over.taken n.keeps) n.over.clean) in
@@ -67,7 +62,7 @@ module _ (o : KeyOrder) (b : Bounds) (v new : OpenItems) (e after : ItemEventsVi
         read = front_read from to lost (λ rest. record {
           item = s;
           verdict = (accepts_exactly b (strict o) (h.t ++ rest) s).1
-              (take (b.bytes - length h.t) rest, (n.over.spelled, n.over.within, cut rest s (omega (arith, c, all, limit, n.over.at.bytes)) whole), none);
+              (take (b.bytes - length h.t) rest, (n.over.spelled, n.over.within, cut rest s (omega (arith, c, all, n.over.at.stands.stands.limited, n.over.at.bytes)) whole), none);
           size = all ∙ ap length (sym whole);
         });
         taken = loses h.t count from to all (record { more = h.t; consumed = lost; are = refl });

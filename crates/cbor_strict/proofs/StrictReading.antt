@@ -53,11 +53,9 @@ stands_clean v b e t (inl h) =
     none_within v.order b.depth t (subst (λ (x : List ℕ). IsJudged (strict v.order) 0 b.depth x None) (append-nil (bytes_before h.fs) ∙ sym h.taken) (all_levels v.order b.depth (bytes_before h.fs ++ [])
     (lift v.order b h.fs h.around.are h.around.distinct [] None (judged_start (strict v.order) (length (bytes_before h.fs)) (b.depth - length (frames_in h.fs))))))
 stands_clean v b e t (inr (inl h)) =
-    let count = h.count in
-    let some = h.some in
     none_within v.order b.depth t (subst (λ (x : List ℕ). IsJudged (strict v.order) 0 b.depth x None) (sym h.taken) (all_levels v.order b.depth (bytes_before h.fs ++ (head (string_major v.is_text) h.w h.n ++ h.q))
     (lift v.order b h.fs h.around.are h.around.distinct (head (string_major v.is_text) h.w h.n ++ h.q) None
-    (string_judged v.is_text h.w h.n h.q (strict v.order) (length (bytes_before h.fs)) (b.depth - length (frames_in h.fs)) h.holds h.are_bytes (omega (arith, count, some)) h.clean))))
+    (string_judged v.is_text h.w h.n h.q (strict v.order) (length (bytes_before h.fs)) (b.depth - length (frames_in h.fs)) h.holds h.are_bytes (omega (arith, h.count, h.some)) h.clean))))
 stands_clean v b e t (inr (inr h)) = λ s i c k l.
     let whole : IsItem b.depth h.item (t ++ []) = record { spelled = h.spelled; within = h.within; bytes_are = sym h.taken ∙ sym (append-nil t) } in
     absurd (h.clean c (same_complaints b.depth s h.item t i.0 [] i.1 whole (strict v.order) c l k))

@@ -157,11 +157,9 @@ piece_keeps v b old t x e h keeps =
     let are = d.around.are in
     let hd = head (string_major v.is_text) d.w d.n in
     let y = bytes_before d.fs in
-    let count = d.count in
-    let fits = h.fits in
     let there : t ++ x ≡ y ++ (hd ++ (d.q ++ x)) = ap (λ (z : List ℕ). z ++ x) d.taken ∙ append_assoc y (hd ++ d.q) x ∙ ap (λ (z : List ℕ). y ++ z) (append_assoc hd d.q x) in
     subst (KeepsToKinds b (strict v.order)) (sym there)
-    (keeps_string b (strict v.order) (from_outside d.fs) are.left are.levels are.path v.is_text d.w d.n d.q x d.holds (bytes_join d.q x d.are_bytes h.are_bytes) (omega (arith, count, fits, length-append d.q x))
+    (keeps_string b (strict v.order) (from_outside d.fs) are.left are.levels are.path v.is_text d.w d.n d.q x d.holds (bytes_join d.q x d.are_bytes h.are_bytes) (omega (arith, d.count, h.fits, length-append d.q x))
     (subst (KeepsToKinds b (strict v.order)) d.taken keeps))
 
 pub live_of : (v : OpenItems) (b : Bounds) (e : ItemEventsView) (t : List ℕ) → Stands v b e t → e.refusal ≡ None

@@ -1,5 +1,6 @@
 -- Looking up a value by its key, and a member by its index.
 use Rattle.std.proofs.Common.{◌≡◌, ℕ, zero, suc, ◌+◌, ◌<◌, ◌≤◌, List, [], ◌∷◌, length, drop, get_or, slice_get, Option, Some, None, Bor, inl, inr, refl, ap, subst, arith, ◌↔◌, ℤ, pos, negsuc, option_map, MatchOption, IfSome}
+use Rattle.std.proofs.lemmas.List.{drop_all}
 use Rattle.std.proofs.lemmas.Option.{slice_get-get_or}
 use Rattle.cbor_head.specs.Value as value
 use Rattle.cbor_head.specs.Prelude.{Value, HasEntry, Same, map, IsValid, AreEntriesValid}
@@ -9,7 +10,7 @@ use Rattle.cbor_view.specs.Lookup.{HasValueAt, member_at}
 use Rattle.cbor_view.specs.Seen.{seen, seen_all}
 use Rattle.cbor_view.specs.declared.view.View.{View}
 use Rattle.cbor_view.specs.inner.Pairs.{Pair, entries}
-use Rattle.cbor_view.proofs.Pairs.{at_read, drop_all, valid_pair}
+use Rattle.cbor_view.proofs.Pairs.{at_read, valid_pair}
 
 -- what these pairs have at the key, the others have
 abbrev pub LeadsBehind : Value → List Pair → List Pair → Type 0
@@ -32,7 +33,7 @@ pub found_at : (k : Value) (ps : List Pair) (i : ℕ) (p : Pair) → slice_get p
 found_at k ps i p e s = (seen p.0, has_pair ps i p e, s)
 
 pub none_behind : (k : Value) (ps : List Pair) (i : ℕ) → length ps ≤ i → LeadsBehind k ps (drop i ps) → (v : Value) → HasValueAt (map (entries ps)) k v → ⊥
-none_behind k ps i l inv v h = (subst (λ (ps : List Pair). HasValueAt (map (entries ps)) k v) (drop_all ps i l) (inv v h)).1
+none_behind k ps i l inv v h = (subst (λ (ps : List Pair). HasValueAt (map (entries ps)) k v) (drop_all i ps l) (inv v h)).1
 
 -- ---- the same of a pair that was read by its index
 

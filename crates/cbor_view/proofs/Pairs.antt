@@ -1,7 +1,8 @@
 -- Pairs of views, one after the other.
-use Rattle.std.proofs.Common.{◌≡◌, ℕ, zero, suc, ◌+◌, ◌≤◌, List, [], ◌∷◌, length, drop, slice_get, Some, ◌↔◌, ◌⊎◌, inl, inr, refl, sym, ap, ◌∙◌, subst, arith, add-one, get_or, Bool, IsTrue}
+use Rattle.std.proofs.Common.{◌≡◌, ℕ, zero, suc, ◌+◌, ◌≤◌, List, [], ◌∷◌, length, drop, slice_get, Some, ◌↔◌, ◌⊎◌, inl, inr, refl, sym, ap, ◌∙◌, subst, add-one, get_or, Bool, IsTrue}
+use Rattle.std.proofs.lemmas.List.{drop_all}
 use Rattle.std.proofs.lemmas.Option.{get_or_from_slice_get}
-use Rattle.cbor_head.specs.Prelude.{Values, Entries, Same, SameValues, Covered, AnyEntry, IsValid, AreEntriesValid, values_count}
+use Rattle.cbor_head.specs.Prelude.{Entries, Same, Covered, AnyEntry, IsValid, AreEntriesValid, values_count}
 use Rattle.cbor_head.specs.Value.{entries_count}
 use Rattle.cbor_head.specs.Value as value
 use Rattle.cbor_item.specs.View.{values_of}
@@ -19,12 +20,6 @@ at_next (y ∷ xs) (suc i) x e = at_next xs i x e
 pub at_read : (xs : List Pair) (i : ℕ) (x : Pair) → slice_get xs i ≡ Some x → drop i xs ≡ x ∷ drop (i + 1) xs
 at_read xs i x e = rw add-one (at_next xs i x e)
 
-pub drop_all : (ps : List Pair) (i : ℕ) → length ps ≤ i → drop i ps ≡ []
-drop_all [] zero l = refl
-drop_all [] (suc i) l = refl
-drop_all (p ∷ ps) zero l = absurd (omega arith)
-drop_all (p ∷ ps) (suc i) l = drop_all ps i (omega arith)
-
 -- ---- counts
 
 pub values_counted : (vs : List View) → values_count (values_of (seen_all vs)) ≡ length vs
@@ -34,12 +29,6 @@ values_counted (v ∷ vs) = ap suc (values_counted vs)
 pub entries_counted : (ps : List Pair) → entries_count (entries ps) ≡ length ps
 entries_counted [] = refl
 entries_counted (p ∷ ps) = ap suc (entries_counted ps)
-
-pub same_counted : (vs ws : Values) → SameValues vs ws → values_count vs ≡ values_count ws
-same_counted value.no_values value.no_values h = refl
-same_counted value.no_values (value.a_value w ws) h = absurd h
-same_counted (value.a_value v vs) value.no_values h = absurd h
-same_counted (value.a_value v vs) (value.a_value w ws) h = ap suc (same_counted vs ws h.1)
 
 -- ---- valid ones
 
@@ -98,7 +87,7 @@ pair_misses xs ys i p h k e inv miss s =
 pub all_met : (xs ys : List Pair) (i : ℕ) → IsValid (value.map (entries xs)) → IsValid (value.map (entries ys)) → length xs ≡ length ys → length xs ≤ i
     → (Covered (entries xs) (entries ys) ↔ Covered (entries (drop i xs)) (entries ys)) → Same (value.map (entries xs)) (value.map (entries ys))
 all_met xs ys i h k counts l inv =
-    let none : drop i xs ≡ [] = drop_all xs i l in
+    let none : drop i xs ≡ [] = drop_all i xs l in
     let covered = inv.1 (subst (λ (ps : List Pair). Covered (entries ps) (entries ys)) (sym none) tt) in
     (same_by_count (entries xs) (entries ys) h.1 k.1).1 (entries_counted xs ∙ counts ∙ sym (entries_counted ys), covered)
 

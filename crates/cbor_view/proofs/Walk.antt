@@ -3,7 +3,6 @@ use Rattle.std.proofs.Common.{◌≡◌, ℕ, List, [], ◌∷◌, ◌++◌, map
 use Rattle.std.specs.List.{AllByRecursion}
 use Rattle.std.proofs.lemmas.List.{reverse-append}
 use Rattle.cbor_head.specs.declared.major.Major.TheVariants as Major
-use Rattle.cbor_head.specs.Value as value
 use Rattle.cbor_head.specs.Prelude.{Value, IsInRange, AreInRange, AreEntriesInRange}
 use Rattle.cbor_item.specs.OpenValues.{OpenValue, ValuePart, leaf, begin, end, after, give, opened, parts_of, parts_of_entries, Makes, the_whole}
 use Rattle.cbor_item.specs.View.{values_of}

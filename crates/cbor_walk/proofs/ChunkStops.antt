@@ -72,32 +72,20 @@ guarded false next e = refl
 
 endless-refused : (m : Major) (fs : List Frame) (k : Major) → in_string m fs (indefinite_length k) ≡ refuses BadChunk
 endless-refused m fs Bytes = refl
-endless-refused m fs Text = refl
-endless-refused m fs Array = refl
-endless-refused m fs Map = refl
 endless-refused m fs _ = refl
 
 numbered-refused : (m : Major) (fs : List Frame) (k : Major) (j : ℕ) → j < 8 → (j < 4 → is_major m k ≡ false) → in_string m fs (numbered_tail k j) ≡ refuses BadChunk
-numbered-refused m fs k zero h f = guarded _ _ (f (omega arith))
-numbered-refused m fs k (suc zero) h f = guarded _ _ (f (omega arith))
-numbered-refused m fs k (suc (suc zero)) h f = guarded _ _ (f (omega arith))
-numbered-refused m fs k (suc (suc (suc zero))) h f = guarded _ _ (f (omega arith))
 numbered-refused m fs k (suc (suc (suc (suc zero)))) h f = refl
 numbered-refused m fs k (suc (suc (suc (suc (suc zero))))) h f = refl
 numbered-refused m fs k (suc (suc (suc (suc (suc (suc zero)))))) h f = refl
 numbered-refused m fs k (suc (suc (suc (suc (suc (suc (suc zero))))))) h f = endless-refused m fs k
 numbered-refused m fs k (suc (suc (suc (suc (suc (suc (suc (suc j)))))))) h f = absurd (omega (arith, h))
+numbered-refused m fs k _ h f = guarded _ _ (f (omega arith))
 
 simple-refused : (m : Major) (fs : List Frame) (j : ℕ) → j < 8 → j ≢ 7 → in_string m fs (tail Simple j) ≡ refuses BadChunk
-simple-refused m fs zero h f = refl
-simple-refused m fs (suc zero) h f = refl
-simple-refused m fs (suc (suc zero)) h f = refl
-simple-refused m fs (suc (suc (suc zero))) h f = refl
-simple-refused m fs (suc (suc (suc (suc zero)))) h f = refl
-simple-refused m fs (suc (suc (suc (suc (suc zero))))) h f = refl
-simple-refused m fs (suc (suc (suc (suc (suc (suc zero)))))) h f = refl
 simple-refused m fs (suc (suc (suc (suc (suc (suc (suc zero))))))) h f = absurd (f refl)
 simple-refused m fs (suc (suc (suc (suc (suc (suc (suc (suc j)))))))) h f = absurd (omega (arith, h))
+simple-refused m fs _ h f = refl
 
 tail-refused : (m : Major) (fs : List Frame) (k : Major) (j : ℕ) → j < 8 → (j < 4 → is_major m k ≡ false) → (major_number k ≡ 7 → j ≢ 7) → in_string m fs (tail k j) ≡ refuses BadChunk
 tail-refused m fs Simple j h f g = simple-refused m fs j h (g refl)

@@ -19,16 +19,11 @@ use Rattle.cbor_walk.specs.inner.Building.{IsDue, HasEnded, IsCellFull, HasFille
 use Rattle.cbor_walk.specs.inner.Open.{counted, opener, full_opener, behind_head, cell_of, cells_of, after}
 use Rattle.cbor_walk.specs.inner.OpenMaps.{HasTakenPairs}
 use Rattle.cbor_walk.specs.declared.open.Open.{Open}
-use Rattle.cbor_walk.proofs.GivenParts.{cells-count}
+use Rattle.cbor_walk.proofs.GivenParts.{cells-count, cell-is, cells-are}
 
 pub cell-behind : (behind : ℕ) (l : Level) → (cell_of behind l).behind ≡ behind
 cell-behind behind (a_member w left done) = refl
-cell-behind behind (a_key w left done) = refl
-cell-behind behind (a_value w left done k) = refl
-cell-behind behind (some_member done) = refl
-cell-behind behind (some_key done) = refl
-cell-behind behind (some_value done k) = refl
-cell-behind behind (tagged w n) = refl
+cell-behind behind _ = refl
 
 some-is : (x y : Open) → Some x ≡ Some y → x ≡ y
 some-is x y e = cc
@@ -48,13 +43,6 @@ module _ (S : Type 0) (stands : S → S → Standing → Type 0) (trusts : Bool)
     short : (ls : List Level) → input ≡ (bytes_before ls ++ spell h.item) ++ rest → length (bytes_before ls ++ spell h.item) < 2 ^ 64
     short ls e = let small = h.small in omega (arith, small, ap length e, length-append (bytes_before ls ++ spell h.item) rest)
 
-    -- the head and the tail of the cells
-    cell-is : (l : Level) (ls : List Level) → c ∷ cs ≡ cells_of (length input) (l ∷ ls) → c ≡ cell_of (behind_head (length input) ls l) l
-    cell-is l ls e = cc
-
-    cells-are : (l : Level) (ls : List Level) → c ∷ cs ≡ cells_of (length input) (l ∷ ls) → cs ≡ cells_of (length input) ls
-    cells-are l ls e = cc
-
     no-more : (x : Open) → None ≡ Some x → ⊥
     no-more x e = cc
 
@@ -62,111 +50,85 @@ module _ (S : Type 0) (stands : S → S → Standing → Type 0) (trusts : Bool)
     levels-with ls = AreLevels d ls × IsTaken (d - length ls) h.item × (c ∷ cs ≡ cells_of (length input) ls) × stands start g (settle ls h.item) × (input ≡ (bytes_before ls ++ spell h.item) ++ rest)
 
     -- what the builder of canonical bytes would hold, of which the containers and the bytes are wanted here
-    settle-here : (ls : List Level) → levels-with ls → StandsAt Bytewise d (bytes_before ls ++ spell h.item) (close (map frame ls)) (parts.give (canonical Bytewise (value_of h.item)) (opens Bytewise ls)) (length ls) (settle ls h.item)
-    settle-here ls k = settled Bytewise d ls h.item k.0 k.1 (short ls k.4)
+    abbrev IsSettled : List Level → Standing → Type 0
+    IsSettled ls = StandsAt Bytewise d (bytes_before ls ++ spell h.item) (close (map frame ls)) (parts.give (canonical Bytewise (value_of h.item)) (opens Bytewise ls)) (length ls)
 
-    -- another item is due
-    goes-on : (new : Open) (l : Level) (ls : List Level) (m : Level) → levels-with (l ∷ ls) → after (cell_of (behind_head (length input) ls l) l) ≡ Some new → after (cell_of (behind_head (length input) ls l) l) ≡ Some (cell_of (behind_head (length input) ls l) m) → opener l ≡ opener m
-        → AreLevels d (m ∷ ls) → bytes_before (l ∷ ls) ++ spell h.item ≡ bytes_before (m ∷ ls) → stands start g (item_due (m ∷ ls)) → IsDue S stands trusts start d input (new ∷ cs) g rest
-    goes-on new l ls m k e f heads levels same given = record {
-      ls = m ∷ ls;
-      levels = levels;
-      cells = ap₂ (λ (x : Open) (xs : List Open). x ∷ xs) (some-is new (cell_of (behind_head (length input) ls l) m) (sym e ∙ f) ∙ ap (λ (x : List ℕ). cell_of (length input - length (bytes_before ls ++ x)) m) heads) (cells-are l ls k.2);
-      given = given;
-      bytes = k.4 ∙ ap (λ (x : List ℕ). x ++ rest) same;
-      small = h.small;
-      known = h.known;
-    }
+    settle-here : (ls : List Level) → levels-with ls → IsSettled ls (settle ls h.item)
+    settle-here ls k = settled Bytewise d ls h.item k.0 k.1 (short ls k.4)
 
     pub goes : (new : Open) → after c ≡ Some new → IsDue S stands trusts start d input (new ∷ cs) g rest
     goes new e = go h.ls (h.levels, h.taken, h.cells, h.given, h.bytes)
       where
         on : (l : Level) (ls : List Level) (k : levels-with (l ∷ ls)) → after (cell_of (behind_head (length input) ls l) l) ≡ Some new
-        on l ls k = ap after (sym (cell-is l ls k.2)) ∙ e
+        on l ls k = ap after (sym (cell-is (length input) l ls k.2)) ∙ e
+
+        -- another item is due
+        goes-on : (l : Level) (ls : List Level) (m : Level) → levels-with (l ∷ ls) → settle (l ∷ ls) h.item ≡ item_due (m ∷ ls) → after (cell_of (behind_head (length input) ls l) l) ≡ Some (cell_of (behind_head (length input) ls l) m) → opener l ≡ opener m
+            → IsDue S stands trusts start d input (new ∷ cs) g rest
+        goes-on l ls m k settled f heads =
+            let there = subst (IsSettled (l ∷ ls)) settled (settle-here (l ∷ ls) k) in
+            let cell = some-is new (cell_of (behind_head (length input) ls l) m) (sym (on l ls k) ∙ f) ∙ ap (λ (x : List ℕ). cell_of (length input - length (bytes_before ls ++ x)) m) heads in
+            record {
+              ls = m ∷ ls;
+              levels = there.0;
+              cells = ap₂ (λ (x : Open) (xs : List Open). x ∷ xs) cell (cells-are (length input) l ls k.2);
+              given = subst (stands start g) settled k.3;
+              bytes = k.4 ∙ ap (λ (x : List ℕ). x ++ rest) there.1;
+              small = h.small;
+              known = h.known;
+            }
 
         go : (ls : List Level) → levels-with ls → IsDue S stands trusts start d input (new ∷ cs) g rest
         go [] k = let same : c ≡ counted Item 0 0 = cc in absurd (no-more new (ap after (sym same) ∙ e))
-        go (a_member w zero done ∷ ls) k = absurd (no-more new (on (a_member w zero done) ls k))
-        go (a_member w (suc n) done ∷ ls) k =
-            let l = a_member w (suc n) done in
-            let st = settle-here (l ∷ ls) k in
-            goes-on new l ls (a_member w n (with_all done (a_spelling h.item no_spellings))) k (on l ls k) refl (ap (head majors.Array w) (member_count done h.item n)) st.0 st.1 k.3
-        go (some_member done ∷ ls) k =
-            let l = some_member done in
-            let st = settle-here (l ∷ ls) k in
-            goes-on new l ls (some_member (with_all done (a_spelling h.item no_spellings))) k (on l ls k) refl refl st.0 st.1 k.3
-        go (a_key w n done ∷ ls) k =
-            let l = a_key w n done in
-            let st = settle-here (l ∷ ls) k in
-            goes-on new l ls (a_value w n done h.item) k (on l ls k) refl refl st.0 st.1 k.3
-        go (some_key done ∷ ls) k =
-            let l = some_key done in
-            let st = settle-here (l ∷ ls) k in
-            goes-on new l ls (some_value done h.item) k (on l ls k) refl refl st.0 st.1 k.3
-        go (a_value w zero done key ∷ ls) k = absurd (no-more new (on (a_value w zero done key) ls k))
-        go (a_value w (suc n) done key ∷ ls) k =
-            let l = a_value w (suc n) done key in
-            let st = settle-here (l ∷ ls) k in
-            goes-on new l ls (a_key w n (with_entries done (entry key h.item no_entries))) k (on l ls k) refl (ap (head majors.Map w) (pair_count done key h.item n)) st.0 st.1 k.3
-        go (some_value done key ∷ ls) k =
-            let l = some_value done key in
-            let st = settle-here (l ∷ ls) k in
-            goes-on new l ls (some_key (with_entries done (entry key h.item no_entries))) k (on l ls k) refl refl st.0 st.1 k.3
-        go (tagged w n ∷ ls) k = absurd (no-more new (on (tagged w n) ls k))
+        go (a_member w (suc n) done ∷ ls) k = goes-on (a_member w (suc n) done) ls (a_member w n (with_all done (a_spelling h.item no_spellings))) k refl refl (ap (head majors.Array w) (member_count done h.item n))
+        go (some_member done ∷ ls) k = goes-on (some_member done) ls (some_member (with_all done (a_spelling h.item no_spellings))) k refl refl refl
+        go (a_key w n done ∷ ls) k = goes-on (a_key w n done) ls (a_value w n done h.item) k refl refl refl
+        go (some_key done ∷ ls) k = goes-on (some_key done) ls (some_value done h.item) k refl refl refl
+        go (a_value w (suc n) done key ∷ ls) k = goes-on (a_value w (suc n) done key) ls (a_key w n (with_entries done (entry key h.item no_entries))) k refl refl (ap (head majors.Map w) (pair_count done key h.item n))
+        go (some_value done key ∷ ls) k = goes-on (some_value done key) ls (some_key (with_entries done (entry key h.item no_entries))) k refl refl refl
+        go (l ∷ ls) k = absurd (no-more new (on l ls k))
 
     -- nothing is due in it; its cell may be another, of the same kind, which begins there
     module _ (new : Open) (same_kind : pairs new.due ≡ pairs c.due) (same_place : new.behind ≡ c.behind) where
-      fills : (l : Level) (ls : List Level) → levels-with (l ∷ ls) → (item : Spelling) → pairs (cell_of (behind_head (length input) ls l) l).due ≡ is_map item → opener l ≡ full_opener item → AreLevels d ls → bytes_before (l ∷ ls) ++ spell h.item ≡ bytes_before ls ++ spell item
-          → IsSpelled item → depth item ≤ d - length ls → HasTakenPairs (d - suc (length ls)) item → stands start g (item_full ls item) → HasFilled S stands trusts start d input (new ∷ cs) g rest
-      fills l ls k item kind heads levels same spelled within taken given = filled new cs g rest (record {
-        ls = ls;
-        item = item;
-        levels = levels;
-        spelled = spelled;
-        within = within;
-        cells = cells-are l ls k.2;
-        given = (
-          inl given,
-          record {
-            kind = same_kind ∙ ap (λ (x : Open). pairs x.due) (cell-is l ls k.2) ∙ kind;
-            place = same_place ∙ ap (λ (x : Open). x.behind) (cell-is l ls k.2) ∙ begins-there l ls item heads;
-            taken = taken;
-          },
-        );
-        bytes = k.4 ∙ ap (λ (x : List ℕ). x ++ rest) same;
-        small = h.small;
-        known = h.known;
-      })
+      fills : (l : Level) (ls : List Level) → levels-with (l ∷ ls) → (item : Spelling) → settle (l ∷ ls) h.item ≡ item_full ls item → pairs (cell_of (behind_head (length input) ls l) l).due ≡ is_map item → opener l ≡ full_opener item → HasTakenPairs (d - suc (length ls)) item
+          → HasFilled S stands trusts start d input (new ∷ cs) g rest
+      fills l ls k item settled kind heads taken =
+          let there = subst (IsSettled (l ∷ ls)) settled (settle-here (l ∷ ls) k) in
+          let cell = cell-is (length input) l ls k.2 in
+          filled new cs g rest (record {
+            ls = ls;
+            item = item;
+            levels = there.0;
+            spelled = there.3.1.spelled;
+            within = there.3.1.within;
+            cells = cells-are (length input) l ls k.2;
+            given = (
+              inl (subst (stands start g) settled k.3),
+              record {
+                kind = same_kind ∙ ap (λ (x : Open). pairs x.due) cell ∙ kind;
+                place = same_place ∙ ap (λ (x : Open). x.behind) cell ∙ begins-there l ls item heads;
+                taken = taken;
+              },
+            );
+            bytes = k.4 ∙ ap (λ (x : List ℕ). x ++ rest) there.1;
+            small = h.small;
+            known = h.known;
+          })
 
       pub is-full : after c ≡ None → HasFilled S stands trusts start d input (new ∷ cs) g rest
       is-full e = go h.ls (h.levels, h.taken, h.cells, h.given, h.bytes)
         where
-          on : (l : Level) (ls : List Level) (k : levels-with (l ∷ ls)) → after (cell_of (behind_head (length input) ls l) l) ≡ None
-          on l ls k = ap after (sym (cell-is l ls k.2)) ∙ e
-
           go : (ls : List Level) → levels-with ls → HasFilled S stands trusts start d input (new ∷ cs) g rest
           go [] k =
               let none : cs ≡ [] = cc in
               let low : d - 0 ≡ d = omega arith in
               subst (λ (x : List Open). HasFilled S stands trusts start d input (new ∷ x) g rest) (sym none) (record { item = h.item; taken = subst (λ (n : ℕ). IsTaken n h.item) low k.1; given = k.3; bytes = k.4 })
-          go (a_member w zero done ∷ ls) k =
-              let l = a_member w zero done in
-              let st = settle-here (l ∷ ls) k in
-              fills l ls k (array w (with_all done (a_spelling h.item no_spellings))) refl (ap (head majors.Array w) (sym (last_member done h.item))) st.0 st.1 st.3.1.spelled st.3.1.within tt k.3
+          go (a_member w zero done ∷ ls) k = fills (a_member w zero done) ls k (array w (with_all done (a_spelling h.item no_spellings))) refl refl (ap (head majors.Array w) (sym (last_member done h.item))) tt
           go (a_value w zero done key ∷ ls) k =
-              let l = a_value w zero done key in
-              let st = settle-here (l ∷ ls) k in
-              fills l ls k (a_map w (with_entries done (entry key h.item no_entries))) refl (ap (head majors.Map w) (sym (last_pair done key h.item))) st.0 st.1 st.3.1.spelled st.3.1.within (pairs-more (d - suc (length ls)) done key h.item k.0.1.1 k.0.1.2 k.1) k.3
-          go (tagged w n ∷ ls) k =
-              let l = tagged w n in
-              let st = settle-here (l ∷ ls) k in
-              fills l ls k (tag w n h.item) refl refl st.0 st.1 st.3.1.spelled st.3.1.within tt k.3
-          go (a_member w (suc n) done ∷ ls) k = absurd (cc (on (a_member w (suc n) done) ls k))
-          go (some_member done ∷ ls) k = absurd (cc (on (some_member done) ls k))
-          go (a_key w n done ∷ ls) k = absurd (cc (on (a_key w n done) ls k))
-          go (some_key done ∷ ls) k = absurd (cc (on (some_key done) ls k))
-          go (a_value w (suc n) done key ∷ ls) k = absurd (cc (on (a_value w (suc n) done key) ls k))
-          go (some_value done key ∷ ls) k = absurd (cc (on (some_value done key) ls k))
+              let taken = pairs-more (d - suc (length ls)) done key h.item k.0.1.1 k.0.1.2 k.1 in
+              fills (a_value w zero done key) ls k (a_map w (with_entries done (entry key h.item no_entries))) refl refl (ap (head majors.Map w) (sym (last_pair done key h.item))) taken
+          go (tagged w n ∷ ls) k = fills (tagged w n) ls k (tag w n h.item) refl refl refl tt
+          go (l ∷ ls) k = absurd (cc (ap after (sym (cell-is (length input) l ls k.2)) ∙ e))
 
   -- ---- a break
 
@@ -175,26 +137,20 @@ module _ (S : Type 0) (stands : S → S → Standing → Type 0) (trusts : Bool)
     pub break-ends : (c.due ≡ Value → ⊥) → HasFilled S stands trusts start d input (c ∷ cs) g behind
     break-ends no_value = filled c cs g behind (go s.ls s.levels s.cells s.given s.bytes)
       where
-        flag : (l : Level) (ls : List Level) → c ∷ cs ≡ cells_of (length input) (l ∷ ls) → (cell_of (behind_head (length input) ls l) l).is_endless ≡ true
-        flag l ls e = let same : c ≡ cell_of (behind_head (length input) ls l) l = cc in ap (λ (x : Open). x.is_endless) (sym same) ∙ open_ended
-
         regroup : (ls : List Level) (xs : List ℕ) → input ≡ (bytes_before ls ++ xs) ++ 0xff ∷ behind → input ≡ (bytes_before ls ++ (xs ++ (0xff ∷ []))) ++ behind
         regroup ls xs e = e ∙ sym (append_assoc (bytes_before ls ++ xs) (0xff ∷ []) behind) ∙ ap (λ (x : List ℕ). x ++ behind) (append_assoc (bytes_before ls) xs (0xff ∷ []))
-
-        tail-is : (l : Level) (ls : List Level) → c ∷ cs ≡ cells_of (length input) (l ∷ ls) → cs ≡ cells_of (length input) ls
-        tail-is l ls e = cc
 
         ended : (l : Level) (ls : List Level) (item : Spelling) (xs : List ℕ) → pairs (cell_of (behind_head (length input) ls l) l).due ≡ is_map item → opener l ≡ full_opener item → spell item ≡ xs ++ (0xff ∷ []) → IsSpelled item → depth item ≤ d - length ls → HasTakenPairs (d - suc (length ls)) item → AreLevels d (l ∷ ls) → c ∷ cs ≡ cells_of (length input) (l ∷ ls)
             → input ≡ (bytes_before ls ++ xs) ++ 0xff ∷ behind → IsEndedAs l item → stands start g (item_due (l ∷ ls)) → IsCellFull S stands trusts (StandsFull S stands d start g) d input c cs behind
         ended l ls item xs told heads is spelled within taken levels e b whole given =
-            let same : c ≡ cell_of (behind_head (length input) ls l) l = cc in
+            let same = cell-is (length input) l ls e in
             record {
               ls = ls;
               item = item;
               levels = levels.2;
               spelled = spelled;
               within = within;
-              cells = tail-is l ls e;
+              cells = cells-are (length input) l ls e;
               given = (
                 inr (l, whole, levels, given),
                 record {
@@ -211,13 +167,8 @@ module _ (S : Type 0) (stands : S → S → Standing → Type 0) (trusts : Bool)
         go : (ls : List Level) → AreLevels d ls → c ∷ cs ≡ cells_of (length input) ls → stands start g (item_due ls) → input ≡ bytes_before ls ++ 0xff ∷ behind → IsCellFull S stands trusts (StandsFull S stands d start g) d input c cs behind
         go [] h e f b = let same : c ≡ counted Item 0 0 = cc in let x : false ≡ true = ap (λ (x : Open). x.is_endless) (sym same) ∙ open_ended in absurd (cc x)
         go (some_member done ∷ ls) h e f b =
-            let room = h.0 in
-            ended (some_member done) ls (array Indefinite done) (head majors.Array Indefinite 0 ++ spell_all done) refl refl refl (tt, spelled-all (d - suc (length ls)) done h.1) (omega (arith, room, within-all (d - suc (length ls)) done h.1)) tt h e b refl f
+            ended (some_member done) ls (array Indefinite done) (head majors.Array Indefinite 0 ++ spell_all done) refl refl refl (tt, spelled-all (d - suc (length ls)) done h.1) (omega (arith, h.0, within-all (d - suc (length ls)) done h.1)) tt h e b refl f
         go (some_key done ∷ ls) h e f b =
-            let room = h.0 in
-            ended (some_key done) ls (a_map Indefinite done) (head majors.Map Indefinite 0 ++ spell_entries done) refl refl refl (tt, pairs-spelled (d - suc (length ls)) done h.1) (omega (arith, room, pairs-within (d - suc (length ls)) done h.1)) h.1 h e b refl f
-        go (some_value done k ∷ ls) h e f b = let same : c ≡ cell_of (behind_head (length input) ls (some_value done k)) (some_value done k) = cc in absurd (no_value (ap (λ (x : Open). x.due) same))
-        go (a_member w n done ∷ ls) h e f b = absurd (cc (flag (a_member w n done) ls e))
-        go (a_key w n done ∷ ls) h e f b = absurd (cc (flag (a_key w n done) ls e))
-        go (a_value w n done k ∷ ls) h e f b = absurd (cc (flag (a_value w n done k) ls e))
-        go (tagged w n ∷ ls) h e f b = absurd (cc (flag (tagged w n) ls e))
+            ended (some_key done) ls (a_map Indefinite done) (head majors.Map Indefinite 0 ++ spell_entries done) refl refl refl (tt, pairs-spelled (d - suc (length ls)) done h.1) (omega (arith, h.0, pairs-within (d - suc (length ls)) done h.1)) h.1 h e b refl f
+        go (some_value done k ∷ ls) h e f b = absurd (no_value (ap (λ (x : Open). x.due) (cell-is (length input) (some_value done k) ls e)))
+        go (l ∷ ls) h e f b = absurd (cc (ap (λ (x : Open). x.is_endless) (sym (cell-is (length input) l ls e)) ∙ open_ended))

@@ -35,12 +35,11 @@ module _ (S : Type 0) (stands : S → S → Standing → Type 0) (trusts : Bool)
 
   fills-of : (P : List Level → Spelling → Type 0) (cs : List Open) (rest : List ℕ) → (s : IsFull S stands trusts P d input cs rest) → Fills trusts d s.ls s.item
   fills-of P cs rest s =
-      let small = s.small in
       record {
         levels = s.levels;
         spelled = s.spelled;
         within = s.within;
-        short = omega (arith, small, ap length s.bytes, length-append (bytes_before s.ls ++ spell s.item) rest);
+        short = omega (arith, s.small, ap length s.bytes, length-append (bytes_before s.ls ++ spell s.item) rest);
         clean = λ e. let (item, more, taken, front) = s.known e in clean-within d s.ls s.item item rest more s.levels s.spelled s.within taken (sym s.bytes ∙ front);
       }
 
@@ -94,7 +93,4 @@ module _ (S : Type 0) (stands : S → S → Standing → Type 0) (trusts : Bool)
   pub ends-takes : (holds : S → S → List Level → Bool → List ℕ → Type 0) (p : Part) (cs : List Open) (g : S) (rest behind : List ℕ) → length behind < length rest → EndsTo S stands trusts p start d input cs g behind → TakesTo S stands trusts holds p start d input rest cs g
   ends-takes holds (part.Item to) cs g rest behind l h = (subst (λ (x : List ℕ). length x < length rest) (sym h.0) l, subst (HasEnded S stands trusts start d input cs g) (sym h.0) h.1)
   ends-takes holds part.Stopped cs g rest behind l h = tt
-  ends-takes holds (part.Head to) cs g rest behind l h = absurd h
-  ends-takes holds (part.Break to) cs g rest behind l h = absurd h
-  ends-takes holds part.Untaken cs g rest behind l h = absurd h
-  ends-takes holds part.Broken cs g rest behind l h = absurd h
+  ends-takes holds _ cs g rest behind l h = absurd h

@@ -19,7 +19,7 @@ use Rattle.cbor_walk.specs.Sink.{leaf_value, IsOpened}
 use Rattle.cbor_walk.specs.inner.Open.{counted, endless, opener}
 use Rattle.cbor_walk.specs.inner.Parts.{IsHead, IsOpener, IsPayload, Counts}
 use Rattle.cbor_front.specs.declared.level.Due.{Due}
-use Rattle.cbor_front.specs.declared.level.Due.TheVariants.{Item, Key, Value as ItsValue}
+use Rattle.cbor_front.specs.declared.level.Due.TheVariants.{Item, Key}
 
 -- ---- items without members
 
@@ -53,11 +53,7 @@ scalar-head majors.Simple n rest behind l h = record {
   one = head_is_one majors.Simple (shortest n) n (subst (λ (w : Width). HoldsOrIndefinite w n) (h.simple refl).1 (open_or h.width n h.holds));
   value_is = refl;
 }
-scalar-head majors.Bytes n rest behind l h = absurd l
-scalar-head majors.Text n rest behind l h = absurd l
-scalar-head majors.Array n rest behind l h = absurd l
-scalar-head majors.Map n rest behind l h = absurd l
-scalar-head majors.Tag n rest behind l h = absurd l
+scalar-head _ n rest behind l h = absurd l
 
 -- the head of a string before its payload
 pub string-bytes : (m : Major) (n : ℕ) (rest behind : List ℕ) (h : IsHead m n rest behind) → n ≤ length behind → rest ≡ (head m h.width (length (take n behind)) ++ take n behind) ++ drop n behind
@@ -118,26 +114,13 @@ head-opens majors.Map n Key rest behind k some h =
       some = head-some majors.Map h.width (0 + suc (n - 1)) [];
       is = h.is ∙ ap (λ (x : List ℕ). x ++ behind) (ap (head majors.Map h.width) (sym e) ∙ sym (append-nil (head majors.Map h.width (0 + suc (n - 1)))));
     }
-head-opens majors.Array n Key rest behind k some h = absurd k
-head-opens majors.Array n ItsValue rest behind k some h = absurd k
-head-opens majors.Map n Item rest behind k some h = absurd k
-head-opens majors.Map n ItsValue rest behind k some h = absurd k
-head-opens majors.Unsigned n due rest behind k some h = absurd k
-head-opens majors.Negative n due rest behind k some h = absurd k
-head-opens majors.Bytes n due rest behind k some h = absurd k
-head-opens majors.Text n due rest behind k some h = absurd k
-head-opens majors.Tag n due rest behind k some h = absurd k
-head-opens majors.Simple n due rest behind k some h = absurd k
+head-opens _ n _ rest behind k some h = absurd k
 
 pub counts-container : (m : Major) (due : Due) → Counts m due → IsContainer m
 counts-container majors.Array due k = tt
 counts-container majors.Map due k = tt
 counts-container majors.Tag due k = tt
-counts-container majors.Unsigned due k = absurd k
-counts-container majors.Negative due k = absurd k
-counts-container majors.Bytes due k = absurd k
-counts-container majors.Text due k = absurd k
-counts-container majors.Simple due k = absurd k
+counts-container _ due k = absurd k
 
 pub tag-opens : (n : ℕ) (rest behind : List ℕ) → IsHead majors.Tag n rest behind → IsOpener majors.Tag n (counted Item 0 (length behind)) rest behind
 tag-opens n rest behind h = record {
@@ -155,18 +138,19 @@ array-opens behind = record { level = some_member no_spellings; fresh = λ d. tt
 pub map-opens : (behind : List ℕ) → IsOpener majors.Map 0 (endless Key (length behind)) (0xbf ∷ behind) behind
 map-opens behind = record { level = some_key no_entries; fresh = λ d. tt; cell = refl; opened = inr refl; some = omega arith; is = refl }
 
--- of which nothing else is there yet
+-- what holds of each container before its first item
+pub of-opened : (P : Major → ℕ → Level → Type 0) → ((w : Width) (left n : ℕ) → P majors.Array n (a_member w left no_spellings)) → ((n : ℕ) → P majors.Array n (some_member no_spellings)) → ((w : Width) (left n : ℕ) → P majors.Map n (a_key w left no_entries)) → ((n : ℕ) → P majors.Map n (some_key no_entries))
+    → ((w : Width) (n : ℕ) → P majors.Tag n (tagged w n)) → (m : Major) (n : ℕ) (l : Level) → IsOpened m n l → P m n l
+of-opened P array endless_array map endless_map tag majors.Array n l (inl (w, left, e)) = subst (P majors.Array n) (sym e) (array w left n)
+of-opened P array endless_array map endless_map tag majors.Array n l (inr e) = subst (P majors.Array n) (sym e) (endless_array n)
+of-opened P array endless_array map endless_map tag majors.Map n l (inl (w, left, e)) = subst (P majors.Map n) (sym e) (map w left n)
+of-opened P array endless_array map endless_map tag majors.Map n l (inr e) = subst (P majors.Map n) (sym e) (endless_map n)
+of-opened P array endless_array map endless_map tag majors.Tag n l (w, e) = subst (P majors.Tag n) (sym e) (tag w n)
+of-opened P array endless_array map endless_map tag _ n l o = absurd o
+
+-- nothing else is there yet
 pub opener-whole : (m : Major) (n : ℕ) (l : Level) → IsOpened m n l → level_bytes l ≡ opener l
-opener-whole majors.Array n l (inl (w, left, e)) = subst (λ (x : Level). level_bytes x ≡ opener x) (sym e) (append-nil (head majors.Array w (0 + suc left)))
-opener-whole majors.Array n l (inr e) = subst (λ (x : Level). level_bytes x ≡ opener x) (sym e) refl
-opener-whole majors.Map n l (inl (w, left, e)) = subst (λ (x : Level). level_bytes x ≡ opener x) (sym e) (append-nil (head majors.Map w (0 + suc left)))
-opener-whole majors.Map n l (inr e) = subst (λ (x : Level). level_bytes x ≡ opener x) (sym e) refl
-opener-whole majors.Tag n l (w, e) = subst (λ (x : Level). level_bytes x ≡ opener x) (sym e) refl
-opener-whole majors.Unsigned n l o = absurd o
-opener-whole majors.Negative n l o = absurd o
-opener-whole majors.Bytes n l o = absurd o
-opener-whole majors.Text n l o = absurd o
-opener-whole majors.Simple n l o = absurd o
+opener-whole = of-opened (λ m n l. level_bytes l ≡ opener l) (λ w left n. append-nil (head majors.Array w (0 + suc left))) (λ n. refl) (λ w left n. append-nil (head majors.Map w (0 + suc left))) (λ n. refl) (λ w n. refl)
 
 -- ---- a head, by its first byte
 

@@ -12,7 +12,7 @@ use Rattle.cbor_head.specs.declared.width.Width.TheVariants.{Indefinite}
 use Rattle.cbor_grammar.proofs.KeyKinds.{of_kind_in, of_kind_entries}
 use Rattle.cbor_automaton.proofs.Taking.{IsNumbered}
 use Rattle.cbor_judging.specs.Kinds.{KeepsToKinds, IsKeyLevel, IsKeyDueIn, HasBasicFront}
-use Rattle.cbor_judging.specs.Levels.{Level, a_member, a_key, a_value, some_member, some_key, some_value, tagged, IsLevel, AreLevels, level_bytes, bytes_before, Standing}
+use Rattle.cbor_judging.specs.Levels.{Level, a_key, some_member, some_key, some_value, IsLevel, AreLevels, level_bytes, bytes_before, Standing}
 use Rattle.cbor_judging.proofs.Heads.{open_or, takes}
 use Rattle.cbor_judging.proofs.KindBytes.{Begins, head_is_one, keeps_due}
 use Rattle.cbor_judging.proofs.LevelFrames.{around_levels}
@@ -25,7 +25,6 @@ use Rattle.cbor_front.specs.declared.level.Due.{Due}
 use Rattle.cbor_front.specs.declared.level.Due.TheVariants.{Item, Key}
 use Rattle.cbor_front.specs.declared.stack.Stack.{Stack}
 use Rattle.cbor_front.proofs.Stacks.{standing_count}
-use Rattle.cbor_walk.specs.Sink.{IsOpened}
 use Rattle.cbor_walk.specs.inner.Building.{IsDue}
 use Rattle.cbor_walk.specs.inner.Kept.{KeepsBefore}
 use Rattle.cbor_walk.specs.inner.Open.{counted, behind_head, cell_of, cells_of}
@@ -33,8 +32,8 @@ use Rattle.cbor_walk.specs.inner.Parts.{Counts, IsHead, IsOpener, IsItem, HasBeg
 use Rattle.cbor_walk.specs.declared.open.Open.{Open}
 use Rattle.cbor_walk.specs.declared.part.Part.{Part}
 use Rattle.cbor_walk.specs.declared.part.Part.TheVariants as part
-use Rattle.cbor_walk.proofs.GivenItems.{IsScalar}
-use Rattle.cbor_walk.proofs.GivenParts.{height-is}
+use Rattle.cbor_walk.proofs.GivenItems.{IsScalar, of-opened}
+use Rattle.cbor_walk.proofs.GivenParts.{height-is, cell-is}
 
 -- ---- what begins so
 
@@ -54,62 +53,38 @@ head-has-begun d m n rest behind i l h = subst (λ (x : List ℕ). HasBegun d x 
 pub counted-begun : (d : ℕ) (m : Major) (due : Due) (n : ℕ) (rest behind : List ℕ) → Counts m due → 0 < d → IsHead m n rest behind → HasBegun d rest behind
 counted-begun d majors.Array due n rest behind k room h = head-has-begun d majors.Array n rest behind tt (omega (arith, room)) h
 counted-begun d majors.Map due n rest behind k room h = head-has-begun d majors.Map n rest behind tt (omega (arith, room)) h
-counted-begun d majors.Tag due n rest behind k room h = absurd k
-counted-begun d majors.Unsigned due n rest behind k room h = absurd k
-counted-begun d majors.Negative due n rest behind k room h = absurd k
-counted-begun d majors.Bytes due n rest behind k room h = absurd k
-counted-begun d majors.Text due n rest behind k room h = absurd k
-counted-begun d majors.Simple due n rest behind k room h = absurd k
+counted-begun d _ due n rest behind k room h = absurd k
 
 pub opener-begun : (d : ℕ) (m : Major) (n : ℕ) (c : Open) (rest behind : List ℕ) → 0 < d → IsOpener m n c rest behind → HasBegun d rest behind
-opener-begun d m n c rest behind room k = subst (λ (x : List ℕ). HasBegun d x behind) (sym k.is) (go m k.level (k.fresh 0) k.opened)
+opener-begun d m n c rest behind room k =
+    subst (λ (x : List ℕ). HasBegun d x behind) (sym k.is)
+    (of-opened (λ m n l. IsLevel 0 l → HasBegun d (level_bytes l ++ behind) behind) (λ w left n f. counted-head majors.Array w (0 + suc left) tt (omega (arith, room)) f.0) (λ n f. without-length 0x9f (array Indefinite no_spellings) refl (tt, tt) (omega (arith, room)))
+    (λ w left n f. counted-head majors.Map w (0 + suc left) tt (omega (arith, room)) f.0) (λ n f. without-length 0xbf (a_map Indefinite no_entries) refl (tt, tt) (omega (arith, room))) (λ w n f. head-at-front d majors.Tag w n behind tt (omega (arith, room)) f) m n k.level k.opened (k.fresh 0))
   where
     counted-head : (m : Major) (w : Width) (n : ℕ) → IsNumbered m → takes m ≤ d → Holds w n → HasBegun d ((head m w n ++ []) ++ behind) behind
     counted-head m w n i l holds = subst (λ (x : List ℕ). HasBegun d (x ++ behind) behind) (sym (append-nil (head m w n))) (head-at-front d m w n behind i l holds)
 
-    go : (m : Major) (l : Level) → IsLevel 0 l → IsOpened m n l → HasBegun d (level_bytes l ++ behind) behind
-    go majors.Array l f (inl (w, left, e)) = subst (λ (x : Level). HasBegun d (level_bytes x ++ behind) behind) (sym e) (counted-head majors.Array w (0 + suc left) tt (omega (arith, room)) (subst (IsLevel 0) e f).0)
-    go majors.Array l f (inr e) =
-        subst (λ (x : Level). HasBegun d (level_bytes x ++ behind) behind) (sym e)
-        (record { front = 0x9f ∷ []; is = refl; one = λ container some. absurd (omega (arith, some)); item = array Indefinite no_spellings; spelled = (tt, tt); within = omega (arith, room); more = 0xff ∷ []; bytes = refl })
-    go majors.Map l f (inl (w, left, e)) = subst (λ (x : Level). HasBegun d (level_bytes x ++ behind) behind) (sym e) (counted-head majors.Map w (0 + suc left) tt (omega (arith, room)) (subst (IsLevel 0) e f).0)
-    go majors.Map l f (inr e) =
-        subst (λ (x : Level). HasBegun d (level_bytes x ++ behind) behind) (sym e)
-        (record { front = 0xbf ∷ []; is = refl; one = λ container some. absurd (omega (arith, some)); item = a_map Indefinite no_entries; spelled = (tt, tt); within = omega (arith, room); more = 0xff ∷ []; bytes = refl })
-    go majors.Tag l f (w, e) = subst (λ (x : Level). HasBegun d (level_bytes x ++ behind) behind) (sym e) (head-at-front d majors.Tag w n behind tt (omega (arith, room)) (subst (IsLevel 0) e f))
-    go majors.Unsigned l f o = absurd o
-    go majors.Negative l f o = absurd o
-    go majors.Bytes l f o = absurd o
-    go majors.Text l f o = absurd o
-    go majors.Simple l f o = absurd o
+    without-length : (first : ℕ) (item : Spelling) → spell item ≡ first ∷ 0xff ∷ [] → IsSpelled item → depth item ≤ d → HasBegun d (first ∷ behind) behind
+    without-length first item bytes spelled within = record { front = first ∷ []; is = refl; one = λ container some. absurd (omega (arith, some)); item = item; spelled = spelled; within = within; more = 0xff ∷ []; bytes = bytes }
 
 -- ---- what is taken
 
 pub begun-takes : (p : Part) (d : ℕ) (c : Open) (rest behind : List ℕ) → IsItem p → EndsBefore p behind → HasBegun d rest behind → TakesFront p d c rest
 begun-takes (part.Item to) d c rest behind i e h = subst (HasBegun d rest) (sym e) h
-begun-takes part.Untaken d c rest behind i e h = tt
-begun-takes part.Broken d c rest behind i e h = tt
-begun-takes part.Stopped d c rest behind i e h = tt
 begun-takes (part.Break to) d c rest behind i e h = absurd i
 begun-takes (part.Head to) d c rest behind i e h = absurd i
+begun-takes _ d c rest behind i e h = tt
 
 -- ---- no key of another kind begins in it
 
 level-key : (behind : ℕ) (l : Level) → IsKeyLevel l → (cell_of behind l).due ≡ Key
 level-key behind (a_key w left done) h = refl
 level-key behind (some_key done) h = refl
-level-key behind (a_member w left done) h = absurd h
-level-key behind (a_value w left done k) h = absurd h
-level-key behind (some_member done) h = absurd h
-level-key behind (some_value done k) h = absurd h
-level-key behind (tagged w n) h = absurd h
+level-key behind _ h = absurd h
 
 due-key : (n : ℕ) (c : Open) (cs : List Open) (ls : List Level) → c ∷ cs ≡ cells_of n ls → IsKeyDueIn ls → c.due ≡ Key
 due-key n c cs [] e h = absurd h
-due-key n c cs (l ∷ ls) e h =
-    let behind = behind_head n ls l in
-    let same : c ≡ cell_of behind l = cc in
-    ap (λ (x : Open). x.due) same ∙ level-key behind l h
+due-key n c cs (l ∷ ls) e h = ap (λ (x : Open). x.due) (cell-is n l ls e) ∙ level-key (behind_head n ls l) l h
 
 -- kinds are asked for
 no-kinds : Any ≡ IntegersAndTexts → ⊥
@@ -147,9 +122,6 @@ module _ (S : Type 0) (stands : S → S → Standing → Type 0) (trusts : Bool)
   pub broken-keeps : (c : Open) (cs : List Open) (g : S) (rest behind : List ℕ) → IsDue S stands trusts start d input (c ∷ cs) g rest → HasBroken c rest behind → KeepsBefore d keys input rest → KeepsBefore d keys input behind
   broken-keeps c cs g rest behind s h keeps = λ t e. go s.ls s.levels s.cells s.bytes t e
     where
-      flag : (l : Level) (ls : List Level) → c ∷ cs ≡ cells_of (length input) (l ∷ ls) → (cell_of (behind_head (length input) ls l) l).is_endless ≡ true
-      flag l ls e = let same : c ≡ cell_of (behind_head (length input) ls l) l = cc in ap (λ (x : Open). x.is_endless) (sym same) ∙ h.open_ended
-
       closed : (l : Level) (ls : List Level) → AreLevels d (l ∷ ls) → input ≡ bytes_before (l ∷ ls) ++ rest → (t : List ℕ) → input ≡ t ++ behind → (item : Spelling) → spell item ≡ level_bytes l ++ (0xff ∷ []) → IsSpelled item → depth item ≤ d - length ls
           → 0 < length (level_bytes l) → ((c : Complaint) → OfKinds (length (bytes_before ls)) item c → c.end ≤ length (bytes_before ls) + length (level_bytes l)) → KeepsToKinds (with_keys (bounds d 0) keys) plain t
       closed l ls levels b t e item is spelled within some ends =
@@ -163,23 +135,18 @@ module _ (S : Type 0) (stands : S → S → Standing → Type 0) (trusts : Bool)
       go : (ls : List Level) → AreLevels d ls → c ∷ cs ≡ cells_of (length input) ls → input ≡ bytes_before ls ++ rest → (t : List ℕ) → input ≡ t ++ behind → KeepsToKinds (with_keys (bounds d 0) keys) plain t
       go [] levels e b t f = let same : c ≡ counted Item 0 0 = cc in let x : false ≡ true = ap (λ (x : Open). x.is_endless) (sym same) ∙ h.open_ended in absurd (cc x)
       go (some_member done ∷ ls) levels e b t f =
-          let room = levels.0 in
           let one : length (head majors.Array Indefinite 0) ≡ 1 = refl in
           let size = length-append (head majors.Array Indefinite 0) (spell_all done) in
-          closed (some_member done) ls levels b t f (array Indefinite done) refl (tt, spelled-all (d - suc (length ls)) done levels.1) (omega (arith, room, within-all (d - suc (length ls)) done levels.1)) (omega (arith, size, one))
+          closed (some_member done) ls levels b t f (array Indefinite done) refl (tt, spelled-all (d - suc (length ls)) done levels.1) (omega (arith, levels.0, within-all (d - suc (length ls)) done levels.1)) (omega (arith, size, one))
           (λ x o.
           let other : length (head majors.Array Indefinite (spellings_count done)) ≡ 1 = refl in
           omega (arith, size, one, other, (of_kind_in done (length (bytes_before ls) + length (head majors.Array Indefinite (spellings_count done))) x o).within))
       go (some_key done ∷ ls) levels e b t f =
-          let room = levels.0 in
           let one : length (head majors.Map Indefinite 0) ≡ 1 = refl in
           let size = length-append (head majors.Map Indefinite 0) (spell_entries done) in
-          closed (some_key done) ls levels b t f (a_map Indefinite done) refl (tt, pairs-spelled (d - suc (length ls)) done levels.1) (omega (arith, room, pairs-within (d - suc (length ls)) done levels.1)) (omega (arith, size, one))
+          closed (some_key done) ls levels b t f (a_map Indefinite done) refl (tt, pairs-spelled (d - suc (length ls)) done levels.1) (omega (arith, levels.0, pairs-within (d - suc (length ls)) done levels.1)) (omega (arith, size, one))
           (λ x o.
           let other : length (head majors.Map Indefinite (entries_count done)) ≡ 1 = refl in
           omega (arith, size, one, other, (of_kind_entries done (length (bytes_before ls) + length (head majors.Map Indefinite (entries_count done))) x o).within))
-      go (some_value done k ∷ ls) levels e b t f = let same : c ≡ cell_of (behind_head (length input) ls (some_value done k)) (some_value done k) = cc in absurd (h.no_value (ap (λ (x : Open). x.due) same))
-      go (a_member w n done ∷ ls) levels e b t f = absurd (cc (flag (a_member w n done) ls e))
-      go (a_key w n done ∷ ls) levels e b t f = absurd (cc (flag (a_key w n done) ls e))
-      go (a_value w n done k ∷ ls) levels e b t f = absurd (cc (flag (a_value w n done k) ls e))
-      go (tagged w n ∷ ls) levels e b t f = absurd (cc (flag (tagged w n) ls e))
+      go (some_value done k ∷ ls) levels e b t f = absurd (h.no_value (ap (λ (x : Open). x.due) (cell-is (length input) (some_value done k) ls e)))
+      go (l ∷ ls) levels e b t f = absurd (cc (ap (λ (x : Open). x.is_endless) (sym (cell-is (length input) l ls e)) ∙ h.open_ended))

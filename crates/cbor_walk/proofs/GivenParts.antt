@@ -12,11 +12,11 @@ use Rattle.cbor_judging.proofs.Heads.{open_or}
 use Rattle.cbor_judging.proofs.Items.{is-definite}
 use Rattle.cbor_judging.proofs.Levels.{clean-anywhere, no-count}
 use Rattle.cbor_judging.proofs.Loops.{array_bytes-whole, map_bytes-whole}
-use Rattle.cbor_judging.specs.Levels.{IsTaken, Level, a_member, a_key, a_value, some_member, some_key, some_value, tagged, AreLevels, level_bytes, bytes_before, Standing, item_due, settle}
+use Rattle.cbor_judging.specs.Levels.{IsTaken, Level, a_member, some_member, some_key, AreLevels, level_bytes, bytes_before, Standing, item_due, settle}
 use Rattle.cbor_front.specs.Due.{awaits}
 use Rattle.cbor_front.specs.Stack.{standing}
 use Rattle.cbor_front.specs.declared.level.Due.{Due}
-use Rattle.cbor_front.specs.declared.level.Due.TheVariants.{Item, Key, Value as ItsValue}
+use Rattle.cbor_front.specs.declared.level.Due.TheVariants.{Item, Key}
 use Rattle.cbor_front.specs.declared.stack.Stack.{Stack}
 use Rattle.cbor_walk.specs.Sink.{takes_key, key_due, Completes, IsEndedAs, IsItemDue, Gives, Opens, IsKnownValid, IsGivenFront}
 use Rattle.cbor_walk.specs.inner.Building.{BeginsTaken, IsDue, HasEnded, IsToEnd, IsBuilt, IsDueFor}
@@ -31,22 +31,21 @@ pub cells-count : (n : ℕ) (ls : List Level) → length (cells_of n ls) ≡ suc
 cells-count n [] = refl
 cells-count n (l ∷ ls) = ap suc (cells-count n ls)
 
+-- the innermost, and those around it
+pub cell-is : (n : ℕ) {c : Open} {cs : List Open} (l : Level) (ls : List Level) → c ∷ cs ≡ cells_of n (l ∷ ls) → c ≡ cell_of (behind_head n ls l) l
+cell-is n l ls e = cc
+
+pub cells-are : (n : ℕ) {c : Open} {cs : List Open} (l : Level) (ls : List Level) → c ∷ cs ≡ cells_of n (l ∷ ls) → cs ≡ cells_of n ls
+cells-are n l ls e = cc
+
 -- a key is due in the innermost one
 cell-awaits : (behind : ℕ) (l : Level) → awaits (cell_of behind l).due ≡ takes_key l
 cell-awaits behind (a_member w left done) = refl
-cell-awaits behind (a_key w left done) = refl
-cell-awaits behind (a_value w left done k) = refl
-cell-awaits behind (some_member done) = refl
-cell-awaits behind (some_key done) = refl
-cell-awaits behind (some_value done k) = refl
-cell-awaits behind (tagged w n) = refl
+cell-awaits behind _ = refl
 
 pub key-awaited : (n : ℕ) (ls : List Level) (top : Open) (outer : List Open) → top ∷ outer ≡ cells_of n ls → awaits top.due ≡ key_due ls
 key-awaited n [] top outer e = let same : top ≡ counted Item 0 0 = cc in ap (λ (x : Open). awaits x.due) same
-key-awaited n (l ∷ ls) top outer e =
-    let behind = behind_head n ls l in
-    let same : top ≡ cell_of behind l = cc in
-    ap (λ (x : Open). awaits x.due) same ∙ cell-awaits behind l
+key-awaited n (l ∷ ls) top outer e = ap (λ (x : Open). awaits x.due) (cell-is n l ls e) ∙ cell-awaits (behind_head n ls l) l
 
 -- an input whose item is known to be valid
 pub known-begins : (limits : Bounds) (bytes input : List ℕ) (d : ℕ) → d ≡ limits.depth → input ≡ take limits.bytes bytes → IsKnownValid limits bytes → BeginsTaken d input
@@ -57,8 +56,7 @@ known-begins limits bytes input d e f (size, h) =
 module _ (S : Type 0) (stands : S → S → Standing → Type 0) (trusts : Bool) where
   pub due-item : (top : Open) (g : S) (rest : List ℕ) (t : Bool) → t ≡ awaits top.due → IsDueFor S stands trusts top g rest → IsItemDue S stands t g
   due-item top g rest t e (d, outer, (start, input, s)) =
-      let small = s.small in
-      (start, d, s.ls, record { levels = s.levels; short = omega (arith, small, ap length s.bytes, length-append (bytes_before s.ls) rest) }, (s.given, e ∙ key-awaited (length input) s.ls top outer s.cells))
+      (start, d, s.ls, record { levels = s.levels; short = omega (arith, s.small, ap length s.bytes, length-append (bytes_before s.ls) rest) }, (s.given, e ∙ key-awaited (length input) s.ls top outer s.cells))
 
   -- before the first part
   pub starts : (k : Stack Open) (g : S) (d : ℕ) (input : List ℕ) (cells : List Open) → k.height ≡ 0 → k.top ≡ counted Item 0 0 → stands g g (item_due []) → length input < 2 ^ 63 → (trusts ≡ true → BeginsTaken d input) → IsDue S stands trusts g d input (standing Open k cells) g input
@@ -114,11 +112,10 @@ module _ (S : Type 0) (stands : S → S → Standing → Type 0) (trusts : Bool)
 
       pub completes : (item : Spelling) (behind : List ℕ) → IsTaken (d - length s.ls) item → rest ≡ spell item ++ behind → Completes d s.ls item
       completes item behind i e =
-          let small = s.small in
           record {
             levels = s.levels;
             taken = i;
-            short = omega (arith, small, ap length s.bytes, ap length e, length-append (bytes_before s.ls) rest, length-append (spell item) behind, length-append (bytes_before s.ls) (spell item));
+            short = omega (arith, s.small, ap length s.bytes, ap length e, length-append (bytes_before s.ls) rest, length-append (spell item) behind, length-append (bytes_before s.ls) (spell item));
           }
 
       -- one that the sink may take in several parts
@@ -132,11 +129,10 @@ module _ (S : Type 0) (stands : S → S → Standing → Type 0) (trusts : Bool)
       pub opened : (m : Major) (n : ℕ) (c : Open) (behind : List ℕ) (new : S) (t : Bool) → t ≡ key_due s.ls → length s.ls < d → IsOpener m n c rest behind → Opens S stands t m n g new
           → (length behind < length rest) × IsDue S stands trusts start d input (c ∷ cs) new behind
       opened m n c behind new t told room k opens =
-          let some = k.some in
           let size = length-append (level_bytes k.level) behind in
           let place : length behind ≡ behind_head (length input) s.ls k.level =
           omega (arith, ap length s.bytes, ap length k.is, size, length-append (bytes_before s.ls) rest, length-append (bytes_before s.ls) (opener k.level), ap length (opener-whole m n k.level k.opened)) in (
-            omega (arith, some, ap length k.is, size),
+            omega (arith, k.some, ap length k.is, size),
             record {
               ls = k.level ∷ s.ls;
               levels = (room, k.fresh (d - suc (length s.ls)), s.levels);
@@ -184,13 +180,4 @@ module _ (S : Type 0) (stands : S → S → Standing → Type 0) (trusts : Bool)
           to-end true (some_key no_entries) (a_map w no_entries) behind new refl (opens start s.ls (some_key no_entries) (s.given, told) (inr refl)) (room, tt, s.levels) refl
           (record { spelled = (open_or w 0 holds, tt); within = omega (arith, room); clean = λ at c x. elim x [ inl y ↦ no-count at majors.Map w 0 c y | inr y ↦ y ] })
           (h.is ∙ ap (λ (x : List ℕ). x ++ behind) (sym whole))
-      empty-ends majors.Array Key n behind new t told room k none h opens = absurd k
-      empty-ends majors.Array ItsValue n behind new t told room k none h opens = absurd k
-      empty-ends majors.Map Item n behind new t told room k none h opens = absurd k
-      empty-ends majors.Map ItsValue n behind new t told room k none h opens = absurd k
-      empty-ends majors.Unsigned due n behind new t told room k none h opens = absurd k
-      empty-ends majors.Negative due n behind new t told room k none h opens = absurd k
-      empty-ends majors.Bytes due n behind new t told room k none h opens = absurd k
-      empty-ends majors.Text due n behind new t told room k none h opens = absurd k
-      empty-ends majors.Tag due n behind new t told room k none h opens = absurd k
-      empty-ends majors.Simple due n behind new t told room k none h opens = absurd k
+      empty-ends _ _ n behind new t told room k none h opens = absurd k

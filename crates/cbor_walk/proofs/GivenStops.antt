@@ -78,9 +78,8 @@ module _ (S : Type 0) (stands : S → S → Standing → Type 0) (trusts : Bool)
         let ls = come.ls in
         let ps = paths_of ls in
         let same = paths_bytes ls in
-        let small = come.small in
         let size = length-append (bytes_before ls) rest.now in
-        let short : length (bytes_before ls) < 2 ^ 63 = omega (arith, small, ap length come.bytes, size) in
+        let short : length (bytes_before ls) < 2 ^ 63 = omega (arith, come.small, ap length come.bytes, size) in
         let (order, different) = apart start ls come.given in
         let whole : path.bytes_before ps ++ rest.now ≡ input = ap (λ (x : List ℕ). x ++ rest.now) same ∙ sym come.bytes in
         let count = paths_length ls in

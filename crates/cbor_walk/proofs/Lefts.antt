@@ -43,9 +43,7 @@ module _ (x : ℕ) (bytes : List ℕ) (e : ℕ) (c : Open) (S : Type 0) (stands 
   same-front p q t f l = absurd l
 
   pub left-within : (p : Part) → TakesTo S stands trusts holds p start d input (x ∷ bytes) cs g → LeavesWithin bytes (left_of p)
-  left-within (part.Item b) t = omega (arith, t.0)
-  left-within (part.Head b) t = omega (arith, t.0)
-  left-within (part.Break b) t = omega (arith, t.0)
   left-within part.Untaken t = tt
   left-within part.Broken t = tt
   left-within part.Stopped t = tt
+  left-within _ t = omega (arith, t.0)

@@ -1,6 +1,5 @@
 -- The open containers of a valid item so far, of which no map has two keys that are the same, as the path to the item that is due.
-use Rattle.std.proofs.Common.{◌≡◌, ℕ, suc, ◌+◌, ◌-◌, ◌^◌, ◌<◌, true, List, [], ◌∷◌, ◌++◌, length, map, get_or, refl, sym, ap, ap₂, ◌∙◌, subst, inl, inr, arith, Option, Some, ◌≤◌, ◌≢◌, length-append}
-use Rattle.std.specs.List.{AllByRecursion}
+use Rattle.std.proofs.Common.{◌≡◌, ℕ, suc, ◌+◌, ◌-◌, ◌^◌, ◌<◌, true, List, [], ◌∷◌, ◌++◌, length, refl, sym, ap, ap₂, ◌∙◌, subst, inl, inr, arith, Option, Some, ◌≤◌, ◌≢◌, length-append}
 use Rattle.std.proofs.lemmas.List.{map-append}
 use Rattle.cbor_head.specs.Prelude.{Pair, canonical, canonical_entries, plain, Complaint, complaint, IsRepeated, OfKey, ComplainsInEntries, head, Spelling, SpelledEntries, no_entries, entry, spell, spell_entries, entries_count, HoldsOrIndefinite, value_of, entries_of, depth}
 use Rattle.cbor_head.specs.declared.major.Major.TheVariants as majors
@@ -9,7 +8,8 @@ use Rattle.cbor_head.specs.declared.reason.Reason.TheVariants.{RepeatedKey}
 use Rattle.cbor_head.specs.declared.width.Width.{Width}
 use Rattle.cbor_head.specs.declared.width.Width.TheVariants.{Indefinite}
 use Rattle.cbor_builder.specs.Built.{keys_so_far, AreAllDifferent, AreOpenKeysDifferent}
-use Rattle.cbor_canonical.specs.Pairs.{HasDistinctBytes}
+use Rattle.cbor_builder.proofs.KeysSoFar.{different_distinct}
+use Rattle.cbor_builder.proofs.Neighbours.{keys}
 use Rattle.cbor_canonical.specs.Parts.{pair}
 use Rattle.cbor_canonical.proofs.Keys.{distinct_exactly}
 use Rattle.cbor_judging.specs.Frame.{with_entries, keys_onto}
@@ -30,6 +30,7 @@ use Rattle.cbor_judging.specs.Path.{IsClean, AreClean, IsKeyDueIn, MayBreak}
 use Rattle.cbor_front.specs.declared.level.Due.TheVariants.{Item, Key, Value}
 use Rattle.cbor_walk.specs.declared.open.Open.{Open}
 use Rattle.cbor_judging.proofs.PathLevels.{judged_path, judged_key_path}
+use Rattle.cbor_walk.proofs.GivenParts.{cell-is}
 
 -- ---- the path
 
@@ -52,30 +53,13 @@ paths_length (l ∷ ls) = ap suc (paths_length ls)
 
 path_bytes : (l : Level) → path.level_bytes (path_of l) ≡ level_bytes l
 path_bytes (a_member w left done) = refl
-path_bytes (a_key w left done) = refl
-path_bytes (a_value w left done k) = refl
-path_bytes (some_member done) = refl
-path_bytes (some_key done) = refl
-path_bytes (some_value done k) = refl
-path_bytes (tagged w n) = refl
+path_bytes _ = refl
 
 pub paths_bytes : (ls : List Level) → path.bytes_before (paths_of ls) ≡ bytes_before ls
 paths_bytes [] = refl
 paths_bytes (l ∷ ls) = ap₂ (λ (x y : List ℕ). x ++ y) (paths_bytes ls) (path_bytes l)
 
 -- ---- keys
-
-abbrev keys : List Pair → List (List ℕ)
-keys ps = map (λ (p : Pair). p.key) ps
-
-differ : (ps : List Pair) (k : List ℕ) → ((i : ℕ) → i < length (keys ps) → get_or (keys ps) i [] ≡ k → ⊥) → AllByRecursion (λ q. q.key ≢ k) ps
-differ [] k h = tt
-differ (p ∷ ps) k h = (h 0 (omega arith), differ ps k (λ i l e. h (suc i) (omega (arith, l)) e))
-
-different_distinct : (ps : List Pair) → AreAllDifferent (keys ps) → HasDistinctBytes ps
-different_distinct [] h = tt
-different_distinct (p ∷ ps) h =
-    (differ ps p.key (λ i l e. h (suc i) (0, omega arith, omega (arith, l), sym e)), different_distinct ps (λ i r. h (suc i) (suc r.0, omega (arith, r.1), omega (arith, r.2), r.3)))
 
 -- pairs whose keys have different bytes have no complaint
 module _ (o : KeyOrder) (d : ℕ) (es : SpelledEntries) (h : ArePairsTaken d es) (short : length (spell_entries es) < 2 ^ 64) where
@@ -151,9 +135,8 @@ pub paths_clean : (o : KeyOrder) (d : ℕ) (ls : List Level) → AreLevels d ls 
 paths_clean o d [] h small apart = tt
 paths_clean o d (l ∷ ls) h small apart =
     let size = length-append (bytes_before ls) (level_bytes l) in
-    let below = h.0 in
     let count = paths_length ls in (
-      omega (arith, below, count),
+      omega (arith, h.0, count),
       subst (λ (n : ℕ). IsClean plain (length (path.bytes_before (paths_of ls))) (d - suc n) (path_of l)) (sym count) (level_clean o _ (d - suc (length ls)) l h.1 (omega (arith, small, size)) apart.0),
       paths_clean o d ls h.2 (omega (arith, small, size)) apart.1,
     )
@@ -189,55 +172,39 @@ repeat_of_whole o d ls l es behind h small apart k i repeated = go l behind h sm
         → IsJudged plain 0 d (bytes_before (m ∷ ls) ++ spell k) (Some (complaint (length (bytes_before (m ∷ ls)) + length (spell k)) (length (bytes_before (m ∷ ls))) RepeatedKey))
     go (a_key w left done) e h small apart = here w left (a_key w left done) (ap (path.a_key w left) (sym e)) (paths_clean o d (a_key w left done ∷ ls) h small apart)
     go (some_key done) e h small apart = here Indefinite 0 (some_key done) (ap (path.a_key Indefinite 0) (sym e)) (paths_clean o d (some_key done ∷ ls) h small apart)
-    go (a_member w left done) e h small apart = absurd e
-    go (a_value w left done key) e h small apart = absurd e
-    go (some_member done) e h small apart = absurd e
-    go (some_value done key) e h small apart = absurd e
-    go (tagged w n) e h small apart = absurd e
+    go _ e h small apart = absurd e
 
 -- ---- what is due, by the cells
 
 level_due : (behind : ℕ) (l : Level) (ls : List path.Level) → (cell_of behind l).due ≡ Key → IsKeyDueIn (path_of l ∷ ls)
 level_due behind (a_key w left done) ls e = tt
 level_due behind (some_key done) ls e = tt
-level_due behind (a_member w left done) ls e = absurd (cc e)
-level_due behind (a_value w left done k) ls e = absurd (cc e)
-level_due behind (some_member done) ls e = absurd (cc e)
-level_due behind (some_value done k) ls e = absurd (cc e)
-level_due behind (tagged w n) ls e = absurd (cc e)
+level_due behind _ ls e = absurd (cc e)
 
 due_level : (behind : ℕ) (l : Level) (ls : List path.Level) → IsKeyDueIn (path_of l ∷ ls) → (cell_of behind l).due ≡ Key
 due_level behind (a_key w left done) ls h = refl
 due_level behind (some_key done) ls h = refl
-due_level behind (a_member w left done) ls h = absurd h
-due_level behind (a_value w left done k) ls h = absurd h
-due_level behind (some_member done) ls h = absurd h
-due_level behind (some_value done k) ls h = absurd h
-due_level behind (tagged w n) ls h = absurd h
+due_level behind _ ls h = absurd h
 
 breaks_level : (behind d : ℕ) (l : Level) (ls : List path.Level) → IsLevel d l → MayBreak (path_of l ∷ ls) → ((cell_of behind l).is_endless ≡ true) × ((cell_of behind l).due ≢ Value)
 breaks_level behind d (some_member done) ls h b = (refl, λ e. cc e)
 breaks_level behind d (some_key done) ls h b = (refl, λ e. cc e)
 breaks_level behind d (a_member Indefinite left done) ls h b = absurd h.0
 breaks_level behind d (a_key Indefinite left done) ls h b = absurd h.0
-breaks_level behind d (a_member w left done) ls h b = absurd b
-breaks_level behind d (a_key w left done) ls h b = absurd b
-breaks_level behind d (a_value w left done k) ls h b = absurd b
-breaks_level behind d (some_value done k) ls h b = absurd b
-breaks_level behind d (tagged w n) ls h b = absurd b
+breaks_level behind d _ ls h b = absurd b
 
 module _ (n : ℕ) (top : Open) (outer : List Open) where
   pub path_due : (ls : List Level) → top ∷ outer ≡ cells_of n ls → top.due ≡ Key → IsKeyDueIn (paths_of ls)
   path_due [] e due = let same : top ≡ counted Item 0 0 = cc in absurd (cc (ap (λ (x : Open). x.due) (sym same) ∙ due))
-  path_due (l ∷ ls) e due = let same : top ≡ cell_of (behind_head n ls l) l = cc in level_due (behind_head n ls l) l (paths_of ls) (ap (λ (x : Open). x.due) (sym same) ∙ due)
+  path_due (l ∷ ls) e due = level_due (behind_head n ls l) l (paths_of ls) (ap (λ (x : Open). x.due) (sym (cell-is n l ls e)) ∙ due)
 
   pub due_path : (ls : List Level) → top ∷ outer ≡ cells_of n ls → IsKeyDueIn (paths_of ls) → top.due ≡ Key
   due_path [] e h = absurd h
-  due_path (l ∷ ls) e h = let same : top ≡ cell_of (behind_head n ls l) l = cc in ap (λ (x : Open). x.due) same ∙ due_level (behind_head n ls l) l (paths_of ls) h
+  due_path (l ∷ ls) e h = ap (λ (x : Open). x.due) (cell-is n l ls e) ∙ due_level (behind_head n ls l) l (paths_of ls) h
 
   pub breaks_path : (d : ℕ) (ls : List Level) → AreLevels d ls → top ∷ outer ≡ cells_of n ls → MayBreak (paths_of ls) → (top.is_endless ≡ true) × (top.due ≢ Value)
   breaks_path d [] h e b = absurd b
   breaks_path d (l ∷ ls) h e b =
-      let same : top ≡ cell_of (behind_head n ls l) l = cc in
+      let same = cell-is n l ls e in
       let found = breaks_level (behind_head n ls l) (d - suc (length ls)) l (paths_of ls) h.1 b in
       (ap (λ (x : Open). x.is_endless) same ∙ found.0, λ x. found.1 (ap (λ (y : Open). y.due) (sym same) ∙ x))

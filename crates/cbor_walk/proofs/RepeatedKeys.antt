@@ -6,7 +6,7 @@ use Rattle.cbor_head.specs.declared.major.Major.TheVariants.{Map}
 use Rattle.cbor_head.specs.declared.reason.Reason.TheVariants.{RepeatedKey}
 use Rattle.cbor_head.specs.declared.reason.Refusal.{Refusal}
 use Rattle.cbor_grammar.proofs.ReadLaws.{length_spell}
-use Rattle.cbor_judging.specs.Levels.{IsTaken, AreTaken, ArePairsTaken, Level, a_member, a_key, a_value, some_member, some_key, some_value, tagged, level_bytes, bytes_before}
+use Rattle.cbor_judging.specs.Levels.{IsTaken, AreTaken, ArePairsTaken, Level, a_key, some_key, level_bytes, bytes_before}
 use Rattle.cbor_walk.specs.Sink.{IsKeyBehind}
 use Rattle.cbor_walk.specs.inner.Open.{opener}
 use Rattle.cbor_walk.specs.inner.Repeated.{IsKeyTold}
@@ -48,11 +48,7 @@ items_short (entry k v es) = omega (arith, items_short es, length_spell k, lengt
 opened : (l : Level) (es : SpelledEntries) → IsKeyBehind l es → level_bytes l ≡ opener l ++ spell_entries es
 opened (a_key w left done) es e = ap (λ (x : SpelledEntries). head Map w (entries_count done + suc left) ++ spell_entries x) (sym e)
 opened (some_key done) es e = ap (λ (x : SpelledEntries). opener (some_key done) ++ spell_entries x) (sym e)
-opened (a_member w left done) es e = absurd e
-opened (a_value w left done k) es e = absurd e
-opened (some_member done) es e = absurd e
-opened (some_value done k) es e = absurd e
-opened (tagged w n) es e = absurd e
+opened _ es e = absurd e
 
 module _ (limits : Bounds) (input : List ℕ) (behind pair : ℕ) (h : IsKeyTold limits input behind pair) where
   abbrev head_before : List ℕ
@@ -78,34 +74,28 @@ module _ (limits : Bounds) (input : List ℕ) (behind pair : ℕ) (h : IsKeyTold
 
   pub pairs_fit : 2 * pair < 2 ^ 64
   pairs_fit =
-      let small = h.small in
-      let count = h.count in
-      omega (arith, small, count, items_short h.es, ap length split_there, length-append head_before content, length-append (spell_entries h.es) (spell h.key ++ h.more))
+      omega (arith, h.small, h.count, items_short h.es, ap length split_there, length-append head_before content, length-append (spell_entries h.es) (spell h.key ++ h.more))
 
   pub content_short : length (take (length input - (length input - behind)) (drop (length input - behind) input)) ≤ 2 ^ 62
   content_short =
-      let small = h.small in
-      omega (arith, small, ap length content_there, ap length split_there, length-append head_before content)
+      omega (arith, h.small, ap length content_there, ap length split_there, length-append head_before content)
 
   pub pairs_in_front : (d : ℕ) → d ≡ limits.depth → StandInFront d (take (length input - (length input - behind)) (drop (length input - behind) input)) (2 * pair) (spell h.key ++ h.more)
   pairs_in_front d e =
-      let room = h.levels.0 in
-      let count = h.count in
       record {
         items = items_of h.es;
         taken = items_taken (limits.depth - suc (length h.outer)) (d - 1) h.es (omega (arith, e)) (pairs_taken (limits.depth - suc (length h.outer)) h.level h.es h.is_behind h.levels.1);
-        room = omega (arith, e, room);
-        count_is = items_count h.es ∙ ap (λ (n : ℕ). 2 * n) count;
+        room = omega (arith, e, h.levels.0);
+        count_is = items_count h.es ∙ ap (λ (n : ℕ). 2 * n) h.count;
         bytes_are = content_there ∙ ap (λ (x : List ℕ). x ++ (spell h.key ++ h.more)) (sym (items_bytes h.es));
       }
 
   pub key_in_front : (d : ℕ) (found : List ℕ) → d ≡ limits.depth → found ≡ spell h.key ++ h.more → StandInFront d found 1 h.more
   key_in_front d found e is =
-      let room = h.levels.0 in
       record {
         items = a_spelling h.key no_spellings;
         taken = (deeper (limits.depth - suc (length h.outer)) (d - 1) h.key (omega (arith, e)) h.taken, tt);
-        room = omega (arith, e, room);
+        room = omega (arith, e, h.levels.0);
         count_is = refl;
         bytes_are = is ∙ ap (λ (x : List ℕ). x ++ h.more) (sym (append-nil (spell h.key)));
       }

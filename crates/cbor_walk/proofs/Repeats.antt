@@ -8,7 +8,7 @@ use Rattle.cbor_builder.specs.Built.{HasKey}
 use Rattle.cbor_canonical.proofs.Keys.{same_exactly}
 use Rattle.cbor_canonical.proofs.Sound.{IsSound, sound}
 use Rattle.cbor_judging.specs.Frame.{keys_onto}
-use Rattle.cbor_judging.specs.Levels.{IsTaken, ArePairsTaken, Level, a_member, a_key, a_value, some_member, some_key, some_value, tagged, IsLevel, AreLevels, bytes_before}
+use Rattle.cbor_judging.specs.Levels.{IsTaken, ArePairsTaken, Level, a_key, some_key, IsLevel, AreLevels, bytes_before}
 use Rattle.cbor_judging.proofs.Valid.{in_range_of, valid_of}
 use Rattle.cbor_walk.specs.Sink.{IsKeyBehind}
 
@@ -37,20 +37,12 @@ pairs_short ls (a_key w left done) es e h =
 pairs_short ls (some_key done) es e h =
     let hd = head majors.Map Indefinite 0 in
     omega (arith, h, ap (λ (x : SpelledEntries). length (spell_entries x)) e, length-append (bytes_before ls) (hd ++ spell_entries done), length-append hd (spell_entries done))
-pairs_short ls (a_member w left done) es e h = absurd e
-pairs_short ls (a_value w left done k) es e h = absurd e
-pairs_short ls (some_member done) es e h = absurd e
-pairs_short ls (some_value done k) es e h = absurd e
-pairs_short ls (tagged w n) es e h = absurd e
+pairs_short ls _ es e h = absurd e
 
 pub pairs_taken : (d : ℕ) (l : Level) (es : SpelledEntries) → IsKeyBehind l es → IsLevel d l → ArePairsTaken d es
 pairs_taken d (a_key w left done) es e h = subst (ArePairsTaken d) (sym e) h.1
 pairs_taken d (some_key done) es e h = subst (ArePairsTaken d) (sym e) h
-pairs_taken d (a_member w left done) es e h = absurd e
-pairs_taken d (a_value w left done k) es e h = absurd e
-pairs_taken d (some_member done) es e h = absurd e
-pairs_taken d (some_value done k) es e h = absurd e
-pairs_taken d (tagged w n) es e h = absurd e
+pairs_taken d _ es e h = absurd e
 
 -- where an earlier key of the map has its canonical bytes, it is the same
 pub repeated_by_bytes : (o : KeyOrder) (d e : ℕ) (ls : List Level) (l : Level) (es : SpelledEntries) → IsKeyBehind l es → AreLevels d (l ∷ ls) → length (bytes_before (l ∷ ls)) < 2 ^ 63

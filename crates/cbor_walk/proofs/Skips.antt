@@ -26,10 +26,9 @@ module _ (S : Type 0) (start : S) (d left : ℕ) (rest behind : List ℕ) (h : S
   all_taken : IsTaken d (array Eight h.items)
   all_taken =
       let holds : Holds Eight (spellings_count h.items) = subst (Holds Eight) (sym h.count_is) low in
-      let room = h.room in
       record {
         spelled = (holds, spelled-all (d - 1) h.items h.taken);
-        within = omega (arith, room, within-all (d - 1) h.items h.taken);
+        within = omega (arith, h.room, within-all (d - 1) h.items h.taken);
         clean = λ at c x. elim x [ inl y ↦ no-count at majors.Array Eight (spellings_count h.items) c y | inr y ↦ clean-all (d - 1) h.items _ h.taken c y ];
       }
 
@@ -46,13 +45,12 @@ module _ (S : Type 0) (start : S) (d left : ℕ) (rest behind : List ℕ) (h : S
 
   pub members_due : (top outer : Open) (g : S) → length rest ≤ 2 ^ 62 → top ≡ counted Item left (length rest) → outer ≡ counted Item 0 0 → IsDue S (anywhere S) true start d (headed left rest) (top ∷ outer ∷ []) g rest
   members_due top outer g small e f =
-      let room = h.room in
       let size : length (head majors.Array Eight (0 + suc left)) ≡ 9 = refl in
       let all = length-append (head majors.Array Eight (0 + suc left) ++ []) rest in
       let more = length-append (head majors.Array Eight (0 + suc left)) [] in
       record {
         ls = members left;
-        levels = (omega (arith, room), (omega (arith, low), tt), tt);
+        levels = (omega (arith, h.room), (omega (arith, low), tt), tt);
         cells = ap₂ (λ (x y : Open). x ∷ y ∷ []) (e ∙ ap (counted Item left) (omega (arith, all, more))) f;
         given = tt;
         bytes = refl;
@@ -62,18 +60,12 @@ module _ (S : Type 0) (start : S) (d left : ℕ) (rest behind : List ℕ) (h : S
 
   pub goes_to : (m : Met) → EndsItem m d (headed left rest) → GoesTo m behind
   goes_to (met.Whole to) (item, taken, e) = (unique item (array Eight h.items) taken.spelled all_taken.spelled to.now behind (sym e ∙ whole)).1
-  goes_to (met.Untaken to) b = tt
-  goes_to (met.Broken to) b = tt
-  goes_to (met.Repeated to repeat) b = tt
-  goes_to met.Stopped b = tt
+  goes_to _ b = tt
 
 -- where a walk that keeps nothing ends
 pub ends_item : (S : Type 0) (start g : S) (d : ℕ) (input : List ℕ) (m : Met) (cs : List Open) → Meets S (anywhere S) true (anything S) m start d input cs g → EndsItem m d input
 ends_item S start g d input (met.Whole to) cs b = (b.item, b.taken, b.bytes)
-ends_item S start g d input (met.Untaken to) cs b = tt
-ends_item S start g d input (met.Broken to) cs b = tt
-ends_item S start g d input (met.Repeated to repeat) cs b = tt
-ends_item S start g d input met.Stopped cs b = tt
+ends_item S start g d input _ cs b = tt
 
 -- no items
 pub none_in_front : (d : ℕ) (rest : List ℕ) (count : ℕ) (behind : List ℕ) → count ≡ 0 → StandInFront d rest count behind → rest ≡ behind

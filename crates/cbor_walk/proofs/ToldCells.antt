@@ -17,9 +17,6 @@ pub maps_append : (xs ys : List Open) → map_cells (xs ++ ys) ≡ map_cells xs 
 maps_append [] ys = omega arith
 maps_append (x ∷ xs) ys = ap (counts_one (pairs x.due)) (maps_append xs ys) ∙ counts_add (pairs x.due) (map_cells xs) (map_cells ys)
 
-maps_of_one : (x : Open) → pairs x.due ≡ true → map_cells (x ∷ []) ≡ 1
-maps_of_one x e = ap (λ (b : Bool). counts_one b 0) e
-
 maps_reverse : (xs : List Open) → map_cells (reverse xs) ≡ map_cells xs
 maps_reverse [] = refl
 maps_reverse (x ∷ xs) =

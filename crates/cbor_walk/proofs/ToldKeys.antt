@@ -10,7 +10,7 @@ use Rattle.cbor_head.specs.declared.width.Width.{Width}
 use Rattle.cbor_head.specs.declared.width.Width.TheVariants.{Direct, One, Two, Four, Eight, Indefinite}
 use Rattle.cbor_builder.specs.Built.{HasKey, keys_so_far, IsFirstRepeat, AreAllDifferent}
 use Rattle.cbor_judging.specs.Given.{level_open}
-use Rattle.cbor_judging.specs.Levels.{IsTaken, ArePairsTaken, Level, a_member, a_key, a_value, some_member, some_key, some_value, tagged, level_bytes, IsLevel}
+use Rattle.cbor_judging.specs.Levels.{IsTaken, ArePairsTaken, Level, a_key, a_value, some_key, some_value, level_bytes, IsLevel}
 use Rattle.cbor_judging.proofs.Heads.{open_or}
 use Rattle.cbor_walk.specs.Sink.{IsKeyBehind}
 use Rattle.cbor_walk.specs.inner.Open.{opener}
@@ -79,14 +79,13 @@ pair_at o d (entry k v es) zero h l = record {
 pair_at o d (entry k v es) (suc n) h l =
     let r = pair_at o d es n h.2 (omega (arith, l)) in
     let rest = spell r.key ++ (spell r.value ++ spell_entries r.after) in
-    let total = r.total in
     record {
       before = entry k v r.before;
       key = r.key;
       value = r.value;
       after = r.after;
       count = ap suc r.count;
-      total = omega (arith, total);
+      total = omega (arith, r.total);
       before_taken = (h.0, h.1, r.before_taken);
       key_taken = r.key_taken;
       keys_are = ap (λ (ks : List (List ℕ)). canonical o (value_of k) ∷ ks) r.keys_are;
@@ -171,7 +170,6 @@ module _ (o : KeyOrder) (d : ℕ) (w : Width) (n : ℕ) (holds : HoldsOrIndefini
   key_among es pair others tail l taken low first =
       let r = pair_at o d es pair taken low in
       let h = head majors.Map w n in
-      let total = r.total in
       let count = r.count in
       let ck = canonical o (value_of r.key) in
       let all : keys o es ++ others ≡ keys o r.before ++ ck ∷ (keys o r.after ++ others) = ap (λ (ks : List (List ℕ)). ks ++ others) r.keys_are ∙ append_assoc (keys o r.before) (ck ∷ keys o r.after) others in
@@ -182,7 +180,7 @@ module _ (o : KeyOrder) (d : ℕ) (w : Width) (n : ℕ) (holds : HoldsOrIndefini
       ∙ append_assoc (h ++ spell_entries r.before) (spell r.key ++ behind) tail
       ∙ ap (λ (x : List ℕ). (h ++ spell_entries r.before) ++ x) (append_assoc (spell r.key) behind tail) in
       subst (IsKeyIn o d h ((h ++ spell_entries es) ++ tail)) count
-      (key_behind r.before r.key (keys o r.after ++ others) (behind ++ tail) _ (omega (arith, total, count, l)) r.before_taken r.key_taken
+      (key_behind r.before r.key (keys o r.after ++ others) (behind ++ tail) _ (omega (arith, r.total, count, l)) r.before_taken r.key_taken
       (subst (λ (m : ℕ). IsFirstRepeat (keys o r.before ++ ck ∷ (keys o r.after ++ others)) m) (sym count) (subst (λ (ks : List (List ℕ)). IsFirstRepeat ks pair) all first)) bytes)
 
   -- of these pairs alone
@@ -216,9 +214,7 @@ key_in_level o d (a_value w left done k) pair h first =
     let n = entries_count done + suc left in
     key_or_waiting o d w n (open_or w n h.0) done k pair (omega arith) h.1 h.2 first
 key_in_level o d (some_value done k) pair h first = key_or_waiting o d Indefinite (suc (entries_count done)) tt done k pair (omega arith) h.0 h.1 first
-key_in_level o d (a_member w left done) pair h first = absurd (no_first pair first)
-key_in_level o d (some_member done) pair h first = absurd (no_first pair first)
-key_in_level o d (tagged w n) pair h first = absurd (no_first pair first)
+key_in_level o d _ pair h first = absurd (no_first pair first)
 
 -- of a map of which all was given
 pub key_in_map : (o : KeyOrder) (d : ℕ) (w : Width) (es : SpelledEntries) (pair : ℕ) → HoldsOrIndefinite w (entries_count es) → ArePairsTaken d es → IsFirstRepeat (keys o es) pair → IsKeyIn o d (head majors.Map w (entries_count es)) (spell (a_map w es)) pair

@@ -1,7 +1,6 @@
 -- The open map with a key that is the same as an earlier one, and the verdict.
 use Rattle.std.proofs.Common.{◌≡◌, ℕ, suc, ◌+◌, ◌-◌, ◌^◌, ◌<◌, ◌≤◌, true, List, [], ◌∷◌, ◌++◌, length, take, refl, sym, ap, ◌∙◌, subst, inl, inr, arith, append_assoc, append-nil, ◌⊎◌, length-append}
-use Rattle.cbor_head.specs.Prelude.{IsBeginning, plain, complaint, Bounds, Spelling, array, a_map, unsigned, spell, IsSpelled, depth, IsVerdict, refused, refusal}
-use Rattle.cbor_head.specs.Spelling as spelling
+use Rattle.cbor_head.specs.Prelude.{IsBeginning, plain, complaint, Bounds, Spelling, a_map, unsigned, spell, IsSpelled, depth, IsVerdict, refused, refusal}
 use Rattle.cbor_head.specs.declared.order.KeyOrder.{KeyOrder}
 use Rattle.cbor_head.specs.declared.reason.Reason.TheVariants.{RepeatedKey}
 use Rattle.cbor_head.specs.declared.width.Width.TheVariants.{Direct}
@@ -69,13 +68,10 @@ maps_open o (tagged w n ∷ ls) = maps_open o ls
 
 -- what has equal keys is a map
 is_map : (o : KeyOrder) (l : Level) (pair : ℕ) → IsFirstRepeat (keys_so_far (level_open o l)) pair → is_map_level l ≡ true
-is_map o (a_key w left done) pair h = refl
-is_map o (a_value w left done k) pair h = refl
-is_map o (some_key done) pair h = refl
-is_map o (some_value done k) pair h = refl
 is_map o (a_member w left done) pair h = absurd (omega (arith, h.0.2))
 is_map o (some_member done) pair h = absurd (omega (arith, h.0.2))
 is_map o (tagged w n) pair h = absurd (omega (arith, h.0.2))
+is_map o _ pair h = refl
 
 outer_levels : (d : ℕ) (inner ls : List Level) → AreLevels d (inner ++ ls) → AreLevels d ls
 outer_levels d [] ls h = h
@@ -165,15 +161,7 @@ module _ (limits : Bounds) (input : List ℕ) (small : length input ≤ 2 ^ 62) 
     outside_is = is ∙ maps_open o ls;
     key = key_told o ls _ (spell (a_map w es)) pair rest (key_in_map o (limits.depth - suc (length ls)) w es pair h.0 taken first) (omega (arith, l)) levels apart e (begins_so_far limits.depth ls (a_map w es) levels h l) keeps;
   }
-  whole_told ls (array w ss) rest o outside pair levels h l taken e keeps apart is first = no_keys pair first
-  whole_told ls (spelling.tag w n s) rest o outside pair levels h l taken e keeps apart is first = no_keys pair first
-  whole_told ls (unsigned w n) rest o outside pair levels h l taken e keeps apart is first = no_keys pair first
-  whole_told ls (spelling.negative w n) rest o outside pair levels h l taken e keeps apart is first = no_keys pair first
-  whole_told ls (spelling.bytes w bs) rest o outside pair levels h l taken e keeps apart is first = no_keys pair first
-  whole_told ls (spelling.text w bs) rest o outside pair levels h l taken e keeps apart is first = no_keys pair first
-  whole_told ls (spelling.byte_chunks cs) rest o outside pair levels h l taken e keeps apart is first = no_keys pair first
-  whole_told ls (spelling.text_chunks cs) rest o outside pair levels h l taken e keeps apart is first = no_keys pair first
-  whole_told ls (spelling.simple n) rest o outside pair levels h l taken e keeps apart is first = no_keys pair first
+  whole_told ls _ rest o outside pair levels h l taken e keeps apart is first = no_keys pair first
 
   pub told_full : (ls : List Level) (s : Spelling) (rest : List ℕ) (repeat : Repeat) → AreLevels limits.depth ls → IsSpelled s → depth s ≤ limits.depth - length ls → HasTakenPairs (limits.depth - suc (length ls)) s
       → input ≡ (bytes_before ls ++ spell s) ++ rest → KeepsToKinds limits plain (bytes_before ls ++ spell s) → IsToldFull ls s repeat

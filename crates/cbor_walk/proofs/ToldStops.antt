@@ -2,7 +2,7 @@
 use Rattle.std.proofs.Common.{◌≡◌, ◌≤◌, ℕ, ◌^◌, Bool, Bor, Option, List, [], ◌∷◌, ◌++◌, length, refl, sym, ap, ◌∙◌, subst, append_assoc, inl, inr}
 use Rattle.cbor_head.specs.Prelude.{Bounds, spell}
 use Rattle.cbor_builder.specs.declared.repeat.Repeat.{Repeat}
-use Rattle.cbor_judging.specs.Levels.{Level, a_member, a_key, a_value, some_member, some_key, some_value, tagged, bytes_before, Standing}
+use Rattle.cbor_judging.specs.Levels.{Level, a_member, bytes_before, Standing}
 use Rattle.cbor_front.specs.Due.{pairs}
 use Rattle.cbor_walk.specs.Sink.{FindsRepeat}
 use Rattle.cbor_walk.specs.inner.Building.{IsRepeatMet, Meets}
@@ -21,12 +21,7 @@ use Rattle.cbor_walk.proofs.ToldMaps.{IsToldWithin, told_within, told_full}
 
 kind_of : (n : ℕ) (l : Level) → pairs (cell_of n l).due ≡ is_map_level l
 kind_of n (a_member w left done) = refl
-kind_of n (a_key w left done) = refl
-kind_of n (a_value w left done k) = refl
-kind_of n (some_member done) = refl
-kind_of n (some_key done) = refl
-kind_of n (some_value done k) = refl
-kind_of n (tagged w m) = refl
+kind_of n _ = refl
 
 -- as many are those of maps as there are maps
 cells_maps : (n : ℕ) (ls : List Level) → map_cells (cells_of n ls) ≡ map_levels ls

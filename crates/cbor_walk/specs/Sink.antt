@@ -1,7 +1,6 @@
 -- What a sink was given of a valid item, as a walk comes to its parts.
 use Rattle.std.specs.Prelude.{ℕ, ◌≡◌, ◌<◌, ◌≤◌, ◌-◌, ◌^◌, ◌⊎◌, ◌++◌, Bool, true, false, List, [], ◌∷◌, length}
 use Rattle.cbor_head.specs.Prelude.{plain, Bounds, Spelling, SpelledEntries, array, a_map, no_spellings, no_entries, spell, value_of, IsSpelled, depth, Value}
-use Rattle.cbor_head.specs.Spelling as spelling
 use Rattle.cbor_head.specs.Value as value
 use Rattle.cbor_head.specs.declared.major.Major.{Major}
 use Rattle.cbor_head.specs.declared.major.Major.TheVariants.{Array, Map, Tag, Negative, Simple}
@@ -10,7 +9,7 @@ use Rattle.cbor_builder.specs.Built.{AreOpenKeysDifferent, IsRepeatTold}
 use Rattle.cbor_builder.specs.declared.repeat.Repeat.{Repeat}
 use Rattle.cbor_head.specs.declared.order.KeyOrder.{KeyOrder}
 use Rattle.cbor_judging.specs.Given.{opens, full_open}
-use Rattle.cbor_judging.specs.Levels.{IsClean, IsTaken, Level, a_member, a_key, a_value, some_member, some_key, some_value, tagged, AreLevels, bytes_before, Standing, item_due, item_full, item_whole, settle}
+use Rattle.cbor_judging.specs.Levels.{IsClean, IsTaken, Level, a_member, a_key, some_member, some_key, tagged, AreLevels, bytes_before, Standing, item_due, item_full, item_whole, settle}
 use Rattle.cbor_judging.specs.Reading.{string_value}
 use Rattle.cbor_judging.specs.Readers.{IsRead}
 
@@ -34,11 +33,7 @@ IsOpened m n l = ⊥
 abbrev pub takes_key : Level → Bool
 takes_key (a_key w left done) = true
 takes_key (some_key done) = true
-takes_key (a_member w left done) = false
-takes_key (a_value w left done k) = false
-takes_key (some_member done) = false
-takes_key (some_value done k) = false
-takes_key (tagged w n) = false
+takes_key _ = false
 
 -- the next item is a key
 abbrev pub key_due : List Level → Bool
@@ -47,15 +42,7 @@ key_due (l ∷ ls) = takes_key l
 
 abbrev pub is_map : Spelling → Bool
 is_map (a_map w es) = true
-is_map (array w ss) = false
-is_map (spelling.tag w n s) = false
-is_map (spelling.unsigned w n) = false
-is_map (spelling.negative w n) = false
-is_map (spelling.bytes w bs) = false
-is_map (spelling.text w bs) = false
-is_map (spelling.byte_chunks cs) = false
-is_map (spelling.text_chunks cs) = false
-is_map (spelling.simple n) = false
+is_map _ = false
 
 -- a map is innermost, without a key that waits for its value
 abbrev pub awaits_key : Standing → Bool

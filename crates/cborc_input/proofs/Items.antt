@@ -1,5 +1,6 @@
 -- The items of a sequence, of each of which something was written.
 use Rattle.std.proofs.Common.{ℕ, inl, inr, ◌+◌, ◌<◌, ◌≤◌, ◌≡◌, true, Option, List, [], ◌∷◌, ◌++◌, length, drop, refl, sym, ap, ◌∙◌, arith, subst, append_assoc, append-nil, length-append, length-drop}
+use Rattle.std.proofs.lemmas.List.{nil_from_length}
 use Rattle.std.specs.List.{AllByRecursion}
 use Rattle.std.specs.Io.KnownBytes.{Appends}
 use Rattle.cbor_head.specs.Prelude.{Spelling, spell}
@@ -110,10 +111,6 @@ module _ (takes : Spelling → Type 0) (text : ℕ → Spelling → List ℕ) (o
     -- no item is taken there, however the input goes on
     module _ (stops : ℕ → List ℕ → Fault → Option (List ℕ) → Option (List ℕ) → Type 0) (begun : ¬ EndsBefore options.limits.bytes old.rest) (after : Option (List ℕ)) (fault : Fault)
         (why : (behind : List ℕ) → (old.source.ended ≡ true → behind ≡ []) → stops old.start (old.rest ++ behind) fault middle after) where
-      front_none : (xs ys : List ℕ) → xs ++ ys ≡ [] → xs ≡ []
-      front_none [] ys e = refl
-      front_none (x ∷ xs) ys e = cc e
-
       stopped_at : (behind input : List ℕ) → (old.source.ended ≡ true → behind ≡ []) → (sequence_bytes h.items ++ old.rest) ++ behind ≡ input
           → AreStopped takes text stops options.limits.bytes input before after (at_item (count + 1) old.start fault)
       stopped_at behind input end is = record {
@@ -125,7 +122,7 @@ module _ (takes : Spelling → Type 0) (text : ℕ → Spelling → List ℕ) (o
           starts = record { each = h.each; bytes = sym (append_assoc (sequence_bytes h.items) old.rest behind) ∙ is };
           index_is = omega (arith, h.count_is);
           start_is = h.read.start_is;
-          begun = λ e. begun (front_none old.rest behind e.0, e.1);
+          begun = λ e. begun (nil_from_length old.rest (omega (arith, ap length e.0, length-append old.rest behind)), e.1);
         };
         middle = middle;
         written = h.written;

@@ -1,5 +1,5 @@
 -- An input that is read part by part.
-use Rattle.std.proofs.Common.{ℕ, ◌+◌, ◌*◌, ◌≡◌, ◌<◌, ◌⊎◌, inl, inr, not, Bool, true, false, Option, List, [], ◌++◌, length, drop, refl, sym, ap, ◌∙◌, arith, subst, append_assoc, append-nil, length-append}
+use Rattle.std.proofs.Common.{ℕ, ◌+◌, ◌*◌, ◌≡◌, ◌<◌, ◌⊎◌, inl, inr, Bool, true, false, Option, List, [], ◌++◌, length, drop, refl, sym, ap, ◌∙◌, arith, subst, append_assoc, append-nil, length-append}
 use Rattle.std.proofs.Math.Seq.{drop-append_seam}
 use Rattle.cborc_files.specs.Folder.{Files, KeepsFiles}
 use Rattle.cborc_fronts.specs.Input.{IsInput, IsFront}
@@ -12,14 +12,6 @@ use Rattle.cborc_input.specs.Start.{StartsInput}
 use Rattle.cborc_fronts.specs.Decided.{IsDecided}
 use Rattle.cborc_input.specs.inner.Sources.{HasGiven, IsFresh, IsPartAdded, IsNoPart, StartsInputAt, HasInput, HasNoInput}
 use Rattle.cborc_input.proofs.Sources.{given_further, first_given, front_given, no_fewer, input_known, no_part, unread, unread_less}
-
-pub false_of_not : (b : Bool) → not b ≡ true → b ≡ false
-false_of_not true e = cc e
-false_of_not false e = refl
-
-pub true_of_not : (b : Bool) → not b ≡ false → b ≡ true
-true_of_not true e = refl
-true_of_not false e = cc e
 
 -- the first part
 pub first_part : (held : Option Files) (path : List ℕ) (hex : Bool) (old new : PartsView) → old.rest ≡ [] → old.start ≡ 0 → IsFresh hex old.source → IsNextPart held path old new

@@ -2,7 +2,7 @@
 use Rattle.std.proofs.Common.{ℕ, ◌+◌, ◌-◌, ◌^◌, ◌≡◌, ◌<◌, ◌≤◌, ◌⊎◌, inl, inr, Bool, true, false, Option, Some, None, List, [], ◌∷◌, ◌++◌, length, take, drop, refl, sym, ap, ◌∙◌, arith, subst, IsErr, nat_lt, append_assoc, append-nil, length-append, length-take, length-drop, take-append-drop}
 use Rattle.std.specs.List.{filter}
 use Rattle.std.proofs.Math.Seq.{drop-append_seam, take-append_seam}
-use Rattle.std.proofs.lemmas.Bool.{cases_lt}
+use Rattle.std.proofs.lemmas.Bool.{cases_lt, false≢true}
 use Rattle.std.proofs.lemmas.Bool.Decides.{Decides-ltb}
 use Rattle.std.proofs.lemmas.List.Elements.{filter-append}
 use Rattle.std.proofs.lemmas.List.{nil_from_length}
@@ -19,9 +19,6 @@ use Rattle.cborc_input.specs.declared.fault.Fault.TheVariants as faults
 use Rattle.cborc_input.specs.declared.source.Source.{Source}
 use Rattle.cborc_input.specs.inner.Sources.{StartsFile, Gives, IsAll, HasGiven, IsFresh, Adds, IsPartAdded, IsUndecoded, IsStrayText, IsNoPart, StartsInputAt, HasInput, HasNoInput}
 use Rattle.cborc_fronts.proofs.Files.{held_before, keeps_keeps}
-
-false_or_true : false ≡ true → ⊥
-false_or_true e = cc e
 
 pub same_files : (held : Option Files) → KeepsFiles held held
 same_files None = tt
@@ -84,10 +81,10 @@ none_given true d h = h
 fresh_given : (held : Option Files) (path : List ℕ) (hex : Bool) (s : Source) (whole : List ℕ) → IsFresh hex s → Holds held path whole → HasGiven held path s []
 fresh_given held path hex s whole f h = record {
   front = [];
-  file = record { back = whole; holds = h; end = λ e. absurd (false_or_true (sym f.ended_is ∙ e)) };
+  file = record { back = whole; holds = h; end = λ e. absurd (false≢true (sym f.ended_is ∙ e)) };
   gives = none_given s.hex s.digits f.none;
   size_is = f.size_is;
-  all = λ e. absurd (false_or_true (sym f.ended_is ∙ e));
+  all = λ e. absurd (false≢true (sym f.ended_is ∙ e));
 }
 
 pub first_given : (held : Option Files) (path : List ℕ) (hex : Bool) (old new : Source) (after : List ℕ) → IsFresh hex old → IsPartAdded held path old new [] after
@@ -144,7 +141,7 @@ module _ (held : Option Files) (path : List ℕ) (s : Source) (bytes : List ℕ)
       by false e = record {
         behind = more ++ k.behind;
         is = subst (IsInput held path s.hex) (append_assoc bytes more k.behind) (subst (λ (hex : Bool). IsInput held path hex ((bytes ++ more) ++ k.behind)) same k.is);
-        end = λ ends. absurd (false_or_true (sym e ∙ ends));
+        end = λ ends. absurd (false≢true (sym e ∙ ends));
       }
 
 -- ---- its front
@@ -322,7 +319,7 @@ module _ (held : Option Files) (path before after : List ℕ) (old new : Source)
   -- a part that is as long as what was asked for
   longer : new.ended ≡ false → old.size < new.size
   longer e = elim (cases_lt (length a.part) a.most) [
-    | inl l ↦ absurd (false_or_true (sym e ∙ a.ended_is ∙ (Decides-ltb (length a.part) a.most).1 l))
+    | inl l ↦ absurd (false≢true (sym e ∙ a.ended_is ∙ (Decides-ltb (length a.part) a.most).1 l))
     | inr l ↦ omega (arith, l, a.some, a.size_is)
   ]
 

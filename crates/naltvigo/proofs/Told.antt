@@ -22,9 +22,8 @@ keeps_on old mid new (inr e) h = subst (λ (m : MachineView). KeepsLimits m new)
 
 told_on : (es : List Event) (cs : List NaltvigoEvent) (e : Event) (c : NaltvigoEvent) → AreToldEvents es cs → IsToldEvent e c → AreToldEvents (es ++ e ∷ []) (cs ++ c ∷ [])
 told_on [] [] e c told is = (is, tt)
-told_on [] (y ∷ cs) e c told is = elim told [ ]
-told_on (x ∷ es) [] e c told is = elim told [ ]
 told_on (x ∷ es) (y ∷ cs) e c told is = (told.0, told_on es cs e c told.1 is)
+told_on _ _ e c told is = elim told [ ]
 
 pub nothing_given : (m : MachineView) → HasGiven m m [] []
 nothing_given m = record { limits = inr refl; given = []; told = tt; gives = none }

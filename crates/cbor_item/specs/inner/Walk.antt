@@ -57,20 +57,17 @@ LeadsAround o w c (vs ∷ vss) (d ∷ os) =
 
 -- all that is to come makes the canonical bytes of w
 abbrev pub Leads : KeyOrder → Value → List (List Value) → List Open → Type 0
-Leads o w [] os = ⊥
-Leads o w (vs ∷ vss) [] = ⊥
 Leads o w (vs ∷ vss) (c ∷ os) = TakesAll o vs c × LeadsAround o w (with_all o vs c) vss os
+Leads o w _ _ = ⊥
 
 abbrev pub AreSoundAround : KeyOrder → Open → List (List Value) → List Open → Type 0
-AreSoundAround o c [] os = Unit {0}
-AreSoundAround o c (vs ∷ vss) [] = Unit {0}
 AreSoundAround o c (vs ∷ vss) (d ∷ os) = HasNoRepeats c × AreAllValid vs × AreSoundAround o (with_all o vs (with_member (closed o c) d)) vss os
+AreSoundAround o c _ _ = Unit {0}
 
 -- what is to come is valid, and no map that is open will have two equal keys
 abbrev pub AreSound : KeyOrder → List (List Value) → List Open → Type 0
-AreSound o [] os = Unit {0}
-AreSound o (vs ∷ vss) [] = Unit {0}
 AreSound o (vs ∷ vss) (c ∷ os) = AreAllValid vs × AreSoundAround o (with_all o vs c) vss os
+AreSound o _ _ = Unit {0}
 
 -- ---- a step into an item
 

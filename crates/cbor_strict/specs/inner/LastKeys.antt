@@ -30,9 +30,7 @@ from_outside (f ∷ fs) = from_outside fs ++ f ∷ []
 
 abbrev pub is_key : Frame → Bool
 is_key (a_key w a v b) = true
-is_key (a_member w a b) = false
-is_key (a_content w a k b) = false
-is_key (tagged w n) = false
+is_key _ = false
 
 -- the item in the innermost stands in a key that is not complete
 abbrev pub stands_in_key : List Frame → Bool
@@ -45,10 +43,9 @@ keys_around [] = 0
 keys_around (f ∷ fs) = if is_key f then suc (keys_around fs) else keys_around fs
 
 abbrev pub due_of : Frame → Due
-due_of (a_member w a b) = Member
 due_of (a_key w a v b) = Key
 due_of (a_content w a k b) = Content
-due_of (tagged w n) = Member
+due_of _ = Member
 
 abbrev pub levels_of : List Frame → List Due
 levels_of [] = []
@@ -56,16 +53,14 @@ levels_of (f ∷ fs) = levels_of fs ++ due_of f ∷ []
 
 -- how many bytes stand before the last key of these pairs
 abbrev pub before_last : SpelledEntries → ℕ
-before_last no_entries = 0
-before_last (entry k v no_entries) = 0
 before_last (entry k v (entry l w es)) = length (spell k ++ spell v) + before_last (entry l w es)
+before_last _ = 0
 
 -- the bytes of the last complete key of an open map
 abbrev pub complete_key : Frame → List ℕ
 complete_key (a_key w a v b) = last_key a
 complete_key (a_content w a k b) = spell k
-complete_key (a_member w a b) = []
-complete_key (tagged w n) = []
+complete_key _ = []
 
 -- The bytes that are kept where p was read of the item in the innermost container: the last complete key of each open map, up
 -- to the first key that is not complete; and of that key all.
@@ -82,14 +77,13 @@ span from to next = record { from = from; to = to; next = next }
 
 -- where the last complete key of the innermost map lies, and where the next one begins
 abbrev pub spans_in : Frame → List Frame → List Span
-spans_in (a_member w a b) fs = []
-spans_in (tagged w n) fs = []
 spans_in (a_content w a k b) fs =
     let from = kept_before fs + (if stands_in_key fs then length (head Map w (entries_count a + suc (entries_count b)) ++ spell_entries a) else 0) in
     span from (from + length (spell k)) (from + length (spell k)) ∷ []
 spans_in (a_key w a v b) fs =
     let from = kept_before fs + (if stands_in_key fs then length (head Map w (entries_count a + suc (entries_count b))) + before_last a else 0) in
     span from (from + length (last_key a)) (kept_before fs + (if stands_in_key fs then length (before (a_key w a v b)) else length (last_key a))) ∷ []
+spans_in _ fs = []
 
 abbrev pub spans_of : List Frame → List Span
 spans_of [] = []
@@ -128,11 +122,10 @@ still_open (f ∷ fs) = f ∷ fs
 
 -- and the item that ends in those, with what closed around it
 abbrev pub ended_item : List Frame → Spelling → Spelling
-ended_item [] s = s
 ended_item (a_member w a no_spellings ∷ fs) s = ended_item fs (plug (a_member w a no_spellings) s)
 ended_item (a_content w a k no_entries ∷ fs) s = ended_item fs (plug (a_content w a k no_entries) s)
 ended_item (tagged w n ∷ fs) s = ended_item fs (plug (tagged w n) s)
-ended_item (f ∷ fs) s = s
+ended_item _ s = s
 
 -- a key is complete in the innermost map
 pub record HasKeyEnded (k : KeysView) : Type 0 where

@@ -31,13 +31,7 @@ abbrev pub full_opener : Spelling → List ℕ
 full_opener (spelling.array w ss) = head Array w (spellings_count ss)
 full_opener (spelling.a_map w es) = head Map w (entries_count es)
 full_opener (spelling.tag w n s) = head Tag w n
-full_opener (spelling.unsigned w n) = []
-full_opener (spelling.negative w n) = []
-full_opener (spelling.bytes w bs) = []
-full_opener (spelling.text w bs) = []
-full_opener (spelling.byte_chunks cs) = []
-full_opener (spelling.text_chunks cs) = []
-full_opener (spelling.simple n) = []
+full_opener _ = []
 
 -- ---- the cells
 

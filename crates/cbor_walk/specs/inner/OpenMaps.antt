@@ -1,7 +1,7 @@
 -- Which of the open containers are maps.
 use Rattle.std.specs.Prelude.{ℕ, suc, ◌≡◌, ◌-◌, Bool, true, false, Option, Some, List, [], ◌∷◌, ◌++◌, length}
 use Rattle.cbor_head.specs.Prelude.{Spelling, a_map}
-use Rattle.cbor_judging.specs.Levels.{Level, a_member, a_key, a_value, some_member, some_key, some_value, tagged, ArePairsTaken, bytes_before}
+use Rattle.cbor_judging.specs.Levels.{Level, a_member, some_member, tagged, ArePairsTaken, bytes_before}
 use Rattle.cbor_front.specs.Due.{pairs}
 use Rattle.cbor_walk.specs.declared.open.Open.{Open}
 use Rattle.cbor_walk.specs.Sink.{is_map}
@@ -22,12 +22,9 @@ pub record IsCellOf (n d : ℕ) (c : Open) (ls : List Level) (s : Spelling) : Ty
 
 abbrev pub is_map_level : Level → Bool
 is_map_level (a_member w left done) = false
-is_map_level (a_key w left done) = true
-is_map_level (a_value w left done k) = true
 is_map_level (some_member done) = false
-is_map_level (some_key done) = true
-is_map_level (some_value done k) = true
 is_map_level (tagged w n) = false
+is_map_level _ = true
 
 abbrev pub counts_one : Bool → ℕ → ℕ
 counts_one true n = suc n

@@ -23,15 +23,9 @@ pub record StandInFront (d : ℕ) (bytes : List ℕ) (count : ℕ) (behind : Lis
 -- an item without complaint ends before the bytes, if any, that are met behind it
 abbrev pub EndsItem : Met → ℕ → List ℕ → Type 0
 EndsItem (met.Whole rest) d input = (item : Spelling) × IsTaken d item × (input ≡ spell item ++ rest.now)
-EndsItem (met.Untaken rest) d input = Unit {0}
-EndsItem (met.Broken rest) d input = Unit {0}
-EndsItem (met.Repeated rest repeat) d input = Unit {0}
-EndsItem met.Stopped d input = Unit {0}
+EndsItem _ d input = Unit {0}
 
 -- these bytes stand behind them, if any are met there
 abbrev pub GoesTo : Met → List ℕ → Type 0
 GoesTo (met.Whole rest) behind = rest.now ≡ behind
-GoesTo (met.Untaken rest) behind = Unit {0}
-GoesTo (met.Broken rest) behind = Unit {0}
-GoesTo (met.Repeated rest repeat) behind = Unit {0}
-GoesTo met.Stopped behind = Unit {0}
+GoesTo _ behind = Unit {0}

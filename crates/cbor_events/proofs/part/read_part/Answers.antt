@@ -34,11 +34,10 @@ returns-in-Failed-clause-limits g c = record { depth = refl; bytes = refl; open_
 
 pub returns-in-Got-clause-answers : goal.returns-in-Got-clause-answers
 returns-in-Got-clause-answers g c = λ was from kept t ms h r depth.
-    let m = c.args.machine.now in
     let bs = take c.in-Got.count c.ask.new.buffer in
     let size = length-take c.in-Got.count c.ask.new.buffer in
     let some : 0 < length bs = omega (arith, size, c.in-Got.ensures.0, some-read c.in-Got.count c.args.want c.requires.some c.in-Got.ensures.2, c.requires.room, c.ask.auto.buffer) in
-    part-read c.take_read.result from _ _ was m c.take_read.new.machine kept c.ask.new.buffer t bs ms h r depth c.take_read.ensures.limits.depth c.take_read.ensures.limits.bytes
+    part-read c.take_read.result from _ _ was c.args.machine.now c.take_read.new.machine kept c.ask.new.buffer t bs ms h r depth c.take_read.ensures.limits.depth c.take_read.ensures.limits.bytes
     c.in-Got.ensures.1 c.below_256.ensures some (omega (arith, size, c.in-Got.ensures.0, c.requires.wanted)) (front-again c.in-Got.count c.ask.new.buffer) (c.take_read.ensures.answers (t ++ r.bytes) ms r.stands)
 
 pub returns-in-Got-clause-lost : goal.returns-in-Got-clause-lost

@@ -20,16 +20,14 @@ returns-in_default c =
 
 pub returns-in-Some-misplaced : goal.returns-in-Some-misplaced
 returns-in-Some-misplaced c =
-    let split = c.in-Some.ensures.cases.0 in
-    refuses c.args.room c.args.at c.args.rest.now (c.in-Some.first.now ∷ c.in-Some.behind.now) _ (any.Refused c.refusal_at-in-Some-misplaced.result) split (ap any.Refused c.refusal_at-in-Some-misplaced.ensures)
+    refuses c.args.room c.args.at c.args.rest.now (c.in-Some.first.now ∷ c.in-Some.behind.now) _ (any.Refused c.refusal_at-in-Some-misplaced.result) c.in-Some.ensures.cases.0 (ap any.Refused c.refusal_at-in-Some-misplaced.ensures)
     (λ o. misplaced_here (strict o) c.args.room c.in-Some.first.now c.in-Some.behind.now c.args.at c.in-Some-misplaced.reason c.in-Some-misplaced.ensures)
 
 pub returns-then-low-eq31 : goal.returns-then-low-eq31
 returns-then-low-eq31 c =
-    let split = c.in-Some.ensures.cases.0 in
     let first = c.in-Some.first.now in
     let low : (64 ≤ first) × (first < 192) = elim c.in_default-misplaced.ensures.low [ inl l ↦ absurd (omega (arith, l, c.if-low-eq31.true)) | inr l ↦ (l.1, l.2) ] in
-    refuses c.args.room c.args.at c.args.rest.now (first ∷ c.in-Some.behind.now) _ (any.Refused c.refusal_at-then-low-eq31.result) split (ap any.Refused c.refusal_at-then-low-eq31.ensures)
+    refuses c.args.room c.args.at c.args.rest.now (first ∷ c.in-Some.behind.now) _ (any.Refused c.refusal_at-then-low-eq31.result) c.in-Some.ensures.cases.0 (ap any.Refused c.refusal_at-then-low-eq31.ensures)
     (λ o. endless_here (strict o) c.args.room first c.in-Some.behind.now c.args.at refl c.if-low-eq31.true low.0 low.1 c.in_default-misplaced.ensures.fits)
 
 pub returns-in_default-read_argument : goal.returns-in_default-read_argument
@@ -43,9 +41,8 @@ returns-in_default-read_argument c =
 
 pub returns-then-head-lt32 : goal.returns-then-head-lt32
 returns-then-head-lt32 c =
-    let split = c.in-Some.ensures.cases.0 in
     let h = c.in-Some-read_argument.head in
-    refuses c.args.room c.args.at c.args.rest.now (c.in-Some.first.now ∷ c.in-Some.behind.now) _ (any.Refused c.refusal_at-then-head-lt32.result) split (ap any.Refused c.refusal_at-then-head-lt32.ensures)
+    refuses c.args.room c.args.at c.args.rest.now (c.in-Some.first.now ∷ c.in-Some.behind.now) _ (any.Refused c.refusal_at-then-head-lt32.result) c.in-Some.ensures.cases.0 (ap any.Refused c.refusal_at-then-head-lt32.ensures)
     (λ o. no_simple_here (strict o) c.args.room c.in-Some.first.now c.in-Some.behind.now c.args.at h.width h.number h.rest.now c.in-Some-read_argument.ensures.spelled c.if-first.true c.if-head-lt32.true)
 
 pub returns-then-not-is_shortest : goal.returns-then-not-is_shortest

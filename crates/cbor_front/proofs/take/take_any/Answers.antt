@@ -32,13 +32,12 @@ pub returns-else-stack-cells-clause-takes : goal.returns-else-stack-cells-clause
 returns-else-stack-cells-clause-takes g c =
     let k = c.args.stack.now in
     let cells = c.args.cells.now in
-    let d = c.args.depth in
     let h = c.in-Opens.ensures in (
       (h.opens.some, h.opens.inside),
       λ o limits input asked deep e are s.
           let fit : IsFit limits k.top.due c.args.rest.now = λ kinds due. c.is_other_key.ensures.fits c.if-is_other_key.false (sym asked ∙ ap asks kinds) due in
           let cs = standing Level k cells in
-          let place = place_for o limits d input k cells c.args.at s c.requires.cells deep in
+          let place = place_for o limits c.args.depth input k cells c.args.at s c.requires.cells deep in
           let inside : c.in-Opens.used ≤ length (drop c.args.at input) = subst (λ (x : List ℕ). c.in-Opens.used ≤ length x) e h.opens.inside in
           let opener = subst (λ (x : List ℕ). IsOpener c.in-Opens.due c.in-Opens.left x (drop c.in-Opens.used x)) e h.opens.opener in
           subst (λ (x : List Level). StandsAt o limits input x (c.args.at + c.in-Opens.used)) (sym (c.push.ensures.levels ∙ ap (λ (l : Level). l ∷ cs) c.new-in-Opens.ensures))
@@ -56,7 +55,6 @@ returns-in-Refused-clause-takes g c = λ o limits input asked deep e are s.
 
 pub returns-then-is_other_key-clause-takes : goal.returns-then-is_other_key-clause-takes
 returns-then-is_other_key-clause-takes g c = λ o limits input asked deep e are s.
-    let k = c.args.stack.now in
     let other = c.is_other_key.ensures.other c.if-is_other_key.true in
     subst (λ f. IsStopped (strict o) limits input f) (sym (c.new.ensures ∙ ap (λ r. refusal r c.args.at (c.args.at + 1)) c.unwrap_or-reason.ensures))
-    (other_key_stops o limits c.args.depth input k c.args.cells.now c.args.at s c.requires.cells deep (asked_of limits.keys (asked ∙ other.0)) other.1 are c.args.rest.now e other.2 c.misplaced.result c.misplaced.ensures)
+    (other_key_stops o limits c.args.depth input c.args.stack.now c.args.cells.now c.args.at s c.requires.cells deep (asked_of limits.keys (asked ∙ other.0)) other.1 are c.args.rest.now e other.2 c.misplaced.result c.misplaced.ensures)

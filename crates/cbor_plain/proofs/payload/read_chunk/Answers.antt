@@ -1,4 +1,5 @@
-use Rattle.std.proofs.Common.{◌≡◌, ℕ, ◌+◌, ◌-◌, List, length, take, drop, ap, ◌∙◌, arith, true≢false, sym, length-drop, take_all}
+use Rattle.std.proofs.Common.{◌≡◌, ◌+◌, ◌-◌, length, take, drop, ap, ◌∙◌, arith, true≢false, sym}
+use Rattle.std.proofs.lemmas.List.{take_rest}
 use Rattle.std.specs.Str.Lossy.{utf8_valid_len}
 use Rattle.cbor_head.specs.Prelude.{refusal}
 use Rattle.cbor_head.specs.declared.reason.Reason.TheVariants.{InvalidText}
@@ -6,9 +7,6 @@ use Rattle.cbor_judging.proofs.Payloads.{payload-stops, grown-length, chunk-is-t
 use Rattle.cbor_plain.proofs.payload.read_chunk.Goals as goal
 
 -- the part from there to the end
-to-end : (n : ℕ) (xs : List ℕ) → take (length xs - n) (drop n xs) ≡ drop n xs
-to-end n xs = take_all (length xs - n) (drop n xs) (omega (arith, length-drop n xs))
-
 pub returns-in-Err : goal.returns-in-Err
 returns-in-Err g c = λ b chunk m fs t a. payload-stops b t c.args.count c.args.text _ _ c.in-Err.refusal (c.in-Err.ensures b chunk m fs t a)
 
@@ -35,7 +33,7 @@ returns-in-Ok-check_text g c = λ b chunk m fs t a.
     let old : c.len-from.result ≡ length c.args.into.now.items = c.len-from.ensures ∙ c.args.into.now.ok.0 in (
       reads,
       λ e. chunk-is-text b _ t c.args.count c.args.into.now.items c.read_payload.new.into.items _ _ c.read_payload.new.events reads (take (length c.deref.result.now - c.len-from.result) (drop c.len-from.result c.deref.result.now))
-          (to-end c.len-from.result c.deref.result.now ∙ ap (λ n. drop n c.deref.result.now) old ∙ ap (drop (length c.args.into.now.items)) c.deref.ensures.value) c.in-Ok-check_text.ensures.checked,
+          (take_rest c.deref.result.now c.len-from.result ∙ ap (λ n. drop n c.deref.result.now) old ∙ ap (drop (length c.args.into.now.items)) c.deref.ensures.value) c.in-Ok-check_text.ensures.checked,
     )
 
 pub returns-in-Err-check_text : goal.returns-in-Err-check_text
@@ -45,6 +43,6 @@ returns-in-Err-check_text g c = λ b chunk m fs t a.
     let place : c.taken-place.result ≡ length t = c.taken-place.ensures.taken ∙ a.stands.stands.taken in
     let xs = take (length c.deref.result.now - c.len-from.result) (drop c.len-from.result c.deref.result.now) in
     chunk-no-text b _ t c.args.count c.args.into.now.items c.read_payload.new.into.items _ _ c.read_payload.new.events reads xs c.args.text _
-    (to-end c.len-from.result c.deref.result.now ∙ ap (λ n. drop n c.deref.result.now) old ∙ ap (drop (length c.args.into.now.items)) c.deref.ensures.value) c.in-Err-check_text.ensures.checked.0 c.if-not-text.false
+    (take_rest c.deref.result.now c.len-from.result ∙ ap (λ n. drop n c.deref.result.now) old ∙ ap (drop (length c.args.into.now.items)) c.deref.ensures.value) c.in-Err-check_text.ensures.checked.0 c.if-not-text.false
     (c.new.ensures ∙ ap (λ n. refusal InvalidText (n + c.in-Err-check_text.valid) c.taken.result) place ∙ ap (λ n. refusal InvalidText (length t + n) c.taken.result) c.in-Err-check_text.ensures.checked.1
     ∙ ap (refusal InvalidText (length t + utf8_valid_len xs)) c.taken.ensures.taken)

@@ -7,7 +7,8 @@ use Rattle.cbor_view.specs.Seen.{seen_all}
 use Rattle.cbor_view.specs.inner.Pairs.{IsSamePair, IsMet, entries}
 use Rattle.cbor_view.specs.declared.view.View.TheVariants.{Unsigned}
 use Rattle.cbor_view.specs.declared.view.View.{the_lemmas}
-use Rattle.cbor_view.proofs.Pairs.{values_counted, same_counted, valid_pair, covered_on, met_on, met_at, counts_differ, pair_misses, all_met, values_decide, keys_differ}
+use Rattle.cbor_item.proofs.Views.{SameValues-count}
+use Rattle.cbor_view.proofs.Pairs.{values_counted, valid_pair, covered_on, met_on, met_at, counts_differ, pair_misses, all_met, values_decide, keys_differ}
 use Rattle.cbor_view.proofs.same.+same.Goals as goal
 use Rattle.cbor_view.proofs.same.+same.Goals.{are_same_maps-else-not-is_pair-via-then-not-is_pair+else-not-is_among, are_same_maps-else-not-is_pair-via-else-not-is_pair}
 
@@ -16,7 +17,7 @@ are_same-returns-then-xs-ys t c =
     let xs = c.args.xs.now in
     let ys = c.args.ys.now in
     fails (λ (h : SameValues (values_of (seen_all xs)) (values_of (seen_all ys))).
-    c.if-xs-ys.true (sym (values_counted xs) ∙ same_counted (values_of (seen_all xs)) (values_of (seen_all ys)) h ∙ values_counted ys))
+    c.if-xs-ys.true (sym (values_counted xs) ∙ SameValues-count (values_of (seen_all xs)) (values_of (seen_all ys)) h ∙ values_counted ys))
 
 pub are_same_maps-returns-then-xs-ys : goal.are_same_maps-returns-then-xs-ys
 are_same_maps-returns-then-xs-ys t c = fails (counts_differ c.args.xs.now c.args.ys.now c.requires.left c.requires.right c.if-xs-ys.true)

@@ -18,9 +18,8 @@ past_items-requires-2 c =
     let a = c.args in
     let depth = c.from-depth.ensures ∙ c.depth.ensures.depth in
     let key_is = c.in_ok-key.ensures _ (pairs_in_front a.limits a.input.now a.behind a.pair c.requires c.from-depth.result depth) in
-    let small = c.requires.small in
     record {
-      small = omega (arith, small, key_shorter a.limits a.input.now a.behind a.pair c.requires c.in_ok-key.key.now c.requires.more key_is refl);
+      small = omega (arith, c.requires.small, key_shorter a.limits a.input.now a.behind a.pair c.requires c.in_ok-key.key.now c.requires.more key_is refl);
       items = (_, key_in_front a.limits a.input.now a.behind a.pair c.requires c.from-depth.result c.in_ok-key.key.now depth key_is);
     }
 

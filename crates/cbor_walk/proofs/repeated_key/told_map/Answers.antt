@@ -10,14 +10,12 @@ returns-then-left-eq0 c = λ inner outer told are in_map count.
 
 pub loop-cell-preserved : goal.loop-cell-preserved
 loop-cell-preserved c =
-    let k = c.args.stack.now in
-    let xs = take k.height c.args.cells.now in
+    let xs = take c.args.stack.now.height c.args.cells.now in
     let before = c.loop-cell.invariant in
     let i = c.loop-cell.cell-index in
     elim c.if-is_in_map.branch [
       | then-is_in_map+else-left-eq0 w ↦
-          let some = w.if-left-eq0.false in
-          omega (arith, before, w.left-is, some, maps_more xs i _ true (omega (arith, c.loop-cell-test.true)) (sym c.is_in_map.ensures ∙ w.if-is_in_map.true))
+          omega (arith, before, w.left-is, w.if-left-eq0.false, maps_more xs i _ true (omega (arith, c.loop-cell-test.true)) (sym c.is_in_map.ensures ∙ w.if-is_in_map.true))
       | else-is_in_map w ↦ omega (arith, before, w.left-is, maps_more xs i _ false (omega (arith, c.loop-cell-test.true)) (sym c.is_in_map.ensures ∙ w.if-is_in_map.false))
     ]
 

@@ -8,5 +8,4 @@ returns-then-count-eq0 c = λ behind h. none_in_front c.args.depth c.args.rest.n
 
 pub returns-in-Whole : goal.returns-in-Whole
 returns-in-Whole c = λ behind h.
-    let some = c.if-count-eq0.false in
-    c.in-Whole.ensures behind (subst (λ (n : ℕ). StandInFront c.args.depth c.args.rest.now n behind) (omega (arith, some)) h)
+    c.in-Whole.ensures behind (subst (λ (n : ℕ). StandInFront c.args.depth c.args.rest.now n behind) (omega (arith, c.if-count-eq0.false)) h)

@@ -1,8 +1,9 @@
 use Rattle.std.proofs.Common.{◌∙◌, arith, sym, refl}
+use Rattle.std.proofs.lemmas.Bool.{not-true, not-false}
 use Rattle.std.proofs.lemmas.Result.{err_from_is_err_and}
 use Rattle.cborc_fronts.proofs.Files.{keeps_keeps}
 use Rattle.cborc_input.proofs.Items.{none_taken, not_begun, not_read_on, count_within, read_too, one_more, all_written, stopped_there, stopped_without, taken_less}
-use Rattle.cborc_input.proofs.ReadParts.{false_of_not, true_of_not, read_less}
+use Rattle.cborc_input.proofs.ReadParts.{read_less}
 use Rattle.cborc_input.proofs.sequence.write_items.Goals as goal
 
 pub items-init : goal.items-init
@@ -37,7 +38,7 @@ items-smaller-in-Ok-Some g c =
 pub items-smaller : goal.items-smaller
 items-smaller g c =
     let told = rw c.in-Ok-None.field-0-is at c.in-Ok-None.ensures.written in
-    let live = false_of_not c.items.parts.source.ended (sym c.goes_on-goes_on.ensures ∙ told.0) in
+    let live = not-true c.items.parts.source.ended (sym c.goes_on-goes_on.ensures ∙ told.0) in
     read_less _ _ c.items.parts c.read_on-in-Ok-None.new.self live c.in_ok-read_on-in-Ok-None.ensures.read
 
 pub items-preserved-then-is_spent : goal.items-preserved-then-is_spent
@@ -71,7 +72,7 @@ returns-in-Err-clause-stopped g c =
     let begun = rw c.rest.ensures at (c.ends_before.ensures.no c.if-ends_before.false) in
     rw (c.at_item.ensures, c.start-start.ensures.is)
     (stopped_there _ _ _ _ _ _ c.items.parts _ _ c.items.invariant.taken _ begun _ _
-    (λ behind e. rw (c.rest-in-items.ensures, c.start-start.ensures.is) at (c.in-Err.ensures.stopped behind (λ h. e (true_of_not c.items.parts.source.ended (sym c.goes_on-goes_on.ensures ∙ h)))))
+    (λ behind e. rw (c.rest-in-items.ensures, c.start-start.ensures.is) at (c.in-Err.ensures.stopped behind (λ h. e (not-false c.items.parts.source.ended (sym c.goes_on-goes_on.ensures ∙ h)))))
     _ c.items.invariant.keeps c.in_ok-finish-in-Err.ensures.input)
 
 pub returns-in_err-parts-clause-stopped : goal.returns-in_err-parts-clause-stopped
@@ -95,5 +96,5 @@ returns-in_err-finish-in-Err-clause-stopped g c =
     let begun = rw c.rest.ensures at (c.ends_before.ensures.no c.if-ends_before.false) in
     let p = err_from_is_err_and c.from_residual-in_err-finish-in-Err.result c.from_residual-in_err-finish-in-Err.ensures.1 in
     rw (p.1, p.2) (stopped_without _ _ _ _ _ _ c.items.parts _ _ c.items.invariant.taken _ begun _ _
-    (λ behind e. rw (c.rest-in-items.ensures, c.start-start.ensures.is) at (c.in-Err.ensures.stopped behind (λ h. e (true_of_not c.items.parts.source.ended (sym c.goes_on-goes_on.ensures ∙ h)))))
+    (λ behind e. rw (c.rest-in-items.ensures, c.start-start.ensures.is) at (c.in-Err.ensures.stopped behind (λ h. e (not-false c.items.parts.source.ended (sym c.goes_on-goes_on.ensures ∙ h)))))
     _ _ c.items.invariant.keeps c.in_err-finish-in-Err.ensures.fault)

@@ -25,8 +25,7 @@ returns-then-is_other-clause-answers g c = λ kept t ms h.
 
 pub returns-in-Told-clause-answers : goal.returns-in-Told-clause-answers
 returns-in-Told-clause-answers g c = λ kept t ms h.
-    let m = c.args.machine.now in
-    told-key c.in-Told.event m c.first_byte-part.new.machine _ _ c.first_byte-part.result.1 kept t ms h (rw c.in-Told.is at (c.first_byte-part.ensures.lost t ms h.stands))
+    told-key c.in-Told.event c.args.machine.now c.first_byte-part.new.machine _ _ c.first_byte-part.result.1 kept t ms h (rw c.in-Told.is at (c.first_byte-part.ensures.lost t ms h.stands))
     (c.is_other.ensures.basic c.if-is_other.false (rw c.in-Told.is tt)) (rw c.in-Told.is at (c.first_byte-part.ensures.answers kept t ms h))
 
 pub returns-in-Open-clause-answers : goal.returns-in-Open-clause-answers
@@ -39,6 +38,5 @@ returns-in-Open-clause-answers g c = λ kept t ms h.
 
 pub returns-in-Stopped-clause-answers : goal.returns-in-Stopped-clause-answers
 returns-in-Stopped-clause-answers g c = λ kept t ms h.
-    let m = c.args.machine.now in
-    stopped-key c.in-Stopped.refusal m c.first_byte-part.new.machine _ _ c.first_byte-part.result.1 kept t ms h (rw c.in-Stopped.is at (c.first_byte-part.ensures.lost t ms h.stands))
+    stopped-key c.in-Stopped.refusal c.args.machine.now c.first_byte-part.new.machine _ _ c.first_byte-part.result.1 kept t ms h (rw c.in-Stopped.is at (c.first_byte-part.ensures.lost t ms h.stands))
     (λ at. c.is_other.ensures.basic c.if-is_other.false (rw (c.in-Stopped.is, c.taken-place.ensures.taken) at)) (rw c.in-Stopped.is at (c.first_byte-part.ensures.answers kept t ms h))

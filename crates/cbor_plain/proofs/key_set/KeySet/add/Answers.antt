@@ -10,7 +10,6 @@ returns-in-Ok c = λ ks h.
 
 pub returns-in_ok-from_slice-in-Err : goal.returns-in_ok-from_slice-in-Err
 returns-in_ok-from_slice-in-Err c = λ ks h.
-    let v = c.in_ok-from_slice-in-Err.field-0 in
     let is = c.in_ok-from_slice-in-Err.ensures.items in
     let many = subst (λ (xs : List ℕ). 16 < length xs) (sym is) c.in-Err.ensures in
-    IfOk-weaker c.insert_long.result _ _ (λ fresh e. adds-long ks c.args.bytes.now c.args.self.now h c.insert_long.new.all v fresh many is e.1 e.0) c.insert_long.ensures
+    IfOk-weaker c.insert_long.result _ _ (λ fresh e. adds-long ks c.args.bytes.now c.args.self.now h c.insert_long.new.all c.in_ok-from_slice-in-Err.field-0 fresh many is e.1 e.0) c.insert_long.ensures

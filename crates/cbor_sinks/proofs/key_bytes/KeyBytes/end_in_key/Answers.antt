@@ -13,8 +13,7 @@ end_if_distinct-requires c = record { container = in-container c.args.is_map c.a
 pub settle-requires : goal.settle-requires
 settle-requires c = λ none.
     let old = c.args.self.now in
-    let inside = c.requires.inside in
-    let some : suc (old.inside - 1) ≡ old.inside = omega (arith, inside) in
+    let some : suc (old.inside - 1) ≡ old.inside = omega (arith, c.requires.inside) in
     end-takes c.args.is_map (old.inside - 1) old (record { builder = c.end_if_distinct.new.self; inside = old.inside - 1 }) c.requires.full (c.in_ok-repeat.ensures.ended (ap is_some c.in_default.is)) some none
 
 pub returns-in-Some-clause-repeats : goal.returns-in-Some-clause-repeats
@@ -25,9 +24,8 @@ returns-in-Some-clause-repeats c =
 pub returns-clause-ends : goal.returns-clause-ends
 returns-clause-ends c = λ yes.
     let old = c.args.self.now in
-    let inside = c.requires.inside in
     let stays = c.in_ok-settle.ensures.inside in
-    let some : suc c.settle.new.self.inside ≡ old.inside = omega (arith, inside, stays) in
+    let some : suc c.settle.new.self.inside ≡ old.inside = omega (arith, c.requires.inside, stays) in
     let none = ap is_some c.in_default.is in
     ended-inner c.args.is_map old c.settle.new.self some (c.in_ok-repeat.ensures.distinct.0 none)
     (c.in_ok-settle.ensures.builder ∙ ap (λ (x : Built). built x.order (behind_item (old.inside - 1) x.standing)) (c.in_ok-repeat.ensures.ended none)

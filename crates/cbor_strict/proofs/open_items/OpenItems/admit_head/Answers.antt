@@ -4,7 +4,7 @@ use Rattle.cbor_head.specs.declared.order.KeyOrder.{KeyOrder}
 use Rattle.cbor_head.specs.declared.reason.Reason.{Reason}
 use Rattle.cbor_head.specs.declared.width.Width.{Width}
 use Rattle.cbor_head.specs.declared.width.Width.TheVariants.{Direct, Indefinite}
-use Rattle.cbor_automaton.specs.Trace.{Mark, a_head, a_chunk, a_byte, a_break}
+use Rattle.cbor_automaton.specs.Trace.{Mark, a_head, a_chunk}
 use Rattle.cbor_automaton.specs.Marks.{mark_of, count_of}
 use Rattle.cbor_automaton.specs.declared.event.EventKind.{EventKind}
 use Rattle.cbor_automaton.specs.declared.event.EventKind.TheVariants as kinds
@@ -25,8 +25,7 @@ head_reason o _ n reason h = subst (IsComplaintReason (strict o)) (sym h.1) refl
 mark_reason : (o : KeyOrder) (m : Mark) (reason : Reason) → IsFault (strict o) m reason → IsComplaintReason (strict o) reason
 mark_reason o (a_head m w n) reason h = head_reason o w n reason h.1
 mark_reason o (a_chunk w n) reason h = head_reason o w n reason h.1
-mark_reason o a_byte reason h = absurd h.1
-mark_reason o a_break reason h = absurd h.1
+mark_reason o _ reason h = absurd h.1
 
 -- a head of one byte that was taken has no complaint
 direct_clean : (o : KeyOrder) (d : ℕ) (cs : List Container) (kind : EventKind) (x : List ℕ) (q : Place) (reason : Reason) → IsTaking d (at_item cs) (mark_of Direct kind) x q → IsFault (strict o) (mark_of Direct kind) reason → ⊥
@@ -38,9 +37,8 @@ direct_clean o d cs (kinds.Text n) x q reason h f = f.1.0 (sym (direct-is (count
 direct_clean o d cs (kinds.Array n) x q reason h f = f.1.0 (sym (direct-is (count_of n) h.1))
 direct_clean o d cs (kinds.Map n) x q reason h f = f.1.0 (sym (direct-is (count_of n) h.1))
 direct_clean o d cs (kinds.Tag n) x q reason h f = f.1.0 (sym (direct-is n h.1))
-direct_clean o d cs (kinds.Chunk n) x q reason h f = absurd h
-direct_clean o d cs (kinds.Piece n) x q reason h f = absurd h
 direct_clean o d cs kinds.End x q reason h f = absurd f.1
+direct_clean o d cs _ x q reason h f = absurd h
 
 pub fault_of-requires : goal.fault_of-requires
 fault_of-requires c o reason direct fault =

@@ -1,14 +1,7 @@
-use Rattle.std.proofs.Common.{List, ℕ, ◌≡◌, ◌≤◌, ◌+◌, ◌-◌, ◌++◌, take, drop, length, length-append, length-take, length-drop, ap, ◌∙◌, sym, arith, take-take}
-use Rattle.std.proofs.Math.Seq.{take-append-add}
-use Rattle.std.proofs.lemmas.List.{take-append-le, with_items_is}
+use Rattle.std.proofs.Common.{◌≡◌, ◌+◌, ◌-◌, ◌++◌, take, drop, length, length-append, length-take, length-drop, ap, ◌∙◌, sym, arith, take-take}
+use Rattle.std.proofs.lemmas.List.{with_items_is}
+use Rattle.cbor_buffer.proofs.Written.{written}
 use Rattle.cbor_view.proofs.joined.Joined.extend_front.Goals as goal
-
--- the first k of the bytes that are written behind the first n
-written : (xs ys rest : List ℕ) (n k : ℕ) → n ≤ length xs → k ≤ length ys → take (n + k) (take n xs ++ (ys ++ rest)) ≡ take n xs ++ take k ys
-written xs ys rest n k h g =
-    let l = length-take n xs in
-    let front : n ≡ length (take n xs) = omega (arith, l, h) in
-    (λ i. take (front i + k) (take n xs ++ (ys ++ rest))) ∙ take-append-add (take n xs) (ys ++ rest) k ∙ ap (λ (us : List ℕ). take n xs ++ us) (take-append-le k ys rest g)
 
 pub returns-in-Some : goal.returns-in-Some
 returns-in-Some c =

@@ -19,8 +19,7 @@ same-requires-clause-left c =
 pub returns-then-same : goal.returns-then-same
 returns-then-same c =
     let is : seen c.args.self.now ≡ value.map (entries c.in-Map.pairs.now) = ap seen c.in-Map.is ∙ seen-Map c.in-Map.pairs in
-    let ps = c.in-Map.pairs.now in
-    subst (λ (v : Value). HasValueAt v (seen c.args.key.now) (seen (get_or ps c.loop-found.found-index (Unsigned 0, Unsigned 0)).1)) (sym is)
+    subst (λ (v : Value). HasValueAt v (seen c.args.key.now) (seen (get_or c.in-Map.pairs.now c.loop-found.found-index (Unsigned 0, Unsigned 0)).1)) (sym is)
     (found_by (seen c.args.key.now) c.in-Map.pairs.now c.loop-found.found-index (Unsigned 0, Unsigned 0) c.loop-found-test.true (was_true c.same.result c.if-same.true c.same.ensures))
 
 pub loop-found-preserved : goal.loop-found-preserved

@@ -51,10 +51,9 @@ returns-in-159-clause-takes g c = λ start input due.
     let S = g.row.S.Denot in
     let stands = g.S.Sink.stands in
     let trusts = g.S.Sink.trusts in
-    let holds = g.S.Sink.holds in
     let cs = standing Open c.args.self.now.stack c.args.cells.now in
     let behind = c.args.behind.now in
-    subst (λ (x : ℕ). TakesTo S stands trusts holds c.open.result start c.args.depth input (x ∷ behind) (standing Open c.open.new.self.stack c.open.new.cells) c.open.new.self.sink) (sym c.in-159.is)
+    subst (λ (x : ℕ). TakesTo S stands trusts g.S.Sink.holds c.open.result start c.args.depth input (x ∷ behind) (standing Open c.open.new.self.stack c.open.new.cells) c.open.new.self.sink) (sym c.in-159.is)
     (c.open.ensures.takes (159 ∷ behind) (subst (λ (x : Open). IsOpener Array 0 x (159 ∷ behind) behind) (sym c.endless.ensures) (array-opens behind)) start input
     (subst (λ (x : ℕ). IsDue S stands trusts start c.args.depth input cs c.args.self.now.sink (x ∷ behind)) c.in-159.is due))
 
@@ -63,10 +62,9 @@ returns-in-191-clause-takes g c = λ start input due.
     let S = g.row.S.Denot in
     let stands = g.S.Sink.stands in
     let trusts = g.S.Sink.trusts in
-    let holds = g.S.Sink.holds in
     let cs = standing Open c.args.self.now.stack c.args.cells.now in
     let behind = c.args.behind.now in
-    subst (λ (x : ℕ). TakesTo S stands trusts holds c.open-in-191.result start c.args.depth input (x ∷ behind) (standing Open c.open-in-191.new.self.stack c.open-in-191.new.cells) c.open-in-191.new.self.sink) (sym c.in-191.is)
+    subst (λ (x : ℕ). TakesTo S stands trusts g.S.Sink.holds c.open-in-191.result start c.args.depth input (x ∷ behind) (standing Open c.open-in-191.new.self.stack c.open-in-191.new.cells) c.open-in-191.new.self.sink) (sym c.in-191.is)
     (c.open-in-191.ensures.takes (191 ∷ behind) (subst (λ (x : Open). IsOpener Map 0 x (191 ∷ behind) behind) (sym c.endless-in-191.ensures) (map-opens behind)) start input
     (subst (λ (x : ℕ). IsDue S stands trusts start c.args.depth input cs c.args.self.now.sink (x ∷ behind)) c.in-191.is due))
 
@@ -86,11 +84,8 @@ returns-in-191-clause-front g c =
 
 pub returns-in-255-clause-takes : goal.returns-in-255-clause-takes
 returns-in-255-clause-takes g c = λ start input due.
-    let S = g.row.S.Denot in
-    let stands = g.S.Sink.stands in
-    let trusts = g.S.Sink.trusts in
     let k = c.args.self.now.stack in
     let behind = c.args.behind.now in
     let may = c.may_break.ensures.only c.if-may_break.true in
     let shorter : length behind < length (c.args.first ∷ behind) = omega arith in
-    (shorter, break-ends S stands trusts start c.args.depth input k.top (around Open k c.args.cells.now) c.args.self.now.sink behind (subst (λ (x : ℕ). IsDue S stands trusts start c.args.depth input (standing Open k c.args.cells.now) c.args.self.now.sink (x ∷ behind)) c.in-255.is due) may.0 may.1)
+    (shorter, break-ends _ _ _ _ _ _ k.top (around Open k c.args.cells.now) _ behind (subst (λ (x : ℕ). IsDue g.row.S.Denot g.S.Sink.stands g.S.Sink.trusts start c.args.depth input (standing Open k c.args.cells.now) c.args.self.now.sink (x ∷ behind)) c.in-255.is due) may.0 may.1)

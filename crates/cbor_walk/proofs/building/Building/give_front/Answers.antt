@@ -22,14 +22,11 @@ past_front-requires g c = λ n. let most = c.bytes.ensures.most in (
 
 pub returns-in-Ok : goal.returns-in-Ok
 returns-in-Ok g c =
-    let S = g.row.S.Denot in
-    let stands = g.S.Sink.stands in
-    let trusts = g.S.Sink.trusts in
     let limits = c.args.limits in
     let behind = c.in-Ok.behind.now in
     let sink = c.past_front.new.building.sink in
     let input : c.within-input.result.now ≡ take limits.bytes c.args.bytes.now = c.within-input.ensures ∙ ap (λ n. take n c.args.bytes.now) c.bytes.ensures.bytes in
     let passed = c.in-Ok.ensures in
-    let h = subst (λ (x : List ℕ). IsBuilt S stands trusts c.args.self.now.sink limits.depth x sink behind) input passed.0 in
+    let h = subst (λ (x : List ℕ). IsBuilt g.row.S.Denot g.S.Sink.stands g.S.Sink.trusts c.args.self.now.sink limits.depth x sink behind) input passed.0 in
     let keeps = subst (λ (x : List ℕ). KeepsBefore limits.depth limits.keys x behind) input passed.1 (spell h.item) h.bytes in
-    front-given S stands trusts c.args.self.now.sink sink limits c.args.bytes.now behind _ h keeps (ap (λ (x : List ℕ). length x - length behind) input)
+    front-given _ _ _ _ _ limits c.args.bytes.now behind _ h keeps (ap (λ (x : List ℕ). length x - length behind) input)

@@ -1,5 +1,5 @@
 use Rattle.std.proofs.Common.{◌∙◌, ◌-◌, ◌<◌, List, length, sym, subst, arith, refl}
-use Rattle.cbor_front.specs.Stack.{around, standing}
+use Rattle.cbor_front.specs.Stack.{around}
 use Rattle.cbor_front.proofs.Stacks.{standing_count}
 use Rattle.cbor_walk.specs.declared.open.Open.{Open}
 use Rattle.cbor_walk.specs.inner.Building.{IsOpenerDue, IsDue}
@@ -15,15 +15,10 @@ begin-requires g c =
 
 pub returns-clause-takes : goal.returns-clause-takes
 returns-clause-takes g c = λ rest opener start input due.
-    let S = g.row.S.Denot in
-    let stands = g.S.Sink.stands in
-    let trusts = g.S.Sink.trusts in
-    let sink = c.args.self.now.sink in
     let behind = c.args.behind.now in
-    let cs = standing Open c.args.self.now.stack c.args.cells.now in
-    let room : length due.ls < c.args.depth = omega (arith, c.if-self-depth.false, height-is S stands trusts start c.args.depth input cs sink rest due, standing_count Open c.args.self.now.stack c.args.cells.now c.requires.cells) in
-    subst (λ (x : List Open). (length behind < length rest) × IsDue S stands trusts start c.args.depth input x c.begin.new.self behind) (sym c.push.ensures.levels)
-    (opened S stands trusts start c.args.depth input cs sink rest due c.args.major c.args.number c.args.opened behind c.begin.new.self c.is_key.result (c.is_key.ensures ∙ key-awaited (length input) due.ls c.args.self.now.stack.top (around Open c.args.self.now.stack c.args.cells.now) due.cells) room opener c.in-Ok.ensures)
+    let room : length due.ls < c.args.depth = omega (arith, c.if-self-depth.false, height-is _ _ _ _ _ _ _ _ _ due, standing_count Open c.args.self.now.stack c.args.cells.now c.requires.cells) in
+    subst (λ (x : List Open). (length behind < length rest) × IsDue g.row.S.Denot g.S.Sink.stands g.S.Sink.trusts start c.args.depth input x c.begin.new.self behind) (sym c.push.ensures.levels)
+    (opened _ _ _ _ _ _ _ _ _ due c.args.major c.args.number c.args.opened behind c.begin.new.self c.is_key.result (c.is_key.ensures ∙ key-awaited (length input) due.ls c.args.self.now.stack.top (around Open c.args.self.now.stack c.args.cells.now) due.cells) room opener c.in-Ok.ensures)
 
 pub returns-clause-front : goal.returns-clause-front
 returns-clause-front g c = λ rest opener o.

@@ -57,16 +57,13 @@ pub returns-in-Ok-end_string-clause-takes : goal.returns-in-Ok-end_string-clause
 returns-in-Ok-end_string-clause-takes g c = λ d outer start input due.
     let top = c.args.self.now.stack.top in
     let told = c.is_key-is_key.ensures ∙ key-awaited (length input) due.ls top outer due.cells in
-    let S = g.row.S.Denot in
-    let stands = g.S.Sink.stands in
-    let trusts = g.S.Sink.trusts in
     let t = c.args.is_text in
     let sink = c.args.self.now.sink in
     let behind = c.in-Some.behind.now in
     let s = c.chunks.invariant.chunks in
     let is : c.chunks.rest.now ≡ 0xff ∷ behind = c.in-Some.ensures.cases.0 ∙ ap (λ (x : ℕ). x ∷ behind) c.if-first.true in
-    let all = all-chunks S stands g.S.Sink.holds c.is_key-is_key.result t c.args.behind.now sink c.chunks.rest.now c.chunks.self.sink s behind is in
-    scalar-settles S stands trusts start d input (top ∷ outer) sink (chunked_from t c.args.behind.now) due behind (string_value t (chunks_joined s.read.done)) c.end_string.new.self all
+    let all = all-chunks g.row.S.Denot g.S.Sink.stands g.S.Sink.holds c.is_key-is_key.result t c.args.behind.now sink c.chunks.rest.now c.chunks.self.sink s behind is in
+    scalar-settles _ _ _ start d input (top ∷ outer) _ (chunked_from t c.args.behind.now) due behind (string_value t (chunks_joined s.read.done)) c.end_string.new.self all
     (λ k. c.in-Ok-end_string.ensures start d due.ls (chunks_joined s.read.done) all.item (s.given start due.ls (due.given, told)) told k all.value_is)
 
 pub chunks-init : goal.chunks-init

@@ -1,34 +1,29 @@
-use Rattle.std.proofs.Common.{◌∷◌, ◌-◌, subst, sym}
+use Rattle.std.proofs.Common.{◌-◌, subst, sym}
 use Rattle.cbor_front.specs.Stack.{standing}
 use Rattle.cbor_walk.specs.declared.open.Open.{Open}
 use Rattle.cbor_walk.specs.declared.part.Left.{Left}
-use Rattle.cbor_walk.specs.inner.Building.{IsDueIn}
 use Rattle.cbor_walk.specs.inner.Parts.{Leaves, LeavesWithin}
 use Rattle.cbor_walk.proofs.Lefts.{same-takes, same-front, left-within}
 use Rattle.cbor_walk.proofs.building.Building.take_endless.Goals as goal
 
 pub returns-clause-within : goal.returns-clause-within
 returns-clause-within g c =
-    let S = g.row.S.Denot in
-    let p = c.endless_part.result in
     let k = c.endless_part.new.self in
-    let (start, input, due) : IsDueIn S g.S.Sink.stands g.S.Sink.trusts c.args.depth (standing Open c.args.self.now.stack c.args.cells.now) c.args.self.now.sink (c.args.first ∷ c.args.behind.now) = c.requires.due in
+    let (start, input, due) = c.requires.due in
     subst (LeavesWithin c.args.behind.now) (sym c.left.ensures)
-    (left-within c.args.first c.args.behind.now 0 c.args.self.now.stack.top S g.S.Sink.stands g.S.Sink.trusts g.S.Sink.holds start c.args.depth input (standing Open k.stack c.endless_part.new.cells) k.sink p (c.endless_part.ensures.takes start input due))
+    (left-within c.args.first c.args.behind.now 0 c.args.self.now.stack.top g.row.S.Denot g.S.Sink.stands g.S.Sink.trusts g.S.Sink.holds start c.args.depth input (standing Open k.stack c.endless_part.new.cells) k.sink c.endless_part.result (c.endless_part.ensures.takes start input due))
 
 pub returns-clause-takes : goal.returns-clause-takes
 returns-clause-takes g c = λ q leaves start input due.
-    let S = g.row.S.Denot in
     let k = c.args.self.now.stack in
     let new = c.endless_part.new.self in
-    same-takes c.args.first c.args.behind.now (c.args.depth - k.height) k.top S g.S.Sink.stands g.S.Sink.trusts g.S.Sink.holds start c.args.depth input (standing Open new.stack c.endless_part.new.cells) new.sink c.endless_part.result q
+    same-takes c.args.first c.args.behind.now (c.args.depth - k.height) k.top g.row.S.Denot g.S.Sink.stands g.S.Sink.trusts g.S.Sink.holds start c.args.depth input (standing Open new.stack c.endless_part.new.cells) new.sink c.endless_part.result q
     (c.endless_part.ensures.takes start input due) c.endless_part.ensures.front (subst (λ (l : Left). Leaves c.args.behind.now l q) c.left.ensures leaves)
 
 pub returns-clause-front : goal.returns-clause-front
 returns-clause-front g c = λ q leaves.
-    let S = g.row.S.Denot in
     let k = c.args.self.now.stack in
     let new = c.endless_part.new.self in
-    let (start, input, due) : IsDueIn S g.S.Sink.stands g.S.Sink.trusts c.args.depth (standing Open k c.args.cells.now) c.args.self.now.sink (c.args.first ∷ c.args.behind.now) = c.requires.due in
-    same-front c.args.first c.args.behind.now (c.args.depth - k.height) k.top S g.S.Sink.stands g.S.Sink.trusts g.S.Sink.holds start c.args.depth input (standing Open new.stack c.endless_part.new.cells) new.sink c.endless_part.result q
+    let (start, input, due) = c.requires.due in
+    same-front c.args.first c.args.behind.now (c.args.depth - k.height) k.top g.row.S.Denot g.S.Sink.stands g.S.Sink.trusts g.S.Sink.holds start c.args.depth input (standing Open new.stack c.endless_part.new.cells) new.sink c.endless_part.result q
     (c.endless_part.ensures.takes start input due) c.endless_part.ensures.front (subst (λ (l : Left). Leaves c.args.behind.now l q) c.left.ensures leaves)

@@ -31,16 +31,13 @@ string-requires g c =
 pub returns-in-Ok-clause-takes : goal.returns-in-Ok-clause-takes
 returns-in-Ok-clause-takes g c = λ rest head d outer start input due.
     let top = c.args.self.now.stack.top in
-    let S = g.row.S.Denot in
-    let stands = g.S.Sink.stands in
-    let trusts = g.S.Sink.trusts in
     let behind = c.args.behind.now in
     let size = c.in-Some.size in
     let all : AreBytes behind = are_bytes behind (λ i. omega (arith, c.type_inv.behind i)) in
     let p = known-string g.row.S.Denot g.S.Sink.stands g.S.Sink.trusts c.args.is_text c.args.self.now.stack.top c.args.self.now.sink c.args.count size behind c.requires.head all c.in-Some.ensures in
     let whole : take (length behind - size) (drop size behind) ≡ drop size behind = ap (λ n. take n (drop size behind)) (sym (length-drop size behind)) ∙ take-length (drop size behind) in
-    subst (λ (x : List ℕ). (length x < length rest) × HasEnded S stands trusts start d input (top ∷ outer) c.string.new.self x) (sym whole)
-    (scalar-ends S stands trusts start d input (top ∷ outer) c.args.self.now.sink rest due (drop size behind) (string_value c.args.is_text (take size behind)) c.string.new.self
+    subst (λ (x : List ℕ). (length x < length rest) × HasEnded g.row.S.Denot g.S.Sink.stands g.S.Sink.trusts start d input (top ∷ outer) c.string.new.self x) (sym whole)
+    (scalar-ends _ _ _ start d input (top ∷ outer) _ rest due (drop size behind) (string_value c.args.is_text (take size behind)) c.string.new.self
     c.is_key-is_key.result (c.is_key-is_key.ensures ∙ key-awaited (length input) due.ls top outer due.cells)
     (scalar-string c.args.is_text c.args.count size rest behind head p all) c.in-Ok.ensures)
 

@@ -1,15 +1,12 @@
 use Rattle.std.proofs.Common.{refl}
-use Rattle.cbor_front.specs.Stack.{around, standing}
+use Rattle.cbor_front.specs.Stack.{around}
 use Rattle.cbor_walk.specs.declared.open.Open.{Open}
-use Rattle.cbor_walk.specs.inner.Building.{IsDueIn}
 use Rattle.cbor_walk.proofs.GivenEnds.{goes, is-full}
 use Rattle.cbor_walk.proofs.GivenKinds.{begun-keeps, broken-keeps}
 use Rattle.cbor_walk.proofs.building.Building.walk.Goals as goal
 
 pub parts-smaller-in-Head : goal.parts-smaller-in-Head
-parts-smaller-in-Head g c =
-    let (start, input, due) : IsDueIn g.row.S.Denot g.S.Sink.stands g.S.Sink.trusts c.args.depth (standing Open c.args.self.now.stack c.args.cells.now) c.args.self.now.sink c.args.start.now = c.requires.due in
-    (c.in-Head.ensures.takes start input (c.parts.invariant.due start input due)).0
+parts-smaller-in-Head g c = let d = c.requires.due in (c.in-Head.ensures.takes d.0 d.1 (c.parts.invariant.due d.0 d.1 d.2)).0
 
 pub parts-preserved-in-Head : goal.parts-preserved-in-Head
 parts-preserved-in-Head g c =
@@ -26,9 +23,7 @@ parts-preserved-in-Head g c =
 -- ---- an item
 
 pub parts-smaller-then-advance : goal.parts-smaller-then-advance
-parts-smaller-then-advance g c =
-    let (start, input, due) : IsDueIn g.row.S.Denot g.S.Sink.stands g.S.Sink.trusts c.args.depth (standing Open c.args.self.now.stack c.args.cells.now) c.args.self.now.sink c.args.start.now = c.requires.due in
-    (c.in-Item.ensures.takes start input (c.parts.invariant.due start input due)).0
+parts-smaller-then-advance g c = let d = c.requires.due in (c.in-Item.ensures.takes d.0 d.1 (c.parts.invariant.due d.0 d.1 d.2)).0
 
 pub parts-preserved-then-advance : goal.parts-preserved-then-advance
 parts-preserved-then-advance g c =
@@ -45,14 +40,12 @@ parts-preserved-then-advance g c =
 
 pub close-requires : goal.close-requires
 close-requires g c =
-    let (start, input, due) : IsDueIn g.row.S.Denot g.S.Sink.stands g.S.Sink.trusts c.args.depth (standing Open c.args.self.now.stack c.args.cells.now) c.args.self.now.sink c.args.start.now = c.requires.due in
+    let (start, input, due) = c.requires.due in
     let t = c.take_part.new.self in
     λ n. ((refl, tt), (c.in-Item.ensures.cells, (start, c.args.depth, input, c.in-Item.behind.now, (is-full g.row.S.Denot g.S.Sink.stands g.S.Sink.trusts start c.args.depth input t.stack.top (around Open t.stack c.take_part.new.cells) t.sink c.in-Item.behind.now (c.in-Item.ensures.takes start input (c.parts.invariant.due start input due)).1 c.advance.new.self c.advance.ensures.kind c.advance.ensures.place (c.advance.ensures.full c.if-advance.false)))))
 
 pub parts-smaller-in-Item-close : goal.parts-smaller-in-Item-close
-parts-smaller-in-Item-close g c =
-    let (start, input, due) : IsDueIn g.row.S.Denot g.S.Sink.stands g.S.Sink.trusts c.args.depth (standing Open c.args.self.now.stack c.args.cells.now) c.args.self.now.sink c.args.start.now = c.requires.due in
-    (c.in-Item.ensures.takes start input (c.parts.invariant.due start input due)).0
+parts-smaller-in-Item-close g c = let d = c.requires.due in (c.in-Item.ensures.takes d.0 d.1 (c.parts.invariant.due d.0 d.1 d.2)).0
 
 pub parts-preserved-in-Item-close : goal.parts-preserved-in-Item-close
 parts-preserved-in-Item-close g c =
@@ -95,13 +88,11 @@ returns-in-Repeated-clause-kept g c = λ kinds keys start input due keeps.
 
 pub close_at_break-requires : goal.close_at_break-requires
 close_at_break-requires g c =
-    let (start, input, due) : IsDueIn g.row.S.Denot g.S.Sink.stands g.S.Sink.trusts c.args.depth (standing Open c.args.self.now.stack c.args.cells.now) c.args.self.now.sink c.args.start.now = c.requires.due in
+    let (start, input, due) = c.requires.due in
     λ n. ((refl, tt), (c.in-Break.ensures.cells, (start, c.args.depth, input, c.in-Break.behind.now, (c.in-Break.ensures.takes start input (c.parts.invariant.due start input due)).1)))
 
 pub parts-smaller : goal.parts-smaller
-parts-smaller g c =
-    let (start, input, due) : IsDueIn g.row.S.Denot g.S.Sink.stands g.S.Sink.trusts c.args.depth (standing Open c.args.self.now.stack c.args.cells.now) c.args.self.now.sink c.args.start.now = c.requires.due in
-    (c.in-Break.ensures.takes start input (c.parts.invariant.due start input due)).0
+parts-smaller g c = let d = c.requires.due in (c.in-Break.ensures.takes d.0 d.1 (c.parts.invariant.due d.0 d.1 d.2)).0
 
 pub parts-preserved : goal.parts-preserved
 parts-preserved g c =
