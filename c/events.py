@@ -11,10 +11,11 @@ FOLDER = Path(sys.argv[1])
 KINDS = ["unsigned", "negative", "bytes", "text", "array", "map", "tag", "simple", "chunk", "piece", "end"]
 
 
-def table(file, name):
-    text = (FOLDER / file).read_text(encoding="utf-8")
-    body = re.search(r"static %s: [^=]*= \[(.*?)\n\];" % name, text, re.S)[1]
-    return re.findall(r"\(\s*([^()]*?),?\s*\)", re.sub(r"(?m)^\s*//.*$", "", body))
+def table(name):
+    """The rows of a table, each with its columns."""
+    text = (FOLDER / "tables.rt").read_text(encoding="utf-8")
+    body = re.search(rf'static {name}: &str = r#"\n(.*?)\n"#;', text, re.S)[1]
+    return [[column.strip() for column in line.split("|", 4)] for line in body.splitlines()]
 
 
 def event(words):
@@ -23,7 +24,8 @@ def event(words):
         place, 0 if number == "-" else number + "u", KINDS.index(name), 255 if width == "-" else width)
 
 
-def row(given, status, refusal, depth, most, text):
+def row(given, limits, text, status, refusal):
+    depth, most = limits.split() or (256, 1 << 20)
     words = text.split()
     events = [event(words[i : i + 4]) for i in range(0, len(words), 4)]
     return '    {"%s", %s, %s, %s, %s, %d, {%s}},' % (
@@ -32,16 +34,11 @@ def row(given, status, refusal, depth, most, text):
 
 rows = []
 for name, status in (("ACCEPTED", "NALTVIGO_OK"), ("FRONTS", "NALTVIGO_MORE")):
-    for line in table("tables.rt", name):
-        given, text = re.findall(r'"([^"]*)"', line)
-        rows.append(row(given, status, "{0, 0, 0}", 256, 1 << 20, text))
+    rows += [row(given, limits, text, status, "{0, 0, 0}") for given, limits, text, _, _ in table(name)]
 reasons = dict(re.findall(r"(\w+) = (\d+),", (FOLDER / "../../../cbor_head/src/reason.rt").read_text()))
-for line in table("refused.rt", "REFUSED"):
-    given, text = re.findall(r'"([^"]*)"', line)
-    depth, most, reason, place, read = re.search(r'"[^"]*",\s*([^"]*?),\s*"', line)[1].replace("\n", " ").split(",")
-    depth, most = (eval(it.replace("u64", "").replace("u16", "")) for it in (depth, most))
-    why = "{%s, %s, %s}" % (reasons[reason.strip().split("::")[1]], place.strip(), read.strip())
-    rows.append(row(given, "NALTVIGO_REFUSED", why, depth, most, text))
+for given, limits, text, answer, _ in table("REFUSED"):
+    reason, place, read = answer.split()
+    rows.append(row(given, limits, text, "NALTVIGO_REFUSED", "{%s, %s, %s}" % (reasons[reason], place, read)))
 if len(rows) < 100:
     sys.exit(f"{FOLDER}: {len(rows)} rows: where are the tables?")
 print("static const struct events_row events_rows[] = {")

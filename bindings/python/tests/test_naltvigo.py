@@ -98,8 +98,9 @@ class Rows(unittest.TestCase):
 class Events(unittest.TestCase):
     def rows(self):
         text = EVENTS.read_text(encoding="utf-8")
-        body = text[text.index("static ACCEPTED") :].split("\n];")[0]
-        return re.findall(r'// (.*)\n\s*\(\s*"([0-9a-f]*)",\s*"([^"]*)",?\s*\)', body)
+        body = re.search(r'static ACCEPTED: &str = r#"\n(.*?)\n"#;', text, re.S)[1]
+        rows = ([column.strip() for column in line.split("|", 4)] for line in body.splitlines())
+        return [(text, given, events) for given, _, events, _, text in rows]
 
     def told(self, chunks):
         joined = []

@@ -6,16 +6,16 @@ ghost use Rattle.cbor_standing.specs.Steps.{Goes};
 
 mod parts;
 mod reading;
-mod refused;
+mod rows;
 mod saving;
 mod tables;
 mod text_check;
 
-use self::refused::refused_rows;
+use self::rows::{Row, rows_of};
 use self::saving::tell_saved;
-use self::tables::{accepted_rows, fronts_rows, not_valid_rows};
+use self::tables::{ACCEPTED, FRONTS, NOT_VALID, REFUSED};
 use cbor_events::{Event, EventKind, Machine, Out, Step};
-use cbor_head::{Limits, Reason, Refusal, Simple, Width};
+use cbor_head::{Limits, Reason, Refusal, Width};
 use std::alloc::{AllocError, Global};
 use std::process::Abort;
 
@@ -33,97 +33,6 @@ fn feed(machine: &mut Machine, input: &[u8]) -> Step
             out => return Step { used: at, out },
         }
     }
-}
-
-// The value of a hex digit.
-fn digit_of(c: u8) -> Option<u8> {
-    match c {
-        b'0'..=b'9' => Some(c - b'0'),
-        b'a'..=b'f' => Some(c - b'a' + 10),
-        _ => None,
-    }
-}
-
-// The bytes of hex digits, two for each.
-fn bytes_of(rt: &impl Abort, alloc: Global, text: &str) -> Result<Vec<u8>, AllocError> {
-    let mut bytes = Vec::new(alloc);
-    let mut high = None;
-    for c in text.bytes() {
-        let digit = digit_of(c).expect(rt, "a hex digit");
-        match high {
-            None => high = Some(digit),
-            Some(sixteens) => {
-                bytes.push(sixteens << 4 | digit)?;
-                high = None;
-            }
-        }
-    }
-    assert!(rt; high.is_none(), "an odd hex digit in {text}");
-    Ok(bytes)
-}
-
-fn number_of(rt: &impl Abort, word: &str) -> u64 {
-    word.parse().expect(rt, "a number")
-}
-
-// A count, or none where the length is indefinite.
-fn count_of(rt: &impl Abort, word: &str) -> Option<u64> {
-    if word == "-" {
-        None
-    } else {
-        Some(number_of(rt, word))
-    }
-}
-
-fn kind_of(rt: &impl Abort, name: &str, argument: &str) -> EventKind {
-    let count = count_of(rt, argument);
-    let number = count.unwrap_or(0);
-    match name {
-        "unsigned" => EventKind::Unsigned(number),
-        "negative" => EventKind::Negative(number),
-        "simple" => {
-            let number = u8::try_from(number).expect(rt, "a number below 256");
-            EventKind::Simple(Simple::new(number).expect(rt, "a simple value"))
-        }
-        "bytes" => EventKind::Bytes(count),
-        "text" => EventKind::Text(count),
-        "chunk" => EventKind::Chunk(number),
-        "piece" => EventKind::Piece(number as usize),
-        "array" => EventKind::Array(count),
-        "map" => EventKind::Map(count),
-        "tag" => EventKind::Tag(number),
-        "end" => EventKind::End,
-        _ => panic!(rt; "no event is called {name}"),
-    }
-}
-
-fn width_of(rt: &impl Abort, word: &str) -> Width {
-    match word {
-        "0" => Width::Direct,
-        "1" => Width::One,
-        "2" => Width::Two,
-        "4" => Width::Four,
-        "8" => Width::Eight,
-        "-" => Width::Indefinite,
-        _ => panic!(rt; "no width is {word}"),
-    }
-}
-
-// The events that a table names, by four words each.
-fn events_of(rt: &impl Abort, alloc: Global, text: &str) -> Result<Vec<Event>, AllocError> {
-    let words: Vec<&str> = text.split_whitespace().collect(alloc)?;
-    let mut events = Vec::new(alloc);
-    for line in words.chunks(4) {
-        match line {
-            [place, name, argument, width] => events.push(event(
-                number_of(rt, place),
-                width_of(rt, width),
-                kind_of(rt, name, argument),
-            ))?,
-            _ => panic!(rt; "words are left in {text}"),
-        }
-    }
-    Ok(events)
 }
 
 // What came of bytes: the events, neighbouring pieces joined, the last answer, and how many bytes were taken.
@@ -175,37 +84,14 @@ fn limits(rt: &impl Abort, depth: u16, bytes: u64) -> Limits {
 
 // Gives bytes whole, one by one, and so to a machine that is saved between, and looks for what is
 // wanted of each.
-fn look_at_told(
-    rt: &impl Abort,
-    alloc: Global,
-    limits: Limits,
-    bytes: &[u8],
-    wanted: &Told,
-) -> Result<(), AllocError> {
-    let whole = tell(alloc, limits, bytes, usize::MAX)?;
-    assert!(rt; whole == *wanted, "of {bytes:?}");
-    let single = tell(alloc, limits, bytes, 1)?;
-    assert!(rt; single == *wanted, "the cuts of {bytes:?}");
-    let saved = tell_saved(rt, alloc, limits, bytes)?;
-    assert!(rt; saved == *wanted, "saved within {bytes:?}");
+fn look_at_told(rt: &impl Abort, alloc: Global, row: &Row) -> Result<(), AllocError> {
+    let whole = tell(alloc, row.limits, &row.bytes, usize::MAX)?;
+    assert!(rt; whole == row.told, "{}", row.line);
+    let single = tell(alloc, row.limits, &row.bytes, 1)?;
+    assert!(rt; single == row.told, "cut: {}", row.line);
+    let saved = tell_saved(rt, alloc, row.limits, &row.bytes)?;
+    assert!(rt; saved == row.told, "saved: {}", row.line);
     Ok(())
-}
-
-// The same of the bytes that hex digits stand for. What is told borrows them: an owner of all this
-// would owe at each `?` that it may be let go there.
-fn look_both_ways(
-    rt: &impl Abort,
-    alloc: Global,
-    limits: Limits,
-    hex: &str,
-    text: &str,
-    out: Out,
-    taken: u64,
-) -> Result<(), AllocError> {
-    let bytes = bytes_of(rt, alloc, hex)?;
-    let events = events_of(rt, alloc, text)?;
-    let wanted = Told { events, out, taken };
-    look_at_told(rt, alloc, limits, &bytes, &wanted)
 }
 
 fn step(used: usize, out: Out) -> Step {
@@ -280,34 +166,11 @@ fn refusals_stay(rt: HostRuntime) {
 }
 
 #[test]
-fn takes_items(rt: HostRuntime) -> Result<(), AllocError> {
-    let limits = limits(&rt, 256, 1 << 20);
-    for &(hex, events) in accepted_rows() {
-        let taken = hex.len() as u64 / 2;
-        look_both_ways(&rt, rt.alloc(), limits, hex, events, Out::Done, taken)?;
-    }
-    for &(hex, taken, events) in not_valid_rows() {
-        look_both_ways(&rt, rt.alloc(), limits, hex, events, Out::Done, taken)?;
-    }
-    Ok(())
-}
-
-#[test]
-fn refuses_what_begins_no_item(rt: HostRuntime) -> Result<(), AllocError> {
-    for &(hex, depth, bytes, reason, place, read, events) in refused_rows() {
-        let out = refusal(reason, place, read);
-        let limits = limits(&rt, depth, bytes);
-        look_both_ways(&rt, rt.alloc(), limits, hex, events, out, read)?;
-    }
-    Ok(())
-}
-
-#[test]
-fn goes_on_in_an_item(rt: HostRuntime) -> Result<(), AllocError> {
-    let limits = limits(&rt, 256, 1 << 20);
-    for &(hex, events) in fronts_rows() {
-        let taken = hex.len() as u64 / 2;
-        look_both_ways(&rt, rt.alloc(), limits, hex, events, Out::More, taken)?;
+fn tells_what_the_tables_say(rt: HostRuntime) -> Result<(), AllocError> {
+    for table in [ACCEPTED, NOT_VALID, REFUSED, FRONTS] {
+        for row in &rows_of(&rt, rt.alloc(), table)? {
+            look_at_told(&rt, rt.alloc(), row)?;
+        }
     }
     Ok(())
 }

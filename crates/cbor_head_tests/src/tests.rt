@@ -1,113 +1,106 @@
 //! Heads, limits, simple values and reasons by tables.
 
-use cbor_head::{Head, Keys, Limits, Major, Reason, Refusal, Simple, Width, argument_bytes};
+use cbor_head::{Head, Keys, Limits, Reason, Refusal, Simple, argument_bytes, head_laws};
+use std::alloc::{AllocError, Global};
 use std::test::Fail;
 
-/// The first and the last argument of each width, as the shortest head of an unsigned integer.
-const BOUNDARIES: [(&[u8], u64, Width); 10] = [
-    (b"\x00", 0, Width::Direct),
-    (b"\x17", 23, Width::Direct),
-    (b"\x18\x18", 24, Width::One),
-    (b"\x18\xff", 255, Width::One),
-    (b"\x19\x01\x00", 256, Width::Two),
-    (b"\x19\xff\xff", 65535, Width::Two),
-    (b"\x1a\x00\x01\x00\x00", 65536, Width::Four),
-    (b"\x1a\xff\xff\xff\xff", 4294967295, Width::Four),
-    (
-        b"\x1b\x00\x00\x00\x01\x00\x00\x00\x00",
-        4294967296,
-        Width::Eight,
-    ),
-    (
-        b"\x1b\xff\xff\xff\xff\xff\xff\xff\xff",
-        18446744073709551615,
-        Width::Eight,
-    ),
-];
+// The first and the last argument of each width, as the shortest head of an unsigned integer, and
+// other shortest heads; most are what items of RFC 8949, appendix A, begin with.
+static SHORTEST: &str = r#"
+00 | Unsigned Direct 0
+17 | Unsigned Direct 23
+1818 | Unsigned One 24
+18ff | Unsigned One 255
+190100 | Unsigned Two 256
+19ffff | Unsigned Two 65535
+1a00010000 | Unsigned Four 65536
+1affffffff | Unsigned Four 4294967295
+1b0000000100000000 | Unsigned Eight 4294967296
+1bffffffffffffffff | Unsigned Eight 18446744073709551615
+1903e8 | Unsigned Two 1000 | 1000
+20 | Negative Direct 0 | -1
+3863 | Negative One 99 | -100
+44 | Bytes Direct 4 | h'01020304'
+62 | Text Direct 2 | "ü"
+9819 | Array One 25 | [1, 2, .. 25]
+a2 | Map Direct 2 | {1: 2, 3: 4}
+a5 | Map Direct 5 | {.., .., .., .., ..}
+d820 | Tag One 32 | 32("http://www.example.com")
+f4 | Simple Direct 20 | false
+f5 | Simple Direct 21 | true
+f0 | Simple Direct 16 | simple(16)
+f820 | Simple One 32 | simple(32)
+f8ff | Simple One 255 | simple(255)
+"#;
 
-/// Heads that items of RFC 8949, appendix A, begin with, and two that are longer than need be.
-const HEADS: [(&[u8], Major, Width, u64); 13] = [
-    (b"\x19\x03\xe8", Major::Unsigned, Width::Two, 1000), // 1000
-    (b"\x20", Major::Negative, Width::Direct, 0), // -1
-    (b"\x38\x63", Major::Negative, Width::One, 99), // -100
-    (b"\x44", Major::Bytes, Width::Direct, 4), // h'01020304'
-    (b"\x62", Major::Text, Width::Direct, 2), // "ü"
-    (b"\x98\x19", Major::Array, Width::One, 25), // [1, 2, .. 25]
-    (b"\xa2", Major::Map, Width::Direct, 2), // {1: 2, 3: 4}
-    (b"\xd8\x20", Major::Tag, Width::One, 32), // 32("http://www.example.com")
-    (b"\xf5", Major::Simple, Width::Direct, 21), // true
-    (b"\xf0", Major::Simple, Width::Direct, 16), // simple(16)
-    (b"\xf8\xff", Major::Simple, Width::One, 255), // simple(255)
-    (b"\x18\x00", Major::Unsigned, Width::One, 0), // 0
-    (
-        b"\x1b\x00\x00\x00\x00\x00\x00\x00\x17",
-        Major::Unsigned,
-        Width::Eight,
-        23,
-    ), // 23
-];
+// Heads that are longer than need be.
+static LONGER: &str = "
+1800 | Unsigned One 0
+1b0000000000000017 | Unsigned Eight 23
+";
 
-/// What is no definite head.
-const OTHERS: [&[u8]; 20] = [
-    b"", // nothing
-    b"\x18", // no argument
-    b"\x19\x01", // half an argument
-    b"\x1b\x00\x00\x00\x01\x00\x00\x00", // seven eighths of one
-    b"\x1c", // reserved
-    b"\x3d", // reserved
-    b"\x5e", // reserved
-    b"\x1f", // an integer of indefinite length
-    b"\x5f", // a byte string of indefinite length
-    b"\x9f", // an array of indefinite length
-    b"\xdf", // a tag of indefinite length
-    b"\xff", // the break
-    b"\xf8", // a simple value without its number
-    b"\xf8\x00", // a simple value of one byte, in two
-    b"\xf8\x1f", // simple value 31, which does not exist
-    b"\xf9\x00\x00", // 0.0
-    b"\xfa\x00\x00\x00\x00", // 0.0
-    b"\xfb\x00\x00\x00\x00\x00\x00\x00\x00", // 0.0
-    b"\x00\x00", // two heads
-    b"\x18\x18\x00", // two heads
-];
+// What is no definite head.
+static OTHERS: &str = "
+| nothing
+18 | no argument
+1901 | half an argument
+1b00000001000000 | seven eighths of one
+1c | reserved
+3d | reserved
+5e | reserved
+1f | an integer of indefinite length
+5f | a byte string of indefinite length
+9f | an array of indefinite length
+df | a tag of indefinite length
+ff | the break
+f8 | a simple value without its number
+f800 | a simple value of one byte, in two
+f81f | simple value 31, which does not exist
+f90000 | 0.0
+fa00000000 | 0.0
+fb0000000000000000 | 0.0
+0000 | two heads
+181800 | two heads
+";
 
-const SHORTEST: [(Major, u64, &[u8]); 3] = [
-    (Major::Simple, 20, b"\xf4"), // false
-    (Major::Simple, 32, b"\xf8\x20"), // simple(32)
-    (Major::Map, 5, b"\xa5"), // {.., .., .., .., ..}
-];
+// The bytes of a row, and its second column.
+fn row_of(alloc: Global, line: &'static str) -> Result<(Vec<u8>, &'static str), Fail> {
+    let (digits, rest) = line.split_once('|').ok_or("two columns")?;
+    let (column, _) = rest.split_once('|').unwrap_or((rest, ""));
+    Ok((hex::decode(alloc, digits.trim())?, column.trim()))
+}
+
+// Whether the bytes are read as the head that is told so.
+fn is_read(alloc: Global, bytes: &[u8], told: &str) -> Result<Option<Head>, AllocError> {
+    let Some(head) = Head::read(bytes) else {
+        return Ok(None);
+    };
+    let text = format!(in alloc; "{:?} {:?} {}", head.major(), head.width(), head.argument())?;
+    let holds = text.as_str() == told
+        && head.bytes().as_slice() == bytes
+        && head_laws::read_back(&head) == Some(head);
+    Ok(Some(head).filter(|_| holds))
+}
 
 #[test]
-fn heads(rt: HostRuntime) {
-    for (bytes, argument, width) in BOUNDARIES {
-        let head = Head::shortest(Major::Unsigned, argument);
-        let holds = head.width() == width
-            && head.bytes().as_slice() == bytes
-            && Head::read(bytes) == Some(head);
-        assert!(rt; holds, "at {argument}");
-    }
-    for (bytes, major, width, argument) in HEADS {
-        let holds = match Head::read(bytes) {
-            Some(head) => {
-                head.major() == major
-                    && head.width() == width
-                    && head.argument() == argument
-                    && head.bytes().as_slice() == bytes
-                    && cbor_head::head_laws::read_back(&head) == Some(head)
-            }
-            None => false,
-        };
-        assert!(rt; holds, "at {bytes:?}");
-    }
-    for bytes in OTHERS {
-        assert!(rt; Head::read(bytes).is_none(), "at {bytes:?}");
-    }
-    for (major, argument, bytes) in SHORTEST {
+fn heads(rt: HostRuntime) -> Result<(), Fail> {
+    for line in SHORTEST.trim().lines() {
+        let (bytes, told) = row_of(rt.alloc(), line)?;
+        let head = is_read(rt.alloc(), &bytes, told)?.ok_or(line)?;
         assert!(rt;
-            Head::shortest(major, argument).bytes().as_slice() == bytes,
-            "at {bytes:?}"
+            Head::shortest(head.major(), head.argument()) == head,
+            "{line}"
         );
     }
+    for line in LONGER.trim().lines() {
+        let (bytes, told) = row_of(rt.alloc(), line)?;
+        assert!(rt; is_read(rt.alloc(), &bytes, told)?.is_some(), "{line}");
+    }
+    for line in OTHERS.trim().lines() {
+        let (bytes, _) = row_of(rt.alloc(), line)?;
+        assert!(rt; Head::read(&bytes).is_none(), "{line}");
+    }
+    Ok(())
 }
 
 #[test]
@@ -171,39 +164,44 @@ fn limits(rt: HostRuntime) -> Result<(), Fail> {
     Ok(())
 }
 
-/// The reasons, with the number and the name of each.
-const REASONS: [(Reason, u8, &[u8]); 20] = [
-    (Reason::Truncated, 1, b"Truncated"),
-    (Reason::TooLong, 2, b"TooLong"),
-    (Reason::Reserved, 3, b"Reserved"),
-    (Reason::NoIndefinite, 4, b"NoIndefinite"),
-    (Reason::Float, 5, b"Float"),
-    (Reason::BadSimple, 6, b"BadSimple"),
-    (Reason::StrayBreak, 7, b"StrayBreak"),
-    (Reason::BadChunk, 8, b"BadChunk"),
-    (Reason::TooDeep, 9, b"TooDeep"),
-    (Reason::InvalidText, 10, b"InvalidText"),
-    (Reason::RepeatedKey, 11, b"RepeatedKey"),
-    (Reason::Trailing, 12, b"Trailing"),
-    (Reason::CanonicalTooLong, 13, b"CanonicalTooLong"),
-    (Reason::NotShortest, 14, b"NotShortest"),
-    (Reason::Indefinite, 15, b"Indefinite"),
-    (Reason::KeyOrder, 16, b"KeyOrder"),
-    (Reason::Read, 17, b"Read"),
-    (Reason::Write, 18, b"Write"),
-    (Reason::Memory, 19, b"Memory"),
-    (Reason::KeyKind, 20, b"KeyKind"),
+// The reasons, in the order of their numbers.
+static REASONS: [Reason; 20] = [
+    Reason::Truncated,
+    Reason::TooLong,
+    Reason::Reserved,
+    Reason::NoIndefinite,
+    Reason::Float,
+    Reason::BadSimple,
+    Reason::StrayBreak,
+    Reason::BadChunk,
+    Reason::TooDeep,
+    Reason::InvalidText,
+    Reason::RepeatedKey,
+    Reason::Trailing,
+    Reason::CanonicalTooLong,
+    Reason::NotShortest,
+    Reason::Indefinite,
+    Reason::KeyOrder,
+    Reason::Read,
+    Reason::Write,
+    Reason::Memory,
+    Reason::KeyKind,
 ];
+
+// Their numbers and their names.
+static NAMES: &str = "1 Truncated, 2 TooLong, 3 Reserved, 4 NoIndefinite, 5 Float, 6 BadSimple, \
+    7 StrayBreak, 8 BadChunk, 9 TooDeep, 10 InvalidText, 11 RepeatedKey, 12 Trailing, \
+    13 CanonicalTooLong, 14 NotShortest, 15 Indefinite, 16 KeyOrder, 17 Read, 18 Write, 19 Memory, \
+    20 KeyKind";
 
 #[test]
 fn reasons(rt: HostRuntime) -> Result<(), Fail> {
-    for (reason, number, name) in REASONS {
-        let text = format!(in rt.alloc(); "{reason}")?;
-        assert!(rt;
-            reason.number() == number && text.as_bytes() == name,
-            "at {number}"
-        );
+    let mut names = NAMES.split(", ");
+    for reason in REASONS {
+        let text = format!(in rt.alloc(); "{} {reason}", reason.number())?;
+        assert!(rt; names.next() == Some(text.as_str()), "{text}");
     }
+    assert!(rt; names.next().is_none());
     let refusal = Refusal::at(Reason::Trailing, 1);
     assert!(rt; refusal == Refusal::new(Reason::Trailing, 1, 1));
     let text = format!(in rt.alloc(); "{refusal}")?;

@@ -1,9 +1,9 @@
 //! Writers that stop.
 
-use super::{bytes, nested, tree};
+use super::{NESTED, NESTED_INDENTED, tree_of};
 use cbor_diag::{diagnostic, diagnostic_indented};
 use cbor_head::{Reason, Refusal};
-use cbor_item::{Item, Tree};
+use cbor_item::Tree;
 use std::alloc::Global;
 use std::io;
 use std::io::{Error, ErrorKind, Write};
@@ -75,20 +75,18 @@ fn stops_indented(alloc: Global, tree: &Tree, before: &[u8], step: usize, fails:
 
 static LINE: &[u8] = b"[1, {\"b\": [2, 3], \"a\": 1, [4]: {}}, []]";
 
-static LINES: &[u8] =
-    b"[\n  1,\n  {\n    \"b\": [\n      2,\n      3\n    ],\n    \"a\": 1,\n    [\n      4\n    ]: {}\n  },\n  []\n]";
-
 #[test]
 fn writers_stop_at_each_place(rt: HostRuntime) -> Result<(), Fail> {
     let alloc = rt.alloc();
-    let tree = tree(alloc, nested(alloc)?)?;
+    let tree = tree_of(alloc, NESTED)?;
+    let lines = NESTED_INDENTED.as_bytes();
     for &(step, fails) in &STOPS {
         for room in 0..LINE.len() {
             let is_right = stops_behind(alloc, &tree, &LINE[..room], step, fails);
             assert!(rt; is_right, "at {room}");
         }
-        for room in 0..LINES.len() {
-            let is_right = stops_indented(alloc, &tree, &LINES[..room], step, fails);
+        for room in 0..lines.len() {
+            let is_right = stops_indented(alloc, &tree, &lines[..room], step, fails);
             assert!(rt; is_right, "at {room}");
         }
     }
@@ -98,8 +96,7 @@ fn writers_stop_at_each_place(rt: HostRuntime) -> Result<(), Fail> {
 #[test]
 fn the_third_number_is_cut_off(rt: HostRuntime) -> Result<(), Fail> {
     let alloc = rt.alloc();
-    let numbers = vec![in alloc; Item::Unsigned(1), Item::Unsigned(2), Item::Unsigned(3)]?;
-    let tree = tree(alloc, Item::Array(numbers))?;
+    let tree = tree_of(alloc, b"\x83\x01\x02\x03")?;
     let mut cup = empty_cup(Vec::new(alloc), 5, 100, false);
     assert!(rt; diagnostic(&tree, &mut cup) == write_at(5));
     assert!(rt; cup.held.as_slice() == b"[1, 2".as_slice());
@@ -124,7 +121,10 @@ static ROOMS: [usize; 14] = [
 #[test]
 fn long_strings_are_cut_off(rt: HostRuntime) -> Result<(), Fail> {
     let alloc = rt.alloc();
-    let tree = tree(alloc, bytes(alloc, &[0x5a; 700])?)?;
+    let mut bytes = Vec::from_elem(alloc, 0x5a, 703)?;
+    // the head of 700 bytes
+    bytes[..3].copy_from_slice(b"\x59\x02\xbc");
+    let tree = tree_of(alloc, &bytes)?;
     for &(step, fails) in &STOPS {
         for &room in &ROOMS {
             let held = held_at(alloc, &tree, room, step, fails);

@@ -1,7 +1,7 @@
 //! Items in their bytes, which were found to be valid.
 
 use super::push_times;
-use super::views::ROWS;
+use super::texts::{TEXTS, row_of};
 use cbor_diag::TextBuffer;
 use cbor_head::Limits;
 use cbor_reader::check_valid;
@@ -12,8 +12,8 @@ fn fronts_are_shown(rt: HostRuntime) -> Result<(), Fail> {
     let alloc = rt.alloc();
     let limits = Limits::new(256, 1 << 20).ok_or("limits")?;
     let mut room = TextBuffer::new(alloc);
-    for (digits, want) in &ROWS {
-        let mut input = hex::decode(alloc, *digits)?;
+    for line in TEXTS.trim().lines() {
+        let (mut input, want) = row_of(alloc, line)?;
         // What stands behind the item is no part of its text.
         input.push(0xff)?;
         check_valid(alloc, &input, limits)?;

@@ -1,204 +1,134 @@
 //! The tables of the listing: bytes, and the lines of their events.
+//!
+//! One row a line, with five columns between bars: the bytes in hex digits; the limits on depth and
+//! on bytes, where they are not 256 and 1048576; the lines of the listing; what is answered; and what
+//! the bytes are, or why they are refused.
 
-use cbor_head::Reason;
+use cbor_head::{Limits, Refusal};
+use std::alloc::{AllocError, Global};
+use std::test::Fail;
 
-// Items, and what their listings are.
-static ITEMS: [(&str, &str); 13] = [
-    // {_ "Fun": true, "Amt": -2}
-    (
-        "bf6346756ef563416d7421ff",
-        "0 map - -\n1 text 3 0\n5 simple 21 0\n6 text 3 0\n10 negative 1 0\n11 end - -\n",
-    ),
-    // (_ h'0102', h'030405')
-    (
-        "5f42010243030405ff",
-        "0 bytes - -\n1 chunk 2 0\n4 chunk 3 0\n8 end - -\n",
-    ),
-    // simple(255), the widest spelling of 1000000000000, 1([1, simple(32)])
-    ("f8ff", "0 simple 255 1\n"),
-    ("1b000000e8d4a51000", "0 unsigned 1000000000000 8\n"),
-    (
-        "c18201f820",
-        "0 tag 1 0\n1 array 2 0\n2 unsigned 1 0\n3 simple 32 1\n",
-    ),
-    // A text that is not UTF-8, a map with a key twice, and an empty string: form alone counts.
-    ("61ff", "0 text 1 0\n"),
-    (
-        "a2616100616101",
-        "0 map 2 0\n1 text 1 0\n3 unsigned 0 0\n4 text 1 0\n6 unsigned 1 0\n",
-    ),
-    ("40", "0 bytes 0 0\n"),
-    // (_ ""), and each width of a head: [0, -256, 2(h'')], [-18446744073709551616]
-    ("7f60ff", "0 text - -\n1 chunk 0 0\n2 end - -\n"),
-    (
-        "9a000000031900003900ffd900025800",
-        "0 array 3 4\n5 unsigned 0 2\n8 negative 255 2\n11 tag 2 2\n14 bytes 0 1\n",
-    ),
-    (
-        "813bffffffffffffffff",
-        "0 array 1 0\n1 negative 18446744073709551615 8\n",
-    ),
-    // [_ ], {_ }
-    ("9fff", "0 array - -\n1 end - -\n"),
-    ("bfff", "0 map - -\n1 end - -\n"),
-];
+// Items, and bytes that form refuses, with what is written before.
+pub(super) static ITEMS: &str = r#"
+bf6346756ef563416d7421ff | | 0 map - -; 1 text 3 0; 5 simple 21 0; 6 text 3 0; 10 negative 1 0; 11 end - - | 12 | {_ "Fun": true, "Amt": -2}
+5f42010243030405ff | | 0 bytes - -; 1 chunk 2 0; 4 chunk 3 0; 8 end - - | 9 | (_ h'0102', h'030405')
+f8ff | | 0 simple 255 1 | 2 | simple(255)
+1b000000e8d4a51000 | | 0 unsigned 1000000000000 8 | 9 | the widest spelling of 1000000000000
+c18201f820 | | 0 tag 1 0; 1 array 2 0; 2 unsigned 1 0; 3 simple 32 1 | 5 | 1([1, simple(32)])
+61ff | | 0 text 1 0 | 2 | a text that is not UTF-8: form alone counts
+a2616100616101 | | 0 map 2 0; 1 text 1 0; 3 unsigned 0 0; 4 text 1 0; 6 unsigned 1 0 | 7 | {"a": 0, "a": 1}: form alone counts
+40 | | 0 bytes 0 0 | 1 | h''
+7f60ff | | 0 text - -; 1 chunk 0 0; 2 end - - | 3 | (_ "")
+9a000000031900003900ffd900025800 | | 0 array 3 4; 5 unsigned 0 2; 8 negative 255 2; 11 tag 2 2; 14 bytes 0 1 | 16 | [0, -256, 2(h'')], in each width of a head
+813bffffffffffffffff | | 0 array 1 0; 1 negative 18446744073709551615 8 | 10 | [-18446744073709551616]
+9fff | | 0 array - -; 1 end - - | 2 | [_ ]
+bfff | | 0 map - -; 1 end - - | 2 | {_ }
+"#;
 
-// Bytes that form refuses: the depth limit, the byte limit, the refusal, and what is written
-// before it.
-static REFUSED: [(&str, u16, u64, Reason, u64, u64, &str); 41] = [
-    ("", 256, 1048576, Reason::Truncated, 0, 0, ""),
-    ("1c", 256, 1048576, Reason::Reserved, 0, 1, ""),
-    ("3d", 256, 1048576, Reason::Reserved, 0, 1, ""),
-    ("5e", 256, 1048576, Reason::Reserved, 0, 1, ""),
-    ("7c", 256, 1048576, Reason::Reserved, 0, 1, ""),
-    ("9d", 256, 1048576, Reason::Reserved, 0, 1, ""),
-    ("be", 256, 1048576, Reason::Reserved, 0, 1, ""),
-    ("dc", 256, 1048576, Reason::Reserved, 0, 1, ""),
-    ("fc", 256, 1048576, Reason::Reserved, 0, 1, ""),
-    (
-        "5f5c",
-        256,
-        1048576,
-        Reason::BadChunk,
-        1,
-        2,
-        "0 bytes - -\n",
-    ),
-    ("1f", 256, 1048576, Reason::NoIndefinite, 0, 1, ""),
-    ("3f", 256, 1048576, Reason::NoIndefinite, 0, 1, ""),
-    ("df", 256, 1048576, Reason::NoIndefinite, 0, 1, ""),
-    ("f97c00", 256, 1048576, Reason::Float, 0, 1, ""),
-    ("fa00000000", 256, 1048576, Reason::Float, 0, 1, ""),
-    ("fb0000000000000000", 256, 1048576, Reason::Float, 0, 1, ""),
-    ("ff", 256, 1048576, Reason::StrayBreak, 0, 1, ""),
-    (
-        "81ff",
-        256,
-        1048576,
-        Reason::StrayBreak,
-        1,
-        2,
-        "0 array 1 0\n",
-    ),
-    (
-        "a1ff",
-        256,
-        1048576,
-        Reason::StrayBreak,
-        1,
-        2,
-        "0 map 1 0\n",
-    ),
-    (
-        "c1ff",
-        256,
-        1048576,
-        Reason::StrayBreak,
-        1,
-        2,
-        "0 tag 1 0\n",
-    ),
-    (
-        "a100ff",
-        256,
-        1048576,
-        Reason::StrayBreak,
-        2,
-        3,
-        "0 map 1 0\n1 unsigned 0 0\n",
-    ),
-    (
-        "7f4100ff",
-        256,
-        1048576,
-        Reason::BadChunk,
-        1,
-        2,
-        "0 text - -\n",
-    ),
-    (
-        "5f6100ff",
-        256,
-        1048576,
-        Reason::BadChunk,
-        1,
-        2,
-        "0 bytes - -\n",
-    ),
-    (
-        "5f00ff",
-        256,
-        1048576,
-        Reason::BadChunk,
-        1,
-        2,
-        "0 bytes - -\n",
-    ),
-    ("f800", 256, 1048576, Reason::BadSimple, 1, 2, ""),
-    ("f818", 256, 1048576, Reason::BadSimple, 1, 2, ""),
-    ("18", 256, 1048576, Reason::Truncated, 1, 1, ""),
-    ("41", 256, 1048576, Reason::Truncated, 1, 1, "0 bytes 1 0\n"),
-    ("9f", 256, 1048576, Reason::Truncated, 1, 1, "0 array - -\n"),
-    ("c1", 256, 1048576, Reason::Truncated, 1, 1, "0 tag 1 0\n"),
-    ("f8", 256, 1048576, Reason::Truncated, 1, 1, ""),
-    ("1903", 256, 1048576, Reason::Truncated, 2, 2, ""),
-    (
-        "8201",
-        256,
-        1048576,
-        Reason::Truncated,
-        2,
-        2,
-        "0 array 2 0\n1 unsigned 1 0\n",
-    ),
-    (
-        "5f41",
-        256,
-        1048576,
-        Reason::Truncated,
-        2,
-        2,
-        "0 bytes - -\n1 chunk 1 0\n",
-    ),
-    (
-        "821864",
-        256,
-        1048576,
-        Reason::Truncated,
-        3,
-        3,
-        "0 array 2 0\n1 unsigned 100 1\n",
-    ),
-    (
-        "5bffffffffffffffff",
-        256,
-        1048576,
-        Reason::Truncated,
-        9,
-        9,
-        "0 bytes 18446744073709551615 8\n",
-    ),
-    ("1903", 256, 2, Reason::TooLong, 2, 2, ""),
-    (
-        "820100",
-        256,
-        2,
-        Reason::TooLong,
-        2,
-        2,
-        "0 array 2 0\n1 unsigned 1 0\n",
-    ),
-    ("c1c100", 1, 1048576, Reason::TooDeep, 1, 2, "0 tag 1 0\n"),
-    ("9f", 0, 1048576, Reason::TooDeep, 0, 1, ""),
-    ("9c", 0, 1048576, Reason::Reserved, 0, 1, ""),
-];
+pub(super) static REFUSED: &str = r#"
+| | | 1 Truncated at 0, read 0 | the input ends
+1c | | | 3 Reserved at 0, read 1 | reserved additional information
+3d | | | 3 Reserved at 0, read 1 | reserved additional information
+5e | | | 3 Reserved at 0, read 1 | reserved additional information
+7c | | | 3 Reserved at 0, read 1 | reserved additional information
+9d | | | 3 Reserved at 0, read 1 | reserved additional information
+be | | | 3 Reserved at 0, read 1 | reserved additional information
+dc | | | 3 Reserved at 0, read 1 | reserved additional information
+fc | | | 3 Reserved at 0, read 1 | reserved additional information
+5f5c | | 0 bytes - - | 8 BadChunk at 1, read 2 | no chunk of the string
+1f | | | 4 NoIndefinite at 0, read 1 | no indefinite length
+3f | | | 4 NoIndefinite at 0, read 1 | no indefinite length
+df | | | 4 NoIndefinite at 0, read 1 | no indefinite length
+f97c00 | | | 5 Float at 0, read 1 | a float
+fa00000000 | | | 5 Float at 0, read 1 | a float
+fb0000000000000000 | | | 5 Float at 0, read 1 | a float
+ff | | | 7 StrayBreak at 0, read 1 | a break where an item must begin
+81ff | | 0 array 1 0 | 7 StrayBreak at 1, read 2 | a break where an item must begin
+a1ff | | 0 map 1 0 | 7 StrayBreak at 1, read 2 | a break where an item must begin
+c1ff | | 0 tag 1 0 | 7 StrayBreak at 1, read 2 | a break where an item must begin
+a100ff | | 0 map 1 0; 1 unsigned 0 0 | 7 StrayBreak at 2, read 3 | a break where an item must begin
+7f4100ff | | 0 text - - | 8 BadChunk at 1, read 2 | no chunk of the string
+5f6100ff | | 0 bytes - - | 8 BadChunk at 1, read 2 | no chunk of the string
+5f00ff | | 0 bytes - - | 8 BadChunk at 1, read 2 | no chunk of the string
+f800 | | | 6 BadSimple at 1, read 2 | a simple value below 32 in two bytes
+f818 | | | 6 BadSimple at 1, read 2 | a simple value below 32 in two bytes
+18 | | | 1 Truncated at 1, read 1 | the input ends
+41 | | 0 bytes 1 0 | 1 Truncated at 1, read 1 | the input ends
+9f | | 0 array - - | 1 Truncated at 1, read 1 | the input ends
+c1 | | 0 tag 1 0 | 1 Truncated at 1, read 1 | the input ends
+f8 | | | 1 Truncated at 1, read 1 | the input ends
+1903 | | | 1 Truncated at 2, read 2 | the input ends
+8201 | | 0 array 2 0; 1 unsigned 1 0 | 1 Truncated at 2, read 2 | the input ends
+5f41 | | 0 bytes - -; 1 chunk 1 0 | 1 Truncated at 2, read 2 | the input ends
+821864 | | 0 array 2 0; 1 unsigned 100 1 | 1 Truncated at 3, read 3 | the input ends
+5bffffffffffffffff | | 0 bytes 18446744073709551615 8 | 1 Truncated at 9, read 9 | the input ends
+1903 | 256 2 | | 2 TooLong at 2, read 2 | the byte limit
+820100 | 256 2 | 0 array 2 0; 1 unsigned 1 0 | 2 TooLong at 2, read 2 | the byte limit
+c1c100 | 1 1048576 | 0 tag 1 0 | 9 TooDeep at 1, read 2 | one container too many
+9f | 0 1048576 | | 9 TooDeep at 0, read 1 | one container too many
+9c | 0 1048576 | | 3 Reserved at 0, read 1 | reserved additional information
+"#;
 
-// The tables stand behind functions, so that what a test owes does not hold all of their rows.
-
-pub(crate) fn items() -> &'static [(&'static str, &'static str)] {
-    &ITEMS
+#[derive(Drop)]
+pub(super) struct Row {
+    pub(super) line: &'static str,
+    pub(super) bytes: Vec<u8>,
+    pub(super) limits: Limits,
+    pub(super) listing: String,
+    pub(super) answer: &'static str,
 }
 
-pub(crate) fn refused() -> &'static [(&'static str, u16, u64, Reason, u64, u64, &'static str)] {
-    &REFUSED
+pub(super) fn rows_of(alloc: Global, table: &'static str) -> Result<Vec<Row>, Fail> {
+    let mut rows = Vec::new(alloc);
+    for line in table.trim().lines() {
+        rows.push(row_of(alloc, line)?)?;
+    }
+    Ok(rows)
+}
+
+fn row_of(alloc: Global, line: &'static str) -> Result<Row, Fail> {
+    let (digits, limits, events, answer) = columns_of(line).ok_or("five columns")?;
+    Ok(Row {
+        line,
+        bytes: hex::decode(alloc, digits)?,
+        limits: limits_of(limits).ok_or("limits")?,
+        listing: listing_of(alloc, events)?,
+        answer,
+    })
+}
+
+fn columns_of(line: &str) -> Option<(&str, &str, &str, &str)> {
+    let (digits, rest) = line.split_once('|')?;
+    let (limits, rest) = rest.split_once('|')?;
+    let (events, rest) = rest.split_once('|')?;
+    let (answer, _) = rest.split_once('|')?;
+    Some((digits.trim(), limits.trim(), events.trim(), answer.trim()))
+}
+
+fn limits_of(column: &str) -> Option<Limits> {
+    let (depth, bytes) = column.split_once(' ').unwrap_or(("256", "1048576"));
+    Limits::new(depth.parse().ok()?, bytes.parse().ok()?)
+}
+
+// The lines that a column has between semicolons.
+fn listing_of(alloc: Global, column: &str) -> Result<String, AllocError> {
+    let mut listing = String::new(alloc);
+    for line in column.split("; ") {
+        if !line.is_empty() {
+            listing.push_str(line)?;
+            listing.push_str("\n")?;
+        }
+    }
+    Ok(listing)
+}
+
+// What is answered, as the column has it: how many bytes were read, or why they are refused.
+pub(super) fn answer_text(
+    alloc: Global,
+    answer: Result<u64, Refusal>,
+) -> Result<String, AllocError> {
+    match answer {
+        Ok(count) => format!(in alloc; "{count}"),
+        Err(refusal) => format!(in alloc; "{refusal}, read {}", refusal.read),
+    }
 }

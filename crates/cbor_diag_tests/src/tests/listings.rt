@@ -1,9 +1,7 @@
 //! The listing against the tables, over readers and writers that give and take little at a time,
 //! or fail.
 
-ghost use Rattle.std.specs.Prelude.{◌<◌};
-
-use super::listing_tables::{items, refused};
+use super::listing_tables::{ITEMS, REFUSED, Row, answer_text, rows_of};
 use super::streams::{Sink, Source, Stop};
 use cbor_diag::{listing, listing_from};
 use cbor_head::{Limits, Reason, Refusal};
@@ -13,35 +11,6 @@ use std::test::Fail;
 
 fn limits<R: Abort>(rt: &R, depth: u16, bytes: u64) -> Limits {
     Limits::new(depth, bytes).expect(rt, "limits")
-}
-
-// The value of a hex digit.
-fn digit<R: Abort>(rt: &R, c: u8) -> u8
-    ensures { result < 16 }
-{
-    match c {
-        b'0'..=b'9' => c - b'0',
-        b'a'..=b'f' => c - b'a' + 10,
-        _ => panic!(rt; "no hex digit"),
-    }
-}
-
-// The bytes of hex digits.
-fn bytes_of<R: Abort>(rt: &R, alloc: Global, text: &str) -> Result<Vec<u8>, AllocError> {
-    let mut bytes = Vec::new(alloc);
-    let mut high = None;
-    for c in text.bytes() {
-        let low = digit(rt, c);
-        match high {
-            None => high = Some(low),
-            Some(sixteens) => {
-                bytes.push(sixteens << 4 | low)?;
-                high = None;
-            }
-        }
-    }
-    assert!(rt; high.is_none(), "an odd digit in {text}");
-    Ok(bytes)
 }
 
 // Whether this is answered, written and left of the input. What is read and written is borrowed, and
@@ -58,32 +27,31 @@ fn answers(
     given == wanted && sink.held.as_slice() == lines && source.rest.len() as u64 == left
 }
 
-// The same, with at most so many bytes a read, and so many a write.
-fn answers_in_parts(
-    alloc: Global,
-    limits: Limits,
-    bytes: &[u8],
+// Lists the bytes, with at most so many a read, and so many a write.
+fn answer_in_parts(
+    row: &Row,
+    source: &mut Source,
+    sink: &mut Sink,
     parts: (usize, usize),
-    wanted: Result<u64, Refusal>,
-    lines: &str,
-) -> bool {
-    let taken = match wanted {
+) -> Result<u64, Refusal> {
+    source.part = parts.0;
+    sink.part = parts.1;
+    listing(source, row.limits, sink)
+}
+
+// Whether the row's answer is given so, with its lines written, and the rest of the input left.
+fn answers_in_parts(alloc: Global, row: &Row, parts: (usize, usize)) -> Result<bool, AllocError> {
+    let mut source = Source::new(alloc, &row.bytes);
+    let mut sink = Sink::new(alloc);
+    let given = answer_in_parts(row, &mut source, &mut sink, parts);
+    let taken = match given {
         Ok(size) => size,
         Err(refusal) => refusal.read,
     };
-    let mut source = Source::new(alloc, bytes);
-    source.part = parts.0;
-    let mut sink = Sink::new(alloc);
-    sink.part = parts.1;
-    let left = (bytes.len() as u64).saturating_sub(taken);
-    answers(
-        &mut source,
-        limits,
-        &mut sink,
-        wanted,
-        lines.as_bytes(),
-        left,
-    )
+    let left = (row.bytes.len() as u64).saturating_sub(taken);
+    let is_right = sink.held.as_slice() == row.listing.as_bytes()
+        && source.rest.len() as u64 == left;
+    Ok(is_right && answer_text(alloc, given)?.as_str() == row.answer)
 }
 
 static PARTS: [(usize, usize); 4] = [
@@ -96,118 +64,106 @@ static PARTS: [(usize, usize); 4] = [
 // The bytes of an item, and a byte behind it.
 #[test]
 fn lists_items(rt: HostRuntime) -> Result<(), Fail> {
-    let limits = limits(&rt, 256, 1 << 20);
-    for &(hex, lines) in items() {
-        let mut bytes = bytes_of(&rt, rt.alloc(), hex)?;
-        let size = bytes.len() as u64;
-        bytes.push(0)?;
-        for &parts in &PARTS {
-            let is_right = answers_in_parts(rt.alloc(), limits, &bytes, parts, Ok(size), lines);
-            assert!(rt; is_right, "{hex}");
+    for row in &mut rows_of(rt.alloc(), ITEMS)? {
+        row.bytes.push(0)?;
+        for parts in PARTS {
+            assert!(rt; answers_in_parts(rt.alloc(), row, parts)?, "{}", row.line);
         }
     }
     Ok(())
 }
 
 // Whether the listing of the whole is this, with offsets from there on.
-fn lists_from(alloc: Global, start: u32, limits: Limits, bytes: &[u8], lines: &str) -> bool {
-    let mut source = bytes;
+fn lists_from(alloc: Global, start: u32, limits: Limits, row: &Row) -> bool {
+    let mut source = row.bytes.as_slice();
     let mut shown = Vec::new(alloc);
     let answer = listing_from(&mut source, u64::from(start), limits, &mut shown);
-    answer == Ok(bytes.len() as u64) && shown.as_slice() == lines.as_bytes()
+    answer == Ok(row.bytes.len() as u64) && shown.as_slice() == row.listing.as_bytes()
 }
 
-// [1, 100] behind five bytes, and 0 behind 2^32 - 1.
-static BEHIND: [(u32, u64, &str, &str); 2] = [
+// Behind five bytes, and behind 2^32 - 1.
+static BEHIND: [(u32, &str); 2] = [
     (
         5,
-        4,
-        "82011864",
-        "5 array 2 0\n6 unsigned 1 0\n7 unsigned 100 1\n",
+        "82011864 | 256 4 | 5 array 2 0; 6 unsigned 1 0; 7 unsigned 100 1 | 4 | [1, 100]",
     ),
-    (u32::MAX, 1, "00", "4294967295 unsigned 0 0\n"),
+    (u32::MAX, "00 | 256 1 | 4294967295 unsigned 0 0 | 1 | 0"),
 ];
 
 #[test]
 fn counts_offsets_from_the_start_of_the_input(rt: HostRuntime) -> Result<(), Fail> {
-    for &(start, most, hex, lines) in &BEHIND {
-        let bytes = bytes_of(&rt, rt.alloc(), hex)?;
-        let limits = limits(&rt, 256, most);
-        let is_right = lists_from(rt.alloc(), start, limits, &bytes, lines);
-        assert!(rt; is_right, "{hex}");
+    for (start, table) in BEHIND {
+        for row in &rows_of(rt.alloc(), table)? {
+            assert!(rt;
+                lists_from(rt.alloc(), start, row.limits, row),
+                "{}",
+                row.line
+            );
+        }
     }
     Ok(())
 }
 
 #[test]
 fn refuses_form_alone(rt: HostRuntime) -> Result<(), Fail> {
-    for &(hex, depth, most, reason, place, read, lines) in refused() {
-        let limits = limits(&rt, depth, most);
-        let bytes = bytes_of(&rt, rt.alloc(), hex)?;
-        let refusal = Err(Refusal::new(reason, place, read));
+    for row in &rows_of(rt.alloc(), REFUSED)? {
         for part in [1, usize::MAX] {
-            let parts = (part, usize::MAX);
-            let is_right = answers_in_parts(rt.alloc(), limits, &bytes, parts, refusal, lines);
-            assert!(rt; is_right, "{hex}");
+            let is_right = answers_in_parts(rt.alloc(), row, (part, usize::MAX))?;
+            assert!(rt; is_right, "{}", row.line);
         }
     }
     Ok(())
 }
 
 // Items, with each event's end and its line.
-static EVENTS: [(&str, &[(u64, &str)]); 3] = [
+static EVENTS: [(&str, &str); 3] = [
     // 1([1, simple(32)])
     (
         "c18201f820",
-        &[
-            (1, "0 tag 1 0\n"),
-            (2, "1 array 2 0\n"),
-            (3, "2 unsigned 1 0\n"),
-            (5, "3 simple 32 1\n"),
-        ],
+        "1 0 tag 1 0; 2 1 array 2 0; 3 2 unsigned 1 0; 5 3 simple 32 1",
     ),
     // (_ h'0102', h'030405')
     (
         "5f42010243030405ff",
-        &[
-            (1, "0 bytes - -\n"),
-            (2, "1 chunk 2 0\n"),
-            (5, "4 chunk 3 0\n"),
-            (9, "8 end - -\n"),
-        ],
+        "1 0 bytes - -; 2 1 chunk 2 0; 5 4 chunk 3 0; 9 8 end - -",
     ),
     // {256: "a"}
     (
         "a11901006161",
-        &[
-            (1, "0 map 1 0\n"),
-            (4, "1 unsigned 256 2\n"),
-            (5, "4 text 1 0\n"),
-        ],
+        "1 0 map 1 0; 4 1 unsigned 256 2; 5 4 text 1 0",
     ),
 ];
 
+fn end_and_line(event: &str) -> Option<(u64, &str)> {
+    let (end, line) = event.split_once(' ')?;
+    Some((end.parse().ok()?, line))
+}
+
 // The lines of the events that end within so many bytes.
-fn lines_within(alloc: Global, events: &[(u64, &str)], taken: u64) -> Result<Vec<u8>, AllocError> {
+fn lines_within(alloc: Global, events: &str, taken: u64) -> Result<Vec<u8>, Fail> {
     let mut lines = Vec::new(alloc);
-    for (end, line) in events {
-        if *end <= taken {
+    for event in events.split("; ") {
+        let (end, line) = end_and_line(event).ok_or("an end and a line")?;
+        if end <= taken {
             lines.extend_from_slice(line.as_bytes())?;
+            lines.push(b'\n')?;
         }
     }
     Ok(lines)
 }
 
 // The bytes taken when a line is written that goes on behind so many bytes of the listing.
-fn taken_at(events: &[(u64, &str)], place: usize) -> u64 {
+fn taken_at(events: &str, place: usize) -> Option<u64> {
     let mut left = place;
-    for (end, line) in events {
-        if left < line.len() {
-            return *end;
+    for event in events.split("; ") {
+        let (end, line) = end_and_line(event)?;
+        // the line's own end is one byte more
+        if left <= line.len() {
+            return Some(end);
         }
-        left -= line.len();
+        left -= line.len() + 1;
     }
-    0
+    None
 }
 
 // Whether the listing ends with what was read before the reader failed.
@@ -229,12 +185,12 @@ fn tells_a_failed_read(
 #[test]
 fn a_failed_read_ends_the_listing(rt: HostRuntime) -> Result<(), Fail> {
     let limits = limits(&rt, 256, 1 << 20);
-    for &(hex, events) in &EVENTS {
-        let bytes = bytes_of(&rt, rt.alloc(), hex)?;
+    for (digits, events) in EVENTS {
+        let bytes = hex::decode(rt.alloc(), digits)?;
         for place in 0..bytes.len() {
             let lines = lines_within(rt.alloc(), events, place as u64)?;
             let is_right = tells_a_failed_read(rt.alloc(), limits, &bytes, place, &lines);
-            assert!(rt; is_right, "{hex} at {place}");
+            assert!(rt; is_right, "{digits} at {place}");
         }
     }
     Ok(())
@@ -268,15 +224,15 @@ fn tells_a_failed_write(
 #[test]
 fn a_failed_write_ends_the_listing(rt: HostRuntime) -> Result<(), Fail> {
     let limits = limits(&rt, 256, 1 << 20);
-    for &(hex, events) in &EVENTS {
-        let bytes = bytes_of(&rt, rt.alloc(), hex)?;
+    for (digits, events) in EVENTS {
+        let bytes = hex::decode(rt.alloc(), digits)?;
         let lines = lines_within(rt.alloc(), events, u64::MAX)?;
         for place in 0..lines.len() {
-            let read = taken_at(events, place);
+            let read = taken_at(events, place).ok_or("no such line")?;
             let before = &lines[..place];
-            for &stop in &STOPS {
+            for stop in STOPS {
                 let is_right = tells_a_failed_write(rt.alloc(), limits, &bytes, before, read, stop);
-                assert!(rt; is_right, "{hex} at {place}");
+                assert!(rt; is_right, "{digits} at {place}");
             }
         }
     }

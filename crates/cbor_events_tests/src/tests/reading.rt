@@ -1,9 +1,9 @@
 //! The event reader against the tables, over readers that give few bytes at a time, or fail.
 
 use super::parts::Parts;
-use super::refused::refused_rows;
-use super::tables::{accepted_rows, fronts_rows, not_valid_rows};
-use super::{Told, bytes_of, event, events_of, join, limits};
+use super::rows::{Row, bytes_of, rows_of};
+use super::tables::{ACCEPTED, FRONTS, NOT_VALID, REFUSED};
+use super::{Told, event, join, limits, refusal};
 use cbor_events::{Event, EventKind, EventReader, ItemEvents, Out};
 use cbor_head::{Limits, Reason, Refusal, Width};
 use std::alloc::{AllocError, Global};
@@ -81,122 +81,59 @@ fn payloads_of(alloc: Global, bytes: &[u8], events: &[Event]) -> Result<Vec<u8>,
     Ok(payloads)
 }
 
-// What is to come of an item: these events and their payloads, this last answer, and so many bytes
-// taken.
-#[derive(Drop)]
-struct Wanted {
-    events: Vec<Event>,
-    payloads: Vec<u8>,
-    out: Out,
-    taken: u64,
-}
-
-// Reads the bytes, cut there, in such parts, and looks for what is wanted, and what the reader has
-// left.
+// Reads the bytes, cut there, in such parts, and looks for what the row tells, and what the reader
+// has left.
 fn look_once(
     rt: &impl Abort,
     alloc: Global,
-    limits: Limits,
-    bytes: &[u8],
+    row: &Row,
+    payloads: &[u8],
     cut: usize,
     part: usize,
-    wanted: &Wanted,
 ) -> Result<(), AllocError> {
-    let mut parts = Parts::new(bytes);
+    let mut parts = Parts::new(&row.bytes);
     parts.cut = cut;
     parts.part = part;
-    let heard = hear(alloc, limits, &mut parts)?;
+    let heard = hear(alloc, row.limits, &mut parts)?;
+    let left = (row.bytes.len() as u64).saturating_sub(row.told.taken);
+    assert!(rt; heard.told == row.told, "cut at {cut}: {}", row.line);
     assert!(rt;
-        heard.told.events == wanted.events,
-        "events of {bytes:?} cut at {cut}"
+        heard.payloads.as_slice() == payloads,
+        "payloads, cut at {cut}: {}",
+        row.line
     );
     assert!(rt;
-        heard.payloads == wanted.payloads,
-        "payloads of {bytes:?} cut at {cut}"
+        parts.rest.len() as u64 == left,
+        "left, cut at {cut}: {}",
+        row.line
     );
-    assert!(rt; heard.told.out == wanted.out, "{bytes:?} cut at {cut}");
-    assert!(rt; heard.told.taken == wanted.taken, "{bytes:?} cut at {cut}");
-    let left = (bytes.len() as u64).saturating_sub(wanted.taken);
-    assert!(rt; parts.rest.len() as u64 == left, "{bytes:?} cut at {cut}");
-    assert!(rt; parts.idle == 0, "{bytes:?} cut at {cut}");
+    assert!(rt; parts.idle == 0, "idle, cut at {cut}: {}", row.line);
     Ok(())
 }
 
-// The same whole, one by one, and with each cut.
-fn look_at_each_cut(
-    rt: &impl Abort,
-    alloc: Global,
-    limits: Limits,
-    bytes: &[u8],
-    wanted: &Wanted,
-) -> Result<(), AllocError> {
-    for cut in 0..=bytes.len() {
+// The same whole, one by one, and with each cut; and with a byte behind an item.
+fn look_at_each_cut(rt: &impl Abort, alloc: Global, row: &mut Row) -> Result<(), AllocError> {
+    let payloads = payloads_of(alloc, &row.bytes, &row.told.events)?;
+    match row.told.out {
+        Out::Done => row.bytes.push(0)?,
+        // the reader ends there
+        Out::More => row.told.out = refusal(Reason::Truncated, row.told.taken, row.told.taken),
+        _ => {}
+    }
+    for cut in 0..=row.bytes.len() {
         for part in [1, usize::MAX] {
-            look_once(rt, alloc, limits, bytes, cut, part, wanted)?;
+            look_once(rt, alloc, row, &payloads, cut, part)?;
         }
     }
     Ok(())
 }
 
-// The same of the bytes that hex digits stand for, and a byte behind an item. What is read borrows
-// them: an owner of all this would owe at each `?` that it may be let go there.
-fn look_every_way(
-    rt: &impl Abort,
-    alloc: Global,
-    limits: Limits,
-    hex: &str,
-    events: &str,
-    out: Out,
-    taken: u64,
-) -> Result<(), AllocError> {
-    let mut bytes = bytes_of(rt, alloc, hex)?;
-    let events = events_of(rt, alloc, events)?;
-    let payloads = payloads_of(alloc, &bytes, &events)?;
-    if out == Out::Done {
-        bytes.push(0)?;
-    }
-    let wanted = Wanted {
-        events,
-        payloads,
-        out,
-        taken,
-    };
-    look_at_each_cut(rt, alloc, limits, &bytes, &wanted)
-}
-
-fn refused(reason: Reason, place: u64, read: u64) -> Out {
-    Out::Refused(Refusal {
-        reason,
-        place,
-        read,
-    })
-}
-
 #[test]
-fn reads_items(rt: HostRuntime) -> Result<(), AllocError> {
-    let limits = limits(&rt, 256, 1 << 20);
-    for &(hex, events) in accepted_rows() {
-        let taken = hex.len() as u64 / 2;
-        look_every_way(&rt, rt.alloc(), limits, hex, events, Out::Done, taken)?;
-    }
-    for &(hex, taken, events) in not_valid_rows() {
-        look_every_way(&rt, rt.alloc(), limits, hex, events, Out::Done, taken)?;
-    }
-    Ok(())
-}
-
-#[test]
-fn refuses_as_the_tables_say(rt: HostRuntime) -> Result<(), AllocError> {
-    for &(hex, depth, bytes, reason, place, read, events) in refused_rows() {
-        let out = refused(reason, place, read);
-        let limits = limits(&rt, depth, bytes);
-        look_every_way(&rt, rt.alloc(), limits, hex, events, out, read)?;
-    }
-    for &(hex, events) in fronts_rows() {
-        let there = hex.len() as u64 / 2;
-        let out = refused(Reason::Truncated, there, there);
-        let limits = limits(&rt, 256, 1 << 20);
-        look_every_way(&rt, rt.alloc(), limits, hex, events, out, there)?;
+fn reads_as_the_tables_say(rt: HostRuntime) -> Result<(), AllocError> {
+    for table in [ACCEPTED, NOT_VALID, REFUSED, FRONTS] {
+        for row in &mut rows_of(&rt, rt.alloc(), table)? {
+            look_at_each_cut(&rt, rt.alloc(), row)?;
+        }
     }
     Ok(())
 }
@@ -205,46 +142,44 @@ fn refuses_as_the_tables_say(rt: HostRuntime) -> Result<(), AllocError> {
 fn look_where_it_stops(
     rt: &impl Abort,
     alloc: Global,
-    limits: Limits,
-    bytes: &[u8],
+    row: &Row,
     place: usize,
     reason: Reason,
 ) -> Result<(), AllocError> {
-    let mut parts = Parts::new(bytes);
+    let mut parts = Parts::new(&row.bytes);
     if reason == Reason::Read {
         parts.fails = place;
     } else {
         parts.ends = place;
     }
-    let heard = hear(alloc, limits, &mut parts)?;
+    let told = hear(alloc, row.limits, &mut parts)?.told;
     let taken = place as u64;
-    let left = bytes.len().saturating_sub(place);
+    let left = row.bytes.len().saturating_sub(place);
     assert!(rt;
-        heard.told.out == refused(reason, taken, taken),
-        "{bytes:?} at {place}"
+        told.out == refusal(reason, taken, taken),
+        "at {place}: {}",
+        row.line
     );
-    assert!(rt; heard.told.taken == taken, "{bytes:?} at {place}");
-    assert!(rt; parts.rest.len() == left, "{bytes:?} at {place}");
+    assert!(rt; told.taken == taken, "at {place}: {}", row.line);
+    assert!(rt; parts.rest.len() == left, "at {place}: {}", row.line);
     Ok(())
 }
 
 // A reader that fails, or ends, once at each place: it is told there, and nothing more is read.
 #[test]
 fn a_failure_and_an_end_are_told_at_once(rt: HostRuntime) -> Result<(), AllocError> {
-    let limits = limits(&rt, 256, 1 << 20);
-    for &(hex, _) in accepted_rows() {
-        let bytes = bytes_of(&rt, rt.alloc(), hex)?;
-        for place in 0..bytes.len() {
-            look_where_it_stops(&rt, rt.alloc(), limits, &bytes, place, Reason::Read)?;
-            look_where_it_stops(&rt, rt.alloc(), limits, &bytes, place, Reason::Truncated)?;
+    for row in &rows_of(&rt, rt.alloc(), ACCEPTED)? {
+        for place in 0..row.bytes.len() {
+            look_where_it_stops(&rt, rt.alloc(), row, place, Reason::Read)?;
+            look_where_it_stops(&rt, rt.alloc(), row, place, Reason::Truncated)?;
         }
     }
     Ok(())
 }
 
 // [256, "a string of 600 bytes"], and a byte behind
-fn long_string(rt: &impl Abort, alloc: Global) -> Result<Vec<u8>, AllocError> {
-    let mut bytes = bytes_of(rt, alloc, "82190100790258")?;
+fn long_string(alloc: Global) -> Result<Vec<u8>, AllocError> {
+    let mut bytes = bytes_of(alloc, "82190100790258")?;
     for _ in 0..601 {
         bytes.push(b'a')?;
     }
@@ -287,13 +222,13 @@ fn asks_for(
 #[test]
 fn asks_for_what_it_needs(rt: HostRuntime) -> Result<(), AllocError> {
     let alloc = rt.alloc();
-    let bytes = long_string(&rt, alloc)?;
+    let bytes = long_string(alloc)?;
     look_at_whole(&rt, alloc, &bytes)?;
     // the same, with a limit of 10 bytes
-    let out = refused(Reason::TooLong, 10, 10);
+    let out = refusal(Reason::TooLong, 10, 10);
     asks_for(&rt, alloc, &bytes, 10, out, &[1, 1, 2, 1, 2, 3])?;
     // 2^32, by a head of nine bytes
-    let bytes = bytes_of(&rt, alloc, "1b0000000100000000")?;
+    let bytes = bytes_of(alloc, "1b0000000100000000")?;
     asks_for(&rt, alloc, &bytes, 9, Out::Done, &[1, 8])
 }
 

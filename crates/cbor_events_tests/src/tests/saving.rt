@@ -55,49 +55,49 @@ fn numbers_of_a_machine(rt: HostRuntime) {
     assert!(rt; started == Machine::new(limits(&rt, 1, 4)).save());
 }
 
-// More open than the depth limit, more taken than the byte limit, limits out of range, an argument
-// of nine bytes, one that has no room for the bytes that are left, a head where there is no room
-// for its container, something open behind the item, bytes that no event stands for.
+// Numbers that no machine has.
+fn broken(mut saved: SavedMachine, way: u8) -> SavedMachine {
+    if way > 5 {
+        // within a head of nine bytes
+        saved.position = 1;
+        saved.width = 4;
+    }
+    match way {
+        // more open than the depth limit
+        0 => saved.open = 3,
+        // more taken than the byte limit
+        1 => {
+            saved.taken = 9;
+            saved.told = 9;
+        }
+        // limits out of range
+        2 => saved.depth = 1025,
+        3 => saved.bytes = (1 << 62) + 1,
+        // something open behind the item
+        4 => saved.position = 5,
+        // bytes that no event stands for
+        5 => saved.told = 0,
+        // an argument of nine bytes
+        6 => saved.left = 8,
+        // one that has no room for the bytes that are left
+        7 => {
+            saved.left = 7;
+            saved.number = 1;
+        }
+        // where there is no room for its container
+        _ => {
+            saved.open = 2;
+            saved.kind = 4;
+        }
+    }
+    saved
+}
+
 #[test]
 fn numbers_of_no_machine(rt: HostRuntime) {
     let saved = within_an_array(&rt);
-    let head = SavedMachine {
-        position: 1,
-        width: 4,
-        ..saved
-    };
-    for broken in [
-        SavedMachine { open: 3, ..saved },
-        SavedMachine {
-            taken: 9,
-            told: 9,
-            ..saved
-        },
-        SavedMachine {
-            depth: 1025,
-            ..saved
-        },
-        SavedMachine {
-            bytes: (1 << 62) + 1,
-            ..saved
-        },
-        SavedMachine { left: 8, ..head },
-        SavedMachine {
-            left: 7,
-            number: 1,
-            ..head
-        },
-        SavedMachine {
-            open: 2,
-            kind: 4,
-            ..head
-        },
-        SavedMachine {
-            position: 5,
-            ..saved
-        },
-        SavedMachine { told: 0, ..saved },
-    ] {
+    for way in 0..9 {
+        let broken = broken(saved, way);
         assert!(rt; Machine::restore(&broken).is_none(), "{broken:?}");
     }
 }

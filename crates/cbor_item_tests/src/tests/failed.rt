@@ -1,8 +1,9 @@
 //! Writers that stop.
 
-use super::{eight_keys, simple};
+use super::EIGHT_KEYS;
+use super::words::tree_of;
 use cbor_head::{Reason, Refusal};
-use cbor_item::{Item, KeyOrder, Tree, encode_to, write_whole};
+use cbor_item::{KeyOrder, encode_to, write_whole};
 use std::io;
 use std::io::{Error, ErrorKind, Write};
 use std::test::Fail;
@@ -43,9 +44,7 @@ impl Write for Cup {
 #[test]
 fn writers_stop_at_each_place(rt: HostRuntime) -> Result<(), Fail> {
     let alloc = rt.alloc();
-    let Ok(tree) = Tree::of(alloc, eight_keys(alloc, simple(20)?)?) else {
-        panic!(rt; "no tree")
-    };
+    let tree = tree_of(alloc, EIGHT_KEYS)?;
     // {10: 2, 100: 3, -1: 4, "z": 5, "aa": 1, [100]: 6, [-1]: 7, false: 8}
     let bytes =
         b"\xa8\x0a\x02\x18\x64\x03\x20\x04\x61\x7a\x05\x62\x61\x61\x01\x81\x18\x64\x06\x81\x20\x07\xf4\x08";
@@ -92,10 +91,7 @@ fn a_writer_that_takes_all(rt: HostRuntime) -> Result<(), Fail> {
 #[test]
 fn writes_what_came_before_the_failure(rt: HostRuntime) -> Result<(), Fail> {
     let alloc = rt.alloc();
-    let members = vec![in alloc; Item::Unsigned(1), Item::Unsigned(2), Item::Unsigned(3)]?;
-    let Ok(tree) = Tree::of(alloc, Item::Array(members)) else {
-        panic!(rt; "no tree")
-    };
+    let tree = tree_of(alloc, "1 2 3 a:3")?;
     for step in [1, 100] {
         let mut cup = Cup {
             held: Vec::new(alloc),

@@ -3,28 +3,29 @@
 ghost use Rattle.std.specs.Prelude.{◌≡◌, ◌∷◌, [], OnOk};
 ghost use Rattle.cbor_item.specs.OpenValues.{the_whole, standing, IsWhole};
 
-use super::{nested, text};
+use super::words::item_of;
 use cbor_head::Major;
 use cbor_item::{Item, KeyOrder, Tree, TreeBuilder, encode};
-use std::alloc::{AllocError, Global};
+use std::alloc::Global;
 use std::test::Fail;
 
 // {"a": 1, "b": [2, 3]} of RFC 8949, appendix A, within a tag.
-fn give_parts(alloc: Global, builder: &mut TreeBuilder) -> Result<(), AllocError>
+fn give_parts(alloc: Global, builder: &mut TreeBuilder) -> Result<(), Fail>
     requires empty { standing builder.old ≡ the_whole [] ∷ [] }
     ensures whole { OnOk result (IsWhole (standing builder.new)) }
 {
     builder.begin(Major::Tag, 55799)?;
     builder.begin(Major::Map, 0)?;
-    builder.leaf(text(alloc, "a")?)?;
+    builder.leaf(item_of(alloc, "t:a").ok_or("no item")?)?;
     builder.leaf(Item::Unsigned(1))?;
-    builder.leaf(text(alloc, "b")?)?;
+    builder.leaf(item_of(alloc, "t:b").ok_or("no item")?)?;
     builder.begin(Major::Array, u64::MAX)?;
     builder.leaf(Item::Unsigned(2))?;
     builder.leaf(Item::Unsigned(3))?;
     builder.end()?;
     builder.end()?;
-    builder.end()
+    builder.end()?;
+    Ok(())
 }
 
 #[test]
@@ -45,12 +46,15 @@ fn parts_make_an_item(rt: HostRuntime) -> Result<(), Fail> {
 #[test]
 fn lets_go_of_deep_items(rt: HostRuntime) -> Result<(), Fail> {
     let alloc = rt.alloc();
-    for as_key in [false, true] {
+    for (near, deep, other) in [
+        ("0 2*v", "0 200000*v", "0 2*k"),
+        ("0 2*k", "0 200000*k", "0 2*v"),
+    ] {
         let mut builder = TreeBuilder::new(alloc);
         builder.begin(Major::Array, 0)?;
-        builder.leaf(nested(alloc, Item::Unsigned(0), 2, as_key)?)?;
-        builder.leaf(nested(alloc, Item::Unsigned(0), 200_000, as_key)?)?;
-        builder.leaf(nested(alloc, Item::Unsigned(0), 2, !as_key)?)?;
+        builder.leaf(item_of(alloc, near).ok_or("no item")?)?;
+        builder.leaf(item_of(alloc, deep).ok_or("no item")?)?;
+        builder.leaf(item_of(alloc, other).ok_or("no item")?)?;
     }
     Ok(())
 }
