@@ -1,6 +1,6 @@
 -- Sameness of maps by their pairs; sameness is an equivalence.
-use Rattle.std.proofs.Common.{inl, inr, refl, sym, ◌∙◌, subst}
-use Rattle.cbor_head.specs.Prelude.{Value, Values, Entries, map, no_values, a_value, HasEntry, AnyEntry, Same, SameValues, Covered, Covers}
+use Rattle.std.proofs.Common.{◌≡◌, suc, inl, inr, refl, sym, ap, ◌∙◌, subst}
+use Rattle.cbor_head.specs.Prelude.{Value, Values, Entries, map, no_values, a_value, values_count, HasEntry, AnyEntry, Same, SameValues, Covered, Covers}
 use Rattle.cbor_head.specs.Value.{unsigned, negative, bytes, text, array, tag, simple, no_entries, entry}
 use Rattle.cbor_canonical.proofs.Induction.{AllOf, AllIn, AllIn-at, by_cases}
 
@@ -148,3 +148,8 @@ Same-trans = by_cases {P = Trans} (record {
   at_tag = λ n v p. elim [ tag m w ↦ elim [ tag l u ↦ λ s t. (s.0 ∙ t.0, p w u s.1 t.1) | _ ↦ λ s t. absurd t ] | _ ↦ λ u s t. absurd s ];
   at_simple = λ n. elim [ simple m ↦ elim [ simple l ↦ λ s t. s ∙ t | _ ↦ λ s t. absurd t ] | _ ↦ λ u s t. absurd s ];
 })
+
+pub SameValues-count : (vs ws : Values) → SameValues vs ws → values_count vs ≡ values_count ws
+SameValues-count no_values no_values h = refl
+SameValues-count (a_value v vs) (a_value w ws) h = ap suc (SameValues-count vs ws h.1)
+SameValues-count _ _ h = absurd h

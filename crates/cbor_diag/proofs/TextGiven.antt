@@ -7,10 +7,10 @@ use Rattle.cbor_head.specs.Prelude.{Spelling, Spellings, SpelledEntries, array, 
 use Rattle.cbor_head.specs.declared.major.Major.{Major}
 use Rattle.cbor_head.specs.declared.major.Major.TheVariants as majors
 use Rattle.cbor_judging.specs.Frame.{with_all, with_entries}
-use Rattle.cbor_judging.specs.Levels.{Level, a_member, a_value, some_member, some_key, some_value, tagged, item_due, item_full, settle}
+use Rattle.cbor_judging.specs.Levels.{Level, IsOpened, a_member, a_value, some_member, some_key, some_value, tagged, item_due, item_full, settle}
 use Rattle.cbor_judging.specs.Reading.{string_value}
-use Rattle.cbor_walk.proofs.GivenItems.{of-opened}
-use Rattle.cbor_walk.specs.Sink.{Told, IsOpened, IsEndedAs, StandsFull, IsContainerFull, Gives, Opens, Ends, BeginsString, GrowsString, EndsString}
+use Rattle.cbor_judging.proofs.Levels.{of-opened}
+use Rattle.cbor_walk.specs.Sink.{Told, IsEndedAs, StandsFull, IsContainerFull, Gives, Opens, Ends, BeginsString, GrowsString, EndsString}
 use Rattle.cbor_diag.specs.Text.{text, texts, pair_texts, joined, escaped}
 use Rattle.cbor_diag.specs.declared.text_sink.Kind.{Kind}
 use Rattle.cbor_diag.specs.declared.text_sink.Kind.TheVariants as kinds

@@ -1,7 +1,7 @@
 -- An item's value, a level at a time.
 use Rattle.std.proofs.Common.{◌≡◌, ℕ, suc, List, [], ◌∷◌, length, Vec, Global, String, Box, string_bytes, refl, ap, rules}
 use Rattle.cbor_head.specs.Value as value
-use Rattle.cbor_head.specs.Prelude.{Values, values_count, SameValues}
+use Rattle.cbor_head.specs.Prelude.{values_count}
 use Rattle.cbor_head.specs.Value.{entries_count}
 use Rattle.cbor_item.specs.View.{view}
 use Rattle.cbor_item.specs.inner.Members.{entries_view, values_view}
@@ -39,8 +39,3 @@ values_count-view (i ∷ is) = ap suc (values_count-view is)
 pub entries_count-view : (ps : List (Item × Item)) → entries_count (entries_view ps) ≡ length ps
 entries_count-view [] = refl
 entries_count-view (p ∷ ps) = ap suc (entries_count-view ps)
-
-pub SameValues-count : (vs ws : Values) → SameValues vs ws → values_count vs ≡ values_count ws
-SameValues-count value.no_values value.no_values h = refl
-SameValues-count (value.a_value v vs) (value.a_value w ws) h = ap suc (SameValues-count vs ws h.1)
-SameValues-count _ _ h = absurd h

@@ -5,7 +5,7 @@ use Rattle.cbor_head.specs.declared.major.Major.{Major}
 use Rattle.cbor_head.specs.declared.major.Major.TheVariants as majors
 use Rattle.cbor_head.specs.declared.width.Width.{Width}
 use Rattle.cbor_judging.specs.Frame.{with_all, with_entries}
-use Rattle.cbor_judging.specs.Levels.{IsClean, IsTaken, AreTaken, ArePairsTaken}
+use Rattle.cbor_judging.specs.Levels.{IsClean, IsTaken, AreTaken, ArePairsTaken, IsOpened, Level, a_member, a_key, some_member, some_key, tagged}
 use Rattle.cbor_judging.proofs.Members.{closes}
 use Rattle.cbor_judging.proofs.Frames.{count_with, entries_with}
 use Rattle.cbor_judging.proofs.Items.{is-definite}
@@ -136,3 +136,15 @@ map-spelled w n done k s holds count =
 pub pairs-shorter : (w : Width) (es : SpelledEntries) → length (spell_entries es) ≤ length (spell (a_map w es))
 pairs-shorter w es =
     omega (arith, length-append (head majors.Map w (entries_count es) ++ spell_entries es) (break_of w), length-append (head majors.Map w (entries_count es)) (spell_entries es))
+
+-- ---- containers before their first item
+
+-- what holds of each container before its first item
+pub of-opened : (P : Major → ℕ → Level → Type 0) → ((w : Width) (left n : ℕ) → P majors.Array n (a_member w left no_spellings)) → ((n : ℕ) → P majors.Array n (some_member no_spellings)) → ((w : Width) (left n : ℕ) → P majors.Map n (a_key w left no_entries)) → ((n : ℕ) → P majors.Map n (some_key no_entries))
+    → ((w : Width) (n : ℕ) → P majors.Tag n (tagged w n)) → (m : Major) (n : ℕ) (l : Level) → IsOpened m n l → P m n l
+of-opened P members endless_members pairs endless_pairs content majors.Array n l (inl (w, left, e)) = subst (P majors.Array n) (sym e) (members w left n)
+of-opened P members endless_members pairs endless_pairs content majors.Array n l (inr e) = subst (P majors.Array n) (sym e) (endless_members n)
+of-opened P members endless_members pairs endless_pairs content majors.Map n l (inl (w, left, e)) = subst (P majors.Map n) (sym e) (pairs w left n)
+of-opened P members endless_members pairs endless_pairs content majors.Map n l (inr e) = subst (P majors.Map n) (sym e) (endless_pairs n)
+of-opened P members endless_members pairs endless_pairs content majors.Tag n l (w, e) = subst (P majors.Tag n) (sym e) (content w n)
+of-opened P members endless_members pairs endless_pairs content _ n l o = absurd o

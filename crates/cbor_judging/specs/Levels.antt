@@ -1,7 +1,8 @@
 -- Where an item stands, as it is read: the open containers with what is complete in them, and what an item's end makes of them.
 -- Nothing that is complete has a complaint by the plain rules.
-use Rattle.std.specs.Prelude.{ℕ, zero, suc, ◌<◌, ◌≤◌, ◌+◌, ◌-◌, ◌++◌, true, false, List, [], ◌∷◌, length}
+use Rattle.std.specs.Prelude.{ℕ, zero, suc, ◌≡◌, ◌<◌, ◌≤◌, ◌+◌, ◌-◌, ◌⊎◌, ◌++◌, true, false, List, [], ◌∷◌, length}
 use Rattle.cbor_head.specs.Prelude.{plain, Complaint, Complains, Holds, head, Spelling, Spellings, SpelledEntries, array, a_map, tag, no_spellings, a_spelling, no_entries, entry, spell, spell_all, spell_entries, spellings_count, entries_count, IsSpelled, depth}
+use Rattle.cbor_head.specs.declared.major.Major.{Major}
 use Rattle.cbor_head.specs.declared.major.Major.TheVariants.{Array, Map, Tag}
 use Rattle.cbor_head.specs.declared.width.Width.{Width}
 use Rattle.cbor_head.specs.declared.width.Width.TheVariants.{Indefinite}
@@ -40,6 +41,13 @@ pub data Level : Type 0 where
   some_key : SpelledEntries → Level
   some_value : SpelledEntries → Spelling → Level
   tagged : Width → ℕ → Level
+
+-- a container of this type, of a tag with this number, before its first item
+abbrev pub IsOpened : Major → ℕ → Level → Type 0
+IsOpened Array n l = ((w : Width) × (left : ℕ) × (l ≡ a_member w left no_spellings)) ⊎ (l ≡ some_member no_spellings)
+IsOpened Map n l = ((w : Width) × (left : ℕ) × (l ≡ a_key w left no_entries)) ⊎ (l ≡ some_key no_entries)
+IsOpened Tag n l = (w : Width) × (l ≡ tagged w n)
+IsOpened _ n l = ⊥
 
 -- the container, as events count what is due in it
 abbrev pub frame : Level → Container

@@ -32,7 +32,7 @@ pub fn check_valid(alloc: Global, bytes: &[u8], limits: Limits) -> Result<u64, R
 }
 
 // The same of an item that is not canonical. It is apart, so that no room is made for the keys of one
-// that is.
+// that is. The answer is taken apart and made again, so that it stays in registers.
 #[inline(never)]
 fn valid_size(alloc: Global, bytes: &[u8], limits: Limits) -> Result<u64, Refusal>
     ensures accepted { IfOk result (λ count. IsRead limits plain bytes.now count) }

@@ -12,16 +12,15 @@ use Rattle.cbor_canonical.specs.Parts.{IsInContainer}
 use Rattle.cbor_canonical.specs.Parts as parts
 use Rattle.cbor_grammar.proofs.Counts.{holds_fits}
 use Rattle.cbor_judging.proofs.Given.{full-array, full-map, settled}
-use Rattle.cbor_judging.proofs.Levels.{pairs-shorter}
+use Rattle.cbor_judging.proofs.Levels.{of-opened, pairs-shorter}
 use Rattle.cbor_judging.proofs.Valid.{count_bounded}
 use Rattle.cbor_judging.specs.Given.{level_open, opens, StandsAt}
-use Rattle.cbor_judging.specs.Levels.{AreTaken, ArePairsTaken, Level, a_member, some_member, some_key, AreLevels, bytes_before, Standing, item_due, item_full, settle}
+use Rattle.cbor_judging.specs.Levels.{AreTaken, ArePairsTaken, Level, IsOpened, a_member, some_member, some_key, AreLevels, bytes_before, Standing, item_due, item_full, settle}
 use Rattle.cbor_judging.specs.Place.{Place}
 use Rattle.cbor_judging.specs.Reading.{string_major, string_value}
 use Rattle.cbor_sinks.specs.CanonSink.{canon_stands, sink_stands, sink_holds}
 use Rattle.cbor_sinks.specs.declared.canonical_sink.CanonicalSink.{CanonicalSink}
-use Rattle.cbor_walk.proofs.GivenItems.{of-opened}
-use Rattle.cbor_walk.specs.Sink.{FindsNoRepeat, leaf_value, Told, IsOpened, Completes, Fills, IsEndedAs, StandsFull, IsItemDue, Gives, Opens, IsContainerFull, Ends, IsChunkDue, EndsString}
+use Rattle.cbor_walk.specs.Sink.{FindsNoRepeat, leaf_value, Told, Completes, Fills, IsEndedAs, StandsFull, IsItemDue, Gives, Opens, IsContainerFull, Ends, IsChunkDue, EndsString}
 
 -- ---- the bytes of values
 

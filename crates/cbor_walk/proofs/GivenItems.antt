@@ -11,11 +11,12 @@ use Rattle.cbor_grammar.proofs.ByteLists.{bytes_front}
 use Rattle.cbor_judging.proofs.Heads.{open_or}
 use Rattle.cbor_judging.proofs.KindBytes.{head_is_one, string_is_one}
 use Rattle.cbor_judging.specs.Kinds.{IsOfOneHead}
-use Rattle.cbor_judging.specs.Levels.{IsTaken, Level, a_member, a_key, some_member, some_key, tagged, level_bytes}
+use Rattle.cbor_judging.specs.Levels.{IsTaken, IsOpened, Level, a_member, a_key, some_member, some_key, tagged, level_bytes}
+use Rattle.cbor_judging.proofs.Levels.{of-opened}
 use Rattle.cbor_judging.specs.Reading.{string_major, string_value}
 use Rattle.cbor_steps.specs.Whole.{IsArgument}
 use Rattle.cbor_judging.proofs.Arguments.{low_bits, spells}
-use Rattle.cbor_walk.specs.Sink.{leaf_value, IsOpened}
+use Rattle.cbor_walk.specs.Sink.{leaf_value}
 use Rattle.cbor_walk.specs.inner.Open.{counted, endless, opener}
 use Rattle.cbor_walk.specs.inner.Parts.{IsHead, IsOpener, IsPayload, Counts}
 use Rattle.cbor_front.specs.declared.level.Due.{Due}
@@ -137,16 +138,6 @@ array-opens behind = record { level = some_member no_spellings; fresh = λ d. tt
 
 pub map-opens : (behind : List ℕ) → IsOpener majors.Map 0 (endless Key (length behind)) (0xbf ∷ behind) behind
 map-opens behind = record { level = some_key no_entries; fresh = λ d. tt; cell = refl; opened = inr refl; some = omega arith; is = refl }
-
--- what holds of each container before its first item
-pub of-opened : (P : Major → ℕ → Level → Type 0) → ((w : Width) (left n : ℕ) → P majors.Array n (a_member w left no_spellings)) → ((n : ℕ) → P majors.Array n (some_member no_spellings)) → ((w : Width) (left n : ℕ) → P majors.Map n (a_key w left no_entries)) → ((n : ℕ) → P majors.Map n (some_key no_entries))
-    → ((w : Width) (n : ℕ) → P majors.Tag n (tagged w n)) → (m : Major) (n : ℕ) (l : Level) → IsOpened m n l → P m n l
-of-opened P array endless_array map endless_map tag majors.Array n l (inl (w, left, e)) = subst (P majors.Array n) (sym e) (array w left n)
-of-opened P array endless_array map endless_map tag majors.Array n l (inr e) = subst (P majors.Array n) (sym e) (endless_array n)
-of-opened P array endless_array map endless_map tag majors.Map n l (inl (w, left, e)) = subst (P majors.Map n) (sym e) (map w left n)
-of-opened P array endless_array map endless_map tag majors.Map n l (inr e) = subst (P majors.Map n) (sym e) (endless_map n)
-of-opened P array endless_array map endless_map tag majors.Tag n l (w, e) = subst (P majors.Tag n) (sym e) (tag w n)
-of-opened P array endless_array map endless_map tag _ n l o = absurd o
 
 -- nothing else is there yet
 pub opener-whole : (m : Major) (n : ℕ) (l : Level) → IsOpened m n l → level_bytes l ≡ opener l

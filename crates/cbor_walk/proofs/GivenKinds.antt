@@ -17,7 +17,7 @@ use Rattle.cbor_judging.proofs.Heads.{open_or, takes}
 use Rattle.cbor_judging.proofs.KindBytes.{Begins, head_is_one, keeps_due}
 use Rattle.cbor_judging.proofs.LevelFrames.{around_levels}
 use Rattle.cbor_judging.proofs.KindFrames.{keeps_closed, keeps_start}
-use Rattle.cbor_judging.proofs.Levels.{spelled-all, within-all, pairs-spelled, pairs-within}
+use Rattle.cbor_judging.proofs.Levels.{of-opened, spelled-all, within-all, pairs-spelled, pairs-within}
 use Rattle.cbor_judging.specs.PathKinds.{asks, IsFitFront}
 use Rattle.cbor_judging.proofs.PathKinds.{no_break, head_begun}
 use Rattle.cbor_front.specs.Stack.{around, standing}
@@ -32,7 +32,7 @@ use Rattle.cbor_walk.specs.inner.Parts.{Counts, IsHead, IsOpener, IsItem, HasBeg
 use Rattle.cbor_walk.specs.declared.open.Open.{Open}
 use Rattle.cbor_walk.specs.declared.part.Part.{Part}
 use Rattle.cbor_walk.specs.declared.part.Part.TheVariants as part
-use Rattle.cbor_walk.proofs.GivenItems.{IsScalar, of-opened}
+use Rattle.cbor_walk.proofs.GivenItems.{IsScalar}
 use Rattle.cbor_walk.proofs.GivenParts.{height-is, cell-is}
 
 -- ---- what begins so

@@ -1,15 +1,14 @@
 -- What a sink was given of a valid item, as a walk comes to its parts.
 use Rattle.std.specs.Prelude.{ℕ, ◌≡◌, ◌<◌, ◌≤◌, ◌-◌, ◌^◌, ◌⊎◌, ◌++◌, Bool, true, false, List, [], ◌∷◌, length}
-use Rattle.cbor_head.specs.Prelude.{plain, Bounds, Spelling, SpelledEntries, array, a_map, no_spellings, no_entries, spell, value_of, IsSpelled, depth, Value}
+use Rattle.cbor_head.specs.Prelude.{plain, Bounds, Spelling, SpelledEntries, array, a_map, spell, value_of, IsSpelled, depth, Value}
 use Rattle.cbor_head.specs.Value as value
 use Rattle.cbor_head.specs.declared.major.Major.{Major}
-use Rattle.cbor_head.specs.declared.major.Major.TheVariants.{Array, Map, Tag, Negative, Simple}
-use Rattle.cbor_head.specs.declared.width.Width.{Width}
+use Rattle.cbor_head.specs.declared.major.Major.TheVariants.{Negative, Simple}
 use Rattle.cbor_builder.specs.Built.{AreOpenKeysDifferent, IsRepeatTold}
 use Rattle.cbor_builder.specs.declared.repeat.Repeat.{Repeat}
 use Rattle.cbor_head.specs.declared.order.KeyOrder.{KeyOrder}
 use Rattle.cbor_judging.specs.Given.{opens, full_open}
-use Rattle.cbor_judging.specs.Levels.{IsClean, IsTaken, Level, a_member, a_key, some_member, some_key, tagged, AreLevels, bytes_before, Standing, item_due, item_full, item_whole, settle}
+use Rattle.cbor_judging.specs.Levels.{IsClean, IsTaken, IsOpened, Level, a_key, some_member, some_key, AreLevels, bytes_before, Standing, item_due, item_full, item_whole, settle}
 use Rattle.cbor_judging.specs.Reading.{string_value}
 use Rattle.cbor_judging.specs.Readers.{IsRead}
 
@@ -20,13 +19,6 @@ abbrev pub leaf_value : Major → ℕ → Value
 leaf_value Negative n = value.negative n
 leaf_value Simple n = value.simple n
 leaf_value _ n = value.unsigned n
-
--- a container of this type, of a tag with this number, before its first item
-abbrev pub IsOpened : Major → ℕ → Level → Type 0
-IsOpened Array n l = ((w : Width) × (left : ℕ) × (l ≡ a_member w left no_spellings)) ⊎ (l ≡ some_member no_spellings)
-IsOpened Map n l = ((w : Width) × (left : ℕ) × (l ≡ a_key w left no_entries)) ⊎ (l ≡ some_key no_entries)
-IsOpened Tag n l = (w : Width) × (l ≡ tagged w n)
-IsOpened m n l = ⊥
 
 -- ---- where a key is due
 

@@ -6,7 +6,7 @@ use Rattle.cbor_head.specs.declared.major.Major.TheVariants.{Array, Map, Simple}
 use Rattle.cbor_head.specs.declared.width.Width.{Width}
 use Rattle.cbor_head.specs.declared.width.Width.TheVariants.{Indefinite}
 use Rattle.cbor_judging.specs.Kinds.{IsOfOneHead}
-use Rattle.cbor_judging.specs.Levels.{Level, IsLevel, level_bytes}
+use Rattle.cbor_judging.specs.Levels.{Level, IsLevel, IsOpened, level_bytes}
 use Rattle.cbor_judging.specs.Reading.{string_major}
 use Rattle.cbor_front.specs.declared.level.Due.{Due}
 use Rattle.cbor_front.specs.declared.level.Due.TheVariants.{Item, Key, Value}
@@ -15,7 +15,6 @@ use Rattle.cbor_walk.specs.declared.part.Part.{Part}
 use Rattle.cbor_walk.specs.declared.part.Left.{Left}
 use Rattle.cbor_walk.specs.declared.part.Left.TheVariants as left
 use Rattle.cbor_walk.specs.declared.part.Part.TheVariants as part
-use Rattle.cbor_walk.specs.Sink.{IsOpened}
 use Rattle.cbor_walk.specs.inner.Open.{cell_of}
 
 -- it is an item, or nothing can be taken

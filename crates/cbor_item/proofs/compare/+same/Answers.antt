@@ -11,7 +11,8 @@ use Rattle.cbor_item.proofs.ByIndex.{valid_read}
 use Rattle.cbor_item.proofs.Counting.{same_by_count}
 use Rattle.cbor_canonical.proofs.Decided.{was_true, was_false, fails, unequal}
 use Rattle.cbor_item.proofs.Steps.{Pair, IsMet, covered_on, covered_fail, met_on, met_here, met_nowhere, met_behind, met_before}
-use Rattle.cbor_item.proofs.Views.{view-Map, values_count-view, entries_count-view, SameValues-count}
+use Rattle.cbor_canonical.proofs.Sameness.{SameValues-count}
+use Rattle.cbor_item.proofs.Views.{view-Map, values_count-view, entries_count-view}
 use Rattle.cbor_item.proofs.compare.+same.Goals as goal
 use Rattle.cbor_item.proofs.compare.+same.Goals.{find_between-else-is_same-via-then-is_same+else-is_same-2, find_between-else-is_same-via-else-is_same}
 

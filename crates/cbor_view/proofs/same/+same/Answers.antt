@@ -7,7 +7,7 @@ use Rattle.cbor_view.specs.Seen.{seen_all}
 use Rattle.cbor_view.specs.inner.Pairs.{IsSamePair, IsMet, entries}
 use Rattle.cbor_view.specs.declared.view.View.TheVariants.{Unsigned}
 use Rattle.cbor_view.specs.declared.view.View.{the_lemmas}
-use Rattle.cbor_item.proofs.Views.{SameValues-count}
+use Rattle.cbor_canonical.proofs.Sameness.{SameValues-count}
 use Rattle.cbor_view.proofs.Pairs.{values_counted, valid_pair, covered_on, met_on, met_at, counts_differ, pair_misses, all_met, values_decide, keys_differ}
 use Rattle.cbor_view.proofs.same.+same.Goals as goal
 use Rattle.cbor_view.proofs.same.+same.Goals.{are_same_maps-else-not-is_pair-via-then-not-is_pair+else-not-is_among, are_same_maps-else-not-is_pair-via-else-not-is_pair}
