@@ -67,7 +67,7 @@ def lines_of(paths):
     found = []
     for path in paths:
         with open(path, encoding="utf-8") as file:
-            found += [a or b for a, b in re.findall(r'(?m)^    (?:r#"(.*)"#|"(.*)"),$', file.read())]
+            found += [line for line in file.read().splitlines() if "|" in line and not line.startswith("//")]
     return found
 
 

@@ -105,5 +105,5 @@ def rows():
     lines = []
     for path in sorted(glob.glob(TABLES)):
         with open(path, encoding="utf-8") as file:
-            lines += [a or b for a, b in re.findall(r'(?m)^    (?:r#"(.*)"#|"(.*)"),$', file.read())]
+            lines += [line for line in file.read().splitlines() if not line.startswith("//")]
     return [row_of(line) for line in lines if line.count("|") >= 4]

@@ -25,16 +25,8 @@ fn tables() -> String {
 // The lines of the tables with so many columns.
 fn lines(columns: usize) -> Vec<Vec<String>> {
     let text = tables();
-    let inner = |line: &str| {
-        let line = line.strip_prefix("    ")?.strip_suffix(',')?;
-        let raw = line
-            .strip_prefix("r#\"")
-            .and_then(|it| it.strip_suffix("\"#"));
-        raw.or_else(|| line.strip_prefix('"')?.strip_suffix('"'))
-            .map(str::to_owned)
-    };
-    let lines = text.lines().filter_map(inner);
-    let split = |line: String| {
+    let lines = text.lines().filter(|line| !line.starts_with("//"));
+    let split = |line: &str| {
         let parts: Vec<String> = line
             .splitn(5, '|')
             .map(|part| part.trim().to_owned())

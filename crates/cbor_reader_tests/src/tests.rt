@@ -7,6 +7,7 @@ mod conformance_strict;
 mod conformance_table;
 mod cut_short;
 mod failing;
+mod heads;
 mod keys;
 mod keys_table;
 mod promises;

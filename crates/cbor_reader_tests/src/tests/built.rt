@@ -2,7 +2,10 @@
 //! builder change, and in towers of each container. The wanted bytes are put together here, from
 //! heads, and not by an encoder.
 
-use super::limits;
+use super::conformance_rows::{ORDERS, rows_of};
+use super::heads::{Case, push_head, push_times, push_wide_head, wide};
+use super::towers::kinds;
+use super::{bytes_of, limits};
 use cbor_head::{Reason, Refusal};
 use cbor_reader::{
     ItemCanonicaliser, KeyOrder, canonical_bytes, canonicalise, check_valid, read_canonical,
@@ -11,15 +14,6 @@ use std::alloc::{AllocError, Global};
 use std::borrow::CowSlice;
 use std::process::Abort;
 use std::test::Fail;
-
-// An input, and its canonical bytes in either order.
-#[derive(Drop)]
-struct Case {
-    input: Vec<u8>,
-    canonical: Vec<u8>,
-}
-
-static ORDERS: [KeyOrder; 2] = [KeyOrder::Bytewise, KeyOrder::LengthFirst];
 
 // Counts on each side of where a head grows.
 static COUNTS: [u32; 6] = [0, 1, 23, 24, 255, 256];
@@ -35,42 +29,8 @@ const ARRAY: u8 = 0x80;
 
 const MAP: u8 = 0xa0;
 
-// The shortest head.
-fn push_head(bytes: &mut Vec<u8>, major: u8, number: u32) -> Result<(), AllocError> {
-    let [a, b, c, d] = number.to_be_bytes();
-    match number {
-        0..=23 => bytes.extend_from_slice(&[major | d]),
-        24..=0xff => bytes.extend_from_slice(&[major | 24, d]),
-        0x100..=0xffff => bytes.extend_from_slice(&[major | 25, c, d]),
-        _ => bytes.extend_from_slice(&[major | 26, a, b, c, d]),
-    }
-}
-
-// The head of eight bytes behind the first.
-fn push_wide_head(bytes: &mut Vec<u8>, major: u8, number: u32) -> Result<(), AllocError> {
-    bytes.extend_from_slice(&[major | 27, 0, 0, 0, 0])?;
-    bytes.extend_from_slice(&number.to_be_bytes())
-}
-
-fn push_times(bytes: &mut Vec<u8>, byte: u8, times: u32) -> Result<(), AllocError> {
-    for _ in 0..times {
-        bytes.push(byte)?;
-    }
-    Ok(())
-}
-
-// So many zeros as an array, or so many bytes as a string, with a wide head.
-fn wide(alloc: Global, major: u8, byte: u8, count: u32) -> Result<Case, AllocError> {
-    let mut input = Vec::new(alloc);
-    let mut canonical = Vec::new(alloc);
-    push_wide_head(&mut input, major, count)?;
-    push_times(&mut input, byte, count)?;
-    push_head(&mut canonical, major, count)?;
-    push_times(&mut canonical, byte, count)?;
-    Ok(Case { input, canonical })
-}
-
-// The same without a length: an array's members, or a string's chunks of one byte, and the break.
+// So many zeros or bytes without a length: an array's members, or a string's chunks of one byte, and
+// the break.
 fn endless(alloc: Global, major: u8, byte: u8, count: u32) -> Result<Case, AllocError> {
     let mut input = Vec::new(alloc);
     let mut canonical = Vec::new(alloc);
@@ -180,82 +140,48 @@ fn builds_large_sizes(rt: HostRuntime) -> Result<(), Fail> {
 
 // Slices, the canonical bytes of the items that they begin with, how many bytes these have, and
 // whether they are canonical as they stand.
-static FRONTS: [(&[u8], &[u8], u64, bool); 5] = [
-    (b"\0\xff", b"\0", 1, true),
-    (b"\x18\0\xff", b"\0", 2, false),
-    (
-        b"\xa2\x63Amt\x21\x63Fun\xf5\0",
-        b"\xa2\x63Amt\x21\x63Fun\xf5",
-        11,
-        true,
-    ),
-    (
-        b"\xbf\x63Fun\xf5\x63Amt\x21\xff\xff",
-        b"\xa2\x63Amt\x21\x63Fun\xf5",
-        12,
-        false,
-    ),
-    (b"\x5f\x41a\x41b\xff\x5f", b"\x42ab", 6, false),
-];
+static FRONTS: &str = "
+00ff | | 00 | 1 borrowed | 0
+1800ff | | 00 | 2 built | 0
+a263416d74216346756ef500 | | a263416d74216346756ef5 | 11 borrowed | two keys in order
+bf6346756ef563416d7421ffff | | a263416d74216346756ef5 | 12 built | two keys, falling
+5f41614162ff5f | | 426162 | 6 built | h'6162'
+";
 
 #[test]
-fn builds_the_front_of_a_slice(rt: HostRuntime) {
-    let limits = limits(&rt, 256, 1048576);
+fn builds_the_front_of_a_slice(rt: HostRuntime) -> Result<(), Fail> {
     let mut items = ItemCanonicaliser::new(rt.alloc());
-    for &(bytes, wanted, wanted_size, is_canonical) in &FRONTS {
-        let given = items.canonicalise(bytes, limits, KeyOrder::Bytewise);
-        assert!(rt; given == Ok((wanted, wanted_size)));
-        match read_canonical(rt.alloc(), bytes, limits, KeyOrder::Bytewise) {
-            Ok((canonical, size)) => {
-                assert!(rt; canonical.as_slice() == wanted && size == wanted_size);
-                assert!(rt; matches!(canonical, CowSlice::Borrowed(_)) == is_canonical);
-            }
-            Err(refusal) => assert!(rt; false, "{refusal}"),
-        }
+    for row in &rows_of(rt.alloc(), FRONTS)? {
+        let wanted = bytes_of(rt.alloc(), row.plain)?;
+        let again = items.canonicalise(&row.input, row.limits, KeyOrder::Bytewise);
+        let (bytes, size) = again.map_err(|_| "the item was refused")?;
+        assert!(rt; bytes == wanted.as_slice(), "{}", row.line);
+        let alone = read_canonical(rt.alloc(), &row.input, row.limits, KeyOrder::Bytewise);
+        let (canonical, count) = alone.map_err(|_| "the item was refused")?;
+        assert!(rt;
+            canonical.as_slice() == wanted.as_slice() && count == size,
+            "{}",
+            row.line
+        );
+        let how = match canonical {
+            CowSlice::Borrowed(_) => "borrowed",
+            CowSlice::Owned(_) => "built",
+        };
+        let told = format!(in rt.alloc(); "{size} {how}")?;
+        assert!(rt; told.as_str() == row.strict, "{}", row.line);
     }
+    Ok(())
 }
 
-// 256 times what stands before an item, the item 0, and 256 times what stands behind it.
-fn tower(alloc: Global, before: &[u8], behind: &[u8]) -> Result<Vec<u8>, AllocError> {
-    let mut bytes = Vec::new(alloc);
-    for _ in 0..256 {
-        bytes.extend_from_slice(before)?;
-    }
-    bytes.push(0)?;
-    for _ in 0..256 {
-        bytes.extend_from_slice(behind)?;
-    }
-    Ok(bytes)
-}
-
-// What stands before an item and behind it, in the input and in canonical bytes: arrays, tags, and
-// maps around a value and around a key, with a length, with a wide one, and without.
-static TOWERS: [(&[u8], &[u8], &[u8], &[u8]); 11] = [
-    (&[0x81], &[], &[0x81], &[]),
-    (&[0x98, 1], &[], &[0x81], &[]),
-    (&[0x9f], &[0xff], &[0x81], &[]),
-    (&[0xc1], &[], &[0xc1], &[]),
-    (&[0xd8, 1], &[], &[0xc1], &[]),
-    (&[0xa1, 0], &[], &[0xa1, 0], &[]),
-    (&[0xb8, 1, 0], &[], &[0xa1, 0], &[]),
-    (&[0xbf, 0], &[0xff], &[0xa1, 0], &[]),
-    (&[0xa1], &[0], &[0xa1], &[0]),
-    (&[0xbf], &[0, 0xff], &[0xa1], &[0]),
-    // {1: 0, 0: ..}
-    (&[0xa2, 1, 0, 0], &[], &[0xa2, 0], &[1, 0]),
-];
-
+// Towers of 256 containers.
 #[test]
 fn builds_towers(rt: HostRuntime) -> Result<(), Fail> {
     let alloc = rt.alloc();
-    for &(before, behind, wanted_before, wanted_behind) in &TOWERS {
-        let case = Case {
-            input: tower(alloc, before, behind)?,
-            canonical: tower(alloc, wanted_before, wanted_behind)?,
-        };
+    for kind in &kinds(alloc)? {
+        let case = kind.tower(alloc, 256, false)?;
         look_for(&rt, alloc, &case, "a tower");
         let shallow = limits(&rt, 255, 1048576);
-        let place = before.len() as u64 * 255;
+        let place = (kind.opens.len() as u64).saturating_mul(255);
         let wanted = Err(Refusal::new(Reason::TooDeep, place, place.saturating_add(1)));
         assert!(rt; check_valid(alloc, &case.input, shallow) == wanted);
     }

@@ -4,9 +4,9 @@
 
 use super::bytes_of;
 use super::conformance_rows::{
-    BadRow, Cut, ORDERS, by_order, canonical_of, is_item, is_refused, limits_of, row_of, text_of,
+    BadRow, Cut, ORDERS, Row, by_order, canonical_of, is_item, is_refused, rows, text_of,
 };
-use super::conformance_table::{PAIRS, PARTS, rows};
+use super::conformance_table::PAIRS;
 use bumpalo::Bump;
 use cbor_head::{Limits, Refusal};
 use cbor_item::{Tree, encode, same};
@@ -19,25 +19,16 @@ use std::test::Fail;
 
 #[test]
 fn canonicalises(rt: HostRuntime) -> Result<(), Fail> {
-    for part in 0..PARTS {
-        for &line in rows(part) {
-            let Some((hex, column, plain, _)) = row_of(line) else {
-                return Err(Fail::from(BadRow::Columns));
+    for row in &rows(rt.alloc())? {
+        for &order in &ORDERS {
+            let wanted = by_order(row.plain, order);
+            let is_right = match canonicalise(rt.alloc(), &row.input, row.limits, order) {
+                Ok(bytes) => {
+                    !is_refused(wanted) && bytes == canonical_of(rt.alloc(), &row.input, wanted)?
+                }
+                Err(refusal) => text_of(rt.alloc(), refusal)?.as_str() == wanted,
             };
-            let Some(limits) = limits_of(column) else {
-                return Err(Fail::from(BadRow::Limits));
-            };
-            let input = bytes_of(rt.alloc(), hex)?;
-            for &order in &ORDERS {
-                let wanted = by_order(plain, order);
-                let is_right = match canonicalise(rt.alloc(), &input, limits, order) {
-                    Ok(bytes) => {
-                        !is_refused(wanted) && bytes == canonical_of(rt.alloc(), &input, wanted)?
-                    }
-                    Err(refusal) => text_of(rt.alloc(), refusal)?.as_str() == wanted,
-                };
-                assert!(rt; is_right, "{line}");
-            }
+            assert!(rt; is_right, "{}", row.line);
         }
     }
     Ok(())
@@ -47,26 +38,17 @@ fn canonicalises(rt: HostRuntime) -> Result<(), Fail> {
 #[test]
 fn canonicalises_one_after_another(rt: HostRuntime) -> Result<(), Fail> {
     let mut items = ItemCanonicaliser::new(rt.alloc());
-    for part in 0..PARTS {
-        for &line in rows(part) {
-            let Some((hex, column, _, _)) = row_of(line) else {
-                return Err(Fail::from(BadRow::Columns));
+    for row in &rows(rt.alloc())? {
+        for &order in &ORDERS {
+            let alone = read_canonical(rt.alloc(), &row.input, row.limits, order);
+            let is_same = match (items.canonicalise(&row.input, row.limits, order), alone) {
+                (Ok((bytes, size)), Ok((wanted, wanted_size))) => {
+                    bytes == wanted.as_slice() && size == wanted_size
+                }
+                (Err(refusal), Err(wanted)) => refusal == wanted,
+                _ => false,
             };
-            let Some(limits) = limits_of(column) else {
-                return Err(Fail::from(BadRow::Limits));
-            };
-            let input = bytes_of(rt.alloc(), hex)?;
-            for &order in &ORDERS {
-                let alone = read_canonical(rt.alloc(), &input, limits, order);
-                let is_same = match (items.canonicalise(&input, limits, order), alone) {
-                    (Ok((bytes, size)), Ok((wanted, wanted_size))) => {
-                        bytes == wanted.as_slice() && size == wanted_size
-                    }
-                    (Err(refusal), Err(wanted)) => refusal == wanted,
-                    _ => false,
-                };
-                assert!(rt; is_same, "{line}");
-            }
+            assert!(rt; is_same, "{}", row.line);
         }
     }
     Ok(())
@@ -74,22 +56,13 @@ fn canonicalises_one_after_another(rt: HostRuntime) -> Result<(), Fail> {
 
 #[test]
 fn reads_trees(rt: HostRuntime) -> Result<(), Fail> {
-    for part in 0..PARTS {
-        for &line in rows(part) {
-            let Some((hex, column, plain, _)) = row_of(line) else {
-                return Err(Fail::from(BadRow::Columns));
-            };
-            let Some(limits) = limits_of(column) else {
-                return Err(Fail::from(BadRow::Limits));
-            };
-            let input = bytes_of(rt.alloc(), hex)?;
-            for way in 0..=input.len() {
-                let mut reader = Cut::in_way(&input, way);
-                let answer = read_tree(rt.alloc(), &mut reader, limits);
-                let taken = reader.taken(&input) as u64;
-                let is_right = is_read_right(rt.alloc(), &input, plain, answer, taken)?;
-                assert!(rt; is_right, "{line}");
-            }
+    for row in &rows(rt.alloc())? {
+        for way in 0..=row.input.len() {
+            let mut reader = Cut::in_way(&row.input, way);
+            let answer = read_tree(rt.alloc(), &mut reader, row.limits);
+            let taken = reader.taken(&row.input) as u64;
+            let is_right = is_read_right(rt.alloc(), row, answer, taken)?;
+            assert!(rt; is_right, "{}", row.line);
         }
     }
     Ok(())
@@ -97,26 +70,17 @@ fn reads_trees(rt: HostRuntime) -> Result<(), Fail> {
 
 #[test]
 fn reads_views(rt: HostRuntime) -> Result<(), Fail> {
-    for part in 0..PARTS {
-        for &line in rows(part) {
-            let Some((hex, column, plain, _)) = row_of(line) else {
-                return Err(Fail::from(BadRow::Columns));
-            };
-            let Some(limits) = limits_of(column) else {
-                return Err(Fail::from(BadRow::Limits));
-            };
-            let input = bytes_of(rt.alloc(), hex)?;
-            let arena = Bump::new(rt.alloc());
-            let (answer, taken) = match read_view(rt.alloc(), &input, limits, &arena) {
-                Ok((view, count)) => (Ok((view.to_tree(rt.alloc())?, count)), count),
-                Err(refusal) => (Err(refusal), refusal.read),
-            };
-            let mut reader = input.as_slice();
-            let read = read_tree(rt.alloc(), &mut reader, limits);
-            assert!(rt; are_alike(&answer, &read), "{line}");
-            let is_right = is_read_right(rt.alloc(), &input, plain, answer, taken)?;
-            assert!(rt; is_right, "{line}");
-        }
+    for row in &rows(rt.alloc())? {
+        let arena = Bump::new(rt.alloc());
+        let (answer, taken) = match read_view(rt.alloc(), &row.input, row.limits, &arena) {
+            Ok((view, count)) => (Ok((view.to_tree(rt.alloc())?, count)), count),
+            Err(refusal) => (Err(refusal), refusal.read),
+        };
+        let mut reader = row.input.as_slice();
+        let read = read_tree(rt.alloc(), &mut reader, row.limits);
+        assert!(rt; are_alike(&answer, &read), "{}", row.line);
+        let is_right = is_read_right(rt.alloc(), row, answer, taken)?;
+        assert!(rt; is_right, "{}", row.line);
     }
     Ok(())
 }
@@ -124,33 +88,24 @@ fn reads_views(rt: HostRuntime) -> Result<(), Fail> {
 #[test]
 fn checks_slices(rt: HostRuntime) -> Result<(), Fail> {
     let mut items = ItemCheck::new(rt.alloc());
-    for part in 0..PARTS {
-        for &line in rows(part) {
-            let Some((hex, column, plain, _)) = row_of(line) else {
-                return Err(Fail::from(BadRow::Columns));
-            };
-            let Some(limits) = limits_of(column) else {
-                return Err(Fail::from(BadRow::Limits));
-            };
-            let input = bytes_of(rt.alloc(), hex)?;
-            let wanted = by_order(plain, KeyOrder::Bytewise);
-            let checked = check_valid(rt.alloc(), &input, limits);
-            let again = items.check(&input, limits);
-            assert!(rt; again == checked, "{line}, behind others");
-            let given = match checked {
-                Ok(count) if wanted.starts_with("12 ") => {
-                    format!(in rt.alloc(); "12 Trailing at {count}, read {count}")?
-                }
-                Ok(count) => format!(in rt.alloc(); "taken {count}")?,
-                Err(refusal) => text_of(rt.alloc(), refusal)?,
-            };
-            let whole = format!(in rt.alloc(); "taken {}", input.len())?;
-            let is_right = match is_item(wanted) {
-                true => given == whole,
-                false => given.as_str() == wanted,
-            };
-            assert!(rt; is_right, "{line}");
-        }
+    for row in &rows(rt.alloc())? {
+        let wanted = by_order(row.plain, KeyOrder::Bytewise);
+        let checked = check_valid(rt.alloc(), &row.input, row.limits);
+        let again = items.check(&row.input, row.limits);
+        assert!(rt; again == checked, "{}, behind others", row.line);
+        let given = match checked {
+            Ok(count) if wanted.starts_with("12 ") => {
+                format!(in rt.alloc(); "12 Trailing at {count}, read {count}")?
+            }
+            Ok(count) => format!(in rt.alloc(); "taken {count}")?,
+            Err(refusal) => text_of(rt.alloc(), refusal)?,
+        };
+        let whole = format!(in rt.alloc(); "taken {}", row.input.len())?;
+        let is_right = match is_item(wanted) {
+            true => given == whole,
+            false => given.as_str() == wanted,
+        };
+        assert!(rt; is_right, "{}", row.line);
     }
     Ok(())
 }
@@ -167,12 +122,11 @@ fn are_alike(left: &Result<(Tree, u64), Refusal>, right: &Result<(Tree, u64), Re
 // Whether this is the tree or the refusal that a row wants, with so many bytes taken.
 fn is_read_right(
     alloc: Global,
-    input: &[u8],
-    plain: &str,
+    row: &Row,
     answer: Result<(Tree, u64), Refusal>,
     taken: u64,
 ) -> Result<bool, Fail> {
-    let wanted = by_order(plain, KeyOrder::Bytewise);
+    let wanted = by_order(row.plain, KeyOrder::Bytewise);
     let (tree, count) = match answer {
         Ok(read) => read,
         Err(refusal) => {
@@ -184,16 +138,16 @@ fn is_read_right(
         let trailing = format!(in alloc; "12 Trailing at {count}, read {count}")?;
         return Ok(trailing.as_str() == wanted && count == taken);
     }
-    let is_whole = count == taken && count == input.len() as u64;
-    Ok(is_whole && is_item(wanted) && is_tree_right(alloc, input, plain, &tree)?)
+    let is_whole = count == taken && count == row.input.len() as u64;
+    Ok(is_whole && is_item(wanted) && is_tree_right(alloc, row, &tree)?)
 }
 
 // Whether a tree has the canonical bytes that a row wants. It says none where they are too long.
-fn is_tree_right(alloc: Global, input: &[u8], plain: &str, tree: &Tree) -> Result<bool, Fail> {
+fn is_tree_right(alloc: Global, row: &Row, tree: &Tree) -> Result<bool, Fail> {
     for &order in &ORDERS {
-        let wanted = by_order(plain, order);
+        let wanted = by_order(row.plain, order);
         let is_right = match encode(alloc, tree, order) {
-            Ok(bytes) => is_refused(wanted) || bytes == canonical_of(alloc, input, wanted)?,
+            Ok(bytes) => is_refused(wanted) || bytes == canonical_of(alloc, &row.input, wanted)?,
             Err(_) => false,
         };
         if !is_right {
@@ -206,29 +160,20 @@ fn is_tree_right(alloc: Global, input: &[u8], plain: &str, tree: &Tree) -> Resul
 // Each input against itself, and against its canonical bytes.
 #[test]
 fn compares_with_itself(rt: HostRuntime) -> Result<(), Fail> {
-    for part in 0..PARTS {
-        for &line in rows(part) {
-            let Some((hex, column, plain, _)) = row_of(line) else {
-                return Err(Fail::from(BadRow::Columns));
-            };
-            let Some(limits) = limits_of(column) else {
-                return Err(Fail::from(BadRow::Limits));
-            };
-            let input = bytes_of(rt.alloc(), hex)?;
-            let is_right = match same_meaning(rt.alloc(), &input, &input, limits) {
-                Ok(same) => same && is_item(plain),
-                Err((Side::Left, refusal)) => text_of(rt.alloc(), refusal)?.as_str() == plain,
-                Err((Side::Right, _)) => false,
-            };
-            assert!(rt; is_right, "{line}");
-            for &order in &ORDERS {
-                let wanted = by_order(plain, order);
-                if !is_refused(wanted) {
-                    let bytes = canonical_of(rt.alloc(), &input, wanted)?;
-                    let onward = same_meaning(rt.alloc(), &input, &bytes, limits);
-                    let back = same_meaning(rt.alloc(), &bytes, &input, limits);
-                    assert!(rt; onward == Ok(true) && back == Ok(true), "{line}");
-                }
+    for row in &rows(rt.alloc())? {
+        let is_right = match same_meaning(rt.alloc(), &row.input, &row.input, row.limits) {
+            Ok(same) => same && is_item(row.plain),
+            Err((Side::Left, refusal)) => text_of(rt.alloc(), refusal)?.as_str() == row.plain,
+            Err((Side::Right, _)) => false,
+        };
+        assert!(rt; is_right, "{}", row.line);
+        for &order in &ORDERS {
+            let wanted = by_order(row.plain, order);
+            if !is_refused(wanted) {
+                let bytes = canonical_of(rt.alloc(), &row.input, wanted)?;
+                let onward = same_meaning(rt.alloc(), &row.input, &bytes, row.limits);
+                let back = same_meaning(rt.alloc(), &bytes, &row.input, row.limits);
+                assert!(rt; onward == Ok(true) && back == Ok(true), "{}", row.line);
             }
         }
     }
@@ -237,7 +182,7 @@ fn compares_with_itself(rt: HostRuntime) -> Result<(), Fail> {
 
 #[test]
 fn compares(rt: HostRuntime) -> Result<(), Fail> {
-    for &line in PAIRS {
+    for line in PAIRS.trim().lines() {
         let Some((left, right, wanted)) = pair_of(line) else {
             return Err(Fail::from(BadRow::Columns));
         };

@@ -1,5 +1,6 @@
-//! What a row of the conformance table says, and a reader of its input.
+//! The rows of the conformance table, and a reader of their input.
 
+use super::conformance_table::tables;
 use super::{BadHex, bytes_of};
 use cbor_head::{Keys, Limits, Refusal};
 use cbor_reader::KeyOrder;
@@ -12,12 +13,62 @@ use std::io::Read;
 pub(super) enum BadRow {
     Columns,
     Limits,
+    Input(BadHex),
+    Memory,
+}
+
+// A row with its input and its limits, and what is answered.
+#[derive(Drop)]
+pub(super) struct Row {
+    pub(super) line: &'static str,
+    pub(super) input: Vec<u8>,
+    pub(super) column: &'static str,
+    pub(super) limits: Limits,
+    pub(super) plain: &'static str,
+    pub(super) strict: &'static str,
 }
 
 pub(super) static ORDERS: [KeyOrder; 2] = [KeyOrder::Bytewise, KeyOrder::LengthFirst];
 
+// All rows of the table.
+pub(super) fn rows(alloc: Global) -> Result<Vec<Row>, BadRow> {
+    let mut rows = Vec::new(alloc);
+    for table in tables() {
+        push_rows(alloc, &mut rows, table)?;
+    }
+    Ok(rows)
+}
+
+// The rows of a text with the columns of the table.
+pub(super) fn rows_of(alloc: Global, table: &'static str) -> Result<Vec<Row>, BadRow> {
+    let mut rows = Vec::new(alloc);
+    push_rows(alloc, &mut rows, table)?;
+    Ok(rows)
+}
+
+fn push_rows(alloc: Global, rows: &mut Vec<Row>, table: &'static str) -> Result<(), BadRow> {
+    for line in table.lines() {
+        if !line.is_empty() && !line.starts_with("//") {
+            rows.push(row_of(alloc, line)?).map_err(|_| BadRow::Memory)?;
+        }
+    }
+    Ok(())
+}
+
+fn row_of(alloc: Global, line: &'static str) -> Result<Row, BadRow> {
+    let (input, column, plain, strict) = columns_of(line).ok_or(BadRow::Columns)?;
+    Ok(Row {
+        line,
+        input: bytes_of(alloc, input).map_err(BadRow::Input)?,
+        column,
+        limits: limits_of(column).ok_or(BadRow::Limits)?,
+        plain,
+        strict,
+    })
+}
+
 // The columns of a row that tests read: the input, the limits, and what is answered.
-pub(super) fn row_of(line: &str) -> Option<(&str, &str, &str, &str)> {
+pub(super) fn columns_of(line: &str) -> Option<(&str, &str, &str, &str)> {
     let (input, rest) = line.split_once('|')?;
     let (limits, rest) = rest.split_once('|')?;
     let (plain, rest) = rest.split_once('|')?;
@@ -37,7 +88,7 @@ pub(super) fn by_order(column: &str, order: KeyOrder) -> &str {
 }
 
 // The limits of a column as `depth 1 bytes 4 keys basic`.
-pub(super) fn limits_of(column: &str) -> Option<Limits> {
+fn limits_of(column: &str) -> Option<Limits> {
     let is_known = column.is_empty()
         || column.starts_with("depth ")
         || column.starts_with("bytes ")

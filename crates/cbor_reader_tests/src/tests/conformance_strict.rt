@@ -1,10 +1,6 @@
 //! Each row of the conformance table, read strictly.
 
-use super::bytes_of;
-use super::conformance_rows::{
-    BadRow, Cut, ORDERS, by_order, is_refused, limits_of, row_of, text_of,
-};
-use super::conformance_table::{PARTS, rows};
+use super::conformance_rows::{Cut, ORDERS, Row, by_order, is_refused, rows, text_of};
 use cbor_head::{Limits, Refusal};
 use cbor_reader::{KeyOrder, StrictReader, check_canonical, read_strict};
 use std::alloc::{AllocError, Global};
@@ -12,31 +8,22 @@ use std::test::Fail;
 
 #[test]
 fn reads_strictly(rt: HostRuntime) -> Result<(), Fail> {
-    for part in 0..PARTS {
-        for &line in rows(part) {
-            let Some((hex, column, plain, strict)) = row_of(line) else {
-                return Err(Fail::from(BadRow::Columns));
+    for row in &rows(rt.alloc())? {
+        for &order in &ORDERS {
+            let wanted = strict_text(rt.alloc(), row, order)?;
+            let answer = check_canonical(&row.input, row.limits, order);
+            let taken = match answer {
+                Ok(count) => count,
+                Err(refusal) => refusal.read,
             };
-            let Some(limits) = limits_of(column) else {
-                return Err(Fail::from(BadRow::Limits));
-            };
-            let input = bytes_of(rt.alloc(), hex)?;
-            for &order in &ORDERS {
-                let wanted = strict_text(rt.alloc(), &input, plain, strict, order)?;
-                let answer = check_canonical(&input, limits, order);
-                let taken = match answer {
-                    Ok(count) => count,
-                    Err(refusal) => refusal.read,
-                };
+            let is_right = is_strict_right(rt.alloc(), wanted.as_str(), answer, taken)?;
+            assert!(rt; is_right, "{}", row.line);
+            for way in 0..=row.input.len() {
+                let mut reader = Cut::in_way(&row.input, way);
+                let answer = read_strict(rt.alloc(), &mut reader, row.limits, order);
+                let taken = reader.taken(&row.input) as u64;
                 let is_right = is_strict_right(rt.alloc(), wanted.as_str(), answer, taken)?;
-                assert!(rt; is_right, "{line}");
-                for way in 0..=input.len() {
-                    let mut reader = Cut::in_way(&input, way);
-                    let answer = read_strict(rt.alloc(), &mut reader, limits, order);
-                    let taken = reader.taken(&input) as u64;
-                    let is_right = is_strict_right(rt.alloc(), wanted.as_str(), answer, taken)?;
-                    assert!(rt; is_right, "{line}");
-                }
+                assert!(rt; is_right, "{}", row.line);
             }
         }
     }
@@ -75,26 +62,17 @@ fn last_of(
 
 #[test]
 fn tells_strict_events(rt: HostRuntime) -> Result<(), Fail> {
-    for part in 0..PARTS {
-        for &line in rows(part) {
-            let Some((hex, column, plain, strict)) = row_of(line) else {
-                return Err(Fail::from(BadRow::Columns));
-            };
-            let Some(limits) = limits_of(column) else {
-                return Err(Fail::from(BadRow::Limits));
-            };
-            let input = bytes_of(rt.alloc(), hex)?;
-            for &order in &ORDERS {
-                let wanted = strict_text(rt.alloc(), &input, plain, strict, order)?;
-                for way in [0, input.len()] {
-                    let mut reader = Cut::in_way(&input, way);
-                    let Some(answer) = last_of(rt.alloc(), &mut reader, limits, order) else {
-                        return Err(Fail::from(BadRow::Limits));
-                    };
-                    let taken = reader.taken(&input) as u64;
-                    let is_right = is_strict_right(rt.alloc(), wanted.as_str(), answer, taken)?;
-                    assert!(rt; is_right, "{line}");
-                }
+    for row in &rows(rt.alloc())? {
+        for &order in &ORDERS {
+            let wanted = strict_text(rt.alloc(), row, order)?;
+            for way in [0, row.input.len()] {
+                let mut reader = Cut::in_way(&row.input, way);
+                let Some(answer) = last_of(rt.alloc(), &mut reader, row.limits, order) else {
+                    return Err(Fail::from("events that do not end"));
+                };
+                let taken = reader.taken(&row.input) as u64;
+                let is_right = is_strict_right(rt.alloc(), wanted.as_str(), answer, taken)?;
+                assert!(rt; is_right, "{}", row.line);
             }
         }
     }
@@ -121,19 +99,13 @@ fn is_strict_right(
 }
 
 // What the strict reader is to answer: the column, or as the plain rules have it.
-fn strict_text(
-    alloc: Global,
-    input: &[u8],
-    plain: &str,
-    strict: &str,
-    order: KeyOrder,
-) -> Result<String, AllocError> {
-    let wanted = by_order(plain, order);
-    if !strict.is_empty() {
-        String::from_str(alloc, by_order(strict, order))
+fn strict_text(alloc: Global, row: &Row, order: KeyOrder) -> Result<String, AllocError> {
+    let wanted = by_order(row.plain, order);
+    if !row.strict.is_empty() {
+        String::from_str(alloc, by_order(row.strict, order))
     } else if is_refused(wanted) {
         String::from_str(alloc, wanted)
     } else {
-        format!(in alloc; "taken {}", input.len())
+        format!(in alloc; "taken {}", row.input.len())
     }
 }

@@ -1,9 +1,8 @@
 //! Items cut short, by the end of the input and by the byte limit, at every place: the first bytes
 //! of an item are truncated, and a limit within it makes it too long.
 
-use super::conformance_rows::{BadRow, limits_of, row_of};
-use super::conformance_table::{PARTS, rows};
-use super::{Parts, bytes_of};
+use super::Parts;
+use super::conformance_rows::{is_refused, rows};
 use cbor_head::{Limits, Reason, Refusal};
 use cbor_reader::{
     KeyOrder, Sequence, Side, canonicalise, check_canonical, read_strict, read_tree, same_meaning,
@@ -89,23 +88,14 @@ fn is_cut_at(alloc: Global, item: &[u8], cut: usize, is_strict: bool) -> Option<
 // strict rules are asked only about what is canonical in both orders.
 #[test]
 fn refuses_each_front_of_an_item(rt: HostRuntime) -> Result<(), Fail> {
-    for part in 0..PARTS {
-        for &line in rows(part) {
-            let Some((hex, column, plain, strict)) = row_of(line) else {
-                return Err(Fail::from(BadRow::Columns));
-            };
-            if limits_of(column).is_none() {
-                return Err(Fail::from(BadRow::Limits));
-            }
-            if !column.is_empty() || plain.contains(" at ") {
-                continue;
-            }
-            let item = bytes_of(rt.alloc(), hex)?;
-            let is_strict = plain == "same" && strict.is_empty();
-            for cut in 0..item.len() {
-                let is_right = is_cut_at(rt.alloc(), &item, cut, is_strict);
-                assert!(rt; is_right == Some(true), "{line}, cut at {cut}");
-            }
+    for row in &rows(rt.alloc())? {
+        if !row.column.is_empty() || is_refused(row.plain) {
+            continue;
+        }
+        let is_strict = row.plain == "same" && row.strict.is_empty();
+        for cut in 0..row.input.len() {
+            let is_right = is_cut_at(rt.alloc(), &row.input, cut, is_strict);
+            assert!(rt; is_right == Some(true), "{}, cut at {cut}", row.line);
         }
     }
     Ok(())

@@ -1,9 +1,8 @@
 //! Readers that fail once, at each place, and then go on giving: the failure is told where the bytes
 //! before it call for no answer yet, and no read is tried again.
 
-use super::conformance_rows::{BadRow, limits_of, row_of};
-use super::conformance_table::{PARTS, rows};
-use super::{bytes_of, limits};
+use super::conformance_rows::{Row, rows, rows_of, text_of};
+use super::limits;
 use cbor_head::{Limits, Reason, Refusal};
 use cbor_reader::{KeyOrder, Sequence, Tree, read_strict, read_tree};
 use std::alloc::Global;
@@ -87,37 +86,29 @@ fn wanted(usual: Result<u64, Refusal>, place: u64) -> Result<u64, Refusal> {
     }
 }
 
-// Whether both calls answer what is wanted of a reader that fails behind so many bytes, and take as
-// many bytes as the answer tells.
-fn tells_failure(alloc: Global, input: &[u8], limits: Limits, place: usize) -> bool {
-    let plain = counted(read_tree(alloc, &mut &input[..], limits));
-    for way in 0..2 {
-        let mut reader = Stumbling::in_way(input, way, place);
-        let given = counted(read_tree(alloc, &mut reader, limits));
-        let left = reader.rest.len() as u64;
-        if given != wanted(plain, place as u64)
-            || left.checked_add(taken(given)) != Some(input.len() as u64)
-        {
-            return false;
-        }
+// What a call by the plain rules takes, or one by the strict rules in an order.
+fn answer<R: Read>(
+    alloc: Global,
+    reader: &mut R,
+    limits: Limits,
+    order: Option<KeyOrder>,
+) -> Result<u64, Refusal> {
+    match order {
+        None => counted(read_tree(alloc, reader, limits)),
+        Some(order) => read_strict(alloc, reader, limits, order),
     }
-    true
 }
 
-fn tells_failure_strictly(
-    alloc: Global,
-    input: &[u8],
-    limits: Limits,
-    order: KeyOrder,
-    place: usize,
-) -> bool {
-    let strict = read_strict(alloc, &mut &input[..], limits, order);
+// Whether such a call answers what is wanted of a reader that fails behind so many bytes, and takes
+// as many bytes as the answer tells.
+fn tells_failure(alloc: Global, row: &Row, order: Option<KeyOrder>, place: usize) -> bool {
+    let usual = answer(alloc, &mut row.input.as_slice(), row.limits, order);
     for way in 0..2 {
-        let mut reader = Stumbling::in_way(input, way, place);
-        let given = read_strict(alloc, &mut reader, limits, order);
+        let mut reader = Stumbling::in_way(&row.input, way, place);
+        let given = answer(alloc, &mut reader, row.limits, order);
         let left = reader.rest.len() as u64;
-        if given != wanted(strict, place as u64)
-            || left.checked_add(taken(given)) != Some(input.len() as u64)
+        if given != wanted(usual, place as u64)
+            || left.checked_add(taken(given)) != Some(row.input.len() as u64)
         {
             return false;
         }
@@ -144,50 +135,37 @@ fn ends_a_sequence(alloc: Global, input: &[u8], limits: Limits, place: usize) ->
 // a failure is tested there.
 #[test]
 fn tells_a_failure_at_each_place(rt: HostRuntime) -> Result<(), Fail> {
-    for part in 0..PARTS {
-        for &line in rows(part) {
-            let Some((hex, column, _, _)) = row_of(line) else {
-                return Err(Fail::from(BadRow::Columns));
-            };
-            let Some(limits) = limits_of(column) else {
-                return Err(Fail::from(BadRow::Limits));
-            };
-            let alloc = rt.alloc();
-            let input = bytes_of(alloc, hex)?;
-            for place in 0..=input.len() {
-                let is_right = tells_failure(alloc, &input, limits, place)
-                    && tells_failure_strictly(alloc, &input, limits, KeyOrder::Bytewise, place)
-                    && tells_failure_strictly(alloc, &input, limits, KeyOrder::LengthFirst, place)
-                    && ends_a_sequence(alloc, &input, limits, place);
-                assert!(rt; is_right, "{line}, failing at {place}");
-            }
+    for row in &rows(rt.alloc())? {
+        for place in 0..=row.input.len() {
+            let is_right = tells_failure(rt.alloc(), row, None, place)
+                && tells_failure(rt.alloc(), row, Some(KeyOrder::Bytewise), place)
+                && tells_failure(rt.alloc(), row, Some(KeyOrder::LengthFirst), place)
+                && ends_a_sequence(rt.alloc(), &row.input, row.limits, place);
+            assert!(rt; is_right, "{}, failing at {place}", row.line);
         }
     }
     Ok(())
 }
 
-// What a reader gives before it fails, the byte limit, and what `read_tree` answers.
-static FAILURES: [(&[u8], u64, Reason, u64, u64); 4] = [
-    (b"", 1048576, Reason::Read, 0, 0),
-    // two of three members
-    (b"\x83\x01\x02", 1048576, Reason::Read, 3, 3),
-    // a text that is no UTF-8 is complete before the failure
-    (b"\x61\xff", 1048576, Reason::InvalidText, 1, 2),
-    // no byte past the limit is asked for
-    (b"\x19\x03", 2, Reason::TooLong, 2, 2),
-];
+// What a reader gives before it fails, the limits, and what `read_tree` answers.
+static FAILURES: &str = "
+| | 17 Read at 0, read 0 | | nothing
+830102 | | 17 Read at 3, read 3 | | two of three members
+61ff | | 10 InvalidText at 1, read 2 | | a text that is no UTF-8 is complete before the failure
+1903 | bytes 2 | 2 TooLong at 2, read 2 | | no byte past the limit is asked for
+";
 
 #[test]
 fn tells_what_stood_before_the_failure(rt: HostRuntime) -> Result<(), Fail> {
     let alloc = rt.alloc();
-    for &(input, bytes, reason, place, read) in &FAILURES {
+    for row in &rows_of(alloc, FAILURES)? {
         for way in 0..2 {
-            let mut reader = Stumbling::in_way(input, way, input.len());
-            let given = counted(read_tree(alloc, &mut reader, limits(&rt, 256, bytes)));
-            assert!(rt;
-                given == Err(Refusal::new(reason, place, read)),
-                "at {input:?}"
-            );
+            let mut reader = Stumbling::in_way(&row.input, way, row.input.len());
+            let is_told = match read_tree(alloc, &mut reader, row.limits) {
+                Ok(_) => false,
+                Err(refusal) => text_of(alloc, refusal)?.as_str() == row.plain,
+            };
+            assert!(rt; is_told, "{}", row.line);
         }
     }
     // {1: 0} is accepted without a byte more

@@ -2,26 +2,21 @@
 //! at a byte a member, is more than a processor can address, so a call that asked for it would answer
 //! `Memory`.
 
-use super::limits;
+use super::{bytes_of, limits};
 use cbor_head::{Limits, Reason, Refusal};
 use cbor_reader::{KeyOrder, canonicalise, check_canonical, read_strict, read_tree, same_meaning};
 use std::alloc::{AllocError, Global};
 use std::test::Fail;
 
-// The type's first byte with additional information 27, and a count: 2^40 and more.
-static PROMISES: [(u8, [u8; 8]); 4] = [
-    (0x9b, [0, 0, 1, 0, 0, 0, 0, 0]),
-    (0xbb, [0, 0, 1, 0, 0, 0, 0, 0]),
-    (0x9b, [0xff; 8]),
-    (0xbb, [0xff; 8]),
-];
+// Arrays and maps of 2^40 members, and of as many as a head can promise.
+static PROMISES: &str =
+    "9b0000010000000000 bb0000010000000000 9bffffffffffffffff bbffffffffffffffff";
 
 // 255 of these heads, each the first member, or the first key, of the one before, around 0.
-fn nested(alloc: Global, first: u8, count: &[u8; 8]) -> Result<Vec<u8>, AllocError> {
+fn nested(alloc: Global, head: &[u8]) -> Result<Vec<u8>, AllocError> {
     let mut bytes = Vec::new(alloc);
     for _ in 0..255 {
-        bytes.push(first)?;
-        bytes.extend_from_slice(count)?;
+        bytes.extend_from_slice(head)?;
     }
     bytes.push(0)?;
     Ok(bytes)
@@ -49,14 +44,14 @@ fn is_cut_short(alloc: Global, input: &[u8], limits: Limits) -> bool {
 fn take_no_memory_by_themselves(rt: HostRuntime) -> Result<(), Fail> {
     let alloc = rt.alloc();
     let limits = limits(&rt, 256, 1048576);
-    for (first, count) in &PROMISES {
-        let input = nested(alloc, *first, count)?;
-        assert!(rt; is_cut_short(alloc, &input, limits), "{first}, {count:?}");
+    for head in PROMISES.split_whitespace() {
+        let input = nested(alloc, &bytes_of(alloc, head)?)?;
+        assert!(rt; is_cut_short(alloc, &input, limits), "{head}");
     }
     // strings of 2^63 bytes, with one there
-    for first in [0x5b, 0x7b] {
-        let input = [first, 0x80, 0, 0, 0, 0, 0, 0, 0, b'a'];
-        assert!(rt; is_cut_short(alloc, &input, limits), "{first}");
+    for string in ["5b800000000000000061", "7b800000000000000061"] {
+        let input = bytes_of(alloc, string)?;
+        assert!(rt; is_cut_short(alloc, &input, limits), "{string}");
     }
     Ok(())
 }

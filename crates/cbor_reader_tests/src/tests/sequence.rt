@@ -1,6 +1,7 @@
 //! Sequences, over slices, over readers that give one byte a read, and over one that fails.
 
-use super::{Parts, limits};
+use super::conformance_rows::{Row, rows_of, text_of};
+use super::{Parts, bytes_of, limits};
 use cbor_head::{Keys, Reason, Refusal};
 use cbor_item::encode;
 use cbor_reader::{KeyOrder, Sequence, SequenceItems, Tree};
@@ -10,88 +11,19 @@ use std::io::{ErrorKind, Read};
 use std::process::Abort;
 use std::test::Fail;
 
-// What a run of `next` gives.
-#[derive(Clone, Copy)]
-struct Run {
-    input: &'static [u8],
-    bytes: u64,
-    // The canonical bytes of the trees.
-    trees: &'static [&'static [u8]],
-    // What is answered behind them, if not `None` at once: the reason, the place, the bytes read.
-    refusal: Option<(Reason, u64, u64)>,
-}
-
-static RUNS: [Run; 9] = [
-    Run {
-        input: b"",
-        bytes: 1048576,
-        trees: &[],
-        refusal: None,
-    },
-    // 0, 0, 0, of a byte each
-    Run {
-        input: b"\x00\x00\x00",
-        bytes: 1,
-        trees: &[b"\x00", b"\x00", b"\x00"],
-        refusal: None,
-    },
-    // no byte may be read
-    Run {
-        input: b"",
-        bytes: 0,
-        trees: &[],
-        refusal: Some((Reason::TooLong, 0, 0)),
-    },
-    Run {
-        input: b"\x00",
-        bytes: 0,
-        trees: &[],
-        refusal: Some((Reason::TooLong, 0, 0)),
-    },
-    // 0, {1: 0, 1: 0}
-    Run {
-        input: b"\x00\xa2\x01\x00\x01\x00",
-        bytes: 1048576,
-        trees: &[b"\x00"],
-        refusal: Some((Reason::RepeatedKey, 3, 4)),
-    },
-    // 0, [1], and a number that is cut off
-    Run {
-        input: b"\x00\x81\x01\x18",
-        bytes: 1048576,
-        trees: &[b"\x00", b"\x81\x01"],
-        refusal: Some((Reason::Truncated, 1, 1)),
-    },
-    // 100 in two bytes, then 1000 in three
-    Run {
-        input: b"\x18\x64\x19\x03\xe8",
-        bytes: 2,
-        trees: &[b"\x18\x64"],
-        refusal: Some((Reason::TooLong, 2, 2)),
-    },
-    // [], {}, h'' in chunks, and 1 in two bytes
-    Run {
-        input: b"\x9f\xff\xa0\x5f\xff\x18\x01",
-        bytes: 1048576,
-        trees: &[b"\x80", b"\xa0", b"\x40", b"\x01"],
-        refusal: None,
-    },
-    // a break where an item is due, and an item behind it
-    Run {
-        input: b"\x01\xff\x01",
-        bytes: 1048576,
-        trees: &[b"\x01"],
-        refusal: Some((Reason::StrayBreak, 0, 1)),
-    },
-];
-
-fn refusal(reason: Reason, place: u64, read: u64) -> Refusal {
-    Refusal {
-        reason,
-        place,
-        read,
-    }
-}
+// Inputs and limits; the refusal behind the trees, if not `None` comes at once; and the canonical
+// bytes of the trees.
+static RUNS: &str = "
+| | | | nothing
+000000 | bytes 1 | | 00 00 00 | 0, 0, 0, of a byte each
+| bytes 0 | 2 TooLong at 0, read 0 | | no byte may be read
+00 | bytes 0 | 2 TooLong at 0, read 0 | | no byte may be read
+00a201000100 | | 11 RepeatedKey at 3, read 4 | 00 | 0, {1: 0, 1: 0}
+00810118 | | 1 Truncated at 1, read 1 | 00 8101 | 0, [1], and a number that is cut off
+18641903e8 | bytes 2 | 2 TooLong at 2, read 2 | 1864 | 100 in two bytes, then 1000 in three
+9fffa05fff1801 | | | 80 a0 40 01 | [], {}, h'' in chunks, and 1 in two bytes
+01ff01 | | 7 StrayBreak at 0, read 1 | 01 | a break where an item is due, and an item behind it
+";
 
 // Whether an answer is the tree with these canonical bytes.
 fn is_tree(
@@ -120,27 +52,32 @@ fn refused<T: Drop>(answer: Option<Result<T, Refusal>>) -> Option<Refusal> {
 fn follows<A: Abort, R: Read + Drop>(
     rt: &A,
     alloc: Global,
-    run: Run,
+    row: &Row,
     reader: R,
-) -> Result<(), AllocError> {
-    let mut sequence = Sequence::new(alloc, reader, limits(rt, 256, run.bytes));
-    for tree in run.trees {
+) -> Result<(), Fail> {
+    let mut sequence = Sequence::new(alloc, reader, row.limits);
+    for tree in row.strict.split_whitespace() {
+        let canonical = bytes_of(alloc, tree)?;
         assert!(rt;
-            is_tree(alloc, sequence.next(), tree)?,
-            "at {:?}",
-            run.input
+            is_tree(alloc, sequence.next(), &canonical)?,
+            "{}",
+            row.line
         );
     }
-    if let Some((reason, place, read)) = run.refusal {
-        let wanted = Some(refusal(reason, place, read));
-        assert!(rt; refused(sequence.next()) == wanted, "at {:?}", run.input);
+    if !row.plain.is_empty() {
+        let refusal = refused(sequence.next()).ok_or("no refusal")?;
+        assert!(rt;
+            text_of(alloc, refusal)?.as_str() == row.plain,
+            "{}",
+            row.line
+        );
     }
     for _ in 0..2 {
-        assert!(rt; sequence.next().is_none(), "at {:?}", run.input);
+        assert!(rt; sequence.next().is_none(), "{}", row.line);
         assert!(rt;
             sequence.next_strict(KeyOrder::Bytewise).is_none(),
-            "at {:?}",
-            run.input
+            "{}",
+            row.line
         );
     }
     Ok(())
@@ -148,11 +85,11 @@ fn follows<A: Abort, R: Read + Drop>(
 
 #[test]
 fn gives_trees(rt: HostRuntime) -> Result<(), Fail> {
-    for &run in &RUNS {
-        follows(&rt, rt.alloc(), run, run.input)?;
+    for row in &rows_of(rt.alloc(), RUNS)? {
+        follows(&rt, rt.alloc(), row, row.input.as_slice())?;
         for part in [usize::MAX, 1] {
-            let rest = run.input;
-            follows(&rt, rt.alloc(), run, Parts { rest, part })?;
+            let rest = row.input.as_slice();
+            follows(&rt, rt.alloc(), row, Parts { rest, part })?;
         }
     }
     Ok(())
@@ -169,7 +106,7 @@ fn leaves_what_follows(rt: HostRuntime) -> Result<(), Fail> {
     assert!(rt; reader.len() == 4);
     assert!(rt; items.next_strict(&mut reader, KeyOrder::Bytewise) == Some(Ok(2)));
     assert!(rt; reader.len() == 2);
-    let wanted = Some(refusal(Reason::StrayBreak, 0, 1));
+    let wanted = Some(Refusal::new(Reason::StrayBreak, 0, 1));
     assert!(rt; refused(items.next(&mut reader)) == wanted);
     assert!(rt; reader.len() == 1);
     assert!(rt; items.next(&mut reader).is_none());
@@ -186,7 +123,7 @@ fn reads_strictly(rt: HostRuntime) -> Result<(), Fail> {
         let reader = Parts { rest, part };
         let mut sequence = Sequence::new(rt.alloc(), reader, limits(&rt, 256, 1048576));
         assert!(rt; sequence.next_strict(KeyOrder::Bytewise) == Some(Ok(1)));
-        let wanted = Some(Err(refusal(Reason::NotShortest, 0, 2)));
+        let wanted = Some(Err(Refusal::new(Reason::NotShortest, 0, 2)));
         assert!(rt; sequence.next_strict(KeyOrder::Bytewise) == wanted);
         assert!(rt; sequence.next_strict(KeyOrder::Bytewise) == None);
         assert!(rt; sequence.next().is_none());
@@ -204,7 +141,7 @@ fn mixes_calls(rt: HostRuntime) -> Result<(), Fail> {
         assert!(rt; is_tree(rt.alloc(), sequence.next(), b"\x01")?);
         assert!(rt; sequence.next_strict(KeyOrder::Bytewise) == Some(Ok(6)));
         assert!(rt; sequence.next_strict(KeyOrder::LengthFirst) == Some(Ok(6)));
-        let wanted = Some(Err(refusal(Reason::KeyOrder, 4, 5)));
+        let wanted = Some(Err(Refusal::new(Reason::KeyOrder, 4, 5)));
         assert!(rt; sequence.next_strict(KeyOrder::LengthFirst) == wanted);
         assert!(rt; sequence.next().is_none());
     }
@@ -215,7 +152,7 @@ fn mixes_calls(rt: HostRuntime) -> Result<(), Fail> {
 #[test]
 fn judges_the_keys_of_an_item(rt: HostRuntime) -> Result<(), Fail> {
     let basic = limits(&rt, 256, 1048576).with_keys(Keys::IntegersAndTexts);
-    let wanted = refusal(Reason::KeyKind, 1, 2);
+    let wanted = Refusal::new(Reason::KeyKind, 1, 2);
     for part in [usize::MAX, 1] {
         let rest = b"\x00\xa1\x80\x00";
         let mut sequence = Sequence::new(rt.alloc(), Parts { rest, part }, basic);
@@ -269,7 +206,7 @@ fn stops_where_the_reader_fails(rt: HostRuntime) -> Result<(), Fail> {
             for _ in 0..before {
                 assert!(rt; is_tree(rt.alloc(), sequence.next(), b"\x00")?);
             }
-            let wanted = Some(refusal(Reason::Read, 0, 0));
+            let wanted = Some(Refusal::new(Reason::Read, 0, 0));
             assert!(rt; refused(sequence.next()) == wanted);
             assert!(rt; sequence.next().is_none());
             assert!(rt; sequence.next_strict(KeyOrder::Bytewise) == None);

@@ -1,6 +1,7 @@
 //! Sizes on both sides of each bound: of the widths of a head, of the parts in which a reader is
 //! asked, of keys that take memory of their own, of runs of bytes that are moved or checked at once.
 
+use super::heads::{Case, push_head, push_string, push_times, push_wide_head, wide};
 use super::{Parts, limits};
 use cbor_head::{Limits, Reason, Refusal};
 use cbor_item::encode;
@@ -14,30 +15,6 @@ static SIZES: [u32; 38] = [
 
 // The type's first byte with additional information 0.
 static STRINGS: [(u8, u8); 2] = [(0x40, 7), (0x60, b'a')];
-
-// A head of the type in the fewest bytes: 23, 255 and 65535 are the last numbers of each width.
-fn push_head(bytes: &mut Vec<u8>, major: u8, number: u32) -> Result<(), AllocError> {
-    let [_, upper, high, low] = number.to_be_bytes();
-    match number {
-        0..=23 => bytes.extend_from_slice(&[major | low]),
-        24..=255 => bytes.extend_from_slice(&[major | 24, low]),
-        256..=65535 => bytes.extend_from_slice(&[major | 25, high, low]),
-        _ => bytes.extend_from_slice(&[major | 26, 0, upper, high, low]),
-    }
-}
-
-// The same in eight bytes of argument.
-fn push_wide_head(bytes: &mut Vec<u8>, major: u8, number: u32) -> Result<(), AllocError> {
-    bytes.extend_from_slice(&[major | 27, 0, 0, 0, 0])?;
-    bytes.extend_from_slice(&number.to_be_bytes())
-}
-
-fn push_times(bytes: &mut Vec<u8>, byte: u8, times: u32) -> Result<(), AllocError> {
-    for _ in 0..times {
-        bytes.push(byte)?;
-    }
-    Ok(())
-}
 
 // Whether each call has the canonical bytes of the input, in both orders. Long inputs come in large
 // parts alone.
@@ -69,42 +46,10 @@ fn becomes(alloc: Global, input: &[u8], canonical: &[u8], limits: Limits) -> boo
     true
 }
 
-// An input, and its canonical bytes in either order. What fills them borrows them: an owner of both
-// would owe at each `?` that they may be let go there.
-#[derive(Drop)]
-struct Case {
-    input: Vec<u8>,
-    canonical: Vec<u8>,
-}
-
 impl Case {
-    fn empty(alloc: Global) -> Case {
-        Case {
-            input: Vec::new(alloc),
-            canonical: Vec::new(alloc),
-        }
-    }
-
     fn is_told(&self, alloc: Global, limits: Limits) -> bool {
         becomes(alloc, &self.input, &self.canonical, limits)
     }
-}
-
-fn push_string(bytes: &mut Vec<u8>, major: u8, byte: u8, size: u32) -> Result<(), AllocError> {
-    push_head(bytes, major, size)?;
-    push_times(bytes, byte, size)
-}
-
-fn push_wide_string(bytes: &mut Vec<u8>, major: u8, byte: u8, size: u32) -> Result<(), AllocError> {
-    push_wide_head(bytes, major, size)?;
-    push_times(bytes, byte, size)
-}
-
-fn string_of(alloc: Global, major: u8, byte: u8, size: u32) -> Result<Case, AllocError> {
-    let mut case = Case::empty(alloc);
-    push_wide_string(&mut case.input, major, byte, size)?;
-    push_string(&mut case.canonical, major, byte, size)?;
-    Ok(case)
 }
 
 fn push_three(
@@ -133,7 +78,7 @@ fn strings_of_each_size(rt: HostRuntime) -> Result<(), AllocError> {
     let limits = limits(&rt, 256, 1048576);
     for size in SIZES {
         for (major, byte) in STRINGS {
-            let string = string_of(alloc, major, byte, size)?;
+            let string = wide(alloc, major, byte, size)?;
             assert!(rt; string.is_told(alloc, limits), "{major}, {size} bytes");
             let map = map_from(alloc, &string)?;
             assert!(rt; map.is_told(alloc, limits), "{major}, {size} in a key");
@@ -176,11 +121,6 @@ fn push_streamed(bytes: &mut Vec<u8>, size: u32) -> Result<(), AllocError> {
     Ok(())
 }
 
-// So many zeros, with a wide head.
-fn wide_array(alloc: Global, size: u32) -> Result<Case, AllocError> {
-    string_of(alloc, 0x80, 0, size)
-}
-
 // So many zeros, without a length.
 fn streamed_array(alloc: Global, size: u32) -> Result<Case, AllocError> {
     let mut case = Case::empty(alloc);
@@ -197,7 +137,7 @@ fn arrays_of_each_size(rt: HostRuntime) -> Result<(), AllocError> {
     for size in SIZES {
         let streamed = streamed_array(alloc, size)?;
         if size <= 4097 {
-            let is_right = wide_array(alloc, size)?.is_told(alloc, limits)
+            let is_right = wide(alloc, 0x80, 0, size)?.is_told(alloc, limits)
                 && streamed.is_told(alloc, limits);
             assert!(rt; is_right, "{size} members");
         }

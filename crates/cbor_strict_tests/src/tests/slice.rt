@@ -1,183 +1,100 @@
 //! The strict check of a slice: maps in keys, lengths with nothing behind them, and limits.
 
 use super::limits;
-use cbor_head::{Reason, Refusal};
+use cbor_head::{Limits, Reason, Refusal};
 use cbor_strict::{KeyOrder, check_canonical};
 use std::alloc::{AllocError, Global};
 use std::process::Abort;
 use std::test::Fail;
 
-// Looks for this answer: the bytes taken, or the refusal's reason, place and bytes read.
-fn look_for(
-    rt: &impl Abort,
-    bytes: &[u8],
-    depth: u16,
-    limit: u64,
-    order: KeyOrder,
-    answer: Result<u64, (Reason, u64, u64)>,
-) {
-    let limits = limits(rt, depth, limit);
-    let wanted = match answer {
-        Ok(count) => Ok(count),
-        Err((reason, place, read)) => Err(Refusal::new(reason, place, read)),
-    };
-    assert!(rt;
-        check_canonical(bytes, limits, order) == wanted,
-        "at {bytes:?}"
-    );
+// Slices, the limits on depth and on bytes, what is answered in the bytewise order, and why: how many
+// bytes are taken, or the refusal.
+static BYTEWISE: &str = "
+a2a1010000a1010100 | 256 1048576 | 9 | {{1: 0}: 0, {1: 1}: 0}
+a2a1010100a1010000 | 256 1048576 | 16 KeyOrder at 5, read 8 | {{1: 1}: 0, {1: 0}: 0}
+5bffffffffffffffff | 256 1048576 | 1 Truncated at 9, read 9 | a string of 2^64 - 1
+7bffffffffffffffff | 256 1048576 | 1 Truncated at 9, read 9 | a text of 2^64 - 1
+9bffffffffffffffff | 256 1048576 | 1 Truncated at 9, read 9 | an array of 2^64 - 1
+bbffffffffffffffff | 256 1048576 | 1 Truncated at 9, read 9 | a map of 2^64 - 1
+a20100180100 | 256 5 | 14 NotShortest at 3, read 5 | {1: 0, 1: 0}: the second key ends at the limit
+a20100180100 | 256 4 | 2 TooLong at 4, read 4 | {1: 0, 1: 0}: the second key ends behind the limit
+818101 | 2 3 | 3 | [[1]]
+818101 | 1 3 | 9 TooDeep at 1, read 2 | [[1]]
+a201a102000200ff | 256 64 | 7 | {1: {2: 0}, 2: 0} and what follows it
+a101a202000100 | 256 64 | 16 KeyOrder at 5, read 6 | {1: {2: 0, 1: 0}}: the key of the inner map
+a201a101000100 | 256 64 | 16 KeyOrder at 5, read 6 | {1: {1: 0}, 1: 0}: the key of the outer map
+a2810100810000 | 256 64 | 16 KeyOrder at 4, read 6 | {[1]: 0, [0]: 0}
+a1a20100000000 | 256 64 | 16 KeyOrder at 4, read 5 | {{1: 0, 0: 0}: 0}
+a2a20000010000a20000010000 | 256 64 | 16 KeyOrder at 7, read 12 | {{0: 0, 1: 0}: 0, {0: 0, 1: 0}: 0}
+a2c10000c10000 | 256 64 | 16 KeyOrder at 4, read 6 | {1(0): 0, 1(0): 0}
+83a10100a10000a200000000 | 256 64 | 16 KeyOrder at 10, read 11 | [{1: 0}, {0: 0}, {0: 0, 0: 0}]: each map begins anew
+a26261610061ff00 | 256 64 | 10 InvalidText at 6, read 7 | a text that is none, and does not rise behind 'aa': the text is told
+a20100180100 | 256 64 | 14 NotShortest at 3, read 5 | a key that is no shortest head, and does not rise: the head is told
+a2010001 | 256 64 | 16 KeyOrder at 3, read 4 | {1: 0, 1, and nothing behind it
+a2010002 | 256 64 | 1 Truncated at 4, read 4 | {1: 0, 2, and nothing behind it
+a30a001864002000 | 256 64 | 8 | {10: 0, 100: 0, -1: 0}
+a30a002000186400 | 256 64 | 16 KeyOrder at 5, read 7 | {10: 0, -1: 0, 100: 0}
+";
+
+// The last two in the length-first order.
+static LENGTH_FIRST: &str = "
+a30a001864002000 | 256 64 | 16 KeyOrder at 6, read 7 | {10: 0, 100: 0, -1: 0}
+a30a002000186400 | 256 64 | 8 | {10: 0, -1: 0, 100: 0}
+";
+
+fn columns_of(line: &str) -> Option<(&str, &str, &str, &str)> {
+    let (digits, rest) = line.split_once('|')?;
+    let (limits, rest) = rest.split_once('|')?;
+    let (answer, _) = rest.split_once('|')?;
+    let (depth, bytes) = limits.trim().split_once(' ')?;
+    Some((digits.trim(), depth, bytes, answer.trim()))
 }
 
-// Maps in keys, lengths with nothing behind them, and limits.
-static WITHIN_LIMITS: [(&[u8], u16, u64, Result<u64, (Reason, u64, u64)>); 10] = [
-    // {{1: 0}: 0, {1: 1}: 0}
-    (b"\xa2\xa1\x01\x00\x00\xa1\x01\x01\x00", 256, 1048576, Ok(9)),
-    // {{1: 1}: 0, {1: 0}: 0}
-    (
-        b"\xa2\xa1\x01\x01\x00\xa1\x01\x00\x00",
-        256,
-        1048576,
-        Err((Reason::KeyOrder, 5, 8)),
-    ),
-    // strings, an array and a map of 2^64 - 1
-    (
-        b"\x5b\xff\xff\xff\xff\xff\xff\xff\xff",
-        256,
-        1048576,
-        Err((Reason::Truncated, 9, 9)),
-    ),
-    (
-        b"\x7b\xff\xff\xff\xff\xff\xff\xff\xff",
-        256,
-        1048576,
-        Err((Reason::Truncated, 9, 9)),
-    ),
-    (
-        b"\x9b\xff\xff\xff\xff\xff\xff\xff\xff",
-        256,
-        1048576,
-        Err((Reason::Truncated, 9, 9)),
-    ),
-    (
-        b"\xbb\xff\xff\xff\xff\xff\xff\xff\xff",
-        256,
-        1048576,
-        Err((Reason::Truncated, 9, 9)),
-    ),
-    // {1: 0, 1: 0}, the second key in two bytes, which end at the limit, or behind it
-    (
-        b"\xa2\x01\x00\x18\x01\x00",
-        256,
-        5,
-        Err((Reason::NotShortest, 3, 5)),
-    ),
-    (
-        b"\xa2\x01\x00\x18\x01\x00",
-        256,
-        4,
-        Err((Reason::TooLong, 4, 4)),
-    ),
-    // [[1]]
-    (b"\x81\x81\x01", 2, 3, Ok(3)),
-    (b"\x81\x81\x01", 1, 3, Err((Reason::TooDeep, 1, 2))),
-];
+fn answer_text(alloc: Global, answer: Result<u64, Refusal>) -> Result<String, AllocError> {
+    match answer {
+        Ok(count) => format!(in alloc; "{count}"),
+        Err(refusal) => format!(in alloc; "{refusal}, read {}", refusal.read),
+    }
+}
 
 #[test]
-fn checks_slices_within_limits(rt: HostRuntime) -> Result<(), Fail> {
-    for &(bytes, depth, limit, answer) in &WITHIN_LIMITS {
-        look_for(&rt, bytes, depth, limit, KeyOrder::Bytewise, answer);
+fn checks_slices(rt: HostRuntime) -> Result<(), Fail> {
+    for (order, table) in [
+        (KeyOrder::Bytewise, BYTEWISE),
+        (KeyOrder::LengthFirst, LENGTH_FIRST),
+    ] {
+        for line in table.trim().lines() {
+            let (digits, depth, bytes, wanted) = columns_of(line).ok_or("four columns")?;
+            let limits = Limits::new(
+                depth.parse().map_err(|_| "depth")?,
+                bytes.parse().map_err(|_| "bytes")?,
+            )
+            .ok_or("limits")?;
+            let answer = check_canonical(&hex::decode(rt.alloc(), digits)?, limits, order);
+            assert!(rt;
+                answer_text(rt.alloc(), answer)?.as_str() == wanted,
+                "{line}"
+            );
+        }
     }
-    // {0: {0: .. 0}}, of as many maps as may be open, and of one more than the limit
-    let mut maps = Vec::new(rt.alloc());
-    for _ in 0..256 {
-        maps.extend_from_slice(&[0xa1, 0x00])?;
-    }
+    Ok(())
+}
+
+// {0: {0: .. 0}}, of as many maps as may be open, and of one more than the limit
+#[test]
+fn checks_deep_slices(rt: HostRuntime) -> Result<(), Fail> {
+    let mut maps = [0xa1, 0x00].repeat(rt.alloc(), 256)?;
     maps.push(0x00)?;
-    look_for(&rt, &maps, 256, 1048576, KeyOrder::Bytewise, Ok(513));
-    let deep = Err((Reason::TooDeep, 510, 511));
-    look_for(&rt, &maps, 255, 1048576, KeyOrder::Bytewise, deep);
+    look_for(&rt, &maps, 256, 1048576, Ok(513));
+    let deep = Err(Refusal::new(Reason::TooDeep, 510, 511));
+    look_for(&rt, &maps, 255, 1048576, deep);
     Ok(())
 }
 
-// Keys in maps within one another, by the bytewise order.
-static KEYS: [(&[u8], Result<u64, (Reason, u64, u64)>); 14] = [
-    // {1: {2: 0}, 2: 0} and what follows it
-    (b"\xa2\x01\xa1\x02\x00\x02\x00\xff", Ok(7)),
-    // {1: {2: 0, 1: 0}}: the key of the inner map
-    (
-        b"\xa1\x01\xa2\x02\x00\x01\x00",
-        Err((Reason::KeyOrder, 5, 6)),
-    ),
-    // {1: {1: 0}, 1: 0}: the key of the outer map
-    (
-        b"\xa2\x01\xa1\x01\x00\x01\x00",
-        Err((Reason::KeyOrder, 5, 6)),
-    ),
-    // {[1]: 0, [0]: 0}
-    (
-        b"\xa2\x81\x01\x00\x81\x00\x00",
-        Err((Reason::KeyOrder, 4, 6)),
-    ),
-    // {{1: 0, 0: 0}: 0}
-    (
-        b"\xa1\xa2\x01\x00\x00\x00\x00",
-        Err((Reason::KeyOrder, 4, 5)),
-    ),
-    // {{0: 0, 1: 0}: 0, {0: 0, 1: 0}: 0}
-    (
-        b"\xa2\xa2\x00\x00\x01\x00\x00\xa2\x00\x00\x01\x00\x00",
-        Err((Reason::KeyOrder, 7, 12)),
-    ),
-    // {1(0): 0, 1(0): 0}
-    (
-        b"\xa2\xc1\x00\x00\xc1\x00\x00",
-        Err((Reason::KeyOrder, 4, 6)),
-    ),
-    // [{1: 0}, {0: 0}, {0: 0, 0: 0}]: each map begins anew
-    (
-        b"\x83\xa1\x01\x00\xa1\x00\x00\xa2\x00\x00\x00\x00",
-        Err((Reason::KeyOrder, 10, 11)),
-    ),
-    // a text that is none, and does not rise behind "aa": the text is told
-    (
-        b"\xa2\x62\x61\x61\x00\x61\xff\x00",
-        Err((Reason::InvalidText, 6, 7)),
-    ),
-    // a key that is no shortest head, and does not rise: the head is told
-    (
-        b"\xa2\x01\x00\x18\x01\x00",
-        Err((Reason::NotShortest, 3, 5)),
-    ),
-    // {1: 0, 1, and nothing behind it
-    (b"\xa2\x01\x00\x01", Err((Reason::KeyOrder, 3, 4))),
-    // {1: 0, 2, and nothing behind it
-    (b"\xa2\x01\x00\x02", Err((Reason::Truncated, 4, 4))),
-    // {10: 0, 100: 0, -1: 0}
-    (b"\xa3\x0a\x00\x18\x64\x00\x20\x00", Ok(8)),
-    // {10: 0, -1: 0, 100: 0}
-    (
-        b"\xa3\x0a\x00\x20\x00\x18\x64\x00",
-        Err((Reason::KeyOrder, 5, 7)),
-    ),
-];
-
-// The last two by the length-first order.
-static KEYS_BY_LENGTH: [(&[u8], Result<u64, (Reason, u64, u64)>); 2] = [
-    (
-        b"\xa3\x0a\x00\x18\x64\x00\x20\x00",
-        Err((Reason::KeyOrder, 6, 7)),
-    ),
-    (b"\xa3\x0a\x00\x20\x00\x18\x64\x00", Ok(8)),
-];
-
-#[test]
-fn keys_rise_in_each_open_map(rt: HostRuntime) -> Result<(), Fail> {
-    for &(bytes, answer) in &KEYS {
-        look_for(&rt, bytes, 256, 64, KeyOrder::Bytewise, answer);
-    }
-    for &(bytes, answer) in &KEYS_BY_LENGTH {
-        look_for(&rt, bytes, 256, 64, KeyOrder::LengthFirst, answer);
-    }
-    Ok(())
+// Looks for this answer in the bytewise order.
+fn look_for(rt: &impl Abort, bytes: &[u8], depth: u16, most: u64, wanted: Result<u64, Refusal>) {
+    let answer = check_canonical(bytes, limits(rt, depth, most), KeyOrder::Bytewise);
+    assert!(rt; answer == wanted, "at {bytes:?}");
 }
 
 // A map of two texts of this length, "aa.." but for their ends, each with 0.
@@ -197,17 +114,16 @@ fn map_of(alloc: Global, length: u8, ends: [u8; 2]) -> Result<Vec<u8>, AllocErro
 // Keys that share all bytes but the last, or all.
 #[test]
 fn keys_with_a_long_beginning_in_common(rt: HostRuntime) -> Result<(), Fail> {
-    let order = KeyOrder::Bytewise;
     for length in 24..72 {
         let size = 3 + u64::from(length);
         let rising = map_of(rt.alloc(), length, [b'a', b'b'])?;
         let whole = Ok(2 * size + 1);
-        look_for(&rt, &rising, 256, 256, order, whole);
-        let falls = Err((Reason::KeyOrder, size + 1, 2 * size));
+        look_for(&rt, &rising, 256, 256, whole);
+        let falls = Err(Refusal::new(Reason::KeyOrder, size + 1, 2 * size));
         let equal = map_of(rt.alloc(), length, [b'b', b'b'])?;
-        look_for(&rt, &equal, 256, 256, order, falls);
+        look_for(&rt, &equal, 256, 256, falls);
         let falling = map_of(rt.alloc(), length, [b'b', b'a'])?;
-        look_for(&rt, &falling, 256, 256, order, falls);
+        look_for(&rt, &falling, 256, 256, falls);
     }
     Ok(())
 }
