@@ -105,7 +105,7 @@ string-taken d q chunk m fs starts leads w bs rest h =
     ∙ ap (λ t. telling (mark chunk m w (length bs)) (run d t (bs ++ rest))) (leads (length bs))
     ∙ ap (telling (mark chunk m w (length bs))) (payload-taken d chunk m fs bs rest)
 
-chunks-taken : (d : ℕ) (m : Major) (fs : List Frame) → Starts d (in_chunks m fs) true m fs → (cs : List Chunk) (rest : List ℕ) → AllByRecursion IsChunk cs
+pub chunks-taken : (d : ℕ) (m : Major) (fs : List Frame) → Starts d (in_chunks m fs) true m fs → (cs : List Chunk) (rest : List ℕ) → AllByRecursion IsChunk cs
     → run d (in_chunks m fs) (flat_map (chunk_bytes m) cs ++ rest) ≡ telling_all (flat_map chunk_marks cs) (run d (in_chunks m fs) rest)
 chunks-taken d m fs starts [] rest h = refl
 chunks-taken d m fs starts (c ∷ cs) rest h =

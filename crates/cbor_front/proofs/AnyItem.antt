@@ -5,7 +5,7 @@ use Rattle.cbor_head.specs.Prelude.{Holds, shortest, shortest_head, with_argumen
 use Rattle.cbor_head.specs.declared.major.Major.TheVariants.{Array, Map}
 use Rattle.cbor_head.specs.declared.width.Width.{Width}
 use Rattle.cbor_head.specs.declared.width.Width.TheVariants.{Eight, Indefinite}
-use Rattle.cbor_steps.specs.Whole.{IsArgument}
+use Rattle.cbor_grammar.specs.Argument.{IsArgument}
 use Rattle.cbor_judging.specs.RefusedHere.{MayBegin}
 use Rattle.cbor_front.specs.inner.Leaves.{IsShortest, IsLeaf}
 use Rattle.cbor_front.proofs.ShortHeads.{rest-is}

@@ -3,7 +3,7 @@ use Rattle.std.proofs.Common.{◌≡◌, ◌≢◌, ℕ, List, take, refl, inl, 
 use Rattle.cbor_head.specs.Prelude.{plain, strict, Bounds, IsVerdict, refused, refusal}
 use Rattle.cbor_head.specs.declared.order.KeyOrder as orders
 use Rattle.cbor_head.specs.declared.reason.Reason.{Reason}
-use Rattle.cbor_head.specs.declared.reason.Reason.TheVariants.{Truncated, RepeatedKey, KeyOrder}
+use Rattle.cbor_head.specs.declared.reason.Reason.TheVariants.{Truncated, RepeatedKey}
 use Rattle.cbor_head.specs.declared.reason.Refusal.{Refusal}
 use Rattle.cbor_canonical.proofs.PlainVerdicts.{refused_plainly}
 use Rattle.cbor_judging.proofs.Reasons.{never-given}

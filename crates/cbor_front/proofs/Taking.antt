@@ -1,13 +1,12 @@
 -- What is taken where an item is due, in the cells.
 use Rattle.std.proofs.Common.{◌≡◌, ℕ, suc, ◌+◌, ◌-◌, ◌<◌, ◌≤◌, Bool, true, nat_lt, List, [], ◌∷◌, ◌++◌, length, take, drop, refl, sym, ap, ◌∙◌, subst, inl, inr, arith, append_assoc, append-nil, length-drop, reverse, slice_range, ltb-true, ltb-false, length-append}
 use Rattle.std.proofs.Math.Seq.{drop-append_seam}
-use Rattle.cbor_head.specs.Prelude.{strict, OfCount, Holds, head, shortest, Bounds, spell, no_spellings, no_entries, HoldsOrIndefinite}
+use Rattle.cbor_head.specs.Prelude.{strict, OfCount, Holds, IsHead, head, shortest, Bounds, spell, no_spellings, no_entries, HoldsOrIndefinite}
 use Rattle.cbor_head.specs.declared.major.Major.{Major}
 use Rattle.cbor_head.specs.declared.major.Major.TheVariants.{Array, Map, Tag}
 use Rattle.cbor_head.specs.declared.order.KeyOrder.{KeyOrder}
 use Rattle.cbor_head.specs.declared.width.Width.{Width}
 use Rattle.cbor_head.specs.declared.width.Width.TheVariants.{Indefinite}
-use Rattle.cbor_automaton.proofs.Taking.{IsNumbered}
 use Rattle.cbor_keys.specs.Front.{front_of}
 use Rattle.cbor_canonical.proofs.Normal.{Holds-shortest}
 use Rattle.cbor_front.specs.inner.Leaves.{IsLeaf}
@@ -90,9 +89,9 @@ module _ (o : KeyOrder) (limits : Bounds) (input : List ℕ) (cs : List Level) (
 
   -- a container opens, whose head these bytes are
   module _ (used : ℕ) (inside : used ≤ length (drop at input)) (room : length s.ls < limits.depth) (kept : KeepsHere limits (strict o) s.ls (drop at input)) where
-    opened : (l : path.Level) (c : Level) (m : Major) (w : Width) (n : ℕ) → IsNumbered m → takes m ≤ limits.depth - length s.ls → Holds w n → drop at input ≡ head m w n ++ drop used (drop at input) → level_bytes l ≡ head m w n → path.IsClean (strict o) (length (bytes_before s.ls)) (limits.depth - suc (length s.ls)) l
+    opened : (l : path.Level) (c : Level) (m : Major) (w : Width) (n : ℕ) → IsHead m w n → takes m ≤ limits.depth - length s.ls → Holds w n → drop at input ≡ head m w n ++ drop used (drop at input) → level_bytes l ≡ head m w n → path.IsClean (strict o) (length (bytes_before s.ls)) (limits.depth - suc (length s.ls)) l
         → (at + used ≡ length (bytes_before (l ∷ s.ls)) → AreCells input (l ∷ s.ls) (c ∷ cs)) → StandsAt o limits input (c ∷ cs) (at + used)
-    opened l c m w n i deep holds e is clean are =
+    opened l c m w n h deep holds e is clean are =
         let b = drop at input in
         let hs = head m w n in
         let fit = kept_front limits (strict o) s.ls hs (drop used b) (subst (KeepsHere limits (strict o) s.ls) e kept) in
@@ -102,7 +101,7 @@ module _ (o : KeyOrder) (limits : Bounds) (input : List ℕ) (cs : List Level) (
           ls = l ∷ s.ls;
           clean = (room, clean, s.clean);
           keeps = subst (λ (x : List ℕ). KeepsToKinds limits (strict o) (bytes_before s.ls ++ x)) (sym is)
-              (keeps_begun limits (strict o) s.ls s.clean hs (head_begun (limits.depth - length s.ls) m w n i holds deep) (head_is_one m w n (open_or w n holds)) fit);
+              (keeps_begun limits (strict o) s.ls s.clean hs (head_begun (limits.depth - length s.ls) m w n h deep) (head_is_one m w n (open_or w n holds)) fit);
           are = are here;
           rest = drop used b;
           bytes = whole_is ∙ ap (λ (x : List ℕ). bytes_before s.ls ++ x) (e ∙ ap (λ (x : List ℕ). x ++ drop used b) (sym is)) ∙ sym (append_assoc (bytes_before s.ls) (level_bytes l) (drop used b));
@@ -115,7 +114,7 @@ module _ (o : KeyOrder) (limits : Bounds) (input : List ℕ) (cs : List Level) (
         let w = shortest n in
         let holds = Holds-shortest n h.0 in
         let from = from_none left in
-        opened (a_member w left no_spellings) (a_level Item left (at + used)) Array w n tt (omega (arith, room)) holds h.1 (append-nil (head Array w (0 + suc left)) ∙ ap (head Array w) from)
+        opened (a_member w left no_spellings) (a_level Item left (at + used)) Array w n holds (omega (arith, room)) holds h.1 (append-nil (head Array w (0 + suc left)) ∙ ap (head Array w) from)
         (record {
           holds = subst (HoldsOrIndefinite w) (sym from) (open_or w n holds);
           spelled = tt;
@@ -126,7 +125,7 @@ module _ (o : KeyOrder) (limits : Bounds) (input : List ℕ) (cs : List Level) (
         (λ here. ((is-definite w n holds, refl, refl), s.are))
     opener_opens Item left (inr (none, (n, range, e))) =
         let w = shortest n in
-        opened (tagged w n) (a_level Item left (at + used)) Tag w n tt (omega (arith, room)) (Holds-shortest n range) e refl (Holds-shortest n range, λ c x. x.1 refl) (λ here. ((refl, none), s.are))
+        opened (tagged w n) (a_level Item left (at + used)) Tag w n (Holds-shortest n range) (omega (arith, room)) (Holds-shortest n range) e refl (Holds-shortest n range, λ c x. x.1 refl) (λ here. ((refl, none), s.are))
     opener_opens Key left h =
         let n = suc left in
         let w = shortest n in
@@ -134,7 +133,7 @@ module _ (o : KeyOrder) (limits : Bounds) (input : List ℕ) (cs : List Level) (
         let from = from_none left in
         let l = a_key w left no_entries in
         let c = a_level Key left (at + used) in
-        opened l c Map w n tt (omega (arith, room)) holds h.1 (append-nil (head Map w (0 + suc left)) ∙ ap (head Map w) from)
+        opened l c Map w n holds (omega (arith, room)) holds h.1 (append-nil (head Map w (0 + suc left)) ∙ ap (head Map w) from)
         (record {
           holds = subst (HoldsOrIndefinite w) (sym from) (open_or w n holds);
           spelled = tt;

@@ -5,7 +5,7 @@ use Rattle.cbor_head.specs.Prelude.{Rules, OfHead, refusal}
 use Rattle.cbor_head.specs.declared.major.Major.{Major}
 use Rattle.cbor_head.specs.declared.reason.Reason.TheVariants.{Truncated, InvalidText}
 use Rattle.cbor_head.specs.declared.reason.Refusal.{Refusal}
-use Rattle.cbor_steps.specs.Whole.{IsArgument}
+use Rattle.cbor_grammar.specs.Argument.{IsArgument}
 use Rattle.cbor_judging.specs.Judged.{Never}
 use Rattle.cbor_judging.specs.RefusedHere.{IsRefusedBy}
 use Rattle.cbor_front.specs.declared.argument.Argument.{Argument}

@@ -2,7 +2,7 @@
 
 ghost use Rattle.std.specs.Prelude.{◌≡◌, ◌≢◌, ◌≤◌, ◌<◌, ◌-◌, ◌^◌, length, true, false, None, IfSome};
 ghost use Rattle.cbor_head.specs.Head.{Holds, shortest};
-ghost use Rattle.cbor_steps.specs.Whole.{IsArgument};
+ghost use Rattle.cbor_grammar.specs.Argument.{IsArgument};
 
 use byteorder::{BigEndian, ByteOrder};
 use cbor_head::Width;

@@ -1,12 +1,12 @@
 -- The argument behind a first byte, and the head that both spell.
 use Rattle.std.proofs.Common.{◌≡◌, ℕ, ◌+◌, ◌*◌, ◌^◌, ◌%◌, ◌<◌, ◌≤◌, List, ◌∷◌, ◌++◌, drop, get_or, sym, ap, ◌∙◌, arith}
 use Rattle.std.proofs.lemmas.Bool.Decides.{nat_tests}
-use Rattle.cbor_head.specs.Prelude.{major_number, shortest, with_argument}
+use Rattle.cbor_head.specs.Prelude.{IsHead, major_number, shortest, with_argument}
 use Rattle.cbor_head.specs.declared.major.Major.{Major}
 use Rattle.cbor_head.specs.declared.major.Major.TheVariants.{Array, Map, Tag, Simple}
 use Rattle.cbor_head.specs.declared.width.Width.{Width}
 use Rattle.cbor_head.specs.declared.width.Width.TheVariants.{Direct, One, Two, Four, Eight, Indefinite}
-use Rattle.cbor_steps.specs.Whole.{IsArgument}
+use Rattle.cbor_grammar.specs.Argument.{IsArgument}
 use Rattle.cbor_automaton.proofs.Taking.{IsNumbered}
 use Rattle.cbor_judging.proofs.Heads.{takes}
 
@@ -14,6 +14,11 @@ use Rattle.cbor_judging.proofs.Heads.{takes}
 
 pub direct-is : (n : ℕ) → n < 24 → shortest n ≡ Direct
 direct-is n h = grind (arith, nat_tests)
+
+-- a head of one byte
+pub direct_head : (m : Major) (n : ℕ) → n < 24 → IsHead m Direct n
+direct_head Simple n h = ((omega (arith, h), λ l. absurd (omega (arith, l, h))), sym (direct-is n h))
+direct_head _ n h = h
 
 -- the low bits of each width
 pub low_bits : (low : ℕ) (behind : List ℕ) (w : Width) (n : ℕ) (rest : List ℕ) → IsArgument low behind w n rest → low ≤ 24 → (low ≡ 24 → 32 ≤ n) → w ≡ shortest n

@@ -1,9 +1,9 @@
 -- Strings of chunks.
-use Rattle.std.proofs.Common.{◌≡◌, ℕ, ◌+◌, ◌-◌, ◌<◌, ◌≤◌, ◌⊎◌, Bool, true, false, true≢false, Option, Some, None, List, [], ◌∷◌, ◌++◌, length, replicate, flat_map, refl, sym, ap, ◌∙◌, subst, inl, inr, arith, append_assoc, append-nil, IsTrue, IsUtf8, length-append}
+use Rattle.std.proofs.Common.{◌≡◌, ℕ, ◌+◌, ◌-◌, ◌<◌, ◌≤◌, ◌⊎◌, Bool, true, false, Option, Some, None, List, [], ◌∷◌, ◌++◌, length, replicate, refl, sym, ap, ◌∙◌, subst, inl, inr, arith, append_assoc, append-nil, IsTrue, IsUtf8, length-append}
 use Rattle.std.specs.Str.Lossy.{utf8_valid_len}
 use Rattle.std.proofs.lemmas.Grind.{flat_map-append}
 use Rattle.std.proofs.lemmas.Str.{IsUtf8-nil, IsUtf8-append}
-use Rattle.cbor_head.specs.Prelude.{Holds, head, Bounds, AreBytes, Chunk, Spelling, byte_chunks, text_chunks, spell, chunk_bytes, chunks_joined, value_of, Rules, Complaint, complaint, OfHead, OfIndefinite, OfCount, OfPayload, OfString, refusal}
+use Rattle.cbor_head.specs.Prelude.{Holds, head, Bounds, AreBytes, Chunk, spell, chunks_joined, Rules, Complaint, complaint, OfHead, OfIndefinite, OfCount, OfString, refusal}
 use Rattle.cbor_head.specs.declared.major.Major.{Major}
 use Rattle.cbor_head.specs.declared.major.Major.TheVariants as majors
 use Rattle.cbor_head.specs.declared.width.Width.{Width}
@@ -27,11 +27,10 @@ use Rattle.cbor_judging.specs.Reading.{IsAt, IsFormRefusal, IsNextHead, Extends,
 use Rattle.cbor_judging.proofs.Items.{is-definite, head-count, extends-none, extends-on}
 use Rattle.cbor_judging.proofs.Scalars.{at-as}
 use Rattle.cbor_judging.proofs.Heads.{zero_bytes, zero_length}
-use Rattle.cbor_judging.proofs.Leaves.{IsChunked, bytes_chunked, text_chunked, chunks_bytes, chunk_judged, chunk, AreChunksSoFar, cut_chunk, chunk_complains, chunks_more, chunks_whole}
+use Rattle.cbor_judging.proofs.Leaves.{chunks_bytes, chunks_of, is-chunked, chunks-value, chunks_on, chunk_judged, chunk, AreChunksSoFar, cut_chunk, chunk_complains, chunks_more, chunks_whole}
 use Rattle.cbor_automaton.proofs.Taking.{nothing-taken}
 use Rattle.cbor_judging.proofs.Steps.{reached-as}
 use Rattle.cbor_judging.proofs.CutHeads.{chunk_cut}
-use Rattle.cbor_judging.proofs.WholeStrings.{is-text}
 
 -- ---- of chunks
 
@@ -43,18 +42,6 @@ pub record IsReadingChunks (r : Rules) (b : Bounds) (fs : List Container) (t x :
   pub at : IsAt b e (t ++ chunks_bytes (string_major text) done) (in_chunks (string_major text) fs)
   pub content_is : content ≡ chunks_joined done
   pub utf8 : text ≡ true → IsUtf8 content
-
-abbrev chunks_of : Bool → List Chunk → Spelling
-chunks_of true = text_chunks
-chunks_of false = byte_chunks
-
-is-chunked : (text : Bool) → IsChunked (string_major text) (chunks_of text)
-is-chunked true = text_chunked
-is-chunked false = bytes_chunked
-
-chunks-value : (text : Bool) (ks : List Chunk) → value_of (chunks_of text ks) ≡ string_value text (chunks_joined ks)
-chunks-value true ks = refl
-chunks-value false ks = refl
 
 -- the opener
 record Opener (r : Rules) (b : Bounds) (fs : List Container) (t x : List ℕ) (text : Bool) (next : Place) : Type 0 where
@@ -89,25 +76,18 @@ chunk-or-end d m fs w (kinds.Chunk n) bs next h = inl (n, refl)
 chunk-or-end d m fs w kinds.End bs next h = inr refl
 chunk-or-end d m fs w _ bs next h = absurd h
 
-string-clean : (text : Bool) (w : Width) (q : List ℕ) (r : Rules) (at : ℕ) → Never (OfHead r at (string_major text) w (length q)) → (text ≡ true → IsUtf8 q) → Never (OfString r at (string_major text) w q)
-string-clean true w q r at h u c g = elim g [ inl y ↦ h c y | inr y ↦ is-text r (at + length (head majors.Text w (length q))) q c (u refl) y ]
-string-clean false w q r at h u c g = h c g
-
-of-text : (text : Bool) (w : Width) (q : List ℕ) (r : Rules) (at : ℕ) (c : Complaint) → text ≡ true → OfPayload r (at + length (head (string_major text) w (length q))) q c → OfString r at (string_major text) w q c
-of-text true w q r at c e h = inr h
-of-text false w q r at c e h = absurd (true≢false (sym e))
-
 -- the head of a chunk that is not the shortest
-chunk-head-judged : (m : Major) (made : List Chunk → Spelling) → IsChunked m made → (done : List Chunk) (r : Rules) (at d : ℕ) → AreChunksSoFar r at m done → (w : Width) (n : ℕ) (c : Complaint) → Holds w n
-    → OfHead r (at + length (chunks_bytes m done)) m w n c → IsJudged r at d (chunks_bytes m done ++ head m w n) (Some c)
-chunk-head-judged m made kind done r at d a w n c h o =
+chunk-head-judged : (text : Bool) (done : List Chunk) (r : Rules) (at d : ℕ) → AreChunksSoFar r at (string_major text) done → (w : Width) (n : ℕ) (c : Complaint) → Holds w n
+    → OfHead r (at + length (chunks_bytes (string_major text) done)) (string_major text) w n c → IsJudged r at d (chunks_bytes (string_major text) done ++ head (string_major text) w n) (Some c)
+chunk-head-judged text done r at d a w n c h o =
+    let m = string_major text in
     let q : List ℕ = replicate n 0 in
     let same : length q ≡ n = zero_length n in
     let to = at + length (chunks_bytes m done) in
     let o2 : OfHead r to m w (length q) c = subst (λ (k : ℕ). OfHead r to m w k c) (sym same) o in
     let end = count_last r to m w (length q) c (head-count r to m w (length q) c (is-definite w n h) o2) in
     subst (λ (k : ℕ). IsJudged r at d (chunks_bytes m done ++ head m w k) (Some c)) same
-    (chunk_judged m made kind done r at d a.are a.opener_clean a.clean (chunk w q) (head m w (length q)) q (subst (Holds w) (sym same) h, zero_bytes n) refl (Some c)
+    (chunk_judged m (chunks_of text) (is-chunked text) done r at d a.are a.opener_clean a.clean (chunk w q) (head m w (length q)) q (subst (Holds w) (sym same) h, zero_bytes n) refl (Some c)
     (record {
       holds = of-string m o2;
       ends = omega (arith, end);
@@ -150,7 +130,7 @@ module _ (r : Rules) (b : Bounds) (fs : List Container) (t x : List ℕ) (text :
             last = c.last;
             splits = ap (λ (u : List ℕ). y ++ u) c.splits ∙ sym (append_assoc y c.p c.last);
             found = None;
-            judged = cut_chunk (string_major text) (chunks_of text) (is-chunked text) a.done r (length t) (b.depth - length fs) a.so_far b.depth fs c.begun c.p
+            judged = cut_chunk text a.done r (length t) (b.depth - length fs) a.so_far b.depth fs c.begun c.p
                 (nothing-taken b.depth (state_at (in_chunks (string_major text) fs)) c.begun c.p tt c.are_bytes c.ran);
             cause = (c.place ∙ ap length (append_assoc t y c.p), subst (λ (u : List ℕ). IsFormRefusal b u to f) (append_assoc t y s.bytes) c.refused);
           })
@@ -169,7 +149,7 @@ module _ (r : Rules) (b : Bounds) (fs : List Container) (t x : List ℕ) (text :
           → IsJudged r (length t) (b.depth - length fs) (chunks_bytes (string_major text) a.done ++ bs) (Some c)
       go c next bs (a_chunk w n) h o =
           subst (λ (u : List ℕ). IsJudged r (length t) (b.depth - length fs) (chunks_bytes (string_major text) a.done ++ u) (Some c)) (sym h.0)
-          (chunk-head-judged (string_major text) (chunks_of text) (is-chunked text) a.done r (length t) (b.depth - length fs) a.so_far w n c h.1 o)
+          (chunk-head-judged text a.done r (length t) (b.depth - length fs) a.so_far w n c h.1 o)
       go c next bs (a_head m w n) h o = absurd h
       go c next bs a_byte h o = absurd h
       go c next bs a_break h o = absurd o
@@ -184,7 +164,7 @@ module _ (r : Rules) (b : Bounds) (fs : List Container) (t x : List ℕ) (text :
         let m = string_major text in
         let y = chunks_bytes m a.done in
         let h = subst (λ (k : EventKind). IsTaking b.depth (in_chunks m fs) (mark_of ev.width k) n.bytes n.next) is n.taking in
-        let whole = chunks_whole m (chunks_of text) (is-chunked text) a.done r (length t) (b.depth - length fs) a.so_far in
+        let whole = chunks_whole text a.done r (length t) (b.depth - length fs) a.so_far in
         let bytes_are : y ++ n.bytes ≡ spell (chunks_of text a.done) = ap (λ (u : List ℕ). y ++ u) h.0 ∙ sym ((is-chunked text).bytes_are a.done) in (
           record {
             item = chunks_of text a.done;
@@ -212,11 +192,7 @@ module _ (r : Rules) (b : Bounds) (fs : List Container) (t x : List ℕ) (text :
       more-bytes : (q : List ℕ) → length q ≡ k → chunks_bytes (string_major text) a.done ++ (n.bytes ++ q) ≡ chunks_bytes (string_major text) (a.done ++ chunk ev.width q ∷ [])
       more-bytes q count =
           let m = string_major text in
-          let y = flat_map (chunk_bytes m) a.done in
-          append_assoc (head m Indefinite 0) y (n.bytes ++ q)
-          ∙ ap (λ (u : List ℕ). head m Indefinite 0 ++ (y ++ (u ++ q))) (hd.bytes_are ∙ ap (head m ev.width) (sym count))
-          ∙ ap (λ (u : List ℕ). head m Indefinite 0 ++ (y ++ u)) (sym (append-nil (head m ev.width (length q) ++ q)))
-          ∙ ap (λ (u : List ℕ). head m Indefinite 0 ++ u) (sym (flat_map-append (chunk_bytes m) a.done (chunk ev.width q ∷ [])))
+          ap (λ (u : List ℕ). chunks_bytes m a.done ++ (u ++ q)) (hd.bytes_are ∙ ap (head m ev.width) (sym count)) ∙ chunks_on m a.done (chunk ev.width q)
 
       -- it is read
       pub chunk-next : (content2 : List ℕ) (to : Option (List ℕ)) (new : ItemEventsView)
@@ -231,8 +207,8 @@ module _ (r : Rules) (b : Bounds) (fs : List Container) (t x : List ℕ) (text :
           let holds = subst (Holds ev.width) (sym reads.count) hd.holds in
           record {
             done = a.done ++ one ∷ [];
-            so_far = chunks_more m (chunks_of text) (is-chunked text) a.done r (length t) (b.depth - length fs) a.so_far one (holds, reads.are_bytes)
-                (string-clean text ev.width q r (length t + length y) (subst (λ (j : ℕ). Never (OfHead r (length t + length y) m ev.width j)) (sym reads.count) clean-head) utf8);
+            so_far = chunks_more text a.done r (length t) (b.depth - length fs) a.so_far one (holds, reads.are_bytes)
+                (subst (λ (j : ℕ). Never (OfHead r (length t + length y) m ev.width j)) (sym reads.count) clean-head) utf8;
             taken = extends-on x y (n.bytes ++ q) (chunks_bytes m (a.done ++ one ∷ [])) from mid to a.taken (Consumes-trans mid mid2 to n.bytes q n.consumed reads.consumed) (sym bytes_are);
             at = at-as b new (((t ++ y) ++ n.bytes) ++ q) (t ++ chunks_bytes m (a.done ++ one ∷ [])) (in_chunks m fs) (in_chunks m fs)
                 (append_assoc (t ++ y) n.bytes q ∙ append_assoc t y (n.bytes ++ q) ∙ ap (λ (u : List ℕ). t ++ u) bytes_are) refl reads.at;
@@ -245,7 +221,7 @@ module _ (r : Rules) (b : Bounds) (fs : List Container) (t x : List ℕ) (text :
       chunk-part p short are_bytes =
           let y = chunks_bytes (string_major text) a.done in
           subst (λ (u : List ℕ). IsJudged r (length t) (b.depth - length fs) (y ++ (u ++ p)) None) (sym hd.bytes_are)
-          (chunk_cut ev.width k p hd.holds are_bytes short r (length t) (b.depth - length fs) (string_major text) (chunks_of text) (is-chunked text) a.done a.so_far clean-head)
+          (chunk_cut ev.width k p hd.holds are_bytes short r (length t) (b.depth - length fs) text a.done a.so_far clean-head)
 
       chunk-split : (all p last : List ℕ) → all ≡ p ++ last → chunks_bytes (string_major text) a.done ++ (n.bytes ++ all) ≡ (chunks_bytes (string_major text) a.done ++ (n.bytes ++ p)) ++ last
       chunk-split all p last e =
@@ -292,9 +268,8 @@ module _ (r : Rules) (b : Bounds) (fs : List Container) (t x : List ℕ) (text :
                     splits = sym (append-nil (y ++ (n.bytes ++ q)));
                     found = Some c;
                     judged = subst (λ (u : List ℕ). IsJudged r (length t) (b.depth - length fs) (y ++ (u ++ q)) (Some c)) (sym head_as)
-                        (chunk_complains (string_major text) (chunks_of text) (is-chunked text) a.done r (length t) (b.depth - length fs) a.so_far ev.width q c
-                        (subst (Holds ev.width) (sym v.count) hd.holds, v.are_bytes) (subst (λ (j : ℕ). Never (OfHead r (length t + length y) (string_major text) ev.width j)) (sym v.count) clean-head)
-                        (of-text text ev.width q r (length t + length y) c z.0 (looks, v.no_text, refl)) (looks, v.no_text, refl));
+                        (chunk_complains text a.done r (length t) (b.depth - length fs) a.so_far z.0 ev.width q c
+                        (subst (Holds ev.width) (sym v.count) hd.holds, v.are_bytes) (subst (λ (j : ℕ). Never (OfHead r (length t + length y) (string_major text) ev.width j)) (sym v.count) clean-head) (looks, v.no_text, refl));
                     cause = (v.is ∙ ap (λ (j : ℕ). refusal InvalidText (j + utf8_valid_len q) (j + length q)) here, subst (λ (u : List ℕ). length u ≤ b.bytes) regroup v.within);
                   })
             ];

@@ -2,7 +2,7 @@
 use Rattle.std.proofs.Common.{◌≡◌, ℕ, zero, suc, ◌+◌, ◌*◌, ◌-◌, ◌^◌, ◌%◌, ◌<◌, ◌≤◌, ◌⊎◌, Bool, true, false, None, List, [], ◌∷◌, ◌++◌, length, replicate, refl, sym, ap, ◌∙◌, subst, inl, inr, arith, length-append}
 use Rattle.std.proofs.lemmas.Bool.{cases_lt}
 use Rattle.std.proofs.lemmas.List.{nil_from_length}
-use Rattle.cbor_head.specs.Prelude.{Rules, OfHead, Holds, head, major_number, Chunk, Spelling, AreBytes}
+use Rattle.cbor_head.specs.Prelude.{Rules, OfHead, Holds, head, major_number, Chunk, AreBytes}
 use Rattle.cbor_head.specs.declared.major.Major.{Major}
 use Rattle.cbor_head.specs.declared.major.Major.TheVariants.{Array, Map, Tag, Simple}
 use Rattle.cbor_head.specs.declared.width.Width.{Width}
@@ -14,7 +14,7 @@ use Rattle.cbor_automaton.proofs.Taking.{nothing-taken}
 use Rattle.cbor_judging.specs.Judged.{IsJudged, Never}
 use Rattle.cbor_grammar.proofs.ByteLists.{bytes_join}
 use Rattle.cbor_judging.proofs.Heads.{cut_head, zero_bytes, zero_length}
-use Rattle.cbor_judging.proofs.Leaves.{IsChunked, chunks_bytes, so-far, AreChunksSoFar, cut_payload}
+use Rattle.cbor_judging.proofs.Leaves.{chunks_bytes, so-far, AreChunksSoFar, cut_payload}
 use Rattle.cbor_judging.specs.Path.{Level}
 use Rattle.cbor_judging.specs.Reading.{string_major}
 use Rattle.cbor_judging.proofs.PathForm.{containers, containers_count}
@@ -116,9 +116,10 @@ module _ (w : Width) (n : ℕ) (q : List ℕ) (holds : Holds w n) (are : AreByte
         (so-far text w q more r at d spelled.0 spelled.1 some (subst (λ (k : ℕ). Never (OfHead r at m w k)) (sym (filled n q short)) clean))
 
     -- of a chunk behind others
-    pub chunk_cut : (m : Major) (made : List Chunk → Spelling) → IsChunked m made → (done : List Chunk) → AreChunksSoFar r at m done → Never (OfHead r (at + length (chunks_bytes m done)) m w n)
-        → IsJudged r at d (chunks_bytes m done ++ (head m w n ++ q)) None
-    chunk_cut m made kind done so_far clean =
+    pub chunk_cut : (text : Bool) (done : List Chunk) → AreChunksSoFar r at (string_major text) done → Never (OfHead r (at + length (chunks_bytes (string_major text) done)) (string_major text) w n)
+        → IsJudged r at d (chunks_bytes (string_major text) done ++ (head (string_major text) w n ++ q)) None
+    chunk_cut text done so_far clean =
+        let m = string_major text in
         let to = at + length (chunks_bytes m done) in
         subst (λ (k : ℕ). IsJudged r at d (chunks_bytes m done ++ (head m w k ++ q)) None) (filled n q short)
-        (cut_payload m made kind done r at d so_far w q more spelled some (subst (λ (k : ℕ). Never (OfHead r to m w k)) (sym (filled n q short)) clean))
+        (cut_payload text done r at d so_far w q more spelled some (subst (λ (k : ℕ). Never (OfHead r to m w k)) (sym (filled n q short)) clean))

@@ -1,6 +1,6 @@
 -- What the rules have against a head comes first of all that they have against its item.
 use Rattle.std.proofs.Common.{◌≡◌, ◌≢◌, ℕ, ◌+◌, ◌<◌, ◌≤◌, Some, List, [], length, replicate, refl, sym, subst, inl, arith, IsTrue}
-use Rattle.cbor_head.specs.Prelude.{Rules, Complaint, complaint, OfHead, OfIndefinite, OfCount, Holds, head, shortest, unsigned, negative, bytes, text, byte_chunks, text_chunks, tag}
+use Rattle.cbor_head.specs.Prelude.{Rules, plain, Complaint, complaint, OfHead, OfIndefinite, OfCount, Holds, head, shortest, unsigned, negative, bytes, text, byte_chunks, text_chunks, tag}
 use Rattle.cbor_head.specs.declared.major.Major.{Major}
 use Rattle.cbor_head.specs.declared.major.Major.TheVariants.{Unsigned, Negative, Bytes, Text, Array, Map, Tag, Simple}
 use Rattle.cbor_head.specs.declared.reason.Reason.TheVariants.{NotShortest, Indefinite as IndefiniteReason}
@@ -54,6 +54,10 @@ not_shortest r heads at d m w n i h l long = head_judged r at d w n (complaint (
 -- and else nothing is to be said against it
 pub shortest_clean : (r : Rules) (at : ℕ) (m : Major) (w : Width) (n : ℕ) → w ≡ shortest n → Never (OfHead r at m w n)
 shortest_clean r at m w n e c h = h.1 e
+
+-- the plain rules ask nothing of heads
+pub heads_free : (at : ℕ) (m : Major) (w : Width) (n : ℕ) → Never (OfHead plain at m w n)
+heads_free at m w n c h = cc h.0
 
 -- ---- an opener without length
 

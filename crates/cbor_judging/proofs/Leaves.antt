@@ -1,12 +1,12 @@
 -- Heads, payloads and chunks: the first complaint of an item, or none so far.
-use Rattle.std.proofs.Common.{ℕ, ◌+◌, ◌≡◌, ◌<◌, ◌≤◌, ◌⊎◌, Option, Some, None, List, [], ◌∷◌, ◌++◌, length, flat_map, refl, sym, ap, ◌∙◌, arith, subst, inl, inr, length-append, append_assoc, append-nil, suc, Bool, true, false, replicate}
+use Rattle.std.proofs.Common.{ℕ, ◌+◌, ◌≡◌, ◌<◌, ◌≤◌, ◌⊎◌, Option, Some, None, List, [], ◌∷◌, ◌++◌, length, flat_map, refl, sym, ap, ◌∙◌, arith, subst, inl, inr, length-append, append_assoc, append-nil, suc, Bool, true, false, true≢false, replicate, IsUtf8}
 use Rattle.std.specs.List.{AllByRecursion}
 use Rattle.std.proofs.lemmas.Grind.{flat_map-append}
-use Rattle.cbor_head.specs.Prelude.{head, Holds, Chunk, IsChunk, Spelling, bytes, text, byte_chunks, text_chunks, array, a_map, spell, chunk_bytes, chunked, IsSpelled, HoldsOrIndefinite, spellings_count, entries_count, depth, Rules, Complaint, OfHead, OfIndefinite, OfCount, OfPayload, OfString, OfChunks, Complains, AreBytes, value_of}
+use Rattle.cbor_head.specs.Prelude.{head, Holds, Chunk, IsChunk, Spelling, bytes, text, byte_chunks, text_chunks, array, a_map, spell, chunk_bytes, chunked, chunks_joined, IsSpelled, HoldsOrIndefinite, spellings_count, entries_count, depth, Rules, Complaint, OfHead, OfIndefinite, OfCount, OfPayload, OfString, OfChunks, Complains, AreBytes, value_of}
 use Rattle.cbor_judging.specs.Judged.{IsFinding, IsJudged, Never}
 use Rattle.cbor_judging.specs.Reading.{string_major, string_value}
 use Rattle.cbor_head.specs.declared.major.Major.{Major}
-use Rattle.cbor_head.specs.declared.major.Major.TheVariants.{Bytes, Text, Array, Map}
+use Rattle.cbor_head.specs.declared.major.Major.TheVariants.{Text, Array, Map}
 use Rattle.cbor_head.specs.declared.width.Width.{Width}
 use Rattle.cbor_head.specs.declared.width.Width.TheVariants.{Indefinite}
 use Rattle.cbor_grammar.proofs.Agree.{head_of, body, parts, later, payload_end, string_later}
@@ -137,11 +137,17 @@ pub record IsChunked (m : Major) (made : List Chunk → Spelling) : Type 0 where
   pub back : (r : Rules) (at : ℕ) (cs : List Chunk) (c : Complaint) → OfIndefinite r at c ⊎ OfChunks r (at + 1) m cs c → Complains r at (made cs) c
   pub opener : length (head m Indefinite 0) ≡ 1
 
-pub bytes_chunked : IsChunked Bytes byte_chunks
-bytes_chunked = record { bytes_are = λ cs. refl; spelled = λ cs h. h; flat = λ cs. refl; has = λ r at cs c h. h; back = λ r at cs c h. h; opener = refl }
+abbrev pub chunks_of : Bool → List Chunk → Spelling
+chunks_of true = text_chunks
+chunks_of false = byte_chunks
 
-pub text_chunked : IsChunked Text text_chunks
-text_chunked = record { bytes_are = λ cs. refl; spelled = λ cs h. h; flat = λ cs. refl; has = λ r at cs c h. h; back = λ r at cs c h. h; opener = refl }
+pub is-chunked : (is_text : Bool) → IsChunked (string_major is_text) (chunks_of is_text)
+is-chunked true = record { bytes_are = λ cs. refl; spelled = λ cs h. h; flat = λ cs. refl; has = λ r at cs c h. h; back = λ r at cs c h. h; opener = refl }
+is-chunked false = record { bytes_are = λ cs. refl; spelled = λ cs h. h; flat = λ cs. refl; has = λ r at cs c h. h; back = λ r at cs c h. h; opener = refl }
+
+pub chunks-value : (is_text : Bool) (ks : List Chunk) → value_of (chunks_of is_text ks) ≡ string_value is_text (chunks_joined ks)
+chunks-value true ks = refl
+chunks-value false ks = refl
 
 chunk_regroup : (h a p rest z : List ℕ) → (h ++ (a ++ ((p ++ rest) ++ []))) ++ z ≡ ((h ++ a) ++ p) ++ (rest ++ z)
 chunk_regroup h a p rest z =
@@ -193,6 +199,11 @@ chunk_judged m made kind done r at d are clean_opener clean k p rest is e found 
 abbrev pub chunk : Width → List ℕ → Chunk
 chunk w q = record { width = w; payload = q }
 
+-- one more behind the others
+pub chunks_on : (m : Major) (done : List Chunk) (k : Chunk) → chunks_bytes m done ++ chunk_bytes m k ≡ chunks_bytes m (done ++ k ∷ [])
+chunks_on m done k =
+    ap (λ (x : List ℕ). head m Indefinite 0 ++ x) (ap (λ (x : List ℕ). flat_map (chunk_bytes m) done ++ x) (sym (append-nil (chunk_bytes m k))) ∙ sym (flat_map-append (chunk_bytes m) done (k ∷ [])))
+
 -- the chunks so far of a string at a place, without complaint
 pub record AreChunksSoFar (r : Rules) (at : ℕ) (m : Major) (done : List Chunk) : Type 0 where
   pub are : AllByRecursion IsChunk done
@@ -203,7 +214,24 @@ pub of_string : (r : Rules) (at : ℕ) (m : Major) (w : Width) (q : List ℕ) (c
 of_string r at Text w q c h = h
 of_string r at _ w q c h = inl h
 
-module _ (m : Major) (made : List Chunk → Spelling) (kind : IsChunked m made) (done : List Chunk) (r : Rules) (at d : ℕ) (so_far : AreChunksSoFar r at m done) where
+of-text : (is_text : Bool) (w : Width) (q : List ℕ) (r : Rules) (at : ℕ) (c : Complaint) → is_text ≡ true → OfPayload r (at + length (head (string_major is_text) w (length q))) q c → OfString r at (string_major is_text) w q c
+of-text true w q r at c e h = inr h
+of-text false w q r at c e h = absurd (true≢false (sym e))
+
+string-clean : (is_text : Bool) (w : Width) (q : List ℕ) (r : Rules) (at : ℕ) → Never (OfHead r at (string_major is_text) w (length q)) → (is_text ≡ true → IsUtf8 q) → Never (OfString r at (string_major is_text) w q)
+string-clean true w q r at h u c g = elim g [ inl y ↦ h c y | inr y ↦ y.1 (u refl) ]
+string-clean false w q r at h u c g = h c g
+
+module _ (is_text : Bool) (done : List Chunk) (r : Rules) (at d : ℕ) (so_far : AreChunksSoFar r at (string_major is_text) done) where
+  abbrev m : Major
+  m = string_major is_text
+
+  abbrev made : List Chunk → Spelling
+  made = chunks_of is_text
+
+  kind : IsChunked m made
+  kind = is-chunked is_text
+
   -- between two chunks
   pub between : IsJudged r at d (chunks_bytes m done) None
   between = record {
@@ -259,17 +287,17 @@ module _ (m : Major) (made : List Chunk → Spelling) (kind : IsChunked m made) 
       )
 
   -- the next chunk is no text
-  pub chunk_complains : (w : Width) (q : List ℕ) (c : Complaint) → IsChunk (chunk w q) → Never (OfHead r (at + length (chunks_bytes m done)) m w (length q))
-      → OfString r (at + length (chunks_bytes m done)) m w q c → OfPayload r (at + length (chunks_bytes m done) + length (head m w (length q))) q c
+  pub chunk_complains : is_text ≡ true → (w : Width) (q : List ℕ) (c : Complaint) → IsChunk (chunk w q) → Never (OfHead r (at + length (chunks_bytes m done)) m w (length q))
+      → OfPayload r (at + length (chunks_bytes m done) + length (head m w (length q))) q c
       → IsJudged r at d (chunks_bytes m done ++ (head m w (length q) ++ q)) (Some c)
-  chunk_complains w q c h no_head o pay =
+  chunk_complains e w q c h no_head pay =
       let hd = head m w (length q) in
       let to = at + length (chunks_bytes m done) in
       let end = payload_end r (to + length hd) q c pay in
       let tight = payload_rank r (to + length hd) q c pay in
       chunk_judged m made kind done r at d so_far.are so_far.opener_clean so_far.clean (chunk w q) (hd ++ q) [] h (sym (append-nil (hd ++ q))) (Some c)
       (record {
-        holds = o;
+        holds = of-text is_text w q r to c e pay;
         ends = omega (arith, end, length-append hd q);
         first = λ e g l. elim (of_string r to m w q e g) [
           | inl x ↦ absurd (no_head e x)
@@ -278,13 +306,13 @@ module _ (m : Major) (made : List Chunk → Spelling) (kind : IsChunked m made) 
       })
 
   -- one chunk more
-  pub chunks_more : (k : Chunk) → IsChunk k → Never (OfString r (at + length (chunks_bytes m done)) m k.width k.payload) → AreChunksSoFar r at m (done ++ k ∷ [])
-  chunks_more k h fine = record {
+  pub chunks_more : (k : Chunk) → IsChunk k → Never (OfHead r (at + length (chunks_bytes m done)) m k.width (length k.payload)) → (is_text ≡ true → IsUtf8 k.payload) → AreChunksSoFar r at m (done ++ k ∷ [])
+  chunks_more k h no_head utf8 = record {
     are = are_chunks done (k ∷ []) so_far.are (h, tt);
     opener_clean = so_far.opener_clean;
     clean = λ c g. elim (chunks_split done (k ∷ []) r (at + 1) (at + length (chunks_bytes m done)) m c there g) [
       | inl x ↦ so_far.clean c x
-      | inr x ↦ elim x [ inl y ↦ fine c y | inr y ↦ y ]
+      | inr x ↦ elim x [ inl y ↦ string-clean is_text k.width k.payload r (at + length (chunks_bytes m done)) no_head utf8 c y | inr y ↦ y ]
     ];
   }
     where

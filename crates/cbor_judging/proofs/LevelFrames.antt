@@ -1,8 +1,9 @@
 -- The open containers with what is complete in them, as frames around the item that is due.
-use Rattle.std.proofs.Common.{◌≡◌, ℕ, suc, ◌+◌, ◌-◌, ◌<◌, ◌≤◌, List, [], ◌∷◌, ◌++◌, length, refl, sym, ap, ◌∙◌, subst, inl, inr, arith, ◌↔◌, length-append}
-use Rattle.cbor_head.specs.Prelude.{Holds, head, SpelledEntries, no_spellings, no_entries, entry, spell, spell_all, spell_entries, spellings_count, entries_count, plain}
+use Rattle.std.proofs.Common.{◌≡◌, ℕ, suc, ◌+◌, ◌-◌, ◌<◌, ◌≤◌, List, [], ◌∷◌, ◌++◌, length, refl, sym, ap, ◌∙◌, subst, inl, inr, arith, ◌↔◌, length-append, append_assoc}
+use Rattle.cbor_head.specs.Prelude.{IsBeginning, Holds, head, Spelling, SpelledEntries, no_spellings, no_entries, entry, spell, spell_all, spell_entries, spellings_count, entries_count, IsSpelled, depth, plain}
 use Rattle.cbor_head.specs.declared.major.Major.TheVariants as majors
 use Rattle.cbor_head.specs.declared.width.Width.TheVariants.{Indefinite}
+use Rattle.cbor_automaton.proofs.Beginnings.{shorter}
 use Rattle.cbor_judging.specs.Frame as frames
 use Rattle.cbor_judging.specs.Frame.{Frame, before, IsFrame, depth_beside}
 use Rattle.cbor_judging.specs.Judged.{Never}
@@ -12,8 +13,8 @@ use Rattle.cbor_judging.proofs.Judged.{zero_item, zeros, zeros_count, zeros_spel
 use Rattle.cbor_judging.proofs.OpenSteps.{before_snoc, none_open, opens as one_opens}
 use Rattle.cbor_judging.specs.Levels.{ArePairsTaken, Level, a_member, a_key, a_value, some_member, some_key, some_value, tagged, level_bytes, IsLevel, AreLevels, bytes_before}
 use Rattle.cbor_judging.proofs.Levels.{no-count, spelled-all, within-all, clean-all, pairs-spelled, pairs-within}
-use Rattle.cbor_judging.specs.Kinds.{IsKeyFrame, IsKeyDue, IsKeyLevel, IsKeyDueIn}
-use Rattle.cbor_judging.proofs.KindFrames.{due_last, IsAround}
+use Rattle.cbor_judging.specs.Kinds.{plug_all, IsKeyFrame, IsKeyDue, IsKeyLevel, IsKeyDueIn}
+use Rattle.cbor_judging.proofs.KindFrames.{due_last, IsAround, spell_along, item_along}
 
 -- ---- one container
 
@@ -123,3 +124,15 @@ around_levels d ls levels =
     let are = path_open d ls levels in
     let left : are.left ≡ d - length ls = omega (arith, are.levels, path_length ls) in
     record { levels = omega (arith, are.levels, left); path = subst (λ (n : ℕ). ArePath n (path ls)) left are.path; before_is = path_bytes ls; due = due_in ls }
+
+-- ---- the bytes so far are those of a beginning
+
+pub begins_so_far : (d : ℕ) (ls : List Level) (s : Spelling) → AreLevels d ls → IsSpelled s → depth s ≤ d - length ls → IsBeginning d (bytes_before ls ++ spell s)
+begins_so_far d ls s h i l =
+    let around = around_levels d ls h in
+    let r = spell_along (path ls) s in
+    let whole = item_along (path ls) s (d - length ls) around.path i l in
+    (plug_all (path ls) s, r.0, record { spelled = whole.0; within = omega (arith, whole.1, around.levels); bytes_are = r.1 ∙ ap (λ (x : List ℕ). x ++ (spell s ++ r.0)) around.before_is ∙ sym (append_assoc (bytes_before ls) (spell s) r.0) })
+
+pub begins_before : (d : ℕ) (ls : List Level) → AreLevels d ls → IsBeginning d (bytes_before ls)
+begins_before d ls h = shorter d (bytes_before ls) (spell zero_item) (begins_so_far d ls zero_item h (omega arith) (omega arith))

@@ -34,6 +34,7 @@ pub mod Placed
 pub mod Places
 pub mod PlainPaths
 pub mod Reasons
+pub mod RefusedChunks
 pub mod RefusedHere
 pub mod Scalars
 pub mod SpelledBytes

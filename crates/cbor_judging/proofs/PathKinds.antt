@@ -1,11 +1,11 @@
 -- That no key of another kind begins in the bytes so far, over the containers that are open around the item that is due.
 use Rattle.std.proofs.Common.{◌≡◌, ℕ, suc, ◌-◌, ◌<◌, ◌≤◌, ◌↔◌, List, [], ◌∷◌, ◌++◌, length, refl, sym, ap, ◌∙◌, subst, inl, inr, arith, length-append, append-nil}
-use Rattle.cbor_head.specs.Prelude.{Holds, head, Bounds, IsIntegerOrText, Rules, Complaint, OfKinds, Spelling, spell, IsSpelled, depth, value_of}
+use Rattle.cbor_head.specs.Prelude.{IsHead, head, Bounds, IsIntegerOrText, Rules, Complaint, OfKinds, Spelling, simple, spell, IsSpelled, depth, value_of}
 use Rattle.cbor_head.specs.declared.major.Major.{Major}
+use Rattle.cbor_head.specs.declared.major.Major.TheVariants.{Simple}
 use Rattle.cbor_head.specs.declared.width.Width.{Width}
 use Rattle.cbor_grammar.proofs.Alike.{not_break}
 use Rattle.cbor_grammar.proofs.KeyKinds.{byte_basic}
-use Rattle.cbor_automaton.proofs.Taking.{IsNumbered}
 use Rattle.cbor_judging.specs.Frame.{Frame, before}
 use Rattle.cbor_judging.specs.Kinds.{KeepsToKinds, IsKeyFrame, IsKeyDue, IsOfOneHead}
 use Rattle.cbor_judging.specs.OpenMaps.{before_all, ArePath}
@@ -76,9 +76,10 @@ kept_front limits r ls (b ∷ x) y k = record { before = k.before; here = k.here
 pub kept_before : (limits : Bounds) (r : Rules) (ls : List Level) → KeepsToKinds limits r (bytes_before ls) → KeepsHere limits r ls []
 kept_before limits r ls keeps = record { before = keeps; here = λ asked due. tt }
 
--- a head
-pub head_begun : (d : ℕ) (m : Major) (w : Width) (n : ℕ) → IsNumbered m → Holds w n → takes m ≤ d → Begins d (head m w n)
-head_begun d m w n i holds l = of_headed (headed d m w n i holds l)
+-- a definite head
+pub head_begun : (d : ℕ) (m : Major) (w : Width) (n : ℕ) → IsHead m w n → takes m ≤ d → Begins d (head m w n)
+head_begun d Simple w n h l = of_headed (record { item = simple n; spelled = h.0; within = omega arith; head_is = ap (λ (v : Width). head Simple v n) (sym h.1) })
+head_begun d m w n h l = of_headed (headed d m w n tt h l)
 
 -- ---- the bytes so far
 

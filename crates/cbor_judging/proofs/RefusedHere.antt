@@ -2,16 +2,16 @@
 use Rattle.std.proofs.Common.{◌≡◌, ◌≢◌, ℕ, suc, ◌+◌, ◌-◌, ◌*◌, ◌^◌, ◌%◌, ◌<◌, ◌≤◌, ◌⊎◌, Bool, true, false, None, List, [], ◌∷◌, ◌++◌, length, take, drop, refl, sym, ap, ◌∙◌, subst, inl, inr, arith, append_assoc, take-append-drop, append-nil, IsTrue, IsUtf8, length-append, length-take-le, ◌/◌, pow_pos}
 use Rattle.std.specs.Str.Lossy.{utf8_valid_len}
 use Rattle.std.proofs.lemmas.Bool.{cases_lt}
-use Rattle.cbor_head.specs.Prelude.{Rules, strict, complaint, OfHead, form, Holds, head, major_number, shortest, with_argument, Bounds, AreBytes, IsIntegerOrText, refusal, simple, spell, value_of}
+use Rattle.cbor_head.specs.Prelude.{Rules, strict, complaint, OfHead, form, Holds, head, major_number, shortest, with_argument, Bounds, AreBytes, IsIntegerOrText, refusal, spell, value_of}
 use Rattle.cbor_head.specs.declared.major.Major.{Major}
-use Rattle.cbor_head.specs.declared.major.Major.TheVariants.{Bytes, Text, Array, Map, Simple}
+use Rattle.cbor_head.specs.declared.major.Major.TheVariants.{Bytes, Text, Array, Map}
 use Rattle.cbor_head.specs.declared.order.KeyOrder.{KeyOrder}
 use Rattle.cbor_head.specs.declared.reason.Reason.{Reason}
 use Rattle.cbor_head.specs.declared.reason.Reason.TheVariants as reasons
 use Rattle.cbor_head.specs.declared.reason.Refusal.{Refusal}
 use Rattle.cbor_head.specs.declared.width.Width.{Width}
 use Rattle.cbor_head.specs.declared.width.Width.TheVariants.{Indefinite, Direct}
-use Rattle.cbor_steps.specs.Whole.{IsArgument}
+use Rattle.cbor_grammar.specs.Argument.{IsArgument}
 use Rattle.cbor_automaton.proofs.FirstByte.{split}
 use Rattle.cbor_judging.specs.Judged.{IsJudged, Never}
 use Rattle.cbor_judging.specs.Kinds.{KeepsToKinds, IsOfOneHead}
@@ -24,7 +24,7 @@ use Rattle.cbor_judging.specs.Path.{Level, a_member, a_key, bytes_before, AreCle
 use Rattle.cbor_judging.specs.RefusedHere.{IsMisplaced, IsPlaceFor, IsRefusedBy, HasNoBreak, MayBegin}
 use Rattle.cbor_judging.specs.PathKinds.{KeepsHere}
 use Rattle.cbor_judging.specs.Stop.{HasComplaint, IsStopped, EndsWithin}
-use Rattle.cbor_judging.proofs.Arguments.{low_bits, number_byte, fits as fits_in, numbered, spells, fits, direct-is}
+use Rattle.cbor_judging.proofs.Arguments.{low_bits, number_byte, fits as fits_in, numbered, spells, fits, direct_head}
 use Rattle.cbor_judging.proofs.CutHeads.{head_cut, string_cut}
 use Rattle.cbor_judging.proofs.FirstBytes.{misplaced, bad_simple}
 use Rattle.cbor_judging.proofs.HeadComplaints.{IsOpener as MayOpen, not_shortest, indefinite_length}
@@ -208,23 +208,10 @@ module _ (ls : List Level) (d : ℕ) (room : Bool) (first : ℕ) (small : first 
 
   -- a head of one byte
   direct_begins : first % 32 < 24 → Begins left (first ∷ [])
-  direct_begins l = elim (cases_lt first 224) [
-    | inl k ↦
-        let s = split first small in
-        let low : s.low < 24 = omega (arith, s.made, s.fits, l) in
-        subst (λ (x : ℕ). Begins left (x ∷ [])) (sym s.made) (head_begun left s.major Direct s.low (numbered s.major s.low first s.made k) low (fits s.major s.low first left s.made s.fits deep))
-    | inr k ↦
-        let n = first % 32 in
-        let below : first < 249 = placed.no_float in
-        let made : 224 + n ≡ first = omega (arith, k, below) in
-        record {
-          item = simple n;
-          spelled = (omega arith, λ j. absurd (omega (arith, j, l)));
-          within = omega arith;
-          rest = [];
-          bytes = ap (λ (w : Width). head Simple w n) (direct-is n l) ∙ ap (λ (x : ℕ). x ∷ []) made;
-        }
-  ]
+  direct_begins l =
+      let s = split first small in
+      let low : s.low < 24 = omega (arith, s.made, s.fits, l) in
+      subst (λ (x : ℕ). Begins left (x ∷ [])) (sym s.made) (head_begun left s.major Direct s.low (direct_head s.major s.low low) (fits s.major s.low first left s.made s.fits deep))
 
   -- the first byte of a longer one
   long_begins : 24 ≤ first % 32 → first % 32 < 28 → Begins left (first ∷ [])

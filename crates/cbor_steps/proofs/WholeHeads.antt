@@ -8,11 +8,12 @@ use Rattle.cbor_head.specs.declared.major.Major.{Major}
 use Rattle.cbor_head.specs.declared.major.Major.TheVariants.{Simple}
 use Rattle.cbor_head.specs.declared.width.Width.{Width}
 use Rattle.cbor_head.specs.declared.width.Width.TheVariants.{Direct, One, Two, Four, Eight, Indefinite}
+use Rattle.cbor_grammar.specs.Argument.{IsArgument}
 use Rattle.cbor_automaton.specs.Trace.{Mark, a_head}
 use Rattle.cbor_automaton.specs.Automaton.{Frame, State, at_item, in_head, after, close, tail, numbered_tail, major_at, has_room, run, reached, telling}
 use Rattle.cbor_automaton.specs.Marks.{marks_of, IsDefinite, IsProper}
 use Rattle.cbor_steps.specs.State.{major_of}
-use Rattle.cbor_steps.specs.Whole.{IsArgument, IsArgumentLeft, IsEventRun}
+use Rattle.cbor_steps.specs.Whole.{IsArgumentLeft, IsEventRun}
 use Rattle.cbor_steps.specs.declared.opening.Numbered.{Numbered}
 use Rattle.cbor_steps.specs.declared.opening.Numbered.TheVariants as numbered
 use Rattle.cbor_automaton.specs.declared.event.EventKind.{EventKind}

@@ -1,8 +1,9 @@
 -- Events that are taken from a slice at once.
-use Rattle.std.specs.Prelude.{◌≡◌, ℕ, ◌+◌, ◌-◌, ◌/◌, ◌%◌, ◌<◌, ◌≤◌, Bool, true, List, [], ◌∷◌, ◌++◌, length, take}
-use Rattle.cbor_head.specs.Prelude.{Holds, IsSimple, with_argument}
+use Rattle.std.specs.Prelude.{◌≡◌, ℕ, ◌+◌, ◌-◌, ◌/◌, ◌%◌, ◌<◌, ◌≤◌, Bool, true, List, [], ◌∷◌, length, take}
+use Rattle.cbor_head.specs.Prelude.{IsSimple}
 use Rattle.cbor_head.specs.declared.major.Major.{Major}
 use Rattle.cbor_head.specs.declared.width.Width.{Width}
+use Rattle.cbor_grammar.specs.Argument.{IsArgument}
 use Rattle.cbor_automaton.specs.Automaton.{Frame, State, in_head, after, mark, run, reached, has_room, major_at}
 use Rattle.cbor_automaton.specs.Marks.{marks_of, IsProper}
 use Rattle.cbor_automaton.specs.Pieces.{piece_by}
@@ -12,11 +13,6 @@ use Rattle.cbor_steps.specs.declared.token.Token.{Token}
 use Rattle.cbor_steps.specs.declared.token.Token.TheVariants as tokens
 use Rattle.cbor_steps.specs.declared.whole.DefiniteHead.{DefiniteHead}
 use Rattle.cbor_steps.specs.declared.whole.Whole.{Whole}
-
--- behind the low five bits of a first byte stands this argument, and then the rest
-pub record IsArgument (low : ℕ) (behind : List ℕ) (w : Width) (n : ℕ) (rest : List ℕ) : Type 0 where
-  pub spelled : (first : ℕ) → (first + low) ∷ behind ≡ with_argument w first n ++ rest
-  pub holds : Holds w n
 
 -- within these open containers an item may have this head, which stands in front of the bytes
 pub record IsHeadHere (d : ℕ) (fs : List Frame) (xs : List ℕ) (h : DefiniteHead) : Type 0 where

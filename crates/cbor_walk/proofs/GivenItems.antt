@@ -14,7 +14,7 @@ use Rattle.cbor_judging.specs.Kinds.{IsOfOneHead}
 use Rattle.cbor_judging.specs.Levels.{IsTaken, IsOpened, Level, a_member, a_key, some_member, some_key, tagged, level_bytes}
 use Rattle.cbor_judging.proofs.Levels.{of-opened}
 use Rattle.cbor_judging.specs.Reading.{string_major, string_value}
-use Rattle.cbor_steps.specs.Whole.{IsArgument}
+use Rattle.cbor_grammar.specs.Argument.{IsArgument}
 use Rattle.cbor_judging.proofs.Arguments.{low_bits, spells}
 use Rattle.cbor_walk.specs.Sink.{leaf_value}
 use Rattle.cbor_walk.specs.inner.Open.{counted, endless, opener}

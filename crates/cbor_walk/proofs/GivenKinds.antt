@@ -2,6 +2,7 @@
 use Rattle.std.proofs.Common.{◌≡◌, ℕ, suc, ◌+◌, ◌-◌, ◌<◌, ◌≤◌, Bool, false, true, List, [], ◌∷◌, ◌++◌, length, refl, sym, ap, ◌∙◌, subst, inl, inr, arith, append_assoc, append-nil, length-append}
 use Rattle.std.proofs.lemmas.List.{append_cancel_right, nil_from_length}
 use Rattle.cbor_head.specs.Prelude.{Complaint, plain, OfKinds, Holds, head, bounds, with_keys, Spelling, array, a_map, no_spellings, no_entries, spell, spell_all, spell_entries, spellings_count, entries_count, IsSpelled, depth}
+use Rattle.cbor_head.specs.Head as heads
 use Rattle.cbor_head.specs.Value as value
 use Rattle.cbor_head.specs.declared.keys.Keys.{Keys}
 use Rattle.cbor_head.specs.declared.keys.Keys.TheVariants.{Any, IntegersAndTexts}
@@ -10,7 +11,6 @@ use Rattle.cbor_head.specs.declared.major.Major.TheVariants as majors
 use Rattle.cbor_head.specs.declared.width.Width.{Width}
 use Rattle.cbor_head.specs.declared.width.Width.TheVariants.{Indefinite}
 use Rattle.cbor_grammar.proofs.KeyKinds.{of_kind_in, of_kind_entries}
-use Rattle.cbor_automaton.proofs.Taking.{IsNumbered}
 use Rattle.cbor_judging.specs.Kinds.{KeepsToKinds, IsKeyLevel, IsKeyDueIn, HasBasicFront}
 use Rattle.cbor_judging.specs.Levels.{Level, a_key, some_member, some_key, some_value, IsLevel, AreLevels, level_bytes, bytes_before, Standing}
 use Rattle.cbor_judging.proofs.Heads.{open_or, takes}
@@ -41,27 +41,27 @@ pub scalar-begun : (v : value.Value) (d : ℕ) (rest behind : List ℕ) → IsSc
 scalar-begun v d rest behind i = record { front = spell i.item; is = i.is; one = i.one; item = i.item; spelled = (i.taken d).spelled; within = (i.taken d).within; more = []; bytes = sym (append-nil (spell i.item)) }
 
 -- a head
-head-at-front : (d : ℕ) (m : Major) (w : Width) (n : ℕ) (behind : List ℕ) → IsNumbered m → takes m ≤ d → Holds w n → HasBegun d (head m w n ++ behind) behind
-head-at-front d m w n behind i l holds =
-    let g = head_begun d m w n i holds l in
+head-at-front : (d : ℕ) (m : Major) (w : Width) (n : ℕ) (behind : List ℕ) → heads.IsHead m w n → takes m ≤ d → Holds w n → HasBegun d (head m w n ++ behind) behind
+head-at-front d m w n behind h l holds =
+    let g = head_begun d m w n h l in
     record { front = head m w n; is = refl; one = head_is_one m w n (open_or w n holds); item = g.item; spelled = g.spelled; within = g.within; more = g.rest; bytes = g.bytes }
 
-head-has-begun : (d : ℕ) (m : Major) (n : ℕ) (rest behind : List ℕ) → IsNumbered m → takes m ≤ d → IsHead m n rest behind → HasBegun d rest behind
-head-has-begun d m n rest behind i l h = subst (λ (x : List ℕ). HasBegun d x behind) (sym h.is) (head-at-front d m h.width n behind i l h.holds)
+head-has-begun : (d : ℕ) (m : Major) (n : ℕ) (rest behind : List ℕ) (h : IsHead m n rest behind) → heads.IsHead m h.width n → takes m ≤ d → HasBegun d rest behind
+head-has-begun d m n rest behind h i l = subst (λ (x : List ℕ). HasBegun d x behind) (sym h.is) (head-at-front d m h.width n behind i l h.holds)
 
 -- of a container that is empty
 pub counted-begun : (d : ℕ) (m : Major) (due : Due) (n : ℕ) (rest behind : List ℕ) → Counts m due → 0 < d → IsHead m n rest behind → HasBegun d rest behind
-counted-begun d majors.Array due n rest behind k room h = head-has-begun d majors.Array n rest behind tt (omega (arith, room)) h
-counted-begun d majors.Map due n rest behind k room h = head-has-begun d majors.Map n rest behind tt (omega (arith, room)) h
+counted-begun d majors.Array due n rest behind k room h = head-has-begun d majors.Array n rest behind h h.holds (omega (arith, room))
+counted-begun d majors.Map due n rest behind k room h = head-has-begun d majors.Map n rest behind h h.holds (omega (arith, room))
 counted-begun d _ due n rest behind k room h = absurd k
 
 pub opener-begun : (d : ℕ) (m : Major) (n : ℕ) (c : Open) (rest behind : List ℕ) → 0 < d → IsOpener m n c rest behind → HasBegun d rest behind
 opener-begun d m n c rest behind room k =
     subst (λ (x : List ℕ). HasBegun d x behind) (sym k.is)
-    (of-opened (λ m n l. IsLevel 0 l → HasBegun d (level_bytes l ++ behind) behind) (λ w left n f. counted-head majors.Array w (0 + suc left) tt (omega (arith, room)) f.0) (λ n f. without-length 0x9f (array Indefinite no_spellings) refl (tt, tt) (omega (arith, room)))
-    (λ w left n f. counted-head majors.Map w (0 + suc left) tt (omega (arith, room)) f.0) (λ n f. without-length 0xbf (a_map Indefinite no_entries) refl (tt, tt) (omega (arith, room))) (λ w n f. head-at-front d majors.Tag w n behind tt (omega (arith, room)) f) m n k.level k.opened (k.fresh 0))
+    (of-opened (λ m n l. IsLevel 0 l → HasBegun d (level_bytes l ++ behind) behind) (λ w left n f. counted-head majors.Array w (0 + suc left) f.0 (omega (arith, room)) f.0) (λ n f. without-length 0x9f (array Indefinite no_spellings) refl (tt, tt) (omega (arith, room)))
+    (λ w left n f. counted-head majors.Map w (0 + suc left) f.0 (omega (arith, room)) f.0) (λ n f. without-length 0xbf (a_map Indefinite no_entries) refl (tt, tt) (omega (arith, room))) (λ w n f. head-at-front d majors.Tag w n behind f (omega (arith, room)) f) m n k.level k.opened (k.fresh 0))
   where
-    counted-head : (m : Major) (w : Width) (n : ℕ) → IsNumbered m → takes m ≤ d → Holds w n → HasBegun d ((head m w n ++ []) ++ behind) behind
+    counted-head : (m : Major) (w : Width) (n : ℕ) → heads.IsHead m w n → takes m ≤ d → Holds w n → HasBegun d ((head m w n ++ []) ++ behind) behind
     counted-head m w n i l holds = subst (λ (x : List ℕ). HasBegun d (x ++ behind) behind) (sym (append-nil (head m w n))) (head-at-front d m w n behind i l holds)
 
     without-length : (first : ℕ) (item : Spelling) → spell item ≡ first ∷ 0xff ∷ [] → IsSpelled item → depth item ≤ d → HasBegun d (first ∷ behind) behind

@@ -8,16 +8,15 @@ use Rattle.cbor_head.specs.declared.major.Major.TheVariants.{Text}
 use Rattle.cbor_head.specs.declared.reason.Reason.TheVariants.{InvalidText}
 use Rattle.cbor_grammar.proofs.ByteLists.{bytes_front}
 use Rattle.cbor_judging.proofs.CleanParts.{clean-front}
+use Rattle.cbor_judging.proofs.HeadComplaints.{heads_free}
 use Rattle.cbor_judging.proofs.Leaves.{text_complains}
+use Rattle.cbor_judging.proofs.RefusedChunks.{AreChunksRead, no_text}
 use Rattle.cbor_judging.specs.Judged.{IsJudged}
 use Rattle.cbor_judging.specs.Levels.{Level, Standing, bytes_before}
 use Rattle.cbor_judging.specs.Reading.{string_major}
 use Rattle.cbor_walk.specs.inner.Building.{StandsBefore, IsHeadDue, IsDueFor}
 use Rattle.cbor_walk.specs.inner.Parts.{IsHead, IsPayload, chunked_from}
 use Rattle.cbor_walk.specs.declared.open.Open.{Open}
-use Rattle.cbor_walk.proofs.Chunked.{AreRead}
-use Rattle.cbor_walk.proofs.ChunkStops.{to_its_end, in_front, its_complaint, no_text_judged}
-use Rattle.cbor_walk.proofs.Faults.{heads_free}
 use Rattle.cbor_walk.proofs.GivenItems.{string-bytes}
 
 decided : (q : List ℕ) → ((IsUtf8 q → ⊥) → ⊥) → IsUtf8 q
@@ -55,8 +54,7 @@ module _ (S : Type 0) (stands : S → S → Standing → Type 0) (trusts t : Boo
   known-string behind (rest, h, (d, outer, (start, input, due))) are p =
       looked-through trusts t n size behind p (λ e text. no-other-text S stands trusts _ d input (top ∷ outer) rest due e n behind (subst (λ (u : Bool). IsHead (string_major u) n rest behind) text h) p.inside are)
 
-  pub known-chunk : (behind rest : List ℕ) → IsDueFor S stands trusts top g (chunked_from t behind) → (r : AreRead t behind rest) (from : List ℕ) → IsHead (string_major t) n rest from → IsPayload trusts t n size from → IsPayload false t n size from
+  pub known-chunk : (behind rest : List ℕ) → IsDueFor S stands trusts top g (chunked_from t behind) → AreChunksRead t (chunked_from t behind) rest → (from : List ℕ) → IsHead (string_major t) n rest from → IsPayload trusts t n size from → IsPayload false t n size from
   known-chunk behind rest (d, outer, (start, input, due)) r from h p = looked-through trusts t n size from p (λ e text none.
-      never-refused S stands trusts _ d input (top ∷ outer) (chunked_from t behind) due e (to_its_end t behind rest r h.width n from h.is h.holds p.inside) (drop n from) (in_front t behind rest r h.width n from h.is h.holds p.inside)
-      (its_complaint t behind rest r h.width n from h.is h.holds p.inside (length (bytes_before due.ls)))
-      (no_text_judged t behind rest r h.width n from h.is h.holds p.inside text none (length (bytes_before due.ls)) (d - length due.ls)))
+      let x = no_text t (chunked_from t behind) rest r h.width n from h.is h.holds text p.inside none in
+      never-refused S stands trusts _ d input (top ∷ outer) (chunked_from t behind) due e x.front (drop n from) x.splits _ (x.judged (length (bytes_before due.ls)) (d - length due.ls)))

@@ -1,17 +1,15 @@
 -- The open map with a key that is the same as an earlier one, and the verdict.
 use Rattle.std.proofs.Common.{◌≡◌, ℕ, suc, ◌+◌, ◌-◌, ◌^◌, ◌<◌, ◌≤◌, true, List, [], ◌∷◌, ◌++◌, length, take, refl, sym, ap, ◌∙◌, subst, inl, inr, arith, append_assoc, append-nil, ◌⊎◌, length-append}
-use Rattle.cbor_head.specs.Prelude.{IsBeginning, plain, complaint, Bounds, Spelling, a_map, unsigned, spell, IsSpelled, depth, IsVerdict, refused, refusal}
+use Rattle.cbor_head.specs.Prelude.{IsBeginning, plain, complaint, Bounds, Spelling, a_map, spell, IsSpelled, depth, IsVerdict, refused, refusal}
 use Rattle.cbor_head.specs.declared.order.KeyOrder.{KeyOrder}
 use Rattle.cbor_head.specs.declared.reason.Reason.TheVariants.{RepeatedKey}
-use Rattle.cbor_head.specs.declared.width.Width.TheVariants.{Direct}
-use Rattle.cbor_automaton.proofs.Beginnings.{shorter}
 use Rattle.cbor_builder.specs.Built.{keys_so_far, IsFirstRepeat, AreOpenKeysDifferent, IsRepeatTold, open_maps}
 use Rattle.cbor_builder.specs.declared.repeat.Repeat.{Repeat}
 use Rattle.cbor_judging.specs.Given.{level_open, opens, full_open}
-use Rattle.cbor_judging.specs.Kinds.{KeepsToKinds, plug_all}
+use Rattle.cbor_judging.specs.Kinds.{KeepsToKinds}
 use Rattle.cbor_judging.specs.Levels.{Level, a_member, a_key, a_value, some_member, some_key, some_value, tagged, level_bytes, AreLevels, bytes_before}
-use Rattle.cbor_judging.proofs.KindFrames.{spell_along, item_along, keeps_front}
-use Rattle.cbor_judging.proofs.LevelFrames.{path, path_length, path_bytes, path_open}
+use Rattle.cbor_judging.proofs.KindFrames.{keeps_front}
+use Rattle.cbor_judging.proofs.LevelFrames.{begins_so_far, begins_before}
 use Rattle.cbor_judging.proofs.PathVerdict.{complaint_stops}
 use Rattle.cbor_walk.specs.Sink.{is_map as its_kind, IsToldIn, IsToldFull}
 use Rattle.cbor_walk.specs.inner.Open.{opener, full_opener}
@@ -20,20 +18,6 @@ use Rattle.cbor_walk.specs.inner.Repeated.{IsKeyTold}
 use Rattle.cbor_walk.proofs.LevelPaths.{repeat_of_whole}
 use Rattle.cbor_walk.proofs.Repeats.{repeated_by_bytes}
 use Rattle.cbor_walk.proofs.ToldKeys.{IsKeyIn, key_in_level, key_in_map}
-
--- ---- the bytes so far are those of a beginning
-
-pub begins_so_far : (d : ℕ) (ls : List Level) (s : Spelling) → AreLevels d ls → IsSpelled s → depth s ≤ d - length ls → IsBeginning d (bytes_before ls ++ spell s)
-begins_so_far d ls s h i l =
-    let open_are = path_open d ls h in
-    let levels = open_are.levels in
-    let fs = path ls in
-    let r = spell_along fs s in
-    let whole = item_along fs s open_are.left open_are.path i (omega (arith, l, levels, path_length ls)) in
-    (plug_all fs s, r.0, record { spelled = whole.0; within = omega (arith, whole.1, levels); bytes_are = r.1 ∙ ap (λ (x : List ℕ). x ++ (spell s ++ r.0)) (path_bytes ls) ∙ sym (append_assoc (bytes_before ls) (spell s) r.0) })
-
-begins_before : (d : ℕ) (ls : List Level) → AreLevels d ls → IsBeginning d (bytes_before ls)
-begins_before d ls h = shorter d (bytes_before ls) (spell (unsigned Direct 0)) (begins_so_far d ls (unsigned Direct 0) h (omega arith) (omega arith))
 
 -- ---- the map
 

@@ -1,11 +1,13 @@
-use Rattle.std.proofs.Common.{◌≡◌, ◌∙◌, ◌-◌, Bool, length, take, drop, refl, sym, ap, subst, arith, length-drop}
+use Rattle.std.proofs.Common.{◌≡◌, ◌∙◌, ◌+◌, ◌-◌, Bool, length, take, drop, refl, sym, ap, subst, arith, length-drop}
 use Rattle.std.proofs.Math.Seq.{take-length}
 use Rattle.std.proofs.lemmas.List.{nil_from_length}
 use Rattle.cbor_head.specs.Prelude.{major_number}
 use Rattle.cbor_grammar.proofs.ByteLists.{are_bytes}
 use Rattle.cbor_judging.specs.Reading.{string_major}
-use Rattle.cbor_walk.proofs.ChunkStops.{chunks_end_here, chunk_head_cut_here, no_chunk_here, chunk_fault_here, chunk-head, chunk-text, text-chunk}
-use Rattle.cbor_walk.proofs.Chunked.{AreRead, none-read, one-read}
+use Rattle.cbor_judging.proofs.RefusedChunks.{AreChunksRead, chunks_end_here, chunk_head_cut_here, no_chunk_here}
+use Rattle.cbor_walk.specs.inner.Parts.{chunked_from}
+use Rattle.cbor_walk.proofs.ChunkStops.{chunk_fault_here, chunk-head, chunk-text, text-chunk}
+use Rattle.cbor_walk.proofs.Chunked.{none-read, one-read}
 use Rattle.cbor_walk.proofs.chunk_fault.chunks_fault.Goals as goal
 use Rattle.cbor_walk.proofs.chunk_fault.chunks_fault.Goals.{then-is_text, else-is_text, then-first-kind-via-then-first-kind, then-first-kind-via-else-first-kind+then-low-gt27}
 
@@ -19,22 +21,28 @@ chunks-init c = record {
 }
 
 pub returns-in_default : goal.returns-in_default
-returns-in_default c = chunks_end_here c.args.is_text c.args.behind.now c.chunks.rest.now c.chunks.invariant.read c.args.at c.refusal_at.result (nil_from_length c.chunks.rest.now c.in_default.ensures.cases) c.refusal_at.ensures
+returns-in_default c = λ room.
+    let a = c.args in
+    chunks_end_here a.is_text (chunked_from a.is_text a.behind.now) c.chunks.rest.now c.chunks.invariant.read room a.at (a.at + 1 + length a.behind.now) (omega arith) c.refusal_at.result c.refusal_at.ensures (nil_from_length c.chunks.rest.now c.in_default.ensures.cases)
 
 pub returns-then-first-kind : goal.returns-then-first-kind
-returns-then-first-kind c =
+returns-then-first-kind c = λ room.
+    let a = c.args in
     let s = c.chunks.invariant in
-    no_chunk_here c.args.is_text c.args.behind.now c.chunks.rest.now s.read c.args.at c.refusal_at-then-first-kind.result c.in-Some.first.now c.in-Some.behind.now c.in-Some.ensures.cases.0 c.if-first.false
-    (λ e. elim c.then-first-kind.branch [
+    no_chunk_here a.is_text (chunked_from a.is_text a.behind.now) c.chunks.rest.now s.read room a.at (a.at + 1 + length a.behind.now) (omega arith) c.refusal_at-then-first-kind.result c.in-Some.first.now c.in-Some.behind.now c.in-Some.ensures.cases.0
+    c.refusal_at-then-first-kind.ensures c.if-first.false (λ e. elim c.then-first-kind.branch [
       | then-first-kind-via-then-first-kind w ↦ absurd (w.if-first-kind.true (e ∙ sym s.kind))
       | then-first-kind-via-else-first-kind+then-low-gt27 w ↦ w.if-low-gt27.true
-    ]) c.refusal_at-then-first-kind.ensures
+    ])
 
 pub returns-in_default-read_argument : goal.returns-in_default-read_argument
-returns-in_default-read_argument c =
+returns-in_default-read_argument c = λ room.
+    let a = c.args in
     let s = c.chunks.invariant in
-    chunk_head_cut_here c.args.is_text c.args.behind.now c.chunks.rest.now s.read c.args.at c.refusal_at-in_default-read_argument.result c.in-Some.first.now c.in-Some.behind.now c.in-Some.ensures.cases.0
-    (c.if-first-kind.false ∙ s.kind) (c.in_default-read_argument.ensures.long refl) (let low = c.if-low-gt27.false in omega (arith, low)) (c.in_default-read_argument.ensures.cut refl) c.refusal_at-in_default-read_argument.ensures
+    let low = c.if-low-gt27.false in
+    let none = c.in_default-read_argument.ensures in
+    chunk_head_cut_here a.is_text (chunked_from a.is_text a.behind.now) c.chunks.rest.now s.read room a.at (a.at + 1 + length a.behind.now) (omega arith) c.refusal_at-in_default-read_argument.result c.in-Some.first.now c.in-Some.behind.now c.in-Some.ensures.cases.0
+    c.refusal_at-in_default-read_argument.ensures (c.if-first-kind.false ∙ s.kind) (none.long refl) (omega (arith, low)) (none.cut refl)
 
 pub returns-in-Some-string_fault : goal.returns-in-Some-string_fault
 returns-in-Some-string_fault c =
@@ -62,7 +70,7 @@ chunks-preserved c =
     let whole : take (length from - h.number) (drop h.number from) ≡ drop h.number from = ap (λ n. take n (drop h.number from)) (sym (length-drop h.number from)) ∙ take-length (drop h.number from) in
     let found = c.in_default-string_fault.ensures in
     record {
-      read = subst (AreRead t c.args.behind.now) (sym whole)
-          (one-read t c.args.behind.now rest s.read h.number from (chunk-head t rest first behind split high h c.in-Some-read_argument.ensures.spelled) found.inside (λ e. found.utf8 (chunk-text t rest first behind split high e))).0;
+      read = subst (AreChunksRead t (chunked_from t c.args.behind.now)) (sym whole)
+          (one-read t (chunked_from t c.args.behind.now) rest s.read h.number from (chunk-head t rest first behind split high h c.in-Some-read_argument.ensures.spelled) found.inside (λ e. found.utf8 (chunk-text t rest first behind split high e))).0;
       kind = s.kind;
     }

@@ -1,12 +1,13 @@
 use Rattle.std.proofs.Common.{◌≡◌, length}
 use Rattle.cbor_head.specs.Prelude.{major_number}
 use Rattle.cbor_judging.specs.Reading.{string_major}
-use Rattle.cbor_walk.proofs.Chunked.{AreRead}
+use Rattle.cbor_judging.proofs.RefusedChunks.{AreChunksRead}
+use Rattle.cbor_walk.specs.inner.Parts.{chunked_from}
 use Rattle.cbor_walk.proofs.chunk_fault.chunks_fault.Given as goal
 
 abbrev pub invariant-chunks : goal.invariant-chunks
 invariant-chunks l = record {
-  read : AreRead l.is_text l.behind l.rest;
+  read : AreChunksRead l.is_text (chunked_from l.is_text l.behind) l.rest;
   kind : l.kind ≡ major_number (string_major l.is_text);
 }
 

@@ -1,0 +1,9 @@
+-- The argument of a head, by its first byte (RFC 8949, section 3).
+use Rattle.std.specs.Prelude.{ℕ, ◌≡◌, ◌+◌, List, ◌∷◌, ◌++◌}
+use Rattle.cbor_head.specs.Prelude.{Holds, with_argument}
+use Rattle.cbor_head.specs.declared.width.Width.{Width}
+
+-- behind the low five bits of a first byte stands this argument, and then the rest
+pub record IsArgument (low : ℕ) (behind : List ℕ) (w : Width) (n : ℕ) (rest : List ℕ) : Type 0 where
+  pub spelled : (first : ℕ) → (first + low) ∷ behind ≡ with_argument w first n ++ rest
+  pub holds : Holds w n

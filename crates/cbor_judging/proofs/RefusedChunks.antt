@@ -1,0 +1,184 @@
+-- What the plain rules refuse where a chunk of a string is due, whatever walk stands there.
+use Rattle.std.proofs.Common.{◌≡◌, ◌≢◌, ℕ, suc, ◌+◌, ◌-◌, ◌*◌, ◌^◌, ◌/◌, ◌%◌, ◌<◌, ◌≤◌, Bool, true, false, cond, Some, None, List, [], ◌∷◌, ◌++◌, length, take, drop, get_or, flat_map, refl, sym, ap, ap₂, ◌∙◌, subst, inl, inr, arith, append_assoc, append-nil, IsUtf8, length-append, length-take-le, take-append-drop}
+use Rattle.std.specs.List.{AllByRecursion}
+use Rattle.std.specs.Str.Lossy.{utf8_valid_len}
+use Rattle.cbor_head.specs.Prelude.{plain, complaint, Holds, head, major_number, Chunk, IsChunk, chunk_bytes, AreBytes, refusal}
+use Rattle.cbor_head.specs.declared.major.Major.{Major}
+use Rattle.cbor_head.specs.declared.major.Major.TheVariants.{Bytes, Text}
+use Rattle.cbor_head.specs.declared.reason.Reason.TheVariants.{Truncated, BadChunk, InvalidText}
+use Rattle.cbor_head.specs.declared.reason.Refusal.{Refusal}
+use Rattle.cbor_head.specs.declared.width.Width.{Width}
+use Rattle.cbor_head.specs.declared.width.Width.TheVariants.{One, Two, Four, Eight, Indefinite}
+use Rattle.cbor_automaton.specs.Trace.{a_head, chunk_marks, more_bytes}
+use Rattle.cbor_automaton.specs.Automaton.{Frame, at_item, in_chunks, Next, refuses, indefinite_length, opening, in_string, is_major, run, reached, telling}
+use Rattle.cbor_automaton.proofs.Beginnings.{telling_all-reached}
+use Rattle.cbor_automaton.proofs.Forward.{Starts, chunk_starts, chunks-taken}
+use Rattle.cbor_automaton.proofs.Openings.{IsLong, by-byte}
+use Rattle.cbor_automaton.proofs.Taking.{nothing-taken}
+use Rattle.cbor_grammar.proofs.ByteLists.{bytes_front, bytes_back}
+use Rattle.cbor_judging.specs.Judged.{IsJudged}
+use Rattle.cbor_judging.specs.Kinds.{IsOfOneHead}
+use Rattle.cbor_judging.specs.Path.{bytes_before}
+use Rattle.cbor_judging.specs.PathKinds.{KeepsHere}
+use Rattle.cbor_judging.specs.Reading.{string_major}
+use Rattle.cbor_judging.specs.RefusedHere.{IsRefusedBy}
+use Rattle.cbor_judging.specs.Stop.{HasComplaint, HasBadByte}
+use Rattle.cbor_judging.proofs.CutHeads.{Within, head_starts, chunk_cut}
+use Rattle.cbor_judging.proofs.HeadComplaints.{heads_free}
+use Rattle.cbor_judging.proofs.KindBytes.{one_head_front}
+use Rattle.cbor_judging.proofs.Leaves.{AreChunksSoFar, chunks_bytes, between, cut_chunk, chunk_complains}
+use Rattle.cbor_judging.proofs.PathForm.{containers}
+use Rattle.cbor_judging.proofs.PathKinds.{kept_front}
+use Rattle.cbor_judging.proofs.PathStops.{complaint_here, bad_byte_here}
+use Rattle.cbor_judging.proofs.RefusedHere.{ends_here}
+
+-- ---- by the automaton
+
+starts : (d : ℕ) (fs : List Frame) (t : Bool) → Starts d (in_chunks (string_major t) fs) true (string_major t) fs
+starts d fs true = chunk_starts d Text fs (λ k. refl) refl
+starts d fs false = chunk_starts d Bytes fs (λ k. refl) refl
+
+-- the opener and whole chunks lead to where the next may begin
+module _ (d : ℕ) (fs : List Frame) (ks : List Chunk) (are : AllByRecursion IsChunk ks) where
+  chunks_lead : (t : Bool) → run d (in_chunks (string_major t) fs) (flat_map (chunk_bytes (string_major t)) ks) ≡ reached (in_chunks (string_major t) fs) (flat_map chunk_marks ks ++ [])
+  chunks_lead t =
+      let m = string_major t in
+      ap (run d (in_chunks m fs)) (sym (append-nil (flat_map (chunk_bytes m) ks))) ∙ chunks-taken d m fs (starts d fs t) ks [] are ∙ telling_all-reached (flat_map chunk_marks ks) [] (in_chunks m fs)
+
+  string_leads : (t : Bool) → run d (at_item fs) (chunks_bytes (string_major t) ks) ≡ reached (in_chunks (string_major t) fs) (a_head (string_major t) Indefinite 0 ∷ (flat_map chunk_marks ks ++ []))
+  string_leads true = ap (telling (a_head Text Indefinite 0)) (chunks_lead true)
+  string_leads false = ap (telling (a_head Bytes Indefinite 0)) (chunks_lead false)
+
+other_major : (t : Bool) (k : Major) → (major_number k ≡ major_number (string_major t) → ⊥) → is_major (string_major t) k ≡ false
+other_major true Text f = absurd (f refl)
+other_major true _ f = refl
+other_major false Bytes f = absurd (f refl)
+other_major false _ f = refl
+
+long_low : (k : Major) (w : Width) (j low : ℕ) → IsLong k w j low → low < 28
+long_low k w j low i = go w (ap (λ (xs : List ℕ). get_or xs 0 0) (i.made 0)) i.size
+  where
+    go : (w : Width) → get_or (head k w 0) 0 0 ≡ 32 * major_number k + low → more_bytes w ≡ suc j → low < 28
+    go One e size = omega (arith, e)
+    go Two e size = omega (arith, e)
+    go Four e size = omega (arith, e)
+    go Eight e size = omega (arith, e)
+    go _ e size = absurd (cc size)
+
+module _ (t : Bool) (fs : List Frame) where
+  -- no chunk of this type begins so, and it is no break
+  abbrev IsNone : ℕ → Type 0
+  IsNone c = (c ≢ 0xff) × (c / 32 ≡ major_number (string_major t) → 28 ≤ c % 32)
+
+  of_other : (k : Major) (low : ℕ) (next : Next) → low < 28 → IsNone (32 * major_number k + low) → cond (is_major (string_major t) k) next (refuses BadChunk) ≡ refuses BadChunk
+  of_other k low next h none = ap (λ b. cond b next (refuses BadChunk)) (other_major t k (λ e. let wide = none.1 (omega (arith, e, h)) in omega (arith, wide, h)))
+
+  of_open : (k : Major) → in_string (string_major t) fs (indefinite_length k) ≡ refuses BadChunk
+  of_open Bytes = refl
+  of_open _ = refl
+
+  no_chunk : (c : ℕ) → c < 256 → IsNone c → in_string (string_major t) fs (opening c) ≡ refuses BadChunk
+  no_chunk = by-byte (λ c o. IsNone c → in_string (string_major t) fs o ≡ refuses BadChunk) (λ k n h none. of_other k n _ (omega (arith, h)) none) (λ k w j low i long none. of_other k low _ (long_low k w j low long) none) (λ k none. of_open k)
+      (λ none. refl) (λ none. absurd (none.0 refl)) (λ c none. refl)
+
+-- ---- the chunks that are read
+
+-- The bytes are a string in chunks, of which these are read and valid, and the rest follows.
+pub record AreChunksRead (t : Bool) (b rest : List ℕ) : Type 0 where
+  pub done : List Chunk
+  pub so_far : (at : ℕ) → AreChunksSoFar plain at (string_major t) done
+  pub bytes : b ≡ chunks_bytes (string_major t) done ++ rest
+  pub small : AreBytes rest
+
+-- such a string holds no items
+pub chunks_are_one : (t : Bool) (done : List Chunk) (rest : List ℕ) → IsOfOneHead (chunks_bytes (string_major t) done ++ rest)
+chunks_are_one true done rest = λ container. absurd (cc container)
+chunks_are_one false done rest = λ container. absurd (cc container)
+
+-- a chunk that is no text ends in front of these; its payload begins behind so many bytes
+pub record HasNoText (b from : List ℕ) (n start : ℕ) : Type 0 where
+  pub front : List ℕ
+  pub splits : b ≡ front ++ drop n from
+  pub judged : (to d : ℕ) → IsJudged plain to d front (Some (complaint (to + start + n) (to + start + utf8_valid_len (take n from)) InvalidText))
+
+module _ (t : Bool) (b rest : List ℕ) (s : AreChunksRead t b rest) where
+  abbrev m : Major
+  m = string_major t
+
+  abbrev before : List ℕ
+  before = chunks_bytes m s.done
+
+  one : (x y : List ℕ) → b ≡ x ++ y → IsOfOneHead x
+  one x y e = one_head_front x y (subst IsOfOneHead (sym s.bytes ∙ e) (chunks_are_one t s.done rest))
+
+  module _ (w : Width) (n : ℕ) (from : List ℕ) (is : rest ≡ head m w n ++ from) (holds : Holds w n) where
+    from_small : AreBytes from
+    from_small = bytes_back (head m w n) from (subst AreBytes is s.small)
+
+    pub no_text : t ≡ true → n ≤ length from → (IsUtf8 (take n from) → ⊥) → HasNoText b from n (length before + length (head m w n))
+    no_text text inside none =
+        let q = take n from in
+        let long : length q ≡ n = length-take-le n from inside in
+        let parts = take-append-drop n from in
+        let hd = head m w (length q) in
+        let small : AreBytes q = bytes_front q (drop n from) (subst AreBytes (sym parts) from_small) in
+        let chunk_is : rest ≡ (hd ++ q) ++ drop n from = is ∙ ap₂ (λ (k : ℕ) (x : List ℕ). head m w k ++ x) (sym long) (sym parts) ∙ sym (append_assoc hd q (drop n from)) in
+        record {
+          front = before ++ (hd ++ q);
+          splits = s.bytes ∙ ap (λ (y : List ℕ). before ++ y) chunk_is ∙ sym (append_assoc before (hd ++ q) (drop n from));
+          judged = λ to d.
+              let start : to + length before + length hd ≡ to + (length before + length (head m w n)) = omega (arith, ap (λ (k : ℕ). length (head m w k)) long) in
+              subst (λ c. IsJudged plain to d (before ++ (hd ++ q)) (Some c)) (ap₂ (λ (i k : ℕ). complaint (i + k) (i + utf8_valid_len q) InvalidText) start long)
+              (chunk_complains t s.done plain to d (s.so_far to) text w q _ (subst (Holds w) (sym long) holds, small) (heads_free _ m w (length q)) (refl, none, refl));
+        }
+
+  -- ---- what is refused at this place, where the input ends
+
+  module _ (room : Bool) (at end : ℕ) (all : end ≡ at + length b) (f : Refusal) where
+    abbrev place : ℕ
+    place = end - length rest
+
+    there : at + length before ≡ place
+    there = omega (arith, all, ap length s.bytes, length-append before rest)
+
+    -- the input ends within the string
+    ends : f ≡ refusal Truncated end end → (x : List ℕ) → rest ≡ x → ((to d : ℕ) → IsJudged plain to d (before ++ x) None) → IsRefusedBy plain room b at f
+    ends e x is j =
+        subst (IsRefusedBy plain room b at) (sym e)
+        (ends_here plain room b at end all (one b [] (sym (append-nil b))) (λ d ls fits are. subst (λ (y : List ℕ). IsJudged plain (length (bytes_before ls)) (d - length ls) y None) (sym (s.bytes ∙ ap (λ (y : List ℕ). before ++ y) is)) (j _ _)))
+
+    pub chunks_end_here : f ≡ refusal Truncated end end → rest ≡ [] → IsRefusedBy plain room b at f
+    chunks_end_here e none = ends e [] none (λ to d. subst (λ (x : List ℕ). IsJudged plain to d x None) (sym (append-nil before)) (between t s.done plain to d (s.so_far to)))
+
+    module _ (first : ℕ) (more : List ℕ) (is : rest ≡ first ∷ more) where
+      -- the argument is cut
+      pub chunk_head_cut_here : f ≡ refusal Truncated end end → first / 32 ≡ major_number m → 24 ≤ first % 32 → first % 32 < 28 → length more < 2 ^ (first % 32 - 24) → IsRefusedBy plain room b at f
+      chunk_head_cut_here e high l h short =
+          let q = in_chunks m [] in
+          let within : Within 0 q (first ∷ more) = head_starts 0 [] first more q true m (starts 0 [] t) (first % 32) (omega (arith, high)) l (omega (arith, h)) short in
+          ends e (first ∷ more) is (λ to d. cut_chunk t s.done plain to d (s.so_far to) 0 [] within.0 (first ∷ more) (nothing-taken 0 q within.0 (first ∷ more) tt (subst AreBytes is s.small) within.1))
+
+      -- no chunk begins so
+      pub no_chunk_here : f ≡ refusal BadChunk place (place + 1) → first ≢ 0xff → (first / 32 ≡ major_number m → 28 ≤ first % 32) → IsRefusedBy plain room b at f
+      no_chunk_here e stray other = λ limits ls clean broken kept here are.
+          let whole = bytes_before ls ++ b in
+          let fs = containers ls in
+          let small : first < 256 = (subst AreBytes is s.small).0 in
+          let size : length (bytes_before ls ++ before) ≡ place = length-append (bytes_before ls) before ∙ ap (λ (n : ℕ). n + length before) (sym here.here) ∙ there in
+          let found = bad_byte_here plain limits ls clean whole before rest (ap (λ (x : List ℕ). bytes_before ls ++ x) s.bytes) (kept_front limits plain ls before rest (subst (KeepsHere limits plain ls) s.bytes kept)) (one before rest s.bytes)
+          (between t s.done plain _ _ (s.so_far _)) first more (in_chunks m fs) _ BadChunk is are (string_leads limits.depth fs s.done (s.so_far 0).are t) tt (no_chunk t fs first small (stray, other)) in
+          inr (inl (subst (HasBadByte plain limits whole) (ap (λ (n : ℕ). refusal BadChunk n (n + 1)) size ∙ sym e) found))
+
+    -- a chunk's payload is cut, or no text
+    module _ (w : Width) (n : ℕ) (from : List ℕ) (is : rest ≡ head m w n ++ from) (holds : Holds w n) where
+      pub chunk_cut_here : f ≡ refusal Truncated end end → length from < n → IsRefusedBy plain room b at f
+      chunk_cut_here e less = ends e (head m w n ++ from) is (λ to d. chunk_cut w n from holds (from_small w n from is holds) less plain to d t s.done (s.so_far to) (heads_free _ m w n))
+
+      pub no_text_chunk_here : f ≡ refusal InvalidText (place + (length rest - length from) + utf8_valid_len (take n from)) (place + (length rest - length from) + n) → t ≡ true → n ≤ length from → (IsUtf8 (take n from) → ⊥) → IsRefusedBy plain room b at f
+      no_text_chunk_here e text inside none = λ limits ls clean broken kept here are.
+          let h = no_text w n from is holds text inside none in
+          let to = length (bytes_before ls) in
+          let start : to + (length before + length (head m w n)) ≡ place + (length rest - length from) = omega (arith, there, here.here, ap length is, length-append (head m w n) from) in
+          let found = complaint_here plain limits ls clean (bytes_before ls ++ b) h.front (drop n from) (ap (λ (y : List ℕ). bytes_before ls ++ y) h.splits)
+          (kept_front limits plain ls h.front (drop n from) (subst (KeepsHere limits plain ls) h.splits kept)) (one h.front (drop n from) h.splits) _ (h.judged to (limits.depth - length ls)) in
+          inl (subst (HasComplaint plain limits (bytes_before ls ++ b)) (ap (λ (i : ℕ). refusal InvalidText (i + utf8_valid_len (take n from)) (i + n)) start ∙ sym e) found)
