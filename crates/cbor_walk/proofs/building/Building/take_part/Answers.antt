@@ -6,57 +6,41 @@ use Rattle.cbor_walk.specs.inner.Building.{TakesTo}
 use Rattle.cbor_walk.specs.inner.Parts.{IsHead, IsOpener}
 use Rattle.cbor_walk.proofs.GivenItems.{head-here, simple-here, tag-opens}
 use Rattle.cbor_walk.proofs.building.Building.take_part.Goals as goal
+use Rattle.cbor_walk.proofs.building.Building.take_part.Goals.{After-counted-opened, Else-number-lt32}
 
-pub open-requires : goal.open-requires
-open-requires g c =
+tag_opener : (g : _) (c : After-counted-opened g) → IsOpener Tag c.in-Some-read_argument.head.number c.counted-opened.result c.args.rest.now c.in-Some-read_argument.head.rest.now
+tag_opener g c =
     let h = c.in-Some-read_argument.head in
-    let head : IsHead Tag h.number c.args.rest.now h.rest.now =
-    head-here Tag c.in-Some.first.now c.in-Some.behind.now h.rest.now h.width h.number c.in-Some-read_argument.ensures.spelled (omega (arith, c.in-6.is)) (λ e. cc e) c.args.rest.now c.in-Some.ensures.cases.0 in
-    λ n. ((refl, tt), (tt, (c.requires.cells, (c.args.rest.now, subst (λ (x : Open). IsOpener Tag h.number x c.args.rest.now h.rest.now) (sym c.counted-opened.ensures) (tag-opens h.number c.args.rest.now h.rest.now head), (c.args.depth, around Open c.args.self.now.stack c.args.cells.now, c.requires.due)))))
+    subst (λ (x : Open). IsOpener Tag h.number x c.args.rest.now h.rest.now) (sym c.counted-opened.ensures) (tag-opens h.number c.args.rest.now h.rest.now
+    (head-here Tag c.in-Some.first.now c.in-Some.behind.now h.rest.now h.width h.number c.in-Some-read_argument.ensures.spelled (omega (arith, c.in-6.is)) (λ e. cc e) c.args.rest.now c.in-Some.ensures.cases.0))
 
-pub returns-in-6-clause-takes : goal.returns-in-6-clause-takes
-returns-in-6-clause-takes g c =
-    let h = c.in-Some-read_argument.head in
-    let head : IsHead Tag h.number c.args.rest.now h.rest.now =
-    head-here Tag c.in-Some.first.now c.in-Some.behind.now h.rest.now h.width h.number c.in-Some-read_argument.ensures.spelled (omega (arith, c.in-6.is)) (λ e. cc e) c.args.rest.now c.in-Some.ensures.cases.0 in
-    c.open.ensures.takes c.args.rest.now (subst (λ (x : Open). IsOpener Tag h.number x c.args.rest.now h.rest.now) (sym c.counted-opened.ensures) (tag-opens h.number c.args.rest.now h.rest.now head))
-
-pub give_leaf-requires : goal.give_leaf-requires
-give_leaf-requires g c =
+simple_head : (g : _) (c : Else-number-lt32 g) → IsHead Simple c.in-Some-read_argument.head.number c.args.rest.now c.in-Some-read_argument.head.rest.now
+simple_head g c =
     let h = c.in-Some-read_argument.head in
     let first = c.in-Some.first.now in
     let e = c.in-Some-read_argument.ensures in
     let high : 32 * 7 + first % 32 ≡ first = omega (arith, c.in_default-2, c.type_inv.rest 0, ap (λ (x : List ℕ). get_or x 0 0) c.in-Some.ensures.cases.0) in
     let wide : first % 32 ≡ 24 → (32 ≤ h.number) × (h.number < 256) = λ f. (elim c.if-number-lt32.either [ inl x ↦ x.1 | inr x ↦ absurd (x f) ], e.byte f) in
     let proper = simple-here (first % 32) c.in-Some.behind.now h.width h.number h.rest.now e.spelled c.if-low-gt24.false e.direct wide in
-    λ n. ((refl, tt), (tt, (c.args.rest.now, head-here Simple first c.in-Some.behind.now h.rest.now h.width h.number e.spelled high (λ f. proper) c.args.rest.now c.in-Some.ensures.cases.0, (c.args.depth, around Open c.args.self.now.stack c.args.cells.now, c.requires.due))))
+    head-here Simple first c.in-Some.behind.now h.rest.now h.width h.number e.spelled high (λ f. proper) c.args.rest.now c.in-Some.ensures.cases.0
+
+pub open-requires : goal.open-requires
+open-requires g c = λ n. ((refl, tt), (tt, (c.requires.cells, (c.args.rest.now, tag_opener g (goal.at.open-requires g c).After-counted-opened, (c.args.depth, around Open c.args.self.now.stack c.args.cells.now, c.requires.due)))))
+
+pub returns-in-6-clause-takes : goal.returns-in-6-clause-takes
+returns-in-6-clause-takes g c = c.open.ensures.takes c.args.rest.now (tag_opener g (goal.at.returns-in-6-clause-takes g c).After-counted-opened)
+
+pub returns-in-6-clause-front : goal.returns-in-6-clause-front
+returns-in-6-clause-front g c = c.open.ensures.front c.args.rest.now (tag_opener g (goal.at.returns-in-6-clause-front g c).After-counted-opened) c.args.self.now.stack.top
+
+pub give_leaf-requires : goal.give_leaf-requires
+give_leaf-requires g c = λ n. ((refl, tt), (tt, (c.args.rest.now, simple_head g (goal.at.give_leaf-requires g c).Else-number-lt32, (c.args.depth, around Open c.args.self.now.stack c.args.cells.now, c.requires.due))))
 
 pub returns-else-number-lt32-clause-takes : goal.returns-else-number-lt32-clause-takes
 returns-else-number-lt32-clause-takes g c = λ start input due.
-    let h = c.in-Some-read_argument.head in
-    let first = c.in-Some.first.now in
-    let e = c.in-Some-read_argument.ensures in
-    let high : 32 * 7 + first % 32 ≡ first = omega (arith, c.in_default-2, c.type_inv.rest 0, ap (λ (x : List ℕ). get_or x 0 0) c.in-Some.ensures.cases.0) in
-    let wide : first % 32 ≡ 24 → (32 ≤ h.number) × (h.number < 256) = λ f. (elim c.if-number-lt32.either [ inl x ↦ x.1 | inr x ↦ absurd (x f) ], e.byte f) in
-    let proper = simple-here (first % 32) c.in-Some.behind.now h.width h.number h.rest.now e.spelled c.if-low-gt24.false e.direct wide in
-    let head = head-here Simple first c.in-Some.behind.now h.rest.now h.width h.number e.spelled high (λ f. proper) c.args.rest.now c.in-Some.ensures.cases.0 in
     subst (λ s. TakesTo g.row.S.Denot g.S.Sink.stands g.S.Sink.trusts g.S.Sink.holds c.give_leaf.result start c.args.depth input c.args.rest.now (standing Open s c.args.cells.now) c.give_leaf.new.self.sink) (sym c.give_leaf.ensures.stack)
-    (c.give_leaf.ensures.takes c.args.rest.now head c.args.depth (around Open c.args.self.now.stack c.args.cells.now) start input due)
-
-pub returns-in-6-clause-front : goal.returns-in-6-clause-front
-returns-in-6-clause-front g c =
-    let h = c.in-Some-read_argument.head in
-    let head : IsHead Tag h.number c.args.rest.now h.rest.now =
-    head-here Tag c.in-Some.first.now c.in-Some.behind.now h.rest.now h.width h.number c.in-Some-read_argument.ensures.spelled (omega (arith, c.in-6.is)) (λ e. cc e) c.args.rest.now c.in-Some.ensures.cases.0 in
-    c.open.ensures.front c.args.rest.now (subst (λ (x : Open). IsOpener Tag h.number x c.args.rest.now h.rest.now) (sym c.counted-opened.ensures) (tag-opens h.number c.args.rest.now h.rest.now head)) c.args.self.now.stack.top
+    (c.give_leaf.ensures.takes c.args.rest.now (simple_head g (goal.at.returns-else-number-lt32-clause-takes g c).Else-number-lt32) c.args.depth (around Open c.args.self.now.stack c.args.cells.now) start input due)
 
 pub returns-else-number-lt32-clause-front : goal.returns-else-number-lt32-clause-front
 returns-else-number-lt32-clause-front g c =
-    let h = c.in-Some-read_argument.head in
-    let first = c.in-Some.first.now in
-    let e = c.in-Some-read_argument.ensures in
-    let high : 32 * 7 + first % 32 ≡ first = omega (arith, c.in_default-2, c.type_inv.rest 0, ap (λ (x : List ℕ). get_or x 0 0) c.in-Some.ensures.cases.0) in
-    let wide : first % 32 ≡ 24 → (32 ≤ h.number) × (h.number < 256) = λ f. (elim c.if-number-lt32.either [ inl x ↦ x.1 | inr x ↦ absurd (x f) ], e.byte f) in
-    let proper = simple-here (first % 32) c.in-Some.behind.now h.width h.number h.rest.now e.spelled c.if-low-gt24.false e.direct wide in
-    let head = head-here Simple first c.in-Some.behind.now h.rest.now h.width h.number e.spelled high (λ f. proper) c.args.rest.now c.in-Some.ensures.cases.0 in
-    c.give_leaf.ensures.front c.args.rest.now head (c.args.depth - c.args.self.now.stack.height) c.args.self.now.stack.top
+    c.give_leaf.ensures.front c.args.rest.now (simple_head g (goal.at.returns-else-number-lt32-clause-front g c).Else-number-lt32) (c.args.depth - c.args.self.now.stack.height) c.args.self.now.stack.top
