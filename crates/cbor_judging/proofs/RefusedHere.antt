@@ -23,6 +23,7 @@ use Rattle.cbor_judging.proofs.Leaves.{text_complains}
 use Rattle.cbor_judging.specs.Path.{Level, a_member, a_key, bytes_before, AreClean, MayBreak, IsKeyDueIn}
 use Rattle.cbor_judging.specs.RefusedHere.{IsMisplaced, IsPlaceFor, IsRefusedBy, HasNoBreak, MayBegin}
 use Rattle.cbor_judging.specs.PathKinds.{KeepsHere}
+use Rattle.cbor_judging.specs.Reading.{string_major}
 use Rattle.cbor_judging.specs.Stop.{HasComplaint, IsStopped, EndsWithin}
 use Rattle.cbor_judging.proofs.Arguments.{low_bits, number_byte, fits as fits_in, numbered, spells, fits, direct_head}
 use Rattle.cbor_judging.proofs.CutHeads.{head_cut, string_cut}
@@ -151,25 +152,21 @@ module _ (r : Rules) (room : Bool) (first : ℕ) (behind : List ℕ) (at : ℕ) 
       string_is : (base : ℕ) → base + first % 32 ≡ first → first ∷ behind ≡ with_argument w base n ++ rest
       string_is base e = spells first behind base w n rest a e
 
-      -- they are of a string
-      one : IsOfOneHead (first ∷ behind)
-      one = elim (cases_lt first 96) [
-        | inl k ↦ subst IsOfOneHead (sym (string_is 64 (omega (arith, l, k)))) (string_is_one Bytes w n rest tt (open_or w n a.holds))
-        | inr k ↦ subst IsOfOneHead (sym (string_is 96 (omega (arith, k, h)))) (string_is_one Text w n rest tt (open_or w n a.holds))
-      ]
+      -- by its type
+      string_head : (text : Bool) × (first ∷ behind ≡ head (string_major text) w n ++ rest)
+      string_head = elim (cases_lt first 96) [ inl k ↦ (false, string_is 64 (omega (arith, l, k))) | inr k ↦ (true, string_is 96 (omega (arith, k, h))) ]
 
       -- the payload is cut
       pub payload_cut_here : length rest < n → (end : ℕ) → end ≡ at + suc (length behind) → IsRefusedBy r room (first ∷ behind) at (refusal reasons.Truncated end end)
-      payload_cut_here less end e = ends_here r room (first ∷ behind) at end e one (λ d ls fits are. elim (cases_lt first 96) [
-        | inl k ↦
-            let is = string_is 64 (omega (arith, l, k)) in
-            subst (λ (x : List ℕ). IsJudged r (length (bytes_before ls)) (d - length ls) x None) (sym is)
-            (string_cut w n rest a.holds (bytes_back (head Bytes w n) rest (subst AreBytes is are)) less r (length (bytes_before ls)) (d - length ls) false (quiet (length (bytes_before ls)) Bytes))
-        | inr k ↦
-            let is = string_is 96 (omega (arith, k, h)) in
-            subst (λ (x : List ℕ). IsJudged r (length (bytes_before ls)) (d - length ls) x None) (sym is)
-            (string_cut w n rest a.holds (bytes_back (head Text w n) rest (subst AreBytes is are)) less r (length (bytes_before ls)) (d - length ls) true (quiet (length (bytes_before ls)) Text))
-      ])
+      payload_cut_here less end e =
+          let (text, is) = string_head in
+          let m = string_major text in
+          ends_here r room (first ∷ behind) at end e (subst IsOfOneHead (sym is) (go text)) (λ d ls fits are.
+          subst (λ (x : List ℕ). IsJudged r (length (bytes_before ls)) (d - length ls) x None) (sym is) (string_cut w n rest a.holds (bytes_back (head m w n) rest (subst AreBytes is are)) less r (length (bytes_before ls)) (d - length ls) text (quiet (length (bytes_before ls)) m)))
+        where
+          go : (text : Bool) → IsOfOneHead (head (string_major text) w n ++ rest)
+          go true = string_is_one Text w n rest tt (open_or w n a.holds)
+          go false = string_is_one Bytes w n rest tt (open_or w n a.holds)
 
       -- the text is none
       pub no_text_here : IsTrue r.texts → 96 ≤ first → n ≤ length rest → (used valid end : ℕ) → used ≡ suc (length behind) - length rest → (IsUtf8 (take n rest) → ⊥) → valid ≡ utf8_valid_len (take n rest) → end ≡ used + n
