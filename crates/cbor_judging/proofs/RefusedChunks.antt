@@ -49,12 +49,15 @@ module _ (d : ℕ) (fs : List Frame) (ks : List Chunk) (are : AllByRecursion IsC
   string_leads true = ap (telling (a_head Text Indefinite 0)) (chunks_lead true)
   string_leads false = ap (telling (a_head Bytes Indefinite 0)) (chunks_lead false)
 
+-- ---- a byte that begins no chunk
+
 other_major : (t : Bool) (k : Major) → (major_number k ≡ major_number (string_major t) → ⊥) → is_major (string_major t) k ≡ false
 other_major true Text f = absurd (f refl)
 other_major true _ f = refl
 other_major false Bytes f = absurd (f refl)
 other_major false _ f = refl
 
+-- the low five bits, where an argument stands behind them
 long_low : (k : Major) (w : Width) (j low : ℕ) → IsLong k w j low → low < 28
 long_low k w j low i = go w (ap (λ (xs : List ℕ). get_or xs 0 0) (i.made 0)) i.size
   where

@@ -1,9 +1,37 @@
-use Rattle.std.proofs.Common.{refl}
-use Rattle.cbor_front.specs.Stack.{around}
+use Rattle.std.proofs.Common.{◌≡◌, ℕ, nat_eq, true, not, List, ◌∷◌, refl}
+use Rattle.cbor_head.specs.declared.keys.Keys.{Keys}
+use Rattle.cbor_front.specs.Stack.{around, standing}
 use Rattle.cbor_walk.specs.declared.open.Open.{Open}
+use Rattle.cbor_walk.specs.inner.Building.{IsDue, HasFilled}
+use Rattle.cbor_walk.specs.inner.Kept.{KeepsBefore}
 use Rattle.cbor_walk.proofs.GivenEnds.{goes, is-full}
 use Rattle.cbor_walk.proofs.GivenKinds.{begun-keeps, broken-keeps}
 use Rattle.cbor_walk.proofs.building.Building.walk.Goals as goal
+use Rattle.cbor_walk.proofs.building.Building.walk.Goals.{In-Item, In-Break, Else-advance}
+
+-- behind an item, and behind a break, no key of another kind has begun
+item_keeps : (g : _) (c : In-Item g) → not (nat_eq g.row.KINDS 0) ≡ true → (keys : Keys) (start : g.row.S.Denot) (input : List ℕ) → IsDue g.row.S.Denot g.S.Sink.stands g.S.Sink.trusts start c.args.depth input (standing Open c.args.self.now.stack c.args.cells.now) c.args.self.now.sink c.args.start.now
+    → KeepsBefore c.args.depth keys input c.args.start.now → KeepsBefore c.args.depth keys input c.in-Item.behind.now
+item_keeps g c kinds keys start input due keeps =
+    let p = c.parts in
+    let before = p.invariant in
+    begun-keeps g.row.S.Denot g.S.Sink.stands g.S.Sink.trusts start c.args.depth input keys p.self.stack p.cells p.self.sink p.rest.now c.in-Item.behind.now before.cells (before.due start input due) c.in-Item.ensures.front
+    (c.in-Item.ensures.fits tt kinds) (before.kept kinds keys start input due keeps)
+
+break_keeps : (g : _) (c : In-Break g) → not (nat_eq g.row.KINDS 0) ≡ true → (keys : Keys) (start : g.row.S.Denot) (input : List ℕ) → IsDue g.row.S.Denot g.S.Sink.stands g.S.Sink.trusts start c.args.depth input (standing Open c.args.self.now.stack c.args.cells.now) c.args.self.now.sink c.args.start.now
+    → KeepsBefore c.args.depth keys input c.args.start.now → KeepsBefore c.args.depth keys input c.in-Break.behind.now
+break_keeps g c kinds keys start input due keeps =
+    let p = c.parts in
+    let before = p.invariant in
+    broken-keeps g.row.S.Denot g.S.Sink.stands g.S.Sink.trusts start c.args.depth input keys p.self.stack.top (around Open p.self.stack p.cells) p.self.sink p.rest.now c.in-Break.behind.now (before.due start input due) c.in-Break.ensures.front
+    (before.kept kinds keys start input due keeps)
+
+-- the innermost container has no more to come
+is_filled : (g : _) (c : Else-advance g) (start : g.row.S.Denot) (input : List ℕ) → IsDue g.row.S.Denot g.S.Sink.stands g.S.Sink.trusts start c.args.depth input (standing Open c.args.self.now.stack c.args.cells.now) c.args.self.now.sink c.args.start.now
+    → HasFilled g.row.S.Denot g.S.Sink.stands g.S.Sink.trusts start c.args.depth input (c.advance.new.self ∷ around Open c.take_part.new.self.stack c.take_part.new.cells) c.take_part.new.self.sink c.in-Item.behind.now
+is_filled g c start input due =
+    let t = c.take_part.new.self in
+    is-full g.row.S.Denot g.S.Sink.stands g.S.Sink.trusts start c.args.depth input t.stack.top (around Open t.stack c.take_part.new.cells) t.sink c.in-Item.behind.now (c.in-Item.ensures.takes start input (c.parts.invariant.due start input due)).1 c.advance.new.self c.advance.ensures.kind c.advance.ensures.place (c.advance.ensures.full c.if-advance.false)
 
 pub parts-smaller-in-Head : goal.parts-smaller-in-Head
 parts-smaller-in-Head g c = let d = c.requires.due in (c.in-Head.ensures.takes d.0 d.1 (c.parts.invariant.due d.0 d.1 d.2)).0
@@ -27,62 +55,40 @@ parts-smaller-then-advance g c = let d = c.requires.due in (c.in-Item.ensures.ta
 
 pub parts-preserved-then-advance : goal.parts-preserved-then-advance
 parts-preserved-then-advance g c =
-    let p = c.parts in
-    let before = p.invariant in
     let t = c.take_part.new.self in
     record {
       cells = c.in-Item.ensures.cells;
-      due = λ start input due. goes g.row.S.Denot g.S.Sink.stands g.S.Sink.trusts start c.args.depth input t.stack.top (around Open t.stack c.take_part.new.cells) t.sink c.in-Item.behind.now (c.in-Item.ensures.takes start input (before.due start input due)).1 c.advance.new.self (c.advance.ensures.more c.if-advance.true);
-      kept = λ kinds keys start input due keeps.
-          begun-keeps g.row.S.Denot g.S.Sink.stands g.S.Sink.trusts start c.args.depth input keys p.self.stack p.cells p.self.sink p.rest.now c.in-Item.behind.now before.cells (before.due start input due) c.in-Item.ensures.front
-          (c.in-Item.ensures.fits tt kinds) (before.kept kinds keys start input due keeps);
+      due = λ start input due. goes g.row.S.Denot g.S.Sink.stands g.S.Sink.trusts start c.args.depth input t.stack.top (around Open t.stack c.take_part.new.cells) t.sink c.in-Item.behind.now (c.in-Item.ensures.takes start input (c.parts.invariant.due start input due)).1 c.advance.new.self (c.advance.ensures.more c.if-advance.true);
+      kept = item_keeps g (goal.at.parts-preserved-then-advance g c).In-Item;
     }
 
 pub close-requires : goal.close-requires
 close-requires g c =
     let (start, input, due) = c.requires.due in
-    let t = c.take_part.new.self in
-    λ n. ((refl, tt), (c.in-Item.ensures.cells, (start, c.args.depth, input, c.in-Item.behind.now, (is-full g.row.S.Denot g.S.Sink.stands g.S.Sink.trusts start c.args.depth input t.stack.top (around Open t.stack c.take_part.new.cells) t.sink c.in-Item.behind.now (c.in-Item.ensures.takes start input (c.parts.invariant.due start input due)).1 c.advance.new.self c.advance.ensures.kind c.advance.ensures.place (c.advance.ensures.full c.if-advance.false)))))
+    λ n. ((refl, tt), (c.in-Item.ensures.cells, (start, c.args.depth, input, c.in-Item.behind.now, is_filled g (goal.at.close-requires g c).Else-advance start input due)))
 
 pub parts-smaller-in-Item-close : goal.parts-smaller-in-Item-close
 parts-smaller-in-Item-close g c = let d = c.requires.due in (c.in-Item.ensures.takes d.0 d.1 (c.parts.invariant.due d.0 d.1 d.2)).0
 
 pub parts-preserved-in-Item-close : goal.parts-preserved-in-Item-close
 parts-preserved-in-Item-close g c =
-    let p = c.parts in
-    let before = p.invariant in
-    let t = c.take_part.new.self in
     record {
       cells = c.in-Item-close.ensures.cells;
-      due = λ start input due. c.in-Item-close.ensures.leads start c.args.depth input c.in-Item.behind.now (is-full g.row.S.Denot g.S.Sink.stands g.S.Sink.trusts start c.args.depth input t.stack.top (around Open t.stack c.take_part.new.cells) t.sink c.in-Item.behind.now (c.in-Item.ensures.takes start input (before.due start input due)).1 c.advance.new.self c.advance.ensures.kind c.advance.ensures.place (c.advance.ensures.full c.if-advance.false));
-      kept = λ kinds keys start input due keeps.
-          begun-keeps g.row.S.Denot g.S.Sink.stands g.S.Sink.trusts start c.args.depth input keys p.self.stack p.cells p.self.sink p.rest.now c.in-Item.behind.now before.cells (before.due start input due) c.in-Item.ensures.front
-          (c.in-Item.ensures.fits tt kinds) (before.kept kinds keys start input due keeps);
+      due = λ start input due. c.in-Item-close.ensures.leads start c.args.depth input c.in-Item.behind.now (is_filled g (goal.at.parts-preserved-in-Item-close g c).Else-advance start input due);
+      kept = item_keeps g (goal.at.parts-preserved-in-Item-close g c).In-Item;
     }
 
 pub returns-in-Done-clause-walked : goal.returns-in-Done-clause-walked
-returns-in-Done-clause-walked g c = λ start input due.
-    let t = c.take_part.new.self in
-    c.in-Done.ensures.leads start c.args.depth input c.in-Item.behind.now (is-full g.row.S.Denot g.S.Sink.stands g.S.Sink.trusts start c.args.depth input t.stack.top (around Open t.stack c.take_part.new.cells) t.sink c.in-Item.behind.now (c.in-Item.ensures.takes start input (c.parts.invariant.due start input due)).1 c.advance.new.self c.advance.ensures.kind c.advance.ensures.place (c.advance.ensures.full c.if-advance.false))
+returns-in-Done-clause-walked g c = λ start input due. c.in-Done.ensures.leads start c.args.depth input c.in-Item.behind.now (is_filled g (goal.at.returns-in-Done-clause-walked g c).Else-advance start input due)
 
 pub returns-in-Done-clause-kept : goal.returns-in-Done-clause-kept
-returns-in-Done-clause-kept g c = λ kinds keys start input due keeps.
-    let p = c.parts in
-    let before = p.invariant in
-    begun-keeps g.row.S.Denot g.S.Sink.stands g.S.Sink.trusts start c.args.depth input keys p.self.stack p.cells p.self.sink p.rest.now c.in-Item.behind.now before.cells (before.due start input due) c.in-Item.ensures.front
-    (c.in-Item.ensures.fits tt kinds) (before.kept kinds keys start input due keeps)
+returns-in-Done-clause-kept g c = item_keeps g (goal.at.returns-in-Done-clause-kept g c).In-Item
 
 pub returns-in-Repeated-clause-walked : goal.returns-in-Repeated-clause-walked
-returns-in-Repeated-clause-walked g c = λ start input due.
-    let t = c.take_part.new.self in
-    c.in-Repeated.ensures.leads start c.args.depth input c.in-Item.behind.now (is-full g.row.S.Denot g.S.Sink.stands g.S.Sink.trusts start c.args.depth input t.stack.top (around Open t.stack c.take_part.new.cells) t.sink c.in-Item.behind.now (c.in-Item.ensures.takes start input (c.parts.invariant.due start input due)).1 c.advance.new.self c.advance.ensures.kind c.advance.ensures.place (c.advance.ensures.full c.if-advance.false))
+returns-in-Repeated-clause-walked g c = λ start input due. c.in-Repeated.ensures.leads start c.args.depth input c.in-Item.behind.now (is_filled g (goal.at.returns-in-Repeated-clause-walked g c).Else-advance start input due)
 
 pub returns-in-Repeated-clause-kept : goal.returns-in-Repeated-clause-kept
-returns-in-Repeated-clause-kept g c = λ kinds keys start input due keeps.
-    let p = c.parts in
-    let before = p.invariant in
-    begun-keeps g.row.S.Denot g.S.Sink.stands g.S.Sink.trusts start c.args.depth input keys p.self.stack p.cells p.self.sink p.rest.now c.in-Item.behind.now before.cells (before.due start input due) c.in-Item.ensures.front
-    (c.in-Item.ensures.fits tt kinds) (before.kept kinds keys start input due keeps)
+returns-in-Repeated-clause-kept g c = item_keeps g (goal.at.returns-in-Repeated-clause-kept g c).In-Item
 
 -- ---- a break
 
@@ -96,29 +102,17 @@ parts-smaller g c = let d = c.requires.due in (c.in-Break.ensures.takes d.0 d.1 
 
 pub parts-preserved : goal.parts-preserved
 parts-preserved g c =
-    let p = c.parts in
-    let before = p.invariant in
     record {
       cells = c.in-Item-close_at_break.ensures.cells;
-      due = λ start input due. c.in-Item-close_at_break.ensures.leads start c.args.depth input c.in-Break.behind.now (c.in-Break.ensures.takes start input (before.due start input due)).1;
-      kept = λ kinds keys start input due keeps.
-          broken-keeps g.row.S.Denot g.S.Sink.stands g.S.Sink.trusts start c.args.depth input keys p.self.stack.top (around Open p.self.stack p.cells) p.self.sink p.rest.now c.in-Break.behind.now (before.due start input due) c.in-Break.ensures.front
-          (before.kept kinds keys start input due keeps);
+      due = λ start input due. c.in-Item-close_at_break.ensures.leads start c.args.depth input c.in-Break.behind.now (c.in-Break.ensures.takes start input (c.parts.invariant.due start input due)).1;
+      kept = break_keeps g (goal.at.parts-preserved g c).In-Break;
     }
 
 pub returns-in-Done-close_at_break-clause-kept : goal.returns-in-Done-close_at_break-clause-kept
-returns-in-Done-close_at_break-clause-kept g c = λ kinds keys start input due keeps.
-    let p = c.parts in
-    let before = p.invariant in
-    broken-keeps g.row.S.Denot g.S.Sink.stands g.S.Sink.trusts start c.args.depth input keys p.self.stack.top (around Open p.self.stack p.cells) p.self.sink p.rest.now c.in-Break.behind.now (before.due start input due) c.in-Break.ensures.front
-    (before.kept kinds keys start input due keeps)
+returns-in-Done-close_at_break-clause-kept g c = break_keeps g (goal.at.returns-in-Done-close_at_break-clause-kept g c).In-Break
 
 pub returns-in-Repeated-close_at_break-clause-kept : goal.returns-in-Repeated-close_at_break-clause-kept
-returns-in-Repeated-close_at_break-clause-kept g c = λ kinds keys start input due keeps.
-    let p = c.parts in
-    let before = p.invariant in
-    broken-keeps g.row.S.Denot g.S.Sink.stands g.S.Sink.trusts start c.args.depth input keys p.self.stack.top (around Open p.self.stack p.cells) p.self.sink p.rest.now c.in-Break.behind.now (before.due start input due) c.in-Break.ensures.front
-    (before.kept kinds keys start input due keeps)
+returns-in-Repeated-close_at_break-clause-kept g c = break_keeps g (goal.at.returns-in-Repeated-close_at_break-clause-kept g c).In-Break
 
 pub returns-in-Repeated-close_at_break-clause-walked : goal.returns-in-Repeated-close_at_break-clause-walked
 returns-in-Repeated-close_at_break-clause-walked g c = λ start input due. c.in-Repeated-close_at_break.ensures.leads start c.args.depth input c.in-Break.behind.now (c.in-Break.ensures.takes start input (c.parts.invariant.due start input due)).1
