@@ -1,7 +1,6 @@
 -- What becomes of the open containers as a head comes.
-use Rattle.std.proofs.Common.{◌≡◌, ◌≢◌, ℕ, zero, suc, ◌+◌, ◌-◌, ◌<◌, ◌≤◌, ◌⊎◌, Bool, false, Option, Some, None, List, [], ◌∷◌, ◌++◌, length, refl, sym, ap, ◌∙◌, subst, inl, inr, arith, append-nil, length-append}
+use Rattle.std.proofs.Common.{◌≡◌, ◌≢◌, ℕ, ◌+◌, ◌-◌, ◌<◌, ◌≤◌, ◌⊎◌, Bool, false, Option, Some, None, List, [], ◌∷◌, ◌++◌, length, refl, sym, ap, ◌∙◌, subst, inl, inr, arith, append-nil, length-append}
 use Rattle.std.proofs.lemmas.List.{nil_from_length}
-use Rattle.std.proofs.lemmas.Bool.{cases_lt}
 use Rattle.cbor_head.specs.Prelude.{head, shortest, shortest_head, Bounds, Value, Spelling, SpelledEntries, no_entries, spell, strict, OfHead, Complains, refusal}
 use Rattle.cbor_head.specs.declared.limits.TheConstants.{MAX_DEPTH}
 use Rattle.cbor_head.specs.Complaint as complaint
@@ -88,36 +87,14 @@ record IsShort (d : ℕ) (fs : List Container) (x : List ℕ) (kind : EventKind)
   is : IsDefinite d fs major width number x next
   short : x ≡ short_head kind
 
-abbrev width_number : Width → ℕ
-width_number Direct = 0
-width_number One = 1
-width_number Two = 2
-width_number Four = 3
-width_number Eight = 4
-width_number Indefinite = 5
-
-abbrev width_of : ℕ → Width
-width_of zero = Direct
-width_of (suc zero) = One
-width_of (suc (suc zero)) = Two
-width_of (suc (suc (suc zero))) = Four
-width_of (suc (suc (suc (suc zero)))) = Eight
-width_of _ = Indefinite
-
-width_back : (w : Width) → width_of (width_number w) ≡ w
-width_back Direct = refl
-width_back _ = refl
-
 same_width : (v w : Width) → (v ≡ w) ⊎ (v ≡ w → ⊥)
-same_width v w = elim (cases_lt (width_number v) (width_number w)) [
-  | inl l ↦ inr (λ e. omega (arith, l, ap width_number e))
-  | inr l ↦ elim (cases_lt (width_number w) (width_number v)) [
-    | inl m ↦ inr (λ e. omega (arith, m, ap width_number e))
-    | inr m ↦
-        let e : width_number v ≡ width_number w = omega (arith, l, m) in
-        inl (sym (width_back v) ∙ ap width_of e ∙ width_back w)
-  ]
-]
+same_width Direct Direct = inl refl
+same_width One One = inl refl
+same_width Two Two = inl refl
+same_width Four Four = inl refl
+same_width Eight Eight = inl refl
+same_width Indefinite Indefinite = inl refl
+same_width _ _ = inr (λ e. cc e)
 
 shortest_so : (o : KeyOrder) (at : ℕ) (m : Major) (w : Width) (n : ℕ) → Never (OfHead (strict o) at m w n) → w ≡ shortest n
 shortest_so o at m w n none = elim (same_width w (shortest n)) [ inl e ↦ e | inr f ↦ absurd (none _ (refl, f, refl)) ]
