@@ -39,6 +39,7 @@ pub mod Scalars
 pub mod SpelledBytes
 pub mod Standing
 pub mod Steps
+pub mod Stopped
 pub mod Tops
 pub mod Undecided
 pub mod Valid

@@ -1,6 +1,5 @@
 -- What the strict reader's state says of the bytes behind it.
 use Rattle.std.proofs.Common.{◌≡◌, ℕ, ◌-◌, ◌≤◌, ◌⊎◌, Option, Some, None, List, [], ◌++◌, length, refl, sym, ap, ◌∙◌, subst, inl, inr, arith, append-nil, Ok, Err}
-use Rattle.std.specs.Option.{IfSome}
 use Rattle.cbor_head.specs.Prelude.{head, Bounds, AreBounds, bounds, with_keys, Spelling, IsItem, Rules, strict, Complains, HasNoneOf}
 use Rattle.cbor_head.specs.Laws.{StartsWith}
 use Rattle.cbor_head.specs.declared.keys.Keys.{Keys}
@@ -173,12 +172,12 @@ module _ (e after : ItemEventsView) (v new : OpenItems) (keys : Keys) (from to :
   next_refused f None last answers at_once t ms h =
       let s = answers (bounds_of e.machine keys) t refl h.inner.stands h.inner.keeps in
       record {
-        unfinished = s.unfinished;
-        bytes = s.bytes;
-        consumed = s.consumed;
-        read = s.read;
+        unfinished = s.0;
+        bytes = s.1.bytes;
+        consumed = s.1.consumed;
+        read = s.1.read;
         at_once = stops_too v.order f e.machine after.machine from to e.piece after.piece e.piece [] t ms (at_once t ms h.between);
-        verdict = s.unread;
+        verdict = s.1.unread;
       }
   next_refused f (Some x) last answers at_once t ms h = absurd (cc h.live)
 
@@ -187,17 +186,7 @@ module _ (e after : ItemEventsView) (v new : OpenItems) (keys : Keys) (from to :
   stands_next None h answers = let g = answers h.b h.t h.asks h.stands h.keeps in record { b = h.b; asks = h.asks; t = h.t; stands = inr (inr g.over); keeps = g.keeps }
 
   pub refused_reason : (b : Bounds) (f : Refusal) → b.keys ≡ keys → StandsSomewhere keys v e → AnswersStep keys v new e after from to (Err f) → IsReaderReason b (strict v.order) f.reason
-  refused_reason b f same h answers = reason_as (strict v.order) h.b b f.reason (h.asks ∙ sym same) (answers h.b h.t h.asks h.stands h.keeps).reason
+  refused_reason b f same h answers = reason_as (strict v.order) h.b b f.reason (h.asks ∙ sym same) (answers h.b h.t h.asks h.stands h.keeps).1.reason
 
 pub somewhere_little : (e : ItemEventsView) (v : OpenItems) (keys : Keys) → StandsSomewhere keys v e → IsLittle v e
 somewhere_little e v keys h = stands_little v h.b e h.t h.stands
-
--- ---- nothing was refused yet
-
-pub none_is : (r : Option Refusal) → ((f : Refusal) → r ≡ Some f → ⊥) → r ≡ None
-none_is None h = refl
-none_is (Some f) h = absurd (h f refl)
-
-pub never_some : (r : Option Refusal) (P : Refusal → Type 0) → r ≡ None → IfSome r P
-never_some None P e = tt
-never_some (Some f) P e = absurd (cc e)

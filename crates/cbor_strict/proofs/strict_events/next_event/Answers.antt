@@ -5,11 +5,12 @@ use Rattle.cbor_standing.specs.NextEvent.{call}
 use Rattle.cbor_judging.specs.Kinds.{KeepsToKinds}
 use Rattle.cbor_judging.proofs.Payloads.{IsPiece}
 use Rattle.cbor_judging.proofs.Steps.{limits-as}
+use Rattle.cbor_judging.proofs.Stopped.{stopped_behind}
 use Rattle.cbor_strict.specs.inner.OpenItems.{Stands, HasPartCome}
 use Rattle.cbor_strict.specs.inner.StrictEvents.{IsNextOf}
 use Rattle.cbor_strict.proofs.StrictReading.{by_event, small_piece}
 use Rattle.cbor_strict.proofs.StrictSteps.{head_told, piece_told, end_told, head_keeps, piece_keeps, begun, of_told, of_end, live_of, piece_is}
-use Rattle.cbor_strict.proofs.StrictStops.{stopped_there, stopped_behind, no_payload, at_once_there}
+use Rattle.cbor_strict.proofs.StrictStops.{stopped_there, no_payload, at_once_there}
 use Rattle.cbor_strict.proofs.strict_events.next_event.Goals as goal
 
 pub next_of-requires-clause-live : goal.next_of-requires-clause-live
@@ -51,9 +52,11 @@ returns-in-Ok-clause-answers g c = λ b t same s keeps.
 pub returns-in-Err-admit_piece-clause-answers : goal.returns-in-Err-admit_piece-clause-answers
 returns-in-Err-admit_piece-clause-answers g c = λ b t same s keeps.
     let k = piece_told c.args.items.now b c.args.events.now c.next_of.new.events t (g.R.Read.remaining c.args.reader.now) (g.R.Read.remaining c.next_of.new.reader) (limits-as _ _ c.next_of.ensures.limits) c.in-Ok-Some.ensures.live c.in-Ok-Some.event s (λ u ms st. (of_told c.asks-is_asked.result c.in-Ok-Some.event (call c.args.events.now c.next_of.new.events (g.R.Read.remaining c.args.reader.now) (g.R.Read.remaining c.next_of.new.reader) u ms) (subst (λ x. IsNextOf c.asks-is_asked.result (Ok x) (call c.args.events.now c.next_of.new.events (g.R.Read.remaining c.args.reader.now) (g.R.Read.remaining c.next_of.new.reader) u ms)) c.in-Ok-Some.field-0-is (c.in-Ok-Some.ensures.answers u ms st))).0) (subst IsPiece (sym c.in-Piece.is) tt) in
-    let come = (subst (λ x. HasPartCome c.args.items.now b c.args.events.now t x c.next_of.new.events) (sym c.piece.ensures.piece) k.come) in
-    stopped_behind c.args.items.now.order b c.args.events.now t (g.R.Read.remaining c.args.reader.now) (g.R.Read.remaining c.next_of.new.reader) c.in-Err-admit_piece.refusal c.piece.result.now k.next.unfinished (subst (Consumes (g.R.Read.remaining c.args.reader.now) (g.R.Read.remaining c.next_of.new.reader)) (k.bytes_are ∙ sym c.piece.ensures.piece) k.next.consumed) (begun b c.next_of.new.events _ _ come.at)
-    (piece_keeps c.args.items.now b c.args.events.now t _ c.next_of.new.events come keeps) (c.in-Err-admit_piece.ensures.answers b c.args.events.now t c.next_of.new.events come c.open-open.ensures.count c.taken-taken.ensures.taken (g.R.Read.remaining c.next_of.new.reader))
+    let come = (subst (λ x. HasPartCome c.args.items.now b c.args.events.now t x c.next_of.new.events) (sym c.piece.ensures.piece) k.come) in (
+      k.next.unfinished,
+      stopped_behind (strict c.args.items.now.order) b t (g.R.Read.remaining c.args.reader.now) (g.R.Read.remaining c.next_of.new.reader) c.in-Err-admit_piece.refusal c.piece.result.now (subst (Consumes (g.R.Read.remaining c.args.reader.now) (g.R.Read.remaining c.next_of.new.reader)) (k.bytes_are ∙ sym c.piece.ensures.piece) k.next.consumed) (begun b c.next_of.new.events _ _ come.at)
+          (piece_keeps c.args.items.now b c.args.events.now t _ c.next_of.new.events come keeps) (c.in-Err-admit_piece.ensures.answers b c.args.events.now t c.next_of.new.events come c.open-open.ensures.count c.taken-taken.ensures.taken (g.R.Read.remaining c.next_of.new.reader)),
+    )
 
 pub returns-in-Err-admit_piece-clause-taken : goal.returns-in-Err-admit_piece-clause-taken
 returns-in-Err-admit_piece-clause-taken g c =
@@ -82,9 +85,11 @@ returns-in-Ok-admit_head-clause-answers g c = λ b t same s keeps.
 
 pub returns-in-Err-admit_head-clause-answers : goal.returns-in-Err-admit_head-clause-answers
 returns-in-Err-admit_head-clause-answers g c = λ b t same s keeps.
-    let k = head_told c.args.items.now b c.args.events.now c.next_of.new.events t (g.R.Read.remaining c.args.reader.now) (g.R.Read.remaining c.next_of.new.reader) (limits-as _ _ c.next_of.ensures.limits) c.in-Ok-Some.ensures.live c.in-Ok-Some.event s (λ ms st. (of_told c.asks-is_asked.result c.in-Ok-Some.event (call c.args.events.now c.next_of.new.events (g.R.Read.remaining c.args.reader.now) (g.R.Read.remaining c.next_of.new.reader) t ms) (subst (λ x. IsNextOf c.asks-is_asked.result (Ok x) (call c.args.events.now c.next_of.new.events (g.R.Read.remaining c.args.reader.now) (g.R.Read.remaining c.next_of.new.reader) t ms)) c.in-Ok-Some.field-0-is (c.in-Ok-Some.ensures.answers t ms st))).0) (λ y. let z = piece_is c.in-Ok-Some.event.kind y in c.in_default.not-Piece z.0 z.1) in
-    stopped_behind c.args.items.now.order b c.args.events.now t (g.R.Read.remaining c.args.reader.now) (g.R.Read.remaining c.next_of.new.reader) c.in-Err-admit_head.refusal k.next.bytes k.next.unfinished k.next.consumed (begun b c.next_of.new.events _ _ k.come.at)
-    (head_keeps c.args.items.now b c.in-Ok-Some.event t k.next.bytes c.next_of.new.events k.come keeps (λ asked due. (of_told c.asks-is_asked.result c.in-Ok-Some.event (call c.args.events.now c.next_of.new.events (g.R.Read.remaining c.args.reader.now) (g.R.Read.remaining c.next_of.new.reader) t k.marks) (subst (λ x. IsNextOf c.asks-is_asked.result (Ok x) (call c.args.events.now c.next_of.new.events (g.R.Read.remaining c.args.reader.now) (g.R.Read.remaining c.next_of.new.reader) t k.marks)) c.in-Ok-Some.field-0-is (c.in-Ok-Some.ensures.answers t k.marks k.between))).1 ((c.asks-is_asked.ensures.due k.come.fs [] k.come.kept k.come.none).1 (sym same ∙ asked.1, due)))) (c.in-Err-admit_head.ensures.answers b t k.next.bytes c.next_of.new.events k.come c.open-open.ensures.count c.taken-taken.ensures.taken (g.R.Read.remaining c.next_of.new.reader))
+    let k = head_told c.args.items.now b c.args.events.now c.next_of.new.events t (g.R.Read.remaining c.args.reader.now) (g.R.Read.remaining c.next_of.new.reader) (limits-as _ _ c.next_of.ensures.limits) c.in-Ok-Some.ensures.live c.in-Ok-Some.event s (λ ms st. (of_told c.asks-is_asked.result c.in-Ok-Some.event (call c.args.events.now c.next_of.new.events (g.R.Read.remaining c.args.reader.now) (g.R.Read.remaining c.next_of.new.reader) t ms) (subst (λ x. IsNextOf c.asks-is_asked.result (Ok x) (call c.args.events.now c.next_of.new.events (g.R.Read.remaining c.args.reader.now) (g.R.Read.remaining c.next_of.new.reader) t ms)) c.in-Ok-Some.field-0-is (c.in-Ok-Some.ensures.answers t ms st))).0) (λ y. let z = piece_is c.in-Ok-Some.event.kind y in c.in_default.not-Piece z.0 z.1) in (
+      k.next.unfinished,
+      stopped_behind (strict c.args.items.now.order) b t (g.R.Read.remaining c.args.reader.now) (g.R.Read.remaining c.next_of.new.reader) c.in-Err-admit_head.refusal k.next.bytes k.next.consumed (begun b c.next_of.new.events _ _ k.come.at)
+          (head_keeps c.args.items.now b c.in-Ok-Some.event t k.next.bytes c.next_of.new.events k.come keeps (λ asked due. (of_told c.asks-is_asked.result c.in-Ok-Some.event (call c.args.events.now c.next_of.new.events (g.R.Read.remaining c.args.reader.now) (g.R.Read.remaining c.next_of.new.reader) t k.marks) (subst (λ x. IsNextOf c.asks-is_asked.result (Ok x) (call c.args.events.now c.next_of.new.events (g.R.Read.remaining c.args.reader.now) (g.R.Read.remaining c.next_of.new.reader) t k.marks)) c.in-Ok-Some.field-0-is (c.in-Ok-Some.ensures.answers t k.marks k.between))).1 ((c.asks-is_asked.ensures.due k.come.fs [] k.come.kept k.come.none).1 (sym same ∙ asked.1, due)))) (c.in-Err-admit_head.ensures.answers b t k.next.bytes c.next_of.new.events k.come c.open-open.ensures.count c.taken-taken.ensures.taken (g.R.Read.remaining c.next_of.new.reader)),
+    )
 
 pub returns-in-Err-admit_head-clause-taken : goal.returns-in-Err-admit_head-clause-taken
 returns-in-Err-admit_head-clause-taken g c =
