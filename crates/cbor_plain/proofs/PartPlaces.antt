@@ -113,6 +113,12 @@ module _ (o : KeyOrder) (b : Bounds) (ls : List Level) (levels : AreLevels b.dep
   room-for : length fs < b.depth → length ls < b.depth
   room-for r = omega (arith, r, length-map ls frame)
 
+  -- a container opens in which an item is due
+  due-here : (l : Level) (x : List ℕ) (next : Place) (os : List Open) (vs : List OpenValue) → AreLevels b.depth (l ∷ ls) → bytes_before ls ++ x ≡ bytes_before (l ∷ ls) → next ≡ at_item (map frame (l ∷ ls)) → os ≡ opens o (l ∷ ls)
+      → HasItsPlace xs (item_due (l ∷ ls)) → vs ≡ values_at (item_due (l ∷ ls)) → IsPlaced o b.depth (bytes_before ls ++ x) next os (suc (length ls)) xs vs
+  due-here l x next os vs inner bytes follows are place values =
+      record { standing = item_due (l ∷ ls); stands = (inner, bytes, follows, are, refl); begun = (here, begun); place = place; right = tt; values = values }
+
   array-begins : (k : ℕ) (w : Width) (next : Place) → Holds w k → length fs < b.depth → next ≡ expect k fs → IsPlaced o b.depth (bytes_before ls ++ head majors.Array w k) next (an_array 0 [] ∷ opens o ls) (suc (length ls)) xs (trees.an_array [] ∷ level_values ls)
   array-begins zero w next holds room follows = record {
     standing = item_full ls (array w no_spellings);
@@ -130,20 +136,8 @@ module _ (o : KeyOrder) (b : Bounds) (ls : List Level) (levels : AreLevels b.dep
   }
   array-begins (suc left) w next holds room follows =
       let count : suc left ≡ 0 + suc left = omega arith in
-      record {
-        standing = item_due (a_member w left no_spellings ∷ ls);
-        stands = (
-          (room-for room, (subst (Holds w) count holds, tt), levels),
-          ap (λ (x : List ℕ). bytes_before ls ++ x) (ap (head majors.Array w) count ∙ sym (append-nil (head majors.Array w (0 + suc left)))),
-          follows,
-          refl,
-          refl,
-        );
-        begun = (here, begun);
-        place = tt;
-        right = tt;
-        values = refl;
-      }
+      due-here (a_member w left no_spellings) (head majors.Array w (suc left)) next _ _ (room-for room, (subst (Holds w) count holds, tt), levels)
+      (ap (λ (x : List ℕ). bytes_before ls ++ x) (ap (head majors.Array w) count ∙ sym (append-nil (head majors.Array w (0 + suc left))))) follows refl tt refl
 
   map-begins : (k : ℕ) (w : Width) (next : Place) → Holds w k → length fs < b.depth → next ≡ expect (k + k) fs → IsPlaced o b.depth (bytes_before ls ++ head majors.Map w k) next (an_open_map [] ∷ opens o ls) (suc (length ls)) xs (trees.a_map [] ∷ level_values ls)
   map-begins zero w next holds room follows = record {
@@ -163,20 +157,8 @@ module _ (o : KeyOrder) (b : Bounds) (ls : List Level) (levels : AreLevels b.dep
   map-begins (suc left) w next holds room follows =
       let count : suc left ≡ 0 + suc left = omega arith in
       let two : suc left + suc left ≡ suc (suc (left + left)) = omega arith in
-      record {
-        standing = item_due (a_key w left no_entries ∷ ls);
-        stands = (
-          (room-for room, (subst (Holds w) count holds, tt), levels),
-          ap (λ (x : List ℕ). bytes_before ls ++ x) (ap (head majors.Map w) count ∙ sym (append-nil (head majors.Map w (0 + suc left)))),
-          follows ∙ ap (λ (x : ℕ). expect x fs) two,
-          refl,
-          refl,
-        );
-        begun = (here, begun);
-        place = tt;
-        right = tt;
-        values = refl;
-      }
+      due-here (a_key w left no_entries) (head majors.Map w (suc left)) next _ _ (room-for room, (subst (Holds w) count holds, tt), levels)
+      (ap (λ (x : List ℕ). bytes_before ls ++ x) (ap (head majors.Map w) count ∙ sym (append-nil (head majors.Map w (0 + suc left))))) (follows ∙ ap (λ (x : ℕ). expect x fs) two) refl tt refl
 
   module _ (t x : List ℕ) (e : ItemEventsView) (w : Width) where
     -- a container begins
@@ -194,29 +176,15 @@ module _ (o : KeyOrder) (b : Bounds) (ls : List Level) (levels : AreLevels b.dep
         subst (λ (z : Major). IsPlaced o b.depth (bytes_before ls ++ x) i.next (opened z k ∷ opens o ls) (suc (length ls)) xs (trees.opened z k ∷ level_values ls)) (sym g.0)
         (subst (λ (j : ℕ). IsPlaced o b.depth (bytes_before ls ++ x) i.next (opened majors.Tag j ∷ opens o ls) (suc (length ls)) xs (trees.opened majors.Tag j ∷ level_values ls)) (sym g.1)
         (subst (λ (y : List ℕ). IsPlaced o b.depth (bytes_before ls ++ y) i.next (opened majors.Tag n ∷ opens o ls) (suc (length ls)) xs (trees.opened majors.Tag n ∷ level_values ls)) (sym d.bytes_are)
-        (record { standing = item_due (tagged w n ∷ ls); stands = ((room-for d.follows.0, d.holds, levels), refl, d.follows.1, refl, refl); begun = (here, begun); place = tt; right = tt; values = refl })))
+        (due-here (tagged w n) (head majors.Tag w n) i.next _ _ (room-for d.follows.0, d.holds, levels) refl d.follows.1 refl tt refl)))
     opens-by (kinds.Array None) m k i g =
         let taking = subst (λ (v : Width). IsTaking b.depth (at_item fs) (a_head majors.Array v 0) x i.next) i.proper i.taking in
         subst (λ (z : Major). IsPlaced o b.depth (bytes_before ls ++ x) i.next (opened z k ∷ opens o ls) (suc (length ls)) xs (trees.opened z k ∷ level_values ls)) (sym g.0)
-        (record {
-          standing = item_due (some_member no_spellings ∷ ls);
-          stands = ((room-for taking.2.0, tt, levels), ap (λ (y : List ℕ). bytes_before ls ++ y) (taking.1 ∙ sym (append-nil (head majors.Array Indefinite 0))), taking.2.1, refl, refl);
-          begun = (here, begun);
-          place = tt;
-          right = tt;
-          values = refl;
-        })
+        (due-here (some_member no_spellings) x i.next _ _ (room-for taking.2.0, tt, levels) (ap (λ (y : List ℕ). bytes_before ls ++ y) (taking.1 ∙ sym (append-nil (head majors.Array Indefinite 0)))) taking.2.1 refl tt refl)
     opens-by (kinds.Map None) m k i g =
         let taking = subst (λ (v : Width). IsTaking b.depth (at_item fs) (a_head majors.Map v 0) x i.next) i.proper i.taking in
         subst (λ (z : Major). IsPlaced o b.depth (bytes_before ls ++ x) i.next (opened z k ∷ opens o ls) (suc (length ls)) xs (trees.opened z k ∷ level_values ls)) (sym g.0)
-        (record {
-          standing = item_due (some_key no_entries ∷ ls);
-          stands = ((room-for taking.2.0, tt, levels), ap (λ (y : List ℕ). bytes_before ls ++ y) (taking.1 ∙ sym (append-nil (head majors.Map Indefinite 0))), taking.2.1, refl, refl);
-          begun = (here, begun);
-          place = tt;
-          right = tt;
-          values = refl;
-        })
+        (due-here (some_key no_entries) x i.next _ _ (room-for taking.2.0, tt, levels) (ap (λ (y : List ℕ). bytes_before ls ++ y) (taking.1 ∙ sym (append-nil (head majors.Map Indefinite 0)))) taking.2.1 refl tt refl)
     opens-by _ m k i g = absurd g
 
 -- the break
