@@ -27,7 +27,7 @@ use std::alloc::{AllocError, Global};
 #[derive(Drop)]
 pub(crate) struct OpenItems {
     order: KeyOrder,
-    keys: LastKeys,
+    pub(crate) keys: LastKeys,
     // How many bytes are due of the payload of a string, and whether it is a text.
     left: u64,
     is_text: bool,
@@ -50,20 +50,6 @@ impl OpenItems {
         }
     }
 
-    // Of how many open maps the last key is kept.
-    pub(crate) fn spans(&self) -> usize
-        ensures { result ≡ length (seen self.now.keys).spans }
-    {
-        self.keys.spans()
-    }
-
-    // How many bytes are kept.
-    pub(crate) fn kept(&self) -> usize
-        ensures { result ≡ length (seen self.now.keys).bytes }
-    {
-        self.keys.kept()
-    }
-
     // Whether a key is due that is to be an integer or a text, and nothing of it was read.
     #[inline(always)]
     pub(crate) fn asks(&self, keys: Keys) -> bool
@@ -79,15 +65,6 @@ impl OpenItems {
             return false;
         }
         matches!(self.keys.due(), Due::Key)
-    }
-
-    // Nothing is kept any more, where nothing more is read.
-    pub(crate) fn forget(&mut self)
-        ensures order { self.new.order ≡ self.old.order }
-        ensures none { ((seen self.new.keys).spans ≡ []) × ((seen self.new.keys).bytes ≡ [])
-            × ((seen self.new.keys).levels ≡ []) }
-    {
-        self.keys.forget();
     }
 
     // The head of the item that is due, as the events tell it, and how many containers are open

@@ -199,7 +199,7 @@ impl<R: Read> StrictReader<R> {
             Ok(event) => Ok(event),
             Err(refusal) => {
                 self.refusal = Some(refusal);
-                self.items.forget();
+                self.items.keys.forget();
                 Err(refusal)
             }
         }
@@ -239,7 +239,7 @@ impl<R: Read> StrictReader<R> {
         ensures within { result ≤ self.now.events.machine.open_count }
         ensures limited { result ≤ self.now.events.machine.depth }
     {
-        self.items.spans()
+        self.items.keys.spans()
     }
 
     /// How many bytes of keys are kept: those of the last complete key of each open map and of the
@@ -248,6 +248,6 @@ impl<R: Read> StrictReader<R> {
         ensures count { result ≡ self.now.events.kept }
         ensures within { result ≤ self.now.events.machine.taken }
     {
-        self.items.kept() as u64
+        self.items.keys.kept() as u64
     }
 }

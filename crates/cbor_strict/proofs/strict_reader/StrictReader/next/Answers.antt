@@ -30,7 +30,7 @@ invariant_of-self-in-Err g c =
       stands = λ e. absurd (cc e);
       stopped = (
         sym c.in-Err.ensures.taken,
-        subst (λ o. IsReaderReason (bounds_of c.next_event.new.events.machine c.self.inside.keys) (strict o) c.in-Err.refusal.reason) (sym c.in-Err.ensures.order ∙ sym c.forget.ensures.order)
+        subst (λ o. IsReaderReason (bounds_of c.next_event.new.events.machine c.self.inside.keys) (strict o) c.in-Err.refusal.reason) (sym c.in-Err.ensures.order)
             (refused_reason c.self.inside.events c.next_event.new.events c.self.inside.items c.next_event.new.items c.self.inside.keys _ _ c.in-Err.ensures.limits (bounds_of c.next_event.new.events.machine c.self.inside.keys) c.in-Err.refusal refl (c.self.invariant.stands none) c.in-Err.ensures.answers),
         ap length c.forget.ensures.none.0,
         ap length c.forget.ensures.none.1,
@@ -52,8 +52,8 @@ returns-in-Ok-clause-answers g c = λ t ms h.
 
 pub returns-in-Err-clause-answers : goal.returns-in-Err-clause-answers
 returns-in-Err-clause-answers g c = λ t ms h.
-    subst (λ (o : StrictReaderView g.row.R.Denot). IsStrictRefusal c.in-Err.refusal (strict_call o.events (shown c.next_event.new.events c.forget.new.self c.self.inside.keys (Some c.in-Err.refusal)) (g.R.Read.remaining o.reader) (g.R.Read.remaining c.next_event.new.reader) t ms)) c.self.view_is
-    (next_refused c.self.inside.events c.next_event.new.events c.self.inside.items c.next_event.new.items c.self.inside.keys _ _ c.in-Err.ensures.limits c.in-Err.refusal c.self.inside.refusal c.forget.new.self c.in-Err.ensures.answers c.in-Err.ensures.at_once t ms
+    subst (λ (o : StrictReaderView g.row.R.Denot). IsStrictRefusal c.in-Err.refusal (strict_call o.events (shown c.next_event.new.events (record c.next_event.new.items { keys = c.forget.new.self }) c.self.inside.keys (Some c.in-Err.refusal)) (g.R.Read.remaining o.reader) (g.R.Read.remaining c.next_event.new.reader) t ms)) c.self.view_is
+    (next_refused c.self.inside.events c.next_event.new.events c.self.inside.items c.next_event.new.items c.self.inside.keys _ _ c.in-Err.ensures.limits c.in-Err.refusal c.self.inside.refusal (record c.next_event.new.items { keys = c.forget.new.self }) c.in-Err.ensures.answers c.in-Err.ensures.at_once t ms
     (subst (λ (o : StrictReaderView g.row.R.Denot). StandsStrictly o.events t ms) (sym c.self.view_is) h))
 
 pub returns-in-Err-clause-refused : goal.returns-in-Err-clause-refused
