@@ -22,7 +22,6 @@ use Rattle.cbor_automaton.proofs.Beginnings.{reached-begins}
 use Rattle.cbor_automaton.proofs.Runs.{run-on}
 use Rattle.cbor_automaton.proofs.Taking.{IsClear}
 use Rattle.cbor_steps.specs.State.{state_of, wanted_at, is_done}
-use Rattle.cbor_steps.specs.declared.frame.Frame as frames
 use Rattle.cbor_steps.specs.declared.position.Position.{Position}
 use Rattle.cbor_steps.specs.declared.position.Position.TheVariants as positions
 use Rattle.cbor_standing.specs.MachineView.{MachineView}
