@@ -1,7 +1,6 @@
 //! A part of an item: bytes asked for by one call of `read`, and what the machine makes of them.
 
 ghost use Rattle.std.specs.Prelude.{◌≡◌, ◌≤◌, ◌<◌, ◌⊎◌, ℕ, List, length, Option};
-ghost use Rattle.cbor_head.specs.Verdict.{refusal};
 ghost use Rattle.cbor_automaton.specs.Trace.{Mark};
 ghost use Rattle.cbor_automaton.specs.Marks.{IsProper};
 ghost use Rattle.cbor_automaton.specs.Pieces.{kind_size};
@@ -52,13 +51,6 @@ fn ask<R: Read>(reader: &mut R, buffer: &mut [u8], want: usize) -> Asked
         Ok(n) => Asked::Got(got(n, want)),
         Err(_) => Asked::Failed,
     }
-}
-
-// A refusal of what was taken, and no byte more.
-fn cut(reason: Reason, taken: u64) -> Refusal
-    ensures { result ≡ refusal reason taken taken }
-{
-    Refusal::new(reason, taken, taken)
 }
 
 // What came of bytes that the machine wanted.
@@ -173,8 +165,8 @@ pub(crate) fn read_part<R: Read>(
     ensures progress { result ≡ Part.Open → machine.old.taken < machine.new.taken }
 {
     match ask(reader, buffer, want) {
-        Asked::End => Part::Stopped(cut(Reason::Truncated, machine.taken())),
-        Asked::Failed => Part::Stopped(cut(Reason::Read, machine.taken())),
+        Asked::End => Part::Stopped(Refusal::at(Reason::Truncated, machine.taken())),
+        Asked::Failed => Part::Stopped(Refusal::at(Reason::Read, machine.taken())),
         Asked::Got(count) => {
             below_256(&buffer[..count]);
             take_read(machine, &buffer[..count])

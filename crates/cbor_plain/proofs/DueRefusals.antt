@@ -1,18 +1,16 @@
 -- What is refused where an item is due: its head, what is behind it, or the first byte of a key of another kind.
-use Rattle.std.proofs.Common.{◌≡◌, ◌≢◌, ℕ, ◌+◌, ◌-◌, ◌^◌, ◌/◌, ◌<◌, ◌≤◌, Option, Some, None, List, [], ◌∷◌, ◌++◌, length, map, sym, ap, subst, inl, inr, arith, IsTrue}
+use Rattle.std.proofs.Common.{◌≡◌, ℕ, ◌-◌, ◌^◌, ◌<◌, Option, None, List, [], ◌++◌, length, map, sym, ap, subst, inl, inr, arith}
 use Rattle.std.specs.Io.KnownBytes.{Consumes}
 use Rattle.std.proofs.lemmas.List.{length-map}
-use Rattle.cbor_head.specs.Prelude.{MayFollow, plain, Complaint, Bounds, refusal}
-use Rattle.cbor_head.specs.declared.reason.Reason.TheVariants.{KeyKind}
+use Rattle.cbor_head.specs.Prelude.{plain, Complaint, Bounds}
 use Rattle.cbor_head.specs.declared.reason.Refusal.{Refusal}
-use Rattle.cbor_grammar.specs.FirstBytes.{is_basic}
 use Rattle.cbor_standing.specs.NextEvent.{ItemEventsView}
 use Rattle.cbor_plain.specs.declared.plain_items.PlainItems.{PlainItems}
 use Rattle.cbor_judging.specs.Judged.{IsJudged}
 use Rattle.cbor_judging.specs.Kinds.{AsksForKinds, KeepsToKinds, IsKeyDueIn, IsOfOneHead, HasBasicFront}
 use Rattle.cbor_judging.specs.Levels.{frame, bytes_before}
-use Rattle.cbor_judging.specs.Place.{Container, at_item}
-use Rattle.cbor_judging.specs.Reading.{IsUndecided, StopsItem, IsCutHead}
+use Rattle.cbor_judging.specs.Place.{Container}
+use Rattle.cbor_judging.specs.Reading.{IsUndecided, StopsItem}
 use Rattle.cbor_judging.specs.Stopped.{IsStopped}
 use Rattle.cbor_plain.specs.inner.ItemFront.{IsDueAt}
 use Rattle.cbor_plain.specs.inner.PlainItems.{AreApart}
@@ -20,7 +18,7 @@ use Rattle.cbor_judging.proofs.Items.{cause-in, cause-front, undecided-in, undec
 use Rattle.cbor_judging.proofs.KindBytes.{keeps_due, judged_begins, one_head_front}
 use Rattle.cbor_judging.proofs.LevelFrames.{around_levels, path}
 use Rattle.cbor_judging.proofs.KindFrames.{IsAround}
-use Rattle.cbor_judging.proofs.Stopped.{stopped_by, stopped_within, stopped_other}
+use Rattle.cbor_judging.proofs.Stopped.{stopped_by}
 use Rattle.cbor_plain.proofs.PartKinds.{basic-front}
 use Rattle.cbor_plain.proofs.PathFrames.{found_within}
 
@@ -67,24 +65,14 @@ module _ (v : PlainItems) (b : Bounds) (e : ItemEventsView) (t : List ℕ) (d : 
             (λ rest is. subst (KeepsToKinds b plain) (sym (cause-front plain b [] gs [] due-before lift s.bytes to f h)) (keeps-split s.bytes h.p h.last h.found h.splits h.judged one basic))
       ])
 
-  lifted : (p : List ℕ) → IsJudged plain (length t) (b.depth - length gs) p None → IsJudged plain 0 (b.depth - 0) (t ++ p) None
+  pub lifted : (p : List ℕ) → IsJudged plain (length t) (b.depth - length gs) p None → IsJudged plain 0 (b.depth - 0) (t ++ p) None
   lifted p j = subst (λ (x : List ℕ). IsJudged plain 0 (b.depth - 0) (x ++ p) None) (sym d.taken) (lift p None (subst (λ (x : List ℕ). IsJudged plain (length x) (b.depth - length gs) p None) d.taken j))
 
-  around : IsAround b.depth (b.depth - length d.ls) (path d.ls) t (IsKeyDueIn d.ls)
+  pub around : IsAround b.depth (b.depth - length d.ls) (path d.ls) t (IsKeyDueIn d.ls)
   around = subst (λ (x : List ℕ). IsAround b.depth (b.depth - length d.ls) (path d.ls) x (IsKeyDueIn d.ls)) (sym d.taken) (around_levels b.depth d.ls d.levels)
 
-  room : b.depth - length gs ≡ b.depth - length d.ls
+  pub room : b.depth - length gs ≡ b.depth - length d.ls
   room = ap (λ (n : ℕ). b.depth - n) (length-map d.ls frame)
-
-  -- a head that is cut
-  pub refused-head : (from to : Option (List ℕ)) (f : Refusal) (bytes : List ℕ) → Consumes from to bytes → f.read ≡ length (t ++ bytes) → (c : IsCutHead b (at_item gs) t bytes to f)
-      → (AsksForKinds b plain → IsKeyDueIn d.ls → (rest : List ℕ) → from ≡ Some rest → HasBasicFront c.p) → IsStopped plain b t from to f
-  refused-head from to f = stopped_within plain b t from to f gs around room lifted d.keeps
-
-  -- a key of another kind, of which the first byte was taken
-  pub refused-key : (from to : Option (List ℕ)) (f : Refusal) (first : ℕ) → AsksForKinds b plain → IsKeyDueIn d.ls → MayFollow b.depth t first → first ≢ 0xff → ¬ IsTrue (is_basic (first / 32)) → Consumes from to (first ∷ []) → length t + 1 ≤ b.bytes
-      → f ≡ refusal KeyKind (length t) (length t + 1) → IsStopped plain b t from to f
-  refused-key from to f first = stopped_other plain b t from to f gs around room lifted d.keeps e first d.at
 
   pub undecided-whole : (x : List ℕ) → IsUndecided plain b gs t x → IsUndecided plain b [] [] (t ++ x)
   undecided-whole x u =

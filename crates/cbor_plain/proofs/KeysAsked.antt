@@ -12,11 +12,11 @@ use Rattle.cbor_judging.specs.Place.{Container, at_item, done as at_end}
 use Rattle.cbor_judging.specs.Reading.{IsNextHead, StopsHead}
 use Rattle.cbor_judging.proofs.Standing.{is-done}
 use Rattle.cbor_judging.proofs.Steps.{next-head, fault_of, stops, limits-as}
-use Rattle.cbor_judging.proofs.Stopped.{basic_first}
+use Rattle.cbor_judging.proofs.Stopped.{basic_first, stopped_within, stopped_other}
 use Rattle.cbor_judging.specs.Stopped.{IsStopped}
 use Rattle.cbor_plain.specs.declared.plain_items.PlainItems.{PlainItems}
 use Rattle.cbor_plain.specs.inner.ItemFront.{IsDueAt, IsNextDue}
-use Rattle.cbor_plain.proofs.DueRefusals.{refused-head, refused-key}
+use Rattle.cbor_plain.proofs.DueRefusals.{around, lifted, room}
 
 module _ (v : PlainItems) (b : Bounds) (e : ItemEventsView) (t : List ℕ) (d : IsDueAt v b e t) (new : ItemEventsView) (from to : Option (List ℕ)) where
   abbrev cs : List Container
@@ -27,7 +27,7 @@ module _ (v : PlainItems) (b : Bounds) (e : ItemEventsView) (t : List ℕ) (d : 
       → MatchResult result (λ event. IsNextDue b d.ls t event from to new) (λ f. IsStopped plain b t from to f)
   due-unasked (Ok event) none h = record { head = h; kind = λ asked is_key. absurd (none asked is_key) }
   due-unasked (Err f) none h = elim h.why [
-    | inl c ↦ refused-head v b e t d from to f h.bytes h.consumed h.read c (λ asked is_key. absurd (none asked is_key))
+    | inl c ↦ stopped_within plain b t from to f cs (around v b e t d) (room v b e t d) (lifted v b e t d) d.keeps h.bytes h.consumed h.read c (λ asked is_key. absurd (none asked is_key))
     | inr c ↦ absurd (cc (fault_of (at_item cs) c.mark plain (length t) c.complaint c.of).1.0)
   ]
 
@@ -52,9 +52,9 @@ module _ (v : PlainItems) (b : Bounds) (e : ItemEventsView) (t : List ℕ) (d : 
     stopped-asked f asked is_key taken h = elim h [
       | inl x ↦
           let s = stops b e new t (at_item cs) from to f d.at (limits-as _ _ limits) x.0.1 in
-          refused-head v b e t d from to f s.bytes s.consumed s.read s.cut (λ asks is_due rest known. basic_first t s.cut.p s.cut.last from to s.bytes rest f.place x.1 s.cut.place s.cut.splits s.consumed known)
+          stopped_within plain b t from to f cs (around v b e t d) (room v b e t d) (lifted v b e t d) d.keeps s.bytes s.consumed s.read s.cut (λ asks is_due rest known. basic_first t s.cut.p s.cut.last from to s.bytes rest f.place x.1 s.cut.place s.cut.splits s.consumed known)
       | inr k ↦
           let deep : new.machine.depth ≡ b.depth = limits.depth ∙ d.at.depth in
           let read : f.read ≡ length t + 1 = ap (λ (x : Refusal). x.read) k.is in
-          refused-key v b e t d from to f k.byte asked is_key (subst (λ (n : ℕ). MayFollow n t k.byte) deep k.follows) k.item k.other k.consumed (omega (arith, taken, read, limits.taken, limits.bytes, d.at.bytes)) k.is
+          stopped_other plain b t from to f cs (around v b e t d) (room v b e t d) (lifted v b e t d) d.keeps e k.byte d.at asked is_key (subst (λ (n : ℕ). MayFollow n t k.byte) deep k.follows) k.item k.other k.consumed (omega (arith, taken, read, limits.taken, limits.bytes, d.at.bytes)) k.is
     ]

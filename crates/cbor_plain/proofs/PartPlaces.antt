@@ -1,5 +1,5 @@
 -- What a part of an item is, and where it leads: the containers that are open behind it.
-use Rattle.std.proofs.Common.{◌≡◌, ◌≢◌, ℕ, zero, suc, ◌+◌, ◌-◌, ◌^◌, ◌<◌, ◌≤◌, Bool, true, false, Some, None, List, [], ◌∷◌, ◌++◌, length, map, slice_get, refl, sym, ap, ◌∙◌, subst, arith, append_assoc, append-nil, length-append}
+use Rattle.std.proofs.Common.{◌≡◌, ◌≢◌, ℕ, zero, suc, ◌+◌, ◌-◌, ◌^◌, ◌<◌, Bool, true, false, Some, None, List, [], ◌∷◌, ◌++◌, length, map, slice_get, refl, sym, ap, ◌∙◌, subst, arith, append_assoc, append-nil, length-append}
 use Rattle.std.proofs.lemmas.List.{length-map}
 use Rattle.cbor_head.specs.Prelude.{Holds, IsSimple, head, shortest_head, canonical, Bounds, array, a_map, no_spellings, no_entries, spell_all, spell_entries, spellings_count, plain}
 use Rattle.cbor_head.specs.declared.major.Major.{Major}
@@ -9,7 +9,7 @@ use Rattle.cbor_head.specs.declared.width.Width.{Width}
 use Rattle.cbor_head.specs.declared.width.Width.TheVariants.{Indefinite}
 use Rattle.cbor_standing.specs.NextEvent.{ItemEventsView}
 use Rattle.cbor_automaton.specs.Marks.{mark_of}
-use Rattle.cbor_automaton.specs.Trace.{Mark, a_head, a_break}
+use Rattle.cbor_automaton.specs.Trace.{a_head}
 use Rattle.cbor_automaton.specs.declared.event.EventKind.{EventKind}
 use Rattle.cbor_automaton.specs.declared.event.EventKind.TheVariants as kinds
 use Rattle.cbor_judging.specs.Place.{Container, Place, at_item, expect, Ends, IsTaking}
@@ -19,16 +19,14 @@ use Rattle.cbor_item.specs.OpenValues as trees
 use Rattle.cbor_item.specs.OpenValues.{OpenValue}
 use Rattle.cbor_judging.specs.Levels.{Level, a_member, a_key, some_member, some_key, tagged, frame, AreLevels, bytes_before, Standing, item_due, item_full}
 use Rattle.cbor_judging.specs.Given.{opens, StandsAt}
-use Rattle.cbor_judging.specs.Reading.{string_major, IsUndecided, IsBegun, string_value}
+use Rattle.cbor_judging.specs.Reading.{string_major, IsBegun, string_value}
 use Rattle.cbor_plain.specs.inner.PlainItems.{HaveBegun, HaveBegunIn, HasItsPlace}
 use Rattle.cbor_plain.specs.inner.PlainParts.{IsCome, leaf_value, IsLeafMajor, Begins}
 use Rattle.cbor_judging.proofs.Members.{closes}
-use Rattle.cbor_judging.proofs.Heads.{open_or, Headed}
-use Rattle.cbor_judging.proofs.Items.{definite, is-definite, proper-definite, never-open, taking-some}
-use Rattle.cbor_judging.proofs.Judged.{judged_start}
+use Rattle.cbor_judging.proofs.Heads.{open_or}
+use Rattle.cbor_judging.proofs.Items.{definite, is-definite, proper-definite, never-open}
 use Rattle.cbor_judging.proofs.Given.{full-array, full-map}
 use Rattle.cbor_judging.proofs.Loops.{array_bytes-whole, map_bytes-whole}
-use Rattle.cbor_judging.proofs.Undecided.{head-item, head-undecided}
 use Rattle.cbor_plain.specs.TreeValues.{level_values, values_at, IsFullRight}
 use Rattle.cbor_judging.proofs.Steps.{fault_of}
 
@@ -45,27 +43,6 @@ pub come-begun : (b : Bounds) (fs : List Container) (t x : List ℕ) (e : ItemEv
 come-begun b fs t x e w kind other same item i =
     let j = subst (IsCome b fs t x e w) same i in
     record { next = j.next; taking = j.taking; item = item; clean = λ c h. cc (fault_of (at_item fs) (mark_of w other) plain (length t) c h).1.0; proper = j.proper; at = j.at }
-
-short-undecided : (b : Bounds) (fs : List Container) (t x : List ℕ) → length x ≤ 1 → IsUndecided plain b fs t x
-short-undecided b fs t x l = record { p = []; last = x; splits = refl; byte = l; judged = judged_start plain (length t) (b.depth - length fs) }
-
--- all but the last byte of a head tells nothing
-pub mark-undecided : (b : Bounds) (fs : List Container) (t x : List ℕ) (mark : Mark) (next : Place) → IsTaking b.depth (at_item fs) mark x next → IsUndecided plain b fs t x
-mark-undecided b fs t x (a_head m w n) next h = go w h
-  where
-    some : 0 < length x
-    some = taking-some b.depth fs (a_head m w n) x next h
-
-    by : (v : Width) → v ≢ Indefinite → IsTaking b.depth (at_item fs) (a_head m v n) x next → IsUndecided plain b fs t x
-    by v f g =
-        let d = definite b.depth fs m v n x next f g in
-        head-undecided plain b fs t x (subst (Headed (b.depth - length fs)) (sym d.bytes_are) (head-item b.depth fs m v n x next d)) some
-
-    go : (v : Width) → IsTaking b.depth (at_item fs) (a_head m v n) x next → IsUndecided plain b fs t x
-    go Indefinite g = short-undecided b fs t x (omega (arith, ap length g.1))
-    go v g = by v (λ e. cc e) g
-mark-undecided b fs t x a_break next h = short-undecided b fs t x (omega (arith, ap length h.0))
-mark-undecided b fs t x _ next h = absurd h
 
 -- ---- parts
 

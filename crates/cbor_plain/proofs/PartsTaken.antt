@@ -41,7 +41,7 @@ use Rattle.cbor_judging.proofs.KindFrames.{keeps_on}
 use Rattle.cbor_judging.proofs.Standing.{open-is, short-at}
 use Rattle.cbor_judging.proofs.Levels.{clean-anywhere}
 use Rattle.cbor_judging.proofs.Given.{settled}
-use Rattle.cbor_judging.proofs.Undecided.{item-undecided}
+use Rattle.cbor_judging.proofs.Undecided.{item-undecided, mark-undecided}
 use Rattle.cbor_plain.specs.TreeValues.{level_values, values_with, IsForTree}
 use Rattle.cbor_plain.proofs.DueRefusals.{few, due-keeps, refused-item, undecided-whole}
 use Rattle.cbor_plain.proofs.TreeValues.{values-given, settles-right, tree-step}
@@ -51,7 +51,7 @@ use Rattle.cbor_judging.proofs.Steps.{at-reached}
 use Rattle.cbor_judging.proofs.Stopped.{stopped_behind}
 use Rattle.cbor_judging.specs.Stopped.{IsStopped}
 use Rattle.cbor_judging.proofs.Valid.{count_bounded}
-use Rattle.cbor_plain.proofs.PartPlaces.{IsPlaced, begins-container, breaks, leaf-canonical, leaf-major, mark-undecided, opens-by, stands-as, string-canonical}
+use Rattle.cbor_plain.proofs.PartPlaces.{IsPlaced, begins-container, breaks, leaf-canonical, leaf-major, opens-by, stands-as, string-canonical}
 
 -- ---- what may come
 
@@ -194,7 +194,7 @@ module _ (v : PlainItems) (b : Bounds) (e : ItemEventsView) (t : List ℕ) (d : 
           some = some-head;
           consumed = subst (λ (z : Option (List ℕ)). Consumes from z n.bytes) (sym still.reader) n.consumed;
           keeps = keeps;
-          undecided = undecided-whole v b e t d n.bytes (mark-undecided b gs t n.bytes (mark_of ev.width ev.kind) n.next n.taking);
+          undecided = undecided-whole v b e t d n.bytes (mark-undecided plain b gs t n.bytes (mark_of ev.width ev.kind) n.next n.taking);
           q = n.next;
           at = at;
           leads = λ now height place count same same_place starts same_kinds given step keys. leads now height place count same same_place starts same_kinds given step keys at;

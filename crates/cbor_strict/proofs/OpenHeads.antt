@@ -1,5 +1,5 @@
 -- What becomes of the open containers as a head comes.
-use Rattle.std.proofs.Common.{◌≡◌, ◌≢◌, ℕ, ◌+◌, ◌-◌, ◌<◌, ◌≤◌, ◌⊎◌, Bool, false, Option, Some, None, List, [], ◌∷◌, ◌++◌, length, refl, sym, ap, ◌∙◌, subst, inl, inr, arith, append-nil, length-append}
+use Rattle.std.proofs.Common.{◌≡◌, ◌≢◌, ℕ, ◌+◌, ◌<◌, ◌≤◌, ◌⊎◌, Bool, false, Option, Some, None, List, [], ◌∷◌, ◌++◌, length, refl, sym, ap, ◌∙◌, subst, inl, inr, arith, append-nil, length-append}
 use Rattle.std.proofs.lemmas.List.{nil_from_length}
 use Rattle.cbor_head.specs.Prelude.{head, shortest, shortest_head, Bounds, Value, Spelling, SpelledEntries, no_entries, spell, strict, OfHead, Complains, refusal}
 use Rattle.cbor_head.specs.declared.limits.TheConstants.{MAX_DEPTH}
@@ -13,7 +13,7 @@ use Rattle.cbor_head.specs.declared.reason.Refusal.{Refusal}
 use Rattle.cbor_head.specs.declared.width.Width.{Width}
 use Rattle.cbor_head.specs.declared.width.Width.TheVariants.{Direct, One, Two, Four, Eight, Indefinite}
 use Rattle.cbor_automaton.specs.Trace.{Mark, a_head}
-use Rattle.cbor_judging.specs.Place.{Container, Place, at_item, close, payload, IsTaking}
+use Rattle.cbor_judging.specs.Place.{Container, at_item, close, payload, IsTaking}
 use Rattle.cbor_standing.specs.NextEvent.{ItemEventsView}
 use Rattle.cbor_automaton.specs.Marks.{mark_of}
 use Rattle.cbor_automaton.specs.declared.event.Event.{Event}
@@ -28,8 +28,7 @@ use Rattle.cbor_strict.specs.inner.LastKeys.{seen, from_outside, due_of, IsKept}
 use Rattle.cbor_strict.specs.inner.OpenItems.{AreOpenClean, frames_in, bytes_before, Stands, HasEnded, HasHeadCome, HasBegunIn, IsLeaf, IsMap, IsOther, short_head}
 use Rattle.cbor_judging.specs.Reading.{AreRefused, IsReached, IsUndecided, HasCause, OfMark, IsFault, IsBegun, ReadsItem, string_kind, string_major}
 use Rattle.cbor_judging.specs.OpenMaps.{AreOpen, AreOpenDistinct}
-use Rattle.cbor_judging.proofs.Heads.{Headed}
-use Rattle.cbor_judging.proofs.Items.{IsDefinite, definite, proper-definite, never-open, head-count, cause-in, undecided-in, head-judged, taking-some}
+use Rattle.cbor_judging.proofs.Items.{definite, proper-definite, never-open, head-count, cause-in, undecided-in, head-judged}
 use Rattle.cbor_judging.specs.Judged.{Never}
 use Rattle.cbor_strict.proofs.KeptEnds.{kept_keys, kept_levels}
 use Rattle.cbor_strict.proofs.OpenBegins.{lift, no_break, no_openers, leaf_reads, HasOpened, other_opens, pairs_open}
@@ -37,7 +36,7 @@ use Rattle.cbor_strict.proofs.OpenEnds.{frames_length, before_more}
 use Rattle.cbor_strict.proofs.OpenItems.{around_as}
 use Rattle.cbor_judging.proofs.Scalars.{at-as}
 use Rattle.cbor_judging.proofs.Steps.{head-size, fault_of, at-reached}
-use Rattle.cbor_judging.proofs.Undecided.{head-item, head-undecided}
+use Rattle.cbor_judging.proofs.Undecided.{mark-undecided}
 use Rattle.cbor_judging.proofs.WholeStrings.{string-head, string-due}
 
 -- ---- what is found of the item is found of the whole
@@ -80,13 +79,6 @@ refused_head v b event t x e reason f taken to h fault all is =
 -- ---- no memory for it
 
 -- without complaint it is definite, and as short as can be
-record IsShort (d : ℕ) (fs : List Container) (x : List ℕ) (kind : EventKind) (next : Place) : Type 0 where
-  major : Major
-  width : Width
-  number : ℕ
-  is : IsDefinite d fs major width number x next
-  short : x ≡ short_head kind
-
 same_width : (v w : Width) → (v ≡ w) ⊎ (v ≡ w → ⊥)
 same_width Direct Direct = inl refl
 same_width One One = inl refl
@@ -100,14 +92,14 @@ shortest_so : (o : KeyOrder) (at : ℕ) (m : Major) (w : Width) (n : ℕ) → Ne
 shortest_so o at m w n none = elim (same_width w (shortest n)) [ inl e ↦ e | inr f ↦ absurd (none _ (refl, f, refl)) ]
 
 short_of : (o : KeyOrder) (b : Bounds) (fs : List Container) (t x : List ℕ) (e : ItemEventsView) (w : Width) (m : Major) (n : ℕ) (kind : EventKind) → mark_of w kind ≡ a_head m w n → w ≢ Indefinite → short_head kind ≡ shortest_head m n
-    → (i : IsBegun (strict o) b fs t x e w kind) → IsShort b.depth fs x kind i.next
+    → IsBegun (strict o) b fs t x e w kind → x ≡ short_head kind
 short_of o b fs t x e w m n kind is f short i =
     let d = definite b.depth fs m w n x i.next f (subst (λ (y : Mark). IsTaking b.depth (at_item fs) y x i.next) is i.taking) in
     let clean : Never (OfHead (strict o) (length t) m w n) =
     λ c h. i.clean c (subst (λ (y : Mark). OfMark (strict o) (length t) (at_item fs) y c) (sym is) (head-count (strict o) (length t) m w n c f h)) in
-    record { major = m; width = w; number = n; is = d; short = d.bytes_are ∙ ap (λ (y : Width). head m y n) (shortest_so o (length t) m w n clean) ∙ sym short }
+    d.bytes_are ∙ ap (λ (y : Width). head m y n) (shortest_so o (length t) m w n clean) ∙ sym short
 
-short_begun : (o : KeyOrder) (b : Bounds) (fs : List Container) (t x : List ℕ) (e : ItemEventsView) (w : Width) (kind : EventKind) → (i : IsBegun (strict o) b fs t x e w kind) → IsShort b.depth fs x kind i.next
+short_begun : (o : KeyOrder) (b : Bounds) (fs : List Container) (t x : List ℕ) (e : ItemEventsView) (w : Width) (kind : EventKind) → IsBegun (strict o) b fs t x e w kind → x ≡ short_head kind
 short_begun o b fs t x e w (kinds.Unsigned n) i = short_of o b fs t x e w majors.Unsigned n (kinds.Unsigned n) refl (never-open b.depth fs majors.Unsigned w n x i.next tt i.taking) refl i
 short_begun o b fs t x e w (kinds.Negative n) i = short_of o b fs t x e w majors.Negative n (kinds.Negative n) refl (never-open b.depth fs majors.Negative w n x i.next tt i.taking) refl i
 short_begun o b fs t x e w (kinds.Simple n) i = short_of o b fs t x e w majors.Simple n (kinds.Simple n) refl (never-open b.depth fs majors.Simple w n x i.next tt i.taking) refl i
@@ -139,23 +131,19 @@ begun_in v b event t x e h fine = record {
 pub begun_no_memory : (v : OpenItems) (b : Bounds) (w : Width) (kind : EventKind) (t x : List ℕ) (e : ItemEventsView) (f : Refusal) (taken : ℕ) (to : Option (List ℕ)) (fs : List Frame) → AreOpenClean v b fs → t ≡ bytes_before fs
     → IsBegun (strict v.order) b (frames_in fs) t x e w kind → taken ≡ e.machine.taken → f ≡ refusal Memory taken taken → AreRefused (strict v.order) b (t ++ x) to f
 begun_no_memory v b w kind t x e f taken to fs around before i all is =
-    let k = short_begun v.order b (frames_in fs) t x e w kind i in
-    let it = subst (Headed (b.depth - length (frames_in fs))) (sym k.is.bytes_are) (head-item b.depth (frames_in fs) k.major k.width k.number x i.next k.is) in
-    let some = taking-some b.depth (frames_in fs) (mark_of w kind) x i.next i.taking in
     memory_part v.order b fs around.are around.distinct x (t ++ x) to f taken (ap (λ (y : List ℕ). y ++ x) before) (all ∙ i.at.stands.stands.taken) is (at-reached b e (t ++ x) i.next i.at)
-    (head-undecided (strict v.order) b (frames_in fs) (bytes_before fs) x it some)
+    (mark-undecided (strict v.order) b (frames_in fs) (bytes_before fs) x (mark_of w kind) i.next i.taking)
 
 -- what is kept now
 pub begun_kept : (v new : OpenItems) (b : Bounds) (event : Event) (t x : List ℕ) (e : ItemEventsView) → (h : HasHeadCome v b event t x e) → ((reason : Reason) → IsFault (strict v.order) (mark_of event.width event.kind) reason → ⊥)
     → new.order ≡ v.order → new.left ≡ v.left → ((fs : List Frame) → IsKept (seen v.keys) fs [] → IsKept (seen new.keys) fs (short_head event.kind)) → HasBegunIn new b event.width event.kind t x e
 begun_kept v new b event t x e h fine same same_left kept =
     let i = begun_in v b event t x e h fine in
-    let k = short_begun v.order b (frames_in h.fs) t x e event.width event.kind i in
     record {
       fs = h.fs;
       around = around_as v.order new b h.fs (sym same) h.around.are h.around.distinct;
       none = same_left ∙ h.none;
-      kept = subst (IsKept (seen new.keys) h.fs) (sym k.short) (kept h.fs h.kept);
+      kept = subst (IsKept (seen new.keys) h.fs) (sym (short_begun v.order b (frames_in h.fs) t x e event.width event.kind i)) (kept h.fs h.kept);
       taken = h.taken;
       begun = subst (λ (o : KeyOrder). IsBegun (strict o) b (frames_in h.fs) t x e event.width event.kind) (sym same) i;
     }

@@ -1,4 +1,4 @@
-use Rattle.std.proofs.Common.{Some, length, refl, sym, ap, ◌∙◌, subst, arith, Ok}
+use Rattle.std.proofs.Common.{Some, length, refl, sym, ap, subst, arith, Ok}
 use Rattle.cbor_head.specs.Prelude.{strict}
 use Rattle.cbor_standing.specs.Machine.{KeepsLimits}
 use Rattle.cbor_judging.specs.Refusals.{IsReaderReason}
