@@ -214,7 +214,7 @@ impl LastKeys {
 
     // Whether no key of the map stands before the next one.
     fn is_first(&self, span: Span) -> bool
-        ensures { result ≡ true → (span.from ≡ span.next)
+        ensures { IsTrue result ↔ (span.from ≡ span.next)
             × (span.next < length self.now.bytes.items) }
     {
         span.from == span.next && span.next < self.bytes.len()

@@ -79,6 +79,7 @@ impl OpenItems {
         ensures order { self.new.order ≡ self.old.order }
         ensures answers { AnswersHead self.old self.new event.now «open» taken result }
         ensures against { IfErr result (λ f. IsAgainstEvent self.old.order f.reason) }
+        ensures read { IfErr result (λ f. f.read ≡ taken) }
     {
         match fault_of(event) {
             Some(reason) => return Err(Refusal::new(reason, event.place, taken)),
@@ -118,6 +119,7 @@ impl OpenItems {
         ensures order { self.new.order ≡ self.old.order }
         ensures answers { AnswersBegun self.old self.new kind «open» taken result }
         ensures against { IfErr result (λ f. IsAgainstEvent self.old.order f.reason) }
+        ensures read { IfErr result (λ f. f.read ≡ taken) }
     {
         match what_begins(kind) {
             Begun::Leaf => return self.end_item(open, taken),
@@ -153,6 +155,7 @@ impl OpenItems {
         ensures order { self.new.order ≡ self.old.order }
         ensures answers { AnswersPart self.old self.new piece.now «open» taken result }
         ensures against { IfErr result (λ f. IsAgainstEvent self.old.order f.reason) }
+        ensures read { IfErr result (λ f. f.read ≡ taken) }
     {
         match self.keys.keep(piece) {
             Ok(()) => {}
@@ -209,6 +212,7 @@ impl OpenItems {
         ensures order { self.new.order ≡ self.old.order }
         ensures answers { AnswersEnd self.old self.new «open» taken result }
         ensures against { IfErr result (λ f. IsAgainstEvent self.old.order f.reason) }
+        ensures read { IfErr result (λ f. f.read ≡ taken) }
     {
         self.keys.close(open);
         match self.keys.due() {

@@ -55,7 +55,7 @@ returns-then-is_first c = λ w a v b fs s h.
     let g = rw c.deref.ensures.value at c.in-Some.ensures.item.1 in
     let k = seen c.args.self.now in
     let sp = c.in-Some.last.now in
-    let f = c.is_first.ensures c.if-is_first.true in (
+    let f = c.is_first.ensures.0 c.if-is_first.true in (
       first_rises k w a v b fs s sp h g f.0 c.args.order f.1,
       rw c.put_key.ensures (first_kept k w a v b fs s sp h g f.0 _ (omega (arith, h.open_keys))),
     )
