@@ -10,7 +10,7 @@ use Rattle.cbor_judging.specs.Place.{Container, Place, close, payload}
 use Rattle.cbor_standing.specs.NextEvent.{ItemEventsView}
 use Rattle.cbor_judging.specs.Judged.{IsJudged, Never}
 use Rattle.cbor_judging.specs.Reading.{IsAt, IsFormRefusal, IsNoText, IsBegun, ReadsItem, StopsItem, HasCause, ReadsPayload, StopsPayload, string_major, string_kind, string_value}
-use Rattle.cbor_judging.proofs.Items.{definite, proper-definite, is-definite, head-count}
+use Rattle.cbor_judging.proofs.Items.{whole-cause, definite, proper-definite, is-definite, head-count}
 use Rattle.cbor_judging.proofs.Scalars.{at-as}
 use Rattle.cbor_judging.proofs.CutHeads.{string_cut}
 use Rattle.cbor_judging.proofs.Leaves.{text_complains}
@@ -48,15 +48,10 @@ text-judged r b fs t x w n next to f looks h q y =
     let at = length t + length (head majors.Text w (length q)) in
     let there : length (t ++ x) ≡ at = length-append t x ∙ ap (λ (u : List ℕ). length t + length u) head_as in
     let c = complaint (at + length q) (at + utf8_valid_len q) InvalidText in
-    record {
-      p = x ++ q;
-      last = [];
-      splits = sym (append-nil (x ++ q));
-      found = Some c;
-      judged = subst (λ (u : List ℕ). IsJudged r (length t) (b.depth - length fs) (u ++ q) (Some c)) (sym head_as)
-          (text_complains w q r (length t) (b.depth - length fs) c (subst (Holds w) (sym y.count) h.holds, y.are_bytes) (subst (λ (k : ℕ). Never (OfHead r (length t) majors.Text w k)) (sym y.count) h.clean) (looks, y.no_text, refl));
-      cause = (y.is ∙ ap (λ (k : ℕ). refusal InvalidText (k + utf8_valid_len q) (k + length q)) there, subst (λ (u : List ℕ). length u ≤ b.bytes) (append_assoc t x q) y.within);
-    }
+    whole-cause r b fs t (x ++ q) to f c
+    (subst (λ (u : List ℕ). IsJudged r (length t) (b.depth - length fs) (u ++ q) (Some c)) (sym head_as)
+    (text_complains w q r (length t) (b.depth - length fs) c (subst (Holds w) (sym y.count) h.holds, y.are_bytes) (subst (λ (k : ℕ). Never (OfHead r (length t) majors.Text w k)) (sym y.count) h.clean) (looks, y.no_text, refl)))
+    (y.is ∙ ap (λ (k : ℕ). refusal InvalidText (k + utf8_valid_len q) (k + length q)) there) (subst (λ (u : List ℕ). length u ≤ b.bytes) (append_assoc t x q) y.within)
 
 module _ (r : Rules) (b : Bounds) (fs : List Container) (t x : List ℕ) (e : ItemEventsView) (w : Width) (text : Bool) (n : ℕ) (i : IsBegun r b fs t x e w (string_kind text (Some n))) where
   head-is : StringHead r b fs t x w text n i.next

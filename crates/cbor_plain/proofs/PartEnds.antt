@@ -1,5 +1,5 @@
 -- What ends behind a part: the containers that are full, and the item, or a key that came before.
-use Rattle.std.proofs.Common.{Vec, Global, ◌≡◌, ℕ, zero, suc, ◌+◌, ◌-◌, ◌^◌, ◌<◌, ◌≤◌, Bool, true, Option, Some, List, [], ◌∷◌, ◌++◌, length, map, slice_get, refl, sym, ap, ap₂, ◌∙◌, subst, arith, append_assoc, append-nil, nat_lt, length-append}
+use Rattle.std.proofs.Common.{Vec, Global, ◌≡◌, ℕ, zero, suc, ◌+◌, ◌-◌, ◌^◌, ◌<◌, ◌≤◌, Bool, true, Option, Some, List, [], ◌∷◌, ◌++◌, length, map, slice_get, refl, sym, ap, ap₂, ◌∙◌, subst, arith, append_assoc, nat_lt, length-append}
 use Rattle.std.proofs.lemmas.List.{length-map}
 use Rattle.cbor_head.specs.Prelude.{canonical, canonical_entries, entries_of, Bounds, Spelling, SpelledEntries, spell, value_of, plain, refusal}
 use Rattle.cbor_head.specs.Complaint as complaint
@@ -30,6 +30,7 @@ use Rattle.cbor_plain.proofs.TreeValues.{values-ended, settles-right, tree-step,
 use Rattle.cbor_plain.proofs.PathFrames.{repeat_found}
 use Rattle.cbor_plain.proofs.Paths.{closed-apart, apart-now, ends-apart, settled-begun, settled-place}
 use Rattle.cbor_judging.proofs.Scalars.{at-as}
+use Rattle.cbor_judging.proofs.Items.{whole-cause}
 use Rattle.cbor_judging.proofs.Steps.{at-reached}
 use Rattle.cbor_plain.proofs.PartPlaces.{stands-as}
 
@@ -135,14 +136,8 @@ module _ (v : PlainItems) (b : Bounds) (e : ItemEventsView) (t : List ℕ) (h : 
           let c = complaint.complaint (at + length (spell k)) at RepeatedKey in
           let whole : b.depth ≡ b.depth - 0 = omega arith in
           let j = repeat_found o b.depth ls l done behind levels (omega (arith, few-bytes, size)) apart k taken (omega (arith, few-bytes, size)) repeats in
-          record {
-            p = t;
-            last = [];
-            splits = sym (append-nil t);
-            found = Some c;
-            judged = subst (λ (n : ℕ). IsJudged plain 0 n t (Some c)) whole (subst (λ (x : List ℕ). IsJudged plain 0 b.depth x (Some c)) (sym bytes_are) j);
-            cause = (is ∙ ap₂ (λ (x y : ℕ). refusal RepeatedKey x y) here (h.at.stands.stands.taken ∙ size), (at-reached b e t h.q h.at).within);
-          }
+          whole-cause plain b [] [] t to f c (subst (λ (n : ℕ). IsJudged plain 0 n t (Some c)) whole (subst (λ (x : List ℕ). IsJudged plain 0 b.depth x (Some c)) (sym bytes_are) j))
+          (is ∙ ap₂ (λ (x y : ℕ). refusal RepeatedKey x y) here (h.at.stands.stands.taken ∙ size)) (at-reached b e t h.q h.at).within
 
       go : (x : Standing) → StandsAt o b.depth t h.q v.builder.standing e.machine.open_count x → HasItsPlace v.starts.items x → HasCause plain b [] [] t to f
       go (item_due (a_value w left done k ∷ ls)) s place_so =

@@ -1,7 +1,7 @@
 -- What a part of an item is, and where it leads: the containers that are open behind it.
 use Rattle.std.proofs.Common.{◌≡◌, ◌≢◌, ℕ, zero, suc, ◌+◌, ◌-◌, ◌^◌, ◌<◌, Bool, true, false, Some, None, List, [], ◌∷◌, ◌++◌, length, map, slice_get, refl, sym, ap, ◌∙◌, subst, arith, append_assoc, append-nil, length-append}
 use Rattle.std.proofs.lemmas.List.{length-map}
-use Rattle.cbor_head.specs.Prelude.{Holds, IsSimple, head, shortest_head, canonical, Bounds, array, a_map, no_spellings, no_entries, spell_all, spell_entries, spellings_count, plain}
+use Rattle.cbor_head.specs.Prelude.{Holds, IsSimple, head, shortest_head, canonical, Bounds, Spelling, array, a_map, no_spellings, no_entries, spell_all, spell_entries, spellings_count, plain}
 use Rattle.cbor_head.specs.declared.major.Major.{Major}
 use Rattle.cbor_head.specs.declared.major.Major.TheVariants as majors
 use Rattle.cbor_head.specs.declared.order.KeyOrder.{KeyOrder}
@@ -83,6 +83,11 @@ pub record IsPlaced (o : KeyOrder) (d : ℕ) (t : List ℕ) (q : Place) (os : Li
   pub right : IsFullRight standing
   pub values : vs ≡ values_at standing
 
+-- an item is full
+full-here : (o : KeyOrder) (d : ℕ) (ls : List Level) (s : Spelling) (t : List ℕ) (q : Place) (os : List Open) (h : ℕ) (xs : List ℕ) (vs : List OpenValue) → StandsAt o d t q os h (item_full ls s) → HaveBegun xs ls
+    → slice_get xs (length ls) ≡ Some (length (bytes_before ls)) → IsFullRight (item_full ls s) → vs ≡ values_at (item_full ls s) → IsPlaced o d t q os h xs vs
+full-here o d ls s t q os h xs vs stands begun place right values = record { standing = item_full ls s; stands = stands; begun = begun; place = place; right = right; values = values }
+
 module _ (o : KeyOrder) (b : Bounds) (ls : List Level) (levels : AreLevels b.depth ls) (xs : List ℕ) (begun : HaveBegun xs ls) (here : slice_get xs (length ls) ≡ Some (length (bytes_before ls))) where
   abbrev fs : List Container
   fs = map frame ls
@@ -97,40 +102,20 @@ module _ (o : KeyOrder) (b : Bounds) (ls : List Level) (levels : AreLevels b.dep
       record { standing = item_due (l ∷ ls); stands = (inner, bytes, follows, are, refl); begun = (here, begun); place = place; right = tt; values = values }
 
   array-begins : (k : ℕ) (w : Width) (next : Place) → Holds w k → length fs < b.depth → next ≡ expect k fs → IsPlaced o b.depth (bytes_before ls ++ head majors.Array w k) next (an_array 0 [] ∷ opens o ls) (suc (length ls)) xs (trees.an_array [] ∷ level_values ls)
-  array-begins zero w next holds room follows = record {
-    standing = item_full ls (array w no_spellings);
-    stands = (
-      levels,
-      ap (λ (x : List ℕ). bytes_before ls ++ x) (sym (append-nil (head majors.Array w 0)) ∙ sym (array_bytes-whole w 0 no_spellings (closes w (is-definite w 0 holds)) refl)),
-      follows,
-      (_, full-array o (b.depth - length ls) 0 w no_spellings 0 [] refl refl tt (open_or w 0 holds) (omega (arith, room-for room)), refl),
-      refl,
-    );
-    begun = begun;
-    place = here;
-    right = tt;
-    values = refl;
-  }
+  array-begins zero w next holds room follows =
+      full-here o b.depth ls (array w no_spellings) _ next _ _ xs _
+      (levels, ap (λ (x : List ℕ). bytes_before ls ++ x) (sym (append-nil (head majors.Array w 0)) ∙ sym (array_bytes-whole w 0 no_spellings (closes w (is-definite w 0 holds)) refl)), follows, (_, full-array o (b.depth - length ls) 0 w no_spellings 0 [] refl refl tt (open_or w 0 holds) (omega (arith, room-for room)), refl), refl)
+      begun here tt refl
   array-begins (suc left) w next holds room follows =
       let count : suc left ≡ 0 + suc left = omega arith in
       due-here (a_member w left no_spellings) (head majors.Array w (suc left)) next _ _ (room-for room, (subst (Holds w) count holds, tt), levels)
       (ap (λ (x : List ℕ). bytes_before ls ++ x) (ap (head majors.Array w) count ∙ sym (append-nil (head majors.Array w (0 + suc left))))) follows refl tt refl
 
   map-begins : (k : ℕ) (w : Width) (next : Place) → Holds w k → length fs < b.depth → next ≡ expect (k + k) fs → IsPlaced o b.depth (bytes_before ls ++ head majors.Map w k) next (an_open_map [] ∷ opens o ls) (suc (length ls)) xs (trees.a_map [] ∷ level_values ls)
-  map-begins zero w next holds room follows = record {
-    standing = item_full ls (a_map w no_entries);
-    stands = (
-      levels,
-      ap (λ (x : List ℕ). bytes_before ls ++ x) (sym (append-nil (head majors.Map w 0)) ∙ sym (map_bytes-whole w 0 no_entries (closes w (is-definite w 0 holds)) refl)),
-      follows,
-      (_, full-map o (b.depth - length ls) 0 w no_entries [] refl tt (open_or w 0 holds) (omega (arith, room-for room)) (omega arith), refl),
-      refl,
-    );
-    begun = begun;
-    place = here;
-    right = tt;
-    values = refl;
-  }
+  map-begins zero w next holds room follows =
+      full-here o b.depth ls (a_map w no_entries) _ next _ _ xs _
+      (levels, ap (λ (x : List ℕ). bytes_before ls ++ x) (sym (append-nil (head majors.Map w 0)) ∙ sym (map_bytes-whole w 0 no_entries (closes w (is-definite w 0 holds)) refl)), follows, (_, full-map o (b.depth - length ls) 0 w no_entries [] refl tt (open_or w 0 holds) (omega (arith, room-for room)) (omega arith), refl), refl)
+      begun here tt refl
   map-begins (suc left) w next holds room follows =
       let count : suc left ≡ 0 + suc left = omega arith in
       let two : suc left + suc left ≡ suc (suc (left + left)) = omega arith in
@@ -167,37 +152,12 @@ module _ (o : KeyOrder) (b : Bounds) (ls : List Level) (levels : AreLevels b.dep
 -- the break
 pub breaks : (o : KeyOrder) (b : Bounds) (ls : List Level) (next : Place) (xs : List ℕ) → AreLevels b.depth ls → HaveBegun xs ls → length (bytes_before ls) < 2 ^ 63 → Ends (map frame ls) next
     → IsPlaced o b.depth (bytes_before ls ++ 0xff ∷ []) next (opens o ls) (length ls) xs (level_values ls)
-breaks o b (some_member done ∷ ms) next xs h begun s x = record {
-  standing = item_full ms (array Indefinite done);
-  stands = (
-    h.2,
-    append_assoc (bytes_before ms) (head majors.Array Indefinite 0 ++ spell_all done) (0xff ∷ []),
-    x,
-    (_, full-array o (b.depth - length ms) (b.depth - suc (length ms)) Indefinite done (spellings_count done) _ refl refl h.1 tt (omega (arith, h.0)), refl),
-    refl,
-  );
-  begun = begun.1;
-  place = begun.0;
-  right = tt;
-  values = refl;
-}
-breaks o b (some_key done ∷ ms) next xs h begun s x = record {
-  standing = item_full ms (a_map Indefinite done);
-  stands = (
-    h.2,
-    append_assoc (bytes_before ms) (head majors.Map Indefinite 0 ++ spell_entries done) (0xff ∷ []),
-    x,
-    (
-      _,
-      full-map o (b.depth - length ms) (b.depth - suc (length ms)) Indefinite done _ refl h.1 tt (omega (arith, h.0))
-          (omega (arith, s, length-append (bytes_before ms) (head majors.Map Indefinite 0 ++ spell_entries done), length-append (head majors.Map Indefinite 0) (spell_entries done))),
-      refl,
-    ),
-    refl,
-  );
-  begun = begun.1;
-  place = begun.0;
-  right = tt;
-  values = refl;
-}
+breaks o b (some_member done ∷ ms) next xs h begun s x =
+    full-here o b.depth ms (array Indefinite done) _ next _ _ xs _
+    (h.2, append_assoc (bytes_before ms) (head majors.Array Indefinite 0 ++ spell_all done) (0xff ∷ []), x, (_, full-array o (b.depth - length ms) (b.depth - suc (length ms)) Indefinite done (spellings_count done) _ refl refl h.1 tt (omega (arith, h.0)), refl), refl)
+    begun.1 begun.0 tt refl
+breaks o b (some_key done ∷ ms) next xs h begun s x =
+    full-here o b.depth ms (a_map Indefinite done) _ next _ _ xs _
+    (h.2, append_assoc (bytes_before ms) (head majors.Map Indefinite 0 ++ spell_entries done) (0xff ∷ []), x, (_, full-map o (b.depth - length ms) (b.depth - suc (length ms)) Indefinite done _ refl h.1 tt (omega (arith, h.0)) (omega (arith, s, length-append (bytes_before ms) (head majors.Map Indefinite 0 ++ spell_entries done), length-append (head majors.Map Indefinite 0) (spell_entries done))), refl), refl)
+    begun.1 begun.0 tt refl
 breaks o b _ next xs h begun s x = absurd x

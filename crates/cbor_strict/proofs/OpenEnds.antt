@@ -1,5 +1,5 @@
 -- What becomes of the open containers as an item ends in them, whatever is kept of them.
-use Rattle.std.proofs.Common.{◌≡◌, ◌≢◌, ℕ, suc, ◌+◌, ◌-◌, ◌≤◌, IsTrue, Option, Some, List, [], ◌∷◌, ◌++◌, length, refl, sym, ap, ◌∙◌, subst, inl, inr, arith, append_assoc, append-nil, length-append}
+use Rattle.std.proofs.Common.{◌≡◌, ◌≢◌, ℕ, suc, ◌+◌, ◌-◌, ◌≤◌, IsTrue, Option, Some, List, [], ◌∷◌, ◌++◌, length, refl, sym, ap, ◌∙◌, subst, inl, inr, arith, append_assoc, length-append}
 use Rattle.cbor_head.specs.Prelude.{Bounds, key_lt, Spelling, Spellings, SpelledEntries, no_spellings, a_spelling, no_entries, entry, spell, spellings_count, entries_count, IsSpelled, depth, rising, Rules, strict, OfCount, OfKey, Complains, refusal}
 use Rattle.cbor_head.specs.Complaint as complaint
 use Rattle.cbor_head.specs.declared.major.Major.{Major}
@@ -20,6 +20,7 @@ use Rattle.cbor_judging.proofs.Frames.{spelled_plug, depth_plug}
 use Rattle.cbor_judging.proofs.Judged.{judged_key}
 use Rattle.cbor_judging.proofs.OpenKeys.{on_keys_split, onto_keys, front_apart}
 use Rattle.cbor_judging.proofs.OpenMaps.{judged_within}
+use Rattle.cbor_judging.proofs.Items.{whole-cause}
 use Rattle.cbor_judging.proofs.OpenSteps.{before_snoc, distinct_snoc, member_before, content_before, content_keys, map_closes, array_closes, tag_closes, shuts, innermost, member_ends, key_ends, content_ends}
 use Rattle.cbor_judging.proofs.Scalars.{at-as}
 use Rattle.cbor_judging.proofs.LastKey.{key-fresh, key-falls, last_is}
@@ -247,11 +248,5 @@ module _ (o : KeyOrder) (b : Bounds) (e : ItemEventsView) (t : List ℕ) (gs : L
       let whole = judged_within (from_outside gs) (strict o) 0 at out.left (before fr ++ spell s) (Some cmp) (omega arith) out.path out.closed u.0
       (subst (λ (n : ℕ). IsJudged (strict o) at n (before fr ++ spell s) (Some cmp)) (sym (level_back o b.depth fr gs m.clean.are out)) one) in
       let level : length (from_outside gs) + out.left ≡ b.depth - 0 = (let levels = out.levels in omega (arith, levels)) in
-      record {
-        p = t;
-        last = [];
-        splits = sym (append-nil t);
-        found = Some cmp;
-        judged = subst (λ (n : ℕ). IsJudged (strict o) 0 n t (Some cmp)) level (subst (λ (x : List ℕ). IsJudged (strict o) 0 (length (from_outside gs) + out.left) x (Some cmp)) (sym bytes_are) whole);
-        cause = (is ∙ ap (λ (n : ℕ). refusal reasons.KeyOrder n (length t)) (before_size gs fr) ∙ ap (refusal reasons.KeyOrder to0) count_all, (at-reached b e t (close (frames_in (fr ∷ gs))) m.at).within);
-      }
+      whole-cause (strict o) b [] [] t to f cmp (subst (λ (n : ℕ). IsJudged (strict o) 0 n t (Some cmp)) level (subst (λ (x : List ℕ). IsJudged (strict o) 0 (length (from_outside gs) + out.left) x (Some cmp)) (sym bytes_are) whole))
+      (is ∙ ap (λ (n : ℕ). refusal reasons.KeyOrder n (length t)) (before_size gs fr) ∙ ap (refusal reasons.KeyOrder to0) count_all) (at-reached b e t (close (frames_in (fr ∷ gs))) m.at).within

@@ -28,7 +28,7 @@ use Rattle.cbor_strict.specs.inner.LastKeys.{seen, from_outside, due_of, IsKept}
 use Rattle.cbor_strict.specs.inner.OpenItems.{AreOpenClean, frames_in, bytes_before, Stands, HasEnded, HasHeadCome, HasBegunIn, IsLeaf, IsMap, IsOther, short_head}
 use Rattle.cbor_judging.specs.Reading.{AreRefused, IsReached, IsUndecided, HasCause, OfMark, IsFault, IsBegun, ReadsItem, string_kind, string_major}
 use Rattle.cbor_judging.specs.OpenMaps.{AreOpen, AreOpenDistinct}
-use Rattle.cbor_judging.proofs.Items.{definite, proper-definite, never-open, head-count, cause-in, undecided-in, head-judged}
+use Rattle.cbor_judging.proofs.Items.{whole-cause, definite, proper-definite, never-open, head-count, cause-in, undecided-in, head-judged}
 use Rattle.cbor_judging.specs.Judged.{Never}
 use Rattle.cbor_strict.proofs.KeptEnds.{kept_keys, kept_levels}
 use Rattle.cbor_strict.proofs.OpenBegins.{lift, no_break, no_openers, leaf_reads, HasOpened, other_opens, pairs_open}
@@ -65,14 +65,7 @@ refused_head v b event t x e reason f taken to h fault all is =
     let f_is : f ≡ refusal reason (length t) (length t + length x) = is ∙ ap (λ (n : ℕ). refusal reason n taken) h.place ∙ ap (refusal reason (length t)) size in
     let c = complaint.complaint (length t + length x) (length t) reason in
     let of = head-size b.depth (at_item (frames_in h.fs)) h.next (mark_of event.width event.kind) x (strict v.order) (length t) reason h.taking fault in
-    let cause : HasCause (strict v.order) b (frames_in h.fs) t x to f = record {
-      p = x;
-      last = [];
-      splits = sym (append-nil x);
-      found = Some c;
-      judged = head-judged (strict v.order) (length t) b.depth (frames_in h.fs) (mark_of event.width event.kind) x h.next c h.taking of;
-      cause = (f_is, (at-reached b e (t ++ x) h.next h.at).within);
-    } in
+    let cause = whole-cause (strict v.order) b (frames_in h.fs) t x to f c (head-judged (strict v.order) (length t) b.depth (frames_in h.fs) (mark_of event.width event.kind) x h.next c h.taking of) f_is (at-reached b e (t ++ x) h.next h.at).within in
     refused_part v.order b h.fs h.around.are h.around.distinct x (t ++ x) to f (ap (λ (y : List ℕ). y ++ x) h.taken) (ap (λ (y : Refusal). y.read) f_is ∙ sym (length-append t x))
     (subst (λ (y : List ℕ). HasCause (strict v.order) b (frames_in h.fs) y x to f) h.taken cause)
 

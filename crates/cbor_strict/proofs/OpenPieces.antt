@@ -1,5 +1,5 @@
 -- What becomes of the open containers as the parts of a payload come.
-use Rattle.std.proofs.Common.{◌≡◌, ℕ, ◌+◌, ◌-◌, ◌<◌, ◌≤◌, Bool, true, false, Option, Some, None, List, [], ◌++◌, length, replicate, refl, sym, ap, ◌∙◌, subst, inl, inr, arith, append_assoc, append-nil, IsUtf8, length-append}
+use Rattle.std.proofs.Common.{◌≡◌, ℕ, ◌+◌, ◌-◌, ◌<◌, ◌≤◌, Bool, true, false, Option, Some, None, List, ◌++◌, length, replicate, refl, sym, ap, ◌∙◌, subst, inl, inr, arith, append_assoc, IsUtf8, length-append}
 use Rattle.std.specs.Str.Lossy.{utf8_valid_len}
 use Rattle.cbor_head.specs.Prelude.{Holds, head, Bounds, AreBytes, spell, Rules, strict, OfHead, Complains, refusal}
 use Rattle.cbor_head.specs.Complaint as complaint
@@ -20,6 +20,7 @@ use Rattle.cbor_strict.specs.inner.OpenItems.{frames_in, bytes_before, Stands, H
 use Rattle.cbor_judging.specs.Reading.{AreRefused, IsAt, IsUndecided, string_major}
 use Rattle.cbor_grammar.proofs.ByteLists.{bytes_join, bytes_front}
 use Rattle.cbor_judging.proofs.Heads.{zero_bytes, zero_length}
+use Rattle.cbor_judging.proofs.Items.{whole-cause}
 use Rattle.cbor_judging.proofs.Leaves.{text_complains}
 use Rattle.cbor_strict.proofs.OpenHeads.{refused_part, memory_part}
 use Rattle.cbor_strict.proofs.OpenItems.{around_as}
@@ -137,12 +138,7 @@ module _ (v : OpenItems) (b : Bounds) (old : ItemEventsView) (t x : List ℕ) (e
         let clean : Never (OfHead (strict v.order) at majors.Text h.due.w (length q)) =
         subst (λ (k : ℕ). Never (OfHead (strict v.order) at majors.Text h.due.w k)) size (subst (λ (y : Bool). Never (OfHead (strict v.order) at (string_major y) h.due.w h.due.n)) text_so h.due.clean) in
         refused_part v.order b h.due.fs h.due.around.are h.due.around.distinct (hd ++ q) (t ++ x) to f bytes_so (ap (λ (y : Refusal). y.read) is ∙ read)
-        (record {
-          p = hd ++ q;
-          last = [];
-          splits = sym (append-nil (hd ++ q));
-          found = Some c;
-          judged = subst (λ (y : List ℕ). IsJudged (strict v.order) at (b.depth - length (frames_in h.due.fs)) (y ++ q) (Some c)) (sym heads)
-              (text_complains h.due.w q (strict v.order) at (b.depth - length (frames_in h.due.fs)) c (subst (Holds h.due.w) size h.due.holds, all_bytes) clean (refl, no_text, refl));
-          cause = (is ∙ ap (λ (n : ℕ). refusal InvalidText n taken) here ∙ ap (refusal InvalidText (at + length th + utf8_valid_len q)) sized, subst (λ (y : List ℕ). length y ≤ b.bytes) bytes_so (at-reached b e (t ++ x) _ h.at).within);
-        })
+        (whole-cause (strict v.order) b (frames_in h.due.fs) (bytes_before h.due.fs) (hd ++ q) to f c
+        (subst (λ (y : List ℕ). IsJudged (strict v.order) at (b.depth - length (frames_in h.due.fs)) (y ++ q) (Some c)) (sym heads)
+        (text_complains h.due.w q (strict v.order) at (b.depth - length (frames_in h.due.fs)) c (subst (Holds h.due.w) size h.due.holds, all_bytes) clean (refl, no_text, refl)))
+        (is ∙ ap (λ (n : ℕ). refusal InvalidText n taken) here ∙ ap (refusal InvalidText (at + length th + utf8_valid_len q)) sized) (subst (λ (y : List ℕ). length y ≤ b.bytes) bytes_so (at-reached b e (t ++ x) _ h.at).within))
