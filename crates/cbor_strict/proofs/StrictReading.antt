@@ -31,7 +31,7 @@ use Rattle.cbor_judging.proofs.Decisions.{none_beside}
 use Rattle.cbor_judging.specs.Kinds.{KeepsToKinds}
 use Rattle.cbor_judging.proofs.Judged.{judged_start}
 use Rattle.cbor_strict.proofs.OpenBegins.{lift}
-use Rattle.cbor_strict.proofs.OpenPieces.{string_judged}
+use Rattle.cbor_judging.proofs.CutHeads.{string_cut}
 use Rattle.cbor_judging.proofs.OpenSteps.{none_open}
 use Rattle.cbor_judging.proofs.Steps.{same-marks}
 
@@ -54,7 +54,7 @@ stands_clean v b e t (inl h) =
 stands_clean v b e t (inr (inl h)) =
     none_within v.order b.depth t (subst (λ (x : List ℕ). IsJudged (strict v.order) 0 b.depth x None) (sym h.taken) (all_levels v.order b.depth (bytes_before h.fs ++ (head (string_major v.is_text) h.w h.n ++ h.q))
     (lift v.order b h.fs h.around.are h.around.distinct (head (string_major v.is_text) h.w h.n ++ h.q) None
-    (string_judged v.is_text h.w h.n h.q (strict v.order) (length (bytes_before h.fs)) (b.depth - length (frames_in h.fs)) h.holds h.are_bytes (omega (arith, h.count, h.some)) h.clean))))
+    (string_cut h.w h.n h.q h.holds h.are_bytes (omega (arith, h.count, h.some)) (strict v.order) (length (bytes_before h.fs)) (b.depth - length (frames_in h.fs)) v.is_text h.clean))))
 stands_clean v b e t (inr (inr h)) = λ s i c k l.
     let whole : IsItem b.depth h.item (t ++ []) = record { spelled = h.spelled; within = h.within; bytes_are = sym h.taken ∙ sym (append-nil t) } in
     absurd (h.clean c (same_complaints b.depth s h.item t i.0 [] i.1 whole (strict v.order) c l k))

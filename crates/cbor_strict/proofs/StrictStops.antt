@@ -32,7 +32,7 @@ use Rattle.cbor_head.specs.declared.keys.Keys.TheVariants.{IntegersAndTexts}
 use Rattle.cbor_strict.specs.inner.OpenItems.{frames_in, bytes_before, Stands, IsItemDue, IsInString}
 use Rattle.cbor_strict.specs.inner.StrictEvents.{IsNextOf}
 use Rattle.cbor_strict.proofs.OpenBegins.{room_left, lift}
-use Rattle.cbor_strict.proofs.OpenPieces.{string_judged}
+use Rattle.cbor_judging.proofs.CutHeads.{string_cut}
 use Rattle.cbor_strict.proofs.StrictKinds.{keeps_string}
 
 -- ---- within a head
@@ -101,7 +101,7 @@ module _ (v : OpenItems) (b : Bounds) (e new : ItemEventsView) (t : List ℕ) (f
             let short = c.short in
             let there : t ++ c.p ≡ y ++ (hd ++ (h.q ++ c.p)) = ap (λ (z : List ℕ). z ++ c.p) h.taken ∙ append_assoc y (hd ++ h.q) c.p ∙ ap (λ (z : List ℕ). y ++ z) (append_assoc hd h.q c.p) in
             let joined = bytes_join h.q c.p h.are_bytes c.are_bytes in
-            let j = string_judged v.is_text h.w h.n (h.q ++ c.p) (strict v.order) (length y) (b.depth - length (frames_in h.fs)) h.holds joined (omega (arith, short, count, length-append h.q c.p)) h.clean in
+            let j = string_cut h.w h.n (h.q ++ c.p) h.holds joined (omega (arith, short, count, length-append h.q c.p)) (strict v.order) (length y) (b.depth - length (frames_in h.fs)) v.is_text h.clean in
             let cause : HasCause (strict v.order) b [] [] (t ++ s.bytes) to f = record {
               p = t ++ c.p;
               last = c.last;
