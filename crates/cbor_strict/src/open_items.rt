@@ -234,16 +234,7 @@ impl OpenItems {
 fn number_of(major: Major) -> u8
     ensures { result ≡ major_number major }
 {
-    match major {
-        Major::Unsigned => 0,
-        Major::Negative => 1,
-        Major::Bytes => 2,
-        Major::Text => 3,
-        Major::Array => 4,
-        Major::Map => 5,
-        Major::Tag => 6,
-        Major::Simple => 7,
-    }
+    major as u8
 }
 
 // The type and the argument of a definite head.
