@@ -1,6 +1,7 @@
 //! A part of an item: bytes asked for by one call of `read`, and what the machine makes of them.
 
 ghost use Rattle.std.specs.Prelude.{◌≡◌, ◌≤◌, ◌<◌, ◌⊎◌, ℕ, List, length, Option};
+ghost use Rattle.cbor_head.specs.Verdict.{refusal};
 ghost use Rattle.cbor_automaton.specs.Trace.{Mark};
 ghost use Rattle.cbor_automaton.specs.Marks.{IsProper};
 ghost use Rattle.cbor_automaton.specs.Pieces.{kind_size};
@@ -53,6 +54,13 @@ fn ask<R: Read>(reader: &mut R, buffer: &mut [u8], want: usize) -> Asked
     }
 }
 
+// A refusal of what was taken, and no byte more.
+fn cut(reason: Reason, taken: u64) -> Refusal
+    ensures { result ≡ refusal reason taken taken }
+{
+    Refusal::new(reason, taken, taken)
+}
+
 // What came of bytes that the machine wanted.
 #[derive(Clone, Copy)]
 pub(crate) enum Part {
@@ -87,8 +95,7 @@ pub(crate) fn answer_anew(answer: Result<Option<Event>, Refusal>) -> Result<Opti
     }
 }
 
-// Hands the machine bytes that it wants. The room in memory of what is done slowly is no part of the
-// caller's.
+// Hands the machine bytes that it wants.
 #[inline(always)]
 fn take_read(machine: &mut Machine, part: &[u8]) -> Part
     requires some { 0 < length part.now }
@@ -108,7 +115,7 @@ fn take_read(machine: &mut Machine, part: &[u8]) -> Part
     if part.len() == 1 && machine.begin_head(part[0]) {
         return Part::Open;
     }
-    part_anew(take_slowly(machine, part))
+    take_apart(machine, part)
 }
 
 // The same, whatever the bytes are.
@@ -131,6 +138,23 @@ fn take_slowly(machine: &mut Machine, part: &[u8]) -> Part
         Out::Done => unreachable!(),
         Out::Refused(refusal) => Part::Stopped(refusal),
     }
+}
+
+// The same. Its own room in memory is no part of the caller's.
+#[inline(always)]
+fn take_apart(machine: &mut Machine, part: &[u8]) -> Part
+    requires some { 0 < length part.now }
+    requires wanted { length part.now ≤ wanted machine.old }
+    ensures answers { (t : List ℕ) (ms : List Mark) → StandsFor machine.old t ms
+        → IsPartTaken result machine.old machine.new t part.now ms }
+    ensures limits { KeepsLimits machine.old machine.new }
+    ensures proper { IfPartTold result (λ e. IsProper e.width e.kind) }
+    ensures piece { IfPartTold result (λ e. kind_size e.kind ≤ length part.now) }
+    ensures taken { IfStopped result (λ f. machine.new.taken ≡ f.read) }
+    ensures reason { IfStopped result (λ f. IsMachineReason f.reason) }
+    ensures progress { result ≡ Part.Open → machine.old.taken < machine.new.taken }
+{
+    part_anew(take_slowly(machine, part))
 }
 
 // Reads at most so many bytes that the machine wants, by one call of `read`.
@@ -165,8 +189,8 @@ pub(crate) fn read_part<R: Read>(
     ensures progress { result ≡ Part.Open → machine.old.taken < machine.new.taken }
 {
     match ask(reader, buffer, want) {
-        Asked::End => Part::Stopped(Refusal::at(Reason::Truncated, machine.taken())),
-        Asked::Failed => Part::Stopped(Refusal::at(Reason::Read, machine.taken())),
+        Asked::End => Part::Stopped(cut(Reason::Truncated, machine.taken())),
+        Asked::Failed => Part::Stopped(cut(Reason::Read, machine.taken())),
         Asked::Got(count) => {
             below_256(&buffer[..count]);
             take_read(machine, &buffer[..count])

@@ -12,8 +12,8 @@ returns-in-End-clause-answers g c = λ was from kept t ms h r depth.
     let wants : 0 < wanted m = omega (arith, c.requires.some, c.requires.wanted) in
     let going = complete-wants m r.stands.inner.shown wants in (
       still-due _ _ was m t ms h.stands r depth going,
-      inl (cut-here c.at.result _ _ r c.in-End.ensures.1 (inr (ap (λ (x : Refusal). x.reason) c.at.ensures, c.in-End.ensures.2))
-          (cut-is _ _ _ _ c.at.ensures c.taken.ensures.taken) (wants-short m wants) going),
+      inl (cut-here c.cut.result _ _ r c.in-End.ensures.1 (inr (ap (λ (x : Refusal). x.reason) c.cut.ensures, c.in-End.ensures.2))
+          (cut-is _ _ _ _ c.cut.ensures c.taken.ensures.taken) (wants-short m wants) going),
     )
 
 pub returns-in-Failed-clause-answers : goal.returns-in-Failed-clause-answers
@@ -22,8 +22,8 @@ returns-in-Failed-clause-answers g c = λ was from kept t ms h r depth.
     let wants : 0 < wanted m = omega (arith, c.requires.some, c.requires.wanted) in
     let going = complete-wants m r.stands.inner.shown wants in (
       still-due _ _ was m t ms h.stands r depth going,
-      inl (cut-here c.at-in-Failed.result _ _ r c.in-Failed.ensures.1 (inl (ap (λ (x : Refusal). x.reason) c.at-in-Failed.ensures))
-          (cut-is _ _ _ _ c.at-in-Failed.ensures c.taken-in-Failed.ensures.taken) (wants-short m wants) going),
+      inl (cut-here c.cut-in-Failed.result _ _ r c.in-Failed.ensures.1 (inl (ap (λ (x : Refusal). x.reason) c.cut-in-Failed.ensures))
+          (cut-is _ _ _ _ c.cut-in-Failed.ensures c.taken-in-Failed.ensures.taken) (wants-short m wants) going),
     )
 
 pub returns-in-End-clause-limits : goal.returns-in-End-clause-limits
