@@ -22,7 +22,6 @@ use Rattle.cbor_automaton.proofs.Beginnings.{reached-begins}
 use Rattle.cbor_automaton.proofs.Runs.{run-on}
 use Rattle.cbor_automaton.proofs.Taking.{IsClear}
 use Rattle.cbor_steps.specs.State.{state_of, wanted_at, is_done}
-use Rattle.cbor_steps.specs.declared.frame.Frame as frames
 use Rattle.cbor_steps.specs.declared.position.Position.{Position}
 use Rattle.cbor_steps.specs.declared.position.Position.TheVariants as positions
 use Rattle.cbor_standing.specs.MachineView.{MachineView}
@@ -54,12 +53,8 @@ high-first m Eight n b y h e = let f : 32 * major_number m + 27 ≡ b = cc e in 
 high-first m Indefinite n b y h e = let f : 32 * major_number m + 31 ≡ b = cc e in record { high = omega (arith, f); low = omega (arith, f) }
 
 high-of : (m : Major) (w : Width) (n b : ℕ) (y : List ℕ) → (IsHead m w n → Holds w n) → IsHeadBytes m w n (b ∷ y) → IsHigh m b
-high-of m Direct n b y f h = high-first m Direct n b y (f h.0) (sym h.1)
-high-of m One n b y f h = high-first m One n b y (f h.0) (sym h.1)
-high-of m Two n b y f h = high-first m Two n b y (f h.0) (sym h.1)
-high-of m Four n b y f h = high-first m Four n b y (f h.0) (sym h.1)
-high-of m Eight n b y f h = high-first m Eight n b y (f h.0) (sym h.1)
 high-of m Indefinite n b y f h = high-first m Indefinite 0 b y tt (sym h.1)
+high-of m w n b y f h = high-first m w n b y (f h.0) (sym h.1)
 
 -- of an integer or a text, or the break
 abbrev pub IsBasicFirst : ℕ → Type 0

@@ -24,7 +24,7 @@ use Rattle.cbor_judging.specs.Place.{Container, Place, at_item, in_chunks, close
 use Rattle.cbor_standing.specs.NextEvent.{ItemEventsView}
 use Rattle.cbor_judging.specs.Judged.{IsJudged, Never}
 use Rattle.cbor_judging.specs.Reading.{IsAt, IsFormRefusal, IsNextHead, Extends, IsBegun, OfMark, ReadsItem, StopsItem, StopsHead, ReadsPayload, StopsPayload, string_major, string_kind, string_value, state_at}
-use Rattle.cbor_judging.proofs.Items.{is-definite, head-count, extends-none, extends-on}
+use Rattle.cbor_judging.proofs.Items.{whole-cause, is-definite, head-count, extends-none, extends-on}
 use Rattle.cbor_judging.proofs.Scalars.{at-as}
 use Rattle.cbor_judging.proofs.Heads.{zero_bytes, zero_length}
 use Rattle.cbor_judging.proofs.Leaves.{chunks_bytes, chunks_of, is-chunked, chunks-value, chunks_on, chunk_judged, chunk, AreChunksSoFar, cut_chunk, chunk_complains, chunks_more, chunks_whole}
@@ -134,14 +134,8 @@ module _ (r : Rules) (b : Bounds) (fs : List Container) (t x : List ℕ) (text :
                 (nothing-taken b.depth (state_at (in_chunks (string_major text) fs)) c.begun c.p tt c.are_bytes c.ran);
             cause = (c.place ∙ ap length (append_assoc t y c.p), subst (λ (u : List ℕ). IsFormRefusal b u to f) (append_assoc t y s.bytes) c.refused);
           })
-          | inr c ↦ inr (record {
-            p = y ++ s.bytes;
-            last = [];
-            splits = sym (append-nil (y ++ s.bytes));
-            found = Some c.complaint;
-            judged = go c.complaint c.next s.bytes c.mark c.taking (subst (λ (k : ℕ). OfMark r k (in_chunks (string_major text) fs) c.mark c.complaint) there c.of);
-            cause = (c.is, subst (λ (u : List ℕ). length u ≤ b.bytes) (append_assoc t y s.bytes) c.within);
-          })
+          | inr c ↦ inr (whole-cause r b fs t (y ++ s.bytes) to f c.complaint
+              (go c.complaint c.next s.bytes c.mark c.taking (subst (λ (k : ℕ). OfMark r k (in_chunks (string_major text) fs) c.mark c.complaint) there c.of)) c.is (subst (λ (u : List ℕ). length u ≤ b.bytes) (append_assoc t y s.bytes) c.within))
         ];
       }
     where
@@ -262,16 +256,11 @@ module _ (r : Rules) (b : Bounds) (fs : List Container) (t x : List ℕ) (text :
                   let head_as : n.bytes ≡ head (string_major text) ev.width (length q) = hd.bytes_are ∙ ap (head (string_major text) ev.width) (sym v.count) in
                   let here : length ((t ++ y) ++ n.bytes) ≡ at = length-append (t ++ y) n.bytes ∙ ap (λ (j : ℕ). j + length n.bytes) there ∙ ap (λ (u : List ℕ). length t + length y + length u) head_as in
                   let c = complaint (at + length q) (at + utf8_valid_len q) InvalidText in
-                  inr (record {
-                    p = y ++ (n.bytes ++ q);
-                    last = [];
-                    splits = sym (append-nil (y ++ (n.bytes ++ q)));
-                    found = Some c;
-                    judged = subst (λ (u : List ℕ). IsJudged r (length t) (b.depth - length fs) (y ++ (u ++ q)) (Some c)) (sym head_as)
-                        (chunk_complains text a.done r (length t) (b.depth - length fs) a.so_far z.0 ev.width q c
-                        (subst (Holds ev.width) (sym v.count) hd.holds, v.are_bytes) (subst (λ (j : ℕ). Never (OfHead r (length t + length y) (string_major text) ev.width j)) (sym v.count) clean-head) (looks, v.no_text, refl));
-                    cause = (v.is ∙ ap (λ (j : ℕ). refusal InvalidText (j + utf8_valid_len q) (j + length q)) here, subst (λ (u : List ℕ). length u ≤ b.bytes) regroup v.within);
-                  })
+                  inr (whole-cause r b fs t (y ++ (n.bytes ++ q)) to f c
+                  (subst (λ (u : List ℕ). IsJudged r (length t) (b.depth - length fs) (y ++ (u ++ q)) (Some c)) (sym head_as)
+                  (chunk_complains text a.done r (length t) (b.depth - length fs) a.so_far z.0 ev.width q c
+                  (subst (Holds ev.width) (sym v.count) hd.holds, v.are_bytes) (subst (λ (j : ℕ). Never (OfHead r (length t + length y) (string_major text) ev.width j)) (sym v.count) clean-head) (looks, v.no_text, refl)))
+                  (v.is ∙ ap (λ (j : ℕ). refusal InvalidText (j + utf8_valid_len q) (j + length q)) here) (subst (λ (u : List ℕ). length u ≤ b.bytes) regroup v.within))
             ];
           }
 

@@ -2,7 +2,7 @@
 use Rattle.std.proofs.Common.{◌≡◌, ◌≢◌, ℕ, ◌-◌, ◌<◌, ◌≤◌, Option, Some, None, List, [], ◌++◌, length, refl, sym, ap, ◌∙◌, subst, inl, arith, append_assoc, append-nil}
 use Rattle.std.specs.Io.KnownBytes.{Consumes}
 use Rattle.std.proofs.KnownBytes.{Consumes-nil, Consumes-trans}
-use Rattle.cbor_head.specs.Prelude.{Holds, head, Bounds, byte_chunks, text_chunks, simple, Rules, Complaint, OfHead, OfIndefinite, OfCount}
+use Rattle.cbor_head.specs.Prelude.{Holds, head, Bounds, byte_chunks, text_chunks, simple, Rules, Complaint, OfHead, OfIndefinite, OfCount, refusal}
 use Rattle.cbor_head.specs.declared.major.Major.{Major}
 use Rattle.cbor_head.specs.declared.major.Major.TheVariants as majors
 use Rattle.cbor_head.specs.declared.width.Width.{Width}
@@ -20,6 +20,12 @@ use Rattle.cbor_judging.proofs.Leaves.{head_complains, array_head_complains, map
 use Rattle.cbor_judging.proofs.HeadComplaints.{head_judged as complaint_judged}
 use Rattle.cbor_judging.proofs.Heads.{takes, Headed, headed, cut_head}
 use Rattle.cbor_automaton.proofs.Taking.{IsNumbered}
+
+-- ---- a complaint of all that was taken
+
+pub whole-cause : (r : Rules) (b : Bounds) (fs : List Container) (t x : List ℕ) (to : Option (List ℕ)) (f : Refusal) (c : Complaint) → IsJudged r (length t) (b.depth - length fs) x (Some c) → f ≡ refusal c.reason c.place c.end → length (t ++ x) ≤ b.bytes
+    → HasCause r b fs t x to f
+whole-cause r b fs t x to f c judged is within = record { p = x; last = []; splits = sym (append-nil x); found = Some c; judged = judged; cause = (is, within) }
 
 -- ---- what was taken
 

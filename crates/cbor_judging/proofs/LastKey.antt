@@ -35,7 +35,7 @@ some-more : (n : ℕ) → 0 < n → nat_lt 0 n ≡ true
 some-more n h = grind (arith, nat_tests)
 
 -- each key comes behind no bytes
-nothing-below : (o : KeyOrder) (key : List ℕ) → 0 < length key → IsTrue (key_lt o [] key)
+pub nothing-below : (o : KeyOrder) (key : List ℕ) → 0 < length key → IsTrue (key_lt o [] key)
 nothing-below o [] h = absurd (omega arith)
 nothing-below Bytewise (c ∷ cs) h = refl
 nothing-below LengthFirst (c ∷ cs) h = ap (λ b. is_lt (ordering_then (cond b Less (cond (0 == length (c ∷ cs)) Equal Greater)) Less)) (some-more (length (c ∷ cs)) h)

@@ -40,6 +40,7 @@ pub mod Scalars
 pub mod SpelledBytes
 pub mod Standing
 pub mod Steps
+pub mod Stopped
 pub mod Tops
 pub mod Undecided
 pub mod Valid

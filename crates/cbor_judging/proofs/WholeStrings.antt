@@ -9,8 +9,8 @@ use Rattle.cbor_head.specs.declared.reason.Reason.TheVariants.{InvalidText}
 use Rattle.cbor_judging.specs.Place.{Container, Place, close, payload}
 use Rattle.cbor_standing.specs.NextEvent.{ItemEventsView}
 use Rattle.cbor_judging.specs.Judged.{IsJudged, Never}
-use Rattle.cbor_judging.specs.Reading.{IsAt, IsFormRefusal, IsNoText, IsBegun, ReadsItem, StopsItem, HasCause, ReadsPayload, StopsPayload, string_major, string_kind, string_value}
-use Rattle.cbor_judging.proofs.Items.{definite, proper-definite, is-definite, head-count}
+use Rattle.cbor_judging.specs.Reading.{IsAt, IsFormRefusal, IsNoText, IsBegun, ReadsItem, StopsItem, HasCause, ReadsPayload, StopsPayload, string_major, string_kind, string_value, IsPart, IsUndecided}
+use Rattle.cbor_judging.proofs.Items.{whole-cause, definite, proper-definite, is-definite, head-count}
 use Rattle.cbor_judging.proofs.Scalars.{at-as}
 use Rattle.cbor_judging.proofs.CutHeads.{string_cut}
 use Rattle.cbor_judging.proofs.Leaves.{text_complains}
@@ -41,22 +41,26 @@ pub made-clean : (text : Bool) (w : Width) (q : List ℕ) (r : Rules) (at : ℕ)
 made-clean true w q r at h u c g = elim g [ inl y ↦ h c y | inr y ↦ is-text r (at + length (head majors.Text w (length q))) q c (u refl) y ]
 made-clean false w q r at h u c g = h c g
 
-text-judged : (r : Rules) (b : Bounds) (fs : List Container) (t x : List ℕ) (w : Width) (n : ℕ) (next : Place) (to : Option (List ℕ)) (f : Refusal) → IsTrue r.texts → StringHead r b fs t x w true n next
+pub text-judged : (r : Rules) (b : Bounds) (fs : List Container) (t x : List ℕ) (w : Width) (n : ℕ) (next : Place) (to : Option (List ℕ)) (f : Refusal) → IsTrue r.texts → StringHead r b fs t x w true n next
     → (q : List ℕ) → IsNoText b (t ++ x) n q f → HasCause r b fs t (x ++ q) to f
 text-judged r b fs t x w n next to f looks h q y =
     let head_as : x ≡ head majors.Text w (length q) = h.bytes_are ∙ ap (head majors.Text w) (sym y.count) in
     let at = length t + length (head majors.Text w (length q)) in
     let there : length (t ++ x) ≡ at = length-append t x ∙ ap (λ (u : List ℕ). length t + length u) head_as in
     let c = complaint (at + length q) (at + utf8_valid_len q) InvalidText in
-    record {
-      p = x ++ q;
-      last = [];
-      splits = sym (append-nil (x ++ q));
-      found = Some c;
-      judged = subst (λ (u : List ℕ). IsJudged r (length t) (b.depth - length fs) (u ++ q) (Some c)) (sym head_as)
-          (text_complains w q r (length t) (b.depth - length fs) c (subst (Holds w) (sym y.count) h.holds, y.are_bytes) (subst (λ (k : ℕ). Never (OfHead r (length t) majors.Text w k)) (sym y.count) h.clean) (looks, y.no_text, refl));
-      cause = (y.is ∙ ap (λ (k : ℕ). refusal InvalidText (k + utf8_valid_len q) (k + length q)) there, subst (λ (u : List ℕ). length u ≤ b.bytes) (append_assoc t x q) y.within);
-    }
+    whole-cause r b fs t (x ++ q) to f c
+    (subst (λ (u : List ℕ). IsJudged r (length t) (b.depth - length fs) (u ++ q) (Some c)) (sym head_as)
+    (text_complains w q r (length t) (b.depth - length fs) c (subst (Holds w) (sym y.count) h.holds, y.are_bytes) (subst (λ (k : ℕ). Never (OfHead r (length t) majors.Text w k)) (sym y.count) h.clean) (looks, y.no_text, refl)))
+    (y.is ∙ ap (λ (k : ℕ). refusal InvalidText (k + utf8_valid_len q) (k + length q)) there) (subst (λ (u : List ℕ). length u ≤ b.bytes) (append_assoc t x q) y.within)
+
+module _ (r : Rules) (b : Bounds) (fs : List Container) (t x : List ℕ) (w : Width) (text : Bool) (n : ℕ) (next : Place) (h : StringHead r b fs t x w text n next) where
+  -- a part of the payload has come
+  string-part : (p : List ℕ) → length p < n → AreBytes p → IsJudged r (length t) (b.depth - length fs) (x ++ p) None
+  string-part p short are_bytes =
+      subst (λ (u : List ℕ). IsJudged r (length t) (b.depth - length fs) (u ++ p) None) (sym h.bytes_are) (string_cut w n p h.holds are_bytes short r (length t) (b.depth - length fs) text h.clean)
+
+  pub string-undecided : (bytes : List ℕ) → IsPart n bytes → IsUndecided r b fs t (x ++ bytes)
+  string-undecided bytes m = record { p = x ++ m.p; last = m.last; splits = ap (λ (u : List ℕ). x ++ u) m.splits ∙ sym (append_assoc x m.p m.last); byte = m.byte; judged = string-part m.p m.short m.are_bytes }
 
 module _ (r : Rules) (b : Bounds) (fs : List Container) (t x : List ℕ) (e : ItemEventsView) (w : Width) (text : Bool) (n : ℕ) (i : IsBegun r b fs t x e w (string_kind text (Some n))) where
   head-is : StringHead r b fs t x w text n i.next
@@ -84,12 +88,6 @@ module _ (r : Rules) (b : Bounds) (fs : List Container) (t x : List ℕ) (e : It
         λ yes_text. subst IsUtf8 (sym reads.grows) (utf8 yes_text),
       )
 
-  -- a part of the payload has come
-  string-part : (p : List ℕ) → length p < n → AreBytes p → IsJudged r (length t) (b.depth - length fs) (x ++ p) None
-  string-part p short are_bytes =
-      subst (λ (u : List ℕ). IsJudged r (length t) (b.depth - length fs) (u ++ p) None) (sym head-is.bytes_are)
-      (string_cut w n p head-is.holds are_bytes short r (length t) (b.depth - length fs) text head-is.clean)
-
   pub stops-string : IsTrue r.texts → (from to : Option (List ℕ)) (f : Refusal) → StopsPayload b (t ++ x) n text from to f → StopsItem r b fs t x from to f
   stops-string looks from to f s = record {
     bytes = x ++ s.bytes;
@@ -99,7 +97,7 @@ module _ (r : Rules) (b : Bounds) (fs : List Container) (t x : List ℕ) (e : It
       | inl m ↦ inl (
         m.0,
         reached-as b ((t ++ x) ++ s.bytes) (t ++ (x ++ s.bytes)) (append_assoc t x s.bytes) m.1,
-        record { p = x ++ m.2.p; last = m.2.last; splits = ap (λ (u : List ℕ). x ++ u) m.2.splits ∙ sym (append_assoc x m.2.p m.2.last); byte = m.2.byte; judged = string-part m.2.p m.2.short m.2.are_bytes },
+        string-undecided r b fs t x w text n i.next head-is s.bytes m.2,
       )
       | inr (inl c) ↦
           inr (record {
@@ -107,7 +105,7 @@ module _ (r : Rules) (b : Bounds) (fs : List Container) (t x : List ℕ) (e : It
             last = c.last;
             splits = ap (λ (u : List ℕ). x ++ u) c.splits ∙ sym (append_assoc x c.p c.last);
             found = None;
-            judged = string-part c.p c.short c.are_bytes;
+            judged = string-part r b fs t x w text n i.next head-is c.p c.short c.are_bytes;
             cause = (c.place ∙ ap length (append_assoc t x c.p), subst (λ (u : List ℕ). IsFormRefusal b u to f) (append_assoc t x s.bytes) c.refused);
           })
       | inr (inr y) ↦ inr (text-judged r b fs t x w n i.next to f looks (subst (λ (v : Bool). StringHead r b fs t x w v n i.next) y.0 head-is) s.bytes y.1)

@@ -14,3 +14,4 @@ pub mod Refusals
 pub mod RefusedHere
 pub mod SoFar
 pub mod Stop
+pub mod Stopped

@@ -224,80 +224,13 @@ impl Machine {
             × (self.new.taken ≡ r.read) × IsMachineReason r.reason) }
         ensures stays { Stays result self.old self.new }
     {
-        self.take_part(input)
-    }
-
-    // A step, and what it does with the inner state.
-    #[inline(always)]
-    #[tactic(auto, using(crate::proofs::Settled::settled_fit))]
-    pub(crate) fn take_part(&mut self, input: &[u8]) -> Step
-        ensures used { result.used ≤ length input.now }
-        ensures taken { self.new.taken ≡ self.old.taken + result.used }
-        ensures limits { KeepsLimits self.old self.new }
-        ensures walked { self.old.refusal ≡ None
-            → IsStep result.out self.old self.new (take result.used input.now) }
-        ensures answers { (t : List ℕ) (ms : List Mark) → StandsFor self.old t ms
-            → IsAnswer result.out self.new t (take result.used input.now) ms }
-        ensures progress { IsEvent result.out → 0 < result.used }
-        ensures piece { piece_of result.out ≤ result.used }
-        ensures whole { IsMore result.out
-            → (result.used ≡ length input.now) × (self.new.taken < self.new.bytes) }
-        ensures done { IsDone result.out ↔ IsComplete self.old }
-        ensures stays { IsComplete self.old → (result.used ≡ 0) × (self.new ≡ self.old) }
-        ensures refused { IfRefused result.out
-            (λ r. (self.new.refusal ≡ Some r) × (self.new.taken ≡ r.read)) }
-        ensures reason { IfRefused result.out (λ r. IsMachineReason r.reason) }
-        ensures again { IfSome self.old.refusal
-            (λ r. (result.out ≡ Out.Refused r) × (result.used ≡ 0) × (self.new ≡ self.old)) }
-        ensures exact { length input.now ≤ wanted self.old → result.used ≡ length input.now }
-        ensures payload { self.old.in_payload ≡ true
-            → result.used ≡ min (length input.now) (wanted self.old) }
-        ensures idle { IsMore result.out → 0 < wanted self.old }
-        ensures due { IsMore result.out → 0 < wanted self.new }
-    {
-        below_256(input);
-        if let Some(refusal) = self.refusal {
-            let out = Out::Refused(refusal);
-            return Step { used: 0, out };
-        }
-        if let Position::Done = self.position {
-            let out = Out::Done;
-            return Step { used: 0, out };
-        }
-        let bytes = self.limits.bytes();
-        let depth = usize::from(self.limits.depth());
-        let end = part(input.len(), bytes - self.taken);
-        let (used, walked) = walk(depth, &mut self.position, &mut self.nest, &input[..end]);
-        self.taken += used as u64;
-        match walked {
-            Walked::Told(width, kind) => {
-                let place = self.told;
-                self.told = self.taken;
-                let out = Out::Event(Event { place, width, kind });
-                Step { used, out }
-            }
-            Walked::More => {
-                if self.taken < bytes {
-                    let out = Out::More;
-                    return Step { used, out };
-                }
-                let refusal = Refusal::new(Reason::TooLong, bytes, bytes);
-                self.refusal = Some(refusal);
-                let out = Out::Refused(refusal);
-                Step { used, out }
-            }
-            Walked::Refused(reason) => {
-                let refusal = Refusal::new(reason, self.taken - 1, self.taken);
-                self.refusal = Some(refusal);
-                let out = Out::Refused(refusal);
-                Step { used, out }
-            }
-        }
+        take_part(self, input)
     }
 }
 
 /// A step, and what it does with the inner state.
 #[inline(always)]
+#[tactic(auto, using(crate::proofs::Settled::settled_fit))]
 pub fn take_part(machine: &mut Machine, input: &[u8]) -> Step
     ensures used { result.used ≤ length input.now }
     ensures taken { machine.new.taken ≡ machine.old.taken + result.used }
@@ -308,15 +241,60 @@ pub fn take_part(machine: &mut Machine, input: &[u8]) -> Step
         → IsAnswer result.out machine.new t (take result.used input.now) ms }
     ensures progress { IsEvent result.out → 0 < result.used }
     ensures piece { piece_of result.out ≤ result.used }
+    ensures whole { IsMore result.out
+        → (result.used ≡ length input.now) × (machine.new.taken < machine.new.bytes) }
     ensures done { IsDone result.out ↔ IsComplete machine.old }
     ensures stays { IsComplete machine.old → (result.used ≡ 0) × (machine.new ≡ machine.old) }
     ensures refused { IfRefused result.out
         (λ r. (machine.new.refusal ≡ Some r) × (machine.new.taken ≡ r.read)) }
     ensures reason { IfRefused result.out (λ r. IsMachineReason r.reason) }
+    ensures again { IfSome machine.old.refusal
+        (λ r. (result.out ≡ Out.Refused r) × (result.used ≡ 0) × (machine.new ≡ machine.old)) }
     ensures exact { length input.now ≤ wanted machine.old → result.used ≡ length input.now }
+    ensures payload { machine.old.in_payload ≡ true
+        → result.used ≡ min (length input.now) (wanted machine.old) }
     ensures idle { IsMore result.out → 0 < wanted machine.old }
+    ensures due { IsMore result.out → 0 < wanted machine.new }
 {
-    machine.take_part(input)
+    below_256(input);
+    if let Some(refusal) = machine.refusal {
+        let out = Out::Refused(refusal);
+        return Step { used: 0, out };
+    }
+    if let Position::Done = machine.position {
+        let out = Out::Done;
+        return Step { used: 0, out };
+    }
+    let bytes = machine.limits.bytes();
+    let depth = usize::from(machine.limits.depth());
+    let end = part(input.len(), bytes - machine.taken);
+    let front = &input[..end];
+    let (used, walked) = walk(depth, &mut machine.position, &mut machine.nest, front);
+    machine.taken += used as u64;
+    match walked {
+        Walked::Told(width, kind) => {
+            let place = machine.told;
+            machine.told = machine.taken;
+            let out = Out::Event(Event { place, width, kind });
+            Step { used, out }
+        }
+        Walked::More => {
+            if machine.taken < bytes {
+                let out = Out::More;
+                return Step { used, out };
+            }
+            let refusal = Refusal::new(Reason::TooLong, bytes, bytes);
+            machine.refusal = Some(refusal);
+            let out = Out::Refused(refusal);
+            Step { used, out }
+        }
+        Walked::Refused(reason) => {
+            let refusal = Refusal::new(reason, machine.taken - 1, machine.taken);
+            machine.refusal = Some(refusal);
+            let out = Out::Refused(refusal);
+            Step { used, out }
+        }
+    }
 }
 
 // The lesser of the two.

@@ -1,5 +1,5 @@
 -- One more in a set of bytes.
-use Rattle.std.proofs.Common.{ℕ, ◌≡◌, ◌↔◌, ◌⊎◌, Bool, true, false, cond, List, refl, sym, ◌∙◌, inl, inr, true≢false}
+use Rattle.std.proofs.Common.{ℕ, ◌≡◌, ◌↔◌, ◌⊎◌, Bool, true, false, cond, List, refl, ap, sym, ◌∙◌, inl, inr}
 use Rattle.std.specs.Ordering.{nat_cmp}
 use Rattle.std.specs.Cmp.Lexicographic.{slice_cmp}
 use Rattle.std.specs.BTreeSet.{BTreeSet, Updates}
@@ -15,16 +15,12 @@ in_more bytes set new b q P u h =
     let is = is_eq-slice_cmp (bytes b) (bytes q) in
     let decides = bytes_eq-Decides (bytes b) (bytes q) in (
       (λ e. by_place _ _ (λ t. inl (sym (decides.0 (sym is ∙ t)))) (λ f. inr (h.0 f)) (sym at ∙ e)),
-      (elim [ inl e ↦ at ∙ first_there _ _ (is ∙ decides.1 (sym e)) | inr p ↦ at ∙ there_too _ _ (h.1 p) ]),
+      (elim [ inl e ↦ at ∙ ap (λ (x : Bool). cond x true (is_in bytes set q)) (is ∙ decides.1 (sym e)) | inr p ↦ at ∙ there_too _ _ (h.1 p) ]),
     )
   where
     by_place : {A : Type 0} (x y : Bool) → (x ≡ true → A) → (y ≡ true → A) → cond x true y ≡ true → A
     by_place true y f g e = f refl
     by_place false y f g e = g e
-
-    first_there : (x y : Bool) → x ≡ true → cond x true y ≡ true
-    first_there true y e = refl
-    first_there false y e = absurd (true≢false (sym e))
 
     there_too : (x y : Bool) → y ≡ true → cond x true y ≡ true
     there_too true y e = refl

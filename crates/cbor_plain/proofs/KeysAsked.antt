@@ -1,30 +1,22 @@
 -- The head of the item that is due, where its kind is asked for and where it is not.
-use Rattle.std.proofs.Common.{◌≡◌, ℕ, ◌+◌, ◌/◌, ◌<◌, Option, Some, None, List, [], ◌∷◌, ◌++◌, length, map, ap, ◌∙◌, subst, inl, inr, arith, IsTrue, IsSome, Result, Ok, Err, MatchResult, length-append}
-use Rattle.std.specs.Io.KnownBytes.{Consumes}
+use Rattle.std.proofs.Common.{◌≡◌, ℕ, ◌+◌, Option, Some, None, List, length, map, ap, ◌∙◌, subst, inl, inr, arith, Result, Ok, Err, MatchResult}
 use Rattle.cbor_head.specs.Prelude.{MayFollow, plain, Bounds}
 use Rattle.cbor_head.specs.declared.reason.Refusal.{Refusal}
-use Rattle.cbor_grammar.specs.FirstBytes.{is_basic}
 use Rattle.cbor_automaton.specs.declared.event.Event.{Event}
 use Rattle.cbor_standing.specs.Machine.{KeepsLimits}
 use Rattle.cbor_standing.specs.NextEvent.{ItemEventsView, IsNextEvent, IsEnd, call}
 use Rattle.cbor_events.specs.NextKey.{IsNextKey, IsBasicKind}
-use Rattle.cbor_judging.specs.Kinds.{AsksForKinds, IsKeyDueIn, HasBasicFront}
+use Rattle.cbor_judging.specs.Kinds.{AsksForKinds, IsKeyDueIn}
 use Rattle.cbor_judging.specs.Levels.{frame}
 use Rattle.cbor_judging.specs.Place.{Container, at_item, done as at_end}
 use Rattle.cbor_judging.specs.Reading.{IsNextHead, StopsHead}
 use Rattle.cbor_judging.proofs.Standing.{is-done}
-use Rattle.cbor_judging.proofs.Steps.{next-head, no-head, stops, limits-as}
+use Rattle.cbor_judging.proofs.Steps.{next-head, fault_of, stops, limits-as}
+use Rattle.cbor_judging.proofs.Stopped.{basic_first, stopped_within, stopped_other}
+use Rattle.cbor_judging.specs.Stopped.{IsStopped}
 use Rattle.cbor_plain.specs.declared.plain_items.PlainItems.{PlainItems}
-use Rattle.cbor_plain.specs.inner.ItemFront.{IsDueAt, IsStopped, IsNextDue}
-use Rattle.cbor_plain.proofs.DueRefusals.{refused-head, refused-key}
-
--- what stands behind a first byte that was known
-behind-first : (from to : Option (List ℕ)) (t x y : List ℕ) (place : ℕ) → (length t < place → (first : ℕ) (rest : List ℕ) → from ≡ Some (first ∷ rest) → IsTrue (is_basic (first / 32))) → IsSome from → Consumes from to (x ++ y)
-    → place ≡ length (t ++ x) → HasBasicFront x
-behind-first from to t [] y place h some c e = tt
-behind-first None to t (b ∷ bs) y place h some c e = absurd (cc some)
-behind-first (Some xs) None t (b ∷ bs) y place h some c e = absurd c
-behind-first (Some xs) (Some ys) t (b ∷ bs) y place h some c e = h (omega (arith, e, length-append t (b ∷ bs))) b ((bs ++ y) ++ ys) (ap Some c)
+use Rattle.cbor_plain.specs.inner.ItemFront.{IsDueAt, IsNextDue}
+use Rattle.cbor_plain.proofs.DueRefusals.{around, lifted, room}
 
 module _ (v : PlainItems) (b : Bounds) (e : ItemEventsView) (t : List ℕ) (d : IsDueAt v b e t) (new : ItemEventsView) (from to : Option (List ℕ)) where
   abbrev cs : List Container
@@ -34,7 +26,10 @@ module _ (v : PlainItems) (b : Bounds) (e : ItemEventsView) (t : List ℕ) (d : 
   pub due-unasked : (result : Result Event Refusal) → (AsksForKinds b plain → IsKeyDueIn d.ls → ⊥) → MatchResult result (λ event. IsNextHead plain b (at_item cs) t event from to new) (λ f. StopsHead plain b (at_item cs) t from to f)
       → MatchResult result (λ event. IsNextDue b d.ls t event from to new) (λ f. IsStopped plain b t from to f)
   due-unasked (Ok event) none h = record { head = h; kind = λ asked is_key. absurd (none asked is_key) }
-  due-unasked (Err f) none h = refused-head v b e t d from to f h (λ known x y c p asked is_key. absurd (none asked is_key))
+  due-unasked (Err f) none h = elim h.why [
+    | inl c ↦ stopped_within plain b t from to f cs (around v b e t d) (room v b e t d) (lifted v b e t d) d.keeps h.bytes h.consumed h.read c (λ asked is_key. absurd (none asked is_key))
+    | inr c ↦ absurd (cc (fault_of (at_item cs) c.mark plain (length t) c.complaint c.of).1.0)
+  ]
 
   -- the item is not complete
   pub never-ended : (o : Option Event) → o ≡ None → IsNextKey (Ok o) (call e new from to t d.at.marks) → ⊥
@@ -55,10 +50,11 @@ module _ (v : PlainItems) (b : Bounds) (e : ItemEventsView) (t : List ℕ) (d : 
 
     pub stopped-asked : (f : Refusal) → AsksForKinds b plain → IsKeyDueIn d.ls → new.machine.taken ≡ f.read → IsNextKey (Err f) (call e new from to t d.at.marks) → IsStopped plain b t from to f
     stopped-asked f asked is_key taken h = elim h [
-      | inl x ↦ refused-head v b e t d from to f (no-head plain b (at_item cs) t from to f (stops b e new t (at_item cs) from to f d.at (limits-as _ _ limits) x.0.1))
-          (λ known u w c p asks is_due. behind-first from to t u w f.place x.1 known c p)
+      | inl x ↦
+          let s = stops b e new t (at_item cs) from to f d.at (limits-as _ _ limits) x.0.1 in
+          stopped_within plain b t from to f cs (around v b e t d) (room v b e t d) (lifted v b e t d) d.keeps s.bytes s.consumed s.read s.cut (λ asks is_due rest known. basic_first t s.cut.p s.cut.last from to s.bytes rest f.place x.1 s.cut.place s.cut.splits s.consumed known)
       | inr k ↦
           let deep : new.machine.depth ≡ b.depth = limits.depth ∙ d.at.depth in
           let read : f.read ≡ length t + 1 = ap (λ (x : Refusal). x.read) k.is in
-          refused-key v b e t d from to f k.byte asked is_key k.consumed k.other k.item (subst (λ (n : ℕ). MayFollow n t k.byte) deep k.follows) (omega (arith, taken, read, limits.taken, limits.bytes, d.at.bytes)) k.is
+          stopped_other plain b t from to f cs (around v b e t d) (room v b e t d) (lifted v b e t d) d.keeps e k.byte d.at asked is_key (subst (λ (n : ℕ). MayFollow n t k.byte) deep k.follows) k.item k.other k.consumed (omega (arith, taken, read, limits.taken, limits.bytes, d.at.bytes)) k.is
     ]

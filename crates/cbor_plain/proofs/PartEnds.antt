@@ -1,22 +1,24 @@
 -- What ends behind a part: the containers that are full, and the item, or a key that came before.
-use Rattle.std.proofs.Common.{Vec, Global, ◌≡◌, ℕ, zero, suc, ◌+◌, ◌-◌, ◌^◌, ◌<◌, ◌≤◌, Bool, true, Option, Some, List, [], ◌∷◌, ◌++◌, length, map, slice_get, refl, sym, ap, ap₂, ◌∙◌, subst, arith, append_assoc, append-nil, nat_lt, length-append}
+use Rattle.std.proofs.Common.{Vec, Global, ◌≡◌, ℕ, zero, suc, ◌+◌, ◌-◌, ◌^◌, ◌<◌, ◌≤◌, Bool, true, Option, Some, List, [], ◌∷◌, ◌++◌, length, map, slice_get, refl, sym, ap, ap₂, ◌∙◌, subst, arith, append_assoc, nat_lt, length-append}
 use Rattle.std.proofs.lemmas.List.{length-map}
-use Rattle.cbor_head.specs.Prelude.{canonical, Bounds, spell, value_of, plain, refusal}
+use Rattle.cbor_head.specs.Prelude.{canonical, canonical_entries, entries_of, Bounds, Spelling, SpelledEntries, spell, value_of, plain, refusal}
 use Rattle.cbor_head.specs.Complaint as complaint
 use Rattle.cbor_head.specs.declared.order.KeyOrder.{KeyOrder}
 use Rattle.cbor_head.specs.declared.reason.Reason.TheVariants.{RepeatedKey}
 use Rattle.cbor_head.specs.declared.reason.Refusal.{Refusal}
 use Rattle.cbor_standing.specs.NextEvent.{ItemEventsView}
 use Rattle.cbor_judging.specs.Place.{Place, at_item, close, done as at_end, open_at}
-use Rattle.cbor_builder.specs.Built.{Built, built, IsRepeatedKey, HasDistinctKeysSoFar}
+use Rattle.cbor_builder.specs.Built.{Built, built, HasKey, IsRepeatedKey, HasDistinctKeysSoFar}
 use Rattle.cbor_canonical.specs.Parts.{IsInContainer, Open, plain as a_plain, give, close as close_open}
 use Rattle.cbor_item.specs.OpenValues as trees
 use Rattle.cbor_item.specs.OpenValues.{OpenItem, MayEnd}
 use Rattle.cbor_plain.specs.declared.plain_items.PlainItems.{PlainItems}
 use Rattle.cbor_judging.specs.Judged.{IsJudged}
-use Rattle.cbor_judging.specs.Levels.{IsTaken, Level, a_key, a_value, some_key, some_value, frame, bytes_before, Standing, item_due, item_full, item_whole, settle}
+use Rattle.cbor_walk.specs.Sink.{IsKeyBehind}
+use Rattle.cbor_judging.specs.Levels.{IsTaken, Level, a_key, a_value, some_key, some_value, frame, AreLevels, bytes_before, Standing, item_due, item_full, item_whole, settle}
 use Rattle.cbor_judging.specs.Given.{level_open, opens, StandsAt}
-use Rattle.cbor_plain.specs.inner.ItemFront.{IsDueAt, IsWholeAt, GoesOnOrNot, WhyStopped, for_cause}
+use Rattle.cbor_plain.specs.inner.ItemFront.{IsDueAt, IsWholeAt, GoesOnOrNot}
+use Rattle.cbor_judging.specs.Reading.{HasCause}
 use Rattle.cbor_plain.specs.inner.PlainItems.{AreApart, AreApartSoFar, HaveBegun, HaveBegunIn, HasItsPlace, IsEndingAt, sets}
 use Rattle.cbor_plain.specs.declared.key_set.KeySet.{KeySet}
 use Rattle.cbor_plain.specs.inner.HeldKeys.{AreHeld, AreHeldSoFar}
@@ -28,6 +30,7 @@ use Rattle.cbor_plain.proofs.TreeValues.{values-ended, settles-right, tree-step,
 use Rattle.cbor_plain.proofs.PathFrames.{repeat_found}
 use Rattle.cbor_plain.proofs.Paths.{closed-apart, apart-now, ends-apart, settled-begun, settled-place}
 use Rattle.cbor_judging.proofs.Scalars.{at-as}
+use Rattle.cbor_judging.proofs.Items.{whole-cause}
 use Rattle.cbor_judging.proofs.Steps.{at-reached}
 use Rattle.cbor_plain.proofs.PartPlaces.{stands-as}
 
@@ -116,50 +119,35 @@ module _ (v : PlainItems) (b : Bounds) (e : ItemEventsView) (t : List ℕ) (heig
 
 module _ (v : PlainItems) (b : Bounds) (e : ItemEventsView) (t : List ℕ) (h : IsEndingAt v b e t e.machine.open_count) (some : 0 < length t) where
   -- the key that has come is the same as an earlier one
-  pub repeated-key : (place : ℕ) (f : Refusal) → IsRepeatedKey v.builder.standing → ((at : ℕ) → slice_get v.starts.items e.machine.open_count ≡ Some at → place ≡ at) → f ≡ refusal RepeatedKey place e.machine.taken → (from to : Option (List ℕ)) → WhyStopped plain b t from to f
-  repeated-key place f repeated place_is is from to = go h.standing h.stands h.place
+  pub repeated-key : (place : ℕ) (f : Refusal) → IsRepeatedKey v.builder.standing → ((at : ℕ) → slice_get v.starts.items e.machine.open_count ≡ Some at → place ≡ at) → f ≡ refusal RepeatedKey place e.machine.taken → (to : Option (List ℕ)) → HasCause plain b [] [] t to f
+  repeated-key place f repeated place_is is to = go h.standing h.stands h.place
     where
       few-bytes : length t < 2 ^ 63
       few-bytes = let at = h.at in omega (arith, at.stands.stands.taken, at.stands.stands.limited, at.bytes, at.limits.1)
 
-      found : (at size : ℕ) → IsJudged plain 0 b.depth t (Some (complaint.complaint (at + size) at RepeatedKey)) → length t ≡ at + size → place ≡ at → WhyStopped plain b t from to f
-      found at size j sized here =
-          let taken : e.machine.taken ≡ length t = h.at.stands.stands.taken in
-          let whole : b.depth ≡ b.depth - 0 = omega arith in
-          for_cause (record {
-            p = t;
-            last = [];
-            splits = sym (append-nil t);
-            found = Some (complaint.complaint (at + size) at RepeatedKey);
-            judged = subst (λ (n : ℕ). IsJudged plain 0 n t (Some (complaint.complaint (at + size) at RepeatedKey))) whole j;
-            cause = (is ∙ ap₂ (λ (x y : ℕ). refusal RepeatedKey x y) here (taken ∙ sized), (at-reached b e t h.q h.at).within);
-          })
-          (λ known. h.keeps)
+      o : KeyOrder
+      o = v.builder.order
 
-      go : (x : Standing) → StandsAt v.builder.order b.depth t h.q v.builder.standing e.machine.open_count x → HasItsPlace v.starts.items x → WhyStopped plain b t from to f
+      key : (l : Level) (ls : List Level) (done : SpelledEntries) (k : Spelling) → IsKeyBehind l done → AreLevels b.depth (l ∷ ls) → IsTaken (b.depth - suc (length ls)) k → t ≡ bytes_before (l ∷ ls) ++ spell k → AreApart (opens o (l ∷ ls))
+          → HasKey (canonical_entries o (entries_of done)) (canonical o (value_of k)) → place ≡ length (bytes_before (l ∷ ls)) → HasCause plain b [] [] t to f
+      key l ls done k behind levels taken bytes_are apart repeats here =
+          let at = length (bytes_before (l ∷ ls)) in
+          let size : length t ≡ at + length (spell k) = ap length bytes_are ∙ length-append (bytes_before (l ∷ ls)) (spell k) in
+          let c = complaint.complaint (at + length (spell k)) at RepeatedKey in
+          let whole : b.depth ≡ b.depth - 0 = omega arith in
+          let j = repeat_found o b.depth ls l done behind levels (omega (arith, few-bytes, size)) apart k taken (omega (arith, few-bytes, size)) repeats in
+          whole-cause plain b [] [] t to f c (subst (λ (n : ℕ). IsJudged plain 0 n t (Some c)) whole (subst (λ (x : List ℕ). IsJudged plain 0 b.depth x (Some c)) (sym bytes_are) j))
+          (is ∙ ap₂ (λ (x y : ℕ). refusal RepeatedKey x y) here (h.at.stands.stands.taken ∙ size)) (at-reached b e t h.q h.at).within
+
+      go : (x : Standing) → StandsAt o b.depth t h.q v.builder.standing e.machine.open_count x → HasItsPlace v.starts.items x → HasCause plain b [] [] t to f
       go (item_due (a_value w left done k ∷ ls)) s place_so =
-          let l = a_key w left done in
-          let levels = s.0 in
-          let bytes_are : t ≡ bytes_before (l ∷ ls) ++ spell k = s.1 ∙ sym (append_assoc (bytes_before ls) _ (spell k)) in
-          let size = length-append (bytes_before (l ∷ ls)) (spell k) in
           let apart = subst AreApartSoFar s.3 h.apart in
-          let at = h.at in
-          let short : length (bytes_before (l ∷ ls)) + length (spell k) < 2 ^ 63 = omega (arith, few-bytes, ap length bytes_are, size) in
-          found (length (bytes_before (l ∷ ls))) (length (spell k))
-          (subst (λ (x : List ℕ). IsJudged plain 0 b.depth x (Some (complaint.complaint (length (bytes_before (l ∷ ls)) + length (spell k)) (length (bytes_before (l ∷ ls))) RepeatedKey))) (sym bytes_are)
-          (repeat_found v.builder.order b.depth ls l done refl (levels.0, (levels.1.0, levels.1.1), levels.2) (omega (arith, short)) (apart.0, (λ x. x), apart.1) k levels.1.2 (omega (arith, short)) (subst IsRepeatedKey s.3 repeated)))
-          (ap length bytes_are ∙ size) (place_is _ (ap (λ (i : ℕ). slice_get v.starts.items i) s.4 ∙ place_so))
+          key (a_key w left done) ls done k refl (s.0.0, (s.0.1.0, s.0.1.1), s.0.2) s.0.1.2 (s.1 ∙ sym (append_assoc (bytes_before ls) _ (spell k))) (apart.0, (λ x. x), apart.1) (subst IsRepeatedKey s.3 repeated)
+          (place_is _ (ap (λ (i : ℕ). slice_get v.starts.items i) s.4 ∙ place_so))
       go (item_due (some_value done k ∷ ls)) s place_so =
-          let l = some_key done in
-          let levels = s.0 in
-          let bytes_are : t ≡ bytes_before (l ∷ ls) ++ spell k = s.1 ∙ sym (append_assoc (bytes_before ls) _ (spell k)) in
-          let size = length-append (bytes_before (l ∷ ls)) (spell k) in
           let apart = subst AreApartSoFar s.3 h.apart in
-          let short : length (bytes_before (l ∷ ls)) + length (spell k) < 2 ^ 63 = omega (arith, few-bytes, ap length bytes_are, size) in
-          found (length (bytes_before (l ∷ ls))) (length (spell k))
-          (subst (λ (x : List ℕ). IsJudged plain 0 b.depth x (Some (complaint.complaint (length (bytes_before (l ∷ ls)) + length (spell k)) (length (bytes_before (l ∷ ls))) RepeatedKey))) (sym bytes_are)
-          (repeat_found v.builder.order b.depth ls l done refl (levels.0, levels.1.0, levels.2) (omega (arith, short)) (apart.0, (λ x. x), apart.1) k levels.1.1 (omega (arith, short)) (subst IsRepeatedKey s.3 repeated)))
-          (ap length bytes_are ∙ size) (place_is _ (ap (λ (i : ℕ). slice_get v.starts.items i) s.4 ∙ place_so))
+          key (some_key done) ls done k refl (s.0.0, s.0.1.0, s.0.2) s.0.1.1 (s.1 ∙ sym (append_assoc (bytes_before ls) _ (spell k))) (apart.0, (λ x. x), apart.1) (subst IsRepeatedKey s.3 repeated)
+          (place_is _ (ap (λ (i : ℕ). slice_get v.starts.items i) s.4 ∙ place_so))
       go (item_full ls u) s place_so = absurd (omega (arith, full-count v b e t e.machine.open_count h ls s.2, s.4))
       go _ s place_so = absurd (subst IsRepeatedKey s.3 repeated)
 

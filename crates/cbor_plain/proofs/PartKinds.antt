@@ -1,6 +1,5 @@
 -- The kinds of keys in what was read: of the first byte of a head, of what a part is, and behind a break.
-use Rattle.std.proofs.Common.{◌≡◌, ◌≢◌, ◌↔◌, ℕ, suc, ◌+◌, ◌-◌, ◌^◌, ◌<◌, true, false, Bool, Option, Some, None, List, [], ◌∷◌, ◌++◌, length, map, refl, sym, subst, arith, append_assoc, IsSome, length-append}
-use Rattle.std.specs.Io.KnownBytes.{Consumes}
+use Rattle.std.proofs.Common.{◌≡◌, ◌≢◌, ◌↔◌, ℕ, suc, ◌+◌, ◌-◌, ◌^◌, ◌<◌, true, false, Bool, List, [], ◌∷◌, ◌++◌, length, map, refl, sym, subst, arith, append_assoc, length-append}
 use Rattle.cbor_head.specs.Prelude.{plain, Complaint, OfKinds, head, Bounds, Spelling, array, a_map, tag, spell_all, spell_entries, spellings_count, value_of, Value}
 use Rattle.cbor_head.specs.Value as value
 use Rattle.cbor_head.specs.declared.major.Major.{Major}
@@ -26,12 +25,6 @@ use Rattle.cbor_judging.proofs.KindBytes.{head_bytes, basic_mark, string_is_one}
 use Rattle.cbor_judging.proofs.LevelFrames.{around_levels}
 use Rattle.cbor_judging.proofs.KindFrames.{keeps_closed}
 use Rattle.cbor_plain.specs.inner.PlainParts.{leaf_value, Begins, BeginsString}
-
--- known bytes that are lost were known
-pub known-on : (from now : Option (List ℕ)) (bs : List ℕ) → Consumes from now bs → IsSome from → IsSome now
-known-on None now bs c some = absurd (cc some)
-known-on (Some xs) None bs c some = absurd c
-known-on (Some xs) (Some ys) bs c some = refl
 
 -- ---- the first byte of a head
 

@@ -1,7 +1,7 @@
 -- What a part of an item is, and where it leads: the containers that are open behind it.
-use Rattle.std.proofs.Common.{◌≡◌, ◌≢◌, ℕ, zero, suc, ◌+◌, ◌-◌, ◌^◌, ◌<◌, ◌≤◌, Bool, true, false, Some, None, List, [], ◌∷◌, ◌++◌, length, map, slice_get, refl, sym, ap, ◌∙◌, subst, arith, append_assoc, append-nil, length-append}
+use Rattle.std.proofs.Common.{◌≡◌, ◌≢◌, ℕ, zero, suc, ◌+◌, ◌-◌, ◌^◌, ◌<◌, Bool, true, false, Some, None, List, [], ◌∷◌, ◌++◌, length, map, slice_get, refl, sym, ap, ◌∙◌, subst, arith, append_assoc, append-nil, length-append}
 use Rattle.std.proofs.lemmas.List.{length-map}
-use Rattle.cbor_head.specs.Prelude.{Holds, IsSimple, head, shortest_head, canonical, Bounds, array, a_map, no_spellings, no_entries, spell_all, spell_entries, spellings_count, plain}
+use Rattle.cbor_head.specs.Prelude.{Holds, IsSimple, head, shortest_head, canonical, Bounds, Spelling, array, a_map, no_spellings, no_entries, spell_all, spell_entries, spellings_count, plain}
 use Rattle.cbor_head.specs.declared.major.Major.{Major}
 use Rattle.cbor_head.specs.declared.major.Major.TheVariants as majors
 use Rattle.cbor_head.specs.declared.order.KeyOrder.{KeyOrder}
@@ -9,7 +9,7 @@ use Rattle.cbor_head.specs.declared.width.Width.{Width}
 use Rattle.cbor_head.specs.declared.width.Width.TheVariants.{Indefinite}
 use Rattle.cbor_standing.specs.NextEvent.{ItemEventsView}
 use Rattle.cbor_automaton.specs.Marks.{mark_of}
-use Rattle.cbor_automaton.specs.Trace.{Mark, a_head, a_break}
+use Rattle.cbor_automaton.specs.Trace.{a_head}
 use Rattle.cbor_automaton.specs.declared.event.EventKind.{EventKind}
 use Rattle.cbor_automaton.specs.declared.event.EventKind.TheVariants as kinds
 use Rattle.cbor_judging.specs.Place.{Container, Place, at_item, expect, Ends, IsTaking}
@@ -19,16 +19,14 @@ use Rattle.cbor_item.specs.OpenValues as trees
 use Rattle.cbor_item.specs.OpenValues.{OpenValue}
 use Rattle.cbor_judging.specs.Levels.{Level, a_member, a_key, some_member, some_key, tagged, frame, AreLevels, bytes_before, Standing, item_due, item_full}
 use Rattle.cbor_judging.specs.Given.{opens, StandsAt}
-use Rattle.cbor_judging.specs.Reading.{string_major, IsUndecided, IsBegun, string_value}
+use Rattle.cbor_judging.specs.Reading.{string_major, IsBegun, string_value}
 use Rattle.cbor_plain.specs.inner.PlainItems.{HaveBegun, HaveBegunIn, HasItsPlace}
 use Rattle.cbor_plain.specs.inner.PlainParts.{IsCome, leaf_value, IsLeafMajor, Begins}
 use Rattle.cbor_judging.proofs.Members.{closes}
-use Rattle.cbor_judging.proofs.Heads.{open_or, Headed}
-use Rattle.cbor_judging.proofs.Items.{definite, is-definite, proper-definite, never-open, taking-some}
-use Rattle.cbor_judging.proofs.Judged.{judged_start}
+use Rattle.cbor_judging.proofs.Heads.{open_or}
+use Rattle.cbor_judging.proofs.Items.{definite, is-definite, proper-definite, never-open}
 use Rattle.cbor_judging.proofs.Given.{full-array, full-map}
 use Rattle.cbor_judging.proofs.Loops.{array_bytes-whole, map_bytes-whole}
-use Rattle.cbor_judging.proofs.Undecided.{head-item, head-undecided}
 use Rattle.cbor_plain.specs.TreeValues.{level_values, values_at, IsFullRight}
 use Rattle.cbor_judging.proofs.Steps.{fault_of}
 
@@ -45,27 +43,6 @@ pub come-begun : (b : Bounds) (fs : List Container) (t x : List ℕ) (e : ItemEv
 come-begun b fs t x e w kind other same item i =
     let j = subst (IsCome b fs t x e w) same i in
     record { next = j.next; taking = j.taking; item = item; clean = λ c h. cc (fault_of (at_item fs) (mark_of w other) plain (length t) c h).1.0; proper = j.proper; at = j.at }
-
-short-undecided : (b : Bounds) (fs : List Container) (t x : List ℕ) → length x ≤ 1 → IsUndecided plain b fs t x
-short-undecided b fs t x l = record { p = []; last = x; splits = refl; byte = l; judged = judged_start plain (length t) (b.depth - length fs) }
-
--- all but the last byte of a head tells nothing
-pub mark-undecided : (b : Bounds) (fs : List Container) (t x : List ℕ) (mark : Mark) (next : Place) → IsTaking b.depth (at_item fs) mark x next → IsUndecided plain b fs t x
-mark-undecided b fs t x (a_head m w n) next h = go w h
-  where
-    some : 0 < length x
-    some = taking-some b.depth fs (a_head m w n) x next h
-
-    by : (v : Width) → v ≢ Indefinite → IsTaking b.depth (at_item fs) (a_head m v n) x next → IsUndecided plain b fs t x
-    by v f g =
-        let d = definite b.depth fs m v n x next f g in
-        head-undecided plain b fs t x (subst (Headed (b.depth - length fs)) (sym d.bytes_are) (head-item b.depth fs m v n x next d)) some
-
-    go : (v : Width) → IsTaking b.depth (at_item fs) (a_head m v n) x next → IsUndecided plain b fs t x
-    go Indefinite g = short-undecided b fs t x (omega (arith, ap length g.1))
-    go v g = by v (λ e. cc e) g
-mark-undecided b fs t x a_break next h = short-undecided b fs t x (omega (arith, ap length h.0))
-mark-undecided b fs t x _ next h = absurd h
 
 -- ---- parts
 
@@ -106,6 +83,11 @@ pub record IsPlaced (o : KeyOrder) (d : ℕ) (t : List ℕ) (q : Place) (os : Li
   pub right : IsFullRight standing
   pub values : vs ≡ values_at standing
 
+-- an item is full
+full-here : (o : KeyOrder) (d : ℕ) (ls : List Level) (s : Spelling) (t : List ℕ) (q : Place) (os : List Open) (h : ℕ) (xs : List ℕ) (vs : List OpenValue) → StandsAt o d t q os h (item_full ls s) → HaveBegun xs ls
+    → slice_get xs (length ls) ≡ Some (length (bytes_before ls)) → IsFullRight (item_full ls s) → vs ≡ values_at (item_full ls s) → IsPlaced o d t q os h xs vs
+full-here o d ls s t q os h xs vs stands begun place right values = record { standing = item_full ls s; stands = stands; begun = begun; place = place; right = right; values = values }
+
 module _ (o : KeyOrder) (b : Bounds) (ls : List Level) (levels : AreLevels b.depth ls) (xs : List ℕ) (begun : HaveBegun xs ls) (here : slice_get xs (length ls) ≡ Some (length (bytes_before ls))) where
   abbrev fs : List Container
   fs = map frame ls
@@ -113,70 +95,32 @@ module _ (o : KeyOrder) (b : Bounds) (ls : List Level) (levels : AreLevels b.dep
   room-for : length fs < b.depth → length ls < b.depth
   room-for r = omega (arith, r, length-map ls frame)
 
+  -- a container opens in which an item is due
+  due-here : (l : Level) (x : List ℕ) (next : Place) (os : List Open) (vs : List OpenValue) → AreLevels b.depth (l ∷ ls) → bytes_before ls ++ x ≡ bytes_before (l ∷ ls) → next ≡ at_item (map frame (l ∷ ls)) → os ≡ opens o (l ∷ ls)
+      → HasItsPlace xs (item_due (l ∷ ls)) → vs ≡ values_at (item_due (l ∷ ls)) → IsPlaced o b.depth (bytes_before ls ++ x) next os (suc (length ls)) xs vs
+  due-here l x next os vs inner bytes follows are place values =
+      record { standing = item_due (l ∷ ls); stands = (inner, bytes, follows, are, refl); begun = (here, begun); place = place; right = tt; values = values }
+
   array-begins : (k : ℕ) (w : Width) (next : Place) → Holds w k → length fs < b.depth → next ≡ expect k fs → IsPlaced o b.depth (bytes_before ls ++ head majors.Array w k) next (an_array 0 [] ∷ opens o ls) (suc (length ls)) xs (trees.an_array [] ∷ level_values ls)
-  array-begins zero w next holds room follows = record {
-    standing = item_full ls (array w no_spellings);
-    stands = (
-      levels,
-      ap (λ (x : List ℕ). bytes_before ls ++ x) (sym (append-nil (head majors.Array w 0)) ∙ sym (array_bytes-whole w 0 no_spellings (closes w (is-definite w 0 holds)) refl)),
-      follows,
-      (_, full-array o (b.depth - length ls) 0 w no_spellings 0 [] refl refl tt (open_or w 0 holds) (omega (arith, room-for room)), refl),
-      refl,
-    );
-    begun = begun;
-    place = here;
-    right = tt;
-    values = refl;
-  }
+  array-begins zero w next holds room follows =
+      full-here o b.depth ls (array w no_spellings) _ next _ _ xs _
+      (levels, ap (λ (x : List ℕ). bytes_before ls ++ x) (sym (append-nil (head majors.Array w 0)) ∙ sym (array_bytes-whole w 0 no_spellings (closes w (is-definite w 0 holds)) refl)), follows, (_, full-array o (b.depth - length ls) 0 w no_spellings 0 [] refl refl tt (open_or w 0 holds) (omega (arith, room-for room)), refl), refl)
+      begun here tt refl
   array-begins (suc left) w next holds room follows =
       let count : suc left ≡ 0 + suc left = omega arith in
-      record {
-        standing = item_due (a_member w left no_spellings ∷ ls);
-        stands = (
-          (room-for room, (subst (Holds w) count holds, tt), levels),
-          ap (λ (x : List ℕ). bytes_before ls ++ x) (ap (head majors.Array w) count ∙ sym (append-nil (head majors.Array w (0 + suc left)))),
-          follows,
-          refl,
-          refl,
-        );
-        begun = (here, begun);
-        place = tt;
-        right = tt;
-        values = refl;
-      }
+      due-here (a_member w left no_spellings) (head majors.Array w (suc left)) next _ _ (room-for room, (subst (Holds w) count holds, tt), levels)
+      (ap (λ (x : List ℕ). bytes_before ls ++ x) (ap (head majors.Array w) count ∙ sym (append-nil (head majors.Array w (0 + suc left))))) follows refl tt refl
 
   map-begins : (k : ℕ) (w : Width) (next : Place) → Holds w k → length fs < b.depth → next ≡ expect (k + k) fs → IsPlaced o b.depth (bytes_before ls ++ head majors.Map w k) next (an_open_map [] ∷ opens o ls) (suc (length ls)) xs (trees.a_map [] ∷ level_values ls)
-  map-begins zero w next holds room follows = record {
-    standing = item_full ls (a_map w no_entries);
-    stands = (
-      levels,
-      ap (λ (x : List ℕ). bytes_before ls ++ x) (sym (append-nil (head majors.Map w 0)) ∙ sym (map_bytes-whole w 0 no_entries (closes w (is-definite w 0 holds)) refl)),
-      follows,
-      (_, full-map o (b.depth - length ls) 0 w no_entries [] refl tt (open_or w 0 holds) (omega (arith, room-for room)) (omega arith), refl),
-      refl,
-    );
-    begun = begun;
-    place = here;
-    right = tt;
-    values = refl;
-  }
+  map-begins zero w next holds room follows =
+      full-here o b.depth ls (a_map w no_entries) _ next _ _ xs _
+      (levels, ap (λ (x : List ℕ). bytes_before ls ++ x) (sym (append-nil (head majors.Map w 0)) ∙ sym (map_bytes-whole w 0 no_entries (closes w (is-definite w 0 holds)) refl)), follows, (_, full-map o (b.depth - length ls) 0 w no_entries [] refl tt (open_or w 0 holds) (omega (arith, room-for room)) (omega arith), refl), refl)
+      begun here tt refl
   map-begins (suc left) w next holds room follows =
       let count : suc left ≡ 0 + suc left = omega arith in
       let two : suc left + suc left ≡ suc (suc (left + left)) = omega arith in
-      record {
-        standing = item_due (a_key w left no_entries ∷ ls);
-        stands = (
-          (room-for room, (subst (Holds w) count holds, tt), levels),
-          ap (λ (x : List ℕ). bytes_before ls ++ x) (ap (head majors.Map w) count ∙ sym (append-nil (head majors.Map w (0 + suc left)))),
-          follows ∙ ap (λ (x : ℕ). expect x fs) two,
-          refl,
-          refl,
-        );
-        begun = (here, begun);
-        place = tt;
-        right = tt;
-        values = refl;
-      }
+      due-here (a_key w left no_entries) (head majors.Map w (suc left)) next _ _ (room-for room, (subst (Holds w) count holds, tt), levels)
+      (ap (λ (x : List ℕ). bytes_before ls ++ x) (ap (head majors.Map w) count ∙ sym (append-nil (head majors.Map w (0 + suc left))))) (follows ∙ ap (λ (x : ℕ). expect x fs) two) refl tt refl
 
   module _ (t x : List ℕ) (e : ItemEventsView) (w : Width) where
     -- a container begins
@@ -194,65 +138,26 @@ module _ (o : KeyOrder) (b : Bounds) (ls : List Level) (levels : AreLevels b.dep
         subst (λ (z : Major). IsPlaced o b.depth (bytes_before ls ++ x) i.next (opened z k ∷ opens o ls) (suc (length ls)) xs (trees.opened z k ∷ level_values ls)) (sym g.0)
         (subst (λ (j : ℕ). IsPlaced o b.depth (bytes_before ls ++ x) i.next (opened majors.Tag j ∷ opens o ls) (suc (length ls)) xs (trees.opened majors.Tag j ∷ level_values ls)) (sym g.1)
         (subst (λ (y : List ℕ). IsPlaced o b.depth (bytes_before ls ++ y) i.next (opened majors.Tag n ∷ opens o ls) (suc (length ls)) xs (trees.opened majors.Tag n ∷ level_values ls)) (sym d.bytes_are)
-        (record { standing = item_due (tagged w n ∷ ls); stands = ((room-for d.follows.0, d.holds, levels), refl, d.follows.1, refl, refl); begun = (here, begun); place = tt; right = tt; values = refl })))
+        (due-here (tagged w n) (head majors.Tag w n) i.next _ _ (room-for d.follows.0, d.holds, levels) refl d.follows.1 refl tt refl)))
     opens-by (kinds.Array None) m k i g =
         let taking = subst (λ (v : Width). IsTaking b.depth (at_item fs) (a_head majors.Array v 0) x i.next) i.proper i.taking in
         subst (λ (z : Major). IsPlaced o b.depth (bytes_before ls ++ x) i.next (opened z k ∷ opens o ls) (suc (length ls)) xs (trees.opened z k ∷ level_values ls)) (sym g.0)
-        (record {
-          standing = item_due (some_member no_spellings ∷ ls);
-          stands = ((room-for taking.2.0, tt, levels), ap (λ (y : List ℕ). bytes_before ls ++ y) (taking.1 ∙ sym (append-nil (head majors.Array Indefinite 0))), taking.2.1, refl, refl);
-          begun = (here, begun);
-          place = tt;
-          right = tt;
-          values = refl;
-        })
+        (due-here (some_member no_spellings) x i.next _ _ (room-for taking.2.0, tt, levels) (ap (λ (y : List ℕ). bytes_before ls ++ y) (taking.1 ∙ sym (append-nil (head majors.Array Indefinite 0)))) taking.2.1 refl tt refl)
     opens-by (kinds.Map None) m k i g =
         let taking = subst (λ (v : Width). IsTaking b.depth (at_item fs) (a_head majors.Map v 0) x i.next) i.proper i.taking in
         subst (λ (z : Major). IsPlaced o b.depth (bytes_before ls ++ x) i.next (opened z k ∷ opens o ls) (suc (length ls)) xs (trees.opened z k ∷ level_values ls)) (sym g.0)
-        (record {
-          standing = item_due (some_key no_entries ∷ ls);
-          stands = ((room-for taking.2.0, tt, levels), ap (λ (y : List ℕ). bytes_before ls ++ y) (taking.1 ∙ sym (append-nil (head majors.Map Indefinite 0))), taking.2.1, refl, refl);
-          begun = (here, begun);
-          place = tt;
-          right = tt;
-          values = refl;
-        })
+        (due-here (some_key no_entries) x i.next _ _ (room-for taking.2.0, tt, levels) (ap (λ (y : List ℕ). bytes_before ls ++ y) (taking.1 ∙ sym (append-nil (head majors.Map Indefinite 0)))) taking.2.1 refl tt refl)
     opens-by _ m k i g = absurd g
 
 -- the break
 pub breaks : (o : KeyOrder) (b : Bounds) (ls : List Level) (next : Place) (xs : List ℕ) → AreLevels b.depth ls → HaveBegun xs ls → length (bytes_before ls) < 2 ^ 63 → Ends (map frame ls) next
     → IsPlaced o b.depth (bytes_before ls ++ 0xff ∷ []) next (opens o ls) (length ls) xs (level_values ls)
-breaks o b (some_member done ∷ ms) next xs h begun s x = record {
-  standing = item_full ms (array Indefinite done);
-  stands = (
-    h.2,
-    append_assoc (bytes_before ms) (head majors.Array Indefinite 0 ++ spell_all done) (0xff ∷ []),
-    x,
-    (_, full-array o (b.depth - length ms) (b.depth - suc (length ms)) Indefinite done (spellings_count done) _ refl refl h.1 tt (omega (arith, h.0)), refl),
-    refl,
-  );
-  begun = begun.1;
-  place = begun.0;
-  right = tt;
-  values = refl;
-}
-breaks o b (some_key done ∷ ms) next xs h begun s x = record {
-  standing = item_full ms (a_map Indefinite done);
-  stands = (
-    h.2,
-    append_assoc (bytes_before ms) (head majors.Map Indefinite 0 ++ spell_entries done) (0xff ∷ []),
-    x,
-    (
-      _,
-      full-map o (b.depth - length ms) (b.depth - suc (length ms)) Indefinite done _ refl h.1 tt (omega (arith, h.0))
-          (omega (arith, s, length-append (bytes_before ms) (head majors.Map Indefinite 0 ++ spell_entries done), length-append (head majors.Map Indefinite 0) (spell_entries done))),
-      refl,
-    ),
-    refl,
-  );
-  begun = begun.1;
-  place = begun.0;
-  right = tt;
-  values = refl;
-}
+breaks o b (some_member done ∷ ms) next xs h begun s x =
+    full-here o b.depth ms (array Indefinite done) _ next _ _ xs _
+    (h.2, append_assoc (bytes_before ms) (head majors.Array Indefinite 0 ++ spell_all done) (0xff ∷ []), x, (_, full-array o (b.depth - length ms) (b.depth - suc (length ms)) Indefinite done (spellings_count done) _ refl refl h.1 tt (omega (arith, h.0)), refl), refl)
+    begun.1 begun.0 tt refl
+breaks o b (some_key done ∷ ms) next xs h begun s x =
+    full-here o b.depth ms (a_map Indefinite done) _ next _ _ xs _
+    (h.2, append_assoc (bytes_before ms) (head majors.Map Indefinite 0 ++ spell_entries done) (0xff ∷ []), x, (_, full-map o (b.depth - length ms) (b.depth - suc (length ms)) Indefinite done _ refl h.1 tt (omega (arith, h.0)) (omega (arith, s, length-append (bytes_before ms) (head majors.Map Indefinite 0 ++ spell_entries done), length-append (head majors.Map Indefinite 0) (spell_entries done))), refl), refl)
+    begun.1 begun.0 tt refl
 breaks o b _ next xs h begun s x = absurd x

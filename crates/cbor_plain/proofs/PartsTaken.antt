@@ -1,8 +1,8 @@
 -- A part that was read where an item is due: what it makes of the path, and why it is refused.
-use Rattle.std.proofs.Common.{◌≡◌, ◌≢◌, ℕ, suc, ◌+◌, ◌-◌, ◌^◌, ◌<◌, ◌≤◌, Option, List, [], ◌∷◌, ◌++◌, length, map, take, slice_get, Some, refl, sym, ap, ap₂, ◌∙◌, subst, arith, append-nil, length-append}
+use Rattle.std.proofs.Common.{◌≡◌, ◌≢◌, ℕ, suc, ◌+◌, ◌-◌, ◌^◌, ◌<◌, ◌≤◌, Option, List, [], ◌∷◌, ◌++◌, length, map, take, slice_get, Some, refl, sym, ap, ap₂, ◌∙◌, subst, inl, arith, append-nil, length-append}
 use Rattle.std.specs.Io.KnownBytes.{Consumes}
 use Rattle.std.proofs.lemmas.List.{length-map}
-use Rattle.cbor_head.specs.Prelude.{IsBeginning, head, canonical, Bounds, Value, spell, spell_all, spellings_count, value_of, plain}
+use Rattle.cbor_head.specs.Prelude.{head, canonical, Bounds, Value, spell, spell_all, spellings_count, value_of, plain}
 use Rattle.cbor_head.specs.declared.major.Major.TheVariants as majors
 use Rattle.cbor_head.specs.declared.order.KeyOrder.{KeyOrder}
 use Rattle.cbor_head.specs.declared.reason.Reason.TheVariants.{Memory}
@@ -28,7 +28,7 @@ use Rattle.cbor_judging.specs.Kinds.{AsksForKinds, KeepsToKinds, IsKeyDueIn, IsO
 use Rattle.cbor_judging.specs.Levels.{IsTaken, Level, a_member, some_member, frame, AreLevels, bytes_before, item_due, settle}
 use Rattle.cbor_judging.specs.Given.{opens, StandsAt}
 use Rattle.cbor_judging.specs.Reading.{IsAt, IsUndecided, IsNextHead, ReadsItem, StopsItem, string_value}
-use Rattle.cbor_plain.specs.inner.ItemFront.{IsStopped, IsDueAt, IsNextDue, for_memory}
+use Rattle.cbor_plain.specs.inner.ItemFront.{IsDueAt, IsNextDue}
 use Rattle.cbor_plain.specs.inner.PlainItems.{AreApartSoFar, HaveBegun, CanTake, IsGiven, IsEndingAt, sets, AreKeysBegun}
 use Rattle.cbor_plain.specs.inner.PlainParts.{IsCome, leaf_value, BeginsString, IsStill, ReadsPart}
 use Rattle.cbor_plain.specs.declared.key_set.KeySet.{KeySet}
@@ -37,19 +37,21 @@ use Rattle.cbor_plain.proofs.HeldKeys.{held-given, held-opened, held-broken}
 use Rattle.cbor_judging.proofs.Items.{extends-by, extends-in, taking-some}
 use Rattle.cbor_judging.proofs.KindBytes.{item_basic, Begins, mark_begins, keeps_due}
 use Rattle.cbor_judging.proofs.LevelFrames.{around_levels}
-use Rattle.cbor_judging.proofs.KindFrames.{keeps_on, keeps_front}
+use Rattle.cbor_judging.proofs.KindFrames.{keeps_on}
 use Rattle.cbor_judging.proofs.Standing.{open-is, short-at}
 use Rattle.cbor_judging.proofs.Levels.{clean-anywhere}
 use Rattle.cbor_judging.proofs.Given.{settled}
-use Rattle.cbor_judging.proofs.Undecided.{item-undecided}
+use Rattle.cbor_judging.proofs.Undecided.{item-undecided, mark-undecided}
 use Rattle.cbor_plain.specs.TreeValues.{level_values, values_with, IsForTree}
 use Rattle.cbor_plain.proofs.DueRefusals.{few, due-keeps, refused-item, undecided-whole}
 use Rattle.cbor_plain.proofs.TreeValues.{values-given, settles-right, tree-step}
 use Rattle.cbor_plain.proofs.PartKinds.{basic-more, mark-basic, mark-string, string-item, begins-item, no-break, HoldsNone, leaf-holds-none, string-holds-none, no-kinds, keeps-broken}
 use Rattle.cbor_plain.proofs.Paths.{given-apart, opened-apart, so-far, settled-begun, settled-place, begun-more, begun-room, begins-at}
 use Rattle.cbor_judging.proofs.Steps.{at-reached}
+use Rattle.cbor_judging.proofs.Stopped.{stopped_behind}
+use Rattle.cbor_judging.specs.Stopped.{IsStopped}
 use Rattle.cbor_judging.proofs.Valid.{count_bounded}
-use Rattle.cbor_plain.proofs.PartPlaces.{IsPlaced, begins-container, breaks, leaf-canonical, leaf-major, mark-undecided, opens-by, stands-as, string-canonical}
+use Rattle.cbor_plain.proofs.PartPlaces.{IsPlaced, begins-container, breaks, leaf-canonical, leaf-major, opens-by, stands-as, string-canonical}
 
 -- ---- what may come
 
@@ -192,7 +194,7 @@ module _ (v : PlainItems) (b : Bounds) (e : ItemEventsView) (t : List ℕ) (d : 
           some = some-head;
           consumed = subst (λ (z : Option (List ℕ)). Consumes from z n.bytes) (sym still.reader) n.consumed;
           keeps = keeps;
-          undecided = undecided-whole v b e t d n.bytes (mark-undecided b gs t n.bytes (mark_of ev.width ev.kind) n.next n.taking);
+          undecided = undecided-whole v b e t d n.bytes (mark-undecided plain b gs t n.bytes (mark_of ev.width ev.kind) n.next n.taking);
           q = n.next;
           at = at;
           leads = λ now height place count same same_place starts same_kinds given step keys. leads now height place count same same_place starts same_kinds given step keys at;
@@ -271,10 +273,4 @@ module _ (v : PlainItems) (b : Bounds) (e : ItemEventsView) (t : List ℕ) (d : 
     pub part-no-memory : (part : Part) → IsPartTaken part → (f : Refusal) → f.reason ≡ Memory → f.place ≡ f.read → f.read ≡ new.machine.taken → IsStopped plain b t from to f
     part-no-memory part k f is place read =
         let reached = at-reached b new (t ++ k.bytes) k.q k.at in
-        let u = k.undecided in
-        record {
-          bytes = k.bytes;
-          consumed = k.consumed;
-          read = read ∙ k.at.stands.stands.taken;
-          why = for_memory (is, place) reached u (λ known. keeps_front b plain u.p u.last (subst (IsBeginning b.depth) u.splits reached.begins) (subst (KeepsToKinds b plain) u.splits k.keeps));
-        }
+        stopped_behind plain b t from to f k.bytes k.consumed reached.begins k.keeps (record { read = read ∙ k.at.stands.stands.taken; why = inl ((is, place), reached, k.undecided) })

@@ -1,37 +1,32 @@
 -- A value holds no more than its item has bytes: each item has a head, and each byte of a string stands in it.
-use Rattle.std.proofs.Common.{ℕ, suc, ◌≤◌, List, [], ◌∷◌, ◌++◌, length, flat_map, arith, length-append}
+use Rattle.std.proofs.Common.{suc, ◌≤◌, List, [], ◌∷◌, ◌++◌, length, flat_map, arith, length-append}
 use Rattle.cbor_head.specs.Prelude.{head, Chunk, Spelling, Spellings, SpelledEntries, bytes, text, byte_chunks, text_chunks, array, a_map, tag, no_spellings, a_spelling, no_entries, entry, spell, spell_all, spell_entries, spellings_count, entries_count, value_of, values_of, entries_of, chunks_joined, chunk_bytes, chunked, break_of}
 use Rattle.cbor_head.specs.declared.major.Major.{Major}
 use Rattle.cbor_head.specs.declared.major.Major.TheVariants.{Bytes, Text, Array, Map, Tag}
-use Rattle.cbor_head.specs.declared.width.Width.{Width}
 use Rattle.cbor_head.specs.declared.width.Width.TheVariants.{Indefinite}
 use Rattle.cbor_grammar.proofs.ReadLaws.{length_head, length_spell}
 use Rattle.cbor_plain.specs.Size.{size, size_all, size_entries}
 use Rattle.cbor_judging.proofs.Valid.{joined_bounded}
 
--- behind a head
-behind_head : (m : Major) (w : Width) (k n : ℕ) (xs : List ℕ) → n ≤ length xs → suc n ≤ length (head m w k ++ xs)
-behind_head m w k n xs l = omega (arith, l, length_head m w k, length-append (head m w k) xs)
-
-within_front : (n : ℕ) (xs ys : List ℕ) → n ≤ length xs → n ≤ length (xs ++ ys)
-within_front n xs ys l = omega (arith, l, length-append xs ys)
-
 chunks_size : (m : Major) (cs : List Chunk) → suc (length (chunks_joined cs)) ≤ length (chunked m cs)
 chunks_size m cs =
-    within_front (suc (length (chunks_joined cs))) (head m Indefinite 0 ++ flat_map (chunk_bytes m) cs) (0xff ∷ [])
-    (behind_head m Indefinite 0 (length (chunks_joined cs)) (flat_map (chunk_bytes m) cs) (joined_bounded m cs))
+    let front = head m Indefinite 0 in
+    let parts = flat_map (chunk_bytes m) cs in
+    omega (arith, joined_bounded m cs, length_head m Indefinite 0, length-append front parts, length-append (front ++ parts) (0xff ∷ []))
 
 mutual
   pub size_bounded : (s : Spelling) → size (value_of s) ≤ length (spell s)
-  size_bounded (bytes w q) = behind_head Bytes w (length q) (length q) q (omega arith)
-  size_bounded (text w q) = behind_head Text w (length q) (length q) q (omega arith)
+  size_bounded (bytes w q) = omega (arith, length_head Bytes w (length q), length-append (head Bytes w (length q)) q)
+  size_bounded (text w q) = omega (arith, length_head Text w (length q), length-append (head Text w (length q)) q)
   size_bounded (byte_chunks cs) = chunks_size Bytes cs
   size_bounded (text_chunks cs) = chunks_size Text cs
   size_bounded (array w ss) =
-      within_front _ (head Array w (spellings_count ss) ++ spell_all ss) (break_of w) (behind_head Array w (spellings_count ss) (size_all (values_of ss)) (spell_all ss) (sizes_bounded ss))
+      let front = head Array w (spellings_count ss) in
+      omega (arith, sizes_bounded ss, length_head Array w (spellings_count ss), length-append front (spell_all ss), length-append (front ++ spell_all ss) (break_of w))
   size_bounded (a_map w es) =
-      within_front _ (head Map w (entries_count es) ++ spell_entries es) (break_of w) (behind_head Map w (entries_count es) (size_entries (entries_of es)) (spell_entries es) (entries_bounded es))
-  size_bounded (tag w n s) = behind_head Tag w n (size (value_of s)) (spell s) (size_bounded s)
+      let front = head Map w (entries_count es) in
+      omega (arith, entries_bounded es, length_head Map w (entries_count es), length-append front (spell_entries es), length-append (front ++ spell_entries es) (break_of w))
+  size_bounded (tag w n s) = omega (arith, size_bounded s, length_head Tag w n, length-append (head Tag w n) (spell s))
   size_bounded s = length_spell s
 
   sizes_bounded : (ss : Spellings) → size_all (values_of ss) ≤ length (spell_all ss)

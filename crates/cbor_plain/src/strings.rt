@@ -1,12 +1,9 @@
 //! Strings, of one piece or of chunks.
 
-ghost use Rattle.std.specs.Prelude.{◌≡◌, ℕ, List, true, IsUtf8, MatchResult, None};
+ghost use Rattle.std.specs.Prelude.{None};
 ghost use Rattle.cbor_head.specs.Complaint.{plain};
-ghost use Rattle.cbor_head.specs.Limits.{Bounds};
-ghost use Rattle.cbor_judging.specs.Place.{Container};
-ghost use Rattle.cbor_head.specs.declared.width.Width.{Width};
-ghost use Rattle.cbor_judging.specs.Reading.{HasBegun, IsBegun, ReadsItem};
-ghost use Rattle.cbor_judging.specs.Reading.{StopsItem, string_kind, string_value};
+ghost use Rattle.cbor_judging.specs.Reading.{HasBegun, string_kind};
+ghost use Rattle.cbor_plain.specs.inner.PlainParts.{AnswersString};
 
 use crate::next_head::next_head;
 use crate::payload::read_chunk;
@@ -25,14 +22,8 @@ pub(crate) fn read_string<R: Read>(
     length: Option<u64>,
 ) -> Result<Vec<u8>, Refusal>
     requires { HasBegun plain events.old (string_kind text length) }
-    ensures { (b : Bounds) (fs : List Container) (t x : List ℕ) (w : Width)
-        → IsBegun plain b fs t x events.old w (string_kind text length)
-        → MatchResult result
-        (λ v. ReadsItem plain b fs t x
-        (R.remaining reader.old) (R.remaining reader.new) events.new (string_value text v.items)
-        × (text ≡ true → IsUtf8 v.items))
-        (λ f. StopsItem plain b fs t x
-        (R.remaining reader.old) (R.remaining reader.new) f) }
+    ensures { AnswersString text length events.old
+        (R.remaining reader.old) (R.remaining reader.new) events.new result }
 {
     match length {
         Some(count) => {
@@ -54,14 +45,8 @@ fn read_chunks<R: Read>(
     text: bool,
 ) -> Result<Vec<u8>, Refusal>
     requires { HasBegun plain events.old (string_kind text None) }
-    ensures { (b : Bounds) (fs : List Container) (t x : List ℕ) (w : Width)
-        → IsBegun plain b fs t x events.old w (string_kind text None)
-        → MatchResult result
-        (λ v. ReadsItem plain b fs t x
-        (R.remaining reader.old) (R.remaining reader.new) events.new (string_value text v.items)
-        × (text ≡ true → IsUtf8 v.items))
-        (λ f. StopsItem plain b fs t x
-        (R.remaining reader.old) (R.remaining reader.new) f) }
+    ensures { AnswersString text None events.old
+        (R.remaining reader.old) (R.remaining reader.new) events.new result }
 {
     let mut content = Vec::new(alloc);
     'chunks: loop {

@@ -1,7 +1,7 @@
 -- How many maps are open in an item, and how many bytes of keys are kept, by the container that it stands in.
 use Rattle.std.proofs.Common.{◌≡◌, ℕ, suc, ◌+◌, ◌-◌, ◌<◌, ◌≤◌, List, [], ◌∷◌, ◌++◌, length, refl, ap, ◌∙◌, arith, if◌then◌else◌, lt-ltb, le-ltb, le-leb, length-append}
 use Rattle.cbor_head.specs.Prelude.{head, Spelling, Spellings, SpelledEntries, a_map, no_spellings, a_spelling, no_entries, entry, spell, spell_all, spell_entries, spellings_count, entries_count}
-use Rattle.cbor_head.specs.declared.major.Major.TheVariants.{Array, Map}
+use Rattle.cbor_head.specs.declared.major.Major.TheVariants.{Array, Map, Tag}
 use Rattle.cbor_strict.specs.KeptKeys.{open_maps, open_maps_in, open_maps_in_entries, key_bytes, key_bytes_in, key_bytes_in_entries}
 use Rattle.cbor_judging.specs.Frame.{Frame, a_member, a_key, a_content, tagged, with_all, with_entries, plug, before, behind}
 use Rattle.cbor_strict.specs.inner.LastKeys.{is_key, complete_key}
@@ -30,32 +30,15 @@ keys_size (f ∷ fs) n = length (complete_key f) + (if is_key f then length (bef
 pub members_size : (s : Spelling) (ss : Spellings) → length (spell_all (a_spelling s ss)) ≡ length (spell s) + length (spell_all ss)
 members_size s ss = length-append (spell s) (spell_all ss)
 
-maps_member : (a : Spellings) (s : Spelling) (b : Spellings) (n m : ℕ) → m ≡ length (spell_all a) + n → n < length (spell s) → open_maps_in m (with_all a (a_spelling s b)) ≡ open_maps n s
-maps_member no_spellings s b n m e l = rw (lt-ltb m (length (spell s)) (omega (arith, e, l))) (ap (λ (x : ℕ). open_maps x s) (omega (arith, e)))
-maps_member (a_spelling t a) s b n m e l =
+-- what is counted of the item that goes on among these
+members_counted : (a : Spellings) (s : Spelling) (b : Spellings) (n m : ℕ) → m ≡ length (spell_all a) + n → n < length (spell s)
+    → (open_maps_in m (with_all a (a_spelling s b)) ≡ open_maps n s) × (key_bytes_in m (with_all a (a_spelling s b)) ≡ key_bytes n s)
+members_counted no_spellings s b n m e l =
+    let same : m ≡ n = omega (arith, e) in
+    rw (lt-ltb m (length (spell s)) (omega (arith, e, l))) (ap (λ (x : ℕ). open_maps x s) same, ap (λ (x : ℕ). key_bytes x s) same)
+members_counted (a_spelling t a) s b n m e l =
     let size = members_size t a in
-    rw (le-ltb m (length (spell t)) (omega (arith, e, size))) (maps_member a s b n (m - length (spell t)) (omega (arith, e, size)) l)
-
-keys_member : (a : Spellings) (s : Spelling) (b : Spellings) (n m : ℕ) → m ≡ length (spell_all a) + n → n < length (spell s) → key_bytes_in m (with_all a (a_spelling s b)) ≡ key_bytes n s
-keys_member no_spellings s b n m e l = rw (lt-ltb m (length (spell s)) (omega (arith, e, l))) (ap (λ (x : ℕ). key_bytes x s) (omega (arith, e)))
-keys_member (a_spelling t a) s b n m e l =
-    let size = members_size t a in
-    rw (le-ltb m (length (spell t)) (omega (arith, e, size))) (keys_member a s b n (m - length (spell t)) (omega (arith, e, size)) l)
-
-maps_key : (a : SpelledEntries) (k v : Spelling) (b : SpelledEntries) (n m : ℕ) → m ≡ length (spell_entries a) + n → n < length (spell k) → open_maps_in_entries m (with_entries a (entry k v b)) ≡ open_maps n k
-maps_key no_entries k v b n m e l = rw (lt-ltb m (length (spell k)) (omega (arith, e, l))) (ap (λ (x : ℕ). open_maps x k) (omega (arith, e)))
-maps_key (entry j u a) k v b n m e l =
-    let size = pair_size j u a in
-    rw (le-ltb m (length (spell j)) (omega (arith, e, size)), le-ltb (m - length (spell j)) (length (spell u)) (omega (arith, e, size)))
-    (maps_key a k v b n (m - length (spell j) - length (spell u)) (omega (arith, e, size)) l)
-
-maps_content : (a : SpelledEntries) (k v : Spelling) (b : SpelledEntries) (n m : ℕ) → m ≡ length (spell_entries a) + length (spell k) + n → n < length (spell v) → open_maps_in_entries m (with_entries a (entry k v b)) ≡ open_maps n v
-maps_content no_entries k v b n m e l =
-    rw (le-ltb m (length (spell k)) (omega (arith, e)), lt-ltb (m - length (spell k)) (length (spell v)) (omega (arith, e, l))) (ap (λ (x : ℕ). open_maps x v) (omega (arith, e)))
-maps_content (entry j u a) k v b n m e l =
-    let size = pair_size j u a in
-    rw (le-ltb m (length (spell j)) (omega (arith, e, size)), le-ltb (m - length (spell j)) (length (spell u)) (omega (arith, e, size)))
-    (maps_content a k v b n (m - length (spell j) - length (spell u)) (omega (arith, e, size)) l)
+    rw (le-ltb m (length (spell t)) (omega (arith, e, size))) (members_counted a s b n (m - length (spell t)) (omega (arith, e, size)) l)
 
 -- the length of the last key of these pairs, behind one of so many bytes
 abbrev last_size : ℕ → SpelledEntries → ℕ
@@ -70,20 +53,25 @@ last_all : (es : SpelledEntries) → last_size 0 es ≡ length (last_key es)
 last_all no_entries = refl
 last_all (entry k v es) = last_of k v es
 
-keys_key : (a : SpelledEntries) (k v : Spelling) (b : SpelledEntries) (n m last : ℕ) → m ≡ length (spell_entries a) + n → n < length (spell k) → key_bytes_in_entries m last (with_entries a (entry k v b)) ≡ last_size last a + n
-keys_key no_entries k v b n m last e l = rw (lt-ltb m (length (spell k)) (omega (arith, e, l))) (omega (arith, e))
-keys_key (entry j u a) k v b n m last e l =
+key_counted : (a : SpelledEntries) (k v : Spelling) (b : SpelledEntries) (n m last : ℕ) → m ≡ length (spell_entries a) + n → n < length (spell k)
+    → (open_maps_in_entries m (with_entries a (entry k v b)) ≡ open_maps n k) × (key_bytes_in_entries m last (with_entries a (entry k v b)) ≡ last_size last a + n)
+key_counted no_entries k v b n m last e l =
+    let same : m ≡ n = omega (arith, e) in
+    rw (lt-ltb m (length (spell k)) (omega (arith, e, l))) (ap (λ (x : ℕ). open_maps x k) same, ap (λ (x : ℕ). last + x) same)
+key_counted (entry j u a) k v b n m last e l =
     let size = pair_size j u a in
     rw (le-ltb m (length (spell j)) (omega (arith, e, size)), le-ltb (m - length (spell j)) (length (spell u)) (omega (arith, e, size)))
-    (keys_key a k v b n (m - length (spell j) - length (spell u)) (length (spell j)) (omega (arith, e, size)) l)
+    (key_counted a k v b n (m - length (spell j) - length (spell u)) (length (spell j)) (omega (arith, e, size)) l)
 
-keys_content : (a : SpelledEntries) (k v : Spelling) (b : SpelledEntries) (n m last : ℕ) → m ≡ length (spell_entries a) + length (spell k) + n → n < length (spell v) → key_bytes_in_entries m last (with_entries a (entry k v b)) ≡ length (spell k) + key_bytes n v
-keys_content no_entries k v b n m last e l =
-    rw (le-ltb m (length (spell k)) (omega (arith, e)), lt-ltb (m - length (spell k)) (length (spell v)) (omega (arith, e, l))) (ap (λ (x : ℕ). length (spell k) + key_bytes x v) (omega (arith, e)))
-keys_content (entry j u a) k v b n m last e l =
+content_counted : (a : SpelledEntries) (k v : Spelling) (b : SpelledEntries) (n m last : ℕ) → m ≡ length (spell_entries a) + length (spell k) + n → n < length (spell v)
+    → (open_maps_in_entries m (with_entries a (entry k v b)) ≡ open_maps n v) × (key_bytes_in_entries m last (with_entries a (entry k v b)) ≡ length (spell k) + key_bytes n v)
+content_counted no_entries k v b n m last e l =
+    let same : m - length (spell k) ≡ n = omega (arith, e) in
+    rw (le-ltb m (length (spell k)) (omega (arith, e)), lt-ltb (m - length (spell k)) (length (spell v)) (omega (arith, e, l))) (ap (λ (x : ℕ). open_maps x v) same, ap (λ (x : ℕ). length (spell k) + key_bytes x v) same)
+content_counted (entry j u a) k v b n m last e l =
     let size = pair_size j u a in
     rw (le-ltb m (length (spell j)) (omega (arith, e, size)), le-ltb (m - length (spell j)) (length (spell u)) (omega (arith, e, size)))
-    (keys_content a k v b n (m - length (spell j) - length (spell u)) (length (spell j)) (omega (arith, e, size)) l)
+    (content_counted a k v b n (m - length (spell j) - length (spell u)) (length (spell j)) (omega (arith, e, size)) l)
 
 -- an item stands in its container whole
 pub plug_size : (f : Frame) (s : Spelling) → length (before f) + length (spell s) ≤ length (spell (plug f s))
@@ -95,54 +83,35 @@ none_more n = omega arith
 one_more : (n : ℕ) → suc n ≡ 1 + n
 one_more n = omega arith
 
-pub maps_plug : (f : Frame) (s : Spelling) (n m : ℕ) → m ≡ length (before f) + n → n < length (spell s) → open_maps m (plug f s) ≡ one_map f + open_maps n s
-maps_plug (a_member w a b) s n m e l =
-    let hd = head Array w (spellings_count a + suc (spellings_count b)) in
-    let heads = ap (λ (i : ℕ). length (head Array w i)) (count_with a (a_spelling s b)) in
-    maps_member a s b n (m - length (head Array w (spellings_count (with_all a (a_spelling s b))))) (omega (arith, e, heads, length-append hd (spell_all a))) l ∙ none_more (open_maps n s)
-maps_plug (a_key w a v b) s n m e l =
-    let hd = head Map w (entries_count a + suc (entries_count b)) in
-    let heads = ap (λ (i : ℕ). length (head Map w i)) (entries_with a (entry s v b)) in
-    let whole = plug_size (a_key w a v b) s in
-    let sizes = length-append hd (spell_entries a) in
-    let es = with_entries a (entry s v b) in
-    rw (le-leb (length (head Map w (entries_count es))) m (omega (arith, e, heads, sizes)), lt-ltb m (length (spell (a_map w es))) (omega (arith, e, l, whole)))
-    (ap suc (maps_key a s v b n (m - length (head Map w (entries_count es))) (omega (arith, e, heads, sizes)) l) ∙ one_more (open_maps n s))
-maps_plug (a_content w a k b) s n m e l =
-    let hd = head Map w (entries_count a + suc (entries_count b)) in
-    let heads = ap (λ (i : ℕ). length (head Map w i)) (entries_with a (entry k s b)) in
-    let whole = plug_size (a_content w a k b) s in
-    let sizes = length-append (hd ++ spell_entries a) (spell k) in
-    let sizes2 = length-append hd (spell_entries a) in
-    let es = with_entries a (entry k s b) in
-    rw (le-leb (length (head Map w (entries_count es))) m (omega (arith, e, heads, sizes, sizes2)), lt-ltb m (length (spell (a_map w es))) (omega (arith, e, l, whole)))
-    (ap suc (maps_content a k s b n (m - length (head Map w (entries_count es))) (omega (arith, e, heads, sizes, sizes2)) l) ∙ one_more (open_maps n s))
-maps_plug (tagged w k) s n m e l = ap (λ (x : ℕ). open_maps x s) (omega (arith, e)) ∙ none_more (open_maps n s)
-
 -- what is kept of the container, where so much is of the item
 abbrev pub around : Frame → ℕ → ℕ → ℕ
 around f n keys = length (complete_key f) + (if is_key f then n else keys)
 
-pub keys_plug : (f : Frame) (s : Spelling) (n m : ℕ) → m ≡ length (before f) + n → n < length (spell s) → key_bytes m (plug f s) ≡ around f n (key_bytes n s)
-keys_plug (a_member w a b) s n m e l =
+pub plug_counted : (f : Frame) (s : Spelling) (n m : ℕ) → m ≡ length (before f) + n → n < length (spell s) → (open_maps m (plug f s) ≡ one_map f + open_maps n s) × (key_bytes m (plug f s) ≡ around f n (key_bytes n s))
+plug_counted (a_member w a b) s n m e l =
     let hd = head Array w (spellings_count a + suc (spellings_count b)) in
     let heads = ap (λ (i : ℕ). length (head Array w i)) (count_with a (a_spelling s b)) in
-    keys_member a s b n (m - length (head Array w (spellings_count (with_all a (a_spelling s b))))) (omega (arith, e, heads, length-append hd (spell_all a))) l ∙ none_more (key_bytes n s)
-keys_plug (a_key w a v b) s n m e l =
+    let both = members_counted a s b n (m - length (head Array w (spellings_count (with_all a (a_spelling s b))))) (omega (arith, e, heads, length-append hd (spell_all a))) l in
+    (both.0 ∙ none_more (open_maps n s), both.1 ∙ none_more (key_bytes n s))
+plug_counted (a_key w a v b) s n m e l =
     let hd = head Map w (entries_count a + suc (entries_count b)) in
     let heads = ap (λ (i : ℕ). length (head Map w i)) (entries_with a (entry s v b)) in
     let whole = plug_size (a_key w a v b) s in
     let sizes = length-append hd (spell_entries a) in
     let es = with_entries a (entry s v b) in
-    rw (lt-ltb m (length (spell (a_map w es))) (omega (arith, e, l, whole)))
-    (keys_key a s v b n (m - length (head Map w (entries_count es))) 0 (omega (arith, e, heads, sizes)) l ∙ ap (λ (x : ℕ). x + n) (last_all a))
-keys_plug (a_content w a k b) s n m e l =
+    let both = key_counted a s v b n (m - length (head Map w (entries_count es))) 0 (omega (arith, e, heads, sizes)) l in
+    rw (le-leb (length (head Map w (entries_count es))) m (omega (arith, e, heads, sizes)), lt-ltb m (length (spell (a_map w es))) (omega (arith, e, l, whole)))
+    (ap suc both.0 ∙ one_more (open_maps n s), both.1 ∙ ap (λ (x : ℕ). x + n) (last_all a))
+plug_counted (a_content w a k b) s n m e l =
     let hd = head Map w (entries_count a + suc (entries_count b)) in
     let heads = ap (λ (i : ℕ). length (head Map w i)) (entries_with a (entry k s b)) in
     let whole = plug_size (a_content w a k b) s in
     let sizes = length-append (hd ++ spell_entries a) (spell k) in
     let sizes2 = length-append hd (spell_entries a) in
     let es = with_entries a (entry k s b) in
-    rw (lt-ltb m (length (spell (a_map w es))) (omega (arith, e, l, whole)))
-    (keys_content a k s b n (m - length (head Map w (entries_count es))) 0 (omega (arith, e, heads, sizes, sizes2)) l)
-keys_plug (tagged w k) s n m e l = ap (λ (x : ℕ). key_bytes x s) (omega (arith, e)) ∙ none_more (key_bytes n s)
+    let both = content_counted a k s b n (m - length (head Map w (entries_count es))) 0 (omega (arith, e, heads, sizes, sizes2)) l in
+    rw (le-leb (length (head Map w (entries_count es))) m (omega (arith, e, heads, sizes, sizes2)), lt-ltb m (length (spell (a_map w es))) (omega (arith, e, l, whole)))
+    (ap suc both.0 ∙ one_more (open_maps n s), both.1)
+plug_counted (tagged w k) s n m e l =
+    let same : m - length (head Tag w k) ≡ n = omega (arith, e) in
+    (ap (λ (x : ℕ). open_maps x s) same ∙ none_more (open_maps n s), ap (λ (x : ℕ). key_bytes x s) same ∙ none_more (key_bytes n s))

@@ -8,16 +8,10 @@ use Rattle.cbor_head.proofs.HeadLaws.{told}
 use Rattle.cbor_grammar.proofs.Parts.{major, width, count, head_of, body, parts, holds_of, one_head, as_array, as_map, as_tag}
 use Rattle.cbor_grammar.proofs.ReadLaws.{unique, holds_or_open}
 use Rattle.cbor_judging.specs.Frame.{Frame, a_member, a_key, a_content, tagged, with_all, with_entries, plug, before, behind, IsFrame}
+use Rattle.cbor_strict.specs.inner.LastKeys.{HasLength}
 use Rattle.cbor_strict.proofs.FrameCounts.{around, one_map}
 
 -- ---- an item that starts as a container does
-
--- a container that has a length
-abbrev pub HasLength : Frame → Type 0
-HasLength (a_member w a b) = w ≢ Indefinite
-HasLength (a_key w a v b) = w ≢ Indefinite
-HasLength (a_content w a k b) = w ≢ Indefinite
-HasLength (tagged w n) = Unit {0}
 
 told_is : (w : Width) (n i : ℕ) → w ≢ Indefinite → told w n ≡ told w i → n ≡ i
 told_is Indefinite n i f e = absurd (f refl)

@@ -6,8 +6,9 @@ use Rattle.cbor_automaton.proofs.Opens.{over-none}
 use Rattle.cbor_strict.specs.KeptKeys.{open_maps, open_maps_in, key_bytes, key_bytes_in}
 use Rattle.cbor_judging.specs.Frame.{Frame, before, behind, IsFrame}
 use Rattle.cbor_judging.specs.OpenMaps.{before_all}
-use Rattle.cbor_strict.proofs.FrameCounts.{around, keys_plug, keys_size, map_count, maps_plug, members_size, one_map, plug_size}
-use Rattle.cbor_strict.proofs.FrameStarts.{HasLength, starts_in}
+use Rattle.cbor_strict.specs.inner.LastKeys.{HasLength}
+use Rattle.cbor_strict.proofs.FrameCounts.{around, keys_size, map_count, members_size, one_map, plug_counted, plug_size}
+use Rattle.cbor_strict.proofs.FrameStarts.{starts_in}
 
 -- ---- a path of containers
 
@@ -33,40 +34,26 @@ path_counts (f ∷ fs) p h base s x u i e =
     let inner = c.within in
     let whole = plug_size k.frame k.item in
     let m = length ((before f ++ before_all fs) ++ p) in
+    let both = plug_counted k.frame k.item n m sizes inner in
     subst (λ (t : Spelling). Counts t m (one_map f + map_count fs) (keys_size (f ∷ fs) (length p))) (sym k.is) (record {
       within = omega (arith, sizes, inner, whole);
-      maps_are = maps_plug k.frame k.item n m sizes inner ∙ ap (λ (y : ℕ). one_map k.frame + y) c.maps_are ∙ ap (λ (y : ℕ). y + map_count fs) k.maps;
-      keys_are = keys_plug k.frame k.item n m sizes inner ∙ k.keys n (key_bytes n k.item) ∙ ap (around f n) c.keys_are ∙ ap (λ (y : ℕ). around f y (keys_size fs (length p))) (length-append (before_all fs) p);
+      maps_are = both.0 ∙ ap (λ (y : ℕ). one_map k.frame + y) c.maps_are ∙ ap (λ (y : ℕ). y + map_count fs) k.maps;
+      keys_are = both.1 ∙ k.keys n (key_bytes n k.item) ∙ ap (around f n) c.keys_are ∙ ap (λ (y : ℕ). around f y (keys_size fs (length p))) (length-append (before_all fs) p);
     })
 
 -- ---- behind an item
 
 mutual
-  pub maps_past : (s : Spelling) (n : ℕ) → length (spell s) ≤ n → open_maps n s ≡ 0
-  maps_past (array w ss) n l =
+  pub past : (s : Spelling) (n : ℕ) → length (spell s) ≤ n → (open_maps n s ≡ 0) × (key_bytes n s ≡ 0)
+  past (array w ss) n l =
       let hd = head Array w (spellings_count ss) in
-      maps_past_in ss (n - length hd) (omega (arith, l, length-append (hd ++ spell_all ss) (break_of w), length-append hd (spell_all ss)))
-  maps_past (a_map w es) n l = over-none n (length (head Map w (entries_count es))) (length (spell (a_map w es))) _ l
-  maps_past (tag w k s) n l = maps_past s (n - length (head Tag w k)) (omega (arith, l, length-append (head Tag w k) (spell s)))
-  maps_past _ n l = refl
+      past_in ss (n - length hd) (omega (arith, l, length-append (hd ++ spell_all ss) (break_of w), length-append hd (spell_all ss)))
+  past (a_map w es) n l = (over-none n (length (head Map w (entries_count es))) (length (spell (a_map w es))) _ l, rw (le-ltb n (length (spell (a_map w es))) l) refl)
+  past (tag w k s) n l = past s (n - length (head Tag w k)) (omega (arith, l, length-append (head Tag w k) (spell s)))
+  past _ n l = (refl, refl)
 
-  maps_past_in : (ss : Spellings) (n : ℕ) → length (spell_all ss) ≤ n → open_maps_in n ss ≡ 0
-  maps_past_in no_spellings n l = refl
-  maps_past_in (a_spelling s ss) n l =
+  past_in : (ss : Spellings) (n : ℕ) → length (spell_all ss) ≤ n → (open_maps_in n ss ≡ 0) × (key_bytes_in n ss ≡ 0)
+  past_in no_spellings n l = (refl, refl)
+  past_in (a_spelling s ss) n l =
       let size = members_size s ss in
-      rw (le-ltb n (length (spell s)) (omega (arith, l, size))) (maps_past_in ss (n - length (spell s)) (omega (arith, l, size)))
-
-mutual
-  pub keys_past : (s : Spelling) (n : ℕ) → length (spell s) ≤ n → key_bytes n s ≡ 0
-  keys_past (array w ss) n l =
-      let hd = head Array w (spellings_count ss) in
-      keys_past_in ss (n - length hd) (omega (arith, l, length-append (hd ++ spell_all ss) (break_of w), length-append hd (spell_all ss)))
-  keys_past (a_map w es) n l = rw (le-ltb n (length (spell (a_map w es))) l) refl
-  keys_past (tag w k s) n l = keys_past s (n - length (head Tag w k)) (omega (arith, l, length-append (head Tag w k) (spell s)))
-  keys_past _ n l = refl
-
-  keys_past_in : (ss : Spellings) (n : ℕ) → length (spell_all ss) ≤ n → key_bytes_in n ss ≡ 0
-  keys_past_in no_spellings n l = refl
-  keys_past_in (a_spelling s ss) n l =
-      let size = members_size s ss in
-      rw (le-ltb n (length (spell s)) (omega (arith, l, size))) (keys_past_in ss (n - length (spell s)) (omega (arith, l, size)))
+      rw (le-ltb n (length (spell s)) (omega (arith, l, size))) (past_in ss (n - length (spell s)) (omega (arith, l, size)))

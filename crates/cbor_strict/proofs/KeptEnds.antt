@@ -1,19 +1,18 @@
 -- What is kept of the keys where a container ends, and those around it.
 use Rattle.std.proofs.Common.{◌≡◌, ◌≢◌, ℕ, suc, ◌+◌, ◌<◌, ◌≤◌, Bool, true, false, List, [], ◌∷◌, ◌++◌, length, take, refl, sym, ap, ◌∙◌, subst, inl, inr, arith, append-nil, if◌then◌else◌, length-append}
 use Rattle.std.proofs.lemmas.Bool.{cases_Bool}
+use Rattle.std.proofs.lemmas.List.{same_from_push}
 use Rattle.std.proofs.Math.Seq.{take-append_seam}
-use Rattle.cbor_head.specs.Prelude.{head, Spelling, SpelledEntries, no_spellings, no_entries, entry, spell, spell_entries, entries_count}
+use Rattle.cbor_head.specs.Prelude.{head, Spelling, no_spellings, no_entries, spell, spell_entries, entries_count}
 use Rattle.cbor_head.specs.declared.major.Major.TheVariants.{Map}
-use Rattle.cbor_head.specs.declared.width.Width.{Width}
-use Rattle.cbor_head.specs.declared.width.Width.TheVariants.{Indefinite}
 use Rattle.cbor_strict.specs.declared.last_keys.Due.{Due}
 use Rattle.cbor_strict.specs.declared.last_keys.Due.TheVariants.{Member}
 use Rattle.cbor_strict.specs.declared.last_keys.Span.{Span}
 use Rattle.cbor_judging.specs.Frame.{Frame, a_member, a_key, a_content, tagged, plug, before, behind}
-use Rattle.cbor_strict.specs.inner.LastKeys.{AreDefinite, still_open, ended_item, KeysView, is_key, stands_in_key, keys_around, due_of, levels_of, complete_key, kept_bytes, kept_before, span, spans_in, spans_of, IsKept, IsFull}
+use Rattle.cbor_strict.specs.inner.LastKeys.{AreDefinite, still_open, ended_item, KeysView, is_key, stands_in_key, keys_around, due_of, levels_of, complete_key, kept_bytes, kept_before, spans_in, spans_of, IsKept, IsFull}
 use Rattle.cbor_judging.proofs.Members.{closes}
 use Rattle.cbor_judging.proofs.Frames.{spell_plug}
-use Rattle.cbor_strict.proofs.KeptKeys.{in_some_key, in_no_key, few_keys, kept_if_in, kept_if_out, kept_out}
+use Rattle.cbor_strict.proofs.KeptKeys.{in_some_key, in_no_key, few_keys, kept_if_in, kept_if_out, kept_out, no_map}
 
 -- ---- one closes
 
@@ -41,110 +40,67 @@ closed_in f fs s h i = kept_if_in f fs (spell s) i ∙ ap (kept_bytes fs) (sym (
 closed_out : (f : Frame) (fs : List Frame) (s : Spelling) → IsFull f → stands_in_key fs ≡ false → kept_bytes (f ∷ fs) (spell s) ≡ kept_bytes fs [] ++ (complete_key f ++ [])
 closed_out f fs s h i = kept_if_out f fs (spell s) i ∙ ap (λ (b : Bool). kept_bytes fs [] ++ (complete_key f ++ (if b then spell s else []))) (full_no_key f h)
 
-module _ {A : Type 0} where
-  no_tail : (ys : List A) (y : A) → ys ++ y ∷ [] ≡ [] → ⊥
-  no_tail [] y e = cc e
-  no_tail (c ∷ ys) y e = cc e
-
-  -- two lists by their last elements
-  pub last_of : (xs ys : List A) (x y : A) → xs ++ x ∷ [] ≡ ys ++ y ∷ [] → (xs ≡ ys) × (x ≡ y)
-  last_of [] [] x y e = (refl, cc e)
-  last_of [] (b ∷ ys) x y e = absurd (no_tail ys y (cc e))
-  last_of (a ∷ xs) [] x y e = absurd (no_tail xs x (cc e))
-  last_of (a ∷ xs) (b ∷ ys) x y e =
-      let more = last_of xs ys x y (cc e) in
-      let first : a ≡ b = cc e in
-      (ap (λ (z : A). z ∷ xs) first ∙ ap (λ (zs : List A). b ∷ zs) more.0, more.1)
-
 -- ---- the innermost container
-
-pub span_is : (a b c x y z : ℕ) → a ≡ x → b ≡ y → c ≡ z → span a b c ≡ span x y z
-span_is a b c x y z e f g = ap (λ (n : ℕ). span n b c) e ∙ ap (λ (n : ℕ). span x n c) f ∙ ap (λ (n : ℕ). span x y n) g
 
 -- what is put at the end of the lists for it
 module _ (k : KeysView) (f : Frame) (fs : List Frame) (p : List ℕ) (h : IsKept k (f ∷ fs) p) where
   pub top_level : (ls : List Due) (l : Due) → k.levels ≡ ls ++ l ∷ [] → (ls ≡ levels_of fs) × (l ≡ due_of f)
-  top_level ls l e = last_of ls (levels_of fs) l (due_of f) (sym e ∙ h.levels)
+  top_level ls l e = same_from_push ls (levels_of fs) l (due_of f) (sym e ∙ h.levels)
 
   pub top_span : (ss : List Span) (s t : Span) → k.spans ≡ ss ++ s ∷ [] → spans_in f fs ≡ t ∷ [] → (ss ≡ spans_of fs) × (s ≡ t)
-  top_span ss s t e g = last_of ss (spans_of fs) s t (sym e ∙ h.spans ∙ ap (λ (x : List Span). spans_of fs ++ x) g)
+  top_span ss s t e g = same_from_push ss (spans_of fs) s t (sym e ∙ h.spans ∙ ap (λ (x : List Span). spans_of fs ++ x) g)
 
 -- it closes
 pub closes_other : (k : KeysView) (f : Frame) (fs : List Frame) (s : Spelling) (ls : List Due) (l : Due) → IsFull f → IsKept k (f ∷ fs) (spell s) → k.levels ≡ ls ++ l ∷ [] → l ≡ Member
     → IsKept (record k { levels = ls }) fs (spell (plug f s))
-closes_other k f fs s ls l full h e d = go f full h (sym (top_level k f fs (spell s) h ls l e).1 ∙ d)
-  where
-    same : (f : Frame) → IsFull f → complete_key f ≡ [] → kept_bytes (f ∷ fs) (spell s) ≡ kept_bytes fs (spell (plug f s))
-    same f full none = elim (cases_Bool (stands_in_key fs)) [
-      | inl i ↦ closed_in f fs s full i
-      | inr i ↦ closed_out f fs s full i ∙ ap (λ (x : List ℕ). kept_bytes fs [] ++ (x ++ [])) none ∙ append-nil (kept_bytes fs []) ∙ kept_out fs [] (spell (plug f s)) i
-    ]
-
-    made : (f : Frame) → IsFull f → complete_key f ≡ [] → spans_in f fs ≡ [] → IsKept k (f ∷ fs) (spell s) → IsKept (record k { levels = ls }) fs (spell (plug f s))
-    made f full none no_spans h = record {
-      levels = (top_level k f fs (spell s) h ls l e).0;
-      spans = h.spans ∙ ap (λ (x : List Span). spans_of fs ++ x) no_spans ∙ append-nil (spans_of fs);
-      bytes = h.bytes ∙ same f full none;
+closes_other k f fs s ls l full h e d =
+    let top = top_level k f fs (spell s) h ls l e in
+    let none = no_map f fs (sym top.1 ∙ d) in
+    record {
+      levels = top.0;
+      spans = h.spans ∙ ap (λ (x : List Span). spans_of fs ++ x) none.2 ∙ append-nil (spans_of fs);
+      bytes = h.bytes ∙ elim (cases_Bool (stands_in_key fs)) [
+        | inl i ↦ closed_in f fs s full i
+        | inr i ↦ closed_out f fs s full i ∙ ap (λ (x : List ℕ). kept_bytes fs [] ++ (x ++ [])) none.0 ∙ append-nil (kept_bytes fs []) ∙ kept_out fs [] (spell (plug f s)) i
+      ];
       open_keys = h.open_keys ∙ full_around f fs full;
     }
 
-    go : (f : Frame) → IsFull f → IsKept k (f ∷ fs) (spell s) → due_of f ≡ Member → IsKept (record k { levels = ls }) fs (spell (plug f s))
-    go (a_member w a b) full h d = made (a_member w a b) full refl refl h
-    go (tagged w n) full h d = made (tagged w n) full refl refl h
-    go (a_content w a m b) full h d = absurd (cc d)
-    go (a_key w a v b) full h d = absurd full
-
--- a map
-module _ (k : KeysView) (w : Width) (a : SpelledEntries) (key : Spelling) (fs : List Frame) (s : Spelling) (ls : List Due) (l : Due) (ss : List Span) (sp : Span) (full : w ≢ Indefinite)
-    (h : IsKept k (a_content w a key no_entries ∷ fs) (spell s)) (e : k.levels ≡ ls ++ l ∷ []) (g : k.spans ≡ ss ++ sp ∷ []) where
-  abbrev map_frame : Frame
-  map_frame = a_content w a key no_entries
-
-  map_in : 0 < k.open_keys → IsKept (record k { levels = ls; spans = ss }) fs (spell (plug map_frame s))
-  map_in inside = record {
-    levels = (top_level k map_frame fs (spell s) h ls l e).0;
-    spans = (top_span k map_frame fs (spell s) h ss sp _ g refl).0;
-    bytes = h.bytes ∙ closed_in map_frame fs s full (in_some_key fs (omega (arith, h.open_keys, inside)));
-    open_keys = h.open_keys;
-  }
-
-  map_out : k.open_keys ≡ 0 → IsKept (record k { levels = ls; spans = ss; bytes = take sp.from k.bytes }) fs (spell (plug map_frame s))
-  map_out outside =
-      let i : stands_in_key fs ≡ false = in_no_key fs (sym h.open_keys ∙ outside) in
-      let u = top_span k map_frame fs (spell s) h ss sp _ g refl in
-      let from : sp.from ≡ kept_before fs =
-      ap (λ (x : Span). x.from) u.1 ∙ ap (λ (b : Bool). kept_before fs + (if b then length (head Map w (entries_count a + 1) ++ spell_entries a) else 0)) i ∙ omega arith in
-      record {
-        levels = (top_level k map_frame fs (spell s) h ls l e).0;
-        spans = u.0;
-        bytes = ap (λ (n : ℕ). take n k.bytes) from ∙ ap (take (kept_before fs)) (h.bytes ∙ closed_out map_frame fs s full i) ∙ take-append_seam (kept_bytes fs []) (spell key ++ []) ∙ kept_out fs [] (spell (plug map_frame s)) i;
-        open_keys = h.open_keys;
-      }
+-- a map, and where its last key is kept
+full_map : (f : Frame) (fs : List Frame) → IsFull f → due_of f ≢ Member → (sp : Span) × (spans_in f fs ≡ sp ∷ []) × (stands_in_key fs ≡ false → sp.from ≡ kept_before fs)
+full_map (a_content w a k no_entries) fs full d =
+    (_, refl, λ i. ap (λ (b : Bool). kept_before fs + (if b then length (head Map w (entries_count a + 1) ++ spell_entries a) else 0)) i ∙ omega arith)
+full_map (a_member w a b) fs full d = absurd (d refl)
+full_map (tagged w n) fs full d = absurd (d refl)
+full_map _ fs full d = absurd full
 
 module _ (k : KeysView) (f : Frame) (fs : List Frame) (s : Spelling) (ls : List Due) (l : Due) (ss : List Span) (sp : Span) (full : IsFull f) (h : IsKept k (f ∷ fs) (spell s)) (e : k.levels ≡ ls ++ l ∷ [])
     (g : k.spans ≡ ss ++ sp ∷ []) (d : l ≢ Member) where
-  due_so : due_of f ≢ Member
-  due_so x = d ((top_level k f fs (spell s) h ls l e).1 ∙ x)
+  top : (ls ≡ levels_of fs) × (l ≡ due_of f)
+  top = top_level k f fs (spell s) h ls l e
+
+  place : (t : Span) × (spans_in f fs ≡ t ∷ []) × (stands_in_key fs ≡ false → t.from ≡ kept_before fs)
+  place = full_map f fs full (λ x. d (top.1 ∙ x))
+
+  last : (ss ≡ spans_of fs) × (sp ≡ place.0)
+  last = top_span k f fs (spell s) h ss sp place.0 g place.1
+
+  around : k.open_keys ≡ keys_around fs
+  around = h.open_keys ∙ full_around f fs full
 
   pub closes_map_in : 0 < k.open_keys → IsKept (record k { levels = ls; spans = ss }) fs (spell (plug f s))
-  closes_map_in inside = go f full h due_so
-    where
-      go : (f : Frame) → IsFull f → IsKept k (f ∷ fs) (spell s) → due_of f ≢ Member → IsKept (record k { levels = ls; spans = ss }) fs (spell (plug f s))
-      go (a_content w a key no_entries) full h d = map_in k w a key fs s ls l ss sp full h e g inside
-      go (a_content w a key (entry n m b)) full h d = absurd full
-      go (a_member w a b) full h d = absurd (d refl)
-      go (tagged w n) full h d = absurd (d refl)
-      go (a_key w a v b) full h d = absurd full
+  closes_map_in inside = record { levels = top.0; spans = last.0; bytes = h.bytes ∙ closed_in f fs s full (in_some_key fs (omega (arith, around, inside))); open_keys = around }
 
   pub closes_map_out : k.open_keys ≡ 0 → IsKept (record k { levels = ls; spans = ss; bytes = take sp.from k.bytes }) fs (spell (plug f s))
-  closes_map_out outside = go f full h due_so
-    where
-      go : (f : Frame) → IsFull f → IsKept k (f ∷ fs) (spell s) → due_of f ≢ Member → IsKept (record k { levels = ls; spans = ss; bytes = take sp.from k.bytes }) fs (spell (plug f s))
-      go (a_content w a key no_entries) full h d = map_out k w a key fs s ls l ss sp full h e g outside
-      go (a_content w a key (entry n m b)) full h d = absurd full
-      go (a_member w a b) full h d = absurd (d refl)
-      go (tagged w n) full h d = absurd (d refl)
-      go (a_key w a v b) full h d = absurd full
+  closes_map_out outside =
+      let i : stands_in_key fs ≡ false = in_no_key fs (sym around ∙ outside) in
+      let from : sp.from ≡ kept_before fs = ap (λ (x : Span). x.from) last.1 ∙ place.2 i in
+      record {
+        levels = top.0;
+        spans = last.0;
+        bytes = ap (λ (n : ℕ). take n k.bytes) from ∙ ap (take (kept_before fs)) (h.bytes ∙ closed_out f fs s full i) ∙ take-append_seam (kept_bytes fs []) (complete_key f ++ []) ∙ kept_out fs [] (spell (plug f s)) i;
+        open_keys = around;
+      }
 
 -- ---- what closes behind an item
 
@@ -197,7 +153,7 @@ one_shut k new fs s left n h e g l step = go h.gs h.kept h.definite h.same h.sam
         record { gs = gs; item = plug (a_member w a no_spellings) h.item; kept = step (a_member w a no_spellings) gs h.item d.0 kept; definite = d.1; same = same; same_item = it }
     go (a_content w a k2 no_entries ∷ gs) kept d same it l =
         record { gs = gs; item = plug (a_content w a k2 no_entries) h.item; kept = step (a_content w a k2 no_entries) gs h.item d.0 kept; definite = d.1; same = same; same_item = it }
-    go (tagged w n ∷ gs) kept d same it l = record { gs = gs; item = plug (tagged w n) h.item; kept = step (tagged w n) gs h.item tt kept; definite = d; same = same; same_item = it }
+    go (tagged w n ∷ gs) kept d same it l = record { gs = gs; item = plug (tagged w n) h.item; kept = step (tagged w n) gs h.item tt kept; definite = d.1; same = same; same_item = it }
     go _ kept d same it l = absurd (omega (arith, l))
 
 spans_length : (fs : List Frame) → length (spans_of fs) ≤ length fs

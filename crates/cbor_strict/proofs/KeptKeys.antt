@@ -8,7 +8,7 @@ use Rattle.cbor_strict.specs.declared.last_keys.Due.{Due}
 use Rattle.cbor_strict.specs.declared.last_keys.Due.TheVariants.{Member, Key}
 use Rattle.cbor_strict.specs.declared.last_keys.Span.{Span}
 use Rattle.cbor_judging.specs.Frame.{Frame, a_member, a_key, tagged, before}
-use Rattle.cbor_strict.specs.inner.LastKeys.{KeysView, is_key, stands_in_key, keys_around, due_of, levels_of, complete_key, kept_bytes, kept_before, span, spans_of, IsKept}
+use Rattle.cbor_strict.specs.inner.LastKeys.{KeysView, is_key, stands_in_key, keys_around, due_of, levels_of, complete_key, kept_bytes, kept_before, span, spans_in, spans_of, IsKept}
 
 -- ---- in a key, or not
 
@@ -93,24 +93,31 @@ module _ {T E : Type 0} where
 
 -- ---- a container opens
 
--- one that is no map
+-- one that is no map, and keeps none
+pub no_map : (f : Frame) (fs : List Frame) → due_of f ≡ Member → (complete_key f ≡ []) × (is_key f ≡ false) × (spans_in f fs ≡ [])
+no_map (a_member w a b) fs d = (refl, refl, refl)
+no_map (tagged w n) fs d = (refl, refl, refl)
+no_map _ fs d = absurd (cc d)
+
+opened_bytes : (f : Frame) (fs : List Frame) (p : List ℕ) → complete_key f ++ (if is_key f then [] else []) ≡ [] → before f ≡ p → kept_bytes fs p ≡ kept_bytes (f ∷ fs) []
+opened_bytes f fs p none e = elim (cases_Bool (stands_in_key fs)) [
+  | inl i ↦ ap (kept_bytes fs) (sym e ∙ sym (append-nil (before f))) ∙ sym (kept_if_in f fs [] i)
+  | inr i ↦ kept_out fs p [] i ∙ sym (append-nil (kept_bytes fs [])) ∙ ap (λ (x : List ℕ). kept_bytes fs [] ++ x) (sym none) ∙ sym (kept_if_out f fs [] i)
+]
+
 pub opens_other : (k : KeysView) (f : Frame) (fs : List Frame) (p : List ℕ) → due_of f ≡ Member → IsKept k fs p → before f ≡ p
     → IsKept (record k { levels = k.levels ++ Member ∷ [] }) (f ∷ fs) []
-opens_other k f fs p d h e = go f d e
-  where
-    level : (f : Frame) → due_of f ≡ Member → k.levels ++ Member ∷ [] ≡ levels_of fs ++ due_of f ∷ []
-    level f d = ap (λ (ls : List Due). ls ++ Member ∷ []) h.levels ∙ ap (λ (x : Due). levels_of fs ++ x ∷ []) (sym d)
+opens_other k f fs p d h e =
+    let none = no_map f fs d in
+    record {
+      levels = ap (λ (ls : List Due). ls ++ Member ∷ []) h.levels ∙ ap (λ (x : Due). levels_of fs ++ x ∷ []) (sym d);
+      spans = h.spans ∙ sym (append-nil (spans_of fs)) ∙ ap (λ (x : List Span). spans_of fs ++ x) (sym none.2);
+      bytes = h.bytes ∙ opened_bytes f fs p (rw (none.0, none.1) refl) e;
+      open_keys = h.open_keys ∙ ap (λ (b : Bool). if b then suc (keys_around fs) else keys_around fs) (sym none.1);
+    }
 
-    same : (f : Frame) → complete_key f ++ (if is_key f then [] else []) ≡ [] → before f ≡ p → kept_bytes fs p ≡ kept_bytes (f ∷ fs) []
-    same f none e = elim (cases_Bool (stands_in_key fs)) [
-      | inl i ↦ ap (kept_bytes fs) (sym e ∙ sym (append-nil (before f))) ∙ sym (kept_if_in f fs [] i)
-      | inr i ↦ kept_out fs p [] i ∙ sym (append-nil (kept_bytes fs [])) ∙ ap (λ (x : List ℕ). kept_bytes fs [] ++ x) (sym none) ∙ sym (kept_if_out f fs [] i)
-    ]
-
-    go : (f : Frame) → due_of f ≡ Member → before f ≡ p → IsKept (record k { levels = k.levels ++ Member ∷ [] }) (f ∷ fs) []
-    go (a_member w a b) d e = record { levels = level (a_member w a b) d; spans = h.spans ∙ sym (append-nil (spans_of fs)); bytes = h.bytes ∙ same (a_member w a b) refl e; open_keys = h.open_keys }
-    go (tagged w n) d e = record { levels = level (tagged w n) d; spans = h.spans ∙ sym (append-nil (spans_of fs)); bytes = h.bytes ∙ same (tagged w n) refl e; open_keys = h.open_keys }
-    go _ d e = absurd (cc d)
+pub span_is : (a b c x y z : ℕ) → a ≡ x → b ≡ y → c ≡ z → span a b c ≡ span x y z
+span_is a b c x y z e f g = ap (λ (n : ℕ). span n b c) e ∙ ap (λ (n : ℕ). span x n c) f ∙ ap (λ (n : ℕ). span x y n) g
 
 -- a map
 pub opens_map : (k : KeysView) (w : Width) (v : Spelling) (b : SpelledEntries) (fs : List Frame) (p : List ℕ) (here : ℕ) → IsKept k fs p → before (a_key w no_entries v b) ≡ p → here ≡ length k.bytes
@@ -118,13 +125,10 @@ pub opens_map : (k : KeysView) (w : Width) (v : Spelling) (b : SpelledEntries) (
 opens_map k w v b fs p here h e g = record {
   levels = ap (λ (ls : List Due). ls ++ Key ∷ []) h.levels;
   spans = ap (λ (ss : List Span). ss ++ span here here here ∷ []) h.spans ∙ ap (λ (s : Span). spans_of fs ++ s ∷ []) place;
-  bytes = h.bytes ∙ same;
+  bytes = h.bytes ∙ opened_bytes (a_key w no_entries v b) fs p refl e;
   open_keys = omega (arith, h.open_keys);
 }
   where
-    f : Frame
-    f = a_key w no_entries v b
-
     hd : List ℕ
     hd = head Map w (0 + suc (entries_count b))
 
@@ -138,19 +142,8 @@ opens_map k w v b fs p here h e g = record {
     place = elim (cases_Bool (stands_in_key fs)) [
       | inl i ↦
           let there : here ≡ kept_before fs + (length hd + 0) = omega (arith, at, kept_size fs p i, size) in
-          let there2 : here ≡ kept_before fs + (length hd + 0) + 0 = omega (arith, there) in
-          let there3 : here ≡ kept_before fs + length (hd ++ []) = omega (arith, there, length-append hd []) in
-          ap (λ (x : ℕ). span x here here) there ∙ ap (λ (x : ℕ). span (kept_before fs + (length hd + 0)) x here) there2 ∙ ap (λ (x : ℕ). span (kept_before fs + (length hd + 0)) (kept_before fs + (length hd + 0) + 0) x) there3
-          ∙ ap (λ (b : Bool). span (kept_before fs + (if b then length hd + 0 else 0)) (kept_before fs + (if b then length hd + 0 else 0) + 0) (kept_before fs + (if b then length (hd ++ []) else 0))) (sym i)
+          rw i (span_is here here here _ _ _ there (omega (arith, there)) (omega (arith, there, length-append hd [])))
       | inr i ↦
           let there : here ≡ kept_before fs + 0 = omega (arith, at, ap length (kept_out fs p [] i)) in
-          let there2 : here ≡ kept_before fs + 0 + 0 = omega (arith, there) in
-          ap (λ (x : ℕ). span x here x) there ∙ ap (λ (x : ℕ). span (kept_before fs + 0) x (kept_before fs + 0)) there2
-          ∙ ap (λ (b : Bool). span (kept_before fs + (if b then length hd + 0 else 0)) (kept_before fs + (if b then length hd + 0 else 0) + 0) (kept_before fs + (if b then length (hd ++ []) else 0))) (sym i)
-    ]
-
-    same : kept_bytes fs p ≡ kept_bytes (f ∷ fs) []
-    same = elim (cases_Bool (stands_in_key fs)) [
-      | inl i ↦ ap (kept_bytes fs) (sym e ∙ sym (append-nil (before f))) ∙ sym (kept_if_in f fs [] i)
-      | inr i ↦ kept_out fs p [] i ∙ sym (append-nil (kept_bytes fs [])) ∙ sym (kept_if_out f fs [] i)
+          rw i (span_is here here here _ _ _ there (omega (arith, there)) there)
     ]

@@ -13,8 +13,7 @@ use Rattle.cbor_strict.specs.inner.LastKeys.{KeysView, stands_in_key, keys_aroun
 use Rattle.cbor_judging.specs.LastKey.{last_key}
 use Rattle.cbor_judging.proofs.OpenSteps.{content_before, pair_count}
 use Rattle.cbor_judging.proofs.LastKey.{last_key_with}
-use Rattle.cbor_strict.proofs.KeptKeys.{in_some_key, in_no_key, kept_if_in, kept_if_out, kept_in_key, kept_size}
-use Rattle.cbor_strict.proofs.KeptEnds.{span_is}
+use Rattle.cbor_strict.proofs.KeptKeys.{in_some_key, in_no_key, kept_if_in, kept_if_out, kept_in_key, kept_size, span_is}
 
 -- ---- keys
 

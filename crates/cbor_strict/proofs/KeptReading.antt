@@ -1,15 +1,12 @@
 -- What the strict reader keeps, by the items that start with the bytes it read.
-use Rattle.std.proofs.Common.{◌≡◌, ◌≢◌, ℕ, zero, suc, ◌+◌, ◌-◌, ◌<◌, ◌≤◌, Bool, true, false, true≢false, List, [], ◌∷◌, ◌++◌, length, refl, sym, ap, ◌∙◌, subst, inl, inr, arith, append_assoc, append-nil, nat_lt, if◌then◌else◌, length-append, lt-ltb}
+use Rattle.std.proofs.Common.{◌≡◌, ℕ, zero, suc, ◌+◌, ◌-◌, ◌<◌, ◌≤◌, Bool, true, false, true≢false, List, [], ◌∷◌, ◌++◌, length, refl, sym, ap, ◌∙◌, subst, inl, inr, arith, append_assoc, append-nil, nat_lt, if◌then◌else◌, length-append, lt-ltb}
 use Rattle.std.proofs.lemmas.Bool.{lt-leb, cases_Bool}
-use Rattle.cbor_head.specs.Prelude.{head, Holds, Bounds, Spelling, Spellings, SpelledEntries, bytes, text, array, a_map, tag, no_spellings, a_spelling, no_entries, entry, spell, spell_entries, spellings_count, entries_count, IsSpelled, strict, OfCount}
-use Rattle.cbor_head.specs.Complaint as complaint
+use Rattle.cbor_head.specs.Prelude.{head, Holds, Bounds, Spelling, Spellings, SpelledEntries, bytes, text, array, a_map, tag, no_spellings, a_spelling, no_entries, entry, spell, spell_entries, spellings_count, entries_count, IsSpelled, strict}
 use Rattle.cbor_head.specs.Laws.{StartsWith}
 use Rattle.cbor_head.specs.declared.major.Major.{Major}
 use Rattle.cbor_head.specs.declared.major.Major.TheVariants.{Bytes, Text, Array, Map, Tag}
 use Rattle.cbor_head.specs.declared.order.KeyOrder.{KeyOrder}
-use Rattle.cbor_head.specs.declared.reason.Reason.TheVariants as reasons
 use Rattle.cbor_head.specs.declared.width.Width.{Width}
-use Rattle.cbor_head.specs.declared.width.Width.TheVariants.{Indefinite}
 use Rattle.cbor_grammar.proofs.Parts.{major, width, count, head_of, body, parts, holds_of, one_head, as_bytes, as_text}
 use Rattle.cbor_grammar.proofs.ReadLaws.{unique, length_spell, length_head, holds_or_open}
 use Rattle.cbor_standing.specs.NextEvent.{ItemEventsView}
@@ -23,27 +20,15 @@ use Rattle.cbor_strict.specs.inner.OpenItems.{frames_in, bytes_before, Stands}
 use Rattle.cbor_judging.specs.OpenMaps.{before_all, ArePath, AreClosedClean}
 use Rattle.cbor_judging.specs.Reading.{IsAt, string_major}
 use Rattle.cbor_strict.specs.inner.StrictEvents.{IsLittle}
-use Rattle.cbor_judging.specs.Judged.{Never}
-use Rattle.cbor_strict.proofs.KeptCounts.{Counts, AreAround, path_counts, maps_past, keys_past}
+use Rattle.cbor_strict.proofs.KeptCounts.{Counts, AreAround, path_counts, past}
 use Rattle.cbor_strict.proofs.FrameCounts.{one_map, map_count, keys_size}
 use Rattle.cbor_strict.proofs.KeptKeys.{kept_if_in, kept_if_out}
 use Rattle.cbor_strict.proofs.KeptEnds.{kept_levels, kept_spans}
 use Rattle.cbor_judging.proofs.Standing.{open-is}
-use Rattle.cbor_strict.proofs.OpenEnds.{frames_length}
+use Rattle.cbor_strict.proofs.OpenEnds.{frames_length, has_length}
 use Rattle.cbor_judging.proofs.OpenSteps.{before_snoc}
 
 -- ---- before an item
-
-mutual
-  maps_zero : (s : Spelling) (n : ℕ) → n ≡ 0 → open_maps n s ≡ 0
-  maps_zero (array w ss) n e = maps_zero_in ss (n - length (head Array w (spellings_count ss))) (omega (arith, e))
-  maps_zero (a_map w es) n e = rw (lt-leb (length (head Map w (entries_count es))) n (omega (arith, e, length_head Map w (entries_count es)))) refl
-  maps_zero (tag w k s) n e = maps_zero s (n - length (head Tag w k)) (omega (arith, e))
-  maps_zero _ n e = refl
-
-  maps_zero_in : (ss : Spellings) (n : ℕ) → n ≡ 0 → open_maps_in n ss ≡ 0
-  maps_zero_in no_spellings n e = refl
-  maps_zero_in (a_spelling s ss) n e = rw (lt-ltb n (length (spell s)) (omega (arith, e, length_spell s))) (maps_zero s n e)
 
 keys_zero_entries : (es : SpelledEntries) (n : ℕ) → n ≡ 0 → key_bytes_in_entries n 0 es ≡ 0
 keys_zero_entries no_entries n e = refl
@@ -54,18 +39,21 @@ either_none true n e = e
 either_none false n e = refl
 
 mutual
-  keys_zero : (s : Spelling) (n : ℕ) → n ≡ 0 → key_bytes n s ≡ 0
-  keys_zero (array w ss) n e = keys_zero_in ss (n - length (head Array w (spellings_count ss))) (omega (arith, e))
-  keys_zero (a_map w es) n e = either_none (nat_lt n (length (spell (a_map w es)))) _ (keys_zero_entries es (n - length (head Map w (entries_count es))) (omega (arith, e)))
-  keys_zero (tag w k s) n e = keys_zero s (n - length (head Tag w k)) (omega (arith, e))
-  keys_zero _ n e = refl
+  none_yet : (s : Spelling) (n : ℕ) → n ≡ 0 → (open_maps n s ≡ 0) × (key_bytes n s ≡ 0)
+  none_yet (array w ss) n e = none_yet_in ss (n - length (head Array w (spellings_count ss))) (omega (arith, e))
+  none_yet (a_map w es) n e = (
+    rw (lt-leb (length (head Map w (entries_count es))) n (omega (arith, e, length_head Map w (entries_count es)))) refl,
+    either_none (nat_lt n (length (spell (a_map w es)))) _ (keys_zero_entries es (n - length (head Map w (entries_count es))) (omega (arith, e))),
+  )
+  none_yet (tag w k s) n e = none_yet s (n - length (head Tag w k)) (omega (arith, e))
+  none_yet _ n e = (refl, refl)
 
-  keys_zero_in : (ss : Spellings) (n : ℕ) → n ≡ 0 → key_bytes_in n ss ≡ 0
-  keys_zero_in no_spellings n e = refl
-  keys_zero_in (a_spelling s ss) n e = rw (lt-ltb n (length (spell s)) (omega (arith, e, length_spell s))) (keys_zero s n e)
+  none_yet_in : (ss : Spellings) (n : ℕ) → n ≡ 0 → (open_maps_in n ss ≡ 0) × (key_bytes_in n ss ≡ 0)
+  none_yet_in no_spellings n e = (refl, refl)
+  none_yet_in (a_spelling s ss) n e = rw (lt-ltb n (length (spell s)) (omega (arith, e, length_spell s))) (none_yet s n e)
 
 none_read : (s : Spelling) (x u : List ℕ) → IsSpelled s → spell s ++ x ≡ [] ++ u → Counts s 0 0 0
-none_read s x u i e = record { within = omega (arith, length_spell s); maps_are = maps_zero s 0 refl; keys_are = keys_zero s 0 refl }
+none_read s x u i e = record { within = omega (arith, length_spell s); maps_are = (none_yet s 0 refl).0; keys_are = (none_yet s 0 refl).1 }
 
 -- ---- within a string
 
@@ -146,16 +134,9 @@ kept_counted (f ∷ fs) p = elim (cases_Bool (stands_in_key fs)) [
       ∙ sym (snoc_out (from_outside fs) f (length p) (key_outside fs ∙ i))
 ]
 
-definite_if : (o : KeyOrder) (at : ℕ) (m : Major) (w : Width) (n : ℕ) → Never (OfCount (strict o) at m w n) → w ≢ Indefinite
-definite_if o at m w n h e =
-    h (complaint.complaint (at + 1) at reasons.Indefinite) (subst (λ (v : Width). OfCount (strict o) at m v n (complaint.complaint (at + 1) at reasons.Indefinite)) (sym e) (refl, refl))
-
 around_path : (o : KeyOrder) (left : ℕ) (gs : List Frame) (at : ℕ) → ArePath left gs → AreClosedClean (strict o) at gs → AreAround gs
 around_path o left [] at h c = tt
-around_path o left (a_member w a b ∷ gs) at h c = (h.0, definite_if o at Array w (spellings_count a + suc (spellings_count b)) (λ x y. c.0 x (inl y)), around_path o left gs _ h.2 c.1)
-around_path o left (a_key w a v b ∷ gs) at h c = (h.0, definite_if o at Map w (entries_count a + suc (entries_count b)) (λ x y. c.0 x (inl y)), around_path o left gs _ h.2 c.1)
-around_path o left (a_content w a k b ∷ gs) at h c = (h.0, definite_if o at Map w (entries_count a + suc (entries_count b)) (λ x y. c.0 x (inl y)), around_path o left gs _ h.2 c.1)
-around_path o left (tagged w n ∷ gs) at h c = (h.0, tt, around_path o left gs _ h.2 c.1)
+around_path o left (f ∷ gs) at h c = (h.0, has_length o at f c.0, around_path o left gs _ h.2 c.1)
 
 -- ---- what is kept
 
@@ -184,7 +165,8 @@ stands_counted v b e t (inr (inl h)) s i =
 stands_counted v b e t (inr (inr h)) s i =
     let same : s ≡ h.item = (unique s h.item i.1.spelled h.spelled [] i.0 (append-nil (spell s) ∙ i.1.bytes_are ∙ ap (λ (x : List ℕ). x ++ i.0) h.taken)).0 in
     let size : length (spell s) ≤ length t = omega (arith, ap (λ (x : Spelling). length (spell x)) same, ap length h.taken) in
-    record { spans = ap length h.kept.spans ∙ sym (maps_past s (length t) size); kept = ap length h.kept.bytes ∙ sym (keys_past s (length t) size) }
+    let none = past s (length t) size in
+    record { spans = ap length h.kept.spans ∙ sym none.0; kept = ap length h.kept.bytes ∙ sym none.1 }
 
 last_within : (es : SpelledEntries) → length (last_key es) ≤ length (spell_entries es)
 last_within no_entries = omega arith

@@ -15,4 +15,3 @@ pub mod StrictLoop
 pub mod StrictReading
 pub mod StrictSteps
 pub mod StrictStops
-pub mod WholeInputs

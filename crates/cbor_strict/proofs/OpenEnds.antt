@@ -1,12 +1,14 @@
 -- What becomes of the open containers as an item ends in them, whatever is kept of them.
-use Rattle.std.proofs.Common.{◌≡◌, ℕ, suc, ◌+◌, ◌-◌, ◌≤◌, IsTrue, Option, Some, List, [], ◌∷◌, ◌++◌, length, refl, sym, ap, ◌∙◌, subst, inl, inr, arith, append_assoc, append-nil, length-append}
+use Rattle.std.proofs.Common.{◌≡◌, ◌≢◌, ℕ, suc, ◌+◌, ◌-◌, ◌≤◌, IsTrue, Option, Some, List, [], ◌∷◌, ◌++◌, length, refl, sym, ap, ◌∙◌, subst, inl, inr, arith, append_assoc, length-append}
 use Rattle.cbor_head.specs.Prelude.{Bounds, key_lt, Spelling, Spellings, SpelledEntries, no_spellings, a_spelling, no_entries, entry, spell, spellings_count, entries_count, IsSpelled, depth, rising, Rules, strict, OfCount, OfKey, Complains, refusal}
 use Rattle.cbor_head.specs.Complaint as complaint
+use Rattle.cbor_head.specs.declared.major.Major.{Major}
 use Rattle.cbor_head.specs.declared.major.Major.TheVariants.{Array, Map}
 use Rattle.cbor_head.specs.declared.order.KeyOrder.{KeyOrder}
 use Rattle.cbor_head.specs.declared.reason.Refusal.{Refusal}
 use Rattle.cbor_head.specs.declared.reason.Reason.TheVariants as reasons
 use Rattle.cbor_head.specs.declared.width.Width.{Width}
+use Rattle.cbor_head.specs.declared.width.Width.TheVariants.{Indefinite}
 use Rattle.cbor_judging.specs.Place.{Container, at_item, counted, close, Place, open_at}
 use Rattle.cbor_standing.specs.NextEvent.{ItemEventsView}
 use Rattle.cbor_judging.specs.Frame.{Frame, a_member, a_key, a_content, tagged, with_all, with_entries, keys_onto, plug, before, OfFront}
@@ -18,11 +20,12 @@ use Rattle.cbor_judging.proofs.Frames.{spelled_plug, depth_plug}
 use Rattle.cbor_judging.proofs.Judged.{judged_key}
 use Rattle.cbor_judging.proofs.OpenKeys.{on_keys_split, onto_keys, front_apart}
 use Rattle.cbor_judging.proofs.OpenMaps.{judged_within}
+use Rattle.cbor_judging.proofs.Items.{whole-cause}
 use Rattle.cbor_judging.proofs.OpenSteps.{before_snoc, distinct_snoc, member_before, content_before, content_keys, map_closes, array_closes, tag_closes, shuts, innermost, member_ends, key_ends, content_ends}
 use Rattle.cbor_judging.proofs.Scalars.{at-as}
 use Rattle.cbor_judging.proofs.LastKey.{key-fresh, key-falls, last_is}
 use Rattle.cbor_judging.proofs.Steps.{at-reached}
-use Rattle.cbor_strict.specs.inner.LastKeys.{from_outside, IsFull, AreDefinite, still_open, ended_item}
+use Rattle.cbor_strict.specs.inner.LastKeys.{from_outside, IsFull, HasLength, AreDefinite, still_open, ended_item}
 use Rattle.cbor_strict.specs.inner.OpenItems.{frames_in, bytes_before}
 use Rattle.cbor_strict.proofs.KeptEnds.{full_bytes}
 use Rattle.cbor_judging.proofs.Standing.{open-is}
@@ -44,24 +47,19 @@ pub before_size : (fs : List Frame) (f : Frame) → length (bytes_before (f ∷ 
 before_size fs f = ap length (before_more fs f) ∙ length-append (bytes_before fs) (before f)
 
 -- by the strict rules each has a length
+definite_if : (o : KeyOrder) (at : ℕ) (m : Major) (w : Width) (n : ℕ) → Never (OfCount (strict o) at m w n) → w ≢ Indefinite
+definite_if o at m w n h e =
+    h (complaint.complaint (at + 1) at reasons.Indefinite) (subst (λ (v : Width). OfCount (strict o) at m v n (complaint.complaint (at + 1) at reasons.Indefinite)) (sym e) (refl, refl))
+
+pub has_length : (o : KeyOrder) (at : ℕ) (f : Frame) → Never (OfClosed (strict o) at f) → HasLength f
+has_length o at (a_member w a b) clean = definite_if o at Array w (spellings_count a + suc (spellings_count b)) (λ c x. clean c (inl x))
+has_length o at (a_key w a v b) clean = definite_if o at Map w (entries_count a + suc (entries_count b)) (λ c x. clean c (inl x))
+has_length o at (a_content w a k b) clean = definite_if o at Map w (entries_count a + suc (entries_count b)) (λ c x. clean c (inl x))
+has_length o at (tagged w n) clean = tt
+
 pub definite_of : (o : KeyOrder) (d : ℕ) (fs : List Frame) → AreOpen (strict o) d (from_outside fs) → AreDefinite fs
 definite_of o d [] h = tt
-definite_of o d (a_member w a b ∷ fs) h =
-    let i = innermost (strict o) d (from_outside fs) (a_member w a b) h in (
-      λ e. i.clean _ (inl (subst (λ (v : Width). OfCount (strict o) (length (bytes_before fs)) Array v (spellings_count a + suc (spellings_count b)) (complaint.complaint (length (bytes_before fs) + 1) (length (bytes_before fs)) reasons.Indefinite)) (sym e) (refl, refl))),
-      definite_of o d fs (shuts (strict o) d (from_outside fs) (a_member w a b) h),
-    )
-definite_of o d (a_key w a v b ∷ fs) h =
-    let i = innermost (strict o) d (from_outside fs) (a_key w a v b) h in (
-      λ e. i.clean _ (inl (subst (λ (v : Width). OfCount (strict o) (length (bytes_before fs)) Map v (entries_count a + suc (entries_count b)) (complaint.complaint (length (bytes_before fs) + 1) (length (bytes_before fs)) reasons.Indefinite)) (sym e) (refl, refl))),
-      definite_of o d fs (shuts (strict o) d (from_outside fs) (a_key w a v b) h),
-    )
-definite_of o d (a_content w a k b ∷ fs) h =
-    let i = innermost (strict o) d (from_outside fs) (a_content w a k b) h in (
-      λ e. i.clean _ (inl (subst (λ (v : Width). OfCount (strict o) (length (bytes_before fs)) Map v (entries_count a + suc (entries_count b)) (complaint.complaint (length (bytes_before fs) + 1) (length (bytes_before fs)) reasons.Indefinite)) (sym e) (refl, refl))),
-      definite_of o d fs (shuts (strict o) d (from_outside fs) (a_content w a k b) h),
-    )
-definite_of o d (tagged w n ∷ fs) h = definite_of o d fs (shuts (strict o) d (from_outside fs) (tagged w n) h)
+definite_of o d (f ∷ fs) h = (has_length o (length (bytes_before fs)) f (innermost (strict o) d (from_outside fs) f h).clean, definite_of o d fs (shuts (strict o) d (from_outside fs) f h))
 
 pub distinct_outer : (fs : List Frame) (f : Frame) (r : Rules) (at to : ℕ) → to ≡ at + length (before_all fs) → AreOpenDistinct r at (fs ++ f ∷ []) → AreOpenDistinct r at fs × AreDistinct r (open_keys to f)
 distinct_outer [] f r at to e h = let g : at ≡ to = omega (arith, e) in (tt, subst (λ (k : ℕ). AreDistinct r (open_keys k f)) g h.0)
@@ -132,7 +130,7 @@ same_one f fs s full =
 pub ended_bytes : (fs : List Frame) (s : Spelling) → AreDefinite fs → bytes_before fs ++ spell s ≡ bytes_before (still_open fs) ++ spell (ended_item fs s)
 ended_bytes (a_member w a no_spellings ∷ fs) s d = same_one (a_member w a no_spellings) fs s d.0 ∙ ended_bytes fs (plug (a_member w a no_spellings) s) d.1
 ended_bytes (a_content w a k no_entries ∷ fs) s d = same_one (a_content w a k no_entries) fs s d.0 ∙ ended_bytes fs (plug (a_content w a k no_entries) s) d.1
-ended_bytes (tagged w n ∷ fs) s d = same_one (tagged w n) fs s tt ∙ ended_bytes fs (plug (tagged w n) s) d
+ended_bytes (tagged w n ∷ fs) s d = same_one (tagged w n) fs s tt ∙ ended_bytes fs (plug (tagged w n) s) d.1
 ended_bytes _ s d = refl
 
 pub ended_state : (fs : List Frame) → close (frames_in fs) ≡ close (frames_in (still_open fs))
@@ -250,11 +248,5 @@ module _ (o : KeyOrder) (b : Bounds) (e : ItemEventsView) (t : List ℕ) (gs : L
       let whole = judged_within (from_outside gs) (strict o) 0 at out.left (before fr ++ spell s) (Some cmp) (omega arith) out.path out.closed u.0
       (subst (λ (n : ℕ). IsJudged (strict o) at n (before fr ++ spell s) (Some cmp)) (sym (level_back o b.depth fr gs m.clean.are out)) one) in
       let level : length (from_outside gs) + out.left ≡ b.depth - 0 = (let levels = out.levels in omega (arith, levels)) in
-      record {
-        p = t;
-        last = [];
-        splits = sym (append-nil t);
-        found = Some cmp;
-        judged = subst (λ (n : ℕ). IsJudged (strict o) 0 n t (Some cmp)) level (subst (λ (x : List ℕ). IsJudged (strict o) 0 (length (from_outside gs) + out.left) x (Some cmp)) (sym bytes_are) whole);
-        cause = (is ∙ ap (λ (n : ℕ). refusal reasons.KeyOrder n (length t)) (before_size gs fr) ∙ ap (refusal reasons.KeyOrder to0) count_all, (at-reached b e t (close (frames_in (fr ∷ gs))) m.at).within);
-      }
+      whole-cause (strict o) b [] [] t to f cmp (subst (λ (n : ℕ). IsJudged (strict o) 0 n t (Some cmp)) level (subst (λ (x : List ℕ). IsJudged (strict o) 0 (length (from_outside gs) + out.left) x (Some cmp)) (sym bytes_are) whole))
+      (is ∙ ap (λ (n : ℕ). refusal reasons.KeyOrder n (length t)) (before_size gs fr) ∙ ap (refusal reasons.KeyOrder to0) count_all) (at-reached b e t (close (frames_in (fr ∷ gs))) m.at).within

@@ -1,7 +1,6 @@
 -- What becomes of the open containers as a head comes.
-use Rattle.std.proofs.Common.{◌≡◌, ◌≢◌, ℕ, zero, suc, ◌+◌, ◌-◌, ◌<◌, ◌≤◌, ◌⊎◌, Bool, false, Option, Some, None, List, [], ◌∷◌, ◌++◌, length, refl, sym, ap, ◌∙◌, subst, inl, inr, arith, append-nil, length-append}
+use Rattle.std.proofs.Common.{◌≡◌, ◌≢◌, ℕ, ◌+◌, ◌<◌, ◌≤◌, ◌⊎◌, Bool, false, Option, Some, None, List, [], ◌∷◌, ◌++◌, length, refl, sym, ap, ◌∙◌, subst, inl, inr, arith, append-nil, length-append}
 use Rattle.std.proofs.lemmas.List.{nil_from_length}
-use Rattle.std.proofs.lemmas.Bool.{cases_lt}
 use Rattle.cbor_head.specs.Prelude.{head, shortest, shortest_head, Bounds, Value, Spelling, SpelledEntries, no_entries, spell, strict, OfHead, Complains, refusal}
 use Rattle.cbor_head.specs.declared.limits.TheConstants.{MAX_DEPTH}
 use Rattle.cbor_head.specs.Complaint as complaint
@@ -14,7 +13,7 @@ use Rattle.cbor_head.specs.declared.reason.Refusal.{Refusal}
 use Rattle.cbor_head.specs.declared.width.Width.{Width}
 use Rattle.cbor_head.specs.declared.width.Width.TheVariants.{Direct, One, Two, Four, Eight, Indefinite}
 use Rattle.cbor_automaton.specs.Trace.{Mark, a_head}
-use Rattle.cbor_judging.specs.Place.{Container, Place, at_item, close, payload, IsTaking}
+use Rattle.cbor_judging.specs.Place.{Container, at_item, close, payload, IsTaking}
 use Rattle.cbor_standing.specs.NextEvent.{ItemEventsView}
 use Rattle.cbor_automaton.specs.Marks.{mark_of}
 use Rattle.cbor_automaton.specs.declared.event.Event.{Event}
@@ -29,8 +28,7 @@ use Rattle.cbor_strict.specs.inner.LastKeys.{seen, from_outside, due_of, IsKept}
 use Rattle.cbor_strict.specs.inner.OpenItems.{AreOpenClean, frames_in, bytes_before, Stands, HasEnded, HasHeadCome, HasBegunIn, IsLeaf, IsMap, IsOther, short_head}
 use Rattle.cbor_judging.specs.Reading.{AreRefused, IsReached, IsUndecided, HasCause, OfMark, IsFault, IsBegun, ReadsItem, string_kind, string_major}
 use Rattle.cbor_judging.specs.OpenMaps.{AreOpen, AreOpenDistinct}
-use Rattle.cbor_judging.proofs.Heads.{Headed}
-use Rattle.cbor_judging.proofs.Items.{IsDefinite, definite, proper-definite, never-open, head-count, cause-in, undecided-in, head-judged, taking-some}
+use Rattle.cbor_judging.proofs.Items.{whole-cause, definite, proper-definite, never-open, head-count, cause-in, undecided-in, head-judged}
 use Rattle.cbor_judging.specs.Judged.{Never}
 use Rattle.cbor_strict.proofs.KeptEnds.{kept_keys, kept_levels}
 use Rattle.cbor_strict.proofs.OpenBegins.{lift, no_break, no_openers, leaf_reads, HasOpened, other_opens, pairs_open}
@@ -38,7 +36,7 @@ use Rattle.cbor_strict.proofs.OpenEnds.{frames_length, before_more}
 use Rattle.cbor_strict.proofs.OpenItems.{around_as}
 use Rattle.cbor_judging.proofs.Scalars.{at-as}
 use Rattle.cbor_judging.proofs.Steps.{head-size, fault_of, at-reached}
-use Rattle.cbor_judging.proofs.Undecided.{head-item, head-undecided}
+use Rattle.cbor_judging.proofs.Undecided.{mark-undecided}
 use Rattle.cbor_judging.proofs.WholeStrings.{string-head, string-due}
 
 -- ---- what is found of the item is found of the whole
@@ -67,70 +65,34 @@ refused_head v b event t x e reason f taken to h fault all is =
     let f_is : f ≡ refusal reason (length t) (length t + length x) = is ∙ ap (λ (n : ℕ). refusal reason n taken) h.place ∙ ap (refusal reason (length t)) size in
     let c = complaint.complaint (length t + length x) (length t) reason in
     let of = head-size b.depth (at_item (frames_in h.fs)) h.next (mark_of event.width event.kind) x (strict v.order) (length t) reason h.taking fault in
-    let cause : HasCause (strict v.order) b (frames_in h.fs) t x to f = record {
-      p = x;
-      last = [];
-      splits = sym (append-nil x);
-      found = Some c;
-      judged = head-judged (strict v.order) (length t) b.depth (frames_in h.fs) (mark_of event.width event.kind) x h.next c h.taking of;
-      cause = (f_is, (at-reached b e (t ++ x) h.next h.at).within);
-    } in
+    let cause = whole-cause (strict v.order) b (frames_in h.fs) t x to f c (head-judged (strict v.order) (length t) b.depth (frames_in h.fs) (mark_of event.width event.kind) x h.next c h.taking of) f_is (at-reached b e (t ++ x) h.next h.at).within in
     refused_part v.order b h.fs h.around.are h.around.distinct x (t ++ x) to f (ap (λ (y : List ℕ). y ++ x) h.taken) (ap (λ (y : Refusal). y.read) f_is ∙ sym (length-append t x))
     (subst (λ (y : List ℕ). HasCause (strict v.order) b (frames_in h.fs) y x to f) h.taken cause)
 
 -- ---- no memory for it
 
 -- without complaint it is definite, and as short as can be
-record IsShort (d : ℕ) (fs : List Container) (x : List ℕ) (kind : EventKind) (next : Place) : Type 0 where
-  major : Major
-  width : Width
-  number : ℕ
-  is : IsDefinite d fs major width number x next
-  short : x ≡ short_head kind
-
-abbrev width_number : Width → ℕ
-width_number Direct = 0
-width_number One = 1
-width_number Two = 2
-width_number Four = 3
-width_number Eight = 4
-width_number Indefinite = 5
-
-abbrev width_of : ℕ → Width
-width_of zero = Direct
-width_of (suc zero) = One
-width_of (suc (suc zero)) = Two
-width_of (suc (suc (suc zero))) = Four
-width_of (suc (suc (suc (suc zero)))) = Eight
-width_of _ = Indefinite
-
-width_back : (w : Width) → width_of (width_number w) ≡ w
-width_back Direct = refl
-width_back _ = refl
-
 same_width : (v w : Width) → (v ≡ w) ⊎ (v ≡ w → ⊥)
-same_width v w = elim (cases_lt (width_number v) (width_number w)) [
-  | inl l ↦ inr (λ e. omega (arith, l, ap width_number e))
-  | inr l ↦ elim (cases_lt (width_number w) (width_number v)) [
-    | inl m ↦ inr (λ e. omega (arith, m, ap width_number e))
-    | inr m ↦
-        let e : width_number v ≡ width_number w = omega (arith, l, m) in
-        inl (sym (width_back v) ∙ ap width_of e ∙ width_back w)
-  ]
-]
+same_width Direct Direct = inl refl
+same_width One One = inl refl
+same_width Two Two = inl refl
+same_width Four Four = inl refl
+same_width Eight Eight = inl refl
+same_width Indefinite Indefinite = inl refl
+same_width _ _ = inr (λ e. cc e)
 
 shortest_so : (o : KeyOrder) (at : ℕ) (m : Major) (w : Width) (n : ℕ) → Never (OfHead (strict o) at m w n) → w ≡ shortest n
 shortest_so o at m w n none = elim (same_width w (shortest n)) [ inl e ↦ e | inr f ↦ absurd (none _ (refl, f, refl)) ]
 
 short_of : (o : KeyOrder) (b : Bounds) (fs : List Container) (t x : List ℕ) (e : ItemEventsView) (w : Width) (m : Major) (n : ℕ) (kind : EventKind) → mark_of w kind ≡ a_head m w n → w ≢ Indefinite → short_head kind ≡ shortest_head m n
-    → (i : IsBegun (strict o) b fs t x e w kind) → IsShort b.depth fs x kind i.next
+    → IsBegun (strict o) b fs t x e w kind → x ≡ short_head kind
 short_of o b fs t x e w m n kind is f short i =
     let d = definite b.depth fs m w n x i.next f (subst (λ (y : Mark). IsTaking b.depth (at_item fs) y x i.next) is i.taking) in
     let clean : Never (OfHead (strict o) (length t) m w n) =
     λ c h. i.clean c (subst (λ (y : Mark). OfMark (strict o) (length t) (at_item fs) y c) (sym is) (head-count (strict o) (length t) m w n c f h)) in
-    record { major = m; width = w; number = n; is = d; short = d.bytes_are ∙ ap (λ (y : Width). head m y n) (shortest_so o (length t) m w n clean) ∙ sym short }
+    d.bytes_are ∙ ap (λ (y : Width). head m y n) (shortest_so o (length t) m w n clean) ∙ sym short
 
-short_begun : (o : KeyOrder) (b : Bounds) (fs : List Container) (t x : List ℕ) (e : ItemEventsView) (w : Width) (kind : EventKind) → (i : IsBegun (strict o) b fs t x e w kind) → IsShort b.depth fs x kind i.next
+short_begun : (o : KeyOrder) (b : Bounds) (fs : List Container) (t x : List ℕ) (e : ItemEventsView) (w : Width) (kind : EventKind) → IsBegun (strict o) b fs t x e w kind → x ≡ short_head kind
 short_begun o b fs t x e w (kinds.Unsigned n) i = short_of o b fs t x e w majors.Unsigned n (kinds.Unsigned n) refl (never-open b.depth fs majors.Unsigned w n x i.next tt i.taking) refl i
 short_begun o b fs t x e w (kinds.Negative n) i = short_of o b fs t x e w majors.Negative n (kinds.Negative n) refl (never-open b.depth fs majors.Negative w n x i.next tt i.taking) refl i
 short_begun o b fs t x e w (kinds.Simple n) i = short_of o b fs t x e w majors.Simple n (kinds.Simple n) refl (never-open b.depth fs majors.Simple w n x i.next tt i.taking) refl i
@@ -162,23 +124,19 @@ begun_in v b event t x e h fine = record {
 pub begun_no_memory : (v : OpenItems) (b : Bounds) (w : Width) (kind : EventKind) (t x : List ℕ) (e : ItemEventsView) (f : Refusal) (taken : ℕ) (to : Option (List ℕ)) (fs : List Frame) → AreOpenClean v b fs → t ≡ bytes_before fs
     → IsBegun (strict v.order) b (frames_in fs) t x e w kind → taken ≡ e.machine.taken → f ≡ refusal Memory taken taken → AreRefused (strict v.order) b (t ++ x) to f
 begun_no_memory v b w kind t x e f taken to fs around before i all is =
-    let k = short_begun v.order b (frames_in fs) t x e w kind i in
-    let it = subst (Headed (b.depth - length (frames_in fs))) (sym k.is.bytes_are) (head-item b.depth (frames_in fs) k.major k.width k.number x i.next k.is) in
-    let some = taking-some b.depth (frames_in fs) (mark_of w kind) x i.next i.taking in
     memory_part v.order b fs around.are around.distinct x (t ++ x) to f taken (ap (λ (y : List ℕ). y ++ x) before) (all ∙ i.at.stands.stands.taken) is (at-reached b e (t ++ x) i.next i.at)
-    (head-undecided (strict v.order) b (frames_in fs) (bytes_before fs) x it some)
+    (mark-undecided (strict v.order) b (frames_in fs) (bytes_before fs) x (mark_of w kind) i.next i.taking)
 
 -- what is kept now
 pub begun_kept : (v new : OpenItems) (b : Bounds) (event : Event) (t x : List ℕ) (e : ItemEventsView) → (h : HasHeadCome v b event t x e) → ((reason : Reason) → IsFault (strict v.order) (mark_of event.width event.kind) reason → ⊥)
     → new.order ≡ v.order → new.left ≡ v.left → ((fs : List Frame) → IsKept (seen v.keys) fs [] → IsKept (seen new.keys) fs (short_head event.kind)) → HasBegunIn new b event.width event.kind t x e
 begun_kept v new b event t x e h fine same same_left kept =
     let i = begun_in v b event t x e h fine in
-    let k = short_begun v.order b (frames_in h.fs) t x e event.width event.kind i in
     record {
       fs = h.fs;
       around = around_as v.order new b h.fs (sym same) h.around.are h.around.distinct;
       none = same_left ∙ h.none;
-      kept = subst (IsKept (seen new.keys) h.fs) (sym k.short) (kept h.fs h.kept);
+      kept = subst (IsKept (seen new.keys) h.fs) (sym (short_begun v.order b (frames_in h.fs) t x e event.width event.kind i)) (kept h.fs h.kept);
       taken = h.taken;
       begun = subst (λ (o : KeyOrder). IsBegun (strict o) b (frames_in h.fs) t x e event.width event.kind) (sym same) i;
     }

@@ -1,41 +1,27 @@
 -- What becomes of the open containers as the parts of a payload come.
-use Rattle.std.proofs.Common.{◌≡◌, ℕ, ◌+◌, ◌-◌, ◌<◌, ◌≤◌, Bool, true, false, Option, Some, None, List, [], ◌++◌, length, replicate, refl, sym, ap, ◌∙◌, subst, inl, inr, arith, append_assoc, append-nil, IsUtf8, length-append}
+use Rattle.std.proofs.Common.{◌≡◌, ℕ, ◌+◌, ◌-◌, ◌<◌, ◌≤◌, Bool, true, false, Option, List, ◌++◌, length, refl, sym, ap, ◌∙◌, subst, inl, inr, arith, append_assoc, IsUtf8, length-append}
 use Rattle.std.specs.Str.Lossy.{utf8_valid_len}
-use Rattle.cbor_head.specs.Prelude.{Holds, head, Bounds, AreBytes, spell, Rules, strict, OfHead, Complains, refusal}
-use Rattle.cbor_head.specs.Complaint as complaint
-use Rattle.cbor_head.specs.declared.major.Major.TheVariants as majors
+use Rattle.cbor_head.specs.Prelude.{Holds, head, Bounds, AreBytes, spell, strict, OfHead, Complains, refusal}
 use Rattle.cbor_head.specs.declared.order.KeyOrder.{KeyOrder}
 use Rattle.cbor_head.specs.declared.reason.Reason.TheVariants.{Memory, InvalidText}
 use Rattle.cbor_head.specs.declared.reason.Refusal.{Refusal}
-use Rattle.cbor_head.specs.declared.width.Width.{Width}
 use Rattle.cbor_judging.specs.Place.{close, payload}
 use Rattle.cbor_standing.specs.NextEvent.{ItemEventsView}
 use Rattle.cbor_text.specs.TextCheck.{HasChecked}
 use Rattle.cbor_strict.specs.declared.last_keys.LastKeys.{LastKeys}
 use Rattle.cbor_strict.specs.declared.open_items.OpenItems.{OpenItems}
 use Rattle.cbor_judging.specs.Frame.{Frame}
-use Rattle.cbor_judging.specs.Judged.{IsJudged, Never}
+use Rattle.cbor_judging.specs.Judged.{Never}
 use Rattle.cbor_strict.specs.inner.LastKeys.{seen, IsKept}
 use Rattle.cbor_strict.specs.inner.OpenItems.{frames_in, bytes_before, Stands, HasEnded, HasPartCome}
-use Rattle.cbor_judging.specs.Reading.{AreRefused, IsAt, IsUndecided, string_major}
-use Rattle.cbor_grammar.proofs.ByteLists.{bytes_join, bytes_front}
-use Rattle.cbor_judging.proofs.Heads.{zero_bytes, zero_length}
-use Rattle.cbor_judging.proofs.Leaves.{text_complains}
+use Rattle.cbor_judging.specs.Reading.{AreRefused, IsAt, string_major}
+use Rattle.cbor_grammar.proofs.ByteLists.{bytes_join}
 use Rattle.cbor_strict.proofs.OpenHeads.{refused_part, memory_part}
 use Rattle.cbor_strict.proofs.OpenItems.{around_as}
 use Rattle.cbor_judging.proofs.Scalars.{at-as}
 use Rattle.cbor_judging.proofs.Steps.{at-reached}
-use Rattle.cbor_judging.proofs.Undecided.{last-apart}
-use Rattle.cbor_judging.proofs.WholeStrings.{made_of, made-spells, made-spelled, made-flat, made-clean, so-far}
-
--- a string whose payload goes on
-pub string_judged : (is_text : Bool) (w : Width) (n : ℕ) (p : List ℕ) (r : Rules) (at d : ℕ) → Holds w n → AreBytes p → length p < n → Never (OfHead r at (string_major is_text) w n) → IsJudged r at d (head (string_major is_text) w n ++ p) None
-string_judged is_text w n p r at d holds are_bytes short clean =
-    let more : List ℕ = replicate (n - length p) 0 in
-    let same : length (p ++ more) ≡ n = omega (arith, length-append p more, zero_length (n - length p), short) in
-    subst (λ (k : ℕ). IsJudged r at d (head (string_major is_text) w k ++ p) None) same
-    (so-far is_text w p more r at d (subst (Holds w) (sym same) holds) (bytes_join p more are_bytes (zero_bytes (n - length p))) (omega (arith, zero_length (n - length p), short))
-    (subst (λ (k : ℕ). Never (OfHead r at (string_major is_text) w k)) (sym same) clean))
+use Rattle.cbor_judging.proofs.Undecided.{is-part}
+use Rattle.cbor_judging.proofs.WholeStrings.{StringHead, made_of, made-spells, made-spelled, made-flat, made-clean, string-undecided, text-judged}
 
 module _ (v : OpenItems) (b : Bounds) (old : ItemEventsView) (t x : List ℕ) (e : ItemEventsView) (h : HasPartCome v b old t x e) where
   abbrev hd : List ℕ
@@ -47,6 +33,9 @@ module _ (v : OpenItems) (b : Bounds) (old : ItemEventsView) (t x : List ℕ) (e
   all_bytes : AreBytes (h.due.q ++ x)
   all_bytes = bytes_join h.due.q x h.due.are_bytes h.are_bytes
 
+  head_is : StringHead (strict v.order) b (frames_in h.due.fs) (bytes_before h.due.fs) hd h.due.w v.is_text h.due.n (payload false (string_major v.is_text) h.due.n (frames_in h.due.fs))
+  head_is = record { bytes_are = refl; holds = h.due.holds; follows = refl; clean = h.due.clean }
+
   -- the payload is among what was taken
   pub part_room : (taken : ℕ) → taken ≡ e.machine.taken → length (h.due.q ++ x) ≤ taken
   part_room taken all =
@@ -54,16 +43,9 @@ module _ (v : OpenItems) (b : Bounds) (old : ItemEventsView) (t x : List ℕ) (e
 
   pub part_no_memory : (f : Refusal) (taken : ℕ) (to : Option (List ℕ)) → taken ≡ e.machine.taken → f ≡ refusal Memory taken taken → AreRefused (strict v.order) b (t ++ x) to f
   part_no_memory f taken to all is =
-      let k = last-apart (h.due.q ++ x) (omega (arith, length-append h.due.q x, h.some)) in
-      let undecided : IsUndecided (strict v.order) b (frames_in h.due.fs) (bytes_before h.due.fs) (hd ++ (h.due.q ++ x)) = record {
-        p = hd ++ k.front;
-        last = k.last;
-        splits = ap (λ (y : List ℕ). hd ++ y) k.splits ∙ sym (append_assoc hd k.front k.last);
-        byte = omega (arith, k.byte);
-        judged = string_judged v.is_text h.due.w h.due.n k.front (strict v.order) (length (bytes_before h.due.fs)) (b.depth - length (frames_in h.due.fs)) h.due.holds (bytes_front k.front k.last (subst AreBytes k.splits all_bytes))
-            (omega (arith, k.byte, ap length k.splits, length-append k.front k.last, length-append h.due.q x, h.due.count, h.fits)) h.due.clean;
-      } in
-      memory_part v.order b h.due.fs h.due.around.are h.due.around.distinct (hd ++ (h.due.q ++ x)) (t ++ x) to f taken bytes_so (all ∙ h.at.stands.stands.taken) is (at-reached b e (t ++ x) _ h.at) undecided
+      let part = is-part h.due.n (h.due.q ++ x) (omega (arith, length-append h.due.q x, h.some)) (omega (arith, length-append h.due.q x, h.due.count, h.fits)) all_bytes in
+      memory_part v.order b h.due.fs h.due.around.are h.due.around.distinct (hd ++ (h.due.q ++ x)) (t ++ x) to f taken bytes_so (all ∙ h.at.stands.stands.taken) is (at-reached b e (t ++ x) _ h.at)
+      (string-undecided (strict v.order) b (frames_in h.due.fs) (bytes_before h.due.fs) hd h.due.w v.is_text h.due.n _ head_is (h.due.q ++ x) part)
 
   module _ (new : OpenItems) (keys : LastKeys) (same_order : new.order ≡ v.order) (same_keys : new.keys ≡ keys) (same_text : new.is_text ≡ v.is_text) (left : new.left + length x ≡ v.left)
       (kept : (fs : List Frame) (p : List ℕ) → IsKept (seen v.keys) fs p → IsKept (seen keys) fs (p ++ x)) where
@@ -126,23 +108,16 @@ module _ (v : OpenItems) (b : Bounds) (old : ItemEventsView) (t x : List ℕ) (e
         → f ≡ refusal InvalidText place taken → AreRefused (strict v.order) b (t ++ x) to f
     part_no_text f taken place to none text_so no_text all place_is is =
         let q = h.due.q ++ x in
-        let size : h.due.n ≡ length q = sym (size_so none) in
-        let at = length (bytes_before h.due.fs) in
-        let th = head majors.Text h.due.w (length q) in
-        let heads : hd ≡ th = ap (λ (y : Bool). head (string_major y) h.due.w h.due.n) text_so ∙ ap (head majors.Text h.due.w) size in
+        let y = bytes_before h.due.fs in
+        let cs = frames_in h.due.fs in
         let read : taken ≡ length (t ++ x) = all ∙ h.at.stands.stands.taken in
-        let sized : taken ≡ at + length th + length q = omega (arith, read, ap length bytes_so, length-append (bytes_before h.due.fs) (hd ++ q), length-append hd q, ap length heads) in
-        let here : place ≡ at + length th + utf8_valid_len q = omega (arith, place_is, sized) in
-        let c = complaint.complaint (at + length th + length q) (at + length th + utf8_valid_len q) InvalidText in
-        let clean : Never (OfHead (strict v.order) at majors.Text h.due.w (length q)) =
-        subst (λ (k : ℕ). Never (OfHead (strict v.order) at majors.Text h.due.w k)) size (subst (λ (y : Bool). Never (OfHead (strict v.order) at (string_major y) h.due.w h.due.n)) text_so h.due.clean) in
-        refused_part v.order b h.due.fs h.due.around.are h.due.around.distinct (hd ++ q) (t ++ x) to f bytes_so (ap (λ (y : Refusal). y.read) is ∙ read)
-        (record {
-          p = hd ++ q;
-          last = [];
-          splits = sym (append-nil (hd ++ q));
-          found = Some c;
-          judged = subst (λ (y : List ℕ). IsJudged (strict v.order) at (b.depth - length (frames_in h.due.fs)) (y ++ q) (Some c)) (sym heads)
-              (text_complains h.due.w q (strict v.order) at (b.depth - length (frames_in h.due.fs)) c (subst (Holds h.due.w) size h.due.holds, all_bytes) clean (refl, no_text, refl));
-          cause = (is ∙ ap (λ (n : ℕ). refusal InvalidText n taken) here ∙ ap (refusal InvalidText (at + length th + utf8_valid_len q)) sized, subst (λ (y : List ℕ). length y ≤ b.bytes) bytes_so (at-reached b e (t ++ x) _ h.at).within);
-        })
+        let sized : taken ≡ length (y ++ hd) + length q = omega (arith, read, ap length bytes_so, length-append y (hd ++ q), length-append hd q, length-append y hd) in
+        let here : place ≡ length (y ++ hd) + utf8_valid_len q = omega (arith, place_is, sized) in
+        refused_part v.order b h.due.fs h.due.around.are h.due.around.distinct (hd ++ q) (t ++ x) to f bytes_so (ap (λ (z : Refusal). z.read) is ∙ read)
+        (text-judged (strict v.order) b cs y hd h.due.w h.due.n _ to f refl (subst (λ (z : Bool). StringHead (strict v.order) b cs y hd h.due.w z h.due.n (payload false (string_major v.is_text) h.due.n cs)) text_so head_is) q (record {
+          count = size_so none;
+          are_bytes = all_bytes;
+          no_text = no_text;
+          is = is ∙ ap (λ (n : ℕ). refusal InvalidText n taken) here ∙ ap (refusal InvalidText (length (y ++ hd) + utf8_valid_len q)) sized;
+          within = subst (λ (z : List ℕ). length z ≤ b.bytes) (bytes_so ∙ sym (append_assoc y hd q)) (at-reached b e (t ++ x) _ h.at).within;
+        }))

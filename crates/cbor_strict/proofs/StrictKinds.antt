@@ -9,8 +9,8 @@ use Rattle.cbor_automaton.specs.Marks.{mark_of, count_of}
 use Rattle.cbor_automaton.specs.declared.event.EventKind.{EventKind}
 use Rattle.cbor_automaton.specs.declared.event.EventKind.TheVariants as kinds
 use Rattle.cbor_events.specs.NextKey.{IsBasicKind}
-use Rattle.cbor_judging.specs.Frame.{Frame, a_member, a_key, a_content, tagged}
-use Rattle.cbor_judging.specs.Kinds.{AsksForKinds, KeepsToKinds, IsKeyDue, HasBasicFront, IsOfOneHead}
+use Rattle.cbor_judging.specs.Frame.{Frame, a_key}
+use Rattle.cbor_judging.specs.Kinds.{AsksForKinds, KeepsToKinds, IsKeyDue, IsKeyFrame, HasBasicFront, IsOfOneHead}
 use Rattle.cbor_judging.specs.OpenMaps.{before_all, ArePath}
 use Rattle.cbor_judging.specs.Place.{Container, Place, at_item, IsTaking}
 use Rattle.cbor_judging.specs.Reading.{string_major}
@@ -25,31 +25,17 @@ use Rattle.cbor_strict.specs.inner.LastKeys.{KeysView, IsKept, from_outside, due
 
 -- ---- a key is due in the innermost container
 
-abbrev HasKeyDue : List Frame → Type 0
-HasKeyDue [] = ⊥
-HasKeyDue (f ∷ fs) = due_of f ≡ Key
+key_frame : (f : Frame) → (due_of f ≡ Key) ↔ IsKeyFrame f
+key_frame (a_key w a v b) = ((λ e. tt), (λ h. refl))
+key_frame _ = ((λ e. absurd (cc e)), (λ h. absurd h))
 
-key-due : (fs : List Frame) → HasKeyDue fs ↔ IsKeyDue (from_outside fs)
-key-due [] = (λ h. h, λ h. h)
-key-due (a_key w a v b ∷ fs) = (λ h. (due_last (from_outside fs) (a_key w a v b)).1 tt, λ h. refl)
-key-due (a_member w a b ∷ fs) = (λ h. absurd (cc h), λ h. absurd ((due_last (from_outside fs) (a_member w a b)).0 h))
-key-due (a_content w a k b ∷ fs) = (λ h. absurd (cc h), λ h. absurd ((due_last (from_outside fs) (a_content w a k b)).0 h))
-key-due (tagged w n ∷ fs) = (λ h. absurd (cc h), λ h. absurd ((due_last (from_outside fs) (tagged w n)).0 h))
-
-module _ (keys : KeysView) (due : Due) (some : (f : Frame) (fs : List Frame) (p : List ℕ) → IsKept keys (f ∷ fs) p → due ≡ due_of f) (none : (p : List ℕ) → IsKept keys [] p → due ≡ Member) where
-  top : (fs : List Frame) (p : List ℕ) → IsKept keys fs p → due ≡ Key → HasKeyDue fs
-  top [] p k e = let two : Key ≡ Member = sym e ∙ none p k in absurd (cc two)
-  top (f ∷ fs) p k e = sym (some f fs p k) ∙ e
-
-  pub key_top : (fs : List Frame) (p : List ℕ) → IsKept keys fs p → due ≡ Key → IsKeyDue (from_outside fs)
-  key_top fs p k e = (key-due fs).0 (top fs p k e)
-
-  other_top : (fs : List Frame) (p : List ℕ) → IsKept keys fs p → (due ≡ Key → ⊥) → HasKeyDue fs → ⊥
-  other_top [] p k n h = h
-  other_top (f ∷ fs) p k n h = n (some f fs p k ∙ h)
-
-  pub no_key_top : (fs : List Frame) (p : List ℕ) → IsKept keys fs p → (due ≡ Key → ⊥) → IsKeyDue (from_outside fs) → ⊥
-  no_key_top fs p k n h = other_top fs p k n ((key-due fs).1 h)
+pub key_top : (keys : KeysView) (due : Due) → ((f : Frame) (fs : List Frame) (p : List ℕ) → IsKept keys (f ∷ fs) p → due ≡ due_of f) → ((p : List ℕ) → IsKept keys [] p → due ≡ Member) → (fs : List Frame) (p : List ℕ) → IsKept keys fs p
+    → (due ≡ Key) ↔ IsKeyDue (from_outside fs)
+key_top keys due some none [] p k = ((λ e. let two : Key ≡ Member = sym e ∙ none p k in cc two), (λ h. absurd h))
+key_top keys due some none (f ∷ fs) p k =
+    let d = due_last (from_outside fs) f in
+    let s = some f fs p k in
+    ((λ e. d.1 ((key_frame f).0 (sym s ∙ e))), (λ h. s ∙ (key_frame f).1 (d.0 h)))
 
 -- ---- the head of an integer or a text
 

@@ -12,15 +12,17 @@ use Rattle.cbor_automaton.specs.declared.event.Event.{Event}
 use Rattle.cbor_standing.specs.Machine.{KeepsLimits}
 use Rattle.cbor_standing.specs.NextEvent.{ItemEventsView, StandsBetween}
 use Rattle.cbor_judging.specs.Kinds.{KeepsToKinds}
-use Rattle.cbor_judging.specs.Readers.{IsRead, IsUnread}
+use Rattle.cbor_judging.specs.Readers.{IsRead}
 use Rattle.cbor_judging.specs.Reading.{IsFrontUnread}
 use Rattle.cbor_judging.proofs.Decisions.{whole_beside}
 use Rattle.cbor_judging.proofs.KindFrames.{keeps_start}
+use Rattle.cbor_judging.proofs.Stopped.{stopped_from, stopped_front}
 use Rattle.cbor_judging.proofs.Tops.{loses}
+use Rattle.cbor_judging.specs.Stopped.{IsStopped}
 use Rattle.cbor_strict.specs.declared.open_items.OpenItems.{OpenItems}
 use Rattle.cbor_strict.specs.inner.LastKeys.{seen, IsKept}
 use Rattle.cbor_strict.specs.inner.OpenItems.{Stands}
-use Rattle.cbor_strict.specs.inner.StrictEvents.{GoesOn, HasCome, IsStopped, IsStrictlyRead}
+use Rattle.cbor_strict.specs.inner.StrictEvents.{GoesOn, HasCome, IsStrictlyRead}
 use Rattle.cbor_strict.proofs.StrictReading.{stands_first}
 
 -- what was read is known, and has no complaint
@@ -80,16 +82,5 @@ module _ (o : KeyOrder) (b : Bounds) (v new : OpenItems) (e after : ItemEventsVi
       front_read (Some input) (Some rest) c r = subst (λ (x : List ℕ). IsRead b (strict o) x count) (sym c) (r rest)
 
   -- it is refused
-  pub runs_stop : (f : Refusal) → IsStopped (strict v.order) b e h.t now to f → IsFrontUnread (strict o) b from to f
-  runs_stop f n =
-      let lost : Consumes from to (h.t ++ n.bytes) = Consumes-trans from now to h.t n.bytes h.consumed n.consumed in
-      subst (λ (p : KeyOrder). IsFrontUnread (strict p) b from to f) h.order (record {
-        refused = whole_input from now h.consumed n.unread;
-        reason = n.reason;
-        taken = loses (h.t ++ n.bytes) f.read from to n.read (record { more = h.t ++ n.bytes; consumed = lost; are = refl });
-      })
-    where
-      whole_input : (from now : Option (List ℕ)) → Consumes from now h.t → IfSome now (λ rest. IsUnread b (strict v.order) (h.t ++ rest) f) → IfSome from (λ input. IsUnread b (strict v.order) input f)
-      whole_input None now c u = tt
-      whole_input (Some input) None c u = absurd c
-      whole_input (Some input) (Some rest) c u = subst (λ (x : List ℕ). IsUnread b (strict v.order) x f) (sym c) u
+  pub runs_stop : (f : Refusal) → IsStopped (strict v.order) b h.t now to f → IsFrontUnread (strict o) b from to f
+  runs_stop f n = subst (λ (p : KeyOrder). IsFrontUnread (strict p) b from to f) h.order (stopped_front (strict v.order) b f from to (stopped_from (strict v.order) b f [] h.t from now to h.consumed n))

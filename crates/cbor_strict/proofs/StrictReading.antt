@@ -1,6 +1,5 @@
 -- What the strict reader's state says of the bytes behind it.
 use Rattle.std.proofs.Common.{◌≡◌, ℕ, ◌-◌, ◌≤◌, ◌⊎◌, Option, Some, None, List, [], ◌++◌, length, refl, sym, ap, ◌∙◌, subst, inl, inr, arith, append-nil, Ok, Err}
-use Rattle.std.specs.Option.{IfSome}
 use Rattle.cbor_head.specs.Prelude.{head, Bounds, AreBounds, bounds, with_keys, Spelling, IsItem, Rules, strict, Complains, HasNoneOf}
 use Rattle.cbor_head.specs.Laws.{StartsWith}
 use Rattle.cbor_head.specs.declared.keys.Keys.{Keys}
@@ -32,7 +31,7 @@ use Rattle.cbor_judging.proofs.Decisions.{none_beside}
 use Rattle.cbor_judging.specs.Kinds.{KeepsToKinds}
 use Rattle.cbor_judging.proofs.Judged.{judged_start}
 use Rattle.cbor_strict.proofs.OpenBegins.{lift}
-use Rattle.cbor_strict.proofs.OpenPieces.{string_judged}
+use Rattle.cbor_judging.proofs.CutHeads.{string_cut}
 use Rattle.cbor_judging.proofs.OpenSteps.{none_open}
 use Rattle.cbor_judging.proofs.Steps.{same-marks}
 
@@ -55,7 +54,7 @@ stands_clean v b e t (inl h) =
 stands_clean v b e t (inr (inl h)) =
     none_within v.order b.depth t (subst (λ (x : List ℕ). IsJudged (strict v.order) 0 b.depth x None) (sym h.taken) (all_levels v.order b.depth (bytes_before h.fs ++ (head (string_major v.is_text) h.w h.n ++ h.q))
     (lift v.order b h.fs h.around.are h.around.distinct (head (string_major v.is_text) h.w h.n ++ h.q) None
-    (string_judged v.is_text h.w h.n h.q (strict v.order) (length (bytes_before h.fs)) (b.depth - length (frames_in h.fs)) h.holds h.are_bytes (omega (arith, h.count, h.some)) h.clean))))
+    (string_cut h.w h.n h.q h.holds h.are_bytes (omega (arith, h.count, h.some)) (strict v.order) (length (bytes_before h.fs)) (b.depth - length (frames_in h.fs)) v.is_text h.clean))))
 stands_clean v b e t (inr (inr h)) = λ s i c k l.
     let whole : IsItem b.depth h.item (t ++ []) = record { spelled = h.spelled; within = h.within; bytes_are = sym h.taken ∙ sym (append-nil t) } in
     absurd (h.clean c (same_complaints b.depth s h.item t i.0 [] i.1 whole (strict v.order) c l k))
@@ -173,12 +172,12 @@ module _ (e after : ItemEventsView) (v new : OpenItems) (keys : Keys) (from to :
   next_refused f None last answers at_once t ms h =
       let s = answers (bounds_of e.machine keys) t refl h.inner.stands h.inner.keeps in
       record {
-        unfinished = s.unfinished;
-        bytes = s.bytes;
-        consumed = s.consumed;
-        read = s.read;
+        unfinished = s.0;
+        bytes = s.1.bytes;
+        consumed = s.1.consumed;
+        read = s.1.read;
         at_once = stops_too v.order f e.machine after.machine from to e.piece after.piece e.piece [] t ms (at_once t ms h.between);
-        verdict = s.unread;
+        verdict = s.1.unread;
       }
   next_refused f (Some x) last answers at_once t ms h = absurd (cc h.live)
 
@@ -187,17 +186,7 @@ module _ (e after : ItemEventsView) (v new : OpenItems) (keys : Keys) (from to :
   stands_next None h answers = let g = answers h.b h.t h.asks h.stands h.keeps in record { b = h.b; asks = h.asks; t = h.t; stands = inr (inr g.over); keeps = g.keeps }
 
   pub refused_reason : (b : Bounds) (f : Refusal) → b.keys ≡ keys → StandsSomewhere keys v e → AnswersStep keys v new e after from to (Err f) → IsReaderReason b (strict v.order) f.reason
-  refused_reason b f same h answers = reason_as (strict v.order) h.b b f.reason (h.asks ∙ sym same) (answers h.b h.t h.asks h.stands h.keeps).reason
+  refused_reason b f same h answers = reason_as (strict v.order) h.b b f.reason (h.asks ∙ sym same) (answers h.b h.t h.asks h.stands h.keeps).1.reason
 
 pub somewhere_little : (e : ItemEventsView) (v : OpenItems) (keys : Keys) → StandsSomewhere keys v e → IsLittle v e
 somewhere_little e v keys h = stands_little v h.b e h.t h.stands
-
--- ---- nothing was refused yet
-
-pub none_is : (r : Option Refusal) → ((f : Refusal) → r ≡ Some f → ⊥) → r ≡ None
-none_is None h = refl
-none_is (Some f) h = absurd (h f refl)
-
-pub never_some : (r : Option Refusal) (P : Refusal → Type 0) → r ≡ None → IfSome r P
-never_some None P e = tt
-never_some (Some f) P e = absurd (cc e)

@@ -1,6 +1,6 @@
 -- From one event to the next, by the strict rules.
 use Rattle.std.proofs.Common.{◌≡◌, ℕ, zero, suc, ◌<◌, Bool, true, false, true≢false, Option, Some, None, List, [], ◌++◌, length, refl, sym, ap, ◌∙◌, subst, inl, inr, arith, append_assoc, length-append, Ok}
-use Rattle.cbor_head.specs.Prelude.{head, Bounds, AreBytes, strict, IsBeginning}
+use Rattle.cbor_head.specs.Prelude.{head, Bounds, AreBytes, strict}
 use Rattle.cbor_head.specs.declared.major.Major.{Major}
 use Rattle.cbor_judging.specs.Place.{Container, Place, at_item, payload, done, IsTaking}
 use Rattle.cbor_automaton.specs.Trace.{Mark, a_break}
@@ -23,7 +23,7 @@ use Rattle.cbor_judging.proofs.Items.{taking-some}
 use Rattle.cbor_grammar.proofs.ByteLists.{bytes_join}
 use Rattle.cbor_judging.proofs.Payloads.{IsPiece, IsPayload, none-come, part-fits, part-comes, piece-due}
 use Rattle.cbor_judging.proofs.Scalars.{at-as}
-use Rattle.cbor_judging.proofs.Steps.{SameLimits, next-at, head-taken, at-reached, same-place}
+use Rattle.cbor_judging.proofs.Steps.{SameLimits, next-at, head-taken, same-place}
 use Rattle.cbor_judging.proofs.Standing.{is-complete, is-done}
 
 -- ---- what an event can be
@@ -31,10 +31,6 @@ use Rattle.cbor_judging.proofs.Standing.{is-complete, is-done}
 piece_bytes : (kind : EventKind) → IsPiece kind → (kept piece bytes : List ℕ) → IsPieceKept kind kept piece bytes → piece ≡ bytes
 piece_bytes (kinds.Piece n) h kept piece bytes k = k
 piece_bytes _ h kept piece bytes k = absurd h
-
-payload_not_done : (m : Major) (n : ℕ) (fs : List Container) → 0 < n → payload false m n fs ≡ done → ⊥
-payload_not_done m zero fs l e = absurd (omega (arith, l))
-payload_not_done m (suc n) fs l e = cc e
 
 payload_so : (m : Major) (n : ℕ) (fs : List Container) → 0 < n → IsPayload (payload false m n fs)
 payload_so m zero fs l = absurd (omega (arith, l))
@@ -123,7 +119,7 @@ module _ (v : OpenItems) (b : Bounds) (e new : ItemEventsView) (t : List ℕ) (f
   -- nothing more
   pub end_told : Stands v b e t → KeepsToKinds b (strict v.order) t → ((ms : List Mark) → StandsBetween e.machine t ms → IsEnd (call e new from to t ms)) → HasCome v b e new t from to
   end_told (inl h) keeps next = absurd (not_over b e t _ h.at (λ g. cc g) (next h.at.marks h.at.stands).complete)
-  end_told (inr (inl h)) keeps next = absurd (not_over b e t _ h.at (payload_not_done (string_major v.is_text) v.left (frames_in h.fs) h.some) (next h.at.marks h.at.stands).complete)
+  end_told (inr (inl h)) keeps next = absurd (not_over b e t _ h.at (λ g. subst IsPayload g (payload_so (string_major v.is_text) v.left (frames_in h.fs) h.some)) (next h.at.marks h.at.stands).complete)
   end_told (inr (inr h)) keeps next =
       let n = next h.at.marks h.at.stands in
       let a = next-at b e new t t done h.at.marks h.at same live n.stands in
@@ -138,9 +134,6 @@ of_told false ev c h = (h, λ a. absurd (true≢false (sym a)))
 pub of_end : (asked : Bool) (c : Call) → IsNextOf asked (Ok None) c → IsEnd c
 of_end true c h = h
 of_end false c h = h
-
-pub begun : (b : Bounds) (e : ItemEventsView) (t : List ℕ) (q : Place) → IsAt b e t q → IsBeginning b.depth t
-begun b e t q a = (at-reached b e t q a).begins
 
 pub head_keeps : (v : OpenItems) (b : Bounds) (ev : Event) (t x : List ℕ) (e : ItemEventsView) (h : HasHeadCome v b ev t x e) → KeepsToKinds b (strict v.order) t → (AsksForKinds b (strict v.order) → IsKeyDue (from_outside h.fs) → IsBasicKind ev.kind)
     → KeepsToKinds b (strict v.order) (t ++ x)
@@ -170,5 +163,3 @@ live_of v b e t (inr (inr h)) = h.at.live
 pub piece_is : (kind : EventKind) → IsPiece kind → (n : ℕ) × (kind ≡ kinds.Piece n)
 piece_is (kinds.Piece n) h = (n, refl)
 piece_is _ h = absurd h
-
--- ---- each event has a byte

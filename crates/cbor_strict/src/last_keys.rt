@@ -13,10 +13,11 @@ ghost use Rattle.cbor_strict.specs.inner.LastKeys.{seen, with_key, with_last, du
 ghost use Rattle.cbor_strict.specs.inner.LastKeys.{still_open, ended_item};
 
 use crate::MOST_OPEN;
-use crate::rises::rises;
 use arrayvec::ArrayVec;
 use cbor_head::KeyOrder;
+use cbor_keys::compare_keys;
 use std::alloc::{AllocError, Global};
+use std::cmp::Ordering;
 
 /// What is due in an open container.
 #[derive(Clone, Copy, Default)]
@@ -213,7 +214,7 @@ impl LastKeys {
 
     // Whether no key of the map stands before the next one.
     fn is_first(&self, span: Span) -> bool
-        ensures { result ≡ true → (span.from ≡ span.next)
+        ensures { IsTrue result ↔ (span.from ≡ span.next)
             × (span.next < length self.now.bytes.items) }
     {
         span.from == span.next && span.next < self.bytes.len()
@@ -228,11 +229,8 @@ impl LastKeys {
             (take (span.to - span.from) (drop span.from self.now.bytes.items))
             (drop span.next self.now.bytes.items)) }
     {
-        rises(
-            order,
-            &self.bytes[span.from..span.to],
-            &self.bytes[span.next..],
-        )
+        let last = &self.bytes[span.from..span.to];
+        compare_keys(order, last, &self.bytes[span.next..]) == Ordering::Less
     }
 
     // The last bytes, from there on, are the last complete key of the innermost map, and its value

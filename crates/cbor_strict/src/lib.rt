@@ -18,7 +18,6 @@
 mod head_faults;
 mod last_keys;
 mod open_items;
-mod rises;
 mod strict_events;
 mod strict_front;
 mod strict_reader;

@@ -27,7 +27,7 @@ use std::alloc::{AllocError, Global};
 #[derive(Drop)]
 pub(crate) struct OpenItems {
     order: KeyOrder,
-    keys: LastKeys,
+    pub(crate) keys: LastKeys,
     // How many bytes are due of the payload of a string, and whether it is a text.
     left: u64,
     is_text: bool,
@@ -50,20 +50,6 @@ impl OpenItems {
         }
     }
 
-    // Of how many open maps the last key is kept.
-    pub(crate) fn spans(&self) -> usize
-        ensures { result ≡ length (seen self.now.keys).spans }
-    {
-        self.keys.spans()
-    }
-
-    // How many bytes are kept.
-    pub(crate) fn kept(&self) -> usize
-        ensures { result ≡ length (seen self.now.keys).bytes }
-    {
-        self.keys.kept()
-    }
-
     // Whether a key is due that is to be an integer or a text, and nothing of it was read.
     #[inline(always)]
     pub(crate) fn asks(&self, keys: Keys) -> bool
@@ -81,15 +67,6 @@ impl OpenItems {
         matches!(self.keys.due(), Due::Key)
     }
 
-    // Nothing is kept any more, where nothing more is read.
-    pub(crate) fn forget(&mut self)
-        ensures order { self.new.order ≡ self.old.order }
-        ensures none { ((seen self.new.keys).spans ≡ []) × ((seen self.new.keys).bytes ≡ [])
-            × ((seen self.new.keys).levels ≡ []) }
-    {
-        self.keys.forget();
-    }
-
     // The head of the item that is due, as the events tell it, and how many containers are open
     // behind it.
     pub(crate) fn admit_head(
@@ -102,6 +79,7 @@ impl OpenItems {
         ensures order { self.new.order ≡ self.old.order }
         ensures answers { AnswersHead self.old self.new event.now «open» taken result }
         ensures against { IfErr result (λ f. IsAgainstEvent self.old.order f.reason) }
+        ensures read { IfErr result (λ f. f.read ≡ taken) }
     {
         match fault_of(event) {
             Some(reason) => return Err(Refusal::new(reason, event.place, taken)),
@@ -141,6 +119,7 @@ impl OpenItems {
         ensures order { self.new.order ≡ self.old.order }
         ensures answers { AnswersBegun self.old self.new kind «open» taken result }
         ensures against { IfErr result (λ f. IsAgainstEvent self.old.order f.reason) }
+        ensures read { IfErr result (λ f. f.read ≡ taken) }
     {
         match what_begins(kind) {
             Begun::Leaf => return self.end_item(open, taken),
@@ -176,6 +155,7 @@ impl OpenItems {
         ensures order { self.new.order ≡ self.old.order }
         ensures answers { AnswersPart self.old self.new piece.now «open» taken result }
         ensures against { IfErr result (λ f. IsAgainstEvent self.old.order f.reason) }
+        ensures read { IfErr result (λ f. f.read ≡ taken) }
     {
         match self.keys.keep(piece) {
             Ok(()) => {}
@@ -232,6 +212,7 @@ impl OpenItems {
         ensures order { self.new.order ≡ self.old.order }
         ensures answers { AnswersEnd self.old self.new «open» taken result }
         ensures against { IfErr result (λ f. IsAgainstEvent self.old.order f.reason) }
+        ensures read { IfErr result (λ f. f.read ≡ taken) }
     {
         self.keys.close(open);
         match self.keys.due() {
@@ -253,16 +234,7 @@ impl OpenItems {
 fn number_of(major: Major) -> u8
     ensures { result ≡ major_number major }
 {
-    match major {
-        Major::Unsigned => 0,
-        Major::Negative => 1,
-        Major::Bytes => 2,
-        Major::Text => 3,
-        Major::Array => 4,
-        Major::Map => 5,
-        Major::Tag => 6,
-        Major::Simple => 7,
-    }
+    major as u8
 }
 
 // The type and the argument of a definite head.

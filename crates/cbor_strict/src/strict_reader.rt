@@ -13,12 +13,16 @@ ghost use Rattle.cbor_judging.specs.Readers.{HasNoCanonicalFront, Loses};
 ghost use Rattle.cbor_judging.specs.Refusals.{IsReaderReason};
 ghost use Rattle.cbor_strict.specs.StrictReader.{StrictReaderView, StandsStrictly};
 ghost use Rattle.cbor_strict.specs.StrictReader.{IsNextStrict, limits_of, strict_call};
+ghost use Rattle.cbor_strict.specs.inner.LastKeys.{seen};
+ghost use Rattle.cbor_strict.specs.inner.StrictEvents.{StandsSomewhere, IsLittle, bounds_of};
+ghost use Rattle.cbor_strict.specs.inner.StrictEvents.{piece_unless};
 
-use crate::strict_events::StrictEvents;
+use crate::open_items::OpenItems;
+use crate::strict_events::next_event;
 use crate::strict_front::read_strict_front;
 use cbor_automaton::Event;
 use cbor_events::ItemEvents;
-use cbor_head::{KeyOrder, Limits, Refusal};
+use cbor_head::{KeyOrder, Keys, Limits, Refusal};
 use std::alloc::Global;
 use std::io::Read;
 use std::marker::Model;
@@ -100,13 +104,38 @@ pub fn read_strict_by<R: Read>(
 #[derive(Drop)]
 pub struct StrictReader<R> {
     reader: R,
-    events: StrictEvents,
+    events: ItemEvents,
+    items: OpenItems,
+    keys: Keys,
+    refusal: Option<Refusal>,
 }
 
 impl<R> Model for StrictReader<R> {
     ghost Value = { StrictReaderView R };
 
-    ghost view = { λ e. record { reader = e.reader; events = e.events } };
+    ghost view = { λ e. record {
+      reader = e.reader;
+      events = record {
+        machine = e.events.machine;
+        piece = piece_unless e.refusal e.events.piece;
+        order = e.items.order;
+        keys = e.keys;
+        spans = length (seen e.items.keys).spans;
+        kept = length (seen e.items.keys).bytes;
+        refusal = e.refusal;
+        inner = record { events = e.events; items = e.items };
+      };
+    } };
+
+    ghost invariant = { λ e. record {
+      stands : e.refusal ≡ None → StandsSomewhere e.keys e.items e.events;
+      stopped : IfSome e.refusal (λ f. (f.read ≡ e.events.machine.taken)
+          × IsReaderReason (bounds_of e.events.machine e.keys) (strict e.items.order) f.reason
+          × (length (seen e.items.keys).spans ≡ 0) × (length (seen e.items.keys).bytes ≡ 0));
+      within : e.events.machine.open_count ≤ e.events.machine.depth;
+      limited : e.events.machine.taken ≤ e.events.machine.bytes;
+      little : IsLittle e.items e.events;
+    } };
 }
 
 impl<R: Read> StrictReader<R> {
@@ -122,7 +151,10 @@ impl<R: Read> StrictReader<R> {
     {
         StrictReader {
             reader,
-            events: StrictEvents::new(alloc, limits, order),
+            events: ItemEvents::new(limits),
+            items: OpenItems::new(alloc, order),
+            keys: limits.keys(),
+            refusal: None,
         }
     }
 
@@ -154,7 +186,23 @@ impl<R: Read> StrictReader<R> {
         ensures again { IfSome self.old.events.refusal
             (λ f. (result ≡ Err f) × (self.new ≡ self.old)) }
     {
-        self.events.next(&mut self.reader)
+        match self.refusal {
+            Some(refusal) => return Err(refusal),
+            None => {}
+        }
+        match next_event(
+            &mut self.events,
+            &mut self.items,
+            self.keys,
+            &mut self.reader,
+        ) {
+            Ok(event) => Ok(event),
+            Err(refusal) => {
+                self.refusal = Some(refusal);
+                self.items.keys.forget();
+                Err(refusal)
+            }
+        }
     }
 
     /// The bytes of the last `Piece`; none before one, and none after a refusal.
@@ -162,7 +210,10 @@ impl<R: Read> StrictReader<R> {
         ensures piece { result.now ≡ self.now.events.piece }
         ensures within { length result.now ≤ 512 }
     {
-        self.events.piece()
+        match self.refusal {
+            None => self.events.piece(),
+            Some(_) => &[],
+        }
     }
 
     /// How many arrays, maps and tags are open: from its head until its last member.
@@ -188,7 +239,7 @@ impl<R: Read> StrictReader<R> {
         ensures within { result ≤ self.now.events.machine.open_count }
         ensures limited { result ≤ self.now.events.machine.depth }
     {
-        self.events.spans()
+        self.items.keys.spans()
     }
 
     /// How many bytes of keys are kept: those of the last complete key of each open map and of the
@@ -197,6 +248,6 @@ impl<R: Read> StrictReader<R> {
         ensures count { result ≡ self.now.events.kept }
         ensures within { result ≤ self.now.events.machine.taken }
     {
-        self.events.kept()
+        self.items.keys.kept() as u64
     }
 }

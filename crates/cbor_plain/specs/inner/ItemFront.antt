@@ -1,13 +1,10 @@
 -- What is told of the item at the front of an input, part by part, by the plain rules.
-use Rattle.std.specs.Prelude.{ℕ, ◌≡◌, ◌+◌, ◌<◌, ◌≤◌, ◌++◌, Bool, true, false, List, [], ◌∷◌, length, map, Option, None, Result, MatchResult, IsSome}
+use Rattle.std.specs.Prelude.{ℕ, ◌≡◌, ◌<◌, ◌++◌, Bool, true, false, List, length, map, Option, Result, MatchResult}
 use Rattle.std.specs.Io.KnownBytes.{Consumes}
-use Rattle.cbor_head.specs.Prelude.{Rules, plain, complaint, OfKinds, Bounds, Spelling, spell, refusal}
-use Rattle.cbor_head.specs.Laws.{StartsWith}
-use Rattle.cbor_head.specs.declared.reason.Reason.TheVariants.{KeyKind}
+use Rattle.cbor_head.specs.Prelude.{plain, Bounds, Spelling, spell}
 use Rattle.cbor_head.specs.declared.reason.Refusal.{Refusal}
 use Rattle.cbor_automaton.specs.declared.event.Event.{Event}
 use Rattle.cbor_events.specs.NextKey.{IsBasicKind}
-use Rattle.cbor_judging.specs.Judged.{IsJudged}
 use Rattle.cbor_judging.specs.Kinds.{AsksForKinds, KeepsToKinds, IsKeyDueIn}
 use Rattle.cbor_judging.specs.Place.{at_item, done as at_end}
 use Rattle.cbor_standing.specs.NextEvent.{ItemEventsView}
@@ -16,8 +13,9 @@ use Rattle.cbor_plain.specs.inner.HeldKeys.{AreHeld}
 use Rattle.cbor_judging.specs.Levels.{IsTaken, Level, frame, AreLevels, bytes_before, item_due, item_whole}
 use Rattle.cbor_judging.specs.Given.{opens}
 use Rattle.cbor_plain.specs.inner.PlainItems.{AreApart, HaveBegun, sets}
-use Rattle.cbor_judging.specs.Reading.{IsAt, IsMemory, IsReached, IsUndecided, HasCause, IsNextHead}
+use Rattle.cbor_judging.specs.Reading.{IsAt, IsNextHead}
 use Rattle.cbor_plain.specs.TreeValues.{IsTreeAt}
+use Rattle.cbor_judging.specs.Stopped.{IsStopped}
 
 -- an item is due, behind the bytes t, and nothing read has a complaint
 pub record IsDueAt (v : PlainItems) (b : Bounds) (e : ItemEventsView) (t : List ℕ) : Type 0 where
@@ -57,33 +55,6 @@ pub record TakesNext (more : Bool) (v : PlainItems) (b : Bounds) (e : ItemEvents
   pub some : 0 < length bytes
   pub consumed : Consumes from to bytes
   pub stands : GoesOnOrNot more v b e (t ++ bytes)
-
--- of a key of another kind the last of these bytes is the first, and nothing before it has a complaint
-pub record EndInOtherKey (r : Rules) (b : Bounds) (bytes : List ℕ) (f : Refusal) : Type 0 where
-  pub p : List ℕ
-  pub first : ℕ
-  pub splits : bytes ≡ p ++ first ∷ []
-  pub within : length bytes ≤ b.bytes
-  pub asked : AsksForKinds b r
-  pub judged : IsJudged r 0 b.depth p None
-  pub keeps : KeepsToKinds b r p
-  pub item : Spelling
-  pub begins : StartsWith b.depth item (p ++ first ∷ [])
-  pub complains : OfKinds 0 item (complaint (length p + 1) (length p) KeyKind)
-  pub is : f ≡ refusal KeyKind (length p) (length p + 1)
-
--- Why the bytes are refused that were taken. Where they are known, no key of another kind begins before what refuses them.
-pub data WhyStopped (r : Rules) (b : Bounds) (bytes : List ℕ) (from to : Option (List ℕ)) (f : Refusal) : Type 0 where
-  for_memory : IsMemory f → IsReached b bytes → (u : IsUndecided r b [] [] bytes) → (IsSome from → KeepsToKinds b r u.p) → WhyStopped r b bytes from to f
-  for_cause : (h : HasCause r b [] [] bytes to f) → (IsSome from → KeepsToKinds b r h.p) → WhyStopped r b bytes from to f
-  for_kind : EndInOtherKey r b bytes f → WhyStopped r b bytes from to f
-
--- it is refused, with these bytes taken
-pub record IsStopped (r : Rules) (b : Bounds) (t : List ℕ) (from to : Option (List ℕ)) (f : Refusal) : Type 0 where
-  pub bytes : List ℕ
-  pub consumed : Consumes from to bytes
-  pub read : f.read ≡ length (t ++ bytes)
-  pub why : WhyStopped r b (t ++ bytes) from to f
 
 -- the head of the item that is due, or a break: of a key whose kind is asked for, it is of an integer or a text
 pub record IsNextDue (b : Bounds) (ls : List Level) (t : List ℕ) (e : Event) (from to : Option (List ℕ)) (new : ItemEventsView) : Type 0 where

@@ -1,5 +1,6 @@
 -- What a part of an item is that was read, by the plain rules.
-use Rattle.std.specs.Prelude.{ℕ, ◌≡◌, ◌≢◌, ◌++◌, true, IsUtf8, List, Option, Some, None, Result, MatchResult}
+use Rattle.std.specs.Prelude.{ℕ, ◌≡◌, ◌≢◌, ◌++◌, Bool, true, IsUtf8, List, Option, Some, None, Result, MatchResult, Vec}
+use Rattle.std.specs.Global.{Global}
 use Rattle.cbor_head.specs.Prelude.{plain, IsSimple, Bounds, Value}
 use Rattle.cbor_head.specs.Value as value
 use Rattle.cbor_head.specs.declared.major.Major.{Major}
@@ -13,7 +14,7 @@ use Rattle.cbor_automaton.specs.declared.event.EventKind.{EventKind}
 use Rattle.cbor_automaton.specs.declared.event.EventKind.TheVariants as kinds
 use Rattle.cbor_plain.specs.declared.plain_part.Part.{Part}
 use Rattle.cbor_plain.specs.declared.plain_part.Part.TheVariants.{Leaf, String, Begin, Break}
-use Rattle.cbor_judging.specs.Reading.{IsAt, ReadsItem, StopsItem, string_value}
+use Rattle.cbor_judging.specs.Reading.{IsAt, IsBegun, ReadsItem, StopsItem, string_kind, string_value}
 
 -- an event came where an item was due within these containers, behind t: its bytes are x
 pub record IsCome (b : Bounds) (fs : List Container) (t x : List ℕ) (e : ItemEventsView) (w : Width) (kind : EventKind) : Type 0 where
@@ -74,3 +75,9 @@ abbrev pub AnswersPart : ItemEventsView → EventKind → Option (List ℕ) → 
 AnswersPart e kind from to new result =
     (b : Bounds) (fs : List Container) (t x : List ℕ) (w : Width) → IsCome b fs t x e w kind
     → MatchResult result (ReadsPart b fs t x kind e new from to) (λ f. BeginsString kind × StopsItem plain b fs t x from to f)
+
+-- the content of a string whose head was read, which is UTF-8 where it is a text
+abbrev pub AnswersString : Bool → Option ℕ → ItemEventsView → Option (List ℕ) → Option (List ℕ) → ItemEventsView → Result (Vec ℕ Global) Refusal → Type 0
+AnswersString is_text length e from to new result =
+    (b : Bounds) (fs : List Container) (t x : List ℕ) (w : Width) → IsBegun plain b fs t x e w (string_kind is_text length)
+    → MatchResult result (λ v. ReadsItem plain b fs t x from to new (string_value is_text v.items) × (is_text ≡ true → IsUtf8 v.items)) (λ f. StopsItem plain b fs t x from to f)

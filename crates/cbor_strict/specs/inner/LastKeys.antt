@@ -105,12 +105,16 @@ IsFull (a_content w a k no_entries) = w ≢ Indefinite
 IsFull (tagged w n) = Unit {0}
 IsFull _ = ⊥
 
+-- a container that has a length
+abbrev pub HasLength : Frame → Type 0
+HasLength (a_member w a b) = w ≢ Indefinite
+HasLength (a_key w a v b) = w ≢ Indefinite
+HasLength (a_content w a k b) = w ≢ Indefinite
+HasLength (tagged w n) = Unit {0}
+
 abbrev pub AreDefinite : List Frame → Type 0
 AreDefinite [] = Unit {0}
-AreDefinite (a_member w a b ∷ fs) = (w ≢ Indefinite) × AreDefinite fs
-AreDefinite (a_key w a v b ∷ fs) = (w ≢ Indefinite) × AreDefinite fs
-AreDefinite (a_content w a k b ∷ fs) = (w ≢ Indefinite) × AreDefinite fs
-AreDefinite (tagged w n ∷ fs) = AreDefinite fs
+AreDefinite (f ∷ fs) = HasLength f × AreDefinite fs
 
 -- the containers that are open behind the last item in the innermost of them
 abbrev pub still_open : List Frame → List Frame

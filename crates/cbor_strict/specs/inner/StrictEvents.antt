@@ -1,6 +1,5 @@
 -- What is told of the item at the front of an input, event by event, by the strict rules.
 use Rattle.std.specs.Prelude.{◌≡◌, ℕ, ◌<◌, ◌≤◌, ◌++◌, Bool, true, false, List, [], length, Option, Some, None, Result, MatchResult, IfSome}
-use Rattle.std.specs.Io.KnownBytes.{Consumes}
 use Rattle.cbor_head.specs.Prelude.{Rules, strict, Bounds, bounds, with_keys}
 use Rattle.cbor_head.specs.declared.keys.Keys.{Keys}
 use Rattle.cbor_head.specs.declared.order.KeyOrder.{KeyOrder}
@@ -13,8 +12,8 @@ use Rattle.cbor_events.specs.NextKey.{IsNextKey}
 use Rattle.cbor_automaton.specs.declared.event.Event.{Event}
 use Rattle.cbor_strict.specs.declared.open_items.OpenItems.{OpenItems}
 use Rattle.cbor_judging.specs.Kinds.{KeepsToKinds}
-use Rattle.cbor_judging.specs.Readers.{IsRead, IsUnread, Loses}
-use Rattle.cbor_judging.specs.Refusals.{IsReaderReason}
+use Rattle.cbor_judging.specs.Readers.{IsRead, Loses}
+use Rattle.cbor_judging.specs.Stopped.{IsStopped}
 use Rattle.cbor_strict.specs.inner.LastKeys.{seen}
 use Rattle.cbor_strict.specs.inner.OpenItems.{Stands, IsOver}
 
@@ -52,19 +51,10 @@ abbrev pub IsStep : Option Event → OpenItems → Bounds → ItemEventsView →
 IsStep (Some event) v b e after t from to = GoesOn v b e after t from to event
 IsStep None v b e after t from to = HasCome v b e after t from to
 
--- it is refused, with these bytes taken
-pub record IsStopped (r : Rules) (b : Bounds) (e : ItemEventsView) (t : List ℕ) (from to : Option (List ℕ)) (f : Refusal) : Type 0 where
-  pub unfinished : ¬ IsComplete e.machine
-  pub bytes : List ℕ
-  pub consumed : Consumes from to bytes
-  pub read : f.read ≡ length (t ++ bytes)
-  pub reason : IsReaderReason b r f.reason
-  pub unread : IfSome from (λ rest. IsUnread b r (t ++ rest) f)
-
 abbrev pub AnswersStep : Keys → OpenItems → OpenItems → ItemEventsView → ItemEventsView → Option (List ℕ) → Option (List ℕ) → Result (Option Event) Refusal → Type 0
 AnswersStep keys old new e after from to result =
     (b : Bounds) (t : List ℕ) → b.keys ≡ keys → Stands old b e t → KeepsToKinds b (strict old.order) t
-    → MatchResult result (λ told. IsStep told new b e after t from to) (λ f. IsStopped (strict old.order) b e t from to f)
+    → MatchResult result (λ told. IsStep told new b e after t from to) (λ f. ¬ IsComplete e.machine × IsStopped (strict old.order) b t from to f)
 
 -- at most a frame and a span for each open container, and no byte that was not read
 pub record IsLittle (v : OpenItems) (e : ItemEventsView) : Type 0 where

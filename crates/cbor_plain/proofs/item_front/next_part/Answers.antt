@@ -1,8 +1,10 @@
-use Rattle.std.proofs.Common.{◌++◌, ◌∙◌, ℕ, slice_get, map, ap, refl, arith, length-append}
-use Rattle.cbor_head.specs.Prelude.{refusal}
+use Rattle.std.proofs.Common.{◌++◌, ◌∙◌, ℕ, slice_get, map, ap, refl, inr, arith, length-append}
+use Rattle.cbor_head.specs.Prelude.{plain, refusal}
 use Rattle.cbor_head.specs.declared.reason.Reason.TheVariants.{RepeatedKey}
 use Rattle.cbor_head.specs.declared.reason.Refusal.{Refusal}
 use Rattle.cbor_judging.specs.Levels.{frame}
+use Rattle.cbor_judging.proofs.Steps.{at-reached}
+use Rattle.cbor_judging.proofs.Stopped.{stopped_behind}
 use Rattle.cbor_plain.proofs.TreeValues.{tree-takes}
 use Rattle.cbor_plain.proofs.PartsTaken.{refused-part, came, part-taken, part-fits, part-no-memory}
 use Rattle.cbor_plain.proofs.PartEnds.{repeated-key, goes-or-not}
@@ -91,14 +93,12 @@ returns-in-Ok-Some g c = λ b t d.
     let ended = c.in-Ok-end_full.ensures.ends b c.read_part.new.events (t ++ k.bytes) ending c.open-open.ensures.count in
     let key = rw c.in-Ok-Some.field-0-is at (c.in-Ok-Some.ensures.answers ended.held) in
     let told = c.new.ensures ∙ ap (λ (x : ℕ). refusal RepeatedKey c.in-Ok-Some.place x) c.taken.ensures.taken in
-    record {
-      bytes = k.bytes;
-      consumed = k.consumed;
+    stopped_behind plain b t _ _ c.new.result k.bytes k.consumed (at-reached b c.read_part.new.events (t ++ k.bytes) ended.q ended.at).begins ended.keeps (record {
       read = ap (λ (x : Refusal). x.read) told ∙ k.at.stands.stands.taken;
-      why = repeated-key c.end_full.new.self b c.read_part.new.events (t ++ k.bytes) ended (omega (arith, k.some, length-append t k.bytes)) c.in-Ok-Some.place c.new.result key.0
+      why = inr (repeated-key c.end_full.new.self b c.read_part.new.events (t ++ k.bytes) ended (omega (arith, k.some, length-append t k.bytes)) c.in-Ok-Some.place c.new.result key.0
           (λ at is. key.1 at (ap (λ (i : ℕ). slice_get c.end_full.new.self.starts.items i) c.open-open.ensures.count ∙ is))
-          told _ _;
-    }
+          told _);
+    })
 
 pub returns-in-Err-repeated : goal.returns-in-Err-repeated
 returns-in-Err-repeated g c = λ b t d.

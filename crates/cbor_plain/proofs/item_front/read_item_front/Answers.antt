@@ -1,8 +1,9 @@
 use Rattle.std.proofs.Common.{[], ◌∙◌, subst, sym, arith}
 use Rattle.cbor_head.specs.Prelude.{plain, Value}
 use Rattle.cbor_plain.specs.Front.{IsFrontRead}
+use Rattle.cbor_judging.proofs.Stopped.{stopped_front}
 use Rattle.cbor_judging.proofs.Tops.{starts-at}
-use Rattle.cbor_plain.proofs.PlainSteps.{due-first, front-whole, front-stopped}
+use Rattle.cbor_plain.proofs.PlainSteps.{due-first, front-whole}
 use Rattle.cbor_plain.proofs.TreeValues.{whole-in}
 use Rattle.cbor_plain.proofs.item_front.read_item_front.Goals as goal
 
@@ -29,7 +30,7 @@ returns-in-Ok-clause-front g c =
 
 pub returns-in-Err-clause-front : goal.returns-in-Err-clause-front
 returns-in-Err-clause-front g c =
-    front-stopped c.args.limits _ _ c.in-Err.refusal (c.in-Err.ensures c.args.limits [] (due-first c.new-items.result c.args.limits c.restart.new.self c.new-items.ensures.built c.new-items.ensures.tree c.new-items.ensures.held (c.new-items.ensures.kinds ∙ c.keys.ensures)
+    stopped_front plain c.args.limits c.in-Err.refusal _ _ (c.in-Err.ensures c.args.limits [] (due-first c.new-items.result c.args.limits c.restart.new.self c.new-items.ensures.built c.new-items.ensures.tree c.new-items.ensures.held (c.new-items.ensures.kinds ∙ c.keys.ensures)
     (starts-at c.args.limits c.restart.new.self (omega arith, omega arith) c.restart.ensures.live (c.restart.ensures.limits.depth ∙ c.requires.0, c.restart.ensures.limits.bytes ∙ c.requires.1) c.restart.ensures.starts)))
 
 pub returns-in-Ok-clause-limits : goal.returns-in-Ok-clause-limits

@@ -1,6 +1,8 @@
 use Rattle.std.proofs.Common.{◌++◌, subst}
+use Rattle.cbor_head.specs.Prelude.{plain}
+use Rattle.cbor_judging.proofs.Stopped.{stopped_from}
 use Rattle.cbor_plain.specs.inner.ItemFront.{TakesNext}
-use Rattle.cbor_plain.proofs.PlainSteps.{takes-none, takes-on, takes-farther, takes-all, takes-stopped}
+use Rattle.cbor_plain.proofs.PlainSteps.{takes-none, takes-on, takes-farther, takes-all}
 use Rattle.cbor_plain.proofs.item_front.read_parts.Goals as goal
 
 pub parts-init : goal.parts-init
@@ -34,4 +36,4 @@ returns-in-Ok-false g c = λ b t d.
 pub returns-in-Err : goal.returns-in-Err
 returns-in-Err g c = λ b t d.
     let h = c.parts.invariant b t d in
-    takes-stopped c.parts.items c.next_part.new.items b c.parts.events c.next_part.new.events t _ _ _ h c.in-Err.refusal (c.in-Err.ensures b (t ++ h.bytes) h.due)
+    stopped_from plain b c.in-Err.refusal t h.bytes _ _ _ h.consumed (c.in-Err.ensures b (t ++ h.bytes) h.due)

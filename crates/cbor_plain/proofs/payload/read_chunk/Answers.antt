@@ -21,11 +21,7 @@ slice_bounds-check_text-count g c =
     omega (arith, grown, old, ap length c.deref.ensures.value)
 
 pub slice_bounds-check_text-start : goal.slice_bounds-check_text-start
-slice_bounds-check_text-start g c =
-    let s = c.requires in
-    let grown = grown-length s.b _ s.t c.args.count c.args.into.now.items c.read_payload.new.into.items _ _ c.read_payload.new.events (c.in-Ok.ensures s.b s.chunk s.m s.fs s.t s.at).0 in
-    let old : c.len-from.result ≡ length c.args.into.now.items = c.len-from.ensures ∙ c.args.into.now.ok.0 in
-    omega (arith, grown, old, ap length c.deref.ensures.value)
+slice_bounds-check_text-start g c = slice_bounds-check_text-count g c
 
 pub returns-in-Ok-check_text : goal.returns-in-Ok-check_text
 returns-in-Ok-check_text g c = λ b chunk m fs t a.

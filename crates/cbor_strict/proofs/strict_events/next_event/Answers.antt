@@ -4,12 +4,13 @@ use Rattle.std.specs.Io.KnownBytes.{Consumes}
 use Rattle.cbor_standing.specs.NextEvent.{call}
 use Rattle.cbor_judging.specs.Kinds.{KeepsToKinds}
 use Rattle.cbor_judging.proofs.Payloads.{IsPiece}
-use Rattle.cbor_judging.proofs.Steps.{limits-as}
+use Rattle.cbor_judging.proofs.Steps.{at-reached, limits-as}
+use Rattle.cbor_judging.proofs.Stopped.{stopped_behind}
 use Rattle.cbor_strict.specs.inner.OpenItems.{Stands, HasPartCome}
 use Rattle.cbor_strict.specs.inner.StrictEvents.{IsNextOf}
 use Rattle.cbor_strict.proofs.StrictReading.{by_event, small_piece}
-use Rattle.cbor_strict.proofs.StrictSteps.{head_told, piece_told, end_told, head_keeps, piece_keeps, begun, of_told, of_end, live_of, piece_is}
-use Rattle.cbor_strict.proofs.StrictStops.{stopped_there, stopped_behind, no_payload, at_once_there}
+use Rattle.cbor_strict.proofs.StrictSteps.{head_told, piece_told, end_told, head_keeps, piece_keeps, of_told, of_end, live_of, piece_is}
+use Rattle.cbor_strict.proofs.StrictStops.{stopped_there, no_payload, at_once_there}
 use Rattle.cbor_strict.proofs.strict_events.next_event.Goals as goal
 
 pub next_of-requires-clause-live : goal.next_of-requires-clause-live
@@ -51,16 +52,11 @@ returns-in-Ok-clause-answers g c = λ b t same s keeps.
 pub returns-in-Err-admit_piece-clause-answers : goal.returns-in-Err-admit_piece-clause-answers
 returns-in-Err-admit_piece-clause-answers g c = λ b t same s keeps.
     let k = piece_told c.args.items.now b c.args.events.now c.next_of.new.events t (g.R.Read.remaining c.args.reader.now) (g.R.Read.remaining c.next_of.new.reader) (limits-as _ _ c.next_of.ensures.limits) c.in-Ok-Some.ensures.live c.in-Ok-Some.event s (λ u ms st. (of_told c.asks-is_asked.result c.in-Ok-Some.event (call c.args.events.now c.next_of.new.events (g.R.Read.remaining c.args.reader.now) (g.R.Read.remaining c.next_of.new.reader) u ms) (subst (λ x. IsNextOf c.asks-is_asked.result (Ok x) (call c.args.events.now c.next_of.new.events (g.R.Read.remaining c.args.reader.now) (g.R.Read.remaining c.next_of.new.reader) u ms)) c.in-Ok-Some.field-0-is (c.in-Ok-Some.ensures.answers u ms st))).0) (subst IsPiece (sym c.in-Piece.is) tt) in
-    let come = (subst (λ x. HasPartCome c.args.items.now b c.args.events.now t x c.next_of.new.events) (sym c.piece.ensures.piece) k.come) in
-    stopped_behind c.args.items.now.order b c.args.events.now t (g.R.Read.remaining c.args.reader.now) (g.R.Read.remaining c.next_of.new.reader) c.in-Err-admit_piece.refusal c.piece.result.now k.next.unfinished (subst (Consumes (g.R.Read.remaining c.args.reader.now) (g.R.Read.remaining c.next_of.new.reader)) (k.bytes_are ∙ sym c.piece.ensures.piece) k.next.consumed) (begun b c.next_of.new.events _ _ come.at)
-    (piece_keeps c.args.items.now b c.args.events.now t _ c.next_of.new.events come keeps) (c.in-Err-admit_piece.ensures.answers b c.args.events.now t c.next_of.new.events come c.open-open.ensures.count c.taken-taken.ensures.taken (g.R.Read.remaining c.next_of.new.reader))
-
-pub returns-in-Err-admit_piece-clause-taken : goal.returns-in-Err-admit_piece-clause-taken
-returns-in-Err-admit_piece-clause-taken g c =
-    let r = c.requires in
-    let k = piece_told c.args.items.now r.b c.args.events.now c.next_of.new.events r.t (g.R.Read.remaining c.args.reader.now) (g.R.Read.remaining c.next_of.new.reader) (limits-as _ _ c.next_of.ensures.limits) c.in-Ok-Some.ensures.live c.in-Ok-Some.event r.stands (λ u ms st. (of_told c.asks-is_asked.result c.in-Ok-Some.event (call c.args.events.now c.next_of.new.events (g.R.Read.remaining c.args.reader.now) (g.R.Read.remaining c.next_of.new.reader) u ms) (subst (λ x. IsNextOf c.asks-is_asked.result (Ok x) (call c.args.events.now c.next_of.new.events (g.R.Read.remaining c.args.reader.now) (g.R.Read.remaining c.next_of.new.reader) u ms)) c.in-Ok-Some.field-0-is (c.in-Ok-Some.ensures.answers u ms st))).0) (subst IsPiece (sym c.in-Piece.is) tt) in
-    let come = (subst (λ x. HasPartCome c.args.items.now r.b c.args.events.now r.t x c.next_of.new.events) (sym c.piece.ensures.piece) k.come) in
-    come.at.stands.stands.taken ∙ sym (c.in-Err-admit_piece.ensures.answers r.b c.args.events.now r.t c.next_of.new.events come c.open-open.ensures.count c.taken-taken.ensures.taken (g.R.Read.remaining c.next_of.new.reader)).read
+    let come = (subst (λ x. HasPartCome c.args.items.now b c.args.events.now t x c.next_of.new.events) (sym c.piece.ensures.piece) k.come) in (
+      k.next.unfinished,
+      stopped_behind (strict c.args.items.now.order) b t (g.R.Read.remaining c.args.reader.now) (g.R.Read.remaining c.next_of.new.reader) c.in-Err-admit_piece.refusal c.piece.result.now (subst (Consumes (g.R.Read.remaining c.args.reader.now) (g.R.Read.remaining c.next_of.new.reader)) (k.bytes_are ∙ sym c.piece.ensures.piece) k.next.consumed) (at-reached b c.next_of.new.events _ _ come.at).begins
+          (piece_keeps c.args.items.now b c.args.events.now t _ c.next_of.new.events come keeps) (c.in-Err-admit_piece.ensures.answers b c.args.events.now t c.next_of.new.events come c.open-open.ensures.count c.taken-taken.ensures.taken (g.R.Read.remaining c.next_of.new.reader)),
+    )
 
 pub admit_head-requires : goal.admit_head-requires
 admit_head-requires g c =
@@ -82,15 +78,11 @@ returns-in-Ok-admit_head-clause-answers g c = λ b t same s keeps.
 
 pub returns-in-Err-admit_head-clause-answers : goal.returns-in-Err-admit_head-clause-answers
 returns-in-Err-admit_head-clause-answers g c = λ b t same s keeps.
-    let k = head_told c.args.items.now b c.args.events.now c.next_of.new.events t (g.R.Read.remaining c.args.reader.now) (g.R.Read.remaining c.next_of.new.reader) (limits-as _ _ c.next_of.ensures.limits) c.in-Ok-Some.ensures.live c.in-Ok-Some.event s (λ ms st. (of_told c.asks-is_asked.result c.in-Ok-Some.event (call c.args.events.now c.next_of.new.events (g.R.Read.remaining c.args.reader.now) (g.R.Read.remaining c.next_of.new.reader) t ms) (subst (λ x. IsNextOf c.asks-is_asked.result (Ok x) (call c.args.events.now c.next_of.new.events (g.R.Read.remaining c.args.reader.now) (g.R.Read.remaining c.next_of.new.reader) t ms)) c.in-Ok-Some.field-0-is (c.in-Ok-Some.ensures.answers t ms st))).0) (λ y. let z = piece_is c.in-Ok-Some.event.kind y in c.in_default.not-Piece z.0 z.1) in
-    stopped_behind c.args.items.now.order b c.args.events.now t (g.R.Read.remaining c.args.reader.now) (g.R.Read.remaining c.next_of.new.reader) c.in-Err-admit_head.refusal k.next.bytes k.next.unfinished k.next.consumed (begun b c.next_of.new.events _ _ k.come.at)
-    (head_keeps c.args.items.now b c.in-Ok-Some.event t k.next.bytes c.next_of.new.events k.come keeps (λ asked due. (of_told c.asks-is_asked.result c.in-Ok-Some.event (call c.args.events.now c.next_of.new.events (g.R.Read.remaining c.args.reader.now) (g.R.Read.remaining c.next_of.new.reader) t k.marks) (subst (λ x. IsNextOf c.asks-is_asked.result (Ok x) (call c.args.events.now c.next_of.new.events (g.R.Read.remaining c.args.reader.now) (g.R.Read.remaining c.next_of.new.reader) t k.marks)) c.in-Ok-Some.field-0-is (c.in-Ok-Some.ensures.answers t k.marks k.between))).1 ((c.asks-is_asked.ensures.due k.come.fs [] k.come.kept k.come.none).1 (sym same ∙ asked.1, due)))) (c.in-Err-admit_head.ensures.answers b t k.next.bytes c.next_of.new.events k.come c.open-open.ensures.count c.taken-taken.ensures.taken (g.R.Read.remaining c.next_of.new.reader))
-
-pub returns-in-Err-admit_head-clause-taken : goal.returns-in-Err-admit_head-clause-taken
-returns-in-Err-admit_head-clause-taken g c =
-    let r = c.requires in
-    let k = head_told c.args.items.now r.b c.args.events.now c.next_of.new.events r.t (g.R.Read.remaining c.args.reader.now) (g.R.Read.remaining c.next_of.new.reader) (limits-as _ _ c.next_of.ensures.limits) c.in-Ok-Some.ensures.live c.in-Ok-Some.event r.stands (λ ms st. (of_told c.asks-is_asked.result c.in-Ok-Some.event (call c.args.events.now c.next_of.new.events (g.R.Read.remaining c.args.reader.now) (g.R.Read.remaining c.next_of.new.reader) r.t ms) (subst (λ x. IsNextOf c.asks-is_asked.result (Ok x) (call c.args.events.now c.next_of.new.events (g.R.Read.remaining c.args.reader.now) (g.R.Read.remaining c.next_of.new.reader) r.t ms)) c.in-Ok-Some.field-0-is (c.in-Ok-Some.ensures.answers r.t ms st))).0) (λ y. let z = piece_is c.in-Ok-Some.event.kind y in c.in_default.not-Piece z.0 z.1) in
-    k.come.at.stands.stands.taken ∙ sym (c.in-Err-admit_head.ensures.answers r.b r.t k.next.bytes c.next_of.new.events k.come c.open-open.ensures.count c.taken-taken.ensures.taken (g.R.Read.remaining c.next_of.new.reader)).read
+    let k = head_told c.args.items.now b c.args.events.now c.next_of.new.events t (g.R.Read.remaining c.args.reader.now) (g.R.Read.remaining c.next_of.new.reader) (limits-as _ _ c.next_of.ensures.limits) c.in-Ok-Some.ensures.live c.in-Ok-Some.event s (λ ms st. (of_told c.asks-is_asked.result c.in-Ok-Some.event (call c.args.events.now c.next_of.new.events (g.R.Read.remaining c.args.reader.now) (g.R.Read.remaining c.next_of.new.reader) t ms) (subst (λ x. IsNextOf c.asks-is_asked.result (Ok x) (call c.args.events.now c.next_of.new.events (g.R.Read.remaining c.args.reader.now) (g.R.Read.remaining c.next_of.new.reader) t ms)) c.in-Ok-Some.field-0-is (c.in-Ok-Some.ensures.answers t ms st))).0) (λ y. let z = piece_is c.in-Ok-Some.event.kind y in c.in_default.not-Piece z.0 z.1) in (
+      k.next.unfinished,
+      stopped_behind (strict c.args.items.now.order) b t (g.R.Read.remaining c.args.reader.now) (g.R.Read.remaining c.next_of.new.reader) c.in-Err-admit_head.refusal k.next.bytes k.next.consumed (at-reached b c.next_of.new.events _ _ k.come.at).begins
+          (head_keeps c.args.items.now b c.in-Ok-Some.event t k.next.bytes c.next_of.new.events k.come keeps (λ asked due. (of_told c.asks-is_asked.result c.in-Ok-Some.event (call c.args.events.now c.next_of.new.events (g.R.Read.remaining c.args.reader.now) (g.R.Read.remaining c.next_of.new.reader) t k.marks) (subst (λ x. IsNextOf c.asks-is_asked.result (Ok x) (call c.args.events.now c.next_of.new.events (g.R.Read.remaining c.args.reader.now) (g.R.Read.remaining c.next_of.new.reader) t k.marks)) c.in-Ok-Some.field-0-is (c.in-Ok-Some.ensures.answers t k.marks k.between))).1 ((c.asks-is_asked.ensures.due k.come.fs [] k.come.kept k.come.none).1 (sym same ∙ asked.1, due)))) (c.in-Err-admit_head.ensures.answers b t k.next.bytes c.next_of.new.events k.come c.open-open.ensures.count c.taken-taken.ensures.taken (g.R.Read.remaining c.next_of.new.reader)),
+    )
 
 pub returns-in-Err-clause-at_once : goal.returns-in-Err-clause-at_once
 returns-in-Err-clause-at_once g c = λ t ms st. at_once_there c.asks-is_asked.result c.args.items.now.order c.in-Err.refusal c.args.events.now c.next_of.new.events (g.R.Read.remaining c.args.reader.now) (g.R.Read.remaining c.next_of.new.reader) t ms (c.in-Err.ensures.answers t ms st)
@@ -99,9 +91,9 @@ pub returns-in-Err-admit_piece-clause-at_once : goal.returns-in-Err-admit_piece-
 returns-in-Err-admit_piece-clause-at_once g c = λ t ms st.
     let n = (of_told c.asks-is_asked.result c.in-Ok-Some.event (call c.args.events.now c.next_of.new.events (g.R.Read.remaining c.args.reader.now) (g.R.Read.remaining c.next_of.new.reader) t ms) (subst (λ x. IsNextOf c.asks-is_asked.result (Ok x) (call c.args.events.now c.next_of.new.events (g.R.Read.remaining c.args.reader.now) (g.R.Read.remaining c.next_of.new.reader) t ms)) c.in-Ok-Some.field-0-is (c.in-Ok-Some.ensures.answers t ms st))).0 in
     by_event c.args.items.now.order c.in-Err-admit_piece.refusal c.in-Ok-Some.event _ n (small_piece c.in-Ok-Some.event _ _ n c.piece.ensures.piece c.piece.ensures.within)
-    (sym (returns-in-Err-admit_piece-clause-taken g c)) c.in-Err-admit_piece.ensures.against
+    (c.in-Err-admit_piece.ensures.read ∙ c.taken-taken.ensures.taken) c.in-Err-admit_piece.ensures.against
 
 pub returns-in-Err-admit_head-clause-at_once : goal.returns-in-Err-admit_head-clause-at_once
 returns-in-Err-admit_head-clause-at_once g c = λ t ms st.
     let n = (of_told c.asks-is_asked.result c.in-Ok-Some.event (call c.args.events.now c.next_of.new.events (g.R.Read.remaining c.args.reader.now) (g.R.Read.remaining c.next_of.new.reader) t ms) (subst (λ x. IsNextOf c.asks-is_asked.result (Ok x) (call c.args.events.now c.next_of.new.events (g.R.Read.remaining c.args.reader.now) (g.R.Read.remaining c.next_of.new.reader) t ms)) c.in-Ok-Some.field-0-is (c.in-Ok-Some.ensures.answers t ms st))).0 in
-    by_event c.args.items.now.order c.in-Err-admit_head.refusal c.in-Ok-Some.event _ n (λ k is. absurd (c.in_default.not-Piece k is)) (sym (returns-in-Err-admit_head-clause-taken g c)) c.in-Err-admit_head.ensures.against
+    by_event c.args.items.now.order c.in-Err-admit_head.refusal c.in-Ok-Some.event _ n (λ k is. absurd (c.in_default.not-Piece k is)) (c.in-Err-admit_head.ensures.read ∙ c.taken-taken.ensures.taken) c.in-Err-admit_head.ensures.against

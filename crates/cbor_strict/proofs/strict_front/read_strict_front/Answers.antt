@@ -33,4 +33,4 @@ returns-in-Ok-None-clause-front g c =
 pub returns-in-Err-clause-front : goal.returns-in-Err-clause-front
 returns-in-Err-clause-front g c =
     let h = c.events.invariant in
-    runs_stop c.args.order c.args.limits c.events.items c.next_event.new.items c.events.events c.next_event.new.events _ _ (g.R.Read.remaining c.next_event.new.reader) h c.in-Err.refusal (c.in-Err.ensures.answers c.args.limits h.t (sym c.keys.ensures) h.stands h.keeps)
+    runs_stop c.args.order c.args.limits c.events.items c.next_event.new.items c.events.events c.next_event.new.events _ _ (g.R.Read.remaining c.next_event.new.reader) h c.in-Err.refusal (c.in-Err.ensures.answers c.args.limits h.t (sym c.keys.ensures) h.stands h.keeps).1

@@ -1,12 +1,11 @@
 use Rattle.std.proofs.Common.{◌≡◌, ◌<◌, ◌+◌, ◌-◌, ℕ, zero, suc, List, [], ◌∷◌, ◌++◌, length, take, drop, IsTrue, ◌∙◌, true≢false, refl, sym, ap, subst, arith, take-append-drop, slice_index_or}
-use Rattle.std.proofs.lemmas.Bool.Decides.{nat_tests}
 use Rattle.cbor_head.specs.Prelude.{key_lt, Spelling, SpelledEntries, spell}
 use Rattle.cbor_head.specs.declared.order.KeyOrder.{KeyOrder}
-use Rattle.cbor_head.specs.declared.order.KeyOrder.TheVariants.{Bytewise, LengthFirst}
 use Rattle.cbor_head.specs.declared.width.Width.{Width}
 use Rattle.cbor_strict.specs.declared.last_keys.Span.{Span}
 use Rattle.cbor_judging.specs.Frame.{Frame, a_key, a_content}
 use Rattle.cbor_judging.specs.LastKey.{last_key}
+use Rattle.cbor_judging.proofs.LastKey.{nothing-below}
 use Rattle.cbor_strict.specs.inner.LastKeys.{KeysView, IsKept, seen, with_key}
 use Rattle.cbor_strict.proofs.KeptKeys.{none_open}
 use Rattle.cbor_strict.proofs.KeptPairs.{key_bounds, key_compared, key_put_in, key_put_out, ended_bounds}
@@ -33,12 +32,6 @@ cut_out-requires-clause-order c =
 pub cut_out-requires-clause-within : goal.cut_out-requires-clause-within
 cut_out-requires-clause-within c = (ended_bounds (seen c.args.self.now) c.requires c.in-Some.last.now (rw c.deref.ensures.value at c.in-Some.ensures.item.1)).2
 
--- no bytes come before some
-none_before_some : (o : KeyOrder) (xs : List ℕ) → 0 < length xs → IsTrue (key_lt o [] xs)
-none_before_some o [] some = absurd (omega (arith, some))
-none_before_some Bytewise (x ∷ xs) some = refl
-none_before_some LengthFirst (x ∷ xs) some = grind (arith, nat_tests)
-
 module _ (k : KeysView) (w : Width) (a : SpelledEntries) (v : Spelling) (b : SpelledEntries) (fs : List Frame) (s : Spelling) (sp : Span) (h : IsKept k (a_key w a v b ∷ fs) (spell s))
     (g : sp ≡ slice_index_or k.spans (length k.spans - 1) sp) (first : sp.from ≡ sp.next) where
   -- the first key of a map is kept where it is
@@ -55,14 +48,14 @@ module _ (k : KeysView) (w : Width) (a : SpelledEntries) (v : Spelling) (b : Spe
       let m = key_compared k w a v b fs s sp h g in
       let none : sp.to - sp.from ≡ 0 = omega (arith, q.0, q.1, first) in
       let last : last_key a ≡ [] = sym m.0 ∙ ap (λ n. take n (drop sp.from k.bytes)) none in
-      subst (λ xs. IsTrue (key_lt o xs (spell s))) (sym last) (none_before_some o (spell s) (omega (arith, q.2, some)))
+      subst (λ xs. IsTrue (key_lt o xs (spell s))) (sym last) (nothing-below o (spell s) (omega (arith, q.2, some)))
 
 pub returns-then-is_first : goal.returns-then-is_first
 returns-then-is_first c = λ w a v b fs s h.
     let g = rw c.deref.ensures.value at c.in-Some.ensures.item.1 in
     let k = seen c.args.self.now in
     let sp = c.in-Some.last.now in
-    let f = c.is_first.ensures c.if-is_first.true in (
+    let f = c.is_first.ensures.0 c.if-is_first.true in (
       first_rises k w a v b fs s sp h g f.0 c.args.order f.1,
       rw c.put_key.ensures (first_kept k w a v b fs s sp h g f.0 _ (omega (arith, h.open_keys))),
     )

@@ -3,10 +3,10 @@ use Rattle.cbor_head.specs.Prelude.{strict, AreBounds}
 use Rattle.cbor_judging.proofs.KindFrames.{keeps_start}
 use Rattle.cbor_strict.specs.inner.StrictEvents.{StandsSomewhere}
 use Rattle.cbor_strict.proofs.StrictReading.{stands_first, starts_strictly, somewhere_little}
-use Rattle.cbor_strict.proofs.strict_events.StrictEvents.new.Goals as goal
+use Rattle.cbor_strict.proofs.strict_reader.StrictReader.new.Goals as goal
 
 pub invariant_of-result : goal.invariant_of-result
-invariant_of-result c =
+invariant_of-result g c =
     let e = c.new.result in
     let v = c.new-2.result in
     let within : AreBounds c.args.limits = (omega arith, omega arith) in
@@ -21,6 +21,6 @@ invariant_of-result c =
     }
 
 pub returns-clause-starts : goal.returns-clause-starts
-returns-clause-starts c =
+returns-clause-starts g c =
     let within : AreBounds c.args.limits = (omega arith, omega arith) in
     starts_strictly c.args.limits c.keys.result c.new.result c.new-2.result c.keys.ensures within c.new.ensures.live c.new.ensures.limits c.new.ensures.starts c.new-2.ensures.none c.new-2.ensures.kept

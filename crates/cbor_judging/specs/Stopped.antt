@@ -1,0 +1,15 @@
+-- What is told where a reader stops within the item at the front of an input.
+use Rattle.std.specs.Prelude.{◌≡◌, ◌++◌, ℕ, List, length, Option, IfSome}
+use Rattle.std.specs.Io.KnownBytes.{Consumes}
+use Rattle.cbor_head.specs.Prelude.{Rules, Bounds}
+use Rattle.cbor_head.specs.declared.reason.Refusal.{Refusal}
+use Rattle.cbor_judging.specs.Readers.{IsUnread}
+use Rattle.cbor_judging.specs.Refusals.{IsReaderReason}
+
+-- Behind the bytes t more is taken, and it is refused: what is told of what the reader held there, and of each.
+pub record IsStopped (r : Rules) (b : Bounds) (t : List ℕ) (from to : Option (List ℕ)) (f : Refusal) : Type 0 where
+  pub bytes : List ℕ
+  pub consumed : Consumes from to bytes
+  pub read : f.read ≡ length (t ++ bytes)
+  pub reason : IsReaderReason b r f.reason
+  pub unread : IfSome from (λ rest. IsUnread b r (t ++ rest) f)
