@@ -1,8 +1,7 @@
 -- Pairs that are sorted by keys which lie elsewhere.
-use Rattle.std.proofs.Common.{◌≡◌, ◌≢◌, ◌↔◌, IsPermutation, IsSortedBy, ℕ, ◌+◌, ◌≤◌, Bool, List, [], ◌∷◌, ◌++◌, length, take, drop, take-append-drop, map, refl, sym, ap, ◌∙◌, subst, arith, IsTrue, flat_map}
-use Rattle.std.specs.List.{AllByRecursion}
+use Rattle.std.proofs.Common.{◌≡◌, ◌↔◌, IsPermutation, IsSortedBy, ℕ, ◌+◌, ◌≤◌, Bool, List, [], ◌∷◌, ◌++◌, length, take, drop, take-append-drop, map, refl, sym, ap, ◌∙◌, subst, arith, IsTrue, flat_map}
 use Rattle.std.proofs.lemmas.List.Sorted.{IsPermutation-map}
-use Rattle.cbor_head.specs.Prelude.{Pair, in_order, key_lt}
+use Rattle.cbor_head.specs.Prelude.{in_order, key_lt}
 use Rattle.cbor_head.specs.declared.order.KeyOrder.{KeyOrder}
 use Rattle.cbor_canonical.specs.Pairs.{IsRising, HasDistinctBytes, pair_bytes}
 use Rattle.cbor_builder.specs.inner.Front.{key_of}
@@ -14,17 +13,14 @@ use Rattle.cbor_builder.proofs.Growth.{tile_joins}
 use Rattle.cbor_builder.proofs.Neighbours.{sorted_is_in_order}
 use Rattle.cbor_builder.proofs.SortedPairs.{sorted_view}
 use Rattle.cbor_canonical.proofs.Sorting.{in_order-rising}
-use Rattle.cbor_builder.proofs.InPlace.{keys_flip}
+use Rattle.cbor_builder.proofs.InPlace.{keys_flip, own_same}
+use Rattle.cbor_builder.proofs.KeysSoFar.{distinct_different, different_distinct}
+use Rattle.cbor_builder.specs.Built.{AreAllDifferent}
 use Rattle.cbor_buffer.proofs.ByIndex.{all_index}
 use Rattle.cbor_builder.proofs.Ranks.{all_permuted}
 
 distinct_keys : (raw out : List ℕ) (ss : List Span) → AreSameKeys raw out ss → HasDistinctBytes (map (span_pair raw) ss) → HasDistinctBytes (map (span_pair out) ss)
-distinct_keys raw out [] h r = tt
-distinct_keys raw out (s ∷ ss) h r = (each ss h.1 r.0, distinct_keys raw out ss h.1 r.1)
-  where
-    each : (ts : List Span) → AreSameKeys raw out ts → AllByRecursion (λ (q : Pair). q.key ≢ key_of raw s) (map (span_pair raw) ts) → AllByRecursion (λ (q : Pair). q.key ≢ key_of out s) (map (span_pair out) ts)
-    each [] k a = tt
-    each (t ∷ ts) k a = ((λ e. a.0 (k.0 ∙ e ∙ sym h.0)), each ts k.1 a.1)
+distinct_keys raw out ss h r = different_distinct (map (span_pair out) ss) (subst AreAllDifferent (own_same raw out ss h) (distinct_different (map (span_pair raw) ss) r))
 
 pub distinct_iff : (raw out bytes : List ℕ) (us xs : List Span) (t : Bool) → bytes ≡ raw → us ≡ xs → AreSameKeys raw out xs → (IsTrue t ↔ HasDistinctBytes (map (span_pair bytes) us)) → (IsTrue t ↔ HasDistinctBytes (map (span_pair out) xs))
 distinct_iff raw out bytes us xs t eb eu h d =
