@@ -14,7 +14,7 @@ use Rattle.cbor_buffer.specs.declared.draft.Draft.{Draft}
 use Rattle.cbor_buffer.specs.declared.span.Span.{Span}
 use Rattle.cbor_builder.specs.declared.frame.Frame.{Frame}
 use Rattle.cbor_builder.specs.declared.frame.Shape.TheVariants.{Map}
-use Rattle.cbor_buffer.proofs.Drafts.{whole_length}
+use Rattle.cbor_buffer.proofs.Drafts.{whole_length, extended as draft_extended}
 use Rattle.cbor_builder.proofs.Growth.{given, ended, key_ready, lengthened, finished}
 use Rattle.cbor_builder.proofs.InPlace.{alone, agrees_refl, agrees_longer, agrees_by, waits_by, waits_refl, outer_agrees, completed_same, ready_same, laid_raw}
 use Rattle.cbor_buffer.proofs.Written.{drop_front}
@@ -103,16 +103,17 @@ member_ended o d d' ss ss1 f g fs ss' g' s w takes em front key last es c =
     let st = ended o (meant d) ss f g fs (meant d') ss' g' s.0 takes em done in
     ((st.0, w, ended_agrees o d d' x ss f g fs ss' g' s w takes em front key last done), st.1)
 
-pub member_longer : (s : Core) (d' : Draft) (b : List ℕ) → IsLaid s → IsString s.top.shape → Extends s.out d' b → StandsAs (record s { out = d' }) (extended b (standing s))
-member_longer s d' b laid string x =
+pub member_longer : (s : Core) (buf b : List ℕ) → IsLaid s → IsString s.top.shape → buf ≡ s.out.buf ++ b → StandsAs (record s { out = record s.out { buf = buf } }) (extended b (standing s))
+member_longer s buf b laid string e =
     let d = s.out in
     let ss = s.spans.items in
     let fs = frames s in
     let w = laid.0 in
+    let x = draft_extended d buf b w.1 e in
     let l = whole_length d w.1 in
     let st = subst (λ (xs : List ℕ). Stands s.order xs ss fs (extended b (standing s))) (sym x.meant_is) (lengthened s.order (meant d) b ss s.top (outers s) w.0 string) in
     let a = agrees_longer d.buf (meant d) b ss s.top (outers s) (omega (arith, l, w.0.0, w.0.1)) (omega (arith, w.0.0, w.0.1)) string w.2 in
-    (((st.0, x.whole, subst (λ (xs : List ℕ). Agrees xs (meant d') ss fs) (sym x.lies) (subst (λ (xs : List ℕ). Agrees (d.buf ++ b) xs ss fs) (sym x.meant_is) a)), laid.1), st.1)
+    (((st.0, x.whole, subst (λ (xs : List ℕ). Agrees xs (meant (record d { buf = buf })) ss fs) (sym e) (subst (λ (xs : List ℕ). Agrees (d.buf ++ b) xs ss fs) (sym x.meant_is) a)), laid.1), st.1)
 
 -- the bytes as they lie in place of those that are meant: of what is open it makes no difference
 pub stand_cut : (o : KeyOrder) (d d' : Draft) (ss : List Span) (fs : List Frame) → Stand o d ss fs → IsWhole d' → meant d' ≡ d.buf → d'.buf ≡ d.buf → Stand o d' ss fs

@@ -263,7 +263,7 @@ impl CanonBuilder {
     pub fn as_slice(&self) -> &[u8]
         ensures { (bs : List ℕ) → self.now.standing ≡ plain bs ∷ [] → result.now ≡ bs }
     {
-        self.core.out.as_slice()
+        self.core.out.buf.as_slice()
     }
 
     /// The bytes, once the item is whole: the canonical bytes of the value that the parts make.
