@@ -68,22 +68,6 @@ impl Draft {
         self.buf.len()
     }
 
-    // The bytes as they lie.
-    #[inline(always)]
-    pub fn into_vec(self) -> Vec<u8>
-        ensures { result.items ≡ self.buf }
-    {
-        let Draft {
-            buf,
-            cuts: _,
-            regions: _,
-            end: _,
-            picked: _,
-            copied: _,
-        } = self;
-        buf.into_vec()
-    }
-
     // The shortest head behind what is there.
     #[inline(always)]
     pub fn head(&mut self, major: Major, n: u64) -> Result<(), AllocError>

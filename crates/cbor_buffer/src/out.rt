@@ -82,7 +82,7 @@ impl Out {
     }
 
     #[inline(always)]
-    pub(crate) fn into_vec(self) -> Vec<u8>
+    pub fn into_vec(self) -> Vec<u8>
         ensures { result.items ≡ self }
     {
         let Out { mut buf, len } = self;
