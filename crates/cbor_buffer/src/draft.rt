@@ -1,6 +1,6 @@
 //! The output, in which large maps lie in the order in which their pairs came.
 
-ghost use Rattle.std.specs.Prelude.{◌≡◌, ◌≢◌, ◌≤◌, ◌++◌, ◌-◌, [], OnOk, IsTrue, length, take};
+ghost use Rattle.std.specs.Prelude.{◌≡◌, ◌≤◌, ◌++◌, ◌-◌, [], OnOk, IsTrue, length, take};
 ghost use Rattle.cbor_head.specs.Head.{shortest_head, IsSimple};
 ghost use Rattle.cbor_head.specs.declared.major.Major.TheVariants.{Simple};
 ghost use Rattle.cbor_buffer.specs.Moved.{meant, IsWhole, IsRope, IsFree, Stays, IsSettled};
@@ -68,30 +68,6 @@ impl Draft {
         self.buf.len()
     }
 
-    // The bytes as they lie.
-    #[inline(always)]
-    pub fn as_slice(&self) -> &[u8]
-        ensures { result.now ≡ self.now.buf }
-    {
-        self.buf.as_slice()
-    }
-
-    // The bytes as they lie.
-    #[inline(always)]
-    pub fn into_vec(self) -> Vec<u8>
-        ensures { result.items ≡ self.buf }
-    {
-        let Draft {
-            buf,
-            cuts: _,
-            regions: _,
-            end: _,
-            picked: _,
-            copied: _,
-        } = self;
-        buf.into_vec()
-    }
-
     // The shortest head behind what is there.
     #[inline(always)]
     pub fn head(&mut self, major: Major, n: u64) -> Result<(), AllocError>
@@ -100,28 +76,6 @@ impl Draft {
         ensures { OnOk result (Extends self.old self.new (shortest_head major n)) }
     {
         self.buf.head(major, n)
-    }
-
-    // The first of these bytes behind what is there.
-    #[inline(always)]
-    pub fn extend(&mut self, front: &[u8], count: usize) -> Result<(), AllocError>
-        requires whole { IsWhole self.old }
-        requires within { count ≤ length front.now }
-        ensures { OnOk result (Extends self.old self.new (take count front.now)) }
-    {
-        self.buf.extend_front(front, count)
-    }
-
-    // A whole string behind what is there: the first of these bytes.
-    #[inline(always)]
-    pub fn string(&mut self, major: Major, front: &[u8], count: usize) -> Result<(), AllocError>
-        requires whole { IsWhole self.old }
-        requires within { count ≤ length front.now }
-        requires kind { major ≢ Simple }
-        ensures { OnOk result (Extends self.old self.new
-            (shortest_head major count ++ take count front.now)) }
-    {
-        self.buf.string(major, front, count)
     }
 
     // The bytes up to `end` as they lie. Takes no memory.

@@ -82,7 +82,7 @@ impl Out {
     }
 
     #[inline(always)]
-    pub(crate) fn into_vec(self) -> Vec<u8>
+    pub fn into_vec(self) -> Vec<u8>
         ensures { result.items ≡ self }
     {
         let Out { mut buf, len } = self;
@@ -116,7 +116,7 @@ impl Out {
     // The first of these bytes behind what is there. Up to 32 are copied by a piece of 32, where as
     // many bytes are given.
     #[inline(always)]
-    pub(crate) fn extend_front(&mut self, front: &[u8], count: usize) -> Result<(), AllocError>
+    pub fn extend_front(&mut self, front: &[u8], count: usize) -> Result<(), AllocError>
         requires { count ≤ length front.now }
         ensures { OnOk result (self.new ≡ self.old ++ take count front.now) }
     {
@@ -131,12 +131,7 @@ impl Out {
     // The shortest head of so many bytes, and the first so many of these, behind what is there. Room
     // is made once for both, where they are few.
     #[inline(always)]
-    pub(crate) fn string(
-        &mut self,
-        major: Major,
-        front: &[u8],
-        count: usize,
-    ) -> Result<(), AllocError>
+    pub fn string(&mut self, major: Major, front: &[u8], count: usize) -> Result<(), AllocError>
         requires within { count ≤ length front.now }
         requires kind { major ≢ Simple }
         ensures { OnOk result

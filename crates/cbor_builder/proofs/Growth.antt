@@ -166,15 +166,6 @@ key_ready o out b ss f fs bytes at laid eb ea first key e =
       subst (λ (xs : List ℕ). AreFronted xs (drop first ss)) (sym eb) (fronted_stay out b f.start (drop first ss) key fits.1 fits.2 fits.4),
     )
 
--- the same of what holds what ends
-pub outer_ready : (o : KeyOrder) (out : List ℕ) (ss ss1 : List Span) (f g : Frame) (fs below : List Frame) (bytes x : List ℕ) → below ≡ g ∷ fs → Laid o out ss (f ∷ below)
-    → bytes ≡ take f.from out ++ x → ss1 ≡ outer_spans ss f.shape → IsReady bytes ss1 f.from g.shape
-outer_ready o out ss ss1 f g fs below bytes x eb laid e es =
-    let l = subst (λ (gs : List Frame). Laid o out ss (f ∷ gs)) eb laid in
-    let n = length-take f.from out in
-    subst (λ (us : List Span). IsReady bytes us f.from g.shape) (sym es)
-    (key_ready o (take f.from out) x (outer_spans ss f.shape) g fs bytes f.from l.3 e (omega (arith, n, laid.0, laid.1)))
-
 -- ---- more of a string
 
 pub lengthened : (o : KeyOrder) (out b : List ℕ) (ss : List Span) (f : Frame) (fs : List Frame) → Laid o out ss (f ∷ fs) → IsString f.shape
@@ -216,16 +207,8 @@ finished o out ss f [] laid bs e =
     by_shape s fits none c = cc
 finished o out ss f (g ∷ fs) laid bs e = cc
 
--- ---- the same from what calls ensure
+-- ---- what begins
 
-pub given_by : (o : KeyOrder) (out b : List ℕ) (ss : List Span) (f : Frame) (fs : List Frame) (out' : List ℕ) (ss' : List Span) (f' : Frame) (bytes : List ℕ) (at : ℕ)
-    → Laid o out ss (f ∷ fs) → Takes f.shape → out' ≡ out ++ b → bytes ≡ out' → at ≡ length out → Completed o ss at f bytes ss' f'
-    → Stands o out' ss' (f' ∷ fs) (give b (opens out ss (f ∷ fs)))
-given_by o out b ss f fs out' ss' f' bytes at laid takes e eb ea c =
-    given o out b ss f fs out' ss' f' laid takes e
-    (subst (λ (xs : List ℕ). Completed o ss (length out) f xs ss' f') eb (subst (λ k. Completed o ss k f bytes ss' f') ea c))
-
--- what begins
 pub begun : (m : Major) (n from end : ℕ) (out out' : List ℕ) (ss : List Span) (fs : List Frame) → from ≡ length out → end ≡ length out' → out' ≡ out ++ shortest_head m n
     → opens out' ss (opening_frame m from end (length ss) ∷ fs) ≡ opened m n ∷ opens out ss fs
 begun m n from end out out' ss fs ef ee eo = by_major m (ap (drop from) eo ∙ ap (λ (k : ℕ). drop k (out ++ shortest_head m n)) ef ∙ drop-append_seam out (shortest_head m n))
@@ -247,16 +230,6 @@ begun m n from end out out' ss fs ef ee eo = by_major m (ap (drop from) eo ∙ a
     by_major of_major.Map h = λ i. a_map (no_pairs i) ∷ opens (front i) (all i) fs
     by_major of_major.Tag h = λ i. plain (h i) ∷ opens (front i) ss fs
     by_major k h = λ i. a_string k (no_bytes i) ∷ opens (front i) ss fs
-
-pub ended_by : (o : KeyOrder) (out : List ℕ) (ss : List Span) (f g : Frame) (fs below : List Frame) (out' : List ℕ) (ss1 ss' : List Span) (g' : Frame) (bytes : List ℕ) (at : ℕ)
-    → below ≡ g ∷ fs → Laid o out ss (f ∷ below) → Takes g.shape → out' ≡ take f.from out ++ closed o (shape_open out ss f.start f.shape)
-    → ss1 ≡ outer_spans ss f.shape → bytes ≡ out' → at ≡ f.from → Completed o ss1 at g bytes ss' g'
-    → Stands o out' ss' (g' ∷ fs) (close o (opens out ss (f ∷ below)))
-ended_by o out ss f g fs below out' ss1 ss' g' bytes at eb laid takes e es ex ea c =
-    subst (λ (gs : List Frame). Stands o out' ss' (g' ∷ fs) (close o (opens out ss (f ∷ gs)))) (sym eb)
-    (ended o out ss f g fs out' ss' g' (subst (λ (gs : List Frame). Laid o out ss (f ∷ gs)) eb laid) takes e
-    (subst (λ (xs : List ℕ). Completed o (outer_spans ss f.shape) f.from g xs ss' g') ex
-    (subst (λ (us : List Span). Completed o us f.from g bytes ss' g') es (subst (λ k. Completed o ss1 k g bytes ss' g') ea c))))
 
 -- ---- the bytes of a map that closes
 

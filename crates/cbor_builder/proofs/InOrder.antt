@@ -1,44 +1,34 @@
 -- Pairs that are sorted by keys which lie elsewhere.
-use Rattle.std.proofs.Common.{◌≡◌, ◌≢◌, ◌↔◌, IsPermutation, IsSortedBy, ℕ, ◌+◌, ◌≤◌, Bool, List, [], ◌∷◌, ◌++◌, length, take, drop, take-append-drop, map, refl, sym, ap, ◌∙◌, subst, arith, IsTrue, flat_map}
-use Rattle.std.specs.List.{AllByRecursion}
+use Rattle.std.proofs.Common.{◌≡◌, ◌↔◌, IsPermutation, ℕ, ◌≤◌, Bool, List, [], ◌∷◌, ◌++◌, length, take, drop, take-append-drop, map, refl, sym, ap, ◌∙◌, subst, arith, IsTrue, flat_map}
 use Rattle.std.proofs.lemmas.List.Sorted.{IsPermutation-map}
-use Rattle.cbor_head.specs.Prelude.{Pair, in_order, key_lt}
+use Rattle.cbor_head.specs.Prelude.{in_order}
 use Rattle.cbor_head.specs.declared.order.KeyOrder.{KeyOrder}
 use Rattle.cbor_canonical.specs.Pairs.{IsRising, HasDistinctBytes, pair_bytes}
-use Rattle.cbor_builder.specs.inner.Front.{key_of}
 use Rattle.cbor_buffer.specs.Spans.{span_pair, AreBehind}
 use Rattle.cbor_builder.specs.inner.Laid.{pairs_from, Tile}
 use Rattle.cbor_builder.specs.inner.InPlace.{AreSameKeys}
 use Rattle.cbor_buffer.specs.declared.span.Span.{Span}
 use Rattle.cbor_builder.proofs.Growth.{tile_joins}
-use Rattle.cbor_builder.proofs.Neighbours.{sorted_is_in_order}
-use Rattle.cbor_builder.proofs.SortedPairs.{sorted_view}
+use Rattle.cbor_builder.proofs.Neighbours.{rising_is_in_order}
 use Rattle.cbor_canonical.proofs.Sorting.{in_order-rising}
-use Rattle.cbor_builder.proofs.InPlace.{keys_flip}
-use Rattle.cbor_buffer.proofs.ByIndex.{all_index}
+use Rattle.cbor_builder.proofs.InPlace.{keys_flip, own_same, rising_keys}
+use Rattle.cbor_builder.proofs.KeysSoFar.{distinct_different, different_distinct}
+use Rattle.cbor_builder.specs.Built.{AreAllDifferent}
 use Rattle.cbor_builder.proofs.Ranks.{all_permuted}
 
 distinct_keys : (raw out : List ℕ) (ss : List Span) → AreSameKeys raw out ss → HasDistinctBytes (map (span_pair raw) ss) → HasDistinctBytes (map (span_pair out) ss)
-distinct_keys raw out [] h r = tt
-distinct_keys raw out (s ∷ ss) h r = (each ss h.1 r.0, distinct_keys raw out ss h.1 r.1)
-  where
-    each : (ts : List Span) → AreSameKeys raw out ts → AllByRecursion (λ (q : Pair). q.key ≢ key_of raw s) (map (span_pair raw) ts) → AllByRecursion (λ (q : Pair). q.key ≢ key_of out s) (map (span_pair out) ts)
-    each [] k a = tt
-    each (t ∷ ts) k a = ((λ e. a.0 (k.0 ∙ e ∙ sym h.0)), each ts k.1 a.1)
+distinct_keys raw out ss h r = different_distinct (map (span_pair out) ss) (subst AreAllDifferent (own_same raw out ss h) (distinct_different (map (span_pair raw) ss) r))
 
 pub distinct_iff : (raw out bytes : List ℕ) (us xs : List Span) (t : Bool) → bytes ≡ raw → us ≡ xs → AreSameKeys raw out xs → (IsTrue t ↔ HasDistinctBytes (map (span_pair bytes) us)) → (IsTrue t ↔ HasDistinctBytes (map (span_pair out) xs))
 distinct_iff raw out bytes us xs t eb eu h d =
     let e = subst (λ (zs : List ℕ). IsTrue t ↔ HasDistinctBytes (map (span_pair zs) xs)) eb (subst (λ (zs : List Span). IsTrue t ↔ HasDistinctBytes (map (span_pair bytes) zs)) eu d) in
     ((λ p. distinct_keys raw out xs h (e.0 p)), (λ p. e.1 (distinct_keys out raw xs (keys_flip raw out xs h) p)))
 
--- spans sorted by their keys as they lie are the pairs in order as they are meant
-pub order_meant : (o : KeyOrder) (raw out : List ℕ) (xs ys : List Span) → AreSameKeys raw out xs → IsPermutation xs ys → IsSortedBy (λ x y. key_lt o (key_of raw x) (key_of raw y)) ys → HasDistinctBytes (map (span_pair out) xs)
+-- spans whose keys rise as they lie are the pairs in order as they are meant
+pub order_meant : (o : KeyOrder) (raw out : List ℕ) (xs ys : List Span) → AreSameKeys raw out xs → IsPermutation xs ys → IsRising o (map (span_pair raw) ys) → HasDistinctBytes (map (span_pair out) xs)
     → map (span_pair out) ys ≡ in_order o (map (span_pair out) xs)
-order_meant o raw out xs ys h m s d =
-    let k = all_permuted _ xs ys m h in
-    let sorted : IsSortedBy (λ x y. key_lt o (key_of out x) (key_of out y)) ys =
-    λ j e l g. (let a = all_index _ ys (j + 1) e k g in let b = all_index _ ys j e k (omega (arith, g)) in (λ i. key_lt o (sym a i) (sym b i)) ∙ s j e l g) in
-    sorted_is_in_order o (map (span_pair out) xs) (map (span_pair out) ys) d (IsPermutation-map (span_pair out) xs ys m) (sorted_view (span_pair out) o ys sorted)
+order_meant o raw out xs ys h m r d =
+    rising_is_in_order o (map (span_pair out) xs) (map (span_pair out) ys) d (IsPermutation-map (span_pair out) xs ys m) (rising_keys o raw out ys (all_permuted _ xs ys m h) r)
 
 pub tile_behind : (a : ℕ) (ss : List Span) (n : ℕ) → Tile a ss n → AreBehind a ss
 tile_behind a [] n t = tt

@@ -1,10 +1,9 @@
 -- Spans put in order one by one.
-use Rattle.std.proofs.Common.{◌≡◌, ℕ, zero, suc, ◌+◌, ◌-◌, ◌<◌, ◌≤◌, List, [], ◌∷◌, ◌++◌, length, length-take, take, drop, drop-drop, get_or, set, map, refl, sym, ap, ◌∙◌, subst, arith, inl, inr, IsPermutation, IsSortedBy, false, IsTrue, take-take}
+use Rattle.std.proofs.Common.{◌≡◌, ℕ, zero, suc, ◌+◌, ◌-◌, ◌<◌, ◌≤◌, List, [], ◌∷◌, ◌++◌, length, length-take, take, drop, drop-drop, get_or, set, map, refl, sym, ap, ◌∙◌, subst, arith, inl, inr, IsPermutation, IsTrue, take-take}
 use Rattle.std.specs.List.{AllByRecursion, insert}
-use Rattle.std.proofs.lemmas.List.{take_more, take-map}
+use Rattle.std.proofs.lemmas.List.{take_more, take-map, drop_all, get_or-drop}
 use Rattle.std.proofs.lemmas.List.Edits.{get_or-insert_below}
 use Rattle.std.proofs.Math.Seq.{take-append_seam, drop-append_seam}
-use Rattle.std.proofs.lemmas.Bool.{false_from_ne_true}
 use Rattle.std.proofs.lemmas.List.Sorted.{IsPermutation-trans, IsPermutation-append_comm, IsPermutation-append_right, IsPermutation-map}
 use Rattle.std.specs.declared.cmp.Ordering.{Ordering}
 use Rattle.std.specs.declared.cmp.Ordering.TheVariants.{Less, Greater}
@@ -12,13 +11,13 @@ use Rattle.std.specs.Ordering.{is_lt, ordering_reverse}
 use Rattle.cbor_head.specs.Prelude.{key_cmp, key_lt, AreBytes, Pair}
 use Rattle.cbor_head.specs.declared.order.KeyOrder.{KeyOrder}
 use Rattle.cbor_canonical.specs.Pairs.{HasDistinctBytes, IsRising}
-use Rattle.cbor_canonical.proofs.Orders.{key_cmp_total, lt_irrefl, lt_trans}
+use Rattle.cbor_canonical.proofs.Orders.{key_cmp_total, lt_trans}
 use Rattle.cbor_buffer.specs.Spans.{span_pair}
 use Rattle.cbor_buffer.specs.declared.span.Span.{Span}
 use Rattle.cbor_builder.specs.Built.{HasKey}
 use Rattle.cbor_builder.specs.inner.Front.{key_of, IsFronted, AreFronted, rank, ranked_by}
 use Rattle.cbor_builder.specs.inner.Insertion.{in_front}
-use Rattle.cbor_buffer.proofs.ByIndex.{all_index}
+use Rattle.cbor_buffer.proofs.ByIndex.{all_index, at_read}
 use Rattle.cbor_builder.proofs.Ranks.{agree_spans}
 use Rattle.cbor_builder.proofs.Neighbours.{distinct_permuted}
 
@@ -61,11 +60,10 @@ taken_front n us ts e = ap (λ k. take k (us ++ ts)) (sym e) ∙ take-append_sea
 pub rest_front : (n : ℕ) (us ts : List Span) → length us ≡ n → drop n (us ++ ts) ≡ ts
 rest_front n us ts e = ap (λ k. drop k (us ++ ts)) (sym e) ∙ drop-append_seam us ts
 
-pub same_at : (n : ℕ) (ss us : List Span) (d : Span) → drop n ss ≡ drop n us → n < length ss → n < length us → get_or ss n d ≡ get_or us n d
-same_at zero ss us d e h g = ap (λ (ts : List Span). get_or ts 0 d) e
-same_at (suc n) [] us d e h g = absurd (omega (arith, h))
-same_at (suc n) (s ∷ ss) [] d e h g = absurd (omega (arith, g))
-same_at (suc n) (s ∷ ss) (u ∷ us) d e h g = same_at n ss us d e (omega (arith, h)) (omega (arith, g))
+pub same_at : (n : ℕ) (ss us : List Span) (d : Span) → drop n ss ≡ drop n us → get_or ss n d ≡ get_or us n d
+same_at n ss us d e =
+    let k : n ≡ n + 0 = omega arith in
+    ap (λ k. get_or ss k d) k ∙ sym (get_or-drop n ss 0 d) ∙ ap (λ (ts : List Span). get_or ts 0 d) e ∙ get_or-drop n us 0 d ∙ ap (λ k. get_or us k d) (sym k)
 
 pub rest_more : (n : ℕ) (ss us : List Span) → drop n ss ≡ drop n us → drop (n + 1) ss ≡ drop (n + 1) us
 rest_more n ss us e = sym (drop-drop 1 n ss) ∙ ap (drop 1) e ∙ drop-drop 1 n us
@@ -74,19 +72,16 @@ rest_more n ss us e = sym (drop-drop 1 n ss) ∙ ap (drop 1) e ∙ drop-drop 1 n
 
 -- each is above the next one
 abbrev pub AreAbove : KeyOrder → List ℕ → Span → List Span → Type 0
-AreAbove o out next ss = AllByRecursion (λ s. IsTrue (key_lt o (key_of out next) (key_of out s))) ss
+AreAbove o out next ss = AllByRecursion (λ q. IsTrue (key_lt o (key_of out next) q.key)) (map (span_pair out) ss)
 
 abbrev pub AreBelow : KeyOrder → List ℕ → Span → List Span → Type 0
 AreBelow o out next ss = AllByRecursion (λ s. IsTrue (key_lt o (key_of out s) (key_of out next))) ss
 
 pub above_more : (o : KeyOrder) (out : List ℕ) (next : Span) (ss : List Span) (at n : ℕ) (s : Span) → suc n ≡ at → n < length ss → s ≡ get_or ss n s
     → IsTrue (key_lt o (key_of out next) (key_of out s)) → AreAbove o out next (drop at ss) → AreAbove o out next (drop n ss)
-above_more o out next ss at n s q l e h a = go ss n l e (subst (λ k. AreAbove o out next (drop k ss)) (sym q) a)
-  where
-    go : (ss : List Span) (n : ℕ) → n < length ss → s ≡ get_or ss n s → AreAbove o out next (drop (suc n) ss) → AreAbove o out next (drop n ss)
-    go [] n l e a = absurd (omega (arith, l))
-    go (x ∷ ss) zero l e a = (subst (λ (t : Span). IsTrue (key_lt o (key_of out next) (key_of out t))) e h, a)
-    go (x ∷ ss) (suc n) l e a = go ss n (omega (arith, l)) e a
+above_more o out next ss at n s q l e h a =
+    let k : at ≡ n + 1 = omega (arith, q) in
+    subst (AreAbove o out next) (sym (at_read ss n s l e)) (h, subst (λ k. AreAbove o out next (drop k ss)) k a)
 
 pub none_below : (o : KeyOrder) (out : List ℕ) (next : Span) (ss : List Span) (at : ℕ) → at ≤ 0 → AreBelow o out next (take at ss)
 none_below o out next ss zero l = tt
@@ -114,32 +109,25 @@ all_inserted P f ss zero y a h = (h, a)
 all_inserted P f [] (suc n) y a h = (h, tt)
 all_inserted P f (x ∷ ss) (suc n) y a h = (a.0, all_inserted P f ss n y a.1 h)
 
-all_mapped : (o : KeyOrder) (out : List ℕ) (next : Span) (ss : List Span) → AreAbove o out next ss → AllByRecursion (λ q. IsTrue (key_lt o (key_of out next) q.key)) (map (span_pair out) ss)
-all_mapped o out next [] a = tt
-all_mapped o out next (s ∷ ss) a = (a.0, all_mapped o out next ss a.1)
-
 -- between those below and those above it keeps them rising
 pub inserted_rises : (o : KeyOrder) (out : List ℕ) (next : Span) (ss : List Span) (n : ℕ) → IsRising o (map (span_pair out) ss) → AreBelow o out next (take n ss) → AreAbove o out next (drop n ss)
     → IsRising o (map (span_pair out) (insert ss n next))
-inserted_rises o out next ss zero r b a = (all_mapped o out next ss a, r)
+inserted_rises o out next ss zero r b a = (a, r)
 inserted_rises o out next [] (suc n) r b a = (tt, tt)
 inserted_rises o out next (x ∷ ss) (suc n) r b a =
     (all_inserted (λ q. IsTrue (key_lt o (key_of out x) q.key)) (span_pair out) ss n next r.0 b.0, inserted_rises o out next ss n r.1 b.1 a)
 
-not_less : (o : KeyOrder) (k l : List ℕ) → IsTrue (key_lt o k l) → key_lt o l k ≡ false
-not_less o k l h = false_from_ne_true (key_lt o l k) (λ t. lt_irrefl o k (lt_trans o k l k h t))
+insert_end : (ss : List Span) (y : Span) → insert ss (length ss) y ≡ ss ++ y ∷ []
+insert_end [] y = refl
+insert_end (s ∷ ss) y = ap (λ (us : List Span). s ∷ us) (insert_end ss y)
 
--- rising keys are sorted
-pub rising_sorted : (o : KeyOrder) (out : List ℕ) (ss : List Span) → IsRising o (map (span_pair out) ss) → IsSortedBy (λ x y. key_lt o (key_of out x) (key_of out y)) ss
-rising_sorted o out ss r = λ k d l h.
-    let next : suc k ≡ k + 1 = omega arith in
-    subst (λ j. key_lt o (key_of out (get_or ss j d)) (key_of out (get_or ss k d)) ≡ false) next (go ss k d (omega (arith, h)) r)
-  where
-    go : (ss : List Span) (k : ℕ) (d : Span) → suc k < length ss → IsRising o (map (span_pair out) ss) → key_lt o (key_of out (get_or ss (suc k) d)) (key_of out (get_or ss k d)) ≡ false
-    go [] k d h r = absurd (omega (arith, h))
-    go (s ∷ []) k d h r = absurd (omega (arith, h))
-    go (s ∷ t ∷ ss) zero d h r = not_less o (key_of out s) (key_of out t) r.0.0
-    go (s ∷ t ∷ ss) (suc k) d h r = go (t ∷ ss) k d (omega (arith, h)) r.1
+-- behind the last one, where it is above that
+pub above_last : (o : KeyOrder) (out : List ℕ) (ss : List Span) (n : ℕ) (last next : Span) → suc n ≡ length ss → last ≡ get_or ss n last → IsTrue (key_lt o (key_of out last) (key_of out next))
+    → IsRising o (map (span_pair out) ss) → IsRising o (map (span_pair out) (ss ++ next ∷ []))
+above_last o out ss n last next q e l r =
+    let m = length ss in
+    subst (λ (us : List Span). IsRising o (map (span_pair out) us)) (insert_end ss next)
+    (inserted_rises o out next ss m r (below_all o out next ss m n last q (omega (arith, q)) e l r) (subst (AreAbove o out next) (sym (drop_all m ss (omega arith))) tt))
 
 -- ---- what a comparison tells
 

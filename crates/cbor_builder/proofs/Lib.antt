@@ -13,6 +13,5 @@ pub mod PartsMade
 pub mod Ranks
 pub mod Reordered
 pub mod SortedPairs
-pub mod SortedSpans
 pub mod Standing
 pub mod Ties

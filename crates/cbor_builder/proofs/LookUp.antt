@@ -15,9 +15,8 @@ use Rattle.cbor_buffer.specs.Spans.{span_pair}
 use Rattle.cbor_buffer.specs.declared.span.Span.{Span}
 use Rattle.cbor_buffer.proofs.ByIndex.{at_read, all_index}
 use Rattle.cbor_canonical.proofs.Keys.{same_exactly}
-use Rattle.cbor_builder.proofs.Ranks.{agree_spans}
+use Rattle.cbor_builder.proofs.Ranks.{agree_spans, equal_keys}
 use Rattle.cbor_canonical.proofs.Orders.{key_cmp_total, lt_irrefl}
-use Rattle.cbor_builder.proofs.SortedSpans.{equal_keys}
 use Rattle.cbor_canonical.proofs.Sound.{IsSound, sound}
 
 key_at : (f : Span → Pair) (ks : List Span) (i : ℕ) (x : Span) (k : List ℕ) → i < length ks → x ≡ get_or ks i x

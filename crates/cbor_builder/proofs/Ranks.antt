@@ -1,22 +1,26 @@
 -- Spans ranked by the fronts of their keys.
-use Rattle.std.proofs.Common.{◌≡◌, ℕ, ◌+◌, List, length, get_or, sym, ap, ◌∙◌, arith, Bool, Bor, IsPermutation, IsSortedBy}
+use Rattle.std.proofs.Common.{◌≡◌, ◌≢◌, ℕ, ◌+◌, ◌<◌, List, length, get_or, true, false, true≢false, sym, ap, ◌∙◌, arith, Bool, Bor, IsPermutation, IsSortedBy}
 use Rattle.std.specs.List.{AllByRecursion}
 use Rattle.std.specs.declared.cmp.Ordering.{Ordering}
-use Rattle.std.specs.Ordering.{nat_cmp, is_lt, ordering_then}
+use Rattle.std.specs.Ordering.{nat_cmp, is_eq, is_lt, ordering_then}
 use Rattle.std.specs.Cmp.{IsTotalOrder, IsStrictWeakOrder}
 use Rattle.std.specs.Fn.{Called, ComparesAs}
 use Rattle.std.proofs.lemmas.Fn.{always_returns_same}
 use Rattle.std.proofs.lemmas.List.Sorted.{ranks_by, IsPermutation-sym, Contains-permutation}
-use Rattle.std.proofs.lemmas.Cmp.{nat_cmp_total, on_total, then_total}
+use Rattle.std.proofs.lemmas.Cmp.{nat_cmp_total, on_total, then_total, tied_itself}
+use Rattle.std.proofs.lemmas.List.{get_or_default}
 use denote.Param.Members.{Mut}
 use Rattle.cbor_canonical.proofs.Members.{all_at, all_from, in_contains, contains_in}
 use Rattle.cbor_head.specs.Prelude.{key_cmp, key_lt, AreBytes}
 use Rattle.cbor_head.specs.declared.order.KeyOrder.{KeyOrder}
 use Rattle.cbor_head.specs.declared.order.KeyOrder.TheVariants.{Bytewise, LengthFirst}
-use Rattle.cbor_canonical.proofs.Orders.{key_cmp_total}
+use Rattle.cbor_canonical.proofs.Orders.{key_cmp_total, tied}
 use Rattle.cbor_buffer.proofs.ByIndex.{all_index}
 use Rattle.cbor_keys.specs.Front.{front_of}
 use Rattle.cbor_builder.specs.inner.Front.{key_of, IsFronted, AreFronted, by_front, rank, ranked_by}
+use Rattle.cbor_builder.specs.inner.Repeats.{nth}
+use Rattle.cbor_builder.proofs.SortedPairs.{is_tied}
+use Rattle.cbor_buffer.specs.Spans.{no_span}
 use Rattle.cbor_buffer.specs.declared.span.Span.{Span}
 use Rattle.cbor_keys.proofs.KeyFronts.{agree_front}
 use Rattle.cbor_canonical.proofs.ByteLists.{bytes_slice}
@@ -58,3 +62,23 @@ sorted_keys o out ys b h s = λ k d l g.
     let upper = all_index _ ys (k + 1) d h g in
     let lower = all_index _ ys k d h (omega (arith, g)) in
     sym (ap is_lt (agree_spans o out (get_or ys (k + 1) d) (get_or ys k d) b upper lower)) ∙ s k d l g
+
+-- ---- what a comparison says of keys
+
+pub equal_keys : (o : KeyOrder) (x y : List ℕ) → is_eq (key_cmp o x y) ≡ true → x ≡ y
+equal_keys o x y e = tied o x y (is_tied _ e)
+
+pub other_keys : (o : KeyOrder) (x y : List ℕ) → is_eq (key_cmp o x y) ≡ false → x ≢ y
+other_keys o x y e is = true≢false (ap is_eq (sym (tied_itself (key_cmp_total o) x)) ∙ ap (λ (k : List ℕ). is_eq (key_cmp o x k)) is ∙ e)
+
+-- what a comparison of two of them says of their keys
+pub compared : (o : KeyOrder) (out : List ℕ) (ss : List Span) (i j : ℕ) (d e : Span) (r : Ordering) → AreBytes out → AreFronted out ss → i < length ss → j < length ss
+    → r ≡ rank o (ranked_by out (get_or ss i d)) (ranked_by out (get_or ss j e))
+    → (is_eq r ≡ true → key_of out (nth ss i) ≡ key_of out (nth ss j)) × (is_eq r ≡ false → key_of out (nth ss i) ≢ key_of out (nth ss j))
+compared o out ss i j d e r b f l m is =
+    let x = get_or_default ss i d no_span l in
+    let y = get_or_default ss j e no_span m in
+    let keys = is ∙ agree_spans o out (get_or ss i d) (get_or ss j e) b (all_index _ ss i d f l) (all_index _ ss j e f m) ∙ (λ t. key_cmp o (key_of out (x t)) (key_of out (y t))) in (
+      (λ t. equal_keys o (key_of out (nth ss i)) (key_of out (nth ss j)) (ap is_eq (sym keys) ∙ t)),
+      (λ t. other_keys o (key_of out (nth ss i)) (key_of out (nth ss j)) (ap is_eq (sym keys) ∙ t)),
+    )

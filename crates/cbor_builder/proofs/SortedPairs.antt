@@ -1,12 +1,11 @@
 -- What std's sorts ensure gives `in_order`.
-use Rattle.std.proofs.Common.{◌≡◌, ◌+◌, Bool, true, false, List, [], ◌∷◌, inl, inr, refl, sym, ap, ◌∙◌, arith, IsSortedBy, map}
+use Rattle.std.proofs.Common.{◌≡◌, Bool, true, false, List, [], ◌∷◌, inl, inr, refl, sym, ap, ◌∙◌}
 use Rattle.std.specs.List.{IsDistinct, AllByRecursion}
 use Rattle.std.specs.Ordering.{is_eq, ordering_reverse}
 use Rattle.std.specs.declared.cmp.Ordering.{Ordering}
 use Rattle.std.specs.declared.cmp.Ordering.TheVariants.{Less, Equal}
 use Rattle.std.proofs.lemmas.Bool.{false_from_ne_true}
-use Rattle.std.proofs.lemmas.List.{get_or-map, length-map}
-use Rattle.cbor_head.specs.Prelude.{key_cmp, key_lt, Pair}
+use Rattle.cbor_head.specs.Prelude.{key_cmp, Pair}
 use Rattle.cbor_canonical.specs.Pairs.{HasDistinctBytes}
 use Rattle.cbor_head.specs.declared.order.KeyOrder.{KeyOrder}
 use Rattle.cbor_canonical.proofs.Orders.{key_cmp_total, tied}
@@ -15,9 +14,6 @@ use Rattle.cbor_canonical.proofs.Sorting.{differs_at}
 
 abbrev pub same_key : KeyOrder → Pair → Pair → Bool
 same_key o p q = is_eq (key_cmp o p.key q.key)
-
-abbrev pub pair_lt : KeyOrder → Pair → Pair → Bool
-pair_lt o p q = key_lt o p.key q.key
 
 pub same_key-flips : (o : KeyOrder) (p q : Pair) → same_key o p q ≡ same_key o q p
 same_key-flips o p q = ap is_eq ((key_cmp_total o).antisymm p.key q.key) ∙ turned (key_cmp o q.key p.key)
@@ -39,12 +35,3 @@ pub IsDistinct-keys : (o : KeyOrder) (ps : List Pair) → HasDistinctBytes ps �
 unfolding IsDistinct
 IsDistinct-keys o [] d = tt
 IsDistinct-keys o (p ∷ ps) d = (other_keys o p ps (differs_at p ps d), IsDistinct-keys o ps d.1)
-
--- the same through a view of each element
-pub sorted_view : {X : Type 0} (view : X → Pair) (o : KeyOrder) (ys : List X) → IsSortedBy (λ x y. pair_lt o (view x) (view y)) ys → IsSortedBy (pair_lt o) (map view ys)
-sorted_view view o [] s = λ k d l h. absurd (omega arith)
-sorted_view view o (y ∷ ys) s = λ k d l h.
-    let n = length-map (y ∷ ys) view in
-    let e = get_or-map view (y ∷ ys) k y d (omega arith) in
-    let f = get_or-map view (y ∷ ys) (k + 1) y d (omega arith) in
-    (λ i. pair_lt o (f i) (e i)) ∙ s k y l (omega arith)

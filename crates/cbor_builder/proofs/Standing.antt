@@ -14,8 +14,8 @@ use Rattle.cbor_buffer.specs.declared.draft.Draft.{Draft}
 use Rattle.cbor_buffer.specs.declared.span.Span.{Span}
 use Rattle.cbor_builder.specs.declared.frame.Frame.{Frame}
 use Rattle.cbor_builder.specs.declared.frame.Shape.TheVariants.{Map}
-use Rattle.cbor_buffer.proofs.Drafts.{whole_length}
-use Rattle.cbor_builder.proofs.Growth.{given_by, ended_by, key_ready, outer_ready, lengthened, finished}
+use Rattle.cbor_buffer.proofs.Drafts.{whole_length, extended as draft_extended}
+use Rattle.cbor_builder.proofs.Growth.{given, ended, key_ready, lengthened, finished}
 use Rattle.cbor_builder.proofs.InPlace.{alone, agrees_refl, agrees_longer, agrees_by, waits_by, waits_refl, outer_agrees, completed_same, ready_same, laid_raw}
 use Rattle.cbor_buffer.proofs.Written.{drop_front}
 
@@ -44,7 +44,7 @@ member_given r s d' b at f' spans laid takes x ea from start shape made rises =
         let w = laid.0 in
         let l = whole_length d w.1 in
         let done = completed_same o d'.buf (meant d') ss at f spans.items f' (whole_length d' x.whole) (waits_by o d.buf (meant d) b b ss f fs d'.buf (meant d') at l w.0 w.2 x.lies x.meant_is ea) c in
-        let g = given_by o (meant d) b ss f fs (meant d') spans.items f' (meant d') at w.0 takes x.meant_is refl ea done in
+        let g = given o (meant d) b ss f fs (meant d') spans.items f' w.0 takes x.meant_is (subst (λ k. Completed o ss k f (meant d') spans.items f') ea done) in
         let a = agrees_by o d.buf (meant d) b b ss f fs d'.buf (meant d') at spans.items f' w.0 l w.2 takes (λ first e. refl) (λ e. refl) x.lies x.meant_is ea done in
         (((g.0, x.whole, a), rooted_given o d'.buf ss at f f' s.is_open s.below.items from start shape rises laid.1), g.1)
 
@@ -84,35 +84,36 @@ ended_agrees o d d' x ss f g fs ss' g' s w takes em (inl t) key last c =
     agrees_by o (take f.from d.buf) (take f.from (meant d)) (drop f.from d'.buf) x (outer_spans ss f.shape) g fs d'.buf (meant d') f.from ss' g' s.0.3 (omega (arith, a, b, l)) (outer_agrees d.buf (meant d) ss f (g ∷ fs) s.2) takes
     (λ first e. key first e ∙ behind) (λ e. last e ∙ behind) (sym (take-append-drop f.from d'.buf) ∙ ap (λ (xs : List ℕ). xs ++ drop f.from d'.buf) t) em (omega (arith, b, s.0.0, s.0.1)) c
 
-pub member_outer : (o : KeyOrder) (d d' : Draft) (x : List ℕ) (ss ss1 : List Span) (f g : Frame) (fs below : List Frame) → below ≡ g ∷ fs → Stand o d ss (f ∷ below) → IsWhole d' → meant d' ≡ take f.from (meant d) ++ x
+pub member_outer : (o : KeyOrder) (d d' : Draft) (x : List ℕ) (ss ss1 : List Span) (f g : Frame) (fs : List Frame) → Stand o d ss (f ∷ g ∷ fs) → IsWhole d' → meant d' ≡ take f.from (meant d) ++ x
     → KeepsFront f.from d d' → ss1 ≡ outer_spans ss f.shape → IsReady d'.buf ss1 f.from g.shape
-member_outer o d d' x ss ss1 f g fs below eb stand w em front es =
-    let s = subst (λ (gs : List Frame). Stand o d ss (f ∷ gs)) eb stand in
-    ready_same d'.buf (meant d') ss1 f.from g.shape (whole_length d' w) (subst (λ (us : List Span). WaitsSame d'.buf (meant d') us f.from g.shape) (sym es) (ended_waits o d d' x ss f g fs s w em front))
-    (outer_ready o (meant d) ss ss1 f g fs below (meant d') x eb stand.0 em es)
+member_outer o d d' x ss ss1 f g fs s w em front es =
+    let n = length-take f.from (meant d) in
+    let us = outer_spans ss f.shape in
+    let ready = key_ready o (take f.from (meant d)) x us g fs (meant d') f.from s.0.3 em (omega (arith, n, s.0.0, s.0.1)) in
+    subst (λ (us : List Span). IsReady d'.buf us f.from g.shape) (sym es) (ready_same d'.buf (meant d') us f.from g.shape (whole_length d' w) (ended_waits o d d' x ss f g fs s w em front) ready)
 
-pub member_ended : (o : KeyOrder) (d d' : Draft) (ss ss1 : List Span) (f g : Frame) (fs below : List Frame) (ss' : List Span) (g' : Frame) → below ≡ g ∷ fs → Stand o d ss (f ∷ below) → IsWhole d' → Takes g.shape
+pub member_ended : (o : KeyOrder) (d d' : Draft) (ss ss1 : List Span) (f g : Frame) (fs : List Frame) (ss' : List Span) (g' : Frame) → Stand o d ss (f ∷ g ∷ fs) → IsWhole d' → Takes g.shape
     → meant d' ≡ take f.from (meant d) ++ closed o (shape_open (meant d) ss f.start f.shape) → KeepsFront f.from d d' → ((first : ℕ) → g.shape ≡ Map first → IsSettled f.from d') → (fs ≡ [] → IsSettled f.from d')
     → ss1 ≡ outer_spans ss f.shape → Completed o ss1 f.from g d'.buf ss' g'
-    → Stand o d' ss' (g' ∷ fs) × (opens (meant d') ss' (g' ∷ fs) ≡ close o (opens (meant d) ss (f ∷ below)))
-member_ended o d d' ss ss1 f g fs below ss' g' eb stand w takes em front key last es c =
-    let s = subst (λ (gs : List Frame). Stand o d ss (f ∷ gs)) eb stand in
+    → Stand o d' ss' (g' ∷ fs) × (opens (meant d') ss' (g' ∷ fs) ≡ close o (opens (meant d) ss (f ∷ g ∷ fs)))
+member_ended o d d' ss ss1 f g fs ss' g' s w takes em front key last es c =
     let x = closed o (shape_open (meant d) ss f.start f.shape) in
     let inner = subst (λ (us : List Span). Completed o us f.from g d'.buf ss' g') es c in
     let done = completed_same o d'.buf (meant d') (outer_spans ss f.shape) f.from g ss' g' (whole_length d' w) (ended_waits o d d' x ss f g fs s w em front) inner in
-    let st = ended_by o (meant d) ss f g fs below (meant d') (outer_spans ss f.shape) ss' g' (meant d') f.from eb stand.0 takes em refl refl refl done in
+    let st = ended o (meant d) ss f g fs (meant d') ss' g' s.0 takes em done in
     ((st.0, w, ended_agrees o d d' x ss f g fs ss' g' s w takes em front key last done), st.1)
 
-pub member_longer : (s : Core) (d' : Draft) (b : List ℕ) → IsLaid s → IsString s.top.shape → Extends s.out d' b → StandsAs (record s { out = d' }) (extended b (standing s))
-member_longer s d' b laid string x =
+pub member_longer : (s : Core) (buf b : List ℕ) → IsLaid s → IsString s.top.shape → buf ≡ s.out.buf ++ b → StandsAs (record s { out = record s.out { buf = buf } }) (extended b (standing s))
+member_longer s buf b laid string e =
     let d = s.out in
     let ss = s.spans.items in
     let fs = frames s in
     let w = laid.0 in
+    let x = draft_extended d buf b w.1 e in
     let l = whole_length d w.1 in
     let st = subst (λ (xs : List ℕ). Stands s.order xs ss fs (extended b (standing s))) (sym x.meant_is) (lengthened s.order (meant d) b ss s.top (outers s) w.0 string) in
     let a = agrees_longer d.buf (meant d) b ss s.top (outers s) (omega (arith, l, w.0.0, w.0.1)) (omega (arith, w.0.0, w.0.1)) string w.2 in
-    (((st.0, x.whole, subst (λ (xs : List ℕ). Agrees xs (meant d') ss fs) (sym x.lies) (subst (λ (xs : List ℕ). Agrees (d.buf ++ b) xs ss fs) (sym x.meant_is) a)), laid.1), st.1)
+    (((st.0, x.whole, subst (λ (xs : List ℕ). Agrees xs (meant (record d { buf = buf })) ss fs) (sym e) (subst (λ (xs : List ℕ). Agrees (d.buf ++ b) xs ss fs) (sym x.meant_is) a)), laid.1), st.1)
 
 -- the bytes as they lie in place of those that are meant: of what is open it makes no difference
 pub stand_cut : (o : KeyOrder) (d d' : Draft) (ss : List Span) (fs : List Frame) → Stand o d ss fs → IsWhole d' → meant d' ≡ d.buf → d'.buf ≡ d.buf → Stand o d' ss fs

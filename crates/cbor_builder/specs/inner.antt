@@ -5,5 +5,4 @@ pub mod Front
 pub mod InPlace
 pub mod Insertion
 pub mod Laid
-pub mod Neighbours
 pub mod Repeats

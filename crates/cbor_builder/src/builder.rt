@@ -108,7 +108,7 @@ impl Core {
             (give (shortest_head major count ++ take count front.now) (standing self.old)) }
     {
         let at = self.out.len();
-        self.out.string(major, front, count)?;
+        self.out.buf.string(major, front, count)?;
         complete(
             &mut self.top,
             &mut self.spans,
@@ -161,7 +161,7 @@ impl Core {
         ensures { CoreLeaves result self.old self.new
             (extended (take count front.now) (standing self.old)) }
     {
-        self.out.extend(front, count)?;
+        self.out.buf.extend_front(front, count)?;
         Ok(())
     }
 
@@ -198,7 +198,7 @@ impl Core {
             (λ key. IsWaitingKey (standing self.now) key.now) }
     {
         match self.top.shape {
-            Shape::Key(_, key) => Some(part(self.out.as_slice(), key, self.out.len())),
+            Shape::Key(_, key) => Some(part(self.out.buf.as_slice(), key, self.out.len())),
             _ => None,
         }
     }
@@ -245,7 +245,11 @@ impl Core {
         let count = self.spans.len() - first;
         let mut pair = None;
         if !self.top.rises {
-            pair = first_repeat(self.out.as_slice(), self.order, &mut self.spans[first..]);
+            pair = first_repeat(
+                self.out.buf.as_slice(),
+                self.order,
+                &mut self.spans[first..],
+            );
         }
         self.spans.truncate(first);
         self.out.cut(self.top.from);

@@ -99,11 +99,7 @@ impl CanonBuilder {
         ensures { Leaves result self.old self.new
             (give (shortest_head major (length content.now) ++ content.now) self.old.standing) }
     {
-        let done = self.core.string(major, content, content.len());
-        if done.is_err() {
-            self.is_sound = false;
-        }
-        done
+        self.front_string(major, content, content.len())
     }
 
     /// The same of the first of these bytes. What follows them is not looked at, but a short string
@@ -161,11 +157,7 @@ impl CanonBuilder {
         requires string { IsInString self.old.standing }
         ensures { Leaves result self.old self.new (extended content.now self.old.standing) }
     {
-        let done = self.core.bytes(content, content.len());
-        if done.is_err() {
-            self.is_sound = false;
-        }
-        done
+        self.front_bytes(content, content.len())
     }
 
     /// The same of the first of these bytes.
@@ -263,7 +255,7 @@ impl CanonBuilder {
     pub fn as_slice(&self) -> &[u8]
         ensures { (bs : List ℕ) → self.now.standing ≡ plain bs ∷ [] → result.now ≡ bs }
     {
-        self.core.out.as_slice()
+        self.core.out.buf.as_slice()
     }
 
     /// The bytes, once the item is whole: the canonical bytes of the value that the parts make.
@@ -276,14 +268,6 @@ impl CanonBuilder {
             → result.items ≡ canonical self.order v }
     {
         let CanonBuilder { core, is_sound: _ } = self;
-        let Core {
-            order: _,
-            is_open: _,
-            out,
-            spans: _,
-            top: _,
-            below: _,
-        } = core;
-        out.into_vec()
+        core.out.buf.into_vec()
     }
 }

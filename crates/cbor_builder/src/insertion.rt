@@ -1,8 +1,7 @@
 //! A few pairs, put in order one by one.
 
 ghost use Rattle.std.specs.Prelude.{◌≡◌, ◌↔◌, ◌<◌, ◌∷◌, IsTrue, false, map, length};
-ghost use Rattle.std.specs.Prelude.{IsPermutation, IsSortedBy};
-ghost use Rattle.cbor_head.specs.Order.{key_lt};
+ghost use Rattle.std.specs.Prelude.{IsPermutation};
 ghost use Rattle.cbor_builder.specs.Built.{HasKey};
 ghost use Rattle.cbor_builder.specs.inner.Front.{key_of, IsFronted, AreFronted};
 ghost use Rattle.cbor_builder.specs.inner.Insertion.{in_front};
@@ -20,8 +19,7 @@ pub(crate) fn insert_each(bytes: &[u8], order: KeyOrder, spans: &mut [Span]) -> 
     requires { AreFronted bytes.now spans.old }
     ensures distinct { IsTrue result ↔ HasDistinctBytes (map (span_pair bytes.now) spans.old) }
     ensures permuted { IsPermutation spans.old spans.new }
-    ensures sorted { IsTrue result → IsSortedBy
-        (λ x y. key_lt order (key_of bytes.now x) (key_of bytes.now y)) spans.new }
+    ensures rising { IsTrue result → IsRising order (map (span_pair bytes.now) spans.new) }
 {
     for i in 0..spans.len() {
         let next = spans[i];

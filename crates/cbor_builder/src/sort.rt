@@ -2,11 +2,10 @@
 
 ghost use Rattle.std.specs.Prelude.{◌↔◌, IsTrue, map};
 ghost use Rattle.std.specs.Prelude.{IsPermutation, IsSortedBy};
-ghost use Rattle.cbor_head.specs.Order.{key_lt};
-ghost use Rattle.cbor_builder.specs.inner.Neighbours.{DoNeighboursDiffer};
-ghost use Rattle.cbor_canonical.specs.Pairs.{HasDistinctBytes};
+ghost use Rattle.cbor_builder.specs.inner.Repeats.{DoNeighboursDiffer};
+ghost use Rattle.cbor_canonical.specs.Pairs.{HasDistinctBytes, IsRising};
 ghost use Rattle.cbor_buffer.specs.Spans.{span_pair};
-ghost use Rattle.cbor_builder.specs.inner.Front.{key_of, rank, ranked_by, AreFronted};
+ghost use Rattle.cbor_builder.specs.inner.Front.{rank, ranked_by, AreFronted};
 ghost use Rattle.std.specs.Ordering.{is_lt};
 
 use crate::insertion::insert_each;
@@ -20,7 +19,7 @@ const FEW: usize = 16;
 // Whether no two neighbours have equal keys.
 fn differ(bytes: &[u8], order: KeyOrder, spans: &[Span]) -> bool
     requires { AreFronted bytes.now spans.now }
-    ensures { IsTrue result ↔ DoNeighboursDiffer (map (key_of bytes.now) spans.now) }
+    ensures { IsTrue result ↔ DoNeighboursDiffer bytes.now spans.now }
 {
     for i in 1..spans.len() {
         if compare(bytes, order, &spans[i - 1], &spans[i]).is_eq() {
@@ -37,8 +36,7 @@ pub(crate) fn sort_distinct(bytes: &[u8], order: KeyOrder, spans: &mut [Span]) -
     requires { AreFronted bytes.now spans.old }
     ensures distinct { IsTrue result ↔ HasDistinctBytes (map (span_pair bytes.now) spans.old) }
     ensures permuted { IsPermutation spans.old spans.new }
-    ensures sorted { IsTrue result → IsSortedBy
-        (λ x y. key_lt order (key_of bytes.now x) (key_of bytes.now y)) spans.new }
+    ensures rising { IsTrue result → IsRising order (map (span_pair bytes.now) spans.new) }
 {
     if spans.len() > FEW {
         sort_by_keys(bytes, order, spans);

@@ -1,5 +1,5 @@
 -- Which pairs of a map have equal keys, and which one is told.
-use Rattle.std.specs.Prelude.{ℕ, Bool, nat_lt, ◌+◌, ◌-◌, ◌^◌, ◌≡◌, ◌≢◌, ◌<◌, ◌≤◌, ◌⊎◌, List, length, Option, Some, None, IfSome, slice_index_or, MatchOption, IsPermutation}
+use Rattle.std.specs.Prelude.{ℕ, suc, Bool, nat_lt, ◌+◌, ◌-◌, ◌^◌, ◌≡◌, ◌≢◌, ◌<◌, ◌≤◌, ◌⊎◌, List, length, Option, Some, None, IfSome, slice_index_or, MatchOption, IsPermutation}
 use Rattle.std.specs.List.{AllByRecursion}
 use Rattle.cbor_builder.specs.Built.{keys_so_far, open_maps, IsFirstRepeat, AreAllDifferent, AreOpenKeysDifferent, IsRepeatTold}
 use Rattle.cbor_canonical.specs.Parts.{Open}
@@ -36,6 +36,10 @@ AreOf out xs ys = (start : ℕ) × (end : ℕ) × Tile start xs end × (end ≤ 
 -- equal keys stand together
 abbrev pub AreGrouped : List ℕ → List Span → Type 0
 AreGrouped out ss = (i j k : ℕ) → i ≤ j → j ≤ k → k < length ss → key_of out (nth ss i) ≡ key_of out (nth ss k) → key_of out (nth ss j) ≡ key_of out (nth ss k)
+
+-- no key is equal to the one behind it
+abbrev pub DoNeighboursDiffer : List ℕ → List Span → Type 0
+DoNeighboursDiffer out ss = (i : ℕ) → suc i < length ss → key_of out (nth ss i) ≢ key_of out (nth ss (suc i))
 
 -- two with equal keys, by their places
 abbrev pub IsTie : List ℕ → ℕ → ℕ → Span → Span → Type 0

@@ -42,7 +42,7 @@ impl Core {
             ≡ in_order self.old.order (pairs_from (meant self.old.out) self.old.spans.items first) }
     {
         let order = self.order;
-        sort_distinct(self.out.as_slice(), order, &mut self.spans[first..])
+        sort_distinct(self.out.buf.as_slice(), order, &mut self.spans[first..])
     }
 
     // The pairs of the open map in order. False where two keys of it are equal.

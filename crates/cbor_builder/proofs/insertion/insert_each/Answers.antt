@@ -11,7 +11,7 @@ use Rattle.cbor_canonical.proofs.Decided.{holds, fails}
 use Rattle.cbor_builder.proofs.Neighbours.{distinct_permuted}
 use Rattle.cbor_buffer.proofs.ByIndex.{all_index}
 use Rattle.cbor_builder.proofs.Ranks.{all_permuted}
-use Rattle.cbor_builder.proofs.Inserted.{in_front_taken, taken_front, rest_front, same_at, rest_more, all_taken, more_permuted, repeats, rising_sorted}
+use Rattle.cbor_builder.proofs.Inserted.{in_front_taken, taken_front, rest_front, same_at, rest_more, all_taken, more_permuted, repeats}
 use Rattle.cbor_builder.proofs.insertion.insert_each.Goals as goal
 
 pub insert-requires-clause-fronted : goal.insert-requires-clause-fronted
@@ -24,7 +24,7 @@ insert-requires-clause-fronted c =
 pub insert-requires-clause-next : goal.insert-requires-clause-next
 insert-requires-clause-next c =
     let i = c.loop-i.i in
-    let same = same_at i c.loop-i.spans c.args.spans.now no_span c.loop-i.invariant.2 (omega arith) (omega arith) in
+    let same = same_at i c.loop-i.spans c.args.spans.now no_span c.loop-i.invariant.2 in
     subst (IsFronted c.args.bytes.now) (sym same) (all_index _ c.args.spans.now i no_span c.requires (omega arith))
 
 -- the first ones are put in order among themselves, and the others stay
@@ -40,7 +40,7 @@ returns-then-not-insert c =
     let given = c.args.spans.now in
     let us = take i c.loop-i.spans in
     let next = get_or c.loop-i.spans i no_span in
-    let same = same_at i c.loop-i.spans given no_span c.loop-i.invariant.2 (omega arith) (omega arith) ∙ get_or_default given i no_span next (omega arith) in
+    let same = same_at i c.loop-i.spans given no_span c.loop-i.invariant.2 ∙ get_or_default given i no_span next (omega arith) in
     let front = in_front_taken i c.loop-i.spans (omega arith) in
     let ys = c.insert.new.places in
     let e = c.if-not-insert.ensures in
@@ -49,7 +49,7 @@ returns-then-not-insert c =
     record {
       distinct = fails (repeats c.args.order bytes given us i next (omega arith) same c.loop-i.invariant.0 key);
       permuted = whole (i + 1) given c.loop-i.spans ys (more_permuted given us ys i next (omega arith) same c.loop-i.invariant.0 moved) (rest_more i c.loop-i.spans given c.loop-i.invariant.2);
-      sorted = λ t. cc;
+      rising = λ t. cc;
     }
 
 pub loop-i-preserved : goal.loop-i-preserved
@@ -57,7 +57,7 @@ loop-i-preserved c =
     let i = c.loop-i.i in
     let bytes = c.args.bytes.now in
     let next = get_or c.loop-i.spans i no_span in
-    let same = same_at i c.loop-i.spans c.args.spans.now no_span c.loop-i.invariant.2 (omega arith) (omega arith) ∙ get_or_default c.args.spans.now i no_span next (omega arith) in
+    let same = same_at i c.loop-i.spans c.args.spans.now no_span c.loop-i.invariant.2 ∙ get_or_default c.args.spans.now i no_span next (omega arith) in
     let ys = c.insert.new.places in
     let rest = drop (i + 1) c.loop-i.spans in
     let long = length-take (i + 1) c.loop-i.spans in
@@ -82,5 +82,5 @@ returns c =
     record {
       distinct = holds (distinct_permuted c.args.order (map f ys) (map f was) (IsPermutation-map f ys was (IsPermutation-sym was ys permuted)) (rising_distinct c.args.order (map f ys) rising));
       permuted = permuted;
-      sorted = λ t. rising_sorted c.args.order c.args.bytes.now ys rising;
+      rising = λ t. rising;
     }

@@ -1,27 +1,34 @@
-use Rattle.std.proofs.Common.{◌≡◌, ◌↔◌, ◌+◌, ◌-◌, map, drop, refl, true≢false, sym, ◌∙◌, subst, arith}
-use Rattle.cbor_builder.specs.inner.Neighbours.{DoNeighboursDiffer}
-use Rattle.cbor_canonical.proofs.Decided.{fails}
+use Rattle.std.proofs.Common.{◌≡◌, ◌≢◌, ◌-◌, suc, inl, inr, sym, ap, ◌∙◌, subst, arith}
+use Rattle.std.proofs.lemmas.Bool.{cases_lt}
+use Rattle.cbor_canonical.proofs.Decided.{holds, fails}
 use Rattle.cbor_builder.specs.inner.Front.{key_of}
+use Rattle.cbor_builder.specs.inner.Repeats.{nth}
 use Rattle.cbor_canonical.proofs.ByteLists.{are_bytes}
-use Rattle.cbor_builder.proofs.Neighbours.{differ_end}
-use Rattle.cbor_builder.proofs.SortedSpans.{differ_step}
+use Rattle.cbor_builder.proofs.Ranks.{compared}
 use Rattle.cbor_builder.proofs.sort.differ.Goals as goal
 
 pub returns-then-is_eq : goal.returns-then-is_eq
 returns-then-is_eq c =
-    let step = differ_step c.args.order c.args.bytes.now c.args.spans.now (c.loop-i.i - 1) c.loop-i.i _ _ c.compare.result (are_bytes c.args.bytes.now (λ i. omega (arith, c.type_inv.bytes i))) c.requires (omega arith) (omega arith) c.compare.ensures in
-    fails (λ d. true≢false (sym c.if-is_eq.true ∙ c.is_eq.ensures ∙ (step.0 (c.loop-i.invariant.0 d)).0))
+    let out = c.args.bytes.now in
+    let ss = c.args.spans.now in
+    let i = c.loop-i.i in
+    let next : i ≡ suc (i - 1) = omega arith in
+    let keys = compared c.args.order out ss (i - 1) i _ _ c.compare.result (are_bytes out (λ i. omega (arith, c.type_inv.bytes i))) c.requires (omega arith) (omega arith) c.compare.ensures in
+    fails (λ d. d (i - 1) (omega arith) (keys.0 (sym c.is_eq.ensures ∙ c.if-is_eq.true) ∙ ap (λ j. key_of out (nth ss j)) next))
 
 pub loop-i-preserved : goal.loop-i-preserved
-loop-i-preserved c =
-    let step = differ_step c.args.order c.args.bytes.now c.args.spans.now (c.loop-i.i - 1) c.loop-i.i _ _ c.compare.result (are_bytes c.args.bytes.now (λ i. omega (arith, c.type_inv.bytes i))) c.requires (omega arith) (omega arith) c.compare.ensures in
-    let next : c.loop-i.i ≡ (c.loop-i.i + 1) - 1 = omega arith in
-    subst (λ i. DoNeighboursDiffer (map (key_of c.args.bytes.now) c.args.spans.now) ↔ DoNeighboursDiffer (map (key_of c.args.bytes.now) (drop i c.args.spans.now))) next (
-      (λ d. (step.0 (c.loop-i.invariant.0 d)).1),
-      (λ d. c.loop-i.invariant.1 (step.1 (sym c.is_eq.ensures ∙ c.if-is_eq.false, d))),
-    )
+loop-i-preserved c = λ k l.
+    let out = c.args.bytes.now in
+    let ss = c.args.spans.now in
+    let i = c.loop-i.i in
+    let keys = compared c.args.order out ss (i - 1) i _ _ c.compare.result (are_bytes out (λ i. omega (arith, c.type_inv.bytes i))) c.requires (omega arith) (omega arith) c.compare.ensures in
+    elim (cases_lt (suc k) i) [
+      | inl g ↦ c.loop-i.invariant k g
+      | inr g ↦
+          let last : i ≡ suc k = omega (arith, l, g) in
+          let before : i - 1 ≡ k = omega (arith, l, g) in
+          subst (λ j. key_of out (nth ss k) ≢ key_of out (nth ss j)) last (subst (λ j. key_of out (nth ss j) ≢ key_of out (nth ss i)) before (keys.1 (sym c.is_eq.ensures ∙ c.if-is_eq.false)))
+    ]
 
 pub returns : goal.returns
-returns c =
-    let all = differ_end (key_of c.args.bytes.now) c.args.spans.now (c.loop-i.i - 1) (omega arith) in
-    ((λ t. c.loop-i.invariant.1 all), (λ d. refl))
+returns c = holds (λ k l. c.loop-i.invariant k (omega (arith, l, c.loop-i-test.false)))

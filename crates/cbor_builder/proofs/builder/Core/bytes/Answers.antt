@@ -4,5 +4,7 @@ use Rattle.cbor_builder.proofs.builder.Core.bytes.Goals as goal
 
 pub returns : goal.returns
 returns c =
-    let k = member_longer c.args.self.now c.extend.new.self (take c.args.count c.args.front.now) c.requires.laid c.requires.string c.in_ok-extend.ensures in
+    let s = c.args.self.now in
+    let b = take c.args.count c.args.front.now in
+    let k = member_longer s c.extend_front.new.self b c.requires.laid c.requires.string c.in_ok-extend_front.ensures in
     record { order = refl; laid = k.0; given = k.1 }

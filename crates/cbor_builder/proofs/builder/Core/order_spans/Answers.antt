@@ -1,11 +1,11 @@
-use Rattle.std.proofs.Common.{◌≡◌, ◌+◌, ◌≤◌, ◌++◌, ◌∙◌, ℕ, List, length, length-append, length-drop, length-take, take, drop, map, refl, sym, ap, subst, arith, IsPermutation, IsSortedBy, append_assoc}
+use Rattle.std.proofs.Common.{◌≡◌, ◌+◌, ◌≤◌, ◌++◌, ◌∙◌, ℕ, List, length, length-append, length-drop, length-take, take, drop, map, refl, sym, ap, subst, arith, IsPermutation, append_assoc}
 use Rattle.std.proofs.lemmas.List.{take_rest}
 use Rattle.std.proofs.lemmas.List.Sorted.{length_permutation}
-use Rattle.cbor_head.specs.Prelude.{key_lt}
+use Rattle.cbor_canonical.specs.Pairs.{IsRising}
 use Rattle.cbor_buffer.specs.Spans.{span_pair}
 use Rattle.cbor_buffer.specs.declared.span.Span.{Span}
 use Rattle.cbor_buffer.specs.Moved.{meant}
-use Rattle.cbor_builder.specs.inner.Front.{AreFronted, key_of}
+use Rattle.cbor_builder.specs.inner.Front.{AreFronted}
 use Rattle.cbor_builder.proofs.InPlace.{fronted_keys}
 use Rattle.cbor_builder.proofs.InOrder.{distinct_iff, order_meant}
 use Rattle.cbor_builder.proofs.Inserted.{taken_front, rest_front}
@@ -53,6 +53,6 @@ returns c =
       permuted = subst (IsPermutation was) (sym all) moved;
       distinct = distinct;
       pairs = λ t.
-          let sorted = subst (λ (bs : List ℕ). IsSortedBy (λ x y. key_lt s.order (key_of bs x) (key_of bs y)) ys) c.as_slice.ensures (e.sorted t) in
-          ap (map (span_pair (meant s.out))) all ∙ order_meant s.order s.out.buf (meant s.out) was ys c.requires.keys moved sorted (distinct.0 t);
+          let rising = subst (λ (bs : List ℕ). IsRising s.order (map (span_pair bs) ys)) c.as_slice.ensures (e.rising t) in
+          ap (map (span_pair (meant s.out))) all ∙ order_meant s.order s.out.buf (meant s.out) was ys c.requires.keys moved rising (distinct.0 t);
     }
