@@ -34,13 +34,13 @@ pub mod Placed
 pub mod Places
 pub mod PlainPaths
 pub mod Reasons
+pub mod RefusedBehind
 pub mod RefusedChunks
 pub mod RefusedHere
 pub mod Scalars
 pub mod SpelledBytes
 pub mod Standing
 pub mod Steps
-pub mod Stopped
 pub mod Tops
 pub mod Undecided
 pub mod Valid

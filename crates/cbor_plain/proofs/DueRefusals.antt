@@ -11,14 +11,14 @@ use Rattle.cbor_judging.specs.Kinds.{AsksForKinds, KeepsToKinds, IsKeyDueIn, IsO
 use Rattle.cbor_judging.specs.Levels.{frame, bytes_before}
 use Rattle.cbor_judging.specs.Place.{Container}
 use Rattle.cbor_judging.specs.Reading.{IsUndecided, StopsItem}
-use Rattle.cbor_judging.specs.Stopped.{IsStopped}
+use Rattle.cbor_judging.specs.RefusedBehind.{IsRefusedBehind}
 use Rattle.cbor_plain.specs.inner.ItemFront.{IsDueAt}
 use Rattle.cbor_plain.specs.inner.PlainItems.{AreApart}
 use Rattle.cbor_judging.proofs.Items.{cause-in, cause-front, undecided-in, undecided-front}
 use Rattle.cbor_judging.proofs.KindBytes.{keeps_due, judged_begins, one_head_front}
 use Rattle.cbor_judging.proofs.LevelFrames.{around_levels, path}
 use Rattle.cbor_judging.proofs.KindFrames.{IsAround}
-use Rattle.cbor_judging.proofs.Stopped.{stopped_by}
+use Rattle.cbor_judging.proofs.RefusedBehind.{stopped_by}
 use Rattle.cbor_plain.proofs.PartKinds.{basic-front}
 use Rattle.cbor_plain.proofs.PathFrames.{found_within}
 
@@ -55,10 +55,10 @@ module _ (v : PlainItems) (b : Bounds) (e : ItemEventsView) (t : List ℕ) (d : 
   -- ---- refusals
 
   -- an item that is refused behind its head
-  pub refused-item : (from to : Option (List ℕ)) (f : Refusal) → (s : StopsItem plain b gs due-before [] from to f) → IsOfOneHead s.bytes → IsBasicDue s.bytes → IsStopped plain b t from to f
+  pub refused-item : (from to : Option (List ℕ)) (f : Refusal) → (s : StopsItem plain b gs due-before [] from to f) → IsOfOneHead s.bytes → IsBasicDue s.bytes → IsRefusedBehind plain b t from to f
   refused-item from to f s one basic =
       let consumed = subst (Consumes from to) (sym s.taken.are) s.taken.consumed in
-      subst (λ (y : List ℕ). IsStopped plain b y from to f) (sym d.taken) (elim s.why [
+      subst (λ (y : List ℕ). IsRefusedBehind plain b y from to f) (sym d.taken) (elim s.why [
         | inl m ↦ stopped_by plain b due-before from to f s.bytes consumed s.read (inl (m.0, m.1, undecided-in plain b [] gs [] due-before lift s.bytes m.2))
             (λ rest is. subst (KeepsToKinds b plain) (sym (undecided-front plain b [] gs [] due-before lift s.bytes m.2)) (keeps-split s.bytes m.2.p m.2.last None m.2.splits m.2.judged one basic))
         | inr h ↦ stopped_by plain b due-before from to f s.bytes consumed s.read (inr (cause-in plain b [] gs [] due-before lift s.bytes to f h))

@@ -12,8 +12,8 @@ use Rattle.cbor_judging.specs.Place.{Container, at_item, done as at_end}
 use Rattle.cbor_judging.specs.Reading.{IsNextHead, StopsHead}
 use Rattle.cbor_judging.proofs.Standing.{is-done}
 use Rattle.cbor_judging.proofs.Steps.{next-head, fault_of, stops, limits-as}
-use Rattle.cbor_judging.proofs.Stopped.{basic_first, stopped_within, stopped_other}
-use Rattle.cbor_judging.specs.Stopped.{IsStopped}
+use Rattle.cbor_judging.proofs.RefusedBehind.{basic_first, stopped_within, stopped_other}
+use Rattle.cbor_judging.specs.RefusedBehind.{IsRefusedBehind}
 use Rattle.cbor_plain.specs.declared.plain_items.PlainItems.{PlainItems}
 use Rattle.cbor_plain.specs.inner.ItemFront.{IsDueAt, IsNextDue}
 use Rattle.cbor_plain.proofs.DueRefusals.{around, lifted, room}
@@ -24,7 +24,7 @@ module _ (v : PlainItems) (b : Bounds) (e : ItemEventsView) (t : List ℕ) (d : 
 
   -- no kind is asked for
   pub due-unasked : (result : Result Event Refusal) → (AsksForKinds b plain → IsKeyDueIn d.ls → ⊥) → MatchResult result (λ event. IsNextHead plain b (at_item cs) t event from to new) (λ f. StopsHead plain b (at_item cs) t from to f)
-      → MatchResult result (λ event. IsNextDue b d.ls t event from to new) (λ f. IsStopped plain b t from to f)
+      → MatchResult result (λ event. IsNextDue b d.ls t event from to new) (λ f. IsRefusedBehind plain b t from to f)
   due-unasked (Ok event) none h = record { head = h; kind = λ asked is_key. absurd (none asked is_key) }
   due-unasked (Err f) none h = elim h.why [
     | inl c ↦ stopped_within plain b t from to f cs (around v b e t d) (room v b e t d) (lifted v b e t d) d.keeps h.bytes h.consumed h.read c (λ asked is_key. absurd (none asked is_key))
@@ -48,7 +48,7 @@ module _ (v : PlainItems) (b : Bounds) (e : ItemEventsView) (t : List ℕ) (d : 
           kind = λ asked is_key. told.1;
         }
 
-    pub stopped-asked : (f : Refusal) → AsksForKinds b plain → IsKeyDueIn d.ls → new.machine.taken ≡ f.read → IsNextKey (Err f) (call e new from to t d.at.marks) → IsStopped plain b t from to f
+    pub stopped-asked : (f : Refusal) → AsksForKinds b plain → IsKeyDueIn d.ls → new.machine.taken ≡ f.read → IsNextKey (Err f) (call e new from to t d.at.marks) → IsRefusedBehind plain b t from to f
     stopped-asked f asked is_key taken h = elim h [
       | inl x ↦
           let s = stops b e new t (at_item cs) from to f d.at (limits-as _ _ limits) x.0.1 in

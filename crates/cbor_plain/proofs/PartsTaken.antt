@@ -48,8 +48,8 @@ use Rattle.cbor_plain.proofs.TreeValues.{values-given, settles-right, tree-step}
 use Rattle.cbor_plain.proofs.PartKinds.{basic-more, mark-basic, mark-string, string-item, begins-item, no-break, HoldsNone, leaf-holds-none, string-holds-none, no-kinds, keeps-broken}
 use Rattle.cbor_plain.proofs.Paths.{given-apart, opened-apart, so-far, settled-begun, settled-place, begun-more, begun-room, begins-at}
 use Rattle.cbor_judging.proofs.Steps.{at-reached}
-use Rattle.cbor_judging.proofs.Stopped.{stopped_behind}
-use Rattle.cbor_judging.specs.Stopped.{IsStopped}
+use Rattle.cbor_judging.proofs.RefusedBehind.{stopped_behind}
+use Rattle.cbor_judging.specs.RefusedBehind.{IsRefusedBehind}
 use Rattle.cbor_judging.proofs.Valid.{count_bounded}
 use Rattle.cbor_plain.proofs.PartPlaces.{IsPlaced, begins-container, breaks, leaf-canonical, leaf-major, opens-by, stands-as, string-canonical}
 
@@ -250,7 +250,7 @@ module _ (v : PlainItems) (b : Bounds) (e : ItemEventsView) (t : List ℕ) (d : 
     part-taken part read = take-read part (read gs t n.bytes ev.width came)
 
     -- a part that is refused
-    pub refused-part : (f : Refusal) → ((fs : List Container) (s x : List ℕ) (w : Width) → IsCome b fs s x after w ev.kind → BeginsString ev.kind × StopsItem plain b fs s x mid to f) → IsStopped plain b t from to f
+    pub refused-part : (f : Refusal) → ((fs : List Container) (s x : List ℕ) (w : Width) → IsCome b fs s x after w ev.kind → BeginsString ev.kind × StopsItem plain b fs s x mid to f) → IsRefusedBehind plain b t from to f
     refused-part f refused =
         let h = refused gs t n.bytes ev.width came in
         let s = subst (λ (y : List ℕ). StopsItem plain b gs y n.bytes mid to f) d.taken h.1 in
@@ -270,7 +270,7 @@ module _ (v : PlainItems) (b : Bounds) (e : ItemEventsView) (t : List ℕ) (d : 
         go Break r = (tt, tt)
 
     -- memory is refused behind it
-    pub part-no-memory : (part : Part) → IsPartTaken part → (f : Refusal) → f.reason ≡ Memory → f.place ≡ f.read → f.read ≡ new.machine.taken → IsStopped plain b t from to f
+    pub part-no-memory : (part : Part) → IsPartTaken part → (f : Refusal) → f.reason ≡ Memory → f.place ≡ f.read → f.read ≡ new.machine.taken → IsRefusedBehind plain b t from to f
     part-no-memory part k f is place read =
         let reached = at-reached b new (t ++ k.bytes) k.q k.at in
         stopped_behind plain b t from to f k.bytes k.consumed reached.begins k.keeps (record { read = read ∙ k.at.stands.stands.taken; why = inl ((is, place), reached, k.undecided) })

@@ -16,9 +16,9 @@ use Rattle.cbor_judging.specs.Readers.{IsRead}
 use Rattle.cbor_judging.specs.Reading.{IsFrontUnread}
 use Rattle.cbor_judging.proofs.Decisions.{whole_beside}
 use Rattle.cbor_judging.proofs.KindFrames.{keeps_start}
-use Rattle.cbor_judging.proofs.Stopped.{stopped_from, stopped_front}
+use Rattle.cbor_judging.proofs.RefusedBehind.{stopped_from, stopped_front}
 use Rattle.cbor_judging.proofs.Tops.{loses}
-use Rattle.cbor_judging.specs.Stopped.{IsStopped}
+use Rattle.cbor_judging.specs.RefusedBehind.{IsRefusedBehind}
 use Rattle.cbor_strict.specs.declared.open_items.OpenItems.{OpenItems}
 use Rattle.cbor_strict.specs.inner.LastKeys.{seen, IsKept}
 use Rattle.cbor_strict.specs.inner.OpenItems.{Stands}
@@ -82,5 +82,5 @@ module _ (o : KeyOrder) (b : Bounds) (v new : OpenItems) (e after : ItemEventsVi
       front_read (Some input) (Some rest) c r = subst (λ (x : List ℕ). IsRead b (strict o) x count) (sym c) (r rest)
 
   -- it is refused
-  pub runs_stop : (f : Refusal) → IsStopped (strict v.order) b h.t now to f → IsFrontUnread (strict o) b from to f
+  pub runs_stop : (f : Refusal) → IsRefusedBehind (strict v.order) b h.t now to f → IsFrontUnread (strict o) b from to f
   runs_stop f n = subst (λ (p : KeyOrder). IsFrontUnread (strict p) b from to f) h.order (stopped_front (strict v.order) b f from to (stopped_from (strict v.order) b f [] h.t from now to h.consumed n))

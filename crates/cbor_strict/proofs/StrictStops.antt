@@ -21,8 +21,8 @@ use Rattle.cbor_judging.proofs.KindFrames.{IsAround, around_frames}
 use Rattle.cbor_judging.proofs.Payloads.{none-come, part-cut}
 use Rattle.cbor_judging.proofs.Standing.{is-complete}
 use Rattle.cbor_judging.proofs.Steps.{SameLimits, stops}
-use Rattle.cbor_judging.proofs.Stopped.{basic_first, stopped_by, stopped_within, stopped_other}
-use Rattle.cbor_judging.specs.Stopped.{IsStopped}
+use Rattle.cbor_judging.proofs.RefusedBehind.{basic_first, stopped_by, stopped_within, stopped_other}
+use Rattle.cbor_judging.specs.RefusedBehind.{IsRefusedBehind}
 use Rattle.cbor_strict.specs.declared.open_items.OpenItems.{OpenItems}
 use Rattle.cbor_strict.specs.StrictReader.{StopsAtOnce}
 use Rattle.cbor_strict.specs.inner.LastKeys.{seen, from_outside, IsKept}
@@ -62,7 +62,7 @@ module _ (v : OpenItems) (b : Bounds) (e new : ItemEventsView) (t : List ℕ) (f
     (all : new.machine.taken ≡ f.read) (most : new.machine.taken ≤ new.machine.bytes) (keeps : KeepsToKinds b (strict v.order) t) where
   -- where an item is due
   stopped_due : (h : IsItemDue v b e t) → ((asked ≡ true → AsksForKinds b (strict v.order) × IsKeyDue (from_outside h.fs)) × (AsksForKinds b (strict v.order) → IsKeyDue (from_outside h.fs) → asked ≡ true))
-      → ((ms : List Mark) → StandsBetween e.machine t ms → IsNextOf asked (Err f) (call e new from to t ms)) → ¬ IsComplete e.machine × IsStopped (strict v.order) b t from to f
+      → ((ms : List Mark) → StandsBetween e.machine t ms → IsNextOf asked (Err f) (call e new from to t ms)) → ¬ IsComplete e.machine × IsRefusedBehind (strict v.order) b t from to f
   stopped_due h due next =
       let cs = frames_in h.fs in
       let room = room_left v.order b h.fs h.around.are h.around.distinct in
@@ -85,7 +85,7 @@ module _ (v : OpenItems) (b : Bounds) (e new : ItemEventsView) (t : List ℕ) (f
   not_memory e = elim reason [ inl h ↦ subst IsEventReason e h | inr h ↦ let two : Memory ≡ KeyKind = sym e ∙ h in cc two ]
 
   -- where a payload is open
-  stopped_string : (h : IsInString v b e t) → ((u : List ℕ) (ms : List Mark) → StandsBetween e.machine u ms → IsNext (Err f) (call e new from to u ms)) → ¬ IsComplete e.machine × IsStopped (strict v.order) b t from to f
+  stopped_string : (h : IsInString v b e t) → ((u : List ℕ) (ms : List Mark) → StandsBetween e.machine u ms → IsNext (Err f) (call e new from to u ms)) → ¬ IsComplete e.machine × IsRefusedBehind (strict v.order) b t from to f
   stopped_string h next =
       let m = string_major v.is_text in
       let k = none-come b false m (frames_in h.fs) t v.left [] from e h.at in
@@ -125,7 +125,7 @@ pub record IsAsked (asked : Bool) (keys : Keys) (v : OpenItems) : Type 0 where
 
 -- the events refuse
 pub stopped_there : (v : OpenItems) (b : Bounds) (e new : ItemEventsView) (t : List ℕ) (from to : Option (List ℕ)) (f : Refusal) (asked : Bool) (keys : Keys) → SameLimits e.machine new.machine → IsKeyReason f.reason → new.machine.taken ≡ f.read → new.machine.taken ≤ new.machine.bytes
-    → IsAsked asked keys v → b.keys ≡ keys → Stands v b e t → KeepsToKinds b (strict v.order) t → ((u : List ℕ) (ms : List Mark) → StandsBetween e.machine u ms → IsNextOf asked (Err f) (call e new from to u ms)) → ¬ IsComplete e.machine × IsStopped (strict v.order) b t from to f
+    → IsAsked asked keys v → b.keys ≡ keys → Stands v b e t → KeepsToKinds b (strict v.order) t → ((u : List ℕ) (ms : List Mark) → StandsBetween e.machine u ms → IsNextOf asked (Err f) (call e new from to u ms)) → ¬ IsComplete e.machine × IsRefusedBehind (strict v.order) b t from to f
 stopped_there v b e new t from to f asked keys same reason all most asks keys_are (inl h) keeps next =
     let due = asks.due h.fs [] h.kept h.none in
     stopped_due v b e new t from to f asked same reason all most keeps h (λ a. ((refl, keys_are ∙ (due.0 a).0), (due.0 a).1), λ k d. due.1 (sym keys_are ∙ k.1, d)) (λ ms st. next t ms st)

@@ -15,7 +15,7 @@ use Rattle.cbor_judging.specs.Given.{opens}
 use Rattle.cbor_plain.specs.inner.PlainItems.{AreApart, HaveBegun, sets}
 use Rattle.cbor_judging.specs.Reading.{IsAt, IsNextHead}
 use Rattle.cbor_plain.specs.TreeValues.{IsTreeAt}
-use Rattle.cbor_judging.specs.Stopped.{IsStopped}
+use Rattle.cbor_judging.specs.RefusedBehind.{IsRefusedBehind}
 
 -- an item is due, behind the bytes t, and nothing read has a complaint
 pub record IsDueAt (v : PlainItems) (b : Bounds) (e : ItemEventsView) (t : List ℕ) : Type 0 where
@@ -64,15 +64,15 @@ pub record IsNextDue (b : Bounds) (ls : List Level) (t : List ℕ) (e : Event) (
 abbrev pub AnswersDue : PlainItems → ItemEventsView → Option (List ℕ) → Option (List ℕ) → ItemEventsView → Result Event Refusal → Type 0
 AnswersDue v e from to new result =
     (b : Bounds) (t : List ℕ) → (d : IsDueAt v b e t)
-    → MatchResult result (λ event. IsNextDue b d.ls t event from to new) (λ f. IsStopped plain b t from to f)
+    → MatchResult result (λ event. IsNextDue b d.ls t event from to new) (λ f. IsRefusedBehind plain b t from to f)
 
 abbrev pub AnswersNextPart : PlainItems → PlainItems → ItemEventsView → ItemEventsView → Option (List ℕ) → Option (List ℕ) → Result Bool Refusal → Type 0
 AnswersNextPart old new e after from to result =
     (b : Bounds) (t : List ℕ) → IsDueAt old b e t
-    → MatchResult result (λ more. TakesNext more new b after t from to) (λ f. IsStopped plain b t from to f)
+    → MatchResult result (λ more. TakesNext more new b after t from to) (λ f. IsRefusedBehind plain b t from to f)
 
 -- the parts that are left were taken, or it is refused at one
 abbrev pub AnswersParts : PlainItems → PlainItems → ItemEventsView → ItemEventsView → Option (List ℕ) → Option (List ℕ) → Result (Unit {0}) Refusal → Type 0
 AnswersParts old new e after from to result =
     (b : Bounds) (t : List ℕ) → IsDueAt old b e t
-    → MatchResult result (λ u. TakesNext false new b after t from to) (λ f. IsStopped plain b t from to f)
+    → MatchResult result (λ u. TakesNext false new b after t from to) (λ f. IsRefusedBehind plain b t from to f)

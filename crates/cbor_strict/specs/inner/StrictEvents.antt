@@ -13,7 +13,7 @@ use Rattle.cbor_automaton.specs.declared.event.Event.{Event}
 use Rattle.cbor_strict.specs.declared.open_items.OpenItems.{OpenItems}
 use Rattle.cbor_judging.specs.Kinds.{KeepsToKinds}
 use Rattle.cbor_judging.specs.Readers.{IsRead, Loses}
-use Rattle.cbor_judging.specs.Stopped.{IsStopped}
+use Rattle.cbor_judging.specs.RefusedBehind.{IsRefusedBehind}
 use Rattle.cbor_strict.specs.inner.LastKeys.{seen}
 use Rattle.cbor_strict.specs.inner.OpenItems.{Stands, IsOver}
 
@@ -54,7 +54,7 @@ IsStep None v b e after t from to = HasCome v b e after t from to
 abbrev pub AnswersStep : Keys → OpenItems → OpenItems → ItemEventsView → ItemEventsView → Option (List ℕ) → Option (List ℕ) → Result (Option Event) Refusal → Type 0
 AnswersStep keys old new e after from to result =
     (b : Bounds) (t : List ℕ) → b.keys ≡ keys → Stands old b e t → KeepsToKinds b (strict old.order) t
-    → MatchResult result (λ told. IsStep told new b e after t from to) (λ f. ¬ IsComplete e.machine × IsStopped (strict old.order) b t from to f)
+    → MatchResult result (λ told. IsStep told new b e after t from to) (λ f. ¬ IsComplete e.machine × IsRefusedBehind (strict old.order) b t from to f)
 
 -- at most a frame and a span for each open container, and no byte that was not read
 pub record IsLittle (v : OpenItems) (e : ItemEventsView) : Type 0 where

@@ -4,7 +4,7 @@ use Rattle.cbor_head.specs.declared.reason.Reason.TheVariants.{RepeatedKey}
 use Rattle.cbor_head.specs.declared.reason.Refusal.{Refusal}
 use Rattle.cbor_judging.specs.Levels.{frame}
 use Rattle.cbor_judging.proofs.Steps.{at-reached}
-use Rattle.cbor_judging.proofs.Stopped.{stopped_behind}
+use Rattle.cbor_judging.proofs.RefusedBehind.{stopped_behind}
 use Rattle.cbor_plain.proofs.TreeValues.{tree-takes}
 use Rattle.cbor_plain.proofs.PartsTaken.{refused-part, came, part-taken, part-fits, part-no-memory}
 use Rattle.cbor_plain.proofs.PartEnds.{repeated-key, goes-or-not}

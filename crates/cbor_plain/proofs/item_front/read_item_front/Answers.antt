@@ -1,7 +1,7 @@
 use Rattle.std.proofs.Common.{[], ◌∙◌, subst, sym, arith}
 use Rattle.cbor_head.specs.Prelude.{plain, Value}
 use Rattle.cbor_plain.specs.Front.{IsFrontRead}
-use Rattle.cbor_judging.proofs.Stopped.{stopped_front}
+use Rattle.cbor_judging.proofs.RefusedBehind.{stopped_front}
 use Rattle.cbor_judging.proofs.Tops.{starts-at}
 use Rattle.cbor_plain.proofs.PlainSteps.{due-first, front-whole}
 use Rattle.cbor_plain.proofs.TreeValues.{whole-in}

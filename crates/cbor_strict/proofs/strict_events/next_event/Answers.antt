@@ -5,7 +5,7 @@ use Rattle.cbor_standing.specs.NextEvent.{call}
 use Rattle.cbor_judging.specs.Kinds.{KeepsToKinds}
 use Rattle.cbor_judging.proofs.Payloads.{IsPiece}
 use Rattle.cbor_judging.proofs.Steps.{at-reached, limits-as}
-use Rattle.cbor_judging.proofs.Stopped.{stopped_behind}
+use Rattle.cbor_judging.proofs.RefusedBehind.{stopped_behind}
 use Rattle.cbor_strict.specs.inner.OpenItems.{Stands, HasPartCome}
 use Rattle.cbor_strict.specs.inner.StrictEvents.{IsNextOf}
 use Rattle.cbor_strict.proofs.StrictReading.{by_event, small_piece}

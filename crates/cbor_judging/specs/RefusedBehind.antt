@@ -7,7 +7,7 @@ use Rattle.cbor_judging.specs.Readers.{IsUnread}
 use Rattle.cbor_judging.specs.Refusals.{IsReaderReason}
 
 -- Behind the bytes t more is taken, and it is refused: what is told of what the reader held there, and of each.
-pub record IsStopped (r : Rules) (b : Bounds) (t : List ℕ) (from to : Option (List ℕ)) (f : Refusal) : Type 0 where
+pub record IsRefusedBehind (r : Rules) (b : Bounds) (t : List ℕ) (from to : Option (List ℕ)) (f : Refusal) : Type 0 where
   pub bytes : List ℕ
   pub consumed : Consumes from to bytes
   pub read : f.read ≡ length (t ++ bytes)

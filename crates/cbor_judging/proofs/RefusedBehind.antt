@@ -15,7 +15,7 @@ use Rattle.cbor_judging.specs.Kinds.{AsksForKinds, KeepsToKinds, HasBasicFront}
 use Rattle.cbor_judging.specs.Place.{Container, at_item}
 use Rattle.cbor_judging.specs.Readers.{IsUnread}
 use Rattle.cbor_judging.specs.Reading.{AreRefused, IsAt, IsMemory, IsReached, IsUndecided, HasCause, IsCutHead, IsFrontUnread}
-use Rattle.cbor_judging.specs.Stopped.{IsStopped}
+use Rattle.cbor_judging.specs.RefusedBehind.{IsRefusedBehind}
 use Rattle.cbor_judging.proofs.Items.{cut-judged}
 use Rattle.cbor_judging.proofs.Judged.{judged_start}
 use Rattle.cbor_judging.proofs.KindBytes.{Begins, judged_begins, silent_is_one, keeps_due, byte_begins}
@@ -42,7 +42,7 @@ basic_first t (x ∷ p) last from to bytes rest place basic at splits c is = go 
 module _ (r : Rules) (b : Bounds) (t : List ℕ) (from to : Option (List ℕ)) (f : Refusal) where
   -- why is known, and no key of another kind begins before it
   pub stopped_by : (bytes : List ℕ) → Consumes from to bytes → f.read ≡ length (t ++ bytes) → (why : (IsMemory f × IsReached b (t ++ bytes) × IsUndecided r b [] [] (t ++ bytes)) ⊎ HasCause r b [] [] (t ++ bytes) to f)
-      → ((rest : List ℕ) → from ≡ Some rest → KeepsBefore r b (t ++ bytes) to f why) → IsStopped r b t from to f
+      → ((rest : List ℕ) → from ≡ Some rest → KeepsBefore r b (t ++ bytes) to f why) → IsRefusedBehind r b t from to f
   stopped_by bytes consumed read why keeps = record {
     bytes = bytes;
     consumed = consumed;
@@ -55,7 +55,7 @@ module _ (r : Rules) (b : Bounds) (t : List ℕ) (from to : Option (List ℕ)) (
   }
 
   -- an event was read
-  pub stopped_behind : (bytes : List ℕ) → Consumes from to bytes → IsBeginning b.depth (t ++ bytes) → KeepsToKinds b r (t ++ bytes) → AreRefused r b (t ++ bytes) to f → IsStopped r b t from to f
+  pub stopped_behind : (bytes : List ℕ) → Consumes from to bytes → IsBeginning b.depth (t ++ bytes) → KeepsToKinds b r (t ++ bytes) → AreRefused r b (t ++ bytes) to f → IsRefusedBehind r b t from to f
   stopped_behind bytes consumed begins keeps a = stopped_by bytes consumed a.read a.why (λ rest is. before a.why)
     where
       before : (why : (IsMemory f × IsReached b (t ++ bytes) × IsUndecided r b [] [] (t ++ bytes)) ⊎ HasCause r b [] [] (t ++ bytes) to f) → KeepsBefore r b (t ++ bytes) to f why
@@ -67,7 +67,7 @@ module _ (r : Rules) (b : Bounds) (t : List ℕ) (from to : Option (List ℕ)) (
 module _ {left : ℕ} {fs : List Frame} {Due : Type 0} (r : Rules) (b : Bounds) (t : List ℕ) (from to : Option (List ℕ)) (f : Refusal) (cs : List Container) (around : IsAround b.depth left fs t Due) (room : b.depth - length cs ≡ left)
     (lifted : (p : List ℕ) → IsJudged r (length t) (b.depth - length cs) p None → IsJudged r 0 (b.depth - 0) (t ++ p) None) (keeps : KeepsToKinds b r t) where
   -- it is cut
-  pub stopped_within : (bytes : List ℕ) → Consumes from to bytes → f.read ≡ length (t ++ bytes) → (c : IsCutHead b (at_item cs) t bytes to f) → (AsksForKinds b r → Due → (rest : List ℕ) → from ≡ Some rest → HasBasicFront c.p) → IsStopped r b t from to f
+  pub stopped_within : (bytes : List ℕ) → Consumes from to bytes → f.read ≡ length (t ++ bytes) → (c : IsCutHead b (at_item cs) t bytes to f) → (AsksForKinds b r → Due → (rest : List ℕ) → from ≡ Some rest → HasBasicFront c.p) → IsRefusedBehind r b t from to f
   stopped_within bytes consumed read c basic =
       let j = cut-judged r b cs t bytes to f c in
       let cause : HasCause r b [] [] (t ++ bytes) to f = record {
@@ -84,7 +84,7 @@ module _ {left : ℕ} {fs : List Frame} {Due : Type 0} (r : Rules) (b : Bounds) 
 
   -- it is that of a key of another kind, of which the first byte was taken
   pub stopped_other : (e : ItemEventsView) (x : ℕ) → IsAt b e t (at_item cs) → AsksForKinds b r → Due → MayFollow b.depth t x → x ≢ 0xff → ¬ IsTrue (is_basic (x / 32)) → Consumes from to (x ∷ []) → length t + 1 ≤ b.bytes
-      → f ≡ refusal KeyKind (length t) (length t + 1) → IsStopped r b t from to f
+      → f ≡ refusal KeyKind (length t) (length t + 1) → IsRefusedBehind r b t from to f
   stopped_other e x at asked due follows item other consumed fits is =
       let size = length-append t (x ∷ []) in
       let g = subst (λ (n : ℕ). Begins n (x ∷ [])) room (byte_begins b e t cs x at follows item) in
@@ -109,7 +109,7 @@ module _ {left : ℕ} {fs : List Frame} {Due : Type 0} (r : Rules) (b : Bounds) 
 
 module _ (r : Rules) (b : Bounds) (f : Refusal) where
   -- some bytes were taken before
-  pub stopped_from : (t bs : List ℕ) (from now to : Option (List ℕ)) → Consumes from now bs → IsStopped r b (t ++ bs) now to f → IsStopped r b t from to f
+  pub stopped_from : (t bs : List ℕ) (from now to : Option (List ℕ)) → Consumes from now bs → IsRefusedBehind r b (t ++ bs) now to f → IsRefusedBehind r b t from to f
   stopped_from t bs from now to c s = record {
     bytes = bs ++ s.bytes;
     consumed = Consumes-trans from now to bs s.bytes c s.consumed;
@@ -123,5 +123,5 @@ module _ (r : Rules) (b : Bounds) (f : Refusal) where
       held (Some x) None c u = absurd c
       held (Some x) (Some y) c u = subst (λ (z : List ℕ). IsUnread b r z f) (append_assoc t bs y ∙ ap (λ (z : List ℕ). t ++ z) (sym c)) u
 
-  pub stopped_front : (from to : Option (List ℕ)) → IsStopped r b [] from to f → IsFrontUnread r b from to f
+  pub stopped_front : (from to : Option (List ℕ)) → IsRefusedBehind r b [] from to f → IsFrontUnread r b from to f
   stopped_front from to s = record { refused = s.unread; reason = s.reason; taken = loses s.bytes f.read from to s.read (record { more = s.bytes; consumed = s.consumed; are = refl }) }
