@@ -59,6 +59,7 @@ impl Draft {
         }
     }
 
+    #[tactic(auto, using(crate::proofs::Drafts::whole_length))]
     #[inline(always)]
     pub fn len(&self) -> usize
         requires { IsWhole self.now }
@@ -113,6 +114,7 @@ impl Draft {
     }
 
     // The same, where what is behind it may have regions.
+    #[tactic(auto, using(crate::proofs::Drafts::length_same))]
     #[inline(never)]
     fn fill_around(
         &mut self,
@@ -166,6 +168,7 @@ impl Draft {
     }
 
     // What is behind `at` lies as it is meant.
+    #[tactic(auto, using(crate::proofs::Drafts::tail_plain))]
     #[inline(always)]
     pub fn settle(&mut self, at: usize) -> Result<(), AllocError>
         requires { IsWhole self.old }

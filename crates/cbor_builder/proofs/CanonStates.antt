@@ -10,6 +10,7 @@ use Rattle.cbor_builder.specs.inner.Repeats.{Tells}
 use Rattle.cbor_builder.specs.inner.CanonState.{if_sound, seen, IsNested, IsKept}
 use Rattle.cbor_builder.specs.declared.canon_builder.CanonBuilder.TheInside.{Inside}
 use Rattle.cbor_builder.proofs.KeysSoFar.{different_distinct}
+use Rattle.cbor_builder.proofs.Standing.{lies_finished}
 
 -- ---- a builder that takes a part is sound
 
@@ -40,9 +41,10 @@ abbrev pub IsOpen : List Open → Type 0
 IsOpen [] = ⊥
 IsOpen (c ∷ os) = Unit {0}
 
-pub laid_whole : (b : Inside) (w : Built) (bs : List ℕ) → IsKept b → seen b ≡ w → w.standing ≡ plain bs ∷ [] → IsLaid b.core × (standing b.core ≡ plain bs ∷ [])
-laid_whole b w bs kept e p =
-    let k = known IsOpen (λ h. h) b w kept e (subst IsOpen (sym p) tt) in (k.laid, k.standing_is ∙ p)
+-- the bytes of an item that is whole
+pub whole_bytes : (b : Inside) (w : Built) (bs : List ℕ) → IsKept b → seen b ≡ w → w.standing ≡ plain bs ∷ [] → b.core.out.buf ≡ bs
+whole_bytes b w bs kept e p =
+    let k = known IsOpen (λ h. h) b w kept e (subst IsOpen (sym p) tt) in lies_finished b.core k.laid bs (k.standing_is ∙ p)
 
 -- ---- a map that does not end
 

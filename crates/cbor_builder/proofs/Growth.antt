@@ -233,7 +233,7 @@ begun m n from end out out' ss fs ef ee eo = by_major m (ap (drop from) eo ∙ a
 
 -- ---- the bytes of a map that closes
 
-count : (out : List ℕ) (ss : List Span) (first n : ℕ) → n ≡ length ss - first → n ≡ length (pairs_from out ss first)
+pub count : (out : List ℕ) (ss : List Span) (first n : ℕ) → n ≡ length ss - first → n ≡ length (pairs_from out ss first)
 count out ss first n e =
     let l = length-drop first ss in
     let m = length-map (drop first ss) (span_pair out) in

@@ -257,12 +257,6 @@ pub alone : (raw out : List ℕ) (ss : List Span) (f : Frame) (fs : List Frame) 
 alone raw out ss f [] c a e = a
 alone raw out ss f (g ∷ fs) c a e = cc
 
--- ---- a key that waits
-
-pub waiting_same : (raw out : List ℕ) (ss : List Span) (f : Frame) (fs : List Frame) (first at : ℕ) → Agrees raw out ss (f ∷ fs) → f.shape ≡ Key first at
-    → AreSameKeys raw out (drop first ss) × (drop at raw ≡ drop at out)
-waiting_same raw out ss f fs first at a e = subst (HasSameKeys raw out ss) e (top_keys raw out ss f fs a)
-
 -- ---- the key that waits
 
 pub repeated_same : (raw out : List ℕ) (ss us : List Span) (start first key val : ℕ) (s : Shape) (os : List Open) (t : Bool) → s ≡ Key first key → us ≡ drop first ss → HasSameKeys raw out ss s → val ≡ length raw

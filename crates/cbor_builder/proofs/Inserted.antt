@@ -15,8 +15,7 @@ use Rattle.cbor_canonical.proofs.Orders.{key_cmp_total, lt_trans}
 use Rattle.cbor_buffer.specs.Spans.{span_pair}
 use Rattle.cbor_buffer.specs.declared.span.Span.{Span}
 use Rattle.cbor_builder.specs.Built.{HasKey}
-use Rattle.cbor_builder.specs.inner.Front.{key_of, IsFronted, AreFronted, rank, ranked_by}
-use Rattle.cbor_builder.specs.inner.Insertion.{in_front}
+use Rattle.cbor_builder.specs.inner.Front.{key_of, IsFronted, AreFronted, rank, ranked_by, in_front}
 use Rattle.cbor_buffer.proofs.ByIndex.{all_index, at_read}
 use Rattle.cbor_builder.proofs.Ranks.{agree_spans}
 use Rattle.cbor_builder.proofs.Neighbours.{distinct_permuted}

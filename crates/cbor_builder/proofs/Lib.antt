@@ -12,6 +12,5 @@ pub mod OpenRepeats
 pub mod PartsMade
 pub mod Ranks
 pub mod Reordered
-pub mod SortedPairs
 pub mod Standing
 pub mod Ties

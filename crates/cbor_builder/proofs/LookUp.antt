@@ -1,5 +1,5 @@
 -- A key looked for among the pairs of its map.
-use Rattle.std.proofs.Common.{◌≡◌, ◌↔◌, ℕ, ◌+◌, ◌<◌, ◌≤◌, ◌⊎◌, List, [], ◌∷◌, ◌++◌, length, drop, get_or, map, Bool, false, true≢false, inl, inr, refl, sym, ap, ◌∙◌, subst, IsTrue}
+use Rattle.std.proofs.Common.{◌≡◌, ◌↔◌, ℕ, ◌+◌, ◌<◌, ◌≤◌, ◌⊎◌, List, [], ◌∷◌, ◌++◌, length, drop, get_or, map, false, true≢false, inl, inr, refl, sym, ap, ◌∙◌, subst, IsTrue}
 use Rattle.std.specs.List.{AllByRecursion}
 use Rattle.std.specs.Ordering.{is_eq}
 use Rattle.std.specs.declared.cmp.Ordering.{Ordering}
@@ -59,12 +59,6 @@ above_other o out (k ∷ ks) next r (inl e) = lt_irrefl o (key_of out next) (sub
     last [] a = a.0
     last (s ∷ ss) a = last ss a.1
 above_other o out (k ∷ ks) next r (inr h) = above_other o out ks next r.1 h
-
-pub above_all : (o : KeyOrder) (out bytes : List ℕ) (ks : List Span) (next : Span) (above : Bool) → bytes ≡ out
-    → (IsTrue above → IsRising o (map (span_pair bytes) ks) → IsRising o (map (span_pair bytes) (ks ++ next ∷ []))) → IsTrue above → IsRising o (map (span_pair out) ks)
-    → HasKey (map (span_pair out) ks) (key_of out next) → ⊥
-above_all o out bytes ks next above e h t r =
-    above_other o out ks next (subst (λ (xs : List ℕ). IsRising o (map (span_pair xs) (ks ++ next ∷ []))) e (h t (subst (λ (xs : List ℕ). IsRising o (map (span_pair xs) ks)) (sym e) r)))
 
 -- ---- by the values of the keys
 

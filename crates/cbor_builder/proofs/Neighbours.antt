@@ -1,7 +1,10 @@
 -- Keys in the order of their bytes: equal ones are neighbours.
-use Rattle.std.proofs.Common.{◌≡◌, ◌≢◌, ℕ, zero, suc, ◌+◌, List, [], ◌∷◌, get_or, map, false, true≢false, refl, sym, ap, ◌∙◌, subst, arith, inl, inr, IsPermutation, IsSortedBy, IsTrue}
+use Rattle.std.proofs.Common.{◌≡◌, ◌≢◌, ℕ, Bool, zero, suc, ◌+◌, List, [], ◌∷◌, get_or, map, true, false, true≢false, refl, sym, ap, ◌∙◌, subst, arith, inl, inr, IsPermutation, IsSortedBy, IsTrue}
 use Rattle.std.specs.List.{IsDistinct}
-use Rattle.std.specs.Ordering.{is_eq}
+use Rattle.std.specs.Ordering.{is_eq, ordering_reverse}
+use Rattle.std.specs.declared.cmp.Ordering.{Ordering}
+use Rattle.std.specs.declared.cmp.Ordering.TheVariants.{Less, Equal}
+use Rattle.std.proofs.lemmas.Bool.{false_from_ne_true}
 use Rattle.std.proofs.lemmas.Cmp.{tied_itself}
 use Rattle.std.proofs.lemmas.Map.Keys.{IsDistinct-IsPermutation}
 use Rattle.std.proofs.lemmas.List.Sorted.{IsPermutation-sym, Contains-permutation}
@@ -13,9 +16,8 @@ use Rattle.cbor_buffer.specs.Spans.{span_pair}
 use Rattle.cbor_buffer.specs.declared.span.Span.{Span}
 use Rattle.cbor_canonical.specs.Pairs.{HasDistinctBytes, IsRising}
 use Rattle.cbor_canonical.proofs.Members.{all_at, all_from, in_contains, contains_in}
-use Rattle.cbor_canonical.proofs.Orders.{key_cmp_total, lt_trans, lt_other}
-use Rattle.cbor_builder.proofs.SortedPairs.{same_key, same_key-flips, IsDistinct-keys}
-use Rattle.cbor_canonical.proofs.Sorting.{rises_at, rising_cons, rising_unique, in_order_rising, in_order_in, in_in_order}
+use Rattle.cbor_canonical.proofs.Orders.{key_cmp_total, tied, lt_trans, lt_other}
+use Rattle.cbor_canonical.proofs.Sorting.{differs_at, rises_at, rising_cons, rising_unique, in_order_rising, in_order_in, in_in_order}
 
 abbrev pub keys : List Pair → List (List ℕ)
 keys ps = map (λ (p : Pair). p.key) ps
@@ -41,6 +43,28 @@ rising_from_differ o out (x ∷ y ∷ ss) s d =
       | inl e ↦ subst (λ (t : Pair). IsTrue (key_lt o (key_of out x) t.key)) (sym e) up
       | inr n ↦ lt_trans o (key_of out x) (key_of out y) r.key up (rises_at o (f y) (map f ss) rest r n)
     ]) rest
+
+-- ---- keys that differ, in whatever order
+
+abbrev same_key : KeyOrder → Pair → Pair → Bool
+same_key o p q = is_eq (key_cmp o p.key q.key)
+
+same_key-flips : (o : KeyOrder) (p q : Pair) → same_key o p q ≡ same_key o q p
+same_key-flips o p q = ap is_eq ((key_cmp_total o).antisymm p.key q.key) ∙ turned (key_cmp o q.key p.key)
+  where
+    turned : (r : Ordering) → is_eq (ordering_reverse r) ≡ is_eq r
+    turned Less = refl
+    turned r = refl
+
+pub is_tied : (r : Ordering) → is_eq r ≡ true → r ≡ Equal
+is_tied Equal e = refl
+is_tied r e = cc
+
+IsDistinct-keys : (o : KeyOrder) (ps : List Pair) → HasDistinctBytes ps → IsDistinct (same_key o) ps
+unfolding IsDistinct
+IsDistinct-keys o [] d = tt
+IsDistinct-keys o (p ∷ ps) d =
+    (all_from (λ q. same_key o p q ≡ false) ps (λ q m. false_from_ne_true (same_key o p q) (λ e. differs_at p ps d q m (sym (tied o p.key q.key (is_tied _ e))))), IsDistinct-keys o ps d.1)
 
 distinct_from_keys : (o : KeyOrder) (ps : List Pair) → IsDistinct (same_key o) ps → HasDistinctBytes ps
 unfolding IsDistinct

@@ -1,8 +1,8 @@
 -- What is around the innermost.
-use Rattle.std.proofs.Common.{◌≡◌, ◌-◌, ◌^◌, ◌≤◌, ℕ, vec_len, Bool, true, false, List, [], ◌∷◌, ◌++◌, length, length-append, refl, ap, ◌∙◌, subst, arith, if◌then◌else◌, IsTrue, reverse}
+use Rattle.std.proofs.Common.{◌≡◌, ◌^◌, ◌≤◌, ℕ, Bool, true, false, List, [], ◌∷◌, ◌++◌, length, length-append, refl, ap, ◌∙◌, subst, arith, if◌then◌else◌, IsTrue, reverse}
 use Rattle.std.proofs.lemmas.List.{length-reverse}
 use Rattle.cbor_head.specs.declared.order.KeyOrder.{KeyOrder}
-use Rattle.cbor_builder.specs.inner.BuilderState.{outers, IsRooted}
+use Rattle.cbor_builder.specs.inner.BuilderState.{outers}
 use Rattle.cbor_builder.specs.inner.Laid.{outermost, KeepsRising, OuterTakes, shape_after}
 use Rattle.cbor_builder.specs.declared.builder.Core.{Core}
 use Rattle.cbor_builder.specs.declared.frame.Frame.{Frame}
@@ -18,14 +18,6 @@ rooted_given o out ss at f f' opened below from start shape rises r is =
     let c = shape ∙ ap (λ (g : Frame). shape_after at g.shape) e in
     let d = subst (λ (g : Frame). KeepsRising o out ss at g.shape g.rises f'.rises) e rises in
     (λ i. record { from = a i; start = b i; shape = c i; rises = d i }, (r is).1)
-
--- so many are stored as there are around the innermost, but for the outermost
-pub stored : (c : Core) → IsRooted c → vec_len c.below ≡ length (outers c) - 1
-stored c r = go c.is_open r
-  where
-    go : (opened : Bool) → (opened ≡ false → (c.top ≡ outermost) × (c.below.items ≡ [])) → vec_len c.below ≡ length (if opened then reverse c.below.items ++ outermost ∷ [] else []) - 1
-    go true r = let l = length-append (reverse c.below.items) (outermost ∷ []) in let k = length-reverse c.below.items in omega (arith, l, k, c.below.ok.0)
-    go false r = let e = ap length (r refl).1 in omega (arith, e, c.below.ok.0)
 
 -- they fit the memory
 pub outers_fit : (c : Core) → length (outers c) ≤ 2 ^ 63

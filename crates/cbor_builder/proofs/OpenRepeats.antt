@@ -1,5 +1,5 @@
 -- Which repeated key is told, from the innermost out.
-use Rattle.std.proofs.Common.{◌≡◌, ℕ, suc, ◌+◌, ◌-◌, ◌^◌, ◌<◌, ◌≤◌, List, [], ◌∷◌, ◌++◌, length, length-drop, drop, take, map, Option, Some, None, Bool, true, false, refl, sym, ap, ◌∙◌, subst, arith, inl, inr, IsTrue, MatchOption, IfSome, ◌↔◌}
+use Rattle.std.proofs.Common.{◌≡◌, ℕ, suc, ◌+◌, ◌-◌, ◌^◌, ◌<◌, ◌≤◌, List, [], ◌∷◌, ◌++◌, length, drop, take, map, Option, Some, None, Bool, true, false, refl, sym, ap, ◌∙◌, subst, arith, inl, inr, IsTrue, MatchOption, IfSome, ◌↔◌}
 use Rattle.std.specs.Option.{option_or}
 use Rattle.std.specs.Bool.{then_some}
 use Rattle.std.proofs.lemmas.List.{length-map, drop_all, take_rest}
@@ -16,6 +16,7 @@ use Rattle.cbor_builder.specs.declared.frame.Frame.{Frame}
 use Rattle.cbor_builder.specs.declared.frame.Shape.{Shape}
 use Rattle.cbor_builder.specs.declared.frame.Shape.TheVariants.{Plain, Map, Key}
 use Rattle.cbor_builder.specs.declared.repeat.Repeat.{Repeat}
+use Rattle.cbor_builder.proofs.Growth.{count}
 use Rattle.cbor_builder.proofs.Neighbours.{keys, keys-map}
 use Rattle.cbor_builder.proofs.KeysSoFar.{first_more, waits_repeated, waits_alone, distinct_different}
 use Rattle.cbor_canonical.proofs.Sorting.{rising_distinct}
@@ -95,12 +96,8 @@ with_key ps k (Some m) waits count e h w = first_more (keys ps) k m h
 with_key ps k None true count e h w = subst (IsFirstRepeat (keys ps ++ k ∷ [])) (sym e) (waits_repeated ps k h (w.0 refl))
 with_key ps k None false count e h w = waits_alone ps k h (λ g. let t : false ≡ true = w.1 g in cc)
 
-count_keys : (out : List ℕ) (ss : List Span) (first count : ℕ) → count ≡ length ss - first → count ≡ length (keys (pairs_from out ss first))
-count_keys out ss first count e =
-    let a = ap length (pairs_keys out ss first) in
-    let b = length-map (drop first ss) (key_of out) in
-    let c = length-drop first ss in
-    omega (arith, e, a, b, c)
+count_keys : (out : List ℕ) (ss : List Span) (first n : ℕ) → n ≡ length ss - first → n ≡ length (keys (pairs_from out ss first))
+count_keys out ss first n e = count out ss first n e ∙ sym (length-map (pairs_from out ss first) (λ (p : Pair). p.key))
 
 -- what is found among the spans of its pairs, and of the key that waits, is what is told
 pub shape_tells : (out : List ℕ) (ss : List Span) (start count : ℕ) (s : Shape) (r : Option ℕ) (waits : Bool) (os : List Open) → count ≡ length ss - first_of ss s

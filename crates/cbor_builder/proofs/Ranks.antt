@@ -19,7 +19,7 @@ use Rattle.cbor_buffer.proofs.ByIndex.{all_index}
 use Rattle.cbor_keys.specs.Front.{front_of}
 use Rattle.cbor_builder.specs.inner.Front.{key_of, IsFronted, AreFronted, by_front, rank, ranked_by}
 use Rattle.cbor_builder.specs.inner.Repeats.{nth}
-use Rattle.cbor_builder.proofs.SortedPairs.{is_tied}
+use Rattle.cbor_builder.proofs.Neighbours.{is_tied}
 use Rattle.cbor_buffer.specs.Spans.{no_span}
 use Rattle.cbor_buffer.specs.declared.span.Span.{Span}
 use Rattle.cbor_keys.proofs.KeyFronts.{agree_front}

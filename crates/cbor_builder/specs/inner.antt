@@ -3,6 +3,5 @@ pub mod BuilderState
 pub mod CanonState
 pub mod Front
 pub mod InPlace
-pub mod Insertion
 pub mod Laid
 pub mod Repeats

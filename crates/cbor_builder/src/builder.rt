@@ -73,6 +73,7 @@ impl Core {
     }
 
     /// An item that is its head.
+    #[tactic(auto, using(crate::proofs::Standing::member_ready))]
     #[inline(always)]
     pub(crate) fn leaf(&mut self, major: Major, n: u64) -> Result<(), AllocError>
         requires laid { IsLaid self.old }

@@ -3,8 +3,7 @@
 ghost use Rattle.std.specs.Prelude.{◌≡◌, ◌↔◌, ◌<◌, ◌∷◌, IsTrue, false, map, length};
 ghost use Rattle.std.specs.Prelude.{IsPermutation};
 ghost use Rattle.cbor_builder.specs.Built.{HasKey};
-ghost use Rattle.cbor_builder.specs.inner.Front.{key_of, IsFronted, AreFronted};
-ghost use Rattle.cbor_builder.specs.inner.Insertion.{in_front};
+ghost use Rattle.cbor_builder.specs.inner.Front.{key_of, IsFronted, AreFronted, in_front};
 ghost use Rattle.cbor_buffer.specs.Spans.{span_pair};
 ghost use Rattle.cbor_canonical.specs.Pairs.{HasDistinctBytes, IsRising};
 

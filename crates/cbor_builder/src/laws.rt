@@ -12,6 +12,7 @@ ghost use Rattle.cbor_builder.specs.Built.{IsRepeatedKey, HasSameKey};
 
 /// From nothing, the parts that make a value leave its canonical bytes; whatever is open, they
 /// leave them as one more finished member. Repeated keys do no harm to this.
+#[tactic(auto, using(crate::proofs::PartsMade::builds, crate::proofs::PartsMade::builds_whole))]
 pub fn parts_make_canonical_bytes()
     ensures whole { (o : KeyOrder) (v : Value) (ps : List Part) → Makes v ps
         → run o ps (plain [] ∷ []) ≡ plain (canonical o v) ∷ [] }
@@ -21,6 +22,7 @@ pub fn parts_make_canonical_bytes()
 
 /// No two keys of an open map have equal bytes exactly where no two of the entries that made it are
 /// the same.
+#[tactic(auto, using(cbor_canonical::proofs::Keys::distinct_exactly))]
 pub fn repeats_are_those_of_the_value()
     ensures { (o : KeyOrder) (es : Entries) → AreEntriesInRange es → AreKeysValid es
         → HasNoRepeats (a_map (canonical_entries o es)) ↔ HasDistinctKeys es }
@@ -28,6 +30,7 @@ pub fn repeats_are_those_of_the_value()
 
 /// A key that waits for its value is repeated exactly where it is the same as the key of one of the
 /// entries before it.
+#[tactic(auto, using(crate::proofs::LookUp::same_key_exactly))]
 pub fn repeated_key_is_the_same_as_an_earlier_one()
     ensures { (o : KeyOrder) (es : Entries) (k : Value) (os : List Open)
         → AreEntriesInRange es → AreKeysValid es → IsInRange k → IsValid k

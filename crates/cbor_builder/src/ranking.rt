@@ -13,6 +13,7 @@ use std::cmp::Ordering;
 
 // The first eight bytes of a key as a number. They are read in one piece, beyond what is written
 // too.
+#[tactic(auto, using(cbor_buffer::proofs::Slices::slice_within))]
 #[inline(always)]
 pub(crate) fn front(out: &Out, key: usize, val: usize) -> u64
     requires begins { key ≤ val }

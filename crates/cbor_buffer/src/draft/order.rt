@@ -37,6 +37,7 @@ impl Draft {
     }
 
     // The same, by the bytes themselves.
+    #[tactic(auto, using(crate::proofs::Drafts::length_same))]
     fn put_down(&mut self, start: usize, spans: &[Span]) -> Result<(), AllocError>
         requires { AreThere self.old start spans.now }
         ensures put { OnOk result (PutsDown self.old self.new start

@@ -1,5 +1,5 @@
 -- The order of keys by their first eight bytes.
-use Rattle.std.specs.Prelude.{ℕ, ◌≡◌, List, length, slice_range}
+use Rattle.std.specs.Prelude.{ℕ, ◌≡◌, ◌-◌, List, length, take, slice_range}
 use Rattle.std.specs.List.{AllByRecursion}
 use Rattle.std.specs.declared.cmp.Ordering.{Ordering}
 use Rattle.std.specs.Ordering.{nat_cmp, then_cmp, on}
@@ -30,3 +30,7 @@ rank LengthFirst = then_cmp (on (λ p. length p.1) nat_cmp) by_front
 
 abbrev pub ranked_by : List ℕ → Span → ℕ × List ℕ
 ranked_by out s = (s.front, key_of out s)
+
+-- those in front of the last place
+abbrev pub in_front : List Span → List Span
+in_front ss = take (length ss - 1) ss

@@ -81,6 +81,7 @@ impl Core {
     }
 
     // Puts the bytes of what is open in their final form. False where two keys of it are equal.
+    #[tactic(auto, using(cbor_buffer::proofs::Drafts::whole_length))]
     #[inline(always)]
     fn close_top(&mut self) -> Result<bool, AllocError>
         requires laid { IsLaid self.old }

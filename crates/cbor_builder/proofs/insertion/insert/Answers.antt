@@ -6,8 +6,7 @@ use Rattle.cbor_buffer.specs.declared.span.Span.{Span}
 use Rattle.cbor_canonical.proofs.ByteLists.{are_bytes}
 use Rattle.cbor_canonical.proofs.Orders.{tied}
 use Rattle.cbor_canonical.specs.Pairs.{IsRising}
-use Rattle.cbor_builder.specs.inner.Front.{key_of}
-use Rattle.cbor_builder.specs.inner.Insertion.{in_front}
+use Rattle.cbor_builder.specs.inner.Front.{key_of, in_front}
 use Rattle.cbor_builder.proofs.Inserted.{AreAbove, AreBelow, free_place, free_moved, set_free, above_more, none_below, below_all, inserted_rises, has_key_at, ranked_key, less_key, greater_key}
 use Rattle.cbor_builder.proofs.insertion.insert.Goals as goal
 use Rattle.cbor_builder.proofs.insertion.insert.Goals.{else-loop-at-test, then-loop-at-test+in-Less}

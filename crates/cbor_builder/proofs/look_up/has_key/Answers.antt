@@ -1,7 +1,14 @@
+use Rattle.std.proofs.Common.{List, ℕ, ◌∷◌, ◌++◌, [], map, subst}
+use Rattle.cbor_buffer.specs.Spans.{span_pair}
+use Rattle.cbor_buffer.specs.declared.span.Span.{Span}
 use Rattle.cbor_canonical.proofs.Decided.{fails}
-use Rattle.cbor_builder.proofs.LookUp.{above_all}
+use Rattle.cbor_canonical.specs.Pairs.{IsRising}
+use Rattle.cbor_builder.proofs.LookUp.{above_other}
 use Rattle.cbor_builder.proofs.look_up.has_key.Goals as goal
 
 pub returns-then-is_above : goal.returns-then-is_above
 returns-then-is_above c =
-    fails (above_all c.args.order c.args.out.now c.as_slice-bytes.result.now c.args.spans.now _ c.is_above.result c.as_slice-bytes.ensures c.is_above.ensures c.if-is_above.true (c.requires.rises c.if-rises.true))
+    let o = c.args.order in
+    let ks = c.args.spans.now in
+    let wanted : Span = record { front = c.front.result; key = c.args.key; val = c.args.val; end = c.args.val } in
+    fails (above_other o c.args.out.now ks wanted (subst (λ (xs : List ℕ). IsRising o (map (span_pair xs) ks) → IsRising o (map (span_pair xs) (ks ++ wanted ∷ []))) c.as_slice-bytes.ensures (c.is_above.ensures c.if-is_above.true) (c.requires.rises c.if-rises.true)))

@@ -1,7 +1,7 @@
-use Rattle.std.proofs.Common.{length, sym, ap, ◌∙◌, arith}
+use Rattle.std.proofs.Common.{sym, ◌∙◌}
 use Rattle.std.proofs.lemmas.Result.{on_ok_weaker}
 use Rattle.cbor_head.specs.Prelude.{shortest_head}
-use Rattle.cbor_buffer.proofs.Drafts.{filled_in_gap, filled_settled, same_meant, whole_rope, length_same}
+use Rattle.cbor_buffer.proofs.Drafts.{filled_in_gap, filled_settled, same_meant, whole_rope}
 use Rattle.cbor_buffer.proofs.draft.Draft.fill_around.Goals as goal
 
 pub returns-then-is_in_gap : goal.returns-then-is_in_gap
@@ -14,13 +14,6 @@ returns-then-is_in_gap c =
 
 pub settle_all-requires : goal.settle_all-requires
 settle_all-requires c = whole_rope c.merge.new.self c.merge.ensures.whole
-
-pub fill_head-requires-2-clause-ends : goal.fill_head-requires-2-clause-ends
-fill_head-requires-2-clause-ends c =
-    let k = c.merge.ensures in
-    let e = c.in_ok-settle_all.ensures in
-    let l = length_same c.merge.new.self c.settle_all.new.self k.whole e.whole e.meant in
-    omega (arith, l, ap length k.buf, c.requires.ends)
 
 pub returns : goal.returns
 returns c =

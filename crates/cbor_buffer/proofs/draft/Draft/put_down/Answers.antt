@@ -10,11 +10,6 @@ gather-requires c =
     let e = c.in_ok-settle.ensures in
     within_same m.buf (meant c.args.self.now) c.args.spans.now (whole_length m e.whole ∙ ap length e.meant) c.requires.within
 
-pub close_up-requires-clause-begins : goal.close_up-requires-clause-begins
-close_up-requires-clause-begins c =
-    let e = c.in_ok-settle.ensures in
-    let l = length_same c.args.self.now c.settle.new.self c.requires.whole e.whole e.meant in omega (arith, l, c.requires.begins, c.len-len.ensures)
-
 pub returns : goal.returns
 returns c =
     let m = c.settle.new.self in

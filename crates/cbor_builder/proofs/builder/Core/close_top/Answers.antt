@@ -13,9 +13,6 @@ use Rattle.cbor_builder.proofs.InPlace.{top_keys}
 use Rattle.cbor_canonical.proofs.Decided.{holds}
 use Rattle.cbor_builder.proofs.builder.Core.close_top.Goals as goal
 
-pub fill_head-requires-clause-ends : goal.fill_head-requires-clause-ends
-fill_head-requires-clause-ends c = let l = whole_length c.args.self.now.out c.requires.laid.0.1 in omega (arith, l, c.requires.laid.0.0.1)
-
 pub order_pairs-requires-clause-keys : goal.order_pairs-requires-clause-keys
 order_pairs-requires-clause-keys c =
     let s = c.args.self.now in

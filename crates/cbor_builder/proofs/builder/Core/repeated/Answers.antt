@@ -6,7 +6,8 @@ use Rattle.cbor_builder.specs.inner.Laid.{Fits}
 use Rattle.cbor_buffer.specs.Spans.{span_pair}
 use Rattle.cbor_buffer.specs.Moved.{meant}
 use Rattle.cbor_buffer.specs.declared.span.Span.{Span}
-use Rattle.cbor_builder.proofs.InPlace.{top_keys, waiting_same, fronted_keys, rising_keys, keys_flip, repeated_same}
+use Rattle.cbor_builder.proofs.InPlace.{top_keys, fronted_keys, rising_keys, keys_flip, repeated_same}
+use Rattle.cbor_builder.specs.inner.InPlace.{HasSameKeys}
 use Rattle.cbor_builder.specs.inner.BuilderState.{outers}
 use Rattle.cbor_builder.proofs.builder.Core.repeated.Goals as goal
 
@@ -19,7 +20,7 @@ has_key-requires c =
     let laid = c.requires.laid c.in-Key.first c.in-Key.key c.in-Key.is in
     let fits = subst (Fits s.order (meant s.out) s.spans.items f.from f.start f.rises) c.in-Key.is laid.0.2 in
     let us = take_rest c.deref.result.now c.in-Key.first ∙ ap (drop c.in-Key.first) c.deref.ensures.value in
-    let k = waiting_same bytes (meant s.out) s.spans.items f (outers s) c.in-Key.first c.in-Key.key laid.2 c.in-Key.is in
+    let k = subst (HasSameKeys bytes (meant s.out) s.spans.items) c.in-Key.is (top_keys bytes (meant s.out) s.spans.items f (outers s) laid.2) in
     record {
       fronted = subst (AreFronted bytes) (sym us) (fronted_keys bytes (meant s.out) came k.0 fits.4);
       rises = λ t. subst (λ (xs : List Span). IsRising s.order (map (span_pair bytes) xs)) (sym us)
