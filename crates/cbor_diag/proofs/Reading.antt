@@ -1,5 +1,5 @@
 -- Texts read back, so that they tell their values. It reads more than texts: only texts matter.
-use Rattle.std.proofs.Common.{◌≡◌, ℕ, zero, suc, ◌/◌, ◌%◌, ◌^◌, ◌<◌, ◌≤◌, Bool, true, false, cond, List, [], ◌∷◌, ◌++◌, length, take, drop, get_or, flat_map, codes, decimal, Result, Ok, Err, is_some, ◌⊎◌, inl, inr, eqb, ltb, refl, ap, ◌∙◌, length-append, arith, lt-ltb, ltb-true, eqb-true}
+use Rattle.std.proofs.Common.{◌≡◌, ℕ, zero, suc, ◌/◌, ◌%◌, ◌^◌, ◌<◌, ◌≤◌, Bool, true, false, cond, List, [], ◌∷◌, ◌++◌, length, get_or, flat_map, codes, decimal, Result, Ok, Err, is_some, ◌⊎◌, inl, inr, eqb, ltb, refl, ap, ◌∙◌, arith, lt-ltb, ltb-true, eqb-true}
 use Rattle.std.proofs.lemmas.Bool.{cases_Bool}
 use Rattle.std.specs.List.{AllByRecursion}
 use Rattle.std.specs.Char.{digit_value}
@@ -110,15 +110,20 @@ abbrev pub first : List ℕ → ℕ
 first cs = get_or cs 0 0
 
 -- the bytes to the closing quote, and what is behind it
-abbrev pub unquoted : ℕ → List ℕ → Two
-unquoted zero cs = ([], cs)
-unquoted (suc k) cs =
-    cond (eqb (first cs) 34) ([], drop 1 cs)
-    (cond (eqb (first cs) 92)
-    (cond (eqb (first (drop 1 cs)) 117)
-    (onto (first (decoded (decode_of (take 2 (drop 4 cs))))) (unquoted k (drop 6 cs)))
-    (onto (first (drop 1 cs)) (unquoted k (drop 2 cs))))
-    (onto (first cs) (unquoted k (drop 1 cs))))
+abbrev mutual
+  pub unquoted : List ℕ → Two
+  unquoted [] = ([], [])
+  unquoted (c ∷ cs) = cond (eqb c 34) ([], cs) (cond (eqb c 92) (marked cs) (onto c (unquoted cs)))
+
+  -- behind a backslash
+  marked : List ℕ → Two
+  marked [] = ([], [])
+  marked (c ∷ cs) = cond (eqb c 117) (numbered cs) (onto c (unquoted cs))
+
+  -- behind a `u`
+  numbered : List ℕ → Two
+  numbered (y ∷ z ∷ h ∷ l ∷ cs) = onto (first (decoded (decode_of (h ∷ l ∷ [])))) (unquoted cs)
+  numbered _ = ([], [])
 
 -- a byte of a text stands in one of three ways
 record IsRaw (b : ℕ) : Type 0 where
@@ -133,14 +138,11 @@ record IsMarked (b : ℕ) : Type 0 where
 record IsControl (b : ℕ) : Type 0 where
   is : escaped b ≡ codes "\\u00" ++ encode_lower (b ∷ [])
 
-raw-step : (k b : ℕ) (cs : List ℕ) → eqb b 34 ≡ false → eqb b 92 ≡ false → unquoted (suc k) (b ∷ cs) ≡ onto b (unquoted k cs)
-raw-step k b cs p q = rw (p, q) refl
+raw-step : (b : ℕ) (cs : List ℕ) → eqb b 34 ≡ false → eqb b 92 ≡ false → unquoted (b ∷ cs) ≡ onto b (unquoted cs)
+raw-step b cs p q = rw (p, q) refl
 
-marked-step : (k b : ℕ) (cs : List ℕ) → eqb b 117 ≡ false → unquoted (suc k) (92 ∷ b ∷ cs) ≡ onto b (unquoted k cs)
-marked-step k b cs p = rw p refl
-
-control-step : (k h l : ℕ) (cs : List ℕ) → unquoted (suc k) (92 ∷ 117 ∷ 48 ∷ 48 ∷ h ∷ l ∷ cs) ≡ onto (first (decoded (decode_of (h ∷ l ∷ [])))) (unquoted k cs)
-control-step k h l cs = refl
+marked-step : (b : ℕ) (cs : List ℕ) → eqb b 117 ≡ false → unquoted (92 ∷ b ∷ cs) ≡ onto b (unquoted cs)
+marked-step b cs p = rw p refl
 
 ways : (b : ℕ) (p q r s : Bool) → eqb b 34 ≡ p → eqb b 92 ≡ q → ltb b 32 ≡ r → eqb b 127 ≡ s → IsRaw b ⊎ (IsMarked b ⊎ IsControl b)
 ways b true q r s e f g h = let is : b ≡ 34 = eqb-true b 34 e in inr (inl (record { is = rw e refl; no_letter = rw is refl }))
@@ -149,33 +151,20 @@ ways b false false true s e f g h = inr (inr (record { is = rw (e, f, g) refl })
 ways b false false false true e f g h = inr (inr (record { is = rw (e, f, g, h) refl }))
 ways b false false false false e f g h = inl (record { is = rw (e, f, g, h) refl; no_quote = e; no_backslash = f })
 
-control : (k b : ℕ) (bs x : List ℕ) → AreBytes (b ∷ bs) → unquoted k (flat_map escaped bs ++ 34 ∷ x) ≡ (bs, x) → unquoted (suc k) (((codes "\\u00" ++ encode_lower (b ∷ [])) ++ flat_map escaped bs) ++ 34 ∷ x) ≡ (b ∷ bs, x)
+control : (b : ℕ) (bs x : List ℕ) → AreBytes (b ∷ bs) → unquoted (flat_map escaped bs ++ 34 ∷ x) ≡ (bs, x) → unquoted (((codes "\\u00" ++ encode_lower (b ∷ [])) ++ flat_map escaped bs) ++ 34 ∷ x) ≡ (b ∷ bs, x)
 unfolding encode_with
-control k b bs x h more =
+control b bs x h more =
     let back : first (decoded (decode_of (encode_lower (b ∷ [])))) ≡ b = ap first (decoded-back (b ∷ []) (h.0, tt)) in
-    let cs = flat_map escaped bs ++ 34 ∷ x in
-    control-step k (get_or lower_digits (b / 16) 0) (get_or lower_digits (b % 16) 0) cs
-    ∙ ap (λ (n : ℕ). onto n (unquoted k cs)) back ∙ ap (onto b) more
+    ap (λ (n : ℕ). onto n (unquoted (flat_map escaped bs ++ 34 ∷ x))) back ∙ ap (onto b) more
 
-pub unquoted-back : (k : ℕ) (bs x : List ℕ) → AreBytes bs → length bs < k → unquoted k (flat_map escaped bs ++ 34 ∷ x) ≡ (bs, x)
-unquoted-back zero bs x h l = absurd (omega arith)
-unquoted-back (suc k) [] x h l = refl
-unquoted-back (suc k) (b ∷ bs) x h l =
+pub unquoted-back : (bs x : List ℕ) → AreBytes bs → unquoted (flat_map escaped bs ++ 34 ∷ x) ≡ (bs, x)
+unquoted-back [] x h = refl
+unquoted-back (b ∷ bs) x h =
     let cs = flat_map escaped bs ++ 34 ∷ x in
-    let more : unquoted k cs ≡ (bs, x) = unquoted-back k bs x h.1 (omega arith) in
-    let so : (e : List ℕ) → escaped b ≡ e → unquoted (suc k) ((escaped b ++ flat_map escaped bs) ++ 34 ∷ x) ≡ unquoted (suc k) ((e ++ flat_map escaped bs) ++ 34 ∷ x) =
-    λ e is. ap (λ (l : List ℕ). unquoted (suc k) ((l ++ flat_map escaped bs) ++ 34 ∷ x)) is in
+    let more : unquoted cs ≡ (bs, x) = unquoted-back bs x h.1 in
+    let so : (e : List ℕ) → escaped b ≡ e → unquoted ((escaped b ++ flat_map escaped bs) ++ 34 ∷ x) ≡ unquoted ((e ++ flat_map escaped bs) ++ 34 ∷ x) =
+    λ e is. ap (λ (l : List ℕ). unquoted ((l ++ flat_map escaped bs) ++ 34 ∷ x)) is in
     elim (ways b (eqb b 34) (eqb b 92) (ltb b 32) (eqb b 127) refl refl refl refl) [
-      | inl w ↦ so (b ∷ []) w.is ∙ raw-step k b cs w.no_quote w.no_backslash ∙ ap (onto b) more
-      | inr v ↦ elim v [ inl w ↦ so (92 ∷ b ∷ []) w.is ∙ marked-step k b cs w.no_letter ∙ ap (onto b) more | inr w ↦ so (codes "\\u00" ++ encode_lower (b ∷ [])) w.is ∙ control k b bs x h more ]
+      | inl w ↦ so (b ∷ []) w.is ∙ raw-step b cs w.no_quote w.no_backslash ∙ ap (onto b) more
+      | inr v ↦ elim v [ inl w ↦ so (92 ∷ b ∷ []) w.is ∙ marked-step b cs w.no_letter ∙ ap (onto b) more | inr w ↦ so (codes "\\u00" ++ encode_lower (b ∷ [])) w.is ∙ control b bs x h more ]
     ]
-
-escape-long : (b : ℕ) → 0 < length (escaped b)
-escape-long b = elim (ways b (eqb b 34) (eqb b 92) (ltb b 32) (eqb b 127) refl refl refl refl) [
-  | inl w ↦ rw (w.is) (omega arith)
-  | inr v ↦ elim v [ inl w ↦ rw (w.is) (omega arith) | inr w ↦ rw (w.is) (omega arith) ]
-]
-
-pub escapes-long : (bs : List ℕ) → length bs ≤ length (flat_map escaped bs)
-escapes-long [] = omega arith
-escapes-long (b ∷ bs) = let one = escape-long b in let more = escapes-long bs in omega (arith, length-append (escaped b) (flat_map escaped bs))
