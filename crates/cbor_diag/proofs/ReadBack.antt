@@ -1,5 +1,5 @@
 -- A text in either layout is read back as its value, and as far as it goes.
-use Rattle.std.proofs.Common.{◌≡◌, ℕ, zero, suc, ◌+◌, ◌*◌, ◌<◌, ◌≤◌, Bool, true, false, List, [], ◌∷◌, ◌++◌, drop, replicate, flat_map, codes, decimal, inl, inr, eqb, refl, sym, ap, ◌∙◌, subst, append_assoc, ◌↔◌, arith}
+use Rattle.std.proofs.Common.{◌≡◌, ℕ, zero, suc, ◌+◌, ◌*◌, ◌<◌, Bool, true, false, List, [], ◌∷◌, ◌++◌, drop, replicate, flat_map, codes, decimal, inl, inr, eqb, refl, sym, ap, ◌∙◌, subst, append_assoc, ◌↔◌, arith}
 use Rattle.std.proofs.lemmas.Bool.{cond-false}
 use Rattle.hex.specs.Hex.{encode_lower}
 use Rattle.cbor_head.specs.Value as value
@@ -80,23 +80,11 @@ one-more-pair k gs key v es cs ds others x h b one two more =
     ∙ ap (with-value k key) two
     ∙ ap (λ (r : Entries × List ℕ). got (value.entry key v r.0) r.1) more
 
-nothing : (v : Value) → size v ≤ 0 → ⊥
-nothing (value.unsigned n) s = omega arith
-nothing _ s = omega arith
-
-nothing_all : (vs : Values) → size_all vs ≤ 0 → ⊥
-nothing_all value.no_values s = omega arith
-nothing_all (value.a_value v vs) s = omega arith
-
-nothing_entries : (es : Entries) → size_entries es ≤ 0 → ⊥
-nothing_entries value.no_entries s = omega arith
-nothing_entries (value.entry k v es) s = omega arith
-
 -- ---- all values
 
 mutual
-  back : (l : Layout) (level : ℕ) (v : Value) (k : ℕ) (x : List ℕ) → IsInRange v → size v ≤ k → Ends x → read k (laid_out l level v ++ x) ≡ (v, x)
-  back l level v zero x h s e = absurd (nothing v s)
+  back : (l : Layout) (level : ℕ) (v : Value) (k : ℕ) (x : List ℕ) → IsInRange v → size v < k → Ends x → read k (laid_out l level v ++ x) ≡ (v, x)
+  back l level v zero x h s e = absurd (omega arith)
   back l level (value.unsigned n) (suc k) x h s e = unsigned-back k n x h e
   back l level (value.negative n) (suc k) x h s e = negative-back k n x h e
   back l level (value.bytes bs) (suc k) x h s e = ap (λ (t : List ℕ). read (suc k) (104 ∷ 39 ∷ t)) (append_assoc (encode_lower bs) (codes "'") x) ∙ bytes-back k bs x h.1
@@ -112,8 +100,8 @@ mutual
       ∙ tag-back k n v (laid_out l level v) x h.0 (back l level v k (41 ∷ x) h.1 (omega arith) (inl (omega arith), λ f. absurd (omega arith)))
   back l level (value.simple n) (suc k) x h s e = simple-back k n x (omega (arith, h.0))
 
-  members-back : (l : Layout) (level : ℕ) (b : Bool) (vs : Values) (k : ℕ) (x : List ℕ) → AreInRange vs → size_all vs ≤ k → read_members k (rows l level b (laid_texts l (level + 1) vs) ++ 93 ∷ x) ≡ (vs, x)
-  members-back l level b vs zero x h s = absurd (nothing_all vs s)
+  members-back : (l : Layout) (level : ℕ) (b : Bool) (vs : Values) (k : ℕ) (x : List ℕ) → AreInRange vs → size_all vs < k → read_members k (rows l level b (laid_texts l (level + 1) vs) ++ 93 ∷ x) ≡ (vs, x)
+  members-back l level b vs zero x h s = absurd (omega arith)
   members-back l level b value.no_values (suc k) x h s = no-more k (end l level b) x (blank-end l level b)
   members-back l level b (value.a_value v vs) (suc k) x h s =
       let t = laid_out l (level + 1) v in
@@ -122,8 +110,8 @@ mutual
       ∙ one-more k (gap l level b) v vs (t ++ others) others x (blank-gap l level b) (begins l (level + 1) v h.0 others)
       (back l (level + 1) v k others h.0 (omega arith) (rows-ends l level 93 (laid_texts l (level + 1) vs) x (omega arith))) (members-back l level false vs k x h.1 (omega arith))
 
-  pairs-back : (l : Layout) (level : ℕ) (b : Bool) (es : Entries) (k : ℕ) (x : List ℕ) → AreEntriesInRange es → size_entries es ≤ k → read_pairs k (rows l level b (laid_pairs l (level + 1) es) ++ 125 ∷ x) ≡ (es, x)
-  pairs-back l level b es zero x h s = absurd (nothing_entries es s)
+  pairs-back : (l : Layout) (level : ℕ) (b : Bool) (es : Entries) (k : ℕ) (x : List ℕ) → AreEntriesInRange es → size_entries es < k → read_pairs k (rows l level b (laid_pairs l (level + 1) es) ++ 125 ∷ x) ≡ (es, x)
+  pairs-back l level b es zero x h s = absurd (omega arith)
   pairs-back l level b value.no_entries (suc k) x h s = no-more-pairs k (end l level b) x (blank-end l level b)
   pairs-back l level b (value.entry key v es) (suc k) x h s =
       let t = laid_out l (level + 1) key in
@@ -138,7 +126,7 @@ mutual
 pub told : (l m : Layout) (i j : ℕ) (v w : Value) (x y : List ℕ) → IsInRange v → IsInRange w → Ends x → Ends y → laid_out l i v ++ x ≡ laid_out m j w ++ y → (v ≡ w) × (x ≡ y)
 told l m i j v w x y h g e f is =
     let same : ◌≡◌ {A = Read} (v, x) (w, y) =
-    sym (back l i v (size v + size w) x h (omega arith) e) ∙ ap (read (size v + size w)) is ∙ back m j w (size v + size w) y g (omega arith) f in
+    sym (back l i v (suc (size v + size w)) x h (omega arith) e) ∙ ap (read (suc (size v + size w))) is ∙ back m j w (suc (size v + size w)) y g (omega arith) f in
     (ap (λ (r : Read). r.0) same, ap (λ (r : Read). r.1) same)
 
 -- ---- the two texts

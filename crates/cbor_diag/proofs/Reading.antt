@@ -1,5 +1,5 @@
 -- Texts read back, so that they tell their values. It reads more than texts: only texts matter.
-use Rattle.std.proofs.Common.{◌≡◌, ℕ, zero, suc, ◌/◌, ◌%◌, ◌^◌, ◌<◌, ◌≤◌, Bool, true, false, cond, List, [], ◌∷◌, ◌++◌, length, get_or, flat_map, codes, decimal, Result, Ok, Err, is_some, ◌⊎◌, inl, inr, eqb, ltb, refl, ap, ◌∙◌, arith, lt-ltb, ltb-true, eqb-true}
+use Rattle.std.proofs.Common.{◌≡◌, ℕ, zero, suc, ◌/◌, ◌%◌, ◌^◌, ◌<◌, ◌≤◌, Bool, true, false, cond, List, [], ◌∷◌, ◌++◌, length, get_or, flat_map, codes, decimal, Result, Ok, Err, is_some, ◌⊎◌, inl, inr, eqb, ltb, refl, sym, ap, ◌∙◌, subst, arith, lt-ltb, ltb-true, eqb-true}
 use Rattle.std.proofs.lemmas.Bool.{cases_Bool}
 use Rattle.std.specs.List.{AllByRecursion}
 use Rattle.std.specs.Char.{digit_value}
@@ -125,31 +125,8 @@ abbrev mutual
   numbered (y ∷ z ∷ h ∷ l ∷ cs) = onto (first (decoded (decode_of (h ∷ l ∷ [])))) (unquoted cs)
   numbered _ = ([], [])
 
--- a byte of a text stands in one of three ways
-record IsRaw (b : ℕ) : Type 0 where
-  is : escaped b ≡ b ∷ []
-  no_quote : eqb b 34 ≡ false
-  no_backslash : eqb b 92 ≡ false
-
-record IsMarked (b : ℕ) : Type 0 where
-  is : escaped b ≡ 92 ∷ b ∷ []
-  no_letter : eqb b 117 ≡ false
-
-record IsControl (b : ℕ) : Type 0 where
-  is : escaped b ≡ codes "\\u00" ++ encode_lower (b ∷ [])
-
 raw-step : (b : ℕ) (cs : List ℕ) → eqb b 34 ≡ false → eqb b 92 ≡ false → unquoted (b ∷ cs) ≡ onto b (unquoted cs)
 raw-step b cs p q = rw (p, q) refl
-
-marked-step : (b : ℕ) (cs : List ℕ) → eqb b 117 ≡ false → unquoted (92 ∷ b ∷ cs) ≡ onto b (unquoted cs)
-marked-step b cs p = rw p refl
-
-ways : (b : ℕ) (p q r s : Bool) → eqb b 34 ≡ p → eqb b 92 ≡ q → ltb b 32 ≡ r → eqb b 127 ≡ s → IsRaw b ⊎ (IsMarked b ⊎ IsControl b)
-ways b true q r s e f g h = let is : b ≡ 34 = eqb-true b 34 e in inr (inl (record { is = rw e refl; no_letter = rw is refl }))
-ways b false true r s e f g h = let is : b ≡ 92 = eqb-true b 92 f in inr (inl (record { is = rw (e, f) refl; no_letter = rw is refl }))
-ways b false false true s e f g h = inr (inr (record { is = rw (e, f, g) refl }))
-ways b false false false true e f g h = inr (inr (record { is = rw (e, f, g, h) refl }))
-ways b false false false false e f g h = inl (record { is = rw (e, f, g, h) refl; no_quote = e; no_backslash = f })
 
 control : (b : ℕ) (bs x : List ℕ) → AreBytes (b ∷ bs) → unquoted (flat_map escaped bs ++ 34 ∷ x) ≡ (bs, x) → unquoted (((codes "\\u00" ++ encode_lower (b ∷ [])) ++ flat_map escaped bs) ++ 34 ∷ x) ≡ (b ∷ bs, x)
 unfolding encode_with
@@ -157,14 +134,15 @@ control b bs x h more =
     let back : first (decoded (decode_of (encode_lower (b ∷ [])))) ≡ b = ap first (decoded-back (b ∷ []) (h.0, tt)) in
     ap (λ (n : ℕ). onto n (unquoted (flat_map escaped bs ++ 34 ∷ x))) back ∙ ap (onto b) more
 
+-- a byte of a text, and then the others: behind a backslash, as its number, or raw
+quoted : (b : ℕ) (p q r s : Bool) → eqb b 34 ≡ p → eqb b 92 ≡ q → ltb b 32 ≡ r → eqb b 127 ≡ s → (bs x : List ℕ) → AreBytes (b ∷ bs) → unquoted (flat_map escaped bs ++ 34 ∷ x) ≡ (bs, x)
+    → unquoted ((escaped b ++ flat_map escaped bs) ++ 34 ∷ x) ≡ (b ∷ bs, x)
+quoted b true q r s e f g h bs x k more = subst (λ n. unquoted ((escaped n ++ flat_map escaped bs) ++ 34 ∷ x) ≡ (n ∷ bs, x)) (sym (eqb-true b 34 e)) (ap (onto 34) more)
+quoted b false true r s e f g h bs x k more = subst (λ n. unquoted ((escaped n ++ flat_map escaped bs) ++ 34 ∷ x) ≡ (n ∷ bs, x)) (sym (eqb-true b 92 f)) (ap (onto 92) more)
+quoted b false false true s e f g h bs x k more = rw (e, f, g) (control b bs x k more)
+quoted b false false false true e f g h bs x k more = rw (e, f, g, h) (control b bs x k more)
+quoted b false false false false e f g h bs x k more = rw (e, f, g, h) (raw-step b (flat_map escaped bs ++ 34 ∷ x) e f ∙ ap (onto b) more)
+
 pub unquoted-back : (bs x : List ℕ) → AreBytes bs → unquoted (flat_map escaped bs ++ 34 ∷ x) ≡ (bs, x)
 unquoted-back [] x h = refl
-unquoted-back (b ∷ bs) x h =
-    let cs = flat_map escaped bs ++ 34 ∷ x in
-    let more : unquoted cs ≡ (bs, x) = unquoted-back bs x h.1 in
-    let so : (e : List ℕ) → escaped b ≡ e → unquoted ((escaped b ++ flat_map escaped bs) ++ 34 ∷ x) ≡ unquoted ((e ++ flat_map escaped bs) ++ 34 ∷ x) =
-    λ e is. ap (λ (l : List ℕ). unquoted ((l ++ flat_map escaped bs) ++ 34 ∷ x)) is in
-    elim (ways b (eqb b 34) (eqb b 92) (ltb b 32) (eqb b 127) refl refl refl refl) [
-      | inl w ↦ so (b ∷ []) w.is ∙ raw-step b cs w.no_quote w.no_backslash ∙ ap (onto b) more
-      | inr v ↦ elim v [ inl w ↦ so (92 ∷ b ∷ []) w.is ∙ marked-step b cs w.no_letter ∙ ap (onto b) more | inr w ↦ so (codes "\\u00" ++ encode_lower (b ∷ [])) w.is ∙ control b bs x h more ]
-    ]
+unquoted-back (b ∷ bs) x h = quoted b (eqb b 34) (eqb b 92) (ltb b 32) (eqb b 127) refl refl refl refl bs x h (unquoted-back bs x h.1)

@@ -27,7 +27,7 @@ lines-preserved g c =
       c.next.ensures.limits.depth ∙ depth,
       c.next.ensures.limits.bytes ∙ bytes,
       c.in-Ok-Some.ensures.live,
-      one-more _ _ _ _ _ _ _ _ _ _ _ _ _ c.in-Ok-Some.event h next (subst (Appends _ _) text c.in-Ok.ensures)
+      one-more _ _ _ _ _ _ _ _ _ _ _ _ _ c.in-Ok-Some.event h next (rw text at c.in-Ok.ensures)
           (c.saturating_add-written.ensures ∙ ap (λ xs. min (c.lines.written + length xs) (2 ^ 64 - 1)) text),
     )
 
