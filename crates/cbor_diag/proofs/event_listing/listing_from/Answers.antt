@@ -1,8 +1,7 @@
-use Rattle.std.proofs.Common.{ℕ, List, ◌-◌, ◌+◌, ◌^◌, ◌<◌, min, length, take, arith, ◌∙◌, ap, subst}
+use Rattle.std.proofs.Common.{◌-◌, ◌+◌, ◌^◌, min, arith, ◌∙◌, ap}
 use Rattle.cbor_head.specs.Prelude.{refusal}
 use Rattle.cbor_head.specs.declared.reason.Reason.{Reason}
 use Rattle.cbor_head.specs.declared.reason.Reason.TheVariants.{Write}
-use Rattle.std.specs.Io.KnownBytes.{Appends}
 use Rattle.cbor_diag.proofs.Listed.{none-listed, one-more, takes-more, place-within, all-listed, all-lost, refused-unlisted, refused-lost, stopped-unlisted, stopped-lost, listed-within, unlisted-within}
 use Rattle.cbor_automaton.specs.Reasons.{IsEventReason}
 use Rattle.cbor_diag.specs.Listing.{IsListingReason}
@@ -28,7 +27,7 @@ lines-preserved g c =
       c.next.ensures.limits.bytes ∙ bytes,
       c.in-Ok-Some.ensures.live,
       one-more _ _ _ _ _ _ _ _ _ _ _ _ _ c.in-Ok-Some.event h next (rw text at c.in-Ok.ensures)
-          (c.saturating_add-written.ensures ∙ ap (λ xs. min (c.lines.written + length xs) (2 ^ 64 - 1)) text),
+          (rw text at c.saturating_add-written.ensures),
     )
 
 pub lines-smaller : goal.lines-smaller
@@ -68,11 +67,9 @@ returns-in-Err-write_whole-clause-refused g c =
     let next = rw c.in-Ok-Some.field-0-is at (c.in-Ok-Some.ensures.answers live h.t h.marks h.between) in
     let text = c.as_slice-text.ensures.value ∙ c.line_of-line.ensures in
     let count = c.in-Err-write_whole.count in
-    let stopped = c.in-Err-write_whole.ensures in
+    let stopped = rw text at c.in-Err-write_whole.ensures in
     unlisted-within _ c.args.limits c.next.new.self.machine _ _ _ _ (c.next.ensures.limits.depth ∙ depth) (c.next.ensures.limits.bytes ∙ bytes)
-    (stopped-unlisted _ _ _ _ _ _ _ _ _ _ count _ _ c.in-Ok-Some.event h _ next
-    (subst (λ (xs : List ℕ). count < length xs) text stopped.0)
-    (subst (λ (xs : List ℕ). Appends (g.W.Write.contents c.lines.writer) (g.W.Write.contents c.write_whole.new.writer) (take count xs)) text stopped.1)
+    (stopped-unlisted _ _ _ _ _ _ _ _ _ _ count _ _ c.in-Ok-Some.event h _ next stopped.0 stopped.1
     (ap (λ n. refusal Write n c.taken.result) c.saturating_add.ensures ∙ ap (λ n. refusal Write (min (c.lines.written + count) (2 ^ 64 - 1)) n) c.taken.ensures.taken))
 
 pub returns-in-Err-write_whole-clause-read : goal.returns-in-Err-write_whole-clause-read
