@@ -6,7 +6,7 @@ use Rattle.std.specs.Char.{digit_value}
 use Rattle.std.specs.Str.Parse.{digits_value, AllDigits}
 use Rattle.std.proofs.lemmas.Fmt.{decimal_is_IsNumeral_wide}
 use Rattle.std.proofs.lemmas.Str.Parse.{digit_from_value}
-use Rattle.hex.specs.Hex.{encode_with, encode_lower, lower_digits, decode_of, is_hex_digit, IsBytes}
+use Rattle.hex.specs.Hex.{encode_with, encode_lower, lower_digits, decode_of, is_hex_digit}
 use Rattle.hex.proofs.HexLemmas.{decode_of-encode_lower, IsDigits-lower_digits}
 use Rattle.hex.specs.declared.error.FromHexError.{FromHexError}
 use Rattle.cbor_head.specs.Prelude.{AreBytes}
@@ -75,13 +75,10 @@ no-digit c h = elim (cases_Bool (digit c)) [
 
 -- ---- byte strings
 
-by_cons : (x : ℕ) (xs : List ℕ) → x < 256 → IsBytes xs → (i : ℕ) → get_or (x ∷ xs) i 0 < 256
-by_cons x xs h g zero = h
-by_cons x xs h g (suc i) = g i
-
-by_index : (xs : List ℕ) → AreBytes xs → IsBytes xs
-by_index [] h = λ i. omega arith
-by_index (x ∷ xs) h = by_cons x xs h.0 (by_index xs h.1)
+by_index : (xs : List ℕ) → AreBytes xs → (i : ℕ) → get_or xs i 0 < 256
+by_index [] h i = omega arith
+by_index (x ∷ xs) h zero = h.0
+by_index (x ∷ xs) h (suc i) = by_index xs h.1 i
 
 abbrev pub decoded : Result (List ℕ) FromHexError → List ℕ
 decoded (Ok bs) = bs
