@@ -4,7 +4,7 @@ use Rattle.std.proofs.lemmas.List.{reverse-append, nil_from_length}
 use Rattle.cbor_head.specs.Prelude.{Value, map}
 use Rattle.cbor_head.specs.Value.{array, tag}
 use Rattle.cbor_diag.specs.declared.outbox.Stopped.{Stopped}
-use Rattle.cbor_diag.specs.inner.Layout.{gap, end, laid_out, members_left, pairs_left}
+use Rattle.cbor_diag.specs.inner.Layout.{gap, end, laid_out, laid_pairs, laid_texts, rows}
 use Rattle.cbor_diag.specs.inner.Nodes.{entries_in, values_in}
 use Rattle.cbor_diag.specs.inner.Outbox.{HasPut, HasStopped, Puts}
 use Rattle.cbor_diag.specs.inner.Levels.{HasLeft, Leaves, all_left, behind, left_of, rest_of}
@@ -54,7 +54,7 @@ left-puts n a b c s t u whole mid r p q = subst (λ (l : List ℕ). Puts a c s u
 four : (g x m e r : List ℕ) → g ++ (x ++ ((m ++ e) ++ r)) ≡ (((g ++ x) ++ m) ++ e) ++ r
 four g x m e r = simp append_assoc
 
-six : (g k c v p e r : List ℕ) → g ++ (k ++ ((((c ++ v) ++ p) ++ e) ++ r)) ≡ (((((g ++ k) ++ c) ++ v) ++ p) ++ e) ++ r
+six : (g k c v p e r : List ℕ) → g ++ (k ++ ((((c ++ v) ++ p) ++ e) ++ r)) ≡ (((g ++ ((k ++ c) ++ v)) ++ p) ++ e) ++ r
 six g k c v p e r = simp append_assoc
 
 without : {A : Type 0} (xs : List A) → (0 < length xs → ⊥) → xs ≡ []
@@ -88,12 +88,12 @@ module _ {N : Type 0} (see : N → Value) where
   -- ---- the fronts of containers
 
   pub array-front : (l : Layout) (n : ℕ) (v : Value) (ns : List N) → array (values_in see ns) ≡ v
-      → codes "[" ++ ((members_left l n true (values_in see ns) ++ codes "]") ++ []) ≡ laid_out l n v
-  array-front l n v ns is = ap (λ (x : List ℕ). codes "[" ++ x) (append-nil (members_left l n true (values_in see ns) ++ codes "]")) ∙ ap (laid_out l n) is
+      → codes "[" ++ ((rows l n true (laid_texts l (n + 1) (values_in see ns)) ++ codes "]") ++ []) ≡ laid_out l n v
+  array-front l n v ns is = ap (λ (x : List ℕ). codes "[" ++ x) (append-nil (rows l n true (laid_texts l (n + 1) (values_in see ns)) ++ codes "]")) ∙ ap (laid_out l n) is
 
   pub map-front : (l : Layout) (n : ℕ) (v : Value) (ps : List (N × N)) → map (entries_in see ps) ≡ v
-      → codes "{" ++ ((pairs_left l n true (entries_in see ps) ++ codes "}") ++ []) ≡ laid_out l n v
-  map-front l n v ps is = ap (λ (x : List ℕ). codes "{" ++ x) (append-nil (pairs_left l n true (entries_in see ps) ++ codes "}")) ∙ ap (laid_out l n) is
+      → codes "{" ++ ((rows l n true (laid_pairs l (n + 1) (entries_in see ps)) ++ codes "}") ++ []) ≡ laid_out l n v
+  map-front l n v ps is = ap (λ (x : List ℕ). codes "{" ++ x) (append-nil (rows l n true (laid_pairs l (n + 1) (entries_in see ps)) ++ codes "}")) ∙ ap (laid_out l n) is
 
   pub tag-front : (l : Layout) (n : ℕ) (v : Value) (k : ℕ) (content : N) → tag k (see content) ≡ v
       → (decimal k ++ codes "(") ++ ((laid_out l n (see content) ++ codes ")") ++ []) ≡ laid_out l n v
@@ -107,29 +107,29 @@ module _ {N : Type 0} (see : N → Value) where
   left_as l n left other rest is = ap (λ (x : Left N). left_of see l n x ++ rest) (sym is)
 
   pub member-next : (l : Layout) (n : ℕ) (first : Bool) (left : Left N) (b : Bor (List N)) (x : N) (more : List N) (rest : List ℕ) → left ≡ parts.Array b first → b.now ≡ x ∷ more
-      → gap l n first ++ (laid_out l (n + 1) (see x) ++ ((members_left l n false (values_in see more) ++ codes "]") ++ rest)) ≡ left_of see l n left ++ rest
+      → gap l n first ++ (laid_out l (n + 1) (see x) ++ ((rows l n false (laid_texts l (n + 1) (values_in see more)) ++ codes "]") ++ rest)) ≡ left_of see l n left ++ rest
   member-next l n first left b x more rest is split =
-      four (gap l n first) (laid_out l (n + 1) (see x)) (members_left l n false (values_in see more)) (codes "]") rest
-      ∙ ap (λ (ns : List N). (members_left l n first (values_in see ns) ++ codes "]") ++ rest) (sym split) ∙ left_as l n left (parts.Array b first) rest is
+      four (gap l n first) (laid_out l (n + 1) (see x)) (rows l n false (laid_texts l (n + 1) (values_in see more))) (codes "]") rest
+      ∙ ap (λ (ns : List N). (rows l n first (laid_texts l (n + 1) (values_in see ns)) ++ codes "]") ++ rest) (sym split) ∙ left_as l n left (parts.Array b first) rest is
 
   pub members-end : (l : Layout) (n : ℕ) (first : Bool) (left : Left N) (b : Bor (List N)) (rest : List ℕ) → left ≡ parts.Array b first → length b.now ≡ 0 → end l n first ++ (codes "]" ++ rest) ≡ left_of see l n left ++ rest
   members-end l n first left b rest is none =
-      sym (append_assoc (end l n first) (codes "]") rest) ∙ ap (λ (ns : List N). (members_left l n first (values_in see ns) ++ codes "]") ++ rest) (sym (nil_from_length b.now none)) ∙ left_as l n left (parts.Array b first) rest is
+      sym (append_assoc (end l n first) (codes "]") rest) ∙ ap (λ (ns : List N). (rows l n first (laid_texts l (n + 1) (values_in see ns)) ++ codes "]") ++ rest) (sym (nil_from_length b.now none)) ∙ left_as l n left (parts.Array b first) rest is
 
   pub pair-next : (l : Layout) (n : ℕ) (first : Bool) (left : Left N) (b : Bor (List (N × N))) (x : N × N) (more : List (N × N)) (rest : List ℕ) → left ≡ parts.Map b first → b.now ≡ x ∷ more
-      → gap l n first ++ (laid_out l (n + 1) (see x.0) ++ ((((codes ": " ++ laid_out l (n + 1) (see x.1)) ++ pairs_left l n false (entries_in see more)) ++ codes "}") ++ rest)) ≡ left_of see l n left ++ rest
+      → gap l n first ++ (laid_out l (n + 1) (see x.0) ++ ((((codes ": " ++ laid_out l (n + 1) (see x.1)) ++ rows l n false (laid_pairs l (n + 1) (entries_in see more))) ++ codes "}") ++ rest)) ≡ left_of see l n left ++ rest
   pair-next l n first left b x more rest is split =
-      six (gap l n first) (laid_out l (n + 1) (see x.0)) (codes ": ") (laid_out l (n + 1) (see x.1)) (pairs_left l n false (entries_in see more)) (codes "}") rest
-      ∙ ap (λ (ps : List (N × N)). (pairs_left l n first (entries_in see ps) ++ codes "}") ++ rest) (sym split) ∙ left_as l n left (parts.Map b first) rest is
+      six (gap l n first) (laid_out l (n + 1) (see x.0)) (codes ": ") (laid_out l (n + 1) (see x.1)) (rows l n false (laid_pairs l (n + 1) (entries_in see more))) (codes "}") rest
+      ∙ ap (λ (ps : List (N × N)). (rows l n first (laid_pairs l (n + 1) (entries_in see ps)) ++ codes "}") ++ rest) (sym split) ∙ left_as l n left (parts.Map b first) rest is
 
   pub pairs-end : (l : Layout) (n : ℕ) (first : Bool) (left : Left N) (b : Bor (List (N × N))) (rest : List ℕ) → left ≡ parts.Map b first → length b.now ≡ 0 → end l n first ++ (codes "}" ++ rest) ≡ left_of see l n left ++ rest
   pairs-end l n first left b rest is none =
-      sym (append_assoc (end l n first) (codes "}") rest) ∙ ap (λ (ps : List (N × N)). (pairs_left l n first (entries_in see ps) ++ codes "}") ++ rest) (sym (nil_from_length b.now none)) ∙ left_as l n left (parts.Map b first) rest is
+      sym (append_assoc (end l n first) (codes "}") rest) ∙ ap (λ (ps : List (N × N)). (rows l n first (laid_pairs l (n + 1) (entries_in see ps)) ++ codes "}") ++ rest) (sym (nil_from_length b.now none)) ∙ left_as l n left (parts.Map b first) rest is
 
   pub value-next : (l : Layout) (n : ℕ) (left : Left N) (x : Bor N) (b : Bor (List (N × N))) (rest : List ℕ) → left ≡ parts.Value x b
-      → codes ": " ++ (laid_out l (n + 1) (see x.now) ++ ((pairs_left l n false (entries_in see b.now) ++ codes "}") ++ rest)) ≡ left_of see l n left ++ rest
+      → codes ": " ++ (laid_out l (n + 1) (see x.now) ++ ((rows l n false (laid_pairs l (n + 1) (entries_in see b.now)) ++ codes "}") ++ rest)) ≡ left_of see l n left ++ rest
   value-next l n left x b rest is =
-      four (codes ": ") (laid_out l (n + 1) (see x.now)) (pairs_left l n false (entries_in see b.now)) (codes "}") rest ∙ left_as l n left (parts.Value x b) rest is
+      four (codes ": ") (laid_out l (n + 1) (see x.now)) (rows l n false (laid_pairs l (n + 1) (entries_in see b.now))) (codes "}") rest ∙ left_as l n left (parts.Value x b) rest is
 
   -- an item comes behind what was put
   pub goes-on : (l : Layout) (vs : List (Level N)) (a b c : Option (List ℕ)) (s t u : Outbox) (whole xs mid : List ℕ) (r : Result (Option (Level N)) Stopped) → xs ++ mid ≡ whole → HasPut a b s t xs → Leaves 1 see l b c t u mid vs r → Leaves 1 see l a c s u whole vs r

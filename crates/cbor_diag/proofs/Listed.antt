@@ -1,5 +1,5 @@
 -- What a listing has written so far, and what it answers.
-use Rattle.std.proofs.Common.{◌≡◌, ℕ, ◌+◌, ◌-◌, ◌^◌, ◌<◌, ◌≤◌, ◌⊎◌, min, List, [], ◌∷◌, ◌++◌, length, take, drop, Option, Some, None, Ok, refl, sym, ap, ◌∙◌, subst, inl, inr, arith, append_assoc, append-nil, length-append, take-append-drop, length-take-le}
+use Rattle.std.proofs.Common.{◌≡◌, ℕ, ◌+◌, ◌-◌, ◌^◌, ◌<◌, ◌≤◌, ◌⊎◌, min, List, [], ◌∷◌, ◌++◌, length, take, drop, Option, Some, None, refl, sym, ap, ◌∙◌, subst, inl, inr, arith, append_assoc, append-nil, length-append, take-append-drop, length-take-le}
 use Rattle.std.proofs.lemmas.List.{take_at}
 use Rattle.std.specs.Option.{IfSome}
 use Rattle.std.specs.Io.KnownBytes.{Consumes, Appends, IsAtEnd}
@@ -17,7 +17,7 @@ use Rattle.cbor_automaton.specs.Marks.{marks_of, IsProper}
 use Rattle.cbor_automaton.specs.Event.{joined, AreTold}
 use Rattle.cbor_standing.specs.Machine.{StandsFor, before}
 use Rattle.cbor_standing.specs.MachineView.{MachineView}
-use Rattle.cbor_standing.specs.NextEvent.{machine_call, StandsBetween, IsNext, IsNextEvent, IsEnd, IsCut, IsTooLong, HasFormError}
+use Rattle.cbor_standing.specs.NextEvent.{machine_call, StandsBetween, IsNextEvent, IsEnd, IsCut, IsTooLong, HasFormError}
 use Rattle.cbor_automaton.specs.declared.event.Event.{Event}
 use Rattle.cbor_automaton.specs.declared.event.EventKind.{EventKind}
 use Rattle.cbor_automaton.specs.declared.event.EventKind.TheVariants.{Piece}
@@ -243,15 +243,7 @@ pub stopped-lost : (start : ℕ) (m new : MachineView) (from now to old mid : Op
 stopped-lost start m new from now to old mid written kept piece e h n next is =
     loses (h.t ++ next.bytes) n from to (is ∙ next.stands.stands.taken) (Consumes-trans from now to h.t next.bytes h.taken next.consumed)
 
--- ---- what a call of `next` answers, and the limits
-
-pub next-event : (m new : MachineView) (now to : Option (List ℕ)) (kept piece t : List ℕ) (ms : List Mark) (v : Option Event) (e : Event) → v ≡ Some e → IsNext (Ok v) (machine_call m new now to kept piece t ms)
-    → IsNextEvent e (machine_call m new now to kept piece t ms)
-next-event m new now to kept piece t ms v e is h = subst (λ (x : Option Event). IsNext (Ok x) (machine_call m new now to kept piece t ms)) is h
-
-pub no-event : (m new : MachineView) (now to : Option (List ℕ)) (kept piece t : List ℕ) (ms : List Mark) (v : Option Event) → v ≡ None → IsNext (Ok v) (machine_call m new now to kept piece t ms)
-    → IsEnd (machine_call m new now to kept piece t ms)
-no-event m new now to kept piece t ms v is h = subst (λ (x : Option Event). IsNext (Ok x) (machine_call m new now to kept piece t ms)) is h
+-- ---- the limits
 
 -- by form alone, whichever keys are asked for
 pub listed-within : (start : ℕ) (limits : Bounds) (m : MachineView) (from old out : Option (List ℕ)) (count : ℕ) → m.depth ≡ limits.depth → m.bytes ≡ limits.bytes

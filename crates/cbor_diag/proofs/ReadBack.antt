@@ -1,5 +1,5 @@
 -- A text in either layout is read back as its value, and as far as it goes.
-use Rattle.std.proofs.Common.{◌≡◌, ℕ, zero, suc, ◌+◌, ◌*◌, ◌<◌, ◌≤◌, Bool, true, false, List, [], ◌∷◌, ◌++◌, drop, replicate, flat_map, codes, decimal, inl, inr, eqb, refl, sym, ap, ◌∙◌, subst, append_assoc, ◌↔◌, arith}
+use Rattle.std.proofs.Common.{◌≡◌, ℕ, zero, suc, ◌+◌, ◌*◌, ◌<◌, Bool, true, false, List, [], ◌∷◌, ◌++◌, drop, replicate, flat_map, codes, decimal, inl, inr, eqb, refl, sym, ap, ◌∙◌, subst, append_assoc, ◌↔◌, arith}
 use Rattle.std.proofs.lemmas.Bool.{cond-false}
 use Rattle.hex.specs.Hex.{encode_lower}
 use Rattle.cbor_head.specs.Value as value
@@ -7,7 +7,7 @@ use Rattle.cbor_head.specs.Prelude.{Value, Values, Entries, IsInRange, AreInRang
 use Rattle.cbor_diag.specs.Text.{text, escaped}
 use Rattle.cbor_diag.specs.IndentedText.{new_line, indented}
 use Rattle.cbor_diag.specs.Follows.{Ends}
-use Rattle.cbor_diag.specs.inner.Layout.{gap, end, laid_out, members_left, pairs_left}
+use Rattle.cbor_diag.specs.inner.Layout.{gap, end, laid_out, laid_pairs, laid_texts, rows}
 use Rattle.cbor_diag.specs.declared.layout.Layout.{Layout}
 use Rattle.cbor_diag.specs.declared.layout.Layout.TheVariants.{OneLine, Indented}
 use Rattle.cbor_diag.proofs.Reading.{rest, Pass, Stands, rest-all, first}
@@ -23,9 +23,8 @@ blanks (suc n) = (refl, blanks n)
 member_joined : (g t r x : List ℕ) → ((g ++ t) ++ r) ++ x ≡ g ++ (t ++ (r ++ x))
 member_joined g t r x = append_assoc (g ++ t) r x ∙ append_assoc g t (r ++ x)
 
-pair_joined : (g s t r x : List ℕ) → ((((g ++ s) ++ codes ": ") ++ t) ++ r) ++ x ≡ g ++ (s ++ (codes ": " ++ (t ++ (r ++ x))))
-pair_joined g s t r x =
-    append_assoc (((g ++ s) ++ codes ": ") ++ t) r x ∙ append_assoc ((g ++ s) ++ codes ": ") t (r ++ x) ∙ append_assoc (g ++ s) (codes ": ") (t ++ (r ++ x)) ∙ append_assoc g s (codes ": " ++ (t ++ (r ++ x)))
+pair_joined : (g s c t r x : List ℕ) → ((g ++ ((s ++ c) ++ t)) ++ r) ++ x ≡ g ++ (s ++ (c ++ (t ++ (r ++ x))))
+pair_joined g s c t r x = simp append_assoc
 
 blank-line : (level : ℕ) → Pass blank (new_line level)
 blank-line level = (refl, blanks (2 * level))
@@ -48,18 +47,10 @@ end-ends : (l : Layout) (level : ℕ) (c : ℕ) (xs : List ℕ) → 57 < c → E
 end-ends OneLine level c xs h = (inr h, λ e. absurd (omega arith))
 end-ends Indented level c xs h = (inl (omega arith), λ e. absurd (omega arith))
 
-members-ends : (l : Layout) (level : ℕ) (vs : Values) (xs : List ℕ) → Ends (members_left l level false vs ++ 93 ∷ xs)
-members-ends l level value.no_values xs = end-ends l level 93 xs (omega arith)
-members-ends l level (value.a_value v vs) xs =
-    let t = laid_out l (level + 1) v in
-    subst Ends (sym (member_joined (gap l level false) t (members_left l level false vs) (93 ∷ xs))) (gap-ends l level (t ++ (members_left l level false vs ++ 93 ∷ xs)))
-
-pairs-ends : (l : Layout) (level : ℕ) (es : Entries) (xs : List ℕ) → Ends (pairs_left l level false es ++ 125 ∷ xs)
-pairs-ends l level value.no_entries xs = end-ends l level 125 xs (omega arith)
-pairs-ends l level (value.entry k v es) xs =
-    let s = laid_out l (level + 1) k in
-    let t = laid_out l (level + 1) v in
-    subst Ends (sym (pair_joined (gap l level false) s t (pairs_left l level false es) (125 ∷ xs))) (gap-ends l level (s ++ (codes ": " ++ (t ++ (pairs_left l level false es ++ 125 ∷ xs)))))
+rows-ends : (l : Layout) (level c : ℕ) (ts : List (List ℕ)) (xs : List ℕ) → 57 < c → Ends (rows l level false ts ++ c ∷ xs)
+rows-ends l level c [] xs h = end-ends l level c xs h
+rows-ends l level c (t ∷ ts) xs h =
+    subst Ends (sym (member_joined (gap l level false) t (rows l level false ts) (c ∷ xs))) (gap-ends l level (t ++ (rows l level false ts ++ c ∷ xs)))
 
 -- what stands behind blanks
 skipped : (gs cs : List ℕ) → Pass blank gs → (b : Begins cs) → rest blank (gs ++ cs) ≡ cs
@@ -89,65 +80,53 @@ one-more-pair k gs key v es cs ds others x h b one two more =
     ∙ ap (with-value k key) two
     ∙ ap (λ (r : Entries × List ℕ). got (value.entry key v r.0) r.1) more
 
-nothing : (v : Value) → size v ≤ 0 → ⊥
-nothing (value.unsigned n) s = omega arith
-nothing _ s = omega arith
-
-nothing_all : (vs : Values) → size_all vs ≤ 0 → ⊥
-nothing_all value.no_values s = omega arith
-nothing_all (value.a_value v vs) s = omega arith
-
-nothing_entries : (es : Entries) → size_entries es ≤ 0 → ⊥
-nothing_entries value.no_entries s = omega arith
-nothing_entries (value.entry k v es) s = omega arith
-
 -- ---- all values
 
 mutual
-  back : (l : Layout) (level : ℕ) (v : Value) (k : ℕ) (x : List ℕ) → IsInRange v → size v ≤ k → Ends x → read k (laid_out l level v ++ x) ≡ (v, x)
-  back l level v zero x h s e = absurd (nothing v s)
+  back : (l : Layout) (level : ℕ) (v : Value) (k : ℕ) (x : List ℕ) → IsInRange v → size v < k → Ends x → read k (laid_out l level v ++ x) ≡ (v, x)
+  back l level v zero x h s e = absurd (omega arith)
   back l level (value.unsigned n) (suc k) x h s e = unsigned-back k n x h e
   back l level (value.negative n) (suc k) x h s e = negative-back k n x h e
   back l level (value.bytes bs) (suc k) x h s e = ap (λ (t : List ℕ). read (suc k) (104 ∷ 39 ∷ t)) (append_assoc (encode_lower bs) (codes "'") x) ∙ bytes-back k bs x h.1
   back l level (value.text bs) (suc k) x h s e = ap (λ (t : List ℕ). read (suc k) (34 ∷ t)) (append_assoc (flat_map escaped bs) (codes "\"") x) ∙ text-back k bs x h.1
   back l level (value.array vs) (suc k) x h s e =
-      ap (λ (t : List ℕ). read (suc k) (91 ∷ t)) (append_assoc (members_left l level true vs) (codes "]") x)
+      ap (λ (t : List ℕ). read (suc k) (91 ∷ t)) (append_assoc (rows l level true (laid_texts l (level + 1) vs)) (codes "]") x)
       ∙ ap (λ (r : Values × List ℕ). got (value.array r.0) r.1) (members-back l level true vs k x h.1 (omega arith))
   back l level (value.map es) (suc k) x h s e =
-      ap (λ (t : List ℕ). read (suc k) (123 ∷ t)) (append_assoc (pairs_left l level true es) (codes "}") x)
+      ap (λ (t : List ℕ). read (suc k) (123 ∷ t)) (append_assoc (rows l level true (laid_pairs l (level + 1) es)) (codes "}") x)
       ∙ ap (λ (r : Entries × List ℕ). got (value.map r.0) r.1) (pairs-back l level true es k x h.1 (omega arith))
   back l level (value.tag n v) (suc k) x h s e =
       ap (read (suc k)) (tag_joined (decimal n) (laid_out l level v) x)
       ∙ tag-back k n v (laid_out l level v) x h.0 (back l level v k (41 ∷ x) h.1 (omega arith) (inl (omega arith), λ f. absurd (omega arith)))
   back l level (value.simple n) (suc k) x h s e = simple-back k n x (omega (arith, h.0))
 
-  members-back : (l : Layout) (level : ℕ) (b : Bool) (vs : Values) (k : ℕ) (x : List ℕ) → AreInRange vs → size_all vs ≤ k → read_members k (members_left l level b vs ++ 93 ∷ x) ≡ (vs, x)
-  members-back l level b vs zero x h s = absurd (nothing_all vs s)
+  members-back : (l : Layout) (level : ℕ) (b : Bool) (vs : Values) (k : ℕ) (x : List ℕ) → AreInRange vs → size_all vs < k → read_members k (rows l level b (laid_texts l (level + 1) vs) ++ 93 ∷ x) ≡ (vs, x)
+  members-back l level b vs zero x h s = absurd (omega arith)
   members-back l level b value.no_values (suc k) x h s = no-more k (end l level b) x (blank-end l level b)
   members-back l level b (value.a_value v vs) (suc k) x h s =
       let t = laid_out l (level + 1) v in
-      let others = members_left l level false vs ++ 93 ∷ x in
-      ap (read_members (suc k)) (member_joined (gap l level b) t (members_left l level false vs) (93 ∷ x))
+      let others = rows l level false (laid_texts l (level + 1) vs) ++ 93 ∷ x in
+      ap (read_members (suc k)) (member_joined (gap l level b) t (rows l level false (laid_texts l (level + 1) vs)) (93 ∷ x))
       ∙ one-more k (gap l level b) v vs (t ++ others) others x (blank-gap l level b) (begins l (level + 1) v h.0 others)
-      (back l (level + 1) v k others h.0 (omega arith) (members-ends l level vs x)) (members-back l level false vs k x h.1 (omega arith))
+      (back l (level + 1) v k others h.0 (omega arith) (rows-ends l level 93 (laid_texts l (level + 1) vs) x (omega arith))) (members-back l level false vs k x h.1 (omega arith))
 
-  pairs-back : (l : Layout) (level : ℕ) (b : Bool) (es : Entries) (k : ℕ) (x : List ℕ) → AreEntriesInRange es → size_entries es ≤ k → read_pairs k (pairs_left l level b es ++ 125 ∷ x) ≡ (es, x)
-  pairs-back l level b es zero x h s = absurd (nothing_entries es s)
+  pairs-back : (l : Layout) (level : ℕ) (b : Bool) (es : Entries) (k : ℕ) (x : List ℕ) → AreEntriesInRange es → size_entries es < k → read_pairs k (rows l level b (laid_pairs l (level + 1) es) ++ 125 ∷ x) ≡ (es, x)
+  pairs-back l level b es zero x h s = absurd (omega arith)
   pairs-back l level b value.no_entries (suc k) x h s = no-more-pairs k (end l level b) x (blank-end l level b)
   pairs-back l level b (value.entry key v es) (suc k) x h s =
       let t = laid_out l (level + 1) key in
       let u = laid_out l (level + 1) v in
-      let others = pairs_left l level false es ++ 125 ∷ x in
-      ap (read_pairs (suc k)) (pair_joined (gap l level b) t u (pairs_left l level false es) (125 ∷ x))
+      let others = rows l level false (laid_pairs l (level + 1) es) ++ 125 ∷ x in
+      ap (read_pairs (suc k)) (pair_joined (gap l level b) t (codes ": ") u (rows l level false (laid_pairs l (level + 1) es)) (125 ∷ x))
       ∙ one-more-pair k (gap l level b) key v es (t ++ (codes ": " ++ (u ++ others))) (u ++ others) others x (blank-gap l level b) (begins l (level + 1) key h.0 (codes ": " ++ (u ++ others)))
       (back l (level + 1) key k (codes ": " ++ (u ++ others)) h.0 (omega arith) (inr (omega arith), λ f. absurd (omega arith)))
-      (back l (level + 1) v k others h.1 (omega arith) (pairs-ends l level es x)) (pairs-back l level false es k x h.2 (omega arith))
+      (back l (level + 1) v k others h.1 (omega arith) (rows-ends l level 125 (laid_pairs l (level + 1) es) x (omega arith))) (pairs-back l level false es k x h.2 (omega arith))
 
 -- texts in any layouts with rests that are equal are of the same value, and the rests are equal
 pub told : (l m : Layout) (i j : ℕ) (v w : Value) (x y : List ℕ) → IsInRange v → IsInRange w → Ends x → Ends y → laid_out l i v ++ x ≡ laid_out m j w ++ y → (v ≡ w) × (x ≡ y)
 told l m i j v w x y h g e f is =
     let same : ◌≡◌ {A = Read} (v, x) (w, y) =
-    sym (back l i v (size v + size w) x h (omega arith) e) ∙ ap (read (size v + size w)) is ∙ back m j w (size v + size w) y g (omega arith) f in
+    sym (back l i v (suc (size v + size w)) x h (omega arith) e) ∙ ap (read (suc (size v + size w))) is ∙ back m j w (suc (size v + size w)) y g (omega arith) f in
     (ap (λ (r : Read). r.0) same, ap (λ (r : Read). r.1) same)
 
 -- ---- the two texts

@@ -1,5 +1,5 @@
 -- A reader of texts in either layout, how texts begin, and what it reads of leaves.
-use Rattle.std.proofs.Common.{◌≡◌, ℕ, zero, suc, ◌+◌, ◌-◌, ◌^◌, ◌<◌, ◌≤◌, Bool, true, false, cond, List, [], ◌∷◌, ◌++◌, length, drop, flat_map, codes, decimal, eqb, refl, sym, ap, ◌∙◌, subst, append_assoc, length-append, ◌||◌, arith, eqb-true, ne_eqb}
+use Rattle.std.proofs.Common.{◌≡◌, ℕ, zero, suc, ◌+◌, ◌-◌, ◌^◌, ◌<◌, ◌≤◌, Bool, true, false, cond, List, [], ◌∷◌, ◌++◌, length, drop, flat_map, codes, decimal, eqb, refl, sym, ap, ◌∙◌, subst, append_assoc, ◌||◌, arith, eqb-true, ne_eqb}
 use Rattle.std.proofs.lemmas.Bool.{cond-true, cond-false}
 use Rattle.std.specs.Str.Parse.{digits_value}
 use Rattle.hex.specs.Hex.{encode_lower, decode_of, is_hex_digit}
@@ -7,9 +7,9 @@ use Rattle.cbor_head.specs.Value as value
 use Rattle.cbor_head.specs.Prelude.{Value, Values, Entries, IsInRange}
 use Rattle.cbor_diag.specs.Text.{escaped, simple_text}
 use Rattle.cbor_diag.specs.Follows.{Ends}
-use Rattle.cbor_diag.specs.inner.Layout.{laid_out, members_left, pairs_left}
+use Rattle.cbor_diag.specs.inner.Layout.{laid_out, laid_pairs, laid_texts, rows}
 use Rattle.cbor_diag.specs.declared.layout.Layout.{Layout}
-use Rattle.cbor_diag.proofs.Reading.{front, rest, Pass, Stands, front-all, rest-all, digit, decimals, digit-range, no-digit, decoded, decoded-back, hex-pass, first, unquoted, unquoted-back, escapes-long}
+use Rattle.cbor_diag.proofs.Reading.{front, rest, Pass, Stands, front-all, rest-all, digit, decimals, digit-range, no-digit, decoded, decoded-back, hex-pass, first, unquoted, unquoted-back}
 
 abbrev pub Read : Type 0
 Read = Value × List ℕ
@@ -32,7 +32,7 @@ behind cs = rest digit cs
 -- the values that stand for themselves, by their first byte
 abbrev word : ℕ → List ℕ → Read
 word c cs =
-    cond (eqb c 34) (let r = unquoted (length cs) (drop 1 cs) in (value.text r.0, r.1))
+    cond (eqb c 34) (let r = unquoted (drop 1 cs) in (value.text r.0, r.1))
     (cond (eqb c 45) (value.negative (number (drop 1 cs) - 1), behind (drop 1 cs))
     (cond (eqb c 104) (value.bytes (decoded (decode_of (front is_hex_digit (drop 2 cs)))), drop 1 (rest is_hex_digit (drop 2 cs)))
     (cond (eqb c 102) (value.simple 20, drop 5 cs)
@@ -151,8 +151,8 @@ begins l level (value.unsigned n) h xs = let d = decimals n (omega (arith, h)) i
 begins l level (value.negative n) h xs = literal 45 (decimal (n + 1)) xs refl refl refl
 begins l level (value.bytes bs) h xs = literal 104 (39 ∷ (encode_lower bs ++ codes "'")) xs refl refl refl
 begins l level (value.text bs) h xs = literal 34 (flat_map escaped bs ++ codes "\"") xs refl refl refl
-begins l level (value.array vs) h xs = literal 91 (members_left l level true vs ++ codes "]") xs refl refl refl
-begins l level (value.map es) h xs = literal 123 (pairs_left l level true es ++ codes "}") xs refl refl refl
+begins l level (value.array vs) h xs = literal 91 (rows l level true (laid_texts l (level + 1) vs) ++ codes "]") xs refl refl refl
+begins l level (value.map es) h xs = literal 123 (rows l level true (laid_pairs l (level + 1) es) ++ codes "}") xs refl refl refl
 begins l level (value.tag n v) h xs =
     let d = decimals n (omega (arith, h.0)) in
     let t = laid_out l level v in
@@ -211,10 +211,7 @@ bytes-back k bs x h =
     λ i. (value.bytes (back i), drop 1 (after i))
 
 pub text-back : (k : ℕ) (bs x : List ℕ) → value.AreBytes bs → read (suc k) (34 ∷ (flat_map escaped bs ++ 34 ∷ x)) ≡ (value.text bs, x)
-text-back k bs x h =
-    let ys = flat_map escaped bs ++ 34 ∷ x in
-    let back = unquoted-back (suc (length ys)) bs x h (omega (arith, length-append (flat_map escaped bs) (34 ∷ x), escapes-long bs)) in
-    λ i. (value.text (back i).0, (back i).1)
+text-back k bs x h = let back = unquoted-back bs x h in λ i. (value.text (back i).0, (back i).1)
 
 shown-back : (k n : ℕ) (x : List ℕ) → n < 2 ^ 64 → read (suc k) (codes "simple(" ++ (decimal n ++ 41 ∷ x)) ≡ (value.simple n, x)
 shown-back k n x small = let m = numeral n (41 ∷ x) (omega arith) refl in λ i. (value.simple (m.number_is i), drop 1 (m.behind_is i))

@@ -1,12 +1,12 @@
 -- Texts read back, so that they tell their values. It reads more than texts: only texts matter.
-use Rattle.std.proofs.Common.{◌≡◌, ℕ, zero, suc, ◌/◌, ◌%◌, ◌^◌, ◌<◌, ◌≤◌, Bool, true, false, cond, List, [], ◌∷◌, ◌++◌, length, take, drop, get_or, flat_map, codes, decimal, Result, Ok, Err, is_some, ◌⊎◌, inl, inr, eqb, ltb, refl, ap, ◌∙◌, length-append, arith, lt-ltb, ltb-true, eqb-true}
+use Rattle.std.proofs.Common.{◌≡◌, ℕ, zero, suc, ◌/◌, ◌%◌, ◌^◌, ◌<◌, ◌≤◌, Bool, true, false, cond, List, [], ◌∷◌, ◌++◌, length, get_or, flat_map, codes, decimal, Result, Ok, Err, is_some, ◌⊎◌, inl, inr, eqb, ltb, refl, sym, ap, ◌∙◌, subst, arith, lt-ltb, ltb-true, eqb-true}
 use Rattle.std.proofs.lemmas.Bool.{cases_Bool}
 use Rattle.std.specs.List.{AllByRecursion}
 use Rattle.std.specs.Char.{digit_value}
 use Rattle.std.specs.Str.Parse.{digits_value, AllDigits}
 use Rattle.std.proofs.lemmas.Fmt.{decimal_is_IsNumeral_wide}
 use Rattle.std.proofs.lemmas.Str.Parse.{digit_from_value}
-use Rattle.hex.specs.Hex.{encode_with, encode_lower, lower_digits, decode_of, is_hex_digit, IsBytes}
+use Rattle.hex.specs.Hex.{encode_with, encode_lower, lower_digits, decode_of, is_hex_digit}
 use Rattle.hex.proofs.HexLemmas.{decode_of-encode_lower, IsDigits-lower_digits}
 use Rattle.hex.specs.declared.error.FromHexError.{FromHexError}
 use Rattle.cbor_head.specs.Prelude.{AreBytes}
@@ -75,13 +75,10 @@ no-digit c h = elim (cases_Bool (digit c)) [
 
 -- ---- byte strings
 
-by_cons : (x : ℕ) (xs : List ℕ) → x < 256 → IsBytes xs → (i : ℕ) → get_or (x ∷ xs) i 0 < 256
-by_cons x xs h g zero = h
-by_cons x xs h g (suc i) = g i
-
-by_index : (xs : List ℕ) → AreBytes xs → IsBytes xs
-by_index [] h = λ i. omega arith
-by_index (x ∷ xs) h = by_cons x xs h.0 (by_index xs h.1)
+by_index : (xs : List ℕ) → AreBytes xs → (i : ℕ) → get_or xs i 0 < 256
+by_index [] h i = omega arith
+by_index (x ∷ xs) h zero = h.0
+by_index (x ∷ xs) h (suc i) = by_index xs h.1 i
 
 abbrev pub decoded : Result (List ℕ) FromHexError → List ℕ
 decoded (Ok bs) = bs
@@ -110,72 +107,39 @@ abbrev pub first : List ℕ → ℕ
 first cs = get_or cs 0 0
 
 -- the bytes to the closing quote, and what is behind it
-abbrev pub unquoted : ℕ → List ℕ → Two
-unquoted zero cs = ([], cs)
-unquoted (suc k) cs =
-    cond (eqb (first cs) 34) ([], drop 1 cs)
-    (cond (eqb (first cs) 92)
-    (cond (eqb (first (drop 1 cs)) 117)
-    (onto (first (decoded (decode_of (take 2 (drop 4 cs))))) (unquoted k (drop 6 cs)))
-    (onto (first (drop 1 cs)) (unquoted k (drop 2 cs))))
-    (onto (first cs) (unquoted k (drop 1 cs))))
+abbrev mutual
+  pub unquoted : List ℕ → Two
+  unquoted [] = ([], [])
+  unquoted (c ∷ cs) = cond (eqb c 34) ([], cs) (cond (eqb c 92) (marked cs) (onto c (unquoted cs)))
 
--- a byte of a text stands in one of three ways
-record IsRaw (b : ℕ) : Type 0 where
-  is : escaped b ≡ b ∷ []
-  no_quote : eqb b 34 ≡ false
-  no_backslash : eqb b 92 ≡ false
+  -- behind a backslash
+  marked : List ℕ → Two
+  marked [] = ([], [])
+  marked (c ∷ cs) = cond (eqb c 117) (numbered cs) (onto c (unquoted cs))
 
-record IsMarked (b : ℕ) : Type 0 where
-  is : escaped b ≡ 92 ∷ b ∷ []
-  no_letter : eqb b 117 ≡ false
+  -- behind a `u`
+  numbered : List ℕ → Two
+  numbered (y ∷ z ∷ h ∷ l ∷ cs) = onto (first (decoded (decode_of (h ∷ l ∷ [])))) (unquoted cs)
+  numbered _ = ([], [])
 
-record IsControl (b : ℕ) : Type 0 where
-  is : escaped b ≡ codes "\\u00" ++ encode_lower (b ∷ [])
+raw-step : (b : ℕ) (cs : List ℕ) → eqb b 34 ≡ false → eqb b 92 ≡ false → unquoted (b ∷ cs) ≡ onto b (unquoted cs)
+raw-step b cs p q = rw (p, q) refl
 
-raw-step : (k b : ℕ) (cs : List ℕ) → eqb b 34 ≡ false → eqb b 92 ≡ false → unquoted (suc k) (b ∷ cs) ≡ onto b (unquoted k cs)
-raw-step k b cs p q = rw (p, q) refl
-
-marked-step : (k b : ℕ) (cs : List ℕ) → eqb b 117 ≡ false → unquoted (suc k) (92 ∷ b ∷ cs) ≡ onto b (unquoted k cs)
-marked-step k b cs p = rw p refl
-
-control-step : (k h l : ℕ) (cs : List ℕ) → unquoted (suc k) (92 ∷ 117 ∷ 48 ∷ 48 ∷ h ∷ l ∷ cs) ≡ onto (first (decoded (decode_of (h ∷ l ∷ [])))) (unquoted k cs)
-control-step k h l cs = refl
-
-ways : (b : ℕ) (p q r s : Bool) → eqb b 34 ≡ p → eqb b 92 ≡ q → ltb b 32 ≡ r → eqb b 127 ≡ s → IsRaw b ⊎ (IsMarked b ⊎ IsControl b)
-ways b true q r s e f g h = let is : b ≡ 34 = eqb-true b 34 e in inr (inl (record { is = rw e refl; no_letter = rw is refl }))
-ways b false true r s e f g h = let is : b ≡ 92 = eqb-true b 92 f in inr (inl (record { is = rw (e, f) refl; no_letter = rw is refl }))
-ways b false false true s e f g h = inr (inr (record { is = rw (e, f, g) refl }))
-ways b false false false true e f g h = inr (inr (record { is = rw (e, f, g, h) refl }))
-ways b false false false false e f g h = inl (record { is = rw (e, f, g, h) refl; no_quote = e; no_backslash = f })
-
-control : (k b : ℕ) (bs x : List ℕ) → AreBytes (b ∷ bs) → unquoted k (flat_map escaped bs ++ 34 ∷ x) ≡ (bs, x) → unquoted (suc k) (((codes "\\u00" ++ encode_lower (b ∷ [])) ++ flat_map escaped bs) ++ 34 ∷ x) ≡ (b ∷ bs, x)
+control : (b : ℕ) (bs x : List ℕ) → AreBytes (b ∷ bs) → unquoted (flat_map escaped bs ++ 34 ∷ x) ≡ (bs, x) → unquoted (((codes "\\u00" ++ encode_lower (b ∷ [])) ++ flat_map escaped bs) ++ 34 ∷ x) ≡ (b ∷ bs, x)
 unfolding encode_with
-control k b bs x h more =
+control b bs x h more =
     let back : first (decoded (decode_of (encode_lower (b ∷ [])))) ≡ b = ap first (decoded-back (b ∷ []) (h.0, tt)) in
-    let cs = flat_map escaped bs ++ 34 ∷ x in
-    control-step k (get_or lower_digits (b / 16) 0) (get_or lower_digits (b % 16) 0) cs
-    ∙ ap (λ (n : ℕ). onto n (unquoted k cs)) back ∙ ap (onto b) more
+    ap (λ (n : ℕ). onto n (unquoted (flat_map escaped bs ++ 34 ∷ x))) back ∙ ap (onto b) more
 
-pub unquoted-back : (k : ℕ) (bs x : List ℕ) → AreBytes bs → length bs < k → unquoted k (flat_map escaped bs ++ 34 ∷ x) ≡ (bs, x)
-unquoted-back zero bs x h l = absurd (omega arith)
-unquoted-back (suc k) [] x h l = refl
-unquoted-back (suc k) (b ∷ bs) x h l =
-    let cs = flat_map escaped bs ++ 34 ∷ x in
-    let more : unquoted k cs ≡ (bs, x) = unquoted-back k bs x h.1 (omega arith) in
-    let so : (e : List ℕ) → escaped b ≡ e → unquoted (suc k) ((escaped b ++ flat_map escaped bs) ++ 34 ∷ x) ≡ unquoted (suc k) ((e ++ flat_map escaped bs) ++ 34 ∷ x) =
-    λ e is. ap (λ (l : List ℕ). unquoted (suc k) ((l ++ flat_map escaped bs) ++ 34 ∷ x)) is in
-    elim (ways b (eqb b 34) (eqb b 92) (ltb b 32) (eqb b 127) refl refl refl refl) [
-      | inl w ↦ so (b ∷ []) w.is ∙ raw-step k b cs w.no_quote w.no_backslash ∙ ap (onto b) more
-      | inr v ↦ elim v [ inl w ↦ so (92 ∷ b ∷ []) w.is ∙ marked-step k b cs w.no_letter ∙ ap (onto b) more | inr w ↦ so (codes "\\u00" ++ encode_lower (b ∷ [])) w.is ∙ control k b bs x h more ]
-    ]
+-- a byte of a text, and then the others: behind a backslash, as its number, or raw
+quoted : (b : ℕ) (p q r s : Bool) → eqb b 34 ≡ p → eqb b 92 ≡ q → ltb b 32 ≡ r → eqb b 127 ≡ s → (bs x : List ℕ) → AreBytes (b ∷ bs) → unquoted (flat_map escaped bs ++ 34 ∷ x) ≡ (bs, x)
+    → unquoted ((escaped b ++ flat_map escaped bs) ++ 34 ∷ x) ≡ (b ∷ bs, x)
+quoted b true q r s e f g h bs x k more = subst (λ n. unquoted ((escaped n ++ flat_map escaped bs) ++ 34 ∷ x) ≡ (n ∷ bs, x)) (sym (eqb-true b 34 e)) (ap (onto 34) more)
+quoted b false true r s e f g h bs x k more = subst (λ n. unquoted ((escaped n ++ flat_map escaped bs) ++ 34 ∷ x) ≡ (n ∷ bs, x)) (sym (eqb-true b 92 f)) (ap (onto 92) more)
+quoted b false false true s e f g h bs x k more = rw (e, f, g) (control b bs x k more)
+quoted b false false false true e f g h bs x k more = rw (e, f, g, h) (control b bs x k more)
+quoted b false false false false e f g h bs x k more = rw (e, f, g, h) (raw-step b (flat_map escaped bs ++ 34 ∷ x) e f ∙ ap (onto b) more)
 
-escape-long : (b : ℕ) → 0 < length (escaped b)
-escape-long b = elim (ways b (eqb b 34) (eqb b 92) (ltb b 32) (eqb b 127) refl refl refl refl) [
-  | inl w ↦ rw (w.is) (omega arith)
-  | inr v ↦ elim v [ inl w ↦ rw (w.is) (omega arith) | inr w ↦ rw (w.is) (omega arith) ]
-]
-
-pub escapes-long : (bs : List ℕ) → length bs ≤ length (flat_map escaped bs)
-escapes-long [] = omega arith
-escapes-long (b ∷ bs) = let one = escape-long b in let more = escapes-long bs in omega (arith, length-append (escaped b) (flat_map escaped bs))
+pub unquoted-back : (bs x : List ℕ) → AreBytes bs → unquoted (flat_map escaped bs ++ 34 ∷ x) ≡ (bs, x)
+unquoted-back [] x h = refl
+unquoted-back (b ∷ bs) x h = quoted b (eqb b 34) (eqb b 92) (ltb b 32) (eqb b 127) refl refl refl refl bs x h (unquoted-back bs x h.1)

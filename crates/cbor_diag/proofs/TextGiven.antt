@@ -12,13 +12,11 @@ use Rattle.cbor_judging.specs.Reading.{string_value}
 use Rattle.cbor_judging.proofs.Levels.{of-opened}
 use Rattle.cbor_walk.specs.Sink.{Told, IsEndedAs, StandsFull, IsContainerFull, Gives, Opens, Ends, BeginsString, GrowsString, EndsString}
 use Rattle.cbor_diag.specs.Text.{text, texts, pair_texts, joined, escaped}
-use Rattle.cbor_diag.specs.declared.text_sink.Kind.{Kind}
-use Rattle.cbor_diag.specs.declared.text_sink.Kind.TheVariants as kinds
 use Rattle.cbor_diag.specs.declared.text_sink.Open.{Open}
 use Rattle.cbor_diag.specs.declared.text_sink.TextSink.{TextSink}
 use Rattle.cbor_diag.specs.inner.Outbox.{HasPut}
 use Rattle.cbor_diag.specs.inner.Strings.{opening, content_text, closing, string_text}
-use Rattle.cbor_diag.specs.inner.TextSinks.{opener, kind_of, closer, an_open, are_none, comma, text_in, open_of, entered_of, before, text_to, inner_in, around_in, IsAt, IsWithin, text_stands, text_holds, Reaches}
+use Rattle.cbor_diag.specs.inner.TextSinks.{opener, closer, an_open, are_none, comma, text_in, open_of, entered_of, before, text_to, inner_in, around_in, IsAt, IsWithin, text_stands, text_holds, Reaches}
 use Rattle.cbor_diag.proofs.PieceTexts.{encode-append}
 
 -- ---- what is put
@@ -84,7 +82,7 @@ some-in [] t = refl
 some-in (s ∷ ts) t = refl
 
 -- a container with these texts, and one more that was written
-listed : (g : TextSink) (k : Kind) (u f t x : List ℕ) (ts us : List (List ℕ)) (around : List Open) → us ≡ ts ++ t ∷ [] → x ≡ ((u ++ (f ++ joined ts)) ++ comma (are_none ts)) ++ t
+listed : (g : TextSink) (k : Major) (u f t x : List ℕ) (ts us : List (List ℕ)) (around : List Open) → us ≡ ts ++ t ∷ [] → x ≡ ((u ++ (f ++ joined ts)) ++ comma (are_none ts)) ++ t
     → IsAt g x (Some (an_open k false)) around → IsAt g (u ++ (f ++ joined us)) (Some (an_open k (are_none us))) around
 listed g k u f t x ts us around is e at = record {
   given = at.given ∙ e ∙ ap (λ (z : List ℕ). z ++ t) (in-front u f (joined ts) (comma (are_none ts))) ∙ in-front u f (joined ts ++ comma (are_none ts)) t
@@ -97,7 +95,7 @@ member-given : (g : TextSink) (u : List ℕ) (done : Spellings) (s : Spelling) (
     let v = some_member done in
     let more = some_member (with_all done (a_spelling s no_spellings)) in
     IsAt g ((text_in u v ++ before v) ++ text (value_of s)) (Some (entered_of v)) around → IsAt g (text_in u more) (Some (open_of more)) around
-member-given g u done s around at = listed g kinds.Array u (codes "[") (text (value_of s)) _ (texts (values_of done)) _ around (texts-more done s) refl at
+member-given g u done s around at = listed g majors.Array u (codes "[") (text (value_of s)) _ (texts (values_of done)) _ around (texts-more done s) refl at
 
 grouped : (x k c v : List ℕ) → ((x ++ k) ++ c) ++ v ≡ x ++ (k ++ c ++ v)
 grouped x k c v = simp append_assoc
@@ -108,7 +106,7 @@ value-given : (g : TextSink) (u : List ℕ) (done : SpelledEntries) (k s : Spell
     IsAt g ((text_in u v ++ before v) ++ text (value_of s)) (Some (entered_of v)) around → IsAt g (text_in u more) (Some (open_of more)) around
 value-given g u done k s around at =
     let ts = pair_texts (entries_of done) in
-    listed g kinds.Map u (codes "{") (text (value_of k) ++ codes ": " ++ text (value_of s)) _ ts _ around (pair_texts-more done k s)
+    listed g majors.Map u (codes "{") (text (value_of k) ++ codes ": " ++ text (value_of s)) _ ts _ around (pair_texts-more done k s)
     (grouped ((u ++ (codes "{" ++ joined ts)) ++ comma (are_none ts)) (text (value_of k)) (codes ": ") (text (value_of s))) at
 
 pub settles : (start g : TextSink) (vs : List Level) (s : Spelling) → IsWithin g (text_to vs ++ text (value_of s)) vs → text_stands start g (settle vs s)
@@ -123,7 +121,7 @@ settles start g (tagged w n ∷ vs) s at =
     let front = decimal n ++ codes "(" in
     let x = text (value_of s) in
     let is : ((u ++ front) ++ []) ++ x ≡ u ++ (front ++ x) = ap (λ (z : List ℕ). z ++ x) (append-nil (u ++ front)) ∙ append_assoc u front x in
-    (front ++ x, an_open kinds.Tag true, refl, record { given = at.given ∙ is; innermost = at.innermost; around = at.around })
+    (front ++ x, an_open majors.Tag true, refl, record { given = at.given ∙ is; innermost = at.innermost; around = at.around })
 settles start g _ s at = at
 
 pub given : (k : Bool) (v : Value) (y : List ℕ) (old mid new : TextSink) → Reaches k old mid → text v ≡ y → Writes mid new y → Gives TextSink text_stands k v old new
@@ -150,11 +148,11 @@ string-ended k t old new wrote start d vs content s at told done e =
 
 -- ---- containers
 
-level-opened : (u : List ℕ) (m : Major) (i : ℕ) (v : Level) → IsOpened m i v → (u ++ opener m i ≡ text_in u v) × (an_open (kind_of m) true ≡ open_of v)
-level-opened u = of-opened (λ m i v. (u ++ opener m i ≡ text_in u v) × (an_open (kind_of m) true ≡ open_of v)) (λ w left i. (refl, refl)) (λ i. (refl, refl)) (λ w left i. (refl, refl)) (λ i. (refl, refl)) (λ w i. (refl, refl))
+level-opened : (u : List ℕ) (m : Major) (i : ℕ) (v : Level) → IsOpened m i v → (u ++ opener m i ≡ text_in u v) × (an_open m true ≡ open_of v)
+level-opened u = of-opened (λ m i v. (u ++ opener m i ≡ text_in u v) × (an_open m true ≡ open_of v)) (λ w left i. (refl, refl)) (λ i. (refl, refl)) (λ w left i. (refl, refl)) (λ i. (refl, refl)) (λ w i. (refl, refl))
 
 pub opened : (k : Bool) (m : Major) (i : ℕ) (old mid new : TextSink) → Reaches k old mid → HasPut (Some mid.shown.now.items) (Some new.shown.now.items) mid.out.now new.out.now (opener m i)
-    → new.inner ≡ Some (an_open (kind_of m) true) → new.around.items ≡ mid.around.items ++ option_to_list mid.inner → Opens TextSink text_stands k m i old new
+    → new.inner ≡ Some (an_open m true) → new.around.items ≡ mid.around.items ++ option_to_list mid.inner → Opens TextSink text_stands k m i old new
 opened k m i old mid new reaches put inner around start vs v told is =
     let at = reaches start vs told in
     let same = level-opened (text_to vs) m i v is in
@@ -183,7 +181,7 @@ popped [] around new (Some x) are is some = let n = ap length (sym is ∙ are) i
 popped (v ∷ vs) around new None are is some = let n = ap length are in absurd (cc (some (omega (arith, n, length-append {A = Open}))))
 popped (v ∷ vs) around new (Some x) are is some = let e = same_from_push new _ x _ (sym is ∙ are) in (ap Some e.1, e.0)
 
-pub ended : (k : Bool) (o : Open) (old new : TextSink) → old.inner ≡ Some o → HasPut (Some old.shown.now.items) (Some new.shown.now.items) old.out.now new.out.now (closer o.kind)
+pub ended : (k : Bool) (o : Open) (old new : TextSink) → old.inner ≡ Some o → HasPut (Some old.shown.now.items) (Some new.shown.now.items) old.out.now new.out.now (closer o.major)
     → old.around.items ≡ new.around.items ++ option_to_list new.inner → (0 < length old.around.items → IsSome new.inner) → Ends TextSink text_stands true k old new
 ended k o old new inner put around some start d vs s fills stood =
     let full = full-at k d start old vs s stood in
@@ -193,8 +191,8 @@ ended k o old new inner put around some start d vs s fills stood =
     let top = popped vs old.around.items new.around.items new.inner at.around around some in (
       fills.clean refl,
       settles start new vs s (record {
-        given = more old new (text_to vs ++ t) (closer o.kind) at.given put ∙ append_assoc (text_to vs) t (closer o.kind)
-            ∙ ap (λ (z : List ℕ). text_to vs ++ z) (ap (λ (p : Open). t ++ closer p.kind) same ∙ full.2);
+        given = more old new (text_to vs ++ t) (closer o.major) at.given put ∙ append_assoc (text_to vs) t (closer o.major)
+            ∙ ap (λ (z : List ℕ). text_to vs ++ z) (ap (λ (p : Open). t ++ closer p.major) same ∙ full.2);
         innermost = top.0;
         around = top.1;
       }),

@@ -6,7 +6,7 @@ ghost use Rattle.cbor_diag.specs.inner.Layout.{gap, end};
 ghost use Rattle.cbor_diag.specs.inner.Outbox.{Puts};
 
 use crate::outbox::{Outbox, Stopped};
-use crate::pieces::put_new_line;
+use crate::pieces::put_line;
 use std::io::Write;
 
 /// On one line, or with one member or pair a line.
@@ -32,11 +32,8 @@ pub(crate) fn put_gap<W: Write>(
     match layout {
         Layout::OneLine if first => Ok(()),
         Layout::OneLine => out.put(writer, b", "),
-        Layout::Indented if first => put_new_line(level + 1, out, writer),
-        Layout::Indented => {
-            out.put(writer, b",")?;
-            put_new_line(level + 1, out, writer)
-        }
+        Layout::Indented if first => put_line(b"\n", level + 1, out, writer),
+        Layout::Indented => put_line(b",\n", level + 1, out, writer),
     }
 }
 
@@ -53,7 +50,7 @@ pub(crate) fn put_end<W: Write>(
         (end layout level none) result }
 {
     match layout {
-        Layout::Indented if !none => put_new_line(level, out, writer),
+        Layout::Indented if !none => put_line(b"\n", level, out, writer),
         _ => Ok(()),
     }
 }

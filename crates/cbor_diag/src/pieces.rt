@@ -1,9 +1,8 @@
 //! The parts of a text that hold no others.
 
-ghost use Rattle.std.specs.Prelude.{◌≡◌, ◌≢◌, ◌+◌, ◌≤◌, ◌↔◌, [], ◌∷◌, ◌++◌, IsTrue, codes, decimal};
-ghost use Rattle.std.specs.Prelude.{flat_map, length};
+ghost use Rattle.std.specs.Prelude.{◌≡◌, ◌≢◌, ◌+◌, ◌*◌, ◌≤◌, ◌↔◌, [], ◌∷◌, ◌++◌, IsTrue, codes, decimal};
+ghost use Rattle.std.specs.Prelude.{flat_map, length, replicate};
 ghost use Rattle.hex.specs.Hex.{encode_lower};
-ghost use Rattle.cbor_diag.specs.IndentedText.{new_line};
 ghost use Rattle.cbor_diag.specs.inner.Outbox.{Puts};
 ghost use Rattle.cbor_diag.specs.inner.Strings.{opening, content_text, closing, string_text};
 ghost use Rattle.cbor_diag.specs.Text.{escaped, simple_text};
@@ -208,17 +207,18 @@ fn put_escape<W: Write>(byte: u8, out: &mut Outbox, writer: &mut W) -> Result<()
     }
 }
 
-// A line feed and two spaces for each level.
+// These bytes, and two spaces for each level.
 #[inline(never)]
-pub(crate) fn put_new_line<W: Write>(
+pub(crate) fn put_line<W: Write>(
+    start: &[u8],
     level: u16,
     out: &mut Outbox,
     writer: &mut W,
 ) -> Result<(), Stopped>
     requires { level ≤ MAX_DEPTH }
     ensures { Puts (W.contents writer.old) (W.contents writer.new) out.old out.new
-        (new_line level) result }
+        (start.now ++ replicate (2 * level) 0x20) result }
 {
-    out.put(writer, b"\n")?;
+    out.put(writer, start)?;
     out.put(writer, &SPACES[..2 * usize::from(level)])
 }

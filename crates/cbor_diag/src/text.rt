@@ -6,7 +6,7 @@ ghost use Rattle.cbor_head.specs.declared.limits.TheConstants.{MAX_DEPTH};
 ghost use Rattle.cbor_item.specs.View.{view as value_of};
 ghost use Rattle.cbor_view.specs.Seen.{seen};
 ghost use Rattle.cbor_diag.specs.IndentedText.{indented};
-ghost use Rattle.cbor_diag.specs.inner.Layout.{laid_out};
+ghost use Rattle.cbor_diag.specs.inner.Layout.{laid_out, shown};
 ghost use Rattle.cbor_diag.specs.inner.Outbox.{Puts};
 ghost use Rattle.cbor_diag.specs.Written.{Writes};
 ghost use Rattle.cbor_diag.specs.Text.{text};
@@ -63,7 +63,7 @@ pub fn diagnostic_view_indented<W: Write>(view: &View<'_>, writer: &mut W) -> Re
 fn write_text<N: Node, W: Write>(item: &N, layout: Layout, writer: &mut W) -> Result<u64, Refusal>
     requires { depth (N.value item.now) ≤ MAX_DEPTH }
     ensures { Writes (W.contents writer.old) (W.contents writer.new)
-        (laid_out layout 0 (N.value item.now)) result }
+        (shown layout (N.value item.now)) result }
 {
     let mut out = Outbox::new();
     match send_item(item, layout, &mut out, writer) {

@@ -7,7 +7,7 @@ ghost use Rattle.cbor_head.specs.declared.major.Major.TheVariants as majors;
 ghost use Rattle.cbor_judging.specs.Levels.{item_due, item_whole};
 ghost use Rattle.cbor_walk.specs.Sink.{leaf_value};
 ghost use Rattle.cbor_diag.specs.inner.Outbox.{Puts};
-ghost use Rattle.cbor_diag.specs.inner.TextSinks.{opener, kind_of, closer, Reaches};
+ghost use Rattle.cbor_diag.specs.inner.TextSinks.{opener, closer, Reaches};
 ghost use Rattle.cbor_diag.specs.inner.TextSinks.{text_stands, text_holds};
 ghost use Rattle.cbor_diag.specs.Text.{text};
 
@@ -35,16 +35,9 @@ pub(crate) struct TextSink<'o> {
 /// A container whose end is not written.
 #[derive(Clone, Copy)]
 pub(crate) struct Open {
-    kind: Kind,
+    major: Major,
     // Whether none of its members or pairs is written.
     is_first: bool,
-}
-
-#[derive(Clone, Copy)]
-pub(crate) enum Kind {
-    Array,
-    Map,
-    Tag,
 }
 
 impl<'o> TextSink<'o> {
@@ -88,12 +81,12 @@ impl<'o> TextSink<'o> {
         let Some(open) = self.inner else {
             return Ok(());
         };
-        match open.kind {
-            Kind::Tag => Ok(()),
-            Kind::Map if !is_key => self.out.put(self.shown, b": "),
-            kind if open.is_first => {
+        match open.major {
+            Major::Tag => Ok(()),
+            Major::Map if !is_key => self.out.put(self.shown, b": "),
+            major if open.is_first => {
                 self.inner = Some(Open {
-                    kind,
+                    major,
                     is_first: false,
                 });
                 Ok(())
@@ -168,7 +161,7 @@ impl<'a, 'o> Sink<'a> for TextSink<'o> {
         put_opener(major, number, self.out, self.shown)?;
         push(&mut self.around, self.inner)?;
         self.inner = Some(Open {
-            kind: kind_of(major),
+            major,
             is_first: true,
         });
         Ok(())
@@ -179,7 +172,7 @@ impl<'a, 'o> Sink<'a> for TextSink<'o> {
         let Some(open) = self.inner else {
             unreachable!();
         };
-        put_closer(open.kind, self.out, self.shown)?;
+        put_closer(open.major, self.out, self.shown)?;
         self.inner = self.around.pop();
         Ok(None)
     }
@@ -245,26 +238,15 @@ fn put_opener<W: Write>(
     }
 }
 
-#[inline(always)]
-fn kind_of(major: Major) -> Kind
-    ensures { result ≡ kind_of major }
-{
-    match major {
-        Major::Array => Kind::Array,
-        Major::Map => Kind::Map,
-        _ => Kind::Tag,
-    }
-}
-
 // The end of a container.
 #[inline(always)]
-fn put_closer<W: Write>(kind: Kind, out: &mut Outbox, writer: &mut W) -> Result<(), Stopped>
+fn put_closer<W: Write>(major: Major, out: &mut Outbox, writer: &mut W) -> Result<(), Stopped>
     ensures { Puts (W.contents writer.old) (W.contents writer.new) out.old out.new
-        (closer kind) result }
+        (closer major) result }
 {
-    match kind {
-        Kind::Array => out.put(writer, b"]"),
-        Kind::Map => out.put(writer, b"}"),
-        Kind::Tag => out.put(writer, b")"),
+    match major {
+        Major::Array => out.put(writer, b"]"),
+        Major::Map => out.put(writer, b"}"),
+        _ => out.put(writer, b")"),
     }
 }

@@ -32,14 +32,6 @@ six_written a b c d e f g s t u v w x p q r i j k =
     Appends-trans a f g (s ++ t ++ u ++ v ++ w) x
     (Appends-trans a e f (s ++ t ++ u ++ v) w (Appends-trans a d e (s ++ t ++ u) v (Appends-trans a c d (s ++ t) u (Appends-trans a b c s t p q) r) i) j) k
 
-pub lines_written : (bytes : List ℕ) (start before : ℕ) (a b c d e f g : Option (List ℕ)) (front shown : List ℕ) → front ≡ label start → shown ≡ take 16 (drop start bytes)
-    → Appends a b front → Appends b c (spaced shown) → Appends c d (codes "\n") → Appends d e (replicate (length front) 32) → Appends e f (replicate (3 * before + 1) 32)
-    → Appends f g (codes "^^\n") → Appends a g (lines_from bytes start before)
-lines_written bytes start before a b c d e f g front shown is shows p q r i j k =
-    subst (λ t. Appends a g (t ++ spaced (take 16 (drop start bytes)) ++ codes "\n" ++ replicate (length t) 32 ++ replicate (3 * before + 1) 32 ++ codes "^^\n")) is
-    (subst (λ t. Appends a g (front ++ spaced t ++ codes "\n" ++ replicate (length front) 32 ++ replicate (3 * before + 1) 32 ++ codes "^^\n")) shows
-    (six_written a b c d e f g front (spaced shown) (codes "\n") (replicate (length front) 32) (replicate (3 * before + 1) 32) (codes "^^\n") p q r i j k))
-
 pub surroundings_written : (bytes : List ℕ) (place at before count : ℕ) → at ≡ min place (length bytes) → before ≡ min at 8 → count ≡ min 16 (length bytes - (at - before))
     → (a b c d e f g : Option (List ℕ)) (front : List ℕ) → front ≡ label (at - before)
     → Appends a b front → Appends b c (spaced (take (at - before + count - (at - before)) (drop (at - before) bytes))) → Appends c d (codes "\n") → Appends d e (replicate (length front) 32)
@@ -48,4 +40,7 @@ surroundings_written bytes place at before count at_is before_is count_is a b c 
     let n : at - before + count - (at - before) ≡ min 16 (length bytes - (at - before)) = omega (arith, count_is) in
     subst (λ x. Appends a g (lines_around bytes x)) at_is
     (subst (λ x. Appends a g (lines_from bytes (at - x) x)) before_is
-    (lines_written bytes (at - before) before a b c d e f g front _ is (ap (λ x. take x (drop (at - before) bytes)) n ∙ shown_is bytes (at - before)) p q r i j k))
+    (subst (λ t. Appends a g (t ++ spaced (take 16 (drop (at - before) bytes)) ++ codes "\n" ++ replicate (length t) 32 ++ replicate (3 * before + 1) 32 ++ codes "^^\n")) is
+    (subst (λ t. Appends a g (front ++ spaced t ++ codes "\n" ++ replicate (length front) 32 ++ replicate (3 * before + 1) 32 ++ codes "^^\n"))
+    (ap (λ x. take x (drop (at - before) bytes)) n ∙ shown_is bytes (at - before))
+    (six_written a b c d e f g front (spaced (take (at - before + count - (at - before)) (drop (at - before) bytes))) (codes "\n") (replicate (length front) 32) (replicate (3 * before + 1) 32) (codes "^^\n") p q r i j k))))

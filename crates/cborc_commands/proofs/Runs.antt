@@ -6,16 +6,14 @@ use Rattle.cbor_head.specs.declared.order.KeyOrder.{KeyOrder}
 use Rattle.cborc_commands.specs.Answer.{IsDone, IsNotDone}
 use Rattle.cborc_input.specs.Fault.{end_status, status_number}
 use Rattle.cborc_files.specs.Folder.{Files, KeepsFiles}
-use Rattle.cborc_commands.specs.Told.{IsSilent, IsStatus, IsAnswered, done, stopped, IsAnsweredQuietly, IsToldBy}
-use Rattle.cborc_input.specs.declared.request.Manner.{Manner}
+use Rattle.cborc_commands.specs.Told.{IsSilent, IsStatus, IsAnswered, done, stopped, IsAnsweredQuietly}
 use Rattle.cborc_input.specs.declared.request.Options.{Options}
 use Rattle.cborc_input.specs.declared.request.Output.{Output}
 use Rattle.cborc_input.specs.declared.request.Request.{Request}
-use Rattle.cborc_input.specs.declared.request.Request.TheVariants.{Check, CheckSequence, Canon, CanonSequence, Compare, Show, ShowSequence, Events, EventsSequence}
+use Rattle.cborc_input.specs.declared.request.Request.TheVariants.{Canon, CanonSequence}
 use Rattle.cborc_input.specs.declared.fault.Fault.{Fault}
 use Rattle.cborc_input.specs.declared.fault.Fault.TheVariants as faults
 use Rattle.cborc_input.specs.declared.status.Status.{Status}
-use Rattle.cborc_commands.proofs.Sent.{done_sent, not_done_sent, silent_sent}
 
 -- the end, once standard output sent on what it took, or did not
 abbrev IsSentOn : Result Status Fault → Result Status Fault → Type 0
@@ -25,14 +23,12 @@ status_sent : (ended sent : Result Status Fault) → IsSentOn ended sent → (st
 status_sent ended sent (inl e) status is = inl (is ∙ ap (λ (r : Result Status Fault). status_number (end_status r)) e)
 status_sent ended sent (inr e) status is = inr (is ∙ ap (λ (r : Result Status Fault). status_number (end_status r)) e)
 
-module _ (request : Request) (old new : Option Files) (before mid after : Option (List ℕ)) (keeps : Keeps mid after) where
-  pub answered_so : (ended sent : Result Status Fault) → IfOk ended (IsDone request old new before mid) → IfErr ended (IsNotDone request old before mid)
-      → OnErr ended (KeepsFiles old new) → IfErr ended (λ fault. IsSilent request fault before mid) → IsSentOn ended sent
+module _ (request : Request) (old new : Option Files) (before taken after : Option (List ℕ)) (keeps : Keeps taken after) where
+  pub answered_so : (ended sent : Result Status Fault) → IfOk ended (IsDone request old new before taken) → IfErr ended (IsNotDone request old before taken)
+      → OnErr ended (KeepsFiles old new) → IfErr ended (λ fault. IsSilent request fault before taken) → IsSentOn ended sent
       → (status : ℕ) → status ≡ status_number (end_status sent) → IsAnswered request old new before after status
-  answered_so (Ok s) sent d n k q e status is = done s (done_sent before mid after keeps request old new s d) (status_sent (Ok s) sent e status is)
-  answered_so (Err fault) sent d n k q e status is =
-      stopped fault (not_done_sent before mid after keeps request old fault n) k (silent_sent before mid after keeps request fault q)
-      (status_sent (Err fault) sent e status is)
+  answered_so (Ok s) sent d n k q e status is = done s taken d keeps (status_sent (Ok s) sent e status is)
+  answered_so (Err fault) sent d n k q e status is = stopped fault taken n k q keeps (status_sent (Err fault) sent e status is)
 
 -- an answer that is not told, but for those of `canon` and `canon --seq`
 module _ (old new : Option Files) (before after : Option (List ℕ)) (keeps : Keeps before after) (status : ℕ) where
@@ -40,13 +36,7 @@ module _ (old new : Option Files) (before after : Option (List ℕ)) (keeps : Ke
       → ((source : Bor (List ℕ)) (output : Output) (order : KeyOrder) (options : Options) → request ≢ CanonSequence source output order options) → IsAnswered request old new None None status → IsAnsweredQuietly request old new before after status
   quietly (Canon source output order options) one all h = absurd (one source output order options refl)
   quietly (CanonSequence source output order options) one all h = absurd (all source output order options refl)
-  quietly (Check source accepted options) one all h = (h, keeps)
-  quietly (CheckSequence source accepted options) one all h = (h, keeps)
-  quietly (Show source layout options) one all h = (h, keeps)
-  quietly (ShowSequence source layout options) one all h = (h, keeps)
-  quietly (Events source options) one all h = (h, keeps)
-  quietly (EventsSequence source options) one all h = (h, keeps)
-  quietly (Compare left right options) one all h = (h, keeps)
+  quietly _ one all h = (h, keeps)
 
   -- what standard output took is not known there
   pub sunk : (request : Request) → ((source : Bor (List ℕ)) (output : Output) (order : KeyOrder) (options : Options) → request ≢ Canon source output order options)
@@ -55,11 +45,7 @@ module _ (old new : Option Files) (before after : Option (List ℕ)) (keeps : Ke
       → IsAnsweredQuietly request old new before after status
   sunk request one all ended d n k q is = quietly request one all (answered_so request old new None None None tt ended ended d n k q (inl refl) status is)
 
--- the manner by a known name
 module _ (request : Request) (old new : Option Files) (before after : Option (List ℕ)) (status : ℕ) where
-  pub told_as : (known manner : Manner) → manner ≡ known → IsToldBy known request old new before after status → IsToldBy manner request old new before after status
-  told_as known manner e h = subst (λ (m : Manner). IsToldBy m request old new before after status) (sym e) h
-
   -- the request is to write canonical bytes
   abbrev pub WritesCanonical : Type 0
   WritesCanonical =
@@ -71,13 +57,3 @@ module _ (request : Request) (old new : Option Files) (before after : Option (Li
       subst (λ (r : Request). IsAnswered r old new before after status → IsAnsweredQuietly r old new before after status) (sym one.4) (λ k. k) h
   told_canon (inr all) h =
       subst (λ (r : Request). IsAnswered r old new before after status → IsAnsweredQuietly r old new before after status) (sym all.4) (λ k. k) h
-
--- the answer of a folder that keeps what is read, which stands for the one behind it
-pub explained_so : (request : Request) (old first last new : Option Files) (before mid after : Option (List ℕ)) → Keeps mid after
-    → (ended sent : Result Status Fault) → IfOk ended (IsDone request first last before mid) → IfErr ended (IsNotDone request first before mid)
-    → OnErr ended (KeepsFiles first last) → IfErr ended (λ fault. IsSilent request fault before mid) → IsSentOn ended sent
-    → (status : ℕ) → status ≡ status_number (end_status sent) → first ≡ old → last ≡ new → IsAnswered request old new before after status
-explained_so request old first last new before mid after keeps ended sent d n k q e status is here there =
-    let told = answered_so request first last before mid after keeps ended sent d n k q e status is in
-    subst (λ (x : Option Files). IsAnswered request old x before after status) there
-    (subst (λ (x : Option Files). IsAnswered request x last before after status) here told)

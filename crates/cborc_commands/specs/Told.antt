@@ -26,13 +26,14 @@ IsSilent request fault before after = Keeps before after
 abbrev pub IsStatus : Status → ℕ → Type 0
 IsStatus s status = (status ≡ status_number s) ⊎ (status ≡ 3)
 
--- what the answer to a request leaves
+-- what the answer to a request leaves: standard output took what is told, and keeps that when it is asked to send it on
 pub data IsAnswered (request : Request) (old new : Option Files) (before after : Option (List ℕ)) (status : ℕ) : Type 0 where
   -- it is done, and the status is that of its answer
-  done : (s : Status) → IsDone request old new before after s → IsStatus s status → IsAnswered request old new before after status
+  done : (s : Status) (taken : Option (List ℕ)) → IsDone request old new before taken s → Keeps taken after → IsStatus s status
+      → IsAnswered request old new before after status
   -- it is not done, for this fault, whose status it is; no file is changed
-  stopped : (fault : Fault) → IsNotDone request old before after fault → KeepsFiles old new → IsSilent request fault before after
-      → IsStatus (fault_status fault) status → IsAnswered request old new before after status
+  stopped : (fault : Fault) (taken : Option (List ℕ)) → IsNotDone request old before taken fault → KeepsFiles old new → IsSilent request fault before taken
+      → Keeps taken after → IsStatus (fault_status fault) status → IsAnswered request old new before after status
 
 -- the same with nothing told: standard output takes canonical bytes alone
 abbrev pub IsAnsweredQuietly : Request → Option Files → Option Files → Option (List ℕ) → Option (List ℕ) → ℕ → Type 0

@@ -1,9 +1,9 @@
 -- Text in either layout, as it is written: members one after the other, each behind a gap.
-use Rattle.std.specs.Prelude.{ℕ, ◌+◌, Bool, true, false, if◌then◌else◌, List, [], ◌++◌, codes, decimal}
+use Rattle.std.specs.Prelude.{ℕ, ◌+◌, Bool, true, false, if◌then◌else◌, List, [], ◌∷◌, ◌++◌, codes, decimal}
 use Rattle.cbor_head.specs.Value as value
 use Rattle.cbor_head.specs.Prelude.{Value, Values, Entries}
 use Rattle.cbor_diag.specs.Text.{text}
-use Rattle.cbor_diag.specs.IndentedText.{new_line}
+use Rattle.cbor_diag.specs.IndentedText.{new_line, indented}
 use Rattle.cbor_diag.specs.declared.layout.Layout.{Layout}
 use Rattle.cbor_diag.specs.declared.layout.Layout.TheVariants.{OneLine, Indented}
 
@@ -17,23 +17,30 @@ abbrev pub end : Layout → ℕ → Bool → List ℕ
 end OneLine level none = []
 end Indented level none = if none then [] else new_line level
 
+-- the texts of members or pairs that are left, the first of all among them or not
+abbrev pub rows : Layout → ℕ → Bool → List (List ℕ) → List ℕ
+rows l level first [] = end l level first
+rows l level first (t ∷ ts) = gap l level first ++ t ++ rows l level false ts
+
 abbrev mutual
   -- the text of a value at a level
   pub laid_out : Layout → ℕ → Value → List ℕ
-  laid_out l level (value.array vs) = codes "[" ++ members_left l level true vs ++ codes "]"
-  laid_out l level (value.map es) = codes "{" ++ pairs_left l level true es ++ codes "}"
+  laid_out l level (value.array vs) = codes "[" ++ rows l level true (laid_texts l (level + 1) vs) ++ codes "]"
+  laid_out l level (value.map es) = codes "{" ++ rows l level true (laid_pairs l (level + 1) es) ++ codes "}"
   laid_out l level (value.tag n v) = decimal n ++ codes "(" ++ laid_out l level v ++ codes ")"
   laid_out l level v = text v
 
-  -- the members that are left, the first of all among them or not
-  pub members_left : Layout → ℕ → Bool → Values → List ℕ
-  members_left l level first value.no_values = end l level first
-  members_left l level first (value.a_value v vs) =
-      gap l level first ++ laid_out l (level + 1) v ++ members_left l level false vs
+  -- the texts of the members
+  pub laid_texts : Layout → ℕ → Values → List (List ℕ)
+  laid_texts l level value.no_values = []
+  laid_texts l level (value.a_value v vs) = laid_out l level v ∷ laid_texts l level vs
 
-  -- the pairs that are left, the first of all among them or not
-  pub pairs_left : Layout → ℕ → Bool → Entries → List ℕ
-  pairs_left l level first value.no_entries = end l level first
-  pairs_left l level first (value.entry k v es) =
-      gap l level first ++ laid_out l (level + 1) k ++ codes ": " ++ laid_out l (level + 1) v
-      ++ pairs_left l level false es
+  -- the texts of the pairs, in their order
+  pub laid_pairs : Layout → ℕ → Entries → List (List ℕ)
+  laid_pairs l level value.no_entries = []
+  laid_pairs l level (value.entry k v es) = (laid_out l level k ++ codes ": " ++ laid_out l level v) ∷ laid_pairs l level es
+
+-- the text of a value
+abbrev pub shown : Layout → Value → List ℕ
+shown OneLine v = text v
+shown Indented v = indented 0 v

@@ -3,7 +3,7 @@ use Rattle.std.specs.Prelude.{ℕ, ◌≡◌, ◌+◌, ◌≤◌, max, false, Li
 use Rattle.cbor_head.specs.Prelude.{Value}
 use Rattle.cbor_head.specs.Value.{depth, depth_all, depth_entries}
 use Rattle.cbor_head.specs.declared.limits.TheConstants.{MAX_DEPTH}
-use Rattle.cbor_diag.specs.inner.Layout.{laid_out, members_left, pairs_left}
+use Rattle.cbor_diag.specs.inner.Layout.{laid_out, laid_pairs, laid_texts, rows}
 use Rattle.cbor_diag.specs.inner.Nodes.{entries_in, values_in}
 use Rattle.cbor_diag.specs.inner.Outbox.{HasPut, HasStopped}
 use Rattle.cbor_diag.specs.declared.layout.Layout.{Layout}
@@ -17,10 +17,10 @@ use Rattle.cbor_diag.specs.declared.walk.Left.TheVariants as parts
 module _ {N : Type 0} (see : N → Value) where
   -- what is left of a container, at this many levels of indentation
   abbrev pub left_of : Layout → ℕ → Left N → List ℕ
-  left_of l n (parts.Array left first) = members_left l n first (values_in see left.now) ++ codes "]"
-  left_of l n (parts.Map left first) = pairs_left l n first (entries_in see left.now) ++ codes "}"
+  left_of l n (parts.Array left first) = rows l n first (laid_texts l (n + 1) (values_in see left.now)) ++ codes "]"
+  left_of l n (parts.Map left first) = rows l n first (laid_pairs l (n + 1) (entries_in see left.now)) ++ codes "}"
   left_of l n (parts.Value value left) =
-      codes ": " ++ laid_out l (n + 1) (see value.now) ++ pairs_left l n false (entries_in see left.now) ++ codes "}"
+      codes ": " ++ laid_out l (n + 1) (see value.now) ++ rows l n false (laid_pairs l (n + 1) (entries_in see left.now)) ++ codes "}"
   left_of l n (parts.Content content) = laid_out l n (see content.now) ++ codes ")"
   left_of l n parts.Tag = codes ")"
 

@@ -6,8 +6,6 @@ use Rattle.cbor_head.specs.declared.major.Major.TheVariants as majors
 use Rattle.cbor_judging.specs.Levels.{Level, a_member, a_key, a_value, some_member, some_key, some_value, tagged, Standing, item_due, item_full, item_whole}
 use Rattle.cbor_walk.specs.Sink.{Told}
 use Rattle.cbor_diag.specs.Text.{text, texts, pair_texts, joined}
-use Rattle.cbor_diag.specs.declared.text_sink.Kind.{Kind}
-use Rattle.cbor_diag.specs.declared.text_sink.Kind.TheVariants.{Array, Map, Tag}
 use Rattle.cbor_diag.specs.declared.text_sink.Open.{Open}
 use Rattle.cbor_diag.specs.declared.text_sink.TextSink.{TextSink}
 use Rattle.cbor_diag.specs.inner.Strings.{opening, content_text}
@@ -19,18 +17,13 @@ opener majors.Array n = codes "["
 opener majors.Map n = codes "{"
 opener m n = decimal n ++ codes "("
 
-abbrev pub kind_of : Major → Kind
-kind_of majors.Array = Array
-kind_of majors.Map = Map
-kind_of m = Tag
+abbrev pub closer : Major → List ℕ
+closer majors.Array = codes "]"
+closer majors.Map = codes "}"
+closer m = codes ")"
 
-abbrev pub closer : Kind → List ℕ
-closer Array = codes "]"
-closer Map = codes "}"
-closer Tag = codes ")"
-
-abbrev pub an_open : Kind → Bool → Open
-an_open kind is_first = record { kind = kind; is_first = is_first }
+abbrev pub an_open : Major → Bool → Open
+an_open major is_first = record { major = major; is_first = is_first }
 
 -- none of these texts
 abbrev pub are_none : List (List ℕ) → Bool
@@ -57,17 +50,17 @@ text_in u (tagged w n) = u ++ (decimal n ++ codes "(")
 
 -- it, before its next item
 abbrev pub open_of : Level → Open
-open_of (a_member w left done) = an_open Array (are_none (texts (values_of done)))
-open_of (some_member done) = an_open Array (are_none (texts (values_of done)))
-open_of (a_key w left done) = an_open Map (are_none (pair_texts (entries_of done)))
-open_of (some_key done) = an_open Map (are_none (pair_texts (entries_of done)))
-open_of (tagged w n) = an_open Tag true
-open_of v = an_open Map false
+open_of (a_member w left done) = an_open majors.Array (are_none (texts (values_of done)))
+open_of (some_member done) = an_open majors.Array (are_none (texts (values_of done)))
+open_of (a_key w left done) = an_open majors.Map (are_none (pair_texts (entries_of done)))
+open_of (some_key done) = an_open majors.Map (are_none (pair_texts (entries_of done)))
+open_of (tagged w n) = an_open majors.Tag true
+open_of v = an_open majors.Map false
 
 -- and within that
 abbrev pub entered_of : Level → Open
-entered_of (tagged w n) = an_open Tag true
-entered_of v = an_open (open_of v).kind false
+entered_of (tagged w n) = an_open majors.Tag true
+entered_of v = an_open (open_of v).major false
 
 -- what stands before its next item
 abbrev pub before : Level → List ℕ
@@ -109,7 +102,7 @@ abbrev pub text_stands : TextSink → TextSink → Standing → Type 0
 text_stands start g (item_due []) = IsAt g [] None []
 text_stands start g (item_due (v ∷ vs)) = IsAt g (text_in (text_to vs) v) (Some (open_of v)) (around_in (v ∷ vs))
 text_stands start g (item_full vs s) =
-    (t : List ℕ) × (o : Open) × (t ++ closer o.kind ≡ text (value_of s))
+    (t : List ℕ) × (o : Open) × (t ++ closer o.major ≡ text (value_of s))
     × IsAt g (text_to vs ++ t) (Some o) (around_in vs ++ option_to_list (inner_in vs))
 text_stands start g (item_whole s) = IsAt g (text (value_of s)) None []
 

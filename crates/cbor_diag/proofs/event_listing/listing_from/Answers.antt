@@ -1,9 +1,8 @@
-use Rattle.std.proofs.Common.{ℕ, List, ◌-◌, ◌+◌, ◌^◌, ◌<◌, min, length, take, arith, ◌∙◌, ap, subst}
+use Rattle.std.proofs.Common.{◌-◌, ◌+◌, ◌^◌, min, arith, ◌∙◌, ap}
 use Rattle.cbor_head.specs.Prelude.{refusal}
 use Rattle.cbor_head.specs.declared.reason.Reason.{Reason}
 use Rattle.cbor_head.specs.declared.reason.Reason.TheVariants.{Write}
-use Rattle.std.specs.Io.KnownBytes.{Appends}
-use Rattle.cbor_diag.proofs.Listed.{none-listed, one-more, takes-more, place-within, all-listed, all-lost, refused-unlisted, refused-lost, stopped-unlisted, stopped-lost, next-event, no-event, listed-within, unlisted-within}
+use Rattle.cbor_diag.proofs.Listed.{none-listed, one-more, takes-more, place-within, all-listed, all-lost, refused-unlisted, refused-lost, stopped-unlisted, stopped-lost, listed-within, unlisted-within}
 use Rattle.cbor_automaton.specs.Reasons.{IsEventReason}
 use Rattle.cbor_diag.specs.Listing.{IsListingReason}
 use Rattle.cbor_diag.proofs.event_listing.listing_from.Goals as goal
@@ -22,32 +21,32 @@ lines-init g c = (c.new-events.ensures.limits.0, c.new-events.ensures.limits.1, 
 pub lines-preserved : goal.lines-preserved
 lines-preserved g c =
     let (depth, bytes, live, h) = c.lines.invariant in
-    let next = next-event _ _ _ _ _ _ _ _ c.in-Ok-Some.field-0 c.in-Ok-Some.event c.in-Ok-Some.field-0-is (c.in-Ok-Some.ensures.answers live h.t h.marks h.between) in
+    let next = rw c.in-Ok-Some.field-0-is at (c.in-Ok-Some.ensures.answers live h.t h.marks h.between) in
     let text = c.as_slice-text.ensures.value ∙ c.line_of-line.ensures in (
       c.next.ensures.limits.depth ∙ depth,
       c.next.ensures.limits.bytes ∙ bytes,
       c.in-Ok-Some.ensures.live,
-      one-more _ _ _ _ _ _ _ _ _ _ _ _ _ c.in-Ok-Some.event h next (subst (Appends _ _) text c.in-Ok.ensures)
-          (c.saturating_add-written.ensures ∙ ap (λ xs. min (c.lines.written + length xs) (2 ^ 64 - 1)) text),
+      one-more _ _ _ _ _ _ _ _ _ _ _ _ _ c.in-Ok-Some.event h next (rw text at c.in-Ok.ensures)
+          (rw text at c.saturating_add-written.ensures),
     )
 
 pub lines-smaller : goal.lines-smaller
 lines-smaller g c =
     let (depth, bytes, live, h) = c.lines.invariant in
-    let next = next-event _ _ _ _ _ _ _ _ c.in-Ok-Some.field-0 c.in-Ok-Some.event c.in-Ok-Some.field-0-is (c.in-Ok-Some.ensures.answers live h.t h.marks h.between) in
+    let next = rw c.in-Ok-Some.field-0-is at (c.in-Ok-Some.ensures.answers live h.t h.marks h.between) in
     let more = takes-more _ _ _ _ _ _ h.t h.marks c.in-Ok-Some.event h.between next in
     omega (arith, more, c.next.ensures.limits.bytes)
 
 pub returns-in-Ok-None-clause-listed : goal.returns-in-Ok-None-clause-listed
 returns-in-Ok-None-clause-listed g c =
     let (depth, bytes, live, h) = c.lines.invariant in
-    let end = no-event _ _ _ _ _ _ _ _ c.in-Ok-None.field-0 c.in-Ok-None.field-0-is (c.in-Ok-None.ensures.answers live h.t h.marks h.between) in
+    let end = rw c.in-Ok-None.field-0-is at (c.in-Ok-None.ensures.answers live h.t h.marks h.between) in
     listed-within _ c.args.limits c.lines.events.machine _ _ _ _ depth bytes (all-listed _ _ _ _ _ _ _ _ _ _ _ _ h end c.taken-in-Ok-None.ensures.taken)
 
 pub returns-in-Ok-None-clause-taken : goal.returns-in-Ok-None-clause-taken
 returns-in-Ok-None-clause-taken g c =
     let (depth, bytes, live, h) = c.lines.invariant in
-    let end = no-event _ _ _ _ _ _ _ _ c.in-Ok-None.field-0 c.in-Ok-None.field-0-is (c.in-Ok-None.ensures.answers live h.t h.marks h.between) in
+    let end = rw c.in-Ok-None.field-0-is at (c.in-Ok-None.ensures.answers live h.t h.marks h.between) in
     all-lost _ _ _ _ _ _ _ _ _ _ _ _ h end c.taken-in-Ok-None.ensures.taken
 
 pub returns-in-Err-clause-refused : goal.returns-in-Err-clause-refused
@@ -65,24 +64,22 @@ returns-in-Err-clause-read g c =
 pub returns-in-Err-write_whole-clause-refused : goal.returns-in-Err-write_whole-clause-refused
 returns-in-Err-write_whole-clause-refused g c =
     let (depth, bytes, live, h) = c.lines.invariant in
-    let next = next-event _ _ _ _ _ _ _ _ c.in-Ok-Some.field-0 c.in-Ok-Some.event c.in-Ok-Some.field-0-is (c.in-Ok-Some.ensures.answers live h.t h.marks h.between) in
+    let next = rw c.in-Ok-Some.field-0-is at (c.in-Ok-Some.ensures.answers live h.t h.marks h.between) in
     let text = c.as_slice-text.ensures.value ∙ c.line_of-line.ensures in
     let count = c.in-Err-write_whole.count in
-    let stopped = c.in-Err-write_whole.ensures in
+    let stopped = rw text at c.in-Err-write_whole.ensures in
     unlisted-within _ c.args.limits c.next.new.self.machine _ _ _ _ (c.next.ensures.limits.depth ∙ depth) (c.next.ensures.limits.bytes ∙ bytes)
-    (stopped-unlisted _ _ _ _ _ _ _ _ _ _ count _ _ c.in-Ok-Some.event h _ next
-    (subst (λ (xs : List ℕ). count < length xs) text stopped.0)
-    (subst (λ (xs : List ℕ). Appends (g.W.Write.contents c.lines.writer) (g.W.Write.contents c.write_whole.new.writer) (take count xs)) text stopped.1)
+    (stopped-unlisted _ _ _ _ _ _ _ _ _ _ count _ _ c.in-Ok-Some.event h _ next stopped.0 stopped.1
     (ap (λ n. refusal Write n c.taken.result) c.saturating_add.ensures ∙ ap (λ n. refusal Write (min (c.lines.written + count) (2 ^ 64 - 1)) n) c.taken.ensures.taken))
 
 pub returns-in-Err-write_whole-clause-read : goal.returns-in-Err-write_whole-clause-read
 returns-in-Err-write_whole-clause-read g c =
     let (depth, bytes, live, h) = c.lines.invariant in
-    let next = next-event _ _ _ _ _ _ _ _ c.in-Ok-Some.field-0 c.in-Ok-Some.event c.in-Ok-Some.field-0-is (c.in-Ok-Some.ensures.answers live h.t h.marks h.between) in
+    let next = rw c.in-Ok-Some.field-0-is at (c.in-Ok-Some.ensures.answers live h.t h.marks h.between) in
     stopped-lost _ _ _ _ _ _ _ _ _ _ _ c.in-Ok-Some.event h c.taken.result next c.taken.ensures.taken
 
 pub line_of-line-requires : goal.line_of-line-requires
 line_of-line-requires g c =
     let (depth, bytes, live, h) = c.lines.invariant in
-    let next = next-event _ _ _ _ _ _ _ _ c.in-Ok-Some.field-0 c.in-Ok-Some.event c.in-Ok-Some.field-0-is (c.in-Ok-Some.ensures.answers live h.t h.marks h.between) in
+    let next = rw c.in-Ok-Some.field-0-is at (c.in-Ok-Some.ensures.answers live h.t h.marks h.between) in
     omega (arith, c.requires, bytes, c.next.ensures.limits.bytes, place-within _ _ _ _ _ _ h.t h.marks c.in-Ok-Some.event h.between next)

@@ -8,10 +8,9 @@ use Rattle.cbor_diag.proofs.pieces.put_escape.Goals as goal
 
 pub returns-in_err-put-in_default : goal.returns-in_err-put-in_default
 returns-in_err-put-in_default g c =
-    let p = err_from_is_err_and c.from_residual.result c.from_residual.ensures.1 in
     let b = c.args.byte in
     let is : escaped b ≡ codes "\\u00" ++ encode_lower (b ∷ []) = escape-other b (λ e. omega arith) (λ e. omega arith) c.requires in
-    rw (p.1, is) (stops-more _ _ c.args.out.now (codes "\\u00") (encode_lower (b ∷ [])) _ c.in_err-put-in_default.ensures)
+    rw ((err_from_is_err_and c.from_residual.result c.from_residual.ensures.1).1, is) (stops-more _ _ c.args.out.now (codes "\\u00") (encode_lower (b ∷ [])) _ c.in_err-put-in_default.ensures)
 
 pub returns-in_ok-put-in_default : goal.returns-in_ok-put-in_default
 returns-in_ok-put-in_default g c =

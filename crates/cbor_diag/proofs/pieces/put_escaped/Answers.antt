@@ -9,14 +9,10 @@ pub loop-at-init : goal.loop-at-init
 loop-at-init g c = record { within = omega arith; written = puts-nothing _ c.args.out.now; raw = refl }
 
 pub returns-in_err-put : goal.returns-in_err-put
-returns-in_err-put g c =
-    let p = err_from_is_err_and c.from_residual.result c.from_residual.ensures.1 in
-    rw (p.1) (run-stops _ _ _ c.args.out.now c.loop-at.out c.args.text.now c.loop-at.start c.loop-at.at _ c.loop-at.invariant c.in_err-put.ensures)
+returns-in_err-put g c = rw ((err_from_is_err_and c.from_residual.result c.from_residual.ensures.1).1) (run-stops _ _ _ c.args.out.now c.loop-at.out c.args.text.now c.loop-at.start c.loop-at.at _ c.loop-at.invariant c.in_err-put.ensures)
 
 pub returns-in_err-put_escape : goal.returns-in_err-put_escape
-returns-in_err-put_escape g c =
-    let p = err_from_is_err_and c.from_residual-in_err-put_escape.result c.from_residual-in_err-put_escape.ensures.1 in
-    rw (p.1) (escape-stops _ _ _ _ c.args.out.now c.loop-at.out _ c.args.text.now c.loop-at.start c.loop-at.at _ c.loop-at-test.true c.loop-at.invariant c.in_ok-put.ensures c.in_err-put_escape.ensures)
+returns-in_err-put_escape g c = rw ((err_from_is_err_and c.from_residual-in_err-put_escape.result c.from_residual-in_err-put_escape.ensures.1).1) (escape-stops _ _ _ _ c.args.out.now c.loop-at.out _ c.args.text.now c.loop-at.start c.loop-at.at _ c.loop-at-test.true c.loop-at.invariant c.in_ok-put.ensures c.in_err-put_escape.ensures)
 
 pub loop-at-preserved : goal.loop-at-preserved
 loop-at-preserved g c =

@@ -8,9 +8,7 @@ pub loop-at-init : goal.loop-at-init
 loop-at-init g c = record { within = omega arith; written = rw (no-digits c.args.bytes.now) (puts-nothing _ c.args.out.now) }
 
 pub returns-in_err-put_digits : goal.returns-in_err-put_digits
-returns-in_err-put_digits g c =
-    let p = err_from_is_err_and c.from_residual.result c.from_residual.ensures.1 in
-    rw (p.1) (digits-stop _ _ _ c.args.out.now c.loop-at.out c.args.bytes.now c.loop-at.at c.min-end.result _ c.loop-at.invariant.written c.in_err-put_digits.ensures)
+returns-in_err-put_digits g c = rw ((err_from_is_err_and c.from_residual.result c.from_residual.ensures.1).1) (digits-stop _ _ _ c.args.out.now c.loop-at.out c.args.bytes.now c.loop-at.at c.min-end.result _ c.loop-at.invariant.written c.in_err-put_digits.ensures)
 
 pub loop-at-preserved : goal.loop-at-preserved
 loop-at-preserved g c =

@@ -4,9 +4,7 @@ use Rattle.cbor_diag.proofs.Putting.{stops-more, puts-next}
 use Rattle.cbor_diag.proofs.pieces.put_negative.Goals as goal
 
 pub returns-in_err-put : goal.returns-in_err-put
-returns-in_err-put g c =
-    let p = err_from_is_err_and c.from_residual.result c.from_residual.ensures.1 in
-    rw (p.1) (stops-more _ _ c.args.out.now (45 ∷ []) (decimal (c.args.n + 1)) _ c.in_err-put.ensures)
+returns-in_err-put g c = rw ((err_from_is_err_and c.from_residual.result c.from_residual.ensures.1).1) (stops-more _ _ c.args.out.now (45 ∷ []) (decimal (c.args.n + 1)) _ c.in_err-put.ensures)
 
 pub returns : goal.returns
 returns g c =

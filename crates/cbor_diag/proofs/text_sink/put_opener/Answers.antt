@@ -6,8 +6,7 @@ use Rattle.cbor_diag.proofs.text_sink.put_opener.Goals as goal
 
 pub returns-in_err-put_number-in_default : goal.returns-in_err-put_number-in_default
 returns-in_err-put_number-in_default g c =
-    let p = err_from_is_err_and c.from_residual.result c.from_residual.ensures.1 in
-    rw (p.1, opener-other c.args.major c.args.number c.in_default.not-Array c.in_default.not-Map)
+    rw ((err_from_is_err_and c.from_residual.result c.from_residual.ensures.1).1, opener-other c.args.major c.args.number c.in_default.not-Array c.in_default.not-Map)
     (stops-more _ _ c.args.out.now (decimal c.args.number) (codes "(") _ c.in_err-put_number-in_default.ensures)
 
 pub returns-in_ok-put_number-in_default : goal.returns-in_ok-put_number-in_default

@@ -4,5 +4,4 @@ use Rattle.cbor_diag.proofs.walk.go_into.Goals as goal
 
 pub returns-in_err-inner-clause-put : goal.returns-in_err-inner-clause-put
 returns-in_err-inner-clause-put g c =
-    let p = err_from_is_err_and c.from_residual.result c.from_residual.ensures.1 in
-    rw (p.1) (stops-more _ _ c.args.out.now _ _ _ c.in_err-inner.ensures.put)
+    rw ((err_from_is_err_and c.from_residual.result c.from_residual.ensures.1).1) (stops-more _ _ c.args.out.now _ _ _ c.in_err-inner.ensures.put)

@@ -8,8 +8,7 @@ use Rattle.cbor_diag.proofs.walk.go_on.Goals as goal
 
 pub returns-in_err-put_gap-in-Some-clause-put : goal.returns-in_err-put_gap-in-Some-clause-put
 returns-in_err-put_gap-in-Some-clause-put g c =
-    let p = err_from_is_err_and c.from_residual.result c.from_residual.ensures.1 in
-    rw (p.1) (front-stops _ _ c.args.out.now _ (gap c.args.layout c.args.level.indent c.in-Array.first) _ _ (member-next g.N.Node.value c.args.layout c.args.level.indent c.in-Array.first c.args.level.left c.in-Array.left c.in-Some.item.now c.in-Some.left.now (behind g.N.Node.value c.args.layout (reverse (take c.args.height.now c.args.cells.now))) c.in-Array.is c.in-Some.ensures.cases.0) c.in_err-put_gap-in-Some.ensures)
+    rw ((err_from_is_err_and c.from_residual.result c.from_residual.ensures.1).1) (front-stops _ _ c.args.out.now _ (gap c.args.layout c.args.level.indent c.in-Array.first) _ _ (member-next g.N.Node.value c.args.layout c.args.level.indent c.in-Array.first c.args.level.left c.in-Array.left c.in-Some.item.now c.in-Some.left.now (behind g.N.Node.value c.args.layout (reverse (take c.args.height.now c.args.cells.now))) c.in-Array.is c.in-Some.ensures.cases.0) c.in_err-put_gap-in-Some.ensures)
 
 pub returns-in_ok-put_gap-in-Some-clause-put : goal.returns-in_ok-put_gap-in-Some-clause-put
 returns-in_ok-put_gap-in-Some-clause-put g c =
@@ -17,13 +16,11 @@ returns-in_ok-put_gap-in-Some-clause-put g c =
 
 pub returns-in_err-put_end-in-None-clause-put : goal.returns-in_err-put_end-in-None-clause-put
 returns-in_err-put_end-in-None-clause-put g c =
-    let p = err_from_is_err_and c.from_residual-in_err-put_end-in-None.result c.from_residual-in_err-put_end-in-None.ensures.1 in
-    rw (p.1) (front-stops _ _ c.args.out.now _ (end c.args.layout c.args.level.indent c.in-Array.first) _ _ (members-end g.N.Node.value c.args.layout c.args.level.indent c.in-Array.first c.args.level.left c.in-Array.left (behind g.N.Node.value c.args.layout (reverse (take c.args.height.now c.args.cells.now))) c.in-Array.is c.in-None.ensures.cases) c.in_err-put_end-in-None.ensures)
+    rw ((err_from_is_err_and c.from_residual-in_err-put_end-in-None.result c.from_residual-in_err-put_end-in-None.ensures.1).1) (front-stops _ _ c.args.out.now _ (end c.args.layout c.args.level.indent c.in-Array.first) _ _ (members-end g.N.Node.value c.args.layout c.args.level.indent c.in-Array.first c.args.level.left c.in-Array.left (behind g.N.Node.value c.args.layout (reverse (take c.args.height.now c.args.cells.now))) c.in-Array.is c.in-None.ensures.cases) c.in_err-put_end-in-None.ensures)
 
 pub returns-in_err-put-in-None-clause-put : goal.returns-in_err-put-in-None-clause-put
 returns-in_err-put-in-None-clause-put g c =
-    let p = err_from_is_err_and c.from_residual-in_err-put-in-None.result c.from_residual-in_err-put-in-None.ensures.1 in
-    rw (p.1) (put-stops _ _ _ c.args.out.now c.put_end.new.out _ (end c.args.layout c.args.level.indent c.in-Array.first) _ _ (members-end g.N.Node.value c.args.layout c.args.level.indent c.in-Array.first c.args.level.left c.in-Array.left (behind g.N.Node.value c.args.layout (reverse (take c.args.height.now c.args.cells.now))) c.in-Array.is c.in-None.ensures.cases) c.in_ok-put_end-in-None.ensures (stops-more _ _ c.put_end.new.out (codes "]") (behind g.N.Node.value c.args.layout (reverse (take c.args.height.now c.args.cells.now))) _ c.in_err-put-in-None.ensures))
+    rw ((err_from_is_err_and c.from_residual-in_err-put-in-None.result c.from_residual-in_err-put-in-None.ensures.1).1) (put-stops _ _ _ c.args.out.now c.put_end.new.out _ (end c.args.layout c.args.level.indent c.in-Array.first) _ _ (members-end g.N.Node.value c.args.layout c.args.level.indent c.in-Array.first c.args.level.left c.in-Array.left (behind g.N.Node.value c.args.layout (reverse (take c.args.height.now c.args.cells.now))) c.in-Array.is c.in-None.ensures.cases) c.in_ok-put_end-in-None.ensures (stops-more _ _ c.put_end.new.out (codes "]") (behind g.N.Node.value c.args.layout (reverse (take c.args.height.now c.args.cells.now))) _ c.in_err-put-in-None.ensures))
 
 pub returns-in_ok-put-in-None-clause-put : goal.returns-in_ok-put-in-None-clause-put
 returns-in_ok-put-in-None-clause-put g c =
@@ -31,8 +28,7 @@ returns-in_ok-put-in-None-clause-put g c =
 
 pub returns-in_err-put_gap-in-Some-split_first-clause-put : goal.returns-in_err-put_gap-in-Some-split_first-clause-put
 returns-in_err-put_gap-in-Some-split_first-clause-put g c =
-    let p = err_from_is_err_and c.from_residual-in_err-put_gap-in-Some-split_first.result c.from_residual-in_err-put_gap-in-Some-split_first.ensures.1 in
-    rw (p.1) (front-stops _ _ c.args.out.now _ (gap c.args.layout c.args.level.indent c.in-Map.first) _ _ (pair-next g.N.Node.value c.args.layout c.args.level.indent c.in-Map.first c.args.level.left c.in-Map.left c.in-Some-split_first.field-0-0.now c.in-Some-split_first.left.now (behind g.N.Node.value c.args.layout (reverse (take c.args.height.now c.args.cells.now))) c.in-Map.is c.in-Some-split_first.ensures.cases.0) c.in_err-put_gap-in-Some-split_first.ensures)
+    rw ((err_from_is_err_and c.from_residual-in_err-put_gap-in-Some-split_first.result c.from_residual-in_err-put_gap-in-Some-split_first.ensures.1).1) (front-stops _ _ c.args.out.now _ (gap c.args.layout c.args.level.indent c.in-Map.first) _ _ (pair-next g.N.Node.value c.args.layout c.args.level.indent c.in-Map.first c.args.level.left c.in-Map.left c.in-Some-split_first.field-0-0.now c.in-Some-split_first.left.now (behind g.N.Node.value c.args.layout (reverse (take c.args.height.now c.args.cells.now))) c.in-Map.is c.in-Some-split_first.ensures.cases.0) c.in_err-put_gap-in-Some-split_first.ensures)
 
 pub returns-in_ok-put_gap-in-Some-split_first-clause-put : goal.returns-in_ok-put_gap-in-Some-split_first-clause-put
 returns-in_ok-put_gap-in-Some-split_first-clause-put g c =
@@ -40,13 +36,11 @@ returns-in_ok-put_gap-in-Some-split_first-clause-put g c =
 
 pub returns-in_err-put_end-in-None-split_first-clause-put : goal.returns-in_err-put_end-in-None-split_first-clause-put
 returns-in_err-put_end-in-None-split_first-clause-put g c =
-    let p = err_from_is_err_and c.from_residual-in_err-put_end-in-None-split_first.result c.from_residual-in_err-put_end-in-None-split_first.ensures.1 in
-    rw (p.1) (front-stops _ _ c.args.out.now _ (end c.args.layout c.args.level.indent c.in-Map.first) _ _ (pairs-end g.N.Node.value c.args.layout c.args.level.indent c.in-Map.first c.args.level.left c.in-Map.left (behind g.N.Node.value c.args.layout (reverse (take c.args.height.now c.args.cells.now))) c.in-Map.is c.in-None-split_first.ensures.cases) c.in_err-put_end-in-None-split_first.ensures)
+    rw ((err_from_is_err_and c.from_residual-in_err-put_end-in-None-split_first.result c.from_residual-in_err-put_end-in-None-split_first.ensures.1).1) (front-stops _ _ c.args.out.now _ (end c.args.layout c.args.level.indent c.in-Map.first) _ _ (pairs-end g.N.Node.value c.args.layout c.args.level.indent c.in-Map.first c.args.level.left c.in-Map.left (behind g.N.Node.value c.args.layout (reverse (take c.args.height.now c.args.cells.now))) c.in-Map.is c.in-None-split_first.ensures.cases) c.in_err-put_end-in-None-split_first.ensures)
 
 pub returns-in_err-put-in-None-split_first-clause-put : goal.returns-in_err-put-in-None-split_first-clause-put
 returns-in_err-put-in-None-split_first-clause-put g c =
-    let p = err_from_is_err_and c.from_residual-in_err-put-in-None-split_first.result c.from_residual-in_err-put-in-None-split_first.ensures.1 in
-    rw (p.1) (put-stops _ _ _ c.args.out.now c.put_end-in-None-split_first.new.out _ (end c.args.layout c.args.level.indent c.in-Map.first) _ _ (pairs-end g.N.Node.value c.args.layout c.args.level.indent c.in-Map.first c.args.level.left c.in-Map.left (behind g.N.Node.value c.args.layout (reverse (take c.args.height.now c.args.cells.now))) c.in-Map.is c.in-None-split_first.ensures.cases) c.in_ok-put_end-in-None-split_first.ensures (stops-more _ _ c.put_end-in-None-split_first.new.out (codes "}") (behind g.N.Node.value c.args.layout (reverse (take c.args.height.now c.args.cells.now))) _ c.in_err-put-in-None-split_first.ensures))
+    rw ((err_from_is_err_and c.from_residual-in_err-put-in-None-split_first.result c.from_residual-in_err-put-in-None-split_first.ensures.1).1) (put-stops _ _ _ c.args.out.now c.put_end-in-None-split_first.new.out _ (end c.args.layout c.args.level.indent c.in-Map.first) _ _ (pairs-end g.N.Node.value c.args.layout c.args.level.indent c.in-Map.first c.args.level.left c.in-Map.left (behind g.N.Node.value c.args.layout (reverse (take c.args.height.now c.args.cells.now))) c.in-Map.is c.in-None-split_first.ensures.cases) c.in_ok-put_end-in-None-split_first.ensures (stops-more _ _ c.put_end-in-None-split_first.new.out (codes "}") (behind g.N.Node.value c.args.layout (reverse (take c.args.height.now c.args.cells.now))) _ c.in_err-put-in-None-split_first.ensures))
 
 pub returns-in_ok-put-in-None-split_first-clause-put : goal.returns-in_ok-put-in-None-split_first-clause-put
 returns-in_ok-put-in-None-split_first-clause-put g c =
@@ -54,8 +48,7 @@ returns-in_ok-put-in-None-split_first-clause-put g c =
 
 pub returns-in_err-put-in-Value-clause-put : goal.returns-in_err-put-in-Value-clause-put
 returns-in_err-put-in-Value-clause-put g c =
-    let p = err_from_is_err_and c.from_residual-in_err-put-in-Value.result c.from_residual-in_err-put-in-Value.ensures.1 in
-    rw (p.1) (front-stops _ _ c.args.out.now _ (codes ": ") _ _ (value-next g.N.Node.value c.args.layout c.args.level.indent c.args.level.left c.in-Value.value c.in-Value.left (behind g.N.Node.value c.args.layout (reverse (take c.args.height.now c.args.cells.now))) c.in-Value.is) c.in_err-put-in-Value.ensures)
+    rw ((err_from_is_err_and c.from_residual-in_err-put-in-Value.result c.from_residual-in_err-put-in-Value.ensures.1).1) (front-stops _ _ c.args.out.now _ (codes ": ") _ _ (value-next g.N.Node.value c.args.layout c.args.level.indent c.args.level.left c.in-Value.value c.in-Value.left (behind g.N.Node.value c.args.layout (reverse (take c.args.height.now c.args.cells.now))) c.in-Value.is) c.in_err-put-in-Value.ensures)
 
 pub returns-in_ok-put-in-Value-clause-put : goal.returns-in_ok-put-in-Value-clause-put
 returns-in_ok-put-in-Value-clause-put g c =
@@ -63,5 +56,4 @@ returns-in_ok-put-in-Value-clause-put g c =
 
 pub returns-in_err-put-in-Tag-clause-put : goal.returns-in_err-put-in-Tag-clause-put
 returns-in_err-put-in-Tag-clause-put g c =
-    let p = err_from_is_err_and c.from_residual-in_err-put-in-Tag.result c.from_residual-in_err-put-in-Tag.ensures.1 in
-    rw (p.1) (front-stops _ _ c.args.out.now _ (codes ")") _ _ (ap (λ x. left_of g.N.Node.value c.args.layout c.args.level.indent x ++ (behind g.N.Node.value c.args.layout (reverse (take c.args.height.now c.args.cells.now)))) (sym c.in-Tag.is)) c.in_err-put-in-Tag.ensures)
+    rw ((err_from_is_err_and c.from_residual-in_err-put-in-Tag.result c.from_residual-in_err-put-in-Tag.ensures.1).1) (front-stops _ _ c.args.out.now _ (codes ")") _ _ (ap (λ x. left_of g.N.Node.value c.args.layout c.args.level.indent x ++ (behind g.N.Node.value c.args.layout (reverse (take c.args.height.now c.args.cells.now)))) (sym c.in-Tag.is)) c.in_err-put-in-Tag.ensures)

@@ -11,5 +11,4 @@ levels-preserved g c = record {
 
 pub returns-in_err-innermost-clause-put : goal.returns-in_err-innermost-clause-put
 returns-in_err-innermost-clause-put g c =
-    let p = err_from_is_err_and c.from_residual.result c.from_residual.ensures.1 in
-    rw (p.1) (left-stops 0 _ _ _ c.args.out.now c.levels.out _ _ _ (rw c.in-Some.is at c.levels.invariant.left) c.in_err-innermost.ensures.put)
+    rw ((err_from_is_err_and c.from_residual.result c.from_residual.ensures.1).1) (left-stops 0 _ _ _ c.args.out.now c.levels.out _ _ _ (rw c.in-Some.is at c.levels.invariant.left) c.in_err-innermost.ensures.put)

@@ -1,12 +1,21 @@
-use Rattle.std.proofs.Common.{rules}
-use Rattle.cborc_commands.proofs.Runs.{explained_so}
+use Rattle.std.proofs.Common.{◌≡◌, ℕ, List, Option, subst, rules}
+use Rattle.cborc_files.specs.Folder.{Files}
+use Rattle.cborc_commands.specs.Told.{IsAnswered}
+use Rattle.cborc_input.specs.declared.request.Request.{Request}
+use Rattle.cborc_commands.proofs.Runs.{answered_so}
 use Rattle.cborc_commands.proofs.answer.answer_explained.Goals as goal
 
 -- the folder that keeps what was read stands for the one behind it
+behind : (request : Request) (old first last new : Option Files) (before after : Option (List ℕ)) (status : ℕ) → IsAnswered request first last before after status → first ≡ old → last ≡ new
+    → IsAnswered request old new before after status
+behind request old first last new before after status told here there =
+    subst (λ (x : Option Files). IsAnswered request old x before after status) there (subst (λ (x : Option Files). IsAnswered request x last before after status) here told)
+
 pub returns : goal.returns
 returns g c =
-    explained_so c.args.request.now (g.F.Folder.held c.args.files.now) (g.F.Folder.held c.new-memory.result.files.now)
-    (g.F.Folder.held c.answer-ended.new.files.files.now) _ (g.O.Write.contents c.args.out.now) (g.O.Write.contents c.answer-ended.new.out)
-    (g.O.Write.contents c.flushed-sent.new.out) c.flushed-sent.ensures.keeps c.answer-ended.result c.flushed-sent.result c.answer-ended.ensures.done
-    c.answer-ended.ensures.fault c.answer-ended.ensures.untouched c.answer-ended.ensures.silent c.flushed-sent.ensures.end c.end_explained.result
-    c.end_explained.ensures (search rules) (search rules)
+    behind c.args.request.now (g.F.Folder.held c.args.files.now) (g.F.Folder.held c.new-memory.result.files.now) (g.F.Folder.held c.answer-ended.new.files.files.now) _
+    (g.O.Write.contents c.args.out.now) (g.O.Write.contents c.flushed-sent.new.out) c.end_explained.result
+    (answered_so c.args.request.now (g.F.Folder.held c.new-memory.result.files.now) (g.F.Folder.held c.answer-ended.new.files.files.now)
+    (g.O.Write.contents c.args.out.now) (g.O.Write.contents c.answer-ended.new.out) (g.O.Write.contents c.flushed-sent.new.out) c.flushed-sent.ensures.keeps
+    c.answer-ended.result c.flushed-sent.result c.answer-ended.ensures.done c.answer-ended.ensures.fault c.answer-ended.ensures.untouched
+    c.answer-ended.ensures.silent c.flushed-sent.ensures.end c.end_explained.result c.end_explained.ensures) (search rules) (search rules)

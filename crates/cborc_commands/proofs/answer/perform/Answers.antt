@@ -1,14 +1,13 @@
-use Rattle.cborc_commands.proofs.Runs.{answered_so, told_as}
-use Rattle.cborc_input.specs.declared.request.Manner.TheVariants.{Plain, Explained}
+use Rattle.cborc_commands.proofs.Runs.{answered_so}
 use Rattle.cborc_commands.proofs.answer.perform.Goals as goal
 
 pub returns-in-Plain : goal.returns-in-Plain
 returns-in-Plain g c =
-    told_as _ _ _ _ _ _ Plain _ c.in-Plain.is
+    rw c.in-Plain.is
     (answered_so c.args.task.now.request (g.F.Folder.held c.args.files.now) (g.F.Folder.held c.answer-ended.new.files)
     (g.O.Write.contents c.args.out.now) (g.O.Write.contents c.answer-ended.new.out) (g.O.Write.contents c.flushed.new.out)
     c.flushed.ensures.keeps c.answer-ended.result c.flushed.result c.answer-ended.ensures.done c.answer-ended.ensures.fault
     c.answer-ended.ensures.untouched c.answer-ended.ensures.silent c.flushed.ensures.end c.end.result c.end.ensures)
 
 pub returns-in-Explained : goal.returns-in-Explained
-returns-in-Explained g c = told_as _ _ _ _ _ _ Explained _ c.in-Explained.is c.answer_explained.ensures
+returns-in-Explained g c = rw c.in-Explained.is c.answer_explained.ensures

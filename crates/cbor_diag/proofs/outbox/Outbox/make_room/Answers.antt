@@ -4,9 +4,7 @@ use Rattle.cbor_diag.proofs.Putting.{sends-past, stops-more, where_err}
 use Rattle.cbor_diag.proofs.outbox.Outbox.make_room.Goals as goal
 
 pub returns-in_err-flush : goal.returns-in_err-flush
-returns-in_err-flush g c =
-    let p = err_from_is_err_and c.from_residual.result c.from_residual.ensures.1 in
-    rw (p.1) (stops-more _ _ c.args.self.now [] c.args.bytes.now _ c.in_err-flush.ensures.done)
+returns-in_err-flush g c = rw ((err_from_is_err_and c.from_residual.result c.from_residual.ensures.1).1) (stops-more _ _ c.args.self.now [] c.args.bytes.now _ c.in_err-flush.ensures.done)
 
 pub returns : goal.returns
 returns g c =
