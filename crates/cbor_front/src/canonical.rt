@@ -1,6 +1,6 @@
 //! The canonical item at the front of a slice.
 
-ghost use Rattle.std.specs.Prelude.{◌≡◌, ◌≤◌, IfOk, IfErr, IfSome, MatchResult, length};
+ghost use Rattle.std.specs.Prelude.{◌≡◌, ◌≤◌, ◌<◌, None, IfOk, IfErr, IfSome, MatchResult, length};
 ghost use Rattle.cbor_head.specs.Complaint.{strict};
 ghost use Rattle.cbor_judging.specs.Readers.{IsRead};
 ghost use Rattle.cbor_judging.specs.PathKinds.{asks};
@@ -97,17 +97,19 @@ fn with_more_cells<const KINDS: bool>(
     ensures whole { IfOk result (IsWhole order limits input.now) }
     ensures refused { IfErr result (IsRefused order limits input.now) }
 {
-    match deeper::<KINDS>(input, at, few, stack, limits, order) {
+    match in_cells::<KINDS, SOME>(input, at, few, stack, limits, order) {
         Some(front) => front,
-        None => deepest::<KINDS>(input, at, few, stack, limits, order),
+        None => match in_cells::<KINDS, MOST>(input, at, few, stack, limits, order) {
+            Some(front) => front,
+            None => unreachable!(),
+        },
     }
 }
 
-// The same, from the place where the cells are too few; none where these are too few, too. Then it is
-// left before more cells are made, so that all of them have room on a small stack, and what it went
-// over is gone over once more.
+// The same in so many cells; none where these are too few, too. They are left before more are made, so
+// that all of them have room on a small stack, and what was gone over in them is gone over once more.
 #[inline(never)]
-fn deeper<const KINDS: bool>(
+fn in_cells<const KINDS: bool, const N: usize>(
     input: &[u8],
     at: usize,
     few: &[Level],
@@ -117,12 +119,14 @@ fn deeper<const KINDS: bool>(
 ) -> Option<Result<usize, Refusal>>
     requires kinds { asks limits.keys ≡ KINDS }
     requires full { IsFull order limits input.now stack few.now at }
-    requires few { length few.now ≤ SOME }
+    requires few { length few.now ≤ N }
+    requires most { N ≤ MOST }
     ensures whole { IfSome result (λ front. IfOk front (IsWhole order limits input.now)) }
     ensures refused { IfSome result
         (λ front. IfErr front (IsRefused order limits input.now)) }
+    ensures none { result ≡ None → N < MOST }
 {
-    let mut cells = [Level::new(Due::Item, 0, 0); SOME];
+    let mut cells = [Level::new(Due::Item, 0, 0); N];
     lend(few, &mut cells);
     let mut stack = stack;
     match walk::<KINDS>(input, at, &mut cells, &mut stack, limits, order) {
@@ -130,32 +134,5 @@ fn deeper<const KINDS: bool>(
         Walked::Refused(refusal) => Some(Err(refusal)),
         Walked::Falls(refusal) => Some(Err(key_falls(input, &stack.top, refusal))),
         Walked::Full(_) => None,
-    }
-}
-
-// The same, with a cell for each container that may be open.
-#[inline(never)]
-fn deepest<const KINDS: bool>(
-    input: &[u8],
-    at: usize,
-    few: &[Level],
-    stack: Stack<Level>,
-    limits: Limits,
-    order: KeyOrder,
-) -> Result<usize, Refusal>
-    requires kinds { asks limits.keys ≡ KINDS }
-    requires full { IsFull order limits input.now stack few.now at }
-    requires few { length few.now ≤ MOST }
-    ensures whole { IfOk result (IsWhole order limits input.now) }
-    ensures refused { IfErr result (IsRefused order limits input.now) }
-{
-    let mut cells = [Level::new(Due::Item, 0, 0); MOST];
-    lend(few, &mut cells);
-    let mut stack = stack;
-    match walk::<KINDS>(input, at, &mut cells, &mut stack, limits, order) {
-        Walked::Whole(at) => Ok(at),
-        Walked::Refused(refusal) => Err(refusal),
-        Walked::Falls(refusal) => Err(key_falls(input, &stack.top, refusal)),
-        Walked::Full(_) => unreachable!(),
     }
 }
