@@ -1,9 +1,9 @@
 -- In which bytes of an item no key begins behind the first of them: of one head, or of what is no container.
 use Rattle.std.proofs.Common.{ℕ, suc, ◌+◌, ◌*◌, ◌-◌, ◌^◌, ◌/◌, ◌%◌, ◌≡◌, ◌<◌, ◌≤◌, true, false, List, [], ◌∷◌, ◌++◌, length, replicate, refl, sym, ap, ◌∙◌, arith, subst, inl, inr, ◌≢◌, None, IsTrue, Option, length-append, append-nil}
 use Rattle.std.proofs.lemmas.Bool.{cases_lt}
-use Rattle.cbor_head.specs.Prelude.{head, major_number, Bounds, IsIntegerOrText, AreBytes, Spelling, byte_chunks, text_chunks, array, a_map, tag, no_spellings, no_entries, spell, depth, value_of, IsSpelled, HoldsOrIndefinite, Rules, Complaint, OfKinds, form, MayFollow}
+use Rattle.cbor_head.specs.Prelude.{head, major_number, Bounds, IsIntegerOrText, AreBytes, Spelling, array, a_map, tag, spell, depth, value_of, IsSpelled, HoldsOrIndefinite, Rules, Complaint, OfKinds, form, MayFollow}
 use Rattle.cbor_head.specs.declared.major.Major.{Major}
-use Rattle.cbor_head.specs.declared.major.Major.TheVariants.{Bytes, Text, Array, Map}
+use Rattle.cbor_head.specs.declared.major.Major.TheVariants.{Bytes, Text}
 use Rattle.cbor_head.specs.declared.width.Width.{Width}
 use Rattle.cbor_head.specs.declared.width.Width.TheVariants.{Direct, One, Two, Four, Eight, Indefinite}
 use Rattle.cbor_grammar.specs.FirstBytes.{is_basic, is_container}
@@ -17,9 +17,9 @@ use Rattle.cbor_automaton.proofs.Taking.{IsWithin, nothing-taken, IsTakingNext, 
 use Rattle.cbor_judging.specs.Frame.{Frame}
 use Rattle.cbor_judging.specs.Judged.{IsJudged}
 use Rattle.cbor_judging.specs.Kinds.{IsOfOneHead, HasBasicFront, AsksForKinds, KeepsToKinds}
-use Rattle.cbor_judging.specs.Place.{Container, Place, at_item, Opens, IsTaking}
+use Rattle.cbor_judging.specs.Place.{Container, Place, at_item, IsTaking}
 use Rattle.cbor_judging.proofs.Heads.{Headed, open_or, zero_bytes, cut_head, zero_length}
-use Rattle.cbor_judging.proofs.Items.{head-item}
+use Rattle.cbor_judging.proofs.Items.{taken-headed}
 use Rattle.cbor_automaton.proofs.Stands.{IsString}
 use Rattle.cbor_judging.proofs.KindFrames.{IsAround, keeps_on}
 use Rattle.cbor_automaton.proofs.Refusals.{IsTaken, taken-follows}
@@ -142,22 +142,15 @@ pub record Begins (d : ℕ) (x : List ℕ) : Type 0 where
   pub rest : List ℕ
   pub bytes : spell item ≡ x ++ rest
 
-begins_by : (d : ℕ) (x : List ℕ) (s : Spelling) → IsSpelled s → depth s ≤ d → head_of s ≡ x → Begins d x
+pub begins_by : (d : ℕ) (x : List ℕ) (s : Spelling) → IsSpelled s → depth s ≤ d → head_of s ≡ x → Begins d x
 begins_by d x s h l e = record { item = s; spelled = h; within = l; rest = body s; bytes = parts s ∙ ap (λ (y : List ℕ). y ++ body s) e }
 
-opener_begins : (d : ℕ) (cs : List Container) (m : Major) (next : Place) → Opens d cs m next → Begins (d - length cs) (head m Indefinite 0)
-opener_begins d cs Bytes next h = begins_by (d - length cs) _ (byte_chunks []) tt (omega arith) refl
-opener_begins d cs Text next h = begins_by (d - length cs) _ (text_chunks []) tt (omega arith) refl
-opener_begins d cs Array next h = begins_by (d - length cs) _ (array Indefinite no_spellings) (tt, tt) (omega (arith, h.0)) refl
-opener_begins d cs Map next h = begins_by (d - length cs) _ (a_map Indefinite no_entries) (tt, tt) (omega (arith, h.0)) refl
-opener_begins d cs _ next h = absurd h
-
-pub of_headed : {d : ℕ} {x : List ℕ} → Headed d x → Begins d x
+pub of_headed : {d : ℕ} {m : Major} {w : Width} {n : ℕ} → Headed d m w n → Begins d (head m w n)
 of_headed h = begins_by _ _ h.item h.spelled h.within h.head_is
 
 pub mark_begins : (d : ℕ) (cs : List Container) (mark : Mark) (x : List ℕ) (next : Place) → IsTaking d (at_item cs) mark x next → (mark ≡ a_break → ⊥) → Begins (d - length cs) x × IsOfOneHead x
-mark_begins d cs (a_head m Indefinite n) x next h b = (subst (Begins (d - length cs)) (sym h.1) (opener_begins d cs m next h.2), subst IsOfOneHead (sym h.1) (head_is_one m Indefinite 0 tt))
-mark_begins d cs (a_head m w n) x next h b = (subst (Begins (d - length cs)) (sym h.0) (of_headed (head-item d cs m w n (head m w n) next (record { bytes_are = refl; holds = h.1; follows = h.2 }))), subst IsOfOneHead (sym h.0) (head_is_one m w n h.1))
+mark_begins d cs (a_head m w n) x next h b =
+    let (g, is) = taken-headed d cs m w n x next h in (subst (Begins (d - length cs)) (sym is) (of_headed g), subst IsOfOneHead (sym is) (head_is_one m w n (head_bytes d cs m w n x next h).0))
 mark_begins d cs (a_chunk w n) x next h b = absurd h
 mark_begins d cs a_byte x next h b = absurd h
 mark_begins d cs a_break x next h b = absurd (b refl)

@@ -2,48 +2,19 @@
 use Rattle.std.proofs.Common.{ℕ, ◌+◌, ◌≡◌, ◌<◌, ◌≤◌, ◌⊎◌, Option, Some, None, List, [], ◌∷◌, ◌++◌, length, flat_map, refl, sym, ap, ◌∙◌, arith, subst, inl, inr, length-append, append_assoc, append-nil, suc, Bool, true, false, true≢false, replicate, IsUtf8}
 use Rattle.std.specs.List.{AllByRecursion}
 use Rattle.std.proofs.lemmas.Grind.{flat_map-append}
-use Rattle.cbor_head.specs.Prelude.{head, Holds, Chunk, IsChunk, Spelling, bytes, text, byte_chunks, text_chunks, array, a_map, spell, chunk_bytes, chunked, chunks_joined, IsSpelled, HoldsOrIndefinite, spellings_count, entries_count, depth, Rules, Complaint, OfHead, OfIndefinite, OfCount, OfPayload, OfString, OfChunks, Complains, AreBytes, value_of}
+use Rattle.cbor_head.specs.Prelude.{head, Holds, Chunk, IsChunk, Spelling, bytes, text, byte_chunks, text_chunks, spell, chunk_bytes, chunked, chunks_joined, IsSpelled, depth, Rules, Complaint, OfHead, OfIndefinite, OfPayload, OfString, OfChunks, Complains, AreBytes, value_of}
 use Rattle.cbor_judging.specs.Judged.{IsFinding, IsJudged, Never}
 use Rattle.cbor_judging.specs.Reading.{string_major, string_value}
 use Rattle.cbor_head.specs.declared.major.Major.{Major}
-use Rattle.cbor_head.specs.declared.major.Major.TheVariants.{Text, Array, Map}
+use Rattle.cbor_head.specs.declared.major.Major.TheVariants.{Text}
 use Rattle.cbor_head.specs.declared.width.Width.{Width}
 use Rattle.cbor_head.specs.declared.width.Width.TheVariants.{Indefinite}
-use Rattle.cbor_grammar.proofs.Agree.{head_of, body, parts, later, payload_end, string_later}
-use Rattle.cbor_grammar.proofs.OneFirst.{last, count_last}
-use Rattle.cbor_grammar.proofs.Reasons.{ranked, payload_rank}
-use Rattle.cbor_judging.proofs.Judged.{zeros, zeros_count, zeros_spelled, zeros_flat, zero_pairs, pairs_count, pairs_spelled, pairs_flat}
+use Rattle.cbor_grammar.proofs.Agree.{payload_end, string_later}
+use Rattle.cbor_grammar.proofs.Reasons.{payload_rank}
 use Rattle.cbor_automaton.specs.Automaton.{Frame, State, at_item, in_head, in_simple, in_chunks}
 use Rattle.cbor_automaton.proofs.Arguments.{number}
 use Rattle.cbor_automaton.proofs.Taking.{IsWithin}
 use Rattle.cbor_judging.proofs.Heads.{zero_bytes, zero_length}
-
--- ---- heads
-
--- an item's complaint on its head comes first
-pub head_complains : (s : Spelling) (r : Rules) (at d : ℕ) (c : Complaint) → IsSpelled s → depth s ≤ d → Complains r at s c → last c ≡ at + length (head_of s) → IsJudged r at d (head_of s) (Some c)
-head_complains s r at d c h l o e =
-    let from : at + length (head_of s) ≤ c.end = later s r at c o in
-    record {
-      item = s;
-      rest = body s;
-      is = record { spelled = h; within = l; bytes_are = parts s };
-      finding = record { holds = o; ends = omega (arith, e); first = λ x g m. inr (omega (arith, e, from, m, later s r at x g), omega (arith, e, from, ranked r at s x g)) };
-    }
-
-pub array_head_complains : (w : Width) (n : ℕ) (r : Rules) (at d : ℕ) (c : Complaint) → HoldsOrIndefinite w n → 1 ≤ d → OfCount r at Array w n c → IsJudged r at d (head Array w n) (Some c)
-array_head_complains w n r at d c h l o =
-    let i : HoldsOrIndefinite w (spellings_count (zeros n)) = subst (HoldsOrIndefinite w) (sym (zeros_count n)) h in
-    let p : OfCount r at Array w (spellings_count (zeros n)) c = subst (λ (m : ℕ). OfCount r at Array w m c) (sym (zeros_count n)) o in
-    subst (λ (m : ℕ). IsJudged r at d (head Array w m) (Some c)) (zeros_count n)
-    (head_complains (array w (zeros n)) r at d c (i, zeros_spelled n) (omega (arith, zeros_flat n, l)) (inl p) (count_last r at Array w (spellings_count (zeros n)) c p))
-
-pub map_head_complains : (w : Width) (n : ℕ) (r : Rules) (at d : ℕ) (c : Complaint) → HoldsOrIndefinite w n → 1 ≤ d → OfCount r at Map w n c → IsJudged r at d (head Map w n) (Some c)
-map_head_complains w n r at d c h l o =
-    let i : HoldsOrIndefinite w (entries_count (zero_pairs n)) = subst (HoldsOrIndefinite w) (sym (pairs_count n)) h in
-    let p : OfCount r at Map w (entries_count (zero_pairs n)) c = subst (λ (m : ℕ). OfCount r at Map w m c) (sym (pairs_count n)) o in
-    subst (λ (m : ℕ). IsJudged r at d (head Map w m) (Some c)) (pairs_count n)
-    (head_complains (a_map w (zero_pairs n)) r at d c (i, pairs_spelled n) (omega (arith, pairs_flat n, l)) (inl p) (count_last r at Map w (entries_count (zero_pairs n)) c p))
 
 -- ---- definite strings
 
