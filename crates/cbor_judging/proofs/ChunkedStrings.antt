@@ -87,7 +87,7 @@ chunk-head-judged text done r at d a w n c h o =
     let o2 : OfHead r to m w (length q) c = subst (λ (k : ℕ). OfHead r to m w k c) (sym same) o in
     let end = count_last r to m w (length q) c (head-count r to m w (length q) c (is-definite w n h) o2) in
     subst (λ (k : ℕ). IsJudged r at d (chunks_bytes m done ++ head m w k) (Some c)) same
-    (chunk_judged m (chunks_of text) (is-chunked text) done r at d a.are a.opener_clean a.clean (chunk w q) (head m w (length q)) q (subst (Holds w) (sym same) h, zero_bytes n) refl (Some c)
+    (chunk_judged text done r at d a (chunk w q) (head m w (length q)) q (subst (Holds w) (sym same) h, zero_bytes n) refl (Some c)
     (record {
       holds = of-string m o2;
       ends = omega (arith, end);
