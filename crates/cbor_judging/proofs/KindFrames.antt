@@ -100,12 +100,9 @@ kind_plug _ s at to c e (inl h) = absurd h.0
 -- ---- of all containers
 
 before_some : (f : Frame) → 1 ≤ length (before f)
-before_some (a_member w a b) =
-    let n = spellings_count a + suc (spellings_count b) in omega (arith, length_head Array w n, length-append (head Array w n) (spell_all a))
-before_some (a_key w a v b) =
-    let n = entries_count a + suc (entries_count b) in omega (arith, length_head Map w n, length-append (head Map w n) (spell_entries a))
-before_some (a_content w a k b) =
-    let n = entries_count a + suc (entries_count b) in omega (arith, length_head Map w n, length-append (head Map w n) (spell_entries a), length-append (head Map w n ++ spell_entries a) (spell k))
+before_some (a_member w a b) = omega (arith, length_head Array w (spellings_count a + suc (spellings_count b)), length-append {A = ℕ})
+before_some (a_key w a v b) = omega (arith, length_head Map w (entries_count a + suc (entries_count b)), length-append {A = ℕ})
+before_some (a_content w a k b) = omega (arith, length_head Map w (entries_count a + suc (entries_count b)), length-append {A = ℕ})
 before_some (tagged w n) = length_head Tag w n
 
 -- their bytes around the item
