@@ -20,6 +20,7 @@ use Rattle.cbor_judging.specs.PathKinds.{KeepsHere}
 use Rattle.cbor_judging.specs.Path.{Level, a_member, a_key, a_value, bytes_before, AreClean, MayBreak}
 use Rattle.cbor_judging.specs.RefusedHere.{IsMisplaced}
 use Rattle.cbor_judging.specs.Stop.{HasBadByte}
+use Rattle.cbor_judging.proofs.Heads.{simple_cut}
 use Rattle.cbor_judging.proofs.PathForm.{containers, containers_count}
 use Rattle.cbor_judging.proofs.PathKinds.{kept_before}
 use Rattle.cbor_judging.proofs.PathStops.{bad_byte_here}
@@ -125,8 +126,6 @@ module _ (r : Rules) (limits : Bounds) (ls : List Level) (clean : AreClean r lim
 
   pub bad_simple : KeepsHere limits r ls (0xf8 ∷ []) → b ≡ bytes_before ls ++ 0xf8 ∷ c ∷ rest → c < 32 → HasBadByte r limits b (refusal BadSimple (at + 1) (at + 1 + 1))
   bad_simple kept splits small =
-      let n : 32 < 256 = omega arith in
-      let j : IsJudged r at (limits.depth - length ls) (0xf8 ∷ []) None =
-      judged_head r at (limits.depth - length ls) (0xf8 ∷ []) (simple 32) (0x20 ∷ []) (record { spelled = (n, λ l. omega arith); within = omega arith; bytes_are = refl }) (omega arith) in
+      let j : IsJudged r at (limits.depth - length ls) (0xf8 ∷ []) None = judged_head r at (limits.depth - length ls) (0xf8 ∷ []) (simple 32) (0x20 ∷ []) simple_cut (omega arith) in
       subst (λ (k : ℕ). HasBadByte r limits b (refusal BadSimple k (k + 1))) (length-append (bytes_before ls) (0xf8 ∷ []))
       (bad_byte_here r limits ls clean b (0xf8 ∷ []) (c ∷ rest) splits kept (λ container some. absurd (omega (arith, some))) j c rest (in_simple (containers ls)) [] BadSimple refl are refl tt (simple_byte limits.depth (containers ls) c small))

@@ -1,7 +1,7 @@
 -- A head that is cut: some item within the depth starts with the bytes so far, and has no complaint on them.
 use Rattle.std.proofs.Common.{ℕ, suc, ◌+◌, ◌-◌, ◌≡◌, ◌<◌, ◌≤◌, true, false, Some, None, inl, inr, List, [], ◌∷◌, ◌++◌, length, replicate, refl, sym, ap, ◌∙◌, arith, subst, ltb-true, length-append, append_assoc}
 use Rattle.std.proofs.lemmas.List.{length-replicate}
-use Rattle.cbor_head.specs.Prelude.{Holds, IsSimple, head, shortest, Spelling, unsigned, negative, bytes, text, byte_chunks, text_chunks, array, a_map, tag, simple, no_spellings, no_entries, IsSpelled, HoldsOrIndefinite, depth, Rules, Complaint, OfHead, OfCount, Complains}
+use Rattle.cbor_head.specs.Prelude.{Holds, IsSimple, head, shortest, Spelling, unsigned, negative, bytes, text, byte_chunks, text_chunks, array, a_map, tag, simple, no_spellings, no_entries, IsSpelled, HoldsOrIndefinite, depth, IsItem, Rules, Complaint, OfHead, OfCount, Complains}
 use Rattle.cbor_head.specs.declared.major.Major.{Major}
 use Rattle.cbor_head.specs.declared.major.Major.TheVariants.{Unsigned, Negative, Bytes, Text, Array, Map, Tag, Simple}
 use Rattle.cbor_head.specs.declared.width.Width.{Width}
@@ -113,12 +113,16 @@ room_for d fs Map e = omega (arith, ltb-true (length fs) d e)
 room_for d fs Tag e = omega (arith, ltb-true (length fs) d e)
 room_for d fs _ e = omega arith
 
-long_cut : (r : Rules) (at d : ℕ) (m : Major) (w : Width) (n : ℕ) (p more : List ℕ) → Headed d m w n → p ++ more ≡ head m w n → 0 < length more → IsJudged r at d p None
+pub long_cut : (r : Rules) (at d : ℕ) (m : Major) (w : Width) (n : ℕ) (p more : List ℕ) → Headed d m w n → p ++ more ≡ head m w n → 0 < length more → IsJudged r at d p None
 long_cut r at d m w n p more h e some =
     let is = h.head_is ∙ sym e in
     judged_head r at d p h.item (more ++ body h.item)
     (record { spelled = h.spelled; within = h.within; bytes_are = parts h.item ∙ ap (λ (x : List ℕ). x ++ body h.item) is ∙ append_assoc p more (body h.item) })
     (omega (arith, some, ap length is ∙ length-append p more))
+
+-- the first byte of a simple value in two
+pub simple_cut : {d : ℕ} → IsItem d (simple 32) (0xf8 ∷ 0x20 ∷ [])
+simple_cut = let n : 32 < 256 = omega arith in record { spelled = (n, λ l. omega arith); within = omega arith; bytes_are = refl }
 
 -- the bytes of an item's head so far
 pub cut_head : (r : Rules) (at d : ℕ) (fs : List Frame) (q : State) (p : List ℕ) → IsWithin d (at_item fs) q p → IsJudged r at (d - length fs) p None
@@ -130,7 +134,5 @@ cut_head r at d fs (in_head false m w k acc gs) p h =
     long_cut r at (d - length fs) m w (number acc more) p more (headed (d - length fs) m w (number acc more) h.1 whole.1 (room_for d fs m room)) whole.0 (omega (arith, zero_length (suc k)))
 cut_head r at d fs (in_head true m w k acc gs) p h = let e : at_item fs ≡ in_chunks m gs = h.0 in absurd (cc e)
 cut_head r at d fs (in_simple gs) p h =
-    let n : 32 < 256 = omega arith in
-    subst (λ (x : List ℕ). IsJudged r at (d - length fs) x None) (sym h.1)
-    (judged_head r at (d - length fs) (0xf8 ∷ []) (simple 32) (0x20 ∷ []) (record { spelled = (n, λ l. omega arith); within = omega arith; bytes_are = refl }) (omega arith))
+    subst (λ (x : List ℕ). IsJudged r at (d - length fs) x None) (sym h.1) (judged_head r at (d - length fs) (0xf8 ∷ []) (simple 32) (0x20 ∷ []) simple_cut (omega arith))
 cut_head r at d fs _ p h = subst (λ (x : List ℕ). IsJudged r at (d - length fs) x None) (sym h.1) (judged_start r at (d - length fs))

@@ -218,7 +218,7 @@ module _ (is_text : Bool) (done : List Chunk) (r : Rules) (at d : ℕ) (so_far :
   }
 
   -- the head of the next chunk, cut
-  cut : (w : Width) (n : ℕ) (p more : List ℕ) → Holds w n → p ++ more ≡ head m w n → 0 < length more → IsJudged r at d (chunks_bytes m done ++ p) None
+  pub cut : (w : Width) (n : ℕ) (p more : List ℕ) → Holds w n → p ++ more ≡ head m w n → 0 < length more → IsJudged r at d (chunks_bytes m done ++ p) None
   cut w n p more h e some =
       let q : List ℕ = replicate n 0 in
       let same : length q ≡ n = zero_length n in

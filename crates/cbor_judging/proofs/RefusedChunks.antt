@@ -14,7 +14,6 @@ use Rattle.cbor_automaton.specs.Automaton.{Frame, at_item, in_chunks, Next, refu
 use Rattle.cbor_automaton.proofs.Beginnings.{telling_all-reached}
 use Rattle.cbor_automaton.proofs.Forward.{Starts, chunk_starts, chunks-taken}
 use Rattle.cbor_automaton.proofs.Openings.{by-byte}
-use Rattle.cbor_automaton.proofs.Taking.{nothing-taken}
 use Rattle.cbor_grammar.proofs.ByteLists.{bytes_front, bytes_back}
 use Rattle.cbor_judging.specs.Judged.{IsJudged}
 use Rattle.cbor_judging.specs.Kinds.{IsOfOneHead}
@@ -23,11 +22,11 @@ use Rattle.cbor_judging.specs.PathKinds.{KeepsHere}
 use Rattle.cbor_judging.specs.Reading.{string_major}
 use Rattle.cbor_judging.specs.RefusedHere.{IsRefusedBy}
 use Rattle.cbor_judging.specs.Stop.{HasComplaint, HasBadByte}
-use Rattle.cbor_judging.proofs.CutHeads.{Within, head_starts, chunk_cut}
+use Rattle.cbor_judging.proofs.CutHeads.{cut_argument, chunk_cut}
 use Rattle.cbor_judging.proofs.FirstBytes.{long_low}
 use Rattle.cbor_judging.proofs.HeadComplaints.{heads_free}
 use Rattle.cbor_judging.proofs.KindBytes.{one_head_front}
-use Rattle.cbor_judging.proofs.Leaves.{AreChunksSoFar, chunks_bytes, between, cut_chunk, chunk_complains}
+use Rattle.cbor_judging.proofs.Leaves.{AreChunksSoFar, chunks_bytes, between, cut, chunk_complains}
 use Rattle.cbor_judging.proofs.PathForm.{containers}
 use Rattle.cbor_judging.proofs.PathKinds.{kept_front}
 use Rattle.cbor_judging.proofs.PathStops.{complaint_here, bad_byte_here}
@@ -147,9 +146,8 @@ module _ (t : Bool) (b rest : List ℕ) (s : AreChunksRead t b rest) where
       -- the argument is cut
       pub chunk_head_cut_here : f ≡ refusal Truncated end end → first / 32 ≡ major_number m → 24 ≤ first % 32 → first % 32 < 28 → length more < 2 ^ (first % 32 - 24) → IsRefusedBy plain room b at f
       chunk_head_cut_here e high l h short =
-          let q = in_chunks m [] in
-          let within : Within 0 q (first ∷ more) = head_starts 0 [] first more q true m (starts 0 [] t) (first % 32) (omega (arith, high)) l (omega (arith, h)) short in
-          ends e (first ∷ more) is (λ to d. cut_chunk t s.done plain to d (s.so_far to) 0 [] within.0 (first ∷ more) (nothing-taken 0 q within.0 (first ∷ more) tt (subst AreBytes is s.small) within.1))
+          let (w, n, rest, holds, whole, some) = cut_argument m (first % 32) first more (omega (arith, high)) l (omega (arith, h)) (subst AreBytes is s.small).1 short in
+          ends e (first ∷ more) is (λ to d. cut t s.done plain to d (s.so_far to) w n (first ∷ more) rest holds whole some)
 
       -- no chunk begins so
       pub no_chunk_here : f ≡ refusal BadChunk place (place + 1) → first ≢ 0xff → (first / 32 ≡ major_number m → 28 ≤ first % 32) → IsRefusedBy plain room b at f
