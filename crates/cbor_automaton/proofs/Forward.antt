@@ -134,7 +134,7 @@ simple-one d n fs rest low high =
     ap (λ c. run d (in_simple fs) (c ∷ rest)) is
     ∙ step d (in_simple fs) n (tells (a_head Simple One n) (close fs)) rest (ap (λ b. cond b (refuses BadSimple) (tells (a_head Simple One n) (close fs))) (le-ltb n 32 low))
 
-simple-taken : (d n : ℕ) (fs : List Frame) (rest : List ℕ) → IsSimple n → run d (at_item fs) (head Simple (shortest n) n ++ rest) ≡ telling (a_head Simple (shortest n) n) (run d (close fs) rest)
+pub simple-taken : (d n : ℕ) (fs : List Frame) (rest : List ℕ) → IsSimple n → run d (at_item fs) (head Simple (shortest n) n ++ rest) ≡ telling (a_head Simple (shortest n) n) (run d (close fs) rest)
 simple-taken d n fs rest h = elim (cases_lt n 24) [
   | inl l ↦
       let e : shortest n ≡ Direct = rw (lt-ltb n 24 l) in
