@@ -1,18 +1,20 @@
 -- The machine takes the bytes of an item, and tells its trace.
-use Rattle.std.proofs.Common.{◌≡◌, ℕ, zero, suc, max, ◌+◌, ◌*◌, ◌%◌, ◌^◌, ◌<◌, ◌≤◌, Bool, true, false, nat_lt, cond, List, [], ◌∷◌, ◌++◌, length, flat_map, refl, sym, ap, ◌∙◌, inl, inr, arith, mod-eq_of_lt, append_assoc, append-nil, lt-ltb, le-ltb}
+use Rattle.std.proofs.Common.{◌≡◌, ℕ, zero, suc, ◌+◌, ◌-◌, ◌*◌, ◌%◌, ◌^◌, ◌<◌, ◌≤◌, Bool, true, false, not, nat_lt, cond, List, [], ◌∷◌, ◌++◌, length, flat_map, refl, sym, ap, ◌∙◌, inl, inr, arith, mod-eq_of_lt, append_assoc, append-nil, lt-ltb, le-ltb}
 use Rattle.std.proofs.lemmas.Bool.{cases_lt}
 use Rattle.std.specs.List.{AllByRecursion}
 use Rattle.std.specs.Int.{byte_at, bytes_high_first}
 use Rattle.cbor_head.specs.Prelude.{Holds, IsSimple, head, major_number, shortest, Chunk, IsChunk, Spelling, Spellings, SpelledEntries, unsigned, negative, bytes, text, byte_chunks, text_chunks, array, a_map, tag, simple, no_spellings, a_spelling, no_entries, entry, spellings_count, entries_count, spell, spell_all, spell_entries, chunk_bytes, string_bytes_of, IsSpelled, AreSpelled, AreEntriesSpelled, depth, depth_all, depth_entries, initial_reason}
-use Rattle.cbor_automaton.specs.Trace.{Mark, a_head, a_chunk, a_byte, a_break, payload_marks, chunk_marks, trace, trace_all, trace_entries}
-use Rattle.cbor_automaton.specs.Automaton.{Frame, counted, indefinite_array, indefinite_map, State, at_item, in_head, in_simple, in_payload, in_chunks, Opening, direct, long, Next, refuses, goes, tells, numbered_tail, tail, opening, close, expect, close_string, payload, after, mark, has_room, enter, begin, in_string, is_major, take_byte, Outcome, telling, and_then, run}
+use Rattle.cbor_automaton.specs.Trace.{Mark, a_head, a_byte, a_break, more_bytes, payload_marks, chunk_marks, trace, trace_all, trace_entries}
+use Rattle.cbor_automaton.specs.Automaton.{Frame, counted, indefinite_array, indefinite_map, State, at_item, in_head, in_simple, in_payload, in_chunks, direct, long, Next, refuses, goes, tells, numbered_tail, tail, opening, close, expect, close_string, payload, after, mark, has_room, begin, is_major, take_byte, Outcome, telling, and_then, run}
 use Rattle.cbor_head.specs.declared.major.Major.{Major}
 use Rattle.cbor_head.specs.declared.major.Major.TheVariants.{Unsigned, Negative, Bytes, Text, Array, Map, Tag, Simple}
 use Rattle.cbor_head.specs.declared.width.Width.{Width}
 use Rattle.cbor_head.specs.declared.width.Width.TheVariants.{Direct, One, Two, Four, Eight, Indefinite}
-use Rattle.cbor_head.specs.declared.reason.Reason.TheVariants.{BadChunk, BadSimple}
+use Rattle.cbor_head.specs.declared.reason.Reason.TheVariants.{BadSimple}
 use Rattle.cbor_automaton.proofs.FirstByte.{opening-first, opening-direct}
 use Rattle.cbor_automaton.proofs.Arguments.{byte_on}
+use Rattle.cbor_automaton.proofs.Members.{members, members-count, members-bytes, members-marks, members-spelled, members-depth}
+use Rattle.cbor_automaton.proofs.Stands.{is_odd, not-not, double-even}
 
 abbrev pub telling_all : List Mark → Outcome → Outcome
 telling_all [] o = o
@@ -60,29 +62,22 @@ head-taken d q chunk m fs starts Four n rest h = step d q _ _ (bytes_high_first 
 head-taken d q chunk m fs starts Eight n rest h = step d q _ _ (bytes_high_first 8 n ++ rest) starts.eight ∙ feed-fits d chunk m Eight 7 n fs rest h
 head-taken d q chunk m fs starts Indefinite n rest h = absurd h
 
+-- by what such a head opens
+starts_by : (d : ℕ) (q : State) (chunk : Bool) (m : Major) (fs : List Frame) → ((k : ℕ) → tail m k ≡ numbered_tail m k) → ((c n : ℕ) → opening c ≡ direct m n → take_byte d q c ≡ tells (mark chunk m Direct n) (after chunk m n fs))
+    → ((c : ℕ) (w : Width) → opening c ≡ long m w → take_byte d q c ≡ goes (in_head chunk m w (more_bytes w - 1) 0 fs)) → Starts d q chunk m fs
+starts_by d q chunk m fs plain of_direct of_long = record {
+  direct = λ n h. of_direct (32 * major_number m + n) n (opening-direct m n h);
+  one = of_long (32 * major_number m + 24) One (opening-first m 24 (omega arith) ∙ plain 0);
+  two = of_long (32 * major_number m + 25) Two (opening-first m 25 (omega arith) ∙ plain 1);
+  four = of_long (32 * major_number m + 26) Four (opening-first m 26 (omega arith) ∙ plain 2);
+  eight = of_long (32 * major_number m + 27) Eight (opening-first m 27 (omega arith) ∙ plain 3);
+}
+
 pub item_starts : (d : ℕ) (m : Major) (fs : List Frame) → ((k : ℕ) → tail m k ≡ numbered_tail m k) → has_room d fs m ≡ true → Starts d (at_item fs) false m fs
-item_starts d m fs plain room =
-    let begins : (c : ℕ) (o : Opening) (next : Next) → opening c ≡ o → begin d fs c o ≡ enter d fs m c next → take_byte d (at_item fs) c ≡ next =
-    λ c o next e f. ap (λ o. begin d fs c o) e ∙ f ∙ ap (λ b. cond b next (refuses (initial_reason c))) room in
-    record {
-      direct = λ n h. begins (32 * major_number m + n) (direct m n) (tells (a_head m Direct n) (after false m n fs)) (opening-direct m n h) refl;
-      one = begins (32 * major_number m + 24) (long m One) (goes (in_head false m One 0 0 fs)) (opening-first m 24 (omega arith) ∙ plain 0) refl;
-      two = begins (32 * major_number m + 25) (long m Two) (goes (in_head false m Two 1 0 fs)) (opening-first m 25 (omega arith) ∙ plain 1) refl;
-      four = begins (32 * major_number m + 26) (long m Four) (goes (in_head false m Four 3 0 fs)) (opening-first m 26 (omega arith) ∙ plain 2) refl;
-      eight = begins (32 * major_number m + 27) (long m Eight) (goes (in_head false m Eight 7 0 fs)) (opening-first m 27 (omega arith) ∙ plain 3) refl;
-    }
+item_starts d m fs plain room = starts_by d (at_item fs) false m fs plain (λ c n e. rw (e, room) refl) (λ c w e. rw (e, room) refl)
 
 pub chunk_starts : (d : ℕ) (m : Major) (fs : List Frame) → ((k : ℕ) → tail m k ≡ numbered_tail m k) → is_major m m ≡ true → Starts d (in_chunks m fs) true m fs
-chunk_starts d m fs plain same =
-    let begins : (c : ℕ) (o : Opening) (next : Next) → opening c ≡ o → in_string m fs o ≡ cond (is_major m m) next (refuses BadChunk) → take_byte d (in_chunks m fs) c ≡ next =
-    λ c o next e f. ap (λ o. in_string m fs o) e ∙ f ∙ ap (λ b. cond b next (refuses BadChunk)) same in
-    record {
-      direct = λ n h. begins (32 * major_number m + n) (direct m n) (tells (a_chunk Direct n) (after true m n fs)) (opening-direct m n h) refl;
-      one = begins (32 * major_number m + 24) (long m One) (goes (in_head true m One 0 0 fs)) (opening-first m 24 (omega arith) ∙ plain 0) refl;
-      two = begins (32 * major_number m + 25) (long m Two) (goes (in_head true m Two 1 0 fs)) (opening-first m 25 (omega arith) ∙ plain 1) refl;
-      four = begins (32 * major_number m + 26) (long m Four) (goes (in_head true m Four 3 0 fs)) (opening-first m 26 (omega arith) ∙ plain 2) refl;
-      eight = begins (32 * major_number m + 27) (long m Eight) (goes (in_head true m Eight 7 0 fs)) (opening-first m 27 (omega arith) ∙ plain 3) refl;
-    }
+chunk_starts d m fs plain same = starts_by d (in_chunks m fs) true m fs plain (λ c n e. rw (e, same) refl) (λ c w e. rw (e, same) refl)
 
 -- the bytes of a payload
 pub payload-byte : (d : ℕ) (chunk : Bool) (m : Major) (n : ℕ) (fs : List Frame) (b : ℕ) (rest : List ℕ)
@@ -139,7 +134,7 @@ simple-one d n fs rest low high =
     ap (λ c. run d (in_simple fs) (c ∷ rest)) is
     ∙ step d (in_simple fs) n (tells (a_head Simple One n) (close fs)) rest (ap (λ b. cond b (refuses BadSimple) (tells (a_head Simple One n) (close fs))) (le-ltb n 32 low))
 
-simple-taken : (d n : ℕ) (fs : List Frame) (rest : List ℕ) → IsSimple n → run d (at_item fs) (head Simple (shortest n) n ++ rest) ≡ telling (a_head Simple (shortest n) n) (run d (close fs) rest)
+pub simple-taken : (d n : ℕ) (fs : List Frame) (rest : List ℕ) → IsSimple n → run d (at_item fs) (head Simple (shortest n) n ++ rest) ≡ telling (a_head Simple (shortest n) n) (run d (close fs) rest)
 simple-taken d n fs rest h = elim (cases_lt n 24) [
   | inl l ↦
       let e : shortest n ≡ Direct = rw (lt-ltb n 24 l) in
@@ -159,12 +154,6 @@ indefinite-taken d m fs starts cs rest h =
 pub room-above : (d : ℕ) (fs : List Frame) (k : ℕ) → suc k + length fs ≤ d → nat_lt (length fs) d ≡ true
 room-above d fs k h = lt-ltb (length fs) d (omega arith)
 
-left_of : (a b n d : ℕ) → max a b + n ≤ d → a + n ≤ d
-left_of a b n d h = omega arith
-
-right_of : (a b n d : ℕ) → max a b + n ≤ d → b + n ≤ d
-right_of a b n d h = omega arith
-
 pub one-down : (a n d : ℕ) → suc a + n ≤ d → a + suc n ≤ d
 one-down a n d h = omega arith
 
@@ -181,6 +170,55 @@ open-taken : (d : ℕ) (q : State) (fs : List Frame) → ((rest : List ℕ) → 
     → ((more : List ℕ) → run d q (xs ++ more) ≡ telling_all ms (run d q more)) → run d q ((xs ++ 0xff ∷ []) ++ rest) ≡ telling_all (ms ++ a_break ∷ []) (run d (close fs) rest)
 open-taken d q fs closes xs ms rest inner = then-more d q q (close fs) xs (0xff ∷ []) rest ms (a_break ∷ []) inner (closes rest)
 
+-- ---- within a container
+
+-- how its state leads from one member to the next
+pub record Leads (fs : List Frame) : Type 0 where
+  -- where a member is due, and these follow it
+  pub due : Spellings → Frame
+  -- where these are due
+  pub here : Spellings → State
+  pub begins : (s : Spelling) (ss : Spellings) → here (a_spelling s ss) ≡ at_item (due ss ∷ fs)
+  pub closes : (ss : Spellings) → close (due ss ∷ fs) ≡ here ss
+
+abbrev pub counted-leads : (fs : List Frame) → Leads fs
+counted-leads fs = record { due = λ ss. counted (spellings_count ss); here = λ ss. expect (spellings_count ss) fs; begins = λ s ss. refl; closes = λ ss. close-counted (spellings_count ss) fs }
+
+abbrev pub array-leads : (fs : List Frame) → Leads fs
+array-leads fs = record { due = λ ss. indefinite_array; here = λ ss. at_item (indefinite_array ∷ fs); begins = λ s ss. refl; closes = λ ss. refl }
+
+-- a map's keys and values are its members
+abbrev pub map-leads : (fs : List Frame) → Leads fs
+map-leads fs = record {
+  due = λ ss. indefinite_map (not (is_odd (spellings_count ss)));
+  here = λ ss. at_item (indefinite_map (is_odd (spellings_count ss)) ∷ fs);
+  begins = λ s ss. refl;
+  closes = λ ss. ap (λ due. at_item (indefinite_map due ∷ fs)) (not-not (is_odd (spellings_count ss)));
+}
+
+pub map-even : (es : SpelledEntries) → is_odd (spellings_count (members es)) ≡ false
+map-even es = ap is_odd (members-count es) ∙ double-even (entries_count es)
+
+abbrev Forward : Spelling → Type 0
+Forward s = (d : ℕ) (fs : List Frame) (rest : List ℕ) → IsSpelled s → depth s + length fs ≤ d → run d (at_item fs) (spell s ++ rest) ≡ telling_all (trace s) (run d (close fs) rest)
+
+abbrev pub AreForward : Spellings → Type 0
+AreForward no_spellings = Unit {0}
+AreForward (a_spelling s ss) = Forward s × AreForward ss
+
+pub members-forward : (d : ℕ) (fs : List Frame) (l : Leads fs) (ss : Spellings) (rest : List ℕ) → AreForward ss → AreSpelled ss → depth_all ss + suc (length fs) ≤ d
+    → run d (l.here ss) (spell_all ss ++ rest) ≡ telling_all (trace_all ss) (run d (l.here no_spellings) rest)
+members-forward d fs l no_spellings rest f h b = refl
+members-forward d fs l (a_spelling s ss) rest f h b =
+    ap (λ q. run d q ((spell s ++ spell_all ss) ++ rest)) (l.begins s ss)
+    ∙ then-more d (at_item (l.due ss ∷ fs)) (l.here ss) (l.here no_spellings) (spell s) (spell_all ss) rest (trace s) (trace_all ss)
+    (λ more. f.0 d (l.due ss ∷ fs) more h.0 (omega (arith, b)) ∙ ap (λ q. telling_all (trace s) (run d q more)) (l.closes ss))
+    (members-forward d fs l ss rest f.1 h.1 (omega (arith, b)))
+
+entries-forward : (d : ℕ) (fs : List Frame) (l : Leads fs) (es : SpelledEntries) (rest : List ℕ) → AreForward (members es) → AreEntriesSpelled es → depth_entries es + suc (length fs) ≤ d
+    → run d (l.here (members es)) (spell_entries es ++ rest) ≡ telling_all (trace_entries es) (run d (l.here no_spellings) rest)
+entries-forward d fs l es rest f h b = rw (← members-bytes es, ← members-marks es) (members-forward d fs l (members es) rest f (members-spelled es h) (omega (arith, members-depth es, b)))
+
 mutual
   pub forward : (d : ℕ) (s : Spelling) (fs : List Frame) (rest : List ℕ) → IsSpelled s → depth s + length fs ≤ d
       → run d (at_item fs) (spell s ++ rest) ≡ telling_all (trace s) (run d (close fs) rest)
@@ -194,68 +232,29 @@ mutual
       step d (at_item fs) 0x9f (tells (a_head Array Indefinite 0) (at_item (indefinite_array ∷ fs))) ((spell_all ss ++ 0xff ∷ []) ++ rest)
       (ap (λ b. cond b (tells (a_head Array Indefinite 0) (at_item (indefinite_array ∷ fs))) (refuses (initial_reason 0x9f))) (room-above d fs (depth_all ss) b))
       ∙ ap (telling (a_head Array Indefinite 0)) (open-taken d (at_item (indefinite_array ∷ fs)) fs (λ r. refl) (spell_all ss) (trace_all ss) rest
-      (λ more. forward_open d ss fs more h.1 (one-down (depth_all ss) (length fs) d b)))
+      (λ more. members-forward d fs (array-leads fs) ss more (forwards ss) h.1 (one-down (depth_all ss) (length fs) d b)))
   forward d (array w ss) fs rest h b =
       counted-taken d Array fs (λ k. refl) (room-above d fs (depth_all ss) b) w (spellings_count ss) h.0 (expect (spellings_count ss) fs) refl (spell_all ss) (trace_all ss) rest
-      (forward_all d ss fs rest h.1 (one-down (depth_all ss) (length fs) d b))
+      (members-forward d fs (counted-leads fs) ss rest (forwards ss) h.1 (one-down (depth_all ss) (length fs) d b))
   forward d (a_map Indefinite es) fs rest h b =
       step d (at_item fs) 0xbf (tells (a_head Map Indefinite 0) (at_item (indefinite_map false ∷ fs))) ((spell_entries es ++ 0xff ∷ []) ++ rest)
       (ap (λ b. cond b (tells (a_head Map Indefinite 0) (at_item (indefinite_map false ∷ fs))) (refuses (initial_reason 0xbf))) (room-above d fs (depth_entries es) b))
       ∙ ap (telling (a_head Map Indefinite 0)) (open-taken d (at_item (indefinite_map false ∷ fs)) fs (λ r. refl) (spell_entries es) (trace_entries es) rest
-      (λ more. forward_open_entries d es fs more h.1 (one-down (depth_entries es) (length fs) d b)))
+      (λ more. ap (λ due. run d (at_item (indefinite_map due ∷ fs)) (spell_entries es ++ more)) (sym (map-even es))
+      ∙ entries-forward d fs (map-leads fs) es more (forwards-entries es) h.1 (one-down (depth_entries es) (length fs) d b)))
   forward d (a_map w es) fs rest h b =
-      counted-taken d Map fs (λ k. refl) (room-above d fs (depth_entries es) b) w (entries_count es) h.0 (expect (entries_count es + entries_count es) fs) refl (spell_entries es) (trace_entries es) rest
-      (forward_entries d es fs rest h.1 (one-down (depth_entries es) (length fs) d b))
+      counted-taken d Map fs (λ k. refl) (room-above d fs (depth_entries es) b) w (entries_count es) h.0 (expect (spellings_count (members es)) fs) (ap (λ n. expect n fs) (sym (members-count es))) (spell_entries es) (trace_entries es) rest
+      (entries-forward d fs (counted-leads fs) es rest (forwards-entries es) h.1 (one-down (depth_entries es) (length fs) d b))
   forward d (tag w n s) fs rest h b =
       ap (run d (at_item fs)) (append_assoc (head Tag w n) (spell s) rest)
       ∙ only-head d Tag fs (λ k. refl) (room-above d fs (depth s) b) w n (spell s ++ rest) h.0
       ∙ ap (telling (a_head Tag w n)) (forward d s (counted 0 ∷ fs) rest h.1 (one-down (depth s) (length fs) d b))
   forward d (simple n) fs rest h b = simple-taken d n fs rest h
 
-  -- the members of an array of stated count
-  forward_all : (d : ℕ) (ss : Spellings) (fs : List Frame) (rest : List ℕ) → AreSpelled ss → depth_all ss + suc (length fs) ≤ d
-      → run d (expect (spellings_count ss) fs) (spell_all ss ++ rest) ≡ telling_all (trace_all ss) (run d (close fs) rest)
-  forward_all d no_spellings fs rest h b = refl
-  forward_all d (a_spelling s ss) fs rest h b =
-      let n = spellings_count ss in
-      then-more d (at_item (counted n ∷ fs)) (expect n fs) (close fs) (spell s) (spell_all ss) rest (trace s) (trace_all ss)
-      (λ more. forward d s (counted n ∷ fs) more h.0 (left_of (depth s) (depth_all ss) (suc (length fs)) d b)
-      ∙ ap (λ q. telling_all (trace s) (run d q more)) (close-counted n fs))
-      (forward_all d ss fs rest h.1 (right_of (depth s) (depth_all ss) (suc (length fs)) d b))
+  pub forwards : (ss : Spellings) → AreForward ss
+  forwards no_spellings = tt
+  forwards (a_spelling s ss) = (λ d fs rest h b. forward d s fs rest h b, forwards ss)
 
-  -- those of one without
-  forward_open : (d : ℕ) (ss : Spellings) (fs : List Frame) (rest : List ℕ) → AreSpelled ss → depth_all ss + suc (length fs) ≤ d
-      → run d (at_item (indefinite_array ∷ fs)) (spell_all ss ++ rest) ≡ telling_all (trace_all ss) (run d (at_item (indefinite_array ∷ fs)) rest)
-  forward_open d no_spellings fs rest h b = refl
-  forward_open d (a_spelling s ss) fs rest h b =
-      let q = at_item (indefinite_array ∷ fs) in
-      then-more d q q q (spell s) (spell_all ss) rest (trace s) (trace_all ss)
-      (λ more. forward d s (indefinite_array ∷ fs) more h.0 (left_of (depth s) (depth_all ss) (suc (length fs)) d b))
-      (forward_open d ss fs rest h.1 (right_of (depth s) (depth_all ss) (suc (length fs)) d b))
-
-  forward_entries : (d : ℕ) (es : SpelledEntries) (fs : List Frame) (rest : List ℕ) → AreEntriesSpelled es → depth_entries es + suc (length fs) ≤ d
-      → run d (expect (entries_count es + entries_count es) fs) (spell_entries es ++ rest) ≡ telling_all (trace_entries es) (run d (close fs) rest)
-  forward_entries d no_entries fs rest h b = refl
-  forward_entries d (entry k v es) fs rest h b =
-      let n = entries_count es + entries_count es in
-      let more_two : suc (entries_count es) + suc (entries_count es) ≡ suc (suc n) = omega arith in
-      let b' = left_of (max (depth k) (depth v)) (depth_entries es) (suc (length fs)) d b in
-      ap (λ c. run d (expect c fs) ((((spell k) ++ spell v) ++ spell_entries es) ++ rest)) more_two
-      ∙ then-more d (at_item (counted (suc n) ∷ fs)) (expect n fs) (close fs) (spell k ++ spell v) (spell_entries es) rest (trace k ++ trace v) (trace_entries es)
-      (λ more. then-more d (at_item (counted (suc n) ∷ fs)) (at_item (counted n ∷ fs)) (expect n fs) (spell k) (spell v) more (trace k) (trace v)
-      (λ more'. forward d k (counted (suc n) ∷ fs) more' h.0 (left_of (depth k) (depth v) (suc (length fs)) d b'))
-      (forward d v (counted n ∷ fs) more h.1 (right_of (depth k) (depth v) (suc (length fs)) d b')
-      ∙ ap (λ q. telling_all (trace v) (run d q more)) (close-counted n fs)))
-      (forward_entries d es fs rest h.2 (right_of (max (depth k) (depth v)) (depth_entries es) (suc (length fs)) d b))
-
-  forward_open_entries : (d : ℕ) (es : SpelledEntries) (fs : List Frame) (rest : List ℕ) → AreEntriesSpelled es → depth_entries es + suc (length fs) ≤ d
-      → run d (at_item (indefinite_map false ∷ fs)) (spell_entries es ++ rest) ≡ telling_all (trace_entries es) (run d (at_item (indefinite_map false ∷ fs)) rest)
-  forward_open_entries d no_entries fs rest h b = refl
-  forward_open_entries d (entry k v es) fs rest h b =
-      let q = at_item (indefinite_map false ∷ fs) in
-      let b' = left_of (max (depth k) (depth v)) (depth_entries es) (suc (length fs)) d b in
-      then-more d q q q (spell k ++ spell v) (spell_entries es) rest (trace k ++ trace v) (trace_entries es)
-      (λ more. then-more d q (at_item (indefinite_map true ∷ fs)) q (spell k) (spell v) more (trace k) (trace v)
-      (λ more'. forward d k (indefinite_map false ∷ fs) more' h.0 (left_of (depth k) (depth v) (suc (length fs)) d b'))
-      (forward d v (indefinite_map true ∷ fs) more h.1 (right_of (depth k) (depth v) (suc (length fs)) d b')))
-      (forward_open_entries d es fs rest h.2 (right_of (max (depth k) (depth v)) (depth_entries es) (suc (length fs)) d b))
+  pub forwards-entries : (es : SpelledEntries) → AreForward (members es)
+  forwards-entries no_entries = tt
+  forwards-entries (entry k v es) = (λ d fs rest h b. forward d k fs rest h b, (λ d fs rest h b. forward d v fs rest h b, forwards-entries es))

@@ -1,12 +1,12 @@
 -- Events, neighbouring pieces joined, are told by their marks.
-use Rattle.std.proofs.Common.{◌≡◌, ℕ, zero, suc, ◌+◌, ◌-◌, ◌<◌, ◌≤◌, ◌⊎◌, Bool, true, false, nat_lt, nat_le, cond, List, [], ◌∷◌, ◌++◌, replicate, Some, None, refl, sym, ap, ap₂, ◌∙◌, subst, inl, inr, arith, append-nil, lt-ltb, le-ltb}
+use Rattle.std.proofs.Common.{◌≡◌, ℕ, zero, suc, ◌+◌, ◌-◌, ◌<◌, ◌≤◌, ◌⊎◌, Bool, true, false, nat_lt, nat_le, cond, List, [], ◌∷◌, ◌++◌, replicate, Option, Some, None, refl, sym, ap, ap₂, ◌∙◌, subst, inl, inr, arith, append-nil, lt-ltb, le-ltb}
 use Rattle.std.proofs.lemmas.Bool.{cases_lt, le-leb, lt-leb}
 use Rattle.cbor_head.specs.declared.major.Major.{Major}
 use Rattle.cbor_head.specs.declared.major.Major.TheVariants as majors
 use Rattle.cbor_head.specs.declared.width.Width.{Width}
 use Rattle.cbor_head.specs.declared.width.Width.TheVariants.{Direct, Indefinite}
 use Rattle.cbor_automaton.specs.Trace.{Mark, a_head, a_chunk, a_byte, a_break, size, total, within}
-use Rattle.cbor_automaton.specs.Marks.{mark_of, marks_of, IsProper, IsDefinite}
+use Rattle.cbor_automaton.specs.Marks.{count_of, mark_of, marks_of, IsProper}
 use Rattle.cbor_automaton.specs.Event.{event, count_at, marks_in, event_size, joined_with, onto, joined, front_of, cut, IsRow}
 use Rattle.cbor_automaton.specs.declared.event.Event.{Event}
 use Rattle.cbor_automaton.specs.declared.event.EventKind.{EventKind}
@@ -36,12 +36,11 @@ abbrev pub rejoin : ℕ → List Mark → List Event
 rejoin at [] = []
 rejoin at (m ∷ ms) = onto (event_of at m) (rejoin (at + size m) ms)
 
-some-count : (w : Width) (n : ℕ) → IsDefinite w → count_at w n ≡ Some n
-some-count Indefinite n h = absurd h
-some-count _ n h = refl
-
-none-count : (w : Width) → w ≡ Indefinite → count_at w 0 ≡ None
-none-count w e = ap (λ v. count_at v 0) e
+-- what has a count has it back, by whichever kind of event
+count-back : (w : Width) (count : Option ℕ) → IsProper w (Bytes count) → count_at w (count_of count) ≡ count
+count-back w None h = ap (λ v. count_at v 0) h
+count-back Indefinite (Some n) h = absurd h
+count-back _ (Some n) h = refl
 
 -- one mark, but a piece's
 abbrev pub IsSingle : EventKind → Type 0
@@ -50,14 +49,13 @@ IsSingle _ = Unit {0}
 
 back : (at : ℕ) (w : Width) (kind : EventKind) → IsSingle kind → IsProper w kind → event_of at (mark_of w kind) ≡ event at w kind
 back at w (Piece n) s p = absurd s
-back at w (Bytes None) s p = ap (λ c. event at w (Bytes c)) (none-count w p)
-back at w (Bytes (Some n)) s p = ap (λ c. event at w (Bytes c)) (some-count w n p)
-back at w (Text None) s p = ap (λ c. event at w (Text c)) (none-count w p)
-back at w (Text (Some n)) s p = ap (λ c. event at w (Text c)) (some-count w n p)
-back at w (Array None) s p = ap (λ c. event at w (Array c)) (none-count w p)
-back at w (Array (Some n)) s p = ap (λ c. event at w (Array c)) (some-count w n p)
-back at w (Map None) s p = ap (λ c. event at w (Map c)) (none-count w p)
-back at w (Map (Some n)) s p = ap (λ c. event at w (Map c)) (some-count w n p)
+back at w (Bytes count) s p = ap (λ c. event at w (Bytes c)) (count-back w count p)
+back at w (Text None) s p = ap (λ c. event at w (Text c)) (count-back w None p)
+back at w (Text (Some n)) s p = ap (λ c. event at w (Text c)) (count-back w (Some n) p)
+back at w (Array None) s p = ap (λ c. event at w (Array c)) (count-back w None p)
+back at w (Array (Some n)) s p = ap (λ c. event at w (Array c)) (count-back w (Some n) p)
+back at w (Map None) s p = ap (λ c. event at w (Map c)) (count-back w None p)
+back at w (Map (Some n)) s p = ap (λ c. event at w (Map c)) (count-back w (Some n) p)
 back at w End s p = ap (λ v. event at v End) (sym p)
 back at w _ s p = refl
 

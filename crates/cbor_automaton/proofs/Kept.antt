@@ -1,5 +1,5 @@
 -- Each byte that the machine takes leads to a state that stands for the bytes so far.
-use Rattle.std.proofs.Common.{◌≡◌, ℕ, zero, suc, ◌+◌, ◌-◌, ◌*◌, ◌^◌, ◌<◌, Bool, true, false, nat_lt, cond, List, [], ◌∷◌, ◌++◌, length, flat_map, refl, sym, ap, ◌∙◌, subst, inl, inr, arith, append_assoc, append-nil, true≢false, mod-eq_of_lt, lt-ltb, le-ltb}
+use Rattle.std.proofs.Common.{◌≡◌, ℕ, zero, suc, ◌+◌, ◌-◌, ◌*◌, ◌^◌, ◌<◌, Bool, true, false, nat_lt, cond, List, [], ◌∷◌, ◌++◌, length, flat_map, refl, sym, ap, ◌∙◌, subst, inl, inr, arith, append_assoc, append-nil, true≢false, mod-eq_of_lt, lt-ltb, le-ltb, ltb-true}
 use Rattle.std.proofs.lemmas.Bool.{cases_lt}
 use Rattle.std.specs.List.{AllByRecursion}
 use Rattle.std.specs.Int.{bytes_high_first}
@@ -13,7 +13,7 @@ use Rattle.cbor_head.specs.declared.width.Width.TheVariants.{Direct, One, Indefi
 use Rattle.cbor_head.specs.declared.reason.Reason.{Reason}
 use Rattle.cbor_automaton.proofs.Openings.{IsLong, by-byte}
 use Rattle.cbor_automaton.proofs.Arguments.{number, number-between, bytes-number}
-use Rattle.cbor_automaton.proofs.Stands.{Opened, IsString, IsNumbered, Chunked, Before, Stands, along, item-closes, paired, room-of, room-true, chunk-closes, head-done}
+use Rattle.cbor_automaton.proofs.Stands.{Opened, IsString, IsNumbered, Chunked, Before, Stands, along, item-closes, paired, room-of, chunk-closes, head-done}
 
 abbrev pub StandsNext : ℕ → Next → List ℕ → Type 0
 StandsNext d (refuses r) p = Unit {0}
@@ -103,8 +103,8 @@ Keeps d fs p c opens = StandsNext d (begin d fs c opens) (p ++ c ∷ [])
 open-kept : (d : ℕ) (fs : List Frame) (p : List ℕ) (m : Major) → Opened d fs p → Keeps d fs p (32 * major_number m + 31) (indefinite_length m)
 open-kept d fs p Bytes o = chunks-open d Bytes fs p 0x5f o tt refl
 open-kept d fs p Text o = chunks-open d Text fs p 0x7f o tt refl
-open-kept d fs p Array o = guarded d (p ++ 0x9f ∷ []) (nat_lt (length fs) d) _ _ (λ e. array-opens d fs p o (room-true (length fs) d e))
-open-kept d fs p Map o = guarded d (p ++ 0xbf ∷ []) (nat_lt (length fs) d) _ _ (λ e. map-opens d fs p o (room-true (length fs) d e))
+open-kept d fs p Array o = guarded d (p ++ 0x9f ∷ []) (nat_lt (length fs) d) _ _ (λ e. array-opens d fs p o (ltb-true (length fs) d e))
+open-kept d fs p Map o = guarded d (p ++ 0xbf ∷ []) (nat_lt (length fs) d) _ _ (λ e. map-opens d fs p o (ltb-true (length fs) d e))
 open-kept d fs p _ o = tt
 
 break-kept : (d : ℕ) (fs : List Frame) (p : List ℕ) → Opened d fs p → StandsNext d (break_at fs 0xff) (p ++ 0xff ∷ [])

@@ -1,6 +1,7 @@
 -- A map's keys and values as the members of an array.
 use Rattle.std.proofs.Common.{◌≡◌, ℕ, ◌+◌, ◌-◌, ◌≤◌, nat_lt, cond, ◌++◌, length, refl, sym, ap, ◌∙◌, arith, append_assoc}
 use Rattle.cbor_head.specs.Prelude.{Spellings, SpelledEntries, no_spellings, a_spelling, no_entries, entry, spellings_count, entries_count, spell, spell_all, spell_entries, AreSpelled, AreEntriesSpelled, depth_all, depth_entries}
+use Rattle.cbor_automaton.specs.Trace.{trace, trace_all, trace_entries}
 use Rattle.cbor_automaton.specs.Open.{open_after, open_in, open_in_entries}
 
 abbrev pub members : SpelledEntries → Spellings
@@ -14,6 +15,10 @@ members-count (entry k v es) = let e = members-count es in omega (arith, e)
 pub members-bytes : (es : SpelledEntries) → spell_all (members es) ≡ spell_entries es
 members-bytes no_entries = refl
 members-bytes (entry k v es) = sym (append_assoc (spell k) (spell v) (spell_all (members es))) ∙ ap (λ xs. (spell k ++ spell v) ++ xs) (members-bytes es)
+
+pub members-marks : (es : SpelledEntries) → trace_all (members es) ≡ trace_entries es
+members-marks no_entries = refl
+members-marks (entry k v es) = sym (append_assoc (trace k) (trace v) (trace_all (members es))) ∙ ap (λ ms. (trace k ++ trace v) ++ ms) (members-marks es)
 
 pub members-spelled : (es : SpelledEntries) → AreEntriesSpelled es → AreSpelled (members es)
 members-spelled no_entries h = tt

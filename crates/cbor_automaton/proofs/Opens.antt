@@ -1,5 +1,5 @@
 -- The containers that are open after some bytes of an item are those on the stack.
-use Rattle.std.proofs.Common.{◌≡◌, ℕ, zero, suc, ◌+◌, ◌-◌, ◌*◌, ◌^◌, ◌&&◌, ◌<◌, ◌≤◌, Bool, true, false, not, nat_le, cond, List, [], ◌∷◌, ◌++◌, length, take, flat_map, refl, sym, ap, ◌∙◌, subst, inl, inr, arith, append_assoc, append-nil, lt-ltb, le-ltb, length-append, length-take-le}
+use Rattle.std.proofs.Common.{◌≡◌, ℕ, zero, suc, ◌+◌, ◌-◌, ◌*◌, ◌^◌, ◌&&◌, ◌<◌, ◌≤◌, Bool, true, false, nat_le, cond, List, [], ◌∷◌, ◌++◌, length, take, flat_map, refl, sym, ap, ◌∙◌, subst, inl, inr, arith, append_assoc, append-nil, lt-ltb, le-ltb, length-append, length-take-le}
 use Rattle.std.proofs.lemmas.Bool.{cases_lt, le-leb, lt-leb}
 use Rattle.std.proofs.lemmas.List.{take-append-le}
 use Rattle.std.proofs.Math.Seq.{take-append_seam}
@@ -11,10 +11,10 @@ use Rattle.cbor_head.specs.declared.major.Major.TheVariants.{Unsigned, Negative,
 use Rattle.cbor_head.specs.declared.width.Width.{Width}
 use Rattle.cbor_head.specs.declared.width.Width.TheVariants.{Direct, One, Two, Four, Eight, Indefinite}
 use Rattle.cbor_automaton.specs.Trace.{Mark, a_head, chunk_marks, trace}
-use Rattle.cbor_automaton.specs.Automaton.{Frame, counted, indefinite_array, indefinite_map, State, start, at_item, in_head, in_simple, in_payload, in_chunks, done, close, expect, payload, after, has_room, mark, refuses, tail, numbered_tail, take_byte, goes, tells, Outcome, refused, reached, telling, run}
+use Rattle.cbor_automaton.specs.Automaton.{Frame, counted, indefinite_array, indefinite_map, State, start, at_item, in_head, in_simple, in_payload, in_chunks, done, expect, payload, after, has_room, mark, refuses, tail, numbered_tail, take_byte, goes, tells, Outcome, refused, reached, telling, run}
 use Rattle.cbor_automaton.specs.Open.{if_open, open_after, open_in}
-use Rattle.cbor_automaton.proofs.Forward.{Starts, item_starts, chunk_starts, step, head-taken, string-taken, telling_all, forward, one-down, close-counted, room-above}
-use Rattle.cbor_automaton.proofs.Stands.{is_odd, not-not, double-even}
+use Rattle.cbor_automaton.proofs.Forward.{Starts, item_starts, chunk_starts, step, head-taken, string-taken, telling_all, Leads, counted-leads, array-leads, map-leads, map-even, forward, one-down, room-above}
+use Rattle.cbor_automaton.proofs.Stands.{is_odd}
 use Rattle.cbor_automaton.proofs.Beginnings.{item-done}
 use Rattle.cbor_automaton.proofs.Runs.{take-behind}
 use Rattle.cbor_automaton.proofs.Members.{members, members-count, members-bytes, members-spelled, members-depth, members-open}
@@ -117,23 +117,13 @@ abbrev Fronts : Spellings → Type 0
 Fronts no_spellings = Unit {0}
 Fronts (a_spelling s ss) = Front s × Fronts ss
 
--- how a container's state leads from one member to the next
-record Leads (d : ℕ) (fs : List Frame) (ending : List ℕ) : Type 0 where
-  -- where a member is due, and these follow it
-  pub due : Spellings → Frame
-  -- where these are due
-  pub here : Spellings → State
-  pub begins : (s : Spelling) (ss : Spellings) → here (a_spelling s ss) ≡ at_item (due ss ∷ fs)
-  pub closes : (ss : Spellings) → close (due ss ∷ fs) ≡ here ss
-  pub last : (t : ℕ) → t < length ending → Has (suc (length fs)) (run d (here no_spellings) (take t ending))
-
 none-more : (k : ℕ) (o : Outcome) → Has k o → Has (k + 0) o
 none-more k o h = let e : k ≡ k + 0 = omega arith in subst (λ (n : ℕ). Has n o) e h
 
-members-has : (d : ℕ) (fs : List Frame) (ending : List ℕ) (l : Leads d fs ending) (ss : Spellings) → Fronts ss → AreSpelled ss → depth_all ss + suc (length fs) ≤ d
+members-has : (d : ℕ) (fs : List Frame) (ending : List ℕ) (l : Leads fs) → ((t : ℕ) → t < length ending → Has (suc (length fs)) (run d (l.here no_spellings) (take t ending))) → (ss : Spellings) → Fronts ss → AreSpelled ss → depth_all ss + suc (length fs) ≤ d
     → (t from : ℕ) → from ≤ t → t - from < length (spell_all ss ++ ending) → Has (suc (length fs) + open_in t from ss) (run d (l.here ss) (take (t - from) (spell_all ss ++ ending)))
-members-has d fs ending l no_spellings f h b t from k less = none-more (suc (length fs)) _ (l.last (t - from) less)
-members-has d fs ending l (a_spelling s ss) f h b t from k less =
+members-has d fs ending l last no_spellings f h b t from k less = none-more (suc (length fs)) _ (last (t - from) less)
+members-has d fs ending l last (a_spelling s ss) f h b t from k less =
     let rest = spell_all ss ++ ending in
     let all : (spell s ++ spell_all ss) ++ ending ≡ spell s ++ rest = append_assoc (spell s) (spell_all ss) ending in
     let sizes : length ((spell s ++ spell_all ss) ++ ending) ≡ length (spell s) + length rest = ap length all ∙ length-append (spell s) rest in
@@ -154,7 +144,7 @@ members-has d fs ending l (a_spelling s ss) f h b t from k less =
           ∙ ap (λ n. telling_all (trace s) (run d (l.here ss) (take n rest))) same in
           rw (le-ltb (t - from) (length (spell s)) i)
           (subst (λ (o : Outcome). Has (suc (length fs) + open_in t j ss) o) (sym cut)
-          (telling_all-has (suc (length fs) + open_in t j ss) (trace s) _ (members-has d fs ending l ss f.1 h.1 deep t j (omega arith) fewer)))
+          (telling_all-has (suc (length fs) + open_in t j ss) (trace s) _ (members-has d fs ending l last ss f.1 h.1 deep t j (omega arith) fewer)))
     ]))
 
 -- a head, and what is within
@@ -176,36 +166,9 @@ container-has d fs hd xs all m u inner t heads taken within e b = elim (cases_lt
       (telling-has (suc (length fs) + inner) m _ (within k (omega (arith, sizes))))))
 ]
 
-abbrev counted-leads : (d : ℕ) (fs : List Frame) → Leads d fs []
-counted-leads d fs = record {
-  due = λ ss. counted (spellings_count ss);
-  here = λ ss. expect (spellings_count ss) fs;
-  begins = λ s ss. refl;
-  closes = λ ss. close-counted (spellings_count ss) fs;
-  last = λ t h. absurd (omega arith);
-}
-
 first-has : (d : ℕ) (q : State) (fs : List Frame) (c t : ℕ) → length (stack q) ≡ length fs → t < length (c ∷ []) → Has (length fs) (run d q (take t (c ∷ [])))
 first-has d q fs c zero e h = e
 first-has d q fs c (suc t) e h = absurd (omega arith)
-
-abbrev array-leads : (d : ℕ) (fs : List Frame) → Leads d fs (0xff ∷ [])
-array-leads d fs = record {
-  due = λ ss. indefinite_array;
-  here = λ ss. at_item (indefinite_array ∷ fs);
-  begins = λ s ss. refl;
-  closes = λ ss. refl;
-  last = λ t h. first-has d (at_item (indefinite_array ∷ fs)) (indefinite_array ∷ fs) 0xff t refl h;
-}
-
-abbrev map-leads : (d : ℕ) (fs : List Frame) → Leads d fs (0xff ∷ [])
-map-leads d fs = record {
-  due = λ ss. indefinite_map (not (is_odd (spellings_count ss)));
-  here = λ ss. at_item (indefinite_map (is_odd (spellings_count ss)) ∷ fs);
-  begins = λ s ss. refl;
-  closes = λ ss. ap (λ due. at_item (indefinite_map due ∷ fs)) (not-not (is_odd (spellings_count ss)));
-  last = λ t h. first-has d (at_item (indefinite_map false ∷ fs)) (indefinite_map false ∷ fs) 0xff t refl h;
-}
 
 -- ---- any item
 
@@ -240,7 +203,7 @@ counted-has d fs m w n ss all t plain room h leads f hs b e l =
     container-has d fs (head m w n) (spell_all ss ++ []) all (a_head m w n) (expect (spellings_count ss) fs) (open_in t (length (head m w n)) ss) t
     (λ k. head-has d (at_item fs) false m fs refl starts w n t h k)
     (λ more. head-taken d (at_item fs) false m fs starts w n more h ∙ ap (λ q. telling (a_head m w n) (run d q more)) leads)
-    (λ k less. members-has d fs [] (counted-leads d fs) ss f hs b t (length (head m w n)) k less)
+    (λ k less. members-has d fs [] (counted-leads fs) (λ j none. absurd (omega (arith, none))) ss f hs b t (length (head m w n)) k less)
     e l
 
 mutual
@@ -256,21 +219,20 @@ mutual
       (λ k. first-has d (at_item fs) fs 0x9f t refl k)
       (λ more. step d (at_item fs) 0x9f (tells (a_head Array Indefinite 0) (at_item (indefinite_array ∷ fs))) more
       (ap (λ b. cond b (tells (a_head Array Indefinite 0) (at_item (indefinite_array ∷ fs))) (refuses (initial_reason 0x9f))) (room-above d fs (depth_all ss) b)))
-      (λ k less. members-has d fs (0xff ∷ []) (array-leads d fs) ss (fronts ss) h.1 (one-down (depth_all ss) (length fs) d b) t 1 k less)
+      (λ k less. members-has d fs (0xff ∷ []) (array-leads fs) (λ j one. first-has d (at_item (indefinite_array ∷ fs)) (indefinite_array ∷ fs) 0xff j refl one) ss (fronts ss) h.1 (one-down (depth_all ss) (length fs) d b) t 1 k less)
       refl l
   front (array w ss) = λ d fs t h b l.
       counted-has d fs Array w (spellings_count ss) ss (spell (array w ss)) t (λ k. refl) (room-above d fs (depth_all ss) b) h.0 refl (fronts ss) h.1 (one-down (depth_all ss) (length fs) d b)
       (append_assoc (head Array w (spellings_count ss)) (spell_all ss) []) l
   front (a_map Indefinite es) = λ d fs t h b l.
       let deep = members-depth es in
-      let even = ap is_odd (members-count es) ∙ double-even (entries_count es) in
       subst (λ (n : ℕ). Has (length fs + if_open t 1 (length (spell (a_map Indefinite es))) n) (run d (at_item fs) (take t (spell (a_map Indefinite es))))) (members-open t 1 es)
       (container-has d fs (0xbf ∷ []) (spell_all (members es) ++ 0xff ∷ []) (spell (a_map Indefinite es)) (a_head Map Indefinite 0) (at_item (indefinite_map (is_odd (spellings_count (members es))) ∷ fs)) (open_in t 1 (members es)) t
       (λ k. first-has d (at_item fs) fs 0xbf t refl k)
       (λ more. step d (at_item fs) 0xbf (tells (a_head Map Indefinite 0) (at_item (indefinite_map false ∷ fs))) more
       (ap (λ b. cond b (tells (a_head Map Indefinite 0) (at_item (indefinite_map false ∷ fs))) (refuses (initial_reason 0xbf))) (room-above d fs (depth_entries es) b))
-      ∙ ap (λ due. telling (a_head Map Indefinite 0) (run d (at_item (indefinite_map due ∷ fs)) more)) (sym even))
-      (λ k less. members-has d fs (0xff ∷ []) (map-leads d fs) (members es) (fronts-entries es) (members-spelled es h.1) (omega (arith, deep, one-down (depth_entries es) (length fs) d b)) t 1 k less)
+      ∙ ap (λ due. telling (a_head Map Indefinite 0) (run d (at_item (indefinite_map due ∷ fs)) more)) (sym (map-even es)))
+      (λ k less. members-has d fs (0xff ∷ []) (map-leads fs) (λ j one. first-has d (at_item (indefinite_map false ∷ fs)) (indefinite_map false ∷ fs) 0xff j refl one) (members es) (fronts-entries es) (members-spelled es h.1) (omega (arith, deep, one-down (depth_entries es) (length fs) d b)) t 1 k less)
       (ap (λ xs. 0xbf ∷ (xs ++ 0xff ∷ [])) (sym (members-bytes es))) l)
   front (a_map w es) = λ d fs t h b l.
       let deep = members-depth es in

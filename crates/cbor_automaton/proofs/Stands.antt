@@ -1,5 +1,5 @@
 -- What bytes have led the machine to a state, said by what may still come.
-use Rattle.std.proofs.Common.{◌≡◌, ℕ, zero, suc, max, ◌+◌, ◌<◌, ◌≤◌, Bool, true, false, not, nat_lt, List, [], ◌∷◌, ◌++◌, length, flat_map, refl, sym, ap, ap₂, ◌∙◌, subst, arith, append_assoc, append-nil, ltb-true}
+use Rattle.std.proofs.Common.{◌≡◌, ℕ, zero, suc, max, ◌+◌, ◌<◌, ◌≤◌, Bool, true, false, not, List, [], ◌∷◌, ◌++◌, length, flat_map, refl, sym, ap, ap₂, ◌∙◌, subst, arith, append_assoc, append-nil, ltb-true}
 use Rattle.std.specs.List.{AllByRecursion}
 use Rattle.cbor_head.specs.Prelude.{AreBytes, Holds, head, Chunk, IsChunk, Spelling, Spellings, SpelledEntries, unsigned, negative, bytes, text, array, a_map, tag, no_spellings, a_spelling, no_entries, entry, spellings_count, entries_count, spell, spell_all, spell_entries, chunk_bytes, break_of, IsSpelled, AreSpelled, AreEntriesSpelled, HoldsOrIndefinite, depth, depth_all, depth_entries, IsItem}
 use Rattle.cbor_automaton.specs.Automaton.{Frame, counted, indefinite_array, indefinite_map, State, at_item, in_head, in_simple, in_payload, in_chunks, done, close, expect, close_string, payload, after, has_room}
@@ -165,9 +165,6 @@ pub room-of : (d : ℕ) (fs : List Frame) (p : List ℕ) → Opened d fs p → 0
 room-of d [] p o = omega arith
 room-of d (f ∷ fs) p o = let h : length fs < d = o.2 in omega arith
 
-pub room-true : (a d : ℕ) → nat_lt a d ≡ true → suc a ≤ d
-room-true a d e = ltb-true a d e
-
 array-extends : (d : ℕ) (w : Width) (n : ℕ) (fs : List Frame) (p : List ℕ) → Holds w n → (ss : Spellings) → spellings_count ss ≡ n → AreSpelled ss → depth_all ss + suc (length fs) ≤ d
     → Extends d (length fs) p ((p ++ head Array w n) ++ spell_all ss)
 array-extends d w n fs p h ss r hs bs =
@@ -246,7 +243,7 @@ head-done d false Unsigned w n fs p b h = item-closes d fs p (unsigned w n) b.0 
 head-done d false Negative w n fs p b h = item-closes d fs p (negative w n) b.0 h (room-of d fs p b.0)
 head-done d false Bytes w n fs p b h = payload-begins d false Bytes w n fs p b tt h
 head-done d false Text w n fs p b h = payload-begins d false Text w n fs p b tt h
-head-done d false Array w n fs p b h = members-due d fs p (p ++ head Array w n) n b.0 (array-extends d w n fs p h) (room-true (length fs) d b.2)
-head-done d false Map w n fs p b h = members-due d fs p (p ++ head Map w n) (n + n) b.0 (map-extends d w n fs p h) (room-true (length fs) d b.2)
-head-done d false Tag w n fs p b h = members-due d fs p (p ++ head Tag w n) 1 b.0 (tag-extends d w n fs p h) (room-true (length fs) d b.2)
+head-done d false Array w n fs p b h = members-due d fs p (p ++ head Array w n) n b.0 (array-extends d w n fs p h) (ltb-true (length fs) d b.2)
+head-done d false Map w n fs p b h = members-due d fs p (p ++ head Map w n) (n + n) b.0 (map-extends d w n fs p h) (ltb-true (length fs) d b.2)
+head-done d false Tag w n fs p b h = members-due d fs p (p ++ head Tag w n) 1 b.0 (tag-extends d w n fs p h) (ltb-true (length fs) d b.2)
 head-done d false Simple w n fs p b h = absurd b.1

@@ -36,21 +36,18 @@ IsTakingNext d from (tells m q) bs = IsTaking d from m bs q × IsClear q
 
 -- ---- behind a head
 
-room : (d : ℕ) (fs : List Frame) → nat_lt (length fs) d ≡ true → length fs < d
-room d fs e = ltb-true (length fs) d e
-
 follows : (d : ℕ) (fs : List Frame) (m : Major) (w : Width) (n : ℕ) → IsNumbered m → has_room d fs m ≡ true → Follows d fs m w n (after false m n fs)
-follows d fs Array w n k e = (room d fs e, refl)
-follows d fs Map w n k e = (room d fs e, refl)
-follows d fs Tag w n k e = (room d fs e, refl)
+follows d fs Array w n k e = (ltb-true (length fs) d e, refl)
+follows d fs Map w n k e = (ltb-true (length fs) d e, refl)
+follows d fs Tag w n k e = (ltb-true (length fs) d e, refl)
 follows d fs Simple w n k e = absurd k
 follows d fs _ w n k e = refl
 
 follows-direct : (d : ℕ) (fs : List Frame) (m : Major) (n : ℕ) → n < 24 → has_room d fs m ≡ true → Follows d fs m Direct n (after false m n fs)
 follows-direct d fs Simple n h e = ((omega arith, λ l. absurd (omega arith)), rw (lt-ltb n 24 h) refl, refl)
-follows-direct d fs Array n h e = (room d fs e, refl)
-follows-direct d fs Map n h e = (room d fs e, refl)
-follows-direct d fs Tag n h e = (room d fs e, refl)
+follows-direct d fs Array n h e = (ltb-true (length fs) d e, refl)
+follows-direct d fs Map n h e = (ltb-true (length fs) d e, refl)
+follows-direct d fs Tag n h e = (ltb-true (length fs) d e, refl)
 follows-direct d fs _ n h e = refl
 
 definite : (d : ℕ) (fs : List Frame) (m : Major) (w : Width) (n : ℕ) (bs : List ℕ) (to : State) → bs ≡ head m w n → Holds w n → Follows d fs m w n to → IsTaking d (at_item fs) (a_head m w n) bs to
@@ -73,8 +70,8 @@ IsTakingFirst d fs c o = IsTakingNext d (at_item fs) (begin d fs c o) (c ∷ [])
 open-taken : (d : ℕ) (fs : List Frame) (m : Major) → IsTakingFirst d fs (32 * major_number m + 31) (indefinite_length m)
 open-taken d fs Bytes = ((refl, refl, refl), tt)
 open-taken d fs Text = ((refl, refl, refl), tt)
-open-taken d fs Array = guarded d _ _ (nat_lt (length fs) d) _ _ (λ e. ((refl, refl, (room d fs e, refl)), tt))
-open-taken d fs Map = guarded d _ _ (nat_lt (length fs) d) _ _ (λ e. ((refl, refl, (room d fs e, refl)), tt))
+open-taken d fs Array = guarded d _ _ (nat_lt (length fs) d) _ _ (λ e. ((refl, refl, (ltb-true (length fs) d e, refl)), tt))
+open-taken d fs Map = guarded d _ _ (nat_lt (length fs) d) _ _ (λ e. ((refl, refl, (ltb-true (length fs) d e, refl)), tt))
 open-taken d fs _ = tt
 
 break-taken : (d : ℕ) (fs : List Frame) → IsTakingNext d (at_item fs) (break_at fs 0xff) (0xff ∷ [])

@@ -5,7 +5,7 @@ use Rattle.cbor_head.specs.Prelude.{IsHead, major_number, shortest, with_argumen
 use Rattle.cbor_head.specs.declared.major.Major.{Major}
 use Rattle.cbor_head.specs.declared.major.Major.TheVariants.{Array, Map, Tag, Simple}
 use Rattle.cbor_head.specs.declared.width.Width.{Width}
-use Rattle.cbor_head.specs.declared.width.Width.TheVariants.{Direct, One, Two, Four, Eight, Indefinite}
+use Rattle.cbor_head.specs.declared.width.Width.TheVariants.{Direct, One, Indefinite}
 use Rattle.cbor_grammar.specs.Argument.{IsArgument}
 use Rattle.cbor_automaton.proofs.Taking.{IsNumbered}
 use Rattle.cbor_judging.proofs.Heads.{takes}
@@ -22,10 +22,7 @@ direct_head _ n h = h
 
 -- the low bits of each width
 pub low_bits : (low : ℕ) (behind : List ℕ) (w : Width) (n : ℕ) (rest : List ℕ) → IsArgument low behind w n rest → low ≤ 24 → (low ≡ 24 → 32 ≤ n) → w ≡ shortest n
-low_bits low behind Direct n rest a l wide = let h : n < 24 = a.holds in sym (small h)
-  where
-    small : n < 24 → shortest n ≡ Direct
-    small h = grind (arith, nat_tests)
+low_bits low behind Direct n rest a l wide = sym (direct-is n a.holds)
 low_bits low behind One n rest a l wide =
     let e : 0 + low ≡ 0 + 24 = ap (λ (xs : List ℕ). get_or xs 0 0) (a.spelled 0) in
     let h : n < 2 ^ 8 = a.holds in
@@ -34,19 +31,15 @@ low_bits low behind One n rest a l wide =
   where
     middle : n < 256 → 24 ≤ n → shortest n ≡ One
     middle h g = grind (arith, nat_tests)
-low_bits low behind Two n rest a l wide = let e : 0 + low ≡ 0 + 25 = ap (λ (xs : List ℕ). get_or xs 0 0) (a.spelled 0) in absurd (omega (arith, e, l))
-low_bits low behind Four n rest a l wide = let e : 0 + low ≡ 0 + 26 = ap (λ (xs : List ℕ). get_or xs 0 0) (a.spelled 0) in absurd (omega (arith, e, l))
-low_bits low behind Eight n rest a l wide = let e : 0 + low ≡ 0 + 27 = ap (λ (xs : List ℕ). get_or xs 0 0) (a.spelled 0) in absurd (omega (arith, e, l))
 low_bits low behind Indefinite n rest a l wide = absurd a.holds
+low_bits low behind _ n rest a l wide = let e = ap (λ (xs : List ℕ). get_or xs 0 0) (a.spelled 0) in absurd (omega (arith, e, l))
 
 -- the byte behind f8
 pub number_byte : (behind : List ℕ) (w : Width) (n : ℕ) (rest : List ℕ) → IsArgument 24 behind w n rest → behind ≡ (n % 256) ∷ rest
 number_byte behind One n rest a = ap (drop 1) (a.spelled 0)
 number_byte behind Direct n rest a = let e : 0 + 24 ≡ 0 + n = ap (λ (xs : List ℕ). get_or xs 0 0) (a.spelled 0) in let h : n < 24 = a.holds in absurd (omega (arith, e, h))
-number_byte behind Two n rest a = let e : 0 + 24 ≡ 0 + 25 = ap (λ (xs : List ℕ). get_or xs 0 0) (a.spelled 0) in absurd (omega (arith, e))
-number_byte behind Four n rest a = let e : 0 + 24 ≡ 0 + 26 = ap (λ (xs : List ℕ). get_or xs 0 0) (a.spelled 0) in absurd (omega (arith, e))
-number_byte behind Eight n rest a = let e : 0 + 24 ≡ 0 + 27 = ap (λ (xs : List ℕ). get_or xs 0 0) (a.spelled 0) in absurd (omega (arith, e))
 number_byte behind Indefinite n rest a = absurd a.holds
+number_byte behind _ n rest a = let e = ap (λ (xs : List ℕ). get_or xs 0 0) (a.spelled 0) in absurd (omega (arith, e))
 
 -- ---- the major type
 

@@ -29,8 +29,8 @@ use Rattle.cbor_judging.proofs.Scalars.{at-as}
 use Rattle.cbor_judging.proofs.Heads.{zero_bytes, zero_length}
 use Rattle.cbor_judging.proofs.Leaves.{chunks_bytes, chunks_of, is-chunked, chunks-value, chunks_on, chunk_judged, chunk, AreChunksSoFar, cut_chunk, chunk_complains, chunks_more, chunks_whole}
 use Rattle.cbor_automaton.proofs.Taking.{nothing-taken}
-use Rattle.cbor_judging.proofs.Steps.{reached-as}
 use Rattle.cbor_judging.proofs.CutHeads.{chunk_cut}
+use Rattle.cbor_judging.proofs.WholeStrings.{stops-payload}
 
 -- ---- of chunks
 
@@ -87,7 +87,7 @@ chunk-head-judged text done r at d a w n c h o =
     let o2 : OfHead r to m w (length q) c = subst (λ (k : ℕ). OfHead r to m w k c) (sym same) o in
     let end = count_last r to m w (length q) c (head-count r to m w (length q) c (is-definite w n h) o2) in
     subst (λ (k : ℕ). IsJudged r at d (chunks_bytes m done ++ head m w k) (Some c)) same
-    (chunk_judged m (chunks_of text) (is-chunked text) done r at d a.are a.opener_clean a.clean (chunk w q) (head m w (length q)) q (subst (Holds w) (sym same) h, zero_bytes n) refl (Some c)
+    (chunk_judged text done r at d a (chunk w q) (head m w (length q)) q (subst (Holds w) (sym same) h, zero_bytes n) refl (Some c)
     (record {
       holds = of-string m o2;
       ends = omega (arith, end);
@@ -211,58 +211,30 @@ module _ (r : Rules) (b : Bounds) (fs : List Container) (t x : List ℕ) (text :
           }
 
       -- a part of it has come
-      chunk-part : (p : List ℕ) → length p < k → AreBytes p → IsJudged r (length t) (b.depth - length fs) (chunks_bytes (string_major text) a.done ++ (n.bytes ++ p)) None
+      chunk-part : (p : List ℕ) → length p < k → AreBytes p → IsJudged r (length t) (b.depth - length fs) ((chunks_bytes (string_major text) a.done ++ n.bytes) ++ p) None
       chunk-part p short are_bytes =
           let y = chunks_bytes (string_major text) a.done in
-          subst (λ (u : List ℕ). IsJudged r (length t) (b.depth - length fs) (y ++ (u ++ p)) None) (sym hd.bytes_are)
+          subst (λ (u : List ℕ). IsJudged r (length t) (b.depth - length fs) u None) (ap (λ (u : List ℕ). y ++ (u ++ p)) (sym hd.bytes_are) ∙ sym (append_assoc y n.bytes p))
           (chunk_cut ev.width k p hd.holds are_bytes short r (length t) (b.depth - length fs) text a.done a.so_far clean-head)
-
-      chunk-split : (all p last : List ℕ) → all ≡ p ++ last → chunks_bytes (string_major text) a.done ++ (n.bytes ++ all) ≡ (chunks_bytes (string_major text) a.done ++ (n.bytes ++ p)) ++ last
-      chunk-split all p last e =
-          let y = chunks_bytes (string_major text) a.done in
-          ap (λ (u : List ℕ). y ++ (n.bytes ++ u)) e ∙ ap (λ (u : List ℕ). y ++ u) (sym (append_assoc n.bytes p last)) ∙ sym (append_assoc y (n.bytes ++ p) last)
 
       -- it is refused
       pub stops-chunk : IsTrue r.texts → (to : Option (List ℕ)) (f : Refusal) → StopsPayload b ((t ++ chunks_bytes (string_major text) a.done) ++ n.bytes) k text mid2 to f → StopsItem r b fs t x from to f
       stops-chunk looks to f s =
-          let y = chunks_bytes (string_major text) a.done in
-          let regroup : ((t ++ y) ++ n.bytes) ++ s.bytes ≡ t ++ (y ++ (n.bytes ++ s.bytes)) = append_assoc (t ++ y) n.bytes s.bytes ∙ append_assoc t y (n.bytes ++ s.bytes) in
-          record {
-            bytes = y ++ (n.bytes ++ s.bytes);
-            taken = extends-on x y (n.bytes ++ s.bytes) (y ++ (n.bytes ++ s.bytes)) from mid to a.taken (Consumes-trans mid mid2 to n.bytes s.bytes n.consumed s.consumed) refl;
-            read = s.read ∙ ap length regroup;
-            why = elim s.why [
-              | inl m ↦ inl (
-                m.0,
-                reached-as b (((t ++ y) ++ n.bytes) ++ s.bytes) (t ++ (y ++ (n.bytes ++ s.bytes))) regroup m.1,
-                record { p = y ++ (n.bytes ++ m.2.p); last = m.2.last; splits = chunk-split s.bytes m.2.p m.2.last m.2.splits; byte = m.2.byte; judged = chunk-part m.2.p m.2.short m.2.are_bytes },
-              )
-              | inr (inl c) ↦
-                  inr (record {
-                    p = y ++ (n.bytes ++ c.p);
-                    last = c.last;
-                    splits = chunk-split s.bytes c.p c.last c.splits;
-                    found = None;
-                    judged = chunk-part c.p c.short c.are_bytes;
-                    cause = (
-                      c.place ∙ ap length (append_assoc (t ++ y) n.bytes c.p ∙ append_assoc t y (n.bytes ++ c.p)),
-                      subst (λ (u : List ℕ). IsFormRefusal b u to f) regroup c.refused,
-                    );
-                  })
-              | inr (inr z) ↦
-                  let q = s.bytes in
-                  let v = z.1 in
-                  let at = length t + length y + length (head (string_major text) ev.width (length q)) in
-                  let head_as : n.bytes ≡ head (string_major text) ev.width (length q) = hd.bytes_are ∙ ap (head (string_major text) ev.width) (sym v.count) in
-                  let here : length ((t ++ y) ++ n.bytes) ≡ at = length-append (t ++ y) n.bytes ∙ ap (λ (j : ℕ). j + length n.bytes) there ∙ ap (λ (u : List ℕ). length t + length y + length u) head_as in
-                  let c = complaint (at + length q) (at + utf8_valid_len q) InvalidText in
-                  inr (whole-cause r b fs t (y ++ (n.bytes ++ q)) to f c
-                  (subst (λ (u : List ℕ). IsJudged r (length t) (b.depth - length fs) (y ++ (u ++ q)) (Some c)) (sym head_as)
-                  (chunk_complains text a.done r (length t) (b.depth - length fs) a.so_far z.0 ev.width q c
-                  (subst (Holds ev.width) (sym v.count) hd.holds, v.are_bytes) (subst (λ (j : ℕ). Never (OfHead r (length t + length y) (string_major text) ev.width j)) (sym v.count) clean-head) (looks, v.no_text, refl)))
-                  (v.is ∙ ap (λ (j : ℕ). refusal InvalidText (j + utf8_valid_len q) (j + length q)) here) (subst (λ (u : List ℕ). length u ≤ b.bytes) regroup v.within))
-            ];
-          }
+          let m = string_major text in
+          let y = chunks_bytes m a.done in
+          let z = y ++ n.bytes in
+          stops-payload r b fs t z k chunk-part x text from mid2 to f (extends-on x y n.bytes z from mid mid2 a.taken n.consumed refl)
+          (λ q is_text v.
+          let head_as : n.bytes ≡ head m ev.width (length q) = hd.bytes_are ∙ ap (head m ev.width) (sym v.count) in
+          let at = length t + length y + length (head m ev.width (length q)) in
+          let here : length (t ++ z) ≡ at = omega (arith, length-append t z, length-append y n.bytes, ap length head_as) in
+          let c = complaint (at + length q) (at + utf8_valid_len q) InvalidText in
+          whole-cause r b fs t (z ++ q) to f c
+          (subst (λ (u : List ℕ). IsJudged r (length t) (b.depth - length fs) u (Some c)) (ap (λ (u : List ℕ). y ++ (u ++ q)) (sym head_as) ∙ sym (append_assoc y n.bytes q))
+          (chunk_complains text a.done r (length t) (b.depth - length fs) a.so_far is_text ev.width q c
+          (subst (Holds ev.width) (sym v.count) hd.holds, v.are_bytes) (subst (λ (j : ℕ). Never (OfHead r (length t + length y) m ev.width j)) (sym v.count) clean-head) (looks, v.no_text, refl)))
+          (v.is ∙ ap (λ (j : ℕ). refusal InvalidText (j + utf8_valid_len q) (j + length q)) here) (subst (λ (u : List ℕ). length u ≤ b.bytes) (append_assoc t z q) v.within))
+          (subst (λ (u : List ℕ). StopsPayload b u k text mid2 to f) (append_assoc t y n.bytes) s)
 
       pub chunk-farther : (q : List ℕ) → length (t ++ chunks_bytes (string_major text) a.done) < length (((t ++ chunks_bytes (string_major text) a.done) ++ n.bytes) ++ q)
       chunk-farther q =

@@ -1,6 +1,6 @@
 -- What a container with an item in it is, by its parts.
 use Rattle.std.proofs.Common.{ℕ, suc, max, ◌+◌, ◌≡◌, ◌<◌, ◌⊎◌, List, [], ◌∷◌, ◌++◌, length, refl, sym, ap, ◌∙◌, arith, subst, inl, inr, length-append, append_assoc, append-nil}
-use Rattle.cbor_head.specs.Prelude.{head, Spelling, Spellings, SpelledEntries, no_spellings, a_spelling, no_entries, entry, spell, spell_all, spell_entries, spellings_count, entries_count, break_of, IsSpelled, AreSpelled, AreEntriesSpelled, HoldsOrIndefinite, depth, depth_all, depth_entries, Rules, Complaint, OfCount, Complains, ComplainsIn, ComplainsInEntries}
+use Rattle.cbor_head.specs.Prelude.{head, Spelling, Spellings, SpelledEntries, no_spellings, a_spelling, no_entries, entry, spell, spell_all, spell_entries, spellings_count, entries_count, break_of, IsSpelled, AreSpelled, AreEntriesSpelled, HoldsOrIndefinite, depth, depth_all, depth_entries, Rules, Complaint, Complains, ComplainsIn, ComplainsInEntries}
 use Rattle.cbor_judging.specs.Frame.{Frame, a_member, a_key, a_content, tagged, with_all, with_entries, keys_onto, plug, before, behind, IsFrame, depth_beside, OfFront, OfKeyAt, OfBack}
 use Rattle.cbor_head.specs.declared.major.Major.TheVariants.{Array, Map, Tag}
 use Rattle.cbor_grammar.proofs.Agree.{key_end, later_in, later_entries}
@@ -109,43 +109,36 @@ depth_plug (tagged w n) s = omega arith
 pub plug_split : (f : Frame) (s : Spelling) (r : Rules) (at to : ℕ) (c : Complaint) → to ≡ at + length (before f) → Complains r at (plug f s) c
     → OfFront r at f c ⊎ Complains r to s c ⊎ OfKeyAt r to f s c ⊎ OfBack r (to + length (spell s)) f s c
 plug_split (a_member w a b) s r at to c e h =
-    let n = spellings_count a + suc (spellings_count b) in
-    let g : OfCount r at Array w n c ⊎ ComplainsIn r (at + length (head Array w n)) (with_all a (a_spelling s b)) c =
-    subst (λ (m : ℕ). OfCount r at Array w m c ⊎ ComplainsIn r (at + length (head Array w m)) (with_all a (a_spelling s b)) c) (count_with a (a_spelling s b)) h in
+    let hd = head Array w (spellings_count a + suc (spellings_count b)) in
+    let g = rw (count_with a (a_spelling s b)) at h in
     elim g [
       | inl x ↦ inl (inl x)
-      | inr y ↦ elim (members_split a (a_spelling s b) r (at + length (head Array w n)) to c (omega (arith, e, length-append (head Array w n) (spell_all a))) y) [
-        | inl x ↦ inl (inr x)
-        | inr z ↦ elim z [ inl x ↦ inr (inl x) | inr x ↦ inr (inr (inr x)) ]
-      ]
+      | inr y ↦ elim (members_split a (a_spelling s b) r (at + length hd) to c (omega (arith, e, length-append hd (spell_all a))) y) [ inl x ↦ inl (inr x) | inr (inl x) ↦ inr (inl x) | inr (inr x) ↦ inr (inr (inr x)) ]
     ]
 plug_split (a_key w a v b) s r at to c e h =
-    let n = entries_count a + suc (entries_count b) in
-    let g : OfCount r at Map w n c ⊎ ComplainsInEntries r (at + length (head Map w n)) [] (with_entries a (entry s v b)) c =
-    subst (λ (m : ℕ). OfCount r at Map w m c ⊎ ComplainsInEntries r (at + length (head Map w m)) [] (with_entries a (entry s v b)) c) (entries_with a (entry s v b)) h in
+    let hd = head Map w (entries_count a + suc (entries_count b)) in
+    let g = rw (entries_with a (entry s v b)) at h in
     elim g [
       | inl x ↦ inl (inl x)
-      | inr y ↦ elim (entries_split a (entry s v b) [] r (at + length (head Map w n)) to c (omega (arith, e, length-append (head Map w n) (spell_entries a))) y) [
+      | inr y ↦ elim (entries_split a (entry s v b) [] r (at + length hd) to c (omega (arith, e, length-append hd (spell_entries a))) y) [
         | inl x ↦ inl (inr x)
-        | inr z ↦ elim z [ inl x ↦ inr (inl x) | inr (inl x) ↦ inr (inr (inl x)) | inr (inr x) ↦ inr (inr (inr x)) ]
+        | inr (inl x) ↦ inr (inl x)
+        | inr (inr (inl x)) ↦ inr (inr (inl x))
+        | inr (inr (inr x)) ↦ inr (inr (inr x))
       ]
     ]
 plug_split (a_content w a k b) s r at to c e h =
-    let n = entries_count a + suc (entries_count b) in
-    let here = at + length (head Map w n ++ spell_entries a) in
-    let there : here + length (spell k) ≡ to = omega (arith, e, length-append (head Map w n ++ spell_entries a) (spell k)) in
-    let g : OfCount r at Map w n c ⊎ ComplainsInEntries r (at + length (head Map w n)) [] (with_entries a (entry k s b)) c =
-    subst (λ (m : ℕ). OfCount r at Map w m c ⊎ ComplainsInEntries r (at + length (head Map w m)) [] (with_entries a (entry k s b)) c) (entries_with a (entry k s b)) h in
+    let hd = head Map w (entries_count a + suc (entries_count b)) in
+    let there : at + length (hd ++ spell_entries a) + length (spell k) ≡ to = omega (arith, e, length-append (hd ++ spell_entries a) (spell k)) in
+    let g = rw (entries_with a (entry k s b)) at h in
     elim g [
       | inl x ↦ inl (inl x)
-      | inr y ↦ elim (entries_split a (entry k s b) [] r (at + length (head Map w n)) here c (omega (arith, length-append (head Map w n) (spell_entries a))) y) [
+      | inr y ↦ elim (entries_split a (entry k s b) [] r (at + length hd) (at + length (hd ++ spell_entries a)) c (omega (arith, length-append hd (spell_entries a))) y) [
         | inl x ↦ inl (inr (inl x))
-        | inr z ↦ elim z [
-          | inl x ↦ inl (inr (inr (inl x)))
-          | inr (inl x) ↦ inl (inr (inr (inr x)))
-          | inr (inr (inl x)) ↦ inr (inl (subst (λ (m : ℕ). Complains r m s c) there x))
-          | inr (inr (inr x)) ↦ inr (inr (inr (subst (λ (m : ℕ). ComplainsInEntries r (m + length (spell s)) (k ∷ keys_onto [] a) b c) there x)))
-        ]
+        | inr (inl x) ↦ inl (inr (inr (inl x)))
+        | inr (inr (inl x)) ↦ inl (inr (inr (inr x)))
+        | inr (inr (inr (inl x))) ↦ inr (inl (subst (λ (m : ℕ). Complains r m s c) there x))
+        | inr (inr (inr (inr x))) ↦ inr (inr (inr (subst (λ (m : ℕ). ComplainsInEntries r (m + length (spell s)) (k ∷ keys_onto [] a) b c) there x)))
       ]
     ]
 plug_split (tagged w n) s r at to c e (inl h) = inl h
@@ -153,26 +146,19 @@ plug_split (tagged w n) s r at to c e (inr h) = inr (inl (subst (λ (m : ℕ). C
 
 -- and what complains of the item, complains of the container
 pub plug_item : (f : Frame) (s : Spelling) (r : Rules) (at to : ℕ) (c : Complaint) → to ≡ at + length (before f) → Complains r to s c ⊎ OfKeyAt r to f s c → Complains r at (plug f s) c
-plug_item (a_member w a b) s r at to c e h =
-    let n = spellings_count a + suc (spellings_count b) in
-    let g : ComplainsIn r to (a_spelling s b) c = elim h [ inl x ↦ inl x | inr x ↦ absurd x ] in
-    subst (λ (m : ℕ). OfCount r at Array w m c ⊎ ComplainsIn r (at + length (head Array w m)) (with_all a (a_spelling s b)) c) (sym (count_with a (a_spelling s b)))
-    (inr (members_right a (a_spelling s b) r (at + length (head Array w n)) to c (omega (arith, e, length-append (head Array w n) (spell_all a))) g))
+plug_item (a_member w a b) s r at to c e (inl h) =
+    let hd = head Array w (spellings_count a + suc (spellings_count b)) in
+    rw (count_with a (a_spelling s b)) (inr (members_right a (a_spelling s b) r (at + length hd) to c (omega (arith, e, length-append hd (spell_all a))) (inl h)))
 plug_item (a_key w a v b) s r at to c e h =
-    let n = entries_count a + suc (entries_count b) in
+    let hd = head Map w (entries_count a + suc (entries_count b)) in
     let g : ComplainsInEntries r to (keys_onto [] a) (entry s v b) c = elim h [ inl x ↦ inl x | inr x ↦ inr (inl x) ] in
-    subst (λ (m : ℕ). OfCount r at Map w m c ⊎ ComplainsInEntries r (at + length (head Map w m)) [] (with_entries a (entry s v b)) c) (sym (entries_with a (entry s v b)))
-    (inr (entries_right a (entry s v b) [] r (at + length (head Map w n)) to c (omega (arith, e, length-append (head Map w n) (spell_entries a))) g))
-plug_item (a_content w a k b) s r at to c e h =
-    let n = entries_count a + suc (entries_count b) in
-    let here = at + length (head Map w n ++ spell_entries a) in
-    let there : to ≡ here + length (spell k) = omega (arith, e, length-append (head Map w n ++ spell_entries a) (spell k)) in
-    let g : Complains r to s c = elim h [ inl x ↦ x | inr x ↦ absurd x ] in
-    subst (λ (m : ℕ). OfCount r at Map w m c ⊎ ComplainsInEntries r (at + length (head Map w m)) [] (with_entries a (entry k s b)) c) (sym (entries_with a (entry k s b)))
-    (inr (entries_right a (entry k s b) [] r (at + length (head Map w n)) here c (omega (arith, length-append (head Map w n) (spell_entries a)))
-    (inr (inr (inl (subst (λ (m : ℕ). Complains r m s c) there g))))))
+    rw (entries_with a (entry s v b)) (inr (entries_right a (entry s v b) [] r (at + length hd) to c (omega (arith, e, length-append hd (spell_entries a))) g))
+plug_item (a_content w a k b) s r at to c e (inl h) =
+    let hd = head Map w (entries_count a + suc (entries_count b)) in
+    let there : to ≡ at + length (hd ++ spell_entries a) + length (spell k) = omega (arith, e, length-append (hd ++ spell_entries a) (spell k)) in
+    rw (entries_with a (entry k s b)) (inr (entries_right a (entry k s b) [] r (at + length hd) (at + length (hd ++ spell_entries a)) c (omega (arith, length-append hd (spell_entries a))) (inr (inr (inl (subst (λ (m : ℕ). Complains r m s c) there h))))))
 plug_item (tagged w n) s r at to c e (inl h) = inr (subst (λ (m : ℕ). Complains r m s c) e h)
-plug_item (tagged w n) s r at to c e (inr h) = absurd h
+plug_item _ s r at to c e (inr h) = absurd h
 
 -- what stands behind the item complains later
 pub back_later : (f : Frame) (s : Spelling) (r : Rules) (at : ℕ) (c : Complaint) → OfBack r at f s c → at < c.end

@@ -1,14 +1,13 @@
 -- An item in another: what is read and what is refused of it, for the whole.
-use Rattle.std.proofs.Common.{◌≡◌, ◌≢◌, ℕ, ◌-◌, ◌<◌, ◌≤◌, Option, Some, None, List, [], ◌++◌, length, refl, sym, ap, ◌∙◌, subst, inl, arith, append_assoc, append-nil}
+use Rattle.std.proofs.Common.{◌≡◌, ◌≢◌, ℕ, ◌-◌, ◌<◌, ◌≤◌, Option, Some, None, List, [], ◌++◌, length, refl, sym, ap, ◌∙◌, subst, arith, append_assoc, append-nil}
 use Rattle.std.specs.Io.KnownBytes.{Consumes}
 use Rattle.std.proofs.KnownBytes.{Consumes-nil, Consumes-trans}
-use Rattle.cbor_head.specs.Prelude.{Holds, head, Bounds, byte_chunks, text_chunks, simple, Rules, Complaint, OfHead, OfIndefinite, OfCount, refusal}
+use Rattle.cbor_head.specs.Prelude.{Holds, head, Bounds, Rules, Complaint, OfHead, OfCount, refusal}
 use Rattle.cbor_head.specs.declared.major.Major.{Major}
 use Rattle.cbor_head.specs.declared.major.Major.TheVariants as majors
 use Rattle.cbor_head.specs.declared.width.Width.{Width}
 use Rattle.cbor_head.specs.declared.width.Width.TheVariants.{Indefinite}
 use Rattle.cbor_head.specs.declared.reason.Refusal.{Refusal}
-use Rattle.cbor_grammar.proofs.OneFirst.{count_last}
 use Rattle.cbor_grammar.proofs.ReadLaws.{length_head}
 use Rattle.cbor_automaton.specs.Trace.{Mark, a_head, a_chunk, a_byte, a_break}
 use Rattle.cbor_judging.specs.Place.{Container, Place, at_item, Follows, Opens, IsTaking}
@@ -16,9 +15,7 @@ use Rattle.cbor_automaton.specs.Marks as marks
 use Rattle.cbor_automaton.proofs.Taking.{nothing-taken}
 use Rattle.cbor_judging.specs.Judged.{IsJudged}
 use Rattle.cbor_judging.specs.Reading.{Extends, IsFormRefusal, OfMark, IsCause, HasCause, IsUndecided, IsCutHead, state_at}
-use Rattle.cbor_judging.proofs.Leaves.{head_complains, array_head_complains, map_head_complains}
-use Rattle.cbor_judging.proofs.HeadComplaints.{head_judged as complaint_judged}
-use Rattle.cbor_judging.proofs.Heads.{takes, Headed, headed, cut_head}
+use Rattle.cbor_judging.proofs.Heads.{takes, Headed, headed, simple-headed, IsOpener, opened, head_judged, cut_head}
 use Rattle.cbor_automaton.proofs.Taking.{IsNumbered}
 
 -- ---- a complaint of all that was taken
@@ -127,30 +124,22 @@ follows-takes d fs majors.Map w n next i f = omega (arith, f.0)
 follows-takes d fs majors.Tag w n next i f = omega (arith, f.0)
 follows-takes d fs _ w n next i f = omega arith
 
--- an item with this head
-pub head-item : (d : ℕ) (fs : List Container) (m : Major) (w : Width) (n : ℕ) (x : List ℕ) (next : Place) → IsDefinite d fs m w n x next → Headed (d - length fs) (head m w n)
-head-item d fs majors.Simple w n x next i = record { item = simple n; spelled = i.follows.0; within = omega arith; head_is = ap (λ (v : Width). head majors.Simple v n) (sym i.follows.1) }
-head-item d fs m w n x next i = headed (d - length fs) m w n tt i.holds (follows-takes d fs m w n next tt i.follows)
+opener : (d : ℕ) (fs : List Container) (m : Major) (next : Place) → Opens d fs m next → IsOpener m (d - length fs)
+opener d fs majors.Bytes next h = tt
+opener d fs majors.Text next h = tt
+opener d fs majors.Array next h = omega (arith, h.0)
+opener d fs majors.Map next h = omega (arith, h.0)
+opener d fs _ next h = absurd h
 
--- a definite head with a complaint
-definite-judged : (r : Rules) (at d : ℕ) (fs : List Container) (m : Major) (w : Width) (n : ℕ) (bs : List ℕ) (next : Place) (c : Complaint) → IsDefinite d fs m w n bs next → OfHead r at m w n c
-    → IsJudged r at (d - length fs) (head m w n) (Some c)
-definite-judged r at d fs m w n bs next c i o = go m i.follows o
-  where
-    go : (m : Major) → Follows d fs m w n next → OfHead r at m w n c → IsJudged r at (d - length fs) (head m w n) (Some c)
-    go majors.Simple f o = absurd (o.1 f.1)
-    go m f o = complaint_judged r at (d - length fs) w n c i.holds m tt (follows-takes d fs m w n next tt f) o
-
-opener-judged : (r : Rules) (at d : ℕ) (fs : List Container) (m : Major) (next : Place) (c : Complaint) → Opens d fs m next → OfIndefinite r at c → IsJudged r at (d - length fs) (head m Indefinite 0) (Some c)
-opener-judged r at d fs majors.Bytes next c f o = head_complains (byte_chunks []) r at (d - length fs) c tt (omega arith) (inl o) (count_last r at majors.Bytes Indefinite 0 c o)
-opener-judged r at d fs majors.Text next c f o = head_complains (text_chunks []) r at (d - length fs) c tt (omega arith) (inl o) (count_last r at majors.Text Indefinite 0 c o)
-opener-judged r at d fs majors.Array next c f o = array_head_complains Indefinite 0 r at (d - length fs) c tt (omega (arith, f.0)) o
-opener-judged r at d fs majors.Map next c f o = map_head_complains Indefinite 0 r at (d - length fs) c tt (omega (arith, f.0)) o
-opener-judged r at d fs _ next c f o = absurd f
+-- a head that was taken is that of an item
+pub taken-headed : (d : ℕ) (fs : List Container) (m : Major) (w : Width) (n : ℕ) (x : List ℕ) (next : Place) → IsTaking d (at_item fs) (a_head m w n) x next → Headed (d - length fs) m w n × (x ≡ head m w n)
+taken-headed d fs m Indefinite n x next h = (opened (d - length fs) m n (opener d fs m next h.2), h.1)
+taken-headed d fs majors.Simple w n x next h = (simple-headed (d - length fs) w n h.1 h.2.0 h.2.1, h.0)
+taken-headed d fs m w n x next h = (headed (d - length fs) m w n tt h.1 (follows-takes d fs m w n next tt h.2), h.0)
 
 pub head-judged : (r : Rules) (at d : ℕ) (fs : List Container) (mark : Mark) (bs : List ℕ) (next : Place) (c : Complaint) → IsTaking d (at_item fs) mark bs next → OfMark r at (at_item fs) mark c → IsJudged r at (d - length fs) bs (Some c)
-head-judged r at d fs (a_head m Indefinite n) bs next c h o = subst (λ (xs : List ℕ). IsJudged r at (d - length fs) xs (Some c)) (sym h.1) (opener-judged r at d fs m next c h.2 o)
-head-judged r at d fs (a_head m w n) bs next c h o = subst (λ (xs : List ℕ). IsJudged r at (d - length fs) xs (Some c)) (sym h.0) (definite-judged r at d fs m w n bs next c (definite d fs m w n bs next (is-definite w n h.1) h) o)
+head-judged r at d fs (a_head m w n) bs next c h o =
+    let (g, is) = taken-headed d fs m w n bs next h in subst (λ (xs : List ℕ). IsJudged r at (d - length fs) xs (Some c)) (sym is) (head_judged r at (d - length fs) m w n c g o)
 head-judged r at d fs (a_chunk w n) bs next c h o = absurd h
 head-judged r at d fs a_byte bs next c h o = absurd h
 head-judged r at d fs a_break bs next c h o = absurd o
@@ -163,8 +152,7 @@ cut-judged r b fs t taken to f c =
 -- ---- the item that is due
 
 pub taking-some : (d : ℕ) (fs : List Container) (mark : Mark) (bs : List ℕ) (next : Place) → IsTaking d (at_item fs) mark bs next → 0 < length bs
-taking-some d fs (a_head m Indefinite n) bs next h = omega (arith, ap length h.1, length_head m Indefinite 0)
-taking-some d fs (a_head m w n) bs next h = omega (arith, ap length h.0, length_head m w n)
+taking-some d fs (a_head m w n) bs next h = omega (arith, ap length (taken-headed d fs m w n bs next h).1, length_head m w n)
 taking-some d fs a_break bs next h = omega (arith, ap length h.0)
 taking-some d fs (a_chunk w n) bs next h = absurd h
 taking-some d fs a_byte bs next h = absurd h

@@ -1,12 +1,12 @@
 -- In which bytes of an item no key begins behind the first of them: of one head, or of what is no container.
-use Rattle.std.proofs.Common.{ℕ, suc, ◌+◌, ◌*◌, ◌-◌, ◌^◌, ◌/◌, ◌%◌, ◌≡◌, ◌<◌, ◌≤◌, true, false, List, [], ◌∷◌, ◌++◌, length, replicate, refl, sym, ap, ◌∙◌, arith, subst, inl, inr, ◌≢◌, None, IsTrue, Option, length-append, append-nil}
-use Rattle.std.proofs.lemmas.Bool.{cases_lt}
-use Rattle.cbor_head.specs.Prelude.{head, major_number, Bounds, IsIntegerOrText, AreBytes, Spelling, byte_chunks, text_chunks, array, a_map, tag, no_spellings, no_entries, spell, depth, value_of, IsSpelled, HoldsOrIndefinite, Rules, Complaint, OfKinds, form, MayFollow}
+use Rattle.std.proofs.Common.{ℕ, zero, suc, ◌+◌, ◌*◌, ◌-◌, ◌^◌, ◌/◌, ◌%◌, ◌≡◌, ◌<◌, ◌≤◌, true, false, List, [], ◌∷◌, ◌++◌, length, replicate, refl, sym, ap, ◌∙◌, arith, subst, ◌≢◌, None, IsTrue, Option, length-append, append-nil}
+use Rattle.cbor_head.specs.Prelude.{head, major_number, Bounds, IsIntegerOrText, AreBytes, Spelling, array, a_map, tag, spell, depth, value_of, IsSpelled, HoldsOrIndefinite, Rules, Complaint, OfKinds, form, MayFollow}
 use Rattle.cbor_head.specs.declared.major.Major.{Major}
-use Rattle.cbor_head.specs.declared.major.Major.TheVariants.{Bytes, Text, Array, Map}
+use Rattle.cbor_head.specs.declared.major.Major.TheVariants.{Bytes, Text}
 use Rattle.cbor_head.specs.declared.width.Width.{Width}
 use Rattle.cbor_head.specs.declared.width.Width.TheVariants.{Direct, One, Two, Four, Eight, Indefinite}
 use Rattle.cbor_grammar.specs.FirstBytes.{is_basic, is_container}
+use Rattle.cbor_grammar.proofs.ReadLaws.{length_head}
 use Rattle.cbor_grammar.proofs.KeyKinds.{number_is, byte_basic, of_kind, first_of_head}
 use Rattle.cbor_grammar.proofs.Parts.{major, width, count, head_of, body, parts, holds_of}
 use Rattle.cbor_automaton.specs.Trace.{Mark, a_head, a_chunk, a_byte, a_break}
@@ -17,9 +17,9 @@ use Rattle.cbor_automaton.proofs.Taking.{IsWithin, nothing-taken, IsTakingNext, 
 use Rattle.cbor_judging.specs.Frame.{Frame}
 use Rattle.cbor_judging.specs.Judged.{IsJudged}
 use Rattle.cbor_judging.specs.Kinds.{IsOfOneHead, HasBasicFront, AsksForKinds, KeepsToKinds}
-use Rattle.cbor_judging.specs.Place.{Container, Place, at_item, Opens, IsTaking}
+use Rattle.cbor_judging.specs.Place.{Container, Place, at_item, IsTaking}
 use Rattle.cbor_judging.proofs.Heads.{Headed, open_or, zero_bytes, cut_head, zero_length}
-use Rattle.cbor_judging.proofs.Items.{head-item}
+use Rattle.cbor_judging.proofs.Items.{taken-headed}
 use Rattle.cbor_automaton.proofs.Stands.{IsString}
 use Rattle.cbor_judging.proofs.KindFrames.{IsAround, keeps_on}
 use Rattle.cbor_automaton.proofs.Refusals.{IsTaken, taken-follows}
@@ -36,32 +36,21 @@ use Rattle.cbor_judging.proofs.Steps.{at-run}
 abbrev Behind : ℕ → ℕ → Type 0
 Behind b k = 0 < k → (24 ≤ b % 32) × (b % 32 < 28) × (k ≤ 2 ^ (b % 32 - 24))
 
-none_behind : (b low k : ℕ) → b % 32 ≡ low → low < 24 → Behind b k → k ≡ 0
-none_behind b low k e l f = elim (cases_lt 0 k) [ inl p ↦ let g = f p in absurd (omega (arith, e, l, g.0)) | inr p ↦ omega (arith, p) ]
-
-some_behind : (b low k : ℕ) → b % 32 ≡ low → Behind b k → k ≤ 2 ^ (low - 24)
-some_behind b low k e f = elim (cases_lt 0 k) [ inl p ↦ let g = f p in subst (λ (j : ℕ). k ≤ 2 ^ (j - 24)) e g.2 | inr p ↦ let none : k ≡ 0 = omega (arith, p) in subst (λ (j : ℕ). j ≤ 2 ^ (low - 24)) (sym none) (omega arith) ]
-
-no_end : (b k : ℕ) → b % 32 ≡ 31 → Behind b k → k ≡ 0
-no_end b k e f = elim (cases_lt 0 k) [ inl p ↦ let g = f p in absurd (omega (arith, e, g.1)) | inr p ↦ omega (arith, p) ]
-
 -- they are no more than the head has
-within_wide : (m : Major) (b low k size : ℕ) → 32 * major_number m + low ≡ b → low < 32 → 2 ^ (low - 24) < size → Behind b k → suc k ≤ size
-within_wide m b low k size e h s f = let most : k ≤ 2 ^ (low - 24) = some_behind b low k (omega (arith, e, h)) f in omega (arith, most, s)
+within_wide : (m : Major) (b low k size : ℕ) → 32 * major_number m + low ≡ b → low < 32 → 2 ^ (low - 24) < size → 0 < k → Behind b k → suc k ≤ size
+within_wide m b low k size e h s some f =
+    let same : b % 32 ≡ low = omega (arith, e, h) in
+    let most : k ≤ 2 ^ (low - 24) = subst (λ (j : ℕ). k ≤ 2 ^ (j - 24)) same (f some).2 in
+    omega (arith, most, s)
 
 within_head : (m : Major) (w : Width) (n b k : ℕ) (y z : List ℕ) → HoldsOrIndefinite w n → head m w n ++ z ≡ b ∷ y → Behind b k → suc k ≤ length (head m w n)
-within_head m Direct n b k y z h e f =
-    let first : 32 * major_number m + n ≡ b = cc e in
-    let none : k ≡ 0 = none_behind b n k (omega (arith, first, h)) h f in
-    omega (arith, none)
-within_head m One n b k y z h e f = within_wide m b 24 k 2 (cc e) (omega arith) (omega arith) f
-within_head m Two n b k y z h e f = within_wide m b 25 k 3 (cc e) (omega arith) (omega arith) f
-within_head m Four n b k y z h e f = within_wide m b 26 k 5 (cc e) (omega arith) (omega arith) f
-within_head m Eight n b k y z h e f = within_wide m b 27 k 9 (cc e) (omega arith) (omega arith) f
-within_head m Indefinite n b k y z h e f =
-    let first : 32 * major_number m + 31 ≡ b = cc e in
-    let none : k ≡ 0 = no_end b k (omega (arith, first)) f in
-    omega (arith, none)
+within_head m w n b zero y z h e f = length_head m w n
+within_head m Direct n b (suc k) y z h e f = let first : 32 * major_number m + n ≡ b = cc e in absurd (omega (arith, first, h, (f (omega arith)).0))
+within_head m One n b (suc k) y z h e f = within_wide m b 24 (suc k) 2 (cc e) (omega arith) (omega arith) (omega arith) f
+within_head m Two n b (suc k) y z h e f = within_wide m b 25 (suc k) 3 (cc e) (omega arith) (omega arith) (omega arith) f
+within_head m Four n b (suc k) y z h e f = within_wide m b 26 (suc k) 5 (cc e) (omega arith) (omega arith) (omega arith) f
+within_head m Eight n b (suc k) y z h e f = within_wide m b 27 (suc k) 9 (cc e) (omega arith) (omega arith) (omega arith) f
+within_head m Indefinite n b (suc k) y z h e f = let first : 32 * major_number m + 31 ≡ b = cc e in absurd (omega (arith, first, (f (omega arith)).1))
 
 -- ---- no key but the item itself begins in them
 
@@ -142,22 +131,15 @@ pub record Begins (d : ℕ) (x : List ℕ) : Type 0 where
   pub rest : List ℕ
   pub bytes : spell item ≡ x ++ rest
 
-begins_by : (d : ℕ) (x : List ℕ) (s : Spelling) → IsSpelled s → depth s ≤ d → head_of s ≡ x → Begins d x
+pub begins_by : (d : ℕ) (x : List ℕ) (s : Spelling) → IsSpelled s → depth s ≤ d → head_of s ≡ x → Begins d x
 begins_by d x s h l e = record { item = s; spelled = h; within = l; rest = body s; bytes = parts s ∙ ap (λ (y : List ℕ). y ++ body s) e }
 
-opener_begins : (d : ℕ) (cs : List Container) (m : Major) (next : Place) → Opens d cs m next → Begins (d - length cs) (head m Indefinite 0)
-opener_begins d cs Bytes next h = begins_by (d - length cs) _ (byte_chunks []) tt (omega arith) refl
-opener_begins d cs Text next h = begins_by (d - length cs) _ (text_chunks []) tt (omega arith) refl
-opener_begins d cs Array next h = begins_by (d - length cs) _ (array Indefinite no_spellings) (tt, tt) (omega (arith, h.0)) refl
-opener_begins d cs Map next h = begins_by (d - length cs) _ (a_map Indefinite no_entries) (tt, tt) (omega (arith, h.0)) refl
-opener_begins d cs _ next h = absurd h
-
-pub of_headed : {d : ℕ} {x : List ℕ} → Headed d x → Begins d x
+pub of_headed : {d : ℕ} {m : Major} {w : Width} {n : ℕ} → Headed d m w n → Begins d (head m w n)
 of_headed h = begins_by _ _ h.item h.spelled h.within h.head_is
 
 pub mark_begins : (d : ℕ) (cs : List Container) (mark : Mark) (x : List ℕ) (next : Place) → IsTaking d (at_item cs) mark x next → (mark ≡ a_break → ⊥) → Begins (d - length cs) x × IsOfOneHead x
-mark_begins d cs (a_head m Indefinite n) x next h b = (subst (Begins (d - length cs)) (sym h.1) (opener_begins d cs m next h.2), subst IsOfOneHead (sym h.1) (head_is_one m Indefinite 0 tt))
-mark_begins d cs (a_head m w n) x next h b = (subst (Begins (d - length cs)) (sym h.0) (of_headed (head-item d cs m w n (head m w n) next (record { bytes_are = refl; holds = h.1; follows = h.2 }))), subst IsOfOneHead (sym h.0) (head_is_one m w n h.1))
+mark_begins d cs (a_head m w n) x next h b =
+    let (g, is) = taken-headed d cs m w n x next h in (subst (Begins (d - length cs)) (sym is) (of_headed g), subst IsOfOneHead (sym is) (head_is_one m w n (head_bytes d cs m w n x next h).0))
 mark_begins d cs (a_chunk w n) x next h b = absurd h
 mark_begins d cs a_byte x next h b = absurd h
 mark_begins d cs a_break x next h b = absurd (b refl)

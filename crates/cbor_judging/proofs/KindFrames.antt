@@ -47,73 +47,62 @@ IsOnKey at s c = ¬ IsIntegerOrText (value_of s) × (c ≡ complaint (at + 1) at
 -- a complaint of the container ends with what stands before the item, is on it as a key, is its own, or ends behind it
 kind_split : (f : Frame) (s : Spelling) (at to : ℕ) (c : Complaint) → to ≡ at + length (before f) → OfKinds at (plug f s) c → (c.end ≤ to) ⊎ (IsKeyFrame f × IsOnKey to s c) ⊎ OfKinds to s c ⊎ (to + length (spell s) < c.end)
 kind_split (a_member w a b) s at to c e h =
-    let h0 = head Array w (spellings_count a + suc (spellings_count b)) in
-    let size = length-append h0 (spell_all a) in
-    let g : OfKindsIn (at + length h0) (with_all a (a_spelling s b)) c = subst (λ (m : ℕ). OfKindsIn (at + length (head Array w m)) (with_all a (a_spelling s b)) c) (count_with a (a_spelling s b)) h in
-    elim (in_split a (a_spelling s b) (at + length h0) to c (omega (arith, e, size)) g) [
-      | inl x ↦ inl (omega (arith, (of_kind_in a (at + length h0) c x).within, e, size))
-      | inr y ↦ elim y [ inl x ↦ inr (inr (inl x)) | inr x ↦ inr (inr (inr ((of_kind_in b (to + length (spell s)) c x).later))) ]
+    let hd = head Array w (spellings_count a + suc (spellings_count b)) in
+    let size = length-append hd (spell_all a) in
+    let g = rw (count_with a (a_spelling s b), OfKinds) at h in
+    elim (in_split a (a_spelling s b) (at + length hd) to c (omega (arith, e, size)) g) [
+      | inl x ↦ inl (omega (arith, (of_kind_in a (at + length hd) c x).within, e, size))
+      | inr (inl x) ↦ inr (inr (inl x))
+      | inr (inr x) ↦ inr (inr (inr ((of_kind_in b (to + length (spell s)) c x).later)))
     ]
 kind_split (a_key w a v b) s at to c e h =
-    let h0 = head Map w (entries_count a + suc (entries_count b)) in
-    let size = length-append h0 (spell_entries a) in
-    let g : OfKindsInEntries (at + length h0) (with_entries a (entry s v b)) c = subst (λ (m : ℕ). OfKindsInEntries (at + length (head Map w m)) (with_entries a (entry s v b)) c) (entries_with a (entry s v b)) h in
-    elim (entries_split a (entry s v b) (at + length h0) to c (omega (arith, e, size)) g) [
-      | inl x ↦ inl (omega (arith, (of_kind_entries a (at + length h0) c x).within, e, size))
-      | inr y ↦ elim y [
-        | inl x ↦ inr (inl (tt, x))
-        | inr (inl x) ↦ inr (inr (inl x))
-        | inr (inr (inl x)) ↦ inr (inr (inr (omega (arith, (of_kind v (to + length (spell s)) c x).later))))
-        | inr (inr (inr x)) ↦ inr (inr (inr (omega (arith, (of_kind_entries b (to + length (spell s) + length (spell v)) c x).later))))
-      ]
+    let hd = head Map w (entries_count a + suc (entries_count b)) in
+    let size = length-append hd (spell_entries a) in
+    let g = rw (entries_with a (entry s v b), OfKinds) at h in
+    elim (entries_split a (entry s v b) (at + length hd) to c (omega (arith, e, size)) g) [
+      | inl x ↦ inl (omega (arith, (of_kind_entries a (at + length hd) c x).within, e, size))
+      | inr (inl x) ↦ inr (inl (tt, x))
+      | inr (inr (inl x)) ↦ inr (inr (inl x))
+      | inr (inr (inr (inl x))) ↦ inr (inr (inr (omega (arith, (of_kind v (to + length (spell s)) c x).later))))
+      | inr (inr (inr (inr x))) ↦ inr (inr (inr (omega (arith, (of_kind_entries b (to + length (spell s) + length (spell v)) c x).later))))
     ]
 kind_split (a_content w a k b) s at to c e h =
-    let h0 = head Map w (entries_count a + suc (entries_count b)) in
-    let here = at + length (h0 ++ spell_entries a) in
-    let size = length-append h0 (spell_entries a) in
-    let there : here + length (spell k) ≡ to = omega (arith, e, length-append (h0 ++ spell_entries a) (spell k)) in
-    let g : OfKindsInEntries (at + length h0) (with_entries a (entry k s b)) c = subst (λ (m : ℕ). OfKindsInEntries (at + length (head Map w m)) (with_entries a (entry k s b)) c) (entries_with a (entry k s b)) h in
-    elim (entries_split a (entry k s b) (at + length h0) here c (omega (arith, size)) g) [
-      | inl x ↦ inl (omega (arith, (of_kind_entries a (at + length h0) c x).within, there, size))
-      | inr y ↦ elim y [
-        | inl x ↦ inl (omega (arith, kind_end c here x.1, there, length_spell k))
-        | inr (inl x) ↦ inl (omega (arith, (of_kind k here c x).within, there))
-        | inr (inr (inl x)) ↦ inr (inr (inl (subst (λ (m : ℕ). OfKinds m s c) there x)))
-        | inr (inr (inr x)) ↦ inr (inr (inr (omega (arith, (of_kind_entries b (here + length (spell k) + length (spell s)) c x).later, there))))
-      ]
+    let hd = head Map w (entries_count a + suc (entries_count b)) in
+    let here = at + length (hd ++ spell_entries a) in
+    let size = length-append hd (spell_entries a) in
+    let there : here + length (spell k) ≡ to = omega (arith, e, length-append (hd ++ spell_entries a) (spell k)) in
+    let g = rw (entries_with a (entry k s b), OfKinds) at h in
+    elim (entries_split a (entry k s b) (at + length hd) here c (omega (arith, size)) g) [
+      | inl x ↦ inl (omega (arith, (of_kind_entries a (at + length hd) c x).within, there, size))
+      | inr (inl x) ↦ inl (omega (arith, kind_end c here x.1, there, length_spell k))
+      | inr (inr (inl x)) ↦ inl (omega (arith, (of_kind k here c x).within, there))
+      | inr (inr (inr (inl x))) ↦ inr (inr (inl (subst (λ (m : ℕ). OfKinds m s c) there x)))
+      | inr (inr (inr (inr x))) ↦ inr (inr (inr (omega (arith, (of_kind_entries b (here + length (spell k) + length (spell s)) c x).later, there))))
     ]
 kind_split (tagged w n) s at to c e h = inr (inr (inl (subst (λ (m : ℕ). OfKinds m s c) (sym e) h)))
 
 -- and those of the item, and on it as a key, are of the container
 kind_plug : (f : Frame) (s : Spelling) (at to : ℕ) (c : Complaint) → to ≡ at + length (before f) → (IsKeyFrame f × IsOnKey to s c) ⊎ OfKinds to s c → OfKinds at (plug f s) c
-kind_plug (a_member w a b) s at to c e h =
-    let h0 = head Array w (spellings_count a + suc (spellings_count b)) in
-    let g : OfKindsIn to (a_spelling s b) c = elim h [ inl x ↦ absurd x.0 | inr x ↦ inl x ] in
-    subst (λ (m : ℕ). OfKindsIn (at + length (head Array w m)) (with_all a (a_spelling s b)) c) (sym (count_with a (a_spelling s b)))
-    (in_right a (a_spelling s b) (at + length h0) to c (omega (arith, e, length-append h0 (spell_all a))) g)
+kind_plug (a_member w a b) s at to c e (inr h) =
+    let hd = head Array w (spellings_count a + suc (spellings_count b)) in
+    rw (count_with a (a_spelling s b), OfKinds) (in_right a (a_spelling s b) (at + length hd) to c (omega (arith, e, length-append hd (spell_all a))) (inl h))
 kind_plug (a_key w a v b) s at to c e h =
-    let h0 = head Map w (entries_count a + suc (entries_count b)) in
+    let hd = head Map w (entries_count a + suc (entries_count b)) in
     let g : OfKindsInEntries to (entry s v b) c = elim h [ inl x ↦ inl x.1 | inr x ↦ inr (inl x) ] in
-    subst (λ (m : ℕ). OfKindsInEntries (at + length (head Map w m)) (with_entries a (entry s v b)) c) (sym (entries_with a (entry s v b)))
-    (entries_right a (entry s v b) (at + length h0) to c (omega (arith, e, length-append h0 (spell_entries a))) g)
-kind_plug (a_content w a k b) s at to c e h =
-    let h0 = head Map w (entries_count a + suc (entries_count b)) in
-    let here = at + length (h0 ++ spell_entries a) in
-    let there : to ≡ here + length (spell k) = omega (arith, e, length-append (h0 ++ spell_entries a) (spell k)) in
-    let g : OfKinds to s c = elim h [ inl x ↦ absurd x.0 | inr x ↦ x ] in
-    subst (λ (m : ℕ). OfKindsInEntries (at + length (head Map w m)) (with_entries a (entry k s b)) c) (sym (entries_with a (entry k s b)))
-    (entries_right a (entry k s b) (at + length h0) here c (omega (arith, length-append h0 (spell_entries a))) (inr (inr (inl (subst (λ (m : ℕ). OfKinds m s c) there g)))))
-kind_plug (tagged w n) s at to c e h = elim h [ inl x ↦ absurd x.0 | inr x ↦ subst (λ (m : ℕ). OfKinds m s c) e x ]
+    rw (entries_with a (entry s v b), OfKinds) (entries_right a (entry s v b) (at + length hd) to c (omega (arith, e, length-append hd (spell_entries a))) g)
+kind_plug (a_content w a k b) s at to c e (inr h) =
+    let hd = head Map w (entries_count a + suc (entries_count b)) in
+    let there : to ≡ at + length (hd ++ spell_entries a) + length (spell k) = omega (arith, e, length-append (hd ++ spell_entries a) (spell k)) in
+    rw (entries_with a (entry k s b), OfKinds) (entries_right a (entry k s b) (at + length hd) (at + length (hd ++ spell_entries a)) c (omega (arith, length-append hd (spell_entries a))) (inr (inr (inl (subst (λ (m : ℕ). OfKinds m s c) there h)))))
+kind_plug (tagged w n) s at to c e (inr h) = subst (λ (m : ℕ). OfKinds m s c) e h
+kind_plug _ s at to c e (inl h) = absurd h.0
 
 -- ---- of all containers
 
 before_some : (f : Frame) → 1 ≤ length (before f)
-before_some (a_member w a b) =
-    let n = spellings_count a + suc (spellings_count b) in omega (arith, length_head Array w n, length-append (head Array w n) (spell_all a))
-before_some (a_key w a v b) =
-    let n = entries_count a + suc (entries_count b) in omega (arith, length_head Map w n, length-append (head Map w n) (spell_entries a))
-before_some (a_content w a k b) =
-    let n = entries_count a + suc (entries_count b) in omega (arith, length_head Map w n, length-append (head Map w n) (spell_entries a), length-append (head Map w n ++ spell_entries a) (spell k))
+before_some (a_member w a b) = omega (arith, length_head Array w (spellings_count a + suc (spellings_count b)), length-append {A = ℕ})
+before_some (a_key w a v b) = omega (arith, length_head Map w (entries_count a + suc (entries_count b)), length-append {A = ℕ})
+before_some (a_content w a k b) = omega (arith, length_head Map w (entries_count a + suc (entries_count b)), length-append {A = ℕ})
 before_some (tagged w n) = length_head Tag w n
 
 -- their bytes around the item

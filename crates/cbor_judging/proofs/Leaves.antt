@@ -2,48 +2,19 @@
 use Rattle.std.proofs.Common.{ℕ, ◌+◌, ◌≡◌, ◌<◌, ◌≤◌, ◌⊎◌, Option, Some, None, List, [], ◌∷◌, ◌++◌, length, flat_map, refl, sym, ap, ◌∙◌, arith, subst, inl, inr, length-append, append_assoc, append-nil, suc, Bool, true, false, true≢false, replicate, IsUtf8}
 use Rattle.std.specs.List.{AllByRecursion}
 use Rattle.std.proofs.lemmas.Grind.{flat_map-append}
-use Rattle.cbor_head.specs.Prelude.{head, Holds, Chunk, IsChunk, Spelling, bytes, text, byte_chunks, text_chunks, array, a_map, spell, chunk_bytes, chunked, chunks_joined, IsSpelled, HoldsOrIndefinite, spellings_count, entries_count, depth, Rules, Complaint, OfHead, OfIndefinite, OfCount, OfPayload, OfString, OfChunks, Complains, AreBytes, value_of}
+use Rattle.cbor_head.specs.Prelude.{head, Holds, Chunk, IsChunk, Spelling, bytes, text, byte_chunks, text_chunks, spell, chunk_bytes, chunked, chunks_joined, IsSpelled, depth, Rules, Complaint, OfHead, OfIndefinite, OfPayload, OfString, OfChunks, Complains, AreBytes, value_of}
 use Rattle.cbor_judging.specs.Judged.{IsFinding, IsJudged, Never}
 use Rattle.cbor_judging.specs.Reading.{string_major, string_value}
 use Rattle.cbor_head.specs.declared.major.Major.{Major}
-use Rattle.cbor_head.specs.declared.major.Major.TheVariants.{Text, Array, Map}
+use Rattle.cbor_head.specs.declared.major.Major.TheVariants.{Text}
 use Rattle.cbor_head.specs.declared.width.Width.{Width}
 use Rattle.cbor_head.specs.declared.width.Width.TheVariants.{Indefinite}
-use Rattle.cbor_grammar.proofs.Agree.{head_of, body, parts, later, payload_end, string_later}
-use Rattle.cbor_grammar.proofs.OneFirst.{last, count_last}
-use Rattle.cbor_grammar.proofs.Reasons.{ranked, payload_rank}
-use Rattle.cbor_judging.proofs.Judged.{zeros, zeros_count, zeros_spelled, zeros_flat, zero_pairs, pairs_count, pairs_spelled, pairs_flat}
+use Rattle.cbor_grammar.proofs.Agree.{payload_end, string_later}
+use Rattle.cbor_grammar.proofs.Reasons.{payload_rank}
 use Rattle.cbor_automaton.specs.Automaton.{Frame, State, at_item, in_head, in_simple, in_chunks}
 use Rattle.cbor_automaton.proofs.Arguments.{number}
 use Rattle.cbor_automaton.proofs.Taking.{IsWithin}
 use Rattle.cbor_judging.proofs.Heads.{zero_bytes, zero_length}
-
--- ---- heads
-
--- an item's complaint on its head comes first
-pub head_complains : (s : Spelling) (r : Rules) (at d : ℕ) (c : Complaint) → IsSpelled s → depth s ≤ d → Complains r at s c → last c ≡ at + length (head_of s) → IsJudged r at d (head_of s) (Some c)
-head_complains s r at d c h l o e =
-    let from : at + length (head_of s) ≤ c.end = later s r at c o in
-    record {
-      item = s;
-      rest = body s;
-      is = record { spelled = h; within = l; bytes_are = parts s };
-      finding = record { holds = o; ends = omega (arith, e); first = λ x g m. inr (omega (arith, e, from, m, later s r at x g), omega (arith, e, from, ranked r at s x g)) };
-    }
-
-pub array_head_complains : (w : Width) (n : ℕ) (r : Rules) (at d : ℕ) (c : Complaint) → HoldsOrIndefinite w n → 1 ≤ d → OfCount r at Array w n c → IsJudged r at d (head Array w n) (Some c)
-array_head_complains w n r at d c h l o =
-    let i : HoldsOrIndefinite w (spellings_count (zeros n)) = subst (HoldsOrIndefinite w) (sym (zeros_count n)) h in
-    let p : OfCount r at Array w (spellings_count (zeros n)) c = subst (λ (m : ℕ). OfCount r at Array w m c) (sym (zeros_count n)) o in
-    subst (λ (m : ℕ). IsJudged r at d (head Array w m) (Some c)) (zeros_count n)
-    (head_complains (array w (zeros n)) r at d c (i, zeros_spelled n) (omega (arith, zeros_flat n, l)) (inl p) (count_last r at Array w (spellings_count (zeros n)) c p))
-
-pub map_head_complains : (w : Width) (n : ℕ) (r : Rules) (at d : ℕ) (c : Complaint) → HoldsOrIndefinite w n → 1 ≤ d → OfCount r at Map w n c → IsJudged r at d (head Map w n) (Some c)
-map_head_complains w n r at d c h l o =
-    let i : HoldsOrIndefinite w (entries_count (zero_pairs n)) = subst (HoldsOrIndefinite w) (sym (pairs_count n)) h in
-    let p : OfCount r at Map w (entries_count (zero_pairs n)) c = subst (λ (m : ℕ). OfCount r at Map w m c) (sym (pairs_count n)) o in
-    subst (λ (m : ℕ). IsJudged r at d (head Map w m) (Some c)) (pairs_count n)
-    (head_complains (a_map w (zero_pairs n)) r at d c (i, pairs_spelled n) (omega (arith, pairs_flat n, l)) (inl p) (count_last r at Map w (entries_count (zero_pairs n)) c p))
 
 -- ---- definite strings
 
@@ -153,47 +124,6 @@ chunk_regroup : (h a p rest z : List ℕ) → (h ++ (a ++ ((p ++ rest) ++ []))) 
 chunk_regroup h a p rest z =
     ap (λ (x : List ℕ). (h ++ (a ++ x)) ++ z) (append-nil (p ++ rest)) ∙ ap (λ (x : List ℕ). x ++ z) (sym (append_assoc h a (p ++ rest)) ∙ sym (append_assoc (h ++ a) p rest)) ∙ append_assoc ((h ++ a) ++ p) rest z
 
--- what the next chunk has, whole or cut behind p, is the string's
-pub chunk_judged : (m : Major) (made : List Chunk → Spelling) → IsChunked m made → (done : List Chunk) (r : Rules) (at d : ℕ) → AllByRecursion IsChunk done → Never (OfIndefinite r at) → Never (OfChunks r (at + 1) m done)
-    → (k : Chunk) (p rest : List ℕ) → IsChunk k → chunk_bytes m k ≡ p ++ rest → (found : Option Complaint)
-    → IsFinding (OfString r (at + length (chunks_bytes m done)) m k.width k.payload) (at + length (chunks_bytes m done) + length p) (at + length (chunks_bytes m done) + length (chunk_bytes m k)) found
-    → IsJudged r at d (chunks_bytes m done ++ p) found
-chunk_judged m made kind done r at d are clean_opener clean k p rest is e found h =
-    let to = at + length (chunks_bytes m done) in
-    let there : to ≡ at + 1 + length (flat_map (chunk_bytes m) done) = omega (arith, length-append (head m Indefinite 0) (flat_map (chunk_bytes m) done), kind.opener) in
-    let whole : spell (made (done ++ k ∷ [])) ≡ (chunks_bytes m done ++ p) ++ (rest ++ 0xff ∷ []) =
-    kind.bytes_are (done ++ k ∷ []) ∙ ap (λ (x : List ℕ). (head m Indefinite 0 ++ x) ++ (0xff ∷ [])) (flat_map-append (chunk_bytes m) done (k ∷ []))
-    ∙ ap (λ (x : List ℕ). (head m Indefinite 0 ++ (flat_map (chunk_bytes m) done ++ (x ++ []))) ++ (0xff ∷ [])) e
-    ∙ chunk_regroup (head m Indefinite 0) (flat_map (chunk_bytes m) done) p rest (0xff ∷ []) in
-    record {
-      item = made (done ++ k ∷ []);
-      rest = rest ++ 0xff ∷ [];
-      is = record { spelled = kind.spelled (done ++ k ∷ []) (are_chunks done (k ∷ []) are (is, tt)); within = omega (arith, kind.flat (done ++ k ∷ [])); bytes_are = whole };
-      finding = go found there (ap length whole ∙ length-append (chunks_bytes m done ++ p) (rest ++ 0xff ∷ []) ∙ ap (λ (n : ℕ). length (chunks_bytes m done ++ p) + n) (length-append rest (0xff ∷ []))) h;
-    }
-  where
-    split : (c : Complaint) → at + length (chunks_bytes m done) ≡ at + 1 + length (flat_map (chunk_bytes m) done) → Complains r at (made (done ++ k ∷ [])) c → OfString r (at + length (chunks_bytes m done)) m k.width k.payload c
-    split c there g = elim (kind.has r at (done ++ k ∷ []) c g) [
-      | inl x ↦ absurd (clean_opener c x)
-      | inr x ↦ elim (chunks_split done (k ∷ []) r (at + 1) (at + length (chunks_bytes m done)) m c there x) [
-        | inl y ↦ absurd (clean c y)
-        | inr y ↦ elim y [ inl z ↦ z | inr z ↦ absurd z ]
-      ]
-    ]
-
-    go : (found : Option Complaint) → at + length (chunks_bytes m done) ≡ at + 1 + length (flat_map (chunk_bytes m) done)
-        → length (spell (made (done ++ k ∷ []))) ≡ length (chunks_bytes m done ++ p) + (length rest + 1)
-        → IsFinding (OfString r (at + length (chunks_bytes m done)) m k.width k.payload) (at + length (chunks_bytes m done) + length p) (at + length (chunks_bytes m done) + length (chunk_bytes m k)) found
-        → IsFinding (Complains r at (made (done ++ k ∷ []))) (at + length (chunks_bytes m done ++ p)) (at + length (spell (made (done ++ k ∷ [])))) found
-    go (Some c) there size h =
-        let ends : c.end ≤ at + length (chunks_bytes m done) + length p = h.ends in
-        record {
-          holds = kind.back r at (done ++ k ∷ []) c (inr (chunks_right done (k ∷ []) r (at + 1) (at + length (chunks_bytes m done)) m c there (inl h.holds)));
-          ends = omega (arith, ends, length-append (chunks_bytes m done) p);
-          first = λ x g l. h.first x (split x there g) (omega (arith, l, length-append (chunks_bytes m done) p));
-        }
-    go None there size h = (omega (arith, size), λ x g. omega (arith, h.1 x (split x there g), length-append (chunks_bytes m done) p))
-
 -- ---- a chunk, cut or whole: what it has is the string's
 
 abbrev pub chunk : Width → List ℕ → Chunk
@@ -232,6 +162,49 @@ module _ (is_text : Bool) (done : List Chunk) (r : Rules) (at d : ℕ) (so_far :
   kind : IsChunked m made
   kind = is-chunked is_text
 
+  abbrev to : ℕ
+  to = at + length (chunks_bytes m done)
+
+  there : to ≡ at + 1 + length (flat_map (chunk_bytes m) done)
+  there = omega (arith, length-append (head m Indefinite 0) (flat_map (chunk_bytes m) done), kind.opener)
+
+  -- what the next chunk has, whole or cut behind p, is the string's
+  module _ (k : Chunk) (p rest : List ℕ) (is : IsChunk k) (e : chunk_bytes m k ≡ p ++ rest) where
+    abbrev all : List Chunk
+    all = done ++ k ∷ []
+
+    whole : spell (made all) ≡ (chunks_bytes m done ++ p) ++ (rest ++ 0xff ∷ [])
+    whole =
+        kind.bytes_are all ∙ ap (λ (x : List ℕ). (head m Indefinite 0 ++ x) ++ (0xff ∷ [])) (flat_map-append (chunk_bytes m) done (k ∷ []))
+        ∙ ap (λ (x : List ℕ). (head m Indefinite 0 ++ (flat_map (chunk_bytes m) done ++ (x ++ []))) ++ (0xff ∷ [])) e
+        ∙ chunk_regroup (head m Indefinite 0) (flat_map (chunk_bytes m) done) p rest (0xff ∷ [])
+
+    split : (c : Complaint) → Complains r at (made all) c → OfString r to m k.width k.payload c
+    split c g = elim (kind.has r at all c g) [
+      | inl x ↦ absurd (so_far.opener_clean c x)
+      | inr x ↦ elim (chunks_split done (k ∷ []) r (at + 1) to m c there x) [ inl y ↦ absurd (so_far.clean c y) | inr (inl z) ↦ z | inr (inr z) ↦ absurd z ]
+    ]
+
+    found_so : (found : Option Complaint) → IsFinding (OfString r to m k.width k.payload) (to + length p) (to + length (chunk_bytes m k)) found
+        → IsFinding (Complains r at (made all)) (at + length (chunks_bytes m done ++ p)) (at + length (spell (made all))) found
+    found_so (Some c) h =
+        let ends : c.end ≤ to + length p = h.ends in
+        record {
+          holds = kind.back r at all c (inr (chunks_right done (k ∷ []) r (at + 1) to m c there (inl h.holds)));
+          ends = omega (arith, ends, length-append (chunks_bytes m done) p);
+          first = λ x g l. h.first x (split x g) (omega (arith, l, length-append (chunks_bytes m done) p));
+        }
+    found_so None h =
+        (omega (arith, ap length whole, length-append (chunks_bytes m done ++ p) (rest ++ 0xff ∷ []), length-append rest (0xff ∷ [])), λ x g. omega (arith, h.1 x (split x g), length-append (chunks_bytes m done) p))
+
+    pub chunk_judged : (found : Option Complaint) → IsFinding (OfString r to m k.width k.payload) (to + length p) (to + length (chunk_bytes m k)) found → IsJudged r at d (chunks_bytes m done ++ p) found
+    chunk_judged found h = record {
+      item = made all;
+      rest = rest ++ 0xff ∷ [];
+      is = record { spelled = kind.spelled all (are_chunks done (k ∷ []) so_far.are (is, tt)); within = omega (arith, kind.flat all); bytes_are = whole };
+      finding = found_so found h;
+    }
+
   -- between two chunks
   pub between : IsJudged r at d (chunks_bytes m done) None
   between = record {
@@ -245,14 +218,13 @@ module _ (is_text : Bool) (done : List Chunk) (r : Rules) (at d : ℕ) (so_far :
   }
 
   -- the head of the next chunk, cut
-  cut : (w : Width) (n : ℕ) (p more : List ℕ) → Holds w n → p ++ more ≡ head m w n → 0 < length more → IsJudged r at d (chunks_bytes m done ++ p) None
+  pub cut : (w : Width) (n : ℕ) (p more : List ℕ) → Holds w n → p ++ more ≡ head m w n → 0 < length more → IsJudged r at d (chunks_bytes m done ++ p) None
   cut w n p more h e some =
       let q : List ℕ = replicate n 0 in
       let same : length q ≡ n = zero_length n in
       let head_is : head m w (length q) ≡ p ++ more = ap (head m w) same ∙ sym e in
-      let to = at + length (chunks_bytes m done) in
       let bytes_are : chunk_bytes m (chunk w q) ≡ p ++ (more ++ q) = ap (λ (x : List ℕ). x ++ q) head_is ∙ append_assoc p more q in
-      chunk_judged m made kind done r at d so_far.are so_far.opener_clean so_far.clean (chunk w q) p (more ++ q) (subst (Holds w) (sym same) h, zero_bytes n) bytes_are None (
+      chunk_judged (chunk w q) p (more ++ q) (subst (Holds w) (sym same) h, zero_bytes n) bytes_are None (
         omega (arith, some, ap length bytes_are ∙ length-append p (more ++ q), length-append more q),
         λ c g. omega (arith, some, string_later r to m w q c g, ap length head_is ∙ length-append p more),
       )
@@ -276,9 +248,8 @@ module _ (is_text : Bool) (done : List Chunk) (r : Rules) (at d : ℕ) (so_far :
       → IsJudged r at d (chunks_bytes m done ++ (head m w (length (q ++ more)) ++ q)) None
   cut_payload w q more h some no_head =
       let hd = head m w (length (q ++ more)) in
-      let to = at + length (chunks_bytes m done) in
       let bytes_are : chunk_bytes m (chunk w (q ++ more)) ≡ (hd ++ q) ++ more = sym (append_assoc hd q more) in
-      chunk_judged m made kind done r at d so_far.are so_far.opener_clean so_far.clean (chunk w (q ++ more)) (hd ++ q) more h bytes_are None (
+      chunk_judged (chunk w (q ++ more)) (hd ++ q) more h bytes_are None (
         omega (arith, some, length-append hd (q ++ more), length-append q more, length-append hd q),
         λ c g. elim (of_string r to m w (q ++ more) c g) [
           | inl x ↦ absurd (no_head c x)
@@ -292,10 +263,9 @@ module _ (is_text : Bool) (done : List Chunk) (r : Rules) (at d : ℕ) (so_far :
       → IsJudged r at d (chunks_bytes m done ++ (head m w (length q) ++ q)) (Some c)
   chunk_complains e w q c h no_head pay =
       let hd = head m w (length q) in
-      let to = at + length (chunks_bytes m done) in
       let end = payload_end r (to + length hd) q c pay in
       let tight = payload_rank r (to + length hd) q c pay in
-      chunk_judged m made kind done r at d so_far.are so_far.opener_clean so_far.clean (chunk w q) (hd ++ q) [] h (sym (append-nil (hd ++ q))) (Some c)
+      chunk_judged (chunk w q) (hd ++ q) [] h (sym (append-nil (hd ++ q))) (Some c)
       (record {
         holds = of-text is_text w q r to c e pay;
         ends = omega (arith, end, length-append hd q);
@@ -310,14 +280,12 @@ module _ (is_text : Bool) (done : List Chunk) (r : Rules) (at d : ℕ) (so_far :
   chunks_more k h no_head utf8 = record {
     are = are_chunks done (k ∷ []) so_far.are (h, tt);
     opener_clean = so_far.opener_clean;
-    clean = λ c g. elim (chunks_split done (k ∷ []) r (at + 1) (at + length (chunks_bytes m done)) m c there g) [
+    clean = λ c g. elim (chunks_split done (k ∷ []) r (at + 1) to m c there g) [
       | inl x ↦ so_far.clean c x
-      | inr x ↦ elim x [ inl y ↦ string-clean is_text k.width k.payload r (at + length (chunks_bytes m done)) no_head utf8 c y | inr y ↦ y ]
+      | inr (inl y) ↦ string-clean is_text k.width k.payload r to no_head utf8 c y
+      | inr (inr y) ↦ y
     ];
   }
-    where
-      there : at + length (chunks_bytes m done) ≡ at + 1 + length (flat_map (chunk_bytes m) done)
-      there = omega (arith, length-append (head m Indefinite 0) (flat_map (chunk_bytes m) done), kind.opener)
 
   -- the break
   pub chunks_whole : IsSpelled (made done) × Never (Complains r at (made done))

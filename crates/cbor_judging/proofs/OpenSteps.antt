@@ -1,12 +1,14 @@
 -- How the open containers change as members, keys and values end, and what stays known of them.
 use Rattle.std.proofs.Common.{ℕ, suc, ◌+◌, ◌≡◌, ◌≤◌, ◌⊎◌, List, [], ◌∷◌, ◌++◌, length, refl, sym, ap, ◌∙◌, arith, subst, inl, inr, length-append, append_assoc, append-nil, ◌<◌}
-use Rattle.cbor_head.specs.Prelude.{head, Holds, Spelling, Spellings, SpelledEntries, no_spellings, a_spelling, no_entries, entry, spell, spell_all, spell_entries, spellings_count, entries_count, IsSpelled, HoldsOrIndefinite, depth, Rules, Complaint, OfCount, Complains, ComplainsIn, OfHead}
+use Rattle.cbor_head.specs.Prelude.{head, Holds, Spelling, Spellings, SpelledEntries, no_spellings, a_spelling, no_entries, entry, spell, spell_all, spell_entries, spellings_count, entries_count, IsSpelled, HoldsOrIndefinite, depth, Rules, Complaint, OfCount, Complains, OfHead}
 use Rattle.cbor_head.specs.declared.major.Major.TheVariants.{Array, Map, Tag}
 use Rattle.cbor_head.specs.declared.width.Width.{Width}
 use Rattle.cbor_judging.specs.Frame.{Frame, a_member, a_key, a_content, tagged, with_all, with_entries, plug, before, IsFrame, depth_beside, OfKeyAt, OfBack}
 use Rattle.cbor_judging.specs.OpenMaps.{Placed, placed, keys_at, open_keys, AreDistinct, ComplainsWithin, OfClosed, before_all, ArePath, AreClosedClean, AreOpenDistinct, AreOpen}
-use Rattle.cbor_judging.proofs.Frames.{count_with, spell_with, entries_with, spell_entries_with, members_split, plug_split, depth_with, spelled_with, spelled_entries_with, depth_entries_with}
+use Rattle.cbor_judging.proofs.Frames.{count_with, entries_with, members_split, plug_split, depth_with, spelled_with, spelled_entries_with, depth_entries_with}
 use Rattle.cbor_judging.specs.Judged.{Never}
+use Rattle.cbor_judging.specs.SoFar.{array_bytes, map_bytes}
+use Rattle.cbor_judging.proofs.Loops.{array_bytes-more, map_bytes-more}
 use Rattle.cbor_judging.proofs.OpenKeys.{front_apart}
 use Rattle.cbor_judging.proofs.Judged.{zero_item, zeros, zero_pairs, zeros_count, zeros_spelled, zeros_flat, pairs_count, pairs_spelled, pairs_flat}
 
@@ -48,23 +50,19 @@ pair_count a k v m = omega (arith, entries_with a (entry k v no_entries))
 
 -- a member: the next is due
 pub member_before : (w : Width) (a : Spellings) (s t : Spelling) (b : Spellings) → before (a_member w (with_all a (a_spelling s no_spellings)) b) ≡ before (a_member w a (a_spelling t b)) ++ spell s
-member_before w a s t b =
-    ap (λ (n : ℕ). head Array w n ++ spell_all (with_all a (a_spelling s no_spellings))) (member_count a s (spellings_count b))
-    ∙ ap (λ (x : List ℕ). head Array w (spellings_count a + suc (suc (spellings_count b))) ++ x) (spell_with a (a_spelling s no_spellings) ∙ ap (λ (x : List ℕ). spell_all a ++ x) (append-nil (spell s)))
-    ∙ sym (append_assoc (head Array w (spellings_count a + suc (suc (spellings_count b)))) (spell_all a) (spell s))
+member_before w a s t b = ap (λ (n : ℕ). array_bytes w n (with_all a (a_spelling s no_spellings))) (member_count a s (spellings_count b)) ∙ array_bytes-more w (spellings_count a + suc (suc (spellings_count b))) a s
 
 pub member_clean : (w : Width) (a : Spellings) (s t : Spelling) (b : Spellings) (r : Rules) (at : ℕ) → Never (OfClosed r at (a_member w a (a_spelling t b)))
     → Never (Complains r (at + length (before (a_member w a (a_spelling t b)))) s) → Never (OfClosed r at (a_member w (with_all a (a_spelling s no_spellings)) b))
 member_clean w a s t b r at clean none c h =
-    let n = spellings_count a + suc (suc (spellings_count b)) in
-    let next = with_all a (a_spelling s no_spellings) in
-    let g : OfCount r at Array w n c ⊎ ComplainsIn r (at + length (head Array w n)) next c =
-    subst (λ (m : ℕ). OfCount r at Array w m c ⊎ ComplainsIn r (at + length (head Array w m)) next c) (member_count a s (spellings_count b)) h in
+    let hd = head Array w (spellings_count a + suc (suc (spellings_count b))) in
+    let g = rw (member_count a s (spellings_count b)) at h in
     elim g [
       | inl x ↦ clean c (inl x)
-      | inr x ↦ elim (members_split a (a_spelling s no_spellings) r (at + length (head Array w n)) (at + length (head Array w n ++ spell_all a)) c (omega (arith, length-append (head Array w n) (spell_all a))) x) [
+      | inr x ↦ elim (members_split a (a_spelling s no_spellings) r (at + length hd) (at + length (hd ++ spell_all a)) c (omega (arith, length-append hd (spell_all a))) x) [
         | inl y ↦ clean c (inr y)
-        | inr y ↦ elim y [ inl z ↦ none c z | inr z ↦ absurd z ]
+        | inr (inl y) ↦ none c y
+        | inr (inr y) ↦ absurd y
       ]
     ]
 
@@ -88,11 +86,7 @@ within_with (entry k v es) fs r at to c e (inr (inr h)) =
 
 pub content_before : (w : Width) (a : SpelledEntries) (k v l m o : Spelling) (b : SpelledEntries) → before (a_key w (with_entries a (entry k v no_entries)) o b) ≡ before (a_content w a k (entry l m b)) ++ spell v
 content_before w a k v l m o b =
-    let h = head Map w (entries_count a + suc (suc (entries_count b))) in
-    ap (λ (n : ℕ). head Map w n ++ spell_entries (with_entries a (entry k v no_entries))) (pair_count a k v (entries_count b))
-    ∙ ap (λ (x : List ℕ). h ++ x) (spell_entries_with a (entry k v no_entries) ∙ ap (λ (x : List ℕ). spell_entries a ++ x) (append-nil (spell k ++ spell v)) ∙ sym (append_assoc (spell_entries a) (spell k) (spell v)))
-    ∙ sym (append_assoc h (spell_entries a ++ spell k) (spell v))
-    ∙ ap (λ (x : List ℕ). x ++ spell v) (sym (append_assoc h (spell_entries a) (spell k)))
+    ap (λ (n : ℕ). map_bytes w n (with_entries a (entry k v no_entries))) (pair_count a k v (entries_count b)) ∙ map_bytes-more w (entries_count a + suc (suc (entries_count b))) a k v
 
 pub content_keys : (w : Width) (a : SpelledEntries) (k v l m o : Spelling) (b : SpelledEntries) (at : ℕ) → open_keys at (a_key w (with_entries a (entry k v no_entries)) o b) ≡ open_keys at (a_content w a k (entry l m b))
 content_keys w a k v l m o b at =
@@ -103,16 +97,13 @@ content_keys w a k v l m o b at =
 pub content_clean : (w : Width) (a : SpelledEntries) (k v l m o : Spelling) (b : SpelledEntries) (r : Rules) (at : ℕ) → Never (OfClosed r at (a_content w a k (entry l m b)))
     → Never (Complains r (at + length (before (a_content w a k (entry l m b)))) v) → Never (OfClosed r at (a_key w (with_entries a (entry k v no_entries)) o b))
 content_clean w a k v l m o b r at clean none c h =
-    let n = entries_count a + suc (suc (entries_count b)) in
-    let h0 = head Map w n in
-    let here = at + length (h0 ++ spell_entries a) in
-    let next = with_entries a (entry k v no_entries) in
-    let there : here + length (spell k) ≡ at + length (h0 ++ spell_entries a ++ spell k) = omega (arith, length-append (h0 ++ spell_entries a) (spell k)) in
-    let g : OfCount r at Map w n c ⊎ ComplainsWithin r (at + length h0) next c =
-    subst (λ (m : ℕ). OfCount r at Map w m c ⊎ ComplainsWithin r (at + length (head Map w m)) next c) (pair_count a k v (entries_count b)) h in
+    let hd = head Map w (entries_count a + suc (suc (entries_count b))) in
+    let here = at + length (hd ++ spell_entries a) in
+    let there : here + length (spell k) ≡ at + length (hd ++ spell_entries a ++ spell k) = omega (arith, length-append (hd ++ spell_entries a) (spell k)) in
+    let g = rw (pair_count a k v (entries_count b)) at h in
     elim g [
       | inl x ↦ clean c (inl x)
-      | inr x ↦ elim (within_with a (entry k v no_entries) r (at + length h0) here c (omega (arith, length-append h0 (spell_entries a))) x) [
+      | inr x ↦ elim (within_with a (entry k v no_entries) r (at + length hd) here c (omega (arith, length-append hd (spell_entries a))) x) [
         | inl y ↦ clean c (inr (inl y))
         | inr (inl y) ↦ clean c (inr (inr y))
         | inr (inr (inl y)) ↦ none c (subst (λ (m : ℕ). Complains r m v c) there y)

@@ -1,14 +1,15 @@
 -- Where the automaton stands before the item that is due.
-use Rattle.std.proofs.Common.{◌≡◌, ℕ, suc, ◌+◌, ◌-◌, ◌<◌, ◌≤◌, true, false, cond, List, [], ◌∷◌, ◌++◌, length, refl, sym, ap, ◌∙◌, subst, arith, append-nil}
-use Rattle.cbor_head.specs.Prelude.{Rules, Holds, head, Spelling, Spellings, SpelledEntries, no_spellings, a_spelling, no_entries, entry, spell, spell_all, spell_entries, spellings_count, entries_count, IsSpelled, AreSpelled, AreEntriesSpelled, depth, depth_all, depth_entries, HoldsOrIndefinite, initial_reason}
+use Rattle.std.proofs.Common.{◌≡◌, ℕ, suc, ◌+◌, ◌-◌, ◌<◌, ◌≤◌, Bool, true, false, cond, List, [], ◌∷◌, ◌++◌, length, refl, sym, ap, ◌∙◌, subst, arith, append-nil}
+use Rattle.cbor_head.specs.Prelude.{Rules, Holds, head, Spelling, Spellings, SpelledEntries, no_spellings, spell, spell_all, spell_entries, spellings_count, entries_count, IsSpelled, AreSpelled, AreEntriesSpelled, depth, depth_all, depth_entries, HoldsOrIndefinite, initial_reason}
 use Rattle.cbor_head.specs.declared.major.Major.{Major}
 use Rattle.cbor_head.specs.declared.major.Major.TheVariants.{Array, Map, Tag}
 use Rattle.cbor_head.specs.declared.width.Width.{Width}
 use Rattle.cbor_head.specs.declared.width.Width.TheVariants.{Indefinite}
-use Rattle.cbor_automaton.specs.Trace.{Mark, a_head, trace}
+use Rattle.cbor_automaton.specs.Trace.{Mark, a_head, trace, trace_all}
 use Rattle.cbor_automaton.specs.Automaton.{Frame, counted, indefinite_array, indefinite_map, State, start, at_item, refuses, tells, close, expect, after, has_room, numbered_tail, tail, and_then, run, reached}
 use Rattle.cbor_automaton.proofs.Beginnings.{onwards, run-append, telling_all-reached}
-use Rattle.cbor_automaton.proofs.Forward.{forward, head-taken, item_starts, room-above, telling_all}
+use Rattle.cbor_automaton.proofs.Forward.{Leads as MembersLead, array-leads, map-leads, map-even, members-forward, forwards, close-counted, forward, head-taken, item_starts, room-above, telling_all}
+use Rattle.cbor_automaton.proofs.Members.{members, members-count, members-bytes, members-spelled, members-depth}
 use Rattle.cbor_judging.specs.SoFar.{array_bytes, map_bytes}
 use Rattle.cbor_judging.specs.Path.{Level, a_member, a_key, a_value, tagged, level_bytes, IsClean, bytes_before, AreClean}
 
@@ -64,50 +65,20 @@ module _ (d : ℕ) where
   -- ---- complete members and pairs
 
   module _ (fs : List Frame) where
-    members_counted : (left : ℕ) (done : Spellings) → AreSpelled done → depth_all done + suc (length fs) ≤ d → Leads d (at_item (counted (spellings_count done + left) ∷ fs)) (spell_all done) (at_item (counted left ∷ fs))
-    members_counted left no_spellings h b =
-        let e : 0 + left ≡ left = omega arith in
-        ([], ap (λ (n : ℕ). reached (at_item (counted n ∷ fs)) []) e)
-    members_counted left (a_spelling s ss) h b =
-        let n = spellings_count ss + left in
-        let e : suc (spellings_count ss) + left ≡ suc n = omega arith in
-        leads_on (at_item (counted (suc (spellings_count ss) + left) ∷ fs)) (at_item (counted n ∷ fs)) (at_item (counted left ∷ fs)) (spell s) (spell_all ss)
-        (subst (λ (m : ℕ). Leads d (at_item (counted m ∷ fs)) (spell s) (at_item (counted n ∷ fs))) (sym e) (item_leads s (counted (suc n) ∷ fs) h.0 (omega (arith, b))))
-        (members_counted left ss h.1 (omega (arith, b)))
+    -- so many more follow the one behind these
+    abbrev more-leads : ℕ → MembersLead fs
+    more-leads k = record {
+      due = λ ss. counted (spellings_count ss + suc k);
+      here = λ ss. expect (spellings_count ss + suc k) fs;
+      begins = λ s ss. let e : suc (spellings_count ss) + suc k ≡ suc (spellings_count ss + suc k) = omega arith in ap (λ (n : ℕ). expect n fs) e;
+      closes = λ ss. close-counted (spellings_count ss + suc k) fs;
+    }
 
-    members_open : (done : Spellings) → AreSpelled done → depth_all done + suc (length fs) ≤ d → Leads d (at_item (indefinite_array ∷ fs)) (spell_all done) (at_item (indefinite_array ∷ fs))
-    members_open no_spellings h b = ([], refl)
-    members_open (a_spelling s ss) h b =
-        let q = at_item (indefinite_array ∷ fs) in
-        leads_on q q q (spell s) (spell_all ss) (item_leads s (indefinite_array ∷ fs) h.0 (omega (arith, b))) (members_open ss h.1 (omega (arith, b)))
+    members_lead : (l : MembersLead fs) (ss : Spellings) → AreSpelled ss → depth_all ss + suc (length fs) ≤ d → Leads d (l.here ss) (spell_all ss) (l.here no_spellings)
+    members_lead l ss h b = (trace_all ss ++ [], ap (run d (l.here ss)) (sym (append-nil (spell_all ss))) ∙ members-forward d fs l ss [] (forwards ss) h b ∙ telling_all-reached (trace_all ss) [] (l.here no_spellings))
 
-    -- so many items follow the first of these pairs
-    abbrev items : ℕ → SpelledEntries → ℕ
-    items left done = suc ((entries_count done + left) + (entries_count done + left))
-
-    pairs_counted : (left : ℕ) (done : SpelledEntries) → AreEntriesSpelled done → depth_entries done + suc (length fs) ≤ d → Leads d (at_item (counted (items left done) ∷ fs)) (spell_entries done) (at_item (counted (suc (left + left)) ∷ fs))
-    pairs_counted left no_entries h b =
-        let e : suc ((0 + left) + (0 + left)) ≡ suc (left + left) = omega arith in
-        ([], ap (λ (n : ℕ). reached (at_item (counted n ∷ fs)) []) e)
-    pairs_counted left (entry k v es) h b =
-        let n = items left es in
-        let e : items left (entry k v es) ≡ suc (suc n) = omega arith in
-        let q = at_item (counted (items left (entry k v es)) ∷ fs) in
-        let t = at_item (counted n ∷ fs) in
-        leads_on q t (at_item (counted (suc (left + left)) ∷ fs)) (spell k ++ spell v) (spell_entries es)
-        (leads_on q (at_item (counted (suc n) ∷ fs)) t (spell k) (spell v)
-        (subst (λ (m : ℕ). Leads d (at_item (counted m ∷ fs)) (spell k) (at_item (counted (suc n) ∷ fs))) (sym e) (item_leads k (counted (suc (suc n)) ∷ fs) h.0 (omega (arith, b))))
-        (item_leads v (counted (suc n) ∷ fs) h.1 (omega (arith, b))))
-        (pairs_counted left es h.2 (omega (arith, b)))
-
-    pairs_open : (done : SpelledEntries) → AreEntriesSpelled done → depth_entries done + suc (length fs) ≤ d → Leads d (at_item (indefinite_map false ∷ fs)) (spell_entries done) (at_item (indefinite_map false ∷ fs))
-    pairs_open no_entries h b = ([], refl)
-    pairs_open (entry k v es) h b =
-        let q = at_item (indefinite_map false ∷ fs) in
-        let t = at_item (indefinite_map true ∷ fs) in
-        leads_on q q q (spell k ++ spell v) (spell_entries es)
-        (leads_on q t q (spell k) (spell v) (item_leads k (indefinite_map false ∷ fs) h.0 (omega (arith, b))) (item_leads v (indefinite_map true ∷ fs) h.1 (omega (arith, b))))
-        (pairs_open es h.2 (omega (arith, b)))
+    pairs_lead : (l : MembersLead fs) (es : SpelledEntries) → AreEntriesSpelled es → depth_entries es + suc (length fs) ≤ d → Leads d (l.here (members es)) (spell_entries es) (l.here no_spellings)
+    pairs_lead l es h b = subst (λ (xs : List ℕ). Leads d (l.here (members es)) xs (l.here no_spellings)) (members-bytes es) (members_lead l (members es) (members-spelled es h) (omega (arith, members-depth es, b)))
 
   -- ---- a level
 
@@ -116,25 +87,26 @@ module _ (d : ℕ) where
         → Leads d (at_item fs) (array_bytes w (spellings_count done + suc left) done) (at_item (container (a_member w left done) ∷ fs))
     array_leads Indefinite left done h i b =
         let q = at_item (indefinite_array ∷ fs) in
-        leads_on (at_item fs) q q (head Array Indefinite 0) (spell_all done) (array_opens fs room) (members_open fs done i b)
+        leads_on (at_item fs) q q (head Array Indefinite 0) (spell_all done) (array_opens fs room) (members_lead fs (array-leads fs) done i b)
     array_leads w left done h i b =
-        let n = spellings_count done + left in
-        let e : spellings_count done + suc left ≡ suc n = omega arith in
-        leads_on (at_item fs) (at_item (counted n ∷ fs)) (at_item (counted left ∷ fs)) (head Array w (spellings_count done + suc left)) (spell_all done)
-        (subst (λ (m : ℕ). Leads d (at_item fs) (head Array w (spellings_count done + suc left)) (expect m fs)) e (head_leads fs room Array (λ k. refl) (is_room fs room) w (spellings_count done + suc left) h))
-        (members_counted fs left done i b)
+        let n = spellings_count done + suc left in
+        let last : 0 + suc left ≡ suc left = omega arith in
+        leads_on (at_item fs) (expect n fs) (at_item (counted left ∷ fs)) (head Array w n) (spell_all done) (head_leads fs room Array (λ k. refl) (is_room fs room) w n h)
+        (subst (λ (m : ℕ). Leads d (expect n fs) (spell_all done) (expect m fs)) last (members_lead fs (more-leads fs left) done i b))
 
     map_leads : (w : Width) (left : ℕ) (done : SpelledEntries) → HoldsOrIndefinite w (entries_count done + suc left) → AreEntriesSpelled done → depth_entries done + suc (length fs) ≤ d
         → Leads d (at_item fs) (map_bytes w (entries_count done + suc left) done) (at_item (container (a_key w left done) ∷ fs))
     map_leads Indefinite left done h i b =
         let q = at_item (indefinite_map false ∷ fs) in
-        leads_on (at_item fs) q q (head Map Indefinite 0) (spell_entries done) (map_opens fs room) (pairs_open fs done i b)
+        leads_on (at_item fs) q q (head Map Indefinite 0) (spell_entries done) (map_opens fs room)
+        (subst (λ (due : Bool). Leads d (at_item (indefinite_map due ∷ fs)) (spell_entries done) q) (map-even done) (pairs_lead fs (map-leads fs) done i b))
     map_leads w left done h i b =
         let n = entries_count done + suc left in
-        let e : n + n ≡ suc (items fs left done) = omega arith in
-        leads_on (at_item fs) (at_item (counted (items fs left done) ∷ fs)) (at_item (counted (suc (left + left)) ∷ fs)) (head Map w n) (spell_entries done)
-        (subst (λ (m : ℕ). Leads d (at_item fs) (head Map w n) (expect m fs)) e (head_leads fs room Map (λ k. refl) (is_room fs room) w n h))
-        (pairs_counted fs left done i b)
+        let e : spellings_count (members done) + suc (suc (left + left)) ≡ n + n = omega (arith, members-count done) in
+        let last : 0 + suc (suc (left + left)) ≡ suc (suc (left + left)) = omega arith in
+        leads_on (at_item fs) (expect (n + n) fs) (at_item (counted (suc (left + left)) ∷ fs)) (head Map w n) (spell_entries done) (head_leads fs room Map (λ k. refl) (is_room fs room) w n h)
+        (subst (λ (m : ℕ). Leads d (expect (n + n) fs) (spell_entries done) (expect m fs)) last
+        (subst (λ (m : ℕ). Leads d (expect m fs) (spell_entries done) (expect (0 + suc (suc (left + left))) fs)) e (pairs_lead fs (more-leads fs (suc (left + left))) done i b)))
 
     key_leads : (w : Width) (left : ℕ) (done : SpelledEntries) (k : Spelling) → IsSpelled k → depth k + suc (length fs) ≤ d
         → Leads d (at_item (container (a_key w left done) ∷ fs)) (spell k) (at_item (container (a_value w left done k) ∷ fs))

@@ -10,7 +10,7 @@ use Rattle.cbor_judging.specs.Frame.{Frame, before}
 use Rattle.cbor_judging.specs.Kinds.{KeepsToKinds, IsKeyFrame, IsKeyDue, IsOfOneHead}
 use Rattle.cbor_judging.specs.OpenMaps.{before_all, ArePath}
 use Rattle.cbor_judging.proofs.Heads.{takes, headed}
-use Rattle.cbor_judging.proofs.KindBytes.{Begins, kinds_behind, of_headed}
+use Rattle.cbor_judging.proofs.KindBytes.{Begins, begins_by, kinds_behind, of_headed}
 use Rattle.cbor_judging.proofs.KindFrames.{due_last, IsAround, keeps_on}
 use Rattle.cbor_judging.proofs.OpenSteps.{before_snoc, path_snoc}
 use Rattle.cbor_judging.specs.PathKinds.{IsFitFront, KeepsHere}
@@ -78,7 +78,7 @@ kept_before limits r ls keeps = record { before = keeps; here = λ asked due. tt
 
 -- a definite head
 pub head_begun : (d : ℕ) (m : Major) (w : Width) (n : ℕ) → IsHead m w n → takes m ≤ d → Begins d (head m w n)
-head_begun d Simple w n h l = of_headed (record { item = simple n; spelled = h.0; within = omega arith; head_is = ap (λ (v : Width). head Simple v n) (sym h.1) })
+head_begun d Simple w n h l = begins_by d _ (simple n) h.0 (omega arith) (ap (λ (v : Width). head Simple v n) (sym h.1))
 head_begun d m w n h l = of_headed (headed d m w n tt h l)
 
 -- ---- the bytes so far

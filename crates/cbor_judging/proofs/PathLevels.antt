@@ -1,14 +1,13 @@
 -- What is found of an item is found of the open containers around it.
-use Rattle.std.proofs.Common.{◌≡◌, ℕ, suc, ◌+◌, ◌-◌, ◌<◌, ◌≤◌, ◌⊎◌, Option, Some, List, [], ◌∷◌, ◌++◌, length, refl, sym, ap, subst, inl, inr, arith, append_assoc, length-append}
-use Rattle.cbor_head.specs.Prelude.{head, Rules, Complaint, OfCount, OfKey, Complains, ComplainsIn, ComplainsInEntries, Spelling, SpelledEntries, spell, IsSpelled, depth, spell_entries, spellings_count, entries_count, HoldsOrIndefinite}
-use Rattle.cbor_head.specs.declared.major.Major.TheVariants.{Array, Map}
+use Rattle.std.proofs.Common.{◌≡◌, ℕ, suc, ◌+◌, ◌-◌, ◌<◌, ◌≤◌, Option, Some, List, [], ◌∷◌, ◌++◌, length, refl, sym, ap, subst, inl, inr, arith, append_assoc, length-append}
+use Rattle.cbor_head.specs.Prelude.{Rules, Complaint, OfKey, Complains, Spelling, SpelledEntries, spell, IsSpelled, depth, spellings_count, entries_count, HoldsOrIndefinite}
 use Rattle.cbor_head.specs.declared.width.Width.{Width}
 use Rattle.cbor_judging.specs.Frame as frames
 use Rattle.cbor_judging.specs.Frame.{Frame, before, keys_onto, IsFrame, depth_beside, OfFront}
 use Rattle.cbor_judging.specs.Judged.{IsJudged, Never}
 use Rattle.cbor_judging.specs.SoFar.{array_bytes, map_bytes}
 use Rattle.cbor_judging.proofs.Judged.{zero_item, zeros, zeros_count, zeros_spelled, zeros_flat, zero_pairs, pairs_count, pairs_spelled, pairs_flat, judged_in, judged_key}
-use Rattle.cbor_judging.specs.Path.{Level, a_member, a_key, a_value, tagged, level_bytes, IsValueDue, IsClean, bytes_before, AreClean, HasEnded}
+use Rattle.cbor_judging.specs.Path.{Level, a_member, a_key, a_value, tagged, level_bytes, IsClean, bytes_before, AreClean, HasEnded}
 
 -- ---- a level as a frame, in which zeros stand for what is still to come
 
@@ -42,22 +41,12 @@ module _ (r : Rules) (at d : ℕ) where
       omega (arith, low, key, pairs_flat left)
   frame_flat (tagged w n) h = omega arith
 
-  front_value : (w : Width) (n m : ℕ) (done : SpelledEntries) (k : Spelling) → n ≡ m → IsValueDue r at d w m done k → (c : Complaint)
-      → OfCount r at Map w n c ⊎ ComplainsInEntries r (at + length (head Map w n)) [] done c
-      ⊎ Complains r (at + length (head Map w n ++ spell_entries done)) k c ⊎ OfKey r.keys (at + length (head Map w n ++ spell_entries done)) (keys_onto [] done) k c → ⊥
-  front_value w n m done k e h c g =
-      let f = subst (λ (x : ℕ). OfCount r at Map w x c ⊎ ComplainsInEntries r (at + length (head Map w x)) [] done c
-      ⊎ Complains r (at + length (head Map w x ++ spell_entries done)) k c ⊎ OfKey r.keys (at + length (head Map w x ++ spell_entries done)) (keys_onto [] done) k c) e g in
-      elim f [ inl x ↦ h.so_far.head_clean c x | inr (inl x) ↦ h.so_far.clean c x | inr (inr (inl x)) ↦ h.clean c x | inr (inr (inr x)) ↦ h.fits c x ]
-
   front_clean : (l : Level) → IsClean r at d l → Never (OfFront r at (frame_of l))
-  front_clean (a_member w left done) h c g =
-      let f = subst (λ (n : ℕ). OfCount r at Array w (spellings_count done + suc n) c ⊎ ComplainsIn r (at + length (head Array w (spellings_count done + suc n))) done c) (zeros_count left) g in
-      elim f [ inl x ↦ h.head_clean c x | inr x ↦ h.clean c x ]
-  front_clean (a_key w left done) h c g =
-      let f = subst (λ (n : ℕ). OfCount r at Map w (entries_count done + suc n) c ⊎ ComplainsInEntries r (at + length (head Map w (entries_count done + suc n))) [] done c) (pairs_count left) g in
-      elim f [ inl x ↦ h.head_clean c x | inr x ↦ h.clean c x ]
-  front_clean (a_value w left done k) h c g = front_value w (entries_count done + suc (entries_count (zero_pairs left))) (entries_count done + suc left) done k (ap (λ (n : ℕ). entries_count done + suc n) (pairs_count left)) h c g
+  front_clean (a_member w left done) h c g = let f = rw (zeros_count left) at g in elim f [ inl x ↦ h.head_clean c x | inr x ↦ h.clean c x ]
+  front_clean (a_key w left done) h c g = let f = rw (pairs_count left) at g in elim f [ inl x ↦ h.head_clean c x | inr x ↦ h.clean c x ]
+  front_clean (a_value w left done k) h c g =
+      let f = rw (pairs_count left) at g in
+      elim f [ inl x ↦ h.so_far.head_clean c x | inr (inl x) ↦ h.so_far.clean c x | inr (inr (inl x)) ↦ h.clean c x | inr (inr (inr x)) ↦ h.fits c x ]
   front_clean (tagged w n) h c g = h.1 c g
 
   -- what is found of the item is found of the container

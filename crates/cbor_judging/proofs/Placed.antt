@@ -1,16 +1,15 @@
 -- Where the events told lead is where the machine stands.
-use Rattle.std.proofs.Common.{◌≡◌, ◌↔◌, ℕ, zero, suc, ◌+◌, ◌^◌, ◌<◌, Bool, true, false, List, [], ◌∷◌, ◌++◌, length, replicate, refl, sym, ap, ◌∙◌, subst, inl, inr, arith, append-nil, append_assoc, nat_lt, lt-ltb, le-ltb}
-use Rattle.std.proofs.lemmas.Bool.{cases_lt}
+use Rattle.std.proofs.Common.{◌≡◌, ◌↔◌, ℕ, zero, suc, ◌+◌, ◌<◌, Bool, true, false, List, [], ◌∷◌, ◌++◌, length, replicate, refl, sym, ap, ◌∙◌, subst, arith, append-nil, append_assoc, nat_lt, lt-ltb}
 use Rattle.cbor_head.specs.Prelude.{Holds, head, AreBytes}
 use Rattle.cbor_head.specs.declared.major.Major.{Major}
 use Rattle.cbor_head.specs.declared.major.Major.TheVariants as majors
 use Rattle.cbor_head.specs.declared.width.Width.{Width}
-use Rattle.cbor_head.specs.declared.width.Width.TheVariants.{Direct, One, Indefinite}
+use Rattle.cbor_head.specs.declared.width.Width.TheVariants.{Indefinite}
 use Rattle.cbor_automaton.specs.Trace.{Mark, a_head, a_chunk, a_byte, a_break}
 use Rattle.cbor_automaton.specs.Automaton as automaton
 use Rattle.cbor_automaton.specs.Automaton.{State, Outcome, run, reached}
 use Rattle.cbor_automaton.proofs.Beginnings.{onwards, run-append, telling_all-reached}
-use Rattle.cbor_automaton.proofs.Forward.{telling_all, payload-byte, head-taken, item_starts, chunk_starts, simple-direct, simple-one}
+use Rattle.cbor_automaton.proofs.Forward.{telling_all, payload-byte, head-taken, item_starts, chunk_starts, simple-taken}
 use Rattle.cbor_judging.specs.Place.{Container, counted, indefinite_array, indefinite_map, Place, at_item, in_payload, in_chunks, done, close, expect, payload, Follows, Opens, Ends, IsTaking, IsPlaced, begins, leads_on, LeadsOn, open_at}
 use Rattle.cbor_automaton.proofs.Taking.{IsClear, first-mark, tells-first, within-start, mark-taken}
 use Rattle.cbor_automaton.specs.Bytes.{IsEventBytes}
@@ -87,14 +86,7 @@ module _ (d : ℕ) (cs : List Container) (w : Width) (n : ℕ) (h : Holds w n) (
   }
     where
       simple : run d (state_at (at_item cs)) (head majors.Simple w n ++ []) ≡ reached (automaton.close cs) (a_head majors.Simple w n ∷ [])
-      simple = elim (cases_lt n 24) [
-        | inl l ↦
-            let e : w ≡ Direct = f.1 ∙ rw (lt-ltb n 24 l) refl in
-            subst (λ (v : Width). run d (state_at (at_item cs)) (head majors.Simple v n ++ []) ≡ reached (automaton.close cs) (a_head majors.Simple v n ∷ [])) (sym e) (simple-direct d n cs [] l)
-        | inr l ↦
-            let e : w ≡ One = f.1 ∙ rw (le-ltb n 24 l, lt-ltb n (2 ^ 8) f.0.0) refl in
-            subst (λ (v : Width). run d (state_at (at_item cs)) (head majors.Simple v n ++ []) ≡ reached (automaton.close cs) (a_head majors.Simple v n ∷ [])) (sym e) (simple-one d n cs [] (f.0.1 l) f.0.0)
-      ]
+      simple = subst (λ (v : Width). run d (state_at (at_item cs)) (head majors.Simple v n ++ []) ≡ reached (automaton.close cs) (a_head majors.Simple v n ∷ [])) (sym f.1) (simple-taken d n cs [] f.0)
 
   -- and of a chunk
   chunk-head : (m : Major) → IsString m → q ≡ payload true m n cs → Leads d (in_chunks m cs) (a_chunk w n) (head m w n) q

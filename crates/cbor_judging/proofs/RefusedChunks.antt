@@ -1,5 +1,5 @@
 -- What the plain rules refuse where a chunk of a string is due, whatever walk stands there.
-use Rattle.std.proofs.Common.{◌≡◌, ◌≢◌, ℕ, suc, ◌+◌, ◌-◌, ◌*◌, ◌^◌, ◌/◌, ◌%◌, ◌<◌, ◌≤◌, Bool, true, false, cond, Some, None, List, [], ◌∷◌, ◌++◌, length, take, drop, get_or, flat_map, refl, sym, ap, ap₂, ◌∙◌, subst, inl, inr, arith, append_assoc, append-nil, IsUtf8, length-append, length-take-le, take-append-drop}
+use Rattle.std.proofs.Common.{◌≡◌, ◌≢◌, ℕ, ◌+◌, ◌-◌, ◌*◌, ◌^◌, ◌/◌, ◌%◌, ◌<◌, ◌≤◌, Bool, true, false, cond, Some, None, List, [], ◌∷◌, ◌++◌, length, take, drop, flat_map, refl, sym, ap, ap₂, ◌∙◌, subst, inl, inr, arith, append_assoc, append-nil, IsUtf8, length-append, length-take-le, take-append-drop}
 use Rattle.std.specs.List.{AllByRecursion}
 use Rattle.std.specs.Str.Lossy.{utf8_valid_len}
 use Rattle.cbor_head.specs.Prelude.{plain, complaint, Holds, head, major_number, Chunk, IsChunk, chunk_bytes, AreBytes, refusal}
@@ -8,13 +8,12 @@ use Rattle.cbor_head.specs.declared.major.Major.TheVariants.{Bytes, Text}
 use Rattle.cbor_head.specs.declared.reason.Reason.TheVariants.{Truncated, BadChunk, InvalidText}
 use Rattle.cbor_head.specs.declared.reason.Refusal.{Refusal}
 use Rattle.cbor_head.specs.declared.width.Width.{Width}
-use Rattle.cbor_head.specs.declared.width.Width.TheVariants.{One, Two, Four, Eight, Indefinite}
-use Rattle.cbor_automaton.specs.Trace.{a_head, chunk_marks, more_bytes}
+use Rattle.cbor_head.specs.declared.width.Width.TheVariants.{Indefinite}
+use Rattle.cbor_automaton.specs.Trace.{a_head, chunk_marks}
 use Rattle.cbor_automaton.specs.Automaton.{Frame, at_item, in_chunks, Next, refuses, indefinite_length, opening, in_string, is_major, run, reached, telling}
 use Rattle.cbor_automaton.proofs.Beginnings.{telling_all-reached}
 use Rattle.cbor_automaton.proofs.Forward.{Starts, chunk_starts, chunks-taken}
-use Rattle.cbor_automaton.proofs.Openings.{IsLong, by-byte}
-use Rattle.cbor_automaton.proofs.Taking.{nothing-taken}
+use Rattle.cbor_automaton.proofs.Openings.{by-byte}
 use Rattle.cbor_grammar.proofs.ByteLists.{bytes_front, bytes_back}
 use Rattle.cbor_judging.specs.Judged.{IsJudged}
 use Rattle.cbor_judging.specs.Kinds.{IsOfOneHead}
@@ -23,10 +22,11 @@ use Rattle.cbor_judging.specs.PathKinds.{KeepsHere}
 use Rattle.cbor_judging.specs.Reading.{string_major}
 use Rattle.cbor_judging.specs.RefusedHere.{IsRefusedBy}
 use Rattle.cbor_judging.specs.Stop.{HasComplaint, HasBadByte}
-use Rattle.cbor_judging.proofs.CutHeads.{Within, head_starts, chunk_cut}
+use Rattle.cbor_judging.proofs.CutHeads.{cut_argument, chunk_cut}
+use Rattle.cbor_judging.proofs.FirstBytes.{long_low}
 use Rattle.cbor_judging.proofs.HeadComplaints.{heads_free}
 use Rattle.cbor_judging.proofs.KindBytes.{one_head_front}
-use Rattle.cbor_judging.proofs.Leaves.{AreChunksSoFar, chunks_bytes, between, cut_chunk, chunk_complains}
+use Rattle.cbor_judging.proofs.Leaves.{AreChunksSoFar, chunks_bytes, between, cut, chunk_complains}
 use Rattle.cbor_judging.proofs.PathForm.{containers}
 use Rattle.cbor_judging.proofs.PathKinds.{kept_front}
 use Rattle.cbor_judging.proofs.PathStops.{complaint_here, bad_byte_here}
@@ -56,17 +56,6 @@ other_major true Text f = absurd (f refl)
 other_major true _ f = refl
 other_major false Bytes f = absurd (f refl)
 other_major false _ f = refl
-
--- the low five bits, where an argument stands behind them
-long_low : (k : Major) (w : Width) (j low : ℕ) → IsLong k w j low → low < 28
-long_low k w j low i = go w (ap (λ (xs : List ℕ). get_or xs 0 0) (i.made 0)) i.size
-  where
-    go : (w : Width) → get_or (head k w 0) 0 0 ≡ 32 * major_number k + low → more_bytes w ≡ suc j → low < 28
-    go One e size = omega (arith, e)
-    go Two e size = omega (arith, e)
-    go Four e size = omega (arith, e)
-    go Eight e size = omega (arith, e)
-    go _ e size = absurd (cc size)
 
 module _ (t : Bool) (fs : List Frame) where
   -- no chunk of this type begins so, and it is no break
@@ -157,9 +146,8 @@ module _ (t : Bool) (b rest : List ℕ) (s : AreChunksRead t b rest) where
       -- the argument is cut
       pub chunk_head_cut_here : f ≡ refusal Truncated end end → first / 32 ≡ major_number m → 24 ≤ first % 32 → first % 32 < 28 → length more < 2 ^ (first % 32 - 24) → IsRefusedBy plain room b at f
       chunk_head_cut_here e high l h short =
-          let q = in_chunks m [] in
-          let within : Within 0 q (first ∷ more) = head_starts 0 [] first more q true m (starts 0 [] t) (first % 32) (omega (arith, high)) l (omega (arith, h)) short in
-          ends e (first ∷ more) is (λ to d. cut_chunk t s.done plain to d (s.so_far to) 0 [] within.0 (first ∷ more) (nothing-taken 0 q within.0 (first ∷ more) tt (subst AreBytes is s.small) within.1))
+          let (w, n, rest, holds, whole, some) = cut_argument m (first % 32) first more (omega (arith, high)) l (omega (arith, h)) (subst AreBytes is s.small).1 short in
+          ends e (first ∷ more) is (λ to d. cut t s.done plain to d (s.so_far to) w n (first ∷ more) rest holds whole some)
 
       -- no chunk begins so
       pub no_chunk_here : f ≡ refusal BadChunk place (place + 1) → first ≢ 0xff → (first / 32 ≡ major_number m → 28 ≤ first % 32) → IsRefusedBy plain room b at f

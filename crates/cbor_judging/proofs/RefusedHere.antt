@@ -16,7 +16,7 @@ use Rattle.cbor_automaton.proofs.FirstByte.{split}
 use Rattle.cbor_judging.specs.Judged.{IsJudged, Never}
 use Rattle.cbor_judging.specs.Kinds.{KeepsToKinds, IsOfOneHead}
 use Rattle.cbor_grammar.proofs.ByteLists.{bytes_back, bytes_front}
-use Rattle.cbor_judging.proofs.Heads.{open_or}
+use Rattle.cbor_judging.proofs.Heads.{open_or, IsOpener as MayOpen}
 use Rattle.cbor_judging.proofs.KindBytes.{head_is_one, string_is_one, Begins, judged_begins}
 use Rattle.cbor_judging.proofs.Judged.{judged_start}
 use Rattle.cbor_judging.proofs.Leaves.{text_complains}
@@ -28,7 +28,7 @@ use Rattle.cbor_judging.specs.Stop.{HasComplaint, IsStopped, EndsWithin}
 use Rattle.cbor_judging.proofs.Arguments.{low_bits, number_byte, fits as fits_in, numbered, spells, fits, direct_head}
 use Rattle.cbor_judging.proofs.CutHeads.{head_cut, string_cut}
 use Rattle.cbor_judging.proofs.FirstBytes.{misplaced, bad_simple}
-use Rattle.cbor_judging.proofs.HeadComplaints.{IsOpener as MayOpen, not_shortest, indefinite_length}
+use Rattle.cbor_judging.proofs.HeadComplaints.{not_shortest, indefinite_length}
 use Rattle.cbor_judging.proofs.PathKinds.{kept_front, head_begun, around_clean}
 use Rattle.cbor_judging.proofs.PathStops.{complaint_here, end_here}
 use Rattle.cbor_head.specs.declared.keys.Keys.TheVariants.{IntegersAndTexts}

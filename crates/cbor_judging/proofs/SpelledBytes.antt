@@ -24,7 +24,7 @@ high_bytes : (k n : ℕ) → AreBytes (bytes_high_first k n)
 high_bytes zero n = tt
 high_bytes (suc k) n = (small_byte k n, high_bytes k n)
 
-small_major : (m : Major) → major_number m < 8
+pub small_major : (m : Major) → major_number m < 8
 small_major Unsigned = omega arith
 small_major _ = omega arith
 

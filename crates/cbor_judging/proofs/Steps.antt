@@ -11,7 +11,6 @@ use Rattle.cbor_head.specs.declared.reason.Refusal.{Refusal}
 use Rattle.cbor_grammar.proofs.KindsUnasked.{form_beside}
 use Rattle.cbor_automaton.specs.Trace.{Mark, a_head, a_chunk, a_byte, a_break}
 use Rattle.cbor_judging.specs.Place.{Place, at_item, in_payload, in_chunks, done, IsTaking}
-use Rattle.cbor_automaton.specs.Automaton as automaton
 use Rattle.cbor_automaton.specs.Automaton.{State, start, run, reached}
 use Rattle.cbor_automaton.specs.Marks.{mark_of, marks_of, times}
 use Rattle.cbor_steps.specs.State.{state_of, is_in_payload}
@@ -100,25 +99,12 @@ since b old new t bs q ns a deep ran =
 -- ---- a head
 
 -- a head's event stands for one mark
-abbrev IsHeadState : State → Type 0
-IsHeadState (automaton.at_item fs) = Unit {0}
-IsHeadState (automaton.in_chunks m fs) = Unit {0}
-IsHeadState _ = ⊥
-
-head-state : (q : Place) → IsHeadDue q → IsHeadState (state_at q)
-head-state (at_item cs) h = tt
-head-state (in_chunks m cs) h = tt
-head-state (in_payload chunk m n cs) h = absurd h
-head-state done h = absurd h
-
-no_piece : (position : Position) (fs : List frames.Frame) (n : ℕ) → IsHeadState (state_of position fs) → item_events.IsDue (is_in_payload position) (kinds.Piece n) → ⊥
-no_piece positions.Item fs n h d = d
-no_piece (positions.Chunks kind) fs n h d = d
-no_piece _ fs n h d = h
-
-once : (position : Position) (fs : List frames.Frame) (kind : EventKind) → IsHeadState (state_of position fs) → item_events.IsDue (is_in_payload position) kind → times kind ≡ 1
-once position fs (kinds.Piece n) h d = absurd (no_piece position fs n h d)
-once position fs _ h d = refl
+once : (position : Position) (fs : List frames.Frame) (q : Place) (kind : EventKind) → state_of position fs ≡ state_at q → IsHeadDue q → item_events.IsDue (is_in_payload position) kind → times kind ≡ 1
+once (positions.Payload chunk type left) fs (in_payload c m n gs) kind e h d = absurd h
+once (positions.Payload chunk type left) fs done kind e h d = absurd h
+once (positions.Payload chunk type left) fs _ kind e h d = absurd (cc e)
+once _ fs q (kinds.Piece n) e h d = absurd d
+once _ fs q _ e h d = refl
 
 -- which event is due, by the inner state
 pub due-by : (b : Bounds) (e : ItemEventsView) (t : List ℕ) (q : Place) (kind : EventKind) → IsAt b e t q → item_events.IsDue e.machine.in_payload kind → item_events.IsDue (is_in_payload e.machine.inner.position) kind
@@ -129,7 +115,7 @@ pub head-taken : (b : Bounds) (old new : ItemEventsView) (t : List ℕ) (q : Pla
     → (n : IsNextEvent ev (call old new from to t a.marks)) → SameLimits old.machine new.machine
     → IsTaking b.depth q (mark_of ev.width ev.kind) n.bytes (place_in new)
 head-taken b old new t q ev from to due a n same =
-    let one = once-marks ev.width ev.kind (once old.machine.inner.position old.machine.inner.frames ev.kind (subst IsHeadState (sym a.state) (head-state q due)) (due-by b old t q ev.kind a n.due)) in
+    let one = once-marks ev.width ev.kind (once old.machine.inner.position old.machine.inner.frames q ev.kind a.state due (due-by b old t q ev.kind a n.due)) in
     let u = state_of new.machine.inner.position new.machine.inner.frames in
     let ran = since b old new.machine t n.bytes q (marks_of ev.width ev.kind) a (same.depth ∙ a.depth) n.stands.stands.inner.ran in
     taking-at b.depth q (mark_of ev.width ev.kind) n.bytes u (

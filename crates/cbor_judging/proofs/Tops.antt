@@ -139,6 +139,9 @@ module _ (r : Rules) (b : Bounds) (input : List ℕ) (from to : Option (List ℕ
     short : IsReached b s.bytes → (p : List ℕ) → IsLongestBeginning b.depth (take b.bytes input) p → f.read ≤ length p
     short h p g = omega (arith, read-is, g.longest s.bytes (take (b.bytes - length s.bytes) left.rest) h.begins (ap (take b.bytes) left.splits ∙ take-behind b.bytes s.bytes left.rest h.within))
 
+    level : b.depth - 0 ≡ b.depth
+    level = omega arith
+
     flat : (reason : Reason) → f.reason ≡ reason → f.place ≡ f.read → f ≡ refusal reason f.read f.read
     flat reason e g = ap (λ (x : Reason). refusal x f.place f.read) e ∙ ap (λ (k : ℕ). refusal reason k f.read) g
 
@@ -151,9 +154,6 @@ module _ (r : Rules) (b : Bounds) (input : List ℕ) (from to : Option (List ℕ
         front-free b r u.p p (u.last ++ k) u.judged.item u.judged.rest f.read item (is ∙ ap (λ (v : List ℕ). v ++ k) u.splits ∙ append_assoc u.p u.last k)
         (later item) (omega (arith, read-is, ap length u.splits, length-append u.p u.last, u.byte))
       where
-        level : b.depth - 0 ≡ b.depth
-        level = omega arith
-
         later : IsItem b.depth u.judged.item (u.p ++ u.judged.rest) → (c : Complaint) → IsComplaint b r u.judged.item c → length u.p < c.end
         later item c (inl x) = omega (arith, u.judged.finding.1 c x)
         later item c (inr x) = elim (cases_lt (length u.p) c.end) [ inl l ↦ l | inr l ↦ absurd (keeps (x.0, x.1) u.judged.item c (u.judged.rest, item) x.2 l) ]
@@ -208,9 +208,6 @@ module _ (r : Rules) (b : Bounds) (input : List ℕ) (from to : Option (List ℕ
     pub item-unread : KeepsBefore r b s.bytes to f s.why → IsUnread b r input f
     item-unread = go s.why
       where
-        level : b.depth - 0 ≡ b.depth
-        level = omega arith
-
         go : (why : (IsMemory f × IsReached b s.bytes × IsUndecided r b [] [] s.bytes) ⊎ HasCause r b [] [] s.bytes to f) → KeepsBefore r b s.bytes to f why → IsUnread b r input f
         go (inl m) keeps = stopped-for-memory m.0 m.1 m.2 keeps
         go (inr h) keeps = stopped-by-cause h.p h.last h.splits keeps h.found (subst (λ (k : ℕ). IsJudged r 0 k h.p h.found) level h.judged) h.cause

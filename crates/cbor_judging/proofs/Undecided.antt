@@ -1,17 +1,16 @@
 -- Where memory is refused: all but the last byte taken tells nothing against the item.
-use Rattle.std.proofs.Common.{ℕ, ◌-◌, ◌≡◌, ◌≢◌, ◌<◌, ◌≤◌, Option, List, [], ◌∷◌, ◌++◌, length, refl, sym, ap, ◌∙◌, append_assoc, arith, subst, length-append}
-use Rattle.cbor_head.specs.Prelude.{Bounds, Value, AreBytes, spell, Rules}
+use Rattle.std.proofs.Common.{ℕ, ◌-◌, ◌≡◌, ◌<◌, ◌≤◌, Option, List, [], ◌∷◌, ◌++◌, length, refl, sym, ap, ◌∙◌, append_assoc, arith, subst, length-append}
+use Rattle.cbor_head.specs.Prelude.{head, Bounds, Value, AreBytes, spell, Rules}
 use Rattle.cbor_grammar.proofs.Agree.{body, parts}
-use Rattle.cbor_grammar.proofs.ReadLaws.{length_spell}
+use Rattle.cbor_grammar.proofs.ReadLaws.{length_spell, length_head}
+use Rattle.cbor_head.specs.declared.major.Major.{Major}
 use Rattle.cbor_head.specs.declared.width.Width.{Width}
-use Rattle.cbor_head.specs.declared.width.Width.TheVariants.{Indefinite}
 use Rattle.cbor_automaton.specs.Trace.{Mark, a_head, a_break}
 use Rattle.cbor_judging.specs.Place.{Container, Place, at_item, IsTaking}
 use Rattle.cbor_standing.specs.NextEvent.{ItemEventsView}
 use Rattle.cbor_grammar.proofs.ByteLists.{bytes_front}
 use Rattle.cbor_judging.proofs.Heads.{Headed}
-pub use Rattle.cbor_judging.proofs.Items.{head-item}
-use Rattle.cbor_judging.proofs.Items.{definite, taking-some}
+use Rattle.cbor_judging.proofs.Items.{taken-headed}
 use Rattle.cbor_judging.proofs.Judged.{judged_head, judged_start}
 use Rattle.cbor_judging.specs.Reading.{IsUndecided, IsPart, ReadsItem}
 
@@ -62,36 +61,22 @@ is-part n bytes some most h =
 
 -- ---- a head
 
-pub head-undecided : (r : Rules) (b : Bounds) (fs : List Container) (t x : List ℕ) → Headed (b.depth - length fs) x → 0 < length x → IsUndecided r b fs t x
-head-undecided r b fs t x h some =
-    let k = last-apart x some in
+head-undecided : (r : Rules) (b : Bounds) (fs : List Container) (t : List ℕ) (m : Major) (w : Width) (n : ℕ) → Headed (b.depth - length fs) m w n → IsUndecided r b fs t (head m w n)
+head-undecided r b fs t m w n h =
+    let k = last-apart (head m w n) (length_head m w n) in
+    let is = h.head_is ∙ k.splits in
     record {
       p = k.front;
       last = k.last;
       splits = k.splits;
       byte = omega (arith, k.byte);
       judged = judged_head r (length t) (b.depth - length fs) k.front h.item (k.last ++ body h.item)
-          (record { spelled = h.spelled; within = h.within; bytes_are = parts h.item ∙ ap (λ (y : List ℕ). y ++ body h.item) (h.head_is ∙ k.splits) ∙ append_assoc k.front k.last (body h.item) })
-          (omega (arith, ap length (h.head_is ∙ k.splits), length-append k.front k.last, k.byte));
+          (record { spelled = h.spelled; within = h.within; bytes_are = parts h.item ∙ ap (λ (y : List ℕ). y ++ body h.item) is ∙ append_assoc k.front k.last (body h.item) })
+          (omega (arith, ap length is, length-append k.front k.last, k.byte));
     }
-
-short-undecided : (r : Rules) (b : Bounds) (fs : List Container) (t x : List ℕ) → length x ≤ 1 → IsUndecided r b fs t x
-short-undecided r b fs t x l = record { p = []; last = x; splits = refl; byte = l; judged = judged_start r (length t) (b.depth - length fs) }
 
 -- or a break
 pub mark-undecided : (r : Rules) (b : Bounds) (fs : List Container) (t x : List ℕ) (mark : Mark) (next : Place) → IsTaking b.depth (at_item fs) mark x next → IsUndecided r b fs t x
-mark-undecided r b fs t x (a_head m w n) next h = go w h
-  where
-    some : 0 < length x
-    some = taking-some b.depth fs (a_head m w n) x next h
-
-    by : (v : Width) → v ≢ Indefinite → IsTaking b.depth (at_item fs) (a_head m v n) x next → IsUndecided r b fs t x
-    by v f g =
-        let d = definite b.depth fs m v n x next f g in
-        head-undecided r b fs t x (subst (Headed (b.depth - length fs)) (sym d.bytes_are) (head-item b.depth fs m v n x next d)) some
-
-    go : (v : Width) → IsTaking b.depth (at_item fs) (a_head m v n) x next → IsUndecided r b fs t x
-    go Indefinite g = short-undecided r b fs t x (omega (arith, ap length g.1))
-    go v g = by v (λ e. cc e) g
-mark-undecided r b fs t x a_break next h = short-undecided r b fs t x (omega (arith, ap length h.0))
+mark-undecided r b fs t x (a_head m w n) next h = let (g, is) = taken-headed b.depth fs m w n x next h in subst (IsUndecided r b fs t) (sym is) (head-undecided r b fs t m w n g)
+mark-undecided r b fs t x a_break next h = record { p = []; last = x; splits = refl; byte = omega (arith, ap length h.0); judged = judged_start r (length t) (b.depth - length fs) }
 mark-undecided r b fs t x _ next h = absurd h

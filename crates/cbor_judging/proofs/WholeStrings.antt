@@ -1,5 +1,5 @@
 -- Strings of one piece.
-use Rattle.std.proofs.Common.{◌≡◌, ℕ, ◌+◌, ◌-◌, ◌<◌, ◌≤◌, Bool, true, false, Option, Some, None, List, [], ◌++◌, length, refl, sym, ap, ◌∙◌, subst, inl, inr, arith, append_assoc, append-nil, IsTrue, IsUtf8, length-append}
+use Rattle.std.proofs.Common.{◌≡◌, ℕ, ◌+◌, ◌-◌, ◌<◌, ◌≤◌, Bool, true, false, Option, Some, None, List, [], ◌++◌, length, refl, sym, ap, ◌∙◌, subst, inl, inr, arith, append_assoc, IsTrue, IsUtf8, length-append}
 use Rattle.std.specs.Str.Lossy.{utf8_valid_len}
 use Rattle.cbor_head.specs.Prelude.{Holds, head, Bounds, AreBytes, spell, Rules, Complaint, complaint, OfHead, OfPayload, Complains, refusal}
 use Rattle.cbor_head.specs.declared.major.Major.TheVariants as majors
@@ -9,8 +9,8 @@ use Rattle.cbor_head.specs.declared.reason.Reason.TheVariants.{InvalidText}
 use Rattle.cbor_judging.specs.Place.{Container, Place, close, payload}
 use Rattle.cbor_standing.specs.NextEvent.{ItemEventsView}
 use Rattle.cbor_judging.specs.Judged.{IsJudged, Never}
-use Rattle.cbor_judging.specs.Reading.{IsAt, IsFormRefusal, IsNoText, IsBegun, ReadsItem, StopsItem, HasCause, ReadsPayload, StopsPayload, string_major, string_kind, string_value, IsPart, IsUndecided}
-use Rattle.cbor_judging.proofs.Items.{whole-cause, definite, proper-definite, is-definite, head-count}
+use Rattle.cbor_judging.specs.Reading.{IsAt, Extends, IsFormRefusal, IsNoText, IsBegun, ReadsItem, StopsItem, HasCause, ReadsPayload, StopsPayload, string_major, string_kind, string_value, IsPart, IsUndecided}
+use Rattle.cbor_judging.proofs.Items.{whole-cause, extends-none, extends-on, definite, proper-definite, is-definite, head-count}
 use Rattle.cbor_judging.proofs.Scalars.{at-as}
 use Rattle.cbor_judging.proofs.CutHeads.{string_cut}
 use Rattle.cbor_judging.proofs.Leaves.{text_complains}
@@ -19,6 +19,37 @@ use Rattle.cbor_judging.proofs.Steps.{reached-as}
 
 pub is-text : (r : Rules) (at : ℕ) (q : List ℕ) (c : Complaint) → IsUtf8 q → OfPayload r at q c → ⊥
 is-text r at q c u h = h.1 u
+
+-- ---- a payload that is refused
+
+-- behind z, which was taken of the item, where it goes on behind each part of the payload
+module _ (r : Rules) (b : Bounds) (fs : List Container) (t z : List ℕ) (n : ℕ) (part : (p : List ℕ) → length p < n → AreBytes p → IsJudged r (length t) (b.depth - length fs) (z ++ p) None) where
+  payload-undecided : (bytes : List ℕ) → IsPart n bytes → IsUndecided r b fs t (z ++ bytes)
+  payload-undecided bytes m =
+      record { p = z ++ m.p; last = m.last; splits = ap (λ (u : List ℕ). z ++ u) m.splits ∙ sym (append_assoc z m.p m.last); byte = m.byte; judged = part m.p m.short m.are_bytes }
+
+  pub stops-payload : (x : List ℕ) (text : Bool) (from mid to : Option (List ℕ)) (f : Refusal) → Extends x z from mid → ((q : List ℕ) → text ≡ true → IsNoText b (t ++ z) n q f → HasCause r b fs t (z ++ q) to f)
+      → StopsPayload b (t ++ z) n text mid to f → StopsItem r b fs t x from to f
+  stops-payload x text from mid to f taken no_text s =
+      let regroup = append_assoc t z s.bytes in
+      record {
+        bytes = z ++ s.bytes;
+        taken = extends-on x z s.bytes (z ++ s.bytes) from mid to taken s.consumed refl;
+        read = s.read ∙ ap length regroup;
+        why = elim s.why [
+          | inl m ↦ inl (m.0, reached-as b ((t ++ z) ++ s.bytes) (t ++ (z ++ s.bytes)) regroup m.1, payload-undecided s.bytes m.2)
+          | inr (inl c) ↦
+              inr (record {
+                p = z ++ c.p;
+                last = c.last;
+                splits = ap (λ (u : List ℕ). z ++ u) c.splits ∙ sym (append_assoc z c.p c.last);
+                found = None;
+                judged = part c.p c.short c.are_bytes;
+                cause = (c.place ∙ ap length (append_assoc t z c.p), subst (λ (u : List ℕ). IsFormRefusal b u to f) regroup c.refused);
+              })
+          | inr (inr y) ↦ inr (no_text s.bytes y.0 y.1)
+        ];
+      }
 
 -- ---- of one piece
 
@@ -60,7 +91,7 @@ module _ (r : Rules) (b : Bounds) (fs : List Container) (t x : List ℕ) (w : Wi
       subst (λ (u : List ℕ). IsJudged r (length t) (b.depth - length fs) (u ++ p) None) (sym h.bytes_are) (string_cut w n p h.holds are_bytes short r (length t) (b.depth - length fs) text h.clean)
 
   pub string-undecided : (bytes : List ℕ) → IsPart n bytes → IsUndecided r b fs t (x ++ bytes)
-  string-undecided bytes m = record { p = x ++ m.p; last = m.last; splits = ap (λ (u : List ℕ). x ++ u) m.splits ∙ sym (append_assoc x m.p m.last); byte = m.byte; judged = string-part m.p m.short m.are_bytes }
+  string-undecided bytes m = payload-undecided r b fs t x n string-part bytes m
 
 module _ (r : Rules) (b : Bounds) (fs : List Container) (t x : List ℕ) (e : ItemEventsView) (w : Width) (text : Bool) (n : ℕ) (i : IsBegun r b fs t x e w (string_kind text (Some n))) where
   head-is : StringHead r b fs t x w text n i.next
@@ -89,25 +120,6 @@ module _ (r : Rules) (b : Bounds) (fs : List Container) (t x : List ℕ) (e : It
       )
 
   pub stops-string : IsTrue r.texts → (from to : Option (List ℕ)) (f : Refusal) → StopsPayload b (t ++ x) n text from to f → StopsItem r b fs t x from to f
-  stops-string looks from to f s = record {
-    bytes = x ++ s.bytes;
-    taken = record { more = s.bytes; consumed = s.consumed; are = refl };
-    read = s.read ∙ ap length (append_assoc t x s.bytes);
-    why = elim s.why [
-      | inl m ↦ inl (
-        m.0,
-        reached-as b ((t ++ x) ++ s.bytes) (t ++ (x ++ s.bytes)) (append_assoc t x s.bytes) m.1,
-        string-undecided r b fs t x w text n i.next head-is s.bytes m.2,
-      )
-      | inr (inl c) ↦
-          inr (record {
-            p = x ++ c.p;
-            last = c.last;
-            splits = ap (λ (u : List ℕ). x ++ u) c.splits ∙ sym (append_assoc x c.p c.last);
-            found = None;
-            judged = string-part r b fs t x w text n i.next head-is c.p c.short c.are_bytes;
-            cause = (c.place ∙ ap length (append_assoc t x c.p), subst (λ (u : List ℕ). IsFormRefusal b u to f) (append_assoc t x s.bytes) c.refused);
-          })
-      | inr (inr y) ↦ inr (text-judged r b fs t x w n i.next to f looks (subst (λ (v : Bool). StringHead r b fs t x w v n i.next) y.0 head-is) s.bytes y.1)
-    ];
-  }
+  stops-string looks from to f =
+      stops-payload r b fs t x n (string-part r b fs t x w text n i.next head-is) x text from from to f (extends-none x from)
+      (λ q e y. text-judged r b fs t x w n i.next to f looks (subst (λ (v : Bool). StringHead r b fs t x w v n i.next) e head-is) q y)
