@@ -29,9 +29,7 @@ insert-requires-clause-next c =
 
 -- the first ones are put in order among themselves, and the others stay
 whole : (n : ℕ) (given us ys : List Span) → IsPermutation (take n given) ys → drop n us ≡ drop n given → IsPermutation given (ys ++ drop n us)
-whole n given us ys m e =
-    subst (λ (zs : List Span). IsPermutation given (ys ++ zs)) (sym e)
-    (subst (λ (zs : List Span). IsPermutation zs (ys ++ drop n given)) (take-append-drop n given) (IsPermutation-append_left (drop n given) (take n given) ys m))
+whole n given us ys m e = coe 1 0 (i. IsPermutation (sym (take-append-drop n given) i) (ys ++ e i)) (IsPermutation-append_left (drop n given) (take n given) ys m)
 
 pub returns-then-not-insert : goal.returns-then-not-insert
 returns-then-not-insert c =
@@ -75,9 +73,8 @@ returns c =
     let was = c.args.spans.now in
     let ys = c.loop-i.spans in
     let f = span_pair c.args.bytes.now in
-    let given : take i was ≡ was = take_all i was (omega arith) in
     let all : take i ys ≡ ys = take_all i ys (omega arith) in
-    let permuted = subst (IsPermutation was) all (subst (λ (us : List Span). IsPermutation us (take i ys)) given c.loop-i.invariant.0) in
+    let permuted = coe 0 1 (k. IsPermutation (take_all i was (omega arith) k) (all k)) c.loop-i.invariant.0 in
     let rising = subst (λ (us : List Span). IsRising c.args.order (map f us)) all c.loop-i.invariant.1 in
     record {
       distinct = holds (distinct_permuted c.args.order (map f ys) (map f was) (IsPermutation-map f ys was (IsPermutation-sym was ys permuted)) (rising_distinct c.args.order (map f ys) rising));
