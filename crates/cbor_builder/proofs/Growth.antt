@@ -45,8 +45,7 @@ tile_more out a (s ∷ ss) key val t h g = (t.0, t.1, t.2, tile_more out s.end s
 pub fronted_stay : (out b : List ℕ) (a : ℕ) (ss : List Span) (n : ℕ) → Tile a ss n → n ≤ length out → AreFronted out ss → AreFronted (out ++ b) ss
 fronted_stay out b a [] n t l h = tt
 fronted_stay out b a (s ∷ ss) n t l h =
-    let r = tile_le s.end ss n t.3 in
-    (h.0 ∙ ap front_of (sym (slice_front out b s.key s.val t.1 (omega (arith, t.2, r, l)))), fronted_stay out b s.end ss n t.3 l h.1)
+    (h.0 ∙ ap front_of (sym (slice_front out b s.key s.val t.1 (omega (arith, t.2, tile_le s.end ss n t.3, l)))), fronted_stay out b s.end ss n t.3 l h.1)
 
 pub fronted_more : (out : List ℕ) (ss : List Span) (key val : ℕ) → AreFronted out ss → AreFronted out (ss ++ span out key val ∷ [])
 fronted_more out [] key val h = (refl, tt)
@@ -156,8 +155,7 @@ pub ended : (o : KeyOrder) (out : List ℕ) (ss : List Span) (f g : Frame) (fs :
     → Completed o (outer_spans ss f.shape) f.from g out' ss' g'
     → Stands o out' ss' (g' ∷ fs) (close o (opens out ss (f ∷ g ∷ fs)))
 ended o out ss f g fs out' ss' g' laid takes e c =
-    let l = length-take f.from out in
-    let n : f.from ≡ length (take f.from out) = omega (arith, l, laid.0, laid.1) in
+    let n : f.from ≡ length (take f.from out) = omega (arith, length-take f.from out, laid.0, laid.1) in
     given o (take f.from out) (closed o (shape_open out ss f.start f.shape)) (outer_spans ss f.shape) g fs out' ss' g' laid.3 takes e
     (subst (λ k. Completed o (outer_spans ss f.shape) k g out' ss' g') n c)
 

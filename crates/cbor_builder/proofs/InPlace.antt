@@ -103,12 +103,11 @@ fits_raw o raw out ss from start rises s l h f = f
 pub laid_raw : (o : KeyOrder) (raw out : List ℕ) (ss : List Span) (fs : List Frame) → length raw ≡ length out → Agrees raw out ss fs → Laid o out ss fs → Laid o raw ss fs
 laid_raw o raw out ss [] l a laid = nil_from_length raw (l ∙ ap length laid)
 laid_raw o raw out ss (f ∷ fs) l a laid =
-    let x = length-take f.from raw in
     let y = length-take f.from out in (
       laid.0,
       omega (arith, l, laid.1),
       fits_raw o raw out ss f.from f.start f.rises f.shape l (top_keys raw out ss f fs a) laid.2,
-      laid_raw o (take f.from raw) (take f.from out) (outer_spans ss f.shape) fs (omega (arith, x, y, l)) (outer_agrees raw out ss f fs a) laid.3,
+      laid_raw o (take f.from raw) (take f.from out) (outer_spans ss f.shape) fs (omega (arith, length-take f.from raw, y, l)) (outer_agrees raw out ss f fs a) laid.3,
     )
 
 different_raw : (raw out : List ℕ) (ss : List Span) (fs : List Frame) → Agrees raw out ss fs → AreOpenKeysDifferent (opens raw ss fs) → AreOpenKeysDifferent (opens out ss fs)

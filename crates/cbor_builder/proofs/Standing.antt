@@ -66,12 +66,11 @@ ended_waits : (o : KeyOrder) (d d' : Draft) (x : List ℕ) (ss : List Span) (f g
     → WaitsSame d'.buf (meant d') (outer_spans ss f.shape) f.from g.shape
 ended_waits o d d' x ss f g fs s w em (inr e) = waits_refl d'.buf (meant d') (outer_spans ss f.shape) f.from g.shape e
 ended_waits o d d' x ss f g fs s w em (inl t) =
-    let a = length-take f.from d.buf in
     let b = length-take f.from (meant d) in
     let lies : d'.buf ≡ take f.from d.buf ++ drop f.from d'.buf = sym (take-append-drop f.from d'.buf) ∙ ap (λ (xs : List ℕ). xs ++ drop f.from d'.buf) t in
     let at : f.from ≡ length (take f.from (meant d)) = omega (arith, b, s.0.0, s.0.1) in
     coe 1 0 (i. WaitsSame (lies i) (em i) (outer_spans ss f.shape) (at i) g.shape)
-    (waits_stay o _ _ (drop f.from d'.buf) x (outer_spans ss f.shape) g fs (omega (arith, a, b, whole_length d s.1)) s.0.3 (outer_agrees d.buf (meant d) ss f (g ∷ fs) s.2))
+    (waits_stay o _ _ (drop f.from d'.buf) x (outer_spans ss f.shape) g fs (omega (arith, length-take f.from d.buf, b, whole_length d s.1)) s.0.3 (outer_agrees d.buf (meant d) ss f (g ∷ fs) s.2))
 
 ended_agrees : (o : KeyOrder) (d d' : Draft) (x : List ℕ) (ss : List Span) (f g : Frame) (fs : List Frame) (ss' : List Span) (g' : Frame) → Stand o d ss (f ∷ g ∷ fs) → IsWhole d' → Takes g.shape
     → meant d' ≡ take f.from (meant d) ++ x → KeepsFront f.from d d' → ((first : ℕ) → g.shape ≡ Map first → IsSettled f.from d') → (fs ≡ [] → IsSettled f.from d')
@@ -88,9 +87,8 @@ ended_agrees o d d' x ss f g fs ss' g' s w takes em (inl t) key last c =
 pub member_outer : (o : KeyOrder) (d d' : Draft) (x : List ℕ) (ss ss1 : List Span) (f g : Frame) (fs : List Frame) → Stand o d ss (f ∷ g ∷ fs) → IsWhole d' → meant d' ≡ take f.from (meant d) ++ x
     → KeepsFront f.from d d' → ss1 ≡ outer_spans ss f.shape → IsReady d'.buf ss1 f.from g.shape
 member_outer o d d' x ss ss1 f g fs s w em front es =
-    let n = length-take f.from (meant d) in
     let us = outer_spans ss f.shape in
-    let ready = key_ready o (take f.from (meant d)) x us g fs (meant d') f.from s.0.3 em (omega (arith, n, s.0.0, s.0.1)) in
+    let ready = key_ready o (take f.from (meant d)) x us g fs (meant d') f.from s.0.3 em (omega (arith, length-take f.from (meant d), s.0.0, s.0.1)) in
     subst (λ (us : List Span). IsReady d'.buf us f.from g.shape) (sym es) (ready_same d'.buf (meant d') us f.from g.shape (whole_length d' w) (ended_waits o d d' x ss f g fs s w em front) ready)
 
 pub member_ended : (o : KeyOrder) (d d' : Draft) (ss ss1 : List Span) (f g : Frame) (fs : List Frame) (ss' : List Span) (g' : Frame) → Stand o d ss (f ∷ g ∷ fs) → IsWhole d' → Takes g.shape
@@ -111,9 +109,8 @@ member_longer s buf b laid string e =
     let fs = frames s in
     let w = laid.0 in
     let x = draft_extended d buf b w.1 e in
-    let l = whole_length d w.1 in
     let st = coe 1 0 (i. Stands s.order (x.meant_is i) ss fs (extended b (standing s))) (lengthened s.order (meant d) b ss s.top (outers s) w.0 string) in
-    let a = agrees_longer d.buf (meant d) b ss s.top (outers s) (omega (arith, l, w.0.0, w.0.1)) (omega (arith, w.0.0, w.0.1)) string w.2 in
+    let a = agrees_longer d.buf (meant d) b ss s.top (outers s) (omega (arith, whole_length d w.1, w.0.0, w.0.1)) (omega (arith, w.0.0, w.0.1)) string w.2 in
     (((st.0, x.whole, coe 1 0 (i. Agrees (e i) (x.meant_is i) ss fs) a), laid.1), st.1)
 
 -- the bytes as they lie in place of those that are meant: of what is open it makes no difference

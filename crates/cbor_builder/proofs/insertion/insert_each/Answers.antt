@@ -58,8 +58,7 @@ loop-i-preserved c =
     let same = same_at i c.loop-i.spans c.args.spans.now no_span c.loop-i.invariant.2 ∙ get_or_default c.args.spans.now i no_span next (omega arith) in
     let ys = c.insert.new.places in
     let rest = drop (i + 1) c.loop-i.spans in
-    let long = length-take (i + 1) c.loop-i.spans in
-    let size : length ys ≡ i + 1 = omega (arith, long, c.insert.auto.places) in
+    let size : length ys ≡ i + 1 = omega (arith, length-take (i + 1) c.loop-i.spans, c.insert.auto.places) in
     let all : take (i + 1) (ys ++ rest) ≡ ys = taken_front (i + 1) ys rest size in
     let moved : IsPermutation (next ∷ take i c.loop-i.spans) ys = subst (λ (us : List Span). IsPermutation (next ∷ us) ys) (in_front_taken i c.loop-i.spans (omega arith)) c.if-not-insert.ensures.permuted in (
       subst (IsPermutation (take (i + 1) c.args.spans.now)) (sym all) (more_permuted c.args.spans.now (take i c.loop-i.spans) ys i next (omega arith) same c.loop-i.invariant.0 moved),

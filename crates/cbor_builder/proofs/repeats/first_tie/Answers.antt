@@ -10,9 +10,8 @@ use Rattle.cbor_builder.proofs.repeats.first_tie.Goals.{then-is_eq, else-is_eq}
 
 pub loop-i-init : goal.loop-i-init
 loop-i-init c =
-    let some = eqb-false (length c.args.spans.now) 0 (sym c.if-is_empty.ensures) in
     let alone = tie_alone c.args.bytes.now c.args.spans.now c.place-least.result c.place-least.ensures in
-    (grind (arith, some), alone.0, alone.1)
+    (grind (arith, eqb-false (length c.args.spans.now) 0 (sym c.if-is_empty.ensures)), alone.0, alone.1)
 
 pub loop-i-preserved : goal.loop-i-preserved
 loop-i-preserved c =
