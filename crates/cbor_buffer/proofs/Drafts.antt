@@ -20,11 +20,7 @@ pub rope_length : (d : Draft) → IsRope d → length (rope d.buf d.cuts.items) 
 rope_length d r = let l = run_length d.buf 0 (length d.buf) 0 d.end d.cuts.items (omega arith) r.0 in omega (arith, l)
 
 pub whole_length : (d : Draft) → IsWhole d → length d.buf ≡ length (meant d)
-whole_length d w =
-    let a = rope_length d (whole_rope d w) in
-    let b = length-append (rope d.buf d.cuts.items) (drop d.end d.buf) in
-    let c = length-drop d.end d.buf in
-    omega (arith, a, b, c, w.1)
+whole_length d w = omega (arith, rope_length d (whole_rope d w), length-append (rope d.buf d.cuts.items) (drop d.end d.buf), length-drop d.end d.buf, w.1)
 
 -- nothing is out of place
 pub plain : (d : Draft) → IsRope d → d.end ≡ 0 → meant d ≡ d.buf
@@ -34,11 +30,10 @@ plain d r e = (λ i. nil_from_length (rope d.buf d.cuts.items) (rope_length d r 
 
 pub extended : (d : Draft) (buf x : List ℕ) → IsWhole d → buf ≡ d.buf ++ x → Extends d (record d { buf = buf }) x
 extended d buf x w e =
-    let l = length-append d.buf x in
     let a = rope_more d.buf x 0 d.end 0 d.end d.cuts.items w.1 (blocks_run d.cuts.items (reverse d.regions.items) d.end w.0) in
     let b = drop-append-le d.end d.buf x w.1 in
     record {
-      whole = (w.0, omega (arith, w.1, l, ap length e));
+      whole = (w.0, omega (arith, w.1, length-append d.buf x, ap length e));
       lies = e;
       meant_is = ap (λ (xs : List ℕ). rope xs d.cuts.items ++ drop d.end xs) e ∙ (λ i. a i ++ b i) ∙ sym (append_assoc (rope d.buf d.cuts.items) (drop d.end d.buf) x);
     }
@@ -55,8 +50,7 @@ filled_behind d buf h from start w g b n e =
     let A = rope d.buf cs in
     let la = rope_length d (whole_rope d w) in
     let lf = length-take-le from d.buf (omega (arith, b, n)) in
-    let lx = length-append (take from d.buf) X in
-    let long : end ≤ length buf = omega (arith, ap length e, lx, lf, g) in
+    let long : end ≤ length buf = omega (arith, ap length e, length-append (take from d.buf) X, lf, g) in
     let same : rope buf cs ≡ A = rope_front buf d.buf 0 end 0 end cs (ap (take end) e ∙ take_front end from d.buf X g (omega (arith, b, n))) long w.1 run in
     let mid : drop end (take from d.buf) ≡ take (from - end) (drop end d.buf) =
     let m : from ≡ end + (from - end) = omega (arith, g) in ap (λ (k : ℕ). drop end (take k d.buf)) m ∙ drop-take end (from - end) d.buf in
@@ -83,14 +77,10 @@ gap_filled raw buf h cs r rs e from start b g hb hs hr lh eb =
     let bs = b.1 in
     let Y = drop start raw in
     let lf = length-take-le from raw (omega (arith, b.5, g, hs, hr)) in
-    let ly = length-drop start raw in
-    let l1 = length-append (take from raw) (h ++ Y) in
-    let l2 = length-append h Y in
-    let l3 = length-append (take from raw) h in
-    let long : length buf ≡ length raw = omega (arith, ap length eb, l1, l2, lf, ly, lh, hs, hr, b.5, g) in
+    let long : length buf ≡ length raw = omega (arith, ap length eb, length-append (take from raw) (h ++ Y), length-append h Y, lf, length-drop start raw, lh, hs, hr, b.5, g) in
     let tf : take from buf ≡ take from raw = ap (take from) eb ∙ take_front from from raw (h ++ Y) (omega arith) (omega (arith, b.5, g, hs, hr)) in
     let tp : take p buf ≡ take p raw = ap (take p) eb ∙ take_front p from raw (h ++ Y) hb (omega (arith, b.5, g, hs, hr)) in
-    let st : start ≡ length (take from raw ++ h) = omega (arith, l3, lf, lh, hs) in
+    let st : start ≡ length (take from raw ++ h) = omega (arith, length-append (take from raw) h, lf, lh, hs) in
     let ts : drop start buf ≡ drop start raw = ap (drop start) (eb ∙ sym (append_assoc (take from raw) h Y)) ∙ ap (λ (k : ℕ). drop k ((take from raw ++ h) ++ Y)) st ∙ drop-append_seam (take from raw ++ h) Y in
     let df : drop from buf ≡ h ++ Y = ap (drop from) eb ∙ drop_front from raw (h ++ Y) (omega (arith, b.5, g, hs, hr)) in
     let mid : slice_range buf from start ≡ h = ap (take (start - from)) df ∙ ap (λ (k : ℕ). take k (h ++ Y)) (sym lh) ∙ take-append_seam h Y in
@@ -115,11 +105,9 @@ gap_filled raw buf h cs r rs e from start b g hb hs hr lh eb =
     let la = run_length raw 0 p 0 p ds (omega (arith, hb, b.5, g, hs, hr)) (blocks_run ds rs p b.7) in
     let lp = slice_length raw p from (omega (arith, b.5, g, hs, hr)) in
     let ls = slice_length raw from start (omega (arith, b.5, g, hr)) in
-    let lap = length-append A P in
-    let front : from ≡ length (A ++ P) = omega (arith, la, lp, lap, hb) in
+    let front : from ≡ length (A ++ P) = omega (arith, la, lp, length-append A P, hb) in
     let taken : take from M ≡ A ++ P = ap (take from) was ∙ ap (λ (k : ℕ). take k ((A ++ P) ++ (S ++ (Q ++ (C ++ D))))) front ∙ take-append_seam (A ++ P) (S ++ (Q ++ (C ++ D))) in
-    let laps = length-append (A ++ P) S in
-    let behind : start ≡ length ((A ++ P) ++ S) = omega (arith, front, laps, ls, hs) in
+    let behind : start ≡ length ((A ++ P) ++ S) = omega (arith, front, length-append (A ++ P) S, ls, hs) in
     let dropped : drop start M ≡ Q ++ (C ++ D) =
     ap (drop start) (was ∙ sym (append_assoc (A ++ P) S (Q ++ (C ++ D)))) ∙ ap (λ (k : ℕ). drop k (((A ++ P) ++ S) ++ (Q ++ (C ++ D)))) behind ∙ drop-append_seam ((A ++ P) ++ S) (Q ++ (C ++ D)) in
     now ∙ (λ i. sym taken i ++ (h ++ sym dropped i))
@@ -179,13 +167,11 @@ pub same_meant : (d d' : Draft) → d'.buf ≡ d.buf → d'.cuts.items ≡ d.cut
 same_meant d d' b c e = λ i. rope (b i) (c i) ++ drop (e i) (b i)
 
 pub rope_same : (d d' : Draft) → d'.buf ≡ d.buf → d'.cuts.items ≡ d.cuts.items → d'.end ≡ d.end → IsRope d → IsRope d'
-rope_same d d' b c e r =
-    (subst (λ (k : ℕ). Run 0 (length d'.buf) 0 d'.cuts.items k) (sym e) (subst (λ (xs : List Cut). Run 0 (length d'.buf) 0 xs d.end) (sym c) (subst (λ (xs : List ℕ). Run 0 (length xs) 0 d.cuts.items d.end) (sym b) r.0)), omega (arith, ap length b, e, r.1))
+rope_same d d' b c e r = (coe 1 0 (i. Run 0 (length (b i)) 0 (c i) (e i)) r.0, omega (arith, ap length b, e, r.1))
 
 pub loose_rope : (d : Draft) (start : ℕ) (r : Region) → IsLoose d start r → IsRope d
 loose_rope d start r w =
-    let run = blocks_run d.cuts.items (r ∷ reverse d.regions.items) (length d.buf) w.0 in
-    (subst (λ (k : ℕ). Run 0 (length d.buf) 0 d.cuts.items k) (sym w.1) run, omega (arith, w.1))
+    (coe 1 0 (i. Run 0 (length d.buf) 0 d.cuts.items (w.1 i)) (blocks_run d.cuts.items (r ∷ reverse d.regions.items) (length d.buf) w.0), omega (arith, w.1))
 
 -- what is behind all regions lies as it is meant
 pub tail_plain : (d : Draft) (n : ℕ) → IsWhole d → d.end ≤ n → drop n d.buf ≡ drop n (meant d)
@@ -199,12 +185,9 @@ pub filled_in_gap : (d m : Draft) (buf h : List ℕ) (from start : ℕ) → IsWh
 filled_in_gap d m buf h from start w eb em f b n lh e =
     let blocks = subst (λ (rs : List Region). Blocks m.cuts.items rs m.end) f.2 w.0 in
     let lf = length-take-le from m.buf (omega (arith, b, n, ap length eb)) in
-    let ly = length-drop start m.buf in
-    let l1 = length-append (take from m.buf) (h ++ drop start m.buf) in
-    let l2 = length-append h (drop start m.buf) in
     let is = gap_filled m.buf buf h m.cuts.items f.0 f.1 m.end from start blocks w.1 f.3 b f.4 lh e in
     record {
-      whole = (w.0, omega (arith, ap length e, l1, l2, lf, ly, lh, b, n, w.1, ap length eb));
+      whole = (w.0, omega (arith, ap length e, length-append (take from m.buf) (h ++ drop start m.buf), length-append h (drop start m.buf), lf, length-drop start m.buf, lh, b, n, w.1, ap length eb));
       meant_is = is ∙ (λ i. take from (em i) ++ (h ++ drop start (em i)));
       front = inl (ap (take from) e ∙ take_front from from m.buf (h ++ drop start m.buf) (omega arith) (omega (arith, b, n, ap length eb)) ∙ ap (take from) eb);
       lies = λ k. let j = eb ∙ k ∙ sym em in e ∙ (λ i. take from (j i) ++ (h ++ drop start (j i))) ∙ sym is;
@@ -213,9 +196,7 @@ filled_in_gap d m buf h from start w eb em f b n lh e =
 pub filled_settled : (d m : Draft) (buf h : List ℕ) (from start : ℕ) → IsWhole d → IsWhole m → m.end ≡ 0 → meant m ≡ meant d → from ≤ start → start ≤ length d.buf
     → buf ≡ take from m.buf ++ (h ++ drop start m.buf) → Fills d (record m { buf = buf }) from start h
 filled_settled d m buf h from start wd w z em b n e =
-    let ld = whole_length d wd in
-    let lm = whole_length m w in
-    let t = filled_behind m buf h from start w (omega (arith, z)) b (omega (arith, n, ld, lm, ap length em)) e in
+    let t = filled_behind m buf h from start w (omega (arith, z)) b (omega (arith, n, whole_length d wd, whole_length m w, ap length em)) e in
     let lies = sym (plain (record m { buf = buf }) (whole_rope (record m { buf = buf }) t.whole) z) in
     record { whole = t.whole; meant_is = t.meant_is ∙ (λ i. take from (em i) ++ (h ++ drop start (em i))); front = inr lies; lies = λ k. lies }
 
@@ -266,18 +247,12 @@ put_down d m buf start ss wd n behind within w em g stays e =
 pub loosened : (d m : Draft) (r : Region) (n : ℕ) (cs : List Cut) → IsWhole d → d.regions.items ≡ m.regions.items ++ r ∷ [] → m.buf ≡ d.buf → m.cuts.items ≡ d.cuts.items → n ≡ length d.buf → cs ≡ m.cuts.items ++ gap d.end n ∷ []
     → Blocks cs (r ∷ reverse m.regions.items) (length m.buf)
 loosened d m r n cs w er eb ec en e =
-    let N = length d.buf in
-    let rs = reverse m.regions.items in
     let was = subst (λ (us : List Region). Blocks d.cuts.items us d.end) (popped d.regions.items m.regions.items r er) w.0 in
-    let long = blocks_longer d.cuts.items r rs d.end N was w.1 in
-    let cuts : cs ≡ d.cuts.items ++ gap d.end N ∷ [] = e ∙ (λ i. ec i ++ gap d.end (en i) ∷ []) in
-    subst (λ (k : ℕ). Blocks cs (r ∷ rs) k) (ap length (sym eb)) (subst (λ (us : List Cut). Blocks us (r ∷ rs) N) (sym cuts) long)
+    let cuts : cs ≡ d.cuts.items ++ gap d.end (length d.buf) ∷ [] = e ∙ (λ i. ec i ++ gap d.end (en i) ∷ []) in
+    coe 1 0 (i. Blocks (cuts i) (r ∷ reverse m.regions.items) (length (eb i))) (blocks_longer d.cuts.items r (reverse m.regions.items) d.end (length d.buf) was w.1)
 
 -- a shorter front, through two steps
 pub front_shorter : (n k : ℕ) (d m d' : Draft) → n ≤ k → KeepsFront k d m → KeepsFront n m d' → (m.buf ≡ meant m → d'.buf ≡ meant d') → KeepsFront n d d'
 front_shorter n k d m d' h (inr e) f l = inr (l e)
 front_shorter n k d m d' h (inl e) (inr f) l = inr f
-front_shorter n k d m d' h (inl e) (inl f) l =
-    let a = sym (take-take n k m.buf h) in
-    let b = take-take n k d.buf h in
-    inl (f ∙ a ∙ ap (take n) e ∙ b)
+front_shorter n k d m d' h (inl e) (inl f) l = inl (f ∙ sym (take-take n k m.buf h) ∙ ap (take n) e ∙ take-take n k d.buf h)

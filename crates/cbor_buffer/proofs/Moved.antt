@@ -30,10 +30,8 @@ run_inside l h p e (c ∷ cs) r = ((r.2, r.3), run_inside l h (p + (c.to - c.fro
 pub run_length : (raw : List ℕ) (l h p e : ℕ) (cs : List Cut) → h ≤ length raw → Run l h p cs e → length (rope raw cs) + p ≡ e
 run_length raw l h p e [] g r = omega (arith, r)
 run_length raw l h p e (c ∷ cs) g r =
-    let a = length-append (piece raw c) (rope raw cs) in
     let b = slice_length raw c.from c.to (omega (arith, g, r.3)) in
-    let k = run_length raw l h (p + (c.to - c.from)) e cs g r.4 in
-    omega (arith, a, b, k)
+    omega (arith, length-append (piece raw c) (rope raw cs), b, run_length raw l h (p + (c.to - c.from)) e cs g r.4)
 
 pub rope_front : (raw raw' : List ℕ) (l h p e : ℕ) (cs : List Cut) → take h raw ≡ take h raw' → h ≤ length raw → h ≤ length raw' → Run l h p cs e → rope raw cs ≡ rope raw' cs
 rope_front raw raw' l h p e [] t a b r = refl
@@ -108,9 +106,7 @@ popped old new r e = ap reverse e ∙ reverse-append new (r ∷ [])
 pub merged_off : (cs : List Cut) (old new : List Region) (o : Option Region) (e : ℕ) → old ≡ new ++ option_to_list o → 1 < length old → Blocks cs (reverse old) e → Blocks cs (reverse new) e
 merged_off cs old new None e is n b = subst (λ (rs : List Region). Blocks cs (reverse rs) e) (is ∙ append-nil new) b
 merged_off cs old new (Some r) e is n b =
-    let l = length-append new (r ∷ []) in
-    let v = length-reverse new in
-    merged cs r (reverse new) e (subst (λ (rs : List Region). Blocks cs rs e) (popped old new r is) b) (omega (arith, ap length is, l, n, v))
+    merged cs r (reverse new) e (subst (λ (rs : List Region). Blocks cs rs e) (popped old new r is) b) (omega (arith, ap length is, length-append new (r ∷ []), n, length-reverse new))
 
 -- the cuts go on
 pub blocks_longer : (cs : List Cut) (r : Region) (rs : List Region) (e n : ℕ) → Blocks cs (r ∷ rs) e → e ≤ n → Blocks (cs ++ gap e n ∷ []) (r ∷ rs) n
@@ -170,8 +166,7 @@ skipped raw R c skip from h g e = elim (cases_lt skip (c.to - c.from)) [
       ∙ drop_behind A (B ++ R) skip skip la (omega arith) ∙ ap (λ (k : ℕ). drop k (B ++ R)) zero_skip ∙ ap (λ (k : ℕ). B ++ drop k R) none
   | inr p ↦
       let at : from ≡ c.to = omega (arith, e, p, h) in
-      let lb = slice_length raw from c.to g in
-      let none : slice_range raw from c.to ≡ [] = nil_from_length (slice_range raw from c.to) (omega (arith, lb, at)) in
+      let none : slice_range raw from c.to ≡ [] = nil_from_length (slice_range raw from c.to) (omega (arith, slice_length raw from c.to g, at)) in
       drop_behind (piece raw c) R (c.to - c.from) skip (slice_length raw c.from c.to g) p ∙ ap (λ (xs : List ℕ). xs ++ drop (skip - (c.to - c.from)) R) (sym none)
 ]
 
@@ -183,8 +178,7 @@ limited raw S high left from to h g e = elim (cases_lt left (high - from)) [
       let B = slice_range raw from high in
       let at : to - from ≡ left = omega (arith, e, p) in
       let none : left - (to - from) ≡ 0 = omega (arith, at) in
-      let lb = slice_length raw from high g in
-      take-append-le left B S (omega (arith, lb, p)) ∙ take-take left (high - from) (drop from raw) (omega (arith, p)) ∙ ap (λ (k : ℕ). take k (drop from raw)) (sym at)
+      take-append-le left B S (omega (arith, slice_length raw from high g, p)) ∙ take-take left (high - from) (drop from raw) (omega (arith, p)) ∙ ap (λ (k : ℕ). take k (drop from raw)) (sym at)
       ∙ sym (append-nil (slice_range raw from to)) ∙ ap (λ (k : ℕ). slice_range raw from to ++ take k S) (sym none)
   | inr p ↦
       let at : to ≡ high = omega (arith, e, p, h) in

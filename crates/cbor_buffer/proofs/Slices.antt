@@ -81,7 +81,4 @@ take_behind xs ys p n l h =
     let m : n ≡ length xs + (n - p) = omega (arith, l, h) in ap (λ k. take k (xs ++ ys)) m ∙ take-append-add xs ys (n - p)
 
 pub slice_length : (xs : List ℕ) (s e : ℕ) → e ≤ length xs → length (slice_range xs s e) ≡ e - s
-slice_length xs s e h =
-    let l = length-take (e - s) (drop s xs) in
-    let m = length-drop s xs in
-    omega (arith, l, m, h)
+slice_length xs s e h = omega (arith, length-take (e - s) (drop s xs), length-drop s xs, h)

@@ -13,28 +13,19 @@ take_front from start out x h g =
 
 pub drop_front : (start : ℕ) (out x : List ℕ) → start ≤ length out → drop start (take start out ++ x) ≡ x
 drop_front start out x g =
-    let l = length-take start out in
-    let e : start ≡ length (take start out) = omega (arith, l, g) in
+    let e : start ≡ length (take start out) = omega (arith, length-take start out, g) in
     ap (λ k. drop k (take start out ++ x)) e ∙ drop-append_seam (take start out) x
 
 -- the length stays where as many bytes are written as stood there
 pub length_kept : (xs ys : List ℕ) (a k : ℕ) → a + k ≤ length xs → length ys ≡ k → length (take a xs ++ (ys ++ drop k (drop a xs))) ≡ length xs
 length_kept xs ys a k h e =
-    let l = length-append (take a xs) (ys ++ drop k (drop a xs)) in
-    let m = length-append ys (drop k (drop a xs)) in
-    let n = length-take a xs in
-    let p = length-drop k (drop a xs) in
-    let q = length-drop a xs in
-    omega (arith, l, m, n, p, q, h, e)
+    omega (arith, length-append (take a xs) (ys ++ drop k (drop a xs)), length-append ys (drop k (drop a xs)), length-take a xs, length-drop k (drop a xs), length-drop a xs, h, e)
 
 -- the first k of the bytes that are written behind the first len
 pub written : (xs ys rest : List ℕ) (len k : ℕ) → len ≤ length xs → k ≤ length ys → take (len + k) (take len xs ++ (ys ++ rest)) ≡ take len xs ++ take k ys
 written xs ys rest len k h g =
     let front = take len xs ++ take k ys in
-    let a = length-append (take len xs) (take k ys) in
-    let b = length-take len xs in
-    let c = length-take k ys in
-    let n : len + k ≡ length front = omega (arith, a, b, c, h, g) in
+    let n : len + k ≡ length front = omega (arith, length-append (take len xs) (take k ys), length-take len xs, length-take k ys, h, g) in
     let split : take len xs ++ (ys ++ rest) ≡ front ++ (drop k ys ++ rest) =
     ap (λ (us : List ℕ). take len xs ++ (us ++ rest)) (sym (take-append-drop k ys)) ∙ simp append_assoc in
     (λ i. take (n i) (split i)) ∙ take-append_seam front (drop k ys ++ rest)
@@ -43,17 +34,14 @@ written xs ys rest len k h g =
 pub byte_written : (xs : List ℕ) (at start len x : ℕ) → start ≡ at + 1 → start ≤ len → len ≤ length xs → take len (set xs at x) ≡ take at (take len xs) ++ (x ∷ drop start (take len xs))
 byte_written xs at start len x e h g =
     let out = take len xs in
-    let l = length-take len xs in
-    let d : drop at (set out at x) ≡ x ∷ drop start out = drop-set out at x (omega (arith, l, e, h, g)) ∙ ap (λ k. x ∷ drop k out) (sym e) in
+    let d : drop at (set out at x) ≡ x ∷ drop start out = drop-set out at x (omega (arith, length-take len xs, e, h, g)) ∙ ap (λ k. x ∷ drop k out) (sym e) in
     take-set-lt len xs at x (omega (arith, e, h))
     ∙ sym (take-append-drop at (set out at x)) ∙ ap (λ (us : List ℕ). us ++ drop at (set out at x)) (take-set out at x) ∙ ap (λ (us : List ℕ). take at out ++ us) d
 
 -- a head, and what follows it up to m
 head_and_tail : (front h tail rest : List ℕ) (m : ℕ) → m ≡ length front + (length h + length tail) → take m (front ++ (h ++ (tail ++ rest))) ≡ front ++ (h ++ tail)
 head_and_tail front h tail rest m e =
-    let a = length-append front (h ++ tail) in
-    let b = length-append h tail in
-    let n : m ≡ length (front ++ (h ++ tail)) = omega (arith, a, b, e) in
+    let n : m ≡ length (front ++ (h ++ tail)) = omega (arith, length-append front (h ++ tail), length-append h tail, e) in
     let regroup : front ++ (h ++ (tail ++ rest)) ≡ (front ++ (h ++ tail)) ++ rest = simp append_assoc in
     (λ i. take (n i) (regroup i)) ∙ take-append_seam (front ++ (h ++ tail)) rest
 
@@ -68,9 +56,7 @@ head_kept xs h len from start k g b e is n =
     let rest : drop k (drop from xs) ≡ drop start out ++ drop len xs =
     drop-drop k from xs ∙ ap (λ j. drop j xs) s ∙ ap (drop start) whole ∙ drop-append-le start out (drop len xs) (omega (arith, l, e, g)) in
     let front : take from xs ≡ take from out = ap (take from) whole ∙ take-append-le from out (drop len xs) (omega (arith, l, b, e, g)) in
-    let lf = length-take from out in
-    let ld = length-drop start out in
-    (λ i. take len (front i ++ (h ++ rest i))) ∙ head_and_tail (take from out) h (drop start out) (drop len xs) len (omega (arith, l, lf, ld, n, is, b, e, g))
+    (λ i. take len (front i ++ (h ++ rest i))) ∙ head_and_tail (take from out) h (drop start out) (drop len xs) len (omega (arith, l, length-take from out, length-drop start out, n, is, b, e, g))
 
 -- a head in place of one of another length: what follows has been moved
 pub head_moved : (xs h : List ℕ) (len from start k m : ℕ) → len ≤ length xs → from ≤ start → start ≤ len → from + k + (len - start) ≤ length xs → length h ≡ k → m ≡ from + k + (len - start)
@@ -91,8 +77,7 @@ head_moved xs h len from start k m g b e fits n is =
     ap (take from) flat ∙ take_front from (from + k) xs (tail ++ rest) (omega arith) (omega (arith, fits)) ∙ ap (take from) whole ∙ take-append-le from out (drop len xs) (omega (arith, l, b, e, g)) in
     let behind : drop k (drop from moved) ≡ drop start out ++ rest =
     drop-drop k from moved ∙ ap (drop (from + k)) flat ∙ drop_front (from + k) xs (tail ++ rest) (omega (arith, fits)) ∙ ap (λ (us : List ℕ). us ++ rest) same in
-    let lf = length-take from out in
-    (λ i. take m (front i ++ (h ++ behind i))) ∙ head_and_tail (take from out) h (drop start out) rest m (omega (arith, l, lf, lo, n, is, b, e, g))
+    (λ i. take m (front i ++ (h ++ behind i))) ∙ head_and_tail (take from out) h (drop start out) rest m (omega (arith, l, length-take from out, lo, n, is, b, e, g))
 
 -- ---- of a vector whose first len elements are the output
 
@@ -100,9 +85,8 @@ pub vec_kept : (v : Vec ℕ) (xs ys h out : List ℕ) (len from start k : ℕ) �
     → k ≡ start - from → ys ≡ h → k ≡ length h
     → take len (with_items v (take from xs ++ (ys ++ drop (start - from) (drop from xs)))).items ≡ take from out ++ (h ++ drop start out)
 vec_kept v xs ys h out len from start k ex eo g b e ek ey n =
-    let l = length-take len v.items in
     let long : len ≤ length v.items = omega (arith, g, v.ok.0) in
-    let ends : start ≤ len = omega (arith, l, ap length eo, e) in
+    let ends : start ≤ len = omega (arith, length-take len v.items, ap length eo, e) in
     let room : from + (start - from) ≤ length xs = omega (arith, ap length ex, long, ends, b) in
     let size : length ys ≡ start - from = ap length ey ∙ sym n ∙ ek in
     let whole = length_kept xs ys from (start - from) room size ∙ ap length ex ∙ sym v.ok.0 in
@@ -115,8 +99,7 @@ pub vec_moved : (v : Vec ℕ) (was xs ys h out : List ℕ) (len from start k : �
     → len + k ≤ length was → v.len ≡ length was → from ≤ start → start ≤ length out → ys ≡ h → k ≡ length h
     → take (from + k + (len - start)) (with_items v (take from xs ++ (ys ++ drop (from + k - from) (drop from xs)))).items ≡ take from out ++ (h ++ drop start out)
 vec_moved v was xs ys h out len from start k ev ex eo room same b e ey n =
-    let l = length-take len was in
-    let ends : start ≤ len = omega (arith, l, ap length eo, e) in
+    let ends : start ≤ len = omega (arith, length-take len was, ap length eo, e) in
     let step : from + k - from ≡ k = omega arith in
     let size : length ys ≡ from + k - from = ap length ey ∙ sym n ∙ sym step in
     let fits : from + (from + k - from) ≤ length xs = omega (arith, ap length ex, v.ok.0, same, room, ends, b) in
@@ -142,8 +125,7 @@ pub vec_closed_up : (items was new out : List ℕ) (n len r s e : ℕ) → was �
     → take r new ≡ take s was ++ slice_range was e len → take r (take n (new ++ drop (length new) items)) ≡ take s out ++ drop e out
 vec_closed_up items was new out n len r s e is en l eo h b g now =
     let front = front_of_list items out len eo (omega (arith, en, h)) in
-    let size = length-take len items in
-    let long : length out ≡ len = omega (arith, size, ap length eo, en, h) in
+    let long : length out ≡ len = omega (arith, length-take len items, ap length eo, en, h) in
     let before : take s items ≡ take s out = sym (take-take s len items (omega (arith, long, b, g))) ∙ ap (take s) eo in
     let behind : slice_range items e len ≡ drop e out = slice_within items out e len front (omega (arith, long, g)) (omega (arith, long)) ∙ slice_all out e len long in
     ap (take r) (written_back items new n en (l ∙ ap length is)) ∙ now ∙ ap (λ (xs : List ℕ). take s xs ++ slice_range xs e len) is

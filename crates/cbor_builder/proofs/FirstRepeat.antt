@@ -1,11 +1,11 @@
 -- The first key that is equal to an earlier one.
-use Rattle.std.proofs.Common.{◌≡◌, ◌≢◌, ℕ, zero, suc, ◌+◌, ◌^◌, ◌<◌, ◌≤◌, Bool, true, false, List, [], ◌∷◌, length, get_or, map, Option, Some, None, refl, sym, ap, ◌∙◌, subst, arith, inl, inr, IsPermutation, cond, slice_range, ◌==◌, lt-ltb, le-ltb, ne_eqb, eq-eqb}
+use Rattle.std.proofs.Common.{◌≡◌, ℕ, zero, suc, ◌+◌, ◌^◌, ◌<◌, ◌≤◌, Bool, true, false, List, [], ◌∷◌, length, get_or, map, Option, Some, None, sym, ap, ◌∙◌, subst, arith, inl, inr, IsPermutation, cond, slice_range, ◌==◌, lt-ltb, le-ltb, ne_eqb, eq-eqb}
 use Rattle.std.specs.List.{count_by}
 use mir.Val.{bool_byte}
 use Rattle.std.proofs.lemmas.Bool.{cases_lt, cases_eq}
 use Rattle.std.proofs.lemmas.List.{get_or-map, length-map}
 use Rattle.std.proofs.lemmas.List.Sorted.{IsPermutation-sym, IsPermutation-trans, sum_by-IsPermutation}
-use Rattle.std.proofs.lemmas.List.Sums.{sum_by-cons, count_by-le-length}
+use Rattle.std.proofs.lemmas.List.Sums.{sum_by-cons}
 use Rattle.cbor_builder.specs.Built.{IsRepeatAt, AreAllDifferent, IsFirstRepeat}
 use Rattle.cbor_builder.specs.inner.Front.{key_of}
 use Rattle.cbor_builder.specs.inner.Laid.{Tile}
@@ -47,40 +47,29 @@ tile_rises out a n ss h i j l k =
           λ t. slice_range out (key t) (val t),
     )
 
-by_index : (P : Span → Type 0) (s : Span) (ss : List Span) (i : ℕ) → (i ≡ 0 → P s) → ((j : ℕ) → i ≡ suc j → P (nth ss j)) → P (nth (s ∷ ss) i)
-by_index P s ss zero f g = f refl
-by_index P s ss (suc i) f g = g i refl
-
 -- so many lie before a place: those, and no others
-counted : (out : List ℕ) (ss : List Span) (at : ℕ) → Rise out ss
-    → ((i : ℕ) → i < count_by (lies_before at) ss → place (nth ss i) < at) × ((i : ℕ) → count_by (lies_before at) ss ≤ i → i < length ss → at ≤ place (nth ss i))
-counted out [] at h = ((λ i l. absurd (omega (arith, l))), (λ i k l. absurd (omega (arith, l))))
-counted out (s ∷ ss) at h =
-    let rest = counted out ss at (λ i j l k. h (suc i) (suc j) (omega (arith, l)) (omega (arith, k))) in
-    let ones : Span → ℕ = λ x. cond (lies_before at x) 1 0 in
-    let all = sum_by-cons ones s ss in
-    let less = by_index (λ x. place x < at) s ss in
-    let more = by_index (λ x. at ≤ place x) s ss in
-    elim (cases_lt (place s) at) [
-      | inl l ↦
-          let one : ones s ≡ 1 = ap (λ (b : Bool). cond b 1 0) (lt-ltb (place s) at l) in (
-            (λ i k. less i (λ e. l) (λ j e. rest.0 j (omega (arith, k, e, one, all)))),
-            (λ i k m. more i (λ e. absurd (omega (arith, k, e, one, all))) (λ j e. rest.1 j (omega (arith, k, e, one, all)) (omega (arith, m, e)))),
-          )
-      | inr l ↦
-          let none : ones s ≡ 0 = ap (λ (b : Bool). cond b 1 0) (le-ltb (place s) at l) in
-          let no_more : count_by (lies_before at) ss ≡ 0 = elim (cases_lt 0 (count_by (lies_before at) ss)) [
-            | inl g ↦
-                let here = rest.0 0 g in
-                let some = count_by-le-length (lies_before at) ss in
-                let up = (h 0 1 (omega arith) (omega (arith, g, some))).0 in
-                absurd (omega (arith, l, here, up))
-            | inr g ↦ omega (arith, g)
-          ] in (
-            (λ i k. absurd (omega (arith, k, none, all, no_more))),
-            (λ i k m. more i (λ e. l) (λ j e. rest.1 j (omega (arith, no_more)) (omega (arith, m, e)))),
-          )
-    ]
+module _ (out : List ℕ) (at : ℕ) where
+  abbrev count : List Span → ℕ
+  count ss = count_by (lies_before at) ss
+
+  one_of : (s : Span) (ss : List Span) → (place s < at → count (s ∷ ss) ≡ 1 + count ss) × (at ≤ place s → count (s ∷ ss) ≡ 0 + count ss)
+  one_of s ss = (
+    (λ g. sum_by-cons _ s ss ∙ ap (λ (b : Bool). cond b 1 0 + count ss) (lt-ltb (place s) at g)),
+    λ g. sum_by-cons _ s ss ∙ ap (λ (b : Bool). cond b 1 0 + count ss) (le-ltb (place s) at g),
+  )
+
+  counted : (ss : List Span) → Rise out ss → (i : ℕ) → i < length ss → (place (nth ss i) < at → i < count ss) × (at ≤ place (nth ss i) → count ss ≤ i)
+  counted [] h i l = absurd (omega (arith, l))
+  counted (s ∷ []) h zero l = ((λ g. omega (arith, (one_of s []).0 g)), λ g. omega (arith, (one_of s []).1 g))
+  counted (s ∷ t ∷ ss) h zero l =
+      let up = (h 0 1 (omega arith) (omega arith)).0 in
+      let r = counted (t ∷ ss) (λ i j l k. h (suc i) (suc j) (omega (arith, l)) (omega (arith, k))) 0 (omega arith) in
+      ((λ g. omega (arith, (one_of s (t ∷ ss)).0 g)), λ g. omega (arith, (one_of s (t ∷ ss)).1 g, r.1 (omega (arith, g, up))))
+  counted (s ∷ ss) h (suc i) l =
+      let up = (h 0 (suc i) (omega arith) (omega (arith, l))).0 in
+      let r = counted ss (λ i j l k. h (suc i) (suc j) (omega (arith, l)) (omega (arith, k))) i (omega (arith, l)) in
+      let one = one_of s ss in
+      ((λ g. omega (arith, r.0 g, one.0 (omega (arith, up, g)))), λ g. elim (cases_lt (place s) at) [ inl k ↦ omega (arith, r.1 g, one.0 k) | inr k ↦ omega (arith, r.1 g, one.1 k) ])
 
 -- ---- the first tie gives the first repeat
 
@@ -89,24 +78,18 @@ module _ (out : List ℕ) (xs : List Span) (rise : Rise out xs) where
   keys_at i l = get_or-map (key_of out) xs i no_span [] l
 
   -- a repeated key is that of a tie
-  repeat_ties : (i : ℕ) → IsRepeatAt (map (key_of out) xs) i → (j : ℕ) × (j < i) × (i < length xs) × HasTie out xs (length xs) (place (nth xs j)) (place (nth xs i))
+  pub repeat_ties : (i : ℕ) → IsRepeatAt (map (key_of out) xs) i → (j : ℕ) × (j < i) × (i < length xs) × HasTie out xs (length xs) (place (nth xs j)) (place (nth xs i))
   repeat_ties i (j, less, within, same) =
-      let long = length-map xs (key_of out) in
-      let l : i < length xs = omega (arith, within, long) in
-      let k : j < length xs = omega (arith, l, less) in
-      (j, less, l, (j, i, k, l, (λ e. omega (arith, less, e)), (sym (keys_at j k) ∙ same ∙ keys_at i l, refl, refl, (rise j i less l).0)))
+      let l : i < length xs = omega (arith, within, length-map xs (key_of out)) in
+      let up = (rise j i less l).0 in
+      (j, less, l, (j, i, less, l, (sym (keys_at j (omega (arith, l, less))) ∙ same ∙ keys_at i l, omega (arith, up), omega (arith, up))))
 
   -- and a later span with the key of an earlier one repeats it
   repeats_at : (j i : ℕ) → j < i → i < length xs → key_of out (nth xs j) ≡ key_of out (nth xs i) → IsRepeatAt (map (key_of out) xs) i
-  repeats_at j i less l same =
-      let long = length-map xs (key_of out) in
-      (j, less, omega (arith, l, long), keys_at j (omega (arith, less, l)) ∙ same ∙ sym (keys_at i l))
-
-  pub none_found : IsFirstTie out xs (length xs) None → AreAllDifferent (map (key_of out) xs)
-  none_found h i r = let t = repeat_ties i r in h _ _ t.3
+  repeats_at j i less l same = (j, less, omega (arith, l, length-map xs (key_of out)), keys_at j (omega (arith, less, l)) ∙ same ∙ sym (keys_at i l))
 
   -- what lies at the place of another and has none of lower place before it
-  same_place : (i j at : ℕ) → i ≤ j → j < length xs → at ≤ place (nth xs i) → place (nth xs j) ≡ at → (place (nth xs i) ≡ at) × (key_of out (nth xs i) ≡ key_of out (nth xs j))
+  same_place : (i j at : ℕ) → i ≤ j → j < length xs → (place (nth xs i) < at → ⊥) → place (nth xs j) ≡ at → (place (nth xs i) ≡ at) × (key_of out (nth xs i) ≡ key_of out (nth xs j))
   same_place i j at l k low e = elim (cases_lt i j) [
     | inl less ↦
         let r = rise i j less k in
@@ -116,62 +99,42 @@ module _ (out : List ℕ) (xs : List Span) (rise : Rise out xs) where
   ]
 
   pub one_found : (t : Tie) (n : ℕ) → IsFirstTie out xs (length xs) (Some t) → n ≡ count_by (lies_before t.later) xs → IsFirstRepeat (map (key_of out) xs) (n + bool_byte (t.earlier == t.later))
-  one_found t n h e = elim (cases_eq t.earlier t.later) [
-    | inl same ↦ subst (λ b. IsFirstRepeat (map (key_of out) xs) (n + bool_byte b)) (sym (eq-eqb t.earlier t.later same)) (at_one_place same)
-    | inr other ↦ subst (λ b. IsFirstRepeat (map (key_of out) xs) (n + bool_byte b)) (sym (ne_eqb t.earlier t.later other)) (apart other)
+  one_found t n ((i, j, less, lj, (same, low, high)), first) e = elim (cases_eq t.earlier t.later) [
+    | inl is ↦ subst (λ b. IsFirstRepeat (map (key_of out) xs) (n + bool_byte b)) (sym (eq-eqb t.earlier t.later is)) (
+      repeats_at n (n + 1) (omega arith) (omega (arith, (behind_at is).0, less, lj)) (there.1 ∙ sym (behind_at is).1.1),
+      λ k lk r. elim (cases_lt k n) [
+        | inl g ↦ early k g r
+        | inr g ↦
+            let at : k ≡ n = omega (arith, g, lk) in
+            let (q, lq, ln, tie) = repeat_ties n (subst (IsRepeatAt (map (key_of out) xs)) at r) in
+            let up = (first _ _ tie).1 (sym there.0) in
+            omega (arith, up, (side q (omega (arith, lq, ln))).1, lq, is)
+      ],
+    )
+    | inr other ↦ subst (λ b. IsFirstRepeat (map (key_of out) xs) (n + bool_byte b)) (sym (ne_eqb t.earlier t.later other))
+        (subst (IsFirstRepeat (map (key_of out) xs)) (omega arith) (repeats_at i n (omega (arith, (side i (omega (arith, less, lj))).0, up, low, high, other)) (omega (arith, l, lj)) (same ∙ sym there.1), early))
   ]
     where
-      before : (k : ℕ) → k < n → place (nth xs k) < t.later
-      before k l = (counted out xs t.later rise).0 k (omega (arith, l, e))
-
-      behind : (k : ℕ) → n ≤ k → k < length xs → t.later ≤ place (nth xs k)
-      behind k l m = (counted out xs t.later rise).1 k (omega (arith, l, e)) m
+      side : (k : ℕ) → k < length xs → (place (nth xs k) < t.later → k < n) × (t.later ≤ place (nth xs k) → n ≤ k)
+      side k l = let c = counted out t.later xs rise k l in ((λ g. omega (arith, c.0 g, e)), λ g. omega (arith, c.1 g, e))
 
       early : (k : ℕ) → k < n → IsRepeatAt (map (key_of out) xs) k → ⊥
-      early k l r =
-          let first = (h.1 _ _ (repeat_ties k r).3).0 in
-          let low = before k l in
-          absurd (omega (arith, first, low))
+      early k l r = let (q, lq, lk, tie) = repeat_ties k r in omega (arith, (first _ _ tie).0, (side k lk).1, l)
 
-      not_less : (k : ℕ) → place (nth xs k) ≡ t.later → n ≤ k
-      not_less k at = elim (cases_lt k n) [ inl l ↦ (let low = before k l in absurd (omega (arith, low, at))) | inr l ↦ l ]
+      up : place (nth xs i) ≤ place (nth xs j)
+      up = (rise i j less lj).0
 
-      apart : t.earlier ≢ t.later → IsFirstRepeat (map (key_of out) xs) (n + 0)
-      apart other =
-          let (i, j, li, lj, ne, tie) = h.0 in
-          let (same, first, second, le) = tie in
-          let l : n ≤ j = not_less j second in
-          let less : i < n = elim (cases_lt i n) [ inl g ↦ g | inr g ↦ (let low = behind i g li in absurd (other (omega (arith, low, first, le)))) ] in
-          let there = same_place n j t.later l lj (behind n (omega arith) (omega (arith, l, lj))) second in
-          let all : n ≡ n + 0 = omega arith in
-          subst (IsFirstRepeat (map (key_of out) xs)) all (repeats_at i n less (omega (arith, l, lj)) (same ∙ sym there.1), early)
+      l : n ≤ j
+      l = omega (arith, (side j lj).1, up, high)
 
-      -- two are there, and the first of these repeats none
-      two : (j k : ℕ) → j < k → k < length xs → place (nth xs j) ≡ t.later → place (nth xs k) ≡ t.later → t.earlier ≡ t.later → IsFirstRepeat (map (key_of out) xs) (n + 1)
-      two j k less lk first second same =
-          let l : n ≤ j = not_less j first in
-          let a = same_place n k t.later (omega (arith, l, less)) lk (behind n (omega arith) (omega (arith, l, less, lk))) second in
-          let b = same_place (n + 1) k t.later (omega (arith, l, less)) lk (behind (n + 1) (omega arith) (omega (arith, l, less, lk))) second in (
-            repeats_at n (n + 1) (omega arith) (omega (arith, l, less, lk)) (a.1 ∙ sym b.1),
-            λ i li r. elim (cases_lt i n) [
-              | inl g ↦ early i g r
-              | inr g ↦
-                  let is : i ≡ n = omega (arith, g, li) in
-                  let (q, lq, ln, tie) = repeat_ties n (subst (IsRepeatAt (map (key_of out) xs)) is r) in
-                  let up = (h.1 _ _ tie).1 (sym a.0) in
-                  let low = before q lq in
-                  absurd (omega (arith, up, low, same))
-            ],
-          )
+      there : (place (nth xs n) ≡ t.later) × (key_of out (nth xs n) ≡ key_of out (nth xs j))
+      there = same_place n j t.later l lj (λ g. omega (arith, (side n (omega (arith, l, lj))).0 g)) (omega (arith, up, high))
 
-      at_one_place : t.earlier ≡ t.later → IsFirstRepeat (map (key_of out) xs) (n + 1)
-      at_one_place is =
-          let (i, j, li, lj, ne, tie) = h.0 in
-          let (same, first, second, le) = tie in
-          elim (cases_lt i j) [
-            | inl l ↦ two i j l lj (first ∙ is) second is
-            | inr l ↦ elim (cases_lt j i) [ inl g ↦ two j i g li second (first ∙ is) is | inr g ↦ absurd (ne (omega (arith, l, g))) ]
-          ]
+      -- where the two lie at one place, so do those at n and behind it
+      behind_at : t.earlier ≡ t.later → (n ≤ i) × ((place (nth xs (n + 1)) ≡ t.later) × (key_of out (nth xs (n + 1)) ≡ key_of out (nth xs j)))
+      behind_at is =
+          let more : n ≤ i = omega (arith, (side i (omega (arith, less, lj))).1, up, low, high, is) in
+          (more, same_place (n + 1) j t.later (omega (arith, more, less)) lj (λ g. omega (arith, (side (n + 1) (omega (arith, more, less, lj))).0 g)) (omega (arith, up, high)))
 
 -- ---- of spans in whatever order
 
@@ -195,7 +158,7 @@ tie_back out xs ys zs r of m h =
     first_same out zs xs (length zs) (length xs) r (λ earlier later. tie_permuted out zs xs earlier later (IsPermutation-sym xs zs there)) (λ earlier later. tie_permuted out xs zs earlier later there) h
 
 pub none_told : (out : List ℕ) (xs ys zs : List Span) → AreOf out xs ys → IsPermutation ys zs → IsFirstTie out zs (length zs) None → AreAllDifferent (map (key_of out) xs)
-none_told out xs ys zs of m h = none_found out xs (tile_rises out of.0 of.1 xs of.2) (tie_back out xs ys zs None of m h)
+none_told out xs ys zs of m h i r = tie_back out xs ys zs None of m h _ _ (repeat_ties out xs (tile_rises out of.0 of.1 xs of.2) i r).3
 
 pub one_told : (out : List ℕ) (xs ys zs : List Span) (t : Tie) (n twin : ℕ) → AreOf out xs ys → IsPermutation ys zs → IsFirstTie out zs (length zs) (Some t) → n ≡ count_by (lies_before t.later) zs
     → twin ≡ bool_byte (t.earlier == t.later) → IsFirstRepeat (map (key_of out) xs) (n + twin)

@@ -1,5 +1,5 @@
 -- What stands open when the buffer grows.
-use Rattle.std.proofs.Common.{◌≡◌, ℕ, suc, ◌+◌, ◌-◌, ◌≤◌, Bool, List, [], ◌∷◌, ◌++◌, append_assoc, length, length-append, length-drop, take, drop, take-append-drop, length-take, drop-drop, refl, sym, ap, ◌∙◌, subst, arith, map, slice_range, flat_map, take_all}
+use Rattle.std.proofs.Common.{◌≡◌, ℕ, suc, ◌+◌, ◌-◌, ◌≤◌, List, [], ◌∷◌, ◌++◌, append_assoc, length, length-append, length-drop, take, drop, take-append-drop, length-take, drop-drop, refl, sym, ap, ◌∙◌, subst, arith, map, slice_range, flat_map, take_all}
 use Rattle.std.proofs.lemmas.List.{take-append-le, drop-append-le, drop_all, map-append, length-map, nil_from_length}
 use Rattle.std.proofs.Math.Seq.{drop-append_seam}
 use Rattle.cbor_head.specs.declared.major.Major.{Major}
@@ -45,8 +45,7 @@ tile_more out a (s ∷ ss) key val t h g = (t.0, t.1, t.2, tile_more out s.end s
 pub fronted_stay : (out b : List ℕ) (a : ℕ) (ss : List Span) (n : ℕ) → Tile a ss n → n ≤ length out → AreFronted out ss → AreFronted (out ++ b) ss
 fronted_stay out b a [] n t l h = tt
 fronted_stay out b a (s ∷ ss) n t l h =
-    let r = tile_le s.end ss n t.3 in
-    (h.0 ∙ ap front_of (sym (slice_front out b s.key s.val t.1 (omega (arith, t.2, r, l)))), fronted_stay out b s.end ss n t.3 l h.1)
+    (h.0 ∙ ap front_of (sym (slice_front out b s.key s.val t.1 (omega (arith, t.2, tile_le s.end ss n t.3, l)))), fronted_stay out b s.end ss n t.3 l h.1)
 
 pub fronted_more : (out : List ℕ) (ss : List Span) (key val : ℕ) → AreFronted out ss → AreFronted out (ss ++ span out key val ∷ [])
 fronted_more out [] key val h = (refl, tt)
@@ -72,87 +71,56 @@ tile_joins out a (s ∷ ss) n t e =
 
 -- ---- one more finished member
 
-abbrev pub Given : KeyOrder → List ℕ → List ℕ → List Span → ℕ → ℕ → Bool → Bool → Shape → List Frame → Type 0
-Given o out b ss from start was now s fs =
-    Stands o (out ++ b) (spans_after (out ++ b) ss (length out) s) (record { from = from; start = start; shape = shape_after (length out) s; rises = now } ∷ fs)
-    (with_member b (shape_open out ss start s) ∷ opens (take from out) (outer_spans ss s) fs)
-
-given_at : (o : KeyOrder) (out b : List ℕ) (ss : List Span) (from start : ℕ) (was now : Bool) (s : Shape) (fs : List Frame)
-    → from ≤ start → start ≤ length out → Fits o out ss from start was s → Laid o (take from out) (outer_spans ss s) fs → Takes s
-    → KeepsRising o (out ++ b) ss (length out) s was now → Given o out b ss from start was now s fs
-given_at o out b ss from start was now Plain fs h g fits outer takes keeps =
-    let n = length-append out b in
-    let t = take-append-le from out b (omega (arith, h, g)) in (
-      (h, omega (arith, n, g), fits, subst (λ (xs : List ℕ). Laid o xs ss fs) (sym t) outer),
-      (λ i. plain (drop-append-le start out b g i) ∷ opens (t i) ss fs),
-    )
-given_at o out b ss from start was now (Array k) fs h g fits outer takes keeps =
-    let n = length-append out b in
-    let t = take-append-le from out b (omega (arith, h, g)) in (
-      (h, omega (arith, n, g), takes, subst (λ (xs : List ℕ). Laid o xs ss fs) (sym t) outer),
-      (λ i. an_array (suc k) (drop-append-le start out b g i) ∷ opens (t i) ss fs),
-    )
-given_at o out b ss from start was now (Map first) fs h g fits outer takes keeps =
-    let n = length-append out b in
-    let t = take-append-le from out b (omega (arith, h, g)) in
-    let stay = pairs_stay out b start (drop first ss) (length out) fits.1 (omega arith) in (
-      (
-        h,
-        omega (arith, n, g),
-        (
-          fits.0,
-          fits.1,
-          omega (arith, n),
-          (λ r. subst (IsRising o) (sym stay) (fits.2 (sym keeps ∙ r))),
-          fronted_stay out b start (drop first ss) (length out) fits.1 (omega arith) fits.3,
-        ),
-        subst (λ (xs : List ℕ). Laid o xs (take first ss) fs) (sym t) outer,
-      ),
-      (λ i. a_key (stay i) (drop-append_seam out b i) ∷ opens (t i) (take first ss) fs),
-    )
-given_at o out b ss from start was now (Key first at) fs h g fits outer takes keeps =
-    let val = length out in
-    let end = length (out ++ b) in
-    let new = span (out ++ b) at val in
-    let n = length-append out b in
-    let t = take-append-le from out b (omega (arith, h, g)) in
-    let ts : take first (ss ++ new ∷ []) ≡ take first ss = take-append-le first ss (new ∷ []) fits.0 in
-    let ds : drop first (ss ++ new ∷ []) ≡ drop first ss ++ new ∷ [] = drop-append-le first ss (new ∷ []) fits.0 in
-    let stay = pairs_stay out b start (drop first ss) at fits.1 fits.2 in
-    let long = length-append ss (new ∷ []) in
-    let key : slice_range (out ++ b) at val ≡ drop at out = slice_front out b at val fits.2 (omega arith) ∙ slice_all out at val refl in
-    let content : slice_range (out ++ b) val end ≡ b = slice_all (out ++ b) val end refl ∙ drop-append_seam out b in
-    let tile : Tile start (drop first ss ++ new ∷ []) end = tile_more (out ++ b) start (drop first ss) at val fits.1 fits.2 (omega (arith, n)) in (
-      (
-        h,
-        omega (arith, n, g),
-        (
-          omega (arith, long, fits.0),
-          subst (λ (xs : List Span). Tile start xs end) (sym ds) tile,
-          (λ r. subst (λ (xs : List Span). IsRising o (map (span_pair (out ++ b)) xs)) (sym ds) ((keeps r).1 (subst (IsRising o) (sym stay) (fits.3 (keeps r).0)))),
-          subst (AreFronted (out ++ b)) (sym ds) (fronted_more (out ++ b) (drop first ss) at val (fronted_stay out b start (drop first ss) at fits.1 fits.2 fits.4)),
-        ),
-        subst (λ (xs : List Span). Laid o (take from (out ++ b)) xs fs) (sym ts) (subst (λ (xs : List ℕ). Laid o xs (take first ss) fs) (sym t) outer),
-      ),
-      (λ i. a_map (map (span_pair (out ++ b)) (ds i)) ∷ opens (t i) (ts i) fs)
-          ∙ (λ i. a_map (map-append (span_pair (out ++ b)) (drop first ss) (new ∷ []) i) ∷ opens (take from out) (take first ss) fs)
-          ∙ (λ i. a_map (stay i ++ pair (key i) (content i) ∷ []) ∷ opens (take from out) (take first ss) fs),
-    )
-given_at o out b ss from start was now (Content m) fs h g fits outer takes keeps = absurd takes
-
 pub given : (o : KeyOrder) (out b : List ℕ) (ss : List Span) (f : Frame) (fs : List Frame) (out' : List ℕ) (ss' : List Span) (f' : Frame)
     → Laid o out ss (f ∷ fs) → Takes f.shape → out' ≡ out ++ b → Completed o ss (length out) f out' ss' f'
     → Stands o out' ss' (f' ∷ fs) (give b (opens out ss (f ∷ fs)))
-given o out b ss f fs out' ss' f' laid takes e =
-    subst (λ (xs : List ℕ). Completed o ss (length out) f xs ss' f' → Stands o xs ss' (f' ∷ fs) (give b (opens out ss (f ∷ fs)))) (sym e) at_once
+given o out b ss f fs out' ss' f' laid takes e c =
+    let spans : ss' ≡ spans_after (out ++ b) ss (length out) f.shape = c.3 ∙ (λ i. spans_after (e i) ss (length out) f.shape) in
+    coe 1 0 (i. Stands o (e i) (spans i) (record { from = c.0 i; start = c.1 i; shape = c.2 i; rises = f'.rises } ∷ fs) (give b (opens out ss (f ∷ fs))))
+    (by_shape f.shape laid.2 laid.3 takes (coe 0 1 (i. KeepsRising o (e i) ss (length out) f.shape f.rises f'.rises) c.4))
   where
-    at_once : Completed o ss (length out) f (out ++ b) ss' f' → Stands o (out ++ b) ss' (f' ∷ fs) (give b (opens out ss (f ∷ fs)))
-    at_once c =
-        let is : record { from = f.from; start = f.start; shape = shape_after (length out) f.shape; rises = f'.rises } ≡ f' =
-        λ i. record { from = sym c.0 i; start = sym c.1 i; shape = sym c.2 i; rises = f'.rises } in
-        subst (λ (g : Frame). Stands o (out ++ b) ss' (g ∷ fs) (give b (opens out ss (f ∷ fs)))) is
-        (subst (λ (xs : List Span). Stands o (out ++ b) xs (record { from = f.from; start = f.start; shape = shape_after (length out) f.shape; rises = f'.rises } ∷ fs) (give b (opens out ss (f ∷ fs)))) (sym c.3)
-        (given_at o out b ss f.from f.start f.rises f'.rises f.shape fs laid.0 laid.1 laid.2 laid.3 takes c.4))
+    start : f.start ≤ length (out ++ b)
+    start = omega (arith, length-append out b, laid.1)
+
+    t : take f.from (out ++ b) ≡ take f.from out
+    t = take-append-le f.from out b (omega (arith, laid.0, laid.1))
+
+    by_shape : (s : Shape) → Fits o out ss f.from f.start f.rises s → Laid o (take f.from out) (outer_spans ss s) fs → Takes s → KeepsRising o (out ++ b) ss (length out) s f.rises f'.rises
+        → Stands o (out ++ b) (spans_after (out ++ b) ss (length out) s) (record { from = f.from; start = f.start; shape = shape_after (length out) s; rises = f'.rises } ∷ fs)
+        (with_member b (shape_open out ss f.start s) ∷ opens (take f.from out) (outer_spans ss s) fs)
+    by_shape Plain fits outer takes keeps = ((laid.0, start, fits, coe 1 0 (i. Laid o (t i) ss fs) outer), λ i. plain (drop-append-le f.start out b laid.1 i) ∷ opens (t i) ss fs)
+    by_shape (Array k) fits outer takes keeps = ((laid.0, start, takes, coe 1 0 (i. Laid o (t i) ss fs) outer), λ i. an_array (suc k) (drop-append-le f.start out b laid.1 i) ∷ opens (t i) ss fs)
+    by_shape (Map first) fits outer takes keeps =
+        let n = length-append out b in
+        let stay = pairs_stay out b f.start (drop first ss) (length out) fits.1 (omega arith) in
+        let fronts = fronted_stay out b f.start (drop first ss) (length out) fits.1 (omega arith) fits.3 in (
+          (laid.0, start, (fits.0, fits.1, omega (arith, n), (λ r. subst (IsRising o) (sym stay) (fits.2 (sym keeps ∙ r))), fronts), coe 1 0 (i. Laid o (t i) (take first ss) fs) outer),
+          λ i. a_key (stay i) (drop-append_seam out b i) ∷ opens (t i) (take first ss) fs,
+        )
+    by_shape (Key first at) fits outer takes keeps =
+        let val = length out in
+        let end = length (out ++ b) in
+        let new = span (out ++ b) at val in
+        let ts : take first (ss ++ new ∷ []) ≡ take first ss = take-append-le first ss (new ∷ []) fits.0 in
+        let ds : drop first (ss ++ new ∷ []) ≡ drop first ss ++ new ∷ [] = drop-append-le first ss (new ∷ []) fits.0 in
+        let stay = pairs_stay out b f.start (drop first ss) at fits.1 fits.2 in
+        let key : slice_range (out ++ b) at val ≡ drop at out = slice_front out b at val fits.2 (omega arith) ∙ slice_all out at val refl in
+        let content : slice_range (out ++ b) val end ≡ b = slice_all (out ++ b) val end refl ∙ drop-append_seam out b in (
+          (
+            laid.0,
+            start,
+            (
+              omega (arith, length-append ss (new ∷ []), fits.0),
+              coe 1 0 (i. Tile f.start (ds i) end) (tile_more (out ++ b) f.start (drop first ss) at val fits.1 fits.2 (omega (arith, length-append out b))),
+              (λ r. coe 1 0 (i. IsRising o (map (span_pair (out ++ b)) (ds i))) ((keeps r).1 (subst (IsRising o) (sym stay) (fits.3 (keeps r).0)))),
+              coe 1 0 (i. AreFronted (out ++ b) (ds i)) (fronted_more (out ++ b) (drop first ss) at val (fronted_stay out b f.start (drop first ss) at fits.1 fits.2 fits.4)),
+            ),
+            coe 1 0 (i. Laid o (t i) (ts i) fs) outer,
+          ),
+          (λ i. a_map ((ap (map (span_pair (out ++ b))) ds ∙ map-append (span_pair (out ++ b)) (drop first ss) (new ∷ [])) i) ∷ opens (t i) (ts i) fs)
+              ∙ (λ i. a_map (stay i ++ pair (key i) (content i) ∷ []) ∷ opens (take f.from out) (take first ss) fs),
+        )
+    by_shape (Content m) fits outer takes keeps = absurd takes
 
 -- what a map with a waiting key is ready for, when its value stands behind it
 pub key_ready : (o : KeyOrder) (out b : List ℕ) (ss : List Span) (f : Frame) (fs : List Frame) (bytes : List ℕ) (at : ℕ) → Laid o out ss (f ∷ fs) → bytes ≡ out ++ b → at ≡ length out
@@ -175,9 +143,8 @@ lengthened o out b ss f fs laid string = by_shape f.shape laid.2 laid.3 string
     by_shape : (s : Shape) → Fits o out ss f.from f.start f.rises s → Laid o (take f.from out) (outer_spans ss s) fs → IsString s
         → Stands o (out ++ b) ss (record { from = f.from; start = f.start; shape = s; rises = f.rises } ∷ fs) (with_content b (shape_open out ss f.start s) ∷ opens (take f.from out) (outer_spans ss s) fs)
     by_shape (Content m) fits outer h =
-        let l = length-append out b in
         let t = take-append-le f.from out b (omega (arith, laid.0, laid.1)) in
-        ((laid.0, omega (arith, l, laid.1), fits, subst (λ (xs : List ℕ). Laid o xs ss fs) (sym t) outer), (λ i. a_string m (drop-append-le f.start out b laid.1 i) ∷ opens (t i) ss fs))
+        ((laid.0, omega (arith, length-append out b, laid.1), fits, coe 1 0 (i. Laid o (t i) ss fs) outer), λ i. a_string m (drop-append-le f.start out b laid.1 i) ∷ opens (t i) ss fs)
     by_shape s fits outer h = absurd h
 
 -- ---- what ends
@@ -188,8 +155,7 @@ pub ended : (o : KeyOrder) (out : List ℕ) (ss : List Span) (f g : Frame) (fs :
     → Completed o (outer_spans ss f.shape) f.from g out' ss' g'
     → Stands o out' ss' (g' ∷ fs) (close o (opens out ss (f ∷ g ∷ fs)))
 ended o out ss f g fs out' ss' g' laid takes e c =
-    let l = length-take f.from out in
-    let n : f.from ≡ length (take f.from out) = omega (arith, l, laid.0, laid.1) in
+    let n : f.from ≡ length (take f.from out) = omega (arith, length-take f.from out, laid.0, laid.1) in
     given o (take f.from out) (closed o (shape_open out ss f.start f.shape)) (outer_spans ss f.shape) g fs out' ss' g' laid.3 takes e
     (subst (λ k. Completed o (outer_spans ss f.shape) k g out' ss' g') n c)
 
@@ -219,25 +185,16 @@ begun m n from end out out' ss fs ef ee eo = by_major m (ap (drop from) eo ∙ a
     no_bytes : drop end out' ≡ []
     no_bytes = drop_all end out' (omega (arith, ee))
 
-    no_pairs : pairs_from out' ss (length ss) ≡ []
-    no_pairs = ap (map (span_pair out')) (drop_all (length ss) ss (omega arith))
-
-    all : take (length ss) ss ≡ ss
-    all = take_all (length ss) ss (omega arith)
-
     by_major : (k : Major) → drop from out' ≡ shortest_head k n → opens out' ss (opening_frame k from end (length ss) ∷ fs) ≡ opened k n ∷ opens out ss fs
     by_major of_major.Array h = λ i. an_array 0 (no_bytes i) ∷ opens (front i) ss fs
-    by_major of_major.Map h = λ i. a_map (no_pairs i) ∷ opens (front i) (all i) fs
+    by_major of_major.Map h = λ i. a_map (map (span_pair out') (drop_all (length ss) ss (omega arith) i)) ∷ opens (front i) (take_all (length ss) ss (omega arith) i) fs
     by_major of_major.Tag h = λ i. plain (h i) ∷ opens (front i) ss fs
     by_major k h = λ i. a_string k (no_bytes i) ∷ opens (front i) ss fs
 
 -- ---- the bytes of a map that closes
 
 pub count : (out : List ℕ) (ss : List Span) (first n : ℕ) → n ≡ length ss - first → n ≡ length (pairs_from out ss first)
-count out ss first n e =
-    let l = length-drop first ss in
-    let m = length-map (drop first ss) (span_pair out) in
-    omega (arith, e, l, m)
+count out ss first n e = omega (arith, e, length-drop first ss, length-map (drop first ss) (span_pair out))
 
 pub map_sorted : (o : KeyOrder) (out : List ℕ) (ss : List Span) (from start first n : ℕ) (mid new : List ℕ) → from ≤ start → start ≤ length out → n ≡ length ss - first
     → mid ≡ take start out ++ flat_map pair_bytes (in_order o (pairs_from out ss first)) → new ≡ take from mid ++ (shortest_head of_major.Map n ++ drop start mid)

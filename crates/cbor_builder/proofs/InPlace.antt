@@ -103,12 +103,11 @@ fits_raw o raw out ss from start rises s l h f = f
 pub laid_raw : (o : KeyOrder) (raw out : List ℕ) (ss : List Span) (fs : List Frame) → length raw ≡ length out → Agrees raw out ss fs → Laid o out ss fs → Laid o raw ss fs
 laid_raw o raw out ss [] l a laid = nil_from_length raw (l ∙ ap length laid)
 laid_raw o raw out ss (f ∷ fs) l a laid =
-    let x = length-take f.from raw in
     let y = length-take f.from out in (
       laid.0,
       omega (arith, l, laid.1),
       fits_raw o raw out ss f.from f.start f.rises f.shape l (top_keys raw out ss f fs a) laid.2,
-      laid_raw o (take f.from raw) (take f.from out) (outer_spans ss f.shape) fs (omega (arith, x, y, l)) (outer_agrees raw out ss f fs a) laid.3,
+      laid_raw o (take f.from raw) (take f.from out) (outer_spans ss f.shape) fs (omega (arith, length-take f.from raw, y, l)) (outer_agrees raw out ss f fs a) laid.3,
     )
 
 different_raw : (raw out : List ℕ) (ss : List Span) (fs : List Frame) → Agrees raw out ss fs → AreOpenKeysDifferent (opens raw ss fs) → AreOpenKeysDifferent (opens out ss fs)
@@ -154,39 +153,6 @@ waits_stay o raw out x y ss f fs l laid a = by_shape f.shape laid.2 (top_keys ra
         (keys_stay raw out x y f.start (drop first ss) at fits.1 (omega (arith, l, fits.2)) fits.2 h.0, last_stays raw out x y at l fits.2 h.1)
     by_shape s fits h = tt
 
-pub agrees_given : (o : KeyOrder) (raw out x y : List ℕ) (ss : List Span) (from start : ℕ) (was now : Bool) (s : Shape) (fs : List Frame)
-    → from ≤ start → start ≤ length out → length raw ≡ length out → Fits o out ss from start was s → Takes s
-    → Agrees raw out ss (record { from = from; start = start; shape = s; rises = was } ∷ fs)
-    → ((first : ℕ) → s ≡ Map first → x ≡ y) → (fs ≡ [] → x ≡ y)
-    → Agrees (raw ++ x) (out ++ y) (spans_after (out ++ y) ss (length out) s) (record { from = from; start = start; shape = shape_after (length out) s; rises = now } ∷ fs)
-agrees_given o raw out x y ss from start was now s [] h g l fits takes a key last = let e = last refl in λ i. a i ++ e i
-agrees_given o raw out x y ss from start was now s (f ∷ fs) h g l fits takes a key last = by_shape s fits takes a.0 a.1 key
-  where
-    outer : (us : List Span) → Agrees (take from raw) (take from out) us (f ∷ fs) → Agrees (take from (raw ++ x)) (take from (out ++ y)) us (f ∷ fs)
-    outer us b =
-        subst (λ (zs : List ℕ). Agrees zs (take from (out ++ y)) us (f ∷ fs)) (sym (take-append-le from raw x (omega (arith, h, g, l))))
-        (subst (λ (zs : List ℕ). Agrees (take from raw) zs us (f ∷ fs)) (sym (take-append-le from out y (omega (arith, h, g)))) b)
-
-    by_shape : (s : Shape) → Fits o out ss from start was s → Takes s → HasSameKeys raw out ss s → Agrees (take from raw) (take from out) (outer_spans ss s) (f ∷ fs) → ((first : ℕ) → s ≡ Map first → x ≡ y)
-        → Agrees (raw ++ x) (out ++ y) (spans_after (out ++ y) ss (length out) s) (record { from = from; start = start; shape = shape_after (length out) s; rises = now } ∷ f ∷ fs)
-    by_shape (Map first) fits takes k b key = (
-      (
-        keys_stay raw out x y start (drop first ss) (length out) fits.1 (omega (arith, l)) (omega arith) k,
-        ap (λ (n : ℕ). drop n (raw ++ x)) (sym l) ∙ drop-append_seam raw x ∙ key first refl ∙ sym (drop-append_seam out y),
-      ),
-      outer (take first ss) b,
-    )
-    by_shape (Key first at) fits takes k b key =
-        let new = span (out ++ y) at (length out) in
-        let ts : take first (ss ++ new ∷ []) ≡ take first ss = take-append-le first ss (new ∷ []) fits.0 in
-        let ds : drop first (ss ++ new ∷ []) ≡ drop first ss ++ new ∷ [] = drop-append-le first ss (new ∷ []) fits.0 in
-        let stay = keys_stay raw out x y start (drop first ss) at fits.1 (omega (arith, l, fits.2)) fits.2 k.0 in (
-          subst (AreSameKeys (raw ++ x) (out ++ y)) (sym ds) (keys_more (raw ++ x) (out ++ y) (drop first ss) new stay (last_stays raw out x y at l fits.2 k.1)),
-          subst (λ (us : List Span). Agrees (take from (raw ++ x)) (take from (out ++ y)) us (f ∷ fs)) (sym ts) (outer (take first ss) b),
-        )
-    by_shape (Content m) fits takes k b key = absurd takes
-    by_shape s fits takes k b key = (tt, outer ss b)
-
 -- what was done by the bytes as they lie was done by them as they are meant
 pub completed_same : (o : KeyOrder) (raw out : List ℕ) (ss : List Span) (at : ℕ) (f : Frame) (ss' : List Span) (f' : Frame) → length raw ≡ length out → WaitsSame raw out ss at f.shape
     → Completed o ss at f raw ss' f' → Completed o ss at f out ss' f'
@@ -216,26 +182,35 @@ ready_same raw out ss at s l w h first key e =
     let r = h first key e in
     (r.0, r.1, omega (arith, l, r.2), fronted_keys raw out (drop first ss) k.0 r.3)
 
--- the same from what calls ensure
 pub agrees_by : (o : KeyOrder) (raw out x y : List ℕ) (ss : List Span) (f : Frame) (fs : List Frame) (raw' out' : List ℕ) (at : ℕ) (ss' : List Span) (f' : Frame)
     → Laid o out ss (f ∷ fs) → length raw ≡ length out → Agrees raw out ss (f ∷ fs) → Takes f.shape → ((first : ℕ) → f.shape ≡ Map first → x ≡ y) → (fs ≡ [] → x ≡ y)
     → raw' ≡ raw ++ x → out' ≡ out ++ y → at ≡ length out → Completed o ss at f out' ss' f' → Agrees raw' out' ss' (f' ∷ fs)
-agrees_by o raw out x y ss f fs raw' out' at ss' f' laid l a takes key last er eo ea c =
-    let made = agrees_given o raw out x y ss f.from f.start f.rises f'.rises f.shape fs laid.0 laid.1 l laid.2 takes a key last in
-    let shape : shape_after (length out) f.shape ≡ f'.shape = ap (λ (n : ℕ). shape_after n f.shape) (sym ea) ∙ sym c.2 in
-    let frame : record { from = f.from; start = f.start; shape = shape_after (length out) f.shape; rises = f'.rises } ≡ f' =
-    λ i. record { from = sym c.0 i; start = sym c.1 i; shape = shape i; rises = f'.rises } in
-    let spans : spans_after (out ++ y) ss (length out) f.shape ≡ ss' = (λ i. spans_after (sym eo i) ss (sym ea i) f.shape) ∙ sym c.3 in
-    subst (λ (xs : List ℕ). Agrees xs out' ss' (f' ∷ fs)) (sym er)
-    (subst (λ (xs : List ℕ). Agrees (raw ++ x) xs ss' (f' ∷ fs)) (sym eo)
-    (subst (λ (us : List Span). Agrees (raw ++ x) (out ++ y) us (f' ∷ fs)) spans
-    (subst (λ (g : Frame). Agrees (raw ++ x) (out ++ y) (spans_after (out ++ y) ss (length out) f.shape) (g ∷ fs)) frame made)))
+agrees_by o raw out x y ss f [] raw' out' at ss' f' laid l a takes key last er eo ea c = let e = last refl in er ∙ (λ i. a i ++ e i) ∙ sym eo
+agrees_by o raw out x y ss f (g ∷ fs) raw' out' at ss' f' laid l a takes key last er eo ea c =
+    let shape : f'.shape ≡ shape_after (length out) f.shape = c.2 ∙ (λ i. shape_after (ea i) f.shape) in
+    let spans : ss' ≡ spans_after (out ++ y) ss (length out) f.shape = c.3 ∙ (λ i. spans_after (eo i) ss (ea i) f.shape) in
+    coe 1 0 (i. Agrees (er i) (eo i) (spans i) (record { from = c.0 i; start = c.1 i; shape = shape i; rises = f'.rises } ∷ g ∷ fs)) (by_shape f.shape laid.2 takes a.0 a.1 key)
+  where
+    outer : (us us' : List Span) → us' ≡ us → Agrees (take f.from raw) (take f.from out) us (g ∷ fs) → Agrees (take f.from (raw ++ x)) (take f.from (out ++ y)) us' (g ∷ fs)
+    outer us us' e b = coe 1 0 (i. Agrees (take-append-le f.from raw x (omega (arith, laid.0, laid.1, l)) i) (take-append-le f.from out y (omega (arith, laid.0, laid.1)) i) (e i) (g ∷ fs)) b
 
-pub waits_by : (o : KeyOrder) (raw out x y : List ℕ) (ss : List Span) (f : Frame) (fs : List Frame) (raw' out' : List ℕ) (at : ℕ) → length raw ≡ length out → Laid o out ss (f ∷ fs) → Agrees raw out ss (f ∷ fs)
-    → raw' ≡ raw ++ x → out' ≡ out ++ y → at ≡ length out → WaitsSame raw' out' ss at f.shape
-waits_by o raw out x y ss f fs raw' out' at l laid a er eo ea =
-    subst (λ (xs : List ℕ). WaitsSame xs out' ss at f.shape) (sym er)
-    (subst (λ (xs : List ℕ). WaitsSame (raw ++ x) xs ss at f.shape) (sym eo) (subst (λ (n : ℕ). WaitsSame (raw ++ x) (out ++ y) ss n f.shape) (sym ea) (waits_stay o raw out x y ss f fs l laid a)))
+    by_shape : (s : Shape) → Fits o out ss f.from f.start f.rises s → Takes s → HasSameKeys raw out ss s → Agrees (take f.from raw) (take f.from out) (outer_spans ss s) (g ∷ fs) → ((first : ℕ) → s ≡ Map first → x ≡ y)
+        → Agrees (raw ++ x) (out ++ y) (spans_after (out ++ y) ss (length out) s) (record { from = f.from; start = f.start; shape = shape_after (length out) s; rises = f'.rises } ∷ g ∷ fs)
+    by_shape (Map first) fits takes k b key = (
+      (
+        keys_stay raw out x y f.start (drop first ss) (length out) fits.1 (omega (arith, l)) (omega arith) k,
+        ap (λ (n : ℕ). drop n (raw ++ x)) (sym l) ∙ drop-append_seam raw x ∙ key first refl ∙ sym (drop-append_seam out y),
+      ),
+      outer _ _ refl b,
+    )
+    by_shape (Key first at) fits takes k b key =
+        let new = span (out ++ y) at (length out) in
+        let stay = keys_stay raw out x y f.start (drop first ss) at fits.1 (omega (arith, l, fits.2)) fits.2 k.0 in (
+          coe 1 0 (i. AreSameKeys (raw ++ x) (out ++ y) (drop-append-le first ss (new ∷ []) fits.0 i)) (keys_more (raw ++ x) (out ++ y) (drop first ss) new stay (last_stays raw out x y at l fits.2 k.1)),
+          outer _ _ (take-append-le first ss (new ∷ []) fits.0) b,
+        )
+    by_shape (Content m) fits takes k b key = absurd takes
+    by_shape s fits takes k b key = (tt, outer _ _ refl b)
 
 -- ---- more of a string
 
@@ -243,8 +218,7 @@ pub agrees_longer : (raw out x : List ℕ) (ss : List Span) (f : Frame) (fs : Li
 agrees_longer raw out x ss f [] h g s a = λ i. a i ++ x
 agrees_longer raw out x ss f (e ∷ fs) h g s a = (
   by_shape f.shape s,
-  subst (λ (xs : List ℕ). Agrees xs (take f.from (out ++ x)) (outer_spans ss f.shape) (e ∷ fs)) (sym (take-append-le f.from raw x h))
-      (subst (λ (xs : List ℕ). Agrees (take f.from raw) xs (outer_spans ss f.shape) (e ∷ fs)) (sym (take-append-le f.from out x g)) a.1),
+  coe 1 0 (i. Agrees (take-append-le f.from raw x h i) (take-append-le f.from out x g i) (outer_spans ss f.shape) (e ∷ fs)) a.1,
 )
   where
     by_shape : (s : Shape) → IsString s → HasSameKeys (raw ++ x) (out ++ x) ss s

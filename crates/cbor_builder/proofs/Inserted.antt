@@ -1,8 +1,8 @@
 -- Spans put in order one by one.
 use Rattle.std.proofs.Common.{◌≡◌, ℕ, zero, suc, ◌+◌, ◌-◌, ◌<◌, ◌≤◌, List, [], ◌∷◌, ◌++◌, length, length-take, take, drop, drop-drop, get_or, set, map, refl, sym, ap, ◌∙◌, subst, arith, inl, inr, IsPermutation, IsTrue, take-take}
 use Rattle.std.specs.List.{AllByRecursion, insert}
-use Rattle.std.proofs.lemmas.List.{take_more, take-map, drop_all, get_or-drop}
-use Rattle.std.proofs.lemmas.List.Edits.{get_or-insert_below}
+use Rattle.std.proofs.lemmas.List.{take_more, take-map, drop_all, get_or-drop, get_or_default}
+use Rattle.std.proofs.lemmas.List.Edits.{get_or-insert_below, length-insert}
 use Rattle.std.proofs.Math.Seq.{take-append_seam, drop-append_seam}
 use Rattle.std.proofs.lemmas.List.Sorted.{IsPermutation-trans, IsPermutation-append_comm, IsPermutation-append_right, IsPermutation-map}
 use Rattle.std.specs.declared.cmp.Ordering.{Ordering}
@@ -12,7 +12,7 @@ use Rattle.cbor_head.specs.Prelude.{key_cmp, key_lt, AreBytes, Pair}
 use Rattle.cbor_head.specs.declared.order.KeyOrder.{KeyOrder}
 use Rattle.cbor_canonical.specs.Pairs.{HasDistinctBytes, IsRising}
 use Rattle.cbor_canonical.proofs.Orders.{key_cmp_total, lt_trans}
-use Rattle.cbor_buffer.specs.Spans.{span_pair}
+use Rattle.cbor_buffer.specs.Spans.{span_pair, no_span}
 use Rattle.cbor_buffer.specs.declared.span.Span.{Span}
 use Rattle.cbor_builder.specs.Built.{HasKey}
 use Rattle.cbor_builder.specs.inner.Front.{key_of, IsFronted, AreFronted, rank, ranked_by, in_front}
@@ -28,23 +28,19 @@ free_place zero (s ∷ []) e = (s, refl)
 free_place (suc n) (s ∷ ss) e = let r = free_place n ss (omega (arith, e)) in (r.0, ap (λ (us : List Span). s ∷ us) r.1)
 free_place n ss e = absurd (omega (arith, e))
 
-pub set_free : (ss : List Span) (n : ℕ) (h s : Span) → n ≤ length ss → set (insert ss n h) n s ≡ insert ss n s
-set_free ss zero h s l = refl
-set_free [] (suc n) h s l = absurd (omega (arith, l))
-set_free (x ∷ ss) (suc n) h s l = ap (λ (us : List Span). x ∷ us) (set_free ss n h s (omega (arith, l)))
+pub set_free : (ss us : List Span) (n : ℕ) (h s : Span) → us ≡ insert ss n h → n ≤ length ss → set us n s ≡ insert ss n s
+set_free ss us n h s e l = ap (λ (us : List Span). set us n s) e ∙ go ss n l
+  where
+    go : (ss : List Span) (n : ℕ) → n ≤ length ss → set (insert ss n h) n s ≡ insert ss n s
+    go ss zero l = refl
+    go [] (suc n) l = absurd (omega (arith, l))
+    go (x ∷ ss) (suc n) l = ap (λ (us : List Span). x ∷ us) (go ss n (omega (arith, l)))
 
 -- one is doubled, and it makes no difference which of the two
 doubled : (ss : List Span) (n : ℕ) (s : Span) → n < length ss → s ≡ get_or ss n s → insert ss (suc n) s ≡ insert ss n s
 doubled [] n s l e = absurd (omega (arith, l))
 doubled (x ∷ ss) zero s l e = let f : s ≡ x = e in ap (λ (t : Span). t ∷ s ∷ ss) (sym f) ∙ ap (λ (t : Span). s ∷ t ∷ ss) f
 doubled (x ∷ ss) (suc n) s l e = ap (λ (us : List Span). x ∷ us) (doubled ss n s (omega (arith, l)) e)
-
--- the free place moves one to the front
-pub free_moved : (ss us : List Span) (at n : ℕ) (h s : Span) → suc n ≡ at → n < length ss → us ≡ insert ss at h → s ≡ get_or us n s → (s ≡ get_or ss n s) × (set us at s ≡ insert ss n s)
-free_moved ss us at n h s q l e r =
-    let stands : us ≡ insert ss (suc n) h = e ∙ ap (λ k. insert ss k h) (sym q) in
-    let same : s ≡ get_or ss n s = r ∙ ap (λ (ts : List Span). get_or ts n s) stands ∙ get_or-insert_below ss (suc n) h s n (omega arith) (omega (arith, l)) in
-    (same, ap (λ k. set us k s) (sym q) ∙ ap (λ (ts : List Span). set ts (suc n) s) stands ∙ set_free ss (suc n) h s (omega (arith, l)) ∙ doubled ss n s l same)
 
 -- those in front of the last of the first ones
 pub in_front_taken : (n : ℕ) (us : List Span) → n < length us → in_front (take (n + 1) us) ≡ take n us
@@ -130,10 +126,13 @@ above_last o out ss n last next q e l r =
 
 -- ---- what a comparison tells
 
--- of one that stands in a list, and the next
-pub ranked_key : (o : KeyOrder) (out : List ℕ) (ss : List Span) (n : ℕ) (s next : Span) (r : Ordering) → AreBytes out → AreFronted out ss → IsFronted out next → n < length ss → s ≡ get_or ss n s
-    → r ≡ rank o (ranked_by out s) (ranked_by out next) → r ≡ key_cmp o (key_of out s) (key_of out next)
-ranked_key o out ss n s next r b f g l e h = h ∙ agree_spans o out s next b (subst (IsFronted out) (sym e) (all_index _ ss n s f l)) g
+-- of the one in front of the free place, and the next: and the free place can move one to the front
+pub met : (o : KeyOrder) (out : List ℕ) (ss us : List Span) (at n : ℕ) (h s next : Span) (r : Ordering) → AreBytes out → AreFronted out ss → IsFronted out next → suc n ≡ at → at ≤ length ss → us ≡ insert ss at h
+    → s ≡ get_or us n no_span → r ≡ rank o (ranked_by out s) (ranked_by out next) → (s ≡ get_or ss n s) × (r ≡ key_cmp o (key_of out s) (key_of out next)) × (set us at s ≡ insert ss n s)
+met o out ss us at n h s next r b f g q l e is k =
+    let size = length-insert ss at h l in
+    let same : s ≡ get_or ss n s = is ∙ get_or_default us n no_span s (omega (arith, ap length e, size, q, l)) ∙ ap (λ (ts : List Span). get_or ts n s) e ∙ get_or-insert_below ss at h s n (omega (arith, q)) (omega (arith, l, q)) in
+    (same, k ∙ agree_spans o out s next b (subst (IsFronted out) (sym same) (all_index _ ss n s f (omega (arith, l, q)))) g, set_free ss us at h s e l ∙ ap (λ k. insert ss k s) (sym q) ∙ doubled ss n s (omega (arith, l, q)) same)
 
 pub less_key : (o : KeyOrder) (k l : List ℕ) → Less ≡ key_cmp o k l → IsTrue (key_lt o k l)
 less_key o k l e = sym (ap is_lt e)

@@ -27,8 +27,7 @@ repeat_less ks k i l r = (r.0, r.1, l, sym (get_or-append ks (k ∷ []) [] r.0 (
 
 repeat_more : (ks : List (List ℕ)) (k : List ℕ) (i : ℕ) → IsRepeatAt ks i → IsRepeatAt (ks ++ k ∷ []) i
 repeat_more ks k i r =
-    let n = length-append ks (k ∷ []) in
-    (r.0, r.1, omega (arith, n, r.2), get_or-append ks (k ∷ []) [] r.0 (omega (arith, r.1, r.2)) ∙ r.3 ∙ sym (get_or-append ks (k ∷ []) [] i r.2))
+    (r.0, r.1, omega (arith, length-append ks (k ∷ []), r.2), get_or-append ks (k ∷ []) [] r.0 (omega (arith, r.1, r.2)) ∙ r.3 ∙ sym (get_or-append ks (k ∷ []) [] i r.2))
 
 pub first_more : (ks : List (List ℕ)) (k : List ℕ) (i : ℕ) → IsFirstRepeat ks i → IsFirstRepeat (ks ++ k ∷ []) i
 first_more ks k i f = (repeat_more ks k i f.0, λ j l r. f.1 j l (repeat_less ks k j (omega (arith, l, f.0.2)) r))
@@ -43,11 +42,10 @@ waits_repeated ps k d h =
 
 pub waits_alone : (ps : List Pair) (k : List ℕ) → AreAllDifferent (keys ps) → (HasKey ps k → ⊥) → AreAllDifferent (keys ps ++ k ∷ [])
 waits_alone ps k d h i r =
-    let n = length-append (keys ps) (k ∷ []) in
     elim (cases_lt i (length (keys ps))) [
       | inl l ↦ d i (repeat_less (keys ps) k i l r)
       | inr l ↦
-          let e : i ≡ length (keys ps) = omega (arith, l, n, r.2) in
+          let e : i ≡ length (keys ps) = omega (arith, l, length-append (keys ps) (k ∷ []), r.2) in
           h (key_there ps k r.0 (omega (arith, r.1, e)) (sym (get_or-append (keys ps) (k ∷ []) [] r.0 (omega (arith, r.1, e))) ∙ r.3 ∙ ap (λ (j : ℕ). get_or (keys ps ++ k ∷ []) j []) e ∙ get_or-append_seam (keys ps) k [] []))
     ]
 

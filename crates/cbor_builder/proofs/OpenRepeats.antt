@@ -2,7 +2,7 @@
 use Rattle.std.proofs.Common.{◌≡◌, ℕ, suc, ◌+◌, ◌-◌, ◌^◌, ◌<◌, ◌≤◌, List, [], ◌∷◌, ◌++◌, length, drop, take, map, Option, Some, None, Bool, true, false, refl, sym, ap, ◌∙◌, subst, arith, inl, inr, IsTrue, MatchOption, IfSome, ◌↔◌}
 use Rattle.std.specs.Option.{option_or}
 use Rattle.std.specs.Bool.{then_some}
-use Rattle.std.proofs.lemmas.List.{length-map, drop_all, take_rest}
+use Rattle.std.proofs.lemmas.List.{length-map, drop_all}
 use Rattle.cbor_builder.specs.Built.{HasKey, IsRepeatedKey, IsRepeatTold, keys_so_far, open_maps, AreAllDifferent, IsFirstRepeat}
 use Rattle.cbor_canonical.specs.Parts.{Open}
 use Rattle.cbor_head.specs.Prelude.{Pair}
@@ -10,7 +10,7 @@ use Rattle.cbor_head.specs.declared.order.KeyOrder.{KeyOrder}
 use Rattle.cbor_builder.specs.inner.Front.{key_of}
 use Rattle.cbor_buffer.specs.Spans.{span_pair}
 use Rattle.cbor_builder.specs.inner.Laid.{pairs_from, shape_open, outer_spans, opens, Fits}
-use Rattle.cbor_builder.specs.inner.Repeats.{first_of, maps_of, AreOf, outward, TellsOf, TellsWithin, Tells, IsBelow}
+use Rattle.cbor_builder.specs.inner.Repeats.{first_of, maps_of, outward, TellsOf, TellsWithin, Tells, IsBelow}
 use Rattle.cbor_buffer.specs.declared.span.Span.{Span}
 use Rattle.cbor_builder.specs.declared.frame.Frame.{Frame}
 use Rattle.cbor_builder.specs.declared.frame.Shape.{Shape}
@@ -104,12 +104,11 @@ pub shape_tells : (out : List ℕ) (ss : List Span) (start count : ℕ) (s : Sha
     → MatchOption r (AreAllDifferent (own_keys out ss s)) (IsFirstRepeat (own_keys out ss s)) → (IsTrue waits ↔ IsRepeatedKey (shape_open out ss start s ∷ os))
     → MatchOption (option_or r (then_some waits count)) (AreAllDifferent (keys_so_far (shape_open out ss start s))) (IsFirstRepeat (keys_so_far (shape_open out ss start s)))
 shape_tells out ss start count (Map first) r w os e h k =
-    without_key (keys (pairs_from out ss first)) r w count (subst (λ (ks : List (List ℕ)). MatchOption r (AreAllDifferent ks) (IsFirstRepeat ks)) (sym (pairs_keys out ss first)) h) k.0
+    without_key (keys (pairs_from out ss first)) r w count (coe 1 0 (i. MatchOption r (AreAllDifferent (pairs_keys out ss first i)) (IsFirstRepeat (pairs_keys out ss first i))) h) k.0
 shape_tells out ss start count (Key first at) r w os e h k =
-    with_key (pairs_from out ss first) (drop at out) r w count (count_keys out ss first count e)
-    (subst (λ (ks : List (List ℕ)). MatchOption r (AreAllDifferent ks) (IsFirstRepeat ks)) (sym (pairs_keys out ss first)) h) k
+    with_key (pairs_from out ss first) (drop at out) r w count (count_keys out ss first count e) (coe 1 0 (i. MatchOption r (AreAllDifferent (pairs_keys out ss first i)) (IsFirstRepeat (pairs_keys out ss first i))) h) k
 shape_tells out ss start count s r w os e h k =
-    subst (λ (ks : List (List ℕ)). MatchOption (option_or r (then_some w count)) (AreAllDifferent ks) (IsFirstRepeat ks)) (none_of (key_of out) ss) (without_key (own_keys out ss s) r w count h k.0)
+    coe 0 1 (i. MatchOption (option_or r (then_some w count)) (AreAllDifferent (none_of (key_of out) ss i)) (IsFirstRepeat (none_of (key_of out) ss i))) (without_key (own_keys out ss s) r w count h k.0)
 
 -- keys that rise differ
 pub rising_different : (o : KeyOrder) (out : List ℕ) (ss : List Span) (from start : ℕ) (rises : Bool) (s : Shape) → Fits o out ss from start rises s → IsTrue rises → AreAllDifferent (own_keys out ss s)
@@ -126,25 +125,4 @@ pub told_of : (out : List ℕ) (ss : List Span) (start first count : ℕ) (s : S
     → waiting ≡ then_some waits (count - first) → x ≡ option_or r waiting
     → MatchOption x (AreAllDifferent (keys_so_far (shape_open out ss start s))) (IsFirstRepeat (keys_so_far (shape_open out ss start s)))
 told_of out ss start first count s r x waiting waits os ef ec h k ew ex =
-    subst (λ (x : Option ℕ). MatchOption x (AreAllDifferent (keys_so_far (shape_open out ss start s))) (IsFirstRepeat (keys_so_far (shape_open out ss start s)))) (sym (ex ∙ ap (option_or r) ew))
-    (shape_tells out ss start (count - first) s r waits os (λ i. ec i - ef i) h k)
-
--- what is given to the search, and what it answers
-pub own_spans : (out bytes : List ℕ) (came ss ds : List Span) (first : ℕ) (s : Shape) → bytes ≡ out → ds ≡ ss → first ≡ first_of came s → AreOf out (drop (first_of came s) came) (drop (first_of came s) ss)
-    → AreOf bytes (drop (first_of came s) came) (take (length ds - first) (drop first ds))
-own_spans out bytes came ss ds first s eb ed ef own =
-    let us : take (length ds - first) (drop first ds) ≡ drop (first_of came s) ss = take_rest ds first ∙ (λ i. drop (ef i) (ed i)) in
-    subst (λ (bs : List ℕ). AreOf bs (drop (first_of came s) came) (take (length ds - first) (drop first ds))) (sym eb) (subst (AreOf out (drop (first_of came s) came)) (sym us) own)
-
-pub own_found : (out bytes : List ℕ) (came ss ds : List Span) (first : ℕ) (s : Shape) (r found : Option ℕ) → bytes ≡ out → ds ≡ ss → first ≡ first_of came s
-    → AreOf out (drop (first_of came s) came) (drop (first_of came s) ss) → r ≡ found
-    → ((xs : List Span) → AreOf bytes xs (take (length ds - first) (drop first ds)) → MatchOption found (AreAllDifferent (map (key_of bytes) xs)) (IsFirstRepeat (map (key_of bytes) xs)))
-    → MatchOption r (AreAllDifferent (own_keys out came s)) (IsFirstRepeat (own_keys out came s))
-own_found out bytes came ss ds first s r found eb ed ef own er h =
-    subst (λ (x : Option ℕ). MatchOption x (AreAllDifferent (own_keys out came s)) (IsFirstRepeat (own_keys out came s))) (sym er)
-    (subst (λ (bs : List ℕ). MatchOption found (AreAllDifferent (own_keys bs came s)) (IsFirstRepeat (own_keys bs came s))) eb (h (drop (first_of came s) came) (own_spans out bytes came ss ds first s eb ed ef own)))
-
-pub moved : (P : KeyOrder → List ℕ → List Span → List Frame → Type 0) (o o' : KeyOrder) (out out' : List ℕ) (ss ss' : List Span) (fs fs' : List Frame)
-    → o' ≡ o → out' ≡ out → ss' ≡ ss → fs' ≡ fs → P o out ss fs → P o' out' ss' fs'
-moved P o o' out out' ss ss' fs fs' eo ex es ef p =
-    subst (λ o. P o out' ss' fs') (sym eo) (subst (λ out. P o out ss' fs') (sym ex) (subst (λ ss. P o out ss fs') (sym es) (subst (P o out ss) (sym ef) p)))
+    coe 1 0 (i. MatchOption ((ex ∙ ap (option_or r) ew) i) (AreAllDifferent (keys_so_far (shape_open out ss start s))) (IsFirstRepeat (keys_so_far (shape_open out ss start s)))) (shape_tells out ss start (count - first) s r waits os (λ i. ec i - ef i) h k)

@@ -1,11 +1,10 @@
 -- Spans of the innermost in another order than they came in.
-use Rattle.std.proofs.Common.{◌≡◌, ℕ, Bool, List, [], ◌∷◌, length, length-drop, length-take, drop, take, refl, sym, ap, subst, arith, IsPermutation, IsTrue, ◌↔◌}
+use Rattle.std.proofs.Common.{◌≡◌, ℕ, Bool, List, [], ◌∷◌, length, length-drop, length-take, drop, take, refl, sym, ap, ◌∙◌, subst, arith, IsPermutation, IsTrue, ◌↔◌}
 use Rattle.std.proofs.lemmas.List.{drop_all}
 use Rattle.std.proofs.lemmas.List.Sorted.{IsPermutation-refl, length_permutation}
 use Rattle.cbor_head.specs.declared.order.KeyOrder.{KeyOrder}
 use Rattle.cbor_canonical.specs.Parts.{Open}
 use Rattle.cbor_builder.specs.Built.{IsRepeatedKey}
-use Rattle.cbor_buffer.specs.declared.draft.Draft.{Draft}
 use Rattle.cbor_buffer.specs.declared.span.Span.{Span}
 use Rattle.cbor_builder.specs.declared.builder.Core.{Core}
 use Rattle.cbor_builder.specs.declared.frame.Frame.{Frame}
@@ -27,12 +26,7 @@ reordered_outer came ss s h = h
 
 pub reordered_length : (came ss : List Span) (s : Shape) → IsReordered came ss s → length ss ≡ length came
 reordered_length came ss (Map first) h =
-    let a = length-take first came in
-    let b = length-take first ss in
-    let c = length-drop first came in
-    let d = length-drop first ss in
-    let behind = length_permutation (drop first came) (drop first ss) h.1 in
-    omega (arith, a, b, c, d, ap length h.0, behind)
+    omega (arith, length-take first came, length-take first ss, length-drop first came, length-drop first ss, ap length h.0, length_permutation (drop first came) (drop first ss) h.1)
 reordered_length came ss s h = ap length h
 
 pub reordered_first : (came ss : List Span) (s : Shape) → IsReordered came ss s → first_of ss s ≡ first_of came s
@@ -45,26 +39,21 @@ pub reordered_waits : (out : List ℕ) (came ss : List Span) (start : ℕ) (s : 
 reordered_waits out came ss start (Key first at) os t h w = subst (λ (ss : List Span). IsTrue t ↔ IsRepeatedKey (shape_open out ss start (Key first at) ∷ os)) h w
 reordered_waits out came ss start s os t h w = w
 
-none_of : (out : List ℕ) (came ss : List Span) → ss ≡ came → AreOf out (drop (length came) came) (drop (length came) ss)
-none_of out came ss e =
-    let none = drop_all (length came) came (omega arith) in
-    subst (λ (ss : List Span). AreOf out (drop (length came) came) (drop (length came) ss)) (sym e) (subst (λ (xs : List Span). AreOf out xs xs) (sym none) (0, 0, refl, omega arith, tt, IsPermutation-refl []))
-
 -- the spans of its own pairs
 pub reordered_own : (o : KeyOrder) (out : List ℕ) (came ss : List Span) (from start : ℕ) (rises : Bool) (s : Shape) → Fits o out came from start rises s → IsReordered came ss s
     → AreOf out (drop (first_of came s) came) (drop (first_of came s) ss)
 reordered_own o out came ss from start rises (Map first) f h = (start, length out, f.1, omega arith, f.3, h.1)
 reordered_own o out came ss from start rises (Key first at) f h = (start, at, f.1, f.2, f.4, subst (λ (ss : List Span). IsPermutation (drop first came) (drop first ss)) (sym h) (IsPermutation-refl (drop first came)))
-reordered_own o out came ss from start rises s f h = none_of out came ss h
+reordered_own o out came ss from start rises s f h =
+    let none = drop_all (length came) came (omega arith) in coe 1 0 (i. AreOf out (none i) ((ap (drop (length came)) h ∙ none) i)) (0, 0, refl, omega arith, tt, IsPermutation-refl [])
 
 -- ---- where a map does not end
 
 pub left_open : (s n : Core) → Stand s.order s.out s.spans.items (frames s) → n.order ≡ s.order → n.out ≡ s.out → n.top ≡ s.top → outers n ≡ outers s → IsReordered s.spans.items n.spans.items s.top.shape → IsLeftOpen s n
 left_open s n stand order out top around h = (
   (
-    subst (λ (o : KeyOrder). Stand o n.out s.spans.items (frames n)) (sym order)
-        (subst (λ (d : Draft). Stand s.order d s.spans.items (frames n)) (sym out) (subst (Stand s.order s.out s.spans.items) (λ i. sym top i ∷ sym around i) stand)),
-    subst (λ (f : Frame). IsReordered s.spans.items n.spans.items f.shape) (sym top) h,
+    coe 1 0 (i. Stand (order i) (out i) s.spans.items (top i ∷ around i)) stand,
+    coe 1 0 (i. IsReordered s.spans.items n.spans.items (Frame.shape (top i))) h,
   ),
   λ i. opens (meant (out i)) s.spans.items (top i ∷ around i),
 )

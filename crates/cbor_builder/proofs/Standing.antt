@@ -16,7 +16,7 @@ use Rattle.cbor_builder.specs.declared.frame.Frame.{Frame}
 use Rattle.cbor_builder.specs.declared.frame.Shape.TheVariants.{Map}
 use Rattle.cbor_buffer.proofs.Drafts.{whole_length, extended as draft_extended}
 use Rattle.cbor_builder.proofs.Growth.{given, ended, key_ready, lengthened, finished}
-use Rattle.cbor_builder.proofs.InPlace.{alone, agrees_refl, agrees_longer, agrees_by, waits_by, waits_refl, outer_agrees, completed_same, ready_same, laid_raw}
+use Rattle.cbor_builder.proofs.InPlace.{alone, agrees_refl, agrees_longer, agrees_by, waits_stay, waits_refl, outer_agrees, completed_same, ready_same, laid_raw}
 use Rattle.cbor_buffer.proofs.Written.{drop_front}
 
 -- ---- one more member
@@ -25,7 +25,7 @@ pub member_ready : (s : Core) (d' : Draft) (b : List ℕ) (at : ℕ) → IsLaid 
 member_ready s d' b at laid x ea =
     let d = s.out in
     let st = laid.0 in
-    ready_same d'.buf (meant d') s.spans.items at s.top.shape (whole_length d' x.whole) (waits_by s.order d.buf (meant d) b b s.spans.items s.top (outers s) d'.buf (meant d') at (whole_length d st.1) st.0 st.2 x.lies x.meant_is ea)
+    ready_same d'.buf (meant d') s.spans.items at s.top.shape (whole_length d' x.whole) (coe 1 0 (i. WaitsSame (x.lies i) (x.meant_is i) s.spans.items (ea i) s.top.shape) (waits_stay s.order d.buf (meant d) b b s.spans.items s.top (outers s) (whole_length d st.1) st.0 st.2))
     (key_ready s.order (meant d) b s.spans.items s.top (outers s) (meant d') at st.0 x.meant_is ea)
 
 pub member_given : {A E : Type 0} (r : Result A E) (s : Core) (d' : Draft) (b : List ℕ) (at : ℕ) (f' : Frame) (spans : Vec Span) → IsLaid s → Takes s.top.shape → Extends s.out d' b → at ≡ length (meant s.out)
@@ -43,7 +43,7 @@ member_given r s d' b at f' spans laid takes x ea from start shape made rises =
         let fs = outers s in
         let w = laid.0 in
         let l = whole_length d w.1 in
-        let done = completed_same o d'.buf (meant d') ss at f spans.items f' (whole_length d' x.whole) (waits_by o d.buf (meant d) b b ss f fs d'.buf (meant d') at l w.0 w.2 x.lies x.meant_is ea) c in
+        let done = completed_same o d'.buf (meant d') ss at f spans.items f' (whole_length d' x.whole) (coe 1 0 (i. WaitsSame (x.lies i) (x.meant_is i) ss (ea i) f.shape) (waits_stay o d.buf (meant d) b b ss f fs l w.0 w.2)) c in
         let g = given o (meant d) b ss f fs (meant d') spans.items f' w.0 takes x.meant_is (subst (λ k. Completed o ss k f (meant d') spans.items f') ea done) in
         let a = agrees_by o d.buf (meant d) b b ss f fs d'.buf (meant d') at spans.items f' w.0 l w.2 takes (λ first e. refl) (λ e. refl) x.lies x.meant_is ea done in
         (((g.0, x.whole, a), rooted_given o d'.buf ss at f f' s.is_open s.below.items from start shape rises laid.1), g.1)
@@ -66,11 +66,11 @@ ended_waits : (o : KeyOrder) (d d' : Draft) (x : List ℕ) (ss : List Span) (f g
     → WaitsSame d'.buf (meant d') (outer_spans ss f.shape) f.from g.shape
 ended_waits o d d' x ss f g fs s w em (inr e) = waits_refl d'.buf (meant d') (outer_spans ss f.shape) f.from g.shape e
 ended_waits o d d' x ss f g fs s w em (inl t) =
-    let a = length-take f.from d.buf in
     let b = length-take f.from (meant d) in
-    let l = whole_length d s.1 in
-    waits_by o (take f.from d.buf) (take f.from (meant d)) (drop f.from d'.buf) x (outer_spans ss f.shape) g fs d'.buf (meant d') f.from (omega (arith, a, b, l)) s.0.3 (outer_agrees d.buf (meant d) ss f (g ∷ fs) s.2)
-    (sym (take-append-drop f.from d'.buf) ∙ ap (λ (xs : List ℕ). xs ++ drop f.from d'.buf) t) em (omega (arith, b, s.0.0, s.0.1))
+    let lies : d'.buf ≡ take f.from d.buf ++ drop f.from d'.buf = sym (take-append-drop f.from d'.buf) ∙ ap (λ (xs : List ℕ). xs ++ drop f.from d'.buf) t in
+    let at : f.from ≡ length (take f.from (meant d)) = omega (arith, b, s.0.0, s.0.1) in
+    coe 1 0 (i. WaitsSame (lies i) (em i) (outer_spans ss f.shape) (at i) g.shape)
+    (waits_stay o _ _ (drop f.from d'.buf) x (outer_spans ss f.shape) g fs (omega (arith, length-take f.from d.buf, b, whole_length d s.1)) s.0.3 (outer_agrees d.buf (meant d) ss f (g ∷ fs) s.2))
 
 ended_agrees : (o : KeyOrder) (d d' : Draft) (x : List ℕ) (ss : List Span) (f g : Frame) (fs : List Frame) (ss' : List Span) (g' : Frame) → Stand o d ss (f ∷ g ∷ fs) → IsWhole d' → Takes g.shape
     → meant d' ≡ take f.from (meant d) ++ x → KeepsFront f.from d d' → ((first : ℕ) → g.shape ≡ Map first → IsSettled f.from d') → (fs ≡ [] → IsSettled f.from d')
@@ -87,9 +87,8 @@ ended_agrees o d d' x ss f g fs ss' g' s w takes em (inl t) key last c =
 pub member_outer : (o : KeyOrder) (d d' : Draft) (x : List ℕ) (ss ss1 : List Span) (f g : Frame) (fs : List Frame) → Stand o d ss (f ∷ g ∷ fs) → IsWhole d' → meant d' ≡ take f.from (meant d) ++ x
     → KeepsFront f.from d d' → ss1 ≡ outer_spans ss f.shape → IsReady d'.buf ss1 f.from g.shape
 member_outer o d d' x ss ss1 f g fs s w em front es =
-    let n = length-take f.from (meant d) in
     let us = outer_spans ss f.shape in
-    let ready = key_ready o (take f.from (meant d)) x us g fs (meant d') f.from s.0.3 em (omega (arith, n, s.0.0, s.0.1)) in
+    let ready = key_ready o (take f.from (meant d)) x us g fs (meant d') f.from s.0.3 em (omega (arith, length-take f.from (meant d), s.0.0, s.0.1)) in
     subst (λ (us : List Span). IsReady d'.buf us f.from g.shape) (sym es) (ready_same d'.buf (meant d') us f.from g.shape (whole_length d' w) (ended_waits o d d' x ss f g fs s w em front) ready)
 
 pub member_ended : (o : KeyOrder) (d d' : Draft) (ss ss1 : List Span) (f g : Frame) (fs : List Frame) (ss' : List Span) (g' : Frame) → Stand o d ss (f ∷ g ∷ fs) → IsWhole d' → Takes g.shape
@@ -110,10 +109,9 @@ member_longer s buf b laid string e =
     let fs = frames s in
     let w = laid.0 in
     let x = draft_extended d buf b w.1 e in
-    let l = whole_length d w.1 in
-    let st = subst (λ (xs : List ℕ). Stands s.order xs ss fs (extended b (standing s))) (sym x.meant_is) (lengthened s.order (meant d) b ss s.top (outers s) w.0 string) in
-    let a = agrees_longer d.buf (meant d) b ss s.top (outers s) (omega (arith, l, w.0.0, w.0.1)) (omega (arith, w.0.0, w.0.1)) string w.2 in
-    (((st.0, x.whole, subst (λ (xs : List ℕ). Agrees xs (meant (record d { buf = buf })) ss fs) (sym e) (subst (λ (xs : List ℕ). Agrees (d.buf ++ b) xs ss fs) (sym x.meant_is) a)), laid.1), st.1)
+    let st = coe 1 0 (i. Stands s.order (x.meant_is i) ss fs (extended b (standing s))) (lengthened s.order (meant d) b ss s.top (outers s) w.0 string) in
+    let a = agrees_longer d.buf (meant d) b ss s.top (outers s) (omega (arith, whole_length d w.1, w.0.0, w.0.1)) (omega (arith, w.0.0, w.0.1)) string w.2 in
+    (((st.0, x.whole, coe 1 0 (i. Agrees (e i) (x.meant_is i) ss fs) a), laid.1), st.1)
 
 -- the bytes as they lie in place of those that are meant: of what is open it makes no difference
 pub stand_cut : (o : KeyOrder) (d d' : Draft) (ss : List Span) (fs : List Frame) → Stand o d ss fs → IsWhole d' → meant d' ≡ d.buf → d'.buf ≡ d.buf → Stand o d' ss fs

@@ -1,5 +1,6 @@
 -- Pairs with equal keys among sorted spans.
-use Rattle.std.proofs.Common.{◌≡◌, ◌≢◌, ℕ, ◌+◌, ◌-◌, ◌<◌, ◌≤◌, true, false, List, length, get_or, Option, Some, None, min, max, refl, sym, ap, ◌∙◌, subst, arith, inl, inr, IsPermutation, IsSortedBy, IfSome}
+use Rattle.std.proofs.Common.{◌≡◌, ◌≢◌, ℕ, ◌+◌, ◌-◌, ◌<◌, ◌≤◌, true, false, List, length, get_or, Option, Some, None, min, max, refl, sym, ap, ◌∙◌, subst, arith, inl, inr, ◌⊎◌, IsPermutation, IsSortedBy, IfSome}
+use borrow.Author.Count.{below_more}
 use Rattle.std.specs.List.{swap}
 use Rattle.std.specs.Ordering.{is_lt, ordering_reverse}
 use Rattle.std.specs.declared.cmp.Ordering.{Ordering}
@@ -15,7 +16,6 @@ use Rattle.cbor_builder.specs.inner.Repeats.{nth, place, AreGrouped, IsTie, HasT
 use Rattle.cbor_buffer.specs.Spans.{no_span}
 use Rattle.cbor_buffer.specs.declared.span.Span.{Span}
 use Rattle.cbor_builder.specs.declared.repeats.Tie.{Tie}
-use Rattle.cbor_builder.proofs.Neighbours.{keys}
 
 -- ---- two of a list are found again in another order
 
@@ -50,7 +50,9 @@ module _ {X : Type 0} (d : X) (R : X → X → Type 0) where
   two_permuted xs ys m t = IsPermutation-keeps xs Two t (λ xs a b la lb h. two_swapped xs a b la lb h) ys m
 
 pub tie_permuted : (out : List ℕ) (xs ys : List Span) (earlier later : ℕ) → IsPermutation xs ys → HasTie out xs (length xs) earlier later → HasTie out ys (length ys) earlier later
-tie_permuted out xs ys earlier later m t = two_permuted no_span (IsTie out earlier later) xs ys m t
+tie_permuted out xs ys earlier later m (i, j, less, l, tie) =
+    let (k, n, lk, ln, ne, (same, low, high)) = two_permuted no_span (IsTie out earlier later) xs ys m (i, j, omega (arith, less, l), l, (λ e. omega (arith, less, e)), tie) in
+    elim (cases_lt k n) [ inl g ↦ (k, n, g, ln, (same, low, high)) | inr g ↦ (n, k, omega (arith, g, ne), lk, (sym same, omega (arith, low), omega (arith, high))) ]
 
 -- ---- what a look at sorted spans finds
 
@@ -72,108 +74,69 @@ grouped o out ss sorted i j k l m h same =
         go Equal e = tied o x y e
         go Greater e = let l : key_lt o y x ≡ true = ap is_lt ((key_cmp_total o).antisymm y x ∙ ap ordering_reverse e) in cc
 
--- one alone
-pub tie_alone : (out : List ℕ) (ss : List Span) (at : ℕ) → at ≡ place (nth ss 0) → IsFirstTie out ss 1 None × IsLeastOfKey out ss 1 at
-tie_alone out ss at is = ((λ earlier later t. t.4 (omega (arith, t.2, t.3))), ((0, omega arith, refl, sym is), λ i l e. let none : 0 ≡ i = omega (arith, l) in omega (arith, is, ap (λ k. place (nth ss k)) none)))
-
 -- where the ties are the same, the first of them is
 pub first_same : (out : List ℕ) (xs ys : List Span) (n m : ℕ) (r : Option Tie) → ((earlier later : ℕ) → HasTie out xs n earlier later → HasTie out ys m earlier later)
     → ((earlier later : ℕ) → HasTie out ys m earlier later → HasTie out xs n earlier later) → IsFirstTie out xs n r → IsFirstTie out ys m r
 first_same out xs ys n m None forth back h = λ earlier later t. h earlier later (back earlier later t)
 first_same out xs ys n m (Some f) forth back h = (forth f.earlier f.later h.0, λ earlier later t. h.1 earlier later (back earlier later t))
 
-tie_longer : (out : List ℕ) (ss : List Span) (n earlier later : ℕ) → HasTie out ss n earlier later → HasTie out ss (n + 1) earlier later
-tie_longer out ss n earlier later (i, j, li, lj, ne, tie) = (i, j, omega (arith, li), omega (arith, lj), ne, tie)
-
--- the key at n is another than the one before it
-pub tie_passed : (out : List ℕ) (ss : List Span) (n at : ℕ) (r : Option Tie) → AreGrouped out ss → 1 ≤ n → n < length ss → key_of out (nth ss (n - 1)) ≢ key_of out (nth ss n) → at ≡ place (nth ss n)
-    → IsFirstTie out ss n r → IsFirstTie out ss (n + 1) r × IsLeastOfKey out ss (n + 1) at
-tie_passed out ss n at r group low l other is h = (
-  first_same out ss ss n (n + 1) r (tie_longer out ss n) shorter h,
-  (
-    (n, omega arith, ap (λ k. key_of out (nth ss k)) last, sym is),
-    λ i li e. elim (cases_lt i n) [
-      | inl g ↦ absurd (alone i g (e ∙ ap (λ k. key_of out (nth ss k)) (sym last)))
-      | inr g ↦ let same : n ≡ i = omega (arith, li, g) in omega (arith, is, ap (λ k. place (nth ss k)) same)
-    ],
-  ),
-)
-  where
-    last : n ≡ n + 1 - 1
-    last = omega arith
-
-    alone : (i : ℕ) → i < n → key_of out (nth ss i) ≡ key_of out (nth ss n) → ⊥
-    alone i g e = other (group i (n - 1) n (omega (arith, g)) (omega arith) l e)
-
-    shorter : (earlier later : ℕ) → HasTie out ss (n + 1) earlier later → HasTie out ss n earlier later
-    shorter earlier later (i, j, li, lj, ne, tie) = elim (cases_lt i n) [
-      | inl g ↦ elim (cases_lt j n) [
-        | inl k ↦ (i, j, g, k, ne, tie)
-        | inr k ↦ let e : j ≡ n = omega (arith, lj, k) in absurd (alone i g (tie.0 ∙ ap (λ k. key_of out (nth ss k)) e))
-      ]
-      | inr g ↦
-          let e : i ≡ n = omega (arith, li, g) in
-          let k : j < n = elim (cases_lt j n) [ inl k ↦ k | inr k ↦ absurd (ne (omega (arith, e, lj, k))) ] in
-          absurd (alone j k (sym tie.0 ∙ ap (λ k. key_of out (nth ss k)) e))
-    ]
-
 up_to : (t : Tie) (a b earlier later : ℕ) → IsUpTo t a b → b ≤ later → (b ≡ later → a ≤ earlier) → IsUpTo t earlier later
 up_to t a b earlier later u l k = (omega (arith, u.0, l), λ e. let same : b ≡ later = omega (arith, u.0, l, e) in let first = u.1 (e ∙ sym same) in omega (arith, first, k same))
 
--- it is the same
-pub tie_met : (out : List ℕ) (ss : List Span) (n at least : ℕ) (r : Option Tie) (t : Tie) → 1 ≤ n → key_of out (nth ss (n - 1)) ≡ key_of out (nth ss n) → at ≡ place (nth ss n)
-    → IsLeastOfKey out ss n least → IsFirstTie out ss n r → IsFirstOf r (record { earlier = min least at; later = max least at }) t
-    → IsFirstTie out ss (n + 1) (Some t) × IsLeastOfKey out ss (n + 1) (min least at)
-tie_met out ss n at least r t low same is ((q, lq, key, lies), all) h (one, up, found) = ((there, first), (least_there, least_first))
-  where
-    last : n ≡ n + 1 - 1
-    last = omega arith
+module _ (out : List ℕ) (ss : List Span) where
+  abbrev key : ℕ → List ℕ
+  key i = key_of out (nth ss i)
 
-    made : HasTie out ss (n + 1) (min least at) (max least at)
-    made = elim (cases_lt at least) [
-      | inl g ↦ (n, q, omega arith, omega (arith, lq), (λ e. omega (arith, lq, e)), (sym same ∙ sym key, omega (arith, g, is), omega (arith, g, lies), omega arith))
-      | inr g ↦ (q, n, omega (arith, lq), omega arith, (λ e. omega (arith, lq, e)), (key ∙ same, omega (arith, g, lies), omega (arith, g, is), omega arith))
-    ]
+  -- one alone
+  pub tie_alone : (at : ℕ) → at ≡ place (nth ss 0) → IsFirstTie out ss 1 None × IsLeastOfKey out ss 1 (key 0) at
+  tie_alone at is = ((λ earlier later t. omega (arith, t.2, t.3)), ((0, omega arith, refl, sym is), λ i l e. let none : 0 ≡ i = omega (arith, l) in omega (arith, is, ap (λ k. place (nth ss k)) none)))
 
-    there : HasTie out ss (n + 1) t.earlier t.later
-    there = elim one [
-      | inl e ↦ tie_longer out ss n t.earlier t.later (subst (IsFirstTie out ss n) e h).0
-      | inr e ↦ subst (λ (u : Tie). HasTie out ss (n + 1) u.earlier u.later) (sym e) made
-    ]
+  last : (n : ℕ) → n ≡ n + 1 - 1
+  last n = omega arith
 
-    old : (r : Option Tie) → IsFirstTie out ss n r → IfSome r (λ (f : Tie). IsUpTo t f.earlier f.later) → (earlier later : ℕ) → HasTie out ss n earlier later → IsUpTo t earlier later
-    old None h u earlier later tie = absurd (h earlier later tie)
-    old (Some f) h u earlier later tie = let v = h.1 earlier later tie in up_to t f.earlier f.later earlier later u v.0 v.1
+  longer : (n earlier later : ℕ) → HasTie out ss n earlier later → HasTie out ss (n + 1) earlier later
+  longer n earlier later (i, j, less, l, tie) = (i, j, less, omega (arith, l), tie)
 
-    at_least : (i : ℕ) → i < n → key_of out (nth ss i) ≡ key_of out (nth ss n) → least ≤ place (nth ss i)
-    at_least i l e = all i l (e ∙ sym same)
+  -- with one more, a tie is one of those before or is made by it
+  one_longer : (n earlier later : ℕ) → HasTie out ss (n + 1) earlier later → HasTie out ss n earlier later ⊎ ((i : ℕ) × (i < n) × IsTie out earlier later (nth ss i) (nth ss n))
+  one_longer n earlier later (i, j, less, l, tie) = elim (cases_lt j n) [
+    | inl k ↦ inl (i, j, less, k, tie)
+    | inr k ↦ let e : j ≡ n = omega (arith, l, k) in inr (i, omega (arith, less, e), subst (λ m. IsTie out earlier later (nth ss i) (nth ss m)) e tie)
+  ]
 
-    first : (earlier later : ℕ) → HasTie out ss (n + 1) earlier later → IsUpTo t earlier later
-    first earlier later (i, j, li, lj, ne, (keys, a, b, le)) = elim (cases_lt i n) [
-      | inl g ↦ elim (cases_lt j n) [
-        | inl k ↦ old r h found earlier later (i, j, g, k, ne, (keys, a, b, le))
-        | inr k ↦
-            let e : j ≡ n = omega (arith, lj, k) in
-            let w = at_least i g (keys ∙ ap (λ k. key_of out (nth ss k)) e) in
-            let here = ap (λ k. place (nth ss k)) e in
-            up_to t (min least at) (max least at) earlier later up (omega (arith, w, a, b, le, here, is)) (λ s. omega (arith, w, a))
-      ]
-      | inr g ↦
-          let e : i ≡ n = omega (arith, li, g) in
-          let k : j < n = elim (cases_lt j n) [ inl k ↦ k | inr k ↦ absurd (ne (omega (arith, e, lj, k))) ] in
-          let w = at_least j k (sym keys ∙ ap (λ k. key_of out (nth ss k)) e) in
-          let here = ap (λ k. place (nth ss k)) e in
-          up_to t (min least at) (max least at) earlier later up (omega (arith, w, a, b, le, here, is)) (λ s. omega (arith, a, here, is))
-    ]
+  -- the key at n is another than the one before it
+  pub tie_passed : (n at : ℕ) (r : Option Tie) → AreGrouped out ss → 1 ≤ n → n < length ss → key (n - 1) ≢ key n → at ≡ place (nth ss n)
+      → IsFirstTie out ss n r → IsFirstTie out ss (n + 1) r × IsLeastOfKey out ss (n + 1) (key (n + 1 - 1)) at
+  tie_passed n at r group low l other is h = (
+    first_same out ss ss n (n + 1) r (longer n) (λ earlier later t. elim (one_longer n earlier later t) [ inl old ↦ old | inr w ↦ absurd (alone w.0 w.1 w.2.0) ]) h,
+    subst (λ k. IsLeastOfKey out ss (n + 1) (key k) at) (last n) ((n, omega arith, refl, sym is), below_more (λ i. key i ≡ key n → at ≤ place (nth ss i)) n (λ i g e. absurd (alone i g e)) (λ e. omega (arith, is))),
+  )
+    where
+      alone : (i : ℕ) → i < n → key i ≡ key n → ⊥
+      alone i g e = other (group i (n - 1) n (omega (arith, g)) (omega arith) l e)
 
-    least_there : (i : ℕ) × (i < n + 1) × (key_of out (nth ss i) ≡ key_of out (nth ss (n + 1 - 1))) × (place (nth ss i) ≡ min least at)
-    least_there = elim (cases_lt at least) [
-      | inl g ↦ (n, omega arith, ap (λ k. key_of out (nth ss k)) last, omega (arith, g, is))
-      | inr g ↦ (q, omega (arith, lq), key ∙ same ∙ ap (λ k. key_of out (nth ss k)) last, omega (arith, g, lies))
-    ]
-
-    least_first : (i : ℕ) → i < n + 1 → key_of out (nth ss i) ≡ key_of out (nth ss (n + 1 - 1)) → min least at ≤ place (nth ss i)
-    least_first i li e = elim (cases_lt i n) [
-      | inl g ↦ (let w = at_least i g (e ∙ ap (λ k. key_of out (nth ss k)) (sym last)) in omega (arith, w))
-      | inr g ↦ let same : n ≡ i = omega (arith, li, g) in omega (arith, is, ap (λ k. place (nth ss k)) same)
-    ]
+  -- it is the same
+  pub tie_met : (n at least : ℕ) (r : Option Tie) (t : Tie) → key (n - 1) ≡ key n → at ≡ place (nth ss n) → IsLeastOfKey out ss n (key (n - 1)) least
+      → IsFirstTie out ss n r → IsFirstOf r (record { earlier = min least at; later = max least at }) t → IsFirstTie out ss (n + 1) (Some t) × IsLeastOfKey out ss (n + 1) (key (n + 1 - 1)) (min least at)
+  tie_met n at least r t same is ((q, lq, meets, lies), all) h (one, up, found) = (
+    (
+      elim one [
+        | inl e ↦ longer n t.earlier t.later (subst (IsFirstTie out ss n) e h).0
+        | inr e ↦ subst (λ (u : Tie). HasTie out ss (n + 1) u.earlier u.later) (sym e) (q, n, lq, omega arith, (meets ∙ same, omega (arith, lies, is), omega (arith, lies, is)))
+      ],
+      λ earlier later tie. elim (one_longer n earlier later tie) [
+        | inl old ↦ first r h found earlier later old
+        | inr w ↦
+            let (i, l, (keys, low, high)) = w in
+            let most = all i l (keys ∙ sym same) in up_to t (min least at) (max least at) earlier later up (omega (arith, most, low, high, is)) (λ s. omega (arith, most, low, is))
+      ],
+    ),
+    subst (λ k. IsLeastOfKey out ss (n + 1) (key k) (min least at)) (last n) (
+      elim (cases_lt at least) [ inl g ↦ (n, omega arith, refl, omega (arith, g, is)) | inr g ↦ (q, omega (arith, lq), meets ∙ same, omega (arith, g, lies)) ],
+      below_more (λ i. key i ≡ key n → min least at ≤ place (nth ss i)) n (λ i g e. let w = all i g (e ∙ sym same) in omega (arith, w)) (λ e. omega (arith, is)),
+    ),
+  )
+    where
+      first : (r : Option Tie) → IsFirstTie out ss n r → IfSome r (λ (f : Tie). IsUpTo t f.earlier f.later) → (earlier later : ℕ) → HasTie out ss n earlier later → IsUpTo t earlier later
+      first None h u earlier later tie = absurd (h earlier later tie)
+      first (Some f) h u earlier later tie = let v = h.1 earlier later tie in up_to t f.earlier f.later earlier later u v.0 v.1

@@ -8,20 +8,21 @@ use Rattle.cbor_item.specs.inner.Walk.{flat, size}
 use Rattle.cbor_item.specs.inner.Within.{Holds}
 use Rattle.cbor_item.specs.declared.item.Item.{Item}
 use Rattle.cbor_item.specs.declared.item.Item.TheVariants.{Array, Map}
-use Rattle.cbor_item.proofs.Views.{view-Array, view-Map, values_count-view, entries_count-view}
+use Rattle.cbor_item.proofs.Views.{view-Array, view-Map}
+use Rattle.cbor_item.proofs.Steps.{values_counted, entries_counted}
 use Rattle.cbor_item.proofs.Walk.{weight-all, weight-flat}
 
 pub holds_members : (v : Vec Item Global) → length v.items < 2 ^ 64 → Holds (view (Array v)) (map view v.items)
 holds_members v few = record {
   deeper = ap depth (view-Array v);
-  in_range = λ h. subst IsInRange (sym (view-Array v)) (omega (arith, values_count-view v.items), h);
+  in_range = λ h. subst IsInRange (sym (view-Array v)) (omega (arith, values_counted view v.items), h);
   smaller = ap size (view-Array v) ∙ ap (λ (n : ℕ). suc (suc n)) (weight-all (map view v.items));
 }
 
 pub holds_pairs : (v : Vec (Item × Item) Global) → length v.items < 2 ^ 64 → Holds (view (Map v)) (flat v.items)
 holds_pairs v few = record {
   deeper = ap depth (view-Map v) ∙ ap suc (deep v.items);
-  in_range = λ h. subst IsInRange (sym (view-Map v)) (omega (arith, entries_count-view v.items), ranges v.items h);
+  in_range = λ h. subst IsInRange (sym (view-Map v)) (omega (arith, entries_counted view v.items), ranges v.items h);
   smaller = ap size (view-Map v) ∙ ap (λ (n : ℕ). suc (suc n)) (weight-flat v.items);
 }
   where

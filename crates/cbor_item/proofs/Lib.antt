@@ -1,4 +1,3 @@
-pub mod ByIndex
 pub mod Counting
 pub mod Held
 pub mod Steps

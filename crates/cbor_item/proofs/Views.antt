@@ -1,7 +1,6 @@
 -- An item's value, a level at a time.
-use Rattle.std.proofs.Common.{◌≡◌, ℕ, suc, List, [], ◌∷◌, length, Vec, Global, String, Box, string_bytes, refl, ap, rules}
+use Rattle.std.proofs.Common.{◌≡◌, ℕ, Vec, Global, String, Box, string_bytes, rules}
 use Rattle.cbor_head.specs.Value as value
-use Rattle.cbor_head.specs.Prelude.{values_count}
 use Rattle.cbor_head.specs.Value.{entries_count}
 use Rattle.cbor_item.specs.View.{view}
 use Rattle.cbor_item.specs.inner.Members.{entries_view, values_view}
@@ -31,11 +30,3 @@ view-Tag n b = search (rules, the_lemmas)
 
 pub view-Simple : (n : ℕ) → view (Simple n) ≡ value.simple n
 view-Simple n = search (rules, the_lemmas)
-
-pub values_count-view : (is : List Item) → values_count (values_view is) ≡ length is
-values_count-view [] = refl
-values_count-view (i ∷ is) = ap suc (values_count-view is)
-
-pub entries_count-view : (ps : List (Item × Item)) → entries_count (entries_view ps) ≡ length ps
-entries_count-view [] = refl
-entries_count-view (p ∷ ps) = ap suc (entries_count-view ps)

@@ -1,6 +1,6 @@
 -- Looking up a value by its key, and a member by its index.
 use Rattle.std.proofs.Common.{◌≡◌, ℕ, zero, suc, ◌+◌, ◌<◌, ◌≤◌, List, [], ◌∷◌, length, drop, get_or, slice_get, Option, Some, None, Bor, inl, inr, refl, ap, subst, arith, ◌↔◌, ℤ, pos, negsuc, option_map, MatchOption, IfSome}
-use Rattle.std.proofs.lemmas.List.{drop_all}
+use Rattle.std.proofs.lemmas.List.{drop_all, drop_more}
 use Rattle.std.proofs.lemmas.Option.{slice_get-get_or}
 use Rattle.cbor_head.specs.Value as value
 use Rattle.cbor_head.specs.Prelude.{Value, HasEntry, Same, map, IsValid, AreEntriesValid}
@@ -10,41 +10,26 @@ use Rattle.cbor_view.specs.Lookup.{HasValueAt, member_at}
 use Rattle.cbor_view.specs.Seen.{seen, seen_all}
 use Rattle.cbor_view.specs.declared.view.View.{View}
 use Rattle.cbor_view.specs.inner.Pairs.{Pair, entries}
-use Rattle.cbor_view.proofs.Pairs.{at_read, valid_pair}
 
 -- what these pairs have at the key, the others have
 abbrev pub LeadsBehind : Value → List Pair → List Pair → Type 0
 LeadsBehind k ps rest = (v : Value) → HasValueAt (map (entries ps)) k v → HasValueAt (map (entries rest)) k v
 
-has_behind : (k : Value) (ps : List Pair) (p : Pair) (rest : List Pair) → ps ≡ p ∷ rest → (Same (seen p.0) k → ⊥) → LeadsBehind k ps rest
-has_behind k ps p rest e miss v h =
-    let at = subst (λ (ps : List Pair). HasValueAt (map (entries ps)) k v) e h in
+pub looked_by : (k : Value) (ps : List Pair) (i : ℕ) (d : Pair) → i < length ps → LeadsBehind k ps (drop i ps) → (Same (seen (get_or ps i d).0) k → ⊥) → LeadsBehind k ps (drop (i + 1) ps)
+looked_by k ps i d l inv miss v h =
+    let at = subst (λ (ps : List Pair). HasValueAt (map (entries ps)) k v) (drop_more ps i d l) (inv v h) in
     elim at.1 [ inl s ↦ absurd (miss (subst (λ (l : Value). Same l k) s.0 at.2)) | inr m ↦ (at.0, m, at.2) ]
 
-pub looked_on : (k : Value) (ps : List Pair) (i : ℕ) (p : Pair) → slice_get ps i ≡ Some p → LeadsBehind k ps (drop i ps) → (Same (seen p.0) k → ⊥) → LeadsBehind k ps (drop (i + 1) ps)
-looked_on k ps i p e inv miss = λ v h. has_behind k (drop i ps) p (drop (i + 1) ps) (at_read ps i p e) miss v (inv v h)
+has_pair : (ps : List Pair) (i : ℕ) (d : Pair) → i < length ps → HasEntry (entries ps) (seen (get_or ps i d).0) (seen (get_or ps i d).1)
+has_pair [] i d l = absurd (omega (arith, l))
+has_pair (q ∷ ps) zero d l = inl (refl, refl)
+has_pair (q ∷ ps) (suc i) d l = inr (has_pair ps i d (omega (arith, l)))
 
-has_pair : (ps : List Pair) (i : ℕ) (p : Pair) → slice_get ps i ≡ Some p → HasEntry (entries ps) (seen p.0) (seen p.1)
-has_pair [] i p e = absurd (cc e)
-has_pair (q ∷ ps) zero p e = let is : p ≡ q = cc e in inl (ap (λ (p : Pair). seen p.0) is, ap (λ (p : Pair). seen p.1) is)
-has_pair (q ∷ ps) (suc i) p e = inr (has_pair ps i p e)
-
-pub found_at : (k : Value) (ps : List Pair) (i : ℕ) (p : Pair) → slice_get ps i ≡ Some p → Same (seen p.0) k → HasValueAt (map (entries ps)) k (seen p.1)
-found_at k ps i p e s = (seen p.0, has_pair ps i p e, s)
+pub found_by : (k : Value) (ps : List Pair) (i : ℕ) (d : Pair) → i < length ps → Same (seen (get_or ps i d).0) k → HasValueAt (map (entries ps)) k (seen (get_or ps i d).1)
+found_by k ps i d l s = (seen (get_or ps i d).0, has_pair ps i d l, s)
 
 pub none_behind : (k : Value) (ps : List Pair) (i : ℕ) → length ps ≤ i → LeadsBehind k ps (drop i ps) → (v : Value) → HasValueAt (map (entries ps)) k v → ⊥
 none_behind k ps i l inv v h = (subst (λ (ps : List Pair). HasValueAt (map (entries ps)) k v) (drop_all i ps l) (inv v h)).1
-
--- ---- the same of a pair that was read by its index
-
-pub looked_by : (k : Value) (ps : List Pair) (i : ℕ) (d : Pair) → i < length ps → LeadsBehind k ps (drop i ps) → (Same (seen (get_or ps i d).0) k → ⊥) → LeadsBehind k ps (drop (i + 1) ps)
-looked_by k ps i d l inv miss = looked_on k ps i (get_or ps i d) (slice_get-get_or ps i d l) inv miss
-
-pub found_by : (k : Value) (ps : List Pair) (i : ℕ) (d : Pair) → i < length ps → Same (seen (get_or ps i d).0) k → HasValueAt (map (entries ps)) k (seen (get_or ps i d).1)
-found_by k ps i d l s = found_at k ps i (get_or ps i d) (slice_get-get_or ps i d l) s
-
-pub valid_by : (ps : List Pair) (i : ℕ) (d : Pair) → AreEntriesValid (entries ps) → i < length ps → IsValid (seen (get_or ps i d).0)
-valid_by ps i d h l = (valid_pair ps i (get_or ps i d) h (slice_get-get_or ps i d l)).0
 
 -- ---- members
 

@@ -1,5 +1,5 @@
 -- Which pairs of a map have equal keys, and which one is told.
-use Rattle.std.specs.Prelude.{ℕ, suc, Bool, nat_lt, ◌+◌, ◌-◌, ◌^◌, ◌≡◌, ◌≢◌, ◌<◌, ◌≤◌, ◌⊎◌, List, length, Option, Some, None, IfSome, slice_index_or, MatchOption, IsPermutation}
+use Rattle.std.specs.Prelude.{ℕ, suc, Bool, nat_lt, ◌+◌, ◌^◌, ◌≡◌, ◌≢◌, ◌<◌, ◌≤◌, ◌⊎◌, List, length, Option, Some, None, IfSome, slice_index_or, MatchOption, IsPermutation, min, max}
 use Rattle.std.specs.List.{AllByRecursion}
 use Rattle.cbor_builder.specs.Built.{keys_so_far, open_maps, IsFirstRepeat, AreAllDifferent, AreOpenKeysDifferent, IsRepeatTold}
 use Rattle.cbor_canonical.specs.Parts.{Open}
@@ -43,11 +43,11 @@ DoNeighboursDiffer out ss = (i : ℕ) → suc i < length ss → key_of out (nth 
 
 -- two with equal keys, by their places
 abbrev pub IsTie : List ℕ → ℕ → ℕ → Span → Span → Type 0
-IsTie out earlier later x y = (key_of out x ≡ key_of out y) × (place x ≡ earlier) × (place y ≡ later) × (earlier ≤ later)
+IsTie out earlier later x y = (key_of out x ≡ key_of out y) × (min (place x) (place y) ≡ earlier) × (max (place x) (place y) ≡ later)
 
 -- two of the first n are such
 abbrev pub HasTie : List ℕ → List Span → ℕ → ℕ → ℕ → Type 0
-HasTie out ss n earlier later = (i : ℕ) × (j : ℕ) × (i < n) × (j < n) × (i ≢ j) × IsTie out earlier later (nth ss i) (nth ss j)
+HasTie out ss n earlier later = (i : ℕ) × (j : ℕ) × (i < j) × (j < n) × IsTie out earlier later (nth ss i) (nth ss j)
 
 -- it comes no later than another: by the later pair, and where that is the same by the earlier one
 abbrev pub IsUpTo : Tie → ℕ → ℕ → Type 0
@@ -64,11 +64,10 @@ abbrev pub IsFirstOf : Option Tie → Tie → Tie → Type 0
 IsFirstOf found tie t =
     ((found ≡ Some t) ⊎ (t ≡ tie)) × IsUpTo t tie.earlier tie.later × IfSome found (λ (f : Tie). IsUpTo t f.earlier f.later)
 
--- of those of the first n that have the key of the last of these, the least place
-abbrev pub IsLeastOfKey : List ℕ → List Span → ℕ → ℕ → Type 0
-IsLeastOfKey out ss n least =
-    ((i : ℕ) × (i < n) × (key_of out (nth ss i) ≡ key_of out (nth ss (n - 1))) × (place (nth ss i) ≡ least))
-    × ((i : ℕ) → i < n → key_of out (nth ss i) ≡ key_of out (nth ss (n - 1)) → least ≤ place (nth ss i))
+-- of those of the first n that have this key, the least place
+abbrev pub IsLeastOfKey : List ℕ → List Span → ℕ → List ℕ → ℕ → Type 0
+IsLeastOfKey out ss n key least =
+    ((i : ℕ) × (i < n) × (key_of out (nth ss i) ≡ key) × (place (nth ss i) ≡ least)) × ((i : ℕ) → i < n → key_of out (nth ss i) ≡ key → least ≤ place (nth ss i))
 
 -- the index from which on the spans are those of the pairs of what is open
 abbrev pub first_of : List Span → Shape → ℕ

@@ -24,8 +24,7 @@ loop-cut-preserved c =
 pub extend_within-requires : goal.extend_within-requires
 extend_within-requires c =
     let w = all_index _ c.args.cuts.now c.loop-cut.cut-index _ c.requires c.loop-cut-test.true in
-    let l = length-take (length c.args.out.now) c.loop-cut.out in
-    record { begins = w.0; ends = omega (arith, w.1, l, ap length c.loop-cut.invariant.1) }
+    record { begins = w.0; ends = omega (arith, w.1, length-take (length c.args.out.now) c.loop-cut.out, ap length c.loop-cut.invariant.1) }
 
 pub returns : goal.returns
 returns c = emitted_all c.args.out.now c.args.cuts.now c.loop-cut.cut-index _ c.loop-cut.out c.loop-cut-test.false c.loop-cut.invariant.0

@@ -20,8 +20,7 @@ loop-span-preserved c =
 pub extend_within-requires : goal.extend_within-requires
 extend_within-requires c =
     let w = all_index _ c.args.spans.now c.loop-span.span-index no_span c.requires c.loop-span-test.true in
-    let l = length-take (length c.args.out.now) c.loop-span.out in
-    record { begins = omega (arith, w.0, w.1); ends = omega (arith, w.2, l, ap length c.loop-span.invariant.1) }
+    record { begins = omega (arith, w.0, w.1); ends = omega (arith, w.2, length-take (length c.args.out.now) c.loop-span.out, ap length c.loop-span.invariant.1) }
 
 pub returns : goal.returns
 returns c = gathered_all c.args.out.now c.args.spans.now c.loop-span.span-index _ c.loop-span.out c.loop-span-test.false c.loop-span.invariant.0

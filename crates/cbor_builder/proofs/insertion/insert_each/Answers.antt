@@ -29,9 +29,7 @@ insert-requires-clause-next c =
 
 -- the first ones are put in order among themselves, and the others stay
 whole : (n : ℕ) (given us ys : List Span) → IsPermutation (take n given) ys → drop n us ≡ drop n given → IsPermutation given (ys ++ drop n us)
-whole n given us ys m e =
-    subst (λ (zs : List Span). IsPermutation given (ys ++ zs)) (sym e)
-    (subst (λ (zs : List Span). IsPermutation zs (ys ++ drop n given)) (take-append-drop n given) (IsPermutation-append_left (drop n given) (take n given) ys m))
+whole n given us ys m e = coe 1 0 (i. IsPermutation (sym (take-append-drop n given) i) (ys ++ e i)) (IsPermutation-append_left (drop n given) (take n given) ys m)
 
 pub returns-then-not-insert : goal.returns-then-not-insert
 returns-then-not-insert c =
@@ -60,8 +58,7 @@ loop-i-preserved c =
     let same = same_at i c.loop-i.spans c.args.spans.now no_span c.loop-i.invariant.2 ∙ get_or_default c.args.spans.now i no_span next (omega arith) in
     let ys = c.insert.new.places in
     let rest = drop (i + 1) c.loop-i.spans in
-    let long = length-take (i + 1) c.loop-i.spans in
-    let size : length ys ≡ i + 1 = omega (arith, long, c.insert.auto.places) in
+    let size : length ys ≡ i + 1 = omega (arith, length-take (i + 1) c.loop-i.spans, c.insert.auto.places) in
     let all : take (i + 1) (ys ++ rest) ≡ ys = taken_front (i + 1) ys rest size in
     let moved : IsPermutation (next ∷ take i c.loop-i.spans) ys = subst (λ (us : List Span). IsPermutation (next ∷ us) ys) (in_front_taken i c.loop-i.spans (omega arith)) c.if-not-insert.ensures.permuted in (
       subst (IsPermutation (take (i + 1) c.args.spans.now)) (sym all) (more_permuted c.args.spans.now (take i c.loop-i.spans) ys i next (omega arith) same c.loop-i.invariant.0 moved),
@@ -75,9 +72,8 @@ returns c =
     let was = c.args.spans.now in
     let ys = c.loop-i.spans in
     let f = span_pair c.args.bytes.now in
-    let given : take i was ≡ was = take_all i was (omega arith) in
     let all : take i ys ≡ ys = take_all i ys (omega arith) in
-    let permuted = subst (IsPermutation was) all (subst (λ (us : List Span). IsPermutation us (take i ys)) given c.loop-i.invariant.0) in
+    let permuted = coe 0 1 (k. IsPermutation (take_all i was (omega arith) k) (all k)) c.loop-i.invariant.0 in
     let rising = subst (λ (us : List Span). IsRising c.args.order (map f us)) all c.loop-i.invariant.1 in
     record {
       distinct = holds (distinct_permuted c.args.order (map f ys) (map f was) (IsPermutation-map f ys was (IsPermutation-sym was ys permuted)) (rising_distinct c.args.order (map f ys) rising));

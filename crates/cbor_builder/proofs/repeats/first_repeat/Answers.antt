@@ -32,9 +32,7 @@ count_before-requires c = placed c.args.bytes.now c.requires.0 c.args.spans.now 
 
 pub overflow_add-result : goal.overflow_add-result
 overflow_add-result c =
-    let most = count_by-le-length (lies_before c.in_ok-tie.tie.later) c.sort_by_keys.new.spans in
-    let one = bit_most (c.in_ok-tie.tie.earlier == c.in_ok-tie.tie.later) in
-    omega (arith, most, one, c.count_before.ensures, c.from.ensures)
+    omega (arith, count_by-le-length (lies_before c.in_ok-tie.tie.later) c.sort_by_keys.new.spans, bit_most (c.in_ok-tie.tie.earlier == c.in_ok-tie.tie.later), c.count_before.ensures, c.from.ensures)
 
 pub returns : goal.returns
 returns c xs of =

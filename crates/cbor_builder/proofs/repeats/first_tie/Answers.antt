@@ -10,9 +10,8 @@ use Rattle.cbor_builder.proofs.repeats.first_tie.Goals.{then-is_eq, else-is_eq}
 
 pub loop-i-init : goal.loop-i-init
 loop-i-init c =
-    let some = eqb-false (length c.args.spans.now) 0 (sym c.if-is_empty.ensures) in
     let alone = tie_alone c.args.bytes.now c.args.spans.now c.place-least.result c.place-least.ensures in
-    (grind (arith, some), alone.0, alone.1)
+    (grind (arith, eqb-false (length c.args.spans.now) 0 (sym c.if-is_empty.ensures)), alone.0, alone.1)
 
 pub loop-i-preserved : goal.loop-i-preserved
 loop-i-preserved c =
@@ -25,11 +24,11 @@ loop-i-preserved c =
       | then-is_eq w ↦
           let first : IsFirstOf c.loop-i.first (record { earlier = min c.loop-i.least c.place-here.result; later = max c.loop-i.least c.place-here.result }) w.first_of.result =
           subst (λ (t : Tie). IsFirstOf c.loop-i.first t w.first_of.result) (λ t. record { earlier = w.min-earlier.ensures t; later = w.max-later.ensures t }) w.first_of.ensures in
-          let met = tie_met out ss i c.place-here.result c.loop-i.least c.loop-i.first w.first_of.result (omega arith) (keys.0 (sym c.is_eq.ensures ∙ w.if-is_eq.true)) c.place-here.ensures c.loop-i.invariant.2 c.loop-i.invariant.1 first in
-          (within, subst (IsFirstTie out ss (i + 1)) (sym w.first-is) met.0, subst (IsLeastOfKey out ss (i + 1)) (sym (w.least-is ∙ w.min-earlier.ensures)) met.1)
+          let met = tie_met out ss i c.place-here.result c.loop-i.least c.loop-i.first w.first_of.result (keys.0 (sym c.is_eq.ensures ∙ w.if-is_eq.true)) c.place-here.ensures c.loop-i.invariant.2 c.loop-i.invariant.1 first in
+          (within, subst (IsFirstTie out ss (i + 1)) (sym w.first-is) met.0, subst (IsLeastOfKey out ss (i + 1) _) (sym (w.least-is ∙ w.min-earlier.ensures)) met.1)
       | else-is_eq w ↦
           let passed = tie_passed out ss i c.place-here.result c.loop-i.first c.requires.grouped (omega arith) c.loop-i-test.true (keys.1 (sym c.is_eq.ensures ∙ w.if-is_eq.false)) c.place-here.ensures c.loop-i.invariant.1 in
-          (within, subst (IsFirstTie out ss (i + 1)) (sym w.first-is) passed.0, subst (IsLeastOfKey out ss (i + 1)) (sym w.least-is) passed.1)
+          (within, subst (IsFirstTie out ss (i + 1)) (sym w.first-is) passed.0, subst (IsLeastOfKey out ss (i + 1) _) (sym w.least-is) passed.1)
     ]
 
 pub returns : goal.returns

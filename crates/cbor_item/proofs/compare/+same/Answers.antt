@@ -1,18 +1,18 @@
-use Rattle.std.proofs.Common.{◌≡◌, ◌↔◌, IsTrue, slice_range, refl, sym, ap, ◌∙◌, subst, rules, arith}
+use Rattle.std.proofs.Common.{◌≡◌, ◌↔◌, ◌-◌, IsTrue, slice_range, take, drop, inl, refl, sym, ap, ◌∙◌, subst, rules, arith}
 use Rattle.std.proofs.lemmas.Option.{get_or_from_slice_get}
 use Rattle.cbor_head.specs.Value as value
 use Rattle.cbor_head.specs.Prelude.{Same, SameValues, IsValid}
 use Rattle.cbor_head.specs.Value.{entries_count}
 use Rattle.cbor_item.specs.declared.item.Item.TheViews.{the_lemmas}
 use Rattle.cbor_item.specs.View.{view}
+use Rattle.cbor_item.specs.declared.item.Item.{Item}
 use Rattle.cbor_item.specs.inner.Members.{entries_view, values_view}
 use Rattle.cbor_buffer.proofs.ByIndex.{at_index}
-use Rattle.cbor_item.proofs.ByIndex.{valid_read}
 use Rattle.cbor_item.proofs.Counting.{same_by_count}
 use Rattle.cbor_canonical.proofs.Decided.{was_true, was_false, fails, unequal}
-use Rattle.cbor_item.proofs.Steps.{Pair, IsMet, covered_on, covered_fail, met_on, met_here, met_nowhere, met_behind, met_before}
+use Rattle.cbor_item.proofs.Steps.{IsMet, range_step, values_counted, entries_counted, valid_read, covered_on, covered_fail, met_on, met_behind, met_before}
 use Rattle.cbor_canonical.proofs.Sameness.{SameValues-count}
-use Rattle.cbor_item.proofs.Views.{view-Map, values_count-view, entries_count-view}
+use Rattle.cbor_item.proofs.Views.{view-Map}
 use Rattle.cbor_item.proofs.compare.+same.Goals as goal
 use Rattle.cbor_item.proofs.compare.+same.Goals.{find_between-else-is_same-via-then-is_same+else-is_same-2, find_between-else-is_same-via-else-is_same}
 
@@ -21,7 +21,7 @@ are_same-returns-then-len t c =
     let xs = c.args.xs.now in
     let ys = c.args.ys.now in
     fails (λ (h : SameValues (values_view xs.items) (values_view ys.items)).
-    omega (arith, SameValues-count _ _ h, values_count-view xs.items, values_count-view ys.items, xs.ok.0, ys.ok.0, c.if-len.true))
+    omega (arith, SameValues-count _ _ h, values_counted view xs.items, values_counted view ys.items, xs.ok.0, ys.ok.0, c.if-len.true))
 
 pub is_same-returns-then-len : goal.is_same-returns-then-len
 is_same-returns-then-len t c =
@@ -32,7 +32,7 @@ is_same-returns-then-len t c =
     let d = subst IsValid a c.requires.left in
     let e = subst IsValid b c.requires.right in
     let counts : entries_count (entries_view xs.items) ≡ entries_count (entries_view ys.items) =
-    omega (arith, entries_count-view xs.items, entries_count-view ys.items, xs.ok.0, ys.ok.0, c.if-len.true) in
+    omega (arith, entries_counted view xs.items, entries_counted view ys.items, xs.ok.0, ys.ok.0, c.if-len.true) in
     let same = same_by_count (entries_view xs.items) (entries_view ys.items) d.1 e.1 in
     subst (λ v. IsTrue c.is_covered.result ↔ Same v (view c.args.b.now)) (sym a) (subst (λ w. IsTrue c.is_covered.result ↔ Same (value.map (entries_view xs.items)) w) (sym b)
     (λ t. same.1 (counts, c.is_covered.ensures.0 t), λ s. c.is_covered.ensures.1 (same.0 s).1))
@@ -48,7 +48,7 @@ is_same-returns-else-len t c =
     let same = same_by_count (entries_view xs.items) (entries_view ys.items) d.1 e.1 in
     let differ : Same (value.map (entries_view xs.items)) (value.map (entries_view ys.items)) → ⊥ = λ s.
     let counts = (same.0 s).0 in
-    absurd (omega (arith, counts, entries_count-view xs.items, entries_count-view ys.items, xs.ok.0, ys.ok.0, c.if-len.false)) in
+    absurd (omega (arith, counts, entries_counted view xs.items, entries_counted view ys.items, xs.ok.0, ys.ok.0, c.if-len.false)) in
     let tested = unequal c.len.result c.len-in-Map-Map.result c.if-len.false in
     (λ t. absurd (tested t), λ s. absurd (differ (subst (Same (value.map (entries_view xs.items))) b (subst (λ v. Same v (view c.args.b.now)) a s))))
 
@@ -56,36 +56,36 @@ pub is_covered-returns-in-None : goal.is_covered-returns-in-None
 is_covered-returns-in-None t c =
     let l = c.loop-i in
     let p = at_index c.args.xs.now.items l.i (omega arith) in
-    fails (covered_fail _ _ _ p.0 _ p.2 l.invariant.0 (λ m. absurd (cc ((c.in-None.ensures.found p.0 p.1).1 m))))
+    fails (covered_fail view _ _ _ p.0 _ p.2 l.invariant.0 (λ m. absurd (cc ((c.in-None.ensures.found p.0 p.1).1 m))))
 
 pub is_covered-loop-i-preserved : goal.is_covered-loop-i-preserved
 is_covered-loop-i-preserved t c =
     let l = c.loop-i in
     let p = at_index c.args.xs.now.items l.i (omega arith) in
-    (covered_on _ _ _ p.0 _ p.2 l.invariant.0 ((c.in-Some.ensures.found p.0 p.1).0 refl), omega (arith, c.in-Some.ensures.place))
+    (covered_on view _ _ _ p.0 _ p.2 l.invariant.0 ((c.in-Some.ensures.found p.0 p.1).0 refl), omega (arith, c.in-Some.ensures.place))
 
 pub find-returns-in-Some-clause-found : goal.find-returns-in-Some-clause-found
 find-returns-in-Some-clause-found t c p is =
     let ys = c.args.ys.now in
-    ((λ e. met_behind p ys.items c.args.start c.len.result (c.len.ensures ∙ ys.ok.0) ((c.in-Some.ensures.found p is).0 refl)), (λ m. refl))
+    ((λ e. met_behind view p ys.items c.args.start c.len.result (c.len.ensures ∙ ys.ok.0) ((c.in-Some.ensures.found p is).0 refl)), (λ m. refl))
 
 pub find-returns-in-None-clause-found : goal.find-returns-in-None-clause-found
 find-returns-in-None-clause-found t c p is =
     let ys = c.args.ys.now in
-    let whole = met_before p ys.items c.args.start c.len.result (c.len.ensures ∙ ys.ok.0) (λ m. absurd (cc ((c.in-None.ensures.found p is).1 m))) in
+    let whole = met_before view p ys.items c.args.start c.len.result (c.len.ensures ∙ ys.ok.0) (λ m. absurd (cc ((c.in-None.ensures.found p is).1 m))) in
     let before = c.find_between-in-None.ensures.found p is in
     ((λ e. whole.0 (before.0 e)), (λ m. before.1 (whole.1 m)))
 
 pub find_between-is_same-requires : goal.find_between-is_same-requires
 find_between-is_same-requires t c =
-    let p = valid_read c.args.xs.now.items c.args.i c.index-pair.result.now c.requires.left (omega arith) c.index-pair.ensures in
-    let q = valid_read c.args.ys.now.items c.loop-place.place c.index-other.result.now c.requires.right (omega arith) c.index-other.ensures in
+    let p = valid_read view c.args.xs.now.items c.args.i c.index-pair.result.now c.requires.left (omega arith) c.index-pair.ensures in
+    let q = valid_read view c.args.ys.now.items c.loop-place.place c.index-other.result.now c.requires.right (omega arith) c.index-other.ensures in
     (search (rules, the_lemmas), (p.0, q.0))
 
 pub find_between-is_same-requires-then-is_same : goal.find_between-is_same-requires-then-is_same
 find_between-is_same-requires-then-is_same t c =
-    let p = valid_read c.args.xs.now.items c.args.i c.index-pair.result.now c.requires.left (omega arith) c.index-pair.ensures in
-    let q = valid_read c.args.ys.now.items c.loop-place.place c.index-other.result.now c.requires.right (omega arith) c.index-other.ensures in
+    let p = valid_read view c.args.xs.now.items c.args.i c.index-pair.result.now c.requires.left (omega arith) c.index-pair.ensures in
+    let q = valid_read view c.args.ys.now.items c.loop-place.place c.index-other.result.now c.requires.right (omega arith) c.index-other.ensures in
     (search (rules, the_lemmas), (p.1, q.1))
 
 pub find_between-returns-then-is_same-2-clause-found : goal.find_between-returns-then-is_same-2-clause-found
@@ -93,15 +93,14 @@ find_between-returns-then-is_same-2-clause-found t c p is =
     let q = c.index-pair.result.now in
     let ys = c.args.ys.now.items in
     let e : q ≡ p = c.index-pair.ensures ∙ get_or_from_slice_get c.args.xs.now.items c.args.i p q is in
-    let met = met_here (IsMet q (slice_range ys c.args.from c.args.to)) q ys c.loop-place.place c.args.to c.index-other.result.now (omega arith) c.requires.to c.index-other.ensures c.loop-place.invariant
-    (was_true c.is_same.result c.if-is_same.true c.is_same.ensures) (was_true c.is_same-then-is_same.result c.if-is_same-2.true c.is_same-then-is_same.ensures) in
-    ((λ s. subst (λ (r : Pair). IsMet r (slice_range ys c.args.from c.args.to)) e met), (λ m. refl))
+    let met = c.loop-place.invariant.1 (coe 1 0 (i. IsMet view q (range_step ys c.loop-place.place c.args.to c.index-other.result.now (omega arith) c.requires.to c.index-other.ensures i)) (inl (was_true c.is_same.result c.if-is_same.true c.is_same.ensures, was_true c.is_same-then-is_same.result c.if-is_same-2.true c.is_same-then-is_same.ensures))) in
+    ((λ s. subst (λ (r : Item × Item). IsMet view r (slice_range ys c.args.from c.args.to)) e met), (λ m. refl))
 
 pub find_between-loop-place-preserved : goal.find_between-loop-place-preserved
 find_between-loop-place-preserved t c =
     let q = c.index-pair.result.now in
     let ys = c.args.ys.now.items in
-    met_on (IsMet q (slice_range ys c.args.from c.args.to)) q ys c.loop-place.place c.args.to c.index-other.result.now (omega arith) c.requires.to c.index-other.ensures c.loop-place.invariant
+    met_on view (IsMet view q (slice_range ys c.args.from c.args.to)) q _ c.index-other.result.now _ (range_step ys c.loop-place.place c.args.to c.index-other.result.now (omega arith) c.requires.to c.index-other.ensures) c.loop-place.invariant
     (λ s. elim c.else-is_same.branch [
       | find_between-else-is_same-via-then-is_same+else-is_same-2 w ↦ was_false w.is_same-then-is_same.result w.if-is_same-2.false w.is_same-then-is_same.ensures s.1
       | find_between-else-is_same-via-else-is_same w ↦ was_false c.is_same.result w.if-is_same.false c.is_same.ensures s.0
@@ -112,5 +111,5 @@ find_between-returns-clause-found t c p is =
     let q = c.index-pair.result.now in
     let ys = c.args.ys.now.items in
     let e : q ≡ p = c.index-pair.ensures ∙ get_or_from_slice_get c.args.xs.now.items c.args.i p q is in
-    let nowhere = met_nowhere (IsMet q (slice_range ys c.args.from c.args.to)) q ys c.loop-place.place c.args.to (omega arith) c.loop-place.invariant in
-    fails (subst (λ (r : Pair). IsMet r (slice_range ys c.args.from c.args.to) → ⊥) e nowhere)
+    let none : c.args.to - c.loop-place.place ≡ 0 = omega arith in
+    fails (subst (λ (r : Item × Item). IsMet view r (slice_range ys c.args.from c.args.to) → ⊥) e (λ m. coe 0 1 (i. IsMet view q (take (none i) (drop c.loop-place.place ys))) (c.loop-place.invariant.0 m)))

@@ -1,6 +1,7 @@
 use Rattle.std.proofs.Common.{◌↔◌, ◌≤◌, drop, length, slice_range}
 use Rattle.cbor_head.specs.Prelude.{SameValues, Covered, AreValid}
 use Rattle.cbor_item.specs.inner.Members.{entries_view, values_view}
+use Rattle.cbor_item.specs.View.{view}
 use Rattle.cbor_item.proofs.Steps.{IsMet}
 use Rattle.cbor_item.proofs.compare.+same.Given as goal
 
@@ -17,4 +18,4 @@ invariant-is_covered-loop-i l =
     × (l.start ≤ length l.ys.items)
 
 abbrev pub invariant-find_between-loop-place : goal.invariant-find_between-loop-place
-invariant-find_between-loop-place l = IsMet l.pair (slice_range l.ys.items l.from l.to) ↔ IsMet l.pair (slice_range l.ys.items l.place l.to)
+invariant-find_between-loop-place l = IsMet view l.pair (slice_range l.ys.items l.from l.to) ↔ IsMet view l.pair (slice_range l.ys.items l.place l.to)

@@ -3,12 +3,13 @@ use Rattle.std.proofs.lemmas.Option.{slice_get-get_or}
 use Rattle.cbor_head.specs.Prelude.{SameValues, Covered}
 use Rattle.cbor_item.specs.View.{values_of}
 use Rattle.cbor_canonical.proofs.Decided.{was_true, was_false, holds, fails}
-use Rattle.cbor_view.specs.Seen.{seen_all}
+use Rattle.cbor_view.specs.Seen.{seen, seen_all}
 use Rattle.cbor_view.specs.inner.Pairs.{IsSamePair, IsMet, entries}
 use Rattle.cbor_view.specs.declared.view.View.TheVariants.{Unsigned}
 use Rattle.cbor_view.specs.declared.view.View.{the_lemmas}
 use Rattle.cbor_canonical.proofs.Sameness.{SameValues-count}
-use Rattle.cbor_view.proofs.Pairs.{values_counted, valid_pair, covered_on, met_on, met_at, counts_differ, pair_misses, all_met, values_decide, keys_differ}
+use Rattle.cbor_item.proofs.Steps.{values_counted, valid_at, covered_on, met_on}
+use Rattle.cbor_view.proofs.Pairs.{at_read, met_at, counts_differ, pair_misses, all_met, values_decide, keys_differ}
 use Rattle.cbor_view.proofs.same.+same.Goals as goal
 use Rattle.cbor_view.proofs.same.+same.Goals.{are_same_maps-else-not-is_pair-via-then-not-is_pair+else-not-is_among, are_same_maps-else-not-is_pair-via-else-not-is_pair}
 
@@ -17,7 +18,7 @@ are_same-returns-then-xs-ys t c =
     let xs = c.args.xs.now in
     let ys = c.args.ys.now in
     fails (λ (h : SameValues (values_of (seen_all xs)) (values_of (seen_all ys))).
-    c.if-xs-ys.true (sym (values_counted xs) ∙ SameValues-count (values_of (seen_all xs)) (values_of (seen_all ys)) h ∙ values_counted ys))
+    c.if-xs-ys.true (sym (values_counted seen xs) ∙ SameValues-count (values_of (seen_all xs)) (values_of (seen_all ys)) h ∙ values_counted seen ys))
 
 pub are_same_maps-returns-then-xs-ys : goal.are_same_maps-returns-then-xs-ys
 are_same_maps-returns-then-xs-ys t c = fails (counts_differ c.args.xs.now c.args.ys.now c.requires.left c.requires.right c.if-xs-ys.true)
@@ -39,7 +40,7 @@ are_same_maps-loop-i-preserved t c =
     let q = get_or ys i (Unsigned 0, Unsigned 0) in
     let at : slice_get xs i ≡ Some p = slice_get-get_or xs i (Unsigned 0, Unsigned 0) (omega arith) in
     let other : slice_get ys i ≡ Some q = slice_get-get_or ys i (Unsigned 0, Unsigned 0) (omega arith) in
-    covered_on (Covered (entries xs) (entries ys)) (entries ys) xs i p at c.loop-i.invariant
+    covered_on seen (Covered (entries xs) (entries ys)) (entries ys) _ p _ (at_read xs i p at) c.loop-i.invariant
     (elim c.else-not-is_pair.branch [
       | are_same_maps-else-not-is_pair-via-then-not-is_pair+else-not-is_among w ↦ was_true w.is_among.result w.if-not-is_among.false (w.is_among.ensures p at)
       | are_same_maps-else-not-is_pair-via-else-not-is_pair w ↦ met_at p ys i q other (was_true c.is_pair.result w.if-not-is_pair.false (c.is_pair.ensures p q at other))
@@ -62,18 +63,18 @@ is_among-loop-j-preserved t c = λ p at.
     let j = c.loop-j.j in
     let q = get_or ys j (Unsigned 0, Unsigned 0) in
     let other : slice_get ys j ≡ Some q = slice_get-get_or ys j (Unsigned 0, Unsigned 0) (omega arith) in
-    met_on (IsMet p ys) p ys j q other (c.loop-j.invariant p at) (was_false c.is_pair.result c.if-is_pair.false (c.is_pair.ensures p q at other))
+    met_on seen (IsMet p ys) p _ q _ (at_read ys j q other) (c.loop-j.invariant p at) (was_false c.is_pair.result c.if-is_pair.false (c.is_pair.ensures p q at other))
 
 pub is_pair-is_same-requires : goal.is_pair-is_same-requires
 is_pair-is_same-requires t c =
-    let p = valid_pair c.args.xs.now c.args.i _ c.requires.left (slice_get-get_or c.args.xs.now c.args.i (Unsigned 0, Unsigned 0) c.requires.within) in
-    let q = valid_pair c.args.ys.now c.args.j _ c.requires.right (slice_get-get_or c.args.ys.now c.args.j (Unsigned 0, Unsigned 0) c.requires.other) in
+    let p = valid_at seen c.args.xs.now c.args.i (Unsigned 0, Unsigned 0) c.requires.left c.requires.within in
+    let q = valid_at seen c.args.ys.now c.args.j (Unsigned 0, Unsigned 0) c.requires.right c.requires.other in
     (search (rules, the_lemmas), (p.0, q.0))
 
 pub is_pair-is_same-requires-then-is_same : goal.is_pair-is_same-requires-then-is_same
 is_pair-is_same-requires-then-is_same t c =
-    let p = valid_pair c.args.xs.now c.args.i _ c.requires.left (slice_get-get_or c.args.xs.now c.args.i (Unsigned 0, Unsigned 0) c.requires.within) in
-    let q = valid_pair c.args.ys.now c.args.j _ c.requires.right (slice_get-get_or c.args.ys.now c.args.j (Unsigned 0, Unsigned 0) c.requires.other) in
+    let p = valid_at seen c.args.xs.now c.args.i (Unsigned 0, Unsigned 0) c.requires.left c.requires.within in
+    let q = valid_at seen c.args.ys.now c.args.j (Unsigned 0, Unsigned 0) c.requires.right c.requires.other in
     (search (rules, the_lemmas), (p.1, q.1))
 
 pub is_pair-returns-then-is_same : goal.is_pair-returns-then-is_same
@@ -91,4 +92,4 @@ is_among-loop-j-preserved-then-j-i t c = λ p at.
     let j = c.loop-j.j in
     let q = get_or ys j (Unsigned 0, Unsigned 0) in
     let other : slice_get ys j ≡ Some q = slice_get-get_or ys j (Unsigned 0, Unsigned 0) (omega arith) in
-    met_on (IsMet p ys) p ys j q other (c.loop-j.invariant p at) (c.requires.there p q at (subst (λ (k : ℕ). slice_get ys k ≡ Some q) c.if-j-i.true other))
+    met_on seen (IsMet p ys) p _ q _ (at_read ys j q other) (c.loop-j.invariant p at) (c.requires.there p q at (subst (λ (k : ℕ). slice_get ys k ≡ Some q) c.if-j-i.true other))

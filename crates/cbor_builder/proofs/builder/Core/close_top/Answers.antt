@@ -23,10 +23,8 @@ fill_head-requires-in-Map-clause-ends c =
     let s = c.args.self.now in
     let k = c.in_ok-order_pairs-in-Map.ensures in
     let pairs = flat_map pair_bytes (in_order s.order (pairs_from (meant s.out) s.spans.items c.in-Map.first)) in
-    let a = whole_length c.order_pairs.new.self.out k.whole in
-    let b = length-append (take s.top.start (meant s.out)) pairs in
     let n = length-take-le s.top.start (meant s.out) c.requires.laid.0.0.1 in
-    omega (arith, a, b, n, ap length (k.meant c.if-not-branch.false))
+    omega (arith, whole_length c.order_pairs.new.self.out k.whole, length-append (take s.top.start (meant s.out)) pairs, n, ap length (k.meant c.if-not-branch.false))
 
 pub returns-in_ok-fill_head-in-Map-clause-distinct : goal.returns-in_ok-fill_head-in-Map-clause-distinct
 returns-in_ok-fill_head-in-Map-clause-distinct c =

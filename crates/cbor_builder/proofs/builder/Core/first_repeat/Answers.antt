@@ -1,4 +1,4 @@
-use Rattle.std.proofs.Common.{◌≡◌, ◌+◌, ◌-◌, ◌^◌, ◌<◌, ◌≤◌, ℕ, suc, List, ◌∷◌, length, take, take_all, sym, ap, ◌∙◌, subst, arith, Option, None, IfSome}
+use Rattle.std.proofs.Common.{◌≡◌, ◌+◌, ◌-◌, ◌^◌, ◌<◌, ◌≤◌, ℕ, suc, List, ◌∷◌, length, take, take_all, sym, ap, ◌∙◌, subst, arith, Option, IfSome}
 use Rattle.cbor_builder.specs.inner.BuilderState.{frames, outers, Stand, came_standing}
 use Rattle.cbor_builder.specs.inner.Laid.{opens, outer_spans, shape_open, Laid}
 use Rattle.cbor_buffer.specs.Moved.{meant, IsWhole}
@@ -11,7 +11,7 @@ use Rattle.cbor_builder.proofs.InPlace.{agrees_refl, laid_raw, within_raw}
 use Rattle.cbor_builder.proofs.Reordered.{reordered_refl, reordered_outer}
 use Rattle.cbor_builder.proofs.Standing.{stand_cut}
 use Rattle.cbor_builder.proofs.Nesting.{outers_fit}
-use Rattle.cbor_builder.proofs.OpenRepeats.{tells_first, tells_outward, tells_all, maps_more, below_fits, below_outward, below_first, moved}
+use Rattle.cbor_builder.proofs.OpenRepeats.{tells_first, tells_outward, tells_all, maps_more, below_fits, below_outward, below_first}
 use Rattle.cbor_builder.proofs.builder.Core.first_repeat.Goals as goal
 
 pub take_repeat-own-requires-clause-laid : goal.take_repeat-own-requires-clause-laid
@@ -35,15 +35,14 @@ loop-self-init c =
     let out = e.meant ∙ ap (take s.top.from) lies in
     let first = c.requires.laid.0 in
     let laid = c.requires.laid.1 in (
-      moved Laid s.order n.order (take s.top.from raw) (meant n.out) (outer_spans first s.top.shape) n.spans.items (outers s) (outers n) e.order out (e.spans ∙ reordered_outer first s.spans.items s.top.shape laid.1) e.around
+      coe 1 0 (i. Laid (e.order i) (out i) ((e.spans ∙ reordered_outer first s.spans.items s.top.shape laid.1) i) (e.around i))
           (laid_raw s.order raw (meant s.out) first fs (whole_length s.out laid.0.1) laid.0.2 laid.0.0).3,
       e.whole,
       e.lies ∙ sym e.meant,
       (λ came was.
           let tells = subst (λ (xs : List ℕ). TellsOf (shape_open xs came s.top.start s.top.shape) own) is (e.tells came (stand_cut s.order s.out c.cut.new.self came fs was.0 c.cut.ensures.whole is lies, was.1)) in
-          subst (TellsWithin (came_standing came s) _) (sym c.outward-found.ensures)
-          (moved (λ o out ss fs. TellsWithin (came_standing came s) (opens out ss fs) (outward own None 0)) s.order n.order (take s.top.from raw) (meant n.out) (outer_spans came s.top.shape) n.spans.items (outers s) (outers n) e.order out (e.spans ∙ reordered_outer came s.spans.items s.top.shape was.1) e.around
-          (within_raw raw (meant s.out) came fs _ _ was.0.2 (tells_first (shape_open raw came s.top.start s.top.shape) (opens (take s.top.from raw) (outer_spans came s.top.shape) (outers s)) own tells)))),
+          coe 1 0 (i. TellsWithin (came_standing came s) (opens (out i) ((e.spans ∙ reordered_outer came s.spans.items s.top.shape was.1) i) (e.around i)) (c.outward-found.ensures i))
+          (within_raw raw (meant s.out) came fs _ _ was.0.2 (tells_first (shape_open raw came s.top.start s.top.shape) (opens (take s.top.from raw) (outer_spans came s.top.shape) (outers s)) own tells))),
       subst (λ (fs : List Frame). length fs ≤ 2 ^ 63) (sym e.around) (outers_fit s),
       subst (λ (x : Option Repeat). IsBelow x (2 ^ 63 - length (outers n))) (sym c.outward-found.ensures) (below_first own (2 ^ 63 - length (outers n))),
       e.order,
@@ -61,7 +60,7 @@ take_repeat-own-requires-in-loop-self-clause-laid c =
       b.spans.items,
       (
         (
-          moved Laid s.order b.order (meant s.out) (meant b.out) s.spans.items b.spans.items (outers s) (frames b) e.order out e.spans (sym (e.frames t)) i.0,
+          coe 1 0 (k. Laid (e.order k) (out k) (e.spans k) (sym (e.frames t) k)) i.0,
           subst IsWhole (sym e.out) i.1,
           agrees_refl b.out.buf (meant b.out) b.spans.items (frames b) lies,
         ),
@@ -82,27 +81,25 @@ loop-self-preserved c =
     let t = c.loop-self-test.true in
     let was = ap meant l.out in
     let lies = ap (λ (d : Draft). d.buf) l.out ∙ i.2 ∙ sym was in
-    let laid : Laid b.order (meant b.out) b.spans.items (frames b) = moved Laid s.order b.order (meant s.out) (meant b.out) s.spans.items b.spans.items (outers s) (frames b) l.order was l.spans (sym (l.frames t)) i.0 in
+    let laid : Laid b.order (meant b.out) b.spans.items (frames b) = coe 1 0 (k. Laid (l.order k) (was k) (l.spans k) (sym (l.frames t) k)) i.0 in
     let stand : Stand b.order b.out b.spans.items (frames b) = (laid, subst IsWhole (sym l.out) i.1, agrees_refl b.out.buf (meant b.out) b.spans.items (frames b) lies) in
     let tells = e.tells b.spans.items (stand, reordered_refl b.spans.items f.shape) in
     let out = e.meant ∙ ap (take f.from) lies in
     let os = opens (take f.from (meant b.out)) (outer_spans b.spans.items f.shape) (outers b) in
     let count : length (outers s) ≡ suc (length (outers n)) = ap length (l.frames t) ∙ ap (λ (fs : List Frame). suc (length fs)) (sym e.around) in
     let found = c.outward-found-in-loop-self.ensures ∙ ap (outward own c.loop-self.found) c.maps-maps.ensures in
-    let least = i.4 in (
-      moved Laid b.order n.order (take f.from (meant b.out)) (meant n.out) (outer_spans b.spans.items f.shape) n.spans.items (outers b) (outers n) e.order out e.spans e.around laid.3,
+    let least = i.4 in
+    let more : 2 ^ 63 - length (outers n) ≡ suc (2 ^ 63 - length (outers s)) = omega (arith, count, least) in (
+      coe 1 0 (k. Laid (e.order k) (out k) (e.spans k) (e.around k)) laid.3,
       e.whole,
       e.lies ∙ sym e.meant,
       (λ came first.
           let whole = came_standing came c.args.self.now in
-          subst (TellsWithin whole _) (sym found)
-          (moved (λ o out ss fs. TellsWithin whole (opens out ss fs) (outward own c.loop-self.found (maps_of f.shape))) b.order n.order (take f.from (meant b.out)) (meant n.out) (outer_spans b.spans.items f.shape) n.spans.items (outers b) (outers n) e.order out e.spans e.around
+          coe 1 0 (k. TellsWithin whole (opens (out k) (e.spans k) (e.around k)) (found k))
           (tells_outward (shape_open (meant b.out) b.spans.items f.start f.shape) os whole own c.loop-self.found (maps_of f.shape) tells (maps_more (meant b.out) b.spans.items f.start f.shape os)
-          (moved (λ o out ss fs. TellsWithin whole (opens out ss fs) c.loop-self.found) s.order b.order (meant s.out) (meant b.out) s.spans.items b.spans.items (outers s) (frames b) l.order was l.spans (sym (l.frames t)) (i.3 came first))))),
+          (coe 1 0 (k. TellsWithin whole (opens (was k) (l.spans k) (sym (l.frames t) k)) c.loop-self.found) (i.3 came first)))),
       omega (arith, count, least),
-      subst (λ (x : Option Repeat). IsBelow x (2 ^ 63 - length (outers n))) (sym found)
-          (let more : suc (2 ^ 63 - length (outers s)) ≡ 2 ^ 63 - length (outers n) = omega (arith, count, least) in
-          subst (IsBelow (outward own c.loop-self.found (maps_of f.shape))) more (below_outward own c.loop-self.found f.shape (2 ^ 63 - length (outers s)) i.5)),
+      coe 1 0 (k. IsBelow (found k) (more k)) (below_outward own c.loop-self.found f.shape (2 ^ 63 - length (outers s)) i.5),
       e.order ∙ l.order ∙ i.6,
     )
 

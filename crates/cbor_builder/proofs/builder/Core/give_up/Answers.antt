@@ -1,13 +1,12 @@
 use Rattle.std.proofs.Common.{take, sym, ap, ◌∙◌, subst, rules}
 use Rattle.cbor_canonical.proofs.Decided.{holds}
 use Rattle.cbor_builder.specs.inner.BuilderState.{outers, frames}
-use Rattle.cbor_builder.specs.inner.Laid.{outer_spans, opens, Laid}
+use Rattle.cbor_builder.specs.inner.Laid.{opens, Laid}
 use Rattle.cbor_buffer.specs.Moved.{meant, IsWhole}
 use Rattle.cbor_buffer.specs.declared.draft.Draft.{Draft}
 use Rattle.cbor_builder.specs.declared.frame.Frame.{Frame}
 use Rattle.cbor_builder.proofs.InPlace.{agrees_refl}
 use Rattle.cbor_builder.proofs.Nesting.{found_around}
-use Rattle.cbor_builder.proofs.OpenRepeats.{moved}
 use Rattle.cbor_builder.proofs.Reordered.{left_open}
 use Rattle.cbor_builder.proofs.builder.Core.give_up.Goals as goal
 
@@ -25,7 +24,7 @@ returns c =
     let frames_are = sym (l.frames t) ∙ e.around in
     let spans = l.spans ∙ e.spans c.if-not-give_up_pairs.false in
     let order = l.order ∙ e.order in
-    let laid = moved Laid s.order b.order (take s.top.from (meant s.out)) (meant b.out) (outer_spans s.spans.items s.top.shape) b.spans.items (outers s) (frames b) order out spans frames_are c.requires.laid.0.0.3 in
+    let laid = coe 1 0 (i. Laid (order i) (out i) (spans i) (frames_are i)) c.requires.laid.0.0.3 in
     record {
       order = order;
       distinct = holds (e.distinct.0 c.if-not-give_up_pairs.false);

@@ -45,11 +45,10 @@ rearrange-requires c =
     let xs = drop c.args.first s.spans.items in
     let e = c.order_spans.ensures in
     let us = take_rest c.deref.result.now c.args.first ∙ ap (drop c.args.first) c.deref.ensures.value in
-    let l = whole_length s.out c.requires.whole in
     let start = ap (λ (f : Frame). f.start) e.top in
     record {
       whole = subst IsWhole (sym e.out) c.requires.whole;
-      begins = omega (arith, l, c.requires.within, start, ap (λ (d : Draft). length d.buf) e.out);
+      begins = omega (arith, whole_length s.out c.requires.whole, c.requires.within, start, ap (λ (d : Draft). length d.buf) e.out);
       behind = stands AreBehind _ s.top.start _ _ start us (all_permuted _ xs _ e.permuted (tile_behind s.top.start xs (length (meant s.out)) c.requires.fits.1));
       within = stands AreWithin _ (meant s.out) _ _ (ap meant e.out) us (all_permuted _ xs _ e.permuted (tile_within (meant s.out) s.top.start xs (length (meant s.out)) c.requires.fits.1 (omega arith)));
     }

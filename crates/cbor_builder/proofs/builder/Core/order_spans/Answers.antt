@@ -21,10 +21,8 @@ sort_distinct-requires c =
 -- what a part that is put in order leaves
 placed : (n m : ℕ) (us ys post zs : List Span) → n ≤ length us → n + length ys ≡ m → take m ((take n us ++ (ys ++ post)) ++ zs) ≡ take n us ++ ys
 placed n m us ys post zs h e =
-    let size = length-take n us in
-    let all = length-append (take n us) ys in
     ap (take m) (append_assoc (take n us) (ys ++ post) zs ∙ ap (λ (ts : List Span). take n us ++ ts) (append_assoc ys post zs) ∙ sym (append_assoc (take n us) ys (post ++ zs)))
-    ∙ taken_front m (take n us ++ ys) (post ++ zs) (omega (arith, size, all, h, e))
+    ∙ taken_front m (take n us ++ ys) (post ++ zs) (omega (arith, length-take n us, length-append (take n us) ys, h, e))
 
 pub returns : goal.returns
 returns c =
@@ -36,12 +34,10 @@ returns c =
     let e = c.sort_distinct.ensures in
     let us = take_rest given n ∙ ap (drop n) c.deref_mut.ensures.value in
     let moved = subst (λ (xs : List Span). IsPermutation xs ys) us e.permuted in
-    let long = length_permutation was ys moved in
     let short = length-drop n s.spans.items in
     let same = ap length c.deref_mut.ensures.value in
-    let size = length-take n given in
-    let front : length (take n given) ≡ n = omega (arith, size, c.requires.fits.0, same) in
-    let left = placed n s.spans.len given ys _ _ (omega (arith, c.requires.fits.0, same)) (omega (arith, c.requires.fits.0, long, short, s.spans.ok.0)) in
+    let front : length (take n given) ≡ n = omega (arith, length-take n given, c.requires.fits.0, same) in
+    let left = placed n s.spans.len given ys _ _ (omega (arith, c.requires.fits.0, same)) (omega (arith, c.requires.fits.0, length_permutation was ys moved, short, s.spans.ok.0)) in
     let all = ap (drop n) left ∙ rest_front n (take n given) ys front in
     let distinct = distinct_iff s.out.buf (meant s.out) c.as_slice.result.now _ was c.sort_distinct.result c.as_slice.ensures us c.requires.keys e.distinct in
     record {

@@ -1,11 +1,12 @@
-use Rattle.std.proofs.Common.{ℕ, List, drop, Option, sym, ap, ◌∙◌, subst, MatchOption}
+use Rattle.std.proofs.Common.{List, drop, sym, ap, ◌∙◌, subst, MatchOption}
+use Rattle.std.proofs.lemmas.List.{take_rest}
 use Rattle.cbor_builder.specs.Built.{AreAllDifferent, IsFirstRepeat}
 use Rattle.cbor_builder.specs.inner.BuilderState.{frames, Stand, IsReordered}
 use Rattle.cbor_builder.specs.inner.Laid.{opens}
 use Rattle.cbor_buffer.specs.Moved.{meant}
 use Rattle.cbor_buffer.specs.declared.span.Span.{Span}
-use Rattle.cbor_builder.specs.inner.Repeats.{first_of}
-use Rattle.cbor_builder.proofs.OpenRepeats.{own_keys, told_of, own_found, own_spans, rising_different}
+use Rattle.cbor_builder.specs.inner.Repeats.{first_of, AreOf}
+use Rattle.cbor_builder.proofs.OpenRepeats.{own_keys, told_of, rising_different}
 use Rattle.cbor_builder.proofs.Reordered.{reordered_first, reordered_length, reordered_own, reordered_waits}
 use Rattle.cbor_builder.proofs.builder.Core.take_repeat.Goals as goal
 use Rattle.cbor_builder.proofs.builder.Core.take_repeat.Goals.{then-not-self, else-not-self}
@@ -22,11 +23,9 @@ first_repeat-pair-requires c =
     let f = s.top in
     let came = c.requires.laid.0 in
     let was = c.requires.laid.1 in
-    let first = c.first_span-first.ensures ∙ ap (λ ss. first_of ss f.shape) c.deref.ensures.value ∙ reordered_first came s.spans.items f.shape was.1 in (
-      drop (first_of came f.shape) came,
-      own_spans (meant s.out) c.as_slice.result.now came s.spans.items c.deref_mut.result.now c.first_span-first.result f.shape (c.as_slice.ensures ∙ c.requires.lies) c.deref_mut.ensures.value first
-          (reordered_own s.order (meant s.out) came s.spans.items f.from f.start f.rises f.shape was.0.0.2 was.1),
-    )
+    let first = c.first_span-first.ensures ∙ ap (λ ss. first_of ss f.shape) c.deref.ensures.value ∙ reordered_first came s.spans.items f.shape was.1 in
+    let us = take_rest c.deref_mut.result.now c.first_span-first.result ∙ (λ i. drop (first i) (c.deref_mut.ensures.value i)) in
+    (drop (first_of came f.shape) came, coe 1 0 (i. AreOf ((c.as_slice.ensures ∙ c.requires.lies) i) (drop (first_of came f.shape) came) (us i)) (reordered_own s.order (meant s.out) came s.spans.items f.from f.start f.rises f.shape was.0.0.2 was.1))
 
 pub returns-clause-tells : goal.returns-clause-tells
 returns-clause-tells c came was =
@@ -36,8 +35,13 @@ returns-clause-tells c came was =
     let own = reordered_own s.order (meant s.out) came s.spans.items f.from f.start f.rises f.shape was.0.0.2 was.1 in
     let pair : MatchOption c.if-not-self.pair (AreAllDifferent (own_keys (meant s.out) came f.shape)) (IsFirstRepeat (own_keys (meant s.out) came f.shape)) =
     elim c.if-not-self.branch [
-      | then-not-self w ↦ own_found (meant s.out) w.as_slice.result.now came s.spans.items w.deref_mut.result.now c.first_span-first.result f.shape c.if-not-self.pair w.first_repeat-pair.result (w.as_slice.ensures ∙ c.requires.lies) w.deref_mut.ensures.value first own w.pair-is w.first_repeat-pair.ensures
-      | else-not-self w ↦ subst (λ (x : Option ℕ). MatchOption x (AreAllDifferent (own_keys (meant s.out) came f.shape)) (IsFirstRepeat (own_keys (meant s.out) came f.shape))) (sym w.pair-is) (rising_different s.order (meant s.out) came f.from f.start f.rises f.shape was.0.0.2 w.if-not-self.false)
+      | then-not-self w ↦
+          let bytes = w.as_slice.ensures ∙ c.requires.lies in
+          let us = take_rest w.deref_mut.result.now c.first_span-first.result ∙ (λ i. drop (first i) (w.deref_mut.ensures.value i)) in
+          coe 1 0 (i. MatchOption (w.pair-is i) (AreAllDifferent (own_keys (sym bytes i) came f.shape)) (IsFirstRepeat (own_keys (sym bytes i) came f.shape)))
+          (w.first_repeat-pair.ensures (drop (first_of came f.shape) came) (coe 1 0 (i. AreOf (bytes i) (drop (first_of came f.shape) came) (us i)) own))
+      | else-not-self w ↦
+          coe 1 0 (i. MatchOption (w.pair-is i) (AreAllDifferent (own_keys (meant s.out) came f.shape)) (IsFirstRepeat (own_keys (meant s.out) came f.shape))) (rising_different s.order (meant s.out) came f.from f.start f.rises f.shape was.0.0.2 w.if-not-self.false)
     ] in
     told_of (meant s.out) came f.start c.first_span-first.result c.len.result f.shape c.if-not-self.pair c.or.result c.then_some.result c.repeated-is_waiting_repeated.result
     (opens _ _ _) first (c.len.ensures ∙ s.spans.ok.0 ∙ reordered_length came s.spans.items f.shape was.1) pair (reordered_waits (meant s.out) came s.spans.items f.start f.shape _ c.repeated-is_waiting_repeated.result was.1 c.repeated-is_waiting_repeated.ensures) c.then_some.ensures c.or.ensures

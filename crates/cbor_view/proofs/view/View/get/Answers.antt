@@ -6,7 +6,8 @@ use Rattle.cbor_view.specs.Lookup.{HasValueAt}
 use Rattle.cbor_view.specs.Seen.{seen}
 use Rattle.cbor_view.specs.inner.Pairs.{entries}
 use Rattle.cbor_view.specs.declared.view.View.TheVariants.{Unsigned}
-use Rattle.cbor_view.proofs.Lookups.{looked_by, found_by, valid_by, none_behind}
+use Rattle.cbor_view.proofs.Lookups.{looked_by, found_by, none_behind}
+use Rattle.cbor_item.proofs.Steps.{valid_at}
 use Rattle.cbor_view.proofs.Views.{seen-Map}
 use Rattle.cbor_view.proofs.view.View.get.Goals as goal
 
@@ -14,7 +15,7 @@ pub same-requires-clause-left : goal.same-requires-clause-left
 same-requires-clause-left c =
     let is : seen c.args.self.now ≡ value.map (entries c.in-Map.pairs.now) = ap seen c.in-Map.is ∙ seen-Map c.in-Map.pairs in
     let h = subst IsValid is c.requires.map in
-    valid_by c.in-Map.pairs.now c.loop-found.found-index (Unsigned 0, Unsigned 0) h.0 c.loop-found-test.true
+    (valid_at seen c.in-Map.pairs.now c.loop-found.found-index (Unsigned 0, Unsigned 0) h.0 c.loop-found-test.true).0
 
 pub returns-then-same : goal.returns-then-same
 returns-then-same c =
