@@ -19,6 +19,7 @@ use Rattle.cbor_judging.proofs.Arguments.{low_bits, spells}
 use Rattle.cbor_walk.specs.Sink.{leaf_value}
 use Rattle.cbor_walk.specs.inner.Open.{counted, endless, opener}
 use Rattle.cbor_walk.specs.inner.Parts.{IsHead, IsOpener, IsPayload, Counts}
+use Rattle.cbor_walk.specs.declared.open.Open.{Open}
 use Rattle.cbor_front.specs.declared.level.Due.{Due}
 use Rattle.cbor_front.specs.declared.level.Due.TheVariants.{Item, Key}
 
@@ -94,28 +95,28 @@ from-none n some = omega (arith, some)
 head-some : (m : Major) (w : Width) (n : ℕ) (xs : List ℕ) → 0 < length (head m w n ++ xs)
 head-some m w n xs = omega (arith, length_head m w n, length-append (head m w n) xs)
 
-pub head-opens : (m : Major) (n : ℕ) (due : Due) (rest behind : List ℕ) → Counts m due → 0 < n → IsHead m n rest behind → IsOpener m n (counted due (n - 1) (length behind)) rest behind
-head-opens majors.Array n Item rest behind k some h =
+pub head-opens : (m : Major) (n : ℕ) (due : Due) (c : Open) (rest behind : List ℕ) → Counts m due → 0 < n → c ≡ counted due (n - 1) (length behind) → IsHead m n rest behind → IsOpener m n c rest behind
+head-opens majors.Array n Item c rest behind k some is h =
     let e = from-none n some in
     record {
       level = a_member h.width (n - 1) no_spellings;
       fresh = λ d. (subst (Holds h.width) (sym e) h.holds, tt);
-      cell = refl;
+      cell = is;
       opened = inl (h.width, n - 1, refl);
       some = head-some majors.Array h.width (0 + suc (n - 1)) [];
       is = h.is ∙ ap (λ (x : List ℕ). x ++ behind) (ap (head majors.Array h.width) (sym e) ∙ sym (append-nil (head majors.Array h.width (0 + suc (n - 1)))));
     }
-head-opens majors.Map n Key rest behind k some h =
+head-opens majors.Map n Key c rest behind k some is h =
     let e = from-none n some in
     record {
       level = a_key h.width (n - 1) no_entries;
       fresh = λ d. (subst (Holds h.width) (sym e) h.holds, tt);
-      cell = refl;
+      cell = is;
       opened = inl (h.width, n - 1, refl);
       some = head-some majors.Map h.width (0 + suc (n - 1)) [];
       is = h.is ∙ ap (λ (x : List ℕ). x ++ behind) (ap (head majors.Map h.width) (sym e) ∙ sym (append-nil (head majors.Map h.width (0 + suc (n - 1)))));
     }
-head-opens _ n _ rest behind k some h = absurd k
+head-opens _ n _ c rest behind k some is h = absurd k
 
 pub counts-container : (m : Major) (due : Due) → Counts m due → IsContainer m
 counts-container majors.Array due k = tt
@@ -123,21 +124,21 @@ counts-container majors.Map due k = tt
 counts-container majors.Tag due k = tt
 counts-container _ due k = absurd k
 
-pub tag-opens : (n : ℕ) (rest behind : List ℕ) → IsHead majors.Tag n rest behind → IsOpener majors.Tag n (counted Item 0 (length behind)) rest behind
-tag-opens n rest behind h = record {
+pub tag-opens : (n : ℕ) (c : Open) (rest behind : List ℕ) → c ≡ counted Item 0 (length behind) → IsHead majors.Tag n rest behind → IsOpener majors.Tag n c rest behind
+tag-opens n c rest behind is h = record {
   level = tagged h.width n;
   fresh = λ d. h.holds;
-  cell = refl;
+  cell = is;
   opened = (h.width, refl);
   some = subst (λ (x : List ℕ). 0 < length x) (append-nil (head majors.Tag h.width n)) (head-some majors.Tag h.width n []);
   is = h.is;
 }
 
-pub array-opens : (behind : List ℕ) → IsOpener majors.Array 0 (endless Item (length behind)) (0x9f ∷ behind) behind
-array-opens behind = record { level = some_member no_spellings; fresh = λ d. tt; cell = refl; opened = inr refl; some = omega arith; is = refl }
+pub array-opens : (first : ℕ) (c : Open) (behind : List ℕ) → first ≡ 0x9f → c ≡ endless Item (length behind) → IsOpener majors.Array 0 c (first ∷ behind) behind
+array-opens first c behind f e = record { level = some_member no_spellings; fresh = λ d. tt; cell = e; opened = inr refl; some = omega arith; is = ap (λ (x : ℕ). x ∷ behind) f }
 
-pub map-opens : (behind : List ℕ) → IsOpener majors.Map 0 (endless Key (length behind)) (0xbf ∷ behind) behind
-map-opens behind = record { level = some_key no_entries; fresh = λ d. tt; cell = refl; opened = inr refl; some = omega arith; is = refl }
+pub map-opens : (first : ℕ) (c : Open) (behind : List ℕ) → first ≡ 0xbf → c ≡ endless Key (length behind) → IsOpener majors.Map 0 c (first ∷ behind) behind
+map-opens first c behind f e = record { level = some_key no_entries; fresh = λ d. tt; cell = e; opened = inr refl; some = omega arith; is = ap (λ (x : ℕ). x ∷ behind) f }
 
 -- nothing else is there yet
 pub opener-whole : (m : Major) (n : ℕ) (l : Level) → IsOpened m n l → level_bytes l ≡ opener l

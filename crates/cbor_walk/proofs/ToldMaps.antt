@@ -7,7 +7,7 @@ use Rattle.cbor_builder.specs.Built.{keys_so_far, IsFirstRepeat, AreOpenKeysDiff
 use Rattle.cbor_builder.specs.declared.repeat.Repeat.{Repeat}
 use Rattle.cbor_judging.specs.Given.{level_open, opens, full_open}
 use Rattle.cbor_judging.specs.Kinds.{KeepsToKinds}
-use Rattle.cbor_judging.specs.Levels.{Level, a_member, a_key, a_value, some_member, some_key, some_value, tagged, level_bytes, AreLevels, bytes_before}
+use Rattle.cbor_judging.specs.Levels.{Level, a_member, some_member, tagged, level_bytes, AreLevels, bytes_before}
 use Rattle.cbor_judging.proofs.KindFrames.{keeps_front}
 use Rattle.cbor_judging.proofs.LevelFrames.{begins_so_far, begins_before}
 use Rattle.cbor_judging.proofs.PathVerdict.{complaint_stops}
@@ -43,12 +43,9 @@ told_in o (l ∷ ls) outside pair (inr (apart, is, first)) = record { inner = []
 maps_open : (o : KeyOrder) (ls : List Level) → open_maps (opens o ls) ≡ map_levels ls
 maps_open o [] = refl
 maps_open o (a_member w left done ∷ ls) = maps_open o ls
-maps_open o (a_key w left done ∷ ls) = ap suc (maps_open o ls)
-maps_open o (a_value w left done k ∷ ls) = ap suc (maps_open o ls)
 maps_open o (some_member done ∷ ls) = maps_open o ls
-maps_open o (some_key done ∷ ls) = ap suc (maps_open o ls)
-maps_open o (some_value done k ∷ ls) = ap suc (maps_open o ls)
 maps_open o (tagged w n ∷ ls) = maps_open o ls
+maps_open o (_ ∷ ls) = ap suc (maps_open o ls)
 
 -- what has equal keys is a map
 is_map : (o : KeyOrder) (l : Level) (pair : ℕ) → IsFirstRepeat (keys_so_far (level_open o l)) pair → is_map_level l ≡ true
