@@ -20,11 +20,14 @@ deeper-requires g c =
 
 pub returns-in-Whole : goal.returns-in-Whole
 returns-in-Whole g c =
-    walk-met _ _ _ g.S.Sink.holds _ _ c.args.limits c.from-depth.result _ _ (met.Whole c.in-Whole.behind) _ _ [] _ (c.from-depth.ensures ∙ c.depth.ensures.depth) c.requires.kinds (due g (goal.at.returns-in-Whole g c).After-walk-met _) (starts-kept _ _ _) c.in-Whole.ensures.walked c.in-Whole.ensures.kept
+    walk-met _ _ _ g.S.Sink.holds _ _ c.args.limits c.from-depth.result _ _ (met.Whole c.in-Whole.behind) _ _ [] _ (c.from-depth.ensures ∙ c.depth.ensures.depth) c.requires.kinds
+    (due g (goal.at.returns-in-Whole g c).After-walk-met _) (starts-kept _ _ _) c.in-Whole.ensures.walked c.in-Whole.ensures.kept
 
 pub returns-in-Untaken : goal.returns-in-Untaken
 returns-in-Untaken g c =
-    c.deeper.ensures c.args.building.now.sink (walk-met _ _ _ g.S.Sink.holds _ _ c.args.limits c.from-depth.result _ _ (met.Untaken c.in-Untaken.rest) _ _ _ _ (c.from-depth.ensures ∙ c.depth.ensures.depth) c.requires.kinds (due g (goal.at.returns-in-Untaken g c).After-walk-met _) (starts-kept _ _ _) c.in-Untaken.ensures.walked c.in-Untaken.ensures.kept).0
+    c.deeper.ensures c.args.building.now.sink
+    (walk-met _ _ _ g.S.Sink.holds _ _ c.args.limits c.from-depth.result _ _ (met.Untaken c.in-Untaken.rest) _ _ _ _ (c.from-depth.ensures ∙ c.depth.ensures.depth) c.requires.kinds
+    (due g (goal.at.returns-in-Untaken g c).After-walk-met _) (starts-kept _ _ _) c.in-Untaken.ensures.walked c.in-Untaken.ensures.kept).0
 
 pub stopped-requires : goal.stopped-requires
 stopped-requires g c =

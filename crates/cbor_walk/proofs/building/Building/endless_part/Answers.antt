@@ -31,5 +31,8 @@ returns-in-191-clause-front g c = c.open-in-191.ensures.front _ (map-opens c.arg
 pub returns-in-255-clause-takes : goal.returns-in-255-clause-takes
 returns-in-255-clause-takes g c = λ start input due.
     let k = c.args.self.now.stack in
-    let may = c.may_break.ensures.only c.if-may_break.true in
-    (omega arith, break-ends _ _ _ _ _ _ k.top (around Open k c.args.cells.now) _ c.args.behind.now (subst (λ (x : ℕ). IsDue g.row.S.Denot g.S.Sink.stands g.S.Sink.trusts start c.args.depth input (standing Open k c.args.cells.now) c.args.self.now.sink (x ∷ c.args.behind.now)) c.in-255.is due) may.0 may.1)
+    let may = c.may_break.ensures.only c.if-may_break.true in (
+      omega arith,
+      break-ends _ _ _ _ _ _ k.top (around Open k c.args.cells.now) _ c.args.behind.now
+          (subst (λ (x : ℕ). IsDue g.row.S.Denot g.S.Sink.stands g.S.Sink.trusts start c.args.depth input (standing Open k c.args.cells.now) c.args.self.now.sink (x ∷ c.args.behind.now)) c.in-255.is due) may.0 may.1,
+    )

@@ -24,13 +24,15 @@ payload g c = known-chunk g.row.S.Denot g.S.Sink.stands g.S.Sink.trusts c.args.i
 
 -- where a break stands
 whole : (g : _) (c : Then-first g) → IsScalar (chunked_from c.args.is_text c.args.behind.now) c.in-Some.behind.now (string_value c.args.is_text (chunks_joined c.chunks.invariant.chunks.read.done))
-whole g c = all-chunks g.row.S.Denot g.S.Sink.stands g.S.Sink.holds c.is_key-is_key.result c.args.is_text c.args.behind.now c.args.self.now.sink c.chunks.rest.now c.chunks.self.sink c.chunks.invariant.chunks c.in-Some.behind.now (c.in-Some.ensures.cases.0 ∙ ap (λ (x : ℕ). x ∷ c.in-Some.behind.now) c.if-first.true)
+whole g c =
+    all-chunks g.row.S.Denot g.S.Sink.stands g.S.Sink.holds c.is_key-is_key.result c.args.is_text c.args.behind.now c.args.self.now.sink c.chunks.rest.now c.chunks.self.sink c.chunks.invariant.chunks c.in-Some.behind.now
+    (c.in-Some.ensures.cases.0 ∙ ap (λ (x : ℕ). x ∷ c.in-Some.behind.now) c.if-first.true)
 
 pub begin_string-requires : goal.begin_string-requires
 begin_string-requires g c = λ k. ((refl, tt), due g (goal.at.begin_string-requires g c).After-is_key-is_key)
 
 pub end_string-requires : goal.end_string-requires
-end_string-requires g c = λ k. ((refl, tt), chunk-due g.row.S.Denot g.S.Sink.stands g.S.Sink.holds c.is_key-is_key.result c.args.is_text c.args.behind.now c.args.self.now.sink c.chunks.rest.now c.chunks.self.sink c.chunks.invariant.chunks (due g (goal.at.end_string-requires g c).After-is_key-is_key))
+end_string-requires g c = λ k. ((refl, tt), chunk-due _ g.S.Sink.stands g.S.Sink.holds c.is_key-is_key.result c.args.is_text c.args.behind.now c.args.self.now.sink c.chunks.rest.now c.chunks.self.sink c.chunks.invariant.chunks (due g (goal.at.end_string-requires g c).After-is_key-is_key))
 
 pub chunk-requires : goal.chunk-requires
 chunk-requires g c =

@@ -19,7 +19,8 @@ empty g c rest head start input due =
     let k = c.args.self.now.stack in
     let cs = standing Open k c.args.cells.now in
     let room : length due.ls < c.args.depth = omega (arith, c.if-self-depth.false, height-is _ _ _ start c.args.depth input cs c.args.self.now.sink rest due, standing_count Open k c.args.cells.now c.requires.cells) in
-    let e = empty-ends _ _ _ start c.args.depth input cs c.args.self.now.sink rest due c.args.major c.args.due c.args.number c.args.behind.now c.begin.new.self c.is_key.result (c.is_key.ensures ∙ key-awaited (length input) due.ls k.top (around Open k c.args.cells.now) due.cells) room c.requires.kind (omega (arith, c.if-number-gt0.false)) head c.in-Ok.ensures in
+    let e = empty-ends _ _ _ start c.args.depth input cs c.args.self.now.sink rest due c.args.major c.args.due c.args.number c.args.behind.now c.begin.new.self c.is_key.result
+    (c.is_key.ensures ∙ key-awaited (length input) due.ls k.top (around Open k c.args.cells.now) due.cells) room c.requires.kind (omega (arith, c.if-number-gt0.false)) head c.in-Ok.ensures in
     (e.0, subst (λ (t : Bool). IsToEnd g.row.S.Denot g.S.Sink.stands g.S.Sink.trusts t start c.args.depth input cs c.begin.new.self c.args.behind.now) (sym c.is_key-2.ensures) e.1)
 
 pub open-requires : goal.open-requires
