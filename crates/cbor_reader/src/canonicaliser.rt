@@ -4,8 +4,7 @@ ghost use Rattle.std.specs.Prelude.{◌≡◌, ◌≢◌, IfOk, IfErr, IsOk, Mat
 ghost use Rattle.std.specs.Cow.{cow_slice_items};
 ghost use Rattle.cbor_head.specs.declared.reason.Reason.TheVariants as reasons;
 ghost use Rattle.cbor_judging.specs.Readers.{TellsMemoryAtFront};
-ghost use Rattle.cbor_reader.specs.Canonicalise.{IsCanonicalOf, IsRefusal, TellsItsValue};
-ghost use Rattle.cbor_reader.specs.Canonicalise.{IsCanonicaliserReason, IsMemoryRefusal};
+ghost use Rattle.cbor_reader.specs.Canonicalise.{IsCanonicalOf, IsRefusal, TellsItsValue, IsCanonicaliserReason, IsMemoryRefusal};
 ghost use Rattle.cbor_reader.specs.Headline.{IsAnsweredBy, HasNoAnswer};
 
 use crate::whole_item::encoded_item;

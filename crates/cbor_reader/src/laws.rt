@@ -11,16 +11,13 @@ ghost use Rattle.cbor_head.specs.Verdict.{IsVerdict, accepted, refused, refusal}
 ghost use Rattle.cbor_head.specs.declared.keys.Keys.TheVariants.{IntegersAndTexts};
 ghost use Rattle.cbor_head.specs.declared.order.KeyOrder.{KeyOrder};
 ghost use Rattle.cbor_head.specs.declared.reason.Refusal.{Refusal};
-ghost use Rattle.cbor_head.specs.declared.reason.Reason.TheVariants.{Memory, Truncated, TooLong};
-ghost use Rattle.cbor_head.specs.declared.reason.Reason.TheVariants.{CanonicalTooLong, Trailing};
-ghost use Rattle.cbor_head.specs.declared.reason.Reason.TheVariants.{Read};
+ghost use Rattle.cbor_head.specs.declared.reason.Reason.TheVariants.{Memory, Truncated, TooLong, CanonicalTooLong, Trailing, Read};
 ghost use Rattle.cbor_canonical.specs.StrictReasons.{IsStrictReason};
 ghost use Rattle.cbor_reader.specs.Canonicalise.{IsCanonicalOf, IsRefusal};
 ghost use Rattle.cbor_reader.specs.Comparing.{MeanTheSame};
-ghost use Rattle.cbor_reader.specs.Headline.{IsValidItem, IsAnsweredBy, HasNoAnswer};
+ghost use Rattle.cbor_reader.specs.Headline.{IsValidItem, IsAnsweredBy, HasNoAnswer, HasValidTexts};
 ghost use Rattle.cbor_judging.specs.Readers.{BeginsWithCanonical, IsRead, IsReadAs, IsUnread};
 ghost use Rattle.cbor_judging.specs.Refusals.{StandsWithin};
-ghost use Rattle.cbor_reader.specs.Headline.{HasValidTexts};
 ghost use Rattle.cbor_plain.specs.Size.{size};
 ghost use Rattle.cbor_reader.specs.WholeItem.{IsWholeItem, IsItemRefusal};
 

@@ -5,8 +5,7 @@ ghost use Rattle.cbor_head.specs.Complaint.{plain, strict};
 ghost use Rattle.cbor_item.specs.View.{view};
 ghost use Rattle.cbor_judging.specs.Readers.{IsRead, IsCanonicalFront, Loses};
 ghost use Rattle.cbor_judging.specs.Refusals.{IsReaderReason};
-ghost use Rattle.cbor_reader.specs.Sequence.{SequenceView, IfGiven, IfRefused, is_last, IsTaken};
-ghost use Rattle.cbor_reader.specs.Sequence.{IsAtEnd, IsRefused};
+ghost use Rattle.cbor_reader.specs.Sequence.{SequenceView, IfGiven, IfRefused, is_last, IsTaken, IsAtEnd, IsRefused};
 
 use crate::sequence_items::SequenceItems;
 use cbor_head::{KeyOrder, Limits, Refusal};

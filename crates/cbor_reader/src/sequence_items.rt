@@ -6,8 +6,7 @@ ghost use Rattle.cbor_head.specs.declared.reason.Reason.TheVariants as reasons;
 ghost use Rattle.cbor_item.specs.View.{view};
 ghost use Rattle.cbor_judging.specs.Readers.{IsRead, IsCanonicalFront, Loses};
 ghost use Rattle.cbor_judging.specs.Refusals.{IsReaderReason};
-ghost use Rattle.cbor_reader.specs.Sequence.{SequenceItemsView, IfGiven, IfRefused, is_last};
-ghost use Rattle.cbor_reader.specs.Sequence.{IsTaken, IsAtEnd, IsRefused};
+ghost use Rattle.cbor_reader.specs.Sequence.{SequenceItemsView, IfGiven, IfRefused, is_last, IsTaken, IsAtEnd, IsRefused};
 
 use crate::tree_reader::read_tree_by;
 use cbor_events::ItemEvents;

@@ -1,7 +1,6 @@
 //! Laws of sequences: functions with nothing to run, whose contracts are the laws.
 
-ghost use Rattle.std.specs.Prelude.{◌≡◌, ◌≢◌, ◌↔◌, ℕ, Option, Some, List, [], ◌∷◌, ◌++◌};
-ghost use Rattle.std.specs.Prelude.{length, IfSome};
+ghost use Rattle.std.specs.Prelude.{◌≡◌, ◌≢◌, ◌↔◌, ℕ, Option, Some, List, [], ◌∷◌, ◌++◌, length, IfSome};
 ghost use Rattle.cbor_head.specs.Canonical.{canonical};
 ghost use Rattle.cbor_head.specs.Complaint.{Rules, plain, strict};
 ghost use Rattle.cbor_head.specs.Limits.{Bounds};
@@ -9,14 +8,11 @@ ghost use Rattle.cbor_head.specs.Spelling.{Spelling, IsItem, spell, value_of};
 ghost use Rattle.cbor_head.specs.Value.{Value};
 ghost use Rattle.cbor_head.specs.Verdict.{IsVerdict, refused, refusal};
 ghost use Rattle.cbor_head.specs.declared.order.KeyOrder.{KeyOrder};
-ghost use Rattle.cbor_head.specs.declared.reason.Reason.TheVariants.{Memory, Read, Truncated};
-ghost use Rattle.cbor_head.specs.declared.reason.Reason.TheVariants.{TooLong};
+ghost use Rattle.cbor_head.specs.declared.reason.Reason.TheVariants.{Memory, Read, Truncated, TooLong};
 ghost use Rattle.cbor_head.specs.declared.reason.Refusal.{Refusal};
 ghost use Rattle.cbor_reader.specs.Headline.{IsValidItem};
 ghost use Rattle.cbor_judging.specs.Readers.{BeginsWithCanonical, IsRead, IsUnread, Loses};
-ghost use Rattle.cbor_reader.specs.Sequence.{sequence_bytes, IsAccepted, StartsWithItems};
-ghost use Rattle.cbor_reader.specs.Sequence.{IsLongestSequence, EndsBefore, IsAtEnd, IsRefused};
-ghost use Rattle.cbor_reader.specs.Sequence.{IsTaken};
+ghost use Rattle.cbor_reader.specs.Sequence.{sequence_bytes, IsAccepted, StartsWithItems, IsLongestSequence, EndsBefore, IsAtEnd, IsRefused, IsTaken};
 ghost use Rattle.cbor_reader.specs.Sequence.{Given, given_by, items_of, AreGivenBy, HasGiven};
 
 /// The items of a sequence: by the plain rules the valid items within the limits; by the strict

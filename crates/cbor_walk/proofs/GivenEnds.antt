@@ -56,8 +56,11 @@ module _ (S : Type 0) (stands : S → S → Standing → Type 0) (trusts : Bool)
     settle-here : (ls : List Level) → levels-with ls → IsSettled ls (settle ls h.item)
     settle-here ls k = settled Bytewise d ls h.item k.0 k.1 (short ls k.4)
 
+    ended : levels-with h.ls
+    ended = (h.levels, record { spelled = h.spelled; within = h.within; clean = h.given.0 }, h.cells, h.given.1, h.bytes)
+
     pub goes : (new : Open) → after c ≡ Some new → IsDue S stands trusts start d input (new ∷ cs) g rest
-    goes new e = go h.ls (h.levels, h.taken, h.cells, h.given, h.bytes)
+    goes new e = go h.ls ended
       where
         on : (l : Level) (ls : List Level) (k : levels-with (l ∷ ls)) → after (cell_of (behind_head (length input) ls l) l) ≡ Some new
         on l ls k = ap after (sym (cell-is (length input) l ls k.2)) ∙ e
@@ -116,7 +119,7 @@ module _ (S : Type 0) (stands : S → S → Standing → Type 0) (trusts : Bool)
           })
 
       pub is-full : after c ≡ None → HasFilled S stands trusts start d input (new ∷ cs) g rest
-      is-full e = go h.ls (h.levels, h.taken, h.cells, h.given, h.bytes)
+      is-full e = go h.ls ended
         where
           go : (ls : List Level) → levels-with ls → HasFilled S stands trusts start d input (new ∷ cs) g rest
           go [] k =

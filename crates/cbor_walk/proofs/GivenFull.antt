@@ -20,18 +20,8 @@ ended-kind l s e = absurd e
 module _ (S : Type 0) (stands : S → S → Standing → Type 0) (trusts : Bool) (start : S) (d : ℕ) (input : List ℕ) where
   -- of its item something else is known
   known-as : (P Q : List Level → Spelling → Type 0) (cs : List Open) (rest : List ℕ) → (s : IsFull S stands trusts P d input cs rest) → Q s.ls s.item → IsFull S stands trusts Q d input cs rest
-  known-as P Q cs rest s given = record {
-    ls = s.ls;
-    item = s.item;
-    levels = s.levels;
-    spelled = s.spelled;
-    within = s.within;
-    cells = s.cells;
-    given = given;
-    bytes = s.bytes;
-    small = s.small;
-    known = s.known;
-  }
+  known-as P Q cs rest s given =
+      record { ls = s.ls; item = s.item; levels = s.levels; spelled = s.spelled; within = s.within; cells = s.cells; given = given; bytes = s.bytes; small = s.small; known = s.known }
 
   fills-of : (P : List Level → Spelling → Type 0) (cs : List Open) (rest : List ℕ) → (s : IsFull S stands trusts P d input cs rest) → Fills trusts d s.ls s.item
   fills-of P cs rest s =
@@ -49,19 +39,7 @@ module _ (S : Type 0) (stands : S → S → Standing → Type 0) (trusts : Bool)
   container-full t cs g rest s = (start, d, s.ls, s.item, fills-of _ cs rest s, s.given)
 
   pub has-ended : (t : Bool) (cs : List Open) (g new : S) (rest : List ℕ) → IsToEnd S stands trusts t start d input cs g rest → Ends S stands trusts t g new → HasEnded S stands trusts start d input cs new rest
-  has-ended t cs g new rest s ends =
-      let e = ends start d s.ls s.item (fills-of _ cs rest s) s.given in
-      record {
-        ls = s.ls;
-        item = s.item;
-        levels = s.levels;
-        taken = record { spelled = s.spelled; within = s.within; clean = e.0 };
-        cells = s.cells;
-        given = e.1;
-        bytes = s.bytes;
-        small = s.small;
-        known = s.known;
-      }
+  has-ended t cs g new rest s ends = known-as _ _ cs rest s (ends start d s.ls s.item (fills-of _ cs rest s) s.given)
 
   -- ---- the one of this cell, within those around it
 

@@ -11,14 +11,15 @@ use Rattle.cbor_grammar.proofs.ByteLists.{bytes_front}
 use Rattle.cbor_judging.proofs.Heads.{open_or}
 use Rattle.cbor_judging.proofs.KindBytes.{head_is_one, string_is_one}
 use Rattle.cbor_judging.specs.Kinds.{IsOfOneHead}
-use Rattle.cbor_judging.specs.Levels.{IsTaken, IsOpened, Level, a_member, a_key, some_member, some_key, tagged, level_bytes}
+use Rattle.cbor_judging.specs.Levels.{IsTaken, IsOpened, Level, IsLevel, a_member, a_key, some_member, some_key, tagged, level_bytes}
 use Rattle.cbor_judging.proofs.Levels.{of-opened}
 use Rattle.cbor_judging.specs.Reading.{string_major, string_value}
 use Rattle.cbor_grammar.specs.Argument.{IsArgument}
 use Rattle.cbor_judging.proofs.Arguments.{low_bits, spells}
 use Rattle.cbor_walk.specs.Sink.{leaf_value}
-use Rattle.cbor_walk.specs.inner.Open.{counted, endless, opener}
+use Rattle.cbor_walk.specs.inner.Open.{counted, endless, opener, cell_of}
 use Rattle.cbor_walk.specs.inner.Parts.{IsHead, IsOpener, IsPayload, Counts}
+use Rattle.cbor_walk.specs.declared.open.Open.{Open}
 use Rattle.cbor_front.specs.declared.level.Due.{Due}
 use Rattle.cbor_front.specs.declared.level.Due.TheVariants.{Item, Key}
 
@@ -88,56 +89,47 @@ scalar-string t n size rest behind h p are =
 
 -- ---- openers
 
-from-none : (n : ℕ) → 0 < n → 0 + suc (n - 1) ≡ n
-from-none n some = omega (arith, some)
-
 head-some : (m : Major) (w : Width) (n : ℕ) (xs : List ℕ) → 0 < length (head m w n ++ xs)
 head-some m w n xs = omega (arith, length_head m w n, length-append (head m w n) xs)
 
-pub head-opens : (m : Major) (n : ℕ) (due : Due) (rest behind : List ℕ) → Counts m due → 0 < n → IsHead m n rest behind → IsOpener m n (counted due (n - 1) (length behind)) rest behind
-head-opens majors.Array n Item rest behind k some h =
-    let e = from-none n some in
+counted-opens : (m : Major) (n : ℕ) (l : Level) (c : Open) (rest behind : List ℕ) (h : IsHead m n rest behind) → 0 < n → level_bytes l ≡ head m h.width (0 + suc (n - 1)) ++ [] → ((d : ℕ) → Holds h.width (0 + suc (n - 1)) → IsLevel d l)
+    → c ≡ cell_of (length behind) l → IsOpened m n l → IsOpener m n c rest behind
+counted-opens m n l c rest behind h some whole fresh is opened =
+    let e : 0 + suc (n - 1) ≡ n = omega (arith, some) in
     record {
-      level = a_member h.width (n - 1) no_spellings;
-      fresh = λ d. (subst (Holds h.width) (sym e) h.holds, tt);
-      cell = refl;
-      opened = inl (h.width, n - 1, refl);
-      some = head-some majors.Array h.width (0 + suc (n - 1)) [];
-      is = h.is ∙ ap (λ (x : List ℕ). x ++ behind) (ap (head majors.Array h.width) (sym e) ∙ sym (append-nil (head majors.Array h.width (0 + suc (n - 1)))));
+      level = l;
+      fresh = λ d. fresh d (subst (Holds h.width) (sym e) h.holds);
+      cell = is;
+      opened = opened;
+      some = omega (arith, ap length whole, head-some m h.width (0 + suc (n - 1)) []);
+      is = h.is ∙ ap (λ (x : List ℕ). x ++ behind) (ap (head m h.width) (sym e) ∙ sym (append-nil (head m h.width (0 + suc (n - 1)))) ∙ sym whole);
     }
-head-opens majors.Map n Key rest behind k some h =
-    let e = from-none n some in
-    record {
-      level = a_key h.width (n - 1) no_entries;
-      fresh = λ d. (subst (Holds h.width) (sym e) h.holds, tt);
-      cell = refl;
-      opened = inl (h.width, n - 1, refl);
-      some = head-some majors.Map h.width (0 + suc (n - 1)) [];
-      is = h.is ∙ ap (λ (x : List ℕ). x ++ behind) (ap (head majors.Map h.width) (sym e) ∙ sym (append-nil (head majors.Map h.width (0 + suc (n - 1)))));
-    }
-head-opens _ n _ rest behind k some h = absurd k
+
+pub head-opens : (m : Major) (n : ℕ) (due : Due) (c : Open) (rest behind : List ℕ) → Counts m due → 0 < n → c ≡ counted due (n - 1) (length behind) → IsHead m n rest behind → IsOpener m n c rest behind
+head-opens majors.Array n Item c rest behind k some is h = counted-opens majors.Array n (a_member h.width (n - 1) no_spellings) c rest behind h some refl (λ d f. (f, tt)) is (inl (h.width, n - 1, refl))
+head-opens majors.Map n Key c rest behind k some is h = counted-opens majors.Map n (a_key h.width (n - 1) no_entries) c rest behind h some refl (λ d f. (f, tt)) is (inl (h.width, n - 1, refl))
+head-opens _ n _ c rest behind k some is h = absurd k
 
 pub counts-container : (m : Major) (due : Due) → Counts m due → IsContainer m
 counts-container majors.Array due k = tt
 counts-container majors.Map due k = tt
-counts-container majors.Tag due k = tt
 counts-container _ due k = absurd k
 
-pub tag-opens : (n : ℕ) (rest behind : List ℕ) → IsHead majors.Tag n rest behind → IsOpener majors.Tag n (counted Item 0 (length behind)) rest behind
-tag-opens n rest behind h = record {
+pub tag-opens : (n : ℕ) (c : Open) (rest behind : List ℕ) → c ≡ counted Item 0 (length behind) → IsHead majors.Tag n rest behind → IsOpener majors.Tag n c rest behind
+tag-opens n c rest behind is h = record {
   level = tagged h.width n;
   fresh = λ d. h.holds;
-  cell = refl;
+  cell = is;
   opened = (h.width, refl);
   some = subst (λ (x : List ℕ). 0 < length x) (append-nil (head majors.Tag h.width n)) (head-some majors.Tag h.width n []);
   is = h.is;
 }
 
-pub array-opens : (behind : List ℕ) → IsOpener majors.Array 0 (endless Item (length behind)) (0x9f ∷ behind) behind
-array-opens behind = record { level = some_member no_spellings; fresh = λ d. tt; cell = refl; opened = inr refl; some = omega arith; is = refl }
+pub array-opens : (first : ℕ) (c : Open) (behind : List ℕ) → first ≡ 0x9f → c ≡ endless Item (length behind) → IsOpener majors.Array 0 c (first ∷ behind) behind
+array-opens first c behind f e = record { level = some_member no_spellings; fresh = λ d. tt; cell = e; opened = inr refl; some = omega arith; is = ap (λ (x : ℕ). x ∷ behind) f }
 
-pub map-opens : (behind : List ℕ) → IsOpener majors.Map 0 (endless Key (length behind)) (0xbf ∷ behind) behind
-map-opens behind = record { level = some_key no_entries; fresh = λ d. tt; cell = refl; opened = inr refl; some = omega arith; is = refl }
+pub map-opens : (first : ℕ) (c : Open) (behind : List ℕ) → first ≡ 0xbf → c ≡ endless Key (length behind) → IsOpener majors.Map 0 c (first ∷ behind) behind
+map-opens first c behind f e = record { level = some_key no_entries; fresh = λ d. tt; cell = e; opened = inr refl; some = omega arith; is = ap (λ (x : ℕ). x ∷ behind) f }
 
 -- nothing else is there yet
 pub opener-whole : (m : Major) (n : ℕ) (l : Level) → IsOpened m n l → level_bytes l ≡ opener l

@@ -99,13 +99,11 @@ pub basic-front : (s : Spelling) → IsSpelled s → (x y z rest : List ℕ) →
 basic-front s h [] y z rest e f fit = tt
 basic-front s h (b ∷ x) y z rest e f fit = elim (subst IsFitFront f fit) [ inl k ↦ k | inr k ↦ absurd (no_break s h (x ++ z) (e ∙ ap (λ (c : ℕ). c ∷ (x ++ z)) k)) ]
 
-module _ (S : Type 0) (stands : S → S → Standing → Type 0) (trusts : Bool) (start : S) (d : ℕ) (input : List ℕ) (keys : Keys) where
-  -- before the first part
-  pub starts-kept : KeepsBefore d keys input input
-  starts-kept = λ t e.
-      let none : t ≡ [] = nil_from_length t (omega (arith, ap length e, length-append t input)) in
-      subst (KeepsToKinds (with_keys (bounds d 0) keys) plain) (sym none) (keeps_start (with_keys (bounds d 0) keys) plain)
+-- before the first part
+pub starts-kept : (d : ℕ) (input : List ℕ) (keys : Keys) → KeepsBefore d keys input input
+starts-kept d input keys = λ t e. subst (KeepsToKinds (with_keys (bounds d 0) keys) plain) (sym (nil_from_length t (omega (arith, ap length e, length-append t input)))) (keeps_start (with_keys (bounds d 0) keys) plain)
 
+module _ (S : Type 0) (stands : S → S → Standing → Type 0) (trusts : Bool) (start : S) (d : ℕ) (input : List ℕ) (keys : Keys) where
   -- behind an item that begins within them
   pub begun-keeps : (k : Stack Open) (cells : List Open) (g : S) (rest behind : List ℕ) → k.height ≤ length cells → IsDue S stands trusts start d input (standing Open k cells) g rest → HasBegun (d - k.height) rest behind → (k.top.due ≡ Key → IsFitFront rest)
       → KeepsBefore d keys input rest → KeepsBefore d keys input behind

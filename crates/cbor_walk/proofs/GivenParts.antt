@@ -1,5 +1,5 @@
 -- A valid item, part by part, given to a sink: where the walk stands behind what a sink took.
-use Rattle.std.proofs.Common.{◌≡◌, ℕ, Bool, true, false, suc, ◌-◌, ◌^◌, ◌<◌, List, [], ◌∷◌, ◌++◌, length, take, refl, sym, ap, ap₂, ◌∙◌, subst, arith, inl, inr, append_assoc, append-nil, reverse, length-append}
+use Rattle.std.proofs.Common.{◌≡◌, ℕ, Bool, true, suc, ◌-◌, ◌^◌, ◌<◌, List, [], ◌∷◌, ◌++◌, length, take, refl, sym, ap, ap₂, ◌∙◌, subst, arith, inl, inr, append_assoc, append-nil, reverse, length-append}
 use Rattle.cbor_head.specs.Prelude.{plain, Holds, head, Bounds, Spelling, array, a_map, no_spellings, no_entries, spell, Value}
 use Rattle.cbor_head.specs.declared.major.Major.{Major}
 use Rattle.cbor_head.specs.declared.major.Major.TheVariants as majors
@@ -12,14 +12,14 @@ use Rattle.cbor_judging.proofs.Heads.{open_or}
 use Rattle.cbor_judging.proofs.Items.{is-definite}
 use Rattle.cbor_judging.proofs.Levels.{clean-anywhere, no-count}
 use Rattle.cbor_judging.proofs.Loops.{array_bytes-whole, map_bytes-whole}
-use Rattle.cbor_judging.specs.Levels.{IsTaken, Level, a_member, some_member, some_key, AreLevels, level_bytes, bytes_before, Standing, item_due, settle}
+use Rattle.cbor_judging.specs.Levels.{IsTaken, Level, a_member, some_member, some_key, level_bytes, bytes_before, Standing, item_due, settle}
 use Rattle.cbor_front.specs.Due.{awaits}
 use Rattle.cbor_front.specs.Stack.{standing}
 use Rattle.cbor_front.specs.declared.level.Due.{Due}
 use Rattle.cbor_front.specs.declared.level.Due.TheVariants.{Item, Key}
 use Rattle.cbor_front.specs.declared.stack.Stack.{Stack}
-use Rattle.cbor_walk.specs.Sink.{takes_key, key_due, Completes, IsEndedAs, IsItemDue, Gives, Opens, IsKnownValid, IsGivenFront}
-use Rattle.cbor_walk.specs.inner.Building.{BeginsTaken, IsDue, HasEnded, IsToEnd, IsBuilt, IsDueFor}
+use Rattle.cbor_walk.specs.Sink.{takes_key, key_due, Completes, IsItemDue, Gives, Opens, IsKnownValid, IsGivenFront}
+use Rattle.cbor_walk.specs.inner.Building.{BeginsTaken, IsDue, HasEnded, IsFull, IsToEnd, IsBuilt, IsDueFor}
 use Rattle.cbor_walk.specs.inner.Open.{counted, opener, behind_head, cell_of, cells_of}
 use Rattle.cbor_walk.specs.inner.Parts.{IsHead, IsOpener, Counts}
 use Rattle.cbor_walk.specs.declared.open.Open.{Open}
@@ -92,16 +92,16 @@ module _ (S : Type 0) (stands : S → S → Standing → Type 0) (trusts : Bool)
     height-is cs g rest s = ap length s.cells ∙ cells-count (length input) s.ls
 
     module _ (cs : List Open) (g : S) (rest : List ℕ) (s : IsDue S stands trusts start d input cs g rest) where
-      -- an item is taken
-      item-ends : (item : Spelling) (behind : List ℕ) (new : S) → IsTaken (d - length s.ls) item → rest ≡ spell item ++ behind → stands start new (settle s.ls item)
-          → (length behind < length rest) × HasEnded S stands trusts start d input cs new behind
-      item-ends item behind new i e given = (
+      -- an item is taken, of which this is known
+      taken-so : (P : List Level → Spelling → Type 0) (item : Spelling) (behind : List ℕ) → IsTaken (d - length s.ls) item → rest ≡ spell item ++ behind → P s.ls item → (length behind < length rest) × IsFull S stands trusts P d input cs behind
+      taken-so P item behind i e given = (
         omega (arith, ap length e, length-append (spell item) behind, length_spell item),
         record {
           ls = s.ls;
           item = item;
           levels = s.levels;
-          taken = i;
+          spelled = i.spelled;
+          within = i.within;
           cells = s.cells;
           given = given;
           bytes = s.bytes ∙ ap (λ (x : List ℕ). bytes_before s.ls ++ x) e ∙ sym (append_assoc (bytes_before s.ls) (spell item) behind);
@@ -120,7 +120,7 @@ module _ (S : Type 0) (stands : S → S → Standing → Type 0) (trusts : Bool)
 
       -- one that the sink may take in several parts
       pub scalar-settles : (behind : List ℕ) (v : Value) (new : S) → (i : IsScalar rest behind v) → (Completes d s.ls i.item → stands start new (settle s.ls i.item)) → (length behind < length rest) × HasEnded S stands trusts start d input cs new behind
-      scalar-settles behind v new i settles = item-ends i.item behind new (i.taken (d - length s.ls)) i.is (settles (completes i.item behind (i.taken (d - length s.ls)) i.is))
+      scalar-settles behind v new i settles = let taken = i.taken (d - length s.ls) in taken-so _ i.item behind taken i.is (taken.clean, settles (completes i.item behind taken i.is))
 
       pub scalar-ends : (behind : List ℕ) (v : Value) (new : S) (k : Bool) → k ≡ key_due s.ls → IsScalar rest behind v → Gives S stands k v g new → (length behind < length rest) × HasEnded S stands trusts start d input cs new behind
       scalar-ends behind v new k told i gives = scalar-settles behind v new i (λ c. gives start d s.ls i.item (s.given, told) c i.value_is)
@@ -144,25 +144,6 @@ module _ (S : Type 0) (stands : S → S → Standing → Type 0) (trusts : Bool)
             },
           )
 
-      -- one without a length, of which the bytes are the whole
-      to-end : (t : Bool) (l : Level) (item : Spelling) (behind : List ℕ) (new : S) → t ≡ takes_key l → stands start new (item_due (l ∷ s.ls)) → AreLevels d (l ∷ s.ls) → IsEndedAs l item → IsTaken (d - length s.ls) item → rest ≡ spell item ++ behind
-          → (length behind < length rest) × IsToEnd S stands trusts t start d input cs new behind
-      to-end t l item behind new told given levels ended i e = (
-        omega (arith, ap length e, length-append (spell item) behind, length_spell item),
-        record {
-          ls = s.ls;
-          item = item;
-          levels = s.levels;
-          spelled = i.spelled;
-          within = i.within;
-          cells = s.cells;
-          given = inr (l, ended, levels, (given, told));
-          bytes = s.bytes ∙ ap (λ (x : List ℕ). bytes_before s.ls ++ x) e ∙ sym (append_assoc (bytes_before s.ls) (spell item) behind);
-          small = s.small;
-          known = s.known;
-        },
-      )
-
       -- one that is empty
       pub empty-ends : (m : Major) (due : Due) (n : ℕ) (behind : List ℕ) (new : S) (t : Bool) → t ≡ key_due s.ls → length s.ls < d → Counts m due → n ≡ 0 → IsHead m n rest behind → Opens S stands t m 0 g new
           → (length behind < length rest) × IsToEnd S stands trusts (awaits due) start d input cs new behind
@@ -170,14 +151,14 @@ module _ (S : Type 0) (stands : S → S → Standing → Type 0) (trusts : Bool)
           let w = h.width in
           let holds : Holds w 0 = subst (Holds w) none h.holds in
           let whole : spell (array w no_spellings) ≡ head majors.Array w n = array_bytes-whole w 0 no_spellings (closes w (is-definite w 0 holds)) refl ∙ append-nil (head majors.Array w 0) ∙ ap (head majors.Array w) (sym none) in
-          to-end false (some_member no_spellings) (array w no_spellings) behind new refl (opens start s.ls (some_member no_spellings) (s.given, told) (inr refl)) (room, tt, s.levels) refl
+          taken-so _ (array w no_spellings) behind
           (record { spelled = (open_or w 0 holds, tt); within = omega (arith, room); clean = λ at c x. elim x [ inl y ↦ no-count at majors.Array w 0 c y | inr y ↦ y ] })
-          (h.is ∙ ap (λ (x : List ℕ). x ++ behind) (sym whole))
+          (h.is ∙ ap (λ (x : List ℕ). x ++ behind) (sym whole)) (inr (some_member no_spellings, refl, (room, tt, s.levels), (opens start s.ls (some_member no_spellings) (s.given, told) (inr refl), refl)))
       empty-ends majors.Map Key n behind new t told room k none h opens =
           let w = h.width in
           let holds : Holds w 0 = subst (Holds w) none h.holds in
           let whole : spell (a_map w no_entries) ≡ head majors.Map w n = map_bytes-whole w 0 no_entries (closes w (is-definite w 0 holds)) refl ∙ append-nil (head majors.Map w 0) ∙ ap (head majors.Map w) (sym none) in
-          to-end true (some_key no_entries) (a_map w no_entries) behind new refl (opens start s.ls (some_key no_entries) (s.given, told) (inr refl)) (room, tt, s.levels) refl
+          taken-so _ (a_map w no_entries) behind
           (record { spelled = (open_or w 0 holds, tt); within = omega (arith, room); clean = λ at c x. elim x [ inl y ↦ no-count at majors.Map w 0 c y | inr y ↦ y ] })
-          (h.is ∙ ap (λ (x : List ℕ). x ++ behind) (sym whole))
+          (h.is ∙ ap (λ (x : List ℕ). x ++ behind) (sym whole)) (inr (some_key no_entries, refl, (room, tt, s.levels), (opens start s.ls (some_key no_entries) (s.given, told) (inr refl), refl)))
       empty-ends _ _ n behind new t told room k none h opens = absurd k

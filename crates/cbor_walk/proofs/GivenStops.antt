@@ -23,7 +23,7 @@ use Rattle.cbor_walk.specs.declared.building.Met.TheVariants as met
 use Rattle.cbor_walk.specs.declared.open.Open.{Open}
 use Rattle.cbor_walk.proofs.GivenKinds.{asked-kinds}
 use Rattle.cbor_walk.proofs.GivenParts.{cells-count}
-use Rattle.cbor_walk.proofs.LevelPaths.{paths_of, paths_length, paths_bytes, paths_clean, path_due, due_path, breaks_path}
+use Rattle.cbor_walk.proofs.LevelPaths.{paths_of, paths_length, paths_bytes, paths_clean, path_due, breaks_path}
 
 -- that kinds are asked for, and a key is due
 pub record IsAsked (limits : Bounds) (due : Due) (is_key : Bool) : Type 0 where
@@ -84,10 +84,11 @@ module _ (S : Type 0) (stands : S → S → Standing → Type 0) (trusts : Bool)
         let whole : path.bytes_before ps ++ rest.now ≡ input = ap (λ (x : List ℕ). x ++ rest.now) same ∙ sym come.bytes in
         let count = paths_length ls in
         let height : length ls ≡ k.height = omega (arith, standing_count Open k cells low, ap length come.cells, cells-count (length input) ls) in
+        let due = path_due (length input) k.top (around Open k cells) ls come.cells in
         let found = fault limits ps (paths_clean order limits.depth ls come.levels short different)
         (λ b. let may = breaks_path (length input) k.top (around Open k cells) limits.depth ls come.levels come.cells b in breaks may.0 may.1)
         (subst (KeepsToKinds limits plain) (sym same) (kept-before m rest limits input stops kept (bytes_before ls) come.bytes))
-        (record { both = λ e. let both = asked.both e in (both.0, path_due (length input) k.top (around Open k cells) ls come.cells both.1); none = λ e kinds there. asked.none e kinds.1 (due_path (length input) k.top (around Open k cells) ls come.cells there) })
+        (record { both = λ e. let both = asked.both e in (both.0, due.0 both.1); none = λ e kinds there. asked.none e kinds.1 (due.1 there) })
         (record {
           here = here ∙ omega (arith, ap length come.bytes, size) ∙ ap length (sym same);
           fits = λ r. let below = ltb-true k.height limits.depth (sym roomy ∙ r) in omega (arith, below, count, height);

@@ -31,6 +31,10 @@ looked-through : (trusts t : Bool) (n size : ℕ) (bytes : List ℕ) → IsPaylo
 looked-through false t n size bytes p known = p
 looked-through true t n size bytes p known = record { all = p.all; inside = p.inside; utf8 = λ _ e. decided (take n bytes) (known refl e) }
 
+-- by its size
+pub sized : (t : Bool) (n size : ℕ) (bytes : List ℕ) → IsPayload false t n size bytes → (size ≤ length bytes) × (t ≡ true → IsUtf8 (take size bytes))
+sized t n size bytes p = subst (λ (k : ℕ). (k ≤ length bytes) × (t ≡ true → IsUtf8 (take k bytes))) (sym p.all) (p.inside, p.utf8 refl)
+
 module _ (S : Type 0) (stands : S → S → Standing → Type 0) (trusts : Bool) (P : List Level → Type 0) (d : ℕ) (input : List ℕ) (cs : List Open) where
   -- nothing in front has a complaint
   never-refused : (rest : List ℕ) (s : StandsBefore S stands trusts P d input cs rest) → trusts ≡ true → (p after : List ℕ) → rest ≡ p ++ after → (c : Complaint) → IsJudged plain (length (bytes_before s.ls)) (d - length s.ls) p (Some c) → ⊥

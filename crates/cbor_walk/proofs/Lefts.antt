@@ -32,11 +32,9 @@ module _ (x : ℕ) (bytes : List ℕ) (e : ℕ) (c : Open) (S : Type 0) (stands 
   same-takes p q t f l = absurd l
 
   pub same-front : (p q : Part) → TakesTo S stands trusts holds p start d input (x ∷ bytes) cs g → TakesFront p e c (x ∷ bytes) → Leaves bytes (left_of p) q → TakesFront q e c (x ∷ bytes)
-  same-front (part.Item b) (part.Item b') t f l =
-      subst (λ (xs : List ℕ). HasBegun e (x ∷ bytes) xs) (sym (l ∙ behind-is x bytes f.front b.now f.is t.0)) f
-  same-front (part.Head b) (part.Head b') t f l =
-      subst (λ (xs : List ℕ). HasBegun e (x ∷ bytes) xs) (sym (l ∙ behind-is x bytes f.front b.now f.is t.0)) f
-  same-front (part.Break b) (part.Break b') t f l = subst (λ (xs : List ℕ). HasBroken c (x ∷ bytes) xs) (sym (l ∙ behind-is x bytes (0xff ∷ []) b.now f.is t.0)) f
+  same-front (part.Item b) (part.Item b') t f l = subst (HasBegun e (x ∷ bytes)) (sym (l ∙ behind-is x bytes f.front b.now f.is t.0)) f
+  same-front (part.Head b) (part.Head b') t f l = subst (HasBegun e (x ∷ bytes)) (sym (l ∙ behind-is x bytes f.front b.now f.is t.0)) f
+  same-front (part.Break b) (part.Break b') t f l = subst (HasBroken c (x ∷ bytes)) (sym (l ∙ behind-is x bytes (0xff ∷ []) b.now f.is t.0)) f
   same-front part.Untaken part.Untaken t f l = tt
   same-front part.Broken part.Broken t f l = tt
   same-front part.Stopped part.Stopped t f l = tt

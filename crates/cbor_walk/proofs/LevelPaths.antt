@@ -1,7 +1,7 @@
 -- The open containers of a valid item so far, of which no map has two keys that are the same, as the path to the item that is due.
-use Rattle.std.proofs.Common.{◌≡◌, ℕ, suc, ◌+◌, ◌-◌, ◌^◌, ◌<◌, true, List, [], ◌∷◌, ◌++◌, length, refl, sym, ap, ap₂, ◌∙◌, subst, inl, inr, arith, Option, Some, ◌≤◌, ◌≢◌, length-append}
+use Rattle.std.proofs.Common.{◌≡◌, ℕ, suc, ◌+◌, ◌-◌, ◌^◌, ◌<◌, true, List, [], ◌∷◌, ◌++◌, length, refl, sym, ap, ap₂, ◌∙◌, subst, inl, inr, arith, Option, Some, ◌≢◌, length-append}
 use Rattle.std.proofs.lemmas.List.{map-append}
-use Rattle.cbor_head.specs.Prelude.{Pair, canonical, canonical_entries, plain, Complaint, complaint, IsRepeated, OfKey, ComplainsInEntries, head, Spelling, SpelledEntries, no_entries, entry, spell, spell_entries, entries_count, HoldsOrIndefinite, value_of, entries_of, depth}
+use Rattle.cbor_head.specs.Prelude.{Pair, canonical, canonical_entries, plain, Complaint, complaint, IsRepeated, OfKey, ComplainsInEntries, head, Spelling, SpelledEntries, no_entries, entry, spell, spell_entries, entries_count, HoldsOrIndefinite, value_of, entries_of}
 use Rattle.cbor_head.specs.declared.major.Major.TheVariants as majors
 use Rattle.cbor_head.specs.declared.order.KeyOrder.{KeyOrder}
 use Rattle.cbor_head.specs.declared.reason.Reason.TheVariants.{RepeatedKey}
@@ -151,40 +151,30 @@ found_of_whole o d ls p found h small apart j =
     (judged_path plain d ps (paths_clean o d ls h small apart) p found
     (subst (λ (x : List ℕ). IsJudged plain (length x) (d - length ps) p found) (sym same) (subst (λ (n : ℕ). IsJudged plain (length (bytes_before ls)) (d - n) p found) (sym (paths_length ls)) j)))
 
+key_path : (l : Level) (es : SpelledEntries) → IsKeyBehind l es → (w : Width) × (left : ℕ) × (path_of l ≡ path.a_key w left es)
+key_path (a_key w left done) es e = (w, left, ap (path.a_key w left) (sym e))
+key_path (some_key done) es e = (Indefinite, 0, ap (path.a_key Indefinite 0) (sym e))
+key_path _ es e = absurd e
+
 -- a key that is the same as an earlier one is the first complaint
 pub repeat_of_whole : (o : KeyOrder) (d : ℕ) (ls : List Level) (l : Level) (es : SpelledEntries) → IsKeyBehind l es → AreLevels d (l ∷ ls) → length (bytes_before (l ∷ ls)) < 2 ^ 63 → AreOpenKeysDifferent (opens o (l ∷ ls))
     → (k : Spelling) → IsTaken (d - suc (length ls)) k → IsRepeated (keys_onto [] es) k
     → IsJudged plain 0 d (bytes_before (l ∷ ls) ++ spell k) (Some (complaint (length (bytes_before (l ∷ ls)) + length (spell k)) (length (bytes_before (l ∷ ls))) RepeatedKey))
-repeat_of_whole o d ls l es behind h small apart k i repeated = go l behind h small apart
-  where
-    within : (n : ℕ) → n ≡ length ls → depth k ≤ d - suc n
-    within n e = let low = i.within in omega (arith, low, e)
-
-    here : (w : Width) (left : ℕ) (m : Level) → path_of m ≡ path.a_key w left es → AreClean plain d (paths_of (m ∷ ls))
-        → IsJudged plain 0 d (bytes_before (m ∷ ls) ++ spell k) (Some (complaint (length (bytes_before (m ∷ ls)) + length (spell k)) (length (bytes_before (m ∷ ls))) RepeatedKey))
-    here w left m is clean =
-        let ps = paths_of ls in
-        let same : path.bytes_before (path.a_key w left es ∷ ps) ≡ bytes_before (m ∷ ls) = ap (λ (x : path.Level). path.bytes_before (x ∷ ps)) (sym is) ∙ paths_bytes (m ∷ ls) in
-        subst (λ (x : List ℕ). IsJudged plain 0 d (x ++ spell k) (Some (complaint (length x + length (spell k)) (length x) RepeatedKey))) same
-        (judged_key_path plain d w left es ps k _ (record { around = subst (λ (x : path.Level). AreClean plain d (x ∷ ps)) is clean; spelled = i.spelled; within = within (length ps) (paths_length ls); clean = i.clean _ }) (repeated, refl))
-
-    go : (m : Level) → IsKeyBehind m es → AreLevels d (m ∷ ls) → length (bytes_before (m ∷ ls)) < 2 ^ 63 → AreOpenKeysDifferent (opens o (m ∷ ls))
-        → IsJudged plain 0 d (bytes_before (m ∷ ls) ++ spell k) (Some (complaint (length (bytes_before (m ∷ ls)) + length (spell k)) (length (bytes_before (m ∷ ls))) RepeatedKey))
-    go (a_key w left done) e h small apart = here w left (a_key w left done) (ap (path.a_key w left) (sym e)) (paths_clean o d (a_key w left done ∷ ls) h small apart)
-    go (some_key done) e h small apart = here Indefinite 0 (some_key done) (ap (path.a_key Indefinite 0) (sym e)) (paths_clean o d (some_key done ∷ ls) h small apart)
-    go _ e h small apart = absurd e
+repeat_of_whole o d ls l es behind h small apart k i repeated =
+    let (w, left, is) = key_path l es behind in
+    let ps = paths_of ls in
+    let low = i.within in
+    let same : path.bytes_before (path.a_key w left es ∷ ps) ≡ bytes_before (l ∷ ls) = ap (λ (x : path.Level). path.bytes_before (x ∷ ps)) (sym is) ∙ paths_bytes (l ∷ ls) in
+    let around = subst (λ (x : path.Level). AreClean plain d (x ∷ ps)) is (paths_clean o d (l ∷ ls) h small apart) in
+    subst (λ (x : List ℕ). IsJudged plain 0 d (x ++ spell k) (Some (complaint (length x + length (spell k)) (length x) RepeatedKey))) same
+    (judged_key_path plain d w left es ps k _ (record { around = around; spelled = i.spelled; within = omega (arith, low, paths_length ls); clean = i.clean _ }) (repeated, refl))
 
 -- ---- what is due, by the cells
 
-level_due : (behind : ℕ) (l : Level) (ls : List path.Level) → (cell_of behind l).due ≡ Key → IsKeyDueIn (path_of l ∷ ls)
-level_due behind (a_key w left done) ls e = tt
-level_due behind (some_key done) ls e = tt
-level_due behind _ ls e = absurd (cc e)
-
-due_level : (behind : ℕ) (l : Level) (ls : List path.Level) → IsKeyDueIn (path_of l ∷ ls) → (cell_of behind l).due ≡ Key
-due_level behind (a_key w left done) ls h = refl
-due_level behind (some_key done) ls h = refl
-due_level behind _ ls h = absurd h
+level_due : (behind : ℕ) (l : Level) (ls : List path.Level) → ((cell_of behind l).due ≡ Key → IsKeyDueIn (path_of l ∷ ls)) × (IsKeyDueIn (path_of l ∷ ls) → (cell_of behind l).due ≡ Key)
+level_due behind (a_key w left done) ls = (λ e. tt, λ h. refl)
+level_due behind (some_key done) ls = (λ e. tt, λ h. refl)
+level_due behind _ ls = (λ e. absurd (cc e), λ h. absurd h)
 
 breaks_level : (behind d : ℕ) (l : Level) (ls : List path.Level) → IsLevel d l → MayBreak (path_of l ∷ ls) → ((cell_of behind l).is_endless ≡ true) × ((cell_of behind l).due ≢ Value)
 breaks_level behind d (some_member done) ls h b = (refl, λ e. cc e)
@@ -194,13 +184,12 @@ breaks_level behind d (a_key Indefinite left done) ls h b = absurd h.0
 breaks_level behind d _ ls h b = absurd b
 
 module _ (n : ℕ) (top : Open) (outer : List Open) where
-  pub path_due : (ls : List Level) → top ∷ outer ≡ cells_of n ls → top.due ≡ Key → IsKeyDueIn (paths_of ls)
-  path_due [] e due = let same : top ≡ counted Item 0 0 = cc in absurd (cc (ap (λ (x : Open). x.due) (sym same) ∙ due))
-  path_due (l ∷ ls) e due = level_due (behind_head n ls l) l (paths_of ls) (ap (λ (x : Open). x.due) (sym (cell-is n l ls e)) ∙ due)
-
-  pub due_path : (ls : List Level) → top ∷ outer ≡ cells_of n ls → IsKeyDueIn (paths_of ls) → top.due ≡ Key
-  due_path [] e h = absurd h
-  due_path (l ∷ ls) e h = ap (λ (x : Open). x.due) (cell-is n l ls e) ∙ due_level (behind_head n ls l) l (paths_of ls) h
+  pub path_due : (ls : List Level) → top ∷ outer ≡ cells_of n ls → (top.due ≡ Key → IsKeyDueIn (paths_of ls)) × (IsKeyDueIn (paths_of ls) → top.due ≡ Key)
+  path_due [] e = let same : top ≡ counted Item 0 0 = cc in (λ due. absurd (cc (ap (λ (x : Open). x.due) (sym same) ∙ due)), λ h. absurd h)
+  path_due (l ∷ ls) e =
+      let there = ap (λ (x : Open). x.due) (cell-is n l ls e) in
+      let both = level_due (behind_head n ls l) l (paths_of ls) in
+      (λ due. both.0 (sym there ∙ due), λ h. there ∙ both.1 h)
 
   pub breaks_path : (d : ℕ) (ls : List Level) → AreLevels d ls → top ∷ outer ≡ cells_of n ls → MayBreak (paths_of ls) → (top.is_endless ≡ true) × (top.due ≢ Value)
   breaks_path d [] h e b = absurd b

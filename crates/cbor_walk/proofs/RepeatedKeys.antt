@@ -1,17 +1,15 @@
 -- What is gone over to a key that is told, and its refusal.
 use Rattle.std.proofs.Common.{◌≡◌, ℕ, suc, ◌+◌, ◌-◌, ◌*◌, ◌^◌, ◌<◌, ◌≤◌, List, ◌∷◌, ◌++◌, length, take, drop, refl, sym, ap, ap₂, ◌∙◌, subst, arith, append_assoc, append-nil, length-append, take_all}
 use Rattle.std.proofs.Math.Seq.{drop-append-add}
-use Rattle.cbor_head.specs.Prelude.{plain, head, Bounds, Spelling, Spellings, SpelledEntries, no_spellings, a_spelling, no_entries, entry, spell, spell_all, spell_entries, spellings_count, entries_count, IsVerdict, refused, refusal}
-use Rattle.cbor_head.specs.declared.major.Major.TheVariants.{Map}
+use Rattle.cbor_head.specs.Prelude.{plain, Bounds, Spelling, Spellings, SpelledEntries, no_spellings, a_spelling, no_entries, entry, spell, spell_all, spell_entries, spellings_count, entries_count, IsVerdict, refused, refusal}
 use Rattle.cbor_head.specs.declared.reason.Reason.TheVariants.{RepeatedKey}
 use Rattle.cbor_head.specs.declared.reason.Refusal.{Refusal}
 use Rattle.cbor_grammar.proofs.ReadLaws.{length_spell}
-use Rattle.cbor_judging.specs.Levels.{IsTaken, AreTaken, ArePairsTaken, Level, a_key, some_key, level_bytes, bytes_before}
-use Rattle.cbor_walk.specs.Sink.{IsKeyBehind}
+use Rattle.cbor_judging.specs.Levels.{IsTaken, AreTaken, ArePairsTaken, bytes_before}
 use Rattle.cbor_walk.specs.inner.Open.{opener}
 use Rattle.cbor_walk.specs.inner.Repeated.{IsKeyTold}
 use Rattle.cbor_walk.specs.inner.Skip.{StandInFront}
-use Rattle.cbor_walk.proofs.Repeats.{pairs_taken}
+use Rattle.cbor_walk.proofs.Repeats.{pairs_taken, opened}
 use Rattle.cbor_walk.proofs.ToldMaps.{told_verdict}
 
 -- ---- pairs, as items
@@ -44,11 +42,6 @@ items_short no_entries = omega arith
 items_short (entry k v es) = omega (arith, items_short es, length_spell k, length_spell v, length-append (spell k ++ spell v) (spell_entries es), length-append (spell k) (spell v))
 
 -- ---- the input, from where the content of the map begins
-
-opened : (l : Level) (es : SpelledEntries) → IsKeyBehind l es → level_bytes l ≡ opener l ++ spell_entries es
-opened (a_key w left done) es e = ap (λ (x : SpelledEntries). head Map w (entries_count done + suc left) ++ spell_entries x) (sym e)
-opened (some_key done) es e = ap (λ (x : SpelledEntries). opener (some_key done) ++ spell_entries x) (sym e)
-opened _ es e = absurd e
 
 module _ (limits : Bounds) (input : List ℕ) (behind pair : ℕ) (h : IsKeyTold limits input behind pair) where
   abbrev head_before : List ℕ

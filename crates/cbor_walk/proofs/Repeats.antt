@@ -1,16 +1,16 @@
 -- A key that has the canonical bytes of an earlier one of its map is the same.
-use Rattle.std.proofs.Common.{ℕ, suc, ◌+◌, ◌-◌, ◌^◌, ◌<◌, ◌⊎◌, List, [], ◌∷◌, ◌++◌, length, sym, ap, subst, inl, inr, arith, length-append}
+use Rattle.std.proofs.Common.{◌≡◌, ℕ, suc, ◌+◌, ◌-◌, ◌^◌, ◌<◌, ◌⊎◌, List, [], ◌∷◌, ◌++◌, length, sym, ap, subst, inl, inr, arith, length-append}
 use Rattle.cbor_head.specs.Prelude.{canonical, canonical_entries, IsRepeated, head, Spelling, SpelledEntries, no_entries, entry, spell, spell_entries, entries_count, value_of, entries_of}
 use Rattle.cbor_head.specs.declared.major.Major.TheVariants as majors
 use Rattle.cbor_head.specs.declared.order.KeyOrder.{KeyOrder}
-use Rattle.cbor_head.specs.declared.width.Width.TheVariants.{Indefinite}
 use Rattle.cbor_builder.specs.Built.{HasKey}
 use Rattle.cbor_canonical.proofs.Keys.{same_exactly}
 use Rattle.cbor_canonical.proofs.Sound.{IsSound, sound}
 use Rattle.cbor_judging.specs.Frame.{keys_onto}
-use Rattle.cbor_judging.specs.Levels.{IsTaken, ArePairsTaken, Level, a_key, some_key, IsLevel, AreLevels, bytes_before}
+use Rattle.cbor_judging.specs.Levels.{IsTaken, ArePairsTaken, Level, a_key, some_key, IsLevel, AreLevels, level_bytes, bytes_before}
 use Rattle.cbor_judging.proofs.Valid.{in_range_of, valid_of}
 use Rattle.cbor_walk.specs.Sink.{IsKeyBehind}
+use Rattle.cbor_walk.specs.inner.Open.{opener}
 
 -- ---- by its canonical bytes
 
@@ -30,14 +30,10 @@ repeated_in o d (entry l v es) ks k h short s x =
       | inr y ↦ more (inr (inr y))
     ]
 
-pairs_short : (ls : List Level) (l : Level) (es : SpelledEntries) → IsKeyBehind l es → length (bytes_before (l ∷ ls)) < 2 ^ 63 → length (spell_entries es) < 2 ^ 64
-pairs_short ls (a_key w left done) es e h =
-    let hd = head majors.Map w (entries_count done + suc left) in
-    omega (arith, h, ap (λ (x : SpelledEntries). length (spell_entries x)) e, length-append (bytes_before ls) (hd ++ spell_entries done), length-append hd (spell_entries done))
-pairs_short ls (some_key done) es e h =
-    let hd = head majors.Map Indefinite 0 in
-    omega (arith, h, ap (λ (x : SpelledEntries). length (spell_entries x)) e, length-append (bytes_before ls) (hd ++ spell_entries done), length-append hd (spell_entries done))
-pairs_short ls _ es e h = absurd e
+pub opened : (l : Level) (es : SpelledEntries) → IsKeyBehind l es → level_bytes l ≡ opener l ++ spell_entries es
+opened (a_key w left done) es e = ap (λ (x : SpelledEntries). head majors.Map w (entries_count done + suc left) ++ spell_entries x) (sym e)
+opened (some_key done) es e = ap (λ (x : SpelledEntries). opener (some_key done) ++ spell_entries x) (sym e)
+opened _ es e = absurd e
 
 pub pairs_taken : (d : ℕ) (l : Level) (es : SpelledEntries) → IsKeyBehind l es → IsLevel d l → ArePairsTaken d es
 pairs_taken d (a_key w left done) es e h = subst (ArePairsTaken d) (sym e) h.1
@@ -50,4 +46,4 @@ pub repeated_by_bytes : (o : KeyOrder) (d e : ℕ) (ls : List Level) (l : Level)
 repeated_by_bytes o d e ls l es behind levels short k i key_short held =
     let left = d - suc (length ls) in
     let sound_k = sound (value_of k) (in_range_of k i.spelled (omega (arith, key_short))) (valid_of k 0 (i.clean 0)) in
-    repeated_in o left es [] k (pairs_taken left l es behind levels.1) (pairs_short ls l es behind short) sound_k (inl held)
+    repeated_in o left es [] k (pairs_taken left l es behind levels.1) (omega (arith, short, ap length (opened l es behind), length-append (bytes_before ls) (level_bytes l), length-append (opener l) (spell_entries es))) sound_k (inl held)

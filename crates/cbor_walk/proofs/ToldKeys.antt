@@ -7,7 +7,7 @@ use Rattle.cbor_head.specs.Prelude.{Pair, canonical, canonical_entries, Holds, h
 use Rattle.cbor_head.specs.declared.major.Major.TheVariants as majors
 use Rattle.cbor_head.specs.declared.order.KeyOrder.{KeyOrder}
 use Rattle.cbor_head.specs.declared.width.Width.{Width}
-use Rattle.cbor_head.specs.declared.width.Width.TheVariants.{Direct, One, Two, Four, Eight, Indefinite}
+use Rattle.cbor_head.specs.declared.width.Width.TheVariants.{Indefinite}
 use Rattle.cbor_builder.specs.Built.{HasKey, keys_so_far, IsFirstRepeat, AreAllDifferent}
 use Rattle.cbor_judging.specs.Given.{level_open}
 use Rattle.cbor_judging.specs.Levels.{IsTaken, ArePairsTaken, Level, a_key, a_value, some_key, some_value, level_bytes, IsLevel}
@@ -118,8 +118,9 @@ record IsDueBehind (o : KeyOrder) (d : ℕ) (opening : List ℕ) (es : SpelledEn
   keys_are : keys_so_far (level_open o level) ≡ keys o es
   bytes_are : level_bytes level ≡ opening ++ spell_entries es
 
-due_definite : (o : KeyOrder) (d : ℕ) (w : Width) (n : ℕ) → Holds w n → (es : SpelledEntries) → entries_count es < n → ArePairsTaken d es → IsDueBehind o d (head majors.Map w n) es
-due_definite o d w n h es l taken =
+due_in : (o : KeyOrder) (d : ℕ) (w : Width) (n : ℕ) → HoldsOrIndefinite w n → (es : SpelledEntries) → entries_count es < n → ArePairsTaken d es → IsDueBehind o d (head majors.Map w n) es
+due_in o d Indefinite n h es l taken = record { level = some_key es; is_behind = refl; begins = refl; holds = taken; keys_are = refl; bytes_are = refl }
+due_in o d w n h es l taken =
     let left = n - suc (entries_count es) in
     let count : entries_count es + suc left ≡ n = omega (arith, l) in
     record {
@@ -130,17 +131,6 @@ due_definite o d w n h es l taken =
       keys_are = refl;
       bytes_are = ap (λ (m : ℕ). head majors.Map w m ++ spell_entries es) count;
     }
-
-due_indefinite : (o : KeyOrder) (d n : ℕ) (es : SpelledEntries) → entries_count es < n → ArePairsTaken d es → IsDueBehind o d (head majors.Map Indefinite n) es
-due_indefinite o d n es l taken = record { level = some_key es; is_behind = refl; begins = refl; holds = taken; keys_are = refl; bytes_are = refl }
-
-due_in : (o : KeyOrder) (d : ℕ) (w : Width) (n : ℕ) → HoldsOrIndefinite w n → (es : SpelledEntries) → entries_count es < n → ArePairsTaken d es → IsDueBehind o d (head majors.Map w n) es
-due_in o d Indefinite n h = due_indefinite o d n
-due_in o d Direct n h = due_definite o d Direct n h
-due_in o d One n h = due_definite o d One n h
-due_in o d Two n h = due_definite o d Two n h
-due_in o d Four n h = due_definite o d Four n h
-due_in o d Eight n h = due_definite o d Eight n h
 
 module _ (o : KeyOrder) (d : ℕ) (w : Width) (n : ℕ) (holds : HoldsOrIndefinite w n) where
   -- behind these pairs

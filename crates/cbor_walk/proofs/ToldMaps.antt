@@ -1,5 +1,5 @@
 -- The open map with a key that is the same as an earlier one, and the verdict.
-use Rattle.std.proofs.Common.{◌≡◌, ℕ, suc, ◌+◌, ◌-◌, ◌^◌, ◌<◌, ◌≤◌, true, List, [], ◌∷◌, ◌++◌, length, take, refl, sym, ap, ◌∙◌, subst, inl, inr, arith, append_assoc, append-nil, ◌⊎◌, length-append}
+use Rattle.std.proofs.Common.{◌≡◌, ℕ, suc, ◌+◌, ◌-◌, ◌^◌, ◌<◌, ◌≤◌, true, List, [], ◌∷◌, ◌++◌, length, take, refl, sym, ap, ◌∙◌, subst, inl, inr, arith, append_assoc, ◌⊎◌, length-append}
 use Rattle.cbor_head.specs.Prelude.{IsBeginning, plain, complaint, Bounds, Spelling, a_map, spell, IsSpelled, depth, IsVerdict, refused, refusal}
 use Rattle.cbor_head.specs.declared.order.KeyOrder.{KeyOrder}
 use Rattle.cbor_head.specs.declared.reason.Reason.TheVariants.{RepeatedKey}
@@ -7,7 +7,7 @@ use Rattle.cbor_builder.specs.Built.{keys_so_far, IsFirstRepeat, AreOpenKeysDiff
 use Rattle.cbor_builder.specs.declared.repeat.Repeat.{Repeat}
 use Rattle.cbor_judging.specs.Given.{level_open, opens, full_open}
 use Rattle.cbor_judging.specs.Kinds.{KeepsToKinds}
-use Rattle.cbor_judging.specs.Levels.{Level, a_member, a_key, a_value, some_member, some_key, some_value, tagged, level_bytes, AreLevels, bytes_before}
+use Rattle.cbor_judging.specs.Levels.{Level, a_member, some_member, tagged, level_bytes, AreLevels, bytes_before}
 use Rattle.cbor_judging.proofs.KindFrames.{keeps_front}
 use Rattle.cbor_judging.proofs.LevelFrames.{begins_so_far, begins_before}
 use Rattle.cbor_judging.proofs.PathVerdict.{complaint_stops}
@@ -19,36 +19,15 @@ use Rattle.cbor_walk.proofs.LevelPaths.{repeat_of_whole}
 use Rattle.cbor_walk.proofs.Repeats.{repeated_by_bytes}
 use Rattle.cbor_walk.proofs.ToldKeys.{IsKeyIn, key_in_level, key_in_map}
 
--- ---- the map
+-- ---- the maps among open containers
 
--- of these open containers
-record IsMapTold (o : KeyOrder) (ls : List Level) (outside pair : ℕ) : Type 0 where
-  inner : List Level
-  level : Level
-  outer : List Level
-  splits : ls ≡ inner ++ level ∷ outer
-  outside_is : outside ≡ open_maps (opens o outer)
-  apart : AreOpenKeysDifferent (opens o outer)
-  first : IsFirstRepeat (keys_so_far (level_open o level)) pair
-
-told_in : (o : KeyOrder) (ls : List Level) (outside pair : ℕ) → IsRepeatTold (opens o ls) outside pair → IsMapTold o ls outside pair
-told_in o [] outside pair (inl x) = absurd x
-told_in o [] outside pair (inr x) = absurd (omega (arith, x.2.0.2))
-told_in o (l ∷ ls) outside pair (inl x) =
-    let r = told_in o ls outside pair x in
-    record { inner = l ∷ r.inner; level = r.level; outer = r.outer; splits = ap (λ (ms : List Level). l ∷ ms) r.splits; outside_is = r.outside_is; apart = r.apart; first = r.first }
-told_in o (l ∷ ls) outside pair (inr (apart, is, first)) = record { inner = []; level = l; outer = ls; splits = refl; outside_is = is; apart = apart; first = first }
-
--- so many of them are maps
+-- so many are maps
 maps_open : (o : KeyOrder) (ls : List Level) → open_maps (opens o ls) ≡ map_levels ls
 maps_open o [] = refl
 maps_open o (a_member w left done ∷ ls) = maps_open o ls
-maps_open o (a_key w left done ∷ ls) = ap suc (maps_open o ls)
-maps_open o (a_value w left done k ∷ ls) = ap suc (maps_open o ls)
 maps_open o (some_member done ∷ ls) = maps_open o ls
-maps_open o (some_key done ∷ ls) = ap suc (maps_open o ls)
-maps_open o (some_value done k ∷ ls) = ap suc (maps_open o ls)
 maps_open o (tagged w n ∷ ls) = maps_open o ls
+maps_open o (_ ∷ ls) = ap suc (maps_open o ls)
 
 -- what has equal keys is a map
 is_map : (o : KeyOrder) (l : Level) (pair : ℕ) → IsFirstRepeat (keys_so_far (level_open o l)) pair → is_map_level l ≡ true
@@ -56,14 +35,6 @@ is_map o (a_member w left done) pair h = absurd (omega (arith, h.0.2))
 is_map o (some_member done) pair h = absurd (omega (arith, h.0.2))
 is_map o (tagged w n) pair h = absurd (omega (arith, h.0.2))
 is_map o _ pair h = refl
-
-outer_levels : (d : ℕ) (inner ls : List Level) → AreLevels d (inner ++ ls) → AreLevels d ls
-outer_levels d [] ls h = h
-outer_levels d (l ∷ inner) ls h = outer_levels d inner ls h.2
-
-outer_bytes : (inner ls : List Level) → (x : List ℕ) × (bytes_before (inner ++ ls) ≡ bytes_before ls ++ x)
-outer_bytes [] ls = ([], sym (append-nil (bytes_before ls)))
-outer_bytes (l ∷ inner) ls = let r = outer_bytes inner ls in (r.0 ++ level_bytes l, ap (λ (x : List ℕ). x ++ level_bytes l) r.1 ∙ append_assoc (bytes_before ls) r.0 (level_bytes l))
 
 -- ---- the key
 
@@ -107,24 +78,21 @@ module _ (limits : Bounds) (input : List ℕ) (small : length input ≤ 2 ^ 62) 
 
   -- where an item is due
   told_here : (ls : List Level) (rest : List ℕ) (o : KeyOrder) (outside pair : ℕ) → AreLevels limits.depth ls → input ≡ bytes_before ls ++ rest → KeepsToKinds limits plain (bytes_before ls) → IsRepeatTold (opens o ls) outside pair → IsToldWithin ls outside pair
-  told_here ls rest o outside pair levels e keeps told =
-      let r = told_in o ls outside pair told in
-      let m = r.level ∷ r.outer in
-      let within : AreLevels limits.depth m = outer_levels limits.depth r.inner m (subst (AreLevels limits.depth) r.splits levels) in
-      let (x, f) = outer_bytes r.inner m in
-      let all : bytes_before ls ≡ bytes_before m ++ x = ap bytes_before r.splits ∙ f in
-      let begins : IsBeginning limits.depth (bytes_before m) = begins_before limits.depth m within in
-      let kept : KeepsToKinds limits plain (bytes_before m) = keeps_front limits plain (bytes_before m) x (subst (IsBeginning limits.depth) all (begins_before limits.depth ls levels)) (subst (KeepsToKinds limits plain) all keeps) in
-      record {
-        inner = r.inner;
-        level = r.level;
-        outer = r.outer;
-        splits = r.splits;
-        is_map = is_map o r.level pair r.first;
-        outside_is = r.outside_is ∙ maps_open o r.outer;
-        key = key_told o r.outer (opener r.level) (level_bytes r.level) pair (x ++ rest) (key_in_level o (limits.depth - suc (length r.outer)) r.level pair within.1 r.first) within.0 within.2 r.apart
-            (e ∙ ap (λ (y : List ℕ). y ++ rest) all ∙ append_assoc (bytes_before m) x rest) begins kept;
-      }
+  told_here [] rest o outside pair levels e keeps (inl x) = absurd x
+  told_here [] rest o outside pair levels e keeps (inr x) = absurd (omega (arith, x.2.0.2))
+  told_here (l ∷ ls) rest o outside pair levels e keeps (inl x) =
+      let kept = keeps_front limits plain (bytes_before ls) (level_bytes l) (begins_before limits.depth (l ∷ ls) levels) keeps in
+      let r = told_here ls (level_bytes l ++ rest) o outside pair levels.2 (e ∙ append_assoc (bytes_before ls) (level_bytes l) rest) kept x in
+      record { inner = l ∷ r.inner; level = r.level; outer = r.outer; splits = ap (λ (ms : List Level). l ∷ ms) r.splits; is_map = r.is_map; outside_is = r.outside_is; key = r.key }
+  told_here (l ∷ ls) rest o outside pair levels e keeps (inr (apart, is, first)) = record {
+    inner = [];
+    level = l;
+    outer = ls;
+    splits = refl;
+    is_map = is_map o l pair first;
+    outside_is = is ∙ maps_open o ls;
+    key = key_told o ls (opener l) (level_bytes l) pair rest (key_in_level o (limits.depth - suc (length ls)) l pair levels.1 first) levels.0 levels.2 apart e (begins_before limits.depth (l ∷ ls) levels) keeps;
+  }
 
   pub told_within : (ls : List Level) (rest : List ℕ) (repeat : Repeat) → AreLevels limits.depth ls → input ≡ bytes_before ls ++ rest → KeepsToKinds limits plain (bytes_before ls) → IsToldIn ls repeat → IsToldWithin ls repeat.outside repeat.pair
   told_within ls rest repeat levels e keeps told = told_here ls rest told.0 repeat.outside repeat.pair levels e keeps told.1

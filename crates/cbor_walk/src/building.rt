@@ -2,8 +2,7 @@
 
 ghost use Rattle.std.specs.Prelude.{◌≡◌, ◌≤◌, length};
 ghost use Rattle.cbor_front.specs.Stack.{standing};
-ghost use Rattle.cbor_walk.specs.inner.Building.{IsDueIn, HasFilledIn};
-ghost use Rattle.cbor_walk.specs.inner.Building.{Leads, Walks, WalksKept};
+ghost use Rattle.cbor_walk.specs.inner.Building.{IsDueIn, HasFilledIn, Leads, Walks, WalksKept};
 
 use crate::open::Open;
 use crate::part::Part;

@@ -2,11 +2,8 @@
 
 ghost use Rattle.std.specs.Prelude.{◌≡◌, ◌∷◌, IfSome};
 ghost use Rattle.cbor_judging.specs.Reading.{string_major};
-ghost use Rattle.cbor_walk.specs.inner.Building.{IsHeadDue, TakesHead};
-ghost use Rattle.cbor_walk.specs.inner.Parts.{IsItem, IsHead};
-ghost use Rattle.cbor_walk.specs.inner.Building.{IsDueFor, TakesItem};
-ghost use Rattle.cbor_walk.specs.inner.Parts.{IsPayload, chunked_from};
-ghost use Rattle.cbor_walk.specs.inner.Parts.{TakesScalar, TakesHeadFront};
+ghost use Rattle.cbor_walk.specs.inner.Building.{IsHeadDue, TakesHead, IsDueFor, TakesItem};
+ghost use Rattle.cbor_walk.specs.inner.Parts.{IsItem, IsHead, IsPayload, chunked_from, TakesScalar, TakesHeadFront};
 
 use crate::building::Building;
 use crate::part::Part;

@@ -4,11 +4,8 @@ ghost use Rattle.std.specs.Prelude.{◌≡◌, ◌≤◌, ◌-◌, true, length}
 ghost use Rattle.cbor_builder.specs.Built.{IsLeaf, IsContainer};
 ghost use Rattle.cbor_judging.specs.PathKinds.{IsFitFront};
 ghost use Rattle.cbor_front.specs.Stack.{standing};
-ghost use Rattle.cbor_walk.specs.inner.Building.{IsDueIn, Takes, IsHeadDue, IsHeadIn, TakesHead};
-ghost use Rattle.cbor_walk.specs.inner.Building.{IsOpenerDue, TakesOpener, TakesCounted};
-ghost use Rattle.cbor_walk.specs.inner.Building.{IsToEndFor, EndsItem};
-ghost use Rattle.cbor_walk.specs.inner.Parts.{IsItem, EndsBefore, Counts};
-ghost use Rattle.cbor_walk.specs.inner.Parts.{HasTaken, TakesFront, TakesHeadFront, TakesCountedFront, TakesOpenerFront};
+ghost use Rattle.cbor_walk.specs.inner.Building.{IsDueIn, Takes, IsHeadDue, IsHeadIn, TakesHead, IsOpenerDue, TakesOpener, TakesCounted, IsToEndFor, EndsItem};
+ghost use Rattle.cbor_walk.specs.inner.Parts.{IsItem, EndsBefore, Counts, HasTaken, TakesFront, TakesHeadFront, TakesCountedFront, TakesOpenerFront};
 ghost use Rattle.cbor_walk.specs.inner.Parts.{left_of, Leaves, LeavesWithin};
 
 use crate::building::Building;

@@ -1,15 +1,12 @@
 //! What takes the parts of an item.
 
-ghost use Rattle.std.specs.Prelude.{◌≡◌, ◌≤◌, true, false, ℕ, Bool, List, IfOk, IfSome, IsNone, IsUtf8, OnOk};
-ghost use Rattle.std.specs.Prelude.{length, take};
+ghost use Rattle.std.specs.Prelude.{◌≡◌, ◌≤◌, true, false, ℕ, Bool, List, IfOk, IfSome, IsNone, IsUtf8, OnOk, length, take};
 ghost use Rattle.cbor_head.specs.Head.{IsSimple};
 ghost use Rattle.cbor_head.specs.declared.major.Major.TheVariants as majors;
 ghost use Rattle.cbor_builder.specs.Built.{IsLeaf, IsContainer};
 ghost use Rattle.cbor_judging.specs.Levels.{Level, Standing};
 ghost use Rattle.cbor_judging.specs.Reading.{string_value};
-ghost use Rattle.cbor_walk.specs.Sink.{leaf_value, IsItemDue, Gives, Opens};
-ghost use Rattle.cbor_walk.specs.Sink.{IsContainerFull, Ends, Repeats};
-ghost use Rattle.cbor_walk.specs.Sink.{BeginsString, IsChunkDue, GrowsString, EndsString};
+ghost use Rattle.cbor_walk.specs.Sink.{leaf_value, IsItemDue, Gives, Opens, IsContainerFull, Ends, Repeats, BeginsString, IsChunkDue, GrowsString, EndsString};
 ghost use Rattle.cbor_walk.specs.Sink.{FindsNoRepeat, FindsRepeat};
 
 use cbor_builder::Repeat;

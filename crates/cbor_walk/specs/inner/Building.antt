@@ -4,7 +4,7 @@ use Rattle.cbor_head.specs.Prelude.{Bounds, Spelling, spell, IsSpelled, depth}
 use Rattle.cbor_head.specs.declared.keys.Keys.{Keys}
 use Rattle.cbor_head.specs.declared.major.Major.{Major}
 use Rattle.cbor_builder.specs.declared.repeat.Repeat.{Repeat}
-use Rattle.cbor_judging.specs.Levels.{IsTaken, Level, AreLevels, bytes_before, Standing, item_due, item_whole, settle}
+use Rattle.cbor_judging.specs.Levels.{IsClean, IsTaken, Level, AreLevels, bytes_before, Standing, item_due, item_whole, settle}
 use Rattle.cbor_walk.specs.declared.building.Met.{Met}
 use Rattle.cbor_walk.specs.declared.building.Met.TheVariants as met
 use Rattle.cbor_walk.specs.declared.building.Then.{Then}
@@ -51,19 +51,7 @@ module _ (S : Type 0) (stands : S → S → Standing → Type 0) (trusts : Bool)
   abbrev pub IsDue : S → ℕ → List ℕ → List Open → S → List ℕ → Type 0
   IsDue start d input cs g rest = StandsBefore (λ ls. stands start g (item_due ls)) d input cs rest
 
-  -- an item is whole, and given to the sink
-  pub record HasEnded (start : S) (d : ℕ) (input : List ℕ) (cs : List Open) (g : S) (rest : List ℕ) : Type 0 where
-    pub ls : List Level
-    pub item : Spelling
-    pub levels : AreLevels d ls
-    pub taken : IsTaken (d - length ls) item
-    pub cells : cs ≡ cells_of (length input) ls
-    pub given : stands start g (settle ls item)
-    pub bytes : input ≡ (bytes_before ls ++ spell item) ++ rest
-    pub small : length input < 2 ^ 63
-    pub known : trusts ≡ true → BeginsTaken d input
-
-  -- a container is whole, of which so much is known; two of its keys may be the same
+  -- an item is whole, of which so much is known; two keys of a map may be the same
   pub record IsFull (is_known : List Level → Spelling → Type 0) (d : ℕ) (input : List ℕ) (cs : List Open) (rest : List ℕ) : Type 0 where
     pub ls : List Level
     pub item : Spelling
@@ -76,7 +64,11 @@ module _ (S : Type 0) (stands : S → S → Standing → Type 0) (trusts : Bool)
     pub small : length input < 2 ^ 63
     pub known : trusts ≡ true → BeginsTaken d input
 
-  -- it is to end in the sink, a map or not
+  -- it has no complaint, and is given to the sink
+  abbrev pub HasEnded : S → ℕ → List ℕ → List Open → S → List ℕ → Type 0
+  HasEnded start d input cs g rest = IsFull (λ ls s. IsClean s × stands start g (settle ls s)) d input cs rest
+
+  -- a container is to end in the sink, a map or not
   abbrev pub IsToEnd : Bool → S → ℕ → List ℕ → List Open → S → List ℕ → Type 0
   IsToEnd is_map start d input cs g rest = IsFull (StandsFull S (Told S stands is_map) d start g) d input cs rest
 

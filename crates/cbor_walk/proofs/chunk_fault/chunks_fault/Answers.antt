@@ -1,6 +1,5 @@
-use Rattle.std.proofs.Common.{◌≡◌, ◌∙◌, ◌+◌, ◌-◌, Bool, length, take, drop, refl, sym, ap, subst, arith, length-drop}
-use Rattle.std.proofs.Math.Seq.{take-length}
-use Rattle.std.proofs.lemmas.List.{nil_from_length}
+use Rattle.std.proofs.Common.{◌∙◌, ◌+◌, Bool, length, refl, sym, ap, subst, arith}
+use Rattle.std.proofs.lemmas.List.{nil_from_length, take_rest}
 use Rattle.cbor_head.specs.Prelude.{major_number}
 use Rattle.cbor_grammar.proofs.ByteLists.{are_bytes}
 use Rattle.cbor_judging.specs.Reading.{string_major}
@@ -66,11 +65,9 @@ chunks-preserved c =
     let split = c.in-Some.ensures.cases.0 in
     let high = c.if-first-kind.false ∙ s.kind in
     let h = c.in-Some-read_argument.head in
-    let from = h.rest.now in
-    let whole : take (length from - h.number) (drop h.number from) ≡ drop h.number from = ap (λ n. take n (drop h.number from)) (sym (length-drop h.number from)) ∙ take-length (drop h.number from) in
     let found = c.in_default-string_fault.ensures in
     record {
-      read = subst (AreChunksRead t (chunked_from t c.args.behind.now)) (sym whole)
-          (one-read t (chunked_from t c.args.behind.now) rest s.read h.number from (chunk-head t rest first behind split high h c.in-Some-read_argument.ensures.spelled) found.inside (λ e. found.utf8 (chunk-text t rest first behind split high e))).0;
+      read = subst (AreChunksRead t (chunked_from t c.args.behind.now)) (sym (take_rest h.rest.now h.number))
+          (one-read t (chunked_from t c.args.behind.now) rest s.read h.number h.rest.now (chunk-head t rest first behind split high h c.in-Some-read_argument.ensures.spelled) found.inside (λ e. found.utf8 (chunk-text t rest first behind split high e))).0;
       kind = s.kind;
     }

@@ -7,17 +7,14 @@ use Rattle.cbor_front.specs.Strings.{IsStringHead}
 use Rattle.cbor_walk.specs.inner.Parts.{chunked_from}
 use Rattle.cbor_walk.proofs.Faults.{fault_same, cut_off, fault_misplaced, fault_of_kind, fault_of, string_faults, chunks_faults}
 use Rattle.cbor_walk.proofs.fault.fault.Goals as goal
-use Rattle.cbor_walk.proofs.fault.fault.Goals.{After-misplaced, Else-low-eq31, Then-first-lt128, Then-low-eq31, else-first-via-then-first+else-may_break, else-first-via-else-first, else-is_key-via-then-is_key+else-is_other_key, else-is_key-via-else-is_key}
+use Rattle.cbor_walk.proofs.fault.fault.Goals.{After-misplaced, Joined-else-is_key, Then-first-lt128, else-first-via-then-first+else-may_break, else-first-via-else-first, else-is_key-via-then-is_key+else-is_other_key, else-is_key-via-else-is_key}
 
 -- a break stands there only where none may
 stray : (c : After-misplaced) → c.in-Some.first.now ≡ 0xff → c.args.may_break ≡ true → ⊥
 stray c e m = elim c.else-first.branch [ else-first-via-then-first+else-may_break w ↦ cc (m, w.if-may_break.false) | else-first-via-else-first w ↦ absurd (w.if-first.false e) ]
 
--- a key is of the kinds that are asked for, whether no length is told or one
-fit_endless : (c : Then-low-eq31) → c.args.is_key ≡ true → IsFitFront (c.in-Some.first.now ∷ c.in-Some.behind.now)
-fit_endless c e = elim c.else-is_key.branch [ else-is_key-via-then-is_key+else-is_other_key w ↦ subst IsFitFront c.in-Some.ensures.cases.0 (w.is_other_key.ensures.fits w.if-is_other_key.false refl refl) | else-is_key-via-else-is_key w ↦ cc (e, w.if-is_key.false) ]
-
-fit : (c : Else-low-eq31) → c.args.is_key ≡ true → IsFitFront (c.in-Some.first.now ∷ c.in-Some.behind.now)
+-- a key is of the kinds that are asked for
+fit : (c : Joined-else-is_key) → c.args.is_key ≡ true → IsFitFront (c.in-Some.first.now ∷ c.in-Some.behind.now)
 fit c e = elim c.else-is_key.branch [ else-is_key-via-then-is_key+else-is_other_key w ↦ subst IsFitFront c.in-Some.ensures.cases.0 (w.is_other_key.ensures.fits w.if-is_other_key.false refl refl) | else-is_key-via-else-is_key w ↦ cc (e, w.if-is_key.false) ]
 
 pub returns-in_default : goal.returns-in_default
@@ -50,7 +47,7 @@ returns-in_default-read_argument c =
     let placed = c.in_default-misplaced.ensures in
     let none = c.in_default-read_argument.ensures in
     fault_same a.rest.now (c.in-Some.first.now ∷ c.in-Some.behind.now) a.at a.room a.is_key a.may_break _ c.refusal_at-in_default-read_argument.result split c.refusal_at-in_default-read_argument.ensures
-    (fault_of c.in-Some.first.now c.in-Some.behind.now a.at a.room a.is_key a.may_break (stray at.After-misplaced) _ (fit at.Else-low-eq31)
+    (fault_of c.in-Some.first.now c.in-Some.behind.now a.at a.room a.is_key a.may_break (stray at.After-misplaced) _ (fit at.Joined-else-is_key)
     (cut_here plain a.room c.in-Some.first.now c.in-Some.behind.now a.at (none.long refl) low placed.no_float placed.fits (none.cut refl) (a.at + length a.rest.now) (ap (λ (x : List ℕ). a.at + length x) split)))
 
 pub returns-then-head-lt32 : goal.returns-then-head-lt32
@@ -59,7 +56,7 @@ returns-then-head-lt32 c =
     let at = goal.at.returns-then-head-lt32 c in
     let h = c.in-Some-read_argument.head in
     fault_same a.rest.now (c.in-Some.first.now ∷ c.in-Some.behind.now) a.at a.room a.is_key a.may_break _ c.refusal_at-then-head-lt32.result c.in-Some.ensures.cases.0 c.refusal_at-then-head-lt32.ensures
-    (fault_of c.in-Some.first.now c.in-Some.behind.now a.at a.room a.is_key a.may_break (stray at.After-misplaced) _ (fit at.Else-low-eq31)
+    (fault_of c.in-Some.first.now c.in-Some.behind.now a.at a.room a.is_key a.may_break (stray at.After-misplaced) _ (fit at.Joined-else-is_key)
     (no_simple_here plain a.room c.in-Some.first.now c.in-Some.behind.now a.at h.width h.number h.rest.now c.in-Some-read_argument.ensures.spelled c.if-first-2.true c.if-head-lt32.true))
 
 -- the string whose head stands there
@@ -81,18 +78,18 @@ pub returns-then-first-lt128 : goal.returns-then-first-lt128
 returns-then-first-lt128 c =
     let a = c.args in
     let at = goal.at.returns-then-first-lt128 c in
-    string_faults c.in-Some.first.now c.in-Some.behind.now a.at a.room a.is_key a.may_break (stray at.After-misplaced) a.rest.now c.in-Some.ensures.cases.0 (fit at.Else-low-eq31) c.in-Some-read_argument.head (string_head at.Then-first-lt128) c.string_fault.result c.string_fault.ensures
+    string_faults c.in-Some.first.now c.in-Some.behind.now a.at a.room a.is_key a.may_break (stray at.After-misplaced) a.rest.now c.in-Some.ensures.cases.0 (fit at.Joined-else-is_key) c.in-Some-read_argument.head (string_head at.Then-first-lt128) c.string_fault.result c.string_fault.ensures
 
 pub returns-in-95 : goal.returns-in-95
 returns-in-95 c =
     let a = c.args in
     let at = goal.at.returns-in-95 c in
     let behind = c.in-Some.behind.now in
-    chunks_faults c.in-Some.first.now behind a.at a.room a.is_key a.may_break (stray at.After-misplaced) a.rest.now (chunked_from false behind) c.in-Some.ensures.cases.0 (ap (λ (x : ℕ). x ∷ behind) (sym c.in-95.is)) (fit_endless at.Then-low-eq31) c.chunks_fault.result c.chunks_fault.ensures
+    chunks_faults c.in-Some.first.now behind a.at a.room a.is_key a.may_break (stray at.After-misplaced) a.rest.now (chunked_from false behind) c.in-Some.ensures.cases.0 (ap (λ (x : ℕ). x ∷ behind) (sym c.in-95.is)) (fit at.Joined-else-is_key) c.chunks_fault.result c.chunks_fault.ensures
 
 pub returns-in-127 : goal.returns-in-127
 returns-in-127 c =
     let a = c.args in
     let at = goal.at.returns-in-127 c in
     let behind = c.in-Some.behind.now in
-    chunks_faults c.in-Some.first.now behind a.at a.room a.is_key a.may_break (stray at.After-misplaced) a.rest.now (chunked_from true behind) c.in-Some.ensures.cases.0 (ap (λ (x : ℕ). x ∷ behind) (sym c.in-127.is)) (fit_endless at.Then-low-eq31) c.chunks_fault-in-127.result c.chunks_fault-in-127.ensures
+    chunks_faults c.in-Some.first.now behind a.at a.room a.is_key a.may_break (stray at.After-misplaced) a.rest.now (chunked_from true behind) c.in-Some.ensures.cases.0 (ap (λ (x : ℕ). x ∷ behind) (sym c.in-127.is)) (fit at.Joined-else-is_key) c.chunks_fault-in-127.result c.chunks_fault-in-127.ensures

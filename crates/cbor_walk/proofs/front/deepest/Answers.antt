@@ -1,21 +1,16 @@
-use Rattle.std.proofs.Common.{◌∙◌, refl}
-use Rattle.cbor_front.specs.Stack.{standing}
+use Rattle.std.proofs.Common.{◌∙◌, [], refl}
 use Rattle.cbor_walk.specs.declared.building.Met.TheVariants as met
-use Rattle.cbor_walk.specs.declared.open.Open.{Open}
 use Rattle.cbor_walk.proofs.GivenStops.{lent, walk-met}
 use Rattle.cbor_walk.proofs.front.deepest.Goals as goal
 
 pub returns-in-Whole : goal.returns-in-Whole
 returns-in-Whole g c = λ start due.
-    let a = c.args in
-    let w = c.walk-met in
-    let due = lent _ _ _ g.S.Sink.holds _ _ _ a.building.now.stack a.few.now c.lend.new.cells _ _ c.requires.full c.lend.ensures due in
-    walk-met _ _ _ g.S.Sink.holds _ _ a.limits c.from-depth.result _ _ (met.Whole c.in-Whole.behind) _ _ (standing Open w.new.self.stack w.new.cells) w.new.self.sink (c.from-depth.ensures ∙ c.depth.ensures.depth) c.requires.kinds due c.requires.kept c.in-Whole.ensures.walked c.in-Whole.ensures.kept
+    walk-met _ _ _ g.S.Sink.holds _ _ c.args.limits c.from-depth.result _ _ (met.Whole c.in-Whole.behind) _ _ [] _ (c.from-depth.ensures ∙ c.depth.ensures.depth) c.requires.kinds
+    (lent _ _ _ g.S.Sink.holds _ _ _ c.args.building.now.stack c.args.few.now c.lend.new.cells _ _ c.requires.full c.lend.ensures due) c.requires.kept c.in-Whole.ensures.walked c.in-Whole.ensures.kept
 
 pub stopped-requires : goal.stopped-requires
 stopped-requires g c =
-    let a = c.args in
+    let due = lent _ _ _ g.S.Sink.holds _ _ _ c.args.building.now.stack c.args.few.now c.lend.new.cells _ _ c.requires.full c.lend.ensures c.requires.due.1 in
     let w = c.walk-met in
-    let due = lent _ _ _ g.S.Sink.holds _ _ _ a.building.now.stack a.few.now c.lend.new.cells _ _ c.requires.full c.lend.ensures c.requires.due.1 in
-    let met = walk-met _ _ _ g.S.Sink.holds _ _ a.limits c.from-depth.result _ _ w.result _ _ (standing Open w.new.self.stack w.new.cells) w.new.self.sink (c.from-depth.ensures ∙ c.depth.ensures.depth) c.requires.kinds due c.requires.kept w.ensures.walked w.ensures.kept in
+    let met = walk-met _ _ _ g.S.Sink.holds _ _ c.args.limits c.from-depth.result _ _ w.result _ _ _ _ (c.from-depth.ensures ∙ c.depth.ensures.depth) c.requires.kinds due c.requires.kept w.ensures.walked w.ensures.kept in
     λ n. ((refl, tt), (w.ensures.cells, ((c.requires.due.0, met.0), (met.1, c.requires.within))))

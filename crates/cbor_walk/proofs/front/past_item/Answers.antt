@@ -1,47 +1,36 @@
-use Rattle.std.proofs.Common.{◌∙◌, refl, arith}
+use Rattle.std.proofs.Common.{◌∙◌, List, [], refl, arith}
 use Rattle.cbor_front.specs.Stack.{standing}
 use Rattle.cbor_walk.specs.declared.building.Met.TheVariants as met
 use Rattle.cbor_walk.specs.declared.open.Open.{Open}
+use Rattle.cbor_walk.specs.inner.Building.{IsDue}
 use Rattle.cbor_walk.proofs.GivenKinds.{starts-kept}
 use Rattle.cbor_walk.proofs.GivenParts.{starts}
 use Rattle.cbor_walk.proofs.GivenStops.{walk-met}
 use Rattle.cbor_walk.proofs.front.past_item.Goals as goal
+use Rattle.cbor_walk.proofs.front.past_item.Goals.{After-walk-met}
+
+due : (g : _) (c : After-walk-met g) (cells : List Open) → IsDue g.row.S.Denot g.S.Sink.stands g.S.Sink.trusts c.args.building.now.sink c.args.limits.depth c.args.input.now (standing Open c.args.building.now.stack cells) c.args.building.now.sink c.args.input.now
+due g c cells = starts _ g.S.Sink.stands g.S.Sink.trusts c.args.building.now.stack c.args.building.now.sink c.args.limits.depth c.args.input.now cells c.requires.none c.requires.top c.requires.fresh (omega arith) c.requires.known
 
 pub deeper-requires : goal.deeper-requires
 deeper-requires g c =
-    let limits = c.args.limits in
-    let b = c.args.building.now in
-    let w = c.walk-met in
-    let due = starts _ g.S.Sink.stands g.S.Sink.trusts b.stack b.sink limits.depth c.args.input.now _ c.requires.none c.requires.top c.requires.fresh (omega arith) c.requires.known in
-    let met = walk-met _ _ _ g.S.Sink.holds _ _ limits c.from-depth.result _ _ (met.Untaken c.in-Untaken.rest) _ _ (standing Open w.new.self.stack w.new.cells) w.new.self.sink (c.from-depth.ensures ∙ c.depth.ensures.depth) c.requires.kinds
-    due (starts-kept _ g.S.Sink.stands g.S.Sink.trusts b.sink limits.depth c.args.input.now limits.keys) c.in-Untaken.ensures.walked c.in-Untaken.ensures.kept in
-    λ n. ((refl, tt), (omega arith, (omega (arith, c.if-building-ge-FEW.true, c.in-Untaken.ensures.cells), ((b.sink, met.0), (c.requires.kinds, (met.1, c.requires.within))))))
+    let w = c.in-Untaken.ensures in
+    let met = walk-met _ _ _ g.S.Sink.holds _ _ c.args.limits c.from-depth.result _ _ (met.Untaken c.in-Untaken.rest) _ _ _ _ (c.from-depth.ensures ∙ c.depth.ensures.depth) c.requires.kinds (due g (goal.at.deeper-requires g c).After-walk-met _) (starts-kept _ _ _) w.walked w.kept in
+    λ n. ((refl, tt), (omega arith, (omega (arith, c.if-building-ge-FEW.true, w.cells), ((c.args.building.now.sink, met.0), (c.requires.kinds, (met.1, c.requires.within))))))
 
 pub returns-in-Whole : goal.returns-in-Whole
 returns-in-Whole g c =
-    let limits = c.args.limits in
-    let b = c.args.building.now in
-    let w = c.walk-met in
-    let due = starts _ g.S.Sink.stands g.S.Sink.trusts b.stack b.sink limits.depth c.args.input.now _ c.requires.none c.requires.top c.requires.fresh (omega arith) c.requires.known in
-    walk-met _ _ _ g.S.Sink.holds _ _ limits c.from-depth.result _ _ (met.Whole c.in-Whole.behind) _ _ (standing Open w.new.self.stack w.new.cells) w.new.self.sink (c.from-depth.ensures ∙ c.depth.ensures.depth) c.requires.kinds
-    due (starts-kept _ g.S.Sink.stands g.S.Sink.trusts b.sink limits.depth c.args.input.now limits.keys) c.in-Whole.ensures.walked c.in-Whole.ensures.kept
+    walk-met _ _ _ g.S.Sink.holds _ _ c.args.limits c.from-depth.result _ _ (met.Whole c.in-Whole.behind) _ _ [] _ (c.from-depth.ensures ∙ c.depth.ensures.depth) c.requires.kinds
+    (due g (goal.at.returns-in-Whole g c).After-walk-met _) (starts-kept _ _ _) c.in-Whole.ensures.walked c.in-Whole.ensures.kept
 
 pub returns-in-Untaken : goal.returns-in-Untaken
 returns-in-Untaken g c =
-    let limits = c.args.limits in
-    let b = c.args.building.now in
-    let w = c.walk-met in
-    let due = starts _ g.S.Sink.stands g.S.Sink.trusts b.stack b.sink limits.depth c.args.input.now _ c.requires.none c.requires.top c.requires.fresh (omega arith) c.requires.known in
-    let met = walk-met _ _ _ g.S.Sink.holds _ _ limits c.from-depth.result _ _ (met.Untaken c.in-Untaken.rest) _ _ (standing Open w.new.self.stack w.new.cells) w.new.self.sink (c.from-depth.ensures ∙ c.depth.ensures.depth) c.requires.kinds
-    due (starts-kept _ g.S.Sink.stands g.S.Sink.trusts b.sink limits.depth c.args.input.now limits.keys) c.in-Untaken.ensures.walked c.in-Untaken.ensures.kept in
-    c.deeper.ensures b.sink met.0
+    c.deeper.ensures c.args.building.now.sink
+    (walk-met _ _ _ g.S.Sink.holds _ _ c.args.limits c.from-depth.result _ _ (met.Untaken c.in-Untaken.rest) _ _ _ _ (c.from-depth.ensures ∙ c.depth.ensures.depth) c.requires.kinds
+    (due g (goal.at.returns-in-Untaken g c).After-walk-met _) (starts-kept _ _ _) c.in-Untaken.ensures.walked c.in-Untaken.ensures.kept).0
 
 pub stopped-requires : goal.stopped-requires
 stopped-requires g c =
-    let limits = c.args.limits in
-    let b = c.args.building.now in
     let w = c.walk-met in
-    let due = starts _ g.S.Sink.stands g.S.Sink.trusts b.stack b.sink limits.depth c.args.input.now _ c.requires.none c.requires.top c.requires.fresh (omega arith) c.requires.known in
-    let met = walk-met _ _ _ g.S.Sink.holds _ _ limits c.from-depth.result _ _ w.result _ _ (standing Open w.new.self.stack w.new.cells) w.new.self.sink (c.from-depth.ensures ∙ c.depth.ensures.depth) c.requires.kinds
-    due (starts-kept _ g.S.Sink.stands g.S.Sink.trusts b.sink limits.depth c.args.input.now limits.keys) w.ensures.walked w.ensures.kept in
-    λ n. ((refl, tt), (w.ensures.cells, ((b.sink, met.0), (met.1, c.requires.within))))
+    let met = walk-met _ _ _ g.S.Sink.holds _ _ c.args.limits c.from-depth.result _ _ w.result _ _ _ _ (c.from-depth.ensures ∙ c.depth.ensures.depth) c.requires.kinds (due g (goal.at.stopped-requires g c).After-walk-met _) (starts-kept _ _ _) w.ensures.walked w.ensures.kept in
+    λ n. ((refl, tt), (w.ensures.cells, ((c.args.building.now.sink, met.0), (met.1, c.requires.within))))

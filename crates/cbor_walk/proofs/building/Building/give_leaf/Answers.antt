@@ -1,6 +1,5 @@
-use Rattle.std.proofs.Common.{◌∙◌, ◌∷◌, length, refl}
+use Rattle.std.proofs.Common.{◌∙◌, length, refl}
 use Rattle.cbor_walk.specs.Sink.{leaf_value}
-use Rattle.cbor_walk.specs.inner.Building.{IsHeadDue}
 use Rattle.cbor_walk.proofs.GivenItems.{scalar-head}
 use Rattle.cbor_walk.proofs.GivenKinds.{scalar-begun}
 use Rattle.cbor_walk.proofs.GivenParts.{due-item, key-awaited, scalar-ends}
@@ -8,15 +7,13 @@ use Rattle.cbor_walk.proofs.building.Building.give_leaf.Goals as goal
 
 pub leaf-requires : goal.leaf-requires
 leaf-requires g c =
-    let top = c.args.self.now.stack.top in
-    let head : IsHeadDue g.row.S.Denot g.S.Sink.stands g.S.Sink.trusts c.args.major c.args.number c.args.behind.now top c.args.self.now.sink = c.requires.head in
-    λ k. ((refl, tt), (c.requires.kind, ((λ e. (head.1.simple e).0), due-item g.row.S.Denot g.S.Sink.stands g.S.Sink.trusts top c.args.self.now.sink head.0 c.is_key.result c.is_key.ensures head.2)))
+    let (rest, head, due) = c.requires.head in
+    λ k. ((refl, tt), (c.requires.kind, ((λ e. (head.simple e).0), due-item g.row.S.Denot g.S.Sink.stands g.S.Sink.trusts c.args.self.now.stack.top c.args.self.now.sink rest c.is_key.result c.is_key.ensures due)))
 
 pub returns-in-Ok-clause-takes : goal.returns-in-Ok-clause-takes
 returns-in-Ok-clause-takes g c = λ rest head d outer start input due.
-    let top = c.args.self.now.stack.top in
-    scalar-ends g.row.S.Denot g.S.Sink.stands g.S.Sink.trusts start d input (top ∷ outer) c.args.self.now.sink rest due c.args.behind.now (leaf_value c.args.major c.args.number) c.leaf.new.self
-    c.is_key.result (c.is_key.ensures ∙ key-awaited (length input) due.ls top outer due.cells) (scalar-head c.args.major c.args.number rest c.args.behind.now c.requires.kind head) c.in-Ok.ensures
+    scalar-ends _ _ _ start d input _ c.args.self.now.sink rest due c.args.behind.now (leaf_value c.args.major c.args.number) c.leaf.new.self c.is_key.result
+    (c.is_key.ensures ∙ key-awaited (length input) due.ls c.args.self.now.stack.top outer due.cells) (scalar-head c.args.major c.args.number rest c.args.behind.now c.requires.kind head) c.in-Ok.ensures
 
 pub returns-in-Ok-clause-front : goal.returns-in-Ok-clause-front
 returns-in-Ok-clause-front g c = λ rest head d o.

@@ -2,16 +2,15 @@ use Rattle.std.proofs.Common.{◌∙◌, ◌-◌, ◌<◌, List, length, sym, su
 use Rattle.cbor_front.specs.Stack.{around}
 use Rattle.cbor_front.proofs.Stacks.{standing_count}
 use Rattle.cbor_walk.specs.declared.open.Open.{Open}
-use Rattle.cbor_walk.specs.inner.Building.{IsOpenerDue, IsDue}
+use Rattle.cbor_walk.specs.inner.Building.{IsDue}
 use Rattle.cbor_walk.proofs.GivenKinds.{opener-begun}
 use Rattle.cbor_walk.proofs.GivenParts.{due-item, key-awaited, height-is, opened}
 use Rattle.cbor_walk.proofs.building.Building.open.Goals as goal
 
 pub begin-requires : goal.begin-requires
 begin-requires g c =
-    let top = c.args.self.now.stack.top in
-    let opener : IsOpenerDue g.row.S.Denot g.S.Sink.stands g.S.Sink.trusts c.args.major c.args.number c.args.opened c.args.behind.now top c.args.self.now.sink = c.requires.opener in
-    λ k. ((refl, tt), (c.requires.kind, due-item g.row.S.Denot g.S.Sink.stands g.S.Sink.trusts top c.args.self.now.sink opener.0 c.is_key.result c.is_key.ensures opener.2))
+    let (rest, opener, due) = c.requires.opener in
+    λ k. ((refl, tt), (c.requires.kind, due-item g.row.S.Denot g.S.Sink.stands g.S.Sink.trusts c.args.self.now.stack.top c.args.self.now.sink rest c.is_key.result c.is_key.ensures due))
 
 pub returns-clause-takes : goal.returns-clause-takes
 returns-clause-takes g c = λ rest opener start input due.

@@ -1,69 +1,59 @@
-use Rattle.std.proofs.Common.{◌≡◌, ◌≤◌, ◌∙◌, ◌-◌, List, ℕ, ◌∷◌, length, take, drop, refl, ap, sym, subst, arith, length-drop, IsUtf8}
-use Rattle.std.proofs.Math.Seq.{take-length}
+use Rattle.std.proofs.Common.{ℕ, ◌∙◌, false, List, ◌∷◌, length, refl, ap, sym, subst, arith}
+use Rattle.std.proofs.lemmas.List.{take_rest}
 use Rattle.cbor_grammar.proofs.ByteLists.{are_bytes}
 use Rattle.cbor_judging.specs.Reading.{string_major, string_value}
 use Rattle.cbor_head.specs.Prelude.{chunks_joined}
-use Rattle.cbor_walk.specs.inner.Parts.{IsHead, chunked_from}
+use Rattle.cbor_walk.specs.Sink.{IsItemDue}
+use Rattle.cbor_walk.specs.inner.Parts.{IsHead, IsPayload, chunked_from}
+use Rattle.cbor_walk.proofs.GivenItems.{IsScalar}
 use Rattle.cbor_walk.proofs.GivenKinds.{scalar-begun}
 use Rattle.cbor_walk.proofs.GivenParts.{due-item, key-awaited, scalar-settles}
 use Rattle.cbor_walk.proofs.Chunked.{AreChunks, no-chunks, chunk-due, one-more, all-chunks}
-use Rattle.cbor_walk.proofs.KnownTexts.{known-chunk}
+use Rattle.cbor_walk.proofs.KnownTexts.{known-chunk, sized}
 use Rattle.cbor_walk.proofs.building.Building.take_chunks.Goals as goal
+use Rattle.cbor_walk.proofs.building.Building.take_chunks.Goals.{After-is_key-is_key, In-Some-payload_size, Then-first}
+
+due : (g : _) (c : After-is_key-is_key g) → IsItemDue g.row.S.Denot g.S.Sink.stands c.is_key-is_key.result c.args.self.now.sink
+due g c = due-item g.row.S.Denot g.S.Sink.stands g.S.Sink.trusts c.args.self.now.stack.top c.args.self.now.sink (chunked_from c.args.is_text c.args.behind.now) c.is_key-is_key.result c.is_key-is_key.ensures c.requires.opener
+
+head : (g : _) (c : In-Some-payload_size g) → IsHead (string_major c.args.is_text) c.in-Some-chunk_head.head.number c.chunks.rest.now c.in-Some-chunk_head.head.rest.now
+head g c = subst (λ (x : List ℕ). IsHead (string_major c.args.is_text) c.in-Some-chunk_head.head.number x c.in-Some-chunk_head.head.rest.now) (sym c.in-Some.ensures.cases.0) c.in-Some-chunk_head.ensures
+
+payload : (g : _) (c : In-Some-payload_size g) → IsPayload false c.args.is_text c.in-Some-chunk_head.head.number c.in-Some-payload_size.size c.in-Some-chunk_head.head.rest.now
+payload g c = known-chunk g.row.S.Denot g.S.Sink.stands g.S.Sink.trusts c.args.is_text c.args.self.now.stack.top c.args.self.now.sink _ _ c.args.behind.now c.chunks.rest.now c.requires.opener c.chunks.invariant.chunks.read _ (head g c) c.in-Some-payload_size.ensures
+
+-- where a break stands
+whole : (g : _) (c : Then-first g) → IsScalar (chunked_from c.args.is_text c.args.behind.now) c.in-Some.behind.now (string_value c.args.is_text (chunks_joined c.chunks.invariant.chunks.read.done))
+whole g c =
+    all-chunks g.row.S.Denot g.S.Sink.stands g.S.Sink.holds c.is_key-is_key.result c.args.is_text c.args.behind.now c.args.self.now.sink c.chunks.rest.now c.chunks.self.sink c.chunks.invariant.chunks c.in-Some.behind.now
+    (c.in-Some.ensures.cases.0 ∙ ap (λ (x : ℕ). x ∷ c.in-Some.behind.now) c.if-first.true)
 
 pub begin_string-requires : goal.begin_string-requires
-begin_string-requires g c = λ k. ((refl, tt), due-item g.row.S.Denot g.S.Sink.stands g.S.Sink.trusts c.args.self.now.stack.top c.args.self.now.sink (chunked_from c.args.is_text c.args.behind.now) c.is_key-is_key.result c.is_key-is_key.ensures c.requires.opener)
+begin_string-requires g c = λ k. ((refl, tt), due g (goal.at.begin_string-requires g c).After-is_key-is_key)
 
 pub end_string-requires : goal.end_string-requires
-end_string-requires g c = λ k. (
-  (refl, tt),
-  chunk-due g.row.S.Denot g.S.Sink.stands g.S.Sink.holds c.is_key-is_key.result c.args.is_text c.args.behind.now c.args.self.now.sink c.chunks.rest.now c.chunks.self.sink c.chunks.invariant.chunks
-      (due-item g.row.S.Denot g.S.Sink.stands g.S.Sink.trusts c.args.self.now.stack.top c.args.self.now.sink (chunked_from c.args.is_text c.args.behind.now) c.is_key-is_key.result c.is_key-is_key.ensures c.requires.opener),
-)
+end_string-requires g c = λ k. ((refl, tt), chunk-due _ g.S.Sink.stands g.S.Sink.holds c.is_key-is_key.result c.args.is_text c.args.behind.now c.args.self.now.sink c.chunks.rest.now c.chunks.self.sink c.chunks.invariant.chunks (due g (goal.at.end_string-requires g c).After-is_key-is_key))
 
 pub chunk-requires : goal.chunk-requires
-chunk-requires g c = λ n.
-    let t = c.args.is_text in
-    let top = c.args.self.now.stack.top in
-    let from = c.in-Some-chunk_head.head.rest.now in
-    let head : IsHead (string_major t) c.in-Some-chunk_head.head.number c.chunks.rest.now from = subst (λ (x : List ℕ). IsHead (string_major t) c.in-Some-chunk_head.head.number x from) (sym c.in-Some.ensures.cases.0) c.in-Some-chunk_head.ensures in
-    let p = known-chunk g.row.S.Denot g.S.Sink.stands g.S.Sink.trusts t top c.args.self.now.sink c.in-Some-chunk_head.head.number c.in-Some-payload_size.size c.args.behind.now c.chunks.rest.now c.requires.opener c.chunks.invariant.chunks.read from head c.in-Some-payload_size.ensures in (
-      (refl, tt),
-      (
-        subst (λ (k : ℕ). k ≤ length from) (sym p.all) p.inside,
-        (
-          λ e. subst (λ (k : ℕ). IsUtf8 (take k from)) (sym p.all) (p.utf8 refl e),
-          chunk-due g.row.S.Denot g.S.Sink.stands g.S.Sink.holds c.is_key-is_key.result t c.args.behind.now c.args.self.now.sink c.chunks.rest.now c.chunks.self.sink c.chunks.invariant.chunks
-              (due-item g.row.S.Denot g.S.Sink.stands g.S.Sink.trusts top c.args.self.now.sink (chunked_from t c.args.behind.now) c.is_key-is_key.result c.is_key-is_key.ensures c.requires.opener),
-        ),
-      ),
-    )
+chunk-requires g c =
+    let (within, utf8) = sized c.args.is_text _ c.in-Some-payload_size.size c.in-Some-chunk_head.head.rest.now (payload g (goal.at.chunk-requires g c).In-Some-payload_size) in
+    λ n. ((refl, tt), (within, (utf8, chunk-due g.row.S.Denot g.S.Sink.stands g.S.Sink.holds c.is_key-is_key.result c.args.is_text c.args.behind.now c.args.self.now.sink c.chunks.rest.now c.chunks.self.sink c.chunks.invariant.chunks (due g (goal.at.chunk-requires g c).After-is_key-is_key))))
 
 pub chunks-preserved : goal.chunks-preserved
 chunks-preserved g c =
-    let t = c.args.is_text in
-    let from = c.in-Some-chunk_head.head.rest.now in
-    let size = c.in-Some-payload_size.size in
-    let n = c.in-Some-chunk_head.head.number in
-    let whole : take (length from - size) (drop size from) ≡ drop size from = ap (λ n. take n (drop size from)) (sym (length-drop size from)) ∙ take-length (drop size from) in
-    let head : IsHead (string_major t) n c.chunks.rest.now from = subst (λ (x : List ℕ). IsHead (string_major t) n x from) (sym c.in-Some.ensures.cases.0) c.in-Some-chunk_head.ensures in
-    let p = known-chunk g.row.S.Denot g.S.Sink.stands g.S.Sink.trusts t c.args.self.now.stack.top c.args.self.now.sink n size c.args.behind.now c.chunks.rest.now c.requires.opener c.chunks.invariant.chunks.read from head c.in-Some-payload_size.ensures in
+    let at = (goal.at.chunks-preserved g c).In-Some-payload_size in
     record {
-      chunks = subst (λ (x : List ℕ). AreChunks g.row.S.Denot g.S.Sink.stands g.S.Sink.holds c.is_key-is_key.result t c.args.behind.now x c.args.self.now.sink c.chunk.new.self) (sym whole)
-          (one-more g.row.S.Denot g.S.Sink.stands g.S.Sink.holds c.is_key-is_key.result t c.args.behind.now c.args.self.now.sink c.chunks.rest.now c.chunks.self.sink c.chunks.invariant.chunks n size from c.chunk.new.self head p c.in-Ok-chunk.ensures);
+      chunks = subst (λ (x : List ℕ). AreChunks g.row.S.Denot g.S.Sink.stands g.S.Sink.holds c.is_key-is_key.result c.args.is_text c.args.behind.now x c.args.self.now.sink c.chunk.new.self) (sym (take_rest c.in-Some-chunk_head.head.rest.now c.in-Some-payload_size.size))
+          (one-more _ _ _ c.is_key-is_key.result c.args.is_text _ _ c.chunks.rest.now c.chunks.self.sink c.chunks.invariant.chunks _ _ _ c.chunk.new.self (head g at) (payload g at) c.in-Ok-chunk.ensures);
       stack = c.chunks.invariant.stack;
     }
 
 pub returns-in-Ok-end_string-clause-takes : goal.returns-in-Ok-end_string-clause-takes
 returns-in-Ok-end_string-clause-takes g c = λ d outer start input due.
-    let top = c.args.self.now.stack.top in
-    let told = c.is_key-is_key.ensures ∙ key-awaited (length input) due.ls top outer due.cells in
-    let t = c.args.is_text in
-    let sink = c.args.self.now.sink in
-    let behind = c.in-Some.behind.now in
+    let told = c.is_key-is_key.ensures ∙ key-awaited (length input) due.ls c.args.self.now.stack.top outer due.cells in
     let s = c.chunks.invariant.chunks in
-    let is : c.chunks.rest.now ≡ 0xff ∷ behind = c.in-Some.ensures.cases.0 ∙ ap (λ (x : ℕ). x ∷ behind) c.if-first.true in
-    let all = all-chunks g.row.S.Denot g.S.Sink.stands g.S.Sink.holds c.is_key-is_key.result t c.args.behind.now sink c.chunks.rest.now c.chunks.self.sink s behind is in
-    scalar-settles _ _ _ start d input (top ∷ outer) _ (chunked_from t c.args.behind.now) due behind (string_value t (chunks_joined s.read.done)) c.end_string.new.self all
+    let all = whole g (goal.at.returns-in-Ok-end_string-clause-takes g c).Then-first in
+    scalar-settles _ _ _ start d input (c.args.self.now.stack.top ∷ outer) _ _ due c.in-Some.behind.now _ c.end_string.new.self all
     (λ k. c.in-Ok-end_string.ensures start d due.ls (chunks_joined s.read.done) all.item (s.given start due.ls (due.given, told)) told k all.value_is)
 
 pub chunks-init : goal.chunks-init
@@ -73,10 +63,4 @@ chunks-init g c = record {
 }
 
 pub returns-in-Ok-end_string-clause-front : goal.returns-in-Ok-end_string-clause-front
-returns-in-Ok-end_string-clause-front g c = λ d o.
-    let t = c.args.is_text in
-    let behind = c.in-Some.behind.now in
-    let s = c.chunks.invariant.chunks in
-    let is : c.chunks.rest.now ≡ 0xff ∷ behind = c.in-Some.ensures.cases.0 ∙ ap (λ (x : ℕ). x ∷ behind) c.if-first.true in
-    let all = all-chunks g.row.S.Denot g.S.Sink.stands g.S.Sink.holds c.is_key-is_key.result t c.args.behind.now c.args.self.now.sink c.chunks.rest.now c.chunks.self.sink s behind is in
-    scalar-begun (string_value t (chunks_joined s.read.done)) d (chunked_from t c.args.behind.now) behind all
+returns-in-Ok-end_string-clause-front g c = λ d o. scalar-begun _ d _ _ (whole g (goal.at.returns-in-Ok-end_string-clause-front g c).Then-first)

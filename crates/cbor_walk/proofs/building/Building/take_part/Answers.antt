@@ -11,8 +11,8 @@ use Rattle.cbor_walk.proofs.building.Building.take_part.Goals.{After-counted-ope
 tag_opener : (g : _) (c : After-counted-opened g) → IsOpener Tag c.in-Some-read_argument.head.number c.counted-opened.result c.args.rest.now c.in-Some-read_argument.head.rest.now
 tag_opener g c =
     let h = c.in-Some-read_argument.head in
-    subst (λ (x : Open). IsOpener Tag h.number x c.args.rest.now h.rest.now) (sym c.counted-opened.ensures) (tag-opens h.number c.args.rest.now h.rest.now
-    (head-here Tag c.in-Some.first.now c.in-Some.behind.now h.rest.now h.width h.number c.in-Some-read_argument.ensures.spelled (omega (arith, c.in-6.is)) (λ e. cc e) c.args.rest.now c.in-Some.ensures.cases.0))
+    tag-opens h.number c.counted-opened.result c.args.rest.now h.rest.now c.counted-opened.ensures
+    (head-here Tag c.in-Some.first.now c.in-Some.behind.now h.rest.now h.width h.number c.in-Some-read_argument.ensures.spelled (omega (arith, c.in-6.is)) (λ e. cc e) c.args.rest.now c.in-Some.ensures.cases.0)
 
 simple_head : (g : _) (c : Else-number-lt32 g) → IsHead Simple c.in-Some-read_argument.head.number c.args.rest.now c.in-Some-read_argument.head.rest.now
 simple_head g c =
