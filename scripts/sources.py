@@ -60,12 +60,15 @@ class Module:
             self.modules[alias or path.rsplit(".", 1)[1]] = path
             return
         for item in split_names(items):
-            here, _, there = item.partition(" as ")
-            self.names[there or here] = (path, here)
+            # an item may be named by its way down from the module in front of the braces
+            way, _, there = item.partition(" as ")
+            below, _, here = way.rpartition(".")
+            module = f"{path}.{below}" if below else path
+            self.names[there or here] = (module, here)
             # a module may be brought in as an item is
-            self.modules[there or here] = f"{path}.{here}"
+            self.modules[there or here] = f"{module}.{here}"
             if is_public:
-                self.handed_on[there or here] = (path, here)
+                self.handed_on[there or here] = (module, here)
 
 
 def parse_spec(path, crate):

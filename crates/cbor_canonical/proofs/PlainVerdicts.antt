@@ -1,21 +1,15 @@
 -- The verdict of the strict rules, which is that of the plain ones too, unless it refuses for a reason that these have not.
-use Rattle.std.proofs.Common.{◌≡◌, ◌≢◌, ◌⊎◌, ℕ, ◌<◌, ◌≤◌, List, length, inl, inr, refl, ap, subst, arith}
+use Rattle.std.proofs.Common.{◌≡◌, ◌⊎◌, ℕ, ◌<◌, ◌≤◌, List, length, inl, inr, refl, ap, subst, arith}
 use Rattle.std.proofs.lemmas.Bool.{cases_lt}
 use Rattle.cbor_head.specs.Prelude.{Bounds, Spelling, IsSpelled, plain, strict, Complaint, Complains, IsComplaint, rank, IsFirstOf, HasNoneOf, accepted, refused, IsVerdict}
 use Rattle.cbor_head.specs.declared.order.KeyOrder.{KeyOrder}
 use Rattle.cbor_head.specs.declared.reason.Reason.{Reason}
-use Rattle.cbor_head.specs.declared.reason.Reason.TheVariants.{InvalidText, NotShortest, Indefinite, KeyOrder as KeyOrderReason}
+use Rattle.cbor_head.specs.declared.reason.Reason.TheVariants.{InvalidText}
 use Rattle.cbor_head.specs.declared.reason.Refusal.{Refusal}
 use Rattle.cbor_grammar.proofs.Complaints.{kind_rank}
 use Rattle.cbor_grammar.proofs.Reasons.{each_complaint, ranked}
 use Rattle.cbor_canonical.specs.StrictReasons.{IsStrictReason}
 use Rattle.cbor_canonical.proofs.PlainRules.{none_plainly, plainly}
-
-pub other_reasons : (x : Reason) → x ≢ NotShortest → x ≢ Indefinite → x ≢ KeyOrderReason → ¬ IsStrictReason x
-other_reasons NotShortest a b c h = a refl
-other_reasons Indefinite a b c h = b refl
-other_reasons KeyOrderReason a b c h = c refl
-other_reasons _ a b c h = h
 
 module _ (limits : Bounds) (o : KeyOrder) (s : Spelling) (spelled : IsSpelled s) where
   pub none_of_plain : (t : ℕ) → HasNoneOf (IsComplaint limits (strict o) s) t → HasNoneOf (IsComplaint limits plain s) t

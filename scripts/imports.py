@@ -1,0 +1,87 @@
+#!/usr/bin/env python3
+"""Lays out the imports of specs/ and proofs/; with --check it says which files are laid out otherwise.
+
+What a file takes of a crate stands together, lower crates first. Of modules that it takes one or two names of, one
+line has as many as fit, each name by its way down from the module that they share.
+"""
+
+import os
+import re
+import sys
+
+from sources import CRATES, ROOT, short, split_names
+
+WIDTH, FEW = 160, 2
+IMPORT = re.compile(r"^use (Rattle\.[^\s{]+)\.\{(.*)\}$")
+
+
+def ranks():
+    """The crates in the order of crates.txt; std and the kit's stand before them."""
+    lines = (ROOT / "crates.txt").read_text().splitlines()
+    return {it.split(":")[0].split()[0]: at for at, it in enumerate(lines) if it and not it.startswith("#")}
+
+
+def one_line(taken):
+    """The import of (module, names), each name by its way down from the module that all share."""
+    shared = os.path.commonprefix([module.split(".") for module, _ in taken])
+    ways = [module.split(".")[len(shared):] + [name] for module, names in taken for name in names]
+    return f"use {'.'.join(shared)}.{{{', '.join('.'.join(it) for it in ways)}}}"
+
+
+def taken_by(line):
+    """What an import takes, by modules; nothing of one that renames, or that names the crate's own module alone."""
+    match = IMPORT.match(line)
+    names = split_names(match[2]) if match else []
+    taken = {}
+    for name in names:
+        module, _, item = f"{match[1]}.{name}".rpartition(".")
+        taken.setdefault(module, []).append(item)
+    return {} if any(" as " in it for it in names) or any(it.count(".") < 3 for it in taken) else taken
+
+
+def of_crate(lines):
+    """A file's imports of one crate, those of few names in as few lines as fit."""
+    by_line, of_module = {it: taken_by(it) for it in lines}, {}
+    for taken in by_line.values():
+        for module, names in taken.items():
+            of_module.setdefault(module, []).extend(names)
+    few = {module: names for module, names in of_module.items() if len(names) <= FEW}
+    kept = [it for it in lines if not by_line[it] or any(module not in few for module in by_line[it])]
+    packs = []
+    for taken in few.items():
+        if packs and len(one_line(packs[-1] + [taken])) <= WIDTH:
+            packs[-1].append(taken)
+        else:
+            packs.append([taken])
+    return kept + [one_line(it) for it in packs]
+
+
+def laid_out(text, rank):
+    done, run = [], {}
+    for line in [*text.split("\n"), None]:
+        if line is not None and line.startswith("use Rattle."):
+            run.setdefault(re.split(r"[. ]", line)[2], []).append(line)
+            continue
+        for crate in sorted(run, key=lambda it: rank.get(it, -1)):
+            done += of_crate(run[crate])
+        run = {}
+        done.append(line)
+    return "\n".join(done[:-1])
+
+
+def main():
+    rank, odd = ranks(), []
+    for path in sorted(CRATES.glob("*/specs/**/*.antt")) + sorted(CRATES.glob("*/proofs/**/*.antt")):
+        text = path.read_text()
+        new = laid_out(text, rank)
+        if new != text and "--check" in sys.argv:
+            odd.append(path)
+        elif new != text:
+            path.write_text(new)
+    for path in odd:
+        print(f"imports: {short(path)} is laid out otherwise: scripts/imports.py")
+    return 1 if odd else 0
+
+
+if __name__ == "__main__":
+    sys.exit(main())
