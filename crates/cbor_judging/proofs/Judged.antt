@@ -107,6 +107,9 @@ module _ (f : Frame) (r : Rules) (at d : ℕ) (fits : IsFrame f) (flat : depth_b
 
 -- ---- members that may still come
 
+pub zero_spelled : IsSpelled zero_item
+zero_spelled = omega arith
+
 abbrev pub zero_pairs : ℕ → SpelledEntries
 zero_pairs zero = no_entries
 zero_pairs (suc n) = entry zero_item zero_item (zero_pairs n)
@@ -117,7 +120,7 @@ pairs_count (suc n) = ap suc (pairs_count n)
 
 pub pairs_spelled : (n : ℕ) → AreEntriesSpelled (zero_pairs n)
 pairs_spelled zero = tt
-pairs_spelled (suc n) = let h : 0 < 24 = omega arith in (h, h, pairs_spelled n)
+pairs_spelled (suc n) = (zero_spelled, zero_spelled, pairs_spelled n)
 
 pub pairs_flat : (n : ℕ) → depth_entries (zero_pairs n) ≡ 0
 pairs_flat zero = refl
@@ -127,13 +130,7 @@ pairs_flat (suc n) = omega (arith, pairs_flat n)
 
 pub judged_start : (r : Rules) (at d : ℕ) → IsJudged r at d [] None
 judged_start r at d =
-    let h : 0 < 24 = omega arith in
-    record {
-      item = zero_item;
-      rest = spell zero_item;
-      is = record { spelled = h; within = omega arith; bytes_are = refl };
-      finding = (omega arith, λ e g. omega (arith, later zero_item r at e g));
-    }
+    record { item = zero_item; rest = spell zero_item; is = record { spelled = zero_spelled; within = omega arith; bytes_are = refl }; finding = (omega arith, λ e g. omega (arith, later zero_item r at e g)) }
 
 -- within the head
 pub judged_head : (r : Rules) (at d : ℕ) (p : List ℕ) (s : Spelling) (rest : List ℕ) → IsItem d s (p ++ rest) → length p < length (head_of s) → IsJudged r at d p None

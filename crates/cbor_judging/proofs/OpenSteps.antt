@@ -1,5 +1,5 @@
 -- How the open containers change as members, keys and values end, and what stays known of them.
-use Rattle.std.proofs.Common.{ℕ, suc, ◌+◌, ◌≡◌, ◌≤◌, ◌⊎◌, List, [], ◌∷◌, ◌++◌, length, refl, sym, ap, ◌∙◌, arith, subst, inl, inr, length-append, append_assoc, append-nil, ◌<◌}
+use Rattle.std.proofs.Common.{ℕ, suc, ◌+◌, ◌≡◌, ◌≤◌, ◌⊎◌, List, [], ◌∷◌, ◌++◌, length, refl, sym, ap, ◌∙◌, arith, subst, inl, inr, length-append, append_assoc, append-nil}
 use Rattle.cbor_head.specs.Prelude.{head, Holds, Spelling, Spellings, SpelledEntries, no_spellings, a_spelling, no_entries, entry, spell, spell_all, spell_entries, spellings_count, entries_count, IsSpelled, HoldsOrIndefinite, depth, Rules, Complaint, OfCount, Complains, OfHead}
 use Rattle.cbor_head.specs.declared.major.Major.TheVariants.{Array, Map, Tag}
 use Rattle.cbor_head.specs.declared.width.Width.{Width}
@@ -10,7 +10,7 @@ use Rattle.cbor_judging.specs.Judged.{Never}
 use Rattle.cbor_judging.specs.SoFar.{array_bytes, map_bytes}
 use Rattle.cbor_judging.proofs.Loops.{array_bytes-more, map_bytes-more}
 use Rattle.cbor_judging.proofs.OpenKeys.{front_apart}
-use Rattle.cbor_judging.proofs.Judged.{zero_item, zeros, zero_pairs, zeros_count, zeros_spelled, zeros_flat, pairs_count, pairs_spelled, pairs_flat}
+use Rattle.cbor_judging.proofs.Judged.{zero_item, zero_spelled, zeros, zero_pairs, zeros_count, zeros_spelled, zeros_flat, pairs_count, pairs_spelled, pairs_flat}
 
 -- ---- one container more, within the others
 
@@ -195,8 +195,7 @@ module _ (r : Rules) (depth_limit : ℕ) where
       → Never (OfCount r (length (before_all fs)) Map w (suc more)) → AreOpen r depth_limit (fs ++ a_key w no_entries zero_item (zero_pairs more) ∷ [])
   map_opens fs w more d o e h clean =
       let n : suc more ≡ 0 + suc (entries_count (zero_pairs more)) = omega (arith, pairs_count more) in
-      let z : 0 < 24 = omega arith in
-      opens fs (a_key w no_entries zero_item (zero_pairs more)) d o e (subst (HoldsOrIndefinite w) n h, tt, z, pairs_spelled more) (omega (arith, pairs_flat more))
+      opens fs (a_key w no_entries zero_item (zero_pairs more)) d o e (subst (HoldsOrIndefinite w) n h, tt, zero_spelled, pairs_spelled more) (omega (arith, pairs_flat more))
       (λ c x. elim x [ inl y ↦ subst (λ (k : ℕ). Never (OfCount r (length (before_all fs)) Map w k)) n clean c y | inr y ↦ absurd y ])
 
   pub tag_opens : (fs : List Frame) (w : Width) (n d : ℕ) → AreOpen r depth_limit fs → suc (length fs + d) ≡ depth_limit → Holds w n → Never (OfHead r (length (before_all fs)) Tag w n)

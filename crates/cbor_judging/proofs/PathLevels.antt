@@ -6,7 +6,7 @@ use Rattle.cbor_judging.specs.Frame as frames
 use Rattle.cbor_judging.specs.Frame.{Frame, before, keys_onto, IsFrame, depth_beside, OfFront}
 use Rattle.cbor_judging.specs.Judged.{IsJudged, Never}
 use Rattle.cbor_judging.specs.SoFar.{array_bytes, map_bytes}
-use Rattle.cbor_judging.proofs.Judged.{zero_item, zeros, zeros_count, zeros_spelled, zeros_flat, zero_pairs, pairs_count, pairs_spelled, pairs_flat, judged_in, judged_key}
+use Rattle.cbor_judging.proofs.Judged.{zero_item, zero_spelled, zeros, zeros_count, zeros_spelled, zeros_flat, zero_pairs, pairs_count, pairs_spelled, pairs_flat, judged_in, judged_key}
 use Rattle.cbor_judging.specs.Path.{Level, a_member, a_key, a_value, tagged, level_bytes, IsClean, bytes_before, AreClean, HasEnded}
 
 -- ---- a level as a frame, in which zeros stand for what is still to come
@@ -26,19 +26,14 @@ before_frame (tagged w n) = refl
 module _ (r : Rules) (at d : ℕ) where
   pub frame_fits : (l : Level) → IsClean r at d l → IsFrame (frame_of l)
   frame_fits (a_member w left done) h = (subst (λ (n : ℕ). HoldsOrIndefinite w (spellings_count done + suc n)) (sym (zeros_count left)) h.holds, h.spelled, zeros_spelled left)
-  frame_fits (a_key w left done) h =
-      let z : 0 < 24 = omega arith in
-      (subst (λ (n : ℕ). HoldsOrIndefinite w (entries_count done + suc n)) (sym (pairs_count left)) h.holds, h.spelled, z, pairs_spelled left)
+  frame_fits (a_key w left done) h = (subst (λ (n : ℕ). HoldsOrIndefinite w (entries_count done + suc n)) (sym (pairs_count left)) h.holds, h.spelled, zero_spelled, pairs_spelled left)
   frame_fits (a_value w left done k) h = (subst (λ (n : ℕ). HoldsOrIndefinite w (entries_count done + suc n)) (sym (pairs_count left)) h.so_far.holds, h.so_far.spelled, h.spelled, pairs_spelled left)
   frame_fits (tagged w n) h = h.0
 
   pub frame_flat : (l : Level) → IsClean r at d l → depth_beside (frame_of l) ≤ d
-  frame_flat (a_member w left done) h = let low = h.within in omega (arith, low, zeros_flat left)
-  frame_flat (a_key w left done) h = let low = h.within in omega (arith, low, pairs_flat left)
-  frame_flat (a_value w left done k) h =
-      let low = h.so_far.within in
-      let key = h.within in
-      omega (arith, low, key, pairs_flat left)
+  frame_flat (a_member w left done) h = omega (arith, h.within, zeros_flat left)
+  frame_flat (a_key w left done) h = omega (arith, h.within, pairs_flat left)
+  frame_flat (a_value w left done k) h = omega (arith, h.so_far.within, h.within, pairs_flat left)
   frame_flat (tagged w n) h = omega arith
 
   front_clean : (l : Level) → IsClean r at d l → Never (OfFront r at (frame_of l))
