@@ -49,8 +49,7 @@ module _ (limits : Bounds) (rules : Rules) (front behind : List ℕ) where
 
   accepted_further : (s : Spelling) → IsVerdict limits rules front (accepted s) → IsVerdict limits rules (front ++ behind) (accepted s)
   accepted_further s v =
-      let is : spell v.item ≡ v.p = v.decides.1 in
-      let splits = splits_further v.p v.longest.rest v.longest.splits ∙ ap (λ (xs : List ℕ). xs ++ (v.longest.rest ++ more)) (sym is) in
+      let splits = splits_further v.p v.longest.rest v.longest.splits ∙ ap (λ (xs : List ℕ). xs ++ (v.longest.rest ++ more)) (sym v.decides.1) in
       record {
         p = spell v.item;
         longest = whole_longest limits.depth v.item (take limits.bytes (front ++ behind)) (v.longest.rest ++ more)
@@ -58,7 +57,7 @@ module _ (limits : Bounds) (rules : Rules) (front behind : List ℕ) where
         item = v.item;
         rest = [];
         starts = record { spelled = v.starts.spelled; within = v.starts.within; bytes_are = sym (append-nil (spell v.item)) };
-        decides = (v.decides.0, refl, subst (λ (xs : List ℕ). IsWithout limits rules v.item (length xs)) (sym is) v.decides.2);
+        decides = (v.decides.0, refl, subst (λ (xs : List ℕ). IsWithout limits rules v.item (length xs)) (sym v.decides.1) v.decides.2);
       }
 
   complaint_further : (f : Refusal) (v : IsVerdict limits rules front (refused f)) (c : Complaint) → IsFirstComplaint limits rules v.item (length v.p) c → f ≡ refusal c.reason c.place c.end

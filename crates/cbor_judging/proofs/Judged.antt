@@ -33,11 +33,10 @@ module _ (f : Frame) (r : Rules) (at d : ℕ) (fits : IsFrame f) (flat : depth_b
       let to = at + length (before f) in
       let more = length-append (before f) p in
       let size : length (spell s) ≡ length p + length rest = ap length e ∙ length-append p rest in
-      let ends : c.end ≤ to + length p = h.ends in
       let least : c.end + (rank c.reason - 1) ≤ to + length (spell s) = bounded s r to c h.holds in
       record {
         holds = plug_item f s r at to c refl (inl h.holds);
-        ends = omega (arith, ends, more);
+        ends = omega (arith, h.ends, more);
         first = λ x g l. elim (plug_split f s r at to x refl g) [
           | inl y ↦ absurd (clean x y)
           | inr (inl y) ↦ h.first x y (omega (arith, l, more))
@@ -64,11 +63,10 @@ module _ (f : Frame) (r : Rules) (at d : ℕ) (fits : IsFrame f) (flat : depth_b
   pub judged_in : (p : List ℕ) (found : Option Complaint) → IsJudged r (at + length (before f)) d p found → IsJudged r at (suc d) (before f ++ p) found
   judged_in p found j =
       let deep = depth_plug f j.item in
-      let small = j.is.within in
       record {
         item = plug f j.item;
         rest = j.rest ++ behind f;
-        is = record { spelled = spelled_plug f j.item fits j.is.spelled; within = omega (arith, deep, small, flat); bytes_are = bytes_in f j.item p j.rest j.is.bytes_are };
+        is = record { spelled = spelled_plug f j.item fits j.is.spelled; within = omega (arith, deep, j.is.within, flat); bytes_are = bytes_in f j.item p j.rest j.is.bytes_are };
         finding = finding_in j.item p j.rest found j.is.bytes_are j.finding;
       }
 

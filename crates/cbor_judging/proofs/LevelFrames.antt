@@ -97,9 +97,8 @@ pub path_open : (d : ℕ) (ls : List Level) → AreLevels d ls → AreOpen plain
 unfolding path
 path_open d [] h = none_open plain d
 path_open d (l ∷ ls) h =
-    let room = h.0 in
     let i = fitting (d - suc (length ls)) l h.1 in
-    one_opens plain d (path ls) (frame_of l) (d - suc (length ls)) (path_open d ls h.2) (omega (arith, room, path_length ls)) i.fits i.flat (i.clean _)
+    one_opens plain d (path ls) (frame_of l) (d - suc (length ls)) (path_open d ls h.2) (omega (arith, h.0, path_length ls)) i.fits i.flat (i.clean _)
 
 -- ---- the containers around the item that is due, where it is known what is complete in them
 

@@ -209,10 +209,9 @@ module _ (r : Rules) (depth_limit : ℕ) where
       → AreOpen r depth_limit (fs ++ a_member w (with_all a (a_spelling s no_spellings)) b ∷ [])
   member_ends fs w a s t b o h l none =
       let i = innermost fs (a_member w a (a_spelling t b)) o in
-      let flat = i.flat in
       goes_on fs (a_member w a (a_spelling t b)) (a_member w (with_all a (a_spelling s no_spellings)) b) o (record {
         fits = (subst (HoldsOrIndefinite w) (sym (member_count a s (spellings_count b))) i.fits.0, spelled_with a (a_spelling s no_spellings) i.fits.1 (h, tt), i.fits.2.1);
-        flat = omega (arith, flat, l, depth_with a (a_spelling s no_spellings));
+        flat = omega (arith, i.flat, l, depth_with a (a_spelling s no_spellings));
         clean = member_clean w a s t b r (length (before_all fs)) i.clean none;
       })
 
@@ -221,18 +220,16 @@ module _ (r : Rules) (depth_limit : ℕ) where
       → AreOpen r depth_limit (fs ++ a_content w a k b ∷ [])
   key_ends fs w a k v b o h l none =
       let i = innermost fs (a_key w a v b) o in
-      let flat = i.flat in
       goes_on fs (a_key w a v b) (a_content w a k b) o
-      (record { fits = (i.fits.0, i.fits.1, h, i.fits.3); flat = omega (arith, flat, l); clean = key_clean w a k v b r (length (before_all fs)) i.clean none })
+      (record { fits = (i.fits.0, i.fits.1, h, i.fits.3); flat = omega (arith, i.flat, l); clean = key_clean w a k v b r (length (before_all fs)) i.clean none })
 
   pub content_ends : (fs : List Frame) (w : Width) (a : SpelledEntries) (k v l m : Spelling) (b : SpelledEntries) (o : AreOpen r depth_limit (fs ++ a_content w a k (entry l m b) ∷ []))
       → IsSpelled v → depth v ≤ o.left → Never (Complains r (length (before_all fs) + length (before (a_content w a k (entry l m b)))) v)
       → AreOpen r depth_limit (fs ++ a_key w (with_entries a (entry k v no_entries)) m b ∷ [])
   content_ends fs w a k v l m b o h low none =
       let i = innermost fs (a_content w a k (entry l m b)) o in
-      let flat = i.flat in
       goes_on fs (a_content w a k (entry l m b)) (a_key w (with_entries a (entry k v no_entries)) m b) o (record {
         fits = (subst (HoldsOrIndefinite w) (sym (pair_count a k v (entries_count b))) i.fits.0, spelled_entries_with a (entry k v no_entries) i.fits.1 (i.fits.2, h, tt), i.fits.3.1, i.fits.3.2);
-        flat = omega (arith, flat, low, depth_entries_with a (entry k v no_entries));
+        flat = omega (arith, i.flat, low, depth_entries_with a (entry k v no_entries));
         clean = content_clean w a k v l m m b r (length (before_all fs)) i.clean none;
       })

@@ -1,5 +1,5 @@
 -- What is found of an item is found of the open containers around it.
-use Rattle.std.proofs.Common.{◌≡◌, ℕ, suc, ◌+◌, ◌-◌, ◌<◌, ◌≤◌, Option, Some, List, [], ◌∷◌, ◌++◌, length, refl, sym, ap, subst, inl, inr, arith, append_assoc, length-append}
+use Rattle.std.proofs.Common.{◌≡◌, ℕ, suc, ◌+◌, ◌-◌, ◌≤◌, Option, Some, List, [], ◌∷◌, ◌++◌, length, refl, sym, ap, subst, inl, inr, arith, append_assoc, length-append}
 use Rattle.cbor_head.specs.Prelude.{Rules, Complaint, OfKey, Complains, Spelling, SpelledEntries, spell, IsSpelled, depth, spellings_count, entries_count, HoldsOrIndefinite}
 use Rattle.cbor_head.specs.declared.width.Width.{Width}
 use Rattle.cbor_judging.specs.Frame as frames
@@ -66,10 +66,9 @@ pub judged_path : (r : Rules) (d : ℕ) (ls : List Level) → AreClean r d ls �
 judged_path r d [] h p found j = let e : d - 0 ≡ d = omega arith in subst (λ (n : ℕ). IsJudged r 0 n p found) e j
 judged_path r d (l ∷ ls) h p found j =
     let at = length (bytes_before ls) in
-    let below : length ls < d = h.0 in
     let inner = subst (λ (n : ℕ). IsJudged r n (d - suc (length ls)) p found) (length-append (bytes_before ls) (level_bytes l)) j in
     let one = judged_level r at (d - suc (length ls)) l h.1 p found inner in
-    let e : suc (d - suc (length ls)) ≡ d - length ls = omega (arith, below) in
+    let e : suc (d - suc (length ls)) ≡ d - length ls = omega (arith, h.0) in
     subst (λ (x : List ℕ). IsJudged r 0 d x found) (sym (append_assoc (bytes_before ls) (level_bytes l) p))
     (judged_path r d ls h.2 (level_bytes l ++ p) found (subst (λ (n : ℕ). IsJudged r at n (level_bytes l ++ p) found) e one))
 
@@ -79,8 +78,7 @@ judged_key_path r d w left done ls k c h o =
     let l = a_key w left done in
     let at = length (bytes_before ls) in
     let size = length-append (bytes_before ls) (level_bytes l) in
-    let below : length ls < d = h.around.0 in
     let one = judged_key_level r at (d - suc (length ls)) w left done k c h.around.1 h.spelled h.within (subst (λ (n : ℕ). Never (Complains r n k)) size h.clean) (subst (λ (n : ℕ). OfKey r.keys n (keys_onto [] done) k c) size o) in
-    let e : suc (d - suc (length ls)) ≡ d - length ls = omega (arith, below) in
+    let e : suc (d - suc (length ls)) ≡ d - length ls = omega (arith, h.around.0) in
     subst (λ (x : List ℕ). IsJudged r 0 d x (Some c)) (sym (append_assoc (bytes_before ls) (level_bytes l) (spell k)))
     (judged_path r d ls h.around.2 (level_bytes l ++ spell k) (Some c) (subst (λ (n : ℕ). IsJudged r at n (level_bytes l ++ spell k) (Some c)) e one))
