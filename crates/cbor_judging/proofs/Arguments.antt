@@ -1,5 +1,5 @@
 -- The argument behind a first byte, and the head that both spell.
-use Rattle.std.proofs.Common.{◌≡◌, ℕ, ◌+◌, ◌*◌, ◌^◌, ◌%◌, ◌<◌, ◌≤◌, List, ◌∷◌, ◌++◌, drop, get_or, sym, ap, ◌∙◌, arith}
+use Rattle.std.proofs.Common.{◌≡◌, ℕ, ◌+◌, ◌*◌, ◌%◌, ◌<◌, ◌≤◌, List, ◌∷◌, ◌++◌, drop, get_or, sym, ap, ◌∙◌, arith}
 use Rattle.std.proofs.lemmas.Bool.Decides.{nat_tests}
 use Rattle.cbor_head.specs.Prelude.{IsHead, major_number, shortest, with_argument}
 use Rattle.cbor_head.specs.declared.major.Major.{Major}
@@ -25,9 +25,8 @@ pub low_bits : (low : ℕ) (behind : List ℕ) (w : Width) (n : ℕ) (rest : Lis
 low_bits low behind Direct n rest a l wide = sym (direct-is n a.holds)
 low_bits low behind One n rest a l wide =
     let e : 0 + low ≡ 0 + 24 = ap (λ (xs : List ℕ). get_or xs 0 0) (a.spelled 0) in
-    let h : n < 2 ^ 8 = a.holds in
     let g : 32 ≤ n = wide (omega (arith, e)) in
-    sym (middle (omega (arith, h)) (omega (arith, g)))
+    sym (middle (omega (arith, a.holds)) (omega (arith, g)))
   where
     middle : n < 256 → 24 ≤ n → shortest n ≡ One
     middle h g = grind (arith, nat_tests)

@@ -23,15 +23,14 @@ module _ (limits : Bounds) (o : KeyOrder) (input : List ℕ) where
   strict_value s v =
       let h = (accepts_exactly limits (strict o) input s).0 v in
       let k = strict_exactly o s h.1.0 (λ c x. h.2 c (inl x)) in
-      let bytes_are = k.canonical_is.bytes_are in
       record {
         range = k.range;
         valid = k.valid;
         keys = λ basic. has_basic_keys s 0 (λ c x. h.2 c (inr (refl, basic, x)));
         within = omega (arith, depth-value_of s, h.1.1);
-        fits = omega (arith, ap length bytes_are, item_within_limit limits (strict o) input s v);
+        fits = omega (arith, ap length k.canonical_is.bytes_are, item_within_limit limits (strict o) input s v);
         rest = h.0 ++ drop limits.bytes input;
-        begins = ap (λ (b : List ℕ). b ++ (h.0 ++ drop limits.bytes input)) (sym bytes_are) ∙ sym (append_assoc (spell s) h.0 (drop limits.bytes input))
+        begins = ap (λ (b : List ℕ). b ++ (h.0 ++ drop limits.bytes input)) (sym k.canonical_is.bytes_are) ∙ sym (append_assoc (spell s) h.0 (drop limits.bytes input))
             ∙ ap (λ (b : List ℕ). b ++ drop limits.bytes input) h.1.2 ∙ take-append-drop limits.bytes input;
       }
 

@@ -1,5 +1,5 @@
 -- What a reader found is the verdict.
-use Rattle.std.proofs.Common.{ℕ, ◌+◌, ◌≡◌, ◌<◌, ◌≤◌, Some, None, List, [], ◌∷◌, ◌++◌, length, take, refl, sym, ap, ◌∙◌, arith, subst, inl, inr, append_assoc, append-nil, length-append}
+use Rattle.std.proofs.Common.{ℕ, ◌+◌, ◌≡◌, ◌≤◌, Some, None, List, [], ◌∷◌, ◌++◌, length, take, refl, sym, ap, ◌∙◌, arith, subst, inl, inr, append_assoc, append-nil, length-append}
 use Rattle.std.proofs.lemmas.Bool.{cases_lt}
 use Rattle.cbor_head.specs.Laws.{StartsWith}
 use Rattle.cbor_head.specs.Prelude.{Bounds, Spelling, spell, IsItem, Rules, Complaint, complaint, OfKinds, Complains, IsComplaint, refusal, refused, IsFormError, IsFirstOf, HasNoneOf, IsVerdict, IsLongestBeginning}
@@ -14,14 +14,12 @@ use Rattle.cbor_grammar.proofs.KindsAgree.{same_kinds}
 
 pub first_at_start : (r : Rules) (s : Spelling) (p : List ℕ) (c : Complaint) → IsFirstOf (Complains r 0 s) (0 + length p) c → IsFirstOf (Complains r 0 s) (length p) c
 first_at_start r s p c f =
-    let e : c.end ≤ 0 + length p = f.ends in
-    record { holds = f.holds; ends = omega (arith, e); first = λ x h l. f.first x h (omega (arith, l)) }
+    record { holds = f.holds; ends = omega (arith, f.ends); first = λ x h l. f.first x h (omega (arith, l)) }
 
 -- what comes first within t comes first within what goes on from t
 pub first_further : (P : Complaint → Type 0) (t u : ℕ) (c : Complaint) → t ≤ u → IsFirstOf P t c → IsFirstOf P u c
 first_further P t u c l f =
-    let e : c.end ≤ t = f.ends in
-    record { holds = f.holds; ends = omega (arith, e, l); first = λ x h m. elim (cases_lt t x.end) [ inl k ↦ inl (omega (arith, e, k)) | inr k ↦ f.first x h k ] }
+    record { holds = f.holds; ends = omega (arith, f.ends, l); first = λ x h m. elim (cases_lt t x.end) [ inl k ↦ inl (omega (arith, f.ends, k)) | inr k ↦ f.first x h k ] }
 
 -- ---- with no key of another kind so far
 
@@ -55,7 +53,6 @@ complaint_decides limits r input p u q c j keeps e g =
 pub break_decides : (limits : Bounds) (r : Rules) (input p : List ℕ) (f : Refusal) → IsJudged r 0 limits.depth p None → KeepsToKinds limits r p → (g : IsLongestBeginning limits.depth (take limits.bytes input) p) → IsFormError limits p g.rest f
     → IsVerdict limits r input (refused f)
 break_decides limits r input p f j keeps g b =
-    let short : 0 + length p < 0 + length (spell j.item) = j.finding.0 in
     record {
       p = p;
       longest = g;
@@ -64,7 +61,7 @@ break_decides limits r input p f j keeps g b =
       starts = j.is;
       decides = inr (
         none_beside limits r j.item (length p) (λ asked x y n. keeps asked j.item x (j.rest, j.is) y n) (λ c h l. omega (arith, l, j.finding.1 c h)),
-        (λ e. omega (arith, ap length e, short)),
+        (λ e. omega (arith, ap length e, j.finding.0)),
         b,
       );
     }

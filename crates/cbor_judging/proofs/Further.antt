@@ -49,9 +49,7 @@ module _ (limits : Bounds) (rules : Rules) (front behind : List ℕ) where
 
   accepted_further : (s : Spelling) → IsVerdict limits rules front (accepted s) → IsVerdict limits rules (front ++ behind) (accepted s)
   accepted_further s v =
-      let is : spell v.item ≡ v.p = v.decides.1 in
-      let splits : take limits.bytes (front ++ behind) ≡ spell v.item ++ (v.longest.rest ++ more) =
-      within ∙ ap (λ (xs : List ℕ). xs ++ more) v.longest.splits ∙ append_assoc v.p v.longest.rest more ∙ ap (λ (xs : List ℕ). xs ++ (v.longest.rest ++ more)) (sym is) in
+      let splits = splits_further v.p v.longest.rest v.longest.splits ∙ ap (λ (xs : List ℕ). xs ++ (v.longest.rest ++ more)) (sym v.decides.1) in
       record {
         p = spell v.item;
         longest = whole_longest limits.depth v.item (take limits.bytes (front ++ behind)) (v.longest.rest ++ more)
@@ -59,15 +57,14 @@ module _ (limits : Bounds) (rules : Rules) (front behind : List ℕ) where
         item = v.item;
         rest = [];
         starts = record { spelled = v.starts.spelled; within = v.starts.within; bytes_are = sym (append-nil (spell v.item)) };
-        decides = (v.decides.0, refl, subst (λ (xs : List ℕ). IsWithout limits rules v.item (length xs)) (sym is) v.decides.2);
+        decides = (v.decides.0, refl, subst (λ (xs : List ℕ). IsWithout limits rules v.item (length xs)) (sym v.decides.1) v.decides.2);
       }
 
   complaint_further : (f : Refusal) (v : IsVerdict limits rules front (refused f)) (c : Complaint) → IsFirstComplaint limits rules v.item (length v.p) c → f ≡ refusal c.reason c.place c.end
       → IsVerdict limits rules (front ++ behind) (refused f)
   complaint_further f v c first is =
       let (q, g) = longest_always limits.depth (take limits.bytes (front ++ behind)) in
-      let splits : take limits.bytes (front ++ behind) ≡ v.p ++ (v.longest.rest ++ more) =
-      within ∙ ap (λ (xs : List ℕ). xs ++ more) v.longest.splits ∙ append_assoc v.p v.longest.rest more in
+      let splits = splits_further v.p v.longest.rest v.longest.splits in
       let l = g.longest v.p (v.longest.rest ++ more) v.longest.beginning splits in
       let (k, e, h) = split_front v.p (v.longest.rest ++ more) q g.rest (sym splits ∙ g.splits) l in
       let (t, z, i) = g.beginning in
@@ -79,8 +76,7 @@ module _ (limits : Bounds) (rules : Rules) (front behind : List ℕ) where
       → IsFormError limits v.p rest f → f.reason ≢ Truncated → IsVerdict limits rules (front ++ behind) (refused f)
   form_further f v none apart (c ∷ cs) e h not_cut =
       let splits : take limits.bytes front ≡ v.p ++ c ∷ cs = v.longest.splits ∙ ap (λ (xs : List ℕ). v.p ++ xs) e in
-      let further : take limits.bytes (front ++ behind) ≡ v.p ++ c ∷ (cs ++ more) =
-      within ∙ ap (λ (xs : List ℕ). xs ++ more) splits ∙ append_assoc v.p (c ∷ cs) more in
+      let further : take limits.bytes (front ++ behind) ≡ v.p ++ c ∷ (cs ++ more) = splits_further v.p (c ∷ cs) splits in
       let stopped = stopped_longest limits.depth v.p c cs more (record {
         beginning = v.longest.beginning;
         rest = c ∷ cs;

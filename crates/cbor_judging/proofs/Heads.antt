@@ -13,7 +13,7 @@ use Rattle.cbor_automaton.specs.Automaton.{Frame, State, at_item, in_head, in_si
 use Rattle.cbor_automaton.proofs.Arguments.{number}
 use Rattle.cbor_automaton.proofs.Taking.{IsNumbered, IsWithin}
 use Rattle.cbor_judging.specs.Judged.{IsJudged}
-use Rattle.cbor_judging.proofs.Judged.{judged_start, judged_head, zero_item, zeros, zero_pairs, zeros_count, zeros_spelled, zeros_flat, pairs_count, pairs_spelled, pairs_flat}
+use Rattle.cbor_judging.proofs.Judged.{judged_start, judged_head, zero_item, zero_spelled, zeros, zero_pairs, zeros_count, zeros_spelled, zeros_flat, pairs_count, pairs_spelled, pairs_flat}
 pub use Rattle.cbor_grammar.proofs.ReadLaws.{holds_or_open as open_or}
 pub use Rattle.cbor_automaton.proofs.Beginnings.{zero_bytes}
 
@@ -70,7 +70,7 @@ headed d Map w n i h l = record {
   head_is = ap (head Map w) (pairs_count n);
   of = λ r at c o. inl (subst (λ (k : ℕ). OfCount r at Map w k c) (sym (pairs_count n)) o);
 }
-headed d Tag w n i h l = let z : 0 < 24 = omega arith in record { item = tag w n zero_item; spelled = (h, z); within = omega (arith, l); head_is = refl; of = λ r at c o. inl (definite-head r at Tag w n c h o) }
+headed d Tag w n i h l = record { item = tag w n zero_item; spelled = (h, zero_spelled); within = omega (arith, l); head_is = refl; of = λ r at c o. inl (definite-head r at Tag w n c h o) }
 headed d Simple w n i h l = absurd i
 
 -- a simple value never has one

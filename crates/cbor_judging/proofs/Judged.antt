@@ -33,11 +33,10 @@ module _ (f : Frame) (r : Rules) (at d : ℕ) (fits : IsFrame f) (flat : depth_b
       let to = at + length (before f) in
       let more = length-append (before f) p in
       let size : length (spell s) ≡ length p + length rest = ap length e ∙ length-append p rest in
-      let ends : c.end ≤ to + length p = h.ends in
       let least : c.end + (rank c.reason - 1) ≤ to + length (spell s) = bounded s r to c h.holds in
       record {
         holds = plug_item f s r at to c refl (inl h.holds);
-        ends = omega (arith, ends, more);
+        ends = omega (arith, h.ends, more);
         first = λ x g l. elim (plug_split f s r at to x refl g) [
           | inl y ↦ absurd (clean x y)
           | inr (inl y) ↦ h.first x y (omega (arith, l, more))
@@ -64,11 +63,10 @@ module _ (f : Frame) (r : Rules) (at d : ℕ) (fits : IsFrame f) (flat : depth_b
   pub judged_in : (p : List ℕ) (found : Option Complaint) → IsJudged r (at + length (before f)) d p found → IsJudged r at (suc d) (before f ++ p) found
   judged_in p found j =
       let deep = depth_plug f j.item in
-      let small = j.is.within in
       record {
         item = plug f j.item;
         rest = j.rest ++ behind f;
-        is = record { spelled = spelled_plug f j.item fits j.is.spelled; within = omega (arith, deep, small, flat); bytes_are = bytes_in f j.item p j.rest j.is.bytes_are };
+        is = record { spelled = spelled_plug f j.item fits j.is.spelled; within = omega (arith, deep, j.is.within, flat); bytes_are = bytes_in f j.item p j.rest j.is.bytes_are };
         finding = finding_in j.item p j.rest found j.is.bytes_are j.finding;
       }
 
@@ -107,6 +105,9 @@ module _ (f : Frame) (r : Rules) (at d : ℕ) (fits : IsFrame f) (flat : depth_b
 
 -- ---- members that may still come
 
+pub zero_spelled : IsSpelled zero_item
+zero_spelled = omega arith
+
 abbrev pub zero_pairs : ℕ → SpelledEntries
 zero_pairs zero = no_entries
 zero_pairs (suc n) = entry zero_item zero_item (zero_pairs n)
@@ -117,7 +118,7 @@ pairs_count (suc n) = ap suc (pairs_count n)
 
 pub pairs_spelled : (n : ℕ) → AreEntriesSpelled (zero_pairs n)
 pairs_spelled zero = tt
-pairs_spelled (suc n) = let h : 0 < 24 = omega arith in (h, h, pairs_spelled n)
+pairs_spelled (suc n) = (zero_spelled, zero_spelled, pairs_spelled n)
 
 pub pairs_flat : (n : ℕ) → depth_entries (zero_pairs n) ≡ 0
 pairs_flat zero = refl
@@ -127,13 +128,7 @@ pairs_flat (suc n) = omega (arith, pairs_flat n)
 
 pub judged_start : (r : Rules) (at d : ℕ) → IsJudged r at d [] None
 judged_start r at d =
-    let h : 0 < 24 = omega arith in
-    record {
-      item = zero_item;
-      rest = spell zero_item;
-      is = record { spelled = h; within = omega arith; bytes_are = refl };
-      finding = (omega arith, λ e g. omega (arith, later zero_item r at e g));
-    }
+    record { item = zero_item; rest = spell zero_item; is = record { spelled = zero_spelled; within = omega arith; bytes_are = refl }; finding = (omega arith, λ e g. omega (arith, later zero_item r at e g)) }
 
 -- within the head
 pub judged_head : (r : Rules) (at d : ℕ) (p : List ℕ) (s : Spelling) (rest : List ℕ) → IsItem d s (p ++ rest) → length p < length (head_of s) → IsJudged r at d p None

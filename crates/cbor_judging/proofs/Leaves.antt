@@ -1,5 +1,5 @@
 -- Heads, payloads and chunks: the first complaint of an item, or none so far.
-use Rattle.std.proofs.Common.{ℕ, ◌+◌, ◌≡◌, ◌<◌, ◌≤◌, ◌⊎◌, Option, Some, None, List, [], ◌∷◌, ◌++◌, length, flat_map, refl, sym, ap, ◌∙◌, arith, subst, inl, inr, length-append, append_assoc, append-nil, suc, Bool, true, false, true≢false, replicate, IsUtf8}
+use Rattle.std.proofs.Common.{ℕ, ◌+◌, ◌≡◌, ◌<◌, ◌⊎◌, Option, Some, None, List, [], ◌∷◌, ◌++◌, length, flat_map, refl, sym, ap, ◌∙◌, arith, subst, inl, inr, length-append, append_assoc, append-nil, suc, Bool, true, false, true≢false, replicate, IsUtf8}
 use Rattle.std.specs.List.{AllByRecursion}
 use Rattle.std.proofs.lemmas.Grind.{flat_map-append}
 use Rattle.cbor_head.specs.Prelude.{head, Holds, Chunk, IsChunk, Spelling, bytes, text, byte_chunks, text_chunks, spell, chunk_bytes, chunked, chunks_joined, IsSpelled, depth, Rules, Complaint, OfHead, OfIndefinite, OfPayload, OfString, OfChunks, Complains, AreBytes, value_of}
@@ -188,10 +188,9 @@ module _ (is_text : Bool) (done : List Chunk) (r : Rules) (at d : ℕ) (so_far :
     found_so : (found : Option Complaint) → IsFinding (OfString r to m k.width k.payload) (to + length p) (to + length (chunk_bytes m k)) found
         → IsFinding (Complains r at (made all)) (at + length (chunks_bytes m done ++ p)) (at + length (spell (made all))) found
     found_so (Some c) h =
-        let ends : c.end ≤ to + length p = h.ends in
         record {
           holds = kind.back r at all c (inr (chunks_right done (k ∷ []) r (at + 1) to m c there (inl h.holds)));
-          ends = omega (arith, ends, length-append (chunks_bytes m done) p);
+          ends = omega (arith, h.ends, length-append (chunks_bytes m done) p);
           first = λ x g l. h.first x (split x g) (omega (arith, l, length-append (chunks_bytes m done) p));
         }
     found_so None h =

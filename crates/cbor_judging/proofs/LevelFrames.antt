@@ -1,7 +1,8 @@
 -- The open containers with what is complete in them, as frames around the item that is due.
-use Rattle.std.proofs.Common.{◌≡◌, ℕ, suc, ◌+◌, ◌-◌, ◌<◌, ◌≤◌, List, [], ◌∷◌, ◌++◌, length, refl, sym, ap, ◌∙◌, subst, inl, inr, arith, ◌↔◌, length-append, append_assoc}
-use Rattle.cbor_head.specs.Prelude.{IsBeginning, Holds, head, Spelling, SpelledEntries, no_spellings, no_entries, entry, spell, spell_all, spell_entries, spellings_count, entries_count, IsSpelled, depth, plain}
+use Rattle.std.proofs.Common.{◌≡◌, ℕ, suc, ◌+◌, ◌-◌, ◌≤◌, List, [], ◌∷◌, ◌++◌, length, refl, sym, ap, ◌∙◌, subst, inl, inr, arith, ◌↔◌, length-append, append_assoc}
+use Rattle.cbor_head.specs.Prelude.{IsBeginning, HoldsOrIndefinite, head, Spelling, Spellings, SpelledEntries, no_spellings, no_entries, entry, spell, spell_all, spell_entries, spellings_count, entries_count, IsSpelled, depth, plain}
 use Rattle.cbor_head.specs.declared.major.Major.TheVariants as majors
+use Rattle.cbor_head.specs.declared.width.Width.{Width}
 use Rattle.cbor_head.specs.declared.width.Width.TheVariants.{Indefinite}
 use Rattle.cbor_automaton.proofs.Beginnings.{shorter}
 use Rattle.cbor_judging.specs.Frame as frames
@@ -9,9 +10,9 @@ use Rattle.cbor_judging.specs.Frame.{Frame, before, IsFrame, depth_beside}
 use Rattle.cbor_judging.specs.Judged.{Never}
 use Rattle.cbor_judging.specs.OpenMaps.{OfClosed, ComplainsWithin, before_all, AreOpen, ArePath}
 use Rattle.cbor_judging.proofs.Heads.{open_or}
-use Rattle.cbor_judging.proofs.Judged.{zero_item, zeros, zeros_count, zeros_spelled, zeros_flat, zero_pairs, pairs_count, pairs_spelled, pairs_flat}
+use Rattle.cbor_judging.proofs.Judged.{zero_item, zero_spelled, zeros, zeros_count, zeros_spelled, zeros_flat, zero_pairs, pairs_count, pairs_spelled, pairs_flat}
 use Rattle.cbor_judging.proofs.OpenSteps.{before_snoc, none_open, opens as one_opens}
-use Rattle.cbor_judging.specs.Levels.{ArePairsTaken, Level, a_member, a_key, a_value, some_member, some_key, some_value, tagged, level_bytes, IsLevel, AreLevels, bytes_before}
+use Rattle.cbor_judging.specs.Levels.{IsTaken, AreTaken, ArePairsTaken, Level, a_member, a_key, a_value, some_member, some_key, some_value, tagged, level_bytes, IsLevel, AreLevels, bytes_before}
 use Rattle.cbor_judging.proofs.Levels.{no-count, spelled-all, within-all, clean-all, pairs-spelled, pairs-within}
 use Rattle.cbor_judging.specs.Kinds.{plug_all, IsKeyFrame, IsKeyDue, IsKeyLevel, IsKeyDueIn}
 use Rattle.cbor_judging.proofs.KindFrames.{due_last, IsAround, spell_along, item_along}
@@ -45,41 +46,35 @@ pub record IsFitting (d : ℕ) (f : Frame) : Type 0 where
   pub flat : depth_beside f ≤ d
   pub clean : (at : ℕ) → Never (OfClosed plain at f)
 
+module _ (d : ℕ) (w : Width) (left : ℕ) where
+  fit_member : (done : Spellings) → HoldsOrIndefinite w (spellings_count done + suc left) → AreTaken d done → IsFitting d (frames.a_member w done (zeros left))
+  fit_member done holds h = record {
+    fits = (subst (λ (n : ℕ). HoldsOrIndefinite w (spellings_count done + suc n)) (sym (zeros_count left)) holds, spelled-all d done h, zeros_spelled left);
+    flat = omega (arith, within-all d done h, zeros_flat left);
+    clean = λ at c x. elim x [ inl y ↦ no-count at majors.Array w _ c y | inr y ↦ clean-all d done _ h c y ];
+  }
+
+  fit_key : (done : SpelledEntries) → HoldsOrIndefinite w (entries_count done + suc left) → ArePairsTaken d done → IsFitting d (frames.a_key w done zero_item (zero_pairs left))
+  fit_key done holds h = record {
+    fits = (subst (λ (n : ℕ). HoldsOrIndefinite w (entries_count done + suc n)) (sym (pairs_count left)) holds, pairs-spelled d done h, zero_spelled, pairs_spelled left);
+    flat = omega (arith, pairs-within d done h, pairs_flat left);
+    clean = λ at c x. elim x [ inl y ↦ no-count at majors.Map w _ c y | inr y ↦ quiet d done _ h c y ];
+  }
+
+  fit_value : (done : SpelledEntries) (k : Spelling) → HoldsOrIndefinite w (entries_count done + suc left) → ArePairsTaken d done → IsTaken d k → IsFitting d (frames.a_content w done k (zero_pairs left))
+  fit_value done k holds h i = record {
+    fits = (subst (λ (n : ℕ). HoldsOrIndefinite w (entries_count done + suc n)) (sym (pairs_count left)) holds, pairs-spelled d done h, i.spelled, pairs_spelled left);
+    flat = omega (arith, pairs-within d done h, pairs_flat left, i.within);
+    clean = λ at c x. elim x [ inl y ↦ no-count at majors.Map w _ c y | inr (inl y) ↦ quiet d done _ h c y | inr (inr y) ↦ i.clean _ c y ];
+  }
+
 pub fitting : (d : ℕ) (l : Level) → IsLevel d l → IsFitting d (frame_of l)
-fitting d (a_member w left done) h = record {
-  fits = (open_or w _ (subst (λ (n : ℕ). Holds w (spellings_count done + suc n)) (sym (zeros_count left)) h.0), spelled-all d done h.1, zeros_spelled left);
-  flat = omega (arith, within-all d done h.1, zeros_flat left);
-  clean = λ at c x. elim x [ inl y ↦ no-count at majors.Array w _ c y | inr y ↦ clean-all d done _ h.1 c y ];
-}
-fitting d (a_key w left done) h =
-    let z : 0 < 24 = omega arith in
-    record {
-      fits = (open_or w _ (subst (λ (n : ℕ). Holds w (entries_count done + suc n)) (sym (pairs_count left)) h.0), pairs-spelled d done h.1, z, pairs_spelled left);
-      flat = omega (arith, pairs-within d done h.1, pairs_flat left);
-      clean = λ at c x. elim x [ inl y ↦ no-count at majors.Map w _ c y | inr y ↦ quiet d done _ h.1 c y ];
-    }
-fitting d (a_value w left done k) h = record {
-  fits = (open_or w _ (subst (λ (n : ℕ). Holds w (entries_count done + suc n)) (sym (pairs_count left)) h.0), pairs-spelled d done h.1, h.2.spelled, pairs_spelled left);
-  flat = omega (arith, pairs-within d done h.1, pairs_flat left, h.2.within);
-  clean = λ at c x. elim x [ inl y ↦ no-count at majors.Map w _ c y | inr (inl y) ↦ quiet d done _ h.1 c y | inr (inr y) ↦ h.2.clean _ c y ];
-}
-fitting d (some_member done) h = record {
-  fits = (tt, spelled-all d done h, tt);
-  flat = omega (arith, within-all d done h);
-  clean = λ at c x. elim x [ inl y ↦ cc y.0 | inr y ↦ clean-all d done _ h c y ];
-}
-fitting d (some_key done) h =
-    let z : 0 < 24 = omega arith in
-    record {
-      fits = (tt, pairs-spelled d done h, z, tt);
-      flat = omega (arith, pairs-within d done h);
-      clean = λ at c x. elim x [ inl y ↦ cc y.0 | inr y ↦ quiet d done _ h c y ];
-    }
-fitting d (some_value done k) h = record {
-  fits = (tt, pairs-spelled d done h.0, h.1.spelled, tt);
-  flat = omega (arith, pairs-within d done h.0, h.1.within);
-  clean = λ at c x. elim x [ inl y ↦ cc y.0 | inr (inl y) ↦ quiet d done _ h.0 c y | inr (inr y) ↦ h.1.clean _ c y ];
-}
+fitting d (a_member w left done) h = fit_member d w left done (open_or w _ h.0) h.1
+fitting d (a_key w left done) h = fit_key d w left done (open_or w _ h.0) h.1
+fitting d (a_value w left done k) h = fit_value d w left done k (open_or w _ h.0) h.1 h.2
+fitting d (some_member done) h = fit_member d Indefinite 0 done tt h
+fitting d (some_key done) h = fit_key d Indefinite 0 done tt h
+fitting d (some_value done k) h = fit_value d Indefinite 0 done k tt h.0 h.1
 fitting d (tagged w n) h = record { fits = h; flat = omega arith; clean = λ at c x. cc x.0 }
 
 -- ---- all of them, the outermost first
@@ -102,9 +97,8 @@ pub path_open : (d : ℕ) (ls : List Level) → AreLevels d ls → AreOpen plain
 unfolding path
 path_open d [] h = none_open plain d
 path_open d (l ∷ ls) h =
-    let room = h.0 in
     let i = fitting (d - suc (length ls)) l h.1 in
-    one_opens plain d (path ls) (frame_of l) (d - suc (length ls)) (path_open d ls h.2) (omega (arith, room, path_length ls)) i.fits i.flat (i.clean _)
+    one_opens plain d (path ls) (frame_of l) (d - suc (length ls)) (path_open d ls h.2) (omega (arith, h.0, path_length ls)) i.fits i.flat (i.clean _)
 
 -- ---- the containers around the item that is due, where it is known what is complete in them
 

@@ -83,11 +83,10 @@ module _ (r : Rules) (b : Bounds) (fs : List Container) (t x : List ℕ) (w : Wi
       let same : spellings_count a.done ≡ n = omega (arith, counts.1) in
       let whole = array_whole w a.done r (length t) (b.depth - suc (length fs)) (subst (λ (k : ℕ). IsArraySoFar r (length t) (b.depth - suc (length fs)) w k a.done) (sym same) a.so_far) in
       let bytes_are : array_bytes w n a.done ≡ spell (array w a.done) = sym (array_bytes-whole w n a.done (closes w counts.0) same) in
-      let room : length fs < b.depth = a.room in
       record {
         item = array w a.done;
         spelled = whole.0;
-        within = omega (arith, whole.1, room);
+        within = omega (arith, whole.1, a.room);
         clean = whole.2;
         taken = subst (λ (u : List ℕ). Extends x u from mid) bytes_are a.taken;
         value = ap value.array a.values;
@@ -148,11 +147,10 @@ module _ (r : Rules) (b : Bounds) (fs : List Container) (t x : List ℕ) (w : Wi
       let same : entries_count a.done ≡ n = omega (arith, counts.1) in
       let whole = map_whole w a.done r (length t) (b.depth - suc (length fs)) (subst (λ (k : ℕ). IsMapSoFar r (length t) (b.depth - suc (length fs)) w k a.done) (sym same) a.so_far) in
       let bytes_are : map_bytes w n a.done ≡ spell (a_map w a.done) = sym (map_bytes-whole w n a.done (closes w counts.0) same) in
-      let room : length fs < b.depth = a.room in
       record {
         item = a_map w a.done;
         spelled = whole.0;
-        within = omega (arith, whole.1, room);
+        within = omega (arith, whole.1, a.room);
         clean = whole.2;
         taken = subst (λ (u : List ℕ). Extends x u from mid) bytes_are a.taken;
         value = ap value.map a.values;

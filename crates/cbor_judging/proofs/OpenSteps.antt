@@ -1,5 +1,5 @@
 -- How the open containers change as members, keys and values end, and what stays known of them.
-use Rattle.std.proofs.Common.{ℕ, suc, ◌+◌, ◌≡◌, ◌≤◌, ◌⊎◌, List, [], ◌∷◌, ◌++◌, length, refl, sym, ap, ◌∙◌, arith, subst, inl, inr, length-append, append_assoc, append-nil, ◌<◌}
+use Rattle.std.proofs.Common.{ℕ, suc, ◌+◌, ◌≡◌, ◌≤◌, ◌⊎◌, List, [], ◌∷◌, ◌++◌, length, refl, sym, ap, ◌∙◌, arith, subst, inl, inr, length-append, append_assoc, append-nil}
 use Rattle.cbor_head.specs.Prelude.{head, Holds, Spelling, Spellings, SpelledEntries, no_spellings, a_spelling, no_entries, entry, spell, spell_all, spell_entries, spellings_count, entries_count, IsSpelled, HoldsOrIndefinite, depth, Rules, Complaint, OfCount, Complains, OfHead}
 use Rattle.cbor_head.specs.declared.major.Major.TheVariants.{Array, Map, Tag}
 use Rattle.cbor_head.specs.declared.width.Width.{Width}
@@ -10,7 +10,7 @@ use Rattle.cbor_judging.specs.Judged.{Never}
 use Rattle.cbor_judging.specs.SoFar.{array_bytes, map_bytes}
 use Rattle.cbor_judging.proofs.Loops.{array_bytes-more, map_bytes-more}
 use Rattle.cbor_judging.proofs.OpenKeys.{front_apart}
-use Rattle.cbor_judging.proofs.Judged.{zero_item, zeros, zero_pairs, zeros_count, zeros_spelled, zeros_flat, pairs_count, pairs_spelled, pairs_flat}
+use Rattle.cbor_judging.proofs.Judged.{zero_item, zero_spelled, zeros, zero_pairs, zeros_count, zeros_spelled, zeros_flat, pairs_count, pairs_spelled, pairs_flat}
 
 -- ---- one container more, within the others
 
@@ -195,8 +195,7 @@ module _ (r : Rules) (depth_limit : ℕ) where
       → Never (OfCount r (length (before_all fs)) Map w (suc more)) → AreOpen r depth_limit (fs ++ a_key w no_entries zero_item (zero_pairs more) ∷ [])
   map_opens fs w more d o e h clean =
       let n : suc more ≡ 0 + suc (entries_count (zero_pairs more)) = omega (arith, pairs_count more) in
-      let z : 0 < 24 = omega arith in
-      opens fs (a_key w no_entries zero_item (zero_pairs more)) d o e (subst (HoldsOrIndefinite w) n h, tt, z, pairs_spelled more) (omega (arith, pairs_flat more))
+      opens fs (a_key w no_entries zero_item (zero_pairs more)) d o e (subst (HoldsOrIndefinite w) n h, tt, zero_spelled, pairs_spelled more) (omega (arith, pairs_flat more))
       (λ c x. elim x [ inl y ↦ subst (λ (k : ℕ). Never (OfCount r (length (before_all fs)) Map w k)) n clean c y | inr y ↦ absurd y ])
 
   pub tag_opens : (fs : List Frame) (w : Width) (n d : ℕ) → AreOpen r depth_limit fs → suc (length fs + d) ≡ depth_limit → Holds w n → Never (OfHead r (length (before_all fs)) Tag w n)
@@ -210,10 +209,9 @@ module _ (r : Rules) (depth_limit : ℕ) where
       → AreOpen r depth_limit (fs ++ a_member w (with_all a (a_spelling s no_spellings)) b ∷ [])
   member_ends fs w a s t b o h l none =
       let i = innermost fs (a_member w a (a_spelling t b)) o in
-      let flat = i.flat in
       goes_on fs (a_member w a (a_spelling t b)) (a_member w (with_all a (a_spelling s no_spellings)) b) o (record {
         fits = (subst (HoldsOrIndefinite w) (sym (member_count a s (spellings_count b))) i.fits.0, spelled_with a (a_spelling s no_spellings) i.fits.1 (h, tt), i.fits.2.1);
-        flat = omega (arith, flat, l, depth_with a (a_spelling s no_spellings));
+        flat = omega (arith, i.flat, l, depth_with a (a_spelling s no_spellings));
         clean = member_clean w a s t b r (length (before_all fs)) i.clean none;
       })
 
@@ -222,18 +220,16 @@ module _ (r : Rules) (depth_limit : ℕ) where
       → AreOpen r depth_limit (fs ++ a_content w a k b ∷ [])
   key_ends fs w a k v b o h l none =
       let i = innermost fs (a_key w a v b) o in
-      let flat = i.flat in
       goes_on fs (a_key w a v b) (a_content w a k b) o
-      (record { fits = (i.fits.0, i.fits.1, h, i.fits.3); flat = omega (arith, flat, l); clean = key_clean w a k v b r (length (before_all fs)) i.clean none })
+      (record { fits = (i.fits.0, i.fits.1, h, i.fits.3); flat = omega (arith, i.flat, l); clean = key_clean w a k v b r (length (before_all fs)) i.clean none })
 
   pub content_ends : (fs : List Frame) (w : Width) (a : SpelledEntries) (k v l m : Spelling) (b : SpelledEntries) (o : AreOpen r depth_limit (fs ++ a_content w a k (entry l m b) ∷ []))
       → IsSpelled v → depth v ≤ o.left → Never (Complains r (length (before_all fs) + length (before (a_content w a k (entry l m b)))) v)
       → AreOpen r depth_limit (fs ++ a_key w (with_entries a (entry k v no_entries)) m b ∷ [])
   content_ends fs w a k v l m b o h low none =
       let i = innermost fs (a_content w a k (entry l m b)) o in
-      let flat = i.flat in
       goes_on fs (a_content w a k (entry l m b)) (a_key w (with_entries a (entry k v no_entries)) m b) o (record {
         fits = (subst (HoldsOrIndefinite w) (sym (pair_count a k v (entries_count b))) i.fits.0, spelled_entries_with a (entry k v no_entries) i.fits.1 (i.fits.2, h, tt), i.fits.3.1, i.fits.3.2);
-        flat = omega (arith, flat, low, depth_entries_with a (entry k v no_entries));
+        flat = omega (arith, i.flat, low, depth_entries_with a (entry k v no_entries));
         clean = content_clean w a k v l m m b r (length (before_all fs)) i.clean none;
       })

@@ -117,11 +117,9 @@ module _ (d : ℕ) where
     level_leads r at k (a_member w left done) e h = let low = h.within in array_leads w left done h.holds h.spelled (omega (arith, low, e, room))
     level_leads r at k (a_key w left done) e h = let low = h.within in map_leads w left done h.holds h.spelled (omega (arith, low, e, room))
     level_leads r at k (a_value w left done key) e h =
-        let low = h.so_far.within in
-        let small = h.within in
         leads_on (at_item fs) (at_item (container (a_key w left done) ∷ fs)) (at_item (container (a_value w left done key) ∷ fs)) (map_bytes w (entries_count done + suc left) done) (spell key)
-        (map_leads w left done h.so_far.holds h.so_far.spelled (omega (arith, low, e, room)))
-        (key_leads w left done key h.spelled (omega (arith, small, e, room)))
+        (map_leads w left done h.so_far.holds h.so_far.spelled (omega (arith, h.so_far.within, e, room)))
+        (key_leads w left done key h.spelled (omega (arith, h.within, e, room)))
     level_leads r at k (tagged w n) e h = head_leads fs room Tag (λ k. refl) (is_room fs room) w n h.0
 
 -- ---- the path

@@ -1,12 +1,12 @@
 -- What is found of an item is found of the open containers around it.
-use Rattle.std.proofs.Common.{◌≡◌, ℕ, suc, ◌+◌, ◌-◌, ◌<◌, ◌≤◌, Option, Some, List, [], ◌∷◌, ◌++◌, length, refl, sym, ap, subst, inl, inr, arith, append_assoc, length-append}
+use Rattle.std.proofs.Common.{◌≡◌, ℕ, suc, ◌+◌, ◌-◌, ◌≤◌, Option, Some, List, [], ◌∷◌, ◌++◌, length, refl, sym, ap, subst, inl, inr, arith, append_assoc, length-append}
 use Rattle.cbor_head.specs.Prelude.{Rules, Complaint, OfKey, Complains, Spelling, SpelledEntries, spell, IsSpelled, depth, spellings_count, entries_count, HoldsOrIndefinite}
 use Rattle.cbor_head.specs.declared.width.Width.{Width}
 use Rattle.cbor_judging.specs.Frame as frames
 use Rattle.cbor_judging.specs.Frame.{Frame, before, keys_onto, IsFrame, depth_beside, OfFront}
 use Rattle.cbor_judging.specs.Judged.{IsJudged, Never}
 use Rattle.cbor_judging.specs.SoFar.{array_bytes, map_bytes}
-use Rattle.cbor_judging.proofs.Judged.{zero_item, zeros, zeros_count, zeros_spelled, zeros_flat, zero_pairs, pairs_count, pairs_spelled, pairs_flat, judged_in, judged_key}
+use Rattle.cbor_judging.proofs.Judged.{zero_item, zero_spelled, zeros, zeros_count, zeros_spelled, zeros_flat, zero_pairs, pairs_count, pairs_spelled, pairs_flat, judged_in, judged_key}
 use Rattle.cbor_judging.specs.Path.{Level, a_member, a_key, a_value, tagged, level_bytes, IsClean, bytes_before, AreClean, HasEnded}
 
 -- ---- a level as a frame, in which zeros stand for what is still to come
@@ -26,19 +26,14 @@ before_frame (tagged w n) = refl
 module _ (r : Rules) (at d : ℕ) where
   pub frame_fits : (l : Level) → IsClean r at d l → IsFrame (frame_of l)
   frame_fits (a_member w left done) h = (subst (λ (n : ℕ). HoldsOrIndefinite w (spellings_count done + suc n)) (sym (zeros_count left)) h.holds, h.spelled, zeros_spelled left)
-  frame_fits (a_key w left done) h =
-      let z : 0 < 24 = omega arith in
-      (subst (λ (n : ℕ). HoldsOrIndefinite w (entries_count done + suc n)) (sym (pairs_count left)) h.holds, h.spelled, z, pairs_spelled left)
+  frame_fits (a_key w left done) h = (subst (λ (n : ℕ). HoldsOrIndefinite w (entries_count done + suc n)) (sym (pairs_count left)) h.holds, h.spelled, zero_spelled, pairs_spelled left)
   frame_fits (a_value w left done k) h = (subst (λ (n : ℕ). HoldsOrIndefinite w (entries_count done + suc n)) (sym (pairs_count left)) h.so_far.holds, h.so_far.spelled, h.spelled, pairs_spelled left)
   frame_fits (tagged w n) h = h.0
 
   pub frame_flat : (l : Level) → IsClean r at d l → depth_beside (frame_of l) ≤ d
-  frame_flat (a_member w left done) h = let low = h.within in omega (arith, low, zeros_flat left)
-  frame_flat (a_key w left done) h = let low = h.within in omega (arith, low, pairs_flat left)
-  frame_flat (a_value w left done k) h =
-      let low = h.so_far.within in
-      let key = h.within in
-      omega (arith, low, key, pairs_flat left)
+  frame_flat (a_member w left done) h = omega (arith, h.within, zeros_flat left)
+  frame_flat (a_key w left done) h = omega (arith, h.within, pairs_flat left)
+  frame_flat (a_value w left done k) h = omega (arith, h.so_far.within, h.within, pairs_flat left)
   frame_flat (tagged w n) h = omega arith
 
   front_clean : (l : Level) → IsClean r at d l → Never (OfFront r at (frame_of l))
@@ -71,10 +66,9 @@ pub judged_path : (r : Rules) (d : ℕ) (ls : List Level) → AreClean r d ls �
 judged_path r d [] h p found j = let e : d - 0 ≡ d = omega arith in subst (λ (n : ℕ). IsJudged r 0 n p found) e j
 judged_path r d (l ∷ ls) h p found j =
     let at = length (bytes_before ls) in
-    let below : length ls < d = h.0 in
     let inner = subst (λ (n : ℕ). IsJudged r n (d - suc (length ls)) p found) (length-append (bytes_before ls) (level_bytes l)) j in
     let one = judged_level r at (d - suc (length ls)) l h.1 p found inner in
-    let e : suc (d - suc (length ls)) ≡ d - length ls = omega (arith, below) in
+    let e : suc (d - suc (length ls)) ≡ d - length ls = omega (arith, h.0) in
     subst (λ (x : List ℕ). IsJudged r 0 d x found) (sym (append_assoc (bytes_before ls) (level_bytes l) p))
     (judged_path r d ls h.2 (level_bytes l ++ p) found (subst (λ (n : ℕ). IsJudged r at n (level_bytes l ++ p) found) e one))
 
@@ -84,8 +78,7 @@ judged_key_path r d w left done ls k c h o =
     let l = a_key w left done in
     let at = length (bytes_before ls) in
     let size = length-append (bytes_before ls) (level_bytes l) in
-    let below : length ls < d = h.around.0 in
     let one = judged_key_level r at (d - suc (length ls)) w left done k c h.around.1 h.spelled h.within (subst (λ (n : ℕ). Never (Complains r n k)) size h.clean) (subst (λ (n : ℕ). OfKey r.keys n (keys_onto [] done) k c) size o) in
-    let e : suc (d - suc (length ls)) ≡ d - length ls = omega (arith, below) in
+    let e : suc (d - suc (length ls)) ≡ d - length ls = omega (arith, h.around.0) in
     subst (λ (x : List ℕ). IsJudged r 0 d x (Some c)) (sym (append_assoc (bytes_before ls) (level_bytes l) (spell k)))
     (judged_path r d ls h.around.2 (level_bytes l ++ spell k) (Some c) (subst (λ (n : ℕ). IsJudged r at n (level_bytes l ++ spell k) (Some c)) e one))

@@ -24,28 +24,25 @@ more_pairs done k v = with_entries done (entry k v no_entries)
 module _ (r : Rules) (at d : ℕ) (w : Width) (n : ℕ) where
   array_more : (done : Spellings) (s : Spelling) → IsArraySoFar r at d w n done → IsSpelled s → depth s ≤ d → Never (Complains r (at + length (array_bytes w n done)) s) → IsArraySoFar r at d w n (more_members done s)
   array_more done s h i l none =
-      let low = h.within in
       let to = at + length (array_bytes w n done) in
       let there : to ≡ at + length (head Array w n) + length (spell_all done) = omega (arith, length-append (head Array w n) (spell_all done)) in
       record {
         holds = h.holds;
         spelled = spelled_with done (a_spelling s no_spellings) h.spelled (i, tt);
-        within = omega (arith, low, l, depth_with done (a_spelling s no_spellings));
+        within = omega (arith, h.within, l, depth_with done (a_spelling s no_spellings));
         head_clean = h.head_clean;
         clean = λ c g. elim (members_split done (a_spelling s no_spellings) r (at + length (head Array w n)) to c there g) [ inl x ↦ h.clean c x | inr (inl x) ↦ none c x | inr (inr x) ↦ absurd x ];
       }
 
   map_more : (done : SpelledEntries) (k v : Spelling) → IsValueDue r at d w n done k → IsSpelled v → depth v ≤ d → Never (Complains r (at + length (map_bytes w n done ++ spell k)) v) → IsMapSoFar r at d w n (more_pairs done k v)
   map_more done k v h i l none =
-      let low = h.so_far.within in
-      let key = h.within in
       let to = at + length (map_bytes w n done) in
       let there : to ≡ at + length (head Map w n) + length (spell_entries done) = omega (arith, length-append (head Map w n) (spell_entries done)) in
       let behind : to + length (spell k) ≡ at + length (map_bytes w n done ++ spell k) = omega (arith, length-append (map_bytes w n done) (spell k)) in
       record {
         holds = h.so_far.holds;
         spelled = spelled_entries_with done (entry k v no_entries) h.so_far.spelled (h.spelled, i, tt);
-        within = omega (arith, low, key, l, depth_entries_with done (entry k v no_entries));
+        within = omega (arith, h.so_far.within, h.within, l, depth_entries_with done (entry k v no_entries));
         head_clean = h.so_far.head_clean;
         clean = λ c g. elim (entries_split done (entry k v no_entries) [] r (at + length (head Map w n)) to c there g) [
           | inl x ↦ h.so_far.clean c x
@@ -139,8 +136,7 @@ module _ (r : Rules) (d : ℕ) (ls : List Level) where
   array_ends w done s h =
       let at = length (bytes_before ls) in
       let n = spellings_count done + 1 in
-      let low : depth s ≤ d - suc (length ls) = h.within in
-      let so_far = array_more r at (d - suc (length ls)) w n done s h.around.1 h.spelled low (clean_in (a_member w 0 done) s h) in
+      let so_far = array_more r at (d - suc (length ls)) w n done s h.around.1 h.spelled h.within (clean_in (a_member w 0 done) s h) in
       let whole = array_whole w (more_members done s) r at (d - suc (length ls)) (subst (λ (m : ℕ). IsArraySoFar r at (d - suc (length ls)) w m (more_members done s)) (sym (last_member done s)) so_far) in
       record { around = h.around.2; spelled = whole.0; within = omega (arith, whole.1, below (a_member w 0 done) h.around); clean = whole.2 }
 
@@ -153,8 +149,7 @@ module _ (r : Rules) (d : ℕ) (ls : List Level) where
   map_ends w done k v h =
       let at = length (bytes_before ls) in
       let n = entries_count done + 1 in
-      let low : depth v ≤ d - suc (length ls) = h.within in
-      let so_far = map_more r at (d - suc (length ls)) w n done k v h.around.1 h.spelled low (clean_in (a_value w 0 done k) v h) in
+      let so_far = map_more r at (d - suc (length ls)) w n done k v h.around.1 h.spelled h.within (clean_in (a_value w 0 done k) v h) in
       let whole = map_whole w (more_pairs done k v) r at (d - suc (length ls)) (subst (λ (m : ℕ). IsMapSoFar r at (d - suc (length ls)) w m (more_pairs done k v)) (sym (last_pair done k v)) so_far) in
       record { around = h.around.2; spelled = whole.0; within = omega (arith, whole.1, below (a_value w 0 done k) h.around); clean = whole.2 }
 
@@ -165,11 +160,10 @@ module _ (r : Rules) (d : ℕ) (ls : List Level) where
 
   pub tag_ends : (w : Width) (n : ℕ) (s : Spelling) → HasEnded r d (tagged w n ∷ ls) s → HasEnded r d ls (tag w n s)
   tag_ends w n s h =
-      let low : depth s ≤ d - suc (length ls) = h.within in
       record {
         around = h.around.2;
         spelled = (h.around.1.0, h.spelled);
-        within = omega (arith, low, below (tagged w n) h.around);
+        within = omega (arith, h.within, below (tagged w n) h.around);
         clean = λ c g. elim g [ inl x ↦ h.around.1.1 c x | inr x ↦ clean_in (tagged w n) s h c x ];
       }
 

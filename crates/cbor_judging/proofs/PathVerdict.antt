@@ -1,7 +1,7 @@
 -- Where the walk ends is the verdict.
-use Rattle.std.proofs.Common.{◌≡◌, ◌≢◌, ℕ, ◌-◌, ◌<◌, ◌≤◌, List, [], ◌∷◌, ◌++◌, length, take, refl, sym, ap, ◌∙◌, subst, inl, inr, arith, append-nil, length-append, length-take}
+use Rattle.std.proofs.Common.{◌≡◌, ◌≢◌, ℕ, ◌<◌, List, [], ◌∷◌, ◌++◌, length, take, refl, sym, ap, ◌∙◌, subst, inl, inr, arith, append-nil, length-append, length-take}
 use Rattle.std.proofs.lemmas.Bool.{cases_lt}
-use Rattle.cbor_head.specs.Prelude.{IsBeginning, IsLongestBeginning, Rules, IsComplaint, Bounds, Spelling, IsItem, spell, depth, refusal, accepted, refused, IsVerdict}
+use Rattle.cbor_head.specs.Prelude.{IsBeginning, IsLongestBeginning, Rules, IsComplaint, Bounds, Spelling, IsItem, spell, refusal, accepted, refused, IsVerdict}
 use Rattle.cbor_head.specs.declared.reason.Reason.TheVariants.{Truncated, TooLong, KeyKind}
 use Rattle.cbor_head.specs.declared.reason.Refusal.{Refusal}
 use Rattle.cbor_grammar.proofs.Beginnings.{item_decides}
@@ -75,6 +75,5 @@ module _ (r : Rules) (limits : Bounds) (input : List ℕ) where
 
   pub accepts : (s : Spelling) (rest : List ℕ) → HasEnded r limits.depth [] s → KeepsToKinds limits r (spell s) → take limits.bytes input ≡ spell s ++ rest → IsVerdict limits r input (accepted s)
   accepts s rest h keeps e =
-      let small : depth s ≤ limits.depth - 0 = h.within in
-      let whole : IsItem limits.depth s (spell s) = record { spelled = h.spelled; within = omega (arith, small); bytes_are = refl } in
+      let whole : IsItem limits.depth s (spell s) = record { spelled = h.spelled; within = omega (arith, h.within); bytes_are = refl } in
       item_decides (IsComplaint limits r) limits input rest s whole e (whole_beside limits r s whole keeps h.clean)

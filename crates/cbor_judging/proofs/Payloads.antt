@@ -146,12 +146,10 @@ module _ (b : Bounds) (chunk : Bool) (m : Major) (fs : List Container) (t : List
     pub part-comes : (more : List ℕ) → new.refusal ≡ None → more ≡ grown ++ new.piece → HasCome b chunk m fs t (left - length new.piece) old more from to new n
     part-comes more live g =
         let size : length new.piece ≡ length x.bytes = ap length bytes-of.same in
-        let fits : length x.bytes ≤ left = taken-part.0 in
-        let came = h.count in
         record {
           p = h.p ++ x.bytes;
           consumed = Consumes-trans from now to h.p x.bytes h.consumed x.consumed;
-          count = omega (arith, came, size, fits, length-append h.p x.bytes);
+          count = omega (arith, h.count, size, taken-part.0, length-append h.p x.bytes);
           are_bytes = bytes_join h.p x.bytes h.are_bytes (bytes_back (t ++ h.p) x.bytes x.stands.stands.are_bytes);
           grows = g ∙ ap (λ (u : List ℕ). u ++ new.piece) h.grows ∙ append_assoc old h.p new.piece ∙ ap (λ (u : List ℕ). old ++ (h.p ++ u)) bytes-of.same;
           at = at-as b new ((t ++ h.p) ++ x.bytes) (t ++ (h.p ++ x.bytes)) (place_in new) (payload chunk m (left - length new.piece) fs) (append_assoc t h.p x.bytes)
@@ -163,7 +161,6 @@ module _ (b : Bounds) (chunk : Bool) (m : Major) (fs : List Container) (t : List
     pub part-memory : (f : Refusal) → f.read ≡ new.machine.taken → IsMemory f → StopsPayload b t n false from to f
     part-memory f g i =
         let size = length-append h.p x.bytes in
-        let came = h.count in
         record {
           bytes = h.p ++ x.bytes;
           consumed = Consumes-trans from now to h.p x.bytes h.consumed x.consumed;
@@ -172,7 +169,7 @@ module _ (b : Bounds) (chunk : Bool) (m : Major) (fs : List Container) (t : List
             i,
             reached-as b ((t ++ h.p) ++ x.bytes) (t ++ (h.p ++ x.bytes)) (append_assoc t h.p x.bytes)
                 (stands-reached b new.machine ((t ++ h.p) ++ x.bytes) (h.at.marks ++ marks_of ev.width ev.kind) (same.depth ∙ h.at.depth) (same.bytes ∙ h.at.bytes) x.stands.stands),
-            is-part n (h.p ++ x.bytes) (omega (arith, size, bytes-of.some)) (omega (arith, size, taken-part.0, came))
+            is-part n (h.p ++ x.bytes) (omega (arith, size, bytes-of.some)) (omega (arith, size, taken-part.0, h.count))
                 (bytes_join h.p x.bytes h.are_bytes (bytes_back (t ++ h.p) x.bytes x.stands.stands.are_bytes)),
           );
         }
@@ -182,7 +179,6 @@ module _ (b : Bounds) (chunk : Bool) (m : Major) (fs : List Container) (t : List
   part-cut to f s =
       let c = s.cut in
       let none : c.p ≡ [] = (go left some (nothing-taken b.depth (state_at (payload chunk m left fs)) c.begun c.p (clear-at (payload chunk m left fs)) c.are_bytes c.ran)) in
-      let came = h.count in
       record {
         bytes = h.p ++ s.bytes;
         consumed = Consumes-trans from now to h.p s.bytes h.consumed s.consumed;
@@ -191,7 +187,7 @@ module _ (b : Bounds) (chunk : Bool) (m : Major) (fs : List Container) (t : List
           p = h.p;
           last = s.bytes;
           splits = refl;
-          short = omega (arith, came, some);
+          short = omega (arith, h.count, some);
           are_bytes = h.are_bytes;
           place = c.place ∙ ap (λ (u : List ℕ). length ((t ++ h.p) ++ u)) none ∙ ap length (append-nil (t ++ h.p));
           refused = subst (λ (u : List ℕ). IsFormRefusal b u to f) (append_assoc t h.p s.bytes) c.refused;
@@ -243,13 +239,12 @@ module _ (b : Bounds) (q : Place) (t : List ℕ) (n : ℕ) (old grown : List ℕ
   pub chunk-no-text : (xs : List ℕ) (text : Bool) (f : Refusal) → xs ≡ drop (length old) grown → ¬ IsUtf8 xs → text ≡ true → f ≡ refusal InvalidText (length t + utf8_valid_len xs) new.machine.taken → StopsPayload b t n text from to f
   chunk-no-text xs text f e h is_text is =
       let same : xs ≡ reads.bytes = e ∙ behind-old in
-      let all : new.machine.taken ≡ length (t ++ reads.bytes) = reads.at.stands.stands.taken in
-      let taken : new.machine.taken ≡ length t + length reads.bytes = all ∙ length-append t reads.bytes in
+      let taken : new.machine.taken ≡ length t + length reads.bytes = reads.at.stands.stands.taken ∙ length-append t reads.bytes in
       let told : f ≡ refusal InvalidText (length t + utf8_valid_len reads.bytes) (length t + length reads.bytes) =
       is ∙ ap (λ (ys : List ℕ). refusal InvalidText (length t + utf8_valid_len ys) new.machine.taken) same ∙ ap (refusal InvalidText (length t + utf8_valid_len reads.bytes)) taken in
       record {
         bytes = reads.bytes;
         consumed = reads.consumed;
-        read = ap (λ (x : Refusal). x.read) is ∙ all;
+        read = ap (λ (x : Refusal). x.read) is ∙ reads.at.stands.stands.taken;
         why = inr (inr (is_text, record { count = reads.count; are_bytes = reads.are_bytes; no_text = λ u. h (subst IsUtf8 (sym same) u); is = told; within = (at-reached b new (t ++ reads.bytes) q reads.at).within }));
       }

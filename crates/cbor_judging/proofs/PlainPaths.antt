@@ -73,6 +73,5 @@ module _ (o : KeyOrder) where
   pub judged_repeat : (d : ℕ) (w : Width) (left : ℕ) (done : SpelledEntries) (ls : List Level) (k : Spelling) → HasEnded (strict o) d (a_key w left done ∷ ls) k → last_key done ≡ spell k
       → IsJudged plain 0 d (bytes_before (a_key w left done ∷ ls) ++ spell k) (Some (complaint (length (bytes_before (a_key w left done ∷ ls)) + length (spell k)) (length (bytes_before (a_key w left done ∷ ls))) RepeatedKey))
   judged_repeat d w left done ls k h e =
-      let map = h.around.1 in
-      let repeated = same_as_last (keys_onto [] done) (last_key done) k (last_is done) (keys_rise done [] _ map.spelled tt map.clean) (strict_spelling o k _ h.spelled h.clean) e in
+      let repeated = same_as_last (keys_onto [] done) (last_key done) k (last_is done) (keys_rise done [] _ h.around.1.spelled tt h.around.1.clean) (strict_spelling o k _ h.spelled h.clean) e in
       judged_key_path plain d w left done ls k _ (plain_ended d (a_key w left done ∷ ls) k h) (repeated, refl)

@@ -113,8 +113,7 @@ bytes_in_front (c ∷ cs) = elim (cases_lt c 256) [
     none l [] r h e = omega arith
     none l (x ∷ q) r h e =
         let same : c ≡ x = cc e in
-        let small : x < 256 = h.0 in
-        absurd (omega (arith, l, same, small))
+        absurd (omega (arith, l, same, h.0))
 
 pub longest_always : (d : ℕ) (b : List ℕ) → (x : List ℕ) × IsLongestBeginning d b x
 longest_always d b =

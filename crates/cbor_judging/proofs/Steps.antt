@@ -1,5 +1,5 @@
 -- From one event to the next: which it can be, its bytes, and where it leads.
-use Rattle.std.proofs.Common.{◌≡◌, ℕ, zero, ◌+◌, ◌-◌, ◌<◌, ◌≤◌, ◌⊎◌, Bool, Option, Some, None, List, [], ◌∷◌, ◌++◌, length, refl, sym, ap, ◌∙◌, subst, inl, inr, arith, append_assoc, append-nil, length-append, Ok}
+use Rattle.std.proofs.Common.{◌≡◌, ℕ, zero, ◌+◌, ◌-◌, ◌<◌, ◌⊎◌, Bool, Option, Some, None, List, [], ◌∷◌, ◌++◌, length, refl, sym, ap, ◌∙◌, subst, inl, inr, arith, append_assoc, append-nil, length-append, Ok}
 use Rattle.std.specs.Io.KnownBytes.{Consumes}
 use Rattle.cbor_head.specs.Prelude.{Bounds, bounds, Rules, form, strict, Complaint, complaint, IsBeginning, refused, IsVerdict}
 use Rattle.cbor_head.specs.declared.width.Width.{Width}
@@ -85,10 +85,7 @@ next-at b old new t u q ms a same live s = record {
 pub farther : (b : Bounds) (e new : ItemEventsView) (t u : List ℕ) (q p : Place) → IsAt b e t q → IsAt b new u p → length t < length u
     → new.machine.bytes - new.machine.taken < e.machine.bytes - e.machine.taken
 farther b e new t u q p a z h =
-    let old : e.machine.taken ≡ length t = a.stands.stands.taken in
-    let now : new.machine.taken ≡ length u = z.stands.stands.taken in
-    let most : new.machine.taken ≤ new.machine.bytes = z.stands.stands.limited in
-    omega (arith, old, now, most, h, a.bytes, z.bytes)
+    omega (arith, a.stands.stands.taken, z.stands.stands.taken, z.stands.stands.limited, h, a.bytes, z.bytes)
 
 -- what a machine ran since
 pub since : (b : Bounds) (old : ItemEventsView) (new : MachineView) (t bs : List ℕ) (q : Place) (ns : List Mark) → (a : IsAt b old t q) → new.depth ≡ b.depth

@@ -43,11 +43,10 @@ module _ (limits : Bounds) (input : List ℕ) where
       elim v.decides [
         | inl h ↦
             let place = ap (λ (f : Refusal). f.place) h.2 in let read = ap (λ (f : Refusal). f.read) h.2 in
-            let end = h.1.ends in
             record {
               by_read = omega (arith, place, read, complaint_place limits r v.item h.0 h.1.holds);
-              in_limit = omega (arith, read, end, w.0);
-              in_input = omega (arith, read, end, w.1);
+              in_limit = omega (arith, read, h.1.ends, w.0);
+              in_input = omega (arith, read, h.1.ends, w.1);
             }
         | inr h ↦ break_within v.p v.longest.rest f w.0 w.1 h.2
       ]
