@@ -1,4 +1,4 @@
-use Rattle.std.proofs.Common.{◌≡◌, ◌∙◌, ◌++◌, List, take, drop, length, map, sym, ap, subst, arith, flat_map}
+use Rattle.std.proofs.Common.{◌∙◌, ◌++◌, List, take, drop, length, map, sym, ap, subst, arith, flat_map}
 use Rattle.std.proofs.lemmas.List.{take_rest}
 use Rattle.cbor_canonical.specs.Pairs.{pair_bytes}
 use Rattle.cbor_head.specs.Prelude.{Pair}
