@@ -157,24 +157,23 @@ waits_stay o raw out x y ss f fs l laid a = by_shape f.shape laid.2 (top_keys ra
 pub completed_same : (o : KeyOrder) (raw out : List ℕ) (ss : List Span) (at : ℕ) (f : Frame) (ss' : List Span) (f' : Frame) → length raw ≡ length out → WaitsSame raw out ss at f.shape
     → Completed o ss at f raw ss' f' → Completed o ss at f out ss' f'
 completed_same o raw out ss at f ss' f' l w c =
-    (c.0, c.1, c.2, c.3 ∙ spans f.shape w, rises f.shape w c.4)
+    let same = by_shape f.shape w in (c.0, c.1, c.2, c.3 ∙ same.0, same.1 c.4)
   where
-    spans : (s : Shape) → WaitsSame raw out ss at s → spans_after raw ss at s ≡ spans_after out ss at s
-    spans (Key first key) w = let k = w.1 in λ i. ss ++ record { front = front_of (k i); key = key; val = at; end = l i } ∷ []
-    spans s w = refl
-
-    rises : (s : Shape) → WaitsSame raw out ss at s → KeepsRising o raw ss at s f.rises f'.rises → KeepsRising o out ss at s f.rises f'.rises
-    rises (Key first key) w k = λ t. (
-      (k t).0,
-      (λ r.
-          let old = drop first ss in
-          let was = (k t).1 (rising_keys o out raw old (keys_flip raw out old w.0) r) in
-          let q = w.1 in
-          let new : span raw key at ≡ span out key at = λ i. record { front = front_of (q i); key = key; val = at; end = l i } in
-          subst (λ (s : Span). IsRising o (map (span_pair out) (old ++ s ∷ []))) new
-          (rising_keys o raw out (old ++ span raw key at ∷ []) (keys_more raw out old (span raw key at) w.0 w.1) was)),
-    )
-    rises s w k = k
+    by_shape : (s : Shape) → WaitsSame raw out ss at s
+        → (spans_after raw ss at s ≡ spans_after out ss at s) × (KeepsRising o raw ss at s f.rises f'.rises → KeepsRising o out ss at s f.rises f'.rises)
+    by_shape (Key first key) w =
+        let old = drop first ss in
+        let q = w.1 in
+        let new : span raw key at ≡ span out key at = λ i. record { front = front_of (q i); key = key; val = at; end = l i } in (
+          (λ i. ss ++ new i ∷ []),
+          λ k t. (
+            (k t).0,
+            λ r.
+                let was = (k t).1 (rising_keys o out raw old (keys_flip raw out old w.0) r) in
+                coe 0 1 (i. IsRising o (map (span_pair out) (old ++ new i ∷ []))) (rising_keys o raw out (old ++ span raw key at ∷ []) (keys_more raw out old (span raw key at) w.0 w.1) was),
+          ),
+        )
+    by_shape s w = (refl, λ k. k)
 
 pub ready_same : (raw out : List ℕ) (ss : List Span) (at : ℕ) (s : Shape) → length raw ≡ length out → WaitsSame raw out ss at s → IsReady out ss at s → IsReady raw ss at s
 ready_same raw out ss at s l w h first key e =

@@ -18,7 +18,7 @@ use Rattle.cbor_builder.specs.Built.{HasKey}
 use Rattle.cbor_builder.specs.inner.Front.{key_of, IsFronted, AreFronted, rank, ranked_by, in_front}
 use Rattle.cbor_buffer.proofs.ByIndex.{all_index, at_read}
 use Rattle.cbor_builder.proofs.Ranks.{agree_spans}
-use Rattle.cbor_builder.proofs.Neighbours.{distinct_permuted}
+use Rattle.cbor_builder.proofs.KeysSoFar.{distinct_permuted}
 
 -- ---- a list with one more at a place
 
@@ -176,4 +176,4 @@ pub repeats : (o : KeyOrder) (out : List ℕ) (ss us : List Span) (n : ℕ) (nex
 repeats o out ss us n next l e m h d =
     let f = span_pair out in
     let moved = IsPermutation-trans _ _ _ (one_more ss n next l e) (IsPermutation-append_right (next ∷ []) (take n ss) us m) in
-    no_key out next us (distinct_permuted o (map f (take (n + 1) ss)) (map f (next ∷ us)) (IsPermutation-map f (take (n + 1) ss) (next ∷ us) moved) (subst HasDistinctBytes (take-map f (n + 1) ss) (distinct_taken (n + 1) (map f ss) d))) h
+    no_key out next us (distinct_permuted (map f (take (n + 1) ss)) (map f (next ∷ us)) (IsPermutation-map f (take (n + 1) ss) (next ∷ us) moved) (subst HasDistinctBytes (take-map f (n + 1) ss) (distinct_taken (n + 1) (map f ss) d))) h

@@ -1,5 +1,5 @@
 -- Keys of a map of which none is equal to another, with the one that waits for its value.
-use Rattle.std.proofs.Common.{◌≡◌, ◌≢◌, ℕ, zero, suc, ◌<◌, List, [], ◌∷◌, ◌++◌, length, length-append, get_or, sym, ap, ◌∙◌, arith, inl, inr}
+use Rattle.std.proofs.Common.{◌≡◌, ◌≢◌, ℕ, zero, suc, ◌<◌, List, [], ◌∷◌, ◌++◌, length, length-append, get_or, sym, ap, ◌∙◌, arith, inl, inr, IsPermutation}
 use Rattle.std.specs.List.{AllByRecursion}
 use Rattle.std.proofs.lemmas.Bool.{cases_lt}
 use Rattle.std.proofs.Math.ListN.{get_or-append}
@@ -9,6 +9,8 @@ use Rattle.cbor_builder.specs.Built.{HasKey, IsRepeatAt, AreAllDifferent, IsFirs
 use Rattle.cbor_canonical.specs.Pairs.{HasDistinctBytes}
 use Rattle.cbor_canonical.proofs.Members.{In, all_from}
 use Rattle.cbor_builder.proofs.Neighbours.{keys}
+use Rattle.cbor_builder.proofs.Ties.{two_permuted}
+use Rattle.std.proofs.lemmas.List.Sorted.{IsPermutation-sym, IsPermutation-map}
 
 -- ---- with a key that waits for its value
 
@@ -77,3 +79,10 @@ different_distinct (p ∷ ps) d = (
     place_of [] q m = absurd m
     place_of (p ∷ ps) q (inl e) = (zero, omega arith, ap (λ (p : Pair). p.key) (sym e))
     place_of (p ∷ ps) q (inr m) = let at = place_of ps q m in (suc at.0, omega (arith, at.1), at.2)
+
+-- they do so in whatever order
+pub distinct_permuted : (ps qs : List Pair) → IsPermutation ps qs → HasDistinctBytes ps → HasDistinctBytes qs
+distinct_permuted ps qs m d = different_distinct qs (λ i r.
+    let moved = IsPermutation-sym (keys ps) (keys qs) (IsPermutation-map (λ (p : Pair). p.key) ps qs m) in
+    let (j, k, lj, lk, ne, same) = two_permuted [] (λ x y. x ≡ y) (keys qs) (keys ps) moved (r.0, i, omega (arith, r.1, r.2), r.2, (λ e. omega (arith, r.1, e)), r.3) in
+    elim (cases_lt j k) [ inl l ↦ distinct_different ps d k (j, l, lk, same) | inr l ↦ distinct_different ps d j (k, omega (arith, l, ne), lj, sym same) ])

@@ -1,23 +1,19 @@
 -- Keys in the order of their bytes: equal ones are neighbours.
-use Rattle.std.proofs.Common.{◌≡◌, ◌≢◌, ℕ, Bool, zero, suc, ◌+◌, List, [], ◌∷◌, get_or, map, true, false, true≢false, refl, sym, ap, ◌∙◌, subst, arith, inl, inr, IsPermutation, IsSortedBy, IsTrue}
-use Rattle.std.specs.List.{IsDistinct}
-use Rattle.std.specs.Ordering.{is_eq, ordering_reverse}
+use Rattle.std.proofs.Common.{◌≡◌, ℕ, zero, suc, ◌+◌, List, [], ◌∷◌, get_or, map, true, false, refl, sym, ap, subst, arith, inl, inr, IsPermutation, IsSortedBy, IsTrue}
+use Rattle.std.specs.Ordering.{is_eq}
 use Rattle.std.specs.declared.cmp.Ordering.{Ordering}
-use Rattle.std.specs.declared.cmp.Ordering.TheVariants.{Less, Equal}
-use Rattle.std.proofs.lemmas.Bool.{false_from_ne_true}
-use Rattle.std.proofs.lemmas.Cmp.{tied_itself}
-use Rattle.std.proofs.lemmas.Map.Keys.{IsDistinct-IsPermutation}
+use Rattle.std.specs.declared.cmp.Ordering.TheVariants.{Equal}
 use Rattle.std.proofs.lemmas.List.Sorted.{IsPermutation-sym, Contains-permutation}
-use Rattle.cbor_head.specs.Prelude.{key_cmp, key_lt, Pair, in_order}
+use Rattle.cbor_head.specs.Prelude.{key_lt, Pair, in_order}
 use Rattle.cbor_head.specs.declared.order.KeyOrder.{KeyOrder}
 use Rattle.cbor_builder.specs.inner.Front.{key_of}
 use Rattle.cbor_builder.specs.inner.Repeats.{DoNeighboursDiffer}
 use Rattle.cbor_buffer.specs.Spans.{span_pair}
 use Rattle.cbor_buffer.specs.declared.span.Span.{Span}
 use Rattle.cbor_canonical.specs.Pairs.{HasDistinctBytes, IsRising}
-use Rattle.cbor_canonical.proofs.Members.{all_at, all_from, in_contains, contains_in}
-use Rattle.cbor_canonical.proofs.Orders.{key_cmp_total, tied, lt_trans, lt_other}
-use Rattle.cbor_canonical.proofs.Sorting.{differs_at, rises_at, rising_cons, rising_unique, in_order_rising, in_order_in, in_in_order}
+use Rattle.cbor_canonical.proofs.Members.{in_contains, contains_in}
+use Rattle.cbor_canonical.proofs.Orders.{lt_trans, lt_other}
+use Rattle.cbor_canonical.proofs.Sorting.{rises_at, rising_cons, rising_unique, in_order_rising, in_order_in, in_in_order}
 
 abbrev pub keys : List Pair → List (List ℕ)
 keys ps = map (λ (p : Pair). p.key) ps
@@ -44,38 +40,9 @@ rising_from_differ o out (x ∷ y ∷ ss) s d =
       | inr n ↦ lt_trans o (key_of out x) (key_of out y) r.key up (rises_at o (f y) (map f ss) rest r n)
     ]) rest
 
--- ---- keys that differ, in whatever order
-
-abbrev same_key : KeyOrder → Pair → Pair → Bool
-same_key o p q = is_eq (key_cmp o p.key q.key)
-
-same_key-flips : (o : KeyOrder) (p q : Pair) → same_key o p q ≡ same_key o q p
-same_key-flips o p q = ap is_eq ((key_cmp_total o).antisymm p.key q.key) ∙ turned (key_cmp o q.key p.key)
-  where
-    turned : (r : Ordering) → is_eq (ordering_reverse r) ≡ is_eq r
-    turned Less = refl
-    turned r = refl
-
 pub is_tied : (r : Ordering) → is_eq r ≡ true → r ≡ Equal
 is_tied Equal e = refl
 is_tied r e = cc
-
-IsDistinct-keys : (o : KeyOrder) (ps : List Pair) → HasDistinctBytes ps → IsDistinct (same_key o) ps
-unfolding IsDistinct
-IsDistinct-keys o [] d = tt
-IsDistinct-keys o (p ∷ ps) d =
-    (all_from (λ q. same_key o p q ≡ false) ps (λ q m. false_from_ne_true (same_key o p q) (λ e. differs_at p ps d q m (sym (tied o p.key q.key (is_tied _ e))))), IsDistinct-keys o ps d.1)
-
-distinct_from_keys : (o : KeyOrder) (ps : List Pair) → IsDistinct (same_key o) ps → HasDistinctBytes ps
-unfolding IsDistinct
-distinct_from_keys o [] d = tt
-distinct_from_keys o (p ∷ ps) d = (
-  all_from (λ q. q.key ≢ p.key) ps (λ q m e. true≢false (ap is_eq (sym (tied_itself (key_cmp_total o) p.key)) ∙ ap (λ (k : List ℕ). is_eq (key_cmp o p.key k)) (sym e) ∙ all_at (λ r. same_key o p r ≡ false) ps q d.0 m)),
-  distinct_from_keys o ps d.1,
-)
-
-pub distinct_permuted : (o : KeyOrder) (ps qs : List Pair) → IsPermutation ps qs → HasDistinctBytes ps → HasDistinctBytes qs
-distinct_permuted o ps qs m d = distinct_from_keys o qs (IsDistinct-IsPermutation (same_key o) (same_key-flips o) ps qs m (IsDistinct-keys o ps d))
 
 -- a rising permutation of pairs whose keys differ is the list in order
 pub rising_is_in_order : (o : KeyOrder) (ps qs : List Pair) → HasDistinctBytes ps → IsPermutation ps qs → IsRising o qs → qs ≡ in_order o ps

@@ -46,7 +46,7 @@ module _ {X : Type 0} (d : X) (R : X → X → Type 0) where
       let l = moved_to f g a b (length xs) j w la lb lj in
       (k.0, l.0, omega (arith, k.1, long), omega (arith, l.1, long), moved_apart a b i j k.0 l.0 ne k.3 k.4 k.5 l.3 l.4 l.5, subst (λ x. R x (g l.0)) (sym k.2) (subst (R (f i)) (sym l.2) r))
 
-  two_permuted : (xs ys : List X) → IsPermutation xs ys → Two xs → Two ys
+  pub two_permuted : (xs ys : List X) → IsPermutation xs ys → Two xs → Two ys
   two_permuted xs ys m t = IsPermutation-keeps xs Two t (λ xs a b la lb h. two_swapped xs a b la lb h) ys m
 
 pub tie_permuted : (out : List ℕ) (xs ys : List Span) (earlier later : ℕ) → IsPermutation xs ys → HasTie out xs (length xs) earlier later → HasTie out ys (length ys) earlier later

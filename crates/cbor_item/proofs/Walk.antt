@@ -2,7 +2,7 @@
 use Rattle.std.proofs.Common.{◌≡◌, ◌↔◌, ℕ, suc, ◌+◌, ◌<◌, ◌^◌, List, [], ◌∷◌, ◌++◌, append_assoc, append-nil, length, map, Vec, Box, Global, refl, sym, ap, ◌∙◌, subst, arith, flat_map, reverse, Some}
 use Rattle.std.proofs.lemmas.List.{reverse-append}
 use Rattle.cbor_head.specs.declared.major.Major.TheVariants as Major
-use Rattle.cbor_head.specs.Prelude.{Pair, canonical, canonical_all, canonical_entries, in_order, shortest_head, Value, values_count, IsInRange, AreInRange, AreEntriesInRange, IsValid, AreValid, AreEntriesValid, HasDistinctKeys}
+use Rattle.cbor_head.specs.Prelude.{Pair, canonical, canonical_all, canonical_entries, in_order, shortest_head, Value, values_count, IsInRange, AreInRange, AreEntriesInRange, IsValid, AreValid, AreEntriesValid}
 use Rattle.cbor_head.specs.declared.order.KeyOrder.{KeyOrder}
 use Rattle.cbor_builder.specs.Built.{Built}
 use Rattle.cbor_canonical.specs.Parts.{Open, plain, an_array, a_map, pair, with_member, closed, HasNoRepeats}
@@ -73,8 +73,7 @@ opens_array o v h =
       takes = array_takes o vs 0 [] r.1 (omega (arith, count, r.0));
       bytes = ap (closed o) all ∙ ap (λ (n : ℕ). shortest_head Major.Array n ++ canonical_all o (values_of vs)) (sym count) ∙ ap (canonical o) (sym is);
       smaller = ap size is ∙ ap (λ (n : ℕ). suc (suc n)) (weight-all vs);
-      valid = subst (λ w. IsValid w ↔ (AreAllValid vs × HasNoRepeats (with_all o vs (an_array 0 [])))) (sym is)
-          (subst (λ (c : Open). AreValid (values_of vs) ↔ (AreAllValid vs × HasNoRepeats c)) (sym all) ((λ g. ((all_valid vs).1 g, tt)), (λ g. (all_valid vs).0 g.0)));
+      valid = coe 1 0 (i. IsValid (is i) ↔ (AreAllValid vs × HasNoRepeats (all i))) ((λ g. ((all_valid vs).1 g, tt)), (λ g. (all_valid vs).0 g.0));
     }
   where
     counted : (vs : List Value) → values_count (values_of vs) ≡ 0 + length vs
@@ -93,11 +92,10 @@ opens_map o v h =
       takes = map_takes o ps [] r.1;
       bytes = ap (closed o) all ∙ ap (λ (n : ℕ). shortest_head Major.Map n ++ flat_map pair_bytes (in_order o (canonical_entries o es))) (length-canonical_entries o es) ∙ ap (canonical o) (sym is);
       smaller = ap size is ∙ ap (λ (n : ℕ). suc (suc n)) (weight-flat ps);
-      valid = subst (λ w. IsValid w ↔ (AreAllValid (flat ps) × HasNoRepeats (with_all o (flat ps) (a_map [])))) (sym is)
-          (subst (λ (c : Open). (AreEntriesValid es × HasDistinctKeys es) ↔ (AreAllValid (flat ps) × HasNoRepeats c)) (sym all) (
-            (λ g. ((flat_valid ps).1 g.0, (exactly ((valid_apart es).0 g.0).0).0 g.1)),
-            (λ g. let e = (flat_valid ps).0 g.0 in (e, (exactly ((valid_apart es).0 e).0).1 g.1)),
-          ));
+      valid = coe 1 0 (i. IsValid (is i) ↔ (AreAllValid (flat ps) × HasNoRepeats (all i))) (
+        (λ g. ((flat_valid ps).1 g.0, (exactly ((valid_apart es).0 g.0).0).0 g.1)),
+        (λ g. let e = (flat_valid ps).0 g.0 in (e, (exactly ((valid_apart es).0 e).0).1 g.1)),
+      );
     }
 
 pub opens_tag : (o : KeyOrder) (n : ℕ) (b : Box Item Global) → IsInRange (view (Tag n b)) → Opens o (view (Tag n b)) (plain (shortest_head Major.Tag n)) (view b.value ∷ [])
@@ -147,10 +145,9 @@ walks_begun o w i r s t rs rs' a b k next same begun push =
     let leads = subst (λ vs. Leads o w (vs ∷ vss) a.standing) next k.leads in
     let sound = subst (λ vs. AreSound o (vs ∷ vss) a.standing ↔ IsValid w) next k.sound in
     let opens = subst (λ p. Opens p (view i) begun.0 (left t)) k.order begun.2 in
-    let all : left t ∷ left s ∷ vss ≡ left_of_all t rs' = sym (pushed t s rs rs' push) in
+    let all = pushed t s rs rs' push in
     record {
       order = same ∙ k.order;
-      leads = subst (λ (uss : List (List Value)). Leads o w uss b.standing) all (subst (Leads o w (left t ∷ left s ∷ vss)) (sym begun.1) (leads_begun o w (view i) (left s) (left t) vss begun.0 a.standing opens leads));
-      sound = subst (λ (uss : List (List Value)). AreSound o uss b.standing ↔ IsValid w) all
-          (subst (λ (os : List Open). AreSound o (left t ∷ left s ∷ vss) os ↔ IsValid w) (sym begun.1) (sound_begun o (IsValid w) w (view i) (left s) (left t) vss begun.0 a.standing opens leads sound));
+      leads = coe 1 0 (k. Leads o w (all k) (begun.1 k)) (leads_begun o w (view i) (left s) (left t) vss begun.0 a.standing opens leads);
+      sound = coe 1 0 (k. AreSound o (all k) (begun.1 k) ↔ IsValid w) (sound_begun o (IsValid w) w (view i) (left s) (left t) vss begun.0 a.standing opens leads sound);
     }

@@ -1,9 +1,8 @@
 -- Looking up a value by its key, and a member by its index.
-use Rattle.std.proofs.Common.{◌≡◌, ℕ, zero, suc, ◌+◌, ◌<◌, ◌≤◌, List, [], ◌∷◌, length, drop, get_or, slice_get, Option, Some, None, Bor, inl, inr, refl, ap, subst, arith, ◌↔◌, ℤ, pos, negsuc, option_map, MatchOption, IfSome}
+use Rattle.std.proofs.Common.{◌≡◌, ℕ, zero, suc, ◌+◌, ◌<◌, ◌≤◌, List, [], ◌∷◌, length, drop, get_or, Option, Some, None, Bor, inl, inr, refl, ap, subst, arith, ◌↔◌, ℤ, pos, negsuc, option_map, MatchOption, IfSome}
 use Rattle.std.proofs.lemmas.List.{drop_all, drop_more}
-use Rattle.std.proofs.lemmas.Option.{slice_get-get_or}
 use Rattle.cbor_head.specs.Value as value
-use Rattle.cbor_head.specs.Prelude.{Value, HasEntry, Same, map, IsValid, AreEntriesValid}
+use Rattle.cbor_head.specs.Prelude.{Value, HasEntry, Same, map}
 use Rattle.cbor_view.specs.Kinds.{integer}
 use Rattle.cbor_item.specs.View.{values_of}
 use Rattle.cbor_view.specs.Lookup.{HasValueAt, member_at}

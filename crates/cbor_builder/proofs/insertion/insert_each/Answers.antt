@@ -8,7 +8,7 @@ use Rattle.cbor_canonical.proofs.Sorting.{rising_distinct}
 use Rattle.cbor_builder.specs.Built.{HasKey}
 use Rattle.cbor_builder.specs.inner.Front.{key_of, IsFronted, AreFronted}
 use Rattle.cbor_canonical.proofs.Decided.{holds, fails}
-use Rattle.cbor_builder.proofs.Neighbours.{distinct_permuted}
+use Rattle.cbor_builder.proofs.KeysSoFar.{distinct_permuted}
 use Rattle.cbor_buffer.proofs.ByIndex.{all_index}
 use Rattle.cbor_builder.proofs.Ranks.{all_permuted}
 use Rattle.cbor_builder.proofs.Inserted.{in_front_taken, taken_front, rest_front, same_at, rest_more, all_taken, more_permuted, repeats}
@@ -76,7 +76,7 @@ returns c =
     let permuted = coe 0 1 (k. IsPermutation (take_all i was (omega arith) k) (all k)) c.loop-i.invariant.0 in
     let rising = subst (λ (us : List Span). IsRising c.args.order (map f us)) all c.loop-i.invariant.1 in
     record {
-      distinct = holds (distinct_permuted c.args.order (map f ys) (map f was) (IsPermutation-map f ys was (IsPermutation-sym was ys permuted)) (rising_distinct c.args.order (map f ys) rising));
+      distinct = holds (distinct_permuted (map f ys) (map f was) (IsPermutation-map f ys was (IsPermutation-sym was ys permuted)) (rising_distinct c.args.order (map f ys) rising));
       permuted = permuted;
       rising = λ t. rising;
     }

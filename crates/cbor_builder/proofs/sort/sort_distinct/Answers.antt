@@ -5,7 +5,8 @@ use Rattle.cbor_canonical.specs.Pairs.{IsRising}
 use Rattle.cbor_canonical.proofs.ByteLists.{are_bytes}
 use Rattle.cbor_canonical.proofs.Sorting.{rising_distinct}
 use Rattle.cbor_builder.proofs.Ranks.{all_permuted, sorted_keys}
-use Rattle.cbor_builder.proofs.Neighbours.{differ_from_distinct, rising_from_differ, distinct_permuted}
+use Rattle.cbor_builder.proofs.Neighbours.{differ_from_distinct, rising_from_differ}
+use Rattle.cbor_builder.proofs.KeysSoFar.{distinct_permuted}
 use Rattle.cbor_builder.proofs.sort.sort_distinct.Goals as goal
 
 pub differ-requires : goal.differ-requires
@@ -24,8 +25,8 @@ returns-then-spans-gt-FEW c =
     let rising : IsTrue c.differ.result → IsRising o (map f ys) = λ t. rising_from_differ o bytes ys sorted (c.differ.ensures.0 t) in
     record {
       distinct = (
-        (λ t. distinct_permuted o (map f ys) (map f xs) (IsPermutation-sym (map f xs) (map f ys) moved) (rising_distinct o (map f ys) (rising t))),
-        (λ d. c.differ.ensures.1 (differ_from_distinct bytes ys (distinct_permuted o (map f xs) (map f ys) moved d))),
+        (λ t. distinct_permuted (map f ys) (map f xs) (IsPermutation-sym (map f xs) (map f ys) moved) (rising_distinct o (map f ys) (rising t))),
+        (λ d. c.differ.ensures.1 (differ_from_distinct bytes ys (distinct_permuted (map f xs) (map f ys) moved d))),
       );
       permuted = e.permuted;
       rising = rising;

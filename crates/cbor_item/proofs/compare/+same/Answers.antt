@@ -1,7 +1,7 @@
-use Rattle.std.proofs.Common.{◌≡◌, ◌↔◌, ◌-◌, IsTrue, slice_range, take, drop, inl, refl, sym, ap, ◌∙◌, subst, rules, arith}
+use Rattle.std.proofs.Common.{◌≡◌, ◌↔◌, ◌-◌, List, length, slice_range, take, drop, inl, refl, sym, ap, ◌∙◌, subst, rules, arith}
 use Rattle.std.proofs.lemmas.Option.{get_or_from_slice_get}
 use Rattle.cbor_head.specs.Value as value
-use Rattle.cbor_head.specs.Prelude.{Same, SameValues, IsValid}
+use Rattle.cbor_head.specs.Prelude.{Value, Same, SameValues, Covered, IsValid}
 use Rattle.cbor_head.specs.Value.{entries_count}
 use Rattle.cbor_item.specs.declared.item.Item.TheViews.{the_lemmas}
 use Rattle.cbor_item.specs.View.{view}
@@ -23,34 +23,24 @@ are_same-returns-then-len t c =
     fails (λ (h : SameValues (values_view xs.items) (values_view ys.items)).
     omega (arith, SameValues-count _ _ h, values_counted view xs.items, values_counted view ys.items, xs.ok.0, ys.ok.0, c.if-len.true))
 
+maps_same : (v w : Value) (xs ys : List (Item × Item)) → v ≡ value.map (entries_view xs) → w ≡ value.map (entries_view ys) → IsValid v → IsValid w
+    → Same v w ↔ ((length xs ≡ length ys) × Covered (entries_view xs) (entries_view ys))
+maps_same v w xs ys a b h k =
+    coe 1 0 (i. Same (a i) (b i) ↔ ((sym (entries_counted view xs) i ≡ sym (entries_counted view ys) i) × Covered (entries_view xs) (entries_view ys))) (same_by_count (entries_view xs) (entries_view ys) (subst IsValid a h).1 (subst IsValid b k).1)
+
 pub is_same-returns-then-len : goal.is_same-returns-then-len
 is_same-returns-then-len t c =
     let xs = c.in-Map-Map.xs in
     let ys = c.in-Map-Map.ys in
-    let a : view c.args.a.now ≡ value.map (entries_view xs.items) = ap view c.in-Map-Map.is-0 ∙ view-Map xs in
-    let b : view c.args.b.now ≡ value.map (entries_view ys.items) = ap view c.in-Map-Map.is-1 ∙ view-Map ys in
-    let d = subst IsValid a c.requires.left in
-    let e = subst IsValid b c.requires.right in
-    let counts : entries_count (entries_view xs.items) ≡ entries_count (entries_view ys.items) =
-    omega (arith, entries_counted view xs.items, entries_counted view ys.items, xs.ok.0, ys.ok.0, c.if-len.true) in
-    let same = same_by_count (entries_view xs.items) (entries_view ys.items) d.1 e.1 in
-    subst (λ v. IsTrue c.is_covered.result ↔ Same v (view c.args.b.now)) (sym a) (subst (λ w. IsTrue c.is_covered.result ↔ Same (value.map (entries_view xs.items)) w) (sym b)
-    (λ t. same.1 (counts, c.is_covered.ensures.0 t), λ s. c.is_covered.ensures.1 (same.0 s).1))
+    let same = maps_same _ _ xs.items ys.items (ap view c.in-Map-Map.is-0 ∙ view-Map xs) (ap view c.in-Map-Map.is-1 ∙ view-Map ys) c.requires.left c.requires.right in
+    (λ t. same.1 (omega (arith, xs.ok.0, ys.ok.0, c.if-len.true), c.is_covered.ensures.0 t), λ s. c.is_covered.ensures.1 (same.0 s).1)
 
 pub is_same-returns-else-len : goal.is_same-returns-else-len
 is_same-returns-else-len t c =
     let xs = c.in-Map-Map.xs in
     let ys = c.in-Map-Map.ys in
-    let a : view c.args.a.now ≡ value.map (entries_view xs.items) = ap view c.in-Map-Map.is-0 ∙ view-Map xs in
-    let b : view c.args.b.now ≡ value.map (entries_view ys.items) = ap view c.in-Map-Map.is-1 ∙ view-Map ys in
-    let d = subst IsValid a c.requires.left in
-    let e = subst IsValid b c.requires.right in
-    let same = same_by_count (entries_view xs.items) (entries_view ys.items) d.1 e.1 in
-    let differ : Same (value.map (entries_view xs.items)) (value.map (entries_view ys.items)) → ⊥ = λ s.
-    let counts = (same.0 s).0 in
-    absurd (omega (arith, counts, entries_counted view xs.items, entries_counted view ys.items, xs.ok.0, ys.ok.0, c.if-len.false)) in
-    let tested = unequal c.len.result c.len-in-Map-Map.result c.if-len.false in
-    (λ t. absurd (tested t), λ s. absurd (differ (subst (Same (value.map (entries_view xs.items))) b (subst (λ v. Same v (view c.args.b.now)) a s))))
+    let same = maps_same _ _ xs.items ys.items (ap view c.in-Map-Map.is-0 ∙ view-Map xs) (ap view c.in-Map-Map.is-1 ∙ view-Map ys) c.requires.left c.requires.right in
+    (λ t. absurd (unequal c.len.result c.len-in-Map-Map.result c.if-len.false t), λ s. absurd (omega (arith, (same.0 s).0, xs.ok.0, ys.ok.0, c.if-len.false)))
 
 pub is_covered-returns-in-None : goal.is_covered-returns-in-None
 is_covered-returns-in-None t c =

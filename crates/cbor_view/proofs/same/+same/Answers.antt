@@ -1,4 +1,4 @@
-use Rattle.std.proofs.Common.{◌≡◌, ◌↔◌, ℕ, Bool, IsTrue, get_or, slice_get, Some, sym, ◌∙◌, subst, arith, rules}
+use Rattle.std.proofs.Common.{◌≡◌, ◌↔◌, ℕ, IsTrue, get_or, slice_get, Some, sym, ◌∙◌, subst, arith, rules}
 use Rattle.std.proofs.lemmas.Option.{slice_get-get_or}
 use Rattle.cbor_head.specs.Prelude.{SameValues, Covered}
 use Rattle.cbor_item.specs.View.{values_of}
@@ -26,24 +26,19 @@ are_same_maps-returns-then-xs-ys t c = fails (counts_differ c.args.xs.now c.args
 pub are_same_maps-returns-then-not-is_among : goal.are_same_maps-returns-then-not-is_among
 are_same_maps-returns-then-not-is_among t c =
     let xs = c.args.xs.now in
-    let i = c.loop-i.i in
-    let p = get_or xs i (Unsigned 0, Unsigned 0) in
-    let at : slice_get xs i ≡ Some p = slice_get-get_or xs i (Unsigned 0, Unsigned 0) (omega arith) in
-    fails (pair_misses xs c.args.ys.now i p c.requires.left c.requires.right at c.loop-i.invariant (was_false c.is_among.result c.if-not-is_among.true (c.is_among.ensures p at)))
+    let at = slice_get-get_or xs c.loop-i.i (Unsigned 0, Unsigned 0) (omega arith) in
+    fails (pair_misses xs c.args.ys.now c.loop-i.i _ c.requires.left c.requires.right at c.loop-i.invariant (was_false c.is_among.result c.if-not-is_among.true (c.is_among.ensures _ at)))
 
 pub are_same_maps-loop-i-preserved : goal.are_same_maps-loop-i-preserved
 are_same_maps-loop-i-preserved t c =
     let xs = c.args.xs.now in
     let ys = c.args.ys.now in
-    let i = c.loop-i.i in
-    let p = get_or xs i (Unsigned 0, Unsigned 0) in
-    let q = get_or ys i (Unsigned 0, Unsigned 0) in
-    let at : slice_get xs i ≡ Some p = slice_get-get_or xs i (Unsigned 0, Unsigned 0) (omega arith) in
-    let other : slice_get ys i ≡ Some q = slice_get-get_or ys i (Unsigned 0, Unsigned 0) (omega arith) in
-    covered_on seen (Covered (entries xs) (entries ys)) (entries ys) _ p _ (at_read xs i p at) c.loop-i.invariant
+    let at = slice_get-get_or xs c.loop-i.i (Unsigned 0, Unsigned 0) (omega arith) in
+    let other = slice_get-get_or ys c.loop-i.i (Unsigned 0, Unsigned 0) (omega arith) in
+    covered_on seen (Covered (entries xs) (entries ys)) (entries ys) _ _ _ (at_read xs c.loop-i.i _ at) c.loop-i.invariant
     (elim c.else-not-is_pair.branch [
-      | are_same_maps-else-not-is_pair-via-then-not-is_pair+else-not-is_among w ↦ was_true w.is_among.result w.if-not-is_among.false (w.is_among.ensures p at)
-      | are_same_maps-else-not-is_pair-via-else-not-is_pair w ↦ met_at p ys i q other (was_true c.is_pair.result w.if-not-is_pair.false (c.is_pair.ensures p q at other))
+      | are_same_maps-else-not-is_pair-via-then-not-is_pair+else-not-is_among w ↦ was_true w.is_among.result w.if-not-is_among.false (w.is_among.ensures _ at)
+      | are_same_maps-else-not-is_pair-via-else-not-is_pair w ↦ met_at _ ys c.loop-i.i _ other (was_true c.is_pair.result w.if-not-is_pair.false (c.is_pair.ensures _ _ at other))
     ])
 
 pub are_same_maps-returns : goal.are_same_maps-returns
@@ -51,19 +46,13 @@ are_same_maps-returns t c = holds (all_met c.args.xs.now c.args.ys.now c.loop-i.
 
 pub is_among-returns-then-is_pair : goal.is_among-returns-then-is_pair
 is_among-returns-then-is_pair t c = λ p at.
-    let ys = c.args.ys.now in
-    let j = c.loop-j.j in
-    let q = get_or ys j (Unsigned 0, Unsigned 0) in
-    let other : slice_get ys j ≡ Some q = slice_get-get_or ys j (Unsigned 0, Unsigned 0) (omega arith) in
-    holds (met_at p ys j q other (was_true c.is_pair.result c.if-is_pair.true (c.is_pair.ensures p q at other)))
+    let other = slice_get-get_or c.args.ys.now c.loop-j.j (Unsigned 0, Unsigned 0) (omega arith) in
+    holds (met_at p c.args.ys.now c.loop-j.j _ other (was_true c.is_pair.result c.if-is_pair.true (c.is_pair.ensures p _ at other)))
 
 pub is_among-loop-j-preserved : goal.is_among-loop-j-preserved
 is_among-loop-j-preserved t c = λ p at.
-    let ys = c.args.ys.now in
-    let j = c.loop-j.j in
-    let q = get_or ys j (Unsigned 0, Unsigned 0) in
-    let other : slice_get ys j ≡ Some q = slice_get-get_or ys j (Unsigned 0, Unsigned 0) (omega arith) in
-    met_on seen (IsMet p ys) p _ q _ (at_read ys j q other) (c.loop-j.invariant p at) (was_false c.is_pair.result c.if-is_pair.false (c.is_pair.ensures p q at other))
+    let other = slice_get-get_or c.args.ys.now c.loop-j.j (Unsigned 0, Unsigned 0) (omega arith) in
+    met_on seen (IsMet p c.args.ys.now) p _ _ _ (at_read c.args.ys.now c.loop-j.j _ other) (c.loop-j.invariant p at) (was_false c.is_pair.result c.if-is_pair.false (c.is_pair.ensures p _ at other))
 
 pub is_pair-is_same-requires : goal.is_pair-is_same-requires
 is_pair-is_same-requires t c =
@@ -84,12 +73,10 @@ is_pair-returns-then-is_same t c = λ p q at other.
 pub is_pair-returns-else-is_same : goal.is_pair-returns-else-is_same
 is_pair-returns-else-is_same t c = λ p q at other.
     let differ = keys_differ (Unsigned 0, Unsigned 0) c.args.xs.now c.args.ys.now c.args.i c.args.j p q at other (was_false c.is_same.result c.if-is_same.false c.is_same.ensures) in
-    subst (λ (b : Bool). IsTrue b ↔ IsSamePair p q) (sym c.if-is_same.false) (fails differ)
+    coe 1 0 (i. IsTrue (c.if-is_same.false i) ↔ IsSamePair p q) (fails differ)
 
 pub is_among-loop-j-preserved-then-j-i : goal.is_among-loop-j-preserved-then-j-i
 is_among-loop-j-preserved-then-j-i t c = λ p at.
     let ys = c.args.ys.now in
-    let j = c.loop-j.j in
-    let q = get_or ys j (Unsigned 0, Unsigned 0) in
-    let other : slice_get ys j ≡ Some q = slice_get-get_or ys j (Unsigned 0, Unsigned 0) (omega arith) in
-    met_on seen (IsMet p ys) p _ q _ (at_read ys j q other) (c.loop-j.invariant p at) (c.requires.there p q at (subst (λ (k : ℕ). slice_get ys k ≡ Some q) c.if-j-i.true other))
+    let other = slice_get-get_or ys c.loop-j.j (Unsigned 0, Unsigned 0) (omega arith) in
+    met_on seen (IsMet p ys) p _ _ _ (at_read ys c.loop-j.j _ other) (c.loop-j.invariant p at) (c.requires.there p _ at (subst (λ (k : ℕ). slice_get ys k ≡ Some (get_or ys c.loop-j.j (Unsigned 0, Unsigned 0))) c.if-j-i.true other))

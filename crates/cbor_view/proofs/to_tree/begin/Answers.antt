@@ -10,19 +10,14 @@ use Rattle.cbor_view.proofs.to_tree.begin.Goals as goal
 use Rattle.cbor_view.proofs.to_tree.begin.Goals.{in-Unsigned+in_ok-leaf-in-Unsigned, in-Negative+in_ok-leaf-in-Negative, in-Bytes+in_ok-from_slice-in-Bytes+in_ok-leaf-in-Bytes, in-Text+in_ok-from_str-in-Text+in_ok-leaf-in-Text, in-Simple+in-Some+in_ok-leaf-in-Some}
 
 pub returns-in-Array : goal.returns-in-Array
-returns-in-Array c =
-    let h = subst (λ (v : View). IsInRange (seen v)) c.in-Array.is c.requires.in_range in
-    rw (c.in-Array.is) (array_begun c.in-Array.members (standing c.args.builder.now) _ h (search rules))
+returns-in-Array c = rw (c.in-Array.is) (array_begun c.in-Array.members (standing c.args.builder.now) _ (subst (λ (v : View). IsInRange (seen v)) c.in-Array.is c.requires.in_range) (search rules))
 
 pub returns-in-Map : goal.returns-in-Map
-returns-in-Map c =
-    let h = subst (λ (v : View). IsInRange (seen v)) c.in-Map.is c.requires.in_range in
-    rw (c.in-Map.is) (map_begun c.in-Map.pairs (standing c.args.builder.now) _ h (search rules))
+returns-in-Map c = rw (c.in-Map.is) (map_begun c.in-Map.pairs (standing c.args.builder.now) _ (subst (λ (v : View). IsInRange (seen v)) c.in-Map.is c.requires.in_range) (search rules))
 
 pub returns-in-Tag : goal.returns-in-Tag
 returns-in-Tag c =
-    let h = subst (λ (v : View). IsInRange (seen v)) c.in-Tag.is c.requires.in_range in
-    rw (c.in-Tag.is) (tag_begun c.in-Tag.number c.in-Tag.content c.from_ref.result (standing c.args.builder.now) _ (search rules) h (search rules))
+    rw (c.in-Tag.is) (tag_begun c.in-Tag.number c.in-Tag.content c.from_ref.result (standing c.args.builder.now) _ (search rules) (subst (λ (v : View). IsInRange (seen v)) c.in-Tag.is c.requires.in_range) (search rules))
 
 pub returns : goal.returns
 returns c =

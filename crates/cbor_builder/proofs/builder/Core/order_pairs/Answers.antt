@@ -1,4 +1,4 @@
-use Rattle.std.proofs.Common.{◌≡◌, ◌∙◌, ◌++◌, List, take, drop, length, map, sym, ap, subst, arith, flat_map}
+use Rattle.std.proofs.Common.{◌∙◌, ◌++◌, List, take, drop, length, map, sym, ap, subst, arith, flat_map}
 use Rattle.std.proofs.lemmas.List.{take_rest}
 use Rattle.cbor_canonical.specs.Pairs.{pair_bytes}
 use Rattle.cbor_head.specs.Prelude.{Pair}
@@ -36,9 +36,6 @@ returns-clause-meant c = λ t.
     ∙ ap (λ (f : Frame). take f.start (meant s.out) ++ flat_map pair_bytes (pairs_from (meant s.out) n.spans.items c.args.first)) e.top
     ∙ ap (λ (ps : List Pair). take s.top.start (meant s.out) ++ flat_map pair_bytes ps) (e.pairs c.if-not-order_spans.false)
 
-stands : {A B : Type 0} (P : A → B → Type 0) (a b : A) (c d : B) → a ≡ b → c ≡ d → P b d → P a c
-stands P a b c d e f h = subst (λ x. P x c) (sym e) (subst (P b) (sym f) h)
-
 pub rearrange-requires : goal.rearrange-requires
 rearrange-requires c =
     let s = c.args.self.now in
@@ -49,6 +46,6 @@ rearrange-requires c =
     record {
       whole = subst IsWhole (sym e.out) c.requires.whole;
       begins = omega (arith, whole_length s.out c.requires.whole, c.requires.within, start, ap (λ (d : Draft). length d.buf) e.out);
-      behind = stands AreBehind _ s.top.start _ _ start us (all_permuted _ xs _ e.permuted (tile_behind s.top.start xs (length (meant s.out)) c.requires.fits.1));
-      within = stands AreWithin _ (meant s.out) _ _ (ap meant e.out) us (all_permuted _ xs _ e.permuted (tile_within (meant s.out) s.top.start xs (length (meant s.out)) c.requires.fits.1 (omega arith)));
+      behind = coe 1 0 (i. AreBehind (start i) (us i)) (all_permuted _ xs _ e.permuted (tile_behind s.top.start xs (length (meant s.out)) c.requires.fits.1));
+      within = coe 1 0 (i. AreWithin (meant (e.out i)) (us i)) (all_permuted _ xs _ e.permuted (tile_within (meant s.out) s.top.start xs (length (meant s.out)) c.requires.fits.1 (omega arith)));
     }

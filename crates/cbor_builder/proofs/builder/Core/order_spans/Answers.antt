@@ -15,8 +15,7 @@ pub sort_distinct-requires : goal.sort_distinct-requires
 sort_distinct-requires c =
     let s = c.args.self.now in
     let us = take_rest c.deref_mut.result.now c.args.first ∙ ap (drop c.args.first) c.deref_mut.ensures.value in
-    subst (AreFronted c.as_slice.result.now) (sym us) (subst (λ (xs : List ℕ). AreFronted xs (drop c.args.first s.spans.items)) (sym c.as_slice.ensures)
-    (fronted_keys s.out.buf (meant s.out) (drop c.args.first s.spans.items) c.requires.keys c.requires.fits.3))
+    coe 1 0 (i. AreFronted (c.as_slice.ensures i) (us i)) (fronted_keys s.out.buf (meant s.out) (drop c.args.first s.spans.items) c.requires.keys c.requires.fits.3)
 
 -- what a part that is put in order leaves
 placed : (n m : ℕ) (us ys post zs : List Span) → n ≤ length us → n + length ys ≡ m → take m ((take n us ++ (ys ++ post)) ++ zs) ≡ take n us ++ ys

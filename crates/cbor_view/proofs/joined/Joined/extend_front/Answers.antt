@@ -14,12 +14,8 @@ returns-in-Some c =
     let few = c.if-count-le-BLOCK.true in
     let long : length xs ≡ v.len = ap length c.deref_mut.ensures.value ∙ sym v.ok.0 in
     let all : length ys ≡ 32 = omega arith in
-    let a = length-append (take at xs) (ys ++ rest) in
-    let b = length-append ys rest in
-    let f = length-take at xs in
     let p = length-drop (at + 32 - at) (drop at xs) in
-    let q = length-drop at xs in
-    let whole : length (take at xs ++ (ys ++ rest)) ≡ v.len = omega (arith, a, b, f, p, q, all, long) in
+    let whole : length (take at xs ++ (ys ++ rest)) ≡ v.len = omega (arith, length-append (take at xs) (ys ++ rest), length-append ys rest, length-take at xs, p, length-drop at xs, all, long) in
     ap (take (at + k)) (with_items_is v (take at xs ++ (ys ++ rest)) whole)
     ∙ written xs ys rest at k (omega arith) (omega (arith, few, all))
     ∙ (λ i. (ap (take at) c.deref_mut.ensures.value ∙ c.self.view_is) i

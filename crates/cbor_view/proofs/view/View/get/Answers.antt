@@ -1,10 +1,8 @@
-use Rattle.std.proofs.Common.{◌≡◌, get_or, sym, ap, ◌∙◌, subst, arith}
-use Rattle.cbor_head.specs.Value as value
-use Rattle.cbor_head.specs.Prelude.{Value, IsValid}
+use Rattle.std.proofs.Common.{get_or, ap, ◌∙◌, subst, arith}
+use Rattle.cbor_head.specs.Prelude.{IsValid}
 use Rattle.cbor_canonical.proofs.Decided.{was_true, was_false}
 use Rattle.cbor_view.specs.Lookup.{HasValueAt}
 use Rattle.cbor_view.specs.Seen.{seen}
-use Rattle.cbor_view.specs.inner.Pairs.{entries}
 use Rattle.cbor_view.specs.declared.view.View.TheVariants.{Unsigned}
 use Rattle.cbor_view.proofs.Lookups.{looked_by, found_by, none_behind}
 use Rattle.cbor_item.proofs.Steps.{valid_at}
@@ -13,14 +11,11 @@ use Rattle.cbor_view.proofs.view.View.get.Goals as goal
 
 pub same-requires-clause-left : goal.same-requires-clause-left
 same-requires-clause-left c =
-    let is : seen c.args.self.now ≡ value.map (entries c.in-Map.pairs.now) = ap seen c.in-Map.is ∙ seen-Map c.in-Map.pairs in
-    let h = subst IsValid is c.requires.map in
-    (valid_at seen c.in-Map.pairs.now c.loop-found.found-index (Unsigned 0, Unsigned 0) h.0 c.loop-found-test.true).0
+    (valid_at seen c.in-Map.pairs.now c.loop-found.found-index (Unsigned 0, Unsigned 0) (subst IsValid (ap seen c.in-Map.is ∙ seen-Map c.in-Map.pairs) c.requires.map).0 c.loop-found-test.true).0
 
 pub returns-then-same : goal.returns-then-same
 returns-then-same c =
-    let is : seen c.args.self.now ≡ value.map (entries c.in-Map.pairs.now) = ap seen c.in-Map.is ∙ seen-Map c.in-Map.pairs in
-    subst (λ (v : Value). HasValueAt v (seen c.args.key.now) (seen (get_or c.in-Map.pairs.now c.loop-found.found-index (Unsigned 0, Unsigned 0)).1)) (sym is)
+    coe 1 0 (i. HasValueAt ((ap seen c.in-Map.is ∙ seen-Map c.in-Map.pairs) i) (seen c.args.key.now) (seen (get_or c.in-Map.pairs.now c.loop-found.found-index (Unsigned 0, Unsigned 0)).1))
     (found_by (seen c.args.key.now) c.in-Map.pairs.now c.loop-found.found-index (Unsigned 0, Unsigned 0) c.loop-found-test.true (was_true c.same.result c.if-same.true c.same.ensures))
 
 pub loop-found-preserved : goal.loop-found-preserved
@@ -28,6 +23,5 @@ loop-found-preserved c =
     looked_by (seen c.args.key.now) c.in-Map.pairs.now c.loop-found.found-index (Unsigned 0, Unsigned 0) c.loop-found-test.true c.loop-found.invariant (was_false c.same.result c.if-same.false c.same.ensures)
 
 pub returns : goal.returns
-returns c =
-    let is : seen c.args.self.now ≡ value.map (entries c.in-Map.pairs.now) = ap seen c.in-Map.is ∙ seen-Map c.in-Map.pairs in
-    λ v h. none_behind (seen c.args.key.now) c.in-Map.pairs.now c.loop-found.found-index (omega arith) c.loop-found.invariant v (subst (λ (w : Value). HasValueAt w (seen c.args.key.now) v) is h)
+returns c = λ v h.
+    none_behind (seen c.args.key.now) c.in-Map.pairs.now c.loop-found.found-index (omega arith) c.loop-found.invariant v (coe 0 1 (i. HasValueAt ((ap seen c.in-Map.is ∙ seen-Map c.in-Map.pairs) i) (seen c.args.key.now) v) h)
