@@ -1,15 +1,14 @@
 -- What is kept of an item for its keys alone, as its parts come.
-use Rattle.std.proofs.Common.{◌≡◌, ℕ, zero, suc, ◌+◌, ◌-◌, ◌^◌, ◌<◌, ◌≤◌, Bool, true, false, List, [], ◌∷◌, ◌++◌, length, refl, sym, ap, ◌∙◌, subst, inl, inr, arith, ◌||◌, ◌≢◌, ◌⊎◌, if◌then◌else◌, length-append}
+use Rattle.std.proofs.Common.{◌≡◌, ℕ, zero, suc, ◌-◌, ◌^◌, ◌<◌, ◌≤◌, Bool, true, false, List, [], ◌∷◌, ◌++◌, length, refl, sym, ap, ◌∙◌, subst, inl, inr, arith, ◌||◌, ◌≢◌, ◌⊎◌, if◌then◌else◌, length-append}
 use Rattle.std.specs.List.{AllByRecursion}
 use Rattle.std.proofs.lemmas.Bool.{false≢true}
 use Rattle.cbor_builder.specs.Built.{HasDistinctKeysSoFar, CanHold, TakesPart, around}
-use Rattle.cbor_canonical.specs.Parts.{IsInContainer, Open, plain, an_array, a_map, a_key, a_string, pair, with_member, closed, give, close, HasNoRepeats}
+use Rattle.cbor_canonical.specs.Parts.{IsInContainer, Open, plain, a_map, a_key, pair, with_member, closed, give, close, HasNoRepeats}
 use Rattle.cbor_canonical.specs.Pairs.{HasDistinctBytes}
 use Rattle.cbor_grammar.proofs.ReadLaws.{length_head}
-use Rattle.cbor_head.specs.Prelude.{Pair, canonical, head, Spelling, no_spellings, a_spelling, no_entries, entry, spell, spell_all, spell_entries, spellings_count, entries_count, value_of}
+use Rattle.cbor_head.specs.Prelude.{Pair, canonical, Spelling, no_spellings, a_spelling, no_entries, entry, spell, value_of}
 use Rattle.cbor_head.specs.declared.major.Major.TheVariants as majors
 use Rattle.cbor_head.specs.declared.order.KeyOrder.{KeyOrder}
-use Rattle.cbor_head.specs.declared.width.Width.TheVariants.{Indefinite}
 use Rattle.cbor_judging.proofs.Given.{settled}
 use Rattle.cbor_judging.specs.Frame.{with_all, with_entries}
 use Rattle.cbor_judging.specs.Given.{level_open, opens, IsFull}
@@ -47,8 +46,7 @@ in_key-is (l ∷ ls) = one (takes_key l) (in_key ls)
     one : (a t : Bool) → (a || t) ≡ is_kept (one_more t (inside ls)) a
     one true true = refl
     one false true = refl
-    one true false = refl
-    one false false = refl
+    one _ _ = refl
 
 -- ---- an item is complete
 
@@ -121,19 +119,8 @@ value-takes o (l ∷ ls) b none e =
 -- ---- no more containers are open of a key than there are bytes
 
 level-some : (l : Level) → 1 ≤ length (level_bytes l)
-level-some (a_member w left done) =
-    omega (arith, length_head majors.Array w (spellings_count done + suc left), length-append (head majors.Array w (spellings_count done + suc left)) (spell_all done))
-level-some (levels.a_key w left done) =
-    omega (arith, length_head majors.Map w (entries_count done + suc left), length-append (head majors.Map w (entries_count done + suc left)) (spell_entries done))
-level-some (a_value w left done k) =
-    let opener = head majors.Map w (entries_count done + suc left) in
-    omega (arith, length_head majors.Map w (entries_count done + suc left), length-append opener (spell_entries done), length-append (opener ++ spell_entries done) (spell k))
-level-some (some_member done) = omega (arith, length_head majors.Array Indefinite 0, length-append (head majors.Array Indefinite 0) (spell_all done))
-level-some (some_key done) = omega (arith, length_head majors.Map Indefinite 0, length-append (head majors.Map Indefinite 0) (spell_entries done))
-level-some (some_value done k) =
-    let opener = head majors.Map Indefinite 0 in
-    omega (arith, length_head majors.Map Indefinite 0, length-append opener (spell_entries done), length-append (opener ++ spell_entries done) (spell k))
 level-some (tagged w n) = length_head majors.Tag w n
+level-some _ = omega (arith, length_head, length-append {A = ℕ})
 
 one-at-most : (t : Bool) (n : ℕ) → one_more t n ≤ suc n
 one-at-most true n = omega arith
@@ -194,9 +181,7 @@ pub other-ended : (o : KeyOrder) (t : Bool) (n : ℕ) (k : Bool) (c : Open) (os 
 other-ended o true n k c os is none e h = absurd (omega (arith, none))
 other-ended o false n k (a_map ps) os is none e h = absurd (false≢true (sym e))
 other-ended o false n k (a_key ps q) os is none e h = absurd h
-other-ended o false n k (plain bs) os is none e h = let out = outside n k bs os is in record { differ = tt; holds = out.0; count = out.1 }
-other-ended o false n k (an_array m bs) os is none e h = let out = outside n k (closed o (an_array m bs)) os is in record { differ = tt; holds = out.0; count = out.1 }
-other-ended o false n k (a_string m bs) os is none e h = let out = outside n k (closed o (a_string m bs)) os is in record { differ = tt; holds = out.0; count = out.1 }
+other-ended o false n k c os is none e h = let out = outside n k (closed o c) os is in record { differ = tt; holds = out.0; count = out.1 }
 
 -- one in a key is a member of what is around it, or the key
 pub inner-ended : (o : KeyOrder) (t : Bool) (n m : ℕ) (k : Bool) (c : Open) (os : List Open) → t ≡ is_kept n k → suc m ≡ one_more t n → HasDistinctKeysSoFar (kept t c os)

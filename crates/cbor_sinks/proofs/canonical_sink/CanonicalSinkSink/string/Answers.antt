@@ -1,7 +1,6 @@
 use Rattle.std.proofs.Common.{◌++◌, ◌∙◌, take, sym, ap₂, ℕ, length-take-le}
 use Rattle.cbor_head.specs.Prelude.{shortest_head}
 use Rattle.cbor_head.specs.declared.major.Major.{Major}
-use Rattle.cbor_judging.specs.Reading.{string_value}
 use Rattle.cbor_sinks.proofs.CanonGiven.{takes, given, string-bytes}
 use Rattle.cbor_sinks.proofs.canonical_sink.CanonicalSinkSink.string.Goals as goal
 
@@ -10,8 +9,6 @@ front_string-requires-clause-takes c = takes c.args._is_key c.args.self.now c.re
 
 pub returns : goal.returns
 returns c =
-    let t = c.args.is_text in
     let content = take c.args.count c.args.front.now in
-    given c.args._is_key (string_value t content) (shortest_head c.string_type.result c.args.count ++ content) c.args.self.now (record { builder = c.front_string.new.self })
-    (λ o. string-bytes o t content ∙ ap₂ (λ (m : Major) (n : ℕ). shortest_head m n ++ content) (sym c.string_type.ensures) (length-take-le c.args.count c.args.front.now c.requires.within))
-    c.in_ok-front_string.ensures.given
+    given c.args._is_key _ _ c.args.self.now (record { builder = c.front_string.new.self })
+    (λ o. string-bytes o c.args.is_text content ∙ ap₂ (λ (m : Major) (n : ℕ). shortest_head m n ++ content) (sym c.string_type.ensures) (length-take-le c.args.count c.args.front.now c.requires.within)) c.in_ok-front_string.ensures.given

@@ -6,9 +6,8 @@ pub end_string-requires : goal.end_string-requires
 end_string-requires c = record { string = in-string c.args.is_key c.args._is_text c.args.self.now (sym c.keeps.ensures ∙ c.if-keeps.true) c.requires.due }
 
 pub settle-requires : goal.settle-requires
-settle-requires c = λ none.
-    let old = c.args.self.now in
-    string-takes c.args.is_key c.args._is_text old (record { builder = c.end_string.new.self; inside = old.inside }) (sym c.keeps.ensures ∙ c.if-keeps.true) c.requires.due c.in_ok-end_string.ensures.given none
+settle-requires c =
+    string-takes c.args.is_key c.args._is_text c.args.self.now (record { builder = c.end_string.new.self; inside = c.args.self.now.inside }) (sym c.keeps.ensures ∙ c.if-keeps.true) c.requires.due c.in_ok-end_string.ensures.given
 
 pub returns-in_ok-settle : goal.returns-in_ok-settle
 returns-in_ok-settle c =

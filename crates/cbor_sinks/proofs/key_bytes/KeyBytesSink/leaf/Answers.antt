@@ -1,5 +1,4 @@
 use Rattle.std.proofs.Common.{◌∙◌, sym}
-use Rattle.cbor_head.specs.Prelude.{shortest_head}
 use Rattle.cbor_walk.specs.Sink.{leaf_value}
 use Rattle.cbor_sinks.proofs.CanonGiven.{leaf-bytes}
 use Rattle.cbor_sinks.proofs.KeysGiven.{takes, key-takes, given-kept, given-left}
@@ -10,18 +9,12 @@ leaf-requires-clause-takes c = takes c.args.is_key c.args.self.now c.requires.du
 
 pub settle-requires : goal.settle-requires
 settle-requires c =
-    let old = c.args.self.now in
-    key-takes c.args.is_key (shortest_head c.args.major c.args.number) old (record { builder = c.leaf.new.self; inside = old.inside }) c.requires.due (sym c.keeps.ensures ∙ c.if-keeps.true) c.in_ok-leaf.ensures.given
+    key-takes c.args.is_key _ c.args.self.now (record { builder = c.leaf.new.self; inside = c.args.self.now.inside }) c.requires.due (sym c.keeps.ensures ∙ c.if-keeps.true) c.in_ok-leaf.ensures.given
 
 pub returns-in_ok-settle : goal.returns-in_ok-settle
 returns-in_ok-settle c =
-    let m = c.args.major in
-    let n = c.args.number in
-    given-kept c.args.is_key (leaf_value m n) (shortest_head m n) c.args.self.now c.settle.new.self c.leaf.new.self (λ o. leaf-bytes o m n c.requires.kind) (sym c.keeps.ensures ∙ c.if-keeps.true) c.in_ok-leaf.ensures.given
-    c.in_ok-settle.ensures.builder c.in_ok-settle.ensures.inside
+    given-kept c.args.is_key (leaf_value c.args.major c.args.number) _ c.args.self.now c.settle.new.self c.leaf.new.self (λ o. leaf-bytes o c.args.major c.args.number c.requires.kind) (sym c.keeps.ensures ∙ c.if-keeps.true)
+    c.in_ok-leaf.ensures.given c.in_ok-settle.ensures.builder c.in_ok-settle.ensures.inside
 
 pub returns-else-keeps : goal.returns-else-keeps
-returns-else-keeps c =
-    let m = c.args.major in
-    let n = c.args.number in
-    given-left c.args.is_key (leaf_value m n) (shortest_head m n) c.args.self.now (λ o. leaf-bytes o m n c.requires.kind) (sym c.keeps.ensures ∙ c.if-keeps.false)
+returns-else-keeps c = given-left c.args.is_key _ _ c.args.self.now (λ o. leaf-bytes o c.args.major c.args.number c.requires.kind) (sym c.keeps.ensures ∙ c.if-keeps.false)
