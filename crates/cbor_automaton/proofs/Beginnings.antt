@@ -1,15 +1,12 @@
 -- The machine reaches a state by exactly the beginnings.
 use Rattle.std.proofs.Common.{◌≡◌, ℕ, zero, suc, max, ◌+◌, ◌<◌, ◌≤◌, Bool, true, false, List, [], ◌∷◌, ◌++◌, length, replicate, flat_map, refl, sym, ap, ◌∙◌, subst, arith, append_assoc, append-nil}
-use Rattle.std.specs.List.{AllByRecursion}
-use Rattle.std.proofs.lemmas.List.{length-replicate}
+use Rattle.std.{specs.List.AllByRecursion, proofs.lemmas.List.length-replicate}
 use Rattle.cbor_head.specs.Prelude.{IsBeginning, AreBytes, Chunk, IsChunk, Spelling, Spellings, unsigned, bytes, text, simple, no_spellings, a_spelling, spellings_count, spell, spell_all, chunk_bytes, IsSpelled, AreSpelled, depth, depth_all, IsItem}
-use Rattle.cbor_automaton.specs.Trace.{Mark, trace}
-use Rattle.cbor_automaton.specs.Automaton.{start, Frame, counted, indefinite_array, indefinite_map, State, at_item, in_head, in_simple, in_payload, in_chunks, done, Next, refuses, goes, tells, close, close_string, expect, payload, after, take_byte, Outcome, refused, reached, telling, and_then, run}
-use Rattle.cbor_head.specs.declared.major.Major.{Major}
 use Rattle.cbor_head.specs.declared.major.Major.TheVariants.{Bytes, Text, Array, Map, Tag}
-use Rattle.cbor_head.specs.declared.width.Width.TheVariants.{Direct}
-use Rattle.cbor_automaton.proofs.Forward.{forward, telling_all}
+use Rattle.cbor_head.specs.declared.{major.Major.Major, width.Width.TheVariants.Direct}
+use Rattle.cbor_automaton.specs.Automaton.{start, Frame, counted, indefinite_array, indefinite_map, State, at_item, in_head, in_simple, in_payload, in_chunks, done, Next, refuses, goes, tells, close, close_string, expect, payload, after, take_byte, Outcome, refused, reached, telling, and_then, run}
 use Rattle.cbor_automaton.proofs.Stands.{Rest, closing, Opened, IsString, Chunked, Before, Stands, room-of, head-done}
+use Rattle.cbor_automaton.{specs.Trace.Mark, specs.Trace.trace, proofs.Forward.forward, proofs.Forward.telling_all}
 use Rattle.cbor_automaton.proofs.Kept.{StandsOutcome, run-kept}
 
 pub shorter : (d : ℕ) (xs ys : List ℕ) → IsBeginning d (xs ++ ys) → IsBeginning d xs

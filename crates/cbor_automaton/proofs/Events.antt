@@ -1,15 +1,11 @@
 -- The marks so far are those of the trace that end within the bytes so far.
 use Rattle.std.proofs.Common.{◌≡◌, ℕ, zero, suc, ◌+◌, ◌-◌, ◌/◌, ◌%◌, ◌<◌, ◌≤◌, Bool, true, false, nat_lt, cond, List, [], ◌∷◌, ◌++◌, length, refl, sym, ap, ◌∙◌, subst, arith}
 use Rattle.std.proofs.lemmas.Bool.{le-leb, lt-leb}
-use Rattle.cbor_head.specs.Prelude.{Spelling, IsItem}
+use Rattle.cbor_head.specs.{Prelude.Spelling, Prelude.IsItem, declared.major.Major.Major, declared.major.Major.TheVariants.Bytes, declared.width.Width.Width}
+use Rattle.cbor_head.specs.declared.reason.Reason.{Reason}
 use Rattle.cbor_automaton.specs.Trace.{Mark, size, more_bytes, trace, within}
 use Rattle.cbor_automaton.specs.Automaton.{start, major_at, Frame, indefinite_array, indefinite_map, State, at_item, in_head, in_simple, in_payload, in_chunks, done, Opening, direct, long, indefinite_string, indefinite_container, long_simple, breaks, bad, Next, refuses, goes, tells, opening, opening_of, indefinite_length, has_room, mark, break_at, begin, is_major, in_string, take_byte, Outcome, refused, reached, telling, and_then, run}
-use Rattle.cbor_head.specs.declared.major.Major.{Major}
-use Rattle.cbor_head.specs.declared.major.Major.TheVariants.{Bytes}
-use Rattle.cbor_head.specs.declared.width.Width.{Width}
-use Rattle.cbor_head.specs.declared.reason.Reason.{Reason}
-use Rattle.cbor_automaton.proofs.Openings.{by-low}
-use Rattle.cbor_automaton.proofs.Beginnings.{item-done}
+use Rattle.cbor_automaton.proofs.{Openings.by-low, Beginnings.item-done}
 pub use Rattle.cbor_automaton.proofs.Beginnings.{IsClear, close-clear, close_string-clear, payload-clear, after-clear}
 
 -- the bytes of a head that is not complete

@@ -1,9 +1,7 @@
 -- The first byte of a head, by its high three and low five bits.
 use Rattle.std.proofs.Common.{◌≡◌, ℕ, suc, ◌+◌, ◌-◌, ◌*◌, ◌/◌, ◌%◌, ◌<◌, cond, refl, ap, ap₂, ◌∙◌, arith, mod-lt, lt-ltb}
-use Rattle.cbor_head.specs.Prelude.{major_number}
+use Rattle.cbor_head.specs.{Prelude.major_number, declared.major.Major.Major, declared.major.Major.TheVariants.Unsigned}
 use Rattle.cbor_automaton.specs.Automaton.{direct, major_at, opening, opening_of, tail}
-use Rattle.cbor_head.specs.declared.major.Major.{Major}
-use Rattle.cbor_head.specs.declared.major.Major.TheVariants.{Unsigned}
 
 pub major_at-number : (m : Major) → major_at (major_number m) ≡ m
 major_at-number Unsigned = refl

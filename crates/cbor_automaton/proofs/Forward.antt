@@ -1,20 +1,15 @@
 -- The machine takes the bytes of an item, and tells its trace.
 use Rattle.std.proofs.Common.{◌≡◌, ℕ, zero, suc, ◌+◌, ◌-◌, ◌*◌, ◌%◌, ◌^◌, ◌<◌, ◌≤◌, Bool, true, false, not, nat_lt, cond, List, [], ◌∷◌, ◌++◌, length, flat_map, refl, sym, ap, ◌∙◌, inl, inr, arith, mod-eq_of_lt, append_assoc, append-nil, lt-ltb, le-ltb}
-use Rattle.std.proofs.lemmas.Bool.{cases_lt}
-use Rattle.std.specs.List.{AllByRecursion}
-use Rattle.std.specs.Int.{byte_at, bytes_high_first}
+use Rattle.std.{proofs.lemmas.Bool.cases_lt, specs.List.AllByRecursion, specs.Int.byte_at, specs.Int.bytes_high_first}
 use Rattle.cbor_head.specs.Prelude.{Holds, IsSimple, head, major_number, shortest, Chunk, IsChunk, Spelling, Spellings, SpelledEntries, unsigned, negative, bytes, text, byte_chunks, text_chunks, array, a_map, tag, simple, no_spellings, a_spelling, no_entries, entry, spellings_count, entries_count, spell, spell_all, spell_entries, chunk_bytes, string_bytes_of, IsSpelled, AreSpelled, AreEntriesSpelled, depth, depth_all, depth_entries, initial_reason}
+use Rattle.cbor_head.specs.declared.major.Major.TheVariants.{Unsigned, Negative, Bytes, Text, Array, Map, Tag, Simple}
+use Rattle.cbor_head.specs.declared.width.Width.TheVariants.{Direct, One, Two, Four, Eight, Indefinite}
+use Rattle.cbor_head.specs.declared.{major.Major.Major, width.Width.Width, reason.Reason.TheVariants.BadSimple}
 use Rattle.cbor_automaton.specs.Trace.{Mark, a_head, a_byte, a_break, more_bytes, payload_marks, chunk_marks, trace, trace_all, trace_entries}
 use Rattle.cbor_automaton.specs.Automaton.{Frame, counted, indefinite_array, indefinite_map, State, at_item, in_head, in_simple, in_payload, in_chunks, direct, long, Next, refuses, goes, tells, numbered_tail, tail, opening, close, expect, close_string, payload, after, mark, has_room, begin, is_major, take_byte, Outcome, telling, and_then, run}
-use Rattle.cbor_head.specs.declared.major.Major.{Major}
-use Rattle.cbor_head.specs.declared.major.Major.TheVariants.{Unsigned, Negative, Bytes, Text, Array, Map, Tag, Simple}
-use Rattle.cbor_head.specs.declared.width.Width.{Width}
-use Rattle.cbor_head.specs.declared.width.Width.TheVariants.{Direct, One, Two, Four, Eight, Indefinite}
-use Rattle.cbor_head.specs.declared.reason.Reason.TheVariants.{BadSimple}
-use Rattle.cbor_automaton.proofs.FirstByte.{opening-first, opening-direct}
-use Rattle.cbor_automaton.proofs.Arguments.{byte_on}
 use Rattle.cbor_automaton.proofs.Members.{members, members-count, members-bytes, members-marks, members-spelled, members-depth}
 use Rattle.cbor_automaton.proofs.Stands.{is_odd, not-not, double-even}
+use Rattle.cbor_automaton.proofs.{FirstByte.opening-first, FirstByte.opening-direct, Arguments.byte_on}
 
 abbrev pub telling_all : List Mark → Outcome → Outcome
 telling_all [] o = o

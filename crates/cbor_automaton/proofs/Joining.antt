@@ -1,17 +1,13 @@
 -- Events, neighbouring pieces joined, are told by their marks.
 use Rattle.std.proofs.Common.{◌≡◌, ℕ, zero, suc, ◌+◌, ◌-◌, ◌<◌, ◌≤◌, ◌⊎◌, Bool, true, false, nat_lt, nat_le, cond, List, [], ◌∷◌, ◌++◌, replicate, Option, Some, None, refl, sym, ap, ap₂, ◌∙◌, subst, inl, inr, arith, append-nil, lt-ltb, le-ltb}
 use Rattle.std.proofs.lemmas.Bool.{cases_lt, le-leb, lt-leb}
-use Rattle.cbor_head.specs.declared.major.Major.{Major}
 use Rattle.cbor_head.specs.declared.major.Major.TheVariants as majors
-use Rattle.cbor_head.specs.declared.width.Width.{Width}
-use Rattle.cbor_head.specs.declared.width.Width.TheVariants.{Direct, Indefinite}
+use Rattle.cbor_head.specs.declared.{major.Major.Major, width.Width.Width, width.Width.TheVariants.Direct, width.Width.TheVariants.Indefinite}
 use Rattle.cbor_automaton.specs.Trace.{Mark, a_head, a_chunk, a_byte, a_break, size, total, within}
 use Rattle.cbor_automaton.specs.Marks.{count_of, mark_of, marks_of, IsProper}
 use Rattle.cbor_automaton.specs.Event.{event, count_at, marks_in, event_size, joined_with, onto, joined, front_of, cut, IsRow}
-use Rattle.cbor_automaton.specs.declared.event.Event.{Event}
-use Rattle.cbor_automaton.specs.declared.event.EventKind.{EventKind}
 use Rattle.cbor_automaton.specs.declared.event.EventKind.TheVariants.{Unsigned, Negative, Simple, Bytes, Text, Chunk, Piece, Array, Map, Tag, End}
-use Rattle.cbor_automaton.proofs.Events.{within-none, within-some}
+use Rattle.cbor_automaton.{specs.declared.event.Event.Event, specs.declared.event.EventKind.EventKind, proofs.Events.within-none, proofs.Events.within-some}
 
 -- ---- the event of a mark
 

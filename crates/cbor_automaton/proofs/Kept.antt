@@ -1,19 +1,14 @@
 -- Each byte that the machine takes leads to a state that stands for the bytes so far.
 use Rattle.std.proofs.Common.{◌≡◌, ℕ, zero, suc, ◌+◌, ◌-◌, ◌*◌, ◌^◌, ◌<◌, Bool, true, false, nat_lt, cond, List, [], ◌∷◌, ◌++◌, length, flat_map, refl, sym, ap, ◌∙◌, subst, inl, inr, arith, append_assoc, append-nil, true≢false, mod-eq_of_lt, lt-ltb, le-ltb, ltb-true}
-use Rattle.std.proofs.lemmas.Bool.{cases_lt}
-use Rattle.std.specs.List.{AllByRecursion}
-use Rattle.std.specs.Int.{bytes_high_first}
+use Rattle.std.{proofs.lemmas.Bool.cases_lt, specs.List.AllByRecursion, specs.Int.bytes_high_first}
 use Rattle.cbor_head.specs.Prelude.{AreBytes, Holds, head, major_number, shortest, Chunk, IsChunk, Spelling, byte_chunks, text_chunks, array, a_map, simple, no_spellings, spell, spell_all, chunk_bytes, IsSpelled, depth}
-use Rattle.cbor_automaton.specs.Trace.{Mark, more_bytes}
-use Rattle.cbor_automaton.specs.Automaton.{Frame, indefinite_array, indefinite_map, State, at_item, in_head, in_simple, in_payload, in_chunks, done, Opening, direct, long, breaks, Next, refuses, goes, tells, indefinite_length, opening, close, close_string, payload, after, has_room, break_at, begin, is_major, in_string, take_byte, Outcome, refused, reached, telling, and_then, run}
-use Rattle.cbor_head.specs.declared.major.Major.{Major}
 use Rattle.cbor_head.specs.declared.major.Major.TheVariants.{Bytes, Text, Array, Map, Simple}
-use Rattle.cbor_head.specs.declared.width.Width.{Width}
 use Rattle.cbor_head.specs.declared.width.Width.TheVariants.{Direct, One, Indefinite}
-use Rattle.cbor_head.specs.declared.reason.Reason.{Reason}
-use Rattle.cbor_automaton.proofs.Openings.{IsLong, by-byte}
+use Rattle.cbor_head.specs.declared.{major.Major.Major, width.Width.Width, reason.Reason.Reason}
+use Rattle.cbor_automaton.specs.Automaton.{Frame, indefinite_array, indefinite_map, State, at_item, in_head, in_simple, in_payload, in_chunks, done, Opening, direct, long, breaks, Next, refuses, goes, tells, indefinite_length, opening, close, close_string, payload, after, has_room, break_at, begin, is_major, in_string, take_byte, Outcome, refused, reached, telling, and_then, run}
 use Rattle.cbor_automaton.proofs.Arguments.{number, number-between, bytes-number}
 use Rattle.cbor_automaton.proofs.Stands.{Opened, IsString, IsNumbered, Chunked, Before, Stands, along, item-closes, paired, room-of, chunk-closes, head-done}
+use Rattle.cbor_automaton.{specs.Trace.Mark, specs.Trace.more_bytes, proofs.Openings.IsLong, proofs.Openings.by-byte}
 
 abbrev pub StandsNext : ℕ → Next → List ℕ → Type 0
 StandsNext d (refuses r) p = Unit {0}

@@ -1,15 +1,11 @@
 -- The longest beginning of an input, which each input has.
 use Rattle.std.proofs.Common.{◌≡◌, ℕ, suc, ◌≤◌, ◌<◌, List, [], ◌∷◌, ◌++◌, length, take, drop, refl, sym, ap, ◌∙◌, subst, inl, inr, arith, append_assoc, take-append-drop, length-append}
-use Rattle.std.proofs.lemmas.Bool.{cases_lt}
-use Rattle.std.proofs.lemmas.List.{take-append-le}
-use Rattle.std.proofs.Math.Seq.{take-append_seam}
+use Rattle.std.proofs.{lemmas.Bool.cases_lt, lemmas.List.take-append-le, Math.Seq.take-append_seam}
 use Rattle.cbor_head.specs.Prelude.{AreBytes, IsBeginning, MayFollow, IsLongestBeginning}
 use Rattle.cbor_head.specs.declared.reason.Reason.{Reason}
-use Rattle.cbor_automaton.specs.Trace.{Mark}
 use Rattle.cbor_automaton.specs.Automaton.{start, State, Next, refuses, goes, tells, take_byte, run, reached, and_then}
-use Rattle.cbor_automaton.proofs.Forward.{telling_all}
 use Rattle.cbor_automaton.proofs.Beginnings.{onwards, run-append, reached-begins, shorter, telling_all-reached}
-use Rattle.cbor_automaton.proofs.Refusals.{taken-follows, IsTaken}
+use Rattle.cbor_automaton.{specs.Trace.Mark, proofs.Forward.telling_all, proofs.Refusals.taken-follows, proofs.Refusals.IsTaken}
 
 -- a beginning that a byte may not follow
 pub stands_longest : (d : ℕ) (p : List ℕ) (c : ℕ) (rest : List ℕ) → IsBeginning d p → (MayFollow d p c → ⊥) → IsLongestBeginning d (p ++ c ∷ rest) p

@@ -1,16 +1,11 @@
 -- What holds of whatever a first byte can open.
 use Rattle.std.proofs.Common.{◌≡◌, ℕ, zero, suc, ◌+◌, ◌-◌, ◌*◌, ◌^◌, ◌<◌, ◌∷◌, refl, sym, subst, inl, inr, arith, lt-ltb, le-ltb}
-use Rattle.std.proofs.lemmas.Bool.{cases_lt}
-use Rattle.std.specs.Int.{bytes_high_first}
+use Rattle.std.{proofs.lemmas.Bool.cases_lt, specs.Int.bytes_high_first}
 use Rattle.cbor_head.specs.Prelude.{Holds, head, major_number}
-use Rattle.cbor_head.specs.declared.major.Major.{Major}
-use Rattle.cbor_head.specs.declared.major.Major.TheVariants.{Simple}
-use Rattle.cbor_head.specs.declared.width.Width.{Width}
 use Rattle.cbor_head.specs.declared.width.Width.TheVariants.{One, Two, Four, Eight}
-use Rattle.cbor_automaton.specs.Trace.{more_bytes}
+use Rattle.cbor_head.specs.declared.{major.Major.Major, major.Major.TheVariants.Simple, width.Width.Width}
 use Rattle.cbor_automaton.specs.Automaton.{Opening, direct, long, long_simple, breaks, bad, numbered_tail, simple_tail, tail, indefinite_length, opening_of, opening}
-use Rattle.cbor_automaton.proofs.FirstByte.{split}
-use Rattle.cbor_automaton.proofs.Stands.{IsNumbered}
+use Rattle.cbor_automaton.{specs.Trace.more_bytes, proofs.FirstByte.split, proofs.Stands.IsNumbered}
 
 -- behind the first byte of so many more stands the argument
 pub record IsLong (m : Major) (w : Width) (k low : ℕ) : Type 0 where

@@ -1,23 +1,17 @@
 -- The containers that are open after some bytes of an item are those on the stack.
 use Rattle.std.proofs.Common.{◌≡◌, ℕ, zero, suc, ◌+◌, ◌-◌, ◌*◌, ◌^◌, ◌&&◌, ◌<◌, ◌≤◌, Bool, true, false, nat_le, cond, List, [], ◌∷◌, ◌++◌, length, take, flat_map, refl, sym, ap, ◌∙◌, subst, inl, inr, arith, append_assoc, append-nil, lt-ltb, le-ltb, length-append, length-take-le}
 use Rattle.std.proofs.lemmas.Bool.{cases_lt, le-leb, lt-leb}
-use Rattle.std.proofs.lemmas.List.{take-append-le}
-use Rattle.std.proofs.Math.Seq.{take-append_seam}
-use Rattle.std.specs.List.{AllByRecursion}
-use Rattle.std.specs.Int.{bytes_high_first}
+use Rattle.std.{proofs.lemmas.List.take-append-le, proofs.Math.Seq.take-append_seam, specs.List.AllByRecursion, specs.Int.bytes_high_first}
 use Rattle.cbor_head.specs.Prelude.{Holds, IsSimple, head, shortest, Chunk, IsChunk, Spelling, Spellings, SpelledEntries, unsigned, negative, bytes, text, byte_chunks, text_chunks, array, a_map, tag, simple, no_spellings, a_spelling, no_entries, entry, spellings_count, entries_count, spell, spell_all, spell_entries, chunk_bytes, string_bytes_of, IsSpelled, AreSpelled, depth, depth_all, depth_entries, IsItem, initial_reason}
-use Rattle.cbor_head.specs.declared.major.Major.{Major}
 use Rattle.cbor_head.specs.declared.major.Major.TheVariants.{Unsigned, Negative, Bytes, Text, Array, Map, Tag, Simple}
-use Rattle.cbor_head.specs.declared.width.Width.{Width}
 use Rattle.cbor_head.specs.declared.width.Width.TheVariants.{Direct, One, Two, Four, Eight, Indefinite}
+use Rattle.cbor_head.specs.declared.{major.Major.Major, width.Width.Width}
 use Rattle.cbor_automaton.specs.Trace.{Mark, a_head, chunk_marks, trace}
 use Rattle.cbor_automaton.specs.Automaton.{Frame, counted, indefinite_array, indefinite_map, State, start, at_item, in_head, in_simple, in_payload, in_chunks, done, expect, payload, after, has_room, mark, refuses, tail, numbered_tail, take_byte, goes, tells, Outcome, refused, reached, telling, run}
 use Rattle.cbor_automaton.specs.Open.{if_open, open_after, open_in}
 use Rattle.cbor_automaton.proofs.Forward.{Starts, item_starts, chunk_starts, step, head-taken, string-taken, telling_all, Leads, counted-leads, array-leads, map-leads, map-even, forward, one-down, room-above}
-use Rattle.cbor_automaton.proofs.Stands.{is_odd}
-use Rattle.cbor_automaton.proofs.Beginnings.{item-done}
-use Rattle.cbor_automaton.proofs.Runs.{take-behind}
 use Rattle.cbor_automaton.proofs.Members.{members, members-count, members-bytes, members-spelled, members-depth, members-open}
+use Rattle.cbor_automaton.proofs.{Stands.is_odd, Beginnings.item-done, Runs.take-behind}
 
 abbrev pub stack : State → List Frame
 stack (at_item fs) = fs

@@ -1,15 +1,11 @@
 -- A byte is refused exactly where it may not follow, and for which reason.
 use Rattle.std.proofs.Common.{◌≡◌, ◌↔◌, ℕ, zero, ◌<◌, Bool, true, false, nat_lt, cond, List, [], ◌∷◌, ◌++◌, refl, ap, ◌∙◌, subst, arith, true≢false, ◌⊎◌, inl, inr}
 use Rattle.cbor_head.specs.Prelude.{IsBeginning, MayFollow, AreBytes, IsReasonAt, initial_reason}
-use Rattle.cbor_automaton.specs.Trace.{Mark}
-use Rattle.cbor_automaton.specs.Automaton.{start, Frame, indefinite_array, indefinite_map, State, at_item, in_head, in_simple, in_payload, in_chunks, done, Opening, direct, long, indefinite_string, indefinite_container, long_simple, breaks, bad, Next, refuses, goes, tells, opening, has_room, break_at, begin, is_major, in_string, take_byte, Outcome, refused, reached, telling, and_then, run}
-use Rattle.cbor_head.specs.declared.major.Major.{Major}
 use Rattle.cbor_head.specs.declared.major.Major.TheVariants.{Unsigned, Negative, Bytes}
-use Rattle.cbor_head.specs.declared.reason.Reason.{Reason}
-use Rattle.cbor_head.specs.declared.reason.Reason.TheVariants.{BadSimple, BadChunk}
-use Rattle.cbor_automaton.proofs.Forward.{telling_all}
-use Rattle.cbor_automaton.proofs.Kept.{StandsNext, byte-kept}
+use Rattle.cbor_head.specs.declared.{major.Major.Major, reason.Reason.Reason, reason.Reason.TheVariants.BadSimple, reason.Reason.TheVariants.BadChunk}
+use Rattle.cbor_automaton.specs.Automaton.{start, Frame, indefinite_array, indefinite_map, State, at_item, in_head, in_simple, in_payload, in_chunks, done, Opening, direct, long, indefinite_string, indefinite_container, long_simple, breaks, bad, Next, refuses, goes, tells, opening, has_room, break_at, begin, is_major, in_string, take_byte, Outcome, refused, reached, telling, and_then, run}
 use Rattle.cbor_automaton.proofs.Beginnings.{Reaches, onwards, run-append, beginning-reaches, reached-stands, stands-begins}
+use Rattle.cbor_automaton.{specs.Trace.Mark, proofs.Forward.telling_all, proofs.Kept.StandsNext, proofs.Kept.byte-kept}
 
 abbrev pub IsTaken : Next → Type 0
 IsTaken (refuses r) = ⊥

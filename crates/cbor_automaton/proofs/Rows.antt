@@ -1,21 +1,15 @@
 -- The events of an item follow one another, tell its trace, and have no two pieces side by side.
 use Rattle.std.proofs.Common.{◌≡◌, ℕ, suc, ◌+◌, ◌<◌, ◌^◌, Bool, true, false, cond, nat_lt, List, [], ◌∷◌, ◌++◌, length, replicate, flat_map, Some, None, refl, sym, ap, ap₂, ◌∙◌, subst, inl, inr, arith, append_assoc, append-nil, length-append}
-use Rattle.std.proofs.lemmas.Bool.{cond_both}
-use Rattle.std.proofs.lemmas.Grind.{flat_map-append}
-use Rattle.std.specs.List.{AllByRecursion}
+use Rattle.std.{proofs.lemmas.Bool.cond_both, proofs.lemmas.Grind.flat_map-append, specs.List.AllByRecursion}
 use Rattle.cbor_head.specs.Prelude.{Holds, head, shortest, Chunk, IsChunk, Spelling, Spellings, SpelledEntries, unsigned, negative, bytes, text, byte_chunks, text_chunks, array, a_map, tag, simple, no_spellings, a_spelling, no_entries, entry, spellings_count, entries_count, chunk_bytes, spell, spell_all, spell_entries, break_of, IsSpelled, AreSpelled, AreEntriesSpelled}
-use Rattle.cbor_head.specs.declared.major.Major.{Major}
 use Rattle.cbor_head.specs.declared.major.Major.TheVariants as majors
-use Rattle.cbor_head.specs.declared.width.Width.{Width}
-use Rattle.cbor_head.specs.declared.width.Width.TheVariants.{Indefinite}
+use Rattle.cbor_head.specs.declared.{major.Major.Major, width.Width.Width, width.Width.TheVariants.Indefinite}
 use Rattle.cbor_automaton.specs.Trace.{Mark, a_head, a_chunk, a_byte, a_break, size, total, payload_marks, chunk_marks, opener, break_marks, trace, trace_all, trace_entries}
 use Rattle.cbor_automaton.specs.Marks.{marks_of, IsProper, IsDefinite}
 use Rattle.cbor_automaton.specs.Event.{event, count_at, payload_events, chunks_events, break_events, events, events_in, events_in_entries, marks_in, event_size, IsRow}
-use Rattle.cbor_automaton.specs.declared.event.Event.{Event}
-use Rattle.cbor_automaton.specs.declared.event.EventKind.{EventKind}
 use Rattle.cbor_automaton.specs.declared.event.EventKind.TheVariants.{Unsigned, Negative, Simple, Bytes, Text, Chunk as ChunkHead, Array, Map, Tag, End}
-use Rattle.cbor_automaton.proofs.Tiling.{head-size}
 use Rattle.cbor_automaton.proofs.Joining.{IsSingle, IsFresh, AreApart}
+use Rattle.cbor_automaton.{specs.declared.event.Event.Event, specs.declared.event.EventKind.EventKind, proofs.Tiling.head-size}
 
 pub total-append : (ms ns : List Mark) → total (ms ++ ns) ≡ total ms + total ns
 total-append [] ns = omega arith

@@ -1,17 +1,14 @@
 -- Runs of the automaton, one after another.
 use Rattle.std.proofs.Common.{◌≡◌, ℕ, zero, suc, ◌+◌, ◌-◌, ◌≤◌, ◌<◌, List, [], ◌∷◌, ◌++◌, length, take, get_or, replicate, Bool, refl, ap, ◌∙◌, arith, add-one, subst}
 use Rattle.std.proofs.Math.Seq.{take-suc, take-append-add}
-use Rattle.cbor_head.specs.declared.major.Major.{Major}
+use Rattle.cbor_head.specs.declared.{major.Major.Major, width.Width.Width}
 use Rattle.cbor_automaton.specs.Trace.{Mark, a_byte, total}
 use Rattle.cbor_automaton.specs.Automaton as automaton
-use Rattle.cbor_automaton.specs.Automaton.{payload, close_string, State, start, at_item, in_head, in_simple, in_payload, in_chunks, done, Next, refuses, goes, tells, take_byte, and_then, telling, run, reached}
+use Rattle.cbor_automaton.specs.Automaton.{payload, close_string, State, start, in_payload, done, Next, goes, take_byte, and_then, telling, run, reached}
 use Rattle.cbor_automaton.specs.Marks.{mark_of, marks_of, times}
-use Rattle.cbor_automaton.specs.declared.event.EventKind.{EventKind}
-use Rattle.cbor_head.specs.declared.width.Width.{Width}
-use Rattle.cbor_automaton.proofs.Forward.{telling_all}
 use Rattle.cbor_automaton.proofs.Beginnings.{onwards, run-append, telling_all-reached}
-use Rattle.cbor_automaton.proofs.Refusals.{IsUnfinished}
 use Rattle.cbor_automaton.proofs.Events.{IsSane, pending, clear-pending, by-run}
+use Rattle.cbor_automaton.{specs.declared.event.EventKind.EventKind, proofs.Forward.telling_all, proofs.Refusals.IsUnfinished}
 
 -- a front of xs and ys that ends within ys
 pub take-behind : (t : ℕ) (xs ys : List ℕ) → length xs ≤ t → take t (xs ++ ys) ≡ xs ++ take (t - length xs) ys

@@ -1,18 +1,13 @@
 -- One mark from where the machine stands: which it can be, its bytes, and where it leaves the machine.
 use Rattle.std.proofs.Common.{◌≡◌, ℕ, zero, suc, ◌+◌, ◌-◌, ◌*◌, ◌^◌, ◌<◌, ◌≤◌, Bool, true, false, nat_lt, cond, List, [], ◌∷◌, ◌++◌, length, refl, sym, ap, ◌∙◌, subst, inl, inr, arith, append_assoc, append-nil, mod-eq_of_lt, lt-ltb, le-ltb, ltb-true}
-use Rattle.std.proofs.lemmas.Bool.{cases_lt}
-use Rattle.std.specs.Int.{bytes_high_first}
+use Rattle.std.{proofs.lemmas.Bool.cases_lt, specs.Int.bytes_high_first}
 use Rattle.cbor_head.specs.Prelude.{Holds, IsSimple, head, major_number, shortest, AreBytes}
+use Rattle.cbor_head.specs.declared.major.Major.TheVariants.{Bytes, Text, Array, Map, Tag, Simple}
+use Rattle.cbor_head.specs.declared.width.Width.TheVariants.{Direct, One, Indefinite}
+use Rattle.cbor_head.specs.declared.{major.Major.Major, width.Width.Width, reason.Reason.Reason}
 use Rattle.cbor_automaton.specs.Trace.{Mark, a_head, more_bytes}
 use Rattle.cbor_automaton.specs.Automaton.{Frame, indefinite_array, indefinite_map, State, at_item, in_head, in_simple, in_payload, in_chunks, done, Opening, Next, refuses, goes, tells, indefinite_length, opening, after, has_room, break_at, begin, is_major, in_string, take_byte, Outcome, refused, reached, telling, and_then, run}
-use Rattle.cbor_automaton.specs.Taking.{Follows, IsTaking}
-use Rattle.cbor_head.specs.declared.major.Major.{Major}
-use Rattle.cbor_head.specs.declared.major.Major.TheVariants.{Bytes, Text, Array, Map, Tag, Simple}
-use Rattle.cbor_head.specs.declared.width.Width.{Width}
-use Rattle.cbor_head.specs.declared.width.Width.TheVariants.{Direct, One, Indefinite}
-use Rattle.cbor_head.specs.declared.reason.Reason.{Reason}
-use Rattle.cbor_automaton.proofs.Openings.{by-byte}
-use Rattle.cbor_automaton.proofs.Arguments.{number}
+use Rattle.cbor_automaton.{specs.Taking.Follows, specs.Taking.IsTaking, proofs.Openings.by-byte, proofs.Arguments.number}
 pub use Rattle.cbor_automaton.proofs.Events.{IsClear}
 pub use Rattle.cbor_automaton.proofs.Stands.{IsNumbered}
 use Rattle.cbor_automaton.proofs.Events.{close-clear, close_string-clear, payload-clear, after-clear}

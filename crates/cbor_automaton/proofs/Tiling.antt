@@ -2,19 +2,16 @@
 use Rattle.std.proofs.Common.{◌≡◌, ℕ, zero, suc, ◌+◌, Bool, true, false, Option, Some, None, List, [], ◌∷◌, ◌++◌, length, drop, replicate, refl, sym, ap, ◌∙◌, subst, arith, append_assoc, append-nil, length-append}
 use Rattle.std.proofs.Math.Seq.{drop-append_seam}
 use Rattle.cbor_head.specs.Prelude.{Holds, IsHead, head, AreBytes}
-use Rattle.cbor_head.specs.declared.major.Major.{Major}
 use Rattle.cbor_head.specs.declared.major.Major.TheVariants.{Unsigned, Negative, Bytes, Text, Array, Map, Tag, Simple}
-use Rattle.cbor_head.specs.declared.width.Width.{Width}
-use Rattle.cbor_head.specs.declared.width.Width.TheVariants.{Direct, Indefinite}
+use Rattle.cbor_head.specs.declared.{major.Major.Major, width.Width.Width, width.Width.TheVariants.Direct, width.Width.TheVariants.Indefinite}
 use Rattle.cbor_automaton.specs.Trace.{Mark, a_head, a_chunk, a_byte, a_break, more_bytes, size, total}
 use Rattle.cbor_automaton.specs.Automaton.{Frame, counted, indefinite_array, indefinite_map, close, expect, close_string, payload, State, start, at_item, in_payload, in_chunks, Next, refuses, goes, tells, take_byte, and_then, run, reached}
 use Rattle.cbor_automaton.specs.Taking.{IsTaking, Follows, Opens, Ends}
 use Rattle.cbor_automaton.specs.Marks.{mark_of, marks_of, IsProper}
 use Rattle.cbor_automaton.specs.Bytes.{type_behind, last_type, IsChunkHead, IsMarkBytes, IsBytesOf, IsEventBytes}
-use Rattle.cbor_automaton.specs.declared.event.EventKind.{EventKind}
 use Rattle.cbor_automaton.specs.declared.event.EventKind.TheVariants as kinds
-use Rattle.cbor_automaton.proofs.Events.{telling-reached}
 use Rattle.cbor_automaton.proofs.Taking.{IsClear, IsWithin, IsTakingNext, byte-taken, within-start, clear-nothing}
+use Rattle.cbor_automaton.{specs.declared.event.EventKind.EventKind, proofs.Events.telling-reached}
 
 is-head : (d : ℕ) (fs : List Frame) (m : Major) (w : Width) (n : ℕ) (to : State) → Holds w n → Follows d fs m w n to → IsHead m w n
 is-head d fs Simple w n to h f = (f.0, f.1)

@@ -1,13 +1,10 @@
 -- An automaton that takes an item byte by byte (RFC 8949, section 3 and appendix C).
 use Rattle.std.specs.Prelude.{ℕ, zero, suc, ◌+◌, ◌*◌, ◌-◌, ◌/◌, ◌%◌, Bool, true, false, not, nat_lt, if◌then◌else◌, List, [], ◌∷◌, length}
-use Rattle.cbor_automaton.specs.Trace.{Mark, a_head, a_chunk, a_byte, a_break, more_bytes}
-use Rattle.cbor_head.specs.Prelude.{initial_reason}
-use Rattle.cbor_head.specs.declared.major.Major.{Major}
 use Rattle.cbor_head.specs.declared.major.Major.TheVariants.{Unsigned, Negative, Bytes, Text, Array, Map, Tag, Simple}
-use Rattle.cbor_head.specs.declared.width.Width.{Width}
 use Rattle.cbor_head.specs.declared.width.Width.TheVariants.{Direct, One, Two, Four, Eight, Indefinite}
-use Rattle.cbor_head.specs.declared.reason.Reason.{Reason}
 use Rattle.cbor_head.specs.declared.reason.Reason.TheVariants.{BadSimple, BadChunk, Trailing}
+use Rattle.cbor_head.specs.{Prelude.initial_reason, declared.major.Major.Major, declared.width.Width.Width, declared.reason.Reason.Reason}
+use Rattle.cbor_automaton.specs.Trace.{Mark, a_head, a_chunk, a_byte, a_break, more_bytes}
 
 -- an open container
 pub data Frame : Type 0 where

@@ -1,13 +1,9 @@
 -- The bytes that marks and events stand for (RFC 8949, section 3).
 use Rattle.std.specs.Prelude.{◌≡◌, ℕ, List, [], ◌∷◌, length, Option, Some, None}
 use Rattle.cbor_head.specs.Prelude.{Holds, IsHead, head}
-use Rattle.cbor_head.specs.declared.major.Major.{Major}
-use Rattle.cbor_head.specs.declared.width.Width.{Width}
-use Rattle.cbor_head.specs.declared.width.Width.TheVariants.{Indefinite}
+use Rattle.cbor_head.specs.declared.{major.Major.Major, width.Width.Width, width.Width.TheVariants.Indefinite}
 use Rattle.cbor_automaton.specs.Trace.{Mark, a_head, a_chunk, a_byte, a_break}
-use Rattle.cbor_automaton.specs.Marks.{mark_of, IsProper}
-use Rattle.cbor_automaton.specs.declared.event.EventKind.{EventKind}
-use Rattle.cbor_automaton.specs.declared.event.EventKind.TheVariants.{Piece}
+use Rattle.cbor_automaton.specs.{Marks.mark_of, Marks.IsProper, declared.event.EventKind.EventKind, declared.event.EventKind.TheVariants.Piece}
 
 -- a head, whose width holds its argument; of what has no length the opener, and the number is 0
 abbrev pub IsHeadBytes : Major → Width → ℕ → List ℕ → Type 0

@@ -1,15 +1,10 @@
 -- The events of an item (RFC 8949, section 3), each at its place: one for each head and each break, and one piece for each payload that is not empty.
 use Rattle.std.specs.Prelude.{◌≡◌, ℕ, suc, ◌+◌, ◌-◌, ◌++◌, nat_le, nat_lt, if◌then◌else◌, List, [], ◌∷◌, length, flat_map, Option, Some, None}
 use Rattle.cbor_head.specs.Prelude.{head, shortest, Chunk, Spelling, Spellings, SpelledEntries, unsigned, negative, bytes, text, byte_chunks, text_chunks, array, a_map, tag, simple, no_spellings, a_spelling, no_entries, entry, spellings_count, entries_count, chunk_bytes, spell, spell_all, spell_entries}
-use Rattle.cbor_head.specs.declared.major.Major.{Major}
 use Rattle.cbor_head.specs.declared.major.Major.TheVariants as majors
-use Rattle.cbor_head.specs.declared.width.Width.{Width}
-use Rattle.cbor_head.specs.declared.width.Width.TheVariants.{Direct, Indefinite}
-use Rattle.cbor_automaton.specs.Trace.{Mark, total}
-use Rattle.cbor_automaton.specs.Marks.{marks_of, IsProper}
-use Rattle.cbor_automaton.specs.declared.event.Event.{Event}
-use Rattle.cbor_automaton.specs.declared.event.EventKind.{EventKind}
+use Rattle.cbor_head.specs.declared.{major.Major.Major, width.Width.Width, width.Width.TheVariants.Direct, width.Width.TheVariants.Indefinite}
 use Rattle.cbor_automaton.specs.declared.event.EventKind.TheVariants.{Unsigned, Negative, Simple, Bytes, Text, Chunk as ChunkHead, Piece, Array, Map, Tag, End}
+use Rattle.cbor_automaton.specs.{Trace.Mark, Trace.total, Marks.marks_of, Marks.IsProper, declared.event.Event.Event, declared.event.EventKind.EventKind}
 
 -- an event at a place
 abbrev pub event : ℕ → Width → EventKind → Event

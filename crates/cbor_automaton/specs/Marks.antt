@@ -1,11 +1,10 @@
 -- The marks of an event, and which width it has (RFC 8949, section 3).
 use Rattle.std.specs.Prelude.{◌≡◌, ℕ, ◌<◌, List, replicate, Option, Some, None}
 use Rattle.cbor_head.specs.declared.major.Major.TheVariants as majors
-use Rattle.cbor_head.specs.declared.width.Width.{Width}
-use Rattle.cbor_head.specs.declared.width.Width.TheVariants.{Direct, Indefinite}
+use Rattle.cbor_head.specs.declared.width.Width.{Width, TheVariants.Direct, TheVariants.Indefinite}
 use Rattle.cbor_automaton.specs.Trace.{Mark, a_head, a_chunk, a_byte, a_break}
-use Rattle.cbor_automaton.specs.declared.event.EventKind.{EventKind}
 use Rattle.cbor_automaton.specs.declared.event.EventKind.TheVariants as kinds
+use Rattle.cbor_automaton.specs.declared.event.EventKind.{EventKind}
 
 -- a count, or 0 where there is none
 abbrev pub count_of : Option ℕ → ℕ

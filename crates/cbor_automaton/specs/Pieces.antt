@@ -1,7 +1,6 @@
 -- The bytes of a piece.
 use Rattle.std.specs.Prelude.{ℕ, List, take}
-use Rattle.cbor_automaton.specs.declared.event.EventKind.{EventKind}
-use Rattle.cbor_automaton.specs.declared.event.EventKind.TheVariants.{Piece}
+use Rattle.cbor_automaton.specs.declared.event.EventKind.{EventKind, TheVariants.Piece}
 
 -- the length of a piece
 abbrev pub kind_size : EventKind → ℕ

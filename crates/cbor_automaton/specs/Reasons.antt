@@ -1,6 +1,6 @@
 -- Which reasons a machine and a reader of events refuse for (RFC 8949, section 3 and appendix F).
-use Rattle.cbor_head.specs.declared.reason.Reason.{Reason}
 use Rattle.cbor_head.specs.declared.reason.Reason.TheVariants.{Truncated, TooLong, Reserved, NoIndefinite, Float, BadSimple, StrayBreak, BadChunk, TooDeep, Read}
+use Rattle.cbor_head.specs.declared.reason.Reason.{Reason}
 
 -- a byte may not stand where it does
 abbrev pub IsFormReason : Reason → Type 0

@@ -1,12 +1,10 @@
 -- What one mark can be where the machine stands, and where it leaves it.
 use Rattle.std.specs.Prelude.{◌≡◌, ℕ, zero, suc, ◌+◌, ◌<◌, true, false, List, [], ◌∷◌, length}
 use Rattle.cbor_head.specs.Prelude.{Holds, IsSimple, head, shortest}
+use Rattle.cbor_head.specs.declared.major.Major.TheVariants.{Unsigned, Negative, Bytes, Text, Array, Map, Tag, Simple}
+use Rattle.cbor_head.specs.declared.{major.Major.Major, width.Width.Width, width.Width.TheVariants.Indefinite}
 use Rattle.cbor_automaton.specs.Trace.{Mark, a_head, a_chunk, a_byte, a_break}
 use Rattle.cbor_automaton.specs.Automaton.{Frame, indefinite_array, indefinite_map, State, at_item, in_payload, in_chunks, close, expect, close_string, payload}
-use Rattle.cbor_head.specs.declared.major.Major.{Major}
-use Rattle.cbor_head.specs.declared.major.Major.TheVariants.{Unsigned, Negative, Bytes, Text, Array, Map, Tag, Simple}
-use Rattle.cbor_head.specs.declared.width.Width.{Width}
-use Rattle.cbor_head.specs.declared.width.Width.TheVariants.{Indefinite}
 
 -- behind a definite head of an item
 abbrev pub Follows : ℕ → List Frame → Major → Width → ℕ → State → Type 0

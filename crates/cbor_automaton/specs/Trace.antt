@@ -2,10 +2,9 @@
 -- `Event` has the events that they stand for.
 use Rattle.std.specs.Prelude.{ℕ, suc, ◌+◌, ◌-◌, ◌++◌, List, [], ◌∷◌, length, flat_map, nat_le, if◌then◌else◌}
 use Rattle.cbor_head.specs.Prelude.{shortest, Chunk, Spelling, Spellings, SpelledEntries, unsigned, negative, bytes, text, byte_chunks, text_chunks, array, a_map, tag, simple, no_spellings, a_spelling, no_entries, entry, spellings_count, entries_count}
-use Rattle.cbor_head.specs.declared.major.Major.{Major}
 use Rattle.cbor_head.specs.declared.major.Major.TheVariants.{Unsigned, Negative, Bytes, Text, Array, Map, Tag, Simple}
-use Rattle.cbor_head.specs.declared.width.Width.{Width}
 use Rattle.cbor_head.specs.declared.width.Width.TheVariants.{One, Two, Four, Eight, Indefinite}
+use Rattle.cbor_head.specs.declared.{major.Major.Major, width.Width.Width}
 
 -- what a mark stands for
 pub data Mark : Type 0 where

@@ -1,8 +1,6 @@
 -- A list read at an index.
 use Rattle.std.proofs.Common.{◌≡◌, ℕ, zero, suc, ◌+◌, ◌<◌, List, [], ◌∷◌, length, drop, get_or, Some, ap, sym, ◌∙◌, arith}
-use Rattle.std.proofs.lemmas.List.{drop_more}
-use Rattle.std.proofs.lemmas.Option.{slice_get-get_or}
-use Rattle.std.specs.List.{slice_get, AllByRecursion}
+use Rattle.std.{proofs.lemmas.List.drop_more, proofs.lemmas.Option.slice_get-get_or, specs.List.slice_get, specs.List.AllByRecursion}
 
 -- an element that was read by index
 pub at_read : {A : Type 0} (xs : List A) (i : ℕ) (x : A) → i < length xs → x ≡ get_or xs i x → drop i xs ≡ x ∷ drop (i + 1) xs

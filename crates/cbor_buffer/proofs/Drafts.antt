@@ -2,16 +2,13 @@
 use Rattle.std.proofs.Common.{◌≡◌, ℕ, ◌+◌, ◌-◌, ◌≤◌, List, [], ◌∷◌, ◌++◌, append_assoc, append-nil, length, length-append, length-drop, take, drop, drop-drop, refl, sym, ap, ◌∙◌, subst, arith, inl, inr, map, slice_range, reverse, flat_map, length-take-le, take-take}
 use Rattle.std.proofs.lemmas.List.{drop-append-le, drop_all, drop-take, nil_from_length}
 use Rattle.std.proofs.Math.Seq.{drop-append_seam, take-append_seam}
+use Rattle.cbor_canonical.specs.Pairs.{pair_bytes}
 use Rattle.cbor_buffer.specs.Moved.{rope, Run, gap, Blocks, meant, IsWhole, IsRope, IsLoose, IsFree, KeepsFront, Stays, Extends, Fills, PutsDown}
 use Rattle.cbor_buffer.specs.Spans.{AreBehind, span_pair, AreWithin}
-use Rattle.cbor_canonical.specs.Pairs.{pair_bytes}
-use Rattle.cbor_buffer.specs.declared.span.Span.{Span}
-use Rattle.cbor_buffer.specs.declared.cuts.Cut.{Cut}
-use Rattle.cbor_buffer.specs.declared.draft.Draft.{Draft}
-use Rattle.cbor_buffer.specs.declared.draft.Region.{Region}
 use Rattle.cbor_buffer.proofs.Slices.{slices_join, slice_take, slice_drop, slice_length, drop_alike, drop_behind, take_behind}
-use Rattle.cbor_buffer.proofs.Written.{take_front, drop_front}
 use Rattle.cbor_buffer.proofs.Moved.{rope_append, rope_front, rope_behind, rope_more, run_length, run_wider, blocks_run, blocks_longer, popped, limited}
+use Rattle.cbor_buffer.specs.declared.{span.Span.Span, cuts.Cut.Cut, draft.Draft.Draft, draft.Region.Region}
+use Rattle.cbor_buffer.proofs.Written.{take_front, drop_front}
 
 pub whole_rope : (d : Draft) → IsWhole d → IsRope d
 whole_rope d w = (run_wider 0 d.end 0 (length d.buf) 0 d.end d.cuts.items (omega arith) w.1 (blocks_run d.cuts.items (reverse d.regions.items) d.end w.0), w.1)

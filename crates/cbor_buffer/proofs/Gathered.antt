@@ -2,9 +2,7 @@
 use Rattle.std.proofs.Common.{◌≡◌, ℕ, ◌+◌, ◌<◌, ◌≤◌, List, ◌++◌, append_assoc, append-nil, length, drop, get_or, map, sym, ap, ◌∙◌, slice_range, flat_map}
 use Rattle.std.proofs.lemmas.List.{drop_all, get_or_default}
 use Rattle.cbor_canonical.specs.Pairs.{pair_bytes}
-use Rattle.cbor_buffer.proofs.ByIndex.{at_read, all_index}
-use Rattle.cbor_buffer.specs.Spans.{span_pair, AreWithin}
-use Rattle.cbor_buffer.specs.declared.span.Span.{Span}
+use Rattle.cbor_buffer.{proofs.ByIndex.at_read, proofs.ByIndex.all_index, specs.Spans.span_pair, specs.Spans.AreWithin, specs.declared.span.Span.Span}
 use Rattle.cbor_buffer.proofs.Slices.{slices_join}
 
 pub gathered_all : (out : List ℕ) (ss : List Span) (i : ℕ) (whole now : List ℕ) → length ss ≤ i → whole ≡ now ++ flat_map pair_bytes (map (span_pair out) (drop i ss)) → now ≡ whole

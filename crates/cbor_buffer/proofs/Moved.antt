@@ -1,14 +1,11 @@
 -- Bytes that are meant in another order than they lie in.
 use Rattle.std.proofs.Common.{◌≡◌, ℕ, zero, suc, ◌+◌, ◌-◌, ◌<◌, ◌≤◌, List, [], ◌∷◌, ◌++◌, append_assoc, append-nil, length, length-append, take, drop, take-append-drop, min, get_or, refl, sym, ap, ◌∙◌, subst, arith, Option, Some, None, inl, inr, slice_range, reverse, option_to_list, take-take}
-use Rattle.std.proofs.lemmas.Grind.{flat_map-append}
 use Rattle.std.proofs.lemmas.List.{take-append-le, drop_all, reverse-append, length-reverse, get_or_default, nil_from_length}
-use Rattle.std.proofs.lemmas.Bool.{cases_lt}
+use Rattle.std.proofs.lemmas.{Grind.flat_map-append, Bool.cases_lt}
 use Rattle.cbor_buffer.specs.Moved.{piece, rope, AreInside, Run, gap, Blocks, IsAdded}
-use Rattle.cbor_buffer.specs.declared.cuts.Cut.{Cut}
-use Rattle.cbor_buffer.specs.declared.cuts.Picked.{Picked}
-use Rattle.cbor_buffer.specs.declared.draft.Region.{Region}
-use Rattle.cbor_buffer.proofs.ByIndex.{at_read, all_index}
 use Rattle.cbor_buffer.proofs.Slices.{slices_join, drop_behind, slice_drop, slice_length, slice_take, take_behind}
+use Rattle.cbor_buffer.specs.declared.{cuts.Cut.Cut, cuts.Picked.Picked, draft.Region.Region}
+use Rattle.cbor_buffer.proofs.ByIndex.{at_read, all_index}
 
 -- ---- cuts
 

@@ -1,9 +1,8 @@
 -- What a buffer holds after a write.
 use Rattle.std.proofs.Common.{◌≡◌, ℕ, ◌+◌, ◌-◌, ◌≤◌, List, ◌∷◌, ◌++◌, append_assoc, length, length-append, length-drop, length-take, take, drop, set, take-append-drop, drop-drop, refl, sym, ap, ◌∙◌, arith, slice_range, take-take}
 use Rattle.std.proofs.lemmas.List.{take-append-le, drop-append-le, take-set, drop-set, with_items_is}
-use Rattle.std.specs.Global.{Vec}
-use Rattle.std.specs.Vec.{with_items}
 use Rattle.std.proofs.Math.Seq.{drop-append_seam, take-append_seam, take-set-lt, paste}
+use Rattle.std.specs.{Global.Vec, Vec.with_items}
 use Rattle.cbor_buffer.proofs.Slices.{front_of_list, slice_within, slice_all}
 
 pub take_front : (from start : ℕ) (out x : List ℕ) → from ≤ start → start ≤ length out → take from (take start out ++ x) ≡ take from out

@@ -1,12 +1,8 @@
 -- A buffer of which parts lie in another order than they are meant in.
 use Rattle.std.specs.Prelude.{ℕ, ◌+◌, ◌-◌, ◌≡◌, ◌≤◌, ◌++◌, ◌⊎◌, List, [], ◌∷◌, length, slice_range, flat_map, take, drop, reverse}
 use Rattle.std.specs.List.{AllByRecursion}
-use Rattle.cbor_buffer.specs.Spans.{AreBehind, AreWithin}
-use Rattle.cbor_buffer.specs.declared.span.Span.{Span}
-use Rattle.cbor_buffer.specs.declared.cuts.Cut.{Cut}
-use Rattle.cbor_buffer.specs.declared.cuts.Picked.{Picked}
-use Rattle.cbor_buffer.specs.declared.draft.Draft.{Draft}
-use Rattle.cbor_buffer.specs.declared.draft.Region.{Region}
+use Rattle.cbor_buffer.specs.{Spans.AreBehind, Spans.AreWithin, declared.span.Span.Span, declared.cuts.Cut.Cut, declared.cuts.Picked.Picked}
+use Rattle.cbor_buffer.specs.declared.draft.{Draft.Draft, Region.Region}
 
 abbrev pub piece : List ℕ → Cut → List ℕ
 piece raw c = slice_range raw c.from c.to

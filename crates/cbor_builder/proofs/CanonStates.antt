@@ -1,16 +1,12 @@
 -- What a public builder stands for, from what its core does.
 use Rattle.std.proofs.Common.{◌≡◌, ℕ, Bool, true, false, List, [], ◌∷◌, Option, Some, None, true≢false, refl, sym, ap, ◌∙◌, subst, IsTrue, IfSome, IsNone, ◌↔◌, Ok}
-use Rattle.cbor_builder.specs.Built.{Built, HasDistinctKeysSoFar, IsRepeatTold, LeavesIfDistinct, keys_so_far, AreAllDifferent}
 use Rattle.cbor_canonical.specs.Parts.{Open, plain, a_map, HasNoRepeats, IsInContainer}
 use Rattle.cbor_buffer.specs.declared.span.Span.{Span}
-use Rattle.cbor_builder.specs.declared.builder.Core.{Core}
-use Rattle.cbor_builder.specs.declared.repeat.Repeat.{Repeat}
+use Rattle.cbor_builder.specs.Built.{Built, HasDistinctKeysSoFar, IsRepeatTold, LeavesIfDistinct, keys_so_far, AreAllDifferent}
 use Rattle.cbor_builder.specs.inner.BuilderState.{standing, innermost, IsLaid, WasLaid, IsLeftOpen, came_standing}
-use Rattle.cbor_builder.specs.inner.Repeats.{Tells}
 use Rattle.cbor_builder.specs.inner.CanonState.{if_sound, seen, IsNested, IsKept}
-use Rattle.cbor_builder.specs.declared.canon_builder.CanonBuilder.TheInside.{Inside}
-use Rattle.cbor_builder.proofs.KeysSoFar.{different_distinct}
-use Rattle.cbor_builder.proofs.Standing.{lies_finished}
+use Rattle.cbor_builder.specs.{declared.builder.Core.Core, declared.repeat.Repeat.Repeat, inner.Repeats.Tells}
+use Rattle.cbor_builder.{specs.declared.canon_builder.CanonBuilder.TheInside.Inside, proofs.KeysSoFar.different_distinct, proofs.Standing.lies_finished}
 
 -- ---- a builder that takes a part is sound
 

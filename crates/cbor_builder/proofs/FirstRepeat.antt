@@ -2,20 +2,14 @@
 use Rattle.std.proofs.Common.{◌≡◌, ℕ, zero, suc, ◌+◌, ◌^◌, ◌<◌, ◌≤◌, Bool, true, false, List, [], ◌∷◌, length, get_or, map, Option, Some, None, sym, ap, ◌∙◌, subst, arith, inl, inr, IsPermutation, cond, slice_range, ◌==◌, lt-ltb, le-ltb, ne_eqb, eq-eqb}
 use Rattle.std.specs.List.{count_by}
 use mir.Val.{bool_byte}
-use Rattle.std.proofs.lemmas.Bool.{cases_lt, cases_eq}
-use Rattle.std.proofs.lemmas.List.{get_or-map, length-map}
 use Rattle.std.proofs.lemmas.List.Sorted.{IsPermutation-sym, IsPermutation-trans, sum_by-IsPermutation}
-use Rattle.std.proofs.lemmas.List.Sums.{sum_by-cons}
-use Rattle.cbor_builder.specs.Built.{IsRepeatAt, AreAllDifferent, IsFirstRepeat}
-use Rattle.cbor_builder.specs.inner.Front.{key_of}
-use Rattle.cbor_builder.specs.inner.Laid.{Tile}
-use Rattle.cbor_builder.specs.inner.Repeats.{nth, place, lies_before, HasPlace, ArePlaced, AreOf, HasTie, IsFirstTie}
+use Rattle.std.proofs.lemmas.{Bool.cases_lt, Bool.cases_eq, List.get_or-map, List.length-map, List.Sums.sum_by-cons}
+use Rattle.cbor_canonical.proofs.Members.{all_at, all_from}
 use Rattle.cbor_buffer.specs.Spans.{no_span, IsWithin, AreWithin}
 use Rattle.cbor_buffer.specs.declared.span.Span.{Span}
-use Rattle.cbor_builder.specs.declared.repeats.Tie.{Tie}
-use Rattle.cbor_canonical.proofs.Members.{all_at, all_from}
-use Rattle.cbor_builder.proofs.Growth.{tile_within}
-use Rattle.cbor_builder.proofs.Ranks.{all_permuted}
+use Rattle.cbor_builder.specs.Built.{IsRepeatAt, AreAllDifferent, IsFirstRepeat}
+use Rattle.cbor_builder.specs.inner.Repeats.{nth, place, lies_before, HasPlace, ArePlaced, AreOf, HasTie, IsFirstTie}
+use Rattle.cbor_builder.{specs.inner.Front.key_of, specs.inner.Laid.Tile, specs.declared.repeats.Tie.Tie, proofs.Growth.tile_within, proofs.Ranks.all_permuted}
 use Rattle.cbor_builder.proofs.Ties.{tie_permuted, first_same}
 
 -- ---- the places of pairs one behind the other

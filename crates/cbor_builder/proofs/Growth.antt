@@ -2,22 +2,16 @@
 use Rattle.std.proofs.Common.{◌≡◌, ℕ, suc, ◌+◌, ◌-◌, ◌≤◌, List, [], ◌∷◌, ◌++◌, append_assoc, length, length-append, length-drop, take, drop, take-append-drop, length-take, drop-drop, refl, sym, ap, ◌∙◌, subst, arith, map, slice_range, flat_map, take_all}
 use Rattle.std.proofs.lemmas.List.{take-append-le, drop-append-le, drop_all, map-append, length-map, nil_from_length}
 use Rattle.std.proofs.Math.Seq.{drop-append_seam}
-use Rattle.cbor_head.specs.declared.major.Major.{Major}
 use Rattle.cbor_head.specs.declared.major.Major.TheVariants as of_major
-use Rattle.cbor_head.specs.Prelude.{in_order, shortest_head}
-use Rattle.cbor_head.specs.declared.order.KeyOrder.{KeyOrder}
-use Rattle.cbor_canonical.specs.Pairs.{IsRising, pair_bytes}
-use Rattle.cbor_buffer.proofs.Written.{take_front, drop_front}
+use Rattle.cbor_head.specs.{declared.major.Major.Major, Prelude.in_order, Prelude.shortest_head, declared.order.KeyOrder.KeyOrder}
 use Rattle.cbor_canonical.specs.Parts.{plain, an_array, a_map, a_key, a_string, pair, with_member, with_content, give, opened, extended, close, closed}
-use Rattle.cbor_buffer.specs.Spans.{span_pair, AreWithin}
-use Rattle.cbor_builder.specs.inner.Laid.{pairs_from, Tile, shape_open, outer_spans, opens, Fits, Laid, Takes, IsString, IsReady, shape_after, span, spans_after, KeepsRising, Stands, Completed, opening_frame}
+use Rattle.cbor_canonical.specs.Pairs.{IsRising, pair_bytes}
 use Rattle.cbor_keys.specs.Front.{front_of}
-use Rattle.cbor_builder.specs.inner.Front.{AreFronted}
-use Rattle.cbor_buffer.specs.declared.span.Span.{Span}
-use Rattle.cbor_builder.specs.declared.frame.Frame.{Frame}
-use Rattle.cbor_builder.specs.declared.frame.Shape.{Shape}
-use Rattle.cbor_builder.specs.declared.frame.Shape.TheVariants.{Plain, Array, Map, Key, Content}
+use Rattle.cbor_buffer.{proofs.Written.take_front, proofs.Written.drop_front, specs.Spans.span_pair, specs.Spans.AreWithin, specs.declared.span.Span.Span}
 use Rattle.cbor_buffer.proofs.Slices.{slice_all, slice_front}
+use Rattle.cbor_builder.specs.inner.Laid.{pairs_from, Tile, shape_open, outer_spans, opens, Fits, Laid, Takes, IsString, IsReady, shape_after, span, spans_after, KeepsRising, Stands, Completed, opening_frame}
+use Rattle.cbor_builder.specs.declared.frame.Shape.TheVariants.{Plain, Array, Map, Key, Content}
+use Rattle.cbor_builder.specs.{inner.Front.AreFronted, declared.frame.Frame.Frame, declared.frame.Shape.Shape}
 
 pub tile_le : (a : ℕ) (ss : List Span) (n : ℕ) → Tile a ss n → a ≤ n
 tile_le a [] n t = omega (arith, t)

@@ -1,20 +1,14 @@
 -- Pairs that are sorted by keys which lie elsewhere.
 use Rattle.std.proofs.Common.{◌≡◌, ◌↔◌, IsPermutation, ℕ, ◌≤◌, Bool, List, [], ◌∷◌, ◌++◌, length, take, drop, take-append-drop, map, refl, sym, ap, ◌∙◌, subst, arith, IsTrue, flat_map}
 use Rattle.std.proofs.lemmas.List.Sorted.{IsPermutation-map}
-use Rattle.cbor_head.specs.Prelude.{in_order}
-use Rattle.cbor_head.specs.declared.order.KeyOrder.{KeyOrder}
+use Rattle.cbor_head.specs.{Prelude.in_order, declared.order.KeyOrder.KeyOrder}
 use Rattle.cbor_canonical.specs.Pairs.{IsRising, HasDistinctBytes, pair_bytes}
-use Rattle.cbor_buffer.specs.Spans.{span_pair, AreBehind}
-use Rattle.cbor_builder.specs.inner.Laid.{pairs_from, Tile}
-use Rattle.cbor_builder.specs.inner.InPlace.{AreSameKeys}
-use Rattle.cbor_buffer.specs.declared.span.Span.{Span}
-use Rattle.cbor_builder.proofs.Growth.{tile_joins}
-use Rattle.cbor_builder.proofs.Neighbours.{rising_is_in_order}
 use Rattle.cbor_canonical.proofs.Sorting.{in_order-rising}
+use Rattle.cbor_buffer.specs.{Spans.span_pair, Spans.AreBehind, declared.span.Span.Span}
 use Rattle.cbor_builder.proofs.InPlace.{keys_flip, own_same, rising_keys}
-use Rattle.cbor_builder.proofs.KeysSoFar.{distinct_different, different_distinct}
-use Rattle.cbor_builder.specs.Built.{AreAllDifferent}
-use Rattle.cbor_builder.proofs.Ranks.{all_permuted}
+use Rattle.cbor_builder.{specs.inner.Laid.pairs_from, specs.inner.Laid.Tile, specs.inner.InPlace.AreSameKeys, proofs.Growth.tile_joins}
+use Rattle.cbor_builder.proofs.{Neighbours.rising_is_in_order, KeysSoFar.distinct_different, KeysSoFar.different_distinct}
+use Rattle.cbor_builder.{specs.Built.AreAllDifferent, proofs.Ranks.all_permuted}
 
 distinct_keys : (raw out : List ℕ) (ss : List Span) → AreSameKeys raw out ss → HasDistinctBytes (map (span_pair raw) ss) → HasDistinctBytes (map (span_pair out) ss)
 distinct_keys raw out ss h r = different_distinct (map (span_pair out) ss) (subst AreAllDifferent (own_same raw out ss h) (distinct_different (map (span_pair raw) ss) r))

@@ -1,27 +1,17 @@
 -- Keys lie as they are meant, whatever else does not.
 use Rattle.std.proofs.Common.{◌≡◌, ◌↔◌, ℕ, ◌+◌, ◌≤◌, Bool, List, [], ◌∷◌, ◌++◌, length, length-take, take, drop, map, refl, sym, ap, ◌∙◌, subst, arith, inl, inr, Option, Some, None, IsTrue, slice_range}
-use Rattle.std.specs.List.{AllByRecursion}
 use Rattle.std.proofs.lemmas.List.{take-append-le, drop-append-le, nil_from_length}
-use Rattle.std.proofs.Math.Seq.{drop-append_seam}
-use Rattle.cbor_head.specs.Prelude.{Pair, key_lt}
-use Rattle.cbor_head.specs.declared.order.KeyOrder.{KeyOrder}
-use Rattle.cbor_builder.specs.Built.{HasKey, IsRepeatedKey, IsWaitingKey, keys_so_far, open_maps, AreOpenKeysDifferent, IsRepeatTold, AreAllDifferent, IsFirstRepeat}
-use Rattle.cbor_canonical.specs.Pairs.{IsRising}
-use Rattle.cbor_canonical.specs.Parts.{Open}
+use Rattle.std.{specs.List.AllByRecursion, proofs.Math.Seq.drop-append_seam}
+use Rattle.cbor_head.specs.{Prelude.Pair, Prelude.key_lt, declared.order.KeyOrder.KeyOrder}
+use Rattle.cbor_canonical.specs.{Pairs.IsRising, Parts.Open}
 use Rattle.cbor_keys.specs.Front.{front_of}
-use Rattle.cbor_builder.specs.inner.Front.{key_of, AreFronted}
-use Rattle.cbor_buffer.specs.Spans.{span_pair}
+use Rattle.cbor_buffer.{specs.Spans.span_pair, specs.declared.span.Span.Span, proofs.Slices.slice_front, proofs.Slices.slice_all}
+use Rattle.cbor_builder.specs.Built.{HasKey, IsRepeatedKey, IsWaitingKey, keys_so_far, open_maps, AreOpenKeysDifferent, IsRepeatTold, AreAllDifferent, IsFirstRepeat}
 use Rattle.cbor_builder.specs.inner.Laid.{Tile, shape_open, outer_spans, opens, Fits, Laid, Takes, IsString, IsReady, shape_after, span, spans_after, KeepsRising, Completed}
 use Rattle.cbor_builder.specs.inner.InPlace.{IsSameKey, AreSameKeys, HasSameKeys, Agrees, WaitsSame}
-use Rattle.cbor_builder.specs.inner.Repeats.{TellsWithin}
-use Rattle.cbor_buffer.specs.declared.span.Span.{Span}
-use Rattle.cbor_builder.specs.declared.frame.Frame.{Frame}
-use Rattle.cbor_builder.specs.declared.frame.Shape.{Shape}
 use Rattle.cbor_builder.specs.declared.frame.Shape.TheVariants.{Map, Key, Content}
-use Rattle.cbor_builder.specs.declared.repeat.Repeat.{Repeat}
-use Rattle.cbor_buffer.proofs.Slices.{slice_front, slice_all}
-use Rattle.cbor_builder.proofs.Growth.{tile_le}
-use Rattle.cbor_builder.proofs.OpenRepeats.{maps_same}
+use Rattle.cbor_builder.specs.{inner.Front.key_of, inner.Front.AreFronted, inner.Repeats.TellsWithin, declared.frame.Frame.Frame, declared.frame.Shape.Shape}
+use Rattle.cbor_builder.{specs.declared.repeat.Repeat.Repeat, proofs.Growth.tile_le, proofs.OpenRepeats.maps_same}
 
 -- ---- where all lies as it is meant
 

@@ -1,24 +1,16 @@
 -- Spans put in order one by one.
 use Rattle.std.proofs.Common.{◌≡◌, ℕ, zero, suc, ◌+◌, ◌-◌, ◌<◌, ◌≤◌, List, [], ◌∷◌, ◌++◌, length, length-take, take, drop, drop-drop, get_or, set, map, refl, sym, ap, ◌∙◌, subst, arith, inl, inr, IsPermutation, IsTrue, take-take}
-use Rattle.std.specs.List.{AllByRecursion, insert}
 use Rattle.std.proofs.lemmas.List.{take_more, take-map, drop_all, get_or-drop, get_or_default}
-use Rattle.std.proofs.lemmas.List.Edits.{get_or-insert_below, length-insert}
-use Rattle.std.proofs.Math.Seq.{take-append_seam, drop-append_seam}
 use Rattle.std.proofs.lemmas.List.Sorted.{IsPermutation-trans, IsPermutation-append_comm, IsPermutation-append_right, IsPermutation-map}
-use Rattle.std.specs.declared.cmp.Ordering.{Ordering}
-use Rattle.std.specs.declared.cmp.Ordering.TheVariants.{Less, Greater}
-use Rattle.std.specs.Ordering.{is_lt, ordering_reverse}
+use Rattle.std.{specs.List.AllByRecursion, specs.List.insert, proofs.lemmas.List.Edits.get_or-insert_below, proofs.lemmas.List.Edits.length-insert}
+use Rattle.std.{proofs.Math.Seq.take-append_seam, proofs.Math.Seq.drop-append_seam, specs.declared.cmp.Ordering.Ordering}
+use Rattle.std.specs.{declared.cmp.Ordering.TheVariants.Less, declared.cmp.Ordering.TheVariants.Greater, Ordering.is_lt, Ordering.ordering_reverse}
 use Rattle.cbor_head.specs.Prelude.{key_cmp, key_lt, AreBytes, Pair}
 use Rattle.cbor_head.specs.declared.order.KeyOrder.{KeyOrder}
-use Rattle.cbor_canonical.specs.Pairs.{HasDistinctBytes, IsRising}
-use Rattle.cbor_canonical.proofs.Orders.{key_cmp_total, lt_trans}
-use Rattle.cbor_buffer.specs.Spans.{span_pair, no_span}
-use Rattle.cbor_buffer.specs.declared.span.Span.{Span}
-use Rattle.cbor_builder.specs.Built.{HasKey}
+use Rattle.cbor_canonical.{specs.Pairs.HasDistinctBytes, specs.Pairs.IsRising, proofs.Orders.key_cmp_total, proofs.Orders.lt_trans}
+use Rattle.cbor_buffer.{specs.Spans.span_pair, specs.Spans.no_span, specs.declared.span.Span.Span, proofs.ByIndex.all_index, proofs.ByIndex.at_read}
 use Rattle.cbor_builder.specs.inner.Front.{key_of, IsFronted, AreFronted, rank, ranked_by, in_front}
-use Rattle.cbor_buffer.proofs.ByIndex.{all_index, at_read}
-use Rattle.cbor_builder.proofs.Ranks.{agree_spans}
-use Rattle.cbor_builder.proofs.KeysSoFar.{distinct_permuted}
+use Rattle.cbor_builder.{specs.Built.HasKey, proofs.Ranks.agree_spans, proofs.KeysSoFar.distinct_permuted}
 
 -- ---- a list with one more at a place
 

@@ -1,16 +1,11 @@
 -- Keys of a map of which none is equal to another, with the one that waits for its value.
 use Rattle.std.proofs.Common.{◌≡◌, ◌≢◌, ℕ, zero, suc, ◌<◌, List, [], ◌∷◌, ◌++◌, length, length-append, get_or, sym, ap, ◌∙◌, arith, inl, inr, IsPermutation}
-use Rattle.std.specs.List.{AllByRecursion}
-use Rattle.std.proofs.lemmas.Bool.{cases_lt}
-use Rattle.std.proofs.Math.ListN.{get_or-append}
-use Rattle.std.proofs.Math.Seq.{get_or-append_seam}
-use Rattle.cbor_head.specs.Prelude.{Pair}
-use Rattle.cbor_builder.specs.Built.{HasKey, IsRepeatAt, AreAllDifferent, IsFirstRepeat}
-use Rattle.cbor_canonical.specs.Pairs.{HasDistinctBytes}
-use Rattle.cbor_canonical.proofs.Members.{In, all_from}
-use Rattle.cbor_builder.proofs.Neighbours.{keys}
-use Rattle.cbor_builder.proofs.Ties.{two_permuted}
+use Rattle.std.{specs.List.AllByRecursion, proofs.lemmas.Bool.cases_lt, proofs.Math.ListN.get_or-append, proofs.Math.Seq.get_or-append_seam}
 use Rattle.std.proofs.lemmas.List.Sorted.{IsPermutation-sym, IsPermutation-map}
+use Rattle.cbor_head.specs.Prelude.{Pair}
+use Rattle.cbor_canonical.{specs.Pairs.HasDistinctBytes, proofs.Members.In, proofs.Members.all_from}
+use Rattle.cbor_builder.specs.Built.{HasKey, IsRepeatAt, AreAllDifferent, IsFirstRepeat}
+use Rattle.cbor_builder.proofs.{Neighbours.keys, Ties.two_permuted}
 
 -- ---- with a key that waits for its value
 

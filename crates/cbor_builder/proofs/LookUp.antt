@@ -1,23 +1,14 @@
 -- A key looked for among the pairs of its map.
 use Rattle.std.proofs.Common.{◌≡◌, ◌↔◌, ℕ, ◌+◌, ◌<◌, ◌≤◌, ◌⊎◌, List, [], ◌∷◌, ◌++◌, length, drop, get_or, map, false, true≢false, inl, inr, refl, sym, ap, ◌∙◌, subst, IsTrue}
-use Rattle.std.specs.List.{AllByRecursion}
-use Rattle.std.specs.Ordering.{is_eq}
-use Rattle.std.specs.declared.cmp.Ordering.{Ordering}
-use Rattle.std.proofs.lemmas.Cmp.{tied_itself}
+use Rattle.std.{specs.List.AllByRecursion, specs.Ordering.is_eq, specs.declared.cmp.Ordering.Ordering, proofs.lemmas.Cmp.tied_itself}
 use Rattle.std.proofs.lemmas.List.{drop_all, get_or_default}
 use Rattle.cbor_head.specs.Prelude.{key_cmp, key_lt, Value, Entries, HasEntry, Same, AreBytes, AreEntriesInRange, IsInRange, IsValid, Pair, canonical, canonical_entries}
-use Rattle.cbor_head.specs.Value.{no_entries, entry}
-use Rattle.cbor_head.specs.declared.order.KeyOrder.{KeyOrder}
-use Rattle.cbor_builder.specs.Built.{HasKey, HasSameKey}
-use Rattle.cbor_canonical.specs.Pairs.{IsRising, AreKeysValid}
-use Rattle.cbor_builder.specs.inner.Front.{key_of, IsFronted, AreFronted, rank, ranked_by}
-use Rattle.cbor_buffer.specs.Spans.{span_pair}
-use Rattle.cbor_buffer.specs.declared.span.Span.{Span}
-use Rattle.cbor_buffer.proofs.ByIndex.{at_read, all_index}
-use Rattle.cbor_canonical.proofs.Keys.{same_exactly}
-use Rattle.cbor_builder.proofs.Ranks.{agree_spans, equal_keys}
-use Rattle.cbor_canonical.proofs.Orders.{key_cmp_total, lt_irrefl}
+use Rattle.cbor_head.specs.{Value.no_entries, Value.entry, declared.order.KeyOrder.KeyOrder}
+use Rattle.cbor_canonical.{specs.Pairs.IsRising, specs.Pairs.AreKeysValid, proofs.Keys.same_exactly, proofs.Orders.key_cmp_total, proofs.Orders.lt_irrefl}
 use Rattle.cbor_canonical.proofs.Sound.{IsSound, sound}
+use Rattle.cbor_buffer.{specs.Spans.span_pair, specs.declared.span.Span.Span, proofs.ByIndex.at_read, proofs.ByIndex.all_index}
+use Rattle.cbor_builder.specs.inner.Front.{key_of, IsFronted, AreFronted, rank, ranked_by}
+use Rattle.cbor_builder.{specs.Built.HasKey, specs.Built.HasSameKey, proofs.Ranks.agree_spans, proofs.Ranks.equal_keys}
 
 key_at : (f : Span → Pair) (ks : List Span) (i : ℕ) (x : Span) (k : List ℕ) → i < length ks → x ≡ get_or ks i x
     → HasKey (map f (drop i ks)) k ↔ (((f x).key ≡ k) ⊎ HasKey (map f (drop (i + 1) ks)) k)

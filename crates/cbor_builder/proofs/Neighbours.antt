@@ -1,19 +1,14 @@
 -- Keys in the order of their bytes: equal ones are neighbours.
 use Rattle.std.proofs.Common.{◌≡◌, ℕ, zero, suc, ◌+◌, List, [], ◌∷◌, get_or, map, true, false, refl, sym, ap, subst, arith, inl, inr, IsPermutation, IsSortedBy, IsTrue}
-use Rattle.std.specs.Ordering.{is_eq}
-use Rattle.std.specs.declared.cmp.Ordering.{Ordering}
-use Rattle.std.specs.declared.cmp.Ordering.TheVariants.{Equal}
+use Rattle.std.specs.{Ordering.is_eq, declared.cmp.Ordering.Ordering, declared.cmp.Ordering.TheVariants.Equal}
 use Rattle.std.proofs.lemmas.List.Sorted.{IsPermutation-sym, Contains-permutation}
 use Rattle.cbor_head.specs.Prelude.{key_lt, Pair, in_order}
 use Rattle.cbor_head.specs.declared.order.KeyOrder.{KeyOrder}
-use Rattle.cbor_builder.specs.inner.Front.{key_of}
-use Rattle.cbor_builder.specs.inner.Repeats.{DoNeighboursDiffer}
-use Rattle.cbor_buffer.specs.Spans.{span_pair}
-use Rattle.cbor_buffer.specs.declared.span.Span.{Span}
-use Rattle.cbor_canonical.specs.Pairs.{HasDistinctBytes, IsRising}
-use Rattle.cbor_canonical.proofs.Members.{in_contains, contains_in}
-use Rattle.cbor_canonical.proofs.Orders.{lt_trans, lt_other}
 use Rattle.cbor_canonical.proofs.Sorting.{rises_at, rising_cons, rising_unique, in_order_rising, in_order_in, in_in_order}
+use Rattle.cbor_canonical.{specs.Pairs.HasDistinctBytes, specs.Pairs.IsRising, proofs.Members.in_contains, proofs.Members.contains_in}
+use Rattle.cbor_canonical.proofs.Orders.{lt_trans, lt_other}
+use Rattle.cbor_buffer.specs.{Spans.span_pair, declared.span.Span.Span}
+use Rattle.cbor_builder.specs.inner.{Front.key_of, Repeats.DoNeighboursDiffer}
 
 abbrev pub keys : List Pair → List (List ℕ)
 keys ps = map (λ (p : Pair). p.key) ps

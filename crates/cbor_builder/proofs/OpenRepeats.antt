@@ -1,25 +1,16 @@
 -- Which repeated key is told, from the innermost out.
 use Rattle.std.proofs.Common.{◌≡◌, ℕ, suc, ◌+◌, ◌-◌, ◌^◌, ◌<◌, ◌≤◌, List, [], ◌∷◌, ◌++◌, length, drop, take, map, Option, Some, None, Bool, true, false, refl, sym, ap, ◌∙◌, subst, arith, inl, inr, IsTrue, MatchOption, IfSome, ◌↔◌}
-use Rattle.std.specs.Option.{option_or}
-use Rattle.std.specs.Bool.{then_some}
-use Rattle.std.proofs.lemmas.List.{length-map, drop_all}
+use Rattle.std.{specs.Option.option_or, specs.Bool.then_some, proofs.lemmas.List.length-map, proofs.lemmas.List.drop_all}
+use Rattle.cbor_head.specs.{Prelude.Pair, declared.order.KeyOrder.KeyOrder}
+use Rattle.cbor_canonical.{specs.Parts.Open, proofs.Sorting.rising_distinct}
+use Rattle.cbor_buffer.specs.{Spans.span_pair, declared.span.Span.Span}
 use Rattle.cbor_builder.specs.Built.{HasKey, IsRepeatedKey, IsRepeatTold, keys_so_far, open_maps, AreAllDifferent, IsFirstRepeat}
-use Rattle.cbor_canonical.specs.Parts.{Open}
-use Rattle.cbor_head.specs.Prelude.{Pair}
-use Rattle.cbor_head.specs.declared.order.KeyOrder.{KeyOrder}
-use Rattle.cbor_builder.specs.inner.Front.{key_of}
-use Rattle.cbor_buffer.specs.Spans.{span_pair}
 use Rattle.cbor_builder.specs.inner.Laid.{pairs_from, shape_open, outer_spans, opens, Fits}
 use Rattle.cbor_builder.specs.inner.Repeats.{first_of, maps_of, outward, TellsOf, TellsWithin, Tells, IsBelow}
-use Rattle.cbor_buffer.specs.declared.span.Span.{Span}
-use Rattle.cbor_builder.specs.declared.frame.Frame.{Frame}
-use Rattle.cbor_builder.specs.declared.frame.Shape.{Shape}
 use Rattle.cbor_builder.specs.declared.frame.Shape.TheVariants.{Plain, Map, Key}
-use Rattle.cbor_builder.specs.declared.repeat.Repeat.{Repeat}
-use Rattle.cbor_builder.proofs.Growth.{count}
-use Rattle.cbor_builder.proofs.Neighbours.{keys, keys-map}
 use Rattle.cbor_builder.proofs.KeysSoFar.{first_more, waits_repeated, waits_alone, distinct_different}
-use Rattle.cbor_canonical.proofs.Sorting.{rising_distinct}
+use Rattle.cbor_builder.specs.{inner.Front.key_of, declared.frame.Frame.Frame, declared.frame.Shape.Shape, declared.repeat.Repeat.Repeat}
+use Rattle.cbor_builder.proofs.{Growth.count, Neighbours.keys, Neighbours.keys-map}
 
 -- ---- from the innermost out
 

@@ -1,29 +1,19 @@
 -- Spans ranked by the fronts of their keys.
 use Rattle.std.proofs.Common.{◌≡◌, ◌≢◌, ℕ, ◌+◌, ◌<◌, List, length, get_or, true, false, true≢false, sym, ap, ◌∙◌, arith, Bool, Bor, IsPermutation, IsSortedBy}
-use Rattle.std.specs.List.{AllByRecursion}
-use Rattle.std.specs.declared.cmp.Ordering.{Ordering}
 use Rattle.std.specs.Ordering.{nat_cmp, is_eq, is_lt, ordering_then}
-use Rattle.std.specs.Cmp.{IsTotalOrder, IsStrictWeakOrder}
-use Rattle.std.specs.Fn.{Called, ComparesAs}
-use Rattle.std.proofs.lemmas.Fn.{always_returns_same}
 use Rattle.std.proofs.lemmas.List.Sorted.{ranks_by, IsPermutation-sym, Contains-permutation}
 use Rattle.std.proofs.lemmas.Cmp.{nat_cmp_total, on_total, then_total, tied_itself}
-use Rattle.std.proofs.lemmas.List.{get_or_default}
+use Rattle.std.specs.{List.AllByRecursion, declared.cmp.Ordering.Ordering, Cmp.IsTotalOrder, Cmp.IsStrictWeakOrder, Fn.Called, Fn.ComparesAs}
+use Rattle.std.proofs.lemmas.{Fn.always_returns_same, List.get_or_default}
 use denote.Param.Members.{Mut}
-use Rattle.cbor_canonical.proofs.Members.{all_at, all_from, in_contains, contains_in}
 use Rattle.cbor_head.specs.Prelude.{key_cmp, key_lt, AreBytes}
-use Rattle.cbor_head.specs.declared.order.KeyOrder.{KeyOrder}
-use Rattle.cbor_head.specs.declared.order.KeyOrder.TheVariants.{Bytewise, LengthFirst}
-use Rattle.cbor_canonical.proofs.Orders.{key_cmp_total, tied}
-use Rattle.cbor_buffer.proofs.ByIndex.{all_index}
-use Rattle.cbor_keys.specs.Front.{front_of}
+use Rattle.cbor_head.specs.declared.order.KeyOrder.{KeyOrder, TheVariants.Bytewise, TheVariants.LengthFirst}
+use Rattle.cbor_canonical.proofs.Members.{all_at, all_from, in_contains, contains_in}
+use Rattle.cbor_canonical.proofs.{Orders.key_cmp_total, Orders.tied, ByteLists.bytes_slice}
+use Rattle.cbor_keys.{specs.Front.front_of, proofs.KeyFronts.agree_front}
+use Rattle.cbor_buffer.{proofs.ByIndex.all_index, specs.Spans.no_span, specs.declared.span.Span.Span}
 use Rattle.cbor_builder.specs.inner.Front.{key_of, IsFronted, AreFronted, by_front, rank, ranked_by}
-use Rattle.cbor_builder.specs.inner.Repeats.{nth}
-use Rattle.cbor_builder.proofs.Neighbours.{is_tied}
-use Rattle.cbor_buffer.specs.Spans.{no_span}
-use Rattle.cbor_buffer.specs.declared.span.Span.{Span}
-use Rattle.cbor_keys.proofs.KeyFronts.{agree_front}
-use Rattle.cbor_canonical.proofs.ByteLists.{bytes_slice}
+use Rattle.cbor_builder.{specs.inner.Repeats.nth, proofs.Neighbours.is_tied}
 
 -- with the right fronts, the ranks are the order of the keys
 pub agree : (o : KeyOrder) (a b : ℕ) (xs ys : List ℕ) → AreBytes xs → AreBytes ys → a ≡ front_of xs → b ≡ front_of ys → rank o (a, xs) (b, ys) ≡ key_cmp o xs ys

@@ -1,19 +1,13 @@
 -- Spans of the innermost in another order than they came in.
 use Rattle.std.proofs.Common.{◌≡◌, ℕ, Bool, List, [], ◌∷◌, length, length-drop, length-take, drop, take, refl, sym, ap, ◌∙◌, subst, arith, IsPermutation, IsTrue, ◌↔◌}
-use Rattle.std.proofs.lemmas.List.{drop_all}
-use Rattle.std.proofs.lemmas.List.Sorted.{IsPermutation-refl, length_permutation}
+use Rattle.std.proofs.lemmas.List.{drop_all, Sorted.IsPermutation-refl, Sorted.length_permutation}
 use Rattle.cbor_head.specs.declared.order.KeyOrder.{KeyOrder}
 use Rattle.cbor_canonical.specs.Parts.{Open}
-use Rattle.cbor_builder.specs.Built.{IsRepeatedKey}
-use Rattle.cbor_buffer.specs.declared.span.Span.{Span}
-use Rattle.cbor_builder.specs.declared.builder.Core.{Core}
-use Rattle.cbor_builder.specs.declared.frame.Frame.{Frame}
-use Rattle.cbor_builder.specs.declared.frame.Shape.{Shape}
-use Rattle.cbor_builder.specs.declared.frame.Shape.TheVariants.{Map, Key}
+use Rattle.cbor_buffer.specs.{declared.span.Span.Span, Moved.meant}
 use Rattle.cbor_builder.specs.inner.BuilderState.{outers, frames, Stand, IsReordered, IsLeftOpen}
 use Rattle.cbor_builder.specs.inner.Laid.{shape_open, outer_spans, opens, Fits}
-use Rattle.cbor_builder.specs.inner.Repeats.{first_of, AreOf}
-use Rattle.cbor_buffer.specs.Moved.{meant}
+use Rattle.cbor_builder.specs.{Built.IsRepeatedKey, declared.builder.Core.Core, declared.frame.Frame.Frame, declared.frame.Shape.Shape}
+use Rattle.cbor_builder.specs.{declared.frame.Shape.TheVariants.Map, declared.frame.Shape.TheVariants.Key, inner.Repeats.first_of, inner.Repeats.AreOf}
 
 pub reordered_refl : (ss : List Span) (s : Shape) → IsReordered ss ss s
 reordered_refl ss (Map first) = (refl, IsPermutation-refl (drop first ss))

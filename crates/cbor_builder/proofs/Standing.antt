@@ -1,23 +1,17 @@
 -- What a builder stands for, where its buffer lies in another order than it is meant in.
 use Rattle.std.proofs.Common.{◌≡◌, ℕ, List, [], ◌∷◌, ◌++◌, length, length-take, take, drop, take-append-drop, refl, sym, ap, ◌∙◌, subst, arith, inl, inr, Result, OnOk}
+use Rattle.std.{specs.Global.Vec, proofs.lemmas.Result.on_ok_weaker}
 use Rattle.cbor_head.specs.declared.order.KeyOrder.{KeyOrder}
 use Rattle.cbor_canonical.specs.Parts.{plain, closed, close, give, extended}
-use Rattle.std.specs.Global.{Vec}
-use Rattle.std.proofs.lemmas.Result.{on_ok_weaker}
-use Rattle.cbor_builder.specs.inner.Laid.{shape_open, outer_spans, opens, Takes, IsReady, shape_after, spans_after, KeepsRising, Completed, Stands, IsString, Laid}
 use Rattle.cbor_buffer.specs.Moved.{meant, IsWhole, IsSettled, KeepsFront, Stays, Extends}
-use Rattle.cbor_builder.specs.inner.BuilderState.{Stand, IsLaid, StandsAs, CoreLeaves, standing, frames, outers}
-use Rattle.cbor_builder.proofs.Nesting.{rooted_given}
-use Rattle.cbor_builder.specs.declared.builder.Core.{Core}
-use Rattle.cbor_builder.specs.inner.InPlace.{Agrees, WaitsSame}
-use Rattle.cbor_buffer.specs.declared.draft.Draft.{Draft}
-use Rattle.cbor_buffer.specs.declared.span.Span.{Span}
-use Rattle.cbor_builder.specs.declared.frame.Frame.{Frame}
-use Rattle.cbor_builder.specs.declared.frame.Shape.TheVariants.{Map}
 use Rattle.cbor_buffer.proofs.Drafts.{whole_length, extended as draft_extended}
+use Rattle.cbor_buffer.{specs.declared.draft.Draft.Draft, specs.declared.span.Span.Span, proofs.Written.drop_front}
+use Rattle.cbor_builder.specs.inner.Laid.{shape_open, outer_spans, opens, Takes, IsReady, shape_after, spans_after, KeepsRising, Completed, Stands, IsString, Laid}
+use Rattle.cbor_builder.specs.inner.BuilderState.{Stand, IsLaid, StandsAs, CoreLeaves, standing, frames, outers}
 use Rattle.cbor_builder.proofs.Growth.{given, ended, key_ready, lengthened, finished}
 use Rattle.cbor_builder.proofs.InPlace.{alone, agrees_refl, agrees_longer, agrees_by, waits_stay, waits_refl, outer_agrees, completed_same, ready_same, laid_raw}
-use Rattle.cbor_buffer.proofs.Written.{drop_front}
+use Rattle.cbor_builder.{proofs.Nesting.rooted_given, specs.declared.builder.Core.Core, specs.inner.InPlace.Agrees, specs.inner.InPlace.WaitsSame}
+use Rattle.cbor_builder.specs.declared.frame.{Frame.Frame, Shape.TheVariants.Map}
 
 -- ---- one more member
 

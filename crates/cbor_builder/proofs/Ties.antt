@@ -1,21 +1,16 @@
 -- Pairs with equal keys among sorted spans.
 use Rattle.std.proofs.Common.{◌≡◌, ◌≢◌, ℕ, ◌+◌, ◌-◌, ◌<◌, ◌≤◌, true, false, List, length, get_or, Option, Some, None, min, max, refl, sym, ap, ◌∙◌, subst, arith, inl, inr, ◌⊎◌, IsPermutation, IsSortedBy, IfSome}
 use borrow.Author.Count.{below_more}
-use Rattle.std.specs.List.{swap}
-use Rattle.std.specs.Ordering.{is_lt, ordering_reverse}
-use Rattle.std.specs.declared.cmp.Ordering.{Ordering}
 use Rattle.std.specs.declared.cmp.Ordering.TheVariants.{Less, Equal, Greater}
-use Rattle.std.proofs.lemmas.Bool.{cases_lt, cases_eq}
 use Rattle.std.proofs.lemmas.List.Edits.{Swapped, swapped_from_swap, length-swap}
 use Rattle.std.proofs.lemmas.List.Sorted.{IsPermutation-keeps, ranks_by, sorted_far}
-use Rattle.cbor_head.specs.Prelude.{key_cmp, key_lt}
-use Rattle.cbor_head.specs.declared.order.KeyOrder.{KeyOrder}
+use Rattle.std.specs.{List.swap, Ordering.is_lt, Ordering.ordering_reverse, declared.cmp.Ordering.Ordering}
+use Rattle.std.proofs.lemmas.Bool.{cases_lt, cases_eq}
+use Rattle.cbor_head.specs.{Prelude.key_cmp, Prelude.key_lt, declared.order.KeyOrder.KeyOrder}
 use Rattle.cbor_canonical.proofs.Orders.{key_cmp_total, tied}
-use Rattle.cbor_builder.specs.inner.Front.{key_of}
+use Rattle.cbor_buffer.specs.{Spans.no_span, declared.span.Span.Span}
 use Rattle.cbor_builder.specs.inner.Repeats.{nth, place, AreGrouped, IsTie, HasTie, IsUpTo, IsFirstTie, IsFirstOf, IsLeastOfKey}
-use Rattle.cbor_buffer.specs.Spans.{no_span}
-use Rattle.cbor_buffer.specs.declared.span.Span.{Span}
-use Rattle.cbor_builder.specs.declared.repeats.Tie.{Tie}
+use Rattle.cbor_builder.specs.{inner.Front.key_of, declared.repeats.Tie.Tie}
 
 -- ---- two of a list are found again in another order
 

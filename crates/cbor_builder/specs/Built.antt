@@ -1,11 +1,10 @@
 -- What contracts see of a builder, and when it takes the next part.
 use Rattle.std.specs.Prelude.{ℕ, suc, ◌≡◌, ◌↔◌, ◌<◌, ◌^◌, ◌⊎◌, List, [], ◌∷◌, ◌++◌, length, map, slice_index_or, Option, IsNone, IfSome, Result, OnOk, OnErr, IfOk}
 use Rattle.cbor_head.specs.Prelude.{Value, Entries, HasEntry, Same, Pair}
-use Rattle.cbor_head.specs.declared.order.KeyOrder.{KeyOrder}
-use Rattle.cbor_head.specs.declared.major.Major.{Major}
 use Rattle.cbor_head.specs.declared.major.Major.TheVariants.{Unsigned, Negative, Bytes, Text, Array, Map, Tag, Simple}
-use Rattle.cbor_builder.specs.declared.repeat.Repeat.{Repeat}
+use Rattle.cbor_head.specs.declared.{order.KeyOrder.KeyOrder, major.Major.Major}
 use Rattle.cbor_canonical.specs.Parts.{Open, an_array, a_map, a_key, a_string, HasNoRepeats}
+use Rattle.cbor_builder.specs.declared.repeat.Repeat.{Repeat}
 
 -- the order of keys, and what is open, the innermost first: nothing, from a call that is refused memory until it is as new again
 pub record Built : Type 0 where

@@ -2,15 +2,13 @@
 use Rattle.std.proofs.Common.{◌≡◌, suc, ◌++◌, length, refl, sym, ap, ◌∙◌, subst, flat_map}
 use Rattle.cbor_head.specs.Prelude.{shortest_head, Value, Values, Entries, map, no_values, a_value, HasEntry, Same, SameValues, values_count, AreInRange, AreValid, Pair, in_order, canonical, canonical_all, canonical_entries}
 use Rattle.cbor_head.specs.Value.{unsigned, negative, bytes, text, array, tag, simple, entries_count}
-use Rattle.cbor_head.specs.declared.order.KeyOrder.{KeyOrder}
 use Rattle.cbor_head.specs.declared.major.Major.TheVariants.{Array, Map, Tag}
-use Rattle.cbor_canonical.proofs.Members.{In}
-use Rattle.cbor_canonical.proofs.Sorting.{in_order_same, length-in_order}
+use Rattle.cbor_head.specs.declared.order.KeyOrder.{KeyOrder}
 use Rattle.cbor_canonical.proofs.Induction.{AllOf, AllIn, AllIn-at, by_cases}
 use Rattle.cbor_canonical.proofs.Sound.{IsSound, sound, sound_at}
-use Rattle.cbor_canonical.proofs.Sameness.{SameMaps, same_maps}
-use Rattle.cbor_canonical.specs.Pairs.{pair_bytes}
 use Rattle.cbor_canonical.proofs.Told.{pair_of, pair_in, in_pair, length-canonical_entries, distinct_bytes}
+use Rattle.cbor_canonical.proofs.{Members.In, Sorting.in_order_same, Sorting.length-in_order, Sameness.SameMaps, Sameness.same_maps}
+use Rattle.cbor_canonical.specs.Pairs.{pair_bytes}
 
 abbrev Agrees : KeyOrder → Value → Type 0
 Agrees o v = (w : Value) → IsSound v → IsSound w → Same v w → canonical o v ≡ canonical o w

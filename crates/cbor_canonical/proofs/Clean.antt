@@ -2,19 +2,12 @@
 use Rattle.std.proofs.Common.{◌≡◌, ℕ, ◌+◌, ◌^◌, ◌<◌, List, [], ◌∷◌, length, inl, inr, refl, sym, ap, subst, IsTrue}
 use Rattle.cbor_head.specs.Value as value
 use Rattle.cbor_head.specs.Prelude.{Holds, shortest, Value, Values, Entries, values_count, AreInRange, AreValid, AreEntriesInRange, AreEntriesValid, Spelling, SpelledEntries, no_entries, entry, spell, key_lt, Pair, canonical_entries, strict, Complaint, ComplainsIn, ComplainsInEntries, OfCount, OfKey}
-use Rattle.cbor_head.specs.declared.order.KeyOrder.{KeyOrder}
-use Rattle.cbor_head.specs.declared.major.Major.{Major}
-use Rattle.cbor_head.specs.declared.major.Major.TheVariants.{Array, Map}
-use Rattle.cbor_head.specs.declared.width.Width.{Width}
+use Rattle.cbor_head.specs.declared.{order.KeyOrder.KeyOrder, major.Major.Major, major.Major.TheVariants.Array, major.Major.TheVariants.Map, width.Width.Width}
 use Rattle.cbor_head.specs.declared.width.Width.TheVariants.{Indefinite}
-use Rattle.cbor_canonical.specs.CanonicalSpelling.{IsClean}
-use Rattle.cbor_canonical.specs.Pairs.{IsRising}
-use Rattle.cbor_canonical.proofs.Members.{In}
-use Rattle.cbor_canonical.proofs.Sorting.{rises_at, in_order_rising}
 use Rattle.cbor_canonical.proofs.Induction.{AllOf, AllIn, by_cases}
-use Rattle.cbor_canonical.proofs.Sound.{IsSound, sound}
-use Rattle.cbor_canonical.proofs.Told.{distinct_bytes}
 use Rattle.cbor_canonical.proofs.Normal.{normal, normal_all, normal_entries, pairs, AllSpelled, put_entry-all, pairs-normal, entries_count-normal, spellings_count-normal, Holds-shortest}
+use Rattle.cbor_canonical.{specs.CanonicalSpelling.IsClean, specs.Pairs.IsRising, proofs.Members.In, proofs.Sorting.rises_at, proofs.Sorting.in_order_rising}
+use Rattle.cbor_canonical.proofs.{Sound.IsSound, Sound.sound, Told.distinct_bytes}
 
 count_clean : (o : KeyOrder) (at : ℕ) (m : Major) (w : Width) (n : ℕ) (c : Complaint) → Holds w n → w ≡ shortest n → OfCount (strict o) at m w n c → ⊥
 count_clean o at m Indefinite n c h e x = absurd h

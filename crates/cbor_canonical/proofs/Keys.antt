@@ -1,13 +1,10 @@
 -- Keys that are the same are found by their canonical bytes.
 use Rattle.std.proofs.Common.{◌≡◌, ◌↔◌, sym}
 use Rattle.cbor_head.specs.Prelude.{Value, Entries, HasDistinctKeys, Same, AreEntriesInRange, canonical, canonical_entries}
-use Rattle.cbor_head.specs.Value.{no_entries, entry}
-use Rattle.cbor_head.specs.declared.order.KeyOrder.{KeyOrder}
-use Rattle.cbor_canonical.specs.Pairs.{AreKeysValid, HasDistinctBytes}
-use Rattle.cbor_canonical.proofs.Sorting.{differs_at}
+use Rattle.cbor_head.specs.{Value.no_entries, Value.entry, declared.order.KeyOrder.KeyOrder}
 use Rattle.cbor_canonical.proofs.Sound.{IsSound, sound, key_at}
 use Rattle.cbor_canonical.proofs.Told.{pair_in, pair_of, canonical_injective, distinct_bytes}
-use Rattle.cbor_canonical.proofs.Agreement.{canonical_agrees}
+use Rattle.cbor_canonical.{specs.Pairs.AreKeysValid, specs.Pairs.HasDistinctBytes, proofs.Sorting.differs_at, proofs.Agreement.canonical_agrees}
 
 -- canonical bytes are equal exactly where the values are the same
 pub same_exactly : (o : KeyOrder) (v w : Value) → IsSound v → IsSound w → Same v w ↔ (canonical o v ≡ canonical o w)

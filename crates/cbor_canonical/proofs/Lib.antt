@@ -5,6 +5,7 @@ pub mod Decided
 pub mod Depth
 pub mod Induction
 pub mod Keys
+pub mod Lists
 pub mod Members
 pub mod Normal
 pub mod NormalValue

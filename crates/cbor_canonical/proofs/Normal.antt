@@ -3,10 +3,8 @@ use Rattle.std.proofs.Common.{◌≡◌, ℕ, suc, ◌^◌, ◌<◌, Bool, true,
 use Rattle.std.proofs.lemmas.Bool.{cond_both}
 use Rattle.cbor_head.specs.Value as value
 use Rattle.cbor_head.specs.Prelude.{Holds, shortest, shortest_head, head, Value, Values, Entries, values_count, IsInRange, AreInRange, AreEntriesInRange, Spelling, Spellings, SpelledEntries, unsigned, negative, bytes, text, array, a_map, tag, simple, no_spellings, a_spelling, no_entries, entry, spell, spell_all, spell_entries, spellings_count, entries_count, break_of, IsSpelled, AreSpelled, AreEntriesSpelled, HoldsOrIndefinite, key_lt, Pair, put, in_order, canonical, canonical_all, canonical_entries}
-use Rattle.cbor_head.specs.declared.order.KeyOrder.{KeyOrder}
 use Rattle.cbor_head.specs.declared.major.Major.TheVariants.{Unsigned, Array, Map, Tag}
-use Rattle.cbor_head.specs.declared.width.Width.{Width}
-use Rattle.cbor_head.specs.declared.width.Width.TheVariants.{Eight}
+use Rattle.cbor_head.specs.declared.{order.KeyOrder.KeyOrder, width.Width.Width, width.Width.TheVariants.Eight}
 use Rattle.cbor_head.proofs.Least.{least}
 use Rattle.cbor_grammar.proofs.ReadLaws.{holds_or_open}
 use Rattle.cbor_canonical.proofs.Induction.{AllOf, AllIn, AllIn-every, by_cases}

@@ -1,13 +1,10 @@
 -- The key orders are strict total orders.
 use Rattle.std.proofs.Common.{◌≡◌, ℕ, ◌<◌, List, [], ◌∷◌, length, false, refl, sym, ap, ◌∙◌, IsTrue}
-use Rattle.std.specs.declared.cmp.Ordering.{Ordering}
 use Rattle.std.specs.Ordering.{nat_cmp, is_lt, ordering_then, ordering_reverse, MatchOrdering}
 use Rattle.std.specs.declared.cmp.Ordering.TheVariants.{Less, Equal, Greater}
-use Rattle.std.specs.Cmp.{IsTotalOrder}
-use Rattle.std.specs.Cmp.Lexicographic.{slice_cmp}
 use Rattle.std.proofs.lemmas.Cmp.{nat_list_cmp_total, nat_cmp_total, on_total, then_total, tied_itself, ranked}
-use Rattle.cbor_head.specs.Prelude.{key_cmp, key_lt}
-use Rattle.cbor_head.specs.declared.order.KeyOrder.{KeyOrder}
+use Rattle.std.specs.{declared.cmp.Ordering.Ordering, Cmp.IsTotalOrder, Cmp.Lexicographic.slice_cmp}
+use Rattle.cbor_head.specs.{Prelude.key_cmp, Prelude.key_lt, declared.order.KeyOrder.KeyOrder}
 use Rattle.cbor_head.specs.declared.order.KeyOrder.TheVariants.{Bytewise, LengthFirst}
 
 pub key_cmp_total : (o : KeyOrder) → IsTotalOrder (key_cmp o)

@@ -3,17 +3,12 @@
 use Rattle.std.proofs.Common.{◌≡◌, ℕ, ◌+◌, ◌≤◌, List, [], ◌∷◌, length, inl, inr, refl, sym, ap, ◌∙◌, subst, arith, IsTrue, true≢false}
 use Rattle.std.proofs.lemmas.Bool.{true_from_ne_false}
 use Rattle.cbor_head.specs.Prelude.{key_lt, Chunk, Spelling, Spellings, SpelledEntries, unsigned, negative, bytes, text, byte_chunks, text_chunks, array, a_map, tag, simple, no_spellings, a_spelling, no_entries, entry, spell, spellings_count, entries_count, value_of, IsSpelled, AreSpelled, AreEntriesSpelled, plain, strict, Complaint, Complains, ComplainsIn, ComplainsInEntries, OfHead, OfIndefinite, OfCount, OfChunks, OfKey, distinct, rising, IsRepeated}
-use Rattle.cbor_head.specs.declared.order.KeyOrder.{KeyOrder}
-use Rattle.cbor_head.specs.declared.major.Major.{Major}
 use Rattle.cbor_head.specs.declared.major.Major.TheVariants.{Unsigned, Negative, Bytes, Text, Array, Map, Tag}
-use Rattle.cbor_head.specs.declared.width.Width.{Width}
-use Rattle.cbor_head.specs.declared.width.Width.TheVariants.{Indefinite}
 use Rattle.cbor_head.specs.declared.reason.Reason.TheVariants.{InvalidText, NotShortest, Indefinite as IndefiniteReason, KeyOrder as KeyOrderReason}
+use Rattle.cbor_head.specs.declared.{order.KeyOrder.KeyOrder, major.Major.Major, width.Width.Width, width.Width.TheVariants.Indefinite}
 use Rattle.cbor_grammar.proofs.Ends.{chunks_later, key_end, later_entries}
 use Rattle.cbor_grammar.proofs.OneFirst.{bounded}
-use Rattle.cbor_canonical.proofs.Keys.{same_exactly}
-use Rattle.cbor_canonical.proofs.Orders.{lt_irrefl, lt_trans}
-use Rattle.cbor_canonical.proofs.Strict.{IsStrict, strict_spelling}
+use Rattle.cbor_canonical.proofs.{Keys.same_exactly, Orders.lt_irrefl, Orders.lt_trans, Strict.IsStrict, Strict.strict_spelling}
 
 -- ---- what the plain rules ask of heads: nothing
 

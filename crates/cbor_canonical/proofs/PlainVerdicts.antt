@@ -2,14 +2,9 @@
 use Rattle.std.proofs.Common.{◌≡◌, ◌⊎◌, ℕ, ◌<◌, ◌≤◌, List, length, inl, inr, refl, ap, subst, arith}
 use Rattle.std.proofs.lemmas.Bool.{cases_lt}
 use Rattle.cbor_head.specs.Prelude.{Bounds, Spelling, IsSpelled, plain, strict, Complaint, Complains, IsComplaint, rank, IsFirstOf, HasNoneOf, accepted, refused, IsVerdict}
-use Rattle.cbor_head.specs.declared.order.KeyOrder.{KeyOrder}
-use Rattle.cbor_head.specs.declared.reason.Reason.{Reason}
-use Rattle.cbor_head.specs.declared.reason.Reason.TheVariants.{InvalidText}
-use Rattle.cbor_head.specs.declared.reason.Refusal.{Refusal}
-use Rattle.cbor_grammar.proofs.Complaints.{kind_rank}
-use Rattle.cbor_grammar.proofs.Reasons.{each_complaint, ranked}
-use Rattle.cbor_canonical.specs.StrictReasons.{IsStrictReason}
-use Rattle.cbor_canonical.proofs.PlainRules.{none_plainly, plainly}
+use Rattle.cbor_head.specs.declared.{order.KeyOrder.KeyOrder, reason.Reason.Reason, reason.Reason.TheVariants.InvalidText, reason.Refusal.Refusal}
+use Rattle.cbor_grammar.proofs.{Complaints.kind_rank, Reasons.each_complaint, Reasons.ranked}
+use Rattle.cbor_canonical.{specs.StrictReasons.IsStrictReason, proofs.PlainRules.none_plainly, proofs.PlainRules.plainly}
 
 module _ (limits : Bounds) (o : KeyOrder) (s : Spelling) (spelled : IsSpelled s) where
   pub none_of_plain : (t : ℕ) → HasNoneOf (IsComplaint limits (strict o) s) t → HasNoneOf (IsComplaint limits plain s) t

@@ -1,12 +1,12 @@
 -- Insertion sort of pairs: the one strictly rising list with the same members.
 use Rattle.std.proofs.Common.{◌≡◌, ℕ, suc, Bool, true, false, List, [], ◌∷◌, length, ◌⊎◌, inl, inr, refl, sym, ap, ◌∙◌, subst, IsTrue, if◌then◌else◌}
-use Rattle.std.specs.List.Sorted.{IsPermutation}
 use Rattle.std.proofs.lemmas.List.Sorted.{IsPermutation-refl, IsPermutation-sym, IsPermutation-trans, IsPermutation-cons, IsPermutation-middle}
+use Rattle.std.specs.List.Sorted.{IsPermutation}
 use Rattle.cbor_head.specs.Prelude.{key_lt, Pair, put, in_order}
 use Rattle.cbor_head.specs.declared.order.KeyOrder.{KeyOrder}
-use Rattle.cbor_canonical.specs.Pairs.{IsRising, HasDistinctBytes}
 use Rattle.cbor_canonical.proofs.Members.{In, all_at, all_from}
 use Rattle.cbor_canonical.proofs.Orders.{lt_irrefl, lt_trans, lt_other}
+use Rattle.cbor_canonical.specs.Pairs.{IsRising, HasDistinctBytes}
 
 pub rises_at : (o : KeyOrder) (p : Pair) (ps : List Pair) → IsRising o (p ∷ ps) → (q : Pair) → In q ps → IsTrue (key_lt o p.key q.key)
 rises_at o p ps u q m = all_at (λ (r : Pair). IsTrue (key_lt o p.key r.key)) ps q u.0 m

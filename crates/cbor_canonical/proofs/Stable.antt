@@ -1,9 +1,8 @@
 -- What is decided, and so follows where its negation fails.
 use Rattle.std.proofs.Common.{◌≡◌, ◌≢◌, ℕ, List, refl, sym, ◌∙◌, IsUtf8, true≢false}
-use Rattle.std.proofs.lemmas.Bool.{true_from_ne_false}
-use Rattle.std.proofs.lemmas.Str.{IsUtf8-from_is_utf8, is_utf8-from_IsUtf8}
-use Rattle.cbor_head.specs.declared.width.Width.{Width}
+use Rattle.std.proofs.lemmas.{Bool.true_from_ne_false, Str.IsUtf8-from_is_utf8, Str.is_utf8-from_IsUtf8}
 use Rattle.cbor_head.specs.declared.width.Width.TheVariants.{Direct, One, Two, Four, Eight, Indefinite}
+use Rattle.cbor_head.specs.declared.width.Width.{Width}
 
 pub width_stable : (a b : Width) → ((a ≢ b) → ⊥) → a ≡ b
 width_stable Direct Direct n = refl

@@ -3,20 +3,14 @@ use Rattle.std.proofs.Common.{◌≡◌, ℕ, ◌+◌, ◌^◌, ◌<◌, List, [
 use Rattle.std.proofs.lemmas.Bool.{true_from_ne_false}
 use Rattle.cbor_head.specs.Value as value
 use Rattle.cbor_head.specs.Prelude.{shortest, shortest_head, head, values_count, AreInRange, AreValid, AreEntriesInRange, AreEntriesValid, Spelling, Spellings, SpelledEntries, unsigned, negative, bytes, text, byte_chunks, text_chunks, array, a_map, tag, simple, no_spellings, a_spelling, no_entries, entry, spell, spell_all, spell_entries, spellings_count, entries_count, break_of, value_of, values_of, entries_of, IsSpelled, AreSpelled, AreEntriesSpelled, HoldsOrIndefinite, key_lt, Pair, in_order, canonical, canonical_all, canonical_entries, strict, Complaint, Complains, ComplainsIn, ComplainsInEntries, OfHead, OfCount}
-use Rattle.cbor_head.specs.declared.order.KeyOrder.{KeyOrder}
-use Rattle.cbor_head.specs.declared.major.Major.{Major}
 use Rattle.cbor_head.specs.declared.major.Major.TheVariants.{Unsigned, Negative, Bytes, Text, Array, Map, Tag}
-use Rattle.cbor_head.specs.declared.width.Width.{Width}
-use Rattle.cbor_head.specs.declared.width.Width.TheVariants.{Indefinite}
+use Rattle.cbor_head.specs.declared.{order.KeyOrder.KeyOrder, major.Major.Major, width.Width.Width, width.Width.TheVariants.Indefinite}
 use Rattle.cbor_grammar.proofs.Counts.{holds_fits, values_count-of, entries_count-of}
-use Rattle.cbor_canonical.specs.Pairs.{IsRising, pair_bytes}
-use Rattle.cbor_canonical.proofs.Members.{In}
-use Rattle.cbor_canonical.proofs.Orders.{lt_trans}
 use Rattle.cbor_canonical.proofs.Sorting.{rising_cons, rising_distinct, in_order-rising}
-use Rattle.cbor_canonical.proofs.Stable.{width_stable, utf8_stable}
 use Rattle.cbor_canonical.proofs.Sound.{IsSound, sound, valid_apart}
-use Rattle.cbor_canonical.proofs.Keys.{distinct_from_bytes}
 use Rattle.cbor_canonical.proofs.Normal.{pairs, spell_entries-pairs, break_of-shortest}
+use Rattle.cbor_canonical.{specs.Pairs.IsRising, specs.Pairs.pair_bytes, proofs.Members.In, proofs.Orders.lt_trans}
+use Rattle.cbor_canonical.proofs.{Stable.width_stable, Stable.utf8_stable, Keys.distinct_from_bytes}
 
 -- ---- spelled pairs without complaint
 

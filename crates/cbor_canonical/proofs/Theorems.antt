@@ -3,12 +3,9 @@ use Rattle.std.proofs.Common.{◌≡◌, ℕ, List, [], ◌++◌, sym, ap, ◌�
 use Rattle.cbor_head.specs.Prelude.{Value, IsInRange, IsValid, Spelling, spell, value_of, IsSpelled, canonical, strict, Complaint, Complains}
 use Rattle.cbor_head.specs.declared.order.KeyOrder.{KeyOrder}
 use Rattle.cbor_grammar.proofs.ReadLaws.{unique}
-use Rattle.cbor_canonical.specs.CanonicalSpelling.{IsCanonicalSpelling}
-use Rattle.cbor_canonical.proofs.Sound.{IsSound, sound}
 use Rattle.cbor_canonical.proofs.Normal.{normal, spell-normal, IsSpelled-normal}
-use Rattle.cbor_canonical.proofs.NormalValue.{value_of-normal, depth-normal}
-use Rattle.cbor_canonical.proofs.Agreement.{canonical_agrees}
-use Rattle.cbor_canonical.proofs.Clean.{IsClean-normal}
+use Rattle.cbor_canonical.{specs.CanonicalSpelling.IsCanonicalSpelling, proofs.Sound.IsSound, proofs.Sound.sound}
+use Rattle.cbor_canonical.proofs.{NormalValue.value_of-normal, NormalValue.depth-normal, Agreement.canonical_agrees, Clean.IsClean-normal}
 use Rattle.cbor_canonical.proofs.Strict.{strict_spelling}
 
 normal_is_canonical : (o : KeyOrder) (v : Value) → IsSound v → IsCanonicalSpelling o v (normal o v)

@@ -4,12 +4,9 @@ use Rattle.cbor_head.specs.Prelude.{Value, Entries, HasEntry, HasDistinctKeys, S
 use Rattle.cbor_head.specs.Value.{no_entries, entry, entries_count}
 use Rattle.cbor_head.specs.declared.order.KeyOrder.{KeyOrder}
 use Rattle.cbor_grammar.proofs.ReadLaws.{unique}
-use Rattle.cbor_canonical.specs.Pairs.{HasDistinctBytes}
-use Rattle.cbor_canonical.proofs.Members.{In, all_from}
-use Rattle.cbor_canonical.proofs.Sound.{ranges_at}
-use Rattle.cbor_canonical.proofs.Sameness.{Same-sym, Same-trans}
 use Rattle.cbor_canonical.proofs.Normal.{normal, spell-normal, IsSpelled-normal}
-use Rattle.cbor_canonical.proofs.NormalValue.{value_of-normal}
+use Rattle.cbor_canonical.{specs.Pairs.HasDistinctBytes, proofs.Members.In, proofs.Members.all_from, proofs.Sound.ranges_at}
+use Rattle.cbor_canonical.proofs.{Sameness.Same-sym, Sameness.Same-trans, NormalValue.value_of-normal}
 
 -- of bytes with rests that are equal, in whichever orders, the values are the same, and the rests equal
 pub record IsTold (o p : KeyOrder) (v w : Value) (x y : List ℕ) : Type 0 where

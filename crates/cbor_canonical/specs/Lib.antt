@@ -1,4 +1,5 @@
 pub mod CanonicalSpelling
+pub mod Lists
 pub mod Pairs
 pub mod Parts
 pub mod StrictReasons

@@ -2,8 +2,7 @@
 use Rattle.std.specs.Prelude.{ℕ, ◌≢◌, ◌++◌, IsTrue, List, [], ◌∷◌}
 use Rattle.std.specs.List.{AllByRecursion}
 use Rattle.cbor_head.specs.Prelude.{key_lt, Pair, Entries, IsValid}
-use Rattle.cbor_head.specs.declared.order.KeyOrder.{KeyOrder}
-use Rattle.cbor_head.specs.Value.{no_entries, entry}
+use Rattle.cbor_head.specs.{declared.order.KeyOrder.KeyOrder, Value.no_entries, Value.entry}
 
 -- the bytes of a pair: its key, and its value behind it
 abbrev pub pair_bytes : Pair → List ℕ

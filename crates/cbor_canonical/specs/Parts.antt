@@ -2,10 +2,8 @@
 use Rattle.std.specs.Prelude.{ℕ, suc, ◌≡◌, ◌++◌, List, [], ◌∷◌, length, flat_map}
 use Rattle.cbor_head.specs.Value as value
 use Rattle.cbor_head.specs.Prelude.{shortest_head, Value, Values, Entries, Pair, in_order}
-use Rattle.cbor_head.specs.Value.{no_entries, entry}
-use Rattle.cbor_head.specs.declared.order.KeyOrder.{KeyOrder}
-use Rattle.cbor_head.specs.declared.major.Major.{Major}
 use Rattle.cbor_head.specs.declared.major.Major.TheVariants.{Unsigned, Negative, Bytes, Text, Array, Map, Tag, Simple}
+use Rattle.cbor_head.specs.{Value.no_entries, Value.entry, declared.order.KeyOrder.KeyOrder, declared.major.Major.Major}
 use Rattle.cbor_canonical.specs.Pairs.{pair_bytes, HasDistinctBytes}
 
 -- What is open, with the canonical bytes of its finished members. A map has its pairs as they came, equal keys too.

@@ -5,8 +5,7 @@ use Rattle.cbor_head.specs.Prelude.{Value, Values, Entries}
 use Rattle.cbor_diag.specs.Text.{text, texts, pair_texts, joined}
 use Rattle.cbor_diag.specs.IndentedText.{new_line, lines, indented, indented_texts, indented_pairs}
 use Rattle.cbor_diag.specs.inner.Layout.{laid_out, laid_pairs, laid_texts, rows, shown}
-use Rattle.cbor_diag.specs.declared.layout.Layout.{Layout}
-use Rattle.cbor_diag.specs.declared.layout.Layout.TheVariants.{OneLine, Indented}
+use Rattle.cbor_diag.specs.declared.layout.Layout.{Layout, TheVariants.OneLine, TheVariants.Indented}
 
 -- ---- on one line
 

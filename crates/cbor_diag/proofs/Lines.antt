@@ -3,9 +3,7 @@ use Rattle.std.proofs.Common.{◌≡◌, ℕ, ◌<◌, List, [], ◌∷◌, ◌+
 use Rattle.std.proofs.lemmas.Grind.{flat_map-append}
 use Rattle.cbor_head.specs.declared.width.Width.{Width}
 use Rattle.cbor_automaton.specs.Event.{event, joined_with, piece_onto, kind_onto, onto, joined}
-use Rattle.cbor_automaton.specs.declared.event.Event.{Event}
-use Rattle.cbor_automaton.specs.declared.event.EventKind.{EventKind}
-use Rattle.cbor_automaton.specs.declared.event.EventKind.TheVariants.{Piece}
+use Rattle.cbor_automaton.specs.declared.event.{Event.Event, EventKind.EventKind, EventKind.TheVariants.Piece}
 use Rattle.cbor_diag.specs.Listing.{line, lines}
 
 pub lines-more : (start : ℕ) (es : List Event) (e : Event) → lines start (es ++ e ∷ []) ≡ lines start es ++ line start e

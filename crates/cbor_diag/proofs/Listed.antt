@@ -1,30 +1,19 @@
 -- What a listing has written so far, and what it answers.
 use Rattle.std.proofs.Common.{◌≡◌, ℕ, ◌+◌, ◌-◌, ◌^◌, ◌<◌, ◌≤◌, ◌⊎◌, min, List, [], ◌∷◌, ◌++◌, length, take, drop, Option, Some, None, refl, sym, ap, ◌∙◌, subst, inl, inr, arith, append_assoc, append-nil, length-append, take-append-drop, length-take-le}
-use Rattle.std.proofs.lemmas.List.{take_at}
-use Rattle.std.specs.Option.{IfSome}
 use Rattle.std.specs.Io.KnownBytes.{Consumes, Appends, IsAtEnd}
 use Rattle.std.proofs.KnownBytes.{Consumes-nil, Consumes-trans, Appends-nil, Appends-trans}
+use Rattle.std.{proofs.lemmas.List.take_at, specs.Option.IfSome}
 use lib.Seq.{drop-append_seam}
 use Rattle.cbor_head.specs.Prelude.{Bounds, bounds, Spelling, spell, IsItem, form, refusal, accepted, refused, IsVerdict}
-use Rattle.cbor_head.specs.declared.width.Width.{Width}
 use Rattle.cbor_head.specs.declared.reason.Reason.TheVariants.{Read, Write, Truncated}
-use Rattle.cbor_head.specs.declared.reason.Refusal.{Refusal}
-use Rattle.cbor_grammar.proofs.Accepted.{accepts_exactly}
-use Rattle.cbor_grammar.proofs.KindsUnasked.{form_beside}
-use Rattle.cbor_grammar.proofs.ReadLaws.{unique}
-use Rattle.cbor_automaton.specs.Trace.{Mark, total}
-use Rattle.cbor_automaton.specs.Marks.{marks_of, IsProper}
-use Rattle.cbor_automaton.specs.Event.{joined, AreTold}
-use Rattle.cbor_standing.specs.Machine.{StandsFor, before}
-use Rattle.cbor_standing.specs.MachineView.{MachineView}
-use Rattle.cbor_standing.specs.NextEvent.{machine_call, StandsBetween, IsNextEvent, IsEnd, IsCut, IsTooLong, HasFormError}
-use Rattle.cbor_automaton.specs.declared.event.Event.{Event}
-use Rattle.cbor_automaton.specs.declared.event.EventKind.{EventKind}
-use Rattle.cbor_automaton.specs.declared.event.EventKind.TheVariants.{Piece}
-use Rattle.cbor_standing.proofs.Form.{complete-verdict}
-use Rattle.cbor_automaton.proofs.Joining.{bytes-total}
+use Rattle.cbor_head.specs.declared.{width.Width.Width, reason.Refusal.Refusal}
+use Rattle.cbor_grammar.proofs.{Accepted.accepts_exactly, KindsUnasked.form_beside, ReadLaws.unique}
+use Rattle.cbor_automaton.specs.{Trace.Mark, Trace.total, Marks.marks_of, Marks.IsProper, Event.joined, Event.AreTold, declared.event.Event.Event}
+use Rattle.cbor_automaton.{specs.declared.event.EventKind.EventKind, specs.declared.event.EventKind.TheVariants.Piece, proofs.Joining.bytes-total}
 use Rattle.cbor_automaton.proofs.Rows.{total-append}
+use Rattle.cbor_standing.specs.NextEvent.{machine_call, StandsBetween, IsNextEvent, IsEnd, IsCut, IsTooLong, HasFormError}
 use Rattle.cbor_standing.proofs.Told.{told-none, told-joined, next-more, next-all}
+use Rattle.cbor_standing.{specs.Machine.StandsFor, specs.Machine.before, specs.MachineView.MachineView, proofs.Form.complete-verdict}
 use Rattle.cbor_judging.specs.Readers.{Loses}
 use Rattle.cbor_diag.specs.Listing.{line, lines, IsListing, IsStopped, IsListed, IsUnlisted, of_verdict, of_reader, of_writer}
 use Rattle.cbor_diag.proofs.Lines.{lines-more, lines-joined, has-line, joined-last}

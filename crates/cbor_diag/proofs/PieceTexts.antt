@@ -1,15 +1,11 @@
 -- The texts of what holds no other items.
 use Rattle.std.proofs.Common.{◌≡◌, ℕ, ◌+◌, ◌-◌, ◌*◌, ◌/◌, ◌%◌, ◌<◌, ◌≤◌, Bool, true, false, ◌||◌, cond, List, [], ◌∷◌, ◌++◌, length, take, drop, replicate, flat_map, codes, decimal, Option, Result, refl, sym, ap, ◌∙◌, subst, append_assoc, append-nil, take-append-drop, arith, get_or, eqb, ltb, ne_eqb, take_all, get_or-drop, length-drop, take-add}
-use Rattle.std.proofs.lemmas.Bool.{or_from}
-use Rattle.std.proofs.lemmas.List.{take-replicate, take_more}
-use Rattle.std.proofs.lemmas.List.Concat.{flat_map-append}
+use Rattle.std.proofs.lemmas.{Bool.or_from, List.take-replicate, List.take_more, List.Concat.flat_map-append}
 use Rattle.hex.specs.Hex.{encode_with, encode_lower, lower_digits}
 use Rattle.cbor_head.specs.declared.limits.TheConstants.{MAX_DEPTH}
 use Rattle.cbor_diag.specs.inner.Outbox.{HasPut, HasStopped, Puts}
-use Rattle.cbor_diag.specs.Text.{escaped, simple_text}
-use Rattle.cbor_diag.specs.declared.outbox.Outbox.{Outbox}
-use Rattle.cbor_diag.specs.declared.outbox.Stopped.{Stopped}
 use Rattle.cbor_diag.proofs.Putting.{puts-next, puts-then, puts-stops, stops-more}
+use Rattle.cbor_diag.specs.{Text.escaped, Text.simple_text, declared.outbox.Outbox.Outbox, declared.outbox.Stopped.Stopped}
 
 pub spaces-front : (level n : ℕ) → n ≡ level → level ≤ MAX_DEPTH → take {A = ℕ} (2 * n) (replicate (2 * MAX_DEPTH) 32) ≡ replicate (2 * level) 32
 spaces-front level n e few = rw e (take-replicate (2 * level) (2 * MAX_DEPTH) 32 (omega arith))

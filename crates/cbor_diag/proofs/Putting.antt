@@ -2,13 +2,10 @@
 use Rattle.std.proofs.Common.{◌≡◌, ℕ, ◌+◌, ◌<◌, List, [], ◌++◌, length, take, drop, Option, Bool, false, Result, Ok, Err, sym, ap, ◌∙◌, subst, append_assoc, append-nil, length-append, length-drop, take-append-drop, arith, length-take-le, MatchResult}
 use Rattle.std.specs.Result.{OnErr, is_ok}
 use lib.Seq.{take-append_seam}
-use Rattle.std.specs.Io.KnownBytes.{Appends}
-use Rattle.std.proofs.KnownBytes.{Appends-nil, Appends-trans}
-use Rattle.cbor_diag.specs.declared.outbox.Stopped.{Stopped}
+use Rattle.std.{specs.Io.KnownBytes.Appends, proofs.KnownBytes.Appends-nil, proofs.KnownBytes.Appends-trans}
 use Rattle.cbor_item.specs.Sent.{stopped_at}
-use Rattle.cbor_diag.specs.Written.{capped, Writes}
 use Rattle.cbor_diag.specs.inner.Outbox.{HasPut, HasStopped, Puts}
-use Rattle.cbor_diag.specs.declared.outbox.Outbox.{Outbox}
+use Rattle.cbor_diag.specs.{declared.outbox.Stopped.Stopped, Written.capped, Written.Writes, declared.outbox.Outbox.Outbox}
 
 -- what was taken, and then the rest of it
 regroup : (took more waits w xs ys : List ℕ) (mid : List ℕ) → took ++ mid ≡ w ++ xs → more ++ waits ≡ mid ++ ys → (took ++ more) ++ waits ≡ w ++ (xs ++ ys)

@@ -4,15 +4,12 @@ use Rattle.std.proofs.lemmas.Bool.{cond-false}
 use Rattle.hex.specs.Hex.{encode_lower}
 use Rattle.cbor_head.specs.Value as value
 use Rattle.cbor_head.specs.Prelude.{Value, Values, Entries, IsInRange, AreInRange, AreEntriesInRange}
-use Rattle.cbor_diag.specs.Text.{text, escaped}
-use Rattle.cbor_diag.specs.IndentedText.{new_line, indented}
-use Rattle.cbor_diag.specs.Follows.{Ends}
 use Rattle.cbor_diag.specs.inner.Layout.{gap, end, laid_out, laid_pairs, laid_texts, rows}
-use Rattle.cbor_diag.specs.declared.layout.Layout.{Layout}
-use Rattle.cbor_diag.specs.declared.layout.Layout.TheVariants.{OneLine, Indented}
 use Rattle.cbor_diag.proofs.Reading.{rest, Pass, Stands, rest-all, first}
-use Rattle.cbor_diag.proofs.Layouts.{one-line, on-lines}
 use Rattle.cbor_diag.proofs.ReadLeaves.{Begins, Read, begins, blank, bytes-back, closes, closes-pairs, got, negative-back, read, read_members, read_pairs, simple-back, size, size_all, size_entries, tag-back, tag_joined, text-back, unsigned-back, with-key, with-value}
+use Rattle.cbor_diag.specs.{Text.text, Text.escaped, IndentedText.new_line, IndentedText.indented, Follows.Ends, declared.layout.Layout.Layout}
+use Rattle.cbor_diag.specs.declared.layout.Layout.TheVariants.{OneLine, Indented}
+use Rattle.cbor_diag.proofs.Layouts.{one-line, on-lines}
 
 -- ---- between members
 

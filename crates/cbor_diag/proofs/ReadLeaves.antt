@@ -1,15 +1,12 @@
 -- A reader of texts in either layout, how texts begin, and what it reads of leaves.
 use Rattle.std.proofs.Common.{◌≡◌, ℕ, zero, suc, ◌+◌, ◌-◌, ◌^◌, ◌<◌, ◌≤◌, Bool, true, false, cond, List, [], ◌∷◌, ◌++◌, length, drop, flat_map, codes, decimal, eqb, refl, sym, ap, ◌∙◌, subst, append_assoc, ◌||◌, arith, eqb-true, ne_eqb}
-use Rattle.std.proofs.lemmas.Bool.{cond-true, cond-false}
-use Rattle.std.specs.Str.Parse.{digits_value}
+use Rattle.std.{proofs.lemmas.Bool.cond-true, proofs.lemmas.Bool.cond-false, specs.Str.Parse.digits_value}
 use Rattle.hex.specs.Hex.{encode_lower, decode_of, is_hex_digit}
 use Rattle.cbor_head.specs.Value as value
 use Rattle.cbor_head.specs.Prelude.{Value, Values, Entries, IsInRange}
-use Rattle.cbor_diag.specs.Text.{escaped, simple_text}
-use Rattle.cbor_diag.specs.Follows.{Ends}
 use Rattle.cbor_diag.specs.inner.Layout.{laid_out, laid_pairs, laid_texts, rows}
-use Rattle.cbor_diag.specs.declared.layout.Layout.{Layout}
 use Rattle.cbor_diag.proofs.Reading.{front, rest, Pass, Stands, front-all, rest-all, digit, decimals, digit-range, no-digit, decoded, decoded-back, hex-pass, first, unquoted, unquoted-back}
+use Rattle.cbor_diag.specs.{Text.escaped, Text.simple_text, Follows.Ends, declared.layout.Layout.Layout}
 
 abbrev pub Read : Type 0
 Read = Value × List ℕ

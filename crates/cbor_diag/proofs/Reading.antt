@@ -1,14 +1,9 @@
 -- Texts read back, so that they tell their values. It reads more than texts: only texts matter.
 use Rattle.std.proofs.Common.{◌≡◌, ℕ, zero, suc, ◌/◌, ◌%◌, ◌^◌, ◌<◌, ◌≤◌, Bool, true, false, cond, List, [], ◌∷◌, ◌++◌, length, get_or, flat_map, codes, decimal, Result, Ok, Err, is_some, ◌⊎◌, inl, inr, eqb, ltb, refl, sym, ap, ◌∙◌, subst, arith, lt-ltb, ltb-true, eqb-true}
-use Rattle.std.proofs.lemmas.Bool.{cases_Bool}
-use Rattle.std.specs.List.{AllByRecursion}
-use Rattle.std.specs.Char.{digit_value}
-use Rattle.std.specs.Str.Parse.{digits_value, AllDigits}
-use Rattle.std.proofs.lemmas.Fmt.{decimal_is_IsNumeral_wide}
-use Rattle.std.proofs.lemmas.Str.Parse.{digit_from_value}
+use Rattle.std.{proofs.lemmas.Bool.cases_Bool, specs.List.AllByRecursion, specs.Char.digit_value, specs.Str.Parse.digits_value, specs.Str.Parse.AllDigits}
+use Rattle.std.proofs.lemmas.{Fmt.decimal_is_IsNumeral_wide, Str.Parse.digit_from_value}
 use Rattle.hex.specs.Hex.{encode_with, encode_lower, lower_digits, decode_of, is_hex_digit}
-use Rattle.hex.proofs.HexLemmas.{decode_of-encode_lower, IsDigits-lower_digits}
-use Rattle.hex.specs.declared.error.FromHexError.{FromHexError}
+use Rattle.hex.{proofs.HexLemmas.decode_of-encode_lower, proofs.HexLemmas.IsDigits-lower_digits, specs.declared.error.FromHexError.FromHexError}
 use Rattle.cbor_head.specs.Prelude.{AreBytes}
 use Rattle.cbor_diag.specs.Text.{escaped}
 

@@ -1,22 +1,17 @@
 -- A sink that writes the text of the parts that it is given: where it stands behind each.
 use Rattle.std.proofs.Common.{◌≡◌, ℕ, zero, suc, ◌<◌, Bool, true, false, List, [], ◌∷◌, ◌++◌, codes, decimal, Option, Some, None, length, refl, sym, ap, ap₂, ◌∙◌, append_assoc, append-nil, length-append, inl, inr, arith, IsSome, option_to_list}
-use Rattle.std.proofs.lemmas.List.{flat_map_more, same_from_push}
-use Rattle.std.proofs.lemmas.List.Concat.{flat_map-append}
+use Rattle.std.proofs.lemmas.List.{flat_map_more, same_from_push, Concat.flat_map-append}
 use Rattle.hex.specs.Hex.{encode_with, lower_digits}
 use Rattle.cbor_head.specs.Prelude.{Spelling, Spellings, SpelledEntries, array, a_map, no_spellings, a_spelling, no_entries, entry, value_of, values_of, entries_of, Value}
-use Rattle.cbor_head.specs.declared.major.Major.{Major}
 use Rattle.cbor_head.specs.declared.major.Major.TheVariants as majors
-use Rattle.cbor_judging.specs.Frame.{with_all, with_entries}
+use Rattle.cbor_head.specs.declared.major.Major.{Major}
 use Rattle.cbor_judging.specs.Levels.{Level, IsOpened, a_member, a_value, some_member, some_key, some_value, tagged, item_due, item_full, settle}
-use Rattle.cbor_judging.specs.Reading.{string_value}
-use Rattle.cbor_judging.proofs.Levels.{of-opened}
+use Rattle.cbor_judging.{specs.Frame.with_all, specs.Frame.with_entries, specs.Reading.string_value, proofs.Levels.of-opened}
 use Rattle.cbor_walk.specs.Sink.{Told, IsEndedAs, StandsFull, IsContainerFull, Gives, Opens, Ends, BeginsString, GrowsString, EndsString}
 use Rattle.cbor_diag.specs.Text.{text, texts, pair_texts, joined, escaped}
-use Rattle.cbor_diag.specs.declared.text_sink.Open.{Open}
-use Rattle.cbor_diag.specs.declared.text_sink.TextSink.{TextSink}
-use Rattle.cbor_diag.specs.inner.Outbox.{HasPut}
 use Rattle.cbor_diag.specs.inner.Strings.{opening, content_text, closing, string_text}
 use Rattle.cbor_diag.specs.inner.TextSinks.{opener, closer, an_open, are_none, comma, text_in, open_of, entered_of, before, text_to, inner_in, around_in, IsAt, IsWithin, text_stands, text_holds, Reaches}
+use Rattle.cbor_diag.specs.{declared.text_sink.Open.Open, declared.text_sink.TextSink.TextSink, inner.Outbox.HasPut}
 use Rattle.cbor_diag.proofs.PieceTexts.{encode-append}
 
 -- ---- what is put

@@ -2,17 +2,13 @@
 use Rattle.std.specs.Prelude.{◌≡◌, ℕ, ◌+◌, ◌<◌, ◌++◌, List, [], ◌∷◌, length, take, flat_map, Option, Some, None, codes, decimal}
 use Rattle.std.specs.Io.KnownBytes.{Appends}
 use Rattle.cbor_head.specs.Prelude.{Bounds, Spelling, IsItem, spell, IsBeginning, form, refusal, accepted, refused, IsVerdict}
-use Rattle.cbor_head.specs.declared.reason.Reason.{Reason}
 use Rattle.cbor_head.specs.declared.reason.Reason.TheVariants.{Read, Write, Truncated}
-use Rattle.cbor_head.specs.declared.reason.Refusal.{Refusal}
-use Rattle.cbor_head.specs.declared.width.Width.{Width}
 use Rattle.cbor_head.specs.declared.width.Width.TheVariants.{Direct, One, Two, Four, Eight, Indefinite}
-use Rattle.cbor_diag.specs.Written.{capped}
+use Rattle.cbor_head.specs.declared.{reason.Reason.Reason, reason.Refusal.Refusal, width.Width.Width}
 use Rattle.cbor_automaton.specs.Event.{events, event_size, cut}
-use Rattle.cbor_automaton.specs.Reasons.{IsEventReason}
-use Rattle.cbor_automaton.specs.declared.event.Event.{Event}
-use Rattle.cbor_automaton.specs.declared.event.EventKind.{EventKind}
 use Rattle.cbor_automaton.specs.declared.event.EventKind.TheVariants.{Unsigned, Negative, Simple, Bytes, Text, Chunk, Piece, Array, Map, Tag, End}
+use Rattle.cbor_automaton.specs.{Reasons.IsEventReason, declared.event.Event.Event, declared.event.EventKind.EventKind}
+use Rattle.cbor_diag.specs.Written.{capped}
 
 -- the name of an event, and the argument of its head if it has one; a piece has no line
 -- (RFC 8949, section 3)

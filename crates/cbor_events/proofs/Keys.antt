@@ -1,41 +1,29 @@
 -- The kind of a key, by its first byte.
 use Rattle.std.proofs.Common.{◌≡◌, ◌≢◌, ℕ, zero, ◌+◌, ◌-◌, ◌*◌, ◌/◌, ◌<◌, ◌≤◌, ◌⊎◌, true, false, inl, inr, List, [], ◌∷◌, ◌++◌, length, take, drop, refl, sym, ap, subst, ◌∙◌, arith, append-nil, length-append, slice_index_or, IsTrue, Option, Some, None, Result, Ok, Err, min}
-use Rattle.std.proofs.lemmas.Bool.{cases_lt}
-use Rattle.std.specs.Io.KnownBytes.{Consumes}
+use Rattle.std.{proofs.lemmas.Bool.cases_lt, specs.Io.KnownBytes.Consumes}
 use lib.Seq.{drop-append_seam}
 use Rattle.cbor_head.specs.Prelude.{Holds, IsHead, head, major_number, MayFollow, AreBytes, HoldsOrIndefinite, refusal}
-use Rattle.cbor_head.specs.declared.major.Major.{Major}
 use Rattle.cbor_head.specs.declared.major.Major.TheVariants as majors
-use Rattle.cbor_head.specs.declared.reason.Reason.TheVariants.{TooLong, KeyKind}
-use Rattle.cbor_head.specs.declared.reason.Refusal.{Refusal}
-use Rattle.cbor_head.specs.declared.width.Width.{Width}
 use Rattle.cbor_head.specs.declared.width.Width.TheVariants.{Direct, One, Two, Four, Eight, Indefinite}
-use Rattle.cbor_grammar.specs.FirstBytes.{is_basic}
-use Rattle.cbor_automaton.specs.Trace.{Mark}
-use Rattle.cbor_automaton.specs.Marks.{count_of}
-use Rattle.cbor_automaton.specs.Bytes.{IsHeadBytes, IsEventBytes}
+use Rattle.cbor_head.specs.declared.{major.Major.Major, reason.Reason.TheVariants.TooLong, reason.Reason.TheVariants.KeyKind, reason.Refusal.Refusal}
+use Rattle.cbor_head.specs.declared.width.Width.{Width}
+use Rattle.cbor_grammar.{specs.FirstBytes.is_basic, proofs.ByteLists.bytes_join}
 use Rattle.cbor_automaton.specs.Automaton.{indefinite_map, State, start, at_item, in_head, in_simple, in_payload, run, reached}
-use Rattle.cbor_automaton.specs.declared.event.Event.{Event}
-use Rattle.cbor_automaton.specs.declared.event.EventKind.{EventKind}
 use Rattle.cbor_automaton.specs.declared.event.EventKind.TheVariants as kinds
-use Rattle.cbor_automaton.proofs.Beginnings.{reached-begins}
-use Rattle.cbor_automaton.proofs.Runs.{run-on}
-use Rattle.cbor_automaton.proofs.Taking.{IsClear}
+use Rattle.cbor_automaton.specs.{Trace.Mark, Marks.count_of, Bytes.IsHeadBytes, Bytes.IsEventBytes, declared.event.Event.Event}
+use Rattle.cbor_automaton.{specs.declared.event.EventKind.EventKind, proofs.Beginnings.reached-begins, proofs.Runs.run-on, proofs.Taking.IsClear}
 use Rattle.cbor_steps.specs.State.{state_of, wanted_at, is_done}
-use Rattle.cbor_steps.specs.declared.position.Position.{Position}
 use Rattle.cbor_steps.specs.declared.position.Position.TheVariants as positions
-use Rattle.cbor_standing.specs.MachineView.{MachineView}
+use Rattle.cbor_steps.specs.declared.position.Position.{Position}
 use Rattle.cbor_standing.specs.Machine.{StandsFor, KeepsLimits, IsComplete, IsGiven, wanted, wanted_within}
 use Rattle.cbor_standing.specs.NextEvent.{ItemEventsView, StandsBetween, IfTold, IsNext, machine_call, call}
-use Rattle.cbor_standing.specs.Calls.{HasRead}
 use Rattle.cbor_standing.specs.Steps.{Ran, Stopped as HasRefused}
-use Rattle.cbor_standing.proofs.Buffers.{head-answer, refused-call}
+use Rattle.cbor_standing.{specs.MachineView.MachineView, specs.Calls.HasRead, proofs.Buffers.head-answer, proofs.Buffers.refused-call}
 use Rattle.cbor_standing.proofs.NextEvents.{run-rest, whole-clear}
-use Rattle.cbor_grammar.proofs.ByteLists.{bytes_join}
 use Rattle.cbor_events.specs.NextKey.{IsBasicKind, IsOtherKey, IsNextKey}
 use Rattle.cbor_events.specs.inner.Reads.{IsPartTaken, IsPartRead, HasTaken, HasStopped, IfGiven, HasFirst, IsFirstAnswer, IsTakenAt}
-use Rattle.cbor_events.specs.declared.part.Part.{Part}
 use Rattle.cbor_events.specs.declared.part.Part.TheVariants.{Told, Open, Stopped}
+use Rattle.cbor_events.specs.declared.part.Part.{Part}
 
 -- ---- the first byte of a head
 

@@ -1,23 +1,15 @@
 -- What one read makes of a call for the next event.
 use Rattle.std.proofs.Common.{◌≡◌, ℕ, zero, suc, ◌<◌, ◌≤◌, ◌⊎◌, inl, inr, append_assoc, List, [], ◌++◌, length, take, drop, refl, sym, subst, ◌∙◌, arith, append-nil, Option, Some, Result, Ok}
-use Rattle.std.specs.Io.KnownBytes.{Consumes}
-use Rattle.std.proofs.KnownBytes.{Consumes-nil}
-use Rattle.cbor_head.specs.Prelude.{AreBytes}
-use Rattle.cbor_head.specs.declared.reason.Refusal.{Refusal}
-use Rattle.cbor_automaton.specs.Trace.{Mark}
-use Rattle.cbor_standing.specs.MachineView.{MachineView}
-use Rattle.cbor_standing.specs.Machine.{StandsFor, wanted}
+use Rattle.std.{specs.Io.KnownBytes.Consumes, proofs.KnownBytes.Consumes-nil}
+use Rattle.cbor_head.specs.{Prelude.AreBytes, declared.reason.Refusal.Refusal}
+use Rattle.cbor_automaton.specs.{Trace.Mark, Trace.total, Marks.marks_of, Bytes.IsEventBytes, declared.event.Event.Event}
 use Rattle.cbor_standing.specs.NextEvent.{StandsBetween, IfTold, IsNext, machine_call}
-use Rattle.cbor_standing.specs.Calls.{HasRead, piece_after}
-use Rattle.cbor_automaton.specs.Marks.{marks_of}
-use Rattle.cbor_automaton.specs.Trace.{total}
-use Rattle.cbor_automaton.specs.Bytes.{IsEventBytes}
-use Rattle.cbor_events.specs.inner.Reads.{IsPartTaken, IsPartRead, HasTaken, HasStopped, IfGiven}
-use Rattle.cbor_automaton.specs.declared.event.Event.{Event}
-use Rattle.cbor_events.specs.declared.part.Part.{Part}
-use Rattle.cbor_events.specs.declared.part.Part.TheVariants.{Told, Open, Stopped}
 use Rattle.cbor_standing.proofs.NextEvents.{event-here, read-on, complete-wants, wanted-room}
+use Rattle.cbor_standing.specs.{MachineView.MachineView, Machine.StandsFor, Machine.wanted, Calls.HasRead, Calls.piece_after}
 use Rattle.cbor_standing.proofs.NextRefusals.{still-due, stopped-here}
+use Rattle.cbor_events.specs.inner.Reads.{IsPartTaken, IsPartRead, HasTaken, HasStopped, IfGiven}
+use Rattle.cbor_events.specs.declared.part.Part.TheVariants.{Told, Open, Stopped}
+use Rattle.cbor_events.specs.declared.part.Part.{Part}
 
 -- the bytes that were read are what the machine wanted, and stand in front of the buffer
 pub part-read : (p : Part) (from mid_from to : Option (List ℕ)) (was mid new : MachineView) (kept buffer t last : List ℕ) (ms : List Mark) → StandsBetween was t ms → (r : HasRead from mid_from mid t ms)

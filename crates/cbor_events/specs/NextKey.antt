@@ -1,17 +1,13 @@
 -- What is told where a key is due that is to be an integer or a text: its kind is judged at its first byte.
 use Rattle.std.specs.Prelude.{◌≡◌, ◌≢◌, ℕ, ◌+◌, ◌<◌, ◌⊎◌, ◌/◌, IsTrue, List, [], ◌∷◌, length, Option, Some, None, Result, Ok, Err}
 use Rattle.std.specs.Io.KnownBytes.{Consumes}
-use Rattle.cbor_head.specs.Prelude.{MayFollow, refusal}
-use Rattle.cbor_head.specs.declared.reason.Reason.{Reason}
-use Rattle.cbor_head.specs.declared.reason.Reason.TheVariants.{KeyKind}
+use Rattle.cbor_head.specs.{Prelude.MayFollow, Prelude.refusal, declared.reason.Reason.Reason, declared.reason.Reason.TheVariants.KeyKind}
 use Rattle.cbor_head.specs.declared.reason.Refusal.{Refusal}
 use Rattle.cbor_grammar.specs.FirstBytes.{is_basic}
-use Rattle.cbor_automaton.specs.Reasons.{IsEventReason}
-use Rattle.cbor_automaton.specs.declared.event.Event.{Event}
-use Rattle.cbor_automaton.specs.declared.event.EventKind.{EventKind}
 use Rattle.cbor_automaton.specs.declared.event.EventKind.TheVariants.{Simple, Bytes, Array, Map, Tag}
-use Rattle.cbor_standing.specs.Machine.{IsComplete}
+use Rattle.cbor_automaton.specs.{Reasons.IsEventReason, declared.event.Event.Event, declared.event.EventKind.EventKind}
 use Rattle.cbor_standing.specs.NextEvent.{Call, IsNext, IsNextEvent, IsEnd}
+use Rattle.cbor_standing.specs.Machine.{IsComplete}
 
 -- what a key that is an integer or a text may begin with, or a break
 abbrev pub IsBasicKind : EventKind → Type 0

@@ -1,12 +1,8 @@
 -- An explanation, part by part.
 use Rattle.std.proofs.Common.{ℕ, ◌≤◌, Option, List, ◌++◌, length}
-use Rattle.std.specs.Io.KnownBytes.{Appends}
-use Rattle.std.proofs.KnownBytes.{Appends-trans}
+use Rattle.std.{specs.Io.KnownBytes.Appends, proofs.KnownBytes.Appends-trans}
 use Rattle.cbor_head.specs.declared.reason.Refusal.{Refusal}
-use Rattle.cbor_explain.specs.Explanation.{sentences, IsExplained}
-use Rattle.cbor_explain.specs.Surroundings.{surroundings}
-use Rattle.cbor_explain.specs.Way.{IsWayText}
-use Rattle.cbor_explain.specs.inner.Written.{Writes}
+use Rattle.cbor_explain.specs.{Explanation.sentences, Explanation.IsExplained, Surroundings.surroundings, Way.IsWayText, inner.Written.Writes}
 use Rattle.cbor_explain.specs.declared.way.Step.{Step}
 
 pub explained : (depth : ℕ) (item : List ℕ) (f : Refusal) (way : List Step) → length way ≤ depth → (a b c d : Option (List ℕ)) → Appends a b (sentences f.reason)

@@ -1,8 +1,6 @@
 -- The text of a key.
 use Rattle.std.proofs.Common.{ℕ, ◌<◌, ◌≤◌, ◌≡◌, ◌⊎◌, inl, inr, min, Option, List, ◌++◌, ◌-◌, length, take, drop, refl, sym, ap, ◌∙◌, subst, arith, codes, decimal}
-use Rattle.std.specs.Io.KnownBytes.{Appends}
-use Rattle.std.proofs.KnownBytes.{Appends-trans}
-use Rattle.std.proofs.lemmas.List.{drop_all, take_rest}
+use Rattle.std.{specs.Io.KnownBytes.Appends, proofs.KnownBytes.Appends-trans, proofs.lemmas.List.drop_all, proofs.lemmas.List.take_rest}
 use Rattle.std.proofs.lemmas.Bool.{cases_lt}
 use Rattle.cbor_head.specs.Prelude.{plain, Bounds, bounds, Value}
 use Rattle.cbor_head.specs.declared.reason.Refusal.{Refusal}

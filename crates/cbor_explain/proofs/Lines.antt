@@ -1,8 +1,6 @@
 -- The lines around a place, part by part.
 use Rattle.std.proofs.Common.{ℕ, ◌+◌, ◌-◌, ◌*◌, ◌/◌, ◌%◌, ◌<◌, ◌≡◌, min, Option, List, [], ◌∷◌, ◌++◌, length, take, drop, get_or, replicate, sym, ap, ◌∙◌, arith, append-nil, subst, codes, length-drop}
-use Rattle.std.specs.Io.KnownBytes.{Appends}
-use Rattle.std.proofs.KnownBytes.{Appends-trans}
-use Rattle.std.proofs.lemmas.Grind.{flat_map-append}
+use Rattle.std.{specs.Io.KnownBytes.Appends, proofs.KnownBytes.Appends-trans, proofs.lemmas.Grind.flat_map-append}
 use Rattle.std.proofs.lemmas.List.{take_min, take_more}
 use Rattle.cbor_explain.specs.Surroundings.{digit, spaced, label, lines_from, lines_around, surroundings}
 

@@ -1,10 +1,8 @@
 -- The texts of the first steps of a way.
 use Rattle.std.proofs.Common.{ℕ, Option, List, [], ◌∷◌, ◌++◌, refl, sym, ap, ◌∙◌, append_assoc, append-nil, subst, codes}
-use Rattle.std.specs.Io.KnownBytes.{Appends}
-use Rattle.std.proofs.KnownBytes.{Appends-trans}
+use Rattle.std.{specs.Io.KnownBytes.Appends, proofs.KnownBytes.Appends-trans}
 use Rattle.cbor_explain.specs.Way.{AreStepTexts, IsStepText, IsWayText}
-use Rattle.cbor_explain.specs.inner.Written.{Writes}
-use Rattle.cbor_explain.specs.declared.way.Step.{Step}
+use Rattle.cbor_explain.specs.{inner.Written.Writes, declared.way.Step.Step}
 
 -- the front of a way's line, with the steps so far
 pub record HasWritten (item : List ℕ) (done : List Step) (old new : Option (List ℕ)) : Type 0 where

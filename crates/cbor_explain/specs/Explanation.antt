@@ -1,12 +1,8 @@
 -- What is written of a refusal.
 use Rattle.std.specs.Prelude.{ℕ, ◌≤◌, List, ◌++◌, length, Option, codes}
 use Rattle.std.specs.Io.KnownBytes.{Appends}
-use Rattle.cbor_head.specs.declared.reason.Reason.{Reason}
-use Rattle.cbor_head.specs.declared.reason.Refusal.{Refusal}
-use Rattle.cbor_explain.specs.Sentences.{meaning, advice}
-use Rattle.cbor_explain.specs.Surroundings.{surroundings}
-use Rattle.cbor_explain.specs.Way.{IsWayText}
-use Rattle.cbor_explain.specs.declared.way.Step.{Step}
+use Rattle.cbor_head.specs.declared.reason.{Reason.Reason, Refusal.Refusal}
+use Rattle.cbor_explain.specs.{Sentences.meaning, Sentences.advice, Surroundings.surroundings, Way.IsWayText, declared.way.Step.Step}
 
 -- the sentences of a reason, a line each
 abbrev pub sentences : Reason → List ℕ

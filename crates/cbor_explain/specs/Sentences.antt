@@ -1,7 +1,7 @@
 -- The sentences of a reason.
 use Rattle.std.specs.Prelude.{ℕ, List, codes}
-use Rattle.cbor_head.specs.declared.reason.Reason.{Reason}
 use Rattle.cbor_head.specs.declared.reason.Reason.TheVariants.{Truncated, TooLong, Reserved, NoIndefinite, Float, BadSimple, StrayBreak, BadChunk, TooDeep, InvalidText, RepeatedKey, Trailing, CanonicalTooLong, NotShortest, Indefinite, KeyOrder, Read, Write, Memory, KeyKind}
+use Rattle.cbor_head.specs.declared.reason.Reason.{Reason}
 
 -- what a reason means
 abbrev pub meaning : Reason → List ℕ

@@ -4,8 +4,8 @@ use Rattle.cbor_head.specs.Prelude.{plain, bounds, Value}
 use Rattle.cbor_head.specs.declared.reason.Refusal.{Refusal}
 use Rattle.cbor_judging.specs.Readers.{IsReadAs, IsUnread}
 use Rattle.cbor_diag.specs.Text.{text}
-use Rattle.cbor_explain.specs.declared.way.Step.{Step}
 use Rattle.cbor_explain.specs.declared.way.Step.TheVariants.{Member, Key, Value as ValueOf, Content}
+use Rattle.cbor_explain.specs.declared.way.Step.{Step}
 
 -- The text of the key that stands at a place: its diagnostic text, where it is a valid item of at most 64 bytes; its place, where
 -- that is refused, for what stands there or for want of memory.

@@ -2,15 +2,12 @@
 use Rattle.std.proofs.Common.{◌≡◌, ℕ, suc, ◌+◌, ◌-◌, ◌^◌, ◌%◌, ◌<◌, ◌≤◌, ◌⊎◌, Bool, true, List, ◌∷◌, ◌++◌, length, take, drop, get_or, refl, sym, ap, ◌∙◌, subst, inl, inr, arith, IsUtf8}
 use Rattle.std.proofs.lemmas.Bool.{cases_lt}
 use Rattle.cbor_head.specs.Prelude.{Holds, shortest, shortest_head, with_argument, AreBytes}
-use Rattle.cbor_head.specs.declared.major.Major.TheVariants.{Array, Map}
-use Rattle.cbor_head.specs.declared.width.Width.{Width}
+use Rattle.cbor_head.specs.declared.{major.Major.TheVariants.Array, major.Major.TheVariants.Map, width.Width.Width}
 use Rattle.cbor_head.specs.declared.width.Width.TheVariants.{Eight, Indefinite}
 use Rattle.cbor_grammar.specs.Argument.{IsArgument}
 use Rattle.cbor_judging.specs.RefusedHere.{MayBegin}
-use Rattle.cbor_front.specs.inner.Leaves.{IsShortest, IsLeaf}
-use Rattle.cbor_front.proofs.ShortHeads.{rest-is}
 use Rattle.cbor_front.proofs.ShortLeaves.{leaf-number, leaf-value, leaf-empty, leaf-bytes, leaf-text}
-use Rattle.cbor_front.specs.inner.Items.{OpensHere}
+use Rattle.cbor_front.{specs.inner.Leaves.IsShortest, specs.inner.Leaves.IsLeaf, proofs.ShortHeads.rest-is, specs.inner.Items.OpensHere}
 use Rattle.cbor_front.specs.declared.level.Due.TheVariants.{Item, Key}
 
 -- ---- arguments

@@ -1,15 +1,12 @@
 -- What is answered where an item is due, and which string is refused.
 use Rattle.std.proofs.Common.{◌≡◌, ℕ, ◌+◌, ◌-◌, ◌≤◌, Bool, List, ◌∷◌, length, take, get_or, refl, sym, ap, ◌∙◌, subst, inl, inr, arith}
 use Rattle.std.specs.Str.Lossy.{utf8_valid_len}
-use Rattle.cbor_head.specs.Prelude.{refusal}
 use Rattle.cbor_head.specs.declared.reason.Reason.TheVariants as reasons
-use Rattle.cbor_head.specs.declared.reason.Refusal.{Refusal}
+use Rattle.cbor_head.specs.{Prelude.refusal, declared.reason.Refusal.Refusal}
 use Rattle.cbor_judging.proofs.RefusedHere.{refused_same, payload_cut_here, no_text_here}
-use Rattle.cbor_front.specs.inner.Items.{IsRefusedHere, IsAny}
 use Rattle.cbor_front.specs.Strings.{IsStringHead, IsStringFault, IsStringRefused}
-use Rattle.cbor_front.specs.declared.any_item.Any.{Any}
 use Rattle.cbor_front.specs.declared.any_item.Any.TheVariants as any
-use Rattle.cbor_front.specs.declared.argument.Argument.{Argument}
+use Rattle.cbor_front.specs.{inner.Items.IsRefusedHere, inner.Items.IsAny, declared.any_item.Any.Any, declared.argument.Argument.Argument}
 
 -- what is answered
 pub refuses : (room : Bool) (at : ℕ) (b c : List ℕ) (f : Refusal) (result : Any) → b ≡ c → result ≡ any.Refused f → IsRefusedHere room c at f → IsAny b at room result

@@ -2,13 +2,10 @@
 use Rattle.std.proofs.Common.{◌≡◌, ◌≢◌, ℕ, List, take, refl, inl, inr, sym, ◌∙◌, subst}
 use Rattle.cbor_head.specs.Prelude.{plain, strict, Bounds, IsVerdict, refused, refusal}
 use Rattle.cbor_head.specs.declared.order.KeyOrder as orders
-use Rattle.cbor_head.specs.declared.reason.Reason.{Reason}
-use Rattle.cbor_head.specs.declared.reason.Reason.TheVariants.{Truncated, RepeatedKey}
-use Rattle.cbor_head.specs.declared.reason.Refusal.{Refusal}
+use Rattle.cbor_head.specs.declared.reason.{Reason.Reason, Reason.TheVariants.Truncated, Reason.TheVariants.RepeatedKey, Refusal.Refusal}
 use Rattle.cbor_canonical.proofs.PlainVerdicts.{refused_plainly}
-use Rattle.cbor_judging.proofs.Reasons.{never-given}
 use Rattle.cbor_judging.specs.Stop.{RepeatsKey, IsStopped, IsRefused, IsAnswered}
-use Rattle.cbor_judging.proofs.PathVerdict.{complaint_stops, stopped}
+use Rattle.cbor_judging.proofs.{Reasons.never-given, PathVerdict.complaint_stops, PathVerdict.stopped}
 use Rattle.cbor_front.specs.NotCanonical.{strict_reason, IsNotCanonical}
 
 same_reason : (r : Reason) → r ≢ RepeatedKey → strict_reason r ≡ r

@@ -2,25 +2,18 @@
 use Rattle.std.proofs.Common.{◌≡◌, ◌≢◌, ℕ, zero, suc, ◌+◌, ◌-◌, ◌≤◌, true, false, true≢false, IsTrue, Some, List, [], ◌∷◌, ◌++◌, length, take, drop, refl, sym, ap, ◌∙◌, subst, arith, append_assoc, slice_range, length-append}
 use Rattle.std.proofs.Math.Seq.{take-append_seam, drop-append_seam}
 use Rattle.cbor_head.specs.Prelude.{Rules, plain, strict, complaint, Bounds, key_lt, Spelling, SpelledEntries, array, a_map, tag, spell, refusal}
-use Rattle.cbor_head.specs.declared.order.KeyOrder.{KeyOrder}
-use Rattle.cbor_head.specs.declared.reason.Reason.{Reason}
 use Rattle.cbor_head.specs.declared.reason.Reason.TheVariants as reasons
-use Rattle.cbor_head.specs.declared.width.Width.{Width}
-use Rattle.cbor_head.specs.declared.width.Width.TheVariants.{Indefinite}
+use Rattle.cbor_head.specs.declared.{order.KeyOrder.KeyOrder, reason.Reason.Reason, width.Width.Width, width.Width.TheVariants.Indefinite}
 use Rattle.cbor_keys.specs.Front.{front_of}
-use Rattle.cbor_judging.specs.Frame.{keys_onto}
-use Rattle.cbor_judging.specs.Judged.{IsJudged}
-use Rattle.cbor_judging.specs.Kinds.{KeepsToKinds}
 use Rattle.cbor_judging.specs.LastKey as keys
 use Rattle.cbor_judging.proofs.LastKey.{last_key_with}
 use Rattle.cbor_judging.proofs.LastKey.{last_is}
 use Rattle.cbor_judging.proofs.LastKey.{key-fresh, key-falls}
 use Rattle.cbor_judging.specs.Path as path
 use Rattle.cbor_judging.specs.Path.{a_member, a_key, a_value, tagged, level_bytes, bytes_before, HasEnded}
-use Rattle.cbor_judging.specs.Stop.{HasComplaint}
-use Rattle.cbor_judging.proofs.PathLevels.{judged_key_path}
-use Rattle.cbor_judging.proofs.PlainPaths.{judged_repeat}
 use Rattle.cbor_judging.proofs.PathSteps.{more_members, more_pairs, member_next, member_bytes, key_next as due_next, key_bytes, value_next as pair_next, value_bytes, array_ends, array_bytes_end, map_ends, map_bytes_end, tag_ends, tag_bytes_end}
+use Rattle.cbor_judging.{specs.Frame.keys_onto, specs.Judged.IsJudged, specs.Kinds.KeepsToKinds, specs.Stop.HasComplaint, proofs.PathLevels.judged_key_path}
+use Rattle.cbor_judging.proofs.PlainPaths.{judged_repeat}
 use Rattle.cbor_front.specs.inner.Cells.{last_key, key_at, IsKeyDue, AreCells, StandsAt, HasEndedAt, HasClosed, Falls, TakesKey}
 use Rattle.cbor_front.specs.declared.level.Due.TheVariants.{Item, Key, Value}
 use Rattle.cbor_front.specs.declared.level.Level.{Level}

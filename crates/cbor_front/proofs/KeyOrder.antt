@@ -1,12 +1,9 @@
 -- The order of two keys by the numbers in front of them.
 use Rattle.std.proofs.Common.{◌≡◌, ℕ, nat_lt, List, ap, ◌∙◌, arith}
 use Rattle.std.specs.Ordering.{is_lt, nat_cmp, ordering_then}
-use Rattle.std.specs.declared.cmp.Ordering.{Ordering}
-use Rattle.std.proofs.lemmas.Bool.Decides.{nat_tests}
-use Rattle.cbor_head.specs.Prelude.{AreBytes, key_lt}
-use Rattle.cbor_head.specs.declared.order.KeyOrder.TheVariants.{Bytewise}
-use Rattle.cbor_keys.specs.Front.{front_of}
-use Rattle.cbor_keys.proofs.KeyFronts.{agree_front}
+use Rattle.std.{specs.declared.cmp.Ordering.Ordering, proofs.lemmas.Bool.Decides.nat_tests}
+use Rattle.cbor_head.specs.{Prelude.AreBytes, Prelude.key_lt, declared.order.KeyOrder.TheVariants.Bytewise}
+use Rattle.cbor_keys.{specs.Front.front_of, proofs.KeyFronts.agree_front}
 
 front_decides : (a b : ℕ) (r : Ordering) → (a ≡ b → ⊥) → nat_lt a b ≡ is_lt (ordering_then (nat_cmp a b) r)
 front_decides a b r apart = grind (arith, nat_tests)

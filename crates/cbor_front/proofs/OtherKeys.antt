@@ -2,22 +2,14 @@
 use Rattle.std.proofs.Common.{◌≡◌, ℕ, ◌+◌, ◌≤◌, nat_lt, Bool, true, Option, Some, None, List, [], ◌∷◌, ◌++◌, length, drop, get_or, refl, sym, ap, ◌∙◌, subst, MatchOption}
 use Rattle.std.specs.Option.{unwrap_or}
 use Rattle.cbor_head.specs.Prelude.{strict, Bounds, AreBytes, refusal}
-use Rattle.cbor_head.specs.declared.keys.Keys.{Keys}
-use Rattle.cbor_head.specs.declared.keys.Keys.TheVariants.{Any, IntegersAndTexts}
-use Rattle.cbor_head.specs.declared.order.KeyOrder.{KeyOrder}
-use Rattle.cbor_head.specs.declared.reason.Reason.{Reason}
-use Rattle.cbor_head.specs.declared.reason.Reason.TheVariants.{KeyKind}
+use Rattle.cbor_head.specs.declared.{keys.Keys.Keys, keys.Keys.TheVariants.Any, keys.Keys.TheVariants.IntegersAndTexts, order.KeyOrder.KeyOrder}
+use Rattle.cbor_head.specs.declared.reason.Reason.{Reason, TheVariants.KeyKind}
 use Rattle.cbor_judging.specs.RefusedHere.{MayBegin, IsMisplaced, IsPlaceFor}
-use Rattle.cbor_judging.specs.PathKinds.{asks, IsOtherFront}
-use Rattle.cbor_judging.specs.Path.{bytes_before}
-use Rattle.cbor_judging.specs.Stop.{IsStopped}
 use Rattle.cbor_judging.proofs.RefusedHere.{no_break, misplaced_stops, kind_refused}
-use Rattle.cbor_front.specs.declared.level.Due.TheVariants.{Key}
+use Rattle.cbor_judging.specs.{PathKinds.asks, PathKinds.IsOtherFront, Path.bytes_before, Stop.IsStopped}
 use Rattle.cbor_front.specs.declared.level.Level as cell
-use Rattle.cbor_front.specs.declared.stack.Stack.{Stack}
-use Rattle.cbor_front.specs.inner.Cells.{StandsAt}
-use Rattle.cbor_front.specs.Stack.{around, standing}
 use Rattle.cbor_front.proofs.Taking.{whole_is, place_for, key_due}
+use Rattle.cbor_front.specs.{declared.level.Due.TheVariants.Key, declared.stack.Stack.Stack, inner.Cells.StandsAt, Stack.around, Stack.standing}
 
 pub asked_of : (keys : Keys) → asks keys ≡ true → keys ≡ IntegersAndTexts
 asked_of Any e = absurd (cc e)

@@ -1,15 +1,10 @@
 -- Heads in their shortest form, and items without members.
 use Rattle.std.proofs.Common.{◌≡◌, ℕ, ◌+◌, ◌-◌, ◌*◌, ◌^◌, ◌<◌, ◌≤◌, ◌⊎◌, List, ◌∷◌, ◌++◌, length, take, drop, get_or, w64, refl, sym, ap, ◌∙◌, subst, inl, inr, arith, IsUtf8, append_assoc, length-append}
-use Rattle.std.specs.Int.{from_be_bytes}
-use Rattle.std.proofs.lemmas.Bool.{cases_lt}
-use Rattle.std.proofs.lemmas.Bool.Decides.{nat_tests}
-use Rattle.std.proofs.Math.Seq.{drop-append_seam}
+use Rattle.std.{specs.Int.from_be_bytes, proofs.lemmas.Bool.cases_lt, proofs.lemmas.Bool.Decides.nat_tests, proofs.Math.Seq.drop-append_seam}
 use Rattle.byteorder.specs.Endian.{big_number, big_bytes}
 use Rattle.cbor_head.specs.Prelude.{IsSimple, head, with_argument, shortest, AreBytes, unsigned, negative, bytes, text, array, a_map, simple, no_spellings, no_entries}
-use Rattle.cbor_head.specs.declared.order.KeyOrder.{KeyOrder}
-use Rattle.cbor_head.specs.declared.major.Major.TheVariants.{Bytes, Text}
-use Rattle.cbor_head.specs.declared.width.Width.{Width}
 use Rattle.cbor_head.specs.declared.width.Width.TheVariants.{Direct, One, Two, Four, Eight}
+use Rattle.cbor_head.specs.declared.{order.KeyOrder.KeyOrder, major.Major.TheVariants.Bytes, major.Major.TheVariants.Text, width.Width.Width}
 use Rattle.cbor_head.proofs.HeadBack.{front_number}
 use Rattle.cbor_canonical.proofs.Normal.{Holds-shortest}
 use Rattle.cbor_judging.proofs.Arguments.{direct-is}

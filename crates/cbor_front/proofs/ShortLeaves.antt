@@ -3,14 +3,12 @@ use Rattle.std.proofs.Common.{◌≡◌, ℕ, suc, ◌+◌, ◌-◌, ◌%◌, �
 use Rattle.std.proofs.lemmas.Bool.{cases_lt}
 use Rattle.byteorder.specs.Endian.{big_number}
 use Rattle.cbor_head.specs.Prelude.{AreBytes, Holds, shortest, with_argument}
-use Rattle.cbor_head.specs.declared.order.KeyOrder.{KeyOrder}
-use Rattle.cbor_head.specs.declared.width.Width.{Width}
 use Rattle.cbor_head.specs.declared.width.Width.TheVariants.{Direct, One, Two, Four, Eight, Indefinite}
-use Rattle.cbor_canonical.proofs.ByteLists.{bytes_take, bytes_drop}
-use Rattle.cbor_canonical.proofs.Normal.{Holds-shortest}
-use Rattle.cbor_front.specs.inner.Items.{IsShortString}
+use Rattle.cbor_head.specs.declared.{order.KeyOrder.KeyOrder, width.Width.Width}
+use Rattle.cbor_canonical.proofs.{ByteLists.bytes_take, ByteLists.bytes_drop, Normal.Holds-shortest}
 use Rattle.cbor_front.specs.inner.Leaves.{IsItemThen, IsShortest, IsShortestHead, IsLeaf}
 use Rattle.cbor_front.proofs.ShortHeads.{ByPlace, direct, an-unsigned, a-negative, a-simple, some-bytes, a-text, no-array, no-map, of-one, rest-is}
+use Rattle.cbor_front.specs.inner.Items.{IsShortString}
 
 -- the argument of a head of at most two bytes
 small-argument : (w : Width) (low n : ℕ) (behind rest : List ℕ) → Holds w n → (0 + low) ∷ behind ≡ with_argument w 0 n ++ rest → low ≤ 24 → (n < 256) × (low < 24 → n ≡ low)

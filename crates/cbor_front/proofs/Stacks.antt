@@ -1,9 +1,7 @@
 -- How many containers are open in a stack, and the same in other cells.
 use Rattle.std.proofs.Common.{◌≡◌, ℕ, suc, ◌≤◌, List, ◌∷◌, length, take, sym, ap, ◌∙◌, reverse, length-take-le}
-use Rattle.std.proofs.Math.Seq.{take-length}
-use Rattle.std.proofs.lemmas.List.{length-reverse}
-use Rattle.cbor_front.specs.Stack.{standing}
-use Rattle.cbor_front.specs.declared.stack.Stack.{Stack}
+use Rattle.std.proofs.{Math.Seq.take-length, lemmas.List.length-reverse}
+use Rattle.cbor_front.specs.{Stack.standing, declared.stack.Stack.Stack}
 
 pub standing_count : (L : Type 0) (s : Stack L) (cells : List L) → s.height ≤ length cells → length (standing L s cells) ≡ suc s.height
 standing_count L s cells l = ap suc (length-reverse (take s.height cells) ∙ length-take-le s.height cells l)

@@ -2,34 +2,20 @@
 use Rattle.std.proofs.Common.{◌≡◌, ℕ, suc, ◌+◌, ◌-◌, ◌<◌, ◌≤◌, Bool, true, nat_lt, List, [], ◌∷◌, ◌++◌, length, take, drop, refl, sym, ap, ◌∙◌, subst, inl, inr, arith, append_assoc, append-nil, length-drop, reverse, slice_range, ltb-true, ltb-false, length-append}
 use Rattle.std.proofs.Math.Seq.{drop-append_seam}
 use Rattle.cbor_head.specs.Prelude.{strict, OfCount, Holds, IsHead, head, shortest, Bounds, spell, no_spellings, no_entries, HoldsOrIndefinite}
-use Rattle.cbor_head.specs.declared.major.Major.{Major}
 use Rattle.cbor_head.specs.declared.major.Major.TheVariants.{Array, Map, Tag}
-use Rattle.cbor_head.specs.declared.order.KeyOrder.{KeyOrder}
-use Rattle.cbor_head.specs.declared.width.Width.{Width}
-use Rattle.cbor_head.specs.declared.width.Width.TheVariants.{Indefinite}
-use Rattle.cbor_keys.specs.Front.{front_of}
+use Rattle.cbor_head.specs.declared.{major.Major.Major, order.KeyOrder.KeyOrder, width.Width.Width, width.Width.TheVariants.Indefinite}
 use Rattle.cbor_canonical.proofs.Normal.{Holds-shortest}
-use Rattle.cbor_front.specs.inner.Leaves.{IsLeaf}
-use Rattle.cbor_judging.proofs.Items.{is-definite}
-use Rattle.cbor_judging.proofs.Heads.{open_or, takes}
-use Rattle.cbor_judging.proofs.KindBytes.{head_is_one}
-use Rattle.cbor_judging.proofs.KindFrames.{keeps_start}
-use Rattle.cbor_judging.specs.Judged.{Never}
-use Rattle.cbor_judging.specs.Kinds.{KeepsToKinds}
+use Rattle.cbor_keys.specs.Front.{front_of}
 use Rattle.cbor_judging.specs.Path as path
-use Rattle.cbor_front.specs.inner.Items.{IsFit, IsOpener}
-use Rattle.cbor_judging.specs.PathKinds.{KeepsHere}
 use Rattle.cbor_judging.specs.Path.{a_member, a_key, a_value, tagged, level_bytes, bytes_before, IsKeyDueIn}
-use Rattle.cbor_front.specs.inner.Cells.{a_level, AreCells, StandsAt, HasEndedAt, IsWhole}
-use Rattle.cbor_front.specs.Stack.{standing}
-use Rattle.cbor_judging.specs.RefusedHere.{IsPlaceFor}
-use Rattle.cbor_front.specs.declared.level.Due.{Due}
-use Rattle.cbor_front.specs.declared.level.Due.TheVariants.{Item, Key, Value}
-use Rattle.cbor_front.specs.declared.level.Level.{Level}
-use Rattle.cbor_front.specs.declared.stack.Stack.{Stack}
-use Rattle.cbor_front.proofs.CellSteps.{item_is_no_key, key_is_no_value, item_full}
 use Rattle.cbor_judging.proofs.PathKinds.{kept_front, head_begun, keeps_begun, keeps_item}
-use Rattle.cbor_front.proofs.Stacks.{standing_count, more_cells}
+use Rattle.cbor_judging.proofs.{Items.is-definite, Heads.open_or, Heads.takes, KindBytes.head_is_one, KindFrames.keeps_start}
+use Rattle.cbor_judging.specs.{Judged.Never, Kinds.KeepsToKinds, PathKinds.KeepsHere, RefusedHere.IsPlaceFor}
+use Rattle.cbor_front.specs.inner.Cells.{a_level, AreCells, StandsAt, HasEndedAt, IsWhole}
+use Rattle.cbor_front.specs.declared.level.Due.TheVariants.{Item, Key, Value}
+use Rattle.cbor_front.proofs.CellSteps.{item_is_no_key, key_is_no_value, item_full}
+use Rattle.cbor_front.specs.{inner.Leaves.IsLeaf, inner.Items.IsFit, inner.Items.IsOpener, Stack.standing, declared.level.Due.Due, declared.level.Level.Level}
+use Rattle.cbor_front.{specs.declared.stack.Stack.Stack, proofs.Stacks.standing_count, proofs.Stacks.more_cells}
 
 -- ---- how many are open
 

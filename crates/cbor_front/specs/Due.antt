@@ -1,7 +1,6 @@
 -- What is due in an open container.
 use Rattle.std.specs.Prelude.{Bool, true, false}
-use Rattle.cbor_front.specs.declared.level.Due.{Due}
-use Rattle.cbor_front.specs.declared.level.Due.TheVariants.{Item, Key}
+use Rattle.cbor_front.specs.declared.level.Due.{Due, TheVariants.Item, TheVariants.Key}
 
 -- a key is due
 abbrev pub awaits : Due → Bool

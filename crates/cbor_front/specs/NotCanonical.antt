@@ -2,9 +2,7 @@
 use Rattle.std.specs.Prelude.{ℕ, List}
 use Rattle.cbor_head.specs.Prelude.{plain, strict, Bounds, IsVerdict, refusal, refused}
 use Rattle.cbor_head.specs.declared.order.KeyOrder as orders
-use Rattle.cbor_head.specs.declared.reason.Reason.{Reason}
-use Rattle.cbor_head.specs.declared.reason.Reason.TheVariants.{KeyOrder, RepeatedKey}
-use Rattle.cbor_head.specs.declared.reason.Refusal.{Refusal}
+use Rattle.cbor_head.specs.declared.reason.{Reason.Reason, Reason.TheVariants.KeyOrder, Reason.TheVariants.RepeatedKey, Refusal.Refusal}
 use Rattle.cbor_canonical.specs.StrictReasons.{IsStrictReason}
 
 -- of keys that do not rise the deterministic encoding says only that, be they the same or not

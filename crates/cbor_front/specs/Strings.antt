@@ -2,12 +2,9 @@
 use Rattle.std.specs.Prelude.{◌≡◌, ℕ, ◌+◌, ◌-◌, ◌%◌, ◌<◌, ◌≤◌, ◌⊎◌, Bool, IsTrue, IsUtf8, List, ◌∷◌, length, take, get_or}
 use Rattle.std.specs.Str.Lossy.{utf8_valid_len}
 use Rattle.cbor_head.specs.Prelude.{Rules, OfHead, refusal}
-use Rattle.cbor_head.specs.declared.major.Major.{Major}
-use Rattle.cbor_head.specs.declared.reason.Reason.TheVariants.{Truncated, InvalidText}
-use Rattle.cbor_head.specs.declared.reason.Refusal.{Refusal}
+use Rattle.cbor_head.specs.declared.{major.Major.Major, reason.Reason.TheVariants.Truncated, reason.Reason.TheVariants.InvalidText, reason.Refusal.Refusal}
 use Rattle.cbor_grammar.specs.Argument.{IsArgument}
-use Rattle.cbor_judging.specs.Judged.{Never}
-use Rattle.cbor_judging.specs.RefusedHere.{IsRefusedBy}
+use Rattle.cbor_judging.specs.{Judged.Never, RefusedHere.IsRefusedBy}
 use Rattle.cbor_front.specs.declared.argument.Argument.{Argument}
 
 -- the head of a string, and what follows it

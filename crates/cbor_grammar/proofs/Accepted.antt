@@ -2,8 +2,7 @@
 use Rattle.std.proofs.Common.{ℕ, ◌↔◌, List, [], ◌++◌, length, take, refl, sym, ap, ◌∙◌, subst, arith, append-nil}
 use Rattle.cbor_head.specs.Prelude.{Rules, Complaint, IsComplaint, Bounds, Spelling, spell, IsVerdict, accepted}
 use Rattle.cbor_head.specs.Laws.{IsAtFront, IsFrontWithoutComplaint}
-use Rattle.cbor_grammar.proofs.Complaints.{complaint_within}
-use Rattle.cbor_grammar.proofs.Verdicts.{whole_longest}
+use Rattle.cbor_grammar.proofs.{Complaints.complaint_within, Verdicts.whole_longest}
 
 sound : (limits : Bounds) (r : Rules) (input : List ℕ) (s : Spelling) → IsVerdict limits r input (accepted s) → IsFrontWithoutComplaint limits r input s
 sound limits r input s v =

@@ -2,15 +2,13 @@
 use Rattle.std.proofs.Common.{ℕ, suc, ◌+◌, ◌≡◌, ◌≤◌, ◌⊎◌, Bool, true, false, List, [], ◌∷◌, ◌++◌, length, refl, sym, ap, ◌∙◌, arith, subst, flat_map, inl, inr, length-append, append_assoc, append-nil}
 use Rattle.std.specs.List.{AllByRecursion}
 use Rattle.cbor_head.specs.Prelude.{head, Chunk, Spelling, Spellings, SpelledEntries, unsigned, negative, bytes, text, byte_chunks, text_chunks, array, a_map, tag, simple, no_spellings, a_spelling, no_entries, entry, spell, spell_all, spell_entries, spellings_count, entries_count, IsSpelled, AreSpelled, AreEntriesSpelled, IsChunk, chunk_bytes, break_of, IsItem, Rules, Complaint, OfHead, OfIndefinite, OfCount, OfString, OfChunks, OfKey, Complains, ComplainsIn, ComplainsInEntries}
-use Rattle.cbor_head.specs.declared.major.Major.{Major}
 use Rattle.cbor_head.specs.declared.major.Major.TheVariants.{Unsigned, Negative, Bytes, Text, Array, Map, Tag}
-use Rattle.cbor_head.specs.declared.width.Width.{Width}
-use Rattle.cbor_head.specs.declared.width.Width.TheVariants.{Direct, Indefinite}
+use Rattle.cbor_head.specs.declared.{major.Major.Major, width.Width.Width, width.Width.TheVariants.Direct, width.Width.TheVariants.Indefinite}
 use Rattle.cbor_head.proofs.HeadLaws.{told}
-use Rattle.cbor_grammar.proofs.ReadLaws.{unique}
 use Rattle.cbor_grammar.proofs.Alike.{Both, Past, past, past_length, front_both, recut, enter, enter_same, whole, past_item, not_break, not_closed}
 use Rattle.cbor_grammar.proofs.Ends.{head_later, chunks_later, payload_end, key_end, later, later_in, later_entries}
 use Rattle.cbor_grammar.proofs.Parts.{body, as_unsigned, as_negative, as_bytes, as_text, as_byte_chunks, as_text_chunks, as_array, as_map, as_tag}
+use Rattle.cbor_grammar.proofs.ReadLaws.{unique}
 -- what is cited beside it
 pub use Rattle.cbor_grammar.proofs.Alike.{split_front}
 pub use Rattle.cbor_grammar.proofs.Ends.{head_end, count_later, payload_end, string_later, chunks_later, key_end, later, later_in, later_entries}

@@ -1,9 +1,7 @@
 -- Byte lists and items that begin alike, up to where they differ.
 use Rattle.std.proofs.Common.{ℕ, ◌+◌, ◌≡◌, ◌<◌, ◌≤◌, List, [], ◌∷◌, ◌++◌, length, Some, None, refl, sym, ap, ◌∙◌, arith, subst, length-append, append_assoc}
 use Rattle.cbor_head.specs.Prelude.{Spelling, spell, IsSpelled, depth, break_of}
-use Rattle.cbor_head.specs.Read.{read}
-use Rattle.cbor_head.specs.declared.width.Width.{Width}
-use Rattle.cbor_head.specs.declared.width.Width.TheVariants.{Indefinite}
+use Rattle.cbor_head.specs.{Read.read, declared.width.Width.Width, declared.width.Width.TheVariants.Indefinite}
 use Rattle.cbor_grammar.proofs.ReadLaws.{unique, reads, break_none}
 use Rattle.cbor_grammar.proofs.Parts.{major, width, count, head_of, body, parts, holds_of, SameHead, one_head}
 

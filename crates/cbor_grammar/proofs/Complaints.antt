@@ -3,10 +3,7 @@ use Rattle.std.proofs.Common.{ℕ, ◌≡◌, ◌≤◌, List, ◌++◌, length,
 use Rattle.std.proofs.lemmas.Bool.{cases_lt}
 use Rattle.cbor_head.specs.Prelude.{Bounds, Spelling, spell, IsItem, Rules, Complaint, OfKinds, Complains, IsComplaint, rank, IsFirstOf, HasNoneOf}
 use Rattle.cbor_head.specs.declared.keys.Keys.TheVariants.{IntegersAndTexts}
-use Rattle.cbor_grammar.proofs.Agree.{same_complaints}
-use Rattle.cbor_grammar.proofs.KeyKinds.{of_kind, one_kind}
-use Rattle.cbor_grammar.proofs.KindsAgree.{same_kinds}
-use Rattle.cbor_grammar.proofs.OneFirst.{bounded, apart}
+use Rattle.cbor_grammar.proofs.{Agree.same_complaints, KeyKinds.of_kind, KeyKinds.one_kind, KindsAgree.same_kinds, OneFirst.bounded, OneFirst.apart}
 use Rattle.cbor_grammar.proofs.Reasons.{ranked}
 
 -- Items that start with the same bytes have the same that end within these; and no two of an item end at one place with one rank.

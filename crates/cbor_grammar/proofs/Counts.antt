@@ -2,8 +2,7 @@
 use Rattle.std.proofs.Common.{ℕ, suc, ◌^◌, ◌≡◌, ◌<◌, refl, ap, arith}
 use Rattle.cbor_head.specs.Prelude.{Holds, Spellings, SpelledEntries, no_spellings, a_spelling, no_entries, entry, spellings_count, entries_count, values_of, entries_of}
 use Rattle.cbor_head.specs.Value as value
-use Rattle.cbor_head.specs.declared.width.Width.{Width}
-use Rattle.cbor_head.specs.declared.width.Width.TheVariants.{Eight, Indefinite}
+use Rattle.cbor_head.specs.declared.width.Width.{Width, TheVariants.Eight, TheVariants.Indefinite}
 
 pub holds_fits : (w : Width) (n : ℕ) → Holds w n → n < 2 ^ 64
 holds_fits Eight n h = h

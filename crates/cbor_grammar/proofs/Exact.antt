@@ -1,10 +1,7 @@
 -- Reading finds the item that bytes begin with, and nothing where there is none.
 use Rattle.std.proofs.Common.{ℕ, ◌≡◌, ◌↔◌, List, Option, Some, None, refl, ◌∙◌, sym, ap}
-use Rattle.cbor_head.specs.Laws.{IsAtFront}
-use Rattle.cbor_head.specs.Read.{read}
-use Rattle.cbor_head.specs.Prelude.{Spelling, AreBytes}
-use Rattle.cbor_grammar.proofs.ReadBack.{read_fits, by_place}
-use Rattle.cbor_grammar.proofs.ReadLaws.{reads}
+use Rattle.cbor_head.specs.{Laws.IsAtFront, Read.read, Prelude.Spelling, Prelude.AreBytes}
+use Rattle.cbor_grammar.proofs.{ReadBack.read_fits, ReadBack.by_place, ReadLaws.reads}
 
 found : (d : ℕ) (b : List ℕ) (s : Spelling) (rest : List ℕ) → IsAtFront d b s rest → read d b ≡ Some (s, rest)
 found d b s rest h = ap (read d) (sym h.2) ∙ reads s h.0 d h.1 rest

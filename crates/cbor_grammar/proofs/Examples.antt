@@ -1,10 +1,9 @@
 -- Examples of spellings, of reading and of canonical bytes, by computation.
 use Rattle.std.proofs.Common.{ℕ, ◌≡◌, List, [], ◌∷◌, Some, None, map, refl}
 use Rattle.cbor_head.specs.Prelude.{canonical, Chunk, Spelling, Spellings, SpelledEntries, unsigned, negative, bytes, text, byte_chunks, text_chunks, array, a_map, tag, simple, no_spellings, a_spelling, no_entries, entry, spell, value_of}
-use Rattle.cbor_head.specs.Read.{read, read_head}
-use Rattle.cbor_head.specs.declared.order.KeyOrder.TheVariants.{Bytewise, LengthFirst}
-use Rattle.cbor_head.specs.declared.width.Width.{Width}
 use Rattle.cbor_head.specs.declared.width.Width.TheVariants.{Direct, One, Two, Four, Eight, Indefinite}
+use Rattle.cbor_head.specs.{Read.read, Read.read_head, declared.order.KeyOrder.TheVariants.Bytewise, declared.order.KeyOrder.TheVariants.LengthFirst}
+use Rattle.cbor_head.specs.declared.width.Width.{Width}
 
 -- a chunk, by its parts
 abbrev pub chunk : Width → List ℕ → Chunk

@@ -1,14 +1,10 @@
 -- Complaints on the kinds of keys: which byte tells the kind, and where they end.
 use Rattle.std.proofs.Common.{ℕ, ◌+◌, ◌*◌, ◌≡◌, ◌<◌, ◌≤◌, ◌/◌, List, [], ◌∷◌, ◌++◌, length, refl, sym, ap, ◌∙◌, arith, subst, inl, inr, IsTrue, length-append}
 use Rattle.cbor_head.specs.Prelude.{head, major_number, IsIntegerOrText, Spelling, Spellings, SpelledEntries, unsigned, negative, text, text_chunks, array, a_map, tag, no_spellings, a_spelling, no_entries, entry, spell, spell_all, spell_entries, IsSpelled, HoldsOrIndefinite, value_of, Complaint, complaint, OfKinds, OfKindsIn, OfKindsInEntries}
-use Rattle.cbor_head.specs.declared.major.Major.{Major}
-use Rattle.cbor_head.specs.declared.reason.Reason.TheVariants.{KeyKind}
-use Rattle.cbor_head.specs.declared.width.Width.{Width}
 use Rattle.cbor_head.specs.declared.width.Width.TheVariants.{Direct, One, Two, Four, Eight, Indefinite}
-use Rattle.cbor_grammar.specs.FirstBytes.{is_basic}
-use Rattle.cbor_grammar.proofs.ReadLaws.{length_spell}
-use Rattle.cbor_grammar.proofs.Alike.{Both}
+use Rattle.cbor_head.specs.declared.{major.Major.Major, reason.Reason.TheVariants.KeyKind, width.Width.Width}
 use Rattle.cbor_grammar.proofs.Parts.{major, width, count, body, head_of, parts, holds_of}
+use Rattle.cbor_grammar.{specs.FirstBytes.is_basic, proofs.ReadLaws.length_spell, proofs.Alike.Both}
 
 -- ---- the first byte of an item tells whether it is an integer or a text
 

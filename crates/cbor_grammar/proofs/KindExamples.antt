@@ -1,15 +1,10 @@
 -- Examples of verdicts for keys that are integers and texts.
 use Rattle.std.proofs.Common.{ℕ, ◌+◌, ◌≡◌, ◌≤◌, inl, inr, List, [], ◌∷◌, ◌++◌, length, take, None, refl, ap, ◌∙◌, sym, arith, subst, IsTrue, append-nil}
 use Rattle.cbor_head.specs.Prelude.{IsBeginning, Rules, plain, strict, Complaint, complaint, OfKinds, IsComplaint, Bounds, bounds, with_keys, Spelling, unsigned, text_chunks, array, a_map, simple, IsItem, IsSpelled, spell, depth, IsVerdict, accepted, refused, refusal}
-use Rattle.cbor_head.specs.Read.{read, read_head}
-use Rattle.cbor_head.specs.declared.keys.Keys.TheVariants.{IntegersAndTexts}
-use Rattle.cbor_head.specs.declared.order.KeyOrder.TheVariants.{Bytewise}
 use Rattle.cbor_head.specs.declared.reason.Reason.TheVariants.{TooDeep, Indefinite as IndefiniteReason, KeyKind}
+use Rattle.cbor_head.specs.{Read.read, Read.read_head, declared.keys.Keys.TheVariants.IntegersAndTexts, declared.order.KeyOrder.TheVariants.Bytewise}
 use Rattle.cbor_head.specs.declared.width.Width.TheVariants.{Direct, Indefinite}
-use Rattle.cbor_grammar.proofs.Complaints.{kind_comes_first}
-use Rattle.cbor_grammar.proofs.Examples.{members, pairs}
-use Rattle.cbor_grammar.proofs.ReadLaws.{reads}
-use Rattle.cbor_grammar.proofs.VerdictExamples.{by_beginning}
+use Rattle.cbor_grammar.proofs.{Complaints.kind_comes_first, Examples.members, Examples.pairs, ReadLaws.reads, VerdictExamples.by_beginning}
 
 abbrev basic : ℕ → Bounds
 basic n = with_keys (bounds 256 n) IntegersAndTexts

@@ -2,8 +2,7 @@
 use Rattle.std.proofs.Common.{ℕ, ◌+◌, ◌≡◌, ◌≤◌, List, [], ◌++◌, length, refl, sym, ◌∙◌, arith, subst, inl, inr, append_assoc, append-nil}
 use Rattle.cbor_head.specs.Prelude.{head, Spelling, Spellings, SpelledEntries, array, a_map, tag, no_spellings, a_spelling, no_entries, entry, spell, spell_all, spell_entries, spellings_count, entries_count, IsSpelled, AreSpelled, AreEntriesSpelled, break_of, IsItem, Complaint, OfKinds, OfKindsIn, OfKindsInEntries}
 use Rattle.cbor_head.specs.declared.major.Major.TheVariants.{Array, Map, Tag}
-use Rattle.cbor_head.specs.declared.width.Width.{Width}
-use Rattle.cbor_head.proofs.HeadLaws.{told}
+use Rattle.cbor_head.{specs.declared.width.Width.Width, proofs.HeadLaws.told}
 use Rattle.cbor_grammar.proofs.Alike.{Both, past_length, front_both, recut, enter, enter_same, past_item, not_closed}
 use Rattle.cbor_grammar.proofs.Agree.{same_length, told_less, told_none, pairs_assoc}
 use Rattle.cbor_grammar.proofs.KeyKinds.{kind_too, of_kind, of_kind_in, of_kind_entries, kind_end}

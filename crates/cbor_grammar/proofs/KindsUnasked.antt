@@ -1,9 +1,7 @@
 -- Verdicts by other words for the same complaints; and where no kind of keys is asked for.
 use Rattle.std.proofs.Common.{ℕ, ◌≡◌, ◌↔◌, List, [], ◌∷◌, length, sym, ◌∙◌, subst, inl, inr, IsTrue}
 use Rattle.cbor_head.specs.Prelude.{Bounds, bounds, with_keys, Spelling, form, Rules, Complaint, Complains, IsComplaint, Answer, accepted, refused, IsFormError, IsFirstOf, HasNoneOf, DecidesBy, IsVerdictBy, IsVerdict}
-use Rattle.cbor_head.specs.declared.keys.Keys.{Keys}
-use Rattle.cbor_head.specs.declared.keys.Keys.TheVariants.{Any, IntegersAndTexts}
-use Rattle.cbor_head.specs.declared.reason.Refusal.{Refusal}
+use Rattle.cbor_head.specs.declared.{keys.Keys.Keys, keys.Keys.TheVariants.Any, keys.Keys.TheVariants.IntegersAndTexts, reason.Refusal.Refusal}
 
 -- ---- the same complaints, by other words
 

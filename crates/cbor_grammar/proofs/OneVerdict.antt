@@ -2,8 +2,7 @@
 use Rattle.std.proofs.Common.{ℕ, ◌+◌, ◌≡◌, List, [], ◌∷◌, ◌++◌, length, take, sym, ap, ◌∙◌, arith, subst, inl, inr}
 use Rattle.std.proofs.lemmas.List.{append_cancel_left}
 use Rattle.cbor_head.specs.Prelude.{Bounds, Spelling, spell, IsItem, Rules, Complaint, IsComplaint, refusal, Answer, accepted, refused, IsReasonAt, IsFormError, DecidesBy, IsVerdictBy, IsVerdict}
-use Rattle.cbor_head.specs.declared.reason.Refusal.{Refusal}
-use Rattle.cbor_head.specs.declared.reason.Reason.{Reason}
+use Rattle.cbor_head.specs.declared.reason.{Refusal.Refusal, Reason.Reason}
 use Rattle.cbor_grammar.proofs.Complaints.{AreToldByBytes, complaints_told, one_first, first_for_each, none_for_each}
 use Rattle.cbor_grammar.proofs.Verdicts.{longest_one, item_one}
 

@@ -3,13 +3,11 @@ use Rattle.std.proofs.Common.{ℕ, zero, suc, ◌≡◌, ◌<◌, ◌≤◌, ◌
 use Rattle.std.specs.List.{AllByRecursion}
 use Rattle.cbor_head.specs.Prelude.{head, Holds, major_number, shortest, Chunk, Spelling, Spellings, SpelledEntries, bytes, text, byte_chunks, text_chunks, array, a_map, tag, simple, no_spellings, a_spelling, no_entries, entry, spell, spell_all, spell_entries, spellings_count, entries_count, IsSpelled, AreSpelled, AreEntriesSpelled, depth, depth_all, depth_entries, IsChunk, HoldsOrIndefinite, chunk_bytes, chunked, break_of, string_bytes_of, AreBytes}
 use Rattle.cbor_head.specs.Read.{◌>>=◌, either, Front, front, read_head, payload, is_break, same_major, chunk, read_chunk, read_chunks, Reader, read_many, read_pairs, past_break, read_until, read_pairs_until, leaf, nest, or_else, read, major_of}
-use Rattle.cbor_head.specs.declared.major.Major.{Major}
 use Rattle.cbor_head.specs.declared.major.Major.TheVariants.{Unsigned, Negative, Bytes, Text, Array, Map, Tag, Simple}
-use Rattle.cbor_head.specs.declared.width.Width.{Width}
 use Rattle.cbor_head.specs.declared.width.Width.TheVariants.{Direct, One, Indefinite}
-use Rattle.cbor_head.proofs.HeadLaws.{major_back}
-use Rattle.cbor_grammar.proofs.ByteLists.{are_bytes}
 use Rattle.cbor_head.proofs.HeadBack.{ByPlace, by_place-cons, by_place-take, chosen, bind_some, IsFront, read_head-back}
+use Rattle.cbor_head.{specs.declared.major.Major.Major, specs.declared.width.Width.Width, proofs.HeadLaws.major_back}
+use Rattle.cbor_grammar.proofs.ByteLists.{are_bytes}
 
 -- what was read of b
 pub record Fits (d : ℕ) (b : List ℕ) (r : Spelling × List ℕ) : Type 0 where

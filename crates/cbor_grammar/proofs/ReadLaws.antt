@@ -1,15 +1,11 @@
 -- What is spelled is read back, whatever follows it; so a byte list has one spelling.
 use Rattle.std.proofs.Common.{ℕ, zero, suc, max, ◌≡◌, ◌<◌, ◌≤◌, true, false, List, [], ◌∷◌, ◌++◌, length, Option, Some, None, refl, sym, ap, ◌∙◌, arith, nat_le, flat_map, inl, inr, length-append, append_assoc, append-nil, lt-ltb, le-leb, le-ltb}
-use Rattle.std.specs.List.{AllByRecursion}
-use Rattle.std.proofs.lemmas.Bool.{cases_lt}
-use Rattle.std.proofs.Math.Seq.{drop-append_seam, take-append_seam}
+use Rattle.std.{specs.List.AllByRecursion, proofs.lemmas.Bool.cases_lt, proofs.Math.Seq.drop-append_seam, proofs.Math.Seq.take-append_seam}
 use Rattle.cbor_head.specs.Prelude.{head, Holds, IsSimple, shortest, Chunk, Spelling, Spellings, SpelledEntries, unsigned, negative, bytes, text, byte_chunks, text_chunks, array, a_map, tag, simple, no_spellings, a_spelling, no_entries, entry, spell, spell_all, spell_entries, spellings_count, entries_count, IsSpelled, AreSpelled, AreEntriesSpelled, depth, depth_all, depth_entries, IsChunk, HoldsOrIndefinite, chunk_bytes, chunked, break_of}
 use Rattle.cbor_head.specs.Read.{front, read_head, payload, is_break, same_major, read_chunk, read_chunks, read_many, read_pairs, past_break, read_until, read_pairs_until, leaf, nest, read}
-use Rattle.cbor_head.specs.declared.major.Major.{Major}
 use Rattle.cbor_head.specs.declared.major.Major.TheVariants.{Unsigned, Negative, Bytes, Text, Array, Map, Tag, Simple}
-use Rattle.cbor_head.specs.declared.width.Width.{Width}
 use Rattle.cbor_head.specs.declared.width.Width.TheVariants.{Direct, One, Indefinite}
-use Rattle.cbor_head.proofs.HeadLaws.{told, read_head-head}
+use Rattle.cbor_head.{specs.declared.major.Major.Major, specs.declared.width.Width.Width, proofs.HeadLaws.told, proofs.HeadLaws.read_head-head}
 
 payload_back : {A : Type 0} (xs x : List ℕ) (f : List ℕ → A) → payload (length xs) (xs ++ x) f ≡ Some (f xs, x)
 payload_back xs x f =

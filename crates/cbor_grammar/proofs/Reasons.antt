@@ -4,10 +4,8 @@ use Rattle.std.specs.Str.Lossy.{utf8_valid_len}
 use Rattle.cbor_head.specs.Prelude.{head, Chunk, Spelling, Spellings, SpelledEntries, unsigned, negative, bytes, text, byte_chunks, text_chunks, array, a_map, tag, simple, no_spellings, a_spelling, no_entries, entry, spell, chunk_bytes, spellings_count, entries_count, KeyRule, unasked, distinct, rising, Rules, Complaint, complaint, OfHead, OfIndefinite, OfCount, OfPayload, OfString, OfChunks, OfKey, Complains, ComplainsIn, ComplainsInEntries, rank}
 use Rattle.cbor_head.specs.declared.order.KeyOrder as order
 use Rattle.cbor_head.specs.declared.reason.Reason.TheVariants.{InvalidText, RepeatedKey, NotShortest, Indefinite as IndefiniteReason, KeyOrder}
-use Rattle.cbor_head.specs.declared.major.Major.{Major}
 use Rattle.cbor_head.specs.declared.major.Major.TheVariants.{Unsigned, Negative, Bytes, Text, Array, Map, Tag}
-use Rattle.cbor_head.specs.declared.width.Width.{Width}
-use Rattle.cbor_head.specs.declared.width.Width.TheVariants.{Indefinite}
+use Rattle.cbor_head.specs.declared.{major.Major.Major, width.Width.Width, width.Width.TheVariants.Indefinite}
 
 -- what holds of each complaint that the rules ask for, wherever it stands
 module _ (r : Rules) (Q : Complaint → Type 0) (of_texts : IsTrue r.texts → (at : ℕ) (q : List ℕ) → Q (complaint (at + length q) (at + utf8_valid_len q) InvalidText))

@@ -1,17 +1,12 @@
 -- Examples of complaints, of which comes first, and of verdicts.
 use Rattle.std.proofs.Common.{ℕ, ◌≡◌, ◌<◌, ◌≤◌, ◌⊎◌, inl, inr, List, [], ◌∷◌, ◌++◌, length, take, refl, ap, ◌∙◌, sym, arith, subst, append-nil, length-append}
-use Rattle.std.specs.Char.{encode_utf8}
-use Rattle.std.specs.Str.{chars, is_utf8}
-use Rattle.std.specs.Str.Lossy.{utf8_valid_len}
-use Rattle.std.proofs.lemmas.Str.{is_utf8-from_IsUtf8}
+use Rattle.std.{specs.Char.encode_utf8, specs.Str.chars, specs.Str.is_utf8, specs.Str.Lossy.utf8_valid_len, proofs.lemmas.Str.is_utf8-from_IsUtf8}
 use Rattle.cbor_head.specs.Prelude.{IsBeginning, Rules, form, plain, strict, Complaint, complaint, Complains, Bounds, bounds, Spelling, unsigned, negative, text, text_chunks, array, a_map, IsItem, IsSpelled, spell, depth, IsVerdictBy, IsVerdict, DecidesBy, Answer, rank, accepted, refused, refusal}
-use Rattle.cbor_head.specs.Read.{read}
-use Rattle.cbor_head.specs.declared.order.KeyOrder.TheVariants.{Bytewise, LengthFirst}
 use Rattle.cbor_head.specs.declared.reason.Reason.TheVariants.{Truncated, TooLong, StrayBreak, InvalidText, RepeatedKey, NotShortest, Indefinite as IndefiniteReason, KeyOrder}
 use Rattle.cbor_head.specs.declared.width.Width.TheVariants.{Direct, One, Indefinite}
+use Rattle.cbor_head.specs.{Read.read, declared.order.KeyOrder.TheVariants.Bytewise, declared.order.KeyOrder.TheVariants.LengthFirst}
 use Rattle.cbor_grammar.proofs.Examples.{chunk, members, pairs}
-use Rattle.cbor_grammar.proofs.KindsUnasked.{any_verdict}
-use Rattle.cbor_grammar.proofs.ReadLaws.{reads, break_none}
+use Rattle.cbor_grammar.proofs.{KindsUnasked.any_verdict, ReadLaws.reads, ReadLaws.break_none}
 
 -- what is answered where the first n bytes of the input are a beginning
 pub by_beginning : (P : Spelling → Complaint → Type 0) (limits : Bounds) (input p : List ℕ) (s : Spelling) (rest : List ℕ) (a : Answer) → take limits.bytes input ≡ p → IsSpelled s → depth s ≤ limits.depth → spell s ≡ p ++ rest → DecidesBy P limits p [] s a

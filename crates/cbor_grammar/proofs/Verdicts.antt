@@ -1,11 +1,9 @@
 -- Beginnings: their fronts, and the longest that an input starts with.
 use Rattle.std.proofs.Common.{ℕ, ◌+◌, ◌≡◌, List, [], ◌∷◌, ◌++◌, length, refl, sym, ap, ◌∙◌, arith, subst, inl, inr, length-append, append_assoc, append-nil}
-use Rattle.std.proofs.lemmas.Bool.{cases_lt}
-use Rattle.std.proofs.lemmas.List.{nil_from_length}
+use Rattle.std.proofs.lemmas.{Bool.cases_lt, List.nil_from_length}
 use Rattle.cbor_head.specs.Prelude.{Spelling, IsItem, unsigned, spell, IsBeginning, IsLongestBeginning}
 use Rattle.cbor_head.specs.declared.width.Width.TheVariants.{Direct}
-use Rattle.cbor_grammar.proofs.ReadLaws.{unique}
-use Rattle.cbor_grammar.proofs.Alike.{split_front}
+use Rattle.cbor_grammar.proofs.{ReadLaws.unique, Alike.split_front}
 
 -- no bytes are a beginning: that of 0, at any depth
 pub nothing_begins : (d : ℕ) → IsBeginning d []

@@ -1,17 +1,12 @@
 -- What is read as a head is that head's spelling.
 use Rattle.std.proofs.Common.{ℕ, zero, suc, ◌+◌, ◌*◌, ◌/◌, ◌%◌, ◌^◌, ◌≡◌, ◌<◌, ◌≤◌, ◌==◌, ◌⊎◌, inl, inr, Bool, true, false, cond, if◌then◌else◌, List, [], ◌∷◌, ◌++◌, length, take, drop, get_or, Option, Some, None, refl, sym, ap, ◌∙◌, arith, nat_le, nat_lt, subst, ltb-true, leb-true, eqb-true, append-nil, take-append-drop, length-take-le}
-use Rattle.std.proofs.lemmas.List.{nil_from_length}
-use Rattle.std.proofs.Math.Nat.{mod-lt}
-use Rattle.std.proofs.lemmas.Nat.{same_from_place}
-use Rattle.std.specs.Int.{byte_at, bytes_high_first}
+use Rattle.std.{proofs.lemmas.List.nil_from_length, proofs.Math.Nat.mod-lt, proofs.lemmas.Nat.same_from_place, specs.Int.byte_at, specs.Int.bytes_high_first}
 use Rattle.byteorder.specs.Endian.{big_number, big_bytes, big_from}
 use Rattle.byteorder.specs.Numbers.{big_number-reads_back, length-bytes_high_first, big_from-cons, big_from-lt, big_from-take}
 use Rattle.cbor_head.specs.Prelude.{head, major_number, HoldsOrIndefinite}
 use Rattle.cbor_head.specs.Read.{◌>>=◌, Front, front, major_of, numbered, with_low, read_head}
-use Rattle.cbor_head.specs.declared.major.Major.{Major}
-use Rattle.cbor_head.specs.declared.width.Width.{Width}
 use Rattle.cbor_head.specs.declared.width.Width.TheVariants.{Direct, One, Two, Four, Eight, Indefinite}
-use Rattle.cbor_head.proofs.HeadLaws.{told}
+use Rattle.cbor_head.{specs.declared.major.Major.Major, specs.declared.width.Width.Width, proofs.HeadLaws.told}
 
 -- a list of bytes, by place
 abbrev pub ByPlace : List ℕ → Type 0

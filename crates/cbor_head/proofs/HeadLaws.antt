@@ -1,14 +1,11 @@
 -- A head is read back.
 use Rattle.std.proofs.Common.{ℕ, ◌+◌, ◌*◌, ◌/◌, ◌%◌, ◌^◌, ◌≡◌, ◌<◌, true, List, ◌∷◌, ◌++◌, length, drop, Some, refl, ◌∙◌, arith, nat_le, subst, lt-ltb, le-leb, length-append}
 use Rattle.std.proofs.Math.Seq.{drop-append_seam}
-use Rattle.byteorder.specs.Endian.{big_number, big_bytes}
-use Rattle.byteorder.specs.Numbers.{big_number-reads_back, length-bytes_high_first}
+use Rattle.byteorder.specs.{Endian.big_number, Endian.big_bytes, Numbers.big_number-reads_back, Numbers.length-bytes_high_first}
 use Rattle.cbor_head.specs.Prelude.{head, Holds, major_number, HoldsOrIndefinite}
 use Rattle.cbor_head.specs.Read.{front, major_of, numbered, with_low, read_head}
-use Rattle.cbor_head.specs.declared.major.Major.{Major}
-use Rattle.cbor_head.specs.declared.major.Major.TheVariants.{Unsigned}
-use Rattle.cbor_head.specs.declared.width.Width.{Width}
 use Rattle.cbor_head.specs.declared.width.Width.TheVariants.{Direct, One, Two, Four, Eight, Indefinite}
+use Rattle.cbor_head.specs.declared.{major.Major.Major, major.Major.TheVariants.Unsigned, width.Width.Width}
 
 -- the argument that a head tells: an opener tells none
 abbrev pub told : Width → ℕ → ℕ

@@ -2,13 +2,9 @@
 use Rattle.std.proofs.Common.{ℕ, ◌≡◌, List, [], ◌++◌, Option, Some, refl, sym, ap, ◌∙◌, subst, append-nil}
 use Rattle.cbor_head.specs.Prelude.{Holds, IsHead, head, head_parts, HoldsOrIndefinite}
 use Rattle.cbor_head.specs.Read.{Front, front, read_head}
-use Rattle.cbor_head.specs.declared.major.Major.{Major}
-use Rattle.cbor_head.specs.declared.major.Major.TheVariants.{Simple}
-use Rattle.cbor_head.specs.declared.width.Width.{Width}
+use Rattle.cbor_head.specs.declared.{major.Major.Major, major.Major.TheVariants.Simple, width.Width.Width}
 use Rattle.cbor_head.specs.declared.width.Width.TheVariants.{One, Indefinite}
-use Rattle.cbor_head.proofs.HeadLaws.{told, read_head-head}
-use Rattle.cbor_head.proofs.HeadBack.{ByPlace, read_head-back}
-use Rattle.cbor_head.proofs.Least.{least}
+use Rattle.cbor_head.proofs.{HeadLaws.told, HeadLaws.read_head-head, HeadBack.ByPlace, HeadBack.read_head-back, Least.least}
 
 -- a definite head has room for its argument
 pub head_holds : (m : Major) (w : Width) (n : ℕ) → IsHead m w n → Holds w n

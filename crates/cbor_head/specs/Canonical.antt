@@ -1,10 +1,8 @@
 -- The canonical bytes of a value (RFC 8949, sections 4.2.1 and 4.2.3).
 use Rattle.std.specs.Prelude.{◌++◌, if◌then◌else◌, ℕ, List, [], ◌∷◌, length, flat_map}
-use Rattle.cbor_head.specs.Head.{shortest_head}
-use Rattle.cbor_head.specs.Order.{key_lt}
 use Rattle.cbor_head.specs.Value.{Value, Values, Entries, unsigned, negative, bytes, text, array, map, tag, simple, no_values, a_value, no_entries, entry, values_count, entries_count}
-use Rattle.cbor_head.specs.declared.order.KeyOrder.{KeyOrder}
 use Rattle.cbor_head.specs.declared.major.Major.TheVariants.{Unsigned, Negative, Bytes, Text, Array, Map, Tag, Simple}
+use Rattle.cbor_head.specs.{Head.shortest_head, Order.key_lt, declared.order.KeyOrder.KeyOrder}
 
 -- an encoded key, and the encoded value behind it
 pub record Pair : Type 0 where

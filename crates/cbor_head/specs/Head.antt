@@ -1,10 +1,9 @@
 -- Heads (RFC 8949, section 3 and appendix B).
 use Rattle.std.specs.Prelude.{ℕ, ◌+◌, ◌*◌, ◌^◌, ◌≡◌, ◌<◌, ◌≤◌, nat_lt, if◌then◌else◌, List, [], ◌∷◌}
 use Rattle.byteorder.specs.Endian.{big_bytes}
-use Rattle.cbor_head.specs.declared.major.Major.{Major}
 use Rattle.cbor_head.specs.declared.major.Major.TheVariants.{Unsigned, Negative, Bytes, Text, Array, Map, Tag, Simple}
-use Rattle.cbor_head.specs.declared.width.Width.{Width}
 use Rattle.cbor_head.specs.declared.width.Width.TheVariants.{Direct, One, Two, Four, Eight, Indefinite}
+use Rattle.cbor_head.specs.declared.{major.Major.Major, width.Width.Width}
 
 -- a simple value's number: 0 to 23 or 32 to 255 (section 3.3)
 abbrev pub IsSimple : ℕ → Type 0

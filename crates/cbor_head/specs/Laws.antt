@@ -1,9 +1,9 @@
 -- Words of the laws of the model: items and complaints at the front of bytes (RFC 8949, sections 3 and 5.3.1).
 use Rattle.std.specs.Prelude.{ℕ, ◌≡◌, ◌≤◌, ◌++◌, List, take}
 use Rattle.cbor_head.specs.Complaint.{Rules, Complaint, IsComplaint}
-use Rattle.cbor_head.specs.Limits.{Bounds}
 use Rattle.cbor_head.specs.Spelling.{Spelling, IsSpelled, IsItem, spell, depth}
 use Rattle.cbor_head.specs.Verdict.{Answer, DecidesBy, HasNoneOf, IsFirstOf}
+use Rattle.cbor_head.specs.Limits.{Bounds}
 
 -- b begins with the item s, well-formed within the depth, and rest follows it
 abbrev pub IsAtFront : ℕ → List ℕ → Spelling → List ℕ → Type 0

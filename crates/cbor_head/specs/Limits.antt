@@ -1,8 +1,6 @@
 -- The limits on one item.
 use Rattle.std.specs.Prelude.{ℕ, ◌≤◌, ◌^◌}
-use Rattle.cbor_head.specs.declared.keys.Keys.{Keys}
-use Rattle.cbor_head.specs.declared.keys.Keys.TheVariants.{Any}
-use Rattle.cbor_head.specs.declared.limits.TheConstants.{MAX_DEPTH}
+use Rattle.cbor_head.specs.declared.{keys.Keys.Keys, keys.Keys.TheVariants.Any, limits.TheConstants.MAX_DEPTH}
 
 -- how deep its arrays, maps and tags may nest, how many bytes it may have, and which kinds of keys its maps may have
 pub record Bounds : Type 0 where

@@ -1,10 +1,8 @@
 -- The orders of encoded keys (RFC 8949, sections 4.2.1 and 4.2.3).
 use Rattle.std.specs.Prelude.{ℕ, Bool, List, length}
-use Rattle.std.specs.declared.cmp.Ordering.{Ordering}
 use Rattle.std.specs.Ordering.{nat_cmp, then_cmp, on, is_lt}
-use Rattle.std.specs.Cmp.Lexicographic.{slice_cmp}
-use Rattle.cbor_head.specs.declared.order.KeyOrder.{KeyOrder}
-use Rattle.cbor_head.specs.declared.order.KeyOrder.TheVariants.{Bytewise, LengthFirst}
+use Rattle.std.specs.{declared.cmp.Ordering.Ordering, Cmp.Lexicographic.slice_cmp}
+use Rattle.cbor_head.specs.declared.order.KeyOrder.{KeyOrder, TheVariants.Bytewise, TheVariants.LengthFirst}
 
 -- Bytewise: lexicographic, a beginning before what it begins. LengthFirst: fewer bytes first, then bytewise.
 abbrev pub key_cmp : KeyOrder → List ℕ → List ℕ → Ordering

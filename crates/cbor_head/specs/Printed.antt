@@ -1,9 +1,7 @@
 -- What is printed of a reason and of a refusal.
 use Rattle.std.specs.Prelude.{ℕ, List, ◌++◌, codes, decimal}
-use Rattle.cbor_head.specs.Reason.{reason_number}
-use Rattle.cbor_head.specs.declared.reason.Reason.{Reason}
 use Rattle.cbor_head.specs.declared.reason.Reason.TheVariants.{Truncated, TooLong, Reserved, NoIndefinite, Float, BadSimple, StrayBreak, BadChunk, TooDeep, InvalidText, RepeatedKey, Trailing, CanonicalTooLong, NotShortest, Indefinite, KeyOrder, Read, Write, Memory, KeyKind}
-use Rattle.cbor_head.specs.declared.reason.Refusal.{Refusal}
+use Rattle.cbor_head.specs.{Reason.reason_number, declared.reason.Reason.Reason, declared.reason.Refusal.Refusal}
 
 -- the name of a reason
 abbrev pub reason_name : Reason → List ℕ

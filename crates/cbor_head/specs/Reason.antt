@@ -1,7 +1,7 @@
 -- The numbers of the reasons.
 use Rattle.std.specs.Prelude.{ℕ}
-use Rattle.cbor_head.specs.declared.reason.Reason.{Reason}
 use Rattle.cbor_head.specs.declared.reason.Reason.TheVariants.{Truncated, TooLong, Reserved, NoIndefinite, Float, BadSimple, StrayBreak, BadChunk, TooDeep, InvalidText, RepeatedKey, Trailing, CanonicalTooLong, NotShortest, Indefinite, KeyOrder, Read, Write, Memory, KeyKind}
+use Rattle.cbor_head.specs.declared.reason.Reason.{Reason}
 
 -- the number of a reason
 abbrev pub reason_number : Reason → ℕ

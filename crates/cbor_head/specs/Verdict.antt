@@ -1,12 +1,9 @@
 -- What is answered of an input: the item that it starts with, or the refusal (RFC 8949, sections 3 and 5.3.1, and appendix F).
 use Rattle.std.specs.Prelude.{ℕ, ◌+◌, ◌≡◌, ◌≢◌, ◌<◌, ◌≤◌, ◌⊎◌, ◌++◌, ◌==◌, ◌||◌, ◌&&◌, ◌%◌, nat_le, if◌then◌else◌, List, [], ◌∷◌, length, take}
-use Rattle.cbor_head.specs.Limits.{Bounds}
 use Rattle.cbor_head.specs.Spelling.{Spelling, spell, IsItem}
-use Rattle.cbor_head.specs.Beginning.{MayFollow, IsLongestBeginning}
 use Rattle.cbor_head.specs.Complaint.{Rules, Complaint, IsComplaint}
-use Rattle.cbor_head.specs.declared.reason.Reason.{Reason}
 use Rattle.cbor_head.specs.declared.reason.Reason.TheVariants.{Truncated, TooLong, Reserved, NoIndefinite, Float, BadSimple, StrayBreak, BadChunk, TooDeep, RepeatedKey, KeyOrder, KeyKind}
-use Rattle.cbor_head.specs.declared.reason.Refusal.{Refusal}
+use Rattle.cbor_head.specs.{Limits.Bounds, Beginning.MayFollow, Beginning.IsLongestBeginning, declared.reason.Reason.Reason, declared.reason.Refusal.Refusal}
 
 -- a refusal, by reason, place and bytes taken
 abbrev pub refusal : Reason → ℕ → ℕ → Refusal

@@ -2,14 +2,9 @@
 use Rattle.std.proofs.Common.{◌≡◌, ℕ, suc, ◌<◌, ◌^◌, List, [], ◌∷◌, length, map, Vec, Global, refl, sym, ap, ◌∙◌, subst, arith}
 use Rattle.cbor_head.specs.Prelude.{AreInRange, AreEntriesInRange, IsInRange}
 use Rattle.cbor_head.specs.Value.{depth, depth_all, depth_entries}
-use Rattle.cbor_item.specs.View.{view, values_of}
-use Rattle.cbor_item.specs.inner.Members.{entries_view}
-use Rattle.cbor_item.specs.inner.Walk.{flat, size}
-use Rattle.cbor_item.specs.inner.Within.{Holds}
-use Rattle.cbor_item.specs.declared.item.Item.{Item}
-use Rattle.cbor_item.specs.declared.item.Item.TheVariants.{Array, Map}
-use Rattle.cbor_item.proofs.Views.{view-Array, view-Map}
-use Rattle.cbor_item.proofs.Steps.{values_counted, entries_counted}
+use Rattle.cbor_canonical.{proofs.Lists.values_counted, proofs.Lists.entries_counted, specs.Lists.values_of}
+use Rattle.cbor_item.specs.{View.view, inner.Members.entries_view, inner.Walk.flat, inner.Walk.size, inner.Within.Holds, declared.item.Item.Item}
+use Rattle.cbor_item.{specs.declared.item.Item.TheVariants.Array, specs.declared.item.Item.TheVariants.Map, proofs.Views.view-Array, proofs.Views.view-Map}
 use Rattle.cbor_item.proofs.Walk.{weight-all, weight-flat}
 
 pub holds_members : (v : Vec Item Global) → length v.items < 2 ^ 64 → Holds (view (Array v)) (map view v.items)

@@ -1,11 +1,8 @@
 -- An item's value, a level at a time.
 use Rattle.std.proofs.Common.{◌≡◌, ℕ, Vec, Global, String, Box, string_bytes, rules}
 use Rattle.cbor_head.specs.Value as value
-use Rattle.cbor_head.specs.Value.{entries_count}
-use Rattle.cbor_item.specs.View.{view}
-use Rattle.cbor_item.specs.inner.Members.{entries_view, values_view}
-use Rattle.cbor_item.specs.declared.item.Item.{Item, the_lemmas}
 use Rattle.cbor_item.specs.declared.item.Item.TheVariants.{Unsigned, Negative, Bytes, Text, Array, Map, Tag, Simple}
+use Rattle.cbor_item.specs.{View.view, inner.Members.entries_view, inner.Members.values_view, declared.item.Item.Item, declared.item.Item.the_lemmas}
 
 pub view-Unsigned : (n : ℕ) → view (Unsigned n) ≡ value.unsigned n
 view-Unsigned n = search (rules, the_lemmas)

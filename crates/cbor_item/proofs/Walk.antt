@@ -4,19 +4,14 @@ use Rattle.std.proofs.lemmas.List.{reverse-append}
 use Rattle.cbor_head.specs.declared.major.Major.TheVariants as Major
 use Rattle.cbor_head.specs.Prelude.{Pair, canonical, canonical_all, canonical_entries, in_order, shortest_head, Value, values_count, IsInRange, AreInRange, AreEntriesInRange, IsValid, AreValid, AreEntriesValid}
 use Rattle.cbor_head.specs.declared.order.KeyOrder.{KeyOrder}
-use Rattle.cbor_builder.specs.Built.{Built}
 use Rattle.cbor_canonical.specs.Parts.{Open, plain, an_array, a_map, pair, with_member, closed, HasNoRepeats}
-use Rattle.cbor_canonical.specs.Pairs.{pair_bytes, AreKeysValid}
-use Rattle.cbor_item.specs.View.{view, values_of}
-use Rattle.cbor_item.specs.inner.Members.{entries_view}
+use Rattle.cbor_canonical.{specs.Pairs.pair_bytes, specs.Pairs.AreKeysValid, proofs.Keys.distinct_exactly, proofs.Sound.valid_apart}
+use Rattle.cbor_canonical.{proofs.Told.length-canonical_entries, specs.Lists.values_of}
+use Rattle.cbor_builder.specs.Built.{Built}
 use Rattle.cbor_item.specs.inner.Walk.{flat, left, left_of_all, IsBegun, with_all, TakesAll, AreAllValid, LeadsAround, Leads, AreSoundAround, AreSound, size, size_all, size_entries, weight, Opens}
-use Rattle.cbor_item.specs.declared.item.Item.{Item}
-use Rattle.cbor_item.specs.declared.rest.Rest.{Rest}
 use Rattle.cbor_item.specs.declared.item.Item.TheVariants.{Array, Map, Tag}
-use Rattle.cbor_canonical.proofs.Keys.{distinct_exactly}
-use Rattle.cbor_canonical.proofs.Sound.{valid_apart}
-use Rattle.cbor_canonical.proofs.Told.{length-canonical_entries}
 use Rattle.cbor_item.proofs.Views.{view-Array, view-Map, view-Tag}
+use Rattle.cbor_item.specs.{View.view, inner.Members.entries_view, declared.item.Item.Item, declared.rest.Rest.Rest}
 
 -- ---- what becomes of an open part
 

@@ -2,10 +2,10 @@
 use Rattle.std.specs.Prelude.{ℕ, ◌≡◌, ◌++◌, List, [], ◌∷◌, map}
 use Rattle.cbor_head.specs.Value as value
 use Rattle.cbor_head.specs.Prelude.{Value, Values, Entries}
-use Rattle.cbor_head.specs.declared.major.Major.{Major}
 use Rattle.cbor_head.specs.declared.major.Major.TheVariants.{Array, Map, Tag}
-use Rattle.cbor_item.specs.View.{view, values_of, entries_of}
-use Rattle.cbor_item.specs.declared.item.Item.{Item}
+use Rattle.cbor_head.specs.declared.major.Major.{Major}
+use Rattle.cbor_canonical.specs.Lists.{values_of, entries_of}
+use Rattle.cbor_item.specs.{View.view, declared.item.Item.Item}
 
 -- What is open, with its finished members: items, or their values. Around all is the whole, which has one member once the
 -- item is complete.

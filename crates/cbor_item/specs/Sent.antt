@@ -1,8 +1,7 @@
 -- What a writer has taken of the bytes that it was given.
 use Rattle.std.specs.Prelude.{ℕ, ◌≡◌, ◌<◌, ◌⊎◌, List, length, take, Option, Result, Ok, Err}
 use Rattle.std.specs.Io.KnownBytes.{Keeps, Appends}
-use Rattle.cbor_head.specs.declared.reason.Reason.TheVariants.{Write, Memory}
-use Rattle.cbor_head.specs.declared.reason.Refusal.{Refusal}
+use Rattle.cbor_head.specs.declared.reason.{Reason.TheVariants.Write, Reason.TheVariants.Memory, Refusal.Refusal}
 
 -- memory was refused, and there is no input
 abbrev pub no_memory : Refusal

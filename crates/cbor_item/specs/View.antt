@@ -1,20 +1,9 @@
 -- The value that an item stands for (RFC 8949, section 2).
-use Rattle.std.specs.Prelude.{List, [], ◌∷◌, string_bytes}
+use Rattle.std.specs.Prelude.{string_bytes}
 use Rattle.cbor_head.specs.Value as value
-use Rattle.cbor_head.specs.Prelude.{Value, Values, Entries}
-use Rattle.cbor_item.specs.declared.item.Item.{Item}
-use Rattle.cbor_item.specs.declared.item.Item.TheOpen.{Item-F}
-use Rattle.cbor_item.specs.declared.item.Item.TheFolds.{fold-Item}
-
--- the members of an array
-abbrev pub values_of : List Value → Values
-values_of [] = value.no_values
-values_of (v ∷ vs) = value.a_value v (values_of vs)
-
--- the pairs of a map
-abbrev pub entries_of : List (Value × Value) → Entries
-entries_of [] = value.no_entries
-entries_of (p ∷ ps) = value.entry p.0 p.1 (entries_of ps)
+use Rattle.cbor_head.specs.Prelude.{Value}
+use Rattle.cbor_canonical.specs.Lists.{values_of, entries_of}
+use Rattle.cbor_item.specs.declared.item.Item.{Item, TheOpen.Item-F, TheFolds.fold-Item}
 
 -- one level, with each item inside already seen as its value
 abbrev pub view_step : Item-F Value → Value

@@ -1,12 +1,9 @@
 -- What an accepted item is in its input, which has one answer.
 use Rattle.std.proofs.Common.{ℕ, ◌+◌, ◌-◌, ◌≡◌, ◌≢◌, ◌≤◌, List, [], ◌++◌, length, take, sym, ap, ◌∙◌, arith, append-nil, length-append, length-take, take_all}
-use Rattle.std.proofs.lemmas.List.{nil_from_length}
-use Rattle.std.proofs.Math.Seq.{take-append-add}
+use Rattle.std.proofs.{lemmas.List.nil_from_length, Math.Seq.take-append-add}
 use Rattle.cbor_head.specs.Prelude.{Bounds, Spelling, spell, IsItem, Rules, Complaint, IsComplaint, accepted, refused, IsVerdict}
-use Rattle.cbor_head.specs.declared.reason.Reason.TheVariants.{Read, Memory}
-use Rattle.cbor_head.specs.declared.reason.Refusal.{Refusal}
-use Rattle.cbor_grammar.proofs.Beginnings.{item_decides}
-use Rattle.cbor_grammar.proofs.OneVerdict.{one_verdict}
+use Rattle.cbor_head.specs.declared.reason.{Reason.TheVariants.Read, Reason.TheVariants.Memory, Refusal.Refusal}
+use Rattle.cbor_grammar.proofs.{Beginnings.item_decides, OneVerdict.one_verdict}
 use Rattle.cbor_judging.specs.Readers.{IsUnread, of_verdict, of_reader, of_memory}
 
 module _ (limits : Bounds) (r : Rules) (input : List ℕ) where

@@ -2,14 +2,10 @@
 use Rattle.std.proofs.Common.{ℕ, ◌+◌, ◌-◌, ◌≡◌, List, ◌++◌, length, take, drop, refl, sym, ap, ◌∙◌, arith, inl, inr, append_assoc, take-append-drop}
 use Rattle.std.proofs.Math.Seq.{take-append-add}
 use Rattle.cbor_head.specs.Prelude.{Bounds, Value, Same, HasBasicKeys, Spelling, spell, value_of, canonical, strict, Complaint, IsComplaint, accepted, refused, IsVerdict}
-use Rattle.cbor_head.specs.declared.keys.Keys.TheVariants.{IntegersAndTexts}
-use Rattle.cbor_head.specs.declared.order.KeyOrder.{KeyOrder}
-use Rattle.cbor_head.specs.declared.reason.Refusal.{Refusal}
-use Rattle.cbor_grammar.proofs.Accepted.{accepts_exactly}
+use Rattle.cbor_head.specs.declared.{keys.Keys.TheVariants.IntegersAndTexts, order.KeyOrder.KeyOrder, reason.Refusal.Refusal}
 use Rattle.cbor_grammar.proofs.BasicKeys.{none_of_kinds, has_basic_keys, basic_same}
-use Rattle.cbor_canonical.specs.CanonicalSpelling.{IsCanonicalSpelling}
-use Rattle.cbor_canonical.proofs.Depth.{depth-value_of}
-use Rattle.cbor_canonical.proofs.Told.{told}
+use Rattle.cbor_grammar.proofs.Accepted.{accepts_exactly}
+use Rattle.cbor_canonical.{specs.CanonicalSpelling.IsCanonicalSpelling, proofs.Depth.depth-value_of, proofs.Told.told}
 use Rattle.cbor_canonical.proofs.Theorems.{canonical_spelled, strict_exactly}
 use Rattle.cbor_judging.specs.Readers.{IsRead, BeginsWithCanonical, IsCanonicalFront, HasNoCanonicalFront}
 use Rattle.cbor_judging.proofs.Accepted.{item_within_limit, not_both}

@@ -1,36 +1,22 @@
 -- Strings of chunks.
 use Rattle.std.proofs.Common.{◌≡◌, ℕ, ◌+◌, ◌-◌, ◌<◌, ◌≤◌, ◌⊎◌, Bool, true, false, Option, Some, None, List, [], ◌∷◌, ◌++◌, length, replicate, refl, sym, ap, ◌∙◌, subst, inl, inr, arith, append_assoc, append-nil, IsTrue, IsUtf8, length-append}
-use Rattle.std.specs.Str.Lossy.{utf8_valid_len}
-use Rattle.std.proofs.lemmas.Grind.{flat_map-append}
-use Rattle.std.proofs.lemmas.Str.{IsUtf8-nil, IsUtf8-append}
-use Rattle.cbor_head.specs.Prelude.{Holds, head, Bounds, AreBytes, Chunk, spell, chunks_joined, Rules, Complaint, complaint, OfHead, OfIndefinite, OfCount, OfString, refusal}
-use Rattle.cbor_head.specs.declared.major.Major.{Major}
-use Rattle.cbor_head.specs.declared.major.Major.TheVariants as majors
-use Rattle.cbor_head.specs.declared.width.Width.{Width}
-use Rattle.cbor_head.specs.declared.width.Width.TheVariants.{Indefinite}
-use Rattle.cbor_head.specs.declared.reason.Refusal.{Refusal}
-use Rattle.cbor_head.specs.declared.reason.Reason.TheVariants.{InvalidText}
-use Rattle.cbor_automaton.specs.Trace.{Mark, a_head, a_chunk, a_byte, a_break}
-use Rattle.cbor_automaton.specs.Marks.{mark_of}
-use Rattle.cbor_automaton.specs.declared.event.Event.{Event}
-use Rattle.cbor_automaton.specs.declared.event.EventKind.{EventKind}
-use Rattle.cbor_automaton.specs.declared.event.EventKind.TheVariants as kinds
-use Rattle.cbor_grammar.proofs.OneFirst.{count_last}
-use Rattle.cbor_grammar.proofs.Reasons.{string_ranked}
-use Rattle.cbor_grammar.proofs.Agree.{string_later}
-use Rattle.cbor_grammar.proofs.ReadLaws.{length_head}
+use Rattle.std.{specs.Str.Lossy.utf8_valid_len, proofs.lemmas.Grind.flat_map-append, proofs.lemmas.Str.IsUtf8-nil, proofs.lemmas.Str.IsUtf8-append}
 use Rattle.std.proofs.KnownBytes.{Consumes-trans}
-use Rattle.cbor_judging.specs.Place.{Container, Place, at_item, in_chunks, close, payload, IsTaking}
+use Rattle.cbor_head.specs.Prelude.{Holds, head, Bounds, AreBytes, Chunk, spell, chunks_joined, Rules, Complaint, complaint, OfHead, OfIndefinite, OfCount, OfString, refusal}
+use Rattle.cbor_head.specs.declared.major.Major.TheVariants as majors
+use Rattle.cbor_head.specs.declared.{major.Major.Major, width.Width.Width, width.Width.TheVariants.Indefinite, reason.Refusal.Refusal}
+use Rattle.cbor_head.specs.declared.reason.Reason.TheVariants.{InvalidText}
+use Rattle.cbor_grammar.proofs.{OneFirst.count_last, Reasons.string_ranked, Agree.string_later, ReadLaws.length_head}
+use Rattle.cbor_automaton.specs.Trace.{Mark, a_head, a_chunk, a_byte, a_break}
+use Rattle.cbor_automaton.specs.declared.event.EventKind.TheVariants as kinds
+use Rattle.cbor_automaton.{specs.Marks.mark_of, specs.declared.event.Event.Event, specs.declared.event.EventKind.EventKind, proofs.Taking.nothing-taken}
 use Rattle.cbor_standing.specs.NextEvent.{ItemEventsView}
-use Rattle.cbor_judging.specs.Judged.{IsJudged, Never}
+use Rattle.cbor_judging.specs.Place.{Container, Place, at_item, in_chunks, close, payload, IsTaking}
 use Rattle.cbor_judging.specs.Reading.{IsAt, IsFormRefusal, IsNextHead, Extends, IsBegun, OfMark, ReadsItem, StopsItem, StopsHead, ReadsPayload, StopsPayload, string_major, string_kind, string_value, state_at}
 use Rattle.cbor_judging.proofs.Items.{whole-cause, is-definite, head-count, extends-none, extends-on}
-use Rattle.cbor_judging.proofs.Scalars.{at-as}
-use Rattle.cbor_judging.proofs.Heads.{zero_bytes, zero_length}
 use Rattle.cbor_judging.proofs.Leaves.{chunks_bytes, chunks_of, is-chunked, chunks-value, chunks_on, chunk_judged, chunk, AreChunksSoFar, cut_chunk, chunk_complains, chunks_more, chunks_whole}
-use Rattle.cbor_automaton.proofs.Taking.{nothing-taken}
-use Rattle.cbor_judging.proofs.CutHeads.{chunk_cut}
-use Rattle.cbor_judging.proofs.WholeStrings.{stops-payload}
+use Rattle.cbor_judging.{specs.Judged.IsJudged, specs.Judged.Never, proofs.Scalars.at-as, proofs.Heads.zero_bytes, proofs.Heads.zero_length}
+use Rattle.cbor_judging.proofs.{CutHeads.chunk_cut, WholeStrings.stops-payload}
 
 -- ---- of chunks
 

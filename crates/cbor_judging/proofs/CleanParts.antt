@@ -1,17 +1,11 @@
 -- What is complete in the open containers has no complaint, where the whole is known to have none.
 use Rattle.std.proofs.Common.{◌≡◌, ℕ, ◌+◌, ◌-◌, ◌≤◌, List, [], ◌∷◌, ◌++◌, length, refl, sym, ap, ap₂, ◌∙◌, subst, inl, arith, append-nil, append_assoc, length-append}
 use Rattle.cbor_head.specs.Prelude.{plain, Rules, Complaint, Complains, Spelling, spell, IsItem, IsSpelled, depth}
-use Rattle.cbor_grammar.proofs.Agree.{split_front, same_complaints}
-use Rattle.cbor_grammar.proofs.OneFirst.{bounded}
-use Rattle.cbor_grammar.proofs.Verdicts.{whole_longest}
-use Rattle.cbor_judging.specs.Frame.{Frame, before}
-use Rattle.cbor_judging.specs.Kinds.{plug_all}
+use Rattle.cbor_grammar.proofs.{Agree.split_front, Agree.same_complaints, OneFirst.bounded, Verdicts.whole_longest}
 use Rattle.cbor_judging.specs.Levels.{IsClean, IsTaken, Level, AreLevels, bytes_before}
-use Rattle.cbor_judging.specs.OpenMaps.{before_all}
-use Rattle.cbor_judging.proofs.Frames.{plug_item}
-use Rattle.cbor_judging.proofs.KindFrames.{spell_along, item_along}
 use Rattle.cbor_judging.proofs.LevelFrames.{path, path_length, path_bytes, path_open}
-use Rattle.cbor_judging.proofs.Levels.{clean-anywhere}
+use Rattle.cbor_judging.{specs.Frame.Frame, specs.Frame.before, specs.Kinds.plug_all, specs.OpenMaps.before_all, proofs.Frames.plug_item}
+use Rattle.cbor_judging.proofs.{KindFrames.spell_along, KindFrames.item_along, Levels.clean-anywhere}
 
 -- a complaint of an item is one of the containers around it
 complaint_along : (fs : List Frame) (s : Spelling) (r : Rules) (at to : ℕ) (c : Complaint) → to ≡ at + length (before_all fs) → Complains r to s c → Complains r at (plug_all fs s) c

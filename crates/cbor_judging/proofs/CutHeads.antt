@@ -1,23 +1,15 @@
 -- The input ends within a head or a payload: nothing is to be said against what there is of the item.
 use Rattle.std.proofs.Common.{◌≡◌, ℕ, suc, ◌+◌, ◌*◌, ◌-◌, ◌^◌, ◌%◌, ◌<◌, ◌≤◌, ◌⊎◌, Bool, None, List, [], ◌∷◌, ◌++◌, length, replicate, refl, sym, ap, ◌∙◌, subst, inl, inr, arith, length-append}
-use Rattle.std.specs.Int.{bytes_high_first}
-use Rattle.std.proofs.lemmas.Bool.{cases_lt}
-use Rattle.std.proofs.lemmas.List.{nil_from_length}
+use Rattle.std.{specs.Int.bytes_high_first, proofs.lemmas.Bool.cases_lt, proofs.lemmas.List.nil_from_length}
 use Rattle.cbor_head.specs.Prelude.{Rules, OfHead, Holds, head, simple, major_number, Chunk, AreBytes}
-use Rattle.cbor_head.specs.declared.major.Major.{Major}
-use Rattle.cbor_head.specs.declared.width.Width.{Width}
 use Rattle.cbor_head.specs.declared.width.Width.TheVariants.{One, Two, Four, Eight}
-use Rattle.cbor_automaton.proofs.FirstByte.{split}
-use Rattle.cbor_automaton.proofs.Arguments.{number}
-use Rattle.cbor_automaton.proofs.Kept.{long-head}
-use Rattle.cbor_judging.proofs.Arguments.{fits, numbered}
-use Rattle.cbor_judging.proofs.Judged.{judged_head}
-use Rattle.cbor_judging.specs.Judged.{IsJudged, Never}
+use Rattle.cbor_head.specs.declared.{major.Major.Major, width.Width.Width}
 use Rattle.cbor_grammar.proofs.ByteLists.{bytes_join}
+use Rattle.cbor_automaton.proofs.{FirstByte.split, Arguments.number, Kept.long-head}
 use Rattle.cbor_judging.proofs.Heads.{headed, long_cut, simple_cut, zero_bytes, zero_length}
 use Rattle.cbor_judging.proofs.Leaves.{chunks_bytes, so-far, AreChunksSoFar, cut_payload}
-use Rattle.cbor_judging.specs.Path.{Level}
-use Rattle.cbor_judging.specs.Reading.{string_major}
+use Rattle.cbor_judging.{proofs.Arguments.fits, proofs.Arguments.numbered, proofs.Judged.judged_head, specs.Judged.IsJudged, specs.Judged.Never}
+use Rattle.cbor_judging.specs.{Path.Level, Reading.string_major}
 
 -- ---- a head
 

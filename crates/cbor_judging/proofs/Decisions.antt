@@ -1,16 +1,11 @@
 -- What a reader found is the verdict.
 use Rattle.std.proofs.Common.{ℕ, ◌+◌, ◌≡◌, ◌≤◌, Some, None, List, [], ◌∷◌, ◌++◌, length, take, refl, sym, ap, ◌∙◌, arith, subst, inl, inr, append_assoc, append-nil, length-append}
 use Rattle.std.proofs.lemmas.Bool.{cases_lt}
-use Rattle.cbor_head.specs.Laws.{StartsWith}
 use Rattle.cbor_head.specs.Prelude.{Bounds, Spelling, spell, IsItem, Rules, Complaint, complaint, OfKinds, Complains, IsComplaint, refusal, refused, IsFormError, IsFirstOf, HasNoneOf, IsVerdict, IsLongestBeginning}
-use Rattle.cbor_head.specs.declared.reason.Reason.TheVariants.{KeyKind}
-use Rattle.cbor_head.specs.declared.reason.Refusal.{Refusal}
-use Rattle.cbor_judging.specs.Judged.{IsJudged}
-use Rattle.cbor_judging.specs.Kinds.{AsksForKinds, KeepsToKinds}
-use Rattle.cbor_grammar.proofs.Agree.{split_front, same_complaints}
+use Rattle.cbor_head.specs.{Laws.StartsWith, declared.reason.Reason.TheVariants.KeyKind, declared.reason.Refusal.Refusal}
 use Rattle.cbor_grammar.proofs.Complaints.{complains_told, first_for_each, kind_comes_first}
-use Rattle.cbor_grammar.proofs.KeyKinds.{of_kind}
-use Rattle.cbor_grammar.proofs.KindsAgree.{same_kinds}
+use Rattle.cbor_grammar.proofs.{Agree.split_front, Agree.same_complaints, KeyKinds.of_kind, KindsAgree.same_kinds}
+use Rattle.cbor_judging.specs.{Judged.IsJudged, Kinds.AsksForKinds, Kinds.KeepsToKinds}
 
 pub first_at_start : (r : Rules) (s : Spelling) (p : List ℕ) (c : Complaint) → IsFirstOf (Complains r 0 s) (0 + length p) c → IsFirstOf (Complains r 0 s) (length p) c
 first_at_start r s p c f =

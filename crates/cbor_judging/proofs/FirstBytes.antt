@@ -2,29 +2,17 @@
 use Rattle.std.proofs.Common.{◌≡◌, ℕ, suc, ◌+◌, ◌-◌, ◌*◌, ◌%◌, ◌<◌, ◌≤◌, ◌⊎◌, Bool, false, None, List, [], ◌∷◌, ◌++◌, length, get_or, refl, ap, ◌∙◌, subst, inl, inr, arith, append-nil, length-append, lt-ltb, le-ltb}
 use Rattle.std.proofs.lemmas.Bool.Decides.{nat_tests}
 use Rattle.cbor_head.specs.Prelude.{Rules, Bounds, simple, head, major_number, AreBytes, initial_reason, refusal}
-use Rattle.cbor_head.specs.declared.major.Major.{Major}
 use Rattle.cbor_head.specs.declared.major.Major.TheVariants.{Bytes, Text, Array, Map, Tag, Simple}
-use Rattle.cbor_head.specs.declared.reason.Reason.{Reason}
 use Rattle.cbor_head.specs.declared.reason.Reason.TheVariants.{Reserved, NoIndefinite, Float, BadSimple, StrayBreak, TooDeep}
-use Rattle.cbor_head.specs.declared.width.Width.{Width}
 use Rattle.cbor_head.specs.declared.width.Width.TheVariants.{One, Two, Four, Eight, Indefinite}
-use Rattle.cbor_automaton.specs.Automaton.{Frame, at_item, in_simple, Opening, direct, long, indefinite_length, long_simple, refuses, opening, has_room, begin, take_byte}
-use Rattle.cbor_automaton.specs.Trace.{more_bytes}
-use Rattle.cbor_automaton.proofs.Openings.{IsLong, by-byte}
-use Rattle.cbor_automaton.proofs.Taking.{IsNumbered}
+use Rattle.cbor_head.specs.declared.{major.Major.Major, reason.Reason.Reason, width.Width.Width}
 use Rattle.cbor_grammar.proofs.ByteLists.{bytes_back}
-use Rattle.cbor_judging.specs.Judged.{IsJudged}
-use Rattle.cbor_judging.specs.Kinds.{KeepsToKinds}
-use Rattle.cbor_judging.proofs.Judged.{judged_start, judged_head}
-use Rattle.cbor_judging.specs.PathKinds.{KeepsHere}
+use Rattle.cbor_automaton.specs.Automaton.{Frame, at_item, in_simple, Opening, direct, long, indefinite_length, long_simple, refuses, opening, has_room, begin, take_byte}
+use Rattle.cbor_automaton.{specs.Trace.more_bytes, proofs.Openings.IsLong, proofs.Openings.by-byte, proofs.Taking.IsNumbered}
 use Rattle.cbor_judging.specs.Path.{Level, a_member, a_key, a_value, bytes_before, AreClean, MayBreak}
-use Rattle.cbor_judging.specs.RefusedHere.{IsMisplaced}
-use Rattle.cbor_judging.specs.Stop.{HasBadByte}
-use Rattle.cbor_judging.proofs.Heads.{simple_cut}
-use Rattle.cbor_judging.proofs.PathForm.{containers, containers_count}
-use Rattle.cbor_judging.proofs.PathKinds.{kept_before}
-use Rattle.cbor_judging.proofs.PathStops.{bad_byte_here}
-use Rattle.cbor_judging.proofs.SpelledBytes.{small_major}
+use Rattle.cbor_judging.{specs.Judged.IsJudged, specs.Kinds.KeepsToKinds, proofs.Judged.judged_start, proofs.Judged.judged_head, specs.PathKinds.KeepsHere}
+use Rattle.cbor_judging.{specs.RefusedHere.IsMisplaced, specs.Stop.HasBadByte, proofs.Heads.simple_cut}
+use Rattle.cbor_judging.proofs.{PathForm.containers, PathForm.containers_count, PathKinds.kept_before, PathStops.bad_byte_here, SpelledBytes.small_major}
 
 -- ---- for which reason a byte is refused
 

@@ -1,18 +1,11 @@
 -- What the front of an input tells of its first item, however it goes on: all but that it ends within it.
 use Rattle.std.proofs.Common.{ℕ, ◌+◌, ◌-◌, ◌≡◌, ◌≢◌, inl, inr, List, [], ◌∷◌, ◌++◌, length, take, refl, sym, ap, ◌∙◌, arith, subst, append_assoc, append-nil, length-append, length-take, take_all}
-use Rattle.std.proofs.lemmas.Bool.{cases_lt}
-use Rattle.std.proofs.lemmas.List.{take-append-le}
-use Rattle.std.proofs.Math.Seq.{take-append-add}
+use Rattle.std.proofs.{lemmas.Bool.cases_lt, lemmas.List.take-append-le, Math.Seq.take-append-add}
 use Rattle.cbor_head.specs.Prelude.{IsLongestBeginning, Rules, Complaint, IsComplaint, Bounds, Spelling, spell, IsItem, Answer, accepted, refused, refusal, IsFormError, IsVerdict}
-use Rattle.cbor_head.specs.Laws.{IsFirstComplaint, IsWithout}
-use Rattle.cbor_head.specs.declared.reason.Reason.TheVariants.{Truncated}
-use Rattle.cbor_head.specs.declared.reason.Refusal.{Refusal}
-use Rattle.cbor_grammar.proofs.Agree.{split_front}
-use Rattle.cbor_grammar.proofs.Complaints.{complaints_told, first_for_each}
-use Rattle.cbor_grammar.proofs.Verdicts.{whole_longest}
+use Rattle.cbor_head.specs.{Laws.IsFirstComplaint, Laws.IsWithout, declared.reason.Reason.TheVariants.Truncated, declared.reason.Refusal.Refusal}
+use Rattle.cbor_grammar.proofs.{Agree.split_front, Complaints.complaints_told, Complaints.first_for_each, Verdicts.whole_longest}
 use Rattle.cbor_automaton.proofs.Longest.{stands_longest}
-use Rattle.cbor_judging.proofs.Decisions.{first_further}
-use Rattle.cbor_judging.proofs.SpelledBytes.{longest_always}
+use Rattle.cbor_judging.proofs.{Decisions.first_further, SpelledBytes.longest_always}
 
 -- an answer that needs no more bytes
 abbrev pub IsFinal : Answer → Type 0

@@ -3,21 +3,15 @@ use Rattle.std.proofs.Common.{◌≡◌, ℕ, zero, suc, ◌+◌, ◌-◌, ◌^�
 use Rattle.cbor_head.specs.Prelude.{Holds, head, shortest_head, Entries, Pair, canonical, canonical_all, canonical_entries, in_order, Spelling, Spellings, SpelledEntries, array, a_map, tag, no_spellings, a_spelling, no_entries, entry, spell, spell_all, spell_entries, spellings_count, entries_count, HoldsOrIndefinite, value_of, values_of, entries_of}
 use Rattle.cbor_head.specs.Value as value
 use Rattle.cbor_head.specs.declared.major.Major.TheVariants as majors
-use Rattle.cbor_head.specs.declared.order.KeyOrder.{KeyOrder}
-use Rattle.cbor_head.specs.declared.width.Width.{Width}
-use Rattle.cbor_head.specs.declared.width.Width.TheVariants.{Indefinite}
+use Rattle.cbor_head.specs.declared.{order.KeyOrder.KeyOrder, width.Width.Width, width.Width.TheVariants.Indefinite}
 use Rattle.cbor_grammar.proofs.Counts.{values_count-of}
-use Rattle.cbor_judging.specs.Place.{counted, close}
-use Rattle.cbor_canonical.specs.Pairs.{HasDistinctBytes, AreKeysValid}
 use Rattle.cbor_canonical.specs.Parts.{an_array, plain as a_plain, a_map as an_open_map, pair, give, closed}
-use Rattle.cbor_canonical.proofs.Keys.{distinct_exactly}
-use Rattle.cbor_judging.specs.Frame.{with_all, with_entries}
-use Rattle.cbor_judging.proofs.Heads.{open_or}
-use Rattle.cbor_judging.proofs.Loops.{array_bytes-more, map_bytes-more}
-use Rattle.cbor_judging.proofs.Valid.{in_range_entries, valid_of}
+use Rattle.cbor_canonical.{specs.Pairs.HasDistinctBytes, specs.Pairs.AreKeysValid, proofs.Keys.distinct_exactly}
 use Rattle.cbor_judging.specs.Levels.{settle, IsTaken, AreTaken, ArePairsTaken, Level, a_member, a_key, a_value, some_member, some_key, some_value, tagged, frame, AreLevels, bytes_before}
 use Rattle.cbor_judging.specs.Given.{StandsAt, opens, IsFull}
 use Rattle.cbor_judging.proofs.Levels.{no-count, spelled-all, within-all, clean-all, taken-more, count-more, pairs-spelled, pairs-within, pairs-more, pair-count-more, pairs-clean, array-spelled, map-spelled, pairs-shorter}
+use Rattle.cbor_judging.{specs.Place.counted, specs.Place.close, specs.Frame.with_all, specs.Frame.with_entries, proofs.Heads.open_or}
+use Rattle.cbor_judging.proofs.{Loops.array_bytes-more, Loops.map_bytes-more, Valid.in_range_entries, Valid.valid_of}
 
 -- ---- what is complete, in a builder
 

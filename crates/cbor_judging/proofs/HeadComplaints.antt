@@ -1,14 +1,11 @@
 -- What the rules have against a head comes first of all that they have against its item.
 use Rattle.std.proofs.Common.{◌≡◌, ◌≢◌, ℕ, ◌+◌, ◌≤◌, Some, length, refl, IsTrue}
 use Rattle.cbor_head.specs.Prelude.{Rules, plain, complaint, OfHead, Holds, head, shortest}
-use Rattle.cbor_head.specs.declared.major.Major.{Major}
 use Rattle.cbor_head.specs.declared.reason.Reason.TheVariants.{NotShortest, Indefinite as IndefiniteReason}
-use Rattle.cbor_head.specs.declared.width.Width.{Width}
-use Rattle.cbor_head.specs.declared.width.Width.TheVariants.{Indefinite}
+use Rattle.cbor_head.specs.declared.{major.Major.Major, width.Width.Width, width.Width.TheVariants.Indefinite}
 use Rattle.cbor_automaton.proofs.Taking.{IsNumbered}
-use Rattle.cbor_judging.specs.Judged.{IsJudged, Never}
 use Rattle.cbor_judging.proofs.Heads.{takes, headed, IsOpener, opened, head_judged}
-use Rattle.cbor_judging.proofs.Items.{is-definite, head-count}
+use Rattle.cbor_judging.{specs.Judged.IsJudged, specs.Judged.Never, proofs.Items.is-definite, proofs.Items.head-count}
 
 -- longer than it need be
 pub not_shortest : (r : Rules) → IsTrue r.heads → (at d : ℕ) (m : Major) (w : Width) (n : ℕ) → IsNumbered m → Holds w n → takes m ≤ d → w ≢ shortest n

@@ -2,18 +2,14 @@
 use Rattle.std.proofs.Common.{ℕ, suc, ◌+◌, ◌-◌, ◌≡◌, ◌<◌, ◌≤◌, true, false, Some, None, inl, inr, List, [], ◌∷◌, ◌++◌, length, replicate, refl, sym, ap, ◌∙◌, arith, subst, ltb-true, length-append, append_assoc}
 use Rattle.std.proofs.lemmas.List.{length-replicate}
 use Rattle.cbor_head.specs.Prelude.{Holds, IsSimple, head, shortest, Spelling, unsigned, negative, bytes, text, byte_chunks, text_chunks, array, a_map, tag, simple, no_spellings, no_entries, IsSpelled, HoldsOrIndefinite, depth, IsItem, Rules, Complaint, OfHead, OfCount, Complains}
-use Rattle.cbor_head.specs.declared.major.Major.{Major}
 use Rattle.cbor_head.specs.declared.major.Major.TheVariants.{Unsigned, Negative, Bytes, Text, Array, Map, Tag, Simple}
-use Rattle.cbor_head.specs.declared.width.Width.{Width}
-use Rattle.cbor_head.specs.declared.width.Width.TheVariants.{Indefinite}
+use Rattle.cbor_head.specs.declared.{major.Major.Major, width.Width.Width, width.Width.TheVariants.Indefinite}
 use Rattle.cbor_grammar.proofs.Agree.{head_of, body, parts, later}
-use Rattle.cbor_grammar.proofs.OneFirst.{count_last}
-use Rattle.cbor_grammar.proofs.Reasons.{ranked}
+use Rattle.cbor_grammar.proofs.{OneFirst.count_last, Reasons.ranked}
 use Rattle.cbor_automaton.specs.Automaton.{Frame, State, at_item, in_head, in_simple, in_chunks, has_room}
-use Rattle.cbor_automaton.proofs.Arguments.{number}
-use Rattle.cbor_automaton.proofs.Taking.{IsNumbered, IsWithin}
-use Rattle.cbor_judging.specs.Judged.{IsJudged}
+use Rattle.cbor_automaton.proofs.{Arguments.number, Taking.IsNumbered, Taking.IsWithin}
 use Rattle.cbor_judging.proofs.Judged.{judged_start, judged_head, zero_item, zero_spelled, zeros, zero_pairs, zeros_count, zeros_spelled, zeros_flat, pairs_count, pairs_spelled, pairs_flat}
+use Rattle.cbor_judging.specs.Judged.{IsJudged}
 pub use Rattle.cbor_grammar.proofs.ReadLaws.{holds_or_open as open_or}
 pub use Rattle.cbor_automaton.proofs.Beginnings.{zero_bytes}
 

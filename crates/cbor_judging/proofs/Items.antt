@@ -1,22 +1,17 @@
 -- An item in another: what is read and what is refused of it, for the whole.
 use Rattle.std.proofs.Common.{◌≡◌, ◌≢◌, ℕ, ◌-◌, ◌<◌, ◌≤◌, Option, Some, None, List, [], ◌++◌, length, refl, sym, ap, ◌∙◌, subst, arith, append_assoc, append-nil}
-use Rattle.std.specs.Io.KnownBytes.{Consumes}
-use Rattle.std.proofs.KnownBytes.{Consumes-nil, Consumes-trans}
+use Rattle.std.{specs.Io.KnownBytes.Consumes, proofs.KnownBytes.Consumes-nil, proofs.KnownBytes.Consumes-trans}
 use Rattle.cbor_head.specs.Prelude.{Holds, head, Bounds, Rules, Complaint, OfHead, OfCount, refusal}
-use Rattle.cbor_head.specs.declared.major.Major.{Major}
 use Rattle.cbor_head.specs.declared.major.Major.TheVariants as majors
-use Rattle.cbor_head.specs.declared.width.Width.{Width}
-use Rattle.cbor_head.specs.declared.width.Width.TheVariants.{Indefinite}
-use Rattle.cbor_head.specs.declared.reason.Refusal.{Refusal}
+use Rattle.cbor_head.specs.declared.{major.Major.Major, width.Width.Width, width.Width.TheVariants.Indefinite, reason.Refusal.Refusal}
 use Rattle.cbor_grammar.proofs.ReadLaws.{length_head}
 use Rattle.cbor_automaton.specs.Trace.{Mark, a_head, a_chunk, a_byte, a_break}
-use Rattle.cbor_judging.specs.Place.{Container, Place, at_item, Follows, Opens, IsTaking}
 use Rattle.cbor_automaton.specs.Marks as marks
-use Rattle.cbor_automaton.proofs.Taking.{nothing-taken}
-use Rattle.cbor_judging.specs.Judged.{IsJudged}
+use Rattle.cbor_automaton.proofs.Taking.{nothing-taken, IsNumbered}
+use Rattle.cbor_judging.specs.Place.{Container, Place, at_item, Follows, Opens, IsTaking}
 use Rattle.cbor_judging.specs.Reading.{Extends, IsFormRefusal, OfMark, IsCause, HasCause, IsUndecided, IsCutHead, state_at}
 use Rattle.cbor_judging.proofs.Heads.{takes, Headed, headed, simple-headed, IsOpener, opened, head_judged, cut_head}
-use Rattle.cbor_automaton.proofs.Taking.{IsNumbered}
+use Rattle.cbor_judging.specs.Judged.{IsJudged}
 
 -- ---- a complaint of all that was taken
 

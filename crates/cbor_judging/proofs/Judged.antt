@@ -2,12 +2,12 @@
 use Rattle.std.proofs.Common.{ℕ, zero, suc, ◌+◌, ◌-◌, ◌≡◌, ◌<◌, ◌≤◌, ◌⊎◌, Option, Some, None, List, [], ◌++◌, length, refl, sym, ap, ◌∙◌, arith, inl, inr, length-append, append_assoc}
 use Rattle.std.proofs.lemmas.Bool.{cases_lt}
 use Rattle.cbor_head.specs.Prelude.{Spelling, Spellings, SpelledEntries, no_entries, entry, spell, spellings_count, entries_count, IsSpelled, AreEntriesSpelled, depth, depth_entries, IsItem, array, a_map, Rules, Complaint, Complains, rank}
-use Rattle.cbor_judging.specs.Frame.{Frame, a_key, keys_onto, plug, before, behind, IsFrame, depth_beside, OfFront, OfKeyAt}
-use Rattle.cbor_judging.specs.Judged.{IsFinding, IsJudged, Never}
+use Rattle.cbor_head.specs.declared.width.Width.{Width}
 use Rattle.cbor_grammar.proofs.Agree.{head_of, body, parts, later}
 use Rattle.cbor_grammar.proofs.OneFirst.{bounded, key_last}
+use Rattle.cbor_judging.specs.Frame.{Frame, a_key, keys_onto, plug, before, behind, IsFrame, depth_beside, OfFront, OfKeyAt}
+use Rattle.cbor_judging.specs.Judged.{IsFinding, IsJudged, Never}
 use Rattle.cbor_judging.proofs.Frames.{spell_plug, spelled_plug, depth_plug, plug_split, plug_item, back_later, key_at_end}
-use Rattle.cbor_head.specs.declared.width.Width.{Width}
 use Rattle.cbor_judging.specs.SoFar.{IsArraySoFar, IsMapSoFar}
 pub use Rattle.cbor_automaton.proofs.Beginnings.{zero_item, zeros, zeros_count, zeros_spelled, zeros_flat}
 

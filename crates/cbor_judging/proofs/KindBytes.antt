@@ -1,34 +1,23 @@
 -- In which bytes of an item no key begins behind the first of them: of one head, or of what is no container.
 use Rattle.std.proofs.Common.{ℕ, zero, suc, ◌+◌, ◌*◌, ◌-◌, ◌^◌, ◌/◌, ◌%◌, ◌≡◌, ◌<◌, ◌≤◌, true, false, List, [], ◌∷◌, ◌++◌, length, replicate, refl, sym, ap, ◌∙◌, arith, subst, ◌≢◌, None, IsTrue, Option, length-append, append-nil}
 use Rattle.cbor_head.specs.Prelude.{head, major_number, Bounds, IsIntegerOrText, AreBytes, Spelling, array, a_map, tag, spell, depth, value_of, IsSpelled, HoldsOrIndefinite, Rules, Complaint, OfKinds, form, MayFollow}
-use Rattle.cbor_head.specs.declared.major.Major.{Major}
-use Rattle.cbor_head.specs.declared.major.Major.TheVariants.{Bytes, Text}
-use Rattle.cbor_head.specs.declared.width.Width.{Width}
 use Rattle.cbor_head.specs.declared.width.Width.TheVariants.{Direct, One, Two, Four, Eight, Indefinite}
-use Rattle.cbor_grammar.specs.FirstBytes.{is_basic, is_container}
-use Rattle.cbor_grammar.proofs.ReadLaws.{length_head}
+use Rattle.cbor_head.specs.declared.{major.Major.Major, major.Major.TheVariants.Bytes, major.Major.TheVariants.Text, width.Width.Width}
 use Rattle.cbor_grammar.proofs.KeyKinds.{number_is, byte_basic, of_kind, first_of_head}
 use Rattle.cbor_grammar.proofs.Parts.{major, width, count, head_of, body, parts, holds_of}
+use Rattle.cbor_grammar.{specs.FirstBytes.is_basic, specs.FirstBytes.is_container, proofs.ReadLaws.length_head, proofs.ByteLists.bytes_back}
 use Rattle.cbor_automaton.specs.Trace.{Mark, a_head, a_chunk, a_byte, a_break}
 use Rattle.cbor_automaton.specs.Automaton as automaton
 use Rattle.cbor_automaton.specs.Automaton.{State, at_item as due_at, in_head, in_simple, run, reached, Next, refuses, goes, tells, take_byte}
-use Rattle.cbor_automaton.proofs.Arguments.{number}
 use Rattle.cbor_automaton.proofs.Taking.{IsWithin, nothing-taken, IsTakingNext, byte-taken, within-start}
-use Rattle.cbor_judging.specs.Frame.{Frame}
-use Rattle.cbor_judging.specs.Judged.{IsJudged}
+use Rattle.cbor_automaton.proofs.{Arguments.number, Stands.IsString, Refusals.IsTaken, Refusals.taken-follows}
+use Rattle.cbor_standing.specs.NextEvent.{ItemEventsView}
 use Rattle.cbor_judging.specs.Kinds.{IsOfOneHead, HasBasicFront, AsksForKinds, KeepsToKinds}
 use Rattle.cbor_judging.specs.Place.{Container, Place, at_item, IsTaking}
 use Rattle.cbor_judging.proofs.Heads.{Headed, open_or, zero_bytes, cut_head, zero_length}
-use Rattle.cbor_judging.proofs.Items.{taken-headed}
-use Rattle.cbor_automaton.proofs.Stands.{IsString}
-use Rattle.cbor_judging.proofs.KindFrames.{IsAround, keeps_on}
-use Rattle.cbor_automaton.proofs.Refusals.{IsTaken, taken-follows}
-use Rattle.cbor_standing.specs.NextEvent.{ItemEventsView}
-use Rattle.cbor_judging.specs.Reading.{IsAt, state_at}
-use Rattle.cbor_grammar.proofs.ByteLists.{bytes_back}
 use Rattle.cbor_judging.proofs.Places.{place_of, clear-at, taking-at}
-use Rattle.cbor_judging.proofs.SpelledBytes.{beginning_bytes}
-use Rattle.cbor_judging.proofs.Steps.{at-run}
+use Rattle.cbor_judging.{specs.Frame.Frame, specs.Judged.IsJudged, proofs.Items.taken-headed, proofs.KindFrames.IsAround, proofs.KindFrames.keeps_on}
+use Rattle.cbor_judging.{specs.Reading.IsAt, specs.Reading.state_at, proofs.SpelledBytes.beginning_bytes, proofs.Steps.at-run}
 
 -- ---- bytes of one head
 

@@ -2,17 +2,14 @@
 use Rattle.std.proofs.Common.{ℕ, suc, ◌+◌, ◌≡◌, ◌<◌, ◌≤◌, ◌⊎◌, ◌↔◌, List, [], ◌∷◌, ◌++◌, length, refl, sym, ap, ◌∙◌, arith, subst, inl, inr, length-append, append_assoc, append-nil, Option}
 use Rattle.cbor_head.specs.Prelude.{head, IsIntegerOrText, Spelling, Spellings, SpelledEntries, no_spellings, a_spelling, no_entries, entry, spell, spell_all, spell_entries, spellings_count, entries_count, IsSpelled, depth, value_of, IsItem, Complaint, complaint, OfKinds, OfKindsIn, OfKindsInEntries, Rules, Bounds, IsBeginning}
 use Rattle.cbor_head.specs.declared.major.Major.TheVariants.{Array, Map, Tag}
-use Rattle.cbor_head.specs.declared.reason.Reason.TheVariants.{KeyKind}
+use Rattle.cbor_head.specs.{declared.reason.Reason.TheVariants.KeyKind, Laws.StartsWith, declared.reason.Refusal.Refusal}
 use Rattle.cbor_grammar.proofs.KeyKinds.{kind_end, of_kind, of_kind_in, of_kind_entries}
-use Rattle.cbor_grammar.proofs.ReadLaws.{length_head, length_spell}
+use Rattle.cbor_grammar.proofs.{ReadLaws.length_head, ReadLaws.length_spell, KindsAgree.same_kinds}
 use Rattle.cbor_judging.specs.Frame.{Frame, a_member, a_key, a_content, tagged, with_all, with_entries, plug, before, behind}
 use Rattle.cbor_judging.specs.Kinds.{IsKeyFrame, IsKeyDue, plug_all, AsksForKinds, KeepsToKinds}
-use Rattle.cbor_judging.specs.OpenMaps.{before_all, ArePath}
 use Rattle.cbor_judging.proofs.Frames.{count_with, entries_with, pair_size, spell_plug, spelled_plug, depth_plug}
-use Rattle.cbor_head.specs.Laws.{StartsWith}
-use Rattle.cbor_head.specs.declared.reason.Refusal.{Refusal}
-use Rattle.cbor_grammar.proofs.KindsAgree.{same_kinds}
 use Rattle.cbor_judging.specs.Reading.{IsMemory, IsReached, IsUndecided, HasCause}
+use Rattle.cbor_judging.specs.OpenMaps.{before_all, ArePath}
 
 -- ---- of two lists
 

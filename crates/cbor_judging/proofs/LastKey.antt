@@ -1,17 +1,13 @@
 -- The last key before another, and what the strict rules have against a key behind it.
 use Rattle.std.proofs.Common.{◌≡◌, ℕ, cond, ◌+◌, ◌<◌, true, IsTrue, List, [], ◌∷◌, length, refl, sym, ap, subst, arith, nat_lt, ◌==◌}
-use Rattle.std.proofs.lemmas.Bool.Decides.{nat_tests}
-use Rattle.std.specs.Ordering.{is_lt, ordering_then}
 use Rattle.std.specs.declared.cmp.Ordering.TheVariants.{Less, Equal, Greater}
+use Rattle.std.{proofs.lemmas.Bool.Decides.nat_tests, specs.Ordering.is_lt, specs.Ordering.ordering_then}
 use Rattle.cbor_head.specs.Prelude.{Spelling, SpelledEntries, no_entries, entry, spell, key_lt, rising, OfKey}
 use Rattle.cbor_head.specs.Complaint as complaint
-use Rattle.cbor_head.specs.declared.order.KeyOrder.{KeyOrder}
-use Rattle.cbor_head.specs.declared.order.KeyOrder.TheVariants.{Bytewise, LengthFirst}
 use Rattle.cbor_head.specs.declared.reason.Reason.TheVariants as reasons
+use Rattle.cbor_head.specs.declared.order.KeyOrder.{KeyOrder, TheVariants.Bytewise, TheVariants.LengthFirst}
 use Rattle.cbor_grammar.proofs.ReadLaws.{length_spell}
-use Rattle.cbor_judging.specs.Frame.{with_entries, keys_onto}
-use Rattle.cbor_judging.specs.Judged.{Never}
-use Rattle.cbor_judging.specs.LastKey.{last_key, IsLastKey}
+use Rattle.cbor_judging.specs.{Frame.with_entries, Frame.keys_onto, Judged.Never, LastKey.last_key, LastKey.IsLastKey}
 
 -- ---- which it is
 

@@ -1,20 +1,13 @@
 -- Heads, payloads and chunks: the first complaint of an item, or none so far.
 use Rattle.std.proofs.Common.{ℕ, ◌+◌, ◌≡◌, ◌<◌, ◌⊎◌, Option, Some, None, List, [], ◌∷◌, ◌++◌, length, flat_map, refl, sym, ap, ◌∙◌, arith, subst, inl, inr, length-append, append_assoc, append-nil, suc, Bool, true, false, true≢false, replicate, IsUtf8}
-use Rattle.std.specs.List.{AllByRecursion}
-use Rattle.std.proofs.lemmas.Grind.{flat_map-append}
+use Rattle.std.{specs.List.AllByRecursion, proofs.lemmas.Grind.flat_map-append}
 use Rattle.cbor_head.specs.Prelude.{head, Holds, Chunk, IsChunk, Spelling, bytes, text, byte_chunks, text_chunks, spell, chunk_bytes, chunked, chunks_joined, IsSpelled, depth, Rules, Complaint, OfHead, OfIndefinite, OfPayload, OfString, OfChunks, Complains, AreBytes, value_of}
-use Rattle.cbor_judging.specs.Judged.{IsFinding, IsJudged, Never}
-use Rattle.cbor_judging.specs.Reading.{string_major, string_value}
-use Rattle.cbor_head.specs.declared.major.Major.{Major}
-use Rattle.cbor_head.specs.declared.major.Major.TheVariants.{Text}
-use Rattle.cbor_head.specs.declared.width.Width.{Width}
-use Rattle.cbor_head.specs.declared.width.Width.TheVariants.{Indefinite}
-use Rattle.cbor_grammar.proofs.Agree.{payload_end, string_later}
-use Rattle.cbor_grammar.proofs.Reasons.{payload_rank}
+use Rattle.cbor_head.specs.declared.{major.Major.Major, major.Major.TheVariants.Text, width.Width.Width, width.Width.TheVariants.Indefinite}
+use Rattle.cbor_grammar.proofs.{Agree.payload_end, Agree.string_later, Reasons.payload_rank}
 use Rattle.cbor_automaton.specs.Automaton.{Frame, State, at_item, in_head, in_simple, in_chunks}
-use Rattle.cbor_automaton.proofs.Arguments.{number}
-use Rattle.cbor_automaton.proofs.Taking.{IsWithin}
-use Rattle.cbor_judging.proofs.Heads.{zero_bytes, zero_length}
+use Rattle.cbor_automaton.proofs.{Arguments.number, Taking.IsWithin}
+use Rattle.cbor_judging.specs.Judged.{IsFinding, IsJudged, Never}
+use Rattle.cbor_judging.{specs.Reading.string_major, specs.Reading.string_value, proofs.Heads.zero_bytes, proofs.Heads.zero_length}
 
 -- ---- definite strings
 

@@ -2,20 +2,18 @@
 use Rattle.std.proofs.Common.{◌≡◌, ℕ, suc, ◌+◌, ◌-◌, ◌≤◌, List, [], ◌∷◌, ◌++◌, length, refl, sym, ap, ◌∙◌, subst, inl, inr, arith, ◌↔◌, length-append, append_assoc}
 use Rattle.cbor_head.specs.Prelude.{IsBeginning, HoldsOrIndefinite, head, Spelling, Spellings, SpelledEntries, no_spellings, no_entries, entry, spell, spell_all, spell_entries, spellings_count, entries_count, IsSpelled, depth, plain}
 use Rattle.cbor_head.specs.declared.major.Major.TheVariants as majors
-use Rattle.cbor_head.specs.declared.width.Width.{Width}
-use Rattle.cbor_head.specs.declared.width.Width.TheVariants.{Indefinite}
+use Rattle.cbor_head.specs.declared.width.Width.{Width, TheVariants.Indefinite}
 use Rattle.cbor_automaton.proofs.Beginnings.{shorter}
 use Rattle.cbor_judging.specs.Frame as frames
 use Rattle.cbor_judging.specs.Frame.{Frame, before, IsFrame, depth_beside}
-use Rattle.cbor_judging.specs.Judged.{Never}
 use Rattle.cbor_judging.specs.OpenMaps.{OfClosed, ComplainsWithin, before_all, AreOpen, ArePath}
-use Rattle.cbor_judging.proofs.Heads.{open_or}
 use Rattle.cbor_judging.proofs.Judged.{zero_item, zero_spelled, zeros, zeros_count, zeros_spelled, zeros_flat, zero_pairs, pairs_count, pairs_spelled, pairs_flat}
 use Rattle.cbor_judging.proofs.OpenSteps.{before_snoc, none_open, opens as one_opens}
 use Rattle.cbor_judging.specs.Levels.{IsTaken, AreTaken, ArePairsTaken, Level, a_member, a_key, a_value, some_member, some_key, some_value, tagged, level_bytes, IsLevel, AreLevels, bytes_before}
 use Rattle.cbor_judging.proofs.Levels.{no-count, spelled-all, within-all, clean-all, pairs-spelled, pairs-within}
 use Rattle.cbor_judging.specs.Kinds.{plug_all, IsKeyFrame, IsKeyDue, IsKeyLevel, IsKeyDueIn}
 use Rattle.cbor_judging.proofs.KindFrames.{due_last, IsAround, spell_along, item_along}
+use Rattle.cbor_judging.{specs.Judged.Never, proofs.Heads.open_or}
 
 -- ---- one container
 

@@ -1,10 +1,8 @@
 -- The bytes of arrays and maps as their members come.
 use Rattle.std.proofs.Common.{ℕ, ◌≡◌, List, [], ◌++◌, sym, ap, ◌∙◌, append_assoc, append-nil}
 use Rattle.cbor_head.specs.Prelude.{head, Spelling, Spellings, SpelledEntries, array, a_map, no_spellings, a_spelling, no_entries, entry, spell, spell_all, spell_entries, spellings_count, entries_count, break_of}
-use Rattle.cbor_head.specs.declared.major.Major.TheVariants.{Array, Map}
-use Rattle.cbor_head.specs.declared.width.Width.{Width}
-use Rattle.cbor_judging.specs.Frame.{with_all, with_entries}
-use Rattle.cbor_judging.proofs.Frames.{spell_with, spell_entries_with}
+use Rattle.cbor_head.specs.declared.{major.Major.TheVariants.Array, major.Major.TheVariants.Map, width.Width.Width}
+use Rattle.cbor_judging.{specs.Frame.with_all, specs.Frame.with_entries, proofs.Frames.spell_with, proofs.Frames.spell_entries_with}
 use Rattle.cbor_judging.specs.SoFar.{array_bytes, map_bytes}
 
 pub array_bytes-more : (w : Width) (n : ℕ) (done : Spellings) (s : Spelling) → array_bytes w n (with_all done (a_spelling s no_spellings)) ≡ array_bytes w n done ++ spell s

@@ -3,22 +3,16 @@ use Rattle.std.proofs.Common.{◌≡◌, ◌≢◌, ℕ, suc, ◌+◌, ◌-◌, 
 use Rattle.cbor_head.specs.Prelude.{head, Bounds, Values, Entries, Spellings, array, no_spellings, spell, spellings_count, break_of, HoldsOrIndefinite, values_of, Spelling, SpelledEntries, a_map, no_entries, entries_count, entries_of, Rules, OfCount}
 use Rattle.cbor_head.specs.Value as value
 use Rattle.cbor_head.specs.declared.major.Major.TheVariants as majors
-use Rattle.cbor_head.specs.declared.width.Width.{Width}
-use Rattle.cbor_head.specs.declared.width.Width.TheVariants.{Indefinite}
-use Rattle.cbor_automaton.specs.Trace.{a_head}
-use Rattle.cbor_judging.specs.Place.{Container, indefinite_array, Place, at_item, close, expect, IsTaking, indefinite_map}
-use Rattle.cbor_automaton.specs.Marks.{count_of}
-use Rattle.cbor_standing.specs.NextEvent.{ItemEventsView}
+use Rattle.cbor_head.specs.declared.width.Width.{Width, TheVariants.Indefinite}
 use Rattle.cbor_automaton.specs.declared.event.EventKind.TheVariants as kinds
+use Rattle.cbor_automaton.specs.{Trace.a_head, Marks.count_of}
+use Rattle.cbor_standing.specs.NextEvent.{ItemEventsView}
+use Rattle.cbor_judging.specs.Place.{Container, indefinite_array, Place, at_item, close, expect, IsTaking, indefinite_map}
 use Rattle.cbor_judging.specs.Reading.{IsAt, Extends, IsBegun, ReadsItem}
-use Rattle.cbor_judging.specs.Judged.{Never}
 use Rattle.cbor_judging.specs.SoFar.{IsArraySoFar, array_bytes, IsMapSoFar, map_bytes}
-use Rattle.cbor_judging.proofs.Judged.{array_whole, map_whole}
-use Rattle.cbor_judging.proofs.Heads.{open_or}
-use Rattle.cbor_judging.proofs.Loops.{array_bytes-whole, map_bytes-whole}
 use Rattle.cbor_judging.proofs.Items.{definite, proper-definite, extends-none}
-use Rattle.cbor_judging.proofs.Scalars.{at-as}
-use Rattle.cbor_judging.specs.Frame.{keys_onto}
+use Rattle.cbor_judging.{specs.Judged.Never, proofs.Judged.array_whole, proofs.Judged.map_whole, proofs.Heads.open_or}
+use Rattle.cbor_judging.{proofs.Loops.array_bytes-whole, proofs.Loops.map_bytes-whole, proofs.Scalars.at-as, specs.Frame.keys_onto}
 
 -- how many members are left, where that is known
 abbrev pub IsLeft : Width → ℕ → ℕ → Option ℕ → Type 0

@@ -1,11 +1,8 @@
 -- What is found of an item is found of the open containers around it, where nothing before it has a complaint.
 use Rattle.std.proofs.Common.{ℕ, suc, ◌+◌, ◌≡◌, Option, List, [], ◌∷◌, ◌++◌, length, sym, arith, subst, inl, inr, length-append, append_assoc}
 use Rattle.cbor_head.specs.Prelude.{Rules, Complaint}
-use Rattle.cbor_judging.specs.Frame.{Frame, before}
-use Rattle.cbor_judging.specs.Judged.{IsJudged}
 use Rattle.cbor_judging.specs.OpenMaps.{before_all, ArePath, AreClosedClean, AreOpenDistinct}
-use Rattle.cbor_judging.proofs.Judged.{judged_in}
-use Rattle.cbor_judging.proofs.OpenKeys.{front_apart}
+use Rattle.cbor_judging.{specs.Frame.Frame, specs.Frame.before, specs.Judged.IsJudged, proofs.Judged.judged_in, proofs.OpenKeys.front_apart}
 
 -- ---- all containers
 

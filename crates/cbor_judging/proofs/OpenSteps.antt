@@ -6,11 +6,9 @@ use Rattle.cbor_head.specs.declared.width.Width.{Width}
 use Rattle.cbor_judging.specs.Frame.{Frame, a_member, a_key, a_content, tagged, with_all, with_entries, plug, before, IsFrame, depth_beside, OfKeyAt, OfBack}
 use Rattle.cbor_judging.specs.OpenMaps.{Placed, placed, keys_at, open_keys, AreDistinct, ComplainsWithin, OfClosed, before_all, ArePath, AreClosedClean, AreOpenDistinct, AreOpen}
 use Rattle.cbor_judging.proofs.Frames.{count_with, entries_with, members_split, plug_split, depth_with, spelled_with, spelled_entries_with, depth_entries_with}
-use Rattle.cbor_judging.specs.Judged.{Never}
-use Rattle.cbor_judging.specs.SoFar.{array_bytes, map_bytes}
-use Rattle.cbor_judging.proofs.Loops.{array_bytes-more, map_bytes-more}
-use Rattle.cbor_judging.proofs.OpenKeys.{front_apart}
 use Rattle.cbor_judging.proofs.Judged.{zero_item, zero_spelled, zeros, zero_pairs, zeros_count, zeros_spelled, zeros_flat, pairs_count, pairs_spelled, pairs_flat}
+use Rattle.cbor_judging.{specs.Judged.Never, specs.SoFar.array_bytes, specs.SoFar.map_bytes, proofs.Loops.array_bytes-more, proofs.Loops.map_bytes-more}
+use Rattle.cbor_judging.proofs.OpenKeys.{front_apart}
 
 -- ---- one container more, within the others
 

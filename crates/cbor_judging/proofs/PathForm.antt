@@ -1,17 +1,15 @@
 -- Where the automaton stands before the item that is due.
 use Rattle.std.proofs.Common.{◌≡◌, ℕ, suc, ◌+◌, ◌-◌, ◌<◌, ◌≤◌, Bool, true, false, cond, List, [], ◌∷◌, ◌++◌, length, refl, sym, ap, ◌∙◌, subst, arith, append-nil}
 use Rattle.cbor_head.specs.Prelude.{Rules, Holds, head, Spelling, Spellings, SpelledEntries, no_spellings, spell, spell_all, spell_entries, spellings_count, entries_count, IsSpelled, AreSpelled, AreEntriesSpelled, depth, depth_all, depth_entries, HoldsOrIndefinite, initial_reason}
-use Rattle.cbor_head.specs.declared.major.Major.{Major}
 use Rattle.cbor_head.specs.declared.major.Major.TheVariants.{Array, Map, Tag}
-use Rattle.cbor_head.specs.declared.width.Width.{Width}
-use Rattle.cbor_head.specs.declared.width.Width.TheVariants.{Indefinite}
+use Rattle.cbor_head.specs.declared.{major.Major.Major, width.Width.Width, width.Width.TheVariants.Indefinite}
 use Rattle.cbor_automaton.specs.Trace.{Mark, a_head, trace, trace_all}
 use Rattle.cbor_automaton.specs.Automaton.{Frame, counted, indefinite_array, indefinite_map, State, start, at_item, refuses, tells, close, expect, after, has_room, numbered_tail, tail, and_then, run, reached}
 use Rattle.cbor_automaton.proofs.Beginnings.{onwards, run-append, telling_all-reached}
 use Rattle.cbor_automaton.proofs.Forward.{Leads as MembersLead, array-leads, map-leads, map-even, members-forward, forwards, close-counted, forward, head-taken, item_starts, room-above, telling_all}
 use Rattle.cbor_automaton.proofs.Members.{members, members-count, members-bytes, members-spelled, members-depth}
-use Rattle.cbor_judging.specs.SoFar.{array_bytes, map_bytes}
 use Rattle.cbor_judging.specs.Path.{Level, a_member, a_key, a_value, tagged, level_bytes, IsClean, bytes_before, AreClean}
+use Rattle.cbor_judging.specs.SoFar.{array_bytes, map_bytes}
 
 -- ---- the frames
 

@@ -1,21 +1,15 @@
 -- That no key of another kind begins in the bytes so far, over the containers that are open around the item that is due.
 use Rattle.std.proofs.Common.{◌≡◌, ℕ, suc, ◌-◌, ◌<◌, ◌≤◌, ◌↔◌, List, [], ◌∷◌, ◌++◌, length, refl, sym, ap, ◌∙◌, subst, inl, inr, arith, length-append, append-nil}
 use Rattle.cbor_head.specs.Prelude.{IsHead, head, Bounds, IsIntegerOrText, Rules, Complaint, OfKinds, Spelling, simple, spell, IsSpelled, depth, value_of}
-use Rattle.cbor_head.specs.declared.major.Major.{Major}
-use Rattle.cbor_head.specs.declared.major.Major.TheVariants.{Simple}
-use Rattle.cbor_head.specs.declared.width.Width.{Width}
-use Rattle.cbor_grammar.proofs.Alike.{not_break}
-use Rattle.cbor_grammar.proofs.KeyKinds.{byte_basic}
-use Rattle.cbor_judging.specs.Frame.{Frame, before}
+use Rattle.cbor_head.specs.declared.{major.Major.Major, major.Major.TheVariants.Simple, width.Width.Width}
+use Rattle.cbor_grammar.proofs.{Alike.not_break, KeyKinds.byte_basic}
 use Rattle.cbor_judging.specs.Kinds.{KeepsToKinds, IsKeyFrame, IsKeyDue, IsOfOneHead}
-use Rattle.cbor_judging.specs.OpenMaps.{before_all, ArePath}
-use Rattle.cbor_judging.proofs.Heads.{takes, headed}
 use Rattle.cbor_judging.proofs.KindBytes.{Begins, begins_by, kinds_behind, of_headed}
 use Rattle.cbor_judging.proofs.KindFrames.{due_last, IsAround, keeps_on}
-use Rattle.cbor_judging.proofs.OpenSteps.{before_snoc, path_snoc}
-use Rattle.cbor_judging.specs.PathKinds.{IsFitFront, KeepsHere}
 use Rattle.cbor_judging.specs.Path.{Level, tagged, bytes_before, AreClean, IsKeyDueIn}
 use Rattle.cbor_judging.proofs.PathLevels.{frame_of, before_frame, frame_fits, frame_flat}
+use Rattle.cbor_judging.{specs.Frame.Frame, specs.Frame.before, specs.OpenMaps.before_all, specs.OpenMaps.ArePath, proofs.Heads.takes, proofs.Heads.headed}
+use Rattle.cbor_judging.{proofs.OpenSteps.before_snoc, proofs.OpenSteps.path_snoc, specs.PathKinds.IsFitFront, specs.PathKinds.KeepsHere}
 
 -- ---- the levels as frames, the outermost first
 

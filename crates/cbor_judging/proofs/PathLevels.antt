@@ -4,10 +4,9 @@ use Rattle.cbor_head.specs.Prelude.{Rules, Complaint, OfKey, Complains, Spelling
 use Rattle.cbor_head.specs.declared.width.Width.{Width}
 use Rattle.cbor_judging.specs.Frame as frames
 use Rattle.cbor_judging.specs.Frame.{Frame, before, keys_onto, IsFrame, depth_beside, OfFront}
-use Rattle.cbor_judging.specs.Judged.{IsJudged, Never}
-use Rattle.cbor_judging.specs.SoFar.{array_bytes, map_bytes}
 use Rattle.cbor_judging.proofs.Judged.{zero_item, zero_spelled, zeros, zeros_count, zeros_spelled, zeros_flat, zero_pairs, pairs_count, pairs_spelled, pairs_flat, judged_in, judged_key}
 use Rattle.cbor_judging.specs.Path.{Level, a_member, a_key, a_value, tagged, level_bytes, IsClean, bytes_before, AreClean, HasEnded}
+use Rattle.cbor_judging.specs.{Judged.IsJudged, Judged.Never, SoFar.array_bytes, SoFar.map_bytes}
 
 -- ---- a level as a frame, in which zeros stand for what is still to come
 

@@ -2,16 +2,13 @@
 use Rattle.std.proofs.Common.{◌≡◌, ◌≢◌, ℕ, suc, ◌+◌, ◌-◌, ◌<◌, ◌≤◌, List, [], ◌∷◌, ◌++◌, length, refl, sym, ap, ◌∙◌, subst, inl, inr, arith, append_assoc, length-append}
 use Rattle.cbor_head.specs.Prelude.{head, Rules, OfKey, Complains, Spelling, Spellings, SpelledEntries, array, a_map, tag, no_spellings, a_spelling, no_entries, entry, spell, spell_all, spell_entries, spellings_count, entries_count, IsSpelled, depth}
 use Rattle.cbor_head.specs.declared.major.Major.TheVariants.{Array, Map, Tag}
-use Rattle.cbor_head.specs.declared.width.Width.{Width}
-use Rattle.cbor_head.specs.declared.width.Width.TheVariants.{Indefinite}
+use Rattle.cbor_head.specs.declared.width.Width.{Width, TheVariants.Indefinite}
 use Rattle.cbor_judging.specs.Frame.{with_all, with_entries, keys_onto}
-use Rattle.cbor_judging.proofs.Members.{closes}
 use Rattle.cbor_judging.specs.SoFar.{IsArraySoFar, IsMapSoFar, array_bytes, map_bytes}
-use Rattle.cbor_judging.proofs.Judged.{array_whole, map_whole}
 use Rattle.cbor_judging.proofs.Frames.{count_with, spelled_with, depth_with, entries_with, spelled_entries_with, depth_entries_with, members_split, entries_split}
-use Rattle.cbor_judging.specs.Judged.{Never}
 use Rattle.cbor_judging.proofs.Loops.{array_bytes-more, array_bytes-whole, map_bytes-more, map_bytes-whole}
 use Rattle.cbor_judging.specs.Path.{Level, a_member, a_key, a_value, tagged, level_bytes, IsValueDue, bytes_before, AreClean, HasEnded}
+use Rattle.cbor_judging.{proofs.Members.closes, proofs.Judged.array_whole, proofs.Judged.map_whole, specs.Judged.Never}
 
 -- ---- what came is one more
 

@@ -1,22 +1,14 @@
 -- What is found of the item that is due is told of the whole input.
 use Rattle.std.proofs.Common.{◌≡◌, ℕ, ◌+◌, ◌-◌, ◌<◌, Option, Some, None, List, [], ◌∷◌, ◌++◌, length, refl, sym, ap, ◌∙◌, subst, append_assoc, append-nil}
 use Rattle.cbor_head.specs.Prelude.{Rules, Complaint, Bounds, AreBytes, refusal}
-use Rattle.cbor_head.specs.declared.reason.Reason.{Reason}
-use Rattle.cbor_head.specs.declared.reason.Reason.TheVariants.{Truncated}
-use Rattle.cbor_automaton.specs.Trace.{Mark}
-use Rattle.cbor_automaton.specs.Automaton.{State, at_item, refuses, take_byte, run, reached}
-use Rattle.cbor_automaton.proofs.Refusals.{IsUnfinished, refuses-rightly}
-use Rattle.cbor_automaton.proofs.Runs.{run-on}
-use Rattle.cbor_judging.specs.Judged.{IsJudged}
-use Rattle.cbor_judging.specs.Kinds.{KeepsToKinds, IsOfOneHead}
+use Rattle.cbor_head.specs.declared.reason.Reason.{Reason, TheVariants.Truncated}
 use Rattle.cbor_grammar.proofs.ByteLists.{bytes_front, bytes_back}
-use Rattle.cbor_judging.proofs.KindBytes.{judged_begins}
-use Rattle.cbor_judging.specs.PathKinds.{KeepsHere}
+use Rattle.cbor_automaton.specs.Automaton.{State, at_item, refuses, take_byte, run, reached}
+use Rattle.cbor_automaton.{specs.Trace.Mark, proofs.Refusals.IsUnfinished, proofs.Refusals.refuses-rightly, proofs.Runs.run-on}
 use Rattle.cbor_judging.specs.Path.{Level, bytes_before, AreClean}
 use Rattle.cbor_judging.specs.Stop.{HasComplaint, HasBadByte, EndsWithin}
-use Rattle.cbor_judging.proofs.PathForm.{containers, path_run}
-use Rattle.cbor_judging.proofs.PathKinds.{keeps_begun}
-use Rattle.cbor_judging.proofs.PathLevels.{judged_path}
+use Rattle.cbor_judging.{specs.Judged.IsJudged, specs.Kinds.KeepsToKinds, specs.Kinds.IsOfOneHead, proofs.KindBytes.judged_begins, specs.PathKinds.KeepsHere}
+use Rattle.cbor_judging.proofs.{PathForm.containers, PathForm.path_run, PathKinds.keeps_begun, PathLevels.judged_path}
 
 -- x is what there is of the item, of one head or of what holds no items, and y stands behind
 module _ (r : Rules) (limits : Bounds) (ls : List Level) (clean : AreClean r limits.depth ls) (b x y : List ℕ) (splits : b ≡ bytes_before ls ++ (x ++ y)) (kept : KeepsHere limits r ls x) (one : IsOfOneHead x) where

@@ -7,13 +7,10 @@ use Rattle.cbor_head.specs.declared.reason.Refusal.{Refusal}
 use Rattle.cbor_grammar.proofs.Beginnings.{item_decides}
 use Rattle.cbor_automaton.specs.Reasons.{IsFormReason as IsByteReason}
 use Rattle.cbor_automaton.proofs.Longest.{stands_longest}
-use Rattle.cbor_judging.specs.Refusals.{IsComplaintReason}
-use Rattle.cbor_judging.specs.Kinds.{KeepsToKinds}
 use Rattle.cbor_judging.proofs.Decisions.{whole_beside, complaint_decides, break_decides, kind_decides}
-use Rattle.cbor_judging.proofs.Reasons.{byte-reason, complaint-reason}
-use Rattle.cbor_judging.proofs.SpelledBytes.{longest_always}
-use Rattle.cbor_judging.specs.Path.{HasEnded}
 use Rattle.cbor_judging.specs.Stop.{HasComplaint, HasBadByte, EndsWithin, HasOtherKey, IsStopped, IsAnswered}
+use Rattle.cbor_judging.{specs.Refusals.IsComplaintReason, specs.Kinds.KeepsToKinds, proofs.Reasons.byte-reason, proofs.Reasons.complaint-reason}
+use Rattle.cbor_judging.{proofs.SpelledBytes.longest_always, specs.Path.HasEnded}
 
 -- ---- reasons
 

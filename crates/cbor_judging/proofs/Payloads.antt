@@ -1,39 +1,27 @@
 -- Strings: a payload, the chunk that it is of, and the whole.
 use Rattle.std.proofs.Common.{◌≡◌, ℕ, zero, suc, ◌+◌, ◌-◌, ◌<◌, ◌≤◌, Bool, true, false, Option, None, List, [], ◌∷◌, ◌++◌, length, drop, replicate, refl, true≢false, sym, ap, ◌∙◌, subst, inl, inr, arith, append_assoc, append-nil, IsUtf8, length-append}
-use Rattle.std.specs.Str.Lossy.{utf8_valid_len}
-use Rattle.std.proofs.Math.Seq.{drop-append_seam}
-use Rattle.std.specs.Io.KnownBytes.{Consumes}
+use Rattle.std.{specs.Str.Lossy.utf8_valid_len, proofs.Math.Seq.drop-append_seam, specs.Io.KnownBytes.Consumes}
 use Rattle.std.proofs.KnownBytes.{Consumes-nil, Consumes-trans}
 use Rattle.cbor_head.specs.Prelude.{Bounds, AreBytes, refusal}
-use Rattle.cbor_head.specs.declared.major.Major.{Major}
-use Rattle.cbor_head.specs.declared.width.Width.{Width}
-use Rattle.cbor_head.specs.declared.reason.Refusal.{Refusal}
-use Rattle.cbor_head.specs.declared.reason.Reason.TheVariants.{InvalidText}
-use Rattle.cbor_automaton.specs.Trace.{Mark, a_byte}
-use Rattle.cbor_judging.specs.Place.{Container, Place, in_payload, done as at_end, close_string, payload}
+use Rattle.cbor_head.specs.declared.{major.Major.Major, width.Width.Width, reason.Refusal.Refusal, reason.Reason.TheVariants.InvalidText}
+use Rattle.cbor_grammar.proofs.ByteLists.{bytes_join, bytes_back}
 use Rattle.cbor_automaton.specs.Automaton as automaton
-use Rattle.cbor_automaton.specs.Automaton.{State, Outcome, refused, telling, run, reached}
+use Rattle.cbor_automaton.specs.Automaton.{State, refused, run, reached}
 use Rattle.cbor_automaton.specs.Taking as taking
-use Rattle.cbor_judging.specs.Reading.{state_at, IsAt, IsFormRefusal, IsMemory, ReadsPayload, StopsPayload}
-use Rattle.cbor_judging.proofs.Places.{place_of, place-back, payload-at, clear-at}
-use Rattle.cbor_automaton.specs.Marks.{marks_of}
-use Rattle.cbor_steps.specs.State.{state_of, is_in_payload}
+use Rattle.cbor_automaton.specs.declared.event.EventKind.TheVariants as kinds
+use Rattle.cbor_automaton.proofs.Taking.{IsWithin, nothing-taken, first-mark, tells-first, within-start}
+use Rattle.cbor_automaton.{specs.Trace.Mark, specs.Trace.a_byte, specs.Marks.marks_of, specs.Bytes.IsEventBytes, proofs.Forward.payload-byte}
+use Rattle.cbor_automaton.{specs.declared.event.Event.Event, specs.declared.event.EventKind.EventKind, proofs.Events.close_string-clear}
+use Rattle.cbor_steps.specs.declared.frame.Frame as frames
+use Rattle.cbor_steps.specs.declared.position.Position.TheVariants as positions
+use Rattle.cbor_steps.specs.{State.state_of, State.is_in_payload, declared.position.Position.Position}
 use Rattle.cbor_standing.specs.NextEvent as item_events
 use Rattle.cbor_standing.specs.NextEvent.{ItemEventsView, IsNextEvent, IsKept, call}
-use Rattle.cbor_automaton.specs.Bytes.{IsEventBytes}
-use Rattle.cbor_steps.specs.declared.frame.Frame as frames
-use Rattle.cbor_steps.specs.declared.position.Position.{Position}
-use Rattle.cbor_steps.specs.declared.position.Position.TheVariants as positions
-use Rattle.cbor_automaton.proofs.Forward.{payload-byte}
-use Rattle.cbor_automaton.specs.declared.event.Event.{Event}
-use Rattle.cbor_automaton.specs.declared.event.EventKind.{EventKind}
-use Rattle.cbor_automaton.specs.declared.event.EventKind.TheVariants as kinds
-use Rattle.cbor_automaton.proofs.Events.{close_string-clear}
-use Rattle.cbor_automaton.proofs.Taking.{IsWithin, nothing-taken, first-mark, tells-first, within-start}
+use Rattle.cbor_judging.specs.Place.{Container, Place, in_payload, done as at_end, close_string, payload}
+use Rattle.cbor_judging.specs.Reading.{state_at, IsAt, IsFormRefusal, IsMemory, ReadsPayload, StopsPayload}
+use Rattle.cbor_judging.proofs.Places.{place_of, place-back, payload-at, clear-at}
 use Rattle.cbor_judging.proofs.Steps.{due-by, Stops, SameLimits, stands-reached, at-reached, reached-as, next-at, place_in, since}
-use Rattle.cbor_grammar.proofs.ByteLists.{bytes_join, bytes_back}
-use Rattle.cbor_judging.proofs.Scalars.{at-as}
-use Rattle.cbor_judging.proofs.Undecided.{is-part}
+use Rattle.cbor_judging.proofs.{Scalars.at-as, Undecided.is-part}
 
 -- ---- a part of a payload
 

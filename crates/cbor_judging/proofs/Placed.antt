@@ -1,33 +1,26 @@
 -- Where the events told lead is where the machine stands.
 use Rattle.std.proofs.Common.{◌≡◌, ◌↔◌, ℕ, zero, suc, ◌+◌, ◌<◌, Bool, true, false, List, [], ◌∷◌, ◌++◌, length, replicate, refl, sym, ap, ◌∙◌, subst, arith, append-nil, append_assoc, nat_lt, lt-ltb}
 use Rattle.cbor_head.specs.Prelude.{Holds, head, AreBytes}
-use Rattle.cbor_head.specs.declared.major.Major.{Major}
 use Rattle.cbor_head.specs.declared.major.Major.TheVariants as majors
-use Rattle.cbor_head.specs.declared.width.Width.{Width}
-use Rattle.cbor_head.specs.declared.width.Width.TheVariants.{Indefinite}
+use Rattle.cbor_head.specs.declared.{major.Major.Major, width.Width.Width, width.Width.TheVariants.Indefinite}
+use Rattle.cbor_grammar.proofs.ByteLists.{bytes_back}
 use Rattle.cbor_automaton.specs.Trace.{Mark, a_head, a_chunk, a_byte, a_break}
 use Rattle.cbor_automaton.specs.Automaton as automaton
 use Rattle.cbor_automaton.specs.Automaton.{State, Outcome, run, reached}
 use Rattle.cbor_automaton.proofs.Beginnings.{onwards, run-append, telling_all-reached}
 use Rattle.cbor_automaton.proofs.Forward.{telling_all, payload-byte, head-taken, item_starts, chunk_starts, simple-taken}
-use Rattle.cbor_judging.specs.Place.{Container, counted, indefinite_array, indefinite_map, Place, at_item, in_payload, in_chunks, done, close, expect, payload, Follows, Opens, Ends, IsTaking, IsPlaced, begins, leads_on, LeadsOn, open_at}
 use Rattle.cbor_automaton.proofs.Taking.{IsClear, first-mark, tells-first, within-start, mark-taken}
-use Rattle.cbor_automaton.specs.Bytes.{IsEventBytes}
 use Rattle.cbor_automaton.specs.Marks.{mark_of, marks_of, times}
-use Rattle.cbor_standing.specs.Machine.{IsComplete}
-use Rattle.cbor_standing.specs.MachineView.{MachineView}
-use Rattle.cbor_standing.specs.NextEvent.{Call, StandsBetween, IsNextEvent, IsDue}
-use Rattle.cbor_automaton.specs.declared.event.Event.{Event}
-use Rattle.cbor_automaton.specs.declared.event.EventKind.{EventKind}
 use Rattle.cbor_automaton.specs.declared.event.EventKind.TheVariants as kinds
-use Rattle.cbor_steps.specs.State.{state_of}
-use Rattle.cbor_standing.proofs.NextEvents.{whole-clear, run-rest}
-use Rattle.cbor_automaton.proofs.Runs.{once-marks}
+use Rattle.cbor_automaton.{specs.Bytes.IsEventBytes, specs.declared.event.Event.Event, specs.declared.event.EventKind.EventKind, proofs.Runs.once-marks}
 use Rattle.cbor_automaton.proofs.Stands.{IsString}
-use Rattle.cbor_grammar.proofs.ByteLists.{bytes_back}
+use Rattle.cbor_steps.specs.State.{state_of}
+use Rattle.cbor_standing.specs.NextEvent.{Call, StandsBetween, IsNextEvent, IsDue}
+use Rattle.cbor_standing.{specs.Machine.IsComplete, specs.MachineView.MachineView, proofs.NextEvents.whole-clear, proofs.NextEvents.run-rest}
+use Rattle.cbor_judging.specs.Place.{Container, counted, indefinite_array, indefinite_map, Place, at_item, in_payload, in_chunks, done, close, expect, payload, Follows, Opens, Ends, IsTaking, IsPlaced, begins, leads_on, LeadsOn, open_at}
 use Rattle.cbor_judging.proofs.Standing as standing
-use Rattle.cbor_judging.specs.Reading.{state_at}
 use Rattle.cbor_judging.proofs.Places.{place_of, clear-at, taking-at, close-at, expect-at, string-at, payload-at}
+use Rattle.cbor_judging.specs.Reading.{state_at}
 
 -- ---- chunks are of a string
 

@@ -1,15 +1,11 @@
 -- A place between two events, and the automaton there.
 use Rattle.std.proofs.Common.{◌≡◌, ℕ, zero, suc, ◌+◌, Bool, true, false, List, ◌∷◌, length, refl, sym, ap, ◌∙◌}
-use Rattle.cbor_head.specs.declared.major.Major.{Major}
 use Rattle.cbor_head.specs.declared.major.Major.TheVariants as majors
-use Rattle.cbor_head.specs.declared.width.Width.{Width}
-use Rattle.cbor_head.specs.declared.width.Width.TheVariants.{Indefinite}
+use Rattle.cbor_head.specs.declared.{major.Major.Major, width.Width.Width, width.Width.TheVariants.Indefinite}
 use Rattle.cbor_automaton.specs.Trace.{Mark, a_head, a_chunk, a_byte, a_break}
 use Rattle.cbor_automaton.specs.Automaton as automaton
-use Rattle.cbor_automaton.specs.Automaton.{State}
 use Rattle.cbor_automaton.specs.Taking as taking
-use Rattle.cbor_automaton.proofs.Opens.{stack}
-use Rattle.cbor_automaton.proofs.Taking.{IsClear}
+use Rattle.cbor_automaton.{specs.Automaton.State, proofs.Opens.stack, proofs.Taking.IsClear}
 use Rattle.cbor_judging.specs.Place.{Container, counted, indefinite_array, indefinite_map, Place, at_item, in_payload, in_chunks, done, open_at, close, expect, close_string, payload, Follows, Opens, Ends, IsTaking}
 use Rattle.cbor_judging.specs.Reading.{state_at}
 

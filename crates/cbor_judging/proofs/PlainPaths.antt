@@ -2,21 +2,14 @@
 -- one before it is repeated.
 use Rattle.std.proofs.Common.{◌≡◌, ℕ, suc, ◌+◌, Some, List, [], ◌∷◌, ◌++◌, length, inl, inr, refl, sym, ap, ◌∙◌, arith}
 use Rattle.cbor_head.specs.Prelude.{plain, strict, complaint, Complains, ComplainsIn, ComplainsInEntries, IsRepeated, Spelling, Spellings, SpelledEntries, no_entries, entry, spell, spellings_count, entries_count, value_of, IsSpelled, AreSpelled, AreEntriesSpelled}
-use Rattle.cbor_head.specs.declared.order.KeyOrder.{KeyOrder}
-use Rattle.cbor_head.specs.declared.major.Major.TheVariants.{Array, Map}
-use Rattle.cbor_head.specs.declared.reason.Reason.TheVariants.{RepeatedKey}
+use Rattle.cbor_head.specs.declared.{order.KeyOrder.KeyOrder, major.Major.TheVariants.Array, major.Major.TheVariants.Map, reason.Reason.TheVariants.RepeatedKey}
 use Rattle.cbor_head.specs.declared.width.Width.{Width}
 use Rattle.cbor_grammar.proofs.ReadLaws.{length_spell}
-use Rattle.cbor_canonical.proofs.Keys.{same_exactly}
-use Rattle.cbor_canonical.proofs.Strict.{IsStrict, strict_spelling}
-use Rattle.cbor_judging.specs.Frame.{keys_onto}
-use Rattle.cbor_judging.specs.Judged.{IsJudged, Never}
-use Rattle.cbor_judging.specs.LastKey.{last_key, IsLastKey}
-use Rattle.cbor_judging.specs.SoFar.{IsMapSoFar}
-use Rattle.cbor_judging.proofs.LastKey.{last_is}
-use Rattle.cbor_judging.specs.Path.{Level, a_member, a_key, a_value, tagged, bytes_before, IsClean, AreClean, HasEnded}
-use Rattle.cbor_judging.proofs.PathLevels.{judged_key_path}
 use Rattle.cbor_canonical.proofs.PlainRules.{no_count, AreRising, below_key, no_repeat, next_key, none_plainly, none_plainly_in, none_plainly_in_entries}
+use Rattle.cbor_canonical.proofs.{Keys.same_exactly, Strict.IsStrict, Strict.strict_spelling}
+use Rattle.cbor_judging.specs.Path.{Level, a_member, a_key, a_value, tagged, bytes_before, IsClean, AreClean, HasEnded}
+use Rattle.cbor_judging.specs.{Frame.keys_onto, Judged.IsJudged, Judged.Never, LastKey.last_key, LastKey.IsLastKey, SoFar.IsMapSoFar}
+use Rattle.cbor_judging.proofs.{LastKey.last_is, PathLevels.judged_key_path}
 
 module _ (o : KeyOrder) where
   -- ---- items

@@ -2,16 +2,13 @@
 use Rattle.std.proofs.Common.{ℕ, ◌+◌, ◌≡◌, ◌≢◌, ◌⊎◌, Option, Some, None, List, [], ◌∷◌, ◌++◌, length, sym, ap, ◌∙◌, subst, inl, inr, Bool, ◌==◌, ◌||◌, ◌&&◌, ◌%◌, nat_le, if◌then◌else◌}
 use Rattle.std.proofs.lemmas.Bool.{cond_both}
 use Rattle.cbor_head.specs.Prelude.{Spelling, spell, Rules, form, Complaint, Complains, IsComplaint, Bounds, initial_reason, refusal, refused, IsReasonAt, IsFormError, IsVerdict}
-use Rattle.cbor_head.specs.declared.reason.Reason.{Reason}
 use Rattle.cbor_head.specs.declared.reason.Reason.TheVariants.{Truncated, TooLong, InvalidText, RepeatedKey, NotShortest, Indefinite as IndefiniteReason, KeyOrder, Read, Memory, KeyKind}
-use Rattle.cbor_head.specs.declared.reason.Refusal.{Refusal}
+use Rattle.cbor_head.specs.declared.reason.{Reason.Reason, Refusal.Refusal}
+use Rattle.cbor_grammar.proofs.{KeyKinds.of_kind, Reasons.each_complaint}
 use Rattle.cbor_automaton.specs.Reasons.{IsFormReason as IsByteReason}
-use Rattle.cbor_grammar.proofs.KeyKinds.{of_kind}
-use Rattle.cbor_grammar.proofs.Reasons.{each_complaint}
-use Rattle.cbor_judging.specs.Place.{Container}
-use Rattle.cbor_judging.specs.Judged.{IsFinding}
 use Rattle.cbor_judging.specs.Reading.{IsFormRefusal, IsCause, HasCause, StopsItem}
 use Rattle.cbor_judging.specs.Refusals.{IsFormReason, IsComplaintReason, IsKindReason, IsReaderReason}
+use Rattle.cbor_judging.specs.{Place.Container, Judged.IsFinding}
 
 -- a complaint for a reason that the rules have
 complains : (r : Rules) (at : ℕ) (s : Spelling) (c : Complaint) → Complains r at s c → IsComplaintReason r c.reason

@@ -1,27 +1,17 @@
 -- Why a reader stops within an item: the refusal is that of what was taken, and of what the reader held behind it.
 use Rattle.std.proofs.Common.{◌≡◌, ◌≢◌, ℕ, ◌+◌, ◌-◌, ◌/◌, ◌<◌, ◌≤◌, ◌⊎◌, Option, Some, None, List, [], ◌∷◌, ◌++◌, length, refl, sym, ap, ◌∙◌, subst, inl, inr, arith, append_assoc, append-nil, IsTrue, length-append}
-use Rattle.std.specs.Option.{IfSome}
-use Rattle.std.specs.Io.KnownBytes.{Consumes}
-use Rattle.std.proofs.KnownBytes.{Consumes-trans}
+use Rattle.std.{specs.Option.IfSome, specs.Io.KnownBytes.Consumes, proofs.KnownBytes.Consumes-trans}
 use Rattle.cbor_head.specs.Prelude.{Bounds, IsBeginning, MayFollow, IsIntegerOrText, spell, value_of, Rules, refusal}
-use Rattle.cbor_head.specs.declared.reason.Reason.TheVariants.{KeyKind}
-use Rattle.cbor_head.specs.declared.reason.Refusal.{Refusal}
-use Rattle.cbor_grammar.specs.FirstBytes.{is_basic}
-use Rattle.cbor_grammar.proofs.KeyKinds.{basic_byte}
+use Rattle.cbor_head.specs.declared.reason.{Reason.TheVariants.KeyKind, Refusal.Refusal}
+use Rattle.cbor_grammar.{specs.FirstBytes.is_basic, proofs.KeyKinds.basic_byte}
 use Rattle.cbor_standing.specs.NextEvent.{ItemEventsView}
-use Rattle.cbor_judging.specs.Frame.{Frame}
-use Rattle.cbor_judging.specs.Judged.{IsJudged}
 use Rattle.cbor_judging.specs.Kinds.{AsksForKinds, KeepsToKinds, HasBasicFront}
-use Rattle.cbor_judging.specs.Place.{Container, at_item}
-use Rattle.cbor_judging.specs.Readers.{IsUnread}
 use Rattle.cbor_judging.specs.Reading.{AreRefused, IsAt, IsMemory, IsReached, IsUndecided, HasCause, IsCutHead, IsFrontUnread}
-use Rattle.cbor_judging.specs.RefusedBehind.{IsRefusedBehind}
-use Rattle.cbor_judging.proofs.Items.{cut-judged}
-use Rattle.cbor_judging.proofs.Judged.{judged_start}
 use Rattle.cbor_judging.proofs.KindBytes.{Begins, judged_begins, silent_is_one, keeps_due, byte_begins}
 use Rattle.cbor_judging.proofs.KindFrames.{KeepsBefore, IsAround, keeps_front, other_key}
-use Rattle.cbor_judging.proofs.Reasons.{reader-reason}
 use Rattle.cbor_judging.proofs.Tops.{kind-unread, front-unread, known, loses}
+use Rattle.cbor_judging.specs.{Frame.Frame, Judged.IsJudged, Place.Container, Place.at_item, Readers.IsUnread, RefusedBehind.IsRefusedBehind}
+use Rattle.cbor_judging.proofs.{Items.cut-judged, Judged.judged_start, Reasons.reader-reason}
 
 -- ---- what the reader held behind what was taken
 

@@ -1,36 +1,19 @@
 -- What the plain rules refuse where a chunk of a string is due, whatever walk stands there.
 use Rattle.std.proofs.Common.{◌≡◌, ◌≢◌, ℕ, ◌+◌, ◌-◌, ◌*◌, ◌^◌, ◌/◌, ◌%◌, ◌<◌, ◌≤◌, Bool, true, false, cond, Some, None, List, [], ◌∷◌, ◌++◌, length, take, drop, flat_map, refl, sym, ap, ap₂, ◌∙◌, subst, inl, inr, arith, append_assoc, append-nil, IsUtf8, length-append, length-take-le, take-append-drop}
-use Rattle.std.specs.List.{AllByRecursion}
-use Rattle.std.specs.Str.Lossy.{utf8_valid_len}
+use Rattle.std.specs.{List.AllByRecursion, Str.Lossy.utf8_valid_len}
 use Rattle.cbor_head.specs.Prelude.{plain, complaint, Holds, head, major_number, Chunk, IsChunk, chunk_bytes, AreBytes, refusal}
-use Rattle.cbor_head.specs.declared.major.Major.{Major}
-use Rattle.cbor_head.specs.declared.major.Major.TheVariants.{Bytes, Text}
 use Rattle.cbor_head.specs.declared.reason.Reason.TheVariants.{Truncated, BadChunk, InvalidText}
-use Rattle.cbor_head.specs.declared.reason.Refusal.{Refusal}
-use Rattle.cbor_head.specs.declared.width.Width.{Width}
+use Rattle.cbor_head.specs.declared.{major.Major.Major, major.Major.TheVariants.Bytes, major.Major.TheVariants.Text, reason.Refusal.Refusal, width.Width.Width}
 use Rattle.cbor_head.specs.declared.width.Width.TheVariants.{Indefinite}
-use Rattle.cbor_automaton.specs.Trace.{a_head, chunk_marks}
-use Rattle.cbor_automaton.specs.Automaton.{Frame, at_item, in_chunks, Next, refuses, indefinite_length, opening, in_string, is_major, run, reached, telling}
-use Rattle.cbor_automaton.proofs.Beginnings.{telling_all-reached}
-use Rattle.cbor_automaton.proofs.Forward.{Starts, chunk_starts, chunks-taken}
-use Rattle.cbor_automaton.proofs.Openings.{by-byte}
 use Rattle.cbor_grammar.proofs.ByteLists.{bytes_front, bytes_back}
-use Rattle.cbor_judging.specs.Judged.{IsJudged}
-use Rattle.cbor_judging.specs.Kinds.{IsOfOneHead}
-use Rattle.cbor_judging.specs.Path.{bytes_before}
-use Rattle.cbor_judging.specs.PathKinds.{KeepsHere}
-use Rattle.cbor_judging.specs.Reading.{string_major}
-use Rattle.cbor_judging.specs.RefusedHere.{IsRefusedBy}
-use Rattle.cbor_judging.specs.Stop.{HasComplaint, HasBadByte}
-use Rattle.cbor_judging.proofs.CutHeads.{cut_argument, chunk_cut}
-use Rattle.cbor_judging.proofs.FirstBytes.{long_low}
-use Rattle.cbor_judging.proofs.HeadComplaints.{heads_free}
-use Rattle.cbor_judging.proofs.KindBytes.{one_head_front}
+use Rattle.cbor_automaton.specs.Automaton.{Frame, at_item, in_chunks, Next, refuses, indefinite_length, opening, in_string, is_major, run, reached, telling}
+use Rattle.cbor_automaton.proofs.Forward.{Starts, chunk_starts, chunks-taken}
+use Rattle.cbor_automaton.{specs.Trace.a_head, specs.Trace.chunk_marks, proofs.Beginnings.telling_all-reached, proofs.Openings.by-byte}
 use Rattle.cbor_judging.proofs.Leaves.{AreChunksSoFar, chunks_bytes, between, cut, chunk_complains}
-use Rattle.cbor_judging.proofs.PathForm.{containers}
-use Rattle.cbor_judging.proofs.PathKinds.{kept_front}
-use Rattle.cbor_judging.proofs.PathStops.{complaint_here, bad_byte_here}
-use Rattle.cbor_judging.proofs.RefusedHere.{ends_here}
+use Rattle.cbor_judging.specs.{Judged.IsJudged, Kinds.IsOfOneHead, Path.bytes_before, PathKinds.KeepsHere, Reading.string_major, RefusedHere.IsRefusedBy}
+use Rattle.cbor_judging.{specs.Stop.HasComplaint, specs.Stop.HasBadByte, proofs.CutHeads.cut_argument, proofs.CutHeads.chunk_cut, proofs.FirstBytes.long_low}
+use Rattle.cbor_judging.proofs.{HeadComplaints.heads_free, KindBytes.one_head_front, PathForm.containers, PathKinds.kept_front}
+use Rattle.cbor_judging.proofs.{PathStops.complaint_here, PathStops.bad_byte_here, RefusedHere.ends_here}
 
 -- ---- by the automaton
 

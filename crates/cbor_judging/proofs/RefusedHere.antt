@@ -1,43 +1,27 @@
 -- What is refused where an item is due, whatever walk stands there.
 use Rattle.std.proofs.Common.{◌≡◌, ◌≢◌, ℕ, suc, ◌+◌, ◌-◌, ◌*◌, ◌^◌, ◌%◌, ◌<◌, ◌≤◌, ◌⊎◌, Bool, true, false, None, List, [], ◌∷◌, ◌++◌, length, take, drop, refl, sym, ap, ◌∙◌, subst, inl, inr, arith, append_assoc, take-append-drop, append-nil, IsTrue, IsUtf8, length-append, length-take-le, ◌/◌, pow_pos}
-use Rattle.std.specs.Str.Lossy.{utf8_valid_len}
-use Rattle.std.proofs.lemmas.Bool.{cases_lt}
+use Rattle.std.{specs.Str.Lossy.utf8_valid_len, proofs.lemmas.Bool.cases_lt}
 use Rattle.cbor_head.specs.Prelude.{Rules, strict, complaint, OfHead, form, Holds, head, major_number, shortest, with_argument, Bounds, AreBytes, IsIntegerOrText, refusal, spell, value_of}
-use Rattle.cbor_head.specs.declared.major.Major.{Major}
 use Rattle.cbor_head.specs.declared.major.Major.TheVariants.{Bytes, Text, Array, Map}
-use Rattle.cbor_head.specs.declared.order.KeyOrder.{KeyOrder}
-use Rattle.cbor_head.specs.declared.reason.Reason.{Reason}
 use Rattle.cbor_head.specs.declared.reason.Reason.TheVariants as reasons
-use Rattle.cbor_head.specs.declared.reason.Refusal.{Refusal}
-use Rattle.cbor_head.specs.declared.width.Width.{Width}
-use Rattle.cbor_head.specs.declared.width.Width.TheVariants.{Indefinite, Direct}
-use Rattle.cbor_grammar.specs.Argument.{IsArgument}
+use Rattle.cbor_head.specs.declared.{major.Major.Major, order.KeyOrder.KeyOrder, reason.Reason.Reason, reason.Refusal.Refusal, width.Width.Width}
+use Rattle.cbor_head.specs.declared.{width.Width.TheVariants.Indefinite, width.Width.TheVariants.Direct, keys.Keys.TheVariants.IntegersAndTexts}
+use Rattle.cbor_head.specs.declared.{order.KeyOrder.TheVariants.Bytewise, reason.Reason.TheVariants.KeyKind}
+use Rattle.cbor_grammar.{specs.Argument.IsArgument, proofs.ByteLists.bytes_back, proofs.ByteLists.bytes_front, specs.FirstBytes.is_basic}
+use Rattle.cbor_grammar.proofs.KeyKinds.{basic_byte}
 use Rattle.cbor_automaton.proofs.FirstByte.{split}
-use Rattle.cbor_judging.specs.Judged.{IsJudged, Never}
-use Rattle.cbor_judging.specs.Kinds.{KeepsToKinds, IsOfOneHead}
-use Rattle.cbor_grammar.proofs.ByteLists.{bytes_back, bytes_front}
 use Rattle.cbor_judging.proofs.Heads.{open_or, IsOpener as MayOpen}
 use Rattle.cbor_judging.proofs.KindBytes.{head_is_one, string_is_one, Begins, judged_begins}
-use Rattle.cbor_judging.proofs.Judged.{judged_start}
-use Rattle.cbor_judging.proofs.Leaves.{text_complains}
 use Rattle.cbor_judging.specs.Path.{Level, a_member, a_key, bytes_before, AreClean, MayBreak, IsKeyDueIn}
 use Rattle.cbor_judging.specs.RefusedHere.{IsMisplaced, IsPlaceFor, IsRefusedBy, HasNoBreak, MayBegin}
-use Rattle.cbor_judging.specs.PathKinds.{KeepsHere}
-use Rattle.cbor_judging.specs.Reading.{string_major}
 use Rattle.cbor_judging.specs.Stop.{HasComplaint, IsStopped, EndsWithin}
 use Rattle.cbor_judging.proofs.Arguments.{low_bits, number_byte, fits as fits_in, numbered, spells, fits, direct_head}
-use Rattle.cbor_judging.proofs.CutHeads.{head_cut, string_cut}
-use Rattle.cbor_judging.proofs.FirstBytes.{misplaced, bad_simple}
-use Rattle.cbor_judging.proofs.HeadComplaints.{not_shortest, indefinite_length}
 use Rattle.cbor_judging.proofs.PathKinds.{kept_front, head_begun, around_clean}
-use Rattle.cbor_judging.proofs.PathStops.{complaint_here, end_here}
-use Rattle.cbor_head.specs.declared.keys.Keys.TheVariants.{IntegersAndTexts}
-use Rattle.cbor_head.specs.declared.order.KeyOrder.TheVariants.{Bytewise}
-use Rattle.cbor_head.specs.declared.reason.Reason.TheVariants.{KeyKind}
-use Rattle.cbor_grammar.specs.FirstBytes.{is_basic}
-use Rattle.cbor_grammar.proofs.KeyKinds.{basic_byte}
-use Rattle.cbor_judging.proofs.KindFrames.{other_key}
-use Rattle.cbor_judging.proofs.PathLevels.{judged_path}
+use Rattle.cbor_judging.{specs.Judged.IsJudged, specs.Judged.Never, specs.Kinds.KeepsToKinds, specs.Kinds.IsOfOneHead, proofs.Judged.judged_start}
+use Rattle.cbor_judging.{proofs.Leaves.text_complains, specs.PathKinds.KeepsHere, specs.Reading.string_major}
+use Rattle.cbor_judging.proofs.{CutHeads.head_cut, CutHeads.string_cut, FirstBytes.misplaced, FirstBytes.bad_simple}
+use Rattle.cbor_judging.proofs.{HeadComplaints.not_shortest, HeadComplaints.indefinite_length, PathStops.complaint_here, PathStops.end_here}
+use Rattle.cbor_judging.proofs.{KindFrames.other_key, PathLevels.judged_path}
 
 -- ---- first bytes
 

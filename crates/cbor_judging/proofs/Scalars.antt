@@ -4,13 +4,13 @@ use Rattle.cbor_head.specs.Prelude.{head, Bounds, Spelling, unsigned, negative, 
 use Rattle.cbor_head.specs.Value as value
 use Rattle.cbor_head.specs.declared.major.Major.TheVariants as majors
 use Rattle.cbor_head.specs.declared.width.Width.{Width}
-use Rattle.cbor_judging.specs.Place.{Container, Place, close}
-use Rattle.cbor_standing.specs.NextEvent.{ItemEventsView}
 use Rattle.cbor_automaton.specs.declared.event.EventKind.TheVariants as kinds
 use Rattle.cbor_automaton.specs.declared.event.EventKind.{EventKind}
-use Rattle.cbor_judging.specs.Judged.{Never}
+use Rattle.cbor_standing.specs.NextEvent.{ItemEventsView}
+use Rattle.cbor_judging.specs.Place.{Container, Place, close}
 use Rattle.cbor_judging.specs.Reading.{IsAt, Extends, IsBegun, ReadsItem}
 use Rattle.cbor_judging.proofs.Items.{definite, never-open, is-definite, head-count, extends-none}
+use Rattle.cbor_judging.specs.Judged.{Never}
 
 pub at-as : (b : Bounds) (e : ItemEventsView) (t u : List ℕ) (p q : Place) → t ≡ u → p ≡ q → IsAt b e t p → IsAt b e u q
 at-as b e t u p q f g a = subst (λ (x : Place). IsAt b e u x) g (subst (λ (x : List ℕ). IsAt b e x p) f a)

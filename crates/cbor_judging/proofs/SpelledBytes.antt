@@ -1,17 +1,12 @@
 -- Spelled items are bytes, so that each input has a longest beginning.
 use Rattle.std.proofs.Common.{ℕ, zero, suc, ◌*◌, ◌/◌, ◌^◌, ◌≡◌, ◌<◌, ◌≤◌, List, [], ◌∷◌, ◌++◌, length, flat_map, refl, sym, ap, ◌∙◌, arith, subst, inl, inr, append_assoc, mod-lt}
-use Rattle.std.specs.List.{AllByRecursion}
-use Rattle.std.specs.Int.{bytes_high_first, byte_at}
-use Rattle.std.proofs.lemmas.Bool.{cases_lt}
+use Rattle.std.{specs.List.AllByRecursion, specs.Int.bytes_high_first, specs.Int.byte_at, proofs.lemmas.Bool.cases_lt}
 use Rattle.cbor_head.specs.Prelude.{head, major_number, with_argument, AreBytes, Chunk, IsChunk, Spelling, Spellings, SpelledEntries, bytes, text, byte_chunks, text_chunks, array, a_map, tag, no_spellings, a_spelling, no_entries, entry, spell, spell_all, spell_entries, chunk_bytes, break_of, HoldsOrIndefinite, IsSpelled, AreSpelled, AreEntriesSpelled, IsBeginning, IsLongestBeginning}
-use Rattle.cbor_head.specs.declared.major.Major.{Major}
 use Rattle.cbor_head.specs.declared.major.Major.TheVariants.{Unsigned, Bytes, Text}
-use Rattle.cbor_head.specs.declared.width.Width.{Width}
 use Rattle.cbor_head.specs.declared.width.Width.TheVariants.{Direct, One, Two, Four, Eight, Indefinite}
-use Rattle.cbor_grammar.proofs.Agree.{split_front}
+use Rattle.cbor_head.specs.declared.{major.Major.Major, width.Width.Width}
 use Rattle.cbor_grammar.proofs.Parts.{major, width, count, body, head_of, parts, holds_of}
-use Rattle.cbor_grammar.proofs.ReadLaws.{holds_or_open}
-use Rattle.cbor_grammar.proofs.ByteLists.{bytes_join, bytes_front}
+use Rattle.cbor_grammar.proofs.{Agree.split_front, ReadLaws.holds_or_open, ByteLists.bytes_join, ByteLists.bytes_front}
 use Rattle.cbor_automaton.proofs.Longest.{longest_exists}
 
 -- ---- heads

@@ -1,21 +1,16 @@
 -- Between two events: how many containers are open, and that few bytes are taken.
 use Rattle.std.proofs.Common.{◌≡◌, ◌↔◌, ℕ, zero, ◌^◌, ◌<◌, ◌≤◌, List, ◌∷◌, length, refl, sym, ap, ◌∙◌, arith}
 use Rattle.cbor_head.specs.Prelude.{Bounds}
-use Rattle.cbor_automaton.specs.Trace.{Mark}
-use Rattle.cbor_standing.specs.MachineView.{MachineView}
-use Rattle.cbor_standing.specs.NextEvent.{ItemEventsView, StandsBetween}
-use Rattle.cbor_judging.specs.Place.{Container, counted, Place, close, done, open_at}
 use Rattle.cbor_automaton.specs.Automaton as automaton
-use Rattle.cbor_automaton.specs.Automaton.{State, reached}
-use Rattle.cbor_standing.specs.Machine.{IsComplete}
-use Rattle.cbor_standing.proofs.Positions.{position-done}
 use Rattle.cbor_automaton.proofs.Opens.{opens as opens-stack}
-use Rattle.cbor_judging.specs.Reading.{state_at, IsAt}
-use Rattle.cbor_judging.proofs.Places.{open-frames, one-place}
-use Rattle.cbor_steps.specs.State.{state_of}
+use Rattle.cbor_automaton.specs.{Trace.Mark, Automaton.State, Automaton.reached}
 use Rattle.cbor_steps.specs.declared.frame.Frame as frames
-use Rattle.cbor_steps.specs.declared.position.Position.{Position}
 use Rattle.cbor_steps.specs.declared.position.Position.TheVariants as positions
+use Rattle.cbor_steps.specs.{State.state_of, declared.position.Position.Position}
+use Rattle.cbor_standing.specs.{MachineView.MachineView, NextEvent.ItemEventsView, NextEvent.StandsBetween, Machine.IsComplete}
+use Rattle.cbor_standing.proofs.Positions.{position-done}
+use Rattle.cbor_judging.specs.Place.{Container, counted, Place, close, done, open_at}
+use Rattle.cbor_judging.{specs.Reading.state_at, specs.Reading.IsAt, proofs.Places.open-frames, proofs.Places.one-place}
 
 pub fewer-open : (fs : List Container) → length (open_at (close fs)) ≤ length fs
 fewer-open (counted zero ∷ fs) = omega (arith, fewer-open fs)

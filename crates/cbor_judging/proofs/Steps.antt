@@ -2,35 +2,26 @@
 use Rattle.std.proofs.Common.{◌≡◌, ℕ, zero, ◌+◌, ◌-◌, ◌<◌, ◌⊎◌, Bool, Option, Some, None, List, [], ◌∷◌, ◌++◌, length, refl, sym, ap, ◌∙◌, subst, inl, inr, arith, append_assoc, append-nil, length-append, Ok}
 use Rattle.std.specs.Io.KnownBytes.{Consumes}
 use Rattle.cbor_head.specs.Prelude.{Bounds, bounds, Rules, form, strict, Complaint, complaint, IsBeginning, refused, IsVerdict}
-use Rattle.cbor_head.specs.declared.width.Width.{Width}
-use Rattle.cbor_head.specs.declared.width.Width.TheVariants.{Indefinite}
-use Rattle.cbor_head.specs.declared.order.KeyOrder.{KeyOrder}
-use Rattle.cbor_head.specs.declared.reason.Reason.{Reason}
 use Rattle.cbor_head.specs.declared.reason.Reason.TheVariants as reasons
+use Rattle.cbor_head.specs.declared.{width.Width.Width, width.Width.TheVariants.Indefinite, order.KeyOrder.KeyOrder, reason.Reason.Reason}
 use Rattle.cbor_head.specs.declared.reason.Refusal.{Refusal}
-use Rattle.cbor_grammar.proofs.KindsUnasked.{form_beside}
+use Rattle.cbor_grammar.proofs.{KindsUnasked.form_beside, ByteLists.bytes_back}
 use Rattle.cbor_automaton.specs.Trace.{Mark, a_head, a_chunk, a_byte, a_break}
-use Rattle.cbor_judging.specs.Place.{Place, at_item, in_payload, in_chunks, done, IsTaking}
 use Rattle.cbor_automaton.specs.Automaton.{State, start, run, reached}
 use Rattle.cbor_automaton.specs.Marks.{mark_of, marks_of, times}
-use Rattle.cbor_steps.specs.State.{state_of, is_in_payload}
-use Rattle.cbor_standing.specs.MachineView.{MachineView}
+use Rattle.cbor_automaton.specs.declared.event.EventKind.TheVariants as kinds
+use Rattle.cbor_automaton.{specs.declared.event.Event.Event, specs.declared.event.EventKind.EventKind, proofs.Runs.once-marks}
+use Rattle.cbor_automaton.proofs.Taking.{IsClear, mark-taken}
+use Rattle.cbor_steps.specs.declared.frame.Frame as frames
+use Rattle.cbor_steps.specs.declared.position.Position.TheVariants as positions
+use Rattle.cbor_steps.specs.{State.state_of, State.is_in_payload, declared.position.Position.Position}
 use Rattle.cbor_standing.specs.Machine.{KeepsLimits, StandsFor, before}
 use Rattle.cbor_standing.specs.NextEvent as item_events
 use Rattle.cbor_standing.specs.NextEvent.{ItemEventsView, StandsBetween, IsNextEvent, IsCut, IsTooLong, HasFormError, IsNext, call}
-use Rattle.cbor_automaton.specs.declared.event.Event.{Event}
-use Rattle.cbor_automaton.specs.declared.event.EventKind.{EventKind}
-use Rattle.cbor_automaton.specs.declared.event.EventKind.TheVariants as kinds
-use Rattle.cbor_steps.specs.declared.frame.Frame as frames
-use Rattle.cbor_steps.specs.declared.position.Position.{Position}
-use Rattle.cbor_steps.specs.declared.position.Position.TheVariants as positions
-use Rattle.cbor_standing.proofs.Positions.{position-done}
-use Rattle.cbor_automaton.proofs.Runs.{once-marks}
-use Rattle.cbor_automaton.proofs.Taking.{IsClear, mark-taken}
+use Rattle.cbor_standing.{specs.MachineView.MachineView, proofs.Positions.position-done, proofs.NextEvents.whole-clear, proofs.NextEvents.run-rest}
+use Rattle.cbor_judging.specs.Place.{Place, at_item, in_payload, in_chunks, done, IsTaking}
 use Rattle.cbor_judging.specs.Reading.{state_at, IsAt, IsReached, OfMark, IsHeadDue, IsNextHead, IsCutHead, StopsHead, IsFault, IsFormRefusal}
 use Rattle.cbor_judging.proofs.Places.{place_of, state-back, one-place, clear-at, taking-at}
-use Rattle.cbor_grammar.proofs.ByteLists.{bytes_back}
-use Rattle.cbor_standing.proofs.NextEvents.{whole-clear, run-rest}
 
 -- what has become of the limits
 pub record SameLimits (old new : MachineView) : Type 0 where

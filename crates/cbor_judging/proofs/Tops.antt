@@ -1,31 +1,18 @@
 -- What was found of the one item that an input starts with is its verdict.
 use Rattle.std.proofs.Common.{ℕ, ◌+◌, ◌-◌, ◌≡◌, ◌<◌, ◌≤◌, ◌⊎◌, Option, Some, None, List, [], ◌∷◌, ◌++◌, length, take, drop, refl, sym, ap, ◌∙◌, arith, subst, inl, inr, append_assoc, append-nil, take-append-drop, length-append}
-use Rattle.std.proofs.Math.Seq.{take-append_seam, drop-append_seam}
-use Rattle.std.proofs.lemmas.Bool.{cases_lt}
-use Rattle.std.proofs.lemmas.List.{nil_from_length}
-use Rattle.std.specs.Io.KnownBytes.{Consumes, IsAtEnd}
+use Rattle.std.proofs.{Math.Seq.take-append_seam, Math.Seq.drop-append_seam, lemmas.Bool.cases_lt, lemmas.List.nil_from_length}
+use Rattle.std.specs.{Io.KnownBytes.Consumes, Io.KnownBytes.IsAtEnd, Option.IfSome}
 use Rattle.cbor_head.specs.Prelude.{Bounds, AreBounds, Value, Spelling, spell, IsItem, IsLongestBeginning, Rules, Complaint, complaint, form, OfKinds, IsComplaint, refusal, refused, IsFormError, IsVerdict}
-use Rattle.cbor_head.specs.Laws.{StartsWith, IsWithout}
-use Rattle.cbor_head.specs.declared.reason.Reason.{Reason}
 use Rattle.cbor_head.specs.declared.reason.Reason.TheVariants.{Truncated, Read, Memory, KeyKind}
-use Rattle.cbor_head.specs.declared.reason.Refusal.{Refusal}
-use Rattle.cbor_grammar.proofs.Agree.{split_front}
-use Rattle.cbor_grammar.proofs.Beginnings.{item_decides}
+use Rattle.cbor_head.specs.{Laws.StartsWith, Laws.IsWithout, declared.reason.Reason.Reason, declared.reason.Refusal.Refusal}
+use Rattle.cbor_grammar.proofs.{Agree.split_front, Beginnings.item_decides, Complaints.complaints_told}
 use Rattle.cbor_automaton.proofs.Runs.{take-behind}
-use Rattle.cbor_standing.proofs.Form.{never}
-use Rattle.cbor_standing.specs.NextEvent.{ItemEventsView, StandsBetween}
-use Rattle.cbor_judging.specs.Judged.{IsJudged}
-use Rattle.cbor_judging.specs.Kinds.{AsksForKinds, KeepsToKinds}
+use Rattle.cbor_standing.{proofs.Form.never, specs.NextEvent.ItemEventsView, specs.NextEvent.StandsBetween}
 use Rattle.cbor_judging.specs.Readers.{IsReadAs, IsUnread, of_verdict, of_reader, of_memory, Loses}
 use Rattle.cbor_judging.specs.Reading.{IsReached, IsMemory, IsCause, HasCause, Extends, ReadsItem, IsUndecided, StopsItem, IsFrontUnread, IsAt}
-use Rattle.cbor_judging.specs.Refusals.{IsFreeBefore}
 use Rattle.cbor_judging.proofs.Decisions.{whole_beside, complaint_decides, break_decides, kind_decides}
-use Rattle.cbor_judging.proofs.KindFrames.{KeepsBefore}
-use Rattle.cbor_judging.proofs.SpelledBytes.{longest_always}
-use Rattle.cbor_grammar.proofs.Complaints.{complaints_told}
-use Rattle.std.specs.Option.{IfSome}
-use Rattle.cbor_judging.specs.Place.{at_item}
-use Rattle.cbor_judging.proofs.Reasons.{reader-reason}
+use Rattle.cbor_judging.{specs.Judged.IsJudged, specs.Kinds.AsksForKinds, specs.Kinds.KeepsToKinds, specs.Refusals.IsFreeBefore, proofs.KindFrames.KeepsBefore}
+use Rattle.cbor_judging.{proofs.SpelledBytes.longest_always, specs.Place.at_item, proofs.Reasons.reader-reason}
 
 -- ---- no complaint ends before a place of an input's longest beginning
 

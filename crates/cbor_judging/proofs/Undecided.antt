@@ -1,18 +1,13 @@
 -- Where memory is refused: all but the last byte taken tells nothing against the item.
 use Rattle.std.proofs.Common.{ℕ, ◌-◌, ◌≡◌, ◌<◌, ◌≤◌, Option, List, [], ◌∷◌, ◌++◌, length, refl, sym, ap, ◌∙◌, append_assoc, arith, subst, length-append}
 use Rattle.cbor_head.specs.Prelude.{head, Bounds, Value, AreBytes, spell, Rules}
-use Rattle.cbor_grammar.proofs.Agree.{body, parts}
-use Rattle.cbor_grammar.proofs.ReadLaws.{length_spell, length_head}
-use Rattle.cbor_head.specs.declared.major.Major.{Major}
-use Rattle.cbor_head.specs.declared.width.Width.{Width}
+use Rattle.cbor_head.specs.declared.{major.Major.Major, width.Width.Width}
+use Rattle.cbor_grammar.proofs.{Agree.body, Agree.parts, ReadLaws.length_spell, ReadLaws.length_head, ByteLists.bytes_front}
 use Rattle.cbor_automaton.specs.Trace.{Mark, a_head, a_break}
-use Rattle.cbor_judging.specs.Place.{Container, Place, at_item, IsTaking}
 use Rattle.cbor_standing.specs.NextEvent.{ItemEventsView}
-use Rattle.cbor_grammar.proofs.ByteLists.{bytes_front}
-use Rattle.cbor_judging.proofs.Heads.{Headed}
-use Rattle.cbor_judging.proofs.Items.{taken-headed}
-use Rattle.cbor_judging.proofs.Judged.{judged_head, judged_start}
+use Rattle.cbor_judging.specs.Place.{Container, Place, at_item, IsTaking}
 use Rattle.cbor_judging.specs.Reading.{IsUndecided, IsPart, ReadsItem}
+use Rattle.cbor_judging.proofs.{Heads.Headed, Items.taken-headed, Judged.judged_head, Judged.judged_start}
 
 -- a list with its last byte apart
 pub record LastApart (xs : List ℕ) : Type 0 where

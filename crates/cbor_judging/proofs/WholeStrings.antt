@@ -3,17 +3,12 @@ use Rattle.std.proofs.Common.{◌≡◌, ℕ, ◌+◌, ◌-◌, ◌<◌, ◌≤�
 use Rattle.std.specs.Str.Lossy.{utf8_valid_len}
 use Rattle.cbor_head.specs.Prelude.{Holds, head, Bounds, AreBytes, spell, Rules, Complaint, complaint, OfHead, OfPayload, Complains, refusal}
 use Rattle.cbor_head.specs.declared.major.Major.TheVariants as majors
-use Rattle.cbor_head.specs.declared.width.Width.{Width}
-use Rattle.cbor_head.specs.declared.reason.Refusal.{Refusal}
-use Rattle.cbor_head.specs.declared.reason.Reason.TheVariants.{InvalidText}
-use Rattle.cbor_judging.specs.Place.{Container, Place, close, payload}
+use Rattle.cbor_head.specs.declared.{width.Width.Width, reason.Refusal.Refusal, reason.Reason.TheVariants.InvalidText}
 use Rattle.cbor_standing.specs.NextEvent.{ItemEventsView}
-use Rattle.cbor_judging.specs.Judged.{IsJudged, Never}
+use Rattle.cbor_judging.specs.Place.{Container, Place, close, payload}
 use Rattle.cbor_judging.specs.Reading.{IsAt, Extends, IsFormRefusal, IsNoText, IsBegun, ReadsItem, StopsItem, HasCause, ReadsPayload, StopsPayload, string_major, string_kind, string_value, IsPart, IsUndecided}
 use Rattle.cbor_judging.proofs.Items.{whole-cause, extends-none, extends-on, definite, proper-definite, is-definite, head-count}
-use Rattle.cbor_judging.proofs.Scalars.{at-as}
-use Rattle.cbor_judging.proofs.CutHeads.{string_cut}
-use Rattle.cbor_judging.proofs.Leaves.{text_complains}
+use Rattle.cbor_judging.{specs.Judged.IsJudged, specs.Judged.Never, proofs.Scalars.at-as, proofs.CutHeads.string_cut, proofs.Leaves.text_complains}
 pub use Rattle.cbor_judging.proofs.Leaves.{made_of, made-spells, made-spelled, made-flat, made-value, so-far}
 use Rattle.cbor_judging.proofs.Steps.{reached-as}
 

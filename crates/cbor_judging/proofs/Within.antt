@@ -3,8 +3,7 @@ use Rattle.std.proofs.Common.{ℕ, ◌+◌, ◌≤◌, List, [], ◌∷◌, leng
 use Rattle.std.proofs.lemmas.Str.{utf8_valid_len_le}
 use Rattle.cbor_head.specs.Prelude.{Bounds, Spelling, Rules, Complaint, Complains, IsComplaint, IsFormError, IsVerdict, refused, IsLongestBeginning}
 use Rattle.cbor_head.specs.declared.reason.Refusal.{Refusal}
-use Rattle.cbor_grammar.proofs.KeyKinds.{of_kind}
-use Rattle.cbor_grammar.proofs.Reasons.{each_complaint}
+use Rattle.cbor_grammar.proofs.{KeyKinds.of_kind, Reasons.each_complaint}
 use Rattle.cbor_judging.specs.Refusals.{StandsWithin}
 
 -- ---- complaints

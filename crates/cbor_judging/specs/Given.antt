@@ -2,12 +2,11 @@
 use Rattle.std.specs.Prelude.{ℕ, suc, ◌≡◌, ◌-◌, ◌≤◌, ◌++◌, List, [], ◌∷◌, length, map}
 use Rattle.cbor_head.specs.Prelude.{canonical, canonical_all, canonical_entries, shortest_head, Spelling, spell, spellings_count, IsSpelled, depth, value_of, values_of, entries_of}
 use Rattle.cbor_head.specs.Spelling as spelling
-use Rattle.cbor_head.specs.declared.major.Major.TheVariants.{Tag}
-use Rattle.cbor_head.specs.declared.order.KeyOrder.{KeyOrder}
-use Rattle.cbor_judging.specs.Levels.{IsClean, IsTaken, Level, a_member, a_key, a_value, some_member, some_key, some_value, tagged, frame, AreLevels, bytes_before, Standing, item_due, item_full, item_whole}
-use Rattle.cbor_judging.specs.Place.{Place, at_item, close, done as at_end}
+use Rattle.cbor_head.specs.declared.{major.Major.TheVariants.Tag, order.KeyOrder.KeyOrder}
 use Rattle.cbor_canonical.specs.Parts.{IsInContainer, Open, plain as a_plain, an_array, a_map, closed, HasNoRepeats}
 use Rattle.cbor_canonical.specs.Parts as parts
+use Rattle.cbor_judging.specs.Levels.{IsClean, IsTaken, Level, a_member, a_key, a_value, some_member, some_key, some_value, tagged, frame, AreLevels, bytes_before, Standing, item_due, item_full, item_whole}
+use Rattle.cbor_judging.specs.Place.{Place, at_item, close, done as at_end}
 
 -- ---- open containers
 

@@ -1,8 +1,7 @@
 -- The kinds of keys in the bytes so far of an item.
 use Rattle.std.specs.Prelude.{ℕ, ◌≡◌, ◌<◌, ◌≤◌, ◌^◌, ◌-◌, ◌/◌, ◌%◌, IsTrue, List, [], ◌∷◌, length}
 use Rattle.cbor_head.specs.Prelude.{Bounds, Spelling, Rules, Complaint, OfKinds}
-use Rattle.cbor_head.specs.Laws.{StartsWith}
-use Rattle.cbor_head.specs.declared.keys.Keys.TheVariants.{IntegersAndTexts}
+use Rattle.cbor_head.specs.{Laws.StartsWith, declared.keys.Keys.TheVariants.IntegersAndTexts}
 use Rattle.cbor_grammar.specs.FirstBytes.{is_basic, is_container}
 use Rattle.cbor_judging.specs.Frame.{Frame, a_key, plug}
 use Rattle.cbor_judging.specs.Levels as levels

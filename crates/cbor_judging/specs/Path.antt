@@ -1,11 +1,9 @@
 -- Where an item stands: the containers that are open around it, and what is complete in each.
 use Rattle.std.specs.Prelude.{ℕ, suc, ◌+◌, ◌-◌, ◌<◌, ◌≤◌, ◌++◌, List, [], ◌∷◌, length}
 use Rattle.cbor_head.specs.Prelude.{Holds, head, Rules, Complaint, OfHead, OfKey, Complains, Spelling, Spellings, SpelledEntries, spell, spellings_count, entries_count, IsSpelled, depth}
-use Rattle.cbor_head.specs.declared.major.Major.TheVariants.{Tag}
-use Rattle.cbor_head.specs.declared.width.Width.{Width}
-use Rattle.cbor_head.specs.declared.width.Width.TheVariants.{Indefinite}
-use Rattle.cbor_judging.specs.Frame.{keys_onto}
+use Rattle.cbor_head.specs.declared.{major.Major.TheVariants.Tag, width.Width.Width, width.Width.TheVariants.Indefinite}
 use Rattle.cbor_judging.specs.SoFar.{IsArraySoFar, IsMapSoFar, array_bytes, map_bytes}
+use Rattle.cbor_judging.specs.Frame.{keys_onto}
 
 -- An open container: of an array its complete members, of a map its complete pairs, and the key whose value is due. So many
 -- members, or pairs, follow the one that is due; where there is no length, none is counted.

@@ -1,11 +1,10 @@
 -- The kinds of keys, where an item is due on a path.
 use Rattle.std.specs.Prelude.{ℕ, ◌≡◌, ◌⊎◌, ◌/◌, Bool, true, false, IsTrue, List, [], ◌∷◌}
-use Rattle.cbor_head.specs.Prelude.{Rules, Bounds}
-use Rattle.cbor_head.specs.declared.keys.Keys.{Keys}
+use Rattle.cbor_head.specs.{Prelude.Rules, Prelude.Bounds, declared.keys.Keys.Keys}
 use Rattle.cbor_head.specs.declared.keys.Keys.TheVariants.{Any, IntegersAndTexts}
 use Rattle.cbor_grammar.specs.FirstBytes.{is_basic}
-use Rattle.cbor_judging.specs.Kinds.{AsksForKinds, KeepsToKinds}
 use Rattle.cbor_judging.specs.Path.{Level, bytes_before, IsKeyDueIn}
+use Rattle.cbor_judging.specs.Kinds.{AsksForKinds, KeepsToKinds}
 
 -- whether kinds are asked for
 abbrev pub asks : Keys → Bool

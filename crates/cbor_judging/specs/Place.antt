@@ -2,16 +2,13 @@
 -- section 3).
 use Rattle.std.specs.Prelude.{◌≡◌, ℕ, zero, suc, ◌+◌, ◌<◌, ◌++◌, Bool, true, false, not, List, [], ◌∷◌, length}
 use Rattle.cbor_head.specs.Prelude.{Holds, IsSimple, head, shortest}
-use Rattle.cbor_head.specs.declared.major.Major.{Major}
 use Rattle.cbor_head.specs.declared.major.Major.TheVariants.{Unsigned, Negative, Bytes, Text, Array, Map, Tag, Simple}
-use Rattle.cbor_head.specs.declared.width.Width.{Width}
-use Rattle.cbor_head.specs.declared.width.Width.TheVariants.{Indefinite}
+use Rattle.cbor_head.specs.declared.{major.Major.Major, width.Width.Width, width.Width.TheVariants.Indefinite}
 -- An open container. Of a counted one so many items are due after the one that is: members, or keys and values; of a tag none.
 pub use Rattle.cbor_automaton.specs.Automaton.{Frame as Container, counted, indefinite_array, indefinite_map}
 use Rattle.cbor_automaton.specs.Trace.{Mark, a_head, a_chunk, a_byte, a_break}
-use Rattle.cbor_automaton.specs.Marks.{mark_of, marks_of}
+use Rattle.cbor_automaton.specs.{Marks.mark_of, Marks.marks_of, declared.event.Event.Event}
 use Rattle.cbor_standing.specs.NextEvent.{Call, IsDue}
-use Rattle.cbor_automaton.specs.declared.event.Event.{Event}
 
 -- What is due within the open containers, the innermost first. A string's flag is true in a chunk.
 pub data Place : Type 0 where

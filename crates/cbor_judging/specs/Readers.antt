@@ -1,11 +1,8 @@
 -- What the readers answer of the item at the front of an input (RFC 8949, sections 3, 4.2 and 5.3.1).
 use Rattle.std.specs.Prelude.{ℕ, ◌≡◌, ◌≤◌, List, length, take, drop, Option, Some, IfSome, ◌++◌}
 use Rattle.cbor_head.specs.Prelude.{Bounds, Value, IsInRange, IsValid, HasBasicKeys, Spelling, spell, value_of, IsLongestBeginning, Rules, refusal, accepted, refused, IsVerdict, canonical}
-use Rattle.cbor_head.specs.Value.{depth}
 use Rattle.cbor_head.specs.declared.reason.Reason.TheVariants.{Truncated, Read, Memory}
-use Rattle.cbor_head.specs.declared.reason.Refusal.{Refusal}
-use Rattle.cbor_head.specs.declared.keys.Keys.TheVariants.{IntegersAndTexts}
-use Rattle.cbor_head.specs.declared.order.KeyOrder.{KeyOrder}
+use Rattle.cbor_head.specs.{Value.depth, declared.reason.Refusal.Refusal, declared.keys.Keys.TheVariants.IntegersAndTexts, declared.order.KeyOrder.KeyOrder}
 use Rattle.cbor_judging.specs.Refusals.{IsFreeBefore}
 
 -- the input's item, which has so many bytes, is accepted

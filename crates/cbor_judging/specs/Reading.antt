@@ -1,30 +1,21 @@
 -- What the readers' own functions answer of one item, which may lie within others, from its events.
 use Rattle.std.specs.Prelude.{◌≡◌, ◌≢◌, ℕ, ◌+◌, ◌-◌, ◌<◌, ◌≤◌, ◌⊎◌, ◌++◌, Bool, true, false, List, [], length, Option, Some, None, IfSome, IsTrue, Result, MatchResult, IsUtf8}
-use Rattle.std.specs.Str.Lossy.{utf8_valid_len}
-use Rattle.std.specs.Io.KnownBytes.{Consumes, IsAtEnd}
+use Rattle.std.specs.{Str.Lossy.utf8_valid_len, Io.KnownBytes.Consumes, Io.KnownBytes.IsAtEnd}
 use Rattle.cbor_head.specs.Prelude.{Bounds, AreBounds, Value, AreBytes, Spelling, spell, IsSpelled, depth, value_of, shortest, Rules, form, Complaint, OfHead, OfCount, Complains, IsBeginning, refusal, refused, IsVerdict}
 use Rattle.cbor_head.specs.Value as value
-use Rattle.cbor_head.specs.declared.major.Major.{Major}
 use Rattle.cbor_head.specs.declared.major.Major.TheVariants as majors
-use Rattle.cbor_head.specs.declared.width.Width.{Width}
-use Rattle.cbor_head.specs.declared.width.Width.TheVariants.{Indefinite}
-use Rattle.cbor_head.specs.declared.reason.Refusal.{Refusal}
-use Rattle.cbor_head.specs.declared.reason.Reason.{Reason}
 use Rattle.cbor_head.specs.declared.reason.Reason.TheVariants as reasons
 use Rattle.cbor_head.specs.declared.reason.Reason.TheVariants.{Truncated, Read, Memory, InvalidText}
+use Rattle.cbor_head.specs.declared.{major.Major.Major, width.Width.Width, width.Width.TheVariants.Indefinite, reason.Refusal.Refusal, reason.Reason.Reason}
 use Rattle.cbor_automaton.specs.Trace.{Mark, a_head, a_chunk}
-use Rattle.cbor_judging.specs.Place.{Container, Place, at_item, in_payload, in_chunks, done, close, close_string, payload, IsTaking}
 use Rattle.cbor_automaton.specs.Automaton as automaton
 use Rattle.cbor_automaton.specs.Automaton.{State, run, reached}
-use Rattle.cbor_automaton.specs.Marks.{mark_of, IsProper}
+use Rattle.cbor_automaton.specs.declared.event.EventKind.TheVariants as kinds
+use Rattle.cbor_automaton.specs.{Marks.mark_of, Marks.IsProper, declared.event.Event.Event, declared.event.EventKind.EventKind}
 use Rattle.cbor_steps.specs.State.{state_of}
 use Rattle.cbor_standing.specs.NextEvent.{ItemEventsView, StandsBetween}
-use Rattle.cbor_automaton.specs.declared.event.Event.{Event}
-use Rattle.cbor_automaton.specs.declared.event.EventKind.{EventKind}
-use Rattle.cbor_automaton.specs.declared.event.EventKind.TheVariants as kinds
-use Rattle.cbor_judging.specs.Judged.{IsJudged}
-use Rattle.cbor_judging.specs.Readers.{IsUnread, Loses}
-use Rattle.cbor_judging.specs.Refusals.{IsReaderReason}
+use Rattle.cbor_judging.specs.Place.{Container, Place, at_item, in_payload, in_chunks, done, close, close_string, payload, IsTaking}
+use Rattle.cbor_judging.specs.{Judged.IsJudged, Readers.IsUnread, Readers.Loses, Refusals.IsReaderReason}
 
 -- ---- a place, as the automaton has it
 

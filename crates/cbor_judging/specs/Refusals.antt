@@ -1,12 +1,9 @@
 -- What a reader's refusal can say: its reason, and what stands before its place.
 use Rattle.std.specs.Prelude.{ℕ, ◌≡◌, ◌≤◌, ◌⊎◌, IsTrue, List, length}
 use Rattle.cbor_head.specs.Prelude.{distinct, rising, Rules, Complaint, IsComplaint, Bounds, Spelling}
-use Rattle.cbor_head.specs.Laws.{StartsWith}
-use Rattle.cbor_head.specs.declared.keys.Keys.TheVariants.{IntegersAndTexts}
 use Rattle.cbor_head.specs.declared.order.KeyOrder as order
-use Rattle.cbor_head.specs.declared.reason.Reason.{Reason}
-use Rattle.cbor_head.specs.declared.reason.Refusal.{Refusal}
 use Rattle.cbor_head.specs.declared.reason.Reason.TheVariants.{Truncated, TooLong, InvalidText, RepeatedKey, NotShortest, Indefinite, KeyOrder, Read, Memory, KeyKind}
+use Rattle.cbor_head.specs.{Laws.StartsWith, declared.keys.Keys.TheVariants.IntegersAndTexts, declared.reason.Reason.Reason, declared.reason.Refusal.Refusal}
 use Rattle.cbor_automaton.specs.Reasons.{IsFormReason as IsByteReason}
 
 -- the reasons for which bytes are not well-formed within the limits (RFC 8949, section 3 and appendix F): 1 to 9

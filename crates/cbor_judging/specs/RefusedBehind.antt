@@ -1,10 +1,8 @@
 -- What is told where a reader stops within the item at the front of an input.
 use Rattle.std.specs.Prelude.{◌≡◌, ◌++◌, ℕ, List, length, Option, IfSome}
 use Rattle.std.specs.Io.KnownBytes.{Consumes}
-use Rattle.cbor_head.specs.Prelude.{Rules, Bounds}
-use Rattle.cbor_head.specs.declared.reason.Refusal.{Refusal}
-use Rattle.cbor_judging.specs.Readers.{IsUnread}
-use Rattle.cbor_judging.specs.Refusals.{IsReaderReason}
+use Rattle.cbor_head.specs.{Prelude.Rules, Prelude.Bounds, declared.reason.Refusal.Refusal}
+use Rattle.cbor_judging.specs.{Readers.IsUnread, Refusals.IsReaderReason}
 
 -- Behind the bytes t more is taken, and it is refused: what is told of what the reader held there, and of each.
 pub record IsRefusedBehind (r : Rules) (b : Bounds) (t : List ℕ) (from to : Option (List ℕ)) (f : Refusal) : Type 0 where

@@ -1,12 +1,10 @@
 -- What may stand where an item is due, and what is refused there.
 use Rattle.std.specs.Prelude.{◌≡◌, ℕ, ◌%◌, ◌<◌, ◌≤◌, ◌⊎◌, ◌++◌, Bool, true, false, List, [], ◌∷◌, length}
 use Rattle.cbor_head.specs.Prelude.{Rules, Bounds, AreBytes}
-use Rattle.cbor_head.specs.declared.reason.Reason.{Reason}
 use Rattle.cbor_head.specs.declared.reason.Reason.TheVariants.{Reserved, NoIndefinite, Float, StrayBreak, TooDeep}
-use Rattle.cbor_head.specs.declared.reason.Refusal.{Refusal}
-use Rattle.cbor_judging.specs.PathKinds.{KeepsHere}
+use Rattle.cbor_head.specs.declared.reason.{Reason.Reason, Refusal.Refusal}
 use Rattle.cbor_judging.specs.Path.{Level, bytes_before, AreClean, MayBreak}
-use Rattle.cbor_judging.specs.Stop.{IsStopped}
+use Rattle.cbor_judging.specs.{PathKinds.KeepsHere, Stop.IsStopped}
 
 -- ---- first bytes
 

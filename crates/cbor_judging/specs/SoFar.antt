@@ -1,8 +1,7 @@
 -- An array or a map of which some members or pairs have been read, without complaint, and its bytes so far.
 use Rattle.std.specs.Prelude.{ℕ, ◌+◌, ◌≤◌, ◌++◌, List, [], length}
 use Rattle.cbor_head.specs.Prelude.{head, Spellings, SpelledEntries, spell_all, spell_entries, AreSpelled, AreEntriesSpelled, HoldsOrIndefinite, depth_all, depth_entries, Rules, OfCount, ComplainsIn, ComplainsInEntries}
-use Rattle.cbor_head.specs.declared.major.Major.TheVariants.{Array, Map}
-use Rattle.cbor_head.specs.declared.width.Width.{Width}
+use Rattle.cbor_head.specs.declared.{major.Major.TheVariants.Array, major.Major.TheVariants.Map, width.Width.Width}
 use Rattle.cbor_judging.specs.Judged.{Never}
 
 -- an array of n members at a place, of which these have been read, without complaint

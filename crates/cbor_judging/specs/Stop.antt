@@ -1,12 +1,10 @@
 -- Why a walk over an item goes no further: what the bytes, all that there are of an input within its limit, have against it.
 use Rattle.std.specs.Prelude.{◌≡◌, ◌≢◌, ℕ, ◌+◌, ◌++◌, ◌⊎◌, List, [], ◌∷◌, length, Some, None}
 use Rattle.cbor_head.specs.Prelude.{MayFollow, Rules, Complaint, complaint, plain, strict, OfKinds, Bounds, Spelling, IsReasonAt, refusal}
-use Rattle.cbor_head.specs.Laws.{StartsWith}
 use Rattle.cbor_head.specs.declared.order.KeyOrder as orders
 use Rattle.cbor_head.specs.declared.reason.Reason.TheVariants.{Truncated, TooLong, RepeatedKey, KeyOrder, KeyKind}
-use Rattle.cbor_head.specs.declared.reason.Refusal.{Refusal}
-use Rattle.cbor_judging.specs.Judged.{IsJudged}
-use Rattle.cbor_judging.specs.Kinds.{AsksForKinds, KeepsToKinds}
+use Rattle.cbor_head.specs.{Laws.StartsWith, declared.reason.Refusal.Refusal}
+use Rattle.cbor_judging.specs.{Judged.IsJudged, Kinds.AsksForKinds, Kinds.KeepsToKinds}
 
 -- The item that they begin has this complaint first.
 pub record HasComplaint (r : Rules) (limits : Bounds) (b : List ℕ) (f : Refusal) : Type 0 where

@@ -1,14 +1,10 @@
 -- The first eight bytes of a key as a number.
 use Rattle.std.proofs.Common.{◌≡◌, ℕ, zero, suc, ◌-◌, ◌*◌, ◌/◌, ◌^◌, ◌<◌, ◌≤◌, List, [], ◌∷◌, length, take, w64, refl, sym, ap, ◌∙◌, arith, inl, inr, lit<, pow-suc, mul-le-mul_left, mul-suc}
-use Rattle.std.specs.Int.{from_be_bytes}
-use Rattle.std.specs.declared.cmp.Ordering.{Ordering}
 use Rattle.std.specs.declared.cmp.Ordering.TheVariants.{Less, Equal, Greater}
 use Rattle.std.specs.Ordering.{nat_cmp, ordering_then, ordering_reverse, MatchOrdering}
-use Rattle.std.specs.Cmp.Lexicographic.{slice_cmp}
-use Rattle.std.proofs.lemmas.Bool.{cases_lt}
+use Rattle.std.{specs.Int.from_be_bytes, specs.declared.cmp.Ordering.Ordering, specs.Cmp.Lexicographic.slice_cmp, proofs.lemmas.Bool.cases_lt}
 use Rattle.std.proofs.lemmas.Cmp.{ranked}
-use Rattle.cbor_head.specs.Prelude.{key_cmp, AreBytes}
-use Rattle.cbor_head.specs.declared.order.KeyOrder.TheVariants.{Bytewise}
+use Rattle.cbor_head.specs.{Prelude.key_cmp, Prelude.AreBytes, declared.order.KeyOrder.TheVariants.Bytewise}
 use Rattle.cbor_canonical.proofs.Orders.{key_cmp_total}
 use Rattle.cbor_keys.specs.Front.{digits, front_of}
 

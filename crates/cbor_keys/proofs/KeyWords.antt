@@ -1,17 +1,13 @@
 -- Keys compared by words of eight bytes.
 use Rattle.std.proofs.Common.{◌≡◌, ◌≢◌, ◌⊎◌, ℕ, zero, suc, ◌+◌, ◌*◌, ◌^◌, ◌<◌, ◌≤◌, ◌++◌, List, [], ◌∷◌, length, length-drop, take, drop, refl, sym, ap, ◌∙◌, arith, inl, inr, mul_comm, take-take}
-use Rattle.std.proofs.Math.Seq.{take-add}
-use Rattle.std.proofs.lemmas.List.{drop_all}
-use Rattle.std.proofs.lemmas.Nat.{same_from_place}
 use Rattle.std.proofs.lemmas.Cmp.{ranked, nat_cmp_total, tied_itself}
-use Rattle.std.specs.declared.cmp.Ordering.{Ordering}
 use Rattle.std.specs.declared.cmp.Ordering.TheVariants.{Less, Equal, Greater}
 use Rattle.std.specs.Ordering.{nat_cmp, ordering_then, MatchOrdering}
+use Rattle.std.{proofs.Math.Seq.take-add, proofs.lemmas.List.drop_all, proofs.lemmas.Nat.same_from_place, specs.declared.cmp.Ordering.Ordering}
 use Rattle.std.specs.Cmp.Lexicographic.{slice_cmp}
 use Rattle.cbor_head.specs.Prelude.{AreBytes}
-use Rattle.cbor_keys.specs.Front.{digits, front_of}
-use Rattle.cbor_keys.proofs.KeyFronts.{agree_front, below}
 use Rattle.cbor_canonical.proofs.ByteLists.{bytes_drop}
+use Rattle.cbor_keys.{specs.Front.digits, specs.Front.front_of, proofs.KeyFronts.agree_front, proofs.KeyFronts.below}
 
 -- what two lists begin with alike doesn't decide
 pub behind_same : (n : ℕ) (xs ys : List ℕ) → take n xs ≡ take n ys → n ≤ length xs → n ≤ length ys → slice_cmp nat_cmp xs ys ≡ slice_cmp nat_cmp (drop n xs) (drop n ys)

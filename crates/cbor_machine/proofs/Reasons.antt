@@ -1,6 +1,5 @@
 -- From the reasons of a byte to those of a machine, and of a reader of events.
-use Rattle.cbor_head.specs.declared.reason.Reason.{Reason}
-use Rattle.cbor_head.specs.declared.reason.Reason.TheVariants.{TooLong}
+use Rattle.cbor_head.specs.declared.reason.Reason.{Reason, TheVariants.TooLong}
 use Rattle.cbor_automaton.specs.Reasons.{IsFormReason, IsMachineReason}
 
 pub form-machine : (r : Reason) → IsFormReason r → IsMachineReason r

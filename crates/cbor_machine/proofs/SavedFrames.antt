@@ -3,8 +3,7 @@ use Rattle.std.proofs.Common.{◌≡◌, ℕ, zero, suc, ◌+◌, ◌-◌, ◌<�
 use Rattle.std.proofs.lemmas.List.{drop-replicate, length-replicate, set-get_or, take_more}
 use Rattle.std.proofs.lemmas.Option.{get_or_from_slice_get}
 use Rattle.cbor_steps.specs.declared.frame.Frame.{Frame}
-use Rattle.cbor_machine.specs.Saved.{AreZeros}
-use Rattle.cbor_machine.specs.inner.Saved.{frame_by, frames_by}
+use Rattle.cbor_machine.specs.{Saved.AreZeros, inner.Saved.frame_by, inner.Saved.frames_by}
 
 -- one more is written
 frames-written : (ls ks : List ℕ) (i n k : ℕ) → i < length ls → i < length ks → frames_by (take (suc i) (set ls i n)) (take (suc i) (set ks i k)) ≡ frames_by (take i ls) (take i ks) ++ frame_by n k ∷ []

@@ -2,11 +2,9 @@
 use Rattle.std.proofs.Common.{◌≡◌, List, length, [], None, refl, ap, sym, arith}
 use Rattle.cbor_head.specs.Prelude.{Bounds}
 use Rattle.cbor_automaton.specs.Automaton.{at_item, reached}
-use Rattle.cbor_steps.specs.State.{frames_of}
-use Rattle.cbor_steps.specs.declared.frame.Frame.{Frame}
 use Rattle.cbor_steps.specs.declared.position.Position.TheVariants as positions
-use Rattle.cbor_standing.specs.Machine.{StandsFor}
-use Rattle.cbor_standing.proofs.Standing.{meant}
+use Rattle.cbor_steps.specs.{State.frames_of, declared.frame.Frame.Frame}
+use Rattle.cbor_standing.{specs.Machine.StandsFor, proofs.Standing.meant}
 use Rattle.cbor_machine.specs.contracts.machine.Machine.{the_view}
 
 pub starts : (limits : Bounds) (frames : List Frame) → frames ≡ [] → StandsFor (the_view (record { limits = limits; taken = 0; told = 0; position = positions.Item; nest = frames; refusal = None })) [] []

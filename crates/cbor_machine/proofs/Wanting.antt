@@ -1,12 +1,10 @@
 -- What is wanted behind bytes that told nothing.
 use Rattle.std.proofs.Common.{◌≡◌, ◌<◌, ◌-◌, ℕ, List, [], None, Option, Some, arith, min, refl, subst, sym, take}
-use Rattle.cbor_automaton.specs.Automaton.{State, reached, run}
 use Rattle.cbor_head.specs.declared.reason.Refusal.{Refusal}
-use Rattle.cbor_standing.specs.Machine.{wanted_within}
+use Rattle.cbor_automaton.specs.Automaton.{State, reached, run}
 use Rattle.cbor_steps.specs.State.{state_of, wanted_at, IsFit, IsSettled}
-use Rattle.cbor_steps.specs.declared.frame.Frame.{Frame}
-use Rattle.cbor_steps.specs.declared.position.Position.{Position}
-use Rattle.cbor_steps.specs.declared.position.Position.TheVariants.{Done}
+use Rattle.cbor_steps.specs.declared.{frame.Frame.Frame, position.Position.Position, position.Position.TheVariants.Done}
+use Rattle.cbor_standing.specs.Machine.{wanted_within}
 
 -- anywhere but behind the item
 pub wants-within : (position : Position) → (position ≡ Done → ⊥) → 0 < wanted_at position

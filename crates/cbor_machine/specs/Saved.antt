@@ -1,9 +1,7 @@
 -- The machine that the numbers of a saved one hold.
 use Rattle.std.specs.Prelude.{ℕ, ◌≡◌, List, [], length, replicate}
-use Rattle.cbor_standing.specs.Machine.{StandsFor}
-use Rattle.cbor_standing.specs.MachineView.{MachineView}
-use Rattle.cbor_machine.specs.inner.Saved.{IsHeld}
-use Rattle.cbor_machine.specs.declared.machine.saved.SavedMachine.{SavedMachine}
+use Rattle.cbor_standing.specs.{Machine.StandsFor, MachineView.MachineView}
+use Rattle.cbor_machine.specs.{inner.Saved.IsHeld, declared.machine.saved.SavedMachine.SavedMachine}
 
 -- the numbers hold this machine
 pub record Holds (s : SavedMachine) (m : MachineView) : Type 0 where

@@ -1,26 +1,17 @@
 -- What is refused where an item is due: its head, what is behind it, or the first byte of a key of another kind.
 use Rattle.std.proofs.Common.{◌≡◌, ℕ, ◌-◌, ◌^◌, ◌<◌, Option, None, List, [], ◌++◌, length, map, sym, ap, subst, inl, inr, arith}
-use Rattle.std.specs.Io.KnownBytes.{Consumes}
-use Rattle.std.proofs.lemmas.List.{length-map}
+use Rattle.std.{specs.Io.KnownBytes.Consumes, proofs.lemmas.List.length-map}
 use Rattle.cbor_head.specs.Prelude.{plain, Complaint, Bounds}
 use Rattle.cbor_head.specs.declared.reason.Refusal.{Refusal}
 use Rattle.cbor_standing.specs.NextEvent.{ItemEventsView}
-use Rattle.cbor_plain.specs.declared.plain_items.PlainItems.{PlainItems}
-use Rattle.cbor_judging.specs.Judged.{IsJudged}
 use Rattle.cbor_judging.specs.Kinds.{AsksForKinds, KeepsToKinds, IsKeyDueIn, IsOfOneHead, HasBasicFront}
-use Rattle.cbor_judging.specs.Levels.{frame, bytes_before}
-use Rattle.cbor_judging.specs.Place.{Container}
-use Rattle.cbor_judging.specs.Reading.{IsUndecided, StopsItem}
-use Rattle.cbor_judging.specs.RefusedBehind.{IsRefusedBehind}
-use Rattle.cbor_plain.specs.inner.ItemFront.{IsDueAt}
-use Rattle.cbor_plain.specs.inner.PlainItems.{AreApart}
 use Rattle.cbor_judging.proofs.Items.{cause-in, cause-front, undecided-in, undecided-front}
 use Rattle.cbor_judging.proofs.KindBytes.{keeps_due, judged_begins, one_head_front}
-use Rattle.cbor_judging.proofs.LevelFrames.{around_levels, path}
-use Rattle.cbor_judging.proofs.KindFrames.{IsAround}
+use Rattle.cbor_judging.specs.{Judged.IsJudged, Levels.frame, Levels.bytes_before, Place.Container, Reading.IsUndecided, Reading.StopsItem}
+use Rattle.cbor_judging.{specs.RefusedBehind.IsRefusedBehind, proofs.LevelFrames.around_levels, proofs.LevelFrames.path, proofs.KindFrames.IsAround}
 use Rattle.cbor_judging.proofs.RefusedBehind.{stopped_by}
-use Rattle.cbor_plain.proofs.PartKinds.{basic-front}
-use Rattle.cbor_plain.proofs.PathFrames.{found_within}
+use Rattle.cbor_plain.specs.{declared.plain_items.PlainItems.PlainItems, inner.ItemFront.IsDueAt, inner.PlainItems.AreApart}
+use Rattle.cbor_plain.proofs.{PartKinds.basic-front, PathFrames.found_within}
 
 module _ (v : PlainItems) (b : Bounds) (e : ItemEventsView) (t : List ℕ) (d : IsDueAt v b e t) where
   pub few : length (bytes_before d.ls) < 2 ^ 63

@@ -3,17 +3,11 @@ use Rattle.std.proofs.Common.{ℕ, ◌^◌, ◌≡◌, ◌<◌, ◌≤◌, Optio
 use Rattle.cbor_head.specs.Prelude.{Bounds, AreBounds, Value, Spelling, spell, value_of, depth, IsSpelled, plain, Complains}
 use Rattle.cbor_head.specs.declared.limits.TheConstants.{MAX_DEPTH}
 use Rattle.cbor_standing.specs.NextEvent.{ItemEventsView}
-use Rattle.cbor_plain.specs.Size.{size}
-use Rattle.cbor_judging.specs.Kinds.{KeepsToKinds}
-use Rattle.cbor_judging.specs.Readers.{IsReadAs}
-use Rattle.cbor_plain.specs.Front.{IsFrontRead, HasCanonicalBytes}
-use Rattle.cbor_judging.specs.Reading.{ReadsItem}
-use Rattle.cbor_judging.proofs.Valid.{in_range_of, valid_of}
-use Rattle.cbor_canonical.proofs.Sound.{sound}
-use Rattle.cbor_canonical.proofs.Depth.{depth-value_of}
-use Rattle.cbor_judging.specs.Judged.{Never}
-use Rattle.cbor_plain.proofs.Sizes.{size_bounded}
+use Rattle.cbor_canonical.proofs.{Sound.sound, Depth.depth-value_of}
 use Rattle.cbor_judging.proofs.Tops.{item-read, loses, known}
+use Rattle.cbor_judging.{specs.Kinds.KeepsToKinds, specs.Readers.IsReadAs, specs.Reading.ReadsItem, proofs.Valid.in_range_of, proofs.Valid.valid_of}
+use Rattle.cbor_judging.specs.Judged.{Never}
+use Rattle.cbor_plain.{specs.Size.size, specs.Front.IsFrontRead, specs.Front.HasCanonicalBytes, proofs.Sizes.size_bounded}
 
 -- the value of an item without complaint has canonical bytes
 canonical-of : (s : Spelling) → IsSpelled s → length (spell s) < 2 ^ 64 → Never (Complains plain 0 s) → depth s ≤ MAX_DEPTH → HasCanonicalBytes (value_of s)

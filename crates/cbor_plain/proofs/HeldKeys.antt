@@ -1,23 +1,16 @@
 -- Sets of the keys of open containers: what an item's parts do to them.
 use Rattle.std.proofs.Common.{◌≡◌, ℕ, ◌<◌, ◌≤◌, ◌⊎◌, ◌↔◌, Bool, true, false, not, List, [], ◌∷◌, ◌++◌, length, refl, sym, ap, ◌∙◌, subst, inl, inr, arith, Vec, Global, map, true≢false}
-use Rattle.std.proofs.lemmas.Bool.{not-true, not-false}
-use Rattle.std.specs.Ordering.{nat_cmp}
-use Rattle.std.specs.Cmp.Lexicographic.{slice_cmp}
+use Rattle.std.{proofs.lemmas.Bool.not-true, proofs.lemmas.Bool.not-false, specs.Ordering.nat_cmp, specs.Cmp.Lexicographic.slice_cmp}
 use Rattle.std.specs.BTreeSet.{BTreeSet, Updates}
 use Rattle.arrayvec.specs.ArrayVec.{ArrayVec}
-use Rattle.cbor_head.specs.Prelude.{Pair}
-use Rattle.cbor_head.specs.declared.major.Major.{Major}
 use Rattle.cbor_head.specs.declared.major.Major.TheVariants as majors
-use Rattle.cbor_head.specs.declared.order.KeyOrder.{KeyOrder}
-use Rattle.cbor_judging.specs.Place.{Place, Ends}
-use Rattle.cbor_builder.specs.Built.{HasKey, IsRepeatedKey, IsWaitingKey, IsContainer}
+use Rattle.cbor_head.specs.{Prelude.Pair, declared.major.Major.Major, declared.order.KeyOrder.KeyOrder}
 use Rattle.cbor_canonical.specs.Parts.{Open, plain, a_key, pair, closed, give, close, opened}
-use Rattle.cbor_plain.specs.declared.key_set.KeySet.{KeySet}
-use Rattle.cbor_plain.specs.inner.HeldKeys.{is_in, IsAmong, HasKeyBytes, IsAdded, pair_keys, keys_before, AreHeld, AreHeldSoFar}
+use Rattle.cbor_builder.specs.Built.{HasKey, IsRepeatedKey, IsWaitingKey, IsContainer}
 use Rattle.cbor_judging.specs.Levels as levels
-use Rattle.cbor_judging.specs.Levels.{Level, frame}
-use Rattle.cbor_judging.specs.Given.{level_open, opens}
-use Rattle.cbor_plain.proofs.KeySets.{in_more}
+use Rattle.cbor_judging.specs.{Place.Place, Place.Ends, Levels.Level, Levels.frame, Given.level_open, Given.opens}
+use Rattle.cbor_plain.specs.inner.HeldKeys.{is_in, IsAmong, HasKeyBytes, IsAdded, pair_keys, keys_before, AreHeld, AreHeldSoFar}
+use Rattle.cbor_plain.{specs.declared.key_set.KeySet.KeySet, proofs.KeySets.in_more}
 
 -- ---- one key more in a set
 

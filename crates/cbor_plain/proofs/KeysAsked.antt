@@ -3,20 +3,16 @@ use Rattle.std.proofs.Common.{◌≡◌, ℕ, ◌+◌, Option, Some, None, List,
 use Rattle.cbor_head.specs.Prelude.{MayFollow, plain, Bounds}
 use Rattle.cbor_head.specs.declared.reason.Refusal.{Refusal}
 use Rattle.cbor_automaton.specs.declared.event.Event.{Event}
-use Rattle.cbor_standing.specs.Machine.{KeepsLimits}
 use Rattle.cbor_standing.specs.NextEvent.{ItemEventsView, IsNextEvent, IsEnd, call}
+use Rattle.cbor_standing.specs.Machine.{KeepsLimits}
 use Rattle.cbor_events.specs.NextKey.{IsNextKey, IsBasicKind}
-use Rattle.cbor_judging.specs.Kinds.{AsksForKinds, IsKeyDueIn}
-use Rattle.cbor_judging.specs.Levels.{frame}
 use Rattle.cbor_judging.specs.Place.{Container, at_item, done as at_end}
-use Rattle.cbor_judging.specs.Reading.{IsNextHead, StopsHead}
-use Rattle.cbor_judging.proofs.Standing.{is-done}
 use Rattle.cbor_judging.proofs.Steps.{next-head, fault_of, stops, limits-as}
 use Rattle.cbor_judging.proofs.RefusedBehind.{basic_first, stopped_within, stopped_other}
-use Rattle.cbor_judging.specs.RefusedBehind.{IsRefusedBehind}
-use Rattle.cbor_plain.specs.declared.plain_items.PlainItems.{PlainItems}
-use Rattle.cbor_plain.specs.inner.ItemFront.{IsDueAt, IsNextDue}
+use Rattle.cbor_judging.specs.{Kinds.AsksForKinds, Kinds.IsKeyDueIn, Levels.frame, Reading.IsNextHead, Reading.StopsHead}
+use Rattle.cbor_judging.{proofs.Standing.is-done, specs.RefusedBehind.IsRefusedBehind}
 use Rattle.cbor_plain.proofs.DueRefusals.{around, lifted, room}
+use Rattle.cbor_plain.specs.{declared.plain_items.PlainItems.PlainItems, inner.ItemFront.IsDueAt, inner.ItemFront.IsNextDue}
 
 module _ (v : PlainItems) (b : Bounds) (e : ItemEventsView) (t : List ℕ) (d : IsDueAt v b e t) (new : ItemEventsView) (from to : Option (List ℕ)) where
   abbrev cs : List Container

@@ -3,35 +3,25 @@ use Rattle.std.proofs.Common.{Vec, Global, ◌≡◌, ℕ, zero, suc, ◌+◌, �
 use Rattle.std.proofs.lemmas.List.{length-map}
 use Rattle.cbor_head.specs.Prelude.{canonical, canonical_entries, entries_of, Bounds, Spelling, SpelledEntries, spell, value_of, plain, refusal}
 use Rattle.cbor_head.specs.Complaint as complaint
-use Rattle.cbor_head.specs.declared.order.KeyOrder.{KeyOrder}
-use Rattle.cbor_head.specs.declared.reason.Reason.TheVariants.{RepeatedKey}
-use Rattle.cbor_head.specs.declared.reason.Refusal.{Refusal}
+use Rattle.cbor_head.specs.declared.{order.KeyOrder.KeyOrder, reason.Reason.TheVariants.RepeatedKey, reason.Refusal.Refusal}
 use Rattle.cbor_standing.specs.NextEvent.{ItemEventsView}
-use Rattle.cbor_judging.specs.Place.{Place, at_item, close, done as at_end, open_at}
-use Rattle.cbor_builder.specs.Built.{Built, built, HasKey, IsRepeatedKey, HasDistinctKeysSoFar}
 use Rattle.cbor_canonical.specs.Parts.{IsInContainer, Open, plain as a_plain, give, close as close_open}
+use Rattle.cbor_builder.specs.Built.{Built, built, HasKey, IsRepeatedKey, HasDistinctKeysSoFar}
 use Rattle.cbor_item.specs.OpenValues as trees
 use Rattle.cbor_item.specs.OpenValues.{OpenItem, MayEnd}
-use Rattle.cbor_plain.specs.declared.plain_items.PlainItems.{PlainItems}
-use Rattle.cbor_judging.specs.Judged.{IsJudged}
-use Rattle.cbor_walk.specs.Sink.{IsKeyBehind}
+use Rattle.cbor_judging.specs.Place.{Place, at_item, close, done as at_end, open_at}
 use Rattle.cbor_judging.specs.Levels.{IsTaken, Level, a_key, a_value, some_key, some_value, frame, AreLevels, bytes_before, Standing, item_due, item_full, item_whole, settle}
 use Rattle.cbor_judging.specs.Given.{level_open, opens, StandsAt}
-use Rattle.cbor_plain.specs.inner.ItemFront.{IsDueAt, IsWholeAt, GoesOnOrNot}
-use Rattle.cbor_judging.specs.Reading.{HasCause}
-use Rattle.cbor_plain.specs.inner.PlainItems.{AreApart, AreApartSoFar, HaveBegun, HaveBegunIn, HasItsPlace, IsEndingAt, sets}
-use Rattle.cbor_plain.specs.declared.key_set.KeySet.{KeySet}
-use Rattle.cbor_plain.specs.inner.HeldKeys.{AreHeld, AreHeldSoFar}
-use Rattle.cbor_plain.proofs.HeldKeys.{held-popped, some-opens}
 use Rattle.cbor_judging.proofs.Standing.{open-is, fewer-open, short-at}
-use Rattle.cbor_judging.proofs.Given.{settled}
-use Rattle.cbor_plain.specs.TreeValues.{IsTreeAt}
-use Rattle.cbor_plain.proofs.TreeValues.{values-ended, settles-right, tree-step, tree-may-end}
-use Rattle.cbor_plain.proofs.PathFrames.{repeat_found}
-use Rattle.cbor_plain.proofs.Paths.{closed-apart, apart-now, ends-apart, settled-begun, settled-place}
-use Rattle.cbor_judging.proofs.Scalars.{at-as}
-use Rattle.cbor_judging.proofs.Items.{whole-cause}
+use Rattle.cbor_judging.{specs.Judged.IsJudged, specs.Reading.HasCause, proofs.Given.settled, proofs.Scalars.at-as, proofs.Items.whole-cause}
 use Rattle.cbor_judging.proofs.Steps.{at-reached}
+use Rattle.cbor_walk.specs.Sink.{IsKeyBehind}
+use Rattle.cbor_plain.specs.inner.ItemFront.{IsDueAt, IsWholeAt, GoesOnOrNot}
+use Rattle.cbor_plain.specs.inner.PlainItems.{AreApart, AreApartSoFar, HaveBegun, HaveBegunIn, HasItsPlace, IsEndingAt, sets}
+use Rattle.cbor_plain.proofs.TreeValues.{values-ended, settles-right, tree-step, tree-may-end}
+use Rattle.cbor_plain.proofs.Paths.{closed-apart, apart-now, ends-apart, settled-begun, settled-place}
+use Rattle.cbor_plain.specs.{declared.plain_items.PlainItems.PlainItems, declared.key_set.KeySet.KeySet, inner.HeldKeys.AreHeld, inner.HeldKeys.AreHeldSoFar}
+use Rattle.cbor_plain.{proofs.HeldKeys.held-popped, proofs.HeldKeys.some-opens, specs.TreeValues.IsTreeAt, proofs.PathFrames.repeat_found}
 use Rattle.cbor_plain.proofs.PartPlaces.{stands-as}
 
 -- ---- containers that end

@@ -2,27 +2,19 @@
 use Rattle.std.proofs.Common.{◌≡◌, ◌≢◌, ◌↔◌, ℕ, suc, ◌+◌, ◌-◌, ◌^◌, ◌<◌, true, false, Bool, List, [], ◌∷◌, ◌++◌, length, map, refl, sym, subst, arith, append_assoc, length-append}
 use Rattle.cbor_head.specs.Prelude.{plain, Complaint, OfKinds, head, Bounds, Spelling, array, a_map, tag, spell_all, spell_entries, spellings_count, value_of, Value}
 use Rattle.cbor_head.specs.Value as value
-use Rattle.cbor_head.specs.declared.major.Major.{Major}
 use Rattle.cbor_head.specs.declared.major.Major.TheVariants as majors
-use Rattle.cbor_head.specs.declared.order.KeyOrder.{KeyOrder}
-use Rattle.cbor_head.specs.declared.order.KeyOrder.TheVariants.{Bytewise}
-use Rattle.cbor_head.specs.declared.width.Width.{Width}
+use Rattle.cbor_head.specs.declared.{major.Major.Major, order.KeyOrder.KeyOrder, order.KeyOrder.TheVariants.Bytewise, width.Width.Width}
 use Rattle.cbor_head.specs.declared.width.Width.TheVariants.{Indefinite}
 use Rattle.cbor_grammar.proofs.KeyKinds.{of_kind_in, of_kind_entries}
-use Rattle.cbor_automaton.specs.Marks.{mark_of, count_of}
-use Rattle.cbor_automaton.specs.Trace.{a_break}
-use Rattle.cbor_automaton.specs.declared.event.EventKind.{EventKind}
 use Rattle.cbor_automaton.specs.declared.event.EventKind.TheVariants as kinds
-use Rattle.cbor_builder.specs.Built.{IsKeyDue}
+use Rattle.cbor_automaton.specs.{Marks.mark_of, Marks.count_of, Trace.a_break, declared.event.EventKind.EventKind}
 use Rattle.cbor_events.specs.NextKey.{IsBasicKind}
-use Rattle.cbor_judging.specs.Given.{opens}
+use Rattle.cbor_builder.specs.Built.{IsKeyDue}
 use Rattle.cbor_judging.specs.Kinds.{KeepsToKinds, IsKeyDueIn, IsOfOneHead, HasBasicFront}
 use Rattle.cbor_judging.specs.Levels.{Level, a_key, some_member, some_key, frame, AreLevels, bytes_before}
 use Rattle.cbor_judging.specs.Place.{Container, Place, at_item, Ends, IsTaking}
-use Rattle.cbor_judging.specs.Reading.{string_value}
-use Rattle.cbor_judging.proofs.Given.{full-array, full-map}
 use Rattle.cbor_judging.proofs.KindBytes.{head_bytes, basic_mark, string_is_one}
-use Rattle.cbor_judging.proofs.LevelFrames.{around_levels}
+use Rattle.cbor_judging.{specs.Given.opens, specs.Reading.string_value, proofs.Given.full-array, proofs.Given.full-map, proofs.LevelFrames.around_levels}
 use Rattle.cbor_judging.proofs.KindFrames.{keeps_closed}
 use Rattle.cbor_plain.specs.inner.PlainParts.{leaf_value, Begins, BeginsString}
 

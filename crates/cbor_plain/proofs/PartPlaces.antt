@@ -2,33 +2,24 @@
 use Rattle.std.proofs.Common.{◌≡◌, ◌≢◌, ℕ, zero, suc, ◌+◌, ◌-◌, ◌^◌, ◌<◌, Bool, true, false, Some, None, List, [], ◌∷◌, ◌++◌, length, map, slice_get, refl, sym, ap, ◌∙◌, subst, arith, append_assoc, append-nil, length-append}
 use Rattle.std.proofs.lemmas.List.{length-map}
 use Rattle.cbor_head.specs.Prelude.{Holds, IsSimple, head, shortest_head, canonical, Bounds, Spelling, array, a_map, no_spellings, no_entries, spell_all, spell_entries, spellings_count, plain}
-use Rattle.cbor_head.specs.declared.major.Major.{Major}
 use Rattle.cbor_head.specs.declared.major.Major.TheVariants as majors
-use Rattle.cbor_head.specs.declared.order.KeyOrder.{KeyOrder}
-use Rattle.cbor_head.specs.declared.width.Width.{Width}
-use Rattle.cbor_head.specs.declared.width.Width.TheVariants.{Indefinite}
-use Rattle.cbor_standing.specs.NextEvent.{ItemEventsView}
-use Rattle.cbor_automaton.specs.Marks.{mark_of}
-use Rattle.cbor_automaton.specs.Trace.{a_head}
-use Rattle.cbor_automaton.specs.declared.event.EventKind.{EventKind}
+use Rattle.cbor_head.specs.declared.{major.Major.Major, order.KeyOrder.KeyOrder, width.Width.Width, width.Width.TheVariants.Indefinite}
 use Rattle.cbor_automaton.specs.declared.event.EventKind.TheVariants as kinds
-use Rattle.cbor_judging.specs.Place.{Container, Place, at_item, expect, Ends, IsTaking}
-use Rattle.cbor_builder.specs.Built.{IsContainer, IsLeaf}
+use Rattle.cbor_automaton.specs.{Marks.mark_of, Trace.a_head, declared.event.EventKind.EventKind}
+use Rattle.cbor_standing.specs.NextEvent.{ItemEventsView}
 use Rattle.cbor_canonical.specs.Parts.{Open, an_array, a_map as an_open_map, opened}
+use Rattle.cbor_builder.specs.Built.{IsContainer, IsLeaf}
 use Rattle.cbor_item.specs.OpenValues as trees
 use Rattle.cbor_item.specs.OpenValues.{OpenValue}
+use Rattle.cbor_judging.specs.Place.{Container, Place, at_item, expect, Ends, IsTaking}
 use Rattle.cbor_judging.specs.Levels.{Level, a_member, a_key, some_member, some_key, tagged, frame, AreLevels, bytes_before, Standing, item_due, item_full}
-use Rattle.cbor_judging.specs.Given.{opens, StandsAt}
 use Rattle.cbor_judging.specs.Reading.{string_major, IsBegun, string_value}
+use Rattle.cbor_judging.proofs.Items.{definite, is-definite, proper-definite, never-open}
+use Rattle.cbor_judging.{specs.Given.opens, specs.Given.StandsAt, proofs.Members.closes, proofs.Heads.open_or, proofs.Given.full-array, proofs.Given.full-map}
+use Rattle.cbor_judging.proofs.{Loops.array_bytes-whole, Loops.map_bytes-whole, Steps.fault_of}
 use Rattle.cbor_plain.specs.inner.PlainItems.{HaveBegun, HaveBegunIn, HasItsPlace}
 use Rattle.cbor_plain.specs.inner.PlainParts.{IsCome, leaf_value, IsLeafMajor, Begins}
-use Rattle.cbor_judging.proofs.Members.{closes}
-use Rattle.cbor_judging.proofs.Heads.{open_or}
-use Rattle.cbor_judging.proofs.Items.{definite, is-definite, proper-definite, never-open}
-use Rattle.cbor_judging.proofs.Given.{full-array, full-map}
-use Rattle.cbor_judging.proofs.Loops.{array_bytes-whole, map_bytes-whole}
 use Rattle.cbor_plain.specs.TreeValues.{level_values, values_at, IsFullRight}
-use Rattle.cbor_judging.proofs.Steps.{fault_of}
 
 -- ---- strings
 

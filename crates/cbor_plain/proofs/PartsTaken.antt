@@ -1,57 +1,39 @@
 -- A part that was read where an item is due: what it makes of the path, and why it is refused.
 use Rattle.std.proofs.Common.{◌≡◌, ◌≢◌, ℕ, suc, ◌+◌, ◌-◌, ◌^◌, ◌<◌, ◌≤◌, Option, List, [], ◌∷◌, ◌++◌, length, map, take, slice_get, Some, refl, sym, ap, ap₂, ◌∙◌, subst, inl, arith, append-nil, length-append}
-use Rattle.std.specs.Io.KnownBytes.{Consumes}
-use Rattle.std.proofs.lemmas.List.{length-map}
+use Rattle.std.{specs.Io.KnownBytes.Consumes, proofs.lemmas.List.length-map}
 use Rattle.cbor_head.specs.Prelude.{head, canonical, Bounds, Value, spell, spell_all, spellings_count, value_of, plain}
 use Rattle.cbor_head.specs.declared.major.Major.TheVariants as majors
-use Rattle.cbor_head.specs.declared.order.KeyOrder.{KeyOrder}
-use Rattle.cbor_head.specs.declared.reason.Reason.TheVariants.{Memory}
-use Rattle.cbor_head.specs.declared.reason.Refusal.{Refusal}
-use Rattle.cbor_head.specs.declared.width.Width.{Width}
+use Rattle.cbor_head.specs.declared.{order.KeyOrder.KeyOrder, reason.Reason.TheVariants.Memory, reason.Refusal.Refusal, width.Width.Width}
 use Rattle.cbor_head.specs.declared.width.Width.TheVariants.{Indefinite}
-use Rattle.cbor_grammar.proofs.Counts.{holds_fits}
-use Rattle.cbor_grammar.proofs.ReadLaws.{length_spell}
-use Rattle.cbor_standing.specs.NextEvent.{ItemEventsView}
-use Rattle.cbor_automaton.specs.Marks.{mark_of}
-use Rattle.cbor_automaton.specs.declared.event.Event.{Event}
-use Rattle.cbor_automaton.specs.declared.event.EventKind.{EventKind}
+use Rattle.cbor_grammar.proofs.{Counts.holds_fits, ReadLaws.length_spell}
 use Rattle.cbor_automaton.specs.declared.event.EventKind.TheVariants as kinds
-use Rattle.cbor_judging.specs.Place.{Container, Place, at_item, close, IsTaking}
-use Rattle.cbor_builder.specs.Built.{Built, built, TakesPart}
+use Rattle.cbor_automaton.specs.{Marks.mark_of, declared.event.Event.Event, declared.event.EventKind.EventKind}
+use Rattle.cbor_standing.specs.NextEvent.{ItemEventsView}
 use Rattle.cbor_canonical.specs.Parts.{Open, give, opened}
+use Rattle.cbor_builder.specs.Built.{Built, built, TakesPart}
 use Rattle.cbor_item.specs.OpenValues as trees
 use Rattle.cbor_item.specs.OpenValues.{OpenValue}
-use Rattle.cbor_plain.specs.declared.plain_items.PlainItems.{PlainItems}
-use Rattle.cbor_plain.specs.declared.plain_part.Part.{Part}
-use Rattle.cbor_plain.specs.declared.plain_part.Part.TheVariants.{Leaf, String, Begin, Break}
+use Rattle.cbor_judging.specs.Place.{Container, Place, at_item, close, IsTaking}
 use Rattle.cbor_judging.specs.Kinds.{AsksForKinds, KeepsToKinds, IsKeyDueIn, IsOfOneHead, HasBasicFront}
 use Rattle.cbor_judging.specs.Levels.{IsTaken, Level, a_member, some_member, frame, AreLevels, bytes_before, item_due, settle}
-use Rattle.cbor_judging.specs.Given.{opens, StandsAt}
 use Rattle.cbor_judging.specs.Reading.{IsAt, IsUndecided, IsNextHead, ReadsItem, StopsItem, string_value}
-use Rattle.cbor_plain.specs.inner.ItemFront.{IsDueAt, IsNextDue}
-use Rattle.cbor_plain.specs.inner.PlainItems.{AreApartSoFar, HaveBegun, CanTake, IsGiven, IsEndingAt, sets, AreKeysBegun}
-use Rattle.cbor_plain.specs.inner.PlainParts.{IsCome, leaf_value, BeginsString, IsStill, ReadsPart}
-use Rattle.cbor_plain.specs.declared.key_set.KeySet.{KeySet}
-use Rattle.cbor_plain.specs.inner.HeldKeys.{AreHeld, AreHeldSoFar}
-use Rattle.cbor_plain.proofs.HeldKeys.{held-given, held-opened, held-broken}
 use Rattle.cbor_judging.proofs.Items.{extends-by, extends-in, taking-some}
 use Rattle.cbor_judging.proofs.KindBytes.{item_basic, Begins, mark_begins, keeps_due}
-use Rattle.cbor_judging.proofs.LevelFrames.{around_levels}
-use Rattle.cbor_judging.proofs.KindFrames.{keeps_on}
-use Rattle.cbor_judging.proofs.Standing.{open-is, short-at}
-use Rattle.cbor_judging.proofs.Levels.{clean-anywhere}
-use Rattle.cbor_judging.proofs.Given.{settled}
-use Rattle.cbor_judging.proofs.Undecided.{item-undecided, mark-undecided}
+use Rattle.cbor_judging.{specs.Given.opens, specs.Given.StandsAt, proofs.LevelFrames.around_levels, proofs.KindFrames.keeps_on}
+use Rattle.cbor_judging.proofs.{Standing.open-is, Standing.short-at, Levels.clean-anywhere, Given.settled, Undecided.item-undecided, Undecided.mark-undecided}
+use Rattle.cbor_judging.{proofs.Steps.at-reached, proofs.RefusedBehind.stopped_behind, specs.RefusedBehind.IsRefusedBehind, proofs.Valid.count_bounded}
+use Rattle.cbor_plain.specs.declared.plain_part.Part.TheVariants.{Leaf, String, Begin, Break}
+use Rattle.cbor_plain.specs.inner.PlainItems.{AreApartSoFar, HaveBegun, CanTake, IsGiven, IsEndingAt, sets, AreKeysBegun}
+use Rattle.cbor_plain.specs.inner.PlainParts.{IsCome, leaf_value, BeginsString, IsStill, ReadsPart}
+use Rattle.cbor_plain.proofs.HeldKeys.{held-given, held-opened, held-broken}
 use Rattle.cbor_plain.specs.TreeValues.{level_values, values_with, IsForTree}
 use Rattle.cbor_plain.proofs.DueRefusals.{few, due-keeps, refused-item, undecided-whole}
 use Rattle.cbor_plain.proofs.TreeValues.{values-given, settles-right, tree-step}
 use Rattle.cbor_plain.proofs.PartKinds.{basic-more, mark-basic, mark-string, string-item, begins-item, no-break, HoldsNone, leaf-holds-none, string-holds-none, no-kinds, keeps-broken}
 use Rattle.cbor_plain.proofs.Paths.{given-apart, opened-apart, so-far, settled-begun, settled-place, begun-more, begun-room, begins-at}
-use Rattle.cbor_judging.proofs.Steps.{at-reached}
-use Rattle.cbor_judging.proofs.RefusedBehind.{stopped_behind}
-use Rattle.cbor_judging.specs.RefusedBehind.{IsRefusedBehind}
-use Rattle.cbor_judging.proofs.Valid.{count_bounded}
 use Rattle.cbor_plain.proofs.PartPlaces.{IsPlaced, begins-container, breaks, leaf-canonical, leaf-major, opens-by, stands-as, string-canonical}
+use Rattle.cbor_plain.specs.{declared.plain_items.PlainItems.PlainItems, declared.plain_part.Part.Part, inner.ItemFront.IsDueAt, inner.ItemFront.IsNextDue}
+use Rattle.cbor_plain.specs.{declared.key_set.KeySet.KeySet, inner.HeldKeys.AreHeld, inner.HeldKeys.AreHeldSoFar}
 
 -- ---- what may come
 

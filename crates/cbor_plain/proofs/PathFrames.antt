@@ -3,20 +3,15 @@ use Rattle.std.proofs.Common.{ℕ, suc, ◌+◌, ◌-◌, ◌^◌, ◌<◌, Opti
 use Rattle.std.proofs.lemmas.List.{map-append}
 use Rattle.cbor_head.specs.Prelude.{Pair, canonical, canonical_entries, Spelling, SpelledEntries, spell, value_of, entries_of, plain, Complaint}
 use Rattle.cbor_head.specs.Complaint as complaint
-use Rattle.cbor_head.specs.declared.order.KeyOrder.{KeyOrder}
-use Rattle.cbor_head.specs.declared.reason.Reason.TheVariants.{RepeatedKey}
+use Rattle.cbor_head.specs.declared.{order.KeyOrder.KeyOrder, reason.Reason.TheVariants.RepeatedKey}
+use Rattle.cbor_canonical.specs.Parts.{Open, a_map, a_key, pair}
+use Rattle.cbor_canonical.specs.Pairs.{HasDistinctBytes}
 use Rattle.cbor_builder.specs.Built.{HasKey, IsRepeatedKey, keys_so_far, AreAllDifferent, AreOpenKeysDifferent}
 use Rattle.cbor_builder.proofs.KeysSoFar.{distinct_different}
-use Rattle.cbor_canonical.specs.Pairs.{HasDistinctBytes}
-use Rattle.cbor_canonical.specs.Parts.{Open, a_map, a_key, pair}
-use Rattle.cbor_judging.specs.Judged.{IsJudged}
 use Rattle.cbor_judging.specs.Levels.{IsTaken, Level, AreLevels, bytes_before}
-use Rattle.cbor_judging.specs.Given.{opens}
-use Rattle.cbor_plain.specs.inner.PlainItems.{HasKeysApart, AreApart}
-use Rattle.cbor_plain.proofs.Paths.{distinct-more}
-use Rattle.cbor_walk.proofs.LevelPaths.{found_of_whole, repeat_of_whole}
-use Rattle.cbor_walk.proofs.Repeats.{repeated_by_bytes}
-use Rattle.cbor_walk.specs.Sink.{IsKeyBehind}
+use Rattle.cbor_judging.specs.{Judged.IsJudged, Given.opens}
+use Rattle.cbor_walk.{proofs.LevelPaths.found_of_whole, proofs.LevelPaths.repeat_of_whole, proofs.Repeats.repeated_by_bytes, specs.Sink.IsKeyBehind}
+use Rattle.cbor_plain.{specs.inner.PlainItems.HasKeysApart, specs.inner.PlainItems.AreApart, proofs.Paths.distinct-more}
 
 -- ---- its keys
 

@@ -1,16 +1,12 @@
 -- From part to part of an item: which keys are known to differ, and where each open item began.
 use Rattle.std.proofs.Common.{◌≡◌, ◌≢◌, ℕ, zero, ◌<◌, ◌≤◌, List, [], ◌∷◌, ◌++◌, length, take, slice_get, get_or, Some, ap, sym, ◌∙◌, inl, inr, arith, get_or-take, length-append, length-take-le}
-use Rattle.std.specs.List.{AllByRecursion}
-use Rattle.std.proofs.Math.ListN.{get_or-append}
-use Rattle.std.proofs.Math.Seq.{get_or-append_seam}
 use Rattle.std.proofs.lemmas.Option.{get_or_from_slice_get, slice_get-get_or, slice_get_within}
-use Rattle.cbor_head.specs.Prelude.{Pair, Spelling}
-use Rattle.cbor_head.specs.declared.major.Major.{Major}
+use Rattle.std.{specs.List.AllByRecursion, proofs.Math.ListN.get_or-append, proofs.Math.Seq.get_or-append_seam}
 use Rattle.cbor_head.specs.declared.major.Major.TheVariants as majors
-use Rattle.cbor_head.specs.declared.order.KeyOrder.{KeyOrder}
-use Rattle.cbor_builder.specs.Built.{HasKey, IsRepeatedKey, IsContainer}
-use Rattle.cbor_canonical.specs.Pairs.{HasDistinctBytes}
+use Rattle.cbor_head.specs.{Prelude.Pair, Prelude.Spelling, declared.major.Major.Major, declared.order.KeyOrder.KeyOrder}
 use Rattle.cbor_canonical.specs.Parts.{Open, a_map, a_key, pair, closed, give, close, opened, HasNoRepeats}
+use Rattle.cbor_canonical.specs.Pairs.{HasDistinctBytes}
+use Rattle.cbor_builder.specs.Built.{HasKey, IsRepeatedKey, IsContainer}
 use Rattle.cbor_judging.specs.Levels as levels
 use Rattle.cbor_judging.specs.Levels.{Level, bytes_before, settle}
 use Rattle.cbor_plain.specs.inner.PlainItems.{HasKeysApart, AreApart, AreApartSoFar, HaveBegun, HaveBegunIn, HasItsPlace}

@@ -1,26 +1,17 @@
 -- From part to part of an item, by the plain rules, to its end.
 use Rattle.std.proofs.Common.{◌≡◌, ℕ, ◌-◌, ◌<◌, true, false, Option, List, [], ◌∷◌, ◌++◌, refl, sym, ap, subst, arith, append_assoc, append-nil, length-append}
-use Rattle.std.specs.Io.KnownBytes.{Consumes}
-use Rattle.std.proofs.KnownBytes.{Consumes-nil, Consumes-trans}
+use Rattle.std.{specs.Io.KnownBytes.Consumes, proofs.KnownBytes.Consumes-nil, proofs.KnownBytes.Consumes-trans}
 use Rattle.cbor_head.specs.Prelude.{Bounds, AreBounds, spell, value_of, plain}
 use Rattle.cbor_head.specs.declared.order.KeyOrder.TheVariants.{Bytewise}
 use Rattle.cbor_standing.specs.NextEvent.{ItemEventsView}
-use Rattle.cbor_judging.specs.Place.{at_item, done as at_end}
-use Rattle.cbor_builder.specs.Built.{Built, built}
 use Rattle.cbor_canonical.specs.Parts.{plain as a_plain}
-use Rattle.cbor_plain.specs.declared.plain_items.PlainItems.{PlainItems}
-use Rattle.cbor_judging.specs.Kinds.{KeepsToKinds}
-use Rattle.cbor_judging.specs.Levels.{item_due}
-use Rattle.cbor_judging.specs.Reading.{IsAt}
-use Rattle.cbor_plain.specs.Front.{IsFrontRead}
-use Rattle.cbor_plain.specs.inner.ItemFront.{IsDueAt, IsWholeAt, TakesNext}
-use Rattle.cbor_plain.specs.inner.PlainItems.{AreApart, sets}
-use Rattle.cbor_plain.proofs.Fronts.{front-read}
-use Rattle.cbor_judging.proofs.KindFrames.{keeps_start}
-use Rattle.cbor_plain.specs.inner.HeldKeys.{AreHeld}
-use Rattle.cbor_plain.specs.TreeValues.{IsTreeAt}
-use Rattle.cbor_judging.proofs.Scalars.{at-as}
+use Rattle.cbor_builder.specs.Built.{Built, built}
+use Rattle.cbor_judging.specs.Place.{at_item, done as at_end}
+use Rattle.cbor_judging.{specs.Kinds.KeepsToKinds, specs.Levels.item_due, specs.Reading.IsAt, proofs.KindFrames.keeps_start, proofs.Scalars.at-as}
 use Rattle.cbor_judging.proofs.Steps.{farther}
+use Rattle.cbor_plain.specs.inner.ItemFront.{IsDueAt, IsWholeAt, TakesNext}
+use Rattle.cbor_plain.specs.{declared.plain_items.PlainItems.PlainItems, Front.IsFrontRead, inner.PlainItems.AreApart, inner.PlainItems.sets}
+use Rattle.cbor_plain.{proofs.Fronts.front-read, specs.inner.HeldKeys.AreHeld, specs.TreeValues.IsTreeAt}
 
 -- ---- from part to part
 

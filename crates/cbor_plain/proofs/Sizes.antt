@@ -1,12 +1,11 @@
 -- A value holds no more than its item has bytes: each item has a head, and each byte of a string stands in it.
 use Rattle.std.proofs.Common.{suc, ◌≤◌, List, [], ◌∷◌, ◌++◌, length, flat_map, arith, length-append}
 use Rattle.cbor_head.specs.Prelude.{head, Chunk, Spelling, Spellings, SpelledEntries, bytes, text, byte_chunks, text_chunks, array, a_map, tag, no_spellings, a_spelling, no_entries, entry, spell, spell_all, spell_entries, spellings_count, entries_count, value_of, values_of, entries_of, chunks_joined, chunk_bytes, chunked, break_of}
-use Rattle.cbor_head.specs.declared.major.Major.{Major}
 use Rattle.cbor_head.specs.declared.major.Major.TheVariants.{Bytes, Text, Array, Map, Tag}
-use Rattle.cbor_head.specs.declared.width.Width.TheVariants.{Indefinite}
+use Rattle.cbor_head.specs.declared.{major.Major.Major, width.Width.TheVariants.Indefinite}
 use Rattle.cbor_grammar.proofs.ReadLaws.{length_head, length_spell}
-use Rattle.cbor_plain.specs.Size.{size, size_all, size_entries}
 use Rattle.cbor_judging.proofs.Valid.{joined_bounded}
+use Rattle.cbor_plain.specs.Size.{size, size_all, size_entries}
 
 chunks_size : (m : Major) (cs : List Chunk) → suc (length (chunks_joined cs)) ≤ length (chunked m cs)
 chunks_size m cs =

@@ -2,11 +2,11 @@
 use Rattle.std.proofs.Common.{◌≡◌, zero, suc, List, [], ◌∷◌, ◌++◌, refl, sym, ap, ◌∙◌, subst}
 use Rattle.cbor_head.specs.Prelude.{Spelling, Spellings, SpelledEntries, array, a_map, tag, no_spellings, a_spelling, no_entries, entry, value_of, values_of, entries_of, Value}
 use Rattle.cbor_head.specs.Value as value
-use Rattle.cbor_item.specs.View as view
+use Rattle.cbor_canonical.specs.Lists as lists
 use Rattle.cbor_item.specs.OpenValues as parts
 use Rattle.cbor_item.specs.OpenValues.{OpenItem, OpenValue, standing, an_array, give, closed, close, TakesValue, MayEnd, CanEnd, CanHold, IsWhole}
-use Rattle.cbor_judging.specs.Frame.{with_all, with_entries}
 use Rattle.cbor_judging.specs.Levels.{Level, a_member, a_value, some_member, some_value, tagged, Standing, item_due, item_full, item_whole, settle}
+use Rattle.cbor_judging.specs.Frame.{with_all, with_entries}
 use Rattle.cbor_plain.specs.TreeValues.{member_values, pair_values, level_value, level_values, full_value, values_at, IsContainer, IsFullRight, IsTreeAt}
 
 -- ---- members and pairs
@@ -19,11 +19,11 @@ pairs-more : (es : SpelledEntries) (k v : Spelling) → pair_values (with_entrie
 pairs-more no_entries k v = refl
 pairs-more (entry x y es) k v = ap (λ (ps : List (Value × Value)). (value_of x, value_of y) ∷ ps) (pairs-more es k v)
 
-members-are : (ss : Spellings) → view.values_of (member_values ss) ≡ values_of ss
+members-are : (ss : Spellings) → lists.values_of (member_values ss) ≡ values_of ss
 members-are no_spellings = refl
 members-are (a_spelling s ss) = ap (value.a_value (value_of s)) (members-are ss)
 
-pairs-are : (es : SpelledEntries) → view.entries_of (pair_values es) ≡ entries_of es
+pairs-are : (es : SpelledEntries) → lists.entries_of (pair_values es) ≡ entries_of es
 pairs-are no_entries = refl
 pairs-are (entry k v es) = ap (value.entry (value_of k) (value_of v)) (pairs-are es)
 

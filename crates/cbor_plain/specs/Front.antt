@@ -1,8 +1,7 @@
 -- What is told of the item at the front of an input.
 use Rattle.std.specs.Prelude.{ℕ, ◌≤◌, List, Option, IfSome}
 use Rattle.cbor_head.specs.Prelude.{Rules, Bounds, Value, IsInRange, IsValid}
-use Rattle.cbor_head.specs.Value.{depth}
-use Rattle.cbor_head.specs.declared.limits.TheConstants.{MAX_DEPTH}
+use Rattle.cbor_head.specs.{Value.depth, declared.limits.TheConstants.MAX_DEPTH}
 use Rattle.cbor_judging.specs.Readers.{IsReadAs, Loses}
 use Rattle.cbor_plain.specs.Size.{size}
 

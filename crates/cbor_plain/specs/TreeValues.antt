@@ -1,14 +1,13 @@
 -- What a tree builder holds where a reader of events stands.
 use Rattle.std.specs.Prelude.{◌≡◌, true, List, [], ◌∷◌, IsUtf8}
 use Rattle.cbor_head.specs.Prelude.{Spelling, Spellings, SpelledEntries, array, a_map, tag, no_spellings, a_spelling, no_entries, entry, value_of, Value}
-use Rattle.cbor_item.specs.OpenValues as parts
 use Rattle.cbor_builder.specs.Built.{IsContainer as IsOpener}
+use Rattle.cbor_item.specs.OpenValues as parts
 use Rattle.cbor_item.specs.OpenValues.{OpenItem, OpenValue, the_whole, an_array, a_tag, standing, give, opened}
 use Rattle.cbor_judging.specs.Levels.{Level, a_member, a_key, a_value, some_member, some_key, some_value, tagged, Standing, item_due, item_full, item_whole}
-use Rattle.cbor_plain.specs.declared.plain_part.Part.{Part}
-use Rattle.cbor_plain.specs.declared.plain_part.Part.TheVariants.{Leaf, String, Begin, Break}
-use Rattle.cbor_plain.specs.inner.PlainParts.{IsLeafMajor, leaf_value}
 use Rattle.cbor_judging.specs.Reading.{string_value}
+use Rattle.cbor_plain.specs.declared.plain_part.Part.TheVariants.{Leaf, String, Begin, Break}
+use Rattle.cbor_plain.specs.{declared.plain_part.Part.Part, inner.PlainParts.IsLeafMajor, inner.PlainParts.leaf_value}
 
 -- the values of members, and of pairs
 abbrev pub member_values : Spellings → List Value

@@ -2,16 +2,13 @@
 use Rattle.std.proofs.Common.{ℕ, ◌≤◌, ◌≢◌, List, length, take, sym, ap, ◌∙◌, arith, Result, Ok, Err, IfOk, IfErr, MatchResult, length-append}
 use Rattle.std.proofs.Math.Seq.{take-append_seam}
 use Rattle.cbor_head.specs.Prelude.{canonical, plain, strict, Bounds, value_of}
-use Rattle.cbor_head.specs.declared.order.KeyOrder.{KeyOrder}
-use Rattle.cbor_head.specs.declared.reason.Reason.TheVariants.{Read, Memory}
-use Rattle.cbor_head.specs.declared.reason.Refusal.{Refusal}
-use Rattle.cbor_canonical.proofs.PlainVerdicts.{accepted_plainly}
-use Rattle.cbor_canonical.specs.StrictReasons.{IsStrictReason}
+use Rattle.cbor_head.specs.declared.{order.KeyOrder.KeyOrder, reason.Reason.TheVariants.Read, reason.Reason.TheVariants.Memory, reason.Refusal.Refusal}
+use Rattle.cbor_canonical.{proofs.PlainVerdicts.accepted_plainly, specs.StrictReasons.IsStrictReason}
 use Rattle.cbor_judging.proofs.CanonicalFronts.{strict_bytes, strict_value, front_read, front_refused}
-use Rattle.cbor_judging.proofs.Reasons.{never-read, never-memory}
 use Rattle.cbor_judging.specs.Readers.{IsRead, IsCanonicalFront, HasNoCanonicalFront}
-use Rattle.cbor_sinks.specs.BuiltFront.{IsBuiltFront}
+use Rattle.cbor_judging.proofs.Reasons.{never-read, never-memory}
 use Rattle.cbor_front.specs.NotCanonical.{IsNotCanonical}
+use Rattle.cbor_sinks.specs.BuiltFront.{IsBuiltFront}
 
 module _ (limits : Bounds) (o : KeyOrder) (input : List ℕ) where
   pub canonical_built : (count : ℕ) → IsRead limits (strict o) input count → IsBuiltFront limits o input (take count input) count

@@ -1,16 +1,10 @@
 -- What a refusal of the canonicaliser can say: where it stands, and its reason.
 use Rattle.std.proofs.Common.{ℕ, List, length, ap, arith, inl, inr}
-use Rattle.cbor_head.specs.Prelude.{Bounds, plain}
-use Rattle.cbor_head.specs.declared.order.KeyOrder.{KeyOrder}
-use Rattle.cbor_head.specs.declared.reason.Refusal.{Refusal}
+use Rattle.cbor_head.specs.{Prelude.Bounds, Prelude.plain, declared.order.KeyOrder.KeyOrder, declared.reason.Refusal.Refusal}
 use Rattle.cbor_judging.specs.Readers.{of_verdict, of_reader, of_memory}
+use Rattle.cbor_judging.{specs.Refusals.StandsWithin, proofs.Accepted.item_within_limit, proofs.Reasons.verdict-reason}
 use Rattle.cbor_reader.specs.Canonicalise.{IsRefusal, of_item, canonical_too_long, IsCanonicaliserReason}
-use Rattle.cbor_reader.specs.WholeItem.{unread, trailing}
-use Rattle.cbor_judging.specs.Refusals.{StandsWithin}
-use Rattle.cbor_judging.proofs.Accepted.{item_within_limit}
-use Rattle.cbor_reader.proofs.Headline.{valid_item}
-use Rattle.cbor_judging.proofs.Reasons.{verdict-reason}
-use Rattle.cbor_reader.proofs.Readings.{within_at, unread_within}
+use Rattle.cbor_reader.{specs.WholeItem.unread, specs.WholeItem.trailing, proofs.Headline.valid_item, proofs.Readings.within_at, proofs.Readings.unread_within}
 
 module _ (limits : Bounds) (input : List ℕ) where
   pub refusal_within : (o : KeyOrder) (f : Refusal) → IsRefusal limits o input f → StandsWithin limits.bytes input f

@@ -2,16 +2,12 @@
 use Rattle.std.proofs.Common.{ℕ, ◌^◌, ◌≡◌, ◌≤◌, ◌↔◌, Bool, List, length, sym, ap, ◌∙◌, subst, IsTrue}
 use Rattle.std.specs.Bool.{Decides}
 use Rattle.cbor_head.specs.Prelude.{canonical, Bounds, Spelling, IsItem, value_of, Same}
-use Rattle.cbor_head.specs.declared.order.KeyOrder.{KeyOrder}
-use Rattle.cbor_head.specs.declared.order.KeyOrder.TheVariants.{Bytewise}
-use Rattle.cbor_canonical.proofs.Keys.{same_exactly}
+use Rattle.cbor_head.specs.declared.order.KeyOrder.{KeyOrder, TheVariants.Bytewise}
 use Rattle.cbor_canonical.proofs.Sameness.{Same-refl, Same-sym, Same-trans}
 use Rattle.cbor_canonical.proofs.Sound.{IsSound as IsSoundValue, sound}
-use Rattle.cbor_reader.specs.Canonicalise.{IsCanonicalOf}
-use Rattle.cbor_reader.specs.Comparing.{MeanTheSame}
-use Rattle.cbor_reader.specs.Headline.{IsValidItem}
-use Rattle.cbor_reader.specs.WholeItem.{IsWholeItem}
+use Rattle.cbor_canonical.proofs.Keys.{same_exactly}
 use Rattle.cbor_reader.proofs.Headline.{again, answers_exactly, equal_exactly, valid_item_value}
+use Rattle.cbor_reader.specs.{Canonicalise.IsCanonicalOf, Comparing.MeanTheSame, Headline.IsValidItem, WholeItem.IsWholeItem}
 use Rattle.cbor_reader.proofs.WholeItems.{becomes, only_item}
 
 -- ---- by canonical bytes

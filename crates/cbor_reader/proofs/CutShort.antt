@@ -2,8 +2,7 @@
 use Rattle.std.proofs.Common.{ℕ, ◌≡◌, ◌<◌, List, [], ◌++◌, length, take, drop, refl, sym, ap, ◌∙◌, arith, inl, inr, append-nil, length-append, length-drop, length-take-le, take-append-drop, take_all}
 use Rattle.std.proofs.lemmas.List.{take-append-le}
 use Rattle.cbor_head.specs.Prelude.{Bounds, Spelling, IsItem, Rules, IsComplaint, refused, refusal, IsFormError, IsVerdict}
-use Rattle.cbor_head.specs.declared.reason.Reason.TheVariants.{Truncated, TooLong}
-use Rattle.cbor_head.specs.declared.reason.Refusal.{Refusal}
+use Rattle.cbor_head.specs.declared.reason.{Reason.TheVariants.Truncated, Reason.TheVariants.TooLong, Refusal.Refusal}
 use Rattle.cbor_judging.specs.Judged.{Never}
 
 -- where the first n bytes of the input are p, and the item goes on behind p

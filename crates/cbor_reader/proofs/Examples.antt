@@ -1,25 +1,16 @@
 -- Examples of answers, and why the laws say no more.
 use Rattle.std.proofs.Common.{ℕ, ◌≡◌, ◌<◌, ◌≤◌, inl, inr, List, [], ◌∷◌, length, refl, sym, ap, arith}
-use Rattle.std.specs.Char.{encode_utf8}
-use Rattle.std.specs.Str.{chars, is_utf8}
-use Rattle.std.specs.Str.Lossy.{utf8_valid_len}
+use Rattle.std.specs.{Char.encode_utf8, Str.chars, Str.is_utf8, Str.Lossy.utf8_valid_len}
 use Rattle.std.proofs.lemmas.Str.{is_utf8-from_IsUtf8, IsUtf8-from_is_utf8}
 use Rattle.cbor_head.specs.Prelude.{plain, Complaint, complaint, Complains, IsComplaint, bounds, Spelling, unsigned, negative, text_chunks, a_map, spell, value_of, depth, IsSpelled, IsValid, canonical, IsVerdict, refused, refusal}
 use Rattle.cbor_head.specs.Value as value
-use Rattle.cbor_head.specs.declared.order.KeyOrder.{KeyOrder}
-use Rattle.cbor_head.specs.declared.order.KeyOrder.TheVariants.{Bytewise, LengthFirst}
 use Rattle.cbor_head.specs.declared.reason.Reason.TheVariants.{Truncated, TooLong, InvalidText}
-use Rattle.cbor_head.specs.declared.reason.Refusal.{Refusal}
-use Rattle.cbor_head.specs.declared.width.Width.TheVariants.{Direct, One}
-use Rattle.cbor_grammar.proofs.Examples.{chunk, pairs}
-use Rattle.cbor_grammar.proofs.KindsUnasked.{any_complaint}
-use Rattle.cbor_grammar.proofs.OneVerdict.{one_verdict}
-use Rattle.cbor_reader.specs.Canonicalise.{IsCanonicalOf}
+use Rattle.cbor_head.specs.declared.order.KeyOrder.{KeyOrder, TheVariants.Bytewise, TheVariants.LengthFirst}
+use Rattle.cbor_head.specs.declared.{reason.Refusal.Refusal, width.Width.TheVariants.Direct, width.Width.TheVariants.One}
+use Rattle.cbor_grammar.proofs.{Examples.chunk, Examples.pairs, KindsUnasked.any_complaint, OneVerdict.one_verdict}
 use Rattle.cbor_judging.specs.Readers.{BeginsWithCanonical}
 use Rattle.cbor_plain.specs.Size.{size}
-use Rattle.cbor_reader.proofs.CutShort.{too_long}
-use Rattle.cbor_reader.proofs.OneAnswer.{one_canonical}
-use Rattle.cbor_reader.proofs.Headline.{answers_exactly}
+use Rattle.cbor_reader.{specs.Canonicalise.IsCanonicalOf, proofs.CutShort.too_long, proofs.OneAnswer.one_canonical, proofs.Headline.answers_exactly}
 
 -- within 256 levels and 2^20 bytes
 item_becomes : (o : KeyOrder) (s : Spelling) (input out : List ℕ) → IsSpelled s → depth s ≤ 256 → spell s ≡ input → length input ≤ 1048576 → ((c : Complaint) → Complains plain 0 s c → ⊥)

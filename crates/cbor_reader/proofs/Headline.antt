@@ -3,23 +3,14 @@ use Rattle.std.proofs.Common.{ℕ, ◌^◌, ◌≡◌, ◌≢◌, ◌≤◌, ◌
 use Rattle.std.proofs.lemmas.Bool.{cases_lt}
 use Rattle.cbor_head.specs.Prelude.{Bounds, Same, IsInRange, IsValid, HasBasicKeys, Spelling, spell, value_of, depth, IsItem, canonical, Rules, plain, accepted, IsVerdict}
 use Rattle.cbor_head.specs.Value as value
-use Rattle.cbor_head.specs.declared.keys.Keys.TheVariants.{IntegersAndTexts}
-use Rattle.cbor_head.specs.declared.order.KeyOrder.{KeyOrder}
-use Rattle.cbor_head.specs.declared.reason.Reason.TheVariants.{Memory}
-use Rattle.cbor_head.specs.declared.reason.Refusal.{Refusal}
-use Rattle.cbor_grammar.proofs.Accepted.{accepts_exactly}
+use Rattle.cbor_head.specs.declared.{keys.Keys.TheVariants.IntegersAndTexts, order.KeyOrder.KeyOrder, reason.Reason.TheVariants.Memory, reason.Refusal.Refusal}
 use Rattle.cbor_grammar.proofs.BasicKeys.{has_basic_keys, none_of_kinds, basic_same}
-use Rattle.cbor_grammar.proofs.ReadLaws.{one_list}
-use Rattle.cbor_canonical.proofs.Depth.{depth-value_of}
-use Rattle.cbor_canonical.proofs.Keys.{same_exactly}
+use Rattle.cbor_grammar.proofs.{Accepted.accepts_exactly, ReadLaws.one_list}
 use Rattle.cbor_canonical.proofs.Sound.{IsSound as IsSoundValue, sound}
-use Rattle.cbor_canonical.proofs.Theorems.{canonical_spelled, canonical_again}
-use Rattle.cbor_reader.specs.Canonicalise.{IsCanonicalOf, IsRefusal}
+use Rattle.cbor_canonical.proofs.{Depth.depth-value_of, Keys.same_exactly, Theorems.canonical_spelled, Theorems.canonical_again, PlainRules.none_plainly}
+use Rattle.cbor_judging.proofs.{Accepted.item_within_limit, Valid.in_range_of, Valid.valid_of}
 use Rattle.cbor_reader.specs.Headline.{IsValidItem, IsAnsweredBy, HasNoAnswer}
-use Rattle.cbor_judging.proofs.Accepted.{item_within_limit}
-use Rattle.cbor_reader.proofs.OneAnswer.{only_memory}
-use Rattle.cbor_canonical.proofs.PlainRules.{none_plainly}
-use Rattle.cbor_judging.proofs.Valid.{in_range_of, valid_of}
+use Rattle.cbor_reader.{specs.Canonicalise.IsCanonicalOf, specs.Canonicalise.IsRefusal, proofs.OneAnswer.only_memory}
 
 -- ---- an item at the front
 

@@ -1,14 +1,10 @@
 -- The headline's clauses on a result, where it is known to be the answer.
 use Rattle.std.proofs.Common.{ℕ, ◌^◌, ◌≢◌, ◌≤◌, List, Result, Ok, Err}
 use Rattle.std.specs.Result.{MatchResult, IfOk, IfErr}
-use Rattle.cbor_head.specs.Prelude.{Bounds}
-use Rattle.cbor_head.specs.declared.order.KeyOrder.{KeyOrder}
-use Rattle.cbor_head.specs.declared.reason.Reason.TheVariants.{Memory}
-use Rattle.cbor_head.specs.declared.reason.Refusal.{Refusal}
+use Rattle.cbor_head.specs.{Prelude.Bounds, declared.order.KeyOrder.KeyOrder, declared.reason.Reason.TheVariants.Memory, declared.reason.Refusal.Refusal}
 use Rattle.cbor_reader.specs.Canonicalise.{IsCanonicalOf, IsRefusal, TellsItsValue, IsCanonicaliserReason}
-use Rattle.cbor_reader.specs.Headline.{IsAnsweredBy, HasNoAnswer}
 use Rattle.cbor_reader.proofs.Headline.{answers_exactly, refused_too_long, equal_exactly, again}
-use Rattle.cbor_reader.proofs.CanonicaliserRefusals.{canonicaliser-reason}
+use Rattle.cbor_reader.{specs.Headline.IsAnsweredBy, specs.Headline.HasNoAnswer, proofs.CanonicaliserRefusals.canonicaliser-reason}
 
 module _ {A : Type 0} (limits : Bounds) (o : KeyOrder) (input : List ℕ) (items : A → List ℕ) where
   abbrev pub IsAnswer : Result A Refusal → Type 0

@@ -3,10 +3,10 @@ use Rattle.std.proofs.Common.{ℕ, ◌≡◌, List, length, sym, ◌∙◌, [], 
 use Rattle.cbor_head.specs.Prelude.{Bounds, Spelling, spell, value_of, canonical, plain, strict, accepted, IsVerdict}
 use Rattle.cbor_head.specs.declared.order.KeyOrder.{KeyOrder}
 use Rattle.cbor_canonical.proofs.PlainVerdicts.{accepted_plainly}
-use Rattle.cbor_reader.specs.Canonicalise.{IsCanonicalOf}
+use Rattle.cbor_judging.proofs.CanonicalFronts.{strict_bytes, strict_value, strict_accepts, one_front}
 use Rattle.cbor_judging.specs.Readers.{BeginsWithCanonical}
 use Rattle.cbor_reader.proofs.Headline.{front_range, front_valid, front_keys, front_depth, valid_item, answers_exactly}
-use Rattle.cbor_judging.proofs.CanonicalFronts.{strict_bytes, strict_value, strict_accepts, one_front}
+use Rattle.cbor_reader.specs.Canonicalise.{IsCanonicalOf}
 
 module _ (limits : Bounds) (o : KeyOrder) (input : List ℕ) where
   -- it begins with its canonical bytes

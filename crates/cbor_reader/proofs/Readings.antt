@@ -1,16 +1,13 @@
 -- What the readers of one input agree on, and what is accepted within wider limits.
 use Rattle.std.proofs.Common.{ℕ, ◌≡◌, ◌≢◌, ◌≤◌, ◌⊎◌, List, length, take, drop, refl, sym, ap, ◌∙◌, arith, subst, inl, inr, length-take}
 use Rattle.cbor_head.specs.Prelude.{Rules, Bounds, Spelling, spell, value_of, Value, accepted, refused, refusal, IsVerdict}
-use Rattle.cbor_head.specs.declared.keys.Keys.TheVariants.{IntegersAndTexts}
-use Rattle.cbor_head.specs.declared.reason.Reason.{Reason}
 use Rattle.cbor_head.specs.declared.reason.Reason.TheVariants.{Read, Memory, Truncated}
-use Rattle.cbor_head.specs.declared.reason.Refusal.{Refusal}
+use Rattle.cbor_head.specs.declared.{keys.Keys.TheVariants.IntegersAndTexts, reason.Reason.Reason, reason.Refusal.Refusal}
 use Rattle.cbor_judging.specs.Readers.{IsRead, IsReadAs, IsUnread, of_verdict, of_reader, of_memory}
-use Rattle.cbor_judging.specs.Refusals.{StandsWithin}
 use Rattle.cbor_judging.proofs.Accepted.{one_item, one_refusal, not_both, verdict_only}
-use Rattle.cbor_judging.proofs.Within.{longest_within, verdict_within}
-use Rattle.cbor_reader.specs.Sequence.{IsAccepted}
+use Rattle.cbor_judging.{specs.Refusals.StandsWithin, proofs.Within.longest_within, proofs.Within.verdict_within}
 use Rattle.cbor_reader.proofs.Sequences.{is_accepted, verdict_of, splits}
+use Rattle.cbor_reader.specs.Sequence.{IsAccepted}
 
 pub within_at : (limits : Bounds) (input : List ℕ) (f : Refusal) (x : Reason) (k : ℕ) → f ≡ refusal x k k → k ≤ limits.bytes → k ≤ length input → StandsWithin limits.bytes input f
 within_at limits input f x k e l m = subst (StandsWithin limits.bytes input) (sym e) (record { by_read = omega arith; in_limit = l; in_input = m })

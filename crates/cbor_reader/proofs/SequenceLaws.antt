@@ -1,20 +1,16 @@
 -- The longest sequence that an input starts with.
 use Rattle.std.proofs.Common.{ℕ, ◌≡◌, ◌≢◌, ◌↔◌, Option, Some, List, [], ◌∷◌, ◌++◌, length, take, refl, sym, ap, ◌∙◌, arith, subst, inl, append_assoc, append-nil, length-append}
-use Rattle.std.specs.Option.{IfSome}
-use Rattle.std.specs.List.{AllByRecursion}
-use Rattle.std.proofs.lemmas.List.{nil_from_length}
+use Rattle.std.{specs.Option.IfSome, specs.List.AllByRecursion, proofs.lemmas.List.nil_from_length}
 use Rattle.cbor_head.specs.Prelude.{Spelling, simple, spell, value_of, IsItem, canonical, Rules, plain, strict, Bounds, accepted, refused, refusal, IsVerdict}
-use Rattle.cbor_head.specs.declared.order.KeyOrder.{KeyOrder}
 use Rattle.cbor_head.specs.declared.reason.Reason.TheVariants.{Read, Memory, Truncated, TooLong}
-use Rattle.cbor_head.specs.declared.reason.Refusal.{Refusal}
-use Rattle.cbor_judging.proofs.Accepted.{one_refusal, verdict_only}
+use Rattle.cbor_head.specs.declared.{order.KeyOrder.KeyOrder, reason.Refusal.Refusal}
 use Rattle.cbor_grammar.proofs.ReadLaws.{length_spell, unique}
-use Rattle.cbor_reader.specs.Headline.{IsValidItem}
 use Rattle.cbor_judging.specs.Readers.{BeginsWithCanonical, IsUnread, of_verdict, of_reader, of_memory}
-use Rattle.cbor_reader.specs.Sequence.{sequence_bytes, IsAccepted, StartsWithItems, IsLongestSequence, EndsBefore, IsAtEnd, IsRefused, Given, given_by, items_of, AreGivenBy, HasGiven}
-use Rattle.cbor_reader.proofs.CutShort.{cut}
-use Rattle.cbor_reader.proofs.Sequences.{simple_is_fine, is_accepted, verdict_of, not_refused, empty_is_truncated, verdict_before, splits}
 use Rattle.cbor_judging.proofs.CanonicalFronts.{strict_bytes, strict_value, strict_accepts}
+use Rattle.cbor_judging.proofs.Accepted.{one_refusal, verdict_only}
+use Rattle.cbor_reader.specs.Sequence.{sequence_bytes, IsAccepted, StartsWithItems, IsLongestSequence, EndsBefore, IsAtEnd, IsRefused, Given, given_by, items_of, AreGivenBy, HasGiven}
+use Rattle.cbor_reader.proofs.Sequences.{simple_is_fine, is_accepted, verdict_of, not_refused, empty_is_truncated, verdict_before, splits}
+use Rattle.cbor_reader.{specs.Headline.IsValidItem, proofs.CutShort.cut}
 
 -- ---- items
 

@@ -1,20 +1,14 @@
 -- What a sequence gives of an input.
 use Rattle.std.proofs.Common.{ℕ, ◌+◌, ◌≡◌, ◌≢◌, ◌<◌, Option, Some, None, Result, Err, List, [], ◌∷◌, ◌++◌, length, take, drop, refl, sym, ap, ◌∙◌, arith, subst, inl, inr, append_assoc, append-nil, take-append-drop, length-append, length-take}
-use Rattle.std.specs.Option.{IfSome}
-use Rattle.std.specs.List.{AllByRecursion}
-use Rattle.std.proofs.Math.Seq.{drop-append_seam}
-use Rattle.std.proofs.lemmas.List.{nil_from_length}
+use Rattle.std.{specs.Option.IfSome, specs.List.AllByRecursion, proofs.Math.Seq.drop-append_seam, proofs.lemmas.List.nil_from_length}
 use Rattle.cbor_head.specs.Prelude.{Value, Spelling, simple, spell, value_of, Rules, Complaint, IsComplaint, Bounds, accepted, refused, refusal, IsFormError, IsVerdict}
 use Rattle.cbor_head.specs.declared.reason.Reason.TheVariants.{Read, Memory, Truncated, TooLong}
 use Rattle.cbor_head.specs.declared.reason.Refusal.{Refusal}
-use Rattle.cbor_grammar.proofs.Accepted.{accepts_exactly}
-use Rattle.cbor_grammar.proofs.KeyKinds.{of_kind}
-use Rattle.cbor_grammar.proofs.OneFirst.{after_head}
-use Rattle.cbor_grammar.proofs.ReadLaws.{length_spell}
+use Rattle.cbor_grammar.proofs.{Accepted.accepts_exactly, KeyKinds.of_kind, OneFirst.after_head, ReadLaws.length_spell}
 use Rattle.cbor_judging.specs.Readers.{IsRead, IsReadAs, IsUnread, Loses}
-use Rattle.cbor_reader.specs.Sequence.{sequence_bytes, IsAccepted, IfRefused, EndsBefore, IsAtEnd, IsRefused, Given, given_by, items_of, HasGiven, IsTaken}
-use Rattle.cbor_judging.specs.Refusals.{IsReaderReason}
 use Rattle.cbor_judging.proofs.Accepted.{item_within_limit, front_accepted, one_refusal, not_both, verdict_only}
+use Rattle.cbor_judging.specs.Refusals.{IsReaderReason}
+use Rattle.cbor_reader.specs.Sequence.{sequence_bytes, IsAccepted, IfRefused, EndsBefore, IsAtEnd, IsRefused, Given, given_by, items_of, HasGiven, IsTaken}
 use Rattle.cbor_reader.proofs.CutShort.{truncated}
 
 -- the refusal that says that the input ended before an item

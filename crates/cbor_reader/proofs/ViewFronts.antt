@@ -1,15 +1,11 @@
 -- The value of an accepted item, and memory that was refused behind it.
 use Rattle.std.proofs.Common.{ℕ, ◌^◌, ◌≡◌, ◌≤◌, List, [], length, refl, sym, ap, ◌∙◌, arith, subst, append-nil}
 use Rattle.cbor_head.specs.Prelude.{plain, Bounds, spell, Value, IsInRange, IsValid, refusal}
-use Rattle.cbor_head.specs.declared.limits.TheConstants.{MAX_DEPTH}
-use Rattle.cbor_head.specs.Value.{depth}
-use Rattle.cbor_head.specs.declared.reason.Reason.TheVariants.{Memory}
-use Rattle.cbor_head.specs.declared.reason.Refusal.{Refusal}
+use Rattle.cbor_head.specs.{declared.limits.TheConstants.MAX_DEPTH, Value.depth, declared.reason.Reason.TheVariants.Memory, declared.reason.Refusal.Refusal}
 use Rattle.cbor_judging.specs.Readers.{IsRead, IsReadAs, IsUnread, of_memory}
 use Rattle.cbor_judging.proofs.Tops.{front-free, without}
-use Rattle.cbor_plain.specs.Size.{size}
+use Rattle.cbor_plain.{specs.Size.size, proofs.Sizes.size_bounded}
 use Rattle.cbor_reader.proofs.Headline.{front_range, front_valid, front_depth}
-use Rattle.cbor_plain.proofs.Sizes.{size_bounded}
 
 pub view_depth : (limits : Bounds) (input : List ℕ) (v : Value) (count : ℕ) → limits.depth ≤ MAX_DEPTH → IsReadAs limits plain input v count → depth v ≤ MAX_DEPTH
 view_depth limits input v count l r = subst (λ (v : Value). depth v ≤ MAX_DEPTH) (sym r.value) (omega (arith, front_depth limits plain input r.read.item r.read.verdict))

@@ -3,20 +3,17 @@ use Rattle.std.proofs.Common.{◌≡◌, ℕ, Bool, true, false, List, [], ◌�
 use Rattle.std.proofs.lemmas.Str.{IsUtf8-append}
 use Rattle.cbor_head.specs.Prelude.{Spelling, Spellings, SpelledEntries, array, a_map, value_of, Value}
 use Rattle.cbor_head.specs.declared.major.Major.{Major}
+use Rattle.cbor_builder.specs.declared.repeat.Repeat.{Repeat}
 use Rattle.cbor_item.specs.OpenValues as parts
 use Rattle.cbor_item.specs.OpenValues.{OpenValue, an_array, give, close, TakesValue, MayEnd}
-use Rattle.cbor_builder.specs.declared.repeat.Repeat.{Repeat}
-use Rattle.cbor_judging.specs.Levels.{Level, IsOpened, some_member, some_key, item_due}
-use Rattle.cbor_judging.specs.Reading.{string_value}
-use Rattle.cbor_reader.specs.declared.view_sink.ViewSink.{ViewSink}
-use Rattle.cbor_plain.specs.TreeValues.{member_values, pair_values, level_value, level_values, full_value, IsContainer}
-use Rattle.cbor_reader.specs.inner.ViewSinks.{view_stands, view_holds}
-use Rattle.cbor_plain.proofs.TreeValues.{full-ends, levels-take, may-end, settles-right, values-given, values-ended}
 use Rattle.cbor_view.specs.Seen.{standing}
-use Rattle.cbor_sinks.specs.KeyBytes.{keys_stand, keys_hold}
-use Rattle.cbor_sinks.specs.declared.key_bytes.KeyBytes.{KeyBytes}
-use Rattle.cbor_judging.proofs.Levels.{of-opened}
+use Rattle.cbor_judging.specs.Levels.{Level, IsOpened, some_member, some_key, item_due}
+use Rattle.cbor_judging.{specs.Reading.string_value, proofs.Levels.of-opened}
 use Rattle.cbor_walk.specs.Sink.{FindsNoRepeat, FindsRepeat, Told, IsEndedAs, StandsFull, IsItemDue, IsChunkDue, IsContainerFull, Gives, Opens, Ends, Repeats, BeginsString, GrowsString, EndsString}
+use Rattle.cbor_sinks.specs.{KeyBytes.keys_stand, KeyBytes.keys_hold, declared.key_bytes.KeyBytes.KeyBytes}
+use Rattle.cbor_plain.specs.TreeValues.{member_values, pair_values, level_value, level_values, full_value, IsContainer}
+use Rattle.cbor_plain.proofs.TreeValues.{full-ends, levels-take, may-end, settles-right, values-given, values-ended}
+use Rattle.cbor_reader.specs.{declared.view_sink.ViewSink.ViewSink, inner.ViewSinks.view_stands, inner.ViewSinks.view_holds}
 
 -- ---- an item
 

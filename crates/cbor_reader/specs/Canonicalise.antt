@@ -1,10 +1,8 @@
 -- What an input becomes: the canonical bytes of its item, or the refusal (RFC 8949, sections 4.2 and 5.3).
 use Rattle.std.specs.Prelude.{ℕ, ◌^◌, ◌≡◌, ◌<◌, ◌≤◌, ◌↔◌, ◌⊎◌, List, length}
 use Rattle.cbor_head.specs.Prelude.{Bounds, Same, Spelling, IsItem, spell, value_of, canonical, plain, IsVerdict, accepted, refusal}
-use Rattle.cbor_head.specs.declared.order.KeyOrder.{KeyOrder}
 use Rattle.cbor_head.specs.declared.reason.Reason.TheVariants.{Trailing, CanonicalTooLong, Memory}
-use Rattle.cbor_head.specs.declared.reason.Refusal.{Refusal}
-use Rattle.cbor_head.specs.declared.reason.Reason.{Reason}
+use Rattle.cbor_head.specs.declared.{order.KeyOrder.KeyOrder, reason.Refusal.Refusal, reason.Reason.Reason}
 use Rattle.cbor_judging.specs.Refusals.{IsFormReason, IsComplaintReason, IsKindReason}
 use Rattle.cbor_reader.specs.WholeItem.{IsItemRefusal}
 

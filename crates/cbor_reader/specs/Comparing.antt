@@ -2,10 +2,8 @@
 use Rattle.std.specs.Prelude.{ℕ, List}
 use Rattle.cbor_head.specs.Prelude.{plain, Bounds, Spelling, value_of, Same}
 use Rattle.cbor_head.specs.declared.reason.Refusal.{Refusal}
-use Rattle.cbor_reader.specs.declared.comparison.Side.{Side}
-use Rattle.cbor_reader.specs.declared.comparison.Side.TheVariants.{Left, Right}
-use Rattle.cbor_reader.specs.Headline.{IsValidItem}
-use Rattle.cbor_reader.specs.WholeItem.{IsWholeItem, IsItemRefusal}
+use Rattle.cbor_reader.specs.declared.comparison.Side.{Side, TheVariants.Left, TheVariants.Right}
+use Rattle.cbor_reader.specs.{Headline.IsValidItem, WholeItem.IsWholeItem, WholeItem.IsItemRefusal}
 
 -- both are whole valid items within the limits, of the same value
 pub record MeanTheSame (limits : Bounds) (left right : List ℕ) : Type 0 where

@@ -2,8 +2,7 @@
 use Rattle.std.specs.Prelude.{ℕ, ◌≡◌, ◌≢◌, ◌<◌, ◌≤◌, ◌++◌, Bool, true, false, List, [], length, map, flat_map, Option, Some, Result, Ok, IfSome, IfOk, IfErr}
 use Rattle.std.specs.List.{AllByRecursion}
 use Rattle.cbor_head.specs.Prelude.{Value, Spelling, IsItem, spell, Rules, Complaint, IsComplaint, Bounds}
-use Rattle.cbor_head.specs.declared.reason.Reason.TheVariants.{Read, Memory}
-use Rattle.cbor_head.specs.declared.reason.Refusal.{Refusal}
+use Rattle.cbor_head.specs.declared.reason.{Reason.TheVariants.Read, Reason.TheVariants.Memory, Refusal.Refusal}
 use Rattle.cbor_judging.specs.Readers.{IsReadAs, IsUnread, Loses}
 
 -- ---- sequences

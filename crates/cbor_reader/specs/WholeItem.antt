@@ -1,10 +1,9 @@
 -- Which inputs are one whole valid item, and why others are not (RFC 8949, sections 3, 4.2 and 5.3).
 use Rattle.std.specs.Prelude.{ℕ, ◌≡◌, ◌≢◌, ◌<◌, List, length}
 use Rattle.cbor_head.specs.Prelude.{Bounds, Spelling, Rules, refusal}
-use Rattle.cbor_head.specs.declared.reason.Reason.TheVariants.{Trailing, Read}
-use Rattle.cbor_head.specs.declared.reason.Refusal.{Refusal}
-use Rattle.cbor_reader.specs.Headline.{IsValidItem}
+use Rattle.cbor_head.specs.declared.reason.{Reason.TheVariants.Trailing, Reason.TheVariants.Read, Refusal.Refusal}
 use Rattle.cbor_judging.specs.Readers.{IsRead, IsUnread}
+use Rattle.cbor_reader.specs.Headline.{IsValidItem}
 
 -- the whole input is one item: well-formed, valid, and within the limits
 abbrev pub IsWholeItem : Bounds → List ℕ → Type 0

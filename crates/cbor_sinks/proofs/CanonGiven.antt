@@ -2,25 +2,21 @@
 use Rattle.std.proofs.Common.{◌≡◌, ℕ, suc, ◌+◌, ◌-◌, ◌^◌, ◌<◌, Bool, true, false, List, [], ◌∷◌, ◌++◌, length, refl, sym, ap, ap₂, ◌∙◌, subst, arith, inl, inr, ◌↔◌, IsNone, Option, Some, None, MatchOption, IfSome, Result, Ok, Err, IfOk, length-append}
 use Rattle.std.specs.Option.{is_some}
 use Rattle.cbor_head.specs.Prelude.{canonical, canonical_all, canonical_entries, head, shortest_head, Spelling, Spellings, SpelledEntries, array, a_map, spell, spell_all, spellings_count, value_of, values_of, entries_of, Value}
-use Rattle.cbor_head.specs.declared.major.Major.{Major}
 use Rattle.cbor_head.specs.declared.major.Major.TheVariants as majors
-use Rattle.cbor_head.specs.declared.order.KeyOrder.{KeyOrder}
-use Rattle.cbor_head.specs.declared.width.Width.TheVariants.{Indefinite}
+use Rattle.cbor_head.specs.declared.{major.Major.Major, order.KeyOrder.KeyOrder, width.Width.TheVariants.Indefinite}
+use Rattle.cbor_grammar.proofs.Counts.{holds_fits}
+use Rattle.cbor_canonical.specs.Parts as parts
+use Rattle.cbor_canonical.specs.Parts.{IsInContainer}
 use Rattle.cbor_builder.specs.Built.{Built, built, AreOpenKeysDifferent, IsLeaf, IsInString, HasDistinctKeysSoFar, TakesPart}
 use Rattle.cbor_builder.specs.declared.repeat.Repeat.{Repeat}
-use Rattle.cbor_canonical.specs.Parts.{IsInContainer}
-use Rattle.cbor_canonical.specs.Parts as parts
-use Rattle.cbor_grammar.proofs.Counts.{holds_fits}
 use Rattle.cbor_judging.proofs.Given.{full-array, full-map, settled}
-use Rattle.cbor_judging.proofs.Levels.{of-opened, pairs-shorter}
-use Rattle.cbor_judging.proofs.Valid.{count_bounded}
 use Rattle.cbor_judging.specs.Given.{level_open, opens, StandsAt}
 use Rattle.cbor_judging.specs.Levels.{AreTaken, ArePairsTaken, Level, IsOpened, a_member, some_member, some_key, AreLevels, bytes_before, Standing, item_due, item_full, settle}
-use Rattle.cbor_judging.specs.Place.{Place}
+use Rattle.cbor_judging.{proofs.Levels.of-opened, proofs.Levels.pairs-shorter, proofs.Valid.count_bounded, specs.Place.Place}
 use Rattle.cbor_judging.specs.Reading.{string_major, string_value}
+use Rattle.cbor_walk.specs.Sink.{FindsNoRepeat, leaf_value, Told, Completes, Fills, IsEndedAs, StandsFull, IsItemDue, Gives, Opens, IsContainerFull, Ends, IsChunkDue, EndsString}
 use Rattle.cbor_sinks.specs.CanonSink.{canon_stands, sink_stands, sink_holds}
 use Rattle.cbor_sinks.specs.declared.canonical_sink.CanonicalSink.{CanonicalSink}
-use Rattle.cbor_walk.specs.Sink.{FindsNoRepeat, leaf_value, Told, Completes, Fills, IsEndedAs, StandsFull, IsItemDue, Gives, Opens, IsContainerFull, Ends, IsChunkDue, EndsString}
 
 -- ---- the bytes of values
 

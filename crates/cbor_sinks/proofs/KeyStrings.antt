@@ -1,17 +1,15 @@
 -- What finds equal keys, and is given a string in chunks: what it stands for behind each.
 use Rattle.std.proofs.Common.{◌≡◌, ℕ, Bool, true, false, List, [], ◌∷◌, ◌++◌, length, refl, sym, ap, ap₂, ◌∙◌, subst, arith}
-use Rattle.cbor_builder.specs.Built.{Built, built, IsInString, TakesPart}
-use Rattle.cbor_canonical.specs.Parts.{Open, a_string, give, extended, close, opened}
 use Rattle.cbor_head.specs.Prelude.{canonical, shortest_head, Spelling, value_of}
 use Rattle.cbor_head.specs.declared.order.KeyOrder.{KeyOrder}
-use Rattle.cbor_judging.specs.Levels.{Level, settle}
-use Rattle.cbor_judging.specs.Reading.{string_major, string_value}
-use Rattle.cbor_sinks.proofs.CanonGiven.{string-bytes, string-opens}
+use Rattle.cbor_canonical.specs.Parts.{Open, a_string, give, extended, close, opened}
+use Rattle.cbor_builder.specs.Built.{Built, built, IsInString, TakesPart}
+use Rattle.cbor_judging.specs.{Levels.Level, Levels.settle, Reading.string_major, Reading.string_value}
+use Rattle.cbor_walk.specs.Sink.{key_due, Completes, BeginsString, IsChunkDue, GrowsString, EndsString}
 use Rattle.cbor_sinks.proofs.KeysGiven.{stands-by, with-kept, with-left}
 use Rattle.cbor_sinks.proofs.KeysKept.{Some, in_key-is, item-kept, some-kept, value-takes}
 use Rattle.cbor_sinks.specs.KeyBytes.{in_key, kept, kept_all, inside, is_kept, behind_item, with_item, keys_stand, keys_hold}
-use Rattle.cbor_walk.specs.Sink.{key_due, Completes, BeginsString, IsChunkDue, GrowsString, EndsString}
-use Rattle.cbor_sinks.specs.declared.key_bytes.KeyBytes.{KeyBytes}
+use Rattle.cbor_sinks.{proofs.CanonGiven.string-bytes, proofs.CanonGiven.string-opens, specs.declared.key_bytes.KeyBytes.KeyBytes}
 
 -- whether it is kept, in these containers
 here : (k : Bool) (g : KeyBytes) (ls : List Level) → g.inside ≡ inside ls → k ≡ key_due ls → in_key ls ≡ is_kept g.inside k

@@ -1,13 +1,10 @@
 -- What is kept of an item tells of all of its open maps whether two keys are the same.
 use Rattle.std.proofs.Common.{◌≡◌, ℕ, Bool, true, false, List, [], ◌∷◌, ◌++◌, map, refl, ap, ◌∙◌, subst, inl, inr, arith}
 use Rattle.std.proofs.lemmas.List.{map-append}
-use Rattle.cbor_builder.specs.Built.{keys_so_far, AreAllDifferent, AreOpenKeysDifferent}
+use Rattle.cbor_head.specs.{Prelude.Pair, declared.order.KeyOrder.KeyOrder}
 use Rattle.cbor_canonical.specs.Parts.{Open, a_map, a_key, a_string, pair}
-use Rattle.cbor_head.specs.Prelude.{Pair}
-use Rattle.cbor_head.specs.declared.order.KeyOrder.{KeyOrder}
-use Rattle.cbor_judging.specs.Given.{level_open, opens}
-use Rattle.cbor_judging.specs.Levels.{Level}
-use Rattle.cbor_judging.specs.Reading.{string_major}
+use Rattle.cbor_builder.specs.Built.{keys_so_far, AreAllDifferent, AreOpenKeysDifferent}
+use Rattle.cbor_judging.specs.{Given.level_open, Given.opens, Levels.Level, Reading.string_major}
 use Rattle.cbor_walk.specs.Sink.{FindsNoRepeat}
 use Rattle.cbor_sinks.specs.KeyBytes.{in_key, bare_pairs, kept, kept_all, keys_stand, keys_hold}
 use Rattle.cbor_sinks.specs.declared.key_bytes.KeyBytes.{KeyBytes}

@@ -1,18 +1,17 @@
 -- What finds equal keys, and is given the parts of an item: what it stands for behind each.
 use Rattle.std.proofs.Common.{◌≡◌, ℕ, zero, suc, ◌^◌, ◌<◌, Bool, true, false, List, [], ◌∷◌, refl, sym, ap, ◌∙◌, subst, inl, inr, arith, ◌⊎◌, ◌↔◌, IsNone, Option, Result, Ok, Err, IfOk}
 use Rattle.std.proofs.lemmas.Bool.{false≢true}
-use Rattle.cbor_builder.specs.Built.{Built, built, HasDistinctKeysSoFar, TakesPart, around}
-use Rattle.cbor_builder.specs.declared.repeat.Repeat.{Repeat}
-use Rattle.cbor_canonical.specs.Parts.{IsInContainer, Open, plain, give, close}
 use Rattle.cbor_head.specs.Prelude.{canonical, Spelling, array, a_map, value_of, Value}
 use Rattle.cbor_head.specs.declared.order.KeyOrder.{KeyOrder}
+use Rattle.cbor_canonical.specs.Parts.{IsInContainer, Open, plain, give, close}
+use Rattle.cbor_builder.specs.Built.{Built, built, HasDistinctKeysSoFar, TakesPart, around}
+use Rattle.cbor_builder.specs.declared.repeat.Repeat.{Repeat}
 use Rattle.cbor_judging.specs.Given.{level_open, opens, IsFull}
 use Rattle.cbor_judging.specs.Levels.{Level, some_member, some_key, AreLevels, Standing, item_full, settle}
-use Rattle.cbor_sinks.proofs.CanonGiven.{full-endless}
+use Rattle.cbor_walk.specs.Sink.{key_due, is_map, Told, IsEndedAs, Fills, StandsFull, IsItemDue, IsContainerFull, Gives, Ends}
 use Rattle.cbor_sinks.proofs.KeysKept.{in_key-is, item-kept, takes-part, value-takes, inside-few, innermost, may-end, IsBehind, map-ended, other-ended, inner-ended, inner-takes}
 use Rattle.cbor_sinks.specs.KeyBytes.{is_open_map, in_key, kept, kept_all, one_more, inside, is_kept, behind_item, with_item, KeepsAt, keys_stand}
-use Rattle.cbor_walk.specs.Sink.{key_due, is_map, Told, IsEndedAs, Fills, StandsFull, IsItemDue, IsContainerFull, Gives, Ends}
-use Rattle.cbor_sinks.specs.declared.key_bytes.KeyBytes.{KeyBytes}
+use Rattle.cbor_sinks.{proofs.CanonGiven.full-endless, specs.declared.key_bytes.KeyBytes.KeyBytes}
 
 -- ---- an item
 

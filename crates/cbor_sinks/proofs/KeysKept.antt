@@ -1,22 +1,20 @@
 -- What is kept of an item for its keys alone, as its parts come.
 use Rattle.std.proofs.Common.{◌≡◌, ℕ, zero, suc, ◌-◌, ◌^◌, ◌<◌, ◌≤◌, Bool, true, false, List, [], ◌∷◌, ◌++◌, length, refl, sym, ap, ◌∙◌, subst, inl, inr, arith, ◌||◌, ◌≢◌, ◌⊎◌, if◌then◌else◌, length-append}
-use Rattle.std.specs.List.{AllByRecursion}
-use Rattle.std.proofs.lemmas.Bool.{false≢true}
-use Rattle.cbor_builder.specs.Built.{HasDistinctKeysSoFar, CanHold, TakesPart, around}
-use Rattle.cbor_canonical.specs.Parts.{IsInContainer, Open, plain, a_map, a_key, pair, with_member, closed, give, close, HasNoRepeats}
-use Rattle.cbor_canonical.specs.Pairs.{HasDistinctBytes}
-use Rattle.cbor_grammar.proofs.ReadLaws.{length_head}
+use Rattle.std.{specs.List.AllByRecursion, proofs.lemmas.Bool.false≢true}
 use Rattle.cbor_head.specs.Prelude.{Pair, canonical, Spelling, no_spellings, a_spelling, no_entries, entry, spell, value_of}
 use Rattle.cbor_head.specs.declared.major.Major.TheVariants as majors
 use Rattle.cbor_head.specs.declared.order.KeyOrder.{KeyOrder}
-use Rattle.cbor_judging.proofs.Given.{settled}
-use Rattle.cbor_judging.specs.Frame.{with_all, with_entries}
+use Rattle.cbor_grammar.proofs.ReadLaws.{length_head}
+use Rattle.cbor_canonical.specs.Parts.{IsInContainer, Open, plain, a_map, a_key, pair, with_member, closed, give, close, HasNoRepeats}
+use Rattle.cbor_canonical.specs.Pairs.{HasDistinctBytes}
+use Rattle.cbor_builder.specs.Built.{HasDistinctKeysSoFar, CanHold, TakesPart, around}
 use Rattle.cbor_judging.specs.Given.{level_open, opens, IsFull}
 use Rattle.cbor_judging.specs.Levels as levels
 use Rattle.cbor_judging.specs.Levels.{IsTaken, Level, a_member, a_value, some_member, some_key, some_value, tagged, AreLevels, level_bytes, bytes_before, item_due, item_full, settle}
-use Rattle.cbor_sinks.proofs.CanonGiven.{opens-take}
-use Rattle.cbor_sinks.specs.KeyBytes.{is_open_map, in_key, bare_pairs, bare, kept, kept_all, one_more, inside, is_kept, behind_item, with_item, KeepsAt}
+use Rattle.cbor_judging.{proofs.Given.settled, specs.Frame.with_all, specs.Frame.with_entries}
 use Rattle.cbor_walk.specs.Sink.{takes_key, key_due, is_map}
+use Rattle.cbor_sinks.specs.KeyBytes.{is_open_map, in_key, bare_pairs, bare, kept, kept_all, one_more, inside, is_kept, behind_item, with_item, KeepsAt}
+use Rattle.cbor_sinks.proofs.CanonGiven.{opens-take}
 
 -- ---- the keys of a map
 

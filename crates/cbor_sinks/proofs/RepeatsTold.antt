@@ -1,23 +1,18 @@
 -- The repeated key that a builder tells of what it holds of an item is the one of all of its open maps.
 use Rattle.std.proofs.Common.{◌≡◌, ℕ, suc, Bool, true, false, List, [], ◌∷◌, ◌++◌, refl, ap, ◌∙◌, subst, inl, inr, arith}
-use Rattle.cbor_builder.specs.Built.{keys_so_far, open_maps, AreOpenKeysDifferent, IsFirstRepeat, IsRepeatTold}
-use Rattle.cbor_builder.specs.declared.repeat.Repeat.{Repeat}
+use Rattle.cbor_head.specs.Spelling as spelling
+use Rattle.cbor_head.specs.{Prelude.Spelling, declared.order.KeyOrder.KeyOrder}
 use Rattle.cbor_canonical.specs.Parts.{Open, a_map, a_key, a_string}
 use Rattle.cbor_canonical.specs.Parts as parts
-use Rattle.cbor_head.specs.Spelling as spelling
-use Rattle.cbor_head.specs.Prelude.{Spelling}
-use Rattle.cbor_head.specs.declared.order.KeyOrder.{KeyOrder}
+use Rattle.cbor_builder.specs.Built.{keys_so_far, open_maps, AreOpenKeysDifferent, IsFirstRepeat, IsRepeatTold}
+use Rattle.cbor_builder.specs.declared.repeat.Repeat.{Repeat}
 use Rattle.cbor_judging.specs.Given.{level_open, opens, full_open, IsHeldAs, IsNoMap}
-use Rattle.cbor_judging.specs.Levels.{Level}
-use Rattle.cbor_judging.specs.Reading.{string_major}
-use Rattle.cbor_sinks.proofs.CanonGiven.{stands-full}
-use Rattle.cbor_sinks.proofs.KeysGiven.{full-at}
-use Rattle.cbor_sinks.proofs.KeysApart.{bare-keys, waiting-keys, all-apart}
-use Rattle.cbor_sinks.specs.CanonSink.{sink_stands, sink_holds}
-use Rattle.cbor_sinks.specs.KeyBytes.{in_key, bare_pairs, kept, kept_all, keys_stand, keys_hold}
-use Rattle.cbor_sinks.specs.declared.canonical_sink.CanonicalSink.{CanonicalSink}
-use Rattle.cbor_sinks.specs.declared.key_bytes.KeyBytes.{KeyBytes}
+use Rattle.cbor_judging.specs.{Levels.Level, Reading.string_major}
 use Rattle.cbor_walk.specs.Sink.{FindsRepeat, Repeats}
+use Rattle.cbor_sinks.proofs.KeysApart.{bare-keys, waiting-keys, all-apart}
+use Rattle.cbor_sinks.specs.KeyBytes.{in_key, bare_pairs, kept, kept_all, keys_stand, keys_hold}
+use Rattle.cbor_sinks.{proofs.CanonGiven.stands-full, proofs.KeysGiven.full-at, specs.CanonSink.sink_stands, specs.CanonSink.sink_holds}
+use Rattle.cbor_sinks.specs.declared.{canonical_sink.CanonicalSink.CanonicalSink, key_bytes.KeyBytes.KeyBytes}
 
 -- ---- by the keys of the innermost alone
 

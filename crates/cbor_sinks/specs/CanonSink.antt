@@ -1,11 +1,10 @@
 -- What a builder of canonical bytes holds of an item whose parts it took.
 use Rattle.std.specs.Prelude.{ℕ, ◌≡◌, Bool, List, [], ◌∷◌}
 use Rattle.cbor_head.specs.Prelude.{canonical, value_of}
-use Rattle.cbor_builder.specs.Built.{Built}
 use Rattle.cbor_canonical.specs.Parts as parts
-use Rattle.cbor_judging.specs.Given.{opens, IsFull}
+use Rattle.cbor_builder.specs.Built.{Built}
 use Rattle.cbor_judging.specs.Levels.{Level, Standing, item_due, item_full, item_whole}
-use Rattle.cbor_judging.specs.Reading.{string_major}
+use Rattle.cbor_judging.specs.{Given.opens, Given.IsFull, Reading.string_major}
 use Rattle.cbor_sinks.specs.declared.canonical_sink.CanonicalSink.{CanonicalSink}
 
 -- in its order of keys, the canonical bytes of what is complete

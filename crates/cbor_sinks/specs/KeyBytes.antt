@@ -1,11 +1,9 @@
 -- The canonical bytes of keys alone: what is kept of an item, and what is given of it.
 use Rattle.std.specs.Prelude.{ℕ, zero, suc, ◌≡◌, ◌||◌, ◌++◌, if◌then◌else◌, Bool, true, false, List, [], ◌∷◌}
+use Rattle.cbor_head.specs.{Prelude.Pair, declared.order.KeyOrder.KeyOrder}
 use Rattle.cbor_canonical.specs.Parts.{Open, plain, a_map, a_key, a_string, pair, give}
-use Rattle.cbor_head.specs.Prelude.{Pair}
-use Rattle.cbor_head.specs.declared.order.KeyOrder.{KeyOrder}
-use Rattle.cbor_judging.specs.Given.{level_open, IsFull}
 use Rattle.cbor_judging.specs.Levels.{Level, Standing, item_due, item_full, item_whole}
-use Rattle.cbor_judging.specs.Reading.{string_major}
+use Rattle.cbor_judging.specs.{Given.level_open, Given.IsFull, Reading.string_major}
 use Rattle.cbor_walk.specs.Sink.{takes_key, is_map}
 use Rattle.cbor_sinks.specs.declared.key_bytes.KeyBytes.{KeyBytes}
 

@@ -1,15 +1,10 @@
 -- Which buffer the bytes of an event were read into.
 use Rattle.std.proofs.Common.{◌≡◌, ℕ, Bool, true, false, true≢false, inl, inr, List, take, refl, sym, ap, subst, ◌∙◌, Option, Some, None, Result, Ok, Err}
 use Rattle.cbor_head.specs.declared.reason.Refusal.{Refusal}
-use Rattle.cbor_automaton.specs.Trace.{Mark}
-use Rattle.cbor_standing.specs.inner.Machine.{IsShown}
-use Rattle.cbor_standing.specs.MachineView.{MachineView}
-use Rattle.cbor_standing.specs.NextEvent.{ItemEventsView, Call, machine_call, call, IsDue, IsNextEvent, IsCut, IsTooLong, HasFormError, IsNext}
-use Rattle.cbor_standing.specs.Calls.{piece_after, piece_size}
-use Rattle.cbor_automaton.specs.Pieces.{piece_by, kind_size}
-use Rattle.cbor_automaton.specs.declared.event.Event.{Event}
-use Rattle.cbor_automaton.specs.declared.event.EventKind.{EventKind}
 use Rattle.cbor_automaton.specs.declared.event.EventKind.TheVariants as kinds
+use Rattle.cbor_automaton.specs.{Trace.Mark, Pieces.piece_by, Pieces.kind_size, declared.event.Event.Event, declared.event.EventKind.EventKind}
+use Rattle.cbor_standing.specs.NextEvent.{ItemEventsView, Call, machine_call, call, IsDue, IsNextEvent, IsCut, IsTooLong, HasFormError, IsNext}
+use Rattle.cbor_standing.specs.{inner.Machine.IsShown, MachineView.MachineView, Calls.piece_after, Calls.piece_size}
 use Rattle.cbor_standing.proofs.Positions.{no-payload-done}
 
 head-kept : (b : Bool) (kind : EventKind) (kept buffer : List ℕ) → b ≡ false → IsDue b kind → piece_by kind kept buffer ≡ kept

@@ -2,11 +2,9 @@
 use Rattle.std.proofs.Common.{◌≡◌, ℕ, ◌+◌, ◌-◌, ◌≤◌, List, [], ◌++◌, length, take, drop, ap, sym, ◌∙◌, arith, append-nil, append_assoc, subst, length-drop, take-append-drop, take_all}
 use Rattle.std.proofs.Math.Seq.{take-add, take-length}
 use Rattle.cbor_automaton.specs.Trace.{Mark}
-use Rattle.cbor_standing.specs.MachineView.{MachineView}
 use Rattle.cbor_standing.specs.Machine.{StandsFor, IsAnswer, IsMore}
-use Rattle.cbor_standing.specs.Steps.{Goes}
-use Rattle.cbor_standing.specs.declared.step.Out.{Out}
 use Rattle.cbor_standing.specs.declared.step.Out.TheVariants as outs
+use Rattle.cbor_standing.specs.{MachineView.MachineView, Steps.Goes, declared.step.Out.Out}
 
 pub goes-on : (old mid new : MachineView) (xs ys all : List ℕ) (added : List Mark) → Goes old mid xs → ((t : List ℕ) (ms : List Mark) → StandsFor mid t ms → StandsFor new (t ++ ys) (ms ++ added)) → xs ++ ys ≡ all → Goes old new all
 goes-on old mid new xs ys all added g next e = λ t ms h.

@@ -3,13 +3,10 @@ use Rattle.std.proofs.Common.{ℕ, ◌-◌, List, ◌++◌, length, take, refl, 
 use Rattle.cbor_head.specs.Prelude.{Bounds, bounds, Spelling, form, Complaint, IsComplaint, IsVerdict}
 use Rattle.cbor_head.specs.Verdict as verdict
 use Rattle.cbor_head.specs.declared.reason.Refusal.{Refusal}
-use Rattle.cbor_grammar.proofs.Beginnings.{item_decides}
-use Rattle.cbor_grammar.proofs.KindsUnasked.{form_complaint}
-use Rattle.cbor_grammar.proofs.Reasons.{each_complaint}
-use Rattle.cbor_automaton.specs.Trace.{Mark}
-use Rattle.cbor_standing.specs.MachineView.{MachineView}
+use Rattle.cbor_grammar.proofs.{Beginnings.item_decides, KindsUnasked.form_complaint, Reasons.each_complaint}
+use Rattle.cbor_automaton.{specs.Trace.Mark, proofs.Runs.take-behind}
 use Rattle.cbor_standing.specs.Machine.{StandsFor, IsComplete, IsRefused}
-use Rattle.cbor_automaton.proofs.Runs.{take-behind}
+use Rattle.cbor_standing.specs.MachineView.{MachineView}
 
 pub never : (limits : Bounds) (s : Spelling) (c : Complaint) → ¬ IsComplaint limits form s c
 never limits s c h = each_complaint form (λ x. ⊥) (λ t at q. cc t) (λ t at n. cc t) (λ t at. cc t) (λ e at n. cc e) (λ o e at n. cc e) 0 s c ((form_complaint limits s c).0 h)

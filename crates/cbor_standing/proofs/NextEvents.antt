@@ -1,38 +1,24 @@
 -- The next event, from one read after another.
 use Rattle.std.proofs.Common.{◌≡◌, ℕ, zero, suc, ◌+◌, ◌-◌, ◌<◌, ◌≤◌, Bool, true, false, true≢false, List, [], ◌∷◌, ◌++◌, length, take, drop, replicate, refl, sym, ap, subst, ◌∙◌, arith, append_assoc, append-nil, length-append, take_all, Option, Some, None, min}
-use Rattle.std.specs.Io.KnownBytes.{Consumes}
-use Rattle.std.proofs.KnownBytes.{Consumes-trans}
+use Rattle.std.{specs.Io.KnownBytes.Consumes, proofs.KnownBytes.Consumes-trans}
 use lib.Seq.{drop-append_seam}
-use Rattle.cbor_head.specs.Prelude.{AreBytes}
-use Rattle.cbor_head.specs.declared.reason.Refusal.{Refusal}
-use Rattle.cbor_head.specs.declared.major.Major.{Major}
-use Rattle.cbor_head.specs.declared.width.Width.{Width}
+use Rattle.cbor_head.specs.{Prelude.AreBytes, declared.reason.Refusal.Refusal, declared.major.Major.Major, declared.width.Width.Width}
+use Rattle.cbor_grammar.proofs.ByteLists.{bytes_join, bytes_back}
 use Rattle.cbor_automaton.specs.Trace.{Mark, a_byte, total}
 use Rattle.cbor_automaton.specs.Automaton.{Frame, State, start, in_head, in_simple, in_payload, done, run, Outcome, reached}
-use Rattle.cbor_automaton.specs.Marks.{mark_of, marks_of}
-use Rattle.cbor_steps.specs.State.{wanted_at, state_of, is_in_payload, is_done}
-use Rattle.cbor_standing.specs.inner.Machine.{IsShown}
-use Rattle.cbor_automaton.specs.Bytes.{IsEventBytes}
-use Rattle.cbor_standing.specs.MachineView.{MachineView}
-use Rattle.cbor_standing.specs.Machine.{StandsFor, IsComplete, IsWhole, IsGiven, wanted, wanted_within}
-use Rattle.cbor_automaton.specs.Taking.{IsTaking}
-use Rattle.cbor_standing.specs.NextEvent.{machine_call, IsDue, IsKept, StandsBetween, IsNextEvent, IsEnd}
-use Rattle.cbor_standing.specs.Calls.{HasRead}
-use Rattle.cbor_automaton.specs.Pieces.{piece_by}
-use Rattle.cbor_automaton.specs.declared.event.Event.{Event}
-use Rattle.cbor_automaton.specs.declared.event.EventKind.{EventKind}
 use Rattle.cbor_automaton.specs.declared.event.EventKind.TheVariants as kinds
-use Rattle.cbor_steps.specs.declared.frame.Frame as frames
-use Rattle.cbor_steps.specs.declared.position.Position.{Position}
-use Rattle.cbor_steps.specs.declared.position.Position.TheVariants as positions
-use Rattle.cbor_automaton.proofs.Forward.{telling_all}
-use Rattle.cbor_automaton.proofs.Beginnings.{onwards, run-append}
 use Rattle.cbor_automaton.proofs.Events.{pending, IsSane, clear-pending}
-use Rattle.cbor_automaton.proofs.Joining.{bytes-total}
-use Rattle.cbor_automaton.proofs.Runs.{tiles, sane-run}
-use Rattle.cbor_grammar.proofs.ByteLists.{bytes_join, bytes_back}
-use Rattle.cbor_standing.proofs.Positions.{position-done}
 use Rattle.cbor_automaton.proofs.Taking.{IsClear, IsWithin, mark-taken, nothing-taken, first-mark, tells-first}
+use Rattle.cbor_automaton.specs.{Marks.mark_of, Marks.marks_of, Bytes.IsEventBytes, Taking.IsTaking, Pieces.piece_by, declared.event.Event.Event}
+use Rattle.cbor_automaton.{specs.declared.event.EventKind.EventKind, proofs.Forward.telling_all, proofs.Beginnings.onwards, proofs.Beginnings.run-append}
+use Rattle.cbor_automaton.proofs.{Joining.bytes-total, Runs.tiles, Runs.sane-run}
+use Rattle.cbor_steps.specs.State.{wanted_at, state_of, is_in_payload, is_done}
+use Rattle.cbor_steps.specs.declared.frame.Frame as frames
+use Rattle.cbor_steps.specs.declared.position.Position.TheVariants as positions
+use Rattle.cbor_steps.specs.declared.position.Position.{Position}
+use Rattle.cbor_standing.specs.Machine.{StandsFor, IsComplete, IsWhole, IsGiven, wanted, wanted_within}
+use Rattle.cbor_standing.specs.NextEvent.{machine_call, IsDue, IsKept, StandsBetween, IsNextEvent, IsEnd}
+use Rattle.cbor_standing.{specs.inner.Machine.IsShown, specs.MachineView.MachineView, specs.Calls.HasRead, proofs.Positions.position-done}
 
 -- ---- between events no head is open
 

@@ -1,27 +1,21 @@
 -- Why the next event is refused, after one read after another.
 use Rattle.std.proofs.Common.{◌≡◌, ℕ, ◌+◌, ◌<◌, ◌≤◌, ◌⊎◌, inl, inr, List, [], ◌∷◌, ◌++◌, length, refl, sym, ap, subst, ◌∙◌, arith, append-nil, append_assoc, length-append, take, take_all, Option}
-use Rattle.std.specs.Io.KnownBytes.{Consumes, IsAtEnd}
-use Rattle.std.proofs.KnownBytes.{Consumes-trans}
+use Rattle.std.{specs.Io.KnownBytes.Consumes, specs.Io.KnownBytes.IsAtEnd, proofs.KnownBytes.Consumes-trans}
 use Rattle.cbor_head.specs.Prelude.{Bounds, bounds, AreBytes, IsBeginning, IsItem, form, refusal, refused, IsVerdict}
-use Rattle.cbor_head.specs.declared.reason.Reason.{Reason}
 use Rattle.cbor_head.specs.declared.reason.Reason.TheVariants.{Read, Truncated, TooLong}
-use Rattle.cbor_head.specs.declared.reason.Refusal.{Refusal}
-use Rattle.cbor_automaton.specs.Trace.{Mark}
+use Rattle.cbor_head.specs.declared.reason.{Reason.Reason, Refusal.Refusal}
+use Rattle.cbor_grammar.proofs.ByteLists.{bytes_join, bytes_front, bytes_back}
+use Rattle.cbor_grammar.proofs.Verdicts.{item_one}
 use Rattle.cbor_automaton.specs.Automaton.{State, start, take_byte, run, reached}
+use Rattle.cbor_automaton.proofs.Runs.{run-on, silent-unfinished, sane-run}
+use Rattle.cbor_automaton.{specs.Trace.Mark, proofs.Refusals.IsUnfinished, proofs.Refusals.refuses-rightly}
 use Rattle.cbor_steps.specs.State.{state_of, is_done}
-use Rattle.cbor_standing.specs.inner.Machine.{IsShown}
-use Rattle.cbor_standing.specs.MachineView.{MachineView}
 use Rattle.cbor_standing.specs.Machine.{StandsFor, IsComplete, IsWhole, before, IsRefused}
 use Rattle.cbor_standing.specs.Steps.{Ran, Stopped, IsStep}
-use Rattle.cbor_standing.specs.Calls.{HasRead}
 use Rattle.cbor_standing.specs.NextEvent.{Call, IsCut, IsTooLong, HasFormError}
 use Rattle.cbor_standing.specs.declared.step.Out.TheVariants as outs
-use Rattle.cbor_automaton.proofs.Refusals.{IsUnfinished, refuses-rightly}
-use Rattle.cbor_grammar.proofs.Verdicts.{item_one}
-use Rattle.cbor_automaton.proofs.Runs.{run-on, silent-unfinished, sane-run}
 use Rattle.cbor_standing.proofs.Standing.{meant, not-whole, shown-before, shown-after, unfinished-position}
-use Rattle.cbor_grammar.proofs.ByteLists.{bytes_join, bytes_front, bytes_back}
-use Rattle.cbor_standing.proofs.Form.{never, refusal-verdict}
+use Rattle.cbor_standing.{specs.inner.Machine.IsShown, specs.MachineView.MachineView, specs.Calls.HasRead, proofs.Form.never, proofs.Form.refusal-verdict}
 
 -- a beginning that is the whole input, within the limit, and no item
 cut-verdict : (limits : Bounds) (p : List ℕ) → IsBeginning limits.depth p → ¬ IsWhole limits.depth p → length p < limits.bytes → IsVerdict limits form p (refused (refusal Truncated (length p) (length p)))

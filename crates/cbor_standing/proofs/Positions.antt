@@ -2,11 +2,9 @@
 use Rattle.std.proofs.Common.{◌≡◌, true, false, List, refl, sym, ◌∙◌, true≢false}
 use Rattle.cbor_automaton.specs.Automaton.{Frame, at_item}
 use Rattle.cbor_steps.specs.State.{state_of, is_in_payload, is_done}
-use Rattle.cbor_steps.specs.declared.position.Position.{Position}
-use Rattle.cbor_steps.specs.declared.position.Position.TheVariants.{Payload, Done}
 use Rattle.cbor_steps.specs.declared.frame.Frame as frames
-use Rattle.cbor_standing.specs.inner.Machine.{IsShown}
-use Rattle.cbor_standing.specs.MachineView.{MachineView}
+use Rattle.cbor_steps.specs.declared.position.Position.{Position, TheVariants.Payload, TheVariants.Done}
+use Rattle.cbor_standing.specs.{inner.Machine.IsShown, MachineView.MachineView}
 
 pub position-done : (position : Position) → is_done position ≡ true → position ≡ Done
 position-done Done h = refl

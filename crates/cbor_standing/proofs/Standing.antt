@@ -1,40 +1,29 @@
 -- What a machine stands for, after each kind of step.
 use Rattle.std.proofs.Common.{◌≡◌, ◌⊎◌, ℕ, ◌+◌, ◌-◌, ◌≤◌, List, [], ◌∷◌, ◌++◌, length, take, drop, None, refl, ap, sym, ◌∙◌, arith, append-nil, append_assoc, subst, inl, inr, length-append, length-take, take-take}
 use Rattle.std.proofs.Math.Seq.{take-append_seam}
-use Rattle.cbor_head.specs.Prelude.{AreBytes, refusal}
-use Rattle.cbor_head.specs.declared.reason.Reason.TheVariants.{TooLong}
-use Rattle.cbor_head.specs.declared.reason.Refusal.{Refusal}
-use Rattle.cbor_automaton.specs.Trace.{Mark, total}
+use Rattle.cbor_head.specs.{Prelude.AreBytes, Prelude.refusal, declared.reason.Reason.TheVariants.TooLong, declared.reason.Refusal.Refusal}
+use Rattle.cbor_grammar.proofs.ByteLists.{bytes_join, bytes_front, bytes_back}
 use Rattle.cbor_automaton.specs.Automaton.{State, start, in_payload, done, refuses, take_byte, run, reached}
-use Rattle.cbor_automaton.specs.Marks.{marks_of}
-use Rattle.cbor_steps.specs.State.{state_of, is_done, IsFit, IsSettled}
-use Rattle.cbor_standing.specs.inner.Machine.{IsShown}
-use Rattle.cbor_steps.specs.Walk.{IsWalked}
-use Rattle.cbor_standing.specs.MachineView.{MachineView}
-use Rattle.cbor_standing.specs.Machine.{IsWhole, StandsFor, IsGiven, before, IsRefused, IsAnswer}
-use Rattle.cbor_standing.specs.Steps.{Ran, Stopped, IsStep}
 use Rattle.cbor_automaton.specs.Automaton as automaton
-use Rattle.cbor_standing.specs.declared.step.Out.{Out}
-use Rattle.cbor_standing.specs.declared.step.Out.TheVariants as outs
-use Rattle.cbor_automaton.specs.declared.event.Event.{Event}
-use Rattle.cbor_steps.specs.declared.frame.Frame.{Frame}
-use Rattle.cbor_steps.specs.declared.position.Position.{Position}
-use Rattle.cbor_steps.specs.declared.position.Position.TheVariants.{Head, SimpleNumber, Done}
-use Rattle.cbor_steps.specs.declared.up_to_event.Walked.{Walked}
-use Rattle.cbor_steps.specs.declared.up_to_event.Walked.TheVariants.{Refused}
 use Rattle.cbor_automaton.proofs.Beginnings.{item-done, done-item, reached-begins}
-use Rattle.cbor_automaton.proofs.Refusals.{IsUnfinished, refuses-rightly}
 use Rattle.cbor_automaton.proofs.Events as events
 use Rattle.cbor_automaton.proofs.Events.{IsClear, clear-pending, pending}
-use Rattle.cbor_automaton.proofs.Longest.{longest}
-use Rattle.cbor_automaton.proofs.Tiling.{last-bytes}
+use Rattle.cbor_automaton.specs.{Trace.Mark, Trace.total, Marks.marks_of, declared.event.Event.Event}
+use Rattle.cbor_automaton.proofs.{Refusals.IsUnfinished, Refusals.refuses-rightly, Longest.longest, Tiling.last-bytes}
 use Rattle.cbor_automaton.specs.Bytes.{IsEventBytes}
-use Rattle.cbor_grammar.proofs.ByteLists.{bytes_join, bytes_front, bytes_back}
+use Rattle.cbor_steps.specs.State.{state_of, is_done, IsFit, IsSettled}
+use Rattle.cbor_steps.specs.declared.position.Position.TheVariants.{Head, SimpleNumber, Done}
+use Rattle.cbor_steps.specs.{Walk.IsWalked, declared.frame.Frame.Frame, declared.position.Position.Position, declared.up_to_event.Walked.Walked}
+use Rattle.cbor_steps.specs.declared.up_to_event.Walked.TheVariants.{Refused}
+use Rattle.cbor_standing.specs.Machine.{IsWhole, StandsFor, IsGiven, before, IsRefused, IsAnswer}
+use Rattle.cbor_standing.specs.Steps.{Ran, Stopped, IsStep}
+use Rattle.cbor_standing.specs.declared.step.Out.TheVariants as outs
+use Rattle.cbor_standing.specs.{inner.Machine.IsShown, MachineView.MachineView, declared.step.Out.Out}
 pub use Rattle.cbor_grammar.proofs.ByteLists.{bytes_take}
+use Rattle.cbor_automaton.proofs.Runs.{take-behind, run-on, silent-unfinished, sane-run, tiles}
+use Rattle.cbor_automaton.proofs.Opens.{stack, opens}
 use Rattle.cbor_steps.proofs.Frames.{length_frames}
 use Rattle.cbor_standing.proofs.Positions.{position-done}
-use Rattle.cbor_automaton.proofs.Opens.{stack, opens}
-use Rattle.cbor_automaton.proofs.Runs.{take-behind, run-on, silent-unfinished, sane-run, tiles}
 
 -- ---- the position of a machine, and its state
 

@@ -1,19 +1,15 @@
 -- The events of a machine, joined, are those of the item that end within what it took.
 use Rattle.std.proofs.Common.{◌≡◌, ℕ, ◌+◌, List, [], ◌∷◌, ◌++◌, ◌≤◌, cond, length, drop, refl, sym, ap, ◌∙◌, subst, arith, append-nil}
-use Rattle.std.proofs.lemmas.Grind.{flat_map-append}
-use Rattle.std.proofs.Math.Seq.{drop-append_seam}
+use Rattle.std.proofs.{lemmas.Grind.flat_map-append, Math.Seq.drop-append_seam, lemmas.Bool.le-leb}
 use Rattle.cbor_head.specs.Prelude.{Spelling, IsItem}
 use Rattle.cbor_automaton.specs.Trace.{Mark, total, within}
-use Rattle.cbor_automaton.specs.Marks.{marks_of}
 use Rattle.cbor_automaton.specs.Event.{events, marks_in, event_size, front_of, joined, cut, IsRow, AreTold}
-use Rattle.cbor_standing.specs.MachineView.{MachineView}
-use Rattle.cbor_standing.specs.Machine.{StandsFor, IsWhole, IsGiven}
-use Rattle.cbor_standing.specs.NextEvent.{Call, StandsBetween, IsNextEvent, IsEnd}
-use Rattle.cbor_automaton.specs.Bytes.{IsEventBytes}
-use Rattle.std.proofs.lemmas.Bool.{le-leb}
-use Rattle.cbor_automaton.specs.declared.event.Event.{Event}
 use Rattle.cbor_automaton.proofs.Joining.{rejoin, joined-rejoin, cut-rejoin}
 use Rattle.cbor_automaton.proofs.Rows.{total-append, row-append, events-row}
+use Rattle.cbor_automaton.specs.{Marks.marks_of, Bytes.IsEventBytes, declared.event.Event.Event}
+use Rattle.cbor_standing.specs.Machine.{StandsFor, IsWhole, IsGiven}
+use Rattle.cbor_standing.specs.NextEvent.{Call, StandsBetween, IsNextEvent, IsEnd}
+use Rattle.cbor_standing.specs.MachineView.{MachineView}
 
 pub told-none : AreTold [] []
 told-none = record { row = tt; marks = refl }

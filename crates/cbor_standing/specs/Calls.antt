@@ -2,11 +2,8 @@
 use Rattle.std.specs.Prelude.{ℕ, ◌++◌, List, Option, Some, Result, Ok}
 use Rattle.std.specs.Io.KnownBytes.{Consumes}
 use Rattle.cbor_head.specs.declared.reason.Refusal.{Refusal}
-use Rattle.cbor_automaton.specs.Trace.{Mark}
-use Rattle.cbor_automaton.specs.Pieces.{kind_size, piece_by}
-use Rattle.cbor_automaton.specs.declared.event.Event.{Event}
-use Rattle.cbor_standing.specs.MachineView.{MachineView}
-use Rattle.cbor_standing.specs.Machine.{StandsFor}
+use Rattle.cbor_automaton.specs.{Trace.Mark, Pieces.kind_size, Pieces.piece_by, declared.event.Event.Event}
+use Rattle.cbor_standing.specs.{MachineView.MachineView, Machine.StandsFor}
 
 -- Since a call began the machine has taken the bytes that the reader lost, and told nothing.
 pub record HasRead (from to : Option (List ℕ)) (new : MachineView) (t : List ℕ) (ms : List Mark) : Type 0 where

@@ -3,15 +3,9 @@ use Rattle.std.specs.Prelude.{true, ◌≡◌, ◌↔◌, ◌⊎◌, ℕ, ◌-�
 use Rattle.cbor_head.specs.Prelude.{Bounds, bounds, AreBytes, Spelling, IsItem, IsBeginning, IsLongestBeginning, IsFormError}
 use Rattle.cbor_head.specs.declared.reason.Refusal.{Refusal}
 use Rattle.cbor_automaton.specs.Trace.{Mark, total, trace, within}
-use Rattle.cbor_automaton.specs.Open.{open_after}
-use Rattle.cbor_automaton.specs.Marks.{marks_of, times}
-use Rattle.cbor_standing.specs.MachineView.{MachineView}
-use Rattle.cbor_standing.specs.inner.Machine.{IsInner}
-use Rattle.cbor_automaton.specs.Bytes.{IsEventBytes}
-use Rattle.cbor_automaton.specs.declared.event.Event.{Event}
-use Rattle.cbor_standing.specs.declared.step.Step.{Step}
-use Rattle.cbor_standing.specs.declared.step.Out.{Out}
+use Rattle.cbor_automaton.specs.{Open.open_after, Marks.marks_of, Marks.times, Bytes.IsEventBytes, declared.event.Event.Event}
 use Rattle.cbor_standing.specs.declared.step.Out.TheVariants as outs
+use Rattle.cbor_standing.specs.{MachineView.MachineView, inner.Machine.IsInner, declared.step.Step.Step, declared.step.Out.Out}
 
 -- the item is complete, and its last event was told
 abbrev pub IsComplete : MachineView → Type 0

@@ -4,14 +4,10 @@ use Rattle.std.specs.Io.KnownBytes.{Consumes, IsAtEnd}
 use Rattle.cbor_head.specs.Prelude.{MayFollow, form, bounds, refusal, refused, IsVerdict}
 use Rattle.cbor_head.specs.declared.reason.Reason.TheVariants.{Read, Truncated, TooLong}
 use Rattle.cbor_head.specs.declared.reason.Refusal.{Refusal}
-use Rattle.cbor_automaton.specs.Trace.{Mark, total}
-use Rattle.cbor_automaton.specs.Marks.{marks_of}
-use Rattle.cbor_automaton.specs.Bytes.{IsEventBytes}
-use Rattle.cbor_standing.specs.MachineView.{MachineView}
-use Rattle.cbor_standing.specs.Machine.{StandsFor, IsComplete, IsWhole, before}
-use Rattle.cbor_automaton.specs.declared.event.Event.{Event}
-use Rattle.cbor_automaton.specs.declared.event.EventKind.{EventKind}
+use Rattle.cbor_automaton.specs.{Trace.Mark, Trace.total, Marks.marks_of, Bytes.IsEventBytes, declared.event.Event.Event, declared.event.EventKind.EventKind}
 use Rattle.cbor_automaton.specs.declared.event.EventKind.TheVariants.{Piece}
+use Rattle.cbor_standing.specs.Machine.{StandsFor, IsComplete, IsWhole, before}
+use Rattle.cbor_standing.specs.MachineView.{MachineView}
 
 -- what contracts see of the events of an item: the machine, the bytes of the last piece, and why
 -- no more is read

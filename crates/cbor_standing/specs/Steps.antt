@@ -1,17 +1,12 @@
 -- What a step does with the inner state.
 use Rattle.std.specs.Prelude.{◌≡◌, ◌⊎◌, ℕ, ◌+◌, ◌++◌, List, [], ◌∷◌, length, None}
-use Rattle.cbor_head.specs.Prelude.{refusal}
-use Rattle.cbor_head.specs.declared.reason.Reason.TheVariants.{TooLong}
-use Rattle.cbor_head.specs.declared.reason.Refusal.{Refusal}
-use Rattle.cbor_automaton.specs.Trace.{Mark}
-use Rattle.cbor_automaton.specs.Marks.{marks_of, IsProper}
-use Rattle.cbor_standing.specs.MachineView.{MachineView}
-use Rattle.cbor_standing.specs.Machine.{StandsFor}
+use Rattle.cbor_head.specs.{Prelude.refusal, declared.reason.Reason.TheVariants.TooLong, declared.reason.Refusal.Refusal}
 use Rattle.cbor_automaton.specs.Automaton as automaton
 use Rattle.cbor_automaton.specs.Automaton.{run, take_byte, reached}
+use Rattle.cbor_automaton.specs.{Trace.Mark, Marks.marks_of, Marks.IsProper}
 use Rattle.cbor_steps.specs.State.{state_of, IsSettled}
-use Rattle.cbor_standing.specs.declared.step.Out.{Out}
 use Rattle.cbor_standing.specs.declared.step.Out.TheVariants as outs
+use Rattle.cbor_standing.specs.{MachineView.MachineView, Machine.StandsFor, declared.step.Out.Out}
 
 -- From one state to the next: bs led there, and told these marks.
 pub record Ran (old new : MachineView) (bs : List ℕ) (ns : List Mark) : Type 0 where

@@ -3,11 +3,9 @@ use Rattle.std.proofs.Common.{◌≡◌, ℕ, ◌+◌, List, [], ◌∷◌, ◌+
 use Rattle.std.proofs.lemmas.List.{reverse-append, length-reverse, length-map}
 use Rattle.std.proofs.Math.Nat.{pow-le-pow_right}
 use Rattle.cbor_steps.specs.State.{frame_of, frames_of, head_left, wanted_at, IsFit, IsNextFit, IsSettled, IsNextSettled, is_in_payload, is_done}
-use Rattle.cbor_steps.specs.declared.position.Position.{Position}
 use Rattle.cbor_steps.specs.declared.position.Position.TheVariants.{Head, Payload, Done}
-use Rattle.cbor_steps.specs.declared.take_byte.Next.{Next}
 use Rattle.cbor_steps.specs.declared.take_byte.Next.TheVariants.{Refuses, Goes, Tells}
-use Rattle.cbor_steps.specs.declared.frame.Frame.{Frame}
+use Rattle.cbor_steps.specs.declared.{position.Position.Position, take_byte.Next.Next, frame.Frame.Frame}
 
 -- the innermost frame stands last
 pub frames_push : (xs : List Frame) (f : Frame) → frames_of (xs ++ f ∷ []) ≡ frame_of f ∷ frames_of xs

@@ -1,19 +1,12 @@
 -- The stack with the innermost container apart, as a list of frames.
 use Rattle.std.proofs.Common.{◌≡◌, ℕ, zero, suc, ◌+◌, ◌-◌, ◌≤◌, ◌<◌, true, false, List, [], ◌∷◌, ◌++◌, map, take, drop, length, get_or, set, Some, add-one, refl, sym, ap, ◌∙◌, subst, arith, slice_get, length-append, length-set, length-take-le}
-use Rattle.std.proofs.lemmas.List.{length-map, map-append}
-use Rattle.std.proofs.lemmas.Option.{get_or_from_slice_get}
-use Rattle.std.proofs.Math.Seq.{take-suc}
+use Rattle.std.proofs.{lemmas.List.length-map, lemmas.List.map-append, lemmas.Option.get_or_from_slice_get, Math.Seq.take-suc}
 use Rattle.cbor_automaton.specs.Automaton as automaton
 use Rattle.cbor_automaton.specs.Automaton.{at_item, close, break_at, tells, indefinite_array, indefinite_map, counted}
 use Rattle.cbor_automaton.specs.Trace.{a_break}
-use Rattle.cbor_steps.specs.State.{frame_of, frames_of}
 use Rattle.cbor_steps.specs.Nest.{level_frame, joined, levels, nested, IsRooted, IsNest, advanced, ends_by_break}
-use Rattle.cbor_steps.specs.declared.frame.TheConstants.{MOST_OPEN}
-use Rattle.cbor_steps.specs.declared.frame.Frame.{Frame}
-use Rattle.cbor_steps.specs.declared.frame.Frame.TheVariants.{Tag}
-use Rattle.cbor_steps.specs.declared.nest.Due.{Due}
-use Rattle.cbor_steps.specs.declared.nest.Level.{Level}
-use Rattle.cbor_steps.proofs.Frames.{frames_push}
+use Rattle.cbor_steps.specs.{State.frame_of, State.frames_of, declared.frame.TheConstants.MOST_OPEN, declared.frame.Frame.Frame}
+use Rattle.cbor_steps.{specs.declared.frame.Frame.TheVariants.Tag, specs.declared.nest.Due.Due, specs.declared.nest.Level.Level, proofs.Frames.frames_push}
 
 pub nested-length : (outer : List Level) (h : ℕ) (top : Level) → h ≤ length outer → length (nested outer h top) ≡ h
 nested-length outer zero top k = refl

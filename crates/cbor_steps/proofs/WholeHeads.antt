@@ -1,26 +1,18 @@
 -- A whole head, from where an item is due.
 use Rattle.std.proofs.Common.{◌≡◌, ℕ, suc, ◌+◌, ◌-◌, ◌*◌, ◌/◌, ◌%◌, ◌^◌, ◌<◌, ◌≤◌, true, false, List, [], ◌∷◌, ◌++◌, length, take, refl, sym, ap, ◌∙◌, arith, append-nil, length-append}
-use Rattle.std.proofs.Math.Seq.{take-append_seam}
-use Rattle.std.specs.Int.{bytes_high_first}
+use Rattle.std.{proofs.Math.Seq.take-append_seam, specs.Int.bytes_high_first}
 use Rattle.byteorder.specs.Numbers.{length-bytes_high_first}
-use Rattle.cbor_head.specs.Prelude.{head, major_number}
-use Rattle.cbor_head.specs.declared.major.Major.{Major}
-use Rattle.cbor_head.specs.declared.major.Major.TheVariants.{Simple}
-use Rattle.cbor_head.specs.declared.width.Width.{Width}
 use Rattle.cbor_head.specs.declared.width.Width.TheVariants.{Direct, One, Two, Four, Eight, Indefinite}
+use Rattle.cbor_head.specs.{Prelude.head, Prelude.major_number, declared.major.Major.Major, declared.major.Major.TheVariants.Simple, declared.width.Width.Width}
 use Rattle.cbor_grammar.specs.Argument.{IsArgument}
-use Rattle.cbor_automaton.specs.Trace.{Mark, a_head}
 use Rattle.cbor_automaton.specs.Automaton.{Frame, State, at_item, in_head, after, close, tail, numbered_tail, major_at, has_room, run, reached, telling}
 use Rattle.cbor_automaton.specs.Marks.{marks_of, IsDefinite, IsProper}
-use Rattle.cbor_steps.specs.State.{major_of}
-use Rattle.cbor_steps.specs.Whole.{IsArgumentLeft, IsEventRun}
-use Rattle.cbor_steps.specs.declared.opening.Numbered.{Numbered}
-use Rattle.cbor_steps.specs.declared.opening.Numbered.TheVariants as numbered
-use Rattle.cbor_automaton.specs.declared.event.EventKind.{EventKind}
 use Rattle.cbor_automaton.specs.declared.event.EventKind.TheVariants as kinds
-use Rattle.cbor_automaton.proofs.FirstByte.{number-major_at}
 use Rattle.cbor_automaton.proofs.Forward.{feed-fits, head-taken, item_starts, simple-direct, simple-one}
+use Rattle.cbor_automaton.{specs.Trace.Mark, specs.Trace.a_head, specs.declared.event.EventKind.EventKind, proofs.FirstByte.number-major_at}
 use Rattle.cbor_automaton.proofs.Rows.{definite}
+use Rattle.cbor_steps.specs.declared.opening.Numbered.TheVariants as numbered
+use Rattle.cbor_steps.specs.{State.major_of, Whole.IsArgumentLeft, Whole.IsEventRun, declared.opening.Numbered.Numbered}
 
 plain : (kind : Numbered) (k : ℕ) → tail (major_of kind) k ≡ numbered_tail (major_of kind) k
 plain numbered.Unsigned k = refl

@@ -1,18 +1,13 @@
 -- The open containers, with the innermost one apart.
 use Rattle.std.specs.Prelude.{◌≡◌, ℕ, ◌+◌, ◌≤◌, Bool, true, false, List, [], ◌∷◌, ◌++◌, map, take, drop, length}
-use Rattle.cbor_automaton.specs.Automaton as automaton
-use Rattle.cbor_automaton.specs.Automaton.{indefinite_array, indefinite_map}
 use Rattle.cbor_head.specs.Prelude.{initial_reason}
-use Rattle.cbor_automaton.specs.Trace.{a_break}
-use Rattle.cbor_steps.specs.State.{frames_of, state_of}
-use Rattle.cbor_steps.specs.declared.frame.Frame.{Frame}
-use Rattle.cbor_steps.specs.declared.frame.TheConstants.{MOST_OPEN}
+use Rattle.cbor_automaton.specs.Automaton as automaton
+use Rattle.cbor_automaton.specs.{Automaton.indefinite_array, Automaton.indefinite_map, Trace.a_break}
 use Rattle.cbor_steps.specs.declared.frame.Frame.TheVariants.{Array, IndefiniteArray, Map, IndefiniteMap, Tag}
-use Rattle.cbor_steps.specs.declared.nest.Due.{Due}
 use Rattle.cbor_steps.specs.declared.nest.Due.TheVariants.{Item, Content, Key, Value, IndefiniteItem, IndefiniteKey, IndefiniteValue}
-use Rattle.cbor_steps.specs.declared.nest.Level.{Level}
-use Rattle.cbor_steps.specs.declared.position.Position.{Position}
 use Rattle.cbor_steps.specs.declared.position.Position.TheVariants as positions
+use Rattle.cbor_steps.specs.{State.frames_of, State.state_of, declared.frame.Frame.Frame, declared.frame.TheConstants.MOST_OPEN, declared.nest.Due.Due}
+use Rattle.cbor_steps.specs.declared.{nest.Level.Level, position.Position.Position}
 
 -- an open container, by what is due in it and how much follows that
 abbrev pub due_frame : Due → ℕ → Frame

@@ -1,21 +1,16 @@
 -- The machine's fields as a state of the automaton, and what its functions keep of them.
 use Rattle.std.specs.Prelude.{◌≡◌, ℕ, suc, ◌⊎◌, ◌+◌, ◌*◌, ◌^◌, ◌≤◌, Bool, List, [], map, reverse}
-use Rattle.cbor_head.specs.declared.major.Major.{Major}
 use Rattle.cbor_head.specs.declared.major.Major.TheVariants as majors
+use Rattle.cbor_head.specs.declared.major.Major.{Major}
 use Rattle.cbor_automaton.specs.Automaton as automaton
-use Rattle.cbor_automaton.specs.Automaton.{State}
-use Rattle.cbor_automaton.specs.Reasons.{IsFormReason}
 use Rattle.cbor_automaton.specs.Marks.{mark_of, times, IsDefinite, IsProper}
-use Rattle.cbor_steps.specs.declared.frame.Frame.{Frame}
+use Rattle.cbor_automaton.specs.{Automaton.State, Reasons.IsFormReason}
 use Rattle.cbor_steps.specs.declared.frame.Frame.TheVariants as frames
-use Rattle.cbor_steps.specs.declared.opening.Numbered.{Numbered}
 use Rattle.cbor_steps.specs.declared.opening.Numbered.TheVariants as numbered
-use Rattle.cbor_steps.specs.declared.opening.Opening.{Opening}
 use Rattle.cbor_steps.specs.declared.opening.Opening.TheVariants.{Direct as DirectOpening, Long, IndefiniteBytes, IndefiniteText, IndefiniteArray, IndefiniteMap, Simple, LongSimple, Break, Bad}
-use Rattle.cbor_steps.specs.declared.position.Position.{Position}
 use Rattle.cbor_steps.specs.declared.position.Position.TheVariants.{Item, Head, SimpleNumber, Payload, Chunks, Done}
-use Rattle.cbor_steps.specs.declared.take_byte.Next.{Next}
 use Rattle.cbor_steps.specs.declared.take_byte.Next.TheVariants.{Refuses, Goes, Tells}
+use Rattle.cbor_steps.specs.declared.{frame.Frame.Frame, opening.Numbered.Numbered, opening.Opening.Opening, position.Position.Position, take_byte.Next.Next}
 
 -- the major type
 abbrev pub major_of : Numbered → Major

@@ -1,9 +1,9 @@
 -- What is told of an item, as events.
 use Rattle.std.specs.Prelude.{ℕ, Some}
-use Rattle.cbor_automaton.specs.declared.event.EventKind.{EventKind}
 use Rattle.cbor_automaton.specs.declared.event.EventKind.TheVariants as kinds
-use Rattle.cbor_steps.specs.declared.token.Token.{Token}
+use Rattle.cbor_automaton.specs.declared.event.EventKind.{EventKind}
 use Rattle.cbor_steps.specs.declared.token.Token.TheVariants.{Unsigned, Negative, Bytes, Text, Array, Map, Tag, Simple, Piece, Chunk}
+use Rattle.cbor_steps.specs.declared.token.Token.{Token}
 
 -- an event, by what is told and its number
 abbrev pub kind_of : Token → ℕ → EventKind

@@ -1,10 +1,10 @@
 -- What comes of some bytes.
 use Rattle.std.specs.Prelude.{◌≡◌, ℕ, ◌++◌, List, [], ◌∷◌}
 use Rattle.cbor_automaton.specs.Automaton.{State, refuses, take_byte, run, reached}
-use Rattle.cbor_automaton.specs.Reasons.{IsFormReason}
 use Rattle.cbor_automaton.specs.Marks.{marks_of, times, IsProper}
-use Rattle.cbor_steps.specs.declared.up_to_event.Walked.{Walked}
+use Rattle.cbor_automaton.specs.Reasons.{IsFormReason}
 use Rattle.cbor_steps.specs.declared.up_to_event.Walked.TheVariants.{More, Told, Refused}
+use Rattle.cbor_steps.specs.declared.up_to_event.Walked.{Walked}
 
 -- what came of bytes that were given to a machine in state q, and is in state t now
 abbrev pub IsWalked : Walked → ℕ → State → State → List ℕ → Type 0

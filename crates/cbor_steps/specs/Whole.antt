@@ -1,18 +1,11 @@
 -- Events that are taken from a slice at once.
 use Rattle.std.specs.Prelude.{◌≡◌, ℕ, ◌+◌, ◌-◌, ◌/◌, ◌%◌, ◌<◌, ◌≤◌, Bool, true, List, [], ◌∷◌, length, take}
-use Rattle.cbor_head.specs.Prelude.{IsSimple}
-use Rattle.cbor_head.specs.declared.major.Major.{Major}
-use Rattle.cbor_head.specs.declared.width.Width.{Width}
+use Rattle.cbor_head.specs.{Prelude.IsSimple, declared.major.Major.Major, declared.width.Width.Width}
 use Rattle.cbor_grammar.specs.Argument.{IsArgument}
 use Rattle.cbor_automaton.specs.Automaton.{Frame, State, in_head, after, mark, run, reached, has_room, major_at}
-use Rattle.cbor_automaton.specs.Marks.{marks_of, IsProper}
-use Rattle.cbor_automaton.specs.Pieces.{piece_by}
-use Rattle.cbor_automaton.specs.declared.event.EventKind.{EventKind}
-use Rattle.cbor_steps.specs.Token.{kind_of}
-use Rattle.cbor_steps.specs.declared.token.Token.{Token}
+use Rattle.cbor_automaton.specs.{Marks.marks_of, Marks.IsProper, Pieces.piece_by, declared.event.EventKind.EventKind}
 use Rattle.cbor_steps.specs.declared.token.Token.TheVariants as tokens
-use Rattle.cbor_steps.specs.declared.whole.DefiniteHead.{DefiniteHead}
-use Rattle.cbor_steps.specs.declared.whole.Whole.{Whole}
+use Rattle.cbor_steps.specs.{Token.kind_of, declared.token.Token.Token, declared.whole.DefiniteHead.DefiniteHead, declared.whole.Whole.Whole}
 
 -- within these open containers an item may have this head, which stands in front of the bytes
 pub record IsHeadHere (d : ℕ) (fs : List Frame) (xs : List ℕ) (h : DefiniteHead) : Type 0 where

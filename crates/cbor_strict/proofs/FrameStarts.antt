@@ -2,14 +2,11 @@
 use Rattle.std.proofs.Common.{◌≡◌, ◌≢◌, ℕ, suc, ◌+◌, List, ◌++◌, length, refl, sym, ap, ◌∙◌, subst, arith, append_assoc}
 use Rattle.cbor_head.specs.Prelude.{head, Spelling, Spellings, SpelledEntries, array, a_map, no_spellings, a_spelling, no_entries, entry, spell, spell_all, spell_entries, spellings_count, entries_count, break_of, IsSpelled, AreSpelled, AreEntriesSpelled}
 use Rattle.cbor_head.specs.declared.major.Major.TheVariants.{Array, Map, Tag}
-use Rattle.cbor_head.specs.declared.width.Width.{Width}
-use Rattle.cbor_head.specs.declared.width.Width.TheVariants.{Indefinite}
-use Rattle.cbor_head.proofs.HeadLaws.{told}
+use Rattle.cbor_head.{specs.declared.width.Width.Width, specs.declared.width.Width.TheVariants.Indefinite, proofs.HeadLaws.told}
 use Rattle.cbor_grammar.proofs.Parts.{major, width, count, head_of, body, parts, holds_of, one_head, as_array, as_map, as_tag}
 use Rattle.cbor_grammar.proofs.ReadLaws.{unique, holds_or_open}
 use Rattle.cbor_judging.specs.Frame.{Frame, a_member, a_key, a_content, tagged, with_all, with_entries, plug, before, behind, IsFrame}
-use Rattle.cbor_strict.specs.inner.LastKeys.{HasLength}
-use Rattle.cbor_strict.proofs.FrameCounts.{around, one_map}
+use Rattle.cbor_strict.{specs.inner.LastKeys.HasLength, proofs.FrameCounts.around, proofs.FrameCounts.one_map}
 
 -- ---- an item that starts as a container does
 

@@ -1,18 +1,13 @@
 -- What is kept of the keys where a container ends, and those around it.
 use Rattle.std.proofs.Common.{◌≡◌, ◌≢◌, ℕ, suc, ◌+◌, ◌<◌, ◌≤◌, Bool, true, false, List, [], ◌∷◌, ◌++◌, length, take, refl, sym, ap, ◌∙◌, subst, inl, inr, arith, append-nil, if◌then◌else◌, length-append}
-use Rattle.std.proofs.lemmas.Bool.{cases_Bool}
-use Rattle.std.proofs.lemmas.List.{same_from_push}
-use Rattle.std.proofs.Math.Seq.{take-append_seam}
+use Rattle.std.proofs.{lemmas.Bool.cases_Bool, lemmas.List.same_from_push, Math.Seq.take-append_seam}
 use Rattle.cbor_head.specs.Prelude.{head, Spelling, no_spellings, no_entries, spell, spell_entries, entries_count}
 use Rattle.cbor_head.specs.declared.major.Major.TheVariants.{Map}
-use Rattle.cbor_strict.specs.declared.last_keys.Due.{Due}
-use Rattle.cbor_strict.specs.declared.last_keys.Due.TheVariants.{Member}
-use Rattle.cbor_strict.specs.declared.last_keys.Span.{Span}
 use Rattle.cbor_judging.specs.Frame.{Frame, a_member, a_key, a_content, tagged, plug, before, behind}
+use Rattle.cbor_judging.proofs.{Members.closes, Frames.spell_plug}
 use Rattle.cbor_strict.specs.inner.LastKeys.{AreDefinite, still_open, ended_item, KeysView, is_key, stands_in_key, keys_around, due_of, levels_of, complete_key, kept_bytes, kept_before, spans_in, spans_of, IsKept, IsFull}
-use Rattle.cbor_judging.proofs.Members.{closes}
-use Rattle.cbor_judging.proofs.Frames.{spell_plug}
 use Rattle.cbor_strict.proofs.KeptKeys.{in_some_key, in_no_key, few_keys, kept_if_in, kept_if_out, kept_out, no_map}
+use Rattle.cbor_strict.specs.declared.last_keys.{Due.Due, Due.TheVariants.Member, Span.Span}
 
 -- ---- one closes
 

@@ -2,13 +2,10 @@
 use Rattle.std.proofs.Common.{◌≡◌, ℕ, zero, suc, ◌+◌, ◌<◌, ◌≤◌, Bool, true, false, true≢false, List, [], ◌∷◌, ◌++◌, length, refl, sym, ap, ◌∙◌, inl, inr, arith, append_assoc, append-nil, if◌then◌else◌, ◌↔◌, IsTrue, Result, Ok, Err, OnOk, is_ok, length-append}
 use Rattle.std.proofs.lemmas.Bool.{cases_Bool}
 use Rattle.cbor_head.specs.Prelude.{head, Spelling, SpelledEntries, no_entries, entries_count}
-use Rattle.cbor_head.specs.declared.major.Major.TheVariants.{Map}
-use Rattle.cbor_head.specs.declared.width.Width.{Width}
-use Rattle.cbor_strict.specs.declared.last_keys.Due.{Due}
-use Rattle.cbor_strict.specs.declared.last_keys.Due.TheVariants.{Member, Key}
-use Rattle.cbor_strict.specs.declared.last_keys.Span.{Span}
+use Rattle.cbor_head.specs.declared.{major.Major.TheVariants.Map, width.Width.Width}
 use Rattle.cbor_judging.specs.Frame.{Frame, a_member, a_key, tagged, before}
 use Rattle.cbor_strict.specs.inner.LastKeys.{KeysView, is_key, stands_in_key, keys_around, due_of, levels_of, complete_key, kept_bytes, kept_before, span, spans_in, spans_of, IsKept}
+use Rattle.cbor_strict.specs.declared.last_keys.{Due.Due, Due.TheVariants.Member, Due.TheVariants.Key, Span.Span}
 
 -- ---- in a key, or not
 

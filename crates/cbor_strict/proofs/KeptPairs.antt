@@ -1,19 +1,14 @@
 -- What is kept of the keys of a map as its keys and values end.
 use Rattle.std.proofs.Common.{◌≡◌, ℕ, suc, ◌+◌, ◌-◌, ◌<◌, ◌≤◌, Bool, true, false, List, [], ◌∷◌, ◌++◌, length, take, drop, refl, sym, ap, ◌∙◌, inl, inr, arith, append_assoc, append-nil, if◌then◌else◌, slice_index_or, slice_set, length-append}
-use Rattle.std.proofs.lemmas.Bool.{cases_Bool}
-use Rattle.std.proofs.lemmas.List.{get_or_push}
 use Rattle.std.proofs.Math.Seq.{take-append_seam, drop-append_seam, set-append_seam}
+use Rattle.std.proofs.lemmas.{Bool.cases_Bool, List.get_or_push}
 use Rattle.cbor_head.specs.Prelude.{head, Spelling, SpelledEntries, no_entries, entry, spell, spell_entries, entries_count}
-use Rattle.cbor_head.specs.declared.major.Major.TheVariants.{Map}
-use Rattle.cbor_head.specs.declared.width.Width.{Width}
-use Rattle.cbor_strict.specs.declared.last_keys.Due.TheVariants.{Key, Content}
-use Rattle.cbor_strict.specs.declared.last_keys.Span.{Span}
+use Rattle.cbor_head.specs.declared.{major.Major.TheVariants.Map, width.Width.Width}
 use Rattle.cbor_judging.specs.Frame.{Frame, a_key, a_content, with_entries, before}
+use Rattle.cbor_judging.{specs.LastKey.last_key, proofs.OpenSteps.content_before, proofs.OpenSteps.pair_count, proofs.LastKey.last_key_with}
 use Rattle.cbor_strict.specs.inner.LastKeys.{KeysView, stands_in_key, keys_around, levels_of, before_last, kept_bytes, kept_before, span, spans_of, with_last, with_key, IsKept, HasKeyEnded}
-use Rattle.cbor_judging.specs.LastKey.{last_key}
-use Rattle.cbor_judging.proofs.OpenSteps.{content_before, pair_count}
-use Rattle.cbor_judging.proofs.LastKey.{last_key_with}
 use Rattle.cbor_strict.proofs.KeptKeys.{in_some_key, in_no_key, kept_if_in, kept_if_out, kept_in_key, kept_size, span_is}
+use Rattle.cbor_strict.specs.declared.last_keys.{Due.TheVariants.Key, Due.TheVariants.Content, Span.Span}
 
 -- ---- keys
 

@@ -2,31 +2,23 @@
 use Rattle.std.proofs.Common.{◌≡◌, ℕ, zero, suc, ◌+◌, ◌-◌, ◌<◌, ◌≤◌, Bool, true, false, true≢false, List, [], ◌∷◌, ◌++◌, length, refl, sym, ap, ◌∙◌, subst, inl, inr, arith, append_assoc, append-nil, nat_lt, if◌then◌else◌, length-append, lt-ltb}
 use Rattle.std.proofs.lemmas.Bool.{lt-leb, cases_Bool}
 use Rattle.cbor_head.specs.Prelude.{head, Holds, Bounds, Spelling, Spellings, SpelledEntries, bytes, text, array, a_map, tag, no_spellings, a_spelling, no_entries, entry, spell, spell_entries, spellings_count, entries_count, IsSpelled, strict}
-use Rattle.cbor_head.specs.Laws.{StartsWith}
-use Rattle.cbor_head.specs.declared.major.Major.{Major}
 use Rattle.cbor_head.specs.declared.major.Major.TheVariants.{Bytes, Text, Array, Map, Tag}
-use Rattle.cbor_head.specs.declared.order.KeyOrder.{KeyOrder}
-use Rattle.cbor_head.specs.declared.width.Width.{Width}
+use Rattle.cbor_head.specs.{Laws.StartsWith, declared.major.Major.Major, declared.order.KeyOrder.KeyOrder, declared.width.Width.Width}
 use Rattle.cbor_grammar.proofs.Parts.{major, width, count, head_of, body, parts, holds_of, one_head, as_bytes, as_text}
 use Rattle.cbor_grammar.proofs.ReadLaws.{unique, length_spell, length_head, holds_or_open}
 use Rattle.cbor_standing.specs.NextEvent.{ItemEventsView}
 use Rattle.cbor_judging.specs.Place.{Container, Place, at_item, payload, open_at}
-use Rattle.cbor_strict.specs.declared.open_items.OpenItems.{OpenItems}
-use Rattle.cbor_strict.specs.KeptKeys.{open_maps, open_maps_in, key_bytes, key_bytes_in, key_bytes_in_entries}
 use Rattle.cbor_judging.specs.Frame.{Frame, a_member, a_key, a_content, tagged, before}
-use Rattle.cbor_strict.specs.inner.LastKeys.{seen, from_outside, is_key, stands_in_key, complete_key, kept_bytes, spans_of, spans_in, IsKept}
-use Rattle.cbor_judging.specs.LastKey.{last_key}
-use Rattle.cbor_strict.specs.inner.OpenItems.{frames_in, bytes_before, Stands}
 use Rattle.cbor_judging.specs.OpenMaps.{before_all, ArePath, AreClosedClean}
-use Rattle.cbor_judging.specs.Reading.{IsAt, string_major}
-use Rattle.cbor_strict.specs.inner.StrictEvents.{IsLittle}
+use Rattle.cbor_judging.{specs.LastKey.last_key, specs.Reading.IsAt, specs.Reading.string_major, proofs.Standing.open-is, proofs.OpenSteps.before_snoc}
+use Rattle.cbor_strict.specs.KeptKeys.{open_maps, open_maps_in, key_bytes, key_bytes_in, key_bytes_in_entries}
+use Rattle.cbor_strict.specs.inner.LastKeys.{seen, from_outside, is_key, stands_in_key, complete_key, kept_bytes, spans_of, spans_in, IsKept}
+use Rattle.cbor_strict.specs.inner.OpenItems.{frames_in, bytes_before, Stands}
 use Rattle.cbor_strict.proofs.KeptCounts.{Counts, AreAround, path_counts, past}
 use Rattle.cbor_strict.proofs.FrameCounts.{one_map, map_count, keys_size}
-use Rattle.cbor_strict.proofs.KeptKeys.{kept_if_in, kept_if_out}
-use Rattle.cbor_strict.proofs.KeptEnds.{kept_levels, kept_spans}
-use Rattle.cbor_judging.proofs.Standing.{open-is}
+use Rattle.cbor_strict.specs.{declared.open_items.OpenItems.OpenItems, inner.StrictEvents.IsLittle}
+use Rattle.cbor_strict.proofs.{KeptKeys.kept_if_in, KeptKeys.kept_if_out, KeptEnds.kept_levels, KeptEnds.kept_spans}
 use Rattle.cbor_strict.proofs.OpenEnds.{frames_length, has_length}
-use Rattle.cbor_judging.proofs.OpenSteps.{before_snoc}
 
 -- ---- before an item
 

@@ -1,36 +1,26 @@
 -- What a head begins in the open containers, whatever is kept of them.
 use Rattle.std.proofs.Common.{◌≡◌, ℕ, zero, suc, ◌+◌, ◌-◌, ◌<◌, Bool, true, false, Option, Some, None, List, [], ◌∷◌, ◌++◌, length, refl, sym, ap, ◌∙◌, subst, arith, append-nil}
-use Rattle.std.proofs.lemmas.Str.{IsUtf8-nil}
+use Rattle.std.proofs.{lemmas.Str.IsUtf8-nil, KnownBytes.Consumes-nil}
 use Rattle.cbor_head.specs.Prelude.{head, Bounds, Value, Spelling, SpelledEntries, no_spellings, no_entries, spellings_count, entries_count, strict, Complaint, OfCount, OfHead}
 use Rattle.cbor_head.specs.Complaint as complaint
-use Rattle.cbor_head.specs.declared.major.Major.{Major}
 use Rattle.cbor_head.specs.declared.major.Major.TheVariants as majors
-use Rattle.cbor_head.specs.declared.order.KeyOrder.{KeyOrder}
 use Rattle.cbor_head.specs.declared.reason.Reason.TheVariants as reasons
-use Rattle.cbor_head.specs.declared.width.Width.{Width}
-use Rattle.cbor_head.specs.declared.width.Width.TheVariants.{Indefinite}
-use Rattle.cbor_automaton.specs.Trace.{Mark, a_head}
-use Rattle.cbor_judging.specs.Place.{Container, Place, at_item, counted, close, expect, payload, Ends}
-use Rattle.cbor_standing.specs.NextEvent.{ItemEventsView}
-use Rattle.cbor_automaton.specs.Marks.{mark_of}
-use Rattle.cbor_automaton.specs.declared.event.EventKind.{EventKind}
+use Rattle.cbor_head.specs.declared.{major.Major.Major, order.KeyOrder.KeyOrder, width.Width.Width, width.Width.TheVariants.Indefinite}
 use Rattle.cbor_automaton.specs.declared.event.EventKind.TheVariants as kinds
+use Rattle.cbor_automaton.specs.{Trace.Mark, Trace.a_head, Marks.mark_of, declared.event.EventKind.EventKind}
+use Rattle.cbor_standing.specs.NextEvent.{ItemEventsView}
+use Rattle.cbor_judging.specs.Place.{Container, Place, at_item, counted, close, expect, payload, Ends}
 use Rattle.cbor_judging.specs.Frame.{Frame, a_member, a_key, tagged, before}
-use Rattle.cbor_judging.specs.Judged.{IsJudged, Never}
-use Rattle.cbor_judging.specs.OpenMaps.{AreOpen, AreOpenDistinct}
 use Rattle.cbor_judging.specs.Reading.{IsAt, OfMark, IsBegun, ReadsItem, ReadsPayload, string_kind, string_major}
 use Rattle.cbor_judging.proofs.Members.{starts-array, array-whole, starts-with, map-whole}
-use Rattle.cbor_judging.proofs.Heads.{open_or}
 use Rattle.cbor_judging.proofs.Items.{definite, proper-definite, never-open, is-definite, head-count}
 use Rattle.cbor_judging.proofs.Judged.{zero_item, zeros, zeros_count, zero_pairs, pairs_count}
-use Rattle.cbor_judging.proofs.OpenMaps.{judged_within}
 use Rattle.cbor_judging.proofs.OpenSteps.{distinct_snoc, array_opens, map_opens, tag_opens}
 use Rattle.cbor_judging.proofs.Scalars.{at-as, reads-unsigned, reads-negative, reads-simple}
-use Rattle.cbor_judging.proofs.WholeStrings.{string-due, reads-string}
-use Rattle.std.proofs.KnownBytes.{Consumes-nil}
-use Rattle.cbor_strict.specs.inner.LastKeys.{from_outside, due_of}
-use Rattle.cbor_strict.specs.declared.last_keys.Due.TheVariants.{Member}
+use Rattle.cbor_judging.{specs.Judged.IsJudged, specs.Judged.Never, specs.OpenMaps.AreOpen, specs.OpenMaps.AreOpenDistinct, proofs.Heads.open_or}
+use Rattle.cbor_judging.proofs.{OpenMaps.judged_within, WholeStrings.string-due, WholeStrings.reads-string}
 use Rattle.cbor_strict.specs.inner.OpenItems.{frames_in, bytes_before, IsLeaf, IsMap, IsOther}
+use Rattle.cbor_strict.specs.{inner.LastKeys.from_outside, inner.LastKeys.due_of, declared.last_keys.Due.TheVariants.Member}
 use Rattle.cbor_strict.proofs.OpenEnds.{outside_length, frames_length}
 
 -- ---- what is found of the item is found of the whole

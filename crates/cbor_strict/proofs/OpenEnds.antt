@@ -2,33 +2,21 @@
 use Rattle.std.proofs.Common.{◌≡◌, ◌≢◌, ℕ, suc, ◌+◌, ◌-◌, ◌≤◌, IsTrue, Option, Some, List, [], ◌∷◌, ◌++◌, length, refl, sym, ap, ◌∙◌, subst, inl, inr, arith, append_assoc, length-append}
 use Rattle.cbor_head.specs.Prelude.{Bounds, key_lt, Spelling, Spellings, SpelledEntries, no_spellings, a_spelling, no_entries, entry, spell, spellings_count, entries_count, IsSpelled, depth, rising, Rules, strict, OfCount, OfKey, Complains, refusal}
 use Rattle.cbor_head.specs.Complaint as complaint
-use Rattle.cbor_head.specs.declared.major.Major.{Major}
-use Rattle.cbor_head.specs.declared.major.Major.TheVariants.{Array, Map}
-use Rattle.cbor_head.specs.declared.order.KeyOrder.{KeyOrder}
-use Rattle.cbor_head.specs.declared.reason.Refusal.{Refusal}
 use Rattle.cbor_head.specs.declared.reason.Reason.TheVariants as reasons
-use Rattle.cbor_head.specs.declared.width.Width.{Width}
-use Rattle.cbor_head.specs.declared.width.Width.TheVariants.{Indefinite}
-use Rattle.cbor_judging.specs.Place.{Container, at_item, counted, close, Place, open_at}
+use Rattle.cbor_head.specs.declared.{major.Major.Major, major.Major.TheVariants.Array, major.Major.TheVariants.Map, order.KeyOrder.KeyOrder}
+use Rattle.cbor_head.specs.declared.{reason.Refusal.Refusal, width.Width.Width, width.Width.TheVariants.Indefinite}
 use Rattle.cbor_standing.specs.NextEvent.{ItemEventsView}
+use Rattle.cbor_judging.specs.Place.{Container, at_item, counted, close, Place, open_at}
 use Rattle.cbor_judging.specs.Frame.{Frame, a_member, a_key, a_content, tagged, with_all, with_entries, keys_onto, plug, before, OfFront}
-use Rattle.cbor_judging.specs.Judged.{IsJudged, Never}
 use Rattle.cbor_judging.specs.OpenMaps.{placed, open_keys, AreDistinct, OfClosed, before_all, AreOpen, AreOpenDistinct}
-use Rattle.cbor_judging.specs.Reading.{IsAt, HasCause}
-use Rattle.cbor_judging.specs.LastKey.{last_key}
-use Rattle.cbor_judging.proofs.Frames.{spelled_plug, depth_plug}
-use Rattle.cbor_judging.proofs.Judged.{judged_key}
 use Rattle.cbor_judging.proofs.OpenKeys.{on_keys_split, onto_keys, front_apart}
-use Rattle.cbor_judging.proofs.OpenMaps.{judged_within}
-use Rattle.cbor_judging.proofs.Items.{whole-cause}
 use Rattle.cbor_judging.proofs.OpenSteps.{before_snoc, distinct_snoc, member_before, content_before, content_keys, map_closes, array_closes, tag_closes, shuts, innermost, member_ends, key_ends, content_ends}
-use Rattle.cbor_judging.proofs.Scalars.{at-as}
 use Rattle.cbor_judging.proofs.LastKey.{key-fresh, key-falls, last_is}
-use Rattle.cbor_judging.proofs.Steps.{at-reached}
+use Rattle.cbor_judging.specs.{Judged.IsJudged, Judged.Never, Reading.IsAt, Reading.HasCause, LastKey.last_key}
+use Rattle.cbor_judging.proofs.{Frames.spelled_plug, Frames.depth_plug, Judged.judged_key, OpenMaps.judged_within, Items.whole-cause, Scalars.at-as}
+use Rattle.cbor_judging.proofs.{Steps.at-reached, Standing.open-is}
 use Rattle.cbor_strict.specs.inner.LastKeys.{from_outside, IsFull, HasLength, AreDefinite, still_open, ended_item}
-use Rattle.cbor_strict.specs.inner.OpenItems.{frames_in, bytes_before}
-use Rattle.cbor_strict.proofs.KeptEnds.{full_bytes}
-use Rattle.cbor_judging.proofs.Standing.{open-is}
+use Rattle.cbor_strict.{specs.inner.OpenItems.frames_in, specs.inner.OpenItems.bytes_before, proofs.KeptEnds.full_bytes}
 
 -- ---- the containers
 

@@ -2,42 +2,27 @@
 use Rattle.std.proofs.Common.{◌≡◌, ◌≢◌, ℕ, ◌+◌, ◌<◌, ◌≤◌, ◌⊎◌, Bool, false, Option, Some, None, List, [], ◌∷◌, ◌++◌, length, refl, sym, ap, ◌∙◌, subst, inl, inr, arith, append-nil, length-append}
 use Rattle.std.proofs.lemmas.List.{nil_from_length}
 use Rattle.cbor_head.specs.Prelude.{head, shortest, shortest_head, Bounds, Value, Spelling, SpelledEntries, no_entries, spell, strict, OfHead, Complains, refusal}
-use Rattle.cbor_head.specs.declared.limits.TheConstants.{MAX_DEPTH}
 use Rattle.cbor_head.specs.Complaint as complaint
-use Rattle.cbor_head.specs.declared.major.Major.{Major}
 use Rattle.cbor_head.specs.declared.major.Major.TheVariants as majors
-use Rattle.cbor_head.specs.declared.order.KeyOrder.{KeyOrder}
-use Rattle.cbor_head.specs.declared.reason.Reason.{Reason}
-use Rattle.cbor_head.specs.declared.reason.Reason.TheVariants.{Memory}
-use Rattle.cbor_head.specs.declared.reason.Refusal.{Refusal}
-use Rattle.cbor_head.specs.declared.width.Width.{Width}
 use Rattle.cbor_head.specs.declared.width.Width.TheVariants.{Direct, One, Two, Four, Eight, Indefinite}
-use Rattle.cbor_automaton.specs.Trace.{Mark, a_head}
-use Rattle.cbor_judging.specs.Place.{Container, at_item, close, payload, IsTaking}
-use Rattle.cbor_standing.specs.NextEvent.{ItemEventsView}
-use Rattle.cbor_automaton.specs.Marks.{mark_of}
-use Rattle.cbor_automaton.specs.declared.event.Event.{Event}
-use Rattle.cbor_automaton.specs.declared.event.EventKind.{EventKind}
-use Rattle.cbor_automaton.specs.declared.event.EventKind.TheVariants as kinds
+use Rattle.cbor_head.specs.declared.{limits.TheConstants.MAX_DEPTH, major.Major.Major, order.KeyOrder.KeyOrder, reason.Reason.Reason}
+use Rattle.cbor_head.specs.declared.{reason.Reason.TheVariants.Memory, reason.Refusal.Refusal, width.Width.Width}
 use Rattle.cbor_text.specs.TextCheck.{HasChecked}
-use Rattle.cbor_strict.specs.declared.last_keys.Due.TheVariants.{Member}
-use Rattle.cbor_strict.specs.declared.last_keys.LastKeys.{LastKeys}
-use Rattle.cbor_strict.specs.declared.open_items.OpenItems.{OpenItems}
+use Rattle.cbor_automaton.specs.declared.event.EventKind.TheVariants as kinds
+use Rattle.cbor_automaton.specs.{Trace.Mark, Trace.a_head, Marks.mark_of, declared.event.Event.Event, declared.event.EventKind.EventKind}
+use Rattle.cbor_standing.specs.NextEvent.{ItemEventsView}
+use Rattle.cbor_judging.specs.Place.{Container, at_item, close, payload, IsTaking}
 use Rattle.cbor_judging.specs.Frame.{Frame, a_key, before}
+use Rattle.cbor_judging.specs.Reading.{AreRefused, IsReached, IsUndecided, HasCause, OfMark, IsFault, IsBegun, ReadsItem, string_kind, string_major}
+use Rattle.cbor_judging.proofs.Items.{whole-cause, definite, proper-definite, never-open, head-count, cause-in, undecided-in, head-judged}
+use Rattle.cbor_judging.proofs.Steps.{head-size, fault_of, at-reached}
+use Rattle.cbor_judging.{specs.OpenMaps.AreOpen, specs.OpenMaps.AreOpenDistinct, specs.Judged.Never, proofs.Scalars.at-as, proofs.Undecided.mark-undecided}
+use Rattle.cbor_judging.proofs.WholeStrings.{string-head, string-due}
 use Rattle.cbor_strict.specs.inner.LastKeys.{seen, from_outside, due_of, IsKept}
 use Rattle.cbor_strict.specs.inner.OpenItems.{AreOpenClean, frames_in, bytes_before, Stands, HasEnded, HasHeadCome, HasBegunIn, IsLeaf, IsMap, IsOther, short_head}
-use Rattle.cbor_judging.specs.Reading.{AreRefused, IsReached, IsUndecided, HasCause, OfMark, IsFault, IsBegun, ReadsItem, string_kind, string_major}
-use Rattle.cbor_judging.specs.OpenMaps.{AreOpen, AreOpenDistinct}
-use Rattle.cbor_judging.proofs.Items.{whole-cause, definite, proper-definite, never-open, head-count, cause-in, undecided-in, head-judged}
-use Rattle.cbor_judging.specs.Judged.{Never}
-use Rattle.cbor_strict.proofs.KeptEnds.{kept_keys, kept_levels}
 use Rattle.cbor_strict.proofs.OpenBegins.{lift, no_break, no_openers, leaf_reads, HasOpened, other_opens, pairs_open}
-use Rattle.cbor_strict.proofs.OpenEnds.{frames_length, before_more}
-use Rattle.cbor_strict.proofs.OpenItems.{around_as}
-use Rattle.cbor_judging.proofs.Scalars.{at-as}
-use Rattle.cbor_judging.proofs.Steps.{head-size, fault_of, at-reached}
-use Rattle.cbor_judging.proofs.Undecided.{mark-undecided}
-use Rattle.cbor_judging.proofs.WholeStrings.{string-head, string-due}
+use Rattle.cbor_strict.specs.declared.{last_keys.Due.TheVariants.Member, last_keys.LastKeys.LastKeys, open_items.OpenItems.OpenItems}
+use Rattle.cbor_strict.proofs.{KeptEnds.kept_keys, KeptEnds.kept_levels, OpenEnds.frames_length, OpenEnds.before_more, OpenItems.around_as}
 
 -- ---- what is found of the item is found of the whole
 

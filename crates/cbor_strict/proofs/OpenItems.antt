@@ -2,28 +2,18 @@
 use Rattle.std.proofs.Common.{◌≡◌, ℕ, ◌+◌, ◌-◌, ◌≤◌, IsTrue, Option, List, [], ◌∷◌, ◌++◌, length, sym, ap, ◌∙◌, subst, inl, inr, arith, append-nil, length-append}
 use Rattle.std.proofs.lemmas.Bool.{cases_Bool}
 use Rattle.cbor_head.specs.Prelude.{Bounds, key_lt, Spelling, Spellings, SpelledEntries, no_spellings, a_spelling, no_entries, entry, spell, strict, Complains, refusal}
-use Rattle.cbor_head.specs.declared.limits.TheConstants.{MAX_DEPTH}
-use Rattle.cbor_head.specs.declared.order.KeyOrder.{KeyOrder}
-use Rattle.cbor_head.specs.declared.reason.Refusal.{Refusal}
 use Rattle.cbor_head.specs.declared.reason.Reason.TheVariants as reasons
-use Rattle.cbor_head.specs.declared.width.Width.{Width}
-use Rattle.cbor_judging.specs.Place.{close}
+use Rattle.cbor_head.specs.declared.{limits.TheConstants.MAX_DEPTH, order.KeyOrder.KeyOrder, reason.Refusal.Refusal, width.Width.Width}
 use Rattle.cbor_standing.specs.NextEvent.{ItemEventsView}
-use Rattle.cbor_strict.specs.declared.last_keys.Due.{Due}
-use Rattle.cbor_strict.specs.declared.last_keys.Due.TheVariants.{Member, Key, Content}
-use Rattle.cbor_strict.specs.declared.last_keys.LastKeys.{LastKeys}
-use Rattle.cbor_strict.specs.declared.open_items.OpenItems.{OpenItems}
 use Rattle.cbor_judging.specs.Frame.{Frame, a_member, a_key, a_content, with_all, with_entries, before}
-use Rattle.cbor_strict.specs.inner.LastKeys.{seen, from_outside, stands_in_key, kept_bytes, due_of, IsKept, AreDefinite, HasKeyEnded, still_open, ended_item}
-use Rattle.cbor_judging.specs.LastKey.{last_key}
-use Rattle.cbor_strict.specs.inner.OpenItems.{frames_in, bytes_before, AreOpenClean, Stands, HasEnded}
-use Rattle.cbor_judging.specs.Reading.{AreRefused, IsAt}
-use Rattle.cbor_judging.specs.OpenMaps.{AreOpen, AreOpenDistinct}
-use Rattle.cbor_judging.specs.Judged.{Never}
-use Rattle.cbor_strict.proofs.KeptKeys.{kept_if_in, kept_if_out}
-use Rattle.cbor_strict.proofs.KeptEnds.{kept_keys}
+use Rattle.cbor_judging.specs.{Place.close, LastKey.last_key, Reading.AreRefused, Reading.IsAt, OpenMaps.AreOpen, OpenMaps.AreOpenDistinct, Judged.Never}
 use Rattle.cbor_judging.proofs.OpenSteps.{member_before}
+use Rattle.cbor_strict.specs.declared.last_keys.Due.TheVariants.{Member, Key, Content}
+use Rattle.cbor_strict.specs.inner.LastKeys.{seen, from_outside, stands_in_key, kept_bytes, due_of, IsKept, AreDefinite, HasKeyEnded, still_open, ended_item}
+use Rattle.cbor_strict.specs.inner.OpenItems.{frames_in, bytes_before, AreOpenClean, Stands, HasEnded}
 use Rattle.cbor_strict.proofs.OpenEnds.{definite_of, outside_length, StaysOpen, none_open, member_open, key_open, content_open, stays_open, EndsClean, open_so, EndsIn, IsDueIn, ends_in, member_next, content_next, key_next, key_refused}
+use Rattle.cbor_strict.specs.declared.{last_keys.Due.Due, last_keys.LastKeys.LastKeys, open_items.OpenItems.OpenItems}
+use Rattle.cbor_strict.proofs.{KeptKeys.kept_if_in, KeptKeys.kept_if_out, KeptEnds.kept_keys}
 
 -- ---- behind what closed
 

@@ -2,26 +2,17 @@
 use Rattle.std.proofs.Common.{◌≡◌, ℕ, ◌+◌, ◌-◌, ◌<◌, ◌≤◌, Bool, true, false, Option, List, ◌++◌, length, refl, sym, ap, ◌∙◌, subst, inl, inr, arith, append_assoc, IsUtf8, length-append}
 use Rattle.std.specs.Str.Lossy.{utf8_valid_len}
 use Rattle.cbor_head.specs.Prelude.{Holds, head, Bounds, AreBytes, spell, strict, OfHead, Complains, refusal}
-use Rattle.cbor_head.specs.declared.order.KeyOrder.{KeyOrder}
-use Rattle.cbor_head.specs.declared.reason.Reason.TheVariants.{Memory, InvalidText}
-use Rattle.cbor_head.specs.declared.reason.Refusal.{Refusal}
-use Rattle.cbor_judging.specs.Place.{close, payload}
-use Rattle.cbor_standing.specs.NextEvent.{ItemEventsView}
-use Rattle.cbor_text.specs.TextCheck.{HasChecked}
-use Rattle.cbor_strict.specs.declared.last_keys.LastKeys.{LastKeys}
-use Rattle.cbor_strict.specs.declared.open_items.OpenItems.{OpenItems}
-use Rattle.cbor_judging.specs.Frame.{Frame}
-use Rattle.cbor_judging.specs.Judged.{Never}
-use Rattle.cbor_strict.specs.inner.LastKeys.{seen, IsKept}
-use Rattle.cbor_strict.specs.inner.OpenItems.{frames_in, bytes_before, Stands, HasEnded, HasPartCome}
-use Rattle.cbor_judging.specs.Reading.{AreRefused, IsAt, string_major}
+use Rattle.cbor_head.specs.declared.{order.KeyOrder.KeyOrder, reason.Reason.TheVariants.Memory, reason.Reason.TheVariants.InvalidText, reason.Refusal.Refusal}
 use Rattle.cbor_grammar.proofs.ByteLists.{bytes_join}
-use Rattle.cbor_strict.proofs.OpenHeads.{refused_part, memory_part}
-use Rattle.cbor_strict.proofs.OpenItems.{around_as}
-use Rattle.cbor_judging.proofs.Scalars.{at-as}
-use Rattle.cbor_judging.proofs.Steps.{at-reached}
-use Rattle.cbor_judging.proofs.Undecided.{is-part}
+use Rattle.cbor_text.specs.TextCheck.{HasChecked}
+use Rattle.cbor_standing.specs.NextEvent.{ItemEventsView}
+use Rattle.cbor_judging.specs.Reading.{AreRefused, IsAt, string_major}
 use Rattle.cbor_judging.proofs.WholeStrings.{StringHead, made_of, made-spells, made-spelled, made-flat, made-clean, string-undecided, text-judged}
+use Rattle.cbor_judging.{specs.Place.close, specs.Place.payload, specs.Frame.Frame, specs.Judged.Never, proofs.Scalars.at-as, proofs.Steps.at-reached}
+use Rattle.cbor_judging.proofs.Undecided.{is-part}
+use Rattle.cbor_strict.specs.inner.OpenItems.{frames_in, bytes_before, Stands, HasEnded, HasPartCome}
+use Rattle.cbor_strict.specs.{declared.last_keys.LastKeys.LastKeys, declared.open_items.OpenItems.OpenItems, inner.LastKeys.seen, inner.LastKeys.IsKept}
+use Rattle.cbor_strict.proofs.{OpenHeads.refused_part, OpenHeads.memory_part, OpenItems.around_as}
 
 module _ (v : OpenItems) (b : Bounds) (old : ItemEventsView) (t x : List ℕ) (e : ItemEventsView) (h : HasPartCome v b old t x e) where
   abbrev hd : List ℕ

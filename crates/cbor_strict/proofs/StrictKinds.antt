@@ -3,25 +3,19 @@ use Rattle.std.proofs.Common.{◌≡◌, ℕ, ◌+◌, ◌-◌, ◌<◌, ◌≤�
 use Rattle.cbor_head.specs.Prelude.{Holds, head, Bounds, AreBytes, HoldsOrIndefinite, Rules}
 use Rattle.cbor_head.specs.declared.major.Major.TheVariants as majors
 use Rattle.cbor_head.specs.declared.width.Width.{Width}
-use Rattle.cbor_grammar.proofs.ReadLaws.{length_head}
-use Rattle.cbor_automaton.specs.Trace.{Mark, a_break}
-use Rattle.cbor_automaton.specs.Marks.{mark_of, count_of}
-use Rattle.cbor_automaton.specs.declared.event.EventKind.{EventKind}
+use Rattle.cbor_grammar.proofs.{ReadLaws.length_head, ByteLists.bytes_join}
 use Rattle.cbor_automaton.specs.declared.event.EventKind.TheVariants as kinds
+use Rattle.cbor_automaton.specs.{Trace.Mark, Trace.a_break, Marks.mark_of, Marks.count_of, declared.event.EventKind.EventKind}
 use Rattle.cbor_events.specs.NextKey.{IsBasicKind}
-use Rattle.cbor_judging.specs.Frame.{Frame, a_key}
 use Rattle.cbor_judging.specs.Kinds.{AsksForKinds, KeepsToKinds, IsKeyDue, IsKeyFrame, HasBasicFront, IsOfOneHead}
-use Rattle.cbor_judging.specs.OpenMaps.{before_all, ArePath}
 use Rattle.cbor_judging.specs.Place.{Container, Place, at_item, IsTaking}
-use Rattle.cbor_judging.specs.Reading.{string_major}
-use Rattle.cbor_grammar.proofs.ByteLists.{bytes_join}
 use Rattle.cbor_judging.proofs.Heads.{open_or, zero_bytes, zero_length}
 use Rattle.cbor_judging.proofs.KindBytes.{basic_mark, kinds_behind, Begins, mark_begins, string_is_one, keeps_due}
 use Rattle.cbor_judging.proofs.KindFrames.{due_last, IsAround, around_frames, keeps_more}
 use Rattle.cbor_judging.proofs.WholeStrings.{made_of, made-spells, made-spelled, made-flat}
-use Rattle.cbor_strict.specs.declared.last_keys.Due.{Due}
-use Rattle.cbor_strict.specs.declared.last_keys.Due.TheVariants.{Member, Key}
+use Rattle.cbor_judging.specs.{Frame.Frame, Frame.a_key, OpenMaps.before_all, OpenMaps.ArePath, Reading.string_major}
 use Rattle.cbor_strict.specs.inner.LastKeys.{KeysView, IsKept, from_outside, due_of}
+use Rattle.cbor_strict.specs.declared.last_keys.Due.{Due, TheVariants.Member, TheVariants.Key}
 
 -- ---- a key is due in the innermost container
 

@@ -1,28 +1,17 @@
 -- The strict reader's events, one after another, until the item is complete or refused.
 use Rattle.std.proofs.Common.{◌≡◌, ℕ, ◌+◌, ◌-◌, ◌<◌, ◌≤◌, Option, Some, None, List, [], ◌++◌, length, refl, sym, ap, ◌∙◌, subst, arith, append-nil, take, length-append}
-use Rattle.std.specs.Option.{IfSome}
-use Rattle.std.proofs.Math.Seq.{take-append-add}
-use Rattle.std.specs.Io.KnownBytes.{Consumes}
+use Rattle.std.{specs.Option.IfSome, proofs.Math.Seq.take-append-add, specs.Io.KnownBytes.Consumes}
 use Rattle.std.proofs.KnownBytes.{Consumes-nil, Consumes-trans}
 use Rattle.cbor_head.specs.Prelude.{Bounds, AreBounds, Spelling, IsItem, spell, strict, Complaint, IsComplaint}
-use Rattle.cbor_head.specs.declared.order.KeyOrder.{KeyOrder}
-use Rattle.cbor_head.specs.declared.reason.Refusal.{Refusal}
+use Rattle.cbor_head.specs.declared.{order.KeyOrder.KeyOrder, reason.Refusal.Refusal}
 use Rattle.cbor_grammar.proofs.Accepted.{accepts_exactly}
 use Rattle.cbor_automaton.specs.declared.event.Event.{Event}
-use Rattle.cbor_standing.specs.Machine.{KeepsLimits}
-use Rattle.cbor_standing.specs.NextEvent.{ItemEventsView, StandsBetween}
-use Rattle.cbor_judging.specs.Kinds.{KeepsToKinds}
-use Rattle.cbor_judging.specs.Readers.{IsRead}
-use Rattle.cbor_judging.specs.Reading.{IsFrontUnread}
-use Rattle.cbor_judging.proofs.Decisions.{whole_beside}
-use Rattle.cbor_judging.proofs.KindFrames.{keeps_start}
-use Rattle.cbor_judging.proofs.RefusedBehind.{stopped_from, stopped_front}
-use Rattle.cbor_judging.proofs.Tops.{loses}
+use Rattle.cbor_standing.specs.{Machine.KeepsLimits, NextEvent.ItemEventsView, NextEvent.StandsBetween}
+use Rattle.cbor_judging.{specs.Kinds.KeepsToKinds, specs.Readers.IsRead, specs.Reading.IsFrontUnread, proofs.Decisions.whole_beside}
+use Rattle.cbor_judging.proofs.{KindFrames.keeps_start, RefusedBehind.stopped_from, RefusedBehind.stopped_front, Tops.loses}
 use Rattle.cbor_judging.specs.RefusedBehind.{IsRefusedBehind}
-use Rattle.cbor_strict.specs.declared.open_items.OpenItems.{OpenItems}
-use Rattle.cbor_strict.specs.inner.LastKeys.{seen, IsKept}
-use Rattle.cbor_strict.specs.inner.OpenItems.{Stands}
 use Rattle.cbor_strict.specs.inner.StrictEvents.{GoesOn, HasCome, IsStrictlyRead}
+use Rattle.cbor_strict.specs.{declared.open_items.OpenItems.OpenItems, inner.LastKeys.seen, inner.LastKeys.IsKept, inner.OpenItems.Stands}
 use Rattle.cbor_strict.proofs.StrictReading.{stands_first}
 
 -- what was read is known, and has no complaint

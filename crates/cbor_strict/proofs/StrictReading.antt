@@ -1,39 +1,21 @@
 -- What the strict reader's state says of the bytes behind it.
 use Rattle.std.proofs.Common.{◌≡◌, ℕ, ◌-◌, ◌≤◌, ◌⊎◌, Option, Some, None, List, [], ◌++◌, length, refl, sym, ap, ◌∙◌, subst, inl, inr, arith, append-nil, Ok, Err}
 use Rattle.cbor_head.specs.Prelude.{head, Bounds, AreBounds, bounds, with_keys, Spelling, IsItem, Rules, strict, Complains, HasNoneOf}
-use Rattle.cbor_head.specs.Laws.{StartsWith}
-use Rattle.cbor_head.specs.declared.keys.Keys.{Keys}
-use Rattle.cbor_head.specs.declared.order.KeyOrder.{KeyOrder}
-use Rattle.cbor_head.specs.declared.reason.Refusal.{Refusal}
-use Rattle.cbor_grammar.proofs.Agree.{same_complaints}
-use Rattle.cbor_automaton.specs.Trace.{Mark}
-use Rattle.cbor_automaton.specs.Bytes.{IsBytesOf, last_type}
-use Rattle.cbor_standing.specs.MachineView.{MachineView}
-use Rattle.cbor_automaton.specs.Marks.{marks_of}
-use Rattle.cbor_standing.specs.Machine.{KeepsLimits}
-use Rattle.cbor_standing.specs.NextEvent.{ItemEventsView, StandsBetween, Call, call, machine_call, IsCut, IsTooLong, HasFormError, IsNextEvent, IsKept as IsPieceKept}
-use Rattle.cbor_automaton.specs.declared.event.Event.{Event}
-use Rattle.cbor_automaton.specs.declared.event.EventKind.{EventKind}
-use Rattle.cbor_automaton.specs.declared.event.EventKind.TheVariants.{Piece}
-use Rattle.cbor_strict.specs.declared.open_items.OpenItems.{OpenItems}
+use Rattle.cbor_head.specs.{Laws.StartsWith, declared.keys.Keys.Keys, declared.order.KeyOrder.KeyOrder, declared.reason.Refusal.Refusal}
 use Rattle.cbor_head.specs.declared.reason.Reason.{Reason}
-use Rattle.cbor_judging.specs.Refusals.{IsReaderReason}
-use Rattle.cbor_judging.specs.Judged.{IsJudged}
+use Rattle.cbor_grammar.proofs.Agree.{same_complaints}
+use Rattle.cbor_automaton.specs.{Trace.Mark, Bytes.IsBytesOf, Bytes.last_type, Marks.marks_of, declared.event.Event.Event, declared.event.EventKind.EventKind}
+use Rattle.cbor_automaton.specs.declared.event.EventKind.TheVariants.{Piece}
+use Rattle.cbor_standing.specs.NextEvent.{ItemEventsView, StandsBetween, Call, call, machine_call, IsCut, IsTooLong, HasFormError, IsNextEvent, IsKept as IsPieceKept}
+use Rattle.cbor_standing.specs.{MachineView.MachineView, Machine.KeepsLimits}
+use Rattle.cbor_judging.{specs.Refusals.IsReaderReason, specs.Judged.IsJudged, specs.Reading.string_major, proofs.Tops.starts-at, proofs.KindFrames.keeps_start}
+use Rattle.cbor_judging.{proofs.Decisions.none_beside, specs.Kinds.KeepsToKinds, proofs.Judged.judged_start, proofs.CutHeads.string_cut}
+use Rattle.cbor_judging.proofs.{OpenSteps.none_open, Steps.same-marks}
 use Rattle.cbor_strict.specs.inner.OpenItems.{frames_in, bytes_before, Stands}
-use Rattle.cbor_judging.specs.Reading.{string_major}
 use Rattle.cbor_strict.specs.StrictReader.{StrictEventsView, StandsStrictly, IsNextStrict, IsStrictRefusal, IsAgainstEvent, StopsAtOnce, strict_call}
-use Rattle.cbor_strict.specs.inner.LastKeys.{seen, IsKept}
 use Rattle.cbor_strict.specs.inner.StrictEvents.{StandsSomewhere, IsStep, AnswersStep, IsLittle, bounds_of, piece_unless}
-use Rattle.cbor_strict.proofs.KeptReading.{stands_counted, stands_little}
-use Rattle.cbor_judging.proofs.Tops.{starts-at}
-use Rattle.cbor_judging.proofs.KindFrames.{keeps_start}
-use Rattle.cbor_judging.proofs.Decisions.{none_beside}
-use Rattle.cbor_judging.specs.Kinds.{KeepsToKinds}
-use Rattle.cbor_judging.proofs.Judged.{judged_start}
-use Rattle.cbor_strict.proofs.OpenBegins.{lift}
-use Rattle.cbor_judging.proofs.CutHeads.{string_cut}
-use Rattle.cbor_judging.proofs.OpenSteps.{none_open}
-use Rattle.cbor_judging.proofs.Steps.{same-marks}
+use Rattle.cbor_strict.specs.{declared.open_items.OpenItems.OpenItems, inner.LastKeys.seen, inner.LastKeys.IsKept}
+use Rattle.cbor_strict.proofs.{KeptReading.stands_counted, KeptReading.stands_little, OpenBegins.lift}
 
 -- ---- nothing has a complaint
 

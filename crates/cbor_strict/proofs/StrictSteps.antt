@@ -2,29 +2,22 @@
 use Rattle.std.proofs.Common.{◌≡◌, ℕ, zero, suc, ◌<◌, Bool, true, false, true≢false, Option, Some, None, List, [], ◌++◌, length, refl, sym, ap, ◌∙◌, subst, inl, inr, arith, append_assoc, length-append, Ok}
 use Rattle.cbor_head.specs.Prelude.{head, Bounds, AreBytes, strict}
 use Rattle.cbor_head.specs.declared.major.Major.{Major}
-use Rattle.cbor_judging.specs.Place.{Container, Place, at_item, payload, done, IsTaking}
-use Rattle.cbor_automaton.specs.Trace.{Mark, a_break}
-use Rattle.cbor_standing.specs.Machine.{IsComplete}
-use Rattle.cbor_automaton.specs.Marks.{marks_of, mark_of}
-use Rattle.cbor_standing.specs.NextEvent.{ItemEventsView, StandsBetween, IsNextEvent, IsEnd, Call, call, IsKept as IsPieceKept}
-use Rattle.cbor_automaton.specs.declared.event.Event.{Event}
-use Rattle.cbor_automaton.specs.declared.event.EventKind.{EventKind}
-use Rattle.cbor_automaton.specs.declared.event.EventKind.TheVariants as kinds
-use Rattle.cbor_strict.specs.declared.open_items.OpenItems.{OpenItems}
-use Rattle.cbor_strict.specs.inner.OpenItems.{frames_in, bytes_before, Stands, HasHeadCome, HasPartCome}
-use Rattle.cbor_judging.specs.Reading.{IsAt, string_major}
-use Rattle.cbor_strict.specs.inner.StrictEvents.{HasCome, IsNextOf}
-use Rattle.cbor_strict.specs.inner.LastKeys.{from_outside}
-use Rattle.cbor_strict.proofs.OpenBegins.{no_break, room_left}
-use Rattle.cbor_strict.proofs.StrictKinds.{basic_kind, keeps_mark, keeps_string}
-use Rattle.cbor_events.specs.NextKey.{IsBasicKind}
-use Rattle.cbor_judging.specs.Kinds.{AsksForKinds, KeepsToKinds, IsKeyDue}
-use Rattle.cbor_judging.proofs.Items.{taking-some}
 use Rattle.cbor_grammar.proofs.ByteLists.{bytes_join}
+use Rattle.cbor_automaton.specs.declared.event.EventKind.TheVariants as kinds
+use Rattle.cbor_automaton.specs.{Trace.Mark, Trace.a_break, Marks.marks_of, Marks.mark_of, declared.event.Event.Event, declared.event.EventKind.EventKind}
+use Rattle.cbor_standing.specs.NextEvent.{ItemEventsView, StandsBetween, IsNextEvent, IsEnd, Call, call, IsKept as IsPieceKept}
+use Rattle.cbor_standing.specs.Machine.{IsComplete}
+use Rattle.cbor_events.specs.NextKey.{IsBasicKind}
+use Rattle.cbor_judging.specs.Place.{Container, Place, at_item, payload, done, IsTaking}
+use Rattle.cbor_judging.specs.Kinds.{AsksForKinds, KeepsToKinds, IsKeyDue}
 use Rattle.cbor_judging.proofs.Payloads.{IsPiece, IsPayload, none-come, part-fits, part-comes, piece-due}
-use Rattle.cbor_judging.proofs.Scalars.{at-as}
 use Rattle.cbor_judging.proofs.Steps.{SameLimits, next-at, head-taken, same-place}
+use Rattle.cbor_judging.{specs.Reading.IsAt, specs.Reading.string_major, proofs.Items.taking-some, proofs.Scalars.at-as}
 use Rattle.cbor_judging.proofs.Standing.{is-complete, is-done}
+use Rattle.cbor_strict.specs.inner.OpenItems.{frames_in, bytes_before, Stands, HasHeadCome, HasPartCome}
+use Rattle.cbor_strict.proofs.StrictKinds.{basic_kind, keeps_mark, keeps_string}
+use Rattle.cbor_strict.specs.{declared.open_items.OpenItems.OpenItems, inner.StrictEvents.HasCome, inner.StrictEvents.IsNextOf, inner.LastKeys.from_outside}
+use Rattle.cbor_strict.proofs.OpenBegins.{no_break, room_left}
 
 -- ---- what an event can be
 

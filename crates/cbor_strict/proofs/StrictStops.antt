@@ -1,39 +1,22 @@
 -- Why no more is told: the refusal is that of what was taken, and of what the reader held behind it.
 use Rattle.std.proofs.Common.{◌≡◌, ℕ, ◌-◌, ◌<◌, ◌≤◌, ◌⊎◌, ◌↔◌, Bool, true, false, true≢false, Option, None, List, [], ◌++◌, length, refl, sym, ap, ◌∙◌, subst, inl, inr, arith, append_assoc, Err, length-append}
 use Rattle.cbor_head.specs.Prelude.{head, Bounds, MayFollow, spell, strict}
-use Rattle.cbor_head.specs.declared.order.KeyOrder.{KeyOrder}
-use Rattle.cbor_head.specs.declared.reason.Reason.TheVariants.{Memory, KeyKind}
-use Rattle.cbor_head.specs.declared.reason.Refusal.{Refusal}
-use Rattle.cbor_automaton.specs.Reasons.{IsEventReason}
-use Rattle.cbor_automaton.specs.Trace.{Mark}
-use Rattle.cbor_standing.specs.Machine.{IsComplete}
-use Rattle.cbor_standing.specs.NextEvent.{ItemEventsView, StandsBetween, IsNext, call}
-use Rattle.cbor_events.specs.NextKey.{IsBehindBasic, IsOtherKey, IsKeyReason}
-use Rattle.cbor_standing.proofs.Positions.{no-payload}
-use Rattle.cbor_judging.specs.Frame.{Frame}
-use Rattle.cbor_judging.specs.Judged.{IsJudged}
-use Rattle.cbor_judging.specs.Kinds.{AsksForKinds, KeepsToKinds, IsKeyDue}
-use Rattle.cbor_judging.specs.OpenMaps.{AreOpen}
-use Rattle.cbor_judging.specs.Place.{at_item}
-use Rattle.cbor_judging.specs.Reading.{HasCause, string_major}
+use Rattle.cbor_head.specs.declared.{order.KeyOrder.KeyOrder, reason.Reason.TheVariants.Memory, reason.Reason.TheVariants.KeyKind, reason.Refusal.Refusal}
+use Rattle.cbor_head.specs.declared.keys.Keys.{Keys, TheVariants.IntegersAndTexts}
 use Rattle.cbor_grammar.proofs.ByteLists.{bytes_join}
-use Rattle.cbor_judging.proofs.KindFrames.{IsAround, around_frames}
-use Rattle.cbor_judging.proofs.Payloads.{none-come, part-cut}
-use Rattle.cbor_judging.proofs.Standing.{is-complete}
-use Rattle.cbor_judging.proofs.Steps.{SameLimits, stops}
+use Rattle.cbor_automaton.specs.{Reasons.IsEventReason, Trace.Mark}
+use Rattle.cbor_standing.specs.NextEvent.{ItemEventsView, StandsBetween, IsNext, call}
+use Rattle.cbor_standing.{specs.Machine.IsComplete, proofs.Positions.no-payload}
+use Rattle.cbor_events.specs.NextKey.{IsBehindBasic, IsOtherKey, IsKeyReason}
+use Rattle.cbor_judging.specs.Kinds.{AsksForKinds, KeepsToKinds, IsKeyDue}
 use Rattle.cbor_judging.proofs.RefusedBehind.{basic_first, stopped_by, stopped_within, stopped_other}
-use Rattle.cbor_judging.specs.RefusedBehind.{IsRefusedBehind}
-use Rattle.cbor_strict.specs.declared.open_items.OpenItems.{OpenItems}
-use Rattle.cbor_strict.specs.StrictReader.{StopsAtOnce}
+use Rattle.cbor_judging.specs.{Frame.Frame, Judged.IsJudged, OpenMaps.AreOpen, Place.at_item, Reading.HasCause, Reading.string_major}
+use Rattle.cbor_judging.proofs.{KindFrames.IsAround, KindFrames.around_frames, Payloads.none-come, Payloads.part-cut, Standing.is-complete}
+use Rattle.cbor_judging.{proofs.Steps.SameLimits, proofs.Steps.stops, specs.RefusedBehind.IsRefusedBehind, proofs.CutHeads.string_cut}
 use Rattle.cbor_strict.specs.inner.LastKeys.{seen, from_outside, IsKept}
-use Rattle.cbor_strict.proofs.StrictReading.{by_form}
-use Rattle.cbor_head.specs.declared.keys.Keys.{Keys}
-use Rattle.cbor_head.specs.declared.keys.Keys.TheVariants.{IntegersAndTexts}
 use Rattle.cbor_strict.specs.inner.OpenItems.{frames_in, bytes_before, Stands, IsItemDue, IsInString}
-use Rattle.cbor_strict.specs.inner.StrictEvents.{IsNextOf}
-use Rattle.cbor_strict.proofs.OpenBegins.{room_left, lift}
-use Rattle.cbor_judging.proofs.CutHeads.{string_cut}
-use Rattle.cbor_strict.proofs.StrictKinds.{keeps_string}
+use Rattle.cbor_strict.{specs.declared.open_items.OpenItems.OpenItems, specs.StrictReader.StopsAtOnce, proofs.StrictReading.by_form}
+use Rattle.cbor_strict.{specs.inner.StrictEvents.IsNextOf, proofs.OpenBegins.room_left, proofs.OpenBegins.lift, proofs.StrictKinds.keeps_string}
 
 -- ---- within a head
 

@@ -2,27 +2,15 @@
 use Rattle.std.specs.Prelude.{◌≡◌, ℕ, ◌≤◌, ◌⊎◌, ◌++◌, List, length, Option, Some, None, Result, Ok, Err, IfSome}
 use Rattle.std.specs.Io.KnownBytes.{Consumes}
 use Rattle.cbor_head.specs.Prelude.{Bounds, bounds, with_keys, Spelling, strict}
-use Rattle.cbor_head.specs.Laws.{StartsWith, IsWithout}
-use Rattle.cbor_head.specs.declared.keys.Keys.{Keys}
-use Rattle.cbor_head.specs.declared.order.KeyOrder.{KeyOrder}
-use Rattle.cbor_head.specs.declared.reason.Reason.{Reason}
-use Rattle.cbor_head.specs.declared.reason.Reason.TheVariants.{Memory}
-use Rattle.cbor_head.specs.declared.reason.Refusal.{Refusal}
-use Rattle.cbor_head.specs.declared.width.Width.{Width}
-use Rattle.cbor_automaton.specs.Bytes.{IsEventBytes}
-use Rattle.cbor_automaton.specs.Trace.{Mark}
-use Rattle.cbor_automaton.specs.Marks.{marks_of}
-use Rattle.cbor_standing.specs.MachineView.{MachineView}
-use Rattle.cbor_standing.specs.Machine.{IsComplete}
-use Rattle.cbor_standing.specs.NextEvent.{StandsBetween, Call, machine_call, IsNextEvent, IsEnd, IsCut, IsTooLong, HasFormError}
-use Rattle.cbor_automaton.specs.declared.event.Event.{Event}
-use Rattle.cbor_automaton.specs.declared.event.EventKind.{EventKind}
+use Rattle.cbor_head.specs.{Laws.StartsWith, Laws.IsWithout, declared.keys.Keys.Keys, declared.order.KeyOrder.KeyOrder, declared.reason.Reason.Reason}
+use Rattle.cbor_head.specs.declared.{reason.Reason.TheVariants.Memory, reason.Refusal.Refusal, width.Width.Width}
+use Rattle.cbor_automaton.specs.{Bytes.IsEventBytes, Trace.Mark, Marks.marks_of, declared.event.Event.Event, declared.event.EventKind.EventKind}
 use Rattle.cbor_automaton.specs.declared.event.EventKind.TheVariants.{Piece}
+use Rattle.cbor_standing.specs.NextEvent.{StandsBetween, Call, machine_call, IsNextEvent, IsEnd, IsCut, IsTooLong, HasFormError}
+use Rattle.cbor_standing.specs.{MachineView.MachineView, Machine.IsComplete}
 use Rattle.cbor_events.specs.NextKey.{IsOtherKey}
-use Rattle.cbor_strict.specs.KeptKeys.{open_maps, key_bytes}
-use Rattle.cbor_judging.specs.Readers.{IsUnread}
-use Rattle.cbor_judging.specs.Refusals.{IsComplaintReason}
-use Rattle.cbor_strict.specs.inner.StrictEvents.{Inner, IsInner}
+use Rattle.cbor_judging.specs.{Readers.IsUnread, Refusals.IsComplaintReason}
+use Rattle.cbor_strict.specs.{KeptKeys.open_maps, KeptKeys.key_bytes, inner.StrictEvents.Inner, inner.StrictEvents.IsInner}
 
 -- what contracts see of the events of an item by the strict rules: how far the form was read, the bytes of the last piece, what
 -- is kept, and why no more is read

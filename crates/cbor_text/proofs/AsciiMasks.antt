@@ -1,8 +1,6 @@
 -- The low bits of a mask of bytes that are not ASCII.
 use Rattle.std.proofs.Common.{◌≡◌, ℕ, zero, suc, ◌+◌, ◌-◌, ◌*◌, ◌/◌, ◌%◌, ◌^◌, ◌<◌, ◌≤◌, Bool, true, false, cond, leb, List, [], ◌∷◌, map, length, take, get_or, replicate, eqb, eqb-true, refl, sym, ap, ◌∙◌, subst, arith, leb-false, mul_assoc, mul-div_cancel, pow-suc, leb-true, pow-add, take-take}
-use Rattle.std.proofs.lemmas.List.{length-map}
-use Rattle.std.specs.Str.{IsAscii}
-use Rattle.std.proofs.lemmas.Simd.{mask_l-mod, length-zip2}
+use Rattle.std.{proofs.lemmas.List.length-map, specs.Str.IsAscii, proofs.lemmas.Simd.mask_l-mod, proofs.lemmas.Simd.length-zip2}
 use lib.Lanes.{zip2, mask_l, top}
 
 abbrev pub at_least : ℕ → ℕ → ℕ

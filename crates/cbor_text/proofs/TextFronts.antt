@@ -1,14 +1,10 @@
 -- The longest front that is text, of bytes that come in pieces.
 use Rattle.std.proofs.Common.{◌≡◌, ℕ, ◌+◌, ◌-◌, ◌<◌, ◌≤◌, ⊎_elim, true, ◌&&◌, List, [], ◌∷◌, ◌++◌, length, take, drop, refl, sym, ap, subst, ◌∙◌, arith, append-nil, append_assoc, length-append, length-take, length-drop, take-append-drop, take_all, Some, None, take-take, take-add}
-use Rattle.std.proofs.lemmas.Bool.{cases_lt, and_parts}
-use Rattle.std.proofs.lemmas.Bool.Decides.{nat_tests}
-use Rattle.std.specs.Str.{IsUtf8, IsValidUpTo}
-use Rattle.std.specs.Str.Lossy.{utf8_valid_len, utf8_error_len}
 use Rattle.std.proofs.lemmas.Str.{IsUtf8-append, IsUtf8-nil, length-encode, len_utf8_bounds, utf8_valid_len-IsValidUpTo}
+use Rattle.std.{proofs.lemmas.Bool.cases_lt, proofs.lemmas.Bool.and_parts, proofs.lemmas.Bool.Decides.nat_tests, specs.Str.IsUtf8, specs.Str.IsValidUpTo}
+use Rattle.std.{specs.Str.Lossy.utf8_valid_len, specs.Str.Lossy.utf8_error_len, proofs.lemmas.List.take_rest}
 use Rattle.simdutf8.specs.Steps.{first, second, later}
-use Rattle.simdutf8.proofs.Chars.{StepsThen-IsUtf8, most_is}
-use Rattle.simdutf8.proofs.Parts.{valid_after}
-use Rattle.std.proofs.lemmas.List.{take_rest}
+use Rattle.simdutf8.proofs.{Chars.StepsThen-IsUtf8, Chars.most_is, Parts.valid_after}
 use lib.Utf8.{encode, encodes, scalars}
 use lib.Seq.{take-append-le, take-append-add, take-append_seam, drop-append_seam}
 use Rattle.cbor_text.specs.inner.TextCheck.{IsUnfinished, IsFixed, IsOpen}

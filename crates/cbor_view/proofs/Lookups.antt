@@ -3,11 +3,8 @@ use Rattle.std.proofs.Common.{◌≡◌, ℕ, zero, suc, ◌+◌, ◌<◌, ◌�
 use Rattle.std.proofs.lemmas.List.{drop_all, drop_more}
 use Rattle.cbor_head.specs.Value as value
 use Rattle.cbor_head.specs.Prelude.{Value, HasEntry, Same, map}
-use Rattle.cbor_view.specs.Kinds.{integer}
-use Rattle.cbor_item.specs.View.{values_of}
-use Rattle.cbor_view.specs.Lookup.{HasValueAt, member_at}
-use Rattle.cbor_view.specs.Seen.{seen, seen_all}
-use Rattle.cbor_view.specs.declared.view.View.{View}
+use Rattle.cbor_canonical.specs.Lists.{values_of}
+use Rattle.cbor_view.specs.{Kinds.integer, Lookup.HasValueAt, Lookup.member_at, Seen.seen, Seen.seen_all, declared.view.View.View}
 use Rattle.cbor_view.specs.inner.Pairs.{Pair, entries}
 
 -- what these pairs have at the key, the others have

@@ -1,14 +1,12 @@
 -- Pairs of views, one after the other.
 use Rattle.std.proofs.Common.{◌≡◌, ℕ, zero, suc, ◌+◌, ◌≤◌, List, [], ◌∷◌, length, drop, slice_get, Some, ◌↔◌, inl, inr, sym, ap, ◌∙◌, subst, get_or, Bool, IsTrue}
-use Rattle.std.proofs.lemmas.List.{drop_all, drop_more}
-use Rattle.std.proofs.lemmas.Option.{get_or_from_slice_get, slice_get_within}
+use Rattle.std.proofs.lemmas.{List.drop_all, List.drop_more, Option.get_or_from_slice_get, Option.slice_get_within}
 use Rattle.cbor_head.specs.Prelude.{Same, Covered, IsValid}
-use Rattle.cbor_head.specs.Value.{entries_count}
 use Rattle.cbor_head.specs.Value as value
+use Rattle.cbor_canonical.proofs.Lists.{entries_counted, covered_fail}
 use Rattle.cbor_item.proofs.Counting.{same_by_count}
-use Rattle.cbor_item.proofs.Steps.{entries_counted, covered_fail}
-use Rattle.cbor_view.specs.Seen.{seen}
 use Rattle.cbor_view.specs.inner.Pairs.{Pair, entries, IsSamePair, IsMet}
+use Rattle.cbor_view.specs.Seen.{seen}
 
 -- the pair at an index
 pub at_read : (xs : List Pair) (i : ℕ) (x : Pair) → slice_get xs i ≡ Some x → drop i xs ≡ x ∷ drop (i + 1) xs

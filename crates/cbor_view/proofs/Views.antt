@@ -1,14 +1,12 @@
 -- A view's value, a level at a time.
 use Rattle.std.proofs.Common.{◌≡◌, ℕ, List, map, drop, Option, Some, None, Bor, ap, sym, subst, ◌∙◌, rules}
 use Rattle.cbor_head.specs.Value as value
+use Rattle.cbor_canonical.specs.Lists.{values_of, entries_of}
 use Rattle.cbor_item.specs.OpenValues.{closed, CanEnd}
-use Rattle.cbor_item.specs.View.{values_of, entries_of}
-use Rattle.cbor_view.specs.Seen.{seen, open_value}
-use Rattle.cbor_view.specs.inner.Levels.{open_view}
-use Rattle.cbor_view.specs.declared.level.Level.{Level}
 use Rattle.cbor_view.specs.declared.level.Level.TheVariants as levels
-use Rattle.cbor_view.specs.declared.view.View.{View, the_lemmas}
 use Rattle.cbor_view.specs.declared.view.View.TheViews.{Array, Map, Tag}
+use Rattle.cbor_view.specs.{Seen.seen, Seen.open_value, inner.Levels.open_view, declared.level.Level.Level}
+use Rattle.cbor_view.specs.declared.view.View.{View, the_lemmas}
 
 pub seen-Array : (r : Bor (List View)) → seen (Array r) ≡ value.array (values_of (map seen r.now))
 seen-Array r = search (rules, the_lemmas)

@@ -1,19 +1,15 @@
 -- A walk over a view, a step at a time.
 use Rattle.std.proofs.Common.{◌≡◌, ℕ, List, [], ◌∷◌, ◌++◌, map, Bor, append_assoc, append-nil, refl, sym, ap, ◌∙◌, subst, Some, None, reverse}
-use Rattle.std.specs.List.{AllByRecursion}
-use Rattle.std.proofs.lemmas.List.{reverse-append}
+use Rattle.std.{specs.List.AllByRecursion, proofs.lemmas.List.reverse-append}
 use Rattle.cbor_head.specs.declared.major.Major.TheVariants as Major
 use Rattle.cbor_head.specs.Prelude.{Value, IsInRange, AreInRange, AreEntriesInRange}
+use Rattle.cbor_canonical.specs.Lists.{values_of}
 use Rattle.cbor_item.specs.OpenValues.{OpenValue, ValuePart, leaf, begin, end, after, give, opened, parts_of, parts_of_entries, Makes, the_whole}
-use Rattle.cbor_item.specs.View.{values_of}
-use Rattle.cbor_view.specs.Seen.{seen}
 use Rattle.cbor_view.specs.inner.Walk.{flat, left, left_of_all, parts_in, parts_behind, parts_left, IsBegun}
-use Rattle.cbor_view.specs.inner.Pairs.{Pair, entries}
-use Rattle.cbor_view.specs.declared.rest.Rest.{Rest}
-use Rattle.cbor_view.specs.declared.rest.Rest.TheVariants.{Members, Pairs}
-use Rattle.cbor_view.specs.declared.view.View.{View}
 use Rattle.cbor_view.specs.declared.view.View.TheViews.{Array, Map, Tag}
 use Rattle.cbor_view.proofs.Views.{seen-Array, seen-Map, seen-Tag}
+use Rattle.cbor_view.specs.{Seen.seen, inner.Pairs.Pair, inner.Pairs.entries, declared.rest.Rest.Rest}
+use Rattle.cbor_view.specs.declared.{rest.Rest.TheVariants.Members, rest.Rest.TheVariants.Pairs, view.View.View}
 
 -- what is to come may follow where these are open, and makes w
 pub record Walks (w : Value) (vss : List (List Value)) (os : List OpenValue) : Type 0 where

@@ -1,7 +1,7 @@
 -- The values of some kinds of items.
 use Rattle.std.specs.Prelude.{Bool, true, false, ℤ, pos, negsuc}
-use Rattle.cbor_head.specs.Prelude.{Value}
 use Rattle.cbor_head.specs.Value.{simple, unsigned, negative}
+use Rattle.cbor_head.specs.Prelude.{Value}
 
 -- `false` and `true` (RFC 8949, section 3.3)
 abbrev pub boolean : Bool → Value

@@ -2,11 +2,9 @@
 use Rattle.std.specs.Prelude.{List, map}
 use Rattle.cbor_head.specs.Value as value
 use Rattle.cbor_head.specs.Prelude.{Value}
-use Rattle.cbor_item.specs.View.{values_of, entries_of}
+use Rattle.cbor_canonical.specs.Lists.{values_of, entries_of}
 use Rattle.cbor_item.specs.OpenValues.{Open, OpenValue, the_whole, an_array, a_map, a_key, a_tag}
-use Rattle.cbor_view.specs.declared.view.View.{View}
-use Rattle.cbor_view.specs.declared.view.View.TheOpen.{View-F}
-use Rattle.cbor_view.specs.declared.view.View.TheFolds.{fold-View}
+use Rattle.cbor_view.specs.declared.view.View.{View, TheOpen.View-F, TheFolds.fold-View}
 
 -- one level, with each view inside already seen as its value
 abbrev pub seen_step : View-F Value → Value

@@ -4,7 +4,7 @@ ghost use Rattle.std.specs.Prelude.{◌≡◌, ◌≢◌, ◌↔◌, ◌≤ℤ�
 ghost use Rattle.std.specs.Prelude.{MatchOption};
 ghost use Rattle.cbor_head.specs.Value.{Value, Values, Entries, unsigned, negative, bytes, text};
 ghost use Rattle.cbor_head.specs.Value.{array, map, tag, simple};
-ghost use Rattle.cbor_item.specs.View.{values_of, entries_of};
+ghost use Rattle.cbor_canonical.specs.Lists.{values_of, entries_of};
 ghost use Rattle.cbor_view.specs.Kinds.{boolean, integer};
 ghost use Rattle.cbor_view.specs.Seen.{seen, seen_all, seen_pairs};
 

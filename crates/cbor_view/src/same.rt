@@ -3,7 +3,7 @@
 ghost use Rattle.std.specs.Prelude.{◌≡◌, ◌<◌, ◌↔◌, IsTrue, Some, slice_get, length};
 ghost use Rattle.cbor_head.specs.Value.{Same, SameValues, IsValid, AreValid, map};
 ghost use Rattle.cbor_head.specs.Value.{AreEntriesValid};
-ghost use Rattle.cbor_item.specs.View.{values_of};
+ghost use Rattle.cbor_canonical.specs.Lists.{values_of};
 ghost use Rattle.cbor_view.specs.Seen.{seen, seen_all};
 ghost use Rattle.cbor_view.specs.inner.Pairs.{Pair, entries, IsSamePair, IsMet};
 

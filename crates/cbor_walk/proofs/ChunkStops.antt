@@ -1,18 +1,12 @@
 -- What a walk finds at fault with a chunk, as with a string.
 use Rattle.std.proofs.Common.{◌≡◌, ℕ, ◌+◌, ◌-◌, ◌/◌, ◌%◌, ◌≤◌, Bool, true, false, List, ◌∷◌, length, get_or, refl, ap, ◌∙◌, inl, inr, arith, length-append}
-use Rattle.cbor_head.specs.Prelude.{major_number, refusal}
-use Rattle.cbor_head.specs.declared.major.Major.TheVariants.{Simple}
-use Rattle.cbor_head.specs.declared.reason.Reason.TheVariants.{Truncated}
+use Rattle.cbor_head.specs.{Prelude.major_number, Prelude.refusal, declared.major.Major.TheVariants.Simple, declared.reason.Reason.TheVariants.Truncated}
 use Rattle.cbor_head.specs.declared.reason.Refusal.{Refusal}
 use Rattle.cbor_grammar.specs.Argument.{IsArgument}
-use Rattle.cbor_judging.specs.Reading.{string_major}
-use Rattle.cbor_judging.proofs.Leaves.{chunks_bytes}
 use Rattle.cbor_judging.proofs.RefusedChunks.{AreChunksRead, chunk_cut_here, no_text_chunk_here}
-use Rattle.cbor_front.specs.Strings.{IsStringFault}
-use Rattle.cbor_front.specs.declared.argument.Argument.{Argument}
-use Rattle.cbor_walk.specs.inner.Faults.{AreChunksRefused}
-use Rattle.cbor_walk.specs.inner.Parts.{IsHead, chunked_from}
-use Rattle.cbor_walk.proofs.GivenItems.{head-here}
+use Rattle.cbor_judging.{specs.Reading.string_major, proofs.Leaves.chunks_bytes}
+use Rattle.cbor_front.specs.{Strings.IsStringFault, declared.argument.Argument.Argument}
+use Rattle.cbor_walk.{specs.inner.Faults.AreChunksRefused, specs.inner.Parts.IsHead, specs.inner.Parts.chunked_from, proofs.GivenItems.head-here}
 
 pub chunk_fault_here : (t : Bool) (behind rest : List ℕ) (s : AreChunksRead t (chunked_from t behind) rest) (at : ℕ) (f : Refusal) (h : Argument) → IsHead (string_major t) h.number rest h.rest.now → (96 ≤ get_or rest 0 0 → t ≡ true)
     → IsStringFault rest h (at + 1 + length behind - length rest) f → AreChunksRefused (chunked_from t behind) at f

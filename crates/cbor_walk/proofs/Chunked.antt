@@ -3,13 +3,10 @@ use Rattle.std.proofs.Common.{◌≡◌, ℕ, ◌≤◌, Bool, true, false, List
 use Rattle.std.proofs.lemmas.Grind.{flat_map-append}
 use Rattle.cbor_head.specs.Prelude.{plain, Holds, head, Chunk, chunk_bytes, chunks_joined, AreBytes}
 use Rattle.cbor_grammar.proofs.ByteLists.{bytes_front, bytes_back}
-use Rattle.cbor_judging.proofs.HeadComplaints.{heads_free}
 use Rattle.cbor_judging.proofs.Leaves.{chunks_bytes, chunks_of, is-chunked, chunks-value, chunks_on, chunk, chunks_more, chunks_whole}
-use Rattle.cbor_judging.proofs.Levels.{clean-anywhere}
-use Rattle.cbor_judging.proofs.RefusedChunks.{AreChunksRead, chunks_are_one}
-use Rattle.cbor_judging.specs.Kinds.{IsOfOneHead}
 use Rattle.cbor_judging.specs.Levels.{Level, Standing, item_due}
-use Rattle.cbor_judging.specs.Reading.{string_major, string_value}
+use Rattle.cbor_judging.proofs.{HeadComplaints.heads_free, Levels.clean-anywhere, RefusedChunks.AreChunksRead, RefusedChunks.chunks_are_one}
+use Rattle.cbor_judging.specs.{Kinds.IsOfOneHead, Reading.string_major, Reading.string_value}
 use Rattle.cbor_walk.specs.Sink.{Told, BeginsString, IsChunkDue, GrowsString, IsItemDue}
 use Rattle.cbor_walk.specs.inner.Parts.{IsHead, IsPayload, chunked_from}
 use Rattle.cbor_walk.proofs.GivenItems.{IsScalar, string-bytes}

@@ -1,17 +1,13 @@
 -- Why nothing valid stands where an item is due: what any rules have against it, and the kinds of keys.
 use Rattle.std.proofs.Common.{◌≡◌, ℕ, ◌+◌, ◌/◌, Bool, true, false, List, [], ◌∷◌, refl, sym, subst, IsTrue, Option, Some, None, MatchOption, IfSome}
-use Rattle.cbor_head.specs.Prelude.{plain, refusal}
-use Rattle.cbor_head.specs.declared.reason.Reason.{Reason}
-use Rattle.cbor_head.specs.declared.reason.Reason.TheVariants.{Truncated, KeyKind}
-use Rattle.cbor_head.specs.declared.reason.Refusal.{Refusal}
+use Rattle.cbor_head.specs.{Prelude.plain, Prelude.refusal, declared.reason.Reason.Reason}
+use Rattle.cbor_head.specs.declared.reason.{Reason.TheVariants.Truncated, Reason.TheVariants.KeyKind, Refusal.Refusal}
 use Rattle.cbor_grammar.specs.FirstBytes.{is_basic}
 use Rattle.cbor_judging.specs.RefusedHere.{MayBegin, IsMisplaced, IsRefusedBy}
-use Rattle.cbor_judging.specs.PathKinds.{IsFitFront}
-use Rattle.cbor_judging.proofs.HeadComplaints.{heads_free}
 use Rattle.cbor_judging.proofs.RefusedHere.{nothing_here, misplaced_stops, kind_refused}
+use Rattle.cbor_judging.{specs.PathKinds.IsFitFront, proofs.HeadComplaints.heads_free}
 use Rattle.cbor_front.specs.Strings.{IsStringHead, IsStringWhole, IsStringFault}
-use Rattle.cbor_front.specs.declared.argument.Argument.{Argument}
-use Rattle.cbor_front.proofs.AnyRefusals.{string_refused}
+use Rattle.cbor_front.{specs.declared.argument.Argument.Argument, proofs.AnyRefusals.string_refused}
 use Rattle.cbor_walk.specs.inner.Faults.{IsFault, AreChunksRefused}
 
 pub fault_same : (b c : List ℕ) (at : ℕ) (room is_key may_break : Bool) (f g : Refusal) → b ≡ c → g ≡ f → IsFault c at room is_key may_break f → IsFault b at room is_key may_break g

@@ -1,13 +1,10 @@
 -- What the refusal tells where a walk over the item at the front of an input stops.
 use Rattle.std.proofs.Common.{◌≢◌, ℕ, List, take, refl, sym, ap, subst, inl, inr, arith}
-use Rattle.cbor_head.specs.Prelude.{plain, Bounds}
-use Rattle.cbor_head.specs.declared.reason.Reason.{Reason}
-use Rattle.cbor_head.specs.declared.reason.Reason.TheVariants.{Read}
+use Rattle.cbor_head.specs.{Prelude.plain, Prelude.Bounds, declared.reason.Reason.Reason, declared.reason.Reason.TheVariants.Read}
 use Rattle.cbor_head.specs.declared.reason.Refusal.{Refusal}
 use Rattle.cbor_judging.specs.Readers.{IsUnread, of_verdict, of_memory, TellsMemoryAtFront}
-use Rattle.cbor_judging.specs.Refusals.{IsReaderReason}
 use Rattle.cbor_judging.proofs.Reasons.{never-read, never-memory, verdict-reason}
-use Rattle.cbor_judging.proofs.SpelledBytes.{longest_always}
+use Rattle.cbor_judging.{specs.Refusals.IsReaderReason, proofs.SpelledBytes.longest_always}
 use Rattle.cbor_walk.specs.Front.{IsStop}
 
 pub record IsToldAtFront (limits : Bounds) (input : List ℕ) (f : Refusal) : Type 0 where

@@ -2,24 +2,18 @@
 use Rattle.std.proofs.Common.{◌≡◌, ℕ, Bool, zero, suc, ◌-◌, ◌^◌, ◌<◌, ◌≤◌, true, false, Some, None, List, [], ◌∷◌, ◌++◌, length, map, refl, sym, ap, ap₂, ◌∙◌, subst, arith, inl, inr, append_assoc, length-append}
 use Rattle.cbor_head.specs.Prelude.{canonical, head, Spelling, array, a_map, tag, no_spellings, a_spelling, no_entries, entry, spell, spell_all, spell_entries, value_of, IsSpelled, depth}
 use Rattle.cbor_head.specs.declared.major.Major.TheVariants as majors
-use Rattle.cbor_head.specs.declared.order.KeyOrder.TheVariants.{Bytewise}
-use Rattle.cbor_head.specs.declared.width.Width.TheVariants.{Indefinite}
+use Rattle.cbor_head.specs.declared.{order.KeyOrder.TheVariants.Bytewise, width.Width.TheVariants.Indefinite}
 use Rattle.cbor_canonical.specs.Parts as parts
-use Rattle.cbor_judging.proofs.Given.{settled}
 use Rattle.cbor_judging.proofs.Levels.{spelled-all, within-all, pairs-spelled, pairs-within, pairs-more}
-use Rattle.cbor_judging.specs.Frame.{with_all, with_entries}
-use Rattle.cbor_judging.specs.Given.{opens, StandsAt}
 use Rattle.cbor_judging.specs.Levels.{IsTaken, Level, a_member, a_key, a_value, some_member, some_key, some_value, tagged, frame, AreLevels, bytes_before, Standing, item_due, item_full, settle}
-use Rattle.cbor_judging.specs.Place.{close}
 use Rattle.cbor_judging.proofs.PathSteps.{member_count, pair_count, last_member, last_pair}
-use Rattle.cbor_front.specs.Due.{pairs}
-use Rattle.cbor_front.specs.declared.level.Due.TheVariants.{Item, Value}
+use Rattle.cbor_judging.{proofs.Given.settled, specs.Frame.with_all, specs.Frame.with_entries, specs.Given.opens, specs.Given.StandsAt, specs.Place.close}
+use Rattle.cbor_front.specs.{Due.pairs, declared.level.Due.TheVariants.Item, declared.level.Due.TheVariants.Value}
 use Rattle.cbor_walk.specs.Sink.{is_map, IsEndedAs, StandsFull}
 use Rattle.cbor_walk.specs.inner.Building.{IsDue, HasEnded, IsCellFull, HasFilled}
 use Rattle.cbor_walk.specs.inner.Open.{counted, opener, full_opener, behind_head, cell_of, cells_of, after}
-use Rattle.cbor_walk.specs.inner.OpenMaps.{HasTakenPairs}
-use Rattle.cbor_walk.specs.declared.open.Open.{Open}
 use Rattle.cbor_walk.proofs.GivenParts.{cells-count, cell-is, cells-are}
+use Rattle.cbor_walk.specs.{inner.OpenMaps.HasTakenPairs, declared.open.Open.Open}
 
 pub cell-behind : (behind : ℕ) (l : Level) → (cell_of behind l).behind ≡ behind
 cell-behind behind (a_member w left done) = refl

@@ -2,14 +2,13 @@
 use Rattle.std.proofs.Common.{◌≡◌, ℕ, Bool, ◌<◌, List, [], ◌∷◌, ◌++◌, length, refl, sym, ◌∙◌, ap, subst, inl, inr, arith, length-append}
 use Rattle.cbor_head.specs.Prelude.{Spelling, array, a_map, spell}
 use Rattle.cbor_builder.specs.declared.repeat.Repeat.{Repeat}
-use Rattle.cbor_judging.proofs.CleanParts.{clean-within}
 use Rattle.cbor_judging.specs.Levels.{Level, some_member, some_key, bytes_before, Standing}
+use Rattle.cbor_judging.proofs.CleanParts.{clean-within}
 use Rattle.cbor_front.specs.Due.{pairs}
 use Rattle.cbor_walk.specs.Sink.{Fills, StandsFull, Told, takes_key, is_map, IsEndedAs, IsToldFull, IsContainerFull, Ends, Repeats}
 use Rattle.cbor_walk.specs.inner.Building.{HasEnded, IsFull, IsToEnd, IsCellFull, HasFilled, TakesTo, EndsTo}
-use Rattle.cbor_walk.specs.declared.open.Open.{Open}
-use Rattle.cbor_walk.specs.declared.part.Part.{Part}
 use Rattle.cbor_walk.specs.declared.part.Part.TheVariants as part
+use Rattle.cbor_walk.specs.declared.{open.Open.Open, part.Part.Part}
 
 -- a key is due where a map ends
 ended-kind : (l : Level) (s : Spelling) → IsEndedAs l s → takes_key l ≡ is_map s

@@ -2,26 +2,17 @@
 use Rattle.std.proofs.Common.{◌≡◌, ℕ, suc, ◌+◌, ◌-◌, ◌*◌, ◌%◌, ◌<◌, ◌≤◌, Bool, true, false, List, [], ◌∷◌, ◌++◌, length, take, drop, refl, sym, ap, ap₂, ◌∙◌, subst, arith, inl, inr, append_assoc, append-nil, IsUtf8, length-append, length-take-le, take-append-drop}
 use Rattle.std.proofs.lemmas.Bool.{cases_lt}
 use Rattle.cbor_head.specs.Prelude.{Holds, IsSimple, head, major_number, shortest, Spelling, unsigned, negative, bytes, text, simple, no_spellings, no_entries, spell, value_of, HoldsOrIndefinite, Value, AreBytes}
-use Rattle.cbor_head.specs.declared.major.Major.{Major}
 use Rattle.cbor_head.specs.declared.major.Major.TheVariants as majors
-use Rattle.cbor_head.specs.declared.width.Width.{Width}
+use Rattle.cbor_head.specs.declared.{major.Major.Major, width.Width.Width}
+use Rattle.cbor_grammar.{proofs.ReadLaws.length_head, proofs.ByteLists.bytes_front, specs.Argument.IsArgument}
 use Rattle.cbor_builder.specs.Built.{IsLeaf, IsContainer}
-use Rattle.cbor_grammar.proofs.ReadLaws.{length_head}
-use Rattle.cbor_grammar.proofs.ByteLists.{bytes_front}
-use Rattle.cbor_judging.proofs.Heads.{open_or}
-use Rattle.cbor_judging.proofs.KindBytes.{head_is_one, string_is_one}
-use Rattle.cbor_judging.specs.Kinds.{IsOfOneHead}
 use Rattle.cbor_judging.specs.Levels.{IsTaken, IsOpened, Level, IsLevel, a_member, a_key, some_member, some_key, tagged, level_bytes}
-use Rattle.cbor_judging.proofs.Levels.{of-opened}
-use Rattle.cbor_judging.specs.Reading.{string_major, string_value}
-use Rattle.cbor_grammar.specs.Argument.{IsArgument}
-use Rattle.cbor_judging.proofs.Arguments.{low_bits, spells}
-use Rattle.cbor_walk.specs.Sink.{leaf_value}
+use Rattle.cbor_judging.{proofs.Heads.open_or, proofs.KindBytes.head_is_one, proofs.KindBytes.string_is_one, specs.Kinds.IsOfOneHead, proofs.Levels.of-opened}
+use Rattle.cbor_judging.{specs.Reading.string_major, specs.Reading.string_value, proofs.Arguments.low_bits, proofs.Arguments.spells}
+use Rattle.cbor_front.specs.declared.level.Due.{Due, TheVariants.Item, TheVariants.Key}
 use Rattle.cbor_walk.specs.inner.Open.{counted, endless, opener, cell_of}
 use Rattle.cbor_walk.specs.inner.Parts.{IsHead, IsOpener, IsPayload, Counts}
-use Rattle.cbor_walk.specs.declared.open.Open.{Open}
-use Rattle.cbor_front.specs.declared.level.Due.{Due}
-use Rattle.cbor_front.specs.declared.level.Due.TheVariants.{Item, Key}
+use Rattle.cbor_walk.specs.{Sink.leaf_value, declared.open.Open.Open}
 
 -- ---- items without members
 

@@ -4,36 +4,23 @@ use Rattle.std.proofs.lemmas.List.{append_cancel_right, nil_from_length}
 use Rattle.cbor_head.specs.Prelude.{Complaint, plain, OfKinds, Holds, head, bounds, with_keys, Spelling, array, a_map, no_spellings, no_entries, spell, spell_all, spell_entries, spellings_count, entries_count, IsSpelled, depth}
 use Rattle.cbor_head.specs.Head as heads
 use Rattle.cbor_head.specs.Value as value
-use Rattle.cbor_head.specs.declared.keys.Keys.{Keys}
-use Rattle.cbor_head.specs.declared.keys.Keys.TheVariants.{Any, IntegersAndTexts}
-use Rattle.cbor_head.specs.declared.major.Major.{Major}
 use Rattle.cbor_head.specs.declared.major.Major.TheVariants as majors
-use Rattle.cbor_head.specs.declared.width.Width.{Width}
+use Rattle.cbor_head.specs.declared.{keys.Keys.Keys, keys.Keys.TheVariants.Any, keys.Keys.TheVariants.IntegersAndTexts, major.Major.Major, width.Width.Width}
 use Rattle.cbor_head.specs.declared.width.Width.TheVariants.{Indefinite}
 use Rattle.cbor_grammar.proofs.KeyKinds.{of_kind_in, of_kind_entries}
 use Rattle.cbor_judging.specs.Kinds.{KeepsToKinds, IsKeyLevel, IsKeyDueIn, HasBasicFront}
 use Rattle.cbor_judging.specs.Levels.{Level, a_key, some_member, some_key, some_value, IsLevel, AreLevels, level_bytes, bytes_before, Standing}
-use Rattle.cbor_judging.proofs.Heads.{open_or, takes}
 use Rattle.cbor_judging.proofs.KindBytes.{Begins, head_is_one, keeps_due}
-use Rattle.cbor_judging.proofs.LevelFrames.{around_levels}
-use Rattle.cbor_judging.proofs.KindFrames.{keeps_closed, keeps_start}
 use Rattle.cbor_judging.proofs.Levels.{of-opened, spelled-all, within-all, pairs-spelled, pairs-within}
-use Rattle.cbor_judging.specs.PathKinds.{asks, IsFitFront}
-use Rattle.cbor_judging.proofs.PathKinds.{no_break, head_begun}
-use Rattle.cbor_front.specs.Stack.{around, standing}
-use Rattle.cbor_front.specs.declared.level.Due.{Due}
-use Rattle.cbor_front.specs.declared.level.Due.TheVariants.{Item, Key}
-use Rattle.cbor_front.specs.declared.stack.Stack.{Stack}
-use Rattle.cbor_front.proofs.Stacks.{standing_count}
-use Rattle.cbor_walk.specs.inner.Building.{IsDue}
-use Rattle.cbor_walk.specs.inner.Kept.{KeepsBefore}
+use Rattle.cbor_judging.proofs.{Heads.open_or, Heads.takes, LevelFrames.around_levels, KindFrames.keeps_closed, KindFrames.keeps_start}
+use Rattle.cbor_judging.{specs.PathKinds.asks, specs.PathKinds.IsFitFront, proofs.PathKinds.no_break, proofs.PathKinds.head_begun}
+use Rattle.cbor_front.specs.{Stack.around, Stack.standing, declared.level.Due.Due, declared.level.Due.TheVariants.Item, declared.level.Due.TheVariants.Key}
+use Rattle.cbor_front.{specs.declared.stack.Stack.Stack, proofs.Stacks.standing_count}
 use Rattle.cbor_walk.specs.inner.Open.{counted, behind_head, cell_of, cells_of}
 use Rattle.cbor_walk.specs.inner.Parts.{Counts, IsHead, IsOpener, IsItem, HasBegun, HasBroken, TakesFront, EndsBefore}
-use Rattle.cbor_walk.specs.declared.open.Open.{Open}
-use Rattle.cbor_walk.specs.declared.part.Part.{Part}
 use Rattle.cbor_walk.specs.declared.part.Part.TheVariants as part
-use Rattle.cbor_walk.proofs.GivenItems.{IsScalar}
-use Rattle.cbor_walk.proofs.GivenParts.{height-is, cell-is}
+use Rattle.cbor_walk.specs.{inner.Building.IsDue, inner.Kept.KeepsBefore, declared.open.Open.Open, declared.part.Part.Part}
+use Rattle.cbor_walk.proofs.{GivenItems.IsScalar, GivenParts.height-is, GivenParts.cell-is}
 
 -- ---- what begins so
 

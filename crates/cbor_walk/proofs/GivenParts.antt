@@ -1,29 +1,19 @@
 -- A valid item, part by part, given to a sink: where the walk stands behind what a sink took.
 use Rattle.std.proofs.Common.{◌≡◌, ℕ, Bool, true, suc, ◌-◌, ◌^◌, ◌<◌, List, [], ◌∷◌, ◌++◌, length, take, refl, sym, ap, ap₂, ◌∙◌, subst, arith, inl, inr, append_assoc, append-nil, reverse, length-append}
 use Rattle.cbor_head.specs.Prelude.{plain, Holds, head, Bounds, Spelling, array, a_map, no_spellings, no_entries, spell, Value}
-use Rattle.cbor_head.specs.declared.major.Major.{Major}
 use Rattle.cbor_head.specs.declared.major.Major.TheVariants as majors
-use Rattle.cbor_grammar.proofs.Accepted.{accepts_exactly}
-use Rattle.cbor_grammar.proofs.ReadLaws.{length_spell}
-use Rattle.cbor_judging.specs.Kinds.{KeepsToKinds}
-use Rattle.cbor_judging.proofs.Members.{closes}
-use Rattle.cbor_judging.proofs.Decisions.{whole_beside}
-use Rattle.cbor_judging.proofs.Heads.{open_or}
-use Rattle.cbor_judging.proofs.Items.{is-definite}
-use Rattle.cbor_judging.proofs.Levels.{clean-anywhere, no-count}
-use Rattle.cbor_judging.proofs.Loops.{array_bytes-whole, map_bytes-whole}
+use Rattle.cbor_head.specs.declared.major.Major.{Major}
+use Rattle.cbor_grammar.proofs.{Accepted.accepts_exactly, ReadLaws.length_spell}
 use Rattle.cbor_judging.specs.Levels.{IsTaken, Level, a_member, some_member, some_key, level_bytes, bytes_before, Standing, item_due, settle}
-use Rattle.cbor_front.specs.Due.{awaits}
-use Rattle.cbor_front.specs.Stack.{standing}
-use Rattle.cbor_front.specs.declared.level.Due.{Due}
-use Rattle.cbor_front.specs.declared.level.Due.TheVariants.{Item, Key}
+use Rattle.cbor_judging.{specs.Kinds.KeepsToKinds, proofs.Members.closes, proofs.Decisions.whole_beside, proofs.Heads.open_or, proofs.Items.is-definite}
+use Rattle.cbor_judging.proofs.{Levels.clean-anywhere, Levels.no-count, Loops.array_bytes-whole, Loops.map_bytes-whole}
+use Rattle.cbor_front.specs.{Due.awaits, Stack.standing, declared.level.Due.Due, declared.level.Due.TheVariants.Item, declared.level.Due.TheVariants.Key}
 use Rattle.cbor_front.specs.declared.stack.Stack.{Stack}
 use Rattle.cbor_walk.specs.Sink.{takes_key, key_due, Completes, IsItemDue, Gives, Opens, IsKnownValid, IsGivenFront}
 use Rattle.cbor_walk.specs.inner.Building.{BeginsTaken, IsDue, HasEnded, IsFull, IsToEnd, IsBuilt, IsDueFor}
 use Rattle.cbor_walk.specs.inner.Open.{counted, opener, behind_head, cell_of, cells_of}
 use Rattle.cbor_walk.specs.inner.Parts.{IsHead, IsOpener, Counts}
-use Rattle.cbor_walk.specs.declared.open.Open.{Open}
-use Rattle.cbor_walk.proofs.GivenItems.{IsScalar, opener-whole}
+use Rattle.cbor_walk.{specs.declared.open.Open.Open, proofs.GivenItems.IsScalar, proofs.GivenItems.opener-whole}
 
 -- ---- how many are open
 

@@ -1,29 +1,17 @@
 -- Where the walk over a valid item stops: the refusal of what stands there is that of the input.
 use Rattle.std.proofs.Common.{◌≡◌, ◌≢◌, ℕ, ◌-◌, ◌^◌, ◌<◌, ◌≤◌, ◌⊎◌, Bool, true, false, nat_lt, Bor, List, ◌++◌, length, take, sym, ap, ◌∙◌, subst, inl, inr, arith, ltb-true, ltb-false, length-append}
 use Rattle.cbor_head.specs.Prelude.{plain, Bounds, AreBytes, IsVerdict, refused}
-use Rattle.cbor_head.specs.declared.keys.Keys.TheVariants.{IntegersAndTexts}
-use Rattle.cbor_head.specs.declared.reason.Refusal.{Refusal}
-use Rattle.cbor_judging.specs.Kinds.{KeepsToKinds}
+use Rattle.cbor_head.specs.declared.{keys.Keys.TheVariants.IntegersAndTexts, reason.Refusal.Refusal}
 use Rattle.cbor_judging.specs.Levels.{Level, Standing, bytes_before}
-use Rattle.cbor_judging.specs.PathKinds.{asks}
 use Rattle.cbor_judging.specs.Path as path
-use Rattle.cbor_judging.specs.Stop.{IsStopped, IsAnswered}
-use Rattle.cbor_judging.proofs.PathVerdict.{stopped}
-use Rattle.cbor_front.specs.Stack.{around, standing}
-use Rattle.cbor_front.specs.declared.level.Due.{Due}
-use Rattle.cbor_front.specs.declared.level.Due.TheVariants.{Key, Value}
-use Rattle.cbor_front.specs.declared.stack.Stack.{Stack}
-use Rattle.cbor_front.proofs.Stacks.{more_cells, standing_count}
-use Rattle.cbor_walk.specs.Sink.{FindsNoRepeat}
+use Rattle.cbor_judging.{specs.Kinds.KeepsToKinds, specs.PathKinds.asks, specs.Stop.IsStopped, specs.Stop.IsAnswered, proofs.PathVerdict.stopped}
+use Rattle.cbor_front.specs.{Stack.around, Stack.standing, declared.level.Due.Due, declared.level.Due.TheVariants.Key, declared.level.Due.TheVariants.Value}
+use Rattle.cbor_front.{specs.declared.stack.Stack.Stack, proofs.Stacks.more_cells, proofs.Stacks.standing_count}
 use Rattle.cbor_walk.specs.inner.Building.{IsDue, HasCome, Meets, Walks, WalksKept}
-use Rattle.cbor_walk.specs.inner.Kept.{KeepsBefore, MetKept}
-use Rattle.cbor_walk.specs.inner.Faults.{IsFault}
-use Rattle.cbor_walk.specs.declared.building.Met.{Met}
 use Rattle.cbor_walk.specs.declared.building.Met.TheVariants as met
-use Rattle.cbor_walk.specs.declared.open.Open.{Open}
-use Rattle.cbor_walk.proofs.GivenKinds.{asked-kinds}
-use Rattle.cbor_walk.proofs.GivenParts.{cells-count}
 use Rattle.cbor_walk.proofs.LevelPaths.{paths_of, paths_length, paths_bytes, paths_clean, path_due, breaks_path}
+use Rattle.cbor_walk.specs.{Sink.FindsNoRepeat, inner.Kept.KeepsBefore, inner.Kept.MetKept, inner.Faults.IsFault, declared.building.Met.Met}
+use Rattle.cbor_walk.{specs.declared.open.Open.Open, proofs.GivenKinds.asked-kinds, proofs.GivenParts.cells-count}
 
 -- that kinds are asked for, and a key is due
 pub record IsAsked (limits : Bounds) (due : Due) (is_key : Bool) : Type 0 where

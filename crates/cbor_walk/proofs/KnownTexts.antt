@@ -1,23 +1,15 @@
 -- The texts of an item that is known to be valid are UTF-8, where the walk stands within it.
 use Rattle.std.proofs.Common.{◌≡◌, ℕ, ◌+◌, ◌-◌, ◌≤◌, Bool, true, false, true≢false, Some, List, ◌∷◌, ◌++◌, length, take, drop, refl, sym, ap, ◌∙◌, subst, append_assoc, IsUtf8, length-take-le, take-append-drop}
-use Rattle.std.specs.Str.{is_utf8}
-use Rattle.std.specs.Str.Lossy.{utf8_valid_len}
-use Rattle.std.proofs.lemmas.Str.{IsUtf8-from_is_utf8, is_utf8-from_IsUtf8}
+use Rattle.std.{specs.Str.is_utf8, specs.Str.Lossy.utf8_valid_len, proofs.lemmas.Str.IsUtf8-from_is_utf8, proofs.lemmas.Str.is_utf8-from_IsUtf8}
 use Rattle.cbor_head.specs.Prelude.{Complaint, plain, complaint, Holds, head, AreBytes}
-use Rattle.cbor_head.specs.declared.major.Major.TheVariants.{Text}
-use Rattle.cbor_head.specs.declared.reason.Reason.TheVariants.{InvalidText}
+use Rattle.cbor_head.specs.declared.{major.Major.TheVariants.Text, reason.Reason.TheVariants.InvalidText}
 use Rattle.cbor_grammar.proofs.ByteLists.{bytes_front}
-use Rattle.cbor_judging.proofs.CleanParts.{clean-front}
-use Rattle.cbor_judging.proofs.HeadComplaints.{heads_free}
-use Rattle.cbor_judging.proofs.Leaves.{text_complains}
-use Rattle.cbor_judging.proofs.RefusedChunks.{AreChunksRead, no_text}
-use Rattle.cbor_judging.specs.Judged.{IsJudged}
 use Rattle.cbor_judging.specs.Levels.{Level, Standing, bytes_before}
-use Rattle.cbor_judging.specs.Reading.{string_major}
+use Rattle.cbor_judging.proofs.{CleanParts.clean-front, HeadComplaints.heads_free, Leaves.text_complains, RefusedChunks.AreChunksRead, RefusedChunks.no_text}
+use Rattle.cbor_judging.specs.{Judged.IsJudged, Reading.string_major}
 use Rattle.cbor_walk.specs.inner.Building.{StandsBefore, IsHeadDue, IsDueFor}
 use Rattle.cbor_walk.specs.inner.Parts.{IsHead, IsPayload, chunked_from}
-use Rattle.cbor_walk.specs.declared.open.Open.{Open}
-use Rattle.cbor_walk.proofs.GivenItems.{string-bytes}
+use Rattle.cbor_walk.{specs.declared.open.Open.Open, proofs.GivenItems.string-bytes}
 
 decided : (q : List ℕ) → ((IsUtf8 q → ⊥) → ⊥) → IsUtf8 q
 decided q h = go (is_utf8 q) refl

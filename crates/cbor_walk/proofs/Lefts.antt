@@ -2,11 +2,10 @@
 use Rattle.std.proofs.Common.{◌≡◌, ℕ, ◌-◌, ◌<◌, Bool, List, [], ◌∷◌, ◌++◌, length, length-append, drop, sym, ap, ◌∙◌, subst, arith}
 use Rattle.std.proofs.Math.Seq.{drop-append_seam}
 use Rattle.cbor_judging.specs.Levels.{Level, Standing}
-use Rattle.cbor_walk.specs.declared.open.Open.{Open}
-use Rattle.cbor_walk.specs.declared.part.Part.{Part}
 use Rattle.cbor_walk.specs.declared.part.Part.TheVariants as part
 use Rattle.cbor_walk.specs.inner.Building.{IsDue, HasEnded, HasFilled, TakesTo}
 use Rattle.cbor_walk.specs.inner.Parts.{left_of, Leaves, LeavesWithin, TakesFront, HasBegun, HasBroken}
+use Rattle.cbor_walk.specs.declared.{open.Open.Open, part.Part.Part}
 
 -- what is behind some of a first byte and these is the last of these
 behind-is : (x : ℕ) (bytes front behind : List ℕ) → x ∷ bytes ≡ front ++ behind → length behind < length (x ∷ bytes) → drop (length bytes - length behind) bytes ≡ behind

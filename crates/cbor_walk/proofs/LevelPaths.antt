@@ -3,34 +3,21 @@ use Rattle.std.proofs.Common.{◌≡◌, ℕ, suc, ◌+◌, ◌-◌, ◌^◌, �
 use Rattle.std.proofs.lemmas.List.{map-append}
 use Rattle.cbor_head.specs.Prelude.{Pair, canonical, canonical_entries, plain, Complaint, complaint, IsRepeated, OfKey, ComplainsInEntries, head, Spelling, SpelledEntries, no_entries, entry, spell, spell_entries, entries_count, HoldsOrIndefinite, value_of, entries_of}
 use Rattle.cbor_head.specs.declared.major.Major.TheVariants as majors
-use Rattle.cbor_head.specs.declared.order.KeyOrder.{KeyOrder}
-use Rattle.cbor_head.specs.declared.reason.Reason.TheVariants.{RepeatedKey}
-use Rattle.cbor_head.specs.declared.width.Width.{Width}
-use Rattle.cbor_head.specs.declared.width.Width.TheVariants.{Indefinite}
+use Rattle.cbor_head.specs.declared.{order.KeyOrder.KeyOrder, reason.Reason.TheVariants.RepeatedKey, width.Width.Width, width.Width.TheVariants.Indefinite}
+use Rattle.cbor_canonical.{specs.Parts.pair, proofs.Keys.distinct_exactly}
 use Rattle.cbor_builder.specs.Built.{keys_so_far, AreAllDifferent, AreOpenKeysDifferent}
-use Rattle.cbor_builder.proofs.KeysSoFar.{different_distinct}
-use Rattle.cbor_builder.proofs.Neighbours.{keys}
-use Rattle.cbor_canonical.specs.Parts.{pair}
-use Rattle.cbor_canonical.proofs.Keys.{distinct_exactly}
-use Rattle.cbor_judging.specs.Frame.{with_entries, keys_onto}
-use Rattle.cbor_judging.specs.Given.{level_open, opens}
-use Rattle.cbor_judging.specs.Judged.{IsJudged, Never}
+use Rattle.cbor_builder.proofs.{KeysSoFar.different_distinct, Neighbours.keys}
 use Rattle.cbor_judging.specs.Levels.{IsTaken, ArePairsTaken, Level, a_member, a_key, a_value, some_member, some_key, some_value, tagged, level_bytes, IsLevel, AreLevels, bytes_before}
-use Rattle.cbor_judging.specs.SoFar.{IsMapSoFar, map_bytes}
-use Rattle.cbor_judging.proofs.Frames.{entries_right, spell_entries_with}
-use Rattle.cbor_judging.proofs.Given.{pairs-valid, entries-more}
-use Rattle.cbor_judging.proofs.Heads.{open_or}
-use Rattle.cbor_judging.proofs.Judged.{zero_item}
 use Rattle.cbor_judging.proofs.Levels.{no-count, spelled-all, within-all, clean-all, pairs-spelled, pairs-within, pairs-more, pairs-clean}
-use Rattle.cbor_judging.proofs.Valid.{in_range_entries}
-use Rattle.cbor_walk.specs.Sink.{IsKeyBehind}
-use Rattle.cbor_walk.specs.inner.Open.{behind_head, cell_of, cells_of, counted}
 use Rattle.cbor_judging.specs.Path as path
 use Rattle.cbor_judging.specs.Path.{IsClean, AreClean, IsKeyDueIn, MayBreak}
-use Rattle.cbor_front.specs.declared.level.Due.TheVariants.{Item, Key, Value}
-use Rattle.cbor_walk.specs.declared.open.Open.{Open}
+use Rattle.cbor_judging.specs.{Frame.with_entries, Frame.keys_onto, Given.level_open, Given.opens, Judged.IsJudged, Judged.Never}
+use Rattle.cbor_judging.{specs.SoFar.IsMapSoFar, specs.SoFar.map_bytes, proofs.Frames.entries_right, proofs.Frames.spell_entries_with}
+use Rattle.cbor_judging.proofs.{Given.pairs-valid, Given.entries-more, Heads.open_or, Judged.zero_item, Valid.in_range_entries}
 use Rattle.cbor_judging.proofs.PathLevels.{judged_path, judged_key_path}
-use Rattle.cbor_walk.proofs.GivenParts.{cell-is}
+use Rattle.cbor_front.specs.declared.level.Due.TheVariants.{Item, Key, Value}
+use Rattle.cbor_walk.specs.inner.Open.{behind_head, cell_of, cells_of, counted}
+use Rattle.cbor_walk.{specs.Sink.IsKeyBehind, specs.declared.open.Open.Open, proofs.GivenParts.cell-is}
 
 -- ---- the path
 

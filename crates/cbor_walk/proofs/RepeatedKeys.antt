@@ -2,14 +2,10 @@
 use Rattle.std.proofs.Common.{◌≡◌, ℕ, suc, ◌+◌, ◌-◌, ◌*◌, ◌^◌, ◌<◌, ◌≤◌, List, ◌∷◌, ◌++◌, length, take, drop, refl, sym, ap, ap₂, ◌∙◌, subst, arith, append_assoc, append-nil, length-append, take_all}
 use Rattle.std.proofs.Math.Seq.{drop-append-add}
 use Rattle.cbor_head.specs.Prelude.{plain, Bounds, Spelling, Spellings, SpelledEntries, no_spellings, a_spelling, no_entries, entry, spell, spell_all, spell_entries, spellings_count, entries_count, IsVerdict, refused, refusal}
-use Rattle.cbor_head.specs.declared.reason.Reason.TheVariants.{RepeatedKey}
-use Rattle.cbor_head.specs.declared.reason.Refusal.{Refusal}
+use Rattle.cbor_head.specs.declared.reason.{Reason.TheVariants.RepeatedKey, Refusal.Refusal}
 use Rattle.cbor_grammar.proofs.ReadLaws.{length_spell}
 use Rattle.cbor_judging.specs.Levels.{IsTaken, AreTaken, ArePairsTaken, bytes_before}
-use Rattle.cbor_walk.specs.inner.Open.{opener}
-use Rattle.cbor_walk.specs.inner.Repeated.{IsKeyTold}
-use Rattle.cbor_walk.specs.inner.Skip.{StandInFront}
-use Rattle.cbor_walk.proofs.Repeats.{pairs_taken, opened}
+use Rattle.cbor_walk.{specs.inner.Open.opener, specs.inner.Repeated.IsKeyTold, specs.inner.Skip.StandInFront, proofs.Repeats.pairs_taken, proofs.Repeats.opened}
 use Rattle.cbor_walk.proofs.ToldMaps.{told_verdict}
 
 -- ---- pairs, as items

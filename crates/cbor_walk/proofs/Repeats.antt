@@ -3,14 +3,11 @@ use Rattle.std.proofs.Common.{◌≡◌, ℕ, suc, ◌+◌, ◌-◌, ◌^◌, �
 use Rattle.cbor_head.specs.Prelude.{canonical, canonical_entries, IsRepeated, head, Spelling, SpelledEntries, no_entries, entry, spell, spell_entries, entries_count, value_of, entries_of}
 use Rattle.cbor_head.specs.declared.major.Major.TheVariants as majors
 use Rattle.cbor_head.specs.declared.order.KeyOrder.{KeyOrder}
+use Rattle.cbor_canonical.proofs.{Keys.same_exactly, Sound.IsSound, Sound.sound}
 use Rattle.cbor_builder.specs.Built.{HasKey}
-use Rattle.cbor_canonical.proofs.Keys.{same_exactly}
-use Rattle.cbor_canonical.proofs.Sound.{IsSound, sound}
-use Rattle.cbor_judging.specs.Frame.{keys_onto}
 use Rattle.cbor_judging.specs.Levels.{IsTaken, ArePairsTaken, Level, a_key, some_key, IsLevel, AreLevels, level_bytes, bytes_before}
-use Rattle.cbor_judging.proofs.Valid.{in_range_of, valid_of}
-use Rattle.cbor_walk.specs.Sink.{IsKeyBehind}
-use Rattle.cbor_walk.specs.inner.Open.{opener}
+use Rattle.cbor_judging.{specs.Frame.keys_onto, proofs.Valid.in_range_of, proofs.Valid.valid_of}
+use Rattle.cbor_walk.specs.{Sink.IsKeyBehind, inner.Open.opener}
 
 -- ---- by its canonical bytes
 

@@ -7,12 +7,9 @@ use Rattle.cbor_grammar.proofs.ReadLaws.{unique}
 use Rattle.cbor_judging.proofs.Levels.{no-count, spelled-all, within-all, clean-all}
 use Rattle.cbor_judging.specs.Levels.{IsTaken, Level, a_member, bytes_before}
 use Rattle.cbor_front.specs.declared.level.Due.TheVariants.{Item}
-use Rattle.cbor_walk.specs.inner.Building.{IsDue, Meets}
-use Rattle.cbor_walk.specs.inner.Open.{counted}
 use Rattle.cbor_walk.specs.inner.Skip.{anywhere, anything, StandInFront, EndsItem, GoesTo}
-use Rattle.cbor_walk.specs.declared.building.Met.{Met}
 use Rattle.cbor_walk.specs.declared.building.Met.TheVariants as met
-use Rattle.cbor_walk.specs.declared.open.Open.{Open}
+use Rattle.cbor_walk.specs.{inner.Building.IsDue, inner.Building.Meets, inner.Open.counted, declared.building.Met.Met, declared.open.Open.Open}
 
 -- the array, before its first member
 abbrev pub members : ℕ → List Level

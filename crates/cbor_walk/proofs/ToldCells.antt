@@ -2,8 +2,7 @@
 use Rattle.std.proofs.Common.{◌≡◌, ℕ, zero, suc, ◌+◌, ◌<◌, ◌≤◌, Bool, true, false, Some, List, [], ◌∷◌, ◌++◌, length, take, drop, get_or, refl, sym, ap, ◌∙◌, arith, append_assoc, reverse, take_all, take-append-drop}
 use Rattle.std.proofs.lemmas.List.{reverse-append, reverse-reverse, take_more, drop_more}
 use Rattle.cbor_front.specs.Due.{pairs}
-use Rattle.cbor_walk.specs.inner.OpenMaps.{map_cells, counts_one}
-use Rattle.cbor_walk.specs.declared.open.Open.{Open}
+use Rattle.cbor_walk.specs.{inner.OpenMaps.map_cells, inner.OpenMaps.counts_one, declared.open.Open.Open}
 
 counts_add : (b : Bool) (m n : ℕ) → counts_one b (m + n) ≡ counts_one b m + n
 counts_add true m n = omega arith

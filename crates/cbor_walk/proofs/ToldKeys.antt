@@ -1,19 +1,13 @@
 -- The first key of a map that is the same as an earlier one, with what stands before it.
 use Rattle.std.proofs.Common.{◌≡◌, ℕ, zero, suc, ◌+◌, ◌-◌, ◌<◌, ◌≤◌, List, [], ◌∷◌, ◌++◌, length, map, get_or, refl, sym, ap, ◌∙◌, subst, inl, inr, arith, append_assoc, append-nil, length-append}
-use Rattle.std.proofs.lemmas.Bool.{cases_lt}
-use Rattle.std.proofs.Math.ListN.{get_or-append}
-use Rattle.std.proofs.Math.Seq.{get_or-append_seam}
+use Rattle.std.proofs.{lemmas.Bool.cases_lt, Math.ListN.get_or-append, Math.Seq.get_or-append_seam}
 use Rattle.cbor_head.specs.Prelude.{Pair, canonical, canonical_entries, Holds, head, Spelling, SpelledEntries, a_map, no_entries, entry, spell, spell_entries, entries_count, break_of, HoldsOrIndefinite, value_of, entries_of}
 use Rattle.cbor_head.specs.declared.major.Major.TheVariants as majors
-use Rattle.cbor_head.specs.declared.order.KeyOrder.{KeyOrder}
-use Rattle.cbor_head.specs.declared.width.Width.{Width}
-use Rattle.cbor_head.specs.declared.width.Width.TheVariants.{Indefinite}
+use Rattle.cbor_head.specs.declared.{order.KeyOrder.KeyOrder, width.Width.Width, width.Width.TheVariants.Indefinite}
 use Rattle.cbor_builder.specs.Built.{HasKey, keys_so_far, IsFirstRepeat, AreAllDifferent}
-use Rattle.cbor_judging.specs.Given.{level_open}
 use Rattle.cbor_judging.specs.Levels.{IsTaken, ArePairsTaken, Level, a_key, a_value, some_key, some_value, level_bytes, IsLevel}
-use Rattle.cbor_judging.proofs.Heads.{open_or}
-use Rattle.cbor_walk.specs.Sink.{IsKeyBehind}
-use Rattle.cbor_walk.specs.inner.Open.{opener}
+use Rattle.cbor_judging.{specs.Given.level_open, proofs.Heads.open_or}
+use Rattle.cbor_walk.specs.{Sink.IsKeyBehind, inner.Open.opener}
 
 -- ---- canonical keys
 

@@ -1,23 +1,18 @@
 -- The open map with a key that is the same as an earlier one, and the verdict.
 use Rattle.std.proofs.Common.{◌≡◌, ℕ, suc, ◌+◌, ◌-◌, ◌^◌, ◌<◌, ◌≤◌, true, List, [], ◌∷◌, ◌++◌, length, take, refl, sym, ap, ◌∙◌, subst, inl, inr, arith, append_assoc, ◌⊎◌, length-append}
 use Rattle.cbor_head.specs.Prelude.{IsBeginning, plain, complaint, Bounds, Spelling, a_map, spell, IsSpelled, depth, IsVerdict, refused, refusal}
-use Rattle.cbor_head.specs.declared.order.KeyOrder.{KeyOrder}
-use Rattle.cbor_head.specs.declared.reason.Reason.TheVariants.{RepeatedKey}
+use Rattle.cbor_head.specs.declared.{order.KeyOrder.KeyOrder, reason.Reason.TheVariants.RepeatedKey}
 use Rattle.cbor_builder.specs.Built.{keys_so_far, IsFirstRepeat, AreOpenKeysDifferent, IsRepeatTold, open_maps}
 use Rattle.cbor_builder.specs.declared.repeat.Repeat.{Repeat}
 use Rattle.cbor_judging.specs.Given.{level_open, opens, full_open}
-use Rattle.cbor_judging.specs.Kinds.{KeepsToKinds}
 use Rattle.cbor_judging.specs.Levels.{Level, a_member, some_member, tagged, level_bytes, AreLevels, bytes_before}
-use Rattle.cbor_judging.proofs.KindFrames.{keeps_front}
-use Rattle.cbor_judging.proofs.LevelFrames.{begins_so_far, begins_before}
+use Rattle.cbor_judging.{specs.Kinds.KeepsToKinds, proofs.KindFrames.keeps_front, proofs.LevelFrames.begins_so_far, proofs.LevelFrames.begins_before}
 use Rattle.cbor_judging.proofs.PathVerdict.{complaint_stops}
 use Rattle.cbor_walk.specs.Sink.{is_map as its_kind, IsToldIn, IsToldFull}
-use Rattle.cbor_walk.specs.inner.Open.{opener, full_opener}
 use Rattle.cbor_walk.specs.inner.OpenMaps.{HasTakenPairs, is_map_level, map_levels}
-use Rattle.cbor_walk.specs.inner.Repeated.{IsKeyTold}
-use Rattle.cbor_walk.proofs.LevelPaths.{repeat_of_whole}
-use Rattle.cbor_walk.proofs.Repeats.{repeated_by_bytes}
 use Rattle.cbor_walk.proofs.ToldKeys.{IsKeyIn, key_in_level, key_in_map}
+use Rattle.cbor_walk.{specs.inner.Open.opener, specs.inner.Open.full_opener, specs.inner.Repeated.IsKeyTold, proofs.LevelPaths.repeat_of_whole}
+use Rattle.cbor_walk.proofs.Repeats.{repeated_by_bytes}
 
 -- ---- the maps among open containers
 

@@ -4,18 +4,14 @@ use Rattle.cbor_head.specs.Prelude.{Bounds, spell}
 use Rattle.cbor_builder.specs.declared.repeat.Repeat.{Repeat}
 use Rattle.cbor_judging.specs.Levels.{Level, a_member, bytes_before, Standing}
 use Rattle.cbor_front.specs.Due.{pairs}
-use Rattle.cbor_walk.specs.Sink.{FindsRepeat}
-use Rattle.cbor_walk.specs.inner.Building.{IsRepeatMet, Meets}
-use Rattle.cbor_walk.specs.inner.Kept.{KeepsBefore, MetKept}
 use Rattle.cbor_walk.specs.inner.Open.{cell_of, cells_of, behind_head}
 use Rattle.cbor_walk.specs.inner.OpenMaps.{is_map_level, map_levels, map_cells, counts_one, FindsMap}
 use Rattle.cbor_walk.specs.inner.Repeated.{IsKeyTold, IsCellTold, IsKeyToldIn}
-use Rattle.cbor_walk.specs.declared.building.Met.{Met}
 use Rattle.cbor_walk.specs.declared.building.Met.TheVariants as met
-use Rattle.cbor_walk.specs.declared.open.Open.{Open}
-use Rattle.cbor_walk.proofs.GivenEnds.{cell-behind}
 use Rattle.cbor_walk.proofs.GivenStops.{StopsBefore, kept-before, come-before}
 use Rattle.cbor_walk.proofs.ToldMaps.{IsToldWithin, told_within, told_full}
+use Rattle.cbor_walk.specs.{Sink.FindsRepeat, inner.Building.IsRepeatMet, inner.Building.Meets, inner.Kept.KeepsBefore, inner.Kept.MetKept}
+use Rattle.cbor_walk.{specs.declared.building.Met.Met, specs.declared.open.Open.Open, proofs.GivenEnds.cell-behind}
 
 -- ---- the cells
 

@@ -2,15 +2,10 @@
 use Rattle.std.specs.Prelude.{ℕ, ◌≡◌, ◌<◌, ◌≤◌, ◌-◌, ◌^◌, ◌⊎◌, ◌++◌, Bool, true, false, List, [], ◌∷◌, length}
 use Rattle.cbor_head.specs.Prelude.{plain, Bounds, Spelling, SpelledEntries, array, a_map, spell, value_of, IsSpelled, depth, Value}
 use Rattle.cbor_head.specs.Value as value
-use Rattle.cbor_head.specs.declared.major.Major.{Major}
-use Rattle.cbor_head.specs.declared.major.Major.TheVariants.{Negative, Simple}
-use Rattle.cbor_builder.specs.Built.{AreOpenKeysDifferent, IsRepeatTold}
-use Rattle.cbor_builder.specs.declared.repeat.Repeat.{Repeat}
-use Rattle.cbor_head.specs.declared.order.KeyOrder.{KeyOrder}
-use Rattle.cbor_judging.specs.Given.{opens, full_open}
+use Rattle.cbor_head.specs.declared.{major.Major.Major, major.Major.TheVariants.Negative, major.Major.TheVariants.Simple, order.KeyOrder.KeyOrder}
+use Rattle.cbor_builder.specs.{Built.AreOpenKeysDifferent, Built.IsRepeatTold, declared.repeat.Repeat.Repeat}
 use Rattle.cbor_judging.specs.Levels.{IsClean, IsTaken, IsOpened, Level, a_key, some_member, some_key, AreLevels, bytes_before, Standing, item_due, item_full, item_whole, settle}
-use Rattle.cbor_judging.specs.Reading.{string_value}
-use Rattle.cbor_judging.specs.Readers.{IsRead}
+use Rattle.cbor_judging.specs.{Given.opens, Given.full_open, Reading.string_value, Readers.IsRead}
 
 -- ---- parts
 

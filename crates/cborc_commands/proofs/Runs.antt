@@ -1,19 +1,14 @@
 -- What a run leaves, by the parts of its end.
 use Rattle.std.proofs.Common.{ℕ, ◌≡◌, ◌≢◌, ◌⊎◌, ◌∙◌, ap, inl, inr, refl, sym, subst, List, Option, None, Result, Ok, Err, OnErr, IfOk, IfErr}
-use Rattle.std.specs.Borrow.{Bor}
-use Rattle.std.specs.Io.KnownBytes.{Keeps}
+use Rattle.std.specs.{Borrow.Bor, Io.KnownBytes.Keeps}
 use Rattle.cbor_head.specs.declared.order.KeyOrder.{KeyOrder}
-use Rattle.cborc_commands.specs.Answer.{IsDone, IsNotDone}
-use Rattle.cborc_input.specs.Fault.{end_status, status_number}
 use Rattle.cborc_files.specs.Folder.{Files, KeepsFiles}
-use Rattle.cborc_commands.specs.Told.{IsSilent, IsStatus, IsAnswered, done, stopped, IsAnsweredQuietly}
-use Rattle.cborc_input.specs.declared.request.Options.{Options}
-use Rattle.cborc_input.specs.declared.request.Output.{Output}
-use Rattle.cborc_input.specs.declared.request.Request.{Request}
-use Rattle.cborc_input.specs.declared.request.Request.TheVariants.{Canon, CanonSequence}
-use Rattle.cborc_input.specs.declared.fault.Fault.{Fault}
 use Rattle.cborc_input.specs.declared.fault.Fault.TheVariants as faults
+use Rattle.cborc_input.specs.{Fault.end_status, Fault.status_number, declared.request.Options.Options, declared.request.Output.Output}
+use Rattle.cborc_input.specs.declared.{request.Request.Request, request.Request.TheVariants.Canon, request.Request.TheVariants.CanonSequence, fault.Fault.Fault}
 use Rattle.cborc_input.specs.declared.status.Status.{Status}
+use Rattle.cborc_commands.specs.Told.{IsSilent, IsStatus, IsAnswered, done, stopped, IsAnsweredQuietly}
+use Rattle.cborc_commands.specs.Answer.{IsDone, IsNotDone}
 
 -- the end, once standard output sent on what it took, or did not
 abbrev IsSentOn : Result Status Fault → Result Status Fault → Type 0

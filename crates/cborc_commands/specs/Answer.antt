@@ -1,23 +1,16 @@
 -- What comes of a request.
 use Rattle.std.specs.Prelude.{ℕ, List, Option}
 use Rattle.std.specs.Io.KnownBytes.{Appends}
-use Rattle.cborc_items.specs.Canon.{HasText, IsNotCanonised}
-use Rattle.cborc_sequences.specs.CanonSequence.{IsSequenceCanonised, IsSequenceNotCanonised}
-use Rattle.cborc_input.specs.Put.{IsPut}
-use Rattle.cborc_input.specs.Rules.{rules_of}
-use Rattle.cborc_items.specs.Check.{IsChecked, IsNotChecked}
-use Rattle.cborc_sequences.specs.CheckSequence.{IsSequenceChecked, IsSequenceNotChecked}
-use Rattle.cborc_items.specs.Compare.{AreCompared, AreNotCompared}
-use Rattle.cborc_items.specs.Events.{IsListedOf, IsNotListedOf}
-use Rattle.cborc_sequences.specs.EventsSequence.{IsSequenceListed, IsSequenceNotListed}
 use Rattle.cborc_files.specs.Folder.{Files, KeepsFiles}
-use Rattle.cborc_items.specs.Show.{IsShownOf, IsNotShown}
-use Rattle.cborc_sequences.specs.ShowSequence.{IsSequenceShown, IsSequenceNotShown}
-use Rattle.cborc_input.specs.declared.request.Request.{Request}
 use Rattle.cborc_input.specs.declared.request.Request.TheVariants.{Check, CheckSequence, Canon, CanonSequence, Compare, Show, ShowSequence, Events, EventsSequence}
-use Rattle.cborc_input.specs.declared.fault.Fault.{Fault}
-use Rattle.cborc_input.specs.declared.status.Status.{Status}
+use Rattle.cborc_input.specs.{Put.IsPut, Rules.rules_of, declared.request.Request.Request, declared.fault.Fault.Fault, declared.status.Status.Status}
 use Rattle.cborc_input.specs.declared.status.Status.TheVariants.{Accepted}
+use Rattle.cborc_items.specs.{Canon.HasText, Canon.IsNotCanonised, Check.IsChecked, Check.IsNotChecked, Compare.AreCompared, Compare.AreNotCompared}
+use Rattle.cborc_items.specs.{Events.IsListedOf, Events.IsNotListedOf, Show.IsShownOf, Show.IsNotShown}
+use Rattle.cborc_sequences.specs.CanonSequence.{IsSequenceCanonised, IsSequenceNotCanonised}
+use Rattle.cborc_sequences.specs.CheckSequence.{IsSequenceChecked, IsSequenceNotChecked}
+use Rattle.cborc_sequences.specs.EventsSequence.{IsSequenceListed, IsSequenceNotListed}
+use Rattle.cborc_sequences.specs.ShowSequence.{IsSequenceShown, IsSequenceNotShown}
 
 -- what a request's answer tells, by its subcommand and status; no file is changed but by `canon`
 abbrev pub IsDone : Request → Option Files → Option Files → Option (List ℕ) → Option (List ℕ) → Status → Type 0

@@ -1,16 +1,12 @@
 -- What the answer to a request leaves, in the manner in which it is told.
 use Rattle.std.specs.Prelude.{ℕ, ◌≡◌, ◌⊎◌, false, List, Option, None}
 use Rattle.std.specs.Io.KnownBytes.{Keeps}
-use Rattle.cborc_commands.specs.Answer.{IsDone, IsNotDone}
-use Rattle.cborc_input.specs.Fault.{fault_status, status_number}
 use Rattle.cborc_files.specs.Folder.{Files, is_stream, KeepsFiles}
-use Rattle.cborc_input.specs.declared.request.Manner.{Manner}
-use Rattle.cborc_input.specs.declared.request.Manner.TheVariants.{Quiet}
-use Rattle.cborc_input.specs.declared.request.Request.{Request}
 use Rattle.cborc_input.specs.declared.request.Request.TheVariants.{Canon, CanonSequence, ShowSequence, Events, EventsSequence}
-use Rattle.cborc_input.specs.declared.fault.Fault.{Fault}
 use Rattle.cborc_input.specs.declared.fault.Fault.TheVariants as faults
-use Rattle.cborc_input.specs.declared.status.Status.{Status}
+use Rattle.cborc_input.specs.{Fault.fault_status, Fault.status_number, declared.request.Manner.Manner, declared.request.Manner.TheVariants.Quiet}
+use Rattle.cborc_input.specs.declared.{request.Request.Request, fault.Fault.Fault, status.Status.Status}
+use Rattle.cborc_commands.specs.Answer.{IsDone, IsNotDone}
 
 -- the faults after which standard output has what it had: all but its own; `events`, also with `--seq`, and `show --seq` write lines before a refusal, or before
 -- it is found that hex text is none, as does `canon --seq` where it writes there

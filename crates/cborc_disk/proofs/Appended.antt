@@ -1,13 +1,10 @@
 -- Bytes that a reader gave, behind those that were there.
 use Rattle.std.proofs.Common.{ℕ, ◌+◌, ◌-◌, ◌≡◌, ◌≤◌, None, Option, List, ◌++◌, append_assoc, length, length-append, take, drop, replicate, sym, ap, ◌∙◌, arith, length-take-le, take_all}
-use Rattle.std.proofs.Math.Seq.{drop-append_seam}
-use Rattle.std.proofs.lemmas.List.{length-replicate, take-append-le}
-use Rattle.std.proofs.KnownBytes.{Consumes-trans, Consumes-kept}
-use Rattle.std.specs.Io.KnownBytes.{Consumes, Keeps}
-use Rattle.std.specs.declared.io.ErrorKind.{ErrorKind}
 use Rattle.std.specs.declared.io.ErrorKind.TheVariants as kinds
-use Rattle.cborc_disk.specs.Disk.{IsAppended, IsCutShort}
+use Rattle.std.proofs.{Math.Seq.drop-append_seam, lemmas.List.length-replicate, lemmas.List.take-append-le, KnownBytes.Consumes-trans, KnownBytes.Consumes-kept}
+use Rattle.std.specs.{Io.KnownBytes.Consumes, Io.KnownBytes.Keeps, declared.io.ErrorKind.ErrorKind}
 use Rattle.cborc_files.specs.Folder.{ReadsOn}
+use Rattle.cborc_disk.specs.Disk.{IsAppended, IsCutShort}
 
 -- To the old bytes was added what a reader lost; so many of those that are wanted are left.
 pub record IsTaken (most left : ℕ) (before now : Option (List ℕ)) (old new : List ℕ) : Type 0 where

@@ -1,8 +1,7 @@
 -- What is read of a file.
 use Rattle.std.specs.Prelude.{ℕ, ◌≡◌, ◌≢◌, ◌≤◌, ◌++◌, List, [], length, Option}
-use Rattle.std.specs.Io.KnownBytes.{Consumes}
-use Rattle.std.specs.declared.io.ErrorKind.{ErrorKind}
 use Rattle.std.specs.declared.io.ErrorKind.TheVariants as kinds
+use Rattle.std.specs.{Io.KnownBytes.Consumes, declared.io.ErrorKind.ErrorKind}
 
 -- bytes were added to the old ones, no more than so many
 pub record IsAppended (most : ℕ) (old new : List ℕ) : Type 0 where

@@ -1,9 +1,6 @@
 -- What a look-up holds in which one path was given a file.
 use Rattle.std.proofs.Common.{ℕ, ◌≡◌, ◌≢◌, ◌∙◌, ap, refl, Bool, true, false, cond, List, Option, Some, option_map, sym}
-use Rattle.std.specs.Map.{update}
-use Rattle.std.specs.Str.{bytes_eq}
-use Rattle.std.proofs.lemmas.Bool.{false_from_ne_true}
-use Rattle.std.proofs.lemmas.Slice.Eq.{bytes_eq-Decides}
+use Rattle.std.{specs.Map.update, specs.Str.bytes_eq, proofs.lemmas.Bool.false_from_ne_true, proofs.lemmas.Slice.Eq.bytes_eq-Decides}
 use Rattle.cborc_files.specs.Folder.{ReplacesFile}
 
 module _ {V : Type 0} (items : V → List ℕ) (old new : List ℕ → Option V) (path : List ℕ) (file : V) (sets : (q : List ℕ) → new q ≡ update bytes_eq old path (Some file) q) where

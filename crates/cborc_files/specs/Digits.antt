@@ -2,9 +2,8 @@
 use Rattle.std.specs.Prelude.{ℕ, ◌≡◌, ◌≤◌, ◌∷◌, ◌++◌, List, [], length, Option, Some, None, Ok, IsErr}
 use Rattle.std.specs.List.{filter}
 use Rattle.hex.specs.Hex.{decode_of, decode_pairs, hex_digit_value}
-use Rattle.cborc_files.specs.Hex.{is_kept}
-use Rattle.cborc_files.specs.declared.hex_text.DigitsFault.{DigitsFault}
 use Rattle.cborc_files.specs.declared.hex_text.DigitsFault.TheVariants as faults
+use Rattle.cborc_files.specs.{Hex.is_kept, declared.hex_text.DigitsFault.DigitsFault}
 
 -- what contracts see of the digits of a text so far: the value of one that waits for another, if one does
 pub record DigitsView : Type 0 where

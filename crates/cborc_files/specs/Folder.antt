@@ -1,7 +1,6 @@
 -- What the files of a folder hold.
 use Rattle.std.specs.Prelude.{ℕ, ◌+◌, ◌^◌, ◌≡◌, ◌≢◌, ◌<◌, ◌++◌, Bool, List, [], codes, length, take, drop, Option, None, Some, MatchResult, Result, IsErr}
-use Rattle.std.specs.List.{filter}
-use Rattle.std.specs.Str.{bytes_eq}
+use Rattle.std.specs.{List.filter, Str.bytes_eq}
 use Rattle.hex.specs.Hex.{decode_of}
 use Rattle.cborc_files.specs.Hex.{is_kept}
 

@@ -1,8 +1,6 @@
 -- What files in memory hold.
-use Rattle.std.specs.Prelude.{option_map}
-use Rattle.std.specs.BTreeMap.{get_by_text}
-use Rattle.cborc_files.specs.Folder.{Files}
-use Rattle.cborc_files.specs.declared.files_in_memory.FilesInMemory.{FilesInMemory}
+use Rattle.std.specs.{Prelude.option_map, BTreeMap.get_by_text}
+use Rattle.cborc_files.specs.{Folder.Files, declared.files_in_memory.FilesInMemory.FilesInMemory}
 
 -- what each path holds
 abbrev pub files_of : FilesInMemory → Files

@@ -1,12 +1,9 @@
 -- What stays known of files from call to call.
 use Rattle.std.proofs.Common.{List, [], ℕ, ◌%◌, ◌≡◌, Bool, true, false, Option, Some, None, Result, Ok, Err, ◌∙◌, ap, arith, length, subst, sym, ◌==◌, if◌then◌else◌, IfSome, take_all}
-use Rattle.std.specs.List.{filter}
-use Rattle.hex.specs.Hex.{decode_pairs}
-use Rattle.hex.specs.declared.error.FromHexError.{FromHexError}
-use Rattle.hex.specs.declared.error.FromHexError.TheVariants.{OddLength}
-use Rattle.cborc_files.specs.Hex.{is_kept}
-use Rattle.std.specs.Io.KnownBytes.{Appends}
+use Rattle.std.specs.{List.filter, Io.KnownBytes.Appends}
+use Rattle.hex.specs.{Hex.decode_pairs, declared.error.FromHexError.FromHexError, declared.error.FromHexError.TheVariants.OddLength}
 use Rattle.cborc_files.specs.Folder.{Files, Holds, IsBlank, KeepsFiles, ReplacesFile}
+use Rattle.cborc_files.specs.Hex.{is_kept}
 use Rattle.cborc_fronts.specs.Input.{IsInput, IsFront, IsNotHex}
 
 pub keeps_keeps : (a b c : Option Files) → KeepsFiles a b → KeepsFiles b c → KeepsFiles a c

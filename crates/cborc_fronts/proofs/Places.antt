@@ -1,8 +1,7 @@
 -- Where bytes are refused by their form.
 use Rattle.std.proofs.Common.{ℕ, ◌≤◌, inl, inr, List, [], ◌∷◌, length, ap, arith, length-append, length-take}
 use Rattle.cbor_head.specs.Prelude.{form, Bounds, refused, IsFormError, IsVerdict}
-use Rattle.cbor_head.specs.Laws.{Decides}
-use Rattle.cbor_head.specs.declared.reason.Refusal.{Refusal}
+use Rattle.cbor_head.specs.{Laws.Decides, declared.reason.Refusal.Refusal}
 use Rattle.cbor_standing.proofs.Form.{never}
 
 form_place : (limits : Bounds) (p behind : List ℕ) (f : Refusal) → IsFormError limits p behind f → f.place ≤ length p

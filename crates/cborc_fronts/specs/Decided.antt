@@ -1,8 +1,7 @@
 -- Which bytes tell all of their first item.
 use Rattle.std.specs.Prelude.{ℕ, ◌≡◌, ◌≢◌, ◌<◌, ◌⊎◌, List, [], length}
 use Rattle.cbor_head.specs.Prelude.{form, Bounds, Spelling, spell, accepted, refused, IsVerdict}
-use Rattle.cbor_head.specs.declared.reason.Reason.TheVariants.{Truncated}
-use Rattle.cbor_head.specs.declared.reason.Refusal.{Refusal}
+use Rattle.cbor_head.specs.declared.reason.{Reason.TheVariants.Truncated, Refusal.Refusal}
 
 -- what these bytes tell of their first item does not depend on what follows them: by its form they end neither within it nor with it
 pub record IsDecided (limits : Bounds) (bytes : List ℕ) : Type 0 where

@@ -1,9 +1,7 @@
 -- What a command comes to as its arguments and subcommands are added.
 use Rattle.std.proofs.Common.{◌≡◌, ◌∙◌, ap, ap₂, true}
 use Rattle.clap.specs.Words.{AddsArg, AddsSubcommand, App, Rule, Shape, app_of, with_rule, with_subcommand}
-use Rattle.clap.specs.declared.builder.arg.Arg.{Arg}
-use Rattle.clap.specs.declared.builder.command.Command.{Command}
-use Rattle.clap.proofs.SimpleLemmas.{plain_fields}
+use Rattle.clap.{specs.declared.builder.arg.Arg.Arg, specs.declared.builder.command.Command.Command, proofs.SimpleLemmas.plain_fields}
 use Rattle.cborc_grammar.specs.inner.Commands.{HasRule, HasShape}
 
 -- one more argument

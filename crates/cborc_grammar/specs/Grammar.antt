@@ -1,12 +1,11 @@
 -- The words that the program takes: its subcommands and their arguments, as clap's model has them.
 use Rattle.std.specs.Prelude.{◌≡◌, ◌++◌, ◌^◌, ◌∷◌, List, [], Some, true, false, codes, map, pos}
 use Rattle.std.specs.Borrow.{Bor}
-use Rattle.cbor_head.specs.declared.limits.TheConstants.{MAX_DEPTH}
 use Rattle.clap.specs.Words.{App, Rule, Shape, Text, new_rule}
-use Rattle.clap.specs.Simple.{new_shape}
-use Rattle.clap.specs.declared.builder.action.ArgAction.TheVariants.{Set, SetTrue}
-use Rattle.clap.specs.declared.builder.value_parser.ValueParser.{ValueParser}
 use Rattle.clap.specs.declared.builder.value_parser.ValueParser.TheVariants as parser
+use Rattle.clap.specs.{Simple.new_shape, declared.builder.action.ArgAction.TheVariants.Set, declared.builder.action.ArgAction.TheVariants.SetTrue}
+use Rattle.clap.specs.declared.builder.value_parser.ValueParser.{ValueParser}
+use Rattle.cbor_head.specs.declared.limits.TheConstants.{MAX_DEPTH}
 
 -- `--NAME`, which stands for itself
 abbrev pub flag : Text → Rule

@@ -1,11 +1,10 @@
 -- Which fault comes of a refusal.
 use Rattle.std.proofs.Common.{◌≡◌, refl, sym, subst}
-use Rattle.cbor_head.specs.declared.reason.Reason.{Reason}
 use Rattle.cbor_head.specs.declared.reason.Reason.TheVariants as reasons
-use Rattle.cbor_head.specs.declared.reason.Refusal.{Refusal}
+use Rattle.cbor_head.specs.declared.reason.{Reason.Reason, Refusal.Refusal}
 use Rattle.cborc_input.specs.Fault.{IsOfInput, reason_fault, refusal_fault}
-use Rattle.cborc_input.specs.declared.fault.Fault.{Fault}
 use Rattle.cborc_input.specs.declared.fault.Fault.TheVariants as faults
+use Rattle.cborc_input.specs.declared.fault.Fault.{Fault}
 
 -- the fault of a refusal: the refusal, or want of memory
 pub refusal_is : (P : Fault → Type 0) (f : Refusal) (fault : Fault) → fault ≡ refusal_fault f → (IsOfInput f.reason → P (faults.Refused f)) → P faults.Memory → P fault

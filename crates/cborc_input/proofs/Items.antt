@@ -1,24 +1,17 @@
 -- The items of a sequence, of each of which something was written.
 use Rattle.std.proofs.Common.{ℕ, inl, inr, ◌+◌, ◌<◌, ◌≤◌, ◌≡◌, true, Option, List, [], ◌∷◌, ◌++◌, length, drop, refl, sym, ap, ◌∙◌, arith, subst, append_assoc, append-nil, length-append, length-drop}
-use Rattle.std.proofs.lemmas.List.{nil_from_length}
-use Rattle.std.specs.List.{AllByRecursion}
-use Rattle.std.specs.Io.KnownBytes.{Appends}
+use Rattle.std.{proofs.lemmas.List.nil_from_length, specs.List.AllByRecursion, specs.Io.KnownBytes.Appends}
 use Rattle.cbor_head.specs.Prelude.{Spelling, spell}
 use Rattle.cbor_grammar.proofs.ReadLaws.{length_spell}
 use Rattle.cbor_reader.specs.Sequence.{sequence_bytes, EndsBefore}
 use Rattle.cborc_files.specs.Folder.{Files, KeepsFiles}
-use Rattle.cborc_input.specs.Fault.{at_item}
-use Rattle.cborc_input.specs.Sequences.{texts_from}
-use Rattle.cborc_input.specs.declared.fault.Fault.{Fault}
-use Rattle.cborc_input.specs.declared.request.Options.{Options}
+use Rattle.cborc_fronts.proofs.{Lists.all_with, Lists.joined_with, Outputs.appends_more, Outputs.appends_none}
 use Rattle.cborc_input.specs.Items.{IsWritten, AreWrittenOf, AreStopped, AreStoppedOf, no_input, behind_no_input, within}
-use Rattle.cborc_input.specs.NoInput.{IsNoInput}
 use Rattle.cborc_input.specs.inner.Parts.{PartsView, IsReadTo, IsNextPart}
 use Rattle.cborc_input.specs.inner.Sources.{IsNoPart, HasInput, HasNoInput}
 use Rattle.cborc_input.proofs.ReadParts.{next_part, took, front_there, input_ended, input_there, no_input_there, no_next_part, weight}
+use Rattle.cborc_input.specs.{Fault.at_item, Sequences.texts_from, declared.fault.Fault.Fault, declared.request.Options.Options, NoInput.IsNoInput}
 use Rattle.cborc_input.proofs.Sources.{same_files, unread}
-use Rattle.cborc_fronts.proofs.Lists.{all_with, joined_with}
-use Rattle.cborc_fronts.proofs.Outputs.{appends_more, appends_none}
 
 -- ---- lists
 

@@ -2,9 +2,8 @@
 use Rattle.std.proofs.Common.{List, ℕ, Bool, Option}
 use Rattle.cborc_files.specs.Folder.{Files, KeepsFiles}
 use Rattle.cborc_fronts.proofs.Files.{not_hex_before}
-use Rattle.cborc_input.specs.NoInput.{IsNoInput}
-use Rattle.cborc_input.specs.declared.fault.Fault.{Fault}
 use Rattle.cborc_input.specs.declared.fault.Fault.TheVariants as faults
+use Rattle.cborc_input.specs.{NoInput.IsNoInput, declared.fault.Fault.Fault}
 
 pub no_input_before : (a b : Option Files) (path : List ℕ) (hex : Bool) (fault : Fault) → KeepsFiles a b → IsNoInput b path hex fault → IsNoInput a path hex fault
 no_input_before a b path hex (faults.CannotRead named) k h = h

@@ -2,16 +2,11 @@
 use Rattle.std.proofs.Common.{ℕ, ◌+◌, ◌*◌, ◌≡◌, ◌<◌, ◌⊎◌, inl, inr, Bool, true, false, Option, List, [], ◌++◌, length, drop, refl, sym, ap, ◌∙◌, arith, subst, append_assoc, append-nil, length-append}
 use Rattle.std.proofs.Math.Seq.{drop-append_seam}
 use Rattle.cborc_files.specs.Folder.{Files, KeepsFiles}
-use Rattle.cborc_fronts.specs.Input.{IsInput, IsFront}
-use Rattle.cborc_input.specs.NoInput.{IsNoInput}
-use Rattle.cborc_input.specs.declared.fault.Fault.{Fault}
-use Rattle.cborc_input.specs.declared.request.Options.{Options}
-use Rattle.cborc_input.specs.declared.source.Source.{Source}
+use Rattle.cborc_fronts.specs.{Input.IsInput, Input.IsFront, Decided.IsDecided}
 use Rattle.cborc_input.specs.inner.Parts.{PartsView, IsReadTo, IsNextPart}
-use Rattle.cborc_input.specs.Start.{StartsInput}
-use Rattle.cborc_fronts.specs.Decided.{IsDecided}
 use Rattle.cborc_input.specs.inner.Sources.{HasGiven, IsFresh, IsPartAdded, IsNoPart, StartsInputAt, HasInput, HasNoInput}
 use Rattle.cborc_input.proofs.Sources.{given_further, first_given, front_given, no_fewer, input_known, no_part, unread, unread_less}
+use Rattle.cborc_input.specs.{NoInput.IsNoInput, declared.fault.Fault.Fault, declared.request.Options.Options, declared.source.Source.Source, Start.StartsInput}
 
 -- the first part
 pub first_part : (held : Option Files) (path : List ℕ) (hex : Bool) (old new : PartsView) → old.rest ≡ [] → old.start ≡ 0 → IsFresh hex old.source → IsNextPart held path old new

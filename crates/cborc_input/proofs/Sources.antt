@@ -1,24 +1,17 @@
 -- A file that is read part by part, as it stands or as hex text, and the input that it is.
 use Rattle.std.proofs.Common.{ℕ, ◌+◌, ◌-◌, ◌^◌, ◌≡◌, ◌<◌, ◌≤◌, ◌⊎◌, inl, inr, Bool, true, false, Option, Some, None, List, [], ◌∷◌, ◌++◌, length, take, drop, refl, sym, ap, ◌∙◌, arith, subst, IsErr, nat_lt, append_assoc, append-nil, length-append, length-take, length-drop, take-append-drop}
-use Rattle.std.specs.List.{filter}
-use Rattle.std.proofs.Math.Seq.{drop-append_seam, take-append_seam}
-use Rattle.std.proofs.lemmas.Bool.{cases_lt, false≢true}
-use Rattle.std.proofs.lemmas.Bool.Decides.{Decides-ltb}
-use Rattle.std.proofs.lemmas.List.Elements.{filter-append}
-use Rattle.std.proofs.lemmas.List.{nil_from_length}
+use Rattle.std.{specs.List.filter, proofs.Math.Seq.drop-append_seam, proofs.Math.Seq.take-append_seam}
+use Rattle.std.proofs.lemmas.{Bool.cases_lt, Bool.false≢true, Bool.Decides.Decides-ltb, List.Elements.filter-append, List.nil_from_length}
 use Rattle.hex.specs.Hex.{decode_of, decode_pairs}
 use Rattle.cborc_files.specs.Digits.{DigitsView, EndsIn, Spells, SpellsOn, IsWhole, IsOfText}
 use Rattle.cborc_files.specs.Folder.{Files, Holds, IsNoDigits, ReadsOn, KeepsFiles}
-use Rattle.cborc_files.specs.Hex.{is_kept}
-use Rattle.cborc_files.specs.declared.hex_text.DigitsFault.{DigitsFault}
 use Rattle.cborc_files.specs.declared.hex_text.DigitsFault.TheVariants as digits
+use Rattle.cborc_files.specs.{Hex.is_kept, declared.hex_text.DigitsFault.DigitsFault}
 use Rattle.cborc_fronts.specs.Input.{IsInput, IsFront, IsNotHex}
-use Rattle.cborc_input.specs.NoInput.{IsNoInput}
-use Rattle.cborc_input.specs.declared.fault.Fault.{Fault}
-use Rattle.cborc_input.specs.declared.fault.Fault.TheVariants as faults
-use Rattle.cborc_input.specs.declared.source.Source.{Source}
-use Rattle.cborc_input.specs.inner.Sources.{StartsFile, Gives, IsAll, HasGiven, IsFresh, Adds, IsPartAdded, IsUndecoded, IsStrayText, IsNoPart, StartsInputAt, HasInput, HasNoInput}
 use Rattle.cborc_fronts.proofs.Files.{held_before, keeps_keeps}
+use Rattle.cborc_input.specs.declared.fault.Fault.TheVariants as faults
+use Rattle.cborc_input.specs.inner.Sources.{StartsFile, Gives, IsAll, HasGiven, IsFresh, Adds, IsPartAdded, IsUndecoded, IsStrayText, IsNoPart, StartsInputAt, HasInput, HasNoInput}
+use Rattle.cborc_input.specs.{NoInput.IsNoInput, declared.fault.Fault.Fault, declared.source.Source.Source}
 
 pub same_files : (held : Option Files) → KeepsFiles held held
 same_files None = tt

@@ -1,14 +1,11 @@
 -- Which fault comes of a refusal, and with which status the program ends.
 use Rattle.std.specs.Prelude.{ℕ, Result, Ok, Err}
-use Rattle.cbor_head.specs.declared.reason.Reason.{Reason}
 use Rattle.cbor_head.specs.declared.reason.Reason.TheVariants as reasons
-use Rattle.cbor_head.specs.declared.reason.Refusal.{Refusal}
-use Rattle.cbor_reader.specs.declared.comparison.Side.{Side}
-use Rattle.cbor_reader.specs.declared.comparison.Side.TheVariants.{Left, Right}
-use Rattle.cborc_input.specs.declared.fault.Fault.{Fault}
+use Rattle.cbor_head.specs.declared.reason.{Reason.Reason, Refusal.Refusal}
+use Rattle.cbor_reader.specs.declared.comparison.Side.{Side, TheVariants.Left, TheVariants.Right}
 use Rattle.cborc_input.specs.declared.fault.Fault.TheVariants as faults
-use Rattle.cborc_input.specs.declared.status.Status.{Status}
 use Rattle.cborc_input.specs.declared.status.Status.TheVariants.{Accepted, Refused, Misused, Failed}
+use Rattle.cborc_input.specs.declared.{fault.Fault.Fault, status.Status.Status}
 
 -- what refuses an input: neither want of memory nor a reader that failed
 abbrev pub IsOfInput : Reason → Type 0

@@ -2,13 +2,10 @@
 use Rattle.std.specs.Prelude.{ℕ, ◌≡◌, ◌++◌, Bool, true, List, length, Option}
 use Rattle.std.specs.Io.KnownBytes.{Appends}
 use Rattle.cbor_head.specs.Prelude.{Spelling, spell}
-use Rattle.cborc_input.specs.Fault.{at_item}
-use Rattle.cborc_fronts.specs.Input.{IsInput, IsFront}
-use Rattle.cborc_input.specs.NoInput.{IsNoInput}
-use Rattle.cborc_input.specs.Sequences.{texts_from, AreAll, GoesOn, AreFirst}
-use Rattle.cborc_input.specs.declared.fault.Fault.{Fault}
-use Rattle.cborc_input.specs.declared.request.Options.{Options}
 use Rattle.cborc_files.specs.Folder.{Files}
+use Rattle.cborc_fronts.specs.Input.{IsInput, IsFront}
+use Rattle.cborc_input.specs.Sequences.{texts_from, AreAll, GoesOn, AreFirst}
+use Rattle.cborc_input.specs.{Fault.at_item, NoInput.IsNoInput, declared.fault.Fault.Fault, declared.request.Options.Options}
 
 -- the item at the front of these bytes, which has so many, is taken, and its text was written
 pub record IsWritten (takes : Spelling → Type 0) (text : Spelling → List ℕ) (bytes : List ℕ) (size : ℕ) (before after : Option (List ℕ)) : Type 0 where

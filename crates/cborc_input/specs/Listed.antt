@@ -1,12 +1,9 @@
 -- Why the item at a front is not listed.
 use Rattle.std.specs.Prelude.{ℕ, ◌≡◌, ◌≢◌, ◌≤◌, List, length, Option}
-use Rattle.cbor_head.specs.Prelude.{Bounds}
-use Rattle.cbor_head.specs.declared.reason.Reason.TheVariants.{Write}
-use Rattle.cbor_head.specs.declared.reason.Refusal.{Refusal}
+use Rattle.cbor_head.specs.{Prelude.Bounds, declared.reason.Reason.TheVariants.Write, declared.reason.Refusal.Refusal}
 use Rattle.cbor_diag.specs.Listing.{IsUnlisted}
-use Rattle.cborc_input.specs.Fault.{IsOfInput}
-use Rattle.cborc_input.specs.declared.fault.Fault.{Fault}
 use Rattle.cborc_input.specs.declared.fault.Fault.TheVariants as faults
+use Rattle.cborc_input.specs.{Fault.IsOfInput, declared.fault.Fault.Fault}
 
 -- The form of the item at the front of these bytes, which start there in the input, is refused; or standard output took not all of
 -- its lines, and of the bytes what was taken; a read that failed would be told as want of memory.

@@ -2,8 +2,8 @@
 use Rattle.std.specs.Prelude.{ℕ, ◌≡◌, Bool, List, Option}
 use Rattle.cborc_files.specs.Folder.{Files}
 use Rattle.cborc_fronts.specs.Input.{IsNotHex}
-use Rattle.cborc_input.specs.declared.fault.Fault.{Fault}
 use Rattle.cborc_input.specs.declared.fault.Fault.TheVariants as faults
+use Rattle.cborc_input.specs.declared.fault.Fault.{Fault}
 
 -- why there is no input: the file is not to be had, or is no hex text; or memory was refused
 abbrev pub IsNoInput : Option Files → List ℕ → Bool → Fault → Type 0

@@ -2,8 +2,8 @@
 use Rattle.std.specs.Prelude.{ℕ, ◌≡◌, true, false, List, Option}
 use Rattle.std.specs.Io.KnownBytes.{Appends, Keeps}
 use Rattle.cborc_files.specs.Folder.{Files, is_stream, KeepsFiles, ReplacesFile}
-use Rattle.cborc_input.specs.declared.fault.Fault.{Fault}
 use Rattle.cborc_input.specs.declared.fault.Fault.TheVariants as faults
+use Rattle.cborc_input.specs.declared.fault.Fault.{Fault}
 
 -- the text is where it belongs: standard output took it, and no file was changed; or the file holds it, and no other was changed, and standard output took nothing
 pub data IsPut (path : List ℕ) (old new : Option Files) (before after : Option (List ℕ)) (text : List ℕ) : Type 0 where

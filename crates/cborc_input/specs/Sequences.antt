@@ -1,12 +1,11 @@
 -- Inputs that are sequences of items (RFC 8742), by what is asked of each item.
 use Rattle.std.specs.Prelude.{ℕ, ◌+◌, ◌≡◌, ◌<◌, ◌⊎◌, ◌++◌, List, [], ◌∷◌, length, take, flat_map, Option}
-use Rattle.std.specs.Io.KnownBytes.{Appends}
-use Rattle.std.specs.List.{AllByRecursion}
+use Rattle.std.specs.{Io.KnownBytes.Appends, List.AllByRecursion}
 use Rattle.cbor_head.specs.Prelude.{Spelling, spell}
 use Rattle.cbor_reader.specs.Sequence.{sequence_bytes, EndsBefore}
+use Rattle.cborc_files.specs.Folder.{Files}
 use Rattle.cborc_fronts.specs.Input.{IsInput, IsFront}
 use Rattle.cborc_input.specs.declared.request.Options.{Options}
-use Rattle.cborc_files.specs.Folder.{Files}
 
 -- what is written of these items, one behind another, where the first starts there: of each by where it starts
 abbrev pub texts_from : (ℕ → Spelling → List ℕ) → ℕ → List Spelling → List ℕ

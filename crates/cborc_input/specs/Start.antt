@@ -1,8 +1,7 @@
 -- What is read of an input that is to be one item.
 use Rattle.std.specs.Prelude.{ℕ, ◌≡◌, ◌++◌, List, Option}
 use Rattle.cborc_files.specs.Folder.{Files}
-use Rattle.cborc_fronts.specs.Decided.{IsEnough}
-use Rattle.cborc_fronts.specs.Input.{IsInput}
+use Rattle.cborc_fronts.specs.{Decided.IsEnough, Input.IsInput}
 use Rattle.cborc_input.specs.declared.request.Options.{Options}
 
 -- these bytes are the first ones of the input at this path: all of them, or enough

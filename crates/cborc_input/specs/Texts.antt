@@ -5,15 +5,10 @@ use Rattle.hex.specs.Hex.{encode_lower}
 use Rattle.cbor_head.specs.Prelude.{Bounds, form, Value}
 use Rattle.cbor_head.specs.declared.order.KeyOrder.{KeyOrder}
 use Rattle.cbor_reader.specs.Canonicalise.{IsCanonicalOf, IsRefusal}
-use Rattle.cborc_input.specs.Fault.{IsOfInput}
-use Rattle.cborc_input.specs.declared.request.Form.{Form}
-use Rattle.cborc_input.specs.declared.request.Form.TheVariants.{Raw, Hex}
-use Rattle.cborc_input.specs.declared.fault.Fault.{Fault}
+use Rattle.cbor_diag.specs.{Text.text, IndentedText.indented}
 use Rattle.cborc_input.specs.declared.fault.Fault.TheVariants as faults
-use Rattle.cbor_diag.specs.Text.{text}
-use Rattle.cbor_diag.specs.IndentedText.{indented}
-use Rattle.cborc_input.specs.declared.request.Layout.{Layout}
-use Rattle.cborc_input.specs.declared.request.Layout.TheVariants.{OneLine, Indented}
+use Rattle.cborc_input.specs.{Fault.IsOfInput, declared.request.Form.Form, declared.request.Form.TheVariants.Raw, declared.request.Form.TheVariants.Hex}
+use Rattle.cborc_input.specs.declared.{fault.Fault.Fault, request.Layout.Layout, request.Layout.TheVariants.OneLine, request.Layout.TheVariants.Indented}
 
 -- bytes in a form: themselves, or two lower-case hex digits each and a line feed
 abbrev pub in_form : Form → List ℕ → List ℕ

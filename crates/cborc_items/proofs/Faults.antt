@@ -1,40 +1,26 @@
 -- Which fault a part of a subcommand passes on, and what it tells of the whole.
 use Rattle.std.proofs.Common.{ℕ, ◌≡◌, ◌++◌, inl, List, length, Option, refl, sym, subst}
-use Rattle.cbor_diag.specs.Listing.{IsListed}
+use Rattle.std.{specs.Io.KnownBytes.Appends, specs.Io.KnownBytes.Keeps, proofs.KnownBytes.Keeps-refl}
 use Rattle.cbor_head.specs.Prelude.{Rules, plain, Bounds, accepted, IsVerdict, Spelling, value_of}
-use Rattle.cbor_head.specs.declared.order.KeyOrder.{KeyOrder}
-use Rattle.cbor_head.specs.declared.reason.Refusal.{Refusal}
-use Rattle.cbor_reader.specs.Canonicalise.{IsCanonicalOf, IsRefusal}
-use Rattle.cbor_reader.specs.Comparing.{IsSideRefusal}
+use Rattle.cbor_head.specs.declared.{order.KeyOrder.KeyOrder, reason.Refusal.Refusal}
 use Rattle.cbor_judging.specs.Readers.{IsReadAs}
-use Rattle.cbor_reader.specs.WholeItem.{IsWholeItem, IsItemRefusal}
-use Rattle.cbor_reader.specs.declared.comparison.Side.{Side}
-use Rattle.cbor_reader.specs.declared.comparison.Side.TheVariants.{Left, Right}
-use Rattle.cborc_items.proofs.Files.{put_kept}
-use Rattle.cborc_fronts.proofs.Files.{input_before}
-use Rattle.cborc_items.proofs.Fronts.{canonical_whole, refusal_whole, is_whole, is_all_of, listed_whole, not_listed_whole, whole_item, item_refusal_whole}
-use Rattle.cborc_items.proofs.Whole.{AreAccepted, read_as}
+use Rattle.cbor_reader.specs.{Canonicalise.IsCanonicalOf, Canonicalise.IsRefusal, Comparing.IsSideRefusal, WholeItem.IsWholeItem, WholeItem.IsItemRefusal}
+use Rattle.cbor_reader.specs.declared.comparison.Side.{Side, TheVariants.Left, TheVariants.Right}
+use Rattle.cbor_diag.specs.Listing.{IsListed}
+use Rattle.cborc_files.specs.Folder.{Files, KeepsFiles}
+use Rattle.cborc_fronts.{proofs.Files.input_before, specs.Decided.IsEnough}
 use Rattle.cborc_input.specs.Texts.{GoesInPart, IsCanonicalText, IsNoText, IsNotTaken, shown_text}
-use Rattle.cborc_input.specs.Put.{IsPut, IsNotPut}
-use Rattle.cborc_items.specs.Canon.{HasText, IsNotCanonised}
-use Rattle.cborc_input.specs.Start.{StartsInput}
-use Rattle.cborc_fronts.specs.Decided.{IsEnough}
+use Rattle.cborc_input.specs.declared.status.Status.TheVariants as statuses
+use Rattle.cborc_input.specs.declared.fault.Fault.TheVariants as faults
+use Rattle.cborc_input.specs.{Put.IsPut, Put.IsNotPut, Start.StartsInput, Fault.IsOfInput, Fault.refusal_fault, declared.request.Layout.Layout}
+use Rattle.cborc_input.specs.declared.{status.Status.Status, request.Options.Options, request.Output.Output, fault.Fault.Fault}
+use Rattle.cborc_input.proofs.Faults.{refusal_is}
+use Rattle.cborc_items.proofs.Fronts.{canonical_whole, refusal_whole, is_whole, is_all_of, listed_whole, not_listed_whole, whole_item, item_refusal_whole}
 use Rattle.cborc_items.specs.Check.{accepted_bytes, IsWhole, IsChecked, IsNotChecked}
 use Rattle.cborc_items.specs.Compare.{IsTold, IsUntold, AreInputs, AreCompared, AreNotCompared}
 use Rattle.cborc_items.specs.Events.{IsNotListed, IsListedOf, IsNotListedOf}
-use Rattle.cborc_input.specs.Fault.{IsOfInput, refusal_fault}
-use Rattle.cborc_files.specs.Folder.{Files, KeepsFiles}
+use Rattle.cborc_items.{proofs.Files.put_kept, proofs.Whole.AreAccepted, proofs.Whole.read_as, specs.Canon.HasText, specs.Canon.IsNotCanonised}
 use Rattle.cborc_items.specs.Show.{IsShownOf, IsNotShown}
-use Rattle.cborc_input.specs.declared.request.Layout.{Layout}
-use Rattle.cborc_input.specs.declared.status.Status.{Status}
-use Rattle.cborc_input.specs.declared.status.Status.TheVariants as statuses
-use Rattle.cborc_input.specs.declared.request.Options.{Options}
-use Rattle.cborc_input.specs.declared.request.Output.{Output}
-use Rattle.cborc_input.specs.declared.fault.Fault.{Fault}
-use Rattle.cborc_input.specs.declared.fault.Fault.TheVariants as faults
-use Rattle.std.specs.Io.KnownBytes.{Appends, Keeps}
-use Rattle.std.proofs.KnownBytes.{Keeps-refl}
-use Rattle.cborc_input.proofs.Faults.{refusal_is}
 
 module _ (o : KeyOrder) (options : Options) (source : List ℕ) (output : Output) (held : Option Files) where
   text_whole : (bytes text : List ℕ) (s : StartsInput held source options bytes) → IsCanonicalText options.limits o output.form bytes text

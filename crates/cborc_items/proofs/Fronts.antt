@@ -2,28 +2,22 @@
 use Rattle.std.proofs.Common.{ℕ, ◌≡◌, ◌≢◌, ◌≤◌, inl, inr, Option, List, [], ◌++◌, length, take, sym, ap, ◌∙◌, arith, subst, append_assoc, append-nil, length-append}
 use Rattle.std.proofs.lemmas.List.{take-append-le}
 use Rattle.cbor_head.specs.Prelude.{Rules, form, plain, Bounds, Value, Spelling, spell, IsItem, Answer, accepted, refused, refusal, IsVerdict}
-use Rattle.cbor_head.specs.declared.order.KeyOrder.{KeyOrder}
 use Rattle.cbor_head.specs.declared.reason.Reason.TheVariants.{CanonicalTooLong, Truncated, Read, KeyKind}
-use Rattle.cbor_head.specs.declared.reason.Refusal.{Refusal}
+use Rattle.cbor_head.specs.declared.{order.KeyOrder.KeyOrder, reason.Refusal.Refusal}
 use Rattle.cbor_grammar.proofs.Agree.{split_front}
-use Rattle.cbor_reader.specs.Canonicalise.{IsCanonicalOf, IsRefusal, of_item, canonical_too_long}
+use Rattle.cbor_standing.proofs.Form.{never}
 use Rattle.cbor_judging.proofs.Further.{IsFinal, further, more, splits_further}
-use Rattle.cbor_judging.proofs.Reasons.{item-reason}
-use Rattle.cbor_judging.proofs.SpelledBytes.{longest_always}
-use Rattle.cbor_judging.specs.Readers.{IsUnread, IsReadAs}
 use Rattle.cbor_judging.specs.Readers as readers
+use Rattle.cbor_judging.{proofs.Reasons.item-reason, proofs.SpelledBytes.longest_always, specs.Readers.IsUnread, specs.Readers.IsReadAs}
 use Rattle.cbor_judging.specs.Refusals.{IsComplaintReason}
+use Rattle.cbor_reader.specs.Canonicalise.{IsCanonicalOf, IsRefusal, of_item, canonical_too_long}
 use Rattle.cbor_reader.specs.WholeItem.{IsWholeItem, IsItemRefusal, unread, trailing}
 use Rattle.cbor_diag.specs.Listing.{IsListing, IsStopped, IsListed, IsUnlisted}
 use Rattle.cbor_diag.specs.Listing as listing
-use Rattle.cbor_standing.proofs.Form.{never}
-use Rattle.cborc_items.specs.Check.{IsWhole}
-use Rattle.cborc_items.specs.Events.{IsFollowed, IsNotListed}
-use Rattle.cborc_input.specs.declared.fault.Fault.{Fault}
+use Rattle.cborc_fronts.{specs.Decided.IsDecided, specs.Decided.IsEnough, proofs.Places.place_within}
 use Rattle.cborc_input.specs.declared.fault.Fault.TheVariants as faults
-use Rattle.cborc_fronts.specs.Decided.{IsDecided, IsEnough}
-use Rattle.cborc_fronts.proofs.Places.{place_within}
-use Rattle.cborc_items.proofs.Whole.{AreAccepted}
+use Rattle.cborc_input.specs.declared.fault.Fault.{Fault}
+use Rattle.cborc_items.{specs.Check.IsWhole, specs.Events.IsFollowed, specs.Events.IsNotListed, proofs.Whole.AreAccepted}
 
 -- ---- by its form alone
 

@@ -1,16 +1,13 @@
 -- The fault of a side's refusal tells which side and why.
 use Rattle.std.proofs.Common.{ℕ, ◌≡◌, ◌∙◌, List, Option, ap, refl, sym, subst}
-use Rattle.cbor_head.specs.Prelude.{plain, Bounds}
-use Rattle.cbor_head.specs.declared.reason.Reason.{Reason}
 use Rattle.cbor_head.specs.declared.reason.Reason.TheVariants as reasons
-use Rattle.cbor_head.specs.declared.reason.Refusal.{Refusal}
-use Rattle.cbor_reader.specs.Comparing.{IsSideRefusal}
+use Rattle.cbor_head.specs.{Prelude.plain, Prelude.Bounds, declared.reason.Reason.Reason, declared.reason.Refusal.Refusal}
 use Rattle.cbor_reader.specs.WholeItem.{IsItemRefusal, unread, trailing}
-use Rattle.cbor_reader.specs.declared.comparison.Side.{Side}
+use Rattle.cbor_reader.specs.{Comparing.IsSideRefusal, declared.comparison.Side.Side}
 use Rattle.cbor_reader.specs.declared.comparison.Side.TheVariants.{Left, Right}
-use Rattle.cborc_items.specs.Compare.{IsUntold}
 use Rattle.cborc_input.specs.Fault.{IsOfInput, side_reason_fault, side_fault}
 use Rattle.cborc_input.specs.declared.fault.Fault.{Fault}
+use Rattle.cborc_items.specs.Compare.{IsUntold}
 
 module _ (limits : Bounds) (left right : List ℕ) (before after : Option (List ℕ)) where
   -- a slice fails at no read

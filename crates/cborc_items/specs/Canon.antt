@@ -1,19 +1,12 @@
 -- What `canon` writes, and why it writes nothing.
 use Rattle.std.specs.Prelude.{ℕ, ◌≡◌, List, Option, Some}
-use Rattle.cbor_head.specs.Prelude.{Bounds}
-use Rattle.cbor_head.specs.declared.order.KeyOrder.{KeyOrder}
+use Rattle.cbor_head.specs.{Prelude.Bounds, declared.order.KeyOrder.KeyOrder}
 use Rattle.cbor_reader.specs.Canonicalise.{IsCanonicalOf, IsRefusal}
-use Rattle.cborc_input.specs.Fault.{IsOfInput}
 use Rattle.cborc_files.specs.Folder.{Files}
 use Rattle.cborc_fronts.specs.Input.{IsInput}
-use Rattle.cborc_input.specs.NoInput.{IsNoInput}
-use Rattle.cborc_input.specs.declared.request.Form.{Form}
-use Rattle.cborc_input.specs.declared.request.Options.{Options}
-use Rattle.cborc_input.specs.declared.request.Output.{Output}
-use Rattle.cborc_input.specs.declared.fault.Fault.{Fault}
 use Rattle.cborc_input.specs.declared.fault.Fault.TheVariants as faults
-use Rattle.cborc_input.specs.Texts.{GoesInPart, IsCanonicalText}
-use Rattle.cborc_input.specs.Put.{IsNotPut}
+use Rattle.cborc_input.specs.{Fault.IsOfInput, NoInput.IsNoInput, declared.request.Form.Form, declared.request.Options.Options, declared.request.Output.Output}
+use Rattle.cborc_input.specs.{declared.fault.Fault.Fault, Texts.GoesInPart, Texts.IsCanonicalText, Put.IsNotPut}
 
 -- the input at a path has canonical bytes, and this is told of their text
 pub record HasText (o : KeyOrder) (options : Options) (source : List ℕ) (form : Form) (held : Option Files) (Told : List ℕ → Type 0) : Type 0 where

@@ -3,14 +3,10 @@ use Rattle.std.specs.Prelude.{ℕ, ◌≡◌, ◌++◌, List, length, codes, dec
 use Rattle.cbor_head.specs.Prelude.{Rules, Bounds}
 use Rattle.cbor_judging.specs.Readers.{IsRead}
 use Rattle.cbor_reader.specs.WholeItem.{IsItemRefusal}
-use Rattle.cborc_input.specs.Fault.{IsOfInput}
 use Rattle.cborc_files.specs.Folder.{Files}
 use Rattle.cborc_fronts.specs.Input.{IsInput}
-use Rattle.cborc_input.specs.NoInput.{IsNoInput}
-use Rattle.cborc_input.specs.Texts.{GoesInPart}
-use Rattle.cborc_input.specs.declared.request.Options.{Options}
-use Rattle.cborc_input.specs.declared.fault.Fault.{Fault}
 use Rattle.cborc_input.specs.declared.fault.Fault.TheVariants as faults
+use Rattle.cborc_input.specs.{Fault.IsOfInput, NoInput.IsNoInput, Texts.GoesInPart, declared.request.Options.Options, declared.fault.Fault.Fault}
 
 -- the item at the front, accepted by the rules within the limits, is the whole input, so many bytes
 abbrev pub IsWhole : Bounds → Rules → List ℕ → ℕ → Type 0

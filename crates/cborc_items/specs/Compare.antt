@@ -1,23 +1,15 @@
 -- What `compare` tells of two inputs.
 use Rattle.std.specs.Prelude.{ℕ, ◌≡◌, ◌⊎◌, List, Option, codes}
 use Rattle.std.specs.Io.KnownBytes.{Appends}
-use Rattle.cbor_head.specs.Prelude.{Bounds}
 use Rattle.cbor_head.specs.declared.reason.Reason.TheVariants as reasons
-use Rattle.cbor_head.specs.declared.reason.Refusal.{Refusal}
-use Rattle.cbor_reader.specs.Comparing.{MeanTheSame, IsSideRefusal}
-use Rattle.cbor_reader.specs.WholeItem.{IsWholeItem}
-use Rattle.cbor_reader.specs.declared.comparison.Side.{Side}
+use Rattle.cbor_head.specs.{Prelude.Bounds, declared.reason.Refusal.Refusal}
+use Rattle.cbor_reader.specs.{Comparing.MeanTheSame, Comparing.IsSideRefusal, WholeItem.IsWholeItem, declared.comparison.Side.Side}
 use Rattle.cbor_reader.specs.declared.comparison.Side.TheVariants.{Left, Right}
-use Rattle.cborc_input.specs.Fault.{IsOfInput}
 use Rattle.cborc_files.specs.Folder.{Files}
 use Rattle.cborc_fronts.specs.Input.{IsInput}
-use Rattle.cborc_input.specs.NoInput.{IsNoInput}
-use Rattle.cborc_input.specs.Texts.{GoesInPart}
-use Rattle.cborc_input.specs.declared.request.Options.{Options}
-use Rattle.cborc_input.specs.declared.fault.Fault.{Fault}
 use Rattle.cborc_input.specs.declared.fault.Fault.TheVariants as faults
-use Rattle.cborc_input.specs.declared.status.Status.{Status}
-use Rattle.cborc_input.specs.declared.status.Status.TheVariants.{Accepted, Refused}
+use Rattle.cborc_input.specs.{Fault.IsOfInput, NoInput.IsNoInput, Texts.GoesInPart, declared.request.Options.Options, declared.fault.Fault.Fault}
+use Rattle.cborc_input.specs.declared.status.Status.{Status, TheVariants.Accepted, TheVariants.Refused}
 
 -- both are whole valid items within the limits
 abbrev pub AreAccepted : Bounds → List ℕ → List ℕ → Type 0

@@ -1,17 +1,13 @@
 -- Why `events` ends without the listing of a whole file.
 use Rattle.std.specs.Prelude.{ℕ, ◌≡◌, ◌≢◌, ◌<◌, ◌≤◌, ◌⊎◌, List, length, Option}
 use Rattle.std.specs.Io.KnownBytes.{Keeps}
-use Rattle.cbor_head.specs.Prelude.{Bounds, refusal}
-use Rattle.cbor_head.specs.declared.reason.Reason.TheVariants.{Trailing, Write}
+use Rattle.cbor_head.specs.{Prelude.Bounds, Prelude.refusal, declared.reason.Reason.TheVariants.Trailing, declared.reason.Reason.TheVariants.Write}
 use Rattle.cbor_head.specs.declared.reason.Refusal.{Refusal}
 use Rattle.cbor_diag.specs.Listing.{IsListed, IsUnlisted}
-use Rattle.cborc_input.specs.Fault.{IsOfInput}
 use Rattle.cborc_files.specs.Folder.{Files}
 use Rattle.cborc_fronts.specs.Input.{IsInput}
-use Rattle.cborc_input.specs.NoInput.{IsNoInput}
-use Rattle.cborc_input.specs.declared.request.Options.{Options}
-use Rattle.cborc_input.specs.declared.fault.Fault.{Fault}
 use Rattle.cborc_input.specs.declared.fault.Fault.TheVariants as faults
+use Rattle.cborc_input.specs.{Fault.IsOfInput, NoInput.IsNoInput, declared.request.Options.Options, declared.fault.Fault.Fault}
 
 -- a byte follows the item at the front, which was listed
 pub record IsFollowed (limits : Bounds) (input : List ℕ) (old new : Option (List ℕ)) (f : Refusal) : Type 0 where

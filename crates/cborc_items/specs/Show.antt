@@ -4,14 +4,10 @@ use Rattle.std.specs.Io.KnownBytes.{Keeps}
 use Rattle.cbor_head.specs.Prelude.{plain, Value}
 use Rattle.cbor_judging.specs.Readers.{IsReadAs}
 use Rattle.cbor_reader.specs.WholeItem.{IsItemRefusal}
-use Rattle.cborc_input.specs.Fault.{IsOfInput}
 use Rattle.cborc_files.specs.Folder.{Files}
 use Rattle.cborc_fronts.specs.Input.{IsInput}
-use Rattle.cborc_input.specs.NoInput.{IsNoInput}
-use Rattle.cborc_input.specs.declared.request.Layout.{Layout}
-use Rattle.cborc_input.specs.declared.request.Options.{Options}
-use Rattle.cborc_input.specs.declared.fault.Fault.{Fault}
 use Rattle.cborc_input.specs.declared.fault.Fault.TheVariants as faults
+use Rattle.cborc_input.specs.{Fault.IsOfInput, NoInput.IsNoInput, declared.request.Layout.Layout, declared.request.Options.Options, declared.fault.Fault.Fault}
 use Rattle.cborc_input.specs.Texts.{GoesInPart, shown_text}
 
 -- the input at a path is one valid item, and this is told of its text

@@ -2,12 +2,9 @@
 use Rattle.std.proofs.Common.{ℕ, inl, inr, List, Option}
 use Rattle.cbor_head.specs.Prelude.{Spelling}
 use Rattle.cborc_files.specs.Folder.{Files, KeepsFiles}
-use Rattle.cborc_input.specs.Sequences.{AreFirst}
-use Rattle.cborc_input.specs.declared.fault.Fault.{Fault}
-use Rattle.cborc_input.specs.declared.request.Options.{Options}
-use Rattle.cborc_input.specs.Items.{AreWrittenOf, AreStoppedOf, no_input, behind_no_input, within}
 use Rattle.cborc_fronts.proofs.Files.{input_before, front_before}
-use Rattle.cborc_input.proofs.NoInput.{no_input_before}
+use Rattle.cborc_input.specs.Items.{AreWrittenOf, AreStoppedOf, no_input, behind_no_input, within}
+use Rattle.cborc_input.{specs.Sequences.AreFirst, specs.declared.fault.Fault.Fault, specs.declared.request.Options.Options, proofs.NoInput.no_input_before}
 
 -- what a later state of the same files gives, an earlier one did
 module _ (takes : Spelling → Type 0) (text : ℕ → Spelling → List ℕ) (options : Options) (source : List ℕ) (a b : Option Files) (keeps : KeepsFiles a b) (from to : Option (List ℕ)) where

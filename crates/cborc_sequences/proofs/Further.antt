@@ -1,18 +1,13 @@
 -- Why no item is taken at the front of some bytes, however these go on.
 use Rattle.std.proofs.Common.{ℕ, ◌≡◌, ◌≢◌, ◌⊎◌, inl, inr, Bool, true, false, List, [], ◌++◌, Option, refl, sym, ap, ◌∙◌, subst, append-nil}
 use Rattle.cbor_head.specs.Prelude.{Rules, plain, Bounds, refused, IsVerdict}
-use Rattle.cbor_head.specs.declared.order.KeyOrder.{KeyOrder}
-use Rattle.cbor_head.specs.declared.reason.Reason.TheVariants.{Truncated}
-use Rattle.cbor_head.specs.declared.reason.Refusal.{Refusal}
-use Rattle.cbor_judging.proofs.Further.{further}
+use Rattle.cbor_head.specs.declared.{order.KeyOrder.KeyOrder, reason.Reason.TheVariants.Truncated, reason.Refusal.Refusal}
 use Rattle.cbor_judging.specs.Readers.{IsUnread, of_verdict, of_reader, of_memory}
-use Rattle.cborc_sequences.specs.CanonSequence as canon
-use Rattle.cborc_input.specs.Fault.{IsOfInput, refusal_fault}
-use Rattle.cborc_input.specs.declared.fault.Fault.{Fault}
-use Rattle.cborc_input.specs.declared.request.Form.{Form}
-use Rattle.cborc_input.specs.declared.request.Layout.{Layout}
-use Rattle.cborc_sequences.specs.inner.Items.{IsUncounted, IsUnwritten, IsItemNotShown}
+use Rattle.cbor_judging.proofs.Further.{further}
+use Rattle.cborc_input.specs.{Fault.IsOfInput, Fault.refusal_fault, declared.fault.Fault.Fault, declared.request.Form.Form, declared.request.Layout.Layout}
 use Rattle.cborc_input.proofs.Faults.{refusal_is}
+use Rattle.cborc_sequences.specs.CanonSequence as canon
+use Rattle.cborc_sequences.specs.inner.Items.{IsUncounted, IsUnwritten, IsItemNotShown}
 
 -- nothing stands behind the front, or a refusal is not for its end
 abbrev pub IsSettled : List ℕ → Refusal → Type 0

@@ -2,8 +2,8 @@
 use Rattle.std.proofs.Common.{ℕ, ◌+◌, ◌<◌, ◌≡◌, List, [], ◌∷◌, ◌++◌, length, flat_map, refl, ap, ◌∙◌, arith, append_assoc, length-append}
 use Rattle.cbor_head.specs.Prelude.{Spelling, spell}
 use Rattle.cbor_reader.specs.Sequence.{sequence_bytes}
-use Rattle.cborc_input.specs.Sequences.{texts_from, StartsWithEach}
 use Rattle.cborc_fronts.proofs.Lists.{all_with, joined_with}
+use Rattle.cborc_input.specs.Sequences.{texts_from, StartsWithEach}
 
 -- of items that start where they may
 pub texts_anywhere : (text : Spelling → List ℕ) (start : ℕ) (items : List Spelling) → texts_from (λ start. text) start items ≡ flat_map text items

@@ -1,26 +1,18 @@
 -- What was written of the lines of an item of a sequence, and why not all.
 use Rattle.std.proofs.Common.{ℕ, ◌≡◌, ◌∙◌, ◌<◌, ◌≤◌, List, [], ◌++◌, length, Option, refl, sym, ap, subst}
-use Rattle.std.specs.Io.KnownBytes.{Appends}
-use Rattle.std.proofs.lemmas.List.{take-append-le}
+use Rattle.std.{specs.Io.KnownBytes.Appends, proofs.lemmas.List.take-append-le}
 use Rattle.cbor_head.specs.Prelude.{form, Bounds, refused, IsVerdict}
 use Rattle.cbor_head.specs.declared.reason.Reason.TheVariants as reasons
 use Rattle.cbor_head.specs.declared.reason.Refusal.{Refusal}
 use Rattle.cbor_automaton.specs.Event.{events}
-use Rattle.cbor_diag.specs.Listing.{lines, IsListing, IsStopped, IsListed, IsUnlisted, of_verdict, of_reader, of_writer}
-use Rattle.cbor_judging.specs.Readers.{IsRead}
-use Rattle.cbor_judging.specs.Refusals.{IsFormReason}
-use Rattle.cbor_judging.proofs.Reasons.{form-reason}
+use Rattle.cbor_judging.{specs.Readers.IsRead, specs.Refusals.IsFormReason, proofs.Reasons.form-reason}
 use Rattle.cbor_reader.specs.Sequence.{IsAccepted}
-use Rattle.cborc_input.specs.Listed.{IsFrontNotListed}
-use Rattle.cborc_sequences.specs.EventsSequence.{gap, item_lines, before_all, within, listed_to, listed_short}
-use Rattle.cborc_input.specs.Fault.{IsOfInput}
-use Rattle.cborc_input.specs.declared.fault.Fault.{Fault}
+use Rattle.cbor_diag.specs.Listing.{lines, IsListing, IsStopped, IsListed, IsUnlisted, of_verdict, of_reader, of_writer}
+use Rattle.cborc_fronts.proofs.{Outputs.appends_more, Places.place_within}
 use Rattle.cborc_input.specs.declared.fault.Fault.TheVariants as faults
-use Rattle.cborc_input.specs.Items.{IsWritten}
-use Rattle.cborc_sequences.specs.inner.Items.{IsItemNotListed}
-use Rattle.cborc_sequences.proofs.Further.{IsSettled, verdict_further}
-use Rattle.cborc_fronts.proofs.Outputs.{appends_more}
-use Rattle.cborc_fronts.proofs.Places.{place_within}
+use Rattle.cborc_input.specs.{Listed.IsFrontNotListed, Fault.IsOfInput, declared.fault.Fault.Fault, Items.IsWritten}
+use Rattle.cborc_sequences.specs.EventsSequence.{gap, item_lines, before_all, within, listed_to, listed_short}
+use Rattle.cborc_sequences.{specs.inner.Items.IsItemNotListed, proofs.Further.IsSettled, proofs.Further.verdict_further}
 use Rattle.cborc_sequences.proofs.Taken.{item_accepted, written_of}
 
 -- ---- no verdict is that the writer failed

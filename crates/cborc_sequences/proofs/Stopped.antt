@@ -1,33 +1,23 @@
 -- Which fault of a sequence comes of the fault of an item.
 use Rattle.std.proofs.Common.{ℕ, ◌≡◌, ◌≢◌, ◌⊎◌, ◌∙◌, inl, inr, true, false, List, [], ◌∷◌, ◌++◌, take, Option, flat_map, refl, sym, ap, subst, arith, IfSome, length-append}
-use Rattle.std.specs.Borrow.{Bor}
-use Rattle.std.specs.Io.KnownBytes.{Appends}
-use Rattle.std.proofs.KnownBytes.{Keeps-refl}
+use Rattle.std.{specs.Borrow.Bor, specs.Io.KnownBytes.Appends, proofs.KnownBytes.Keeps-refl}
 use Rattle.cbor_head.specs.Prelude.{Rules, form, plain, Spelling}
 use Rattle.cbor_head.specs.declared.order.KeyOrder.{KeyOrder}
 use Rattle.cbor_reader.specs.Sequence.{IsAccepted}
-use Rattle.cborc_input.specs.Put.{printed, written}
-use Rattle.cborc_sequences.specs.CanonSequence.{HasCanonicalBytes, canonical_text, canonical_texts, IsSequenceCanonised, IsSent, HasFirstTexts, IsSequenceNotCanonised}
-use Rattle.cborc_sequences.specs.CheckSequence.{IsSequenceNotChecked}
-use Rattle.cborc_sequences.specs.EventsSequence.{item_lines, all_lines, IsListedInPart, listed_to, listed_short, IsListedSoFar, items_listed, front_listed, IsSequenceNotListed}
-use Rattle.cborc_input.specs.Fault.{at_item}
 use Rattle.cborc_files.specs.Folder.{Files, is_stream, IsBlank, KeepsFiles, ReplacesFile}
-use Rattle.cborc_files.specs.declared.folder.FileFault.{FileFault}
 use Rattle.cborc_files.specs.declared.folder.FileFault.TheVariants as file_faults
-use Rattle.cborc_fronts.specs.Input.{IsInput, IsFront}
-use Rattle.cborc_input.specs.NoInput.{IsNoInput}
+use Rattle.cborc_files.specs.declared.folder.FileFault.{FileFault}
+use Rattle.cborc_fronts.{specs.Input.IsInput, specs.Input.IsFront, proofs.Files.input_front, proofs.Files.replaced_by, proofs.Outputs.appends_more}
 use Rattle.cborc_input.specs.Sequences.{texts_from, IsCutIn, IsCutShort, IsTakenSoFar, of_items, of_cut}
-use Rattle.cborc_sequences.specs.ShowSequence.{item_text, IsSequenceShown, IsSequenceNotShown}
-use Rattle.cborc_input.specs.declared.fault.Fault.{Fault}
 use Rattle.cborc_input.specs.declared.fault.Fault.TheVariants as faults
-use Rattle.cborc_input.specs.declared.request.Layout.{Layout}
-use Rattle.cborc_input.specs.declared.request.Options.{Options}
-use Rattle.cborc_input.specs.declared.request.Output.{Output}
 use Rattle.cborc_input.specs.Items.{AreStopped, AreWrittenOf, AreStoppedOf, no_input, behind_no_input, within}
+use Rattle.cborc_input.specs.{Put.printed, Put.written, Fault.at_item, NoInput.IsNoInput, declared.fault.Fault.Fault, declared.request.Layout.Layout}
+use Rattle.cborc_input.specs.declared.request.{Options.Options, Output.Output}
+use Rattle.cborc_sequences.specs.CanonSequence.{HasCanonicalBytes, canonical_text, canonical_texts, IsSequenceCanonised, IsSent, HasFirstTexts, IsSequenceNotCanonised}
+use Rattle.cborc_sequences.specs.EventsSequence.{item_lines, all_lines, IsListedInPart, listed_to, listed_short, IsListedSoFar, items_listed, front_listed, IsSequenceNotListed}
+use Rattle.cborc_sequences.specs.ShowSequence.{item_text, IsSequenceShown, IsSequenceNotShown}
 use Rattle.cborc_sequences.specs.inner.Items.{IsCutText, IsUncounted, IsUnwritten, IsItemNotShown, IsItemNotListed}
-use Rattle.cborc_fronts.proofs.Files.{input_front, replaced_by}
-use Rattle.cborc_sequences.proofs.Items.{texts_anywhere, one_more_starts}
-use Rattle.cborc_fronts.proofs.Outputs.{appends_more}
+use Rattle.cborc_sequences.{specs.CheckSequence.IsSequenceNotChecked, proofs.Items.texts_anywhere, proofs.Items.one_more_starts}
 
 -- ---- any sequence
 

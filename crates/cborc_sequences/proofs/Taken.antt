@@ -2,22 +2,17 @@
 use Rattle.std.proofs.Common.{ℕ, ◌≡◌, ◌<◌, ◌≤◌, Option, List, ◌++◌, length, drop, refl, sym, ap, ◌∙◌, subst, append_assoc}
 use Rattle.std.specs.Io.KnownBytes.{Appends}
 use Rattle.cbor_head.specs.Prelude.{Rules, plain, Bounds, Spelling, spell, refusal}
-use Rattle.cbor_head.specs.declared.order.KeyOrder.{KeyOrder}
 use Rattle.cbor_head.specs.declared.reason.Reason.TheVariants as reasons
-use Rattle.cbor_head.specs.declared.reason.Refusal.{Refusal}
+use Rattle.cbor_head.specs.declared.{order.KeyOrder.KeyOrder, reason.Refusal.Refusal}
 use Rattle.cbor_judging.specs.Readers.{IsRead}
-use Rattle.cbor_reader.specs.Sequence.{IsAccepted}
-use Rattle.cbor_reader.proofs.Sequences.{is_accepted, splits}
 use Rattle.cbor_sinks.specs.BuiltFront.{IsBuiltFront}
+use Rattle.cbor_reader.{specs.Sequence.IsAccepted, proofs.Sequences.is_accepted, proofs.Sequences.splits}
 use Rattle.cborc_input.specs.Texts.{GoesInPart, IsNotTaken, in_form}
-use Rattle.cborc_sequences.specs.CanonSequence.{HasCanonicalBytes, canonical_text, too_long}
-use Rattle.cborc_input.specs.declared.fault.Fault.{Fault}
 use Rattle.cborc_input.specs.declared.fault.Fault.TheVariants as faults
-use Rattle.cborc_input.specs.declared.request.Form.{Form}
-use Rattle.cborc_input.specs.Items.{IsWritten}
-use Rattle.cborc_input.specs.declared.request.Layout.{Layout}
-use Rattle.cborc_sequences.specs.ShowSequence.{item_text}
+use Rattle.cborc_input.specs.{declared.fault.Fault.Fault, declared.request.Form.Form, Items.IsWritten, declared.request.Layout.Layout}
+use Rattle.cborc_sequences.specs.CanonSequence.{HasCanonicalBytes, canonical_text, too_long}
 use Rattle.cborc_sequences.specs.inner.Items.{IsCutText, IsUnwritten, IsItemNotShown}
+use Rattle.cborc_sequences.specs.ShowSequence.{item_text}
 
 -- the item that is read at the front
 module _ (limits : Bounds) (rules : Rules) (bytes : List ℕ) (size : ℕ) (h : IsRead limits rules bytes size) where

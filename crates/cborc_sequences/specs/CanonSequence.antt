@@ -2,21 +2,14 @@
 use Rattle.std.specs.Prelude.{ℕ, ◌≡◌, ◌<◌, ◌≤◌, ◌⊎◌, ◌++◌, true, List, length, flat_map, Option}
 use Rattle.std.specs.Io.KnownBytes.{Appends}
 use Rattle.cbor_head.specs.Prelude.{canonical, plain, Bounds, Spelling, spell, value_of, refusal, refused, IsVerdict}
-use Rattle.cbor_head.specs.declared.order.KeyOrder.{KeyOrder}
-use Rattle.cbor_head.specs.declared.reason.Reason.TheVariants.{CanonicalTooLong}
-use Rattle.cbor_head.specs.declared.reason.Refusal.{Refusal}
+use Rattle.cbor_head.specs.declared.{order.KeyOrder.KeyOrder, reason.Reason.TheVariants.CanonicalTooLong, reason.Refusal.Refusal}
 use Rattle.cbor_reader.specs.Sequence.{IsAccepted}
-use Rattle.cborc_input.specs.Texts.{in_form}
-use Rattle.cborc_input.specs.Put.{IsPut, IsNotPut}
 use Rattle.cborc_files.specs.Folder.{Files, is_stream}
 use Rattle.cborc_fronts.specs.Input.{IsInput}
-use Rattle.cborc_input.specs.NoInput.{IsNoInput}
 use Rattle.cborc_input.specs.Sequences.{StartsWithEach, AreAll, GoesOn, IsCutShort, IsTakenSoFar}
-use Rattle.cborc_input.specs.declared.request.Form.{Form}
-use Rattle.cborc_input.specs.declared.request.Options.{Options}
-use Rattle.cborc_input.specs.declared.request.Output.{Output}
-use Rattle.cborc_input.specs.declared.fault.Fault.{Fault}
 use Rattle.cborc_input.specs.declared.fault.Fault.TheVariants as faults
+use Rattle.cborc_input.specs.{Texts.in_form, Put.IsPut, Put.IsNotPut, NoInput.IsNoInput, declared.request.Form.Form, declared.request.Options.Options}
+use Rattle.cborc_input.specs.declared.{request.Output.Output, fault.Fault.Fault}
 
 -- an item that is accepted by the plain rules within the limits, as are its canonical bytes
 pub record HasCanonicalBytes (limits : Bounds) (o : KeyOrder) (item : Spelling) : Type 0 where

@@ -5,12 +5,9 @@ use Rattle.cbor_head.specs.declared.reason.Refusal.{Refusal}
 use Rattle.cbor_reader.specs.Sequence.{IsAccepted}
 use Rattle.cborc_files.specs.Folder.{Files}
 use Rattle.cborc_fronts.specs.Input.{IsInput}
-use Rattle.cborc_input.specs.NoInput.{IsNoInput}
-use Rattle.cborc_input.specs.Texts.{GoesInPart}
-use Rattle.cborc_input.specs.Sequences.{AreAll, GoesOn}
-use Rattle.cborc_input.specs.declared.request.Options.{Options}
-use Rattle.cborc_input.specs.declared.fault.Fault.{Fault}
 use Rattle.cborc_input.specs.declared.fault.Fault.TheVariants as faults
+use Rattle.cborc_input.specs.{NoInput.IsNoInput, Texts.GoesInPart, Sequences.AreAll, Sequences.GoesOn, declared.request.Options.Options}
+use Rattle.cborc_input.specs.declared.fault.Fault.{Fault}
 
 -- the whole input is a sequence of so many items, each accepted by the rules within the limits
 pub record IsWholeSequence (limits : Bounds) (rules : Rules) (input : List ℕ) (count : ℕ) : Type 0 where

@@ -4,15 +4,13 @@ use Rattle.std.specs.Io.KnownBytes.{Appends}
 use Rattle.cbor_head.specs.Prelude.{form, Bounds, Spelling, refused, IsVerdict}
 use Rattle.cbor_head.specs.declared.reason.Refusal.{Refusal}
 use Rattle.cbor_automaton.specs.Event.{events}
-use Rattle.cbor_diag.specs.Listing.{lines, IsListing, IsStopped}
 use Rattle.cbor_reader.specs.Sequence.{IsAccepted, sequence_bytes}
+use Rattle.cbor_diag.specs.Listing.{lines, IsListing, IsStopped}
 use Rattle.cborc_files.specs.Folder.{Files}
 use Rattle.cborc_fronts.specs.Input.{IsInput, IsFront}
-use Rattle.cborc_input.specs.NoInput.{IsNoInput}
 use Rattle.cborc_input.specs.Sequences.{texts_from, StartsWithEach, AreAll, GoesOn, AreFirst}
-use Rattle.cborc_input.specs.declared.request.Options.{Options}
-use Rattle.cborc_input.specs.declared.fault.Fault.{Fault}
 use Rattle.cborc_input.specs.declared.fault.Fault.TheVariants as faults
+use Rattle.cborc_input.specs.{NoInput.IsNoInput, declared.request.Options.Options, declared.fault.Fault.Fault}
 
 -- the empty line in front of an item that starts there, if it is not the first
 abbrev pub gap : ℕ → List ℕ

@@ -6,13 +6,9 @@ use Rattle.cbor_head.specs.declared.reason.Refusal.{Refusal}
 use Rattle.cbor_reader.specs.Sequence.{IsAccepted}
 use Rattle.cborc_files.specs.Folder.{Files}
 use Rattle.cborc_fronts.specs.Input.{IsInput}
-use Rattle.cborc_input.specs.NoInput.{IsNoInput}
 use Rattle.cborc_input.specs.Sequences.{AreAll, GoesOn, IsCutShort, IsTakenSoFar}
-use Rattle.cborc_input.specs.Texts.{shown_text}
-use Rattle.cborc_input.specs.declared.request.Layout.{Layout}
-use Rattle.cborc_input.specs.declared.request.Options.{Options}
-use Rattle.cborc_input.specs.declared.fault.Fault.{Fault}
 use Rattle.cborc_input.specs.declared.fault.Fault.TheVariants as faults
+use Rattle.cborc_input.specs.{NoInput.IsNoInput, Texts.shown_text, declared.request.Layout.Layout, declared.request.Options.Options, declared.fault.Fault.Fault}
 
 -- the text of an item in a layout, and a line feed
 abbrev pub item_text : Layout → Spelling → List ℕ

@@ -1,14 +1,12 @@
 -- What clap finds in the program's words, and what they ask for by it.
 use Rattle.std.proofs.Common.{◌≡◌, ◌≢◌, List, [], Option, Some, None, true, false, true≢false, inl, inr, subst, sym, IfSome, IsSomeAnd}
 use Rattle.clap.specs.Words.{App, HasKind, HasMatchesOf, Row, Text, fault_of, is_simple, kind_of, subcommand_of, subcommand_rows_of}
-use Rattle.clap.specs.declared.error.Error.{Error}
-use Rattle.clap.specs.declared.error.kind.ErrorKind.{ErrorKind}
 use Rattle.clap.specs.declared.error.kind.ErrorKind.TheVariants.{ArgumentConflict, MissingSubcommand, OutOfMemory}
-use Rattle.clap.specs.declared.parser.matches.ArgMatches.{ArgMatches}
+use Rattle.clap.specs.declared.{error.Error.Error, error.kind.ErrorKind.ErrorKind, parser.matches.ArgMatches.ArgMatches}
+use Rattle.cborc_input.specs.declared.request.Task.{Task}
 use Rattle.cborc_grammar.specs.Grammar.{IsGrammar}
 use Rattle.cborc_words.specs.CommandLine.{reads_stream_twice, AsksFor, AsksForTask, HasOneManner, HasTwoManners, IsComplete, IsMannerOf}
 use Rattle.cborc_words.specs.Words.{AskFor, HasFault, ReadsTwice, found, incomplete, two_manners, two_streams}
-use Rattle.cborc_input.specs.declared.request.Task.{Task}
 
 rows_found : (app : App) → is_simple app ≡ true → (words : List Text) (m : ArgMatches) → HasMatchesOf app words m → subcommand_rows_of m ≡ subcommand_of app words
 rows_found app simple words m has = (has simple).1

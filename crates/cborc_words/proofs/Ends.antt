@@ -1,17 +1,12 @@
 -- What a run leaves whose words give no request.
 use Rattle.std.proofs.Common.{◌≡◌, ◌≢◌, ◌⊎◌, ◌∙◌, ℕ, List, Option, None, Some, Result, Err, inl, inr, ap, refl}
 use Rattle.std.specs.Io.KnownBytes.{Keeps}
-use Rattle.clap.specs.Words.{Text}
-use Rattle.clap.specs.declared.error.kind.ErrorKind.{ErrorKind}
-use Rattle.clap.specs.declared.error.kind.ErrorKind.TheVariants.{OutOfMemory}
-use Rattle.cborc_words.specs.Run.{IsRun, helped, misused, starved}
-use Rattle.cborc_words.specs.inner.WordsEnd.{IsWordsEnd}
-use Rattle.cborc_words.specs.Words.{HasFault}
-use Rattle.cborc_input.specs.Fault.{end_status, status_number}
+use Rattle.clap.specs.{Words.Text, declared.error.kind.ErrorKind.ErrorKind, declared.error.kind.ErrorKind.TheVariants.OutOfMemory}
 use Rattle.cborc_files.specs.Folder.{Files, KeepsFiles}
-use Rattle.cborc_input.specs.declared.fault.Fault.{Fault}
-use Rattle.cborc_input.specs.declared.fault.Fault.TheVariants.{CannotPrint}
+use Rattle.cborc_input.specs.{Fault.end_status, Fault.status_number, declared.fault.Fault.Fault, declared.fault.Fault.TheVariants.CannotPrint}
 use Rattle.cborc_input.specs.declared.status.Status.{Status}
+use Rattle.cborc_words.specs.Run.{IsRun, helped, misused, starved}
+use Rattle.cborc_words.specs.{inner.WordsEnd.IsWordsEnd, Words.HasFault}
 
 keeps_on : (a b c : Option (List ℕ)) → Keeps a b → Keeps b c → Keeps a c
 keeps_on None b c h k = tt

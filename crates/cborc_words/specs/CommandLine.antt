@@ -1,26 +1,17 @@
 -- What the words of a command line ask for, by what clap found for each argument.
 use Rattle.std.specs.Prelude.{ℕ, ◌≡◌, ◌≢◌, ◌≤◌, ◌^◌, ◌⊎◌, List, Option, Some, None, IsSome, IsSomeAnd, Bool, true, false, ◌&&◌, codes, if◌then◌else◌, option_map, option_and_then}
-use Rattle.std.specs.Str.{bytes_eq}
 use Rattle.std.specs.Str.Parse.{IsNumeral, digits_value, without_leading_plus}
-use Rattle.cbor_head.specs.declared.keys.Keys.{Keys}
-use Rattle.cbor_head.specs.declared.keys.Keys.TheVariants.{Any, IntegersAndTexts}
-use Rattle.cbor_head.specs.declared.limits.TheConstants.{MAX_DEPTH}
-use Rattle.cbor_head.specs.declared.order.KeyOrder.{KeyOrder}
-use Rattle.cbor_head.specs.declared.order.KeyOrder.TheVariants.{Bytewise, LengthFirst}
+use Rattle.std.specs.Str.{bytes_eq}
 use Rattle.clap.specs.Words.{Row, Text, first_of, one_of}
+use Rattle.cbor_head.specs.declared.{keys.Keys.Keys, keys.Keys.TheVariants.Any, keys.Keys.TheVariants.IntegersAndTexts, limits.TheConstants.MAX_DEPTH}
+use Rattle.cbor_head.specs.declared.order.KeyOrder.{KeyOrder, TheVariants.Bytewise, TheVariants.LengthFirst}
 use Rattle.cborc_files.specs.Folder.{is_stream}
-use Rattle.cborc_input.specs.declared.request.Accepted.{Accepted}
-use Rattle.cborc_input.specs.declared.request.Accepted.TheVariants.{Valid, Canonical}
-use Rattle.cborc_input.specs.declared.request.Form.TheVariants.{Raw, Hex}
-use Rattle.cborc_input.specs.declared.request.Layout.{Layout}
-use Rattle.cborc_input.specs.declared.request.Layout.TheVariants.{OneLine, Indented}
-use Rattle.cborc_input.specs.declared.request.Manner.{Manner}
 use Rattle.cborc_input.specs.declared.request.Manner.TheVariants.{Plain, Explained, Quiet}
-use Rattle.cborc_input.specs.declared.request.Options.{Options}
-use Rattle.cborc_input.specs.declared.request.Output.{Output}
-use Rattle.cborc_input.specs.declared.request.Request.{Request}
 use Rattle.cborc_input.specs.declared.request.Request.TheVariants.{Check, CheckSequence, Canon, CanonSequence, Compare, Show, ShowSequence, Events, EventsSequence}
-use Rattle.cborc_input.specs.declared.request.Task.{Task}
+use Rattle.cborc_input.specs.declared.request.Accepted.{Accepted, TheVariants.Valid, TheVariants.Canonical}
+use Rattle.cborc_input.specs.declared.request.{Form.TheVariants.Raw, Form.TheVariants.Hex, Layout.Layout}
+use Rattle.cborc_input.specs.declared.request.{Layout.TheVariants.OneLine, Layout.TheVariants.Indented, Manner.Manner, Options.Options, Output.Output}
+use Rattle.cborc_input.specs.declared.request.{Request.Request, Task.Task}
 
 -- the order of keys that a word names
 abbrev pub order_named : Text → Option KeyOrder

@@ -1,13 +1,12 @@
 -- What a run leaves: in the files, on standard output, and as its status.
 use Rattle.std.specs.Prelude.{ℕ, ◌≡◌, ◌⊎◌, List, Option}
 use Rattle.std.specs.Io.KnownBytes.{Keeps}
-use Rattle.clap.specs.Words.{Text}
-use Rattle.clap.specs.declared.error.kind.ErrorKind.{ErrorKind}
 use Rattle.clap.specs.declared.error.kind.ErrorKind.TheVariants as kinds
-use Rattle.cborc_words.specs.Words.{AskFor, HasFault}
+use Rattle.clap.specs.{Words.Text, declared.error.kind.ErrorKind.ErrorKind}
 use Rattle.cborc_files.specs.Folder.{Files, KeepsFiles}
-use Rattle.cborc_commands.specs.Told.{IsToldBy}
 use Rattle.cborc_input.specs.declared.request.Task.{Task}
+use Rattle.cborc_commands.specs.Told.{IsToldBy}
+use Rattle.cborc_words.specs.Words.{AskFor, HasFault}
 
 -- the words call for help or for the version
 abbrev pub IsHelp : ErrorKind → Type 0

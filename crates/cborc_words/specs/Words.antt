@@ -1,12 +1,10 @@
 -- What the words of a command line ask for, the program's name first, by what clap's model finds in them for the program's grammar.
 use Rattle.std.specs.Prelude.{◌≡◌, List, [], IfSome, IsSomeAnd, String, map, string_bytes, true}
 use Rattle.clap.specs.Words.{App, IsAmong, Row, Text, fault_of, subcommand_of}
-use Rattle.clap.specs.declared.error.kind.ErrorKind.{ErrorKind}
-use Rattle.clap.specs.declared.error.kind.ErrorKind.TheVariants.{ArgumentConflict, MissingSubcommand}
+use Rattle.clap.specs.declared.error.kind.ErrorKind.{ErrorKind, TheVariants.ArgumentConflict, TheVariants.MissingSubcommand}
+use Rattle.cborc_input.specs.declared.request.{Request.Request, Task.Task}
 use Rattle.cborc_grammar.specs.Grammar.{IsGrammar}
 use Rattle.cborc_words.specs.CommandLine.{reads_stream_twice, AsksFor, AsksForTask, HasTwoManners, IsComplete}
-use Rattle.cborc_input.specs.declared.request.Request.{Request}
-use Rattle.cborc_input.specs.declared.request.Task.{Task}
 
 -- the bytes of each of these words
 abbrev pub texts_of : {Z : Type 0} → List (String Z) → List Text

@@ -1,14 +1,11 @@
 -- Rows of records, and one more.
 use Rattle.std.proofs.Common.{ℕ, ℤ, pos, negsuc, ◌≤ℤ◌, ◌-◌, ◌^◌, ◌≤◌, ◌≡◌, ◌≢◌, inr, Option, Some, None, List, [], ◌∷◌, ◌++◌, length, take, drop, sym, ap, ◌∙◌, subst, arith, length-drop, length-append, length-take}
-use Rattle.std.specs.Option.{MatchOption}
-use Rattle.std.proofs.Math.Seq.{take-length}
+use Rattle.std.{specs.Option.MatchOption, proofs.Math.Seq.take-length}
 use Rattle.cbor_head.specs.Prelude.{plain, Bounds, spell, Value}
 use Rattle.cbor_head.specs.Value.{text}
-use Rattle.cbor_grammar.proofs.Accepted.{accepts_exactly}
-use Rattle.cbor_grammar.proofs.ReadLaws.{length_spell}
+use Rattle.cbor_grammar.proofs.{Accepted.accepts_exactly, ReadLaws.length_spell}
+use Rattle.cbor_view.specs.{Kinds.integer, Lookup.HasValueAt}
 use Rattle.cbor_judging.specs.Readers.{IsReadAs}
-use Rattle.cbor_view.specs.Kinds.{integer}
-use Rattle.cbor_view.specs.Lookup.{HasValueAt}
 use Rattle.example.specs.Fields.{HasInteger, HasNoInteger, HasIntegers, AreRows}
 
 -- what is read at a key

@@ -2,11 +2,10 @@
 use Rattle.std.specs.Prelude.{ℕ, ℤ, pos, negsuc, ◌≤ℤ◌, ◌-◌, ◌^◌, ◌<◌, ◌≡◌, ◌≢◌, ◌⊎◌, List, [], ◌∷◌, length, drop}
 use Rattle.cbor_head.specs.Prelude.{plain, Bounds, Value}
 use Rattle.cbor_head.specs.Value.{text}
+use Rattle.cbor_view.specs.{Kinds.integer, Lookup.HasValueAt}
 use Rattle.cbor_judging.specs.Readers.{IsReadAs, IsUnread}
-use Rattle.cbor_view.specs.Kinds.{integer}
-use Rattle.cbor_view.specs.Lookup.{HasValueAt}
-use Rattle.example.specs.declared.fields.Fault.{Fault}
 use Rattle.example.specs.declared.fields.Fault.TheVariants as faults
+use Rattle.example.specs.declared.fields.Fault.{Fault}
 
 -- the record is a map, whose value at this text is this integer
 abbrev pub HasInteger : List ℕ → Value → ℤ → Type 0

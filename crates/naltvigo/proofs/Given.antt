@@ -1,12 +1,9 @@
 -- What is known of an answer is known of the bytes in the buffer, by the numbers that C gave.
 use Rattle.std.proofs.Common.{ℕ, ◌≡◌, ◌≤◌, List, length, subst}
 use Rattle.cbor_head.specs.Prelude.{canonical, Bounds, Spelling, value_of}
-use Rattle.cbor_head.specs.declared.order.KeyOrder.{KeyOrder}
-use Rattle.cbor_head.specs.declared.reason.Refusal.{Refusal}
-use Rattle.cbor_reader.specs.Canonicalise.{TellsItsValue}
-use Rattle.cbor_reader.specs.Headline.{IsValidItem}
-use Rattle.naltvigo.specs.Told.{TellsOf}
-use Rattle.naltvigo.specs.declared.status.NaltvigoRefusal.{NaltvigoRefusal}
+use Rattle.cbor_head.specs.declared.{order.KeyOrder.KeyOrder, reason.Refusal.Refusal}
+use Rattle.cbor_reader.specs.{Canonicalise.TellsItsValue, Headline.IsValidItem}
+use Rattle.naltvigo.specs.{Told.TellsOf, declared.status.NaltvigoRefusal.NaltvigoRefusal}
 
 module _ (limits others : Bounds) (o p : KeyOrder) (input x y : List ℕ) (within : others ≡ limits) (order : p ≡ o) (same : y ≡ x) where
   pub given-tells : TellsItsValue limits.depth o input x → TellsItsValue others.depth p input y

@@ -1,11 +1,10 @@
 -- A machine that is complete, or refused, says so at its first step.
 use Rattle.std.proofs.Common.{◌≡◌, ◌⊎◌, ◌<◌, ◌∙◌, arith, ℕ, Option, Some, None, IfSome, inl, inr, refl, sym, subst}
-use Rattle.cbor_automaton.specs.declared.event.Event.{Event}
 use Rattle.cbor_head.specs.declared.reason.Refusal.{Refusal}
+use Rattle.cbor_automaton.specs.declared.event.Event.{Event}
 use Rattle.cbor_standing.specs.Machine.{IsComplete, IsDone, Stays}
-use Rattle.cbor_standing.specs.MachineView.{MachineView}
 use Rattle.cbor_standing.specs.declared.step.Out.TheVariants as outs
-use Rattle.cbor_standing.specs.declared.step.Step.{Step}
+use Rattle.cbor_standing.specs.{MachineView.MachineView, declared.step.Step.Step}
 
 -- neither, so that the first step told an event
 abbrev pub IsLive : MachineView → Type 0

@@ -1,13 +1,10 @@
 -- Events that a machine gives, one behind another.
 use Rattle.std.proofs.Common.{◌≡◌, ◌⊎◌, ◌++◌, ◌∷◌, ◌∙◌, ℕ, List, [], refl, inl, inr, subst}
 use Rattle.cbor_automaton.specs.declared.event.Event.{Event}
-use Rattle.cbor_standing.specs.Machine.{KeepsLimits}
-use Rattle.cbor_standing.specs.MachineView.{MachineView}
-use Rattle.cbor_standing.specs.declared.step.Out.{Out}
 use Rattle.cbor_standing.specs.declared.step.Out.TheVariants as outs
+use Rattle.cbor_standing.specs.{Machine.KeepsLimits, MachineView.MachineView, declared.step.Out.Out}
 use Rattle.naltvigo.specs.Streaming.{AreToldEvents, Gives, HasAnswered, IsToldEnd, IsToldEvent, TellsOn, none, one_more}
-use Rattle.naltvigo.specs.declared.status.NaltvigoRefusal.{NaltvigoRefusal}
-use Rattle.naltvigo.specs.declared.streaming.NaltvigoEvent.{NaltvigoEvent}
+use Rattle.naltvigo.specs.declared.{status.NaltvigoRefusal.NaltvigoRefusal, streaming.NaltvigoEvent.NaltvigoEvent}
 
 -- what holds between two steps
 pub record HasGiven (old new : MachineView) (bs : List ℕ) (events : List NaltvigoEvent) : Type 0 where

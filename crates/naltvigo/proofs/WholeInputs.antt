@@ -1,17 +1,13 @@
 -- Checks of a whole input.
 use Rattle.std.proofs.Common.{ℕ, ◌<◌, ◌≤◌, ◌≡◌, ◌↔◌, List, length, inl, inr, sym, ap, ◌∙◌, arith, subst}
 use Rattle.cbor_head.specs.Prelude.{Bounds, Spelling, spell, plain, strict, IsVerdict, accepted, refused, refusal}
-use Rattle.cbor_head.specs.declared.order.KeyOrder.{KeyOrder}
-use Rattle.cbor_head.specs.declared.reason.Reason.TheVariants.{Trailing, Memory}
-use Rattle.cbor_head.specs.declared.reason.Refusal.{Refusal}
-use Rattle.cbor_reader.specs.Canonicalise.{IsCanonicalOf}
-use Rattle.cbor_reader.specs.Headline.{IsValidItem}
+use Rattle.cbor_head.specs.declared.{order.KeyOrder.KeyOrder, reason.Reason.TheVariants.Trailing, reason.Reason.TheVariants.Memory, reason.Refusal.Refusal}
 use Rattle.cbor_judging.proofs.Accepted.{item_is_whole, one_item, not_both}
-use Rattle.cbor_judging.proofs.Reasons.{never-read, never-memory}
 use Rattle.cbor_judging.specs.Readers.{HasNoCanonicalFront, IsCanonicalFront, IsRead, of_verdict}
+use Rattle.cbor_judging.proofs.Reasons.{never-read, never-memory}
 use Rattle.cbor_reader.specs.WholeItem.{IsWholeItem, unread, trailing}
-use Rattle.naltvigo.specs.Checking.{HasNoWholeFront}
-use Rattle.naltvigo.specs.inner.Checking.{IsOwnAnswer, IsNotOwn}
+use Rattle.cbor_reader.specs.{Canonicalise.IsCanonicalOf, Headline.IsValidItem}
+use Rattle.naltvigo.specs.{Checking.HasNoWholeFront, inner.Checking.IsOwnAnswer, inner.Checking.IsNotOwn}
 
 -- ---- by the plain rules
 

@@ -1,7 +1,6 @@
 -- Why an input is not one item in its canonical bytes.
 use Rattle.std.specs.Prelude.{ℕ, ◌⊎◌, ◌<◌, List, length}
-use Rattle.cbor_head.specs.Prelude.{Bounds}
-use Rattle.cbor_head.specs.declared.order.KeyOrder.{KeyOrder}
+use Rattle.cbor_head.specs.{Prelude.Bounds, declared.order.KeyOrder.KeyOrder}
 use Rattle.cbor_judging.specs.Readers.{HasNoCanonicalFront, IsCanonicalFront}
 
 -- the input begins with the canonical bytes of no valid value; or with some, which end here, and a byte follows them

@@ -1,7 +1,6 @@
 -- Which of two inputs is refused, as C has it.
 use Rattle.std.specs.Prelude.{ℕ}
-use Rattle.cbor_reader.specs.declared.comparison.Side.{Side}
-use Rattle.cbor_reader.specs.declared.comparison.Side.TheVariants.{Left, Right}
+use Rattle.cbor_reader.specs.declared.comparison.Side.{Side, TheVariants.Left, TheVariants.Right}
 
 -- the number of a side
 abbrev pub side_number : Side → ℕ

@@ -1,9 +1,7 @@
 -- Orders of keys, kinds of keys and limits, as numbers.
 use Rattle.std.specs.Prelude.{ℕ, ◌==◌, ◌≤◌, if◌then◌else◌}
 use Rattle.cbor_head.specs.Prelude.{Bounds, bounds, with_keys, AreBounds}
-use Rattle.cbor_head.specs.declared.keys.Keys.{Keys}
-use Rattle.cbor_head.specs.declared.keys.Keys.TheVariants.{Any, IntegersAndTexts}
-use Rattle.cbor_head.specs.declared.order.KeyOrder.{KeyOrder}
+use Rattle.cbor_head.specs.declared.{keys.Keys.Keys, keys.Keys.TheVariants.Any, keys.Keys.TheVariants.IntegersAndTexts, order.KeyOrder.KeyOrder}
 use Rattle.cbor_head.specs.declared.order.KeyOrder.TheVariants.{Bytewise, LengthFirst}
 
 -- the order of a number: of 0 and of 1 (RFC 8949, sections 4.2.1 and 4.2.3)

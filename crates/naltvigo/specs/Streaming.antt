@@ -1,21 +1,14 @@
 -- What a machine tells of an item, as C has it.
 use Rattle.std.specs.Prelude.{ℕ, ◌≡◌, ◌<◌, ◌⊎◌, ◌++◌, ◌∷◌, List, [], Some, IfSome}
-use Rattle.cbor_standing.specs.Machine.{StandsFor, KeepsLimits, IsAnswer, IsComplete, wanted}
-use Rattle.cbor_standing.specs.MachineView.{MachineView}
-use Rattle.cbor_automaton.specs.Marks.{count_of}
-use Rattle.cbor_machine.specs.Saved.{Holds}
-use Rattle.cbor_automaton.specs.Trace.{Mark}
-use Rattle.cbor_automaton.specs.declared.event.Event.{Event}
-use Rattle.cbor_automaton.specs.declared.event.EventKind.{EventKind}
-use Rattle.cbor_automaton.specs.declared.event.EventKind.TheVariants as kinds
-use Rattle.cbor_standing.specs.declared.step.Out.{Out}
-use Rattle.cbor_standing.specs.declared.step.Out.TheVariants as outs
-use Rattle.cbor_machine.specs.declared.machine.saved.SavedMachine.{SavedMachine}
-use Rattle.cbor_head.specs.declared.width.Width.{Width}
 use Rattle.cbor_head.specs.declared.width.Width.TheVariants as widths
-use Rattle.naltvigo.specs.Told.{IsTold}
-use Rattle.naltvigo.specs.declared.status.NaltvigoRefusal.{NaltvigoRefusal}
-use Rattle.naltvigo.specs.declared.streaming.NaltvigoEvent.{NaltvigoEvent}
+use Rattle.cbor_head.specs.declared.width.Width.{Width}
+use Rattle.cbor_automaton.specs.declared.event.EventKind.TheVariants as kinds
+use Rattle.cbor_automaton.specs.{Marks.count_of, Trace.Mark, declared.event.Event.Event, declared.event.EventKind.EventKind}
+use Rattle.cbor_standing.specs.Machine.{StandsFor, KeepsLimits, IsAnswer, IsComplete, wanted}
+use Rattle.cbor_standing.specs.declared.step.Out.TheVariants as outs
+use Rattle.cbor_standing.specs.{MachineView.MachineView, declared.step.Out.Out}
+use Rattle.cbor_machine.specs.{Saved.Holds, declared.machine.saved.SavedMachine.SavedMachine}
+use Rattle.naltvigo.specs.{Told.IsTold, declared.status.NaltvigoRefusal.NaltvigoRefusal, declared.streaming.NaltvigoEvent.NaltvigoEvent}
 
 -- the number of a kind: the major type, and three more
 abbrev pub kind_number : EventKind → ℕ

@@ -1,8 +1,6 @@
 -- A refusal as C has it.
 use Rattle.std.specs.Prelude.{ℕ, ◌≡◌, ◌≢◌}
-use Rattle.cbor_head.specs.Prelude.{reason_number, refusal}
-use Rattle.cbor_head.specs.declared.reason.Reason.TheVariants.{Memory}
-use Rattle.cbor_head.specs.declared.reason.Refusal.{Refusal}
+use Rattle.cbor_head.specs.{Prelude.reason_number, Prelude.refusal, declared.reason.Reason.TheVariants.Memory, declared.reason.Refusal.Refusal}
 use Rattle.naltvigo.specs.declared.status.NaltvigoRefusal.{NaltvigoRefusal}
 
 -- by the number of its reason

@@ -1,16 +1,11 @@
 -- What a builder stands for.
 use Rattle.std.specs.Prelude.{if◌then◌else◌, Bool, false, ◌≡◌, ◌↔◌, List, [], ◌∷◌, ◌++◌, reverse, take, drop, IsPermutation, IsTrue, Result, OnOk, IfOk}
-use Rattle.cbor_canonical.specs.Parts.{Open, HasNoRepeats}
-use Rattle.cbor_builder.specs.inner.Laid.{outermost, shape_open, opens, Laid}
-use Rattle.cbor_buffer.specs.Moved.{meant, IsWhole}
-use Rattle.cbor_builder.specs.inner.InPlace.{Agrees}
-use Rattle.cbor_builder.specs.declared.builder.Core.{Core}
-use Rattle.cbor_builder.specs.declared.frame.Frame.{Frame}
-use Rattle.cbor_builder.specs.declared.frame.Shape.{Shape}
-use Rattle.cbor_builder.specs.declared.frame.Shape.TheVariants.{Map}
-use Rattle.cbor_buffer.specs.declared.draft.Draft.{Draft}
-use Rattle.cbor_buffer.specs.declared.span.Span.{Span}
 use Rattle.cbor_head.specs.declared.order.KeyOrder.{KeyOrder}
+use Rattle.cbor_canonical.specs.Parts.{Open, HasNoRepeats}
+use Rattle.cbor_buffer.specs.{Moved.meant, Moved.IsWhole, declared.draft.Draft.Draft, declared.span.Span.Span}
+use Rattle.cbor_builder.specs.inner.Laid.{outermost, shape_open, opens, Laid}
+use Rattle.cbor_builder.specs.{inner.InPlace.Agrees, declared.builder.Core.Core, declared.frame.Frame.Frame, declared.frame.Shape.Shape}
+use Rattle.cbor_builder.specs.declared.frame.Shape.TheVariants.{Map}
 
 -- what is around the innermost, from within: the outermost last, which is always the same
 abbrev pub outers : Core → List Frame

@@ -1,10 +1,9 @@
 -- What a public builder holds.
 use Rattle.std.specs.Prelude.{Bool, if◌then◌else◌, IsTrue, List, [], ◌∷◌}
 use Rattle.std.specs.List.{AllByRecursion}
-use Rattle.cbor_builder.specs.Built.{Built, built, CanHold}
 use Rattle.cbor_canonical.specs.Parts.{Open}
-use Rattle.cbor_builder.specs.inner.BuilderState.{standing, IsLaid}
-use Rattle.cbor_builder.specs.declared.canon_builder.CanonBuilder.TheInside.{Inside}
+use Rattle.cbor_builder.specs.Built.{Built, built, CanHold}
+use Rattle.cbor_builder.specs.{inner.BuilderState.standing, inner.BuilderState.IsLaid, declared.canon_builder.CanonBuilder.TheInside.Inside}
 
 -- what is open where the builder is sound, and nothing else
 abbrev pub if_sound : Bool → List Open → List Open

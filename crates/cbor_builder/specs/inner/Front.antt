@@ -1,10 +1,8 @@
 -- The order of keys by their first eight bytes.
 use Rattle.std.specs.Prelude.{ℕ, ◌≡◌, ◌-◌, List, length, take, slice_range}
-use Rattle.std.specs.List.{AllByRecursion}
-use Rattle.std.specs.declared.cmp.Ordering.{Ordering}
 use Rattle.std.specs.Ordering.{nat_cmp, then_cmp, on}
-use Rattle.cbor_head.specs.Prelude.{key_cmp}
-use Rattle.cbor_head.specs.declared.order.KeyOrder.{KeyOrder}
+use Rattle.std.specs.{List.AllByRecursion, declared.cmp.Ordering.Ordering}
+use Rattle.cbor_head.specs.{Prelude.key_cmp, declared.order.KeyOrder.KeyOrder}
 use Rattle.cbor_head.specs.declared.order.KeyOrder.TheVariants.{Bytewise, LengthFirst}
 pub use Rattle.cbor_keys.specs.Front.{front_of}
 use Rattle.cbor_buffer.specs.declared.span.Span.{Span}

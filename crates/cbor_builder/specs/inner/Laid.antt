@@ -1,19 +1,13 @@
 -- What a builder's buffer, spans and frames stand for.
 use Rattle.std.specs.Prelude.{ℕ, suc, Bool, true, IsTrue, ◌≡◌, ◌≢◌, ◌≤◌, ◌<◌, ◌^◌, ◌++◌, List, [], ◌∷◌, length, slice_range, map, take, drop}
 use Rattle.cbor_head.specs.declared.major.Major.TheVariants as of_major
-use Rattle.cbor_head.specs.Prelude.{Pair}
-use Rattle.cbor_head.specs.declared.order.KeyOrder.{KeyOrder}
-use Rattle.cbor_head.specs.declared.major.Major.{Major}
-use Rattle.cbor_head.specs.declared.major.Major.TheVariants.{Simple}
-use Rattle.cbor_canonical.specs.Pairs.{IsRising}
+use Rattle.cbor_head.specs.{Prelude.Pair, declared.order.KeyOrder.KeyOrder, declared.major.Major.Major, declared.major.Major.TheVariants.Simple}
 use Rattle.cbor_canonical.specs.Parts.{Open, plain, an_array, a_map, a_key, a_string}
+use Rattle.cbor_canonical.specs.Pairs.{IsRising}
 use Rattle.cbor_keys.specs.Front.{front_of}
-use Rattle.cbor_builder.specs.inner.Front.{AreFronted}
-use Rattle.cbor_buffer.specs.declared.span.Span.{Span}
-use Rattle.cbor_builder.specs.declared.frame.Frame.{Frame}
-use Rattle.cbor_builder.specs.declared.frame.Shape.{Shape}
+use Rattle.cbor_buffer.specs.{declared.span.Span.Span, Spans.span_pair}
 use Rattle.cbor_builder.specs.declared.frame.Shape.TheVariants.{Plain, Array, Map, Key, Content}
-use Rattle.cbor_buffer.specs.Spans.{span_pair}
+use Rattle.cbor_builder.specs.{inner.Front.AreFronted, declared.frame.Frame.Frame, declared.frame.Shape.Shape}
 
 -- of the item itself, of which nothing is there
 abbrev pub outermost : Frame

@@ -1,16 +1,11 @@
 -- Which pairs of a map have equal keys, and which one is told.
 use Rattle.std.specs.Prelude.{ℕ, suc, Bool, nat_lt, ◌+◌, ◌^◌, ◌≡◌, ◌≢◌, ◌<◌, ◌≤◌, ◌⊎◌, List, length, Option, Some, None, IfSome, slice_index_or, MatchOption, IsPermutation, min, max}
 use Rattle.std.specs.List.{AllByRecursion}
-use Rattle.cbor_builder.specs.Built.{keys_so_far, open_maps, IsFirstRepeat, AreAllDifferent, AreOpenKeysDifferent, IsRepeatTold}
 use Rattle.cbor_canonical.specs.Parts.{Open}
-use Rattle.cbor_builder.specs.inner.Front.{key_of, AreFronted}
-use Rattle.cbor_builder.specs.inner.Laid.{Tile}
-use Rattle.cbor_buffer.specs.declared.span.Span.{Span}
-use Rattle.cbor_builder.specs.declared.frame.Shape.{Shape}
-use Rattle.cbor_builder.specs.declared.frame.Shape.TheVariants.{Map, Key}
-use Rattle.cbor_builder.specs.declared.repeat.Repeat.{Repeat}
-use Rattle.cbor_builder.specs.declared.repeats.Tie.{Tie}
-use Rattle.cbor_buffer.specs.Spans.{no_span}
+use Rattle.cbor_buffer.specs.{declared.span.Span.Span, Spans.no_span}
+use Rattle.cbor_builder.specs.Built.{keys_so_far, open_maps, IsFirstRepeat, AreAllDifferent, AreOpenKeysDifferent, IsRepeatTold}
+use Rattle.cbor_builder.specs.{inner.Front.key_of, inner.Front.AreFronted, inner.Laid.Tile, declared.frame.Shape.Shape}
+use Rattle.cbor_builder.specs.declared.{frame.Shape.TheVariants.Map, frame.Shape.TheVariants.Key, repeat.Repeat.Repeat, repeats.Tie.Tie}
 
 abbrev pub nth : List Span → ℕ → Span
 nth ss i = slice_index_or ss i no_span

@@ -2,9 +2,7 @@
 use Rattle.std.specs.Prelude.{ℕ, ◌+◌, Bool, true, false, if◌then◌else◌, List, [], ◌∷◌, ◌++◌, codes, decimal}
 use Rattle.cbor_head.specs.Value as value
 use Rattle.cbor_head.specs.Prelude.{Value, Values, Entries}
-use Rattle.cbor_diag.specs.Text.{text}
-use Rattle.cbor_diag.specs.IndentedText.{new_line, indented}
-use Rattle.cbor_diag.specs.declared.layout.Layout.{Layout}
+use Rattle.cbor_diag.specs.{Text.text, IndentedText.new_line, IndentedText.indented, declared.layout.Layout.Layout}
 use Rattle.cbor_diag.specs.declared.layout.Layout.TheVariants.{OneLine, Indented}
 
 -- what stands before a member, the first one or a later one

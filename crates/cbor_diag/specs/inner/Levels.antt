@@ -1,17 +1,11 @@
 -- What is left of a text that is being written, by the containers that are open.
 use Rattle.std.specs.Prelude.{ℕ, ◌≡◌, ◌+◌, ◌≤◌, max, false, List, [], ◌∷◌, ◌++◌, length, codes, Option, Some, None, Result, Ok, Err}
-use Rattle.cbor_head.specs.Prelude.{Value}
 use Rattle.cbor_head.specs.Value.{depth, depth_all, depth_entries}
-use Rattle.cbor_head.specs.declared.limits.TheConstants.{MAX_DEPTH}
+use Rattle.cbor_head.specs.{Prelude.Value, declared.limits.TheConstants.MAX_DEPTH}
 use Rattle.cbor_diag.specs.inner.Layout.{laid_out, laid_pairs, laid_texts, rows}
-use Rattle.cbor_diag.specs.inner.Nodes.{entries_in, values_in}
-use Rattle.cbor_diag.specs.inner.Outbox.{HasPut, HasStopped}
-use Rattle.cbor_diag.specs.declared.layout.Layout.{Layout}
-use Rattle.cbor_diag.specs.declared.outbox.Outbox.{Outbox}
-use Rattle.cbor_diag.specs.declared.outbox.Stopped.{Stopped}
-use Rattle.cbor_diag.specs.declared.walk.Level.{Level}
-use Rattle.cbor_diag.specs.declared.walk.Left.{Left}
 use Rattle.cbor_diag.specs.declared.walk.Left.TheVariants as parts
+use Rattle.cbor_diag.specs.{inner.Nodes.entries_in, inner.Nodes.values_in, inner.Outbox.HasPut, inner.Outbox.HasStopped, declared.layout.Layout.Layout}
+use Rattle.cbor_diag.specs.declared.{outbox.Outbox.Outbox, outbox.Stopped.Stopped, walk.Level.Level, walk.Left.Left}
 
 -- the nodes that are left have these values
 module _ {N : Type 0} (see : N → Value) where

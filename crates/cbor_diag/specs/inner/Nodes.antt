@@ -2,9 +2,9 @@
 use Rattle.std.specs.Prelude.{List, map}
 use Rattle.cbor_head.specs.Value as value
 use Rattle.cbor_head.specs.Prelude.{Value, Values, Entries}
-use Rattle.cbor_item.specs.View.{values_of, entries_of}
-use Rattle.cbor_diag.specs.declared.node.Part.{Part}
+use Rattle.cbor_canonical.specs.Lists.{values_of, entries_of}
 use Rattle.cbor_diag.specs.declared.node.Part.TheVariants as parts
+use Rattle.cbor_diag.specs.declared.node.Part.{Part}
 
 module _ {N : Type 0} (see : N → Value) where
   -- the values of members, and of pairs

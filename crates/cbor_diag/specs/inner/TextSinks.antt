@@ -1,14 +1,12 @@
 -- What is written of an item whose parts come one by one, and where a sink of them stands.
 use Rattle.std.specs.Prelude.{ℕ, ◌≡◌, if◌then◌else◌, Bool, true, false, List, [], ◌∷◌, ◌++◌, codes, decimal, Option, Some, None, option_to_list}
 use Rattle.cbor_head.specs.Prelude.{value_of, values_of, entries_of}
-use Rattle.cbor_head.specs.declared.major.Major.{Major}
 use Rattle.cbor_head.specs.declared.major.Major.TheVariants as majors
+use Rattle.cbor_head.specs.declared.major.Major.{Major}
 use Rattle.cbor_judging.specs.Levels.{Level, a_member, a_key, a_value, some_member, some_key, some_value, tagged, Standing, item_due, item_full, item_whole}
 use Rattle.cbor_walk.specs.Sink.{Told}
 use Rattle.cbor_diag.specs.Text.{text, texts, pair_texts, joined}
-use Rattle.cbor_diag.specs.declared.text_sink.Open.{Open}
-use Rattle.cbor_diag.specs.declared.text_sink.TextSink.{TextSink}
-use Rattle.cbor_diag.specs.inner.Strings.{opening, content_text}
+use Rattle.cbor_diag.specs.{declared.text_sink.Open.Open, declared.text_sink.TextSink.TextSink, inner.Strings.opening, inner.Strings.content_text}
 
 -- ---- containers
 

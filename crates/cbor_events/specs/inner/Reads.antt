@@ -1,21 +1,15 @@
 -- One read, and what came of those before it.
 use Rattle.std.specs.Prelude.{◌≡◌, ℕ, ◌<◌, ◌≤◌, ◌++◌, List, [], ◌∷◌, length, take, Option, Err, Result}
 use Rattle.std.specs.Io.KnownBytes.{Consumes, IsAtEnd}
-use Rattle.cbor_head.specs.Prelude.{AreBytes}
-use Rattle.cbor_head.specs.declared.reason.Refusal.{Refusal}
-use Rattle.cbor_automaton.specs.Trace.{Mark}
-use Rattle.cbor_standing.specs.MachineView.{MachineView}
+use Rattle.cbor_head.specs.{Prelude.AreBytes, declared.reason.Refusal.Refusal}
+use Rattle.cbor_automaton.specs.{Trace.Mark, Pieces.piece_by, declared.event.Event.Event}
 use Rattle.cbor_standing.specs.Machine.{StandsFor, IsGiven, IsRefused}
 use Rattle.cbor_standing.specs.NextEvent.{Call, machine_call, IsNext, IsNextEvent, IfTold}
-use Rattle.cbor_automaton.specs.Pieces.{piece_by}
-use Rattle.cbor_standing.specs.Calls.{HasRead}
-use Rattle.cbor_standing.specs.Steps.{IsStep}
 use Rattle.cbor_standing.specs.declared.step.Out.TheVariants as outs
-use Rattle.cbor_automaton.specs.declared.event.Event.{Event}
-use Rattle.cbor_events.specs.declared.part.Asked.{Asked}
+use Rattle.cbor_standing.specs.{MachineView.MachineView, Calls.HasRead, Steps.IsStep}
 use Rattle.cbor_events.specs.declared.part.Asked.TheVariants.{Got, End, Failed}
-use Rattle.cbor_events.specs.declared.part.Part.{Part}
 use Rattle.cbor_events.specs.declared.part.Part.TheVariants.{Told, Open, Stopped}
+use Rattle.cbor_events.specs.declared.part.{Asked.Asked, Part.Part}
 
 -- what one call of `read`, for so many bytes, put in front of the buffer
 abbrev pub IsAsked : Asked → ℕ → Option (List ℕ) → Option (List ℕ) → List ℕ → Type 0

@@ -1,24 +1,17 @@
 -- What the walk holds of the open containers, and what an item that is whole makes of it.
 use Rattle.std.specs.Prelude.{◌≡◌, ◌≢◌, ℕ, ◌+◌, ◌≤◌, Bool, true, false, List, [], ◌∷◌, ◌++◌, length, slice_range}
 use Rattle.cbor_head.specs.Prelude.{plain, strict, Bounds, key_lt, Spelling, spell, refusal}
-use Rattle.cbor_head.specs.declared.order.KeyOrder.{KeyOrder}
 use Rattle.cbor_head.specs.declared.reason.Reason.TheVariants as reasons
-use Rattle.cbor_head.specs.declared.reason.Refusal.{Refusal}
-use Rattle.cbor_head.specs.declared.width.Width.TheVariants.{Indefinite}
+use Rattle.cbor_head.specs.declared.{order.KeyOrder.KeyOrder, reason.Refusal.Refusal, width.Width.TheVariants.Indefinite}
 use Rattle.cbor_keys.specs.Front.{front_of}
-use Rattle.cbor_judging.specs.Kinds.{KeepsToKinds}
 use Rattle.cbor_judging.specs.LastKey as keys
 use Rattle.cbor_judging.specs.Path as path
 use Rattle.cbor_judging.specs.Path.{level_bytes, bytes_before, AreClean, HasEnded}
-use Rattle.cbor_judging.specs.Stop.{HasComplaint}
-use Rattle.cbor_front.specs.declared.level.Due.{Due}
+use Rattle.cbor_judging.specs.{Kinds.KeepsToKinds, Stop.HasComplaint}
 use Rattle.cbor_front.specs.declared.level.Due.TheVariants.{Item, Key, Value}
-use Rattle.cbor_front.specs.declared.level.Level.{Level}
-use Rattle.cbor_front.specs.declared.level.Step.{Step}
 use Rattle.cbor_front.specs.declared.level.Step.TheVariants as steps
-use Rattle.cbor_front.specs.declared.level.Next.{Next}
 use Rattle.cbor_front.specs.declared.level.Next.TheVariants as nexts
-use Rattle.cbor_front.specs.declared.stack.Stack.{Stack}
+use Rattle.cbor_front.specs.declared.{level.Due.Due, level.Level.Level, level.Step.Step, level.Next.Next, stack.Stack.Stack}
 use Rattle.cbor_front.specs.Stack.{standing}
 
 -- ---- a level

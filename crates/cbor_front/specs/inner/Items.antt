@@ -1,19 +1,13 @@
 -- What stands where an item is due, by the rules of the deterministic encoding.
 use Rattle.std.specs.Prelude.{◌≡◌, ℕ, suc, ◌+◌, ◌-◌, ◌^◌, ◌%◌, ◌<◌, ◌≤◌, ◌⊎◌, ◌++◌, Bool, true, false, List, ◌∷◌, length, drop}
 use Rattle.cbor_head.specs.Prelude.{strict, shortest_head, Bounds}
-use Rattle.cbor_head.specs.declared.keys.Keys.TheVariants.{IntegersAndTexts}
 use Rattle.cbor_head.specs.declared.major.Major.TheVariants.{Array, Map, Tag}
-use Rattle.cbor_head.specs.declared.order.KeyOrder.{KeyOrder}
-use Rattle.cbor_head.specs.declared.reason.Refusal.{Refusal}
-use Rattle.cbor_judging.specs.PathKinds.{IsFitFront}
-use Rattle.cbor_judging.specs.RefusedHere.{IsRefusedBy}
-use Rattle.cbor_front.specs.inner.Leaves.{IsLeaf, IsShortest}
-use Rattle.cbor_front.specs.declared.any_item.Any.{Any}
+use Rattle.cbor_head.specs.declared.{keys.Keys.TheVariants.IntegersAndTexts, order.KeyOrder.KeyOrder, reason.Refusal.Refusal}
+use Rattle.cbor_judging.specs.{PathKinds.IsFitFront, RefusedHere.IsRefusedBy}
 use Rattle.cbor_front.specs.declared.any_item.Any.TheVariants.{Leaf, Opens, Refused}
-use Rattle.cbor_front.specs.declared.fast.Short.{Short}
 use Rattle.cbor_front.specs.declared.fast.Short.TheVariants as short
-use Rattle.cbor_front.specs.declared.level.Due.{Due}
 use Rattle.cbor_front.specs.declared.level.Due.TheVariants.{Item, Key, Value}
+use Rattle.cbor_front.specs.{inner.Leaves.IsLeaf, inner.Leaves.IsShortest, declared.any_item.Any.Any, declared.fast.Short.Short, declared.level.Due.Due}
 
 -- a key that is due is of the kinds that are asked for, where these are its bytes
 abbrev pub IsFit : Bounds → Due → List ℕ → Type 0

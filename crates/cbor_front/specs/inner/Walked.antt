@@ -2,16 +2,11 @@
 use Rattle.std.specs.Prelude.{◌≡◌, ℕ, ◌+◌, ◌<◌, ◌≤◌, Bool, List, length, drop}
 use Rattle.cbor_head.specs.Prelude.{strict, Bounds, AreBytes}
 use Rattle.cbor_head.specs.declared.order.KeyOrder.{KeyOrder}
-use Rattle.cbor_judging.specs.PathKinds.{asks}
-use Rattle.cbor_judging.specs.Stop.{IsStopped}
+use Rattle.cbor_judging.specs.{PathKinds.asks, Stop.IsStopped}
 use Rattle.cbor_front.specs.inner.Cells.{StandsAt, HasEndedAt, IsWhole, IsKeyRefused}
-use Rattle.cbor_front.specs.Stack.{standing}
-use Rattle.cbor_front.specs.declared.level.Level.{Level}
-use Rattle.cbor_front.specs.declared.stack.Stack.{Stack}
-use Rattle.cbor_front.specs.declared.take.Taken.{Taken}
 use Rattle.cbor_front.specs.declared.take.Taken.TheVariants as taken
-use Rattle.cbor_front.specs.declared.walk.Walked.{Walked}
 use Rattle.cbor_front.specs.declared.walk.Walked.TheVariants as walked
+use Rattle.cbor_front.specs.{Stack.standing, declared.level.Level.Level, declared.stack.Stack.Stack, declared.take.Taken.Taken, declared.walk.Walked.Walked}
 
 -- wherever an item was due before these bytes, within limits that ask for kinds of keys or not, so it stands now
 abbrev pub FromDue : (KeyOrder → Bounds → List ℕ → Type 0) → Bool → ℕ → List ℕ → ℕ → Stack Level → List Level → Type 0

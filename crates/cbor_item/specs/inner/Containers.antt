@@ -1,8 +1,6 @@
 -- How many containers an item has.
 use Rattle.std.specs.Prelude.{ℕ, suc, ◌+◌, List, map, sum}
-use Rattle.cbor_item.specs.declared.item.Item.{Item}
-use Rattle.cbor_item.specs.declared.item.Item.TheOpen.{Item-F}
-use Rattle.cbor_item.specs.declared.item.Item.TheFolds.{fold-Item}
+use Rattle.cbor_item.specs.declared.item.Item.{Item, TheOpen.Item-F, TheFolds.fold-Item}
 
 abbrev pub sum_pairs : List (ℕ × ℕ) → ℕ
 sum_pairs ps = sum (map (λ p. p.0 + p.1) ps)

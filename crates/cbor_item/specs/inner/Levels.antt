@@ -1,10 +1,8 @@
 -- What a tree builder holds.
 use Rattle.std.specs.Prelude.{◌<◌, List, [], ◌∷◌, Option, Some, None, map, reverse, vec_len, vec_capacity}
 use Rattle.cbor_item.specs.OpenValues.{OpenItem, OpenValue, the_whole, an_array, a_map, a_key, a_tag, open_value}
-use Rattle.cbor_item.specs.declared.item.Item.{Item}
-use Rattle.cbor_item.specs.declared.level.Level.{Level}
 use Rattle.cbor_item.specs.declared.level.Level.TheVariants.{Whole, Array, Map, Tag}
-use Rattle.cbor_item.specs.declared.tree_builder.TreeBuilder.TheInside.{Inside}
+use Rattle.cbor_item.specs.declared.{item.Item.Item, level.Level.Level, tree_builder.TreeBuilder.TheInside.Inside}
 
 -- at most one
 abbrev pub items_in : Option Item → List Item

@@ -1,8 +1,8 @@
 -- The values of the members of items.
 use Rattle.std.specs.Prelude.{List, map}
 use Rattle.cbor_head.specs.Prelude.{Values, Entries}
-use Rattle.cbor_item.specs.View.{view, values_of, entries_of}
-use Rattle.cbor_item.specs.declared.item.Item.{Item}
+use Rattle.cbor_canonical.specs.Lists.{values_of, entries_of}
+use Rattle.cbor_item.specs.{View.view, declared.item.Item.Item}
 
 -- the values of an array's members
 abbrev pub values_view : List Item → Values

@@ -2,19 +2,14 @@
 use Rattle.std.specs.Prelude.{ℕ, zero, suc, ◌≡◌, ◌≤◌, Bool, true, false, List, [], ◌∷◌, take, Option, Some, None}
 use Rattle.cbor_head.specs.Prelude.{bounds, AreBounds, refusal}
 use Rattle.cbor_head.specs.declared.reason.Reason.TheVariants.{TooLong, Reserved, NoIndefinite, Float, BadSimple, StrayBreak, BadChunk, TooDeep}
-use Rattle.cbor_head.specs.declared.reason.Refusal.{Refusal}
-use Rattle.cbor_head.specs.declared.width.Width.{Width}
 use Rattle.cbor_head.specs.declared.width.Width.TheVariants as widths
-use Rattle.cbor_standing.specs.MachineView.{MachineView}
-use Rattle.cbor_standing.specs.inner.Machine.{IsShown}
-use Rattle.cbor_steps.specs.State.{IsFit, IsSettled}
-use Rattle.cbor_steps.specs.declared.frame.Frame.{Frame}
+use Rattle.cbor_head.specs.declared.{reason.Refusal.Refusal, width.Width.Width}
 use Rattle.cbor_steps.specs.declared.frame.Frame.TheVariants as frames
-use Rattle.cbor_machine.specs.declared.machine.saved.SavedMachine.{SavedMachine}
-use Rattle.cbor_steps.specs.declared.opening.Numbered.{Numbered}
 use Rattle.cbor_steps.specs.declared.opening.Numbered.TheVariants as numbered
-use Rattle.cbor_steps.specs.declared.position.Position.{Position}
 use Rattle.cbor_steps.specs.declared.position.Position.TheVariants as positions
+use Rattle.cbor_steps.specs.{State.IsFit, State.IsSettled, declared.frame.Frame.Frame, declared.opening.Numbered.Numbered, declared.position.Position.Position}
+use Rattle.cbor_standing.specs.{MachineView.MachineView, inner.Machine.IsShown}
+use Rattle.cbor_machine.specs.declared.machine.saved.SavedMachine.{SavedMachine}
 
 abbrev pub flag_at : ℕ → Bool
 flag_at (suc zero) = true

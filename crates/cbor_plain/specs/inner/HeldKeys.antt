@@ -1,14 +1,10 @@
 -- The keys of the open containers, as sets of canonical bytes.
 use Rattle.std.specs.Prelude.{ℕ, ◌≡◌, ◌<◌, ◌≤◌, ◌⊎◌, ◌↔◌, Bool, true, false, List, [], ◌∷◌, length, Vec}
-use Rattle.std.specs.Global.{Global}
-use Rattle.std.specs.Ordering.{nat_cmp}
-use Rattle.std.specs.Cmp.Lexicographic.{slice_cmp}
-use Rattle.std.specs.BTreeSet.{BTreeSet, contains}
+use Rattle.std.specs.{Global.Global, Ordering.nat_cmp, Cmp.Lexicographic.slice_cmp, BTreeSet.BTreeSet, BTreeSet.contains}
 use Rattle.arrayvec.specs.ArrayVec.{ArrayVec}
 use Rattle.cbor_head.specs.Prelude.{Pair}
 use Rattle.cbor_canonical.specs.Parts.{Open, a_map, a_key}
-use Rattle.cbor_plain.specs.declared.key_set.KeySet.{KeySet}
-use Rattle.cbor_plain.specs.declared.key_set.TheConstants.{SHORT_KEY}
+use Rattle.cbor_plain.specs.declared.key_set.{KeySet.KeySet, TheConstants.SHORT_KEY}
 
 -- this is in a set of bytes
 abbrev pub is_in : {X : Type 0} → (X → List ℕ) → BTreeSet X → X → Bool

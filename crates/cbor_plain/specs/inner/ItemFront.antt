@@ -4,18 +4,14 @@ use Rattle.std.specs.Io.KnownBytes.{Consumes}
 use Rattle.cbor_head.specs.Prelude.{plain, Bounds, Spelling, spell}
 use Rattle.cbor_head.specs.declared.reason.Refusal.{Refusal}
 use Rattle.cbor_automaton.specs.declared.event.Event.{Event}
+use Rattle.cbor_standing.specs.NextEvent.{ItemEventsView}
 use Rattle.cbor_events.specs.NextKey.{IsBasicKind}
 use Rattle.cbor_judging.specs.Kinds.{AsksForKinds, KeepsToKinds, IsKeyDueIn}
 use Rattle.cbor_judging.specs.Place.{at_item, done as at_end}
-use Rattle.cbor_standing.specs.NextEvent.{ItemEventsView}
-use Rattle.cbor_plain.specs.declared.plain_items.PlainItems.{PlainItems}
-use Rattle.cbor_plain.specs.inner.HeldKeys.{AreHeld}
 use Rattle.cbor_judging.specs.Levels.{IsTaken, Level, frame, AreLevels, bytes_before, item_due, item_whole}
-use Rattle.cbor_judging.specs.Given.{opens}
+use Rattle.cbor_judging.specs.{Given.opens, Reading.IsAt, Reading.IsNextHead, RefusedBehind.IsRefusedBehind}
 use Rattle.cbor_plain.specs.inner.PlainItems.{AreApart, HaveBegun, sets}
-use Rattle.cbor_judging.specs.Reading.{IsAt, IsNextHead}
-use Rattle.cbor_plain.specs.TreeValues.{IsTreeAt}
-use Rattle.cbor_judging.specs.RefusedBehind.{IsRefusedBehind}
+use Rattle.cbor_plain.specs.{declared.plain_items.PlainItems.PlainItems, inner.HeldKeys.AreHeld, TreeValues.IsTreeAt}
 
 -- an item is due, behind the bytes t, and nothing read has a complaint
 pub record IsDueAt (v : PlainItems) (b : Bounds) (e : ItemEventsView) (t : List ℕ) : Type 0 where

@@ -4,21 +4,15 @@ use Rattle.std.specs.Prelude.{ℕ, suc, ◌≡◌, ◌<◌, ◌++◌, List, [], 
 use Rattle.cbor_head.specs.Prelude.{plain, shortest_head, IsSimple, Bounds}
 use Rattle.cbor_head.specs.declared.major.Major.TheVariants as majors
 use Rattle.cbor_standing.specs.NextEvent.{ItemEventsView}
-use Rattle.cbor_judging.specs.Place.{Place}
-use Rattle.cbor_builder.specs.Built.{Built, built, TakesPart, IsContainer, IsLeaf, IsRepeatedKey}
-use Rattle.cbor_canonical.specs.Pairs.{HasDistinctBytes}
 use Rattle.cbor_canonical.specs.Parts.{Open, a_map, a_key, give, opened}
-use Rattle.cbor_plain.specs.declared.plain_items.PlainItems.{PlainItems}
-use Rattle.cbor_plain.specs.declared.plain_part.Part.{Part}
-use Rattle.cbor_plain.specs.declared.plain_part.Part.TheVariants.{Leaf, String, Begin, Break}
-use Rattle.cbor_plain.specs.declared.key_set.KeySet.{KeySet}
-use Rattle.cbor_plain.specs.inner.HeldKeys.{HasKeyBytes, AreHeld, AreHeldSoFar}
-use Rattle.cbor_judging.specs.Kinds.{KeepsToKinds}
+use Rattle.cbor_canonical.specs.Pairs.{HasDistinctBytes}
+use Rattle.cbor_builder.specs.Built.{Built, built, TakesPart, IsContainer, IsLeaf, IsRepeatedKey}
 use Rattle.cbor_judging.specs.Levels as levels
 use Rattle.cbor_judging.specs.Levels.{Level, bytes_before, Standing, item_due, item_full, item_whole}
-use Rattle.cbor_judging.specs.Given.{StandsAt}
-use Rattle.cbor_judging.specs.Reading.{IsAt, string_major}
-use Rattle.cbor_plain.specs.TreeValues.{IsTreeAt}
+use Rattle.cbor_judging.specs.{Place.Place, Kinds.KeepsToKinds, Given.StandsAt, Reading.IsAt, Reading.string_major}
+use Rattle.cbor_plain.specs.declared.plain_part.Part.TheVariants.{Leaf, String, Begin, Break}
+use Rattle.cbor_plain.specs.inner.HeldKeys.{HasKeyBytes, AreHeld, AreHeldSoFar}
+use Rattle.cbor_plain.specs.{declared.plain_items.PlainItems.PlainItems, declared.plain_part.Part.Part, declared.key_set.KeySet.KeySet, TreeValues.IsTreeAt}
 
 -- ---- keys
 

@@ -3,18 +3,15 @@ use Rattle.std.specs.Prelude.{ℕ, ◌≡◌, ◌≢◌, ◌++◌, Bool, true, I
 use Rattle.std.specs.Global.{Global}
 use Rattle.cbor_head.specs.Prelude.{plain, IsSimple, Bounds, Value}
 use Rattle.cbor_head.specs.Value as value
-use Rattle.cbor_head.specs.declared.major.Major.{Major}
 use Rattle.cbor_head.specs.declared.major.Major.TheVariants as majors
-use Rattle.cbor_head.specs.declared.reason.Refusal.{Refusal}
-use Rattle.cbor_head.specs.declared.width.Width.{Width}
-use Rattle.cbor_judging.specs.Place.{Container, Place, at_item, IsTaking}
-use Rattle.cbor_standing.specs.NextEvent.{ItemEventsView}
-use Rattle.cbor_automaton.specs.Marks.{mark_of, IsProper}
-use Rattle.cbor_automaton.specs.declared.event.EventKind.{EventKind}
+use Rattle.cbor_head.specs.declared.{major.Major.Major, reason.Refusal.Refusal, width.Width.Width}
 use Rattle.cbor_automaton.specs.declared.event.EventKind.TheVariants as kinds
-use Rattle.cbor_plain.specs.declared.plain_part.Part.{Part}
-use Rattle.cbor_plain.specs.declared.plain_part.Part.TheVariants.{Leaf, String, Begin, Break}
+use Rattle.cbor_automaton.specs.{Marks.mark_of, Marks.IsProper, declared.event.EventKind.EventKind}
+use Rattle.cbor_standing.specs.NextEvent.{ItemEventsView}
+use Rattle.cbor_judging.specs.Place.{Container, Place, at_item, IsTaking}
 use Rattle.cbor_judging.specs.Reading.{IsAt, IsBegun, ReadsItem, StopsItem, string_kind, string_value}
+use Rattle.cbor_plain.specs.declared.plain_part.Part.TheVariants.{Leaf, String, Begin, Break}
+use Rattle.cbor_plain.specs.declared.plain_part.Part.{Part}
 
 -- an event came where an item was due within these containers, behind t: its bytes are x
 pub record IsCome (b : Bounds) (fs : List Container) (t x : List ℕ) (e : ItemEventsView) (w : Width) (kind : EventKind) : Type 0 where

@@ -1,10 +1,10 @@
 -- What a builder of views holds of an item whose parts it took.
 use Rattle.std.specs.Prelude.{◌≡◌, ℕ, Bool, true, IsUtf8, List}
-use Rattle.cbor_judging.specs.Levels.{Level, Standing, item_due}
-use Rattle.cbor_reader.specs.declared.view_sink.ViewSink.{ViewSink}
-use Rattle.cbor_plain.specs.TreeValues.{level_values, values_at, IsFullRight}
 use Rattle.cbor_view.specs.Seen.{standing}
+use Rattle.cbor_judging.specs.Levels.{Level, Standing, item_due}
 use Rattle.cbor_sinks.specs.KeyBytes.{keys_stand}
+use Rattle.cbor_plain.specs.TreeValues.{level_values, values_at, IsFullRight}
+use Rattle.cbor_reader.specs.declared.view_sink.ViewSink.{ViewSink}
 
 -- the canonical bytes of keys, and the views of what is complete
 abbrev pub view_stands : ViewSink → ViewSink → Standing → Type 0

@@ -1,9 +1,9 @@
 -- What ties the inner state of a machine to what it took, and to what its view shows.
 use Rattle.std.specs.Prelude.{◌≡◌, ℕ, List, length}
-use Rattle.cbor_automaton.specs.Trace.{Mark}
-use Rattle.cbor_standing.specs.MachineView.{MachineView}
 use Rattle.cbor_automaton.specs.Automaton.{start, run, reached}
+use Rattle.cbor_automaton.specs.Trace.{Mark}
 use Rattle.cbor_steps.specs.State.{state_of, wanted_at, is_at_item, is_in_payload, is_done}
+use Rattle.cbor_standing.specs.MachineView.{MachineView}
 
 -- what the view shows is what the inner state has
 pub record IsShown (m : MachineView) : Type 0 where

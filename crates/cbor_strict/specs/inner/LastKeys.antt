@@ -1,16 +1,11 @@
 -- What is kept of the keys of the maps that are open around an item. The open containers stand with the innermost first.
 use Rattle.std.specs.Prelude.{◌≡◌, ◌≢◌, ℕ, suc, ◌+◌, ◌-◌, ◌++◌, Bool, true, false, if◌then◌else◌, IsTrue, List, [], ◌∷◌, length, slice_set, Result, MatchResult}
 use Rattle.cbor_head.specs.Prelude.{head, key_lt, Spelling, SpelledEntries, no_spellings, no_entries, entry, spell, spell_entries, entries_count}
-use Rattle.cbor_head.specs.declared.major.Major.TheVariants.{Map}
-use Rattle.cbor_head.specs.declared.order.KeyOrder.{KeyOrder}
-use Rattle.cbor_head.specs.declared.width.Width.{Width}
-use Rattle.cbor_head.specs.declared.width.Width.TheVariants.{Indefinite}
-use Rattle.cbor_strict.specs.declared.last_keys.Due.{Due}
-use Rattle.cbor_strict.specs.declared.last_keys.Due.TheVariants.{Member, Key, Content}
-use Rattle.cbor_strict.specs.declared.last_keys.LastKeys.{LastKeys}
-use Rattle.cbor_strict.specs.declared.last_keys.Span.{Span}
+use Rattle.cbor_head.specs.declared.{major.Major.TheVariants.Map, order.KeyOrder.KeyOrder, width.Width.Width, width.Width.TheVariants.Indefinite}
 use Rattle.cbor_judging.specs.Frame.{Frame, a_member, a_key, a_content, tagged, plug, before}
 use Rattle.cbor_judging.specs.LastKey.{last_key}
+use Rattle.cbor_strict.specs.declared.last_keys.Due.TheVariants.{Member, Key, Content}
+use Rattle.cbor_strict.specs.declared.last_keys.{Due.Due, LastKeys.LastKeys, Span.Span}
 
 pub record KeysView : Type 0 where
   -- what is due in each

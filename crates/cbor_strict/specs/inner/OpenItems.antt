@@ -2,23 +2,19 @@
 -- what is kept. Nothing read has a complaint.
 use Rattle.std.specs.Prelude.{◌≡◌, ℕ, suc, ◌+◌, ◌-◌, ◌<◌, ◌≤◌, ◌⊎◌, ◌++◌, true, false, List, [], ◌∷◌, length, Option, Some, Result, MatchResult}
 use Rattle.cbor_head.specs.Prelude.{Holds, head, shortest_head, AreBytes, Spelling, spell, spellings_count, entries_count, IsSpelled, depth, Rules, strict, Complaint, OfHead, Complains, Bounds}
-use Rattle.cbor_head.specs.declared.reason.Refusal.{Refusal}
-use Rattle.cbor_head.specs.declared.width.Width.{Width}
-use Rattle.cbor_judging.specs.Place.{Container, Place, at_item, counted, close, payload, done as at_end, IsTaking}
-use Rattle.cbor_standing.specs.NextEvent.{ItemEventsView}
-use Rattle.cbor_automaton.specs.Marks.{mark_of, IsProper}
-use Rattle.cbor_text.specs.TextCheck.{HasChecked}
 use Rattle.cbor_head.specs.declared.major.Major.TheVariants as majors
-use Rattle.cbor_automaton.specs.declared.event.Event.{Event}
-use Rattle.cbor_automaton.specs.declared.event.EventKind.{EventKind}
+use Rattle.cbor_head.specs.declared.{reason.Refusal.Refusal, width.Width.Width}
+use Rattle.cbor_text.specs.TextCheck.{HasChecked}
 use Rattle.cbor_automaton.specs.declared.event.EventKind.TheVariants as kinds
-use Rattle.cbor_strict.specs.declared.open_items.Begun.{Begun}
-use Rattle.cbor_strict.specs.declared.open_items.Begun.TheVariants.{Leaf, String, Map as BegunMap, Other}
-use Rattle.cbor_strict.specs.declared.open_items.OpenItems.{OpenItems}
+use Rattle.cbor_automaton.specs.{Marks.mark_of, Marks.IsProper, declared.event.Event.Event, declared.event.EventKind.EventKind}
+use Rattle.cbor_standing.specs.NextEvent.{ItemEventsView}
+use Rattle.cbor_judging.specs.Place.{Container, Place, at_item, counted, close, payload, done as at_end, IsTaking}
 use Rattle.cbor_judging.specs.Frame.{Frame, a_member, a_key, a_content, tagged}
-use Rattle.cbor_strict.specs.inner.LastKeys.{seen, from_outside, IsKept}
 use Rattle.cbor_judging.specs.OpenMaps.{before_all, AreOpen, AreOpenDistinct}
 use Rattle.cbor_judging.specs.Reading.{AreRefused, IsAt, IsBegun, string_kind, string_major}
+use Rattle.cbor_strict.specs.declared.open_items.Begun.TheVariants.{Leaf, String, Map as BegunMap, Other}
+use Rattle.cbor_strict.specs.inner.LastKeys.{seen, from_outside, IsKept}
+use Rattle.cbor_strict.specs.declared.open_items.{Begun.Begun, OpenItems.OpenItems}
 
 -- an open container, as the events count what is due in it
 abbrev pub counted_in : Frame → Container

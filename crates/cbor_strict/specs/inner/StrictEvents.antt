@@ -1,21 +1,13 @@
 -- What is told of the item at the front of an input, event by event, by the strict rules.
 use Rattle.std.specs.Prelude.{◌≡◌, ℕ, ◌<◌, ◌≤◌, ◌++◌, Bool, true, false, List, [], length, Option, Some, None, Result, MatchResult, IfSome}
 use Rattle.cbor_head.specs.Prelude.{Rules, strict, Bounds, bounds, with_keys}
-use Rattle.cbor_head.specs.declared.keys.Keys.{Keys}
-use Rattle.cbor_head.specs.declared.order.KeyOrder.{KeyOrder}
-use Rattle.cbor_head.specs.declared.reason.Refusal.{Refusal}
-use Rattle.cbor_automaton.specs.Trace.{Mark}
-use Rattle.cbor_standing.specs.MachineView.{MachineView}
-use Rattle.cbor_standing.specs.Machine.{IsComplete}
+use Rattle.cbor_head.specs.declared.{keys.Keys.Keys, order.KeyOrder.KeyOrder, reason.Refusal.Refusal}
+use Rattle.cbor_automaton.specs.{Trace.Mark, declared.event.Event.Event}
 use Rattle.cbor_standing.specs.NextEvent.{ItemEventsView, StandsBetween, Call, IsNext, IsNextEvent, IsEnd, call}
+use Rattle.cbor_standing.specs.{MachineView.MachineView, Machine.IsComplete}
 use Rattle.cbor_events.specs.NextKey.{IsNextKey}
-use Rattle.cbor_automaton.specs.declared.event.Event.{Event}
-use Rattle.cbor_strict.specs.declared.open_items.OpenItems.{OpenItems}
-use Rattle.cbor_judging.specs.Kinds.{KeepsToKinds}
-use Rattle.cbor_judging.specs.Readers.{IsRead, Loses}
-use Rattle.cbor_judging.specs.RefusedBehind.{IsRefusedBehind}
-use Rattle.cbor_strict.specs.inner.LastKeys.{seen}
-use Rattle.cbor_strict.specs.inner.OpenItems.{Stands, IsOver}
+use Rattle.cbor_judging.specs.{Kinds.KeepsToKinds, Readers.IsRead, Readers.Loses, RefusedBehind.IsRefusedBehind}
+use Rattle.cbor_strict.specs.{declared.open_items.OpenItems.OpenItems, inner.LastKeys.seen, inner.OpenItems.Stands, inner.OpenItems.IsOver}
 
 -- some bytes are taken, and their keys are of these kinds
 pub record StandsSomewhere (keys : Keys) (v : OpenItems) (e : ItemEventsView) : Type 0 where

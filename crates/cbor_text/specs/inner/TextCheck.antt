@@ -1,10 +1,9 @@
 -- What a check of text keeps, and its steps.
 use Rattle.std.specs.Prelude.{◌≡◌, ℕ, ◌+◌, ◌<◌, ◌≤◌, List, ◌++◌, length, take, Option, MatchOption}
 use Rattle.std.specs.Str.{IsUtf8, IsValidUpTo}
-use Rattle.cbor_text.specs.declared.text_check.Front.{Front}
 use Rattle.cbor_text.specs.declared.text_check.Front.TheVariants.{Whole, Open, Fixed}
-use Rattle.cbor_text.specs.declared.text_check.Filled.{Filled}
 use Rattle.cbor_text.specs.declared.text_check.Filled.TheVariants.{Past, Short, Never}
+use Rattle.cbor_text.specs.declared.text_check.{Front.Front, Filled.Filled}
 
 -- a tail no front of which is text
 abbrev pub IsUnfinished : List ℕ → Type 0

@@ -1,9 +1,8 @@
 -- Pairs of views.
 use Rattle.std.specs.Prelude.{List}
 use Rattle.cbor_head.specs.Prelude.{Entries, Same, AnyEntry}
-use Rattle.cbor_item.specs.View.{entries_of}
-use Rattle.cbor_view.specs.Seen.{seen, seen_pairs}
-use Rattle.cbor_view.specs.declared.view.View.{View}
+use Rattle.cbor_canonical.specs.Lists.{entries_of}
+use Rattle.cbor_view.specs.{Seen.seen, Seen.seen_pairs, declared.view.View.View}
 
 abbrev pub Pair : Type 0
 Pair = View × View

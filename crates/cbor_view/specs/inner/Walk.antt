@@ -1,12 +1,10 @@
 -- A walk over a view that gives its parts to a builder: what is still to come.
 use Rattle.std.specs.Prelude.{◌≡◌, List, [], ◌∷◌, ◌++◌, Option, Some, None, reverse, map}
 use Rattle.cbor_head.specs.Prelude.{Value, AreInRange}
+use Rattle.cbor_canonical.specs.Lists.{values_of}
 use Rattle.cbor_item.specs.OpenValues.{OpenValue, ValuePart, end, after, parts_of, parts_of_all}
-use Rattle.cbor_item.specs.View.{values_of}
-use Rattle.cbor_view.specs.Seen.{seen, seen_all}
-use Rattle.cbor_view.specs.declared.view.View.{View}
-use Rattle.cbor_view.specs.declared.rest.Rest.{Rest}
 use Rattle.cbor_view.specs.declared.rest.Rest.TheVariants.{Members, Pairs, Value as OneValue}
+use Rattle.cbor_view.specs.{Seen.seen, Seen.seen_all, declared.view.View.View, declared.rest.Rest.Rest}
 
 -- the keys and values of pairs, in turn
 abbrev pub flat : List (View × View) → List Value

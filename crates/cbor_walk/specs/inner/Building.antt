@@ -1,25 +1,16 @@
 -- What the walk over a valid item holds: of the open containers what is still to come, and a sink that took what is complete.
 use Rattle.std.specs.Prelude.{◌≡◌, ℕ, ◌-◌, ◌^◌, ◌<◌, ◌≤◌, Bool, true, false, List, [], ◌∷◌, ◌++◌, length, take}
 use Rattle.cbor_head.specs.Prelude.{Bounds, Spelling, spell, IsSpelled, depth}
-use Rattle.cbor_head.specs.declared.keys.Keys.{Keys}
-use Rattle.cbor_head.specs.declared.major.Major.{Major}
+use Rattle.cbor_head.specs.declared.{keys.Keys.Keys, major.Major.Major}
 use Rattle.cbor_builder.specs.declared.repeat.Repeat.{Repeat}
 use Rattle.cbor_judging.specs.Levels.{IsClean, IsTaken, Level, AreLevels, bytes_before, Standing, item_due, item_whole, settle}
-use Rattle.cbor_walk.specs.declared.building.Met.{Met}
 use Rattle.cbor_walk.specs.declared.building.Met.TheVariants as met
-use Rattle.cbor_walk.specs.declared.building.Then.{Then}
 use Rattle.cbor_walk.specs.declared.building.Then.TheVariants as then
-use Rattle.cbor_walk.specs.declared.front.Stop.{Stop}
 use Rattle.cbor_walk.specs.declared.front.Stop.TheVariants as stop
-use Rattle.cbor_walk.specs.inner.Repeated.{IsKeyTold}
-use Rattle.cbor_walk.specs.declared.open.Open.{Open}
-use Rattle.cbor_walk.specs.declared.part.Part.{Part}
 use Rattle.cbor_walk.specs.declared.part.Part.TheVariants as part
-use Rattle.cbor_walk.specs.Front.{IsStop}
 use Rattle.cbor_walk.specs.Sink.{StandsFull, Told, IsToldFull, IsWithin}
-use Rattle.cbor_walk.specs.inner.Kept.{KeepsBefore, MetKept}
-use Rattle.cbor_walk.specs.inner.Open.{cells_of}
-use Rattle.cbor_walk.specs.inner.OpenMaps.{IsCellOf}
+use Rattle.cbor_walk.specs.{declared.building.Met.Met, declared.building.Then.Then, declared.front.Stop.Stop, inner.Repeated.IsKeyTold, declared.open.Open.Open}
+use Rattle.cbor_walk.specs.{declared.part.Part.Part, Front.IsStop, inner.Kept.KeepsBefore, inner.Kept.MetKept, inner.Open.cells_of, inner.OpenMaps.IsCellOf}
 use Rattle.cbor_walk.specs.inner.Parts.{IsHead, IsOpener}
 
 -- ---- what is known of an input

@@ -1,12 +1,9 @@
 -- What the plain rules have against the bytes that are left at a place.
 use Rattle.std.specs.Prelude.{◌≡◌, ℕ, ◌++◌, Bool, true, false, List}
 use Rattle.cbor_head.specs.Prelude.{plain, Bounds, AreBytes}
-use Rattle.cbor_head.specs.declared.keys.Keys.TheVariants.{IntegersAndTexts}
-use Rattle.cbor_head.specs.declared.reason.Refusal.{Refusal}
-use Rattle.cbor_judging.specs.Kinds.{AsksForKinds, KeepsToKinds}
+use Rattle.cbor_head.specs.declared.{keys.Keys.TheVariants.IntegersAndTexts, reason.Refusal.Refusal}
 use Rattle.cbor_judging.specs.Path.{Level, bytes_before, AreClean, IsKeyDueIn, MayBreak}
-use Rattle.cbor_judging.specs.Stop.{IsStopped}
-use Rattle.cbor_judging.specs.RefusedHere.{IsPlaceFor, IsRefusedBy}
+use Rattle.cbor_judging.specs.{Kinds.AsksForKinds, Kinds.KeepsToKinds, Stop.IsStopped, RefusedHere.IsPlaceFor, RefusedHere.IsRefusedBy}
 
 -- kinds of keys are asked for, and a key is due; or not both
 pub record IsKeyAsked (is_key : Bool) (limits : Bounds) (ls : List Level) : Type 0 where

@@ -3,8 +3,8 @@ use Rattle.std.specs.Prelude.{ℕ, ◌≡◌, List, ◌++◌}
 use Rattle.cbor_head.specs.Prelude.{plain, bounds, with_keys}
 use Rattle.cbor_head.specs.declared.keys.Keys.{Keys}
 use Rattle.cbor_judging.specs.Kinds.{KeepsToKinds}
-use Rattle.cbor_walk.specs.declared.building.Met.{Met}
 use Rattle.cbor_walk.specs.declared.building.Met.TheVariants as met
+use Rattle.cbor_walk.specs.declared.building.Met.{Met}
 
 -- no key of another kind than these begins before the rest of an input; how many bytes there may be plays no part
 abbrev pub KeepsBefore : ℕ → Keys → List ℕ → List ℕ → Type 0

@@ -5,8 +5,8 @@ use Rattle.cbor_head.specs.Spelling as spelling
 use Rattle.cbor_head.specs.declared.major.Major.TheVariants.{Array, Map, Tag}
 use Rattle.cbor_head.specs.declared.width.Width.TheVariants.{Indefinite}
 use Rattle.cbor_judging.specs.Levels.{Level, a_member, a_key, a_value, some_member, some_key, some_value, tagged, bytes_before}
-use Rattle.cbor_front.specs.declared.level.Due.{Due}
 use Rattle.cbor_front.specs.declared.level.Due.TheVariants.{Item, Key, Value}
+use Rattle.cbor_front.specs.declared.level.Due.{Due}
 use Rattle.cbor_walk.specs.declared.open.Open.{Open}
 
 abbrev pub counted : Due → ℕ → ℕ → Open

@@ -3,9 +3,7 @@ use Rattle.std.specs.Prelude.{ℕ, suc, ◌≡◌, ◌-◌, Bool, true, false, O
 use Rattle.cbor_head.specs.Prelude.{Spelling, a_map}
 use Rattle.cbor_judging.specs.Levels.{Level, a_member, some_member, tagged, ArePairsTaken, bytes_before}
 use Rattle.cbor_front.specs.Due.{pairs}
-use Rattle.cbor_walk.specs.declared.open.Open.{Open}
-use Rattle.cbor_walk.specs.Sink.{is_map}
-use Rattle.cbor_walk.specs.inner.Open.{full_opener}
+use Rattle.cbor_walk.specs.{declared.open.Open.Open, Sink.is_map, inner.Open.full_opener}
 
 -- the keys and values of a map are taken; two keys may be the same
 abbrev pub HasTakenPairs : ℕ → Spelling → Type 0

@@ -1,21 +1,15 @@
 -- What is taken of the bytes that are left: an item, a head, a break.
 use Rattle.std.specs.Prelude.{◌≡◌, ℕ, ◌-◌, ◌<◌, ◌≤◌, Bool, true, false, List, ◌∷◌, ◌++◌, length, take, drop, IsUtf8}
 use Rattle.cbor_head.specs.Prelude.{Holds, IsSimple, head, shortest, Spelling, spell, IsSpelled, depth}
-use Rattle.cbor_head.specs.declared.major.Major.{Major}
 use Rattle.cbor_head.specs.declared.major.Major.TheVariants.{Array, Map, Simple}
-use Rattle.cbor_head.specs.declared.width.Width.{Width}
-use Rattle.cbor_head.specs.declared.width.Width.TheVariants.{Indefinite}
-use Rattle.cbor_judging.specs.Kinds.{IsOfOneHead}
+use Rattle.cbor_head.specs.declared.{major.Major.Major, width.Width.Width, width.Width.TheVariants.Indefinite}
 use Rattle.cbor_judging.specs.Levels.{Level, IsLevel, IsOpened, level_bytes}
-use Rattle.cbor_judging.specs.Reading.{string_major}
-use Rattle.cbor_front.specs.declared.level.Due.{Due}
+use Rattle.cbor_judging.specs.{Kinds.IsOfOneHead, Reading.string_major}
 use Rattle.cbor_front.specs.declared.level.Due.TheVariants.{Item, Key, Value}
-use Rattle.cbor_walk.specs.declared.open.Open.{Open}
-use Rattle.cbor_walk.specs.declared.part.Part.{Part}
-use Rattle.cbor_walk.specs.declared.part.Left.{Left}
+use Rattle.cbor_front.specs.declared.level.Due.{Due}
 use Rattle.cbor_walk.specs.declared.part.Left.TheVariants as left
 use Rattle.cbor_walk.specs.declared.part.Part.TheVariants as part
-use Rattle.cbor_walk.specs.inner.Open.{cell_of}
+use Rattle.cbor_walk.specs.{declared.open.Open.Open, declared.part.Part.Part, declared.part.Left.Left, inner.Open.cell_of}
 
 -- it is an item, or nothing can be taken
 abbrev pub IsItem : Part → Type 0

@@ -2,15 +2,10 @@
 use Rattle.std.specs.Prelude.{ℕ, suc, ◌≡◌, ◌≤◌, ◌-◌, ◌^◌, ◌++◌, Option, Some, List, ◌∷◌, length}
 use Rattle.cbor_head.specs.Prelude.{canonical, canonical_entries, plain, Bounds, Spelling, SpelledEntries, spell, entries_count, value_of, entries_of}
 use Rattle.cbor_head.specs.declared.order.KeyOrder.{KeyOrder}
-use Rattle.cbor_builder.specs.Built.{HasKey, AreOpenKeysDifferent}
-use Rattle.cbor_builder.specs.declared.repeat.Repeat.{Repeat}
-use Rattle.cbor_judging.specs.Given.{opens}
-use Rattle.cbor_judging.specs.Kinds.{KeepsToKinds}
+use Rattle.cbor_builder.specs.{Built.HasKey, Built.AreOpenKeysDifferent, declared.repeat.Repeat.Repeat}
 use Rattle.cbor_judging.specs.Levels.{IsTaken, Level, AreLevels, bytes_before}
-use Rattle.cbor_walk.specs.Sink.{IsKeyBehind}
-use Rattle.cbor_walk.specs.inner.Open.{opener}
-use Rattle.cbor_walk.specs.inner.OpenMaps.{FindsMap}
-use Rattle.cbor_walk.specs.declared.open.Open.{Open}
+use Rattle.cbor_judging.specs.{Given.opens, Kinds.KeepsToKinds}
+use Rattle.cbor_walk.specs.{Sink.IsKeyBehind, inner.Open.opener, inner.OpenMaps.FindsMap, declared.open.Open.Open}
 
 -- The input's item has come to a key that has the canonical bytes of an earlier one of its map, as no two keys before it. So many
 -- bytes of the input stand behind the map's head.

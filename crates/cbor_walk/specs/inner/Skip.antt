@@ -2,8 +2,8 @@
 use Rattle.std.specs.Prelude.{ℕ, ◌≡◌, ◌<◌, ◌-◌, ◌++◌, Bool, List}
 use Rattle.cbor_head.specs.Prelude.{Spelling, Spellings, spell, spell_all, spellings_count}
 use Rattle.cbor_judging.specs.Levels.{IsTaken, AreTaken, Level, Standing}
-use Rattle.cbor_walk.specs.declared.building.Met.{Met}
 use Rattle.cbor_walk.specs.declared.building.Met.TheVariants as met
+use Rattle.cbor_walk.specs.declared.building.Met.{Met}
 
 -- what keeps nothing stands everywhere
 abbrev pub anywhere : (S : Type 0) → S → S → Standing → Type 0

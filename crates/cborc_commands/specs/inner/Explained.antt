@@ -1,10 +1,9 @@
 -- What `--explain` says of a fault.
 use Rattle.std.specs.Prelude.{ℕ, List, Option, Some, None, codes}
-use Rattle.std.specs.declared.io.ErrorKind.{ErrorKind}
 use Rattle.std.specs.declared.io.ErrorKind.TheVariants as kinds
-use Rattle.cborc_input.specs.declared.request.Options.{Options}
-use Rattle.cborc_input.specs.declared.request.Request.{Request}
+use Rattle.std.specs.declared.io.ErrorKind.{ErrorKind}
 use Rattle.cborc_input.specs.declared.request.Request.TheVariants.{Check, CheckSequence, Canon, CanonSequence, Compare, Show, ShowSequence, Events, EventsSequence}
+use Rattle.cborc_input.specs.declared.request.{Options.Options, Request.Request}
 
 -- how the files of a request are read
 abbrev pub options_of : Request → Options

@@ -1,8 +1,7 @@
 -- A command as it is built.
 use Rattle.std.specs.Prelude.{◌≡◌, List, [], false, fold}
 use Rattle.clap.specs.Words.{App, Rule, Shape, app_of, rule_of, with_rule}
-use Rattle.clap.specs.declared.builder.arg.Arg.{Arg}
-use Rattle.clap.specs.declared.builder.command.Command.{Command}
+use Rattle.clap.specs.declared.builder.{arg.Arg.Arg, command.Command.Command}
 
 -- the command with these arguments more
 abbrev pub with_rules : App → List Rule → App

@@ -1,8 +1,7 @@
 -- An input that is read part by part.
 use Rattle.std.specs.Prelude.{ℕ, ◌^◌, ◌≡◌, ◌<◌, ◌++◌, Bool, List, length, Option}
 use Rattle.cborc_files.specs.Folder.{Files}
-use Rattle.cborc_input.specs.declared.source.Source.{Source}
-use Rattle.cborc_input.specs.inner.Sources.{HasGiven, IsPartAdded}
+use Rattle.cborc_input.specs.{declared.source.Source.Source, inner.Sources.HasGiven, inner.Sources.IsPartAdded}
 
 -- what contracts see of it: the bytes that were read and are still to be taken, where they start in it, and the file that they are read of
 pub record PartsView : Type 0 where

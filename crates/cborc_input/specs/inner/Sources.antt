@@ -6,10 +6,8 @@ use Rattle.cborc_files.specs.Digits.{DigitsView, Spells, SpellsOn, IsWhole}
 use Rattle.cborc_files.specs.Folder.{Files, Holds, ReadsOn, KeepsFiles}
 use Rattle.cborc_files.specs.Hex.{is_kept}
 use Rattle.cborc_fronts.specs.Input.{IsInput}
-use Rattle.cborc_input.specs.NoInput.{IsNoInput}
-use Rattle.cborc_input.specs.declared.fault.Fault.{Fault}
 use Rattle.cborc_input.specs.declared.fault.Fault.TheVariants as faults
-use Rattle.cborc_input.specs.declared.source.Source.{Source}
+use Rattle.cborc_input.specs.{NoInput.IsNoInput, declared.fault.Fault.Fault, declared.source.Source.Source}
 
 -- ---- what was read
 

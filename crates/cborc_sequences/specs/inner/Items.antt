@@ -4,14 +4,11 @@ use Rattle.std.specs.Io.KnownBytes.{Appends}
 use Rattle.cbor_head.specs.Prelude.{Rules, plain, Bounds, Spelling, spell, refused, IsVerdict}
 use Rattle.cbor_head.specs.declared.order.KeyOrder.{KeyOrder}
 use Rattle.cbor_reader.specs.Sequence.{IsAccepted}
+use Rattle.cborc_input.specs.declared.fault.Fault.TheVariants as faults
+use Rattle.cborc_input.specs.{Texts.GoesInPart, declared.fault.Fault.Fault, declared.request.Form.Form, declared.request.Layout.Layout}
 use Rattle.cborc_sequences.specs.CanonSequence.{HasCanonicalBytes, canonical_text, IsUncanonical}
 use Rattle.cborc_sequences.specs.EventsSequence.{IsFormRefused, IsCutOff, IsListedInPart}
-use Rattle.cborc_input.specs.Texts.{GoesInPart}
 use Rattle.cborc_sequences.specs.ShowSequence.{item_text}
-use Rattle.cborc_input.specs.declared.fault.Fault.{Fault}
-use Rattle.cborc_input.specs.declared.fault.Fault.TheVariants as faults
-use Rattle.cborc_input.specs.declared.request.Form.{Form}
-use Rattle.cborc_input.specs.declared.request.Layout.{Layout}
 
 -- to be counted: it is refused, or memory was
 abbrev pub IsUncounted : Bounds → Rules → List ℕ → Fault → Type 0

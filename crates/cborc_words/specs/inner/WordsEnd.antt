@@ -1,12 +1,10 @@
 -- How a run ends whose words give no request.
 use Rattle.std.specs.Prelude.{ℕ, ◌≡◌, ◌≢◌, ◌⊎◌, List, Option, Result, Ok, Err}
 use Rattle.std.specs.Io.KnownBytes.{Keeps}
-use Rattle.clap.specs.declared.error.kind.ErrorKind.{ErrorKind}
 use Rattle.clap.specs.declared.error.kind.ErrorKind.TheVariants as kinds
-use Rattle.cborc_input.specs.declared.fault.Fault.{Fault}
+use Rattle.clap.specs.declared.error.kind.ErrorKind.{ErrorKind}
 use Rattle.cborc_input.specs.declared.fault.Fault.TheVariants as faults
-use Rattle.cborc_input.specs.declared.status.Status.{Status}
-use Rattle.cborc_input.specs.declared.status.Status.TheVariants.{Accepted, Misused}
+use Rattle.cborc_input.specs.declared.{fault.Fault.Fault, status.Status.Status, status.Status.TheVariants.Accepted, status.Status.TheVariants.Misused}
 use Rattle.cborc_words.specs.Run.{IsHelp}
 
 -- by the kind of their fault: with a status, or for a fault; help alone is written to standard output

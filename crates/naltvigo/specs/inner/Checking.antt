@@ -1,12 +1,9 @@
 -- What the strict check of a whole input answers.
 use Rattle.std.specs.Prelude.{ℕ, ◌≢◌, List, length}
-use Rattle.cbor_head.specs.Prelude.{Bounds, strict}
-use Rattle.cbor_head.specs.declared.order.KeyOrder.{KeyOrder}
-use Rattle.cbor_head.specs.declared.reason.Reason.TheVariants.{Memory}
+use Rattle.cbor_head.specs.{Prelude.Bounds, Prelude.strict, declared.order.KeyOrder.KeyOrder, declared.reason.Reason.TheVariants.Memory}
 use Rattle.cbor_head.specs.declared.reason.Refusal.{Refusal}
-use Rattle.cbor_reader.specs.Canonicalise.{IsCanonicalOf}
 use Rattle.cbor_judging.specs.Readers.{IsRead, IsCanonicalFront}
-use Rattle.cbor_reader.specs.WholeItem.{IsItemRefusal}
+use Rattle.cbor_reader.specs.{Canonicalise.IsCanonicalOf, WholeItem.IsItemRefusal}
 use Rattle.naltvigo.specs.Checking.{HasNoWholeFront}
 
 -- the input is its own answer

@@ -1,7 +1,7 @@
 use Rattle.std.proofs.Common.{List, ℕ, ◌≡◌, ◌+◌, ◌-◌, ◌++◌, ◌≤◌, length, length-take, take, drop, take_all, refl, ap, ◌∙◌, sym, arith, slice_range}
 use Rattle.cbor_buffer.proofs.Slices.{front_of_list, slice_within, slice_length}
-use Rattle.cbor_buffer.proofs.Written.{written}
 use Rattle.cbor_buffer.proofs.copies.copy_behind.Goals as goal
+use Rattle.cbor_buffer.proofs.Written.{written}
 
 pub returns-clause-behind : goal.returns-clause-behind
 returns-clause-behind c =

@@ -1,9 +1,7 @@
 use Rattle.std.proofs.Common.{List, ℕ, ◌++◌, length, length-take, take, ap, ◌∙◌, arith, slice_index_or}
-use Rattle.cbor_buffer.specs.declared.cuts.Cut.{Cut}
-use Rattle.cbor_buffer.proofs.Moved.{emitted_at, emitted_all}
-use Rattle.cbor_buffer.proofs.ByIndex.{all_index}
-use Rattle.cbor_buffer.proofs.Slices.{front_kept, slice_within}
 use Rattle.cbor_buffer.proofs.cuts.emit.Goals as goal
+use Rattle.cbor_buffer.{specs.declared.cuts.Cut.Cut, proofs.Moved.emitted_at, proofs.Moved.emitted_all, proofs.ByIndex.all_index}
+use Rattle.cbor_buffer.proofs.Slices.{front_kept, slice_within}
 
 abbrev no_cut : Cut
 no_cut = record { at = 0; from = 0; to = 0 }

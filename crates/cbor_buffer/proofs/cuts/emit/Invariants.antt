@@ -1,6 +1,6 @@
 use Rattle.std.proofs.Common.{◌≡◌, ◌++◌, length, take, drop}
-use Rattle.cbor_buffer.specs.Moved.{rope}
 use Rattle.cbor_buffer.proofs.cuts.emit.Given as goal
+use Rattle.cbor_buffer.specs.Moved.{rope}
 
 abbrev pub invariant-loop-cut : goal.invariant-loop-cut
 invariant-loop-cut l =

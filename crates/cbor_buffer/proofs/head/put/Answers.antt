@@ -1,7 +1,7 @@
 use Rattle.std.proofs.Common.{◌≡◌, ◌≤◌, ◌+◌, ◌-◌, ◌++◌, take, drop, length, ap, ◌∙◌, sym, arith, take_all}
 use Rattle.std.proofs.lemmas.List.{with_items_is}
-use Rattle.cbor_buffer.proofs.Written.{written, length_kept}
 use Rattle.cbor_buffer.proofs.head.put.Goals as goal
+use Rattle.cbor_buffer.proofs.Written.{written, length_kept}
 
 pub returns-clause-bytes : goal.returns-clause-bytes
 returns-clause-bytes c =

@@ -1,7 +1,7 @@
 use Rattle.std.proofs.Common.{◌≡◌, ◌+◌, ◌-◌, ◌++◌, take, drop, length, ap, ◌∙◌, sym, arith}
 use Rattle.std.proofs.lemmas.List.{with_items_is}
-use Rattle.cbor_buffer.proofs.Written.{written, length_kept}
 use Rattle.cbor_buffer.proofs.out.put_block.Goals as goal
+use Rattle.cbor_buffer.proofs.Written.{written, length_kept}
 
 pub returns-clause-block : goal.returns-clause-block
 returns-clause-block c =

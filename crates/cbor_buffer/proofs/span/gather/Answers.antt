@@ -1,9 +1,7 @@
 use Rattle.std.proofs.Common.{List, ℕ, ◌++◌, length, length-take, take, ap, ◌∙◌, arith, slice_index_or}
-use Rattle.cbor_buffer.specs.Spans.{no_span}
-use Rattle.cbor_buffer.proofs.Gathered.{gathered_at, gathered_all}
-use Rattle.cbor_buffer.proofs.ByIndex.{all_index}
-use Rattle.cbor_buffer.proofs.Slices.{front_kept, slice_within}
 use Rattle.cbor_buffer.proofs.span.gather.Goals as goal
+use Rattle.cbor_buffer.{specs.Spans.no_span, proofs.Gathered.gathered_at, proofs.Gathered.gathered_all, proofs.ByIndex.all_index}
+use Rattle.cbor_buffer.proofs.Slices.{front_kept, slice_within}
 
 pub loop-span-preserved : goal.loop-span-preserved
 loop-span-preserved c =

@@ -1,7 +1,7 @@
 use Rattle.std.proofs.Common.{◌≡◌, ◌++◌, length, take, drop, map, flat_map}
 use Rattle.cbor_canonical.specs.Pairs.{pair_bytes}
-use Rattle.cbor_buffer.specs.Spans.{span_pair}
 use Rattle.cbor_buffer.proofs.span.gather.Given as goal
+use Rattle.cbor_buffer.specs.Spans.{span_pair}
 
 abbrev pub invariant-loop-span : goal.invariant-loop-span
 invariant-loop-span l =

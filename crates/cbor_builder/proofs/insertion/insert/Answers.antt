@@ -1,13 +1,10 @@
 use Rattle.std.proofs.Common.{◌-◌, ◌∷◌, length, length-take, take, get_or, map, refl, sym, subst, arith, IsPermutation}
-use Rattle.std.proofs.lemmas.List.{drop_all}
-use Rattle.std.proofs.lemmas.List.Sorted.{IsPermutation-insert}
+use Rattle.std.proofs.lemmas.List.{drop_all, Sorted.IsPermutation-insert}
+use Rattle.cbor_canonical.{proofs.ByteLists.are_bytes, proofs.Orders.tied, specs.Pairs.IsRising}
 use Rattle.cbor_buffer.specs.Spans.{span_pair, no_span}
-use Rattle.cbor_canonical.proofs.ByteLists.{are_bytes}
-use Rattle.cbor_canonical.proofs.Orders.{tied}
-use Rattle.cbor_canonical.specs.Pairs.{IsRising}
-use Rattle.cbor_builder.specs.inner.Front.{key_of, in_front}
 use Rattle.cbor_builder.proofs.Inserted.{AreAbove, AreBelow, free_place, set_free, above_more, none_below, below_all, inserted_rises, has_key_at, met, less_key, greater_key}
 use Rattle.cbor_builder.proofs.insertion.insert.Goals as goal
+use Rattle.cbor_builder.specs.inner.Front.{key_of, in_front}
 use Rattle.cbor_builder.proofs.insertion.insert.Goals.{else-loop-at-test, then-loop-at-test+in-Less}
 
 pub loop-at-init : goal.loop-at-init

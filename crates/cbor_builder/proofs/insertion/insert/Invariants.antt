@@ -1,9 +1,8 @@
 use Rattle.std.proofs.Common.{◌≡◌, ◌≤◌, length, drop}
 use Rattle.std.specs.List.{insert}
 use Rattle.cbor_buffer.specs.declared.span.Span.{Span}
-use Rattle.cbor_builder.specs.inner.Front.{in_front}
-use Rattle.cbor_builder.proofs.Inserted.{AreAbove}
 use Rattle.cbor_builder.proofs.insertion.insert.Given as goal
+use Rattle.cbor_builder.{specs.inner.Front.in_front, proofs.Inserted.AreAbove}
 
 abbrev pub invariant-loop-at : goal.invariant-loop-at
 invariant-loop-at l =

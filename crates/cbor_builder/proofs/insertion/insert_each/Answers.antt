@@ -1,18 +1,12 @@
 use Rattle.std.proofs.Common.{◌≡◌, ℕ, ◌+◌, ◌++◌, ◌∷◌, List, length, length-take, take, take-append-drop, drop, get_or, map, refl, sym, ◌∙◌, subst, arith, IsPermutation, take_all}
-use Rattle.std.proofs.lemmas.List.{get_or_default}
 use Rattle.std.proofs.lemmas.List.Sorted.{IsPermutation-sym, IsPermutation-map, IsPermutation-append_left}
-use Rattle.cbor_buffer.specs.Spans.{span_pair, no_span}
-use Rattle.cbor_buffer.specs.declared.span.Span.{Span}
-use Rattle.cbor_canonical.specs.Pairs.{IsRising}
-use Rattle.cbor_canonical.proofs.Sorting.{rising_distinct}
-use Rattle.cbor_builder.specs.Built.{HasKey}
+use Rattle.std.proofs.lemmas.List.{get_or_default}
+use Rattle.cbor_canonical.{specs.Pairs.IsRising, proofs.Sorting.rising_distinct, proofs.Decided.holds, proofs.Decided.fails}
+use Rattle.cbor_buffer.{specs.Spans.span_pair, specs.Spans.no_span, specs.declared.span.Span.Span, proofs.ByIndex.all_index}
 use Rattle.cbor_builder.specs.inner.Front.{key_of, IsFronted, AreFronted}
-use Rattle.cbor_canonical.proofs.Decided.{holds, fails}
-use Rattle.cbor_builder.proofs.KeysSoFar.{distinct_permuted}
-use Rattle.cbor_buffer.proofs.ByIndex.{all_index}
-use Rattle.cbor_builder.proofs.Ranks.{all_permuted}
 use Rattle.cbor_builder.proofs.Inserted.{in_front_taken, taken_front, rest_front, same_at, rest_more, all_taken, more_permuted, repeats}
 use Rattle.cbor_builder.proofs.insertion.insert_each.Goals as goal
+use Rattle.cbor_builder.{specs.Built.HasKey, proofs.KeysSoFar.distinct_permuted, proofs.Ranks.all_permuted}
 
 pub insert-requires-clause-fronted : goal.insert-requires-clause-fronted
 insert-requires-clause-fronted c =

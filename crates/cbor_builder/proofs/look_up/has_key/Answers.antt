@@ -1,10 +1,8 @@
 use Rattle.std.proofs.Common.{List, ℕ, ◌∷◌, ◌++◌, [], map, subst}
-use Rattle.cbor_buffer.specs.Spans.{span_pair}
-use Rattle.cbor_buffer.specs.declared.span.Span.{Span}
-use Rattle.cbor_canonical.proofs.Decided.{fails}
-use Rattle.cbor_canonical.specs.Pairs.{IsRising}
-use Rattle.cbor_builder.proofs.LookUp.{above_other}
+use Rattle.cbor_canonical.{proofs.Decided.fails, specs.Pairs.IsRising}
+use Rattle.cbor_buffer.specs.{Spans.span_pair, declared.span.Span.Span}
 use Rattle.cbor_builder.proofs.look_up.has_key.Goals as goal
+use Rattle.cbor_builder.proofs.LookUp.{above_other}
 
 pub returns-then-is_above : goal.returns-then-is_above
 returns-then-is_above c =

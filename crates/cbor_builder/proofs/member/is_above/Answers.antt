@@ -1,13 +1,9 @@
 use Rattle.std.proofs.Common.{◌≡◌, ◌+◌, ◌-◌, length, length-drop, drop, get_or, ◌∙◌, ap, sym, subst, arith}
-use Rattle.std.proofs.lemmas.List.{get_or-drop}
-use Rattle.std.specs.Ordering.{is_lt}
-use Rattle.std.proofs.lemmas.Option.{get_or_from_slice_get}
-use Rattle.cbor_builder.specs.inner.Front.{IsFronted}
+use Rattle.std.{proofs.lemmas.List.get_or-drop, specs.Ordering.is_lt, proofs.lemmas.Option.get_or_from_slice_get}
 use Rattle.cbor_canonical.proofs.ByteLists.{are_bytes}
 use Rattle.cbor_buffer.proofs.ByIndex.{all_index}
-use Rattle.cbor_builder.proofs.Ranks.{agree_spans}
-use Rattle.cbor_builder.proofs.Inserted.{above_last}
 use Rattle.cbor_builder.proofs.member.is_above.Goals as goal
+use Rattle.cbor_builder.{specs.inner.Front.IsFronted, proofs.Ranks.agree_spans, proofs.Inserted.above_last}
 
 pub returns-in-Some : goal.returns-in-Some
 returns-in-Some c = λ t r.

@@ -1,13 +1,10 @@
 use Rattle.std.proofs.Common.{ℕ, Option, map, sym, subst, arith, MatchOption, ◌==◌}
-use Rattle.cbor_builder.specs.Built.{AreAllDifferent, IsFirstRepeat}
-use Rattle.cbor_builder.specs.inner.Front.{key_of}
 use Rattle.std.proofs.lemmas.List.Sums.{count_by-le-length}
 use Rattle.cbor_canonical.proofs.ByteLists.{are_bytes}
-use Rattle.cbor_builder.specs.inner.Repeats.{lies_before}
-use Rattle.cbor_builder.proofs.Ranks.{all_permuted, sorted_keys}
 use Rattle.cbor_builder.proofs.FirstRepeat.{bit_most, none_told, one_told, placed}
-use Rattle.cbor_builder.proofs.Ties.{grouped}
 use Rattle.cbor_builder.proofs.repeats.first_repeat.Goals as goal
+use Rattle.cbor_builder.specs.{Built.AreAllDifferent, Built.IsFirstRepeat, inner.Front.key_of, inner.Repeats.lies_before}
+use Rattle.cbor_builder.proofs.{Ranks.all_permuted, Ranks.sorted_keys, Ties.grouped}
 
 pub first_tie-requires : goal.first_tie-requires
 first_tie-requires c =

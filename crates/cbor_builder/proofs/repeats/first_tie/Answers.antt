@@ -1,11 +1,10 @@
 use Rattle.std.proofs.Common.{◌≡◌, ◌+◌, ◌-◌, ◌≤◌, length, min, max, sym, ◌∙◌, subst, arith}
 use Rattle.std.proofs.lemmas.Bool.{eqb-false}
-use Rattle.cbor_builder.specs.inner.Repeats.{IsFirstTie, IsLeastOfKey, IsFirstOf}
-use Rattle.cbor_builder.specs.declared.repeats.Tie.{Tie}
 use Rattle.cbor_canonical.proofs.ByteLists.{are_bytes}
+use Rattle.cbor_builder.specs.inner.Repeats.{IsFirstTie, IsLeastOfKey, IsFirstOf}
 use Rattle.cbor_builder.proofs.Ties.{tie_alone, tie_passed, tie_met}
-use Rattle.cbor_builder.proofs.Ranks.{compared}
 use Rattle.cbor_builder.proofs.repeats.first_tie.Goals as goal
+use Rattle.cbor_builder.{specs.declared.repeats.Tie.Tie, proofs.Ranks.compared}
 use Rattle.cbor_builder.proofs.repeats.first_tie.Goals.{then-is_eq, else-is_eq}
 
 pub loop-i-init : goal.loop-i-init

@@ -1,6 +1,6 @@
 use Rattle.std.proofs.Common.{rules, of_calls}
-use Rattle.cbor_builder.proofs.Ranks.{sorted_by_rank}
 use Rattle.cbor_builder.proofs.sort.sort_by_keys.Goals as goal
+use Rattle.cbor_builder.proofs.Ranks.{sorted_by_rank}
 
 pub returns-clause-sorted : goal.returns-clause-sorted
 returns-clause-sorted c =

@@ -1,13 +1,10 @@
 use Rattle.std.proofs.Common.{map, arith, IsTrue}
 use Rattle.std.proofs.lemmas.List.Sorted.{IsPermutation-sym, IsPermutation-map}
+use Rattle.cbor_canonical.{specs.Pairs.IsRising, proofs.ByteLists.are_bytes, proofs.Sorting.rising_distinct}
 use Rattle.cbor_buffer.specs.Spans.{span_pair}
-use Rattle.cbor_canonical.specs.Pairs.{IsRising}
-use Rattle.cbor_canonical.proofs.ByteLists.{are_bytes}
-use Rattle.cbor_canonical.proofs.Sorting.{rising_distinct}
-use Rattle.cbor_builder.proofs.Ranks.{all_permuted, sorted_keys}
-use Rattle.cbor_builder.proofs.Neighbours.{differ_from_distinct, rising_from_differ}
-use Rattle.cbor_builder.proofs.KeysSoFar.{distinct_permuted}
 use Rattle.cbor_builder.proofs.sort.sort_distinct.Goals as goal
+use Rattle.cbor_builder.proofs.{Ranks.all_permuted, Ranks.sorted_keys, Neighbours.differ_from_distinct, Neighbours.rising_from_differ}
+use Rattle.cbor_builder.proofs.KeysSoFar.{distinct_permuted}
 
 pub differ-requires : goal.differ-requires
 differ-requires c = all_permuted _ c.args.spans.now c.sort_by_keys.new.spans c.sort_by_keys.ensures.permuted c.requires

@@ -1,8 +1,7 @@
 use Rattle.cbor_head.specs.Prelude.{canonical_entries}
-use Rattle.cbor_canonical.proofs.Members.{in_contains, contains_in}
 use Rattle.cbor_canonical.proofs.Sorting.{rising_unique, in_order_rising, in_order_permutes}
-use Rattle.cbor_canonical.proofs.Told.{distinct_bytes}
 use Rattle.cbor_canonical.proofs.laws.pairs_in_the_one_order.Goals as goal
+use Rattle.cbor_canonical.proofs.{Members.in_contains, Members.contains_in, Told.distinct_bytes}
 
 pub returns-clause-rising : goal.returns-clause-rising
 returns-clause-rising c = λ o es h d. in_order_rising o (canonical_entries o es) (distinct_bytes o es h d)

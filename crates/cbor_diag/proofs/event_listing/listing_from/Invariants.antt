@@ -1,6 +1,6 @@
 use Rattle.std.proofs.Common.{◌≡◌, ◌-◌, None}
-use Rattle.cbor_diag.proofs.Listed.{HasListed}
 use Rattle.cbor_diag.proofs.event_listing.listing_from.Given as goal
+use Rattle.cbor_diag.proofs.Listed.{HasListed}
 
 abbrev pub invariant-lines : goal.invariant-lines
 invariant-lines g l =

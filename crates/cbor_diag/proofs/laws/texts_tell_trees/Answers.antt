@@ -1,6 +1,6 @@
 use Rattle.cbor_item.specs.View.{view}
-use Rattle.cbor_diag.proofs.ReadBack.{equal-line, equal-lines}
 use Rattle.cbor_diag.proofs.laws.texts_tell_trees.Goals as goal
+use Rattle.cbor_diag.proofs.ReadBack.{equal-line, equal-lines}
 
 pub returns : goal.returns
 returns c =

@@ -1,10 +1,8 @@
 use Rattle.std.proofs.Common.{◌≡◌, ◌++◌, ◌∷◌, [], codes, arith}
 use Rattle.std.proofs.lemmas.Result.{err_from_is_err_and}
 use Rattle.hex.specs.Hex.{encode_lower}
-use Rattle.cbor_diag.specs.Text.{escaped}
-use Rattle.cbor_diag.proofs.Putting.{stops-more, puts-next}
-use Rattle.cbor_diag.proofs.PieceTexts.{escape-other}
 use Rattle.cbor_diag.proofs.pieces.put_escape.Goals as goal
+use Rattle.cbor_diag.{specs.Text.escaped, proofs.Putting.stops-more, proofs.Putting.puts-next, proofs.PieceTexts.escape-other}
 
 pub returns-in_err-put-in_default : goal.returns-in_err-put-in_default
 returns-in_err-put-in_default g c =

@@ -1,8 +1,7 @@
-use Rattle.std.proofs.Common.{arith, refl}
-use Rattle.std.proofs.lemmas.Result.{err_from_is_err_and}
-use Rattle.cbor_diag.proofs.Putting.{puts-nothing}
+use Rattle.std.proofs.{Common.arith, Common.refl, lemmas.Result.err_from_is_err_and}
 use Rattle.cbor_diag.proofs.PieceTexts.{run-stops, escape-put, escape-stops, raw-skipped, text-ends}
 use Rattle.cbor_diag.proofs.pieces.put_escaped.Goals as goal
+use Rattle.cbor_diag.proofs.Putting.{puts-nothing}
 use Rattle.cbor_diag.proofs.pieces.put_escaped.Goals.{then-not-is_raw+in_ok-put+in_ok-put_escape, else-not-is_raw}
 
 pub loop-at-init : goal.loop-at-init

@@ -1,8 +1,7 @@
-use Rattle.std.proofs.Common.{arith}
-use Rattle.std.proofs.lemmas.Result.{err_from_is_err_and}
-use Rattle.cbor_diag.proofs.Putting.{puts-nothing}
+use Rattle.std.proofs.{Common.arith, lemmas.Result.err_from_is_err_and}
 use Rattle.cbor_diag.proofs.PieceTexts.{no-digits, digits-put, digits-stop, digits-end}
 use Rattle.cbor_diag.proofs.pieces.put_hex.Goals as goal
+use Rattle.cbor_diag.proofs.Putting.{puts-nothing}
 
 pub loop-at-init : goal.loop-at-init
 loop-at-init g c = record { within = omega arith; written = rw (no-digits c.args.bytes.now) (puts-nothing _ c.args.out.now) }

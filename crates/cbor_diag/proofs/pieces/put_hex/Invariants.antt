@@ -1,7 +1,6 @@
 use Rattle.std.proofs.Common.{◌≤◌, ◌-◌, length}
-use Rattle.cbor_diag.specs.inner.Outbox.{HasPut}
-use Rattle.cbor_diag.proofs.PieceTexts.{digits_to}
 use Rattle.cbor_diag.proofs.pieces.put_hex.Given as goal
+use Rattle.cbor_diag.{specs.inner.Outbox.HasPut, proofs.PieceTexts.digits_to}
 
 abbrev pub invariant-loop-at : goal.invariant-loop-at
 invariant-loop-at g l = record {

@@ -1,8 +1,6 @@
-use Rattle.std.proofs.Common.{◌*◌, replicate}
-use Rattle.std.proofs.lemmas.Result.{err_from_is_err_and}
-use Rattle.cbor_diag.proofs.Putting.{stops-more, puts-next}
-use Rattle.cbor_diag.proofs.PieceTexts.{spaces-front}
+use Rattle.std.proofs.{Common.◌*◌, Common.replicate, lemmas.Result.err_from_is_err_and}
 use Rattle.cbor_diag.proofs.pieces.put_line.Goals as goal
+use Rattle.cbor_diag.proofs.{Putting.stops-more, Putting.puts-next, PieceTexts.spaces-front}
 
 pub returns-in_err-put : goal.returns-in_err-put
 returns-in_err-put g c = rw ((err_from_is_err_and c.from_residual.result c.from_residual.ensures.1).1) (stops-more _ _ c.args.out.now c.args.start.now (replicate (2 * c.args.level) 32) _ c.in_err-put.ensures)

@@ -1,7 +1,7 @@
 use Rattle.std.proofs.Common.{◌≡◌, ◌+◌, ◌∷◌, [], ap, ◌∙◌, decimal, ℕ}
 use Rattle.std.proofs.lemmas.Result.{err_from_is_err_and}
-use Rattle.cbor_diag.proofs.Putting.{stops-more, puts-next}
 use Rattle.cbor_diag.proofs.pieces.put_negative.Goals as goal
+use Rattle.cbor_diag.proofs.Putting.{stops-more, puts-next}
 
 pub returns-in_err-put : goal.returns-in_err-put
 returns-in_err-put g c = rw ((err_from_is_err_and c.from_residual.result c.from_residual.ensures.1).1) (stops-more _ _ c.args.out.now (45 ∷ []) (decimal (c.args.n + 1)) _ c.in_err-put.ensures)

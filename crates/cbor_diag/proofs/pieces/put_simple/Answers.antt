@@ -1,9 +1,8 @@
 use Rattle.std.proofs.Common.{◌≡◌, ◌++◌, decimal, codes, arith}
 use Rattle.std.proofs.lemmas.Result.{err_from_is_err_and}
-use Rattle.cbor_diag.specs.Text.{simple_text}
 use Rattle.cbor_diag.proofs.Putting.{stops-more, puts-next, puts-then, puts-stops}
-use Rattle.cbor_diag.proofs.PieceTexts.{simple-other}
 use Rattle.cbor_diag.proofs.pieces.put_simple.Goals as goal
+use Rattle.cbor_diag.{specs.Text.simple_text, proofs.PieceTexts.simple-other}
 
 pub returns-in_err-put-in_default : goal.returns-in_err-put-in_default
 returns-in_err-put-in_default g c =

@@ -1,5 +1,4 @@
-use Rattle.std.proofs.Common.{◌++◌}
-use Rattle.std.proofs.lemmas.Result.{err_from_is_err_and}
+use Rattle.std.proofs.{Common.◌++◌, lemmas.Result.err_from_is_err_and}
 use Rattle.cbor_diag.specs.inner.Strings.{opening, content_text, closing}
 use Rattle.cbor_diag.proofs.Putting.{stops-more, puts-then, puts-stops, puts-next}
 use Rattle.cbor_diag.proofs.pieces.put_string.Goals as goal

@@ -1,8 +1,6 @@
 use Rattle.std.proofs.Common.{◌∙◌}
-use Rattle.cbor_diag.specs.inner.Layout.{laid_out}
-use Rattle.cbor_diag.proofs.Layouts.{laid}
-use Rattle.cbor_diag.proofs.Putting.{writes-stopped, writes-all}
 use Rattle.cbor_diag.proofs.text.write_text.Goals as goal
+use Rattle.cbor_diag.{specs.inner.Layout.laid_out, proofs.Layouts.laid, proofs.Putting.writes-stopped, proofs.Putting.writes-all}
 
 pub returns-in-Ok : goal.returns-in-Ok
 returns-in-Ok g c =

@@ -1,8 +1,6 @@
-use Rattle.std.proofs.Common.{codes, decimal}
-use Rattle.std.proofs.lemmas.Result.{err_from_is_err_and}
-use Rattle.cbor_diag.proofs.Putting.{stops-more, puts-next}
-use Rattle.cbor_diag.proofs.TextGiven.{opener-other}
+use Rattle.std.proofs.{Common.codes, Common.decimal, lemmas.Result.err_from_is_err_and}
 use Rattle.cbor_diag.proofs.text_sink.put_opener.Goals as goal
+use Rattle.cbor_diag.proofs.{Putting.stops-more, Putting.puts-next, TextGiven.opener-other}
 
 pub returns-in_err-put_number-in_default : goal.returns-in_err-put_number-in_default
 returns-in_err-put_number-in_default g c =

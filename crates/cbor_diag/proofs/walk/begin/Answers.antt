@@ -1,6 +1,5 @@
 use Rattle.std.proofs.Common.{◌++◌, codes, decimal, length-append, arith}
-use Rattle.std.proofs.lemmas.Result.{err_from_is_err_and}
-use Rattle.std.proofs.lemmas.Fmt.{decimal_nonempty}
+use Rattle.std.proofs.lemmas.{Result.err_from_is_err_and, Fmt.decimal_nonempty}
 use Rattle.cbor_diag.proofs.Putting.{puts-then, puts-stops, stops-more}
 use Rattle.cbor_diag.proofs.Leaving.{front-stops, front-left, leaf-left, array-front, map-front, tag-front}
 use Rattle.cbor_diag.proofs.walk.begin.Goals as goal

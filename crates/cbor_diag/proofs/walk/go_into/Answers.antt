@@ -1,6 +1,6 @@
 use Rattle.std.proofs.lemmas.Result.{err_from_is_err_and}
-use Rattle.cbor_diag.proofs.Putting.{stops-more}
 use Rattle.cbor_diag.proofs.walk.go_into.Goals as goal
+use Rattle.cbor_diag.proofs.Putting.{stops-more}
 
 pub returns-in_err-inner-clause-put : goal.returns-in_err-inner-clause-put
 returns-in_err-inner-clause-put g c =

@@ -1,10 +1,8 @@
 use Rattle.std.proofs.Common.{◌++◌, codes, sym, ap, arith, reverse, take}
 use Rattle.std.proofs.lemmas.Result.{err_from_is_err_and}
-use Rattle.cbor_diag.specs.inner.Layout.{gap, end}
-use Rattle.cbor_diag.specs.inner.Levels.{behind, left_of}
-use Rattle.cbor_diag.proofs.Putting.{stops-more}
 use Rattle.cbor_diag.proofs.Leaving.{front-stops, put-stops, goes-on, ends, member-next, members-end, pair-next, pairs-end, value-next}
 use Rattle.cbor_diag.proofs.walk.go_on.Goals as goal
+use Rattle.cbor_diag.{specs.inner.Layout.gap, specs.inner.Layout.end, specs.inner.Levels.behind, specs.inner.Levels.left_of, proofs.Putting.stops-more}
 
 pub returns-in_err-put_gap-in-Some-clause-put : goal.returns-in_err-put_gap-in-Some-clause-put
 returns-in_err-put_gap-in-Some-clause-put g c =

@@ -1,6 +1,6 @@
 use Rattle.std.proofs.lemmas.Result.{err_from_is_err_and}
-use Rattle.cbor_diag.proofs.Leaving.{left-left, left-stops}
 use Rattle.cbor_diag.proofs.walk.put_within.Goals as goal
+use Rattle.cbor_diag.proofs.Leaving.{left-left, left-stops}
 
 pub levels-preserved : goal.levels-preserved
 levels-preserved g c = record {

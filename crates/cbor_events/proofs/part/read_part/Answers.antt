@@ -1,10 +1,10 @@
 use Rattle.std.proofs.Common.{◌<◌, inl, inr, length, take, refl, ap, arith, ◌++◌, length-take}
 use Rattle.cbor_head.specs.declared.reason.Refusal.{Refusal}
-use Rattle.cbor_standing.specs.Machine.{wanted}
 use Rattle.cbor_standing.proofs.NextEvents.{complete-wants, wants-short, front-again}
 use Rattle.cbor_standing.proofs.NextRefusals.{still-due, cut-is, cut-here}
-use Rattle.cbor_events.proofs.Parts.{part-read, some-read}
+use Rattle.cbor_standing.specs.Machine.{wanted}
 use Rattle.cbor_events.proofs.part.read_part.Goals as goal
+use Rattle.cbor_events.proofs.Parts.{part-read, some-read}
 
 pub returns-in-End-clause-answers : goal.returns-in-End-clause-answers
 returns-in-End-clause-answers g c = λ was from kept t ms h r depth.

@@ -1,8 +1,7 @@
 use Rattle.std.proofs.Common.{◌≤◌, ◌+◌, length, take, ℕ, List}
-use Rattle.cbor_automaton.specs.Trace.{Mark}
-use Rattle.cbor_automaton.specs.Marks.{marks_of}
-use Rattle.cbor_standing.specs.Machine.{StandsFor}
+use Rattle.cbor_automaton.specs.{Trace.Mark, Marks.marks_of}
 use Rattle.cbor_standing.proofs.Feeding.{goes-on, more-answers, rest_from, split-rest, split-whole, fits-rest}
+use Rattle.cbor_standing.specs.Machine.{StandsFor}
 use Rattle.cbor_events_tests.proofs.tests.feed.Goals as goal
 
 pub all-preserved : goal.all-preserved

@@ -1,6 +1,6 @@
-use Rattle.cbor_explain.proofs.Explained.{explained}
 use Rattle.std.proofs.lemmas.Result.{on_ok_weaker}
 use Rattle.cbor_explain.proofs.explanation.explain.Goals as goal
+use Rattle.cbor_explain.proofs.Explained.{explained}
 
 pub returns : goal.returns
 returns g c =

@@ -1,5 +1,4 @@
-use Rattle.std.proofs.Common.{replicate}
-use Rattle.std.specs.Io.KnownBytes.{Appends}
+use Rattle.std.{proofs.Common.replicate, specs.Io.KnownBytes.Appends}
 use Rattle.cbor_explain.proofs.surroundings.write_blanks.Given as goal
 
 abbrev pub invariant-loop : goal.invariant-loop

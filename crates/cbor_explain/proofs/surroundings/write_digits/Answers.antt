@@ -1,6 +1,6 @@
 use Rattle.std.proofs.Common.{refl}
-use Rattle.cbor_explain.proofs.Lines.{digits_more}
 use Rattle.cbor_explain.proofs.surroundings.write_digits.Goals as goal
+use Rattle.cbor_explain.proofs.Lines.{digits_more}
 
 pub loop-byte-preserved : goal.loop-byte-preserved
 loop-byte-preserved g c =

@@ -1,7 +1,6 @@
-use Rattle.std.proofs.Common.{◌∙◌}
-use Rattle.cbor_explain.proofs.Lines.{surroundings_written}
-use Rattle.std.proofs.lemmas.Result.{on_ok_weaker}
+use Rattle.std.proofs.{Common.◌∙◌, lemmas.Result.on_ok_weaker}
 use Rattle.cbor_explain.proofs.surroundings.write_surroundings.Goals as goal
+use Rattle.cbor_explain.proofs.Lines.{surroundings_written}
 
 pub returns : goal.returns
 returns g c =

@@ -1,8 +1,6 @@
-use Rattle.cbor_explain.specs.Way.{IsKeyText}
-use Rattle.cbor_explain.proofs.Keys.{short_key, unread_key}
 use Rattle.std.proofs.lemmas.Result.{on_ok_weaker}
-use Rattle.cbor_explain.proofs.Steps.{just}
 use Rattle.cbor_explain.proofs.way_text.write_key.Goals as goal
+use Rattle.cbor_explain.{specs.Way.IsKeyText, proofs.Keys.short_key, proofs.Keys.unread_key, proofs.Steps.just}
 
 pub returns-in-Ok-diagnostic : goal.returns-in-Ok-diagnostic
 returns-in-Ok-diagnostic g c =

@@ -1,9 +1,8 @@
 use Rattle.std.proofs.Common.{◌++◌, ap, sym, append_assoc, codes, decimal}
-use Rattle.cbor_explain.specs.Way.{IsStepText}
-use Rattle.cbor_explain.specs.declared.way.Step.TheVariants as steps
 use Rattle.std.proofs.lemmas.Result.{on_ok_weaker}
-use Rattle.cbor_explain.proofs.Steps.{just}
+use Rattle.cbor_explain.specs.declared.way.Step.TheVariants as steps
 use Rattle.cbor_explain.proofs.way_text.write_step.Goals as goal
+use Rattle.cbor_explain.{specs.Way.IsStepText, proofs.Steps.just}
 
 pub returns-in-Value : goal.returns-in-Value
 returns-in-Value g c =

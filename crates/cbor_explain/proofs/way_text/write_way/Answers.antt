@@ -1,9 +1,8 @@
 use Rattle.std.proofs.Common.{take, subst, sym, get_or, arith, take_all}
-use Rattle.cbor_explain.specs.declared.way.Step.TheVariants.{Member}
-use Rattle.std.proofs.lemmas.List.{take_more}
-use Rattle.std.proofs.lemmas.Result.{on_ok_weaker}
+use Rattle.std.proofs.lemmas.{List.take_more, Result.on_ok_weaker}
 use Rattle.cbor_explain.proofs.Steps.{HasWritten, one_more, way_written}
 use Rattle.cbor_explain.proofs.way_text.write_way.Goals as goal
+use Rattle.cbor_explain.specs.declared.way.Step.TheVariants.{Member}
 
 pub loop-step-preserved : goal.loop-step-preserved
 loop-step-preserved g c =

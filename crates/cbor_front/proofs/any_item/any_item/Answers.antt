@@ -1,17 +1,15 @@
 use Rattle.std.proofs.Common.{◌≡◌, ◌⊎◌, ℕ, ◌+◌, ◌-◌, ◌%◌, ◌<◌, ◌≤◌, true, List, [], ◌∷◌, length, take, get_or, refl, sym, ap, subst, inl, inr, arith, length-take-le}
-use Rattle.std.proofs.lemmas.Bool.{cases_lt}
-use Rattle.std.proofs.lemmas.List.{nil_from_length}
+use Rattle.std.proofs.lemmas.{Bool.cases_lt, List.nil_from_length}
 use Rattle.cbor_head.specs.Prelude.{strict, AreBytes}
 use Rattle.cbor_canonical.proofs.ByteLists.{are_bytes}
 use Rattle.cbor_judging.proofs.RefusedHere.{nothing_here, misplaced_here, endless_here, cut_here, no_simple_here, long_here}
 use Rattle.cbor_judging.proofs.HeadComplaints.{shortest_clean}
-use Rattle.cbor_front.specs.Strings.{IsStringHead}
 use Rattle.cbor_front.specs.declared.any_item.Any.TheVariants as any
-use Rattle.cbor_front.specs.declared.level.Due.TheVariants.{Item, Key}
 use Rattle.cbor_front.proofs.AnyItem.{any_leaf, a_tag, an_array, a_map, an_empty, a_text, some_bytes}
 use Rattle.cbor_front.proofs.AnyRefusals.{refuses, answers, string_refused}
 use Rattle.cbor_front.proofs.any_item.any_item.Goals as goal
 use Rattle.cbor_front.proofs.any_item.any_item.Goals.{else-first-via-then-first+else-head-lt32, else-first-via-else-first, then-first-lt64-via-then-first-lt64, then-first-lt64-via-else-first-lt64+then-first-ge224}
+use Rattle.cbor_front.specs.{Strings.IsStringHead, declared.level.Due.TheVariants.Item, declared.level.Due.TheVariants.Key}
 
 pub returns-in_default : goal.returns-in_default
 returns-in_default c =

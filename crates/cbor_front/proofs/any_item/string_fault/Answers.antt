@@ -1,6 +1,5 @@
 use Rattle.std.proofs.Common.{ℕ, ◌+◌, ◌-◌, ◌∙◌, length, ap₂, inl, inr, arith, length-take-le}
-use Rattle.cbor_head.specs.Prelude.{refusal}
-use Rattle.cbor_head.specs.declared.reason.Reason.TheVariants.{InvalidText}
+use Rattle.cbor_head.specs.{Prelude.refusal, declared.reason.Reason.TheVariants.InvalidText}
 use Rattle.cbor_front.proofs.any_item.string_fault.Goals as goal
 
 pub returns-then-head : goal.returns-then-head

@@ -1,10 +1,8 @@
 use Rattle.std.proofs.Common.{◌≡◌, List, ℕ, take, sym, ap, ◌∙◌, subst, IfOk, IfErr}
 use Rattle.cbor_head.specs.Prelude.{strict}
-use Rattle.cbor_judging.specs.Stop.{IsRefused, IsAnswered}
-use Rattle.cbor_judging.proofs.PathVerdict.{accepts}
-use Rattle.cbor_front.specs.inner.Cells.{IsWhole}
-use Rattle.cbor_front.proofs.CanonicalStops.{not_canonical}
+use Rattle.cbor_judging.{specs.Stop.IsRefused, specs.Stop.IsAnswered, proofs.PathVerdict.accepts}
 use Rattle.cbor_front.proofs.canonical.canonical_front.Goals as goal
+use Rattle.cbor_front.{specs.inner.Cells.IsWhole, proofs.CanonicalStops.not_canonical}
 use Rattle.cbor_front.proofs.canonical.canonical_front.Goals.{in-Any, in-IntegersAndTexts}
 
 pub returns-in-Ok : goal.returns-in-Ok

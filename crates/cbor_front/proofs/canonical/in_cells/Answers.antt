@@ -1,6 +1,6 @@
 use Rattle.std.proofs.Common.{inl}
-use Rattle.cbor_front.proofs.Taking.{in_more_cells}
 use Rattle.cbor_front.proofs.canonical.in_cells.Goals as goal
+use Rattle.cbor_front.proofs.Taking.{in_more_cells}
 
 pub returns-in-Refused-clause-refused : goal.returns-in-Refused-clause-refused
 returns-in-Refused-clause-refused g c =

@@ -1,9 +1,8 @@
 use Rattle.std.proofs.Common.{◌≡◌, ◌∙◌, ◌<◌, ◌≤◌, ◌+◌, ◌-◌, ◌%◌, ℕ, suc, List, length, get_or, take, drop, w64, sym, ap, subst, arith, take_all}
 use Rattle.std.specs.Int.{from_be_bytes}
-use Rattle.cbor_front.specs.inner.Leaves.{IsShortestHead}
 use Rattle.cbor_front.proofs.ShortHeads.{IsLeast, IsSize, shortest-head}
-use Rattle.cbor_front.proofs.ShortLeaves.{one-byte-head}
 use Rattle.cbor_front.proofs.fast.head_size.Goals as goal
+use Rattle.cbor_front.{specs.inner.Leaves.IsShortestHead, proofs.ShortLeaves.one-byte-head}
 
 pub returns-then-low-lt24 : goal.returns-then-low-lt24
 returns-then-low-lt24 c = λ some. (c.requires.0, c.requires.1, one-byte-head (c.args.first % 32) c.requires.0 c.if-low-lt24.true)

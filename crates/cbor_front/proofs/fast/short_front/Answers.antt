@@ -1,7 +1,6 @@
 use Rattle.std.proofs.Common.{false, List, ℕ, sym, subst, arith, rules, ◌<◌, ◌≤◌}
-use Rattle.cbor_front.specs.inner.Leaves.{IsLeaf}
-use Rattle.cbor_front.proofs.ShortLeaves.{leaf-integer, leaf-simple}
 use Rattle.cbor_front.proofs.fast.short_front.Goals as goal
+use Rattle.cbor_front.{specs.inner.Leaves.IsLeaf, proofs.ShortLeaves.leaf-integer, proofs.ShortLeaves.leaf-simple}
 
 pub returns-in_default-head_size-2-clause-front : goal.returns-in_default-head_size-2-clause-front
 returns-in_default-head_size-2-clause-front g c =

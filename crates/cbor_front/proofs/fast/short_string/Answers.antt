@@ -1,7 +1,6 @@
 use Rattle.std.proofs.Common.{◌≡◌, ◌+◌, ◌%◌, ◌<◌, ◌≤◌, ◌∷◌, ℕ, suc, List, length, get_or, sym, ap, subst, arith}
-use Rattle.cbor_front.specs.inner.Items.{IsShortString}
-use Rattle.cbor_front.proofs.ShortLeaves.{one-byte-string, two-byte-string}
 use Rattle.cbor_front.proofs.fast.short_string.Goals as goal
+use Rattle.cbor_front.{specs.inner.Items.IsShortString, proofs.ShortLeaves.one-byte-string, proofs.ShortLeaves.two-byte-string}
 use Rattle.cbor_front.proofs.fast.short_string.Goals.{then-low-lt24, else-low-lt24+then-low-eq24+then-rest-gt1+then-rest-ge24}
 
 pub returns : goal.returns

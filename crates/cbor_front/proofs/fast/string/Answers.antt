@@ -1,8 +1,7 @@
-use Rattle.std.proofs.Common.{false, arith}
-use Rattle.std.proofs.lemmas.List.{take_rest}
+use Rattle.std.proofs.{Common.false, Common.arith, lemmas.List.take_rest}
 use Rattle.cbor_canonical.proofs.ByteLists.{are_bytes}
-use Rattle.cbor_front.proofs.ShortLeaves.{short-bytes, short-text}
 use Rattle.cbor_front.proofs.fast.string.Goals as goal
+use Rattle.cbor_front.proofs.ShortLeaves.{short-bytes, short-text}
 
 pub returns-then-first-lt96-clause-front : goal.returns-then-first-lt96-clause-front
 returns-then-first-lt96-clause-front g c =

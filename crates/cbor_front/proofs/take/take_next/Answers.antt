@@ -1,17 +1,12 @@
 use Rattle.std.proofs.Common.{◌+◌, ◌<◌, ℕ, false, true≢false, List, ◌∷◌, length, drop, sym, ap, ◌∙◌, subst, arith, ◌≡◌, ◌≤◌, nat_lt, ◌++◌}
 use Rattle.cbor_head.specs.Prelude.{strict, AreBytes, refusal}
-use Rattle.cbor_judging.specs.PathKinds.{asks, KeepsHere}
-use Rattle.cbor_front.specs.inner.Leaves.{IsLeaf}
-use Rattle.cbor_front.specs.inner.Items.{IsFit, OpensWith, IsOpener}
-use Rattle.cbor_front.specs.inner.Cells.{StandsAt}
-use Rattle.cbor_front.specs.Stack.{around, standing}
-use Rattle.cbor_front.specs.declared.level.Level.{Level}
-use Rattle.cbor_front.proofs.Taking.{leaf_ends, opener_opens, height_is, fit_here, whole_is, place_for}
-use Rattle.cbor_judging.specs.Path.{bytes_before}
-use Rattle.cbor_judging.specs.Stop.{IsStopped}
+use Rattle.cbor_judging.specs.{PathKinds.asks, PathKinds.KeepsHere, Path.bytes_before, Stop.IsStopped}
 use Rattle.cbor_judging.proofs.RefusedHere.{no_break, no_break_here}
-use Rattle.cbor_front.proofs.OtherKeys.{asked_of, other_key_stops}
+use Rattle.cbor_front.specs.inner.Items.{IsFit, OpensWith, IsOpener}
+use Rattle.cbor_front.proofs.Taking.{leaf_ends, opener_opens, height_is, fit_here, whole_is, place_for}
 use Rattle.cbor_front.proofs.take.take_next.Goals as goal
+use Rattle.cbor_front.specs.{inner.Leaves.IsLeaf, inner.Cells.StandsAt, Stack.around, Stack.standing, declared.level.Level.Level}
+use Rattle.cbor_front.proofs.OtherKeys.{asked_of, other_key_stops}
 
 pub returns-in-Item-clause-takes : goal.returns-in-Item-clause-takes
 returns-in-Item-clause-takes g c =

@@ -1,8 +1,6 @@
 use Rattle.std.proofs.Common.{◌-◌, ◌≤◌, length}
-use Rattle.cbor_front.specs.inner.Cells.{StandsAt}
-use Rattle.cbor_front.specs.Stack.{standing}
-use Rattle.cbor_front.specs.declared.level.Level.{Level}
 use Rattle.cbor_front.proofs.walk.walk.Given as goal
+use Rattle.cbor_front.specs.{inner.Cells.StandsAt, Stack.standing, declared.level.Level.Level}
 
 abbrev pub invariant-items : goal.invariant-items
 invariant-items g l = record {

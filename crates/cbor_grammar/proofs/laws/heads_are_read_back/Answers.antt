@@ -1,11 +1,8 @@
 use Rattle.std.proofs.Common.{ap, ◌∙◌, ℕ, Some}
-use Rattle.cbor_head.specs.Read.{front}
-use Rattle.cbor_head.specs.declared.width.Width.TheVariants.{Indefinite}
-use Rattle.cbor_head.proofs.HeadBack.{read_head-back}
+use Rattle.cbor_head.{specs.Read.front, specs.declared.width.Width.TheVariants.Indefinite, proofs.HeadBack.read_head-back}
 use Rattle.cbor_head.proofs.HeadLaws.{read_head-head, told_holds}
-use Rattle.cbor_grammar.proofs.ReadBack.{by_place}
-use Rattle.cbor_grammar.proofs.ReadLaws.{holds_or_open}
 use Rattle.cbor_grammar.proofs.laws.heads_are_read_back.Goals as goal
+use Rattle.cbor_grammar.proofs.{ReadBack.by_place, ReadLaws.holds_or_open}
 
 pub returns-clause-definite : goal.returns-clause-definite
 returns-clause-definite c = λ m w n x h. read_head-head m w n x (holds_or_open w n h) ∙ ap (λ (k : ℕ). Some (front m w k x)) (told_holds w n h)

@@ -1,5 +1,5 @@
-use Rattle.cbor_grammar.proofs.Exact.{reads_exactly, reads_none}
 use Rattle.cbor_grammar.proofs.laws.reading_is_exact.Goals as goal
+use Rattle.cbor_grammar.proofs.Exact.{reads_exactly, reads_none}
 
 pub returns-clause-found : goal.returns-clause-found
 returns-clause-found c = reads_exactly

@@ -1,5 +1,4 @@
-use Rattle.cbor_head.specs.declared.major.Major.TheVariants.{Unsigned}
-use Rattle.cbor_head.proofs.Least.{least, only}
+use Rattle.cbor_head.{specs.declared.major.Major.TheVariants.Unsigned, proofs.Least.least, proofs.Least.only}
 use Rattle.cbor_grammar.proofs.laws.shortest_is_least.Goals as goal
 
 pub returns-clause-holds : goal.returns-clause-holds

@@ -1,7 +1,6 @@
 use Rattle.cbor_head.specs.Prelude.{IsComplaint}
-use Rattle.cbor_grammar.proofs.Complaints.{complaints_told}
-use Rattle.cbor_grammar.proofs.OneVerdict.{one_verdict, decides_for_each}
 use Rattle.cbor_grammar.proofs.laws.verdict_is_one.Goals as goal
+use Rattle.cbor_grammar.proofs.{Complaints.complaints_told, OneVerdict.one_verdict, OneVerdict.decides_for_each}
 
 pub returns-clause-one : goal.returns-clause-one
 returns-clause-one c = one_verdict

@@ -2,18 +2,13 @@ use Rattle.std.proofs.Common.{◌≡◌, ◌↔◌, ◌-◌, List, length, slice
 use Rattle.std.proofs.lemmas.Option.{get_or_from_slice_get}
 use Rattle.cbor_head.specs.Value as value
 use Rattle.cbor_head.specs.Prelude.{Value, Same, SameValues, Covered, IsValid}
-use Rattle.cbor_head.specs.Value.{entries_count}
-use Rattle.cbor_item.specs.declared.item.Item.TheViews.{the_lemmas}
-use Rattle.cbor_item.specs.View.{view}
-use Rattle.cbor_item.specs.declared.item.Item.{Item}
-use Rattle.cbor_item.specs.inner.Members.{entries_view, values_view}
-use Rattle.cbor_buffer.proofs.ByIndex.{at_index}
-use Rattle.cbor_item.proofs.Counting.{same_by_count}
 use Rattle.cbor_canonical.proofs.Decided.{was_true, was_false, fails, unequal}
-use Rattle.cbor_item.proofs.Steps.{IsMet, range_step, values_counted, entries_counted, valid_read, covered_on, covered_fail, met_on, met_behind, met_before}
+use Rattle.cbor_canonical.proofs.Lists.{IsMet, values_counted, entries_counted, valid_read, covered_on, covered_fail, met_on, met_behind, met_before}
 use Rattle.cbor_canonical.proofs.Sameness.{SameValues-count}
-use Rattle.cbor_item.proofs.Views.{view-Map}
+use Rattle.cbor_buffer.proofs.ByIndex.{at_index}
 use Rattle.cbor_item.proofs.compare.+same.Goals as goal
+use Rattle.cbor_item.{proofs.Steps.range_step, specs.declared.item.Item.TheViews.the_lemmas, specs.View.view, specs.declared.item.Item.Item}
+use Rattle.cbor_item.{specs.inner.Members.entries_view, specs.inner.Members.values_view, proofs.Counting.same_by_count, proofs.Views.view-Map}
 use Rattle.cbor_item.proofs.compare.+same.Goals.{find_between-else-is_same-via-then-is_same+else-is_same-2, find_between-else-is_same-via-else-is_same}
 
 pub are_same-returns-then-len : goal.are_same-returns-then-len

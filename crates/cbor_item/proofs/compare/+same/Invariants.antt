@@ -1,9 +1,8 @@
 use Rattle.std.proofs.Common.{◌↔◌, ◌≤◌, drop, length, slice_range}
 use Rattle.cbor_head.specs.Prelude.{SameValues, Covered, AreValid}
-use Rattle.cbor_item.specs.inner.Members.{entries_view, values_view}
-use Rattle.cbor_item.specs.View.{view}
-use Rattle.cbor_item.proofs.Steps.{IsMet}
+use Rattle.cbor_canonical.proofs.Lists.{IsMet}
 use Rattle.cbor_item.proofs.compare.+same.Given as goal
+use Rattle.cbor_item.specs.{inner.Members.entries_view, inner.Members.values_view, View.view}
 
 -- what is left decides the whole
 abbrev pub invariant-are_same-loop-i : goal.invariant-are_same-loop-i

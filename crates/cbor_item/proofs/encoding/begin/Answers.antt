@@ -1,17 +1,16 @@
 use Rattle.std.proofs.Common.{◌≡◌, List, [], ◌∷◌, ◌++◌, length, map, None, refl, ap, ◌∙◌, subst}
 use Rattle.std.proofs.lemmas.Str.{IsUtf8-string_bytes}
 use Rattle.cbor_head.specs.Prelude.{Value, canonical, shortest_head, IsInRange, IsValid}
-use Rattle.cbor_head.specs.declared.order.KeyOrder.{KeyOrder}
 use Rattle.cbor_head.specs.declared.major.Major.TheVariants as Major
-use Rattle.cbor_builder.specs.Built.{Built}
+use Rattle.cbor_head.specs.declared.order.KeyOrder.{KeyOrder}
 use Rattle.cbor_canonical.specs.Parts.{Open, plain, an_array, a_map, give}
-use Rattle.cbor_item.specs.View.{view}
+use Rattle.cbor_builder.specs.Built.{Built}
 use Rattle.cbor_item.specs.inner.Walk.{flat, Opens, IsBegun}
-use Rattle.cbor_item.specs.declared.item.Item.{Item}
 use Rattle.cbor_item.proofs.Views.{view-Unsigned, view-Negative, view-Bytes, view-Text, view-Simple}
 use Rattle.cbor_item.proofs.Walk.{opens_array, opens_map, opens_tag}
 use Rattle.cbor_item.proofs.encoding.begin.Goals as goal
 use Rattle.cbor_item.proofs.encoding.begin.Goals.{in-Unsigned+in_ok-leaf-in-Unsigned, in-Negative+in_ok-leaf-in-Negative, in-Bytes+in_ok-string-in-Bytes, in-Text+in_ok-string-in-Text, in-Simple+in_ok-leaf-in-Simple}
+use Rattle.cbor_item.specs.{View.view, declared.item.Item.Item}
 
 pub returns-in-Array-clause-begun : goal.returns-in-Array-clause-begun
 returns-in-Array-clause-begun c =

@@ -1,8 +1,6 @@
 use Rattle.std.proofs.Common.{subst}
-use Rattle.cbor_item.specs.View.{view}
-use Rattle.cbor_item.specs.inner.Walk.{IsBegun}
-use Rattle.cbor_item.proofs.Walk.{walks_begun}
 use Rattle.cbor_item.proofs.encoding.encode_distinct.Goals as goal
+use Rattle.cbor_item.{specs.View.view, specs.inner.Walk.IsBegun, proofs.Walk.walks_begun}
 
 pub items-preserved-in-Some-2 : goal.items-preserved-in-Some-2
 items-preserved-in-Some-2 c =

@@ -1,7 +1,5 @@
-use Rattle.cbor_item.specs.View.{view}
-use Rattle.cbor_item.specs.inner.Walk.{left_of_all, weight_of_all}
-use Rattle.cbor_item.proofs.Walk.{Walks}
 use Rattle.cbor_item.proofs.encoding.encode_distinct.Given as goal
+use Rattle.cbor_item.{specs.View.view, specs.inner.Walk.left_of_all, specs.inner.Walk.weight_of_all, proofs.Walk.Walks}
 
 abbrev pub invariant-items : goal.invariant-items
 invariant-items l = Walks l.fn.order (view l.item) (left_of_all l.rest l.outer.items) l.builder

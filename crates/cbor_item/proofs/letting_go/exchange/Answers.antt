@@ -1,8 +1,7 @@
 use Rattle.std.proofs.Common.{◌≡◌, suc, Vec, Global, rules, arith}
-use Rattle.cbor_item.specs.inner.Containers.{containers, containers_in_pairs}
-use Rattle.cbor_item.specs.declared.item.Item.{Item, the_lemmas}
-use Rattle.cbor_item.specs.declared.item.Item.TheVariants.{Map}
 use Rattle.cbor_item.proofs.letting_go.exchange.Goals as goal
+use Rattle.cbor_item.specs.{inner.Containers.containers, inner.Containers.containers_in_pairs, declared.item.Item.Item, declared.item.Item.the_lemmas}
+use Rattle.cbor_item.specs.declared.item.Item.TheVariants.{Map}
 
 of_map : (v : Vec (Item × Item) Global) → containers (Map v) ≡ suc (containers_in_pairs v.items)
 of_map v = search (rules, the_lemmas)

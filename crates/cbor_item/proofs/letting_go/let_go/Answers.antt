@@ -1,7 +1,7 @@
 use Rattle.std.proofs.Common.{ℕ, ◌+◌, ◌*◌, ◌<◌, ◌≤◌, arith}
 use Rattle.std.proofs.lemmas.Nat.{mul-le}
-use Rattle.cbor_item.specs.declared.item.Item.{the_lemmas}
 use Rattle.cbor_item.proofs.letting_go.let_go.Goals as goal
+use Rattle.cbor_item.specs.declared.item.Item.{the_lemmas}
 
 fewer : (a b m n : ℕ) → a + b < m + n → (a + b) * (a + b) + a < (m + n) * (m + n) + m
 fewer a b m n h =

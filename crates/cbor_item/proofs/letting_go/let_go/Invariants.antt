@@ -1,6 +1,6 @@
 use Rattle.std.proofs.Common.{◌+◌, ◌*◌}
-use Rattle.cbor_item.specs.inner.Containers.{containers}
 use Rattle.cbor_item.proofs.letting_go.let_go.Given as goal
+use Rattle.cbor_item.specs.inner.Containers.{containers}
 
 -- fewer in all, or as many and fewer in the inner one
 abbrev pub decreases-items : goal.decreases-items

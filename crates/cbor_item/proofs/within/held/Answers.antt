@@ -1,6 +1,6 @@
 use Rattle.std.proofs.Common.{arith}
-use Rattle.cbor_item.proofs.Held.{holds_members, holds_pairs}
 use Rattle.cbor_item.proofs.within.held.Goals as goal
+use Rattle.cbor_item.proofs.Held.{holds_members, holds_pairs}
 
 pub returns-in-Array : goal.returns-in-Array
 returns-in-Array c =

@@ -1,11 +1,9 @@
 use Rattle.std.proofs.Common.{◌≤◌, ◌↔◌, length, take}
 use Rattle.std.specs.List.{AllByRecursion}
-use Rattle.cbor_head.specs.Prelude.{IsInRange, AreInRange}
-use Rattle.cbor_head.specs.Value.{depth}
-use Rattle.cbor_item.specs.View.{view, values_of}
-use Rattle.cbor_item.specs.inner.Walk.{left_of_all, weight_of_all}
-use Rattle.cbor_item.specs.inner.Within.{AreWithin}
+use Rattle.cbor_head.specs.{Prelude.IsInRange, Prelude.AreInRange, Value.depth}
+use Rattle.cbor_canonical.specs.Lists.{values_of}
 use Rattle.cbor_item.proofs.within.nests_in.Given as goal
+use Rattle.cbor_item.specs.{View.view, inner.Walk.left_of_all, inner.Walk.weight_of_all, inner.Within.AreWithin}
 
 abbrev pub invariant-items : goal.invariant-items
 invariant-items l = record {

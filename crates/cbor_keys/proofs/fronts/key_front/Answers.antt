@@ -1,9 +1,8 @@
 use Rattle.std.proofs.Common.{ℕ, ◌≤◌, ◌-◌, List, length, take, drop, w64, ap, ◌∙◌, subst, arith}
-use Rattle.std.proofs.lemmas.List.{take_rest}
-use Rattle.std.specs.Int.{from_be_bytes}
-use Rattle.cbor_keys.proofs.KeyFronts.{kept_read}
+use Rattle.std.{proofs.lemmas.List.take_rest, specs.Int.from_be_bytes}
 use Rattle.cbor_canonical.proofs.ByteLists.{are_bytes, bytes_drop}
 use Rattle.cbor_keys.proofs.fronts.key_front.Goals as goal
+use Rattle.cbor_keys.proofs.KeyFronts.{kept_read}
 
 pub returns-in-Some : goal.returns-in-Some
 returns-in-Some c =

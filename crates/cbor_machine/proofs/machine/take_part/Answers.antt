@@ -1,15 +1,12 @@
 use Rattle.std.proofs.Common.{subst, ◌≡◌, ◌+◌, ◌-◌, take, length, arith, ap, sym, refl, ◌∙◌, inl, inr, length-take}
-use Rattle.cbor_head.specs.Prelude.{refusal}
-use Rattle.cbor_head.specs.declared.reason.Reason.TheVariants.{TooLong}
-use Rattle.cbor_standing.specs.declared.step.Out.TheVariants as outs
-use Rattle.cbor_standing.specs.MachineView.{MachineView}
-use Rattle.cbor_standing.specs.Steps.{Ran}
-use Rattle.cbor_standing.proofs.Standing.{bytes_take, fit-sound, front-walked, length-front, step-from, stopped, answered}
+use Rattle.cbor_head.specs.{Prelude.refusal, declared.reason.Reason.TheVariants.TooLong}
 use Rattle.cbor_steps.specs.State.{IsFit}
-use Rattle.cbor_machine.proofs.Reasons.{form-machine}
+use Rattle.cbor_standing.specs.declared.step.Out.TheVariants as outs
+use Rattle.cbor_standing.proofs.Standing.{bytes_take, fit-sound, front-walked, length-front, step-from, stopped, answered}
+use Rattle.cbor_standing.{specs.MachineView.MachineView, specs.Steps.Ran, proofs.Positions.not-done}
 use Rattle.cbor_machine.proofs.Wanting.{goes-within, nothing-refused, wants-more}
-use Rattle.cbor_standing.proofs.Positions.{not-done}
 use Rattle.cbor_machine.proofs.machine.take_part.Goals as goal
+use Rattle.cbor_machine.proofs.Reasons.{form-machine}
 
 pub returns-in-Told-clause-walked : goal.returns-in-Told-clause-walked
 returns-in-Told-clause-walked c = λ live.

@@ -1,14 +1,9 @@
 use Rattle.std.proofs.Common.{◌++◌, ◌∙◌, ℕ, slice_get, map, ap, refl, inr, arith, length-append}
-use Rattle.cbor_head.specs.Prelude.{plain, refusal}
-use Rattle.cbor_head.specs.declared.reason.Reason.TheVariants.{RepeatedKey}
-use Rattle.cbor_head.specs.declared.reason.Refusal.{Refusal}
-use Rattle.cbor_judging.specs.Levels.{frame}
-use Rattle.cbor_judging.proofs.Steps.{at-reached}
-use Rattle.cbor_judging.proofs.RefusedBehind.{stopped_behind}
-use Rattle.cbor_plain.proofs.TreeValues.{tree-takes}
+use Rattle.cbor_head.specs.{Prelude.plain, Prelude.refusal, declared.reason.Reason.TheVariants.RepeatedKey, declared.reason.Refusal.Refusal}
+use Rattle.cbor_judging.{specs.Levels.frame, proofs.Steps.at-reached, proofs.RefusedBehind.stopped_behind}
 use Rattle.cbor_plain.proofs.PartsTaken.{refused-part, came, part-taken, part-fits, part-no-memory}
-use Rattle.cbor_plain.proofs.PartEnds.{repeated-key, goes-or-not}
 use Rattle.cbor_plain.proofs.item_front.next_part.Goals as goal
+use Rattle.cbor_plain.proofs.{TreeValues.tree-takes, PartEnds.repeated-key, PartEnds.goes-or-not}
 
 pub next_head-requires : goal.next_head-requires
 next_head-requires g c = c.requires

@@ -1,11 +1,8 @@
 use Rattle.std.proofs.Common.{[], ◌∙◌, subst, sym, arith}
 use Rattle.cbor_head.specs.Prelude.{plain, Value}
-use Rattle.cbor_plain.specs.Front.{IsFrontRead}
-use Rattle.cbor_judging.proofs.RefusedBehind.{stopped_front}
-use Rattle.cbor_judging.proofs.Tops.{starts-at}
-use Rattle.cbor_plain.proofs.PlainSteps.{due-first, front-whole}
-use Rattle.cbor_plain.proofs.TreeValues.{whole-in}
+use Rattle.cbor_judging.proofs.{RefusedBehind.stopped_front, Tops.starts-at}
 use Rattle.cbor_plain.proofs.item_front.read_item_front.Goals as goal
+use Rattle.cbor_plain.{specs.Front.IsFrontRead, proofs.PlainSteps.due-first, proofs.PlainSteps.front-whole, proofs.TreeValues.whole-in}
 
 pub read_parts-requires : goal.read_parts-requires
 read_parts-requires g c = record {

@@ -1,9 +1,9 @@
 use Rattle.std.proofs.Common.{◌++◌, subst}
 use Rattle.cbor_head.specs.Prelude.{plain}
 use Rattle.cbor_judging.proofs.RefusedBehind.{stopped_from}
-use Rattle.cbor_plain.specs.inner.ItemFront.{TakesNext}
 use Rattle.cbor_plain.proofs.PlainSteps.{takes-none, takes-on, takes-farther, takes-all}
 use Rattle.cbor_plain.proofs.item_front.read_parts.Goals as goal
+use Rattle.cbor_plain.specs.inner.ItemFront.{TakesNext}
 
 pub parts-init : goal.parts-init
 parts-init g c = λ b t d. takes-none c.args.items.now b c.args.events.now t _ d

@@ -1,8 +1,7 @@
 use Rattle.std.proofs.Common.{ℕ, List, ◌-◌}
 use Rattle.cbor_head.specs.Prelude.{Bounds}
-use Rattle.cbor_plain.specs.inner.ItemFront.{IsDueAt}
-use Rattle.cbor_plain.proofs.PlainSteps.{TakesSoFar}
 use Rattle.cbor_plain.proofs.item_front.read_parts.Given as goal
+use Rattle.cbor_plain.{specs.inner.ItemFront.IsDueAt, proofs.PlainSteps.TakesSoFar}
 
 abbrev pub invariant-parts : goal.invariant-parts
 invariant-parts g l = (b : Bounds) (t : List ℕ) → IsDueAt l.fn.items b l.fn.events t → TakesSoFar l.items b l.events t (g.R.Read.remaining l.fn.reader) (g.R.Read.remaining l.reader)

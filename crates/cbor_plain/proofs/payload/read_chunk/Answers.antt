@@ -1,8 +1,6 @@
 use Rattle.std.proofs.Common.{◌≡◌, ◌+◌, ◌-◌, length, take, drop, ap, ◌∙◌, arith, true≢false, sym}
-use Rattle.std.proofs.lemmas.List.{take_rest}
-use Rattle.std.specs.Str.Lossy.{utf8_valid_len}
-use Rattle.cbor_head.specs.Prelude.{refusal}
-use Rattle.cbor_head.specs.declared.reason.Reason.TheVariants.{InvalidText}
+use Rattle.std.{proofs.lemmas.List.take_rest, specs.Str.Lossy.utf8_valid_len}
+use Rattle.cbor_head.specs.{Prelude.refusal, declared.reason.Reason.TheVariants.InvalidText}
 use Rattle.cbor_judging.proofs.Payloads.{payload-stops, grown-length, chunk-is-text, chunk-no-text}
 use Rattle.cbor_plain.proofs.payload.read_chunk.Goals as goal
 

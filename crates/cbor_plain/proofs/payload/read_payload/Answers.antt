@@ -1,7 +1,7 @@
 use Rattle.std.proofs.Common.{◌≡◌, length, ap, arith, true≢false, sym}
-use Rattle.cbor_judging.specs.Place.{payload}
 use Rattle.cbor_judging.proofs.Steps.{stops, limits-as, told, not-ended}
 use Rattle.cbor_judging.proofs.Payloads.{none-come, payload-open, part-fits, part-comes, part-memory, part-cut, all-come}
+use Rattle.cbor_judging.specs.Place.{payload}
 use Rattle.cbor_plain.proofs.payload.read_payload.Goals as goal
 
 pub loop-left-init : goal.loop-left-init

@@ -1,9 +1,6 @@
 use Rattle.std.proofs.Common.{ℕ, List, Bool}
-use Rattle.cbor_head.specs.Prelude.{Bounds}
-use Rattle.cbor_head.specs.declared.major.Major.{Major}
-use Rattle.cbor_judging.specs.Place.{Container, payload}
-use Rattle.cbor_judging.specs.Reading.{IsAt}
-use Rattle.cbor_judging.proofs.Payloads.{HasCome}
+use Rattle.cbor_head.specs.{Prelude.Bounds, declared.major.Major.Major}
+use Rattle.cbor_judging.{specs.Place.Container, specs.Place.payload, specs.Reading.IsAt, proofs.Payloads.HasCome}
 use Rattle.cbor_plain.proofs.payload.read_payload.Given as goal
 
 abbrev pub invariant-loop-left : goal.invariant-loop-left

@@ -1,10 +1,9 @@
 use Rattle.std.proofs.Common.{◌∙◌, subst, sym}
-use Rattle.cbor_automaton.specs.declared.event.EventKind.TheVariants as kinds
-use Rattle.cbor_plain.specs.inner.PlainParts.{BeginsString}
 use Rattle.cbor_head.specs.Prelude.{plain}
-use Rattle.cbor_plain.proofs.PartPlaces.{come-begun, simple-begun}
+use Rattle.cbor_automaton.specs.declared.event.EventKind.TheVariants as kinds
 use Rattle.cbor_judging.proofs.Scalars.{reads-unsigned, reads-negative, reads-simple}
 use Rattle.cbor_plain.proofs.plain_part.read_part.Goals as goal
+use Rattle.cbor_plain.{specs.inner.PlainParts.BeginsString, proofs.PartPlaces.come-begun, proofs.PartPlaces.simple-begun}
 
 pub returns-in-Unsigned : goal.returns-in-Unsigned
 returns-in-Unsigned g c = λ b fs t x w i.

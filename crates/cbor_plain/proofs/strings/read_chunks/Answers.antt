@@ -1,10 +1,7 @@
 use Rattle.std.proofs.Common.{◌++◌, true, refl}
-use Rattle.cbor_judging.specs.Place.{in_chunks}
-use Rattle.cbor_judging.specs.Reading.{string_major}
 use Rattle.cbor_head.specs.Prelude.{plain}
-use Rattle.cbor_judging.proofs.Leaves.{chunks_bytes}
-use Rattle.cbor_judging.proofs.Steps.{farther}
 use Rattle.cbor_judging.proofs.ChunkedStrings.{starts-chunks, stops-chunk-head, chunk-kind, chunks-end, chunk-due, chunk-next, stops-chunk, chunk-farther}
+use Rattle.cbor_judging.{specs.Place.in_chunks, specs.Reading.string_major, proofs.Leaves.chunks_bytes, proofs.Steps.farther}
 use Rattle.cbor_plain.proofs.strings.read_chunks.Goals as goal
 
 pub chunks-init : goal.chunks-init

@@ -1,9 +1,6 @@
 use Rattle.std.proofs.Common.{ℕ, List, ◌-◌, None}
-use Rattle.cbor_head.specs.Prelude.{Bounds, plain}
-use Rattle.cbor_head.specs.declared.width.Width.{Width}
-use Rattle.cbor_judging.specs.Place.{Container}
-use Rattle.cbor_judging.specs.Reading.{IsBegun, string_kind}
-use Rattle.cbor_judging.proofs.ChunkedStrings.{IsReadingChunks}
+use Rattle.cbor_head.specs.{Prelude.Bounds, Prelude.plain, declared.width.Width.Width}
+use Rattle.cbor_judging.{specs.Place.Container, specs.Reading.IsBegun, specs.Reading.string_kind, proofs.ChunkedStrings.IsReadingChunks}
 use Rattle.cbor_plain.proofs.strings.read_chunks.Given as goal
 
 abbrev pub invariant-chunks : goal.invariant-chunks

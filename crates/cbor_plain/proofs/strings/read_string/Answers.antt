@@ -1,6 +1,6 @@
 use Rattle.std.proofs.Common.{ℕ, ◌++◌, false, refl, subst, Option}
-use Rattle.cbor_judging.specs.Reading.{string_major, string_kind, IsBegun}
 use Rattle.cbor_head.specs.Prelude.{plain}
+use Rattle.cbor_judging.specs.Reading.{string_major, string_kind, IsBegun}
 use Rattle.cbor_judging.proofs.WholeStrings.{string-due, reads-string, stops-string}
 use Rattle.cbor_plain.proofs.strings.read_string.Goals as goal
 

@@ -1,12 +1,8 @@
 use Rattle.std.proofs.Common.{◌≡◌, ◌∙◌, sym, ap, arith}
-use Rattle.std.specs.Cow.{cow_slice_items}
-use Rattle.std.proofs.lemmas.Result.{err_from_is_err_and}
-use Rattle.cbor_head.specs.declared.reason.Reason.TheVariants.{CanonicalTooLong, Memory}
-use Rattle.cbor_head.specs.declared.reason.Refusal.{Refusal}
-use Rattle.cbor_reader.proofs.OneAnswer.{only_memory}
-use Rattle.cbor_reader.specs.Canonicalise.{of_item}
-use Rattle.cbor_reader.proofs.WholeItems.{becomes, grows_too_long}
+use Rattle.std.{specs.Cow.cow_slice_items, proofs.lemmas.Result.err_from_is_err_and}
+use Rattle.cbor_head.specs.declared.reason.{Reason.TheVariants.CanonicalTooLong, Reason.TheVariants.Memory, Refusal.Refusal}
 use Rattle.cbor_reader.proofs.canonicaliser.answer.Goals as goal
+use Rattle.cbor_reader.{proofs.OneAnswer.only_memory, specs.Canonicalise.of_item, proofs.WholeItems.becomes, proofs.WholeItems.grows_too_long}
 
 pub returns-in_err-canonical-clause-answer : goal.returns-in_err-canonical-clause-answer
 returns-in_err-canonical-clause-answer c =

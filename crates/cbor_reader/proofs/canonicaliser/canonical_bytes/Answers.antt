@@ -1,5 +1,4 @@
-use Rattle.std.proofs.Common.{arith}
-use Rattle.std.specs.Cow.{cow_slice_items}
+use Rattle.std.{proofs.Common.arith, specs.Cow.cow_slice_items}
 use Rattle.cbor_reader.proofs.OnAnswers.{ok_item, err_item, ok_equal, ok_again, err_reason}
 use Rattle.cbor_reader.proofs.canonicaliser.canonical_bytes.Goals as goal
 

@@ -1,7 +1,6 @@
 use Rattle.std.proofs.lemmas.Result.{err_from_is_err_and}
-use Rattle.cbor_reader.specs.Canonicalise.{at_copy, at_front}
-use Rattle.cbor_reader.proofs.WholeItems.{memory_at_end}
 use Rattle.cbor_reader.proofs.canonicaliser.canonicalise.Goals as goal
+use Rattle.cbor_reader.{specs.Canonicalise.at_copy, specs.Canonicalise.at_front, proofs.WholeItems.memory_at_end}
 
 pub returns-in-Owned-clause-equal : goal.returns-in-Owned-clause-equal
 returns-in-Owned-clause-equal c = rw c.in-Owned.is at c.in_ok-made.ensures.equal

@@ -1,15 +1,11 @@
 use Rattle.std.proofs.Common.{arith, Bool, ◌≡◌, ◌∙◌, refl}
-use Rattle.std.specs.Cow.{cow_slice_items}
-use Rattle.std.specs.Bool.{Decides}
-use Rattle.std.proofs.lemmas.Bool.Decides.{Decides-eqb}
-use Rattle.std.proofs.lemmas.Slice.Eq.{slice_eq-Decides}
+use Rattle.std.{specs.Cow.cow_slice_items, specs.Bool.Decides, proofs.lemmas.Bool.Decides.Decides-eqb, proofs.lemmas.Slice.Eq.slice_eq-Decides}
 use Rattle.cbor_head.specs.Prelude.{canonical, Spelling, value_of}
 use Rattle.cbor_head.specs.declared.order.KeyOrder.TheVariants.{Bytewise}
-use Rattle.cbor_reader.specs.Headline.{IsValidItem}
 use Rattle.cbor_reader.proofs.Comparing.{encoded_again, same_inputs, same_values}
-use Rattle.cbor_reader.proofs.WholeItems.{refused_for_memory}
 use Rattle.cbor_reader.proofs.comparison.same_meaning.Goals as goal
 use Rattle.cbor_reader.proofs.comparison.same_meaning.Goals.{Joined-left_item, Joined-left_item-2, Joined-left_item-4}
+use Rattle.cbor_reader.{specs.Headline.IsValidItem, proofs.WholeItems.refused_for_memory}
 
 pub returns-in-Err-clause-only : goal.returns-in-Err-clause-only
 returns-in-Err-clause-only c = λ h l r. h (refused_for_memory c.args.limits c.args.left.now c.in-Err.refusal l c.in-Err.ensures.refused)

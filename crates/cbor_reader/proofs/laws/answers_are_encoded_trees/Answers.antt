@@ -1,8 +1,7 @@
 use Rattle.std.proofs.Common.{refl}
-use Rattle.cbor_reader.specs.Canonicalise.{of_item}
-use Rattle.cbor_reader.specs.WholeItem.{unread, trailing}
-use Rattle.cbor_reader.proofs.WholeItems.{tree_becomes, tree_too_long}
 use Rattle.cbor_reader.proofs.laws.answers_are_encoded_trees.Goals as goal
+use Rattle.cbor_reader.specs.{Canonicalise.of_item, WholeItem.unread, WholeItem.trailing}
+use Rattle.cbor_reader.proofs.WholeItems.{tree_becomes, tree_too_long}
 
 pub returns-clause-answer : goal.returns-clause-answer
 returns-clause-answer c = tree_becomes

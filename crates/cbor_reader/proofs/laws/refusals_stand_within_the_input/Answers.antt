@@ -1,7 +1,6 @@
 use Rattle.cbor_judging.proofs.Within.{verdict_within}
-use Rattle.cbor_reader.proofs.CanonicaliserRefusals.{refusal_within}
-use Rattle.cbor_reader.proofs.Readings.{unread_within}
 use Rattle.cbor_reader.proofs.laws.refusals_stand_within_the_input.Goals as goal
+use Rattle.cbor_reader.proofs.{CanonicaliserRefusals.refusal_within, Readings.unread_within}
 
 pub returns-clause-verdict : goal.returns-clause-verdict
 returns-clause-verdict c = λ limits r input f. verdict_within limits input r f

@@ -1,6 +1,6 @@
 use Rattle.cbor_reader.proofs.Headline.{front_keys, valid_item_accepted, valid_item_exactly, valid_item_value}
-use Rattle.cbor_reader.proofs.ValidTexts.{plain_exactly}
 use Rattle.cbor_reader.proofs.laws.valid_items.Goals as goal
+use Rattle.cbor_reader.proofs.ValidTexts.{plain_exactly}
 
 pub returns-clause-complaints : goal.returns-clause-complaints
 returns-clause-complaints c = plain_exactly

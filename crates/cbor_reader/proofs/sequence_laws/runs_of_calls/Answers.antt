@@ -1,6 +1,6 @@
 use Rattle.cbor_reader.proofs.SequenceLaws.{starts, by_one, one_more}
-use Rattle.cbor_reader.proofs.Sequences.{gives_value, gives_count}
 use Rattle.cbor_reader.proofs.sequence_laws.runs_of_calls.Goals as goal
+use Rattle.cbor_reader.proofs.Sequences.{gives_value, gives_count}
 
 pub returns-clause-starts : goal.returns-clause-starts
 returns-clause-starts c = starts

@@ -1,7 +1,7 @@
 use Rattle.std.proofs.Common.{refl, arith}
 use Rattle.cbor_view.specs.Seen.{seen}
-use Rattle.cbor_reader.proofs.ViewFronts.{view_bounded, view_depth, view_range, view_valid}
 use Rattle.cbor_walk.proofs.FrontStops.{told_at_front}
+use Rattle.cbor_reader.proofs.ViewFronts.{view_bounded, view_depth, view_range, view_valid}
 use Rattle.cbor_reader.proofs.view_reader.read_view.Goals as goal
 
 pub returns-in-Ok-clause-accepted : goal.returns-in-Ok-clause-accepted

@@ -1,7 +1,6 @@
 use Rattle.std.proofs.Common.{arith}
-use Rattle.cbor_reader.specs.WholeItem.{unread, trailing}
-use Rattle.cbor_reader.proofs.WholeItems.{all-of-it}
 use Rattle.cbor_reader.proofs.view_reader.whole_view.Goals as goal
+use Rattle.cbor_reader.{specs.WholeItem.unread, specs.WholeItem.trailing, proofs.WholeItems.all-of-it}
 
 pub returns-then-size-bytes-clause-refused : goal.returns-then-size-bytes-clause-refused
 returns-then-size-bytes-clause-refused c =

@@ -1,9 +1,7 @@
 use Rattle.std.proofs.Common.{arith}
 use Rattle.cbor_head.specs.Prelude.{value_of}
-use Rattle.cbor_reader.specs.WholeItem.{unread, trailing}
-use Rattle.cbor_reader.proofs.OwnAnswers.{own_front}
-use Rattle.cbor_reader.proofs.WholeItems.{all-of-it}
 use Rattle.cbor_reader.proofs.whole_item.encoded_item.Goals as goal
+use Rattle.cbor_reader.{specs.WholeItem.unread, specs.WholeItem.trailing, proofs.OwnAnswers.own_front, proofs.WholeItems.all-of-it}
 
 pub returns-then-size-bytes-clause-refused : goal.returns-then-size-bytes-clause-refused
 returns-then-size-bytes-clause-refused c = trailing c.in-Ok.size c.in-Ok.ensures.accepted.read (omega (arith, c.if-size-bytes.true)) c.at.ensures

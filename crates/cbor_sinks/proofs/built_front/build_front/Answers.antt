@@ -1,10 +1,9 @@
 use Rattle.std.proofs.Common.{◌∙◌, [], ◌∷◌, refl, ap}
-use Rattle.cbor_head.specs.Prelude.{canonical, value_of}
-use Rattle.cbor_head.specs.declared.order.KeyOrder.{KeyOrder}
+use Rattle.cbor_head.specs.{Prelude.canonical, Prelude.value_of, declared.order.KeyOrder.KeyOrder}
 use Rattle.cbor_canonical.specs.Parts.{plain}
-use Rattle.cbor_sinks.specs.declared.canonical_sink.CanonicalSink.{CanonicalSink}
 use Rattle.cbor_walk.proofs.FrontStops.{told_at_front}
 use Rattle.cbor_sinks.proofs.built_front.build_front.Goals as goal
+use Rattle.cbor_sinks.specs.declared.canonical_sink.CanonicalSink.{CanonicalSink}
 
 pub returns-in-Ok-clause-accepted : goal.returns-in-Ok-clause-accepted
 returns-in-Ok-clause-accepted c =

@@ -1,6 +1,6 @@
 use Rattle.std.proofs.Common.{◌<◌, arith}
-use Rattle.cbor_steps.proofs.Frames.{room_now, room_next}
 use Rattle.cbor_steps.proofs.take_byte.take_byte.Goals as goal
+use Rattle.cbor_steps.proofs.Frames.{room_now, room_next}
 
 pub overflow_mul-n : goal.overflow_mul-n
 overflow_mul-n c =

@@ -1,9 +1,7 @@
 use Rattle.std.proofs.Common.{arith, length, ap, ◌∙◌, sym}
-use Rattle.cbor_automaton.specs.Automaton.{reached}
-use Rattle.cbor_steps.specs.State.{state_of}
-use Rattle.cbor_automaton.proofs.Runs.{run-next, once-marks}
-use Rattle.cbor_steps.proofs.Frames.{wanted-head, still-going}
+use Rattle.cbor_automaton.{specs.Automaton.reached, proofs.Runs.run-next, proofs.Runs.once-marks}
 use Rattle.cbor_steps.proofs.up_to_event.walk_bytes.Goals as goal
+use Rattle.cbor_steps.{specs.State.state_of, proofs.Frames.wanted-head, proofs.Frames.still-going}
 
 pub returns-in-Tells-clause-walked : goal.returns-in-Tells-clause-walked
 returns-in-Tells-clause-walked c =

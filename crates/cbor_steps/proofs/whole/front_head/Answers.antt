@@ -1,7 +1,7 @@
 use Rattle.std.proofs.Common.{◌∙◌, sym, ap, arith, refl, inl, inr}
 use Rattle.cbor_automaton.specs.Automaton.{has_room}
-use Rattle.cbor_steps.specs.State.{frames_of}
 use Rattle.cbor_steps.proofs.whole.front_head.Goals as goal
+use Rattle.cbor_steps.specs.State.{frames_of}
 
 pub overflow_sub-used : goal.overflow_sub-used
 overflow_sub-used c = omega (arith, c.in_ok-argument.ensures.fewer, c.in_ok-first.ensures.cases.1)

@@ -1,11 +1,8 @@
 use Rattle.std.proofs.Common.{ℕ, ◌∙◌, take, ap, sym, subst}
 use Rattle.cbor_automaton.specs.Automaton.{at_item, has_room}
-use Rattle.cbor_steps.specs.State.{frames_of, state_of}
-use Rattle.cbor_steps.specs.Whole.{IsEventRun}
-use Rattle.cbor_steps.specs.Token.{kind_of}
-use Rattle.cbor_steps.specs.declared.token.Token.TheVariants.{Simple}
-use Rattle.cbor_steps.proofs.WholeHeads.{numbered-run, simple-run}
 use Rattle.cbor_steps.proofs.whole.take_head.Goals as goal
+use Rattle.cbor_steps.specs.{State.frames_of, State.state_of, Whole.IsEventRun, Token.kind_of, declared.token.Token.TheVariants.Simple}
+use Rattle.cbor_steps.proofs.WholeHeads.{numbered-run, simple-run}
 
 pub returns-then-head-ge224-clause-told : goal.returns-then-head-ge224-clause-told
 returns-then-head-ge224-clause-told c = λ from h.

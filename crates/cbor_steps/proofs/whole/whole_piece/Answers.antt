@@ -1,9 +1,7 @@
 use Rattle.std.proofs.Common.{◌+◌, ◌∙◌, take, length, arith, sym, ap, refl, replicate, length-take-le}
-use Rattle.cbor_automaton.specs.Automaton.{reached}
-use Rattle.cbor_automaton.specs.Trace.{a_byte}
-use Rattle.cbor_steps.specs.State.{frames_of, major_of}
-use Rattle.cbor_automaton.proofs.Runs.{piece_part, piece_last}
+use Rattle.cbor_automaton.{specs.Automaton.reached, specs.Trace.a_byte, proofs.Runs.piece_part, proofs.Runs.piece_last}
 use Rattle.cbor_steps.proofs.whole.whole_piece.Goals as goal
+use Rattle.cbor_steps.specs.State.{frames_of, major_of}
 
 pub returns-then-n-left-clause-told : goal.returns-then-n-left-clause-told
 returns-then-n-left-clause-told c = record {

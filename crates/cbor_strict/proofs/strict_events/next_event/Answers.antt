@@ -1,17 +1,14 @@
 use Rattle.std.proofs.Common.{◌<◌, ◌++◌, ◌∙◌, [], length, sym, subst, Ok}
-use Rattle.cbor_head.specs.Prelude.{strict}
 use Rattle.std.specs.Io.KnownBytes.{Consumes}
+use Rattle.cbor_head.specs.Prelude.{strict}
 use Rattle.cbor_standing.specs.NextEvent.{call}
-use Rattle.cbor_judging.specs.Kinds.{KeepsToKinds}
-use Rattle.cbor_judging.proofs.Payloads.{IsPiece}
-use Rattle.cbor_judging.proofs.Steps.{at-reached, limits-as}
+use Rattle.cbor_judging.{specs.Kinds.KeepsToKinds, proofs.Payloads.IsPiece, proofs.Steps.at-reached, proofs.Steps.limits-as}
 use Rattle.cbor_judging.proofs.RefusedBehind.{stopped_behind}
-use Rattle.cbor_strict.specs.inner.OpenItems.{Stands, HasPartCome}
-use Rattle.cbor_strict.specs.inner.StrictEvents.{IsNextOf}
-use Rattle.cbor_strict.proofs.StrictReading.{by_event, small_piece}
 use Rattle.cbor_strict.proofs.StrictSteps.{head_told, piece_told, end_told, head_keeps, piece_keeps, of_told, of_end, live_of, piece_is}
 use Rattle.cbor_strict.proofs.StrictStops.{stopped_there, no_payload, at_once_there}
 use Rattle.cbor_strict.proofs.strict_events.next_event.Goals as goal
+use Rattle.cbor_strict.specs.inner.{OpenItems.Stands, OpenItems.HasPartCome, StrictEvents.IsNextOf}
+use Rattle.cbor_strict.proofs.StrictReading.{by_event, small_piece}
 
 pub next_of-requires-clause-live : goal.next_of-requires-clause-live
 next_of-requires-clause-live g c = let r = c.requires in live_of c.args.items.now r.b c.args.events.now r.t r.stands

@@ -1,7 +1,7 @@
 use Rattle.std.proofs.Common.{◌∙◌, sym, subst, arith}
-use Rattle.cbor_strict.specs.inner.StrictEvents.{IsStep}
 use Rattle.cbor_strict.proofs.StrictLoop.{runs_first, runs_on, runs_farther, runs_out, runs_stop}
 use Rattle.cbor_strict.proofs.strict_front.read_strict_front.Goals as goal
+use Rattle.cbor_strict.specs.inner.StrictEvents.{IsStep}
 
 pub events-init : goal.events-init
 events-init g c =

@@ -1,7 +1,6 @@
 use Rattle.std.proofs.lemmas.Option.{IfSome_then}
 use Rattle.cbor_head.specs.Prelude.{strict}
-use Rattle.cbor_judging.proofs.Accepted.{verdict_only}
-use Rattle.cbor_judging.proofs.CanonicalFronts.{front_read, front_refused}
+use Rattle.cbor_judging.proofs.{Accepted.verdict_only, CanonicalFronts.front_read, CanonicalFronts.front_refused}
 use Rattle.cbor_strict.proofs.strict_reader.read_strict_by.Goals as goal
 
 pub returns-in-Ok-clause-canonical : goal.returns-in-Ok-clause-canonical

@@ -1,6 +1,6 @@
 use Rattle.std.proofs.Common.{◌≡◌, length, arith}
-use Rattle.cbor_text.proofs.AsciiMasks.{mask-ascii, ascii-mask}
 use Rattle.cbor_text.proofs.ascii.is_ascii_front.Goals as goal
+use Rattle.cbor_text.proofs.AsciiMasks.{mask-ascii, ascii-mask}
 
 pub returns : goal.returns
 returns c =

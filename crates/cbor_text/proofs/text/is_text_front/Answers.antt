@@ -1,5 +1,4 @@
-use Rattle.std.proofs.Common.{refl}
-use Rattle.std.proofs.lemmas.Str.{IsUtf8-from_ascii}
+use Rattle.std.proofs.{Common.refl, lemmas.Str.IsUtf8-from_ascii}
 use Rattle.cbor_text.proofs.text.is_text_front.Goals as goal
 
 pub returns-then-is_short_ascii : goal.returns-then-is_short_ascii

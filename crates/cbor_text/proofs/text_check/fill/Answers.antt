@@ -1,7 +1,7 @@
 use Rattle.std.proofs.Common.{subst, ◌∙◌}
-use Rattle.cbor_text.specs.inner.TextCheck.{IsFixed}
 use Rattle.cbor_text.proofs.TextFronts.{fill-past, fill-never, fixed-now}
 use Rattle.cbor_text.proofs.text_check.fill.Goals as goal
+use Rattle.cbor_text.specs.inner.TextCheck.{IsFixed}
 
 pub overflow_sub-result : goal.overflow_sub-result
 overflow_sub-result c =

@@ -1,16 +1,13 @@
 use Rattle.std.proofs.Common.{◌≡◌, ◌↔◌, ℕ, IsTrue, get_or, slice_get, Some, sym, ◌∙◌, subst, arith, rules}
 use Rattle.std.proofs.lemmas.Option.{slice_get-get_or}
 use Rattle.cbor_head.specs.Prelude.{SameValues, Covered}
-use Rattle.cbor_item.specs.View.{values_of}
 use Rattle.cbor_canonical.proofs.Decided.{was_true, was_false, holds, fails}
-use Rattle.cbor_view.specs.Seen.{seen, seen_all}
+use Rattle.cbor_canonical.proofs.Lists.{values_counted, valid_at, covered_on, met_on}
+use Rattle.cbor_canonical.{proofs.Sameness.SameValues-count, specs.Lists.values_of}
 use Rattle.cbor_view.specs.inner.Pairs.{IsSamePair, IsMet, entries}
-use Rattle.cbor_view.specs.declared.view.View.TheVariants.{Unsigned}
-use Rattle.cbor_view.specs.declared.view.View.{the_lemmas}
-use Rattle.cbor_canonical.proofs.Sameness.{SameValues-count}
-use Rattle.cbor_item.proofs.Steps.{values_counted, valid_at, covered_on, met_on}
 use Rattle.cbor_view.proofs.Pairs.{at_read, met_at, counts_differ, pair_misses, all_met, values_decide, keys_differ}
 use Rattle.cbor_view.proofs.same.+same.Goals as goal
+use Rattle.cbor_view.specs.{Seen.seen, Seen.seen_all, declared.view.View.TheVariants.Unsigned, declared.view.View.the_lemmas}
 use Rattle.cbor_view.proofs.same.+same.Goals.{are_same_maps-else-not-is_pair-via-then-not-is_pair+else-not-is_among, are_same_maps-else-not-is_pair-via-else-not-is_pair}
 
 pub are_same-returns-then-xs-ys : goal.are_same-returns-then-xs-ys

@@ -1,9 +1,9 @@
 use Rattle.std.proofs.Common.{◌≡◌, ◌↔◌, Some, drop, slice_get}
 use Rattle.cbor_head.specs.Prelude.{SameValues, Covered, AreValid}
-use Rattle.cbor_item.specs.View.{values_of}
-use Rattle.cbor_view.specs.Seen.{seen_all}
+use Rattle.cbor_canonical.specs.Lists.{values_of}
 use Rattle.cbor_view.specs.inner.Pairs.{Pair, IsMet, entries}
 use Rattle.cbor_view.proofs.same.+same.Given as goal
+use Rattle.cbor_view.specs.Seen.{seen_all}
 
 -- what is left decides the whole
 abbrev pub invariant-are_same-loop-i : goal.invariant-are_same-loop-i

@@ -1,13 +1,12 @@
 use Rattle.std.proofs.Common.{refl, subst, rules}
 use Rattle.cbor_head.specs.Value as value
 use Rattle.cbor_head.specs.Prelude.{IsInRange}
-use Rattle.cbor_item.specs.OpenValues.{standing}
 use Rattle.cbor_item.specs.declared.item.Item as items
-use Rattle.cbor_view.specs.Seen.{seen}
-use Rattle.cbor_view.specs.declared.view.View.{View, the_lemmas}
+use Rattle.cbor_item.specs.OpenValues.{standing}
 use Rattle.cbor_view.proofs.Walk.{leaf_begun, array_begun, map_begun, tag_begun}
 use Rattle.cbor_view.proofs.to_tree.begin.Goals as goal
 use Rattle.cbor_view.proofs.to_tree.begin.Goals.{in-Unsigned+in_ok-leaf-in-Unsigned, in-Negative+in_ok-leaf-in-Negative, in-Bytes+in_ok-from_slice-in-Bytes+in_ok-leaf-in-Bytes, in-Text+in_ok-from_str-in-Text+in_ok-leaf-in-Text, in-Simple+in-Some+in_ok-leaf-in-Some}
+use Rattle.cbor_view.specs.{Seen.seen, declared.view.View.View, declared.view.View.the_lemmas}
 
 pub returns-in-Array : goal.returns-in-Array
 returns-in-Array c = rw (c.in-Array.is) (array_begun c.in-Array.members (standing c.args.builder.now) _ (subst (λ (v : View). IsInRange (seen v)) c.in-Array.is c.requires.in_range) (search rules))

@@ -1,10 +1,9 @@
 use Rattle.std.proofs.Common.{List, ◌∷◌, map, subst, reverse}
 use Rattle.cbor_head.specs.Prelude.{Value}
 use Rattle.cbor_item.specs.OpenValues.{standing}
-use Rattle.cbor_view.specs.Seen.{seen}
-use Rattle.cbor_view.specs.inner.Walk.{left, IsBegun}
 use Rattle.cbor_view.proofs.Walk.{Walks, walks_first, walks_begun, pushed}
 use Rattle.cbor_view.proofs.to_tree.item_of.Goals as goal
+use Rattle.cbor_view.specs.{Seen.seen, inner.Walk.left, inner.Walk.IsBegun}
 
 pub views-init : goal.views-init
 views-init c = rw (c.from_ref.ensures.value, c.new-outer.ensures.items, c.new-builder.ensures) (walks_first _ (c.parts_make_the_value.ensures _) c.requires)

@@ -2,13 +2,12 @@ use Rattle.std.proofs.Common.{◌∙◌, ◌+◌, Bool, length, refl, sym, ap, s
 use Rattle.std.proofs.lemmas.List.{nil_from_length, take_rest}
 use Rattle.cbor_head.specs.Prelude.{major_number}
 use Rattle.cbor_grammar.proofs.ByteLists.{are_bytes}
-use Rattle.cbor_judging.specs.Reading.{string_major}
 use Rattle.cbor_judging.proofs.RefusedChunks.{AreChunksRead, chunks_end_here, chunk_head_cut_here, no_chunk_here}
-use Rattle.cbor_walk.specs.inner.Parts.{chunked_from}
+use Rattle.cbor_judging.specs.Reading.{string_major}
 use Rattle.cbor_walk.proofs.ChunkStops.{chunk_fault_here, chunk-head, chunk-text, text-chunk}
-use Rattle.cbor_walk.proofs.Chunked.{none-read, one-read}
 use Rattle.cbor_walk.proofs.chunk_fault.chunks_fault.Goals as goal
 use Rattle.cbor_walk.proofs.chunk_fault.chunks_fault.Goals.{then-is_text, else-is_text, then-first-kind-via-then-first-kind, then-first-kind-via-else-first-kind+then-low-gt27}
+use Rattle.cbor_walk.{specs.inner.Parts.chunked_from, proofs.Chunked.none-read, proofs.Chunked.one-read}
 
 pub chunks-init : goal.chunks-init
 chunks-init c = record {

@@ -1,9 +1,8 @@
 use Rattle.std.proofs.Common.{◌≡◌, length}
 use Rattle.cbor_head.specs.Prelude.{major_number}
-use Rattle.cbor_judging.specs.Reading.{string_major}
-use Rattle.cbor_judging.proofs.RefusedChunks.{AreChunksRead}
-use Rattle.cbor_walk.specs.inner.Parts.{chunked_from}
+use Rattle.cbor_judging.{specs.Reading.string_major, proofs.RefusedChunks.AreChunksRead}
 use Rattle.cbor_walk.proofs.chunk_fault.chunks_fault.Given as goal
+use Rattle.cbor_walk.specs.inner.Parts.{chunked_from}
 
 abbrev pub invariant-chunks : goal.invariant-chunks
 invariant-chunks l = record {

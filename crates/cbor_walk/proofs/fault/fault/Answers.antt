@@ -1,13 +1,12 @@
 use Rattle.std.proofs.Common.{◌≡◌, ℕ, ◌+◌, ◌<◌, ◌%◌, true, false, List, [], ◌∷◌, length, refl, sym, ap, subst, inl, inr}
 use Rattle.std.proofs.lemmas.List.{nil_from_length}
 use Rattle.cbor_head.specs.Prelude.{plain}
-use Rattle.cbor_judging.specs.PathKinds.{IsFitFront, IsOtherFront}
-use Rattle.cbor_judging.proofs.RefusedHere.{cut_here, no_simple_here}
+use Rattle.cbor_judging.{specs.PathKinds.IsFitFront, specs.PathKinds.IsOtherFront, proofs.RefusedHere.cut_here, proofs.RefusedHere.no_simple_here}
 use Rattle.cbor_front.specs.Strings.{IsStringHead}
-use Rattle.cbor_walk.specs.inner.Parts.{chunked_from}
 use Rattle.cbor_walk.proofs.Faults.{fault_same, cut_off, fault_misplaced, fault_of_kind, fault_of, string_faults, chunks_faults}
 use Rattle.cbor_walk.proofs.fault.fault.Goals as goal
 use Rattle.cbor_walk.proofs.fault.fault.Goals.{After-misplaced, Joined-else-is_key, Then-first-lt128, else-first-via-then-first+else-may_break, else-first-via-else-first, else-is_key-via-then-is_key+else-is_other_key, else-is_key-via-else-is_key}
+use Rattle.cbor_walk.specs.inner.Parts.{chunked_from}
 
 -- a break stands there only where none may
 stray : (c : After-misplaced) → c.in-Some.first.now ≡ 0xff → c.args.may_break ≡ true → ⊥

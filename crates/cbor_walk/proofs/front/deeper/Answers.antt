@@ -1,7 +1,7 @@
 use Rattle.std.proofs.Common.{◌∙◌, [], refl, arith}
 use Rattle.cbor_walk.specs.declared.building.Met.TheVariants as met
-use Rattle.cbor_walk.proofs.GivenStops.{lent, walk-met}
 use Rattle.cbor_walk.proofs.front.deeper.Goals as goal
+use Rattle.cbor_walk.proofs.GivenStops.{lent, walk-met}
 
 pub deepest-requires : goal.deepest-requires
 deepest-requires g c =

@@ -1,7 +1,7 @@
 use Rattle.std.proofs.Common.{◌∙◌, [], refl}
 use Rattle.cbor_walk.specs.declared.building.Met.TheVariants as met
-use Rattle.cbor_walk.proofs.GivenStops.{lent, walk-met}
 use Rattle.cbor_walk.proofs.front.deepest.Goals as goal
+use Rattle.cbor_walk.proofs.GivenStops.{lent, walk-met}
 
 pub returns-in-Whole : goal.returns-in-Whole
 returns-in-Whole g c = λ start due.

@@ -1,13 +1,9 @@
 use Rattle.std.proofs.Common.{◌∙◌, List, [], refl, arith}
 use Rattle.cbor_front.specs.Stack.{standing}
 use Rattle.cbor_walk.specs.declared.building.Met.TheVariants as met
-use Rattle.cbor_walk.specs.declared.open.Open.{Open}
-use Rattle.cbor_walk.specs.inner.Building.{IsDue}
-use Rattle.cbor_walk.proofs.GivenKinds.{starts-kept}
-use Rattle.cbor_walk.proofs.GivenParts.{starts}
-use Rattle.cbor_walk.proofs.GivenStops.{walk-met}
 use Rattle.cbor_walk.proofs.front.past_item.Goals as goal
-use Rattle.cbor_walk.proofs.front.past_item.Goals.{After-walk-met}
+use Rattle.cbor_walk.{specs.declared.open.Open.Open, specs.inner.Building.IsDue, proofs.GivenKinds.starts-kept, proofs.GivenParts.starts}
+use Rattle.cbor_walk.proofs.{GivenStops.walk-met, front.past_item.Goals.After-walk-met}
 
 due : (g : _) (c : After-walk-met g) (cells : List Open) → IsDue g.row.S.Denot g.S.Sink.stands g.S.Sink.trusts c.args.building.now.sink c.args.limits.depth c.args.input.now (standing Open c.args.building.now.stack cells) c.args.building.now.sink c.args.input.now
 due g c cells = starts _ g.S.Sink.stands g.S.Sink.trusts c.args.building.now.stack c.args.building.now.sink c.args.limits.depth c.args.input.now cells c.requires.none c.requires.top c.requires.fresh (omega arith) c.requires.known

@@ -1,13 +1,11 @@
 use Rattle.std.proofs.Common.{◌∙◌, ℕ, nat_lt, refl, sym, ap, subst, arith, inl}
-use Rattle.cbor_front.specs.Stack.{standing}
 use Rattle.cbor_grammar.proofs.ByteLists.{are_bytes}
 use Rattle.cbor_judging.specs.Stop.{IsAnswered}
-use Rattle.cbor_walk.specs.declared.open.Open.{Open}
-use Rattle.cbor_walk.specs.inner.Repeated.{IsKeyToldIn}
-use Rattle.cbor_walk.proofs.GivenStops.{StopsBefore, stopped-there}
-use Rattle.cbor_walk.proofs.ToldStops.{told_where_due, told_at_end}
+use Rattle.cbor_front.specs.Stack.{standing}
 use Rattle.cbor_walk.proofs.front.stopped.Goals as goal
 use Rattle.cbor_walk.proofs.front.stopped.Goals.{Joined-met, In-Repeated, in-Untaken, in-Untaken-2}
+use Rattle.cbor_walk.{specs.declared.open.Open.Open, specs.inner.Repeated.IsKeyToldIn, proofs.GivenStops.StopsBefore, proofs.GivenStops.stopped-there}
+use Rattle.cbor_walk.proofs.ToldStops.{told_where_due, told_at_end}
 
 stops : (g : _) (c : Joined-met g) → StopsBefore c.args.met c.match-met.rest
 stops g c = elim c.match-met.branch [ in-Untaken w ↦ subst (StopsBefore c.args.met) (sym w.rest-is) w.in-Untaken.is | in-Untaken-2 w ↦ subst (StopsBefore c.args.met) (sym w.rest-is) w.in-Untaken.is ]

@@ -1,9 +1,6 @@
 use Rattle.std.proofs.Common.{true}
-use Rattle.cbor_walk.specs.declared.skip.Nothing.{Nothing}
-use Rattle.cbor_walk.specs.inner.Skip.{anywhere, anything}
-use Rattle.cbor_walk.proofs.GivenStops.{lent}
-use Rattle.cbor_walk.proofs.Skips.{ends_item}
 use Rattle.cbor_walk.proofs.skip.past_deepest.Goals as goal
+use Rattle.cbor_walk.{specs.declared.skip.Nothing.Nothing, specs.inner.Skip.anywhere, specs.inner.Skip.anything, proofs.GivenStops.lent, proofs.Skips.ends_item}
 
 pub returns : goal.returns
 returns c = λ start input due.

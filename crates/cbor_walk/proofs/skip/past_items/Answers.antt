@@ -1,7 +1,6 @@
 use Rattle.std.proofs.Common.{ℕ, subst, arith}
-use Rattle.cbor_walk.specs.inner.Skip.{StandInFront}
-use Rattle.cbor_walk.proofs.Skips.{none_in_front}
 use Rattle.cbor_walk.proofs.skip.past_items.Goals as goal
+use Rattle.cbor_walk.{specs.inner.Skip.StandInFront, proofs.Skips.none_in_front}
 
 pub returns-then-count-eq0 : goal.returns-then-count-eq0
 returns-then-count-eq0 c = λ behind h. none_in_front c.args.depth c.args.rest.now c.args.count behind c.if-count-eq0.true h

@@ -1,10 +1,7 @@
 use Rattle.std.proofs.Common.{◌∷◌, [], true, refl, arith}
-use Rattle.cbor_walk.specs.declared.skip.Nothing.{Nothing}
-use Rattle.cbor_walk.specs.inner.Building.{IsDue}
-use Rattle.cbor_walk.specs.inner.Skip.{anywhere}
 use Rattle.cbor_walk.proofs.Skips.{headed, members_due, goes_to, ends_item}
 use Rattle.cbor_walk.proofs.skip.past_members.Goals as goal
-use Rattle.cbor_walk.proofs.skip.past_members.Goals.{After-counted}
+use Rattle.cbor_walk.{specs.declared.skip.Nothing.Nothing, specs.inner.Building.IsDue, specs.inner.Skip.anywhere, proofs.skip.past_members.Goals.After-counted}
 
 due : (c : After-counted) (start : Nothing) → IsDue Nothing (anywhere Nothing) true start c.args.depth (headed c.args.left c.args.rest.now) (c.counted.result ∷ c.counted-cells.result ∷ []) start c.args.rest.now
 due c start = let (behind, h) = c.requires.items in members_due Nothing start c.args.depth c.args.left c.args.rest.now behind h c.requires.count c.counted.result c.counted-cells.result start c.requires.small c.counted.ensures c.counted-cells.ensures

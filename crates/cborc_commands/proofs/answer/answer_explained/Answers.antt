@@ -1,9 +1,8 @@
 use Rattle.std.proofs.Common.{◌≡◌, ℕ, List, Option, subst, rules}
 use Rattle.cborc_files.specs.Folder.{Files}
-use Rattle.cborc_commands.specs.Told.{IsAnswered}
 use Rattle.cborc_input.specs.declared.request.Request.{Request}
-use Rattle.cborc_commands.proofs.Runs.{answered_so}
 use Rattle.cborc_commands.proofs.answer.answer_explained.Goals as goal
+use Rattle.cborc_commands.{specs.Told.IsAnswered, proofs.Runs.answered_so}
 
 -- the folder that keeps what was read stands for the one behind it
 behind : (request : Request) (old first last new : Option Files) (before after : Option (List ℕ)) (status : ℕ) → IsAnswered request first last before after status → first ≡ old → last ≡ new

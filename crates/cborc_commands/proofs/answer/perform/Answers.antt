@@ -1,5 +1,5 @@
-use Rattle.cborc_commands.proofs.Runs.{answered_so}
 use Rattle.cborc_commands.proofs.answer.perform.Goals as goal
+use Rattle.cborc_commands.proofs.Runs.{answered_so}
 
 pub returns-in-Plain : goal.returns-in-Plain
 returns-in-Plain g c =

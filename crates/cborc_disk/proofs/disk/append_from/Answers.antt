@@ -1,6 +1,6 @@
 use Rattle.std.proofs.Common.{◌≤◌, Result, Ok, Err, IfErr, IsErrAnd, take, drop, arith, length-take}
-use Rattle.cborc_disk.proofs.Appended.{one_part, none_lost, cut_by_memory}
 use Rattle.std.specs.IoError.{error_kind}
+use Rattle.cborc_disk.proofs.Appended.{one_part, none_lost, cut_by_memory}
 use Rattle.cborc_disk.proofs.disk.append_from.Goals as goal
 use Rattle.cborc_disk.proofs.disk.append_from.Goals.{in-Ok+in_ok-extend_from_slice-in-Ok, in-Err}
 

@@ -2,9 +2,8 @@ use Rattle.std.proofs.Common.{◌≡◌, ◌∙◌, ap, codes, refl, true}
 use Rattle.std.proofs.lemmas.Result.{IfOk-weaker}
 use Rattle.clap.specs.Words.{Shape, app_of, new_app}
 use Rattle.clap.specs.Simple.{app_of_fields, on_top}
-use Rattle.cborc_grammar.proofs.Builds.{adds_subcommand}
-use Rattle.cborc_grammar.proofs.Simple.{free, simple}
 use Rattle.cborc_grammar.proofs.grammar.command.Goals as goal
+use Rattle.cborc_grammar.proofs.{Builds.adds_subcommand, Simple.free, Simple.simple}
 
 pub returns-clause-grammar : goal.returns-clause-grammar
 returns-clause-grammar c =

@@ -2,9 +2,8 @@ use Rattle.std.proofs.Common.{◌≡◌, ◌∙◌, ap, codes, rules}
 use Rattle.std.proofs.lemmas.Result.{IfOk-weaker}
 use Rattle.clap.specs.Words.{App, app_of, new_app}
 use Rattle.cborc_grammar.specs.Grammar as grammar
-use Rattle.cborc_grammar.specs.inner.Commands.{with_rules, HasRule}
-use Rattle.cborc_grammar.proofs.Builds.{adds_rule}
 use Rattle.cborc_grammar.proofs.grammar.events.Goals as goal
+use Rattle.cborc_grammar.{specs.inner.Commands.with_rules, specs.inner.Commands.HasRule, proofs.Builds.adds_rule}
 
 pub returns : goal.returns
 returns c =

@@ -1,7 +1,7 @@
 use Rattle.std.proofs.Common.{◌≡◌, ◌∷◌, [], codes, map, rules}
 use Rattle.cborc_grammar.specs.Grammar as grammar
-use Rattle.cborc_grammar.specs.inner.Commands.{HasRule}
 use Rattle.cborc_grammar.proofs.grammar.order.Goals as goal
+use Rattle.cborc_grammar.specs.inner.Commands.{HasRule}
 
 pub returns : goal.returns
 returns c =

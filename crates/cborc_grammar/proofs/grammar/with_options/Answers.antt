@@ -1,7 +1,6 @@
-use Rattle.std.proofs.Common.{refl, rules}
-use Rattle.std.proofs.lemmas.Result.{IfOk-weaker}
-use Rattle.cborc_grammar.proofs.Builds.{adds_rule}
+use Rattle.std.proofs.{Common.refl, Common.rules, lemmas.Result.IfOk-weaker}
 use Rattle.cborc_grammar.proofs.grammar.with_options.Goals as goal
+use Rattle.cborc_grammar.proofs.Builds.{adds_rule}
 
 pub returns : goal.returns
 returns c =

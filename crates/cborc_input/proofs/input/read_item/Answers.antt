@@ -1,7 +1,5 @@
-use Rattle.std.proofs.Common.{[], ◌∙◌}
-use Rattle.std.proofs.lemmas.Result.{err_from_is_err_and}
-use Rattle.cborc_fronts.proofs.Results.{if_err, both_ok}
-use Rattle.cborc_fronts.proofs.Files.{keeps_keeps}
+use Rattle.std.proofs.{Common.[], Common.◌∙◌, lemmas.Result.err_from_is_err_and}
+use Rattle.cborc_fronts.proofs.{Results.if_err, Results.both_ok, Files.keeps_keeps}
 use Rattle.cborc_input.proofs.ReadParts.{next_part, parts_enough, no_input_there, no_next_part, read_less}
 use Rattle.cborc_input.proofs.input.read_item.Goals as goal
 

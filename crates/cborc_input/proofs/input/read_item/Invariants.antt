@@ -1,8 +1,7 @@
 use Rattle.std.proofs.Common.{[], ◌≡◌}
 use Rattle.cborc_files.specs.Folder.{KeepsFiles}
-use Rattle.cborc_input.specs.inner.Parts.{IsReadTo}
-use Rattle.cborc_input.proofs.ReadParts.{weight}
 use Rattle.cborc_input.proofs.input.read_item.Given as goal
+use Rattle.cborc_input.{specs.inner.Parts.IsReadTo, proofs.ReadParts.weight}
 
 abbrev pub invariant-parts : goal.invariant-parts
 invariant-parts g l = record {

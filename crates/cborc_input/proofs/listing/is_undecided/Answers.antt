@@ -1,5 +1,5 @@
-use Rattle.cborc_input.proofs.Undecided.{decided_of_item, decided_of_refusal}
 use Rattle.cborc_input.proofs.listing.is_undecided.Goals as goal
+use Rattle.cborc_input.proofs.Undecided.{decided_of_item, decided_of_refusal}
 
 pub returns-in-Ok : goal.returns-in-Ok
 returns-in-Ok c = λ e. decided_of_item c.args.limits c.args.bytes.now c.in-Ok.size _ _ c.in-Ok.ensures.listed e

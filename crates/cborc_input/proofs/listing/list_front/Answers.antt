@@ -1,6 +1,5 @@
-use Rattle.cborc_input.specs.Listed.{IsFrontNotListed}
-use Rattle.cborc_input.proofs.Faults.{refusal_is}
 use Rattle.cborc_input.proofs.listing.list_front.Goals as goal
+use Rattle.cborc_input.{specs.Listed.IsFrontNotListed, proofs.Faults.refusal_is}
 
 pub returns-in_default : goal.returns-in_default
 returns-in_default g c = record {

@@ -1,10 +1,9 @@
 use Rattle.std.proofs.Common.{◌∙◌, arith, sym, refl}
-use Rattle.std.proofs.lemmas.Bool.{not-true, not-false}
-use Rattle.std.proofs.lemmas.Result.{err_from_is_err_and}
+use Rattle.std.proofs.lemmas.{Bool.not-true, Bool.not-false, Result.err_from_is_err_and}
 use Rattle.cborc_fronts.proofs.Files.{keeps_keeps}
 use Rattle.cborc_input.proofs.Items.{none_taken, not_begun, not_read_on, count_within, read_too, one_more, all_written, stopped_there, stopped_without, taken_less}
-use Rattle.cborc_input.proofs.ReadParts.{read_less}
 use Rattle.cborc_input.proofs.sequence.write_items.Goals as goal
+use Rattle.cborc_input.proofs.ReadParts.{read_less}
 
 pub items-init : goal.items-init
 items-init g c = record {

@@ -1,8 +1,7 @@
 use Rattle.std.proofs.Common.{◌≡◌}
 use Rattle.cborc_files.specs.Folder.{KeepsFiles}
-use Rattle.cborc_input.proofs.Items.{AreTaken}
-use Rattle.cborc_input.proofs.ReadParts.{weight}
 use Rattle.cborc_input.proofs.sequence.write_items.Given as goal
+use Rattle.cborc_input.proofs.{Items.AreTaken, ReadParts.weight}
 
 abbrev pub invariant-items : goal.invariant-items
 invariant-items g l = record {

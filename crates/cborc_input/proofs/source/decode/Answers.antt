@@ -1,6 +1,6 @@
 use Rattle.std.proofs.lemmas.Result.{err_from_is_err_and, IfErr-weaker}
-use Rattle.cborc_input.proofs.Sources.{stray_end}
 use Rattle.cborc_input.proofs.source.decode.Goals as goal
+use Rattle.cborc_input.proofs.Sources.{stray_end}
 
 pub returns-in_err-push_all-clause-not_hex : goal.returns-in_err-push_all-clause-not_hex
 returns-in_err-push_all-clause-not_hex c =

@@ -1,7 +1,6 @@
 use Rattle.std.proofs.lemmas.Result.{err_from_is_err_and}
-use Rattle.cborc_input.specs.Texts.{IsNoText}
-use Rattle.cborc_input.proofs.Faults.{refusal_is}
 use Rattle.cborc_input.proofs.texts.canonical_text.Goals as goal
+use Rattle.cborc_input.{specs.Texts.IsNoText, proofs.Faults.refusal_is}
 
 pub returns-in_err-canonical-clause-fault : goal.returns-in_err-canonical-clause-fault
 returns-in_err-canonical-clause-fault c =

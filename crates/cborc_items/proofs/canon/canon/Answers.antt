@@ -1,5 +1,4 @@
-use Rattle.std.proofs.lemmas.Result.{err_from_is_err_and}
-use Rattle.std.specs.Cow.{cow_slice_items}
+use Rattle.std.{proofs.lemmas.Result.err_from_is_err_and, specs.Cow.cow_slice_items}
 use Rattle.cborc_fronts.proofs.Results.{on_ok, if_err}
 use Rattle.cborc_items.proofs.Faults.{canonised, no_text, not_put}
 use Rattle.cborc_items.proofs.canon.canon.Goals as goal

@@ -1,7 +1,6 @@
-use Rattle.std.specs.Io.KnownBytes.{Appends}
-use Rattle.std.proofs.lemmas.Result.{err_from_is_err_and}
-use Rattle.cborc_input.specs.Rules.{rules_of}
+use Rattle.std.{specs.Io.KnownBytes.Appends, proofs.lemmas.Result.err_from_is_err_and}
 use Rattle.cborc_fronts.proofs.Results.{on_ok, if_err}
+use Rattle.cborc_input.specs.Rules.{rules_of}
 use Rattle.cborc_items.proofs.Faults.{checked, untold, not_checked}
 use Rattle.cborc_items.proofs.check.check.Goals as goal
 

@@ -1,9 +1,8 @@
 use Rattle.std.proofs.Common.{arith, refl, subst}
 use Rattle.std.proofs.lemmas.Result.{err_from_is_err_and}
-use Rattle.cborc_input.specs.Rules.{rules_of}
 use Rattle.cbor_reader.specs.WholeItem.{unread, trailing}
-use Rattle.cborc_input.specs.Fault.{IsOfInput}
 use Rattle.cborc_fronts.proofs.Within.{read_within}
+use Rattle.cborc_input.specs.{Rules.rules_of, Fault.IsOfInput}
 use Rattle.cborc_items.proofs.check.size_of_item.Goals as goal
 
 pub returns-in_err-size-clause-refused : goal.returns-in_err-size-clause-refused

@@ -1,6 +1,6 @@
 use Rattle.cborc_fronts.proofs.Results.{if_ok, if_err}
-use Rattle.cborc_items.proofs.Faults.{compared, not_compared}
 use Rattle.cborc_items.proofs.compare.compare.Goals as goal
+use Rattle.cborc_items.proofs.Faults.{compared, not_compared}
 
 pub returns-clause-told : goal.returns-clause-told
 returns-clause-told g c =

@@ -1,6 +1,6 @@
 use Rattle.std.proofs.lemmas.Result.{err_from_is_err_and}
-use Rattle.cborc_items.proofs.Untold.{side_untold}
 use Rattle.cborc_items.proofs.compare.tell.Goals as goal
+use Rattle.cborc_items.proofs.Untold.{side_untold}
 
 pub returns-in_err-same_meaning-clause-fault : goal.returns-in_err-same_meaning-clause-fault
 returns-in_err-same_meaning-clause-fault w c =

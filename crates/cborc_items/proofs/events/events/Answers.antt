@@ -1,9 +1,7 @@
-use Rattle.std.proofs.Common.{inr}
-use Rattle.std.proofs.KnownBytes.{Keeps-refl}
-use Rattle.std.proofs.lemmas.Result.{err_from_is_err_and}
+use Rattle.std.proofs.{Common.inr, KnownBytes.Keeps-refl, lemmas.Result.err_from_is_err_and}
 use Rattle.cborc_fronts.proofs.Results.{on_ok, if_err}
-use Rattle.cborc_items.proofs.Faults.{listed_of, not_listed_of}
 use Rattle.cborc_items.proofs.events.events.Goals as goal
+use Rattle.cborc_items.proofs.Faults.{listed_of, not_listed_of}
 
 pub returns-in_err-bytes-clause-fault : goal.returns-in_err-bytes-clause-fault
 returns-in_err-bytes-clause-fault g c =

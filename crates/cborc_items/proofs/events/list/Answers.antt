@@ -1,6 +1,6 @@
 use Rattle.std.proofs.lemmas.Result.{err_from_is_err_and}
-use Rattle.cborc_items.proofs.Listings.{front_not_listed}
 use Rattle.cborc_items.proofs.events.list.Goals as goal
+use Rattle.cborc_items.proofs.Listings.{front_not_listed}
 
 pub returns-in_err-size-clause-fault : goal.returns-in_err-size-clause-fault
 returns-in_err-size-clause-fault g c =

@@ -1,16 +1,11 @@
 use Rattle.std.proofs.Common.{◌≡◌, Bool, false, ℕ, List, Option, None, Some, refl, subst}
 use Rattle.cbor_head.specs.declared.order.KeyOrder.{KeyOrder}
-use Rattle.cborc_files.specs.Folder.{Files}
-use Rattle.cborc_files.specs.InMemory.{files_of}
-use Rattle.cborc_fronts.proofs.Results.{if_err}
-use Rattle.cborc_fronts.specs.Input.{IsInput, IsNotHex}
-use Rattle.cborc_input.specs.declared.request.Form.TheVariants.{Raw}
-use Rattle.cborc_input.specs.declared.request.Options.{Options}
-use Rattle.cborc_input.specs.declared.request.Output.{Output}
-use Rattle.cborc_input.specs.declared.fault.Fault.{Fault}
+use Rattle.cborc_files.specs.{Folder.Files, InMemory.files_of}
+use Rattle.cborc_fronts.{proofs.Results.if_err, specs.Input.IsInput, specs.Input.IsNotHex}
 use Rattle.cborc_input.specs.declared.fault.Fault.TheVariants as faults
-use Rattle.cborc_items.specs.Canon.{IsNotCanonised, IsNotHeld}
+use Rattle.cborc_input.specs.declared.{request.Form.TheVariants.Raw, request.Options.Options, request.Output.Output, fault.Fault.Fault}
 use Rattle.cborc_items.proofs.in_memory.canon_in_memory.Goals as goal
+use Rattle.cborc_items.specs.Canon.{IsNotCanonised, IsNotHeld}
 
 -- of raw bytes
 not_held : (options : Options) (o : KeyOrder) (source : List ℕ) (output : Output) (files : Files) (before after : Option (List ℕ)) → options.hex ≡ false

@@ -1,5 +1,4 @@
-use Rattle.std.proofs.KnownBytes.{Keeps-refl}
-use Rattle.std.proofs.lemmas.Result.{err_from_is_err_and}
+use Rattle.std.proofs.{KnownBytes.Keeps-refl, lemmas.Result.err_from_is_err_and}
 use Rattle.cborc_fronts.proofs.Results.{on_ok, if_err}
 use Rattle.cborc_items.proofs.Faults.{shown_of, unshown, not_shown}
 use Rattle.cborc_items.proofs.show.show.Goals as goal

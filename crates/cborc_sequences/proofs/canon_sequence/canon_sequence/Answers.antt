@@ -1,7 +1,6 @@
-use Rattle.std.proofs.Common.{rules}
-use Rattle.std.proofs.lemmas.Result.{err_from_is_err_and}
-use Rattle.cborc_sequences.proofs.Stopped.{all_printed, not_printed}
+use Rattle.std.proofs.{Common.rules, lemmas.Result.err_from_is_err_and}
 use Rattle.cborc_sequences.proofs.canon_sequence.canon_sequence.Goals as goal
+use Rattle.cborc_sequences.proofs.Stopped.{all_printed, not_printed}
 
 pub returns-in_err-write_items-clause-fault : goal.returns-in_err-write_items-clause-fault
 returns-in_err-write_items-clause-fault g c =

@@ -1,8 +1,8 @@
 use Rattle.std.proofs.Common.{◌∙◌, refl}
 use Rattle.cborc_fronts.proofs.Files.{keeps_keeps}
-use Rattle.cborc_sequences.proofs.Earlier.{written_before, stopped_before}
 use Rattle.cborc_sequences.proofs.Stopped.{all_first, all_replaced, first_written, none_begun, not_replaced, not_written}
 use Rattle.cborc_sequences.proofs.canon_sequence.replace_file.Goals as goal
+use Rattle.cborc_sequences.proofs.Earlier.{written_before, stopped_before}
 
 pub returns-in-Ok-replace-clause-written : goal.returns-in-Ok-replace-clause-written
 returns-in-Ok-replace-clause-written g c =

@@ -1,7 +1,7 @@
 use Rattle.std.proofs.lemmas.Result.{err_from_is_err_and}
 use Rattle.cborc_input.specs.Rules.{rules_of}
-use Rattle.cborc_sequences.proofs.Stopped.{sequence_not_checked}
 use Rattle.cborc_sequences.proofs.check_sequence.check_sequence.Goals as goal
+use Rattle.cborc_sequences.proofs.Stopped.{sequence_not_checked}
 
 pub returns-in_err-count-clause-fault : goal.returns-in_err-count-clause-fault
 returns-in_err-count-clause-fault g c =

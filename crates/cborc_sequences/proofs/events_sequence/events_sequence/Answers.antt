@@ -1,6 +1,6 @@
 use Rattle.std.proofs.lemmas.Result.{err_from_is_err_and}
-use Rattle.cborc_sequences.proofs.Stopped.{sequence_not_listed}
 use Rattle.cborc_sequences.proofs.events_sequence.events_sequence.Goals as goal
+use Rattle.cborc_sequences.proofs.Stopped.{sequence_not_listed}
 
 pub returns-in_err-write_items-clause-fault : goal.returns-in_err-write_items-clause-fault
 returns-in_err-write_items-clause-fault g c =

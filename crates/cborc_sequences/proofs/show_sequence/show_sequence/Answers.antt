@@ -1,6 +1,6 @@
 use Rattle.std.proofs.lemmas.Result.{err_from_is_err_and}
-use Rattle.cborc_sequences.proofs.Stopped.{sequence_shown, sequence_not_shown}
 use Rattle.cborc_sequences.proofs.show_sequence.show_sequence.Goals as goal
+use Rattle.cborc_sequences.proofs.Stopped.{sequence_shown, sequence_not_shown}
 
 pub returns-in_err-write_items-clause-fault : goal.returns-in_err-write_items-clause-fault
 returns-in_err-write_items-clause-fault g c =

@@ -1,10 +1,8 @@
 use Rattle.std.proofs.Common.{◌≡◌, ◌≢◌, List, ap, rules, subst}
-use Rattle.clap.specs.Words.{Text, kind_of}
-use Rattle.clap.specs.declared.error.kind.ErrorKind.TheVariants.{OutOfMemory}
-use Rattle.cborc_words.specs.Run.{answered}
+use Rattle.clap.specs.{Words.Text, Words.kind_of, declared.error.kind.ErrorKind.TheVariants.OutOfMemory}
 use Rattle.cborc_words.specs.Words.{texts_of, AskFor, HasFault}
-use Rattle.cborc_words.proofs.Ends.{ends, keeps_files}
 use Rattle.cborc_words.proofs.run.run.Goals as goal
+use Rattle.cborc_words.{specs.Run.answered, proofs.Ends.ends, proofs.Ends.keeps_files}
 
 pub returns-in-Ok-clause-leaves : goal.returns-in-Ok-clause-leaves
 returns-in-Ok-clause-leaves g c =

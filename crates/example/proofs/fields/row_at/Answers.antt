@@ -1,7 +1,7 @@
 use Rattle.std.proofs.Common.{inl, inr}
 use Rattle.cbor_view.specs.Seen.{seen}
-use Rattle.example.proofs.Rows.{count_within}
 use Rattle.example.proofs.fields.row_at.Goals as goal
+use Rattle.example.proofs.Rows.{count_within}
 
 pub returns-clause-size : goal.returns-clause-size
 returns-clause-size c = count_within _ _ _ _ c.in_ok-record.ensures.accepted

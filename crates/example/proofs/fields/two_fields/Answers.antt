@@ -1,7 +1,6 @@
 use Rattle.std.proofs.Common.{ℕ, ℤ, List, drop, sym, subst}
-use Rattle.example.specs.Fields.{AreRows}
-use Rattle.example.proofs.Rows.{behind, one_more}
 use Rattle.example.proofs.fields.two_fields.Goals as goal
+use Rattle.example.{specs.Fields.AreRows, proofs.Rows.behind, proofs.Rows.one_more}
 
 pub records-preserved : goal.records-preserved
 records-preserved c =

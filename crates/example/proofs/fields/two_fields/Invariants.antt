@@ -1,6 +1,6 @@
 use Rattle.std.proofs.Common.{length}
-use Rattle.example.specs.Fields.{AreRows}
 use Rattle.example.proofs.fields.two_fields.Given as goal
+use Rattle.example.specs.Fields.{AreRows}
 
 abbrev pub invariant-records : goal.invariant-records
 invariant-records l = AreRows l.fn.limits l.fn.first l.fn.second l.fn.records l.rows.items l.rest

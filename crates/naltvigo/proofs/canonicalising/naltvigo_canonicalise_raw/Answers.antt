@@ -1,11 +1,9 @@
 use Rattle.std.proofs.Common.{ℕ, ◌≡◌, List, length, take, sym, ap, ◌∙◌}
-use Rattle.cbor_head.specs.Prelude.{Bounds}
-use Rattle.cbor_head.specs.declared.order.KeyOrder.{KeyOrder}
-use Rattle.cbor_head.specs.declared.reason.Refusal.{Refusal}
+use Rattle.cbor_head.specs.{Prelude.Bounds, declared.order.KeyOrder.KeyOrder, declared.reason.Refusal.Refusal}
 use Rattle.cbor_reader.specs.Canonicalise.{IsCanonicaliserReason, IsRefusal}
-use Rattle.naltvigo.specs.Settings.{item_limits, key_order}
 use Rattle.naltvigo.proofs.Given.{given-tells, given-item, given-told}
 use Rattle.naltvigo.proofs.canonicalising.naltvigo_canonicalise_raw.Goals as goal
+use Rattle.naltvigo.specs.Settings.{item_limits, key_order}
 
 in_buffer : (out answer items : List ℕ) (needed : ℕ) → needed ≡ length answer → take (length answer) out ≡ answer → answer ≡ items → take needed out ≡ items
 in_buffer out answer items needed n g v = ap (λ k. take k out) n ∙ g ∙ v

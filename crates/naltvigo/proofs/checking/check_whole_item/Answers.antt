@@ -1,6 +1,6 @@
 use Rattle.cbor_reader.specs.WholeItem.{unread, trailing}
-use Rattle.naltvigo.proofs.WholeInputs.{is-whole}
 use Rattle.naltvigo.proofs.checking.check_whole_item.Goals as goal
+use Rattle.naltvigo.proofs.WholeInputs.{is-whole}
 
 pub returns-in-Ok-clause-refused : goal.returns-in-Ok-clause-refused
 returns-in-Ok-clause-refused c =

@@ -1,6 +1,6 @@
 use Rattle.std.proofs.Common.{sym}
-use Rattle.naltvigo.proofs.WholeInputs.{told-front}
 use Rattle.naltvigo.proofs.checking.naltvigo_check_canonical_raw.Goals as goal
+use Rattle.naltvigo.proofs.WholeInputs.{told-front}
 
 pub returns-in-Err-clause-front : goal.returns-in-Err-clause-front
 returns-in-Err-clause-front c = λ _.

@@ -1,12 +1,9 @@
 use Rattle.std.proofs.Common.{subst}
 use Rattle.cbor_head.specs.Prelude.{strict, Bounds, IsVerdict, refused}
-use Rattle.cbor_head.specs.declared.order.KeyOrder.{KeyOrder}
-use Rattle.cbor_head.specs.declared.reason.Refusal.{Refusal}
-use Rattle.cbor_judging.proofs.Reasons.{never-memory}
-use Rattle.cbor_judging.specs.Readers.{HasNoCanonicalFront}
-use Rattle.naltvigo.specs.Settings.{key_order}
-use Rattle.naltvigo.proofs.Given.{given-told}
+use Rattle.cbor_head.specs.declared.{order.KeyOrder.KeyOrder, reason.Refusal.Refusal}
+use Rattle.cbor_judging.{proofs.Reasons.never-memory, specs.Readers.HasNoCanonicalFront}
 use Rattle.naltvigo.proofs.sequence.naltvigo_next_canonical_raw.Goals as goal
+use Rattle.naltvigo.{specs.Settings.key_order, proofs.Given.given-told}
 
 pub returns-in-Err-clause-refused : goal.returns-in-Err-clause-refused
 returns-in-Err-clause-refused c = λ _.

@@ -1,8 +1,8 @@
 use Rattle.cbor_head.specs.Prelude.{plain, Bounds, IsVerdict, refused}
 use Rattle.cbor_head.specs.declared.reason.Refusal.{Refusal}
 use Rattle.cbor_judging.proofs.Accepted.{verdict_only}
-use Rattle.naltvigo.proofs.Given.{given-told}
 use Rattle.naltvigo.proofs.sequence.naltvigo_next_valid_raw.Goals as goal
+use Rattle.naltvigo.proofs.Given.{given-told}
 
 pub returns-in-Err-clause-refused : goal.returns-in-Err-clause-refused
 returns-in-Err-clause-refused c = λ e.

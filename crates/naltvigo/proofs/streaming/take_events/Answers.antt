@@ -1,16 +1,14 @@
 use Rattle.std.proofs.Common.{◌∙◌, ◌+◌, refl, inl, inr, subst, ap, arith, rules, drop, sym, take, drop-drop, drop-set-lt}
-use Rattle.std.proofs.Math.Seq.{take-add}
-use Rattle.std.proofs.lemmas.List.{take_more_set, take_rest}
-use Rattle.cbor_automaton.specs.declared.event.Event.{Event}
+use Rattle.std.proofs.{Math.Seq.take-add, lemmas.List.take_more_set, lemmas.List.take_rest}
 use Rattle.cbor_head.specs.declared.reason.Refusal.{Refusal}
+use Rattle.cbor_automaton.specs.declared.event.Event.{Event}
 use Rattle.cbor_standing.specs.Machine.{IsDone, IsEvent, IsMore}
-use Rattle.cbor_standing.specs.declared.step.Out.{Out}
 use Rattle.cbor_standing.specs.declared.step.Out.TheVariants as outs
-use Rattle.naltvigo.specs.Streaming.{HasAnswered, IsToldEvent}
-use Rattle.naltvigo.specs.Told.{IsTold}
+use Rattle.cbor_standing.specs.declared.step.Out.{Out}
 use Rattle.naltvigo.proofs.Staying.{complete-then, done-behind, live-behind, live-then, not-done, not-more, refused-then, same-refusal, unrefused}
 use Rattle.naltvigo.proofs.Told.{nothing_given, one_given, no_further}
 use Rattle.naltvigo.proofs.streaming.take_events.Goals as goal
+use Rattle.naltvigo.specs.{Streaming.HasAnswered, Streaming.IsToldEvent, Told.IsTold}
 
 pub events-init : goal.events-init
 events-init c = record {

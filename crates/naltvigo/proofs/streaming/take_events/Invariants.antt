@@ -1,7 +1,6 @@
 use Rattle.std.proofs.Common.{◌≡◌, ◌≤◌, ◌+◌, ◌-◌, drop, length, take}
-use Rattle.naltvigo.proofs.Staying.{HasBegun}
-use Rattle.naltvigo.proofs.Told.{HasGiven}
 use Rattle.naltvigo.proofs.streaming.take_events.Given as goal
+use Rattle.naltvigo.proofs.{Staying.HasBegun, Told.HasGiven}
 
 abbrev pub invariant-events : goal.invariant-events
 invariant-events l = record {

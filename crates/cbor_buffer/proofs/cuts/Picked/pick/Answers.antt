@@ -1,9 +1,9 @@
 use Rattle.std.proofs.Common.{List, ◌-◌, take, drop, sym, ap, ◌∙◌, subst, slice_index_or}
 use Rattle.std.proofs.lemmas.List.{take_rest}
 use Rattle.cbor_buffer.specs.Moved.{rope, AreInside, IsPicked}
-use Rattle.cbor_buffer.specs.declared.cuts.Cut.{Cut}
 use Rattle.cbor_buffer.proofs.Moved.{rope_from, run_inside, inside_drop}
 use Rattle.cbor_buffer.proofs.cuts.Picked.pick.Goals as goal
+use Rattle.cbor_buffer.specs.declared.cuts.Cut.{Cut}
 
 pub take_up-requires : goal.take_up-requires
 take_up-requires c =

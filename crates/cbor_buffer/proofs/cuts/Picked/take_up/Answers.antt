@@ -1,8 +1,7 @@
 use Rattle.std.proofs.Common.{ℕ, List, ◌+◌, ◌-◌, ◌++◌, length, take, drop, sym, ap, ◌∙◌, arith, slice_index_or, slice_range}
-use Rattle.cbor_buffer.specs.Moved.{rope}
-use Rattle.cbor_buffer.specs.declared.cuts.Cut.{Cut}
 use Rattle.cbor_buffer.proofs.Moved.{taken_up, inside_wider, picked_more}
 use Rattle.cbor_buffer.proofs.cuts.Picked.take_up.Goals as goal
+use Rattle.cbor_buffer.specs.{Moved.rope, declared.cuts.Cut.Cut}
 
 pub loop-cut-preserved : goal.loop-cut-preserved
 loop-cut-preserved c = λ raw h.

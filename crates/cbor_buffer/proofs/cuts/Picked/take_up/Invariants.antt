@@ -1,7 +1,6 @@
 use Rattle.std.proofs.Common.{ℕ, List, ◌≡◌, ◌≤◌, ◌++◌, length, take, drop}
-use Rattle.cbor_buffer.specs.Moved.{rope, Run}
-use Rattle.cbor_buffer.specs.declared.cuts.Cut.{Cut}
 use Rattle.cbor_buffer.proofs.cuts.Picked.take_up.Given as goal
+use Rattle.cbor_buffer.specs.{Moved.rope, Moved.Run, declared.cuts.Cut.Cut}
 
 abbrev pub invariant-loop-cut : goal.invariant-loop-cut
 invariant-loop-cut l =

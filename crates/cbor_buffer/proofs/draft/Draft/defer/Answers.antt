@@ -1,5 +1,5 @@
-use Rattle.cbor_buffer.proofs.Drafts.{rope_same, loose_rope}
 use Rattle.cbor_buffer.proofs.draft.Draft.defer.Goals as goal
+use Rattle.cbor_buffer.proofs.Drafts.{rope_same, loose_rope}
 
 pub settle_all-requires : goal.settle_all-requires
 settle_all-requires c =

@@ -1,5 +1,4 @@
-use Rattle.std.proofs.Common.{sym, ◌∙◌}
-use Rattle.std.proofs.lemmas.Result.{on_ok_weaker}
+use Rattle.std.proofs.{Common.sym, Common.◌∙◌, lemmas.Result.on_ok_weaker}
 use Rattle.cbor_head.specs.Prelude.{shortest_head}
 use Rattle.cbor_buffer.proofs.Drafts.{filled_in_gap, filled_settled, same_meant, whole_rope}
 use Rattle.cbor_buffer.proofs.draft.Draft.fill_around.Goals as goal

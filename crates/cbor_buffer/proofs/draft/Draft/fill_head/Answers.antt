@@ -1,7 +1,7 @@
 use Rattle.std.proofs.lemmas.Result.{on_ok_weaker}
 use Rattle.cbor_head.specs.Prelude.{shortest_head}
-use Rattle.cbor_buffer.proofs.Drafts.{filled_behind}
 use Rattle.cbor_buffer.proofs.draft.Draft.fill_head.Goals as goal
+use Rattle.cbor_buffer.proofs.Drafts.{filled_behind}
 
 pub returns-then-self-from : goal.returns-then-self-from
 returns-then-self-from c =

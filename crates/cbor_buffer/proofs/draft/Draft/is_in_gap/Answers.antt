@@ -1,7 +1,7 @@
 use Rattle.std.proofs.Common.{◌-◌, length, sym, ap, ◌∙◌, arith, reverse}
 use Rattle.std.proofs.lemmas.Option.{get_or_from_slice_get}
-use Rattle.cbor_buffer.proofs.Moved.{last_off}
 use Rattle.cbor_buffer.proofs.draft.Draft.is_in_gap.Goals as goal
+use Rattle.cbor_buffer.proofs.Moved.{last_off}
 
 pub returns-in-Some-clause-free : goal.returns-in-Some-clause-free
 returns-in-Some-clause-free c = λ t.

@@ -1,7 +1,6 @@
 use Rattle.std.proofs.Common.{◌≡◌, ◌≤◌, ◌∷◌, [], ◌++◌, Option, length, sym, ap, ◌∙◌, subst, MatchOption}
-use Rattle.cbor_buffer.specs.declared.draft.Region.{Region}
-use Rattle.cbor_buffer.proofs.Drafts.{loosened}
 use Rattle.cbor_buffer.proofs.draft.Draft.loosen.Goals as goal
+use Rattle.cbor_buffer.{specs.declared.draft.Region.Region, proofs.Drafts.loosened}
 
 pub returns-in-Some-clause-loose : goal.returns-in-Some-clause-loose
 returns-in-Some-clause-loose c =

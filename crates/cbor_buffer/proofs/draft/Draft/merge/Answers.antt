@@ -1,6 +1,6 @@
 use Rattle.std.proofs.Common.{arith}
-use Rattle.cbor_buffer.proofs.Moved.{merged_off}
 use Rattle.cbor_buffer.proofs.draft.Draft.merge.Goals as goal
+use Rattle.cbor_buffer.proofs.Moved.{merged_off}
 
 pub merging-preserved : goal.merging-preserved
 merging-preserved c =

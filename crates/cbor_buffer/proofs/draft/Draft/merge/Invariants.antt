@@ -1,6 +1,6 @@
 use Rattle.std.proofs.Common.{◌≡◌, vec_len}
-use Rattle.cbor_buffer.specs.Moved.{IsWhole}
 use Rattle.cbor_buffer.proofs.draft.Draft.merge.Given as goal
+use Rattle.cbor_buffer.specs.Moved.{IsWhole}
 
 abbrev pub invariant-merging : goal.invariant-merging
 invariant-merging l =

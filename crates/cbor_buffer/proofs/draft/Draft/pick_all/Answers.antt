@@ -1,16 +1,11 @@
 use Rattle.std.proofs.Common.{ℕ, List, ◌∷◌, ◌-◌, ◌++◌, length, take, drop, sym, ap, ◌∙◌, subst, arith, map, slice_index_or, flat_map}
-use Rattle.std.specs.Global.{Vec}
-use Rattle.std.proofs.lemmas.List.{take_rest}
-use Rattle.cbor_buffer.specs.Spans.{span_pair}
-use Rattle.cbor_buffer.specs.Moved.{rope, Run, gap, meant}
-use Rattle.cbor_buffer.specs.Spans.{no_span}
+use Rattle.std.{specs.Global.Vec, proofs.lemmas.List.take_rest}
 use Rattle.cbor_canonical.specs.Pairs.{pair_bytes}
-use Rattle.cbor_buffer.specs.declared.cuts.Cut.{Cut}
-use Rattle.cbor_buffer.proofs.Drafts.{loose_cuts, loose_slice}
+use Rattle.cbor_buffer.specs.Moved.{rope, Run, gap, meant}
 use Rattle.cbor_buffer.proofs.Moved.{last_run, rope_append, run_append}
-use Rattle.cbor_buffer.proofs.ByIndex.{all_index}
-use Rattle.cbor_buffer.proofs.Gathered.{gathered_at}
 use Rattle.cbor_buffer.proofs.draft.Draft.pick_all.Goals as goal
+use Rattle.cbor_buffer.{specs.Spans.span_pair, specs.Spans.no_span, specs.declared.cuts.Cut.Cut, proofs.Drafts.loose_cuts, proofs.Drafts.loose_slice}
+use Rattle.cbor_buffer.proofs.{ByIndex.all_index, Gathered.gathered_at}
 
 pub pick-requires-clause-run : goal.pick-requires-clause-run
 pick-requires-clause-run c =

@@ -1,8 +1,8 @@
 use Rattle.std.proofs.Common.{◌≡◌, ◌++◌, length, drop, map, flat_map}
 use Rattle.cbor_canonical.specs.Pairs.{pair_bytes}
-use Rattle.cbor_buffer.specs.Spans.{span_pair}
 use Rattle.cbor_buffer.specs.Moved.{meant, rope, Run}
 use Rattle.cbor_buffer.proofs.draft.Draft.pick_all.Given as goal
+use Rattle.cbor_buffer.specs.Spans.{span_pair}
 
 abbrev pub invariant-loop-span : goal.invariant-loop-span
 invariant-loop-span l =

@@ -1,8 +1,7 @@
 use Rattle.std.proofs.Common.{length, ap, ◌∙◌, arith}
-use Rattle.cbor_buffer.specs.Moved.{meant}
 use Rattle.cbor_buffer.proofs.Drafts.{put_down, within_same, whole_length, length_same}
-use Rattle.cbor_buffer.proofs.Slices.{moved_down}
 use Rattle.cbor_buffer.proofs.draft.Draft.put_down.Goals as goal
+use Rattle.cbor_buffer.{specs.Moved.meant, proofs.Slices.moved_down}
 
 pub gather-requires : goal.gather-requires
 gather-requires c =

@@ -1,7 +1,6 @@
 use Rattle.std.proofs.Common.{List, ℕ, sym, subst, arith}
-use Rattle.cbor_buffer.specs.Spans.{AreWithin}
-use Rattle.cbor_buffer.proofs.Drafts.{length_same}
 use Rattle.cbor_buffer.proofs.draft.Draft.rearrange.Goals as goal
+use Rattle.cbor_buffer.{specs.Spans.AreWithin, proofs.Drafts.length_same}
 
 pub put_down-requires : goal.put_down-requires
 put_down-requires c =

@@ -1,11 +1,8 @@
 use Rattle.std.proofs.Common.{List, ◌≡◌, ◌∷◌, [], ◌++◌, length, take, drop, sym, ap, ◌∙◌, subst, arith, map, flat_map, reverse}
-use Rattle.cbor_buffer.specs.Spans.{span_pair}
-use Rattle.cbor_buffer.specs.Moved.{rope, gap, meant, Blocks}
 use Rattle.cbor_canonical.specs.Pairs.{pair_bytes}
-use Rattle.cbor_buffer.specs.declared.cuts.Cut.{Cut}
-use Rattle.cbor_buffer.specs.declared.draft.Region.{Region}
-use Rattle.cbor_buffer.proofs.Drafts.{rebuilt}
+use Rattle.cbor_buffer.specs.Moved.{rope, gap, meant, Blocks}
 use Rattle.cbor_buffer.proofs.draft.Draft.rebuild.Goals as goal
+use Rattle.cbor_buffer.{specs.Spans.span_pair, specs.declared.cuts.Cut.Cut, specs.declared.draft.Region.Region, proofs.Drafts.rebuilt}
 
 pub returns : goal.returns
 returns c =

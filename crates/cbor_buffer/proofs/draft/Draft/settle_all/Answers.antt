@@ -1,9 +1,6 @@
 use Rattle.std.proofs.Common.{List, ◌++◌, length, drop, ap, sym, subst, ◌∙◌, arith}
-use Rattle.cbor_buffer.specs.declared.cuts.Cut.{Cut}
-use Rattle.cbor_buffer.specs.Moved.{AreInside, rope}
-use Rattle.cbor_buffer.proofs.Moved.{run_inside}
-use Rattle.cbor_buffer.proofs.Slices.{settled_down}
 use Rattle.cbor_buffer.proofs.draft.Draft.settle_all.Goals as goal
+use Rattle.cbor_buffer.{specs.declared.cuts.Cut.Cut, specs.Moved.AreInside, specs.Moved.rope, proofs.Moved.run_inside, proofs.Slices.settled_down}
 
 pub emit-requires : goal.emit-requires
 emit-requires c =

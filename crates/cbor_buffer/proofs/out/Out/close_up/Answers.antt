@@ -1,5 +1,5 @@
-use Rattle.cbor_buffer.proofs.Written.{vec_closed_up}
 use Rattle.cbor_buffer.proofs.out.Out.close_up.Goals as goal
+use Rattle.cbor_buffer.proofs.Written.{vec_closed_up}
 
 pub returns : goal.returns
 returns c =

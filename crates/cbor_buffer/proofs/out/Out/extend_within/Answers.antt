@@ -1,8 +1,7 @@
 use Rattle.std.proofs.Common.{List, ℕ, ◌++◌, length, take, ap, ◌∙◌, arith}
 use Rattle.std.proofs.lemmas.Result.{on_ok_weaker}
-use Rattle.cbor_buffer.proofs.Slices.{block_part, front_of_list}
-use Rattle.cbor_buffer.proofs.Written.{vec_extended}
 use Rattle.cbor_buffer.proofs.out.Out.extend_within.Goals as goal
+use Rattle.cbor_buffer.proofs.{Slices.block_part, Slices.front_of_list, Written.vec_extended}
 
 pub returns-in-Some : goal.returns-in-Some
 returns-in-Some c =

@@ -1,7 +1,7 @@
 use Rattle.std.proofs.Common.{◌≡◌, ◌≤◌, ◌+◌, ◌*◌, ◌++◌, take, drop, length, length-take, ◌∙◌, arith}
-use Rattle.cbor_buffer.proofs.Written.{byte_written}
 use Rattle.cbor_head.proofs.Least.{one_byte}
 use Rattle.cbor_buffer.proofs.out.Out.fill_head.Goals as goal
+use Rattle.cbor_buffer.proofs.Written.{byte_written}
 
 pub returns-then-start-from-eq1 : goal.returns-then-start-from-eq1
 returns-then-start-from-eq1 c =

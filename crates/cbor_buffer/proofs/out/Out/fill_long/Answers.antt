@@ -1,7 +1,7 @@
 use Rattle.std.proofs.Common.{◌∙◌, arith}
 use Rattle.cbor_head.specs.Prelude.{shortest_head}
-use Rattle.cbor_buffer.proofs.Written.{vec_kept, vec_moved}
 use Rattle.cbor_buffer.proofs.out.Out.fill_long.Goals as goal
+use Rattle.cbor_buffer.proofs.Written.{vec_kept, vec_moved}
 
 pub returns-then-count-start : goal.returns-then-count-start
 returns-then-count-start c =

@@ -1,11 +1,8 @@
 use Rattle.std.proofs.Common.{List, ◌∷◌, ap, ◌∙◌}
 use Rattle.cbor_canonical.specs.Parts.{opened}
-use Rattle.cbor_buffer.specs.Moved.{meant}
-use Rattle.cbor_buffer.specs.declared.span.Span.{Span}
-use Rattle.cbor_builder.specs.inner.BuilderState.{frames}
-use Rattle.cbor_builder.specs.inner.Laid.{opens, opening_frame}
-use Rattle.cbor_builder.proofs.Growth.{begun}
+use Rattle.cbor_buffer.specs.{Moved.meant, declared.span.Span.Span}
 use Rattle.cbor_builder.proofs.builder.Core.begin.Goals as goal
+use Rattle.cbor_builder.{specs.inner.BuilderState.frames, specs.inner.Laid.opens, specs.inner.Laid.opening_frame, proofs.Growth.begun}
 
 pub returns-clause-given : goal.returns-clause-given
 returns-clause-given c =

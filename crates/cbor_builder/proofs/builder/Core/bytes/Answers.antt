@@ -1,6 +1,6 @@
 use Rattle.std.proofs.Common.{take, refl}
-use Rattle.cbor_builder.proofs.Standing.{member_longer}
 use Rattle.cbor_builder.proofs.builder.Core.bytes.Goals as goal
+use Rattle.cbor_builder.proofs.Standing.{member_longer}
 
 pub returns : goal.returns
 returns c =

@@ -1,17 +1,10 @@
 use Rattle.std.proofs.Common.{◌≡◌, ◌-◌, ◌++◌, ℕ, take, length, length-append, sym, ap, ◌∙◌, subst, arith, flat_map, length-take-le}
 use Rattle.cbor_head.specs.Prelude.{in_order}
-use Rattle.cbor_canonical.specs.Parts.{closed, HasNoRepeats}
-use Rattle.cbor_canonical.specs.Pairs.{pair_bytes}
-use Rattle.cbor_builder.specs.inner.BuilderState.{outers}
-use Rattle.cbor_builder.specs.inner.Laid.{shape_open, pairs_from}
-use Rattle.cbor_buffer.specs.Moved.{meant}
-use Rattle.cbor_builder.specs.inner.InPlace.{HasSameKeys}
-use Rattle.cbor_builder.specs.declared.frame.Shape.{Shape}
-use Rattle.cbor_buffer.proofs.Drafts.{whole_length, front_shorter}
-use Rattle.cbor_builder.proofs.Growth.{map_sorted}
-use Rattle.cbor_builder.proofs.InPlace.{top_keys}
-use Rattle.cbor_canonical.proofs.Decided.{holds}
+use Rattle.cbor_canonical.{specs.Parts.closed, specs.Parts.HasNoRepeats, specs.Pairs.pair_bytes, proofs.Decided.holds}
+use Rattle.cbor_buffer.{specs.Moved.meant, proofs.Drafts.whole_length, proofs.Drafts.front_shorter}
 use Rattle.cbor_builder.proofs.builder.Core.close_top.Goals as goal
+use Rattle.cbor_builder.specs.{inner.BuilderState.outers, inner.Laid.shape_open, inner.Laid.pairs_from, inner.InPlace.HasSameKeys, declared.frame.Shape.Shape}
+use Rattle.cbor_builder.proofs.{Growth.map_sorted, InPlace.top_keys}
 
 pub order_pairs-requires-clause-keys : goal.order_pairs-requires-clause-keys
 order_pairs-requires-clause-keys c =

@@ -1,15 +1,12 @@
 use Rattle.std.proofs.Common.{List, ◌∷◌, ◌++◌, take, sym, ap, ◌∙◌, subst, rules}
 use Rattle.cbor_head.specs.declared.order.KeyOrder.{KeyOrder}
-use Rattle.cbor_builder.specs.inner.BuilderState.{outers, Stand}
-use Rattle.cbor_builder.specs.inner.Laid.{OuterTakes, opens, shape_open}
+use Rattle.cbor_canonical.{specs.Parts.close, specs.Parts.closed, proofs.Decided.holds}
 use Rattle.cbor_buffer.specs.Moved.{meant, KeepsFront}
-use Rattle.cbor_builder.specs.declared.frame.Frame.{Frame}
-use Rattle.cbor_canonical.specs.Parts.{close, closed}
-use Rattle.cbor_canonical.proofs.Decided.{holds}
-use Rattle.cbor_builder.proofs.Nesting.{nothing_open, rooted_given}
-use Rattle.cbor_builder.proofs.Reordered.{left_open}
+use Rattle.cbor_builder.specs.inner.Laid.{OuterTakes, opens, shape_open}
 use Rattle.cbor_builder.proofs.Standing.{member_ended, member_outer, keeps_stays}
 use Rattle.cbor_builder.proofs.builder.Core.end.Goals as goal
+use Rattle.cbor_builder.specs.{inner.BuilderState.outers, inner.BuilderState.Stand, declared.frame.Frame.Frame}
+use Rattle.cbor_builder.proofs.{Nesting.nothing_open, Nesting.rooted_given, Reordered.left_open}
 
 pub returns-in_ok-complete : goal.returns-in_ok-complete
 returns-in_ok-complete c =

@@ -1,18 +1,13 @@
 use Rattle.std.proofs.Common.{◌≡◌, ◌+◌, ◌-◌, ◌^◌, ◌<◌, ◌≤◌, ℕ, suc, List, ◌∷◌, length, take, take_all, sym, ap, ◌∙◌, subst, arith, Option, IfSome}
+use Rattle.cbor_buffer.{specs.Moved.meant, specs.Moved.IsWhole, specs.declared.draft.Draft.Draft, proofs.Drafts.whole_length}
 use Rattle.cbor_builder.specs.inner.BuilderState.{frames, outers, Stand, came_standing}
 use Rattle.cbor_builder.specs.inner.Laid.{opens, outer_spans, shape_open, Laid}
-use Rattle.cbor_buffer.specs.Moved.{meant, IsWhole}
 use Rattle.cbor_builder.specs.inner.Repeats.{maps_of, outward, TellsWithin, TellsOf, IsBelow}
-use Rattle.cbor_buffer.specs.declared.draft.Draft.{Draft}
-use Rattle.cbor_builder.specs.declared.frame.Frame.{Frame}
-use Rattle.cbor_builder.specs.declared.repeat.Repeat.{Repeat}
-use Rattle.cbor_buffer.proofs.Drafts.{whole_length}
 use Rattle.cbor_builder.proofs.InPlace.{agrees_refl, laid_raw, within_raw}
-use Rattle.cbor_builder.proofs.Reordered.{reordered_refl, reordered_outer}
-use Rattle.cbor_builder.proofs.Standing.{stand_cut}
-use Rattle.cbor_builder.proofs.Nesting.{outers_fit}
 use Rattle.cbor_builder.proofs.OpenRepeats.{tells_first, tells_outward, tells_all, maps_more, below_fits, below_outward, below_first}
 use Rattle.cbor_builder.proofs.builder.Core.first_repeat.Goals as goal
+use Rattle.cbor_builder.specs.declared.{frame.Frame.Frame, repeat.Repeat.Repeat}
+use Rattle.cbor_builder.proofs.{Reordered.reordered_refl, Reordered.reordered_outer, Standing.stand_cut, Nesting.outers_fit}
 
 pub take_repeat-own-requires-clause-laid : goal.take_repeat-own-requires-clause-laid
 take_repeat-own-requires-clause-laid c =

@@ -1,10 +1,8 @@
 use Rattle.std.proofs.Common.{◌≡◌, ◌-◌, ◌^◌, ◌≤◌, List, length}
+use Rattle.cbor_buffer.specs.{Moved.meant, Moved.IsWhole, declared.span.Span.Span}
 use Rattle.cbor_builder.specs.inner.BuilderState.{outers, WasLaid, came_standing}
-use Rattle.cbor_builder.specs.inner.Laid.{opens, Laid}
-use Rattle.cbor_buffer.specs.Moved.{meant, IsWhole}
-use Rattle.cbor_builder.specs.inner.Repeats.{TellsWithin, IsBelow}
-use Rattle.cbor_buffer.specs.declared.span.Span.{Span}
 use Rattle.cbor_builder.proofs.builder.Core.first_repeat.Given as goal
+use Rattle.cbor_builder.specs.inner.{Laid.opens, Laid.Laid, Repeats.TellsWithin, Repeats.IsBelow}
 
 abbrev pub invariant-loop-self : goal.invariant-loop-self
 invariant-loop-self l =

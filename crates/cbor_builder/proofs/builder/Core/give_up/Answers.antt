@@ -1,14 +1,9 @@
 use Rattle.std.proofs.Common.{take, sym, ap, ◌∙◌, subst, rules}
 use Rattle.cbor_canonical.proofs.Decided.{holds}
-use Rattle.cbor_builder.specs.inner.BuilderState.{outers, frames}
-use Rattle.cbor_builder.specs.inner.Laid.{opens, Laid}
-use Rattle.cbor_buffer.specs.Moved.{meant, IsWhole}
-use Rattle.cbor_buffer.specs.declared.draft.Draft.{Draft}
-use Rattle.cbor_builder.specs.declared.frame.Frame.{Frame}
-use Rattle.cbor_builder.proofs.InPlace.{agrees_refl}
-use Rattle.cbor_builder.proofs.Nesting.{found_around}
-use Rattle.cbor_builder.proofs.Reordered.{left_open}
+use Rattle.cbor_buffer.specs.{Moved.meant, Moved.IsWhole, declared.draft.Draft.Draft}
 use Rattle.cbor_builder.proofs.builder.Core.give_up.Goals as goal
+use Rattle.cbor_builder.specs.{inner.BuilderState.outers, inner.BuilderState.frames, inner.Laid.opens, inner.Laid.Laid, declared.frame.Frame.Frame}
+use Rattle.cbor_builder.proofs.{InPlace.agrees_refl, Nesting.found_around, Reordered.left_open}
 
 pub returns : goal.returns
 returns c =

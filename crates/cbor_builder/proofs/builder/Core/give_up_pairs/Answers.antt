@@ -1,12 +1,9 @@
 use Rattle.std.proofs.Common.{refl, sym, subst}
+use Rattle.cbor_canonical.{specs.Pairs.HasDistinctBytes, specs.Parts.HasNoRepeats, proofs.Decided.holds, proofs.Sorting.rising_distinct}
 use Rattle.cbor_buffer.specs.Moved.{meant}
-use Rattle.cbor_canonical.specs.Pairs.{HasDistinctBytes}
-use Rattle.cbor_canonical.specs.Parts.{HasNoRepeats}
-use Rattle.cbor_canonical.proofs.Decided.{holds}
-use Rattle.cbor_canonical.proofs.Sorting.{rising_distinct}
-use Rattle.cbor_builder.specs.declared.frame.Shape.{Shape}
 use Rattle.cbor_builder.specs.inner.Laid.{Fits, pairs_from, shape_open}
 use Rattle.cbor_builder.proofs.builder.Core.give_up_pairs.Goals as goal
+use Rattle.cbor_builder.specs.declared.frame.Shape.{Shape}
 use Rattle.cbor_builder.proofs.builder.Core.give_up_pairs.Goals.{else-not-self-via-then-not-self+else-not-order_spans, else-not-self-via-else-not-self}
 
 pub returns-clause-distinct : goal.returns-clause-distinct

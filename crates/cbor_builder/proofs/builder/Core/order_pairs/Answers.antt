@@ -1,20 +1,12 @@
 use Rattle.std.proofs.Common.{◌∙◌, ◌++◌, List, take, drop, length, map, sym, ap, subst, arith, flat_map}
 use Rattle.std.proofs.lemmas.List.{take_rest}
-use Rattle.cbor_canonical.specs.Pairs.{pair_bytes}
 use Rattle.cbor_head.specs.Prelude.{Pair}
-use Rattle.cbor_buffer.specs.Moved.{meant, IsWhole}
+use Rattle.cbor_canonical.{specs.Pairs.pair_bytes, proofs.Decided.holds, proofs.Sorting.rising_distinct}
 use Rattle.cbor_buffer.specs.Spans.{span_pair, AreBehind, AreWithin}
-use Rattle.cbor_buffer.specs.declared.draft.Draft.{Draft}
-use Rattle.cbor_buffer.specs.declared.span.Span.{Span}
-use Rattle.cbor_builder.specs.declared.frame.Frame.{Frame}
-use Rattle.cbor_buffer.proofs.Drafts.{whole_length}
-use Rattle.cbor_builder.specs.inner.Laid.{pairs_from}
-use Rattle.cbor_builder.proofs.Growth.{tile_within}
-use Rattle.cbor_builder.proofs.InOrder.{tile_behind, risen}
-use Rattle.cbor_builder.proofs.Ranks.{all_permuted}
-use Rattle.cbor_canonical.proofs.Decided.{holds}
-use Rattle.cbor_canonical.proofs.Sorting.{rising_distinct}
+use Rattle.cbor_buffer.{specs.Moved.meant, specs.Moved.IsWhole, specs.declared.draft.Draft.Draft, specs.declared.span.Span.Span, proofs.Drafts.whole_length}
 use Rattle.cbor_builder.proofs.builder.Core.order_pairs.Goals as goal
+use Rattle.cbor_builder.{specs.declared.frame.Frame.Frame, specs.inner.Laid.pairs_from, proofs.Growth.tile_within}
+use Rattle.cbor_builder.proofs.{InOrder.tile_behind, InOrder.risen, Ranks.all_permuted}
 
 pub returns-then-self-clause-distinct : goal.returns-then-self-clause-distinct
 returns-then-self-clause-distinct c =

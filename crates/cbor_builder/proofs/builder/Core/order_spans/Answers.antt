@@ -1,15 +1,10 @@
 use Rattle.std.proofs.Common.{◌≡◌, ◌+◌, ◌≤◌, ◌++◌, ◌∙◌, ℕ, List, length, length-append, length-drop, length-take, take, drop, map, refl, sym, ap, subst, arith, IsPermutation, append_assoc}
-use Rattle.std.proofs.lemmas.List.{take_rest}
-use Rattle.std.proofs.lemmas.List.Sorted.{length_permutation}
+use Rattle.std.proofs.lemmas.List.{take_rest, Sorted.length_permutation}
 use Rattle.cbor_canonical.specs.Pairs.{IsRising}
-use Rattle.cbor_buffer.specs.Spans.{span_pair}
-use Rattle.cbor_buffer.specs.declared.span.Span.{Span}
-use Rattle.cbor_buffer.specs.Moved.{meant}
-use Rattle.cbor_builder.specs.inner.Front.{AreFronted}
-use Rattle.cbor_builder.proofs.InPlace.{fronted_keys}
-use Rattle.cbor_builder.proofs.InOrder.{distinct_iff, order_meant}
-use Rattle.cbor_builder.proofs.Inserted.{taken_front, rest_front}
+use Rattle.cbor_buffer.specs.{Spans.span_pair, declared.span.Span.Span, Moved.meant}
 use Rattle.cbor_builder.proofs.builder.Core.order_spans.Goals as goal
+use Rattle.cbor_builder.{specs.inner.Front.AreFronted, proofs.InPlace.fronted_keys, proofs.InOrder.distinct_iff, proofs.InOrder.order_meant}
+use Rattle.cbor_builder.proofs.Inserted.{taken_front, rest_front}
 
 pub sort_distinct-requires : goal.sort_distinct-requires
 sort_distinct-requires c =

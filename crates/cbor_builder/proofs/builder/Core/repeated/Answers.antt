@@ -1,15 +1,10 @@
 use Rattle.std.proofs.Common.{List, drop, map, sym, ap, ◌∙◌, subst, arith}
 use Rattle.std.proofs.lemmas.List.{take_rest}
 use Rattle.cbor_canonical.specs.Pairs.{IsRising}
-use Rattle.cbor_builder.specs.inner.Front.{AreFronted}
-use Rattle.cbor_builder.specs.inner.Laid.{Fits}
-use Rattle.cbor_buffer.specs.Spans.{span_pair}
-use Rattle.cbor_buffer.specs.Moved.{meant}
-use Rattle.cbor_buffer.specs.declared.span.Span.{Span}
+use Rattle.cbor_buffer.specs.{Spans.span_pair, Moved.meant, declared.span.Span.Span}
 use Rattle.cbor_builder.proofs.InPlace.{top_keys, fronted_keys, rising_keys, keys_flip, repeated_same}
-use Rattle.cbor_builder.specs.inner.InPlace.{HasSameKeys}
-use Rattle.cbor_builder.specs.inner.BuilderState.{outers}
 use Rattle.cbor_builder.proofs.builder.Core.repeated.Goals as goal
+use Rattle.cbor_builder.specs.inner.{Front.AreFronted, Laid.Fits, InPlace.HasSameKeys, BuilderState.outers}
 
 pub has_key-requires : goal.has_key-requires
 has_key-requires c =

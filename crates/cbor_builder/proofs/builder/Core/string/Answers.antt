@@ -1,8 +1,8 @@
 use Rattle.std.proofs.Common.{◌++◌, take}
 use Rattle.cbor_head.specs.Prelude.{shortest_head}
 use Rattle.cbor_buffer.proofs.Drafts.{extended}
-use Rattle.cbor_builder.proofs.Standing.{member_given, member_ready}
 use Rattle.cbor_builder.proofs.builder.Core.string.Goals as goal
+use Rattle.cbor_builder.proofs.Standing.{member_given, member_ready}
 
 pub returns : goal.returns
 returns c =

@@ -1,14 +1,11 @@
 use Rattle.std.proofs.Common.{List, drop, sym, ap, ◌∙◌, subst, MatchOption}
 use Rattle.std.proofs.lemmas.List.{take_rest}
-use Rattle.cbor_builder.specs.Built.{AreAllDifferent, IsFirstRepeat}
+use Rattle.cbor_buffer.specs.{Moved.meant, declared.span.Span.Span}
 use Rattle.cbor_builder.specs.inner.BuilderState.{frames, Stand, IsReordered}
-use Rattle.cbor_builder.specs.inner.Laid.{opens}
-use Rattle.cbor_buffer.specs.Moved.{meant}
-use Rattle.cbor_buffer.specs.declared.span.Span.{Span}
-use Rattle.cbor_builder.specs.inner.Repeats.{first_of, AreOf}
 use Rattle.cbor_builder.proofs.OpenRepeats.{own_keys, told_of, rising_different}
 use Rattle.cbor_builder.proofs.Reordered.{reordered_first, reordered_length, reordered_own, reordered_waits}
 use Rattle.cbor_builder.proofs.builder.Core.take_repeat.Goals as goal
+use Rattle.cbor_builder.specs.{Built.AreAllDifferent, Built.IsFirstRepeat, inner.Laid.opens, inner.Repeats.first_of, inner.Repeats.AreOf}
 use Rattle.cbor_builder.proofs.builder.Core.take_repeat.Goals.{then-not-self, else-not-self}
 
 pub repeated-is_waiting_repeated-requires : goal.repeated-is_waiting_repeated-requires

@@ -1,9 +1,8 @@
 use Rattle.std.proofs.Common.{ℕ, List, sym, ap, ◌∙◌, subst, slice_range}
-use Rattle.cbor_builder.specs.Built.{IsWaitingKey}
-use Rattle.cbor_builder.specs.inner.BuilderState.{standing, outers}
 use Rattle.cbor_buffer.specs.Moved.{meant}
-use Rattle.cbor_builder.proofs.InPlace.{top_keys, waiting_is}
 use Rattle.cbor_builder.proofs.builder.Core.waiting_key.Goals as goal
+use Rattle.cbor_builder.specs.{Built.IsWaitingKey, inner.BuilderState.standing, inner.BuilderState.outers}
+use Rattle.cbor_builder.proofs.InPlace.{top_keys, waiting_is}
 
 pub returns-in-Key : goal.returns-in-Key
 returns-in-Key c =

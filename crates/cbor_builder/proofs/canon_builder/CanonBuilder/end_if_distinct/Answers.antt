@@ -1,6 +1,6 @@
 use Rattle.std.proofs.Common.{◌∙◌, refl}
-use Rattle.cbor_builder.proofs.CanonStates.{told_there}
 use Rattle.cbor_builder.proofs.canon_builder.CanonBuilder.end_if_distinct.Goals as goal
+use Rattle.cbor_builder.proofs.CanonStates.{told_there}
 
 pub returns-then-not-branch : goal.returns-then-not-branch
 returns-then-not-branch c =

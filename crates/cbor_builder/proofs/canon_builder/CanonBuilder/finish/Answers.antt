@@ -1,8 +1,7 @@
 use Rattle.std.proofs.Common.{◌∙◌}
 use Rattle.cbor_head.specs.Prelude.{canonical}
-use Rattle.cbor_builder.proofs.CanonStates.{whole_bytes}
-use Rattle.cbor_builder.proofs.PartsMade.{builds_whole}
 use Rattle.cbor_builder.proofs.canon_builder.CanonBuilder.finish.Goals as goal
+use Rattle.cbor_builder.proofs.{CanonStates.whole_bytes, PartsMade.builds_whole}
 
 pub returns-clause-bytes : goal.returns-clause-bytes
 returns-clause-bytes c bs e = c.into_vec.ensures ∙ whole_bytes c.self.inside c.args.self bs c.self.invariant c.self.view_is e

@@ -1,6 +1,6 @@
 use Rattle.std.proofs.Common.{sym, ◌∙◌, append-nil}
-use Rattle.cbor_diag.proofs.Putting.{sent-some}
 use Rattle.cbor_diag.proofs.outbox.Outbox.flush.Goals as goal
+use Rattle.cbor_diag.proofs.Putting.{sent-some}
 
 pub returns-in-Err-clause-done : goal.returns-in-Err-clause-done
 returns-in-Err-clause-done g c =

@@ -1,6 +1,6 @@
 use Rattle.std.proofs.Common.{◌≡◌, ap}
-use Rattle.cbor_diag.proofs.Putting.{puts-from, where_err}
 use Rattle.cbor_diag.proofs.outbox.Outbox.put.Goals as goal
+use Rattle.cbor_diag.proofs.Putting.{puts-from, where_err}
 
 pub returns : goal.returns
 returns g c =

@@ -1,8 +1,8 @@
 use Rattle.std.proofs.Common.{◌≡◌, ap, ◌∙◌}
 use Rattle.std.proofs.lemmas.Result.{IfOk-weaker}
 use Rattle.cbor_head.specs.Prelude.{plain, Spelling, value_of, accepted}
-use Rattle.cbor_diag.specs.Text.{text}
 use Rattle.cbor_diag.proofs.text_buffer.TextBuffer.diagnostic_front.Goals as goal
+use Rattle.cbor_diag.specs.Text.{text}
 
 same-item : {s t : Spelling} → accepted s ≡ accepted t → s ≡ t
 same-item e = cc e

@@ -1,6 +1,6 @@
 use Rattle.std.proofs.Common.{true, arith}
-use Rattle.cbor_diag.proofs.TextGiven.{some-open, ended}
 use Rattle.cbor_diag.proofs.text_sink.TextSinkSink.end.Goals as goal
+use Rattle.cbor_diag.proofs.TextGiven.{some-open, ended}
 
 pub unreachable-requires : goal.unreachable-requires
 unreachable-requires c = some-open true c.args._is_map c.args.self.now c.requires.full c.in_default.not-Some

@@ -1,8 +1,7 @@
 use Rattle.std.proofs.Common.{refl}
 use Rattle.cbor_walk.specs.Sink.{leaf_value}
-use Rattle.cbor_diag.specs.Text.{text}
-use Rattle.cbor_diag.proofs.TextGiven.{given}
 use Rattle.cbor_diag.proofs.text_sink.TextSinkSink.leaf.Goals as goal
+use Rattle.cbor_diag.{specs.Text.text, proofs.TextGiven.given}
 
 pub returns : goal.returns
 returns c =

@@ -1,8 +1,7 @@
 use Rattle.std.proofs.Common.{take, refl}
 use Rattle.cbor_judging.specs.Reading.{string_value}
-use Rattle.cbor_diag.specs.inner.Strings.{string_text}
-use Rattle.cbor_diag.proofs.TextGiven.{text-of_string, given}
 use Rattle.cbor_diag.proofs.text_sink.TextSinkSink.string.Goals as goal
+use Rattle.cbor_diag.{specs.inner.Strings.string_text, proofs.TextGiven.text-of_string, proofs.TextGiven.given}
 
 pub returns : goal.returns
 returns c =

@@ -1,7 +1,7 @@
 use Rattle.std.proofs.Common.{[], sym, subst, Some}
 use Rattle.cbor_standing.specs.NextEvent.{ItemEventsView, StandsBetween}
-use Rattle.cbor_events.proofs.Keys.{refused-key}
 use Rattle.cbor_events.proofs.item_events.ItemEvents.next_key.Goals as goal
+use Rattle.cbor_events.proofs.Keys.{refused-key}
 
 pub returns-in-Err-clause-answers : goal.returns-in-Err-clause-answers
 returns-in-Err-clause-answers g c = λ live t ms h.

@@ -1,7 +1,6 @@
 use Rattle.std.proofs.Common.{refl}
-use Rattle.cbor_events.proofs.Keys.{first-answer, first-lost}
-use Rattle.cbor_events.proofs.Parts.{none-read}
 use Rattle.cbor_events.proofs.item_events.key.first_byte.Goals as goal
+use Rattle.cbor_events.proofs.{Keys.first-answer, Keys.first-lost, Parts.none-read}
 
 pub returns-clause-answers : goal.returns-clause-answers
 returns-clause-answers g c = λ kept t ms h.

@@ -1,13 +1,9 @@
 use Rattle.std.proofs.Common.{◌<◌, ◌∙◌, refl, sym, subst, inr, arith, ap}
-use Rattle.cbor_head.specs.Prelude.{refusal}
-use Rattle.cbor_head.specs.declared.reason.Reason.TheVariants.{KeyKind}
-use Rattle.cbor_standing.specs.Machine.{wanted}
-use Rattle.cbor_standing.proofs.Buffers.{head-answer}
-use Rattle.cbor_standing.proofs.NextEvents.{complete-wants}
-use Rattle.cbor_events.specs.inner.Reads.{IsTakenAt}
+use Rattle.cbor_head.specs.{Prelude.refusal, declared.reason.Reason.TheVariants.KeyKind}
+use Rattle.cbor_standing.{specs.Machine.wanted, proofs.Buffers.head-answer, proofs.NextEvents.complete-wants}
 use Rattle.cbor_events.proofs.Keys.{end-key, other-here, told-key, stopped-key, open-key, first-read}
-use Rattle.cbor_events.proofs.Parts.{none-read}
 use Rattle.cbor_events.proofs.item_events.key.key_head.Goals as goal
+use Rattle.cbor_events.{specs.inner.Reads.IsTakenAt, proofs.Parts.none-read}
 
 pub returns-then-wanted-eq0-clause-answers : goal.returns-then-wanted-eq0-clause-answers
 returns-then-wanted-eq0-clause-answers g c = λ kept t ms h.

@@ -1,7 +1,7 @@
 use Rattle.std.proofs.Common.{take, refl, sym, ◌∙◌}
 use Rattle.cbor_standing.proofs.Buffers.{payload-answer}
-use Rattle.cbor_events.proofs.Parts.{none-read}
 use Rattle.cbor_events.proofs.item_events.reading.advance.Goals as goal
+use Rattle.cbor_events.proofs.Parts.{none-read}
 
 pub returns-then-not-is_in_payload-clause-answers : goal.returns-then-not-is_in_payload-clause-answers
 returns-then-not-is_in_payload-clause-answers g c = λ t ms h.

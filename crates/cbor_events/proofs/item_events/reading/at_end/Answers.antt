@@ -1,11 +1,8 @@
 use Rattle.std.proofs.Common.{[], ◌++◌, inr, refl, arith, subst}
 use Rattle.std.proofs.KnownBytes.{Consumes-nil}
-use Rattle.cbor_standing.specs.Machine.{IsComplete, IsRefused}
-use Rattle.cbor_standing.specs.Steps.{IsStep}
 use Rattle.cbor_standing.specs.declared.step.Out.TheVariants as outs
-use Rattle.cbor_standing.specs.NextEvent.{machine_call}
-use Rattle.cbor_standing.proofs.NextEvents.{end-here, all-used}
-use Rattle.cbor_standing.proofs.NextRefusals.{still-due, stopped-here}
+use Rattle.cbor_standing.specs.{Machine.IsComplete, Machine.IsRefused, Steps.IsStep, NextEvent.machine_call}
+use Rattle.cbor_standing.proofs.{NextEvents.end-here, NextEvents.all-used, NextRefusals.still-due, NextRefusals.stopped-here}
 use Rattle.cbor_events.proofs.item_events.reading.at_end.Goals as goal
 
 pub returns-in-Done-clause-answers : goal.returns-in-Done-clause-answers

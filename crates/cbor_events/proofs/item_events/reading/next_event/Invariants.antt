@@ -1,9 +1,6 @@
 use Rattle.std.proofs.Common.{◌≡◌, ◌-◌, ◌<◌, ◌≤◌, ℕ, List, ◌++◌, length, Option}
 use Rattle.cbor_automaton.specs.Trace.{Mark}
-use Rattle.cbor_standing.specs.MachineView.{MachineView}
-use Rattle.cbor_standing.specs.Machine.{IsIdle, StandsFor}
-use Rattle.cbor_standing.specs.NextEvent.{StandsBetween}
-use Rattle.cbor_standing.specs.Calls.{HasRead}
+use Rattle.cbor_standing.specs.{MachineView.MachineView, Machine.IsIdle, Machine.StandsFor, NextEvent.StandsBetween, Calls.HasRead}
 use Rattle.cbor_events.proofs.item_events.reading.next_event.Given as goal
 
 abbrev pub invariant-reads : goal.invariant-reads

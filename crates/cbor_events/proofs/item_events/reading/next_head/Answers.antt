@@ -1,7 +1,7 @@
 use Rattle.std.proofs.Common.{refl, Some, Ok}
 use Rattle.cbor_standing.proofs.Buffers.{head-answer}
-use Rattle.cbor_events.proofs.Parts.{none-read}
 use Rattle.cbor_events.proofs.item_events.reading.next_head.Goals as goal
+use Rattle.cbor_events.proofs.Parts.{none-read}
 
 pub returns-in-Told-clause-answers : goal.returns-in-Told-clause-answers
 returns-in-Told-clause-answers g c = λ kept t ms h p.

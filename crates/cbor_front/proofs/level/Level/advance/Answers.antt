@@ -1,9 +1,7 @@
 use Rattle.std.proofs.Common.{◌-◌, refl, arith, subst}
-use Rattle.cbor_front.specs.inner.Cells.{TakesKey}
-use Rattle.cbor_front.specs.declared.level.Due.TheVariants.{Key}
-use Rattle.cbor_front.specs.declared.level.Level.{Level}
 use Rattle.cbor_front.proofs.CellSteps.{item_full, item_next, value_full, value_next, key_next, key_falls}
 use Rattle.cbor_front.proofs.level.Level.advance.Goals as goal
+use Rattle.cbor_front.specs.{inner.Cells.TakesKey, declared.level.Due.TheVariants.Key, declared.level.Level.Level}
 
 pub returns-then-self-eq0 : goal.returns-then-self-eq0
 returns-then-self-eq0 c = λ limits cs h. item_full c.args.order limits c.args.input.now c.args.at c.args.self.now cs c.in-Item.is c.if-self-eq0.true h

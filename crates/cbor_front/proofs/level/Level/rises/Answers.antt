@@ -1,9 +1,8 @@
 use Rattle.std.proofs.Common.{◌≡◌, nat_lt, sym, subst, arith}
 use Rattle.cbor_head.specs.Prelude.{key_lt}
 use Rattle.cbor_canonical.proofs.ByteLists.{are_bytes, bytes_slice}
-use Rattle.cbor_front.specs.inner.Cells.{last_key, key_at}
-use Rattle.cbor_front.proofs.KeyOrder.{by_front}
 use Rattle.cbor_front.proofs.level.Level.rises.Goals as goal
+use Rattle.cbor_front.{specs.inner.Cells.last_key, specs.inner.Cells.key_at, proofs.KeyOrder.by_front}
 
 pub returns-then-self-front : goal.returns-then-self-front
 returns-then-self-front c = λ f.

@@ -1,9 +1,7 @@
 use Rattle.std.proofs.Common.{◌≤◌}
 use Rattle.cbor_head.specs.Prelude.{Bounds}
-use Rattle.cbor_front.specs.inner.Cells.{HasClosed}
-use Rattle.cbor_front.specs.Stack.{around}
-use Rattle.cbor_front.specs.declared.level.Level.{Level}
 use Rattle.cbor_front.proofs.stack.Stack+Level.close.Given as goal
+use Rattle.cbor_front.specs.{inner.Cells.HasClosed, Stack.around, declared.level.Level.Level}
 
 abbrev pub invariant-levels : goal.invariant-levels
 invariant-levels l = record {

@@ -1,9 +1,8 @@
 use Rattle.std.proofs.Common.{◌≡◌, ◌∙◌, ap, sym, rules, arith, true, length, List, ℕ, ◌==◌, eqb-true}
 use Rattle.std.proofs.lemmas.List.{nil_from_length}
-use Rattle.cbor_head.specs.Read.{front}
-use Rattle.cbor_head.proofs.HeadBack.{read_head-back}
 use Rattle.cbor_head.proofs.WholeHead.{whole_head, only_head, same_parts, no_head}
 use Rattle.cbor_head.proofs.head.Head.read.Goals as goal
+use Rattle.cbor_head.{specs.Read.front, proofs.HeadBack.read_head-back}
 use Rattle.cbor_head.proofs.head.Head.read.Goals.{else-is_empty-via-then-is_empty+else-is_head, else-is_empty-via-else-is_empty}
 
 pub returns-in_err-major-clause-each : goal.returns-in_err-major-clause-each

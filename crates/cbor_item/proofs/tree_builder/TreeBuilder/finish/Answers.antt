@@ -1,7 +1,6 @@
 use Rattle.std.proofs.Common.{rules, ◌≡◌, ◌∷◌, [], ◌∙◌}
-use Rattle.cbor_item.specs.OpenValues.{the_whole, standing}
-use Rattle.cbor_item.proofs.ValuesMade.{whole_made}
 use Rattle.cbor_item.proofs.tree_builder.TreeBuilder.finish.Goals as goal
+use Rattle.cbor_item.{specs.OpenValues.the_whole, specs.OpenValues.standing, proofs.ValuesMade.whole_made}
 
 pub returns-clause-made : goal.returns-clause-made
 returns-clause-made c = λ v e.

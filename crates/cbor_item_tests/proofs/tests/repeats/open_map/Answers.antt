@@ -1,8 +1,7 @@
 use Rattle.std.proofs.Common.{List, ℕ, ◌≡◌, ◌∷◌, [], ◌++◌, ap, ◌∙◌}
-use Rattle.cbor_head.specs.Prelude.{Pair}
-use Rattle.cbor_head.specs.declared.order.KeyOrder.{KeyOrder}
-use Rattle.cbor_builder.specs.Built.{Built, built}
+use Rattle.cbor_head.specs.{Prelude.Pair, declared.order.KeyOrder.KeyOrder}
 use Rattle.cbor_canonical.specs.Parts.{Open, a_map, give, pair}
+use Rattle.cbor_builder.specs.Built.{Built, built}
 use Rattle.cbor_item_tests.proofs.tests.repeats.open_map.Goals as goal
 
 -- one more pair

@@ -1,12 +1,10 @@
 use Rattle.std.proofs.Common.{◌≡◌, ◌+◌, [], ◌∷◌, arith, ap, sym, refl, ◌∙◌, subst}
-use Rattle.cbor_standing.specs.MachineView.{MachineView}
 use Rattle.cbor_automaton.specs.Automaton.{at_item, run, reached}
-use Rattle.cbor_steps.specs.State.{state_of, frames_of, wanted_at, IsFit}
-use Rattle.cbor_standing.specs.Steps.{Ran}
-use Rattle.cbor_standing.specs.declared.step.Out.TheVariants as outs
-use Rattle.cbor_standing.proofs.NextEvents.{wants-all}
 use Rattle.cbor_automaton.proofs.Runs.{run-one}
+use Rattle.cbor_steps.specs.State.{state_of, frames_of, wanted_at, IsFit}
+use Rattle.cbor_standing.specs.declared.step.Out.TheVariants as outs
 use Rattle.cbor_standing.proofs.Standing.{answered, fit-sound, step-from}
+use Rattle.cbor_standing.{specs.MachineView.MachineView, specs.Steps.Ran, proofs.NextEvents.wants-all}
 use Rattle.cbor_machine.proofs.machine.Machine.begin_head.Goals as goal
 
 pub returns-in-Some-clause-begun : goal.returns-in-Some-clause-begun

@@ -1,13 +1,9 @@
 use Rattle.std.proofs.Common.{◌≡◌, ◌+◌, length, arith, ap, refl, ◌∙◌, subst}
-use Rattle.cbor_standing.specs.MachineView.{MachineView}
-use Rattle.cbor_steps.specs.State.{state_of, wanted_at}
-use Rattle.cbor_standing.specs.Steps.{Ran}
-use Rattle.cbor_steps.specs.Walk.{IsWalked}
-use Rattle.cbor_standing.specs.declared.step.Out.TheVariants as outs
-use Rattle.cbor_steps.specs.declared.up_to_event.Walked.TheVariants.{Told}
+use Rattle.cbor_steps.specs.{State.state_of, State.wanted_at, Walk.IsWalked, declared.up_to_event.Walked.TheVariants.Told}
 use Rattle.cbor_steps.proofs.Frames.{settled_fit}
-use Rattle.cbor_standing.proofs.NextEvents.{all-used, wants-all}
+use Rattle.cbor_standing.specs.declared.step.Out.TheVariants as outs
 use Rattle.cbor_standing.proofs.Standing.{answered, fit-sound, step-from}
+use Rattle.cbor_standing.{specs.MachineView.MachineView, specs.Steps.Ran, proofs.NextEvents.all-used, proofs.NextEvents.wants-all}
 use Rattle.cbor_machine.proofs.machine.Machine.take_whole.Goals as goal
 
 pub returns-clause-answers : goal.returns-clause-answers

@@ -1,7 +1,6 @@
-use Rattle.std.proofs.Common.{arith, get_or}
-use Rattle.std.proofs.lemmas.Grind.{common_steps}
-use Rattle.cbor_machine.proofs.SavedFrames.{read-on}
+use Rattle.std.proofs.{Common.arith, Common.get_or, lemmas.Grind.common_steps}
 use Rattle.cbor_machine.proofs.machine.codes.open_frames.Goals as goal
+use Rattle.cbor_machine.proofs.SavedFrames.{read-on}
 
 pub loop-i-preserved : goal.loop-i-preserved
 loop-i-preserved c = record {

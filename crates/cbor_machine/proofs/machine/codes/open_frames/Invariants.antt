@@ -1,6 +1,6 @@
 use Rattle.std.proofs.Common.{◌≡◌, length, take}
-use Rattle.cbor_machine.specs.inner.Saved.{frames_by}
 use Rattle.cbor_machine.proofs.machine.codes.open_frames.Given as goal
+use Rattle.cbor_machine.specs.inner.Saved.{frames_by}
 
 abbrev pub invariant-loop-i : goal.invariant-loop-i
 invariant-loop-i l = record { frames : l.nest ≡ frames_by (take l.i l.lefts) (take l.i l.kinds); count : length l.nest ≡ l.i }

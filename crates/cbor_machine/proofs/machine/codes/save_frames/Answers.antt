@@ -1,7 +1,6 @@
-use Rattle.std.proofs.Common.{arith}
-use Rattle.std.proofs.lemmas.Grind.{common_steps}
-use Rattle.cbor_machine.proofs.SavedFrames.{written}
+use Rattle.std.proofs.{Common.arith, lemmas.Grind.common_steps}
 use Rattle.cbor_machine.proofs.machine.codes.save_frames.Goals as goal
+use Rattle.cbor_machine.proofs.SavedFrames.{written}
 
 pub loop-i-preserved : goal.loop-i-preserved
 loop-i-preserved c = record {

@@ -1,6 +1,6 @@
 use Rattle.std.proofs.Common.{◌≡◌, take, drop}
-use Rattle.cbor_machine.specs.inner.Saved.{frames_by}
 use Rattle.cbor_machine.proofs.machine.codes.save_frames.Given as goal
+use Rattle.cbor_machine.specs.inner.Saved.{frames_by}
 
 abbrev pub invariant-loop-i : goal.invariant-loop-i
 invariant-loop-i l = record {

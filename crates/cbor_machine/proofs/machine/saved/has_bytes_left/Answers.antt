@@ -1,6 +1,6 @@
 use Rattle.std.proofs.Common.{◌≤◌, arith}
-use Rattle.cbor_machine.proofs.Saved.{no-room}
 use Rattle.cbor_machine.proofs.machine.saved.has_bytes_left.Goals as goal
+use Rattle.cbor_machine.proofs.Saved.{no-room}
 
 pub returns-in_default : goal.returns-in_default
 returns-in_default c =

@@ -1,7 +1,7 @@
 use Rattle.std.proofs.Common.{sym, subst, List, ℕ, ◌<◌, ◌≤◌, length}
 use Rattle.std.proofs.lemmas.Result.{IfOk-weaker}
-use Rattle.cbor_plain.proofs.HeldKeys.{adds-short, adds-long}
 use Rattle.cbor_plain.proofs.key_set.KeySet.add.Goals as goal
+use Rattle.cbor_plain.proofs.HeldKeys.{adds-short, adds-long}
 
 pub returns-in-Ok : goal.returns-in-Ok
 returns-in-Ok c = λ ks h.

@@ -1,8 +1,8 @@
 use Rattle.std.proofs.Common.{◌≡◌, ℕ, List}
 use Rattle.cbor_head.specs.Prelude.{Bounds}
 use Rattle.cbor_standing.specs.NextEvent.{ItemEventsView}
-use Rattle.cbor_plain.specs.inner.PlainItems.{IsEndingAt}
 use Rattle.cbor_plain.proofs.plain_items.PlainItems.end_full.Given as goal
+use Rattle.cbor_plain.specs.inner.PlainItems.{IsEndingAt}
 
 abbrev pub invariant-full : goal.invariant-full
 invariant-full l = (l.self.starts ≡ l.fn.self.starts)

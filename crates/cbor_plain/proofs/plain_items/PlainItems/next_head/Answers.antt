@@ -1,11 +1,10 @@
 use Rattle.std.proofs.Common.{◌≡◌, ◌∙◌, false, true, map, refl, sym, subst}
 use Rattle.cbor_head.specs.declared.keys.Keys.TheVariants.{Any, IntegersAndTexts}
 use Rattle.cbor_builder.specs.Built.{IsKeyDue}
-use Rattle.cbor_judging.specs.Levels.{frame}
-use Rattle.cbor_judging.specs.Place.{at_item}
+use Rattle.cbor_judging.specs.{Levels.frame, Place.at_item}
 use Rattle.cbor_plain.proofs.KeysAsked.{due-unasked, due-asked, stopped-asked, never-ended}
-use Rattle.cbor_plain.proofs.PartKinds.{due-opens}
 use Rattle.cbor_plain.proofs.plain_items.PlainItems.next_head.Goals as goal
+use Rattle.cbor_plain.proofs.PartKinds.{due-opens}
 
 pub next_head-requires : goal.next_head-requires
 next_head-requires g c = let s = c.requires in record { b = s.b; q = at_item (map frame s.due.ls); due = tt; t = s.t; at = s.due.at }

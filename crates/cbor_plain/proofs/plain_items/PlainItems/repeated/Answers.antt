@@ -1,8 +1,8 @@
 use Rattle.std.proofs.Common.{ℕ, ◌∷◌, ◌∙◌, List, Option, slice_get, unwrap_or, ap, arith, subst, reverse}
 use Rattle.std.proofs.lemmas.Option.{get_or_from_slice_get}
-use Rattle.cbor_plain.specs.inner.HeldKeys.{IsAdded}
 use Rattle.cbor_plain.proofs.HeldKeys.{none-waits, keys_at_top, top-held, fresh-key, old-key}
 use Rattle.cbor_plain.proofs.plain_items.PlainItems.repeated.Goals as goal
+use Rattle.cbor_plain.specs.inner.HeldKeys.{IsAdded}
 
 pub returns-in_default-clause-answers : goal.returns-in_default-clause-answers
 returns-in_default-clause-answers c = λ h. let s = c.args.self.now in none-waits (s.keys ∷ reverse s.outer.items) s.builder.standing c.in_default.ensures h

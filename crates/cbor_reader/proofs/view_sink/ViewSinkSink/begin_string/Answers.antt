@@ -1,6 +1,6 @@
 use Rattle.std.proofs.Common.{refl}
-use Rattle.cbor_reader.proofs.ViewGiven.{begun}
 use Rattle.cbor_reader.proofs.view_sink.ViewSinkSink.begin_string.Goals as goal
+use Rattle.cbor_reader.proofs.ViewGiven.{begun}
 
 pub returns : goal.returns
 returns c =

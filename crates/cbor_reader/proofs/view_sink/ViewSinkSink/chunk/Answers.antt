@@ -1,7 +1,6 @@
-use Rattle.std.proofs.Common.{take, refl}
-use Rattle.std.proofs.lemmas.Result.{on_ok_weaker}
-use Rattle.cbor_reader.proofs.ViewGiven.{grown}
+use Rattle.std.proofs.{Common.take, Common.refl, lemmas.Result.on_ok_weaker}
 use Rattle.cbor_reader.proofs.view_sink.ViewSinkSink.chunk.Goals as goal
+use Rattle.cbor_reader.proofs.ViewGiven.{grown}
 
 pub returns : goal.returns
 returns c =

@@ -1,8 +1,7 @@
 use Rattle.std.proofs.Common.{ap, subst, false, IfSome}
 use Rattle.std.specs.Option.{is_some}
-use Rattle.cbor_sinks.specs.KeyBytes.{keys_stand}
-use Rattle.cbor_sinks.specs.declared.key_bytes.KeyBytes.{KeyBytes}
 use Rattle.cbor_walk.specs.Sink.{Repeats}
+use Rattle.cbor_sinks.specs.{KeyBytes.keys_stand, declared.key_bytes.KeyBytes.KeyBytes}
 use Rattle.cbor_reader.proofs.ViewGiven.{keys-end, views-end, ended, repeats}
 use Rattle.cbor_reader.proofs.view_sink.ViewSinkSink.end.Goals as goal
 

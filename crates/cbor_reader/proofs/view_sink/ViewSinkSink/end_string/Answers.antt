@@ -1,10 +1,9 @@
 use Rattle.std.proofs.Common.{ℕ, Bool, List, length, ◌∙◌, ap₂, sym, subst, arith, IsUtf8, take_all}
 use Rattle.cbor_item.specs.OpenValues.{give}
-use Rattle.cbor_judging.specs.Reading.{string_value}
 use Rattle.cbor_view.specs.Seen.{standing}
-use Rattle.cbor_sinks.specs.KeyBytes.{keys_stand}
+use Rattle.cbor_judging.specs.Reading.{string_value}
 use Rattle.cbor_walk.specs.Sink.{Gives}
-use Rattle.cbor_sinks.specs.declared.key_bytes.KeyBytes.{KeyBytes}
+use Rattle.cbor_sinks.specs.{KeyBytes.keys_stand, declared.key_bytes.KeyBytes.KeyBytes}
 use Rattle.cbor_reader.proofs.ViewGiven.{due, takes, utf8-due, whole-due, string-ended}
 use Rattle.cbor_reader.proofs.view_sink.ViewSinkSink.end_string.Goals as goal
 

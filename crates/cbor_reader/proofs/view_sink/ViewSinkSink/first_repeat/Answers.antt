@@ -1,7 +1,6 @@
-use Rattle.std.proofs.Common.{refl}
-use Rattle.std.proofs.lemmas.Option.{IfSome_then}
-use Rattle.cbor_reader.proofs.ViewGiven.{no-repeat, repeat-found}
+use Rattle.std.proofs.{Common.refl, lemmas.Option.IfSome_then}
 use Rattle.cbor_reader.proofs.view_sink.ViewSinkSink.first_repeat.Goals as goal
+use Rattle.cbor_reader.proofs.ViewGiven.{no-repeat, repeat-found}
 
 pub returns : goal.returns
 returns c = record {

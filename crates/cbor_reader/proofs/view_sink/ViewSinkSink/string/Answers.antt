@@ -1,8 +1,8 @@
 use Rattle.std.proofs.Common.{◌∙◌, ap, take}
 use Rattle.cbor_head.specs.Prelude.{Value}
 use Rattle.cbor_item.specs.OpenValues.{give}
-use Rattle.cbor_judging.specs.Reading.{string_value}
 use Rattle.cbor_view.specs.Seen.{standing}
+use Rattle.cbor_judging.specs.Reading.{string_value}
 use Rattle.cbor_reader.proofs.ViewGiven.{due, takes, given}
 use Rattle.cbor_reader.proofs.view_sink.ViewSinkSink.string.Goals as goal
 

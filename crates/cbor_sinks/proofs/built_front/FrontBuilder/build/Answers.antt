@@ -1,6 +1,5 @@
 use Rattle.std.proofs.Common.{◌∙◌, [], ◌∷◌, refl, ap}
-use Rattle.cbor_head.specs.Prelude.{canonical, value_of}
-use Rattle.cbor_head.specs.declared.order.KeyOrder.{KeyOrder}
+use Rattle.cbor_head.specs.{Prelude.canonical, Prelude.value_of, declared.order.KeyOrder.KeyOrder}
 use Rattle.cbor_canonical.specs.Parts.{plain}
 use Rattle.cbor_walk.proofs.FrontStops.{told_at_front}
 use Rattle.cbor_sinks.proofs.built_front.FrontBuilder.build.Goals as goal

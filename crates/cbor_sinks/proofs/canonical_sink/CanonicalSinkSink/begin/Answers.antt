@@ -1,5 +1,5 @@
-use Rattle.cbor_sinks.proofs.CanonGiven.{takes, opened}
 use Rattle.cbor_sinks.proofs.canonical_sink.CanonicalSinkSink.begin.Goals as goal
+use Rattle.cbor_sinks.proofs.CanonGiven.{takes, opened}
 
 pub begin-requires-clause-takes : goal.begin-requires-clause-takes
 begin-requires-clause-takes c = takes c.args._is_key c.args.self.now c.requires.due

@@ -1,7 +1,6 @@
-use Rattle.cbor_sinks.specs.declared.canonical_sink.CanonicalSink.{CanonicalSink}
 use Rattle.cbor_sinks.proofs.CanonGiven.{in-container, ends-if, repeats-if}
-use Rattle.cbor_sinks.proofs.RepeatsTold.{canon-repeats}
 use Rattle.cbor_sinks.proofs.canonical_sink.CanonicalSinkSink.end.Goals as goal
+use Rattle.cbor_sinks.{specs.declared.canonical_sink.CanonicalSink.CanonicalSink, proofs.RepeatsTold.canon-repeats}
 
 pub end_if_distinct-requires : goal.end_if_distinct-requires
 end_if_distinct-requires c = record { container = in-container c.args._is_map c.args.self.now c.requires.full }

@@ -1,5 +1,5 @@
-use Rattle.cbor_sinks.proofs.CanonGiven.{in-string, string-ended}
 use Rattle.cbor_sinks.proofs.canonical_sink.CanonicalSinkSink.end_string.Goals as goal
+use Rattle.cbor_sinks.proofs.CanonGiven.{in-string, string-ended}
 
 pub end_string-requires : goal.end_string-requires
 end_string-requires c = record { string = in-string c.args._is_key c.args._is_text c.args.self.now c.requires.due }

@@ -1,6 +1,6 @@
 use Rattle.cbor_sinks.proofs.CanonGiven.{none-told, one-told, no-repeat}
-use Rattle.cbor_sinks.proofs.RepeatsTold.{canon-finds}
 use Rattle.cbor_sinks.proofs.canonical_sink.CanonicalSinkSink.first_repeat.Goals as goal
+use Rattle.cbor_sinks.proofs.RepeatsTold.{canon-finds}
 
 pub returns : goal.returns
 returns c = record {

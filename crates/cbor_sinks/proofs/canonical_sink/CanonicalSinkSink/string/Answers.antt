@@ -1,6 +1,5 @@
 use Rattle.std.proofs.Common.{◌++◌, ◌∙◌, take, sym, ap₂, ℕ, length-take-le}
-use Rattle.cbor_head.specs.Prelude.{shortest_head}
-use Rattle.cbor_head.specs.declared.major.Major.{Major}
+use Rattle.cbor_head.specs.{Prelude.shortest_head, declared.major.Major.Major}
 use Rattle.cbor_sinks.proofs.CanonGiven.{takes, given, string-bytes}
 use Rattle.cbor_sinks.proofs.canonical_sink.CanonicalSinkSink.string.Goals as goal
 

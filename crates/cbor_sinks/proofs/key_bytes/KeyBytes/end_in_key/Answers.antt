@@ -1,11 +1,10 @@
 use Rattle.std.proofs.Common.{◌∙◌, ℕ, suc, ◌-◌, ◌≡◌, sym, ap, subst, inl, arith, IfSome}
 use Rattle.std.specs.Option.{is_some}
-use Rattle.cbor_builder.specs.Built.{Built, built, IsRepeatTold}
 use Rattle.cbor_canonical.specs.Parts.{close}
-use Rattle.cbor_sinks.specs.KeyBytes.{behind_item}
+use Rattle.cbor_builder.specs.Built.{Built, built, IsRepeatTold}
 use Rattle.cbor_sinks.proofs.KeysGiven.{in-container, end-takes, ended-inner}
-use Rattle.cbor_sinks.proofs.RepeatsTold.{keys-repeat}
 use Rattle.cbor_sinks.proofs.key_bytes.KeyBytes.end_in_key.Goals as goal
+use Rattle.cbor_sinks.{specs.KeyBytes.behind_item, proofs.RepeatsTold.keys-repeat}
 
 pub end_if_distinct-requires : goal.end_if_distinct-requires
 end_if_distinct-requires c = record { container = in-container c.args.is_map c.args.self.now c.requires.full (inl c.requires.inside) }

@@ -1,6 +1,6 @@
 use Rattle.std.proofs.Common.{arith}
-use Rattle.cbor_sinks.proofs.KeysGiven.{takes, few}
 use Rattle.cbor_sinks.proofs.key_bytes.KeyBytesSink.begin.Goals as goal
+use Rattle.cbor_sinks.proofs.KeysGiven.{takes, few}
 
 pub begin-requires-clause-takes : goal.begin-requires-clause-takes
 begin-requires-clause-takes c = takes c.args.is_key c.args.self.now c.requires.due

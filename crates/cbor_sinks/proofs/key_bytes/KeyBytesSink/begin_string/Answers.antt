@@ -1,10 +1,9 @@
 use Rattle.std.proofs.Common.{◌∙◌, ◌∷◌, refl, sym, ap}
-use Rattle.cbor_builder.specs.Built.{built}
-use Rattle.cbor_canonical.specs.Parts.{opened}
 use Rattle.cbor_head.specs.declared.major.Major.{Major}
-use Rattle.cbor_sinks.proofs.KeysGiven.{takes}
-use Rattle.cbor_sinks.proofs.KeyStrings.{begins-kept, begins-left}
+use Rattle.cbor_canonical.specs.Parts.{opened}
+use Rattle.cbor_builder.specs.Built.{built}
 use Rattle.cbor_sinks.proofs.key_bytes.KeyBytesSink.begin_string.Goals as goal
+use Rattle.cbor_sinks.proofs.{KeysGiven.takes, KeyStrings.begins-kept, KeyStrings.begins-left}
 
 pub begin_string-requires-clause-takes : goal.begin_string-requires-clause-takes
 begin_string-requires-clause-takes c = takes c.args.is_key c.args.self.now c.requires.due

@@ -1,8 +1,7 @@
 use Rattle.std.proofs.Common.{refl, inr}
-use Rattle.cbor_sinks.proofs.CanonGiven.{repeats-if}
 use Rattle.cbor_sinks.proofs.KeysGiven.{in-container, map-ends, ended-other}
-use Rattle.cbor_sinks.proofs.RepeatsTold.{keys-repeat}
 use Rattle.cbor_sinks.proofs.key_bytes.KeyBytesSink.end.Goals as goal
+use Rattle.cbor_sinks.proofs.{CanonGiven.repeats-if, RepeatsTold.keys-repeat}
 
 pub give_up_if_distinct-requires : goal.give_up_if_distinct-requires
 give_up_if_distinct-requires c = record { container = in-container c.args.is_map c.args.self.now c.requires.full (inr c.if-is_map.true) }

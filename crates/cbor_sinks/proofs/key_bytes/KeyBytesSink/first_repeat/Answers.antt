@@ -1,7 +1,5 @@
-use Rattle.cbor_sinks.proofs.CanonGiven.{none-told, one-told}
-use Rattle.cbor_sinks.proofs.KeysApart.{no-repeat}
-use Rattle.cbor_sinks.proofs.RepeatsTold.{keys-find}
 use Rattle.cbor_sinks.proofs.key_bytes.KeyBytesSink.first_repeat.Goals as goal
+use Rattle.cbor_sinks.proofs.{CanonGiven.none-told, CanonGiven.one-told, KeysApart.no-repeat, RepeatsTold.keys-find}
 
 pub returns : goal.returns
 returns c = record {

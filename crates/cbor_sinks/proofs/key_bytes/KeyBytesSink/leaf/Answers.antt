@@ -1,8 +1,8 @@
 use Rattle.std.proofs.Common.{◌∙◌, sym}
 use Rattle.cbor_walk.specs.Sink.{leaf_value}
-use Rattle.cbor_sinks.proofs.CanonGiven.{leaf-bytes}
 use Rattle.cbor_sinks.proofs.KeysGiven.{takes, key-takes, given-kept, given-left}
 use Rattle.cbor_sinks.proofs.key_bytes.KeyBytesSink.leaf.Goals as goal
+use Rattle.cbor_sinks.proofs.CanonGiven.{leaf-bytes}
 
 pub leaf-requires-clause-takes : goal.leaf-requires-clause-takes
 leaf-requires-clause-takes c = takes c.args.is_key c.args.self.now c.requires.due

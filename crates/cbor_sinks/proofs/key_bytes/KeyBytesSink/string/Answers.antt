@@ -1,14 +1,11 @@
 use Rattle.std.proofs.Common.{◌≡◌, ◌∙◌, ◌++◌, ℕ, take, sym, ap, length-take-le}
-use Rattle.cbor_builder.specs.Built.{built}
+use Rattle.cbor_head.specs.{Prelude.canonical, Prelude.shortest_head, declared.major.Major.Major, declared.order.KeyOrder.KeyOrder}
 use Rattle.cbor_canonical.specs.Parts.{give}
-use Rattle.cbor_head.specs.Prelude.{canonical, shortest_head}
-use Rattle.cbor_head.specs.declared.major.Major.{Major}
-use Rattle.cbor_head.specs.declared.order.KeyOrder.{KeyOrder}
+use Rattle.cbor_builder.specs.Built.{built}
 use Rattle.cbor_judging.specs.Reading.{string_major, string_value}
-use Rattle.cbor_sinks.proofs.CanonGiven.{string-bytes}
 use Rattle.cbor_sinks.proofs.KeysGiven.{takes, key-takes, given-kept, given-left}
 use Rattle.cbor_sinks.proofs.key_bytes.KeyBytesSink.string.Goals as goal
-use Rattle.cbor_sinks.proofs.key_bytes.KeyBytesSink.string.Goals.{Start}
+use Rattle.cbor_sinks.proofs.{CanonGiven.string-bytes, key_bytes.KeyBytesSink.string.Goals.Start}
 
 bytes : (c : Start) (o : KeyOrder) → canonical o (string_value c.args.is_text (take c.args.count c.args.front.now)) ≡ shortest_head (string_major c.args.is_text) c.args.count ++ take c.args.count c.args.front.now
 bytes c o =

@@ -1,9 +1,8 @@
 use Rattle.std.proofs.Common.{sym, ap, ◌∙◌}
 use Rattle.cbor_automaton.specs.Automaton.{close}
-use Rattle.cbor_steps.specs.State.{frame_of, frames_of}
 use Rattle.cbor_steps.specs.Nest.{level_frame, joined, advanced}
-use Rattle.cbor_steps.proofs.Nests.{goes-on}
 use Rattle.cbor_steps.proofs.nest.Nest.complete.Goals as goal
+use Rattle.cbor_steps.{specs.State.frame_of, specs.State.frames_of, proofs.Nests.goes-on}
 
 pub returns-then-advance-clause-state : goal.returns-then-advance-clause-state
 returns-then-advance-clause-state c =

@@ -1,8 +1,8 @@
 use Rattle.std.proofs.Common.{◌<◌, sym, ap, ◌∙◌, arith}
-use Rattle.cbor_steps.specs.State.{frame_of}
 use Rattle.cbor_steps.specs.Nest.{level_frame, joined, advanced}
 use Rattle.cbor_steps.proofs.Nests.{goes-on, popped-to, full-closes}
 use Rattle.cbor_steps.proofs.nest.Nest.complete_levels.Goals as goal
+use Rattle.cbor_steps.specs.State.{frame_of}
 
 pub invariant_of-self : goal.invariant_of-self
 invariant_of-self c = record {

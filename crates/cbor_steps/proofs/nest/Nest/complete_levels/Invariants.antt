@@ -1,8 +1,8 @@
 use Rattle.std.proofs.Common.{◌≡◌, ◌≤◌, length}
 use Rattle.cbor_automaton.specs.Automaton.{close}
-use Rattle.cbor_steps.specs.State.{frames_of}
 use Rattle.cbor_steps.specs.Nest.{joined, nested, IsNest}
 use Rattle.cbor_steps.proofs.nest.Nest.complete_levels.Given as goal
+use Rattle.cbor_steps.specs.State.{frames_of}
 
 abbrev pub invariant-levels : goal.invariant-levels
 invariant-levels l = record {

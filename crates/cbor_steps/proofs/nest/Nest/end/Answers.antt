@@ -1,9 +1,7 @@
 use Rattle.std.proofs.Common.{sym, ap, ◌∙◌, arith}
 use Rattle.cbor_automaton.specs.Automaton.{break_at}
-use Rattle.cbor_steps.specs.State.{frames_of}
-use Rattle.cbor_steps.specs.Nest.{joined}
-use Rattle.cbor_steps.proofs.Nests.{ends-here}
 use Rattle.cbor_steps.proofs.nest.Nest.end.Goals as goal
+use Rattle.cbor_steps.{specs.State.frames_of, specs.Nest.joined, proofs.Nests.ends-here}
 
 pub returns-clause-ends : goal.returns-clause-ends
 returns-clause-ends c = λ byte.

@@ -1,7 +1,6 @@
 use Rattle.std.proofs.Common.{Some, length, ap, ◌∙◌, sym, arith, slice_get}
-use Rattle.cbor_steps.specs.Nest.{joined}
-use Rattle.cbor_steps.proofs.Nests.{nested-length, frame-innermost}
 use Rattle.cbor_steps.proofs.nest.Nest.frame.Goals as goal
+use Rattle.cbor_steps.{specs.Nest.joined, proofs.Nests.nested-length, proofs.Nests.frame-innermost}
 
 pub returns-else-len-place : goal.returns-else-len-place
 returns-else-len-place c =

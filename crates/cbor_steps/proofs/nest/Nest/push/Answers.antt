@@ -1,7 +1,7 @@
 use Rattle.std.proofs.Common.{◌++◌, ◌∷◌, [], length, ap, ◌∙◌, arith}
-use Rattle.cbor_steps.specs.Nest.{joined, due_frame}
 use Rattle.cbor_steps.proofs.Nests.{nested-length, pushed, pushed-nest}
 use Rattle.cbor_steps.proofs.nest.Nest.push.Goals as goal
+use Rattle.cbor_steps.specs.Nest.{joined, due_frame}
 
 pub invariant_of-self : goal.invariant_of-self
 invariant_of-self c =

@@ -1,7 +1,7 @@
 use Rattle.std.proofs.Common.{arith}
-use Rattle.cbor_strict.specs.inner.LastKeys.{seen}
 use Rattle.cbor_strict.proofs.KeptEnds.{none_shut, one_shut, all_shut}
 use Rattle.cbor_strict.proofs.last_keys.LastKeys.close.Goals as goal
+use Rattle.cbor_strict.specs.inner.LastKeys.{seen}
 
 pub loop-self-init : goal.loop-self-init
 loop-self-init c = λ fs s h d e. none_shut (seen c.args.self.now) fs s h d

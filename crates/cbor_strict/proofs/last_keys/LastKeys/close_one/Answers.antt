@@ -1,8 +1,7 @@
 use Rattle.std.proofs.Common.{arith}
-use Rattle.cbor_strict.specs.inner.LastKeys.{seen}
-use Rattle.cbor_strict.proofs.KeptKeys.{none_open}
 use Rattle.cbor_strict.proofs.KeptEnds.{closes_other, closes_map_in, closes_map_out}
 use Rattle.cbor_strict.proofs.last_keys.LastKeys.close_one.Goals as goal
+use Rattle.cbor_strict.{specs.inner.LastKeys.seen, proofs.KeptKeys.none_open}
 
 pub returns-in-Member : goal.returns-in-Member
 returns-in-Member c = record { fewer = λ some. omega (arith, c.in-Some.ensures.len); closed = λ f fs s full h. closes_other (seen c.args.self.now) f fs s c.pop.new.self.items c.in-Some.due full h c.in-Some.ensures.items c.in-Member.is }

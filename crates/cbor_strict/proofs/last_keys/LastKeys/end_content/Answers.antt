@@ -1,7 +1,6 @@
 use Rattle.std.proofs.Common.{◌∙◌}
-use Rattle.cbor_strict.specs.inner.LastKeys.{seen}
-use Rattle.cbor_strict.proofs.KeptPairs.{content_ends}
 use Rattle.cbor_strict.proofs.last_keys.LastKeys.end_content.Goals as goal
+use Rattle.cbor_strict.{specs.inner.LastKeys.seen, proofs.KeptPairs.content_ends}
 
 pub returns : goal.returns
 returns c = λ w a k s l m b fs h.

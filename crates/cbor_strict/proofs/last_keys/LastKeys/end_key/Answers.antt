@@ -1,15 +1,12 @@
 use Rattle.std.proofs.Common.{◌≡◌, ◌<◌, ◌+◌, ◌-◌, ℕ, zero, suc, List, [], ◌∷◌, ◌++◌, length, take, drop, IsTrue, ◌∙◌, true≢false, refl, sym, ap, subst, arith, take-append-drop, slice_index_or}
 use Rattle.cbor_head.specs.Prelude.{key_lt, Spelling, SpelledEntries, spell}
-use Rattle.cbor_head.specs.declared.order.KeyOrder.{KeyOrder}
-use Rattle.cbor_head.specs.declared.width.Width.{Width}
-use Rattle.cbor_strict.specs.declared.last_keys.Span.{Span}
+use Rattle.cbor_head.specs.declared.{order.KeyOrder.KeyOrder, width.Width.Width}
 use Rattle.cbor_judging.specs.Frame.{Frame, a_key, a_content}
-use Rattle.cbor_judging.specs.LastKey.{last_key}
-use Rattle.cbor_judging.proofs.LastKey.{nothing-below}
+use Rattle.cbor_judging.{specs.LastKey.last_key, proofs.LastKey.nothing-below}
 use Rattle.cbor_strict.specs.inner.LastKeys.{KeysView, IsKept, seen, with_key}
-use Rattle.cbor_strict.proofs.KeptKeys.{none_open}
 use Rattle.cbor_strict.proofs.KeptPairs.{key_bounds, key_compared, key_put_in, key_put_out, ended_bounds}
 use Rattle.cbor_strict.proofs.last_keys.LastKeys.end_key.Goals as goal
+use Rattle.cbor_strict.{specs.declared.last_keys.Span.Span, proofs.KeptKeys.none_open}
 
 pub rises-requires-clause-last : goal.rises-requires-clause-last
 rises-requires-clause-last c =

@@ -1,21 +1,14 @@
 use Rattle.std.proofs.Common.{ℕ, ◌++◌, List, refl, sym, subst, inl}
-use Rattle.cbor_head.specs.Prelude.{strict}
-use Rattle.cbor_head.specs.declared.order.KeyOrder.{KeyOrder}
-use Rattle.cbor_head.specs.declared.reason.Reason.{Reason}
-use Rattle.cbor_head.specs.declared.width.Width.{Width}
+use Rattle.cbor_head.specs.{Prelude.strict, declared.order.KeyOrder.KeyOrder, declared.reason.Reason.Reason, declared.width.Width.Width}
 use Rattle.cbor_head.specs.declared.width.Width.TheVariants.{Direct, Indefinite}
 use Rattle.cbor_automaton.specs.Trace.{Mark, a_head, a_chunk}
-use Rattle.cbor_automaton.specs.Marks.{mark_of, count_of}
-use Rattle.cbor_automaton.specs.declared.event.EventKind.{EventKind}
 use Rattle.cbor_automaton.specs.declared.event.EventKind.TheVariants as kinds
-use Rattle.cbor_judging.specs.Refusals.{IsComplaintReason}
-use Rattle.cbor_strict.specs.StrictReader.{IsAgainstEvent}
-use Rattle.cbor_strict.specs.inner.OpenItems.{Answers, frames_in}
+use Rattle.cbor_automaton.specs.{Marks.mark_of, Marks.count_of, declared.event.EventKind.EventKind}
 use Rattle.cbor_judging.specs.Place.{Container, Place, at_item, IsTaking}
-use Rattle.cbor_judging.specs.Reading.{IsHeadFault, IsFault}
-use Rattle.cbor_judging.proofs.Arguments.{direct-is}
+use Rattle.cbor_judging.{specs.Refusals.IsComplaintReason, specs.Reading.IsHeadFault, specs.Reading.IsFault, proofs.Arguments.direct-is}
 use Rattle.cbor_strict.proofs.OpenHeads.{refused_head, begun_in, begun_no_memory, begun_kept}
 use Rattle.cbor_strict.proofs.open_items.OpenItems.admit_head.Goals as goal
+use Rattle.cbor_strict.specs.{StrictReader.IsAgainstEvent, inner.OpenItems.Answers, inner.OpenItems.frames_in}
 
 -- what the rules have against a head is a complaint
 head_reason : (o : KeyOrder) (w : Width) (n : ℕ) (reason : Reason) → IsHeadFault w n reason → IsComplaintReason (strict o) reason

@@ -1,9 +1,9 @@
 use Rattle.std.proofs.Common.{◌≡◌, ◌++◌, ◌∙◌, subst, sym, arith}
 use Rattle.std.proofs.lemmas.Str.{utf8_valid_len_le}
 use Rattle.cbor_head.specs.Prelude.{strict}
-use Rattle.cbor_strict.specs.inner.OpenItems.{Answers}
 use Rattle.cbor_strict.proofs.OpenPieces.{part_no_memory, part_goes_on, part_ends, part_no_text, part_room}
 use Rattle.cbor_strict.proofs.open_items.OpenItems.admit_piece.Goals as goal
+use Rattle.cbor_strict.specs.inner.OpenItems.{Answers}
 
 pub returns-in-Err-clause-answers : goal.returns-in-Err-clause-answers
 returns-in-Err-clause-answers c = λ b old t e h n m to. part_no_memory c.args.self.now b old t c.args.piece.now e h _ c.args.taken to m c.at.ensures

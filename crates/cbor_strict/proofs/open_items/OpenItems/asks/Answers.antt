@@ -1,7 +1,6 @@
 use Rattle.std.proofs.Common.{refl}
-use Rattle.cbor_strict.specs.inner.LastKeys.{seen}
-use Rattle.cbor_strict.proofs.StrictKinds.{key_top}
 use Rattle.cbor_strict.proofs.open_items.OpenItems.asks.Goals as goal
+use Rattle.cbor_strict.{specs.inner.LastKeys.seen, proofs.StrictKinds.key_top}
 
 pub returns-in-Key-clause-due : goal.returns-in-Key-clause-due
 returns-in-Key-clause-due c = λ fs p k none.

@@ -1,7 +1,6 @@
-use Rattle.cbor_strict.proofs.OpenItems.{Closing, has_closed, few_keys, key_has_ended, behind_member, behind_content, behind_key, refused_key}
 use Rattle.std.proofs.Common.{refl}
-use Rattle.cbor_head.specs.Prelude.{refusal}
-use Rattle.cbor_head.specs.declared.reason.Reason.TheVariants.{KeyOrder}
+use Rattle.cbor_head.specs.{Prelude.refusal, declared.reason.Reason.TheVariants.KeyOrder}
+use Rattle.cbor_strict.proofs.OpenItems.{Closing, has_closed, few_keys, key_has_ended, behind_member, behind_content, behind_key, refused_key}
 use Rattle.cbor_strict.proofs.open_items.OpenItems.end_item.Goals as goal
 
 pub end_content-requires : goal.end_content-requires

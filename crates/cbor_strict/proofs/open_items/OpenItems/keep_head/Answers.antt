@@ -1,9 +1,8 @@
 use Rattle.std.proofs.Common.{[], sym, subst, OnOk, ◌∙◌}
 use Rattle.cbor_head.proofs.Least.{one_byte}
-use Rattle.cbor_strict.proofs.KeptKeys.{keeps_none, none_open}
-use Rattle.cbor_strict.specs.inner.LastKeys.{IsKept, seen}
-use Rattle.cbor_strict.specs.inner.OpenItems.{short_head}
 use Rattle.cbor_strict.proofs.open_items.OpenItems.keep_head.Goals as goal
+use Rattle.cbor_strict.{proofs.KeptKeys.keeps_none, proofs.KeptKeys.none_open, specs.inner.LastKeys.IsKept, specs.inner.LastKeys.seen}
+use Rattle.cbor_strict.specs.inner.OpenItems.{short_head}
 
 pub returns-then-not-is_inside-clause-kept : goal.returns-then-not-is_inside-clause-kept
 returns-then-not-is_inside-clause-kept c = λ fs h. keeps_none (seen c.args.self.now.keys) fs [] (short_head c.args.kind.now) h (none_open c.args.self.now.keys.open_keys c.is_inside.result c.is_inside.ensures c.if-not-is_inside.true)

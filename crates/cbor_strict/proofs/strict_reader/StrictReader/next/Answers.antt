@@ -3,9 +3,9 @@ use Rattle.cbor_head.specs.Prelude.{strict}
 use Rattle.cbor_standing.specs.Machine.{KeepsLimits}
 use Rattle.cbor_judging.specs.Refusals.{IsReaderReason}
 use Rattle.cbor_strict.specs.StrictReader.{StrictReaderView, StandsStrictly, IsNextStrict, IsStrictRefusal, limits_of, strict_call}
-use Rattle.cbor_strict.specs.inner.StrictEvents.{bounds_of}
 use Rattle.cbor_strict.proofs.StrictReading.{next_told, next_refused, stands_next, refused_reason, somewhere_little, shown}
 use Rattle.cbor_strict.proofs.strict_reader.StrictReader.next.Goals as goal
+use Rattle.cbor_strict.specs.inner.StrictEvents.{bounds_of}
 
 pub returns-in-Some-clause-limits : goal.returns-in-Some-clause-limits
 returns-in-Some-clause-limits g c = subst (λ (v : StrictReaderView g.row.R.Denot). KeepsLimits v.events.machine v.events.machine) c.self.view_is

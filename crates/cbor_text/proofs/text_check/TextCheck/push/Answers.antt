@@ -1,8 +1,7 @@
 use Rattle.std.proofs.Common.{◌≡◌, ◌+◌, ◌-◌, length, sym, subst, arith, length-append}
-use Rattle.cbor_text.specs.inner.TextCheck.{IsFixed, IsOpen}
-use Rattle.cbor_text.specs.TextCheck.{HasChecked, TextView}
 use Rattle.cbor_text.proofs.TextFronts.{open-more, open-then-fixed, fixed-more}
 use Rattle.cbor_text.proofs.text_check.TextCheck.push.Goals as goal
+use Rattle.cbor_text.specs.{inner.TextCheck.IsFixed, inner.TextCheck.IsOpen, TextCheck.HasChecked, TextCheck.TextView}
 
 -- a fault stays
 pub returns-in_default-clause-checked : goal.returns-in_default-clause-checked

@@ -1,13 +1,9 @@
 use Rattle.std.proofs.Common.{get_or, ap, ◌∙◌, subst, arith}
 use Rattle.cbor_head.specs.Prelude.{IsValid}
-use Rattle.cbor_canonical.proofs.Decided.{was_true, was_false}
-use Rattle.cbor_view.specs.Lookup.{HasValueAt}
-use Rattle.cbor_view.specs.Seen.{seen}
-use Rattle.cbor_view.specs.declared.view.View.TheVariants.{Unsigned}
+use Rattle.cbor_canonical.proofs.{Decided.was_true, Decided.was_false, Lists.valid_at}
 use Rattle.cbor_view.proofs.Lookups.{looked_by, found_by, none_behind}
-use Rattle.cbor_item.proofs.Steps.{valid_at}
-use Rattle.cbor_view.proofs.Views.{seen-Map}
 use Rattle.cbor_view.proofs.view.View.get.Goals as goal
+use Rattle.cbor_view.{specs.Lookup.HasValueAt, specs.Seen.seen, specs.declared.view.View.TheVariants.Unsigned, proofs.Views.seen-Map}
 
 pub same-requires-clause-left : goal.same-requires-clause-left
 same-requires-clause-left c =

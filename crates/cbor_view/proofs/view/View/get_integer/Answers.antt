@@ -1,13 +1,9 @@
 use Rattle.std.proofs.Common.{get_or, sym, ap, ◌∙◌, arith, to_z, of_z, w64}
 use Rattle.std.proofs.lemmas.Int.{to_z-of_z}
 use Rattle.cbor_canonical.proofs.Decided.{was_true, was_false}
-use Rattle.cbor_view.specs.Kinds.{integer}
-use Rattle.cbor_view.specs.Lookup.{HasValueAt}
-use Rattle.cbor_view.specs.Seen.{seen}
-use Rattle.cbor_view.specs.declared.view.View.TheVariants.{Unsigned}
 use Rattle.cbor_view.proofs.Lookups.{looked_by, found_by, none_behind, same_integer}
-use Rattle.cbor_view.proofs.Views.{seen-Map}
 use Rattle.cbor_view.proofs.view.View.get_integer.Goals as goal
+use Rattle.cbor_view.{specs.Kinds.integer, specs.Lookup.HasValueAt, specs.Seen.seen, specs.declared.view.View.TheVariants.Unsigned, proofs.Views.seen-Map}
 
 pub returns-then-is_integer : goal.returns-then-is_integer
 returns-then-is_integer c =

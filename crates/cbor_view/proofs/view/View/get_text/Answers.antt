@@ -1,12 +1,9 @@
 use Rattle.std.proofs.Common.{get_or, ap, ◌∙◌, arith}
 use Rattle.cbor_head.specs.Value.{text}
 use Rattle.cbor_canonical.proofs.Decided.{was_true, was_false}
-use Rattle.cbor_view.specs.Lookup.{HasValueAt}
-use Rattle.cbor_view.specs.Seen.{seen}
-use Rattle.cbor_view.specs.declared.view.View.TheVariants.{Unsigned}
 use Rattle.cbor_view.proofs.Lookups.{looked_by, found_by, none_behind, same_text}
-use Rattle.cbor_view.proofs.Views.{seen-Map}
 use Rattle.cbor_view.proofs.view.View.get_text.Goals as goal
+use Rattle.cbor_view.{specs.Lookup.HasValueAt, specs.Seen.seen, specs.declared.view.View.TheVariants.Unsigned, proofs.Views.seen-Map}
 
 pub returns-then-is_text : goal.returns-then-is_text
 returns-then-is_text c =

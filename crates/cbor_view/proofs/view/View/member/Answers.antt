@@ -1,12 +1,9 @@
 use Rattle.std.proofs.Common.{◌≡◌, sym, ap, ◌∙◌}
 use Rattle.cbor_head.specs.Value as value
 use Rattle.cbor_head.specs.Prelude.{Value}
-use Rattle.cbor_item.specs.View.{values_of}
-use Rattle.cbor_view.specs.Lookup.{member_of}
-use Rattle.cbor_view.specs.Seen.{seen, seen_all}
-use Rattle.cbor_view.proofs.Lookups.{member_read}
-use Rattle.cbor_view.proofs.Views.{seen-Array}
+use Rattle.cbor_canonical.specs.Lists.{values_of}
 use Rattle.cbor_view.proofs.view.View.member.Goals as goal
+use Rattle.cbor_view.{specs.Lookup.member_of, specs.Seen.seen, specs.Seen.seen_all, proofs.Lookups.member_read, proofs.Views.seen-Array}
 
 pub returns-in-Array : goal.returns-in-Array
 returns-in-Array c =

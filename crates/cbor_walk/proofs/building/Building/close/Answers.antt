@@ -1,13 +1,9 @@
 use Rattle.std.proofs.Common.{List, sym, ap, subst, arith, refl, IfSome}
 use Rattle.std.specs.Option.{is_some}
-use Rattle.cbor_front.specs.Stack.{around}
-use Rattle.cbor_front.proofs.Stacks.{standing_count}
-use Rattle.cbor_walk.specs.Sink.{Repeats}
-use Rattle.cbor_walk.specs.declared.open.Open.{Open}
-use Rattle.cbor_walk.specs.inner.Building.{HasEnded}
+use Rattle.cbor_front.{specs.Stack.around, proofs.Stacks.standing_count}
 use Rattle.cbor_walk.proofs.GivenFull.{filled-full, full-asked, full-ended, full-repeats}
-use Rattle.cbor_walk.proofs.GivenEnds.{goes, is-full}
 use Rattle.cbor_walk.proofs.building.Building.close.Goals as goal
+use Rattle.cbor_walk.{specs.Sink.Repeats, specs.declared.open.Open.Open, specs.inner.Building.HasEnded, proofs.GivenEnds.goes, proofs.GivenEnds.is-full}
 
 pub end-requires : goal.end-requires
 end-requires g c =

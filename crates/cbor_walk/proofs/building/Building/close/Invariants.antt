@@ -1,8 +1,7 @@
 use Rattle.std.proofs.Common.{ℕ, ◌≤◌, List, length}
 use Rattle.cbor_front.specs.Stack.{standing}
-use Rattle.cbor_walk.specs.inner.Building.{HasFilled}
-use Rattle.cbor_walk.specs.declared.open.Open.{Open}
 use Rattle.cbor_walk.proofs.building.Building.close.Given as goal
+use Rattle.cbor_walk.specs.{inner.Building.HasFilled, declared.open.Open.Open}
 
 abbrev pub invariant-levels : goal.invariant-levels
 invariant-levels g l =

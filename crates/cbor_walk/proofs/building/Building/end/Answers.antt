@@ -1,8 +1,6 @@
-use Rattle.std.proofs.Common.{ap, refl}
-use Rattle.std.specs.Option.{is_some}
-use Rattle.cbor_walk.proofs.GivenFull.{container-full, has-ended}
-use Rattle.cbor_walk.specs.inner.Building.{IsToEndFor}
+use Rattle.std.{proofs.Common.ap, proofs.Common.refl, specs.Option.is_some}
 use Rattle.cbor_walk.proofs.building.Building.end.Goals as goal
+use Rattle.cbor_walk.{proofs.GivenFull.container-full, proofs.GivenFull.has-ended, specs.inner.Building.IsToEndFor}
 
 pub end-requires : goal.end-requires
 end-requires g c =

@@ -1,10 +1,8 @@
 use Rattle.std.proofs.Common.{ℕ, ◌∷◌, subst, arith, refl}
 use Rattle.cbor_front.specs.Stack.{around, standing}
-use Rattle.cbor_walk.specs.declared.open.Open.{Open}
-use Rattle.cbor_walk.specs.inner.Building.{IsDue}
-use Rattle.cbor_walk.proofs.GivenEnds.{break-ends}
-use Rattle.cbor_walk.proofs.GivenItems.{array-opens, map-opens}
 use Rattle.cbor_walk.proofs.building.Building.endless_part.Goals as goal
+use Rattle.cbor_walk.{specs.declared.open.Open.Open, specs.inner.Building.IsDue, proofs.GivenEnds.break-ends}
+use Rattle.cbor_walk.proofs.GivenItems.{array-opens, map-opens}
 
 pub open-requires : goal.open-requires
 open-requires g c =

@@ -1,9 +1,7 @@
 use Rattle.std.proofs.Common.{◌≡◌, ◌∙◌, ◌-◌, List, ℕ, take, length, refl, ap, subst, arith, length-take}
 use Rattle.cbor_head.specs.Prelude.{spell}
-use Rattle.cbor_walk.specs.inner.Building.{IsBuilt}
-use Rattle.cbor_walk.specs.inner.Kept.{KeepsBefore}
-use Rattle.cbor_walk.proofs.GivenParts.{known-begins, front-given}
 use Rattle.cbor_walk.proofs.building.Building.give_front.Goals as goal
+use Rattle.cbor_walk.{specs.inner.Building.IsBuilt, specs.inner.Kept.KeepsBefore, proofs.GivenParts.known-begins, proofs.GivenParts.front-given}
 
 pub past_front-requires : goal.past_front-requires
 past_front-requires g c = λ n. let most = c.bytes.ensures.most in (

@@ -1,9 +1,7 @@
 use Rattle.std.proofs.Common.{◌∙◌, length, refl}
-use Rattle.cbor_walk.specs.Sink.{leaf_value}
-use Rattle.cbor_walk.proofs.GivenItems.{scalar-head}
-use Rattle.cbor_walk.proofs.GivenKinds.{scalar-begun}
 use Rattle.cbor_walk.proofs.GivenParts.{due-item, key-awaited, scalar-ends}
 use Rattle.cbor_walk.proofs.building.Building.give_leaf.Goals as goal
+use Rattle.cbor_walk.{specs.Sink.leaf_value, proofs.GivenItems.scalar-head, proofs.GivenKinds.scalar-begun}
 
 pub leaf-requires : goal.leaf-requires
 leaf-requires g c =

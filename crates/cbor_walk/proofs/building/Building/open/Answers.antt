@@ -1,11 +1,8 @@
 use Rattle.std.proofs.Common.{◌∙◌, ◌-◌, ◌<◌, List, length, sym, subst, arith, refl}
-use Rattle.cbor_front.specs.Stack.{around}
-use Rattle.cbor_front.proofs.Stacks.{standing_count}
-use Rattle.cbor_walk.specs.declared.open.Open.{Open}
-use Rattle.cbor_walk.specs.inner.Building.{IsDue}
-use Rattle.cbor_walk.proofs.GivenKinds.{opener-begun}
+use Rattle.cbor_front.{specs.Stack.around, proofs.Stacks.standing_count}
 use Rattle.cbor_walk.proofs.GivenParts.{due-item, key-awaited, height-is, opened}
 use Rattle.cbor_walk.proofs.building.Building.open.Goals as goal
+use Rattle.cbor_walk.{specs.declared.open.Open.Open, specs.inner.Building.IsDue, proofs.GivenKinds.opener-begun}
 
 pub begin-requires : goal.begin-requires
 begin-requires g c =

@@ -1,17 +1,14 @@
 use Rattle.std.proofs.Common.{ℕ, ◌∙◌, false, List, ◌∷◌, length, refl, ap, sym, subst, arith}
 use Rattle.std.proofs.lemmas.List.{take_rest}
+use Rattle.cbor_head.specs.Prelude.{chunks_joined}
 use Rattle.cbor_grammar.proofs.ByteLists.{are_bytes}
 use Rattle.cbor_judging.specs.Reading.{string_major, string_value}
-use Rattle.cbor_head.specs.Prelude.{chunks_joined}
-use Rattle.cbor_walk.specs.Sink.{IsItemDue}
 use Rattle.cbor_walk.specs.inner.Parts.{IsHead, IsPayload, chunked_from}
-use Rattle.cbor_walk.proofs.GivenItems.{IsScalar}
-use Rattle.cbor_walk.proofs.GivenKinds.{scalar-begun}
 use Rattle.cbor_walk.proofs.GivenParts.{due-item, key-awaited, scalar-settles}
 use Rattle.cbor_walk.proofs.Chunked.{AreChunks, no-chunks, chunk-due, one-more, all-chunks}
-use Rattle.cbor_walk.proofs.KnownTexts.{known-chunk, sized}
 use Rattle.cbor_walk.proofs.building.Building.take_chunks.Goals as goal
 use Rattle.cbor_walk.proofs.building.Building.take_chunks.Goals.{After-is_key-is_key, In-Some-payload_size, Then-first}
+use Rattle.cbor_walk.{specs.Sink.IsItemDue, proofs.GivenItems.IsScalar, proofs.GivenKinds.scalar-begun, proofs.KnownTexts.known-chunk, proofs.KnownTexts.sized}
 
 due : (g : _) (c : After-is_key-is_key g) → IsItemDue g.row.S.Denot g.S.Sink.stands c.is_key-is_key.result c.args.self.now.sink
 due g c = due-item g.row.S.Denot g.S.Sink.stands g.S.Sink.trusts c.args.self.now.stack.top c.args.self.now.sink (chunked_from c.args.is_text c.args.behind.now) c.is_key-is_key.result c.is_key-is_key.ensures c.requires.opener

@@ -1,6 +1,6 @@
 use Rattle.std.proofs.Common.{◌≡◌, length}
-use Rattle.cbor_walk.proofs.Chunked.{AreChunks}
 use Rattle.cbor_walk.proofs.building.Building.take_chunks.Given as goal
+use Rattle.cbor_walk.proofs.Chunked.{AreChunks}
 
 abbrev pub invariant-chunks : goal.invariant-chunks
 invariant-chunks g l = record {

@@ -1,15 +1,10 @@
 use Rattle.std.proofs.Common.{◌∙◌, ◌-◌, ◌<◌, Bool, ℕ, List, length, sym, subst, arith, refl}
-use Rattle.cbor_front.specs.Stack.{around, standing}
-use Rattle.cbor_front.proofs.Stacks.{standing_count}
-use Rattle.cbor_walk.specs.declared.open.Open.{Open}
+use Rattle.cbor_front.{specs.Stack.around, specs.Stack.standing, proofs.Stacks.standing_count}
 use Rattle.cbor_walk.specs.inner.Building.{IsDue, IsToEnd, TakesTo}
-use Rattle.cbor_walk.specs.inner.Parts.{IsHead}
-use Rattle.cbor_walk.proofs.GivenItems.{counts-container, head-opens}
-use Rattle.cbor_walk.proofs.GivenKinds.{counted-begun, begun-takes}
-use Rattle.cbor_walk.proofs.GivenFull.{ends-takes}
 use Rattle.cbor_walk.proofs.GivenParts.{due-item, key-awaited, height-is, empty-ends}
 use Rattle.cbor_walk.proofs.building.Building.take_counted.Goals as goal
-use Rattle.cbor_walk.proofs.building.Building.take_counted.Goals.{After-is_key-2}
+use Rattle.cbor_walk.{specs.declared.open.Open.Open, specs.inner.Parts.IsHead, proofs.GivenItems.counts-container, proofs.GivenItems.head-opens}
+use Rattle.cbor_walk.proofs.{GivenKinds.counted-begun, GivenKinds.begun-takes, GivenFull.ends-takes, building.Building.take_counted.Goals.After-is_key-2}
 
 -- it has begun, and is to end
 empty : (g : _) (c : After-is_key-2 g) (rest : List ℕ) → IsHead c.args.major c.args.number rest c.args.behind.now → (start : g.row.S.Denot) (input : List ℕ)

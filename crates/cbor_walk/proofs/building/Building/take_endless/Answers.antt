@@ -1,10 +1,8 @@
 use Rattle.std.proofs.Common.{◌-◌, subst, sym}
 use Rattle.cbor_front.specs.Stack.{standing}
-use Rattle.cbor_walk.specs.declared.open.Open.{Open}
-use Rattle.cbor_walk.specs.declared.part.Left.{Left}
-use Rattle.cbor_walk.specs.inner.Parts.{Leaves, LeavesWithin}
 use Rattle.cbor_walk.proofs.Lefts.{same-takes, same-front, left-within}
 use Rattle.cbor_walk.proofs.building.Building.take_endless.Goals as goal
+use Rattle.cbor_walk.specs.{declared.open.Open.Open, declared.part.Left.Left, inner.Parts.Leaves, inner.Parts.LeavesWithin}
 
 pub returns-clause-within : goal.returns-clause-within
 returns-clause-within g c =

@@ -1,11 +1,9 @@
 use Rattle.std.proofs.Common.{◌≡◌, ◌+◌, ◌-◌, ◌*◌, ◌%◌, ◌<◌, ◌≤◌, ℕ, List, get_or, ap, sym, subst, inl, inr, arith, refl}
 use Rattle.cbor_head.specs.declared.major.Major.TheVariants.{Tag, Simple}
 use Rattle.cbor_front.specs.Stack.{around, standing}
-use Rattle.cbor_walk.specs.declared.open.Open.{Open}
-use Rattle.cbor_walk.specs.inner.Building.{TakesTo}
-use Rattle.cbor_walk.specs.inner.Parts.{IsHead, IsOpener}
 use Rattle.cbor_walk.proofs.GivenItems.{head-here, simple-here, tag-opens}
 use Rattle.cbor_walk.proofs.building.Building.take_part.Goals as goal
+use Rattle.cbor_walk.specs.{declared.open.Open.Open, inner.Building.TakesTo, inner.Parts.IsHead, inner.Parts.IsOpener}
 use Rattle.cbor_walk.proofs.building.Building.take_part.Goals.{After-counted-opened, Else-number-lt32}
 
 tag_opener : (g : _) (c : After-counted-opened g) → IsOpener Tag c.in-Some-read_argument.head.number c.counted-opened.result c.args.rest.now c.in-Some-read_argument.head.rest.now

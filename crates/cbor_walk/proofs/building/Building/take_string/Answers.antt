@@ -2,14 +2,11 @@ use Rattle.std.proofs.Common.{◌∙◌, ℕ, ◌∷◌, ◌<◌, false, List, l
 use Rattle.std.proofs.lemmas.List.{take_rest}
 use Rattle.cbor_grammar.proofs.ByteLists.{are_bytes}
 use Rattle.cbor_judging.specs.Reading.{string_major, string_value}
-use Rattle.cbor_walk.specs.inner.Building.{HasEnded}
 use Rattle.cbor_walk.specs.inner.Parts.{IsHead, IsPayload, HasBegun}
-use Rattle.cbor_walk.proofs.GivenItems.{IsScalar, scalar-string}
-use Rattle.cbor_walk.proofs.GivenKinds.{scalar-begun}
 use Rattle.cbor_walk.proofs.GivenParts.{due-item, key-awaited, scalar-ends}
-use Rattle.cbor_walk.proofs.KnownTexts.{known-string, sized}
 use Rattle.cbor_walk.proofs.building.Building.take_string.Goals as goal
-use Rattle.cbor_walk.proofs.building.Building.take_string.Goals.{In-Some}
+use Rattle.cbor_walk.{specs.inner.Building.HasEnded, proofs.GivenItems.IsScalar, proofs.GivenItems.scalar-string, proofs.GivenKinds.scalar-begun}
+use Rattle.cbor_walk.proofs.{KnownTexts.known-string, KnownTexts.sized, building.Building.take_string.Goals.In-Some}
 
 payload : (g : _) (c : In-Some g) → IsPayload false c.args.is_text c.args.count c.in-Some.size c.args.behind.now
 payload g c = known-string g.row.S.Denot g.S.Sink.stands g.S.Sink.trusts c.args.is_text c.args.self.now.stack.top c.args.self.now.sink c.args.count c.in-Some.size c.args.behind.now c.requires.head (are_bytes c.args.behind.now (λ i. omega (arith, c.type_inv.behind i))) c.in-Some.ensures

@@ -1,13 +1,10 @@
 use Rattle.std.proofs.Common.{◌≡◌, ℕ, nat_eq, true, not, List, ◌∷◌, refl}
 use Rattle.cbor_head.specs.declared.keys.Keys.{Keys}
 use Rattle.cbor_front.specs.Stack.{around, standing}
-use Rattle.cbor_walk.specs.declared.open.Open.{Open}
-use Rattle.cbor_walk.specs.inner.Building.{IsDue, HasFilled}
-use Rattle.cbor_walk.specs.inner.Kept.{KeepsBefore}
-use Rattle.cbor_walk.proofs.GivenEnds.{goes, is-full}
-use Rattle.cbor_walk.proofs.GivenKinds.{begun-keeps, broken-keeps}
 use Rattle.cbor_walk.proofs.building.Building.walk.Goals as goal
 use Rattle.cbor_walk.proofs.building.Building.walk.Goals.{In-Item, In-Break, Else-advance}
+use Rattle.cbor_walk.specs.{declared.open.Open.Open, inner.Building.IsDue, inner.Building.HasFilled, inner.Kept.KeepsBefore}
+use Rattle.cbor_walk.proofs.{GivenEnds.goes, GivenEnds.is-full, GivenKinds.begun-keeps, GivenKinds.broken-keeps}
 
 -- behind an item, and behind a break, no key of another kind has begun
 item_keeps : (g : _) (c : In-Item g) → not (nat_eq g.row.KINDS 0) ≡ true → (keys : Keys) (start : g.row.S.Denot) (input : List ℕ) → IsDue g.row.S.Denot g.S.Sink.stands g.S.Sink.trusts start c.args.depth input (standing Open c.args.self.now.stack c.args.cells.now) c.args.self.now.sink c.args.start.now

@@ -1,10 +1,8 @@
 use Rattle.std.proofs.Common.{◌≡◌, ℕ, ◌≤◌, nat_eq, true, not, List, length}
 use Rattle.cbor_head.specs.declared.keys.Keys.{Keys}
 use Rattle.cbor_front.specs.Stack.{standing}
-use Rattle.cbor_walk.specs.inner.Building.{IsDue}
-use Rattle.cbor_walk.specs.inner.Kept.{KeepsBefore}
-use Rattle.cbor_walk.specs.declared.open.Open.{Open}
 use Rattle.cbor_walk.proofs.building.Building.walk.Given as goal
+use Rattle.cbor_walk.specs.{inner.Building.IsDue, inner.Kept.KeepsBefore, declared.open.Open.Open}
 
 abbrev pub invariant-parts : goal.invariant-parts
 invariant-parts g l =

@@ -1,6 +1,6 @@
 use Rattle.std.proofs.Common.{arith}
-use Rattle.cborc_disk.proofs.Appended.{some_file}
 use Rattle.cborc_disk.proofs.disk.DiskFolder.read_on.Goals as goal
+use Rattle.cborc_disk.proofs.Appended.{some_file}
 
 pub returns-in-Ok-clause-gives : goal.returns-in-Ok-clause-gives
 returns-in-Ok-clause-gives g c =

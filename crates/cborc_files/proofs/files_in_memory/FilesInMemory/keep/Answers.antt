@@ -1,8 +1,7 @@
 use Rattle.std.proofs.Common.{ℕ, string_bytes, Vec, Global, refl}
-use Rattle.std.specs.BTreeMap.{get_by_text}
-use Rattle.std.proofs.lemmas.Map.Text.{btree_map_updates_text}
-use Rattle.cborc_files.proofs.InMemory.{replaces}
+use Rattle.std.{specs.BTreeMap.get_by_text, proofs.lemmas.Map.Text.btree_map_updates_text}
 use Rattle.cborc_files.proofs.files_in_memory.FilesInMemory.keep.Goals as goal
+use Rattle.cborc_files.proofs.InMemory.{replaces}
 
 -- the key has the path's bytes
 pub returns-clause-put : goal.returns-clause-put

@@ -1,5 +1,5 @@
-use Rattle.cborc_files.proofs.Spelled.{all_spelled, one_alone}
 use Rattle.cborc_files.proofs.hex_text.Digits.finish.Goals as goal
+use Rattle.cborc_files.proofs.Spelled.{all_spelled, one_alone}
 
 pub returns-in-None-clause-whole : goal.returns-in-None-clause-whole
 returns-in-None-clause-whole c = rw (← c.self.view_is, c.in-None.is) all_spelled

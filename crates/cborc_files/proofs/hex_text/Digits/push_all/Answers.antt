@@ -1,5 +1,4 @@
-use Rattle.std.proofs.Common.{arith}
-use Rattle.std.proofs.lemmas.Result.{err_from_is_err_and}
+use Rattle.std.proofs.{Common.arith, lemmas.Result.err_from_is_err_and}
 use Rattle.cborc_files.proofs.Spelled.{spells_none, spells_more, stray_behind}
 use Rattle.cborc_files.proofs.hex_text.Digits.push_all.Goals as goal
 

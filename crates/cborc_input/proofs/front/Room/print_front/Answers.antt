@@ -1,9 +1,8 @@
 use Rattle.std.proofs.Common.{sym, subst}
 use Rattle.cbor_head.specs.Prelude.{value_of}
 use Rattle.cborc_fronts.proofs.Results.{if_err}
-use Rattle.cborc_input.specs.Texts.{shown_text, IsNotTaken}
-use Rattle.cborc_input.specs.declared.request.Layout.{Layout}
 use Rattle.cborc_input.proofs.front.Room.print_front.Goals as goal
+use Rattle.cborc_input.specs.{Texts.shown_text, Texts.IsNotTaken, declared.request.Layout.Layout}
 
 pub returns-in-OneLine-clause-fault : goal.returns-in-OneLine-clause-fault
 returns-in-OneLine-clause-fault g c =

@@ -1,12 +1,11 @@
 use Rattle.std.proofs.Common.{◌∙◌, ◌++◌, codes, ap, subst}
-use Rattle.std.specs.Io.KnownBytes.{Appends}
-use Rattle.std.proofs.lemmas.Result.{on_ok_weaker}
-use Rattle.cbor_diag.specs.IndentedText.{indented}
+use Rattle.std.{specs.Io.KnownBytes.Appends, proofs.lemmas.Result.on_ok_weaker}
 use Rattle.cbor_head.specs.Prelude.{plain, value_of, Value}
 use Rattle.cbor_judging.proofs.Accepted.{one_item}
+use Rattle.cbor_diag.specs.IndentedText.{indented}
 use Rattle.cborc_fronts.proofs.Results.{if_err}
-use Rattle.cborc_input.specs.Texts.{IsNotTaken}
 use Rattle.cborc_input.proofs.front.Room.print_indented.Goals as goal
+use Rattle.cborc_input.specs.Texts.{IsNotTaken}
 
 pub returns-in-Ok-clause-shown : goal.returns-in-Ok-clause-shown
 returns-in-Ok-clause-shown g c =

@@ -1,7 +1,7 @@
 use Rattle.std.proofs.Common.{ℕ, List, ◌++◌, codes, subst}
 use Rattle.cborc_fronts.proofs.Results.{if_err}
-use Rattle.cborc_input.specs.Texts.{IsNotTaken}
 use Rattle.cborc_input.proofs.front.Room.print_on_one_line.Goals as goal
+use Rattle.cborc_input.specs.Texts.{IsNotTaken}
 
 pub returns-in-Ok-clause-fault : goal.returns-in-Ok-clause-fault
 returns-in-Ok-clause-fault g c =

@@ -1,7 +1,6 @@
 use Rattle.std.proofs.lemmas.Result.{err_from_is_err_and}
-use Rattle.cborc_input.proofs.ReadParts.{first_part}
-use Rattle.cborc_input.proofs.Sources.{no_first_part}
 use Rattle.cborc_input.proofs.parts.Parts.open.Goals as goal
+use Rattle.cborc_input.proofs.{ReadParts.first_part, Sources.no_first_part}
 
 pub returns-in_err-read_on-clause-fault : goal.returns-in_err-read_on-clause-fault
 returns-in_err-read_on-clause-fault g c =

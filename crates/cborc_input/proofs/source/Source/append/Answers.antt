@@ -1,7 +1,7 @@
 use Rattle.std.proofs.Common.{arith, refl}
-use Rattle.cborc_input.specs.inner.Sources.{IsNoPart}
 use Rattle.cborc_input.proofs.Sources.{read_added, spelled_added, stray_part, by_digits}
 use Rattle.cborc_input.proofs.source.Source.append.Goals as goal
+use Rattle.cborc_input.specs.inner.Sources.{IsNoPart}
 
 pub returns-then-not-self-clause-added : goal.returns-then-not-self-clause-added
 returns-then-not-self-clause-added g c =

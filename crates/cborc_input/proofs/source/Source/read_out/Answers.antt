@@ -1,5 +1,4 @@
-use Rattle.std.proofs.Common.{◌∙◌}
-use Rattle.std.proofs.lemmas.Result.{err_from_is_err_and}
+use Rattle.std.proofs.{Common.◌∙◌, lemmas.Result.err_from_is_err_and}
 use Rattle.cborc_fronts.proofs.Files.{keeps_keeps}
 use Rattle.cborc_input.proofs.Sources.{one_further, no_end, at_end}
 use Rattle.cborc_input.proofs.source.Source.read_out.Goals as goal

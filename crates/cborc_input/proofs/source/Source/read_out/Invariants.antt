@@ -1,7 +1,7 @@
 use Rattle.std.proofs.Common.{◌^◌, ◌<◌, ◌≡◌}
 use Rattle.cborc_files.specs.Folder.{KeepsFiles}
-use Rattle.cborc_input.proofs.Sources.{IsFurther, unread}
 use Rattle.cborc_input.proofs.source.Source.read_out.Given as goal
+use Rattle.cborc_input.proofs.Sources.{IsFurther, unread}
 
 abbrev pub invariant-parts : goal.invariant-parts
 invariant-parts g l = record {

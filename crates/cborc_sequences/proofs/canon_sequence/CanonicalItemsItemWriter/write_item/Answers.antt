@@ -1,8 +1,8 @@
 use Rattle.std.proofs.Common.{arith}
 use Rattle.cborc_fronts.proofs.Results.{if_err}
-use Rattle.cborc_sequences.proofs.Further.{settled, uncanonical}
 use Rattle.cborc_sequences.proofs.Taken.{canonical_of, cut_text, grown_too_long}
 use Rattle.cborc_sequences.proofs.canon_sequence.CanonicalItemsItemWriter.write_item.Goals as goal
+use Rattle.cborc_sequences.proofs.Further.{settled, uncanonical}
 
 pub returns-in-Err-clause-stopped : goal.returns-in-Err-clause-stopped
 returns-in-Err-clause-stopped g c =

@@ -1,11 +1,9 @@
 use Rattle.std.proofs.Common.{[]}
 use Rattle.cbor_reader.specs.Sequence.{IsAccepted}
+use Rattle.cborc_fronts.proofs.{Results.if_err, Outputs.appends_none}
 use Rattle.cborc_input.specs.Rules.{rules_of}
-use Rattle.cborc_fronts.proofs.Results.{if_err}
-use Rattle.cborc_sequences.proofs.Further.{settled, uncounted}
-use Rattle.cborc_fronts.proofs.Outputs.{appends_none}
-use Rattle.cborc_sequences.proofs.Taken.{item_accepted, written_of}
 use Rattle.cborc_sequences.proofs.check_sequence.CountedItemsItemWriter.write_item.Goals as goal
+use Rattle.cborc_sequences.proofs.{Further.settled, Further.uncounted, Taken.item_accepted, Taken.written_of}
 
 pub returns-in-Err-clause-stopped : goal.returns-in-Err-clause-stopped
 returns-in-Err-clause-stopped g c =

@@ -1,11 +1,10 @@
 use Rattle.std.proofs.lemmas.Result.{err_from_is_err_and}
 use Rattle.cbor_head.specs.Prelude.{plain}
 use Rattle.cbor_reader.specs.Sequence.{IsAccepted}
-use Rattle.cborc_sequences.specs.ShowSequence.{item_text}
 use Rattle.cborc_fronts.proofs.Results.{if_err}
-use Rattle.cborc_sequences.proofs.Further.{settled, item_not_shown}
 use Rattle.cborc_sequences.proofs.Taken.{item_accepted, written_of, text_not_taken}
 use Rattle.cborc_sequences.proofs.show_sequence.ShownItemsItemWriter.write_item.Goals as goal
+use Rattle.cborc_sequences.{specs.ShowSequence.item_text, proofs.Further.settled, proofs.Further.item_not_shown}
 
 pub print_front-requires : goal.print_front-requires
 print_front-requires g c = (c.in-Ok.size, c.in-Ok.ensures.accepted)

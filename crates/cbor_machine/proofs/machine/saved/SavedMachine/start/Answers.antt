@@ -1,8 +1,7 @@
 use Rattle.std.proofs.Common.{[], None, refl, rules}
 use Rattle.cbor_steps.specs.declared.position.Position.TheVariants as positions
-use Rattle.cbor_machine.specs.contracts.machine.Machine.{the_view}
-use Rattle.cbor_machine.proofs.Starting.{starts}
 use Rattle.cbor_machine.proofs.machine.saved.SavedMachine.start.Goals as goal
+use Rattle.cbor_machine.{specs.contracts.machine.Machine.the_view, proofs.Starting.starts}
 
 pub returns-clause-starts : goal.returns-clause-starts
 returns-clause-starts c = record {
