@@ -40,16 +40,39 @@ pub(crate) fn take_next<const KINDS: bool>(
     ensures depth { stack.new.height ≤ depth }
     ensures takes { Takes result KINDS depth rest.now at stack.old cells.old stack.new cells.new }
 {
-    if let Some((first, _)) = rest.split_first() {
-        match short_front::<KINDS>(*first, rest, &stack.top.due) {
-            Short::Item(used) => return Taken::Item(used),
-            Short::Opens(due, left, used) if stack.height < depth && stack.height < cells.len() => {
+    let Some((first, _)) = rest.split_first() else {
+        return take_any::<KINDS>(rest, at, cells, stack, depth);
+    };
+    match short_front::<KINDS>(*first, rest, &stack.top.due) {
+        Short::Item(used) => return Taken::Item(used),
+        Short::Opens(due, left, used) => {
+            if stack.height < depth && stack.height < cells.len() {
                 stack.push(cells, Level::new(due, left, at + used));
                 return Taken::Head(used);
             }
-            Short::Opens(..) | Short::Other => {}
         }
+        Short::Other => {}
     }
+    take_any::<KINDS>(rest, at, cells, stack, depth)
+}
+
+// The same, slower, of anything. It is made part of what takes the next item, so that room for what
+// it calls is made here alone.
+#[inline(always)]
+fn take_any<const KINDS: bool>(
+    rest: &[u8],
+    at: usize,
+    cells: &mut [Level],
+    stack: &mut Stack<Level>,
+    depth: usize,
+) -> Taken
+    requires place { at + length rest.now < 2 ^ 63 }
+    requires cells { stack.old.height ≤ length cells.old }
+    requires depth { stack.old.height ≤ depth }
+    ensures cells { stack.new.height ≤ length cells.new }
+    ensures depth { stack.new.height ≤ depth }
+    ensures takes { Takes result KINDS depth rest.now at stack.old cells.old stack.new cells.new }
+{
     if is_other_key::<KINDS>(stack.top.due, rest) {
         let reason = misplaced(rest[0], stack.height < depth).unwrap_or(Reason::KeyKind);
         return Taken::Refused(Refusal::new(reason, at as u64, at as u64 + 1));
