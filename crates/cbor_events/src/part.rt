@@ -115,10 +115,10 @@ fn take_read(machine: &mut Machine, part: &[u8]) -> Part
     if part.len() == 1 && machine.begin_head(part[0]) {
         return Part::Open;
     }
-    part_anew(take_slowly(machine, part))
+    take_apart(machine, part)
 }
 
-// The same, whatever the bytes are. Its own room in memory is no part of the caller's.
+// The same, whatever the bytes are.
 #[inline(never)]
 fn take_slowly(machine: &mut Machine, part: &[u8]) -> Part
     requires some { 0 < length part.now }
@@ -138,6 +138,23 @@ fn take_slowly(machine: &mut Machine, part: &[u8]) -> Part
         Out::Done => unreachable!(),
         Out::Refused(refusal) => Part::Stopped(refusal),
     }
+}
+
+// The same. Its own room in memory is no part of the caller's.
+#[inline(always)]
+fn take_apart(machine: &mut Machine, part: &[u8]) -> Part
+    requires some { 0 < length part.now }
+    requires wanted { length part.now ≤ wanted machine.old }
+    ensures answers { (t : List ℕ) (ms : List Mark) → StandsFor machine.old t ms
+        → IsPartTaken result machine.old machine.new t part.now ms }
+    ensures limits { KeepsLimits machine.old machine.new }
+    ensures proper { IfPartTold result (λ e. IsProper e.width e.kind) }
+    ensures piece { IfPartTold result (λ e. kind_size e.kind ≤ length part.now) }
+    ensures taken { IfStopped result (λ f. machine.new.taken ≡ f.read) }
+    ensures reason { IfStopped result (λ f. IsMachineReason f.reason) }
+    ensures progress { result ≡ Part.Open → machine.old.taken < machine.new.taken }
+{
+    part_anew(take_slowly(machine, part))
 }
 
 // Reads at most so many bytes that the machine wants, by one call of `read`.

@@ -54,8 +54,7 @@ pub(crate) fn at_end(machine: &mut Machine) -> Result<Option<Event>, Refusal>
     }
 }
 
-// Reads what the machine wants, one part after another, until it tells an event or stops. Its own
-// room in memory is no part of the caller's.
+// Reads what the machine wants, one part after another, until it tells an event or stops.
 #[inline(never)]
 fn next_event<R: Read>(
     machine: &mut Machine,
@@ -93,6 +92,34 @@ fn next_event<R: Read>(
     }
 }
 
+// The same. Its own room in memory is no part of the caller's.
+#[inline(always)]
+fn next_apart<R: Read>(
+    machine: &mut Machine,
+    reader: &mut R,
+    buffer: &mut [u8],
+) -> Result<Option<Event>, Refusal>
+    requires room { 0 < length buffer.old }
+    requires within { machine.old.open_count ≤ machine.old.depth }
+    ensures answers { (was : MachineView) (from : Option (List ℕ)) (kept t : List ℕ)
+        (ms : List Mark) → StandsBetween was t ms
+        → HasRead from (R.remaining reader.old) machine.old t ms
+        → machine.old.depth ≡ was.depth
+        → IsNext result (machine_call was machine.new from (R.remaining reader.new)
+        kept (piece_after result kept buffer.new) t ms) }
+    ensures given { (t : List ℕ) (ms : List Mark) → StandsFor machine.old t ms
+        → IfGiven result machine.new t ms }
+    ensures limits { KeepsLimits machine.old machine.new }
+    ensures proper { IfTold result (λ e. IsProper e.width e.kind) }
+    ensures taken { IfErr result (λ f. machine.new.taken ≡ f.read) }
+    ensures reason { IfErr result (λ f. IsEventReason f.reason) }
+    ensures idle { IsIdle machine.old → reader.new ≡ reader.old }
+    ensures fits { piece_size result ≤ length buffer.new }
+    ensures same { length buffer.new ≡ length buffer.old }
+{
+    answer_anew(next_event(machine, reader, buffer))
+}
+
 // The same, where mostly one read is all that it takes.
 #[inline(always)]
 pub(crate) fn next_part<R: Read>(
@@ -120,11 +147,11 @@ pub(crate) fn next_part<R: Read>(
 {
     let want = due(machine, buffer);
     if want == 0 {
-        return answer_anew(next_event(machine, reader, buffer));
+        return next_apart(machine, reader, buffer);
     }
     match read_part(machine, reader, buffer, want) {
         Part::Told(event) => Ok(Some(event)),
-        Part::Open => answer_anew(next_event(machine, reader, buffer)),
+        Part::Open => next_apart(machine, reader, buffer),
         Part::Stopped(refusal) => Err(refusal),
     }
 }
@@ -145,7 +172,7 @@ fn next_head<R: Read>(machine: &mut Machine, reader: &mut R) -> Result<Option<Ev
 {
     let mut head = [0; ARGUMENT];
     if !machine.wants_head() {
-        return answer_anew(next_event(machine, reader, &mut head));
+        return next_apart(machine, reader, &mut head);
     }
     match read_part(machine, reader, &mut head[..1], 1) {
         Part::Told(event) => Ok(Some(event)),
