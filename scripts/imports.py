@@ -29,7 +29,7 @@ def one_line(taken):
 
 
 def taken_by(line):
-    """What an import takes, by modules; nothing of one that renames, or that names the crate's own module alone."""
+    """What an import takes, by modules; nothing where it renames, or takes a name of a crate that stands in no module below."""
     match = IMPORT.match(line)
     names = split_names(match[2]) if match else []
     taken = {}
@@ -46,8 +46,11 @@ def of_crate(lines):
         for module, names in taken.items():
             of_module.setdefault(module, []).extend(names)
     few = {module: names for module, names in of_module.items() if len(names) <= FEW}
-    kept = [it for it in lines if not by_line[it] or any(module not in few for module in by_line[it])]
-    packs = []
+    kept, packs = [], []
+    for line, taken in by_line.items():
+        rest = [it for it in taken.items() if it[0] not in few]
+        if rest or not taken:
+            kept.append(line if len(rest) == len(taken) else one_line(rest))
     for taken in few.items():
         if packs and len(one_line(packs[-1] + [taken])) <= WIDTH:
             packs[-1].append(taken)
