@@ -182,7 +182,7 @@ static int skip_slow(In *in, int strict, int depth) {
 }
 
 /* ---- canon ---- */
-static inline void room(Out *o, size_t n) {
+static inline void space(Out *o, size_t n) {
   if (o->cap - o->n < n) {
     o->cap = (o->cap + n) * 2;
     o->p = (uint8_t *)realloc(o->p, o->cap);
@@ -199,14 +199,14 @@ static inline void put_head_at(uint8_t *q, uint8_t major, uint64_t v) {
   else { uint64_t x = __builtin_bswap64(v); q[0] = m | 27; memcpy(q + 1, &x, 8); }
 }
 static inline void put_head(Out *o, uint8_t major, uint64_t v) {
-  room(o, 9);
+  space(o, 9);
   put_head_at(o->p + o->n, major, v);
   o->n += head_len(v);
 }
 /* Puts a head before what was written from `at` on. */
 static void insert_head(Out *o, size_t at, uint8_t major, uint64_t v) {
   size_t k = head_len(v);
-  room(o, 9);
+  space(o, 9);
   memmove(o->p + at + k, o->p + at, o->n - at);
   put_head_at(o->p + at, major, v);
   o->n += k;
@@ -230,12 +230,12 @@ static inline int write(In *in, Out *o, int depth) {
   if (in->end - p > 24) {
     uint8_t b = *p;
     if ((b & 0xdf) < 24) {
-      room(o, 1);
+      space(o, 1);
       o->p[o->n++] = b, in->p = p + 1;
       return 1;
     }
     if (b - 0x60u < 24 && utf8(p + 1, b - 0x60u)) {
-      room(o, 24);
+      space(o, 24);
       memcpy(o->p + o->n, p, 24); /* a fixed copy; what is past the text is written over */
       o->n += 1 + (b - 0x60u), in->p = p + 1 + (b - 0x60u);
       return 1;
@@ -278,7 +278,7 @@ static int close_map(In *in, Out *o, size_t first, size_t at) {
     }
     for (i = 1; i < n; i++) if (by_key(&s[i - 1], &s[i]) == 0) FAIL("repeated key");
     size_t len = o->n - at;
-    room(o, len);
+    space(o, len);
     uint8_t *q = o->p + o->n;
     for (i = 0; i < n; i++) {
       memcpy(q, o->p + s[i].key, s[i].end - s[i].key);
@@ -302,7 +302,7 @@ static int write_slow(In *in, Out *o, int depth) {
         if ((uint64_t)(in->end - in->p) < h.arg) FAIL("truncated");
         if (h.major == 3 && !utf8(in->p, h.arg)) FAIL("text");
         put_head(o, h.major, h.arg);
-        room(o, h.arg);
+        space(o, h.arg);
         memcpy(o->p + o->n, in->p, h.arg);
         o->n += h.arg, in->p += h.arg;
         return 1;
@@ -315,7 +315,7 @@ static int write_slow(In *in, Out *o, int depth) {
         if (c.major != h.major || c.ai == 31) FAIL("chunk");
         if ((uint64_t)(in->end - in->p) < c.arg) FAIL("truncated");
         if (h.major == 3 && !utf8(in->p, c.arg)) FAIL("text");
-        room(o, c.arg);
+        space(o, c.arg);
         memcpy(o->p + o->n, in->p, c.arg);
         o->n += c.arg, in->p += c.arg;
       }

@@ -43,7 +43,7 @@ static double now(void) {
 static struct bytes in, canonical, out;
 static struct naltvigo_refusal why;
 
-/* Takes FOLDER/NAME, its canonical bytes, and room for an answer. */
+/* Takes FOLDER/NAME, its canonical bytes, and space for an answer. */
 static void take_document(const char *folder, const char *name) {
     in = slurp(folder, name, "cbor");
     canonical = slurp(folder, name, "bytewise");
@@ -79,16 +79,16 @@ static int diagnostic(void) {
     size_t needed;
     return naltvigo_diagnostic(in.at, in.length, LIMITS(256, NALTVIGO_BYTES_MAX), (char *)out.at, out.length, &needed, &why) == NALTVIGO_OK;
 }
-/* All events of the input, in parts of so many bytes with room for so many events a call. */
-static int events_by(size_t part, size_t room) {
+/* All events of the input, in parts of so many bytes with space for so many events a call. */
+static int events_by(size_t part, size_t space) {
     static struct naltvigo_machine machine;
     static struct naltvigo_event events[64];
-    size_t used, told, at = 0;
+    size_t used, reported, at = 0;
     uint32_t s;
     naltvigo_machine_start(LIMITS(256, NALTVIGO_BYTES_MAX), &machine);
     do {
         size_t offered = in.length - at < part ? in.length - at : part;
-        s = naltvigo_machine_take(&machine, in.at + at, offered, &used, events, room, &told, &why);
+        s = naltvigo_machine_take(&machine, in.at + at, offered, &used, events, space, &reported, &why);
         at += used;
     } while (s == NALTVIGO_EVENT || (s == NALTVIGO_MORE && at < in.length));
     return s == NALTVIGO_OK && at == in.length;
@@ -101,7 +101,7 @@ static int load(int again) {
     cbor_item_t *item = cbor_load(in.at, in.length, &result);
     if (!item) return 0;
     unsigned char *made = NULL;
-    size_t room, length = again ? cbor_serialize_alloc(item, &made, &room) : 1;
+    size_t space, length = again ? cbor_serialize_alloc(item, &made, &space) : 1;
     free(made);
     cbor_decref(&item);
     return length > 0;
@@ -180,10 +180,10 @@ static struct bytes members_of(const char *bytes, size_t length, size_t members,
 }
 
 static void take_small(size_t i, size_t members) {
-    static uint8_t given[ROOM], meant[ROOM], room[ROOM];
+    static uint8_t given[ROOM], meant[ROOM], space[ROOM];
     in = canonical = members_of(small[i].bytes, small[i].length, members, given);
     if (small[i].canonical) canonical = members_of(small[i].canonical, small[i].canonical_length, members, meant);
-    out = (struct bytes){room, sizeof room};
+    out = (struct bytes){space, sizeof space};
 }
 
 /* Makes so many of the calls of this name on a small item, or on an array of so many of it. */
@@ -250,7 +250,7 @@ int main(int count, char **words) {
     }
 #endif
     tell_small();
-    puts("\n| events by `naltvigo_machine_take`, MB/s | bytes | room for 64 | room for 1 |");
+    puts("\n| events by `naltvigo_machine_take`, MB/s | bytes | 64 events a call | 1 event a call |");
     puts("| --- | ---: | ---: | ---: |");
     for (int i = 2; i < count; i++) {
         in = slurp(words[1], words[i], "cbor");

@@ -24,7 +24,7 @@ COMMANDS = {
     "check of canonical": (["check"], "bytewise", None),
     "check --strict of canonical": (["check", "--strict"], "bytewise", None),
 }
-# Whose peak memory is told.
+# Whose peak memory is reported.
 MEASURED = ["canon", "check --strict of canonical"]
 TITLES = {
     "one": "the integer 0: the start of the program",

@@ -24,93 +24,93 @@
 set -euo pipefail
 
 root=$(cd "$(dirname "${BASH_SOURCE[0]}")/.." && pwd)
-room=$(mktemp -d)
-trap 'rm -rf "$room"' EXIT
+scratch=$(mktemp -d)
+trap 'rm -rf "$scratch"' EXIT
 
-cp -R "$root/crates" "$root/crates.txt" "$root/HANDLES" "$room"
+cp -R "$root/crates" "$root/crates.txt" "$root/HANDLES" "$scratch"
 
 # The gate proves every .rt file of the repository, so this one gets its ending here.
 items() {
-    mkdir -p "$room/crates/items/src"
-    cp "$root/bench/items.rattle" "$room/crates/items/src/main.rt"
-    echo "items: cbor_head cbor_item anyhow rand rand_core" >>"$room/crates.txt"
-    cd "$room/crates/items"
-    rt run 2>"$room/log" || { cat "$room/log" >&2; return 1; }
+    mkdir -p "$scratch/crates/items/src"
+    cp "$root/bench/items.rattle" "$scratch/crates/items/src/main.rt"
+    echo "items: cbor_head cbor_item anyhow rand rand_core" >>"$scratch/crates.txt"
+    cd "$scratch/crates/items"
+    rt run 2>"$scratch/log" || { cat "$scratch/log" >&2; return 1; }
 }
 
 # The program as a check or the gate left it, if no source is newer; else it is proved.
 make_program() {
     cborc=$root/crates/cborc/out/cborc
     if [ ! -x "$cborc" ] || [ -n "$(find "$root/crates" -newer "$cborc" \( -name '*.rt' -o -name '*.antt' \) -not -path '*/out/*' -print -quit)" ]; then
-        (cd "$room/crates/cborc" && rt run -- --help) >/dev/null 2>"$room/log" || { cat "$room/log" >&2; return 1; }
-        cborc=$room/crates/cborc/out/cborc
+        (cd "$scratch/crates/cborc" && rt run -- --help) >/dev/null 2>"$scratch/log" || { cat "$scratch/log" >&2; return 1; }
+        cborc=$scratch/crates/cborc/out/cborc
     fi
 }
 
 make_inputs() {
-    mkdir -p "$room/inputs"
-    [ -e "$room/inputs/one.cbor" ] || python3 "$root/bench/inputs.py" "$room/inputs"
+    mkdir -p "$scratch/inputs"
+    [ -e "$scratch/inputs/one.cbor" ] || python3 "$root/bench/inputs.py" "$scratch/inputs"
 }
 
 make_plain() {
-    cc -O3 -o "$room/plain" "$root/bench/plain.c" "$root/bench/floor.c"
+    cc -O3 -o "$scratch/plain" "$root/bench/plain.c" "$root/bench/floor.c"
 }
 
 program() {
     make_program
     make_inputs
-    python3 "$root/bench/program.py" "$cborc" "$room/inputs"
-    python3 "$root/bench/streams.py" "$cborc" "$room/inputs"
+    python3 "$root/bench/program.py" "$cborc" "$scratch/inputs"
+    python3 "$root/bench/streams.py" "$cborc" "$scratch/inputs"
     printf '\n'
-    python3 "$root/bench/sequence.py" "$cborc" "$room/inputs"
+    python3 "$root/bench/sequence.py" "$cborc" "$scratch/inputs"
     printf '\n'
-    python3 "$root/bench/repeats.py" "$cborc" "$room/inputs"
+    python3 "$root/bench/repeats.py" "$cborc" "$scratch/inputs"
 }
 
 beside() {
     make_program
     make_inputs
     make_plain
-    python3 "$root/bench/beside.py" "$cborc" "$room/plain" "$room/inputs" integers map_100000 texts records chains \
+    python3 "$root/bench/beside.py" "$cborc" "$scratch/plain" "$scratch/inputs" integers map_100000 texts records chains \
         small_chunks keys_around_bytes
 }
 
 library() {
-    "$root/scripts/build_c.sh" "$room/dist"
+    "$root/scripts/build_c.sh" "$scratch/dist"
     make_inputs
     peer=()
     ! pkg-config --exists libcbor 2>/dev/null || peer=(-DHAS_LIBCBOR $(pkg-config --cflags --libs libcbor))
-    cc -O3 -o "$room/library" "$root/bench/library.c" "$root/bench/floor.c" "-I$room/dist/include" \
-        "$room/dist/lib/libnaltvigo.a" "${peer[@]}"
-    "$room/library" "$room/inputs" records map_10000 map_100000 integers wide_integers zeros text chunks \
+    cc -O3 -o "$scratch/library" "$root/bench/library.c" "$root/bench/floor.c" "-I$scratch/dist/include" \
+        "$scratch/dist/lib/libnaltvigo.a" "${peer[@]}"
+    "$scratch/library" "$scratch/inputs" records map_10000 map_100000 integers wide_integers zeros text chunks \
         nested_many nested_keys keys_around_map bytes_16_mib
     printf '\n'
-    python3 "$root/bench/small.py" "$room/library"
-    cc -O2 -o "$room/stack" "$root/c/stack.c" "-I$root/c" "-I$room/dist/include" "$room/dist/lib/libnaltvigo.a" -pthread
+    python3 "$root/bench/small.py" "$scratch/library"
+    cc -O2 -o "$scratch/stack" "$root/c/stack.c" "-I$root/c" "-I$scratch/dist/include" "$scratch/dist/lib/libnaltvigo.a" -pthread
     printf '\n'
-    "$room/stack"
+    "$scratch/stack"
 }
 
 strict() {
-    mkdir -p "$room/crates/strict/src"
-    cp "$root/bench/strict.rattle" "$room/crates/strict/src/main.rt"
-    echo "strict: cbor_head cbor_strict anyhow" >>"$room/crates.txt"
+    mkdir -p "$scratch/crates/strict/src"
+    cp "$root/bench/strict.rattle" "$scratch/crates/strict/src/main.rt"
+    echo "strict: cbor_head cbor_strict anyhow" >>"$scratch/crates.txt"
     make_inputs
-    cd "$room/crates/strict"
-    rt run -- "$room/inputs/one.bytewise" 2>"$room/log" || { cat "$room/log" >&2; return 1; }
+    cd "$scratch/crates/strict"
+    rt run -- "$scratch/inputs/one.bytewise" 2>"$scratch/log" || { cat "$scratch/log" >&2; return 1; }
     make_plain
-    python3 "$root/bench/strict.py" out/strict "$room/plain" "$room/inputs" records map_100000 integers zeros text \
+    python3 "$root/bench/strict.py" out/strict "$scratch/plain" "$scratch/inputs" records map_100000 integers zeros text \
         nested_many nested_keys keys_around_map
 }
 
 views() {
-    mkdir -p "$room/crates/views/src"
-    cp "$root/bench/views.rattle" "$room/crates/views/src/main.rt"
-    echo "views: cbor_head cbor_item cbor_reader example anyhow bumpalo" >>"$room/crates.txt"
+    mkdir -p "$scratch/crates/views/src"
+    cp "$root/bench/views.rattle" "$scratch/crates/views/src/main.rt"
+    echo "views: cbor_head cbor_item cbor_reader example anyhow bumpalo" >>"$scratch/crates.txt"
     make_inputs
-    cd "$room/crates/views"
-    rt run -- valid "$room/inputs/one.cbor" >/dev/null 2>"$room/log" || { cat "$room/log" >&2; return 1; }
-    python3 "$root/bench/views.py" out/views "$room/inputs" records integers texts map_100000 small_chunks zeros
+    cd "$scratch/crates/views"
+    rt run -- valid "$scratch/inputs/one.cbor" >/dev/null 2>"$scratch/log" || { cat "$scratch/log" >&2; return 1; }
+    python3 "$root/bench/views.py" out/views "$scratch/inputs" records integers texts map_100000 small_chunks zeros
 }
 
 [ $# -gt 0 ] || set -- items program beside library strict views

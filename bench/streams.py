@@ -3,7 +3,7 @@
     python3 streams.py CBORC FOLDER
 
 The folder has what inputs.py writes. What else is read is written there: 300 MB of claims sets, with keys out of order
-and once more as their canonical bytes, and files of 1 GiB that take next to no room on the disk. Ends with status 1
+and once more as their canonical bytes, and files of 1 GiB that take next to no space on the disk. Ends with status 1
 where a run answers anything else than is due.
 """
 

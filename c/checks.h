@@ -1,4 +1,4 @@
-/* Checks that are counted, and told where they fail. */
+/* Checks that are counted, and reported where they fail. */
 #include <stdio.h>
 
 static int checks, faults;

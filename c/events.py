@@ -33,7 +33,7 @@ def row(given, limits, text, status, refusal):
 
 
 rows = []
-for name, status in (("ACCEPTED", "NALTVIGO_OK"), ("FRONTS", "NALTVIGO_MORE")):
+for name, status in (("ACCEPTED", "NALTVIGO_OK"), ("PREFIXES", "NALTVIGO_MORE")):
     rows += [row(given, limits, text, status, "{0, 0, 0}") for given, limits, text, _, _ in table(name)]
 reasons = dict(re.findall(r"(\w+) = (\d+),", (FOLDER / "../../../cbor_head/src/reason.rt").read_text()))
 for given, limits, text, answer, _ in table("REFUSED"):

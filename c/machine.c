@@ -25,25 +25,25 @@ static int are_equal(struct naltvigo_event a, struct naltvigo_event b) {
     return a.place == b.place && a.number == b.number && a.kind == b.kind && a.width == b.width;
 }
 
-/* What a machine told of an item: neighbouring pieces are joined. */
-struct told {
+/* What a machine reported of an item: neighbouring pieces are joined. */
+struct reported {
     struct naltvigo_event events[64];
     size_t count;
 };
 
-static void join(struct told *told, struct naltvigo_event event) {
-    if (event.kind == NALTVIGO_PIECE && told->count && told->events[told->count - 1].kind == NALTVIGO_PIECE)
-        told->events[told->count - 1].number += event.number;
-    else if (told->count < 64)
-        told->events[told->count++] = event;
+static void join(struct reported *reported, struct naltvigo_event event) {
+    if (event.kind == NALTVIGO_PIECE && reported->count && reported->events[reported->count - 1].kind == NALTVIGO_PIECE)
+        reported->events[reported->count - 1].number += event.number;
+    else if (reported->count < 64)
+        reported->events[reported->count++] = event;
 }
 
 /* That the events, the last status and the refusal are the row's. */
-static void compare(const struct events_row *row, const struct told *told, uint32_t status, struct naltvigo_refusal why) {
+static void compare(const struct events_row *row, const struct reported *reported, uint32_t status, struct naltvigo_refusal why) {
     check(status == row->status, "status", row->given);
-    check(told->count == row->count, "count of events", row->given);
-    for (size_t i = 0; i < told->count && i < row->count; i++)
-        check(are_equal(told->events[i], row->events[i]), "event", row->given);
+    check(reported->count == row->count, "count of events", row->given);
+    for (size_t i = 0; i < reported->count && i < row->count; i++)
+        check(are_equal(reported->events[i], row->events[i]), "event", row->given);
     if (status == NALTVIGO_REFUSED)
         check(why.reason == row->refusal.reason && why.place == row->refusal.place && why.read == row->refusal.read,
               "refusal", row->given);
@@ -54,7 +54,7 @@ static void compare(const struct events_row *row, const struct told *told, uint3
 /* The events of the row, with its bytes in parts of so many. */
 static void feed(const struct events_row *row, const uint8_t *in, size_t n, size_t part) {
     struct naltvigo_machine machine, copy;
-    struct told told = {.count = 0};
+    struct reported reported = {.count = 0};
     struct naltvigo_refusal why = {77, 78, 79};
     size_t at = 0, used;
     uint32_t status;
@@ -70,11 +70,11 @@ static void feed(const struct events_row *row, const uint8_t *in, size_t n, size
         machine = copy;
         check(used <= offered, "used", row->given);
         at += used;
-        check((status == NALTVIGO_EVENT) == !are_equal(event, unset), "told", row->given);
-        if (status == NALTVIGO_EVENT) join(&told, event);
+        check((status == NALTVIGO_EVENT) == !are_equal(event, unset), "reported", row->given);
+        if (status == NALTVIGO_EVENT) join(&reported, event);
     } while (status == NALTVIGO_EVENT || (status == NALTVIGO_MORE && at < n));
     check(machine.taken == at, "taken", row->given);
-    compare(row, &told, status, why);
+    compare(row, &reported, status, why);
     if (status == NALTVIGO_MORE) return;
     struct naltvigo_event event = unset;
     check(naltvigo_machine_step(&machine, (const uint8_t *)"", 1, &used, &event, &why) == status && used == 0,
@@ -82,9 +82,9 @@ static void feed(const struct events_row *row, const uint8_t *in, size_t n, size
 }
 
 /* The same events, so many a call. */
-static void take(const struct events_row *row, const uint8_t *in, size_t n, size_t part, size_t room) {
+static void take(const struct events_row *row, const uint8_t *in, size_t n, size_t part, size_t space) {
     struct naltvigo_machine machine;
-    struct told told = {.count = 0};
+    struct reported reported = {.count = 0};
     struct naltvigo_refusal why = {77, 78, 79};
     size_t at = 0;
     uint32_t status;
@@ -93,16 +93,16 @@ static void take(const struct events_row *row, const uint8_t *in, size_t n, size
         struct naltvigo_event events[65];
         size_t offered = n - at < part ? n - at : part, used = 999, many = 999;
         for (size_t i = 0; i < 65; i++) events[i] = unset;
-        status = naltvigo_machine_take(&machine, in + at, offered, &used, events, room, &many, &why);
-        check(used <= offered && many <= room, "used and told", row->given);
+        status = naltvigo_machine_take(&machine, in + at, offered, &used, events, space, &many, &why);
+        check(used <= offered && many <= space, "used and reported", row->given);
         check(status != NALTVIGO_MORE || used == offered, "the whole part", row->given);
-        check(status != NALTVIGO_EVENT || many == room, "a full array", row->given);
-        for (size_t i = many; i < 65; i++) check(are_equal(events[i], unset), "not told", row->given);
+        check(status != NALTVIGO_EVENT || many == space, "a full array", row->given);
+        for (size_t i = many; i < 65; i++) check(are_equal(events[i], unset), "not reported", row->given);
         at += used;
-        for (size_t i = 0; i < many && i < 65; i++) join(&told, events[i]);
+        for (size_t i = 0; i < many && i < 65; i++) join(&reported, events[i]);
     } while (status == NALTVIGO_EVENT || (status == NALTVIGO_MORE && at < n));
     check(machine.taken == at, "taken", row->given);
-    compare(row, &told, status, why);
+    compare(row, &reported, status, why);
 }
 
 /* A start sets every byte, those between two fields too, so that a machine may be written to a file. */
@@ -114,15 +114,15 @@ static void starts_anew(void) {
           "start", "every byte");
 }
 
-/* Without room for an event nothing is used. */
+/* Without space for an event nothing is used. */
 static void without_room(void) {
     struct naltvigo_machine machine;
     struct naltvigo_refusal why;
-    size_t used = 999, told = 999;
+    size_t used = 999, reported = 999;
     naltvigo_machine_start(LIMITS(2, 8), &machine);
-    check(naltvigo_machine_take(&machine, (const uint8_t *)"", 1, &used, NULL, 0, &told, &why) == NALTVIGO_EVENT
-              && used == 0 && told == 0 && machine.taken == 0,
-          "no room", "00");
+    check(naltvigo_machine_take(&machine, (const uint8_t *)"", 1, &used, NULL, 0, &reported, &why) == NALTVIGO_EVENT
+              && used == 0 && reported == 0 && machine.taken == 0,
+          "no space", "00");
 }
 
 /* Numbers that hold no machine are refused, and stay. */
@@ -138,9 +138,9 @@ static void refuses_other_numbers(void) {
     for (int i = 0; i < 4; i++) {
         broken = machine;
         if (i == 0) broken.open = 3;
-        if (i == 1) broken.taken = broken.told = 9;
+        if (i == 1) broken.taken = broken.reported = 9;
         if (i == 2) broken.depth = 1025;
-        if (i == 3) broken.told = 1;
+        if (i == 3) broken.reported = 1;
         used = 999;
         check(naltvigo_machine_step(&broken, (const uint8_t *)"", 1, &used, &event, &why) == NALTVIGO_BAD_MACHINE,
               "broken", "numbers");
@@ -153,7 +153,7 @@ static void refuses_other_numbers(void) {
         for (size_t k = 0; k < sizeof noise; k++) noise[k] = (uint8_t)(rand() >> 5);
         broken = machine;
         memcpy(i % 2 ? (uint8_t *)&broken : (uint8_t *)&broken.number, noise, i % 2 ? 64 : 24);
-        if (i % 3) broken.depth %= 1025, broken.open %= broken.depth + 1;
+        if (i % 3) broken.depth %= 1025, broken.open = (uint16_t)(broken.open % (broken.depth + 1));
         used = 999;
         naltvigo_machine_step(&broken, noise, sizeof noise, &used, &event, &why);
         check(used <= sizeof noise, "noise", "used");
@@ -171,7 +171,7 @@ int main(void) {
         }
         for (size_t part = 1; part < 4; part++) feed(row, in, n, part);
         feed(row, in, n, n + 1);
-        for (size_t room = 1; room < 4; room++) take(row, in, n, room + 1, room);
+        for (size_t space = 1; space < 4; space++) take(row, in, n, space + 1, space);
         take(row, in, n, n + 1, 64);
     }
     starts_anew();

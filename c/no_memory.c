@@ -2,6 +2,7 @@
  * --wrap=malloc,realloc,free. */
 #include "options.h"
 
+#include <naltvigo_values.h>
 #include <stdio.h>
 #include <string.h>
 
@@ -57,6 +58,34 @@ static uint32_t next_canonical(void) {
     return needed = (size_t)front, status;
 }
 
+/* What a writer put: [_ {"Fun": h'0102', "Amt": -2}, {2: 5, 1: 4}], out of order */
+static uint32_t finish(void) {
+    static uint8_t items[64];
+    struct naltvigo_writer w = naltvigo_write_to(items, sizeof items);
+    naltvigo_put_array(&w), naltvigo_put_map(&w);
+    naltvigo_put_text(&w, "Fun"), naltvigo_put_bytes(&w, "\1\2", 2);
+    naltvigo_put_text(&w, "Amt"), naltvigo_put_int(&w, -2);
+    naltvigo_put_end(&w), naltvigo_put_map_of(&w, 2);
+    naltvigo_put_int(&w, 2), naltvigo_put_int(&w, 5), naltvigo_put_int(&w, 1), naltvigo_put_int(&w, 4);
+    naltvigo_put_end(&w);
+    return naltvigo_finish(&w, NULL, out, sizeof out, &needed, &why);
+}
+
+/* {"Amt": -2, "Fun": [1, 2]}, by all ways that a cursor goes; and a writer that is not finished */
+static uint32_t look_up(void) {
+    static const uint8_t item[] = {0xa2, 0x63, 'A', 'm', 't', 0x21, 0x63, 'F', 'u', 'n', 0x82, 1, 2};
+    uint8_t items[8];
+    uint32_t status = NALTVIGO_OK;
+    struct naltvigo_writer w = naltvigo_write_to(items, sizeof items);
+    const struct naltvigo_cursor map = naltvigo_open(item, sizeof item, NULL, &why);
+    const struct naltvigo_cursor array = naltvigo_at_text(map, "Fun");
+    char long_key[100] = {0};
+    naltvigo_put_encoded(&w, item + 10, 3), naltvigo_put_int(&w, naltvigo_get_int(naltvigo_at_text(map, "Amt"), &status));
+    naltvigo_get_int(naltvigo_next(naltvigo_first(array)), &status), naltvigo_get_int(naltvigo_at_index(array, 1), &status);
+    naltvigo_at_int(map, 1), naltvigo_at_text_of(map, long_key, sizeof long_key);
+    return w.status == NALTVIGO_OK ? status : w.status;
+}
+
 static int refuse_each(const char *name, uint32_t (*call)(void), uint32_t status) {
     uint8_t before[sizeof out], answer[sizeof out];
     const struct naltvigo_refusal unset = {0, 0, 0};
@@ -95,6 +124,8 @@ int main(void) {
     bad |= refuse_each("next_valid", next_valid, NALTVIGO_OK);
     bad |= refuse_each("compare", compare, NALTVIGO_OK);
     bad |= refuse_each("diagnostic", diagnostic, NALTVIGO_OK);
+    bad |= refuse_each("finish", finish, NALTVIGO_OK);
+    bad |= refuse_each("open and get", look_up, NALTVIGO_OK) || taken != 0;
     bad |= refuse_each("check_canonical", check_canonical, NALTVIGO_REFUSED) || taken != 0;
     bad |= refuse_each("next_canonical", next_canonical, NALTVIGO_REFUSED) || taken != 0;
     return bad;

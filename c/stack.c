@@ -8,11 +8,12 @@
 #include <stdlib.h>
 #include <string.h>
 
-enum { STACK = 4 << 20, PAINT = 0xa5, CALLS = 8 };
+enum { STACK = 4 << 20, PAINT = 0xa5, CALLS = 10 };
 
 static const char *const names[CALLS] = {"canonicalise", "check_canonical", "check_valid", "next_canonical",
-                                         "next_valid", "compare", "diagnostic", "machine_take"};
+                                         "next_valid", "compare", "diagnostic", "index", "find", "machine_take"};
 static uint8_t in[16384], out[65536];
+static struct naltvigo_item items[16384];
 static size_t length;
 static uint32_t depth;
 static int call;
@@ -20,11 +21,11 @@ static int call;
 /* All events of the item; the machine lies elsewhere. */
 static void events(void) {
     static struct naltvigo_machine machine;
-    static struct naltvigo_event room[4];
+    static struct naltvigo_event space[4];
     struct naltvigo_refusal why;
-    size_t used, told, at = 0;
+    size_t used, reported, at = 0;
     naltvigo_machine_start(LIMITS(depth, 1 << 20), &machine);
-    while (naltvigo_machine_take(&machine, in + at, length - at, &used, room, 4, &told, &why) == NALTVIGO_EVENT) at += used;
+    while (naltvigo_machine_take(&machine, in + at, length - at, &used, space, 4, &reported, &why) == NALTVIGO_EVENT) at += used;
 }
 
 static void *work(void *unused) {
@@ -40,6 +41,8 @@ static void *work(void *unused) {
     case 4: naltvigo_next_valid(in, length, LIMITS(depth, 1 << 20), &front, &why); break;
     case 5: naltvigo_compare(in, length, in, length, LIMITS(depth, 1 << 20), &side, &why); break;
     case 6: naltvigo_diagnostic(in, length, LIMITS(depth, 1 << 20), (char *)out, sizeof out, &needed, &why); break;
+    case 7: naltvigo_index(in, length, OPTIONS(0, depth, 1 << 20), items, sizeof items / sizeof *items, &needed, &why); break;
+    case 8: naltvigo_find(in, length, 0, (const uint8_t *)"\xf5", 1, &items[0]); break;
     default: events();
     }
     return unused;
@@ -109,7 +112,8 @@ int main(void) {
         depth = depths[k];
         for (int shape = 0; make(shape, depth); shape++)
             for (call = 0; call < CALLS; call++) {
-                size_t written = written_by(work) - thread;
+                size_t written = written_by(work);
+                written = written > thread ? written - thread : 0;
                 if (written > most[call]) most[call] = written;
             }
         printf("| %u |", (unsigned)depth);

@@ -3,78 +3,30 @@
  * status is 0 where all hold. */
 #include "options.h"
 #include "checks.h"
+#include "conformance.h"
 
 #include <stdio.h>
-#include <stdlib.h>
-#include <string.h>
 
-struct answer {
-    const char *canonical; /* in hex, or none */
-    struct naltvigo_refusal refusal, strict;
-};
-struct row {
-    const char *given;
-    uint32_t keys, depth;
-    uint64_t bytes;
-    struct answer by_order[2];
-};
-struct pair {
-    const char *left, *right;
-    uint32_t status, side;
-    struct naltvigo_refusal refusal;
-};
-#include "rows.h"
-
-#define OF_ROW(row, order) ALL_OPTIONS(order, (row)->keys, (row)->depth, (row)->bytes)
 #define LIMITS_OF_ROW(row) OF_ROW(row, 99)
 
-static void *room_for(size_t n) {
-    void *p = malloc(n ? n : 1);
-    if (!p) abort();
-    return p;
-}
-
-/* Hex digits, as a block of exactly that many bytes, so that a tool sees any access beside them. */
-static uint8_t *unhex(const char *hex, size_t *length) {
-    size_t n = *length = strlen(hex) / 2;
-    uint8_t *bytes = n ? room_for(n) : NULL;
-    for (size_t i = 0; i < n; i++) {
-        char two[3] = {hex[2 * i], hex[2 * i + 1], 0};
-        bytes[i] = (uint8_t)strtoul(two, NULL, 16);
-    }
-    return bytes;
-}
-
-static const struct naltvigo_refusal unset = {77, 78, 79};
-
-static int are_equal(struct naltvigo_refusal a, struct naltvigo_refusal b) {
-    return a.reason == b.reason && a.place == b.place && a.read == b.read;
-}
-
-static int all_are(const uint8_t *bytes, size_t n, uint8_t byte) {
-    for (size_t i = 0; i < n; i++)
-        if (bytes[i] != byte) return 0;
-    return 1;
-}
-
-/* The canonical bytes of a row's input in buffers with room for none, one too few, just enough and more. */
+/* The canonical bytes of a row's input in buffers with space for none, one too few, just enough and more. */
 static void becomes(const struct row *row, uint32_t order, const uint8_t *in, size_t n) {
     size_t m, needed = 999;
     uint8_t *wanted = unhex(row->by_order[order].canonical, &m);
     struct naltvigo_refusal why = unset;
     uint32_t s = naltvigo_canonicalise(in, n, OF_ROW(row, order), NULL, 0, &needed, &why);
     check(s == NALTVIGO_TOO_SMALL && needed == m && are_equal(why, unset), "asked for the length", row->given);
-    for (size_t room = m - 1; room <= m + 3; room += room == m + 1 ? 2 : 1) {
-        uint8_t *out = room_for(room);
-        memset(out, 0xaa, room);
+    for (size_t space = m - 1; space <= m + 3; space += space == m + 1 ? 2 : 1) {
+        uint8_t *out = room_for(space);
+        memset(out, 0xaa, space);
         needed = 999;
-        s = naltvigo_canonicalise(in, n, OF_ROW(row, order), out, room, &needed, &why);
+        s = naltvigo_canonicalise(in, n, OF_ROW(row, order), out, space, &needed, &why);
         check(needed == m && are_equal(why, unset), "needed", row->given);
-        if (room < m) {
-            check(s == NALTVIGO_TOO_SMALL && all_are(out, room, 0xaa), "too small", row->given);
+        if (space < m) {
+            check(s == NALTVIGO_TOO_SMALL && all_are(out, space, 0xaa), "too small", row->given);
         } else {
             check(s == NALTVIGO_OK && memcmp(out, wanted, m) == 0, "canonical", row->given);
-            check(all_are(out + m, room - m, 0xaa), "kept behind", row->given);
+            check(all_are(out + m, space - m, 0xaa), "kept behind", row->given);
         }
         free(out);
     }
@@ -158,13 +110,13 @@ static void reads(const char *given, const char *wanted) {
     size_t n, needed = 999, m = strlen(wanted);
     uint8_t *in = unhex(given, &n);
     struct naltvigo_refusal why = unset;
-    for (size_t room = m - 1; room <= m + 1; room++) {
-        char *out = room_for(room);
-        memset(out, 7, room);
-        uint32_t s = naltvigo_diagnostic(in, n, LIMITS(256, 1 << 20), out, room, &needed, &why);
+    for (size_t space = m - 1; space <= m + 1; space++) {
+        char *out = room_for(space);
+        memset(out, 7, space);
+        uint32_t s = naltvigo_diagnostic(in, n, LIMITS(256, 1 << 20), out, space, &needed, &why);
         check(needed == m && are_equal(why, unset), "length of the text", given);
-        if (room < m)
-            check(s == NALTVIGO_TOO_SMALL && all_are((uint8_t *)out, room, 7), "text too small", given);
+        if (space < m)
+            check(s == NALTVIGO_TOO_SMALL && all_are((uint8_t *)out, space, 7), "text too small", given);
         else
             check(s == NALTVIGO_OK && memcmp(out, wanted, m) == 0, "text", given);
         free(out);
@@ -257,7 +209,11 @@ static void names(void) {
     }
     check(strcmp(naltvigo_status_name(NALTVIGO_OK), "OK") == 0, "status", "OK");
     check(strcmp(naltvigo_status_name(NALTVIGO_BAD_MACHINE), "BAD_MACHINE") == 0, "status", "BAD_MACHINE");
-    check(strcmp(naltvigo_status_name(10), "") == 0, "status", "10");
+    check(strcmp(naltvigo_status_name(NALTVIGO_NOT_THERE), "NOT_THERE") == 0, "status", "NOT_THERE");
+    check(strcmp(naltvigo_status_name(NALTVIGO_WRONG_KIND), "WRONG_KIND") == 0, "status", "WRONG_KIND");
+    check(strcmp(naltvigo_status_name(NALTVIGO_BAD_HEAD), "BAD_HEAD") == 0, "status", "BAD_HEAD");
+    check(strcmp(naltvigo_status_name(NALTVIGO_OUT_OF_RANGE), "OUT_OF_RANGE") == 0, "status", "OUT_OF_RANGE");
+    check(strcmp(naltvigo_status_name(14), "") == 0, "status", "14");
     check(naltvigo_version() == NALTVIGO_VERSION_NUMBER, "version", NALTVIGO_VERSION);
 }
 
@@ -318,6 +274,32 @@ static void defaults(void) {
     free(text);
 }
 
+/* A caller that does not ask why: of a break, which each call refuses, and of what it accepts. */
+static void no_refusal_wanted(void) {
+    const uint8_t stray = 0xff, one = 1;
+    uint8_t out[8];
+    size_t needed, used, reported;
+    uint64_t taken;
+    uint32_t side;
+    struct naltvigo_machine machine;
+    struct naltvigo_event event;
+    for (int refused = 0; refused < 2; refused++) {
+        const uint8_t *in = refused ? &stray : &one;
+        const uint32_t wanted = refused ? NALTVIGO_REFUSED : NALTVIGO_OK;
+        check(naltvigo_canonicalise(in, 1, NULL, out, sizeof out, &needed, NULL) == wanted, "no refusal", "canonicalise");
+        check(naltvigo_check_canonical(in, 1, NULL, NULL) == wanted, "no refusal", "check_canonical");
+        check(naltvigo_check_valid(in, 1, NULL, NULL) == wanted, "no refusal", "check_valid");
+        check(naltvigo_next_valid(in, 1, NULL, &taken, NULL) == wanted, "no refusal", "next_valid");
+        check(naltvigo_next_canonical(in, 1, NULL, &taken, NULL) == wanted, "no refusal", "next_canonical");
+        check(naltvigo_compare(in, 1, in, 1, NULL, &side, NULL) == wanted, "no refusal", "compare");
+        check(naltvigo_diagnostic(in, 1, NULL, (char *)out, sizeof out, &needed, NULL) == wanted, "no refusal", "diagnostic");
+        naltvigo_machine_start(NULL, &machine);
+        uint32_t s = naltvigo_machine_take(&machine, in, 1, &used, &event, 1, &reported, NULL);
+        check(s == (refused ? NALTVIGO_REFUSED : NALTVIGO_EVENT), "no refusal", "machine_take");
+        check(naltvigo_machine_step(&machine, NULL, 0, &used, &event, NULL) == wanted, "no refusal", "machine_step");
+    }
+}
+
 int main(void) {
     for (size_t i = 0; i < sizeof rows / sizeof *rows; i++) answers(&rows[i]);
     for (size_t i = 0; i < sizeof pairs / sizeof *pairs; i++) compares(&pairs[i]);
@@ -334,6 +316,7 @@ int main(void) {
     nothing_at_all();
     sequences();
     defaults();
+    no_refusal_wanted();
     names();
     printf("%d checks, %d fail\n", checks, faults);
     return faults != 0;

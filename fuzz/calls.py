@@ -23,7 +23,7 @@ class Calls:
     def __init__(self, of, order, part):
         self.of, self.refused, self.part = of, of.answers.strict[order], part
         self.taken = self.held = 0
-        self.asked, self.told = [], []
+        self.asked, self.reported = [], []
 
     def word(self):
         it = self.of.answers
@@ -33,7 +33,7 @@ class Calls:
             self.held = 0
         else:
             last = "none"
-        calls = "".join(self.told) + 3 * self.call(last, self.refused)
+        calls = "".join(self.reported) + 3 * self.call(last, self.refused)
         return f"{calls}:{''.join(f'{count}+' for count in self.asked)}:{len(it.given) - self.taken}"
 
     def call(self, answer, refused=None):
@@ -73,9 +73,9 @@ class Calls:
         return it and it.reason not in (TRUNCATED, TOO_LONG) and it.read == self.taken
 
     def tell(self, event):
-        self.told.append(self.call(f"{event.name},{event.argument},{event.place},{event.width}"))
+        self.reported.append(self.call(f"{event.name},{event.argument},{event.place},{event.width}"))
 
     def tell_piece(self, count):
         place = self.taken - count
         self.held = count
-        self.told.append(self.call(f"piece,{count},{place},0,{self.of.form.bytes[place : self.taken].hex()}"))
+        self.reported.append(self.call(f"piece,{count},{place},0,{self.of.form.bytes[place : self.taken].hex()}"))

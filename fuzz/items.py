@@ -109,8 +109,20 @@ class Items:
 
     # ---- inputs
 
+    def late_repeat(self):
+        """The bytes of a map with a key that is repeated behind a deep value, or behind many pairs."""
+        levels, pairs = self.chance.choice([(9, 1), (65, 1), (70, 3), (1, 260), (2, 400)])
+        deep = (UNSIGNED, 0)
+        for _ in range(levels):
+            deep = (ARRAY, (deep,))
+        entries = [((UNSIGNED, number), deep if number == 0 else (UNSIGNED, 0)) for number in range(pairs)]
+        entries.append(self.chance.choice(entries))
+        return self.spell((MAP, tuple(entries)), self.chance.choice([0, 0.1]))
+
     def item(self):
         """The bytes of an item: canonical, or nearly, or spelled anyhow."""
+        if self.chance.random() < 0.01:
+            return self.late_repeat()
         value = self.value(self.chance.choice([0, 1, 2, 3, 4]))
         if self.chance.random() < 0.3:
             return canonical(self.chance.choice([0, LENGTH_FIRST]), value)

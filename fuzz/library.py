@@ -26,24 +26,24 @@ class Library:
         """The kinds of keys, the depth and the bytes, as each call has them in a row."""
         return ctypes.c_uint32(limits.keys), ctypes.c_uint32(limits.depth), ctypes.c_uint64(limits.most)
 
-    def writing(self, call, given, words, room):
+    def writing(self, call, given, words, space):
         why, needed = Why(), ctypes.c_size_t()
-        out = ctypes.create_string_buffer(b"\xaa" * room, room + 1)
-        status = call(given, ctypes.c_size_t(len(given)), *words, out, ctypes.c_size_t(room), ctypes.byref(needed), ctypes.byref(why))
+        out = ctypes.create_string_buffer(b"\xaa" * space, space + 1)
+        status = call(given, ctypes.c_size_t(len(given)), *words, out, ctypes.c_size_t(space), ctypes.byref(needed), ctypes.byref(why))
         if status == TOO_SMALL:
-            expect("a buffer that is too small", b"\xaa" * room, out.raw[:room])
+            expect("a buffer that is too small", b"\xaa" * space, out.raw[:space])
             return self.writing(call, given, words, needed.value)
         if status == REFUSED:
-            expect("what was refused", (0, b"\xaa" * room), (needed.value, out.raw[:room]))
+            expect("what was refused", (0, b"\xaa" * space), (needed.value, out.raw[:space]))
             return why.refusal()
         expect("status", OK, status)
         return out.raw[: needed.value]
 
-    def canonicalise(self, given, order, limits, room):
-        return self.writing(self.calls.naltvigo_canonicalise_raw, given, (ctypes.c_uint32(order), *self.words(limits)), room)
+    def canonicalise(self, given, order, limits, space):
+        return self.writing(self.calls.naltvigo_canonicalise_raw, given, (ctypes.c_uint32(order), *self.words(limits)), space)
 
-    def diagnostic(self, given, limits, room):
-        return self.writing(self.calls.naltvigo_diagnostic_raw, given, self.words(limits), room)
+    def diagnostic(self, given, limits, space):
+        return self.writing(self.calls.naltvigo_diagnostic_raw, given, self.words(limits), space)
 
     def judged(self, call, given, *words):
         why = Why()

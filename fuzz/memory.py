@@ -132,7 +132,7 @@ def unlike(programs, cases):
 
 
 def refuse_all(programs, cases, judge):
-    """Refuses the requests of cases, each a case and the first to refuse: how many runs told it, how many went on or
+    """Refuses the requests of cases, each a case and the first to refuse: how many runs reported it, how many went on or
     ended otherwise as they may, and what went wrong."""
 
     def refuse(program, case):
@@ -148,7 +148,7 @@ def refuse_all(programs, cases, judge):
         for verdict, case, refused, found, usual in runs
         if verdict == "wrong"
     ]
-    return verdicts.count("told"), verdicts.count("may"), wrong
+    return verdicts.count("reported"), verdicts.count("may"), wrong
 
 
 def is_memory(given, usual):
@@ -159,7 +159,7 @@ def is_memory(given, usual):
 
 
 def judge_program(_, given, usual):
-    return "told" if is_memory(given, usual) else "may" if given == usual else "wrong"
+    return "reported" if is_memory(given, usual) else "may" if given == usual else "wrong"
 
 
 def documents_of(command):
@@ -302,7 +302,7 @@ def judge_reader(case, given, usual):
         # the driver's own memory, or that of canonical bytes
         return "may"
     is_told = status == 0 and is_line(out.decode()[:-1], usual.decode()[:-1], len(case.file))
-    return "told" if is_told else "wrong"
+    return "reported" if is_told else "wrong"
 
 
 def main():
@@ -321,19 +321,19 @@ def main():
             programs = several(given.program)
             for name, commands, inputs in (("documents", COMMANDS, documents_of), ("rows", JUDGING, rows_of)):
                 cases = [it for command in commands for it in unlike(programs, inputs(command))]
-                told, usually, found = refuse_all(programs, cases, judge_program)
-                print(f"a request refused on {name}: {told} runs out of memory, {usually} as usual, {len(found)} else")
+                reported, usually, found = refuse_all(programs, cases, judge_program)
+                print(f"a request refused on {name}: {reported} runs out of memory, {usually} as usual, {len(found)} else")
                 wrong += found
             most, found = count_promises(programs[0])
             print(f"heads that promise much: at most {CONSTANT} bytes and {most:.0f} for each that came")
             wrong += found
         if given.readers:
             readers = several(given.readers)
-            told, ended, found = refuse_all(readers, unlike(readers, lines()), judge_reader)
-            print(f"a request of the readers refused: {told} told or as usual, {ended} ended, {len(found)} else")
+            reported, ended, found = refuse_all(readers, unlike(readers, lines()), judge_reader)
+            print(f"a request of the readers refused: {reported} reported or as usual, {ended} ended, {len(found)} else")
             wrong += found
-            told, found = refuse_calls(given.readers, library, folder)
-            print(f"memory refused to calls over whole items: {told} told, {len(found)} else")
+            reported, found = refuse_calls(given.readers, library, folder)
+            print(f"memory refused to calls over whole items: {reported} reported, {len(found)} else")
             wrong += found
     for line in wrong[:20]:
         print(line)

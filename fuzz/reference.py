@@ -109,7 +109,7 @@ class Form:
     def event(self, place, name, argument, width):
         self.events.append(Event(place, self.at, name, argument, width))
 
-    def told(self, place, major, argument, size, name=None):
+    def reported(self, place, major, argument, size, name=None):
         """A definite head, complete; a simple value has one spelling alone."""
         if size and argument < FEWEST[size] and major != SIMPLE:
             self.in_both(self.at, place, 14)
@@ -153,7 +153,7 @@ class Form:
             count = None
         else:
             count, size = self.argument(first)
-            self.told(place, major, count, size)
+            self.reported(place, major, count, size)
         if major in (UNSIGNED, NEGATIVE):
             return (major, count)
         if major in (BYTES, TEXT):
@@ -175,7 +175,7 @@ class Form:
             number, size = self.take(1)[0], 1
             if number < 32:
                 raise Break(6, place + 1, self.at)
-        self.told(place, SIMPLE, number, size)
+        self.reported(place, SIMPLE, number, size)
         return (SIMPLE, number)
 
     def payload(self, major, count):
@@ -197,7 +197,7 @@ class Form:
             if first >> 5 != major or first & 31 > 27:
                 raise Break(8, place, self.at)
             count, size = self.argument(first)
-            self.told(place, major, count, size, "chunk")
+            self.reported(place, major, count, size, "chunk")
             parts.append(self.payload(major, count))
 
     def members(self, count, levels):

@@ -70,7 +70,7 @@ def is_refused(place, found, usual):
 def go_through(driver, digits):
     """How many answers were Memory, and what went wrong."""
     status, usual, asked = driver.run(digits)
-    wrong, told, sides = [], 0, []
+    wrong, reported, sides = [], 0, []
     if status != 0 or len(usual) != 7:
         return 0, [f"{digits}: {status} {usual}"]
     if driver.run(digits, idle=9) != (status, usual, asked):
@@ -84,7 +84,7 @@ def go_through(driver, digits):
             continue
         for place, (word, before) in enumerate(zip(found, usual, strict=True)):
             if word != before:
-                told += 1
+                reported += 1
                 if not is_refused(place, word, before):
                     wrong.append(f"{digits}, from request {refused}: {word} in place of {before}")
         sides.append(found[6].partition("!")[0])
@@ -92,11 +92,11 @@ def go_through(driver, digits):
     named = [it for it in sides if it in ("left", "right")]
     if sorted(named) != named or set(named) != (set() if digits in CANONICAL else {"left", "right"}):
         wrong.append(f"{digits}: the sides {named}")
-    return told, wrong
+    return reported, wrong
 
 
 def refuse_calls(program, library, folder):
     """How many answers of the driver were Memory, and what went wrong."""
     driver = Driver(program, library, folder)
     found = [go_through(driver, digits) for digits in DOCUMENTS + CANONICAL]
-    return sum(told for told, _ in found), [line for _, lines in found for line in lines]
+    return sum(reported for reported, _ in found), [line for _, lines in found for line in lines]

@@ -10,7 +10,7 @@ events, canon, compare, and check and check --strict over a sequence; with the r
 and then encode, read_strict, StrictReader call by call with what it asks of its reader, and Sequence, over readers
 that give 1, 2, 3 or 4096 bytes a read, and through read_view, its tree and then encode. One half is read for keys
 of any kind, the other for integers and texts. First come the rows of the conformance tables, whose answers were
-worked out by hand, and large maps out of order (large.py). The first disagreement is told with its input and the
+worked out by hand, and large maps out of order (large.py). The first disagreement is reported with its input and the
 seed, and the status is 1. The time ends the run; what a seed tries is always the same.
 """
 
@@ -78,7 +78,7 @@ def driver_line(given, limits):
     return f"{KEYS[limits.keys]} {limits.depth} {limits.most} {given.hex()}\n"
 
 
-def told(refusal):
+def reported(refusal):
     return "!%d,%d,%d" % refusal
 
 
@@ -87,7 +87,7 @@ def read(answers):
     words = []
     for refused in (answers.plain, answers.strict[BYTEWISE], answers.strict[LENGTH_FIRST]):
         count = refused.read if refused else answers.size
-        words.append(f"{told(refused) if refused else count}:{len(answers.given) - count}")
+        words.append(f"{reported(refused) if refused else count}:{len(answers.given) - count}")
     if not answers.plain:
         both = ",".join(canonical(order, answers.value).hex() for order in (BYTEWISE, LENGTH_FIRST))
         words[0] = words[0].replace(":", f",{both}:")
@@ -96,7 +96,7 @@ def read(answers):
     items, rest = "", answers.given
     while rest or answers.limits.most == 0:
         it = Answers(rest, answers.limits)
-        items += told(it.plain) if it.plain else canonical(BYTEWISE, it.value).hex() + ","
+        items += reported(it.plain) if it.plain else canonical(BYTEWISE, it.value).hex() + ","
         if it.plain:
             break
         rest = rest[it.size :]
@@ -108,11 +108,11 @@ def line(refusal, before=""):
     return f"{before}refused {refusal.reason} {REASONS[refusal.reason]} at {refusal.place}\n".encode()
 
 
-def try_library(library, answers, room):
+def try_library(library, answers, space):
     given, limits = answers.given, answers.limits
     for order in (BYTEWISE, LENGTH_FIRST):
         wanted = answers.canonicalised(order)
-        found = library.canonicalise(given, order, limits, room)
+        found = library.canonicalise(given, order, limits, space)
         expect(f"canonicalise, order {order}", wanted, found)
         strict = answers.whole(answers.strict[order])
         expect(f"check_canonical, order {order}", strict, library.check_canonical(given, order, limits))
@@ -124,7 +124,7 @@ def try_library(library, answers, room):
     plain = answers.whole(answers.plain)
     expect("check_valid", plain, library.check_valid(given, limits))
     expect("next_valid", answers.plain or answers.size, library.next_valid(given, limits))
-    expect("diagnostic", plain or diagnostic(answers.value), library.diagnostic(given, limits, room))
+    expect("diagnostic", plain or diagnostic(answers.value), library.diagnostic(given, limits, space))
 
 
 def compared(left, right):
@@ -242,9 +242,9 @@ class Tries:
 
     def one(self, answers):
         chance, items = self.chance, self.items
-        room = chance.choice([0, 1, len(answers.given), 3 * len(answers.given) + 16])
+        space = chance.choice([0, 1, len(answers.given), 3 * len(answers.given) + 16])
         is_tenth = self.program and self.count % 10 == 0
-        try_library(self.library, answers, room)
+        try_library(self.library, answers, space)
         if chance.random() < 0.5:
             if answers.value:
                 self.last = Answers(items.spell(items.like(answers.value), 0.4), answers.limits)
@@ -291,8 +291,8 @@ def main():
     hardly = ", ".join(tries.hardly_tried())
     if hardly:
         sys.exit(f"fuzz: of {tries.count} inputs hardly any were of these verdicts: {hardly}")
-    told = ", ".join(f"{KEYS[keys]} {name} {count}" for (keys, name), count in sorted(tries.verdicts.items()))
-    print(f"fuzz: {tries.count} inputs (by kinds of keys: {told}), and every call answered as it has to")
+    reported = ", ".join(f"{KEYS[keys]} {name} {count}" for (keys, name), count in sorted(tries.verdicts.items()))
+    print(f"fuzz: {tries.count} inputs (by kinds of keys: {reported}), and every call answered as it has to")
 
 
 if __name__ == "__main__":

@@ -13,7 +13,7 @@ TABLES = f"{ROOT}/crates/cbor_reader_tests/src/tests/*_table.rt"
 # By the two orders: the canonical bytes or a refusal, and how many bytes the strict reader takes or a refusal.
 Row = namedtuple("Row", "given limits canonical strict")
 
-# Inputs, in bytewise order: what a reader that gives at most so many bytes a read is asked, and what is told call by
+# Inputs, in bytewise order: what a reader that gives at most so many bytes a read is asked, and what is reported call by
 # call. Worked out by hand, in the words of crates/answers.
 CALLS = [
     # [0, 0] keeps nothing

@@ -1,7 +1,8 @@
 /*
  * naltvigo.h: deterministic CBOR (RFC 8949, without floating point) for C99 and C++.
  *
- * Canonical bytes, checks, comparison and diagnostic text of CBOR items. The functions behind this header
+ * Canonical bytes, checks, comparison and diagnostic text of CBOR items, and the items in canonical bytes;
+ * naltvigo_values.h makes items from values of C, and reads values out of them. The functions behind this header
  * are proved: for every input they are safe, they return, and they answer what their contracts say
  * (crates/naltvigo/src; this file says the same in words, and the gate compares the numbers and the
  * signatures). What is said below of memory, of the stack and of threads is tested. Nothing checks the
@@ -12,7 +13,7 @@
  *     struct naltvigo_refusal why;
  *     switch (naltvigo_canonicalise(in, n, NULL, out, sizeof out, &needed, &why)) {
  *     case NALTVIGO_OK:        // the canonical bytes are out[0 .. needed)
- *     case NALTVIGO_TOO_SMALL: // call again with room for `needed` bytes
+ *     case NALTVIGO_TOO_SMALL: // call again with space for `needed` bytes
  *     case NALTVIGO_REFUSED:   // why.reason at the offset why.place
  *     default:                 // no memory, or options out of range: nothing is known of the input
  *     }
@@ -26,25 +27,28 @@
  *  - naltvigo_reason_name writes a zero byte behind the name, and NALTVIGO_NAME_MAX counts it.
  *  - New: naltvigo_next_valid, naltvigo_next_canonical, naltvigo_machine_take (many events a call, on which
  *    naltvigo_machine_step stands now), naltvigo_status_name, naltvigo_version.
+ *  - New: naltvigo_index, naltvigo_item_at, naltvigo_find and naltvigo_put_head, which read and write the items of
+ *    canonical bytes, with the statuses 10 to 13.
+ *  - `refusal` may be null in the inline functions.
  *
  * What a caller owes
  *  - `in` has `in_length` readable bytes, `out` has `out_length` writable ones, each at most PTRDIFF_MAX.
- *  - Every other pointer is valid and not null. A null `in` or `out` may stand beside a length of 0 in the
- *    inline functions below, not in the exports behind them, whose names end in `_raw`.
- *  - `out`, `*needed`, `*side` and `*refusal` overlap neither an input nor one another, and nobody else
+ *  - Every other pointer is valid and not null. In the inline functions below `refusal` may be null, and so may
+ *    an input or a buffer beside a length of 0; not in the exports behind them, whose names end in `_raw`.
+ *  - `out`, `*needed`, `*side`, `*refusal` and the like overlap neither an input nor one another, and nobody else
  *    reads or writes them, or writes an input, during the call. They need no first value.
  *  - No call comes from a signal handler, nor from the child of a fork of a process with threads, since
- *    malloc may not be called there. (naltvigo_check_canonical, naltvigo_next_canonical, the names and the
- *    calls of a machine call no malloc.)
+ *    malloc may not be called there. (The calls that take no memory, below, call no malloc.)
  *
  * Ownership
  *  - The library keeps no pointer after a call, and hands none out: there is nothing to free.
  *
  * Memory
  *  - From malloc, realloc and free of the program, all of it given back before the call returns; at most in
- *    proportion to the bytes that came, since a length in a head takes none. docs/SPEED.md has figures.
- *  - naltvigo_check_canonical, naltvigo_next_canonical, naltvigo_reason_name and the calls of a machine take
- *    none at all, by proof: they are handed no allocator.
+ *    proportion to the bytes that came, since a length in a head takes none. docs/PERFORMANCE.md has figures.
+ *  - naltvigo_check_canonical, naltvigo_next_canonical, naltvigo_index, naltvigo_item_at, naltvigo_find,
+ *    naltvigo_put_head, naltvigo_reason_name and the calls of a machine take none at all, by proof: they are
+ *    handed no allocator.
  *  - A call to which malloc answers NULL answers NALTVIGO_NO_MEMORY, with `out` as it was, and may be tried
  *    again. malloc and realloc align to 16 bytes, as C libraries for 64 bits do.
  *
@@ -62,6 +66,11 @@
  *    NALTVIGO_DEPTH_MAX, `bytes`, how many bytes an item may have, 0 to NALTVIGO_BYTES_MAX, and `keys`, which
  *    kinds of keys its maps may have, which the calls of a machine leave unread.
  *
+ * What canonical bytes leave open
+ *  - Values are compared as CBOR items. A bignum (tag 2 or 3 over bytes) equals no integer, and c24101 and c2420001 differ:
+ *    what a tag wraps is not looked into, nor is the item inside tag 24. Texts are not normalised (Unicode). Floats are
+ *    refused. Sign or hash `out` only where the status is NALTVIGO_OK. docs/SIGNING.md has examples.
+ *
  * All sizes, places and counts are bytes.
  */
 #ifndef NALTVIGO_H
@@ -69,6 +78,13 @@
 
 #include <stddef.h>
 #include <stdint.h>
+
+/* A conversion that C++ compilers accept without -Wold-style-cast. */
+#ifdef __cplusplus
+#define NALTVIGO_CAST(type, value) static_cast<type>(value)
+#else
+#define NALTVIGO_CAST(type, value) ((type)(value))
+#endif
 
 #ifdef __cplusplus
 extern "C" {
@@ -82,7 +98,7 @@ extern "C" {
 
 /* The same as one number, which a newer version has greater: a byte each for the three. */
 #define NALTVIGO_VERSION_NUMBER \
-    ((uint32_t)(NALTVIGO_VERSION_MAJOR << 16 | NALTVIGO_VERSION_MINOR << 8 | NALTVIGO_VERSION_PATCH))
+    (UINT32_C(65536) * NALTVIGO_VERSION_MAJOR + UINT32_C(256) * NALTVIGO_VERSION_MINOR + NALTVIGO_VERSION_PATCH)
 
 /* What a call answers. New numbers may come: take any other one for a failure. */
 enum {
@@ -93,9 +109,13 @@ enum {
     NALTVIGO_BAD_ORDER = 4,  /* `order` is none of the two */
     NALTVIGO_BAD_LIMITS = 5, /* `depth` or `bytes` is out of range, or `keys` is none of the two */
     NALTVIGO_DIFFERENT = 6,  /* the inputs do not mean the same */
-    NALTVIGO_EVENT = 7,      /* `*event` tells what comes next */
-    NALTVIGO_MORE = 8,       /* all of the input was used, and more is due */
-    NALTVIGO_BAD_MACHINE = 9 /* `*machine` holds no machine */
+    NALTVIGO_EVENT = 7,      /* `*event` is what comes next */
+    NALTVIGO_MORE = 8,       /* all of the input was used, and more is expected */
+    NALTVIGO_BAD_MACHINE = 9, /* `*machine` holds no machine */
+    NALTVIGO_NOT_THERE = 10,  /* no item begins there, or no pair of the map has the key */
+    NALTVIGO_WRONG_KIND = 11, /* the item is of another kind */
+    NALTVIGO_BAD_HEAD = 12,   /* no head has this kind and this number */
+    NALTVIGO_OUT_OF_RANGE = 13 /* a number does not fit its type (naltvigo_values.h) */
 };
 
 /* The order of the keys of a map, by their canonical bytes. */
@@ -162,27 +182,27 @@ struct naltvigo_refusal {
     uint64_t read;   /* how many bytes were taken; at most the input's length, and `bytes` */
 };
 
-/* A machine that takes one item in parts of any length, and tells its events. It is the caller's, of 9.1 KiB;
+/* A machine that takes one item in parts of any length, and gives its events. It is the caller's, of 9.1 KiB;
  * it holds no pointer, so it may be copied, moved and stored. The fields may be read, and are written by the
  * calls of a machine alone: naltvigo_machine_take of other numbers answers NALTVIGO_BAD_MACHINE, or what some
  * machine within its limits would, safely, but of no item. */
 struct naltvigo_machine {
     uint64_t bytes;   /* the byte limit */
     uint64_t taken;   /* how many bytes were taken */
-    uint64_t told;    /* how many of them the events told stand for */
+    uint64_t reported;    /* how many of them the events reported stand for */
     uint64_t number;  /* of the open head its argument so far, of the open payload what follows the next byte */
     uint64_t place;   /* the offset of what was refused */
     uint16_t depth;   /* the depth limit */
     uint16_t open;    /* how many arrays, maps and tags are open */
-    uint8_t position; /* 0: an item is due; 1: within a head; 2: a simple value's number is due; 3: within a
-                       * payload; 4: a chunk is due; 5: the item's end */
+    uint8_t position; /* 0: an item is expected; 1: within a head; 2: a simple value's number is expected; 3: within a
+                       * payload; 4: a chunk is expected; 5: the item's end */
     uint8_t kind;     /* the major type of the head, payload or string */
     uint8_t width;    /* of the open head: 1, 2, 3, 4 for an argument of 1, 2, 4, 8 bytes */
     uint8_t left;     /* how many bytes of the argument follow the next one */
     uint8_t chunk;    /* 1 where the head or payload is a chunk's */
     uint8_t reason;   /* why the item was refused; 0 where it was not */
     /* Of each open array, map or tag, the outermost first: how many members, or pairs, follow the one that is
-     * due; and what it is: an array, an array of indefinite length, a map, a map with a value due, the last two
+     * expected; and what it is: an array, an array of indefinite length, a map, a map whose next item is a value, the last two
      * of indefinite length, a tag: 0 to 6. What stands behind these means nothing. */
     uint64_t lefts[NALTVIGO_DEPTH_MAX];
     uint8_t kinds[NALTVIGO_DEPTH_MAX];
@@ -198,13 +218,25 @@ enum {
 /* The width of what has no argument: an indefinite length, or a break. */
 enum { NALTVIGO_NO_ARGUMENT = 255 };
 
-/* An event. One that is not told is left as it was. */
+/* An event. One that is not reported is left as it was. */
 struct naltvigo_event {
     uint64_t place;  /* the offset of its first byte, from the item's first byte */
     uint64_t number; /* the argument, which for kind 1 stands for -1 less it, and for a map counts pairs; how many
                       * bytes a piece has; 0 where there is none */
     uint32_t kind;   /* the major type, or one of the numbers above */
     uint32_t width;  /* how many bytes the argument has: 0, 1, 2, 4, 8, or NALTVIGO_NO_ARGUMENT */
+};
+
+/* An item of canonical bytes. Offsets count from the input's first byte. */
+struct naltvigo_item {
+    uint64_t number;  /* the argument of its head, which for kind 1 stands for -1 less it: the number of an integer,
+                       * a tag or a simple value, or how many bytes, members or pairs the item has */
+    uint64_t place;   /* the offset of its first byte */
+    uint64_t content; /* the offset behind its head: of a string's bytes, of the first member, of the first key, of
+                       * what is tagged */
+    uint64_t end;     /* the offset behind the item */
+    uint32_t kind;    /* the major type, 0 to 7 */
+    uint32_t behind;  /* in a table of naltvigo_index, how many entries it and all items within it have; else 0 */
 };
 
 /* What a call needs of the stack, in bytes. */
@@ -234,13 +266,22 @@ size_t naltvigo_reason_name_raw(uint32_t reason, uint8_t *out, size_t out_length
 uint32_t naltvigo_machine_start_raw(uint32_t depth, uint64_t bytes, struct naltvigo_machine *machine);
 uint32_t naltvigo_machine_take_raw(struct naltvigo_machine *machine, const uint8_t *in, size_t in_length,
                                    size_t *used, struct naltvigo_event *events, size_t events_length,
-                                   size_t *told, struct naltvigo_refusal *refusal);
+                                   size_t *reported, struct naltvigo_refusal *refusal);
+uint32_t naltvigo_index_raw(const uint8_t *in, size_t in_length, uint32_t order, uint32_t keys,
+                            uint32_t depth, uint64_t bytes, struct naltvigo_item *items, size_t items_length,
+                            size_t *needed, struct naltvigo_refusal *refusal);
+uint32_t naltvigo_item_at_raw(const uint8_t *in, size_t in_length, uint64_t place,
+                              struct naltvigo_item *item);
+uint32_t naltvigo_find_raw(const uint8_t *in, size_t in_length, uint64_t map, const uint8_t *key,
+                           size_t key_length, struct naltvigo_item *value);
+uint32_t naltvigo_put_head_raw(uint32_t kind, uint64_t number, uint8_t *out, size_t out_length,
+                               size_t *needed);
 
 /*
  * naltvigo_canonicalise: the canonical bytes of an item.
  *
  * Writes the canonical bytes, in this order of keys, of the one well-formed, valid item that the whole
- * input is to the front of `out`. `*needed` is their count where the status is OK or TOO_SMALL, else 0; with
+ * input is to the start of `out`. `*needed` is their count where the status is OK or TOO_SMALL, else 0; with
  * `out_length` 0 a caller asks for it first, at the price of a whole call. An answer is hardly ever longer
  * than the input: only arrays and maps of indefinite length with 256 members or more grow, by at most 7
  * bytes each. Bytes of `out` behind the answer stay as they were, and all of them where the status is not OK.
@@ -255,10 +296,12 @@ static inline uint32_t naltvigo_canonicalise(const uint8_t *in, size_t in_length
                                              const struct naltvigo_options *options, uint8_t *out,
                                              size_t out_length, size_t *needed,
                                              struct naltvigo_refusal *refusal) {
+    struct naltvigo_refusal ignored;
     const struct naltvigo_options with = options ? *options : naltvigo_defaults();
     uint8_t none[2] = {0, 0};
     return naltvigo_canonicalise_raw(in_length ? in : none, in_length, with.order, with.keys, with.depth,
-                                     with.bytes, out_length ? out : none + 1, out_length, needed, refusal);
+                                     with.bytes, out_length ? out : none + 1, out_length, needed,
+                                     refusal ? refusal : &ignored);
 }
 
 /*
@@ -272,10 +315,11 @@ static inline uint32_t naltvigo_canonicalise(const uint8_t *in, size_t in_length
 static inline uint32_t naltvigo_check_canonical(const uint8_t *in, size_t in_length,
                                                 const struct naltvigo_options *options,
                                                 struct naltvigo_refusal *refusal) {
+    struct naltvigo_refusal ignored;
     const struct naltvigo_options with = options ? *options : naltvigo_defaults();
     const uint8_t none = 0;
     return naltvigo_check_canonical_raw(in_length ? in : &none, in_length, with.order, with.keys, with.depth,
-                                        with.bytes, refusal);
+                                        with.bytes, refusal ? refusal : &ignored);
 }
 
 /*
@@ -286,14 +330,15 @@ static inline uint32_t naltvigo_check_canonical(const uint8_t *in, size_t in_len
 static inline uint32_t naltvigo_check_valid(const uint8_t *in, size_t in_length,
                                             const struct naltvigo_options *options,
                                             struct naltvigo_refusal *refusal) {
+    struct naltvigo_refusal ignored;
     const struct naltvigo_options with = options ? *options : naltvigo_defaults();
     const uint8_t none = 0;
     return naltvigo_check_valid_raw(in_length ? in : &none, in_length, with.keys, with.depth, with.bytes,
-                                    refusal);
+                                    refusal ? refusal : &ignored);
 }
 
 /*
- * naltvigo_next_valid: the item at the front of the input, as in a sequence of items (RFC 8742).
+ * naltvigo_next_valid: the item at the start of the input, as in a sequence of items (RFC 8742).
  *
  * OK where the input begins with a well-formed, valid item, however it is spelled: `*taken` is the count of
  * its bytes, at least 1, and what follows them is not looked at. `*taken` is 0 where the status is not OK. A
@@ -305,10 +350,11 @@ static inline uint32_t naltvigo_check_valid(const uint8_t *in, size_t in_length,
 static inline uint32_t naltvigo_next_valid(const uint8_t *in, size_t in_length,
                                            const struct naltvigo_options *options, uint64_t *taken,
                                            struct naltvigo_refusal *refusal) {
+    struct naltvigo_refusal ignored;
     const struct naltvigo_options with = options ? *options : naltvigo_defaults();
     const uint8_t none = 0;
     return naltvigo_next_valid_raw(in_length ? in : &none, in_length, with.keys, with.depth, with.bytes,
-                                   taken, refusal);
+                                   taken, refusal ? refusal : &ignored);
 }
 
 /*
@@ -321,10 +367,11 @@ static inline uint32_t naltvigo_next_valid(const uint8_t *in, size_t in_length,
 static inline uint32_t naltvigo_next_canonical(const uint8_t *in, size_t in_length,
                                                const struct naltvigo_options *options, uint64_t *taken,
                                                struct naltvigo_refusal *refusal) {
+    struct naltvigo_refusal ignored;
     const struct naltvigo_options with = options ? *options : naltvigo_defaults();
     const uint8_t none = 0;
     return naltvigo_next_canonical_raw(in_length ? in : &none, in_length, with.order, with.keys, with.depth,
-                                       with.bytes, taken, refusal);
+                                       with.bytes, taken, refusal ? refusal : &ignored);
 }
 
 /*
@@ -343,17 +390,19 @@ static inline uint32_t naltvigo_next_canonical(const uint8_t *in, size_t in_leng
 static inline uint32_t naltvigo_compare(const uint8_t *left, size_t left_length, const uint8_t *right,
                                         size_t right_length, const struct naltvigo_options *options,
                                         uint32_t *side, struct naltvigo_refusal *refusal) {
+    struct naltvigo_refusal ignored;
     const struct naltvigo_options with = options ? *options : naltvigo_defaults();
     const uint8_t none = 0;
     return naltvigo_compare_raw(left_length ? left : &none, left_length, right_length ? right : &none,
-                                right_length, with.keys, with.depth, with.bytes, side, refusal);
+                                right_length, with.keys, with.depth, with.bytes, side,
+                                refusal ? refusal : &ignored);
 }
 
 /*
  * naltvigo_diagnostic: an item as people read it.
  *
  * Writes the diagnostic text (RFC 8949, section 8) of the one well-formed, valid item that the whole input
- * is to the front of `out`, on one line, in UTF-8 and with no zero byte at its end. The pairs of a map stand
+ * is to the start of `out`, on one line, in UTF-8 and with no zero byte at its end. The pairs of a map stand
  * in their order. `*needed`, `out` and TOO_SMALL are as with naltvigo_canonicalise. NO_MEMORY stands at 0, or
  * behind the input, which then is such an item, where memory for its text was refused.
  *
@@ -363,10 +412,13 @@ static inline uint32_t naltvigo_diagnostic(const uint8_t *in, size_t in_length,
                                            const struct naltvigo_options *options, char *out,
                                            size_t out_length, size_t *needed,
                                            struct naltvigo_refusal *refusal) {
+    struct naltvigo_refusal ignored;
     const struct naltvigo_options with = options ? *options : naltvigo_defaults();
     uint8_t none[2] = {0, 0};
+    void *const text = out;
     return naltvigo_diagnostic_raw(in_length ? in : none, in_length, with.keys, with.depth, with.bytes,
-                                   out_length ? (uint8_t *)out : none + 1, out_length, needed, refusal);
+                                   out_length ? NALTVIGO_CAST(uint8_t *, text) : none + 1, out_length, needed,
+                                   refusal ? refusal : &ignored);
 }
 
 /*
@@ -381,14 +433,14 @@ static inline uint32_t naltvigo_machine_start(const struct naltvigo_options *opt
 }
 
 /*
- * naltvigo_machine_take: takes bytes from the front of a part of an item, and tells their events.
+ * naltvigo_machine_take: takes bytes from the start of a part of an item, and gives their events.
  *
  * EVENT where `events` is full, MORE where the whole part was used, OK once the item is complete and all its
- * events were told, REFUSED where the input is no well-formed item within the limits (reasons 2 to 9; places
+ * events were reported, REFUSED where the input is no well-formed item within the limits (reasons 2 to 9; places
  * count from the item's first byte). `*used` says how many bytes of the part were taken: give the rest, and
- * then what comes next, to the next call; `*told` says how many events were written to the front of `events`,
+ * then what comes next, to the next call; `*reported` says how many events were written to the start of `events`,
  * whatever the status. A payload comes in pieces as its bytes do. After OK or REFUSED a call uses nothing and
- * answers the same; with room for no event it uses nothing and answers EVENT. An item that ends too early is
+ * answers the same; with space for no event it uses nothing and answers EVENT. An item that ends too early is
  * seen by the caller: its bytes end, and the status is MORE.
  * UTF-8, repeated keys and kinds of keys are not checked. A call fills 9 KiB of its stack, so many events a
  * call are cheaper than one.
@@ -397,22 +449,104 @@ static inline uint32_t naltvigo_machine_start(const struct naltvigo_options *opt
  */
 static inline uint32_t naltvigo_machine_take(struct naltvigo_machine *machine, const uint8_t *in,
                                              size_t in_length, size_t *used, struct naltvigo_event *events,
-                                             size_t events_length, size_t *told,
+                                             size_t events_length, size_t *reported,
                                              struct naltvigo_refusal *refusal) {
+    struct naltvigo_refusal ignored;
     const uint8_t none = 0;
     struct naltvigo_event no_event;
     return naltvigo_machine_take_raw(machine, in_length ? in : &none, in_length, used,
-                                     events_length ? events : &no_event, events_length, told, refusal);
+                                     events_length ? events : &no_event, events_length, reported,
+                                     refusal ? refusal : &ignored);
 }
 
 /*
- * naltvigo_machine_step: the same up to one event: EVENT where `*event` is told.
+ * naltvigo_machine_step: the same up to one event: EVENT where `*event` is reported.
  */
 static inline uint32_t naltvigo_machine_step(struct naltvigo_machine *machine, const uint8_t *in,
                                              size_t in_length, size_t *used, struct naltvigo_event *event,
                                              struct naltvigo_refusal *refusal) {
-    size_t told;
-    return naltvigo_machine_take(machine, in, in_length, used, event, 1, &told, refusal);
+    size_t reported;
+    return naltvigo_machine_take(machine, in, in_length, used, event, 1, &reported, refusal);
+}
+
+/*
+ * naltvigo_index: all items of canonical bytes, in a table.
+ *
+ * REFUSED exactly where naltvigo_check_canonical is. Where the status is OK, items[0 .. *needed) are the item that
+ * the input is and all items within it, in the order of their first bytes. The first item within items[i] is
+ * items[i + 1], and the one that follows items[i] is items[i + items[i].behind]; those of a map are a key, its
+ * value, the next key. `*needed` is the count of entries where the status is OK or TOO_SMALL, else 0. An input of n
+ * bytes has at most n; with `items_length` 0 a caller asks for the count first, at the price of a whole call.
+ *
+ * Where the status is TOO_SMALL, `items` is written over, but with no table. 2^32 entries or more are TOO_SMALL
+ * however much space there is. It takes no memory.
+ *
+ *     [100, {0: true}] is 82 18 64 a1 00 f5, with five entries:
+ *         kind 4, number 2, place 0, content 1, end 6, behind 5     the array
+ *         kind 0, number 100, place 1, content 3, end 3, behind 1   100
+ *         kind 5, number 1, place 3, content 4, end 6, behind 3     the map
+ *         kind 0, number 0, place 4, content 5, end 5, behind 1     the key
+ *         kind 7, number 21, place 5, content 6, end 6, behind 1    true
+ *
+ * Answers OK, TOO_SMALL, REFUSED (reasons 1 to 10, 12, 14 to 16, 20), BAD_ORDER, BAD_LIMITS.
+ */
+static inline uint32_t naltvigo_index(const uint8_t *in, size_t in_length,
+                                      const struct naltvigo_options *options, struct naltvigo_item *items,
+                                      size_t items_length, size_t *needed, struct naltvigo_refusal *refusal) {
+    struct naltvigo_refusal ignored;
+    const struct naltvigo_options with = options ? *options : naltvigo_defaults();
+    const uint8_t none = 0;
+    struct naltvigo_item no_item;
+    return naltvigo_index_raw(in_length ? in : &none, in_length, with.order, with.keys, with.depth, with.bytes,
+                              items_length ? items : &no_item, items_length, needed,
+                              refusal ? refusal : &ignored);
+}
+
+/*
+ * naltvigo_item_at: the item at an offset.
+ *
+ * It takes any bytes and any offset: where the status is OK, place < content <= end <= `in_length`. Where an item
+ * stands in its canonical bytes at this offset, it is that item, and OK. Of other bytes nothing more is said, so
+ * naltvigo_check_canonical comes first. It goes over the item once, to find its end. It takes no memory.
+ *
+ * Answers OK, NOT_THERE, and leaves `*item` as it was where the status is not OK.
+ */
+static inline uint32_t naltvigo_item_at(const uint8_t *in, size_t in_length, uint64_t place,
+                                        struct naltvigo_item *item) {
+    const uint8_t none = 0;
+    return naltvigo_item_at_raw(in_length ? in : &none, in_length, place, item);
+}
+
+/*
+ * naltvigo_find: the value at a key of the map at an offset.
+ *
+ * `key` is the canonical bytes of the key. It takes any bytes and any offset, as naltvigo_item_at does. Where a map
+ * stands in its canonical bytes at this offset, in either order of its keys, the status is OK exactly if the map has
+ * the key. It goes over the pairs once, up to the key or to one that comes after it. It takes no memory.
+ *
+ * Answers OK, NOT_THERE (also where no item is at the offset), WRONG_KIND (the item is no map), and leaves `*value`
+ * as it was where the status is not OK.
+ */
+static inline uint32_t naltvigo_find(const uint8_t *in, size_t in_length, uint64_t map, const uint8_t *key,
+                                     size_t key_length, struct naltvigo_item *value) {
+    const uint8_t none = 0;
+    return naltvigo_find_raw(in_length ? in : &none, in_length, map, key_length ? key : &none, key_length,
+                             value);
+}
+
+/*
+ * naltvigo_put_head: the shortest head of a kind and a number.
+ *
+ * Writes it to the start of `out`. `*needed` is 1, 2, 3, 5 or 9 where the status is OK or TOO_SMALL, else 0. Behind
+ * it a caller puts the bytes of the string, the members of the array, the pairs of the map in the order of their
+ * keys, or what is tagged, each in its canonical bytes: these are then the item's. It takes no memory.
+ *
+ * Answers OK, TOO_SMALL, BAD_HEAD: a kind above 7; or a simple value (kind 7) of 24 to 31, or above 255.
+ */
+static inline uint32_t naltvigo_put_head(uint32_t kind, uint64_t number, uint8_t *out, size_t out_length,
+                                         size_t *needed) {
+    uint8_t none = 0;
+    return naltvigo_put_head_raw(kind, number, out_length ? out : &none, out_length, needed);
 }
 
 /* What the longest name of a reason needs, the zero byte at its end included. */
@@ -421,12 +555,13 @@ static inline uint32_t naltvigo_machine_step(struct naltvigo_machine *machine, c
 /*
  * naltvigo_reason_name: the name of a reason, as "TooDeep", in ASCII and with a zero byte at its end.
  *
- * Answers its length without the zero byte, and writes both where `out` has room for both. A number that is
+ * Answers its length without the zero byte, and writes both where `out` has space for both. A number that is
  * no reason's has the empty name.
  */
 static inline size_t naltvigo_reason_name(uint32_t reason, char *out, size_t out_length) {
     uint8_t none = 0;
-    return naltvigo_reason_name_raw(reason, out_length ? (uint8_t *)out : &none, out_length);
+    void *const name = out;
+    return naltvigo_reason_name_raw(reason, out_length ? NALTVIGO_CAST(uint8_t *, name) : &none, out_length);
 }
 
 /* naltvigo_status_name: the name of a status, as "TOO_SMALL", which lasts; "" for a number that is none's. */
@@ -442,6 +577,10 @@ static inline const char *naltvigo_status_name(uint32_t status) {
     case NALTVIGO_EVENT: return "EVENT";
     case NALTVIGO_MORE: return "MORE";
     case NALTVIGO_BAD_MACHINE: return "BAD_MACHINE";
+    case NALTVIGO_NOT_THERE: return "NOT_THERE";
+    case NALTVIGO_WRONG_KIND: return "WRONG_KIND";
+    case NALTVIGO_BAD_HEAD: return "BAD_HEAD";
+    case NALTVIGO_OUT_OF_RANGE: return "OUT_OF_RANGE";
     default: return "";
     }
 }

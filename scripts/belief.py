@@ -1,23 +1,22 @@
 #!/usr/bin/env python3
-"""Which definitions must be believed to believe the public contracts, and what crates take of one another's insides.
+"""Counts which definitions must be believed to believe the public contracts, and what crates take of one another's insides.
 
-A definition in `crates/*/specs/` belongs on the line of belief where a public contract or a public law
-reaches it, directly or through other definitions; what only private functions speak of belongs in
-`specs/inner/`, and what nothing reaches belongs nowhere. In machinery and theory crates, whose readers are other
-crates here, `specs/` holds what those cite too. This script computes the closure from the
-clauses in `src/` and the definitions in `specs/`. It counts too, for each crate, the names that it takes from
-`specs/inner/` and the lemmas that it takes from `proofs/` of other crates, also through a name for the module;
-but those of a theory crate are there to be taken.
+A definition in `crates/*/specs/` must be believed if a public contract or a public law reaches it, directly or through
+other definitions. What only private functions cite belongs in `specs/inner/`, and what nothing reaches belongs nowhere.
+The readers of engines and theory are other crates here, so `specs/` of those holds what other crates cite too. The script
+computes the closure from the clauses in `src/` and the definitions in `specs/`. For each crate it also counts the names
+that it takes from `specs/inner/` and the lemmas that it takes from `proofs/` of other crates, also through a name for the
+module. Lemmas of theory crates are made to be taken, and do not count.
 
     scripts/belief.py           prints what must be believed, by file and in lines, and the names and lemmas taken
-    scripts/belief.py --check   the same in short, and fails where a definition stands on the wrong side or where
-                                docs/READING.md or docs/ARCHITECTURE.md has something else
-    scripts/belief.py --write   writes the counts into docs/READING.md, which are the ceilings of what is taken,
-                                and says which of them rose
-    scripts/belief.py --why X   the way from a public contract to the definition X
-    scripts/belief.py --taken X the names and lemmas that the crate X takes
+    scripts/belief.py --check   prints the totals, and fails if a definition is in the wrong folder or if docs/READING.md or
+                                docs/ARCHITECTURE.md disagrees
+    scripts/belief.py --write   writes the counts into docs/READING.md, which are the ceilings of what may be taken, and
+                                prints which of them rose
+    scripts/belief.py --why X   prints how a public contract reaches the definition X
+    scripts/belief.py --taken X prints the names and lemmas that the crate X takes
 
-A line that must be believed is a line of a definition or of its comments: neither blank, nor an import.
+A counted line is a line of a definition or of its comments; blank lines and imports do not count.
 """
 
 import re
@@ -27,13 +26,20 @@ from collections import deque
 import reading
 from sources import CRATES, IMPORT, NAME, OF_MODELS, ROOT, Exports, Module, Source, ghost_uses, parse_spec
 
-# The calls whose contracts are the headline, and a crate that hands each of them out.
+# The calls of the headline, each with a crate that hands it out.
 HEADLINE = [("cbor_reader", "canonicalise"), ("cbor_reader", "read_strict")]
-# Crates that only crates of ours see: of what they hand out that alone is public which another crate hands on.
-MACHINERY = {"cbor_steps", "cbor_machine", "cbor_buffer", "cbor_front", "cbor_walk", "cbor_sinks", "cbor_plain"}
-MACHINERY |= {"cborc_input", "cborc_items", "cborc_sequences", "cborc_grammar"}
-# Crates of specs, proofs and laws alone, made to be taken from.
-THEORY = {"cbor_grammar", "cbor_automaton", "cbor_standing", "cbor_canonical", "cbor_judging", "cborc_fronts"}
+# Engines that only crates of ours see: what they hand out is public only if another crate hands it on.
+MACHINERY = {"cbor_machine", "cbor_output", "cbor_parser", "cbor_sinks", "cbor_tree_reader"}
+# Crates of specs, proofs and laws, whose lemmas are made to be taken; and the files of them that have code all the same.
+THEORY = {"cbor_model", "cbor_automaton", "cbor_verdict"}
+THEORY_CODE = {("cbor_model", "key_order"), ("cbor_model", "prefix_number")}
+# Files of proofs that are theory in a crate with code: what the state of a machine means.
+THEORY_PROOFS = {
+    f"Rattle.cbor_machine.proofs.{it}"
+    for it in ("Buffers", "Feeding", "Form", "MachineStates", "NextEvents", "NextRefusals", "Positions", "Reported")
+}
+# Where docs/ARCHITECTURE.md lists these: the groups of its map.
+GROUPS = {"Users call first", "Engines", "Theory", "Examples and tests"}
 
 
 class Tree:
@@ -52,12 +58,12 @@ class Tree:
         self.functions = [it for source in self.sources for it in source.functions]
         self.exports = Exports(self.sources)
         self.programs = {it for it in self.crates if (CRATES / it / "src" / "main.rt").exists()}
-        users = set(self.crates) - MACHINERY - self.programs
+        users = set(self.crates) - MACHINERY
         self.handed_out = {it for crate in users for it in self.exports.of_crate(crate).values()}
 
     def is_public(self, function):
-        """Whether users see the function's contract. Of a program all functions count."""
-        if function.crate in self.programs:
+        """Whether users see the function's contract. Of a program, `main` and what its public modules hand out count."""
+        if function.crate in self.programs and not function.module:
             return True
         owner = function.owner
         if owner is None:
@@ -65,7 +71,7 @@ class Tree:
         if (function.crate, owner.name) not in {(crate, name) for crate, _, name in self.handed_out}:
             return False
         if owner.of_trait:
-            # a method of a trait is seen where the trait is; a trait that no crate of ours declares is std's
+            # a method of a trait is public if the trait is; a trait that no crate of ours declares is std's
             is_ours = any(f"trait {owner.of_trait}" in it.text for it in self.sources)
             is_seen = not is_ours or owner.of_trait in {name for _, _, name in self.handed_out}
             return is_seen and function.name not in OF_MODELS
@@ -116,8 +122,8 @@ class Tree:
         return [it for it in found if it is not None]
 
     def text(self, definition, opened):
-        """A definition's text. A field `inner`, of an inner type or of machinery's, is left out, but where it is opened:
-        a call's contract gives it and takes it, and no reader opens it."""
+        """A definition's text. A field `inner`, of an inner type or of an engine's, is left out unless it is opened: calls
+        pass it on, and no reader opens it."""
         if opened:
             return "\n".join(definition.lines)
         kept, skipping = [], None
@@ -137,8 +143,8 @@ class Tree:
         return bool(kind) and (kind[0].inner() or kind[0].module.split(".")[1] in MACHINERY)
 
     def closure(self, functions, opened=False, proved=()):
-        """Each definition that the contracts reach, with what it was reached from; fields `inner` opened or not. With
-        what proofs name, also what that reaches."""
+        """Each definition that the contracts reach, with what it was reached from; fields `inner` opened or not. If names
+        used by proofs are given, also what those reach."""
         named = [it for it in self.definitions() if it.key in proved]
         came, queue = {it.key: "proofs" for it in named}, deque(named)
         for function in functions:
@@ -157,13 +163,13 @@ class Tree:
         return came
 
     def headline(self):
-        """The functions of the headline, and which of its calls no crate hands out."""
+        """The functions of the headline, and a message for each that no crate hands out."""
         found, lacking = [], []
         for crate, call in HEADLINE:
             item = self.exports.of_crate(crate).get(call)
             of_call = [it for it in self.functions if it.owner is None and (it.crate, it.module, it.name) == item]
             found += of_call
-            lacking += [] if of_call else [f"{crate} hands out no call {call}, of which the headline speaks"]
+            lacking += [] if of_call else [f"{crate} does not hand out {call}, a call of the headline"]
         return found, lacking
 
 
@@ -221,65 +227,63 @@ class Takings:
                 if self.declares(module, parts[1]):
                     found.add((module, parts[1]))
         found = {self.tree.origin(*it) for it in found}
-        # the tests of a crate that stand beside it are its own
+        # a crate of tests belongs to the crate that it tests
         others = set(self.tree.crates) - {crate, crate.removesuffix("_tests")} - THEORY
-        return {it for it in found if it[0].split(".")[1] in others}
+        return {it for it in found if it[0].split(".")[1] in others and it[0] not in THEORY_PROOFS}
 
 
 # ---- faults
 
 
 def faults_of_places(tree, public, private, proved):
-    """Definitions on the wrong side of the line, or on none."""
+    """Definitions in the wrong folder, or that nothing reaches."""
     for definition in tree.definitions():
         is_users = definition.module.split(".")[1] not in MACHINERY | THEORY
         if definition.key not in private and definition.key not in proved:
-            yield f"{definition.at()} is reached from nothing"
+            yield f"{definition.at()}: nothing reaches it; remove it"
         elif definition.inner() and definition.key in public:
-            yield f"{definition.at()} is reached from public contracts ({public[definition.key]}), and stands in inner/"
+            yield f"{definition.at()}: a public contract reaches it ({public[definition.key]}); move it out of specs/inner/"
         elif is_users and not definition.inner() and definition.key not in public:
             reached = "private functions" if definition.key in private else "proofs"
-            yield f"{definition.at()} is reached from {reached} alone, and stands on the line of belief"
+            yield f"{definition.at()}: only {reached} reach it; move it to specs/inner/"
         for line in definition.lines:
             if line.strip().startswith("pub inner :") and not tree.is_inner_field(definition, line):
-                yield f"{definition.at()} has a field inner whose type stands neither in inner/ nor in machinery"
+                yield f"{definition.at()}: the type of its field inner is neither in specs/inner/ nor an engine's"
 
 
-def faults_of_stands():
-    """Where docs/ARCHITECTURE.md has a crate stand on something else than crates.txt does, or has no row for it."""
+def map_of_crates():
+    """The crates of the map in docs/ARCHITECTURE.md, with the groups that they stand in; and messages for other groups."""
+    found, messages, group = {}, [], None
+    text = (ROOT / "docs" / "ARCHITECTURE.md").read_text().partition("\n## The map\n")[2].partition("\n## ")[0]
+    for row in text.splitlines():
+        heading = re.match(r"\| \*\*([^:*]+)(?::[^*]*)?\*\* \|", row)
+        if heading:
+            group = heading[1]
+            messages += [] if group in GROUPS else [f"the map in docs/ARCHITECTURE.md has a group {group}"]
+        elif row.startswith("| `"):
+            found.update({crate: group for crate in re.findall(r"`(\w+)`", row.split("|")[1])})
+    return found, messages
+
+
+def faults_of_map(tree):
+    """Where the map in docs/ARCHITECTURE.md disagrees with crates.txt or with the lists here."""
     lines = [it.partition("#")[0].partition(":") for it in (ROOT / "crates.txt").read_text().splitlines()]
-    listed = {front.split()[0]: behind.split() for front, colon, behind in lines if colon}
-    rows, shared = {}, set()
-    for row in (ROOT / "docs" / "ARCHITECTURE.md").read_text().partition("\n## Folders\n")[0].splitlines():
-        cells = [re.findall(r"`(\w+)`", it) for it in row.split("|")[1:-1]]
-        if len(cells) == 3 and len(cells[0]) == 1:
-            rows[cells[0][0]] = cells[2]
-        elif len(cells) == 3:
-            # a row of tests names no libraries
-            shared |= {it for it in cells[0] if it.endswith("_tests")}
-    for crate, libraries in listed.items():
-        has = rows.get(crate, libraries if crate in shared else None)
-        if has is None:
-            yield f"docs/ARCHITECTURE.md has no row for {crate}, which crates.txt lists"
-        elif has != libraries:
-            differ = [f"{it} in crates.txt alone" for it in libraries if it not in has]
-            differ += [f"{it} in docs/ARCHITECTURE.md alone" for it in has if it not in libraries]
-            differ = differ or ["docs/ARCHITECTURE.md has another order than crates.txt"]
-            yield f"what {crate} stands on: {', '.join(differ)}"
-    for crate in sorted(rows.keys() - listed.keys()):
-        yield f"docs/ARCHITECTURE.md has a row for {crate}, which crates.txt does not list"
-
-
-def faults_of_crates(tree):
-    """Theory with code, and what docs/ARCHITECTURE.md calls machinery or theory and the lists here do not, or the reverse."""
-    rows = (ROOT / "docs" / "ARCHITECTURE.md").read_text().splitlines()
-    for word, listed in (("machinery", MACHINERY), ("theory", THEORY)):
-        named = {it.group(1) for it in (re.match(rf"\| `(\w+)` \| {word}\b", row) for row in rows) if it}
-        for crate in sorted(named ^ (listed & set(tree.crates))):
-            yield f"{crate} is {word} in {'docs/ARCHITECTURE.md' if crate in named else 'scripts/belief.py'} alone"
+    listed = {crate.split()[0] for crate, colon, _ in lines if colon}
+    found, messages = map_of_crates()
+    yield from messages
+    for crate in sorted(listed - found.keys()):
+        yield f"the map in docs/ARCHITECTURE.md does not have {crate}, which crates.txt lists"
+    for crate in sorted(found.keys() - listed):
+        yield f"the map in docs/ARCHITECTURE.md has {crate}, which crates.txt does not list"
+    for crate in sorted(MACHINERY & set(tree.crates)):
+        if found.get(crate) != "Engines":
+            yield f"the map in docs/ARCHITECTURE.md does not have {crate} among the engines, and scripts/belief.py does"
+    for crate in sorted({it for it, group in found.items() if group == "Theory"} ^ (THEORY & set(tree.crates))):
+        yield f"{crate}: the map in docs/ARCHITECTURE.md and scripts/belief.py disagree whether it is theory"
     for function in tree.functions:
-        if function.crate in THEORY and "laws" not in function.module:
-            yield f"{function.crate} is theory, and has the function {function.name}"
+        is_law = any(part.endswith("laws") for part in function.module)
+        if function.crate in THEORY and not is_law and (function.crate, *function.module[:1]) not in THEORY_CODE:
+            yield f"{function.crate} is theory, and {'/'.join(function.module)} has the function {function.name}"
 
 
 def main():
@@ -304,8 +308,7 @@ def main():
             print(" <- ".join([*way, key]))
         return 0
     in_proofs = {it for module, file in takings.files.items() if ".proofs." in module for it in imported(tree, file)}
-    faults += [*faults_of_places(tree, public, private, tree.closure([], True, in_proofs)), *faults_of_crates(tree)]
-    faults += faults_of_stands()
+    faults += [*faults_of_places(tree, public, private, tree.closure([], True, in_proofs)), *faults_of_map(tree)]
     counts = reading.Counts(tree.definitions(), headline, public, {it: takings.of_crate(it) for it in tree.crates}, THEORY)
     if word == "--write":
         counts.write()
@@ -321,7 +324,7 @@ def main():
 
 
 def imported(tree, path):
-    """What a file of proofs/ brings in by name, or names through a module."""
+    """What a file of proofs/ imports by name, or names through a module."""
     scope = Module("file")
     text = path.read_text()
     for match in (IMPORT.match(it.strip()) for it in text.splitlines()):

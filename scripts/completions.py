@@ -63,7 +63,7 @@ def of_fish(line, folder):
     return {entry.split("\t")[0] for entry in asked.stdout.splitlines()}
 
 
-# What zsh would offer, told by the call that takes the offers.
+# What zsh would offer, reported by the call that takes the offers.
 TELLER = """
 PS1=; fpath=(%s $fpath); autoload -Uz compinit; compinit -D -u
 compadd() {
@@ -126,7 +126,7 @@ def faults():
 
 
 if __name__ == "__main__":
-    told = faults()
-    for fault in told:
+    reported = faults()
+    for fault in reported:
         print("completions:", fault)
-    sys.exit(1 if told else 0)
+    sys.exit(1 if reported else 0)

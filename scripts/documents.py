@@ -1,9 +1,8 @@
 #!/usr/bin/env python3
-"""Holds the documents to what they promise: links lead to files, README has at most 60 lines, no line of prose more than 120
-characters, and what scripts write is what they write.
+"""Checks the documents: links lead to files, files that prose names exist, sizes, width, and generated parts.
 
-    scripts/documents.py [FOLDER]    says what does not hold, and fails where something does not; of a folder where
-                                     documents are installed, whether links lead to files
+    scripts/documents.py [FOLDER]    prints what is wrong, and fails if something is; of a folder of installed documents,
+                                     only whether links lead to files
 """
 
 import re
@@ -13,8 +12,19 @@ from pathlib import Path
 
 ROOT = Path(__file__).resolve().parent.parent
 
-# Documents whose prose keeps to the width; the others are older, and to be brought to it.
-NARROW = ["README.md", "CONTRIBUTING.md", "CHANGELOG.md", "docs/C.md", "docs/TESTED.md", "bindings/python/README.md", "bindings/rust/README.md"]
+# Scripts that write a document or a part of one, and compare it by --check.
+WRITERS = ["proved.py", "ways.py", "reasons.py"]
+# At most so many lines, or words.
+MOST_LINES = {"README.md": 70, "CHANGELOG.md": 120}
+MOST_WORDS = {"docs/DECISIONS.md": 6000}
+# The map of ARCHITECTURE fits a screen, and its glossary a look.
+MOST_ROWS = {"## The map": 40, "## Words": 40}
+# A file of a crate, or of another folder here, that a document names.
+IN_CRATES = re.compile(r"(?:cborc?|naltvigo|example|answers)\w*/(?:src|specs|proofs|must-fail)/[\w/.-]*")
+IN_FOLDERS = re.compile(r"(?:bench|bindings|c|docs|fuzz|include|platform|scripts|share|web|\.ci)/[\w/.-]*[\w/]")
+# The width of prose. Tables and code may be wider, and so may what scripts/proved.py writes.
+WIDTH = 130
+GENERATED = {"docs/PROVED.md", "docs/CALLS.md"}
 
 
 def documents():
@@ -22,36 +32,77 @@ def documents():
     return [ROOT / line for line in listed.splitlines()]
 
 
-def broken_links(path, name):
-    for number, line in prose(path.read_text(encoding="utf-8")):
-        for target in re.findall(r"\]\(([^)#\s]+)(?:#[^)]*)?\)", line):
-            if "://" not in target and not (path.parent / target).exists():
-                yield f"{name}:{number}: {target} is not there"
+def text_of(path):
+    return path.read_text(encoding="utf-8")
 
 
-def prose(text):
-    """The lines of a document, but of code and of tables, with their numbers."""
+def lines_outside_code(text):
+    """The lines of a document outside blocks of code, with their numbers."""
     inside = False
     for number, line in enumerate(text.splitlines(), 1):
-        if line.startswith("```"):
+        if line.lstrip().startswith("```"):
             inside = not inside
-        elif not inside and not line.startswith(("|", "    ")):
+        elif not inside and not line.startswith("    "):
             yield number, line
+
+
+def broken_links(path, name):
+    for number, line in lines_outside_code(text_of(path)):
+        for target in re.findall(r"\]\(([^)#\s]+)(?:#[^)]*)?\)", line):
+            if "://" not in target and not (path.parent / target).exists():
+                yield f"{name}:{number}: {target} does not exist"
+
+
+def wide_lines(path, name):
+    for number, line in lines_outside_code(text_of(path)):
+        if len(line) > WIDTH and not line.startswith("|"):
+            yield f"{name}:{number}: {len(line)} characters, more than {WIDTH}"
+
+
+def sizes():
+    for name, most in MOST_LINES.items():
+        lines = text_of(ROOT / name).count("\n")
+        if lines > most:
+            yield f"{name}: {lines} lines, more than {most}"
+    for name, most in MOST_WORDS.items():
+        words = len(text_of(ROOT / name).split())
+        if words > most:
+            yield f"{name}: {words} words, more than {most}"
+
+
+def missing_files(path, name):
+    """Files that a document names in backticks, and that do not exist."""
+    for number, line in enumerate(text_of(path).splitlines(), 1):
+        for word in re.findall(r"`([^`\s]+)[^`]*`", line):
+            if IN_CRATES.fullmatch(word) and not (ROOT / "crates" / word).exists():
+                yield f"{name}:{number}: crates/{word} does not exist"
+            if IN_FOLDERS.fullmatch(word) and not (ROOT / word).exists():
+                yield f"{name}:{number}: {word} does not exist"
+
+
+def long_tables():
+    """Tables of ARCHITECTURE that are longer than they may be."""
+    text = text_of(ROOT / "docs" / "ARCHITECTURE.md")
+    for heading, most in MOST_ROWS.items():
+        section = text.partition(f"\n{heading}\n")[2].partition("\n## ")[0]
+        rows = sum(line.startswith("| ") for line in section.splitlines()) - 1
+        if not 0 < rows <= most:
+            yield f"docs/ARCHITECTURE.md: {rows} rows below '{heading}'; 1 to {most} are allowed"
 
 
 def faults():
     for path in documents():
         name = path.relative_to(ROOT).as_posix()
         yield from broken_links(path, name)
-        for number, line in prose(path.read_text(encoding="utf-8")):
-            if name in NARROW and len(line) > 120:
-                yield f"{name}:{number}: {len(line)} characters"
-    lines = (ROOT / "README.md").read_text(encoding="utf-8").count("\n")
-    if lines > 60:
-        yield f"README.md: {lines} lines"
-    for script in ("proved.py", "ways.py", "reasons.py"):
+        if name not in GENERATED:
+            yield from wide_lines(path, name)
+        if name.startswith("docs/") or "/" not in name:
+            yield from missing_files(path, name)
+    yield from sizes()
+    yield from long_tables()
+    for script in WRITERS:
         if subprocess.run([sys.executable, ROOT / "scripts" / script, "--check"]).returncode != 0:
-            yield f"scripts/{script} writes something else"
+            yield f"scripts/{script} --check fails"
 
 
 def faults_below(folder):

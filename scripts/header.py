@@ -1,6 +1,6 @@
 #!/usr/bin/env python3
 """Holds include/naltvigo.h against crates/naltvigo, the constants, structs and exports' signatures; and the numbers that the
-bindings repeat against the header.
+crate for Rust repeats against the header.
 
     scripts/header.py [ROOT]    says what differs, and fails where something does
 """
@@ -26,6 +26,8 @@ TYPES = {
     "&mut NaltvigoRefusal": ["struct naltvigo_refusal *"],
     "&mut [NaltvigoEvent]": ["struct naltvigo_event *", "size_t"],
     "&mut SavedMachine": ["struct naltvigo_machine *"],
+    "&mut PlacedItem": ["struct naltvigo_item *"],
+    "&mut [PlacedItem]": ["struct naltvigo_item *", "size_t"],
     "u8": ["uint8_t"],
     "u16": ["uint16_t"],
     "[u64; MOST_OPEN]": ["uint64_t[NALTVIGO_DEPTH_MAX]"],
@@ -36,6 +38,7 @@ TYPES = {
 STRUCTS = {
     "naltvigo_refusal": (CRATE / "status.rt", "NaltvigoRefusal"),
     "naltvigo_event": (CRATE / "streaming.rt", "NaltvigoEvent"),
+    "naltvigo_item": (ROOT / "crates" / "cbor_cursor" / "src" / "placed.rt", "PlacedItem"),
     "naltvigo_machine": (ROOT / "crates" / "cbor_machine" / "src" / "machine" / "saved.rt", "SavedMachine"),
 }
 
@@ -106,16 +109,13 @@ def struct_of_header(name, text):
 def numbers_of_bindings():
     """What the bindings repeat of the header, by file."""
     files = {
-        "bindings/python/src/naltvigo/_library.py": r"^(\w+) = (\d+)$",
         "bindings/rust/src/raw.rs": r"^pub const (\w+): \w+ = (\d+);$",
+        "bindings/js/src/numbers.js": r"^export const (\w+) = (\d+);$",
     }
     for file, pattern in files.items():
         path = ROOT / file
         if path.exists():
             text = path.read_text(encoding="utf-8")
-            # as Python assigns several at once
-            for names, values in re.findall(r"(?m)^([A-Z_]+(?:, [A-Z_]+)+) = (\d+(?:, \d+)+)$", text):
-                yield from ((file, *it) for it in zip(names.split(", "), map(int, values.split(", "))))
             yield from ((file, name, int(value)) for name, value in re.findall(f"(?m){pattern}", text))
 
 

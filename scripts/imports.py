@@ -16,9 +16,20 @@ IMPORT = re.compile(r"^use (Rattle\.[^\s{]+)\.\{(.*)\}$")
 
 
 def ranks():
-    """The crates in the order of crates.txt; std and the kit's stand before them."""
-    lines = (ROOT / "crates.txt").read_text().splitlines()
-    return {it.split(":")[0].split()[0]: at for at, it in enumerate(lines) if it and not it.startswith("#")}
+    """The crates, each behind those that it stands on; std and the kit's stand before them."""
+    lines = [it.partition("#")[0].partition(":") for it in (ROOT / "crates.txt").read_text().splitlines()]
+    stands_on = {name.split()[0]: libraries.split() for name, colon, libraries in lines if colon}
+    order = []
+
+    def visit(crate):
+        for below in stands_on.get(crate, []):
+            visit(below)
+        if crate in stands_on and crate not in order:
+            order.append(crate)
+
+    for crate in stands_on:
+        visit(crate)
+    return {it: at for at, it in enumerate(order)}
 
 
 def one_line(taken):

@@ -1,11 +1,18 @@
 #!/usr/bin/env bash
 # Installs the program and the library for C: scripts/install.sh [PREFIX]
 #
-# PREFIX (/usr/local for root, else ~/.local) gets bin/cborc, its man page and completions, include/naltvigo.h, both
+# PREFIX (/usr/local for root, else ~/.local) gets bin/cborc, its man page and completions, the headers, both
 # libraries, what pkg-config and CMake ask for, and a list of all that in share/naltvigo, by which scripts/uninstall.sh
 # removes it. Both are proved and built first, which takes the kit's rt; PROGRAM and DIST name a program and a folder as
-# build_c.sh makes it that stand built. With DESTDIR all goes below that folder, as it is to stand at PREFIX.
+# build_c.sh makes it that stand built. With PROGRAM=none the library alone is installed. With DESTDIR all goes below that
+# folder, as it is to stand at PREFIX. GATE_LOG names the log of .ci/run: then the transcript of its proofs is installed
+# with the documents.
+#
+# With DATABASES, one or both of the words sqlite and postgresql, their extensions are built and installed too, as the
+# README of each in bindings/ says. That for PostgreSQL goes where its pg_config (PG_CONFIG) says, and not below PREFIX.
 set -euo pipefail
+. "$(dirname "${BASH_SOURCE[0]}")/lib/options.sh"
+take_options 1 "$@"
 
 root=$(cd "$(dirname "${BASH_SOURCE[0]}")/.." && pwd)
 [ "$(id -u)" = 0 ] && prefix=/usr/local || prefix=$HOME/.local
@@ -13,8 +20,8 @@ prefix=${1:-$prefix}
 case $prefix in /*) ;; *) prefix=$PWD/$prefix ;; esac
 prefix=${prefix%/}
 to=${DESTDIR:-}$prefix
-room=$(mktemp -d)
-trap 'rm -rf "$room"' EXIT
+scratch=$(mktemp -d)
+trap 'rm -rf "$scratch"' EXIT
 
 program=${PROGRAM:-}
 dist=${DIST:-}
@@ -22,11 +29,11 @@ if [ -z "$program" ] || [ -z "$dist" ]; then
     command -v rt >/dev/null || { echo "install: rt, the prover of a Rattle kit, is not on the path; the README says what it is" >&2; exit 1; }
 fi
 if [ -z "$program" ]; then
-    (cd "$root/crates/cborc" && rt run -- --version) >"$room/log" 2>&1 || { cat "$room/log" >&2; exit 1; }
+    (cd "$root/crates/cborc" && rt run -- --version) >"$scratch/log" 2>&1 || { cat "$scratch/log" >&2; exit 1; }
     program=$root/crates/cborc/out/cborc
 fi
 if [ -z "$dist" ]; then
-    dist=$room/dist
+    dist=$scratch/dist
     "$root/scripts/build_c.sh" "$dist"
 fi
 
@@ -35,15 +42,18 @@ put() { # FILE TO [MODE]
     install -D -m "${3:-644}" "$1" "$to/$2"
     files+=("$2")
 }
-put "$program" bin/cborc 755
-put "$root/share/cborc.1" share/man/man1/cborc.1
-put "$root/share/cborc.bash" share/bash-completion/completions/cborc
-put "$root/share/_cborc" share/zsh/site-functions/_cborc
-put "$root/share/cborc.fish" share/fish/vendor_completions.d/cborc.fish
+if [ "$program" != none ]; then
+    strip --strip-unneeded --remove-section=.comment -o "$scratch/cborc" "$program"
+    put "$scratch/cborc" bin/cborc 755
+    put "$root/share/cborc.1" share/man/man1/cborc.1
+    put "$root/share/cborc.bash" share/bash-completion/completions/cborc
+    put "$root/share/_cborc" share/zsh/site-functions/_cborc
+    put "$root/share/cborc.fish" share/fish/vendor_completions.d/cborc.fish
+fi
 # in the same folders, so that their links lead somewhere
 while IFS= read -r file; do
     put "$root/$file" "share/doc/naltvigo/$file"
-done < <(cd "$root" && ls README.md CHANGELOG.md CONTRIBUTING.md LICENSE-MIT LICENSE-APACHE docs/*.md bindings/*/README.md)
+done < <(cd "$root" && ls README.md CHANGELOG.md CONTRIBUTING.md SECURITY.md LICENSE-MIT LICENSE-APACHE docs/*.md bindings/*/README.md)
 while IFS= read -r file; do
     case $file in *.so.*.*.*) mode=755 ;; *) mode=644 ;; esac
     put "$dist/$file" "$file" $mode
@@ -52,7 +62,16 @@ while IFS= read -r file; do
     ln -sfn "$(readlink "$dist/$file")" "$to/$file"
     files+=("$file")
 done < <(cd "$dist" && find . -type l | sed 's|^\./||' | sort)
+for database in ${DATABASES:-}; do
+    . "$root/scripts/lib/databases.sh"
+    install_database "$database"
+done
 put "$root/scripts/uninstall.sh" share/naltvigo/uninstall.sh 755
+put "$root/scripts/lib/options.sh" share/naltvigo/lib/options.sh
+if [ -n "${GATE_LOG:-}" ]; then
+    python3 "$root/scripts/transcript.py" "$GATE_LOG" "$to" >"$scratch/transcript"
+    put "$scratch/transcript" share/doc/naltvigo/transcript.txt
+fi
 printf '%s\n' "${files[@]}" share/naltvigo/files >"$to/share/naltvigo/files"
 [ -z "${DESTDIR:-}" ] || exit 0
 

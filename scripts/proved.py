@@ -1,8 +1,10 @@
 #!/usr/bin/env python3
-"""Writes docs/PROVED.md: each public call with its first doc lines and its clauses, and the words that these cite.
+"""Writes docs/PROVED.md, the contract of each public call, and docs/CALLS.md, the documentation of each.
 
-    scripts/proved.py            writes it, from crates/*/src and crates/*/specs
-    scripts/proved.py --check    fails where it is not what this would write
+    scripts/proved.py            writes both, from crates/*/src and crates/*/specs
+    scripts/proved.py --check    fails if one of them differs
+
+The two are apart since a contract is proved, and a sentence of documentation is not.
 """
 
 import re
@@ -12,17 +14,25 @@ from pathlib import Path
 ROOT = Path(__file__).resolve().parent.parent
 CRATES = ROOT / "crates"
 
-HEAD = """# What is proved
+PROVED = """# What is proved
 
-Written by `scripts/proved.py` from the sources: run it after a change of a contract. A contract is proved for every
-input that meets its `requires`. Below stands each public call with the first lines of its documentation and the names
-of its clauses, behind each the words of `specs/` that it cites; then those words, with the first sentence of what their
-definitions say, in the section of the crate that defines them. The clauses themselves stand with the calls, in `src/`.
-[READING.md](READING.md) has the definitions in the order to read them, and [TESTED.md](TESTED.md) what no clause can
-say.
+Written by `scripts/proved.py` from the sources. Below is the contract of each public call, word for word. It is proved
+for every input that meets its `requires`, as is that the call is safe and returns. A call without a clause is proved
+to be safe and to return, and no more.
 
-A call that takes memory may answer `Memory` at any time, one that reads `Read`, one that writes `Write`: no clause can
-rule that out.
+The table after the contracts of a crate explains the words of its `specs/` that contracts cite. The explanation is the
+comment of the definition; the definition itself counts. [READING.md](READING.md) lists the definitions in the order to
+read them, [CALLS.md](CALLS.md) has the documentation of the calls, and [TESTED.md](TESTED.md) what no clause can say.
+
+A call that allocates may answer `Memory`, one that reads `Read`, one that writes `Write`. Unless a clause excludes it,
+expect that at any time.
+"""
+
+CALLS = """# The public calls
+
+Written by `scripts/proved.py` from the documentation in the sources: the first paragraph of each public call. A
+sentence here is an explanation. What is proved is the contract of the call in [PROVED.md](PROVED.md), and what is only
+tested stands in [TESTED.md](TESTED.md).
 """
 
 # An item of a source file that a caller may see, or that holds what one may see.
@@ -35,12 +45,29 @@ ITEM = re.compile(
 # An array type has a semicolon of its own.
 CLAUSE = re.compile(r"\b(requires|ensures)\b\*?\s*(\w+)?\s*\{|\bghost\b[^;{]*[;{]|\[[^\[\]{};]*;|\{|;")
 NAME = re.compile(r"[^\s(){}\[\],;.]+")
-# What a file brings in of the definitions of a crate.
+# What a file imports of the definitions of a crate.
 USED = re.compile(r"ghost use Rattle\.(\w+)\.specs\.[^;]*\{([^;]*)\};")
 
 
-def behind(text, place):
-    """The place behind the partner of the brace at this place."""
+class Call:
+    """A public call: its owner and name, documentation, signature, and clauses (kind, name, text)."""
+
+    def __init__(self, owner, name, docs, signature, clauses, imported):
+        self.shown = f"{owner}::{name}" if owner else name
+        self.docs, self.signature, self.clauses, self.imported = docs, signature, clauses, imported
+
+    def contract(self):
+        """The signature and the clauses, as text."""
+        lines = [f"{self.shown}{self.signature}"]
+        for kind, name, text in self.clauses:
+            lines.append(f"    {kind} {name} {{ {text} }}" if name else f"    {kind} {{ {text} }}")
+        if not self.clauses:
+            lines.append("    no clause")
+        return "\n".join(lines)
+
+
+def after_partner(text, place):
+    """The offset after the partner of the brace at this offset."""
     depth = 0
     for place in range(place, len(text)):
         depth += {"{": 1, "}": -1}.get(text[place], 0)
@@ -49,8 +76,12 @@ def behind(text, place):
     return place
 
 
+def joined(text):
+    return re.sub(r"\s+", " ", text).strip()
+
+
 def public_of(crate):
-    """What lib.rt hands out: names, and modules that are public; of a program, all."""
+    """The names and the public modules that lib.rt hands out; of a program, None for everything."""
     library = CRATES / crate / "src" / "lib.rt"
     if not library.exists():
         return None, set()
@@ -64,10 +95,10 @@ def public_of(crate):
 
 
 def definitions_of(crate):
-    """The words of a crate's specs, in order: name, file, and the comment above, of those that are to be believed."""
+    """The definitions in a crate's specs, but for specs/inner, in order: name to file and comment."""
     found = {}
     for path in sorted((CRATES / crate / "specs").glob("*.antt")):
-        comment, owner = [], None
+        comment = []
         for line in path.read_text(encoding="utf-8").splitlines()[1:]:
             stripped = line.strip()
             if stripped.startswith("--"):
@@ -75,45 +106,45 @@ def definitions_of(crate):
                 continue
             match = re.match(r"(?:abbrev |unfoldable )?pub (?:record |data )?([^\s:(){}]+)", stripped)
             if match and not line.startswith("  ") and match[1] not in ("mod", "use"):
-                owner = match[1]
-                found[owner] = (path.stem, " ".join(comment))
+                found[match[1]] = (path.stem, " ".join(comment))
             comment = []
     return found
 
 
 def first_sentence(text):
-    match = re.match(r"(.*?[.:;])(?:\s|$)", text)
-    return (match[1] if match else text).rstrip(".:;")
+    match = re.match(r"(.*?[.;])(?:\s|$)", text)
+    return (match[1] if match else text).rstrip(".;")
 
 
 def paragraph(docs):
-    """The first paragraph of doc lines, on one line."""
+    """The first paragraph of doc lines, on one line, as a cell of a table."""
     lines = [line.strip()[3:].strip() for line in docs.splitlines()]
     text = " ".join(lines[: lines.index("")] if "" in lines else lines)
     return re.sub(r"\[(`[^`]*`)\](\([^)]*\))?", r"\1", text).replace("|", "\\|")
 
 
-def clauses_of(text, place):
-    """The clauses between a signature and its body: kind, name and text."""
-    found = []
+def contract_at(text, place):
+    """The rest of a signature that begins here, and its clauses: kind, name and text."""
+    start, end, found = place, None, []
     while True:
         match = CLAUSE.search(text, place)
         if not match:
-            return found
+            return joined(text[start : end if end is not None else start]), found
+        if match[0].startswith("["):
+            place = match.end()
+            continue
+        end = match.start() if end is None else end
         if not match[1]:
-            if match[0].startswith("ghost") and match[0].endswith("{"):
-                place = behind(text, match.end() - 1)
+            if match[0].startswith("ghost"):
+                place = match.end() if match[0].endswith(";") else after_partner(text, match.end() - 1)
                 continue
-            if match[0].startswith(("ghost", "[")):
-                place = match.end()
-                continue
-            return found
-        place = behind(text, match.end() - 1)
-        found.append((match[1], match[2] or "", text[match.end() : place - 1]))
+            return joined(text[start:end]), found
+        place = after_partner(text, match.end() - 1)
+        found.append((match[1], match[2] or "", joined(text[match.end() : place - 1])))
 
 
 def calls_of(crate):
-    """The public calls of a crate: owner, name, documentation, clauses, and the words that their file brings in, by crate."""
+    """The public calls of a crate."""
     names, modules = public_of(crate)
     for path in sorted((CRATES / crate / "src").rglob("*.rt")):
         parts = path.relative_to(CRATES / crate / "src").with_suffix("").parts
@@ -121,7 +152,7 @@ def calls_of(crate):
             continue
         # A comment among the clauses may have a semicolon, which would end them.
         text = re.sub(r"(?m)^[ \t]*//(?!/).*\n", "", path.read_text(encoding="utf-8"))
-        brought = {word: used[0] for used in USED.findall(text) for word in re.findall(r"\w+", used[1])}
+        imported = {word: used[0] for used in USED.findall(text) for word in re.findall(r"\w+", used[1])}
         place, owner, end, is_trait = 0, None, -1, False
         while True:
             match = ITEM.search(text, place)
@@ -131,89 +162,77 @@ def calls_of(crate):
             if match.start() >= end:
                 owner, is_trait = None, False
             if match["impl"] or match["trait"]:
-                end = behind(text, match.end() - 1)
+                end = after_partner(text, match.end() - 1)
                 of = re.sub(r"^(unsafe )?impl\s*(<[^{]*?>)?\s*", "", (match["impl"] or "").replace("\n", " "))
-                # what an impl of another trait says is that trait's contract
+                # The contract of a method of a trait is the trait's.
                 owner = match["trait"] or (None if " for " in of else re.match(r"\w+", of)[0])
                 is_trait = bool(match["trait"])
                 if owner is None:
                     place = end
                 continue
             if owner:
-                seen = names is None or owner in names
-                seen = seen and (is_trait or bool(match["public"]))
+                seen = (names is None or owner in names) and (is_trait or bool(match["public"]))
             else:
                 seen = bool(match["public"]) and (names is None or match["name"] in names or parts[0] in modules)
             if seen:
-                yield owner, match["name"], paragraph(match["docs"]), clauses_of(text, place), brought
+                yield Call(owner, match["name"], paragraph(match["docs"]), *contract_at(text, match.end()), imported)
 
 
-def cited(text, words):
-    """The words of specs/ that a clause cites, each once, in order."""
-    found = []
-    for name in NAME.findall(text):
-        if name in words and name not in found:
-            found.append(name)
-    return found
+def cited_by(call, words_of):
+    """The words of specs that a call's clauses cite, with their crates."""
+    cited = {word for _, _, text in call.clauses for word in NAME.findall(text)}
+    return {(crate, word) for word, crate in call.imported.items() if word in cited and word in words_of.get(crate, ())}
 
 
-def rows_of(crate, words_of):
-    """A row for each public call of a crate, and the words that their clauses cite, with the crates that define them."""
-    rows, reached = [], set()
-    for owner, name, docs, clauses, brought in calls_of(crate):
-        words = {word for word, of in brought.items() if word in words_of.get(of, ())}
-        said = []
-        for kind, label, text in clauses:
-            names = cited(text, words)
-            reached.update((brought[word], word) for word in names)
-            label = f"`{label}`" if label else "" if kind == "requires" else "its one clause"
-            label = f"requires {label}".strip() if kind == "requires" else label
-            said.append(label + (f" ({', '.join(names)})" if names else ""))
-        shown = f"{owner}::{name}" if owner else name
-        rows.append(f"| `{shown}` | {docs} | {'; '.join(said)} |")
-    return rows, reached
+def contracts_of(crate, words, calls, reached):
+    """The section of a crate in docs/PROVED.md."""
+    lines = [f"## `{crate}`", ""]
+    if calls:
+        lines += ["```text", "\n\n".join(call.contract() for call in calls), "```", ""]
+    explained = [(word, *words[word]) for word in words if (crate, word) in reached and words[word][1]]
+    if explained:
+        lines += ["| Word | In `specs/` | Meaning |", "|---|---|---|"]
+        lines += [f"| `{word}` | {file} | {first_sentence(comment)} |".replace("\\", "\\\\") for word, file, comment in explained]
+        lines.append("")
+    return "\n".join(lines) if calls or explained else ""
 
 
-def about(crate):
-    """What a crate is: the first paragraph of its root."""
+def documentation_of(crate, calls):
+    """The section of a crate in docs/CALLS.md."""
+    if not calls:
+        return ""
     source = CRATES / crate / "src"
     root = source / "lib.rt" if (source / "lib.rt").exists() else source / "main.rt"
-    lines = re.match(r"(?://![^\n]*\n)*", root.read_text(encoding="utf-8"))[0]
-    return paragraph(lines)
-
-
-def section(crate, words, rows, reached):
-    lines = [f"## `{crate}`", "", about(crate), ""]
-    if rows:
-        lines += ["| Call | What it answers | Clauses |", "|---|---|---|", *rows, ""]
-    told = [(word, *words[word]) for word in words if (crate, word) in reached and words[word][1]]
-    if told:
-        lines += ["| Word | In `specs/` | What it says |", "|---|---|---|"]
-        lines += [f"| `{word}` | {file} | {first_sentence(comment)} |".replace("\\", "\\\\") for word, file, comment in told]
-        lines.append("")
-    return "\n".join(lines) if rows or told else ""
+    about = paragraph(re.match(r"(?://![^\n]*\n)*", root.read_text(encoding="utf-8"))[0])
+    rows = [f"| `{call.shown}` | {call.docs} |" for call in calls]
+    return "\n".join([f"## `{crate}`", "", about, "", "| Call | Documentation |", "|---|---|", *rows, ""])
 
 
 def crates():
-    """The crates of crates.txt, but those of tests."""
+    """The crates of crates.txt, but for those of tests."""
     names = re.findall(r"(?m)^(\w+)(?: staticlib)?:", (ROOT / "crates.txt").read_text())
     return [name for name in names if not name.endswith("_tests")]
 
 
 def main():
     words_of = {crate: definitions_of(crate) for crate in crates()}
-    rows = {crate: rows_of(crate, words_of) for crate in crates()}
-    reached = set().union(*(words for _, words in rows.values()))
-    sections = (section(crate, words_of[crate], rows[crate][0], reached) for crate in crates())
-    text = HEAD + "\n" + "\n".join(filter(None, sections))
-    path = ROOT / "docs" / "PROVED.md"
-    if "--check" not in sys.argv:
-        path.write_text(text, encoding="utf-8")
-        return 0
-    if path.read_text(encoding="utf-8") != text:
-        print("docs/PROVED.md is not what scripts/proved.py writes: run it")
-        return 1
-    return 0
+    calls = {crate: list(calls_of(crate)) for crate in crates()}
+    reached = {word for of in calls.values() for call in of for word in cited_by(call, words_of)}
+    contracts = (contracts_of(crate, words_of[crate], calls[crate], reached) for crate in crates())
+    documentation = (documentation_of(crate, calls[crate]) for crate in crates())
+    written = {
+        "docs/PROVED.md": PROVED + "\n" + "\n".join(filter(None, contracts)),
+        "docs/CALLS.md": CALLS + "\n" + "\n".join(filter(None, documentation)),
+    }
+    out_of_date = 0
+    for name, text in written.items():
+        path = ROOT / name
+        if "--check" not in sys.argv:
+            path.write_text(text, encoding="utf-8")
+        elif not path.exists() or path.read_text(encoding="utf-8") != text:
+            print(f"{name} is out of date: run scripts/proved.py")
+            out_of_date = 1
+    return out_of_date
 
 
 if __name__ == "__main__":

@@ -1,4 +1,4 @@
-"""The counts of docs/READING.md: lines to be believed, by file, and what crates take of one another's insides."""
+"""The counts of docs/READING.md: lines that must be believed, by file, and what crates take of one another's insides."""
 
 import re
 
@@ -6,7 +6,7 @@ from sources import ROOT, short
 
 READING = ROOT / "docs" / "READING.md"
 README = ROOT / "README.md"
-TAKEN = "| Crate | Names | of | Lemmas | of |"
+TAKEN = "| Crate | Inner names | taken from | Lemmas | taken from |"
 
 
 def lines_of(definitions):
@@ -28,8 +28,8 @@ def by_crate(names):
 
 
 class Counts:
-    """What was counted: `headline` and `public` have the definitions that are reached, `taken` by crate the inner names
-    and the lemmas that it takes."""
+    """What was counted: `headline` and `public` have the definitions that contracts reach, `taken` the inner names and the
+    lemmas that each crate takes."""
 
     def __init__(self, definitions, headline, public, taken, theory):
         self.definitions, self.headline, self.public, self.taken = definitions, headline, public, taken
@@ -57,7 +57,7 @@ class Counts:
     # ---- docs/READING.md
 
     def rows_taken(self):
-        """The table of what is taken, a row a crate that takes something, and the sum."""
+        """The table of what crates take: a row for each crate that takes something, and the sum."""
         yield TAKEN
         yield "|---|---:|---|---:|---|"
         for crate, (names, lemmas) in self.taken.items():
@@ -76,9 +76,9 @@ class Counts:
             return f"| `{file}`{it.group(2)}| {counts.get(file, 0)} |"
 
         text = re.sub(r"(?m)^\| `([\w/.]+\.antt)`(.*)\| \d+ \|$", row, text)
-        front, found, rest = text.partition(TAKEN)
-        behind = rest.partition("\n\n")
-        return front + "\n".join(self.rows_taken()) + (behind[1] + behind[2] or "\n") if found else text
+        before, found, rest = text.partition(TAKEN)
+        after = rest.partition("\n\n")
+        return before + "\n".join(self.rows_taken()) + (after[1] + after[2] or "\n") if found else text
 
     def counts_of_headline(self):
         return {file: lines_of(its) for file, its in by_file(d for d in self.definitions if d.key in self.headline).items()}
@@ -98,16 +98,16 @@ class Counts:
         for crate, allowed in ceilings("\n".join(self.rows_taken())).items():
             for now, most, what in zip(allowed, ceilings(text).get(crate, (0, 0)), ("inner names", "lemmas")):
                 if now > most:
-                    yield f"{crate} takes {now} {what} of other crates, more than {most}"
+                    yield f"{crate} takes {now} {what} of other crates; at most {most} are allowed"
         if text != self.written(text):
-            yield "docs/READING.md has other counts: scripts/belief.py --write"
+            yield "the counts in docs/READING.md are out of date: run scripts/belief.py --write"
         for count in re.findall(r"(\d+) lines for the headline", README.read_text()):
             if int(count) != self.headline_lines:
-                yield f"README.md says {count} lines for the headline, and it is {self.headline_lines}"
+                yield f"README.md says {count} lines for the headline; there are {self.headline_lines}"
         yield from self.faults_of_tables(text)
 
     def faults_of_tables(self, text):
-        """Files whose lines must be believed and that no table names, or the reverse."""
+        """Files that must be read and that no table has, or the reverse."""
         headline, _, rest = text.partition("\n## Everything public\n")
         listed = re.findall(r"(?m)^\| `([\w/.]+\.antt)`", headline)
         for file in sorted({it for it in listed if listed.count(it) > 1}):
@@ -124,13 +124,13 @@ class Counts:
 
 
 def unlike(what, listed, reached):
-    for files, says in ((reached - listed, "does not have"), (listed - reached, "has what nothing reaches")):
+    for files, says in ((reached - listed, "lacks"), (listed - reached, "has files that nothing reaches")):
         if files:
             yield f"the table of {what} in docs/READING.md {says}: {', '.join(sorted(files))}"
 
 
 def moved(file, reached):
-    """Where a file stands now that stood in another crate."""
+    """The path of a file that moved to another crate."""
     found = [it for it in reached if it.partition("/")[2] == file.partition("/")[2]]
     return found[0] if file not in reached and len(found) == 1 else file
 

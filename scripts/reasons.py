@@ -1,8 +1,8 @@
 #!/usr/bin/env python3
 """Writes the reasons of refusals for the bindings and the man page, from the crates' own tables.
 
-    scripts/reasons.py            writes bindings/python/src/naltvigo/_reasons.py, bindings/rust/src/reason.rs and a part
-                                  of share/cborc.1
+    scripts/reasons.py            writes bindings/python/src/naltvigo/_reasons.py, bindings/rust/src/reason.rs,
+                                  bindings/js/src/reasons.js and a part of share/cborc.1
     scripts/reasons.py --check    fails where one of them is not what it would write
 """
 
@@ -23,6 +23,17 @@ IN_PYTHON = [
     ("canon ", "canonicalise "),
 ]
 
+# The same as JavaScript calls it.
+IN_JAVASCRIPT = [
+    ("--bytes", "maxBytes"),
+    ("--depth", "'depth'"),
+    ("--hex", "the bytes that its digits stand for"),
+    ("--keys any", "keys: 'any'"),
+    ("--order", "'order'"),
+    ("--seq", "'items'"),
+    ("canon ", "canonicalise "),
+]
+
 
 def table(text, function):
     """The arms of a function that matches a reason: each reason's text."""
@@ -37,24 +48,33 @@ def table(text, function):
 def reasons():
     """Each reason: its number, name, comment, meaning and advice."""
     declared = (ROOT / "crates/cbor_head/src/reason.rt").read_text(encoding="utf-8")
-    said = (ROOT / "crates/cbor_explain/src/sentences.rt").read_text(encoding="utf-8")
+    said = (ROOT / "crates/cbor_diag/src/sentences.rt").read_text(encoding="utf-8")
     meanings, advices = table(said, "meaning"), table(said, "advice")
     for comment, name, number in re.findall(r"(?m)^    /// (.*)\n    (\w+) = (\d+),", declared):
         yield int(number), name, comment, meanings[name], advices[name]
 
 
-def in_python(advice):
-    for word, other in IN_PYTHON:
+def in_words(advice, words):
+    for word, other in words:
         advice = advice.replace(word, other)
     return advice
 
 
 def python():
     lines = ['"""The reasons of refusals: name, meaning and advice by number. Written by scripts/reasons.py."""', ""]
-    lines += ["from typing import Dict, Tuple", "", "REASONS: Dict[int, Tuple[str, str, str]] = {"]
+    lines += ["REASONS: dict[int, tuple[str, str, str]] = {"]
     for number, name, _, meaning, advice in reasons():
-        lines += [f"    {number}: (", f'        "{name}",', f'        "{meaning}",', f'        "{in_python(advice)}",', "    ),"]
+        lines += [f"    {number}: (", f'        "{name}",', f'        "{meaning}",', f'        "{in_words(advice, IN_PYTHON)}",', "    ),"]
     return "\n".join(lines + ["}", ""])
+
+
+def javascript():
+    lines = ["// The reasons of refusals: name, meaning and advice by number. Written by scripts/reasons.py.", "", "export const REASONS = {"]
+    for number, name, _, meaning, advice in reasons():
+        lines += [f"    {number}: [", f"        '{name}',"]
+        lines += ["        '" + text.replace("'", "\\'") + "'," for text in (meaning, in_words(advice, IN_JAVASCRIPT))]
+        lines += ["    ],"]
+    return "\n".join(lines + ["};", ""])
 
 
 def rust():
@@ -87,7 +107,8 @@ def manual():
 def main():
     stale = []
     rust_file, python_file = "bindings/rust/src/reason.rs", "bindings/python/src/naltvigo/_reasons.py"
-    for file, text in ((python_file, python()), (rust_file, rust()), ("share/cborc.1", manual())):
+    js_file = "bindings/js/src/reasons.js"
+    for file, text in ((python_file, python()), (rust_file, rust()), (js_file, javascript()), ("share/cborc.1", manual())):
         path = ROOT / file
         if "--check" not in sys.argv:
             path.write_text(text, encoding="utf-8")

@@ -41,7 +41,7 @@ class Place:
             os.remove(self.path(name))
 
     def put(self, name, content, holes=0):
-        """Writes a file, with so many zeros behind that take no room."""
+        """Writes a file, with so many zeros behind that take no scratch."""
         with open(self.path(name), "wb") as file:
             file.write(content)
             file.truncate(len(content) + holes)
@@ -79,13 +79,13 @@ def start():
     words = [PROGRAM, "check", "-"]
     with subprocess.Popen(words, stdin=subprocess.PIPE, stdout=subprocess.DEVNULL, stderr=subprocess.DEVNULL) as child:
 
-        def told(name):
+        def reported(name):
             with open(f"/proc/{child.pid}/{name}") as file:
                 return file.read()
 
-        while told("stat").rpartition(") ")[2][0] not in "SZ":
+        while reported("stat").rpartition(") ")[2][0] not in "SZ":
             time.sleep(0.001)
-        return int(re.search(r"VmPeak:\s+(\d+) kB", told("status"))[1])
+        return int(re.search(r"VmPeak:\s+(\d+) kB", reported("status"))[1])
 
 
 def small_items(place):
@@ -106,7 +106,7 @@ def small_items(place):
 
 
 def one_item(place):
-    """A byte string of 100 MB is held once, in a vector that has room for half as many bytes more."""
+    """A byte string of 100 MB is held once, in a vector that has scratch for half as many bytes more."""
     size = 100_000_000
     place.wide("wide", size)
     ended = place.run(["check", "--bytes", "200000000", "wide"], preexec_fn=limited(start() + size // 1024 * 16 // 10))
@@ -124,7 +124,7 @@ def too_little(place):
     files = ["wide", "long", "second", "out"]
     within = ["--bytes", "100000000"]
     # The second is enough for the item, and not for its canonical bytes or its text too, the last for all.
-    few, more, most = (limited(start() + room // 1024) for room in (16 << 20, 2 * size, 8 * size))
+    few, more, most = (limited(start() + scratch // 1024) for scratch in (16 << 20, 2 * size, 8 * size))
     expect("check within more", place.run(["check", *within, "wide"], preexec_fn=more), 0, b"accepted 40000005 bytes\n")
     # What is canonical is written as it stands.
     expect("canon within more", place.run(["canon", *within, "wide", "same"], preexec_fn=more), 0)
@@ -149,9 +149,9 @@ def too_little(place):
         (few, ["canon", "--seq", *within, "second", "out"], MEMORY),
         (few, ["canon", "--seq", *within, "second", "new"], MEMORY),
     ]
-    for memory, words, told in rows:
+    for memory, words, reported in rows:
         name = f"too little memory: {' '.join(words)}"
-        expect(name, place.run(words, preexec_fn=memory), 3, b"", told)
+        expect(name, place.run(words, preexec_fn=memory), 3, b"", reported)
         place.keeps(name, "out", files)
 
 
@@ -281,9 +281,9 @@ def small_disks(place):
     beside = b"cannot write disk/%s\n  A new file beside it was not to be made. The disk is full.\n"
     rows = [(9, ["wide"], "out", full), (9, ["wide"], "new", full), (9, ["--seq", "long"], "out", full)]
     rows += [(9, ["--seq", "long"], "new", full), (2, ["one"], "out", beside), (2, ["one"], "new", beside)]
-    for files, words, out, told in rows:
+    for files, words, out, reported in rows:
         ended = on_a_small_disk(place, files, [PROGRAM, "canon", "--explain", *words, f"disk/{out}"])
-        expect(f"a full disk: {words} to {out}", ended, 0, b"status 3\nout\n 80\n", told % out.encode())
+        expect(f"a full disk: {words} to {out}", ended, 0, b"status 3\nout\n 80\n", reported % out.encode())
 
 
 def short_files(place):
@@ -292,8 +292,8 @@ def short_files(place):
     place.put("out", BEFORE)
     for out in ("out", "new"):
         ended = place.run(["canon", "--seq", "long", out], restore_signals=False, preexec_fn=short(1 << 20))
-        expect(f"no room for a sequence: {out}", ended, 3, b"", b"cannot write %s\n" % out.encode())
-        place.keeps(f"no room for a sequence: {out}", "out", ["long", "out"])
+        expect(f"no scratch for a sequence: {out}", ended, 3, b"", b"cannot write %s\n" % out.encode())
+        place.keeps(f"no scratch for a sequence: {out}", "out", ["long", "out"])
     with open("/dev/full", "wb") as full:
         for words in (["show", "--seq", "long"], ["events", "--seq", "long"], ["canon", "--seq", "long", "-"]):
             expect(f"{words} to a full device", place.run(words, stdout=full), 3, None, b"cannot write standard output\n")
@@ -318,14 +318,14 @@ def deep(place):
     for opens, closes in TOWERS:
         for levels, status in ((DEEPEST, 0), (DEEPEST + 1, 1)):
             place.put("item", opens * levels + b"\0" + closes * levels)
-            told = b"refused 9 TooDeep at %d" % (DEEPEST * len(opens)) if status else b""
+            reported = b"refused 9 TooDeep at %d" % (DEEPEST * len(opens)) if status else b""
             for words in OVER_AN_ITEM + OVER_ITEMS + ["check --strict item"]:
                 if "strict" in words and opens[0] in (0x9F, 0xBF):
                     continue
                 for more in ("", " --explain") if status else ("",):
                     command = [*f"{words}{more}".split(), "--depth", str(DEEPEST)]
                     ended = place.run(command, preexec_fn=low(64), env={})
-                    if ended.returncode != status or told not in ended.stderr:
+                    if ended.returncode != status or reported not in ended.stderr:
                         faults.append(f"{opens!r}, {levels} deep: {command}: {ended.returncode} {ended.stderr[:200]!r}")
 
 

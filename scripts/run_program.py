@@ -39,7 +39,7 @@ def words():
     if run(["compare", "-", "-"]).returncode != 2:
         faults.append("standard input twice: status 2 wanted")
     for word in (b"x\xff", b"a" * 5000 + b"\xff"):
-        expect("a word that is not UTF-8", run(["check", "-", word, b"\xff"]), 2, b"", b"word 3 is not UTF-8\n")
+        expect("a word that is not UTF-8", run(["check", "-", word, b"\xff"]), 2, b"", b"word 3 is not UTF-8; a file by such a name is read as '- < FILE'\n")
     version = run(["--version"])
     with open(os.path.join(ROOT, "VERSION"), "rb") as file:
         wanted = b"cborc " + file.read()
@@ -79,11 +79,11 @@ def outputs_that_fail():
         for command in (["check", "-"], ["canon", "-", "-"], ["canon", "--seq", "-", "-"]):
             ended = subprocess.run([PROGRAM, *command], input=b"\x00", stdout=full, stderr=subprocess.PIPE)
             expect(f"{command} to a full device", ended, 3, None, line)
-    told = b"cannot write /dev/full\n"
-    expect("OUT is a full device", run(["canon", "-", "/dev/full"], b"\x00"), 3, b"", told)
+    reported = b"cannot write /dev/full\n"
+    expect("OUT is a full device", run(["canon", "-", "/dev/full"], b"\x00"), 3, b"", reported)
     for count in (1, 100_000):
-        expect("OUT is a full device", run(["canon", "--seq", "-", "/dev/full"], b"\x00" * count), 3, b"", told)
-    expect("why: a full device", run(["canon", "--seq", "--explain", "-", "/dev/full"], b"\x00"), 3, b"", told + b"  The disk is full.\n")
+        expect("OUT is a full device", run(["canon", "--seq", "-", "/dev/full"], b"\x00" * count), 3, b"", reported)
+    expect("why: a full device", run(["canon", "--seq", "--explain", "-", "/dev/full"], b"\x00"), 3, b"", reported + b"  The disk is full.\n")
     reading, writing = os.pipe()
     os.close(reading)
     ended = subprocess.run([PROGRAM, "check", "-"], input=b"\x00", stdout=writing, stderr=subprocess.PIPE)
@@ -118,7 +118,7 @@ def files():
         restore_signals=False,
         preexec_fn=short(1),
     )
-    expect("no room", ended, 3, b"", b"cannot write item\n")
+    expect("no scratch", ended, 3, b"", b"cannot write item\n")
     holds("item", b"\x80", here)
     expect("a new file", run(["canon", "-", "new"], b"\x00"), 0)
     holds("new", b"\x00", here + ["new"])
@@ -142,12 +142,12 @@ def sequences():
     holds("sequence", b"\x00\x80", here)
     expect("no item", run(["canon", "--seq", "-", "sequence"]), 0)
     holds("sequence", b"", here)
-    told = b"cannot read absent\n  There is no such file or folder.\n"
-    expect("no sequence", run(["canon", "--seq", "--explain", "absent", "sequence"]), 3, b"", told)
-    told = b"cannot write absent/out\n  A new file beside it was not to be made. There is no such file or folder.\n"
-    expect("no folder for a sequence", run(["canon", "--seq", "--explain", "-", "absent/out"], b"\x00"), 3, b"", told)
+    reported = b"cannot read absent\n  There is no such file or folder.\n"
+    expect("no sequence", run(["canon", "--seq", "--explain", "absent", "sequence"]), 3, b"", reported)
+    reported = b"cannot write absent/out\n  A new file beside it was not to be made. There is no such file or folder.\n"
+    expect("no folder for a sequence", run(["canon", "--seq", "--explain", "-", "absent/out"], b"\x00"), 3, b"", reported)
     holds("sequence", b"", here)
-    # Behind 100,000 items: one that is refused, and no room.
+    # Behind 100,000 items: one that is refused, and no scratch.
     write("sequence", b"\x00" * 100_000 + b"\xff")
     write("kept", b"\x80")
     here.append("kept")
@@ -160,7 +160,7 @@ def sequences():
         preexec_fn=short(50_000),
     )
     if (ended.returncode, ended.stdout) != (3, b"") or not ended.stderr.startswith(b"cannot write kept\n"):
-        faults.append(f"no room for a sequence: found {(ended.returncode, ended.stdout, ended.stderr)}")
+        faults.append(f"no scratch for a sequence: found {(ended.returncode, ended.stdout, ended.stderr)}")
     holds("kept", b"\x80", here)
     os.remove(os.path.join(FOLDER, "kept"))
     os.remove(item)
@@ -199,9 +199,9 @@ def parts():
     last = b"\n\n%d bytes 73 1\n\n%d unsigned 0 0\n\n" % (75 * count - 75, 75 * count)
     if not run(["events", "--seq", "long"]).stdout.endswith(last):
         faults.append("events of a long sequence: the last lines are others")
-    told = run(["check", "--seq", "--explain", "long"], preexec_fn=few).stderr
-    if b"where the item starts at %d\n" % (75 * count + 1) not in told or b"bytes from 0: 18\n" not in told:
-        faults.append(f"an explanation of a long sequence: {told}")
+    reported = run(["check", "--seq", "--explain", "long"], preexec_fn=few).stderr
+    if b"where the item starts at %d\n" % (75 * count + 1) not in reported or b"bytes from 0: 18\n" not in reported:
+        faults.append(f"an explanation of a long sequence: {reported}")
     os.remove(path)
     hex_parts(item, count, few)
     # A byte string of 200,000 bytes over the ends of parts, and items without end.
@@ -219,8 +219,8 @@ def parts():
     for command in (["check"], ["check", "--strict"], ["show"], ["canon", "--quiet"]):
         rest = ["-"] if command[0] == "canon" else []
         ended = run([*command, "--bytes", "4000000000", "zeros", *rest], preexec_fn=few)
-        told = b"" if "--quiet" in command else b"refused 12 Trailing at 1\n"
-        expect(f"{command} of 2 GiB", ended, 1, b"", told)
+        reported = b"" if "--quiet" in command else b"refused 12 Trailing at 1\n"
+        expect(f"{command} of 2 GiB", ended, 1, b"", reported)
     os.remove(path)
 
 
@@ -235,7 +235,7 @@ def hex_parts(item, count, few):
     ended = run(["canon", "--seq", "--hex", "digits", "-"], preexec_fn=few)
     if (ended.returncode, ended.stdout) != (0, item * count):
         faults.append(f"canon of a long hex sequence: status {ended.returncode}, {len(ended.stdout)} bytes")
-    for front, behind, status, told, written in (
+    for front, behind, status, reported, written in (
         (b"", b"00 18", 1, b"item %d refused 1 Truncated at 1\n" % (count + 2), item * count + b"\x00"),
         (b"ff", b"", 1, b"item 1 refused 7 StrayBreak at 0\n", b""),
         (b"ff", b"g", 3, b"not hex: digits\n", b""),
@@ -245,21 +245,21 @@ def hex_parts(item, count, few):
             file.write(front + lines + behind)
         for command in (["check"], ["show"], ["events"], ["canon", "-"]):
             ended = run([command[0], "--seq", "--hex", "digits", *command[1:]], preexec_fn=few)
-            if (ended.returncode, ended.stderr) != (status, told):
+            if (ended.returncode, ended.stderr) != (status, reported):
                 faults.append(f"{command} of a hex sequence, {front[:4]} and {behind}: {(ended.returncode, ended.stderr)}")
         # By canon; where the text is no hex, the items of the parts before that was found.
         if not written.startswith(ended.stdout) or (status == 1 and ended.stdout != written):
             faults.append(f"canon of a hex sequence, {front[:4]} and {behind}: {len(ended.stdout)} bytes")
     with open(path, "wb") as file:
         file.write(lines + b"00 18")
-    told = run(["check", "--seq", "--hex", "--explain", "digits"], preexec_fn=few).stderr
-    if b"where the item starts at %d\n" % (75 * count + 1) not in told or b"bytes from 0: 18\n" not in told:
-        faults.append(f"an explanation of a long hex sequence: {told}")
+    reported = run(["check", "--seq", "--hex", "--explain", "digits"], preexec_fn=few).stderr
+    if b"where the item starts at %d\n" % (75 * count + 1) not in reported or b"bytes from 0: 18\n" not in reported:
+        faults.append(f"an explanation of a long hex sequence: {reported}")
     with open(path, "ab") as file:
         file.write(b"\n0g")
-    told = run(["check", "--seq", "--hex", "--explain", "digits"], preexec_fn=few).stderr
-    if b"  line %d, column 2: another byte (67)\n" % (count + 2) not in told:
-        faults.append(f"an explanation of other bytes in a long hex sequence: {told}")
+    reported = run(["check", "--seq", "--hex", "--explain", "digits"], preexec_fn=few).stderr
+    if b"  line %d, column 2: another byte (67)\n" % (count + 2) not in reported:
+        faults.append(f"an explanation of other bytes in a long hex sequence: {reported}")
     os.remove(path)
 
 
@@ -302,11 +302,11 @@ def links():
         if file.read() != b"\x00" or sorted(os.listdir(os.path.join(FOLDER, "deep"))) != ["first", "second"]:
             faults.append("what a dangling link leads to was not made")
     os.symlink("round", os.path.join(FOLDER, "round"))
-    told = b"cannot write round\n  Links lead round in a circle.\n"
-    expect("a circle of links", run(["canon", "--explain", "-", "round"], b"\x00"), 3, b"", told)
+    reported = b"cannot write round\n  Links lead round in a circle.\n"
+    expect("a circle of links", run(["canon", "--explain", "-", "round"], b"\x00"), 3, b"", reported)
     os.symlink("nowhere/file", os.path.join(FOLDER, "astray"))
-    told = b"cannot write astray\n  A new file beside it was not to be made. There is no such file or folder.\n"
-    expect("a link into no folder", run(["canon", "--explain", "-", "astray"], b"\x00"), 3, b"", told)
+    reported = b"cannot write astray\n  A new file beside it was not to be made. There is no such file or folder.\n"
+    expect("a link into no folder", run(["canon", "--explain", "-", "astray"], b"\x00"), 3, b"", reported)
 
 
 def explained():
@@ -338,8 +338,8 @@ def causes():
         expect("why: not permitted", run(["check", "--explain", "item"]), 3, b"", b"cannot read item\n  It is not permitted.\n")
         write("folder/out", b"")
         os.chmod(os.path.join(FOLDER, "folder"), 0o555)
-        told = b"cannot write folder/out\n" + beside + b" It is not permitted.\n"
-        expect("why: the folder is not to be written", run(["canon", "--explain", "-", "folder/out"], b"\x00"), 3, b"", told)
+        reported = b"cannot write folder/out\n" + beside + b" It is not permitted.\n"
+        expect("why: the folder is not to be written", run(["canon", "--explain", "-", "folder/out"], b"\x00"), 3, b"", reported)
         os.chmod(os.path.join(FOLDER, "folder"), 0o755)
 
 

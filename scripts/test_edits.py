@@ -106,22 +106,22 @@ def refuses(name, folder, tests, test, error, changes):
 def is_caught(name):
     """Whether an edit of a copy of the crates is refused as it says."""
     crate, tests, test, error, changes = read_edit(name)
-    with tempfile.TemporaryDirectory() as room:
+    with tempfile.TemporaryDirectory() as scratch:
         for part in ("crates", "crates.txt", "HANDLES"):
-            source, to = os.path.join(ROOT, part), os.path.join(room, part)
+            source, to = os.path.join(ROOT, part), os.path.join(scratch, part)
             if os.path.isdir(source):
                 shutil.copytree(source, to, ignore=shutil.ignore_patterns("out", "must-fail", "proofs"))
             else:
                 shutil.copy(source, to)
-        folder, tests = (os.path.join(room, "crates", it) for it in (crate, tests))
+        folder, tests = (os.path.join(scratch, "crates", it) for it in (crate, tests))
         keep_test(tests, test)
         return refuses(name, folder, tests, test, error, changes)
 
 
 def main():
     names = sys.argv[1:] or sorted(it.removesuffix(".edit") for it in os.listdir(EDITS))
-    with ThreadPoolExecutor(SIDE_BY_SIDE) as room:
-        caught = list(room.map(is_caught, names))
+    with ThreadPoolExecutor(SIDE_BY_SIDE) as scratch:
+        caught = list(scratch.map(is_caught, names))
     sys.exit(0 if all(caught) else 1)
 
 

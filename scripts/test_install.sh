@@ -1,15 +1,18 @@
 #!/usr/bin/env bash
 # Installs and packages, and uses what is there then: scripts/test_install.sh [DIST [PROGRAM]]
 #
-# Into a fresh prefix by install.sh, from the archive, and as the Debian package in a fresh root: each time the program runs,
-# its man page shows, C programs are built by pkg-config and by CMake and run, and nothing is left behind at the end. DIST
-# and PROGRAM stand built, or are built first. A C compiler has to be there; the last line, which begins 'install: all well',
-# names what else was not. Else the status is not 0.
+# Into a fresh prefix by install.sh, from the archive, and as the Debian packages in a fresh root: each time the program runs,
+# its man page shows, C programs are built by pkg-config and by CMake and run, and nothing is left behind at the end. Each
+# script answers --help. DIST and PROGRAM stand built, or are built first; GATE_LOG, where it is set, names the log of the
+# gate's proofs, whose transcript the packages then have. A C compiler has to be there; the last line, which begins
+# 'install: all well', names what else was not. Else the status is not 0.
 set -euo pipefail
+. "$(dirname "${BASH_SOURCE[0]}")/lib/options.sh"
+take_options 2 "$@"
 
 root=$(cd "$(dirname "${BASH_SOURCE[0]}")/.." && pwd)
-room=$(mktemp -d)
-trap 'rm -rf "$room"' EXIT
+scratch=$(mktemp -d)
+trap 'rm -rf "$scratch"' EXIT
 cc=${CC:-cc}
 version=$(cat "$root/VERSION")
 missing=()
@@ -22,106 +25,241 @@ have() {
 }
 
 python3 "$root/scripts/version.py" || fail 'the version is not the same everywhere'
-DIST=${1:-$room/dist}
+DIST=${1:-$scratch/dist}
 [ -n "${1:-}" ] || "$root/scripts/build_c.sh" "$DIST"
 PROGRAM=${2:-$root/crates/cborc/out/cborc}
-[ -n "${2:-}" ] || (cd "$root/crates/cborc" && rt run -- --version) >"$room/log" 2>&1 || { cat "$room/log"; fail 'the program'; }
+[ -n "${2:-}" ] || (cd "$root/crates/cborc" && rt run -- --version) >"$scratch/log" 2>&1 || { cat "$scratch/log"; fail 'the program'; }
 DIST=$(cd "$DIST" && pwd)
 PROGRAM=$(realpath "$PROGRAM")
 export DIST PROGRAM
 
-printf '\277\143Fun\365\143Amt!\377' >"$room/streamed.cbor"
+printf '\277\143Fun\365\143Amt!\377' >"$scratch/streamed.cbor"
 wanted=a263416d74216346756ef5
+claims='expires 1444064944, issued by coap://as.example.com'
 xxd_of() { od -An -tx1 | tr -d ' \n'; }
 
-mkdir "$room/project"
-cp "$root/c/canonicalise.c" "$room/project"
-cat >"$room/project/CMakeLists.txt" <<CMAKE
+mkdir "$scratch/project"
+cp "$root/c/canonicalise.c" "$root/c/cwt.c" "$scratch/project"
+cat >"$scratch/project/CMakeLists.txt" <<CMAKE
 cmake_minimum_required(VERSION 3.13)
 project(canonicalise C)
 find_package(naltvigo ${version%%.*} REQUIRED)
-add_executable(shared canonicalise.c)
-target_link_libraries(shared naltvigo::naltvigo)
-add_executable(static canonicalise.c)
-target_link_libraries(static naltvigo::static)
+foreach(example canonicalise cwt)
+  add_executable(\${example}_shared \${example}.c)
+  target_link_libraries(\${example}_shared naltvigo::naltvigo)
+  add_executable(\${example}_static \${example}.c)
+  target_link_libraries(\${example}_static naltvigo::static)
+endforeach()
 CMAKE
 
 # Uses what stands below a prefix, in an environment that knows of no other.
-use() { # NAME PREFIX
-    local prefix=$2 page found used='the program'
-    [ "$("$prefix/bin/cborc" --version | head -1)" = "cborc $version" ] || fail "$1: the program's version"
-    [ "$("$prefix/bin/cborc" canon "$room/streamed.cbor" - | xxd_of)" = $wanted ] || fail "$1: the program"
-    page=$(find "$prefix/share/man/man1" -name 'cborc.1*')
+use() { # NAME PREFIX [LIB ROOT]: the folder of the libraries, and the root that Debian's files mean
+    local name=$1 prefix=$2 lib=${3:-$2/lib} above=${4:-} used='the program'
+    [ "$("$prefix/bin/cborc" --version | head -1)" = "cborc $version" ] || fail "$name: the program's version"
+    [ "$("$prefix/bin/cborc" canon "$scratch/streamed.cbor" - | xxd_of)" = $wanted ] || fail "$name: the program"
     if have man; then
-        found=$(MANPAGER=cat MANWIDTH=80 man -l "$page" 2>&1) || fail "$1: the man page"
-        grep -q 'canonicalise CBOR' <<<"$found" || fail "$1: the man page says nothing"
+        use_page "$name" "$(find "$prefix/share/man/man1" -name 'cborc.1*')"
         used+=', its man page'
     fi
     if have pkg-config; then
-        [ "$(PKG_CONFIG_PATH=$prefix/lib/pkgconfig pkg-config --modversion naltvigo)" = "$version" ] || fail "$1: pkg-config's version"
-        # shellcheck disable=SC2046
-        "$cc" "$room/project/canonicalise.c" $(PKG_CONFIG_PATH=$prefix/lib/pkgconfig pkg-config --cflags --libs naltvigo) -o "$room/program"
-        [ "$(LD_LIBRARY_PATH=$prefix/lib "$room/program" "$room/streamed.cbor" | xxd_of)" = $wanted ] || fail "$1: a C program, by pkg-config"
+        use_pkg_config "$name" "$lib" "$above"
         used+=', C by pkg-config'
     fi
     if have cmake; then
-        rm -rf "$room/build"
-        cmake -S "$room/project" -B "$room/build" -DCMAKE_PREFIX_PATH="$prefix" >"$room/log" 2>&1 && cmake --build "$room/build" >>"$room/log" 2>&1 ||
-            { cat "$room/log"; fail "$1: the CMake project"; }
-        for kind in shared static; do
-            [ "$("$room/build/$kind" "$room/streamed.cbor" | xxd_of)" = $wanted ] || fail "$1: the CMake project, $kind"
-        done
+        use_cmake "$name" "$prefix"
         used+=', C by CMake'
     fi
-    python3 "$root/scripts/documents.py" "$prefix/share/doc/naltvigo" || fail "$1: a link in a document"
-    say "$1: $used"
+    python3 "$root/scripts/documents.py" "$prefix/share/doc/naltvigo" || fail "$name: a link in a document"
+    say "$name: $used"
 }
+use_page() { # NAME PAGE
+    local found
+    found=$(MANPAGER=cat MANWIDTH=80 man -l "$2" 2>&1) || fail "$1: the man page"
+    grep -q 'canonicalise CBOR' <<<"$found" || fail "$1: the man page says nothing"
+}
+use_pkg_config() { # NAME LIB ROOT
+    local words example
+    # Debian's file names /usr, which pkg-config leaves out elsewhere
+    words=$(PKG_CONFIG_LIBDIR=$2/pkgconfig PKG_CONFIG_SYSROOT_DIR=$3 PKG_CONFIG_ALLOW_SYSTEM_CFLAGS=1 PKG_CONFIG_ALLOW_SYSTEM_LIBS=1 \
+        pkg-config --cflags --libs "naltvigo = $version") || fail "$1: pkg-config"
+    for example in canonicalise cwt; do
+        # shellcheck disable=SC2086
+        "$cc" "$scratch/project/$example.c" $words -o "$scratch/$example"
+    done
+    [ "$(LD_LIBRARY_PATH=$2 "$scratch/canonicalise" "$scratch/streamed.cbor" | xxd_of)" = $wanted ] || fail "$1: a C program, by pkg-config"
+    [ "$(LD_LIBRARY_PATH=$2 "$scratch/cwt" | tail -1)" = "$claims" ] || fail "$1: values in C, by pkg-config"
+}
+use_cmake() { # NAME PREFIX
+    local kind
+    rm -rf "$scratch/build"
+    cmake -S "$scratch/project" -B "$scratch/build" -DCMAKE_PREFIX_PATH="$2" >"$scratch/log" 2>&1 && cmake --build "$scratch/build" >>"$scratch/log" 2>&1 ||
+        { cat "$scratch/log"; fail "$1: the CMake project"; }
+    for kind in shared static; do
+        [ "$("$scratch/build/canonicalise_$kind" "$scratch/streamed.cbor" | xxd_of)" = $wanted ] || fail "$1: the CMake project, $kind"
+        [ "$("$scratch/build/cwt_$kind" | tail -1)" = "$claims" ] || fail "$1: values in the CMake project, $kind"
+    done
+}
+
+# ---- each script's words
+
+for script in "$root"/scripts/*.sh; do
+    name=${script##*/}
+    for word in -h --help; do
+        (mkdir "$scratch/apart" && cd "$scratch/apart" && "$script" $word) >"$scratch/log" 2>&1 || fail "$name $word: status $?"
+        grep -q "scripts/$name" "$scratch/log" || fail "$name $word does not say how it is called"
+        rmdir "$scratch/apart" || fail "$name $word makes files"
+    done
+    status=0
+    (mkdir "$scratch/apart" && cd "$scratch/apart" && "$script" --no-such-option) >"$scratch/log" 2>&1 || status=$?
+    [ $status = 2 ] || fail "$name --no-such-option: status $status"
+    grep -q 'unknown option --no-such-option' "$scratch/log" || fail "$name --no-such-option says nothing of it"
+    rmdir "$scratch/apart" || fail "$name --no-such-option makes files"
+done
+say 'each script answers --help, and refuses other options'
 
 # ---- into a prefix, beside what is there
 
-mkdir -p "$room/prefix/bin"
-echo kept >"$room/prefix/bin/other"
-"$root/scripts/install.sh" "$room/prefix" >/dev/null
-use 'install.sh' "$room/prefix"
-"$room/prefix/share/naltvigo/uninstall.sh" >/dev/null
-[ "$(cd "$room/prefix" && find . -type f -o -type l)" = ./bin/other ] || fail "uninstall.sh leaves $(find "$room/prefix")"
-[ "$(cd "$room/prefix" && find . -mindepth 1 -type d)" = ./bin ] || fail 'uninstall.sh leaves folders'
-! "$root/scripts/uninstall.sh" "$room/prefix" 2>/dev/null || fail 'uninstall.sh of nothing'
+mkdir -p "$scratch/prefix/bin"
+echo kept >"$scratch/prefix/bin/other"
+"$root/scripts/install.sh" "$scratch/prefix" >/dev/null
+use 'install.sh' "$scratch/prefix"
+"$scratch/prefix/share/naltvigo/uninstall.sh" >/dev/null
+[ "$(cd "$scratch/prefix" && find . -type f -o -type l)" = ./bin/other ] || fail "uninstall.sh leaves $(find "$scratch/prefix")"
+[ "$(cd "$scratch/prefix" && find . -mindepth 1 -type d)" = ./bin ] || fail 'uninstall.sh leaves folders'
+! "$root/scripts/uninstall.sh" "$scratch/prefix" 2>/dev/null || fail 'uninstall.sh of nothing'
 
 # ---- packages
 
-"$root/scripts/package.sh" "$room/packages" >/dev/null 2>&1
+package() { # FOLDER
+    "$root/scripts/package.sh" "$1" >"$scratch/log" 2>&1 || { cat "$scratch/log"; fail 'package.sh'; }
+}
+package "$scratch/packages"
 sleep 1
-"$root/scripts/package.sh" "$room/again" >/dev/null 2>&1
-diff -r "$room/packages" "$room/again" || fail 'two packages differ'
-say "packages, twice with equal bytes: $(cd "$room/packages" && echo *)"
-mkdir "$room/unpacked"
-tar -C "$room/unpacked" --strip-components=1 -xzf "$room"/packages/*.tar.gz
-use 'the archive' "$room/unpacked"
-"$room/unpacked/share/naltvigo/uninstall.sh" >/dev/null
-[ -z "$(find "$room/unpacked" -mindepth 1)" ] || fail 'the archive leaves something'
-if have dpkg-deb; then
-    fresh=$room/fresh
-    mkdir "$fresh"
+package "$scratch/again"
+diff -r "$scratch/packages" "$scratch/again" || fail 'two packages differ'
+say "packages, twice with equal bytes: $(cd "$scratch/packages" && echo *)"
+mkdir "$scratch/unpacked"
+tar -C "$scratch/unpacked" --strip-components=1 -xzf "$scratch"/packages/*.tar.gz
+use 'the archive' "$scratch/unpacked"
+"$scratch/unpacked/share/naltvigo/uninstall.sh" >/dev/null
+[ -z "$(find "$scratch/unpacked" -mindepth 1)" ] || fail 'the archive leaves something'
+
+# ---- the Debian packages
+
+unpack_debian() { # ROOT
+    local file
     if [ "$(id -u)" = 0 ] && have dpkg; then
-        mkdir -p "$fresh"/var/lib/dpkg/{info,updates}
-        touch "$fresh"/var/lib/dpkg/status
-        dpkg --root="$fresh" --force-depends -i "$room"/packages/*.deb >"$room/log" 2>&1 || { cat "$room/log"; fail 'dpkg -i'; }
+        mkdir -p "$1"/var/lib/dpkg/{info,updates}
+        touch "$1"/var/lib/dpkg/status
+        dpkg --root="$1" --force-depends -i "$scratch"/packages/*.deb >"$scratch/log" 2>&1 || { cat "$scratch/log"; fail 'dpkg -i'; }
     else
-        dpkg-deb -x "$room"/packages/*.deb "$fresh"
-    fi
-    use 'the Debian package' "$fresh/usr"
-    if [ "$(id -u)" = 0 ] && have chroot && have ldd; then
-        # as a machine with nothing but the C library has it
-        for file in $(ldd "$fresh/usr/bin/cborc" | grep -o '/[^ ]*'); do
-            install -D "$file" "$fresh$file"
+        for file in "$scratch"/packages/*.deb; do
+            dpkg-deb -x "$file" "$1"
         done
-        [ "$(chroot "$fresh" /usr/bin/cborc canon - - <"$room/streamed.cbor" | xxd_of)" = $wanted ] || fail 'the program, with the package as root'
     fi
-    if [ -e "$fresh/var/lib/dpkg/info/naltvigo.list" ]; then
-        dpkg --root="$fresh" -r naltvigo >/dev/null 2>&1
-        [ -z "$(find "$fresh/usr" -name '*cborc*' -o -name '*naltvigo*' 2>/dev/null)" ] || fail 'the Debian package leaves something'
+}
+# As a machine with nothing but the C library has it.
+run_as_root_folder() { # ROOT
+    local file
+    for file in $(ldd "$1/usr/bin/cborc" | grep -o '/[^ ]*'); do
+        install -D "$file" "$1$file"
+    done
+    [ "$(chroot "$1" /usr/bin/cborc canon - - <"$scratch/streamed.cbor" | xxd_of)" = $wanted ] || fail 'the program, with the packages as root'
+}
+remove_debian() { # ROOT
+    local left
+    dpkg --root="$1" -r cborc libnaltvigo-dev libnaltvigo2 naltvigo-doc >"$scratch/log" 2>&1 || { cat "$scratch/log"; fail 'dpkg -r'; }
+    left=$(find "$1" -path "$1/var" -prune -o \( -name '*cborc*' -o -name '*naltvigo*' \) -print)
+    [ -z "$left" ] || fail "the Debian packages leave $left"
+}
+
+if have dpkg-deb; then
+    fresh=$scratch/fresh
+    mkdir "$fresh"
+    unpack_debian "$fresh"
+    use 'the Debian packages' "$fresh/usr" "$fresh/usr/lib/$(uname -m)-linux-gnu" "$fresh"
+    for part in copyright changelog.gz changelog.Debian.gz; do
+        [ "$(find "$fresh"/usr/share/doc/*/$part | wc -l)" = 4 ] || fail "not each Debian package has a $part"
+    done
+    if [ "$(id -u)" = 0 ] && have chroot && have ldd; then
+        run_as_root_folder "$fresh"
+    fi
+    [ ! -d "$fresh/var/lib/dpkg/info" ] || remove_debian "$fresh"
+    if have lintian; then
+        lintian --fail-on error "$scratch"/packages/*.deb >"$scratch/log" 2>&1 || { cat "$scratch/log"; fail 'lintian finds errors'; }
+        say 'lintian finds no error'
     fi
 fi
+
+# ---- what the gate proved, in each package
+
+# A log of rt ci stands in for the gate's where there is none.
+log=${GATE_LOG:-$scratch/gate.log}
+[ -n "${GATE_LOG:-}" ] || cat >"$log" <<'LOG'
+     11 == lower
+     11 fn lower::echo: proved
+     11 empty contracts: 0 found; tried 1 of 1 functions
+     11 logic KIT/antt-project.json: libraries=16 files=2756 sum=dac8208d650f15bf3e2dc313a14fa4c783a3acf887bdfab66e1714b038d9e11b
+     11 statements core: modules loaded=700 checked=0
+     11 logic=proved functions=1 sum=dac8208d650f15bf native=nat,char,string logic-built=trusted
+     11 rt: lower proved
+     33 == lower: its tests
+     33 fn lower::tests::echoes: proved, may abort
+     33 logic KIT/antt-project.json: libraries=16 files=2756 sum=dac8208d650f15bf3e2dc313a14fa4c783a3acf887bdfab66e1714b038d9e11b
+     33 axioms libc: libc::write (1 of the 128 declared)
+     33 axioms os: none reached of the 22 declared
+     33 logic=proved tests=1 functions=2 axioms=1 target=x86_64-unknown-linux-gnu main=Abort sum=dac8208d650f15bf
+     33 rt: lower: its tests are proved
+     33 rt: upper is kept: an earlier run on this machine proved the same files over the same libraries
+     33 rt: lower: trying its must-fail edits (1)
+     41 rt: must-fail lower/zero.edit: refused, as it must be: ./proofs/echo/Answers.antt:8:13: error: `returns`
+     41 tests: 1
+     41 test tests::echoes ... ok
+     41 test result: ok. 1 passed; 0 failed; 0 ignored; 0 filtered out
+     41 rt: lower: its tests passed
+     41 rt: upper ran, and wrote what its file stdout has
+     41 rt: ok; handles allowed: none; must-fail edits: 1 refused; done in this run: 2 of the 3 proofs
+seconds                    proof   tests   edits
+lower                         10      22       8 (1)
+3 passed, 0 failed
+stage proofs: 42 s
+LOG
+for change in 's/^\([0-9]* passed\), 0/\1, 1/' '/rt: ok;/d' 's/^ *[0-9]* logic=.*//' '/^[0-9]* passed, 0 failed$/d'; do
+    sed "$change" "$log" >"$scratch/other.log"
+    ! python3 "$root/scripts/transcript.py" "$scratch/other.log" "$scratch/prefix" >/dev/null 2>&1 || fail "a log changed by $change gets a transcript"
+done
+GATE_LOG=$log package "$scratch/reported"
+mkdir "$scratch/archive"
+tar -C "$scratch/archive" --strip-components=1 -xzf "$scratch"/reported/*.tar.gz
+transcript=$scratch/archive/share/doc/naltvigo/transcript.txt
+(cd "$scratch/archive" && grep -E '^[0-9a-f]{64}  ' "$transcript" | sha256sum --check --quiet) || fail 'the transcript has other sums'
+[ "$(grep -cE '^[0-9a-f]{64}  ' "$transcript")" = 4 ] || fail 'the transcript lacks a file'
+if [ -z "${GATE_LOG:-}" ]; then
+    diff - <(sed -n '/^Crate/,/^$/p' "$transcript") <<'CRATES' || fail 'the transcript of the crates'
+Crate lower
+  proof: empty contracts: 0 found; tried 1 of 1 functions
+  proof: logic=proved functions=1 sum=dac8208d650f15bf native=nat,char,string logic-built=trusted
+  proof of its tests: axioms libc: libc::write (1 of the 128 declared)
+  proof of its tests: logic=proved tests=1 functions=2 axioms=1 target=x86_64-unknown-linux-gnu main=Abort sum=dac8208d650f15bf
+  wrong bodies refused: 1
+  tests passed: 1
+
+Crate upper
+  proof: kept: an earlier run on this machine proved the same files over the same libraries
+  the program ran, and wrote what it must
+
+CRATES
+fi
+if have dpkg-deb; then
+    mkdir "$scratch/deb"
+    for name in cborc libnaltvigo2; do
+        dpkg-deb -x "$scratch"/reported/${name}_*.deb "$scratch/deb"
+        cmp "$scratch"/deb/usr/share/doc/$name/transcript.*.txt "$transcript" || fail "$name has no transcript"
+    done
+    for file in "$scratch/deb/usr/bin/cborc" "$scratch"/deb/usr/lib/*/libnaltvigo.so.$version; do
+        grep -q "^$(sha256sum <"$file" | cut -d' ' -f1) " "$transcript" || fail "the transcript has another ${file##*/}"
+    done
+fi
+say 'the packages have the transcript of a run, with the sums of their files'
 listed=$(printf ', %s' "${missing[@]}")
 say "all well${missing[*]:+; not tried, since not there: ${listed#, }}"

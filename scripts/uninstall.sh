@@ -4,6 +4,8 @@
 # PREFIX is as with install.sh; as PREFIX/share/naltvigo/uninstall.sh it needs none. Nothing else is touched, and folders
 # only where they are empty then.
 set -euo pipefail
+. "$(dirname "${BASH_SOURCE[0]}")/lib/options.sh"
+take_options 1 "$@"
 
 here=$(cd "$(dirname "${BASH_SOURCE[0]}")" && pwd)
 if [ -e "$here/files" ]; then

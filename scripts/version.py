@@ -13,14 +13,15 @@ ROOT = Path(__file__).resolve().parent.parent
 
 # Each place: a file, or a pattern of files of which one has it, and what stands before and behind the version there.
 PLACES = [
-    ("crates/cborc_grammar/src/grammar.rt", r'const VERSION: &str = "\\\n', r"\n"),
-    ("crates/cborc_grammar/src/grammar.rt", r'\.version\("', r'"\)'),
+    ("crates/cborc/src/cli.rt", r'const VERSION: &str = "\\\n', r"\n"),
+    ("crates/cborc/src/cli.rt", r'\.version\("', r'"\)'),
     ("crates/cborc/src/tests/*.rt", r'const VERSION: &str = "\\\ncborc ', r"\n"),
     ("crates/cborc/src/tests/*.rt", r'"-V", "cborc ', r'\\n"'),
     ("share/cborc.1", r'(?m:^)\.TH CBORC 1 "[^"]*" "cborc ', r'"'),
     ("include/naltvigo.h", r'#define NALTVIGO_VERSION "', r'"'),
     ("bindings/python/pyproject.toml", r'(?m:^)version = "', r'"'),
     ("bindings/rust/Cargo.toml", r'(?m:^)version = "', r'"'),
+    ("bindings/js/package.json", r'(?m:^)  "version": "', r'"'),
 ]
 
 # One of the three numbers by itself: a file, what stands before it, and which one.
@@ -28,7 +29,6 @@ NUMBERS = [
     ("include/naltvigo.h", r"#define NALTVIGO_VERSION_MAJOR ", 0),
     ("include/naltvigo.h", r"#define NALTVIGO_VERSION_MINOR ", 1),
     ("include/naltvigo.h", r"#define NALTVIGO_VERSION_PATCH ", 2),
-    ("bindings/python/src/naltvigo/_library.py", r"(?m:^)MAJOR = ", 0),
 ]
 
 

@@ -1,33 +1,33 @@
 #!/usr/bin/env python3
-"""Writes the table 'The way of a byte' of docs/ARCHITECTURE.md: which files a call goes through, from the sources.
+"""Writes the table of docs/ARCHITECTURE.md that says which files each call goes through, from the sources.
 
     scripts/ways.py            writes it, between its two marks
-    scripts/ways.py --check    fails where it is not what this would write
+    scripts/ways.py --check    fails if the table there differs
 
-A way follows calls of functions by the names that a file brings in, and of methods where one type in sight has a method of
-that name; so a method that several types have is not followed.
+Calls of functions are followed by the names that a file imports. A call of a method is followed if exactly one type in
+scope has a method of that name; so a method that several types have is not followed.
 """
 
 import re
 import sys
 
-from proved import CRATES, ITEM, ROOT, behind, crates
+from proved import CRATES, ITEM, ROOT, after_partner, crates
 
-# The calls whose ways are shown: a crate that hands the call out is not named, since crates are split.
+# The calls of the table. Their crates are not named here, since calls move between crates.
 CALLS = [
-    "canonicalise", "check_valid", "check_canonical", "canonical_front", "same_meaning", "read_tree", "read_view", "read_strict", "Sequence::next",
-    "StrictReader::next", "Machine::step", "EventReader::next", "Tree::of", "encode",
-    "CanonBuilder::end", "TreeBuilder::end", "diagnostic", "diagnostic_view", "TextBuffer::diagnostic_front", "listing", "explain", "read_item", "write_items", "perform", "run",
+    "canonicalise", "check_valid", "check_canonical", "canonical_prefix", "same_meaning", "read_tree", "read_view", "read_strict", "Sequence::next",
+    "StrictReader::next", "Parser::parse_item", "item_at", "find", "fill_table", "Machine::step", "EventReader::next", "Tree::of", "encode",
+    "CanonBuilder::end", "TreeBuilder::end", "diagnostic", "diagnostic_view", "TextBuffer::diagnostic_prefix", "listing", "explain", "read_item", "write_items", "perform", "run",
 ]
 
-# Heads, limits and reasons: each way takes them.
+# Every call uses heads, limits and reasons, so their crate is left out.
 EVERYWHERE = "cbor_head"
 
 BEGIN, END = "<!-- written by scripts/ways.py -->", "<!-- end -->"
 
 
 class File:
-    """A source file: the functions and types that it has, and what its names stand for."""
+    """A source file: its functions and types, and what its names mean."""
 
     def __init__(self, crate, path):
         self.crate, self.path = crate, path
@@ -58,19 +58,19 @@ class File:
             if match.start() >= end:
                 owner = None
             if match["impl"] or match["trait"]:
-                end = behind(self.plain, match.end() - 1)
+                end = after_partner(self.plain, match.end() - 1)
                 of = re.sub(r"^(unsafe )?impl\s*(<[^{]*?>)?\s*", "", (match["impl"] or "").replace("\n", " "))
                 of = of.split(" for ")[-1]
                 owner = match["trait"] or re.match(r"&?(?:mut )?(\w+)", of)[1]
                 continue
             start = self.body_from(match.end())
             if start is not None:
-                place = behind(self.plain, start)
-                # of several functions of one name the first stands
+                place = after_partner(self.plain, start)
+                # of several functions of one name, the first counts
                 self.bodies.setdefault((owner, match["name"]), self.plain[start:place])
 
     def body_from(self, place):
-        """Where the body begins of a function whose signature goes on here, behind its clauses."""
+        """The offset of the body of a function whose signature goes on here, after its clauses."""
         # an array type has a semicolon of its own
         clause = re.compile(r"\b(?:requires|ensures)\b\*?\s*\w*\s*\{|\bghost\b[^;{]*[;{]|\[[^\[\]{};]*;|\{|;")
         while True:
@@ -79,7 +79,7 @@ class File:
                 return None
             if match[0] == "{":
                 return match.end() - 1
-            place = match.end() if match[0].endswith(";") else behind(self.plain, match.end() - 1)
+            place = match.end() if match[0].endswith(";") else after_partner(self.plain, match.end() - 1)
 
 
 class Sources:
@@ -92,13 +92,13 @@ class Sources:
                     self.files[crate, file.parts] = file
 
     def named(self, file, name):
-        """The file that has what a name stands for, or none."""
+        """The file that declares a name, or none."""
         if name in file.types or (None, name) in file.bodies:
             return file
         return self.at(file, file.brings[name]) if name in file.brings else None
 
     def at(self, file, path):
-        """The file that a path leads to."""
+        """The file of a path."""
         words = [word for word in path.replace(" ", "").split("::") if word]
         if (file.crate, (words[0],)) in self.files:
             words.insert(0, "crate")
@@ -112,13 +112,13 @@ class Sources:
         return self.named(found, name) if found and found is not file else None
 
     def having(self, file, owner, name):
-        """Of a type's file and those of the modules in it the one that has a method of the type, or none."""
+        """The file that has a method of a type, among the type's file and its modules, or none."""
         inside = [it for (crate, parts), it in self.files.items() if crate == file.crate and parts[:len(file.parts)] == file.parts]
         return next((it for it in [file, *inside] if (owner, name) in it.bodies), None)
 
     def way(self, file, owner, name):
-        """The files of its crate in the order in which a function and what it calls reach them; and what these call or use
-        of other crates."""
+        """The files of its crate, in the order in which a function and what it calls reach them; and what these use of other
+        crates."""
         crate, order, others, seen, waiting = file.crate, [], [], set(), [(file, owner, name)]
         while waiting:
             file, owner, name = waiting.pop()
@@ -166,7 +166,7 @@ class Sources:
 
 
 def shown(order, others):
-    """The files of the crate, and by crate what is used of others."""
+    """A row: the files of the crate, and what is used of each other crate."""
     by_crate = {}
     for crate, name in others:
         by_crate.setdefault(crate, []).append(f"`{name}`")
@@ -176,7 +176,7 @@ def shown(order, others):
 
 def main():
     sources = Sources()
-    lines = [BEGIN, "", "| Call | Files, in the order in which its calls reach them | Of other crates |", "|---|---|---|"]
+    lines = [BEGIN, "", "| Call | Files, in the order of calls | Other crates |", "|---|---|---|"]
     for call in CALLS:
         start = sources.start(call)
         if start:
@@ -189,7 +189,7 @@ def main():
     if "--check" not in sys.argv:
         path.write_text(made, encoding="utf-8")
     elif made != text:
-        print("docs/ARCHITECTURE.md: the way of a byte is not what scripts/ways.py writes: run it")
+        print("the table of calls in docs/ARCHITECTURE.md is out of date: run scripts/ways.py")
         return 1
     return 0
 

@@ -1,59 +1,110 @@
-"""Prints what calls cost beside cbor2, as a Markdown table: bench.py [FOLDER WITH cbor2]"""
+"""Prints what calls cost beside cbor2's C extension, as a Markdown table, in one run: bench.py [TURNS]
 
-import ctypes
+Each number is the least of many short runs, turn by turn, in microseconds of the processor a call. Python's collector of
+cycles is on, as it is in programs.
+"""
+
+import gc
+import random
 import sys
+import time
 import timeit
 
 import naltvigo
-from naltvigo import _library
+from naltvigo import dumps, loads
 
-sys.path += sys.argv[1:]
 try:
     import cbor2
 except ImportError:
-    cbor2 = None
+    sys.exit("cbor2 is not there (Debian's python3-cbor2, with /usr/bin/python3)")
 
-# the claims of a token (RFC 8392, appendix A.1), less the last, as a stream wrote them: without a length, in no order
-CLAIMS = bytes.fromhex(
-    "bf"
-    "0378 18636f61703a2f2f6c696768742e6578616d706c652e636f6d"  # 3: "coap://light.example.com"
-    "041a5612aeb0 051a5610d9f0 061a5610d9f0"  # 4: 1444064944, 5: 1443944944, 6: 1443944944
-    "02656572696b77"  # 2: "erikw"
-    "0175636f61703a2f2f61732e6578616d706c652e636f6d"  # 1: "coap://as.example.com"
-    "ff"
-)
+# the claims of a token (RFC 8392, appendix A.1), less the last
+CLAIMS = {
+    3: "coap://light.example.com", 4: 1444064944, 5: 1443944944, 6: 1443944944,
+    2: "erikw", 1: "coap://as.example.com",
+}  # fmt: skip
 
 
-def least(call, number=500, repeat=400):
-    """The least of many short runs, which a busy machine disturbs little, in microseconds a call."""
-    return min(timeit.repeat(call, number=number, repeat=repeat)) / number * 1e6
+def record(rng, name):
+    return {
+        "id": rng.randrange(1 << 40), "name": name, "active": rng.random() < 0.5, "parent": None,
+        "created": 1_700_000_000 + rng.randrange(1 << 24), "balance": -rng.randrange(1 << 20),
+        "tags": [rng.choice(("red", "green", "blue", "large")) for _ in range(rng.randrange(4))],
+        "hash": rng.randbytes(32), "place": {"street": "Hauptstraße " + str(rng.randrange(99)), "zip": rng.randrange(99999)},
+    }  # fmt: skip
 
 
-def library():
-    """The library's own time: the same export, called over and over by ctypes, less an export that does nothing."""
-    room = _library.Room(4096)
-    words = (CLAIMS, len(CLAIMS), 0, 0, 64, 1 << 20, room.out_at, room.size, room.needed_at, room.why_at)
-    wrong = (CLAIMS, len(CLAIMS), 9, 0, 64, 1 << 20, room.out_at, room.size, room.needed_at, room.why_at)
-    call = _library.canonicalise_raw
-    return least(lambda: call(*words)) - least(lambda: call(*wrong))
+def kilobyte(rng):
+    return {
+        "version": 3, "subject": "urn:uuid:1b4e28ba-2fa1-11d2-883f-0016d3cca427", "issuer": "https://issuer.example/keys/2026",
+        "serial": 2**63 + 12345, "key": {1: 2, 3: -7, -1: 1, -2: rng.randbytes(32), -3: rng.randbytes(32)},
+        "claims": {f"claim-{i:02}": [i, -i, f"value {i}", i % 2 == 0] for i in range(24)},
+        "extensions": [{"oid": f"1.3.6.1.4.1.{i}", "critical": False, "data": rng.randbytes(16)} for i in range(6)],
+    }  # fmt: skip
+
+
+def least(calls, turns, number):
+    """The least time of each call, in microseconds."""
+    best = [float("inf")] * len(calls)
+    for _ in range(turns):
+        for i, call in enumerate(calls):
+            best[i] = min(best[i], timeit.timeit(call, gc.enable, time.process_time, number) / number * 1e6)
+    return best
+
+
+def row(name, value, number, turns):
+    data, plain = dumps(value), cbor2.dumps(value)
+    assert dumps(value, order="length") == cbor2.dumps(value, canonical=True), name
+    assert loads(data) == value == cbor2.loads(data), name
+    put, its_put, took, took_plain, its_took = least(
+        [
+            lambda: dumps(value),
+            lambda: cbor2.dumps(value, canonical=True),
+            lambda: loads(data),
+            lambda: loads(plain),
+            lambda: cbor2.loads(data),
+        ],
+        turns,
+        number,
+    )
+    ratios = f"| {put:,.2f} | {its_put:,.2f} | {its_put / put:.1f} | {took:,.2f} | {its_took:,.2f} | {its_took / took:.1f} |"
+    return f"| {name}, {len(data):,} bytes {ratios} {took_plain:,.2f} |"
+
+
+def calls_on_bytes(turns):
+    """What calls on bytes cost; of canonicalise also beyond the library, whose part is that of one item of a thousand."""
+    data = cbor2.dumps(CLAIMS)
+    canonical, many = dumps(CLAIMS), data * 1000
+    one, check, strict, is_canonical, text = least(
+        [
+            lambda: naltvigo.canonicalise(data),
+            lambda: naltvigo.check(data),
+            lambda: naltvigo.check_canonical(canonical),
+            lambda: naltvigo.is_canonical(canonical),
+            lambda: naltvigo.diagnostic(canonical),
+        ],
+        turns * 40,
+        200,
+    )
+    both, ends = least([lambda: naltvigo.canonicalise_items(many), lambda: naltvigo.item_ends(many)], turns * 10, 1)
+    return [
+        ("`canonicalise`", one), ("beyond the library's own part", one - (both - ends) / 1000), ("`check`", check),
+        ("`check_canonical`", strict), ("`is_canonical`", is_canonical), ("`diagnostic`", text),
+        ("`item_ends`, an item of a thousand", ends / 1000), ("`canonicalise_items`, an item of a thousand", both / 1000),
+    ]  # fmt: skip
 
 
 def main():
-    answer = naltvigo.canonicalise(CLAIMS)
-    rows = [
-        ("`canonicalise`", least(lambda: naltvigo.canonicalise(CLAIMS))),
-        ("the library's own part of it", library()),
-        ("`check`", least(lambda: naltvigo.check(CLAIMS))),
-        ("`check_canonical`", least(lambda: naltvigo.check_canonical(answer))),
-        ("`diagnostic`", least(lambda: naltvigo.diagnostic(answer))),
-    ]
-    if cbor2:
-        assert cbor2.dumps(cbor2.loads(CLAIMS), canonical=True) == answer
-        rows.append(("`cbor2.dumps(cbor2.loads(x), canonical=True)`", least(lambda: cbor2.dumps(cbor2.loads(CLAIMS), canonical=True))))
-    else:
-        print("no row of cbor2, which is not there (Debian's python3-cbor2, or a folder that has it)", file=sys.stderr)
-    print(f"| claims set of {len(CLAIMS)} bytes | microseconds |\n|---|---:|")
-    for name, time in rows:
+    turns = int(sys.argv[1]) if len(sys.argv) > 1 else 60
+    rng = random.Random(1)
+    records = [record(rng, f"name-{i}") for i in range(6540)]
+    print("| microseconds | `dumps` | cbor2, canonical | times | `loads` | cbor2 | times | `loads`, not canonical |")
+    print("|---|---:|---:|---:|---:|---:|---:|---:|")
+    inputs = ("claims", CLAIMS, 200, 40 * turns), ("a certificate", kilobyte(rng), 50, 10 * turns), ("records", records, 1, turns)
+    for name, value, number, often in inputs:
+        print(row(name, value, number, often))
+    print("\n| claims, in bytes | microseconds |\n|---|---:|")
+    for name, time in calls_on_bytes(turns):
         print(f"| {name} | {time:.2f} |")
 
 

@@ -6,8 +6,8 @@ use std::process::Command;
 
 fn installed() -> Option<PathBuf> {
     let words = ["--variable=pcfiledir", "naltvigo"];
-    let told = Command::new("pkg-config").args(words).output().ok()?;
-    let folder = String::from_utf8(told.stdout).ok()?;
+    let reported = Command::new("pkg-config").args(words).output().ok()?;
+    let folder = String::from_utf8(reported.stdout).ok()?;
     Some(Path::new(folder.trim()).parent()?.to_owned())
 }
 

@@ -4,8 +4,6 @@ python3 -m unittest discover bindings/python/tests
 """
 
 import array
-import ctypes
-import doctest
 import pickle
 import re
 import sys
@@ -16,7 +14,7 @@ import unittest
 from pathlib import Path
 
 import naltvigo
-from naltvigo import Refused, _calls, _library, _reasons, _refused, _streams
+from naltvigo import Refused, _reasons
 
 ROOT = Path(__file__).resolve().parents[3]
 sys.path.insert(0, str(ROOT / "c"))
@@ -25,13 +23,6 @@ from rows import pairs_of, rows_of  # noqa: E402
 TABLES = sorted((ROOT / "crates/cbor_reader_tests/src/tests").glob("*_table.rt"))
 EVENTS = ROOT / "crates/cbor_events_tests/src/tests/tables.rt"
 ORDERS = ("bytewise", "length")
-
-
-def load_tests(loader, tests, pattern):
-    for module in (naltvigo, _calls, _refused, _streams):
-        tests.addTests(doctest.DocTestSuite(module))
-    tests.addTests(doctest.DocFileSuite(str(ROOT / "bindings/python/README.md"), module_relative=False))
-    return tests
 
 
 def answer_of(call, *words, **more):
@@ -102,7 +93,7 @@ class Events(unittest.TestCase):
         rows = ([column.strip() for column in line.split("|", 4)] for line in body.splitlines())
         return [(text, given, events) for given, _, events, _, text in rows]
 
-    def told(self, chunks):
+    def reported(self, chunks):
         joined = []
         for event in naltvigo.events(chunks, depth=256):
             if event.kind == "piece" and joined and joined[-1].kind == "piece":
@@ -118,12 +109,12 @@ class Events(unittest.TestCase):
             data = bytes.fromhex(given)
             for chunks in (data, [data], [bytes([byte]) for byte in data], [b"", data[:2], bytearray(data[2:]), b""]):
                 with self.subTest(given=given):
-                    told = self.told(chunks)
+                    reported = self.reported(chunks)
                     words = " ".join(
-                        " ".join(str("-" if it is None else it) for it in (e.place, e.kind, e.number, e.width)) for e in told
+                        " ".join(str("-" if it is None else it) for it in (e.place, e.kind, e.number, e.width)) for e in reported
                     )
                     self.assertEqual(words.replace("break", "end"), " ".join(wanted.split()))
-                    for event in told:
+                    for event in reported:
                         if event.kind == "piece":
                             self.assertEqual(event.data, data[event.place : event.place + event.number])
 
@@ -143,11 +134,11 @@ class Events(unittest.TestCase):
             ([b"\x01\x02"], ["unsigned"], (12, 1, 1)),
             ([b"\x01", b"", b"\x02"], ["unsigned"], (12, 1, 1)),
         ):
-            told = []
+            reported = []
             with self.assertRaises(Refused) as raised:
                 for event in naltvigo.events(chunks):
-                    told.append(event.kind)
-            self.assertEqual(told, kinds)
+                    reported.append(event.kind)
+            self.assertEqual(reported, kinds)
             error = raised.exception
             self.assertEqual((error.reason, error.place, error.read), refusal)
 
@@ -197,7 +188,7 @@ class Words(unittest.TestCase):
                     getattr(naltvigo, name)(b"\x00", **words)
                 self.assertNotIsInstance(raised.exception, Refused)
         self.assertEqual(naltvigo.canonicalise(b"\x00", depth=0, max_bytes=1 << 62), b"\x00")
-        # a limit of another type is told as one, in range or not
+        # a limit of another type is reported as one, in range or not
         for name in (*self.CALLS, "same"):
             inputs = [b"\x00"] * (2 if name == "same" else 1)
             for limit in (1.5, 1e6, 2000.5, -0.5, "1", b"", None):
@@ -269,7 +260,7 @@ class Rest(unittest.TestCase):
                 self.assertEqual(naltvigo.diagnostic(data), "[" + ", ".join("0" * count) + "]")
 
     def test_an_input_far_longer_than_the_limit(self):
-        # refused as ever, and without room by the input's length
+        # refused as ever, and without space by the input's length
         endless, behind = b"\x9f" + b"\x00" * (1 << 24), b"\x00" * (1 << 24)
         for name in ("canonicalise", "diagnostic"):
             for data, wanted in ((endless, (2, 10, 10)), (behind, (12, 1, 1))):
@@ -294,14 +285,11 @@ class Rest(unittest.TestCase):
         self.assertEqual(str(error), str(raised.exception))
         self.assertIsInstance(error, ValueError)
 
-    def test_names_are_those_of_the_library(self):
-        export = _library._LIBRARY.naltvigo_reason_name_raw
-        export.restype = ctypes.c_size_t
+    def test_names_are_those_of_the_header(self):
+        header = re.sub(r"/\*.*?\*/", "", (ROOT / "include/naltvigo.h").read_text(), flags=re.S)
         for number, (name, _, _) in _reasons.REASONS.items():
-            out = ctypes.create_string_buffer(17)
-            self.assertEqual(export(ctypes.c_uint32(number), out, ctypes.c_size_t(17)), len(name))
-            self.assertEqual(out.value.decode(), name)
-        self.assertEqual(export(ctypes.c_uint32(len(_reasons.REASONS) + 1), out, ctypes.c_size_t(17)), 0)
+            snake = re.sub(r"(?<!^)(?=[A-Z])", "_", name).upper()
+            self.assertRegex(header, rf"\bNALTVIGO_{snake} = {number}\b")
 
     def test_threads(self):
         faults = []

@@ -38,23 +38,24 @@ pub enum Kind<'a> {
     Break,
 }
 
-/// What a step of a machine tells.
+/// What a step of a machine returns.
 #[derive(Clone, Copy, Debug, PartialEq, Eq)]
 pub enum Step<'a> {
     /// An event is complete.
     Event(Event<'a>),
-    /// All of the part was used, and more is due.
+    /// All of the part was used, and the item needs more bytes.
     More,
-    /// The item is complete, and all its events were told.
+    /// The item is complete, and all its events were returned.
     Done,
     /// The item is refused.
     Refused(Refused),
 }
 
-/// A machine that takes one item in parts of any length, and tells its events. It takes no memory.
+/// A machine that takes one item in parts of any length, and returns its events. It takes no memory.
 ///
-/// Form alone is judged: neither UTF-8, nor repeated keys, nor the canonical spelling. The end of
-/// the parts is the caller's to see: a step of no bytes then tells whether the item is complete.
+/// It checks that the item is well-formed, and not UTF-8, repeated keys or canonical encoding. It does
+/// not know where the parts end: after the last one, a step of no bytes says whether the item is
+/// complete.
 ///
 /// ```
 /// use naltvigo::{Kind, Machine, Options, Step};
@@ -90,39 +91,39 @@ impl Machine {
         self.0.open
     }
 
-    /// The events of a part, of which the library tells up to 64 a call. They end where the part
-    /// ends, behind the item, whose bytes alone are taken, or with a refusal.
+    /// The events of a part. They end with the part, with the item, or with a refusal. Bytes behind the
+    /// item are not taken.
     ///
-    /// Go on to the end: the library may be 64 events ahead of those that were given, and what is
-    /// not asked for is lost.
+    /// Go on to the end: the library returns up to 64 events a call, and those that are not asked for
+    /// are lost.
     pub fn events<'m, 'a>(&'m mut self, part: &'a [u8]) -> PartEvents<'m, 'a> {
         PartEvents {
-            told: Told::new(part, self.taken()),
+            reported: Told::new(part, self.taken()),
             machine: self,
             ended: false,
         }
     }
 
     /// Takes bytes from the front of a part until an event is complete, or none is left: how many,
-    /// and what is told. Once the item is complete, or refused, it takes none and answers the same.
+    /// and what came of them. Once the item is complete, or refused, it takes none and returns the same.
     ///
     /// A call fills 9 KiB of its stack, so [`events`](Machine::events) is cheaper for many events.
     pub fn step<'a>(&mut self, part: &'a [u8]) -> (usize, Step<'a>) {
         let begins = self.taken();
-        let mut room = [raw::Event::default()];
-        let taken = self.take(part, &mut room);
-        let told = match taken.status {
-            EVENT => Step::Event(event_of(&room[0], part, begins)),
+        let mut space = [raw::Event::default()];
+        let taken = self.take(part, &mut space);
+        let reported = match taken.status {
+            EVENT => Step::Event(event_of(&space[0], part, begins)),
             MORE => Step::More,
             OK => Step::Done,
             _ => Step::Refused(Refused::of(taken.refusal)),
         };
-        (taken.used, told)
+        (taken.used, reported)
     }
 
-    // Takes bytes from the front of a part until there is no room for an event, or none is left.
-    fn take(&mut self, part: &[u8], room: &mut [raw::Event]) -> Taken {
-        let (mut used, mut told) = (0, 0);
+    // Takes bytes from the front of a part until `space` is full or no byte is left.
+    fn take(&mut self, part: &[u8], space: &mut [raw::Event]) -> Taken {
+        let (mut used, mut reported) = (0, 0);
         let mut refusal = raw::Refusal::default();
         // SAFETY: as of the calls; the machine is one, since none but the library writes it.
         let status = unsafe {
@@ -131,31 +132,31 @@ impl Machine {
                 part.as_ptr(),
                 part.len(),
                 &mut used,
-                room.as_mut_ptr(),
-                room.len(),
-                &mut told,
+                space.as_mut_ptr(),
+                space.len(),
+                &mut reported,
                 &mut refusal,
             )
         };
         Taken {
             status,
             used,
-            told,
+            reported,
             refusal,
         }
     }
 }
 
-// What came of a part: how many bytes of it were used, and how many events told.
+// What came of a part: how many bytes of it were used, and how many events were returned.
 #[derive(Clone, Debug)]
 struct Taken {
     status: u32,
     used: usize,
-    told: usize,
+    reported: usize,
     refusal: raw::Refusal,
 }
 
-// How many events a call of the library tells at most.
+// How many events a call of the library returns at most.
 const MANY: usize = 64;
 
 // The events of a part that begins there in the item, those of a call of the library at a time.
@@ -164,8 +165,8 @@ struct Told<'a> {
     part: &'a [u8],
     begins: u64,
     used: usize,
-    room: [raw::Event; MANY],
-    // How many of those in the room were given.
+    space: [raw::Event; MANY],
+    // How many of the events in the space were given.
     given: usize,
     last: Taken,
 }
@@ -176,12 +177,12 @@ impl<'a> Told<'a> {
             part,
             begins,
             used: 0,
-            room: [raw::Event::default(); MANY],
+            space: [raw::Event::default(); MANY],
             given: 0,
             last: Taken {
                 status: EVENT,
                 used: 0,
-                told: 0,
+                reported: 0,
                 refusal: raw::Refusal::default(),
             },
         }
@@ -189,12 +190,12 @@ impl<'a> Told<'a> {
 
     // The next event; none where the status of the last call says why.
     fn next(&mut self, machine: &mut Machine) -> Option<Event<'a>> {
-        if self.given == self.last.told && self.last.status == EVENT {
-            self.last = machine.take(&self.part[self.used..], &mut self.room);
+        if self.given == self.last.reported && self.last.status == EVENT {
+            self.last = machine.take(&self.part[self.used..], &mut self.space);
             self.used += self.last.used;
             self.given = 0;
         }
-        let event = self.room[..self.last.told].get(self.given)?;
+        let event = self.space[..self.last.reported].get(self.given)?;
         self.given += 1;
         Some(event_of(event, self.part, self.begins))
     }
@@ -242,7 +243,7 @@ fn event_of<'a>(event: &raw::Event, part: &'a [u8], begins: u64) -> Event<'a> {
 #[derive(Clone, Debug)]
 pub struct Events<'a> {
     machine: Machine,
-    told: Told<'a>,
+    reported: Told<'a>,
     ended: bool,
 }
 
@@ -251,7 +252,7 @@ impl<'a> Events<'a> {
     pub fn new(input: &'a [u8], options: &Options) -> Events<'a> {
         Events {
             machine: Machine::new(options),
-            told: Told::new(input, 0),
+            reported: Told::new(input, 0),
             ended: false,
         }
     }
@@ -262,12 +263,12 @@ impl<'a> Events<'a> {
             return None;
         }
         let taken = self.machine.taken();
-        match self.told.last.status {
+        match self.reported.last.status {
             // all was offered, so the item is cut off
             MORE => Some(Refused::at(Reason::Truncated, taken)),
-            OK if self.told.used == self.told.part.len() => None,
+            OK if self.reported.used == self.reported.part.len() => None,
             OK => Some(Refused::at(Reason::Trailing, taken)),
-            _ => Some(Refused::of(self.told.last.refusal)),
+            _ => Some(Refused::of(self.reported.last.refusal)),
         }
     }
 }
@@ -276,7 +277,7 @@ impl<'a> Iterator for Events<'a> {
     type Item = Result<Event<'a>, Refused>;
 
     fn next(&mut self) -> Option<Self::Item> {
-        match self.told.next(&mut self.machine) {
+        match self.reported.next(&mut self.machine) {
             Some(event) => Some(Ok(event)),
             None => self.end().map(Err),
         }
@@ -291,7 +292,7 @@ impl FusedIterator for Events<'_> {}
 #[must_use = "no byte is taken before an event is asked for"]
 pub struct PartEvents<'m, 'a> {
     machine: &'m mut Machine,
-    told: Told<'a>,
+    reported: Told<'a>,
     ended: bool,
 }
 
@@ -299,15 +300,15 @@ impl<'a> Iterator for PartEvents<'_, 'a> {
     type Item = Result<Event<'a>, Refused>;
 
     fn next(&mut self) -> Option<Self::Item> {
-        if let Some(event) = self.told.next(self.machine) {
+        if let Some(event) = self.reported.next(self.machine) {
             return Some(Ok(event));
         }
         if core::mem::replace(&mut self.ended, true) {
             return None;
         }
-        match self.told.last.status {
+        match self.reported.last.status {
             MORE | OK => None,
-            _ => Some(Err(Refused::of(self.told.last.refusal))),
+            _ => Some(Err(Refused::of(self.reported.last.refusal))),
         }
     }
 }

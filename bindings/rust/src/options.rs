@@ -117,3 +117,11 @@ impl Default for Options {
         }
     }
 }
+
+/// The widest limits: for what was accepted within some already, and to show a value.
+pub(crate) const WIDEST: Options = Options {
+    order: Order::Bytewise,
+    keys: Keys::Any,
+    depth: DEPTH_MAX as u16,
+    bytes: 1 << 62,
+};

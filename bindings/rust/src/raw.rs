@@ -7,6 +7,7 @@ pub const TOO_SMALL: u32 = 2;
 pub const DIFFERENT: u32 = 6;
 pub const EVENT: u32 = 7;
 pub const MORE: u32 = 8;
+pub const NOT_THERE: u32 = 10;
 
 pub const DEPTH_MAX: usize = 1024;
 
@@ -28,11 +29,22 @@ pub struct Event {
 }
 
 #[repr(C)]
+#[derive(Clone, Copy, Debug, Default)]
+pub struct Item {
+    pub number: u64,
+    pub place: u64,
+    pub content: u64,
+    pub end: u64,
+    pub kind: u32,
+    pub behind: u32,
+}
+
+#[repr(C)]
 #[derive(Clone, Debug)]
 pub struct Machine {
     pub bytes: u64,
     pub taken: u64,
-    pub told: u64,
+    pub reported: u64,
     pub number: u64,
     pub place: u64,
     pub depth: u16,
@@ -52,7 +64,7 @@ impl Machine {
         let mut machine = Machine {
             bytes: 0,
             taken: 0,
-            told: 0,
+            reported: 0,
             number: 0,
             place: 0,
             depth: 0,
@@ -154,7 +166,40 @@ extern "C" {
         used: *mut usize,
         events: *mut Event,
         events_length: usize,
-        told: *mut usize,
+        reported: *mut usize,
         refusal: *mut Refusal,
+    ) -> u32;
+    pub fn naltvigo_put_head_raw(
+        kind: u32,
+        number: u64,
+        out: *mut u8,
+        out_length: usize,
+        needed: *mut usize,
+    ) -> u32;
+    pub fn naltvigo_index_raw(
+        input: *const u8,
+        input_length: usize,
+        order: u32,
+        keys: u32,
+        depth: u32,
+        bytes: u64,
+        items: *mut Item,
+        items_length: usize,
+        needed: *mut usize,
+        refusal: *mut Refusal,
+    ) -> u32;
+    pub fn naltvigo_item_at_raw(
+        input: *const u8,
+        input_length: usize,
+        place: u64,
+        item: *mut Item,
+    ) -> u32;
+    pub fn naltvigo_find_raw(
+        input: *const u8,
+        input_length: usize,
+        map: u64,
+        key: *const u8,
+        key_length: usize,
+        value: *mut Item,
     ) -> u32;
 }

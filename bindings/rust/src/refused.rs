@@ -1,12 +1,16 @@
 //! The refusal of an input.
 
+use crate::containers::RepeatedKey;
+use crate::item::GetError;
 use crate::raw;
+use crate::reader::ReadError;
 use crate::reason::Reason;
 use core::error::Error;
 use core::fmt;
 
-/// Why an input is refused, and where. Displayed as `refused 12 Trailing at 1: ..`.
-#[derive(Clone, Copy, Debug, PartialEq, Eq, Hash)]
+/// Why an input is refused, and where. `Display` and `Debug`, which `main` prints of an error that it
+/// returns, are a sentence: `refused 12 Trailing at 1: The item is complete, and a byte follows it.`
+#[derive(Clone, Copy, PartialEq, Eq, Hash)]
 pub struct Refused {
     /// Why. [`Reason::Memory`] where memory was refused, and nothing is known of the input.
     pub reason: Reason,
@@ -57,7 +61,7 @@ pub enum Side {
 }
 
 /// Why nothing was written to a buffer.
-#[derive(Clone, Copy, Debug, PartialEq, Eq, Hash)]
+#[derive(Clone, Copy, PartialEq, Eq, Hash)]
 pub enum NotWritten {
     /// The input is refused.
     Refused(Refused),
@@ -81,3 +85,16 @@ impl fmt::Display for NotWritten {
 }
 
 impl Error for NotWritten {}
+
+// What `main` returns as an error is shown by Debug, so that of each error is its sentence.
+macro_rules! debug_as_display {
+    ($($type:ident$(<$parameter:ident>)?)*) => {$(
+        impl$(<$parameter: fmt::Display>)? fmt::Debug for $type$(<$parameter>)? {
+            fn fmt(&self, f: &mut fmt::Formatter<'_>) -> fmt::Result {
+                fmt::Display::fmt(self, f)
+            }
+        }
+    )*};
+}
+
+debug_as_display!(Refused NotWritten GetError RepeatedKey ReadError<E>);

@@ -2,7 +2,8 @@
 
 use naltvigo::{
     canonical_items, canonicalise, check, check_canonical, diagnostic, items, library_version,
-    same, Event, Events, Keys, Kind, Machine, Options, Order, Reason, Refused, Side, Step,
+    same, Event, Events, Keys, Kind, Machine, NotWritten, Options, Order, Reason, Refused, Side,
+    Step,
 };
 use std::iter::FusedIterator;
 use std::thread;
@@ -238,9 +239,9 @@ fn a_machine_by_single_bytes() {
     let copy = machine.clone();
     for mut machine in [machine, copy] {
         assert_eq!(machine.step(b"\x01"), (1, Step::More));
-        let (used, told) = machine.step(b"\x00\x00");
+        let (used, reported) = machine.step(b"\x00\x00");
         assert_eq!(used, 1);
-        assert!(matches!(told, Step::Event(event) if event.kind == Kind::Unsigned(256)));
+        assert!(matches!(reported, Step::Event(event) if event.kind == Kind::Unsigned(256)));
         assert_eq!(machine.step(b"\x00"), (0, Step::Done));
         assert_eq!(machine.taken(), 3);
     }
@@ -252,10 +253,10 @@ fn a_machine_by_parts() {
     let options = Options::default();
     // [_ 200 times {0: "ab"}], so more events than a call of the library tells
     let item = [vec![0x9f], b"\xa1\x00\x62ab".repeat(200), vec![0xff]].concat();
-    let joined = |told: &[Event]| {
+    let joined = |reported: &[Event]| {
         let mut payload = Vec::new();
         let mut heads = Vec::new();
-        for event in told {
+        for event in reported {
             match event.kind {
                 Kind::Piece(piece) => payload.extend_from_slice(piece),
                 _ => heads.push((event.place, event.width, format!("{:?}", event.kind))),
@@ -268,13 +269,13 @@ fn a_machine_by_parts() {
     assert_eq!((whole.0.len(), whole.1.len()), (602, 400));
     for size in [1, 2, 3, 64, 100, 500, item.len()] {
         let mut machine = Machine::new(&options);
-        let mut told = Vec::new();
+        let mut reported = Vec::new();
         for part in item.chunks(size) {
             let begins = machine.taken();
-            told.extend(machine.events(part).map(Result::unwrap));
+            reported.extend(machine.events(part).map(Result::unwrap));
             assert_eq!(machine.taken(), begins + part.len() as u64);
         }
-        assert_eq!(joined(&told), whole, "parts of {size}");
+        assert_eq!(joined(&reported), whole, "parts of {size}");
         assert_eq!(machine.step(b""), (0, Step::Done));
     }
 }
@@ -284,8 +285,8 @@ fn the_end_of_the_parts() {
     let options = Options::default();
     // what is behind the item stays
     let mut machine = Machine::new(&options);
-    let told = machine.events(b"\x61a\x00\x00");
-    assert_eq!(told.filter(Result::is_ok).count(), 2);
+    let reported = machine.events(b"\x61a\x00\x00");
+    assert_eq!(reported.filter(Result::is_ok).count(), 2);
     assert_eq!(
         (machine.taken(), machine.step(b"\x00")),
         (2, (0, Step::Done))
@@ -294,10 +295,10 @@ fn the_end_of_the_parts() {
     // a refusal is the last, and comes again
     let mut machine = Machine::new(&options);
     let float = refused(Reason::Float, 2, 3);
-    let mut told = machine.events(b"\x82\x01\xf9\x00");
-    assert_eq!(told.by_ref().take(2).filter(Result::is_ok).count(), 2);
-    assert_eq!(told.next(), Some(Err(float)));
-    assert_eq!(told.next(), None);
+    let mut reported = machine.events(b"\x82\x01\xf9\x00");
+    assert_eq!(reported.by_ref().take(2).filter(Result::is_ok).count(), 2);
+    assert_eq!(reported.next(), Some(Err(float)));
+    assert_eq!(reported.next(), None);
     assert_eq!(machine.events(b"").next(), Some(Err(float)));
     assert_eq!(machine.step(b"\x00"), (0, Step::Refused(float)));
     // parts that end too early
@@ -332,6 +333,10 @@ fn texts() {
     let error = check(b"\xf9\x3e\x00", &Options::default()).unwrap_err();
     let wanted = "refused 5 Float at 0: A floating-point number begins here; no float is accepted.";
     assert_eq!(error.to_string(), wanted);
+    // as main prints an error that it returns
+    assert_eq!(format!("{error:?}"), wanted);
+    let boxed: Box<dyn std::error::Error> = NotWritten::from(error).into();
+    assert_eq!(format!("{boxed:?}"), wanted);
     assert_eq!(
         (library_version() >> 16).to_string(),
         env!("CARGO_PKG_VERSION_MAJOR")

@@ -1,4 +1,4 @@
-//! How much room calls make for their answers.
+//! How much space calls make for their answers.
 
 use naltvigo::{canonicalise, diagnostic, Options, Reason, Refused};
 use std::alloc::{GlobalAlloc, Layout, System};
@@ -24,7 +24,7 @@ unsafe impl GlobalAlloc for Watched {
 #[global_allocator]
 static WATCHED: Watched = Watched;
 
-// Refused as ever, and without room by the input's length.
+// Refused as ever, and without space by the input's length.
 #[test]
 fn of_an_input_far_longer_than_the_limit() {
     let options = Options::default().with_limits(64, 10).unwrap();

@@ -3,7 +3,7 @@
 
 use naltvigo::{
     canonical_items, canonicalise, canonicalise_into, check, check_canonical, diagnostic, items,
-    same, Keys, NotWritten, Options, Order, Reason, Refused, Side,
+    same, Item, Keys, NotWritten, Options, Order, Reason, Refused, Side, Value,
 };
 use std::fs;
 
@@ -102,6 +102,8 @@ fn one_row(row: &[String], order: Order, place: usize) {
                 "{row:?}"
             );
             let checked = check(&given, &options).map_err(numbers);
+            let decoded = Value::decode(&given, &options).map_err(numbers);
+            assert_eq!(decoded, Err(wanted), "{row:?}");
             // the limit on canonical bytes is that of canonicalise alone
             let valid = wanted.0 == Reason::CanonicalTooLong.number();
             assert_eq!(checked, if valid { Ok(()) } else { Err(wanted) }, "{row:?}");
@@ -121,16 +123,20 @@ fn one_row(row: &[String], order: Order, place: usize) {
             assert_eq!(same(&given, &wanted, &options), Ok(true), "{row:?}");
             assert_eq!(check_canonical(&wanted, &options), Ok(()), "{row:?}");
             assert!(diagnostic(&given, &options).is_ok());
+            let value = Value::decode(&given, &options).unwrap();
+            assert_eq!(value.encode(&options), Ok(wanted.clone()), "{row:?}");
+            let item = Item::open(&wanted, &options).unwrap();
+            assert_eq!(item.to_value(), value, "{row:?}");
             let twice = [&given[..], &given[..]].concat();
             let found: Result<Vec<&[u8]>, _> = items(&twice, &options).collect();
             assert_eq!(found, Ok(vec![&given[..]; 2]), "{row:?}");
             let twice = [&wanted[..], &wanted[..]].concat();
             let found: Result<Vec<&[u8]>, _> = canonical_items(&twice, &options).collect();
             assert_eq!(found, Ok(vec![&wanted[..]; 2]), "{row:?}");
-            for room in [wanted.len() - 1, wanted.len(), wanted.len() + 3] {
-                let mut out = vec![7; room];
+            for space in [wanted.len() - 1, wanted.len(), wanted.len() + 3] {
+                let mut out = vec![7; space];
                 let answer = canonicalise_into(&given, &options, &mut out);
-                if room < wanted.len() {
+                if space < wanted.len() {
                     assert_eq!(answer, Err(NotWritten::TooSmall(wanted.len())));
                     assert!(out.iter().all(|&byte| byte == 7));
                 } else {

@@ -6,25 +6,25 @@ use std::io::{self, Read};
 
 /// A reader that gives its bytes in parts, and notes how many each read was asked for.
 #[derive(Drop)]
-pub(crate) struct Asked<'a> {
+pub(crate) struct ObservedReader<'a> {
     pub(crate) parts: Parts<'a>,
     pub(crate) counts: Vec<usize>,
 }
 
-impl<'a> Asked<'a> {
-    // With room for the reads that such an input can need: each gives a byte, but for the last.
-    pub(crate) fn new(alloc: Global, parts: Parts<'a>) -> Result<Asked<'a>, AllocError> {
+impl<'a> ObservedReader<'a> {
+    // With space for the reads that such an input can need: each gives a byte, but for the last.
+    pub(crate) fn new(alloc: Global, parts: Parts<'a>) -> Result<ObservedReader<'a>, AllocError> {
         let most = parts.rest.len().saturating_add(1);
-        Ok(Asked {
+        Ok(ObservedReader {
             parts,
             counts: Vec::with_capacity(alloc, most)?,
         })
     }
 }
 
-impl Read for Asked<'_> {
+impl Read for ObservedReader<'_> {
     fn read(&mut self, buf: &mut [u8]) -> io::Result<usize> {
-        // a read beyond the room is noted as long as there is memory
+        // a read beyond the space is noted as long as there is memory
         let _ = self.counts.push(buf.len());
         self.parts.read(buf)
     }

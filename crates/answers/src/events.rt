@@ -1,6 +1,6 @@
-//! What the strict reader tells call by call, and what it asks of its reader.
+//! What the strict reader reports call by call, and what it asks of its reader.
 
-use crate::asked::Asked;
+use crate::asked::ObservedReader;
 use crate::parts::Parts;
 use crate::writing::{put_hex, put_refusal};
 use cbor_automaton::{Event, EventKind};
@@ -9,7 +9,7 @@ use cbor_reader::StrictReader;
 use std::alloc::Global;
 use std::io::{self, Read, Write};
 
-/// The calls of `next` until one tells no event, and two more; for how many bytes each read was
+/// The calls of `next` until one reports no event, and two more; for how many bytes each read was
 /// asked; and how many the reader has left.
 pub(crate) fn answer_events<W: Write>(
     alloc: Global,
@@ -19,7 +19,7 @@ pub(crate) fn answer_events<W: Write>(
     out: &mut W,
 ) -> io::Result<()> {
     let most = parts.rest.len();
-    let mut asked = Asked::new(alloc, parts)?;
+    let mut asked = ObservedReader::new(alloc, parts)?;
     put_calls(
         &mut StrictReader::new(alloc, &mut asked, limits, order),
         most,
@@ -49,7 +49,7 @@ fn put_calls<R: Read, W: Write>(
     Ok(())
 }
 
-// What a call answers, and how the reader stands behind it; whether an event was told.
+// What a call answers, and how the reader stands behind it; whether an event was reported.
 fn put_call<R: Read, W: Write>(events: &mut StrictReader<R>, out: &mut W) -> io::Result<bool> {
     let answer = events.next();
     put_answer(&answer, events.piece(), out)?;

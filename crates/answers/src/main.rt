@@ -133,7 +133,7 @@ fn put_canonical<W: Write>(alloc: Global, tree: &Tree, out: &mut W) -> io::Resul
     Ok(())
 }
 
-// The same of the view. Where its tree is refused, this stands in place of the canonical bytes.
+// Writes the answer of `read_view`: a refusal of its tree stands in place of the canonical bytes.
 fn answer_view<W: Write>(
     alloc: Global,
     bytes: &[u8],

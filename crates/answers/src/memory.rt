@@ -4,9 +4,8 @@ use crate::writing::{put_hex, put_refusal};
 use bumpalo::Bump;
 use cbor_builder::CanonBuilder;
 use cbor_head::{KeyOrder, Limits, Major};
-use cbor_item::{Tree, encode, encode_to, same};
+use cbor_item::{Tree, ViewBuilder, encode, encode_to, same};
 use cbor_reader::{Sequence, Side, StrictReader, read_tree, read_view, same_meaning};
-use cbor_view::ViewBuilder;
 use std::alloc::{AllocError, Global};
 use std::io::{self, ErrorKind, Write};
 

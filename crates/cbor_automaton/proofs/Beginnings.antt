@@ -4,9 +4,9 @@ use Rattle.std.{specs.List.AllByRecursion, proofs.lemmas.List.length-replicate}
 use Rattle.cbor_head.specs.Prelude.{IsBeginning, AreBytes, Chunk, IsChunk, Spelling, Spellings, unsigned, bytes, text, simple, no_spellings, a_spelling, spellings_count, spell, spell_all, chunk_bytes, IsSpelled, AreSpelled, depth, depth_all, IsItem}
 use Rattle.cbor_head.specs.declared.major.Major.TheVariants.{Bytes, Text, Array, Map, Tag}
 use Rattle.cbor_head.specs.declared.{major.Major.Major, width.Width.TheVariants.Direct}
-use Rattle.cbor_automaton.specs.Automaton.{start, Frame, counted, indefinite_array, indefinite_map, State, at_item, in_head, in_simple, in_payload, in_chunks, done, Next, refuses, goes, tells, close, close_string, expect, payload, after, take_byte, Outcome, refused, reached, telling, and_then, run}
-use Rattle.cbor_automaton.proofs.Stands.{Rest, closing, Opened, IsString, Chunked, Before, Stands, room-of, head-done}
-use Rattle.cbor_automaton.{specs.Trace.Mark, specs.Trace.trace, proofs.Forward.forward, proofs.Forward.telling_all}
+use Rattle.cbor_automaton.specs.Automaton.{start, Frame, counted, indefinite_array, indefinite_map, State, at_item, in_head, in_simple, in_payload, in_chunks, done, Next, refuses, goes, reports, close, close_string, expect, payload, after, take_byte, Outcome, refused, reached, reporting, and_then, run}
+use Rattle.cbor_automaton.proofs.Stands.{Rest, closing, Opened, IsString, Chunked, Before, Stands, space-of, head-done}
+use Rattle.cbor_automaton.{specs.Trace.Mark, specs.Trace.trace, proofs.Forward.forward, proofs.Forward.reporting_all}
 use Rattle.cbor_automaton.proofs.Kept.{StandsOutcome, run-kept}
 
 pub shorter : (d : ℕ) (xs ys : List ℕ) → IsBeginning d (xs ++ ys) → IsBeginning d xs
@@ -77,8 +77,8 @@ zero_bytes (suc n) = let h : 0 < 256 = omega arith in (h, zero_bytes n)
 
 complete-chunk : (d : ℕ) (chunk : Bool) (m : Major) (fs : List Frame) (p : List ℕ) (c : Chunk) → Before d chunk m fs p → IsString m → IsChunk c → IsBeginning d (p ++ chunk_bytes m c)
 complete-chunk d true m fs p c b s h = begins-along d _ _ (ap (λ xs. p ++ xs) (append-nil (chunk_bytes m c))) (complete-chunks d m fs p b (c ∷ []) (h, tt))
-complete-chunk d false Bytes fs p c b s h = complete d fs p (bytes c.width c.payload) b.0 h (room-of d fs p b.0)
-complete-chunk d false Text fs p c b s h = complete d fs p (text c.width c.payload) b.0 h (room-of d fs p b.0)
+complete-chunk d false Bytes fs p c b s h = complete d fs p (bytes c.width c.payload) b.0 h (space-of d fs p b.0)
+complete-chunk d false Text fs p c b s h = complete d fs p (text c.width c.payload) b.0 h (space-of d fs p b.0)
 complete-chunk d false _ fs p c b s h = absurd s
 
 -- no head is open
@@ -113,7 +113,7 @@ after-clear false Tag n fs = expect-clear 1 fs
 after-clear false _ n fs = close-clear fs
 
 settled : (d : ℕ) (q : State) (p : List ℕ) → IsClear q → Stands d q p → IsBeginning d p
-settled d (at_item fs) p i o = let h : 0 < 24 = omega arith in shorter d p (0 ∷ []) (complete d fs p zero_item o h (room-of d fs p o))
+settled d (at_item fs) p i o = let h : 0 < 24 = omega arith in shorter d p (0 ∷ []) (complete d fs p zero_item o h (space-of d fs p o))
 settled d (in_head chunk m w k acc fs) p i o = absurd i
 settled d (in_simple fs) p i o = absurd i
 settled d (in_payload chunk m n fs) p i o =
@@ -132,19 +132,19 @@ stands-begins d (in_head chunk m w k acc fs) p o =
 stands-begins d (in_simple fs) p o =
     let h : 32 ≤ 32 = omega arith in
     let k : 32 < 256 = omega arith in
-    shorter d p (32 ∷ []) (begins-along d _ _ (sym (append_assoc o.0 (0xf8 ∷ []) (32 ∷ [])) ∙ ap (λ xs. xs ++ 32 ∷ []) (sym o.2)) (complete d fs o.0 (simple 32) o.1 (k, λ _. h) (room-of d fs o.0 o.1)))
+    shorter d p (32 ∷ []) (begins-along d _ _ (sym (append_assoc o.0 (0xf8 ∷ []) (32 ∷ [])) ∙ ap (λ xs. xs ++ 32 ∷ []) (sym o.2)) (complete d fs o.0 (simple 32) o.1 (k, λ _. h) (space-of d fs o.0 o.1)))
 stands-begins d q p o = settled d q p tt o
 
 -- ---- the two directions
 
 unfoldable pub onwards : Outcome → (State → Outcome) → Outcome
 onwards (refused r) f = refused r
-onwards (reached q ms) f = telling_all ms (f q)
+onwards (reached q ms) f = reporting_all ms (f q)
 
-telling-onwards : (m : Mark) (o : Outcome) (f : State → Outcome) → telling m (onwards o f) ≡ onwards (telling m o) f
+reporting-onwards : (m : Mark) (o : Outcome) (f : State → Outcome) → reporting m (onwards o f) ≡ onwards (reporting m o) f
 unfolding onwards
-telling-onwards m (refused r) f = refl
-telling-onwards m (reached q ms) f = refl
+reporting-onwards m (refused r) f = refl
+reporting-onwards m (reached q ms) f = refl
 
 pub run-append : (d : ℕ) (xs ys : List ℕ) (q : State) → run d q (xs ++ ys) ≡ onwards (run d q xs) (λ t. run d t ys)
 unfolding onwards
@@ -155,32 +155,32 @@ run-append d (c ∷ cs) ys q = go (take_byte d q c) (λ t. run-append d cs ys t)
         → and_then next (λ t. run d t (cs ++ ys)) ≡ onwards (and_then next (λ t. run d t cs)) (λ u. run d u ys)
     go (refuses r) ih = refl
     go (goes t) ih = ih t
-    go (tells m t) ih = ap (telling m) (ih t) ∙ telling-onwards m (run d t cs) (λ u. run d u ys)
+    go (reports m t) ih = ap (reporting m) (ih t) ∙ reporting-onwards m (run d t cs) (λ u. run d u ys)
 
-pub telling_all-reached : (ms ns : List Mark) (q : State) → telling_all ms (reached q ns) ≡ reached q (ms ++ ns)
-telling_all-reached [] ns q = refl
-telling_all-reached (m ∷ ms) ns q = ap (telling m) (telling_all-reached ms ns q)
+pub reporting_all-reached : (ms ns : List Mark) (q : State) → reporting_all ms (reached q ns) ≡ reached q (ms ++ ns)
+reporting_all-reached [] ns q = refl
+reporting_all-reached (m ∷ ms) ns q = ap (reporting m) (reporting_all-reached ms ns q)
 
--- a whole item leads to done, and tells its trace
+-- a whole item leads to done, and reports its trace
 pub item-done : (d : ℕ) (s : Spelling) (p : List ℕ) → IsItem d s p → run d start p ≡ reached done (trace s)
 item-done d s p i =
     let fits : depth s + 0 ≤ d = omega (arith, i.within) in
     ap (run d start) (sym i.bytes_are ∙ sym (append-nil (spell s))) ∙ forward d s [] [] i.spelled fits
-    ∙ telling_all-reached (trace s) [] done ∙ ap (reached done) (append-nil (trace s))
+    ∙ reporting_all-reached (trace s) [] done ∙ ap (reached done) (append-nil (trace s))
 
 abbrev pub Reaches : Outcome → Type 0
 Reaches (refused r) = ⊥
 Reaches (reached q ms) = Unit {0}
 
-reaches-front : (o : Outcome) (f : State → Outcome) → Reaches (onwards o f) → Reaches o
+reaches-prefix : (o : Outcome) (f : State → Outcome) → Reaches (onwards o f) → Reaches o
 unfolding onwards
-reaches-front (refused r) f h = h
-reaches-front (reached q ms) f h = tt
+reaches-prefix (refused r) f h = h
+reaches-prefix (reached q ms) f h = tt
 
 pub beginning-reaches : (d : ℕ) (p : List ℕ) → IsBeginning d p → Reaches (run d start p)
 beginning-reaches d p b =
     let whole = item-done d b.0 (p ++ b.1) b.2 in
-    reaches-front (run d start p) (λ t. run d t b.1) (subst Reaches (sym whole ∙ run-append d p b.1 start) tt)
+    reaches-prefix (run d start p) (λ t. run d t b.1) (subst Reaches (sym whole ∙ run-append d p b.1 start) tt)
 
 pub reached-stands : (d : ℕ) (p : List ℕ) (q : State) (ms : List Mark) → AreBytes p → run d start p ≡ reached q ms → Stands d q p
 reached-stands d p q ms h e = subst (λ (o : Outcome). StandsOutcome d o p) e (run-kept d p start [] refl h)

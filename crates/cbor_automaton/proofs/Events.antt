@@ -4,7 +4,7 @@ use Rattle.std.proofs.lemmas.Bool.{le-leb, lt-leb}
 use Rattle.cbor_head.specs.{Prelude.Spelling, Prelude.IsItem, declared.major.Major.Major, declared.major.Major.TheVariants.Bytes, declared.width.Width.Width}
 use Rattle.cbor_head.specs.declared.reason.Reason.{Reason}
 use Rattle.cbor_automaton.specs.Trace.{Mark, size, more_bytes, trace, within}
-use Rattle.cbor_automaton.specs.Automaton.{start, major_at, Frame, indefinite_array, indefinite_map, State, at_item, in_head, in_simple, in_payload, in_chunks, done, Opening, direct, long, indefinite_string, indefinite_container, long_simple, breaks, bad, Next, refuses, goes, tells, opening, opening_of, indefinite_length, has_room, mark, break_at, begin, is_major, in_string, take_byte, Outcome, refused, reached, telling, and_then, run}
+use Rattle.cbor_automaton.specs.Automaton.{start, major_at, Frame, indefinite_array, indefinite_map, State, at_item, in_head, in_simple, in_payload, in_chunks, done, Opening, direct, long, indefinite_string, indefinite_container, long_simple, breaks, bad, Next, refuses, goes, reports, opening, opening_of, indefinite_length, has_space, mark, break_at, begin, is_major, in_string, take_byte, Outcome, refused, reached, reporting, and_then, run}
 use Rattle.cbor_automaton.proofs.{Openings.by-low, Beginnings.item-done}
 pub use Rattle.cbor_automaton.proofs.Beginnings.{IsClear, close-clear, close_string-clear, payload-clear, after-clear}
 
@@ -27,7 +27,7 @@ clear-pending _ h = (refl, tt)
 abbrev pub Balances : ℕ → Next → Type 0
 Balances was (refuses r) = Unit {0}
 Balances was (goes q) = (pending q ≡ suc was) × IsSane q
-Balances was (tells m q) = (size m ≡ suc was) × IsClear q
+Balances was (reports m q) = (size m ≡ suc was) × IsClear q
 
 guard-balances : (was : ℕ) (b : Bool) (next : Next) (r : Reason) → Balances was next → Balances was (cond b next (refuses r))
 guard-balances was true next r h = h
@@ -54,10 +54,10 @@ break-balances (indefinite_map false ∷ fs) c = (refl, close-clear fs)
 break-balances _ c = tt
 
 begin-balances : (d : ℕ) (fs : List Frame) (c : ℕ) (o : Opening) → IsWide o → Balances 0 (begin d fs c o)
-begin-balances d fs c (direct m n) i = guard-balances 0 (has_room d fs m) _ _ (refl, after-clear false m n fs)
-begin-balances d fs c (long m w) i = guard-balances 0 (has_room d fs m) _ _ (long-balances false m w fs i)
+begin-balances d fs c (direct m n) i = guard-balances 0 (has_space d fs m) _ _ (refl, after-clear false m n fs)
+begin-balances d fs c (long m w) i = guard-balances 0 (has_space d fs m) _ _ (long-balances false m w fs i)
 begin-balances d fs c (indefinite_string m) i = (refl, tt)
-begin-balances d fs c (indefinite_container m f) i = guard-balances 0 (has_room d fs m) _ _ (refl, tt)
+begin-balances d fs c (indefinite_container m f) i = guard-balances 0 (has_space d fs m) _ _ (refl, tt)
 begin-balances d fs c long_simple i = (refl, tt)
 begin-balances d fs c breaks i = break-balances fs c
 begin-balances d fs c bad i = tt
@@ -86,9 +86,9 @@ byte-balances d (in_payload chunk m (suc n) fs) c h = (refl, tt)
 byte-balances d (in_chunks m fs) c h = string-balances m fs (opening c) (opening-wide (major_at (c / 32)) (c % 32))
 byte-balances d done c h = tt
 
-pub telling-reached : (m : Mark) (o : Outcome) (t : State) (ms : List Mark) → telling m o ≡ reached t ms → (ns : List Mark) × (o ≡ reached t ns) × (ms ≡ m ∷ ns)
-telling-reached m (refused r) t ms e = absurd (cc)
-telling-reached m (reached q ns) t ms e =
+pub reporting-reached : (m : Mark) (o : Outcome) (t : State) (ms : List Mark) → reporting m o ≡ reached t ms → (ns : List Mark) × (o ≡ reached t ns) × (ms ≡ m ∷ ns)
+reporting-reached m (refused r) t ms e = absurd (cc)
+reporting-reached m (reached q ns) t ms e =
     let same : q ≡ t = cc in
     let more : ms ≡ m ∷ ns = cc in
     (ns, ap (λ x. reached x ns) same, more)
@@ -102,7 +102,7 @@ within-some x m ms h = ap (λ b. cond b (m ∷ within (x - size m) ms) []) (le-l
 -- By the bytes of a run to t, the last first: each is one more that is pending, or ends a mark that takes all that was.
 module _ (d : ℕ) (t : State) (P : State → List ℕ → List Mark → Type 0) (at_end : P t [] [])
     (on_going : (q u : State) (c : ℕ) (cs : List ℕ) (ms : List Mark) → (pending u ≡ suc (pending q)) × IsSane u → P u cs ms → P q (c ∷ cs) ms)
-    (on_telling : (q u : State) (c : ℕ) (cs : List ℕ) (m : Mark) (ms : List Mark) → (size m ≡ suc (pending q)) × IsClear u → P u cs ms → P q (c ∷ cs) (m ∷ ms)) where
+    (on_reporting : (q u : State) (c : ℕ) (cs : List ℕ) (m : Mark) (ms : List Mark) → (size m ≡ suc (pending q)) × IsClear u → P u cs ms → P q (c ∷ cs) (m ∷ ms)) where
   pub by-run : (xs : List ℕ) (q : State) (ms : List Mark) → IsSane q → run d q xs ≡ reached t ms → P q xs ms
   by-run [] q ms s e =
       let same : t ≡ q = cc in
@@ -113,16 +113,16 @@ module _ (d : ℕ) (t : State) (P : State → List ℕ → List Mark → Type 0)
       go : (next : Next) → Balances (pending q) next → and_then next (λ u. run d u cs) ≡ reached t ms → ((u : State) (ns : List Mark) → IsSane u → run d u cs ≡ reached t ns → P u cs ns) → P q (c ∷ cs) ms
       go (refuses r) b e ih = absurd (cc)
       go (goes u) b e ih = on_going q u c cs ms b (ih u ms b.1 e)
-      go (tells m u) b e ih =
-          let is = telling-reached m (run d u cs) t ms e in
-          subst (P q (c ∷ cs)) (sym is.2) (on_telling q u c cs m is.0 b (ih u is.0 (clear-pending u b.1).1 is.1))
+      go (reports m u) b e ih =
+          let is = reporting-reached m (run d u cs) t ms e in
+          subst (P q (c ∷ cs)) (sym is.2) (on_reporting q u c cs m is.0 b (ih u is.0 (clear-pending u b.1).1 is.1))
 
 -- the next mark ends behind what is pending
 late : (d : ℕ) (rest : List ℕ) (q u : State) (ns : List Mark) (x : ℕ) → IsSane q → x ≤ pending q → run d q rest ≡ reached u ns → within x ns ≡ []
 late d rest q u ns x s h f =
     by-run d u (λ q cs ms. x ≤ pending q → within x ms ≡ []) (λ h. refl) (λ q v c cs ms b ih h. ih (omega (arith, b.0, h))) (λ q v c cs m ms b ih h. within-none x m ms (omega (arith, b.0, h))) rest q ns s f h
 
--- Of what a longer run tells, within gives what its front tells.
+-- Of what a longer run reports, within gives what its prefix reports.
 pub cut : (d : ℕ) (p : List ℕ) (q : State) (rest : List ℕ) (t u : State) (ms ns : List Mark) → IsSane q
     → run d q p ≡ reached t ms → run d q (p ++ rest) ≡ reached u ns → within (length p + pending q) ns ≡ ms
 cut d [] q rest t u ms ns s e f =
@@ -139,9 +139,9 @@ cut d (c ∷ cs) q rest t u ms ns s e f = go (take_byte d q c) (byte-balances d 
         let up = b.0 in
         let same : suc (length cs) + pending q ≡ length cs + pending q' = omega (arith, up) in
         ap (λ x. within x ns) same ∙ ih q' ms ns b.1 e f
-    go (tells m q') b e f ih =
-        let front = telling-reached m (run d q' cs) t ms e in
-        let all = telling-reached m (run d q' (cs ++ rest)) u ns f in
+    go (reports m q') b e f ih =
+        let prefix = reporting-reached m (run d q' cs) t ms e in
+        let all = reporting-reached m (run d q' (cs ++ rest)) u ns f in
         let clear = clear-pending q' b.1 in
         let none = clear.0 in
         let big = b.0 in
@@ -150,12 +150,12 @@ cut d (c ∷ cs) q rest t u ms ns s e f = go (take_byte d q c) (byte-balances d 
         ap (within (suc (length cs) + pending q)) all.2
         ∙ within-some (suc (length cs) + pending q) m all.0 fits
         ∙ ap (λ x. m ∷ within x all.0) less
-        ∙ ap (λ xs. m ∷ xs) (ih q' front.0 all.0 clear.1 front.1 all.1)
-        ∙ sym front.2
+        ∙ ap (λ xs. m ∷ xs) (ih q' prefix.0 all.0 clear.1 prefix.1 all.1)
+        ∙ sym prefix.2
 
 -- the marks so far are those of the trace of each item that goes on from here
-pub told : (d : ℕ) (s : Spelling) (p rest : List ℕ) (q : State) (ms : List Mark) → IsItem d s (p ++ rest) → run d start p ≡ reached q ms → ms ≡ within (length p) (trace s)
-told d s p rest q ms i e =
+pub reported : (d : ℕ) (s : Spelling) (p rest : List ℕ) (q : State) (ms : List Mark) → IsItem d s (p ++ rest) → run d start p ≡ reached q ms → ms ≡ within (length p) (trace s)
+reported d s p rest q ms i e =
     let whole = cut d p start rest q done ms (trace s) tt e (item-done d s (p ++ rest) i) in
     let here : length p + 0 ≡ length p = omega arith in
     sym whole ∙ ap (λ x. within x (trace s)) here

@@ -1,11 +1,11 @@
--- Events, neighbouring pieces joined, are told by their marks.
+-- Events, neighbouring pieces joined, are reported by their marks.
 use Rattle.std.proofs.Common.{◌≡◌, ℕ, zero, suc, ◌+◌, ◌-◌, ◌<◌, ◌≤◌, ◌⊎◌, Bool, true, false, nat_lt, nat_le, cond, List, [], ◌∷◌, ◌++◌, replicate, Option, Some, None, refl, sym, ap, ap₂, ◌∙◌, subst, inl, inr, arith, append-nil, lt-ltb, le-ltb}
 use Rattle.std.proofs.lemmas.Bool.{cases_lt, le-leb, lt-leb}
 use Rattle.cbor_head.specs.declared.major.Major.TheVariants as majors
 use Rattle.cbor_head.specs.declared.{major.Major.Major, width.Width.Width, width.Width.TheVariants.Direct, width.Width.TheVariants.Indefinite}
 use Rattle.cbor_automaton.specs.Trace.{Mark, a_head, a_chunk, a_byte, a_break, size, total, within}
 use Rattle.cbor_automaton.specs.Marks.{count_of, mark_of, marks_of, IsProper}
-use Rattle.cbor_automaton.specs.Event.{event, count_at, marks_in, event_size, joined_with, onto, joined, front_of, cut, IsRow}
+use Rattle.cbor_automaton.specs.Event.{event, count_at, marks_in, event_size, joined_with, onto, joined, prefix_of, cut, IsRow}
 use Rattle.cbor_automaton.specs.declared.event.EventKind.TheVariants.{Unsigned, Negative, Simple, Bytes, Text, Chunk, Piece, Array, Map, Tag, End}
 use Rattle.cbor_automaton.{specs.declared.event.Event.Event, specs.declared.event.EventKind.EventKind, proofs.Events.within-none, proofs.Events.within-some}
 
@@ -59,11 +59,11 @@ back at w _ s p = refl
 record Single (at : ℕ) (w : Width) (kind : EventKind) : Type 0 where
   marks : marks_of w kind ≡ mark_of w kind ∷ []
   alone : (es : List Event) → onto (event at w kind) es ≡ event at w kind ∷ es
-  front : (t : ℕ) → front_of t kind (event at w kind) ≡ []
+  prefix : (t : ℕ) → prefix_of t kind (event at w kind) ≡ []
 
 single : (at : ℕ) (w : Width) (kind : EventKind) → IsSingle kind → Single at w kind
 single at w (Piece n) s = absurd s
-single at w _ s = record { marks = refl; alone = λ es. refl; front = λ t. refl }
+single at w _ s = record { marks = refl; alone = λ es. refl; prefix = λ t. refl }
 
 -- ---- pieces
 
@@ -109,7 +109,7 @@ event-rejoin at w (Piece n) ms p =
     pieces-rejoin at n ms p.1 ∙ ap₂ (λ v k. onto (event at v (Piece n)) (rejoin (at + k) ms)) (sym p.0) (sym (bytes-total n))
 event-rejoin at w kind ms p = single-rejoin at w kind ms tt p
 
--- events that follow one another are told by their marks
+-- events that follow one another are reported by their marks
 pub joined-rejoin : (at : ℕ) (es : List Event) → IsRow at es → joined es ≡ rejoin at (marks_in es)
 joined-rejoin at [] r = refl
 joined-rejoin at (e ∷ es) r =
@@ -133,9 +133,9 @@ cut-fresh : (t : ℕ) (es : List Event) → IsFresh es → IsFresh (cut t es)
 cut-fresh t [] h = tt
 cut-fresh t (e ∷ es) h = go (nat_le (e.place + event_size e) t)
   where
-    go : (b : Bool) → IsFresh (cond b (e ∷ cut t es) (front_of t e.kind e))
+    go : (b : Bool) → IsFresh (cond b (e ∷ cut t es) (prefix_of t e.kind e))
     go true = h
-    go false = subst IsFresh (sym ((single e.place e.width e.kind h).front t)) tt
+    go false = subst IsFresh (sym ((single e.place e.width e.kind h).prefix t)) tt
 
 apart-kind : (e f : Event) (n : ℕ) (kind : EventKind) (es : List Event) → IsSingle kind → joined_with e n kind f es ≡ e ∷ f ∷ es
 apart-kind e f n (Piece m) es h = absurd h
@@ -164,7 +164,7 @@ within-part (suc n) (suc t) ms h =
 
 -- the first event and the others, cut
 abbrev CutFirst : ℕ → Width → EventKind → List Event → ℕ → List Event
-CutFirst at w kind es t = cond (nat_le (at + total (marks_of w kind)) (at + t)) (event at w kind ∷ cut (at + t) es) (front_of (at + t) kind (event at w kind))
+CutFirst at w kind es t = cond (nat_le (at + total (marks_of w kind)) (at + t)) (event at w kind ∷ cut (at + t) es) (prefix_of (at + t) kind (event at w kind))
 
 abbrev CutRest : ℕ → List Event → Type 0
 CutRest to es = (t : ℕ) → rejoin to (within t (marks_in es)) ≡ cut (to + t) es
@@ -180,7 +180,7 @@ single-cut at w kind es t s p rest =
     elim (cases_lt t (size m)) [
       | inl k ↦
           let over : at + t < at + total (marks_of w kind) = omega (arith, whole) in
-          first ∙ ap (rejoin at) (within-none t m ns k) ∙ rw (lt-leb (at + total (marks_of w kind)) (at + t) over) (sym (one.front (at + t)))
+          first ∙ ap (rejoin at) (within-none t m ns k) ∙ rw (lt-leb (at + total (marks_of w kind)) (at + t) over) (sym (one.prefix (at + t)))
       | inr k ↦
           let fits : at + total (marks_of w kind) ≤ at + t = omega (arith, whole) in
           let to : at + size m ≡ at + total (marks_of w kind) = omega (arith, whole) in
@@ -232,4 +232,4 @@ pub cut-rejoin : (es : List Event) (at t : ℕ) → IsRow at es → AreApart es 
 cut-rejoin [] at t r h = refl
 cut-rejoin (e ∷ es) at t r h =
     kind-cut at e.width e.kind es t r.1 h.0 (λ u. cut-rejoin es (at + event_size e) u r.2 h.1)
-    ∙ ap (λ p. cond (nat_le (p + event_size e) (at + t)) (event p e.width e.kind ∷ cut (at + t) es) (front_of (at + t) e.kind (event p e.width e.kind))) (sym r.0)
+    ∙ ap (λ p. cond (nat_le (p + event_size e) (at + t)) (event p e.width e.kind ∷ cut (at + t) es) (prefix_of (at + t) e.kind (event p e.width e.kind))) (sym r.0)

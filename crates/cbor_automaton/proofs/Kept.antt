@@ -5,15 +5,15 @@ use Rattle.cbor_head.specs.Prelude.{AreBytes, Holds, head, major_number, shortes
 use Rattle.cbor_head.specs.declared.major.Major.TheVariants.{Bytes, Text, Array, Map, Simple}
 use Rattle.cbor_head.specs.declared.width.Width.TheVariants.{Direct, One, Indefinite}
 use Rattle.cbor_head.specs.declared.{major.Major.Major, width.Width.Width, reason.Reason.Reason}
-use Rattle.cbor_automaton.specs.Automaton.{Frame, indefinite_array, indefinite_map, State, at_item, in_head, in_simple, in_payload, in_chunks, done, Opening, direct, long, breaks, Next, refuses, goes, tells, indefinite_length, opening, close, close_string, payload, after, has_room, break_at, begin, is_major, in_string, take_byte, Outcome, refused, reached, telling, and_then, run}
+use Rattle.cbor_automaton.specs.Automaton.{Frame, indefinite_array, indefinite_map, State, at_item, in_head, in_simple, in_payload, in_chunks, done, Opening, direct, long, breaks, Next, refuses, goes, reports, indefinite_length, opening, close, close_string, payload, after, has_space, break_at, begin, is_major, in_string, take_byte, Outcome, refused, reached, reporting, and_then, run}
 use Rattle.cbor_automaton.proofs.Arguments.{number, number-between, bytes-number}
-use Rattle.cbor_automaton.proofs.Stands.{Opened, IsString, IsNumbered, Chunked, Before, Stands, along, item-closes, paired, room-of, chunk-closes, head-done}
+use Rattle.cbor_automaton.proofs.Stands.{Opened, IsString, IsNumbered, Chunked, Before, Stands, along, item-closes, paired, space-of, chunk-closes, head-done}
 use Rattle.cbor_automaton.{specs.Trace.Mark, specs.Trace.more_bytes, proofs.Openings.IsLong, proofs.Openings.by-byte}
 
 abbrev pub StandsNext : ℕ → Next → List ℕ → Type 0
 StandsNext d (refuses r) p = Unit {0}
 StandsNext d (goes q) p = Stands d q p
-StandsNext d (tells m q) p = Stands d q p
+StandsNext d (reports m q) p = Stands d q p
 
 guarded : (d : ℕ) (p : List ℕ) (b : Bool) (next : Next) (r : Reason) → (b ≡ true → StandsNext d next p) → StandsNext d (cond b next (refuses r)) p
 guarded d p true next r h = h refl
@@ -41,10 +41,10 @@ long-begins d chunk m w k fs p c b made holds = (
 
 -- the first byte of an array or map without a length
 array-opens : (d : ℕ) (fs : List Frame) (p : List ℕ) → Opened d fs p → length fs < d → Opened d (indefinite_array ∷ fs) (p ++ 0x9f ∷ [])
-array-opens d fs p o room = (
+array-opens d fs p o space = (
   p,
   o,
-  room,
+  space,
   λ ss r h b. record {
     item = array Indefinite ss;
     spelled = (tt, h);
@@ -54,10 +54,10 @@ array-opens d fs p o room = (
 )
 
 map-opens : (d : ℕ) (fs : List Frame) (p : List ℕ) → Opened d fs p → length fs < d → Opened d (indefinite_map false ∷ fs) (p ++ 0xbf ∷ [])
-map-opens d fs p o room = (
+map-opens d fs p o space = (
   p,
   o,
-  room,
+  space,
   λ ss r h b.
       let pairs = paired ss r in
       let deep = pairs.depth_is in
@@ -81,7 +81,7 @@ chunks-open d m fs p first o s e = (
       record {
         item = is.0;
         spelled = is.1;
-        fits = omega (arith, is.2, room-of d fs p o);
+        fits = omega (arith, is.2, space-of d fs p o);
         bytes_are = ap (λ xs. p ++ xs) is.3 ∙ ap (λ xs. p ++ ((xs ++ joined) ++ 0xff ∷ [])) e
             ∙ sym (append_assoc p (first ∷ []) (joined ++ 0xff ∷ [])) ∙ sym (append_assoc (p ++ first ∷ []) joined (0xff ∷ []));
       },
@@ -104,28 +104,28 @@ open-kept d fs p _ o = tt
 
 break-kept : (d : ℕ) (fs : List Frame) (p : List ℕ) → Opened d fs p → StandsNext d (break_at fs 0xff) (p ++ 0xff ∷ [])
 break-kept d (indefinite_array ∷ fs) p o =
-    let room : length fs < d = o.2 in
+    let space : length fs < d = o.2 in
     let whole = o.3 no_spellings tt tt (omega arith) in
     along d (close fs) _ _ (whole.bytes_are ∙ ap (λ xs. xs ++ 0xff ∷ []) (append-nil p)) (item-closes d fs o.0 whole.item o.1 whole.spelled whole.fits)
 break-kept d (indefinite_map false ∷ fs) p o =
-    let room : length fs < d = o.2 in
+    let space : length fs < d = o.2 in
     let whole = o.3 no_spellings refl tt (omega arith) in
     along d (close fs) _ _ (whole.bytes_are ∙ ap (λ xs. xs ++ 0xff ∷ []) (append-nil p)) (item-closes d fs o.0 whole.item o.1 whole.spelled whole.fits)
 break-kept d _ p o = tt
 
 numbered-direct : (d : ℕ) (fs : List Frame) (p : List ℕ) (m : Major) (n : ℕ) → IsNumbered m → n < 24 → Opened d fs p → Keeps d fs p (32 * major_number m + n) (direct m n)
-numbered-direct d fs p m n i h o = guarded d _ (has_room d fs m) _ _ (λ e. head-done d false m Direct n fs p (o, i, e) h)
+numbered-direct d fs p m n i h o = guarded d _ (has_space d fs m) _ _ (λ e. head-done d false m Direct n fs p (o, i, e) h)
 
 direct-kept : (d : ℕ) (fs : List Frame) (p : List ℕ) (m : Major) (n : ℕ) → n < 24 → Opened d fs p → Keeps d fs p (32 * major_number m + n) (direct m n)
 direct-kept d fs p Simple n h o =
     let e : shortest n ≡ Direct = rw (lt-ltb n 24 h) in
-    along d (close fs) _ _ (ap (λ w. p ++ head Simple w n) e) (item-closes d fs p (simple n) o (omega arith, λ l. absurd (omega arith)) (room-of d fs p o))
+    along d (close fs) _ _ (ap (λ w. p ++ head Simple w n) e) (item-closes d fs p (simple n) o (omega arith, λ l. absurd (omega arith)) (space-of d fs p o))
 direct-kept d fs p m n h o = numbered-direct d fs p m n tt h o
 
 item-kept : (d : ℕ) (fs : List Frame) (p : List ℕ) (c : ℕ) → Opened d fs p → c < 256 → Keeps d fs p c (opening c)
 item-kept d fs p c o h =
     by-byte (Keeps d fs p) (λ m n l. direct-kept d fs p m n l o)
-    (λ m w k low i is. let size : more_bytes w - 1 ≡ k = omega (arith, is.size) in rw size (guarded d _ (has_room d fs m) _ _ (λ e. long-begins d false m w k fs p _ (o, i, e) is.made is.holds)))
+    (λ m w k low i is. let size : more_bytes w - 1 ≡ k = omega (arith, is.size) in rw size (guarded d _ (has_space d fs m) _ _ (λ e. long-begins d false m w k fs p _ (o, i, e) is.made is.holds)))
     (λ m. open-kept d fs p m o) (p, o, refl) (break-kept d fs p o) (λ c. tt) c h
 
 pub is_major-same : (m n : Major) → is_major m n ≡ true → m ≡ n
@@ -170,7 +170,7 @@ simple-number-kept d fs p c o h = elim (cases_lt c 32) [
       rw (le-ltb c 32 l)
       (along d (close fs) _ _
       (ap (λ w. o.0 ++ head Simple w c) e ∙ ap (λ x. o.0 ++ 0xf8 ∷ x ∷ []) (mod-eq_of_lt h) ∙ sym (append_assoc o.0 (0xf8 ∷ []) (c ∷ [])) ∙ ap (λ xs. xs ++ c ∷ []) (sym o.2))
-      (item-closes d fs o.0 (simple c) o.1 (h, λ _. l) (room-of d fs o.0 o.1)))
+      (item-closes d fs o.0 (simple c) o.1 (h, λ _. l) (space-of d fs o.0 o.1)))
 ]
 
 -- the machine's byte
@@ -205,15 +205,15 @@ abbrev pub StandsOutcome : ℕ → Outcome → List ℕ → Type 0
 StandsOutcome d (refused r) p = Unit {0}
 StandsOutcome d (reached q ms) p = Stands d q p
 
-telling-kept : (d : ℕ) (m : Mark) (o : Outcome) (p : List ℕ) → StandsOutcome d o p → StandsOutcome d (telling m o) p
-telling-kept d m (refused r) p h = tt
-telling-kept d m (reached q ms) p h = h
+reporting-kept : (d : ℕ) (m : Mark) (o : Outcome) (p : List ℕ) → StandsOutcome d o p → StandsOutcome d (reporting m o) p
+reporting-kept d m (refused r) p h = tt
+reporting-kept d m (reached q ms) p h = h
 
 then-kept : (d : ℕ) (next : Next) (bs p : List ℕ) → ((q : State) → Stands d q p → StandsOutcome d (run d q bs) (p ++ bs)) → StandsNext d next p
     → StandsOutcome d (and_then next (λ t. run d t bs)) (p ++ bs)
 then-kept d (refuses r) bs p go h = tt
 then-kept d (goes q) bs p go h = go q h
-then-kept d (tells m q) bs p go h = telling-kept d m (run d q bs) (p ++ bs) (go q h)
+then-kept d (reports m q) bs p go h = reporting-kept d m (run d q bs) (p ++ bs) (go q h)
 
 -- what the machine reaches stands for the bytes so far
 pub run-kept : (d : ℕ) (bs : List ℕ) (q : State) (p : List ℕ) → Stands d q p → AreBytes bs → StandsOutcome d (run d q bs) (p ++ bs)

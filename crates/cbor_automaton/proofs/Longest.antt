@@ -3,13 +3,13 @@ use Rattle.std.proofs.Common.{◌≡◌, ℕ, suc, ◌≤◌, ◌<◌, List, [],
 use Rattle.std.proofs.{lemmas.Bool.cases_lt, lemmas.List.take-append-le, Math.Seq.take-append_seam}
 use Rattle.cbor_head.specs.Prelude.{AreBytes, IsBeginning, MayFollow, IsLongestBeginning}
 use Rattle.cbor_head.specs.declared.reason.Reason.{Reason}
-use Rattle.cbor_automaton.specs.Automaton.{start, State, Next, refuses, goes, tells, take_byte, run, reached, and_then}
-use Rattle.cbor_automaton.proofs.Beginnings.{onwards, run-append, reached-begins, shorter, telling_all-reached}
-use Rattle.cbor_automaton.{specs.Trace.Mark, proofs.Forward.telling_all, proofs.Refusals.taken-follows, proofs.Refusals.IsTaken}
+use Rattle.cbor_automaton.specs.Automaton.{start, State, Next, refuses, goes, reports, take_byte, run, reached, and_then}
+use Rattle.cbor_automaton.proofs.Beginnings.{onwards, run-append, reached-begins, shorter, reporting_all-reached}
+use Rattle.cbor_automaton.{specs.Trace.Mark, proofs.Forward.reporting_all, proofs.Refusals.taken-follows, proofs.Refusals.IsTaken}
 
 -- a beginning that a byte may not follow
 pub stands_longest : (d : ℕ) (p : List ℕ) (c : ℕ) (rest : List ℕ) → IsBeginning d p → (MayFollow d p c → ⊥) → IsLongestBeginning d (p ++ c ∷ rest) p
-stands_longest d p c rest begins misplaced = record {
+stands_longest d p c rest begins initial_byte_error = record {
   beginning = begins;
   rest = c ∷ rest;
   splits = refl;
@@ -18,14 +18,14 @@ stands_longest d p c rest begins misplaced = record {
     | inl k ↦
         let one : length (p ++ c ∷ []) ≡ suc (length p) = omega (arith, length-append p (c ∷ [])) in
         let fits : length (p ++ c ∷ []) ≤ length x = omega arith in
-        let front : take (length (p ++ c ∷ [])) x ≡ p ++ c ∷ [] =
+        let prefix : take (length (p ++ c ∷ [])) x ≡ p ++ c ∷ [] =
         sym (take-append-le (length (p ++ c ∷ [])) x y fits)
         ∙ ap (take (length (p ++ c ∷ []))) (sym same ∙ sym (append_assoc p (c ∷ []) rest))
         ∙ take-append_seam (p ++ c ∷ []) rest in
         let whole : IsBeginning d (take (length (p ++ c ∷ [])) x ++ drop (length (p ++ c ∷ [])) x) =
         subst (λ (zs : List ℕ). IsBeginning d zs) (sym (take-append-drop (length (p ++ c ∷ [])) x)) b in
-        let follows : MayFollow d p c = subst (λ (zs : List ℕ). IsBeginning d zs) front (shorter d (take (length (p ++ c ∷ [])) x) (drop (length (p ++ c ∷ [])) x) whole) in
-        absurd (misplaced follows)
+        let follows : MayFollow d p c = subst (λ (zs : List ℕ). IsBeginning d zs) prefix (shorter d (take (length (p ++ c ∷ [])) x) (drop (length (p ++ c ∷ [])) x) whole) in
+        absurd (initial_byte_error follows)
   ];
 }
 
@@ -39,19 +39,19 @@ bytes_more [] c h k = (k, tt)
 bytes_more (b ∷ bs) c h k = (h.0, bytes_more bs c h.1 k)
 
 run-more : (d : ℕ) (p : List ℕ) (q : State) (ms : List Mark) (c : ℕ) (next : Next) → run d start p ≡ reached q ms → take_byte d q c ≡ next
-    → run d start (p ++ c ∷ []) ≡ telling_all ms (and_then next (λ t. reached t []))
+    → run d start (p ++ c ∷ []) ≡ reporting_all ms (and_then next (λ t. reached t []))
 unfolding onwards
-run-more d p q ms c next e h = run-append d p (c ∷ []) start ∙ ap (λ o. onwards o (λ t. run d t (c ∷ []))) e ∙ ap (λ n. telling_all ms (and_then n (λ t. reached t []))) h
+run-more d p q ms c next e h = run-append d p (c ∷ []) start ∙ ap (λ o. onwards o (λ t. run d t (c ∷ []))) e ∙ ap (λ n. reporting_all ms (and_then n (λ t. reached t []))) h
 
 by_next : (d : ℕ) (p cs : List ℕ) (q : State) (ms : List Mark) (c : ℕ) (next : Next) → AreBytes p → c < 256 → run d start p ≡ reached q ms → take_byte d q c ≡ next
     → ((t : State) (ns : List Mark) → run d start (p ++ c ∷ []) ≡ reached t ns → (x : List ℕ) × IsLongestBeginning d ((p ++ c ∷ []) ++ cs) x)
     → (x : List ℕ) × IsLongestBeginning d (p ++ c ∷ cs) x
 by_next d p cs q ms c (refuses r) h k e f again = (p, longest d p q ms c cs r h k e f)
 by_next d p cs q ms c (goes t) h k e f again =
-    let more = again t (ms ++ []) (run-more d p q ms c (goes t) e f ∙ telling_all-reached ms [] t) in
+    let more = again t (ms ++ []) (run-more d p q ms c (goes t) e f ∙ reporting_all-reached ms [] t) in
     (more.0, subst (λ (b : List ℕ). IsLongestBeginning d b more.0) (append_assoc p (c ∷ []) cs) more.1)
-by_next d p cs q ms c (tells m t) h k e f again =
-    let more = again t (ms ++ m ∷ []) (run-more d p q ms c (tells m t) e f ∙ telling_all-reached ms (m ∷ []) t) in
+by_next d p cs q ms c (reports m t) h k e f again =
+    let more = again t (ms ++ m ∷ []) (run-more d p q ms c (reports m t) e f ∙ reporting_all-reached ms (m ∷ []) t) in
     (more.0, subst (λ (b : List ℕ). IsLongestBeginning d b more.0) (append_assoc p (c ∷ []) cs) more.1)
 
 pub has_longest : (d : ℕ) (rest p : List ℕ) (q : State) (ms : List Mark) → AreBytes p → AreBytes rest → run d start p ≡ reached q ms → (x : List ℕ) × IsLongestBeginning d (p ++ rest) x

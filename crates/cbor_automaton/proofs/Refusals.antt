@@ -3,32 +3,32 @@ use Rattle.std.proofs.Common.{◌≡◌, ◌↔◌, ℕ, zero, ◌<◌, Bool, tr
 use Rattle.cbor_head.specs.Prelude.{IsBeginning, MayFollow, AreBytes, IsReasonAt, initial_reason}
 use Rattle.cbor_head.specs.declared.major.Major.TheVariants.{Unsigned, Negative, Bytes}
 use Rattle.cbor_head.specs.declared.{major.Major.Major, reason.Reason.Reason, reason.Reason.TheVariants.BadSimple, reason.Reason.TheVariants.BadChunk}
-use Rattle.cbor_automaton.specs.Automaton.{start, Frame, indefinite_array, indefinite_map, State, at_item, in_head, in_simple, in_payload, in_chunks, done, Opening, direct, long, indefinite_string, indefinite_container, long_simple, breaks, bad, Next, refuses, goes, tells, opening, has_room, break_at, begin, is_major, in_string, take_byte, Outcome, refused, reached, telling, and_then, run}
+use Rattle.cbor_automaton.specs.Automaton.{start, Frame, indefinite_array, indefinite_map, State, at_item, in_head, in_simple, in_payload, in_chunks, done, Opening, direct, long, indefinite_string, indefinite_container, long_simple, breaks, bad, Next, refuses, goes, reports, opening, has_space, break_at, begin, is_major, in_string, take_byte, Outcome, refused, reached, reporting, and_then, run}
 use Rattle.cbor_automaton.proofs.Beginnings.{Reaches, onwards, run-append, beginning-reaches, reached-stands, stands-begins}
-use Rattle.cbor_automaton.{specs.Trace.Mark, proofs.Forward.telling_all, proofs.Kept.StandsNext, proofs.Kept.byte-kept}
+use Rattle.cbor_automaton.{specs.Trace.Mark, proofs.Forward.reporting_all, proofs.Kept.StandsNext, proofs.Kept.byte-kept}
 
 abbrev pub IsTaken : Next → Type 0
 IsTaken (refuses r) = ⊥
 IsTaken (goes q) = Unit {0}
-IsTaken (tells m q) = Unit {0}
+IsTaken (reports m q) = Unit {0}
 
-pub telling_all-reaches : (ms : List Mark) (o : Outcome) → Reaches (telling_all ms o) → Reaches o
-telling_all-reaches [] o h = h
-telling_all-reaches (m ∷ ms) o h = telling_all-reaches ms o (go (telling_all ms o) h)
+pub reporting_all-reaches : (ms : List Mark) (o : Outcome) → Reaches (reporting_all ms o) → Reaches o
+reporting_all-reaches [] o h = h
+reporting_all-reaches (m ∷ ms) o h = reporting_all-reaches ms o (go (reporting_all ms o) h)
   where
-    go : (o : Outcome) → Reaches (telling m o) → Reaches o
+    go : (o : Outcome) → Reaches (reporting m o) → Reaches o
     go (refused r) h = h
     go (reached q ms) h = tt
 
 taken-reaches : (d : ℕ) (next : Next) → Reaches (and_then next (λ t. run d t [])) → IsTaken next
 taken-reaches d (refuses r) h = h
 taken-reaches d (goes q) h = tt
-taken-reaches d (tells m q) h = tt
+taken-reaches d (reports m q) h = tt
 
 taken-begins : (d : ℕ) (next : Next) (p : List ℕ) → IsTaken next → StandsNext d next p → IsBeginning d p
 taken-begins d (refuses r) p t s = absurd t
 taken-begins d (goes q) p t s = stands-begins d q p s
-taken-begins d (tells m q) p t s = stands-begins d q p s
+taken-begins d (reports m q) p t s = stands-begins d q p s
 
 -- the machine takes exactly the bytes that may follow
 pub taken-follows : (d : ℕ) (p : List ℕ) (q : State) (ms : List Mark) (c : ℕ) → AreBytes p → c < 256 → run d start p ≡ reached q ms → IsTaken (take_byte d q c) ↔ MayFollow d p c
@@ -37,8 +37,8 @@ taken-follows d p q ms c hp hc e = (
   λ t. taken-begins d (take_byte d q c) (p ++ c ∷ []) t (byte-kept d q p c (reached-stands d p q ms hp e) hc),
   λ f.
       let r : Reaches (run d start (p ++ c ∷ [])) = beginning-reaches d (p ++ c ∷ []) f in
-      let moved : run d start (p ++ c ∷ []) ≡ telling_all ms (run d q (c ∷ [])) = run-append d p (c ∷ []) start ∙ ap (λ o. onwards o (λ t. run d t (c ∷ []))) e in
-      taken-reaches d (take_byte d q c) (telling_all-reaches ms (run d q (c ∷ [])) (subst Reaches moved r)),
+      let moved : run d start (p ++ c ∷ []) ≡ reporting_all ms (run d q (c ∷ [])) = run-append d p (c ∷ []) start ∙ ap (λ o. onwards o (λ t. run d t (c ∷ []))) e in
+      taken-reaches d (take_byte d q c) (reporting_all-reaches ms (run d q (c ∷ [])) (subst Reaches moved r)),
 )
 
 -- ---- the reason
@@ -53,10 +53,10 @@ break-reason (indefinite_map false ∷ fs) c r e = absurd (cc)
 break-reason _ c r e = cc
 
 begin-reason : (d : ℕ) (fs : List Frame) (c : ℕ) (o : Opening) (r : Reason) → begin d fs c o ≡ refuses r → r ≡ initial_reason c
-begin-reason d fs c (direct m n) r e = guard-reason (has_room d fs m) _ _ r tt e
-begin-reason d fs c (long m w) r e = guard-reason (has_room d fs m) _ _ r tt e
+begin-reason d fs c (direct m n) r e = guard-reason (has_space d fs m) _ _ r tt e
+begin-reason d fs c (long m w) r e = guard-reason (has_space d fs m) _ _ r tt e
 begin-reason d fs c (indefinite_string m) r e = absurd (cc)
-begin-reason d fs c (indefinite_container m f) r e = guard-reason (has_room d fs m) _ _ r tt e
+begin-reason d fs c (indefinite_container m f) r e = guard-reason (has_space d fs m) _ _ r tt e
 begin-reason d fs c long_simple r e = absurd (cc)
 begin-reason d fs c breaks r e = break-reason fs c r e
 begin-reason d fs c bad r e = cc

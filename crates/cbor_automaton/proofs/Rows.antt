@@ -1,4 +1,4 @@
--- The events of an item follow one another, tell its trace, and have no two pieces side by side.
+-- The events of an item follow one another, report its trace, and have no two pieces side by side.
 use Rattle.std.proofs.Common.{◌≡◌, ℕ, suc, ◌+◌, ◌<◌, ◌^◌, Bool, true, false, cond, nat_lt, List, [], ◌∷◌, ◌++◌, length, replicate, flat_map, Some, None, refl, sym, ap, ap₂, ◌∙◌, subst, inl, inr, arith, append_assoc, append-nil, length-append}
 use Rattle.std.{proofs.lemmas.Bool.cond_both, proofs.lemmas.Grind.flat_map-append, specs.List.AllByRecursion}
 use Rattle.cbor_head.specs.Prelude.{Holds, head, shortest, Chunk, IsChunk, Spelling, Spellings, SpelledEntries, unsigned, negative, bytes, text, byte_chunks, text_chunks, array, a_map, tag, simple, no_spellings, a_spelling, no_entries, entry, spellings_count, entries_count, chunk_bytes, spell, spell_all, spell_entries, break_of, IsSpelled, AreSpelled, AreEntriesSpelled}

@@ -4,13 +4,13 @@ use Rattle.std.proofs.Math.Seq.{take-suc, take-append-add}
 use Rattle.cbor_head.specs.declared.{major.Major.Major, width.Width.Width}
 use Rattle.cbor_automaton.specs.Trace.{Mark, a_byte, total}
 use Rattle.cbor_automaton.specs.Automaton as automaton
-use Rattle.cbor_automaton.specs.Automaton.{payload, close_string, State, start, in_payload, done, Next, goes, take_byte, and_then, telling, run, reached}
+use Rattle.cbor_automaton.specs.Automaton.{payload, close_string, State, start, in_payload, done, Next, goes, take_byte, and_then, reporting, run, reached}
 use Rattle.cbor_automaton.specs.Marks.{mark_of, marks_of, times}
-use Rattle.cbor_automaton.proofs.Beginnings.{onwards, run-append, telling_all-reached}
+use Rattle.cbor_automaton.proofs.Beginnings.{onwards, run-append, reporting_all-reached}
 use Rattle.cbor_automaton.proofs.Events.{IsSane, pending, clear-pending, by-run}
-use Rattle.cbor_automaton.{specs.declared.event.EventKind.EventKind, proofs.Forward.telling_all, proofs.Refusals.IsUnfinished}
+use Rattle.cbor_automaton.{specs.declared.event.EventKind.EventKind, proofs.Forward.reporting_all, proofs.Refusals.IsUnfinished}
 
--- a front of xs and ys that ends within ys
+-- a prefix of xs and ys that ends within ys
 pub take-behind : (t : ℕ) (xs ys : List ℕ) → length xs ≤ t → take t (xs ++ ys) ≡ xs ++ take (t - length xs) ys
 take-behind t xs ys h =
     let e : length xs + (t - length xs) ≡ t = omega arith in
@@ -26,13 +26,13 @@ run-one d c q u e = ap (λ n. and_then n (λ v. run d v [])) e
 -- a byte more
 pub run-next : (d i : ℕ) (xs : List ℕ) (q t : State) (next : Next) → i < length xs → run d q (take i xs) ≡ reached t [] → take_byte d t (get_or xs i 0) ≡ next → run d q (take (i + 1) xs) ≡ and_then next (λ v. run d v [])
 run-next d i xs q t next h e f =
-    let front : take (i + 1) xs ≡ take i xs ++ get_or xs i 0 ∷ [] = rw add-one (take-suc xs i 0 h) in
-    ap (run d q) front ∙ run-more d (take i xs) (get_or xs i 0) q t e ∙ ap (λ n. and_then n (λ v. run d v [])) f
+    let prefix : take (i + 1) xs ≡ take i xs ++ get_or xs i 0 ∷ [] = rw add-one (take-suc xs i 0 h) in
+    ap (run d q) prefix ∙ run-more d (take i xs) (get_or xs i 0) q t e ∙ ap (λ n. and_then n (λ v. run d v [])) f
 
 pub run-on : (d : ℕ) (t bs : List ℕ) (q u : State) (ms ns : List Mark) → run d start t ≡ reached q ms → run d q bs ≡ reached u ns → run d start (t ++ bs) ≡ reached u (ms ++ ns)
 unfolding onwards
 run-on d t bs q u ms ns e f =
-    run-append d t bs start ∙ ap (λ o. onwards o (λ v. run d v bs)) e ∙ ap (telling_all ms) f ∙ telling_all-reached ms ns u
+    run-append d t bs start ∙ ap (λ o. onwards o (λ v. run d v bs)) e ∙ ap (reporting_all ms) f ∙ reporting_all-reached ms ns u
 
 pub once-marks : (w : Width) (kind : EventKind) → times kind ≡ 1 → marks_of w kind ≡ mark_of w kind ∷ []
 once-marks w kind e = ap (λ n. replicate n (mark_of w kind)) e
@@ -64,10 +64,10 @@ payload-bytes d chunk m fs [] j n e =
 payload-bytes d chunk m fs (b ∷ bs) j zero e = absurd (omega arith)
 payload-bytes d chunk m fs (b ∷ bs) j (suc zero) e =
     let left : 0 ≡ length bs + j = omega arith in
-    ap (telling a_byte) (payload-bytes d chunk m fs bs j 0 left)
+    ap (reporting a_byte) (payload-bytes d chunk m fs bs j 0 left)
 payload-bytes d chunk m fs (b ∷ bs) j (suc (suc n)) e =
     let left : suc n ≡ length bs + j = omega arith in
-    ap (telling a_byte) (payload-bytes d chunk m fs bs j (suc n) left)
+    ap (reporting a_byte) (payload-bytes d chunk m fs bs j (suc n) left)
 
 pub piece_part : (d : ℕ) (chunk : Bool) (m : Major) (fs : List automaton.Frame) (bs : List ℕ) (left n : ℕ) → length bs ≡ n → n ≤ left
     → run d (in_payload chunk m left fs) bs ≡ reached (in_payload chunk m (left - n) fs) (replicate n a_byte)

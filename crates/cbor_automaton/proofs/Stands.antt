@@ -4,7 +4,7 @@ use Rattle.std.specs.List.{AllByRecursion}
 use Rattle.cbor_head.specs.Prelude.{AreBytes, Holds, head, Chunk, IsChunk, Spelling, Spellings, SpelledEntries, unsigned, negative, bytes, text, array, a_map, tag, no_spellings, a_spelling, no_entries, entry, spellings_count, entries_count, spell, spell_all, spell_entries, chunk_bytes, break_of, IsSpelled, AreSpelled, AreEntriesSpelled, HoldsOrIndefinite, depth, depth_all, depth_entries, IsItem}
 use Rattle.cbor_head.specs.declared.major.Major.TheVariants.{Unsigned, Negative, Bytes, Text, Array, Map, Tag, Simple}
 use Rattle.cbor_head.specs.declared.{major.Major.Major, width.Width.Width, width.Width.TheVariants.Indefinite}
-use Rattle.cbor_automaton.specs.Automaton.{Frame, counted, indefinite_array, indefinite_map, State, at_item, in_head, in_simple, in_payload, in_chunks, done, close, expect, close_string, payload, after, has_room}
+use Rattle.cbor_automaton.specs.Automaton.{Frame, counted, indefinite_array, indefinite_map, State, at_item, in_head, in_simple, in_payload, in_chunks, done, close, expect, close_string, payload, after, has_space}
 use Rattle.cbor_automaton.proofs.Arguments.{number}
 
 abbrev pub is_odd : ℕ → Bool
@@ -15,7 +15,7 @@ is_odd (suc n) = not (is_odd n)
 abbrev pub Rest : Frame → Spellings → Type 0
 Rest (counted n) ss = spellings_count ss ≡ suc n
 Rest indefinite_array ss = Unit {0}
-Rest (indefinite_map due) ss = is_odd (spellings_count ss) ≡ due
+Rest (indefinite_map expected) ss = is_odd (spellings_count ss) ≡ expected
 
 abbrev pub closing : Frame → List ℕ
 closing (counted n) = []
@@ -61,7 +61,7 @@ Chunked d m fs p =
 -- behind p a head of this type may begin
 abbrev pub Before : ℕ → Bool → Major → List Frame → List ℕ → Type 0
 Before d true m fs p = Chunked d m fs p
-Before d false m fs p = Opened d fs p × IsNumbered m × (has_room d fs m ≡ true)
+Before d false m fs p = Opened d fs p × IsNumbered m × (has_space d fs m ≡ true)
 
 abbrev pub Stands : ℕ → State → List ℕ → Type 0
 Stands d (at_item fs) p = Opened d fs p
@@ -109,17 +109,17 @@ item-closes d (counted zero ∷ fs) p s o h b =
     (item-closes d fs o.0 whole.item o.1 whole.spelled whole.fits)
 item-closes d (counted (suc n) ∷ fs) p s o h b = member d fs (counted (suc n)) (counted n) p s (λ ss r. ap suc r) refl o h b
 item-closes d (indefinite_array ∷ fs) p s o h b = member d fs indefinite_array indefinite_array p s (λ ss r. tt) refl o h b
-item-closes d (indefinite_map due ∷ fs) p s o h b = member d fs (indefinite_map due) (indefinite_map (not due)) p s (λ ss r. ap not r ∙ not-not due) refl o h b
+item-closes d (indefinite_map expected ∷ fs) p s o h b = member d fs (indefinite_map expected) (indefinite_map (not expected)) p s (λ ss r. ap not r ∙ not-not expected) refl o h b
 
--- so many members are due of a container that began behind pre
-pub members-due : (d : ℕ) (fs : List Frame) (pre p : List ℕ) (n : ℕ) → Opened d fs pre
+-- so many members are expected of a container that began behind pre
+pub members-expected : (d : ℕ) (fs : List Frame) (pre p : List ℕ) (n : ℕ) → Opened d fs pre
     → ((ss : Spellings) → spellings_count ss ≡ n → AreSpelled ss → depth_all ss + suc (length fs) ≤ d → Extends d (length fs) pre (p ++ spell_all ss))
     → suc (length fs) ≤ d → Stands d (expect n fs) p
-members-due d fs pre p zero o wants room =
+members-expected d fs pre p zero o wants space =
     let whole = wants no_spellings refl tt (omega arith) in
     along d (close fs) _ _ (whole.bytes_are ∙ append-nil p) (item-closes d fs pre whole.item o whole.spelled whole.fits)
-members-due d fs pre p (suc n) o wants room =
-    (pre, o, room, λ ss r h b. extends-along d (length fs) pre (p ++ spell_all ss) (p ++ spell_all ss ++ []) (sym (append-nil (p ++ spell_all ss))) (wants ss r h b))
+members-expected d fs pre p (suc n) o wants space =
+    (pre, o, space, λ ss r h b. extends-along d (length fs) pre (p ++ spell_all ss) (p ++ spell_all ss ++ []) (sym (append-nil (p ++ spell_all ss))) (wants ss r h b))
 
 -- what a width without Indefinite gives
 pub record Definite (w : Width) (n : ℕ) : Type 0 where
@@ -159,9 +159,9 @@ double-even (suc n) =
     let e : suc n + suc n ≡ suc (suc (n + n)) = omega arith in
     ap is_odd e ∙ not-not (is_odd (n + n)) ∙ double-even n
 
-pub room-of : (d : ℕ) (fs : List Frame) (p : List ℕ) → Opened d fs p → 0 + length fs ≤ d
-room-of d [] p o = omega arith
-room-of d (f ∷ fs) p o = let h : length fs < d = o.2 in omega arith
+pub space-of : (d : ℕ) (fs : List Frame) (p : List ℕ) → Opened d fs p → 0 + length fs ≤ d
+space-of d [] p o = omega arith
+space-of d (f ∷ fs) p o = let h : length fs < d = o.2 in omega arith
 
 array-extends : (d : ℕ) (w : Width) (n : ℕ) (fs : List Frame) (p : List ℕ) → Holds w n → (ss : Spellings) → spellings_count ss ≡ n → AreSpelled ss → depth_all ss + suc (length fs) ≤ d
     → Extends d (length fs) p ((p ++ head Array w n) ++ spell_all ss)
@@ -215,8 +215,8 @@ pub chunk-closes : (d : ℕ) (chunk : Bool) (m : Major) (fs : List Frame) (p : L
     → Stands d (close_string chunk m fs) (p ++ chunk_bytes m c)
 chunk-closes d true m fs p c b s h =
     (b.0, b.1, b.2, λ cs hs. extends-along d (length fs) b.0 _ _ (ap (λ xs. xs ++ 0xff ∷ []) (sym (append_assoc p (chunk_bytes m c) (flat_map (chunk_bytes m) cs)))) (b.3 (c ∷ cs) (h, hs)))
-chunk-closes d false Bytes fs p c b s h = item-closes d fs p (bytes c.width c.payload) b.0 h (room-of d fs p b.0)
-chunk-closes d false Text fs p c b s h = item-closes d fs p (text c.width c.payload) b.0 h (room-of d fs p b.0)
+chunk-closes d false Bytes fs p c b s h = item-closes d fs p (bytes c.width c.payload) b.0 h (space-of d fs p b.0)
+chunk-closes d false Text fs p c b s h = item-closes d fs p (text c.width c.payload) b.0 h (space-of d fs p b.0)
 chunk-closes d false _ fs p c b s h = absurd s
 
 payload-begins : (d : ℕ) (chunk : Bool) (m : Major) (w : Width) (n : ℕ) (fs : List Frame) (p : List ℕ) → Before d chunk m fs p → IsString m → Holds w n
@@ -237,11 +237,11 @@ payload-begins d chunk m w (suc n) fs p b s h = (
 -- a definite head is complete
 pub head-done : (d : ℕ) (chunk : Bool) (m : Major) (w : Width) (n : ℕ) (fs : List Frame) (p : List ℕ) → Before d chunk m fs p → Holds w n → Stands d (after chunk m n fs) (p ++ head m w n)
 head-done d true m w n fs p b h = payload-begins d true m w n fs p b b.2 h
-head-done d false Unsigned w n fs p b h = item-closes d fs p (unsigned w n) b.0 h (room-of d fs p b.0)
-head-done d false Negative w n fs p b h = item-closes d fs p (negative w n) b.0 h (room-of d fs p b.0)
+head-done d false Unsigned w n fs p b h = item-closes d fs p (unsigned w n) b.0 h (space-of d fs p b.0)
+head-done d false Negative w n fs p b h = item-closes d fs p (negative w n) b.0 h (space-of d fs p b.0)
 head-done d false Bytes w n fs p b h = payload-begins d false Bytes w n fs p b tt h
 head-done d false Text w n fs p b h = payload-begins d false Text w n fs p b tt h
-head-done d false Array w n fs p b h = members-due d fs p (p ++ head Array w n) n b.0 (array-extends d w n fs p h) (ltb-true (length fs) d b.2)
-head-done d false Map w n fs p b h = members-due d fs p (p ++ head Map w n) (n + n) b.0 (map-extends d w n fs p h) (ltb-true (length fs) d b.2)
-head-done d false Tag w n fs p b h = members-due d fs p (p ++ head Tag w n) 1 b.0 (tag-extends d w n fs p h) (ltb-true (length fs) d b.2)
+head-done d false Array w n fs p b h = members-expected d fs p (p ++ head Array w n) n b.0 (array-extends d w n fs p h) (ltb-true (length fs) d b.2)
+head-done d false Map w n fs p b h = members-expected d fs p (p ++ head Map w n) (n + n) b.0 (map-extends d w n fs p h) (ltb-true (length fs) d b.2)
+head-done d false Tag w n fs p b h = members-expected d fs p (p ++ head Tag w n) 1 b.0 (tag-extends d w n fs p h) (ltb-true (length fs) d b.2)
 head-done d false Simple w n fs p b h = absurd b.1

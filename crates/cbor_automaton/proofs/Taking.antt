@@ -6,7 +6,7 @@ use Rattle.cbor_head.specs.declared.major.Major.TheVariants.{Bytes, Text, Array,
 use Rattle.cbor_head.specs.declared.width.Width.TheVariants.{Direct, One, Indefinite}
 use Rattle.cbor_head.specs.declared.{major.Major.Major, width.Width.Width, reason.Reason.Reason}
 use Rattle.cbor_automaton.specs.Trace.{Mark, a_head, more_bytes}
-use Rattle.cbor_automaton.specs.Automaton.{Frame, indefinite_array, indefinite_map, State, at_item, in_head, in_simple, in_payload, in_chunks, done, Opening, Next, refuses, goes, tells, indefinite_length, opening, after, has_room, break_at, begin, is_major, in_string, take_byte, Outcome, refused, reached, telling, and_then, run}
+use Rattle.cbor_automaton.specs.Automaton.{Frame, indefinite_array, indefinite_map, State, at_item, in_head, in_simple, in_payload, in_chunks, done, Opening, Next, refuses, goes, reports, indefinite_length, opening, after, has_space, break_at, begin, is_major, in_string, take_byte, Outcome, refused, reached, reporting, and_then, run}
 use Rattle.cbor_automaton.{specs.Taking.Follows, specs.Taking.IsTaking, proofs.Openings.by-byte, proofs.Arguments.number}
 pub use Rattle.cbor_automaton.proofs.Events.{IsClear}
 pub use Rattle.cbor_automaton.proofs.Stands.{IsNumbered}
@@ -16,7 +16,7 @@ use Rattle.cbor_automaton.proofs.Kept.{is_major-same, long-head}
 -- the head so far, and the state that it was begun in
 abbrev pub IsWithin : ℕ → State → State → List ℕ → Type 0
 IsWithin d from (in_head false m w k acc fs) bs =
-    (from ≡ at_item fs) × IsNumbered m × (has_room d fs m ≡ true)
+    (from ≡ at_item fs) × IsNumbered m × (has_space d fs m ≡ true)
     × ((more : List ℕ) → length more ≡ suc k → AreBytes more → (bs ++ more ≡ head m w (number acc more)) × Holds w (number acc more))
 IsWithin d from (in_head true m w k acc fs) bs =
     (from ≡ in_chunks m fs)
@@ -27,18 +27,18 @@ IsWithin d from q bs = (from ≡ q) × (bs ≡ [])
 abbrev pub IsTakingNext : ℕ → State → Next → List ℕ → Type 0
 IsTakingNext d from (refuses r) bs = Unit {0}
 IsTakingNext d from (goes q) bs = IsWithin d from q bs
-IsTakingNext d from (tells m q) bs = IsTaking d from m bs q × IsClear q
+IsTakingNext d from (reports m q) bs = IsTaking d from m bs q × IsClear q
 
 -- ---- behind a head
 
-follows : (d : ℕ) (fs : List Frame) (m : Major) (w : Width) (n : ℕ) → IsNumbered m → has_room d fs m ≡ true → Follows d fs m w n (after false m n fs)
+follows : (d : ℕ) (fs : List Frame) (m : Major) (w : Width) (n : ℕ) → IsNumbered m → has_space d fs m ≡ true → Follows d fs m w n (after false m n fs)
 follows d fs Array w n k e = (ltb-true (length fs) d e, refl)
 follows d fs Map w n k e = (ltb-true (length fs) d e, refl)
 follows d fs Tag w n k e = (ltb-true (length fs) d e, refl)
 follows d fs Simple w n k e = absurd k
 follows d fs _ w n k e = refl
 
-follows-direct : (d : ℕ) (fs : List Frame) (m : Major) (n : ℕ) → n < 24 → has_room d fs m ≡ true → Follows d fs m Direct n (after false m n fs)
+follows-direct : (d : ℕ) (fs : List Frame) (m : Major) (n : ℕ) → n < 24 → has_space d fs m ≡ true → Follows d fs m Direct n (after false m n fs)
 follows-direct d fs Simple n h e = ((omega arith, λ l. absurd (omega arith)), rw (lt-ltb n 24 h) refl, refl)
 follows-direct d fs Array n h e = (ltb-true (length fs) d e, refl)
 follows-direct d fs Map n h e = (ltb-true (length fs) d e, refl)
@@ -56,7 +56,7 @@ guarded d from bs true next r h = h refl
 guarded d from bs false next r h = tt
 
 item-long : (d : ℕ) (fs : List Frame) (m : Major) (w : Width) (k c : ℕ) → IsNumbered m → ((n : ℕ) → head m w n ≡ c ∷ bytes_high_first (suc k) n) → ((n : ℕ) → n < 256 ^ suc k → Holds w n)
-    → has_room d fs m ≡ true → IsWithin d (at_item fs) (in_head false m w k 0 fs) (c ∷ [])
+    → has_space d fs m ≡ true → IsWithin d (at_item fs) (in_head false m w k 0 fs) (c ∷ [])
 item-long d fs m w k c i made holds e = (refl, i, e, long-head m w k c made holds)
 
 abbrev IsTakingFirst : ℕ → List Frame → ℕ → Opening → Type 0
@@ -76,8 +76,8 @@ break-taken d _ = tt
 
 item-taken : (d : ℕ) (fs : List Frame) (c : ℕ) → c < 256 → IsTakingFirst d fs c (opening c)
 item-taken d fs c h =
-    by-byte (IsTakingFirst d fs) (λ m n l. guarded d _ _ (has_room d fs m) _ _ (λ e. ((refl, l, follows-direct d fs m n l e), after-clear false m n fs)))
-    (λ m w k low i is. let size : more_bytes w - 1 ≡ k = omega (arith, is.size) in rw size (guarded d _ _ (has_room d fs m) _ _ (item-long d fs m w k _ i is.made is.holds)))
+    by-byte (IsTakingFirst d fs) (λ m n l. guarded d _ _ (has_space d fs m) _ _ (λ e. ((refl, l, follows-direct d fs m n l e), after-clear false m n fs)))
+    (λ m w k low i is. let size : more_bytes w - 1 ≡ k = omega (arith, is.size) in rw size (guarded d _ _ (has_space d fs m) _ _ (item-long d fs m w k _ i is.made is.holds)))
     (open-taken d fs) (refl, refl) (break-taken d fs) (λ c. tt) c h
 
 -- ---- the first byte of a chunk
@@ -133,7 +133,7 @@ within-start d _ h = (refl, refl)
 
 -- ---- runs
 
--- bytes that told nothing are those of the head that is open; bytes whose one mark left a clear state are the mark's
+-- bytes that reported nothing are those of the head that is open; bytes whose one mark left a clear state are the mark's
 abbrev pub IsTakingRun : ℕ → State → Outcome → List ℕ → Type 0
 IsTakingRun d from (refused r) bs = Unit {0}
 IsTakingRun d from (reached q []) bs = IsWithin d from q bs
@@ -145,18 +145,18 @@ clear-nothing d from (in_head chunk m w k acc fs) bs h p = absurd h
 clear-nothing d from (in_simple fs) bs h p = absurd h
 clear-nothing d from _ bs h p = p
 
-telling-taken : (d : ℕ) (from q : State) (m : Mark) (o : Outcome) (bs cs : List ℕ) → IsTaking d from m bs q → IsTakingRun d q o cs → IsTakingRun d from (telling m o) (bs ++ cs)
-telling-taken d from q m (refused r) bs cs h k = tt
-telling-taken d from q m (reached t []) bs cs h k = λ clear.
+reporting-taken : (d : ℕ) (from q : State) (m : Mark) (o : Outcome) (bs cs : List ℕ) → IsTaking d from m bs q → IsTakingRun d q o cs → IsTakingRun d from (reporting m o) (bs ++ cs)
+reporting-taken d from q m (refused r) bs cs h k = tt
+reporting-taken d from q m (reached t []) bs cs h k = λ clear.
     let same = clear-nothing d q t cs clear k in
     subst (λ xs. IsTaking d from m xs t) (sym (ap (λ xs. bs ++ xs) same.1 ∙ append-nil bs)) (subst (IsTaking d from m bs) same.0 h)
-telling-taken d from q m (reached t (n ∷ ns)) bs cs h k = tt
+reporting-taken d from q m (reached t (n ∷ ns)) bs cs h k = tt
 
 then-taken : (d : ℕ) (from : State) (next : Next) (bs cs : List ℕ) → ((begun q : State) (pre : List ℕ) → IsWithin d begun q pre → IsTakingRun d begun (run d q cs) (pre ++ cs)) → IsTakingNext d from next bs
     → IsTakingRun d from (and_then next (λ t. run d t cs)) (bs ++ cs)
 then-taken d from (refuses r) bs cs go h = tt
 then-taken d from (goes q) bs cs go h = go from q bs h
-then-taken d from (tells m q) bs cs go h = telling-taken d from q m (run d q cs) bs cs h.0 (go q q [] (within-start d q h.1))
+then-taken d from (reports m q) bs cs go h = reporting-taken d from q m (run d q cs) bs cs h.0 (go q q [] (within-start d q h.1))
 
 pub run-taken : (d : ℕ) (bs : List ℕ) (from q : State) (pre : List ℕ) → IsWithin d from q pre → AreBytes bs → IsTakingRun d from (run d q bs) (pre ++ bs)
 run-taken d [] from q pre h b = subst (IsWithin d from q) (sym (append-nil pre)) h
@@ -174,17 +174,17 @@ nothing-taken d q t bs h b e = subst (λ o. IsTakingRun d q o bs) e (run-taken d
 
 -- ---- more marks than one
 
-pub tells-first : (m n : Mark) (o : Outcome) (t : State) (ms : List Mark) → telling n o ≡ reached t (m ∷ ms) → (m ≡ n) × (o ≡ reached t ms)
-tells-first m n (refused r) t ms e = absurd (cc e)
-tells-first m n (reached q ns) t ms e = (cc e, cc e)
+pub reports-first : (m n : Mark) (o : Outcome) (t : State) (ms : List Mark) → reporting n o ≡ reached t (m ∷ ms) → (m ≡ n) × (o ≡ reached t ms)
+reports-first m n (refused r) t ms e = absurd (cc e)
+reports-first m n (reached q ns) t ms e = (cc e, cc e)
 
 then-first : (d : ℕ) (from : State) (next : Next) (bs cs : List ℕ) (t : State) (m : Mark) (ms : List Mark)
     → ((q : State) (pre : List ℕ) → IsWithin d from q pre → run d q cs ≡ reached t (m ∷ ms) → (ds : List ℕ) × (u : State) × IsTaking d from m ds u)
     → IsTakingNext d from next bs → and_then next (λ t. run d t cs) ≡ reached t (m ∷ ms) → (ds : List ℕ) × (u : State) × IsTaking d from m ds u
 then-first d from (refuses r) bs cs t m ms go h e = absurd (cc e)
 then-first d from (goes q) bs cs t m ms go h e = go q bs h e
-then-first d from (tells n q) bs cs t m ms go h e =
-    let f = tells-first m n (run d q cs) t ms e in
+then-first d from (reports n q) bs cs t m ms go h e =
+    let f = reports-first m n (run d q cs) t ms e in
     (bs, q, subst (λ x. IsTaking d from x bs q) (sym f.0) h.0)
 
 -- the first mark of a run is one that can be there

@@ -5,19 +5,19 @@ use Rattle.cbor_head.specs.Prelude.{Holds, IsHead, head, AreBytes}
 use Rattle.cbor_head.specs.declared.major.Major.TheVariants.{Unsigned, Negative, Bytes, Text, Array, Map, Tag, Simple}
 use Rattle.cbor_head.specs.declared.{major.Major.Major, width.Width.Width, width.Width.TheVariants.Direct, width.Width.TheVariants.Indefinite}
 use Rattle.cbor_automaton.specs.Trace.{Mark, a_head, a_chunk, a_byte, a_break, more_bytes, size, total}
-use Rattle.cbor_automaton.specs.Automaton.{Frame, counted, indefinite_array, indefinite_map, close, expect, close_string, payload, State, start, at_item, in_payload, in_chunks, Next, refuses, goes, tells, take_byte, and_then, run, reached}
+use Rattle.cbor_automaton.specs.Automaton.{Frame, counted, indefinite_array, indefinite_map, close, expect, close_string, payload, State, start, at_item, in_payload, in_chunks, Next, refuses, goes, reports, take_byte, and_then, run, reached}
 use Rattle.cbor_automaton.specs.Taking.{IsTaking, Follows, Opens, Ends}
 use Rattle.cbor_automaton.specs.Marks.{mark_of, marks_of, IsProper}
 use Rattle.cbor_automaton.specs.Bytes.{type_behind, last_type, IsChunkHead, IsMarkBytes, IsBytesOf, IsEventBytes}
 use Rattle.cbor_automaton.specs.declared.event.EventKind.TheVariants as kinds
 use Rattle.cbor_automaton.proofs.Taking.{IsClear, IsWithin, IsTakingNext, byte-taken, within-start, clear-nothing}
-use Rattle.cbor_automaton.{specs.declared.event.EventKind.EventKind, proofs.Events.telling-reached}
+use Rattle.cbor_automaton.{specs.declared.event.EventKind.EventKind, proofs.Events.reporting-reached}
 
 is-head : (d : ℕ) (fs : List Frame) (m : Major) (w : Width) (n : ℕ) (to : State) → Holds w n → Follows d fs m w n to → IsHead m w n
 is-head d fs Simple w n to h f = (f.0, f.1)
 is-head d fs _ w n to h f = h
 
--- In an indefinite string the last head told was that string's.
+-- In an indefinite string the last head reported was that string's.
 abbrev pub IsTyped : State → Option Major → Type 0
 IsTyped (in_chunks m fs) type = type ≡ Some m
 IsTyped (in_payload true m n fs) type = type ≡ Some m
@@ -103,10 +103,10 @@ AreMarkBytes type (m ∷ ms) bs = (xs : List ℕ) × (ys : List ℕ) × (bs ≡ 
 
 -- the bytes of the marks, and behind them those of the head that is open
 pub record Tiled (d : ℕ) (t : State) (type : Option Major) (all : List ℕ) (ms : List Mark) : Type 0 where
-  pub front : List ℕ
+  pub prefix : List ℕ
   pub back : List ℕ
-  pub splits : all ≡ front ++ back
-  pub marks : AreMarkBytes type ms front
+  pub splits : all ≡ prefix ++ back
+  pub marks : AreMarkBytes type ms prefix
   pub begun : State
   pub within : IsWithin d begun t back
 
@@ -116,7 +116,7 @@ run-tiled d [] from q t type pre ms h y b e =
     let same : q ≡ t = cc in
     let none : [] ≡ ms = cc in
     record {
-      front = [];
+      prefix = [];
       back = pre;
       splits = append-nil pre;
       marks = subst (λ (ns : List Mark). AreMarkBytes type ns []) none refl;
@@ -131,16 +131,16 @@ run-tiled d (c ∷ cs) from q t type pre ms h y b e =
         → ((f u : State) (o : Option Major) (p : List ℕ) (ns : List Mark) → IsWithin d f u p → IsTyped f o → run d u cs ≡ reached t ns → Tiled d t o (p ++ cs) ns) → Tiled d t type ((pre ++ c ∷ []) ++ cs) ms
     go (refuses r) k e ih = absurd (cc)
     go (goes u) k e ih = ih from u type (pre ++ c ∷ []) ms k y e
-    go (tells m u) k e ih =
-        let is = telling-reached m (run d u cs) t ms e in
+    go (reports m u) k e ih =
+        let is = reporting-reached m (run d u cs) t ms e in
         let here = pre ++ c ∷ [] in
         let of = mark-bytes d from u m here type y k.0 in
         let rest = ih u u (type_behind type m) [] is.0 (within-start d u k.1) of.1 is.1 in
         record {
-          front = here ++ rest.front;
+          prefix = here ++ rest.prefix;
           back = rest.back;
-          splits = ap (λ xs. here ++ xs) rest.splits ∙ sym (append_assoc here rest.front rest.back);
-          marks = subst (λ (ns : List Mark). AreMarkBytes type ns (here ++ rest.front)) (sym is.2) (here, rest.front, refl, of.0, rest.marks);
+          splits = ap (λ xs. here ++ xs) rest.splits ∙ sym (append_assoc here rest.prefix rest.back);
+          marks = subst (λ (ns : List Mark). AreMarkBytes type ns (here ++ rest.prefix)) (sym is.2) (here, rest.prefix, refl, of.0, rest.marks);
           begun = rest.begun;
           within = rest.within;
         }
@@ -149,23 +149,23 @@ run-tiled d (c ∷ cs) from q t type pre ms h y b e =
 
 -- the bytes of the later marks
 pub record Behind (type : Option Major) (ms ns : List Mark) (bs : List ℕ) : Type 0 where
-  pub front : List ℕ
+  pub prefix : List ℕ
   pub back : List ℕ
-  pub splits : bs ≡ front ++ back
-  pub size_is : length front ≡ total ms
+  pub splits : bs ≡ prefix ++ back
+  pub size_is : length prefix ≡ total ms
   pub marks : AreMarkBytes (last_type type ms) ns back
 
 behind : (type : Option Major) (ms ns : List Mark) (bs : List ℕ) → AreMarkBytes type (ms ++ ns) bs → Behind type ms ns bs
-behind type [] ns bs h = record { front = []; back = bs; splits = refl; size_is = refl; marks = h }
+behind type [] ns bs h = record { prefix = []; back = bs; splits = refl; size_is = refl; marks = h }
 behind type (m ∷ ms) ns bs h =
     let rest = behind (type_behind type m) ms ns h.1 h.4 in
     let one = mark-size type m h.0 h.3 in
     let more = rest.size_is in
     record {
-      front = h.0 ++ rest.front;
+      prefix = h.0 ++ rest.prefix;
       back = rest.back;
-      splits = h.2 ∙ ap (λ xs. h.0 ++ xs) rest.splits ∙ sym (append_assoc h.0 rest.front rest.back);
-      size_is = omega (arith, length-append h.0 rest.front, one, more);
+      splits = h.2 ∙ ap (λ xs. h.0 ++ xs) rest.splits ∙ sym (append_assoc h.0 rest.prefix rest.back);
+      size_is = omega (arith, length-append h.0 rest.prefix, one, more);
       marks = rest.marks;
     }
 
@@ -192,7 +192,7 @@ pub last-bytes : (d : ℕ) (t : State) (bs : List ℕ) (ms : List Mark) (w : Wid
 last-bytes d t bs ms w kind b e clear proper =
     let tiled = run-tiled d bs start start t None [] (ms ++ marks_of w kind) (refl, refl) tt b e in
     let nothing = (clear-nothing d tiled.begun t tiled.back clear tiled.within).1 in
-    let all : bs ≡ tiled.front = tiled.splits ∙ ap (λ xs. tiled.front ++ xs) nothing ∙ append-nil tiled.front in
-    let parts = behind None ms (marks_of w kind) tiled.front tiled.marks in
-    let past : drop (total ms) bs ≡ parts.back = ap (λ n. drop n bs) (sym parts.size_is) ∙ ap (drop (length parts.front)) (all ∙ parts.splits) ∙ drop-append_seam parts.front parts.back in
+    let all : bs ≡ tiled.prefix = tiled.splits ∙ ap (λ xs. tiled.prefix ++ xs) nothing ∙ append-nil tiled.prefix in
+    let parts = behind None ms (marks_of w kind) tiled.prefix tiled.marks in
+    let past : drop (total ms) bs ≡ parts.back = ap (λ n. drop n bs) (sym parts.size_is) ∙ ap (drop (length parts.prefix)) (all ∙ parts.splits) ∙ drop-append_seam parts.prefix parts.back in
     subst (λ (xs : List ℕ). IsEventBytes ms w kind xs) (sym past) (proper, event-bytes (last_type None ms) w kind parts.back parts.marks)

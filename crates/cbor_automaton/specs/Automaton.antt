@@ -8,10 +8,10 @@ use Rattle.cbor_automaton.specs.Trace.{Mark, a_head, a_chunk, a_byte, a_break, m
 
 -- an open container
 pub data Frame : Type 0 where
-  -- so many members after the one that is due
+  -- so many members after the one that is expected
   counted : ℕ → Frame
   indefinite_array : Frame
-  -- true: a value is due
+  -- true: a value is expected
   indefinite_map : Bool → Frame
 
 -- Where the next byte belongs, and the open containers, the innermost first. A string's flag is true in a chunk.
@@ -43,7 +43,7 @@ pub data Opening : Type 0 where
 pub data Next : Type 0 where
   refuses : Reason → Next
   goes : State → Next
-  tells : Mark → State → Next
+  reports : Mark → State → Next
 
 -- the type by the high three bits
 abbrev pub major_at : ℕ → Major
@@ -95,9 +95,9 @@ close [] = done
 close (counted zero ∷ fs) = close fs
 close (counted (suc n) ∷ fs) = at_item (counted n ∷ fs)
 close (indefinite_array ∷ fs) = at_item (indefinite_array ∷ fs)
-close (indefinite_map due ∷ fs) = at_item (indefinite_map (not due) ∷ fs)
+close (indefinite_map expected ∷ fs) = at_item (indefinite_map (not expected) ∷ fs)
 
--- so many members are due
+-- so many members are expected
 abbrev pub expect : ℕ → List Frame → State
 expect zero fs = close fs
 expect (suc n) fs = at_item (counted n ∷ fs)
@@ -107,7 +107,7 @@ abbrev pub close_string : Bool → Major → List Frame → State
 close_string true major fs = in_chunks major fs
 close_string false major fs = close fs
 
--- so many bytes of a definite string are due
+-- so many bytes of a definite string are expected
 abbrev pub payload : Bool → Major → ℕ → List Frame → State
 payload chunk major zero fs = close_string chunk major fs
 payload chunk major (suc n) fs = in_payload chunk major n fs
@@ -127,29 +127,29 @@ abbrev pub mark : Bool → Major → Width → ℕ → Mark
 mark true major w n = a_chunk w n
 mark false major w n = a_head major w n
 
--- there is room for one more container, if it is one
-abbrev pub has_room : ℕ → List Frame → Major → Bool
-has_room d fs Array = nat_lt (length fs) d
-has_room d fs Map = nat_lt (length fs) d
-has_room d fs Tag = nat_lt (length fs) d
-has_room d fs _ = true
+-- there is space for one more container, if it is one
+abbrev pub has_space : ℕ → List Frame → Major → Bool
+has_space d fs Array = nat_lt (length fs) d
+has_space d fs Map = nat_lt (length fs) d
+has_space d fs Tag = nat_lt (length fs) d
+has_space d fs _ = true
 
--- the head of an item, if there is room for it
+-- the head of an item, if there is space for it
 abbrev pub enter : ℕ → List Frame → Major → ℕ → Next → Next
-enter d fs major c next = if has_room d fs major then next else refuses (initial_reason c)
+enter d fs major c next = if has_space d fs major then next else refuses (initial_reason c)
 
--- a break where an item is due
+-- a break where an item is expected
 abbrev pub break_at : List Frame → ℕ → Next
-break_at (indefinite_array ∷ fs) c = tells a_break (close fs)
-break_at (indefinite_map false ∷ fs) c = tells a_break (close fs)
+break_at (indefinite_array ∷ fs) c = reports a_break (close fs)
+break_at (indefinite_map false ∷ fs) c = reports a_break (close fs)
 break_at _ c = refuses (initial_reason c)
 
 -- a byte where an item may begin
 abbrev pub begin : ℕ → List Frame → ℕ → Opening → Next
-begin d fs c (direct major n) = enter d fs major c (tells (a_head major Direct n) (after false major n fs))
+begin d fs c (direct major n) = enter d fs major c (reports (a_head major Direct n) (after false major n fs))
 begin d fs c (long major w) = enter d fs major c (goes (in_head false major w (more_bytes w - 1) 0 fs))
-begin d fs c (indefinite_string major) = tells (a_head major Indefinite 0) (in_chunks major fs)
-begin d fs c (indefinite_container major frame) = enter d fs major c (tells (a_head major Indefinite 0) (at_item (frame ∷ fs)))
+begin d fs c (indefinite_string major) = reports (a_head major Indefinite 0) (in_chunks major fs)
+begin d fs c (indefinite_container major frame) = enter d fs major c (reports (a_head major Indefinite 0) (at_item (frame ∷ fs)))
 begin d fs c long_simple = goes (in_simple fs)
 begin d fs c breaks = break_at fs c
 begin d fs c bad = refuses (initial_reason c)
@@ -162,19 +162,19 @@ is_major _ _ = false
 
 -- a byte where a chunk may begin
 abbrev pub in_string : Major → List Frame → Opening → Next
-in_string major fs (direct m n) = if is_major major m then tells (a_chunk Direct n) (payload true major n fs) else refuses BadChunk
+in_string major fs (direct m n) = if is_major major m then reports (a_chunk Direct n) (payload true major n fs) else refuses BadChunk
 in_string major fs (long m w) = if is_major major m then goes (in_head true major w (more_bytes w - 1) 0 fs) else refuses BadChunk
-in_string major fs breaks = tells a_break (close fs)
+in_string major fs breaks = reports a_break (close fs)
 in_string major fs _ = refuses BadChunk
 
 -- the next byte, within a depth
 abbrev pub take_byte : ℕ → State → ℕ → Next
 take_byte d (at_item fs) c = begin d fs c (opening c)
-take_byte d (in_head chunk major w zero acc fs) c = tells (mark chunk major w (acc * 256 + c)) (after chunk major (acc * 256 + c) fs)
+take_byte d (in_head chunk major w zero acc fs) c = reports (mark chunk major w (acc * 256 + c)) (after chunk major (acc * 256 + c) fs)
 take_byte d (in_head chunk major w (suc k) acc fs) c = goes (in_head chunk major w k (acc * 256 + c) fs)
-take_byte d (in_simple fs) c = if nat_lt c 32 then refuses BadSimple else tells (a_head Simple One c) (close fs)
-take_byte d (in_payload chunk major zero fs) c = tells a_byte (close_string chunk major fs)
-take_byte d (in_payload chunk major (suc n) fs) c = tells a_byte (in_payload chunk major n fs)
+take_byte d (in_simple fs) c = if nat_lt c 32 then refuses BadSimple else reports (a_head Simple One c) (close fs)
+take_byte d (in_payload chunk major zero fs) c = reports a_byte (close_string chunk major fs)
+take_byte d (in_payload chunk major (suc n) fs) c = reports a_byte (in_payload chunk major n fs)
 take_byte d (in_chunks major fs) c = in_string major fs (opening c)
 take_byte d done c = refuses Trailing
 
@@ -184,15 +184,15 @@ pub data Outcome : Type 0 where
   reached : State → List Mark → Outcome
 
 -- a mark before those of a run
-abbrev pub telling : Mark → Outcome → Outcome
-telling m (refused r) = refused r
-telling m (reached q ms) = reached q (m ∷ ms)
+abbrev pub reporting : Mark → Outcome → Outcome
+reporting m (refused r) = refused r
+reporting m (reached q ms) = reached q (m ∷ ms)
 
 -- what a byte leads to, and what the others do from there
 abbrev pub and_then : Next → (State → Outcome) → Outcome
 and_then (refuses r) f = refused r
 and_then (goes q) f = f q
-and_then (tells m q) f = telling m (f q)
+and_then (reports m q) f = reporting m (f q)
 
 -- bytes from a state
 abbrev pub run : ℕ → State → List ℕ → Outcome

@@ -37,6 +37,6 @@ abbrev pub IsBytesOf : Option Major → Width → EventKind → List ℕ → Typ
 IsBytesOf type w (Piece n) bs = length bs ≡ n
 IsBytesOf type w kind bs = IsMarkBytes type (mark_of w kind) bs
 
--- an event of this width and kind, behind what was told, is these bytes
+-- an event of this width and kind, behind what was reported, is these bytes
 abbrev pub IsEventBytes : List Mark → Width → EventKind → List ℕ → Type 0
-IsEventBytes told w kind bs = IsProper w kind × IsBytesOf (last_type None told) w kind bs
+IsEventBytes reported w kind bs = IsProper w kind × IsBytesOf (last_type None reported) w kind bs

@@ -10,7 +10,7 @@ use Rattle.cbor_automaton.specs.{Trace.Mark, Trace.total, Marks.marks_of, Marks.
 abbrev pub event : ℕ → Width → EventKind → Event
 event at w kind = record { place = at; width = w; kind = kind }
 
--- the count that a head tells
+-- the count that a head reports
 abbrev pub count_at : Width → ℕ → Option ℕ
 count_at Indefinite n = None
 count_at w n = Some n
@@ -65,7 +65,7 @@ abbrev mutual
   events_in_entries at no_entries = []
   events_in_entries at (entry k v es) = events at k ++ (events (at + length (spell k)) v ++ events_in_entries (at + length (spell k) + length (spell v)) es)
 
--- ---- events that were told
+-- ---- events that were reported
 
 -- the marks that events stand for
 abbrev pub marks_in : List Event → List Mark
@@ -99,22 +99,22 @@ abbrev pub joined : List Event → List Event
 joined [] = []
 joined (e ∷ es) = onto e (joined es)
 
--- the front of a piece that ends behind the first t bytes
-abbrev pub front_of : ℕ → EventKind → Event → List Event
-front_of t (Piece n) e = if nat_lt e.place t then event e.place e.width (Piece (t - e.place)) ∷ [] else []
-front_of t _ e = []
+-- the prefix of a piece that ends behind the first t bytes
+abbrev pub prefix_of : ℕ → EventKind → Event → List Event
+prefix_of t (Piece n) e = if nat_lt e.place t then event e.place e.width (Piece (t - e.place)) ∷ [] else []
+prefix_of t _ e = []
 
 -- those that end within the first t bytes, the last piece cut there
 abbrev pub cut : ℕ → List Event → List Event
 cut t [] = []
-cut t (e ∷ es) = if nat_le (e.place + event_size e) t then e ∷ cut t es else front_of t e.kind e
+cut t (e ∷ es) = if nat_le (e.place + event_size e) t then e ∷ cut t es else prefix_of t e.kind e
 
 -- each begins where the one before it ends
 abbrev pub IsRow : ℕ → List Event → Type 0
 IsRow at [] = Unit {0}
 IsRow at (e ∷ es) = (e.place ≡ at) × IsProper e.width e.kind × IsRow (at + event_size e) es
 
--- these events told these marks
-pub record AreTold (es : List Event) (ms : List Mark) : Type 0 where
+-- these events reported these marks
+pub record AreReported (es : List Event) (ms : List Mark) : Type 0 where
   pub row : IsRow 0 es
   pub marks : marks_in es ≡ ms

@@ -25,7 +25,7 @@ Opens d fs Array to = (length fs < d) × (to ≡ at_item (indefinite_array ∷ f
 Opens d fs Map to = (length fs < d) × (to ≡ at_item (indefinite_map false ∷ fs))
 Opens d fs _ to = ⊥
 
--- behind a break where an item is due
+-- behind a break where an item is expected
 abbrev pub Ends : List Frame → State → Type 0
 Ends (indefinite_array ∷ fs) to = to ≡ close fs
 Ends (indefinite_map false ∷ fs) to = to ≡ close fs

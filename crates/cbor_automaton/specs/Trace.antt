@@ -1,4 +1,4 @@
--- What is told of an item (RFC 8949, section 3): a mark for each head and each break, and one for each byte of a payload. Proofs use marks;
+-- What is reported of an item (RFC 8949, section 3): a mark for each head and each break, and one for each byte of a payload. Proofs use marks;
 -- `Event` has the events that they stand for.
 use Rattle.std.specs.Prelude.{ℕ, suc, ◌+◌, ◌-◌, ◌++◌, List, [], ◌∷◌, length, flat_map, nat_le, if◌then◌else◌}
 use Rattle.cbor_head.specs.Prelude.{shortest, Chunk, Spelling, Spellings, SpelledEntries, unsigned, negative, bytes, text, byte_chunks, text_chunks, array, a_map, tag, simple, no_spellings, a_spelling, no_entries, entry, spellings_count, entries_count}

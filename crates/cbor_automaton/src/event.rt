@@ -1,8 +1,8 @@
-//! What is told of an item.
+//! What is reported of an item.
 
 use cbor_head::{Simple, Width};
 
-/// What one event tells.
+/// What one event reports.
 #[derive(Clone, Copy, Debug, PartialEq, Eq)]
 pub enum EventKind {
     /// An unsigned integer.
@@ -36,6 +36,6 @@ pub struct Event {
     pub place: u64,
     /// The width of the head; Direct for a piece, Indefinite for what has no argument.
     pub width: Width,
-    /// What it tells.
+    /// What it reports.
     pub kind: EventKind,
 }

@@ -1,33 +1,33 @@
 -- What a public builder stands for, from what its core does.
 use Rattle.std.proofs.Common.{◌≡◌, ℕ, Bool, true, false, List, [], ◌∷◌, Option, Some, None, true≢false, refl, sym, ap, ◌∙◌, subst, IsTrue, IfSome, IsNone, ◌↔◌, Ok}
-use Rattle.cbor_canonical.specs.Parts.{Open, plain, a_map, HasNoRepeats, IsInContainer}
-use Rattle.cbor_buffer.specs.declared.span.Span.{Span}
-use Rattle.cbor_builder.specs.Built.{Built, HasDistinctKeysSoFar, IsRepeatTold, LeavesIfDistinct, keys_so_far, AreAllDifferent}
-use Rattle.cbor_builder.specs.inner.BuilderState.{standing, innermost, IsLaid, WasLaid, IsLeftOpen, came_standing}
-use Rattle.cbor_builder.specs.inner.CanonState.{if_sound, seen, IsNested, IsKept}
-use Rattle.cbor_builder.specs.{declared.builder.Core.Core, declared.repeat.Repeat.Repeat, inner.Repeats.Tells}
-use Rattle.cbor_builder.{specs.declared.canon_builder.CanonBuilder.TheInside.Inside, proofs.KeysSoFar.different_distinct, proofs.Standing.lies_finished}
+use Rattle.cbor_model.specs.Parts.{Open, plain, a_map, HasNoRepeats, IsInContainer}
+use Rattle.cbor_output.specs.declared.span.Span.{Span}
+use Rattle.cbor_builder.specs.Built.{Built, HasDistinctKeysSoFar, IsRepeatReported, LeavesIfDistinct, keys_so_far, AreAllDifferent}
+use Rattle.cbor_builder.specs.inner.BuilderState.{open_levels, innermost, IsLaid, WasLaid, IsLeftOpen, came_open_levels}
+use Rattle.cbor_builder.specs.inner.CanonState.{if_sound, view_value, IsNested, IsKept}
+use Rattle.cbor_builder.specs.{declared.builder.Core.Core, declared.repeat.Repeat.Repeat, inner.Repeats.Reports}
+use Rattle.cbor_builder.{specs.declared.canon_builder.CanonBuilder.TheInside.Inside, proofs.KeysSoFar.different_distinct, proofs.OpenMembers.lies_finished}
 
 -- ---- a builder that takes a part is sound
 
 -- what is known of a builder in which something is open
 pub record Known (b : Inside) (w : Built) : Type 0 where
   pub order : b.core.order ≡ w.order
-  pub standing_is : standing b.core ≡ w.standing
+  pub open_levels_is : open_levels b.core ≡ w.open_levels
   pub laid : IsLaid b.core
-  pub nested : IsNested w.standing
+  pub nested : IsNested w.open_levels
 
 sound_where : (P : List Open → Type 0) → (P [] → ⊥) → (s : Bool) (os : List Open) → P (if_sound s os) → IsTrue s
 sound_where P none true os p = refl
 sound_where P none false os p = absurd (none p)
 
-pub known : (P : List Open → Type 0) → (P [] → ⊥) → (b : Inside) (w : Built) → IsKept b → seen b ≡ w → P w.standing → Known b w
+pub known : (P : List Open → Type 0) → (P [] → ⊥) → (b : Inside) (w : Built) → IsKept b → view_value b ≡ w → P w.open_levels → Known b w
 known P none b w kept e p =
-    let s = sound_where P none b.is_sound (standing b.core) (subst (λ (v : Built). P v.standing) (sym e) p) in
-    let is : standing b.core ≡ w.standing = sym (ap (λ t. if_sound t (standing b.core)) s) ∙ ap (λ (v : Built). v.standing) e in
+    let s = sound_where P none b.is_sound (open_levels b.core) (subst (λ (v : Built). P v.open_levels) (sym e) p) in
+    let is : open_levels b.core ≡ w.open_levels = sym (ap (λ t. if_sound t (open_levels b.core)) s) ∙ ap (λ (v : Built). v.open_levels) e in
     record {
       order = ap (λ (v : Built). v.order) e;
-      standing_is = is;
+      open_levels_is = is;
       laid = (kept s).0;
       nested = subst IsNested is (kept s).1;
     }
@@ -38,9 +38,9 @@ IsOpen [] = ⊥
 IsOpen (c ∷ os) = Unit {0}
 
 -- the bytes of an item that is whole
-pub whole_bytes : (b : Inside) (w : Built) (bs : List ℕ) → IsKept b → seen b ≡ w → w.standing ≡ plain bs ∷ [] → b.core.out.buf ≡ bs
+pub whole_bytes : (b : Inside) (w : Built) (bs : List ℕ) → IsKept b → view_value b ≡ w → w.open_levels ≡ plain bs ∷ [] → b.core.out.buf ≡ bs
 whole_bytes b w bs kept e p =
-    let k = known IsOpen (λ h. h) b w kept e (subst IsOpen (sym p) tt) in lies_finished b.core k.laid bs (k.standing_is ∙ p)
+    let k = known IsOpen (λ h. h) b w kept e (subst IsOpen (sym p) tt) in lies_finished b.core k.laid bs (k.open_levels_is ∙ p)
 
 -- ---- a map that does not end
 
@@ -48,30 +48,30 @@ different_repeats : (c : Open) → AreAllDifferent (keys_so_far c) → HasNoRepe
 different_repeats (a_map ps) d = different_distinct ps d
 different_repeats c d = tt
 
--- what is told of it
-pub told_there : {E : Type 0} (b : Inside) (w : Built) (n : Core) (distinct : Bool) (r : Option Repeat) (new : Built) (os : List Open) → IsKept b → seen b ≡ w → IsInContainer w.standing → IsLeftOpen b.core n
-    → distinct ≡ false → (IsTrue distinct ↔ HasNoRepeats (innermost b.core)) → ((came : List Span) → WasLaid came n → Tells (came_standing came n) r)
-    → new.order ≡ b.core.order → new.standing ≡ [] → LeavesIfDistinct {E = E} (Ok r) w new os
-told_there b w n distinct r new os kept is inside left e d tells order nothing =
+-- what is reported of it
+pub reported_there : {E : Type 0} (b : Inside) (w : Built) (n : Core) (distinct : Bool) (r : Option Repeat) (new : Built) (os : List Open) → IsKept b → view_value b ≡ w → IsInContainer w.open_levels → IsLeftOpen b.core n
+    → distinct ≡ false → (IsTrue distinct ↔ HasNoRepeats (innermost b.core)) → ((came : List Span) → WasLaid came n → Reports (came_open_levels came n) r)
+    → new.order ≡ b.core.order → new.open_levels ≡ [] → LeavesIfDistinct {E = E} (Ok r) w new os
+reported_there b w n distinct r new os kept is inside left e d reports order nothing =
     let k = known IsInContainer (λ h. h) b w kept is inside in
-    let t = subst (λ (os : List Open). (IsNone r → ⊥) × (HasDistinctKeysSoFar os → ⊥) × IfSome r (λ (t : Repeat). IsRepeatTold os t.outside t.pair)) k.standing_is
-    (by_result r (subst (λ (os : List Open). Tells os r) left.1 (tells b.core.spans.items left.0))) in
+    let t = subst (λ (os : List Open). (IsNone r → ⊥) × (HasDistinctKeysSoFar os → ⊥) × IfSome r (λ (t : Repeat). IsRepeatReported os t.outside t.pair)) k.open_levels_is
+    (by_result r (subst (λ (os : List Open). Reports os r) left.1 (reports b.core.spans.items left.0))) in
     record {
       order = order ∙ k.order;
       distinct = ((λ none. absurd (t.0 none)), (λ h. absurd (t.1 h)));
       ended = λ none. absurd (t.0 none);
-      told = t.2;
+      reported = t.2;
       left = always r;
       refused = tt;
     }
   where
-    always : (r : Option Repeat) → IfSome r (λ _. new.standing ≡ [])
+    always : (r : Option Repeat) → IfSome r (λ _. new.open_levels ≡ [])
     always None = tt
     always (Some t) = nothing
 
     not_distinct : HasNoRepeats (innermost b.core) → ⊥
     not_distinct h = true≢false (sym (d.1 h) ∙ e)
 
-    by_result : (r : Option Repeat) → Tells (standing b.core) r → (IsNone r → ⊥) × (HasNoRepeats (innermost b.core) → ⊥) × IfSome r (λ (t : Repeat). IsRepeatTold (standing b.core) t.outside t.pair)
+    by_result : (r : Option Repeat) → Reports (open_levels b.core) r → (IsNone r → ⊥) × (HasNoRepeats (innermost b.core) → ⊥) × IfSome r (λ (t : Repeat). IsRepeatReported (open_levels b.core) t.outside t.pair)
     by_result None t = absurd (not_distinct (different_repeats (innermost b.core) t.0))
     by_result (Some u) t = ((λ n. cc), not_distinct, t)

@@ -4,12 +4,12 @@ use Rattle.std.specs.List.{count_by}
 use mir.Val.{bool_byte}
 use Rattle.std.proofs.lemmas.List.Sorted.{IsPermutation-sym, IsPermutation-trans, sum_by-IsPermutation}
 use Rattle.std.proofs.lemmas.{Bool.cases_lt, Bool.cases_eq, List.get_or-map, List.length-map, List.Sums.sum_by-cons}
-use Rattle.cbor_canonical.proofs.Members.{all_at, all_from}
-use Rattle.cbor_buffer.specs.Spans.{no_span, IsWithin, AreWithin}
-use Rattle.cbor_buffer.specs.declared.span.Span.{Span}
+use Rattle.cbor_model.proofs.Members.{all_at, all_from}
+use Rattle.cbor_output.specs.Spans.{no_span, IsWithin, AreWithin}
+use Rattle.cbor_output.specs.declared.span.Span.{Span}
 use Rattle.cbor_builder.specs.Built.{IsRepeatAt, AreAllDifferent, IsFirstRepeat}
 use Rattle.cbor_builder.specs.inner.Repeats.{nth, place, lies_before, HasPlace, ArePlaced, AreOf, HasTie, IsFirstTie}
-use Rattle.cbor_builder.{specs.inner.Front.key_of, specs.inner.Laid.Tile, specs.declared.repeats.Tie.Tie, proofs.Growth.tile_within, proofs.Ranks.all_permuted}
+use Rattle.cbor_builder.{specs.inner.Prefix.key_of, specs.inner.Laid.Tile, specs.declared.repeats.Tie.Tie, proofs.Growth.tile_within, proofs.Ranks.all_permuted}
 use Rattle.cbor_builder.proofs.Ties.{tie_permuted, first_same}
 
 -- ---- the places of pairs one behind the other
@@ -138,7 +138,7 @@ bit_most false = omega arith
 
 -- their places fit a word
 pub placed : (out : List ℕ) (xs ys zs : List Span) → length out < 2 ^ 63 → AreOf out xs ys → IsPermutation ys zs → ArePlaced zs
-placed out xs ys zs short (start, end, tile, ends, fronted, moved) m = all_from HasPlace zs (λ s i. fits s (all_at (IsWithin out) zs s within i))
+placed out xs ys zs short (start, end, tile, ends, prefixed, moved) m = all_from HasPlace zs (λ s i. fits s (all_at (IsWithin out) zs s within i))
   where
     within : AreWithin out zs
     within = all_permuted _ ys zs m (all_permuted _ xs ys moved (tile_within out start xs end tile ends))
@@ -151,11 +151,11 @@ tie_back out xs ys zs r of m h =
     let there = IsPermutation-trans xs ys zs of.5 m in
     first_same out zs xs (length zs) (length xs) r (λ earlier later. tie_permuted out zs xs earlier later (IsPermutation-sym xs zs there)) (λ earlier later. tie_permuted out xs zs earlier later there) h
 
-pub none_told : (out : List ℕ) (xs ys zs : List Span) → AreOf out xs ys → IsPermutation ys zs → IsFirstTie out zs (length zs) None → AreAllDifferent (map (key_of out) xs)
-none_told out xs ys zs of m h i r = tie_back out xs ys zs None of m h _ _ (repeat_ties out xs (tile_rises out of.0 of.1 xs of.2) i r).3
+pub none_reported : (out : List ℕ) (xs ys zs : List Span) → AreOf out xs ys → IsPermutation ys zs → IsFirstTie out zs (length zs) None → AreAllDifferent (map (key_of out) xs)
+none_reported out xs ys zs of m h i r = tie_back out xs ys zs None of m h _ _ (repeat_ties out xs (tile_rises out of.0 of.1 xs of.2) i r).3
 
-pub one_told : (out : List ℕ) (xs ys zs : List Span) (t : Tie) (n twin : ℕ) → AreOf out xs ys → IsPermutation ys zs → IsFirstTie out zs (length zs) (Some t) → n ≡ count_by (lies_before t.later) zs
+pub one_reported : (out : List ℕ) (xs ys zs : List Span) (t : Tie) (n twin : ℕ) → AreOf out xs ys → IsPermutation ys zs → IsFirstTie out zs (length zs) (Some t) → n ≡ count_by (lies_before t.later) zs
     → twin ≡ bool_byte (t.earlier == t.later) → IsFirstRepeat (map (key_of out) xs) (n + twin)
-one_told out xs ys zs t n twin of m h e et =
+one_reported out xs ys zs t n twin of m h e et =
     let same = sum_by-IsPermutation (λ s. cond (lies_before t.later s) 1 0) xs zs (IsPermutation-trans xs ys zs of.5 m) in
     subst (λ k. IsFirstRepeat (map (key_of out) xs) (n + k)) (sym et) (one_found out xs (tile_rises out of.0 of.1 xs of.2) t n (tie_back out xs ys zs (Some t) of m h) (e ∙ same))

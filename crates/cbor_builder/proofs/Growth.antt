@@ -4,14 +4,13 @@ use Rattle.std.proofs.lemmas.List.{take-append-le, drop-append-le, drop_all, map
 use Rattle.std.proofs.Math.Seq.{drop-append_seam}
 use Rattle.cbor_head.specs.declared.major.Major.TheVariants as of_major
 use Rattle.cbor_head.specs.{declared.major.Major.Major, Prelude.in_order, Prelude.shortest_head, declared.order.KeyOrder.KeyOrder}
-use Rattle.cbor_canonical.specs.Parts.{plain, an_array, a_map, a_key, a_string, pair, with_member, with_content, give, opened, extended, close, closed}
-use Rattle.cbor_canonical.specs.Pairs.{IsRising, pair_bytes}
-use Rattle.cbor_keys.specs.Front.{front_of}
-use Rattle.cbor_buffer.{proofs.Written.take_front, proofs.Written.drop_front, specs.Spans.span_pair, specs.Spans.AreWithin, specs.declared.span.Span.Span}
-use Rattle.cbor_buffer.proofs.Slices.{slice_all, slice_front}
+use Rattle.cbor_model.specs.Parts.{plain, an_array, a_map, a_key, a_string, pair, with_member, with_content, give, opened, extended, close, closed}
+use Rattle.cbor_model.specs.{Pairs.IsRising, Pairs.pair_bytes, KeyPrefix.prefix_of}
+use Rattle.cbor_output.{proofs.Written.take_prefix, proofs.Written.drop_prefix, specs.Spans.span_pair, specs.Spans.AreWithin, specs.declared.span.Span.Span}
+use Rattle.cbor_output.proofs.Slices.{slice_all, slice_prefix}
 use Rattle.cbor_builder.specs.inner.Laid.{pairs_from, Tile, shape_open, outer_spans, opens, Fits, Laid, Takes, IsString, IsReady, shape_after, span, spans_after, KeepsRising, Stands, Completed, opening_frame}
 use Rattle.cbor_builder.specs.declared.frame.Shape.TheVariants.{Plain, Array, Map, Key, Content}
-use Rattle.cbor_builder.specs.{inner.Front.AreFronted, declared.frame.Frame.Frame, declared.frame.Shape.Shape}
+use Rattle.cbor_builder.specs.{inner.Prefix.ArePrefixed, declared.frame.Frame.Frame, declared.frame.Shape.Shape}
 
 pub tile_le : (a : ℕ) (ss : List Span) (n : ℕ) → Tile a ss n → a ≤ n
 tile_le a [] n t = omega (arith, t)
@@ -26,8 +25,8 @@ pub pairs_stay : (out b : List ℕ) (a : ℕ) (ss : List Span) (n : ℕ) → Til
 pairs_stay out b a [] n t l = refl
 pairs_stay out b a (s ∷ ss) n t l =
     let r = tile_le s.end ss n t.3 in
-    let k = slice_front out b s.key s.val t.1 (omega (arith, t.2, r, l)) in
-    let c = slice_front out b s.val s.end t.2 (omega (arith, r, l)) in
+    let k = slice_prefix out b s.key s.val t.1 (omega (arith, t.2, r, l)) in
+    let c = slice_prefix out b s.val s.end t.2 (omega (arith, r, l)) in
     let rest = pairs_stay out b s.end ss n t.3 l in
     λ i. record { key = k i; value = c i } ∷ rest i
 
@@ -35,15 +34,15 @@ pub tile_more : (out : List ℕ) (a : ℕ) (ss : List Span) (key val : ℕ) → 
 tile_more out a [] key val t h g = (sym t, h, g, refl)
 tile_more out a (s ∷ ss) key val t h g = (t.0, t.1, t.2, tile_more out s.end ss key val t.3 h g)
 
--- fronts stay right
-pub fronted_stay : (out b : List ℕ) (a : ℕ) (ss : List Span) (n : ℕ) → Tile a ss n → n ≤ length out → AreFronted out ss → AreFronted (out ++ b) ss
-fronted_stay out b a [] n t l h = tt
-fronted_stay out b a (s ∷ ss) n t l h =
-    (h.0 ∙ ap front_of (sym (slice_front out b s.key s.val t.1 (omega (arith, t.2, tile_le s.end ss n t.3, l)))), fronted_stay out b s.end ss n t.3 l h.1)
+-- prefixes stay right
+pub prefixed_stay : (out b : List ℕ) (a : ℕ) (ss : List Span) (n : ℕ) → Tile a ss n → n ≤ length out → ArePrefixed out ss → ArePrefixed (out ++ b) ss
+prefixed_stay out b a [] n t l h = tt
+prefixed_stay out b a (s ∷ ss) n t l h =
+    (h.0 ∙ ap prefix_of (sym (slice_prefix out b s.key s.val t.1 (omega (arith, t.2, tile_le s.end ss n t.3, l)))), prefixed_stay out b s.end ss n t.3 l h.1)
 
-pub fronted_more : (out : List ℕ) (ss : List Span) (key val : ℕ) → AreFronted out ss → AreFronted out (ss ++ span out key val ∷ [])
-fronted_more out [] key val h = (refl, tt)
-fronted_more out (s ∷ ss) key val h = (h.0, fronted_more out ss key val h.1)
+pub prefixed_more : (out : List ℕ) (ss : List Span) (key val : ℕ) → ArePrefixed out ss → ArePrefixed out (ss ++ span out key val ∷ [])
+prefixed_more out [] key val h = (refl, tt)
+prefixed_more out (s ∷ ss) key val h = (h.0, prefixed_more out ss key val h.1)
 
 -- the parts up to an end, joined
 pub tile_joins : (out : List ℕ) (a : ℕ) (ss : List Span) (n : ℕ) → Tile a ss n → n ≡ length out → flat_map pair_bytes (map (span_pair out) ss) ≡ drop a out
@@ -87,8 +86,8 @@ given o out b ss f fs out' ss' f' laid takes e c =
     by_shape (Map first) fits outer takes keeps =
         let n = length-append out b in
         let stay = pairs_stay out b f.start (drop first ss) (length out) fits.1 (omega arith) in
-        let fronts = fronted_stay out b f.start (drop first ss) (length out) fits.1 (omega arith) fits.3 in (
-          (laid.0, start, (fits.0, fits.1, omega (arith, n), (λ r. subst (IsRising o) (sym stay) (fits.2 (sym keeps ∙ r))), fronts), coe 1 0 (i. Laid o (t i) (take first ss) fs) outer),
+        let prefixes = prefixed_stay out b f.start (drop first ss) (length out) fits.1 (omega arith) fits.3 in (
+          (laid.0, start, (fits.0, fits.1, omega (arith, n), (λ r. subst (IsRising o) (sym stay) (fits.2 (sym keeps ∙ r))), prefixes), coe 1 0 (i. Laid o (t i) (take first ss) fs) outer),
           λ i. a_key (stay i) (drop-append_seam out b i) ∷ opens (t i) (take first ss) fs,
         )
     by_shape (Key first at) fits outer takes keeps =
@@ -98,7 +97,7 @@ given o out b ss f fs out' ss' f' laid takes e c =
         let ts : take first (ss ++ new ∷ []) ≡ take first ss = take-append-le first ss (new ∷ []) fits.0 in
         let ds : drop first (ss ++ new ∷ []) ≡ drop first ss ++ new ∷ [] = drop-append-le first ss (new ∷ []) fits.0 in
         let stay = pairs_stay out b f.start (drop first ss) at fits.1 fits.2 in
-        let key : slice_range (out ++ b) at val ≡ drop at out = slice_front out b at val fits.2 (omega arith) ∙ slice_all out at val refl in
+        let key : slice_range (out ++ b) at val ≡ drop at out = slice_prefix out b at val fits.2 (omega arith) ∙ slice_all out at val refl in
         let content : slice_range (out ++ b) val end ≡ b = slice_all (out ++ b) val end refl ∙ drop-append_seam out b in (
           (
             laid.0,
@@ -107,7 +106,7 @@ given o out b ss f fs out' ss' f' laid takes e c =
               omega (arith, length-append ss (new ∷ []), fits.0),
               coe 1 0 (i. Tile f.start (ds i) end) (tile_more (out ++ b) f.start (drop first ss) at val fits.1 fits.2 (omega (arith, length-append out b))),
               (λ r. coe 1 0 (i. IsRising o (map (span_pair (out ++ b)) (ds i))) ((keeps r).1 (subst (IsRising o) (sym stay) (fits.3 (keeps r).0)))),
-              coe 1 0 (i. AreFronted (out ++ b) (ds i)) (fronted_more (out ++ b) (drop first ss) at val (fronted_stay out b f.start (drop first ss) at fits.1 fits.2 fits.4)),
+              coe 1 0 (i. ArePrefixed (out ++ b) (ds i)) (prefixed_more (out ++ b) (drop first ss) at val (prefixed_stay out b f.start (drop first ss) at fits.1 fits.2 fits.4)),
             ),
             coe 1 0 (i. Laid o (t i) (ts i) fs) outer,
           ),
@@ -125,7 +124,7 @@ key_ready o out b ss f fs bytes at laid eb ea first key e =
       fits.0,
       omega (arith, fits.2, ea),
       omega (arith, n, ea, ap length eb),
-      subst (λ (xs : List ℕ). AreFronted xs (drop first ss)) (sym eb) (fronted_stay out b f.start (drop first ss) key fits.1 fits.2 fits.4),
+      subst (λ (xs : List ℕ). ArePrefixed xs (drop first ss)) (sym eb) (prefixed_stay out b f.start (drop first ss) key fits.1 fits.2 fits.4),
     )
 
 -- ---- more of a string
@@ -173,17 +172,17 @@ pub begun : (m : Major) (n from end : ℕ) (out out' : List ℕ) (ss : List Span
     → opens out' ss (opening_frame m from end (length ss) ∷ fs) ≡ opened m n ∷ opens out ss fs
 begun m n from end out out' ss fs ef ee eo = by_major m (ap (drop from) eo ∙ ap (λ (k : ℕ). drop k (out ++ shortest_head m n)) ef ∙ drop-append_seam out (shortest_head m n))
   where
-    front : take from out' ≡ out
-    front = ap (take from) eo ∙ take-append-le from out (shortest_head m n) (omega (arith, ef)) ∙ take_all from out (omega (arith, ef))
+    prefix : take from out' ≡ out
+    prefix = ap (take from) eo ∙ take-append-le from out (shortest_head m n) (omega (arith, ef)) ∙ take_all from out (omega (arith, ef))
 
     no_bytes : drop end out' ≡ []
     no_bytes = drop_all end out' (omega (arith, ee))
 
     by_major : (k : Major) → drop from out' ≡ shortest_head k n → opens out' ss (opening_frame k from end (length ss) ∷ fs) ≡ opened k n ∷ opens out ss fs
-    by_major of_major.Array h = λ i. an_array 0 (no_bytes i) ∷ opens (front i) ss fs
-    by_major of_major.Map h = λ i. a_map (map (span_pair out') (drop_all (length ss) ss (omega arith) i)) ∷ opens (front i) (take_all (length ss) ss (omega arith) i) fs
-    by_major of_major.Tag h = λ i. plain (h i) ∷ opens (front i) ss fs
-    by_major k h = λ i. a_string k (no_bytes i) ∷ opens (front i) ss fs
+    by_major of_major.Array h = λ i. an_array 0 (no_bytes i) ∷ opens (prefix i) ss fs
+    by_major of_major.Map h = λ i. a_map (map (span_pair out') (drop_all (length ss) ss (omega arith) i)) ∷ opens (prefix i) (take_all (length ss) ss (omega arith) i) fs
+    by_major of_major.Tag h = λ i. plain (h i) ∷ opens (prefix i) ss fs
+    by_major k h = λ i. a_string k (no_bytes i) ∷ opens (prefix i) ss fs
 
 -- ---- the bytes of a map that closes
 
@@ -196,6 +195,6 @@ pub map_sorted : (o : KeyOrder) (out : List ℕ) (ss : List Span) (from start fi
 map_sorted o out ss from start first n mid new h g e em en =
     let x = flat_map pair_bytes (in_order o (pairs_from out ss first)) in
     let c = count out ss first n e in
-    let a = ap (take from) em ∙ take_front from start out x h g in
-    let b = ap (drop start) em ∙ drop_front start out x g in
+    let a = ap (take from) em ∙ take_prefix from start out x h g in
+    let b = ap (drop start) em ∙ drop_prefix start out x g in
     en ∙ (λ i. a i ++ (shortest_head of_major.Map (c i) ++ b i))

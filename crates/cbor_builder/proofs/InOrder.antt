@@ -2,9 +2,9 @@
 use Rattle.std.proofs.Common.{◌≡◌, ◌↔◌, IsPermutation, ℕ, ◌≤◌, Bool, List, [], ◌∷◌, ◌++◌, length, take, drop, take-append-drop, map, refl, sym, ap, ◌∙◌, subst, arith, IsTrue, flat_map}
 use Rattle.std.proofs.lemmas.List.Sorted.{IsPermutation-map}
 use Rattle.cbor_head.specs.{Prelude.in_order, declared.order.KeyOrder.KeyOrder}
-use Rattle.cbor_canonical.specs.Pairs.{IsRising, HasDistinctBytes, pair_bytes}
-use Rattle.cbor_canonical.proofs.Sorting.{in_order-rising}
-use Rattle.cbor_buffer.specs.{Spans.span_pair, Spans.AreBehind, declared.span.Span.Span}
+use Rattle.cbor_model.specs.Pairs.{IsRising, HasDistinctBytes, pair_bytes}
+use Rattle.cbor_model.proofs.Sorting.{in_order-rising}
+use Rattle.cbor_output.specs.{Spans.span_pair, Spans.AreBehind, declared.span.Span.Span}
 use Rattle.cbor_builder.proofs.InPlace.{keys_flip, own_same, rising_keys}
 use Rattle.cbor_builder.{specs.inner.Laid.pairs_from, specs.inner.Laid.Tile, specs.inner.InPlace.AreSameKeys, proofs.Growth.tile_joins}
 use Rattle.cbor_builder.proofs.{Neighbours.rising_is_in_order, KeysSoFar.distinct_different, KeysSoFar.different_distinct}

@@ -3,15 +3,14 @@ use Rattle.std.proofs.Common.{◌≡◌, ◌↔◌, ℕ, ◌+◌, ◌≤◌, Boo
 use Rattle.std.proofs.lemmas.List.{take-append-le, drop-append-le, nil_from_length}
 use Rattle.std.{specs.List.AllByRecursion, proofs.Math.Seq.drop-append_seam}
 use Rattle.cbor_head.specs.{Prelude.Pair, Prelude.key_lt, declared.order.KeyOrder.KeyOrder}
-use Rattle.cbor_canonical.specs.{Pairs.IsRising, Parts.Open}
-use Rattle.cbor_keys.specs.Front.{front_of}
-use Rattle.cbor_buffer.{specs.Spans.span_pair, specs.declared.span.Span.Span, proofs.Slices.slice_front, proofs.Slices.slice_all}
-use Rattle.cbor_builder.specs.Built.{HasKey, IsRepeatedKey, IsWaitingKey, keys_so_far, open_maps, AreOpenKeysDifferent, IsRepeatTold, AreAllDifferent, IsFirstRepeat}
+use Rattle.cbor_model.specs.{Pairs.IsRising, Parts.Open, KeyPrefix.prefix_of}
+use Rattle.cbor_output.{specs.Spans.span_pair, specs.declared.span.Span.Span, proofs.Slices.slice_prefix, proofs.Slices.slice_all}
+use Rattle.cbor_builder.specs.Built.{HasKey, IsRepeatedKey, IsWaitingKey, keys_so_far, open_maps, AreOpenKeysDifferent, IsRepeatReported, AreAllDifferent, IsFirstRepeat}
 use Rattle.cbor_builder.specs.inner.Laid.{Tile, shape_open, outer_spans, opens, Fits, Laid, Takes, IsString, IsReady, shape_after, span, spans_after, KeepsRising, Completed}
 use Rattle.cbor_builder.specs.inner.InPlace.{IsSameKey, AreSameKeys, HasSameKeys, Agrees, WaitsSame}
 use Rattle.cbor_builder.specs.declared.frame.Shape.TheVariants.{Map, Key, Content}
-use Rattle.cbor_builder.specs.{inner.Front.key_of, inner.Front.AreFronted, inner.Repeats.TellsWithin, declared.frame.Frame.Frame, declared.frame.Shape.Shape}
-use Rattle.cbor_builder.{specs.declared.repeat.Repeat.Repeat, proofs.Growth.tile_le, proofs.OpenRepeats.maps_same}
+use Rattle.cbor_builder.specs.{inner.Prefix.key_of, inner.Prefix.ArePrefixed, inner.Repeats.ReportsWithin, declared.frame.Frame.Frame}
+use Rattle.cbor_builder.{specs.declared.frame.Shape.Shape, specs.declared.repeat.Repeat.Repeat, proofs.Growth.tile_le, proofs.OpenRepeats.maps_same}
 
 -- ---- where all lies as it is meant
 
@@ -61,9 +60,9 @@ rising_keys o raw out (s ∷ ss) h r = (each ss h.1 r.0, rising_keys o raw out s
     each [] k a = tt
     each (t ∷ ts) k a = (subst (λ (x : List ℕ). IsTrue (key_lt o (key_of out s) x)) k.0 (subst (λ (x : List ℕ). IsTrue (key_lt o x (key_of raw t))) h.0 a.0), each ts k.1 a.1)
 
-pub fronted_keys : (raw out : List ℕ) (ss : List Span) → AreSameKeys raw out ss → AreFronted out ss → AreFronted raw ss
-fronted_keys raw out [] h f = tt
-fronted_keys raw out (s ∷ ss) h f = (f.0 ∙ ap front_of (sym h.0), fronted_keys raw out ss h.1 f.1)
+pub prefixed_keys : (raw out : List ℕ) (ss : List Span) → AreSameKeys raw out ss → ArePrefixed out ss → ArePrefixed raw ss
+prefixed_keys raw out [] h f = tt
+prefixed_keys raw out (s ∷ ss) h f = (f.0 ∙ ap prefix_of (sym h.0), prefixed_keys raw out ss h.1 f.1)
 
 pub has_keys : (raw out : List ℕ) (ss : List Span) (k l : List ℕ) → AreSameKeys raw out ss → k ≡ l → HasKey (map (span_pair raw) ss) k → HasKey (map (span_pair out) ss) l
 has_keys raw out [] k l h e n = n
@@ -84,10 +83,10 @@ open_keys raw out ss start s h = refl
 fits_raw : (o : KeyOrder) (raw out : List ℕ) (ss : List Span) (from start : ℕ) (rises : Bool) (s : Shape) → length raw ≡ length out → HasSameKeys raw out ss s → Fits o out ss from start rises s → Fits o raw ss from start rises s
 fits_raw o raw out ss from start rises (Map first) l h f =
     let back = keys_flip raw out (drop first ss) h in
-    (f.0, subst (Tile start (drop first ss)) (sym l) f.1, (λ t. rising_keys o out raw (drop first ss) back (f.2 t)), fronted_keys raw out (drop first ss) h f.3)
+    (f.0, subst (Tile start (drop first ss)) (sym l) f.1, (λ t. rising_keys o out raw (drop first ss) back (f.2 t)), prefixed_keys raw out (drop first ss) h f.3)
 fits_raw o raw out ss from start rises (Key first at) l h f =
     let back = keys_flip raw out (drop first ss) h.0 in
-    (f.0, f.1, omega (arith, l, f.2), (λ t. rising_keys o out raw (drop first ss) back (f.3 t)), fronted_keys raw out (drop first ss) h.0 f.4)
+    (f.0, f.1, omega (arith, l, f.2), (λ t. rising_keys o out raw (drop first ss) back (f.3 t)), prefixed_keys raw out (drop first ss) h.0 f.4)
 fits_raw o raw out ss from start rises s l h f = f
 
 pub laid_raw : (o : KeyOrder) (raw out : List ℕ) (ss : List Span) (fs : List Frame) → length raw ≡ length out → Agrees raw out ss fs → Laid o out ss fs → Laid o raw ss fs
@@ -107,19 +106,19 @@ different_raw raw out ss (f ∷ fs) a d = (
   different_raw (take f.from raw) (take f.from out) (outer_spans ss f.shape) fs (outer_agrees raw out ss f fs a) d.1,
 )
 
-told_at : (raw out : List ℕ) (ss : List Span) (fs : List Frame) (outside pair : ℕ) → Agrees raw out ss fs → IsRepeatTold (opens raw ss fs) outside pair → IsRepeatTold (opens out ss fs) outside pair
-told_at raw out ss [] outside pair a t = t
-told_at raw out ss (f ∷ fs) outside pair a (inl t) = inl (told_at (take f.from raw) (take f.from out) (outer_spans ss f.shape) fs outside pair (outer_agrees raw out ss f fs a) t)
-told_at raw out ss (f ∷ fs) outside pair a (inr t) =
+reported_at : (raw out : List ℕ) (ss : List Span) (fs : List Frame) (outside pair : ℕ) → Agrees raw out ss fs → IsRepeatReported (opens raw ss fs) outside pair → IsRepeatReported (opens out ss fs) outside pair
+reported_at raw out ss [] outside pair a t = t
+reported_at raw out ss (f ∷ fs) outside pair a (inl t) = inl (reported_at (take f.from raw) (take f.from out) (outer_spans ss f.shape) fs outside pair (outer_agrees raw out ss f fs a) t)
+reported_at raw out ss (f ∷ fs) outside pair a (inr t) =
     inr (
       different_raw (take f.from raw) (take f.from out) (outer_spans ss f.shape) fs (outer_agrees raw out ss f fs a) t.0,
       t.1 ∙ maps_same (take f.from raw) (take f.from out) (outer_spans ss f.shape) fs,
       subst (λ (ks : List (List ℕ)). IsFirstRepeat ks pair) (open_keys raw out ss f.start f.shape (top_keys raw out ss f fs a)) t.2,
     )
 
-pub within_raw : (raw out : List ℕ) (ss : List Span) (fs : List Frame) (os : List Open) (found : Option Repeat) → Agrees raw out ss fs → TellsWithin (opens raw ss fs) os found → TellsWithin (opens out ss fs) os found
-within_raw raw out ss fs os None a h = ((λ x y t. told_at raw out ss fs x y a (h.0 x y t)), λ d. different_raw raw out ss fs a (h.1 d))
-within_raw raw out ss fs os (Some t) a h = ((λ x y t. told_at raw out ss fs x y a (h.0 x y t)), λ d. told_at raw out ss fs (t.outside + open_maps os) t.pair a (h.1 d))
+pub within_raw : (raw out : List ℕ) (ss : List Span) (fs : List Frame) (os : List Open) (found : Option Repeat) → Agrees raw out ss fs → ReportsWithin (opens raw ss fs) os found → ReportsWithin (opens out ss fs) os found
+within_raw raw out ss fs os None a h = ((λ x y t. reported_at raw out ss fs x y a (h.0 x y t)), λ d. different_raw raw out ss fs a (h.1 d))
+within_raw raw out ss fs os (Some t) a h = ((λ x y t. reported_at raw out ss fs x y a (h.0 x y t)), λ d. reported_at raw out ss fs (t.outside + open_maps os) t.pair a (h.1 d))
 
 -- ---- one more member
 
@@ -127,11 +126,11 @@ pub keys_stay : (raw out x y : List ℕ) (a : ℕ) (ss : List Span) (n : ℕ) �
 keys_stay raw out x y a [] n t l m h = tt
 keys_stay raw out x y a (s ∷ ss) n t l m h =
     let r = tile_le s.end ss n t.3 in
-    (slice_front raw x s.key s.val t.1 (omega (arith, t.2, r, l)) ∙ h.0 ∙ sym (slice_front out y s.key s.val t.1 (omega (arith, t.2, r, m))), keys_stay raw out x y s.end ss n t.3 l m h.1)
+    (slice_prefix raw x s.key s.val t.1 (omega (arith, t.2, r, l)) ∙ h.0 ∙ sym (slice_prefix out y s.key s.val t.1 (omega (arith, t.2, r, m))), keys_stay raw out x y s.end ss n t.3 l m h.1)
 
 last_stays : (raw out x y : List ℕ) (at : ℕ) → length raw ≡ length out → at ≤ length out → drop at raw ≡ drop at out → slice_range (raw ++ x) at (length out) ≡ slice_range (out ++ y) at (length out)
 last_stays raw out x y at l h e =
-    slice_front raw x at (length out) h (omega (arith, l)) ∙ slice_all raw at (length out) l ∙ e ∙ sym (slice_front out y at (length out) h (omega arith) ∙ slice_all out at (length out) refl)
+    slice_prefix raw x at (length out) h (omega (arith, l)) ∙ slice_all raw at (length out) l ∙ e ∙ sym (slice_prefix out y at (length out) h (omega arith) ∙ slice_all out at (length out) refl)
 
 -- the key that waits, and those before it, when its value stands behind it
 pub waits_stay : (o : KeyOrder) (raw out x y : List ℕ) (ss : List Span) (f : Frame) (fs : List Frame) → length raw ≡ length out → Laid o out ss (f ∷ fs) → Agrees raw out ss (f ∷ fs)
@@ -154,7 +153,7 @@ completed_same o raw out ss at f ss' f' l w c =
     by_shape (Key first key) w =
         let old = drop first ss in
         let q = w.1 in
-        let new : span raw key at ≡ span out key at = λ i. record { front = front_of (q i); key = key; val = at; end = l i } in (
+        let new : span raw key at ≡ span out key at = λ i. record { prefix = prefix_of (q i); key = key; val = at; end = l i } in (
           (λ i. ss ++ new i ∷ []),
           λ k t. (
             (k t).0,
@@ -169,7 +168,7 @@ pub ready_same : (raw out : List ℕ) (ss : List Span) (at : ℕ) (s : Shape) �
 ready_same raw out ss at s l w h first key e =
     let k = subst (WaitsSame raw out ss at) e w in
     let r = h first key e in
-    (r.0, r.1, omega (arith, l, r.2), fronted_keys raw out (drop first ss) k.0 r.3)
+    (r.0, r.1, omega (arith, l, r.2), prefixed_keys raw out (drop first ss) k.0 r.3)
 
 pub agrees_by : (o : KeyOrder) (raw out x y : List ℕ) (ss : List Span) (f : Frame) (fs : List Frame) (raw' out' : List ℕ) (at : ℕ) (ss' : List Span) (f' : Frame)
     → Laid o out ss (f ∷ fs) → length raw ≡ length out → Agrees raw out ss (f ∷ fs) → Takes f.shape → ((first : ℕ) → f.shape ≡ Map first → x ≡ y) → (fs ≡ [] → x ≡ y)

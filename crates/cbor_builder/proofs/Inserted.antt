@@ -7,9 +7,9 @@ use Rattle.std.{proofs.Math.Seq.take-append_seam, proofs.Math.Seq.drop-append_se
 use Rattle.std.specs.{declared.cmp.Ordering.TheVariants.Less, declared.cmp.Ordering.TheVariants.Greater, Ordering.is_lt, Ordering.ordering_reverse}
 use Rattle.cbor_head.specs.Prelude.{key_cmp, key_lt, AreBytes, Pair}
 use Rattle.cbor_head.specs.declared.order.KeyOrder.{KeyOrder}
-use Rattle.cbor_canonical.{specs.Pairs.HasDistinctBytes, specs.Pairs.IsRising, proofs.Orders.key_cmp_total, proofs.Orders.lt_trans}
-use Rattle.cbor_buffer.{specs.Spans.span_pair, specs.Spans.no_span, specs.declared.span.Span.Span, proofs.ByIndex.all_index, proofs.ByIndex.at_read}
-use Rattle.cbor_builder.specs.inner.Front.{key_of, IsFronted, AreFronted, rank, ranked_by, in_front}
+use Rattle.cbor_model.{specs.Pairs.HasDistinctBytes, specs.Pairs.IsRising, proofs.Orders.key_cmp_total, proofs.Orders.lt_trans}
+use Rattle.cbor_output.{specs.Spans.span_pair, specs.Spans.no_span, specs.declared.span.Span.Span, proofs.ByIndex.all_index, proofs.ByIndex.at_read}
+use Rattle.cbor_builder.specs.inner.Prefix.{key_of, IsPrefixed, ArePrefixed, rank, ranked_by, at_start}
 use Rattle.cbor_builder.{specs.Built.HasKey, proofs.Ranks.agree_spans, proofs.KeysSoFar.distinct_permuted}
 
 -- ---- a list with one more at a place
@@ -34,18 +34,18 @@ doubled [] n s l e = absurd (omega (arith, l))
 doubled (x ∷ ss) zero s l e = let f : s ≡ x = e in ap (λ (t : Span). t ∷ s ∷ ss) (sym f) ∙ ap (λ (t : Span). s ∷ t ∷ ss) f
 doubled (x ∷ ss) (suc n) s l e = ap (λ (us : List Span). x ∷ us) (doubled ss n s (omega (arith, l)) e)
 
--- those in front of the last of the first ones
-pub in_front_taken : (n : ℕ) (us : List Span) → n < length us → in_front (take (n + 1) us) ≡ take n us
-in_front_taken n us l =
+-- those before the last of the first ones
+pub at_start_taken : (n : ℕ) (us : List Span) → n < length us → at_start (take (n + 1) us) ≡ take n us
+at_start_taken n us l =
     let len : length (take (n + 1) us) - 1 ≡ n = let t = length-take (n + 1) us in omega (arith, t, l) in
     ap (λ k. take k (take (n + 1) us)) len ∙ take-take n (n + 1) us (omega arith)
 
-pub taken_front : (n : ℕ) (us ts : List Span) → length us ≡ n → take n (us ++ ts) ≡ us
-taken_front n us ts e = ap (λ k. take k (us ++ ts)) (sym e) ∙ take-append_seam us ts
+pub taken_prefix : (n : ℕ) (us ts : List Span) → length us ≡ n → take n (us ++ ts) ≡ us
+taken_prefix n us ts e = ap (λ k. take k (us ++ ts)) (sym e) ∙ take-append_seam us ts
 
 -- what lies behind the first ones is as it was
-pub rest_front : (n : ℕ) (us ts : List Span) → length us ≡ n → drop n (us ++ ts) ≡ ts
-rest_front n us ts e = ap (λ k. drop k (us ++ ts)) (sym e) ∙ drop-append_seam us ts
+pub rest_prefix : (n : ℕ) (us ts : List Span) → length us ≡ n → drop n (us ++ ts) ≡ ts
+rest_prefix n us ts e = ap (λ k. drop k (us ++ ts)) (sym e) ∙ drop-append_seam us ts
 
 pub same_at : (n : ℕ) (ss us : List Span) (d : Span) → drop n ss ≡ drop n us → get_or ss n d ≡ get_or us n d
 same_at n ss us d e =
@@ -116,15 +116,15 @@ above_last o out ss n last next q e l r =
     subst (λ (us : List Span). IsRising o (map (span_pair out) us)) (insert_end ss next)
     (inserted_rises o out next ss m r (below_all o out next ss m n last q (omega (arith, q)) e l r) (subst (AreAbove o out next) (sym (drop_all m ss (omega arith))) tt))
 
--- ---- what a comparison tells
+-- ---- what a comparison reports
 
--- of the one in front of the free place, and the next: and the free place can move one to the front
-pub met : (o : KeyOrder) (out : List ℕ) (ss us : List Span) (at n : ℕ) (h s next : Span) (r : Ordering) → AreBytes out → AreFronted out ss → IsFronted out next → suc n ≡ at → at ≤ length ss → us ≡ insert ss at h
+-- of the one before the free place, and the next: and the free place can move one to the prefix
+pub visited : (o : KeyOrder) (out : List ℕ) (ss us : List Span) (at n : ℕ) (h s next : Span) (r : Ordering) → AreBytes out → ArePrefixed out ss → IsPrefixed out next → suc n ≡ at → at ≤ length ss → us ≡ insert ss at h
     → s ≡ get_or us n no_span → r ≡ rank o (ranked_by out s) (ranked_by out next) → (s ≡ get_or ss n s) × (r ≡ key_cmp o (key_of out s) (key_of out next)) × (set us at s ≡ insert ss n s)
-met o out ss us at n h s next r b f g q l e is k =
+visited o out ss us at n h s next r b f g q l e is k =
     let size = length-insert ss at h l in
     let same : s ≡ get_or ss n s = is ∙ get_or_default us n no_span s (omega (arith, ap length e, size, q, l)) ∙ ap (λ (ts : List Span). get_or ts n s) e ∙ get_or-insert_below ss at h s n (omega (arith, q)) (omega (arith, l, q)) in
-    (same, k ∙ agree_spans o out s next b (subst (IsFronted out) (sym same) (all_index _ ss n s f (omega (arith, l, q)))) g, set_free ss us at h s e l ∙ ap (λ k. insert ss k s) (sym q) ∙ doubled ss n s (omega (arith, l, q)) same)
+    (same, k ∙ agree_spans o out s next b (subst (IsPrefixed out) (sym same) (all_index _ ss n s f (omega (arith, l, q)))) g, set_free ss us at h s e l ∙ ap (λ k. insert ss k s) (sym q) ∙ doubled ss n s (omega (arith, l, q)) same)
 
 pub less_key : (o : KeyOrder) (k l : List ℕ) → Less ≡ key_cmp o k l → IsTrue (key_lt o k l)
 less_key o k l e = sym (ap is_lt e)

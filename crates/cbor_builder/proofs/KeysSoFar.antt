@@ -3,7 +3,7 @@ use Rattle.std.proofs.Common.{◌≡◌, ◌≢◌, ℕ, zero, suc, ◌<◌, Lis
 use Rattle.std.{specs.List.AllByRecursion, proofs.lemmas.Bool.cases_lt, proofs.Math.ListN.get_or-append, proofs.Math.Seq.get_or-append_seam}
 use Rattle.std.proofs.lemmas.List.Sorted.{IsPermutation-sym, IsPermutation-map}
 use Rattle.cbor_head.specs.Prelude.{Pair}
-use Rattle.cbor_canonical.{specs.Pairs.HasDistinctBytes, proofs.Members.In, proofs.Members.all_from}
+use Rattle.cbor_model.{specs.Pairs.HasDistinctBytes, proofs.Members.In, proofs.Members.all_from}
 use Rattle.cbor_builder.specs.Built.{HasKey, IsRepeatAt, AreAllDifferent, IsFirstRepeat}
 use Rattle.cbor_builder.proofs.{Neighbours.keys, Ties.two_permuted}
 

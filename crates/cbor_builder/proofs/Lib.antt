@@ -12,5 +12,5 @@ pub mod OpenRepeats
 pub mod PartsMade
 pub mod Ranks
 pub mod Reordered
-pub mod Standing
+pub mod OpenMembers
 pub mod Ties

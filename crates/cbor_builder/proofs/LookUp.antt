@@ -4,17 +4,17 @@ use Rattle.std.{specs.List.AllByRecursion, specs.Ordering.is_eq, specs.declared.
 use Rattle.std.proofs.lemmas.List.{drop_all, get_or_default}
 use Rattle.cbor_head.specs.Prelude.{key_cmp, key_lt, Value, Entries, HasEntry, Same, AreBytes, AreEntriesInRange, IsInRange, IsValid, Pair, canonical, canonical_entries}
 use Rattle.cbor_head.specs.{Value.no_entries, Value.entry, declared.order.KeyOrder.KeyOrder}
-use Rattle.cbor_canonical.{specs.Pairs.IsRising, specs.Pairs.AreKeysValid, proofs.Keys.same_exactly, proofs.Orders.key_cmp_total, proofs.Orders.lt_irrefl}
-use Rattle.cbor_canonical.proofs.Sound.{IsSound, sound}
-use Rattle.cbor_buffer.{specs.Spans.span_pair, specs.declared.span.Span.Span, proofs.ByIndex.at_read, proofs.ByIndex.all_index}
-use Rattle.cbor_builder.specs.inner.Front.{key_of, IsFronted, AreFronted, rank, ranked_by}
+use Rattle.cbor_model.{specs.Pairs.IsRising, specs.Pairs.AreKeysValid, proofs.Keys.same_exactly, proofs.Orders.key_cmp_total, proofs.Orders.lt_irrefl}
+use Rattle.cbor_model.proofs.Sound.{IsSound, sound}
+use Rattle.cbor_output.{specs.Spans.span_pair, specs.declared.span.Span.Span, proofs.ByIndex.at_read, proofs.ByIndex.all_index}
+use Rattle.cbor_builder.specs.inner.Prefix.{key_of, IsPrefixed, ArePrefixed, rank, ranked_by}
 use Rattle.cbor_builder.{specs.Built.HasKey, specs.Built.HasSameKey, proofs.Ranks.agree_spans, proofs.Ranks.equal_keys}
 
 key_at : (f : Span → Pair) (ks : List Span) (i : ℕ) (x : Span) (k : List ℕ) → i < length ks → x ≡ get_or ks i x
     → HasKey (map f (drop i ks)) k ↔ (((f x).key ≡ k) ⊎ HasKey (map f (drop (i + 1) ks)) k)
 key_at f ks i x k l e = subst (λ us. HasKey (map f us) k ↔ (((f x).key ≡ k) ⊎ HasKey (map f (drop (i + 1) ks)) k)) (sym (at_read ks i x l e)) ((λ h. h), (λ h. h))
 
-pub key_step : (o : KeyOrder) (out : List ℕ) (ks : List Span) (i : ℕ) (d y : Span) (r : Ordering) → AreBytes out → AreFronted out ks → IsFronted out y → i < length ks
+pub key_step : (o : KeyOrder) (out : List ℕ) (ks : List Span) (i : ℕ) (d y : Span) (r : Ordering) → AreBytes out → ArePrefixed out ks → IsPrefixed out y → i < length ks
     → r ≡ rank o (ranked_by out (get_or ks i d)) (ranked_by out y)
     → HasKey (map (span_pair out) (drop i ks)) (key_of out y) ↔ (IsTrue (is_eq r) ⊎ HasKey (map (span_pair out) (drop (i + 1) ks)) (key_of out y))
 key_step o out ks i d y r b fr fy l h0 =

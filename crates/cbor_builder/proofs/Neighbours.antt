@@ -4,11 +4,11 @@ use Rattle.std.specs.{Ordering.is_eq, declared.cmp.Ordering.Ordering, declared.c
 use Rattle.std.proofs.lemmas.List.Sorted.{IsPermutation-sym, Contains-permutation}
 use Rattle.cbor_head.specs.Prelude.{key_lt, Pair, in_order}
 use Rattle.cbor_head.specs.declared.order.KeyOrder.{KeyOrder}
-use Rattle.cbor_canonical.proofs.Sorting.{rises_at, rising_cons, rising_unique, in_order_rising, in_order_in, in_in_order}
-use Rattle.cbor_canonical.{specs.Pairs.HasDistinctBytes, specs.Pairs.IsRising, proofs.Members.in_contains, proofs.Members.contains_in}
-use Rattle.cbor_canonical.proofs.Orders.{lt_trans, lt_other}
-use Rattle.cbor_buffer.specs.{Spans.span_pair, declared.span.Span.Span}
-use Rattle.cbor_builder.specs.inner.{Front.key_of, Repeats.DoNeighboursDiffer}
+use Rattle.cbor_model.proofs.Sorting.{rises_at, rising_cons, rising_unique, in_order_rising, in_order_in, in_in_order}
+use Rattle.cbor_model.{specs.Pairs.HasDistinctBytes, specs.Pairs.IsRising, proofs.Members.in_contains, proofs.Members.contains_in}
+use Rattle.cbor_model.proofs.Orders.{lt_trans, lt_other}
+use Rattle.cbor_output.specs.{Spans.span_pair, declared.span.Span.Span}
+use Rattle.cbor_builder.specs.inner.{Prefix.key_of, Repeats.DoNeighboursDiffer}
 
 abbrev pub keys : List Pair → List (List ℕ)
 keys ps = map (λ (p : Pair). p.key) ps

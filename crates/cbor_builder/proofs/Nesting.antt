@@ -2,7 +2,7 @@
 use Rattle.std.proofs.Common.{◌≡◌, ◌^◌, ◌≤◌, ℕ, Bool, true, false, List, [], ◌∷◌, ◌++◌, length, length-append, refl, ap, ◌∙◌, subst, arith, if◌then◌else◌, IsTrue, reverse}
 use Rattle.std.proofs.lemmas.List.{length-reverse}
 use Rattle.cbor_head.specs.declared.order.KeyOrder.{KeyOrder}
-use Rattle.cbor_buffer.specs.declared.span.Span.{Span}
+use Rattle.cbor_output.specs.declared.span.Span.{Span}
 use Rattle.cbor_builder.specs.inner.Laid.{outermost, KeepsRising, OuterTakes, shape_after}
 use Rattle.cbor_builder.specs.{inner.BuilderState.outers, declared.builder.Core.Core, declared.frame.Frame.Frame}
 

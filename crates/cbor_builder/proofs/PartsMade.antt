@@ -4,9 +4,9 @@ use Rattle.cbor_head.specs.Value as value
 use Rattle.cbor_head.specs.Prelude.{Value, Values, Entries, values_count, Pair, in_order, canonical, canonical_all, canonical_entries, shortest_head}
 use Rattle.cbor_head.specs.declared.major.Major.TheVariants.{Bytes, Text, Array, Map, Tag}
 use Rattle.cbor_head.specs.declared.{order.KeyOrder.KeyOrder, major.Major.Major}
-use Rattle.cbor_canonical.proofs.Induction.{AllOf, AllIn, by_cases}
-use Rattle.cbor_canonical.specs.Parts.{Open, plain, an_array, a_map, a_key, a_string, pair, closed, give, opened, run, after, Part, begin, end, string_parts, chunks_joined, Makes, MakesAll, MakesEntries, MakesString}
-use Rattle.cbor_canonical.{proofs.Told.length-canonical_entries, specs.Pairs.pair_bytes}
+use Rattle.cbor_model.proofs.Induction.{AllOf, AllIn, by_cases}
+use Rattle.cbor_model.specs.Parts.{Open, plain, an_array, a_map, a_key, a_string, pair, closed, give, opened, run, after, Part, begin, end, string_parts, chunks_joined, Makes, MakesAll, MakesEntries, MakesString}
+use Rattle.cbor_model.{proofs.Reported.length-canonical_entries, specs.Pairs.pair_bytes}
 
 pub run-append : (o : KeyOrder) (ps qs : List Part) (os : List Open) → run o (ps ++ qs) os ≡ run o qs (run o ps os)
 run-append o [] qs os = refl

@@ -1,4 +1,4 @@
--- Spans ranked by the fronts of their keys.
+-- Spans ranked by the prefixes of their keys.
 use Rattle.std.proofs.Common.{◌≡◌, ◌≢◌, ℕ, ◌+◌, ◌<◌, List, length, get_or, true, false, true≢false, sym, ap, ◌∙◌, arith, Bool, Bor, IsPermutation, IsSortedBy}
 use Rattle.std.specs.Ordering.{nat_cmp, is_eq, is_lt, ordering_then}
 use Rattle.std.proofs.lemmas.List.Sorted.{ranks_by, IsPermutation-sym, Contains-permutation}
@@ -8,27 +8,27 @@ use Rattle.std.proofs.lemmas.{Fn.always_returns_same, List.get_or_default}
 use denote.Param.Members.{Mut}
 use Rattle.cbor_head.specs.Prelude.{key_cmp, key_lt, AreBytes}
 use Rattle.cbor_head.specs.declared.order.KeyOrder.{KeyOrder, TheVariants.Bytewise, TheVariants.LengthFirst}
-use Rattle.cbor_canonical.proofs.Members.{all_at, all_from, in_contains, contains_in}
-use Rattle.cbor_canonical.proofs.{Orders.key_cmp_total, Orders.tied, ByteLists.bytes_slice}
-use Rattle.cbor_keys.{specs.Front.front_of, proofs.KeyFronts.agree_front}
-use Rattle.cbor_buffer.{proofs.ByIndex.all_index, specs.Spans.no_span, specs.declared.span.Span.Span}
-use Rattle.cbor_builder.specs.inner.Front.{key_of, IsFronted, AreFronted, by_front, rank, ranked_by}
+use Rattle.cbor_model.proofs.Members.{all_at, all_from, in_contains, contains_in}
+use Rattle.cbor_model.{proofs.Orders.key_cmp_total, proofs.Orders.tied, proofs.KeyByteLists.bytes_slice, specs.KeyPrefix.prefix_of}
+use Rattle.cbor_model.proofs.KeyPrefixes.{agree_prefix}
+use Rattle.cbor_output.{proofs.ByIndex.all_index, specs.Spans.no_span, specs.declared.span.Span.Span}
+use Rattle.cbor_builder.specs.inner.Prefix.{key_of, IsPrefixed, ArePrefixed, by_prefix, rank, ranked_by}
 use Rattle.cbor_builder.{specs.inner.Repeats.nth, proofs.Neighbours.is_tied}
 
--- with the right fronts, the ranks are the order of the keys
-pub agree : (o : KeyOrder) (a b : ℕ) (xs ys : List ℕ) → AreBytes xs → AreBytes ys → a ≡ front_of xs → b ≡ front_of ys → rank o (a, xs) (b, ys) ≡ key_cmp o xs ys
-agree LengthFirst a b xs ys h g e f = ap (ordering_then (nat_cmp (length xs) (length ys))) (agree_front a b xs ys h g e f)
-agree Bytewise a b xs ys h g e f = agree_front a b xs ys h g e f
+-- with the right prefixes, the ranks are the order of the keys
+pub agree : (o : KeyOrder) (a b : ℕ) (xs ys : List ℕ) → AreBytes xs → AreBytes ys → a ≡ prefix_of xs → b ≡ prefix_of ys → rank o (a, xs) (b, ys) ≡ key_cmp o xs ys
+agree LengthFirst a b xs ys h g e f = ap (ordering_then (nat_cmp (length xs) (length ys))) (agree_prefix a b xs ys h g e f)
+agree Bytewise a b xs ys h g e f = agree_prefix a b xs ys h g e f
 
-front_total : IsTotalOrder by_front
-front_total = then_total (on_total (λ (p : ℕ × List ℕ). p.0) nat_cmp_total) (on_total (λ (p : ℕ × List ℕ). p.1) (key_cmp_total Bytewise))
+prefix_total : IsTotalOrder by_prefix
+prefix_total = then_total (on_total (λ (p : ℕ × List ℕ). p.0) nat_cmp_total) (on_total (λ (p : ℕ × List ℕ). p.1) (key_cmp_total Bytewise))
 
 pub rank_total : (o : KeyOrder) → IsTotalOrder (rank o)
-rank_total Bytewise = front_total
-rank_total LengthFirst = then_total (on_total (λ (p : ℕ × List ℕ). length p.1) nat_cmp_total) front_total
+rank_total Bytewise = prefix_total
+rank_total LengthFirst = then_total (on_total (λ (p : ℕ × List ℕ). length p.1) nat_cmp_total) prefix_total
 
-pub agree_spans : (o : KeyOrder) (out : List ℕ) (x y : Span) → AreBytes out → IsFronted out x → IsFronted out y → rank o (ranked_by out x) (ranked_by out y) ≡ key_cmp o (key_of out x) (key_of out y)
-agree_spans o out x y h a b = agree o x.front y.front (key_of out x) (key_of out y) (bytes_slice out x.key x.val h) (bytes_slice out y.key y.val h) a b
+pub agree_spans : (o : KeyOrder) (out : List ℕ) (x y : Span) → AreBytes out → IsPrefixed out x → IsPrefixed out y → rank o (ranked_by out x) (ranked_by out y) ≡ key_cmp o (key_of out x) (key_of out y)
+agree_spans o out x y h a b = agree o x.prefix y.prefix (key_of out x) (key_of out y) (bytes_slice out x.key x.val h) (bytes_slice out y.key y.val h) a b
 
 -- ---- of each of a list
 
@@ -45,8 +45,8 @@ sorted_by_rank o out {g = g} {f = f} ys s h =
     s (λ x y. is_lt (rank o (ranked_by out x) (ranked_by out y))) (ranks_by (rank_total o) (ranked_by out))
     (always_returns_same g (λ a r. is_lt r ≡ is_lt (rank o (ranked_by out a.0.now) (ranked_by out a.1.0.now))) f (λ a r f' k. (ap is_lt (h a r f' k).0, (h a r f' k).1)))
 
--- where the fronts are right, it is sorted by the keys
-pub sorted_keys : (o : KeyOrder) (out : List ℕ) (ys : List Span) → AreBytes out → AreFronted out ys
+-- where the prefixes are right, it is sorted by the keys
+pub sorted_keys : (o : KeyOrder) (out : List ℕ) (ys : List Span) → AreBytes out → ArePrefixed out ys
     → IsSortedBy (λ x y. is_lt (rank o (ranked_by out x) (ranked_by out y))) ys → IsSortedBy (λ x y. key_lt o (key_of out x) (key_of out y)) ys
 sorted_keys o out ys b h s = λ k d l g.
     let upper = all_index _ ys (k + 1) d h g in
@@ -62,7 +62,7 @@ pub other_keys : (o : KeyOrder) (x y : List ℕ) → is_eq (key_cmp o x y) ≡ f
 other_keys o x y e is = true≢false (ap is_eq (sym (tied_itself (key_cmp_total o) x)) ∙ ap (λ (k : List ℕ). is_eq (key_cmp o x k)) is ∙ e)
 
 -- what a comparison of two of them says of their keys
-pub compared : (o : KeyOrder) (out : List ℕ) (ss : List Span) (i j : ℕ) (d e : Span) (r : Ordering) → AreBytes out → AreFronted out ss → i < length ss → j < length ss
+pub compared : (o : KeyOrder) (out : List ℕ) (ss : List Span) (i j : ℕ) (d e : Span) (r : Ordering) → AreBytes out → ArePrefixed out ss → i < length ss → j < length ss
     → r ≡ rank o (ranked_by out (get_or ss i d)) (ranked_by out (get_or ss j e))
     → (is_eq r ≡ true → key_of out (nth ss i) ≡ key_of out (nth ss j)) × (is_eq r ≡ false → key_of out (nth ss i) ≢ key_of out (nth ss j))
 compared o out ss i j d e r b f l m is =

@@ -2,8 +2,8 @@
 use Rattle.std.proofs.Common.{◌≡◌, ℕ, Bool, List, [], ◌∷◌, length, length-drop, length-take, drop, take, refl, sym, ap, ◌∙◌, subst, arith, IsPermutation, IsTrue, ◌↔◌}
 use Rattle.std.proofs.lemmas.List.{drop_all, Sorted.IsPermutation-refl, Sorted.length_permutation}
 use Rattle.cbor_head.specs.declared.order.KeyOrder.{KeyOrder}
-use Rattle.cbor_canonical.specs.Parts.{Open}
-use Rattle.cbor_buffer.specs.{declared.span.Span.Span, Moved.meant}
+use Rattle.cbor_model.specs.Parts.{Open}
+use Rattle.cbor_output.specs.{declared.span.Span.Span, Moved.meant}
 use Rattle.cbor_builder.specs.inner.BuilderState.{outers, frames, Stand, IsReordered, IsLeftOpen}
 use Rattle.cbor_builder.specs.inner.Laid.{shape_open, outer_spans, opens, Fits}
 use Rattle.cbor_builder.specs.{Built.IsRepeatedKey, declared.builder.Core.Core, declared.frame.Frame.Frame, declared.frame.Shape.Shape}

@@ -7,10 +7,10 @@ use Rattle.std.proofs.lemmas.List.Sorted.{IsPermutation-keeps, ranks_by, sorted_
 use Rattle.std.specs.{List.swap, Ordering.is_lt, Ordering.ordering_reverse, declared.cmp.Ordering.Ordering}
 use Rattle.std.proofs.lemmas.Bool.{cases_lt, cases_eq}
 use Rattle.cbor_head.specs.{Prelude.key_cmp, Prelude.key_lt, declared.order.KeyOrder.KeyOrder}
-use Rattle.cbor_canonical.proofs.Orders.{key_cmp_total, tied}
-use Rattle.cbor_buffer.specs.{Spans.no_span, declared.span.Span.Span}
+use Rattle.cbor_model.proofs.Orders.{key_cmp_total, tied}
+use Rattle.cbor_output.specs.{Spans.no_span, declared.span.Span.Span}
 use Rattle.cbor_builder.specs.inner.Repeats.{nth, place, AreGrouped, IsTie, HasTie, IsUpTo, IsFirstTie, IsFirstOf, IsLeastOfKey}
-use Rattle.cbor_builder.specs.{inner.Front.key_of, declared.repeats.Tie.Tie}
+use Rattle.cbor_builder.specs.{inner.Prefix.key_of, declared.repeats.Tie.Tie}
 
 -- ---- two of a list are found again in another order
 
@@ -111,9 +111,9 @@ module _ (out : List ℕ) (ss : List Span) where
       alone i g e = other (group i (n - 1) n (omega (arith, g)) (omega arith) l e)
 
   -- it is the same
-  pub tie_met : (n at least : ℕ) (r : Option Tie) (t : Tie) → key (n - 1) ≡ key n → at ≡ place (nth ss n) → IsLeastOfKey out ss n (key (n - 1)) least
+  pub tie_visited : (n at least : ℕ) (r : Option Tie) (t : Tie) → key (n - 1) ≡ key n → at ≡ place (nth ss n) → IsLeastOfKey out ss n (key (n - 1)) least
       → IsFirstTie out ss n r → IsFirstOf r (record { earlier = min least at; later = max least at }) t → IsFirstTie out ss (n + 1) (Some t) × IsLeastOfKey out ss (n + 1) (key (n + 1 - 1)) (min least at)
-  tie_met n at least r t same is ((q, lq, meets, lies), all) h (one, up, found) = (
+  tie_visited n at least r t same is ((q, lq, meets, lies), all) h (one, up, found) = (
     (
       elim one [
         | inl e ↦ longer n t.earlier t.later (subst (IsFirstTie out ss n) e h).0

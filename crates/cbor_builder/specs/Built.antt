@@ -3,17 +3,17 @@ use Rattle.std.specs.Prelude.{ℕ, suc, ◌≡◌, ◌↔◌, ◌<◌, ◌^◌, 
 use Rattle.cbor_head.specs.Prelude.{Value, Entries, HasEntry, Same, Pair}
 use Rattle.cbor_head.specs.declared.major.Major.TheVariants.{Unsigned, Negative, Bytes, Text, Array, Map, Tag, Simple}
 use Rattle.cbor_head.specs.declared.{order.KeyOrder.KeyOrder, major.Major.Major}
-use Rattle.cbor_canonical.specs.Parts.{Open, an_array, a_map, a_key, a_string, HasNoRepeats}
+use Rattle.cbor_model.specs.Parts.{Open, an_array, a_map, a_key, a_string, HasNoRepeats}
 use Rattle.cbor_builder.specs.declared.repeat.Repeat.{Repeat}
 
 -- the order of keys, and what is open, the innermost first: nothing, from a call that is refused memory until it is as new again
 pub record Built : Type 0 where
   pub order : KeyOrder
-  pub standing : List Open
+  pub open_levels : List Open
 
 -- a builder, by its order and what is open
 abbrev pub built : KeyOrder → List Open → Built
-built o os = record { order = o; standing = os }
+built o os = record { order = o; open_levels = os }
 
 -- ---- kinds of items
 
@@ -78,9 +78,9 @@ IsRepeatedKey (a_key ps k ∷ os) = HasKey ps k
 IsRepeatedKey _ = ⊥
 
 -- the next item is a key of a map
-abbrev pub IsKeyDue : List Open → Type 0
-IsKeyDue (a_map ps ∷ os) = Unit {0}
-IsKeyDue _ = ⊥
+abbrev pub IsKeyExpected : List Open → Type 0
+IsKeyExpected (a_map ps ∷ os) = Unit {0}
+IsKeyExpected _ = ⊥
 
 -- this key waits for its value
 abbrev pub IsWaitingKey : List Open → List ℕ → Type 0
@@ -91,7 +91,7 @@ IsWaitingKey _ q = ⊥
 abbrev pub HasSameKey : Entries → Value → Type 0
 HasSameKey es k = (l : Value) × (w : Value) × HasEntry es l w × Same l k
 
--- ---- which repeated key is told
+-- ---- which repeated key is reported
 
 -- the complete keys of what is open, as they came; the last may wait for its value
 abbrev pub keys_so_far : Open → List (List ℕ)
@@ -125,10 +125,10 @@ open_maps (c ∷ os) = open_maps os
 
 -- of the outermost open map with two equal keys: how many maps are open around it, and the number of the pair whose key is the
 -- first that is equal to an earlier one
-abbrev pub IsRepeatTold : List Open → ℕ → ℕ → Type 0
-IsRepeatTold [] outside pair = ⊥
-IsRepeatTold (c ∷ os) outside pair =
-    IsRepeatTold os outside pair ⊎ (AreOpenKeysDifferent os × (outside ≡ open_maps os) × IsFirstRepeat (keys_so_far c) pair)
+abbrev pub IsRepeatReported : List Open → ℕ → ℕ → Type 0
+IsRepeatReported [] outside pair = ⊥
+IsRepeatReported (c ∷ os) outside pair =
+    IsRepeatReported os outside pair ⊎ (AreOpenKeysDifferent os × (outside ≡ open_maps os) × IsFirstRepeat (keys_so_far c) pair)
 
 -- ---- what a call leaves
 
@@ -136,13 +136,13 @@ IsRepeatTold (c ∷ os) outside pair =
 pub record Leaves {A E : Type 0} (r : Result A E) (old new : Built) (os : List Open) : Type 0 where
   pub order : new.order ≡ old.order
   pub given : OnOk r (new ≡ built old.order os)
-  pub refused : OnErr r (new.standing ≡ [])
+  pub refused : OnErr r (new.open_levels ≡ [])
 
--- the same where no two keys of the innermost are equal, else nothing, and then the repeated key is told
+-- the same where no two keys of the innermost are equal, else nothing, and then the repeated key is reported
 pub record LeavesIfDistinct {E : Type 0} (r : Result (Option Repeat) E) (old new : Built) (os : List Open) : Type 0 where
   pub order : new.order ≡ old.order
-  pub distinct : IfOk r (λ told. IsNone told ↔ HasDistinctKeysSoFar old.standing)
-  pub ended : IfOk r (λ told. IsNone told → new ≡ built old.order os)
-  pub told : IfOk r (λ told. IfSome told (λ repeat. IsRepeatTold old.standing repeat.outside repeat.pair))
-  pub left : IfOk r (λ told. IfSome told (λ _. new.standing ≡ []))
-  pub refused : OnErr r (new.standing ≡ [])
+  pub distinct : IfOk r (λ reported. IsNone reported ↔ HasDistinctKeysSoFar old.open_levels)
+  pub ended : IfOk r (λ reported. IsNone reported → new ≡ built old.order os)
+  pub reported : IfOk r (λ reported. IfSome reported (λ repeat. IsRepeatReported old.open_levels repeat.outside repeat.pair))
+  pub left : IfOk r (λ reported. IfSome reported (λ _. new.open_levels ≡ []))
+  pub refused : OnErr r (new.open_levels ≡ [])

@@ -1,7 +1,7 @@
 -- What private functions speak of; no public contract does.
 pub mod BuilderState
 pub mod CanonState
-pub mod Front
+pub mod Prefix
 pub mod InPlace
 pub mod Laid
 pub mod Repeats

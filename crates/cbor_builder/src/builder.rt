@@ -4,16 +4,16 @@ ghost use Rattle.std.specs.Prelude.{ℕ, List, ◌≡◌, ◌≢◌, ◌↔◌, 
 ghost use Rattle.std.specs.Prelude.{OnOk, MatchOption, take, length};
 ghost use Rattle.cbor_head.specs.Head.{shortest_head, IsSimple};
 ghost use Rattle.cbor_head.specs.declared.major.Major.TheVariants.{Simple};
-ghost use Rattle.cbor_builder.specs.Built.{IsKeyDue, IsRepeatedKey, IsWaitingKey};
-ghost use Rattle.cbor_canonical.specs.Parts.{plain, give, opened, extended};
+ghost use Rattle.cbor_builder.specs.Built.{IsKeyExpected, IsRepeatedKey, IsWaitingKey};
+ghost use Rattle.cbor_model.specs.Parts.{plain, give, opened, extended};
 ghost use Rattle.cbor_builder.specs.inner.Laid.{Takes, IsString, outer_spans, shape_open};
-ghost use Rattle.cbor_builder.specs.inner.BuilderState.{standing, frames, outers, IsLaid, Stand};
-ghost use Rattle.cbor_builder.specs.inner.BuilderState.{WasLaid, came_standing};
+ghost use Rattle.cbor_builder.specs.inner.BuilderState.{open_levels, frames, outers, IsLaid, Stand};
+ghost use Rattle.cbor_builder.specs.inner.BuilderState.{WasLaid, came_open_levels};
 ghost use Rattle.cbor_builder.specs.inner.BuilderState.{StandsAs, CoreLeaves};
 ghost use Rattle.cbor_builder.specs.declared.frame.Shape.TheVariants.{Key};
-ghost use Rattle.cbor_buffer.specs.declared.span.Span.{Span};
-ghost use Rattle.cbor_builder.specs.inner.Repeats.{TellsOf, Tells};
-ghost use Rattle.cbor_buffer.specs.Moved.{meant, IsWhole};
+ghost use Rattle.cbor_output.specs.declared.span.Span.{Span};
+ghost use Rattle.cbor_builder.specs.inner.Repeats.{ReportsOf, Reports};
+ghost use Rattle.cbor_output.specs.Moved.{meant, IsWhole};
 
 mod closing;
 mod given_up;
@@ -25,19 +25,19 @@ use crate::member::complete;
 use crate::opening::opening;
 use crate::repeat::Repeat;
 use crate::repeats::{first_repeat, outward};
-use cbor_buffer::draft::Draft;
-use cbor_buffer::span::Span;
 use cbor_head::{KeyOrder, Major};
-use cbor_keys::part;
+use cbor_model::part;
+use cbor_output::reorder_buffer::ReorderBuffer;
+use cbor_output::span::Span;
 use std::alloc::{AllocError, Global};
 
 /// A builder. After a call has answered an error it may only be dropped, or cleared.
 #[derive(Drop)]
 pub(crate) struct Core {
     pub(crate) order: KeyOrder,
-    /// Whether anything is open within the item. It stands here since here it takes no room.
+    /// Whether anything is open within the item. It stands here since here it takes no space.
     pub(crate) is_open: bool,
-    pub(crate) out: Draft,
+    pub(crate) out: ReorderBuffer,
     pub(crate) spans: Vec<Span>,
     pub(crate) top: Frame,
     /// What is open around `top`, but for the outermost.
@@ -52,7 +52,7 @@ impl Core {
         Core {
             order,
             is_open: false,
-            out: Draft::new(alloc),
+            out: ReorderBuffer::new(alloc),
             spans: Vec::new(alloc),
             top: Frame::outermost(),
             below: Vec::new(alloc),
@@ -73,14 +73,14 @@ impl Core {
     }
 
     /// An item that is its head.
-    #[tactic(auto, using(crate::proofs::Standing::member_ready))]
+    #[tactic(auto, using(crate::proofs::OpenMembers::member_ready))]
     #[inline(always)]
     pub(crate) fn leaf(&mut self, major: Major, n: u64) -> Result<(), AllocError>
         requires laid { IsLaid self.old }
         requires takes { Takes self.old.top.shape }
         requires simple { major ≡ Simple → IsSimple n }
         ensures { CoreLeaves result self.old self.new
-            (give (shortest_head major n) (standing self.old)) }
+            (give (shortest_head major n) (open_levels self.old)) }
     {
         let at = self.out.len();
         self.out.head(major, n)?;
@@ -98,18 +98,18 @@ impl Core {
     pub(crate) fn string(
         &mut self,
         major: Major,
-        front: &[u8],
+        prefix: &[u8],
         count: usize,
     ) -> Result<(), AllocError>
-        requires within { count ≤ length front.now }
+        requires within { count ≤ length prefix.now }
         requires laid { IsLaid self.old }
         requires takes { Takes self.old.top.shape }
         requires kind { major ≢ Simple }
         ensures { CoreLeaves result self.old self.new
-            (give (shortest_head major count ++ take count front.now) (standing self.old)) }
+            (give (shortest_head major count ++ take count prefix.now) (open_levels self.old)) }
     {
         let at = self.out.len();
-        self.out.buf.string(major, front, count)?;
+        self.out.buf.string(major, prefix, count)?;
         complete(
             &mut self.top,
             &mut self.spans,
@@ -124,7 +124,7 @@ impl Core {
     pub(crate) fn nothing(&mut self) -> Result<(), AllocError>
         requires laid { IsLaid self.old }
         requires takes { Takes self.old.top.shape }
-        ensures { CoreLeaves result self.old self.new (give [] (standing self.old)) }
+        ensures { CoreLeaves result self.old self.new (give [] (open_levels self.old)) }
     {
         let at = self.out.len();
         complete(
@@ -137,14 +137,14 @@ impl Core {
     }
 
     /// A string, an array, a map or a tag begins. The number is the tag's; for the others it says
-    /// for which length or count the head is to have room.
+    /// for which length or count the head is to have space.
     #[inline(always)]
     pub(crate) fn begin(&mut self, major: Major, n: u64) -> Result<(), AllocError>
         requires laid { IsLaid self.old }
         requires kind { major ≢ Simple }
         ensures order { self.new.order ≡ self.old.order }
         ensures laid { OnOk result (IsLaid self.new) }
-        ensures given { OnOk result (standing self.new ≡ opened major n ∷ standing self.old) }
+        ensures given { OnOk result (open_levels self.new ≡ opened major n ∷ open_levels self.old) }
     {
         let from = self.out.len();
         self.out.head(major, n)?;
@@ -155,14 +155,14 @@ impl Core {
 
     /// More of a string: the first of these bytes.
     #[inline(always)]
-    pub(crate) fn bytes(&mut self, front: &[u8], count: usize) -> Result<(), AllocError>
-        requires within { count ≤ length front.now }
+    pub(crate) fn bytes(&mut self, prefix: &[u8], count: usize) -> Result<(), AllocError>
+        requires within { count ≤ length prefix.now }
         requires laid { IsLaid self.old }
         requires string { IsString self.old.top.shape }
         ensures { CoreLeaves result self.old self.new
-            (extended (take count front.now) (standing self.old)) }
+            (extended (take count prefix.now) (open_levels self.old)) }
     {
-        self.out.buf.extend_front(front, count)?;
+        self.out.buf.extend_prefix(prefix, count)?;
         Ok(())
     }
 
@@ -170,7 +170,7 @@ impl Core {
     pub(crate) fn repeated(&self) -> bool
         requires laid { (first : ℕ) → (key : ℕ) → self.now.top.shape ≡ Key first key
             → Stand self.now.order self.now.out self.now.spans.items (frames self.now) }
-        ensures { IsTrue result ↔ IsRepeatedKey (standing self.now) }
+        ensures { IsTrue result ↔ IsRepeatedKey (open_levels self.now) }
     {
         match self.top.shape {
             Shape::Key(first, key) => has_key(
@@ -186,8 +186,8 @@ impl Core {
     }
 
     // Whether the next item is a key.
-    pub(crate) fn is_key_due(&self) -> bool
-        ensures { IsTrue result ↔ IsKeyDue (standing self.now) }
+    pub(crate) fn is_key_expected(&self) -> bool
+        ensures { IsTrue result ↔ IsKeyExpected (open_levels self.now) }
     {
         matches!(self.top.shape, Shape::Map(_))
     }
@@ -195,8 +195,8 @@ impl Core {
     // The bytes of the key that waits for its value.
     pub(crate) fn waiting_key(&self) -> Option<&[u8]>
         requires laid { IsLaid self.now }
-        ensures { MatchOption result ((q : List ℕ) → IsWaitingKey (standing self.now) q → ⊥)
-            (λ key. IsWaitingKey (standing self.now) key.now) }
+        ensures { MatchOption result ((q : List ℕ) → IsWaitingKey (open_levels self.now) q → ⊥)
+            (λ key. IsWaitingKey (open_levels self.now) key.now) }
     {
         match self.top.shape {
             Shape::Key(_, key) => Some(part(self.out.buf.as_slice(), key, self.out.len())),
@@ -204,15 +204,15 @@ impl Core {
         }
     }
 
-    /// Which repeated key is told: of the outermost open map that has one its first. The spans of the
+    /// Which repeated key is reported: of the outermost open map that has one its first. The spans of the
     /// innermost may stand in another order than they came in. Then nothing is open. Takes no memory.
     #[cold]
     #[inline(never)]
     pub(crate) fn first_repeat(&mut self) -> Option<Repeat>
         requires laid { (came : List Span) × WasLaid came self.old }
         ensures order { self.new.order ≡ self.old.order }
-        ensures tells { (came : List Span) → WasLaid came self.old
-            → Tells (came_standing came self.old) result }
+        ensures reports { (came : List Span) → WasLaid came self.old
+            → Reports (came_open_levels came self.old) result }
     {
         // Of keys it makes no difference: they lie as they are meant.
         let len = self.out.len();
@@ -231,8 +231,8 @@ impl Core {
     fn take_repeat(&mut self) -> Option<usize>
         requires laid { (came : List Span) × WasLaid came self.old }
         requires lies { self.old.out.buf ≡ meant self.old.out }
-        ensures tells { (came : List Span) → WasLaid came self.old
-            → TellsOf (shape_open (meant self.old.out) came self.old.top.start self.old.top.shape)
+        ensures reports { (came : List Span) → WasLaid came self.old
+            → ReportsOf (shape_open (meant self.old.out) came self.old.top.start self.old.top.shape)
             result }
         ensures order { self.new.order ≡ self.old.order }
         ensures whole { IsWhole self.new.out }

@@ -7,10 +7,10 @@ ghost use Rattle.cbor_head.specs.Value.{Value};
 ghost use Rattle.cbor_head.specs.declared.major.Major.TheVariants.{Simple};
 ghost use Rattle.cbor_builder.specs.Built.{built, IsLeaf, IsStringType, IsContainer, TakesPart};
 ghost use Rattle.cbor_builder.specs.Built.{IsInString, HasDistinctKeysSoFar};
-ghost use Rattle.cbor_canonical.specs.Parts.{IsInContainer, Part, Makes, run, plain, give, opened, extended, close};
+ghost use Rattle.cbor_model.specs.Parts.{IsInContainer, Part, Makes, run, plain, give, opened, extended, close};
 ghost use Rattle.cbor_builder.specs.Built.{around, Leaves, LeavesIfDistinct};
 
-mod due_key;
+mod expected_key;
 
 use crate::builder::Core;
 use crate::repeat::Repeat;
@@ -47,9 +47,9 @@ impl Model for CanonBuilder {
 
     ghost Value = { Built };
 
-    ghost use Rattle.cbor_builder.specs.inner.CanonState.{seen, IsKept};
+    ghost use Rattle.cbor_builder.specs.inner.CanonState.{view_value, IsKept};
 
-    ghost view = { seen };
+    ghost view = { view_value };
 
     ghost invariant = { IsKept };
 }
@@ -79,9 +79,9 @@ impl CanonBuilder {
     pub fn leaf(&mut self, major: Major, argument: u64) -> Result<(), AllocError>
         requires kind { IsLeaf major }
         requires simple { major ≡ Simple → IsSimple argument }
-        requires takes { TakesPart self.old.standing }
+        requires takes { TakesPart self.old.open_levels }
         ensures { Leaves result self.old self.new
-            (give (shortest_head major argument) self.old.standing) }
+            (give (shortest_head major argument) self.old.open_levels) }
     {
         let done = self.core.leaf(major, argument);
         if done.is_err() {
@@ -95,29 +95,29 @@ impl CanonBuilder {
     #[inline(always)]
     pub fn string(&mut self, major: Major, content: &[u8]) -> Result<(), AllocError>
         requires kind { IsStringType major }
-        requires takes { TakesPart self.old.standing }
+        requires takes { TakesPart self.old.open_levels }
         ensures { Leaves result self.old self.new
-            (give (shortest_head major (length content.now) ++ content.now) self.old.standing) }
+            (give (shortest_head major (length content.now) ++ content.now) self.old.open_levels) }
     {
-        self.front_string(major, content, content.len())
+        self.prefix_string(major, content, content.len())
     }
 
-    /// The same of the first of these bytes. What follows them is not looked at, but a short string
+    /// Writes a string from the first `count` bytes of `prefix`. What follows them is not looked at, but a short string
     /// is copied faster where something does.
     #[inline(always)]
-    pub fn front_string(
+    pub fn prefix_string(
         &mut self,
         major: Major,
-        front: &[u8],
+        prefix: &[u8],
         count: usize,
     ) -> Result<(), AllocError>
         requires kind { IsStringType major }
-        requires within { count ≤ length front.now }
-        requires takes { TakesPart self.old.standing }
+        requires within { count ≤ length prefix.now }
+        requires takes { TakesPart self.old.open_levels }
         ensures { Leaves result self.old self.new
-            (give (shortest_head major count ++ take count front.now) self.old.standing) }
+            (give (shortest_head major count ++ take count prefix.now) self.old.open_levels) }
     {
-        let done = self.core.string(major, front, count);
+        let done = self.core.string(major, prefix, count);
         if done.is_err() {
             self.is_sound = false;
         }
@@ -127,8 +127,8 @@ impl CanonBuilder {
     /// An item of no bytes, as the value of a key where the keys alone are wanted.
     #[inline(always)]
     pub fn nothing(&mut self) -> Result<(), AllocError>
-        requires takes { TakesPart self.old.standing }
-        ensures { Leaves result self.old self.new (give [] self.old.standing) }
+        requires takes { TakesPart self.old.open_levels }
+        ensures { Leaves result self.old self.new (give [] self.old.open_levels) }
     {
         let done = self.core.nothing();
         if done.is_err() {
@@ -141,8 +141,8 @@ impl CanonBuilder {
     #[inline(always)]
     pub fn begin_string(&mut self, major: Major) -> Result<(), AllocError>
         requires kind { IsStringType major }
-        requires takes { TakesPart self.old.standing }
-        ensures { Leaves result self.old self.new (opened major 0 ∷ self.old.standing) }
+        requires takes { TakesPart self.old.open_levels }
+        ensures { Leaves result self.old self.new (opened major 0 ∷ self.old.open_levels) }
     {
         let done = self.core.begin(major, 0);
         if done.is_err() {
@@ -154,21 +154,21 @@ impl CanonBuilder {
     /// More of the string.
     #[inline(always)]
     pub fn bytes(&mut self, content: &[u8]) -> Result<(), AllocError>
-        requires string { IsInString self.old.standing }
-        ensures { Leaves result self.old self.new (extended content.now self.old.standing) }
+        requires string { IsInString self.old.open_levels }
+        ensures { Leaves result self.old self.new (extended content.now self.old.open_levels) }
     {
-        self.front_bytes(content, content.len())
+        self.prefix_bytes(content, content.len())
     }
 
-    /// The same of the first of these bytes.
+    /// Extends the open string by the first `count` bytes of `prefix`.
     #[inline(always)]
-    pub fn front_bytes(&mut self, front: &[u8], count: usize) -> Result<(), AllocError>
-        requires string { IsInString self.old.standing }
-        requires within { count ≤ length front.now }
+    pub fn prefix_bytes(&mut self, prefix: &[u8], count: usize) -> Result<(), AllocError>
+        requires string { IsInString self.old.open_levels }
+        requires within { count ≤ length prefix.now }
         ensures { Leaves result self.old self.new
-            (extended (take count front.now) self.old.standing) }
+            (extended (take count prefix.now) self.old.open_levels) }
     {
-        let done = self.core.bytes(front, count);
+        let done = self.core.bytes(prefix, count);
         if done.is_err() {
             self.is_sound = false;
         }
@@ -178,8 +178,8 @@ impl CanonBuilder {
     /// The string ends.
     #[inline(always)]
     pub fn end_string(&mut self) -> Result<(), AllocError>
-        requires string { IsInString self.old.standing }
-        ensures { Leaves result self.old self.new (close self.old.order self.old.standing) }
+        requires string { IsInString self.old.open_levels }
+        ensures { Leaves result self.old self.new (close self.old.order self.old.open_levels) }
     {
         self.is_sound = false;
         // No string has keys that could be equal.
@@ -189,12 +189,12 @@ impl CanonBuilder {
     }
 
     /// An array, a map or a tag begins. The number is the tag's; of an array or a map it may be the
-    /// count that is expected, for which the head then has room.
+    /// count that is expected, for which the head then has space.
     #[inline(always)]
     pub fn begin(&mut self, major: Major, number: u64) -> Result<(), AllocError>
         requires kind { IsContainer major }
-        requires takes { TakesPart self.old.standing }
-        ensures { Leaves result self.old self.new (opened major number ∷ self.old.standing) }
+        requires takes { TakesPart self.old.open_levels }
+        ensures { Leaves result self.old self.new (opened major number ∷ self.old.open_levels) }
     {
         let done = self.core.begin(major, number);
         if done.is_err() {
@@ -203,12 +203,12 @@ impl CanonBuilder {
         done
     }
 
-    /// The array, map or tag ends. No two keys of a map may be the same: `repeated` tells it of
+    /// The array, map or tag ends. No two keys of a map may be the same: `repeated` reports it of
     /// each.
     pub fn end(&mut self) -> Result<(), AllocError>
-        requires container { IsInContainer self.old.standing }
-        requires distinct { HasDistinctKeysSoFar self.old.standing }
-        ensures { Leaves result self.old self.new (close self.old.order self.old.standing) }
+        requires container { IsInContainer self.old.open_levels }
+        requires distinct { HasDistinctKeysSoFar self.old.open_levels }
+        ensures { Leaves result self.old self.new (close self.old.order self.old.open_levels) }
     {
         self.is_sound = false;
         // No two keys are the same.
@@ -218,14 +218,14 @@ impl CanonBuilder {
     }
 
     /// The array, map or tag ends, where its keys haven't been looked at. Where two keys of the map are
-    /// the same it does not: then it answers what `first_repeat` would tell, and nothing is open, so
+    /// the same it does not: then it answers what `first_repeat` would report, and nothing is open, so
     /// that the builder takes no more parts until it is cleared. A map of n pairs whose keys don't come
     /// in order takes some n log n comparisons, once.
     #[inline(always)]
     pub fn end_if_distinct(&mut self) -> Result<Option<Repeat>, AllocError>
-        requires container { IsInContainer self.old.standing }
+        requires container { IsInContainer self.old.open_levels }
         ensures { LeavesIfDistinct result self.old self.new
-            (close self.old.order self.old.standing) }
+            (close self.old.order self.old.open_levels) }
     {
         self.is_sound = false;
         if !self.core.end()? {
@@ -239,8 +239,8 @@ impl CanonBuilder {
     /// does not, as in `end_if_distinct`. It takes as many comparisons.
     #[inline(always)]
     pub fn give_up_if_distinct(&mut self) -> Result<Option<Repeat>, AllocError>
-        requires container { IsInContainer self.old.standing }
-        ensures { LeavesIfDistinct result self.old self.new (around self.old.standing) }
+        requires container { IsInContainer self.old.open_levels }
+        ensures { LeavesIfDistinct result self.old self.new (around self.old.open_levels) }
     {
         self.is_sound = false;
         if !self.core.give_up()? {
@@ -253,7 +253,7 @@ impl CanonBuilder {
     /// The bytes, once the item is whole, as `finish` answers them. They stay where they are.
     #[inline(always)]
     pub fn as_slice(&self) -> &[u8]
-        ensures { (bs : List ℕ) → self.now.standing ≡ plain bs ∷ [] → result.now ≡ bs }
+        ensures { (bs : List ℕ) → self.now.open_levels ≡ plain bs ∷ [] → result.now ≡ bs }
     {
         self.core.out.buf.as_slice()
     }
@@ -262,9 +262,9 @@ impl CanonBuilder {
     /// Takes no memory.
     #[inline(always)]
     pub fn finish(self) -> Vec<u8>
-        ensures bytes { (bs : List ℕ) → self.standing ≡ plain bs ∷ [] → result.items ≡ bs }
+        ensures bytes { (bs : List ℕ) → self.open_levels ≡ plain bs ∷ [] → result.items ≡ bs }
         ensures canonical { (v : Value) (ps : List Part) → Makes v ps
-            → self.standing ≡ run self.order ps (plain [] ∷ [])
+            → self.open_levels ≡ run self.order ps (plain [] ∷ [])
             → result.items ≡ canonical self.order v }
     {
         let CanonBuilder { core, is_sound: _ } = self;

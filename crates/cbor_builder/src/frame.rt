@@ -4,8 +4,8 @@ ghost use Rattle.std.specs.Prelude.{◌≡◌};
 ghost use Rattle.cbor_builder.specs.inner.Laid.{outermost};
 ghost use Rattle.cbor_builder.specs.inner.Repeats.{first_of, maps_of};
 
-use cbor_buffer::span::Span;
 use cbor_head::Major;
+use cbor_output::span::Span;
 
 /// What is open, and how far it has come.
 #[derive(Clone, Copy)]
@@ -16,14 +16,14 @@ pub(crate) enum Shape {
     Array(u64),
     /// A map whose pairs are the spans from this index on.
     Map(usize),
-    /// The same with a key that waits for its value: it begins at the second, and is the last that
+    /// A map with a key that waits for its value: the key begins at the second offset, and is the last that
     /// the map has.
     Key(usize, usize),
     /// A string.
     Content(Major),
 }
 
-/// An open part of the buffer: room for a head from `from` on, content from `start` on.
+/// An open part of the buffer: space for a head from `from` on, content from `start` on.
 #[derive(Clone, Copy)]
 pub(crate) struct Frame {
     pub(crate) from: usize,

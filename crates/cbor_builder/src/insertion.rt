@@ -3,19 +3,19 @@
 ghost use Rattle.std.specs.Prelude.{◌≡◌, ◌↔◌, ◌<◌, ◌∷◌, IsTrue, false, map, length};
 ghost use Rattle.std.specs.Prelude.{IsPermutation};
 ghost use Rattle.cbor_builder.specs.Built.{HasKey};
-ghost use Rattle.cbor_builder.specs.inner.Front.{key_of, IsFronted, AreFronted, in_front};
-ghost use Rattle.cbor_buffer.specs.Spans.{span_pair};
-ghost use Rattle.cbor_canonical.specs.Pairs.{HasDistinctBytes, IsRising};
+ghost use Rattle.cbor_builder.specs.inner.Prefix.{key_of, IsPrefixed, ArePrefixed, at_start};
+ghost use Rattle.cbor_output.specs.Spans.{span_pair};
+ghost use Rattle.cbor_model.specs.Pairs.{HasDistinctBytes, IsRising};
 
 use crate::ranking::compare;
-use cbor_buffer::span::Span;
 use cbor_head::KeyOrder;
+use cbor_output::span::Span;
 use std::cmp::Ordering;
 
 /// The spans sorted by their keys where they stand. False where two keys are equal: then not all are
 /// sorted.
 pub(crate) fn insert_each(bytes: &[u8], order: KeyOrder, spans: &mut [Span]) -> bool
-    requires { AreFronted bytes.now spans.old }
+    requires { ArePrefixed bytes.now spans.old }
     ensures distinct { IsTrue result ↔ HasDistinctBytes (map (span_pair bytes.now) spans.old) }
     ensures permuted { IsPermutation spans.old spans.new }
     ensures rising { IsTrue result → IsRising order (map (span_pair bytes.now) spans.new) }
@@ -29,18 +29,18 @@ pub(crate) fn insert_each(bytes: &[u8], order: KeyOrder, spans: &mut [Span]) -> 
     true
 }
 
-// One more among those in front of the last place, which is free. False where one of them has the
+// One more among those before the last place, which is free. False where one of them has the
 // same key.
 #[inline(always)]
 fn insert(bytes: &[u8], order: KeyOrder, places: &mut [Span], next: &Span) -> bool
     requires free { 0 < length places.old }
-    requires fronted { AreFronted bytes.now (in_front places.old) }
-    requires next { IsFronted bytes.now next.now }
-    requires rising { IsRising order (map (span_pair bytes.now) (in_front places.old)) }
-    ensures permuted { IsPermutation (next.now ∷ in_front places.old) places.new }
+    requires prefixed { ArePrefixed bytes.now (at_start places.old) }
+    requires next { IsPrefixed bytes.now next.now }
+    requires rising { IsRising order (map (span_pair bytes.now) (at_start places.old)) }
+    ensures permuted { IsPermutation (next.now ∷ at_start places.old) places.new }
     ensures rising { IsTrue result → IsRising order (map (span_pair bytes.now) places.new) }
     ensures equal { result ≡ false
-        → HasKey (map (span_pair bytes.now) (in_front places.old)) (key_of bytes.now next.now) }
+        → HasKey (map (span_pair bytes.now) (at_start places.old)) (key_of bytes.now next.now) }
 {
     let mut at = places.len() - 1;
     while at > 0 {

@@ -6,8 +6,8 @@ ghost use Rattle.cbor_head.specs.Value.{Value, Entries, IsInRange, IsValid};
 ghost use Rattle.cbor_head.specs.Value.{AreEntriesInRange, HasDistinctKeys};
 ghost use Rattle.cbor_head.specs.Canonical.{canonical, canonical_entries};
 ghost use Rattle.cbor_head.specs.declared.order.KeyOrder.{KeyOrder};
-ghost use Rattle.cbor_canonical.specs.Pairs.{AreKeysValid};
-ghost use Rattle.cbor_canonical.specs.Parts.{Open, a_map, a_key, Part, Makes, plain, run, give, HasNoRepeats};
+ghost use Rattle.cbor_model.specs.Pairs.{AreKeysValid};
+ghost use Rattle.cbor_model.specs.Parts.{Open, a_map, a_key, Part, Makes, plain, run, give, HasNoRepeats};
 ghost use Rattle.cbor_builder.specs.Built.{IsRepeatedKey, HasSameKey};
 
 /// From nothing, the parts that make a value leave its canonical bytes; whatever is open, they
@@ -22,7 +22,7 @@ pub fn parts_make_canonical_bytes()
 
 /// No two keys of an open map have equal bytes exactly where no two of the entries that made it are
 /// the same.
-#[tactic(auto, using(cbor_canonical::proofs::Keys::distinct_exactly))]
+#[tactic(auto, using(cbor_model::proofs::Keys::distinct_exactly))]
 pub fn repeats_are_those_of_the_value()
     ensures { (o : KeyOrder) (es : Entries) → AreEntriesInRange es → AreKeysValid es
         → HasNoRepeats (a_map (canonical_entries o es)) ↔ HasDistinctKeys es }

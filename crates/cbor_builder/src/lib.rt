@@ -1,7 +1,7 @@
-//! Canonical bytes from the parts of an item, without a tree.
+//! The engine that makes canonical bytes from the parts of an item, without a tree.
 //!
-//! A [`CanonBuilder`] is given heads, strings and ends as they come, and puts the pairs of a map in
-//! order as the map ends. [`laws`] has no code to run: its contracts say what parts make.
+//! `cbor_sinks` and `cbor_item` call it. A [`CanonBuilder`] is given heads, strings and ends in their order, and sorts the
+//! pairs of each map when the map ends. [`laws`] has no code: its contracts say which value some parts make.
 #![tactic(auto)]
 
 mod builder;

@@ -3,28 +3,28 @@
 ghost use Rattle.std.specs.Prelude.{◌↔◌, ◌≤◌, IsTrue, map, length, slice_range};
 ghost use Rattle.cbor_head.specs.declared.order.KeyOrder.{KeyOrder};
 ghost use Rattle.cbor_builder.specs.Built.{HasKey};
-ghost use Rattle.cbor_builder.specs.inner.Front.{AreFronted, IsFronted, key_of};
-ghost use Rattle.cbor_buffer.specs.Spans.{span_pair};
-ghost use Rattle.cbor_canonical.specs.Pairs.{IsRising};
+ghost use Rattle.cbor_builder.specs.inner.Prefix.{ArePrefixed, IsPrefixed, key_of};
+ghost use Rattle.cbor_output.specs.Spans.{span_pair};
+ghost use Rattle.cbor_model.specs.Pairs.{IsRising};
 
 use crate::member::is_above;
-use crate::ranking::{compare, front};
-use cbor_buffer::out::Out;
-use cbor_buffer::span::Span;
+use crate::ranking::{compare, prefix};
 use cbor_head::KeyOrder;
+use cbor_output::output_buffer::OutputBuffer;
+use cbor_output::span::Span;
 
 // Whether one of the pairs has the key that stands from `key` to `val`. Where their keys rise, a
 // key above the last one costs one comparison. Else a pair costs a comparison of two numbers, where
 // the first eight bytes of the keys differ.
 pub(crate) fn has_key(
-    out: &Out,
+    out: &OutputBuffer,
     order: KeyOrder,
     spans: &[Span],
     rises: bool,
     key: usize,
     val: usize,
 ) -> bool
-    requires fronted { AreFronted out.now spans.now }
+    requires prefixed { ArePrefixed out.now spans.now }
     requires rises { IsTrue rises → IsRising order (map (span_pair out.now) spans.now) }
     requires begins { key ≤ val }
     requires ends { val ≤ length out.now }
@@ -32,7 +32,7 @@ pub(crate) fn has_key(
         ↔ HasKey (map (span_pair out.now) spans.now) (slice_range out.now key val) }
 {
     let wanted = Span {
-        front: front(out, key, val),
+        prefix: prefix(out, key, val),
         key,
         val,
         end: val,
@@ -46,8 +46,8 @@ pub(crate) fn has_key(
 
 // Whether one of the pairs has the key of another.
 fn has_key_of(bytes: &[u8], order: KeyOrder, spans: &[Span], wanted: &Span) -> bool
-    requires fronted { AreFronted bytes.now spans.now }
-    requires wanted { IsFronted bytes.now wanted.now }
+    requires prefixed { ArePrefixed bytes.now spans.now }
+    requires wanted { IsPrefixed bytes.now wanted.now }
     ensures { IsTrue result
         ↔ HasKey (map (span_pair bytes.now) spans.now) (key_of bytes.now wanted.now) }
 {

@@ -2,21 +2,21 @@
 
 ghost use Rattle.std.specs.Prelude.{ℕ, ◌≡◌, ◌≤◌, ◌++◌, ◌∷◌, [], IsTrue, false, OnOk, map, drop, length};
 ghost use Rattle.cbor_head.specs.declared.order.KeyOrder.{KeyOrder};
-ghost use Rattle.cbor_canonical.specs.Pairs.{IsRising};
+ghost use Rattle.cbor_model.specs.Pairs.{IsRising};
 ghost use Rattle.cbor_builder.specs.declared.frame.Shape.TheVariants.{Key, Map};
-ghost use Rattle.cbor_builder.specs.inner.Front.{AreFronted, IsFronted};
-ghost use Rattle.cbor_buffer.specs.Spans.{span_pair};
+ghost use Rattle.cbor_builder.specs.inner.Prefix.{ArePrefixed, IsPrefixed};
+ghost use Rattle.cbor_output.specs.Spans.{span_pair};
 ghost use Rattle.cbor_builder.specs.inner.Laid.{Takes, IsReady, shape_after, spans_after};
 ghost use Rattle.cbor_builder.specs.inner.Laid.{KeepsRising};
-ghost use Rattle.cbor_buffer.specs.Moved.{meant, IsWhole, IsSettled, Stays};
+ghost use Rattle.cbor_output.specs.Moved.{meant, IsWhole, IsSettled, Stays};
 
 use crate::frame::{Frame, Shape};
-use crate::ranking::{compare, front};
-use cbor_buffer::draft::Draft;
-use cbor_buffer::out::Out;
-use cbor_buffer::reserve::push;
-use cbor_buffer::span::Span;
+use crate::ranking::{compare, prefix};
 use cbor_head::KeyOrder;
+use cbor_output::output_buffer::OutputBuffer;
+use cbor_output::reorder_buffer::ReorderBuffer;
+use cbor_output::reserve::push;
+use cbor_output::span::Span;
 use std::alloc::AllocError;
 
 /// Whether a pair's key is above those of the spans from an index on, where they rise.
@@ -29,8 +29,8 @@ pub(crate) fn is_above(
     next: &Span,
 ) -> bool
     requires first { first ≤ length spans.now }
-    requires fronted { AreFronted bytes.now (drop first spans.now) }
-    requires next { IsFronted bytes.now next.now }
+    requires prefixed { ArePrefixed bytes.now (drop first spans.now) }
+    requires next { IsPrefixed bytes.now next.now }
     ensures { IsTrue result → IsRising order (map (span_pair bytes.now) (drop first spans.now))
         → IsRising order (map (span_pair bytes.now) (drop first spans.now ++ next.now ∷ [])) }
 {
@@ -48,7 +48,7 @@ pub(crate) fn is_above(
 pub(crate) fn complete(
     frame: &mut Frame,
     spans: &mut Vec<Span>,
-    out: &Out,
+    out: &OutputBuffer,
     order: KeyOrder,
     at: usize,
 ) -> Result<(), AllocError>
@@ -75,12 +75,12 @@ pub(crate) fn complete(
 }
 
 // The pair whose key stands from `key` to `val`, and whose value ends the buffer, is finished. It
-// is apart so that no room is made for a pair where none is finished.
+// is apart so that no space is made for a pair where none is finished.
 #[inline(always)]
 fn finish_pair(
     frame: &mut Frame,
     spans: &mut Vec<Span>,
-    out: &Out,
+    out: &OutputBuffer,
     order: KeyOrder,
     first: usize,
     key: usize,
@@ -88,7 +88,7 @@ fn finish_pair(
 ) -> Result<(), AllocError>
     requires first { first ≤ length spans.old.items }
     requires key { (key ≤ val) × (val ≤ length out.now) }
-    requires fronted { AreFronted out.now (drop first spans.old.items) }
+    requires prefixed { ArePrefixed out.now (drop first spans.old.items) }
     ensures from { frame.new.from ≡ frame.old.from }
     ensures start { frame.new.start ≡ frame.old.start }
     ensures shape { frame.new.shape ≡ Map first }
@@ -98,7 +98,7 @@ fn finish_pair(
         frame.old.rises frame.new.rises }
 {
     let span = Span {
-        front: front(out, key, val),
+        prefix: prefix(out, key, val),
         key,
         val,
         end: out.len(),
@@ -113,7 +113,7 @@ fn finish_pair(
 /// with nothing open, all that there is.
 #[inline(always)]
 pub(crate) fn settle_member(
-    out: &mut Draft,
+    out: &mut ReorderBuffer,
     at: usize,
     holder: &Frame,
     is_open: bool,

@@ -1,26 +1,26 @@
 //! How the pairs of a map stand to each other.
 
 ghost use Rattle.std.specs.Prelude.{◌≡◌, ◌≤◌, length, slice_range};
-ghost use Rattle.cbor_keys.specs.Front.{front_of};
-ghost use Rattle.cbor_builder.specs.inner.Front.{by_front, rank, ranked_by};
+ghost use Rattle.cbor_model.specs.KeyPrefix.{prefix_of};
+ghost use Rattle.cbor_builder.specs.inner.Prefix.{by_prefix, rank, ranked_by};
 ghost use Rattle.cbor_head.specs.Order.{key_cmp};
 
-use cbor_buffer::out::Out;
-use cbor_buffer::span::Span;
 use cbor_head::KeyOrder;
-use cbor_keys::{compare_keys, key_front, part};
+use cbor_model::{compare_keys, key_prefix, part};
+use cbor_output::output_buffer::OutputBuffer;
+use cbor_output::span::Span;
 use std::cmp::Ordering;
 
 // The first eight bytes of a key as a number. They are read in one piece, beyond what is written
 // too.
-#[tactic(auto, using(cbor_buffer::proofs::Slices::slice_within))]
+#[tactic(auto, using(cbor_output::proofs::Slices::slice_within))]
 #[inline(always)]
-pub(crate) fn front(out: &Out, key: usize, val: usize) -> u64
+pub(crate) fn prefix(out: &OutputBuffer, key: usize, val: usize) -> u64
     requires begins { key ≤ val }
     requires ends { val ≤ length out.now }
-    ensures { result ≡ front_of (slice_range out.now key val) }
+    ensures { result ≡ prefix_of (slice_range out.now key val) }
 {
-    key_front(out.with_room(), key, val)
+    key_prefix(out.with_space(), key, val)
 }
 
 /// How two pairs stand to each other.
@@ -44,12 +44,12 @@ pub(crate) fn compare(bytes: &[u8], order: KeyOrder, x: &Span, y: &Span) -> Orde
 // Two numbers, where the first eight bytes of the keys differ.
 #[inline(always)]
 fn compare_bytewise(bytes: &[u8], x: &Span, y: &Span) -> Ordering
-    ensures { result ≡ by_front (ranked_by bytes.now x.now) (ranked_by bytes.now y.now) }
+    ensures { result ≡ by_prefix (ranked_by bytes.now x.now) (ranked_by bytes.now y.now) }
 {
-    if x.front < y.front {
+    if x.prefix < y.prefix {
         return Ordering::Less;
     }
-    if x.front > y.front {
+    if x.prefix > y.prefix {
         return Ordering::Greater;
     }
     compare_long(bytes, x.key, x.val, y.key, y.val)

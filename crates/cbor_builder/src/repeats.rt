@@ -3,17 +3,17 @@
 ghost use Rattle.std.specs.Prelude.{◌≡◌, ◌+◌, ◌^◌, ◌<◌, List, length, map};
 ghost use Rattle.std.specs.Prelude.{IfSome, MatchOption};
 ghost use Rattle.std.specs.List.{count_by};
-ghost use Rattle.cbor_buffer.specs.declared.span.Span.{Span};
+ghost use Rattle.cbor_output.specs.declared.span.Span.{Span};
 ghost use Rattle.cbor_builder.specs.Built.{AreAllDifferent, IsFirstRepeat};
-ghost use Rattle.cbor_builder.specs.inner.Front.{key_of, AreFronted};
+ghost use Rattle.cbor_builder.specs.inner.Prefix.{key_of, ArePrefixed};
 ghost use Rattle.cbor_builder.specs.inner.Repeats.{place, lies_before, HasPlace, ArePlaced, outward};
 ghost use Rattle.cbor_builder.specs.inner.Repeats.{AreOf, AreGrouped, IsFirstTie, IsFirstOf};
 
 use crate::ranking::compare;
 use crate::repeat::Repeat;
 use crate::sort::sort_by_keys;
-use cbor_buffer::span::Span;
 use cbor_head::KeyOrder;
+use cbor_output::span::Span;
 
 /// Two pairs with equal keys, by their places.
 #[derive(Clone, Copy)]
@@ -36,7 +36,7 @@ pub(crate) fn first_repeat(bytes: &[u8], order: KeyOrder, spans: &mut [Span]) ->
     Some(count_before(spans, tie.later) + usize::from(tie.earlier == tie.later))
 }
 
-// Which is told from one container out: the first of its own pairs, or what is told within it,
+// Which is reported from one container out: the first of its own pairs, or what is reported within it,
 // behind so many maps more.
 pub(crate) fn outward(own: Option<usize>, within: Option<Repeat>, maps: usize) -> Option<Repeat>
     requires fits { IfSome within (λ repeat. repeat.outside + maps < 2 ^ 64) }
@@ -54,7 +54,7 @@ pub(crate) fn outward(own: Option<usize>, within: Option<Repeat>, maps: usize) -
 
 // Of the pairs with equal keys, which stand together, those two whose later one comes first.
 fn first_tie(bytes: &[u8], order: KeyOrder, spans: &[Span]) -> Option<Tie>
-    requires fronted { AreFronted bytes.now spans.now }
+    requires prefixed { ArePrefixed bytes.now spans.now }
     requires placed { ArePlaced spans.now }
     requires grouped { AreGrouped bytes.now spans.now }
     ensures { IsFirstTie bytes.now spans.now (length spans.now) result }
@@ -103,7 +103,7 @@ fn count_before(spans: &[Span], at: usize) -> usize
     count
 }
 
-// Where a pair lies: twice its middle. That tells apart all pairs but those of no bytes that lie at
+// Where a pair lies: twice its middle. That distinguishes all pairs but those of no bytes that lie at
 // one place, whose keys are equal.
 fn place(span: &Span) -> usize
     requires { HasPlace span.now }

@@ -3,22 +3,22 @@
 ghost use Rattle.std.specs.Prelude.{◌↔◌, IsTrue, map};
 ghost use Rattle.std.specs.Prelude.{IsPermutation, IsSortedBy};
 ghost use Rattle.cbor_builder.specs.inner.Repeats.{DoNeighboursDiffer};
-ghost use Rattle.cbor_canonical.specs.Pairs.{HasDistinctBytes, IsRising};
-ghost use Rattle.cbor_buffer.specs.Spans.{span_pair};
-ghost use Rattle.cbor_builder.specs.inner.Front.{rank, ranked_by, AreFronted};
+ghost use Rattle.cbor_model.specs.Pairs.{HasDistinctBytes, IsRising};
+ghost use Rattle.cbor_output.specs.Spans.{span_pair};
+ghost use Rattle.cbor_builder.specs.inner.Prefix.{rank, ranked_by, ArePrefixed};
 ghost use Rattle.std.specs.Ordering.{is_lt};
 
 use crate::insertion::insert_each;
 use crate::ranking::compare;
-use cbor_buffer::span::Span;
 use cbor_head::KeyOrder;
+use cbor_output::span::Span;
 
 // So many pairs are put in order one by one.
 const FEW: usize = 16;
 
 // Whether no two neighbours have equal keys.
 fn differ(bytes: &[u8], order: KeyOrder, spans: &[Span]) -> bool
-    requires { AreFronted bytes.now spans.now }
+    requires { ArePrefixed bytes.now spans.now }
     ensures { IsTrue result ↔ DoNeighboursDiffer bytes.now spans.now }
 {
     for i in 1..spans.len() {
@@ -33,7 +33,7 @@ fn differ(bytes: &[u8], order: KeyOrder, spans: &[Span]) -> bool
 /// sorted. It takes no memory.
 #[inline(always)]
 pub(crate) fn sort_distinct(bytes: &[u8], order: KeyOrder, spans: &mut [Span]) -> bool
-    requires { AreFronted bytes.now spans.old }
+    requires { ArePrefixed bytes.now spans.old }
     ensures distinct { IsTrue result ↔ HasDistinctBytes (map (span_pair bytes.now) spans.old) }
     ensures permuted { IsPermutation spans.old spans.new }
     ensures rising { IsTrue result → IsRising order (map (span_pair bytes.now) spans.new) }

@@ -6,44 +6,44 @@ use Rattle.std.{proofs.lemmas.List.take_at, specs.Option.IfSome}
 use lib.Seq.{drop-append_seam}
 use Rattle.cbor_head.specs.Prelude.{Bounds, bounds, Spelling, spell, IsItem, form, refusal, accepted, refused, IsVerdict}
 use Rattle.cbor_head.specs.declared.reason.Reason.TheVariants.{Read, Write, Truncated}
-use Rattle.cbor_head.specs.declared.{width.Width.Width, reason.Refusal.Refusal}
-use Rattle.cbor_grammar.proofs.{Accepted.accepts_exactly, KindsUnasked.form_beside, ReadLaws.unique}
-use Rattle.cbor_automaton.specs.{Trace.Mark, Trace.total, Marks.marks_of, Marks.IsProper, Event.joined, Event.AreTold, declared.event.Event.Event}
-use Rattle.cbor_automaton.{specs.declared.event.EventKind.EventKind, specs.declared.event.EventKind.TheVariants.Piece, proofs.Joining.bytes-total}
-use Rattle.cbor_automaton.proofs.Rows.{total-append}
-use Rattle.cbor_standing.specs.NextEvent.{machine_call, StandsBetween, IsNextEvent, IsEnd, IsCut, IsTooLong, HasFormError}
-use Rattle.cbor_standing.proofs.Told.{told-none, told-joined, next-more, next-all}
-use Rattle.cbor_standing.{specs.Machine.StandsFor, specs.Machine.before, specs.MachineView.MachineView, proofs.Form.complete-verdict}
-use Rattle.cbor_judging.specs.Readers.{Loses}
-use Rattle.cbor_diag.specs.Listing.{line, lines, IsListing, IsStopped, IsListed, IsUnlisted, of_verdict, of_reader, of_writer}
+use Rattle.cbor_head.specs.declared.{width.Width.Width, reason.Reason.Reason, reason.Refusal.Refusal}
+use Rattle.cbor_model.proofs.{Accepted.accepts_exactly, KindsUnasked.form_beside, ReadLaws.unique}
+use Rattle.cbor_automaton.specs.{Trace.Mark, Trace.total, Marks.marks_of, Marks.IsProper, Reasons.IsEventReason, Event.joined, Event.AreReported}
+use Rattle.cbor_automaton.specs.declared.event.{Event.Event, EventKind.EventKind, EventKind.TheVariants.Piece}
+use Rattle.cbor_automaton.proofs.{Joining.bytes-total, Rows.total-append}
+use Rattle.cbor_machine.specs.NextEvent.{machine_call, StandsBetween, IsNextEvent, IsEnd, IsCut, IsTooLong, HasFormError}
+use Rattle.cbor_machine.proofs.Reported.{reported-none, reported-joined, next-more, next-all}
+use Rattle.cbor_machine.{specs.Machine.StandsFor, specs.Machine.before, specs.MachineView.MachineView, proofs.Form.complete-verdict}
+use Rattle.cbor_verdict.specs.Readers.{Loses}
+use Rattle.cbor_diag.specs.Listing.{line, lines, IsListing, IsStopped, IsListed, IsUnlisted, IsListingReason, of_verdict, of_reader, of_writer}
 use Rattle.cbor_diag.proofs.Lines.{lines-more, lines-joined, has-line, joined-last}
 
 -- The lines of all events so far were written, and no byte behind these events was taken.
 pub record HasListed (start : ℕ) (m : MachineView) (from now old new : Option (List ℕ)) (written : ℕ) : Type 0 where
   pub t : List ℕ
   pub marks : List Mark
-  pub told : List Event
+  pub reported : List Event
   pub between : StandsBetween m t marks
-  pub are_told : AreTold told marks
+  pub are_reported : AreReported reported marks
   pub taken : Consumes from now t
-  pub listed : Appends old new (lines start told)
-  pub count : written ≡ min (length (lines start told)) (2 ^ 64 - 1)
+  pub listed : Appends old new (lines start reported)
+  pub count : written ≡ min (length (lines start reported)) (2 ^ 64 - 1)
 
 pub none-listed : (start : ℕ) (m : MachineView) (from old : Option (List ℕ)) → StandsBetween m [] [] → HasListed start m from from old old 0
-none-listed start m from old s = record { t = []; marks = []; told = []; between = s; are_told = told-none; taken = Consumes-nil from; listed = Appends-nil old; count = refl }
+none-listed start m from old s = record { t = []; marks = []; reported = []; between = s; are_reported = reported-none; taken = Consumes-nil from; listed = Appends-nil old; count = refl }
 
 pub one-more : (start : ℕ) (m new : MachineView) (from now to old mid out : Option (List ℕ)) (written more : ℕ) (kept piece : List ℕ) (e : Event) (h : HasListed start m from now old mid written)
     → IsNextEvent e (machine_call m new now to kept piece h.t h.marks) → Appends mid out (line start e) → more ≡ min (written + length (line start e)) (2 ^ 64 - 1) → HasListed start new from to old out more
 one-more start m new from now to old mid out written more kept piece e h next wrote sum =
-    let size : length (lines start (h.told ++ e ∷ [])) ≡ length (lines start h.told) + length (line start e) = ap length (lines-more start h.told e) ∙ length-append (lines start h.told) (line start e) in
+    let size : length (lines start (h.reported ++ e ∷ [])) ≡ length (lines start h.reported) + length (line start e) = ap length (lines-more start h.reported e) ∙ length-append (lines start h.reported) (line start e) in
     record {
       t = h.t ++ next.bytes;
       marks = h.marks ++ marks_of e.width e.kind;
-      told = h.told ++ e ∷ [];
+      reported = h.reported ++ e ∷ [];
       between = next.stands;
-      are_told = next-more (machine_call m new now to kept piece h.t h.marks) h.told e h.are_told h.between next;
+      are_reported = next-more (machine_call m new now to kept piece h.t h.marks) h.reported e h.are_reported h.between next;
       taken = Consumes-trans from now to h.t next.bytes h.taken next.consumed;
-      listed = subst (Appends old out) (sym (lines-more start h.told e)) (Appends-trans old mid out (lines start h.told) (line start e) h.listed wrote);
+      listed = subst (Appends old out) (sym (lines-more start h.reported e)) (Appends-trans old mid out (lines start h.reported) (line start e) h.listed wrote);
       count = omega (arith, size, h.count, sum);
     }
 
@@ -78,7 +78,7 @@ loses bs k (Some xs) (Some ys) e h = (
 )
 
 -- of a reader whose bytes are known, that they begin with those taken
-known : (from to : Option (List ℕ)) (bs : List ℕ) (P : List ℕ → Type 0) → Consumes from to bs → ((rest : List ℕ) → to ≡ Some rest → P (bs ++ rest)) → IfSome from P
+pub known : (from to : Option (List ℕ)) (bs : List ℕ) (P : List ℕ → Type 0) → Consumes from to bs → ((rest : List ℕ) → to ≡ Some rest → P (bs ++ rest)) → IfSome from P
 known None to bs P h f = tt
 known (Some xs) None bs P h f = absurd h
 known (Some xs) (Some ys) bs P h f = subst P (sym h) (f ys refl)
@@ -86,7 +86,7 @@ known (Some xs) (Some ys) bs P h f = subst P (sym h) (f ys refl)
 -- ---- the item is complete
 
 -- the whole item is the one that is accepted
-accepted-item : (limits : Bounds) (t more : List ℕ) (s : Spelling) → IsItem limits.depth s t → (a : Spelling) → IsVerdict limits form (t ++ more) (accepted a) → a ≡ s
+pub accepted-item : (limits : Bounds) (t more : List ℕ) (s : Spelling) → IsItem limits.depth s t → (a : Spelling) → IsVerdict limits form (t ++ more) (accepted a) → a ≡ s
 accepted-item limits t more s i a v =
     let sound = (accepts_exactly limits form (t ++ more) a).0 v in
     let all : spell a ++ (sound.0 ++ drop limits.bytes (t ++ more)) ≡ spell s ++ more =
@@ -96,14 +96,14 @@ accepted-item limits t more s i a v =
 pub all-listed : (start : ℕ) (m new : MachineView) (from now to old out : Option (List ℕ)) (written count : ℕ) (kept piece : List ℕ) (h : HasListed start m from now old out written)
     → IsEnd (machine_call m new now to kept piece h.t h.marks) → count ≡ new.taken → IfSome from (λ input. IsListed start (bounds m.depth m.bytes) input count old out)
 all-listed start m new from now to old out written count kept piece h end e =
-    let whole = next-all (machine_call m new now to kept piece h.t h.marks) h.told h.are_told h.between end in
+    let whole = next-all (machine_call m new now to kept piece h.t h.marks) h.reported h.are_reported h.between end in
     let s = whole.0 in
     known from now h.t (λ input. IsListed start (bounds m.depth m.bytes) input count old out) h.taken
     (λ rest k. let v = complete-verdict m h.t h.marks h.between.stands end.complete rest in record {
       item = s;
       verdict = subst (λ (a : Spelling). IsVerdict (bounds m.depth m.bytes) form (h.t ++ rest) (accepted a)) (accepted-item (bounds m.depth m.bytes) h.t rest s whole.1 v.0 v.1) v.1;
       size = e ∙ end.stands.stands.taken ∙ sym (ap length whole.1.bytes_are);
-      written = subst (Appends old out) (sym (lines-joined start h.told) ∙ ap (lines start) whole.2) h.listed;
+      written = subst (Appends old out) (sym (lines-joined start h.reported) ∙ ap (lines start) whole.2) h.listed;
     })
 
 pub all-lost : (start : ℕ) (m new : MachineView) (from now to old out : Option (List ℕ)) (written count : ℕ) (kept piece : List ℕ) (h : HasListed start m from now old out written)
@@ -113,15 +113,15 @@ all-lost start m new from now to old out written count kept piece h end e =
 
 -- ---- the item is refused
 
-listing-of : (start : ℕ) (m : MachineView) (t : List ℕ) (ms : List Mark) (es : List Event) → StandsFor m t ms → AreTold es ms → IsListing start m.depth t (lines start es)
-listing-of start m t ms es stands told = record {
+listing-of : (start : ℕ) (m : MachineView) (t : List ℕ) (ms : List Mark) (es : List Event) → StandsFor m t ms → AreReported es ms → IsListing start m.depth t (lines start es)
+listing-of start m t ms es stands reported = record {
   beginning = stands.beginning;
-  of_events = λ s rest i. sym (lines-joined start es) ∙ ap (lines start) (told-joined m t ms es stands told s rest i);
+  of_events = λ s rest i. sym (lines-joined start es) ∙ ap (lines start) (reported-joined m t ms es stands reported s rest i);
 }
 
 -- the first k bytes of an input are those taken
-front-listed : (start : ℕ) (d k : ℕ) (t rest out : List ℕ) → k ≡ length t → IsListing start d t out → IsListing start d (take k (t ++ rest)) out
-front-listed start d k t rest out e h = subst (λ (xs : List ℕ). IsListing start d xs out) (sym (take_at t rest k (sym e))) h
+prefix-listed : (start : ℕ) (d k : ℕ) (t rest out : List ℕ) → k ≡ length t → IsListing start d t out → IsListing start d (take k (t ++ rest)) out
+prefix-listed start d k t rest out e h = subst (λ (xs : List ℕ). IsListing start d xs out) (sym (take_at t rest k (sym e))) h
 
 cut-unlisted : (start : ℕ) (m new : MachineView) (from now to old out : Option (List ℕ)) (written : ℕ) (kept piece : List ℕ) (h : HasListed start m from now old out written) (f : Refusal) → IsCut f (machine_call m new now to kept piece h.t h.marks)
     → IfSome from (λ input. IsUnlisted start (bounds new.depth new.bytes) input f old out)
@@ -129,23 +129,23 @@ cut-unlisted start m new from now to old out written kept piece h f i =
     let all = h.t ++ i.bytes in
     let size : f.read ≡ length all = ap (λ (r : Refusal). r.read) i.is in
     let place : f.place ≡ length all = ap (λ (r : Refusal). r.place) i.is in
-    let listing : IsListing start new.depth all (lines start h.told) = listing-of start new all h.marks h.told i.stands h.are_told in
+    let listing : IsListing start new.depth all (lines start h.reported) = listing-of start new all h.marks h.reported i.stands h.are_reported in
     known from to all (λ input. IsUnlisted start (bounds new.depth new.bytes) input f old out) (Consumes-trans from now to h.t i.bytes h.taken i.consumed)
     (λ rest k. elim i.reason [
       | inl failed ↦
-          of_reader (lines start h.told)
+          of_reader (lines start h.reported)
           (i.is ∙ ap (λ r. refusal r (length all) (length all)) failed ∙ ap (λ n. refusal Read n n) (sym size))
           (subst (λ (n : ℕ). IsVerdict (bounds new.depth new.bytes) form (take n (all ++ rest)) (refused (refusal Truncated n n))) (sym size)
           (subst (λ (xs : List ℕ). IsVerdict (bounds new.depth new.bytes) form xs (refused (refusal Truncated (length all) (length all)))) (sym (take_at all rest (length all) refl)) i.verdict))
-          (front-listed start new.depth f.read all rest (lines start h.told) size listing)
+          (prefix-listed start new.depth f.read all rest (lines start h.reported) size listing)
           h.listed
       | inr ended ↦
           let empty : rest ≡ [] = subst IsAtEnd k ended.1 in
           let whole : all ++ rest ≡ all = ap (λ (xs : List ℕ). all ++ xs) empty ∙ append-nil all in
           let is : f ≡ refusal Truncated (length all) (length all) = i.is ∙ ap (λ r. refusal r (length all) (length all)) ended.0 in
-          of_verdict (lines start h.told)
+          of_verdict (lines start h.reported)
           (subst (λ (xs : List ℕ). IsVerdict (bounds new.depth new.bytes) form xs (refused f)) (sym whole) (subst (λ (r : Refusal). IsVerdict (bounds new.depth new.bytes) form all (refused r)) (sym is) i.verdict))
-          (front-listed start new.depth f.place all rest (lines start h.told) place listing)
+          (prefix-listed start new.depth f.place all rest (lines start h.reported) place listing)
           h.listed
     ])
 
@@ -155,8 +155,8 @@ long-unlisted start m new from now to old out written kept piece h f i =
     let all = h.t ++ i.bytes in
     let place : f.place ≡ length all = ap (λ (r : Refusal). r.place) i.is ∙ sym i.full in
     known from to all (λ input. IsUnlisted start (bounds new.depth new.bytes) input f old out) (Consumes-trans from now to h.t i.bytes h.taken i.consumed)
-    (λ rest k. of_verdict (lines start h.told) (i.verdict rest)
-    (front-listed start new.depth f.place all rest (lines start h.told) place (listing-of start (before new (length all)) all h.marks h.told i.stands h.are_told)) h.listed)
+    (λ rest k. of_verdict (lines start h.reported) (i.verdict rest)
+    (prefix-listed start new.depth f.place all rest (lines start h.reported) place (listing-of start (before new (length all)) all h.marks h.reported i.stands h.are_reported)) h.listed)
 
 -- what was taken, with the byte that is refused
 broken-taken : (start : ℕ) (m new : MachineView) (from now to old out : Option (List ℕ)) (written : ℕ) (kept piece : List ℕ) (h : HasListed start m from now old out written) (f : Refusal) (i : HasFormError f (machine_call m new now to kept piece h.t h.marks))
@@ -170,9 +170,9 @@ broken-unlisted start m new from now to old out written kept piece h f i =
     let all = h.t ++ i.bytes in
     let place : f.place ≡ length all = ap (λ (r : Refusal). r.place) i.is in
     known from to (all ++ i.byte ∷ []) (λ input. IsUnlisted start (bounds new.depth new.bytes) input f old out) (broken-taken start m new from now to old out written kept piece h f i)
-    (λ rest k. of_verdict (lines start h.told) (i.verdict rest)
-    (subst (λ (xs : List ℕ). IsListing start new.depth (take f.place xs) (lines start h.told)) (sym (append_assoc all (i.byte ∷ []) rest))
-    (front-listed start new.depth f.place all (i.byte ∷ rest) (lines start h.told) place (listing-of start (before new (length all)) all h.marks h.told i.stands h.are_told))) h.listed)
+    (λ rest k. of_verdict (lines start h.reported) (i.verdict rest)
+    (subst (λ (xs : List ℕ). IsListing start new.depth (take f.place xs) (lines start h.reported)) (sym (append_assoc all (i.byte ∷ []) rest))
+    (prefix-listed start new.depth f.place all (i.byte ∷ rest) (lines start h.reported) place (listing-of start (before new (length all)) all h.marks h.reported i.stands h.are_reported))) h.listed)
 
 pub refused-unlisted : (start : ℕ) (m new : MachineView) (from now to old out : Option (List ℕ)) (written : ℕ) (kept piece : List ℕ) (h : HasListed start m from now old out written) (f : Refusal)
     → IsCut f (machine_call m new now to kept piece h.t h.marks) ⊎ IsTooLong f (machine_call m new now to kept piece h.t h.marks) ⊎ HasFormError f (machine_call m new now to kept piece h.t h.marks) → IfSome from (λ input. IsUnlisted start (bounds new.depth new.bytes) input f old out)
@@ -191,19 +191,19 @@ refused-lost start m new from now to old out written kept piece h f (inr (inr i)
 
 -- ---- the writer stopped
 
--- the lines so far, and the front of the next
+-- the lines so far, and the prefix of the next
 abbrev stopped_lines : ℕ → List Event → Event → ℕ → List ℕ
 stopped_lines start es e n = lines start es ++ take n (line start e)
 
-stops-within : (start : ℕ) (m new : MachineView) (now to : Option (List ℕ)) (kept piece t : List ℕ) (ms : List Mark) (es : List Event) (e : Event) (count : ℕ) → StandsBetween m t ms → AreTold es ms
+stops-within : (start : ℕ) (m new : MachineView) (now to : Option (List ℕ)) (kept piece t : List ℕ) (ms : List Mark) (es : List Event) (e : Event) (count : ℕ) → StandsBetween m t ms → AreReported es ms
     → (next : IsNextEvent e (machine_call m new now to kept piece t ms)) → count < length (line start e) → IsStopped start new.depth (t ++ next.bytes) (stopped_lines start es e count)
-stops-within start m new now to kept piece t ms es e count s told next short =
+stops-within start m new now to kept piece t ms es e count s reported next short =
     let sum = total-append ms (marks_of e.width e.kind) in
     record {
       beginning = next.stands.stands.beginning;
       earlier = joined es;
       last = e;
-      of_events = λ item rest i. sym (told-joined new (t ++ next.bytes) (ms ++ marks_of e.width e.kind) (es ++ e ∷ []) next.stands.stands (next-more (machine_call m new now to kept piece t ms) es e told s next) item rest i)
+      of_events = λ item rest i. sym (reported-joined new (t ++ next.bytes) (ms ++ marks_of e.width e.kind) (es ++ e ∷ []) next.stands.stands (next-more (machine_call m new now to kept piece t ms) es e reported s next) item rest i)
           ∙ joined-last es e (has-line start e count short);
       ends = omega (arith, sum, s.whole, next.place, next.stands.whole);
       part = count;
@@ -218,19 +218,26 @@ stopped-unlisted start m new from now to old mid out written count kept piece e 
     let all = h.t ++ next.bytes in
     let read : f.read ≡ length all = ap (λ (r : Refusal). r.read) is ∙ next.stands.stands.taken in
     let fits : count ≤ length (line start e) = omega arith in
-    let size : length (stopped_lines start h.told e count) ≡ length (lines start h.told) + count = length-append (lines start h.told) (take count (line start e)) ∙ ap (λ n. length (lines start h.told) + n) (length-take-le count (line start e) fits) in
-    let place : min (written + count) (2 ^ 64 - 1) ≡ min (length (stopped_lines start h.told e count)) (2 ^ 64 - 1) = omega (arith, size, h.count) in
+    let size : length (stopped_lines start h.reported e count) ≡ length (lines start h.reported) + count = length-append (lines start h.reported) (take count (line start e)) ∙ ap (λ n. length (lines start h.reported) + n) (length-take-le count (line start e) fits) in
+    let place : min (written + count) (2 ^ 64 - 1) ≡ min (length (stopped_lines start h.reported e count)) (2 ^ 64 - 1) = omega (arith, size, h.count) in
     known from to all (λ input. IsUnlisted start (bounds new.depth new.bytes) input f old out) (Consumes-trans from now to h.t next.bytes h.taken next.consumed)
-    (λ rest k. of_writer (stopped_lines start h.told e count)
-    (is ∙ ap (λ n. refusal Write n new.taken) place ∙ ap (λ n. refusal Write (min (length (stopped_lines start h.told e count)) (2 ^ 64 - 1)) n) (sym (ap (λ (r : Refusal). r.read) is)))
-    (subst (λ (xs : List ℕ). IsStopped start new.depth xs (stopped_lines start h.told e count)) (sym (take_at all rest f.read (sym read)))
-    (stops-within start m new now to kept piece h.t h.marks h.told e count h.between h.are_told next short))
-    (Appends-trans old mid out (lines start h.told) (take count (line start e)) h.listed wrote))
+    (λ rest k. of_writer (stopped_lines start h.reported e count)
+    (is ∙ ap (λ n. refusal Write n new.taken) place ∙ ap (λ n. refusal Write (min (length (stopped_lines start h.reported e count)) (2 ^ 64 - 1)) n) (sym (ap (λ (r : Refusal). r.read) is)))
+    (subst (λ (xs : List ℕ). IsStopped start new.depth xs (stopped_lines start h.reported e count)) (sym (take_at all rest f.read (sym read)))
+    (stops-within start m new now to kept piece h.t h.marks h.reported e count h.between h.are_reported next short))
+    (Appends-trans old mid out (lines start h.reported) (take count (line start e)) h.listed wrote))
 
 pub stopped-lost : (start : ℕ) (m new : MachineView) (from now to old mid : Option (List ℕ)) (written : ℕ) (kept piece : List ℕ) (e : Event) (h : HasListed start m from now old mid written) (n : ℕ)
     → IsNextEvent e (machine_call m new now to kept piece h.t h.marks) → n ≡ new.taken → Loses n from to
 stopped-lost start m new from now to old mid written kept piece e h n next is =
     loses (h.t ++ next.bytes) n from to (is ∙ next.stands.stands.taken) (Consumes-trans from now to h.t next.bytes h.taken next.consumed)
+
+-- ---- the reasons
+
+-- the events stop for no other
+pub listing_reason : (r : Reason) → IsEventReason r → IsListingReason r
+listing_reason Write h = tt
+listing_reason _ h = h
 
 -- ---- the limits
 

@@ -7,8 +7,8 @@ use Rattle.cbor_diag.specs.inner.Outbox.{HasPut, HasStopped, Puts}
 use Rattle.cbor_diag.proofs.Putting.{puts-next, puts-then, puts-stops, stops-more}
 use Rattle.cbor_diag.specs.{Text.escaped, Text.simple_text, declared.outbox.Outbox.Outbox, declared.outbox.Stopped.Stopped}
 
-pub spaces-front : (level n : ℕ) → n ≡ level → level ≤ MAX_DEPTH → take {A = ℕ} (2 * n) (replicate (2 * MAX_DEPTH) 32) ≡ replicate (2 * level) 32
-spaces-front level n e few = rw e (take-replicate (2 * level) (2 * MAX_DEPTH) 32 (omega arith))
+pub spaces-prefix : (level n : ℕ) → n ≡ level → level ≤ MAX_DEPTH → take {A = ℕ} (2 * n) (replicate (2 * MAX_DEPTH) 32) ≡ replicate (2 * level) 32
+spaces-prefix level n e few = rw e (take-replicate (2 * level) (2 * MAX_DEPTH) 32 (omega arith))
 
 pub simple-other : (n : ℕ) → (n ≡ 20 → ⊥) → (n ≡ 21 → ⊥) → (n ≡ 22 → ⊥) → (n ≡ 23 → ⊥) → simple_text n ≡ (codes "simple(" ++ decimal n) ++ codes ")"
 simple-other n a b c d = rw (ne_eqb n 20 a, ne_eqb n 21 b, ne_eqb n 22 c, ne_eqb n 23 d) refl
@@ -115,13 +115,13 @@ raw-skipped a b s t xs start at h is w =
     let there : start + (at - start) ≡ at = omega arith in
     let inside : at - start < length (drop start xs) = omega (arith, length-drop start xs) in
     let byte : get_or (drop start xs) (at - start) 0 ≡ get_or xs at 0 = get_or-drop start xs (at - start) 0 ∙ ap (λ (n : ℕ). get_or xs n 0) there in
-    let front = flat_map escaped (take start xs) in
+    let prefix = flat_map escaped (take start xs) in
     let run = take (at - start) (drop start xs) in
     record {
       within = omega arith;
       written = w.written;
-      raw = more xs at h ∙ ap (λ (l : List ℕ). l ++ escaped (get_or xs at 0)) w.raw ∙ ap (λ (l : List ℕ). (front ++ run) ++ l) is ∙ append_assoc front run (get_or xs at 0 ∷ [])
-          ∙ ap (λ (l : List ℕ). front ++ l) (sym (ap (λ (n : ℕ). take n (drop start xs)) k ∙ take_more (drop start xs) (at - start) 0 inside ∙ ap (λ (n : ℕ). run ++ n ∷ []) byte));
+      raw = more xs at h ∙ ap (λ (l : List ℕ). l ++ escaped (get_or xs at 0)) w.raw ∙ ap (λ (l : List ℕ). (prefix ++ run) ++ l) is ∙ append_assoc prefix run (get_or xs at 0 ∷ [])
+          ∙ ap (λ (l : List ℕ). prefix ++ l) (sym (ap (λ (n : ℕ). take n (drop start xs)) k ∙ take_more (drop start xs) (at - start) 0 inside ∙ ap (λ (n : ℕ). run ++ n ∷ []) byte));
     }
 
 -- the last run

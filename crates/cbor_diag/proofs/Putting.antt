@@ -36,7 +36,7 @@ puts-stops a b c s t xs ys e p q = record {
   took = p.took ++ q.took;
   others = q.others;
   appended = Appends-trans a b c p.took q.took p.appended q.appended;
-  front = regroup p.took q.took q.others s.waiting.items xs ys t.waiting.items p.others q.front;
+  prefix = regroup p.took q.took q.others s.waiting.items xs ys t.waiting.items p.others q.prefix;
   not_all = q.not_all;
   counted = λ k f. q.counted (k + length p.took) (p.counted k f) ∙ counts p.took q.took k;
 }
@@ -53,7 +53,7 @@ stops-more a b s xs ys e p =
       took = p.took;
       others = p.others ++ ys;
       appended = p.appended;
-      front = sym (append_assoc p.took p.others ys) ∙ ap (λ (l : List ℕ). l ++ ys) p.front ∙ append_assoc s.waiting.items xs ys;
+      prefix = sym (append_assoc p.took p.others ys) ∙ ap (λ (l : List ℕ). l ++ ys) p.prefix ∙ append_assoc s.waiting.items xs ys;
       not_all = omega (arith, length-append p.others ys);
       counted = p.counted;
     }
@@ -72,7 +72,7 @@ sent-some a b s bytes whole e is sent =
       took = take sent.0 bytes;
       others = drop sent.0 bytes;
       appended = sent.3;
-      front = take-append-drop sent.0 bytes ∙ is;
+      prefix = take-append-drop sent.0 bytes ∙ is;
       not_all = omega (arith, length-drop sent.0 bytes);
       counted = λ k f. sent.1 ∙ omega (arith, f, exactly);
     }
@@ -104,11 +104,11 @@ puts-from a b s t u xs r is p = subst (λ (o : Outbox). Puts a b o u xs r) is p
 pub writes-stopped : (a b : Option (List ℕ)) (s e : Outbox) (text : List ℕ) (place : ℕ) → place ≡ e.taken → s.waiting.items ≡ [] → s.taken ≡ 0 → HasStopped a b s text e → Writes a b text (Err (stopped_at place))
 writes-stopped a b s e text place is none start p =
     let not_all = p.not_all in
-    let front : p.took ++ p.others ≡ text = p.front ∙ ap (λ (l : List ℕ). l ++ text) none in
-    let taken : take (length p.took) text ≡ p.took = ap (take (length p.took)) (sym front) ∙ take-append_seam p.took p.others in (
+    let prefix : p.took ++ p.others ≡ text = p.prefix ∙ ap (λ (l : List ℕ). l ++ text) none in
+    let taken : take (length p.took) text ≡ p.took = ap (take (length p.took)) (sym prefix) ∙ take-append_seam p.took p.others in (
       length p.took,
       ap stopped_at (is ∙ p.counted 0 start ∙ omega arith),
-      omega (arith, ap length front, length-append p.took p.others),
+      omega (arith, ap length prefix, length-append p.took p.others),
       subst (λ (l : List ℕ). Appends a b l) (sym taken) p.appended,
     )
 

@@ -120,24 +120,24 @@ mutual
       (back l (level + 1) v k others h.1 (omega arith) (rows-ends l level 125 (laid_pairs l (level + 1) es) x (omega arith))) (pairs-back l level false es k x h.2 (omega arith))
 
 -- texts in any layouts with rests that are equal are of the same value, and the rests are equal
-pub told : (l m : Layout) (i j : ℕ) (v w : Value) (x y : List ℕ) → IsInRange v → IsInRange w → Ends x → Ends y → laid_out l i v ++ x ≡ laid_out m j w ++ y → (v ≡ w) × (x ≡ y)
-told l m i j v w x y h g e f is =
+pub reported : (l m : Layout) (i j : ℕ) (v w : Value) (x y : List ℕ) → IsInRange v → IsInRange w → Ends x → Ends y → laid_out l i v ++ x ≡ laid_out m j w ++ y → (v ≡ w) × (x ≡ y)
+reported l m i j v w x y h g e f is =
     let same : ◌≡◌ {A = Read} (v, x) (w, y) =
     sym (back l i v (suc (size v + size w)) x h (omega arith) e) ∙ ap (read (suc (size v + size w))) is ∙ back m j w (suc (size v + size w)) y g (omega arith) f in
     (ap (λ (r : Read). r.0) same, ap (λ (r : Read). r.1) same)
 
 -- ---- the two texts
 
-pub told-line : (v w : Value) (x y : List ℕ) → IsInRange v → IsInRange w → Ends x → Ends y → text v ++ x ≡ text w ++ y → (v ≡ w) × (x ≡ y)
-told-line v w x y h g e f is =
-    told OneLine OneLine 0 0 v w x y h g e f (ap (λ (l : List ℕ). l ++ x) (one-line v 0) ∙ is ∙ sym (ap (λ (l : List ℕ). l ++ y) (one-line w 0)))
+pub reported-line : (v w : Value) (x y : List ℕ) → IsInRange v → IsInRange w → Ends x → Ends y → text v ++ x ≡ text w ++ y → (v ≡ w) × (x ≡ y)
+reported-line v w x y h g e f is =
+    reported OneLine OneLine 0 0 v w x y h g e f (ap (λ (l : List ℕ). l ++ x) (one-line v 0) ∙ is ∙ sym (ap (λ (l : List ℕ). l ++ y) (one-line w 0)))
 
 pub equal-line : (v w : Value) → IsInRange v → IsInRange w → text v ≡ text w ↔ v ≡ w
-equal-line v w h g = ((λ e. (told-line v w [] [] h g tt tt (ap (λ (l : List ℕ). l ++ []) e)).0), ap text)
+equal-line v w h g = ((λ e. (reported-line v w [] [] h g tt tt (ap (λ (l : List ℕ). l ++ []) e)).0), ap text)
 
-pub told-lines : (i j : ℕ) (v w : Value) (x y : List ℕ) → IsInRange v → IsInRange w → Ends x → Ends y → indented i v ++ x ≡ indented j w ++ y → (v ≡ w) × (x ≡ y)
-told-lines i j v w x y h g e f is =
-    told Indented Indented i j v w x y h g e f (ap (λ (l : List ℕ). l ++ x) (on-lines v i) ∙ is ∙ sym (ap (λ (l : List ℕ). l ++ y) (on-lines w j)))
+pub reported-lines : (i j : ℕ) (v w : Value) (x y : List ℕ) → IsInRange v → IsInRange w → Ends x → Ends y → indented i v ++ x ≡ indented j w ++ y → (v ≡ w) × (x ≡ y)
+reported-lines i j v w x y h g e f is =
+    reported Indented Indented i j v w x y h g e f (ap (λ (l : List ℕ). l ++ x) (on-lines v i) ∙ is ∙ sym (ap (λ (l : List ℕ). l ++ y) (on-lines w j)))
 
 pub equal-lines : (i : ℕ) (v w : Value) → IsInRange v → IsInRange w → indented i v ≡ indented i w ↔ v ≡ w
-equal-lines i v w h g = ((λ e. (told-lines i i v w [] [] h g tt tt (ap (λ (l : List ℕ). l ++ []) e)).0), ap (indented i))
+equal-lines i v w h g = ((λ e. (reported-lines i i v w [] [] h g tt tt (ap (λ (l : List ℕ). l ++ []) e)).0), ap (indented i))

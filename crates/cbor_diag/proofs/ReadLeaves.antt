@@ -5,7 +5,7 @@ use Rattle.hex.specs.Hex.{encode_lower, decode_of, is_hex_digit}
 use Rattle.cbor_head.specs.Value as value
 use Rattle.cbor_head.specs.Prelude.{Value, Values, Entries, IsInRange}
 use Rattle.cbor_diag.specs.inner.Layout.{laid_out, laid_pairs, laid_texts, rows}
-use Rattle.cbor_diag.proofs.Reading.{front, rest, Pass, Stands, front-all, rest-all, digit, decimals, digit-range, no-digit, decoded, decoded-back, hex-pass, first, unquoted, unquoted-back}
+use Rattle.cbor_diag.proofs.Reading.{prefix, rest, Pass, Stands, prefix-all, rest-all, digit, decimals, digit-range, no-digit, decoded, decoded-back, hex-pass, first, unquoted, unquoted-back}
 use Rattle.cbor_diag.specs.{Text.escaped, Text.simple_text, Follows.Ends, declared.layout.Layout.Layout}
 
 abbrev pub Read : Type 0
@@ -21,7 +21,7 @@ blank c = eqb c 44 || (eqb c 32 || eqb c 10)
 
 -- a number, and what is behind it
 abbrev number : List ℕ → ℕ
-number cs = digits_value 10 (front digit cs)
+number cs = digits_value 10 (prefix digit cs)
 
 abbrev behind : List ℕ → List ℕ
 behind cs = rest digit cs
@@ -31,7 +31,7 @@ abbrev word : ℕ → List ℕ → Read
 word c cs =
     cond (eqb c 34) (let r = unquoted (drop 1 cs) in (value.text r.0, r.1))
     (cond (eqb c 45) (value.negative (number (drop 1 cs) - 1), behind (drop 1 cs))
-    (cond (eqb c 104) (value.bytes (decoded (decode_of (front is_hex_digit (drop 2 cs)))), drop 1 (rest is_hex_digit (drop 2 cs)))
+    (cond (eqb c 104) (value.bytes (decoded (decode_of (prefix is_hex_digit (drop 2 cs)))), drop 1 (rest is_hex_digit (drop 2 cs)))
     (cond (eqb c 102) (value.simple 20, drop 5 cs)
     (cond (eqb c 116) (value.simple 21, drop 4 cs)
     (cond (eqb c 110) (value.simple 22, drop 4 cs)
@@ -173,7 +173,7 @@ numeral n ys small h =
     let d = decimals n small in
     record {
       begun = first-passes (decimal n) ys d.some d.pass;
-      number_is = ap (digits_value 10) (front-all digit (decimal n) ys d.pass h) ∙ d.value;
+      number_is = ap (digits_value 10) (prefix-all digit (decimal n) ys d.pass h) ∙ d.value;
       behind_is = rest-all digit (decimal n) ys d.pass h;
     }
 
@@ -202,9 +202,9 @@ negative-back k n x small h =
 
 pub bytes-back : (k : ℕ) (bs x : List ℕ) → value.AreBytes bs → read (suc k) (104 ∷ 39 ∷ (encode_lower bs ++ 39 ∷ x)) ≡ (value.bytes bs, x)
 bytes-back k bs x h =
-    let digits = front-all is_hex_digit (encode_lower bs) (39 ∷ x) (hex-pass bs h) refl in
+    let digits = prefix-all is_hex_digit (encode_lower bs) (39 ∷ x) (hex-pass bs h) refl in
     let after = rest-all is_hex_digit (encode_lower bs) (39 ∷ x) (hex-pass bs h) refl in
-    let back : decoded (decode_of (front is_hex_digit (encode_lower bs ++ 39 ∷ x))) ≡ bs = ap (λ (l : List ℕ). decoded (decode_of l)) digits ∙ decoded-back bs h in
+    let back : decoded (decode_of (prefix is_hex_digit (encode_lower bs ++ 39 ∷ x))) ≡ bs = ap (λ (l : List ℕ). decoded (decode_of l)) digits ∙ decoded-back bs h in
     λ i. (value.bytes (back i), drop 1 (after i))
 
 pub text-back : (k : ℕ) (bs x : List ℕ) → value.AreBytes bs → read (suc k) (34 ∷ (flat_map escaped bs ++ 34 ∷ x)) ≡ (value.text bs, x)

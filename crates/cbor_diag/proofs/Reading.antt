@@ -1,4 +1,4 @@
--- Texts read back, so that they tell their values. It reads more than texts: only texts matter.
+-- Texts read back, so that they report their values. It reads more than texts: only texts matter.
 use Rattle.std.proofs.Common.{◌≡◌, ℕ, zero, suc, ◌/◌, ◌%◌, ◌^◌, ◌<◌, ◌≤◌, Bool, true, false, cond, List, [], ◌∷◌, ◌++◌, length, get_or, flat_map, codes, decimal, Result, Ok, Err, is_some, ◌⊎◌, inl, inr, eqb, ltb, refl, sym, ap, ◌∙◌, subst, arith, lt-ltb, ltb-true, eqb-true}
 use Rattle.std.{proofs.lemmas.Bool.cases_Bool, specs.List.AllByRecursion, specs.Char.digit_value, specs.Str.Parse.digits_value, specs.Str.Parse.AllDigits}
 use Rattle.std.proofs.lemmas.{Fmt.decimal_is_IsNumeral_wide, Str.Parse.digit_from_value}
@@ -7,11 +7,11 @@ use Rattle.hex.{proofs.HexLemmas.decode_of-encode_lower, proofs.HexLemmas.IsDigi
 use Rattle.cbor_head.specs.Prelude.{AreBytes}
 use Rattle.cbor_diag.specs.Text.{escaped}
 
--- ---- the front that passes a test, and the rest
+-- ---- the prefix that passes a test, and the rest
 
-abbrev pub front : (ℕ → Bool) → List ℕ → List ℕ
-front p [] = []
-front p (x ∷ xs) = cond (p x) (x ∷ front p xs) []
+abbrev pub prefix : (ℕ → Bool) → List ℕ → List ℕ
+prefix p [] = []
+prefix p (x ∷ xs) = cond (p x) (x ∷ prefix p xs) []
 
 abbrev pub rest : (ℕ → Bool) → List ℕ → List ℕ
 rest p [] = []
@@ -25,17 +25,17 @@ abbrev pub Stands : (ℕ → Bool) → List ℕ → Type 0
 Stands p [] = Unit {0}
 Stands p (x ∷ xs) = p x ≡ false
 
-front-none : (p : ℕ → Bool) (ys : List ℕ) → Stands p ys → front p ys ≡ []
-front-none p [] h = refl
-front-none p (y ∷ ys) h = rw h refl
+prefix-none : (p : ℕ → Bool) (ys : List ℕ) → Stands p ys → prefix p ys ≡ []
+prefix-none p [] h = refl
+prefix-none p (y ∷ ys) h = rw h refl
 
 rest-none : (p : ℕ → Bool) (ys : List ℕ) → Stands p ys → rest p ys ≡ ys
 rest-none p [] h = refl
 rest-none p (y ∷ ys) h = rw h refl
 
-pub front-all : (p : ℕ → Bool) (xs ys : List ℕ) → Pass p xs → Stands p ys → front p (xs ++ ys) ≡ xs
-front-all p [] ys a h = front-none p ys h
-front-all p (x ∷ xs) ys a h = let one = a.0 in rw one (ap (λ (l : List ℕ). x ∷ l) (front-all p xs ys a.1 h))
+pub prefix-all : (p : ℕ → Bool) (xs ys : List ℕ) → Pass p xs → Stands p ys → prefix p (xs ++ ys) ≡ xs
+prefix-all p [] ys a h = prefix-none p ys h
+prefix-all p (x ∷ xs) ys a h = let one = a.0 in rw one (ap (λ (l : List ℕ). x ∷ l) (prefix-all p xs ys a.1 h))
 
 pub rest-all : (p : ℕ → Bool) (xs ys : List ℕ) → Pass p xs → Stands p ys → rest p (xs ++ ys) ≡ ys
 rest-all p [] ys a h = rest-none p ys h

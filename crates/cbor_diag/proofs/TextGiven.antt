@@ -5,9 +5,9 @@ use Rattle.hex.specs.Hex.{encode_with, lower_digits}
 use Rattle.cbor_head.specs.Prelude.{Spelling, Spellings, SpelledEntries, array, a_map, no_spellings, a_spelling, no_entries, entry, value_of, values_of, entries_of, Value}
 use Rattle.cbor_head.specs.declared.major.Major.TheVariants as majors
 use Rattle.cbor_head.specs.declared.major.Major.{Major}
-use Rattle.cbor_judging.specs.Levels.{Level, IsOpened, a_member, a_value, some_member, some_key, some_value, tagged, item_due, item_full, settle}
-use Rattle.cbor_judging.{specs.Frame.with_all, specs.Frame.with_entries, specs.Reading.string_value, proofs.Levels.of-opened}
-use Rattle.cbor_walk.specs.Sink.{Told, IsEndedAs, StandsFull, IsContainerFull, Gives, Opens, Ends, BeginsString, GrowsString, EndsString}
+use Rattle.cbor_verdict.specs.Levels.{Level, IsOpened, a_member, a_value, some_member, some_key, some_value, tagged, item_expected, item_full, settle}
+use Rattle.cbor_verdict.{specs.Frame.with_all, specs.Frame.with_entries, specs.Reading.string_value, proofs.Levels.of-opened}
+use Rattle.cbor_parser.specs.Sink.{Reported, IsEndedAs, StandsFull, IsContainerFull, Gives, Opens, Ends, BeginsString, GrowsString, EndsString}
 use Rattle.cbor_diag.specs.Text.{text, texts, pair_texts, joined, escaped}
 use Rattle.cbor_diag.specs.inner.Strings.{opening, content_text, closing, string_text}
 use Rattle.cbor_diag.specs.inner.TextSinks.{opener, closer, an_open, are_none, comma, text_in, open_of, entered_of, before, text_to, inner_in, around_in, IsAt, IsWithin, text_stands, text_holds, Reaches}
@@ -34,8 +34,8 @@ more-content : (t : Bool) (xs ys : List ℕ) → content_text t (xs ++ ys) ≡ c
 more-content true xs ys = flat_map-append escaped xs ys
 more-content false xs ys = encode-append lower_digits xs ys
 
-in-front : (u f x y : List ℕ) → (u ++ (f ++ x)) ++ y ≡ u ++ (f ++ (x ++ y))
-in-front u f x y = simp append_assoc
+in-prefix : (u f x y : List ℕ) → (u ++ (f ++ x)) ++ y ≡ u ++ (f ++ (x ++ y))
+in-prefix u f x y = simp append_assoc
 
 -- these bytes, and the same containers are open
 pub record Writes (old new : TextSink) (bytes : List ℕ) : Type 0 where
@@ -80,7 +80,7 @@ some-in (s ∷ ts) t = refl
 listed : (g : TextSink) (k : Major) (u f t x : List ℕ) (ts us : List (List ℕ)) (around : List Open) → us ≡ ts ++ t ∷ [] → x ≡ ((u ++ (f ++ joined ts)) ++ comma (are_none ts)) ++ t
     → IsAt g x (Some (an_open k false)) around → IsAt g (u ++ (f ++ joined us)) (Some (an_open k (are_none us))) around
 listed g k u f t x ts us around is e at = record {
-  given = at.given ∙ e ∙ ap (λ (z : List ℕ). z ++ t) (in-front u f (joined ts) (comma (are_none ts))) ∙ in-front u f (joined ts ++ comma (are_none ts)) t
+  given = at.given ∙ e ∙ ap (λ (z : List ℕ). z ++ t) (in-prefix u f (joined ts) (comma (are_none ts))) ∙ in-prefix u f (joined ts ++ comma (are_none ts)) t
       ∙ ap (λ (z : List ℕ). u ++ (f ++ z)) (sym (joined-more ts t) ∙ ap joined (sym is));
   innermost = at.innermost ∙ ap (λ (b : Bool). Some (an_open k b)) (sym (ap are_none is ∙ some-in ts t));
   around = at.around;
@@ -113,29 +113,29 @@ settles start g (a_value w (suc left) done k ∷ vs) s at = value-given g (text_
 settles start g (some_value done k ∷ vs) s at = value-given g (text_to vs) done k s _ at
 settles start g (tagged w n ∷ vs) s at =
     let u = text_to vs in
-    let front = decimal n ++ codes "(" in
+    let prefix = decimal n ++ codes "(" in
     let x = text (value_of s) in
-    let is : ((u ++ front) ++ []) ++ x ≡ u ++ (front ++ x) = ap (λ (z : List ℕ). z ++ x) (append-nil (u ++ front)) ∙ append_assoc u front x in
-    (front ++ x, an_open majors.Tag true, refl, record { given = at.given ∙ is; innermost = at.innermost; around = at.around })
+    let is : ((u ++ prefix) ++ []) ++ x ≡ u ++ (prefix ++ x) = ap (λ (z : List ℕ). z ++ x) (append-nil (u ++ prefix)) ∙ append_assoc u prefix x in
+    (prefix ++ x, an_open majors.Tag true, refl, record { given = at.given ∙ is; innermost = at.innermost; around = at.around })
 settles start g _ s at = at
 
 pub given : (k : Bool) (v : Value) (y : List ℕ) (old mid new : TextSink) → Reaches k old mid → text v ≡ y → Writes mid new y → Gives TextSink text_stands k v old new
-given k v y old mid new reaches is wrote start d vs s told done e =
-    settles start new vs s (behind mid new (text_to vs) y _ _ _ (ap (λ (z : List ℕ). text_to vs ++ z) (sym is ∙ ap text (sym e))) (reaches start vs told) wrote)
+given k v y old mid new reaches is wrote start d vs s reported done e =
+    settles start new vs s (behind mid new (text_to vs) y _ _ _ (ap (λ (z : List ℕ). text_to vs ++ z) (sym is ∙ ap text (sym e))) (reaches start vs reported) wrote)
 
 -- ---- strings in chunks
 
 pub string-begun : (k t : Bool) (old mid new : TextSink) → Reaches k old mid → Writes mid new (opening t) → BeginsString TextSink text_stands text_holds k t old new
-string-begun k t old mid new reaches wrote start vs told =
-    behind mid new (text_to vs) (opening t) _ _ _ (ap (λ (y : List ℕ). text_to vs ++ y) (no-content t)) (reaches start vs told) wrote
+string-begun k t old mid new reaches wrote start vs reported =
+    behind mid new (text_to vs) (opening t) _ _ _ (ap (λ (y : List ℕ). text_to vs ++ y) (no-content t)) (reaches start vs reported) wrote
 
 pub string-grown : (k t : Bool) (x : List ℕ) (old new : TextSink) → Writes old new (content_text t x) → GrowsString TextSink text_holds k t x old new
-string-grown k t x old new wrote start vs content at told =
-    let grown = in-front (text_to vs) (opening t) (content_text t content) (content_text t x) in
+string-grown k t x old new wrote start vs content at reported =
+    let grown = in-prefix (text_to vs) (opening t) (content_text t content) (content_text t x) in
     behind old new _ (content_text t x) _ _ _ (grown ∙ ap (λ (y : List ℕ). text_to vs ++ (opening t ++ y)) (sym (more-content t content x))) at wrote
 
 pub string-ended : (k t : Bool) (old new : TextSink) → Writes old new (closing t) → EndsString TextSink text_stands text_holds k t old new
-string-ended k t old new wrote start d vs content s at told done e =
+string-ended k t old new wrote start d vs content s at reported done e =
     let u = text_to vs in
     let whole = opening t ++ content_text t content in
     let is : string_text t content ≡ text (value_of s) = sym (text-of_string t content) ∙ ap text (sym e) in
@@ -148,8 +148,8 @@ level-opened u = of-opened (λ m i v. (u ++ opener m i ≡ text_in u v) × (an_o
 
 pub opened : (k : Bool) (m : Major) (i : ℕ) (old mid new : TextSink) → Reaches k old mid → HasPut (Some mid.shown.now.items) (Some new.shown.now.items) mid.out.now new.out.now (opener m i)
     → new.inner ≡ Some (an_open m true) → new.around.items ≡ mid.around.items ++ option_to_list mid.inner → Opens TextSink text_stands k m i old new
-opened k m i old mid new reaches put inner around start vs v told is =
-    let at = reaches start vs told in
+opened k m i old mid new reaches put inner around start vs v reported is =
+    let at = reaches start vs reported in
     let same = level-opened (text_to vs) m i v is in
     record {
       given = more mid new (text_to vs) (opener m i) at.given put ∙ same.0;
@@ -157,14 +157,14 @@ opened k m i old mid new reaches put inner around start vs v told is =
       around = around ∙ ap₂ (λ (os : List Open) (o : Option Open). os ++ option_to_list o) at.around at.innermost;
     }
 
-endless : (start g : TextSink) (vs : List Level) (v : Level) (s : Spelling) → IsEndedAs v s → text_stands start g (item_due (v ∷ vs)) → text_stands start g (item_full vs s)
-endless start g vs (some_member done) (array w ss) ended at = (_, _, ap (λ (x : Spellings). text (value_of (array w x))) (sym ended), at)
-endless start g vs (some_key done) (a_map w es) ended at = (_, _, ap (λ (x : SpelledEntries). text (value_of (a_map w x))) (sym ended), at)
-endless start g vs v s ended at = absurd ended
+indefinite : (start g : TextSink) (vs : List Level) (v : Level) (s : Spelling) → IsEndedAs v s → text_stands start g (item_expected (v ∷ vs)) → text_stands start g (item_full vs s)
+indefinite start g vs (some_member done) (array w ss) ended at = (_, _, ap (λ (x : Spellings). text (value_of (array w x))) (sym ended), at)
+indefinite start g vs (some_key done) (a_map w es) ended at = (_, _, ap (λ (x : SpelledEntries). text (value_of (a_map w x))) (sym ended), at)
+indefinite start g vs v s ended at = absurd ended
 
-full-at : (k : Bool) (d : ℕ) (start g : TextSink) (vs : List Level) (s : Spelling) → StandsFull TextSink (Told TextSink text_stands k) d start g vs s → text_stands start g (item_full vs s)
+full-at : (k : Bool) (d : ℕ) (start g : TextSink) (vs : List Level) (s : Spelling) → StandsFull TextSink (Reported TextSink text_stands k) d start g vs s → text_stands start g (item_full vs s)
 full-at k d start g vs s (inl at) = at.0
-full-at k d start g vs s (inr (v, ended, levels, at)) = endless start g vs v s ended at.0
+full-at k d start g vs s (inr (v, ended, levels, at)) = indefinite start g vs v s ended at.0
 
 pub some-open : (t k : Bool) (g : TextSink) → IsContainerFull TextSink text_stands t k g → ((o : Open) → g.inner ≡ Some o → ⊥) → ⊥
 some-open t k g (start, d, vs, s, fills, full) none = let at = full-at k d start g vs s full in none at.1 at.3.innermost

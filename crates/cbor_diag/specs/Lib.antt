@@ -1,6 +1,12 @@
+pub mod Annotated
+pub mod Explanation
 pub mod Follows
+pub mod Hidden
 pub mod IndentedText
-pub mod inner
+pub mod ItemPath
 pub mod Listing
+pub mod Sentences
+pub mod Surroundings
 pub mod Text
 pub mod Written
+pub mod inner

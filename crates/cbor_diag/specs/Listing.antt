@@ -75,7 +75,7 @@ pub record IsStopped (start d : ℕ) (t out : List ℕ) : Type 0 where
   pub within : part < length (line start last)
   pub is : out ≡ lines start earlier ++ take part (line start last)
 
--- the item at the front of the bytes b, which stand at start, is accepted, and its listing was written
+-- the item at the start of the bytes b, which stand at start, is accepted, and its listing was written
 pub record IsListed (start : ℕ) (limits : Bounds) (b : List ℕ) (count : ℕ) (old new : Option (List ℕ)) : Type 0 where
   pub item : Spelling
   pub verdict : IsVerdict limits form b (accepted item)
@@ -84,7 +84,7 @@ pub record IsListed (start : ℕ) (limits : Bounds) (b : List ℕ) (count : ℕ)
 
 -- the bytes b are refused, and something was written
 pub data IsUnlisted (start : ℕ) (limits : Bounds) (b : List ℕ) (f : Refusal) (old new : Option (List ℕ)) : Type 0 where
-  -- the verdict of form: the listing of the bytes in front of its place
+  -- the verdict of form: the listing of the bytes before its place
   of_verdict : (out : List ℕ) → IsVerdict limits form b (refused f)
       → IsListing start limits.depth (take f.place b) out → Appends old new out → IsUnlisted start limits b f old new
   -- the reader failed: the listing of the bytes taken; as a whole input, these are Truncated

@@ -1,7 +1,9 @@
 -- What private functions speak of; no public contract does.
+pub mod Annotated
 pub mod Layout
-pub mod Outbox
 pub mod Levels
 pub mod Nodes
+pub mod Outbox
 pub mod Strings
 pub mod TextSinks
+pub mod Written

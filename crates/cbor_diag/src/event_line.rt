@@ -5,10 +5,10 @@ ghost use Rattle.std.specs.Prelude.{MatchOption, IfSome};
 ghost use Rattle.arrayvec.specs.ArrayVec.{array_vec_len};
 ghost use Rattle.cbor_diag.specs.Listing.{columns, argument_text, width_text, line};
 
+use crate::line::{push, push_number};
 use arrayvec::ArrayVec;
 use cbor_automaton::{Event, EventKind};
 use cbor_head::Width;
-use itoa::Buffer;
 
 // An offset and an argument have at most 20 digits each, a name at most 8 letters; with the width,
 // three spaces and the line feed that is 53.
@@ -34,26 +34,6 @@ pub(crate) fn line_of(start: u64, event: &Event) -> Line
         push(&mut line, b"\n");
     }
     line
-}
-
-fn push(line: &mut Line, text: &[u8])
-    requires { array_vec_len line.old + length text.now ≤ 64 }
-    ensures text { line.new.items ≡ line.old.items ++ text.now }
-    ensures len { array_vec_len line.new ≡ array_vec_len line.old + length text.now }
-{
-    match line.try_extend_from_slice(text) {
-        Ok(()) => {}
-        Err(_) => unreachable!(),
-    }
-}
-
-fn push_number(line: &mut Line, n: u64)
-    requires { array_vec_len line.old + 20 ≤ 64 }
-    ensures text { line.new.items ≡ line.old.items ++ decimal n }
-    ensures short { array_vec_len line.new ≤ array_vec_len line.old + 20 }
-{
-    let mut buffer = Buffer::new();
-    push(line, buffer.format(n).as_bytes());
 }
 
 fn push_argument(line: &mut Line, argument: Option<u64>)

@@ -1,7 +1,7 @@
 //! The listing of an item's events.
 
 ghost use Rattle.std.specs.Prelude.{◌+◌, ◌<◌, ◌^◌, IfOk, IfErr, IfSome};
-ghost use Rattle.cbor_judging.specs.Readers.{Loses};
+ghost use Rattle.cbor_verdict.specs.Readers.{Loses};
 ghost use Rattle.cbor_diag.specs.Listing.{IsListed, IsUnlisted, IsListingReason};
 
 use crate::event_line::line_of;
@@ -47,7 +47,7 @@ pub fn listing<R: Read, W: Write>(
     listing_from(reader, 0, limits, writer)
 }
 
-/// The same of an item that starts at this offset of an input of many: the offsets in its lines are
+/// Writes the lines of an item that starts at the offset `start` of an input of many: the offsets in its lines are
 /// counted from the start of that input, and the places of a refusal from the start of the item.
 pub fn listing_from<R: Read, W: Write>(
     reader: &mut R,

@@ -10,25 +10,25 @@ ghost use Rattle.cbor_diag.specs.Text.{text};
 
 use cbor_item::Tree;
 
-/// A text tells its value, pair for pair in order, and where it ends inside a longer text: before
+/// A text reports its value, pair for pair in order, and where it ends inside a longer text: before
 /// anything but a digit or an opening parenthesis. So values have equal texts exactly where they
 /// are equal.
-pub fn text_tells_the_value()
-    ensures told { (v w : Value) (x y : List ℕ) → IsInRange v → IsInRange w → Ends x → Ends y
+pub fn text_determines_the_value()
+    ensures reported { (v w : Value) (x y : List ℕ) → IsInRange v → IsInRange w → Ends x → Ends y
         → text v ++ x ≡ text w ++ y → (v ≡ w) × (x ≡ y) }
     ensures equal { (v w : Value) → IsInRange v → IsInRange w → text v ≡ text w ↔ v ≡ w }
 {}
 
-/// The same of the text with one member or pair a line, at whatever levels.
-pub fn indented_text_tells_the_value()
-    ensures told { (i j : ℕ) (v w : Value) (x y : List ℕ) → IsInRange v → IsInRange w
+/// The text with one member or pair a line determines the value, at whatever levels.
+pub fn indented_text_determines_the_value()
+    ensures reported { (i j : ℕ) (v w : Value) (x y : List ℕ) → IsInRange v → IsInRange w
         → Ends x → Ends y → indented i v ++ x ≡ indented j w ++ y → (v ≡ w) × (x ≡ y) }
     ensures equal { (i : ℕ) (v w : Value) → IsInRange v → IsInRange w
         → indented i v ≡ indented i w ↔ v ≡ w }
 {}
 
 /// Trees have equal texts exactly where their items have equal values, pair for pair in order.
-pub fn texts_tell_trees(left: &Tree, right: &Tree)
+pub fn texts_distinguish_trees(left: &Tree, right: &Tree)
     ensures one_line { text (view left.now) ≡ text (view right.now)
         ↔ view left.now ≡ view right.now }
     ensures lines { indented 0 (view left.now) ≡ indented 0 (view right.now)

@@ -1,8 +1,8 @@
-//! Diagnostic text of CBOR items, and listings of their events.
+//! Text for people: diagnostic notation (RFC 8949, section 8), listings of events, and explanations of refusals.
 //!
-//! [`diagnostic`] writes an item as people read it, in diagnostic notation (RFC 8949, section 8),
-//! and [`diagnostic_indented`] with one member or pair a line. [`laws`] has no code to run: its
-//! contracts are the laws of the notation.
+//! Users and the program call it. [`diagnostic`] writes an item on one line, [`diagnostic_indented`] with one member or pair
+//! a line, [`listing`] a line for each event of an item, [`annotated`] its bytes
+//! and what they mean, [`explain`] what a refusal means.
 //!
 //! ```
 //! let item = Item::Tag(1, Box::new(alloc, Item::Unsigned(1363896240))?);
@@ -13,24 +13,47 @@
 //! }
 //! ```
 //!
-//! A [`TextBuffer`] has the text of an item that is known to be valid, from its bytes.
+//! [`TextBuffer`] makes the text of an item that is known to be valid from its bytes. [`explain`] writes, for
+//! `a1 61 61 82 00 f9 00 00`, refused as a `Float` at 5:
 //!
-//! [`listing`] reads an item and writes a line for each of its events, as they come;
-//! [`listing_from`] does so for an item of a sequence.
+//! ```text
+//!   A floating-point number begins here; no float is accepted.
+//!   Write it as an integer, a text, or a tag over integers.
+//!   bytes from 0: a1 61 61 82 00 f9 00 00
+//!                                ^^
+//!   at $."a"[1]
+//! ```
+//!
+//! [`laws`] has no code: its contracts are the laws of the notation.
 #![tactic(auto)]
 
+mod annotated_line;
+mod annotated_listing;
 mod event_line;
 mod event_listing;
+mod event_meaning;
+mod explanation;
+mod frames;
+mod hidden;
+mod item_path;
 pub mod laws;
 mod layout;
+mod line;
 mod node;
 mod outbox;
+mod path_text;
 mod pieces;
+mod sentences;
+mod surroundings;
+#[cfg(test)]
+mod tests;
 mod text;
 mod text_buffer;
 mod text_sink;
 mod walk;
 
+pub use annotated_listing::annotated;
 pub use event_listing::{listing, listing_from};
+pub use explanation::{explain, write_sentences};
 pub use text::{diagnostic, diagnostic_indented, diagnostic_view, diagnostic_view_indented};
 pub use text_buffer::TextBuffer;

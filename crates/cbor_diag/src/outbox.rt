@@ -62,13 +62,13 @@ impl Outbox {
         if self.waiting.try_extend_from_slice(bytes).is_ok() {
             return Ok(());
         }
-        self.make_room(writer, bytes)
+        self.make_space(writer, bytes)
     }
 
-    // The same where they may not find room: what waits goes out first.
+    // Puts bytes for which there may be no space: what waits goes out first.
     #[cold]
     #[inline(never)]
-    fn make_room<W: Write>(&mut self, writer: &mut W, bytes: &[u8]) -> Result<(), Stopped>
+    fn make_space<W: Write>(&mut self, writer: &mut W, bytes: &[u8]) -> Result<(), Stopped>
         ensures { Puts (W.contents writer.old) (W.contents writer.new) self.old self.new
             bytes.now result }
     {

@@ -4,7 +4,7 @@ ghost use Rattle.std.specs.Prelude.{◌≡◌, ◌≤◌, [], IfOk};
 ghost use Rattle.cbor_head.specs.Value.{depth};
 ghost use Rattle.cbor_head.specs.declared.limits.TheConstants.{MAX_DEPTH};
 ghost use Rattle.cbor_item.specs.View.{view as value_of};
-ghost use Rattle.cbor_view.specs.Seen.{seen};
+ghost use Rattle.cbor_item.specs.ViewValue.{view_value};
 ghost use Rattle.cbor_diag.specs.IndentedText.{indented};
 ghost use Rattle.cbor_diag.specs.inner.Layout.{laid_out, shown};
 ghost use Rattle.cbor_diag.specs.inner.Outbox.{Puts};
@@ -16,8 +16,7 @@ use crate::node::Node;
 use crate::outbox::{Outbox, Stopped};
 use crate::walk::put_item;
 use cbor_head::{Reason, Refusal};
-use cbor_item::Tree;
-use cbor_view::View;
+use cbor_item::{Tree, View};
 use std::io::Write;
 
 /// Writes the diagnostic text on one line (RFC 8949, section 8), and answers how many bytes it is.
@@ -44,18 +43,18 @@ pub fn diagnostic_indented<W: Write>(tree: &Tree, writer: &mut W) -> Result<u64,
 
 /// As [`diagnostic`], of a view. Any view that was read is shallow enough.
 pub fn diagnostic_view<W: Write>(view: &View<'_>, writer: &mut W) -> Result<u64, Refusal>
-    requires { depth (seen view.now) ≤ MAX_DEPTH }
+    requires { depth (view_value view.now) ≤ MAX_DEPTH }
     ensures { Writes (W.contents writer.old) (W.contents writer.new)
-        (text (seen view.now)) result }
+        (text (view_value view.now)) result }
 {
     write_text(view, Layout::OneLine, writer)
 }
 
 /// As [`diagnostic_indented`], of a view.
 pub fn diagnostic_view_indented<W: Write>(view: &View<'_>, writer: &mut W) -> Result<u64, Refusal>
-    requires { depth (seen view.now) ≤ MAX_DEPTH }
+    requires { depth (view_value view.now) ≤ MAX_DEPTH }
     ensures { Writes (W.contents writer.old) (W.contents writer.new)
-        (indented 0 (seen view.now)) result }
+        (indented 0 (view_value view.now)) result }
 {
     write_text(view, Layout::Indented, writer)
 }

@@ -1,20 +1,20 @@
-//! The diagnostic text of an item in its bytes, and room for it.
+//! The diagnostic text of an item in its bytes, and space for it.
 
 ghost use Rattle.std.specs.Prelude.{◌≡◌, ℕ, IfOk};
 ghost use Rattle.cbor_head.specs.Complaint.{plain};
 ghost use Rattle.cbor_head.specs.Spelling.{Spelling, value_of};
 ghost use Rattle.cbor_head.specs.Verdict.{IsVerdict, accepted};
-ghost use Rattle.cbor_judging.specs.Readers.{IsRead};
+ghost use Rattle.cbor_verdict.specs.Readers.{IsRead};
 ghost use Rattle.cbor_diag.specs.Text.{text};
 
 use crate::outbox::Outbox;
 use crate::text_sink::TextSink;
-use cbor_grammar::laws::verdict_is_one;
 use cbor_head::Limits;
-use cbor_walk::Building;
+use cbor_model::spelling_laws::verdict_is_one;
+use cbor_parser::Parser;
 use std::alloc::{AllocError, Global};
 
-/// Room for a text, for one after another. A text of up to 512 bytes lies in it; for a longer one
+/// Space for a text, for one after another. A text of up to 512 bytes lies in it; for a longer one
 /// memory is taken.
 #[derive(Drop)]
 pub struct TextBuffer {
@@ -39,7 +39,7 @@ impl TextBuffer {
     ///
     /// An `Err` is that memory was refused. None is taken but for a long text, and where a container
     /// stands in another.
-    pub fn diagnostic_front(&mut self, bytes: &[u8], limits: Limits) -> Result<&[u8], AllocError>
+    pub fn diagnostic_prefix(&mut self, bytes: &[u8], limits: Limits) -> Result<&[u8], AllocError>
         requires { (size : ℕ) × IsRead limits plain bytes.now size }
         ensures { IfOk result (λ shown. (s : Spelling) → IsVerdict limits plain bytes.now (accepted s)
             → shown.now ≡ text (value_of s)) }
@@ -48,8 +48,8 @@ impl TextBuffer {
         self.shown.clear();
         self.out.clear();
         let sink = TextSink::new(self.alloc, &mut self.shown, &mut self.out);
-        let mut building = Building::new(sink);
-        match building.give_front(bytes, limits) {
+        let mut building = Parser::new(sink);
+        match building.parse_item(bytes, limits) {
             Ok(_) => building.sink.finish(),
             // The item is valid, so memory was refused.
             Err(_) => Err(AllocError),

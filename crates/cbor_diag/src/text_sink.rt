@@ -4,8 +4,8 @@ ghost use Rattle.std.specs.Prelude.{◌≡◌, ◌++◌, [], true, IfOk, OnOk, o
 ghost use Rattle.cbor_head.specs.Head.{IsSimple};
 ghost use Rattle.cbor_head.specs.Spelling.{Spelling, value_of};
 ghost use Rattle.cbor_head.specs.declared.major.Major.TheVariants as majors;
-ghost use Rattle.cbor_judging.specs.Levels.{item_due, item_whole};
-ghost use Rattle.cbor_walk.specs.Sink.{leaf_value};
+ghost use Rattle.cbor_verdict.specs.Levels.{item_expected, item_whole};
+ghost use Rattle.cbor_parser.specs.Sink.{leaf_value};
 ghost use Rattle.cbor_diag.specs.inner.Outbox.{Puts};
 ghost use Rattle.cbor_diag.specs.inner.TextSinks.{opener, closer, Reaches};
 ghost use Rattle.cbor_diag.specs.inner.TextSinks.{text_stands, text_holds};
@@ -17,7 +17,7 @@ use crate::pieces::{
 };
 use cbor_head::Major;
 use cbor_item::Repeat;
-use cbor_walk::Sink;
+use cbor_parser::Sink;
 use std::alloc::{AllocError, Global};
 use std::io::Write;
 
@@ -45,7 +45,7 @@ impl<'o> TextSink<'o> {
     pub(crate) fn new(alloc: Global, shown: &'o mut Vec<u8>, out: &'o mut Outbox) -> TextSink<'o>
         requires shown { shown.old.items ≡ [] }
         requires out { out.old.waiting.items ≡ [] }
-        ensures { text_stands result result (item_due []) }
+        ensures { text_stands result result (item_expected []) }
     {
         TextSink {
             inner: None,
@@ -122,11 +122,11 @@ impl<'a, 'o> Sink<'a> for TextSink<'o> {
         &mut self,
         is_key: bool,
         is_text: bool,
-        front: &'a [u8],
+        prefix: &'a [u8],
         count: usize,
     ) -> Result<(), AllocError> {
         self.reach(is_key)?;
-        put_string(is_text, &front[..count], self.out, self.shown)?;
+        put_string(is_text, &prefix[..count], self.out, self.shown)?;
         Ok(())
     }
 
@@ -142,10 +142,10 @@ impl<'a, 'o> Sink<'a> for TextSink<'o> {
         &mut self,
         _is_key: bool,
         is_text: bool,
-        front: &'a [u8],
+        prefix: &'a [u8],
         count: usize,
     ) -> Result<(), AllocError> {
-        put_content(is_text, &front[..count], self.out, self.shown)?;
+        put_content(is_text, &prefix[..count], self.out, self.shown)?;
         Ok(())
     }
 
@@ -218,7 +218,7 @@ fn put_leaf<W: Write>(
     }
 }
 
-// The front of a container.
+// The prefix of a container.
 fn put_opener<W: Write>(
     major: Major,
     number: u64,

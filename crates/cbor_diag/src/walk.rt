@@ -4,12 +4,12 @@ ghost use Rattle.std.specs.Prelude.{◌≡◌, ◌+◌, ◌<◌, ◌≤◌, ◌�
 ghost use Rattle.std.specs.Prelude.{option_to_list};
 ghost use Rattle.cbor_head.specs.Value.{depth};
 ghost use Rattle.cbor_diag.specs.inner.Layout.{laid_out};
-ghost use Rattle.cbor_diag.specs.inner.Levels.{AreShallow, AreAllShallow, IsDue, IsOpenOf};
+ghost use Rattle.cbor_diag.specs.inner.Levels.{AreShallow, AreAllShallow, IsExpected, IsOpenOf};
 ghost use Rattle.cbor_diag.specs.inner.Levels.{Leaves, behind, rest_of};
 ghost use Rattle.cbor_diag.specs.inner.Outbox.{Puts};
 
 use crate::layout::{Layout, put_end, put_gap};
-use crate::node::{Node, Part};
+use crate::node::{Node, NodeKind};
 use crate::outbox::{Outbox, Stopped};
 use crate::pieces::{put_negative, put_number, put_simple, put_string};
 use cbor_head::MAX_DEPTH;
@@ -23,16 +23,16 @@ const SOME: usize = 128;
 const MOST: usize = MAX_DEPTH as usize;
 
 /// A container whose end is not written, at so many levels of indentation. Those around the innermost
-/// open one lie in the front of cells that are lent, the outermost first.
+/// open one lie in the prefix of cells that are lent, the outermost first.
 #[derive_where(Clone, Copy, Default)]
-pub(crate) struct Level<'a, N> {
+pub(crate) struct OpenNode<'a, N> {
     indent: u16,
-    left: Left<'a, N>,
+    left: Remaining<'a, N>,
 }
 
 /// What is left of a container.
 #[derive_where(Clone, Copy, Default)]
-pub(crate) enum Left<'a, N> {
+pub(crate) enum Remaining<'a, N> {
     /// Members, and whether they are all of them.
     Array(&'a [N], bool),
     /// Pairs, and whether they are all of them.
@@ -65,7 +65,7 @@ pub(crate) fn put_item<N: Node, W: Write>(
 
 // Puts what is left of a container that no other is around.
 fn put_levels<N: Node, W: Write>(
-    level: Level<'_, N>,
+    level: OpenNode<'_, N>,
     layout: Layout,
     out: &mut Outbox,
     writer: &mut W,
@@ -74,18 +74,18 @@ fn put_levels<N: Node, W: Write>(
     ensures { Puts (W.contents writer.old) (W.contents writer.new) out.old out.new
         (rest_of N.value layout level.entry ++ []) result }
 {
-    let mut cells = [Level::default(); FEW];
+    let mut cells = [OpenNode::default(); FEW];
     match put_within(level, layout, &mut cells, 0, out, writer)? {
         Some(level) => put_deeper(level, &cells, layout, out, writer),
         None => Ok(()),
     }
 }
 
-// The same where these are around it, which are too few cells.
+// Writes the levels once the first cells are too few: more cells are lent.
 #[inline(never)]
 fn put_deeper<'a, N: Node, W: Write>(
-    level: Level<'a, N>,
-    around: &[Level<'a, N>],
+    level: OpenNode<'a, N>,
+    around: &[OpenNode<'a, N>],
     layout: Layout,
     out: &mut Outbox,
     writer: &mut W,
@@ -95,7 +95,7 @@ fn put_deeper<'a, N: Node, W: Write>(
     ensures { Puts (W.contents writer.old) (W.contents writer.new) out.old out.new
         (rest_of N.value layout level.entry ++ behind N.value layout (reverse around.now)) result }
 {
-    let mut cells = [Level::default(); SOME];
+    let mut cells = [OpenNode::default(); SOME];
     lend(around, &mut cells);
     match put_within(level, layout, &mut cells, around.len(), out, writer)? {
         Some(level) => put_deepest(level, &cells, layout, out, writer),
@@ -103,11 +103,11 @@ fn put_deeper<'a, N: Node, W: Write>(
     }
 }
 
-// The same, with a cell for each container that may be open.
+// Writes the levels with a cell for each container that may be open.
 #[inline(never)]
 fn put_deepest<'a, N: Node, W: Write>(
-    level: Level<'a, N>,
-    around: &[Level<'a, N>],
+    level: OpenNode<'a, N>,
+    around: &[OpenNode<'a, N>],
     layout: Layout,
     out: &mut Outbox,
     writer: &mut W,
@@ -117,7 +117,7 @@ fn put_deepest<'a, N: Node, W: Write>(
     ensures { Puts (W.contents writer.old) (W.contents writer.new) out.old out.new
         (rest_of N.value layout level.entry ++ behind N.value layout (reverse around.now)) result }
 {
-    let mut cells = [Level::default(); MOST];
+    let mut cells = [OpenNode::default(); MOST];
     lend(around, &mut cells);
     put_within(level, layout, &mut cells, around.len(), out, writer)?;
     Ok(())
@@ -125,7 +125,7 @@ fn put_deepest<'a, N: Node, W: Write>(
 
 // These become the first of more cells, which lie in the caller's frame.
 #[inline(always)]
-fn lend<'a, N>(around: &[Level<'a, N>], cells: &mut [Level<'a, N>])
+fn lend<'a, N>(around: &[OpenNode<'a, N>], cells: &mut [OpenNode<'a, N>])
     requires { length around.now ≤ length cells.old }
     ensures { take (length around.now) cells.new ≡ around.now }
 {
@@ -135,13 +135,13 @@ fn lend<'a, N>(around: &[Level<'a, N>], cells: &mut [Level<'a, N>])
 // Puts what is left, with so many of the cells around the innermost container. Where the cells are too
 // few, all of them are around the container that it answers.
 fn put_within<'a, N: Node, W: Write>(
-    level: Level<'a, N>,
+    level: OpenNode<'a, N>,
     layout: Layout,
-    cells: &mut [Level<'a, N>],
+    cells: &mut [OpenNode<'a, N>],
     mut height: usize,
     out: &mut Outbox,
     writer: &mut W,
-) -> Result<Option<Level<'a, N>>, Stopped>
+) -> Result<Option<OpenNode<'a, N>>, Stopped>
     requires height { height ≤ length cells.old }
     requires shallow { AreShallow N.value (level ∷ reverse (take height cells.old)) }
     ensures put { Leaves 0 N.value layout (W.contents writer.old) (W.contents writer.new)
@@ -159,7 +159,7 @@ fn put_within<'a, N: Node, W: Write>(
     Ok(innermost)
 }
 
-// Puts an item that holds no other, or the front of one that does, which is then open.
+// Puts an item that holds no other, or the prefix of one that does, which is then open.
 #[inline(always)]
 fn begin<'a, N: Node, W: Write>(
     item: &'a N,
@@ -167,45 +167,45 @@ fn begin<'a, N: Node, W: Write>(
     indent: u16,
     out: &mut Outbox,
     writer: &mut W,
-) -> Result<Option<Level<'a, N>>, Stopped>
+) -> Result<Option<OpenNode<'a, N>>, Stopped>
     ensures put { Leaves 1 N.value layout (W.contents writer.old) (W.contents writer.new)
         out.old out.new (laid_out layout indent (N.value item.now)) [] result }
     ensures opened { IfOk result (IsOpenOf N.value (depth (N.value item.now)) indent) }
 {
     match item.part() {
-        Part::Unsigned(number) => {
+        NodeKind::Unsigned(number) => {
             put_number(number, out, writer)?;
             Ok(None)
         }
-        Part::Negative(number) => {
+        NodeKind::Negative(number) => {
             put_negative(number, out, writer)?;
             Ok(None)
         }
-        Part::Bytes(bytes) => {
+        NodeKind::Bytes(bytes) => {
             put_string(false, bytes, out, writer)?;
             Ok(None)
         }
-        Part::Text(text) => {
+        NodeKind::Text(text) => {
             put_string(true, text.as_bytes(), out, writer)?;
             Ok(None)
         }
-        Part::Array(items) => {
+        NodeKind::Array(items) => {
             out.put(writer, b"[")?;
-            let left = Left::Array(items, true);
-            Ok(Some(Level { indent, left }))
+            let left = Remaining::Array(items, true);
+            Ok(Some(OpenNode { indent, left }))
         }
-        Part::Map(pairs) => {
+        NodeKind::Map(pairs) => {
             out.put(writer, b"{")?;
-            let left = Left::Map(pairs, true);
-            Ok(Some(Level { indent, left }))
+            let left = Remaining::Map(pairs, true);
+            Ok(Some(OpenNode { indent, left }))
         }
-        Part::Tag(number, content) => {
+        NodeKind::Tag(number, content) => {
             put_number(number, out, writer)?;
             out.put(writer, b"(")?;
-            let left = Left::Content(content);
-            Ok(Some(Level { indent, left }))
+            let left = Remaining::Content(content);
+            Ok(Some(OpenNode { indent, left }))
         }
-        Part::Simple(number) => {
+        NodeKind::Simple(number) => {
             put_simple(number, out, writer)?;
             Ok(None)
         }
@@ -214,14 +214,14 @@ fn begin<'a, N: Node, W: Write>(
 
 // Puts what comes next in the innermost container, and answers which is the innermost then.
 fn go_on<'a, N: Node, W: Write>(
-    level: Level<'a, N>,
+    level: OpenNode<'a, N>,
     layout: Layout,
-    cells: &mut [Level<'a, N>],
+    cells: &mut [OpenNode<'a, N>],
     height: &mut usize,
     out: &mut Outbox,
     writer: &mut W,
-) -> Result<Option<Level<'a, N>>, Stopped>
-    requires room { height.old < length cells.old }
+) -> Result<Option<OpenNode<'a, N>>, Stopped>
+    requires space { height.old < length cells.old }
     requires shallow { AreShallow N.value (level ∷ reverse (take height.old cells.old)) }
     ensures height { height.new ≤ length cells.new }
     ensures put { Leaves 1 N.value layout (W.contents writer.old) (W.contents writer.new)
@@ -232,11 +232,11 @@ fn go_on<'a, N: Node, W: Write>(
 {
     let indent = level.indent;
     match level.left {
-        Left::Array(left, first) => match left.split_first() {
+        Remaining::Array(left, first) => match left.split_first() {
             Some((item, left)) => {
                 put_gap(layout, indent, first, out, writer)?;
-                let left = Left::Array(left, false);
-                let next = Level { indent, left };
+                let left = Remaining::Array(left, false);
+                let next = OpenNode { indent, left };
                 go_into(item, layout, indent + 1, next, cells, height, out, writer)
             }
             None => {
@@ -245,11 +245,11 @@ fn go_on<'a, N: Node, W: Write>(
                 Ok(pop(cells, height))
             }
         },
-        Left::Map(left, first) => match left.split_first() {
+        Remaining::Map(left, first) => match left.split_first() {
             Some(((key, value), left)) => {
                 put_gap(layout, indent, first, out, writer)?;
-                let left = Left::Value(value, left);
-                let next = Level { indent, left };
+                let left = Remaining::Value(value, left);
+                let next = OpenNode { indent, left };
                 go_into(key, layout, indent + 1, next, cells, height, out, writer)
             }
             None => {
@@ -258,38 +258,38 @@ fn go_on<'a, N: Node, W: Write>(
                 Ok(pop(cells, height))
             }
         },
-        Left::Value(value, left) => {
+        Remaining::Value(value, left) => {
             out.put(writer, b": ")?;
-            let left = Left::Map(left, false);
-            let next = Level { indent, left };
+            let left = Remaining::Map(left, false);
+            let next = OpenNode { indent, left };
             go_into(value, layout, indent + 1, next, cells, height, out, writer)
         }
-        Left::Content(content) => {
-            let left = Left::Tag;
-            let next = Level { indent, left };
+        Remaining::Content(content) => {
+            let left = Remaining::Tag;
+            let next = OpenNode { indent, left };
             go_into(content, layout, indent, next, cells, height, out, writer)
         }
-        Left::Tag => {
+        Remaining::Tag => {
             out.put(writer, b")")?;
             Ok(pop(cells, height))
         }
     }
 }
 
-// Puts an item of the container, or its front, and answers which container is the innermost then.
+// Puts an item of the container, or its prefix, and answers which container is the innermost then.
 #[inline(always)]
 fn go_into<'a, N: Node, W: Write>(
     item: &'a N,
     layout: Layout,
     indent: u16,
-    level: Level<'a, N>,
-    cells: &mut [Level<'a, N>],
+    level: OpenNode<'a, N>,
+    cells: &mut [OpenNode<'a, N>],
     height: &mut usize,
     out: &mut Outbox,
     writer: &mut W,
-) -> Result<Option<Level<'a, N>>, Stopped>
-    requires room { height.old < length cells.old }
-    requires due { IsDue N.value (depth (N.value item.now)) indent
+) -> Result<Option<OpenNode<'a, N>>, Stopped>
+    requires space { height.old < length cells.old }
+    requires expected { IsExpected N.value (depth (N.value item.now)) indent
         (level ∷ reverse (take height.old cells.old)) }
     ensures height { height.new ≤ length cells.new }
     ensures put { Leaves 1 N.value layout (W.contents writer.old) (W.contents writer.new)
@@ -310,7 +310,7 @@ fn go_into<'a, N: Node, W: Write>(
 
 // One more container is around the innermost.
 #[inline(always)]
-fn push<'a, N>(cells: &mut [Level<'a, N>], height: &mut usize, level: Level<'a, N>)
+fn push<'a, N>(cells: &mut [OpenNode<'a, N>], height: &mut usize, level: OpenNode<'a, N>)
     requires { height.old < length cells.old }
     ensures items { take height.new cells.new ≡ take height.old cells.old ++ level.entry ∷ [] }
     ensures height { height.new ≡ height.old + 1 }
@@ -321,7 +321,7 @@ fn push<'a, N>(cells: &mut [Level<'a, N>], height: &mut usize, level: Level<'a, 
 
 // The innermost of them, if there is one, which is around no other any more.
 #[inline(always)]
-fn pop<'a, N>(cells: &[Level<'a, N>], height: &mut usize) -> Option<Level<'a, N>>
+fn pop<'a, N>(cells: &[OpenNode<'a, N>], height: &mut usize) -> Option<OpenNode<'a, N>>
     requires { height.old ≤ length cells.now }
     ensures items { take height.old cells.now ≡ take height.new cells.now ++ option_to_list result }
     ensures variant { IsSome result ↔ (0 < length (take height.old cells.now)) }

@@ -1,6 +1,6 @@
 //! Tests of `cbor_diag` through its public calls.
 //!
-//! They stand apart, so that the library is proved once and its tests beside it.
+//! They are a crate of their own so that the library is proved once, and its tests separately.
 #![tactic(auto)]
 
 #[cfg(test)]

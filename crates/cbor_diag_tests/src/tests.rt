@@ -1,9 +1,10 @@
 //! Texts of items written out by hand.
 
+mod annotations;
 mod failed;
-mod fronts;
 mod listing_tables;
 mod listings;
+mod prefixes;
 mod streams;
 mod texts;
 mod views;

@@ -7,27 +7,26 @@ use Rattle.cbor_head.specs.declared.major.Major.TheVariants as majors
 use Rattle.cbor_head.specs.declared.width.Width.TheVariants.{Direct, One, Two, Four, Eight, Indefinite}
 use Rattle.cbor_head.specs.declared.{major.Major.Major, reason.Reason.TheVariants.TooLong, reason.Reason.TheVariants.KeyKind, reason.Refusal.Refusal}
 use Rattle.cbor_head.specs.declared.width.Width.{Width}
-use Rattle.cbor_grammar.{specs.FirstBytes.is_basic, proofs.ByteLists.bytes_join}
+use Rattle.cbor_model.{specs.FirstBytes.is_basic, proofs.ByteLists.bytes_join}
 use Rattle.cbor_automaton.specs.Automaton.{indefinite_map, State, start, at_item, in_head, in_simple, in_payload, run, reached}
 use Rattle.cbor_automaton.specs.declared.event.EventKind.TheVariants as kinds
 use Rattle.cbor_automaton.specs.{Trace.Mark, Marks.count_of, Bytes.IsHeadBytes, Bytes.IsEventBytes, declared.event.Event.Event}
 use Rattle.cbor_automaton.{specs.declared.event.EventKind.EventKind, proofs.Beginnings.reached-begins, proofs.Runs.run-on, proofs.Taking.IsClear}
-use Rattle.cbor_steps.specs.State.{state_of, wanted_at, is_done}
-use Rattle.cbor_steps.specs.declared.position.Position.TheVariants as positions
-use Rattle.cbor_steps.specs.declared.position.Position.{Position}
-use Rattle.cbor_standing.specs.Machine.{StandsFor, KeepsLimits, IsComplete, IsGiven, wanted, wanted_within}
-use Rattle.cbor_standing.specs.NextEvent.{ItemEventsView, StandsBetween, IfTold, IsNext, machine_call, call}
-use Rattle.cbor_standing.specs.Steps.{Ran, Stopped as HasRefused}
-use Rattle.cbor_standing.{specs.MachineView.MachineView, specs.Calls.HasRead, proofs.Buffers.head-answer, proofs.Buffers.refused-call}
-use Rattle.cbor_standing.proofs.NextEvents.{run-rest, whole-clear}
+use Rattle.cbor_machine.specs.State.{state_of, wanted_at, is_done}
+use Rattle.cbor_machine.specs.declared.position.Position.TheVariants as positions
+use Rattle.cbor_machine.specs.Machine.{StandsFor, KeepsLimits, IsComplete, IsGiven, wanted, wanted_within}
+use Rattle.cbor_machine.specs.NextEvent.{ItemEventsView, StandsBetween, IfReported, IsNext, machine_call, call}
+use Rattle.cbor_machine.specs.Steps.{Ran, Stopped as HasRefused}
+use Rattle.cbor_machine.specs.{declared.position.Position.Position, MachineView.MachineView, Calls.HasRead}
+use Rattle.cbor_machine.proofs.{Buffers.head-answer, Buffers.refused-call, NextEvents.run-rest, NextEvents.whole-clear}
 use Rattle.cbor_events.specs.NextKey.{IsBasicKind, IsOtherKey, IsNextKey}
 use Rattle.cbor_events.specs.inner.Reads.{IsPartTaken, IsPartRead, HasTaken, HasStopped, IfGiven, HasFirst, IsFirstAnswer, IsTakenAt}
-use Rattle.cbor_events.specs.declared.part.Part.TheVariants.{Told, Open, Stopped}
-use Rattle.cbor_events.specs.declared.part.Part.{Part}
+use Rattle.cbor_events.specs.declared.part.PartialEvent.TheVariants.{Reported, Open, Stopped}
+use Rattle.cbor_events.specs.declared.part.PartialEvent.{PartialEvent}
 
 -- ---- the first byte of a head
 
--- of a type whose width has room for the argument
+-- of a type whose width has space for the argument
 record IsHigh (m : Major) (b : ℕ) : Type 0 where
   high : b / 32 ≡ major_number m
   low : b ≤ 32 * major_number m + 31
@@ -75,7 +74,7 @@ basic-kind ms w (kinds.Tag n) b y small h k = other-high majors.Tag b (omega ari
 basic-kind ms w (kinds.Simple n) b y small h k = no-simple w n b y small h k
 basic-kind ms w _ b y small h k = tt
 
--- an event behind what was told, which begins with this byte
+-- an event behind what was reported, which begins with this byte
 pub given-kind : (e : Event) (old new : MachineView) (t bs : List ℕ) (ms : List Mark) (b : ℕ) → b < 256 → StandsBetween old t ms → IsGiven e new (t ++ b ∷ []) bs ms → IsBasicFirst b → IsBasicKind e.kind
 given-kind e old new t bs ms b small h g k =
     let here : drop e.place ((t ++ b ∷ []) ++ bs) ≡ b ∷ bs = ap (λ (n : ℕ). drop n ((t ++ b ∷ []) ++ bs)) (g.place ∙ h.whole) ∙ behind t in
@@ -85,12 +84,12 @@ given-kind e old new t bs ms b small h g k =
     behind [] = refl
     behind (x ∷ xs) = behind xs
 
-pub told-kind : (e : Event) (old new : MachineView) (t : List ℕ) (ms : List Mark) (b : ℕ) → b < 256 → StandsBetween old t ms → IsGiven e new t (b ∷ []) ms → IsBasicFirst b → IsBasicKind e.kind
-told-kind e old new t ms b small h g k =
+pub reported-kind : (e : Event) (old new : MachineView) (t : List ℕ) (ms : List Mark) (b : ℕ) → b < 256 → StandsBetween old t ms → IsGiven e new t (b ∷ []) ms → IsBasicFirst b → IsBasicKind e.kind
+reported-kind e old new t ms b small h g k =
     let here : drop e.place (t ++ b ∷ []) ≡ b ∷ [] = ap (λ (n : ℕ). drop n (t ++ b ∷ [])) (g.place ∙ h.whole) ∙ drop-append_seam t (b ∷ []) in
     basic-kind ms e.width e.kind b [] small (subst (IsEventBytes ms e.width e.kind) here g.bytes) k
 
--- ---- a break tells something, or is refused
+-- ---- a break reports something, or is refused
 
 no-silent-break : (d : ℕ) (q u : State) → IsClear q → run d q (0xff ∷ []) ≡ reached u [] → ⊥
 no-silent-break d (at_item (indefinite_map true ∷ fs)) u c e = cc e
@@ -120,22 +119,22 @@ module _ (old : MachineView) (t : List ℕ) (ms : List Mark) (h : StandsBetween 
 
 -- ---- one read of one byte
 
-pub first-answer : (p : Part) (from to : Option (List ℕ)) (old new : MachineView) (kept buffer t : List ℕ) (ms : List Mark) → old.in_payload ≡ false → IsPartRead p old new from to kept buffer t ms → IsFirstAnswer p (machine_call old new from to kept kept t ms)
-first-answer (Told e) from to old new kept buffer t ms none h = head-answer (Ok (Some e)) from to old new kept buffer t ms none h
+pub first-answer : (p : PartialEvent) (from to : Option (List ℕ)) (old new : MachineView) (kept buffer t : List ℕ) (ms : List Mark) → old.in_payload ≡ false → IsPartRead p old new from to kept buffer t ms → IsFirstAnswer p (machine_call old new from to kept kept t ms)
+first-answer (Reported e) from to old new kept buffer t ms none h = head-answer (Ok (Some e)) from to old new kept buffer t ms none h
 first-answer Open from to old new kept buffer t ms none h = tt
 first-answer (Stopped f) from to old new kept buffer t ms none h = h
 
-pub first-lost : (p : Part) (from to : Option (List ℕ)) (old new : MachineView) (buffer t : List ℕ) (ms : List Mark) → HasTaken p old new 1 from to buffer t ms ⊎ HasStopped p old → HasFirst p old new from to (slice_index_or buffer 0 0) t ms ⊎ HasStopped p old
+pub first-lost : (p : PartialEvent) (from to : Option (List ℕ)) (old new : MachineView) (buffer t : List ℕ) (ms : List Mark) → HasTaken p old new 1 from to buffer t ms ⊎ HasStopped p old → HasFirst p old new from to (slice_index_or buffer 0 0) t ms ⊎ HasStopped p old
 first-lost p from to old new buffer t ms (inr h) = inr h
 first-lost p from to old new buffer t ms (inl h) =
-    let e : h.bytes ≡ slice_index_or buffer 0 0 ∷ [] = one h.bytes buffer h.some h.most h.front in
+    let e : h.bytes ≡ slice_index_or buffer 0 0 ∷ [] = one h.bytes buffer h.some h.most h.prefix in
     inl (record { consumed = subst (Consumes from to) e h.consumed; are_bytes = subst AreBytes e h.are_bytes; taken = subst (λ (bs : List ℕ). IsPartTaken p old new t bs ms) e h.taken })
   where
     one : (bs buffer : List ℕ) → 0 < length bs → length bs ≤ 1 → bs ≡ take (length bs) buffer → bs ≡ slice_index_or buffer 0 0 ∷ []
-    one [] buffer some most front = absurd (omega (arith, some))
-    one (b ∷ []) [] some most front = absurd (cc front)
-    one (b ∷ []) (x ∷ xs) some most front = front
-    one (b ∷ c ∷ bs) buffer some most front = absurd (omega (arith, most))
+    one [] buffer some most prefix = absurd (omega (arith, some))
+    one (b ∷ []) [] some most prefix = absurd (cc prefix)
+    one (b ∷ []) (x ∷ xs) some most prefix = prefix
+    one (b ∷ c ∷ bs) buffer some most prefix = absurd (omega (arith, most))
 
 -- the first byte that a known reader held
 held-first : (held to : Option (List ℕ)) (b x : ℕ) (rest : List ℕ) → Consumes held to (b ∷ []) → held ≡ Some (x ∷ rest) → x ≡ b
@@ -156,11 +155,11 @@ first-read old mid from to b t ms (inr s) = absurd s
 -- ---- what is answered
 
 -- nothing is wanted
-pub end-key : (r : Result (Option Event) Refusal) (m new : MachineView) (from to : Option (List ℕ)) (kept t : List ℕ) (ms : List Mark) → StandsBetween m t ms → wanted m ≡ 0 → KeepsLimits m new → IfTold r (λ e. ⊥)
+pub end-key : (r : Result (Option Event) Refusal) (m new : MachineView) (from to : Option (List ℕ)) (kept t : List ℕ) (ms : List Mark) → StandsBetween m t ms → wanted m ≡ 0 → KeepsLimits m new → IfReported r (λ e. ⊥)
     → IsNext r (machine_call m new from to kept kept t ms) → IsNextKey r (machine_call m new from to kept kept t ms)
-end-key (Ok (Some e)) m new from to kept t ms h none l told n = absurd told
-end-key (Ok None) m new from to kept t ms h none l told n = n
-end-key (Err f) m new from to kept t ms h none l told n =
+end-key (Ok (Some e)) m new from to kept t ms h none l reported n = absurd reported
+end-key (Ok None) m new from to kept t ms h none l reported n = n
+end-key (Err f) m new from to kept t ms h none l reported n =
     let full : m.bytes ≤ length t = at-limit in
     inl (
       n,
@@ -171,27 +170,27 @@ end-key (Err f) m new from to kept t ms h none l told n =
       ]),
     )
   where
-    some-due : (position : Position) → (is_done position ≡ true → ⊥) → 0 < wanted_at position
-    some-due positions.Item k = omega arith
-    some-due (positions.Head chunk kind w left argument) k = omega arith
-    some-due positions.SimpleNumber k = omega arith
-    some-due (positions.Payload chunk kind left) k = omega arith
-    some-due (positions.Chunks kind) k = omega arith
-    some-due positions.Done k = absurd (k refl)
+    some-expected : (position : Position) → (is_done position ≡ true → ⊥) → 0 < wanted_at position
+    some-expected positions.Item k = omega arith
+    some-expected (positions.Head chunk kind w left argument) k = omega arith
+    some-expected positions.SimpleNumber k = omega arith
+    some-expected (positions.Payload chunk kind left) k = omega arith
+    some-expected (positions.Chunks kind) k = omega arith
+    some-expected positions.Done k = absurd (k refl)
 
     at-limit : m.bytes ≤ length t
     at-limit =
         let shown = h.stands.inner.shown in
         let live = h.stands.live in
-        let due : 0 < m.due = omega (arith, shown.due, some-due m.inner.position (λ d. n.0 (shown.complete ∙ d, live))) in
-        let least : min (m.bytes - m.taken) m.due ≡ 0 = ap (λ (r : Option Refusal). wanted_within r (min (m.bytes - m.taken) m.due)) (sym live) ∙ none in
-        omega (arith, least, due, h.stands.taken)
+        let expected : 0 < m.expected = omega (arith, shown.expected, some-expected m.inner.position (λ d. n.0 (shown.complete ∙ d, live))) in
+        let least : min (m.bytes - m.taken) m.expected ≡ 0 = ap (λ (r : Option Refusal). wanted_within r (min (m.bytes - m.taken) m.expected)) (sym live) ∙ none in
+        omega (arith, least, expected, h.stands.taken)
 
 -- a key of another kind
-pub other-here : (p : Part) (f : Refusal) (old new : MachineView) (from to : Option (List ℕ)) (b : ℕ) (kept t : List ℕ) (ms : List Mark) → StandsBetween old t ms → HasFirst p old new from to b t ms ⊎ HasStopped p old → IsTakenAt p old.taken → ¬ IsTrue (is_basic (b / 32)) → b ≢ 0xff
+pub other-here : (p : PartialEvent) (f : Refusal) (old new : MachineView) (from to : Option (List ℕ)) (b : ℕ) (kept t : List ℕ) (ms : List Mark) → StandsBetween old t ms → HasFirst p old new from to b t ms ⊎ HasStopped p old → IsTakenAt p old.taken → ¬ IsTrue (is_basic (b / 32)) → b ≢ 0xff
     → new.depth ≡ old.depth → ¬ IsComplete old → f ≡ refusal KeyKind old.taken new.taken → IsOtherKey f (machine_call old new from to kept kept t ms)
 other-here (Stopped r) f old new from to b kept t ms h (inr s) at other item depth going is = absurd (omega (arith, s, at))
-other-here (Told e) f old new from to b kept t ms h (inr s) at other item depth going is = absurd s
+other-here (Reported e) f old new from to b kept t ms h (inr s) at other item depth going is = absurd s
 other-here Open f old new from to b kept t ms h (inr s) at other item depth going is = absurd s
 other-here p f old new from to b kept t ms h (inl k) at other item depth going is =
     let g = took p k.taken at in
@@ -209,8 +208,8 @@ other-here p f old new from to b kept t ms h (inl k) at other item depth going i
     plus : length (t ++ b ∷ []) ≡ length t + 1
     plus = length-append t (b ∷ [])
 
-    took : (p : Part) → IsPartTaken p old new t (b ∷ []) ms → IsTakenAt p old.taken → (new.taken ≡ length t + 1) × MayFollow new.depth t b
-    took (Told e) g at = (g.stands.taken ∙ plus, g.stands.beginning)
+    took : (p : PartialEvent) → IsPartTaken p old new t (b ∷ []) ms → IsTakenAt p old.taken → (new.taken ≡ length t + 1) × MayFollow new.depth t b
+    took (Reported e) g at = (g.stands.taken ∙ plus, g.stands.beginning)
     took Open g at = (g.taken ∙ plus, g.beginning)
     took (Stopped r) g at = step g.1.1
       where
@@ -222,13 +221,13 @@ other-here p f old new from to b kept t ms h (inl k) at other item depth going i
               x.0.taken ∙ ap (λ (n : ℕ). n + 1) h.stands.taken,
               subst (λ (d : ℕ). MayFollow d t b) (sym depth) (reached-begins old.depth (t ++ b ∷ []) u (ms ++ []) (bytes_join t (b ∷ []) h.stands.are_bytes k.are_bytes) ran),
             )
-        step (inr x) = absurd (omega (arith, at, ap (λ (y : Refusal). y.place) x.is, ap length x.splits, length-append x.front (x.byte ∷ [])))
+        step (inr x) = absurd (omega (arith, at, ap (λ (y : Refusal). y.place) x.is, ap length x.splits, length-append x.prefix (x.byte ∷ [])))
 
 -- an event of one byte
-pub told-key : (e : Event) (old new : MachineView) (from to : Option (List ℕ)) (b : ℕ) (kept t : List ℕ) (ms : List Mark) → StandsBetween old t ms → HasFirst (Told e) old new from to b t ms ⊎ HasStopped (Told e) old → IsBasicFirst b
+pub reported-key : (e : Event) (old new : MachineView) (from to : Option (List ℕ)) (b : ℕ) (kept t : List ℕ) (ms : List Mark) → StandsBetween old t ms → HasFirst (Reported e) old new from to b t ms ⊎ HasStopped (Reported e) old → IsBasicFirst b
     → IsNext (Ok (Some e)) (machine_call old new from to kept kept t ms) → IsNextKey (Ok (Some e)) (machine_call old new from to kept kept t ms)
-told-key e old new from to b kept t ms h (inr s) basic n = absurd s
-told-key e old new from to b kept t ms h (inl k) basic n = (n, told-kind e old new t ms b k.are_bytes.0 h k.taken basic)
+reported-key e old new from to b kept t ms h (inr s) basic n = absurd s
+reported-key e old new from to b kept t ms h (inl k) basic n = (n, reported-kind e old new t ms b k.are_bytes.0 h k.taken basic)
 
 -- the byte was refused, or none came, or the limit is reached behind it
 pub stopped-key : (f : Refusal) (old new : MachineView) (from to : Option (List ℕ)) (b : ℕ) (kept t : List ℕ) (ms : List Mark) → StandsBetween old t ms → HasFirst (Stopped f) old new from to b t ms ⊎ HasStopped (Stopped f) old → (IsTakenAt (Stopped f) old.taken → IsBasicFirst b)
@@ -240,7 +239,7 @@ stopped-key f old new from to b kept t ms h (inl k) basic n =
       n,
       λ behind. elim (basic (omega (arith, behind, taken))) [
         | inl y ↦ basic-held from to b k.consumed y
-        | inr y ↦ absurd (elim k.taken.1.1 [ inl x ↦ ran-item old t ms h new b x.0 y | inr x ↦ omega (arith, behind, taken, ap (λ (z : Refusal). z.place) x.is, ap length x.splits, length-append x.front (x.byte ∷ [])) ])
+        | inr y ↦ absurd (elim k.taken.1.1 [ inl x ↦ ran-item old t ms h new b x.0 y | inr x ↦ omega (arith, behind, taken, ap (λ (z : Refusal). z.place) x.is, ap length x.splits, length-append x.prefix (x.byte ∷ [])) ])
       ],
     )
 

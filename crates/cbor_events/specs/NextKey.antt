@@ -1,13 +1,13 @@
--- What is told where a key is due that is to be an integer or a text: its kind is judged at its first byte.
+-- What is reported where a key is expected that is to be an integer or a text: its kind is judged at its first byte.
 use Rattle.std.specs.Prelude.{◌≡◌, ◌≢◌, ℕ, ◌+◌, ◌<◌, ◌⊎◌, ◌/◌, IsTrue, List, [], ◌∷◌, length, Option, Some, None, Result, Ok, Err}
 use Rattle.std.specs.Io.KnownBytes.{Consumes}
 use Rattle.cbor_head.specs.{Prelude.MayFollow, Prelude.refusal, declared.reason.Reason.Reason, declared.reason.Reason.TheVariants.KeyKind}
 use Rattle.cbor_head.specs.declared.reason.Refusal.{Refusal}
-use Rattle.cbor_grammar.specs.FirstBytes.{is_basic}
+use Rattle.cbor_model.specs.FirstBytes.{is_basic}
 use Rattle.cbor_automaton.specs.declared.event.EventKind.TheVariants.{Simple, Bytes, Array, Map, Tag}
 use Rattle.cbor_automaton.specs.{Reasons.IsEventReason, declared.event.Event.Event, declared.event.EventKind.EventKind}
-use Rattle.cbor_standing.specs.NextEvent.{Call, IsNext, IsNextEvent, IsEnd}
-use Rattle.cbor_standing.specs.Machine.{IsComplete}
+use Rattle.cbor_machine.specs.NextEvent.{Call, IsNext, IsNextEvent, IsEnd}
+use Rattle.cbor_machine.specs.Machine.{IsComplete}
 
 -- what a key that is an integer or a text may begin with, or a break
 abbrev pub IsBasicKind : EventKind → Type 0
@@ -34,7 +34,7 @@ pub record IsOtherKey (f : Refusal) (c : Call) : Type 0 where
   pub follows : MayFollow c.new.depth c.taken byte
   pub is : f ≡ refusal KeyKind (length c.taken) (length c.taken + 1)
 
--- what is answered where an event ended, and a key or a break is due
+-- what is answered where an event ended, and a key or a break is expected
 abbrev pub IsNextKey : Result (Option Event) Refusal → Call → Type 0
 IsNextKey (Ok (Some e)) c = IsNextEvent e c × IsBasicKind e.kind
 IsNextKey (Ok None) c = IsEnd c

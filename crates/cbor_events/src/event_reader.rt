@@ -5,8 +5,8 @@ ghost use Rattle.std.specs.Prelude.{IfSome, Err};
 ghost use Rattle.cbor_automaton.specs.Trace.{Mark};
 ghost use Rattle.cbor_automaton.specs.Marks.{IsProper};
 ghost use Rattle.cbor_automaton.specs.Reasons.{IsEventReason};
-ghost use Rattle.cbor_standing.specs.Machine.{KeepsLimits, IsIdle};
-ghost use Rattle.cbor_standing.specs.NextEvent.{StandsBetween, IfTold, IsNext, call};
+ghost use Rattle.cbor_machine.specs.Machine.{KeepsLimits, IsIdle};
+ghost use Rattle.cbor_machine.specs.NextEvent.{StandsBetween, IfReported, IsNext, call};
 ghost use Rattle.cbor_events.specs.EventReader.{EventReaderView};
 
 use crate::item_events::ItemEvents;
@@ -15,7 +15,7 @@ use cbor_head::{Limits, Refusal};
 use std::io::Read;
 use std::marker::Model;
 
-/// The events of one item from a reader, as [`ItemEvents`] tells them.
+/// The events of one item from a reader, as [`ItemEvents`] reports them.
 #[derive(Drop)]
 pub struct EventReader<R> {
     reader: R,
@@ -57,7 +57,7 @@ impl<R: Read> EventReader<R> {
             → IsNext result (call self.old.events self.new.events
             (R.remaining self.old.reader) (R.remaining self.new.reader) t ms) }
         ensures limits { KeepsLimits self.old.events.machine self.new.events.machine }
-        ensures proper { IfTold result (λ e. IsProper e.width e.kind) }
+        ensures proper { IfReported result (λ e. IsProper e.width e.kind) }
         ensures live { OnOk result (self.new.events.refusal ≡ None) }
         ensures refused { IfErr result (λ f. (self.new.events.refusal ≡ Some f)
             × (self.new.events.machine.taken ≡ f.read) × IsEventReason f.reason) }

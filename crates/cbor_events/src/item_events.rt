@@ -5,9 +5,9 @@ ghost use Rattle.std.specs.Prelude.{OnErr, IfErr, IfSome, Err, Option};
 ghost use Rattle.cbor_automaton.specs.Trace.{Mark};
 ghost use Rattle.cbor_automaton.specs.Marks.{IsProper};
 ghost use Rattle.cbor_automaton.specs.Reasons.{IsEventReason};
-ghost use Rattle.cbor_standing.specs.Machine.{KeepsLimits, IsIdle, wanted};
-ghost use Rattle.cbor_standing.specs.NextEvent.{ItemEventsView, StandsBetween, IfTold, IsNext};
-ghost use Rattle.cbor_standing.specs.NextEvent.{call};
+ghost use Rattle.cbor_machine.specs.Machine.{KeepsLimits, IsIdle, wanted};
+ghost use Rattle.cbor_machine.specs.NextEvent.{ItemEventsView, StandsBetween, IfReported, IsNext};
+ghost use Rattle.cbor_machine.specs.NextEvent.{call};
 ghost use Rattle.cbor_events.specs.NextKey.{IsKeyReason};
 
 mod key;
@@ -29,7 +29,7 @@ pub(crate) const PART: usize = 512;
 #[derive(Drop)]
 pub struct ItemEvents {
     machine: Machine,
-    // The last piece stands in front.
+    // The last piece stands at the start.
     buffer: [u8; PART],
     held: usize,
     refusal: Option<Refusal>,
@@ -99,7 +99,7 @@ impl ItemEvents {
             → IsNext result
             (call self.old self.new (R.remaining reader.old) (R.remaining reader.new) t ms) }
         ensures limits { KeepsLimits self.old.machine self.new.machine }
-        ensures proper { IfTold result (λ e. IsProper e.width e.kind) }
+        ensures proper { IfReported result (λ e. IsProper e.width e.kind) }
         ensures live { OnOk result (self.new.refusal ≡ None) }
         ensures refused { IfErr result (λ f. (self.new.refusal ≡ Some f)
             × (self.new.machine.taken ≡ f.read)) }

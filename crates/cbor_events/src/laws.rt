@@ -10,11 +10,11 @@ ghost use Rattle.cbor_automaton.specs.Trace.{Mark, total, trace};
 ghost use Rattle.cbor_head.specs.Value.{AreBytes};
 ghost use Rattle.cbor_head.specs.Beginning.{IsLongestBeginning};
 ghost use Rattle.cbor_automaton.specs.Marks.{marks_of};
-ghost use Rattle.cbor_automaton.specs.Event.{events, marks_in, joined, cut, AreTold};
+ghost use Rattle.cbor_automaton.specs.Event.{events, marks_in, joined, cut, AreReported};
 ghost use Rattle.cbor_automaton.specs.declared.event.Event.{Event};
-ghost use Rattle.cbor_standing.specs.NextEvent.{Call, StandsBetween, IsNextEvent, IsEnd};
-ghost use Rattle.cbor_standing.specs.MachineView.{MachineView};
-ghost use Rattle.cbor_standing.specs.Machine.{StandsFor, IsComplete, IsGiven, IsRefused};
+ghost use Rattle.cbor_machine.specs.NextEvent.{Call, StandsBetween, IsNextEvent, IsEnd};
+ghost use Rattle.cbor_machine.specs.MachineView.{MachineView};
+ghost use Rattle.cbor_machine.specs.Machine.{StandsFor, IsComplete, IsGiven, IsRefused};
 
 /// What a machine answers is the verdict of form: of its refusals, and of the item that is
 /// complete.
@@ -27,28 +27,28 @@ pub fn machine_verdict()
         → (s : Spelling) × IsVerdict (bounds m.depth m.bytes) form (t ++ more) (accepted s) }
 {}
 
-/// The events that a machine told, neighbouring pieces joined, are those of each item that starts
+/// The events that a machine reported, neighbouring pieces joined, are those of each item that starts
 /// with what it took, as far as they end within that, the last piece cut there.
-pub fn told_events()
-    ensures none { AreTold [] [] }
+pub fn reported_events()
+    ensures none { AreReported [] [] }
     ensures more { (es : List Event) (ms : List Mark) (e : Event) (m : MachineView) (t bs : List ℕ)
-        → AreTold es ms → IsGiven e m t bs ms
-        → AreTold (es ++ e ∷ []) (ms ++ marks_of e.width e.kind) }
+        → AreReported es ms → IsGiven e m t bs ms
+        → AreReported (es ++ e ∷ []) (ms ++ marks_of e.width e.kind) }
     ensures joined { (m : MachineView) (t : List ℕ) (ms : List Mark) (es : List Event)
-        → StandsFor m t ms → AreTold es ms
+        → StandsFor m t ms → AreReported es ms
         → (s : Spelling) (rest : List ℕ) → IsItem m.depth s (t ++ rest)
         → joined es ≡ cut (length t) (events 0 s) }
 {}
 
-/// The events that `ItemEvents::next` told. Each leads on from those before it; at the end of an
-/// item they are, neighbouring pieces joined, all of its events. Behind a refusal `told_events`
+/// The events that `ItemEvents::next` reported. Each leads on from those before it; at the end of an
+/// item they are, neighbouring pieces joined, all of its events. Behind a refusal `reported_events`
 /// says what they are.
 pub fn next_events()
-    ensures more { (c : Call) (es : List Event) (e : Event) → AreTold es c.told
-        → StandsBetween c.old c.taken c.told → IsNextEvent e c
-        → AreTold (es ++ e ∷ []) (c.told ++ marks_of e.width e.kind) }
-    ensures all { (c : Call) (es : List Event) → AreTold es c.told
-        → StandsBetween c.old c.taken c.told → IsEnd c
+    ensures more { (c : Call) (es : List Event) (e : Event) → AreReported es c.reported
+        → StandsBetween c.old c.taken c.reported → IsNextEvent e c
+        → AreReported (es ++ e ∷ []) (c.reported ++ marks_of e.width e.kind) }
+    ensures all { (c : Call) (es : List Event) → AreReported es c.reported
+        → StandsBetween c.old c.taken c.reported → IsEnd c
         → (s : Spelling) × IsItem c.old.depth s c.taken × (joined es ≡ events 0 s) }
 {}
 

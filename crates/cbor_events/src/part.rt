@@ -6,11 +6,11 @@ ghost use Rattle.cbor_automaton.specs.Trace.{Mark};
 ghost use Rattle.cbor_automaton.specs.Marks.{IsProper};
 ghost use Rattle.cbor_automaton.specs.Pieces.{kind_size};
 ghost use Rattle.cbor_automaton.specs.Reasons.{IsEventReason, IsMachineReason};
-ghost use Rattle.cbor_standing.specs.MachineView.{MachineView};
-ghost use Rattle.cbor_standing.specs.Machine.{KeepsLimits, StandsFor, wanted};
-ghost use Rattle.cbor_standing.specs.NextEvent.{StandsBetween};
-ghost use Rattle.cbor_standing.specs.Calls.{HasRead};
-ghost use Rattle.cbor_events.specs.inner.Reads.{IsAsked, IsPartTaken, IsPartRead, IfPartTold, IfStopped};
+ghost use Rattle.cbor_machine.specs.MachineView.{MachineView};
+ghost use Rattle.cbor_machine.specs.Machine.{KeepsLimits, StandsFor, wanted};
+ghost use Rattle.cbor_machine.specs.NextEvent.{StandsBetween};
+ghost use Rattle.cbor_machine.specs.Calls.{HasRead};
+ghost use Rattle.cbor_events.specs.inner.Reads.{IsAsked, IsPartTaken, IsPartRead, IfPartReported, IfStopped};
 ghost use Rattle.cbor_events.specs.inner.Reads.{HasTaken, HasStopped};
 
 use cbor_automaton::Event;
@@ -20,7 +20,7 @@ use std::io::Read;
 
 // What one call of `read` gave.
 #[derive(Clone, Copy)]
-enum Asked {
+enum ReadOutcome {
     Got(usize),
     End,
     Failed,
@@ -39,18 +39,18 @@ fn got(count: usize, want: usize) -> usize
     count
 }
 
-// Reads at most `want` bytes into the front of the buffer, by one call of `read`.
+// Reads at most `want` bytes into the prefix of the buffer, by one call of `read`.
 #[inline(always)]
-fn ask<R: Read>(reader: &mut R, buffer: &mut [u8], want: usize) -> Asked
+fn ask<R: Read>(reader: &mut R, buffer: &mut [u8], want: usize) -> ReadOutcome
     requires some { 0 < want }
-    requires room { want ≤ length buffer.old }
+    requires space { want ≤ length buffer.old }
     ensures { IsAsked result want
         (R.remaining reader.old) (R.remaining reader.new) buffer.new }
 {
     match reader.read(&mut buffer[..want]) {
-        Ok(0) => Asked::End,
-        Ok(n) => Asked::Got(got(n, want)),
-        Err(_) => Asked::Failed,
+        Ok(0) => ReadOutcome::End,
+        Ok(n) => ReadOutcome::Got(got(n, want)),
+        Err(_) => ReadOutcome::Failed,
     }
 }
 
@@ -63,27 +63,27 @@ fn cut(reason: Reason, taken: u64) -> Refusal
 
 // What came of bytes that the machine wanted.
 #[derive(Clone, Copy)]
-pub(crate) enum Part {
-    Told(Event),
+pub(crate) enum PartialEvent {
+    Reported(Event),
     // No event is complete.
     Open,
     Stopped(Refusal),
 }
 
-// The same, made anew. What a call has left in memory is then read where the call was, and what comes
+// The part, made anew. What a call has left in memory is then read where the call was, and what comes
 // without it stays in registers.
 #[inline(always)]
-fn part_anew(part: Part) -> Part
+fn part_anew(part: PartialEvent) -> PartialEvent
     ensures { result ≡ part }
 {
     match part {
-        Part::Told(event) => Part::Told(event),
-        Part::Open => Part::Open,
-        Part::Stopped(refusal) => Part::Stopped(refusal),
+        PartialEvent::Reported(event) => PartialEvent::Reported(event),
+        PartialEvent::Open => PartialEvent::Open,
+        PartialEvent::Stopped(refusal) => PartialEvent::Stopped(refusal),
     }
 }
 
-// The same of an answer.
+// An answer, made anew for the same reason.
 #[inline(always)]
 pub(crate) fn answer_anew(answer: Result<Option<Event>, Refusal>) -> Result<Option<Event>, Refusal>
     ensures { result ≡ answer }
@@ -97,62 +97,62 @@ pub(crate) fn answer_anew(answer: Result<Option<Event>, Refusal>) -> Result<Opti
 
 // Hands the machine bytes that it wants.
 #[inline(always)]
-fn take_read(machine: &mut Machine, part: &[u8]) -> Part
+fn take_read(machine: &mut Machine, part: &[u8]) -> PartialEvent
     requires some { 0 < length part.now }
     requires wanted { length part.now ≤ wanted machine.old }
     ensures answers { (t : List ℕ) (ms : List Mark) → StandsFor machine.old t ms
         → IsPartTaken result machine.old machine.new t part.now ms }
     ensures limits { KeepsLimits machine.old machine.new }
-    ensures proper { IfPartTold result (λ e. IsProper e.width e.kind) }
-    ensures piece { IfPartTold result (λ e. kind_size e.kind ≤ length part.now) }
+    ensures proper { IfPartReported result (λ e. IsProper e.width e.kind) }
+    ensures piece { IfPartReported result (λ e. kind_size e.kind ≤ length part.now) }
     ensures taken { IfStopped result (λ f. machine.new.taken ≡ f.read) }
     ensures reason { IfStopped result (λ f. IsMachineReason f.reason) }
-    ensures progress { result ≡ Part.Open → machine.old.taken < machine.new.taken }
+    ensures progress { result ≡ PartialEvent.Open → machine.old.taken < machine.new.taken }
 {
     if let Some(event) = machine.take_whole(part) {
-        return Part::Told(event);
+        return PartialEvent::Reported(event);
     }
     if part.len() == 1 && machine.begin_head(part[0]) {
-        return Part::Open;
+        return PartialEvent::Open;
     }
     take_apart(machine, part)
 }
 
-// The same, whatever the bytes are.
+// Takes the bytes one by one, whatever they are.
 #[inline(never)]
-fn take_slowly(machine: &mut Machine, part: &[u8]) -> Part
+fn take_slowly(machine: &mut Machine, part: &[u8]) -> PartialEvent
     requires some { 0 < length part.now }
     requires wanted { length part.now ≤ wanted machine.old }
     ensures answers { (t : List ℕ) (ms : List Mark) → StandsFor machine.old t ms
         → IsPartTaken result machine.old machine.new t part.now ms }
     ensures limits { KeepsLimits machine.old machine.new }
-    ensures proper { IfPartTold result (λ e. IsProper e.width e.kind) }
-    ensures piece { IfPartTold result (λ e. kind_size e.kind ≤ length part.now) }
+    ensures proper { IfPartReported result (λ e. IsProper e.width e.kind) }
+    ensures piece { IfPartReported result (λ e. kind_size e.kind ≤ length part.now) }
     ensures taken { IfStopped result (λ f. machine.new.taken ≡ f.read) }
     ensures reason { IfStopped result (λ f. IsMachineReason f.reason) }
-    ensures progress { result ≡ Part.Open → machine.old.taken < machine.new.taken }
+    ensures progress { result ≡ PartialEvent.Open → machine.old.taken < machine.new.taken }
 {
     match take_part(machine, part).out {
-        Out::Event(event) => Part::Told(event),
-        Out::More => Part::Open,
+        Out::Event(event) => PartialEvent::Reported(event),
+        Out::More => PartialEvent::Open,
         Out::Done => unreachable!(),
-        Out::Refused(refusal) => Part::Stopped(refusal),
+        Out::Refused(refusal) => PartialEvent::Stopped(refusal),
     }
 }
 
-// The same. Its own room in memory is no part of the caller's.
+// Takes a part with a stack frame of its own, so that the caller's stays small.
 #[inline(always)]
-fn take_apart(machine: &mut Machine, part: &[u8]) -> Part
+fn take_apart(machine: &mut Machine, part: &[u8]) -> PartialEvent
     requires some { 0 < length part.now }
     requires wanted { length part.now ≤ wanted machine.old }
     ensures answers { (t : List ℕ) (ms : List Mark) → StandsFor machine.old t ms
         → IsPartTaken result machine.old machine.new t part.now ms }
     ensures limits { KeepsLimits machine.old machine.new }
-    ensures proper { IfPartTold result (λ e. IsProper e.width e.kind) }
-    ensures piece { IfPartTold result (λ e. kind_size e.kind ≤ length part.now) }
+    ensures proper { IfPartReported result (λ e. IsProper e.width e.kind) }
+    ensures piece { IfPartReported result (λ e. kind_size e.kind ≤ length part.now) }
     ensures taken { IfStopped result (λ f. machine.new.taken ≡ f.read) }
     ensures reason { IfStopped result (λ f. IsMachineReason f.reason) }
-    ensures progress { result ≡ Part.Open → machine.old.taken < machine.new.taken }
+    ensures progress { result ≡ PartialEvent.Open → machine.old.taken < machine.new.taken }
 {
     part_anew(take_slowly(machine, part))
 }
@@ -164,9 +164,9 @@ pub(crate) fn read_part<R: Read>(
     reader: &mut R,
     buffer: &mut [u8],
     want: usize,
-) -> Part
+) -> PartialEvent
     requires some { 0 < want }
-    requires room { want ≤ length buffer.old }
+    requires space { want ≤ length buffer.old }
     requires wanted { want ≤ wanted machine.old }
     requires within { machine.old.open_count ≤ machine.old.depth }
     // Of a call that began where the machine was `was`, and the reader held `from`.
@@ -181,17 +181,17 @@ pub(crate) fn read_part<R: Read>(
         (R.remaining reader.old) (R.remaining reader.new) buffer.new t ms
         ⊎ HasStopped result machine.old }
     ensures limits { KeepsLimits machine.old machine.new }
-    ensures proper { IfPartTold result (λ e. IsProper e.width e.kind) }
+    ensures proper { IfPartReported result (λ e. IsProper e.width e.kind) }
     ensures taken { IfStopped result (λ f. machine.new.taken ≡ f.read) }
     ensures reason { IfStopped result (λ f. IsEventReason f.reason) }
-    ensures fits { IfPartTold result (λ e. kind_size e.kind ≤ length buffer.new) }
+    ensures fits { IfPartReported result (λ e. kind_size e.kind ≤ length buffer.new) }
     ensures same { length buffer.new ≡ length buffer.old }
-    ensures progress { result ≡ Part.Open → machine.old.taken < machine.new.taken }
+    ensures progress { result ≡ PartialEvent.Open → machine.old.taken < machine.new.taken }
 {
     match ask(reader, buffer, want) {
-        Asked::End => Part::Stopped(cut(Reason::Truncated, machine.taken())),
-        Asked::Failed => Part::Stopped(cut(Reason::Read, machine.taken())),
-        Asked::Got(count) => {
+        ReadOutcome::End => PartialEvent::Stopped(cut(Reason::Truncated, machine.taken())),
+        ReadOutcome::Failed => PartialEvent::Stopped(cut(Reason::Read, machine.taken())),
+        ReadOutcome::Got(count) => {
             below_256(&buffer[..count]);
             take_read(machine, &buffer[..count])
         }

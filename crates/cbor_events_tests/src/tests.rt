@@ -1,8 +1,8 @@
 //! The machine against the tables of its format, and a caller of it.
 
 ghost use Rattle.std.specs.Prelude.{◌≡◌, ◌≤◌, ◌<◌, length};
-ghost use Rattle.cbor_standing.specs.Machine.{IsMore};
-ghost use Rattle.cbor_standing.specs.Steps.{Goes};
+ghost use Rattle.cbor_machine.specs.Machine.{IsMore};
+ghost use Rattle.cbor_machine.specs.Steps.{Goes};
 
 mod parts;
 mod reading;
@@ -12,14 +12,14 @@ mod tables;
 mod text_check;
 
 use self::rows::{Row, rows_of};
-use self::saving::tell_saved;
-use self::tables::{ACCEPTED, FRONTS, NOT_VALID, REFUSED};
+use self::saving::report_saved;
+use self::tables::{ACCEPTED, NOT_VALID, PREFIXES, REFUSED};
 use cbor_events::{Event, EventKind, Machine, Out, Step};
 use cbor_head::{Limits, Reason, Refusal, Width};
 use std::alloc::{AllocError, Global};
 use std::process::Abort;
 
-/// Gives all of some bytes to a machine, whatever events it tells. The answer is the last step's, with all that was used.
+/// Gives all of some bytes to a machine, whatever events it reports. The answer is the last step's, with all that was used.
 fn feed(machine: &mut Machine, input: &[u8]) -> Step
     ensures used { result.used ≤ length input.now }
     ensures more { IsMore result.out → Goes machine.old machine.new input.now }
@@ -37,7 +37,7 @@ fn feed(machine: &mut Machine, input: &[u8]) -> Step
 
 // What came of bytes: the events, neighbouring pieces joined, the last answer, and how many bytes were taken.
 #[derive(Debug, Drop, PartialEq)]
-struct Told {
+struct Reported {
     events: Vec<Event>,
     out: Out,
     taken: u64,
@@ -57,7 +57,7 @@ fn join(events: &mut Vec<Event>, event: Event) -> Result<(), AllocError> {
 }
 
 // Gives bytes in parts of at most so many.
-fn tell(alloc: Global, limits: Limits, bytes: &[u8], part: usize) -> Result<Told, AllocError>
+fn report(alloc: Global, limits: Limits, bytes: &[u8], part: usize) -> Result<Reported, AllocError>
     requires { 0 < part }
 {
     let mut machine = Machine::new(limits);
@@ -69,7 +69,7 @@ fn tell(alloc: Global, limits: Limits, bytes: &[u8], part: usize) -> Result<Told
         match step.out {
             Out::Event(event) => join(&mut events, event)?,
             Out::More if at < bytes.len() => {}
-            out => return Ok(Told {
+            out => return Ok(Reported {
                 events,
                 out,
                 taken: machine.taken(),
@@ -84,13 +84,13 @@ fn limits(rt: &impl Abort, depth: u16, bytes: u64) -> Limits {
 
 // Gives bytes whole, one by one, and so to a machine that is saved between, and looks for what is
 // wanted of each.
-fn look_at_told(rt: &impl Abort, alloc: Global, row: &Row) -> Result<(), AllocError> {
-    let whole = tell(alloc, row.limits, &row.bytes, usize::MAX)?;
-    assert!(rt; whole == row.told, "{}", row.line);
-    let single = tell(alloc, row.limits, &row.bytes, 1)?;
-    assert!(rt; single == row.told, "cut: {}", row.line);
-    let saved = tell_saved(rt, alloc, row.limits, &row.bytes)?;
-    assert!(rt; saved == row.told, "saved: {}", row.line);
+fn look_at_reported(rt: &impl Abort, alloc: Global, row: &Row) -> Result<(), AllocError> {
+    let whole = report(alloc, row.limits, &row.bytes, usize::MAX)?;
+    assert!(rt; whole == row.reported, "{}", row.line);
+    let single = report(alloc, row.limits, &row.bytes, 1)?;
+    assert!(rt; single == row.reported, "cut: {}", row.line);
+    let saved = report_saved(rt, alloc, row.limits, &row.bytes)?;
+    assert!(rt; saved == row.reported, "saved: {}", row.line);
     Ok(())
 }
 
@@ -166,10 +166,10 @@ fn refusals_stay(rt: HostRuntime) {
 }
 
 #[test]
-fn tells_what_the_tables_say(rt: HostRuntime) -> Result<(), AllocError> {
-    for table in [ACCEPTED, NOT_VALID, REFUSED, FRONTS] {
+fn answers_what_the_tables_say(rt: HostRuntime) -> Result<(), AllocError> {
+    for table in [ACCEPTED, NOT_VALID, REFUSED, PREFIXES] {
         for row in &rows_of(&rt, rt.alloc(), table)? {
-            look_at_told(&rt, rt.alloc(), row)?;
+            look_at_reported(&rt, rt.alloc(), row)?;
         }
     }
     Ok(())

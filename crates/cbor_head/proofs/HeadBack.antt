@@ -4,9 +4,9 @@ use Rattle.std.{proofs.lemmas.List.nil_from_length, proofs.Math.Nat.mod-lt, proo
 use Rattle.byteorder.specs.Endian.{big_number, big_bytes, big_from}
 use Rattle.byteorder.specs.Numbers.{big_number-reads_back, length-bytes_high_first, big_from-cons, big_from-lt, big_from-take}
 use Rattle.cbor_head.specs.Prelude.{head, major_number, HoldsOrIndefinite}
-use Rattle.cbor_head.specs.Read.{◌>>=◌, Front, front, major_of, numbered, with_low, read_head}
+use Rattle.cbor_head.specs.Read.{◌>>=◌, Prefix, prefix, major_of, numbered, with_low, read_head}
 use Rattle.cbor_head.specs.declared.width.Width.TheVariants.{Direct, One, Two, Four, Eight, Indefinite}
-use Rattle.cbor_head.{specs.declared.major.Major.Major, specs.declared.width.Width.Width, proofs.HeadLaws.told}
+use Rattle.cbor_head.{specs.declared.major.Major.Major, specs.declared.width.Width.Width, proofs.HeadLaws.reported}
 
 -- a list of bytes, by place
 abbrev pub ByPlace : List ℕ → Type 0
@@ -52,8 +52,8 @@ whole_number k xs e h =
     (ap (big_from 0 k) (sym (append-nil (big_bytes k n))) ∙ big_number-reads_back k n [] (big_from-lt 0 k xs h))
 
 -- the first k bytes are those of their number
-pub front_number : (k : ℕ) (bs : List ℕ) → k ≤ length bs → ByPlace bs → big_bytes k (big_number k bs) ++ drop k bs ≡ bs
-front_number k bs h b =
+pub prefix_number : (k : ℕ) (bs : List ℕ) → k ≤ length bs → ByPlace bs → big_bytes k (big_number k bs) ++ drop k bs ≡ bs
+prefix_number k bs h b =
     ap (λ (l : List ℕ). l ++ drop k bs) (ap (big_bytes k) (sym (big_from-take 0 k k bs (omega arith))) ∙ whole_number k (take k bs) (length-take-le k bs h) (by_place-take k bs b))
     ∙ take-append-drop k bs
 
@@ -66,9 +66,9 @@ bind_some None f y e = absurd (cc e)
 bind_some (Some x) f y e = (x, refl, e)
 
 -- h is what b begins with
-pub record IsFront (b : List ℕ) (h : Front) : Type 0 where
+pub record IsPrefix (b : List ℕ) (h : Prefix) : Type 0 where
   pub holds : HoldsOrIndefinite h.width h.argument
-  pub tells : told h.width h.argument ≡ h.argument
+  pub reports : reported h.width h.argument ≡ h.argument
   pub bytes_are : head h.major h.width h.argument ++ h.rest ≡ b
 
 major_kept : (q : ℕ) → q < 8 → major_number (major_of q) ≡ q
@@ -78,41 +78,41 @@ major_kept q h = refl
 first_kept : (b : ℕ) → b < 256 → 32 * major_number (major_of (b / 32)) + b % 32 ≡ b
 first_kept b h = rw (major_kept (b / 32) (omega arith)) (omega arith)
 
-numbered_front : (b : ℕ) (m : Major) (w : Width) (k : ℕ) (bs : List ℕ) (h : Front) → ByPlace bs
-    → ((n : ℕ) → n < 256 ^ k → HoldsOrIndefinite w n) → ((n : ℕ) → told w n ≡ n) → ((n : ℕ) → head m w n ≡ b ∷ big_bytes k n)
-    → numbered m w k bs ≡ Some h → IsFront (b ∷ bs) h
-numbered_front b m w k bs h small holds tells spelled e =
-    elim (chosen (nat_le k (length bs)) (Some (front m w (big_number k bs) (drop k bs))) None (Some h) e) [
+numbered_prefix : (b : ℕ) (m : Major) (w : Width) (k : ℕ) (bs : List ℕ) (h : Prefix) → ByPlace bs
+    → ((n : ℕ) → n < 256 ^ k → HoldsOrIndefinite w n) → ((n : ℕ) → reported w n ≡ n) → ((n : ℕ) → head m w n ≡ b ∷ big_bytes k n)
+    → numbered m w k bs ≡ Some h → IsPrefix (b ∷ bs) h
+numbered_prefix b m w k bs h small holds reports spelled e =
+    elim (chosen (nat_le k (length bs)) (Some (prefix m w (big_number k bs) (drop k bs))) None (Some h) e) [
       | inl p ↦
-          let same : front m w (big_number k bs) (drop k bs) ≡ h = cc p.1 in
-          subst (IsFront (b ∷ bs)) same (record {
+          let same : prefix m w (big_number k bs) (drop k bs) ≡ h = cc p.1 in
+          subst (IsPrefix (b ∷ bs)) same (record {
             holds = holds (big_number k bs) (big_from-lt 0 k bs small);
-            tells = tells (big_number k bs);
-            bytes_are = ap (λ (l : List ℕ). l ++ drop k bs) (spelled (big_number k bs)) ∙ ap (λ (l : List ℕ). b ∷ l) (front_number k bs (leb-true k (length bs) p.0) small);
+            reports = reports (big_number k bs);
+            bytes_are = ap (λ (l : List ℕ). l ++ drop k bs) (spelled (big_number k bs)) ∙ ap (λ (l : List ℕ). b ∷ l) (prefix_number k bs (leb-true k (length bs) p.0) small);
           })
       | inr p ↦ absurd (cc p.1)
     ]
 
 -- a case of the low five bits, and what is read in the others
-one_case : (b k : ℕ) (m : Major) (low n : ℕ) (w : Width) (bs : List ℕ) (h : Front) (rest : Option Front) → ByPlace bs → 32 * major_number m + low ≡ b
-    → ((x : ℕ) → x < 256 ^ n → HoldsOrIndefinite w x) → ((x : ℕ) → told w x ≡ x) → ((x : ℕ) → head m w x ≡ (32 * major_number m + k) ∷ big_bytes n x)
-    → (if low == k then numbered m w n bs else rest) ≡ Some h → (rest ≡ Some h → IsFront (b ∷ bs) h) → IsFront (b ∷ bs) h
-one_case b k m low n w bs h rest small e holds tells spelled f other =
+one_case : (b k : ℕ) (m : Major) (low n : ℕ) (w : Width) (bs : List ℕ) (h : Prefix) (rest : Option Prefix) → ByPlace bs → 32 * major_number m + low ≡ b
+    → ((x : ℕ) → x < 256 ^ n → HoldsOrIndefinite w x) → ((x : ℕ) → reported w x ≡ x) → ((x : ℕ) → head m w x ≡ (32 * major_number m + k) ∷ big_bytes n x)
+    → (if low == k then numbered m w n bs else rest) ≡ Some h → (rest ≡ Some h → IsPrefix (b ∷ bs) h) → IsPrefix (b ∷ bs) h
+one_case b k m low n w bs h rest small e holds reports spelled f other =
     elim (chosen (low == k) (numbered m w n bs) rest (Some h) f) [
       | inl p ↦
           let is : low ≡ k = eqb-true low k p.0 in
           let first : 32 * major_number m + k ≡ b = omega arith in
-          numbered_front b m w n bs h small holds tells (λ x. spelled x ∙ ap (λ (y : ℕ). y ∷ big_bytes n x) first) p.1
+          numbered_prefix b m w n bs h small holds reports (λ x. spelled x ∙ ap (λ (y : ℕ). y ∷ big_bytes n x) first) p.1
       | inr p ↦ other p.1
     ]
 
-low_front : (b : ℕ) (m : Major) (low : ℕ) (bs : List ℕ) (h : Front) → ByPlace bs → 32 * major_number m + low ≡ b → with_low m low bs ≡ Some h → IsFront (b ∷ bs) h
-low_front b m low bs h small e f =
-    elim (chosen (nat_lt low 24) (Some (front m Direct low bs)) _ (Some h) f) [
+low_prefix : (b : ℕ) (m : Major) (low : ℕ) (bs : List ℕ) (h : Prefix) → ByPlace bs → 32 * major_number m + low ≡ b → with_low m low bs ≡ Some h → IsPrefix (b ∷ bs) h
+low_prefix b m low bs h small e f =
+    elim (chosen (nat_lt low 24) (Some (prefix m Direct low bs)) _ (Some h) f) [
       | inl p ↦
-          let same : front m Direct low bs ≡ h = cc p.1 in
+          let same : prefix m Direct low bs ≡ h = cc p.1 in
           let less : low < 24 = ltb-true low 24 p.0 in
-          subst (IsFront (b ∷ bs)) same (record { holds = less; tells = refl; bytes_are = ap (λ (x : ℕ). x ∷ bs) e })
+          subst (IsPrefix (b ∷ bs)) same (record { holds = less; reports = refl; bytes_are = ap (λ (x : ℕ). x ∷ bs) e })
       | inr p ↦
           one_case b 24 m low 1 One bs h _ small e (λ n l. l) (λ n. refl) (λ n. refl) p.1
           (λ f1. one_case b 25 m low 2 Two bs h _ small e (λ n l. l) (λ n. refl) (λ n. refl) f1
@@ -120,17 +120,17 @@ low_front b m low bs h small e f =
           (λ f3. one_case b 27 m low 8 Eight bs h _ small e (λ n l. l) (λ n. refl) (λ n. refl) f3 opener)))
     ]
   where
-    opener : (if low == 31 then Some (front m Indefinite 0 bs) else None) ≡ Some h → IsFront (b ∷ bs) h
-    opener f = elim (chosen (low == 31) (Some (front m Indefinite 0 bs)) None (Some h) f) [
+    opener : (if low == 31 then Some (prefix m Indefinite 0 bs) else None) ≡ Some h → IsPrefix (b ∷ bs) h
+    opener f = elim (chosen (low == 31) (Some (prefix m Indefinite 0 bs)) None (Some h) f) [
       | inl p ↦
           let is : low ≡ 31 = eqb-true low 31 p.0 in
           let first : 32 * major_number m + 31 ≡ b = omega arith in
-          let same : front m Indefinite 0 bs ≡ h = cc p.1 in
-          subst (IsFront (b ∷ bs)) same (record { holds = tt; tells = refl; bytes_are = ap (λ (x : ℕ). x ∷ bs) first })
+          let same : prefix m Indefinite 0 bs ≡ h = cc p.1 in
+          subst (IsPrefix (b ∷ bs)) same (record { holds = tt; reports = refl; bytes_are = ap (λ (x : ℕ). x ∷ bs) first })
       | inr p ↦ absurd (cc p.1)
     ]
 
-pub read_head-back : (b : List ℕ) (h : Front) → ByPlace b → read_head b ≡ Some h → IsFront b h
+pub read_head-back : (b : List ℕ) (h : Prefix) → ByPlace b → read_head b ≡ Some h → IsPrefix b h
 unfolding read_head
 read_head-back [] h small e = absurd (cc e)
-read_head-back (b ∷ bs) h small e = low_front b (major_of (b / 32)) (b % 32) bs h (by_place-tail b bs small) (first_kept b (small 0)) e
+read_head-back (b ∷ bs) h small e = low_prefix b (major_of (b / 32)) (b % 32) bs h (by_place-tail b bs small) (first_kept b (small 0)) e

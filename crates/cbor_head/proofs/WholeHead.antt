@@ -1,49 +1,49 @@
 -- Which bytes are one definite head.
 use Rattle.std.proofs.Common.{ℕ, ◌≡◌, List, [], ◌++◌, Option, Some, refl, sym, ap, ◌∙◌, subst, append-nil}
 use Rattle.cbor_head.specs.Prelude.{Holds, IsHead, head, head_parts, HoldsOrIndefinite}
-use Rattle.cbor_head.specs.Read.{Front, front, read_head}
+use Rattle.cbor_head.specs.Read.{Prefix, prefix, read_head}
 use Rattle.cbor_head.specs.declared.{major.Major.Major, major.Major.TheVariants.Simple, width.Width.Width}
 use Rattle.cbor_head.specs.declared.width.Width.TheVariants.{One, Indefinite}
-use Rattle.cbor_head.proofs.{HeadLaws.told, HeadLaws.read_head-head, HeadBack.ByPlace, HeadBack.read_head-back, Least.least}
+use Rattle.cbor_head.proofs.{HeadLaws.reported, HeadLaws.read_head-head, HeadBack.ByPlace, HeadBack.read_head-back, Least.least}
 
--- a definite head has room for its argument
+-- a definite head has space for its argument
 pub head_holds : (m : Major) (w : Width) (n : ℕ) → IsHead m w n → Holds w n
 head_holds Simple w n h = subst (λ (v : Width). Holds v n) (sym h.1) (least Simple One n h.0.0).0
 head_holds m w n h = h
 
-told_of : (w : Width) (n : ℕ) → Holds w n → HoldsOrIndefinite w n × (told w n ≡ n)
-told_of Indefinite n h = absurd h
-told_of w n h = (h, refl)
+reported_of : (w : Width) (n : ℕ) → Holds w n → HoldsOrIndefinite w n × (reported w n ≡ n)
+reported_of Indefinite n h = absurd h
+reported_of w n h = (h, refl)
 
 -- a definite head is read, whatever follows it
-pub head_reads : (m : Major) (w : Width) (n : ℕ) (x : List ℕ) → IsHead m w n → read_head (head m w n ++ x) ≡ Some (front m w n x)
+pub head_reads : (m : Major) (w : Width) (n : ℕ) (x : List ℕ) → IsHead m w n → read_head (head m w n ++ x) ≡ Some (prefix m w n x)
 head_reads m w n x h =
-    let t = told_of w n (head_holds m w n h) in
-    read_head-head m w n x t.0 ∙ ap (λ (k : ℕ). Some (front m w k x)) t.1
+    let t = reported_of w n (head_holds m w n h) in
+    read_head-head m w n x t.0 ∙ ap (λ (k : ℕ). Some (prefix m w k x)) t.1
 
-some_front : {f g : Front} → Some f ≡ Some g → f ≡ g
-some_front e = cc e
+some_prefix : {f g : Prefix} → Some f ≡ Some g → f ≡ g
+some_prefix e = cc e
 
 -- two definite heads that bytes begin with are one
 pub one_head : (l m : Major) (v w : Width) (k n : ℕ) (x y : List ℕ) → IsHead l v k → IsHead m w n → head l v k ++ x ≡ head m w n ++ y → (l ≡ m) × (v ≡ w) × (k ≡ n) × (x ≡ y)
 one_head l m v w k n x y g h e =
-    let same : front l v k x ≡ front m w n y = some_front (sym (head_reads l v k x g) ∙ ap read_head e ∙ head_reads m w n y h) in
-    (ap (λ (f : Front). f.major) same, ap (λ (f : Front). f.width) same, ap (λ (f : Front). f.argument) same, ap (λ (f : Front). f.rest) same)
+    let same : prefix l v k x ≡ prefix m w n y = some_prefix (sym (head_reads l v k x g) ∙ ap read_head e ∙ head_reads m w n y h) in
+    (ap (λ (f : Prefix). f.major) same, ap (λ (f : Prefix). f.width) same, ap (λ (f : Prefix). f.argument) same, ap (λ (f : Prefix). f.rest) same)
 
 -- what is read of a head's bytes is that head
-pub only_head : (b : List ℕ) {o : Option Front} (m : Major) (w : Width) (n : ℕ) → read_head b ≡ o → IsHead m w n → b ≡ head m w n → o ≡ Some (front m w n [])
+pub only_head : (b : List ℕ) {o : Option Prefix} (m : Major) (w : Width) (n : ℕ) → read_head b ≡ o → IsHead m w n → b ≡ head m w n → o ≡ Some (prefix m w n [])
 only_head b m w n e h is = sym e ∙ ap read_head (is ∙ sym (append-nil (head m w n))) ∙ head_reads m w n [] h
 
 -- what was read with nothing behind it is all of the bytes
-pub whole_head : (b : List ℕ) {f : Front} → ByPlace b → read_head b ≡ Some f → f.rest ≡ [] → b ≡ head f.major f.width f.argument
+pub whole_head : (b : List ℕ) {f : Prefix} → ByPlace b → read_head b ≡ Some f → f.rest ≡ [] → b ≡ head f.major f.width f.argument
 whole_head b {f = f} small e none =
     sym (read_head-back b f small e).bytes_are ∙ ap (λ (l : List ℕ). head f.major f.width f.argument ++ l) none ∙ append-nil (head f.major f.width f.argument)
 
-pub same_parts : (b : List ℕ) {f : Front} (m : Major) (w : Width) (n : ℕ) → read_head b ≡ Some f → IsHead m w n → b ≡ head m w n → head_parts f.major f.width f.argument ≡ head_parts m w n
-same_parts b m w n e h is = ap (λ (f : Front). head_parts f.major f.width f.argument) (some_front (only_head b m w n e h is))
+pub same_parts : (b : List ℕ) {f : Prefix} (m : Major) (w : Width) (n : ℕ) → read_head b ≡ Some f → IsHead m w n → b ≡ head m w n → head_parts f.major f.width f.argument ≡ head_parts m w n
+same_parts b m w n e h is = ap (λ (f : Prefix). head_parts f.major f.width f.argument) (some_prefix (only_head b m w n e h is))
 
 -- what was read and is no head, or has something behind it, is no head's bytes
-pub no_head : (b : List ℕ) {f : Front} (m : Major) (w : Width) (n : ℕ) → read_head b ≡ Some f → (f.rest ≡ [] → IsHead f.major f.width f.argument → ⊥) → IsHead m w n → b ≡ head m w n → ⊥
+pub no_head : (b : List ℕ) {f : Prefix} (m : Major) (w : Width) (n : ℕ) → read_head b ≡ Some f → (f.rest ≡ [] → IsHead f.major f.width f.argument → ⊥) → IsHead m w n → b ≡ head m w n → ⊥
 no_head b m w n e other h is =
-    let same = some_front (only_head b m w n e h is) in
-    other (ap (λ (f : Front). f.rest) same) (subst (λ (f : Front). IsHead f.major f.width f.argument) (sym same) h)
+    let same = some_prefix (only_head b m w n e h is) in
+    other (ap (λ (f : Prefix). f.rest) same) (subst (λ (f : Prefix). IsHead f.major f.width f.argument) (sym same) h)

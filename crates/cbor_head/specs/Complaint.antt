@@ -61,7 +61,7 @@ abbrev pub OfCount : Rules → ℕ → Major → Width → ℕ → Complaint →
 OfCount r at major Indefinite n c = OfIndefinite r at c
 OfCount r at major w n c = OfHead r at major w n c
 
--- a payload, at a place, that is not UTF-8 (section 3.1); its place is behind the longest front that is
+-- a payload, at a place, that is not UTF-8 (section 3.1); its place is behind the longest prefix that is
 abbrev pub OfPayload : Rules → ℕ → List ℕ → Complaint → Type 0
 OfPayload r at payload c = IsTrue r.texts × ¬ IsUtf8 payload × (c ≡ complaint (at + length payload) (at + utf8_valid_len payload) InvalidText)
 
@@ -87,7 +87,7 @@ OfKey distinct at before k c = IsRepeated before k × (c ≡ complaint (at + len
 OfKey (rising o) at [] k c = ⊥
 OfKey (rising o) at (b ∷ bs) k c = ¬ IsTrue (key_lt o (spell b) (spell k)) × (c ≡ complaint (at + length (spell k)) at KeyOrderReason)
 
--- s, at a place, has this complaint; one on the kind of a key is told apart, by OfKinds
+-- s, at a place, has this complaint; one on the kind of a key is distinguished, by OfKinds
 abbrev mutual
   pub Complains : Rules → ℕ → Spelling → Complaint → Type 0
   Complains r at (unsigned w n) c = OfHead r at Unsigned w n c

@@ -9,7 +9,7 @@ use Rattle.cbor_head.specs.declared.{major.Major.Major, width.Width.Width}
 abbrev pub IsSimple : ℕ → Type 0
 IsSimple n = (n < 256) × (24 ≤ n → 32 ≤ n)
 
--- the width has room for the argument
+-- the width has space for the argument
 abbrev pub Holds : Width → ℕ → Type 0
 Holds Direct n = n < 24
 Holds One n = n < 2 ^ 8

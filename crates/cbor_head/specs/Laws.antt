@@ -1,4 +1,4 @@
--- Words of the laws of the model: items and complaints at the front of bytes (RFC 8949, sections 3 and 5.3.1).
+-- Words of the laws of the model: items and complaints at the start of bytes (RFC 8949, sections 3 and 5.3.1).
 use Rattle.std.specs.Prelude.{ℕ, ◌≡◌, ◌≤◌, ◌++◌, List, take}
 use Rattle.cbor_head.specs.Complaint.{Rules, Complaint, IsComplaint}
 use Rattle.cbor_head.specs.Spelling.{Spelling, IsSpelled, IsItem, spell, depth}
@@ -6,16 +6,16 @@ use Rattle.cbor_head.specs.Verdict.{Answer, DecidesBy, HasNoneOf, IsFirstOf}
 use Rattle.cbor_head.specs.Limits.{Bounds}
 
 -- b begins with the item s, well-formed within the depth, and rest follows it
-abbrev pub IsAtFront : ℕ → List ℕ → Spelling → List ℕ → Type 0
-IsAtFront d b s rest = IsSpelled s × (depth s ≤ d) × (spell s ++ rest ≡ b)
+abbrev pub IsAtStart : ℕ → List ℕ → Spelling → List ℕ → Type 0
+IsAtStart d b s rest = IsSpelled s × (depth s ≤ d) × (spell s ++ rest ≡ b)
 
 -- the item s, well-formed within the depth, starts with p
 abbrev pub StartsWith : ℕ → Spelling → List ℕ → Type 0
 StartsWith d s p = (rest : List ℕ) × IsItem d s (p ++ rest)
 
 -- the first bytes of the input, as many as the limit allows, begin with the item s, well-formed within the depth, that has no complaint
-abbrev pub IsFrontWithoutComplaint : Bounds → Rules → List ℕ → Spelling → Type 0
-IsFrontWithoutComplaint limits rules input s = (rest : List ℕ) × IsAtFront limits.depth (take limits.bytes input) s rest × ((c : Complaint) → IsComplaint limits rules s c → ⊥)
+abbrev pub IsPrefixWithoutComplaint : Bounds → Rules → List ℕ → Spelling → Type 0
+IsPrefixWithoutComplaint limits rules input s = (rest : List ℕ) × IsAtStart limits.depth (take limits.bytes input) s rest × ((c : Complaint) → IsComplaint limits rules s c → ⊥)
 
 -- the first complaint of an item that ends within the first t bytes
 abbrev pub IsFirstComplaint : Bounds → Rules → Spelling → ℕ → Complaint → Type 0

@@ -18,37 +18,37 @@ either o f None = o
 either o f (Some x) = f x
 
 -- a head, and what follows it
-pub record Front : Type 0 where
+pub record Prefix : Type 0 where
   pub major : Major
   pub width : Width
   pub argument : ℕ
   pub rest : List ℕ
 
--- a front, by its parts
-abbrev pub front : Major → Width → ℕ → List ℕ → Front
-front m w n rest = record { major = m; width = w; argument = n; rest = rest }
+-- a prefix, by its parts
+abbrev pub prefix : Major → Width → ℕ → List ℕ → Prefix
+prefix m w n rest = record { major = m; width = w; argument = n; rest = rest }
 
--- the type that the high three bits tell
+-- the type that the high three bits report
 abbrev pub major_of : ℕ → Major
 major_of n = if n == 0 then Unsigned else if n == 1 then Negative else if n == 2 then Bytes else if n == 3 then Text else if n == 4 then Array else if n == 5 then Map else if n == 6 then Tag else Simple
 
 -- an argument in the next k bytes
-abbrev pub numbered : Major → Width → ℕ → List ℕ → Option Front
-numbered m w k bs = if nat_le k (length bs) then Some (front m w (big_number k bs) (drop k bs)) else None
+abbrev pub numbered : Major → Width → ℕ → List ℕ → Option Prefix
+numbered m w k bs = if nat_le k (length bs) then Some (prefix m w (big_number k bs) (drop k bs)) else None
 
--- the head that the low five bits tell, with the bytes behind the first
-abbrev pub with_low : Major → ℕ → List ℕ → Option Front
+-- the head that the low five bits report, with the bytes behind the first
+abbrev pub with_low : Major → ℕ → List ℕ → Option Prefix
 with_low m low bs =
-    if nat_lt low 24 then Some (front m Direct low bs)
+    if nat_lt low 24 then Some (prefix m Direct low bs)
     else if low == 24 then numbered m One 1 bs
     else if low == 25 then numbered m Two 2 bs
     else if low == 26 then numbered m Four 4 bs
     else if low == 27 then numbered m Eight 8 bs
-    else if low == 31 then Some (front m Indefinite 0 bs)
+    else if low == 31 then Some (prefix m Indefinite 0 bs)
     else None
 
--- the head at the front
-unfoldable pub read_head : List ℕ → Option Front
+-- the head at the start
+unfoldable pub read_head : List ℕ → Option Prefix
 read_head [] = None
 read_head (b ∷ bs) = with_low (major_of (b / 32)) (b % 32) bs
 
@@ -57,7 +57,7 @@ abbrev pub payload : {A : Type 0} → ℕ → List ℕ → (List ℕ → A) → 
 payload n bs f = if nat_le n (length bs) then Some (f (take n bs), drop n bs) else None
 
 -- the break, which is no item
-abbrev pub is_break : Front → Bool
+abbrev pub is_break : Prefix → Bool
 is_break h = elim h.width [ Indefinite ↦ (elim h.major [ Simple ↦ true | _ ↦ false ]) | _ ↦ false ]
 
 -- whether two types are one
@@ -70,7 +70,7 @@ chunk Indefinite n bs = None
 chunk w n bs = payload n bs (λ p. record { width = w; payload = p })
 
 -- a definite string of this type
-abbrev pub read_chunk : Major → Front → Option (Chunk × List ℕ)
+abbrev pub read_chunk : Major → Prefix → Option (Chunk × List ℕ)
 read_chunk m h = if same_major m h.major then chunk h.width h.argument h.rest else None
 
 -- chunks up to the break, at most the first number of them
@@ -122,21 +122,21 @@ leaf Simple One n bs = if nat_le 32 n then Some (simple n, bs) else None
 leaf _ _ n bs = None
 
 -- behind a head, what has items inside
-abbrev pub nest : Reader → Major → Width → ℕ → Reader
-nest one Array Indefinite n bs = read_until one (length bs) bs >>= λ ss. Some (array Indefinite ss.0, ss.1)
-nest one Array w n bs = read_many one n bs >>= λ ss. Some (array w ss.0, ss.1)
-nest one Map Indefinite n bs = read_pairs_until one (length bs) bs >>= λ es. Some (a_map Indefinite es.0, es.1)
-nest one Map w n bs = read_pairs one n bs >>= λ es. Some (a_map w es.0, es.1)
-nest one Tag Indefinite n bs = None
-nest one Tag w n bs = one bs >>= λ s. Some (tag w n s.0, s.1)
-nest one _ w n bs = None
+abbrev pub container_stack : Reader → Major → Width → ℕ → Reader
+container_stack one Array Indefinite n bs = read_until one (length bs) bs >>= λ ss. Some (array Indefinite ss.0, ss.1)
+container_stack one Array w n bs = read_many one n bs >>= λ ss. Some (array w ss.0, ss.1)
+container_stack one Map Indefinite n bs = read_pairs_until one (length bs) bs >>= λ es. Some (a_map Indefinite es.0, es.1)
+container_stack one Map w n bs = read_pairs one n bs >>= λ es. Some (a_map w es.0, es.1)
+container_stack one Tag Indefinite n bs = None
+container_stack one Tag w n bs = one bs >>= λ s. Some (tag w n s.0, s.1)
+container_stack one _ w n bs = None
 
 -- the first of two that is there
 abbrev pub or_else : {A : Type 0} → Option A → Option A → Option A
 or_else None o = o
 or_else (Some x) o = Some x
 
--- the item at the front, at most this deep, and what follows it
+-- the item at the start, at most this deep, and what follows it
 unfoldable pub read : ℕ → Reader
 read zero bs = read_head bs >>= λ h. leaf h.major h.width h.argument h.rest
-read (suc d) bs = read_head bs >>= λ h. or_else (leaf h.major h.width h.argument h.rest) (nest (read d) h.major h.width h.argument h.rest)
+read (suc d) bs = read_head bs >>= λ h. or_else (leaf h.major h.width h.argument h.rest) (container_stack (read d) h.major h.width h.argument h.rest)

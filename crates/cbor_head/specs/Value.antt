@@ -77,7 +77,7 @@ abbrev pub AreBytes : List ℕ → Type 0
 AreBytes bs = AllByRecursion (λ b. b < 256) bs
 
 -- What makes a value one: numbers are below 2^64, bytes are bytes, a simple value's number is one (section 3.3). And counts
--- of bytes, members and pairs are below 2^64, so that a head can tell them.
+-- of bytes, members and pairs are below 2^64, so that a head can report them.
 abbrev mutual
   pub IsInRange : Value → Type 0
   IsInRange (unsigned n) = n < 2 ^ 64

@@ -18,7 +18,7 @@ initial_reason c =
     else if nat_le 28 (c % 32) && nat_le (c % 32) 30 then Reserved
     else TooDeep
 
--- Why c may not follow p: where the byte 00 could, an item was due there; where 00 could not and 20 could, the number of a
+-- Why c may not follow p: where the byte 00 could, an item was expected there; where 00 could not and 20 could, the number of a
 -- simple value was; else a chunk was.
 abbrev pub IsReasonAt : ℕ → List ℕ → ℕ → Reason → Type 0
 IsReasonAt d p c reason =
@@ -82,7 +82,7 @@ IsVerdict limits rules input answer = IsVerdictBy (IsComplaint limits rules) lim
 --   9c, depth 0        Reserved 0, 1          no head at all, so not an array that is too deep
 --   9f, depth 0        TooDeep 0, 1
 --   f9, depth 0        Float 0, 1
---   a100ff             StrayBreak 2, 3        a value was due
+--   a100ff             StrayBreak 2, 3        a value was expected
 --   61ff               InvalidText 1, 2
 --   62ff               Truncated 2, 2         the text never ends, so it has no complaint
 --   a20100180100       RepeatedKey 3, 5       by the strict rules NotShortest 3, 5, which ends there too

@@ -3,7 +3,7 @@
 ghost use Rattle.std.specs.Prelude.{◌≡◌, ◌%◌, ◌<◌, ◌≤◌, ◌⊎◌, ◌↔◌, ◌∷◌, length, ℕ, Some, None};
 ghost use Rattle.std.specs.Prelude.{IsTrue, IfSome, MatchOption};
 ghost use Rattle.cbor_head.specs.Head.{IsHead, IsSimple, HeadParts, head, head_parts, shortest};
-ghost use Rattle.cbor_head.specs.Read.{front, read_head};
+ghost use Rattle.cbor_head.specs.Read.{prefix, read_head};
 ghost use Rattle.cbor_head.specs.Spelling.{HoldsOrIndefinite};
 ghost use Rattle.cbor_head.specs.declared.major.Major.{Major};
 ghost use Rattle.cbor_head.specs.declared.major.Major.TheVariants.{Simple};
@@ -14,7 +14,7 @@ use arrayvec::ArrayVec;
 use byteorder::{BigEndian, ByteOrder};
 use std::marker::Model;
 
-/// A definite head: a type, an argument, and a width that has room for it. A simple value has its
+/// A definite head: a type, an argument, and a width that has space for it. A simple value has its
 /// shortest head alone (RFC 8949, section 3).
 #[derive(Clone, Copy, Debug, PartialEq, Eq)]
 pub struct Head {
@@ -129,12 +129,12 @@ pub fn argument_bytes(first: u8) -> u8
     }
 }
 
-// The head at the front, and what follows it.
+// The head at the start, and what follows it.
 #[tactic(auto, unfolding(crate::specs::Read::read_head))]
 fn split(bytes: &[u8]) -> Option<(Major, Width, u64, &[u8])>
     ensures { MatchOption result
         (read_head bytes.now ≡ None)
-        (λ h. read_head bytes.now ≡ Some (front h.0 h.1 h.2 h.3.now)) }
+        (λ h. read_head bytes.now ≡ Some (prefix h.0 h.1 h.2 h.3.now)) }
 {
     let (first, rest) = bytes.split_first()?;
     let low = *first % 32;
@@ -158,7 +158,7 @@ fn joined(first: u8, argument: &[u8]) -> ArrayVec<u8, 9>
 {
     let mut bytes = ArrayVec::new();
     bytes.push(first);
-    // Nine bytes have room for all.
+    // Nine bytes have space for all.
     let _ = bytes.try_extend_from_slice(argument);
     bytes
 }

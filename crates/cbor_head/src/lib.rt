@@ -1,8 +1,10 @@
-//! Heads of CBOR items, and the definitions that every layer cites.
+//! Heads of CBOR items, limits and refusals (RFC 8949, section 3), with the definitions that every contract cites.
 //!
-//! An item begins with a head: the major type in the high three bits of the first byte, the
-//! additional information in its low five, and behind it up to eight bytes of argument
-//! (RFC 8949, section 3):
+//! Users and every other crate here call it. [`Head`] is a head, [`Limits`] bounds an item, [`Refusal`] says why bytes are
+//! not accepted and at which offset.
+//!
+//! An item begins with a head: the major type in the high three bits of the initial byte, the additional information in its
+//! low five bits, and then up to eight bytes of argument:
 //!
 //! ```text
 //!  0x19         0x03 0xe8
@@ -11,9 +13,13 @@
 //! +-----+-----+-----------+
 //! ```
 //!
-//! [`Head`] is such a head, [`Limits`] bounds an item, and [`Refusal`] says why bytes are not
-//! accepted and where. The laws of heads are in [`head_laws`], with a function that reads a head's
-//! bytes back; those of items, of their bytes and of verdicts in `cbor_grammar`.
+//! ```
+//! // the array head 82, of two items
+//! let head = Head::shortest(Major::Array, 2);
+//! assert_eq!(rt; head.bytes().as_slice(), b"\x82");
+//! ```
+//!
+//! The laws of heads are in [`head_laws`], those of items and verdicts in `cbor_model`.
 #![tactic(auto)]
 
 mod head;

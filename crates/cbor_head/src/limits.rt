@@ -33,6 +33,7 @@ impl Limits {
     /// The limits, for keys of any kind; none for a depth above 1024 or a byte limit above 2^62.
     pub fn new(depth: u16, bytes: u64) -> Option<Limits>
         ensures allowed { IsSome result ↔ AreBounds (bounds depth bytes) }
+        ensures exact { IsSome result ↔ (depth ≤ 1024) × (bytes ≤ 2 ^ 62) }
         ensures value { IfSome result (λ l. l ≡ bounds depth bytes) }
     {
         if depth <= MAX_DEPTH && bytes <= 1 << 62 {
@@ -46,7 +47,7 @@ impl Limits {
         }
     }
 
-    /// The same limits, for keys of these kinds.
+    /// Returns these limits for keys of the kinds `keys`.
     pub fn with_keys(self, keys: Keys) -> Limits
         ensures { result ≡ with_keys self keys }
     {

@@ -21,7 +21,7 @@ pub enum Width {
 }
 
 impl Width {
-    /// The first width that has room for the argument.
+    /// The first width that has space for the argument.
     pub(crate) fn shortest(argument: u64) -> Width
         ensures { result ≡ shortest argument }
     {

@@ -2,7 +2,7 @@
 use Rattle.std.proofs.Common.{◌≡◌, suc, ◌≤◌, ◌↔◌, ◌⊎◌, inl, inr, refl, sym, ap, ◌∙◌, subst, arith}
 use Rattle.cbor_head.specs.Prelude.{Value, Entries, map, HasEntry, HasDistinctKeys, Same, Covered}
 use Rattle.cbor_head.specs.Value.{no_entries, entry, entries_count}
-use Rattle.cbor_canonical.proofs.Sameness.{HasSame, IsSameOf, same_maps, Same-maps, Same-sym, Same-trans, from_covered}
+use Rattle.cbor_model.proofs.Sameness.{HasSame, IsSameOf, same_maps, Same-maps, Same-sym, Same-trans, from_covered}
 
 -- fs without one pair
 record Pulled (k v : Value) (fs : Entries) : Type 0 where

@@ -2,7 +2,7 @@
 use Rattle.std.proofs.Common.{◌≡◌, ℕ, suc, ◌<◌, ◌^◌, List, [], ◌∷◌, length, map, Vec, Global, refl, sym, ap, ◌∙◌, subst, arith}
 use Rattle.cbor_head.specs.Prelude.{AreInRange, AreEntriesInRange, IsInRange}
 use Rattle.cbor_head.specs.Value.{depth, depth_all, depth_entries}
-use Rattle.cbor_canonical.{proofs.Lists.values_counted, proofs.Lists.entries_counted, specs.Lists.values_of}
+use Rattle.cbor_model.{proofs.Lists.values_counted, proofs.Lists.entries_counted, specs.Lists.values_of}
 use Rattle.cbor_item.specs.{View.view, inner.Members.entries_view, inner.Walk.flat, inner.Walk.size, inner.Within.Holds, declared.item.Item.Item}
 use Rattle.cbor_item.{specs.declared.item.Item.TheVariants.Array, specs.declared.item.Item.TheVariants.Map, proofs.Views.view-Array, proofs.Views.view-Map}
 use Rattle.cbor_item.proofs.Walk.{weight-all, weight-flat}

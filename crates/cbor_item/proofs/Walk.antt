@@ -4,14 +4,14 @@ use Rattle.std.proofs.lemmas.List.{reverse-append}
 use Rattle.cbor_head.specs.declared.major.Major.TheVariants as Major
 use Rattle.cbor_head.specs.Prelude.{Pair, canonical, canonical_all, canonical_entries, in_order, shortest_head, Value, values_count, IsInRange, AreInRange, AreEntriesInRange, IsValid, AreValid, AreEntriesValid}
 use Rattle.cbor_head.specs.declared.order.KeyOrder.{KeyOrder}
-use Rattle.cbor_canonical.specs.Parts.{Open, plain, an_array, a_map, pair, with_member, closed, HasNoRepeats}
-use Rattle.cbor_canonical.{specs.Pairs.pair_bytes, specs.Pairs.AreKeysValid, proofs.Keys.distinct_exactly, proofs.Sound.valid_apart}
-use Rattle.cbor_canonical.{proofs.Told.length-canonical_entries, specs.Lists.values_of}
+use Rattle.cbor_model.specs.Parts.{Open, plain, an_array, a_map, pair, with_member, closed, HasNoRepeats}
+use Rattle.cbor_model.{specs.Pairs.pair_bytes, specs.Pairs.AreKeysValid, proofs.Keys.distinct_exactly, proofs.Sound.valid_apart}
+use Rattle.cbor_model.{proofs.Reported.length-canonical_entries, specs.Lists.values_of}
 use Rattle.cbor_builder.specs.Built.{Built}
 use Rattle.cbor_item.specs.inner.Walk.{flat, left, left_of_all, IsBegun, with_all, TakesAll, AreAllValid, LeadsAround, Leads, AreSoundAround, AreSound, size, size_all, size_entries, weight, Opens}
 use Rattle.cbor_item.specs.declared.item.Item.TheVariants.{Array, Map, Tag}
 use Rattle.cbor_item.proofs.Views.{view-Array, view-Map, view-Tag}
-use Rattle.cbor_item.specs.{View.view, inner.Members.entries_view, declared.item.Item.Item, declared.rest.Rest.Rest}
+use Rattle.cbor_item.specs.{View.view, inner.Members.entries_view, declared.item.Item.Item, declared.tree_rest.Rest.Rest}
 
 -- ---- what becomes of an open part
 
@@ -127,22 +127,22 @@ sound_begun o P w v vs us vss c (d ∷ os) b l h =
 -- of the order, and of what is open and to come
 pub record Walks (o : KeyOrder) (w : Value) (vss : List (List Value)) (b : Built) : Type 0 where
   pub order : b.order ≡ o
-  pub leads : Leads o w vss b.standing
-  pub sound : AreSound o vss b.standing ↔ IsValid w
+  pub leads : Leads o w vss b.open_levels
+  pub sound : AreSound o vss b.open_levels ↔ IsValid w
 
 pub pushed : (r s : Rest) (rs rs' : List Rest) → rs' ≡ rs ++ s ∷ [] → left_of_all r rs' ≡ left r ∷ left_of_all s rs
 pushed r s rs rs' e = ap (λ (ts : List Rest). left r ∷ map left (reverse ts)) e ∙ ap (λ (ts : List Rest). left r ∷ map left ts) (reverse-append rs (s ∷ []))
 
 pub walks_begun : (o : KeyOrder) (w : Value) (i : Item) (r s t : Rest) (rs rs' : List Rest) (a b : Built) → Walks o w (left_of_all r rs) a → left r ≡ view i ∷ left s
-    → b.order ≡ a.order → IsBegun a.order (view i) a.standing b.standing (Some t) → rs' ≡ rs ++ s ∷ [] → Walks o w (left_of_all t rs') b
+    → b.order ≡ a.order → IsBegun a.order (view i) a.open_levels b.open_levels (Some t) → rs' ≡ rs ++ s ∷ [] → Walks o w (left_of_all t rs') b
 walks_begun o w i r s t rs rs' a b k next same begun push =
     let vss = map left (reverse rs) in
-    let leads = subst (λ vs. Leads o w (vs ∷ vss) a.standing) next k.leads in
-    let sound = subst (λ vs. AreSound o (vs ∷ vss) a.standing ↔ IsValid w) next k.sound in
+    let leads = subst (λ vs. Leads o w (vs ∷ vss) a.open_levels) next k.leads in
+    let sound = subst (λ vs. AreSound o (vs ∷ vss) a.open_levels ↔ IsValid w) next k.sound in
     let opens = subst (λ p. Opens p (view i) begun.0 (left t)) k.order begun.2 in
     let all = pushed t s rs rs' push in
     record {
       order = same ∙ k.order;
-      leads = coe 1 0 (k. Leads o w (all k) (begun.1 k)) (leads_begun o w (view i) (left s) (left t) vss begun.0 a.standing opens leads);
-      sound = coe 1 0 (k. AreSound o (all k) (begun.1 k) ↔ IsValid w) (sound_begun o (IsValid w) w (view i) (left s) (left t) vss begun.0 a.standing opens leads sound);
+      leads = coe 1 0 (k. Leads o w (all k) (begun.1 k)) (leads_begun o w (view i) (left s) (left t) vss begun.0 a.open_levels opens leads);
+      sound = coe 1 0 (k. AreSound o (all k) (begun.1 k) ↔ IsValid w) (sound_begun o (IsValid w) w (view i) (left s) (left t) vss begun.0 a.open_levels opens leads sound);
     }

@@ -4,7 +4,7 @@ use Rattle.cbor_head.specs.Value as value
 use Rattle.cbor_head.specs.Prelude.{Value, Values, Entries}
 use Rattle.cbor_head.specs.declared.major.Major.TheVariants.{Array, Map, Tag}
 use Rattle.cbor_head.specs.declared.major.Major.{Major}
-use Rattle.cbor_canonical.specs.Lists.{values_of, entries_of}
+use Rattle.cbor_model.specs.Lists.{values_of, entries_of}
 use Rattle.cbor_item.specs.{View.view, declared.item.Item.Item}
 
 -- What is open, with its finished members: items, or their values. Around all is the whole, which has one member once the
@@ -35,8 +35,8 @@ open_value (a_key ps k) = a_key (map (λ (p : Item × Item). (view p.0, view p.1
 open_value (a_tag n is) = a_tag n (map view is)
 
 -- the same of all that is open
-abbrev pub standing : List OpenItem → List OpenValue
-standing os = map open_value os
+abbrev pub open_levels : List OpenItem → List OpenValue
+open_levels os = map open_value os
 
 -- with one more finished member
 abbrev pub with_member : Value → OpenValue → OpenValue

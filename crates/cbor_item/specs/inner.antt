@@ -2,5 +2,8 @@
 pub mod Containers
 pub mod Levels
 pub mod Members
+pub mod ViewLevels
+pub mod ViewPairs
+pub mod ViewWalk
 pub mod Walk
 pub mod Within

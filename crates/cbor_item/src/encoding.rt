@@ -9,8 +9,8 @@ ghost use Rattle.cbor_item.specs.View.{view};
 ghost use Rattle.cbor_item.specs.inner.Walk.{IsBegun};
 
 use crate::item::Item;
-use crate::rest::Rest;
 use crate::tree::Tree;
+use crate::tree_rest::Rest;
 use cbor_builder::CanonBuilder;
 use cbor_head::{KeyOrder, Major, Reason, Refusal};
 use std::alloc::{AllocError, Global};
@@ -70,11 +70,11 @@ pub(crate) fn encode_distinct(
 
 // Gives an item that holds no other; begins one that does, and answers what is in it.
 fn begin<'a>(builder: &mut CanonBuilder, item: &'a Item) -> Result<Option<Rest<'a>>, AllocError>
-    requires takes { TakesPart builder.old.standing }
+    requires takes { TakesPart builder.old.open_levels }
     requires in_range { IsInRange (view item.now) }
     ensures order { IfOk result (λ _. builder.new.order ≡ builder.old.order) }
     ensures begun { IfOk result (λ content. IsBegun builder.old.order (view item.now)
-        builder.old.standing builder.new.standing content) }
+        builder.old.open_levels builder.new.open_levels content) }
 {
     match item {
         Item::Unsigned(n) => builder.leaf(Major::Unsigned, *n)?,

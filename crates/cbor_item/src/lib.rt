@@ -1,7 +1,7 @@
-//! CBOR items as trees: sameness and canonical bytes.
+//! CBOR items as values: [`Item`] and [`Tree`], which own their parts, and [`View`], which borrows from the input.
 //!
-//! An [`Item`] is plain data. A [`Tree`] holds an item of depth at most [`MAX_DEPTH`](cbor_head::MAX_DEPTH) in which no map has
-//! two equal keys, so that it has canonical bytes.
+//! Users call it to make items, compare them and encode them. A [`Tree`] holds an item of depth at most
+//! [`MAX_DEPTH`](cbor_head::MAX_DEPTH) in which no map has two equal keys, so that it has canonical bytes.
 //!
 //! ```
 //! let item = Item::Array(vec![in alloc; Item::Unsigned(1), Item::Unsigned(100)]?);
@@ -10,28 +10,42 @@
 //!     assert_eq!(rt; encode(alloc, &tree, KeyOrder::Bytewise)?.as_slice(), b"\x82\x01\x18\x64");
 //! }
 //! ```
+//!
+//! A [`View`] is `Copy`: a string in one piece is a slice of the input; a string in chunks and the members of an array or map
+//! are slices of an arena. `cbor_reader::read_view` makes one; [`TreeBuilder`] and [`ViewBuilder`] make items from their parts.
 #![tactic(auto)]
 
-mod compare;
+mod dropping;
 mod encoding;
 mod item;
-mod letting_go;
-mod level;
+mod joined;
+mod kinds;
+mod lookup;
 mod parts_law;
-mod rest;
+mod to_tree;
 mod tree;
 mod tree_builder;
+mod tree_level;
+mod tree_rest;
+mod tree_same;
+mod view;
+mod view_builder;
+mod view_level;
+mod view_rest;
+mod view_same;
 mod within;
 mod write;
 
 pub use cbor_builder::{CanonBuilder, Repeat};
-pub use cbor_canonical::laws;
 pub use cbor_head::KeyOrder;
-pub use cbor_keys::{compare_keys, key_front};
-pub use compare::same;
+pub use cbor_model::{canonical_laws, compare_keys, key_prefix};
 pub use encoding::encode;
 pub use item::Item;
+pub use joined::Joined;
 pub use parts_law::parts_make_the_value;
 pub use tree::Tree;
 pub use tree_builder::TreeBuilder;
+pub use tree_same::same;
+pub use view::View;
+pub use view_builder::ViewBuilder;
 pub use write::{encode_to, write_whole};

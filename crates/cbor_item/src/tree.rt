@@ -6,16 +6,16 @@ ghost use Rattle.cbor_head.specs.declared.limits.TheConstants.{MAX_DEPTH};
 ghost use Rattle.cbor_item.specs.Refused.{Refuses};
 ghost use Rattle.cbor_item.specs.View.{view};
 
+use crate::dropping::drop_deep;
 use crate::encoding::encode_distinct;
 use crate::item::Item;
-use crate::letting_go::let_go;
 use crate::within::is_within;
 use cbor_head::{KeyOrder, Reason};
 use std::alloc::Global;
 use std::marker::Model;
 
 /// An item of depth at most [`MAX_DEPTH`] in which no map has two equal keys (RFC 8949, section 5.6).
-/// It is let go without recursion, which takes no memory.
+/// It is dropped without recursion, which takes no memory.
 pub struct Tree {
     item: Item,
 }
@@ -95,6 +95,6 @@ impl Tree {
 
 impl Drop for Tree {
     fn drop(self) {
-        let_go(self.into_item());
+        drop_deep(self.into_item());
     }
 }

@@ -4,11 +4,11 @@ ghost use Rattle.std.specs.Prelude.{◌≡◌, ◌∷◌, [], List, OnOk};
 ghost use Rattle.cbor_head.specs.Value.{Value};
 ghost use Rattle.cbor_builder.specs.Built.{IsContainer};
 ghost use Rattle.cbor_item.specs.OpenValues.{the_whole, opened, give, close, run, parts_of};
-ghost use Rattle.cbor_item.specs.OpenValues.{standing, TakesValue, MayEnd, IsWhole};
+ghost use Rattle.cbor_item.specs.OpenValues.{open_levels, TakesValue, MayEnd, IsWhole};
 ghost use Rattle.cbor_item.specs.View.{view};
 
 use crate::item::Item;
-use crate::level::Level;
+use crate::tree_level::Level;
 use cbor_head::Major;
 use std::alloc::{AllocError, Global};
 use std::marker::Model;
@@ -16,7 +16,7 @@ use std::marker::Model;
 /// An item (RFC 8949, section 3) from its parts as they come. What is open lies in a list of its
 /// own, so the depth of an item costs memory and no stack. The pairs of a map keep the order in
 /// which they came. Memory is taken for what came, never by a length in a head. After a call has
-/// been refused memory the builder may only be dropped. It is let go without recursion, as a
+/// been refused memory the builder may only be dropped. It is dropped without recursion, as a
 /// [`Tree`](crate::Tree) is.
 ///
 /// ```
@@ -55,7 +55,7 @@ impl Model for TreeBuilder {
 impl TreeBuilder {
     /// A builder that has been given nothing. Takes no memory.
     pub fn new(alloc: Global) -> TreeBuilder
-        ensures { standing result ≡ the_whole [] ∷ [] }
+        ensures { open_levels result ≡ the_whole [] ∷ [] }
     {
         TreeBuilder {
             alloc,
@@ -66,8 +66,8 @@ impl TreeBuilder {
 
     /// A member that is complete: one without members, or one that was built before.
     pub fn leaf(&mut self, item: Item) -> Result<(), AllocError>
-        requires takes { TakesValue (standing self.old) }
-        ensures { OnOk result (standing self.new ≡ give (view item) (standing self.old)) }
+        requires takes { TakesValue (open_levels self.old) }
+        ensures { OnOk result (open_levels self.new ≡ give (view item) (open_levels self.old)) }
     {
         self.top.put(item)
     }
@@ -75,8 +75,8 @@ impl TreeBuilder {
     /// An array, a map or a tag begins. The number is the tag's.
     pub fn begin(&mut self, major: Major, number: u64) -> Result<(), AllocError>
         requires kind { IsContainer major }
-        requires takes { TakesValue (standing self.old) }
-        ensures { OnOk result (standing self.new ≡ opened major number ∷ standing self.old) }
+        requires takes { TakesValue (open_levels self.old) }
+        ensures { OnOk result (open_levels self.new ≡ opened major number ∷ open_levels self.old) }
     {
         self.below.reserve(1)?;
         let inner = Level::begun(self.alloc, major, number);
@@ -87,8 +87,8 @@ impl TreeBuilder {
 
     /// The array, map or tag ends.
     pub fn end(&mut self) -> Result<(), AllocError>
-        requires container { MayEnd (standing self.old) }
-        ensures { OnOk result (standing self.new ≡ close (standing self.old)) }
+        requires container { MayEnd (open_levels self.old) }
+        ensures { OnOk result (open_levels self.new ≡ close (open_levels self.old)) }
     {
         let Some(outer) = self.below.pop() else {
             unreachable!()
@@ -100,10 +100,10 @@ impl TreeBuilder {
 
     /// The item, once it is complete. Takes no memory.
     pub fn finish(self) -> Item
-        requires whole { IsWhole (standing self) }
-        ensures item { (v : Value) → standing self ≡ the_whole (v ∷ []) ∷ [] → view result ≡ v }
+        requires whole { IsWhole (open_levels self) }
+        ensures item { (v : Value) → open_levels self ≡ the_whole (v ∷ []) ∷ [] → view result ≡ v }
         ensures made { (v : Value)
-            → standing self ≡ run (parts_of v) (the_whole [] ∷ []) → view result ≡ v }
+            → open_levels self ≡ run (parts_of v) (the_whole [] ∷ []) → view result ≡ v }
     {
         let TreeBuilder {
             alloc: _,
@@ -124,9 +124,9 @@ impl Drop for TreeBuilder {
             top,
             below,
         } = self;
-        top.let_go();
+        top.drop_deep();
         for level in below {
-            level.let_go();
+            level.drop_deep();
         }
     }
 }

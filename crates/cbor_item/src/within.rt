@@ -7,7 +7,7 @@ ghost use Rattle.cbor_item.specs.inner.Walk.{left};
 ghost use Rattle.cbor_item.specs.inner.Within.{Holds, HoldsNone};
 
 use crate::item::Item;
-use crate::rest::Rest;
+use crate::tree_rest::Rest;
 use cbor_head::MAX_DEPTH;
 use std::slice;
 
@@ -22,20 +22,20 @@ pub(crate) fn is_within(item: &Item) -> bool
     ensures shallow { IsTrue result ↔ depth (view item.now) ≤ MAX_DEPTH }
     ensures in_range { IsTrue result → IsInRange (view item.now) }
 {
-    nests_in(item, &mut [Rest::Members(&[]); FEW]) || is_within_most(item)
+    is_nested_in(item, &mut [Rest::Members(&[]); FEW]) || is_within_most(item)
 }
 
-// The same of an item that may be deep: the cells take 32 KiB of the stack.
+// Whether an item that may be deep is within the depth limit: the cells take 32 KiB of the stack.
 #[inline(never)]
 fn is_within_most(item: &Item) -> bool
     ensures shallow { IsTrue result ↔ depth (view item.now) ≤ MAX_DEPTH }
     ensures in_range { IsTrue result → IsInRange (view item.now) }
 {
-    nests_in(item, &mut [Rest::Members(&[]); MOST])
+    is_nested_in(item, &mut [Rest::Members(&[]); MOST])
 }
 
 // Whether it nests no deeper than there are cells: one for each container around the one at hand.
-fn nests_in<'a>(item: &'a Item, cells: &mut [Rest<'a>]) -> bool
+fn is_nested_in<'a>(item: &'a Item, cells: &mut [Rest<'a>]) -> bool
     ensures shallow { IsTrue result ↔ depth (view item.now) ≤ length cells.old }
     ensures in_range { IsTrue result → IsInRange (view item.now) }
 {

@@ -116,16 +116,16 @@ fn answers_for_memory(rt: HostRuntime) -> Result<(), Fail> {
             Tree::of(alloc, item).map_err(|_| "memory was refused again")?
         }
     };
-    if let Err(met) = encode(alloc, &tree, KeyOrder::Bytewise) {
-        assert!(rt; met == refusal);
+    if let Err(visited) = encode(alloc, &tree, KeyOrder::Bytewise) {
+        assert!(rt; visited == refusal);
     }
     let mut out = [0; 40];
-    let mut room = out.as_mut_slice();
-    match encode_to(alloc, &tree, KeyOrder::LengthFirst, &mut room) {
+    let mut space = out.as_mut_slice();
+    match encode_to(alloc, &tree, KeyOrder::LengthFirst, &mut space) {
         Ok(count) => assert!(rt; count == 24),
-        Err(met) => {
-            assert!(rt; met == refusal);
-            assert!(rt; room.len() == 40);
+        Err(visited) => {
+            assert!(rt; visited == refusal);
+            assert!(rt; space.len() == 40);
         }
     }
     Ok(())

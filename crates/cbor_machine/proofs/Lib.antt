@@ -1,6 +1,17 @@
+pub mod Buffers
+pub mod Feeding
+pub mod Form
+pub mod Frames
+pub mod ContainerStacks
+pub mod NextEvents
+pub mod NextRefusals
+pub mod Positions
 pub mod Reasons
 pub mod Saved
 pub mod SavedFrames
 pub mod Settled
+pub mod MachineStates
 pub mod Starting
+pub mod Reported
 pub mod Wanting
+pub mod WholeHeads

@@ -3,8 +3,8 @@ use Rattle.std.proofs.Common.{ℕ, ◌+◌, ◌*◌, ◌^◌, ◌<◌, ◌≤◌
 use Rattle.std.proofs.Math.Nat.{mul-le-mul_left, pow-le-pow_right}
 
 -- nine bytes of an argument are too many
-pub no-room : (argument left : ℕ) → 8 ≤ left → (argument + 1) * 256 ^ (left + 1) ≤ 2 ^ 64 → ⊥
-no-room argument left many fits =
+pub no-space : (argument left : ℕ) → 8 ≤ left → (argument + 1) * 256 ^ (left + 1) ≤ 2 ^ 64 → ⊥
+no-space argument left many fits =
     let nine : 9 ≤ left + 1 = omega arith in
     let one : 1 ≤ argument + 1 = omega arith in
     let some : 0 < 256 = lit< tt in

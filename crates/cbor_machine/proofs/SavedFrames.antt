@@ -2,8 +2,7 @@
 use Rattle.std.proofs.Common.{◌≡◌, ℕ, zero, suc, ◌+◌, ◌-◌, ◌<◌, List, [], ◌∷◌, ◌++◌, length, take, drop, set, get_or, replicate, Some, refl, sym, ap, ◌∙◌, add-one, arith, slice_get}
 use Rattle.std.proofs.lemmas.List.{drop-replicate, length-replicate, set-get_or, take_more}
 use Rattle.std.proofs.lemmas.Option.{get_or_from_slice_get}
-use Rattle.cbor_steps.specs.declared.frame.Frame.{Frame}
-use Rattle.cbor_machine.specs.{Saved.AreZeros, inner.Saved.frame_by, inner.Saved.frames_by}
+use Rattle.cbor_machine.specs.{declared.frame.Frame.Frame, Saved.AreZeros, inner.Saved.frame_by, inner.Saved.frames_by}
 
 -- one more is written
 frames-written : (ls ks : List ℕ) (i n k : ℕ) → i < length ls → i < length ks → frames_by (take (suc i) (set ls i n)) (take (suc i) (set ks i k)) ≡ frames_by (take i ls) (take i ks) ++ frame_by n k ∷ []
@@ -24,9 +23,9 @@ next-read ls ks i l m =
     ∙ ap (λ xs. frames_by (take (suc i) xs) (take (suc i) ks)) (sym (set-get_or ls i 0)) ∙ ap (λ xs. frames_by (take (suc i) (set ls i (get_or ls i 0))) (take (suc i) xs)) (sym (set-get_or ks i 0))
     ∙ frames-written ls ks i (get_or ls i 0) (get_or ks i 0) l m
 
-pub read-on : (ls ks : List ℕ) (i : ℕ) (nest to : List Frame) (f : Frame) → i < length ls → i < length ks → nest ≡ frames_by (take i ls) (take i ks) → to ≡ nest ++ f ∷ [] → f ≡ frame_by (get_or ls i 0) (get_or ks i 0)
+pub read-on : (ls ks : List ℕ) (i : ℕ) (container_stack to : List Frame) (f : Frame) → i < length ls → i < length ks → container_stack ≡ frames_by (take i ls) (take i ks) → to ≡ container_stack ++ f ∷ [] → f ≡ frame_by (get_or ls i 0) (get_or ks i 0)
     → to ≡ frames_by (take (i + 1) ls) (take (i + 1) ks)
-read-on ls ks i nest to f l m e pushed is = pushed ∙ ap (λ fs. fs ++ f ∷ []) e ∙ ap (λ g. frames_by (take i ls) (take i ks) ++ g ∷ []) is ∙ sym (next-read ls ks i l m)
+read-on ls ks i container_stack to f l m e pushed is = pushed ∙ ap (λ fs. fs ++ f ∷ []) e ∙ ap (λ g. frames_by (take i ls) (take i ks) ++ g ∷ []) is ∙ sym (next-read ls ks i l m)
 
 pub zeros-behind : (n most : ℕ) (xs : List ℕ) → xs ≡ drop n (replicate most 0) → AreZeros xs
 zeros-behind n most xs e =

@@ -1,10 +1,10 @@
--- What is wanted behind bytes that told nothing.
+-- What is wanted behind bytes that reported nothing.
 use Rattle.std.proofs.Common.{◌≡◌, ◌<◌, ◌-◌, ℕ, List, [], None, Option, Some, arith, min, refl, subst, sym, take}
 use Rattle.cbor_head.specs.declared.reason.Refusal.{Refusal}
 use Rattle.cbor_automaton.specs.Automaton.{State, reached, run}
-use Rattle.cbor_steps.specs.State.{state_of, wanted_at, IsFit, IsSettled}
-use Rattle.cbor_steps.specs.declared.{frame.Frame.Frame, position.Position.Position, position.Position.TheVariants.Done}
-use Rattle.cbor_standing.specs.Machine.{wanted_within}
+use Rattle.cbor_machine.specs.State.{state_of, wanted_at, IsFit, IsSettled}
+use Rattle.cbor_machine.specs.declared.{frame.Frame.Frame, position.Position.Position, position.Position.TheVariants.Done}
+use Rattle.cbor_machine.specs.Machine.{wanted_within}
 
 -- anywhere but behind the item
 pub wants-within : (position : Position) → (position ≡ Done → ⊥) → 0 < wanted_at position
@@ -18,7 +18,7 @@ done-state : (position : Position) (fs : List Frame) → state_of position fs �
 done-state Done fs e = refl
 done-state position fs e = cc
 
--- bytes that tell nothing lead from nowhere else behind the item
+-- bytes that report nothing lead from nowhere else behind the item
 pub goes-within : (d : ℕ) (old new : Position) (from to : List Frame) (used : ℕ) (bs : List ℕ) → (old ≡ Done → ⊥) → IsFit d to new
     → (IsSettled to new → (used ≡ 0) × IsSettled from old) → run d (state_of old from) (take used bs) ≡ reached (state_of new to) [] → new ≡ Done → ⊥
 goes-within d old new from to used bs begun fit settles ran ended =

@@ -1,2 +1,12 @@
-pub mod inner
+pub mod Calls
+pub mod ContainerStack
+pub mod Feed
+pub mod Machine
+pub mod MachineView
+pub mod NextEvent
 pub mod Saved
+pub mod State
+pub mod Steps
+pub mod Token
+pub mod Whole
+pub mod inner

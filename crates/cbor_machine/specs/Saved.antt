@@ -1,14 +1,13 @@
 -- The machine that the numbers of a saved one hold.
 use Rattle.std.specs.Prelude.{ℕ, ◌≡◌, List, [], length, replicate}
-use Rattle.cbor_standing.specs.{Machine.StandsFor, MachineView.MachineView}
-use Rattle.cbor_machine.specs.{inner.Saved.IsHeld, declared.machine.saved.SavedMachine.SavedMachine}
+use Rattle.cbor_machine.specs.{Machine.StandsFor, MachineView.MachineView, inner.Saved.IsHeld, declared.machine.saved.SavedMachine.SavedMachine}
 
 -- the numbers hold this machine
 pub record Holds (s : SavedMachine) (m : MachineView) : Type 0 where
   pub depth : m.depth ≡ s.depth
   pub bytes : m.bytes ≡ s.bytes
   pub taken : m.taken ≡ s.taken
-  pub told : m.told ≡ s.told
+  pub reported : m.reported ≡ s.reported
   pub open_count : m.open_count ≡ s.open
   -- where the next byte belongs, the open containers and the refusal
   pub inner : IsHeld s m

@@ -1,2 +1,3 @@
 -- What private functions speak of; no public contract does.
+pub mod Machine
 pub mod Saved

@@ -1,23 +1,31 @@
-//! The machine that takes an item byte by byte.
+//! The resumable engine: it takes the bytes of one item in parts of any length and gives its events (RFC 8949, section 3).
 //!
-//! [`Machine`] takes the bytes of one item in parts of any length and tells an
-//! [`Event`](cbor_automaton::Event) for each head, each break and each part of a payload (RFC 8949,
-//! section 3), with its place and its width. It says where an item ends, and refuses the first byte
-//! that no item can have there. It keeps the containers that are open and no bytes, and no call
-//! takes memory.
+//! `cbor_events` and the library for C call it. [`Machine`] gives an [`Event`](cbor_automaton::Event) for each head, each
+//! break and each part of a payload, with its offset and its width. It reports where the item ends, and refuses the first
+//! byte that no item can have there. It keeps the open containers and no bytes, and no call allocates.
 //!
 //! ```ignore
 //! let mut machine = Machine::new(limits);
-//! machine.step(&[0x82, 0x19]); // the array of two items, with one byte used
-//! machine.step(&[0x19, 0x03]); // more: all is used, and the head goes on
-//! machine.step(&[0xe8, 0x00]); // 1000, at place 1, with one byte used
+//! machine.step(&[0x82, 0x19]); // the array of two items; one byte used
+//! machine.step(&[0x19, 0x03]); // more: both bytes used, and the head goes on
+//! machine.step(&[0xe8, 0x00]); // 1000, at offset 1; one byte used
 //! ```
 //!
-//! [`SavedMachine`] is a machine as plain numbers, to be kept where no machine can be. [`take_part`] is
-//! a step whose contract says more: for the crates that are made of a machine.
+//! [`SavedMachine`] is a machine as plain numbers, for callers that cannot keep a machine. [`take_part`] is a step with a
+//! stronger contract, for the crates above. `specs/MachineView` is what contracts see of a machine, `specs/Machine` what it
+//! stands for after some bytes, `specs/NextEvent` what a call for the next event answers.
 #![tactic(auto)]
 
+mod container_stack;
+mod feed;
+mod frame;
 mod machine;
+mod opening;
+mod position;
+mod step;
+mod take_byte;
+mod token;
+mod whole_event;
 
-pub use cbor_standing::{Out, Step};
 pub use machine::{Machine, SavedMachine, below_256, take_part};
+pub use step::{Out, Step};

@@ -5,36 +5,39 @@ ghost use Rattle.std.specs.Prelude.{min, true, false, Some, None, IfSome, IsTrue
 ghost use Rattle.cbor_head.specs.Value.{AreBytes};
 ghost use Rattle.cbor_automaton.specs.Trace.{Mark};
 ghost use Rattle.cbor_automaton.specs.Reasons.{IsMachineReason};
-ghost use Rattle.cbor_standing.specs.MachineView.{MachineView};
-ghost use Rattle.cbor_standing.specs.Machine.{StandsFor, KeepsLimits, Stays, IsAnswer, IsComplete};
-ghost use Rattle.cbor_standing.specs.Machine.{IsIdle, IsEvent, IsMore, IsDone, IfRefused, piece_of};
-ghost use Rattle.cbor_standing.specs.Machine.{IsGiven};
+ghost use Rattle.cbor_machine.specs.MachineView.{MachineView};
+ghost use Rattle.cbor_machine.specs.Machine.{StandsFor, KeepsLimits, Stays, IsAnswer, IsComplete};
+ghost use Rattle.cbor_machine.specs.Machine.{IsIdle, IsEvent, IsMore, IsDone, IfRefused, piece_of};
+ghost use Rattle.cbor_machine.specs.Machine.{IsGiven};
 ghost use Rattle.cbor_automaton.specs.Marks.{IsProper, times};
-ghost use Rattle.cbor_standing.specs.Machine.{wanted};
-ghost use Rattle.cbor_steps.specs.State.{IsFit, IsSettled, wanted_at, is_at_item, is_in_payload};
-ghost use Rattle.cbor_steps.specs.State.{is_done};
-ghost use Rattle.cbor_standing.specs.Steps.{IsStep};
+ghost use Rattle.cbor_machine.specs.Machine.{wanted};
+ghost use Rattle.cbor_machine.specs.State.{IsFit, IsSettled, wanted_at, is_at_item, is_in_payload};
+ghost use Rattle.cbor_machine.specs.State.{is_done};
+ghost use Rattle.cbor_machine.specs.Steps.{IsStep};
 
 mod codes;
 mod saved;
 
+use crate::container_stack::ContainerStack;
+use crate::feed::{FeedResult, walk, walk_whole};
+use crate::position::Position;
+use crate::step::{Out, Step};
+use crate::take_byte::long_at;
 use cbor_automaton::Event;
 use cbor_head::{Limits, Reason, Refusal};
-use cbor_standing::{Out, Step};
-use cbor_steps::{Nest, Position, Walked, long_at, walk, walk_whole};
 pub use saved::SavedMachine;
 use std::marker::Model;
 
-/// Takes one item byte by byte, in parts of any length, and tells its events.
+/// Takes one item byte by byte, in parts of any length, and reports its events.
 ///
 /// It keeps the open containers and no byte of the item. No call takes memory.
 #[derive(Drop)]
 pub struct Machine {
     limits: Limits,
     taken: u64,
-    told: u64,
+    reported: u64,
     position: Position,
-    nest: Nest,
+    container_stack: ContainerStack,
     refusal: Option<Refusal>,
 }
 
@@ -45,21 +48,21 @@ impl Model for Machine {
       depth = m.limits.depth;
       bytes = m.limits.bytes;
       taken = m.taken;
-      told = m.told;
-      open_count = length m.nest;
-      due = wanted_at m.position;
-      item_due = is_at_item m.position;
+      reported = m.reported;
+      open_count = length m.container_stack;
+      expected = wanted_at m.position;
+      item_expected = is_at_item m.position;
       in_payload = is_in_payload m.position;
       complete = is_done m.position;
       refusal = m.refusal;
-      inner = record { position = m.position; frames = m.nest };
+      inner = record { position = m.position; frames = m.container_stack };
     } };
 
     ghost invariant = { λ m. record {
-      within : length m.nest ≤ m.limits.depth;
-      fits : IsFit m.limits.depth m.nest m.position;
+      within : length m.container_stack ≤ m.limits.depth;
+      fits : IsFit m.limits.depth m.container_stack m.position;
       taken : m.taken ≤ m.limits.bytes;
-      settled : m.refusal ≡ None → IsSettled m.nest m.position → m.told ≡ m.taken;
+      settled : m.refusal ≡ None → IsSettled m.container_stack m.position → m.reported ≡ m.taken;
       stopped : IfSome m.refusal (λ r. (r.read ≡ m.taken) × IsMachineReason r.reason);
     } };
 }
@@ -73,9 +76,9 @@ impl Machine {
         Machine {
             limits,
             taken: 0,
-            told: 0,
+            reported: 0,
             position: Position::Item,
-            nest: Nest::new(),
+            container_stack: ContainerStack::new(),
             refusal: None,
         }
     }
@@ -86,9 +89,9 @@ impl Machine {
         ensures starts { StandsFor self.new [] [] }
     {
         self.taken = 0;
-        self.told = 0;
+        self.reported = 0;
         self.position = Position::Item;
-        self.nest.clear();
+        self.container_stack.clear();
         self.refusal = None;
     }
 
@@ -97,7 +100,7 @@ impl Machine {
         ensures count { result ≡ self.now.open_count }
         ensures within { result ≤ self.now.depth }
     {
-        self.nest.len()
+        self.container_stack.len()
     }
 
     /// How many bytes were taken; after a refusal its `read`.
@@ -119,12 +122,12 @@ impl Machine {
         if self.refusal.is_some() {
             return 0;
         }
-        let room = self.limits.bytes() - self.taken;
+        let space = self.limits.bytes() - self.taken;
         match self.position {
-            Position::Head { left, .. } => room.min(u64::from(left) + 1),
-            Position::Payload(_, _, left) => if left < room { left + 1 } else { room },
+            Position::Head { left, .. } => space.min(u64::from(left) + 1),
+            Position::Payload(_, _, left) => if left < space { left + 1 } else { space },
             Position::Done => 0,
-            Position::Item | Position::SimpleNumber | Position::Chunks(_) => room.min(1),
+            Position::Item | Position::SimpleNumber | Position::Chunks(_) => space.min(1),
         }
     }
 
@@ -139,7 +142,7 @@ impl Machine {
     /// Whether the first byte of an item's head is wanted.
     #[inline(always)]
     pub fn wants_head(&self) -> bool
-        ensures due { result ≡ true ↔ (self.now.item_due ≡ true) × (0 < wanted self.now) }
+        ensures expected { result ≡ true ↔ (self.now.item_expected ≡ true) × (0 < wanted self.now) }
         ensures wanted { result ≡ true → wanted self.now ≡ 1 }
         ensures idle { IsIdle self.now → result ≡ false }
     {
@@ -164,14 +167,14 @@ impl Machine {
     {
         below_256(input);
         let depth = usize::from(self.limits.depth());
-        let front = walk_whole(depth, &mut self.position, &mut self.nest, input)?;
+        let prefix = walk_whole(depth, &mut self.position, &mut self.container_stack, input)?;
         let event = Event {
-            place: self.told,
-            width: front.width,
-            kind: front.kind,
+            place: self.reported,
+            width: prefix.width,
+            kind: prefix.kind,
         };
-        self.taken += front.used as u64;
-        self.told = self.taken;
+        self.taken += prefix.used as u64;
+        self.reported = self.taken;
         Some(event)
     }
 
@@ -190,7 +193,7 @@ impl Machine {
             return false;
         };
         let depth = usize::from(self.limits.depth());
-        match long_at(depth, &self.nest, c) {
+        match long_at(depth, &self.container_stack, c) {
             Some(position) => {
                 self.position = position;
                 self.taken += 1;
@@ -200,7 +203,7 @@ impl Machine {
         }
     }
 
-    /// Takes bytes from the front of the input until an event is complete, or a byte is refused, or
+    /// Takes bytes from the prefix of the input until an event is complete, or a byte is refused, or
     /// none is left. Once the item is complete, or refused, it uses nothing and answers the same.
     #[inline(always)]
     pub fn step(&mut self, input: &[u8]) -> Step
@@ -254,7 +257,7 @@ pub fn take_part(machine: &mut Machine, input: &[u8]) -> Step
     ensures payload { machine.old.in_payload ≡ true
         → result.used ≡ min (length input.now) (wanted machine.old) }
     ensures idle { IsMore result.out → 0 < wanted machine.old }
-    ensures due { IsMore result.out → 0 < wanted machine.new }
+    ensures expected { IsMore result.out → 0 < wanted machine.new }
 {
     below_256(input);
     if let Some(refusal) = machine.refusal {
@@ -268,17 +271,22 @@ pub fn take_part(machine: &mut Machine, input: &[u8]) -> Step
     let bytes = machine.limits.bytes();
     let depth = usize::from(machine.limits.depth());
     let end = part(input.len(), bytes - machine.taken);
-    let front = &input[..end];
-    let (used, walked) = walk(depth, &mut machine.position, &mut machine.nest, front);
+    let prefix = &input[..end];
+    let (used, walked) = walk(
+        depth,
+        &mut machine.position,
+        &mut machine.container_stack,
+        prefix,
+    );
     machine.taken += used as u64;
     match walked {
-        Walked::Told(width, kind) => {
-            let place = machine.told;
-            machine.told = machine.taken;
+        FeedResult::Reported(width, kind) => {
+            let place = machine.reported;
+            machine.reported = machine.taken;
             let out = Out::Event(Event { place, width, kind });
             Step { used, out }
         }
-        Walked::More => {
+        FeedResult::More => {
             if machine.taken < bytes {
                 let out = Out::More;
                 return Step { used, out };
@@ -288,7 +296,7 @@ pub fn take_part(machine: &mut Machine, input: &[u8]) -> Step
             let out = Out::Refused(refusal);
             Step { used, out }
         }
-        Walked::Refused(reason) => {
+        FeedResult::Refused(reason) => {
             let refusal = Refusal::new(reason, machine.taken - 1, machine.taken);
             machine.refusal = Some(refusal);
             let out = Out::Refused(refusal);
@@ -299,11 +307,11 @@ pub fn take_part(machine: &mut Machine, input: &[u8]) -> Step
 
 // The lesser of the two.
 #[inline(always)]
-fn part(len: usize, room: u64) -> usize
-    ensures { result ≡ min len room }
+fn part(len: usize, space: u64) -> usize
+    ensures { result ≡ min len space }
 {
-    if room < len as u64 {
-        room as usize
+    if space < len as u64 {
+        space as usize
     } else {
         len
     }

@@ -7,9 +7,9 @@ use Rattle.cbor_head.specs.Value as value
 use Rattle.cbor_head.specs.declared.reason.Reason.TheVariants.{Truncated, TooLong, InvalidText}
 use Rattle.cbor_head.specs.declared.order.KeyOrder.{KeyOrder, TheVariants.Bytewise, TheVariants.LengthFirst}
 use Rattle.cbor_head.specs.declared.{reason.Refusal.Refusal, width.Width.TheVariants.Direct, width.Width.TheVariants.One}
-use Rattle.cbor_grammar.proofs.{Examples.chunk, Examples.pairs, KindsUnasked.any_complaint, OneVerdict.one_verdict}
-use Rattle.cbor_judging.specs.Readers.{BeginsWithCanonical}
-use Rattle.cbor_plain.specs.Size.{size}
+use Rattle.cbor_model.proofs.{Examples.chunk, Examples.pairs, KindsUnasked.any_complaint, OneVerdict.one_verdict}
+use Rattle.cbor_verdict.specs.Readers.{BeginsWithCanonical}
+use Rattle.cbor_tree_reader.specs.Size.{size}
 use Rattle.cbor_reader.{specs.Canonicalise.IsCanonicalOf, proofs.CutShort.too_long, proofs.OneAnswer.one_canonical, proofs.Headline.answers_exactly}
 
 -- within 256 levels and 2^20 bytes

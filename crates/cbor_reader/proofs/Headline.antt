@@ -4,29 +4,29 @@ use Rattle.std.proofs.lemmas.Bool.{cases_lt}
 use Rattle.cbor_head.specs.Prelude.{Bounds, Same, IsInRange, IsValid, HasBasicKeys, Spelling, spell, value_of, depth, IsItem, canonical, Rules, plain, accepted, IsVerdict}
 use Rattle.cbor_head.specs.Value as value
 use Rattle.cbor_head.specs.declared.{keys.Keys.TheVariants.IntegersAndTexts, order.KeyOrder.KeyOrder, reason.Reason.TheVariants.Memory, reason.Refusal.Refusal}
-use Rattle.cbor_grammar.proofs.BasicKeys.{has_basic_keys, none_of_kinds, basic_same}
-use Rattle.cbor_grammar.proofs.{Accepted.accepts_exactly, ReadLaws.one_list}
-use Rattle.cbor_canonical.proofs.Sound.{IsSound as IsSoundValue, sound}
-use Rattle.cbor_canonical.proofs.{Depth.depth-value_of, Keys.same_exactly, Theorems.canonical_spelled, Theorems.canonical_again, PlainRules.none_plainly}
-use Rattle.cbor_judging.proofs.{Accepted.item_within_limit, Valid.in_range_of, Valid.valid_of}
+use Rattle.cbor_model.proofs.BasicKeys.{has_basic_keys, none_of_kinds, basic_same}
+use Rattle.cbor_model.proofs.Sound.{IsSound as IsSoundValue, sound}
+use Rattle.cbor_model.proofs.{Accepted.accepts_exactly, ReadLaws.one_list, Depth.depth-value_of, Keys.same_exactly}
+use Rattle.cbor_model.proofs.{Theorems.canonical_spelled, Theorems.canonical_again, PlainRules.none_plainly}
+use Rattle.cbor_verdict.proofs.{Accepted.item_within_limit, Valid.in_range_of, Valid.valid_of}
 use Rattle.cbor_reader.specs.Headline.{IsValidItem, IsAnsweredBy, HasNoAnswer}
 use Rattle.cbor_reader.{specs.Canonicalise.IsCanonicalOf, specs.Canonicalise.IsRefusal, proofs.OneAnswer.only_memory}
 
--- ---- an item at the front
+-- ---- an item at the start
 
-pub front_range : (limits : Bounds) (r : Rules) (input : List ℕ) (s : Spelling) → limits.bytes ≤ 2 ^ 62 → IsVerdict limits r input (accepted s) → IsInRange (value_of s)
-front_range limits r input s m v =
+pub prefix_range : (limits : Bounds) (r : Rules) (input : List ℕ) (s : Spelling) → limits.bytes ≤ 2 ^ 62 → IsVerdict limits r input (accepted s) → IsInRange (value_of s)
+prefix_range limits r input s m v =
     let h = (accepts_exactly limits r input s).0 v in
     in_range_of s h.1.0 (omega (arith, m, item_within_limit limits r input s v))
 
-pub front_depth : (limits : Bounds) (r : Rules) (input : List ℕ) (s : Spelling) → IsVerdict limits r input (accepted s) → value.depth (value_of s) ≤ limits.depth
-front_depth limits r input s v = let h = (accepts_exactly limits r input s).0 v in omega (arith, h.1.1, depth-value_of s)
+pub prefix_depth : (limits : Bounds) (r : Rules) (input : List ℕ) (s : Spelling) → IsVerdict limits r input (accepted s) → value.depth (value_of s) ≤ limits.depth
+prefix_depth limits r input s v = let h = (accepts_exactly limits r input s).0 v in omega (arith, h.1.1, depth-value_of s)
 
-pub front_valid : (limits : Bounds) (input : List ℕ) (s : Spelling) → IsVerdict limits plain input (accepted s) → IsValid (value_of s)
-front_valid limits input s v = let h = (accepts_exactly limits plain input s).0 v in valid_of s 0 (λ c x. h.2 c (inl x))
+pub prefix_valid : (limits : Bounds) (input : List ℕ) (s : Spelling) → IsVerdict limits plain input (accepted s) → IsValid (value_of s)
+prefix_valid limits input s v = let h = (accepts_exactly limits plain input s).0 v in valid_of s 0 (λ c x. h.2 c (inl x))
 
-pub front_keys : (limits : Bounds) (input : List ℕ) (s : Spelling) → limits.keys ≡ IntegersAndTexts → IsVerdict limits plain input (accepted s) → HasBasicKeys (value_of s)
-front_keys limits input s basic v = let h = (accepts_exactly limits plain input s).0 v in has_basic_keys s 0 (λ c x. h.2 c (inr (refl, basic, x)))
+pub prefix_keys : (limits : Bounds) (input : List ℕ) (s : Spelling) → limits.keys ≡ IntegersAndTexts → IsVerdict limits plain input (accepted s) → HasBasicKeys (value_of s)
+prefix_keys limits input s basic v = let h = (accepts_exactly limits plain input s).0 v in has_basic_keys s 0 (λ c x. h.2 c (inr (refl, basic, x)))
 
 -- ---- an item that is the whole input
 
@@ -50,7 +50,7 @@ valid_item_exactly limits input s = ((λ i. (valid_item_accepted limits input s 
 pub valid_item_value : (limits : Bounds) (input : List ℕ) (s : Spelling) → limits.bytes ≤ 2 ^ 62 → IsValidItem limits input s → IsInRange (value_of s) × IsValid (value_of s) × (value.depth (value_of s) ≤ limits.depth)
 valid_item_value limits input s m i =
     let v = valid_item_accepted limits input s i in
-    (front_range limits plain input s m v, front_valid limits input s v, front_depth limits plain input s v)
+    (prefix_range limits plain input s m v, prefix_valid limits input s v, prefix_depth limits plain input s v)
 
 -- ---- the answer
 
@@ -87,7 +87,7 @@ answered_bytes limits o input out s a i = a.canonical_bytes ∙ ap (λ (t : Spel
 
 answered_value : (limits : Bounds) (o : KeyOrder) (input out : List ℕ) (s : Spelling) → limits.bytes ≤ 2 ^ 62 → IsCanonicalOf limits o input out → IsItem limits.depth s input → IsSoundValue (value_of s)
 answered_value limits o input out s m a i =
-    let here = sound (value_of a.item) (front_range limits plain input a.item m a.verdict) (front_valid limits input a.item a.verdict) in
+    let here = sound (value_of a.item) (prefix_range limits plain input a.item m a.verdict) (prefix_valid limits input a.item a.verdict) in
     subst (λ (t : Spelling). IsSoundValue (value_of t)) (answered_item limits o input out s a i) here
 
 pub equal_exactly : (limits others : Bounds) (o : KeyOrder) (x y a b : List ℕ) (s t : Spelling) → limits.bytes ≤ 2 ^ 62 → others.bytes ≤ 2 ^ 62
@@ -102,14 +102,14 @@ equal_exactly limits others o x y a b s t f g h i k j =
 pub again : (limits : Bounds) (o : KeyOrder) (input out : List ℕ) → limits.bytes ≤ 2 ^ 62 → IsCanonicalOf limits o input out → IsCanonicalOf limits o out out
 again limits o input out m a =
     let v = value_of a.item in
-    let range = front_range limits plain input a.item m a.verdict in
-    let valid = front_valid limits input a.item a.verdict in
+    let range = prefix_range limits plain input a.item m a.verdict in
+    let valid = prefix_valid limits input a.item a.verdict in
     let (s, k) = canonical_spelled o v range valid in
     let w = canonical_again o o v s range valid k.spelled k.bytes_are in
     let within : depth a.item ≤ limits.depth = (valid_item limits input a.item a.verdict a.whole).well_formed.within in
     let i : IsValidItem limits out s = record {
       well_formed = record { spelled = k.spelled; within = omega (arith, within, k.as_deep, depth-value_of a.item); bytes_are = k.bytes_are ∙ sym a.canonical_bytes };
-      valid = λ c x. elim x [ inl y ↦ none_plainly o c.end s 0 k.spelled (λ e z l. k.clean 0 e z) c y (omega arith) | inr y ↦ none_of_kinds s (basic_same (value_of s) v k.same (front_keys limits input a.item y.1 a.verdict)) 0 c y.2 ];
+      valid = λ c x. elim x [ inl y ↦ none_plainly o c.end s 0 k.spelled (λ e z l. k.clean 0 e z) c y (omega arith) | inr y ↦ none_of_kinds s (basic_same (value_of s) v k.same (prefix_keys limits input a.item y.1 a.verdict)) 0 c y.2 ];
       fits = a.fits;
     } in
     (answers_exactly limits o out out).1 (s, i, a.canonical_bytes ∙ sym w.2, a.fits)

@@ -1,4 +1,4 @@
-pub mod CanonicalFronts
+pub mod CanonicalPrefixes
 pub mod CanonicaliserRefusals
 pub mod Comparing
 pub mod CutShort
@@ -11,6 +11,6 @@ pub mod Readings
 pub mod SequenceLaws
 pub mod Sequences
 pub mod ValidTexts
-mod ViewFronts
+mod ViewPrefixes
 mod ViewGiven
 pub mod WholeItems

@@ -2,7 +2,7 @@
 use Rattle.std.proofs.Common.{ℕ, ◌^◌, ◌≢◌, ◌≤◌, List, Result, Ok, Err}
 use Rattle.std.specs.Result.{MatchResult, IfOk, IfErr}
 use Rattle.cbor_head.specs.{Prelude.Bounds, declared.order.KeyOrder.KeyOrder, declared.reason.Reason.TheVariants.Memory, declared.reason.Refusal.Refusal}
-use Rattle.cbor_reader.specs.Canonicalise.{IsCanonicalOf, IsRefusal, TellsItsValue, IsCanonicaliserReason}
+use Rattle.cbor_reader.specs.Canonicalise.{IsCanonicalOf, IsRefusal, DeterminesItsValue, IsCanonicaliserReason}
 use Rattle.cbor_reader.proofs.Headline.{answers_exactly, refused_too_long, equal_exactly, again}
 use Rattle.cbor_reader.{specs.Headline.IsAnsweredBy, specs.Headline.HasNoAnswer, proofs.CanonicaliserRefusals.canonicaliser-reason}
 
@@ -18,7 +18,7 @@ module _ {A : Type 0} (limits : Bounds) (o : KeyOrder) (input : List ℕ) (items
   err_item (Ok v) a = tt
   err_item (Err f) a = refused_too_long limits o input f a
 
-  pub ok_equal : (r : Result A Refusal) → limits.bytes ≤ 2 ^ 62 → IsAnswer r → IfOk r (λ v. TellsItsValue limits.depth o input (items v))
+  pub ok_equal : (r : Result A Refusal) → limits.bytes ≤ 2 ^ 62 → IsAnswer r → IfOk r (λ v. DeterminesItsValue limits.depth o input (items v))
   ok_equal (Ok v) l a = λ others y b s t k i h j. equal_exactly limits others o input y (items v) b s t l k a i h j
   ok_equal (Err f) l a = tt
 

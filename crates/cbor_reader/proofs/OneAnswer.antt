@@ -2,8 +2,8 @@
 use Rattle.std.proofs.Common.{ℕ, ◌≡◌, ◌≢◌, List, length, sym, ap, ◌∙◌, arith}
 use Rattle.cbor_head.specs.Prelude.{Bounds, Spelling, spell, value_of, canonical, Rules, plain, IsVerdict, accepted, refusal}
 use Rattle.cbor_head.specs.declared.{order.KeyOrder.KeyOrder, reason.Reason.TheVariants.Trailing, reason.Reason.TheVariants.Memory, reason.Refusal.Refusal}
-use Rattle.cbor_judging.proofs.Accepted.{one_item, one_refusal, not_both, verdict_only}
-use Rattle.cbor_judging.specs.Readers.{of_verdict, of_reader, of_memory}
+use Rattle.cbor_verdict.proofs.Accepted.{one_item, one_refusal, not_both, verdict_only}
+use Rattle.cbor_verdict.specs.Readers.{of_verdict, of_reader, of_memory}
 use Rattle.cbor_reader.specs.Canonicalise.{IsCanonicalOf, IsRefusal, of_item, canonical_too_long}
 use Rattle.cbor_reader.specs.WholeItem.{IsItemRefusal, unread, trailing}
 

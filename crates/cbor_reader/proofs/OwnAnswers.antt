@@ -2,20 +2,20 @@
 use Rattle.std.proofs.Common.{ℕ, ◌≡◌, List, length, sym, ◌∙◌, [], subst, ◌^◌, ◌≤◌, ◌↔◌, append-nil}
 use Rattle.cbor_head.specs.Prelude.{Bounds, Spelling, spell, value_of, canonical, plain, strict, accepted, IsVerdict}
 use Rattle.cbor_head.specs.declared.order.KeyOrder.{KeyOrder}
-use Rattle.cbor_canonical.proofs.PlainVerdicts.{accepted_plainly}
-use Rattle.cbor_judging.proofs.CanonicalFronts.{strict_bytes, strict_value, strict_accepts, one_front}
-use Rattle.cbor_judging.specs.Readers.{BeginsWithCanonical}
-use Rattle.cbor_reader.proofs.Headline.{front_range, front_valid, front_keys, front_depth, valid_item, answers_exactly}
+use Rattle.cbor_model.proofs.PlainVerdicts.{accepted_plainly}
+use Rattle.cbor_verdict.proofs.CanonicalPrefixes.{strict_bytes, strict_value, strict_accepts, one_prefix}
+use Rattle.cbor_verdict.specs.Readers.{BeginsWithCanonical}
+use Rattle.cbor_reader.proofs.Headline.{prefix_range, prefix_valid, prefix_keys, prefix_depth, valid_item, answers_exactly}
 use Rattle.cbor_reader.specs.Canonicalise.{IsCanonicalOf}
 
 module _ (limits : Bounds) (o : KeyOrder) (input : List ℕ) where
   -- it begins with its canonical bytes
-  pub own_front : limits.bytes ≤ 2 ^ 62 → (a : IsCanonicalOf limits o input input) → BeginsWithCanonical limits o input (value_of a.item)
-  own_front m a = record {
-    range = front_range limits plain input a.item m a.verdict;
-    valid = front_valid limits input a.item a.verdict;
-    keys = λ basic. front_keys limits input a.item basic a.verdict;
-    within = front_depth limits plain input a.item a.verdict;
+  pub own_prefix : limits.bytes ≤ 2 ^ 62 → (a : IsCanonicalOf limits o input input) → BeginsWithCanonical limits o input (value_of a.item)
+  own_prefix m a = record {
+    range = prefix_range limits plain input a.item m a.verdict;
+    valid = prefix_valid limits input a.item a.verdict;
+    keys = λ basic. prefix_keys limits input a.item basic a.verdict;
+    within = prefix_depth limits plain input a.item a.verdict;
     fits = subst (λ (b : List ℕ). length b ≤ limits.bytes) a.canonical_bytes a.fits;
     rest = [];
     begins = append-nil (canonical o (value_of a.item)) ∙ sym a.canonical_bytes;
@@ -24,9 +24,9 @@ module _ (limits : Bounds) (o : KeyOrder) (input : List ℕ) where
   own_answer_accepted : limits.bytes ≤ 2 ^ 62 → IsCanonicalOf limits o input input → (s : Spelling) × IsVerdict limits (strict o) input (accepted s) × (spell s ≡ input)
   own_answer_accepted m a =
       let v = value_of a.item in
-      let begins = own_front m a in
+      let begins = own_prefix m a in
       let (s, h) = strict_accepts limits o input v begins in
-      (s, h, strict_bytes limits o input s h ∙ (one_front limits o input (value_of s) v (strict_value limits o input s h) begins).1 ∙ sym a.canonical_bytes)
+      (s, h, strict_bytes limits o input s h ∙ (one_prefix limits o input (value_of s) v (strict_value limits o input s h) begins).1 ∙ sym a.canonical_bytes)
 
   accepted_own_answer : (s : Spelling) → IsVerdict limits (strict o) input (accepted s) → spell s ≡ input → IsCanonicalOf limits o input input
   accepted_own_answer s v e =

@@ -3,9 +3,9 @@ use Rattle.std.proofs.Common.{ℕ, ◌≡◌, ◌≢◌, ◌≤◌, ◌⊎◌, L
 use Rattle.cbor_head.specs.Prelude.{Rules, Bounds, Spelling, spell, value_of, Value, accepted, refused, refusal, IsVerdict}
 use Rattle.cbor_head.specs.declared.reason.Reason.TheVariants.{Read, Memory, Truncated}
 use Rattle.cbor_head.specs.declared.{keys.Keys.TheVariants.IntegersAndTexts, reason.Reason.Reason, reason.Refusal.Refusal}
-use Rattle.cbor_judging.specs.Readers.{IsRead, IsReadAs, IsUnread, of_verdict, of_reader, of_memory}
-use Rattle.cbor_judging.proofs.Accepted.{one_item, one_refusal, not_both, verdict_only}
-use Rattle.cbor_judging.{specs.Refusals.StandsWithin, proofs.Within.longest_within, proofs.Within.verdict_within}
+use Rattle.cbor_verdict.specs.Readers.{IsRead, IsReadAs, IsUnread, of_verdict, of_reader, of_memory}
+use Rattle.cbor_verdict.proofs.Accepted.{one_item, one_refusal, not_both, verdict_only}
+use Rattle.cbor_verdict.{specs.Refusals.StandsWithin, proofs.Within.longest_within, proofs.Within.verdict_within}
 use Rattle.cbor_reader.proofs.Sequences.{is_accepted, verdict_of, splits}
 use Rattle.cbor_reader.specs.Sequence.{IsAccepted}
 
@@ -24,20 +24,20 @@ module _ (limits : Bounds) (r : Rules) (input : List ℕ) where
   one_unread f g u v a b c d = one_refusal limits r input f g (verdict_only limits r input f u a b) (verdict_only limits r input g v c d)
 
   -- the verdict, or what came in between
-  told_by : (f : Refusal) → IsUnread limits r input f → IsVerdict limits r input (refused f) ⊎ (((f.reason ≡ Read) ⊎ (f.reason ≡ Memory)) × StandsWithin limits.bytes input f)
-  told_by f (of_verdict w) = inl w
-  told_by f (of_reader is w) =
+  reported_by : (f : Refusal) → IsUnread limits r input f → IsVerdict limits r input (refused f) ⊎ (((f.reason ≡ Read) ⊎ (f.reason ≡ Memory)) × StandsWithin limits.bytes input f)
+  reported_by f (of_verdict w) = inl w
+  reported_by f (of_reader is w) =
       let there = verdict_within limits (take f.read input) r (refusal Truncated f.read f.read) w in
       inr (inl (ap (λ (g : Refusal). g.reason) is), within_at limits input f Read f.read is there.in_limit (omega (arith, there.in_input, length-take f.read input)))
-  told_by f (of_memory p l m is free) =
+  reported_by f (of_memory p l m is free) =
       let w = longest_within limits input p l in
       inr (inr (ap (λ (g : Refusal). g.reason) is), within_at limits input f Memory f.read is (omega (arith, m, w.0)) (omega (arith, m, w.1)))
 
   pub unread_within : (f : Refusal) → IsUnread limits r input f → StandsWithin limits.bytes input f
-  unread_within f u = elim (told_by f u) [ inl w ↦ verdict_within limits input r f w | inr h ↦ h.1 ]
+  unread_within f u = elim (reported_by f u) [ inl w ↦ verdict_within limits input r f w | inr h ↦ h.1 ]
 
   pub read_or_unread : (n : ℕ) (f : Refusal) → IsRead limits r input n → IsUnread limits r input f → (f.reason ≡ Read) ⊎ (f.reason ≡ Memory)
-  read_or_unread n f a u = elim (told_by f u) [ inl w ↦ absurd (not_both limits r input a.item f a.verdict w) | inr h ↦ h.0 ]
+  read_or_unread n f a u = elim (reported_by f u) [ inl w ↦ absurd (not_both limits r input a.item f a.verdict w) | inr h ↦ h.0 ]
 
 -- ---- wider limits
 

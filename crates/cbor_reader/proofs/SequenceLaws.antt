@@ -4,18 +4,18 @@ use Rattle.std.{specs.Option.IfSome, specs.List.AllByRecursion, proofs.lemmas.Li
 use Rattle.cbor_head.specs.Prelude.{Spelling, simple, spell, value_of, IsItem, canonical, Rules, plain, strict, Bounds, accepted, refused, refusal, IsVerdict}
 use Rattle.cbor_head.specs.declared.reason.Reason.TheVariants.{Read, Memory, Truncated, TooLong}
 use Rattle.cbor_head.specs.declared.{order.KeyOrder.KeyOrder, reason.Refusal.Refusal}
-use Rattle.cbor_grammar.proofs.ReadLaws.{length_spell, unique}
-use Rattle.cbor_judging.specs.Readers.{BeginsWithCanonical, IsUnread, of_verdict, of_reader, of_memory}
-use Rattle.cbor_judging.proofs.CanonicalFronts.{strict_bytes, strict_value, strict_accepts}
-use Rattle.cbor_judging.proofs.Accepted.{one_refusal, verdict_only}
+use Rattle.cbor_model.proofs.ReadLaws.{length_spell, unique}
+use Rattle.cbor_verdict.specs.Readers.{BeginsWithCanonical, IsUnread, of_verdict, of_reader, of_memory}
+use Rattle.cbor_verdict.proofs.CanonicalPrefixes.{strict_bytes, strict_value, strict_accepts}
+use Rattle.cbor_verdict.proofs.Accepted.{one_refusal, verdict_only}
 use Rattle.cbor_reader.specs.Sequence.{sequence_bytes, IsAccepted, StartsWithItems, IsLongestSequence, EndsBefore, IsAtEnd, IsRefused, Given, given_by, items_of, AreGivenBy, HasGiven}
 use Rattle.cbor_reader.proofs.Sequences.{simple_is_fine, is_accepted, verdict_of, not_refused, empty_is_truncated, verdict_before, splits}
 use Rattle.cbor_reader.{specs.Headline.IsValidItem, proofs.CutShort.cut}
 
 -- ---- items
 
-pub plain_items : (limits : Bounds) (s : Spelling) → IsAccepted limits plain s ↔ IsValidItem limits (spell s) s
-plain_items limits s = ((λ a. record { well_formed = a.well_formed; valid = a.sound; fits = a.fits }), (λ a. record { well_formed = a.well_formed; sound = a.valid; fits = a.fits }))
+pub tree_items : (limits : Bounds) (s : Spelling) → IsAccepted limits plain s ↔ IsValidItem limits (spell s) s
+tree_items limits s = ((λ a. record { well_formed = a.well_formed; valid = a.sound; fits = a.fits }), (λ a. record { well_formed = a.well_formed; sound = a.valid; fits = a.fits }))
 
 -- the verdict on the bytes of an accepted item
 alone : (limits : Bounds) (r : Rules) (s : Spelling) → IsAccepted limits r s → IsVerdict limits r (spell s) (accepted s)
@@ -110,12 +110,12 @@ no_bytes limits r input zero =
     cut limits r input (simple 0) [] (spell (simple 0)) (refusal TooLong 0 0) (record { spelled = omega arith; within = omega arith; bytes_are = refl }) (simple_is_fine limits r 0) (length_spell (simple 0)) (ap (λ (n : ℕ). take n input) zero)
     (inl (sym zero, ap (λ (n : ℕ). refusal TooLong n n) (sym zero)))
 
-pub no_bytes_told : (limits : Bounds) (r : Rules) (input : List ℕ) (f : Refusal) → limits.bytes ≡ 0 → IsUnread limits r input f → f.reason ≢ Memory → f ≡ refusal TooLong 0 0
-no_bytes_told limits r input f zero (of_verdict w) y = one_refusal limits r input f (refusal TooLong 0 0) w (no_bytes limits r input zero)
-no_bytes_told limits r input f zero (of_reader is w) y =
+pub no_bytes_reported : (limits : Bounds) (r : Rules) (input : List ℕ) (f : Refusal) → limits.bytes ≡ 0 → IsUnread limits r input f → f.reason ≢ Memory → f ≡ refusal TooLong 0 0
+no_bytes_reported limits r input f zero (of_verdict w) y = one_refusal limits r input f (refusal TooLong 0 0) w (no_bytes limits r input zero)
+no_bytes_reported limits r input f zero (of_reader is w) y =
     let h = one_refusal limits r (take f.read input) (refusal Truncated f.read f.read) (refusal TooLong 0 0) w (no_bytes limits r (take f.read input) zero) in
     absurd (apart (ap (λ (g : Refusal). g.reason) h))
   where
     apart : Truncated ≡ TooLong → ⊥
     apart e = cc e
-no_bytes_told limits r input f zero (of_memory p l m is free) y = absurd (y (ap (λ (g : Refusal). g.reason) is))
+no_bytes_reported limits r input f zero (of_memory p l m is free) y = absurd (y (ap (λ (g : Refusal). g.reason) is))

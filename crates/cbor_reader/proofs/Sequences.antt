@@ -4,10 +4,10 @@ use Rattle.std.{specs.Option.IfSome, specs.List.AllByRecursion, proofs.Math.Seq.
 use Rattle.cbor_head.specs.Prelude.{Value, Spelling, simple, spell, value_of, Rules, Complaint, IsComplaint, Bounds, accepted, refused, refusal, IsFormError, IsVerdict}
 use Rattle.cbor_head.specs.declared.reason.Reason.TheVariants.{Read, Memory, Truncated, TooLong}
 use Rattle.cbor_head.specs.declared.reason.Refusal.{Refusal}
-use Rattle.cbor_grammar.proofs.{Accepted.accepts_exactly, KeyKinds.of_kind, OneFirst.after_head, ReadLaws.length_spell}
-use Rattle.cbor_judging.specs.Readers.{IsRead, IsReadAs, IsUnread, Loses}
-use Rattle.cbor_judging.proofs.Accepted.{item_within_limit, front_accepted, one_refusal, not_both, verdict_only}
-use Rattle.cbor_judging.specs.Refusals.{IsReaderReason}
+use Rattle.cbor_model.proofs.{Accepted.accepts_exactly, KeyKinds.of_kind, OneFirst.after_head, ReadLaws.length_spell}
+use Rattle.cbor_verdict.specs.Readers.{IsRead, IsReadAs, IsUnread, Loses}
+use Rattle.cbor_verdict.proofs.Accepted.{item_within_limit, prefix_accepted, one_refusal, not_both, verdict_only}
+use Rattle.cbor_verdict.specs.Refusals.{IsReaderReason}
 use Rattle.cbor_reader.specs.Sequence.{sequence_bytes, IsAccepted, IfRefused, EndsBefore, IsAtEnd, IsRefused, Given, given_by, items_of, HasGiven, IsTaken}
 use Rattle.cbor_reader.proofs.CutShort.{truncated}
 
@@ -15,7 +15,7 @@ use Rattle.cbor_reader.proofs.CutShort.{truncated}
 abbrev pub IsBeforeItem : Refusal → Type 0
 IsBeforeItem f = (f.reason ≡ Truncated) × (f.read ≡ 0)
 
--- ---- an item at the front
+-- ---- an item at the start
 
 module _ (limits : Bounds) (r : Rules) (input : List ℕ) (s : Spelling) (v : IsVerdict limits r input (accepted s)) where
   pub is_accepted : IsAccepted limits r s
@@ -23,16 +23,16 @@ module _ (limits : Bounds) (r : Rules) (input : List ℕ) (s : Spelling) (v : Is
       let h = (accepts_exactly limits r input s).0 v in
       record { well_formed = record { spelled = h.1.0; within = h.1.1; bytes_are = refl }; sound = h.2; fits = item_within_limit limits r input s v }
 
-  at_front : (rest : List ℕ) × (spell s ++ rest ≡ input)
-  at_front =
+  at_start : (rest : List ℕ) × (spell s ++ rest ≡ input)
+  at_start =
       let h = (accepts_exactly limits r input s).0 v in
       (h.0 ++ drop limits.bytes input, sym (append_assoc (spell s) h.0 (drop limits.bytes input)) ∙ ap (λ (b : List ℕ). b ++ drop limits.bytes input) h.1.2 ∙ take-append-drop limits.bytes input)
 
   pub splits : spell s ++ drop (length (spell s)) input ≡ input
-  splits = let h = at_front in ap (λ (b : List ℕ). spell s ++ b) (ap (drop (length (spell s))) (sym h.1) ∙ drop-append_seam (spell s) h.0) ∙ h.1
+  splits = let h = at_start in ap (λ (b : List ℕ). spell s ++ b) (ap (drop (length (spell s))) (sym h.1) ∙ drop-append_seam (spell s) h.0) ∙ h.1
 
 pub verdict_of : (limits : Bounds) (r : Rules) (s : Spelling) (rest : List ℕ) → IsAccepted limits r s → IsVerdict limits r (spell s ++ rest) (accepted s)
-verdict_of limits r s rest a = front_accepted limits r s rest a.well_formed a.sound a.fits
+verdict_of limits r s rest a = prefix_accepted limits r s rest a.well_formed a.sound a.fits
 
 -- an accepted item is not refused
 pub not_refused : (limits : Bounds) (r : Rules) (s : Spelling) (rest input : List ℕ) (f : Refusal) → IsAccepted limits r s → spell s ++ rest ≡ input → IsVerdict limits r input (refused f) → ⊥

@@ -3,12 +3,12 @@ use Rattle.std.proofs.Common.{ℕ, ◌<◌, arith, ◌≡◌, ◌≤◌, List, l
 use Rattle.cbor_head.specs.Prelude.{canonical, Bounds, Value, Spelling, value_of, plain, refusal}
 use Rattle.cbor_head.specs.declared.reason.Reason.TheVariants.{Read, Memory, CanonicalTooLong}
 use Rattle.cbor_head.specs.declared.{order.KeyOrder.KeyOrder, reason.Refusal.Refusal}
-use Rattle.cbor_grammar.proofs.ReadLaws.{one_list}
-use Rattle.cbor_judging.{specs.Readers.IsRead, specs.Readers.IsReadAs, proofs.Accepted.item_is_whole, proofs.Accepted.one_item}
+use Rattle.cbor_model.proofs.ReadLaws.{one_list}
+use Rattle.cbor_verdict.{specs.Readers.IsRead, specs.Readers.IsReadAs, proofs.Accepted.item_is_whole, proofs.Accepted.one_item}
 use Rattle.cbor_reader.specs.Canonicalise.{IsCanonicalOf, IsRefusal, of_item, canonical_too_long}
 use Rattle.cbor_reader.specs.WholeItem.{IsWholeItem, IsItemRefusal, unread}
 use Rattle.cbor_reader.proofs.Headline.{valid_item, valid_item_accepted, answers_exactly}
-use Rattle.cbor_reader.{specs.Headline.IsValidItem, proofs.ViewFronts.memory_behind, proofs.OneAnswer.memory_alone}
+use Rattle.cbor_reader.{specs.Headline.IsValidItem, proofs.ViewPrefixes.memory_behind, proofs.OneAnswer.memory_alone}
 
 -- ---- an item that is read
 

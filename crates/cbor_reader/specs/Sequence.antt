@@ -3,7 +3,7 @@ use Rattle.std.specs.Prelude.{ℕ, ◌≡◌, ◌≢◌, ◌<◌, ◌≤◌, ◌
 use Rattle.std.specs.List.{AllByRecursion}
 use Rattle.cbor_head.specs.Prelude.{Value, Spelling, IsItem, spell, Rules, Complaint, IsComplaint, Bounds}
 use Rattle.cbor_head.specs.declared.reason.{Reason.TheVariants.Read, Reason.TheVariants.Memory, Refusal.Refusal}
-use Rattle.cbor_judging.specs.Readers.{IsReadAs, IsUnread, Loses}
+use Rattle.cbor_verdict.specs.Readers.{IsReadAs, IsUnread, Loses}
 
 -- ---- sequences
 
@@ -52,7 +52,7 @@ abbrev pub is_last : {A : Type 0} → Option (Result A Refusal) → Bool
 is_last (Some (Ok given)) = false
 is_last _ = true
 
--- the item at the front of what the reader holds is accepted, with this value, and the reader lost just its bytes
+-- the item at the start of what the reader holds is accepted, with this value, and the reader lost just its bytes
 pub record IsTaken (r : Rules) (b : Bounds) (from to : Option (List ℕ)) (v : Value) : Type 0 where
   pub count : ℕ
   pub read : IfSome from (λ input. IsReadAs b r input v count)
@@ -67,8 +67,8 @@ pub record IsAtEnd (n : ℕ) (from to : Option (List ℕ)) : Type 0 where
   pub ends : IfSome from (EndsBefore n)
   pub taken : Loses 0 from to
 
--- What the reader holds is refused by its verdict, which is not that it ended before an item; or what came in between is told.
--- The reader lost as many bytes as the refusal tells.
+-- What the reader holds is refused by its verdict, which is not that it ended before an item; or what came in between is reported.
+-- The reader lost as many bytes as the refusal reports.
 pub record IsRefused (r : Rules) (b : Bounds) (from to : Option (List ℕ)) (f : Refusal) : Type 0 where
   pub unread : IfSome from (λ input. IsUnread b r input f)
   pub begun : f.reason ≢ Read → f.reason ≢ Memory → IfSome from (λ input. ¬ EndsBefore b.bytes input)

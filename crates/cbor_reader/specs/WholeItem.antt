@@ -2,7 +2,7 @@
 use Rattle.std.specs.Prelude.{ℕ, ◌≡◌, ◌≢◌, ◌<◌, List, length}
 use Rattle.cbor_head.specs.Prelude.{Bounds, Spelling, Rules, refusal}
 use Rattle.cbor_head.specs.declared.reason.{Reason.TheVariants.Trailing, Reason.TheVariants.Read, Refusal.Refusal}
-use Rattle.cbor_judging.specs.Readers.{IsRead, IsUnread}
+use Rattle.cbor_verdict.specs.Readers.{IsRead, IsUnread}
 use Rattle.cbor_reader.specs.Headline.{IsValidItem}
 
 -- the whole input is one item: well-formed, valid, and within the limits

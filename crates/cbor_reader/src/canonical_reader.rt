@@ -1,16 +1,16 @@
-//! The canonical bytes of the item at the front of a slice.
+//! The canonical bytes of the item at the start of a slice.
 
 ghost use Rattle.std.specs.Prelude.{◌≢◌, IfOk, IfErr, IsOk};
 ghost use Rattle.std.specs.Cow.{cow_slice_items};
 ghost use Rattle.cbor_head.specs.Complaint.{plain};
 ghost use Rattle.cbor_head.specs.Value.{Value};
 ghost use Rattle.cbor_head.specs.declared.reason.Reason.TheVariants as reasons;
-ghost use Rattle.cbor_judging.specs.Readers.{BeginsWithCanonical, IsUnread, TellsMemoryAtFront};
-ghost use Rattle.cbor_sinks.specs.BuiltFront.{IsBuiltFront};
+ghost use Rattle.cbor_verdict.specs.Readers.{BeginsWithCanonical, IsUnread, ReportsMemoryAtStart};
+ghost use Rattle.cbor_sinks.specs.BuiltPrefix.{IsBuiltPrefix};
 
-use crate::first_look::{first_look, may_be_valid};
+use crate::canonical_probe::{may_be_valid, probe_canonical};
 use cbor_head::{KeyOrder, Limits, Refusal};
-use cbor_sinks::build_front;
+use cbor_sinks::build_prefix;
 use std::alloc::Global;
 use std::borrow::CowSlice;
 
@@ -28,17 +28,17 @@ pub fn read_canonical<'a>(
     order: KeyOrder,
 ) -> Result<(CowSlice<'a, u8>, u64), Refusal>
     ensures accepted { IfOk result (λ answer.
-        IsBuiltFront limits order bytes.now (cow_slice_items answer.0) answer.1) }
+        IsBuiltPrefix limits order bytes.now (cow_slice_items answer.0) answer.1) }
     ensures own { (v : Value) → BeginsWithCanonical limits order bytes.now v → IsOk result }
     ensures refused { IfErr result (λ f. IsUnread limits plain bytes.now f) }
     ensures no_read { IfErr result (λ f. f.reason ≢ reasons.Read) }
-    ensures memory { IfErr result TellsMemoryAtFront }
+    ensures memory { IfErr result ReportsMemoryAtStart }
 {
-    match first_look(bytes, limits, order) {
+    match probe_canonical(bytes, limits, order) {
         Ok(size) => Ok((CowSlice::Borrowed(&bytes[..size as usize]), size)),
         Err(refusal) if !may_be_valid(&refusal) => Err(refusal),
-        Err(_) => match build_front(alloc, bytes, limits, order) {
-            Ok(front) => Ok((CowSlice::Owned(front.canonical), front.size)),
+        Err(_) => match build_prefix(alloc, bytes, limits, order) {
+            Ok(prefix) => Ok((CowSlice::Owned(prefix.canonical), prefix.size)),
             Err(refusal) => Err(refusal),
         },
     }

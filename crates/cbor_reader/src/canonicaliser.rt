@@ -3,8 +3,8 @@
 ghost use Rattle.std.specs.Prelude.{◌≡◌, ◌≢◌, IfOk, IfErr, IsOk, MatchResult};
 ghost use Rattle.std.specs.Cow.{cow_slice_items};
 ghost use Rattle.cbor_head.specs.declared.reason.Reason.TheVariants as reasons;
-ghost use Rattle.cbor_judging.specs.Readers.{TellsMemoryAtFront};
-ghost use Rattle.cbor_reader.specs.Canonicalise.{IsCanonicalOf, IsRefusal, TellsItsValue, IsCanonicaliserReason, IsMemoryRefusal};
+ghost use Rattle.cbor_verdict.specs.Readers.{ReportsMemoryAtStart};
+ghost use Rattle.cbor_reader.specs.Canonicalise.{IsCanonicalOf, IsRefusal, DeterminesItsValue, IsCanonicaliserReason, IsMemoryRefusal};
 ghost use Rattle.cbor_reader.specs.Headline.{IsAnsweredBy, HasNoAnswer};
 
 use crate::whole_item::encoded_item;
@@ -34,7 +34,7 @@ pub fn canonicalise(
     ensures reason { IfErr result (λ f. IsCanonicaliserReason limits f.reason) }
     ensures memory { IfErr result
         (λ f. f.reason ≡ reasons.Memory → IsMemoryRefusal limits order bytes.now f) }
-    ensures equal { IfOk result (λ v. TellsItsValue limits.depth order bytes.now v.items) }
+    ensures equal { IfOk result (λ v. DeterminesItsValue limits.depth order bytes.now v.items) }
     ensures again { IfOk result (λ v. IsCanonicalOf limits order v.items v.items) }
 {
     match canonical_bytes(alloc, bytes, limits, order)? {
@@ -62,9 +62,9 @@ pub fn canonical_bytes<'a>(
     ensures refused { IfErr result
         (λ f. f.reason ≢ reasons.Memory → HasNoAnswer limits order bytes.now) }
     ensures reason { IfErr result (λ f. IsCanonicaliserReason limits f.reason) }
-    ensures memory { IfErr result TellsMemoryAtFront }
+    ensures memory { IfErr result ReportsMemoryAtStart }
     ensures equal { IfOk result
-        (λ c. TellsItsValue limits.depth order bytes.now (cow_slice_items c)) }
+        (λ c. DeterminesItsValue limits.depth order bytes.now (cow_slice_items c)) }
     ensures again { IfOk result
         (λ c. IsCanonicalOf limits order (cow_slice_items c) (cow_slice_items c)) }
 {
@@ -82,7 +82,7 @@ fn answer<'a>(
         (λ c. IsCanonicalOf limits order bytes.now (cow_slice_items c))
         (λ f. IsRefusal limits order bytes.now f) }
     ensures own { IsCanonicalOf limits order bytes.now bytes.now → IsOk result }
-    ensures memory { IfErr result TellsMemoryAtFront }
+    ensures memory { IfErr result ReportsMemoryAtStart }
 {
     let canonical = encoded_item(alloc, bytes, limits, order)?;
     if canonical.len() as u64 > limits.bytes() {

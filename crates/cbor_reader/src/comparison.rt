@@ -4,7 +4,7 @@ ghost use Rattle.std.specs.Prelude.{◌≡◌, ◌≢◌, ◌↔◌, ◌≤◌, 
 ghost use Rattle.cbor_head.specs.Spelling.{Spelling, value_of};
 ghost use Rattle.cbor_head.specs.Value.{Same};
 ghost use Rattle.cbor_head.specs.declared.reason.Reason.TheVariants as reasons;
-ghost use Rattle.cbor_judging.specs.Readers.{TellsMemoryAtFront};
+ghost use Rattle.cbor_verdict.specs.Readers.{ReportsMemoryAtStart};
 ghost use Rattle.cbor_reader.specs.Comparing.{MeanTheSame, IsSideRefusal};
 ghost use Rattle.cbor_reader.specs.Headline.{IsValidItem};
 ghost use Rattle.cbor_reader.specs.WholeItem.{IsWholeItem};
@@ -44,7 +44,7 @@ pub fn same_meaning(
         → IsValidItem limits right.now t
         → IsTrue same ↔ Same (value_of s) (value_of t)) }
     ensures refused { IfErr result (λ e. IsSideRefusal limits left.now right.now e.0 e.1) }
-    ensures memory { IfErr result (λ e. TellsMemoryAtFront e.1) }
+    ensures memory { IfErr result (λ e. ReportsMemoryAtStart e.1) }
     ensures only { IfErr result (λ e. e.1.reason ≢ reasons.Memory
         → IsWholeItem limits left.now
         → ¬ IsWholeItem limits right.now) }

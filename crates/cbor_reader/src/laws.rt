@@ -12,13 +12,13 @@ ghost use Rattle.cbor_head.specs.declared.keys.Keys.TheVariants.{IntegersAndText
 ghost use Rattle.cbor_head.specs.declared.order.KeyOrder.{KeyOrder};
 ghost use Rattle.cbor_head.specs.declared.reason.Refusal.{Refusal};
 ghost use Rattle.cbor_head.specs.declared.reason.Reason.TheVariants.{Memory, Truncated, TooLong, CanonicalTooLong, Trailing, Read};
-ghost use Rattle.cbor_canonical.specs.StrictReasons.{IsStrictReason};
+ghost use Rattle.cbor_model.specs.StrictReasons.{IsStrictReason};
 ghost use Rattle.cbor_reader.specs.Canonicalise.{IsCanonicalOf, IsRefusal};
 ghost use Rattle.cbor_reader.specs.Comparing.{MeanTheSame};
 ghost use Rattle.cbor_reader.specs.Headline.{IsValidItem, IsAnsweredBy, HasNoAnswer, HasValidTexts};
-ghost use Rattle.cbor_judging.specs.Readers.{BeginsWithCanonical, IsRead, IsReadAs, IsUnread};
-ghost use Rattle.cbor_judging.specs.Refusals.{StandsWithin};
-ghost use Rattle.cbor_plain.specs.Size.{size};
+ghost use Rattle.cbor_verdict.specs.Readers.{BeginsWithCanonical, IsRead, IsReadAs, IsUnread};
+ghost use Rattle.cbor_verdict.specs.Refusals.{StandsWithin};
+ghost use Rattle.cbor_tree_reader.specs.Size.{size};
 ghost use Rattle.cbor_reader.specs.WholeItem.{IsWholeItem, IsItemRefusal};
 
 /// An input has one answer but where memory is refused.
@@ -124,7 +124,7 @@ pub fn values_are_no_larger_than_their_items()
 /// The strict verdict accepts exactly an input that begins with the canonical bytes of a valid
 /// value within the limits. What it accepts is just these bytes, and their value is the same. No
 /// input begins so in two ways.
-pub fn strictly_accepted_fronts()
+pub fn strictly_accepted_prefixes()
     ensures accepted { (limits : Bounds) (o : KeyOrder) (input : List ℕ)
         → ((s : Spelling) × IsVerdict limits (strict o) input (accepted s))
         ↔ ((v : Value) × BeginsWithCanonical limits o input v) }
@@ -152,7 +152,7 @@ pub fn items_cut_short()
         → IsVerdict limits r (b ++ rest) (refused (refusal TooLong limits.bytes limits.bytes)) }
 {}
 
-/// The readers of the front of one input agree. What one of them reads is one value, of so many
+/// The readers of the prefix of one input agree. What one of them reads is one value, of so many
 /// bytes; what is refused, but for the reader or for memory, has one refusal; and what is read is
 /// refused for these alone.
 pub fn one_reading()
@@ -186,13 +186,13 @@ pub fn wider_limits_accept_as_much()
         → IsVerdict limits r input (accepted s) → IsVerdict others r input (accepted s) }
 {}
 
-/// What a front of an input is answered, the input is, unless the front ends within the item.
-pub fn fronts_decide()
-    ensures accepted { (limits : Bounds) (r : Rules) (front behind : List ℕ) (s : Spelling)
-        → IsVerdict limits r front (accepted s) → IsVerdict limits r (front ++ behind) (accepted s) }
-    ensures refused { (limits : Bounds) (r : Rules) (front behind : List ℕ) (f : Refusal)
-        → IsVerdict limits r front (refused f) → f.reason ≢ Truncated
-        → IsVerdict limits r (front ++ behind) (refused f) }
+/// What a prefix of an input is answered, the input is, unless the prefix ends within the item.
+pub fn prefixes_decide()
+    ensures accepted { (limits : Bounds) (r : Rules) (prefix behind : List ℕ) (s : Spelling)
+        → IsVerdict limits r prefix (accepted s) → IsVerdict limits r (prefix ++ behind) (accepted s) }
+    ensures refused { (limits : Bounds) (r : Rules) (prefix behind : List ℕ) (f : Refusal)
+        → IsVerdict limits r prefix (refused f) → f.reason ≢ Truncated
+        → IsVerdict limits r (prefix ++ behind) (refused f) }
 {}
 
 /// A refusal's place is no later than the bytes read, and these are no more than the limit and no

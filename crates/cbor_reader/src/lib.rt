@@ -1,14 +1,9 @@
-//! Readers of whole CBOR items, and of sequences of them.
+//! Whole CBOR items: canonical bytes, checks, trees, views, comparison, and sequences of items (RFC 8742).
 //!
-//! Of one item: [`canonicalise`] answers its canonical bytes (RFC 8949, section 4.2), [`check_valid`]
-//! whether there is one, [`read_view`] what it holds, as a view that borrows, [`read_tree`] the same
-//! from a reader, as a [`Tree`]; [`same_meaning`] compares two. Of one item after another (RFC 8742):
-//! [`ItemCheck`] and [`ItemCanonicaliser`] go over a slice, [`Sequence`] over a reader. [`read_strict`],
-//! [`check_canonical`] and [`StrictReader`], which accept canonical bytes alone, are those of
-//! `cbor_strict`.
-//!
-//! Whatever is refused has one refusal, with its place. [`laws`] and [`sequence_laws`] have no code
-//! to run: their contracts are the laws of these answers.
+//! This is the crate that most users call. [`canonicalise`] returns the canonical bytes of an item (RFC 8949, section 4.2),
+//! [`check_valid`] checks one, [`read_tree`] reads one from a reader as a [`Tree`], [`read_view`] one from a slice as a
+//! [`View`], [`same_meaning`] compares two. [`Sequence`] reads one item after another from a reader; [`ItemCheck`] and
+//! [`ItemCanonicaliser`] do so over slices. [`read_strict`], [`check_canonical`] and [`StrictReader`] accept canonical bytes alone.
 //!
 //! ```
 //! // {"Fun": true, "Amt": -2} without a length, as a stream writes it: bf 63 46 75 6e f5 ..
@@ -17,17 +12,20 @@
 //! // {"Amt": -2, "Fun": true}
 //! assert_eq!(rt; canonical.as_slice(), b"\xa2\x63Amt\x21\x63Fun\xf5");
 //! assert_eq!(rt; check_canonical(&canonical, limits, KeyOrder::Bytewise), Ok(11));
-//! // the key "Amt" does not rise: its place, and the bytes up to its end
+//! // the key "Amt" does not rise: its offset, and the bytes up to its end
 //! let turned = b"\xa2\x63Fun\xf5\x63Amt\x21";
 //! let refusal = Refusal::new(Reason::KeyOrder, 6, 10);
 //! assert_eq!(rt; check_canonical(turned, limits, KeyOrder::Bytewise), Err(refusal));
 //! ```
+//!
+//! A refused input has one refusal, with its offset. [`laws`] and [`sequence_laws`] have no code: their contracts are the
+//! laws of these answers.
 #![tactic(auto)]
 
+mod canonical_probe;
 mod canonical_reader;
 mod canonicaliser;
 mod comparison;
-mod first_look;
 mod item_canonicaliser;
 mod item_check;
 pub mod laws;
@@ -42,7 +40,7 @@ mod whole_item;
 
 pub use canonical_reader::read_canonical;
 pub use canonicaliser::{canonical_bytes, canonicalise};
-pub use cbor_item::{KeyOrder, Tree};
+pub use cbor_item::{KeyOrder, Tree, View};
 pub use cbor_strict::{StrictReader, check_canonical, read_strict};
 pub use comparison::{Side, same_meaning};
 pub use item_canonicaliser::ItemCanonicaliser;

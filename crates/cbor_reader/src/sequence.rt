@@ -3,8 +3,8 @@
 ghost use Rattle.std.specs.Prelude.{◌≡◌, true, false, None, IfSome};
 ghost use Rattle.cbor_head.specs.Complaint.{plain, strict};
 ghost use Rattle.cbor_item.specs.View.{view};
-ghost use Rattle.cbor_judging.specs.Readers.{IsRead, IsCanonicalFront, Loses};
-ghost use Rattle.cbor_judging.specs.Refusals.{IsReaderReason};
+ghost use Rattle.cbor_verdict.specs.Readers.{IsRead, IsCanonicalPrefix, Loses};
+ghost use Rattle.cbor_verdict.specs.Refusals.{IsReaderReason};
 ghost use Rattle.cbor_reader.specs.Sequence.{SequenceView, IfGiven, IfRefused, is_last, IsTaken, IsAtEnd, IsRefused};
 
 use crate::sequence_items::SequenceItems;
@@ -78,7 +78,7 @@ impl<R: Read> Sequence<R> {
             IsRead self.old.items.limits
             (strict order) input count)) }
         ensures canonical { IfGiven result (λ count. IfSome (R.remaining self.old.reader) (λ input.
-            IsCanonicalFront self.old.items.limits
+            IsCanonicalPrefix self.old.items.limits
             order input count)) }
         ensures taken { IfGiven result (λ count.
             Loses count (R.remaining self.old.reader) (R.remaining self.new.reader)) }

@@ -4,8 +4,8 @@ ghost use Rattle.std.specs.Prelude.{◌≡◌, true, false, None, Some, IfSome};
 ghost use Rattle.cbor_head.specs.Complaint.{plain, strict};
 ghost use Rattle.cbor_head.specs.declared.reason.Reason.TheVariants as reasons;
 ghost use Rattle.cbor_item.specs.View.{view};
-ghost use Rattle.cbor_judging.specs.Readers.{IsRead, IsCanonicalFront, Loses};
-ghost use Rattle.cbor_judging.specs.Refusals.{IsReaderReason};
+ghost use Rattle.cbor_verdict.specs.Readers.{IsRead, IsCanonicalPrefix, Loses};
+ghost use Rattle.cbor_verdict.specs.Refusals.{IsReaderReason};
 ghost use Rattle.cbor_reader.specs.Sequence.{SequenceItemsView, IfGiven, IfRefused, is_last, IsTaken, IsAtEnd, IsRefused};
 
 use crate::tree_reader::read_tree_by;
@@ -19,7 +19,7 @@ use std::marker::Model;
 
 /// The items of a sequence (RFC 8742), one after another, from a reader that each call is handed.
 ///
-/// The limits hold for each item by itself, and so do the places that refusals tell. Calls of
+/// The limits hold for each item by itself, and so do the places that refusals report. Calls of
 /// [`next`](SequenceItems::next) and [`next_strict`](SequenceItems::next_strict) may be mixed: each
 /// judges what the reader then holds. Behind a refusal no item begins, so it is the last answer but
 /// `None`.
@@ -93,7 +93,7 @@ impl SequenceItems {
         ensures item { IfGiven result (λ count. IfSome (R.remaining reader.old) (λ input.
             IsRead self.old.limits (strict order) input count)) }
         ensures canonical { IfGiven result (λ count. IfSome (R.remaining reader.old) (λ input.
-            IsCanonicalFront self.old.limits order input count)) }
+            IsCanonicalPrefix self.old.limits order input count)) }
         ensures taken { IfGiven result (λ count.
             Loses count (R.remaining reader.old) (R.remaining reader.new)) }
         ensures end { result ≡ None → self.old.finished ≡ false

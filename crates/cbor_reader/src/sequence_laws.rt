@@ -11,7 +11,7 @@ ghost use Rattle.cbor_head.specs.declared.order.KeyOrder.{KeyOrder};
 ghost use Rattle.cbor_head.specs.declared.reason.Reason.TheVariants.{Memory, Read, Truncated, TooLong};
 ghost use Rattle.cbor_head.specs.declared.reason.Refusal.{Refusal};
 ghost use Rattle.cbor_reader.specs.Headline.{IsValidItem};
-ghost use Rattle.cbor_judging.specs.Readers.{BeginsWithCanonical, IsRead, IsUnread, Loses};
+ghost use Rattle.cbor_verdict.specs.Readers.{BeginsWithCanonical, IsRead, IsUnread, Loses};
 ghost use Rattle.cbor_reader.specs.Sequence.{sequence_bytes, IsAccepted, StartsWithItems, IsLongestSequence, EndsBefore, IsAtEnd, IsRefused, IsTaken};
 ghost use Rattle.cbor_reader.specs.Sequence.{Given, given_by, items_of, AreGivenBy, HasGiven};
 
@@ -70,13 +70,13 @@ pub fn longest_sequences()
 {}
 
 /// An input ends before an item exactly where the verdict is that it is truncated at 0. With a byte
-/// limit of 0 the verdict on each input is that it is too long at 0, and no other refusal is told
+/// limit of 0 the verdict on each input is that it is too long at 0, and no other refusal is reported
 /// but of memory.
 pub fn inputs_without_an_item()
     ensures ended { (limits : Bounds) (r : Rules) (input : List ℕ)
         → EndsBefore limits.bytes input ↔ IsVerdict limits r input (refused (refusal Truncated 0 0)) }
     ensures no_bytes { (limits : Bounds) (r : Rules) (input : List ℕ)
         → limits.bytes ≡ 0 → IsVerdict limits r input (refused (refusal TooLong 0 0)) }
-    ensures told { (limits : Bounds) (r : Rules) (input : List ℕ) (f : Refusal) → limits.bytes ≡ 0
+    ensures reported { (limits : Bounds) (r : Rules) (input : List ℕ) (f : Refusal) → limits.bytes ≡ 0
         → IsUnread limits r input f → f.reason ≢ Memory → f ≡ refusal TooLong 0 0 }
 {}

@@ -1,16 +1,16 @@
-//! The item at the front of an input, as a tree.
+//! The item at the start of an input, as a tree.
 
 ghost use Rattle.std.specs.Prelude.{◌≡◌, ◌≤◌, ◌<◌, IfOk, IfErr, OnOk, IfSome};
 ghost use Rattle.cbor_head.specs.Complaint.{plain};
 ghost use Rattle.cbor_item.specs.View.{view};
-ghost use Rattle.cbor_judging.specs.Readers.{IsReadAs, IsUnread, Loses};
-ghost use Rattle.cbor_judging.specs.Refusals.{IsReaderReason};
-ghost use Rattle.cbor_plain.specs.Size.{size};
+ghost use Rattle.cbor_verdict.specs.Readers.{IsReadAs, IsUnread, Loses};
+ghost use Rattle.cbor_verdict.specs.Refusals.{IsReaderReason};
+ghost use Rattle.cbor_tree_reader.specs.Size.{size};
 
 use cbor_events::ItemEvents;
 use cbor_head::{Limits, Refusal};
 use cbor_item::Tree;
-use cbor_plain::read_item_front;
+use cbor_tree_reader::read_item_prefix;
 use std::alloc::Global;
 use std::io::Read;
 
@@ -19,7 +19,7 @@ use std::io::Read;
 ///
 /// No byte behind the item is read. The refusal is the one that the bytes within the limits call
 /// for; or `Read` or `Memory`, where the reader failed or memory was refused before: then the place
-/// is the count of the bytes taken. After a refusal as many bytes were taken as its `read` tells.
+/// is the count of the bytes taken. After a refusal as many bytes were taken as its `read` reports.
 /// Memory is taken for what came, never by the length in a head; a tree has no more items, at every
 /// depth, and bytes of strings together than bytes were taken.
 pub fn read_tree<R: Read>(
@@ -41,7 +41,7 @@ pub fn read_tree<R: Read>(
     read_tree_by(alloc, &mut ItemEvents::new(limits), reader, limits)
 }
 
-// The same, by events that the caller keeps from item to item.
+// Reads a tree by events that the caller keeps from item to item.
 pub(crate) fn read_tree_by<R: Read>(
     alloc: Global,
     events: &mut ItemEvents,
@@ -63,7 +63,7 @@ pub(crate) fn read_tree_by<R: Read>(
     ensures read { IfErr result
         (λ f. Loses f.read (R.remaining reader.old) (R.remaining reader.new)) }
 {
-    match read_item_front(alloc, events, reader, limits) {
+    match read_item_prefix(alloc, events, reader, limits) {
         Ok((item, count)) => Ok((Tree::from_valid(item), count)),
         Err(refusal) => Err(refusal),
     }

@@ -1,14 +1,14 @@
-//! The item at the front of a slice, if it is valid.
+//! The item at the start of a slice, if it is valid.
 
 ghost use Rattle.std.specs.Prelude.{◌≢◌, IfOk, IfErr};
 ghost use Rattle.cbor_head.specs.Complaint.{plain};
 ghost use Rattle.cbor_head.specs.declared.reason.Reason.TheVariants as reasons;
-ghost use Rattle.cbor_judging.specs.Readers.{IsRead, IsUnread, TellsMemoryAtFront};
+ghost use Rattle.cbor_verdict.specs.Readers.{IsRead, IsUnread, ReportsMemoryAtStart};
 
-use crate::first_look::{first_look, may_be_valid};
+use crate::canonical_probe::{may_be_valid, probe_canonical};
 use cbor_head::{KeyOrder, Limits, Refusal};
+use cbor_parser::Parser;
 use cbor_sinks::KeyBytes;
-use cbor_walk::Building;
 use std::alloc::Global;
 
 /// How many bytes the well-formed, valid item has that the slice begins with (RFC 8949, sections
@@ -22,26 +22,26 @@ pub fn check_valid(alloc: Global, bytes: &[u8], limits: Limits) -> Result<u64, R
     ensures accepted { IfOk result (λ count. IsRead limits plain bytes.now count) }
     ensures refused { IfErr result (λ f. IsUnread limits plain bytes.now f) }
     ensures no_read { IfErr result (λ f. f.reason ≢ reasons.Read) }
-    ensures memory { IfErr result TellsMemoryAtFront }
+    ensures memory { IfErr result ReportsMemoryAtStart }
 {
-    match first_look(bytes, limits, KeyOrder::Bytewise) {
+    match probe_canonical(bytes, limits, KeyOrder::Bytewise) {
         Ok(size) => Ok(size),
         Err(refusal) if !may_be_valid(&refusal) => Err(refusal),
         Err(_) => valid_size(alloc, bytes, limits),
     }
 }
 
-// The same of an item that is not canonical. It is apart, so that no room is made for the keys of one
+// The size of a valid item that is not canonical. It is a call of its own, so that no space is made for the keys of one
 // that is. The answer is taken apart and made again, so that it stays in registers.
 #[inline(never)]
 fn valid_size(alloc: Global, bytes: &[u8], limits: Limits) -> Result<u64, Refusal>
     ensures accepted { IfOk result (λ count. IsRead limits plain bytes.now count) }
     ensures refused { IfErr result (λ f. IsUnread limits plain bytes.now f) }
     ensures no_read { IfErr result (λ f. f.reason ≢ reasons.Read) }
-    ensures memory { IfErr result TellsMemoryAtFront }
+    ensures memory { IfErr result ReportsMemoryAtStart }
 {
-    let mut building = Building::new(KeyBytes::new(alloc));
-    match building.give_front(bytes, limits) {
+    let mut building = Parser::new(KeyBytes::new(alloc));
+    match building.parse_item(bytes, limits) {
         Ok(size) => Ok(size),
         Err(refusal) => Err(refusal),
     }

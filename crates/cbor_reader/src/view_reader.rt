@@ -1,4 +1,4 @@
-//! The item at the front of a slice, or that a whole slice is, as a view.
+//! The item at the start of a slice, or that a whole slice is, as a view.
 
 ghost use Rattle.std.specs.Prelude.{◌≡◌, ◌≢◌, ◌≤◌, IfOk, IfErr};
 ghost use Rattle.cbor_head.specs.Complaint.{plain};
@@ -6,18 +6,18 @@ ghost use Rattle.cbor_head.specs.Spelling.{Spelling, value_of};
 ghost use Rattle.cbor_head.specs.Value.{depth, IsInRange, IsValid};
 ghost use Rattle.cbor_head.specs.declared.limits.TheConstants.{MAX_DEPTH};
 ghost use Rattle.cbor_head.specs.declared.reason.Reason.TheVariants as reasons;
-ghost use Rattle.cbor_judging.specs.Readers.{IsReadAs, IsUnread, TellsMemoryAtFront};
-ghost use Rattle.cbor_judging.specs.Refusals.{IsReaderReason};
+ghost use Rattle.cbor_verdict.specs.Readers.{IsReadAs, IsUnread, ReportsMemoryAtStart};
+ghost use Rattle.cbor_verdict.specs.Refusals.{IsReaderReason};
 ghost use Rattle.cbor_reader.specs.Headline.{IsValidItem};
-ghost use Rattle.cbor_plain.specs.Size.{size};
+ghost use Rattle.cbor_tree_reader.specs.Size.{size};
 ghost use Rattle.cbor_reader.specs.WholeItem.{IsItemRefusal};
-ghost use Rattle.cbor_view.specs.Seen.{seen};
+ghost use Rattle.cbor_item.specs.ViewValue.{view_value};
 
 use crate::view_sink::ViewSink;
 use bumpalo::Bump;
 use cbor_head::{Limits, Reason, Refusal};
-use cbor_view::View;
-use cbor_walk::Building;
+use cbor_item::View;
+use cbor_parser::Parser;
 use std::alloc::Global;
 
 /// The view of the well-formed, valid item that the slice begins with, and how many bytes it has
@@ -35,22 +35,22 @@ pub fn read_view<'a>(
     arena: &'a Bump,
 ) -> Result<(View<'a>, u64), Refusal>
     ensures accepted { IfOk result (λ answer.
-        IsReadAs limits plain bytes.now (seen answer.0) answer.1) }
-    ensures bounded { IfOk result (λ answer. size (seen answer.0) ≤ answer.1) }
+        IsReadAs limits plain bytes.now (view_value answer.0) answer.1) }
+    ensures bounded { IfOk result (λ answer. size (view_value answer.0) ≤ answer.1) }
     // What `View::to_tree` asks for.
-    ensures depth { IfOk result (λ answer. depth (seen answer.0) ≤ MAX_DEPTH) }
-    ensures in_range { IfOk result (λ answer. IsInRange (seen answer.0)) }
-    ensures valid { IfOk result (λ answer. IsValid (seen answer.0)) }
+    ensures depth { IfOk result (λ answer. depth (view_value answer.0) ≤ MAX_DEPTH) }
+    ensures in_range { IfOk result (λ answer. IsInRange (view_value answer.0)) }
+    ensures valid { IfOk result (λ answer. IsValid (view_value answer.0)) }
     ensures refused { IfErr result (λ f. IsUnread limits plain bytes.now f) }
     ensures reason { IfErr result (λ f. IsReaderReason limits plain f.reason) }
     ensures no_read { IfErr result (λ f. f.reason ≢ reasons.Read) }
-    ensures memory { IfErr result TellsMemoryAtFront }
+    ensures memory { IfErr result ReportsMemoryAtStart }
 {
     // What any limits keep to.
     let _depth = limits.depth();
     let _bytes = limits.bytes();
-    let mut building = Building::new(ViewSink::new(alloc, arena));
-    match building.give_front(bytes, limits) {
+    let mut building = Parser::new(ViewSink::new(alloc, arena));
+    match building.parse_item(bytes, limits) {
         Ok(size) => Ok((building.sink.finish(), size)),
         Err(refusal) => Err(refusal),
     }
@@ -66,13 +66,13 @@ pub fn whole_view<'a>(
     arena: &'a Bump,
 ) -> Result<View<'a>, Refusal>
     ensures accepted { IfOk result (λ view. (s : Spelling)
-        × IsValidItem limits bytes.now s × (seen view ≡ value_of s)) }
+        × IsValidItem limits bytes.now s × (view_value view ≡ value_of s)) }
     // What `View::to_tree` asks for.
-    ensures depth { IfOk result (λ view. depth (seen view) ≤ MAX_DEPTH) }
-    ensures in_range { IfOk result (λ view. IsInRange (seen view)) }
-    ensures valid { IfOk result (λ view. IsValid (seen view)) }
+    ensures depth { IfOk result (λ view. depth (view_value view) ≤ MAX_DEPTH) }
+    ensures in_range { IfOk result (λ view. IsInRange (view_value view)) }
+    ensures valid { IfOk result (λ view. IsValid (view_value view)) }
     ensures refused { IfErr result (IsItemRefusal limits plain bytes.now) }
-    ensures memory { IfErr result TellsMemoryAtFront }
+    ensures memory { IfErr result ReportsMemoryAtStart }
 {
     match read_view(alloc, bytes, limits, arena) {
         Ok((view, size)) => {

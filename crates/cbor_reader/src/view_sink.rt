@@ -6,19 +6,19 @@ ghost use Rattle.cbor_head.specs.Head.{IsSimple};
 ghost use Rattle.cbor_head.specs.Spelling.{Spelling, value_of};
 ghost use Rattle.cbor_head.specs.declared.major.Major.TheVariants as majors;
 ghost use Rattle.cbor_item.specs.OpenValues.{IsWhole};
-ghost use Rattle.cbor_judging.specs.Levels.{item_due, item_whole};
-ghost use Rattle.cbor_judging.specs.Reading.{string_value};
+ghost use Rattle.cbor_verdict.specs.Levels.{item_expected, item_whole};
+ghost use Rattle.cbor_verdict.specs.Reading.{string_value};
 ghost use Rattle.cbor_reader.specs.declared.view_sink.ViewSink.{ViewSink as ViewSinkView};
 ghost use Rattle.cbor_reader.specs.inner.ViewSinks.{view_stands, view_holds};
-ghost use Rattle.cbor_view.specs.Seen.{seen, standing};
-ghost use Rattle.cbor_walk.specs.Sink.{leaf_value};
+ghost use Rattle.cbor_item.specs.ViewValue.{view_value, open_levels};
+ghost use Rattle.cbor_parser.specs.Sink.{leaf_value};
 
 use bumpalo::Bump;
 use cbor_builder::Repeat;
 use cbor_head::Major;
+use cbor_item::{Joined, View, ViewBuilder};
+use cbor_parser::Sink;
 use cbor_sinks::KeyBytes;
-use cbor_view::{Joined, View, ViewBuilder};
-use cbor_walk::Sink;
 use std::alloc::{AllocError, Global};
 
 /// The views of the parts that came, and the canonical bytes of keys, by which equal ones are found.
@@ -33,7 +33,7 @@ pub(crate) struct ViewSink<'a> {
 impl<'a> ViewSink<'a> {
     // Nothing came.
     pub(crate) fn new(alloc: Global, arena: &'a Bump) -> ViewSink<'a>
-        ensures { view_stands result result (item_due []) }
+        ensures { view_stands result result (item_expected []) }
     {
         ViewSink {
             keys: KeyBytes::new(alloc),
@@ -44,9 +44,9 @@ impl<'a> ViewSink<'a> {
 
     // The view of the item, which is whole.
     pub(crate) fn finish(self) -> View<'a>
-        requires { IsWhole (standing self.views) }
+        requires { IsWhole (open_levels self.views) }
         ensures { (start : ViewSinkView) (s : Spelling)
-            → view_stands start self.entry (item_whole s) → seen result ≡ value_of s }
+            → view_stands start self.entry (item_whole s) → view_value result ≡ value_of s }
     {
         let ViewSink {
             keys: _,
@@ -81,11 +81,11 @@ impl<'a> Sink<'a> for ViewSink<'a> {
         &mut self,
         is_key: bool,
         is_text: bool,
-        front: &'a [u8],
+        prefix: &'a [u8],
         count: usize,
     ) -> Result<(), AllocError> {
-        self.keys.string(is_key, is_text, front, count)?;
-        self.views.leaf(string_view(is_text, &front[..count]))?;
+        self.keys.string(is_key, is_text, prefix, count)?;
+        self.views.leaf(string_view(is_text, &prefix[..count]))?;
         Ok(())
     }
 
@@ -100,10 +100,10 @@ impl<'a> Sink<'a> for ViewSink<'a> {
         &mut self,
         _is_key: bool,
         _is_text: bool,
-        front: &'a [u8],
+        prefix: &'a [u8],
         count: usize,
     ) -> Result<(), AllocError> {
-        self.joined.extend_front(front, count)
+        self.joined.extend_prefix(prefix, count)
     }
 
     #[inline(always)]
@@ -146,7 +146,7 @@ impl<'a> Sink<'a> for ViewSink<'a> {
 fn leaf_view<'a>(major: Major, number: u64) -> View<'a>
     requires kind { IsLeaf major }
     requires simple { major ≡ majors.Simple → IsSimple number }
-    ensures { seen result ≡ leaf_value major number }
+    ensures { view_value result ≡ leaf_value major number }
 {
     match major {
         Major::Negative => View::Negative(number),
@@ -159,7 +159,7 @@ fn leaf_view<'a>(major: Major, number: u64) -> View<'a>
 #[inline(always)]
 fn string_view<'a>(is_text: bool, content: &'a [u8]) -> View<'a>
     requires { is_text ≡ true → IsUtf8 content.now }
-    ensures { seen result ≡ string_value is_text content.now }
+    ensures { view_value result ≡ string_value is_text content.now }
 {
     if is_text {
         // It was found to be UTF-8.

@@ -5,7 +5,7 @@ ghost use Rattle.std.specs.Cow.{cow_slice_items};
 ghost use Rattle.cbor_head.specs.Canonical.{canonical};
 ghost use Rattle.cbor_head.specs.Complaint.{plain};
 ghost use Rattle.cbor_head.specs.Spelling.{Spelling, value_of};
-ghost use Rattle.cbor_judging.specs.Readers.{TellsMemoryAtFront};
+ghost use Rattle.cbor_verdict.specs.Readers.{ReportsMemoryAtStart};
 ghost use Rattle.cbor_reader.specs.Canonicalise.{IsCanonicalOf};
 ghost use Rattle.cbor_reader.specs.Headline.{IsValidItem};
 ghost use Rattle.cbor_reader.specs.WholeItem.{IsItemRefusal};
@@ -28,7 +28,7 @@ pub(crate) fn encoded_item<'a>(
         × IsValidItem limits bytes.now s
         × (cow_slice_items c ≡ canonical order (value_of s))) }
     ensures refused { IfErr result (IsItemRefusal limits plain bytes.now) }
-    ensures memory { IfErr result TellsMemoryAtFront }
+    ensures memory { IfErr result ReportsMemoryAtStart }
     ensures own { IsCanonicalOf limits order bytes.now bytes.now → IsOk result }
 {
     // What any limits keep to.

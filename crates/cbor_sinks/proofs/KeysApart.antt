@@ -1,11 +1,11 @@
--- What is kept of an item tells of all of its open maps whether two keys are the same.
+-- What is kept of an item reports of all of its open maps whether two keys are the same.
 use Rattle.std.proofs.Common.{◌≡◌, ℕ, Bool, true, false, List, [], ◌∷◌, ◌++◌, map, refl, ap, ◌∙◌, subst, inl, inr, arith}
 use Rattle.std.proofs.lemmas.List.{map-append}
 use Rattle.cbor_head.specs.{Prelude.Pair, declared.order.KeyOrder.KeyOrder}
-use Rattle.cbor_canonical.specs.Parts.{Open, a_map, a_key, a_string, pair}
+use Rattle.cbor_model.specs.Parts.{Open, a_map, a_key, a_string, pair}
 use Rattle.cbor_builder.specs.Built.{keys_so_far, AreAllDifferent, AreOpenKeysDifferent}
-use Rattle.cbor_judging.specs.{Given.level_open, Given.opens, Levels.Level, Reading.string_major}
-use Rattle.cbor_walk.specs.Sink.{FindsNoRepeat}
+use Rattle.cbor_verdict.specs.{Given.level_open, Given.opens, Levels.Level, Reading.string_major}
+use Rattle.cbor_parser.specs.Sink.{FindsNoRepeat}
 use Rattle.cbor_sinks.specs.KeyBytes.{in_key, bare_pairs, kept, kept_all, keys_stand, keys_hold}
 use Rattle.cbor_sinks.specs.declared.key_bytes.KeyBytes.{KeyBytes}
 
@@ -33,7 +33,7 @@ pub all-apart : (o : KeyOrder) (ls : List Level) → AreOpenKeysDifferent (kept_
 all-apart o [] h = h
 all-apart o (l ∷ ls) h = let apart = kept-apart (in_key ls) (level_open o l) (kept_all o ls) h in (apart.0, all-apart o ls apart.1)
 
-pub no-repeat : (g : KeyBytes) → AreOpenKeysDifferent g.builder.standing → FindsNoRepeat KeyBytes keys_stand keys_hold g
+pub no-repeat : (g : KeyBytes) → AreOpenKeysDifferent g.builder.open_levels → FindsNoRepeat KeyBytes keys_stand keys_hold g
 no-repeat g h start ls (inl at) = (g.builder.order, all-apart g.builder.order ls (subst AreOpenKeysDifferent at.0 h))
 no-repeat g h start ls (inr (is_text, content, at)) =
     let o = g.builder.order in

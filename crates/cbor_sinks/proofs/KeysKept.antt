@@ -4,15 +4,14 @@ use Rattle.std.{specs.List.AllByRecursion, proofs.lemmas.Bool.false≢true}
 use Rattle.cbor_head.specs.Prelude.{Pair, canonical, Spelling, no_spellings, a_spelling, no_entries, entry, spell, value_of}
 use Rattle.cbor_head.specs.declared.major.Major.TheVariants as majors
 use Rattle.cbor_head.specs.declared.order.KeyOrder.{KeyOrder}
-use Rattle.cbor_grammar.proofs.ReadLaws.{length_head}
-use Rattle.cbor_canonical.specs.Parts.{IsInContainer, Open, plain, a_map, a_key, pair, with_member, closed, give, close, HasNoRepeats}
-use Rattle.cbor_canonical.specs.Pairs.{HasDistinctBytes}
+use Rattle.cbor_model.specs.Parts.{IsInContainer, Open, plain, a_map, a_key, pair, with_member, closed, give, close, HasNoRepeats}
+use Rattle.cbor_model.{proofs.ReadLaws.length_head, specs.Pairs.HasDistinctBytes}
 use Rattle.cbor_builder.specs.Built.{HasDistinctKeysSoFar, CanHold, TakesPart, around}
-use Rattle.cbor_judging.specs.Given.{level_open, opens, IsFull}
-use Rattle.cbor_judging.specs.Levels as levels
-use Rattle.cbor_judging.specs.Levels.{IsTaken, Level, a_member, a_value, some_member, some_key, some_value, tagged, AreLevels, level_bytes, bytes_before, item_due, item_full, settle}
-use Rattle.cbor_judging.{proofs.Given.settled, specs.Frame.with_all, specs.Frame.with_entries}
-use Rattle.cbor_walk.specs.Sink.{takes_key, key_due, is_map}
+use Rattle.cbor_verdict.specs.Given.{level_open, opens, IsFull}
+use Rattle.cbor_verdict.specs.Levels as levels
+use Rattle.cbor_verdict.specs.Levels.{IsTaken, Level, a_member, a_value, some_member, some_key, some_value, tagged, AreLevels, level_bytes, bytes_before, item_expected, item_full, settle}
+use Rattle.cbor_verdict.{proofs.Given.settled, specs.Frame.with_all, specs.Frame.with_entries}
+use Rattle.cbor_parser.specs.Sink.{takes_key, key_expected, is_map}
 use Rattle.cbor_sinks.specs.KeyBytes.{is_open_map, in_key, bare_pairs, bare, kept, kept_all, one_more, inside, is_kept, behind_item, with_item, KeepsAt}
 use Rattle.cbor_sinks.proofs.CanonGiven.{opens-take}
 
@@ -36,8 +35,8 @@ map-key : (o : KeyOrder) (l : Level) → takes_key l ≡ is_open_map (level_open
 map-key o (a_member w left done) = refl
 map-key o _ = refl
 
--- by how many containers are open of a key, and whether one is due
-pub in_key-is : (ls : List Level) → in_key ls ≡ is_kept (inside ls) (key_due ls)
+-- by how many containers are open of a key, and whether one is expected
+pub in_key-is : (ls : List Level) → in_key ls ≡ is_kept (inside ls) (key_expected ls)
 in_key-is [] = refl
 in_key-is (l ∷ ls) = one (takes_key l) (in_key ls)
   where
@@ -58,8 +57,8 @@ innermost (c ∷ os) = c
 
 module _ (o : KeyOrder) where
   -- it has more to come
-  due : (c : Open) (l : Level) (ls : List Level) → c ∷ opens o ls ≡ level_open o l ∷ opens o ls → KeepsAt o (kept (in_key ls) c (kept_all o ls)) (one_more (in_key ls) (inside ls)) (item_due (l ∷ ls))
-  due c l ls e = (ap (λ (os : List Open). kept (in_key ls) (innermost os) (kept_all o ls)) e, refl)
+  expected : (c : Open) (l : Level) (ls : List Level) → c ∷ opens o ls ≡ level_open o l ∷ opens o ls → KeepsAt o (kept (in_key ls) c (kept_all o ls)) (one_more (in_key ls) (inside ls)) (item_expected (l ∷ ls))
+  expected c l ls e = (ap (λ (os : List Open). kept (in_key ls) (innermost os) (kept_all o ls)) e, refl)
 
   -- or none
   full : (d : ℕ) (c : Open) (s : Spelling) (ls : List Level) → is_open_map c ≡ is_map s → (x : Open) × IsFull o d x s × (c ∷ opens o ls ≡ x ∷ opens o ls)
@@ -69,17 +68,17 @@ module _ (o : KeyOrder) where
   member-kept : (d : ℕ) (l : Level) (ls : List Level) (s : Spelling) → AreLevels d (l ∷ ls) → IsTaken (d - suc (length ls)) s → length (bytes_before (l ∷ ls) ++ spell s) < 2 ^ 64
       → KeepsAt o (kept (in_key ls) (with_member (canonical o (value_of s)) (level_open o l)) (kept_all o ls)) (one_more (in_key ls) (inside ls)) (settle (l ∷ ls) s)
   member-kept d (a_member w zero done) ls s h i short = full _ _ _ ls refl (settled o d (a_member w zero done ∷ ls) s h i short).3
-  member-kept d (a_member w (suc left) done) ls s h i short = due _ (a_member w left (with_all done (a_spelling s no_spellings))) ls (settled o d (a_member w (suc left) done ∷ ls) s h i short).3
-  member-kept d (some_member done) ls s h i short = due _ (some_member (with_all done (a_spelling s no_spellings))) ls (settled o d (some_member done ∷ ls) s h i short).3
-  member-kept d (levels.a_key w left done) ls s h i short = due _ (a_value w left done s) ls (settled o d (levels.a_key w left done ∷ ls) s h i short).3
-  member-kept d (some_key done) ls s h i short = due _ (some_value done s) ls (settled o d (some_key done ∷ ls) s h i short).3
+  member-kept d (a_member w (suc left) done) ls s h i short = expected _ (a_member w left (with_all done (a_spelling s no_spellings))) ls (settled o d (a_member w (suc left) done ∷ ls) s h i short).3
+  member-kept d (some_member done) ls s h i short = expected _ (some_member (with_all done (a_spelling s no_spellings))) ls (settled o d (some_member done ∷ ls) s h i short).3
+  member-kept d (levels.a_key w left done) ls s h i short = expected _ (a_value w left done s) ls (settled o d (levels.a_key w left done ∷ ls) s h i short).3
+  member-kept d (some_key done) ls s h i short = expected _ (some_value done s) ls (settled o d (some_key done ∷ ls) s h i short).3
   member-kept d (a_value w zero done k) ls s h i short = full _ _ _ ls refl (settled o d (a_value w zero done k ∷ ls) s h i short).3
-  member-kept d (a_value w (suc left) done k) ls s h i short = due _ (levels.a_key w left (with_entries done (entry k s no_entries))) ls (settled o d (a_value w (suc left) done k ∷ ls) s h i short).3
-  member-kept d (some_value done k) ls s h i short = due _ (some_key (with_entries done (entry k s no_entries))) ls (settled o d (some_value done k ∷ ls) s h i short).3
+  member-kept d (a_value w (suc left) done k) ls s h i short = expected _ (levels.a_key w left (with_entries done (entry k s no_entries))) ls (settled o d (a_value w (suc left) done k ∷ ls) s h i short).3
+  member-kept d (some_value done k) ls s h i short = expected _ (some_key (with_entries done (entry k s no_entries))) ls (settled o d (some_value done k ∷ ls) s h i short).3
   member-kept d (tagged w n) ls s h i short = full _ _ _ ls refl (settled o d (tagged w n ∷ ls) s h i short).3
 
   pub item-kept : (d : ℕ) (ls : List Level) (s : Spelling) → AreLevels d ls → IsTaken (d - length ls) s → length (bytes_before ls ++ spell s) < 2 ^ 64
-      → KeepsAt o (with_item (inside ls) (key_due ls) (canonical o (value_of s)) (kept_all o ls)) (inside ls) (settle ls s)
+      → KeepsAt o (with_item (inside ls) (key_expected ls) (canonical o (value_of s)) (kept_all o ls)) (inside ls) (settle ls s)
   item-kept d [] s h i short = tt
   item-kept d (l ∷ ls) s h i short =
       let b = canonical o (value_of s) in
@@ -109,7 +108,7 @@ map-takes false n b (a_map ps) os none e = tt
 map-takes false n b _ os none e = absurd (false≢true e)
 
 -- the value of a key
-pub value-takes : (o : KeyOrder) (ls : List Level) (b : List ℕ) → inside ls ≡ 0 → is_kept (inside ls) (key_due ls) ≡ true → TakesPart (give b (kept_all o ls))
+pub value-takes : (o : KeyOrder) (ls : List Level) (b : List ℕ) → inside ls ≡ 0 → is_kept (inside ls) (key_expected ls) ≡ true → TakesPart (give b (kept_all o ls))
 value-takes o [] b none e = absurd (false≢true e)
 value-takes o (l ∷ ls) b none e =
     map-takes (in_key ls) (inside ls) b (level_open o l) (kept_all o ls) none (sym (ap (is_kept (one_more (in_key ls) (inside ls))) (map-key o l)) ∙ e)

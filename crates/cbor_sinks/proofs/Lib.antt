@@ -3,4 +3,4 @@ pub mod KeyStrings
 pub mod KeysApart
 pub mod KeysGiven
 pub mod KeysKept
-pub mod RepeatsTold
+pub mod RepeatsReported

@@ -1,13 +1,13 @@
 -- The canonical bytes of keys alone: what is kept of an item, and what is given of it.
 use Rattle.std.specs.Prelude.{ℕ, zero, suc, ◌≡◌, ◌||◌, ◌++◌, if◌then◌else◌, Bool, true, false, List, [], ◌∷◌}
 use Rattle.cbor_head.specs.{Prelude.Pair, declared.order.KeyOrder.KeyOrder}
-use Rattle.cbor_canonical.specs.Parts.{Open, plain, a_map, a_key, a_string, pair, give}
-use Rattle.cbor_judging.specs.Levels.{Level, Standing, item_due, item_full, item_whole}
-use Rattle.cbor_judging.specs.{Given.level_open, Given.IsFull, Reading.string_major}
-use Rattle.cbor_walk.specs.Sink.{takes_key, is_map}
+use Rattle.cbor_model.specs.Parts.{Open, plain, a_map, a_key, a_string, pair, give}
+use Rattle.cbor_verdict.specs.Levels.{Level, ParseState, item_expected, item_full, item_whole}
+use Rattle.cbor_verdict.specs.{Given.level_open, Given.IsFull, Reading.string_major}
+use Rattle.cbor_parser.specs.Sink.{takes_key, is_map}
 use Rattle.cbor_sinks.specs.declared.key_bytes.KeyBytes.{KeyBytes}
 
--- ---- where a key is due
+-- ---- where a key is expected
 
 abbrev pub is_open_map : Open → Bool
 is_open_map (a_map ps) = true
@@ -65,16 +65,16 @@ with_item n is_key b os = if is_kept n is_key then behind_item n (give b os) els
 
 -- ---- where the item stands
 
-abbrev pub KeepsAt : KeyOrder → List Open → ℕ → Standing → Type 0
-KeepsAt o os n (item_due ls) = (os ≡ kept_all o ls) × (n ≡ inside ls)
+abbrev pub KeepsAt : KeyOrder → List Open → ℕ → ParseState → Type 0
+KeepsAt o os n (item_expected ls) = (os ≡ kept_all o ls) × (n ≡ inside ls)
 KeepsAt o os n (item_full ls s) =
     (d : ℕ) × (c : Open) × IsFull o d c s × (is_open_map c ≡ is_map s) × (os ≡ kept (in_key ls) c (kept_all o ls)) × (n ≡ one_more (in_key ls) (inside ls))
 KeepsAt o os n (item_whole s) = Unit {0}
 
-abbrev pub keys_stand : KeyBytes → KeyBytes → Standing → Type 0
-keys_stand start g st = KeepsAt g.builder.order g.builder.standing g.inside st
+abbrev pub keys_stand : KeyBytes → KeyBytes → ParseState → Type 0
+keys_stand start g st = KeepsAt g.builder.order g.builder.open_levels g.inside st
 
 -- and the content so far of a string, where it is kept
 abbrev pub keys_hold : KeyBytes → KeyBytes → List Level → Bool → List ℕ → Type 0
 keys_hold start g ls is_text content =
-    (g.builder.standing ≡ kept (in_key ls) (a_string (string_major is_text) content) (kept_all g.builder.order ls)) × (g.inside ≡ inside ls)
+    (g.builder.open_levels ≡ kept (in_key ls) (a_string (string_major is_text) content) (kept_all g.builder.order ls)) × (g.inside ≡ inside ls)

@@ -1,3 +1,3 @@
-pub mod BuiltFront
+pub mod BuiltPrefix
 pub mod CanonSink
 pub mod KeyBytes

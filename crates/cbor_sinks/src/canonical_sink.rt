@@ -1,13 +1,13 @@
 //! A builder of canonical bytes, as what takes the parts of an item.
 
 ghost use Rattle.std.specs.Prelude.{◌≡◌, []};
-ghost use Rattle.cbor_judging.specs.Levels.{item_due};
-ghost use Rattle.cbor_judging.specs.Reading.{string_major};
+ghost use Rattle.cbor_verdict.specs.Levels.{item_expected};
+ghost use Rattle.cbor_verdict.specs.Reading.{string_major};
 ghost use Rattle.cbor_sinks.specs.CanonSink.{sink_stands, sink_holds};
 
 use cbor_builder::{CanonBuilder, Repeat};
 use cbor_head::{KeyOrder, Major};
-use cbor_walk::Sink;
+use cbor_parser::Sink;
 use std::alloc::{AllocError, Global};
 
 /// Builds the canonical bytes of the parts that come.
@@ -19,7 +19,7 @@ pub(crate) struct CanonicalSink {
 impl CanonicalSink {
     /// Of nothing yet. Takes no memory.
     pub(crate) fn new(alloc: Global, order: KeyOrder) -> CanonicalSink
-        ensures stands { sink_stands result result (item_due []) }
+        ensures stands { sink_stands result result (item_expected []) }
         ensures order { result.builder.order ≡ order }
     {
         CanonicalSink {
@@ -29,7 +29,7 @@ impl CanonicalSink {
 
     /// As then, with the memory that it has. Whatever call came before.
     pub(crate) fn clear(&mut self, order: KeyOrder)
-        ensures stands { sink_stands self.new self.new (item_due []) }
+        ensures stands { sink_stands self.new self.new (item_expected []) }
         ensures order { self.new.builder.order ≡ order }
     {
         self.builder.clear(order);
@@ -57,11 +57,11 @@ impl<'a> Sink<'a> for CanonicalSink {
         &mut self,
         _is_key: bool,
         is_text: bool,
-        front: &'a [u8],
+        prefix: &'a [u8],
         count: usize,
     ) -> Result<(), AllocError> {
         self.builder
-            .front_string(string_type(is_text), front, count)?;
+            .prefix_string(string_type(is_text), prefix, count)?;
         Ok(())
     }
 
@@ -75,10 +75,10 @@ impl<'a> Sink<'a> for CanonicalSink {
         &mut self,
         _is_key: bool,
         _is_text: bool,
-        front: &'a [u8],
+        prefix: &'a [u8],
         count: usize,
     ) -> Result<(), AllocError> {
-        self.builder.front_bytes(front, count)
+        self.builder.prefix_bytes(prefix, count)
     }
 
     #[inline(always)]

@@ -2,15 +2,15 @@
 
 ghost use Rattle.std.specs.Prelude.{◌≡◌, ◌<◌, [], false, IfOk, IfSome, IsNone, OnOk};
 ghost use Rattle.cbor_builder.specs.Built.{built, TakesPart};
-ghost use Rattle.cbor_judging.specs.Levels.{item_due};
+ghost use Rattle.cbor_verdict.specs.Levels.{item_expected};
 ghost use Rattle.cbor_sinks.specs.KeyBytes.{is_kept, behind_item, keys_stand, keys_hold};
 ghost use Rattle.cbor_sinks.specs.declared.key_bytes.KeyBytes.{KeyBytes};
-ghost use Rattle.cbor_walk.specs.Sink.{IsContainerFull, Ends, Repeats};
+ghost use Rattle.cbor_parser.specs.Sink.{IsContainerFull, Ends, Repeats};
 
 use crate::canonical_sink::string_type;
 use cbor_builder::{CanonBuilder, Repeat};
 use cbor_head::{KeyOrder, Major};
-use cbor_walk::Sink;
+use cbor_parser::Sink;
 use std::alloc::{AllocError, Global};
 
 /// What finds equal keys in an item: the canonical bytes of the keys of the open maps. What is no
@@ -25,7 +25,7 @@ pub struct KeyBytes {
 impl KeyBytes {
     /// Of no keys. Takes no memory.
     pub fn new(alloc: Global) -> KeyBytes
-        ensures { keys_stand result result (item_due []) }
+        ensures { keys_stand result result (item_expected []) }
     {
         KeyBytes {
             builder: CanonBuilder::new(alloc, KeyOrder::Bytewise),
@@ -35,7 +35,7 @@ impl KeyBytes {
 
     /// Of no keys, with the memory that it has. Whatever call came before.
     pub fn clear(&mut self)
-        ensures { keys_stand self.new self.new (item_due []) }
+        ensures { keys_stand self.new self.new (item_expected []) }
     {
         self.builder.clear(KeyOrder::Bytewise);
         self.inside = 0;
@@ -53,10 +53,10 @@ impl KeyBytes {
     // a call, as the next is, so that the walk's loop stays small enough to be one function.
     #[inline(never)]
     fn settle(&mut self) -> Result<(), AllocError>
-        requires { self.old.inside ≡ 0 → TakesPart self.old.builder.standing }
+        requires { self.old.inside ≡ 0 → TakesPart self.old.builder.open_levels }
         ensures inside { self.new.inside ≡ self.old.inside }
         ensures builder { OnOk result (self.new.builder
-            ≡ built self.old.builder.order (behind_item self.old.inside self.old.builder.standing)) }
+            ≡ built self.old.builder.order (behind_item self.old.inside self.old.builder.open_levels)) }
     {
         if self.inside == 0 {
             self.builder.nothing()?;
@@ -69,9 +69,9 @@ impl KeyBytes {
     fn end_in_key(&mut self, is_map: bool) -> Result<Option<Repeat>, AllocError>
         requires inside { 0 < self.old.inside }
         requires full { IsContainerFull KeyBytes keys_stand false is_map self.old }
-        ensures ends { IfOk result (λ told. IsNone told
+        ensures ends { IfOk result (λ reported. IsNone reported
             → Ends KeyBytes keys_stand false is_map self.old self.new) }
-        ensures repeats { IfOk result (λ told. IfSome told
+        ensures repeats { IfOk result (λ reported. IfSome reported
             (Repeats KeyBytes keys_stand false is_map self.old)) }
     {
         if let Some(repeat) = self.builder.end_if_distinct()? {
@@ -107,12 +107,12 @@ impl<'a> Sink<'a> for KeyBytes {
         &mut self,
         is_key: bool,
         is_text: bool,
-        front: &'a [u8],
+        prefix: &'a [u8],
         count: usize,
     ) -> Result<(), AllocError> {
         if self.keeps(is_key) {
             self.builder
-                .front_string(string_type(is_text), front, count)?;
+                .prefix_string(string_type(is_text), prefix, count)?;
             self.settle()?;
         }
         Ok(())
@@ -131,11 +131,11 @@ impl<'a> Sink<'a> for KeyBytes {
         &mut self,
         is_key: bool,
         _is_text: bool,
-        front: &'a [u8],
+        prefix: &'a [u8],
         count: usize,
     ) -> Result<(), AllocError> {
         if self.keeps(is_key) {
-            self.builder.front_bytes(front, count)?;
+            self.builder.prefix_bytes(prefix, count)?;
         }
         Ok(())
     }

@@ -1,10 +1,12 @@
-//! What takes the parts of an item as a walk gives them: a builder of its canonical bytes
-//! ([`build_front`], and [`FrontBuilder`] of one after another), and what finds equal keys and keeps nothing else of it ([`KeyBytes`]).
+//! Sinks of the slice parser: one builds canonical bytes, one keeps the bytes of keys alone to find equal keys.
+//!
+//! `cbor_reader` and the program call it. [`build_prefix`] makes the canonical bytes of the item at the start of an input,
+//! [`PrefixBuilder`] those of one item after another in the same memory; [`KeyBytes`] finds equal keys.
 #![tactic(auto)]
 
-mod built_front;
+mod built_prefix;
 mod canonical_sink;
 mod key_bytes;
 
-pub use built_front::{BuiltFront, FrontBuilder, build_front};
+pub use built_prefix::{BuiltPrefix, PrefixBuilder, build_prefix};
 pub use key_bytes::KeyBytes;

@@ -2,9 +2,9 @@
 use Rattle.std.proofs.Common.{◌≡◌, ℕ, suc, ◌+◌, ◌-◌, ◌<◌, ◌≤◌, List, [], ◌∷◌, ◌++◌, length, refl, ap, ◌∙◌, arith, if◌then◌else◌, lt-ltb, le-ltb, le-leb, length-append}
 use Rattle.cbor_head.specs.Prelude.{head, Spelling, Spellings, SpelledEntries, a_map, no_spellings, a_spelling, no_entries, entry, spell, spell_all, spell_entries, spellings_count, entries_count}
 use Rattle.cbor_head.specs.declared.major.Major.TheVariants.{Array, Map, Tag}
-use Rattle.cbor_judging.specs.Frame.{Frame, a_member, a_key, a_content, tagged, with_all, with_entries, plug, before, behind}
-use Rattle.cbor_judging.proofs.Frames.{count_with, entries_with, pair_size, spell_plug}
-use Rattle.cbor_judging.specs.{LastKey.last_key, OpenMaps.before_all}
+use Rattle.cbor_verdict.specs.Frame.{Frame, a_member, a_key, a_content, tagged, with_all, with_entries, plug, before, behind}
+use Rattle.cbor_verdict.proofs.Frames.{count_with, entries_with, pair_size, spell_plug}
+use Rattle.cbor_verdict.specs.{LastKey.last_key, OpenMaps.before_all}
 use Rattle.cbor_strict.specs.KeptKeys.{open_maps, open_maps_in, open_maps_in_entries, key_bytes, key_bytes_in, key_bytes_in_entries}
 use Rattle.cbor_strict.specs.inner.LastKeys.{is_key, complete_key}
 

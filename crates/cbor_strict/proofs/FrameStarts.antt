@@ -2,17 +2,17 @@
 use Rattle.std.proofs.Common.{◌≡◌, ◌≢◌, ℕ, suc, ◌+◌, List, ◌++◌, length, refl, sym, ap, ◌∙◌, subst, arith, append_assoc}
 use Rattle.cbor_head.specs.Prelude.{head, Spelling, Spellings, SpelledEntries, array, a_map, no_spellings, a_spelling, no_entries, entry, spell, spell_all, spell_entries, spellings_count, entries_count, break_of, IsSpelled, AreSpelled, AreEntriesSpelled}
 use Rattle.cbor_head.specs.declared.major.Major.TheVariants.{Array, Map, Tag}
-use Rattle.cbor_head.{specs.declared.width.Width.Width, specs.declared.width.Width.TheVariants.Indefinite, proofs.HeadLaws.told}
-use Rattle.cbor_grammar.proofs.Parts.{major, width, count, head_of, body, parts, holds_of, one_head, as_array, as_map, as_tag}
-use Rattle.cbor_grammar.proofs.ReadLaws.{unique, holds_or_open}
-use Rattle.cbor_judging.specs.Frame.{Frame, a_member, a_key, a_content, tagged, with_all, with_entries, plug, before, behind, IsFrame}
+use Rattle.cbor_head.{specs.declared.width.Width.Width, specs.declared.width.Width.TheVariants.Indefinite, proofs.HeadLaws.reported}
+use Rattle.cbor_model.proofs.Parts.{major, width, count, head_of, body, parts, holds_of, one_head, as_array, as_map, as_tag}
+use Rattle.cbor_model.proofs.ReadLaws.{unique, holds_or_open}
+use Rattle.cbor_verdict.specs.Frame.{Frame, a_member, a_key, a_content, tagged, with_all, with_entries, plug, before, behind, IsFrame}
 use Rattle.cbor_strict.{specs.inner.LastKeys.HasLength, proofs.FrameCounts.around, proofs.FrameCounts.one_map}
 
 -- ---- an item that starts as a container does
 
-told_is : (w : Width) (n i : ℕ) → w ≢ Indefinite → told w n ≡ told w i → n ≡ i
-told_is Indefinite n i f e = absurd (f refl)
-told_is _ n i f e = e
+reported_is : (w : Width) (n i : ℕ) → w ≢ Indefinite → reported w n ≡ reported w i → n ≡ i
+reported_is Indefinite n i f e = absurd (f refl)
+reported_is _ n i f e = e
 
 -- members that start with these, and have so many more behind the next
 record MembersStart (a ss : Spellings) (y rest : List ℕ) (m : ℕ) : Type 0 where
@@ -80,7 +80,7 @@ starts_in (a_member w a b) s x rest h l i e =
     (sym (append_assoc (head Array w n) (spell_all a) rest) ∙ sym e ∙ ap (λ (y : List ℕ). y ++ x) (parts s) ∙ append_assoc (head_of s) (body s) x) in
     let v = as_array s w n o.0 in
     let here : AreSpelled v.0 = (subst IsSpelled v.1 i).1 in
-    let m = members_start a v.0 (break_of w ++ x) rest (spellings_count b) h.1 here (sym (told_is w n (spellings_count v.0) l v.2))
+    let m = members_start a v.0 (break_of w ++ x) rest (spellings_count b) h.1 here (sym (reported_is w n (spellings_count v.0) l v.2))
     (sym (append_assoc (spell_all v.0) (break_of w) x) ∙ ap (λ (t : Spelling). body t ++ x) (sym v.1) ∙ sym o.1) in
     record {
       frame = a_member w a m.others;
@@ -98,7 +98,7 @@ starts_in (a_key w a v b) s x rest h l i e =
     (sym (append_assoc (head Map w n) (spell_entries a) rest) ∙ sym e ∙ ap (λ (y : List ℕ). y ++ x) (parts s) ∙ append_assoc (head_of s) (body s) x) in
     let z = as_map s w n o.0 in
     let here : AreEntriesSpelled z.0 = (subst IsSpelled z.1 i).1 in
-    let m = entries_start a z.0 (break_of w ++ x) rest (entries_count b) h.1 here (sym (told_is w n (entries_count z.0) l z.2))
+    let m = entries_start a z.0 (break_of w ++ x) rest (entries_count b) h.1 here (sym (reported_is w n (entries_count z.0) l z.2))
     (sym (append_assoc (spell_entries z.0) (break_of w) x) ∙ ap (λ (t : Spelling). body t ++ x) (sym z.1) ∙ sym o.1) in
     record {
       frame = a_key w a m.content m.others;
@@ -116,7 +116,7 @@ starts_in (a_content w a k b) s x rest h l i e =
     (sym (append_assoc (head Map w n) (spell_entries a) (spell k ++ rest)) ∙ sym (append_assoc (head Map w n ++ spell_entries a) (spell k) rest) ∙ sym e ∙ ap (λ (y : List ℕ). y ++ x) (parts s) ∙ append_assoc (head_of s) (body s) x) in
     let z = as_map s w n o.0 in
     let here : AreEntriesSpelled z.0 = (subst IsSpelled z.1 i).1 in
-    let m = entries_start a z.0 (break_of w ++ x) (spell k ++ rest) (entries_count b) h.1 here (sym (told_is w n (entries_count z.0) l z.2))
+    let m = entries_start a z.0 (break_of w ++ x) (spell k ++ rest) (entries_count b) h.1 here (sym (reported_is w n (entries_count z.0) l z.2))
     (sym (append_assoc (spell_entries z.0) (break_of w) x) ∙ ap (λ (t : Spelling). body t ++ x) (sym z.1) ∙ sym o.1) in
     let u = unique m.key k m.spelled.0 h.2 (spell m.content ++ (spell_entries m.others ++ (break_of w ++ x))) rest m.bytes_are in
     record {

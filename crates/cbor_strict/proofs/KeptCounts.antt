@@ -1,10 +1,10 @@
--- How many maps are open, and how many bytes of keys are kept, is what each item that starts with the bytes read tells of them.
+-- How many maps are open, and how many bytes of keys are kept, is what each item that starts with the bytes read reports of them.
 use Rattle.std.proofs.Common.{◌≡◌, ℕ, ◌+◌, ◌-◌, ◌<◌, ◌≤◌, List, [], ◌∷◌, ◌++◌, length, refl, sym, ap, ◌∙◌, subst, arith, append_assoc, le-ltb, length-append}
 use Rattle.cbor_head.specs.Prelude.{head, Spelling, Spellings, array, a_map, tag, no_spellings, a_spelling, spell, spell_all, spellings_count, entries_count, break_of, IsSpelled}
 use Rattle.cbor_head.specs.declared.major.Major.TheVariants.{Array, Map, Tag}
 use Rattle.cbor_automaton.proofs.Opens.{over-none}
-use Rattle.cbor_judging.specs.Frame.{Frame, before, behind, IsFrame}
-use Rattle.cbor_judging.specs.OpenMaps.{before_all}
+use Rattle.cbor_verdict.specs.Frame.{Frame, before, behind, IsFrame}
+use Rattle.cbor_verdict.specs.OpenMaps.{before_all}
 use Rattle.cbor_strict.specs.KeptKeys.{open_maps, open_maps_in, key_bytes, key_bytes_in}
 use Rattle.cbor_strict.proofs.FrameCounts.{around, keys_size, map_count, members_size, one_map, plug_counted, plug_size}
 use Rattle.cbor_strict.{specs.inner.LastKeys.HasLength, proofs.FrameStarts.starts_in}

@@ -3,11 +3,11 @@ use Rattle.std.proofs.Common.{◌≡◌, ◌≢◌, ℕ, suc, ◌+◌, ◌<◌, 
 use Rattle.std.proofs.{lemmas.Bool.cases_Bool, lemmas.List.same_from_push, Math.Seq.take-append_seam}
 use Rattle.cbor_head.specs.Prelude.{head, Spelling, no_spellings, no_entries, spell, spell_entries, entries_count}
 use Rattle.cbor_head.specs.declared.major.Major.TheVariants.{Map}
-use Rattle.cbor_judging.specs.Frame.{Frame, a_member, a_key, a_content, tagged, plug, before, behind}
-use Rattle.cbor_judging.proofs.{Members.closes, Frames.spell_plug}
-use Rattle.cbor_strict.specs.inner.LastKeys.{AreDefinite, still_open, ended_item, KeysView, is_key, stands_in_key, keys_around, due_of, levels_of, complete_key, kept_bytes, kept_before, spans_in, spans_of, IsKept, IsFull}
+use Rattle.cbor_verdict.specs.Frame.{Frame, a_member, a_key, a_content, tagged, plug, before, behind}
+use Rattle.cbor_verdict.proofs.{Members.closes, Frames.spell_plug}
+use Rattle.cbor_strict.specs.inner.LastKeys.{AreDefinite, still_open, ended_item, KeysView, is_key, stands_in_key, keys_around, expected_of, levels_of, complete_key, kept_bytes, kept_before, spans_in, spans_of, IsKept, IsFull}
 use Rattle.cbor_strict.proofs.KeptKeys.{in_some_key, in_no_key, few_keys, kept_if_in, kept_if_out, kept_out, no_map}
-use Rattle.cbor_strict.specs.declared.last_keys.{Due.Due, Due.TheVariants.Member, Span.Span}
+use Rattle.cbor_strict.specs.declared.last_keys.{Expected.Expected, Expected.TheVariants.Member, KeySpan.KeySpan}
 
 -- ---- one closes
 
@@ -39,21 +39,21 @@ closed_out f fs s h i = kept_if_out f fs (spell s) i ∙ ap (λ (b : Bool). kept
 
 -- what is put at the end of the lists for it
 module _ (k : KeysView) (f : Frame) (fs : List Frame) (p : List ℕ) (h : IsKept k (f ∷ fs) p) where
-  pub top_level : (ls : List Due) (l : Due) → k.levels ≡ ls ++ l ∷ [] → (ls ≡ levels_of fs) × (l ≡ due_of f)
-  top_level ls l e = same_from_push ls (levels_of fs) l (due_of f) (sym e ∙ h.levels)
+  pub top_level : (ls : List Expected) (l : Expected) → k.levels ≡ ls ++ l ∷ [] → (ls ≡ levels_of fs) × (l ≡ expected_of f)
+  top_level ls l e = same_from_push ls (levels_of fs) l (expected_of f) (sym e ∙ h.levels)
 
-  pub top_span : (ss : List Span) (s t : Span) → k.spans ≡ ss ++ s ∷ [] → spans_in f fs ≡ t ∷ [] → (ss ≡ spans_of fs) × (s ≡ t)
-  top_span ss s t e g = same_from_push ss (spans_of fs) s t (sym e ∙ h.spans ∙ ap (λ (x : List Span). spans_of fs ++ x) g)
+  pub top_span : (ss : List KeySpan) (s t : KeySpan) → k.spans ≡ ss ++ s ∷ [] → spans_in f fs ≡ t ∷ [] → (ss ≡ spans_of fs) × (s ≡ t)
+  top_span ss s t e g = same_from_push ss (spans_of fs) s t (sym e ∙ h.spans ∙ ap (λ (x : List KeySpan). spans_of fs ++ x) g)
 
 -- it closes
-pub closes_other : (k : KeysView) (f : Frame) (fs : List Frame) (s : Spelling) (ls : List Due) (l : Due) → IsFull f → IsKept k (f ∷ fs) (spell s) → k.levels ≡ ls ++ l ∷ [] → l ≡ Member
+pub closes_other : (k : KeysView) (f : Frame) (fs : List Frame) (s : Spelling) (ls : List Expected) (l : Expected) → IsFull f → IsKept k (f ∷ fs) (spell s) → k.levels ≡ ls ++ l ∷ [] → l ≡ Member
     → IsKept (record k { levels = ls }) fs (spell (plug f s))
 closes_other k f fs s ls l full h e d =
     let top = top_level k f fs (spell s) h ls l e in
     let none = no_map f fs (sym top.1 ∙ d) in
     record {
       levels = top.0;
-      spans = h.spans ∙ ap (λ (x : List Span). spans_of fs ++ x) none.2 ∙ append-nil (spans_of fs);
+      spans = h.spans ∙ ap (λ (x : List KeySpan). spans_of fs ++ x) none.2 ∙ append-nil (spans_of fs);
       bytes = h.bytes ∙ elim (cases_Bool (stands_in_key fs)) [
         | inl i ↦ closed_in f fs s full i
         | inr i ↦ closed_out f fs s full i ∙ ap (λ (x : List ℕ). kept_bytes fs [] ++ (x ++ [])) none.0 ∙ append-nil (kept_bytes fs []) ∙ kept_out fs [] (spell (plug f s)) i
@@ -62,19 +62,19 @@ closes_other k f fs s ls l full h e d =
     }
 
 -- a map, and where its last key is kept
-full_map : (f : Frame) (fs : List Frame) → IsFull f → due_of f ≢ Member → (sp : Span) × (spans_in f fs ≡ sp ∷ []) × (stands_in_key fs ≡ false → sp.from ≡ kept_before fs)
+full_map : (f : Frame) (fs : List Frame) → IsFull f → expected_of f ≢ Member → (sp : KeySpan) × (spans_in f fs ≡ sp ∷ []) × (stands_in_key fs ≡ false → sp.from ≡ kept_before fs)
 full_map (a_content w a k no_entries) fs full d =
     (_, refl, λ i. ap (λ (b : Bool). kept_before fs + (if b then length (head Map w (entries_count a + 1) ++ spell_entries a) else 0)) i ∙ omega arith)
 full_map (a_member w a b) fs full d = absurd (d refl)
 full_map (tagged w n) fs full d = absurd (d refl)
 full_map _ fs full d = absurd full
 
-module _ (k : KeysView) (f : Frame) (fs : List Frame) (s : Spelling) (ls : List Due) (l : Due) (ss : List Span) (sp : Span) (full : IsFull f) (h : IsKept k (f ∷ fs) (spell s)) (e : k.levels ≡ ls ++ l ∷ [])
+module _ (k : KeysView) (f : Frame) (fs : List Frame) (s : Spelling) (ls : List Expected) (l : Expected) (ss : List KeySpan) (sp : KeySpan) (full : IsFull f) (h : IsKept k (f ∷ fs) (spell s)) (e : k.levels ≡ ls ++ l ∷ [])
     (g : k.spans ≡ ss ++ sp ∷ []) (d : l ≢ Member) where
-  top : (ls ≡ levels_of fs) × (l ≡ due_of f)
+  top : (ls ≡ levels_of fs) × (l ≡ expected_of f)
   top = top_level k f fs (spell s) h ls l e
 
-  place : (t : Span) × (spans_in f fs ≡ t ∷ []) × (stands_in_key fs ≡ false → t.from ≡ kept_before fs)
+  place : (t : KeySpan) × (spans_in f fs ≡ t ∷ []) × (stands_in_key fs ≡ false → t.from ≡ kept_before fs)
   place = full_map f fs full (λ x. d (top.1 ∙ x))
 
   last : (ss ≡ spans_of fs) × (sp ≡ place.0)
@@ -89,7 +89,7 @@ module _ (k : KeysView) (f : Frame) (fs : List Frame) (s : Spelling) (ls : List 
   pub closes_map_out : k.open_keys ≡ 0 → IsKept (record k { levels = ls; spans = ss; bytes = take sp.from k.bytes }) fs (spell (plug f s))
   closes_map_out outside =
       let i : stands_in_key fs ≡ false = in_no_key fs (sym around ∙ outside) in
-      let from : sp.from ≡ kept_before fs = ap (λ (x : Span). x.from) last.1 ∙ place.2 i in
+      let from : sp.from ≡ kept_before fs = ap (λ (x : KeySpan). x.from) last.1 ∙ place.2 i in
       record {
         levels = top.0;
         spans = last.0;
@@ -113,7 +113,7 @@ none_shut k fs s h d = record { gs = fs; item = s; kept = h; definite = d; same 
 
 levels_length : (fs : List Frame) → length (levels_of fs) ≡ length fs
 levels_length [] = refl
-levels_length (f ∷ fs) = omega (arith, levels_length fs, length-append (levels_of fs) (due_of f ∷ []))
+levels_length (f ∷ fs) = omega (arith, levels_length fs, length-append (levels_of fs) (expected_of f ∷ []))
 
 pub kept_levels : (k : KeysView) (fs : List Frame) (p : List ℕ) → IsKept k fs p → length k.levels ≡ length fs
 kept_levels k fs p h = ap length h.levels ∙ levels_length fs

@@ -3,9 +3,9 @@ use Rattle.std.proofs.Common.{◌≡◌, ℕ, zero, suc, ◌+◌, ◌<◌, ◌�
 use Rattle.std.proofs.lemmas.Bool.{cases_Bool}
 use Rattle.cbor_head.specs.Prelude.{head, Spelling, SpelledEntries, no_entries, entries_count}
 use Rattle.cbor_head.specs.declared.{major.Major.TheVariants.Map, width.Width.Width}
-use Rattle.cbor_judging.specs.Frame.{Frame, a_member, a_key, tagged, before}
-use Rattle.cbor_strict.specs.inner.LastKeys.{KeysView, is_key, stands_in_key, keys_around, due_of, levels_of, complete_key, kept_bytes, kept_before, span, spans_in, spans_of, IsKept}
-use Rattle.cbor_strict.specs.declared.last_keys.{Due.Due, Due.TheVariants.Member, Due.TheVariants.Key, Span.Span}
+use Rattle.cbor_verdict.specs.Frame.{Frame, a_member, a_key, tagged, before}
+use Rattle.cbor_strict.specs.inner.LastKeys.{KeysView, is_key, stands_in_key, keys_around, expected_of, levels_of, complete_key, kept_bytes, kept_before, span, spans_in, spans_of, IsKept}
+use Rattle.cbor_strict.specs.declared.last_keys.{Expected.Expected, Expected.TheVariants.Member, Expected.TheVariants.Key, KeySpan.KeySpan}
 
 -- ---- in a key, or not
 
@@ -91,7 +91,7 @@ module _ {T E : Type 0} where
 -- ---- a container opens
 
 -- one that is no map, and keeps none
-pub no_map : (f : Frame) (fs : List Frame) → due_of f ≡ Member → (complete_key f ≡ []) × (is_key f ≡ false) × (spans_in f fs ≡ [])
+pub no_map : (f : Frame) (fs : List Frame) → expected_of f ≡ Member → (complete_key f ≡ []) × (is_key f ≡ false) × (spans_in f fs ≡ [])
 no_map (a_member w a b) fs d = (refl, refl, refl)
 no_map (tagged w n) fs d = (refl, refl, refl)
 no_map _ fs d = absurd (cc d)
@@ -102,13 +102,13 @@ opened_bytes f fs p none e = elim (cases_Bool (stands_in_key fs)) [
   | inr i ↦ kept_out fs p [] i ∙ sym (append-nil (kept_bytes fs [])) ∙ ap (λ (x : List ℕ). kept_bytes fs [] ++ x) (sym none) ∙ sym (kept_if_out f fs [] i)
 ]
 
-pub opens_other : (k : KeysView) (f : Frame) (fs : List Frame) (p : List ℕ) → due_of f ≡ Member → IsKept k fs p → before f ≡ p
+pub opens_other : (k : KeysView) (f : Frame) (fs : List Frame) (p : List ℕ) → expected_of f ≡ Member → IsKept k fs p → before f ≡ p
     → IsKept (record k { levels = k.levels ++ Member ∷ [] }) (f ∷ fs) []
 opens_other k f fs p d h e =
     let none = no_map f fs d in
     record {
-      levels = ap (λ (ls : List Due). ls ++ Member ∷ []) h.levels ∙ ap (λ (x : Due). levels_of fs ++ x ∷ []) (sym d);
-      spans = h.spans ∙ sym (append-nil (spans_of fs)) ∙ ap (λ (x : List Span). spans_of fs ++ x) (sym none.2);
+      levels = ap (λ (ls : List Expected). ls ++ Member ∷ []) h.levels ∙ ap (λ (x : Expected). levels_of fs ++ x ∷ []) (sym d);
+      spans = h.spans ∙ sym (append-nil (spans_of fs)) ∙ ap (λ (x : List KeySpan). spans_of fs ++ x) (sym none.2);
       bytes = h.bytes ∙ opened_bytes f fs p (rw (none.0, none.1) refl) e;
       open_keys = h.open_keys ∙ ap (λ (b : Bool). if b then suc (keys_around fs) else keys_around fs) (sym none.1);
     }
@@ -120,8 +120,8 @@ span_is a b c x y z e f g = ap (λ (n : ℕ). span n b c) e ∙ ap (λ (n : ℕ)
 pub opens_map : (k : KeysView) (w : Width) (v : Spelling) (b : SpelledEntries) (fs : List Frame) (p : List ℕ) (here : ℕ) → IsKept k fs p → before (a_key w no_entries v b) ≡ p → here ≡ length k.bytes
     → IsKept (record { levels = k.levels ++ Key ∷ []; spans = k.spans ++ span here here here ∷ []; bytes = k.bytes; open_keys = k.open_keys + 1 }) (a_key w no_entries v b ∷ fs) []
 opens_map k w v b fs p here h e g = record {
-  levels = ap (λ (ls : List Due). ls ++ Key ∷ []) h.levels;
-  spans = ap (λ (ss : List Span). ss ++ span here here here ∷ []) h.spans ∙ ap (λ (s : Span). spans_of fs ++ s ∷ []) place;
+  levels = ap (λ (ls : List Expected). ls ++ Key ∷ []) h.levels;
+  spans = ap (λ (ss : List KeySpan). ss ++ span here here here ∷ []) h.spans ∙ ap (λ (s : KeySpan). spans_of fs ++ s ∷ []) place;
   bytes = h.bytes ∙ opened_bytes (a_key w no_entries v b) fs p refl e;
   open_keys = omega (arith, h.open_keys);
 }

@@ -4,11 +4,11 @@ use Rattle.std.proofs.Math.Seq.{take-append_seam, drop-append_seam, set-append_s
 use Rattle.std.proofs.lemmas.{Bool.cases_Bool, List.get_or_push}
 use Rattle.cbor_head.specs.Prelude.{head, Spelling, SpelledEntries, no_entries, entry, spell, spell_entries, entries_count}
 use Rattle.cbor_head.specs.declared.{major.Major.TheVariants.Map, width.Width.Width}
-use Rattle.cbor_judging.specs.Frame.{Frame, a_key, a_content, with_entries, before}
-use Rattle.cbor_judging.{specs.LastKey.last_key, proofs.OpenSteps.content_before, proofs.OpenSteps.pair_count, proofs.LastKey.last_key_with}
+use Rattle.cbor_verdict.specs.Frame.{Frame, a_key, a_content, with_entries, before}
+use Rattle.cbor_verdict.{specs.LastKey.last_key, proofs.OpenSteps.content_before, proofs.OpenSteps.pair_count, proofs.LastKey.last_key_with}
 use Rattle.cbor_strict.specs.inner.LastKeys.{KeysView, stands_in_key, keys_around, levels_of, before_last, kept_bytes, kept_before, span, spans_of, with_last, with_key, IsKept, HasKeyEnded}
 use Rattle.cbor_strict.proofs.KeptKeys.{in_some_key, in_no_key, kept_if_in, kept_if_out, kept_in_key, kept_size, span_is}
-use Rattle.cbor_strict.specs.declared.last_keys.{Due.TheVariants.Key, Due.TheVariants.Content, Span.Span}
+use Rattle.cbor_strict.specs.declared.last_keys.{Expected.TheVariants.Key, Expected.TheVariants.Content, KeySpan.KeySpan}
 
 -- ---- keys
 
@@ -19,48 +19,48 @@ before_last_with (entry l m (entry n o es)) k v = omega (arith, before_last_with
 
 -- where the last key stands among the pairs
 pub record LastPlace (a : SpelledEntries) : Type 0 where
-  pub front : List ℕ
+  pub prefix : List ℕ
   pub rest : List ℕ
-  pub splits : spell_entries a ≡ front ++ (last_key a ++ rest)
-  pub size : length front ≡ before_last a
+  pub splits : spell_entries a ≡ prefix ++ (last_key a ++ rest)
+  pub size : length prefix ≡ before_last a
 
 pub last_place : (a : SpelledEntries) → LastPlace a
-last_place no_entries = record { front = []; rest = []; splits = refl; size = refl }
-last_place (entry k v no_entries) = record { front = []; rest = spell v ++ []; splits = append_assoc (spell k) (spell v) []; size = refl }
+last_place no_entries = record { prefix = []; rest = []; splits = refl; size = refl }
+last_place (entry k v no_entries) = record { prefix = []; rest = spell v ++ []; splits = append_assoc (spell k) (spell v) []; size = refl }
 last_place (entry k v (entry l w es)) =
     let p = last_place (entry l w es) in
     record {
-      front = (spell k ++ spell v) ++ p.front;
+      prefix = (spell k ++ spell v) ++ p.prefix;
       rest = p.rest;
-      splits = ap (λ (x : List ℕ). (spell k ++ spell v) ++ x) p.splits ∙ sym (append_assoc (spell k ++ spell v) p.front (last_key (entry l w es) ++ p.rest));
-      size = omega (arith, length-append (spell k ++ spell v) p.front, p.size);
+      splits = ap (λ (x : List ℕ). (spell k ++ spell v) ++ x) p.splits ∙ sym (append_assoc (spell k ++ spell v) p.prefix (last_key (entry l w es) ++ p.rest));
+      size = omega (arith, length-append (spell k ++ spell v) p.prefix, p.size);
     }
 
 -- where the last key and the one that ended stand in the buffer
-record KeyPlaces (bytes last key : List ℕ) (sp : Span) : Type 0 where
-  pub front : List ℕ
+record KeyPlaces (bytes last key : List ℕ) (sp : KeySpan) : Type 0 where
+  pub prefix : List ℕ
   pub between : List ℕ
-  pub splits : bytes ≡ front ++ (last ++ (between ++ key))
-  pub from : sp.from ≡ length front
-  pub to : sp.to ≡ length front + length last
-  pub next : sp.next ≡ length front + length last + length between
+  pub splits : bytes ≡ prefix ++ (last ++ (between ++ key))
+  pub from : sp.from ≡ length prefix
+  pub to : sp.to ≡ length prefix + length last
+  pub next : sp.next ≡ length prefix + length last + length between
 
-compared_last : (bytes last key : List ℕ) (sp : Span) → KeyPlaces bytes last key sp → take (sp.to - sp.from) (drop sp.from bytes) ≡ last
+compared_last : (bytes last key : List ℕ) (sp : KeySpan) → KeyPlaces bytes last key sp → take (sp.to - sp.from) (drop sp.from bytes) ≡ last
 compared_last bytes last key sp p =
     let size : sp.to - sp.from ≡ length last = omega (arith, p.to, p.from) in
-    ap (λ (n : ℕ). take n (drop sp.from bytes)) size ∙ ap (λ (n : ℕ). take (length last) (drop n bytes)) p.from ∙ ap (λ (y : List ℕ). take (length last) (drop (length p.front) y)) p.splits
-    ∙ ap (take (length last)) (drop-append_seam p.front (last ++ (p.between ++ key))) ∙ take-append_seam last (p.between ++ key)
+    ap (λ (n : ℕ). take n (drop sp.from bytes)) size ∙ ap (λ (n : ℕ). take (length last) (drop n bytes)) p.from ∙ ap (λ (y : List ℕ). take (length last) (drop (length p.prefix) y)) p.splits
+    ∙ ap (take (length last)) (drop-append_seam p.prefix (last ++ (p.between ++ key))) ∙ take-append_seam last (p.between ++ key)
 
-compared_key : (bytes last key : List ℕ) (sp : Span) → KeyPlaces bytes last key sp → drop sp.next bytes ≡ key
+compared_key : (bytes last key : List ℕ) (sp : KeySpan) → KeyPlaces bytes last key sp → drop sp.next bytes ≡ key
 compared_key bytes last key sp p =
-    let all : bytes ≡ ((p.front ++ last) ++ p.between) ++ key =
-    p.splits ∙ sym (append_assoc p.front last (p.between ++ key)) ∙ sym (append_assoc (p.front ++ last) p.between key) in
-    let size : sp.next ≡ length ((p.front ++ last) ++ p.between) = omega (arith, p.next, length-append (p.front ++ last) p.between, length-append p.front last) in
-    ap (λ (n : ℕ). drop n bytes) size ∙ ap (drop (length ((p.front ++ last) ++ p.between))) all ∙ drop-append_seam ((p.front ++ last) ++ p.between) key
+    let all : bytes ≡ ((p.prefix ++ last) ++ p.between) ++ key =
+    p.splits ∙ sym (append_assoc p.prefix last (p.between ++ key)) ∙ sym (append_assoc (p.prefix ++ last) p.between key) in
+    let size : sp.next ≡ length ((p.prefix ++ last) ++ p.between) = omega (arith, p.next, length-append (p.prefix ++ last) p.between, length-append p.prefix last) in
+    ap (λ (n : ℕ). drop n bytes) size ∙ ap (drop (length ((p.prefix ++ last) ++ p.between))) all ∙ drop-append_seam ((p.prefix ++ last) ++ p.between) key
 
-places_bounds : (bytes last key : List ℕ) (sp : Span) → KeyPlaces bytes last key sp → (sp.from ≤ sp.to) × (sp.to ≤ sp.next) × (sp.next + length key ≡ length bytes)
+places_bounds : (bytes last key : List ℕ) (sp : KeySpan) → KeyPlaces bytes last key sp → (sp.from ≤ sp.to) × (sp.to ≤ sp.next) × (sp.next + length key ≡ length bytes)
 places_bounds bytes last key sp p =
-    let all = ap length p.splits ∙ length-append p.front (last ++ (p.between ++ key)) in
+    let all = ap length p.splits ∙ length-append p.prefix (last ++ (p.between ++ key)) in
     (omega (arith, p.from, p.to), omega (arith, p.to, p.next), omega (arith, p.next, all, length-append last (p.between ++ key), length-append p.between key))
 
 -- the last of a list, and another in its place
@@ -75,7 +75,7 @@ module _ {A : Type 0} where
       let size : length xs - 1 ≡ length ys = omega (arith, ap length e, length-append ys (x ∷ [])) in
       ap (λ (n : ℕ). slice_set xs n y) size ∙ ap (λ (zs : List A). slice_set zs (length ys) y) e ∙ set-append_seam ys x [] y
 
-module _ (k : KeysView) (w : Width) (a : SpelledEntries) (v : Spelling) (b : SpelledEntries) (fs : List Frame) (s : Spelling) (sp : Span) (h : IsKept k (a_key w a v b ∷ fs) (spell s))
+module _ (k : KeysView) (w : Width) (a : SpelledEntries) (v : Spelling) (b : SpelledEntries) (fs : List Frame) (s : Spelling) (sp : KeySpan) (h : IsKept k (a_key w a v b ∷ fs) (spell s))
     (g : sp ≡ slice_index_or k.spans (length k.spans - 1) sp) where
   abbrev f : Frame
   f = a_key w a v b
@@ -83,7 +83,7 @@ module _ (k : KeysView) (w : Width) (a : SpelledEntries) (v : Spelling) (b : Spe
   abbrev hd : List ℕ
   hd = head Map w (entries_count a + suc (entries_count b))
 
-  abbrev sp_of : Bool → Span
+  abbrev sp_of : Bool → KeySpan
   sp_of i =
       span (kept_before fs + (if i then length hd + before_last a else 0)) (kept_before fs + (if i then length hd + before_last a else 0) + length (last_key a))
       (kept_before fs + (if i then length (hd ++ spell_entries a) else length (last_key a)))
@@ -96,30 +96,30 @@ module _ (k : KeysView) (w : Width) (a : SpelledEntries) (v : Spelling) (b : Spe
       let q = last_place a in
       let x = kept_bytes fs [] in
       let is : sp ≡ sp_of true = span_so ∙ ap sp_of i in
-      let all : hd ++ spell_entries a ≡ (hd ++ q.front) ++ (last_key a ++ q.rest) = ap (λ (y : List ℕ). hd ++ y) q.splits ∙ sym (append_assoc hd q.front (last_key a ++ q.rest)) in
-      let size = ap length all ∙ length-append (hd ++ q.front) (last_key a ++ q.rest) in
-      let front : length (x ++ (hd ++ q.front)) ≡ kept_before fs + (length hd + before_last a) = omega (arith, length-append x (hd ++ q.front), length-append hd q.front, q.size) in
+      let all : hd ++ spell_entries a ≡ (hd ++ q.prefix) ++ (last_key a ++ q.rest) = ap (λ (y : List ℕ). hd ++ y) q.splits ∙ sym (append_assoc hd q.prefix (last_key a ++ q.rest)) in
+      let size = ap length all ∙ length-append (hd ++ q.prefix) (last_key a ++ q.rest) in
+      let prefix : length (x ++ (hd ++ q.prefix)) ≡ kept_before fs + (length hd + before_last a) = omega (arith, length-append x (hd ++ q.prefix), length-append hd q.prefix, q.size) in
       record {
-        front = x ++ (hd ++ q.front);
+        prefix = x ++ (hd ++ q.prefix);
         between = q.rest;
         splits = h.bytes ∙ kept_if_in f fs (spell s) i ∙ kept_in_key fs [] (before f ++ spell s) i ∙ ap (λ (y : List ℕ). x ++ (y ++ spell s)) all
-            ∙ ap (λ (y : List ℕ). x ++ y) (append_assoc (hd ++ q.front) (last_key a ++ q.rest) (spell s) ∙ ap (λ (y : List ℕ). (hd ++ q.front) ++ y) (append_assoc (last_key a) q.rest (spell s)))
-            ∙ sym (append_assoc x (hd ++ q.front) (last_key a ++ (q.rest ++ spell s)));
-        from = ap (λ (y : Span). y.from) is ∙ sym front;
-        to = ap (λ (y : Span). y.to) is ∙ ap (λ (n : ℕ). n + length (last_key a)) (sym front);
-        next = ap (λ (y : Span). y.next) is ∙ omega (arith, front, size, length-append (hd ++ q.front) (last_key a ++ q.rest), length-append hd q.front, length-append (last_key a) q.rest, q.size);
+            ∙ ap (λ (y : List ℕ). x ++ y) (append_assoc (hd ++ q.prefix) (last_key a ++ q.rest) (spell s) ∙ ap (λ (y : List ℕ). (hd ++ q.prefix) ++ y) (append_assoc (last_key a) q.rest (spell s)))
+            ∙ sym (append_assoc x (hd ++ q.prefix) (last_key a ++ (q.rest ++ spell s)));
+        from = ap (λ (y : KeySpan). y.from) is ∙ sym prefix;
+        to = ap (λ (y : KeySpan). y.to) is ∙ ap (λ (n : ℕ). n + length (last_key a)) (sym prefix);
+        next = ap (λ (y : KeySpan). y.next) is ∙ omega (arith, prefix, size, length-append (hd ++ q.prefix) (last_key a ++ q.rest), length-append hd q.prefix, length-append (last_key a) q.rest, q.size);
       }
 
   places_out : stands_in_key fs ≡ false → KeyPlaces k.bytes (last_key a) (spell s) sp
   places_out i =
       let is : sp ≡ sp_of false = span_so ∙ ap sp_of i in
       record {
-        front = kept_bytes fs [];
+        prefix = kept_bytes fs [];
         between = [];
         splits = h.bytes ∙ kept_if_out f fs (spell s) i;
-        from = ap (λ (y : Span). y.from) is ∙ omega arith;
-        to = ap (λ (y : Span). y.to) is ∙ omega arith;
-        next = ap (λ (y : Span). y.next) is ∙ omega arith;
+        from = ap (λ (y : KeySpan). y.from) is ∙ omega arith;
+        to = ap (λ (y : KeySpan). y.to) is ∙ omega arith;
+        next = ap (λ (y : KeySpan). y.next) is ∙ omega arith;
       }
 
   key_places : KeyPlaces k.bytes (last_key a) (spell s) sp
@@ -133,14 +133,14 @@ module _ (k : KeysView) (w : Width) (a : SpelledEntries) (v : Spelling) (b : Spe
   key_compared = (compared_last k.bytes (last_key a) (spell s) sp key_places, compared_key k.bytes (last_key a) (spell s) sp key_places)
 
   -- the key takes its place
-  abbrev of_content : Bool → Span
+  abbrev of_content : Bool → KeySpan
   of_content q =
       let from = kept_before fs + (if q then length (hd ++ spell_entries a) else 0) in
       span from (from + length (spell s)) (from + length (spell s))
 
   spans_put : (q : Bool) (from to : ℕ) → stands_in_key fs ≡ q → span from to to ≡ of_content q → slice_set k.spans (length k.spans - 1) (span from to to) ≡ spans_of fs ++ of_content (stands_in_key fs) ∷ []
   spans_put q from to i is =
-      put_last k.spans (spans_of fs) (sp_of (stands_in_key fs)) (span from to to) h.spans ∙ ap (λ (x : Span). spans_of fs ++ x ∷ []) (is ∙ ap of_content (sym i))
+      put_last k.spans (spans_of fs) (sp_of (stands_in_key fs)) (span from to to) h.spans ∙ ap (λ (x : KeySpan). spans_of fs ++ x ∷ []) (is ∙ ap of_content (sym i))
 
   levels_put : slice_set k.levels (length k.levels - 1) Content ≡ levels_of fs ++ Content ∷ []
   levels_put = put_last k.levels (levels_of fs) Key Content h.levels
@@ -149,7 +149,7 @@ module _ (k : KeysView) (w : Width) (a : SpelledEntries) (v : Spelling) (b : Spe
   key_put_in keys less inside =
       let so : keys ≡ keys_around fs = omega (arith, less, h.open_keys) in
       let i : stands_in_key fs ≡ true = in_some_key fs (omega (arith, so, inside)) in
-      let from : sp.next ≡ kept_before fs + length (hd ++ spell_entries a) = ap (λ (y : Span). y.next) (span_so ∙ ap sp_of i) in
+      let from : sp.next ≡ kept_before fs + length (hd ++ spell_entries a) = ap (λ (y : KeySpan). y.next) (span_so ∙ ap sp_of i) in
       let to : length k.bytes ≡ kept_before fs + length (hd ++ spell_entries a) + length (spell s) = omega (arith, key_bounds.2, from) in
       record {
         levels = levels_put;
@@ -165,9 +165,9 @@ module _ (k : KeysView) (w : Width) (a : SpelledEntries) (v : Spelling) (b : Spe
       let i : stands_in_key fs ≡ false = in_no_key fs (sym so ∙ outside) in
       let is : sp ≡ sp_of false = span_so ∙ ap sp_of i in
       let x = kept_bytes fs [] in
-      let from : sp.from ≡ kept_before fs + 0 = ap (λ (y : Span). y.from) is in
+      let from : sp.from ≡ kept_before fs + 0 = ap (λ (y : KeySpan). y.from) is in
       let start : sp.from ≡ length x = omega (arith, from) in
-      let there : sp.next ≡ length (x ++ last_key a) = ap (λ (y : Span). y.next) is ∙ sym (length-append x (last_key a)) in
+      let there : sp.next ≡ length (x ++ last_key a) = ap (λ (y : KeySpan). y.next) is ∙ sym (length-append x (last_key a)) in
       let all : k.bytes ≡ x ++ (last_key a ++ spell s) = h.bytes ∙ kept_if_out f fs (spell s) i in
       let kept : bytes ≡ x ++ spell s =
       made ∙ ap (λ (n : ℕ). take n k.bytes ++ drop sp.next k.bytes) start ∙ ap (λ (n : ℕ). take (length x) k.bytes ++ drop n k.bytes) there
@@ -181,14 +181,14 @@ module _ (k : KeysView) (w : Width) (a : SpelledEntries) (v : Spelling) (b : Spe
         open_keys = so;
       }
 
-pub ended_bounds : (k : KeysView) (r : HasKeyEnded k) (sp : Span) → sp ≡ slice_index_or k.spans (length k.spans - 1) sp → (sp.from ≤ sp.to) × (sp.to ≤ sp.next) × (sp.next ≤ length k.bytes)
+pub ended_bounds : (k : KeysView) (r : HasKeyEnded k) (sp : KeySpan) → sp ≡ slice_index_or k.spans (length k.spans - 1) sp → (sp.from ≤ sp.to) × (sp.to ≤ sp.next) × (sp.next ≤ length k.bytes)
 ended_bounds k r sp g =
     let q = key_bounds k r.w r.a r.v r.b r.fs r.s sp r.kept g in
     (q.0, q.1, omega (arith, q.2))
 
 -- ---- values
 
-module _ (k : KeysView) (w : Width) (a : SpelledEntries) (key s n m : Spelling) (b : SpelledEntries) (fs : List Frame) (sp : Span) (h : IsKept k (a_content w a key (entry n m b) ∷ fs) (spell s))
+module _ (k : KeysView) (w : Width) (a : SpelledEntries) (key s n m : Spelling) (b : SpelledEntries) (fs : List Frame) (sp : KeySpan) (h : IsKept k (a_content w a key (entry n m b) ∷ fs) (spell s))
     (g : sp ≡ slice_index_or k.spans (length k.spans - 1) sp) where
   abbrev more : SpelledEntries
   more = with_entries a (entry key s no_entries)
@@ -205,12 +205,12 @@ module _ (k : KeysView) (w : Width) (a : SpelledEntries) (key s n m : Spelling) 
   abbrev new_head : List ℕ
   new_head = head Map w (entries_count more + suc (entries_count b))
 
-  abbrev old_span : Bool → Span
+  abbrev old_span : Bool → KeySpan
   old_span q =
       let from = kept_before fs + (if q then length (old_head ++ spell_entries a) else 0) in
       span from (from + length (spell key)) (from + length (spell key))
 
-  abbrev new_span : Bool → Span
+  abbrev new_span : Bool → KeySpan
   new_span q =
       let from = kept_before fs + (if q then length new_head + before_last more else 0) in
       span from (from + length (last_key more)) (kept_before fs + (if q then length (before new_frame) else length (last_key more)))
@@ -228,9 +228,9 @@ module _ (k : KeysView) (w : Width) (a : SpelledEntries) (key s n m : Spelling) 
   span_in i =
       let is : sp ≡ old_span true = old_span_so ∙ ap old_span i in
       let heads : length new_head ≡ length old_head = ap (λ (j : ℕ). length (head Map w j)) (pair_count a key s (entries_count b)) in
-      let from : sp.from ≡ kept_before fs + (length new_head + before_last more) = ap (λ (y : Span). y.from) is ∙ omega (arith, length-append old_head (spell_entries a), heads, before_last_with a key s) in
+      let from : sp.from ≡ kept_before fs + (length new_head + before_last more) = ap (λ (y : KeySpan). y.from) is ∙ omega (arith, length-append old_head (spell_entries a), heads, before_last_with a key s) in
       let all : length k.bytes ≡ kept_before fs + length (before new_frame) = ap length (h.bytes ∙ kept_if_in old_frame fs (spell s) i ∙ ap (kept_bytes fs) (sym bytes_so)) ∙ kept_size fs (before new_frame) i in
-      span_is sp.from sp.to (length k.bytes) _ _ _ from (omega (arith, ap (λ (y : Span). y.to) is, ap (λ (y : Span). y.from) is, from, ap length last_so)) all
+      span_is sp.from sp.to (length k.bytes) _ _ _ from (omega (arith, ap (λ (y : KeySpan). y.to) is, ap (λ (y : KeySpan). y.from) is, from, ap length last_so)) all
 
   span_out : stands_in_key fs ≡ false → span sp.from sp.to (length k.bytes) ≡ new_span false
   span_out i =
@@ -238,7 +238,7 @@ module _ (k : KeysView) (w : Width) (a : SpelledEntries) (key s n m : Spelling) 
       let x = kept_bytes fs [] in
       let all : length k.bytes ≡ kept_before fs + length (last_key more) =
       ap length (h.bytes ∙ kept_if_out old_frame fs (spell s) i) ∙ length-append x (spell key ++ []) ∙ ap (λ (y : List ℕ). length x + length y) (append-nil (spell key) ∙ sym last_so) in
-      span_is sp.from sp.to (length k.bytes) _ _ _ (ap (λ (y : Span). y.from) is) (ap (λ (y : Span). y.to) is ∙ ap (λ (y : List ℕ). kept_before fs + 0 + length y) (sym last_so)) all
+      span_is sp.from sp.to (length k.bytes) _ _ _ (ap (λ (y : KeySpan). y.from) is) (ap (λ (y : KeySpan). y.to) is ∙ ap (λ (y : List ℕ). kept_before fs + 0 + length y) (sym last_so)) all
 
   span_put : span sp.from sp.to (length k.bytes) ≡ new_span (stands_in_key fs)
   span_put = elim (cases_Bool (stands_in_key fs)) [ inl i ↦ span_in i ∙ ap new_span (sym i) | inr i ↦ span_out i ∙ ap new_span (sym i) ]
@@ -249,12 +249,12 @@ module _ (k : KeysView) (w : Width) (a : SpelledEntries) (key s n m : Spelling) 
     | inr i ↦ kept_if_out old_frame fs (spell s) i ∙ ap (λ (y : List ℕ). kept_bytes fs [] ++ (y ++ [])) (sym last_so) ∙ sym (kept_if_out new_frame fs [] i)
   ]
 
-  -- another key is due
+  -- another key is expected
   pub content_ends : (new : KeysView) (here : ℕ) → here ≡ length k.bytes → new ≡ with_last k Key (span sp.from sp.to here) → IsKept (record new { open_keys = new.open_keys + 1 }) (new_frame ∷ fs) []
   content_ends new here at is = record {
     levels = ap (λ (x : KeysView). x.levels) is ∙ put_last k.levels (levels_of fs) Content Key h.levels;
     spans = ap (λ (x : KeysView). x.spans) is ∙ put_last k.spans (spans_of fs) (old_span (stands_in_key fs)) (span sp.from sp.to here) h.spans
-        ∙ ap (λ (x : Span). spans_of fs ++ x ∷ []) (ap (span sp.from sp.to) at ∙ span_put);
+        ∙ ap (λ (x : KeySpan). spans_of fs ++ x ∷ []) (ap (span sp.from sp.to) at ∙ span_put);
     bytes = ap (λ (x : KeysView). x.bytes) is ∙ h.bytes ∙ bytes_put;
     open_keys = omega (arith, ap (λ (x : KeysView). x.open_keys) is, h.open_keys);
   }

@@ -4,15 +4,15 @@ use Rattle.std.proofs.lemmas.Bool.{lt-leb, cases_Bool}
 use Rattle.cbor_head.specs.Prelude.{head, Holds, Bounds, Spelling, Spellings, SpelledEntries, bytes, text, array, a_map, tag, no_spellings, a_spelling, no_entries, entry, spell, spell_entries, spellings_count, entries_count, IsSpelled, strict}
 use Rattle.cbor_head.specs.declared.major.Major.TheVariants.{Bytes, Text, Array, Map, Tag}
 use Rattle.cbor_head.specs.{Laws.StartsWith, declared.major.Major.Major, declared.order.KeyOrder.KeyOrder, declared.width.Width.Width}
-use Rattle.cbor_grammar.proofs.Parts.{major, width, count, head_of, body, parts, holds_of, one_head, as_bytes, as_text}
-use Rattle.cbor_grammar.proofs.ReadLaws.{unique, length_spell, length_head, holds_or_open}
-use Rattle.cbor_standing.specs.NextEvent.{ItemEventsView}
-use Rattle.cbor_judging.specs.Place.{Container, Place, at_item, payload, open_at}
-use Rattle.cbor_judging.specs.Frame.{Frame, a_member, a_key, a_content, tagged, before}
-use Rattle.cbor_judging.specs.OpenMaps.{before_all, ArePath, AreClosedClean}
-use Rattle.cbor_judging.{specs.LastKey.last_key, specs.Reading.IsAt, specs.Reading.string_major, proofs.Standing.open-is, proofs.OpenSteps.before_snoc}
+use Rattle.cbor_model.proofs.Parts.{major, width, count, head_of, body, parts, holds_of, one_head, as_bytes, as_text}
+use Rattle.cbor_model.proofs.ReadLaws.{unique, length_spell, length_head, holds_or_open}
+use Rattle.cbor_machine.specs.NextEvent.{ItemEventsView}
+use Rattle.cbor_verdict.specs.Place.{Container, Place, at_item, payload, open_at}
+use Rattle.cbor_verdict.specs.Frame.{Frame, a_member, a_key, a_content, tagged, before}
+use Rattle.cbor_verdict.specs.OpenMaps.{before_all, ArePath, AreClosedClean}
+use Rattle.cbor_verdict.{specs.LastKey.last_key, specs.Reading.IsAt, specs.Reading.string_major, proofs.ParseState.open-is, proofs.OpenSteps.before_snoc}
 use Rattle.cbor_strict.specs.KeptKeys.{open_maps, open_maps_in, key_bytes, key_bytes_in, key_bytes_in_entries}
-use Rattle.cbor_strict.specs.inner.LastKeys.{seen, from_outside, is_key, stands_in_key, complete_key, kept_bytes, spans_of, spans_in, IsKept}
+use Rattle.cbor_strict.specs.inner.LastKeys.{view_value, from_outside, is_key, stands_in_key, complete_key, kept_bytes, spans_of, spans_in, IsKept}
 use Rattle.cbor_strict.specs.inner.OpenItems.{frames_in, bytes_before, Stands}
 use Rattle.cbor_strict.proofs.KeptCounts.{Counts, AreAround, path_counts, past}
 use Rattle.cbor_strict.proofs.FrameCounts.{one_map, map_count, keys_size}
@@ -133,10 +133,10 @@ around_path o left (f ∷ gs) at h c = (h.0, has_length o at f c.0, around_path 
 -- ---- what is kept
 
 pub record IsCounted (v : OpenItems) (n : ℕ) (s : Spelling) : Type 0 where
-  pub spans : length (seen v.keys).spans ≡ open_maps n s
-  pub kept : length (seen v.keys).bytes ≡ key_bytes n s
+  pub spans : length (view_value v.keys).spans ≡ open_maps n s
+  pub kept : length (view_value v.keys).bytes ≡ key_bytes n s
 
-counted_by : (v : OpenItems) (fs : List Frame) (p t : List ℕ) (s : Spelling) → IsKept (seen v.keys) fs p → t ≡ bytes_before fs ++ p → Counts s (length (bytes_before fs ++ p)) (map_count (from_outside fs)) (keys_size (from_outside fs) (length p))
+counted_by : (v : OpenItems) (fs : List Frame) (p t : List ℕ) (s : Spelling) → IsKept (view_value v.keys) fs p → t ≡ bytes_before fs ++ p → Counts s (length (bytes_before fs ++ p)) (map_count (from_outside fs)) (keys_size (from_outside fs) (length p))
     → IsCounted v (length t) s
 counted_by v fs p t s k e c = record {
   spans = ap length k.spans ∙ spans_counted fs ∙ sym c.maps_are ∙ ap (λ (x : List ℕ). open_maps (length x) s) (sym e);
@@ -178,10 +178,10 @@ keys_within (f ∷ gs) n = either_within (is_key f) (keys_size gs n) (length (co
     either_within true y k m g h e = omega (arith, g, h, e)
     either_within false y k m g h e = omega (arith, g, h, e)
 
-little : (v : OpenItems) (b : Bounds) (e : ItemEventsView) (t : List ℕ) (fs : List Frame) (p : List ℕ) (q : Place) → IsKept (seen v.keys) fs p → t ≡ bytes_before fs ++ p → IsAt b e t q → length (open_at q) ≡ length (frames_in fs) → IsLittle v e
+little : (v : OpenItems) (b : Bounds) (e : ItemEventsView) (t : List ℕ) (fs : List Frame) (p : List ℕ) (q : Place) → IsKept (view_value v.keys) fs p → t ≡ bytes_before fs ++ p → IsAt b e t q → length (open_at q) ≡ length (frames_in fs) → IsLittle v e
 little v b e t fs p q k is at all = record {
-  levels = omega (arith, kept_levels (seen v.keys) fs p k, open-is b e t q at, all, frames_length fs);
-  spans = omega (arith, kept_spans (seen v.keys) fs p k, open-is b e t q at, all, frames_length fs);
+  levels = omega (arith, kept_levels (view_value v.keys) fs p k, open-is b e t q at, all, frames_length fs);
+  spans = omega (arith, kept_spans (view_value v.keys) fs p k, open-is b e t q at, all, frames_length fs);
   kept = omega (arith, ap length k.bytes, kept_counted fs p, keys_within (from_outside fs) (length p), at.stands.stands.taken, ap length is, length-append (bytes_before fs) p);
 }
 

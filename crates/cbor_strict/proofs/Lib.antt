@@ -1,8 +1,8 @@
 pub mod FrameCounts
 pub mod FrameStarts
 pub mod KeptCounts
-pub mod KeptKeys
 pub mod KeptEnds
+pub mod KeptKeys
 pub mod KeptPairs
 pub mod KeptReading
 pub mod OpenBegins

@@ -8,36 +8,36 @@ use Rattle.cbor_head.specs.declared.reason.Reason.TheVariants as reasons
 use Rattle.cbor_head.specs.declared.{major.Major.Major, order.KeyOrder.KeyOrder, width.Width.Width, width.Width.TheVariants.Indefinite}
 use Rattle.cbor_automaton.specs.declared.event.EventKind.TheVariants as kinds
 use Rattle.cbor_automaton.specs.{Trace.Mark, Trace.a_head, Marks.mark_of, declared.event.EventKind.EventKind}
-use Rattle.cbor_standing.specs.NextEvent.{ItemEventsView}
-use Rattle.cbor_judging.specs.Place.{Container, Place, at_item, counted, close, expect, payload, Ends}
-use Rattle.cbor_judging.specs.Frame.{Frame, a_member, a_key, tagged, before}
-use Rattle.cbor_judging.specs.Reading.{IsAt, OfMark, IsBegun, ReadsItem, ReadsPayload, string_kind, string_major}
-use Rattle.cbor_judging.proofs.Members.{starts-array, array-whole, starts-with, map-whole}
-use Rattle.cbor_judging.proofs.Items.{definite, proper-definite, never-open, is-definite, head-count}
-use Rattle.cbor_judging.proofs.Judged.{zero_item, zeros, zeros_count, zero_pairs, pairs_count}
-use Rattle.cbor_judging.proofs.OpenSteps.{distinct_snoc, array_opens, map_opens, tag_opens}
-use Rattle.cbor_judging.proofs.Scalars.{at-as, reads-unsigned, reads-negative, reads-simple}
-use Rattle.cbor_judging.{specs.Judged.IsJudged, specs.Judged.Never, specs.OpenMaps.AreOpen, specs.OpenMaps.AreOpenDistinct, proofs.Heads.open_or}
-use Rattle.cbor_judging.proofs.{OpenMaps.judged_within, WholeStrings.string-due, WholeStrings.reads-string}
+use Rattle.cbor_machine.specs.NextEvent.{ItemEventsView}
+use Rattle.cbor_verdict.specs.Place.{Container, Place, at_item, counted, close, expect, payload, Ends}
+use Rattle.cbor_verdict.specs.Frame.{Frame, a_member, a_key, tagged, before}
+use Rattle.cbor_verdict.specs.Reading.{IsAt, OfMark, IsBegun, ReadsItem, ReadsPayload, string_kind, string_major}
+use Rattle.cbor_verdict.proofs.Members.{starts-array, array-whole, starts-with, map-whole}
+use Rattle.cbor_verdict.proofs.Items.{definite, proper-definite, never-open, is-definite, head-count}
+use Rattle.cbor_verdict.proofs.Judged.{zero_item, zeros, zeros_count, zero_pairs, pairs_count}
+use Rattle.cbor_verdict.proofs.OpenSteps.{distinct_snoc, array_opens, map_opens, tag_opens}
+use Rattle.cbor_verdict.proofs.Scalars.{at-as, reads-unsigned, reads-negative, reads-simple}
+use Rattle.cbor_verdict.{specs.Judged.IsJudged, specs.Judged.Never, specs.OpenMaps.AreOpen, specs.OpenMaps.AreOpenDistinct, proofs.Heads.open_or}
+use Rattle.cbor_verdict.proofs.{OpenMaps.judged_within, WholeStrings.string-expected, WholeStrings.reads-string}
 use Rattle.cbor_strict.specs.inner.OpenItems.{frames_in, bytes_before, IsLeaf, IsMap, IsOther}
-use Rattle.cbor_strict.specs.{inner.LastKeys.from_outside, inner.LastKeys.due_of, declared.last_keys.Due.TheVariants.Member}
+use Rattle.cbor_strict.specs.{inner.LastKeys.from_outside, inner.LastKeys.expected_of, declared.last_keys.Expected.TheVariants.Member}
 use Rattle.cbor_strict.proofs.OpenEnds.{outside_length, frames_length}
 
 -- ---- what is found of the item is found of the whole
 
 module _ (o : KeyOrder) (b : Bounds) (fs : List Frame) (are : AreOpen (strict o) b.depth (from_outside fs)) (distinct : AreOpenDistinct (strict o) 0 (from_outside fs)) where
-  pub room_left : b.depth - length (frames_in fs) ≡ are.left
-  room_left = let levels = are.levels in omega (arith, levels, outside_length fs, frames_length fs)
+  pub space_left : b.depth - length (frames_in fs) ≡ are.left
+  space_left = let levels = are.levels in omega (arith, levels, outside_length fs, frames_length fs)
 
   pub lift : (p : List ℕ) (found : Option Complaint) → IsJudged (strict o) (length (bytes_before fs)) (b.depth - length (frames_in fs)) p found → IsJudged (strict o) 0 (b.depth - 0) (bytes_before fs ++ p) found
   lift p found j =
       let level : length (from_outside fs) + are.left ≡ b.depth - 0 = (let levels = are.levels in omega (arith, levels)) in
       subst (λ (n : ℕ). IsJudged (strict o) 0 n (bytes_before fs ++ p) found) level
-      (judged_within (from_outside fs) (strict o) 0 (length (bytes_before fs)) are.left p found (omega arith) are.path are.closed distinct (subst (λ (n : ℕ). IsJudged (strict o) (length (bytes_before fs)) n p found) room_left j))
+      (judged_within (from_outside fs) (strict o) 0 (length (bytes_before fs)) are.left p found (omega arith) are.path are.closed distinct (subst (λ (n : ℕ). IsJudged (strict o) (length (bytes_before fs)) n p found) space_left j))
 
 -- ---- an item of one head
 
--- no break may come where an item is due
+-- no break may come where an item is expected
 pub no_break : (fs : List Frame) (next : Place) → Ends (frames_in fs) next → ⊥
 no_break (a_member w a b ∷ fs) next h = h
 no_break _ next h = h
@@ -52,14 +52,14 @@ no_openers o b fs t x e w m n kind is opener i =
 module _ (o : KeyOrder) (b : Bounds) (gs : List Container) (t x : List ℕ) (e : ItemEventsView) (w : Width) (from : Option (List ℕ)) where
   string_reads : (is_text : Bool) (n : ℕ) → n ≡ 0 → IsBegun (strict o) b gs t x e w (string_kind is_text (Some n)) → (v : Value) × ReadsItem (strict o) b gs t x from from e v
   string_reads is_text n z i =
-      let due = string-due (strict o) b gs t x e w is_text n i in
+      let expected = string-expected (strict o) b gs t x e w is_text n i in
       let reads : ReadsPayload b (close gs) (t ++ x) n [] [] from from e = record {
         bytes = [];
         consumed = Consumes-nil from;
         count = sym z;
         are_bytes = tt;
         grows = refl;
-        at = at-as b e (t ++ x) ((t ++ x) ++ []) (payload false (string_major is_text) n gs) (close gs) (sym (append-nil (t ++ x))) (ap (λ (k : ℕ). payload false (string_major is_text) k gs) z) due;
+        at = at-as b e (t ++ x) ((t ++ x) ++ []) (payload false (string_major is_text) n gs) (close gs) (sym (append-nil (t ++ x))) (ap (λ (k : ℕ). payload false (string_major is_text) k gs) z) expected;
       } in
       (_, (reads-string (strict o) b gs t x e w is_text n i [] from from e reads (λ u. IsUtf8-nil)).0)
 
@@ -92,7 +92,7 @@ pub record HasOpened (o : KeyOrder) (b : Bounds) (fs : List Frame) (t x : List �
   pub at : IsAt b e (t ++ x) (at_item (frames_in (f ∷ fs)))
 
 module _ (o : KeyOrder) (b : Bounds) (fs : List Frame) (t x : List ℕ) (e : ItemEventsView) (w : Width) (are : AreOpen (strict o) b.depth (from_outside fs)) (distinct : AreOpenDistinct (strict o) 0 (from_outside fs)) (taken : t ≡ bytes_before fs) where
-  pub other_opens : (kind : EventKind) → IsBegun (strict o) b (frames_in fs) t x e w kind → IsOther kind → (f : Frame) × (due_of f ≡ Member) × HasOpened o b fs t x e f
+  pub other_opens : (kind : EventKind) → IsBegun (strict o) b (frames_in fs) t x e w kind → IsOther kind → (f : Frame) × (expected_of f ≡ Member) × HasOpened o b fs t x e f
   other_opens (kinds.Array (Some zero)) begun l = absurd (omega (arith, l))
   other_opens (kinds.Array (Some (suc more))) begun l =
       let i = definite b.depth (frames_in fs) majors.Array w (suc more) x begun.next (proper-definite w begun.proper) begun.taking in

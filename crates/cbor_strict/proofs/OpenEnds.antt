@@ -5,16 +5,16 @@ use Rattle.cbor_head.specs.Complaint as complaint
 use Rattle.cbor_head.specs.declared.reason.Reason.TheVariants as reasons
 use Rattle.cbor_head.specs.declared.{major.Major.Major, major.Major.TheVariants.Array, major.Major.TheVariants.Map, order.KeyOrder.KeyOrder}
 use Rattle.cbor_head.specs.declared.{reason.Refusal.Refusal, width.Width.Width, width.Width.TheVariants.Indefinite}
-use Rattle.cbor_standing.specs.NextEvent.{ItemEventsView}
-use Rattle.cbor_judging.specs.Place.{Container, at_item, counted, close, Place, open_at}
-use Rattle.cbor_judging.specs.Frame.{Frame, a_member, a_key, a_content, tagged, with_all, with_entries, keys_onto, plug, before, OfFront}
-use Rattle.cbor_judging.specs.OpenMaps.{placed, open_keys, AreDistinct, OfClosed, before_all, AreOpen, AreOpenDistinct}
-use Rattle.cbor_judging.proofs.OpenKeys.{on_keys_split, onto_keys, front_apart}
-use Rattle.cbor_judging.proofs.OpenSteps.{before_snoc, distinct_snoc, member_before, content_before, content_keys, map_closes, array_closes, tag_closes, shuts, innermost, member_ends, key_ends, content_ends}
-use Rattle.cbor_judging.proofs.LastKey.{key-fresh, key-falls, last_is}
-use Rattle.cbor_judging.specs.{Judged.IsJudged, Judged.Never, Reading.IsAt, Reading.HasCause, LastKey.last_key}
-use Rattle.cbor_judging.proofs.{Frames.spelled_plug, Frames.depth_plug, Judged.judged_key, OpenMaps.judged_within, Items.whole-cause, Scalars.at-as}
-use Rattle.cbor_judging.proofs.{Steps.at-reached, Standing.open-is}
+use Rattle.cbor_machine.specs.NextEvent.{ItemEventsView}
+use Rattle.cbor_verdict.specs.Place.{Container, at_item, counted, close, Place, open_at}
+use Rattle.cbor_verdict.specs.Frame.{Frame, a_member, a_key, a_content, tagged, with_all, with_entries, keys_onto, plug, before, OfPrefix}
+use Rattle.cbor_verdict.specs.OpenMaps.{placed, open_keys, AreDistinct, OfClosed, before_all, AreOpen, AreOpenDistinct}
+use Rattle.cbor_verdict.proofs.OpenKeys.{on_keys_split, onto_keys, prefix_apart}
+use Rattle.cbor_verdict.proofs.OpenSteps.{before_snoc, distinct_snoc, member_before, content_before, content_keys, map_closes, array_closes, tag_closes, shuts, innermost, member_ends, key_ends, content_ends}
+use Rattle.cbor_verdict.proofs.LastKey.{key-fresh, key-falls, last_is}
+use Rattle.cbor_verdict.specs.{Judged.IsJudged, Judged.Never, Reading.IsAt, Reading.HasCause, LastKey.last_key}
+use Rattle.cbor_verdict.proofs.{Frames.spelled_plug, Frames.depth_plug, Judged.judged_key, OpenMaps.judged_within, Items.whole-cause, Scalars.at-as}
+use Rattle.cbor_verdict.proofs.{Steps.at-reached, ParseState.open-is}
 use Rattle.cbor_strict.specs.inner.LastKeys.{from_outside, IsFull, HasLength, AreDefinite, still_open, ended_item}
 use Rattle.cbor_strict.{specs.inner.OpenItems.frames_in, specs.inner.OpenItems.bytes_before, proofs.KeptEnds.full_bytes}
 
@@ -93,12 +93,12 @@ closes_one o d f fs s h step =
     let i = innermost (strict o) d (from_outside fs) f h.are in
     let u = distinct_outer (from_outside fs) f (strict o) 0 (length (bytes_before fs)) (omega arith) h.distinct in
     let deep = depth_plug f s in
-    let room = level_back o d f fs h.are (shuts (strict o) d (from_outside fs) f h.are) in
+    let space = level_back o d f fs h.are (shuts (strict o) d (from_outside fs) f h.are) in
     record {
       are = shuts (strict o) d (from_outside fs) f h.are;
       distinct = u.0;
       spelled = spelled_plug f s i.fits h.spelled;
-      within = omega (arith, deep, i.flat, h.within, room);
+      within = omega (arith, deep, i.flat, h.within, space);
       clean = step (length (bytes_before fs)) i.clean u.1 (subst (λ (k : ℕ). Never (Complains (strict o) k s)) (before_size fs f) h.clean);
     }
 
@@ -152,8 +152,8 @@ pub record EndsIn (o : KeyOrder) (b : Bounds) (e : ItemEventsView) (t : List ℕ
   pub taken : t ≡ bytes_before gs ++ spell s
   pub at : IsAt b e t (close (frames_in gs))
 
--- an item is due in these
-pub record IsDueIn (o : KeyOrder) (b : Bounds) (e : ItemEventsView) (t : List ℕ) (gs : List Frame) : Type 0 where
+-- an item is expected in these
+pub record IsExpectedIn (o : KeyOrder) (b : Bounds) (e : ItemEventsView) (t : List ℕ) (gs : List Frame) : Type 0 where
   pub are : AreOpen (strict o) b.depth (from_outside gs)
   pub distinct : AreOpenDistinct (strict o) 0 (from_outside gs)
   pub taken : t ≡ bytes_before gs
@@ -174,7 +174,7 @@ module _ (o : KeyOrder) (b : Bounds) (e : ItemEventsView) (t : List ℕ) (gs : L
   clean_in : (f : Frame) → EndsIn o b e t (f ∷ gs) s → Never (Complains (strict o) (length (bytes_before gs) + length (before f)) s)
   clean_in f m = subst (λ (n : ℕ). Never (Complains (strict o) n s)) (before_size gs f) m.clean.clean
 
-  pub member_next : (w : Width) (a : Spellings) (x : Spelling) (c : Spellings) → EndsIn o b e t (a_member w a (a_spelling x c) ∷ gs) s → IsDueIn o b e t (a_member w (with_all a (a_spelling s no_spellings)) c ∷ gs)
+  pub member_next : (w : Width) (a : Spellings) (x : Spelling) (c : Spellings) → EndsIn o b e t (a_member w a (a_spelling x c) ∷ gs) s → IsExpectedIn o b e t (a_member w (with_all a (a_spelling s no_spellings)) c ∷ gs)
   member_next w a x c m =
       let f = a_member w a (a_spelling x c) in
       let g = a_member w (with_all a (a_spelling s no_spellings)) c in
@@ -186,7 +186,7 @@ module _ (o : KeyOrder) (b : Bounds) (e : ItemEventsView) (t : List ℕ) (gs : L
         at = m.at;
       }
 
-  pub content_next : (w : Width) (a : SpelledEntries) (key l x : Spelling) (c : SpelledEntries) → EndsIn o b e t (a_content w a key (entry l x c) ∷ gs) s → IsDueIn o b e t (a_key w (with_entries a (entry key s no_entries)) x c ∷ gs)
+  pub content_next : (w : Width) (a : SpelledEntries) (key l x : Spelling) (c : SpelledEntries) → EndsIn o b e t (a_content w a key (entry l x c) ∷ gs) s → IsExpectedIn o b e t (a_key w (with_entries a (entry key s no_entries)) x c ∷ gs)
   content_next w a key l x c m =
       let f = a_content w a key (entry l x c) in
       let g = a_key w (with_entries a (entry key s no_entries)) x c in
@@ -199,7 +199,7 @@ module _ (o : KeyOrder) (b : Bounds) (e : ItemEventsView) (t : List ℕ) (gs : L
         at = at-as b e t t (close (frames_in (f ∷ gs))) (at_item (frames_in (g ∷ gs))) refl (content_state (entries_count c) (frames_in gs) ∙ ap (λ (n : ℕ). at_item (counted n ∷ frames_in gs)) (omega arith)) m.at;
       }
 
-  pub key_next : (w : Width) (a : SpelledEntries) (v : Spelling) (c : SpelledEntries) → EndsIn o b e t (a_key w a v c ∷ gs) s → IsTrue (key_lt o (last_key a) (spell s)) → IsDueIn o b e t (a_content w a s c ∷ gs)
+  pub key_next : (w : Width) (a : SpelledEntries) (v : Spelling) (c : SpelledEntries) → EndsIn o b e t (a_key w a v c ∷ gs) s → IsTrue (key_lt o (last_key a) (spell s)) → IsExpectedIn o b e t (a_content w a s c ∷ gs)
   key_next w a v c m rises =
       let f = a_key w a v c in
       let g = a_content w a s c in
@@ -231,7 +231,7 @@ module _ (o : KeyOrder) (b : Bounds) (e : ItemEventsView) (t : List ℕ) (gs : L
       let out = shuts (strict o) b.depth (from_outside gs) fr m.clean.are in
       let u = distinct_outer (from_outside gs) fr (strict o) 0 at (omega arith) m.clean.distinct in
       let falls = key-falls o to0 s (spell s) refl (keys_onto [] a) (last_key a) (last_is a) falls_so in
-      let none : Never (OfFront (strict o) at fr) = λ q y. elim (front_apart fr (strict o) at q y) [ inl z ↦ i.clean q z | inr z ↦ u.1 q z ] in
+      let none : Never (OfPrefix (strict o) at fr) = λ q y. elim (prefix_apart fr (strict o) at q y) [ inl z ↦ i.clean q z | inr z ↦ u.1 q z ] in
       let one = judged_key fr (strict o) at m.clean.are.left i.fits i.flat none s cmp m.clean.spelled m.clean.within (clean_in fr m) falls in
       let whole = judged_within (from_outside gs) (strict o) 0 at out.left (before fr ++ spell s) (Some cmp) (omega arith) out.path out.closed u.0
       (subst (λ (n : ℕ). IsJudged (strict o) at n (before fr ++ spell s) (Some cmp)) (sym (level_back o b.depth fr gs m.clean.are out)) one) in

@@ -10,18 +10,18 @@ use Rattle.cbor_head.specs.declared.{reason.Reason.TheVariants.Memory, reason.Re
 use Rattle.cbor_text.specs.TextCheck.{HasChecked}
 use Rattle.cbor_automaton.specs.declared.event.EventKind.TheVariants as kinds
 use Rattle.cbor_automaton.specs.{Trace.Mark, Trace.a_head, Marks.mark_of, declared.event.Event.Event, declared.event.EventKind.EventKind}
-use Rattle.cbor_standing.specs.NextEvent.{ItemEventsView}
-use Rattle.cbor_judging.specs.Place.{Container, at_item, close, payload, IsTaking}
-use Rattle.cbor_judging.specs.Frame.{Frame, a_key, before}
-use Rattle.cbor_judging.specs.Reading.{AreRefused, IsReached, IsUndecided, HasCause, OfMark, IsFault, IsBegun, ReadsItem, string_kind, string_major}
-use Rattle.cbor_judging.proofs.Items.{whole-cause, definite, proper-definite, never-open, head-count, cause-in, undecided-in, head-judged}
-use Rattle.cbor_judging.proofs.Steps.{head-size, fault_of, at-reached}
-use Rattle.cbor_judging.{specs.OpenMaps.AreOpen, specs.OpenMaps.AreOpenDistinct, specs.Judged.Never, proofs.Scalars.at-as, proofs.Undecided.mark-undecided}
-use Rattle.cbor_judging.proofs.WholeStrings.{string-head, string-due}
-use Rattle.cbor_strict.specs.inner.LastKeys.{seen, from_outside, due_of, IsKept}
+use Rattle.cbor_machine.specs.NextEvent.{ItemEventsView}
+use Rattle.cbor_verdict.specs.Place.{Container, at_item, close, payload, IsTaking}
+use Rattle.cbor_verdict.specs.Frame.{Frame, a_key, before}
+use Rattle.cbor_verdict.specs.Reading.{AreRefused, IsReached, IsUndecided, HasCause, OfMark, IsFault, IsBegun, ReadsItem, string_kind, string_major}
+use Rattle.cbor_verdict.proofs.Items.{whole-cause, definite, proper-definite, never-open, head-count, cause-in, undecided-in, head-judged}
+use Rattle.cbor_verdict.proofs.Steps.{head-size, fault_of, at-reached}
+use Rattle.cbor_verdict.{specs.OpenMaps.AreOpen, specs.OpenMaps.AreOpenDistinct, specs.Judged.Never, proofs.Scalars.at-as, proofs.Undecided.mark-undecided}
+use Rattle.cbor_verdict.proofs.WholeStrings.{string-head, string-expected}
+use Rattle.cbor_strict.specs.inner.LastKeys.{view_value, from_outside, expected_of, IsKept}
 use Rattle.cbor_strict.specs.inner.OpenItems.{AreOpenClean, frames_in, bytes_before, Stands, HasEnded, HasHeadCome, HasBegunIn, IsLeaf, IsMap, IsOther, short_head}
 use Rattle.cbor_strict.proofs.OpenBegins.{lift, no_break, no_openers, leaf_reads, HasOpened, other_opens, pairs_open}
-use Rattle.cbor_strict.specs.declared.{last_keys.Due.TheVariants.Member, last_keys.LastKeys.LastKeys, open_items.OpenItems.OpenItems}
+use Rattle.cbor_strict.specs.declared.{last_keys.Expected.TheVariants.Member, last_keys.LastKeys.LastKeys, open_items.OpenItems.OpenItems}
 use Rattle.cbor_strict.proofs.{KeptEnds.kept_keys, KeptEnds.kept_levels, OpenEnds.frames_length, OpenEnds.before_more, OpenItems.around_as}
 
 -- ---- what is found of the item is found of the whole
@@ -93,7 +93,7 @@ short_begun o b fs t x e w (kinds.Map None) i = absurd (no_openers o b fs t x e 
 short_begun o b fs t x e w kinds.End i = absurd (i.item refl)
 short_begun o b fs t x e w _ i = absurd i.taking
 
--- the item that is due has begun
+-- the item that is expected has begun
 pub begun_in : (v : OpenItems) (b : Bounds) (event : Event) (t x : List ℕ) (e : ItemEventsView) → (h : HasHeadCome v b event t x e) → ((reason : Reason) → IsFault (strict v.order) (mark_of event.width event.kind) reason → ⊥)
     → IsBegun (strict v.order) b (frames_in h.fs) t x e event.width event.kind
 begun_in v b event t x e h fine = record {
@@ -114,14 +114,14 @@ begun_no_memory v b w kind t x e f taken to fs around before i all is =
 
 -- what is kept now
 pub begun_kept : (v new : OpenItems) (b : Bounds) (event : Event) (t x : List ℕ) (e : ItemEventsView) → (h : HasHeadCome v b event t x e) → ((reason : Reason) → IsFault (strict v.order) (mark_of event.width event.kind) reason → ⊥)
-    → new.order ≡ v.order → new.left ≡ v.left → ((fs : List Frame) → IsKept (seen v.keys) fs [] → IsKept (seen new.keys) fs (short_head event.kind)) → HasBegunIn new b event.width event.kind t x e
+    → new.order ≡ v.order → new.left ≡ v.left → ((fs : List Frame) → IsKept (view_value v.keys) fs [] → IsKept (view_value new.keys) fs (short_head event.kind)) → HasBegunIn new b event.width event.kind t x e
 begun_kept v new b event t x e h fine same same_left kept =
     let i = begun_in v b event t x e h fine in
     record {
       fs = h.fs;
       around = around_as v.order new b h.fs (sym same) h.around.are h.around.distinct;
       none = same_left ∙ h.none;
-      kept = subst (IsKept (seen new.keys) h.fs) (sym (short_begun v.order b (frames_in h.fs) t x e event.width event.kind i)) (kept h.fs h.kept);
+      kept = subst (IsKept (view_value new.keys) h.fs) (sym (short_begun v.order b (frames_in h.fs) t x e event.width event.kind i)) (kept h.fs h.kept);
       taken = h.taken;
       begun = subst (λ (o : KeyOrder). IsBegun (strict o) b (frames_in h.fs) t x e event.width event.kind) (sym same) i;
     }
@@ -145,7 +145,7 @@ module _ (v : OpenItems) (b : Bounds) (w : Width) (kind : EventKind) (t x : List
         within = omega (arith, m.within, frames_length h.fs);
         clean = subst (λ (y : List ℕ). Never (Complains (strict v.order) (length y) m.item)) h.taken m.clean;
         none = h.none;
-        kept = subst (IsKept (seen v.keys) h.fs) (sym same) h.kept;
+        kept = subst (IsKept (view_value v.keys) h.fs) (sym same) h.kept;
         taken = ap (λ (y : List ℕ). y ++ x) h.taken ∙ ap (λ (y : List ℕ). bytes_before h.fs ++ y) (sym same);
         at = at-as b e (t ++ spell m.item) (t ++ x) (close (frames_in h.fs)) (close (frames_in h.fs)) (ap (λ (y : List ℕ). t ++ y) same) refl m.at;
       }
@@ -160,7 +160,7 @@ pub string_begun : (v new : OpenItems) (b : Bounds) (w : Width) (kind : EventKin
 string_begun v new b w kind t x e is_text n h is some same_order same_keys left text_so checked =
     let i = subst (IsBegun (strict v.order) b (frames_in h.fs) t x e w) is h.begun in
     let k = string-head (strict v.order) b (frames_in h.fs) t x e w is_text n i in
-    let due = string-due (strict v.order) b (frames_in h.fs) t x e w is_text n i in
+    let expected = string-expected (strict v.order) b (frames_in h.fs) t x e w is_text n i in
     let bytes_are : x ≡ head (string_major new.is_text) w n ++ [] = k.bytes_are ∙ ap (λ (q : Bool). head (string_major q) w n) (sym text_so) ∙ sym (append-nil (head (string_major new.is_text) w n)) in
     inr (inl (record {
       fs = h.fs;
@@ -174,17 +174,17 @@ string_begun v new b w kind t x e is_text n h is some same_order same_keys left 
       clean = subst (λ (o : KeyOrder). Never (OfHead (strict o) (length (bytes_before h.fs)) (string_major new.is_text) w n)) (sym same_order)
           (subst (λ (q : Bool). Never (OfHead (strict v.order) (length (bytes_before h.fs)) (string_major q) w n)) (sym text_so) (subst (λ (y : List ℕ). Never (OfHead (strict v.order) (length y) (string_major is_text) w n)) h.taken k.clean));
       are_bytes = tt;
-      kept = subst (IsKept (seen new.keys) h.fs) bytes_are (subst (λ (y : LastKeys). IsKept (seen y) h.fs x) (sym same_keys) h.kept);
+      kept = subst (IsKept (view_value new.keys) h.fs) bytes_are (subst (λ (y : LastKeys). IsKept (view_value y) h.fs x) (sym same_keys) h.kept);
       taken = ap (λ (y : List ℕ). y ++ x) h.taken ∙ ap (λ (y : List ℕ). bytes_before h.fs ++ y) bytes_are;
       at = at-as b e (t ++ x) (t ++ x) (payload false (string_major is_text) n (frames_in h.fs)) (payload false (string_major new.is_text) new.left (frames_in h.fs)) refl
-          (ap (λ (q : Bool). payload false (string_major q) n (frames_in h.fs)) (sym text_so) ∙ ap (λ (y : ℕ). payload false (string_major new.is_text) y (frames_in h.fs)) (sym left)) due;
+          (ap (λ (q : Bool). payload false (string_major q) n (frames_in h.fs)) (sym text_so) ∙ ap (λ (y : ℕ). payload false (string_major new.is_text) y (frames_in h.fs)) (sym left)) expected;
       checked = λ q. checked;
     }))
 
 -- ---- a container opens
 
 opened_in : (v new : OpenItems) (b : Bounds) (w : Width) (kind : EventKind) (t x : List ℕ) (e : ItemEventsView) (h : HasBegunIn v b w kind t x e) (f : Frame) → new.order ≡ v.order → new.left ≡ v.left → HasOpened v.order b h.fs t x e f
-    → IsKept (seen new.keys) (f ∷ h.fs) [] → Stands new b e (t ++ x)
+    → IsKept (view_value new.keys) (f ∷ h.fs) [] → Stands new b e (t ++ x)
 opened_in v new b w kind t x e h f same_order same_left m kept = inl (record {
   fs = f ∷ h.fs;
   around = around_as v.order new b (f ∷ h.fs) (sym same_order) m.are m.distinct;
@@ -195,21 +195,21 @@ opened_in v new b w kind t x e h f same_order same_left m kept = inl (record {
 })
 
 pub other_begun : (v new : OpenItems) (b : Bounds) (w : Width) (kind : EventKind) (t x : List ℕ) (e : ItemEventsView) → HasBegunIn v b w kind t x e → IsOther kind → new.order ≡ v.order → new.left ≡ v.left
-    → ((f : Frame) (fs : List Frame) (p : List ℕ) → due_of f ≡ Member → IsKept (seen v.keys) fs p → before f ≡ p → IsKept (seen new.keys) (f ∷ fs) []) → Stands new b e (t ++ x)
+    → ((f : Frame) (fs : List Frame) (p : List ℕ) → expected_of f ≡ Member → IsKept (view_value v.keys) fs p → before f ≡ p → IsKept (view_value new.keys) (f ∷ fs) []) → Stands new b e (t ++ x)
 other_begun v new b w kind t x e h l same_order same_left step =
-    let (f, due, m) = other_opens v.order b h.fs t x e w h.around.are h.around.distinct h.taken kind h.begun l in
-    opened_in v new b w kind t x e h f same_order same_left m (step f h.fs x due h.kept m.head_is)
+    let (f, expected, m) = other_opens v.order b h.fs t x e w h.around.are h.around.distinct h.taken kind h.begun l in
+    opened_in v new b w kind t x e h f same_order same_left m (step f h.fs x expected h.kept m.head_is)
 
 pub map_begun : (v new : OpenItems) (b : Bounds) (w : Width) (kind : EventKind) (t x : List ℕ) (e : ItemEventsView) → HasBegunIn v b w kind t x e → IsMap kind → new.order ≡ v.order → new.left ≡ v.left
-    → ((w : Width) (u : Spelling) (es : SpelledEntries) (fs : List Frame) (p : List ℕ) → IsKept (seen v.keys) fs p → before (a_key w no_entries u es) ≡ p → IsKept (seen new.keys) (a_key w no_entries u es ∷ fs) []) → Stands new b e (t ++ x)
+    → ((w : Width) (u : Spelling) (es : SpelledEntries) (fs : List Frame) (p : List ℕ) → IsKept (view_value v.keys) fs p → before (a_key w no_entries u es) ≡ p → IsKept (view_value new.keys) (a_key w no_entries u es ∷ fs) []) → Stands new b e (t ++ x)
 map_begun v new b w kind t x e h l same_order same_left step =
     let (u, es, m) = pairs_open v.order b h.fs t x e w h.around.are h.around.distinct h.taken kind h.begun l in
     opened_in v new b w kind t x e h (a_key w no_entries u es) same_order same_left m (step w u es h.fs x h.kept m.head_is)
 
--- there is room for it
+-- there is space for it
 module _ (v : OpenItems) (b : Bounds) (w : Width) (kind : EventKind) (t x : List ℕ) (e : ItemEventsView) (h : HasBegunIn v b w kind t x e) where
-  room_so : IsOther kind ⊎ IsMap kind → length h.fs < b.depth
-  room_so l = go kind h.begun l
+  space_so : IsOther kind ⊎ IsMap kind → length h.fs < b.depth
+  space_so l = go kind h.begun l
     where
       go : (kind : EventKind) → IsBegun (strict v.order) b (frames_in h.fs) t x e w kind → IsOther kind ⊎ IsMap kind → length h.fs < b.depth
       go (kinds.Array (Some n)) i l = let d = definite b.depth (frames_in h.fs) majors.Array w n x i.next (proper-definite w i.proper) i.taking in omega (arith, d.follows.0, frames_length h.fs)
@@ -217,8 +217,8 @@ module _ (v : OpenItems) (b : Bounds) (w : Width) (kind : EventKind) (t x : List
       go (kinds.Tag n) i l = let d = definite b.depth (frames_in h.fs) majors.Tag w n x i.next (never-open b.depth (frames_in h.fs) majors.Tag w n x i.next tt i.taking) i.taking in omega (arith, d.follows.0, frames_length h.fs)
       go _ i l = elim l [ inl y ↦ absurd y | inr y ↦ absurd y ]
 
-  pub room_levels : IsOther kind ⊎ IsMap kind → length (seen v.keys).levels < MAX_DEPTH
-  room_levels l = omega (arith, kept_levels (seen v.keys) h.fs x h.kept, room_so l, h.begun.at.limits.0)
+  pub space_levels : IsOther kind ⊎ IsMap kind → length (view_value v.keys).levels < MAX_DEPTH
+  space_levels l = omega (arith, kept_levels (view_value v.keys) h.fs x h.kept, space_so l, h.begun.at.limits.0)
 
-  pub room_keys : IsOther kind ⊎ IsMap kind → (seen v.keys).open_keys ≤ MAX_DEPTH
-  room_keys l = omega (arith, kept_keys (seen v.keys) h.fs x h.kept, room_so l, h.begun.at.limits.0)
+  pub space_keys : IsOther kind ⊎ IsMap kind → (view_value v.keys).open_keys ≤ MAX_DEPTH
+  space_keys l = omega (arith, kept_keys (view_value v.keys) h.fs x h.kept, space_so l, h.begun.at.limits.0)

@@ -4,14 +4,14 @@ use Rattle.std.{specs.Option.IfSome, proofs.Math.Seq.take-append-add, specs.Io.K
 use Rattle.std.proofs.KnownBytes.{Consumes-nil, Consumes-trans}
 use Rattle.cbor_head.specs.Prelude.{Bounds, AreBounds, Spelling, IsItem, spell, strict, Complaint, IsComplaint}
 use Rattle.cbor_head.specs.declared.{order.KeyOrder.KeyOrder, reason.Refusal.Refusal}
-use Rattle.cbor_grammar.proofs.Accepted.{accepts_exactly}
+use Rattle.cbor_model.proofs.Accepted.{accepts_exactly}
 use Rattle.cbor_automaton.specs.declared.event.Event.{Event}
-use Rattle.cbor_standing.specs.{Machine.KeepsLimits, NextEvent.ItemEventsView, NextEvent.StandsBetween}
-use Rattle.cbor_judging.{specs.Kinds.KeepsToKinds, specs.Readers.IsRead, specs.Reading.IsFrontUnread, proofs.Decisions.whole_beside}
-use Rattle.cbor_judging.proofs.{KindFrames.keeps_start, RefusedBehind.stopped_from, RefusedBehind.stopped_front, Tops.loses}
-use Rattle.cbor_judging.specs.RefusedBehind.{IsRefusedBehind}
+use Rattle.cbor_machine.specs.{Machine.KeepsLimits, NextEvent.ItemEventsView, NextEvent.StandsBetween}
+use Rattle.cbor_verdict.{specs.Kinds.KeepsToKinds, specs.Readers.IsRead, specs.Reading.IsPrefixUnread, proofs.Decisions.whole_beside}
+use Rattle.cbor_verdict.proofs.{KindFrames.keeps_start, RefusedBehind.stopped_from, RefusedBehind.stopped_prefix, Tops.loses}
+use Rattle.cbor_verdict.specs.RefusedBehind.{IsRefusedBehind}
 use Rattle.cbor_strict.specs.inner.StrictEvents.{GoesOn, HasCome, IsStrictlyRead}
-use Rattle.cbor_strict.specs.{declared.open_items.OpenItems.OpenItems, inner.LastKeys.seen, inner.LastKeys.IsKept, inner.OpenItems.Stands}
+use Rattle.cbor_strict.specs.{declared.open_items.OpenItems.OpenItems, inner.LastKeys.view_value, inner.LastKeys.IsKept, inner.OpenItems.Stands}
 use Rattle.cbor_strict.proofs.StrictReading.{stands_first}
 
 -- what was read is known, and has no complaint
@@ -22,7 +22,7 @@ pub record IsRunning (o : KeyOrder) (b : Bounds) (v : OpenItems) (e : ItemEvents
   pub keeps : KeepsToKinds b (strict v.order) t
   pub order : v.order ≡ o
 
-pub runs_first : (o : KeyOrder) (b : Bounds) (v : OpenItems) (e : ItemEventsView) (from : Option (List ℕ)) → AreBounds b → e.refusal ≡ None → (e.machine.depth ≡ b.depth) × (e.machine.bytes ≡ b.bytes) → StandsBetween e.machine [] [] → v.left ≡ 0 → IsKept (seen v.keys) [] [] → v.order ≡ o → IsRunning o b v e from from
+pub runs_first : (o : KeyOrder) (b : Bounds) (v : OpenItems) (e : ItemEventsView) (from : Option (List ℕ)) → AreBounds b → e.refusal ≡ None → (e.machine.depth ≡ b.depth) × (e.machine.bytes ≡ b.bytes) → StandsBetween e.machine [] [] → v.left ≡ 0 → IsKept (view_value v.keys) [] [] → v.order ≡ o → IsRunning o b v e from from
 runs_first o b v e from within live same starts none kept order = record { t = []; consumed = Consumes-nil from; stands = stands_first b e v within live same starts none kept; keeps = keeps_start b (strict v.order); order = order }
 
 module _ (o : KeyOrder) (b : Bounds) (v new : OpenItems) (e after : ItemEventsView) (from now to : Option (List ℕ)) (h : IsRunning o b v e from now) where
@@ -50,7 +50,7 @@ module _ (o : KeyOrder) (b : Bounds) (v new : OpenItems) (e after : ItemEventsVi
       subst (λ (p : KeyOrder). (x : Complaint) → IsComplaint b (strict p) s x → ⊥) (same ∙ h.order) (whole_beside b (strict new.order) s item (subst (KeepsToKinds b (strict new.order)) n.over.taken n.keeps) n.over.clean) in
       let lost : Consumes from to h.t = subst (Consumes from to) (append-nil h.t) (Consumes-trans from now to h.t [] h.consumed n.end.consumed) in
       record {
-        read = front_read from to lost (λ rest. record {
+        read = prefix_read from to lost (λ rest. record {
           item = s;
           verdict = (accepts_exactly b (strict o) (h.t ++ rest) s).1
               (take (b.bytes - length h.t) rest, (n.over.spelled, n.over.within, cut rest s (omega (arith, c, all, n.over.at.stands.stands.limited, n.over.at.bytes)) whole), none);
@@ -65,11 +65,11 @@ module _ (o : KeyOrder) (b : Bounds) (v new : OpenItems) (e after : ItemEventsVi
           let sum : length h.t + left ≡ b.bytes = omega (arith, l) in
           ap (λ (x : List ℕ). x ++ take left rest) e ∙ sym (take-append-add h.t rest left) ∙ ap (λ (m : ℕ). take m (h.t ++ rest)) sum
 
-      front_read : (from to : Option (List ℕ)) → Consumes from to h.t → ((rest : List ℕ) → IsRead b (strict o) (h.t ++ rest) count) → IfSome from (λ input. IsRead b (strict o) input count)
-      front_read None to c r = tt
-      front_read (Some input) None c r = absurd c
-      front_read (Some input) (Some rest) c r = subst (λ (x : List ℕ). IsRead b (strict o) x count) (sym c) (r rest)
+      prefix_read : (from to : Option (List ℕ)) → Consumes from to h.t → ((rest : List ℕ) → IsRead b (strict o) (h.t ++ rest) count) → IfSome from (λ input. IsRead b (strict o) input count)
+      prefix_read None to c r = tt
+      prefix_read (Some input) None c r = absurd c
+      prefix_read (Some input) (Some rest) c r = subst (λ (x : List ℕ). IsRead b (strict o) x count) (sym c) (r rest)
 
   -- it is refused
-  pub runs_stop : (f : Refusal) → IsRefusedBehind (strict v.order) b h.t now to f → IsFrontUnread (strict o) b from to f
-  runs_stop f n = subst (λ (p : KeyOrder). IsFrontUnread (strict p) b from to f) h.order (stopped_front (strict v.order) b f from to (stopped_from (strict v.order) b f [] h.t from now to h.consumed n))
+  pub runs_stop : (f : Refusal) → IsRefusedBehind (strict v.order) b h.t now to f → IsPrefixUnread (strict o) b from to f
+  runs_stop f n = subst (λ (p : KeyOrder). IsPrefixUnread (strict p) b from to f) h.order (stopped_prefix (strict v.order) b f from to (stopped_from (strict v.order) b f [] h.t from now to h.consumed n))

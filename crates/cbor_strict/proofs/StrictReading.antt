@@ -3,18 +3,18 @@ use Rattle.std.proofs.Common.{◌≡◌, ℕ, ◌-◌, ◌≤◌, ◌⊎◌, Opt
 use Rattle.cbor_head.specs.Prelude.{head, Bounds, AreBounds, bounds, with_keys, Spelling, IsItem, Rules, strict, Complains, HasNoneOf}
 use Rattle.cbor_head.specs.{Laws.StartsWith, declared.keys.Keys.Keys, declared.order.KeyOrder.KeyOrder, declared.reason.Refusal.Refusal}
 use Rattle.cbor_head.specs.declared.reason.Reason.{Reason}
-use Rattle.cbor_grammar.proofs.Agree.{same_complaints}
+use Rattle.cbor_model.proofs.Agree.{same_complaints}
 use Rattle.cbor_automaton.specs.{Trace.Mark, Bytes.IsBytesOf, Bytes.last_type, Marks.marks_of, declared.event.Event.Event, declared.event.EventKind.EventKind}
 use Rattle.cbor_automaton.specs.declared.event.EventKind.TheVariants.{Piece}
-use Rattle.cbor_standing.specs.NextEvent.{ItemEventsView, StandsBetween, Call, call, machine_call, IsCut, IsTooLong, HasFormError, IsNextEvent, IsKept as IsPieceKept}
-use Rattle.cbor_standing.specs.{MachineView.MachineView, Machine.KeepsLimits}
-use Rattle.cbor_judging.{specs.Refusals.IsReaderReason, specs.Judged.IsJudged, specs.Reading.string_major, proofs.Tops.starts-at, proofs.KindFrames.keeps_start}
-use Rattle.cbor_judging.{proofs.Decisions.none_beside, specs.Kinds.KeepsToKinds, proofs.Judged.judged_start, proofs.CutHeads.string_cut}
-use Rattle.cbor_judging.proofs.{OpenSteps.none_open, Steps.same-marks}
+use Rattle.cbor_machine.specs.NextEvent.{ItemEventsView, StandsBetween, Call, call, machine_call, IsCut, IsTooLong, HasFormError, IsNextEvent, IsKept as IsPieceKept}
+use Rattle.cbor_machine.specs.{MachineView.MachineView, Machine.KeepsLimits}
+use Rattle.cbor_verdict.{specs.Refusals.IsReaderReason, specs.Judged.IsJudged, specs.Reading.string_major, proofs.Tops.starts-at, proofs.KindFrames.keeps_start}
+use Rattle.cbor_verdict.{proofs.Decisions.none_beside, specs.Kinds.KeepsToKinds, proofs.Judged.judged_start, proofs.CutHeads.string_cut}
+use Rattle.cbor_verdict.proofs.{OpenSteps.none_open, Steps.same-marks}
 use Rattle.cbor_strict.specs.inner.OpenItems.{frames_in, bytes_before, Stands}
 use Rattle.cbor_strict.specs.StrictReader.{StrictEventsView, StandsStrictly, IsNextStrict, IsStrictRefusal, IsAgainstEvent, StopsAtOnce, strict_call}
 use Rattle.cbor_strict.specs.inner.StrictEvents.{StandsSomewhere, IsStep, AnswersStep, IsLittle, bounds_of, piece_unless}
-use Rattle.cbor_strict.specs.{declared.open_items.OpenItems.OpenItems, inner.LastKeys.seen, inner.LastKeys.IsKept}
+use Rattle.cbor_strict.specs.{declared.open_items.OpenItems.OpenItems, inner.LastKeys.view_value, inner.LastKeys.IsKept}
 use Rattle.cbor_strict.proofs.{KeptReading.stands_counted, KeptReading.stands_little, OpenBegins.lift}
 
 -- ---- nothing has a complaint
@@ -43,7 +43,7 @@ stands_clean v b e t (inr (inr h)) = λ s i c k l.
 
 -- ---- before the first byte
 
-pub stands_first : (limits : Bounds) (e : ItemEventsView) (v : OpenItems) → AreBounds limits → e.refusal ≡ None → (e.machine.depth ≡ limits.depth) × (e.machine.bytes ≡ limits.bytes) → StandsBetween e.machine [] [] → v.left ≡ 0 → IsKept (seen v.keys) [] [] → Stands v limits e []
+pub stands_first : (limits : Bounds) (e : ItemEventsView) (v : OpenItems) → AreBounds limits → e.refusal ≡ None → (e.machine.depth ≡ limits.depth) × (e.machine.bytes ≡ limits.bytes) → StandsBetween e.machine [] [] → v.left ≡ 0 → IsKept (view_value v.keys) [] [] → Stands v limits e []
 stands_first limits e v within live same h none kept =
     inl (record { fs = []; around = record { are = none_open (strict v.order) limits.depth; distinct = tt }; none = none; kept = kept; taken = refl; at = starts-at limits e within live same h })
 
@@ -69,7 +69,7 @@ by_event o f ev c h small read against = inr (inr (inr (inl (record {
 
 pub small_piece : (ev : Event) (c : Call) (piece : List ℕ) → IsNextEvent ev c → piece ≡ c.new_piece → length piece ≤ 512 → (n : ℕ) → ev.kind ≡ Piece n → n ≤ 512
 small_piece ev c piece h is l n e =
-    let size : length h.bytes ≡ n = subst (λ (k : EventKind). IsBytesOf (last_type None c.told) ev.width k h.bytes) e h.are.1 in
+    let size : length h.bytes ≡ n = subst (λ (k : EventKind). IsBytesOf (last_type None c.reported) ev.width k h.bytes) e h.are.1 in
     let kept : c.new_piece ≡ h.bytes = subst (λ (k : EventKind). IsPieceKept k c.old_piece c.new_piece h.bytes) e h.piece_is in
     let same = ap length (is ∙ kept) in
     omega (arith, size, same, l)
@@ -79,12 +79,12 @@ stops_too : (o : KeyOrder) (f : Refusal) (m n : MachineView) (held left : Option
 stops_too o f m n held left a b x y t ms h = elim h [
   | inl k ↦ inl (record { bytes = k.bytes; consumed = k.consumed; reason = k.reason; is = k.is; verdict = k.verdict; short = k.short; stands = k.stands; unfinished = k.unfinished })
   | inr (inl k) ↦ inr (inl (record { bytes = k.bytes; consumed = k.consumed; is = k.is; full = k.full; verdict = k.verdict; stands = k.stands; unfinished = k.unfinished }))
-  | inr (inr (inl k)) ↦ inr (inr (inl (record { bytes = k.bytes; byte = k.byte; consumed = k.consumed; is = k.is; misplaced = k.misplaced; verdict = k.verdict; stands = k.stands; unfinished = k.unfinished })))
+  | inr (inr (inl k)) ↦ inr (inr (inl (record { bytes = k.bytes; byte = k.byte; consumed = k.consumed; is = k.is; initial_byte_error = k.initial_byte_error; verdict = k.verdict; stands = k.stands; unfinished = k.unfinished })))
   | inr (inr (inr (inl k))) ↦ inr (inr (inr (inl (record { width = k.width; kind = k.kind; bytes = k.bytes; consumed = k.consumed; are = k.are; piece = k.piece; read = k.read; stands = k.stands; against = k.against }))))
   | inr (inr (inr (inr k))) ↦ inr (inr (inr (inr (record { unfinished = k.unfinished; byte = k.byte; small = k.small; consumed = k.consumed; other = k.other; item = k.item; follows = k.follows; is = k.is }))))
 ]
 
--- ---- what is told next
+-- ---- what is reported next
 
 -- as contracts see it
 abbrev pub shown : ItemEventsView → OpenItems → Keys → Option Refusal → StrictEventsView
@@ -93,8 +93,8 @@ shown e v keys r = record {
   piece = piece_unless r e.piece;
   order = v.order;
   keys = keys;
-  spans = length (seen v.keys).spans;
-  kept = length (seen v.keys).bytes;
+  spans = length (view_value v.keys).spans;
+  kept = length (view_value v.keys).bytes;
   refusal = r;
   inner = record { events = e; items = v };
 }
@@ -114,7 +114,7 @@ stands_strictly e v keys t ms h s keeps =
 same_bounds : (old new : MachineView) (keys : Keys) → KeepsLimits old new → bounds_of old keys ≡ bounds_of new keys
 same_bounds old new keys h = ap (λ (d : ℕ). with_keys (bounds d old.bytes) keys) (sym h.depth) ∙ ap (λ (n : ℕ). with_keys (bounds new.depth n) keys) (sym h.bytes)
 
-pub starts_strictly : (limits : Bounds) (keys : Keys) (e : ItemEventsView) (v : OpenItems) → keys ≡ limits.keys → AreBounds limits → e.refusal ≡ None → (e.machine.depth ≡ limits.depth) × (e.machine.bytes ≡ limits.bytes) → StandsBetween e.machine [] [] → v.left ≡ 0 → IsKept (seen v.keys) [] [] → StandsStrictly (shown e v keys None) [] []
+pub starts_strictly : (limits : Bounds) (keys : Keys) (e : ItemEventsView) (v : OpenItems) → keys ≡ limits.keys → AreBounds limits → e.refusal ≡ None → (e.machine.depth ≡ limits.depth) × (e.machine.bytes ≡ limits.bytes) → StandsBetween e.machine [] [] → v.left ≡ 0 → IsKept (view_value v.keys) [] [] → StandsStrictly (shown e v keys None) [] []
 starts_strictly limits keys e v asks within live same h none kept =
     stands_strictly e v keys [] [] h
     (subst (λ (b : Bounds). Stands v b e []) (ap (with_keys (bounds limits.depth limits.bytes)) (sym asks) ∙ ap (λ (d : ℕ). with_keys (bounds d limits.bytes) keys) (sym same.0) ∙ ap (λ (n : ℕ). with_keys (bounds e.machine.depth n) keys) (sym same.1)) (stands_first limits e v within live same h none kept))
@@ -128,8 +128,8 @@ reason_as r limits others x e (inr (inl (inr h))) = inr (inl (inr (h.0, h.1, sym
 reason_as r limits others x e (inr (inr h)) = inr (inr h)
 
 module _ (e after : ItemEventsView) (v new : OpenItems) (keys : Keys) (from to : Option (List ℕ)) (limits : KeepsLimits e.machine after.machine) where
-  told_strictly : (o : Option Event) (t : List ℕ) (ms : List Mark) → (StandsStrictly (shown e v keys None) t ms) → IsStep o new (bounds_of e.machine keys) e after t from to → IsNextStrict (Ok o) (strict_call (shown e v keys None) (shown after new keys None) from to t ms)
-  told_strictly (Some event) t ms h g =
+  reported_strictly : (o : Option Event) (t : List ℕ) (ms : List Mark) → (StandsStrictly (shown e v keys None) t ms) → IsStep o new (bounds_of e.machine keys) e after t from to → IsNextStrict (Ok o) (strict_call (shown e v keys None) (shown after new keys None) from to t ms)
+  reported_strictly (Some event) t ms h g =
       let same = same_bounds e.machine after.machine keys limits in
       subst (λ (ns : List Mark). IsNextStrict (Ok (Some event)) (strict_call (shown e v keys None) (shown after new keys None) from to t ns)) (same-marks e.machine t g.marks ms g.between h.between)
       (record {
@@ -137,7 +137,7 @@ module _ (e after : ItemEventsView) (v new : OpenItems) (keys : Keys) (from to :
         stands = stands_strictly after new keys (t ++ g.next.bytes) (g.marks ++ marks_of event.width event.kind) g.next.stands (subst (λ (b : Bounds). Stands new b after (t ++ g.next.bytes)) same g.stands)
             (subst (λ (b : Bounds). KeepsToKinds b (strict new.order) (t ++ g.next.bytes)) same g.keeps);
       })
-  told_strictly None t ms h g =
+  reported_strictly None t ms h g =
       let same = same_bounds e.machine after.machine keys limits in
       subst (λ (ns : List Mark). IsNextStrict (Ok None) (strict_call (shown e v keys None) (shown after new keys None) from to t ns)) (same-marks e.machine t g.marks ms g.between h.between)
       (record {
@@ -145,9 +145,9 @@ module _ (e after : ItemEventsView) (v new : OpenItems) (keys : Keys) (from to :
         stands = stands_strictly after new keys t g.marks g.end.stands (subst (λ (b : Bounds). Stands new b after t) same (inr (inr g.over))) (subst (λ (b : Bounds). KeepsToKinds b (strict new.order) t) same g.keeps);
       })
 
-  pub next_told : (o : Option Event) (r : Option Refusal) → AnswersStep keys v new e after from to (Ok o) → (t : List ℕ) (ms : List Mark) → StandsStrictly (shown e v keys r) t ms → IsNextStrict (Ok o) (strict_call (shown e v keys r) (shown after new keys r) from to t ms)
-  next_told o None answers t ms h = told_strictly o t ms h (answers (bounds_of e.machine keys) t refl h.inner.stands h.inner.keeps)
-  next_told o (Some f) answers t ms h = absurd (cc h.live)
+  pub next_reported : (o : Option Event) (r : Option Refusal) → AnswersStep keys v new e after from to (Ok o) → (t : List ℕ) (ms : List Mark) → StandsStrictly (shown e v keys r) t ms → IsNextStrict (Ok o) (strict_call (shown e v keys r) (shown after new keys r) from to t ms)
+  next_reported o None answers t ms h = reported_strictly o t ms h (answers (bounds_of e.machine keys) t refl h.inner.stands h.inner.keeps)
+  next_reported o (Some f) answers t ms h = absurd (cc h.live)
 
   pub next_refused : (f : Refusal) (r : Option Refusal) (last : OpenItems) → AnswersStep keys v new e after from to (Err f) → ((t : List ℕ) (ms : List Mark) → StandsBetween e.machine t ms → StopsAtOnce v.order f (call e after from to t ms)) → (t : List ℕ) (ms : List Mark) → StandsStrictly (shown e v keys r) t ms
       → IsStrictRefusal f (strict_call (shown e v keys r) (shown after last keys (Some f)) from to t ms)

@@ -1,26 +1,26 @@
--- Why no more is told: the refusal is that of what was taken, and of what the reader held behind it.
+-- Why no more is reported: the refusal is that of what was taken, and of what the reader held behind it.
 use Rattle.std.proofs.Common.{◌≡◌, ℕ, ◌-◌, ◌<◌, ◌≤◌, ◌⊎◌, ◌↔◌, Bool, true, false, true≢false, Option, None, List, [], ◌++◌, length, refl, sym, ap, ◌∙◌, subst, inl, inr, arith, append_assoc, Err, length-append}
 use Rattle.cbor_head.specs.Prelude.{head, Bounds, MayFollow, spell, strict}
 use Rattle.cbor_head.specs.declared.{order.KeyOrder.KeyOrder, reason.Reason.TheVariants.Memory, reason.Reason.TheVariants.KeyKind, reason.Refusal.Refusal}
 use Rattle.cbor_head.specs.declared.keys.Keys.{Keys, TheVariants.IntegersAndTexts}
-use Rattle.cbor_grammar.proofs.ByteLists.{bytes_join}
+use Rattle.cbor_model.proofs.ByteLists.{bytes_join}
 use Rattle.cbor_automaton.specs.{Reasons.IsEventReason, Trace.Mark}
-use Rattle.cbor_standing.specs.NextEvent.{ItemEventsView, StandsBetween, IsNext, call}
-use Rattle.cbor_standing.{specs.Machine.IsComplete, proofs.Positions.no-payload}
+use Rattle.cbor_machine.specs.NextEvent.{ItemEventsView, StandsBetween, IsNext, call}
+use Rattle.cbor_machine.{specs.Machine.IsComplete, proofs.Positions.no-payload}
 use Rattle.cbor_events.specs.NextKey.{IsBehindBasic, IsOtherKey, IsKeyReason}
-use Rattle.cbor_judging.specs.Kinds.{AsksForKinds, KeepsToKinds, IsKeyDue}
-use Rattle.cbor_judging.proofs.RefusedBehind.{basic_first, stopped_by, stopped_within, stopped_other}
-use Rattle.cbor_judging.specs.{Frame.Frame, Judged.IsJudged, OpenMaps.AreOpen, Place.at_item, Reading.HasCause, Reading.string_major}
-use Rattle.cbor_judging.proofs.{KindFrames.IsAround, KindFrames.around_frames, Payloads.none-come, Payloads.part-cut, Standing.is-complete}
-use Rattle.cbor_judging.{proofs.Steps.SameLimits, proofs.Steps.stops, specs.RefusedBehind.IsRefusedBehind, proofs.CutHeads.string_cut}
-use Rattle.cbor_strict.specs.inner.LastKeys.{seen, from_outside, IsKept}
-use Rattle.cbor_strict.specs.inner.OpenItems.{frames_in, bytes_before, Stands, IsItemDue, IsInString}
+use Rattle.cbor_verdict.specs.Kinds.{AsksForKinds, KeepsToKinds, IsKeyExpected}
+use Rattle.cbor_verdict.proofs.RefusedBehind.{basic_first, stopped_by, stopped_within, stopped_other}
+use Rattle.cbor_verdict.specs.{Frame.Frame, Judged.IsJudged, OpenMaps.AreOpen, Place.at_item, Reading.HasCause, Reading.string_major}
+use Rattle.cbor_verdict.proofs.{KindFrames.IsAround, KindFrames.around_frames, Payloads.none-come, Payloads.part-cut, ParseState.is-complete}
+use Rattle.cbor_verdict.{proofs.Steps.SameLimits, proofs.Steps.stops, specs.RefusedBehind.IsRefusedBehind, proofs.CutHeads.string_cut}
+use Rattle.cbor_strict.specs.inner.LastKeys.{view_value, from_outside, IsKept}
+use Rattle.cbor_strict.specs.inner.OpenItems.{frames_in, bytes_before, Stands, IsItemExpected, IsInString}
 use Rattle.cbor_strict.{specs.declared.open_items.OpenItems.OpenItems, specs.StrictReader.StopsAtOnce, proofs.StrictReading.by_form}
-use Rattle.cbor_strict.{specs.inner.StrictEvents.IsNextOf, proofs.OpenBegins.room_left, proofs.OpenBegins.lift, proofs.StrictKinds.keeps_string}
+use Rattle.cbor_strict.{specs.inner.StrictEvents.IsNextOf, proofs.OpenBegins.space_left, proofs.OpenBegins.lift, proofs.StrictKinds.keeps_string}
 
 -- ---- within a head
 
-module _ (v : OpenItems) (b : Bounds) (e : ItemEventsView) (t : List ℕ) (h : IsItemDue v b e t) where
+module _ (v : OpenItems) (b : Bounds) (e : ItemEventsView) (t : List ℕ) (h : IsItemExpected v b e t) where
   abbrev are : AreOpen (strict v.order) b.depth (from_outside h.fs)
   are = h.around.are
 
@@ -30,7 +30,7 @@ module _ (v : OpenItems) (b : Bounds) (e : ItemEventsView) (t : List ℕ) (h : I
       subst (λ (x : List ℕ). IsJudged (strict v.order) 0 (b.depth - 0) (x ++ p) None) (sym h.taken)
       (lift v.order b h.fs are h.around.distinct p None (subst (λ (x : List ℕ). IsJudged (strict v.order) (length x) (b.depth - length (frames_in h.fs)) p None) h.taken j))
 
-  around : IsAround b.depth are.left (from_outside h.fs) t (IsKeyDue (from_outside h.fs))
+  around : IsAround b.depth are.left (from_outside h.fs) t (IsKeyExpected (from_outside h.fs))
   around = around_frames b.depth are.left (from_outside h.fs) t are.levels are.path (sym h.taken)
 
 -- ---- what was answered
@@ -43,24 +43,24 @@ of_refused false f e new from to t ms h = inl (h, λ a. absurd (true≢false (sy
 
 module _ (v : OpenItems) (b : Bounds) (e new : ItemEventsView) (t : List ℕ) (from to : Option (List ℕ)) (f : Refusal) (asked : Bool) (same : SameLimits e.machine new.machine) (reason : IsKeyReason f.reason)
     (all : new.machine.taken ≡ f.read) (most : new.machine.taken ≤ new.machine.bytes) (keeps : KeepsToKinds b (strict v.order) t) where
-  -- where an item is due
-  stopped_due : (h : IsItemDue v b e t) → ((asked ≡ true → AsksForKinds b (strict v.order) × IsKeyDue (from_outside h.fs)) × (AsksForKinds b (strict v.order) → IsKeyDue (from_outside h.fs) → asked ≡ true))
+  -- where an item is expected
+  stopped_expected : (h : IsItemExpected v b e t) → ((asked ≡ true → AsksForKinds b (strict v.order) × IsKeyExpected (from_outside h.fs)) × (AsksForKinds b (strict v.order) → IsKeyExpected (from_outside h.fs) → asked ≡ true))
       → ((ms : List Mark) → StandsBetween e.machine t ms → IsNextOf asked (Err f) (call e new from to t ms)) → ¬ IsComplete e.machine × IsRefusedBehind (strict v.order) b t from to f
-  stopped_due h due next =
+  stopped_expected h expected next =
       let cs = frames_in h.fs in
-      let room = room_left v.order b h.fs h.around.are h.around.distinct in
+      let space = space_left v.order b h.fs h.around.are h.around.distinct in
       elim (of_refused asked f e new from to t h.at.marks (next h.at.marks h.at.stands)) [
         | inr k ↦
-            let d = due.0 k.0 in (
+            let d = expected.0 k.0 in (
               k.1.unfinished,
-              stopped_other (strict v.order) b t from to f cs (around v b e t h) room (lifted v b e t h) keeps e k.1.byte h.at d.0 d.1 (subst (λ (n : ℕ). MayFollow n t k.1.byte) (same.depth ∙ h.at.depth) k.1.follows) k.1.item k.1.other k.1.consumed
+              stopped_other (strict v.order) b t from to f cs (around v b e t h) space (lifted v b e t h) keeps e k.1.byte h.at d.0 d.1 (subst (λ (n : ℕ). MayFollow n t k.1.byte) (same.depth ∙ h.at.depth) k.1.follows) k.1.item k.1.other k.1.consumed
                   (omega (arith, all, most, ap (λ (x : Refusal). x.read) k.1.is, same.bytes, h.at.bytes)) k.1.is,
             )
         | inl n ↦
             let s = stops b e new t (at_item cs) from to f h.at same n.0.1 in (
               n.0.0,
-              stopped_within (strict v.order) b t from to f cs (around v b e t h) room (lifted v b e t h) keeps s.bytes s.consumed s.read s.cut
-                  (λ asks key rest is. basic_first t s.cut.p s.cut.last from to s.bytes rest f.place (n.1 (due.1 asks key)) s.cut.place s.cut.splits s.consumed is),
+              stopped_within (strict v.order) b t from to f cs (around v b e t h) space (lifted v b e t h) keeps s.bytes s.consumed s.read s.cut
+                  (λ asks key rest is. basic_first t s.cut.p s.cut.last from to s.bytes rest f.place (n.1 (expected.1 asks key)) s.cut.place s.cut.splits s.consumed is),
             )
       ]
 
@@ -101,27 +101,27 @@ module _ (v : OpenItems) (b : Bounds) (e new : ItemEventsView) (t : List ℕ) (f
             )
       ]
 
--- whether a key is due that is asked for, as the code knows it
+-- whether a key is expected that is asked for, as the code knows it
 pub record IsAsked (asked : Bool) (keys : Keys) (v : OpenItems) : Type 0 where
-  pub due : (fs : List Frame) (p : List ℕ) → IsKept (seen v.keys) fs p → v.left ≡ 0 → (asked ≡ true) ↔ ((keys ≡ IntegersAndTexts) × IsKeyDue (from_outside fs))
+  pub expected : (fs : List Frame) (p : List ℕ) → IsKept (view_value v.keys) fs p → v.left ≡ 0 → (asked ≡ true) ↔ ((keys ≡ IntegersAndTexts) × IsKeyExpected (from_outside fs))
   pub payload : 0 < v.left → asked ≡ false
 
 -- the events refuse
 pub stopped_there : (v : OpenItems) (b : Bounds) (e new : ItemEventsView) (t : List ℕ) (from to : Option (List ℕ)) (f : Refusal) (asked : Bool) (keys : Keys) → SameLimits e.machine new.machine → IsKeyReason f.reason → new.machine.taken ≡ f.read → new.machine.taken ≤ new.machine.bytes
     → IsAsked asked keys v → b.keys ≡ keys → Stands v b e t → KeepsToKinds b (strict v.order) t → ((u : List ℕ) (ms : List Mark) → StandsBetween e.machine u ms → IsNextOf asked (Err f) (call e new from to u ms)) → ¬ IsComplete e.machine × IsRefusedBehind (strict v.order) b t from to f
 stopped_there v b e new t from to f asked keys same reason all most asks keys_are (inl h) keeps next =
-    let due = asks.due h.fs [] h.kept h.none in
-    stopped_due v b e new t from to f asked same reason all most keeps h (λ a. ((refl, keys_are ∙ (due.0 a).0), (due.0 a).1), λ k d. due.1 (sym keys_are ∙ k.1, d)) (λ ms st. next t ms st)
+    let expected = asks.expected h.fs [] h.kept h.none in
+    stopped_expected v b e new t from to f asked same reason all most keeps h (λ a. ((refl, keys_are ∙ (expected.0 a).0), (expected.0 a).1), λ k d. expected.1 (sym keys_are ∙ k.1, d)) (λ ms st. next t ms st)
 stopped_there v b e new t from to f asked keys same reason all most asks keys_are (inr (inl h)) keeps next =
     stopped_string v b e new t from to f asked same reason all most keeps h (λ u ms st. subst (λ (a : Bool). IsNextOf a (Err f) (call e new from to u ms)) (asks.payload h.some) (next u ms st))
 stopped_there v b e new t from to f asked keys same reason all most asks keys_are (inr (inr h)) keeps next =
     absurd (elim (of_refused asked f e new from to t h.at.marks (next t h.at.marks h.at.stands)) [ inl n ↦ n.0.0 (is-complete b e t h.at) | inr k ↦ k.1.unfinished (is-complete b e t h.at) ])
 
--- no payload is open where a key is due
+-- no payload is open where a key is expected
 pub no_payload : (v : OpenItems) (b : Bounds) (e : ItemEventsView) (t : List ℕ) (asked : Bool) (keys : Keys) → IsAsked asked keys v → Stands v b e t → asked ≡ true → e.machine.in_payload ≡ false
 no_payload v b e t asked keys asks (inl h) a = no-payload e.machine (frames_in h.fs) h.at.stands.stands.inner.shown h.at.state
 no_payload v b e t asked keys asks (inr (inl h)) a = absurd (true≢false (sym a ∙ asks.payload h.some))
-no_payload v b e t asked keys asks (inr (inr h)) a = absurd (((asks.due [] (spell h.item) h.kept h.none).0 a).1)
+no_payload v b e t asked keys asks (inr (inr h)) a = absurd (((asks.expected [] (spell h.item) h.kept h.none).0 a).1)
 
 -- no event is left out before it
 pub at_once_there : (asked : Bool) (o : KeyOrder) (f : Refusal) (e new : ItemEventsView) (from to : Option (List ℕ)) (t : List ℕ) (ms : List Mark) → IsNextOf asked (Err f) (call e new from to t ms) → StopsAtOnce o f (call e new from to t ms)

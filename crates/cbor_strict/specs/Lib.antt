@@ -1,3 +1,3 @@
-pub mod inner
 pub mod KeptKeys
 pub mod StrictReader
+pub mod inner

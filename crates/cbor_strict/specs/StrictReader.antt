@@ -1,4 +1,4 @@
--- What the strict reader tells of the item at the front of an input, event by event (RFC 8949, section 4.2).
+-- What the strict reader reports of the item at the start of an input, event by event (RFC 8949, section 4.2).
 use Rattle.std.specs.Prelude.{◌≡◌, ℕ, ◌≤◌, ◌⊎◌, ◌++◌, List, length, Option, Some, None, Result, Ok, Err, IfSome}
 use Rattle.std.specs.Io.KnownBytes.{Consumes}
 use Rattle.cbor_head.specs.Prelude.{Bounds, bounds, with_keys, Spelling, strict}
@@ -6,10 +6,10 @@ use Rattle.cbor_head.specs.{Laws.StartsWith, Laws.IsWithout, declared.keys.Keys.
 use Rattle.cbor_head.specs.declared.{reason.Reason.TheVariants.Memory, reason.Refusal.Refusal, width.Width.Width}
 use Rattle.cbor_automaton.specs.{Bytes.IsEventBytes, Trace.Mark, Marks.marks_of, declared.event.Event.Event, declared.event.EventKind.EventKind}
 use Rattle.cbor_automaton.specs.declared.event.EventKind.TheVariants.{Piece}
-use Rattle.cbor_standing.specs.NextEvent.{StandsBetween, Call, machine_call, IsNextEvent, IsEnd, IsCut, IsTooLong, HasFormError}
-use Rattle.cbor_standing.specs.{MachineView.MachineView, Machine.IsComplete}
+use Rattle.cbor_machine.specs.NextEvent.{StandsBetween, Call, machine_call, IsNextEvent, IsEnd, IsCut, IsTooLong, HasFormError}
+use Rattle.cbor_machine.specs.{MachineView.MachineView, Machine.IsComplete}
 use Rattle.cbor_events.specs.NextKey.{IsOtherKey}
-use Rattle.cbor_judging.specs.{Readers.IsUnread, Refusals.IsComplaintReason}
+use Rattle.cbor_verdict.specs.{Readers.IsUnread, Refusals.IsComplaintReason}
 use Rattle.cbor_strict.specs.{KeptKeys.open_maps, KeptKeys.key_bytes, inner.StrictEvents.Inner, inner.StrictEvents.IsInner}
 
 -- what contracts see of the events of an item by the strict rules: how far the form was read, the bytes of the last piece, what
@@ -36,67 +36,67 @@ pub record StrictReaderView (R : Type 0) : Type 0 where
   pub reader : R
   pub events : StrictEventsView
 
--- All events of t were told, by these marks, and nothing in t has a complaint.
+-- All events of t were reported, by these marks, and nothing in t has a complaint.
 pub record StandsStrictly (v : StrictEventsView) (t : List ℕ) (ms : List Mark) : Type 0 where
   pub between : StandsBetween v.machine t ms
   -- no complaint ends within t, of any item that starts with t
   pub clean : (s : Spelling) → StartsWith v.machine.depth s t → IsWithout (limits_of v) (strict v.order) s (length t)
-  -- what is kept is what each such item tells: a span for each open map, and the bytes of keys that are still to be compared
+  -- what is kept is what each such item reports: a span for each open map, and the bytes of keys that are still to be compared
   pub spans : (s : Spelling) → StartsWith v.machine.depth s t → v.spans ≡ open_maps (length t) s
   pub kept : (s : Spelling) → StartsWith v.machine.depth s t → v.kept ≡ key_bytes (length t) s
   pub live : v.refusal ≡ None
   -- the inner state is the one behind t
   pub inner : IsInner v.inner v.machine v.order v.keys t
 
--- One call for the next event: the events and what the reader holds, before it and after it; and what was taken and told before.
+-- One call for the next event: the events and what the reader holds, before it and after it; and what was taken and reported before.
 pub record StrictCall : Type 0 where
   pub old : StrictEventsView
   pub new : StrictEventsView
   pub held : Option (List ℕ)
   pub left : Option (List ℕ)
   pub taken : List ℕ
-  pub told : List Mark
+  pub reported : List Mark
 
--- a call, by what stood before it and after it, the bytes taken and the marks told
+-- a call, by what stood before it and after it, the bytes taken and the marks reported
 abbrev pub strict_call : StrictEventsView → StrictEventsView → Option (List ℕ) → Option (List ℕ) → List ℕ → List Mark → StrictCall
-strict_call from to before_it after_it t ms = record { old = from; new = to; held = before_it; left = after_it; taken = t; told = ms }
+strict_call from to before_it after_it t ms = record { old = from; new = to; held = before_it; left = after_it; taken = t; reported = ms }
 
 -- the call as one for an event by form alone
 abbrev pub form_call : StrictCall → Call
-form_call c = machine_call c.old.machine c.new.machine c.held c.left c.old.piece c.new.piece c.taken c.told
+form_call c = machine_call c.old.machine c.new.machine c.held c.left c.old.piece c.new.piece c.taken c.reported
 
 -- the next event, with which no complaint ends
 pub record IsNextClean (e : Event) (c : StrictCall) : Type 0 where
   pub event : IsNextEvent e (form_call c)
-  pub stands : StandsStrictly c.new (c.taken ++ event.bytes) (c.told ++ marks_of e.width e.kind)
+  pub stands : StandsStrictly c.new (c.taken ++ event.bytes) (c.reported ++ marks_of e.width e.kind)
 
--- all events were told, and nothing is read
+-- all events were reported, and nothing is read
 pub record IsCleanEnd (c : StrictCall) : Type 0 where
   pub end : IsEnd (form_call c)
-  pub stands : StandsStrictly c.new c.taken c.told
+  pub stands : StandsStrictly c.new c.taken c.reported
 
 -- what can be against an event that was read: a complaint that ends with it, or want of memory for it
 abbrev pub IsAgainstEvent : KeyOrder → Reason → Type 0
 IsAgainstEvent o reason = IsComplaintReason (strict o) reason ⊎ (reason ≡ Memory)
 
--- The bytes of one event were read, of a payload at most 512, and it is not told.
+-- The bytes of one event were read, of a payload at most 512, and it is not reported.
 pub record IsWithheld (o : KeyOrder) (f : Refusal) (c : Call) : Type 0 where
   pub width : Width
   pub kind : EventKind
   pub bytes : List ℕ
   pub consumed : Consumes c.held c.left bytes
-  pub are : IsEventBytes c.told width kind bytes
+  pub are : IsEventBytes c.reported width kind bytes
   pub piece : (n : ℕ) → kind ≡ Piece n → n ≤ 512
   pub read : f.read ≡ length (c.taken ++ bytes)
-  pub stands : StandsBetween c.new (c.taken ++ bytes) (c.told ++ marks_of width kind)
+  pub stands : StandsBetween c.new (c.taken ++ bytes) (c.reported ++ marks_of width kind)
   pub against : IsAgainstEvent o f.reason
 
--- No event was left out: behind what was told an event is withheld, or a key of another kind begins, or the form refuses before
+-- No event was left out: behind what was reported an event is withheld, or a key of another kind begins, or the form refuses before
 -- another event ends.
 abbrev pub StopsAtOnce : KeyOrder → Refusal → Call → Type 0
 StopsAtOnce o f c = IsCut f c ⊎ IsTooLong f c ⊎ HasFormError f c ⊎ IsWithheld o f c ⊎ IsOtherKey f c
 
--- No more is told. The refusal is that of what was taken and what the reader held behind it, and what it has read the reader lost.
+-- No more is reported. The refusal is that of what was taken and what the reader held behind it, and what it has read the reader lost.
 pub record IsStrictRefusal (f : Refusal) (c : StrictCall) : Type 0 where
   pub unfinished : ¬ IsComplete c.old.machine
   pub bytes : List ℕ

@@ -3,7 +3,7 @@
 ghost use Rattle.std.specs.Prelude.{◌≡◌, MatchOption};
 ghost use Rattle.cbor_head.specs.Complaint.{strict};
 ghost use Rattle.cbor_automaton.specs.Marks.{mark_of};
-ghost use Rattle.cbor_judging.specs.Reading.{IsFault};
+ghost use Rattle.cbor_verdict.specs.Reading.{IsFault};
 
 use cbor_automaton::{Event, EventKind};
 use cbor_head::{Head, KeyOrder, Major, Reason, Width};

@@ -5,23 +5,23 @@ ghost use Rattle.std.specs.Prelude.{IsTrue, ◌↔◌, OnOk, true};
 ghost use Rattle.cbor_head.specs.Order.{key_lt};
 ghost use Rattle.cbor_head.specs.Spelling.{Spelling, SpelledEntries, no_entries, entry, spell};
 ghost use Rattle.cbor_head.specs.declared.width.Width.{Width};
-ghost use Rattle.cbor_judging.specs.Frame.{Frame, a_key, a_content, before, plug};
-ghost use Rattle.cbor_judging.specs.Frame.{with_entries};
+ghost use Rattle.cbor_verdict.specs.Frame.{Frame, a_key, a_content, before, plug};
+ghost use Rattle.cbor_verdict.specs.Frame.{with_entries};
 ghost use Rattle.cbor_strict.specs.inner.LastKeys.{IsKept, IsFull, AreDefinite, HasKeyEnded};
 ghost use Rattle.cbor_strict.specs.inner.LastKeys.{AnswersKeyEnd};
-ghost use Rattle.cbor_strict.specs.inner.LastKeys.{seen, with_key, with_last, due_of};
+ghost use Rattle.cbor_strict.specs.inner.LastKeys.{view_value, with_key, with_last, expected_of};
 ghost use Rattle.cbor_strict.specs.inner.LastKeys.{still_open, ended_item};
 
 use crate::MOST_OPEN;
 use arrayvec::ArrayVec;
 use cbor_head::KeyOrder;
-use cbor_keys::compare_keys;
+use cbor_model::compare_keys;
 use std::alloc::{AllocError, Global};
 use std::cmp::Ordering;
 
-/// What is due in an open container.
+/// What is expected in an open container.
 #[derive(Clone, Copy, Default)]
-pub(crate) enum Due {
+pub(crate) enum Expected {
     /// A member of an array, or the content of a tag.
     #[default]
     Member,
@@ -34,7 +34,7 @@ pub(crate) enum Due {
 /// Where the last complete key of an open map lies in the buffer: nowhere yet, where it is empty;
 /// and where the next key begins.
 #[derive(Clone, Copy)]
-pub(crate) struct Span {
+pub(crate) struct KeySpan {
     from: usize,
     to: usize,
     next: usize,
@@ -44,9 +44,9 @@ pub(crate) struct Span {
 /// and the keys of a map in it are parts of those bytes.
 #[derive(Drop)]
 pub(crate) struct LastKeys {
-    // What is due in each open container.
-    levels: ArrayVec<Due, MOST_OPEN>,
-    spans: Vec<Span>,
+    // What is expected in each open container.
+    levels: ArrayVec<Expected, MOST_OPEN>,
+    spans: Vec<KeySpan>,
     bytes: Vec<u8>,
     // In how many keys that are not complete, or not begun, what comes stands.
     open_keys: usize,
@@ -55,7 +55,7 @@ pub(crate) struct LastKeys {
 impl LastKeys {
     // Nothing is open.
     pub(crate) fn new(alloc: Global) -> LastKeys
-        ensures { IsKept (seen result) [] [] }
+        ensures { IsKept (view_value result) [] [] }
     {
         LastKeys {
             levels: ArrayVec::new(),
@@ -67,22 +67,22 @@ impl LastKeys {
 
     // Of how many open maps a key is kept, or will be.
     pub(crate) fn spans(&self) -> usize
-        ensures { result ≡ length (seen self.now).spans }
+        ensures { result ≡ length (view_value self.now).spans }
     {
         self.spans.len()
     }
 
     // How many bytes are kept.
     pub(crate) fn kept(&self) -> usize
-        ensures { result ≡ length (seen self.now).bytes }
+        ensures { result ≡ length (view_value self.now).bytes }
     {
         self.bytes.len()
     }
 
     // Nothing is kept any more.
     pub(crate) fn forget(&mut self)
-        ensures none { ((seen self.new).spans ≡ []) × ((seen self.new).bytes ≡ [])
-            × ((seen self.new).levels ≡ []) }
+        ensures none { ((view_value self.new).spans ≡ []) × ((view_value self.new).bytes ≡ [])
+            × ((view_value self.new).levels ≡ []) }
     {
         self.levels.clear();
         self.spans.clear();
@@ -92,15 +92,15 @@ impl LastKeys {
     // Whether what comes stands in a key that is not complete.
     #[inline(always)]
     pub(crate) fn is_inside(&self) -> bool
-        ensures { IsTrue result ↔ (0 < (seen self.now).open_keys) }
+        ensures { IsTrue result ↔ (0 < (view_value self.now).open_keys) }
     {
         self.open_keys > 0
     }
 
     // Keeps the next bytes of an item, where it stands in a key.
     pub(crate) fn keep(&mut self, bytes: &[u8]) -> Result<(), AllocError>
-        ensures { (fs : List Frame) (p : List ℕ) → IsKept (seen self.old) fs p
-            → OnOk result (IsKept (seen self.new) fs (p ++ bytes.now)) }
+        ensures { (fs : List Frame) (p : List ℕ) → IsKept (view_value self.old) fs p
+            → OnOk result (IsKept (view_value self.new) fs (p ++ bytes.now)) }
     {
         if self.is_inside() {
             return self.bytes.extend_from_slice(bytes);
@@ -110,28 +110,28 @@ impl LastKeys {
 
     // An array or a tag opens, whose head was read.
     pub(crate) fn open_other(&mut self)
-        requires { length (seen self.old).levels < MOST_OPEN }
-        ensures { (f : Frame) (fs : List Frame) (p : List ℕ) → due_of f ≡ Due.Member
-            → IsKept (seen self.old) fs p → before f ≡ p → IsKept (seen self.new) (f ∷ fs) [] }
+        requires { length (view_value self.old).levels < MOST_OPEN }
+        ensures { (f : Frame) (fs : List Frame) (p : List ℕ) → expected_of f ≡ Expected.Member
+            → IsKept (view_value self.old) fs p → before f ≡ p → IsKept (view_value self.new) (f ∷ fs) [] }
     {
-        self.levels.push(Due::Member);
+        self.levels.push(Expected::Member);
     }
 
     // A map opens.
     pub(crate) fn open_map(&mut self) -> Result<(), AllocError>
-        requires levels { length (seen self.old).levels < MOST_OPEN }
-        requires keys { (seen self.old).open_keys ≤ MOST_OPEN }
+        requires levels { length (view_value self.old).levels < MOST_OPEN }
+        requires keys { (view_value self.old).open_keys ≤ MOST_OPEN }
         ensures { (w : Width) (v : Spelling) (b : SpelledEntries) (fs : List Frame) (p : List ℕ)
-            → IsKept (seen self.old) fs p → before (a_key w no_entries v b) ≡ p
-            → OnOk result (IsKept (seen self.new) (a_key w no_entries v b ∷ fs) []) }
+            → IsKept (view_value self.old) fs p → before (a_key w no_entries v b) ≡ p
+            → OnOk result (IsKept (view_value self.new) (a_key w no_entries v b ∷ fs) []) }
     {
         let here = self.bytes.len();
-        self.spans.push(Span {
+        self.spans.push(KeySpan {
             from: here,
             to: here,
             next: here,
         })?;
-        self.levels.push(Due::Key);
+        self.levels.push(Expected::Key);
         self.open_keys += 1;
         Ok(())
     }
@@ -139,9 +139,9 @@ impl LastKeys {
     // The containers close that an item's end leaves full: so many stay open.
     pub(crate) fn close(&mut self, left: usize)
         ensures { (fs : List Frame) (s : Spelling)
-            → IsKept (seen self.old) fs (spell s) → AreDefinite fs
+            → IsKept (view_value self.old) fs (spell s) → AreDefinite fs
             → length (still_open fs) ≡ left
-            → IsKept (seen self.new) (still_open fs) (spell (ended_item fs s)) }
+            → IsKept (view_value self.new) (still_open fs) (spell (ended_item fs s)) }
     {
         while self.levels.len() > left {
             self.close_one();
@@ -150,16 +150,16 @@ impl LastKeys {
 
     // The innermost container closes behind its last item.
     fn close_one(&mut self)
-        ensures fewer { 0 < length (seen self.old).levels
-            → length (seen self.new).levels < length (seen self.old).levels }
+        ensures fewer { 0 < length (view_value self.old).levels
+            → length (view_value self.new).levels < length (view_value self.old).levels }
         ensures closed { (f : Frame) (fs : List Frame) (s : Spelling) → IsFull f
-            → IsKept (seen self.old) (f ∷ fs) (spell s)
-            → IsKept (seen self.new) fs (spell (plug f s)) }
+            → IsKept (view_value self.old) (f ∷ fs) (spell s)
+            → IsKept (view_value self.new) fs (spell (plug f s)) }
     {
-        let Some(due) = self.levels.pop() else {
+        let Some(expected) = self.levels.pop() else {
             return;
         };
-        if let Due::Member = due {
+        if let Expected::Member = expected {
             return;
         }
         let Some(span) = self.spans.pop() else {
@@ -170,24 +170,24 @@ impl LastKeys {
         }
     }
 
-    // What is due in the innermost container.
-    pub(crate) fn due(&self) -> Due
+    // What is expected in the innermost container.
+    pub(crate) fn expected(&self) -> Expected
         ensures some { (f : Frame) (fs : List Frame) (p : List ℕ)
-            → IsKept (seen self.now) (f ∷ fs) p
-            → result ≡ due_of f }
-        ensures none { (p : List ℕ) → IsKept (seen self.now) [] p → result ≡ Due.Member }
+            → IsKept (view_value self.now) (f ∷ fs) p
+            → result ≡ expected_of f }
+        ensures none { (p : List ℕ) → IsKept (view_value self.now) [] p → result ≡ Expected.Member }
     {
         match self.levels.as_slice().last() {
-            Some(due) => *due,
-            None => Due::Member,
+            Some(expected) => *expected,
+            None => Expected::Member,
         }
     }
 
     // A key is complete: it takes the place of the one before it, if it comes behind that. Else its
     // length.
     pub(crate) fn end_key(&mut self, order: KeyOrder) -> Result<(), usize>
-        requires { HasKeyEnded (seen self.old) }
-        ensures { AnswersKeyEnd order (seen self.old) (seen self.new) result }
+        requires { HasKeyEnded (view_value self.old) }
+        ensures { AnswersKeyEnd order (view_value self.old) (view_value self.new) result }
     {
         let Some(last) = self.spans.last() else {
             unreachable!()
@@ -213,7 +213,7 @@ impl LastKeys {
     }
 
     // Whether no key of the map stands before the next one.
-    fn is_first(&self, span: Span) -> bool
+    fn is_first(&self, span: KeySpan) -> bool
         ensures { IsTrue result ↔ (span.from ≡ span.next)
             × (span.next < length self.now.bytes.items) }
     {
@@ -221,7 +221,7 @@ impl LastKeys {
     }
 
     // Whether the next key comes behind the last one.
-    fn rises(&self, order: KeyOrder, span: Span) -> bool
+    fn rises(&self, order: KeyOrder, span: KeySpan) -> bool
         requires order { span.from ≤ span.to }
         requires last { span.to ≤ length self.now.bytes.items }
         requires next { span.next ≤ length self.now.bytes.items }
@@ -234,14 +234,14 @@ impl LastKeys {
     }
 
     // The last bytes, from there on, are the last complete key of the innermost map, and its value
-    // is due.
+    // is expected.
     fn put_key(&mut self, from: usize)
-        ensures { seen self.new ≡ with_key (seen self.old) from }
+        ensures { view_value self.new ≡ with_key (view_value self.old) from }
     {
         let end = self.bytes.len();
         self.put(
-            Due::Content,
-            Span {
+            Expected::Content,
+            KeySpan {
                 from,
                 to: end,
                 next: end,
@@ -249,31 +249,31 @@ impl LastKeys {
         );
     }
 
-    // The value of a key is complete, and another key is due.
+    // The value of a key is complete, and another key is expected.
     pub(crate) fn end_content(&mut self)
-        requires { (seen self.old).open_keys ≤ MOST_OPEN }
+        requires { (view_value self.old).open_keys ≤ MOST_OPEN }
         ensures { (w : Width) (a : SpelledEntries) (k s l m : Spelling) (b : SpelledEntries)
             (fs : List Frame)
-            → IsKept (seen self.old) (a_content w a k (entry l m b) ∷ fs) (spell s)
-            → IsKept (seen self.new) (a_key w (with_entries a (entry k s no_entries)) m b ∷ fs) [] }
+            → IsKept (view_value self.old) (a_content w a k (entry l m b) ∷ fs) (spell s)
+            → IsKept (view_value self.new) (a_key w (with_entries a (entry k s no_entries)) m b ∷ fs) [] }
     {
         let Some(last) = self.spans.last() else {
             return;
         };
-        let span = Span {
+        let span = KeySpan {
             next: self.bytes.len(),
             ..*last
         };
-        self.put(Due::Key, span);
+        self.put(Expected::Key, span);
         self.open_keys += 1;
     }
 
-    // This is due in the innermost map now, and there lies its last key.
-    fn put(&mut self, due: Due, span: Span)
-        ensures { seen self.new ≡ with_last (seen self.old) due span }
+    // This is expected in the innermost map now, and there lies its last key.
+    fn put(&mut self, expected: Expected, span: KeySpan)
+        ensures { view_value self.new ≡ with_last (view_value self.old) expected span }
     {
         if let Some(last) = self.levels.last_mut() {
-            *last = due;
+            *last = expected;
         }
         if let Some(last) = self.spans.last_mut() {
             *last = span;

@@ -1,14 +1,14 @@
-//! Readers that accept the deterministic encoding alone (RFC 8949, section 4.2).
+//! The strict check: accepts the deterministic encoding alone (RFC 8949, section 4.2), from a slice, a reader, or event by event.
 //!
-//! [`read_strict`] reads one item from a reader, [`StrictReader`] tells its events one by one, and
-//! [`check_canonical`] looks for one at the front of a slice. None makes the item, and none takes
-//! memory but for the last key of each open map and its place; that of a slice takes none.
+//! Users call it through `cbor_reader`. [`check_canonical`] checks the item at the start of a slice and does not allocate;
+//! [`read_strict`] reads one item from a reader, and [`StrictReader`] gives its events. These two allocate for the last key of
+//! each open map alone.
 //!
 //! ```
 //! // {"Amt": -2, "Fun": true}
 //! let canonical = b"\xa2\x63Amt\x21\x63Fun\xf5";
 //! assert_eq!(rt; check_canonical(canonical, limits, KeyOrder::Bytewise), Ok(11));
-//! // the key "Amt" does not rise: its place, and the bytes up to its end
+//! // the key "Amt" does not rise: its offset, and the bytes up to its end
 //! let turned = b"\xa2\x63Fun\xf5\x63Amt\x21";
 //! let refusal = Refusal::new(Reason::KeyOrder, 6, 10);
 //! assert_eq!(rt; check_canonical(turned, limits, KeyOrder::Bytewise), Err(refusal));
@@ -19,7 +19,7 @@ mod head_faults;
 mod last_keys;
 mod open_items;
 mod strict_events;
-mod strict_front;
+mod strict_prefix;
 mod strict_reader;
 mod strict_slice;
 

@@ -7,9 +7,9 @@ ghost use Rattle.std.specs.Str.Lossy.{utf8_valid_len};
 ghost use Rattle.cbor_head.specs.Head.{IsSimple, major_number, shortest_head};
 ghost use Rattle.cbor_text.specs.TextCheck.{HasChecked};
 ghost use Rattle.cbor_strict.specs.StrictReader.{IsAgainstEvent};
-ghost use Rattle.cbor_judging.specs.Frame.{Frame};
-ghost use Rattle.cbor_judging.specs.Kinds.{IsKeyDue};
-ghost use Rattle.cbor_strict.specs.inner.LastKeys.{IsKept, seen, from_outside};
+ghost use Rattle.cbor_verdict.specs.Frame.{Frame};
+ghost use Rattle.cbor_verdict.specs.Kinds.{IsKeyExpected};
+ghost use Rattle.cbor_strict.specs.inner.LastKeys.{IsKept, view_value, from_outside};
 ghost use Rattle.cbor_strict.specs.inner.OpenItems.{IsItemEnded, AnswersEnd, IsHeadCome};
 ghost use Rattle.cbor_strict.specs.inner.OpenItems.{AnswersHead};
 ghost use Rattle.cbor_strict.specs.inner.OpenItems.{IsPartCome, AnswersPart, IsBegunIn};
@@ -17,7 +17,7 @@ ghost use Rattle.cbor_strict.specs.inner.OpenItems.{AnswersBegun};
 ghost use Rattle.cbor_strict.specs.inner.OpenItems.{IsSameString, IsBegunBy, short_head};
 
 use crate::head_faults::fault_of;
-use crate::last_keys::{Due, LastKeys};
+use crate::last_keys::{Expected, LastKeys};
 use cbor_automaton::{Event, EventKind};
 use cbor_head::{Head, KeyOrder, Keys, Major, Reason, Refusal};
 use cbor_text::TextCheck;
@@ -28,7 +28,7 @@ use std::alloc::{AllocError, Global};
 pub(crate) struct OpenItems {
     order: KeyOrder,
     pub(crate) keys: LastKeys,
-    // How many bytes are due of the payload of a string, and whether it is a text.
+    // How many bytes are expected of the payload of a string, and whether it is a text.
     left: u64,
     is_text: bool,
     check: TextCheck,
@@ -37,7 +37,7 @@ pub(crate) struct OpenItems {
 impl OpenItems {
     // Nothing is open.
     pub(crate) fn new(alloc: Global, order: KeyOrder) -> OpenItems
-        ensures kept { IsKept (seen result.keys) [] [] }
+        ensures kept { IsKept (view_value result.keys) [] [] }
         ensures none { result.left ≡ 0 }
         ensures order { result.order ≡ order }
     {
@@ -50,12 +50,12 @@ impl OpenItems {
         }
     }
 
-    // Whether a key is due that is to be an integer or a text, and nothing of it was read.
+    // Whether a key is expected that is to be an integer or a text, and nothing of it was read.
     #[inline(always)]
     pub(crate) fn asks(&self, keys: Keys) -> bool
-        ensures due { (fs : List Frame) (p : List ℕ) → IsKept (seen self.now.keys) fs p
+        ensures expected { (fs : List Frame) (p : List ℕ) → IsKept (view_value self.now.keys) fs p
             → self.now.left ≡ 0
-            → (result ≡ true) ↔ ((keys ≡ Keys.IntegersAndTexts) × IsKeyDue (from_outside fs)) }
+            → (result ≡ true) ↔ ((keys ≡ Keys.IntegersAndTexts) × IsKeyExpected (from_outside fs)) }
         ensures payload { 0 < self.now.left → result ≡ false }
     {
         let Keys::IntegersAndTexts = keys else {
@@ -64,10 +64,10 @@ impl OpenItems {
         if self.left > 0 {
             return false;
         }
-        matches!(self.keys.due(), Due::Key)
+        matches!(self.keys.expected(), Expected::Key)
     }
 
-    // The head of the item that is due, as the events tell it, and how many containers are open
+    // The head of the item that is expected, as the events report it, and how many containers are open
     // behind it.
     pub(crate) fn admit_head(
         &mut self,
@@ -94,8 +94,8 @@ impl OpenItems {
     // Keeps the head of an item, if it is definite and the item stands in a key.
     fn keep_head(&mut self, kind: &EventKind) -> Result<(), AllocError>
         ensures same { IsSameString self.old self.new }
-        ensures kept { (fs : List Frame) → IsKept (seen self.old.keys) fs []
-            → OnOk result (IsKept (seen self.new.keys) fs (short_head kind.now)) }
+        ensures kept { (fs : List Frame) → IsKept (view_value self.old.keys) fs []
+            → OnOk result (IsKept (view_value self.new.keys) fs (short_head kind.now)) }
     {
         if !self.keys.is_inside() {
             return Ok(());
@@ -133,10 +133,10 @@ impl OpenItems {
         Ok(())
     }
 
-    // A payload of so many bytes is due.
+    // A payload of so many bytes is expected.
     fn begin_string(&mut self, is_text: bool, count: u64)
         ensures same { (self.new.order ≡ self.old.order) × (self.new.keys ≡ self.old.keys) }
-        ensures due { (self.new.left ≡ count) × (self.new.is_text ≡ is_text) }
+        ensures expected { (self.new.left ≡ count) × (self.new.is_text ≡ is_text) }
         ensures checked { HasChecked self.new.check [] }
     {
         self.left = count;
@@ -144,7 +144,7 @@ impl OpenItems {
         self.check = TextCheck::new();
     }
 
-    // The next part of the payload that is due.
+    // The next part of the payload that is expected.
     pub(crate) fn admit_piece(
         &mut self,
         piece: &[u8],
@@ -174,10 +174,10 @@ impl OpenItems {
         }
     }
 
-    // A part of the payload that is due, which is kept already.
+    // A part of the payload that is expected, which is kept already.
     fn take_part(&mut self, piece: &[u8])
         requires fits { length piece.now ≤ self.old.left }
-        requires room { self.old.is_text ≡ true
+        requires space { self.old.is_text ≡ true
             → self.old.check.pushed + length piece.now < 2 ^ 64 }
         ensures same { (self.new.order ≡ self.old.order) × (self.new.keys ≡ self.old.keys) }
         ensures text { self.new.is_text ≡ self.old.is_text }
@@ -192,7 +192,7 @@ impl OpenItems {
     }
 
     // Whether the payload that was read is UTF-8, where it is that of a text; else the length of
-    // its longest front that is.
+    // its longest prefix that is.
     fn text_end(&self) -> Result<(), u64>
         ensures { (q : List ℕ) → (self.now.is_text ≡ true → HasChecked self.now.check q)
             → MatchResult result
@@ -215,13 +215,13 @@ impl OpenItems {
         ensures read { IfErr result (λ f. f.read ≡ taken) }
     {
         self.keys.close(open);
-        match self.keys.due() {
-            Due::Member => Ok(()),
-            Due::Content => {
+        match self.keys.expected() {
+            Expected::Member => Ok(()),
+            Expected::Content => {
                 self.keys.end_content();
                 Ok(())
             }
-            Due::Key => match self.keys.end_key(self.order) {
+            Expected::Key => match self.keys.end_key(self.order) {
                 Ok(()) => Ok(()),
                 Err(length) => { Err(Refusal::new(Reason::KeyOrder, taken - length as u64, taken)) }
             },

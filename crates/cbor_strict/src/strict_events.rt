@@ -3,8 +3,8 @@
 ghost use Rattle.std.specs.Prelude.{◌≡◌, ℕ, List, None, OnOk, IfErr, true, false};
 ghost use Rattle.cbor_automaton.specs.Trace.{Mark};
 ghost use Rattle.cbor_automaton.specs.Marks.{IsProper};
-ghost use Rattle.cbor_standing.specs.Machine.{KeepsLimits, IsIdle};
-ghost use Rattle.cbor_standing.specs.NextEvent.{IfTold, StandsBetween, call};
+ghost use Rattle.cbor_machine.specs.Machine.{KeepsLimits, IsIdle};
+ghost use Rattle.cbor_machine.specs.NextEvent.{IfReported, StandsBetween, call};
 ghost use Rattle.cbor_strict.specs.StrictReader.{StopsAtOnce};
 ghost use Rattle.cbor_strict.specs.inner.StrictEvents.{StandsSomewhere, AnswersStep, IsNextOf};
 ghost use Rattle.cbor_events.specs.NextKey.{IsKeyReason};
@@ -30,7 +30,7 @@ pub(crate) fn next_event<R: Read>(
         → StandsBetween events.old.machine t ms → StopsAtOnce items.old.order f
         (call events.old events.new (R.remaining reader.old) (R.remaining reader.new) t ms)) }
     ensures limits { KeepsLimits events.old.machine events.new.machine }
-    ensures proper { IfTold result (λ e. IsProper e.width e.kind) }
+    ensures proper { IfReported result (λ e. IsProper e.width e.kind) }
     ensures live { OnOk result (events.new.refusal ≡ None) }
     ensures taken { IfErr result (λ f. events.new.machine.taken ≡ f.read) }
     ensures idle { IsIdle events.old.machine → reader.new ≡ reader.old }
@@ -68,7 +68,7 @@ fn next_of<R: Read>(
         → IsNextOf is_asked result
         (call events.old events.new (R.remaining reader.old) (R.remaining reader.new) t ms) }
     ensures limits { KeepsLimits events.old.machine events.new.machine }
-    ensures proper { IfTold result (λ e. IsProper e.width e.kind) }
+    ensures proper { IfReported result (λ e. IsProper e.width e.kind) }
     ensures live { OnOk result (events.new.refusal ≡ None) }
     ensures taken { IfErr result (λ f. events.new.machine.taken ≡ f.read) }
     ensures reason { IfErr result (λ f. IsKeyReason f.reason) }

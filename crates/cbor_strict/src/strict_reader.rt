@@ -1,4 +1,4 @@
-//! The item at the front of an input, if it is canonical: its length, or its events.
+//! The item at the start of an input, if it is canonical: its length, or its events.
 
 ghost use Rattle.std.specs.Prelude.{◌≡◌, ◌≢◌, ◌≤◌, ℕ, List, [], length, None, Some, Err};
 ghost use Rattle.std.specs.Prelude.{IfOk, IfErr, IfSome, OnOk, OnErr};
@@ -6,20 +6,20 @@ ghost use Rattle.cbor_head.specs.Complaint.{strict};
 ghost use Rattle.cbor_head.specs.declared.reason.Reason.TheVariants as reasons;
 ghost use Rattle.cbor_automaton.specs.Trace.{Mark};
 ghost use Rattle.cbor_automaton.specs.Marks.{IsProper};
-ghost use Rattle.cbor_standing.specs.Machine.{KeepsLimits, IsIdle};
-ghost use Rattle.cbor_standing.specs.NextEvent.{IfTold};
-ghost use Rattle.cbor_judging.specs.Readers.{IsRead, IsUnread, IsCanonicalFront};
-ghost use Rattle.cbor_judging.specs.Readers.{HasNoCanonicalFront, Loses};
-ghost use Rattle.cbor_judging.specs.Refusals.{IsReaderReason};
+ghost use Rattle.cbor_machine.specs.Machine.{KeepsLimits, IsIdle};
+ghost use Rattle.cbor_machine.specs.NextEvent.{IfReported};
+ghost use Rattle.cbor_verdict.specs.Readers.{IsRead, IsUnread, IsCanonicalPrefix};
+ghost use Rattle.cbor_verdict.specs.Readers.{HasNoCanonicalPrefix, Loses};
+ghost use Rattle.cbor_verdict.specs.Refusals.{IsReaderReason};
 ghost use Rattle.cbor_strict.specs.StrictReader.{StrictReaderView, StandsStrictly};
 ghost use Rattle.cbor_strict.specs.StrictReader.{IsNextStrict, limits_of, strict_call};
-ghost use Rattle.cbor_strict.specs.inner.LastKeys.{seen};
+ghost use Rattle.cbor_strict.specs.inner.LastKeys.{view_value};
 ghost use Rattle.cbor_strict.specs.inner.StrictEvents.{StandsSomewhere, IsLittle, bounds_of};
 ghost use Rattle.cbor_strict.specs.inner.StrictEvents.{piece_unless};
 
 use crate::open_items::OpenItems;
 use crate::strict_events::next_event;
-use crate::strict_front::read_strict_front;
+use crate::strict_prefix::read_strict_prefix;
 use cbor_automaton::Event;
 use cbor_events::ItemEvents;
 use cbor_head::{KeyOrder, Keys, Limits, Refusal};
@@ -33,7 +33,7 @@ use std::marker::Model;
 /// No byte behind the item is read. The refusal is the one that the bytes within the limits call
 /// for, by the rules of the deterministic encoding; or `Read` or `Memory`, where the reader failed
 /// or memory was refused before: then the place is the count of the bytes taken. After a refusal as
-/// many bytes were taken as its `read` tells. No more containers are ever open than the depth limit
+/// many bytes were taken as its `read` reports. No more containers are ever open than the depth limit
 /// allows: that is an invariant of the machine that it reads through.
 pub fn read_strict<R: Read>(
     alloc: Global,
@@ -44,7 +44,7 @@ pub fn read_strict<R: Read>(
     ensures accepted { IfOk result (λ count. IfSome (R.remaining reader.old)
         (λ input. IsRead limits (strict order) input count)) }
     ensures canonical { IfOk result (λ count. IfSome (R.remaining reader.old)
-        (λ input. IsCanonicalFront limits order input count)) }
+        (λ input. IsCanonicalPrefix limits order input count)) }
     ensures taken { IfOk result
         (λ count. Loses count (R.remaining reader.old) (R.remaining reader.new)) }
     ensures refused { IfErr result (λ f. IfSome (R.remaining reader.old)
@@ -52,14 +52,14 @@ pub fn read_strict<R: Read>(
     ensures reason { IfErr result (λ f. IsReaderReason limits (strict order) f.reason) }
     ensures no_canonical { IfErr result (λ f. f.reason ≢ reasons.Read → f.reason ≢ reasons.Memory
         → IfSome (R.remaining reader.old)
-        (HasNoCanonicalFront limits order)) }
+        (HasNoCanonicalPrefix limits order)) }
     ensures read { IfErr result
         (λ f. Loses f.read (R.remaining reader.old) (R.remaining reader.new)) }
 {
     read_strict_by(alloc, &mut ItemEvents::new(limits), reader, limits, order)
 }
 
-/// The same, by events that the caller keeps from item to item: whatever they told before, they
+/// Checks an item by events that the caller keeps from item to item: whatever they reported before, they
 /// become the item's.
 pub fn read_strict_by<R: Read>(
     alloc: Global,
@@ -74,7 +74,7 @@ pub fn read_strict_by<R: Read>(
     ensures accepted { IfOk result (λ count. IfSome (R.remaining reader.old)
         (λ input. IsRead limits (strict order) input count)) }
     ensures canonical { IfOk result (λ count. IfSome (R.remaining reader.old)
-        (λ input. IsCanonicalFront limits order input count)) }
+        (λ input. IsCanonicalPrefix limits order input count)) }
     ensures taken { IfOk result
         (λ count. Loses count (R.remaining reader.old) (R.remaining reader.new)) }
     ensures refused { IfErr result (λ f. IfSome (R.remaining reader.old)
@@ -82,11 +82,11 @@ pub fn read_strict_by<R: Read>(
     ensures reason { IfErr result (λ f. IsReaderReason limits (strict order) f.reason) }
     ensures no_canonical { IfErr result (λ f. f.reason ≢ reasons.Read → f.reason ≢ reasons.Memory
         → IfSome (R.remaining reader.old)
-        (HasNoCanonicalFront limits order)) }
+        (HasNoCanonicalPrefix limits order)) }
     ensures read { IfErr result
         (λ f. Loses f.read (R.remaining reader.old) (R.remaining reader.new)) }
 {
-    match read_strict_front(alloc, events, reader, limits, order) {
+    match read_strict_prefix(alloc, events, reader, limits, order) {
         Ok(count) => Ok(count),
         Err(refusal) => Err(refusal),
     }
@@ -97,7 +97,7 @@ pub fn read_strict_by<R: Read>(
 ///
 /// The events are those of [`EventReader`](cbor_events::EventReader), but where a complaint ends
 /// with one, as where a key is complete that does not rise, its refusal stands in its place. Of a
-/// key of another kind than the limits ask for its first byte alone is read, and nothing is told.
+/// key of another kind than the limits ask for its first byte alone is read, and nothing is reported.
 /// What is kept grows with the open maps and their keys alone: of each open map the last complete
 /// key and its place, and all of a key that is not complete, a byte of it once however many maps it
 /// holds.
@@ -120,8 +120,8 @@ impl<R> Model for StrictReader<R> {
         piece = piece_unless e.refusal e.events.piece;
         order = e.items.order;
         keys = e.keys;
-        spans = length (seen e.items.keys).spans;
-        kept = length (seen e.items.keys).bytes;
+        spans = length (view_value e.items.keys).spans;
+        kept = length (view_value e.items.keys).bytes;
         refusal = e.refusal;
         inner = record { events = e.events; items = e.items };
       };
@@ -131,7 +131,7 @@ impl<R> Model for StrictReader<R> {
       stands : e.refusal ≡ None → StandsSomewhere e.keys e.items e.events;
       stopped : IfSome e.refusal (λ f. (f.read ≡ e.events.machine.taken)
           × IsReaderReason (bounds_of e.events.machine e.keys) (strict e.items.order) f.reason
-          × (length (seen e.items.keys).spans ≡ 0) × (length (seen e.items.keys).bytes ≡ 0));
+          × (length (view_value e.items.keys).spans ≡ 0) × (length (view_value e.items.keys).bytes ≡ 0));
       within : e.events.machine.open_count ≤ e.events.machine.depth;
       limited : e.events.machine.taken ≤ e.events.machine.bytes;
       little : IsLittle e.items e.events;
@@ -173,7 +173,7 @@ impl<R: Read> StrictReader<R> {
         ensures limits { KeepsLimits self.old.events.machine self.new.events.machine }
         ensures order { self.new.events.order ≡ self.old.events.order }
         ensures keys { self.new.events.keys ≡ self.old.events.keys }
-        ensures proper { IfTold result (λ e. IsProper e.width e.kind) }
+        ensures proper { IfReported result (λ e. IsProper e.width e.kind) }
         ensures live { OnOk result (self.new.events.refusal ≡ None) }
         ensures refused { IfErr result (λ f. (self.new.events.refusal ≡ Some f)
             × (self.new.events.machine.taken ≡ f.read)

@@ -1,13 +1,13 @@
-//! The item at the front of a slice, if it is canonical.
+//! The item at the start of a slice, if it is canonical.
 
 ghost use Rattle.std.specs.Prelude.{◌≡◌, IfOk, IfErr};
 ghost use Rattle.cbor_head.specs.Complaint.{strict};
 ghost use Rattle.cbor_head.specs.Verdict.{IsVerdict, refused};
-ghost use Rattle.cbor_judging.specs.Readers.{IsRead, IsCanonicalFront, HasNoCanonicalFront};
-ghost use Rattle.cbor_front.specs.NotCanonical.{strict_refusal};
+ghost use Rattle.cbor_verdict.specs.Readers.{IsRead, IsCanonicalPrefix, HasNoCanonicalPrefix};
+ghost use Rattle.cbor_parser.specs.NotCanonical.{strict_refusal};
 
-use cbor_front::canonical_front;
 use cbor_head::{KeyOrder, Limits, Reason, Refusal};
+use cbor_parser::canonical_prefix;
 
 /// How many bytes the item has that the slice begins with, where they are its canonical bytes in
 /// this order (RFC 8949, sections 4.2.1 and 4.2.3); else the refusal that the bytes within the
@@ -18,11 +18,11 @@ use cbor_head::{KeyOrder, Limits, Reason, Refusal};
 /// of the slice.
 pub fn check_canonical(bytes: &[u8], limits: Limits, order: KeyOrder) -> Result<u64, Refusal>
     ensures accepted { IfOk result (λ count. IsRead limits (strict order) bytes.now count) }
-    ensures canonical { IfOk result (λ count. IsCanonicalFront limits order bytes.now count) }
+    ensures canonical { IfOk result (λ count. IsCanonicalPrefix limits order bytes.now count) }
     ensures refused { IfErr result (λ f. IsVerdict limits (strict order) bytes.now (refused f)) }
-    ensures no_canonical { IfErr result (λ f. HasNoCanonicalFront limits order bytes.now) }
+    ensures no_canonical { IfErr result (λ f. HasNoCanonicalPrefix limits order bytes.now) }
 {
-    match canonical_front(bytes, limits, order) {
+    match canonical_prefix(bytes, limits, order) {
         Ok(count) => Ok(count),
         Err(refusal) => Err(strictly(refusal)),
     }

@@ -100,6 +100,6 @@ ascii-mask xs count long small h =
 -- ---- a chunk and what it is of
 
 -- the same of what the mask was made of
-pub short_ascii : (front chunk : List ℕ) (count last : ℕ) → last + 1 ≡ count → count ≤ 32 → chunk ≡ take 32 front → IsAscii (take (last + 1) chunk) → IsAscii (take count front)
-short_ascii front chunk count last one small is h =
-    subst IsAscii (ap (take (last + 1)) is ∙ take-take (last + 1) 32 front (omega (arith, one, small)) ∙ ap (λ k. take k front) one) h
+pub short_ascii : (prefix chunk : List ℕ) (count last : ℕ) → last + 1 ≡ count → count ≤ 32 → chunk ≡ take 32 prefix → IsAscii (take (last + 1) chunk) → IsAscii (take count prefix)
+short_ascii prefix chunk count last one small is h =
+    subst IsAscii (ap (take (last + 1)) is ∙ take-take (last + 1) 32 prefix (omega (arith, one, small)) ∙ ap (λ k. take k prefix) one) h

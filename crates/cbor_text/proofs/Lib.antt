@@ -1,2 +1,2 @@
 pub mod AsciiMasks
-pub mod TextFronts
+pub mod TextPrefixes

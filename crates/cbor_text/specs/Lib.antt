@@ -1,2 +1,2 @@
-pub mod inner
 pub mod TextCheck
+pub mod inner

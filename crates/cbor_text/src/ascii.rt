@@ -7,7 +7,7 @@ use std::simd::prelude::*;
 
 // Whether the first byte and so many bytes behind it are ASCII.
 #[inline(always)]
-fn is_ascii_front(chunk: &[u8; 32], count: u8) -> bool
+fn is_ascii_prefix(chunk: &[u8; 32], count: u8) -> bool
     requires { count < 32 }
     ensures { (result ≡ true) ↔ IsAscii (take (count + 1) chunk.now) }
 {
@@ -17,21 +17,21 @@ fn is_ascii_front(chunk: &[u8; 32], count: u8) -> bool
     high << (63 - count) == 0
 }
 
-// Whether so many bytes in front are ASCII. False says nothing: more than 32 may be asked for.
+// Whether so many bytes at the start are ASCII. False says nothing: more than 32 may be asked for.
 #[inline(always)]
-pub(crate) fn is_short_ascii(front: &[u8], count: usize) -> bool
-    ensures { result ≡ true → IsAscii (take count front.now) }
+pub(crate) fn is_short_ascii(prefix: &[u8], count: usize) -> bool
+    ensures { result ≡ true → IsAscii (take count prefix.now) }
 {
     if count == 0 || count > 32 {
         return false;
     }
-    match front.first_chunk::<32>() {
-        Some(chunk) => is_ascii_front(chunk, count as u8 - 1),
-        None => is_ascii_end(&front[..count.min(front.len())]),
+    match prefix.first_chunk::<32>() {
+        Some(chunk) => is_ascii_prefix(chunk, count as u8 - 1),
+        None => is_ascii_end(&prefix[..count.min(prefix.len())]),
     }
 }
 
-// The same of fewer bytes, at the end of an input.
+// Whether fewer bytes, at the end of an input, are ASCII.
 #[inline(never)]
 fn is_ascii_end(bytes: &[u8]) -> bool
     ensures { result ≡ true → IsAscii bytes.now }

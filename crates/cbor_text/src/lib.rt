@@ -1,13 +1,12 @@
-//! Whether bytes are UTF-8 (RFC 3629).
+//! Checks that bytes are UTF-8 (RFC 3629): the engine behind every check of a text string.
 //!
-//! [`check_text`] answers it of a slice, and [`TextCheck`] of bytes that come in pieces: how long
-//! their longest front is that is UTF-8, however they are cut. [`is_text_front`] sees at once that a
-//! short text is ASCII.
+//! The parsers call [`check_text`] for a slice and [`is_text_prefix`] for a short text of ASCII; the readers over events call
+//! [`TextCheck`], which takes a text in pieces. Each reports the length of the longest prefix that is UTF-8.
 #![tactic(auto)]
 
 mod ascii;
 mod text;
 mod text_check;
 
-pub use text::{check_text, is_text_front};
+pub use text::{check_text, is_text_prefix};
 pub use text_check::TextCheck;

@@ -5,7 +5,7 @@ ghost use Rattle.std.specs.Str.Lossy.{utf8_valid_len};
 
 use crate::ascii::is_short_ascii;
 
-/// Whether the bytes are UTF-8, or the length of their longest front that is.
+/// Whether the bytes are UTF-8, or the length of their longest prefix that is.
 pub fn check_text(bytes: &[u8]) -> Result<(), usize>
     ensures checked { MatchResult result
         (λ _. IsUtf8 bytes.now)
@@ -18,15 +18,15 @@ pub fn check_text(bytes: &[u8]) -> Result<(), usize>
     }
 }
 
-/// Whether so many bytes in front are UTF-8. Of up to 32 bytes of ASCII it sees it at once, where
+/// Whether so many bytes at the start are UTF-8. Of up to 32 bytes of ASCII it sees it at once, where
 /// 32 stand there.
 #[inline(always)]
-pub fn is_text_front(front: &[u8], count: usize) -> bool
-    requires { count ≤ length front.now }
-    ensures { (result ≡ true) ↔ IsUtf8 (take count front.now) }
+pub fn is_text_prefix(prefix: &[u8], count: usize) -> bool
+    requires { count ≤ length prefix.now }
+    ensures { (result ≡ true) ↔ IsUtf8 (take count prefix.now) }
 {
-    if is_short_ascii(front, count) {
+    if is_short_ascii(prefix, count) {
         return true;
     }
-    check_text(&front[..count]).is_ok()
+    check_text(&prefix[..count]).is_ok()
 }

@@ -1,4 +1,4 @@
-//! Tells how far bytes that come in pieces are UTF-8.
+//! Reports how far bytes that come in pieces are UTF-8.
 
 ghost use Rattle.std.specs.Prelude.{◌≡◌, ℕ, ◌+◌, ◌^◌, ◌<◌, ◌≤◌, List, [], ◌++◌, length, MatchOption, MatchResult, IsUtf8};
 ghost use Rattle.std.specs.Prelude.{true};
@@ -21,7 +21,7 @@ pub struct TextCheck {
     pushed: u64,
     // The begun character, where the bytes so far end within one.
     carried: ArrayVec<u8, 3>,
-    // The longest valid front, once no further byte can make it longer.
+    // The longest valid prefix, once no further byte can make it longer.
     fault: Option<u64>,
 }
 
@@ -77,7 +77,7 @@ impl TextCheck {
     }
 
     /// Whether all that was pushed is UTF-8. The error is the length in bytes of its longest
-    /// front that is; it ends where a character does.
+    /// prefix that is; it ends where a character does.
     pub fn end(&self) -> Result<(), u64>
         ensures { (bytes : List ℕ) → HasChecked self.now bytes
             → MatchResult result
@@ -94,7 +94,7 @@ impl TextCheck {
 
 // How far some bytes are UTF-8.
 #[derive(Clone, Copy)]
-enum Front {
+enum Prefix {
     Whole,
     // So many of them, and the rest may begin a character.
     Open(usize),
@@ -123,17 +123,17 @@ fn are_few_ascii(bytes: &[u8]) -> bool
 
 // How far bytes that begin where a character does are UTF-8.
 #[inline(always)]
-fn judge(bytes: &[u8]) -> Front
+fn judge(bytes: &[u8]) -> Prefix
     ensures { IsJudged bytes.now result }
 {
     if are_few_ascii(bytes) {
-        return Front::Whole;
+        return Prefix::Whole;
     }
     match simdutf8::compat::from_utf8(bytes) {
-        Ok(_) => Front::Whole,
+        Ok(_) => Prefix::Whole,
         Err(e) => match e.error_len() {
-            None => Front::Open(e.valid_up_to()),
-            Some(_) => Front::Fixed(e.valid_up_to()),
+            None => Prefix::Open(e.valid_up_to()),
+            Some(_) => Prefix::Fixed(e.valid_up_to()),
         },
     }
 }
@@ -168,16 +168,16 @@ fn fill(carried: &[u8], piece: &[u8]) -> Filled
     let held = carried.len();
     let more = piece.len().min(4 - held);
     match judge(join(carried, &piece[..more]).as_slice()) {
-        Front::Whole => Filled::Past(more),
-        Front::Open(0) => Filled::Short,
-        Front::Fixed(0) => Filled::Never,
-        Front::Open(n) => Filled::Past(n - held),
-        Front::Fixed(n) => Filled::Past(n - held),
+        Prefix::Whole => Filled::Past(more),
+        Prefix::Open(0) => Filled::Short,
+        Prefix::Fixed(0) => Filled::Never,
+        Prefix::Open(n) => Filled::Past(n - held),
+        Prefix::Fixed(n) => Filled::Past(n - held),
     }
 }
 
 // Judges a piece that begins where a character does, and carries its unfinished tail. The answer is
-// its longest valid front where no further byte can make that longer.
+// its longest valid prefix where no further byte can make that longer.
 #[inline(always)]
 fn scan(carried: &mut ArrayVec<u8, 3>, piece: &[u8]) -> Option<usize>
     requires { carried.old.items ≡ [] }
@@ -189,20 +189,20 @@ fn scan(carried: &mut ArrayVec<u8, 3>, piece: &[u8]) -> Option<usize>
     ensures fewer { length carried.new.items ≤ length piece.now }
 {
     match judge(piece) {
-        Front::Whole => None,
-        Front::Open(n) => {
+        Prefix::Whole => None,
+        Prefix::Open(n) => {
             append(carried, &piece[n..]);
             None
         }
-        Front::Fixed(n) => Some(n),
+        Prefix::Fixed(n) => Some(n),
     }
 }
 
-// The same of the carried bytes and the piece that follows them.
+// Judges the carried bytes and the piece that follows them.
 #[inline(always)]
 fn go_on(carried: &mut ArrayVec<u8, 3>, piece: &[u8]) -> Option<usize>
     requires unfinished { IsUnfinished carried.old.items }
-    requires room { length carried.old.items + length piece.now < 2 ^ 64 }
+    requires space { length carried.old.items + length piece.now < 2 ^ 64 }
     ensures found { MatchOption result
         (IsOpen (carried.old.items ++ piece.now) carried.new.items)
         (λ n. IsFixed (carried.old.items ++ piece.now) n) }

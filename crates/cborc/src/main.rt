@@ -1,4 +1,4 @@
-//! `cborc`, a program for deterministic CBOR files: see [`run`](cborc_words::run::run).
+//! `cborc`, a program for deterministic CBOR files: see [`run`](crate::program::run).
 //!
 //! ```text
 //! $ printf bf6346756ef563416d7421ff | cborc canon --hex --hex-out - -
@@ -8,13 +8,17 @@
 //! ```
 #![tactic(auto)]
 
+mod cli;
+mod command_line;
+pub mod no_text;
+pub mod program;
 #[cfg(test)]
 mod tests;
 
+use crate::no_text::fault_of_words;
+use crate::program::run;
 use cborc_commands::{Fault, end};
-use cborc_disk::Disk;
-use cborc_words::no_text::fault_of_words;
-use cborc_words::run::run;
+use cborc_files::Disk;
 use std::io::BufWriter;
 use std::process::ExitCode;
 use std::{env, io};

@@ -11,14 +11,14 @@ mod refused;
 mod rows;
 mod streams;
 
+use crate::program::run;
 use cborc_files::{Cause, FileFault, Folder};
-use cborc_words::run::run;
 use std::alloc::{AllocError, Global};
 use std::io::{self, ErrorKind, Write};
 
 // A folder with two files to read, of which the first is standard input too, and which keeps what is
 // written. The path `locked` is not permitted, `folder` is a folder, `full` wants memory, `small` has
-// room for two bytes, and any other file is not there. No new file is made in the folders `locked` and
+// space for two bytes, and any other file is not there. No new file is made in the folders `locked` and
 // `absent`.
 #[derive(Drop)]
 struct Shelf<'a> {
@@ -28,21 +28,21 @@ struct Shelf<'a> {
     cause: Option<Cause>,
 }
 
-// The bytes of a file, and for how many more there is room.
+// The bytes of a file, and for how many more there is space.
 #[derive(Drop)]
 struct Draft {
     bytes: Vec<u8>,
-    room: usize,
+    scratch: usize,
 }
 
 impl Write for Draft {
     fn write(&mut self, bytes: &[u8]) -> io::Result<usize> {
-        let taken = bytes.len().min(self.room);
+        let taken = bytes.len().min(self.scratch);
         if taken == 0 {
             return Err(io::Error::from(ErrorKind::StorageFull));
         }
         self.bytes.extend_from_slice(&bytes[..taken])?;
-        self.room -= taken;
+        self.scratch -= taken;
         Ok(taken)
     }
 
@@ -66,7 +66,7 @@ impl<'a> Folder for Shelf<'a> {
     fn begin(&mut self, path: &str) -> Result<Draft, AllocError> {
         Ok(Draft {
             bytes: Vec::new(*self.written.allocator()),
-            room: if path == "small" { 2 } else { usize::MAX },
+            scratch: if path == "small" { 2 } else { usize::MAX },
         })
     }
 
@@ -79,7 +79,7 @@ impl<'a> Folder for Shelf<'a> {
     }
 
     fn abandon(&mut self, draft: Draft) -> FileFault {
-        if draft.room == 0 {
+        if draft.scratch == 0 {
             self.fail("small")
         } else {
             FileFault::Memory
@@ -212,7 +212,7 @@ fn bytes_of(alloc: Global, line: &str, file: &str) -> Result<Vec<u8>, AllocError
     }
 }
 
-// The same, with outputs that take all. A run that ends for want of memory, and was not to, is an
+// Runs the words with outputs that take all. A run that ends for want of memory, and was not to, is an
 // error here: so a test ends where an allocation is made to fail.
 fn ran(alloc: Global, line: &str, files: &str) -> Result<Outcome, AllocError> {
     let mut out = Vec::with_capacity(alloc, 2048)?;

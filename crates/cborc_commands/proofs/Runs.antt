@@ -1,13 +1,12 @@
 -- What a run leaves, by the parts of its end.
 use Rattle.std.proofs.Common.{ℕ, ◌≡◌, ◌≢◌, ◌⊎◌, ◌∙◌, ap, inl, inr, refl, sym, subst, List, Option, None, Result, Ok, Err, OnErr, IfOk, IfErr}
-use Rattle.std.specs.{Borrow.Bor, Io.KnownBytes.Keeps}
+use Rattle.std.specs.Io.KnownBytes.{Keeps}
 use Rattle.cbor_head.specs.declared.order.KeyOrder.{KeyOrder}
 use Rattle.cborc_files.specs.Folder.{Files, KeepsFiles}
-use Rattle.cborc_input.specs.declared.fault.Fault.TheVariants as faults
-use Rattle.cborc_input.specs.{Fault.end_status, Fault.status_number, declared.request.Options.Options, declared.request.Output.Output}
-use Rattle.cborc_input.specs.declared.{request.Request.Request, request.Request.TheVariants.Canon, request.Request.TheVariants.CanonSequence, fault.Fault.Fault}
-use Rattle.cborc_input.specs.declared.status.Status.{Status}
-use Rattle.cborc_commands.specs.Told.{IsSilent, IsStatus, IsAnswered, done, stopped, IsAnsweredQuietly}
+use Rattle.cborc_commands.specs.declared.fault.Fault.TheVariants as faults
+use Rattle.cborc_commands.specs.Outcome.{IsSilent, IsStatus, IsAnswered, done, stopped, IsAnsweredQuietly, IsAnsweredQuietlyBy}
+use Rattle.cborc_commands.specs.{Fault.end_status, Fault.status_number, declared.request.Output.Output, declared.request.Action.Action}
+use Rattle.cborc_commands.specs.declared.{request.Action.TheVariants.Canon, request.Request.Request, fault.Fault.Fault, status.Status.Status}
 use Rattle.cborc_commands.specs.Answer.{IsDone, IsNotDone}
 
 -- the end, once standard output sent on what it took, or did not
@@ -25,30 +24,21 @@ module _ (request : Request) (old new : Option Files) (before taken after : Opti
   answered_so (Ok s) sent d n k q e status is = done s taken d keeps (status_sent (Ok s) sent e status is)
   answered_so (Err fault) sent d n k q e status is = stopped fault taken n k q keeps (status_sent (Err fault) sent e status is)
 
--- an answer that is not told, but for those of `canon` and `canon --seq`
-module _ (old new : Option Files) (before after : Option (List ℕ)) (keeps : Keeps before after) (status : ℕ) where
-  pub quietly : (request : Request) → ((source : Bor (List ℕ)) (output : Output) (order : KeyOrder) (options : Options) → request ≢ Canon source output order options)
-      → ((source : Bor (List ℕ)) (output : Output) (order : KeyOrder) (options : Options) → request ≢ CanonSequence source output order options) → IsAnswered request old new None None status → IsAnsweredQuietly request old new before after status
-  quietly (Canon source output order options) one all h = absurd (one source output order options refl)
-  quietly (CanonSequence source output order options) one all h = absurd (all source output order options refl)
-  quietly _ one all h = (h, keeps)
+-- an answer without output, but for those of `canon`
+module _ (request : Request) (old new : Option Files) (before after : Option (List ℕ)) (status : ℕ) where
+  pub quietly : Keeps before after → (action : Action) → ((output : Output) (order : KeyOrder) → action ≢ Canon output order)
+      → IsAnswered request old new None None status → IsAnsweredQuietlyBy action request old new before after status
+  quietly keeps (Canon output order) other h = absurd (other output order refl)
+  quietly keeps _ other h = (h, keeps)
 
   -- what standard output took is not known there
-  pub sunk : (request : Request) → ((source : Bor (List ℕ)) (output : Output) (order : KeyOrder) (options : Options) → request ≢ Canon source output order options)
-      → ((source : Bor (List ℕ)) (output : Output) (order : KeyOrder) (options : Options) → request ≢ CanonSequence source output order options) → (ended : Result Status Fault) → IfOk ended (IsDone request old new None None) → IfErr ended (IsNotDone request old None None)
-      → OnErr ended (KeepsFiles old new) → IfErr ended (λ fault. IsSilent request fault None None) → status ≡ status_number (end_status ended)
+  pub sunk : Keeps before after → ((output : Output) (order : KeyOrder) → request.action ≢ Canon output order) → (ended : Result Status Fault)
+      → IfOk ended (IsDone request old new None None) → IfErr ended (IsNotDone request old None None) → OnErr ended (KeepsFiles old new)
+      → IfErr ended (λ fault. IsSilent request fault None None) → status ≡ status_number (end_status ended) → IsAnsweredQuietly request old new before after status
+  sunk keeps other ended d n k q is =
+      quietly keeps request.action other (answered_so request old new None None None tt ended ended d n k q (inl refl) status is)
+
+  -- canonical bytes are written
+  pub reported_canon : ((output : Output) × (order : KeyOrder) × (request.action ≡ Canon output order)) → IsAnswered request old new before after status
       → IsAnsweredQuietly request old new before after status
-  sunk request one all ended d n k q is = quietly request one all (answered_so request old new None None None tt ended ended d n k q (inl refl) status is)
-
-module _ (request : Request) (old new : Option Files) (before after : Option (List ℕ)) (status : ℕ) where
-  -- the request is to write canonical bytes
-  abbrev pub WritesCanonical : Type 0
-  WritesCanonical =
-      ((source : Bor (List ℕ)) × (output : Output) × (order : KeyOrder) × (options : Options) × (request ≡ Canon source output order options))
-      ⊎ ((source : Bor (List ℕ)) × (output : Output) × (order : KeyOrder) × (options : Options) × (request ≡ CanonSequence source output order options))
-
-  pub told_canon : WritesCanonical → IsAnswered request old new before after status → IsAnsweredQuietly request old new before after status
-  told_canon (inl one) h =
-      subst (λ (r : Request). IsAnswered r old new before after status → IsAnsweredQuietly r old new before after status) (sym one.4) (λ k. k) h
-  told_canon (inr all) h =
-      subst (λ (r : Request). IsAnswered r old new before after status → IsAnsweredQuietly r old new before after status) (sym all.4) (λ k. k) h
+  reported_canon one h = subst (λ (a : Action). IsAnsweredQuietlyBy a request old new before after status) (sym one.2) h

@@ -1,46 +1,49 @@
 -- What comes of a request.
-use Rattle.std.specs.Prelude.{ℕ, List, Option}
+use Rattle.std.specs.Prelude.{ℕ, List, Option, Bool, true, false}
 use Rattle.std.specs.Io.KnownBytes.{Appends}
 use Rattle.cborc_files.specs.Folder.{Files, KeepsFiles}
-use Rattle.cborc_input.specs.declared.request.Request.TheVariants.{Check, CheckSequence, Canon, CanonSequence, Compare, Show, ShowSequence, Events, EventsSequence}
-use Rattle.cborc_input.specs.{Put.IsPut, Rules.rules_of, declared.request.Request.Request, declared.fault.Fault.Fault, declared.status.Status.Status}
-use Rattle.cborc_input.specs.declared.status.Status.TheVariants.{Accepted}
-use Rattle.cborc_items.specs.{Canon.HasText, Canon.IsNotCanonised, Check.IsChecked, Check.IsNotChecked, Compare.AreCompared, Compare.AreNotCompared}
-use Rattle.cborc_items.specs.{Events.IsListedOf, Events.IsNotListedOf, Show.IsShownOf, Show.IsNotShown}
-use Rattle.cborc_sequences.specs.CanonSequence.{IsSequenceCanonised, IsSequenceNotCanonised}
-use Rattle.cborc_sequences.specs.CheckSequence.{IsSequenceChecked, IsSequenceNotChecked}
-use Rattle.cborc_sequences.specs.EventsSequence.{IsSequenceListed, IsSequenceNotListed}
-use Rattle.cborc_sequences.specs.ShowSequence.{IsSequenceShown, IsSequenceNotShown}
+use Rattle.cborc_commands.specs.declared.request.Action.TheVariants.{Check, Canon, Compare, Show, Events}
+use Rattle.cborc_commands.specs.{declared.request.Action.Action, Put.IsPut, Rules.rules_of, declared.request.Options.Options, declared.request.Request.Request}
+use Rattle.cborc_commands.specs.declared.{fault.Fault.Fault, status.Status.Status, status.Status.TheVariants.Accepted}
+use Rattle.cborc_commands.specs.{Canon.HasText, Canon.IsNotCanonised, Check.IsChecked, Check.IsNotChecked, Compare.AreCompared, Compare.AreNotCompared}
+use Rattle.cborc_commands.specs.{Events.IsListedOf, Events.IsNotListedOf, Show.IsShownOf, Show.IsNotShown}
+use Rattle.cborc_commands.specs.CanonSequence.{IsSequenceCanonised, IsSequenceNotCanonised}
+use Rattle.cborc_commands.specs.CheckSequence.{IsSequenceChecked, IsSequenceNotChecked}
+use Rattle.cborc_commands.specs.EventsSequence.{IsSequenceListed, IsSequenceNotListed}
+use Rattle.cborc_commands.specs.ShowSequence.{IsSequenceShown, IsSequenceNotShown}
 
--- what a request's answer tells, by its subcommand and status; no file is changed but by `canon`
+-- what the answer to an action says of a file, or of a sequence in it, by the status; no file is changed but by `canon`
+abbrev pub IsActionDone : Action → Bool → Options → List ℕ → Option Files → Option Files → Option (List ℕ) → Option (List ℕ) → Status → Type 0
+IsActionDone (Check accepted) false options source old new before after Accepted =
+    IsChecked (rules_of accepted) options source old (Appends before after) × KeepsFiles old new
+IsActionDone (Check accepted) true options source old new before after Accepted =
+    IsSequenceChecked (rules_of accepted) options source old (Appends before after) × KeepsFiles old new
+IsActionDone (Canon output order) false options source old new before after Accepted =
+    HasText order options source output.form old (IsPut output.path.now old new before after)
+IsActionDone (Canon output order) true options source old new before after Accepted = IsSequenceCanonised order options source output old new before after
+IsActionDone (Show style) false options source old new before after Accepted = IsShownOf style options source old (Appends before after) × KeepsFiles old new
+IsActionDone (Show style) true options source old new before after Accepted = IsSequenceShown style options source old before after × KeepsFiles old new
+IsActionDone Events false options source old new before after Accepted = IsListedOf options source old before after × KeepsFiles old new
+IsActionDone Events true options source old new before after Accepted = IsSequenceListed options source old before after × KeepsFiles old new
+IsActionDone (Compare right) _ options source old new before after status = AreCompared options source right.now old before after status × KeepsFiles old new
+IsActionDone _ _ options source old new before after _ = ⊥
+
+-- what the answer to a request says, by its status
 abbrev pub IsDone : Request → Option Files → Option Files → Option (List ℕ) → Option (List ℕ) → Status → Type 0
-IsDone (Check source accepted options) old new before after Accepted = IsChecked (rules_of accepted) options source.now old (Appends before after) × KeepsFiles old new
-IsDone (CheckSequence source accepted options) old new before after Accepted =
-    IsSequenceChecked (rules_of accepted) options source.now old (Appends before after) × KeepsFiles old new
-IsDone (Canon source output order options) old new before after Accepted =
-    HasText order options source.now output.form old (IsPut output.path.now old new before after)
-IsDone (CanonSequence source output order options) old new before after Accepted =
-    IsSequenceCanonised order options source.now output old new before after
-IsDone (Show source layout options) old new before after Accepted = IsShownOf layout options source.now old (Appends before after) × KeepsFiles old new
-IsDone (ShowSequence source layout options) old new before after Accepted =
-    IsSequenceShown layout options source.now old before after × KeepsFiles old new
-IsDone (Events source options) old new before after Accepted = IsListedOf options source.now old before after × KeepsFiles old new
-IsDone (EventsSequence source options) old new before after Accepted =
-    IsSequenceListed options source.now old before after × KeepsFiles old new
-IsDone (Compare left right options) old new before after status = AreCompared options left.now right.now old before after status × KeepsFiles old new
-IsDone _ old new before after _ = ⊥
+IsDone r old new before after status = IsActionDone r.action r.sequence r.options r.source.now old new before after status
 
 -- why there is none
+abbrev pub IsActionNotDone : Action → Bool → Options → List ℕ → Option Files → Option (List ℕ) → Option (List ℕ) → Fault → Type 0
+IsActionNotDone (Check accepted) false options source held before after fault = IsNotChecked (rules_of accepted) options source held before after fault
+IsActionNotDone (Check accepted) true options source held before after fault = IsSequenceNotChecked (rules_of accepted) options source held before after fault
+IsActionNotDone (Canon output order) false options source held before after fault = IsNotCanonised order options source output held before after fault
+IsActionNotDone (Canon output order) true options source held before after fault = IsSequenceNotCanonised order options source output held before after fault
+IsActionNotDone (Show style) false options source held before after fault = IsNotShown style options source held before after fault
+IsActionNotDone (Show style) true options source held before after fault = IsSequenceNotShown style options source held before after fault
+IsActionNotDone Events false options source held before after fault = IsNotListedOf options source held before after fault
+IsActionNotDone Events true options source held before after fault = IsSequenceNotListed options source held before after fault
+IsActionNotDone (Compare right) _ options source held before after fault = AreNotCompared options source right.now held before after fault
+
+-- the same of a request
 abbrev pub IsNotDone : Request → Option Files → Option (List ℕ) → Option (List ℕ) → Fault → Type 0
-IsNotDone (Check source accepted options) held before after fault = IsNotChecked (rules_of accepted) options source.now held before after fault
-IsNotDone (CheckSequence source accepted options) held before after fault =
-    IsSequenceNotChecked (rules_of accepted) options source.now held before after fault
-IsNotDone (Canon source output order options) held before after fault =
-    IsNotCanonised order options source.now output held before after fault
-IsNotDone (CanonSequence source output order options) held before after fault =
-    IsSequenceNotCanonised order options source.now output held before after fault
-IsNotDone (Show source layout options) held before after fault = IsNotShown layout options source.now held before after fault
-IsNotDone (ShowSequence source layout options) held before after fault = IsSequenceNotShown layout options source.now held before after fault
-IsNotDone (Events source options) held before after fault = IsNotListedOf options source.now held before after fault
-IsNotDone (EventsSequence source options) held before after fault = IsSequenceNotListed options source.now held before after fault
-IsNotDone (Compare left right options) held before after fault = AreNotCompared options left.now right.now held before after fault
+IsNotDone r held before after fault = IsActionNotDone r.action r.sequence r.options r.source.now held before after fault

@@ -3,26 +3,28 @@
 ghost use Rattle.std.specs.Prelude.{◌≡◌, ◌⊎◌, Ok, Err, OnErr, IfOk, IfErr};
 ghost use Rattle.std.specs.Io.KnownBytes.{Keeps};
 ghost use Rattle.cborc_commands.specs.Answer.{IsDone, IsNotDone};
-ghost use Rattle.cborc_input.specs.Fault.{end_status, status_number};
+ghost use Rattle.cborc_commands.specs.Fault.{end_status, status_number};
 ghost use Rattle.cborc_files.specs.Folder.{KeepsFiles};
-ghost use Rattle.cborc_commands.specs.Told.{IsSilent, IsAnswered, IsAnsweredQuietly, IsToldBy};
+ghost use Rattle.cborc_commands.specs.Outcome.{IsSilent, IsAnswered, IsAnsweredQuietly, IsReportedBy};
 
+use crate::canon::canon;
+use crate::canon_sequence::canon_sequence;
+use crate::check::check;
+use crate::check_sequence::check_sequence;
+use crate::compare::compare;
+use crate::events::events;
+use crate::events_sequence::events_sequence;
 use crate::explanation::explain;
-use cborc_files::{Folder, Kept, Memory};
-use cborc_input::{Fault, Manner, Request, Status, Task};
-use cborc_items::canon::canon;
-use cborc_items::check::check;
-use cborc_items::compare::compare;
-use cborc_items::events::events;
-use cborc_items::show::show;
-use cborc_sequences::canon_sequence::canon_sequence;
-use cborc_sequences::check_sequence::check_sequence;
-use cborc_sequences::events_sequence::events_sequence;
-use cborc_sequences::show_sequence::show_sequence;
+use crate::fault::Fault;
+use crate::request::{Action, Request, Task, Verbosity};
+use crate::show::show;
+use crate::show_sequence::show_sequence;
+use crate::status::Status;
+use cborc_files::{Folder, Recording, RecordingFolder};
 use std::alloc::Global;
 use std::io::{self, Write};
 
-/// Does what is asked for, tells it in the manner that is asked for, and answers the status with
+/// Does what is asked for, reports it in the verbosity that is asked for, and answers the status with
 /// which the program ends. All that was written to `out` is sent on before that.
 pub fn perform<F: Folder, O: Write, E: Write>(
     alloc: Global,
@@ -31,20 +33,20 @@ pub fn perform<F: Folder, O: Write, E: Write>(
     out: &mut O,
     err: &mut E,
 ) -> u8
-    ensures { IsToldBy task.now.manner task.now.request (F.held files.old)
+    ensures { IsReportedBy task.now.verbosity task.now.request (F.held files.old)
         (F.held files.new) (O.contents out.old) (O.contents out.new) result }
 {
-    match task.manner {
-        Manner::Plain => {
+    match task.verbosity {
+        Verbosity::Plain => {
             let ended = answer(alloc, &task.request, files, out);
             end(flushed(ended, out), err)
         }
-        Manner::Quiet => answer_quietly(alloc, &task.request, files, out),
-        Manner::Explained => answer_explained(alloc, &task.request, files, out, err),
+        Verbosity::Quiet => answer_quietly(alloc, &task.request, files, out),
+        Verbosity::Explained => answer_explained(alloc, &task.request, files, out, err),
     }
 }
 
-// The same with an explanation, and its status.
+// Answers the request, explains a fault on standard error, and returns the status.
 fn answer_explained<F: Folder, O: Write, E: Write>(
     alloc: Global,
     request: &Request<'_>,
@@ -55,8 +57,8 @@ fn answer_explained<F: Folder, O: Write, E: Write>(
     ensures { IsAnswered request.now (F.held files.old) (F.held files.new)
         (O.contents out.old) (O.contents out.new) result }
 {
-    let mut kept = Kept::new();
-    let mut memory = Memory::new(files, &mut kept);
+    let mut kept = Recording::new();
+    let mut memory = RecordingFolder::new(files, &mut kept);
     let ended = answer(alloc, request, &mut memory, out);
     let sent = flushed(ended, out);
     end_explained(alloc, request, sent, &memory, err)
@@ -67,7 +69,7 @@ fn end_explained<F: Folder, E: Write>(
     alloc: Global,
     request: &Request<'_>,
     ended: Result<Status, Fault<'_>>,
-    memory: &Memory<'_, F>,
+    memory: &RecordingFolder<'_, F>,
     err: &mut E,
 ) -> u8
     ensures { result ≡ status_number (end_status ended.entry) }
@@ -79,7 +81,7 @@ fn end_explained<F: Folder, E: Write>(
     status
 }
 
-// The same with nothing told, and its status: standard output takes canonical bytes alone.
+// Answers the request without a word, and returns the status: standard output takes canonical bytes alone.
 fn answer_quietly<F: Folder, O: Write>(
     alloc: Global,
     request: &Request<'_>,
@@ -89,8 +91,8 @@ fn answer_quietly<F: Folder, O: Write>(
     ensures { IsAnsweredQuietly request.now (F.held files.old) (F.held files.new)
         (O.contents out.old) (O.contents out.new) result }
 {
-    match request {
-        Request::Canon { .. } | Request::CanonSequence { .. } => {
+    match request.action {
+        Action::Canon { .. } => {
             let ended = answer(alloc, request, files, out);
             end(flushed(ended, out), &mut io::sink())
         }
@@ -145,69 +147,41 @@ fn answer<'a, F: Folder, O: Write>(
     ensures untouched { OnErr result (KeepsFiles (F.held files.old) (F.held files.new)) }
     ensures same { F.behind files.new ≡ F.behind files.old }
 {
-    match request {
-        Request::Check {
-            source,
-            accepted,
-            options,
-        } => {
-            check(alloc, files, out, source, *accepted, *options)?;
+    let source = request.source;
+    let options = request.options;
+    match &request.action {
+        Action::Check(accepted) => {
+            if request.sequence {
+                check_sequence(alloc, files, out, source, *accepted, options)?;
+            } else {
+                check(alloc, files, out, source, *accepted, options)?;
+            }
             Ok(Status::Accepted)
         }
-        Request::CheckSequence {
-            source,
-            accepted,
-            options,
-        } => {
-            check_sequence(alloc, files, out, source, *accepted, *options)?;
+        Action::Show(style) => {
+            if request.sequence {
+                show_sequence(alloc, files, out, source, *style, options)?;
+            } else {
+                show(alloc, files, out, source, *style, options)?;
+            }
             Ok(Status::Accepted)
         }
-        Request::Canon {
-            source,
-            output,
-            order,
-            options,
-        } => {
-            canon(alloc, files, out, source, *output, *order, *options)?;
+        Action::Events => {
+            if request.sequence {
+                events_sequence(alloc, files, out, source, options)?;
+            } else {
+                events(alloc, files, out, source, options)?;
+            }
             Ok(Status::Accepted)
         }
-        Request::CanonSequence {
-            source,
-            output,
-            order,
-            options,
-        } => {
-            canon_sequence(alloc, files, out, source, *output, *order, *options)?;
+        Action::Canon { output, order } => {
+            if request.sequence {
+                canon_sequence(alloc, files, out, source, *output, *order, options)?;
+            } else {
+                canon(alloc, files, out, source, *output, *order, options)?;
+            }
             Ok(Status::Accepted)
         }
-        Request::Show {
-            source,
-            layout,
-            options,
-        } => {
-            show(alloc, files, out, source, *layout, *options)?;
-            Ok(Status::Accepted)
-        }
-        Request::ShowSequence {
-            source,
-            layout,
-            options,
-        } => {
-            show_sequence(alloc, files, out, source, *layout, *options)?;
-            Ok(Status::Accepted)
-        }
-        Request::Events { source, options } => {
-            events(alloc, files, out, source, *options)?;
-            Ok(Status::Accepted)
-        }
-        Request::EventsSequence { source, options } => {
-            events_sequence(alloc, files, out, source, *options)?;
-            Ok(Status::Accepted)
-        }
-        Request::Compare {
-            left,
-            right,
-            options,
-        } => compare(alloc, files, out, left, right, options),
+        Action::Compare { right } => compare(alloc, files, out, source, right, &options),
     }
 }

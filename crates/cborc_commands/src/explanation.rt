@@ -1,12 +1,13 @@
 //! What the line of a fault means, and what to do.
 
 ghost use Rattle.std.specs.Prelude.{◌≡◌};
-ghost use Rattle.cborc_commands.specs.inner.Explained.{cause_text, options_of, right_of, source_of};
+ghost use Rattle.cborc_commands.specs.inner.Explained.{cause_text, last_source};
 
-use cbor_explain::write_sentences;
+use crate::fault::Fault;
+use crate::request::{Action, Options, Request};
+use cbor_diag::write_sentences;
 use cbor_head::Refusal;
-use cborc_files::{Cause, Folder, Memory, Visible, is_stream};
-use cborc_input::{Fault, Options, Request};
+use cborc_files::{Cause, Folder, RecordingFolder, Visible, is_stream};
 use std::alloc::Global;
 use std::io::{self, ErrorKind, Write};
 
@@ -16,25 +17,25 @@ pub(crate) fn explain<F: Folder, E: Write>(
     alloc: Global,
     request: &Request<'_>,
     fault: &Fault<'_>,
-    memory: &Memory<'_, F>,
+    memory: &RecordingFolder<'_, F>,
     err: &mut E,
 ) -> io::Result<()> {
-    let options = options_of(request);
+    let options = request.options;
     match fault {
         Fault::Refused(refusal) => {
-            write_file(source_of(request), None, err)?;
+            write_file(request.source, None, err)?;
             explain_refusal(alloc, memory.last(), options, *refusal, err)
         }
         Fault::RightRefused(refusal) => {
-            write_file(right_of(request), None, err)?;
+            write_file(last_source(request), None, err)?;
             explain_refusal(alloc, memory.last(), options, *refusal, err)
         }
         Fault::LeftRefused(refusal) => {
-            write_file(source_of(request), None, err)?;
+            write_file(request.source, None, err)?;
             explain_refusal(alloc, memory.earlier(), options, *refusal, err)
         }
         Fault::RefusedItem { start, refusal, .. } => {
-            write_file(source_of(request), Some(*start), err)?;
+            write_file(request.source, Some(*start), err)?;
             explain_refusal(alloc, memory.last(), options, *refusal, err)
         }
         Fault::CannotRead(_) | Fault::CannotWrite(_) => write_cause(memory.cause(), err),
@@ -43,8 +44,8 @@ pub(crate) fn explain<F: Folder, E: Write>(
                 err,
                 "  With --hex the input is hex digits, two for each byte, and white space."
             )?;
-            match memory.stray() {
-                Some(stray) => stray.write(err),
+            match memory.hex_error() {
+                Some(hex_error) => hex_error.write(err),
                 None => Ok(()),
             }
         }
@@ -80,51 +81,17 @@ fn write_cause<E: Write>(cause: Option<Cause>, err: &mut E) -> io::Result<()> {
     }
 }
 
-// The path of the file that a request reads, or reads first.
-fn source_of<'a>(request: &Request<'a>) -> &'a str
-    ensures { result.now ≡ source_of request.now }
+// The path of the file that a request reads last.
+fn last_source<'a>(request: &Request<'a>) -> &'a str
+    ensures { result.now ≡ last_source request.now }
 {
-    match request {
-        Request::Check { source, .. }
-        | Request::CheckSequence { source, .. }
-        | Request::Show { source, .. }
-        | Request::ShowSequence { source, .. }
-        | Request::Events { source, .. }
-        | Request::EventsSequence { source, .. }
-        | Request::Canon { source, .. }
-        | Request::CanonSequence { source, .. } => source,
-        Request::Compare { left, .. } => left,
+    match &request.action {
+        Action::Compare { right } => right,
+        _ => request.source,
     }
 }
 
-// The path of the file that it reads last.
-fn right_of<'a>(request: &Request<'a>) -> &'a str
-    ensures { result.now ≡ right_of request.now }
-{
-    match request {
-        Request::Compare { right, .. } => right,
-        _ => source_of(request),
-    }
-}
-
-// How the files of a request are read.
-fn options_of(request: &Request<'_>) -> Options
-    ensures { result ≡ options_of request.now }
-{
-    match request {
-        Request::Check { options, .. }
-        | Request::CheckSequence { options, .. }
-        | Request::Show { options, .. }
-        | Request::ShowSequence { options, .. }
-        | Request::Events { options, .. }
-        | Request::EventsSequence { options, .. }
-        | Request::Canon { options, .. }
-        | Request::CanonSequence { options, .. }
-        | Request::Compare { options, .. } => *options,
-    }
-}
-
-// Explains a refusal of the item at the front of what was read, if that is known.
+// Explains a refusal of the item at the start of what was read, if that is known.
 fn explain_refusal<E: Write>(
     alloc: Global,
     read: Option<&[u8]>,
@@ -133,7 +100,7 @@ fn explain_refusal<E: Write>(
     err: &mut E,
 ) -> io::Result<()> {
     match read {
-        Some(item) => cbor_explain::explain(alloc, item, options.limits, refusal, err),
+        Some(item) => cbor_diag::explain(alloc, item, options.limits, refusal, err),
         None => write_sentences(refusal.reason, err),
     }
 }

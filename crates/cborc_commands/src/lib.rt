@@ -1,17 +1,34 @@
-//! What the program `cborc` does, over any folder and any two outputs: check, canon, compare, show
-//! and events, each with its contract in words of what files hold.
+//! The subcommands of the program `cborc`, over any folder and any two outputs: check, canon, compare, show and events.
 //!
-//! [`perform`] answers a [`Task`] as the program does, in a manner that it names. The subcommands
-//! over one item are those of `cborc_items`, those over a sequence of `cborc_sequences`.
-//! [`canon_in_memory`] is `canon` over [`FilesInMemory`](cborc_files::FilesInMemory), of which
-//! contracts tell all.
+//! The program calls [`perform`], which carries out a [`Task`] and returns the exit status; each subcommand has a contract in
+//! terms of what files hold. [`canon_in_memory`] is `canon` over [`FilesInMemory`](cborc_files::FilesInMemory).
 #![tactic(auto)]
 
 mod answer;
+mod canon;
+mod canon_sequence;
+mod check;
+mod check_sequence;
+mod compare;
+mod events;
+mod events_sequence;
 mod explanation;
+mod fault;
+mod first_item;
+mod in_memory;
+mod input;
+mod input_parts;
+mod listing;
+mod request;
+mod sequence;
+mod show;
+mod show_sequence;
+mod source;
+mod status;
+mod texts;
 
 pub use answer::{end, flushed, perform};
-pub use cborc_input::{
-    Accepted, Fault, Form, Layout, Manner, Options, Output, Request, Status, Task,
-};
-pub use cborc_items::canon_in_memory;
+pub use fault::Fault;
+pub use in_memory::canon_in_memory;
+pub use request::{Accepted, Action, Form, Options, Output, Request, Task, TextStyle, Verbosity};
+pub use status::Status;

@@ -1,2 +1,3 @@
+pub mod Appended
 mod InMemory
 mod Spelled

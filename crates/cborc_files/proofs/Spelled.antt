@@ -4,7 +4,7 @@ use Rattle.std.{specs.List.filter, proofs.lemmas.List.drop_more, proofs.lemmas.L
 use Rattle.hex.specs.Hex.{decode_of, decode_pairs, digit_or_error, hex_digit_value, pair_value, value_at, ◌>>=◌}
 use Rattle.hex.specs.declared.error.FromHexError.{FromHexError, TheVariants.InvalidHexCharacter, TheVariants.OddLength}
 use Rattle.hex.proofs.Pairs.{cons_byte, decode_pairs-ok_pair}
-use Rattle.cborc_files.specs.Digits.{DigitsView, EndsIn, Spells, SpellsOn, IsStrayIn, IsWhole}
+use Rattle.cborc_files.specs.Digits.{DigitsView, EndsIn, Spells, SpellsOn, IsHexErrorIn, IsWhole}
 use Rattle.cborc_files.specs.Hex.{is_kept, is_white}
 
 -- ---- decoding
@@ -91,7 +91,7 @@ kept_more : (text : List ℕ) (byte : ℕ) → false ≡ is_white byte → filte
 kept_more text byte apart = filter-append is_kept text (byte ∷ []) ∙ ap (λ (x : List ℕ). filter is_kept text ++ x) (kept_byte byte [] apart)
 
 -- a byte that is neither white space nor a digit
-pub no_digit : (d : DigitsView) (byte : ℕ) → false ≡ is_white byte → hex_digit_value byte ≡ None → IsStrayIn (byte ∷ []) d
+pub no_digit : (d : DigitsView) (byte : ℕ) → false ≡ is_white byte → hex_digit_value byte ≡ None → IsHexErrorIn (byte ∷ []) d
 no_digit d byte apart none text spelled more h =
     let digits : filter is_kept (text ++ byte ∷ more) ≡ filter is_kept text ++ byte ∷ filter is_kept more = filter-append is_kept text (byte ∷ more) ∙ ap (λ (x : List ℕ). filter is_kept text ++ x) (kept_byte byte more apart) in
     subst (λ (x : List ℕ). IsErr (decode_of x)) (sym digits)
@@ -157,11 +157,11 @@ spells_none d before = record {
 
 -- these bytes of a text, and then one more
 module _ (text : List ℕ) (i : ℕ) (within : i < length text) (old middle : DigitsView) (before between : List ℕ) (h : SpellsOn (take i text) old middle before between) where
-  front : take (i + 1) text ≡ take i text ++ slice_index text i ∷ []
-  front = take_more text i 0 within
+  prefix : take (i + 1) text ≡ take i text ++ slice_index text i ∷ []
+  prefix = take_more text i 0 within
 
   pub spells_more : (new : DigitsView) (after : List ℕ) → SpellsOn (slice_index text i ∷ []) middle new between after → SpellsOn (take (i + 1) text) old new before after
-  spells_more new after k = subst (λ (x : List ℕ). SpellsOn x old new before after) (sym front) (record {
+  spells_more new after k = subst (λ (x : List ℕ). SpellsOn x old new before after) (sym prefix) (record {
     more = h.more ++ k.more;
     added = k.added ∙ ap (λ (x : List ℕ). x ++ k.more) h.added ∙ append_assoc before h.more k.more;
     few = omega (arith, h.few, k.few, length-append h.more k.more, length-append (take i text) (slice_index text i ∷ []));
@@ -172,8 +172,8 @@ module _ (text : List ℕ) (i : ℕ) (within : i < length text) (old middle : Di
   })
 
   -- that one is no digit
-  pub stray_behind : IsStrayIn (slice_index text i ∷ []) middle → IsStrayIn text old
-  stray_behind k earlier spelled more s =
+  pub hex_error_behind : IsHexErrorIn (slice_index text i ∷ []) middle → IsHexErrorIn text old
+  hex_error_behind k earlier spelled more s =
       let there : (earlier ++ take i text) ++ slice_index text i ∷ (drop (i + 1) text ++ more) ≡ earlier ++ (text ++ more) =
       append_assoc earlier (take i text) (slice_index text i ∷ (drop (i + 1) text ++ more))
       ∙ ap (λ (x : List ℕ). earlier ++ x) (sym (append_assoc (take i text) (slice_index text i ∷ drop (i + 1) text) more)

@@ -28,8 +28,8 @@ pub record SpellsOn (text : List ℕ) (old new : DigitsView) (before after : Lis
   pub goes_on : (earlier spelled : List ℕ) → Spells earlier spelled old → Spells (earlier ++ text) (spelled ++ more) new
 
 -- behind no text so far do these bytes belong to hex text, whatever follows them
-abbrev pub IsStrayIn : List ℕ → DigitsView → Type 0
-IsStrayIn text d = (earlier spelled more : List ℕ) → Spells earlier spelled d → IsErr (decode_of (filter is_kept (earlier ++ (text ++ more))))
+abbrev pub IsHexErrorIn : List ℕ → DigitsView → Type 0
+IsHexErrorIn text d = (earlier spelled more : List ℕ) → Spells earlier spelled d → IsErr (decode_of (filter is_kept (earlier ++ (text ++ more))))
 
 -- a text that ends so is hex text, and what was spelled is all that it spells
 abbrev pub IsWhole : DigitsView → Type 0
@@ -37,5 +37,5 @@ IsWhole d = (text spelled : List ℕ) → Spells text spelled d → decode_of (f
 
 -- the fault is of the text: a byte of it is neither a digit nor white space, or its last digit stands alone
 abbrev pub IsOfText : DigitsFault → Type 0
-IsOfText (faults.NotHex stray) = Unit {0}
+IsOfText (faults.NotHex hex_error) = Unit {0}
 IsOfText _ = ⊥

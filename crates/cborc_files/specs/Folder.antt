@@ -12,7 +12,7 @@ is_stream path = bytes_eq path (codes "-")
 abbrev pub Files : Type 0
 Files = List ℕ → Option (List ℕ)
 
--- the file at this path holds these bytes, where the folder tells what it holds
+-- the file at this path holds these bytes, where the folder reports what it holds
 abbrev pub Holds : Option Files → List ℕ → List ℕ → Type 0
 Holds None path bytes = Unit {0}
 Holds (Some files) path bytes = files path ≡ Some bytes
@@ -44,7 +44,7 @@ ReplacesFile None new path bytes = Unit {0}
 ReplacesFile (Some old) None path bytes = ⊥
 ReplacesFile (Some old) (Some new) path bytes = (new path ≡ Some bytes) × ((other : List ℕ) → other ≢ path → new other ≡ old other)
 
--- a file that was begun has no byte yet, where the folder tells what it holds
+-- a file that was begun has no byte yet, where the folder reports what it holds
 abbrev pub IsBlank : Option Files → Option (List ℕ) → Type 0
 IsBlank None bytes = Unit {0}
 IsBlank (Some files) bytes = bytes ≡ Some []

@@ -1,4 +1,5 @@
 pub mod Digits
+pub mod Disk
 pub mod Folder
 pub mod Hex
 pub mod InMemory

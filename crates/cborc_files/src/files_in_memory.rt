@@ -1,4 +1,4 @@
-//! Files in memory: a folder of which contracts tell all.
+//! Files in memory: a folder of which contracts report all.
 
 ghost use Rattle.std.specs.Prelude.{◌≡◌, ℕ, List, None, Some, option_map, OnOk, OnErr};
 ghost use Rattle.cborc_files.specs.Folder.{KeepsFiles, ReplacesFile};
@@ -43,7 +43,7 @@ impl FilesInMemory {
         self.keep(path, bytes)
     }
 
-    // The same with bytes that are given away.
+    // Keeps a file of bytes that are given away.
     fn keep(&mut self, path: &str, bytes: Vec<u8>) -> Result<(), AllocError>
         ensures put { OnOk result (ReplacesFile (Some (files_of self.old)) (Some (files_of self.new)) path.now bytes.items) }
         ensures untouched { OnErr result (KeepsFiles (Some (files_of self.old)) (Some (files_of self.new))) }

@@ -41,7 +41,7 @@ pub trait Folder {
     /// The bytes of a file that is to take the place of another, as they come.
     type Draft: Write + Drop;
 
-    // What each path holds, where the folder tells.
+    // What each path holds, where the folder reports.
     ghost held: { Self → Option Files } = { λ _. None };
 
     // The reference to the folder behind this one, where it passes all on to another.
@@ -54,7 +54,7 @@ pub trait Folder {
         ensures same { behind self.new ≡ behind self.old };
 
     /// Begins a file that is to take the place of the one at this path. Where none is to be had, its
-    /// first write tells that, or `replace`: here memory alone is asked for.
+    /// first write reports that, or `replace`: here memory alone is asked for.
     fn begin(&mut self, path: &str) -> Result<Self::Draft, AllocError>
         ensures blank { IfOk result
             (λ draft. IsBlank (held self.old) (Self.Draft.contents draft)) }
@@ -69,7 +69,7 @@ pub trait Folder {
         ensures untouched { OnErr result (KeepsFiles (held self.old) (held self.new)) }
         ensures same { behind self.new ≡ behind self.old };
 
-    /// Lets go of what was begun, so that no new file is left, and tells why a write of it failed, if
+    /// Lets go of what was begun, so that no new file is left, and reports why a write of it failed, if
     /// one did.
     fn abandon(&mut self, draft: Self::Draft) -> FileFault
         ensures keeps { KeepsFiles (held self.old) (held self.new) }
@@ -111,20 +111,20 @@ pub trait Folder {
         append_part(whole.as_slice(), from, most, bytes)
     }
 
-    /// Told of the bytes that an answer speaks of, which were read of the file that was begun last.
+    /// Reported of the bytes that an answer speaks of, which were read of the file that was begun last.
     /// A folder may keep them, for an explanation.
     fn remember(&mut self, _alloc: Global, _bytes: &[u8])
         ensures holds { held self.new ≡ held self.old }
         ensures same { behind self.new ≡ behind self.old }
     {}
 
-    /// Told why hex text gives no bytes. A folder may keep it, for an explanation.
+    /// Reported why hex text gives no bytes. A folder may keep it, for an explanation.
     fn remember_fault(&mut self, _fault: DigitsFault)
         ensures holds { held self.new ≡ held self.old }
         ensures same { behind self.new ≡ behind self.old }
     {}
 
-    /// What the last call met that failed, if the folder tells.
+    /// What the last call met that failed, if the folder reports.
     fn cause(&self) -> Option<Cause> {
         None
     }

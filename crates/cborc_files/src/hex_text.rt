@@ -4,7 +4,7 @@ ghost use Rattle.std.specs.Prelude.{◌≡◌, ◌∷◌, ℕ, List, [], OnOk, I
 ghost use Rattle.std.specs.List.{filter};
 ghost use Rattle.hex.specs.Hex.{decode_of, hex_digit_value};
 ghost use Rattle.cborc_files.specs.Hex.{is_kept, is_white};
-ghost use Rattle.cborc_files.specs.Digits.{DigitsView, IsOfText, Spells, SpellsOn, IsStrayIn, IsWhole};
+ghost use Rattle.cborc_files.specs.Digits.{DigitsView, IsOfText, Spells, SpellsOn, IsHexErrorIn, IsWhole};
 
 use std::io::{self, Write};
 use std::marker::Model;
@@ -15,22 +15,22 @@ pub enum DigitsFault {
     /// Memory was refused.
     Memory,
     /// It is not hex text from here on.
-    NotHex(Stray),
+    NotHex(HexError),
 }
 
 /// Where a text is not hex digits: the line and the column of its first byte that is neither a digit
 /// nor white space, both from 1, and the byte; or of its end, where its last digit stands alone.
 #[derive(Clone, Copy, Debug, PartialEq, Eq)]
-pub struct Stray {
+pub struct HexError {
     line: u64,
     column: u64,
     byte: Option<u8>,
 }
 
-impl Stray {
+impl HexError {
     /// Writes where it is, and what.
     pub fn write<E: Write>(&self, err: &mut E) -> io::Result<()> {
-        let Stray { line, column, byte } = self;
+        let HexError { line, column, byte } = self;
         match byte {
             Some(byte) => writeln!(
                 err,
@@ -47,7 +47,7 @@ impl Stray {
 /// The digits of a text, which comes in parts: how they stand behind the last one.
 #[derive(Drop)]
 pub struct Digits {
-    // The value of a digit whose other one is due.
+    // The value of a digit whose other one is expected.
     high: Option<u8>,
     // Where the next byte of the text stands.
     line: u64,
@@ -79,25 +79,25 @@ impl Digits {
         ensures goes_on { OnOk result
             (SpellsOn (byte ∷ []) self.old self.new bytes.old.items bytes.new.items) }
         ensures not_hex { IfErr result (λ fault. IsOfText fault
-            → IsStrayIn (byte ∷ []) self.old) }
+            → IsHexErrorIn (byte ∷ []) self.old) }
     {
         self.take(byte, bytes)?;
         self.go_on(byte);
         Ok(())
     }
 
-    // The same, but for where the next byte stands.
+    // Takes a byte, but does not count where the next one stands.
     fn take(&mut self, byte: u8, bytes: &mut Vec<u8>) -> Result<(), DigitsFault>
         ensures goes_on { OnOk result
             (SpellsOn (byte ∷ []) self.old self.new bytes.old.items bytes.new.items) }
         ensures not_hex { IfErr result (λ fault. IsOfText fault
-            → IsStrayIn (byte ∷ []) self.old) }
+            → IsHexErrorIn (byte ∷ []) self.old) }
     {
         if is_white(byte) {
             return Ok(());
         }
         let Some(value) = digit_value(byte) else {
-            return Err(DigitsFault::NotHex(self.stray(Some(byte))));
+            return Err(DigitsFault::NotHex(self.hex_error(Some(byte))));
         };
         match self.high {
             None => self.high = Some(value),
@@ -117,7 +117,7 @@ impl Digits {
     pub fn push_all(&mut self, text: &[u8], bytes: &mut Vec<u8>) -> Result<(), DigitsFault>
         ensures goes_on { OnOk result
             (SpellsOn text.now self.old self.new bytes.old.items bytes.new.items) }
-        ensures not_hex { IfErr result (λ fault. IsOfText fault → IsStrayIn text.now self.old) }
+        ensures not_hex { IfErr result (λ fault. IsOfText fault → IsHexErrorIn text.now self.old) }
     {
         'text: for byte in text {
             self.push(*byte, bytes)?;
@@ -137,8 +137,8 @@ impl Digits {
         }
     }
 
-    fn stray(&self, byte: Option<u8>) -> Stray {
-        Stray {
+    fn hex_error(&self, byte: Option<u8>) -> HexError {
+        HexError {
             line: self.line,
             column: self.column,
             byte,
@@ -154,7 +154,7 @@ impl Digits {
     {
         match self.high {
             None => Ok(()),
-            Some(_) => Err(DigitsFault::NotHex(self.stray(None))),
+            Some(_) => Err(DigitsFault::NotHex(self.hex_error(None))),
         }
     }
 }

@@ -1,18 +1,20 @@
-//! Files as the program `cborc` sees them: a [`Folder`] of them, on a disk or in memory, and bytes
-//! written as hex text.
+//! Files as the program `cborc` sees them: a [`Folder`] of files, on a disk or in memory, and bytes written as hex text.
 //!
-//! Contracts tell what a folder holds before and after a call; of [`FilesInMemory`] they tell all.
-//! [`Digits`] decodes hex text part by part, as it is read.
+//! `cborc_commands` and the program call it. [`Disk`] is the machine's files, read part by part and replaced whole;
+//! [`FilesInMemory`] is a folder for tests, of which contracts say everything. [`Digits`] decodes hex text as it is read.
 #![tactic(auto)]
 
+mod disk;
 mod files_in_memory;
 mod folder;
 mod hex_text;
-mod memory;
+mod recording;
+mod replacement;
 mod visible;
 
+pub use disk::{Disk, LONGEST, append_from};
 pub use files_in_memory::FilesInMemory;
 pub use folder::{Cause, FileFault, Folder, is_stream};
-pub use hex_text::{Digits, DigitsFault, Stray};
-pub use memory::{Kept, Memory};
+pub use hex_text::{Digits, DigitsFault, HexError};
+pub use recording::{Recording, RecordingFolder};
 pub use visible::Visible;

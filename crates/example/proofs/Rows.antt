@@ -3,9 +3,9 @@ use Rattle.std.proofs.Common.{ℕ, ℤ, pos, negsuc, ◌≤ℤ◌, ◌-◌, ◌^
 use Rattle.std.{specs.Option.MatchOption, proofs.Math.Seq.take-length}
 use Rattle.cbor_head.specs.Prelude.{plain, Bounds, spell, Value}
 use Rattle.cbor_head.specs.Value.{text}
-use Rattle.cbor_grammar.proofs.{Accepted.accepts_exactly, ReadLaws.length_spell}
-use Rattle.cbor_view.specs.{Kinds.integer, Lookup.HasValueAt}
-use Rattle.cbor_judging.specs.Readers.{IsReadAs}
+use Rattle.cbor_model.proofs.{Accepted.accepts_exactly, ReadLaws.length_spell}
+use Rattle.cbor_item.specs.{Kinds.integer, Lookup.HasValueAt}
+use Rattle.cbor_verdict.specs.Readers.{IsReadAs}
 use Rattle.example.specs.Fields.{HasInteger, HasNoInteger, HasIntegers, AreRows}
 
 -- what is read at a key
@@ -19,9 +19,9 @@ integer_found key v w (Some z) at is = subst (HasValueAt v (text key)) is at
 pub count_within : (limits : Bounds) (input : List ℕ) (v : Value) (count : ℕ) → IsReadAs limits plain input v count → (1 ≤ count) × (count ≤ length input)
 count_within limits input v count read =
     let s = read.read.item in
-    let front = (accepts_exactly limits plain input s).0 read.read.verdict in
-    let whole = ap length front.1.2 in
-    (omega (arith, read.read.size, length_spell s), omega (arith, read.read.size, whole, length-append (spell s) front.0, length-take limits.bytes input))
+    let prefix = (accepts_exactly limits plain input s).0 read.read.verdict in
+    let whole = ap length prefix.1.2 in
+    (omega (arith, read.read.size, length_spell s), omega (arith, read.read.size, whole, length-append (spell s) prefix.0, length-take limits.bytes input))
 
 -- what is left of it behind so many bytes
 pub behind : (size : ℕ) (rest : List ℕ) → take (length rest - size) (drop size rest) ≡ drop size rest

@@ -2,10 +2,10 @@
 use Rattle.std.specs.Prelude.{ℕ, ℤ, pos, negsuc, ◌≤ℤ◌, ◌-◌, ◌^◌, ◌<◌, ◌≡◌, ◌≢◌, ◌⊎◌, List, [], ◌∷◌, length, drop}
 use Rattle.cbor_head.specs.Prelude.{plain, Bounds, Value}
 use Rattle.cbor_head.specs.Value.{text}
-use Rattle.cbor_view.specs.{Kinds.integer, Lookup.HasValueAt}
-use Rattle.cbor_judging.specs.Readers.{IsReadAs, IsUnread}
-use Rattle.example.specs.declared.fields.Fault.TheVariants as faults
-use Rattle.example.specs.declared.fields.Fault.{Fault}
+use Rattle.cbor_item.specs.{Kinds.integer, Lookup.HasValueAt}
+use Rattle.cbor_verdict.specs.Readers.{IsReadAs, IsUnread}
+use Rattle.example.specs.declared.fields.FieldsError.TheVariants as faults
+use Rattle.example.specs.declared.fields.FieldsError.{FieldsError}
 
 -- the record is a map, whose value at this text is this integer
 abbrev pub HasInteger : List ℕ → Value → ℤ → Type 0
@@ -28,14 +28,14 @@ AreRows limits first second input (row ∷ rows) rest =
     (v : Value) × (count : ℕ) × IsReadAs limits plain input v count × HasIntegers first second v row × AreRows limits first second (drop count input) rows rest
 
 -- why the first record of the input gives no row
-abbrev pub HasNoRow : Bounds → List ℕ → List ℕ → List ℕ → Fault → Type 0
+abbrev pub HasNoRow : Bounds → List ℕ → List ℕ → List ℕ → FieldsError → Type 0
 HasNoRow limits first second input (faults.Refused f) = IsUnread limits plain input f
 HasNoRow limits first second input faults.NoInteger =
     (v : Value) × (count : ℕ) × IsReadAs limits plain input v count × (HasNoInteger first v ⊎ HasNoInteger second v)
 HasNoRow limits first second input faults.Memory = Unit {0}
 
 -- behind records that have both comes one that gives no row
-pub record StopsAt (limits : Bounds) (first second input : List ℕ) (fault : Fault) : Type 0 where
+pub record StopsAt (limits : Bounds) (first second input : List ℕ) (fault : FieldsError) : Type 0 where
   pub rows : List (ℤ × ℤ)
   pub rest : List ℕ
   pub before : AreRows limits first second input rows rest

@@ -3,21 +3,21 @@
 ghost use Rattle.std.specs.Prelude.{◌≡◌, ◌≤◌, [], length, IfOk, IfErr, MatchOption};
 ghost use Rattle.cbor_head.specs.Complaint.{plain};
 ghost use Rattle.cbor_head.specs.Value.{Value};
-ghost use Rattle.cbor_judging.specs.Readers.{IsReadAs};
-ghost use Rattle.cbor_view.specs.Seen.{seen};
+ghost use Rattle.cbor_verdict.specs.Readers.{IsReadAs};
+ghost use Rattle.cbor_item.specs.ViewValue.{view_value};
 ghost use Rattle.example.specs.Fields.{HasInteger, HasNoInteger, HasIntegers, AreRows};
 ghost use Rattle.example.specs.Fields.{HasNoRow, StopsAt};
-ghost use Rattle.example.specs.declared.fields.Fault.TheVariants as faults;
+ghost use Rattle.example.specs.declared.fields.FieldsError.TheVariants as faults;
 
 use bumpalo::Bump;
 use cbor_head::{Limits, Refusal};
+use cbor_item::View;
 use cbor_reader::read_view;
-use cbor_view::View;
 use std::alloc::Global;
 
 /// Why the fields of a record are not had.
 #[derive(Clone, Copy, Debug, PartialEq, Eq)]
-pub enum Fault {
+pub enum FieldsError {
     /// The record is refused; places are counted from its first byte.
     Refused(Refusal),
     /// At one of the keys it has no integer that an `i64` holds.
@@ -26,11 +26,11 @@ pub enum Fault {
     Memory,
 }
 
-impl From<Refusal> for Fault {
+impl From<Refusal> for FieldsError {
     ghost from_gives = { λ refusal fault. fault ≡ faults.Refused refusal };
 
-    fn from(refusal: Refusal) -> Fault {
-        Fault::Refused(refusal)
+    fn from(refusal: Refusal) -> FieldsError {
+        FieldsError::Refused(refusal)
     }
 }
 
@@ -42,7 +42,7 @@ pub fn two_fields(
     limits: Limits,
     first: &str,
     second: &str,
-) -> Result<Vec<(i64, i64)>, Fault>
+) -> Result<Vec<(i64, i64)>, FieldsError>
     ensures rows { IfOk result (λ rows.
         AreRows limits first.now second.now records.now rows.items []) }
     ensures fault { IfErr result (StopsAt limits first.now second.now records.now) }
@@ -53,7 +53,7 @@ pub fn two_fields(
     'records: while !rest.is_empty() {
         let (row, size) = row_at(alloc, rest, limits, first, second, &arena)?;
         let Ok(()) = rows.push(row) else {
-            return Err(Fault::Memory);
+            return Err(FieldsError::Memory);
         };
         rest = &rest[size..];
         // Where it fails, the arena goes on growing.
@@ -62,7 +62,7 @@ pub fn two_fields(
     Ok(rows)
 }
 
-// The integers of the record at the front, and how many bytes it has.
+// The integers of the record at the start, and how many bytes it has.
 fn row_at(
     alloc: Global,
     bytes: &[u8],
@@ -70,7 +70,7 @@ fn row_at(
     first: &str,
     second: &str,
     arena: &Bump,
-) -> Result<((i64, i64), usize), Fault>
+) -> Result<((i64, i64), usize), FieldsError>
     ensures row { IfOk result (λ found. (v : Value)
         × IsReadAs limits plain bytes.now v found.1
         × HasIntegers first.now second.now v found.0) }
@@ -79,18 +79,18 @@ fn row_at(
 {
     let (record, size) = read_view(alloc, bytes, limits, arena)?;
     let Some(left) = integer_at(&record, first) else {
-        return Err(Fault::NoInteger);
+        return Err(FieldsError::NoInteger);
     };
     let Some(right) = integer_at(&record, second) else {
-        return Err(Fault::NoInteger);
+        return Err(FieldsError::NoInteger);
     };
     Ok(((left, right), size as usize))
 }
 
 // The integer at a key.
 fn integer_at(map: &View<'_>, key: &str) -> Option<i64>
-    ensures { MatchOption result (HasNoInteger key.now (seen map.now))
-        (HasInteger key.now (seen map.now)) }
+    ensures { MatchOption result (HasNoInteger key.now (view_value map.now))
+        (HasInteger key.now (view_value map.now)) }
 {
     match map.get_text(key) {
         Some(value) => value.as_i64(),

@@ -1,9 +1,9 @@
 //! Spellings of one document are signed alike, and a document that could be read in two ways is
-//! not. Of records two fields are told, however these are spelled.
+//! not. Of records two fields are reported, however these are spelled.
 
 mod memory;
 
-use crate::{Fault, bytes_to_sign, two_fields};
+use crate::{FieldsError, bytes_to_sign, two_fields};
 use cbor_head::{Limits, Reason, Refusal};
 use std::process::Abort;
 use std::test::Fail;
@@ -43,7 +43,7 @@ static RECORDS: &[u8] =
     b"\xa2\x62id\x01\x62by\x24\xbf\x61x\x9f\x61y\xff\x62by\x07\x7f\x61i\x61d\xff\x02\xff";
 
 #[test]
-fn fields_are_told_of_each_record(rt: HostRuntime) -> Result<(), Fail> {
+fn fields_are_reported_of_each_record(rt: HostRuntime) -> Result<(), Fail> {
     let rows = two_fields(rt.alloc(), RECORDS, limits(&rt), "id", "by")?;
     assert!(rt; rows.as_slice() == [(1, -5), (2, 7)].as_slice());
     let none = two_fields(rt.alloc(), b"", limits(&rt), "id", "by")?;
@@ -54,9 +54,9 @@ fn fields_are_told_of_each_record(rt: HostRuntime) -> Result<(), Fail> {
 #[test]
 fn a_record_without_a_field_is_a_fault(rt: HostRuntime) {
     let fault = two_fields(rt.alloc(), RECORDS, limits(&rt), "id", "x").err();
-    assert!(rt; fault == Some(Fault::NoInteger));
+    assert!(rt; fault == Some(FieldsError::NoInteger));
     // {"id": and no more
     let fault = two_fields(rt.alloc(), b"\xa2\x62id", limits(&rt), "id", "by").err();
     let cut = Refusal::at(Reason::Truncated, 4);
-    assert!(rt; fault == Some(Fault::Refused(cut)));
+    assert!(rt; fault == Some(FieldsError::Refused(cut)));
 }

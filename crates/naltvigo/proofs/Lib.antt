@@ -1,5 +1,6 @@
 mod Compared
 mod Given
+mod Indexed
 mod Staying
-mod Told
+mod Reported
 mod WholeInputs

@@ -2,12 +2,12 @@
 use Rattle.std.proofs.Common.{ℕ, ◌<◌, ◌≤◌, ◌≡◌, ◌↔◌, List, length, inl, inr, sym, ap, ◌∙◌, arith, subst}
 use Rattle.cbor_head.specs.Prelude.{Bounds, Spelling, spell, plain, strict, IsVerdict, accepted, refused, refusal}
 use Rattle.cbor_head.specs.declared.{order.KeyOrder.KeyOrder, reason.Reason.TheVariants.Trailing, reason.Reason.TheVariants.Memory, reason.Refusal.Refusal}
-use Rattle.cbor_judging.proofs.Accepted.{item_is_whole, one_item, not_both}
-use Rattle.cbor_judging.specs.Readers.{HasNoCanonicalFront, IsCanonicalFront, IsRead, of_verdict}
-use Rattle.cbor_judging.proofs.Reasons.{never-read, never-memory}
+use Rattle.cbor_verdict.proofs.Accepted.{item_is_whole, one_item, not_both}
+use Rattle.cbor_verdict.specs.Readers.{HasNoCanonicalPrefix, IsCanonicalPrefix, IsRead, of_verdict}
+use Rattle.cbor_verdict.proofs.Reasons.{never-read, never-memory}
 use Rattle.cbor_reader.specs.WholeItem.{IsWholeItem, unread, trailing}
 use Rattle.cbor_reader.specs.{Canonicalise.IsCanonicalOf, Headline.IsValidItem}
-use Rattle.naltvigo.specs.{Checking.HasNoWholeFront, inner.Checking.IsOwnAnswer, inner.Checking.IsNotOwn}
+use Rattle.naltvigo.specs.{Checking.HasNoWholePrefix, inner.Checking.IsOwnAnswer, inner.Checking.IsNotOwn}
 
 -- ---- by the plain rules
 
@@ -20,36 +20,36 @@ module _ (limits : Bounds) (input : List ℕ) where
 
 module _ (limits : Bounds) (o : KeyOrder) (input : List ℕ) where
   module _ (own : IsCanonicalOf limits o input input ↔ ((s : Spelling) × IsVerdict limits (strict o) input (accepted s) × (spell s ≡ input))) where
-    pub owns : (count : ℕ) → IsRead limits (strict o) input count → IsCanonicalFront limits o input count → length input ≤ count → IsOwnAnswer limits o input
-    owns count r front least =
+    pub owns : (count : ℕ) → IsRead limits (strict o) input count → IsCanonicalPrefix limits o input count → length input ≤ count → IsOwnAnswer limits o input
+    owns count r prefix least =
         let all-bytes : spell r.item ≡ input = item_is_whole limits (strict o) input r.item r.verdict (omega (arith, r.size, least)) in
         let all : count ≡ length input = r.size ∙ ap length all-bytes in
         record {
           own = own.1 (r.item, r.verdict, all-bytes);
           accepted = subst (IsRead limits (strict o) input) all r;
-          canonical = subst (IsCanonicalFront limits o input) all front;
+          canonical = subst (IsCanonicalPrefix limits o input) all prefix;
         }
 
-    pub followed : (count : ℕ) (f : Refusal) → IsRead limits (strict o) input count → IsCanonicalFront limits o input count → count < length input
+    pub followed : (count : ℕ) (f : Refusal) → IsRead limits (strict o) input count → IsCanonicalPrefix limits o input count → count < length input
         → f ≡ refusal Trailing count count → IsNotOwn limits o input f
-    followed count f r front l is = record {
+    followed count f r prefix l is = record {
       refused = trailing count r l is;
       not_memory = λ e. let two : Trailing ≡ Memory = sym (ap (λ (g : Refusal). g.reason) is) ∙ e in cc two;
       not_own = λ c.
           let h = own.0 c in
           let all-bytes : spell r.item ≡ input = ap spell (one_item limits (strict o) input r.item h.0 r.verdict h.1) ∙ h.2 in
           omega (arith, r.size, l, ap length all-bytes);
-      front = inr (subst (λ (g : Refusal). IsCanonicalFront limits o input g.place × (g.place < length input)) (sym is) (front, l));
+      prefix = inr (subst (λ (g : Refusal). IsCanonicalPrefix limits o input g.place × (g.place < length input)) (sym is) (prefix, l));
     }
 
-    pub refuses : (f : Refusal) → IsVerdict limits (strict o) input (refused f) → HasNoCanonicalFront limits o input → IsNotOwn limits o input f
+    pub refuses : (f : Refusal) → IsVerdict limits (strict o) input (refused f) → HasNoCanonicalPrefix limits o input → IsNotOwn limits o input f
     refuses f v none = record {
       refused = unread (of_verdict v) (never-read limits (strict o) input f v);
       not_memory = never-memory limits (strict o) input f v;
       not_own = λ c. let h = own.0 c in not_both limits (strict o) input h.0 f h.1 v;
-      front = inl none;
+      prefix = inl none;
     }
 
 -- by the numbers that C gave
-pub told-front : (l m : Bounds) (o p : KeyOrder) (input : List ℕ) (a b : ℕ) → m ≡ l → p ≡ o → b ≡ a → HasNoWholeFront l o input a → HasNoWholeFront m p input b
-told-front l m o p input a b limits order end h = rw (limits, order, end) h
+pub reported-prefix : (l m : Bounds) (o p : KeyOrder) (input : List ℕ) (a b : ℕ) → m ≡ l → p ≡ o → b ≡ a → HasNoWholePrefix l o input a → HasNoWholePrefix m p input b
+reported-prefix l m o p input a b limits order end h = rw (limits, order, end) h

@@ -1,7 +1,9 @@
 pub mod Checking
 pub mod Comparing
 pub mod Diagnosing
-pub mod inner
+pub mod Heads
+pub mod Items
 pub mod Settings
 pub mod Streaming
-pub mod Told
+pub mod Reported
+pub mod inner

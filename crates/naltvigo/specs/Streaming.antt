@@ -1,14 +1,13 @@
--- What a machine tells of an item, as C has it.
+-- What a machine reports of an item, as C has it.
 use Rattle.std.specs.Prelude.{ℕ, ◌≡◌, ◌<◌, ◌⊎◌, ◌++◌, ◌∷◌, List, [], Some, IfSome}
 use Rattle.cbor_head.specs.declared.width.Width.TheVariants as widths
 use Rattle.cbor_head.specs.declared.width.Width.{Width}
 use Rattle.cbor_automaton.specs.declared.event.EventKind.TheVariants as kinds
 use Rattle.cbor_automaton.specs.{Marks.count_of, Trace.Mark, declared.event.Event.Event, declared.event.EventKind.EventKind}
-use Rattle.cbor_standing.specs.Machine.{StandsFor, KeepsLimits, IsAnswer, IsComplete, wanted}
-use Rattle.cbor_standing.specs.declared.step.Out.TheVariants as outs
-use Rattle.cbor_standing.specs.{MachineView.MachineView, declared.step.Out.Out}
-use Rattle.cbor_machine.specs.{Saved.Holds, declared.machine.saved.SavedMachine.SavedMachine}
-use Rattle.naltvigo.specs.{Told.IsTold, declared.status.NaltvigoRefusal.NaltvigoRefusal, declared.streaming.NaltvigoEvent.NaltvigoEvent}
+use Rattle.cbor_machine.specs.Machine.{StandsFor, KeepsLimits, IsAnswer, IsComplete, wanted}
+use Rattle.cbor_machine.specs.declared.step.Out.TheVariants as outs
+use Rattle.cbor_machine.specs.{MachineView.MachineView, declared.step.Out.Out, Saved.Holds, declared.machine.saved.SavedMachine.SavedMachine}
+use Rattle.naltvigo.specs.{Reported.IsReported, declared.status.NaltvigoRefusal.NaltvigoRefusal, declared.streaming.NaltvigoEvent.NaltvigoEvent}
 
 -- the number of a kind: the major type, and three more
 abbrev pub kind_number : EventKind → ℕ
@@ -48,24 +47,24 @@ width_number widths.Eight = 8
 width_number widths.Indefinite = 255
 
 -- an event
-pub record IsToldEvent (e : Event) (c : NaltvigoEvent) : Type 0 where
+pub record IsReportedEvent (e : Event) (c : NaltvigoEvent) : Type 0 where
   pub place : c.place ≡ e.place
   pub number : c.number ≡ number_of e.kind
   pub kind : c.kind ≡ kind_number e.kind
   pub width : c.width ≡ width_number e.width
 
 -- these events
-abbrev pub AreToldEvents : List Event → List NaltvigoEvent → Type 0
-AreToldEvents [] [] = Unit {0}
-AreToldEvents (e ∷ es) (c ∷ cs) = IsToldEvent e c × AreToldEvents es cs
-AreToldEvents _ _ = ⊥
+abbrev pub AreReportedEvents : List Event → List NaltvigoEvent → Type 0
+AreReportedEvents [] [] = Unit {0}
+AreReportedEvents (e ∷ es) (c ∷ cs) = IsReportedEvent e c × AreReportedEvents es cs
+AreReportedEvents _ _ = ⊥
 
--- why no further one is told, of the machine behind: 8 more bytes are due, 0 the item is complete, 1 it is refused, and stays so
-abbrev pub IsToldEnd : Out → MachineView → ℕ → NaltvigoRefusal → Type 0
-IsToldEnd outs.More new status r = (status ≡ 8) × (0 < wanted new)
-IsToldEnd (outs.Event event) new status r = ⊥
-IsToldEnd outs.Done new status r = (status ≡ 0) × IsComplete new
-IsToldEnd (outs.Refused refusal) new status r = (status ≡ 1) × IsTold refusal r × (new.refusal ≡ Some refusal)
+-- why no further one is reported, of the machine behind: 8 more bytes are expected, 0 the item is complete, 1 it is refused, and stays so
+abbrev pub IsReportedEnd : Out → MachineView → ℕ → NaltvigoRefusal → Type 0
+IsReportedEnd outs.More new status r = (status ≡ 8) × (0 < wanted new)
+IsReportedEnd (outs.Event event) new status r = ⊥
+IsReportedEnd outs.Done new status r = (status ≡ 0) × IsComplete new
+IsReportedEnd (outs.Refused refusal) new status r = (status ≡ 1) × IsReported refusal r × (new.refusal ≡ Some refusal)
 
 -- what a step answers of the last bytes, for all bytes and marks that the machine stood for before these
 abbrev pub HasAnswered : Out → MachineView → MachineView → List ℕ → Type 0
@@ -77,19 +76,19 @@ pub data Gives (from : MachineView) : MachineView → List ℕ → List Event �
   one_more : (mid to : MachineView) (bs last : List ℕ) (es : List Event) (e : Event) → Gives from mid bs es → HasAnswered (outs.Event e) mid to last
       → Gives from to (bs ++ last) (es ++ e ∷ [])
 
--- It used these bytes and gave these events, and then no further one: 7 there is no room for it, or as above.
-pub record TellsOn (old new : MachineView) (bs : List ℕ) (status : ℕ) (events : List NaltvigoEvent) (r : NaltvigoRefusal) : Type 0 where
+-- It used these bytes and gave these events, and then no further one: 7 there is no space for it, or as above.
+pub record ReportsOn (old new : MachineView) (bs : List ℕ) (status : ℕ) (events : List NaltvigoEvent) (r : NaltvigoRefusal) : Type 0 where
   pub limits : KeepsLimits old new ⊎ (new ≡ old)
   pub given : List Event
-  pub told : AreToldEvents given events
+  pub reported : AreReportedEvents given events
   pub mid : MachineView
-  pub front : List ℕ
+  pub prefix : List ℕ
   pub last : List ℕ
-  pub splits : bs ≡ front ++ last
-  pub gives : Gives old mid front given
-  pub ends : ((status ≡ 7) × (last ≡ []) × (new ≡ mid)) ⊎ ((out : Out) × IsToldEnd out new status r × HasAnswered out mid new last)
+  pub splits : bs ≡ prefix ++ last
+  pub gives : Gives old mid prefix given
+  pub ends : ((status ≡ 7) × (last ≡ []) × (new ≡ mid)) ⊎ ((out : Out) × IsReportedEnd out new status r × HasAnswered out mid new last)
 
 -- Where the item was complete, or refused, the call used nothing and answered the same.
 pub record StaysSo (old new : SavedMachine) (used status : ℕ) (r : NaltvigoRefusal) : Type 0 where
   pub complete : (m : MachineView) → Holds old m → IsComplete m → (status ≡ 0) × (used ≡ 0) × Holds new m
-  pub refused : (m : MachineView) → Holds old m → IfSome m.refusal (λ f. (status ≡ 1) × IsTold f r × (used ≡ 0) × Holds new m)
+  pub refused : (m : MachineView) → Holds old m → IfSome m.refusal (λ f. (status ≡ 1) × IsReported f r × (used ≡ 0) × Holds new m)

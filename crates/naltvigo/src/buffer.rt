@@ -4,7 +4,7 @@ ghost use Rattle.std.specs.Prelude.{◌≡◌, ◌⊎◌, ◌<◌, ◌≤◌, le
 
 use crate::status::{OK, TOO_SMALL};
 
-// Puts the answer at the front of the buffer, if that has room, and tells its length either way.
+// Puts the answer at the start of the buffer, if that has space, and reports its length either way.
 pub(crate) fn give(answer: &[u8], out: &mut [u8], needed: &mut usize) -> u32
     ensures needed { needed.new ≡ length answer.now }
     ensures status { (result ≡ OK) ⊎ (result ≡ TOO_SMALL) }

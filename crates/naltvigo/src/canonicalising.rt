@@ -3,21 +3,21 @@
 ghost use Rattle.std.specs.Prelude.{◌≡◌, ◌≢◌, ◌↔◌, ◌<◌, ◌≤◌, ℕ, List, length, take, drop};
 ghost use Rattle.cbor_head.specs.Canonical.{canonical};
 ghost use Rattle.cbor_head.specs.Spelling.{Spelling, value_of};
-ghost use Rattle.cbor_reader.specs.Canonicalise.{IsCanonicalOf, IsRefusal, TellsItsValue};
+ghost use Rattle.cbor_reader.specs.Canonicalise.{IsCanonicalOf, IsRefusal, DeterminesItsValue};
 ghost use Rattle.cbor_reader.specs.Canonicalise.{IsCanonicaliserReason};
 ghost use Rattle.cbor_reader.specs.Headline.{IsValidItem};
 ghost use Rattle.naltvigo.specs.Settings.{key_order, item_limits, AreLimits};
-ghost use Rattle.naltvigo.specs.Told.{TellsMemory, TellsOf};
+ghost use Rattle.naltvigo.specs.Reported.{ReportsMemory, ReportsOf};
 
 use crate::buffer::give;
 use crate::settings::{limits_of, order_numbered};
 use crate::status::{
-    BAD_LIMITS, BAD_ORDER, NO_MEMORY, NaltvigoRefusal, OK, REFUSED, TOO_SMALL, tell,
+    BAD_LIMITS, BAD_ORDER, NO_MEMORY, NaltvigoRefusal, OK, REFUSED, TOO_SMALL, report,
 };
 use cbor_reader::canonical_bytes;
 use std::alloc::Global;
 
-/// Writes the canonical bytes of the one valid item that `input` is to the front of `out`.
+/// Writes the canonical bytes of the one valid item that `input` is to the prefix of `out`.
 ///
 /// `needed` becomes their count where the answer is `OK` or `TOO_SMALL`, else 0, and `refusal` is
 /// filled where it is `REFUSED` or `NO_MEMORY`. But for `OK`, `out` keeps its bytes. Of an input that
@@ -39,25 +39,25 @@ pub extern "C" fn naltvigo_canonicalise_raw(
     ensures accepted { result ≡ OK → (s : Spelling) × IsValidItem (item_limits keys depth bytes) input.now s
         × (take needed.new out.new ≡ canonical (key_order order) (value_of s))
         × (needed.new ≤ bytes) }
-    ensures equal { result ≡ OK → TellsItsValue depth (key_order order)
+    ensures equal { result ≡ OK → DeterminesItsValue depth (key_order order)
         input.now (take needed.new out.new) }
     // What is canonical wants no memory.
     ensures own { IsCanonicalOf (item_limits keys depth bytes) (key_order order) input.now input.now
         → (result ≢ REFUSED) × (result ≢ NO_MEMORY) }
     ensures again { result ≡ OK → IsCanonicalOf (item_limits keys depth bytes) (key_order order)
         (take needed.new out.new) (take needed.new out.new) }
-    ensures room { result ≡ OK → needed.new ≤ length out.old }
+    ensures space { result ≡ OK → needed.new ≤ length out.old }
     ensures too_small { result ≡ TOO_SMALL → (x : List ℕ)
         × IsCanonicalOf (item_limits keys depth bytes) (key_order order) input.now x
         × (needed.new ≡ length x) × (length out.old < length x) }
     ensures refused { result ≡ REFUSED
-        → TellsOf (IsRefusal (item_limits keys depth bytes) (key_order order) input.now) refusal.new }
+        → ReportsOf (IsRefusal (item_limits keys depth bytes) (key_order order) input.now) refusal.new }
     ensures reason { result ≡ REFUSED
-        → TellsOf (λ f. IsCanonicaliserReason (item_limits keys depth bytes) f.reason) refusal.new }
+        → ReportsOf (λ f. IsCanonicaliserReason (item_limits keys depth bytes) f.reason) refusal.new }
     ensures none { result ≡ REFUSED
         → (s : Spelling) → IsValidItem (item_limits keys depth bytes) input.now s
         → bytes < length (canonical (key_order order) (value_of s)) }
-    ensures no_memory { result ≡ NO_MEMORY → TellsMemory 0 refusal.new }
+    ensures no_memory { result ≡ NO_MEMORY → ReportsMemory 0 refusal.new }
     ensures bad_order { (result ≡ BAD_ORDER) ↔ (1 < order) }
     ensures bad_limits { result ≡ BAD_LIMITS → ¬ AreLimits keys depth bytes }
     ensures in_range { result ≢ BAD_ORDER → result ≢ BAD_LIMITS
@@ -66,7 +66,7 @@ pub extern "C" fn naltvigo_canonicalise_raw(
     ensures kept { (result ≢ OK → out.new ≡ out.old)
         × (drop needed.new out.new ≡ drop needed.new out.old) }
     ensures no_count { result ≢ OK → result ≢ TOO_SMALL → needed.new ≡ 0 }
-    ensures untold { result ≢ REFUSED → result ≢ NO_MEMORY → refusal.new ≡ refusal.old }
+    ensures unreported { result ≢ REFUSED → result ≢ NO_MEMORY → refusal.new ≡ refusal.old }
 {
     *needed = 0;
     let Some(order) = order_numbered(order) else {
@@ -77,6 +77,6 @@ pub extern "C" fn naltvigo_canonicalise_raw(
     };
     match canonical_bytes(alloc, input, limits, order) {
         Ok(canonical) => give(canonical.as_slice(), out, needed),
-        Err(reason) => tell(reason, refusal),
+        Err(reason) => report(reason, refusal),
     }
 }

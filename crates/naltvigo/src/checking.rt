@@ -4,15 +4,17 @@ ghost use Rattle.std.specs.Prelude.{◌≡◌, ◌≢◌, ◌↔◌, ◌⊎◌, 
 ghost use Rattle.cbor_head.specs.Complaint.{plain, strict};
 ghost use Rattle.cbor_head.specs.declared.reason.Reason.TheVariants as reasons;
 ghost use Rattle.cbor_reader.specs.Canonicalise.{IsCanonicalOf};
-ghost use Rattle.cbor_judging.specs.Readers.{IsRead, IsCanonicalFront, TellsMemoryAtFront};
+ghost use Rattle.cbor_verdict.specs.Readers.{IsRead, IsCanonicalPrefix, ReportsMemoryAtStart};
 ghost use Rattle.cbor_reader.specs.WholeItem.{IsWholeItem, IsItemRefusal};
 ghost use Rattle.naltvigo.specs.Settings.{key_order, item_limits, AreLimits};
-ghost use Rattle.naltvigo.specs.Checking.{HasNoWholeFront};
-ghost use Rattle.naltvigo.specs.Told.{TellsMemory, TellsOf};
+ghost use Rattle.naltvigo.specs.Checking.{HasNoWholePrefix};
+ghost use Rattle.naltvigo.specs.Reported.{ReportsMemory, ReportsOf};
 ghost use Rattle.naltvigo.specs.inner.Checking.{IsOwnAnswer, IsNotOwn};
 
 use crate::settings::{limits_of, order_numbered};
-use crate::status::{BAD_LIMITS, BAD_ORDER, NO_MEMORY, NaltvigoRefusal, OK, REFUSED, tell, told};
+use crate::status::{
+    BAD_LIMITS, BAD_ORDER, NO_MEMORY, NaltvigoRefusal, OK, REFUSED, report, reported,
+};
 use cbor_head::{KeyOrder, Limits, Reason, Refusal};
 use cbor_reader::laws::{items_and_their_refusals, own_answers_are_strictly_accepted, valid_items};
 use cbor_reader::{check_canonical, check_valid};
@@ -33,21 +35,21 @@ pub extern "C" fn naltvigo_check_canonical_raw(
     ensures accepted { result ≡ OK
         → IsRead (item_limits keys depth bytes) (strict (key_order order)) input.now (length input.now) }
     ensures canonical { result ≡ OK
-        → IsCanonicalFront (item_limits keys depth bytes) (key_order order) input.now (length input.now) }
+        → IsCanonicalPrefix (item_limits keys depth bytes) (key_order order) input.now (length input.now) }
     ensures refused { result ≡ REFUSED
-        → TellsOf (IsItemRefusal (item_limits keys depth bytes) (strict (key_order order)) input.now)
+        → ReportsOf (IsItemRefusal (item_limits keys depth bytes) (strict (key_order order)) input.now)
         refusal.new }
     ensures not_own { result ≡ REFUSED
         → ¬ IsCanonicalOf (item_limits keys depth bytes) (key_order order) input.now input.now }
-    ensures front { result ≡ REFUSED
-        → HasNoWholeFront (item_limits keys depth bytes) (key_order order) input.now refusal.new.place }
+    ensures prefix { result ≡ REFUSED
+        → HasNoWholePrefix (item_limits keys depth bytes) (key_order order) input.now refusal.new.place }
     ensures bad_order { (result ≡ BAD_ORDER) ↔ (1 < order) }
     ensures bad_limits { result ≡ BAD_LIMITS → ¬ AreLimits keys depth bytes }
     ensures in_range { result ≢ BAD_ORDER → result ≢ BAD_LIMITS
         → (order ≤ 1) × AreLimits keys depth bytes }
     ensures statuses { (result ≡ OK) ⊎ (result ≡ REFUSED)
         ⊎ (result ≡ BAD_ORDER) ⊎ (result ≡ BAD_LIMITS) }
-    ensures untold { result ≢ REFUSED → refusal.new ≡ refusal.old }
+    ensures unreported { result ≢ REFUSED → refusal.new ≡ refusal.old }
 {
     let Some(order) = order_numbered(order) else {
         return BAD_ORDER;
@@ -58,7 +60,7 @@ pub extern "C" fn naltvigo_check_canonical_raw(
     match check_own_bytes(input, limits, order) {
         Ok(()) => OK,
         Err(reason) => {
-            *refusal = told(reason);
+            *refusal = reported(reason);
             REFUSED
         }
     }
@@ -76,26 +78,26 @@ pub extern "C" fn naltvigo_check_valid_raw(
 ) -> u32
     ensures accepted { result ≡ OK → IsWholeItem (item_limits keys depth bytes) input.now }
     ensures refused { result ≡ REFUSED
-        → TellsOf (IsItemRefusal (item_limits keys depth bytes) plain input.now) refusal.new }
+        → ReportsOf (IsItemRefusal (item_limits keys depth bytes) plain input.now) refusal.new }
     ensures not_accepted { result ≡ REFUSED → ¬ IsWholeItem (item_limits keys depth bytes) input.now }
-    ensures no_memory { result ≡ NO_MEMORY → TellsMemory 0 refusal.new }
+    ensures no_memory { result ≡ NO_MEMORY → ReportsMemory 0 refusal.new }
     ensures bad_limits { (result ≡ BAD_LIMITS) → ¬ AreLimits keys depth bytes }
     ensures in_range { result ≢ BAD_LIMITS → AreLimits keys depth bytes }
     ensures statuses { (result ≡ OK) ⊎ (result ≡ REFUSED)
         ⊎ (result ≡ NO_MEMORY) ⊎ (result ≡ BAD_LIMITS) }
-    ensures untold { result ≢ REFUSED → result ≢ NO_MEMORY → refusal.new ≡ refusal.old }
+    ensures unreported { result ≢ REFUSED → result ≢ NO_MEMORY → refusal.new ≡ refusal.old }
 {
     let Some(limits) = limits_of(keys, depth, bytes) else {
         return BAD_LIMITS;
     };
     match check_whole_item(alloc, input, limits) {
         Ok(()) => OK,
-        Err(reason) => tell(reason, refusal),
+        Err(reason) => report(reason, refusal),
     }
 }
 
-// The item at the front is all of the input; else why it is not one in its canonical bytes.
-fn check_own_bytes(input: &[u8], limits: Limits, order: KeyOrder) -> Result<(), Refusal>
+// The item at the start is all of the input; else why it is not one in its canonical bytes.
+pub(crate) fn check_own_bytes(input: &[u8], limits: Limits, order: KeyOrder) -> Result<(), Refusal>
     ensures own { IfOk result (λ _. IsOwnAnswer limits order input.now) }
     ensures refused { IfErr result (IsNotOwn limits order input.now) }
 {
@@ -111,7 +113,7 @@ fn check_own_bytes(input: &[u8], limits: Limits, order: KeyOrder) -> Result<(), 
 pub(crate) fn check_whole_item(alloc: Global, input: &[u8], limits: Limits) -> Result<(), Refusal>
     ensures accepted { IfOk result (λ _. IsWholeItem limits input.now) }
     ensures refused { IfErr result (IsItemRefusal limits plain input.now) }
-    ensures memory { IfErr result TellsMemoryAtFront }
+    ensures memory { IfErr result ReportsMemoryAtStart }
     ensures not_accepted { IfErr result (λ f. f.reason ≢ reasons.Memory
         → ¬ IsWholeItem limits input.now) }
 {

@@ -9,10 +9,10 @@ ghost use Rattle.cbor_reader.specs.WholeItem.{IsWholeItem};
 ghost use Rattle.cbor_reader.specs.declared.comparison.Side.{Side};
 ghost use Rattle.naltvigo.specs.Comparing.{side_number as number_of};
 ghost use Rattle.naltvigo.specs.Settings.{item_limits, AreLimits};
-ghost use Rattle.naltvigo.specs.Told.{TellsMemory, TellsOf};
+ghost use Rattle.naltvigo.specs.Reported.{ReportsMemory, ReportsOf};
 
 use crate::settings::limits_of;
-use crate::status::{BAD_LIMITS, DIFFERENT, NO_MEMORY, NaltvigoRefusal, OK, REFUSED, tell};
+use crate::status::{BAD_LIMITS, DIFFERENT, NO_MEMORY, NaltvigoRefusal, OK, REFUSED, report};
 use cbor_reader::{Side, same_meaning};
 use std::alloc::Global;
 
@@ -50,17 +50,17 @@ pub extern "C" fn naltvigo_compare_raw(
         → IsValidItem (item_limits keys depth bytes) right.now t
         → ¬ Same (value_of s) (value_of t) }
     ensures refused { result ≡ REFUSED → (s : Side) × (side.new ≡ number_of s)
-        × TellsOf (IsSideRefusal (item_limits keys depth bytes) left.now right.now s) refusal.new }
+        × ReportsOf (IsSideRefusal (item_limits keys depth bytes) left.now right.now s) refusal.new }
     ensures only { result ≡ REFUSED → IsWholeItem (item_limits keys depth bytes) left.now
         → ¬ IsWholeItem (item_limits keys depth bytes) right.now }
-    ensures no_memory { result ≡ NO_MEMORY → TellsMemory 0 refusal.new }
+    ensures no_memory { result ≡ NO_MEMORY → ReportsMemory 0 refusal.new }
     ensures memory_side { result ≡ NO_MEMORY → (side.new ≡ LEFT)
         ⊎ ((side.new ≡ RIGHT) × IsWholeItem (item_limits keys depth bytes) left.now) }
     ensures bad_limits { result ≡ BAD_LIMITS → ¬ AreLimits keys depth bytes }
     ensures in_range { result ≢ BAD_LIMITS → AreLimits keys depth bytes }
     ensures statuses { (result ≡ OK) ⊎ (result ≡ DIFFERENT) ⊎ (result ≡ REFUSED)
         ⊎ (result ≡ NO_MEMORY) ⊎ (result ≡ BAD_LIMITS) }
-    ensures untold { result ≢ REFUSED → result ≢ NO_MEMORY
+    ensures unreported { result ≢ REFUSED → result ≢ NO_MEMORY
         → (side.new ≡ side.old) × (refusal.new ≡ refusal.old) }
 {
     let Some(limits) = limits_of(keys, depth, bytes) else {
@@ -71,7 +71,7 @@ pub extern "C" fn naltvigo_compare_raw(
         Ok(false) => DIFFERENT,
         Err((refused, reason)) => {
             *side = side_number(refused);
-            tell(reason, refusal)
+            report(reason, refusal)
         }
     }
 }

@@ -5,19 +5,21 @@ ghost use Rattle.cbor_head.specs.Complaint.{plain};
 ghost use Rattle.cbor_reader.specs.WholeItem.{IsItemRefusal, IsWholeItem};
 ghost use Rattle.naltvigo.specs.Diagnosing.{IsTextOf};
 ghost use Rattle.naltvigo.specs.Settings.{item_limits, AreLimits};
-ghost use Rattle.naltvigo.specs.Told.{TellsMemory, TellsOf};
+ghost use Rattle.naltvigo.specs.Reported.{ReportsMemory, ReportsOf};
 
 use crate::buffer::give;
 use crate::checking::check_whole_item;
 use crate::settings::limits_of;
-use crate::status::{BAD_LIMITS, NO_MEMORY, NaltvigoRefusal, OK, REFUSED, TOO_SMALL, tell, told};
+use crate::status::{
+    BAD_LIMITS, NO_MEMORY, NaltvigoRefusal, OK, REFUSED, TOO_SMALL, report, reported,
+};
 use cbor_diag::TextBuffer;
 use cbor_head::{Limits, Reason, Refusal};
 use cbor_reader::laws::valid_items;
 use std::alloc::Global;
 
 /// Writes the diagnostic text (RFC 8949, section 8) of the one valid item that `input` is to the
-/// front of `out`, its pairs in their order. For the rest it is as `naltvigo_canonicalise_raw`.
+/// prefix of `out`, its pairs in their order. For the rest it is as `naltvigo_canonicalise_raw`.
 #[unsafe(no_mangle)]
 pub extern "C" fn naltvigo_diagnostic_raw(
     alloc: Global,
@@ -31,17 +33,17 @@ pub extern "C" fn naltvigo_diagnostic_raw(
 ) -> u32
     ensures written { result ≡ OK
         → IsTextOf (item_limits keys depth bytes) input.now (take needed.new out.new) }
-    ensures room { result ≡ OK → needed.new ≤ length out.old }
+    ensures space { result ≡ OK → needed.new ≤ length out.old }
     ensures too_small { result ≡ TOO_SMALL
         → (x : List ℕ) × IsTextOf (item_limits keys depth bytes) input.now x
         × (needed.new ≡ length x) × (length out.old < length x) }
     ensures refused { result ≡ REFUSED
-        → TellsOf (IsItemRefusal (item_limits keys depth bytes) plain input.now) refusal.new }
+        → ReportsOf (IsItemRefusal (item_limits keys depth bytes) plain input.now) refusal.new }
     ensures not_accepted { result ≡ REFUSED → ¬ IsWholeItem (item_limits keys depth bytes) input.now }
     // As the input was read; or behind it, for the text.
-    ensures no_memory { result ≡ NO_MEMORY → TellsMemory 0 refusal.new
+    ensures no_memory { result ≡ NO_MEMORY → ReportsMemory 0 refusal.new
         ⊎ (IsWholeItem (item_limits keys depth bytes) input.now
-        × TellsMemory (length input.now) refusal.new) }
+        × ReportsMemory (length input.now) refusal.new) }
     ensures bad_limits { result ≡ BAD_LIMITS → ¬ AreLimits keys depth bytes }
     ensures in_range { result ≢ BAD_LIMITS → AreLimits keys depth bytes }
     ensures statuses { (result ≡ OK) ⊎ (result ≡ REFUSED) ⊎ (result ≡ TOO_SMALL)
@@ -49,7 +51,7 @@ pub extern "C" fn naltvigo_diagnostic_raw(
     ensures kept { (result ≢ OK → out.new ≡ out.old)
         × (drop needed.new out.new ≡ drop needed.new out.old) }
     ensures no_count { result ≢ OK → result ≢ TOO_SMALL → needed.new ≡ 0 }
-    ensures untold { result ≢ REFUSED → result ≢ NO_MEMORY → refusal.new ≡ refusal.old }
+    ensures unreported { result ≢ REFUSED → result ≢ NO_MEMORY → refusal.new ≡ refusal.old }
 {
     *needed = 0;
     let Some(limits) = limits_of(keys, depth, bytes) else {
@@ -57,11 +59,11 @@ pub extern "C" fn naltvigo_diagnostic_raw(
     };
     match check_whole_item(alloc, input, limits) {
         Ok(()) => give_text(alloc, input, limits, out, needed, refusal),
-        Err(reason) => tell(reason, refusal),
+        Err(reason) => report(reason, refusal),
     }
 }
 
-// Gives the text of the one valid item that the input is. The room for it is in a frame of its own,
+// Gives the text of the one valid item that the input is. The space for it is in a frame of its own,
 // which is not there yet as the input is checked.
 #[inline(never)]
 fn give_text(
@@ -74,22 +76,22 @@ fn give_text(
 ) -> u32
     requires { IsWholeItem limits input.now }
     ensures written { result ≡ OK → IsTextOf limits input.now (take needed.new out.new) }
-    ensures room { result ≡ OK → needed.new ≤ length out.old }
+    ensures space { result ≡ OK → needed.new ≤ length out.old }
     ensures too_small { result ≡ TOO_SMALL → (x : List ℕ) × IsTextOf limits input.now x
         × (needed.new ≡ length x) × (length out.old < length x) }
-    ensures no_memory { result ≡ NO_MEMORY → TellsMemory (length input.now) refusal.new }
+    ensures no_memory { result ≡ NO_MEMORY → ReportsMemory (length input.now) refusal.new }
     ensures statuses { (result ≡ OK) ⊎ (result ≡ TOO_SMALL) ⊎ (result ≡ NO_MEMORY) }
     ensures kept { (result ≢ OK → out.new ≡ out.old)
         × (drop needed.new out.new ≡ drop needed.new out.old) }
     ensures no_count { result ≢ OK → result ≢ TOO_SMALL → needed.new ≡ needed.old }
-    ensures untold { result ≢ NO_MEMORY → refusal.new ≡ refusal.old }
+    ensures unreported { result ≢ NO_MEMORY → refusal.new ≡ refusal.old }
 {
     valid_items();
-    let mut room = TextBuffer::new(alloc);
-    match room.diagnostic_front(input, limits) {
+    let mut space = TextBuffer::new(alloc);
+    match space.diagnostic_prefix(input, limits) {
         Ok(text) => give(text, out, needed),
         Err(_) => {
-            *refusal = told(Refusal::at(Reason::Memory, input.len() as u64));
+            *refusal = reported(Refusal::at(Reason::Memory, input.len() as u64));
             NO_MEMORY
         }
     }

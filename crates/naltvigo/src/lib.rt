@@ -1,7 +1,7 @@
-//! The library for C: each export of `naltvigo.h`, with the clauses of what it calls.
+//! The library for C: each export of `include/naltvigo.h`, with the clauses of the call that it stands on.
 //!
-//! A call answers a status, and fills what the status calls for. No export keeps anything between
-//! two calls, and each reads and writes only what it is passed.
+//! Programs in C, and the bindings for other languages, call it. An export returns a status and writes what the status calls
+//! for. It keeps nothing between calls, and reads and writes only what it is passed.
 //!
 //! ```text
 //! naltvigo_canonicalise_raw of bf 63 46 75 6e f5 63 41 6d 74 21 ff  {"Fun": true, "Amt": -2}
@@ -16,6 +16,9 @@ mod canonicalising;
 mod checking;
 mod comparing;
 mod diagnosing;
+mod heads;
+mod indexing;
+mod items;
 mod naming;
 mod sequence;
 mod settings;
@@ -28,6 +31,9 @@ pub use canonicalising::naltvigo_canonicalise_raw;
 pub use checking::{naltvigo_check_canonical_raw, naltvigo_check_valid_raw};
 pub use comparing::naltvigo_compare_raw;
 pub use diagnosing::naltvigo_diagnostic_raw;
+pub use heads::naltvigo_put_head_raw;
+pub use indexing::naltvigo_index_raw;
+pub use items::{naltvigo_find_raw, naltvigo_item_at_raw};
 pub use naming::{naltvigo_reason_name_raw, naltvigo_version_raw};
 pub use sequence::{naltvigo_next_canonical_raw, naltvigo_next_valid_raw};
 pub use status::NaltvigoRefusal;

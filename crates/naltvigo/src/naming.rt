@@ -19,8 +19,8 @@ pub extern "C" fn naltvigo_version_raw() -> u32
     VERSION
 }
 
-/// Writes the name of the reason of this number and a zero byte behind it to the front of `out`, if
-/// both have room, and answers the name's length. The name is empty for a number that is no
+/// Writes the name of the reason of this number and a zero byte behind it to the prefix of `out`, if
+/// both have space, and answers the name's length. The name is empty for a number that is no
 /// reason's.
 #[unsafe(no_mangle)]
 pub extern "C" fn naltvigo_reason_name_raw(number: u32, out: &mut [u8]) -> usize
@@ -38,7 +38,7 @@ pub extern "C" fn naltvigo_reason_name_raw(number: u32, out: &mut [u8]) -> usize
     }
 }
 
-// Writes the name and a zero byte behind it, if both have room, and answers the name's length.
+// Writes the name and a zero byte behind it, if both have space, and answers the name's length.
 fn write_name(name: &[u8], out: &mut [u8]) -> usize
     ensures count { result ≡ length name.now }
     ensures written { result < length out.old → take (1 + result) out.new ≡ name.now ++ 0 ∷ [] }

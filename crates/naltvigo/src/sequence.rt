@@ -1,14 +1,16 @@
-//! The item at the front of a buffer, as in a sequence of items (RFC 8742).
+//! The item at the start of a buffer, as in a sequence of items (RFC 8742).
 
 ghost use Rattle.std.specs.Prelude.{◌≡◌, ◌≢◌, ◌↔◌, ◌⊎◌, ◌<◌, ◌≤◌};
 ghost use Rattle.cbor_head.specs.Complaint.{plain, strict};
 ghost use Rattle.cbor_head.specs.Verdict.{IsVerdict, refused};
-ghost use Rattle.cbor_judging.specs.Readers.{HasNoCanonicalFront, IsCanonicalFront, IsRead};
+ghost use Rattle.cbor_verdict.specs.Readers.{HasNoCanonicalPrefix, IsCanonicalPrefix, IsRead};
 ghost use Rattle.naltvigo.specs.Settings.{key_order, item_limits, AreLimits};
-ghost use Rattle.naltvigo.specs.Told.{TellsMemory, TellsOf};
+ghost use Rattle.naltvigo.specs.Reported.{ReportsMemory, ReportsOf};
 
 use crate::settings::{limits_of, order_numbered};
-use crate::status::{BAD_LIMITS, BAD_ORDER, NO_MEMORY, NaltvigoRefusal, OK, REFUSED, tell, told};
+use crate::status::{
+    BAD_LIMITS, BAD_ORDER, NO_MEMORY, NaltvigoRefusal, OK, REFUSED, report, reported,
+};
 use cbor_reader::{check_canonical, check_valid};
 use std::alloc::Global;
 
@@ -26,15 +28,15 @@ pub extern "C" fn naltvigo_next_valid_raw(
 ) -> u32
     ensures accepted { result ≡ OK → IsRead (item_limits keys depth bytes) plain input.now taken.new }
     ensures refused { result ≡ REFUSED
-        → TellsOf (λ f. IsVerdict (item_limits keys depth bytes) plain input.now (refused f))
+        → ReportsOf (λ f. IsVerdict (item_limits keys depth bytes) plain input.now (refused f))
         refusal.new }
-    ensures no_memory { result ≡ NO_MEMORY → TellsMemory 0 refusal.new }
+    ensures no_memory { result ≡ NO_MEMORY → ReportsMemory 0 refusal.new }
     ensures bad_limits { result ≡ BAD_LIMITS → ¬ AreLimits keys depth bytes }
     ensures in_range { result ≢ BAD_LIMITS → AreLimits keys depth bytes }
     ensures statuses { (result ≡ OK) ⊎ (result ≡ REFUSED)
         ⊎ (result ≡ NO_MEMORY) ⊎ (result ≡ BAD_LIMITS) }
     ensures no_count { result ≢ OK → taken.new ≡ 0 }
-    ensures untold { result ≢ REFUSED → result ≢ NO_MEMORY → refusal.new ≡ refusal.old }
+    ensures unreported { result ≢ REFUSED → result ≢ NO_MEMORY → refusal.new ≡ refusal.old }
 {
     *taken = 0;
     let Some(limits) = limits_of(keys, depth, bytes) else {
@@ -45,7 +47,7 @@ pub extern "C" fn naltvigo_next_valid_raw(
             *taken = count;
             OK
         }
-        Err(reason) => tell(reason, refusal),
+        Err(reason) => report(reason, refusal),
     }
 }
 
@@ -64,12 +66,12 @@ pub extern "C" fn naltvigo_next_canonical_raw(
     ensures accepted { result ≡ OK
         → IsRead (item_limits keys depth bytes) (strict (key_order order)) input.now taken.new }
     ensures canonical { result ≡ OK
-        → IsCanonicalFront (item_limits keys depth bytes) (key_order order) input.now taken.new }
+        → IsCanonicalPrefix (item_limits keys depth bytes) (key_order order) input.now taken.new }
     ensures refused { result ≡ REFUSED
-        → TellsOf (λ f. IsVerdict (item_limits keys depth bytes) (strict (key_order order)) input.now
+        → ReportsOf (λ f. IsVerdict (item_limits keys depth bytes) (strict (key_order order)) input.now
         (refused f)) refusal.new }
     ensures no_canonical { result ≡ REFUSED
-        → HasNoCanonicalFront (item_limits keys depth bytes) (key_order order) input.now }
+        → HasNoCanonicalPrefix (item_limits keys depth bytes) (key_order order) input.now }
     ensures bad_order { (result ≡ BAD_ORDER) ↔ (1 < order) }
     ensures bad_limits { result ≡ BAD_LIMITS → ¬ AreLimits keys depth bytes }
     ensures in_range { result ≢ BAD_ORDER → result ≢ BAD_LIMITS
@@ -77,7 +79,7 @@ pub extern "C" fn naltvigo_next_canonical_raw(
     ensures statuses { (result ≡ OK) ⊎ (result ≡ REFUSED)
         ⊎ (result ≡ BAD_ORDER) ⊎ (result ≡ BAD_LIMITS) }
     ensures no_count { result ≢ OK → taken.new ≡ 0 }
-    ensures untold { result ≢ REFUSED → refusal.new ≡ refusal.old }
+    ensures unreported { result ≢ REFUSED → refusal.new ≡ refusal.old }
 {
     *taken = 0;
     let Some(order) = order_numbered(order) else {
@@ -92,7 +94,7 @@ pub extern "C" fn naltvigo_next_canonical_raw(
             OK
         }
         Err(reason) => {
-            *refusal = told(reason);
+            *refusal = reported(reason);
             REFUSED
         }
     }

@@ -27,7 +27,7 @@ pub(crate) fn limits_of(keys: u32, depth: u32, bytes: u64) -> Option<Limits>
     Some(bounds_of(depth, bytes)?.with_keys(keys))
 }
 
-// The same for keys of any kind.
+// The limits for keys of any kind.
 pub(crate) fn bounds_of(depth: u32, bytes: u64) -> Option<Limits>
     ensures value { IfSome result (λ l. (l ≡ bounds depth bytes) × AreBounds (bounds depth bytes)) }
     ensures none { result ≡ None → ¬ AreBounds (bounds depth bytes) }

@@ -2,8 +2,8 @@
 
 ghost use Rattle.std.specs.Prelude.{◌≡◌, ◌≢◌, ◌⊎◌};
 ghost use Rattle.cbor_head.specs.declared.reason.Reason.TheVariants as reasons;
-ghost use Rattle.cbor_judging.specs.Readers.{TellsMemoryAtFront};
-ghost use Rattle.naltvigo.specs.Told.{IsTold, TellsMemory};
+ghost use Rattle.cbor_verdict.specs.Readers.{ReportsMemoryAtStart};
+ghost use Rattle.naltvigo.specs.Reported.{IsReported, ReportsMemory};
 
 use cbor_head::{Reason, Refusal};
 
@@ -21,12 +21,20 @@ pub const BAD_ORDER: u32 = 4;
 pub const BAD_LIMITS: u32 = 5;
 /// Two inputs do not mean the same.
 pub const DIFFERENT: u32 = 6;
-/// An event is told.
+/// An event is reported.
 pub const EVENT: u32 = 7;
 /// All of the input was used, and no event is complete.
 pub const MORE: u32 = 8;
 /// The numbers hold no machine.
 pub const BAD_MACHINE: u32 = 9;
+/// No item stands there, or no pair of the map has the key.
+pub const NOT_THERE: u32 = 10;
+/// The item is of another kind.
+pub const WRONG_KIND: u32 = 11;
+/// No head has this kind and this number.
+pub const BAD_HEAD: u32 = 12;
+/// A number does not fit its type. No export answers it: the header's inline calls do.
+pub const OUT_OF_RANGE: u32 = 13;
 
 /// A refusal: the number of the reason, where, and how far the input was taken.
 #[repr(C)]
@@ -41,8 +49,8 @@ pub struct NaltvigoRefusal {
 }
 
 // The refusal as C has it.
-pub(crate) fn told(refusal: Refusal) -> NaltvigoRefusal
-    ensures { IsTold refusal result }
+pub(crate) fn reported(refusal: Refusal) -> NaltvigoRefusal
+    ensures { IsReported refusal result }
 {
     NaltvigoRefusal {
         reason: u32::from(refusal.reason.number()),
@@ -51,14 +59,14 @@ pub(crate) fn told(refusal: Refusal) -> NaltvigoRefusal
     }
 }
 
-// Tells the refusal, and answers whether it is the input's or memory's.
-pub(crate) fn tell(refusal: Refusal, place: &mut NaltvigoRefusal) -> u32
-    ensures told { IsTold refusal place.new }
+// Reports the refusal, and answers whether it is the input's or memory's.
+pub(crate) fn report(refusal: Refusal, place: &mut NaltvigoRefusal) -> u32
+    ensures reported { IsReported refusal place.new }
     ensures refused { result ≡ REFUSED → refusal.reason ≢ reasons.Memory }
-    ensures no_memory { result ≡ NO_MEMORY → TellsMemoryAtFront refusal → TellsMemory 0 place.new }
+    ensures no_memory { result ≡ NO_MEMORY → ReportsMemoryAtStart refusal → ReportsMemory 0 place.new }
     ensures statuses { (result ≡ REFUSED) ⊎ (result ≡ NO_MEMORY) }
 {
-    *place = told(refusal);
+    *place = reported(refusal);
     match refusal.reason {
         Reason::Memory => NO_MEMORY,
         _ => REFUSED,

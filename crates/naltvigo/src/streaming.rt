@@ -1,17 +1,17 @@
 //! The events of an item whose bytes come in parts.
 
 ghost use Rattle.std.specs.Prelude.{◌≡◌, ◌≢◌, ◌⊎◌, ◌<◌, ◌≤◌, ◌+◌, drop, length, take, IfSome};
-ghost use Rattle.cbor_standing.specs.Machine.{IsComplete};
-ghost use Rattle.cbor_standing.specs.MachineView.{MachineView};
+ghost use Rattle.cbor_machine.specs.Machine.{IsComplete};
+ghost use Rattle.cbor_machine.specs.MachineView.{MachineView};
 ghost use Rattle.cbor_machine.specs.Saved.{Holds, Starts};
 ghost use Rattle.cbor_head.specs.Limits.{bounds, AreBounds};
-ghost use Rattle.naltvigo.specs.Streaming.{IsToldEvent, StaysSo, TellsOn};
+ghost use Rattle.naltvigo.specs.Streaming.{IsReportedEvent, StaysSo, ReportsOn};
 ghost use Rattle.naltvigo.specs.Streaming.{kind_number, number_of, width_number};
-ghost use Rattle.naltvigo.specs.Told.{IsTold};
+ghost use Rattle.naltvigo.specs.Reported.{IsReported};
 
 use crate::settings::bounds_of;
 use crate::status::{
-    BAD_LIMITS, BAD_MACHINE, EVENT, MORE, NaltvigoRefusal, OK, REFUSED, told as of_refusal,
+    BAD_LIMITS, BAD_MACHINE, EVENT, MORE, NaltvigoRefusal, OK, REFUSED, reported as of_refusal,
 };
 use cbor_automaton::{Event, EventKind};
 use cbor_head::{Limits, Width};
@@ -62,8 +62,8 @@ pub extern "C" fn naltvigo_machine_start_raw(
     }
 }
 
-/// Takes bytes from the front of `input` and tells their events, in the first of `events`, until
-/// these are full, or a byte is refused, or none is left: `used` says how many bytes, and `told` how
+/// Takes bytes from the prefix of `input` and reports their events, in the first of `events`, until
+/// these are full, or a byte is refused, or none is left: `used` says how many bytes, and `reported` how
 /// many events. Once the item is complete, or refused, it uses nothing and answers the same. It takes
 /// no memory.
 #[unsafe(no_mangle)]
@@ -72,20 +72,20 @@ pub extern "C" fn naltvigo_machine_take_raw(
     input: &[u8],
     used: &mut usize,
     events: &mut [NaltvigoEvent],
-    told: &mut usize,
+    reported: &mut usize,
     refusal: &mut NaltvigoRefusal,
 ) -> u32
     ensures used { (used.new ≤ length input.now)
         × (machine.new.taken ≡ machine.old.taken + used.new) }
     // An event stands for a byte at least.
-    ensures told { (told.new ≤ length events.new) × (told.new ≤ used.new) }
+    ensures reported { (reported.new ≤ length events.new) × (reported.new ≤ used.new) }
     // The machine that the numbers hold did so, be it of a start or of the call before.
     ensures streams { result ≢ BAD_MACHINE → (m : MachineView) → Holds machine.old m
         → (behind : MachineView) × Holds machine.new behind
-        × TellsOn m behind (take used.new input.now) result (take told.new events.new) refusal.new }
+        × ReportsOn m behind (take used.new input.now) result (take reported.new events.new) refusal.new }
     ensures held { result ≢ BAD_MACHINE → (m : MachineView) × Holds machine.old m }
-    ensures full { result ≡ EVENT → told.new ≡ length events.new }
-    ensures room { result ≢ EVENT → result ≢ BAD_MACHINE → told.new < length events.new }
+    ensures full { result ≡ EVENT → reported.new ≡ length events.new }
+    ensures space { result ≢ EVENT → result ≢ BAD_MACHINE → reported.new < length events.new }
     ensures more { result ≡ MORE → (used.new ≡ length input.now)
         × (machine.new.taken < machine.new.bytes) }
     ensures refused { result ≡ REFUSED → (refusal.new.read ≡ machine.new.taken)
@@ -94,12 +94,12 @@ pub extern "C" fn naltvigo_machine_take_raw(
         → StaysSo machine.old machine.new used.new result refusal.new }
     ensures bad_machine { result ≡ BAD_MACHINE → (m : MachineView) → ¬ Holds machine.old m }
     ensures kept { result ≡ BAD_MACHINE → (machine.new ≡ machine.old)
-        × (used.new ≡ 0) × (told.new ≡ 0) }
-    ensures untold { drop told.new events.new ≡ drop told.new events.old }
+        × (used.new ≡ 0) × (reported.new ≡ 0) }
+    ensures unreported { drop reported.new events.new ≡ drop reported.new events.old }
     ensures unrefused { result ≢ REFUSED → refusal.new ≡ refusal.old }
 {
     *used = 0;
-    *told = 0;
+    *reported = 0;
     let Some(limits) = Limits::new(machine.depth, machine.bytes) else {
         return BAD_MACHINE;
     };
@@ -111,7 +111,7 @@ pub extern "C" fn naltvigo_machine_take_raw(
     let taken = take_events(&mut taking, input, events, refusal);
     taking.save_into(machine);
     *used = taken.used;
-    *told = taken.told;
+    *reported = taken.reported;
     taken.status
 }
 
@@ -121,19 +121,23 @@ struct Taken {
     status: u32,
     // How many bytes of it were used.
     used: usize,
-    // How many events were told.
-    told: usize,
+    // How many events were reported.
+    reported: usize,
 }
 
 impl Taken {
-    fn new(status: u32, used: usize, told: usize) -> Taken
-        ensures { result ≡ record { status = status; used = used; told = told } }
+    fn new(status: u32, used: usize, reported: usize) -> Taken
+        ensures { result ≡ record { status = status; used = used; reported = reported } }
     {
-        Taken { status, used, told }
+        Taken {
+            status,
+            used,
+            reported,
+        }
     }
 }
 
-// The same of a machine that goes on.
+// Takes events with a machine that goes on.
 fn take_events(
     machine: &mut Machine,
     input: &[u8],
@@ -142,11 +146,11 @@ fn take_events(
 ) -> Taken
     ensures used { (result.used ≤ length input.now)
         × (machine.new.taken ≡ machine.old.taken + result.used) }
-    ensures told { (result.told ≤ length events.new) × (result.told ≤ result.used) }
-    ensures tells { TellsOn machine.old machine.new (take result.used input.now) result.status
-        (take result.told events.new) refusal.new }
-    ensures full { result.status ≡ EVENT → result.told ≡ length events.new }
-    ensures room { result.status ≢ EVENT → result.told < length events.new }
+    ensures reported { (result.reported ≤ length events.new) × (result.reported ≤ result.used) }
+    ensures reports { ReportsOn machine.old machine.new (take result.used input.now) result.status
+        (take result.reported events.new) refusal.new }
+    ensures full { result.status ≡ EVENT → result.reported ≡ length events.new }
+    ensures space { result.status ≢ EVENT → result.reported < length events.new }
     ensures more { result.status ≡ MORE → (result.used ≡ length input.now)
         × (machine.new.taken < machine.new.bytes) }
     ensures refused { result.status ≡ REFUSED → (refusal.new.read ≡ machine.new.taken)
@@ -154,36 +158,36 @@ fn take_events(
     ensures complete { 0 < length events.old → IsComplete machine.old
         → (result.status ≡ OK) × (result.used ≡ 0) × (machine.new ≡ machine.old) }
     ensures again { 0 < length events.old → IfSome machine.old.refusal
-        (λ f. (result.status ≡ REFUSED) × IsTold f refusal.new
+        (λ f. (result.status ≡ REFUSED) × IsReported f refusal.new
         × (result.used ≡ 0) × (machine.new ≡ machine.old)) }
-    ensures untold { drop result.told events.new ≡ drop result.told events.old }
+    ensures unreported { drop result.reported events.new ≡ drop result.reported events.old }
     ensures unrefused { result.status ≢ REFUSED → refusal.new ≡ refusal.old }
     ensures statuses { result.status ≢ BAD_MACHINE }
 {
     let mut used = 0;
-    let mut told = 0;
-    'events: while told < events.len() {
+    let mut reported = 0;
+    'events: while reported < events.len() {
         let step = machine.step(&input[used..]);
         used += step.used;
         match step.out {
             Out::Event(next) => {
-                events[told] = event_of(next);
-                told += 1;
+                events[reported] = event_of(next);
+                reported += 1;
             }
-            Out::More => return Taken::new(MORE, used, told),
-            Out::Done => return Taken::new(OK, used, told),
+            Out::More => return Taken::new(MORE, used, reported),
+            Out::Done => return Taken::new(OK, used, reported),
             Out::Refused(why) => {
                 *refusal = of_refusal(why);
-                return Taken::new(REFUSED, used, told);
+                return Taken::new(REFUSED, used, reported);
             }
         }
     }
-    Taken::new(EVENT, used, told)
+    Taken::new(EVENT, used, reported)
 }
 
 // The event as C has it.
 fn event_of(event: Event) -> NaltvigoEvent
-    ensures { IsToldEvent event result }
+    ensures { IsReportedEvent event result }
 {
     let (kind, number) = numbers_of(event.kind);
     NaltvigoEvent {

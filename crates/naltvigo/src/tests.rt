@@ -2,12 +2,17 @@
 
 use crate::comparing::{LEFT, RIGHT};
 use crate::naming::VERSION;
-use crate::status::{BAD_LIMITS, BAD_ORDER, DIFFERENT, NaltvigoRefusal, OK, REFUSED, TOO_SMALL};
+use crate::status::{
+    BAD_HEAD, BAD_LIMITS, BAD_ORDER, DIFFERENT, NOT_THERE, NaltvigoRefusal, OK, REFUSED, TOO_SMALL,
+    WRONG_KIND,
+};
 use crate::{
     naltvigo_canonicalise_raw, naltvigo_check_canonical_raw, naltvigo_check_valid_raw,
-    naltvigo_compare_raw, naltvigo_diagnostic_raw, naltvigo_next_canonical_raw,
-    naltvigo_next_valid_raw, naltvigo_reason_name_raw, naltvigo_version_raw,
+    naltvigo_compare_raw, naltvigo_diagnostic_raw, naltvigo_find_raw, naltvigo_index_raw,
+    naltvigo_item_at_raw, naltvigo_next_canonical_raw, naltvigo_next_valid_raw,
+    naltvigo_put_head_raw, naltvigo_reason_name_raw, naltvigo_version_raw,
 };
+use cbor_cursor::PlacedItem;
 use std::alloc::Global;
 use std::rt::HostRuntime;
 
@@ -163,6 +168,78 @@ fn items_behind_one_another(rt: HostRuntime) {
     );
     // Indefinite
     assert!(&rt; (taken, why.reason, why.place, why.read) == (0, 15, 0, 1));
+}
+
+#[test]
+fn heads_in_a_buffer(rt: HostRuntime) {
+    let mut out = [7u8; 4];
+    let mut count = 9;
+    assert!(&rt; naltvigo_put_head_raw(4, 23, &mut out, &mut count) == OK);
+    assert!(&rt; count == 1);
+    assert!(&rt; out == [0x97, 7, 7, 7]);
+    assert!(&rt; naltvigo_put_head_raw(2, 256, &mut out, &mut count) == OK);
+    assert!(&rt; count == 3);
+    assert!(&rt; out == [0x59, 0x01, 0x00, 7]);
+    assert!(&rt; naltvigo_put_head_raw(0, 65536, &mut out, &mut count) == TOO_SMALL);
+    assert!(&rt; count == 5);
+    assert!(&rt; out == [0x59, 0x01, 0x00, 7]);
+    for (kind, number) in [(7, 24), (7, 256), (8, 0)] {
+        assert!(&rt; naltvigo_put_head_raw(kind, number, &mut out, &mut count) == BAD_HEAD);
+        assert!(&rt; count == 0);
+    }
+}
+
+// [100, {0: true}]
+const NESTED: [u8; 6] = [0x82, 0x18, 0x64, 0xa1, 0x00, 0xf5];
+
+// The item of a kind and a number; where it begins, its content begins, and it ends.
+fn item_of(kind: u32, number: u64, places: [u64; 3], behind: u32) -> PlacedItem {
+    let [place, content, end] = places;
+    PlacedItem {
+        number,
+        place,
+        content,
+        end,
+        kind,
+        behind,
+    }
+}
+
+#[test]
+fn items_at_offsets(rt: HostRuntime) {
+    let none = item_of(0, 0, [0, 0, 0], 9);
+    let mut item = none;
+    assert!(&rt; naltvigo_item_at_raw(&NESTED, 3, &mut item) == OK);
+    assert!(&rt; item == item_of(5, 1, [3, 4, 6], 0));
+    assert!(&rt; naltvigo_find_raw(&NESTED, 3, &[0x00], &mut item) == OK);
+    assert!(&rt; item == item_of(7, 21, [5, 6, 6], 0));
+    item = none;
+    assert!(&rt; naltvigo_item_at_raw(&NESTED, 6, &mut item) == NOT_THERE);
+    assert!(&rt; naltvigo_find_raw(&NESTED, 3, &[0x01], &mut item) == NOT_THERE);
+    assert!(&rt; naltvigo_find_raw(&NESTED, 0, &[0x00], &mut item) == WRONG_KIND);
+    assert!(&rt; item == none);
+}
+
+#[test]
+fn all_items_in_a_table(rt: HostRuntime) {
+    let mut items = [item_of(0, 0, [0, 0, 0], 9); 6];
+    let mut count = 9;
+    let mut why = NONE;
+    let s = naltvigo_index_raw(&NESTED, 0, 0, 64, 100, &mut items, &mut count, &mut why);
+    assert!(&rt; (s, count) == (OK, 5));
+    assert!(&rt; items[0] == item_of(4, 2, [0, 1, 6], 5));
+    assert!(&rt; items[1] == item_of(0, 100, [1, 3, 3], 1));
+    assert!(&rt; items[2] == item_of(5, 1, [3, 4, 6], 3));
+    assert!(&rt; items[3] == item_of(0, 0, [4, 5, 5], 1));
+    assert!(&rt; items[4] == item_of(7, 21, [5, 6, 6], 1));
+    assert!(&rt; items[5].behind == 9);
+    let few = &mut items[..4];
+    let s = naltvigo_index_raw(&NESTED, 0, 0, 64, 100, few, &mut count, &mut why);
+    assert!(&rt; (s, count) == (TOO_SMALL, 5));
+    let s = naltvigo_index_raw(&STREAMED, 0, 0, 64, 100, &mut items, &mut count, &mut why);
+    assert!(&rt; (s, count) == (REFUSED, 0));
+    // Indefinite
+    assert!(&rt; (why.reason, why.place, why.read) == (15, 0, 1));
 }
 
 // Maps with limits of depth and bytes, and why each is refused where keys are to be integers and

@@ -1,9 +1,17 @@
 """Deterministic CBOR (RFC 8949, without floating-point numbers), by a library that is proved.
 
-Every accepted input has one canonical spelling, and every refusal a name and an exact place.
+Values become canonical bytes, and bytes that are checked become values:
 
 >>> import naltvigo
->>> streamed = bytes.fromhex("bf6346756ef563416d7421ff")       # {"Fun": true, "Amt": -2}, without a length
+>>> naltvigo.dumps({"Fun": True, "Amt": -2}).hex()
+'a263416d74216346756ef5'
+>>> naltvigo.loads(bytes.fromhex("a263416d74216346756ef5"), canonical=True)
+{'Amt': -2, 'Fun': True}
+
+Bytes that others made are checked, compared and canonicalised. Every accepted input has one canonical encoding, and every
+refusal a name and a place:
+
+>>> streamed = bytes.fromhex("bf6346756ef563416d7421ff")       # {"Fun": true, "Amt": -2}, of indefinite length
 >>> naltvigo.canonicalise(streamed).hex()
 'a263416d74216346756ef5'
 >>> naltvigo.diagnostic(streamed)
@@ -14,19 +22,53 @@ Traceback (most recent call last):
 naltvigo.Refused: refused 5 Float at 1: A floating-point number begins here; no float is accepted. Write it as an \
 integer, a text, or a tag over integers.
 
-Each call takes any buffer (bytes, bytearray, memoryview and others) and, by name, the limits: `depth`, how deep
-arrays, maps and tags may nest (0 to 1024), and `max_bytes`, how many bytes an item may have (0 to 2 ** 62); all but
-`events` also `keys`, which items may be keys of maps: 'any', or 'basic', integers and texts alone. Limits, an order
-or keys that there are not are a ValueError, a limit that is no integer is a TypeError, and want of memory is a
-MemoryError. Calls may be made from any number of threads: the interpreter's lock is not held while the library works.
-A buffer that can change is copied first, so it may change meanwhile.
+A call that takes bytes takes any buffer (bytes, bytearray, memoryview, array, mmap and others). Each call takes limits by
+name: `depth`, how deep arrays, maps and tags may nest (0 to 1024), and `max_bytes`, how many bytes an item may have (0 to
+2 ** 62); all but `events` also `keys`, which items may be keys of maps: 'any', or 'basic', integers and texts alone. A
+wrong limit, order or kind of keys is a ValueError, a limit that is no integer is a TypeError, and refused memory is a
+MemoryError. Calls may be made from any number of threads; the interpreter's lock is not held while the library reads an
+input of 16 KiB or more. A buffer that can change is copied first, so it may change meanwhile.
 """
 
-from ._calls import canonicalise, check, check_canonical, diagnostic, same
-from ._library import version as _version
+from ._native import (
+    VERSION,
+    Tag,
+    canonicalise,
+    canonicalise_items,
+    check,
+    check_canonical,
+    diagnostic,
+    dumps,
+    is_canonical,
+    item_ends,
+    items,
+    loads,
+    same,
+)
 from ._refused import Refused
-from ._streams import Event, events, items
+from ._streams import Event, events
+from ._values import Encoded, FrozenDict, Simple, undefined
 
-__version__: str = _version()
+__version__: str = VERSION
 
-__all__ = ["Event", "Refused", "canonicalise", "check", "check_canonical", "diagnostic", "events", "items", "same"]
+__all__ = [
+    "Encoded",
+    "Event",
+    "FrozenDict",
+    "Refused",
+    "Simple",
+    "Tag",
+    "canonicalise",
+    "canonicalise_items",
+    "check",
+    "check_canonical",
+    "diagnostic",
+    "dumps",
+    "events",
+    "is_canonical",
+    "item_ends",
+    "items",
+    "loads",
+    "same",
+    "undefined",
+]

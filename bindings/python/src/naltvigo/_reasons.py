@@ -1,8 +1,6 @@
 """The reasons of refusals: name, meaning and advice by number. Written by scripts/reasons.py."""
 
-from typing import Dict, Tuple
-
-REASONS: Dict[int, Tuple[str, str, str]] = {
+REASONS: dict[int, tuple[str, str, str]] = {
     1: (
         "Truncated",
         "The input ends within the item.",

@@ -1,8 +1,7 @@
 """The refusal of an input, as an exception."""
 
-from typing import Optional
+from typing import Any
 
-from ._library import NO_MEMORY, Refusal
 from ._reasons import REASONS
 
 
@@ -13,7 +12,8 @@ class Refused(ValueError):
     place           the offset of what is wrong, in bytes from the item's first one
     read            how many of its bytes were looked at
     side            of `same`: 'left' or 'right', the input that is refused; else None
-    item, start     of `items`: which item, counted from 1, and where it starts; else None
+    item, start     of `items` and what else reads sequences: which item, counted from 1, and where it begins; else None
+    path            of `dumps`: the keys and indices that lead to the value; else None
 
     >>> import naltvigo
     >>> try:
@@ -29,30 +29,26 @@ class Refused(ValueError):
     name: str
     place: int
     read: int
-    side: Optional[str]
-    item: Optional[int]
-    start: Optional[int]
+    side: str | None
+    item: int | None
+    start: int | None
+    path: tuple[Any, ...] | None
 
     def __init__(
         self,
         reason: int,
         place: int,
         read: int,
-        side: Optional[str] = None,
-        item: Optional[int] = None,
-        start: Optional[int] = None,
+        side: str | None = None,
+        item: int | None = None,
+        start: int | None = None,
+        path: tuple[Any, ...] | None = None,
     ) -> None:
         self.reason, self.place, self.read = reason, place, read
-        self.side, self.item, self.start = side, item, start
+        self.side, self.item, self.start, self.path = side, item, start, path
         self.name, meaning, advice = REASONS[reason]
         of = f"{side} " if side else f"item {item} " if item else ""
         super().__init__(f"{of}refused {reason} {self.name} at {place}: {meaning} {advice}")
 
-    def __reduce__(self):  # type: ignore[no-untyped-def]
-        return Refused, (self.reason, self.place, self.read, self.side, self.item, self.start)
-
-
-def refusal(status: int, why: Refusal, side: Optional[str] = None, item: Optional[int] = None, start: Optional[int] = None) -> Exception:
-    if status == NO_MEMORY:
-        return MemoryError("naltvigo: memory was refused")
-    return Refused(why.reason, why.place, why.read, side, item, start)
+    def __reduce__(self) -> tuple[Any, ...]:
+        return Refused, (self.reason, self.place, self.read, self.side, self.item, self.start, self.path)

@@ -1,32 +1,15 @@
-"""Items that come in parts, and items behind one another."""
+"""The events of an item whose bytes come in chunks."""
 
-import ctypes
-from typing import Any, Iterable, Iterator, NamedTuple, Optional, Union
+from __future__ import annotations
 
-from ._library import (
-    EVENT,
-    KEYS,
-    MORE,
-    OK,
-    ORDERS,
-    Keys,
-    Machine,
-    Order,
-    Refusal,
-    Told,
-    as_bytes,
-    check_limits,
-    is_buffer,
-    machine_start_raw,
-    machine_take_raw,
-    next_canonical_raw,
-    next_valid_raw,
-    wrong_keys,
-    wrong_order,
-)
-from ._refused import Refused, refusal
+from collections.abc import Iterable, Iterator
+from typing import TYPE_CHECKING, NamedTuple
 
-Buffer = Union[bytes, bytearray, memoryview]
+from ._native import EVENT, MORE, OK, Machine, start_machine
+from ._refused import Refused
+
+if TYPE_CHECKING:
+    from _typeshed import ReadableBuffer
 
 KINDS = ("unsigned", "negative", "bytes", "text", "array", "map", "tag", "simple", "chunk", "piece", "break")
 
@@ -38,22 +21,22 @@ class Event(NamedTuple):
 
     place     the offset of its first byte, from the item's first one
     kind      'unsigned', 'negative', 'bytes', 'text', 'array', 'map', 'tag', 'simple': the head of an item;
-              'chunk': the head of a chunk of a string without a length; 'piece': some bytes of a payload;
-              'break': the end of what has no length
+              'chunk': the head of a chunk of a string of indefinite length; 'piece': some bytes of a payload;
+              'break': the end of what has indefinite length
     number    the argument (a negative number is -1 less it), the tag or simple value, or how many bytes, members
-              or pairs there are; None without a length, and for a break
+              or pairs there are; None for an indefinite length, and for a break
     width     how many bytes the argument has: 0, 1, 2, 4 or 8; None as above
     data      the bytes of a piece
     """
 
     place: int
     kind: str
-    number: Optional[int]
-    width: Optional[int]
+    number: int | None
+    width: int | None
     data: bytes
 
 
-def events(chunks: Union[Buffer, Iterable[Buffer]], *, depth: int = 64, max_bytes: int = 1 << 20) -> Iterator[Event]:
+def events(chunks: ReadableBuffer | Iterable[ReadableBuffer], *, depth: int = 64, max_bytes: int = 1 << 20) -> Iterator[Event]:
     """The events of the one item whose bytes come in these chunks, each as soon as its bytes are there.
 
     Form alone is judged: neither UTF-8, nor repeated keys. What is wrong raises Refused behind the events before
@@ -67,97 +50,38 @@ def events(chunks: Union[Buffer, Iterable[Buffer]], *, depth: int = 64, max_byte
     4 piece 1 0 b'a'
     5 piece 2 0 b'bc'
     """
-    check_limits(depth, max_bytes)
-    parts: Any = (chunks,) if is_buffer(chunks) else chunks
-    return _events(parts, depth, max_bytes)
+    machine = start_machine(depth=depth, max_bytes=max_bytes)
+    parts = (chunks,) if _is_buffer(chunks) else chunks
+    return _events(machine, parts)  # type: ignore[arg-type]
 
 
-# How many events a call of the library tells at most.
-_MANY = 64
+def _is_buffer(chunks: object) -> bool:
+    try:
+        memoryview(chunks)  # type: ignore[arg-type]
+    except TypeError:
+        return False
+    return True
 
 
-def _events(chunks: Iterable[Buffer], depth: int, max_bytes: int) -> Iterator[Event]:
-    machine, room, used, count, why = Machine(), (Told * _MANY)(), ctypes.c_size_t(), ctypes.c_size_t(), Refusal()
-    machine_at, used_at, room_at, count_at, why_at = map(ctypes.addressof, (machine, used, room, count, why))
-    machine_start_raw(depth, max_bytes, machine_at)
+def _events(machine: Machine, chunks: Iterable[ReadableBuffer]) -> Iterator[Event]:
     status = MORE
     for chunk in _and_nothing(chunks):
-        # the address stands as long as the bytes do
-        part = as_bytes(chunk)
-        first = ctypes.cast(part, ctypes.c_void_p).value or 0
-        begins, at = machine.taken, 0
-        while True:
-            status = machine_take_raw(machine_at, first + at, len(part) - at, used_at, room_at, _MANY, count_at, why_at)
-            at += used.value
-            for told in room[: count.value]:
-                yield _event(told, part, begins)
-            if status != EVENT:
-                break
+        part = chunk if type(chunk) is bytes else bytes(memoryview(chunk))
+        status, at = EVENT, 0
+        while status == EVENT:
+            status, used, reported, refusal = machine.take(part, at)
+            at += used
+            for place, kind, number, width, data in reported:
+                yield Event(place, KINDS[kind], number, width, data)
+        if refusal:
+            raise Refused(*refusal)
         if status == OK and at < len(part):
             raise Refused(TRAILING, machine.taken, machine.taken)
-        if status not in (OK, MORE):
-            raise refusal(status, why)
     if status == MORE:
         raise Refused(TRUNCATED, machine.taken, machine.taken)
 
 
-def _and_nothing(chunks: Iterable[Buffer]) -> Iterator[Buffer]:
+def _and_nothing(chunks: Iterable[ReadableBuffer]) -> Iterator[ReadableBuffer]:
     # behind the last chunk a machine still tells whether the byte limit was reached
     yield from chunks
     yield b""
-
-
-def _event(told: Told, part: bytes, begins: int) -> Event:
-    """The event as Python has it; the part begins there in the item."""
-    kind, number, width = KINDS[told.kind], told.number, told.width
-    if kind == "piece":
-        at = told.place - begins
-        return Event(told.place, kind, number, width, part[at : at + number])
-    if width == 255:
-        return Event(told.place, kind, None, None, b"")
-    return Event(told.place, kind, number, width, b"")
-
-
-def items(
-    data: Buffer,
-    *,
-    canonical: bool = False,
-    order: Order = "bytewise",
-    depth: int = 64,
-    max_bytes: int = 1 << 20,
-    keys: Keys = "any",
-) -> Iterator[bytes]:
-    """The items of a sequence (RFC 8742), each as it is spelled; with `canonical` none but in its canonical bytes.
-
-    The limits are for each item. What is no item raises Refused behind those before it: `item` says which one it
-    is, and `start` where; its place counts from there.
-
-    >>> from naltvigo import canonicalise, items
-    >>> [canonicalise(item) for item in items(b"\\x18\\x00\\x61a\\x9f\\xff")]
-    [b'\\x00', b'aa', b'\\x80']
-    """
-    number = ORDERS.get(order)
-    if number is None:
-        raise wrong_order(order)
-    check_limits(depth, max_bytes)
-    kinds = KEYS.get(keys)
-    if kinds is None:
-        raise wrong_keys(keys)
-    return _items(as_bytes(data), number if canonical else None, kinds, depth, max_bytes)
-
-
-def _items(data: bytes, order: Optional[int], kinds: int, depth: int, max_bytes: int) -> Iterator[bytes]:
-    taken, why = ctypes.c_uint64(), Refusal()
-    taken_at, why_at = ctypes.addressof(taken), ctypes.addressof(why)
-    first = ctypes.cast(data, ctypes.c_void_p).value or 0
-    at, count = 0, 0
-    while at < len(data):
-        count += 1
-        if order is None:
-            status = next_valid_raw(first + at, len(data) - at, kinds, depth, max_bytes, taken_at, why_at)
-        else:
-            status = next_canonical_raw(first + at, len(data) - at, order, kinds, depth, max_bytes, taken_at, why_at)
-        if status != OK:
-            raise refusal(status, why, item=count, start=at)
-        yield data[at : at + taken.value]
-        at += taken.value

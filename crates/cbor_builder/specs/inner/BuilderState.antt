@@ -1,8 +1,8 @@
 -- What a builder stands for.
 use Rattle.std.specs.Prelude.{if◌then◌else◌, Bool, false, ◌≡◌, ◌↔◌, List, [], ◌∷◌, ◌++◌, reverse, take, drop, IsPermutation, IsTrue, Result, OnOk, IfOk}
 use Rattle.cbor_head.specs.declared.order.KeyOrder.{KeyOrder}
-use Rattle.cbor_canonical.specs.Parts.{Open, HasNoRepeats}
-use Rattle.cbor_buffer.specs.{Moved.meant, Moved.IsWhole, declared.draft.Draft.Draft, declared.span.Span.Span}
+use Rattle.cbor_model.specs.Parts.{Open, HasNoRepeats}
+use Rattle.cbor_output.specs.{Moved.meant, Moved.IsWhole, declared.reorder_buffer.ReorderBuffer.ReorderBuffer, declared.span.Span.Span}
 use Rattle.cbor_builder.specs.inner.Laid.{outermost, shape_open, opens, Laid}
 use Rattle.cbor_builder.specs.{inner.InPlace.Agrees, declared.builder.Core.Core, declared.frame.Frame.Frame, declared.frame.Shape.Shape}
 use Rattle.cbor_builder.specs.declared.frame.Shape.TheVariants.{Map}
@@ -18,13 +18,13 @@ frames c = c.top ∷ outers c
 abbrev pub IsRooted : Core → Type 0
 IsRooted c = c.is_open ≡ false → (c.top ≡ outermost) × (c.below.items ≡ [])
 
-abbrev pub standing : Core → List Open
-standing c = opens (meant c.out) c.spans.items (frames c)
+abbrev pub open_levels : Core → List Open
+open_levels c = opens (meant c.out) c.spans.items (frames c)
 
 abbrev pub innermost : Core → Open
 innermost c = shape_open (meant c.out) c.spans.items c.top.start c.top.shape
 
-abbrev pub Stand : KeyOrder → Draft → List Span → List Frame → Type 0
+abbrev pub Stand : KeyOrder → ReorderBuffer → List Span → List Frame → Type 0
 Stand o d ss fs = Laid o (meant d) ss fs × IsWhole d × Agrees d.buf (meant d) ss fs
 
 abbrev pub IsLaid : Core → Type 0
@@ -32,17 +32,17 @@ IsLaid c = Stand c.order c.out c.spans.items (frames c) × IsRooted c
 
 -- it is laid, and these are open
 abbrev pub StandsAs : Core → List Open → Type 0
-StandsAs c os = IsLaid c × (standing c ≡ os)
+StandsAs c os = IsLaid c × (open_levels c ≡ os)
 
 -- what a call leaves: the order, and these open where it had its memory
 pub record CoreLeaves {A E : Type 0} (r : Result A E) (old new : Core) (os : List Open) : Type 0 where
   pub order : new.order ≡ old.order
   pub laid : OnOk r (IsLaid new)
-  pub given : OnOk r (standing new ≡ os)
+  pub given : OnOk r (open_levels new ≡ os)
 
 -- ---- while the pairs of a map are looked at
 
--- the spans of the innermost stand in another order than they came in, where it is a map whose next key is due
+-- the spans of the innermost stand in another order than they came in, where it is a map whose next key is expected
 abbrev pub IsReordered : List Span → List Span → Shape → Type 0
 IsReordered came ss (Map first) = (take first ss ≡ take first came) × IsPermutation (drop first came) (drop first ss)
 IsReordered came ss s = ss ≡ came
@@ -51,12 +51,12 @@ IsReordered came ss s = ss ≡ came
 abbrev pub WasLaid : List Span → Core → Type 0
 WasLaid came c = Stand c.order c.out came (frames c) × IsReordered came c.spans.items c.top.shape
 
-abbrev pub came_standing : List Span → Core → List Open
-came_standing came c = opens (meant c.out) came (frames c)
+abbrev pub came_open_levels : List Span → Core → List Open
+came_open_levels came c = opens (meant c.out) came (frames c)
 
 -- what is open does not end: its pairs may stand in another order, and all else stands as it did
 abbrev pub IsLeftOpen : Core → Core → Type 0
-IsLeftOpen old new = WasLaid old.spans.items new × (came_standing old.spans.items new ≡ standing old)
+IsLeftOpen old new = WasLaid old.spans.items new × (came_open_levels old.spans.items new ≡ open_levels old)
 
 -- what a call leaves that is to end the innermost: where no two keys of it are equal these open, else what was
 pub record CoreEnds {E : Type 0} (r : Result Bool E) (old new : Core) (os : List Open) : Type 0 where

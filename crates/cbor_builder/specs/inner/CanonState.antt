@@ -1,16 +1,16 @@
 -- What a public builder holds.
 use Rattle.std.specs.Prelude.{Bool, if◌then◌else◌, IsTrue, List, [], ◌∷◌}
 use Rattle.std.specs.List.{AllByRecursion}
-use Rattle.cbor_canonical.specs.Parts.{Open}
+use Rattle.cbor_model.specs.Parts.{Open}
 use Rattle.cbor_builder.specs.Built.{Built, built, CanHold}
-use Rattle.cbor_builder.specs.{inner.BuilderState.standing, inner.BuilderState.IsLaid, declared.canon_builder.CanonBuilder.TheInside.Inside}
+use Rattle.cbor_builder.specs.{inner.BuilderState.open_levels, inner.BuilderState.IsLaid, declared.canon_builder.CanonBuilder.TheInside.Inside}
 
 -- what is open where the builder is sound, and nothing else
 abbrev pub if_sound : Bool → List Open → List Open
 if_sound sound os = if sound then os else []
 
-abbrev pub seen : Inside → Built
-seen b = built b.core.order (if_sound b.is_sound (standing b.core))
+abbrev pub view_value : Inside → Built
+view_value b = built b.core.order (if_sound b.is_sound (open_levels b.core))
 
 -- each that holds another takes it as a member
 abbrev pub IsNested : List Open → Type 0
@@ -18,4 +18,4 @@ IsNested [] = ⊥
 IsNested (c ∷ os) = AllByRecursion CanHold os
 
 abbrev pub IsKept : Inside → Type 0
-IsKept b = IsTrue b.is_sound → IsLaid b.core × IsNested (standing b.core)
+IsKept b = IsTrue b.is_sound → IsLaid b.core × IsNested (open_levels b.core)

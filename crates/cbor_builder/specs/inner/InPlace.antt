@@ -1,8 +1,8 @@
 -- Keys that lie as they are meant.
 use Rattle.std.specs.Prelude.{ℕ, ◌≡◌, List, [], ◌∷◌, slice_range, take, drop}
 use Rattle.std.specs.List.{AllByRecursion}
-use Rattle.cbor_buffer.specs.declared.span.Span.{Span}
-use Rattle.cbor_builder.specs.{inner.Front.key_of, inner.Laid.outer_spans, declared.frame.Frame.Frame, declared.frame.Shape.Shape}
+use Rattle.cbor_output.specs.declared.span.Span.{Span}
+use Rattle.cbor_builder.specs.{inner.Prefix.key_of, inner.Laid.outer_spans, declared.frame.Frame.Frame, declared.frame.Shape.Shape}
 use Rattle.cbor_builder.specs.declared.frame.Shape.TheVariants.{Map, Key}
 
 abbrev pub IsSameKey : List ℕ → List ℕ → Span → Type 0

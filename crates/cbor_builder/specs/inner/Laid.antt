@@ -2,12 +2,11 @@
 use Rattle.std.specs.Prelude.{ℕ, suc, Bool, true, IsTrue, ◌≡◌, ◌≢◌, ◌≤◌, ◌<◌, ◌^◌, ◌++◌, List, [], ◌∷◌, length, slice_range, map, take, drop}
 use Rattle.cbor_head.specs.declared.major.Major.TheVariants as of_major
 use Rattle.cbor_head.specs.{Prelude.Pair, declared.order.KeyOrder.KeyOrder, declared.major.Major.Major, declared.major.Major.TheVariants.Simple}
-use Rattle.cbor_canonical.specs.Parts.{Open, plain, an_array, a_map, a_key, a_string}
-use Rattle.cbor_canonical.specs.Pairs.{IsRising}
-use Rattle.cbor_keys.specs.Front.{front_of}
-use Rattle.cbor_buffer.specs.{declared.span.Span.Span, Spans.span_pair}
+use Rattle.cbor_model.specs.Parts.{Open, plain, an_array, a_map, a_key, a_string}
+use Rattle.cbor_model.specs.{Pairs.IsRising, KeyPrefix.prefix_of}
+use Rattle.cbor_output.specs.{declared.span.Span.Span, Spans.span_pair}
 use Rattle.cbor_builder.specs.declared.frame.Shape.TheVariants.{Plain, Array, Map, Key, Content}
-use Rattle.cbor_builder.specs.{inner.Front.AreFronted, declared.frame.Frame.Frame, declared.frame.Shape.Shape}
+use Rattle.cbor_builder.specs.{inner.Prefix.ArePrefixed, declared.frame.Frame.Frame, declared.frame.Shape.Shape}
 
 -- of the item itself, of which nothing is there
 abbrev pub outermost : Frame
@@ -49,9 +48,9 @@ Rises o out ss first rises = IsTrue rises → IsRising o (pairs_from out ss firs
 abbrev pub Fits : KeyOrder → List ℕ → List Span → ℕ → ℕ → Bool → Shape → Type 0
 Fits o out ss from start rises Plain = start ≡ from
 Fits o out ss from start rises (Array n) = n < 2 ^ 64
-Fits o out ss from start rises (Map first) = (first ≤ length ss) × Tile start (drop first ss) (length out) × Rises o out ss first rises × AreFronted out (drop first ss)
+Fits o out ss from start rises (Map first) = (first ≤ length ss) × Tile start (drop first ss) (length out) × Rises o out ss first rises × ArePrefixed out (drop first ss)
 Fits o out ss from start rises (Key first at) =
-    (first ≤ length ss) × Tile start (drop first ss) at × (at ≤ length out) × Rises o out ss first rises × AreFronted out (drop first ss)
+    (first ≤ length ss) × Tile start (drop first ss) at × (at ≤ length out) × Rises o out ss first rises × ArePrefixed out (drop first ss)
 Fits o out ss from start rises (Content m) = m ≢ Simple
 
 -- the invariant
@@ -83,9 +82,9 @@ CanClose s = Unit {0}
 
 -- ---- one more member, from at to the end
 
--- where a key waits for it, the key stands before it, and the pairs hold the fronts of their keys
+-- where a key waits for it, the key stands before it, and the pairs hold the prefixes of their keys
 abbrev pub IsReady : List ℕ → List Span → ℕ → Shape → Type 0
-IsReady out ss at s = (first key : ℕ) → s ≡ Key first key → (first ≤ length ss) × (key ≤ at) × (at ≤ length out) × AreFronted out (drop first ss)
+IsReady out ss at s = (first key : ℕ) → s ≡ Key first key → (first ≤ length ss) × (key ≤ at) × (at ≤ length out) × ArePrefixed out (drop first ss)
 
 abbrev pub shape_after : ℕ → Shape → Shape
 shape_after at (Array n) = Array (suc n)
@@ -95,7 +94,7 @@ shape_after at s = s
 
 -- the pair that ends the buffer
 abbrev pub span : List ℕ → ℕ → ℕ → Span
-span out key val = record { front = front_of (slice_range out key val); key = key; val = val; end = length out }
+span out key val = record { prefix = prefix_of (slice_range out key val); key = key; val = val; end = length out }
 
 abbrev pub spans_after : List ℕ → List Span → ℕ → Shape → List Span
 spans_after out ss at (Key first key) = ss ++ span out key at ∷ []

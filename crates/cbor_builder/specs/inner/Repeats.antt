@@ -1,10 +1,10 @@
--- Which pairs of a map have equal keys, and which one is told.
+-- Which pairs of a map have equal keys, and which one is reported.
 use Rattle.std.specs.Prelude.{ℕ, suc, Bool, nat_lt, ◌+◌, ◌^◌, ◌≡◌, ◌≢◌, ◌<◌, ◌≤◌, ◌⊎◌, List, length, Option, Some, None, IfSome, slice_index_or, MatchOption, IsPermutation, min, max}
 use Rattle.std.specs.List.{AllByRecursion}
-use Rattle.cbor_canonical.specs.Parts.{Open}
-use Rattle.cbor_buffer.specs.{declared.span.Span.Span, Spans.no_span}
-use Rattle.cbor_builder.specs.Built.{keys_so_far, open_maps, IsFirstRepeat, AreAllDifferent, AreOpenKeysDifferent, IsRepeatTold}
-use Rattle.cbor_builder.specs.{inner.Front.key_of, inner.Front.AreFronted, inner.Laid.Tile, declared.frame.Shape.Shape}
+use Rattle.cbor_model.specs.Parts.{Open}
+use Rattle.cbor_output.specs.{declared.span.Span.Span, Spans.no_span}
+use Rattle.cbor_builder.specs.Built.{keys_so_far, open_maps, IsFirstRepeat, AreAllDifferent, AreOpenKeysDifferent, IsRepeatReported}
+use Rattle.cbor_builder.specs.{inner.Prefix.key_of, inner.Prefix.ArePrefixed, inner.Laid.Tile, declared.frame.Shape.Shape}
 use Rattle.cbor_builder.specs.declared.{frame.Shape.TheVariants.Map, frame.Shape.TheVariants.Key, repeat.Repeat.Repeat, repeats.Tie.Tie}
 
 abbrev pub nth : List Span → ℕ → Span
@@ -26,7 +26,7 @@ lies_before at s = nat_lt (place s) at
 
 -- the second are the spans of pairs in whatever order, and the first are those as they came
 abbrev pub AreOf : List ℕ → List Span → List Span → Type 0
-AreOf out xs ys = (start : ℕ) × (end : ℕ) × Tile start xs end × (end ≤ length out) × AreFronted out xs × IsPermutation xs ys
+AreOf out xs ys = (start : ℕ) × (end : ℕ) × Tile start xs end × (end ≤ length out) × ArePrefixed out xs × IsPermutation xs ys
 
 -- equal keys stand together
 abbrev pub AreGrouped : List ℕ → List Span → Type 0
@@ -71,8 +71,8 @@ first_of ss (Key first at) = first
 first_of ss s = length ss
 
 -- what is answered of what is open: the pair
-abbrev pub TellsOf : Open → Option ℕ → Type 0
-TellsOf c r = MatchOption r (AreAllDifferent (keys_so_far c)) (IsFirstRepeat (keys_so_far c))
+abbrev pub ReportsOf : Open → Option ℕ → Type 0
+ReportsOf c r = MatchOption r (AreAllDifferent (keys_so_far c)) (IsFirstRepeat (keys_so_far c))
 
 -- one of a map, of another none
 abbrev pub maps_of : Shape → ℕ
@@ -86,16 +86,16 @@ outward (Some pair) within maps = Some (record { outside = 0; pair = pair })
 outward None (Some t) maps = Some (record { outside = t.outside + maps; pair = t.pair })
 outward None None maps = None
 
--- What is found of the whole, where this is still around it: a repeated key in that is told first, and what was found is told with
+-- What is found of the whole, where this is still around it: a repeated key in that is reported first, and what was found is reported with
 -- its maps around it.
-abbrev pub TellsWithin : List Open → List Open → Option Repeat → Type 0
-TellsWithin whole os found =
-    ((outside pair : ℕ) → IsRepeatTold os outside pair → IsRepeatTold whole outside pair)
-    × (AreOpenKeysDifferent os → MatchOption found (AreOpenKeysDifferent whole) (λ (t : Repeat). IsRepeatTold whole (t.outside + open_maps os) t.pair))
+abbrev pub ReportsWithin : List Open → List Open → Option Repeat → Type 0
+ReportsWithin whole os found =
+    ((outside pair : ℕ) → IsRepeatReported os outside pair → IsRepeatReported whole outside pair)
+    × (AreOpenKeysDifferent os → MatchOption found (AreOpenKeysDifferent whole) (λ (t : Repeat). IsRepeatReported whole (t.outside + open_maps os) t.pair))
 
 -- it is behind at most so many maps
 abbrev pub IsBelow : Option Repeat → ℕ → Type 0
 IsBelow found n = IfSome found (λ (t : Repeat). t.outside ≤ n)
 
-abbrev pub Tells : List Open → Option Repeat → Type 0
-Tells os r = MatchOption r (AreOpenKeysDifferent os) (λ (t : Repeat). IsRepeatTold os t.outside t.pair)
+abbrev pub Reports : List Open → Option Repeat → Type 0
+Reports os r = MatchOption r (AreOpenKeysDifferent os) (λ (t : Repeat). IsRepeatReported os t.outside t.pair)

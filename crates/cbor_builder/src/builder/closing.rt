@@ -2,11 +2,11 @@
 
 ghost use Rattle.std.specs.Prelude.{◌≡◌, ◌↔◌, ◌≤◌, ◌++◌, IsTrue, false, OnOk, IfOk, drop};
 ghost use Rattle.std.specs.Prelude.{take, length, flat_map, IsPermutation};
-ghost use Rattle.cbor_buffer.specs.Moved.{meant, IsWhole, KeepsFront};
-ghost use Rattle.cbor_canonical.specs.Pairs.{pair_bytes, HasDistinctBytes};
-ghost use Rattle.cbor_canonical.specs.Parts.{close, closed, HasNoRepeats};
+ghost use Rattle.cbor_output.specs.Moved.{meant, IsWhole, KeepsPrefix};
+ghost use Rattle.cbor_model.specs.Pairs.{pair_bytes, HasDistinctBytes};
+ghost use Rattle.cbor_model.specs.Parts.{close, closed, HasNoRepeats};
 ghost use Rattle.cbor_builder.specs.declared.frame.Shape.TheVariants.{Map};
-ghost use Rattle.cbor_builder.specs.inner.BuilderState.{standing, innermost, outers, IsLaid, IsReordered};
+ghost use Rattle.cbor_builder.specs.inner.BuilderState.{open_levels, innermost, outers, IsLaid, IsReordered};
 ghost use Rattle.cbor_builder.specs.inner.BuilderState.{CoreEnds};
 ghost use Rattle.cbor_builder.specs.inner.InPlace.{AreSameKeys};
 ghost use Rattle.cbor_builder.specs.inner.Laid.{CanClose, OuterTakes, outer_spans, Fits};
@@ -32,7 +32,7 @@ impl Core {
         ensures out { self.new.out ≡ self.old.out }
         ensures top { self.new.top ≡ self.old.top }
         ensures around { outers self.new ≡ outers self.old }
-        ensures front { take first self.new.spans.items ≡ take first self.old.spans.items }
+        ensures prefix { take first self.new.spans.items ≡ take first self.old.spans.items }
         ensures permuted { IsPermutation (drop first self.old.spans.items)
             (drop first self.new.spans.items) }
         ensures distinct { IsTrue result
@@ -65,8 +65,8 @@ impl Core {
             → meant self.new.out ≡ take self.old.top.start (meant self.old.out)
             ++ flat_map pair_bytes (in_order self.old.order
             (pairs_from (meant self.old.out) self.old.spans.items first))) }
-        ensures front { IfOk result (λ distinct. IsTrue distinct
-            → KeepsFront self.old.top.start self.old.out self.new.out) }
+        ensures prefix { IfOk result (λ distinct. IsTrue distinct
+            → KeepsPrefix self.old.top.start self.old.out self.new.out) }
         ensures left { IfOk result (λ distinct. distinct ≡ false → (self.new.out ≡ self.old.out)
             × IsPermutation (drop first self.old.spans.items) (drop first self.new.spans.items)) }
     {
@@ -81,7 +81,7 @@ impl Core {
     }
 
     // Puts the bytes of what is open in their final form. False where two keys of it are equal.
-    #[tactic(auto, using(cbor_buffer::proofs::Drafts::whole_length))]
+    #[tactic(auto, using(cbor_output::proofs::Drafts::whole_length))]
     #[inline(always)]
     fn close_top(&mut self) -> Result<bool, AllocError>
         requires laid { IsLaid self.old }
@@ -97,8 +97,8 @@ impl Core {
             → meant self.new.out ≡ take self.old.top.from (meant self.old.out)
             ++ closed self.old.order (innermost self.old)) }
         ensures whole { OnOk result (IsWhole self.new.out) }
-        ensures front { IfOk result (λ distinct. IsTrue distinct
-            → KeepsFront self.old.top.from self.old.out self.new.out) }
+        ensures prefix { IfOk result (λ distinct. IsTrue distinct
+            → KeepsPrefix self.old.top.from self.old.out self.new.out) }
         ensures left { IfOk result (λ distinct. distinct ≡ false → (self.new.out ≡ self.old.out)
             × IsReordered self.old.spans.items self.new.spans.items self.old.top.shape) }
     {
@@ -133,7 +133,7 @@ impl Core {
         requires laid { IsLaid self.old }
         requires closes { CanClose self.old.top.shape }
         requires takes { OuterTakes (outers self.old) }
-        ensures { CoreEnds result self.old self.new (close self.old.order (standing self.old)) }
+        ensures { CoreEnds result self.old self.new (close self.old.order (open_levels self.old)) }
     {
         let from = self.top.from;
         if !self.close_top()? {

@@ -2,8 +2,8 @@
 
 ghost use Rattle.std.specs.Prelude.{◌≡◌, ◌↔◌, IsTrue, false};
 ghost use Rattle.cbor_builder.specs.Built.{around};
-ghost use Rattle.cbor_canonical.specs.Parts.{HasNoRepeats};
-ghost use Rattle.cbor_builder.specs.inner.BuilderState.{standing, innermost, outers, IsLaid, IsReordered};
+ghost use Rattle.cbor_model.specs.Parts.{HasNoRepeats};
+ghost use Rattle.cbor_builder.specs.inner.BuilderState.{open_levels, innermost, outers, IsLaid, IsReordered};
 ghost use Rattle.cbor_builder.specs.inner.BuilderState.{CoreEnds};
 ghost use Rattle.cbor_builder.specs.inner.Laid.{CanClose, OuterTakes, outer_spans};
 
@@ -11,7 +11,7 @@ use crate::builder::Core;
 use crate::frame::Shape;
 use std::alloc::AllocError;
 
-// Room for so many pairs stays.
+// Space for so many pairs stays.
 const KEPT: usize = 256;
 
 impl Core {
@@ -22,7 +22,7 @@ impl Core {
         requires laid { IsLaid self.old }
         requires closes { CanClose self.old.top.shape }
         requires takes { OuterTakes (outers self.old) }
-        ensures { CoreEnds result self.old self.new (around (standing self.old)) }
+        ensures { CoreEnds result self.old self.new (around (open_levels self.old)) }
     {
         if !self.give_up_pairs() {
             return Ok(false);

@@ -5,7 +5,7 @@ ghost use Rattle.cbor_builder.specs.inner.BuilderState.{frames, outers, IsRooted
 
 use crate::builder::Core;
 use crate::frame::Frame;
-use cbor_buffer::reserve::push_copy;
+use cbor_output::reserve::push_copy;
 use std::alloc::AllocError;
 
 impl Core {

@@ -3,14 +3,14 @@ use Rattle.std.specs.Prelude.{ℕ, ◌≡◌, ◌+◌, ◌≤◌, max, false, Li
 use Rattle.cbor_head.specs.Value.{depth, depth_all, depth_entries}
 use Rattle.cbor_head.specs.{Prelude.Value, declared.limits.TheConstants.MAX_DEPTH}
 use Rattle.cbor_diag.specs.inner.Layout.{laid_out, laid_pairs, laid_texts, rows}
-use Rattle.cbor_diag.specs.declared.walk.Left.TheVariants as parts
+use Rattle.cbor_diag.specs.declared.walk.Remaining.TheVariants as parts
 use Rattle.cbor_diag.specs.{inner.Nodes.entries_in, inner.Nodes.values_in, inner.Outbox.HasPut, inner.Outbox.HasStopped, declared.layout.Layout.Layout}
-use Rattle.cbor_diag.specs.declared.{outbox.Outbox.Outbox, outbox.Stopped.Stopped, walk.Level.Level, walk.Left.Left}
+use Rattle.cbor_diag.specs.declared.{outbox.Outbox.Outbox, outbox.Stopped.Stopped, walk.OpenNode.OpenNode, walk.Remaining.Remaining}
 
 -- the nodes that are left have these values
 module _ {N : Type 0} (see : N → Value) where
   -- what is left of a container, at this many levels of indentation
-  abbrev pub left_of : Layout → ℕ → Left N → List ℕ
+  abbrev pub left_of : Layout → ℕ → Remaining N → List ℕ
   left_of l n (parts.Array left first) = rows l n first (laid_texts l (n + 1) (values_in see left.now)) ++ codes "]"
   left_of l n (parts.Map left first) = rows l n first (laid_pairs l (n + 1) (entries_in see left.now)) ++ codes "}"
   left_of l n (parts.Value value left) =
@@ -18,16 +18,16 @@ module _ {N : Type 0} (see : N → Value) where
   left_of l n (parts.Content content) = laid_out l n (see content.now) ++ codes ")"
   left_of l n parts.Tag = codes ")"
 
-  abbrev pub rest_of : Layout → Level N → List ℕ
+  abbrev pub rest_of : Layout → OpenNode N → List ℕ
   rest_of l v = left_of l v.indent v.left
 
   -- what is left of all of them, the innermost first
-  abbrev pub behind : Layout → List (Level N) → List ℕ
+  abbrev pub behind : Layout → List (OpenNode N) → List ℕ
   behind l [] = []
   behind l (v ∷ vs) = rest_of l v ++ behind l vs
 
   -- how deep what is left nests
-  abbrev pub depth_left : Left N → ℕ
+  abbrev pub depth_left : Remaining N → ℕ
   depth_left (parts.Array left first) = depth_all (values_in see left.now)
   depth_left (parts.Map left first) = depth_entries (entries_in see left.now)
   depth_left (parts.Value value left) = max (depth (see value.now)) (depth_entries (entries_in see left.now))
@@ -35,27 +35,27 @@ module _ {N : Type 0} (see : N → Value) where
   depth_left parts.Tag = 0
 
   -- within the greatest depth, the innermost first
-  abbrev pub AreShallow : List (Level N) → Type 0
+  abbrev pub AreShallow : List (OpenNode N) → Type 0
   AreShallow [] = Unit {0}
   AreShallow (v ∷ vs) = (v.indent ≤ length vs) × (depth_left v.left + length vs + 1 ≤ MAX_DEPTH) × AreShallow vs
 
   -- an item of this depth may begin there
-  pub record IsDue (d indent : ℕ) (vs : List (Level N)) : Type 0 where
-    pub room : d + length vs ≤ MAX_DEPTH
+  pub record IsExpected (d indent : ℕ) (vs : List (OpenNode N)) : Type 0 where
+    pub space : d + length vs ≤ MAX_DEPTH
     pub indented : indent ≤ length vs
     pub shallow : AreShallow vs
 
   -- what is left where this container is the innermost, if one is open, and these are around it
-  abbrev pub all_left : Layout → Option (Level N) → List (Level N) → List ℕ
+  abbrev pub all_left : Layout → Option (OpenNode N) → List (OpenNode N) → List ℕ
   all_left l None vs = []
   all_left l (Some v) vs = rest_of l v ++ behind l vs
 
-  abbrev pub AreAllShallow : Option (Level N) → List (Level N) → Type 0
+  abbrev pub AreAllShallow : Option (OpenNode N) → List (OpenNode N) → Type 0
   AreAllShallow None vs = Unit {0}
   AreAllShallow (Some v) vs = AreShallow (v ∷ vs)
 
   -- an item of this depth is put, or this container is open of it
-  abbrev pub IsOpenOf : ℕ → ℕ → Option (Level N) → Type 0
+  abbrev pub IsOpenOf : ℕ → ℕ → Option (OpenNode N) → Type 0
   IsOpenOf d indent None = Unit {0}
   IsOpenOf d indent (Some v) = (v.indent ≡ indent) × (depth_left v.left + 1 ≤ d)
 
@@ -67,6 +67,6 @@ pub record HasLeft (least : ℕ) (old new : Option (List ℕ)) (from to : Outbox
   pub joins : done ++ left ≡ whole
 
 -- so, where this container is then the innermost and these are around it; or the writer failed
-abbrev pub Leaves : {N : Type 0} → ℕ → (N → Value) → Layout → Option (List ℕ) → Option (List ℕ) → Outbox → Outbox → List ℕ → List (Level N) → Result (Option (Level N)) Stopped → Type 0
+abbrev pub Leaves : {N : Type 0} → ℕ → (N → Value) → Layout → Option (List ℕ) → Option (List ℕ) → Outbox → Outbox → List ℕ → List (OpenNode N) → Result (Option (OpenNode N)) Stopped → Type 0
 Leaves n see l old new from to whole vs (Ok o) = HasLeft n old new from to whole (all_left see l o vs)
 Leaves n see l old new from to whole vs (Err e) = HasStopped old new from whole to

@@ -2,9 +2,9 @@
 use Rattle.std.specs.Prelude.{List, map}
 use Rattle.cbor_head.specs.Value as value
 use Rattle.cbor_head.specs.Prelude.{Value, Values, Entries}
-use Rattle.cbor_canonical.specs.Lists.{values_of, entries_of}
-use Rattle.cbor_diag.specs.declared.node.Part.TheVariants as parts
-use Rattle.cbor_diag.specs.declared.node.Part.{Part}
+use Rattle.cbor_model.specs.Lists.{values_of, entries_of}
+use Rattle.cbor_diag.specs.declared.node.NodeKind.TheVariants as parts
+use Rattle.cbor_diag.specs.declared.node.NodeKind.{NodeKind}
 
 module _ {N : Type 0} (see : N → Value) where
   -- the values of members, and of pairs
@@ -15,7 +15,7 @@ module _ {N : Type 0} (see : N → Value) where
   entries_in ps = entries_of (map (λ (p : N × N). (see p.0, see p.1)) ps)
 
   -- the value of a part
-  abbrev pub value_of : Part N → Value
+  abbrev pub value_of : NodeKind N → Value
   value_of (parts.Unsigned n) = value.unsigned n
   value_of (parts.Negative n) = value.negative n
   value_of (parts.Bytes b) = value.bytes b.now

@@ -15,7 +15,7 @@ pub record HasStopped (old new : Option (List ℕ)) (from : Outbox) (bytes : Lis
   pub took : List ℕ
   pub others : List ℕ
   pub appended : Appends old new took
-  pub front : took ++ others ≡ from.waiting.items ++ bytes
+  pub prefix : took ++ others ≡ from.waiting.items ++ bytes
   pub not_all : 0 < length others
   pub counted : (k : ℕ) → from.taken ≡ capped k → to.taken ≡ capped (k + length took)
 

@@ -3,8 +3,8 @@ use Rattle.std.specs.Prelude.{ℕ, ◌≡◌, if◌then◌else◌, Bool, true, f
 use Rattle.cbor_head.specs.Prelude.{value_of, values_of, entries_of}
 use Rattle.cbor_head.specs.declared.major.Major.TheVariants as majors
 use Rattle.cbor_head.specs.declared.major.Major.{Major}
-use Rattle.cbor_judging.specs.Levels.{Level, a_member, a_key, a_value, some_member, some_key, some_value, tagged, Standing, item_due, item_full, item_whole}
-use Rattle.cbor_walk.specs.Sink.{Told}
+use Rattle.cbor_verdict.specs.Levels.{Level, a_member, a_key, a_value, some_member, some_key, some_value, tagged, ParseState, item_expected, item_full, item_whole}
+use Rattle.cbor_parser.specs.Sink.{Reported}
 use Rattle.cbor_diag.specs.Text.{text, texts, pair_texts, joined}
 use Rattle.cbor_diag.specs.{declared.text_sink.Open.Open, declared.text_sink.TextSink.TextSink, inner.Strings.opening, inner.Strings.content_text}
 
@@ -69,7 +69,7 @@ before v = comma (open_of v).is_first
 
 -- ---- all open containers, the innermost first
 
--- the text before the item that is due in them
+-- the text before the item that is expected in them
 abbrev pub text_to : List Level → List ℕ
 text_to [] = []
 text_to (v ∷ vs) = text_in (text_to vs) v ++ before v
@@ -91,14 +91,14 @@ pub record IsAt (g : TextSink) (t : List ℕ) (o : Option Open) (os : List Open)
   pub innermost : g.inner ≡ o
   pub around : g.around.items ≡ os
 
--- and an item is due, or stands, in these
+-- and an item is expected, or stands, in these
 abbrev pub IsWithin : TextSink → List ℕ → List Level → Type 0
 IsWithin g t vs = IsAt g t (inner_in vs) (around_in vs)
 
 -- whatever its first state was; a full container's end makes its text so far that of the item
-abbrev pub text_stands : TextSink → TextSink → Standing → Type 0
-text_stands start g (item_due []) = IsAt g [] None []
-text_stands start g (item_due (v ∷ vs)) = IsAt g (text_in (text_to vs) v) (Some (open_of v)) (around_in (v ∷ vs))
+abbrev pub text_stands : TextSink → TextSink → ParseState → Type 0
+text_stands start g (item_expected []) = IsAt g [] None []
+text_stands start g (item_expected (v ∷ vs)) = IsAt g (text_in (text_to vs) v) (Some (open_of v)) (around_in (v ∷ vs))
 text_stands start g (item_full vs s) =
     (t : List ℕ) × (o : Open) × (t ++ closer o.major ≡ text (value_of s))
     × IsAt g (text_to vs ++ t) (Some o) (around_in vs ++ option_to_list (inner_in vs))
@@ -111,4 +111,4 @@ text_holds start g vs is_text content = IsWithin g (text_to vs ++ (opening is_te
 -- what stands before an item is put
 abbrev pub Reaches : Bool → TextSink → TextSink → Type 0
 Reaches is_key old new =
-    (start : TextSink) (vs : List Level) → Told TextSink text_stands is_key start old (item_due vs) → IsWithin new (text_to vs) vs
+    (start : TextSink) (vs : List Level) → Reported TextSink text_stands is_key start old (item_expected vs) → IsWithin new (text_to vs) vs

@@ -9,12 +9,12 @@ use std::io;
 use std::io::{Error, ErrorKind, Write};
 use std::test::Fail;
 
-// Takes at most `step` bytes a write. Once, when it holds `room` of them, it fails or takes none,
+// Takes at most `step` bytes a write. Once, when it holds `space` of them, it fails or takes none,
 // and then goes on.
 #[derive(Drop)]
 struct Cup {
     held: Vec<u8>,
-    room: usize,
+    space: usize,
     step: usize,
     fails: bool,
     stopped: bool,
@@ -22,7 +22,7 @@ struct Cup {
 
 impl Write for Cup {
     fn write(&mut self, buf: &[u8]) -> io::Result<usize> {
-        if self.held.len() == self.room && !self.stopped {
+        if self.held.len() == self.space && !self.stopped {
             self.stopped = true;
             if self.fails {
                 return Err(Error::from(ErrorKind::Interrupted));
@@ -30,8 +30,8 @@ impl Write for Cup {
             return Ok(0);
         }
         let mut count = buf.len().min(self.step);
-        if !self.stopped && self.held.len() < self.room {
-            count = count.min(self.room - self.held.len());
+        if !self.stopped && self.held.len() < self.space {
+            count = count.min(self.space - self.held.len());
         }
         self.held.extend_from_slice(&buf[..count])?;
         Ok(count)
@@ -44,10 +44,10 @@ impl Write for Cup {
 
 static STOPS: [(usize, bool); 4] = [(1, false), (1, true), (10000, false), (10000, true)];
 
-fn empty_cup(held: Vec<u8>, room: usize, step: usize, fails: bool) -> Cup {
+fn empty_cup(held: Vec<u8>, space: usize, step: usize, fails: bool) -> Cup {
     Cup {
         held,
-        room,
+        space,
         step,
         fails,
         stopped: false,
@@ -81,13 +81,13 @@ fn writers_stop_at_each_place(rt: HostRuntime) -> Result<(), Fail> {
     let tree = tree_of(alloc, NESTED)?;
     let lines = NESTED_INDENTED.as_bytes();
     for &(step, fails) in &STOPS {
-        for room in 0..LINE.len() {
-            let is_right = stops_behind(alloc, &tree, &LINE[..room], step, fails);
-            assert!(rt; is_right, "at {room}");
+        for space in 0..LINE.len() {
+            let is_right = stops_behind(alloc, &tree, &LINE[..space], step, fails);
+            assert!(rt; is_right, "at {space}");
         }
-        for room in 0..lines.len() {
-            let is_right = stops_indented(alloc, &tree, &lines[..room], step, fails);
-            assert!(rt; is_right, "at {room}");
+        for space in 0..lines.len() {
+            let is_right = stops_indented(alloc, &tree, &lines[..space], step, fails);
+            assert!(rt; is_right, "at {space}");
         }
     }
     Ok(())
@@ -104,16 +104,16 @@ fn the_third_number_is_cut_off(rt: HostRuntime) -> Result<(), Fail> {
 }
 
 // How much of a byte string's text a writer holds that stops there, if the text ends so.
-fn held_at(alloc: Global, tree: &Tree, room: usize, step: usize, fails: bool) -> Option<usize> {
-    let mut cup = empty_cup(Vec::new(alloc), room, step, fails);
-    if diagnostic(tree, &mut cup) == write_at(room) {
+fn held_at(alloc: Global, tree: &Tree, space: usize, step: usize, fails: bool) -> Option<usize> {
+    let mut cup = empty_cup(Vec::new(alloc), space, step, fails);
+    if diagnostic(tree, &mut cup) == write_at(space) {
         Some(cup.held.len())
     } else {
         None
     }
 }
 
-static ROOMS: [usize; 14] = [
+static SPACES: [usize; 14] = [
     0, 1, 2, 3, 511, 512, 513, 514, 515, 1025, 1026, 1027, 1401, 1402,
 ];
 
@@ -126,9 +126,9 @@ fn long_strings_are_cut_off(rt: HostRuntime) -> Result<(), Fail> {
     bytes[..3].copy_from_slice(b"\x59\x02\xbc");
     let tree = tree_of(alloc, &bytes)?;
     for &(step, fails) in &STOPS {
-        for &room in &ROOMS {
-            let held = held_at(alloc, &tree, room, step, fails);
-            assert!(rt; held == Some(room));
+        for &space in &SPACES {
+            let held = held_at(alloc, &tree, space, step, fails);
+            assert!(rt; held == Some(space));
         }
     }
     Ok(())

@@ -167,7 +167,7 @@ fn taken_at(events: &str, place: usize) -> Option<u64> {
 }
 
 // Whether the listing ends with what was read before the reader failed.
-fn tells_a_failed_read(
+fn reports_a_failed_read(
     alloc: Global,
     limits: Limits,
     bytes: &[u8],
@@ -189,7 +189,7 @@ fn a_failed_read_ends_the_listing(rt: HostRuntime) -> Result<(), Fail> {
         let bytes = hex::decode(rt.alloc(), digits)?;
         for place in 0..bytes.len() {
             let lines = lines_within(rt.alloc(), events, place as u64)?;
-            let is_right = tells_a_failed_read(rt.alloc(), limits, &bytes, place, &lines);
+            let is_right = reports_a_failed_read(rt.alloc(), limits, &bytes, place, &lines);
             assert!(rt; is_right, "{digits} at {place}");
         }
     }
@@ -204,7 +204,7 @@ static STOPS: [(usize, Stop); 4] = [
 ];
 
 // Whether the listing ends where the writer stopped, with no byte behind the event asked for.
-fn tells_a_failed_write(
+fn reports_a_failed_write(
     alloc: Global,
     limits: Limits,
     bytes: &[u8],
@@ -231,7 +231,14 @@ fn a_failed_write_ends_the_listing(rt: HostRuntime) -> Result<(), Fail> {
             let read = taken_at(events, place).ok_or("no such line")?;
             let before = &lines[..place];
             for stop in STOPS {
-                let is_right = tells_a_failed_write(rt.alloc(), limits, &bytes, before, read, stop);
+                let is_right = reports_a_failed_write(
+                    rt.alloc(),
+                    limits,
+                    &bytes,
+                    before,
+                    read,
+                    stop,
+                );
                 assert!(rt; is_right, "{digits} at {place}");
             }
         }
@@ -246,11 +253,11 @@ fn stops_within_the_second_line(rt: HostRuntime) {
     let bytes = b"\x83\x01\x02\x03";
     let before = b"0 array 3 0\n1 ";
     let stop = (usize::MAX, Stop::Fails);
-    assert!(rt; tells_a_failed_write(rt.alloc(), limits, bytes, before, 2, stop));
+    assert!(rt; reports_a_failed_write(rt.alloc(), limits, bytes, before, 2, stop));
 }
 
 #[test]
-fn asks_for_what_is_due(rt: HostRuntime) {
+fn asks_for_what_is_expected(rt: HostRuntime) {
     // {256: "a"}: a head, a head and its argument, a head and its payload.
     let mut source = Source::new(rt.alloc(), b"\xa1\x19\x01\x00\x61\x61");
     let mut sink = Sink::new(rt.alloc());

@@ -1,28 +1,28 @@
-//! The next event where a key is due that is to be an integer or a text.
+//! The next event where a key is expected that is to be an integer or a text.
 
 ghost use Rattle.std.specs.Prelude.{◌≡◌, ◌≢◌, ◌≤◌, ◌<◌, ◌⊎◌, ◌/◌, ℕ, List, [], None, Some, OnOk, OnErr, IfErr};
 ghost use Rattle.std.specs.Prelude.{IfSome, IsTrue, Err, false, true};
 ghost use Rattle.cbor_head.specs.declared.reason.Reason.TheVariants.{KeyKind};
-ghost use Rattle.cbor_grammar.specs.FirstBytes as first_bytes;
+ghost use Rattle.cbor_model.specs.FirstBytes as first_bytes;
 ghost use Rattle.cbor_automaton.specs.Trace.{Mark};
 ghost use Rattle.cbor_automaton.specs.Marks.{IsProper};
 ghost use Rattle.cbor_automaton.specs.Reasons.{IsEventReason};
-ghost use Rattle.cbor_standing.specs.Machine.{KeepsLimits, IsIdle, StandsFor, wanted};
-ghost use Rattle.cbor_standing.specs.NextEvent.{StandsBetween, IfTold, machine_call, call};
+ghost use Rattle.cbor_machine.specs.Machine.{KeepsLimits, IsIdle, StandsFor, wanted};
+ghost use Rattle.cbor_machine.specs.NextEvent.{StandsBetween, IfReported, machine_call, call};
 ghost use Rattle.cbor_events.specs.NextKey.{IsNextKey, IsKeyReason};
 ghost use Rattle.cbor_events.specs.inner.Reads.{HasFirst, HasStopped, IsFirstAnswer, IsTakenAt};
-ghost use Rattle.cbor_events.specs.inner.Reads.{IfPartTold, IfStopped};
+ghost use Rattle.cbor_events.specs.inner.Reads.{IfPartReported, IfStopped};
 
 use crate::item_events::ItemEvents;
 use crate::item_events::reading::{ARGUMENT, at_end, next_part};
-use crate::part::{Part, read_part};
+use crate::part::{PartialEvent, read_part};
 use cbor_automaton::Event;
 use cbor_head::{Reason, Refusal};
 use cbor_machine::Machine;
 use std::io::Read;
 
 impl ItemEvents {
-    /// The next event where a key is due that is to be an integer or a text, with its bytes read.
+    /// The next event where a key is expected that is to be an integer or a text, with its bytes read.
     ///
     /// As [`next`](ItemEvents::next), but the kind is judged at the first byte of the key, before
     /// any more is asked of the reader. Where that byte may stand there, and is neither of an
@@ -38,7 +38,7 @@ impl ItemEvents {
             → IsNextKey result
             (call self.old self.new (R.remaining reader.old) (R.remaining reader.new) t ms) }
         ensures limits { KeepsLimits self.old.machine self.new.machine }
-        ensures proper { IfTold result (λ e. IsProper e.width e.kind) }
+        ensures proper { IfReported result (λ e. IsProper e.width e.kind) }
         ensures live { OnOk result (self.new.refusal ≡ None) }
         ensures refused { IfErr result (λ f. (self.new.refusal ≡ Some f)
             × (self.new.machine.taken ≡ f.read) × IsKeyReason f.reason) }
@@ -71,7 +71,7 @@ fn key_head<R: Read>(machine: &mut Machine, reader: &mut R) -> Result<Option<Eve
         → IsNextKey result (machine_call machine.old machine.new
         (R.remaining reader.old) (R.remaining reader.new) kept kept t ms) }
     ensures limits { KeepsLimits machine.old machine.new }
-    ensures proper { IfTold result (λ e. IsProper e.width e.kind) }
+    ensures proper { IfReported result (λ e. IsProper e.width e.kind) }
     ensures taken { IfErr result (λ f. machine.new.taken ≡ f.read) }
     ensures reason { IfErr result (λ f. IsKeyReason f.reason) }
     ensures idle { IsIdle machine.old → reader.new ≡ reader.old }
@@ -85,14 +85,14 @@ fn key_head<R: Read>(machine: &mut Machine, reader: &mut R) -> Result<Option<Eve
         return Err(Refusal::new(Reason::KeyKind, place, machine.taken()));
     }
     match part {
-        Part::Told(event) => Ok(Some(event)),
-        Part::Open => next_part(machine, reader, &mut [0; ARGUMENT]),
-        Part::Stopped(refusal) => Err(refusal),
+        PartialEvent::Reported(event) => Ok(Some(event)),
+        PartialEvent::Open => next_part(machine, reader, &mut [0; ARGUMENT]),
+        PartialEvent::Stopped(refusal) => Err(refusal),
     }
 }
 
 // The first byte of a head, if one is read, and what comes of it.
-fn first_byte<R: Read>(machine: &mut Machine, reader: &mut R) -> (Part, u8)
+fn first_byte<R: Read>(machine: &mut Machine, reader: &mut R) -> (PartialEvent, u8)
     requires wanted { 0 < wanted machine.old }
     requires within { machine.old.open_count ≤ machine.old.depth }
     requires head { machine.old.in_payload ≡ false }
@@ -104,7 +104,7 @@ fn first_byte<R: Read>(machine: &mut Machine, reader: &mut R) -> (Part, u8)
         (R.remaining reader.old) (R.remaining reader.new) result.1 t ms
         ⊎ HasStopped result.0 machine.old }
     ensures limits { KeepsLimits machine.old machine.new }
-    ensures proper { IfPartTold result.0 (λ e. IsProper e.width e.kind) }
+    ensures proper { IfPartReported result.0 (λ e. IsProper e.width e.kind) }
     ensures taken { IfStopped result.0 (λ f. machine.new.taken ≡ f.read) }
     ensures reason { IfStopped result.0 (λ f. IsEventReason f.reason) }
 {
@@ -115,7 +115,7 @@ fn first_byte<R: Read>(machine: &mut Machine, reader: &mut R) -> (Part, u8)
 
 // Whether the byte at this place was taken, as the first of an item that is neither an integer nor a
 // text.
-fn is_other(part: &Part, first: u8, place: u64) -> bool
+fn is_other(part: &PartialEvent, first: u8, place: u64) -> bool
     ensures other { result ≡ true → IsTakenAt part.now place
         × ¬ IsTrue (first_bytes.is_basic (first / 32)) × (first ≢ 0xff) }
     ensures basic { result ≡ false → IsTakenAt part.now place
@@ -125,7 +125,7 @@ fn is_other(part: &Part, first: u8, place: u64) -> bool
         return false;
     }
     match part {
-        Part::Told(_) | Part::Open => true,
-        Part::Stopped(refusal) => refusal.place > place,
+        PartialEvent::Reported(_) | PartialEvent::Open => true,
+        PartialEvent::Stopped(refusal) => refusal.place > place,
     }
 }

@@ -5,16 +5,16 @@ ghost use Rattle.std.specs.Prelude.{IfErr, Err, Option, false};
 ghost use Rattle.cbor_automaton.specs.Trace.{Mark};
 ghost use Rattle.cbor_automaton.specs.Marks.{IsProper};
 ghost use Rattle.cbor_automaton.specs.Reasons.{IsEventReason};
-ghost use Rattle.cbor_standing.specs.MachineView.{MachineView};
-ghost use Rattle.cbor_standing.specs.Machine.{KeepsLimits, IsIdle, wanted};
-ghost use Rattle.cbor_standing.specs.NextEvent.{StandsBetween, IfTold, IsNext};
-ghost use Rattle.cbor_standing.specs.NextEvent.{machine_call};
-ghost use Rattle.cbor_standing.specs.Calls.{HasRead, piece_after, piece_size};
-ghost use Rattle.cbor_standing.specs.Machine.{StandsFor};
+ghost use Rattle.cbor_machine.specs.MachineView.{MachineView};
+ghost use Rattle.cbor_machine.specs.Machine.{KeepsLimits, IsIdle, wanted};
+ghost use Rattle.cbor_machine.specs.NextEvent.{StandsBetween, IfReported, IsNext};
+ghost use Rattle.cbor_machine.specs.NextEvent.{machine_call};
+ghost use Rattle.cbor_machine.specs.Calls.{HasRead, piece_after, piece_size};
+ghost use Rattle.cbor_machine.specs.Machine.{StandsFor};
 ghost use Rattle.cbor_events.specs.inner.Reads.{IfGiven};
 
 use crate::item_events::PART;
-use crate::part::{Part, answer_anew, read_part};
+use crate::part::{PartialEvent, answer_anew, read_part};
 use cbor_automaton::{Event, EventKind};
 use cbor_head::Refusal;
 use cbor_machine::{Machine, Out, take_part};
@@ -23,11 +23,11 @@ use std::io::Read;
 // An argument has at most so many bytes.
 pub(crate) const ARGUMENT: usize = 8;
 
-// How many bytes are asked for, as many as the buffer has room for.
+// How many bytes are asked for, as many as the buffer has space for.
 #[inline(always)]
-fn due(machine: &Machine, buffer: &[u8]) -> usize
+fn expected(machine: &Machine, buffer: &[u8]) -> usize
     ensures wanted { result ≤ wanted machine.now }
-    ensures room { result ≤ length buffer.now }
+    ensures space { result ≤ length buffer.now }
     ensures none { result ≡ 0 → 0 < length buffer.now → wanted machine.now ≡ 0 }
     ensures idle { IsIdle machine.now → result ≡ 0 }
 {
@@ -43,7 +43,7 @@ pub(crate) fn at_end(machine: &mut Machine) -> Result<Option<Event>, Refusal>
         → machine.old.depth ≡ was.depth
         → IsNext result (machine_call was machine.new from to kept kept t ms) }
     ensures limits { KeepsLimits machine.old machine.new }
-    ensures none { IfTold result (λ e. ⊥) }
+    ensures none { IfReported result (λ e. ⊥) }
     ensures taken { IfErr result (λ f. machine.new.taken ≡ f.read) }
     ensures reason { IfErr result (λ f. IsEventReason f.reason) }
 {
@@ -54,14 +54,14 @@ pub(crate) fn at_end(machine: &mut Machine) -> Result<Option<Event>, Refusal>
     }
 }
 
-// Reads what the machine wants, one part after another, until it tells an event or stops.
+// Reads what the machine wants, one part after another, until it reports an event or stops.
 #[inline(never)]
 fn next_event<R: Read>(
     machine: &mut Machine,
     reader: &mut R,
     buffer: &mut [u8],
 ) -> Result<Option<Event>, Refusal>
-    requires room { 0 < length buffer.old }
+    requires space { 0 < length buffer.old }
     requires within { machine.old.open_count ≤ machine.old.depth }
     ensures answers { (was : MachineView) (from : Option (List ℕ)) (kept t : List ℕ)
         (ms : List Mark) → StandsBetween was t ms
@@ -72,7 +72,7 @@ fn next_event<R: Read>(
     ensures given { (t : List ℕ) (ms : List Mark) → StandsFor machine.old t ms
         → IfGiven result machine.new t ms }
     ensures limits { KeepsLimits machine.old machine.new }
-    ensures proper { IfTold result (λ e. IsProper e.width e.kind) }
+    ensures proper { IfReported result (λ e. IsProper e.width e.kind) }
     ensures taken { IfErr result (λ f. machine.new.taken ≡ f.read) }
     ensures reason { IfErr result (λ f. IsEventReason f.reason) }
     ensures idle { IsIdle machine.old → reader.new ≡ reader.old }
@@ -80,26 +80,26 @@ fn next_event<R: Read>(
     ensures same { length buffer.new ≡ length buffer.old }
 {
     'reads: loop {
-        let want = due(machine, buffer);
+        let want = expected(machine, buffer);
         if want == 0 {
             return at_end(machine);
         }
         match read_part(machine, reader, buffer, want) {
-            Part::Told(event) => return Ok(Some(event)),
-            Part::Open => {}
-            Part::Stopped(refusal) => return Err(refusal),
+            PartialEvent::Reported(event) => return Ok(Some(event)),
+            PartialEvent::Open => {}
+            PartialEvent::Stopped(refusal) => return Err(refusal),
         }
     }
 }
 
-// The same. Its own room in memory is no part of the caller's.
+// `next_event` with a stack frame of its own, so that the caller's stays small.
 #[inline(always)]
 fn next_apart<R: Read>(
     machine: &mut Machine,
     reader: &mut R,
     buffer: &mut [u8],
 ) -> Result<Option<Event>, Refusal>
-    requires room { 0 < length buffer.old }
+    requires space { 0 < length buffer.old }
     requires within { machine.old.open_count ≤ machine.old.depth }
     ensures answers { (was : MachineView) (from : Option (List ℕ)) (kept t : List ℕ)
         (ms : List Mark) → StandsBetween was t ms
@@ -110,7 +110,7 @@ fn next_apart<R: Read>(
     ensures given { (t : List ℕ) (ms : List Mark) → StandsFor machine.old t ms
         → IfGiven result machine.new t ms }
     ensures limits { KeepsLimits machine.old machine.new }
-    ensures proper { IfTold result (λ e. IsProper e.width e.kind) }
+    ensures proper { IfReported result (λ e. IsProper e.width e.kind) }
     ensures taken { IfErr result (λ f. machine.new.taken ≡ f.read) }
     ensures reason { IfErr result (λ f. IsEventReason f.reason) }
     ensures idle { IsIdle machine.old → reader.new ≡ reader.old }
@@ -120,14 +120,14 @@ fn next_apart<R: Read>(
     answer_anew(next_event(machine, reader, buffer))
 }
 
-// The same, where mostly one read is all that it takes.
+// The next part of an event; mostly it takes one read.
 #[inline(always)]
 pub(crate) fn next_part<R: Read>(
     machine: &mut Machine,
     reader: &mut R,
     buffer: &mut [u8],
 ) -> Result<Option<Event>, Refusal>
-    requires room { 0 < length buffer.old }
+    requires space { 0 < length buffer.old }
     requires within { machine.old.open_count ≤ machine.old.depth }
     ensures answers { (was : MachineView) (from : Option (List ℕ)) (kept t : List ℕ)
         (ms : List Mark) → StandsBetween was t ms
@@ -138,21 +138,21 @@ pub(crate) fn next_part<R: Read>(
     ensures given { (t : List ℕ) (ms : List Mark) → StandsFor machine.old t ms
         → IfGiven result machine.new t ms }
     ensures limits { KeepsLimits machine.old machine.new }
-    ensures proper { IfTold result (λ e. IsProper e.width e.kind) }
+    ensures proper { IfReported result (λ e. IsProper e.width e.kind) }
     ensures taken { IfErr result (λ f. machine.new.taken ≡ f.read) }
     ensures reason { IfErr result (λ f. IsEventReason f.reason) }
     ensures idle { IsIdle machine.old → reader.new ≡ reader.old }
     ensures fits { piece_size result ≤ length buffer.new }
     ensures same { length buffer.new ≡ length buffer.old }
 {
-    let want = due(machine, buffer);
+    let want = expected(machine, buffer);
     if want == 0 {
         return next_apart(machine, reader, buffer);
     }
     match read_part(machine, reader, buffer, want) {
-        Part::Told(event) => Ok(Some(event)),
-        Part::Open => next_apart(machine, reader, buffer),
-        Part::Stopped(refusal) => Err(refusal),
+        PartialEvent::Reported(event) => Ok(Some(event)),
+        PartialEvent::Open => next_apart(machine, reader, buffer),
+        PartialEvent::Stopped(refusal) => Err(refusal),
     }
 }
 
@@ -165,7 +165,7 @@ fn next_head<R: Read>(machine: &mut Machine, reader: &mut R) -> Result<Option<Ev
         → IsNext result (machine_call machine.old machine.new
         (R.remaining reader.old) (R.remaining reader.new) kept kept t ms) }
     ensures limits { KeepsLimits machine.old machine.new }
-    ensures proper { IfTold result (λ e. IsProper e.width e.kind) }
+    ensures proper { IfReported result (λ e. IsProper e.width e.kind) }
     ensures taken { IfErr result (λ f. machine.new.taken ≡ f.read) }
     ensures reason { IfErr result (λ f. IsEventReason f.reason) }
     ensures idle { IsIdle machine.old → reader.new ≡ reader.old }
@@ -175,13 +175,13 @@ fn next_head<R: Read>(machine: &mut Machine, reader: &mut R) -> Result<Option<Ev
         return next_apart(machine, reader, &mut head);
     }
     match read_part(machine, reader, &mut head[..1], 1) {
-        Part::Told(event) => Ok(Some(event)),
-        Part::Open => next_part(machine, reader, &mut head),
-        Part::Stopped(refusal) => Err(refusal),
+        PartialEvent::Reported(event) => Ok(Some(event)),
+        PartialEvent::Open => next_part(machine, reader, &mut head),
+        PartialEvent::Stopped(refusal) => Err(refusal),
     }
 }
 
-// The length of the piece that was told, if one was.
+// The length of the piece that was reported, if one was.
 #[inline(always)]
 fn piece_len(answer: &Result<Option<Event>, Refusal>) -> usize
     ensures { result ≡ piece_size answer.now }
@@ -199,7 +199,7 @@ fn piece_len(answer: &Result<Option<Event>, Refusal>) -> usize
     }
 }
 
-// The next event, with a piece kept in front of the buffer.
+// The next event, with a piece kept before the buffer.
 #[inline(always)]
 pub(crate) fn advance<R: Read>(
     machine: &mut Machine,
@@ -214,7 +214,7 @@ pub(crate) fn advance<R: Read>(
         (R.remaining reader.old) (R.remaining reader.new)
         (take held.old buffer.old) (take held.new buffer.new) t ms) }
     ensures limits { KeepsLimits machine.old machine.new }
-    ensures proper { IfTold result (λ e. IsProper e.width e.kind) }
+    ensures proper { IfReported result (λ e. IsProper e.width e.kind) }
     ensures taken { IfErr result (λ f. machine.new.taken ≡ f.read) }
     ensures reason { IfErr result (λ f. IsEventReason f.reason) }
     ensures idle { IsIdle machine.old → reader.new ≡ reader.old }

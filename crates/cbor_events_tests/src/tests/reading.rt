@@ -2,8 +2,8 @@
 
 use super::parts::Parts;
 use super::rows::{Row, bytes_of, rows_of};
-use super::tables::{ACCEPTED, FRONTS, NOT_VALID, REFUSED};
-use super::{Told, event, join, limits, refusal};
+use super::tables::{ACCEPTED, NOT_VALID, PREFIXES, REFUSED};
+use super::{Reported, event, join, limits, refusal};
 use cbor_events::{Event, EventKind, EventReader, ItemEvents, Out};
 use cbor_head::{Limits, Reason, Refusal, Width};
 use std::alloc::{AllocError, Global};
@@ -13,11 +13,11 @@ use std::process::Abort;
 // What came of an item that was read, and the bytes of its payloads.
 #[derive(Drop)]
 struct Heard {
-    told: Told,
+    reported: Reported,
     payloads: Vec<u8>,
 }
 
-// What the reader tells next, in the words of the machine.
+// What the reader reports next, in the words of the machine.
 fn next_of<R: Read>(reader: &mut EventReader<R>) -> Out {
     match reader.next() {
         Ok(Some(event)) => Out::Event(event),
@@ -27,7 +27,7 @@ fn next_of<R: Read>(reader: &mut EventReader<R>) -> Out {
 }
 
 // Gathers the events and the bytes of their payloads up to the last answer. The gatherers are borrowed:
-// an owner of them would owe at each `?` that they may be let go there.
+// an owner of them would owe at each `?` that they may be dropped there.
 fn gather<R: Read>(
     reader: &mut EventReader<R>,
     events: &mut Vec<Event>,
@@ -47,7 +47,7 @@ fn gather<R: Read>(
     Ok(Out::More)
 }
 
-// The last answer is given again; where it is not, what was told counts for nothing.
+// The last answer is given again; where it is not, what was reported counts for nothing.
 fn hear<R: Read + Drop>(alloc: Global, limits: Limits, reader: R) -> Result<Heard, AllocError> {
     let mut reader = EventReader::new(reader, limits);
     let mut events = Vec::new(alloc);
@@ -59,7 +59,7 @@ fn hear<R: Read + Drop>(alloc: Global, limits: Limits, reader: R) -> Result<Hear
         events.clear();
     }
     Ok(Heard {
-        told: Told {
+        reported: Reported {
             events,
             out,
             taken: reader.taken(),
@@ -81,7 +81,7 @@ fn payloads_of(alloc: Global, bytes: &[u8], events: &[Event]) -> Result<Vec<u8>,
     Ok(payloads)
 }
 
-// Reads the bytes, cut there, in such parts, and looks for what the row tells, and what the reader
+// Reads the bytes, cut there, in such parts, and looks for what the row reports, and what the reader
 // has left.
 fn look_once(
     rt: &impl Abort,
@@ -95,8 +95,12 @@ fn look_once(
     parts.cut = cut;
     parts.part = part;
     let heard = hear(alloc, row.limits, &mut parts)?;
-    let left = (row.bytes.len() as u64).saturating_sub(row.told.taken);
-    assert!(rt; heard.told == row.told, "cut at {cut}: {}", row.line);
+    let left = (row.bytes.len() as u64).saturating_sub(row.reported.taken);
+    assert!(rt;
+        heard.reported == row.reported,
+        "cut at {cut}: {}",
+        row.line
+    );
     assert!(rt;
         heard.payloads.as_slice() == payloads,
         "payloads, cut at {cut}: {}",
@@ -111,13 +115,17 @@ fn look_once(
     Ok(())
 }
 
-// The same whole, one by one, and with each cut; and with a byte behind an item.
+// Looks at the bytes whole, one by one, and with each cut; and with a byte behind an item.
 fn look_at_each_cut(rt: &impl Abort, alloc: Global, row: &mut Row) -> Result<(), AllocError> {
-    let payloads = payloads_of(alloc, &row.bytes, &row.told.events)?;
-    match row.told.out {
+    let payloads = payloads_of(alloc, &row.bytes, &row.reported.events)?;
+    match row.reported.out {
         Out::Done => row.bytes.push(0)?,
         // the reader ends there
-        Out::More => row.told.out = refusal(Reason::Truncated, row.told.taken, row.told.taken),
+        Out::More => row.reported.out = refusal(
+            Reason::Truncated,
+            row.reported.taken,
+            row.reported.taken,
+        ),
         _ => {}
     }
     for cut in 0..=row.bytes.len() {
@@ -130,7 +138,7 @@ fn look_at_each_cut(rt: &impl Abort, alloc: Global, row: &mut Row) -> Result<(),
 
 #[test]
 fn reads_as_the_tables_say(rt: HostRuntime) -> Result<(), AllocError> {
-    for table in [ACCEPTED, NOT_VALID, REFUSED, FRONTS] {
+    for table in [ACCEPTED, NOT_VALID, REFUSED, PREFIXES] {
         for row in &mut rows_of(&rt, rt.alloc(), table)? {
             look_at_each_cut(&rt, rt.alloc(), row)?;
         }
@@ -152,22 +160,22 @@ fn look_where_it_stops(
     } else {
         parts.ends = place;
     }
-    let told = hear(alloc, row.limits, &mut parts)?.told;
+    let reported = hear(alloc, row.limits, &mut parts)?.reported;
     let taken = place as u64;
     let left = row.bytes.len().saturating_sub(place);
     assert!(rt;
-        told.out == refusal(reason, taken, taken),
+        reported.out == refusal(reason, taken, taken),
         "at {place}: {}",
         row.line
     );
-    assert!(rt; told.taken == taken, "at {place}: {}", row.line);
+    assert!(rt; reported.taken == taken, "at {place}: {}", row.line);
     assert!(rt; parts.rest.len() == left, "at {place}: {}", row.line);
     Ok(())
 }
 
-// A reader that fails, or ends, once at each place: it is told there, and nothing more is read.
+// A reader that fails, or ends, once at each place: it is reported there, and nothing more is read.
 #[test]
-fn a_failure_and_an_end_are_told_at_once(rt: HostRuntime) -> Result<(), AllocError> {
+fn a_failure_and_an_end_are_reported_at_once(rt: HostRuntime) -> Result<(), AllocError> {
     for row in &rows_of(&rt, rt.alloc(), ACCEPTED)? {
         for place in 0..row.bytes.len() {
             look_where_it_stops(&rt, rt.alloc(), row, place, Reason::Read)?;
@@ -189,14 +197,14 @@ fn long_string(alloc: Global) -> Result<Vec<u8>, AllocError> {
 fn look_at_whole(rt: &impl Abort, alloc: Global, bytes: &[u8]) -> Result<(), AllocError> {
     let mut parts = Parts::new(bytes);
     let heard = hear(alloc, limits(rt, 1, 607), &mut parts)?;
-    assert!(rt; heard.told.out == Out::Done);
+    assert!(rt; heard.reported.out == Out::Done);
     let text = [
         event(0, Width::Direct, EventKind::Array(Some(2))),
         event(1, Width::Two, EventKind::Unsigned(256)),
         event(4, Width::Two, EventKind::Text(Some(600))),
         event(7, Width::Direct, EventKind::Piece(600)),
     ];
-    assert!(rt; heard.told.events[..] == text[..]);
+    assert!(rt; heard.reported.events[..] == text[..]);
     assert!(rt; parts.rest.len() == 1);
     assert!(rt; parts.asked.as_slice() == [1, 1, 2, 1, 2, 512, 88].as_slice());
     Ok(())
@@ -213,7 +221,7 @@ fn asks_for(
 ) -> Result<(), AllocError> {
     let mut parts = Parts::new(bytes);
     let heard = hear(alloc, limits(rt, 1, limit), &mut parts)?;
-    assert!(rt; heard.told.out == out);
+    assert!(rt; heard.reported.out == out);
     assert!(rt; parts.asked.as_slice() == asked);
     Ok(())
 }

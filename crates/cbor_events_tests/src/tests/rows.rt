@@ -1,18 +1,18 @@
 //! The rows of the tables.
 
-use super::{Told, event, limits, refusal};
+use super::{Reported, event, limits, refusal};
 use cbor_events::{Event, EventKind, Out};
 use cbor_head::{Limits, Reason, Simple, Width};
 use std::alloc::{AllocError, Global};
 use std::process::Abort;
 
-// A row: bytes, and what is told of them within limits.
+// A row: bytes, and what is reported of them within limits.
 #[derive(Drop)]
 pub(super) struct Row {
     pub(super) line: &'static str,
     pub(super) bytes: Vec<u8>,
     pub(super) limits: Limits,
-    pub(super) told: Told,
+    pub(super) reported: Reported,
 }
 
 pub(super) fn rows_of(
@@ -36,7 +36,7 @@ fn row_of(rt: &impl Abort, alloc: Global, line: &'static str) -> Result<Row, All
         line,
         bytes,
         limits: limits_of(rt, limits.trim()),
-        told: Told { events, out, taken },
+        reported: Reported { events, out, taken },
     })
 }
 

@@ -1,18 +1,18 @@
 //! A machine that is saved and restored.
 
-use super::{Told, join, limits};
+use super::{Reported, join, limits};
 use cbor_events::{Machine, Out, SavedMachine};
 use cbor_head::Limits;
 use std::alloc::{AllocError, Global};
 use std::process::Abort;
 
 // Gives bytes one by one, each to a machine that was saved and restored.
-pub(crate) fn tell_saved(
+pub(crate) fn report_saved(
     rt: &impl Abort,
     alloc: Global,
     limits: Limits,
     bytes: &[u8],
-) -> Result<Told, AllocError> {
+) -> Result<Reported, AllocError> {
     let mut saved = Machine::new(limits).save();
     let mut events = Vec::new(alloc);
     for byte in bytes {
@@ -24,14 +24,14 @@ pub(crate) fn tell_saved(
             Out::More => {}
             out => {
                 let taken = saved.taken;
-                return Ok(Told { events, out, taken });
+                return Ok(Reported { events, out, taken });
             }
         }
     }
     let mut machine = Machine::restore(&saved).expect(rt, "a machine");
     let out = machine.step(&[]).out;
     let taken = machine.taken();
-    Ok(Told { events, out, taken })
+    Ok(Reported { events, out, taken })
 }
 
 // A machine within the array of one item, before this; it is at most 2 deep and 8 bytes long.
@@ -44,7 +44,7 @@ fn within_an_array(rt: &impl Abort) -> SavedMachine {
 #[test]
 fn numbers_of_a_machine(rt: HostRuntime) {
     let saved = within_an_array(&rt);
-    assert!(rt; (saved.depth, saved.bytes, saved.taken, saved.told) == (2, 8, 1, 1));
+    assert!(rt; (saved.depth, saved.bytes, saved.taken, saved.reported) == (2, 8, 1, 1));
     assert!(rt; (saved.open, saved.position, saved.reason) == (1, 0, 0));
     assert!(rt; (saved.lefts[0], saved.kinds[0]) == (0, 0));
     assert!(rt; Machine::restore(&saved).is_some());
@@ -68,7 +68,7 @@ fn broken(mut saved: SavedMachine, way: u8) -> SavedMachine {
         // more taken than the byte limit
         1 => {
             saved.taken = 9;
-            saved.told = 9;
+            saved.reported = 9;
         }
         // limits out of range
         2 => saved.depth = 1025,
@@ -76,15 +76,15 @@ fn broken(mut saved: SavedMachine, way: u8) -> SavedMachine {
         // something open behind the item
         4 => saved.position = 5,
         // bytes that no event stands for
-        5 => saved.told = 0,
+        5 => saved.reported = 0,
         // an argument of nine bytes
         6 => saved.left = 8,
-        // one that has no room for the bytes that are left
+        // one that has no space for the bytes that are left
         7 => {
             saved.left = 7;
             saved.number = 1;
         }
-        // where there is no room for its container
+        // where there is no space for its container
         _ => {
             saved.open = 2;
             saved.kind = 4;

@@ -1,4 +1,4 @@
-//! The tables of the format: bytes, and the events that they tell.
+//! The tables of the format: bytes, and the events that they report.
 //!
 //! One row a line, with five columns between bars: the bytes in hex digits; the limits on depth and
 //! on bytes, where they are not 256 and 1048576; the events; the last answer; and what the bytes are,
@@ -91,8 +91,8 @@ a26261610061ff00 | | 0 map 2 0  1 text 2 0  2 piece 2 0  4 unsigned 0 0  5 text 
 9fffff | | 0 array - -  1 end - - | done 2 | [_ ], and a break behind it
 "#;
 
-// Fronts of items: all is taken, and the item goes on.
-pub(super) static FRONTS: &str = r#"
+// Prefixes of items: all is taken, and the item goes on.
+pub(super) static PREFIXES: &str = r#"
 | | | more | nothing
 18 | | | more | a head without its argument
 41 | | 0 bytes 1 0 | more | a byte string without its byte

@@ -33,7 +33,7 @@ fn in_pieces(text: &[u8], size: usize) -> Result<(), u64>
     check.end()
 }
 
-// Each text, and the length of its longest front that is UTF-8 where it is not.
+// Each text, and the length of its longest prefix that is UTF-8 where it is not.
 static TEXTS: &str = "
 | | nothing
 49455446 | | IETF
@@ -61,8 +61,8 @@ c3bcc341ff | 2 | what is wrong first counts
 // A text, and what its check is to answer.
 fn row_of(alloc: Global, line: &str) -> Option<(Vec<u8>, Result<(), u64>)> {
     let (digits, rest) = line.split_once('|')?;
-    let (front, _) = rest.split_once('|')?;
-    let answer = match front.trim() {
+    let (prefix, _) = rest.split_once('|')?;
+    let answer = match prefix.trim() {
         "" => Ok(()),
         length => Err(length.parse().ok()?),
     };

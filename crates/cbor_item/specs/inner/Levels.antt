@@ -1,8 +1,8 @@
 -- What a tree builder holds.
 use Rattle.std.specs.Prelude.{◌<◌, List, [], ◌∷◌, Option, Some, None, map, reverse, vec_len, vec_capacity}
 use Rattle.cbor_item.specs.OpenValues.{OpenItem, OpenValue, the_whole, an_array, a_map, a_key, a_tag, open_value}
-use Rattle.cbor_item.specs.declared.level.Level.TheVariants.{Whole, Array, Map, Tag}
-use Rattle.cbor_item.specs.declared.{item.Item.Item, level.Level.Level, tree_builder.TreeBuilder.TheInside.Inside}
+use Rattle.cbor_item.specs.declared.tree_level.Level.TheVariants.{Whole, Array, Map, Tag}
+use Rattle.cbor_item.specs.declared.{item.Item.Item, tree_level.Level.Level, tree_builder.TreeBuilder.TheInside.Inside}
 
 -- at most one
 abbrev pub items_in : Option Item → List Item
@@ -22,11 +22,11 @@ open_item (Tag n content) = a_tag n (items_in content)
 abbrev pub level_value : Level → OpenValue
 level_value l = open_value (open_item l)
 
--- room for one more member
-abbrev pub HasRoom : Level → Type 0
-HasRoom (Array items) = vec_len items < vec_capacity items
-HasRoom (Map pairs key) = vec_len pairs < vec_capacity pairs
-HasRoom _ = Unit {0}
+-- space for one more member
+abbrev pub HasSpace : Level → Type 0
+HasSpace (Array items) = vec_len items < vec_capacity items
+HasSpace (Map pairs key) = vec_len pairs < vec_capacity pairs
+HasSpace _ = Unit {0}
 
 -- the innermost first
 abbrev pub open_items : Inside → List OpenItem

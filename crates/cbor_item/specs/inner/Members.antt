@@ -1,7 +1,7 @@
 -- The values of the members of items.
 use Rattle.std.specs.Prelude.{List, map}
 use Rattle.cbor_head.specs.Prelude.{Values, Entries}
-use Rattle.cbor_canonical.specs.Lists.{values_of, entries_of}
+use Rattle.cbor_model.specs.Lists.{values_of, entries_of}
 use Rattle.cbor_item.specs.{View.view, declared.item.Item.Item}
 
 -- the values of an array's members

@@ -4,10 +4,10 @@ use Rattle.std.specs.Prelude as list
 use Rattle.cbor_head.specs.Prelude.{canonical, Value, Values, Entries, map, no_values, a_value, IsInRange, IsValid}
 use Rattle.cbor_head.specs.Value.{array, tag, no_entries, entry}
 use Rattle.cbor_head.specs.declared.order.KeyOrder.{KeyOrder}
-use Rattle.cbor_canonical.specs.Parts.{Open, plain, a_key, a_string, with_member, closed, give, HasNoRepeats}
+use Rattle.cbor_model.specs.Parts.{Open, plain, a_key, a_string, with_member, closed, give, HasNoRepeats}
 use Rattle.cbor_builder.specs.Built.{CanHold}
-use Rattle.cbor_item.specs.declared.rest.Rest.TheVariants.{Members, Pairs, Value as OneValue}
-use Rattle.cbor_item.specs.{View.view, declared.item.Item.Item, declared.rest.Rest.Rest}
+use Rattle.cbor_item.specs.declared.tree_rest.Rest.TheVariants.{Members, Pairs, Value as OneValue}
+use Rattle.cbor_item.specs.{View.view, declared.item.Item.Item, declared.tree_rest.Rest.Rest}
 
 -- the keys and values of pairs, in turn
 abbrev pub flat : List (Item × Item) → List Value

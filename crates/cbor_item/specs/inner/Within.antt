@@ -2,7 +2,7 @@
 use Rattle.std.specs.Prelude.{ℕ, suc, ◌+◌, ◌≡◌, ◌≤◌, List, [], ◌∷◌, length}
 use Rattle.cbor_head.specs.Prelude.{Value, IsInRange, AreInRange}
 use Rattle.cbor_head.specs.Value.{depth, depth_all}
-use Rattle.cbor_canonical.specs.Lists.{values_of}
+use Rattle.cbor_model.specs.Lists.{values_of}
 use Rattle.cbor_item.specs.inner.Walk.{size, weight}
 
 -- an item holds no other

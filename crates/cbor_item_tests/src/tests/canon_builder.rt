@@ -1,20 +1,20 @@
 //! Canonical bytes from the parts of an item.
 
 ghost use Rattle.std.specs.Prelude.{◌≡◌, ◌∷◌, []};
-ghost use Rattle.cbor_canonical.specs.Parts.{plain};
+ghost use Rattle.cbor_model.specs.Parts.{plain};
 
-use crate::tests::repeats::told;
+use crate::tests::repeats::reported;
 use cbor_head::Major;
 use cbor_item::{CanonBuilder, KeyOrder, Repeat};
 use std::alloc::{AllocError, Global};
 use std::process::Abort;
 
 // The parts are given by functions that borrow the builder: an owner of it would owe at each `?` that
-// it may be let go there.
+// it may be dropped there.
 
 // {1: [2], 0: "a", -1: h'01020304'} as it comes, the strings in pieces
 fn give_in_pieces(rt: &impl Abort, builder: &mut CanonBuilder) -> Result<(), AllocError>
-    requires empty { builder.old.standing ≡ plain [] ∷ [] }
+    requires empty { builder.old.open_levels ≡ plain [] ∷ [] }
 {
     builder.begin(Major::Map, 0)?;
     builder.leaf(Major::Unsigned, 1)?;
@@ -59,20 +59,20 @@ fn is_none_waiting(builder: &CanonBuilder) -> bool {
     builder.waiting_key().is_none()
 }
 
-fn is_key_due(builder: &CanonBuilder) -> bool {
-    builder.is_key_due()
+fn is_key_expected(builder: &CanonBuilder) -> bool {
+    builder.is_key_expected()
 }
 
 // {"aa": 0, 1: 0, "aa" ..
 fn give_a_key_again(rt: &impl Abort, builder: &mut CanonBuilder) -> Result<(), AllocError>
-    requires empty { builder.old.standing ≡ plain [] ∷ [] }
+    requires empty { builder.old.open_levels ≡ plain [] ∷ [] }
 {
-    assert!(rt; !is_key_due(builder));
+    assert!(rt; !is_key_expected(builder));
     builder.begin(Major::Map, 3)?;
     assert!(rt; is_none_waiting(builder));
-    assert!(rt; is_key_due(builder));
+    assert!(rt; is_key_expected(builder));
     builder.string(Major::Text, b"aa")?;
-    assert!(rt; !is_key_due(builder));
+    assert!(rt; !is_key_expected(builder));
     assert!(rt; !builder.repeated());
     assert!(rt; is_waiting(builder, b"\x62aa"));
     builder.leaf(Major::Unsigned, 0)?;
@@ -83,7 +83,7 @@ fn give_a_key_again(rt: &impl Abort, builder: &mut CanonBuilder) -> Result<(), A
     builder.string(Major::Text, b"aa")?;
     assert!(rt; builder.repeated());
     builder.leaf(Major::Unsigned, 0)?;
-    assert!(rt; builder.end_if_distinct()? == told(0, 2));
+    assert!(rt; builder.end_if_distinct()? == reported(0, 2));
     Ok(())
 }
 
@@ -96,7 +96,7 @@ fn a_key_again(rt: HostRuntime) -> Result<(), AllocError> {
 // RFC 8949, appendix A: 23, 24, 65535, 4294967295, 18446744073709551615, -1000, 32(0),
 // simple(255)
 fn give_heads(builder: &mut CanonBuilder) -> Result<(), AllocError>
-    requires empty { builder.old.standing ≡ plain [] ∷ [] }
+    requires empty { builder.old.open_levels ≡ plain [] ∷ [] }
 {
     builder.begin(Major::Array, 8)?;
     builder.leaf(Major::Unsigned, 23)?;
@@ -123,29 +123,29 @@ fn the_shortest_heads(rt: HostRuntime) -> Result<(), AllocError> {
     Ok(())
 }
 
-// ["ab", 'x'], each string the front of what is given
-fn give_fronts(builder: &mut CanonBuilder) -> Result<(), AllocError>
-    requires empty { builder.old.standing ≡ plain [] ∷ [] }
+// ["ab", 'x'], each string the prefix of what is given
+fn give_prefixes(builder: &mut CanonBuilder) -> Result<(), AllocError>
+    requires empty { builder.old.open_levels ≡ plain [] ∷ [] }
 {
     builder.begin(Major::Array, 2)?;
-    builder.front_string(Major::Text, b"abc", 2)?;
+    builder.prefix_string(Major::Text, b"abc", 2)?;
     builder.begin_string(Major::Bytes)?;
-    builder.front_bytes(b"xyz", 1)?;
+    builder.prefix_bytes(b"xyz", 1)?;
     builder.end_string()?;
     builder.end()
 }
 
 #[test]
-fn takes_the_front_of_what_is_given(rt: HostRuntime) -> Result<(), AllocError> {
+fn takes_the_prefix_of_what_is_given(rt: HostRuntime) -> Result<(), AllocError> {
     let mut builder = CanonBuilder::new(rt.alloc(), KeyOrder::Bytewise);
-    give_fronts(&mut builder)?;
+    give_prefixes(&mut builder)?;
     assert!(rt; builder.finish().as_slice() == b"\x82\x62ab\x41x".as_slice());
     Ok(())
 }
 
 // Two pairs in falling order, with one value.
 fn give_falling(builder: &mut CanonBuilder, content: &[u8]) -> Result<Option<Repeat>, AllocError>
-    requires empty { builder.old.standing ≡ plain [] ∷ [] }
+    requires empty { builder.old.open_levels ≡ plain [] ∷ [] }
 {
     builder.begin(Major::Map, 2)?;
     builder.leaf(Major::Unsigned, 2)?;
@@ -197,7 +197,7 @@ fn pairs_of_each_length(rt: HostRuntime) -> Result<(), AllocError> {
 
 // [1, {2: .., 1: ..}], where the map is given up and an item of no bytes stands behind it
 fn give_without_a_map(rt: &impl Abort, builder: &mut CanonBuilder) -> Result<(), AllocError>
-    requires empty { builder.old.standing ≡ plain [] ∷ [] }
+    requires empty { builder.old.open_levels ≡ plain [] ∷ [] }
 {
     builder.begin(Major::Array, 0)?;
     builder.leaf(Major::Unsigned, 1)?;

@@ -8,12 +8,12 @@ use std::io;
 use std::io::{Error, ErrorKind, Write};
 use std::test::Fail;
 
-// Takes at most `step` bytes a write. Once, when it holds `room` of them, it fails or takes none,
+// Takes at most `step` bytes a write. Once, when it holds `space` of them, it fails or takes none,
 // and then goes on: a write that is tried again is seen.
 #[derive(Drop)]
 struct Cup {
     held: Vec<u8>,
-    room: usize,
+    space: usize,
     step: usize,
     fails: bool,
     stopped: bool,
@@ -21,7 +21,7 @@ struct Cup {
 
 impl Write for Cup {
     fn write(&mut self, buf: &[u8]) -> io::Result<usize> {
-        if self.held.len() == self.room && !self.stopped {
+        if self.held.len() == self.space && !self.stopped {
             self.stopped = true;
             if self.fails {
                 return Err(Error::from(ErrorKind::Interrupted));
@@ -29,8 +29,8 @@ impl Write for Cup {
             return Ok(0);
         }
         let mut count = buf.len().min(self.step);
-        if !self.stopped && self.held.len() < self.room {
-            count = count.min(self.room - self.held.len());
+        if !self.stopped && self.held.len() < self.space {
+            count = count.min(self.space - self.held.len());
         }
         self.held.extend_from_slice(&buf[..count])?;
         Ok(count)
@@ -48,22 +48,22 @@ fn writers_stop_at_each_place(rt: HostRuntime) -> Result<(), Fail> {
     // {10: 2, 100: 3, -1: 4, "z": 5, "aa": 1, [100]: 6, [-1]: 7, false: 8}
     let bytes =
         b"\xa8\x0a\x02\x18\x64\x03\x20\x04\x61\x7a\x05\x62\x61\x61\x01\x81\x18\x64\x06\x81\x20\x07\xf4\x08";
-    for room in 0..bytes.len() + 1 {
+    for space in 0..bytes.len() + 1 {
         for (step, fails) in [(1, false), (1, true), (100, false), (100, true)] {
             let mut cup = Cup {
                 held: Vec::new(alloc),
-                room,
+                space,
                 step,
                 fails,
                 stopped: false,
             };
-            let want = if room < bytes.len() {
-                Err(Refusal::new(Reason::Write, room as u64, 0))
+            let want = if space < bytes.len() {
+                Err(Refusal::new(Reason::Write, space as u64, 0))
             } else {
                 Ok(24)
             };
             assert!(rt; encode_to(alloc, &tree, KeyOrder::Bytewise, &mut cup) == want);
-            assert!(rt; cup.held.as_slice() == &bytes[..room]);
+            assert!(rt; cup.held.as_slice() == &bytes[..space]);
         }
     }
     Ok(())
@@ -74,7 +74,7 @@ fn a_writer_that_takes_all(rt: HostRuntime) -> Result<(), Fail> {
     let alloc = rt.alloc();
     let mut cup = Cup {
         held: Vec::new(alloc),
-        room: 5,
+        space: 5,
         step: 2,
         fails: true,
         stopped: false,
@@ -95,7 +95,7 @@ fn writes_what_came_before_the_failure(rt: HostRuntime) -> Result<(), Fail> {
     for step in [1, 100] {
         let mut cup = Cup {
             held: Vec::new(alloc),
-            room: 2,
+            space: 2,
             step,
             fails: true,
             stopped: false,

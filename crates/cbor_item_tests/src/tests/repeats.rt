@@ -1,24 +1,24 @@
-//! Which repeated key a builder tells.
+//! Which repeated key a builder reports.
 
 ghost use Rattle.std.specs.Prelude.{ℕ, List, ◌≡◌, ◌∷◌, [], OnOk};
 ghost use Rattle.cbor_head.specs.Canonical.{Pair};
 ghost use Rattle.cbor_builder.specs.Built.{TakesPart};
-ghost use Rattle.cbor_canonical.specs.Parts.{Open, a_map, a_key, plain};
+ghost use Rattle.cbor_model.specs.Parts.{Open, a_map, a_key, plain};
 
 use cbor_head::Major;
 use cbor_item::{CanonBuilder, KeyOrder, Repeat};
 use std::alloc::{AllocError, Global};
 use std::process::Abort;
 
-pub(crate) fn told(outside: usize, pair: usize) -> Option<Repeat> {
+pub(crate) fn reported(outside: usize, pair: usize) -> Option<Repeat> {
     Some(Repeat { outside, pair })
 }
 
 // A map begins, with a pair for each number, which is its key; its value is 0.
 fn open_map(builder: &mut CanonBuilder, keys: &[u64]) -> Result<(), AllocError>
-    requires takes { TakesPart builder.old.standing }
+    requires takes { TakesPart builder.old.open_levels }
     ensures { OnOk result ((ps : List Pair)
-        × (builder.new.standing ≡ a_map ps ∷ builder.old.standing)) }
+        × (builder.new.open_levels ≡ a_map ps ∷ builder.old.open_levels)) }
 {
     builder.begin(Major::Map, 0)?;
     for key in keys {
@@ -35,9 +35,9 @@ fn give_opened(
     inner: &[u64],
     last: u64,
 ) -> Result<(), AllocError>
-    requires takes { TakesPart builder.old.standing }
+    requires takes { TakesPart builder.old.open_levels }
     ensures { OnOk result ((ps : List Pair) × (k : List ℕ) × (c : Open) × (os : List Open)
-        × (builder.new.standing ≡ a_key ps k ∷ c ∷ os)) }
+        × (builder.new.open_levels ≡ a_key ps k ∷ c ∷ os)) }
 {
     open_map(builder, outer)?;
     builder.leaf(Major::Unsigned, 4)?;
@@ -46,8 +46,8 @@ fn give_opened(
     builder.leaf(Major::Unsigned, last)
 }
 
-// What is told of that, asked for and as the inner map ends
-fn told_of(
+// What is reported of that, asked for and as the inner map ends
+fn reported_of(
     rt: &impl Abort,
     alloc: Global,
     outer: &[u64],
@@ -56,48 +56,51 @@ fn told_of(
 ) -> Result<Option<Repeat>, AllocError> {
     let mut builder = CanonBuilder::new(alloc, KeyOrder::Bytewise);
     give_opened(&mut builder, outer, inner, last)?;
-    let told = builder.first_repeat();
+    let reported = builder.first_repeat();
     builder.clear(KeyOrder::Bytewise);
     give_opened(&mut builder, outer, inner, last)?;
     builder.leaf(Major::Unsigned, 0)?;
-    assert!(rt; builder.end_if_distinct()? == told);
-    Ok(told)
+    assert!(rt; builder.end_if_distinct()? == reported);
+    Ok(reported)
 }
 
 #[test]
-fn the_outermost_repeated_key_is_told(rt: HostRuntime) -> Result<(), AllocError> {
+fn the_outermost_repeated_key_is_reported(rt: HostRuntime) -> Result<(), AllocError> {
     let alloc = rt.alloc();
     // no key is equal to another, or one of the outer map, or the last of it, which waits
-    assert!(rt; told_of(&rt, alloc, &[3, 1, 2], &[7, 5, 6], 8)? == None);
-    assert!(rt; told_of(&rt, alloc, &[3, 1, 2, 1, 3], &[7, 7], 8)? == told(0, 3));
-    assert!(rt; told_of(&rt, alloc, &[3, 4, 2], &[7, 7], 7)? == told(0, 3));
+    assert!(rt; reported_of(&rt, alloc, &[3, 1, 2], &[7, 5, 6], 8)? == None);
+    assert!(rt; reported_of(&rt, alloc, &[3, 1, 2, 1, 3], &[7, 7], 8)? == reported(0, 3));
+    assert!(rt; reported_of(&rt, alloc, &[3, 4, 2], &[7, 7], 7)? == reported(0, 3));
     // one of the inner map, or the last of it, behind keys that fall or rise
-    assert!(rt; told_of(&rt, alloc, &[3, 1, 2], &[7, 5, 5, 7], 7)? == told(1, 2));
-    assert!(rt; told_of(&rt, alloc, &[3, 1, 2], &[7, 5, 6], 5)? == told(1, 3));
-    assert!(rt; told_of(&rt, alloc, &[1, 2, 3], &[5, 6, 7], 6)? == told(1, 3));
+    assert!(rt; reported_of(&rt, alloc, &[3, 1, 2], &[7, 5, 5, 7], 7)? == reported(1, 2));
+    assert!(rt; reported_of(&rt, alloc, &[3, 1, 2], &[7, 5, 6], 5)? == reported(1, 3));
+    assert!(rt; reported_of(&rt, alloc, &[1, 2, 3], &[5, 6, 7], 6)? == reported(1, 3));
     let mut empty = CanonBuilder::new(alloc, KeyOrder::Bytewise);
     assert!(rt; empty.first_repeat() == None);
     Ok(())
 }
 
-// What is told of a map with these keys as it ends. Then nothing is open.
-fn told_at_end(
+// What is reported of a map with these keys as it ends. Then nothing is open.
+fn reported_at_end(
     rt: &impl Abort,
     builder: &mut CanonBuilder,
     keys: &[u64],
 ) -> Result<Option<Repeat>, AllocError>
-    requires empty { builder.old.standing ≡ plain [] ∷ [] }
+    requires empty { builder.old.open_levels ≡ plain [] ∷ [] }
 {
     open_map(builder, keys)?;
-    let told = builder.end_if_distinct()?;
-    if told.is_some() {
+    let reported = builder.end_if_distinct()?;
+    if reported.is_some() {
         assert!(rt; builder.first_repeat() == None);
     }
-    Ok(told)
+    Ok(reported)
 }
 
-fn told_when_asked(builder: &mut CanonBuilder, keys: &[u64]) -> Result<Option<Repeat>, AllocError>
-    requires empty { builder.old.standing ≡ plain [] ∷ [] }
+fn reported_when_asked(
+    builder: &mut CanonBuilder,
+    keys: &[u64],
+) -> Result<Option<Repeat>, AllocError>
+    requires empty { builder.old.open_levels ≡ plain [] ∷ [] }
 {
     open_map(builder, keys)?;
     Ok(builder.first_repeat())
@@ -106,10 +109,10 @@ fn told_when_asked(builder: &mut CanonBuilder, keys: &[u64]) -> Result<Option<Re
 #[test]
 fn a_map_that_repeats_a_key_does_not_end(rt: HostRuntime) -> Result<(), AllocError> {
     let mut builder = CanonBuilder::new(rt.alloc(), KeyOrder::LengthFirst);
-    assert!(rt; told_at_end(&rt, &mut builder, &[9, 1, 9])? == told(0, 2));
+    assert!(rt; reported_at_end(&rt, &mut builder, &[9, 1, 9])? == reported(0, 2));
     // it may be cleared
     builder.clear(KeyOrder::Bytewise);
-    assert!(rt; told_at_end(&rt, &mut builder, &[2, 1])? == None);
+    assert!(rt; reported_at_end(&rt, &mut builder, &[2, 1])? == None);
     assert!(rt; builder.finish().as_slice() == b"\xa2\x01\x00\x02\x00".as_slice());
     Ok(())
 }
@@ -125,7 +128,7 @@ fn keys_again(alloc: Global, size: u64, step: u64, differ: u64) -> Result<Vec<u6
 
 // The keys rise, fall or do neither.
 #[test]
-fn the_pair_is_told_in_maps_of_each_size(rt: HostRuntime) -> Result<(), AllocError> {
+fn the_pair_is_reported_in_maps_of_each_size(rt: HostRuntime) -> Result<(), AllocError> {
     let alloc = rt.alloc();
     let mut builder = CanonBuilder::new(alloc, KeyOrder::Bytewise);
     for size in 2u64..201 {
@@ -133,21 +136,28 @@ fn the_pair_is_told_in_maps_of_each_size(rt: HostRuntime) -> Result<(), AllocErr
             for step in [1, differ - 1, 211] {
                 let keys = keys_again(alloc, size, step, differ)?;
                 builder.clear(KeyOrder::Bytewise);
-                assert!(rt; told_at_end(&rt, &mut builder, &keys)? == told(0, differ as usize));
+                assert!(rt;
+                    reported_at_end(&rt, &mut builder, &keys)? == reported(0, differ as usize)
+                );
                 builder.clear(KeyOrder::Bytewise);
-                assert!(rt; told_when_asked(&mut builder, &keys)? == told(0, differ as usize));
+                assert!(rt;
+                    reported_when_asked(&mut builder, &keys)? == reported(0, differ as usize)
+                );
             }
         }
         let keys = keys_again(alloc, size, size - 1, size)?;
         builder.clear(KeyOrder::Bytewise);
-        assert!(rt; told_at_end(&rt, &mut builder, &keys)? == None);
+        assert!(rt; reported_at_end(&rt, &mut builder, &keys)? == None);
     }
     Ok(())
 }
 
 // Three pairs of no bytes behind others
-fn told_of_nothing(builder: &mut CanonBuilder, keys: &[u64]) -> Result<Option<Repeat>, AllocError>
-    requires empty { builder.old.standing ≡ plain [] ∷ [] }
+fn reported_of_nothing(
+    builder: &mut CanonBuilder,
+    keys: &[u64],
+) -> Result<Option<Repeat>, AllocError>
+    requires empty { builder.old.open_levels ≡ plain [] ∷ [] }
 {
     open_map(builder, keys)?;
     builder.nothing()?;
@@ -160,8 +170,8 @@ fn told_of_nothing(builder: &mut CanonBuilder, keys: &[u64]) -> Result<Option<Re
 }
 
 // Two pairs of no bytes behind one that has only a value, and another
-fn told_of_an_empty_key(builder: &mut CanonBuilder) -> Result<Option<Repeat>, AllocError>
-    requires empty { builder.old.standing ≡ plain [] ∷ [] }
+fn reported_of_an_empty_key(builder: &mut CanonBuilder) -> Result<Option<Repeat>, AllocError>
+    requires empty { builder.old.open_levels ≡ plain [] ∷ [] }
 {
     builder.begin(Major::Map, 0)?;
     builder.nothing()?;
@@ -176,20 +186,20 @@ fn told_of_an_empty_key(builder: &mut CanonBuilder) -> Result<Option<Repeat>, Al
 }
 
 #[test]
-fn pairs_of_no_bytes_are_told_apart(rt: HostRuntime) -> Result<(), AllocError> {
+fn pairs_of_no_bytes_are_distinguished(rt: HostRuntime) -> Result<(), AllocError> {
     let alloc = rt.alloc();
     let mut builder = CanonBuilder::new(alloc, KeyOrder::Bytewise);
-    assert!(rt; told_of_an_empty_key(&mut builder)? == told(0, 2));
+    assert!(rt; reported_of_an_empty_key(&mut builder)? == reported(0, 2));
     for size in [1, 2, 14, 40] {
         let keys = keys_again(alloc, size, size - 1, size)?;
         builder.clear(KeyOrder::Bytewise);
-        assert!(rt; told_of_nothing(&mut builder, &keys)? == told(0, size as usize + 1));
+        assert!(rt; reported_of_nothing(&mut builder, &keys)? == reported(0, size as usize + 1));
     }
     Ok(())
 }
 
 fn give_up_a_repeat(builder: &mut CanonBuilder) -> Result<Option<Repeat>, AllocError>
-    requires empty { builder.old.standing ≡ plain [] ∷ [] }
+    requires empty { builder.old.open_levels ≡ plain [] ∷ [] }
 {
     open_map(builder, &[9, 1, 9])?;
     builder.give_up_if_distinct()
@@ -198,7 +208,7 @@ fn give_up_a_repeat(builder: &mut CanonBuilder) -> Result<Option<Repeat>, AllocE
 #[test]
 fn a_map_that_repeats_a_key_is_not_given_up(rt: HostRuntime) -> Result<(), AllocError> {
     let mut builder = CanonBuilder::new(rt.alloc(), KeyOrder::Bytewise);
-    assert!(rt; give_up_a_repeat(&mut builder)? == told(0, 2));
+    assert!(rt; give_up_a_repeat(&mut builder)? == reported(0, 2));
     assert!(rt; builder.first_repeat() == None);
     Ok(())
 }

@@ -1,7 +1,7 @@
 //! An item from its parts.
 
 ghost use Rattle.std.specs.Prelude.{◌≡◌, ◌∷◌, [], OnOk};
-ghost use Rattle.cbor_item.specs.OpenValues.{the_whole, standing, IsWhole};
+ghost use Rattle.cbor_item.specs.OpenValues.{the_whole, open_levels, IsWhole};
 
 use super::words::item_of;
 use cbor_head::Major;
@@ -11,8 +11,8 @@ use std::test::Fail;
 
 // {"a": 1, "b": [2, 3]} of RFC 8949, appendix A, within a tag.
 fn give_parts(alloc: Global, builder: &mut TreeBuilder) -> Result<(), Fail>
-    requires empty { standing builder.old ≡ the_whole [] ∷ [] }
-    ensures whole { OnOk result (IsWhole (standing builder.new)) }
+    requires empty { open_levels builder.old ≡ the_whole [] ∷ [] }
+    ensures whole { OnOk result (IsWhole (open_levels builder.new)) }
 {
     builder.begin(Major::Tag, 55799)?;
     builder.begin(Major::Map, 0)?;

@@ -114,7 +114,7 @@ static DEEPEST: &str = "
 0 1024*c:1 | 1 1024*c:1 | 1025 | tags
 ";
 
-// Each is built, compared, encoded and let go.
+// Each is built, compared, encoded and dropped.
 #[test]
 fn goes_down_to_1024(rt: HostRuntime) -> Result<(), Fail> {
     let alloc = rt.alloc();

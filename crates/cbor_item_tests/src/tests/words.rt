@@ -25,7 +25,7 @@ pub(super) fn tree_of(alloc: Global, words: &str) -> Result<Tree, Fail> {
 }
 
 // What a word holds is taken from what is borrowed here: an owner of it would owe at each `?` that it
-// may be let go there.
+// may be dropped there.
 fn push_all(alloc: Global, items: &mut Vec<Item>, words: &str) -> Option<()> {
     for word in words.split_whitespace() {
         let (times, word) = word.split_once('*').unwrap_or(("1", word));

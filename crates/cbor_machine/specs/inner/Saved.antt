@@ -4,18 +4,18 @@ use Rattle.cbor_head.specs.Prelude.{bounds, AreBounds, refusal}
 use Rattle.cbor_head.specs.declared.reason.Reason.TheVariants.{TooLong, Reserved, NoIndefinite, Float, BadSimple, StrayBreak, BadChunk, TooDeep}
 use Rattle.cbor_head.specs.declared.width.Width.TheVariants as widths
 use Rattle.cbor_head.specs.declared.{reason.Refusal.Refusal, width.Width.Width}
-use Rattle.cbor_steps.specs.declared.frame.Frame.TheVariants as frames
-use Rattle.cbor_steps.specs.declared.opening.Numbered.TheVariants as numbered
-use Rattle.cbor_steps.specs.declared.position.Position.TheVariants as positions
-use Rattle.cbor_steps.specs.{State.IsFit, State.IsSettled, declared.frame.Frame.Frame, declared.opening.Numbered.Numbered, declared.position.Position.Position}
-use Rattle.cbor_standing.specs.{MachineView.MachineView, inner.Machine.IsShown}
+use Rattle.cbor_machine.specs.declared.frame.Frame.TheVariants as frames
+use Rattle.cbor_machine.specs.declared.opening.ArgumentType.TheVariants as numbered
+use Rattle.cbor_machine.specs.declared.position.Position.TheVariants as positions
+use Rattle.cbor_machine.specs.{State.IsFit, State.IsSettled, declared.frame.Frame.Frame, declared.opening.ArgumentType.ArgumentType}
+use Rattle.cbor_machine.specs.{declared.position.Position.Position, MachineView.MachineView, inner.Machine.IsShown}
 use Rattle.cbor_machine.specs.declared.machine.saved.SavedMachine.{SavedMachine}
 
 abbrev pub flag_at : ℕ → Bool
 flag_at (suc zero) = true
 flag_at _ = false
 
-abbrev pub kind_at : ℕ → Numbered
+abbrev pub kind_at : ℕ → ArgumentType
 kind_at zero = numbered.Unsigned
 kind_at (suc zero) = numbered.Negative
 kind_at (suc (suc zero)) = numbered.Bytes
@@ -47,7 +47,7 @@ frames_by (left ∷ lefts) [] = []
 frames_by (left ∷ lefts) (kind ∷ kinds) = frame_by left kind ∷ frames_by lefts kinds
 
 -- by the chunk's flag, the type, the width, what is left of the argument, and the number
-abbrev pub position_by : Bool → Numbered → Width → ℕ → ℕ → ℕ → Position
+abbrev pub position_by : Bool → ArgumentType → Width → ℕ → ℕ → ℕ → Position
 position_by chunk kind width left number zero = positions.Item
 position_by chunk kind width left number (suc zero) = positions.Head chunk kind width left number
 position_by chunk kind width left number (suc (suc zero)) = positions.SimpleNumber
@@ -85,4 +85,4 @@ pub record IsHeld (s : SavedMachine) (m : MachineView) : Type 0 where
   pub within : s.open ≤ s.depth
   pub limited : s.taken ≤ s.bytes
   pub fits : IsFit s.depth (frames_in s) (position_in s)
-  pub settled : refusal_in s ≡ None → IsSettled (frames_in s) (position_in s) → s.told ≡ s.taken
+  pub settled : refusal_in s ≡ None → IsSettled (frames_in s) (position_in s) → s.reported ≡ s.taken

@@ -4,11 +4,14 @@ ghost use Rattle.std.specs.Prelude.{◌≡◌, ℕ, ◌≤◌, IfSome, length, t
 ghost use Rattle.cbor_automaton.specs.Reasons.{IsMachineReason};
 ghost use Rattle.cbor_machine.specs.inner.Saved.{flag_at, frame_by, frames_by, kind_at, position_by, position_in};
 ghost use Rattle.cbor_machine.specs.inner.Saved.{refusal_by, width_at};
-ghost use Rattle.cbor_steps.specs.Nest.{due_frame};
+ghost use Rattle.cbor_machine.specs.ContainerStack.{expected_frame};
 
+use crate::container_stack::{ContainerStack, Slot};
+use crate::frame::{Frame, MOST_OPEN};
 use crate::machine::saved::SavedMachine;
+use crate::opening::ArgumentType;
+use crate::position::Position;
 use cbor_head::{Reason, Refusal, Width};
-use cbor_steps::{Due, Frame, MOST_OPEN, Nest, Numbered, Position};
 
 // A position as numbers.
 #[derive(Clone, Copy)]
@@ -78,17 +81,17 @@ fn flag_code(flag: bool) -> u8
     if flag { 1 } else { 0 }
 }
 
-fn kind_code(kind: Numbered) -> u8
+fn kind_code(kind: ArgumentType) -> u8
     ensures { kind_at result ≡ kind }
 {
     match kind {
-        Numbered::Unsigned => 0,
-        Numbered::Negative => 1,
-        Numbered::Bytes => 2,
-        Numbered::Text => 3,
-        Numbered::Array => 4,
-        Numbered::Map => 5,
-        Numbered::Tag => 6,
+        ArgumentType::Unsigned => 0,
+        ArgumentType::Negative => 1,
+        ArgumentType::Bytes => 2,
+        ArgumentType::Text => 3,
+        ArgumentType::Array => 4,
+        ArgumentType::Map => 5,
+        ArgumentType::Tag => 6,
     }
 }
 
@@ -116,17 +119,17 @@ pub(crate) fn refusal_codes(refusal: Option<Refusal>) -> (u8, u64)
     }
 }
 
-// Writes the open containers to the front of these.
-pub(crate) fn save_frames(nest: &Nest, lefts: &mut [u64], kinds: &mut [u8])
-    requires lefts { length nest.now ≤ length lefts.old }
-    requires kinds { length nest.now ≤ length kinds.old }
-    ensures held { frames_by (take (length nest.now) lefts.new) (take (length nest.now) kinds.new)
-        ≡ nest.now }
-    ensures lefts { drop (length nest.now) lefts.new ≡ drop (length nest.now) lefts.old }
-    ensures kinds { drop (length nest.now) kinds.new ≡ drop (length nest.now) kinds.old }
+// Writes the open containers to the prefix of these.
+pub(crate) fn save_frames(container_stack: &ContainerStack, lefts: &mut [u64], kinds: &mut [u8])
+    requires lefts { length container_stack.now ≤ length lefts.old }
+    requires kinds { length container_stack.now ≤ length kinds.old }
+    ensures held { frames_by (take (length container_stack.now) lefts.new) (take (length container_stack.now) kinds.new)
+        ≡ container_stack.now }
+    ensures lefts { drop (length container_stack.now) lefts.new ≡ drop (length container_stack.now) lefts.old }
+    ensures kinds { drop (length container_stack.now) kinds.new ≡ drop (length container_stack.now) kinds.old }
 {
-    for i in 0..nest.len() {
-        let (left, kind) = frame_codes(nest.frame(i));
+    for i in 0..container_stack.len() {
+        let (left, kind) = frame_codes(container_stack.frame(i));
         lefts[i] = left;
         kinds[i] = kind;
     }
@@ -177,17 +180,17 @@ fn flag_of(code: u8) -> bool
     }
 }
 
-fn kind_of(code: u8) -> Numbered
+fn kind_of(code: u8) -> ArgumentType
     ensures { result ≡ kind_at code }
 {
     match code {
-        0 => Numbered::Unsigned,
-        1 => Numbered::Negative,
-        2 => Numbered::Bytes,
-        3 => Numbered::Text,
-        4 => Numbered::Array,
-        5 => Numbered::Map,
-        _ => Numbered::Tag,
+        0 => ArgumentType::Unsigned,
+        1 => ArgumentType::Negative,
+        2 => ArgumentType::Bytes,
+        3 => ArgumentType::Text,
+        4 => ArgumentType::Array,
+        5 => ArgumentType::Map,
+        _ => ArgumentType::Tag,
     }
 }
 
@@ -223,28 +226,28 @@ pub(crate) fn refusal_at(code: u8, place: u64, read: u64) -> Option<Refusal>
 }
 
 // Opens these containers in place of what is open.
-pub(crate) fn open_frames(nest: &mut Nest, lefts: &[u64], kinds: &[u8])
+pub(crate) fn open_frames(container_stack: &mut ContainerStack, lefts: &[u64], kinds: &[u8])
     requires open { length lefts.now ≤ MOST_OPEN }
     requires same { length kinds.now ≡ length lefts.now }
-    ensures frames { nest.new ≡ frames_by lefts.now kinds.now }
-    ensures count { length nest.new ≡ length lefts.now }
+    ensures frames { container_stack.new ≡ frames_by lefts.now kinds.now }
+    ensures count { length container_stack.new ≡ length lefts.now }
 {
-    nest.clear();
+    container_stack.clear();
     for i in 0..lefts.len() {
-        nest.push(due_of(kinds[i]), lefts[i]);
+        container_stack.push(expected_of(kinds[i]), lefts[i]);
     }
 }
 
-fn due_of(code: u8) -> Due
-    ensures { (left : ℕ) → due_frame result left ≡ frame_by left code }
+fn expected_of(code: u8) -> Slot
+    ensures { (left : ℕ) → expected_frame result left ≡ frame_by left code }
 {
     match code {
-        0 => Due::Item,
-        1 => Due::IndefiniteItem,
-        2 => Due::Key,
-        3 => Due::Value,
-        4 => Due::IndefiniteKey,
-        5 => Due::IndefiniteValue,
-        _ => Due::Content,
+        0 => Slot::Item,
+        1 => Slot::IndefiniteItem,
+        2 => Slot::Key,
+        3 => Slot::Value,
+        4 => Slot::IndefiniteKey,
+        5 => Slot::IndefiniteValue,
+        _ => Slot::Content,
     }
 }

@@ -2,17 +2,19 @@
 
 ghost use Rattle.std.specs.Prelude.{◌≡◌, ◌↔◌, ◌*◌, ◌+◌, ◌^◌, ◌<◌, ◌≤◌, ◌-◌, IfSome, IsTrue, Some};
 ghost use Rattle.std.specs.Prelude.{List, drop, false, length, true};
-ghost use Rattle.cbor_standing.specs.MachineView.{MachineView};
+ghost use Rattle.cbor_machine.specs.MachineView.{MachineView};
 ghost use Rattle.cbor_machine.specs.Saved.{AreZeros, Holds, Starts};
-ghost use Rattle.cbor_steps.specs.State.{IsFit, IsSettled};
-ghost use Rattle.cbor_steps.specs.declared.frame.Frame.{Frame};
+ghost use Rattle.cbor_machine.specs.State.{IsFit, IsSettled};
+ghost use Rattle.cbor_machine.specs.declared.frame.Frame.{Frame};
 
+use crate::frame::MOST_OPEN;
 use crate::machine::Machine;
 use crate::machine::codes::{
     codes_of, open_frames, position_of, refusal_at, refusal_codes, save_frames,
 };
+use crate::opening::ArgumentType;
+use crate::position::Position;
 use cbor_head::{Limits, Width};
-use cbor_steps::{MOST_OPEN, Numbered, Position};
 
 /// A machine as plain numbers, in the layout of C.
 ///
@@ -26,8 +28,8 @@ pub struct SavedMachine {
     pub bytes: u64,
     /// How many bytes were taken.
     pub taken: u64,
-    /// How many of them the events told stand for.
-    pub told: u64,
+    /// How many of them the events reported stand for.
+    pub reported: u64,
     /// Of the open head its argument so far; of the open payload, how many bytes follow the next.
     pub number: u64,
     /// The offset of what was refused.
@@ -36,8 +38,8 @@ pub struct SavedMachine {
     pub depth: u16,
     /// How many containers are open.
     pub open: u16,
-    /// 0 an item is due, 1 within a head, 2 the number of a simple value is due, 3 within a
-    /// payload, 4 a chunk is due; another number behind the item.
+    /// 0 an item is expected, 1 within a head, 2 the number of a simple value is expected, 3 within a
+    /// payload, 4 a chunk is expected; another number behind the item.
     pub position: u8,
     /// The major type of the head, payload or string; from 6 on, a tag.
     pub kind: u8,
@@ -50,9 +52,9 @@ pub struct SavedMachine {
     /// The number of the reason that the item was refused for, 2 to 9; 0 where it was not.
     pub reason: u8,
     /// Of each open container, the outermost first, how many members, or pairs, follow the one that
-    /// is due.
+    /// is expected.
     pub lefts: [u64; MOST_OPEN],
-    /// What each is: 0 an array, 1 one of indefinite length; 2 a map, 3 one whose value is due, 4
+    /// What each is: 0 an array, 1 one of indefinite length; 2 a map, 3 one whose value is expected, 4
     /// and 5 the same of indefinite length; another number a tag.
     pub kinds: [u8; MOST_OPEN],
 }
@@ -61,7 +63,7 @@ pub struct SavedMachine {
 const ZEROS: SavedMachine = SavedMachine {
     bytes: 0,
     taken: 0,
-    told: 0,
+    reported: 0,
     number: 0,
     place: 0,
     depth: 0,
@@ -101,7 +103,7 @@ impl Machine {
         saved
     }
 
-    /// The same in place of what was saved there. Behind the open containers all stays.
+    /// Saves the machine over what was saved there. What stands behind the open containers stays.
     pub fn save_into(&self, saved: &mut SavedMachine)
         ensures holds { Holds saved.new self.now }
         ensures lefts { drop self.now.open_count saved.new.lefts
@@ -113,18 +115,18 @@ impl Machine {
         let (reason, place) = refusal_codes(self.refusal);
         saved.bytes = self.limits.bytes();
         saved.taken = self.taken;
-        saved.told = self.told;
+        saved.reported = self.reported;
         saved.number = codes.number;
         saved.place = place;
         saved.depth = self.limits.depth();
-        saved.open = self.nest.len() as u16;
+        saved.open = self.container_stack.len() as u16;
         saved.position = codes.position;
         saved.kind = codes.kind;
         saved.width = codes.width;
         saved.left = codes.left;
         saved.chunk = codes.chunk;
         saved.reason = reason;
-        save_frames(&self.nest, &mut saved.lefts, &mut saved.kinds);
+        save_frames(&self.container_stack, &mut saved.lefts, &mut saved.kinds);
     }
 
     /// The machine that these numbers hold: the one that was saved. None where they hold none, as
@@ -162,25 +164,29 @@ impl Machine {
             return false;
         }
         let refusal = refusal_at(saved.reason, saved.place, saved.taken);
-        if refusal.is_none() && saved.told != saved.taken && is_settled(position, saved.open) {
+        if refusal.is_none() && saved.reported != saved.taken && is_settled(position, saved.open) {
             return false;
         }
         self.limits = limits;
         self.taken = saved.taken;
-        self.told = saved.told;
+        self.reported = saved.reported;
         self.position = position;
         self.refusal = refusal;
         let open = usize::from(saved.open);
-        open_frames(&mut self.nest, &saved.lefts[..open], &saved.kinds[..open]);
+        open_frames(
+            &mut self.container_stack,
+            &saved.lefts[..open],
+            &saved.kinds[..open],
+        );
         true
     }
 }
 
-// Whether the argument has room for the bytes that are left, and a container beside so many that
+// Whether the argument has space for the bytes that are left, and a container beside so many that
 // are open; behind the item nothing is open.
 fn is_fit(depth: u16, position: Position, count: u16) -> bool
-    ensures { (nest : List Frame) → length nest ≡ count
-        → (IsTrue result ↔ IsFit depth nest position) }
+    ensures { (container_stack : List Frame) → length container_stack ≡ count
+        → (IsTrue result ↔ IsFit depth container_stack position) }
 {
     match position {
         Position::Head {
@@ -194,7 +200,10 @@ fn is_fit(depth: u16, position: Position, count: u16) -> bool
             argument,
             ..
         } => {
-            let opens = matches!(kind, Numbered::Array | Numbered::Map | Numbered::Tag);
+            let opens = matches!(
+                kind,
+                ArgumentType::Array | ArgumentType::Map | ArgumentType::Tag
+            );
             has_bytes_left(argument, left) && (chunk || !opens || count < depth)
         }
         Position::Done => count == 0,
@@ -202,7 +211,7 @@ fn is_fit(depth: u16, position: Position, count: u16) -> bool
     }
 }
 
-// Whether an argument so far has room for one byte and these more.
+// Whether an argument so far has space for one byte and these more.
 fn has_bytes_left(argument: u64, left: u8) -> bool
     ensures { IsTrue result ↔ ((argument + 1) * 256 ^ (left + 1) ≤ 2 ^ 64) }
 {
@@ -221,8 +230,8 @@ fn has_bytes_left(argument: u64, left: u8) -> bool
 
 // Whether no head is open, where so many containers are.
 fn is_settled(position: Position, count: u16) -> bool
-    ensures { (nest : List Frame) → length nest ≡ count
-        → (IsTrue result ↔ IsSettled nest position) }
+    ensures { (container_stack : List Frame) → length container_stack ≡ count
+        → (IsTrue result ↔ IsSettled container_stack position) }
 {
     match position {
         Position::Head { .. } | Position::SimpleNumber => false,

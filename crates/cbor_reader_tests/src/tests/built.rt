@@ -31,7 +31,7 @@ const MAP: u8 = 0xa0;
 
 // So many zeros or bytes without a length: an array's members, or a string's chunks of one byte, and
 // the break.
-fn endless(alloc: Global, major: u8, byte: u8, count: u32) -> Result<Case, AllocError> {
+fn indefinite(alloc: Global, major: u8, byte: u8, count: u32) -> Result<Case, AllocError> {
     let mut input = Vec::new(alloc);
     let mut canonical = Vec::new(alloc);
     input.push(major | 31)?;
@@ -97,19 +97,19 @@ fn builds_each_size(rt: HostRuntime) -> Result<(), Fail> {
         look_for(
             &rt,
             alloc,
-            &endless(alloc, BYTES, 0xff, count)?,
+            &indefinite(alloc, BYTES, 0xff, count)?,
             "chunks of bytes",
         );
         look_for(
             &rt,
             alloc,
-            &endless(alloc, TEXT, b'a', count)?,
+            &indefinite(alloc, TEXT, b'a', count)?,
             "chunks of text",
         );
         look_for(
             &rt,
             alloc,
-            &endless(alloc, ARRAY, 0, count)?,
+            &indefinite(alloc, ARRAY, 0, count)?,
             "array without length",
         );
         look_for(&rt, alloc, &falling_map(alloc, count, true)?, "map");
@@ -131,7 +131,7 @@ fn builds_large_sizes(rt: HostRuntime) -> Result<(), Fail> {
         look_for(
             &rt,
             alloc,
-            &endless(alloc, ARRAY, 0, count)?,
+            &indefinite(alloc, ARRAY, 0, count)?,
             "array without length",
         );
     }
@@ -140,7 +140,7 @@ fn builds_large_sizes(rt: HostRuntime) -> Result<(), Fail> {
 
 // Slices, the canonical bytes of the items that they begin with, how many bytes these have, and
 // whether they are canonical as they stand.
-static FRONTS: &str = "
+static PREFIXES: &str = "
 00ff | | 00 | 1 borrowed | 0
 1800ff | | 00 | 2 built | 0
 a263416d74216346756ef500 | | a263416d74216346756ef5 | 11 borrowed | two keys in order
@@ -149,9 +149,9 @@ bf6346756ef563416d7421ffff | | a263416d74216346756ef5 | 12 built | two keys, fal
 ";
 
 #[test]
-fn builds_the_front_of_a_slice(rt: HostRuntime) -> Result<(), Fail> {
+fn builds_the_prefix_of_a_slice(rt: HostRuntime) -> Result<(), Fail> {
     let mut items = ItemCanonicaliser::new(rt.alloc());
-    for row in &rows_of(rt.alloc(), FRONTS)? {
+    for row in &rows_of(rt.alloc(), PREFIXES)? {
         let wanted = bytes_of(rt.alloc(), row.plain)?;
         let again = items.canonicalise(&row.input, row.limits, KeyOrder::Bytewise);
         let (bytes, size) = again.map_err(|_| "the item was refused")?;
@@ -167,8 +167,8 @@ fn builds_the_front_of_a_slice(rt: HostRuntime) -> Result<(), Fail> {
             CowSlice::Borrowed(_) => "borrowed",
             CowSlice::Owned(_) => "built",
         };
-        let told = format!(in rt.alloc(); "{size} {how}")?;
-        assert!(rt; told.as_str() == row.strict, "{}", row.line);
+        let reported = format!(in rt.alloc(); "{size} {how}")?;
+        assert!(rt; reported.as_str() == row.strict, "{}", row.line);
     }
     Ok(())
 }

@@ -61,7 +61,7 @@ fn last_of(
 }
 
 #[test]
-fn tells_strict_events(rt: HostRuntime) -> Result<(), Fail> {
+fn reports_strict_events(rt: HostRuntime) -> Result<(), Fail> {
     for row in &rows(rt.alloc())? {
         for &order in &ORDERS {
             let wanted = strict_text(rt.alloc(), row, order)?;

@@ -27,7 +27,7 @@ fn plain_calls_refuse(alloc: Global, input: &[u8], limits: Limits, refusal: Refu
     bytewise == Err(refusal) && length_first == Err(refusal)
 }
 
-// The same of the calls that keep to the strict rules.
+// Looks at the calls that go by the strict rules.
 fn strict_calls_refuse(alloc: Global, input: &[u8], limits: Limits, refusal: Refusal) -> bool {
     for order in [KeyOrder::Bytewise, KeyOrder::LengthFirst] {
         for part in [1, usize::MAX] {
@@ -56,16 +56,16 @@ fn others_refuse(
     limits: Limits,
     refusal: Refusal,
 ) -> bool {
-    let front = &whole[..cut.min(whole.len())];
-    let left = same_meaning(alloc, front, whole, limits);
-    let right = same_meaning(alloc, whole, front, limits);
-    let mut items = Sequence::new(alloc, front, limits);
-    let is_told = match items.next() {
-        None => front.is_empty(),
+    let prefix = &whole[..cut.min(whole.len())];
+    let left = same_meaning(alloc, prefix, whole, limits);
+    let right = same_meaning(alloc, whole, prefix, limits);
+    let mut items = Sequence::new(alloc, prefix, limits);
+    let is_reported = match items.next() {
+        None => prefix.is_empty(),
         Some(Ok(_)) => false,
-        Some(Err(given)) => given == refusal && !front.is_empty(),
+        Some(Err(given)) => given == refusal && !prefix.is_empty(),
     };
-    left == Err((Side::Left, refusal)) && right == Err((Side::Right, refusal)) && is_told
+    left == Err((Side::Left, refusal)) && right == Err((Side::Right, refusal)) && is_reported
 }
 
 // Whether an item is refused as it should be, where the input or the limit ends within it.
@@ -74,12 +74,12 @@ fn is_cut_at(alloc: Global, item: &[u8], cut: usize, is_strict: bool) -> Option<
     let short = Limits::new(256, cut as u64)?;
     let truncated = Refusal::at(Reason::Truncated, cut as u64);
     let too_long = Refusal::at(Reason::TooLong, cut as u64);
-    let front = &item[..cut.min(item.len())];
-    let is_plain = plain_calls_refuse(alloc, front, wide, truncated)
+    let prefix = &item[..cut.min(item.len())];
+    let is_plain = plain_calls_refuse(alloc, prefix, wide, truncated)
         && plain_calls_refuse(alloc, item, short, too_long)
         && others_refuse(alloc, item, cut, wide, truncated);
     let is_strict = !is_strict
-        || strict_calls_refuse(alloc, front, wide, truncated)
+        || strict_calls_refuse(alloc, prefix, wide, truncated)
             && strict_calls_refuse(alloc, item, short, too_long);
     Some(is_plain && is_strict)
 }
@@ -87,7 +87,7 @@ fn is_cut_at(alloc: Global, item: &[u8], cut: usize, is_strict: bool) -> Option<
 // Each item of the conformance table that is accepted within the widest limits. The calls with the
 // strict rules are asked only about what is canonical in both orders.
 #[test]
-fn refuses_each_front_of_an_item(rt: HostRuntime) -> Result<(), Fail> {
+fn refuses_each_prefix_of_an_item(rt: HostRuntime) -> Result<(), Fail> {
     for row in &rows(rt.alloc())? {
         if !row.column.is_empty() || is_refused(row.plain) {
             continue;

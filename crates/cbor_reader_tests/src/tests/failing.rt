@@ -1,4 +1,4 @@
-//! Readers that fail once, at each place, and then go on giving: the failure is told where the bytes
+//! Readers that fail once, at each place, and then go on giving: the failure is reported where the bytes
 //! before it call for no answer yet, and no read is tried again.
 
 use super::conformance_rows::{Row, rows, rows_of, text_of};
@@ -73,7 +73,7 @@ fn taken(answer: Result<u64, Refusal>) -> u64 {
 
 // What is wanted of a reader that fails behind so many bytes, by the answer of one that doesn't. It
 // is asked for another byte where not all was given that the answer takes; and once more where the
-// input was at its end, for all that the call could tell.
+// input was at its end, for all that the call could report.
 fn wanted(usual: Result<u64, Refusal>, place: u64) -> Result<u64, Refusal> {
     let asks_again = match usual {
         Err(refusal) => refusal.reason == Reason::Truncated && place == refusal.read,
@@ -100,8 +100,8 @@ fn answer<R: Read>(
 }
 
 // Whether such a call answers what is wanted of a reader that fails behind so many bytes, and takes
-// as many bytes as the answer tells.
-fn tells_failure(alloc: Global, row: &Row, order: Option<KeyOrder>, place: usize) -> bool {
+// as many bytes as the answer reports.
+fn reports_failure(alloc: Global, row: &Row, order: Option<KeyOrder>, place: usize) -> bool {
     let usual = answer(alloc, &mut row.input.as_slice(), row.limits, order);
     for way in 0..2 {
         let mut reader = Stumbling::in_way(&row.input, way, place);
@@ -116,7 +116,7 @@ fn tells_failure(alloc: Global, row: &Row, order: Option<KeyOrder>, place: usize
     true
 }
 
-// Whether a sequence tells the failure within its first item, and then no more, though the reader
+// Whether a sequence reports the failure within its first item, and then no more, though the reader
 // would go on.
 fn ends_a_sequence(alloc: Global, input: &[u8], limits: Limits, place: usize) -> bool {
     let plain = counted(read_tree(alloc, &mut &input[..], limits));
@@ -124,22 +124,22 @@ fn ends_a_sequence(alloc: Global, input: &[u8], limits: Limits, place: usize) ->
         return true;
     }
     let mut items = Sequence::new(alloc, Stumbling::in_way(input, 0, place), limits);
-    let is_told = match items.next() {
+    let is_reported = match items.next() {
         Some(Err(refusal)) => refusal == Refusal::at(Reason::Read, place as u64),
         _ => false,
     };
-    is_told && items.next().is_none() && items.next_strict(KeyOrder::Bytewise).is_none()
+    is_reported && items.next().is_none() && items.next_strict(KeyOrder::Bytewise).is_none()
 }
 
 // Each row of the conformance table, with the failure at each place. What its calls answer without
 // a failure is tested there.
 #[test]
-fn tells_a_failure_at_each_place(rt: HostRuntime) -> Result<(), Fail> {
+fn reports_a_failure_at_each_place(rt: HostRuntime) -> Result<(), Fail> {
     for row in &rows(rt.alloc())? {
         for place in 0..=row.input.len() {
-            let is_right = tells_failure(rt.alloc(), row, None, place)
-                && tells_failure(rt.alloc(), row, Some(KeyOrder::Bytewise), place)
-                && tells_failure(rt.alloc(), row, Some(KeyOrder::LengthFirst), place)
+            let is_right = reports_failure(rt.alloc(), row, None, place)
+                && reports_failure(rt.alloc(), row, Some(KeyOrder::Bytewise), place)
+                && reports_failure(rt.alloc(), row, Some(KeyOrder::LengthFirst), place)
                 && ends_a_sequence(rt.alloc(), &row.input, row.limits, place);
             assert!(rt; is_right, "{}, failing at {place}", row.line);
         }
@@ -156,16 +156,16 @@ static FAILURES: &str = "
 ";
 
 #[test]
-fn tells_what_stood_before_the_failure(rt: HostRuntime) -> Result<(), Fail> {
+fn reports_what_stood_before_the_failure(rt: HostRuntime) -> Result<(), Fail> {
     let alloc = rt.alloc();
     for row in &rows_of(alloc, FAILURES)? {
         for way in 0..2 {
             let mut reader = Stumbling::in_way(&row.input, way, row.input.len());
-            let is_told = match read_tree(alloc, &mut reader, row.limits) {
+            let is_reported = match read_tree(alloc, &mut reader, row.limits) {
                 Ok(_) => false,
                 Err(refusal) => text_of(alloc, refusal)?.as_str() == row.plain,
             };
-            assert!(rt; is_told, "{}", row.line);
+            assert!(rt; is_reported, "{}", row.line);
         }
     }
     // {1: 0} is accepted without a byte more

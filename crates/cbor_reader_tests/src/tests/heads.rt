@@ -3,7 +3,7 @@
 use std::alloc::{AllocError, Global};
 
 // An input, and its canonical bytes in either order. What fills them borrows them: an owner of both
-// would owe at each `?` that they may be let go there.
+// would owe at each `?` that they may be dropped there.
 #[derive(Drop)]
 pub(super) struct Case {
     pub(super) input: Vec<u8>,
@@ -30,7 +30,7 @@ pub(super) fn push_head(bytes: &mut Vec<u8>, major: u8, number: u32) -> Result<(
     }
 }
 
-// The same in eight bytes of argument.
+// The head with an argument of eight bytes.
 pub(super) fn push_wide_head(
     bytes: &mut Vec<u8>,
     major: u8,
@@ -63,7 +63,7 @@ fn push_wide_string(bytes: &mut Vec<u8>, major: u8, byte: u8, size: u32) -> Resu
     push_times(bytes, byte, size)
 }
 
-// The same, with a wide head.
+// The item with a wide head.
 pub(super) fn wide(alloc: Global, major: u8, byte: u8, size: u32) -> Result<Case, AllocError> {
     let mut case = Case::empty(alloc);
     push_wide_string(&mut case.input, major, byte, size)?;

@@ -20,9 +20,9 @@ fn map_of(alloc: Global, length: u8, ends: [u8; 2]) -> Result<Vec<u8>, AllocErro
     Ok(bytes)
 }
 
-// Two keys of each length are told apart by their last byte alone, and found to be equal.
+// Two keys of each length are distinguished by their last byte alone, and found to be equal.
 #[test]
-fn tells_keys_apart_at_each_length(rt: HostRuntime) -> Result<(), Fail> {
+fn distinguishes_keys_at_each_length(rt: HostRuntime) -> Result<(), Fail> {
     let alloc = rt.alloc();
     for length in 1..23 {
         let limits = limits(&rt, 256, 64);

@@ -47,7 +47,7 @@ fn becomes(alloc: Global, input: &[u8], canonical: &[u8], limits: Limits) -> boo
 }
 
 impl Case {
-    fn is_told(&self, alloc: Global, limits: Limits) -> bool {
+    fn is_reported(&self, alloc: Global, limits: Limits) -> bool {
         becomes(alloc, &self.input, &self.canonical, limits)
     }
 }
@@ -79,9 +79,9 @@ fn strings_of_each_size(rt: HostRuntime) -> Result<(), AllocError> {
     for size in SIZES {
         for (major, byte) in STRINGS {
             let string = wide(alloc, major, byte, size)?;
-            assert!(rt; string.is_told(alloc, limits), "{major}, {size} bytes");
+            assert!(rt; string.is_reported(alloc, limits), "{major}, {size} bytes");
             let map = map_from(alloc, &string)?;
-            assert!(rt; map.is_told(alloc, limits), "{major}, {size} in a key");
+            assert!(rt; map.is_reported(alloc, limits), "{major}, {size} in a key");
         }
     }
     Ok(())
@@ -108,7 +108,7 @@ fn chunks_of_each_size(rt: HostRuntime) -> Result<(), AllocError> {
     for size in SIZES {
         for (major, byte) in STRINGS {
             let chunks = chunks_of(alloc, major, byte, size)?;
-            assert!(rt; chunks.is_told(alloc, limits), "{major}, {size} and 1");
+            assert!(rt; chunks.is_reported(alloc, limits), "{major}, {size} and 1");
         }
     }
     Ok(())
@@ -137,8 +137,8 @@ fn arrays_of_each_size(rt: HostRuntime) -> Result<(), AllocError> {
     for size in SIZES {
         let streamed = streamed_array(alloc, size)?;
         if size <= 4097 {
-            let is_right = wide(alloc, 0x80, 0, size)?.is_told(alloc, limits)
-                && streamed.is_told(alloc, limits);
+            let is_right = wide(alloc, 0x80, 0, size)?.is_reported(alloc, limits)
+                && streamed.is_reported(alloc, limits);
             assert!(rt; is_right, "{size} members");
         }
         let given = canonicalise(alloc, &streamed.input, limits, KeyOrder::Bytewise);
@@ -207,12 +207,12 @@ fn maps_of_each_size(rt: HostRuntime) -> Result<(), AllocError> {
             continue;
         }
         let falling = falling_map(alloc, size)?;
-        assert!(rt; falling.is_told(alloc, limits), "{size} pairs, falling");
+        assert!(rt; falling.is_reported(alloc, limits), "{size} pairs, falling");
         let rising = &falling.canonical;
         assert!(rt; becomes(alloc, rising, rising, limits), "{size} pairs");
         if size % 2 == 0 {
             let turned = turned_map(alloc, size)?;
-            assert!(rt; turned.is_told(alloc, limits), "{size} pairs, turned");
+            assert!(rt; turned.is_reported(alloc, limits), "{size} pairs, turned");
         }
     }
     Ok(())

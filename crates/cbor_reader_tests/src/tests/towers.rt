@@ -178,7 +178,7 @@ fn refusal_behind(opens: &[u8], is_key: bool, limit: u16) -> Refusal {
 }
 
 // Limits on depth: small ones, and those around each number of open containers for which the calls
-// keep other room.
+// keep other space.
 static LIMITS: [(u16, u16); 4] = [(0, 40), (125, 131), (253, 259), (1021, 1024)];
 
 fn look_at(

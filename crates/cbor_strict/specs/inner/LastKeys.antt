@@ -2,21 +2,21 @@
 use Rattle.std.specs.Prelude.{◌≡◌, ◌≢◌, ℕ, suc, ◌+◌, ◌-◌, ◌++◌, Bool, true, false, if◌then◌else◌, IsTrue, List, [], ◌∷◌, length, slice_set, Result, MatchResult}
 use Rattle.cbor_head.specs.Prelude.{head, key_lt, Spelling, SpelledEntries, no_spellings, no_entries, entry, spell, spell_entries, entries_count}
 use Rattle.cbor_head.specs.declared.{major.Major.TheVariants.Map, order.KeyOrder.KeyOrder, width.Width.Width, width.Width.TheVariants.Indefinite}
-use Rattle.cbor_judging.specs.Frame.{Frame, a_member, a_key, a_content, tagged, plug, before}
-use Rattle.cbor_judging.specs.LastKey.{last_key}
-use Rattle.cbor_strict.specs.declared.last_keys.Due.TheVariants.{Member, Key, Content}
-use Rattle.cbor_strict.specs.declared.last_keys.{Due.Due, LastKeys.LastKeys, Span.Span}
+use Rattle.cbor_verdict.specs.Frame.{Frame, a_member, a_key, a_content, tagged, plug, before}
+use Rattle.cbor_verdict.specs.LastKey.{last_key}
+use Rattle.cbor_strict.specs.declared.last_keys.Expected.TheVariants.{Member, Key, Content}
+use Rattle.cbor_strict.specs.declared.last_keys.{Expected.Expected, LastKeys.LastKeys, KeySpan.KeySpan}
 
 pub record KeysView : Type 0 where
-  -- what is due in each
-  pub levels : List Due
-  pub spans : List Span
+  -- what is expected in each
+  pub levels : List Expected
+  pub spans : List KeySpan
   pub bytes : List ℕ
   -- in how many keys that are not complete the item in the innermost stands
   pub open_keys : ℕ
 
-abbrev pub seen : LastKeys → KeysView
-seen k = record { levels = k.levels.items; spans = k.spans.items; bytes = k.bytes.items; open_keys = k.open_keys }
+abbrev pub view_value : LastKeys → KeysView
+view_value k = record { levels = k.levels.items; spans = k.spans.items; bytes = k.bytes.items; open_keys = k.open_keys }
 
 -- the same containers with the outermost first
 abbrev pub from_outside : List Frame → List Frame
@@ -37,14 +37,14 @@ abbrev pub keys_around : List Frame → ℕ
 keys_around [] = 0
 keys_around (f ∷ fs) = if is_key f then suc (keys_around fs) else keys_around fs
 
-abbrev pub due_of : Frame → Due
-due_of (a_key w a v b) = Key
-due_of (a_content w a k b) = Content
-due_of _ = Member
+abbrev pub expected_of : Frame → Expected
+expected_of (a_key w a v b) = Key
+expected_of (a_content w a k b) = Content
+expected_of _ = Member
 
-abbrev pub levels_of : List Frame → List Due
+abbrev pub levels_of : List Frame → List Expected
 levels_of [] = []
-levels_of (f ∷ fs) = levels_of fs ++ due_of f ∷ []
+levels_of (f ∷ fs) = levels_of fs ++ expected_of f ∷ []
 
 -- how many bytes stand before the last key of these pairs
 abbrev pub before_last : SpelledEntries → ℕ
@@ -67,11 +67,11 @@ kept_bytes (f ∷ fs) p = if stands_in_key fs then kept_bytes fs (before f ++ p)
 abbrev pub kept_before : List Frame → ℕ
 kept_before fs = length (kept_bytes fs [])
 
-abbrev pub span : ℕ → ℕ → ℕ → Span
+abbrev pub span : ℕ → ℕ → ℕ → KeySpan
 span from to next = record { from = from; to = to; next = next }
 
 -- where the last complete key of the innermost map lies, and where the next one begins
-abbrev pub spans_in : Frame → List Frame → List Span
+abbrev pub spans_in : Frame → List Frame → List KeySpan
 spans_in (a_content w a k b) fs =
     let from = kept_before fs + (if stands_in_key fs then length (head Map w (entries_count a + suc (entries_count b)) ++ spell_entries a) else 0) in
     span from (from + length (spell k)) (from + length (spell k)) ∷ []
@@ -80,7 +80,7 @@ spans_in (a_key w a v b) fs =
     span from (from + length (last_key a)) (kept_before fs + (if stands_in_key fs then length (before (a_key w a v b)) else length (last_key a))) ∷ []
 spans_in _ fs = []
 
-abbrev pub spans_of : List Frame → List Span
+abbrev pub spans_of : List Frame → List KeySpan
 spans_of [] = []
 spans_of (f ∷ fs) = spans_of fs ++ spans_in f fs
 
@@ -93,7 +93,7 @@ pub record IsKept (k : KeysView) (fs : List Frame) (p : List ℕ) : Type 0 where
 
 -- ---- an item ends
 
--- the frame of a container that has a length, whose last item is the one that is due
+-- the frame of a container that has a length, whose last item is the one that is expected
 abbrev pub IsFull : Frame → Type 0
 IsFull (a_member w a no_spellings) = w ≢ Indefinite
 IsFull (a_content w a k no_entries) = w ≢ Indefinite
@@ -144,10 +144,10 @@ AnswersKeyEnd o old new result =
     (λ u. IsTrue (key_lt o (last_key a) (spell s)) × IsKept new (a_content w a s b ∷ fs) [])
     (λ n. ¬ IsTrue (key_lt o (last_key a) (spell s)) × (n ≡ length (spell s)))
 
--- this is due in the innermost map, and there lies its last key
-abbrev pub with_last : KeysView → Due → Span → KeysView
-with_last k due sp = record { levels = slice_set k.levels (length k.levels - 1) due; spans = slice_set k.spans (length k.spans - 1) sp; bytes = k.bytes; open_keys = k.open_keys }
+-- this is expected in the innermost map, and there lies its last key
+abbrev pub with_last : KeysView → Expected → KeySpan → KeysView
+with_last k expected sp = record { levels = slice_set k.levels (length k.levels - 1) expected; spans = slice_set k.spans (length k.spans - 1) sp; bytes = k.bytes; open_keys = k.open_keys }
 
--- the last complete key of the innermost map is all from there on, and its value is due
+-- the last complete key of the innermost map is all from there on, and its value is expected
 abbrev pub with_key : KeysView → ℕ → KeysView
 with_key k from = with_last k Content (span from (length k.bytes) (length k.bytes))

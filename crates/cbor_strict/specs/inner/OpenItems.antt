@@ -7,16 +7,16 @@ use Rattle.cbor_head.specs.declared.{reason.Refusal.Refusal, width.Width.Width}
 use Rattle.cbor_text.specs.TextCheck.{HasChecked}
 use Rattle.cbor_automaton.specs.declared.event.EventKind.TheVariants as kinds
 use Rattle.cbor_automaton.specs.{Marks.mark_of, Marks.IsProper, declared.event.Event.Event, declared.event.EventKind.EventKind}
-use Rattle.cbor_standing.specs.NextEvent.{ItemEventsView}
-use Rattle.cbor_judging.specs.Place.{Container, Place, at_item, counted, close, payload, done as at_end, IsTaking}
-use Rattle.cbor_judging.specs.Frame.{Frame, a_member, a_key, a_content, tagged}
-use Rattle.cbor_judging.specs.OpenMaps.{before_all, AreOpen, AreOpenDistinct}
-use Rattle.cbor_judging.specs.Reading.{AreRefused, IsAt, IsBegun, string_kind, string_major}
+use Rattle.cbor_machine.specs.NextEvent.{ItemEventsView}
+use Rattle.cbor_verdict.specs.Place.{Container, Place, at_item, counted, close, payload, done as at_end, IsTaking}
+use Rattle.cbor_verdict.specs.Frame.{Frame, a_member, a_key, a_content, tagged}
+use Rattle.cbor_verdict.specs.OpenMaps.{before_all, AreOpen, AreOpenDistinct}
+use Rattle.cbor_verdict.specs.Reading.{AreRefused, IsAt, IsBegun, string_kind, string_major}
 use Rattle.cbor_strict.specs.declared.open_items.Begun.TheVariants.{Leaf, String, Map as BegunMap, Other}
-use Rattle.cbor_strict.specs.inner.LastKeys.{seen, from_outside, IsKept}
+use Rattle.cbor_strict.specs.inner.LastKeys.{view_value, from_outside, IsKept}
 use Rattle.cbor_strict.specs.declared.open_items.{Begun.Begun, OpenItems.OpenItems}
 
--- an open container, as the events count what is due in it
+-- an open container, as the events count what is expected in it
 abbrev pub counted_in : Frame → Container
 counted_in (a_member w a b) = counted (spellings_count b)
 counted_in (a_key w a v b) = counted (suc (entries_count b + entries_count b))
@@ -36,16 +36,16 @@ pub record AreOpenClean (v : OpenItems) (b : Bounds) (fs : List Frame) : Type 0 
   pub are : AreOpen (strict v.order) b.depth (from_outside fs)
   pub distinct : AreOpenDistinct (strict v.order) 0 (from_outside fs)
 
--- an item is due
-pub record IsItemDue (v : OpenItems) (b : Bounds) (e : ItemEventsView) (t : List ℕ) : Type 0 where
+-- an item is expected
+pub record IsItemExpected (v : OpenItems) (b : Bounds) (e : ItemEventsView) (t : List ℕ) : Type 0 where
   pub fs : List Frame
   pub around : AreOpenClean v b fs
   pub none : v.left ≡ 0
-  pub kept : IsKept (seen v.keys) fs []
+  pub kept : IsKept (view_value v.keys) fs []
   pub taken : t ≡ bytes_before fs
   pub at : IsAt b e t (at_item (frames_in fs))
 
--- the payload of a string is due, of which q was read
+-- the payload of a string is expected, of which q was read
 pub record IsInString (v : OpenItems) (b : Bounds) (e : ItemEventsView) (t : List ℕ) : Type 0 where
   pub fs : List Frame
   pub around : AreOpenClean v b fs
@@ -57,7 +57,7 @@ pub record IsInString (v : OpenItems) (b : Bounds) (e : ItemEventsView) (t : Lis
   pub holds : Holds w n
   pub clean : (c : Complaint) → OfHead (strict v.order) (length (bytes_before fs)) (string_major v.is_text) w n c → ⊥
   pub are_bytes : AreBytes q
-  pub kept : IsKept (seen v.keys) fs (head (string_major v.is_text) w n ++ q)
+  pub kept : IsKept (view_value v.keys) fs (head (string_major v.is_text) w n ++ q)
   pub taken : t ≡ bytes_before fs ++ (head (string_major v.is_text) w n ++ q)
   pub at : IsAt b e t (payload false (string_major v.is_text) v.left (frames_in fs))
   pub checked : v.is_text ≡ true → HasChecked v.check q
@@ -69,12 +69,12 @@ pub record IsOver (v : OpenItems) (b : Bounds) (e : ItemEventsView) (t : List �
   pub within : depth item ≤ b.depth
   pub clean : (c : Complaint) → Complains (strict v.order) 0 item c → ⊥
   pub none : v.left ≡ 0
-  pub kept : IsKept (seen v.keys) [] (spell item)
+  pub kept : IsKept (view_value v.keys) [] (spell item)
   pub taken : t ≡ spell item
   pub at : IsAt b e t at_end
 
 abbrev pub Stands : OpenItems → Bounds → ItemEventsView → List ℕ → Type 0
-Stands v b e t = IsItemDue v b e t ⊎ IsInString v b e t ⊎ IsOver v b e t
+Stands v b e t = IsItemExpected v b e t ⊎ IsInString v b e t ⊎ IsOver v b e t
 
 -- what is answered where these bytes are taken now
 abbrev pub Answers : Rules → OpenItems → Bounds → ItemEventsView → List ℕ → Result (Unit {0}) Refusal → Type 0
@@ -89,7 +89,7 @@ pub record HasEnded (v : OpenItems) (b : Bounds) (e : ItemEventsView) (t : List 
   pub within : depth item ≤ b.depth - length fs
   pub clean : (c : Complaint) → Complains (strict v.order) (length (bytes_before fs)) item c → ⊥
   pub none : v.left ≡ 0
-  pub kept : IsKept (seen v.keys) fs (spell item)
+  pub kept : IsKept (view_value v.keys) fs (spell item)
   pub taken : t ≡ bytes_before fs ++ spell item
   pub at : IsAt b e t (close (frames_in fs))
 
@@ -107,12 +107,12 @@ AnswersEnd old new count taken result =
     (b : Bounds) (e : ItemEventsView) (t : List ℕ) → HasEnded old b e t → count ≡ e.machine.open_count → taken ≡ e.machine.taken
     → Answers (strict old.order) new b e t result
 
--- the head of the item that is due has come: its bytes are x
+-- the head of the item that is expected has come: its bytes are x
 pub record HasHeadCome (v : OpenItems) (b : Bounds) (event : Event) (t x : List ℕ) (e : ItemEventsView) : Type 0 where
   pub fs : List Frame
   pub around : AreOpenClean v b fs
   pub none : v.left ≡ 0
-  pub kept : IsKept (seen v.keys) fs []
+  pub kept : IsKept (view_value v.keys) fs []
   pub taken : t ≡ bytes_before fs
   pub next : Place
   pub taking : IsTaking b.depth (at_item (frames_in fs)) (mark_of event.width event.kind) x next
@@ -181,7 +181,7 @@ pub record HasBegunIn (v : OpenItems) (b : Bounds) (w : Width) (kind : EventKind
   pub fs : List Frame
   pub around : AreOpenClean v b fs
   pub none : v.left ≡ 0
-  pub kept : IsKept (seen v.keys) fs x
+  pub kept : IsKept (view_value v.keys) fs x
   pub taken : t ≡ bytes_before fs
   pub begun : IsBegun (strict v.order) b (frames_in fs) t x e w kind
 
@@ -200,13 +200,13 @@ AnswersBegun old new kind count taken result =
     (b : Bounds) (w : Width) (t x : List ℕ) (e : ItemEventsView) → HasBegunIn old b w kind t x e → count ≡ e.machine.open_count → taken ≡ e.machine.taken
     → Answers (strict old.order) new b e (t ++ x) result
 
--- a part of the payload that is due has come
+-- a part of the payload that is expected has come
 pub record HasPartCome (v : OpenItems) (b : Bounds) (old : ItemEventsView) (t x : List ℕ) (e : ItemEventsView) : Type 0 where
-  pub due : IsInString v b old t
+  pub expected : IsInString v b old t
   pub some : 0 < length x
   pub fits : length x ≤ v.left
   pub are_bytes : AreBytes x
-  pub at : IsAt b e (t ++ x) (payload false (string_major v.is_text) (v.left - length x) (frames_in due.fs))
+  pub at : IsAt b e (t ++ x) (payload false (string_major v.is_text) (v.left - length x) (frames_in expected.fs))
 
 pub record IsPartCome (v : OpenItems) (x : List ℕ) (count taken : ℕ) : Type 0 where
   pub b : Bounds

@@ -1,13 +1,13 @@
--- What is told of the item at the front of an input, event by event, by the strict rules.
+-- What is reported of the item at the start of an input, event by event, by the strict rules.
 use Rattle.std.specs.Prelude.{◌≡◌, ℕ, ◌<◌, ◌≤◌, ◌++◌, Bool, true, false, List, [], length, Option, Some, None, Result, MatchResult, IfSome}
 use Rattle.cbor_head.specs.Prelude.{Rules, strict, Bounds, bounds, with_keys}
 use Rattle.cbor_head.specs.declared.{keys.Keys.Keys, order.KeyOrder.KeyOrder, reason.Refusal.Refusal}
 use Rattle.cbor_automaton.specs.{Trace.Mark, declared.event.Event.Event}
-use Rattle.cbor_standing.specs.NextEvent.{ItemEventsView, StandsBetween, Call, IsNext, IsNextEvent, IsEnd, call}
-use Rattle.cbor_standing.specs.{MachineView.MachineView, Machine.IsComplete}
+use Rattle.cbor_machine.specs.NextEvent.{ItemEventsView, StandsBetween, Call, IsNext, IsNextEvent, IsEnd, call}
+use Rattle.cbor_machine.specs.{MachineView.MachineView, Machine.IsComplete}
 use Rattle.cbor_events.specs.NextKey.{IsNextKey}
-use Rattle.cbor_judging.specs.{Kinds.KeepsToKinds, Readers.IsRead, Readers.Loses, RefusedBehind.IsRefusedBehind}
-use Rattle.cbor_strict.specs.{declared.open_items.OpenItems.OpenItems, inner.LastKeys.seen, inner.OpenItems.Stands, inner.OpenItems.IsOver}
+use Rattle.cbor_verdict.specs.{Kinds.KeepsToKinds, Readers.IsRead, Readers.Loses, RefusedBehind.IsRefusedBehind}
+use Rattle.cbor_strict.specs.{declared.open_items.OpenItems.OpenItems, inner.LastKeys.view_value, inner.OpenItems.Stands, inner.OpenItems.IsOver}
 
 -- some bytes are taken, and their keys are of these kinds
 pub record StandsSomewhere (keys : Keys) (v : OpenItems) (e : ItemEventsView) : Type 0 where
@@ -22,7 +22,7 @@ abbrev pub IsNextOf : Bool → Result (Option Event) Refusal → Call → Type 0
 IsNextOf true result c = IsNextKey result c
 IsNextOf false result c = IsNext result c
 
--- this event was told: its bytes are taken, and nothing read has a complaint
+-- this event was reported: its bytes are taken, and nothing read has a complaint
 pub record GoesOn (v : OpenItems) (b : Bounds) (e after : ItemEventsView) (t : List ℕ) (from to : Option (List ℕ)) (event : Event) : Type 0 where
   pub marks : List Mark
   pub between : StandsBetween e.machine t marks
@@ -46,13 +46,13 @@ IsStep None v b e after t from to = HasCome v b e after t from to
 abbrev pub AnswersStep : Keys → OpenItems → OpenItems → ItemEventsView → ItemEventsView → Option (List ℕ) → Option (List ℕ) → Result (Option Event) Refusal → Type 0
 AnswersStep keys old new e after from to result =
     (b : Bounds) (t : List ℕ) → b.keys ≡ keys → Stands old b e t → KeepsToKinds b (strict old.order) t
-    → MatchResult result (λ told. IsStep told new b e after t from to) (λ f. ¬ IsComplete e.machine × IsRefusedBehind (strict old.order) b t from to f)
+    → MatchResult result (λ reported. IsStep reported new b e after t from to) (λ f. ¬ IsComplete e.machine × IsRefusedBehind (strict old.order) b t from to f)
 
 -- at most a frame and a span for each open container, and no byte that was not read
 pub record IsLittle (v : OpenItems) (e : ItemEventsView) : Type 0 where
-  pub levels : length (seen v.keys).levels ≤ e.machine.open_count
-  pub spans : length (seen v.keys).spans ≤ e.machine.open_count
-  pub kept : length (seen v.keys).bytes ≤ e.machine.taken
+  pub levels : length (view_value v.keys).levels ≤ e.machine.open_count
+  pub spans : length (view_value v.keys).spans ≤ e.machine.open_count
+  pub kept : length (view_value v.keys).bytes ≤ e.machine.taken
 
 -- ---- what leads from one event to the next
 

@@ -1,27 +1,27 @@
 -- What a check of text keeps, and its steps.
 use Rattle.std.specs.Prelude.{◌≡◌, ℕ, ◌+◌, ◌<◌, ◌≤◌, List, ◌++◌, length, take, Option, MatchOption}
 use Rattle.std.specs.Str.{IsUtf8, IsValidUpTo}
-use Rattle.cbor_text.specs.declared.text_check.Front.TheVariants.{Whole, Open, Fixed}
+use Rattle.cbor_text.specs.declared.text_check.Prefix.TheVariants.{Whole, Open, Fixed}
 use Rattle.cbor_text.specs.declared.text_check.Filled.TheVariants.{Past, Short, Never}
-use Rattle.cbor_text.specs.declared.text_check.{Front.Front, Filled.Filled}
+use Rattle.cbor_text.specs.declared.text_check.{Prefix.Prefix, Filled.Filled}
 
--- a tail no front of which is text
+-- a tail no prefix of which is text
 abbrev pub IsUnfinished : List ℕ → Type 0
 IsUnfinished tail = (m : ℕ) → 0 < m → m ≤ length tail → ¬ (IsUtf8 (take m tail))
 
--- bytes whose longest valid front has n bytes, whatever may follow them
+-- bytes whose longest valid prefix has n bytes, whatever may follow them
 abbrev pub IsFixed : List ℕ → ℕ → Type 0
 IsFixed bytes n = (more : List ℕ) → IsValidUpTo (bytes ++ more) n
 
 -- bytes that are text up to a tail of at most three
 pub record IsOpen (bytes tail : List ℕ) : Type 0 where
-  pub front : List ℕ
-  pub joined : bytes ≡ front ++ tail
-  pub valid : IsUtf8 front
+  pub prefix : List ℕ
+  pub joined : bytes ≡ prefix ++ tail
+  pub valid : IsUtf8 prefix
   pub short : length tail < 4
   pub unfinished : IsUnfinished tail
 
--- the begun character, where what was pushed ends within one; and its longest valid front, once no byte can make it longer
+-- the begun character, where what was pushed ends within one; and its longest valid prefix, once no byte can make it longer
 pub record Found : Type 0 where
   pub carried : List ℕ
   pub fault : Option ℕ
@@ -33,7 +33,7 @@ pub record IsFound (found : Found) (bytes : List ℕ) : Type 0 where
 -- ---- the steps of a check
 
 -- how far bytes that begin where a character does are text
-abbrev pub IsJudged : List ℕ → Front → Type 0
+abbrev pub IsJudged : List ℕ → Prefix → Type 0
 IsJudged bytes Whole = IsUtf8 bytes
 IsJudged bytes (Open n) = IsValidUpTo bytes n × (length bytes < n + 4)
 IsJudged bytes (Fixed n) = IsFixed bytes n

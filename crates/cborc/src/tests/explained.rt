@@ -177,8 +177,8 @@ fn explains_either_side(rt: HostRuntime) -> Result<(), AllocError> {
 
 #[test]
 fn shows_control_characters(rt: HostRuntime) -> Result<(), AllocError> {
-    let path = Visible("a\u{1b}\n\u{7f}é");
+    let path = Visible("a\u{1b}\n\u{7f}é\u{9b}\u{2028}\u{202e}\u{2066}\u{61c}");
     let shown = format!(in rt.alloc(); "{path}")?;
-    assert!(rt; shown.as_str() == "a\\u001b\\u000a\\u007fé");
+    assert!(rt; shown.as_str() == "a\\u001b\\u000a\\u007fé\\u009b\\u2028\\u202e\\u2066\\u061c");
     Ok(())
 }

@@ -1,8 +1,8 @@
 //! Outputs that fail, and words that are not to be had.
 
 use super::run_with;
+use crate::no_text::fault_of_words;
 use cborc_commands::end;
-use cborc_words::no_text::fault_of_words;
 use std::alloc::AllocError;
 use std::env::{Env, FillError};
 use std::io;
@@ -94,13 +94,13 @@ fn standard_output_fails(rt: HostRuntime) -> Result<(), AllocError> {
         if err.as_slice() == b"out of memory\n".as_slice() {
             return Err(AllocError);
         }
-        let told = err.as_slice() == b"cannot write standard output\n".as_slice();
-        assert!(rt; status == 3 && told, "{line} {left}");
+        let reported = err.as_slice() == b"cannot write standard output\n".as_slice();
+        assert!(rt; status == 3 && reported, "{line} {left}");
     }
     Ok(())
 }
 
-// Words of which one, past the room that there is for a word at first, is not UTF-8.
+// Words of which one, past the space that there is for a word at first, is not UTF-8.
 struct Words;
 
 impl Env for Words {
@@ -127,7 +127,11 @@ impl Env for Words {
 
 // What keeps the words from the program, the status, and the line on standard error.
 static NO_WORDS: [(ErrorKind, u8, &[u8]); 2] = [
-    (ErrorKind::InvalidData, 2, b"word 2 is not UTF-8\n"),
+    (
+        ErrorKind::InvalidData,
+        2,
+        b"word 2 is not UTF-8; a file by such a name is read as '- < FILE'\n",
+    ),
     (ErrorKind::OutOfMemory, 3, b"out of memory\n"),
 ];
 

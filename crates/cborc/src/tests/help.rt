@@ -31,7 +31,7 @@ Examples:
   cborc show message.cbor
   cborc events --hex message.hex
   cborc check --strict --explain message.cbor
-  cborc canon message.cbor - | sha256sum
+  cborc canon message.cbor canonical.cbor && sha256sum canonical.cbor
   cborc show --seq records.cbor
   cborc compare old.cbor new.cbor
 ";
@@ -41,7 +41,8 @@ cborc 2.0.0
 Orders of keys: bytewise (RFC 8949, section 4.2.1), length (section 4.2.3)
 Kinds of keys: any, basic (integers and texts)
 Limits: depth 0 to 1024, bytes 0 to 4611686018427387904
-Proved with rattle-kit-13: each function is safe, returns, and meets its contract
+Written for rattle-kit-13. A build that its prover made is proved: each function is safe, returns,
+and meets its contract. Who built this file can say whether it is one (docs/EVIDENCE.md)
 ";
 
 const HELP_OF_CANON: &str = "\
@@ -126,12 +127,14 @@ Options:
 ";
 
 // The words, and what stands on standard output.
-static HELPS: [(&str, &str); 15] = [
+static HELPS: [(&str, &str); 17] = [
     ("--version", VERSION),
     ("-V", "cborc 2.0.0\n"),
     ("--help", HELP),
     ("-h", HELP),
     ("help", HELP),
+    ("help --help", HELP),
+    ("help -h", HELP),
     ("canon --help", HELP_OF_CANON),
     ("canon -h", HELP_OF_CANON),
     ("help canon", HELP_OF_CANON),

@@ -3,7 +3,7 @@
 use super::{is_line, ran};
 use std::alloc::{AllocError, Global};
 
-// What stands in front of 30,000 items, and what behind; the status and the line of `check --seq`.
+// What stands before 30,000 items, and what behind; the status and the line of `check --seq`.
 static TEXTS: [(&str, &str, u8, &str); 8] = [
     ("", "", 0, "accepted 30000 items"),
     ("", "ff", 1, "item 30001 refused 7 StrayBreak at 0"),
@@ -16,24 +16,24 @@ static TEXTS: [(&str, &str, u8, &str); 8] = [
 ];
 
 // Each item, the number 100, has five bytes of text, so the first 65,536 end between two digits.
-fn long_text(alloc: Global, front: &str, behind: &str) -> Result<String, AllocError> {
+fn long_text(alloc: Global, prefix: &str, behind: &str) -> Result<String, AllocError> {
     let items = "1864 ".repeat(alloc, 30_000)?;
     let items = items.as_str();
-    format!(in alloc; "{front}{items}{behind}")
+    format!(in alloc; "{prefix}{items}{behind}")
 }
 
 #[test]
 fn judges_the_whole(rt: HostRuntime) -> Result<(), AllocError> {
     let alloc = rt.alloc();
-    for &(front, behind, status, line) in &TEXTS {
-        let text = long_text(alloc, front, behind)?;
+    for &(prefix, behind, status, line) in &TEXTS {
+        let text = long_text(alloc, prefix, behind)?;
         let ran = ran(alloc, "check --seq --hex in", text.as_str())?;
-        let told = if status == 0 {
+        let reported = if status == 0 {
             ran.printed(line)
         } else {
             ran.stopped(status, line)
         };
-        assert!(rt; told, "{front} {behind}");
+        assert!(rt; reported, "{prefix} {behind}");
     }
     Ok(())
 }

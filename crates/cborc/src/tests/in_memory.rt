@@ -1,10 +1,10 @@
 //! What a run leaves in each file.
 
 use super::{is_line, words};
+use crate::program::run;
 use cbor_head::{KeyOrder, Limits};
 use cborc_commands::canon_in_memory;
 use cborc_files::FilesInMemory;
-use cborc_words::run::run;
 use std::alloc::{AllocError, Global};
 use std::test::Fail;
 

@@ -158,7 +158,7 @@ fn is_item(alloc: Global, options: &str, file: &str, wanted: &str) -> Result<boo
     )
 }
 
-// The same of a row of items, with either order of keys and as hex digits; and whether `show` prints
+// Looks at a row of items, with either order of keys and as hex digits; and whether `show` prints
 // its text.
 fn is_taken(alloc: Global, file: &str, canonical: &str, text: &str) -> Result<bool, AllocError> {
     let wanted = if canonical == "same" { file } else { canonical };

@@ -113,7 +113,7 @@ static REFUSED: &str = r#" |  | refused 1 Truncated at 0
 --keys basic | a1f97c0000 | refused 5 Float at 1
 --keys basic --depth 1 | a18000 | refused 9 TooDeep at 1 | {[]: 0}"#;
 
-// The same, of the strict rules.
+// Rows that the strict rules refuse.
 static NOT_CANONICAL: &str = r#" | a1 | refused 1 Truncated at 1
  | 811c | refused 3 Reserved at 1
  | a11c | refused 3 Reserved at 1

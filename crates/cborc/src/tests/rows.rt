@@ -1,4 +1,4 @@
-//! What runs leave: a table of all that is not told of one item at a time.
+//! What runs leave: a table of all that is not reported of one item at a time.
 
 use super::{Outcome, ran};
 use std::alloc::{AllocError, Global};

@@ -1,9 +1,8 @@
 //! Inputs that have no end, and an output that takes nothing.
 
 use super::run_with;
-use cborc_disk::{LONGEST, append_from};
-use cborc_files::{FileFault, Folder};
-use cborc_words::run::run;
+use crate::program::run;
+use cborc_files::{FileFault, Folder, LONGEST, append_from};
 use std::alloc::{AllocError, Global};
 use std::io::{self, Read};
 
@@ -31,8 +30,8 @@ impl Folder for Endless {
     ) -> Result<(), FileFault> {
         let most = most.min(LONGEST.saturating_sub(from));
         let first = [self.first];
-        let front = if from == 0 { &first[..] } else { &[] };
-        match append_from(&mut front.chain(io::repeat(self.rest)), most, bytes) {
+        let prefix = if from == 0 { &first[..] } else { &[] };
+        match append_from(&mut prefix.chain(io::repeat(self.rest)), most, bytes) {
             Ok(()) => Ok(()),
             Err(_) => Err(FileFault::Memory),
         }
@@ -52,7 +51,7 @@ impl Folder for Endless {
 }
 
 // The words, the first byte of the file and those behind it, and the line on standard error.
-static ENDLESS: [(&str, u8, u8, &str); 8] = [
+static INDEFINITE: [(&str, u8, u8, &str); 8] = [
     ("check in", 0, 0, "refused 12 Trailing at 1"),
     ("check in", 0x9f, 0, "refused 2 TooLong at 1048576"),
     ("canon in out", 0x9f, 0x81, "refused 9 TooDeep at 256"),
@@ -74,16 +73,16 @@ static ENDLESS: [(&str, u8, u8, &str); 8] = [
 ];
 
 #[test]
-fn decides_on_a_front(rt: HostRuntime) -> Result<(), AllocError> {
+fn decides_on_a_prefix(rt: HostRuntime) -> Result<(), AllocError> {
     let alloc = rt.alloc();
-    for &(line, first, rest, wanted) in &ENDLESS {
+    for &(line, first, rest, wanted) in &INDEFINITE {
         let mut out = Vec::new(alloc);
         let mut err = Vec::with_capacity(alloc, 64)?;
         let mut files = Endless { first, rest };
         let words = super::words(alloc, line)?;
         let status = run(alloc, words, &mut files, &mut out, &mut err);
-        let told = super::is_line(err.as_slice(), wanted);
-        assert!(rt; status == 1 && out.is_empty() && told, "{line}");
+        let reported = super::is_line(err.as_slice(), wanted);
+        assert!(rt; status == 1 && out.is_empty() && reported, "{line}");
     }
     Ok(())
 }
@@ -96,7 +95,7 @@ fn standard_output_takes_nothing(rt: HostRuntime) -> Result<(), AllocError> {
     let mut out = full.as_mut_slice();
     let mut err = Vec::with_capacity(alloc, 64)?;
     let (status, written) = run_with(alloc, "canon in -", "00", &mut out, &mut err)?;
-    let told = super::is_line(err.as_slice(), "cannot write standard output");
-    assert!(rt; status == 3 && written.is_empty() && told);
+    let reported = super::is_line(err.as_slice(), "cannot write standard output");
+    assert!(rt; status == 3 && written.is_empty() && reported);
     Ok(())
 }

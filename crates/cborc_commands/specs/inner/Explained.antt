@@ -2,37 +2,15 @@
 use Rattle.std.specs.Prelude.{ℕ, List, Option, Some, None, codes}
 use Rattle.std.specs.declared.io.ErrorKind.TheVariants as kinds
 use Rattle.std.specs.declared.io.ErrorKind.{ErrorKind}
-use Rattle.cborc_input.specs.declared.request.Request.TheVariants.{Check, CheckSequence, Canon, CanonSequence, Compare, Show, ShowSequence, Events, EventsSequence}
-use Rattle.cborc_input.specs.declared.request.{Options.Options, Request.Request}
+use Rattle.cborc_commands.specs.declared.request.{Action.Action, Action.TheVariants.Compare, Request.Request}
 
--- how the files of a request are read
-abbrev pub options_of : Request → Options
-options_of (Check source accepted options) = options
-options_of (CheckSequence source accepted options) = options
-options_of (Canon source output order options) = options
-options_of (CanonSequence source output order options) = options
-options_of (Compare left right options) = options
-options_of (Show source layout options) = options
-options_of (ShowSequence source layout options) = options
-options_of (Events source options) = options
-options_of (EventsSequence source options) = options
+-- the path of the file that a request reads last
+abbrev pub last_source_by : Action → List ℕ → List ℕ
+last_source_by (Compare right) source = right.now
+last_source_by _ source = source
 
--- the path of the file that a request reads, or reads first
-abbrev pub source_of : Request → List ℕ
-source_of (Check source accepted options) = source.now
-source_of (CheckSequence source accepted options) = source.now
-source_of (Canon source output order options) = source.now
-source_of (CanonSequence source output order options) = source.now
-source_of (Compare left right options) = left.now
-source_of (Show source layout options) = source.now
-source_of (ShowSequence source layout options) = source.now
-source_of (Events source options) = source.now
-source_of (EventsSequence source options) = source.now
-
--- of the file that it reads last
-abbrev pub right_of : Request → List ℕ
-right_of (Compare left right options) = right.now
-right_of request = source_of request
+abbrev pub last_source : Request → List ℕ
+last_source request = last_source_by request.action request.source.now
 
 -- what kept a file from being read or written
 abbrev pub kind_text : ErrorKind → List ℕ
@@ -48,7 +26,7 @@ kind_text kinds.InvalidFilename = codes "The name is too long."
 kind_text kinds.FilesystemLoop = codes "Links lead round in a circle."
 kind_text _ = codes "The cause is not known."
 
--- the same, where a folder may not tell
+-- the same, where a folder may not report
 abbrev pub cause_text : Option ErrorKind → List ℕ
 cause_text (Some kind) = kind_text kind
 cause_text None = codes "The cause is not known."

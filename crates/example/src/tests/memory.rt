@@ -3,7 +3,7 @@
 //! what is usual. Nothing here takes memory but the calls themselves.
 
 use super::{RECORDS, limits};
-use crate::{Fault, bytes_to_sign, two_fields};
+use crate::{FieldsError, bytes_to_sign, two_fields};
 use bumpalo::Bump;
 use cbor_head::{KeyOrder, Reason, Refusal};
 use cbor_reader::{Sequence, Side, canonicalise, read_strict, read_tree, read_view, same_meaning};
@@ -13,11 +13,11 @@ use cbor_reader::{Sequence, Side, canonicalise, read_strict, read_tree, read_vie
 static DOCUMENT: &[u8] =
     b"\xa3\x01\xa2\x61b\x00\x61a\x42\x07\x07\x54\x07\x07\x07\x07\x07\x07\x07\x07\x07\x07\x07\x07\x07\x07\x07\x07\x07\x07\x07\x07\x9f\x01\x7f\x62te\x62xt\xff\xff\xa1\x01\x02\xd8\x18\x01";
 
-// The same in canonical bytes.
+// The record in canonical bytes.
 static CANONICAL: &[u8] =
     b"\xa3\x01\xa2\x61a\x42\x07\x07\x61b\x00\x54\x07\x07\x07\x07\x07\x07\x07\x07\x07\x07\x07\x07\x07\x07\x07\x07\x07\x07\x07\x07\x82\x01\x64text\xa1\x01\x02\xd8\x18\x01";
 
-// Whether a refusal says that memory was refused, with as many bytes taken as it tells.
+// Whether a refusal says that memory was refused, with as many bytes taken as it reports.
 fn is_memory(refusal: Refusal, taken: usize) -> bool {
     refusal == Refusal::at(Reason::Memory, taken as u64)
 }
@@ -39,7 +39,7 @@ fn canonical_bytes_or_memory(rt: HostRuntime) {
     }
 }
 
-// A reader has lost exactly the bytes that the refusal tells.
+// A reader has lost exactly the bytes that the refusal reports.
 #[test]
 fn a_tree_or_memory(rt: HostRuntime) {
     let mut reader = DOCUMENT;
@@ -62,8 +62,8 @@ fn a_view_or_memory(rt: HostRuntime) {
 fn fields_or_memory(rt: HostRuntime) {
     match two_fields(rt.alloc(), RECORDS, limits(&rt), "id", "by") {
         Ok(rows) => assert!(rt; rows.len() == 2),
-        Err(Fault::Refused(refusal)) => assert!(rt; refusal.reason == Reason::Memory),
-        Err(fault) => assert!(rt; fault == Fault::Memory),
+        Err(FieldsError::Refused(refusal)) => assert!(rt; refusal.reason == Reason::Memory),
+        Err(fault) => assert!(rt; fault == FieldsError::Memory),
     }
 }
 

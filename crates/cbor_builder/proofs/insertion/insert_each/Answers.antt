@@ -1,25 +1,25 @@
 use Rattle.std.proofs.Common.{◌≡◌, ℕ, ◌+◌, ◌++◌, ◌∷◌, List, length, length-take, take, take-append-drop, drop, get_or, map, refl, sym, ◌∙◌, subst, arith, IsPermutation, take_all}
 use Rattle.std.proofs.lemmas.List.Sorted.{IsPermutation-sym, IsPermutation-map, IsPermutation-append_left}
 use Rattle.std.proofs.lemmas.List.{get_or_default}
-use Rattle.cbor_canonical.{specs.Pairs.IsRising, proofs.Sorting.rising_distinct, proofs.Decided.holds, proofs.Decided.fails}
-use Rattle.cbor_buffer.{specs.Spans.span_pair, specs.Spans.no_span, specs.declared.span.Span.Span, proofs.ByIndex.all_index}
-use Rattle.cbor_builder.specs.inner.Front.{key_of, IsFronted, AreFronted}
-use Rattle.cbor_builder.proofs.Inserted.{in_front_taken, taken_front, rest_front, same_at, rest_more, all_taken, more_permuted, repeats}
+use Rattle.cbor_model.{specs.Pairs.IsRising, proofs.Sorting.rising_distinct, proofs.Decided.holds, proofs.Decided.fails}
+use Rattle.cbor_output.{specs.Spans.span_pair, specs.Spans.no_span, specs.declared.span.Span.Span, proofs.ByIndex.all_index}
+use Rattle.cbor_builder.specs.inner.Prefix.{key_of, IsPrefixed, ArePrefixed}
+use Rattle.cbor_builder.proofs.Inserted.{at_start_taken, taken_prefix, rest_prefix, same_at, rest_more, all_taken, more_permuted, repeats}
 use Rattle.cbor_builder.proofs.insertion.insert_each.Goals as goal
 use Rattle.cbor_builder.{specs.Built.HasKey, proofs.KeysSoFar.distinct_permuted, proofs.Ranks.all_permuted}
 
-pub insert-requires-clause-fronted : goal.insert-requires-clause-fronted
-insert-requires-clause-fronted c =
+pub insert-requires-clause-prefixed : goal.insert-requires-clause-prefixed
+insert-requires-clause-prefixed c =
     let i = c.loop-i.i in
     let bytes = c.args.bytes.now in
-    subst (AreFronted bytes) (sym (in_front_taken i c.loop-i.spans (omega arith)))
+    subst (ArePrefixed bytes) (sym (at_start_taken i c.loop-i.spans (omega arith)))
     (all_permuted _ (take i c.args.spans.now) (take i c.loop-i.spans) c.loop-i.invariant.0 (all_taken _ i c.args.spans.now c.requires))
 
 pub insert-requires-clause-next : goal.insert-requires-clause-next
 insert-requires-clause-next c =
     let i = c.loop-i.i in
     let same = same_at i c.loop-i.spans c.args.spans.now no_span c.loop-i.invariant.2 in
-    subst (IsFronted c.args.bytes.now) (sym same) (all_index _ c.args.spans.now i no_span c.requires (omega arith))
+    subst (IsPrefixed c.args.bytes.now) (sym same) (all_index _ c.args.spans.now i no_span c.requires (omega arith))
 
 -- the first ones are put in order among themselves, and the others stay
 whole : (n : ℕ) (given us ys : List Span) → IsPermutation (take n given) ys → drop n us ≡ drop n given → IsPermutation given (ys ++ drop n us)
@@ -33,11 +33,11 @@ returns-then-not-insert c =
     let us = take i c.loop-i.spans in
     let next = get_or c.loop-i.spans i no_span in
     let same = same_at i c.loop-i.spans given no_span c.loop-i.invariant.2 ∙ get_or_default given i no_span next (omega arith) in
-    let front = in_front_taken i c.loop-i.spans (omega arith) in
+    let prefix = at_start_taken i c.loop-i.spans (omega arith) in
     let ys = c.insert.new.places in
     let e = c.if-not-insert.ensures in
-    let key = subst (λ (us : List Span). HasKey (map (span_pair bytes) us) (key_of bytes next)) front (e.equal refl) in
-    let moved = subst (λ (us : List Span). IsPermutation (next ∷ us) ys) front e.permuted in
+    let key = subst (λ (us : List Span). HasKey (map (span_pair bytes) us) (key_of bytes next)) prefix (e.equal refl) in
+    let moved = subst (λ (us : List Span). IsPermutation (next ∷ us) ys) prefix e.permuted in
     record {
       distinct = fails (repeats c.args.order bytes given us i next (omega arith) same c.loop-i.invariant.0 key);
       permuted = whole (i + 1) given c.loop-i.spans ys (more_permuted given us ys i next (omega arith) same c.loop-i.invariant.0 moved) (rest_more i c.loop-i.spans given c.loop-i.invariant.2);
@@ -53,11 +53,11 @@ loop-i-preserved c =
     let ys = c.insert.new.places in
     let rest = drop (i + 1) c.loop-i.spans in
     let size : length ys ≡ i + 1 = omega (arith, length-take (i + 1) c.loop-i.spans, c.insert.auto.places) in
-    let all : take (i + 1) (ys ++ rest) ≡ ys = taken_front (i + 1) ys rest size in
-    let moved : IsPermutation (next ∷ take i c.loop-i.spans) ys = subst (λ (us : List Span). IsPermutation (next ∷ us) ys) (in_front_taken i c.loop-i.spans (omega arith)) c.if-not-insert.ensures.permuted in (
+    let all : take (i + 1) (ys ++ rest) ≡ ys = taken_prefix (i + 1) ys rest size in
+    let moved : IsPermutation (next ∷ take i c.loop-i.spans) ys = subst (λ (us : List Span). IsPermutation (next ∷ us) ys) (at_start_taken i c.loop-i.spans (omega arith)) c.if-not-insert.ensures.permuted in (
       subst (IsPermutation (take (i + 1) c.args.spans.now)) (sym all) (more_permuted c.args.spans.now (take i c.loop-i.spans) ys i next (omega arith) same c.loop-i.invariant.0 moved),
       subst (λ (us : List Span). IsRising c.args.order (map (span_pair bytes) us)) (sym all) (c.if-not-insert.ensures.rising refl),
-      rest_front (i + 1) ys rest size ∙ rest_more i c.loop-i.spans c.args.spans.now c.loop-i.invariant.2,
+      rest_prefix (i + 1) ys rest size ∙ rest_more i c.loop-i.spans c.args.spans.now c.loop-i.invariant.2,
     )
 
 pub returns : goal.returns

@@ -1,6 +1,6 @@
 use Rattle.std.proofs.Common.{◌≡◌, map, take, drop, IsPermutation}
-use Rattle.cbor_canonical.specs.Pairs.{IsRising}
-use Rattle.cbor_buffer.specs.Spans.{span_pair}
+use Rattle.cbor_model.specs.Pairs.{IsRising}
+use Rattle.cbor_output.specs.Spans.{span_pair}
 use Rattle.cbor_builder.proofs.insertion.insert_each.Given as goal
 
 abbrev pub invariant-loop-i : goal.invariant-loop-i

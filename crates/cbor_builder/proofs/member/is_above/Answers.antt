@@ -1,9 +1,9 @@
 use Rattle.std.proofs.Common.{◌≡◌, ◌+◌, ◌-◌, length, length-drop, drop, get_or, ◌∙◌, ap, sym, subst, arith}
 use Rattle.std.{proofs.lemmas.List.get_or-drop, specs.Ordering.is_lt, proofs.lemmas.Option.get_or_from_slice_get}
-use Rattle.cbor_canonical.proofs.ByteLists.{are_bytes}
-use Rattle.cbor_buffer.proofs.ByIndex.{all_index}
+use Rattle.cbor_model.proofs.KeyByteLists.{are_bytes}
+use Rattle.cbor_output.proofs.ByIndex.{all_index}
 use Rattle.cbor_builder.proofs.member.is_above.Goals as goal
-use Rattle.cbor_builder.{specs.inner.Front.IsFronted, proofs.Ranks.agree_spans, proofs.Inserted.above_last}
+use Rattle.cbor_builder.{specs.inner.Prefix.IsPrefixed, proofs.Ranks.agree_spans, proofs.Inserted.above_last}
 
 pub returns-in-Some : goal.returns-in-Some
 returns-in-Some c = λ t r.
@@ -16,6 +16,6 @@ returns-in-Some c = λ t r.
     let behind = length-drop c.args.first ss in
     let at : c.args.first + n ≡ length ss - 1 = omega arith in
     let found = get_or-drop c.args.first ss n last ∙ ap (λ k. get_or ss k last) at ∙ e in
-    let fronted = subst (IsFronted c.args.bytes.now) found (all_index _ us n last c.requires.fronted (omega (arith, behind))) in
+    let prefixed = subst (IsPrefixed c.args.bytes.now) found (all_index _ us n last c.requires.prefixed (omega (arith, behind))) in
     above_last c.args.order c.args.bytes.now us n last c.args.next.now (omega (arith, behind)) (sym found)
-    (sym (ap is_lt (agree_spans c.args.order c.args.bytes.now last c.args.next.now b fronted c.requires.next)) ∙ sym (ap is_lt c.compare.ensures) ∙ sym c.is_lt.ensures ∙ t) r
+    (sym (ap is_lt (agree_spans c.args.order c.args.bytes.now last c.args.next.now b prefixed c.requires.next)) ∙ sym (ap is_lt c.compare.ensures) ∙ sym c.is_lt.ensures ∙ t) r

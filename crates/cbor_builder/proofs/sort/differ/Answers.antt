@@ -1,8 +1,8 @@
 use Rattle.std.proofs.Common.{◌≡◌, ◌≢◌, ◌-◌, suc, inl, inr, sym, ap, ◌∙◌, subst, arith}
 use Rattle.std.proofs.lemmas.Bool.{cases_lt}
-use Rattle.cbor_canonical.proofs.{Decided.holds, Decided.fails, ByteLists.are_bytes}
+use Rattle.cbor_model.proofs.{Decided.holds, Decided.fails, KeyByteLists.are_bytes}
 use Rattle.cbor_builder.proofs.sort.differ.Goals as goal
-use Rattle.cbor_builder.{specs.inner.Front.key_of, specs.inner.Repeats.nth, proofs.Ranks.compared}
+use Rattle.cbor_builder.{specs.inner.Prefix.key_of, specs.inner.Repeats.nth, proofs.Ranks.compared}
 
 pub returns-then-is_eq : goal.returns-then-is_eq
 returns-then-is_eq c =

@@ -1,14 +1,7 @@
 use Rattle.std.proofs.Common.{◌-◌, ◌+◌, ◌^◌, min, arith, ◌∙◌, ap}
-use Rattle.cbor_head.specs.{Prelude.refusal, declared.reason.Reason.Reason, declared.reason.Reason.TheVariants.Write}
-use Rattle.cbor_automaton.specs.Reasons.{IsEventReason}
-use Rattle.cbor_diag.proofs.Listed.{none-listed, one-more, takes-more, place-within, all-listed, all-lost, refused-unlisted, refused-lost, stopped-unlisted, stopped-lost, listed-within, unlisted-within}
+use Rattle.cbor_head.specs.{Prelude.refusal, declared.reason.Reason.TheVariants.Write}
+use Rattle.cbor_diag.proofs.Listed.{none-listed, one-more, takes-more, place-within, all-listed, all-lost, refused-unlisted, refused-lost, stopped-unlisted, stopped-lost, listed-within, unlisted-within, listing_reason}
 use Rattle.cbor_diag.proofs.event_listing.listing_from.Goals as goal
-use Rattle.cbor_diag.specs.Listing.{IsListingReason}
-
--- the events stop for no other
-listing_reason : (r : Reason) → IsEventReason r → IsListingReason r
-listing_reason Write h = tt
-listing_reason _ h = h
 
 pub returns-in-Err-clause-reasons : goal.returns-in-Err-clause-reasons
 returns-in-Err-clause-reasons g c = listing_reason c.in-Err.refusal.reason (c.in-Err.ensures.reason c.lines.invariant.2)

@@ -1,12 +1,12 @@
 use Rattle.std.proofs.Common.{◌++◌, codes, sym, ap, arith, reverse, take}
 use Rattle.std.proofs.lemmas.Result.{err_from_is_err_and}
-use Rattle.cbor_diag.proofs.Leaving.{front-stops, put-stops, goes-on, ends, member-next, members-end, pair-next, pairs-end, value-next}
+use Rattle.cbor_diag.proofs.Leaving.{prefix-stops, put-stops, goes-on, ends, member-next, members-end, pair-next, pairs-end, value-next}
 use Rattle.cbor_diag.proofs.walk.go_on.Goals as goal
 use Rattle.cbor_diag.{specs.inner.Layout.gap, specs.inner.Layout.end, specs.inner.Levels.behind, specs.inner.Levels.left_of, proofs.Putting.stops-more}
 
 pub returns-in_err-put_gap-in-Some-clause-put : goal.returns-in_err-put_gap-in-Some-clause-put
 returns-in_err-put_gap-in-Some-clause-put g c =
-    rw ((err_from_is_err_and c.from_residual.result c.from_residual.ensures.1).1) (front-stops _ _ c.args.out.now _ (gap c.args.layout c.args.level.indent c.in-Array.first) _ _ (member-next g.N.Node.value c.args.layout c.args.level.indent c.in-Array.first c.args.level.left c.in-Array.left c.in-Some.item.now c.in-Some.left.now (behind g.N.Node.value c.args.layout (reverse (take c.args.height.now c.args.cells.now))) c.in-Array.is c.in-Some.ensures.cases.0) c.in_err-put_gap-in-Some.ensures)
+    rw ((err_from_is_err_and c.from_residual.result c.from_residual.ensures.1).1) (prefix-stops _ _ c.args.out.now _ (gap c.args.layout c.args.level.indent c.in-Array.first) _ _ (member-next g.N.Node.value c.args.layout c.args.level.indent c.in-Array.first c.args.level.left c.in-Array.left c.in-Some.item.now c.in-Some.left.now (behind g.N.Node.value c.args.layout (reverse (take c.args.height.now c.args.cells.now))) c.in-Array.is c.in-Some.ensures.cases.0) c.in_err-put_gap-in-Some.ensures)
 
 pub returns-in_ok-put_gap-in-Some-clause-put : goal.returns-in_ok-put_gap-in-Some-clause-put
 returns-in_ok-put_gap-in-Some-clause-put g c =
@@ -14,7 +14,7 @@ returns-in_ok-put_gap-in-Some-clause-put g c =
 
 pub returns-in_err-put_end-in-None-clause-put : goal.returns-in_err-put_end-in-None-clause-put
 returns-in_err-put_end-in-None-clause-put g c =
-    rw ((err_from_is_err_and c.from_residual-in_err-put_end-in-None.result c.from_residual-in_err-put_end-in-None.ensures.1).1) (front-stops _ _ c.args.out.now _ (end c.args.layout c.args.level.indent c.in-Array.first) _ _ (members-end g.N.Node.value c.args.layout c.args.level.indent c.in-Array.first c.args.level.left c.in-Array.left (behind g.N.Node.value c.args.layout (reverse (take c.args.height.now c.args.cells.now))) c.in-Array.is c.in-None.ensures.cases) c.in_err-put_end-in-None.ensures)
+    rw ((err_from_is_err_and c.from_residual-in_err-put_end-in-None.result c.from_residual-in_err-put_end-in-None.ensures.1).1) (prefix-stops _ _ c.args.out.now _ (end c.args.layout c.args.level.indent c.in-Array.first) _ _ (members-end g.N.Node.value c.args.layout c.args.level.indent c.in-Array.first c.args.level.left c.in-Array.left (behind g.N.Node.value c.args.layout (reverse (take c.args.height.now c.args.cells.now))) c.in-Array.is c.in-None.ensures.cases) c.in_err-put_end-in-None.ensures)
 
 pub returns-in_err-put-in-None-clause-put : goal.returns-in_err-put-in-None-clause-put
 returns-in_err-put-in-None-clause-put g c =
@@ -26,7 +26,7 @@ returns-in_ok-put-in-None-clause-put g c =
 
 pub returns-in_err-put_gap-in-Some-split_first-clause-put : goal.returns-in_err-put_gap-in-Some-split_first-clause-put
 returns-in_err-put_gap-in-Some-split_first-clause-put g c =
-    rw ((err_from_is_err_and c.from_residual-in_err-put_gap-in-Some-split_first.result c.from_residual-in_err-put_gap-in-Some-split_first.ensures.1).1) (front-stops _ _ c.args.out.now _ (gap c.args.layout c.args.level.indent c.in-Map.first) _ _ (pair-next g.N.Node.value c.args.layout c.args.level.indent c.in-Map.first c.args.level.left c.in-Map.left c.in-Some-split_first.field-0-0.now c.in-Some-split_first.left.now (behind g.N.Node.value c.args.layout (reverse (take c.args.height.now c.args.cells.now))) c.in-Map.is c.in-Some-split_first.ensures.cases.0) c.in_err-put_gap-in-Some-split_first.ensures)
+    rw ((err_from_is_err_and c.from_residual-in_err-put_gap-in-Some-split_first.result c.from_residual-in_err-put_gap-in-Some-split_first.ensures.1).1) (prefix-stops _ _ c.args.out.now _ (gap c.args.layout c.args.level.indent c.in-Map.first) _ _ (pair-next g.N.Node.value c.args.layout c.args.level.indent c.in-Map.first c.args.level.left c.in-Map.left c.in-Some-split_first.field-0-0.now c.in-Some-split_first.left.now (behind g.N.Node.value c.args.layout (reverse (take c.args.height.now c.args.cells.now))) c.in-Map.is c.in-Some-split_first.ensures.cases.0) c.in_err-put_gap-in-Some-split_first.ensures)
 
 pub returns-in_ok-put_gap-in-Some-split_first-clause-put : goal.returns-in_ok-put_gap-in-Some-split_first-clause-put
 returns-in_ok-put_gap-in-Some-split_first-clause-put g c =
@@ -34,7 +34,7 @@ returns-in_ok-put_gap-in-Some-split_first-clause-put g c =
 
 pub returns-in_err-put_end-in-None-split_first-clause-put : goal.returns-in_err-put_end-in-None-split_first-clause-put
 returns-in_err-put_end-in-None-split_first-clause-put g c =
-    rw ((err_from_is_err_and c.from_residual-in_err-put_end-in-None-split_first.result c.from_residual-in_err-put_end-in-None-split_first.ensures.1).1) (front-stops _ _ c.args.out.now _ (end c.args.layout c.args.level.indent c.in-Map.first) _ _ (pairs-end g.N.Node.value c.args.layout c.args.level.indent c.in-Map.first c.args.level.left c.in-Map.left (behind g.N.Node.value c.args.layout (reverse (take c.args.height.now c.args.cells.now))) c.in-Map.is c.in-None-split_first.ensures.cases) c.in_err-put_end-in-None-split_first.ensures)
+    rw ((err_from_is_err_and c.from_residual-in_err-put_end-in-None-split_first.result c.from_residual-in_err-put_end-in-None-split_first.ensures.1).1) (prefix-stops _ _ c.args.out.now _ (end c.args.layout c.args.level.indent c.in-Map.first) _ _ (pairs-end g.N.Node.value c.args.layout c.args.level.indent c.in-Map.first c.args.level.left c.in-Map.left (behind g.N.Node.value c.args.layout (reverse (take c.args.height.now c.args.cells.now))) c.in-Map.is c.in-None-split_first.ensures.cases) c.in_err-put_end-in-None-split_first.ensures)
 
 pub returns-in_err-put-in-None-split_first-clause-put : goal.returns-in_err-put-in-None-split_first-clause-put
 returns-in_err-put-in-None-split_first-clause-put g c =
@@ -46,7 +46,7 @@ returns-in_ok-put-in-None-split_first-clause-put g c =
 
 pub returns-in_err-put-in-Value-clause-put : goal.returns-in_err-put-in-Value-clause-put
 returns-in_err-put-in-Value-clause-put g c =
-    rw ((err_from_is_err_and c.from_residual-in_err-put-in-Value.result c.from_residual-in_err-put-in-Value.ensures.1).1) (front-stops _ _ c.args.out.now _ (codes ": ") _ _ (value-next g.N.Node.value c.args.layout c.args.level.indent c.args.level.left c.in-Value.value c.in-Value.left (behind g.N.Node.value c.args.layout (reverse (take c.args.height.now c.args.cells.now))) c.in-Value.is) c.in_err-put-in-Value.ensures)
+    rw ((err_from_is_err_and c.from_residual-in_err-put-in-Value.result c.from_residual-in_err-put-in-Value.ensures.1).1) (prefix-stops _ _ c.args.out.now _ (codes ": ") _ _ (value-next g.N.Node.value c.args.layout c.args.level.indent c.args.level.left c.in-Value.value c.in-Value.left (behind g.N.Node.value c.args.layout (reverse (take c.args.height.now c.args.cells.now))) c.in-Value.is) c.in_err-put-in-Value.ensures)
 
 pub returns-in_ok-put-in-Value-clause-put : goal.returns-in_ok-put-in-Value-clause-put
 returns-in_ok-put-in-Value-clause-put g c =
@@ -54,4 +54,4 @@ returns-in_ok-put-in-Value-clause-put g c =
 
 pub returns-in_err-put-in-Tag-clause-put : goal.returns-in_err-put-in-Tag-clause-put
 returns-in_err-put-in-Tag-clause-put g c =
-    rw ((err_from_is_err_and c.from_residual-in_err-put-in-Tag.result c.from_residual-in_err-put-in-Tag.ensures.1).1) (front-stops _ _ c.args.out.now _ (codes ")") _ _ (ap (λ x. left_of g.N.Node.value c.args.layout c.args.level.indent x ++ (behind g.N.Node.value c.args.layout (reverse (take c.args.height.now c.args.cells.now)))) (sym c.in-Tag.is)) c.in_err-put-in-Tag.ensures)
+    rw ((err_from_is_err_and c.from_residual-in_err-put-in-Tag.result c.from_residual-in_err-put-in-Tag.ensures.1).1) (prefix-stops _ _ c.args.out.now _ (codes ")") _ _ (ap (λ x. left_of g.N.Node.value c.args.layout c.args.level.indent x ++ (behind g.N.Node.value c.args.layout (reverse (take c.args.height.now c.args.cells.now)))) (sym c.in-Tag.is)) c.in_err-put-in-Tag.ensures)

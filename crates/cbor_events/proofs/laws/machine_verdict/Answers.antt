@@ -1,4 +1,4 @@
-use Rattle.cbor_standing.proofs.Form.{refusal-verdict, complete-verdict}
+use Rattle.cbor_machine.proofs.Form.{refusal-verdict, complete-verdict}
 use Rattle.cbor_events.proofs.laws.machine_verdict.Goals as goal
 
 pub returns-clause-refuses : goal.returns-clause-refuses

@@ -1,4 +1,4 @@
-use Rattle.cbor_standing.proofs.Told.{next-more, next-all}
+use Rattle.cbor_machine.proofs.Reported.{next-more, next-all}
 use Rattle.cbor_events.proofs.laws.next_events.Goals as goal
 
 pub returns-clause-more : goal.returns-clause-more

@@ -1,8 +1,8 @@
 use Rattle.std.proofs.Common.{◌<◌, inl, inr, length, take, refl, ap, arith, ◌++◌, length-take}
 use Rattle.cbor_head.specs.declared.reason.Refusal.{Refusal}
-use Rattle.cbor_standing.proofs.NextEvents.{complete-wants, wants-short, front-again}
-use Rattle.cbor_standing.proofs.NextRefusals.{still-due, cut-is, cut-here}
-use Rattle.cbor_standing.specs.Machine.{wanted}
+use Rattle.cbor_machine.proofs.NextEvents.{complete-wants, wants-short, prefix-again}
+use Rattle.cbor_machine.proofs.NextRefusals.{still-expected, cut-is, cut-here}
+use Rattle.cbor_machine.specs.Machine.{wanted}
 use Rattle.cbor_events.proofs.part.read_part.Goals as goal
 use Rattle.cbor_events.proofs.Parts.{part-read, some-read}
 
@@ -11,7 +11,7 @@ returns-in-End-clause-answers g c = λ was from kept t ms h r depth.
     let m = c.args.machine.now in
     let wants : 0 < wanted m = omega (arith, c.requires.some, c.requires.wanted) in
     let going = complete-wants m r.stands.inner.shown wants in (
-      still-due _ _ was m t ms h.stands r depth going,
+      still-expected _ _ was m t ms h.stands r depth going,
       inl (cut-here c.cut.result _ _ r c.in-End.ensures.1 (inr (ap (λ (x : Refusal). x.reason) c.cut.ensures, c.in-End.ensures.2))
           (cut-is _ _ _ _ c.cut.ensures c.taken.ensures.taken) (wants-short m wants) going),
     )
@@ -21,7 +21,7 @@ returns-in-Failed-clause-answers g c = λ was from kept t ms h r depth.
     let m = c.args.machine.now in
     let wants : 0 < wanted m = omega (arith, c.requires.some, c.requires.wanted) in
     let going = complete-wants m r.stands.inner.shown wants in (
-      still-due _ _ was m t ms h.stands r depth going,
+      still-expected _ _ was m t ms h.stands r depth going,
       inl (cut-here c.cut-in-Failed.result _ _ r c.in-Failed.ensures.1 (inl (ap (λ (x : Refusal). x.reason) c.cut-in-Failed.ensures))
           (cut-is _ _ _ _ c.cut-in-Failed.ensures c.taken-in-Failed.ensures.taken) (wants-short m wants) going),
     )
@@ -36,9 +36,9 @@ pub returns-in-Got-clause-answers : goal.returns-in-Got-clause-answers
 returns-in-Got-clause-answers g c = λ was from kept t ms h r depth.
     let bs = take c.in-Got.count c.ask.new.buffer in
     let size = length-take c.in-Got.count c.ask.new.buffer in
-    let some : 0 < length bs = omega (arith, size, c.in-Got.ensures.0, some-read c.in-Got.count c.args.want c.requires.some c.in-Got.ensures.2, c.requires.room, c.ask.auto.buffer) in
+    let some : 0 < length bs = omega (arith, size, c.in-Got.ensures.0, some-read c.in-Got.count c.args.want c.requires.some c.in-Got.ensures.2, c.requires.space, c.ask.auto.buffer) in
     part-read c.take_read.result from _ _ was c.args.machine.now c.take_read.new.machine kept c.ask.new.buffer t bs ms h r depth c.take_read.ensures.limits.depth c.take_read.ensures.limits.bytes
-    c.in-Got.ensures.1 c.below_256.ensures some (omega (arith, size, c.in-Got.ensures.0, c.requires.wanted)) (front-again c.in-Got.count c.ask.new.buffer) (c.take_read.ensures.answers (t ++ r.bytes) ms r.stands)
+    c.in-Got.ensures.1 c.below_256.ensures some (omega (arith, size, c.in-Got.ensures.0, c.requires.wanted)) (prefix-again c.in-Got.count c.ask.new.buffer) (c.take_read.ensures.answers (t ++ r.bytes) ms r.stands)
 
 pub returns-in-Got-clause-lost : goal.returns-in-Got-clause-lost
 returns-in-Got-clause-lost g c = λ t ms h.
@@ -46,9 +46,9 @@ returns-in-Got-clause-lost g c = λ t ms h.
     let size = length-take c.in-Got.count c.ask.new.buffer in
     inl (record {
       bytes = bs;
-      some = omega (arith, size, c.in-Got.ensures.0, some-read c.in-Got.count c.args.want c.requires.some c.in-Got.ensures.2, c.requires.room, c.ask.auto.buffer);
+      some = omega (arith, size, c.in-Got.ensures.0, some-read c.in-Got.count c.args.want c.requires.some c.in-Got.ensures.2, c.requires.space, c.ask.auto.buffer);
       most = omega (arith, size, c.in-Got.ensures.0);
-      front = front-again c.in-Got.count c.ask.new.buffer;
+      prefix = prefix-again c.in-Got.count c.ask.new.buffer;
       consumed = c.in-Got.ensures.1;
       are_bytes = c.below_256.ensures;
       taken = c.take_read.ensures.answers t ms h;

@@ -1,7 +1,7 @@
 use Rattle.std.proofs.Common.{◌++◌, subst}
-use Rattle.cbor_standing.specs.Machine.{StandsFor, IsGiven, IsRefused}
-use Rattle.cbor_standing.specs.declared.step.Out.TheVariants as outs
-use Rattle.cbor_standing.{specs.Steps.IsStep, proofs.NextEvents.all-used, proofs.NextEvents.wants-all}
+use Rattle.cbor_machine.specs.Machine.{StandsFor, IsGiven, IsRefused}
+use Rattle.cbor_machine.specs.declared.step.Out.TheVariants as outs
+use Rattle.cbor_machine.{specs.Steps.IsStep, proofs.NextEvents.all-used, proofs.NextEvents.wants-all}
 use Rattle.cbor_events.proofs.part.take_slowly.Goals as goal
 
 pub returns-in-Event-clause-answers : goal.returns-in-Event-clause-answers

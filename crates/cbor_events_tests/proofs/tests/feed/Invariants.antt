@@ -1,5 +1,5 @@
 use Rattle.std.proofs.Common.{◌≤◌, ◌-◌, length, take}
-use Rattle.cbor_standing.specs.Steps.{Goes}
+use Rattle.cbor_machine.specs.Steps.{Goes}
 use Rattle.cbor_events_tests.proofs.tests.feed.Given as goal
 
 -- what was used was taken

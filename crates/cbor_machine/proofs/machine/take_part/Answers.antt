@@ -1,40 +1,38 @@
 use Rattle.std.proofs.Common.{subst, ◌≡◌, ◌+◌, ◌-◌, take, length, arith, ap, sym, refl, ◌∙◌, inl, inr, length-take}
 use Rattle.cbor_head.specs.{Prelude.refusal, declared.reason.Reason.TheVariants.TooLong}
-use Rattle.cbor_steps.specs.State.{IsFit}
-use Rattle.cbor_standing.specs.declared.step.Out.TheVariants as outs
-use Rattle.cbor_standing.proofs.Standing.{bytes_take, fit-sound, front-walked, length-front, step-from, stopped, answered}
-use Rattle.cbor_standing.{specs.MachineView.MachineView, specs.Steps.Ran, proofs.Positions.not-done}
+use Rattle.cbor_machine.specs.declared.step.Out.TheVariants as outs
+use Rattle.cbor_machine.proofs.MachineStates.{bytes_take, fit-sound, prefix-walked, length-prefix, step-from, stopped, answered}
 use Rattle.cbor_machine.proofs.Wanting.{goes-within, nothing-refused, wants-more}
 use Rattle.cbor_machine.proofs.machine.take_part.Goals as goal
-use Rattle.cbor_machine.proofs.Reasons.{form-machine}
+use Rattle.cbor_machine.{specs.State.IsFit, specs.MachineView.MachineView, specs.Steps.Ran, proofs.Positions.not-done, proofs.Reasons.form-machine}
 
-pub returns-in-Told-clause-walked : goal.returns-in-Told-clause-walked
-returns-in-Told-clause-walked c = λ live.
+pub returns-in-Reported-clause-walked : goal.returns-in-Reported-clause-walked
+returns-in-Reported-clause-walked c = λ live.
     let u = c.walk-used.ensures.used in
     let depth : c.from-depth.result ≡ c.machine.inside.limits.depth = c.from-depth.ensures ∙ c.depth.ensures.depth in
-    let walked = rw c.in-Told.is at (front-walked _ _ _ _ _ _ _ _ depth u c.walk-used.ensures.walked) in
-    let len = length-front c.walk-used.result.0 c.part-end.result c.args.input.now u (omega (arith, c.part-end.ensures)) in
+    let walked = rw c.in-Reported.is at (prefix-walked _ _ _ _ _ _ _ _ depth u c.walk-used.ensures.walked) in
+    let len = length-prefix c.walk-used.result.0 c.part-end.result c.args.input.now u (omega (arith, c.part-end.ensures)) in
     let live' = ap (λ (m : MachineView). m.refusal) c.machine.view_is ∙ live in
     let ran : Ran _ _ (take c.walk-used.result.0 c.args.input.now) _ = record { ran = walked; taken = ap (λ n. c.machine.inside.taken + n) (sym len.1) } in
-    let settled = rw c.in-Told.is at c.walk-used.ensures.clear in
-    step-from (outs.Event (record { place = c.machine.inside.told; width = c.in-Told.width; kind = c.in-Told.kind })) _ _ _ (take c.walk-used.result.0 c.args.input.now) c.machine.view_is (ran, live', refl, refl, settled tt, rw c.in-Told.is at c.walk-used.ensures.proper)
+    let settled = rw c.in-Reported.is at c.walk-used.ensures.clear in
+    step-from (outs.Event (record { place = c.machine.inside.reported; width = c.in-Reported.width; kind = c.in-Reported.kind })) _ _ _ (take c.walk-used.result.0 c.args.input.now) c.machine.view_is (ran, live', refl, refl, settled tt, rw c.in-Reported.is at c.walk-used.ensures.proper)
 
-pub returns-in-Told-clause-answers : goal.returns-in-Told-clause-answers
-returns-in-Told-clause-answers c = λ t ms h.
+pub returns-in-Reported-clause-answers : goal.returns-in-Reported-clause-answers
+returns-in-Reported-clause-answers c = λ t ms h.
     let u = c.walk-used.ensures.used in
-    let len = length-front c.walk-used.result.0 c.part-end.result c.args.input.now u (omega (arith, c.part-end.ensures)) in
+    let len = length-prefix c.walk-used.result.0 c.part-end.result c.args.input.now u (omega (arith, c.part-end.ensures)) in
     let depth : c.from-depth.result ≡ c.machine.inside.limits.depth = c.from-depth.ensures ∙ c.depth.ensures.depth in
-    answered (outs.Event (record { place = c.machine.inside.told; width = c.in-Told.width; kind = c.in-Told.kind })) _ _ t (take c.walk-used.result.0 c.args.input.now) ms h (bytes_take c.walk-used.result.0 c.args.input.now c.below_256.ensures)
-    (λ e. c.in_default-position.not-Done (ap (λ (m : MachineView). m.inner.position) c.machine.view_is ∙ e)) (ap (λ (m : MachineView). m.depth) c.machine.view_is) (fit-sound _ _ (record { open_count = refl; due = refl; item_due = refl; in_payload = refl; complete = refl }) c.walk-used.ensures.fits) (omega arith)
+    answered (outs.Event (record { place = c.machine.inside.reported; width = c.in-Reported.width; kind = c.in-Reported.kind })) _ _ t (take c.walk-used.result.0 c.args.input.now) ms h (bytes_take c.walk-used.result.0 c.args.input.now c.below_256.ensures)
+    (λ e. c.in_default-position.not-Done (ap (λ (m : MachineView). m.inner.position) c.machine.view_is ∙ e)) (ap (λ (m : MachineView). m.depth) c.machine.view_is) (fit-sound _ _ (record { open_count = refl; expected = refl; item_expected = refl; in_payload = refl; complete = refl }) c.walk-used.ensures.fits) (omega arith)
     (ap (λ n. c.machine.inside.taken + n) (sym len.1) ∙ ap (λ (m : MachineView). m.taken + length (take c.walk-used.result.0 c.args.input.now)) c.machine.view_is)
-    (omega (arith, length-take c.part-end.result c.args.input.now)) (returns-in-Told-clause-walked c h.live)
+    (omega (arith, length-take c.part-end.result c.args.input.now)) (returns-in-Reported-clause-walked c h.live)
 
 pub returns-then-machine-bytes-clause-walked : goal.returns-then-machine-bytes-clause-walked
 returns-then-machine-bytes-clause-walked c = λ live.
     let u = c.walk-used.ensures.used in
     let depth : c.from-depth.result ≡ c.machine.inside.limits.depth = c.from-depth.ensures ∙ c.depth.ensures.depth in
-    let walked = rw c.in-More.is at (front-walked _ _ _ _ _ _ _ _ depth u c.walk-used.ensures.walked) in
-    let len = length-front c.walk-used.result.0 c.part-end.result c.args.input.now u (omega (arith, c.part-end.ensures)) in
+    let walked = rw c.in-More.is at (prefix-walked _ _ _ _ _ _ _ _ depth u c.walk-used.ensures.walked) in
+    let len = length-prefix c.walk-used.result.0 c.part-end.result c.args.input.now u (omega (arith, c.part-end.ensures)) in
     let live' = ap (λ (m : MachineView). m.refusal) c.machine.view_is ∙ live in
     let ran : Ran _ _ (take c.walk-used.result.0 c.args.input.now) _ = record { ran = walked; taken = ap (λ n. c.machine.inside.taken + n) (sym len.1) } in
     step-from outs.More _ _ _ (take c.walk-used.result.0 c.args.input.now) c.machine.view_is (ran, live', refl)
@@ -42,10 +40,10 @@ returns-then-machine-bytes-clause-walked c = λ live.
 pub returns-then-machine-bytes-clause-answers : goal.returns-then-machine-bytes-clause-answers
 returns-then-machine-bytes-clause-answers c = λ t ms h.
     let u = c.walk-used.ensures.used in
-    let len = length-front c.walk-used.result.0 c.part-end.result c.args.input.now u (omega (arith, c.part-end.ensures)) in
+    let len = length-prefix c.walk-used.result.0 c.part-end.result c.args.input.now u (omega (arith, c.part-end.ensures)) in
     let depth : c.from-depth.result ≡ c.machine.inside.limits.depth = c.from-depth.ensures ∙ c.depth.ensures.depth in
     answered outs.More _ _ t (take c.walk-used.result.0 c.args.input.now) ms h (bytes_take c.walk-used.result.0 c.args.input.now c.below_256.ensures)
-    (λ e. c.in_default-position.not-Done (ap (λ (m : MachineView). m.inner.position) c.machine.view_is ∙ e)) (ap (λ (m : MachineView). m.depth) c.machine.view_is) (fit-sound _ _ (record { open_count = refl; due = refl; item_due = refl; in_payload = refl; complete = refl }) c.walk-used.ensures.fits) (omega arith)
+    (λ e. c.in_default-position.not-Done (ap (λ (m : MachineView). m.inner.position) c.machine.view_is ∙ e)) (ap (λ (m : MachineView). m.depth) c.machine.view_is) (fit-sound _ _ (record { open_count = refl; expected = refl; item_expected = refl; in_payload = refl; complete = refl }) c.walk-used.ensures.fits) (omega arith)
     (ap (λ n. c.machine.inside.taken + n) (sym len.1) ∙ ap (λ (m : MachineView). m.taken + length (take c.walk-used.result.0 c.args.input.now)) c.machine.view_is)
     (omega (arith, length-take c.part-end.result c.args.input.now)) (returns-then-machine-bytes-clause-walked c h.live)
 
@@ -53,8 +51,8 @@ pub returns-else-machine-bytes-clause-walked : goal.returns-else-machine-bytes-c
 returns-else-machine-bytes-clause-walked c = λ live.
     let u = c.walk-used.ensures.used in
     let depth : c.from-depth.result ≡ c.machine.inside.limits.depth = c.from-depth.ensures ∙ c.depth.ensures.depth in
-    let walked = rw c.in-More.is at (front-walked _ _ _ _ _ _ _ _ depth u c.walk-used.ensures.walked) in
-    let len = length-front c.walk-used.result.0 c.part-end.result c.args.input.now u (omega (arith, c.part-end.ensures)) in
+    let walked = rw c.in-More.is at (prefix-walked _ _ _ _ _ _ _ _ depth u c.walk-used.ensures.walked) in
+    let len = length-prefix c.walk-used.result.0 c.part-end.result c.args.input.now u (omega (arith, c.part-end.ensures)) in
     let live' = ap (λ (m : MachineView). m.refusal) c.machine.view_is ∙ live in
     let ran : Ran _ _ (take c.walk-used.result.0 c.args.input.now) _ = record { ran = walked; taken = ap (λ n. c.machine.inside.taken + n) (sym len.1) } in
     rw c.new-refusal.ensures (step-from (outs.Refused (refusal TooLong c.bytes-bytes.result c.bytes-bytes.result)) _ _ _ (take c.walk-used.result.0 c.args.input.now) c.machine.view_is
@@ -63,10 +61,10 @@ returns-else-machine-bytes-clause-walked c = λ live.
 pub returns-else-machine-bytes-clause-answers : goal.returns-else-machine-bytes-clause-answers
 returns-else-machine-bytes-clause-answers c = λ t ms h.
     let u = c.walk-used.ensures.used in
-    let len = length-front c.walk-used.result.0 c.part-end.result c.args.input.now u (omega (arith, c.part-end.ensures)) in
+    let len = length-prefix c.walk-used.result.0 c.part-end.result c.args.input.now u (omega (arith, c.part-end.ensures)) in
     let depth : c.from-depth.result ≡ c.machine.inside.limits.depth = c.from-depth.ensures ∙ c.depth.ensures.depth in
     rw c.new-refusal.ensures (answered (outs.Refused (refusal TooLong c.bytes-bytes.result c.bytes-bytes.result)) _ _ t (take c.walk-used.result.0 c.args.input.now) ms h (bytes_take c.walk-used.result.0 c.args.input.now c.below_256.ensures)
-    (λ e. c.in_default-position.not-Done (ap (λ (m : MachineView). m.inner.position) c.machine.view_is ∙ e)) (ap (λ (m : MachineView). m.depth) c.machine.view_is) (fit-sound _ _ (record { open_count = refl; due = refl; item_due = refl; in_payload = refl; complete = refl }) c.walk-used.ensures.fits) (omega arith)
+    (λ e. c.in_default-position.not-Done (ap (λ (m : MachineView). m.inner.position) c.machine.view_is ∙ e)) (ap (λ (m : MachineView). m.depth) c.machine.view_is) (fit-sound _ _ (record { open_count = refl; expected = refl; item_expected = refl; in_payload = refl; complete = refl }) c.walk-used.ensures.fits) (omega arith)
     (ap (λ n. c.machine.inside.taken + n) (sym len.1) ∙ ap (λ (m : MachineView). m.taken + length (take c.walk-used.result.0 c.args.input.now)) c.machine.view_is)
     (omega (arith, length-take c.part-end.result c.args.input.now)) (rw c.new-refusal.ensures at (returns-else-machine-bytes-clause-walked c h.live)))
 
@@ -74,17 +72,17 @@ pub returns-in-Refused-clause-walked : goal.returns-in-Refused-clause-walked
 returns-in-Refused-clause-walked c = λ live.
     let u = c.walk-used.ensures.used in
     let depth : c.from-depth.result ≡ c.machine.inside.limits.depth = c.from-depth.ensures ∙ c.depth.ensures.depth in
-    let walked = rw c.in-Refused.is at (front-walked _ _ _ _ _ _ _ _ depth u c.walk-used.ensures.walked) in
-    let len = length-front c.walk-used.result.0 c.part-end.result c.args.input.now u (omega (arith, c.part-end.ensures)) in
+    let walked = rw c.in-Refused.is at (prefix-walked _ _ _ _ _ _ _ _ depth u c.walk-used.ensures.walked) in
+    let len = length-prefix c.walk-used.result.0 c.part-end.result c.args.input.now u (omega (arith, c.part-end.ensures)) in
     rw c.new-refusal-in-Refused.ensures (step-from (outs.Refused (refusal c.in-Refused.reason (c.machine.inside.taken + c.walk-used.result.0 - 1) (c.machine.inside.taken + c.walk-used.result.0))) _ _ _ (take c.walk-used.result.0 c.args.input.now) c.machine.view_is (refl, inr (stopped _ _ _ _ c.walk-used.result.0 walked len.1 refl)))
 
 pub returns-in-Refused-clause-answers : goal.returns-in-Refused-clause-answers
 returns-in-Refused-clause-answers c = λ t ms h.
     let u = c.walk-used.ensures.used in
-    let len = length-front c.walk-used.result.0 c.part-end.result c.args.input.now u (omega (arith, c.part-end.ensures)) in
+    let len = length-prefix c.walk-used.result.0 c.part-end.result c.args.input.now u (omega (arith, c.part-end.ensures)) in
     let depth : c.from-depth.result ≡ c.machine.inside.limits.depth = c.from-depth.ensures ∙ c.depth.ensures.depth in
     rw c.new-refusal-in-Refused.ensures (answered (outs.Refused (refusal c.in-Refused.reason (c.machine.inside.taken + c.walk-used.result.0 - 1) (c.machine.inside.taken + c.walk-used.result.0))) _ _ t (take c.walk-used.result.0 c.args.input.now) ms h (bytes_take c.walk-used.result.0 c.args.input.now c.below_256.ensures)
-    (λ e. c.in_default-position.not-Done (ap (λ (m : MachineView). m.inner.position) c.machine.view_is ∙ e)) (ap (λ (m : MachineView). m.depth) c.machine.view_is) (fit-sound _ _ (record { open_count = refl; due = refl; item_due = refl; in_payload = refl; complete = refl }) c.walk-used.ensures.fits) (omega arith)
+    (λ e. c.in_default-position.not-Done (ap (λ (m : MachineView). m.inner.position) c.machine.view_is ∙ e)) (ap (λ (m : MachineView). m.depth) c.machine.view_is) (fit-sound _ _ (record { open_count = refl; expected = refl; item_expected = refl; in_payload = refl; complete = refl }) c.walk-used.ensures.fits) (omega arith)
     (ap (λ n. c.machine.inside.taken + n) (sym len.1) ∙ ap (λ (m : MachineView). m.taken + length (take c.walk-used.result.0 c.args.input.now)) c.machine.view_is)
     (omega (arith, length-take c.part-end.result c.args.input.now)) (rw c.new-refusal-in-Refused.ensures at (returns-in-Refused-clause-walked c h.live)))
 
@@ -97,7 +95,7 @@ invariant_of-machine-in-Refused c =
     let depth : c.from-depth.result ≡ c.machine.inside.limits.depth = c.from-depth.ensures ∙ c.depth.ensures.depth in
     record {
       within = omega (arith, c.walk-used.ensures.within, depth);
-      fits = subst (λ d. IsFit d c.walk-used.new.nest c.walk-used.new.position) depth c.walk-used.ensures.fits;
+      fits = subst (λ d. IsFit d c.walk-used.new.container_stack c.walk-used.new.position) depth c.walk-used.ensures.fits;
       taken = omega (arith, length-take c.part-end.result c.args.input.now, c.walk-used.ensures.used, c.part-end.ensures, c.machine.invariant.taken, c.bytes-bytes.ensures.bytes);
       settled = λ e. absurd (cc);
       stopped = rw c.new-refusal-in-Refused.ensures (
@@ -106,8 +104,8 @@ invariant_of-machine-in-Refused c =
       );
     }
 
-pub returns-then-machine-bytes-clause-due : goal.returns-then-machine-bytes-clause-due
-returns-then-machine-bytes-clause-due c = λ _.
+pub returns-then-machine-bytes-clause-expected : goal.returns-then-machine-bytes-clause-expected
+returns-then-machine-bytes-clause-expected c = λ _.
     let walked = rw c.in-More.is at c.walk-used.ensures.walked in
     wants-more c.machine.inside.refusal c.machine.inside.limits.bytes (c.machine.inside.taken + c.walk-used.result.0) c.walk-used.new.position (nothing-refused _ c.in_default.not-Some) (omega (arith, c.bytes-bytes.ensures.bytes, c.if-machine-bytes.true))
-    (goes-within _ c.machine.inside.position _ c.machine.inside.nest _ _ _ (λ e. c.in_default-position.not-Done e) c.walk-used.ensures.fits (c.walk-used.ensures.open c.in-More.is) walked)
+    (goes-within _ c.machine.inside.position _ c.machine.inside.container_stack _ _ _ (λ e. c.in_default-position.not-Done e) c.walk-used.ensures.fits (c.walk-used.ensures.open c.in-More.is) walked)

@@ -3,5 +3,5 @@ use Rattle.cbor_reader.proofs.canonical_reader.read_canonical.Goals as goal
 pub returns-in-Err-clause-own : goal.returns-in-Err-clause-own
 returns-in-Err-clause-own c = λ v b. absurd (c.in-Err.ensures.no_canonical v b)
 
-pub returns-in-Err-build_front-clause-own : goal.returns-in-Err-build_front-clause-own
-returns-in-Err-build_front-clause-own c = λ v b. absurd (c.in-Err-2.ensures.no_canonical v b)
+pub returns-in-Err-build_prefix-clause-own : goal.returns-in-Err-build_prefix-clause-own
+returns-in-Err-build_prefix-clause-own c = λ v b. absurd (c.in-Err-2.ensures.no_canonical v b)

@@ -1,6 +1,6 @@
 use Rattle.std.proofs.lemmas.Result.{err_from_is_err_and}
 use Rattle.cbor_reader.proofs.canonicaliser.canonicalise.Goals as goal
-use Rattle.cbor_reader.{specs.Canonicalise.at_copy, specs.Canonicalise.at_front, proofs.WholeItems.memory_at_end}
+use Rattle.cbor_reader.{specs.Canonicalise.at_copy, specs.Canonicalise.at_start, proofs.WholeItems.memory_at_end}
 
 pub returns-in-Owned-clause-equal : goal.returns-in-Owned-clause-equal
 returns-in-Owned-clause-equal c = rw c.in-Owned.is at c.in_ok-made.ensures.equal
@@ -16,7 +16,7 @@ returns-in-Err-clause-answer c =
 pub returns-in_err-made-clause-memory : goal.returns-in_err-made-clause-memory
 returns-in_err-made-clause-memory c =
     let p = err_from_is_err_and c.from_residual.result c.from_residual.ensures.1 in
-    rw (p.1, p.2) (λ e. at_front (c.in_err-made.ensures.memory e))
+    rw (p.1, p.2) (λ e. at_start (c.in_err-made.ensures.memory e))
 
 pub returns-in-Err-clause-memory : goal.returns-in-Err-clause-memory
 returns-in-Err-clause-memory c = λ _. at_copy _ c.in_ok-made.ensures.answer c.at.ensures

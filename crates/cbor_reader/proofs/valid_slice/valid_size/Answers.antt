@@ -1,8 +1,8 @@
 use Rattle.std.proofs.Common.{refl}
-use Rattle.cbor_walk.proofs.FrontStops.{told_at_front}
+use Rattle.cbor_parser.proofs.PrefixStops.{reported_at_start}
 use Rattle.cbor_reader.proofs.valid_slice.valid_size.Goals as goal
 
 pub returns : goal.returns
 returns c =
-    let told = told_at_front c.args.limits c.args.bytes.now c.in-Err.refusal (c.in-Err.ensures refl) in
-    record { accepted = tt; refused = told.refused; no_read = told.no_read; memory = told.memory }
+    let reported = reported_at_start c.args.limits c.args.bytes.now c.in-Err.refusal (c.in-Err.ensures refl) in
+    record { accepted = tt; refused = reported.refused; no_read = reported.no_read; memory = reported.memory }

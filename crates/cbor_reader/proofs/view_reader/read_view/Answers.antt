@@ -1,7 +1,7 @@
 use Rattle.std.proofs.Common.{refl, arith}
-use Rattle.cbor_view.specs.Seen.{seen}
-use Rattle.cbor_walk.proofs.FrontStops.{told_at_front}
-use Rattle.cbor_reader.proofs.ViewFronts.{view_bounded, view_depth, view_range, view_valid}
+use Rattle.cbor_item.specs.ViewValue.{view_value}
+use Rattle.cbor_parser.proofs.PrefixStops.{reported_at_start}
+use Rattle.cbor_reader.proofs.ViewPrefixes.{view_bounded, view_depth, view_range, view_valid}
 use Rattle.cbor_reader.proofs.view_reader.read_view.Goals as goal
 
 pub returns-in-Ok-clause-accepted : goal.returns-in-Ok-clause-accepted
@@ -11,28 +11,28 @@ returns-in-Ok-clause-accepted c =
 
 pub returns-in-Ok-clause-bounded : goal.returns-in-Ok-clause-bounded
 returns-in-Ok-clause-bounded c =
-    view_bounded c.args.limits c.args.bytes.now (seen c.finish.result) c.in-Ok.size (returns-in-Ok-clause-accepted c)
+    view_bounded c.args.limits c.args.bytes.now (view_value c.finish.result) c.in-Ok.size (returns-in-Ok-clause-accepted c)
 
 pub returns-in-Ok-clause-depth : goal.returns-in-Ok-clause-depth
 returns-in-Ok-clause-depth c =
-    view_depth c.args.limits c.args.bytes.now (seen c.finish.result) c.in-Ok.size (omega (arith, c.depth-depth.ensures.depth, c.depth-depth.ensures.most)) (returns-in-Ok-clause-accepted c)
+    view_depth c.args.limits c.args.bytes.now (view_value c.finish.result) c.in-Ok.size (omega (arith, c.depth-depth.ensures.depth, c.depth-depth.ensures.most)) (returns-in-Ok-clause-accepted c)
 
 pub returns-in-Ok-clause-in_range : goal.returns-in-Ok-clause-in_range
 returns-in-Ok-clause-in_range c =
-    view_range c.args.limits c.args.bytes.now (seen c.finish.result) c.in-Ok.size (omega (arith, c.bytes-bytes.ensures.bytes, c.bytes-bytes.ensures.most)) (returns-in-Ok-clause-accepted c)
+    view_range c.args.limits c.args.bytes.now (view_value c.finish.result) c.in-Ok.size (omega (arith, c.bytes-bytes.ensures.bytes, c.bytes-bytes.ensures.most)) (returns-in-Ok-clause-accepted c)
 
 pub returns-in-Ok-clause-valid : goal.returns-in-Ok-clause-valid
 returns-in-Ok-clause-valid c =
-    view_valid c.args.limits c.args.bytes.now (seen c.finish.result) c.in-Ok.size (returns-in-Ok-clause-accepted c)
+    view_valid c.args.limits c.args.bytes.now (view_value c.finish.result) c.in-Ok.size (returns-in-Ok-clause-accepted c)
 
 pub returns-clause-refused : goal.returns-clause-refused
-returns-clause-refused c = (told_at_front c.args.limits c.args.bytes.now c.in-Err.refusal (c.in-Err.ensures refl)).refused
+returns-clause-refused c = (reported_at_start c.args.limits c.args.bytes.now c.in-Err.refusal (c.in-Err.ensures refl)).refused
 
 pub returns-clause-reason : goal.returns-clause-reason
-returns-clause-reason c = (told_at_front c.args.limits c.args.bytes.now c.in-Err.refusal (c.in-Err.ensures refl)).reason
+returns-clause-reason c = (reported_at_start c.args.limits c.args.bytes.now c.in-Err.refusal (c.in-Err.ensures refl)).reason
 
 pub returns-clause-no_read : goal.returns-clause-no_read
-returns-clause-no_read c = (told_at_front c.args.limits c.args.bytes.now c.in-Err.refusal (c.in-Err.ensures refl)).no_read
+returns-clause-no_read c = (reported_at_start c.args.limits c.args.bytes.now c.in-Err.refusal (c.in-Err.ensures refl)).no_read
 
 pub returns-clause-memory : goal.returns-clause-memory
-returns-clause-memory c = (told_at_front c.args.limits c.args.bytes.now c.in-Err.refusal (c.in-Err.ensures refl)).memory
+returns-clause-memory c = (reported_at_start c.args.limits c.args.bytes.now c.in-Err.refusal (c.in-Err.ensures refl)).memory

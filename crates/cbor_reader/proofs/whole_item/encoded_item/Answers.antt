@@ -1,7 +1,7 @@
 use Rattle.std.proofs.Common.{arith}
 use Rattle.cbor_head.specs.Prelude.{value_of}
 use Rattle.cbor_reader.proofs.whole_item.encoded_item.Goals as goal
-use Rattle.cbor_reader.{specs.WholeItem.unread, specs.WholeItem.trailing, proofs.OwnAnswers.own_front, proofs.WholeItems.all-of-it}
+use Rattle.cbor_reader.{specs.WholeItem.unread, specs.WholeItem.trailing, proofs.OwnAnswers.own_prefix, proofs.WholeItems.all-of-it}
 
 pub returns-then-size-bytes-clause-refused : goal.returns-then-size-bytes-clause-refused
 returns-then-size-bytes-clause-refused c = trailing c.in-Ok.size c.in-Ok.ensures.accepted.read (omega (arith, c.if-size-bytes.true)) c.at.ensures
@@ -15,4 +15,4 @@ pub returns-in-Err-clause-refused : goal.returns-in-Err-clause-refused
 returns-in-Err-clause-refused c = unread c.in-Err.ensures.refused c.in-Err.ensures.no_read
 
 pub returns-in-Err-clause-own : goal.returns-in-Err-clause-own
-returns-in-Err-clause-own c = λ a. c.in-Err.ensures.own (value_of a.item) (own_front c.args.limits c.args.order c.args.bytes.now (omega arith) a)
+returns-in-Err-clause-own c = λ a. c.in-Err.ensures.own (value_of a.item) (own_prefix c.args.limits c.args.order c.args.bytes.now (omega arith) a)

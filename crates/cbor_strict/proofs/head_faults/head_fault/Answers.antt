@@ -1,5 +1,5 @@
 use Rattle.std.proofs.Common.{rules}
-use Rattle.cbor_judging.proofs.Steps.{open-fault, IsHeadKind}
+use Rattle.cbor_verdict.proofs.Steps.{open-fault, IsHeadKind}
 use Rattle.cbor_strict.proofs.head_faults.head_fault.Goals as goal
 use Rattle.cbor_strict.proofs.head_faults.head_fault.Goals.{in-Simple, in-Bytes2, in-Unsigned2}
 

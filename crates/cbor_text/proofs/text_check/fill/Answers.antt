@@ -1,5 +1,5 @@
 use Rattle.std.proofs.Common.{subst, ◌∙◌}
-use Rattle.cbor_text.proofs.TextFronts.{fill-past, fill-never, fixed-now}
+use Rattle.cbor_text.proofs.TextPrefixes.{fill-past, fill-never, fixed-now}
 use Rattle.cbor_text.proofs.text_check.fill.Goals as goal
 use Rattle.cbor_text.specs.inner.TextCheck.{IsFixed}
 

@@ -1,7 +1,7 @@
 use Rattle.std.proofs.Common.{◌+◌, ◌++◌, length, take, sym, ap, subst, arith, length-append}
 use Rattle.std.specs.Str.{IsUtf8, IsValidUpTo}
 use Rattle.cbor_text.specs.inner.TextCheck.{IsUnfinished, IsFixed, IsOpen}
-use Rattle.cbor_text.proofs.TextFronts.{past-open, past-fixed, open-none}
+use Rattle.cbor_text.proofs.TextPrefixes.{past-open, past-fixed, open-none}
 use Rattle.cbor_text.proofs.text_check.go_on.Goals as goal
 
 pub fill-requires-clause-unfinished : goal.fill-requires-clause-unfinished

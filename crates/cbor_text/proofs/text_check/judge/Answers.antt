@@ -1,7 +1,7 @@
 use Rattle.std.proofs.Common.{sym, subst, ◌∙◌}
 use Rattle.std.proofs.lemmas.Str.{IsUtf8-from_ascii}
 use Rattle.cbor_text.proofs.text_check.judge.Goals as goal
-use Rattle.cbor_text.{specs.inner.TextCheck.IsFixed, proofs.TextFronts.fixed}
+use Rattle.cbor_text.{specs.inner.TextCheck.IsFixed, proofs.TextPrefixes.fixed}
 
 pub returns-in-Some : goal.returns-in-Some
 returns-in-Some c =

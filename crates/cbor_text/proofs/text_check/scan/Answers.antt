@@ -1,6 +1,6 @@
 use Rattle.std.proofs.Common.{◌-◌, ◌++◌, length, take, drop, sym, ap, subst, ◌∙◌, arith}
 use Rattle.std.proofs.lemmas.List.{take_rest}
-use Rattle.cbor_text.proofs.TextFronts.{open-whole, open-rest, fixed-now}
+use Rattle.cbor_text.proofs.TextPrefixes.{open-whole, open-rest, fixed-now}
 use Rattle.cbor_text.proofs.text_check.scan.Goals as goal
 use Rattle.cbor_text.specs.inner.TextCheck.{IsOpen}
 

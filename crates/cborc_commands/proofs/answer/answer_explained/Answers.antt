@@ -1,14 +1,13 @@
 use Rattle.std.proofs.Common.{◌≡◌, ℕ, List, Option, subst, rules}
 use Rattle.cborc_files.specs.Folder.{Files}
-use Rattle.cborc_input.specs.declared.request.Request.{Request}
 use Rattle.cborc_commands.proofs.answer.answer_explained.Goals as goal
-use Rattle.cborc_commands.{specs.Told.IsAnswered, proofs.Runs.answered_so}
+use Rattle.cborc_commands.{specs.declared.request.Request.Request, specs.Outcome.IsAnswered, proofs.Runs.answered_so}
 
 -- the folder that keeps what was read stands for the one behind it
 behind : (request : Request) (old first last new : Option Files) (before after : Option (List ℕ)) (status : ℕ) → IsAnswered request first last before after status → first ≡ old → last ≡ new
     → IsAnswered request old new before after status
-behind request old first last new before after status told here there =
-    subst (λ (x : Option Files). IsAnswered request old x before after status) there (subst (λ (x : Option Files). IsAnswered request x last before after status) here told)
+behind request old first last new before after status reported here there =
+    subst (λ (x : Option Files). IsAnswered request old x before after status) there (subst (λ (x : Option Files). IsAnswered request x last before after status) here reported)
 
 pub returns : goal.returns
 returns g c =

@@ -1,7 +1,7 @@
 use Rattle.std.proofs.Common.{ℕ, ◌≡◌, List, length, take, sym, ap, ◌∙◌}
 use Rattle.cbor_head.specs.{Prelude.Bounds, declared.order.KeyOrder.KeyOrder, declared.reason.Refusal.Refusal}
 use Rattle.cbor_reader.specs.Canonicalise.{IsCanonicaliserReason, IsRefusal}
-use Rattle.naltvigo.proofs.Given.{given-tells, given-item, given-told}
+use Rattle.naltvigo.proofs.Given.{given-reports, given-item, given-reported}
 use Rattle.naltvigo.proofs.canonicalising.naltvigo_canonicalise_raw.Goals as goal
 use Rattle.naltvigo.specs.Settings.{item_limits, key_order}
 
@@ -16,17 +16,17 @@ returns-in-Ok-clause-accepted c = λ e.
 
 pub returns-in-Ok-clause-equal : goal.returns-in-Ok-clause-equal
 returns-in-Ok-clause-equal c = λ e.
-    given-tells _ (item_limits c.args.keys c.args.depth c.args.bytes) _ _ c.args.input.now _ _
+    given-reports _ (item_limits c.args.keys c.args.depth c.args.bytes) _ _ c.args.input.now _ _
     (sym c.in-Some-limits_of.ensures.value.0)
     (sym c.in-Some.ensures.value.0) (in_buffer _ _ _ _ c.give.ensures.needed (c.give.ensures.given e).0 c.as_slice.ensures.value) c.in-Ok.ensures.equal
 
 pub returns-in-Err-clause-refused : goal.returns-in-Err-clause-refused
 returns-in-Err-clause-refused c = λ e.
-    given-told (λ (b : Bounds). IsRefusal b (key_order c.args.order) c.args.input.now) c.in-Some-limits_of.ensures.value.0
-    (given-told (λ (o : KeyOrder). IsRefusal c.in-Some-limits_of.limits o c.args.input.now) c.in-Some.ensures.value.0
-    record { why = c.in-Err.reason; holds = c.in-Err.ensures.answer; not_memory = c.tell.ensures.refused e; told = c.tell.ensures.told })
+    given-reported (λ (b : Bounds). IsRefusal b (key_order c.args.order) c.args.input.now) c.in-Some-limits_of.ensures.value.0
+    (given-reported (λ (o : KeyOrder). IsRefusal c.in-Some-limits_of.limits o c.args.input.now) c.in-Some.ensures.value.0
+    record { why = c.in-Err.reason; holds = c.in-Err.ensures.answer; not_memory = c.report.ensures.refused e; reported = c.report.ensures.reported })
 
 pub returns-in-Err-clause-reason : goal.returns-in-Err-clause-reason
 returns-in-Err-clause-reason c = λ e.
-    given-told (λ (b : Bounds) (f : Refusal). IsCanonicaliserReason b f.reason) c.in-Some-limits_of.ensures.value.0
-    record { why = c.in-Err.reason; holds = c.in-Err.ensures.reason; not_memory = c.tell.ensures.refused e; told = c.tell.ensures.told }
+    given-reported (λ (b : Bounds) (f : Refusal). IsCanonicaliserReason b f.reason) c.in-Some-limits_of.ensures.value.0
+    record { why = c.in-Err.reason; holds = c.in-Err.ensures.reason; not_memory = c.report.ensures.refused e; reported = c.report.ensures.reported }

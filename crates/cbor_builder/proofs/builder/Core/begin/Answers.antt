@@ -1,6 +1,6 @@
 use Rattle.std.proofs.Common.{List, ◌∷◌, ap, ◌∙◌}
-use Rattle.cbor_canonical.specs.Parts.{opened}
-use Rattle.cbor_buffer.specs.{Moved.meant, declared.span.Span.Span}
+use Rattle.cbor_model.specs.Parts.{opened}
+use Rattle.cbor_output.specs.{Moved.meant, declared.span.Span.Span}
 use Rattle.cbor_builder.proofs.builder.Core.begin.Goals as goal
 use Rattle.cbor_builder.{specs.inner.BuilderState.frames, specs.inner.Laid.opens, specs.inner.Laid.opening_frame, proofs.Growth.begun}
 

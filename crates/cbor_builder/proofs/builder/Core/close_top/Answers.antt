@@ -1,7 +1,7 @@
 use Rattle.std.proofs.Common.{◌≡◌, ◌-◌, ◌++◌, ℕ, take, length, length-append, sym, ap, ◌∙◌, subst, arith, flat_map, length-take-le}
 use Rattle.cbor_head.specs.Prelude.{in_order}
-use Rattle.cbor_canonical.{specs.Parts.closed, specs.Parts.HasNoRepeats, specs.Pairs.pair_bytes, proofs.Decided.holds}
-use Rattle.cbor_buffer.{specs.Moved.meant, proofs.Drafts.whole_length, proofs.Drafts.front_shorter}
+use Rattle.cbor_model.{specs.Parts.closed, specs.Parts.HasNoRepeats, specs.Pairs.pair_bytes, proofs.Decided.holds}
+use Rattle.cbor_output.{specs.Moved.meant, proofs.Drafts.whole_length, proofs.Drafts.prefix_shorter}
 use Rattle.cbor_builder.proofs.builder.Core.close_top.Goals as goal
 use Rattle.cbor_builder.specs.{inner.BuilderState.outers, inner.Laid.shape_open, inner.Laid.pairs_from, inner.InPlace.HasSameKeys, declared.frame.Shape.Shape}
 use Rattle.cbor_builder.proofs.{Growth.map_sorted, InPlace.top_keys}
@@ -33,9 +33,9 @@ returns-in_ok-fill_head-in-Map-clause-bytes c = λ t.
     (map_sorted s.order (meant s.out) s.spans.items f.from f.start c.in-Map.first (c.len.result - c.in-Map.first) (meant c.order_pairs.new.self.out) (meant c.fill_head-in-Map.new.self) c.requires.laid.0.0.0 c.requires.laid.0.0.1
     (ap (λ (n : ℕ). n - c.in-Map.first) (c.len.ensures ∙ s.spans.ok.0)) (k.meant c.if-not-branch.false) c.in_ok-fill_head-in-Map.ensures.meant_is)
 
-pub returns-in_ok-fill_head-in-Map-clause-front : goal.returns-in_ok-fill_head-in-Map-clause-front
-returns-in_ok-fill_head-in-Map-clause-front c = λ t.
+pub returns-in_ok-fill_head-in-Map-clause-prefix : goal.returns-in_ok-fill_head-in-Map-clause-prefix
+returns-in_ok-fill_head-in-Map-clause-prefix c = λ t.
     let s = c.args.self.now in
     let k = c.in_ok-order_pairs-in-Map.ensures in
     let h = c.in_ok-fill_head-in-Map.ensures in
-    front_shorter s.top.from s.top.start s.out c.order_pairs.new.self.out c.fill_head-in-Map.new.self c.requires.laid.0.0.0 (k.front c.if-not-branch.false) h.front h.lies
+    prefix_shorter s.top.from s.top.start s.out c.order_pairs.new.self.out c.fill_head-in-Map.new.self c.requires.laid.0.0.0 (k.prefix c.if-not-branch.false) h.prefix h.lies

@@ -1,9 +1,9 @@
 use Rattle.std.proofs.Common.{List, ◌∷◌, ◌++◌, take, sym, ap, ◌∙◌, subst, rules}
 use Rattle.cbor_head.specs.declared.order.KeyOrder.{KeyOrder}
-use Rattle.cbor_canonical.{specs.Parts.close, specs.Parts.closed, proofs.Decided.holds}
-use Rattle.cbor_buffer.specs.Moved.{meant, KeepsFront}
+use Rattle.cbor_model.{specs.Parts.close, specs.Parts.closed, proofs.Decided.holds}
+use Rattle.cbor_output.specs.Moved.{meant, KeepsPrefix}
 use Rattle.cbor_builder.specs.inner.Laid.{OuterTakes, opens, shape_open}
-use Rattle.cbor_builder.proofs.Standing.{member_ended, member_outer, keeps_stays}
+use Rattle.cbor_builder.proofs.OpenMembers.{member_ended, member_outer, keeps_stays}
 use Rattle.cbor_builder.proofs.builder.Core.end.Goals as goal
 use Rattle.cbor_builder.specs.{inner.BuilderState.outers, inner.BuilderState.Stand, declared.frame.Frame.Frame}
 use Rattle.cbor_builder.proofs.{Nesting.nothing_open, Nesting.rooted_given, Reordered.left_open}
@@ -21,9 +21,9 @@ returns-in_ok-complete c =
     let rev = sym k.around ∙ c.leave.ensures.frames c.if-leave.true in
     let stand : Stand o s.out s.spans.items (s.top ∷ n.top ∷ outers n) = subst (λ (o : KeyOrder). Stand o s.out s.spans.items (s.top ∷ n.top ∷ outers n)) (sym eo) (subst (λ (fs : List Frame). Stand s.order s.out s.spans.items (s.top ∷ fs)) rev c.requires.laid.0) in
     let bytes = t.meant ∙ ap meant c.leave.ensures.out ∙ k.bytes done ∙ ap (λ (o : KeyOrder). take s.top.from (meant s.out) ++ closed o (shape_open (meant s.out) s.spans.items s.top.start s.top.shape)) (sym eo) in
-    let front = keeps_stays s.top.from s.out n.out c.settle_member.new.out (subst (KeepsFront s.top.from s.out) (sym c.leave.ensures.out) (k.front done)) t.stays t.meant in
+    let prefix = keeps_stays s.top.from s.out n.out c.settle_member.new.out (subst (KeepsPrefix s.top.from s.out) (sym c.leave.ensures.out) (k.prefix done)) t.stays t.meant in
     let made = member_ended o s.out c.settle_member.new.out s.spans.items n.spans.items s.top n.top (outers n) c.complete.new.spans.items c.complete.new.frame stand t.whole
-    (subst OuterTakes rev c.requires.takes) bytes front t.key (λ none. t.last (nothing_open n none)) (c.leave.ensures.spans ∙ k.spans done) (e.from, e.start, e.shape, e.spans, e.rises) in
+    (subst OuterTakes rev c.requires.takes) bytes prefix t.key (λ none. t.last (nothing_open n none)) (c.leave.ensures.spans ∙ k.spans done) (e.from, e.start, e.shape, e.spans, e.rises) in
     let rooted = rooted_given o c.settle_member.new.out.buf n.spans.items s.top.from n.top c.complete.new.frame n.is_open n.below.items e.from e.start e.shape e.rises (c.leave.ensures.rooted c.if-leave.true) in
     record {
       order = eo;
@@ -47,4 +47,4 @@ complete-requires-clause-ready c =
     let n = c.leave.new.self in
     let rev = sym k.around ∙ c.leave.ensures.frames c.if-leave.true in
     member_outer s.order s.out c.settle_member.new.out (closed s.order (shape_open (meant s.out) s.spans.items s.top.start s.top.shape)) s.spans.items n.spans.items s.top n.top (outers n)
-    (subst (λ (fs : List Frame). Stand s.order s.out s.spans.items (s.top ∷ fs)) rev c.requires.laid.0) t.whole (t.meant ∙ ap meant c.leave.ensures.out ∙ k.bytes done) (keeps_stays s.top.from s.out n.out c.settle_member.new.out (subst (KeepsFront s.top.from s.out) (sym c.leave.ensures.out) (k.front done)) t.stays t.meant) (c.leave.ensures.spans ∙ k.spans done)
+    (subst (λ (fs : List Frame). Stand s.order s.out s.spans.items (s.top ∷ fs)) rev c.requires.laid.0) t.whole (t.meant ∙ ap meant c.leave.ensures.out ∙ k.bytes done) (keeps_stays s.top.from s.out n.out c.settle_member.new.out (subst (KeepsPrefix s.top.from s.out) (sym c.leave.ensures.out) (k.prefix done)) t.stays t.meant) (c.leave.ensures.spans ∙ k.spans done)

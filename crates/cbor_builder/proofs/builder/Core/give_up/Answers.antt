@@ -1,6 +1,6 @@
 use Rattle.std.proofs.Common.{take, sym, ap, ◌∙◌, subst, rules}
-use Rattle.cbor_canonical.proofs.Decided.{holds}
-use Rattle.cbor_buffer.specs.{Moved.meant, Moved.IsWhole, declared.draft.Draft.Draft}
+use Rattle.cbor_model.proofs.Decided.{holds}
+use Rattle.cbor_output.specs.{Moved.meant, Moved.IsWhole, declared.reorder_buffer.ReorderBuffer.ReorderBuffer}
 use Rattle.cbor_builder.proofs.builder.Core.give_up.Goals as goal
 use Rattle.cbor_builder.specs.{inner.BuilderState.outers, inner.BuilderState.frames, inner.Laid.opens, inner.Laid.Laid, declared.frame.Frame.Frame}
 use Rattle.cbor_builder.proofs.{InPlace.agrees_refl, Nesting.found_around, Reordered.left_open}
@@ -15,7 +15,7 @@ returns c =
     let l = c.leave.ensures in
     let t = found_around c.leave.result (outers s) c.requires.takes (λ none. sym e.around ∙ l.none none) in
     let out = ap meant l.out ∙ c.cut.ensures.meant ∙ ap (take n.top.from) (c.in_ok-settle.ensures.lies ∙ c.in_ok-settle.ensures.meant ∙ ap meant e.out) ∙ ap (λ (g : Frame). take g.from (meant s.out)) e.top in
-    let lies = ap (λ (x : Draft). x.buf) l.out ∙ c.cut.ensures.lies ∙ sym c.cut.ensures.meant ∙ sym (ap meant l.out) in
+    let lies = ap (λ (x : ReorderBuffer). x.buf) l.out ∙ c.cut.ensures.lies ∙ sym c.cut.ensures.meant ∙ sym (ap meant l.out) in
     let frames_are = sym (l.frames t) ∙ e.around in
     let spans = l.spans ∙ e.spans c.if-not-give_up_pairs.false in
     let order = l.order ∙ e.order in

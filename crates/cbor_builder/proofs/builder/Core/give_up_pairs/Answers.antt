@@ -1,6 +1,6 @@
 use Rattle.std.proofs.Common.{refl, sym, subst}
-use Rattle.cbor_canonical.{specs.Pairs.HasDistinctBytes, specs.Parts.HasNoRepeats, proofs.Decided.holds, proofs.Sorting.rising_distinct}
-use Rattle.cbor_buffer.specs.Moved.{meant}
+use Rattle.cbor_model.{specs.Pairs.HasDistinctBytes, specs.Parts.HasNoRepeats, proofs.Decided.holds, proofs.Sorting.rising_distinct}
+use Rattle.cbor_output.specs.Moved.{meant}
 use Rattle.cbor_builder.specs.inner.Laid.{Fits, pairs_from, shape_open}
 use Rattle.cbor_builder.proofs.builder.Core.give_up_pairs.Goals as goal
 use Rattle.cbor_builder.specs.declared.frame.Shape.{Shape}

@@ -1,6 +1,6 @@
 use Rattle.cbor_head.specs.Prelude.{shortest_head}
 use Rattle.cbor_builder.proofs.builder.Core.leaf.Goals as goal
-use Rattle.cbor_builder.proofs.Standing.{member_given}
+use Rattle.cbor_builder.proofs.OpenMembers.{member_given}
 
 pub returns : goal.returns
 returns c =

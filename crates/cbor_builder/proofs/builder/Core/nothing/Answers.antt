@@ -1,7 +1,7 @@
 use Rattle.std.proofs.Common.{append-nil, sym, []}
-use Rattle.cbor_buffer.specs.Moved.{meant, Extends}
+use Rattle.cbor_output.specs.Moved.{meant, Extends}
 use Rattle.cbor_builder.proofs.builder.Core.nothing.Goals as goal
-use Rattle.cbor_builder.{specs.inner.BuilderState.IsLaid, specs.declared.builder.Core.Core, proofs.Standing.member_given, proofs.Standing.member_ready}
+use Rattle.cbor_builder.{specs.inner.BuilderState.IsLaid, specs.declared.builder.Core.Core, proofs.OpenMembers.member_given, proofs.OpenMembers.member_ready}
 
 by_nothing : (s : Core) → IsLaid s → Extends s.out s.out []
 by_nothing s laid = record { whole = laid.0.1; lies = sym (append-nil s.out.buf); meant_is = sym (append-nil (meant s.out)) }

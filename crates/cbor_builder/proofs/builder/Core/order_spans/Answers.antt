@@ -1,22 +1,22 @@
 use Rattle.std.proofs.Common.{◌≡◌, ◌+◌, ◌≤◌, ◌++◌, ◌∙◌, ℕ, List, length, length-append, length-drop, length-take, take, drop, map, refl, sym, ap, subst, arith, IsPermutation, append_assoc}
 use Rattle.std.proofs.lemmas.List.{take_rest, Sorted.length_permutation}
-use Rattle.cbor_canonical.specs.Pairs.{IsRising}
-use Rattle.cbor_buffer.specs.{Spans.span_pair, declared.span.Span.Span, Moved.meant}
+use Rattle.cbor_model.specs.Pairs.{IsRising}
+use Rattle.cbor_output.specs.{Spans.span_pair, declared.span.Span.Span, Moved.meant}
 use Rattle.cbor_builder.proofs.builder.Core.order_spans.Goals as goal
-use Rattle.cbor_builder.{specs.inner.Front.AreFronted, proofs.InPlace.fronted_keys, proofs.InOrder.distinct_iff, proofs.InOrder.order_meant}
-use Rattle.cbor_builder.proofs.Inserted.{taken_front, rest_front}
+use Rattle.cbor_builder.{specs.inner.Prefix.ArePrefixed, proofs.InPlace.prefixed_keys, proofs.InOrder.distinct_iff, proofs.InOrder.order_meant}
+use Rattle.cbor_builder.proofs.Inserted.{taken_prefix, rest_prefix}
 
 pub sort_distinct-requires : goal.sort_distinct-requires
 sort_distinct-requires c =
     let s = c.args.self.now in
     let us = take_rest c.deref_mut.result.now c.args.first ∙ ap (drop c.args.first) c.deref_mut.ensures.value in
-    coe 1 0 (i. AreFronted (c.as_slice.ensures i) (us i)) (fronted_keys s.out.buf (meant s.out) (drop c.args.first s.spans.items) c.requires.keys c.requires.fits.3)
+    coe 1 0 (i. ArePrefixed (c.as_slice.ensures i) (us i)) (prefixed_keys s.out.buf (meant s.out) (drop c.args.first s.spans.items) c.requires.keys c.requires.fits.3)
 
 -- what a part that is put in order leaves
 placed : (n m : ℕ) (us ys post zs : List Span) → n ≤ length us → n + length ys ≡ m → take m ((take n us ++ (ys ++ post)) ++ zs) ≡ take n us ++ ys
 placed n m us ys post zs h e =
     ap (take m) (append_assoc (take n us) (ys ++ post) zs ∙ ap (λ (ts : List Span). take n us ++ ts) (append_assoc ys post zs) ∙ sym (append_assoc (take n us) ys (post ++ zs)))
-    ∙ taken_front m (take n us ++ ys) (post ++ zs) (omega (arith, length-take n us, length-append (take n us) ys, h, e))
+    ∙ taken_prefix m (take n us ++ ys) (post ++ zs) (omega (arith, length-take n us, length-append (take n us) ys, h, e))
 
 pub returns : goal.returns
 returns c =
@@ -30,16 +30,16 @@ returns c =
     let moved = subst (λ (xs : List Span). IsPermutation xs ys) us e.permuted in
     let short = length-drop n s.spans.items in
     let same = ap length c.deref_mut.ensures.value in
-    let front : length (take n given) ≡ n = omega (arith, length-take n given, c.requires.fits.0, same) in
+    let prefix : length (take n given) ≡ n = omega (arith, length-take n given, c.requires.fits.0, same) in
     let left = placed n s.spans.len given ys _ _ (omega (arith, c.requires.fits.0, same)) (omega (arith, c.requires.fits.0, length_permutation was ys moved, short, s.spans.ok.0)) in
-    let all = ap (drop n) left ∙ rest_front n (take n given) ys front in
+    let all = ap (drop n) left ∙ rest_prefix n (take n given) ys prefix in
     let distinct = distinct_iff s.out.buf (meant s.out) c.as_slice.result.now _ was c.sort_distinct.result c.as_slice.ensures us c.requires.keys e.distinct in
     record {
       order = refl;
       out = refl;
       top = refl;
       around = refl;
-      front = ap (take n) left ∙ taken_front n (take n given) ys front ∙ ap (take n) c.deref_mut.ensures.value;
+      prefix = ap (take n) left ∙ taken_prefix n (take n given) ys prefix ∙ ap (take n) c.deref_mut.ensures.value;
       permuted = subst (IsPermutation was) (sym all) moved;
       distinct = distinct;
       pairs = λ t.

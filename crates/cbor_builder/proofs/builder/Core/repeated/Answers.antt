@@ -1,10 +1,10 @@
 use Rattle.std.proofs.Common.{List, drop, map, sym, ap, ◌∙◌, subst, arith}
 use Rattle.std.proofs.lemmas.List.{take_rest}
-use Rattle.cbor_canonical.specs.Pairs.{IsRising}
-use Rattle.cbor_buffer.specs.{Spans.span_pair, Moved.meant, declared.span.Span.Span}
-use Rattle.cbor_builder.proofs.InPlace.{top_keys, fronted_keys, rising_keys, keys_flip, repeated_same}
+use Rattle.cbor_model.specs.Pairs.{IsRising}
+use Rattle.cbor_output.specs.{Spans.span_pair, Moved.meant, declared.span.Span.Span}
+use Rattle.cbor_builder.proofs.InPlace.{top_keys, prefixed_keys, rising_keys, keys_flip, repeated_same}
 use Rattle.cbor_builder.proofs.builder.Core.repeated.Goals as goal
-use Rattle.cbor_builder.specs.inner.{Front.AreFronted, Laid.Fits, InPlace.HasSameKeys, BuilderState.outers}
+use Rattle.cbor_builder.specs.inner.{Prefix.ArePrefixed, Laid.Fits, InPlace.HasSameKeys, BuilderState.outers}
 
 pub has_key-requires : goal.has_key-requires
 has_key-requires c =
@@ -17,7 +17,7 @@ has_key-requires c =
     let us = take_rest c.deref.result.now c.in-Key.first ∙ ap (drop c.in-Key.first) c.deref.ensures.value in
     let k = subst (HasSameKeys bytes (meant s.out) s.spans.items) c.in-Key.is (top_keys bytes (meant s.out) s.spans.items f (outers s) laid.2) in
     record {
-      fronted = subst (AreFronted bytes) (sym us) (fronted_keys bytes (meant s.out) came k.0 fits.4);
+      prefixed = subst (ArePrefixed bytes) (sym us) (prefixed_keys bytes (meant s.out) came k.0 fits.4);
       rises = λ t. subst (λ (xs : List Span). IsRising s.order (map (span_pair bytes) xs)) (sym us)
           (rising_keys s.order (meant s.out) bytes came (keys_flip bytes (meant s.out) came k.0) (fits.3 t));
       begins = omega (arith, c.len.ensures.meant, fits.2);

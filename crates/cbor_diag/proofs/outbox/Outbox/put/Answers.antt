@@ -6,4 +6,4 @@ pub returns : goal.returns
 returns g c =
     let s = c.args.self.now in
     let kept : c.try_extend_from_slice.new.self ≡ s.waiting = where_err _ _ c.if-is_ok.false c.is_ok.ensures.value c.try_extend_from_slice.ensures.err in
-    puts-from _ _ s _ c.make_room.new.self c.args.bytes.now c.make_room.result (ap (λ w. record { waiting = w; taken = s.taken }) kept) c.make_room.ensures
+    puts-from _ _ s _ c.make_space.new.self c.args.bytes.now c.make_space.result (ap (λ w. record { waiting = w; taken = s.taken }) kept) c.make_space.ensures

@@ -1,5 +1,5 @@
 use Rattle.std.proofs.Common.{refl}
-use Rattle.cbor_walk.specs.Sink.{leaf_value}
+use Rattle.cbor_parser.specs.Sink.{leaf_value}
 use Rattle.cbor_diag.proofs.text_sink.TextSinkSink.leaf.Goals as goal
 use Rattle.cbor_diag.{specs.Text.text, proofs.TextGiven.given}
 

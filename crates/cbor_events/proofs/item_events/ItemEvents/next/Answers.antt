@@ -1,5 +1,5 @@
 use Rattle.std.proofs.Common.{[], refl, sym, subst, Some}
-use Rattle.cbor_standing.{specs.Machine.KeepsLimits, specs.NextEvent.ItemEventsView, specs.NextEvent.StandsBetween, proofs.Buffers.refused-call}
+use Rattle.cbor_machine.{specs.Machine.KeepsLimits, specs.NextEvent.ItemEventsView, specs.NextEvent.StandsBetween, proofs.Buffers.refused-call}
 use Rattle.cbor_events.proofs.item_events.ItemEvents.next.Goals as goal
 
 pub returns-in-Err-clause-answers : goal.returns-in-Err-clause-answers

@@ -1,5 +1,5 @@
 use Rattle.std.proofs.Common.{[], sym, subst, Some}
-use Rattle.cbor_standing.specs.NextEvent.{ItemEventsView, StandsBetween}
+use Rattle.cbor_machine.specs.NextEvent.{ItemEventsView, StandsBetween}
 use Rattle.cbor_events.proofs.item_events.ItemEvents.next_key.Goals as goal
 use Rattle.cbor_events.proofs.Keys.{refused-key}
 

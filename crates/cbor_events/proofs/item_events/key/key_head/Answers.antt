@@ -1,7 +1,7 @@
 use Rattle.std.proofs.Common.{◌<◌, ◌∙◌, refl, sym, subst, inr, arith, ap}
 use Rattle.cbor_head.specs.{Prelude.refusal, declared.reason.Reason.TheVariants.KeyKind}
-use Rattle.cbor_standing.{specs.Machine.wanted, proofs.Buffers.head-answer, proofs.NextEvents.complete-wants}
-use Rattle.cbor_events.proofs.Keys.{end-key, other-here, told-key, stopped-key, open-key, first-read}
+use Rattle.cbor_machine.{specs.Machine.wanted, proofs.Buffers.head-answer, proofs.NextEvents.complete-wants}
+use Rattle.cbor_events.proofs.Keys.{end-key, other-here, reported-key, stopped-key, open-key, first-read}
 use Rattle.cbor_events.proofs.item_events.key.key_head.Goals as goal
 use Rattle.cbor_events.{specs.inner.Reads.IsTakenAt, proofs.Parts.none-read}
 
@@ -19,10 +19,10 @@ returns-then-is_other-clause-answers g c = λ kept t ms h.
     (subst (IsTakenAt c.first_byte-part.result.0) c.taken-place.ensures.taken other.0) other.1 other.2 c.first_byte-part.ensures.limits.depth (complete-wants m h.stands.inner.shown some)
     (c.new.ensures ∙ ap (λ n. refusal KeyKind n c.taken.result) c.taken-place.ensures.taken ∙ ap (refusal KeyKind m.taken) c.taken.ensures.taken))
 
-pub returns-in-Told-clause-answers : goal.returns-in-Told-clause-answers
-returns-in-Told-clause-answers g c = λ kept t ms h.
-    told-key c.in-Told.event c.args.machine.now c.first_byte-part.new.machine _ _ c.first_byte-part.result.1 kept t ms h (rw c.in-Told.is at (c.first_byte-part.ensures.lost t ms h.stands))
-    (c.is_other.ensures.basic c.if-is_other.false (rw c.in-Told.is tt)) (rw c.in-Told.is at (c.first_byte-part.ensures.answers kept t ms h))
+pub returns-in-Reported-clause-answers : goal.returns-in-Reported-clause-answers
+returns-in-Reported-clause-answers g c = λ kept t ms h.
+    reported-key c.in-Reported.event c.args.machine.now c.first_byte-part.new.machine _ _ c.first_byte-part.result.1 kept t ms h (rw c.in-Reported.is at (c.first_byte-part.ensures.lost t ms h.stands))
+    (c.is_other.ensures.basic c.if-is_other.false (rw c.in-Reported.is tt)) (rw c.in-Reported.is at (c.first_byte-part.ensures.answers kept t ms h))
 
 pub returns-in-Open-clause-answers : goal.returns-in-Open-clause-answers
 returns-in-Open-clause-answers g c = λ kept t ms h.

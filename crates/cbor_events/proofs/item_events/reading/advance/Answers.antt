@@ -1,5 +1,5 @@
 use Rattle.std.proofs.Common.{take, refl, sym, ◌∙◌}
-use Rattle.cbor_standing.proofs.Buffers.{payload-answer}
+use Rattle.cbor_machine.proofs.Buffers.{payload-answer}
 use Rattle.cbor_events.proofs.item_events.reading.advance.Goals as goal
 use Rattle.cbor_events.proofs.Parts.{none-read}
 

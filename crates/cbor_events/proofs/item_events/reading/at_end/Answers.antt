@@ -1,8 +1,8 @@
 use Rattle.std.proofs.Common.{[], ◌++◌, inr, refl, arith, subst}
 use Rattle.std.proofs.KnownBytes.{Consumes-nil}
-use Rattle.cbor_standing.specs.declared.step.Out.TheVariants as outs
-use Rattle.cbor_standing.specs.{Machine.IsComplete, Machine.IsRefused, Steps.IsStep, NextEvent.machine_call}
-use Rattle.cbor_standing.proofs.{NextEvents.end-here, NextEvents.all-used, NextRefusals.still-due, NextRefusals.stopped-here}
+use Rattle.cbor_machine.specs.declared.step.Out.TheVariants as outs
+use Rattle.cbor_machine.specs.{Machine.IsComplete, Machine.IsRefused, Steps.IsStep, NextEvent.machine_call}
+use Rattle.cbor_machine.proofs.{NextEvents.end-here, NextEvents.all-used, NextRefusals.still-expected, NextRefusals.stopped-here}
 use Rattle.cbor_events.proofs.item_events.reading.at_end.Goals as goal
 
 pub returns-in-Done-clause-answers : goal.returns-in-Done-clause-answers
@@ -20,7 +20,7 @@ returns-in-Refused-clause-answers c = λ was from to kept t ms h r depth.
     let all = all-used c.take_part.result.used [] (c.take_part.ensures.exact (omega arith)) in
     let refused = subst (λ xs. IsRefused f new (t ++ r.bytes) xs ms) all (rw c.in-Refused.is at (c.take_part.ensures.answers (t ++ r.bytes) ms r.stands)) in
     let walked = subst (λ xs. IsStep (outs.Refused f) m new xs) all (rw c.in-Refused.is at (c.take_part.ensures.walked r.stands.live)) in (
-      still-due from to was m t ms h.stands r depth going,
+      still-expected from to was m t ms h.stands r depth going,
       inr (stopped-here f (machine_call was c.take_part.new.machine from to kept kept t ms) to m [] r (Consumes-nil to) tt going c.take_part.ensures.limits.depth
           (omega (arith, r.stands.limited, c.take_part.ensures.limits.bytes)) refused walked),
     )

@@ -1,6 +1,6 @@
 use Rattle.std.proofs.Common.{[], ◌++◌, ◌∙◌, refl, sym, subst, arith, append-nil, append_assoc, Some, Ok}
-use Rattle.cbor_standing.specs.Machine.{StandsFor}
-use Rattle.cbor_events.proofs.Parts.{end-answer, given-on, told-given, silent-on}
+use Rattle.cbor_machine.specs.Machine.{StandsFor}
+use Rattle.cbor_events.proofs.Parts.{end-answer, given-on, reported-given, silent-on}
 use Rattle.cbor_events.proofs.item_events.reading.next_event.Goals as goal
 
 pub returns-then-want-eq0-clause-answers : goal.returns-then-want-eq0-clause-answers
@@ -8,10 +8,10 @@ returns-then-want-eq0-clause-answers g c = λ was from kept t ms h r d.
     let inv = c.reads.invariant in
     end-answer c.at_end.result from _ was c.at_end.new.machine kept c.reads.buffer t ms c.at_end.ensures.none (c.at_end.ensures.answers was from _ kept t ms h (inv.read was from t ms h d r) (inv.depth ∙ d))
 
-pub returns-in-Told-clause-answers : goal.returns-in-Told-clause-answers
-returns-in-Told-clause-answers g c = λ was from kept t ms h r d.
+pub returns-in-Reported-clause-answers : goal.returns-in-Reported-clause-answers
+returns-in-Reported-clause-answers g c = λ was from kept t ms h r d.
     let inv = c.reads.invariant in
-    c.in-Told.ensures.answers was from kept t ms h (inv.read was from t ms h d r) (inv.depth ∙ d)
+    c.in-Reported.ensures.answers was from kept t ms h (inv.read was from t ms h d r) (inv.depth ∙ d)
 
 pub returns-in-Stopped-clause-answers : goal.returns-in-Stopped-clause-answers
 returns-in-Stopped-clause-answers g c = λ was from kept t ms h r d.
@@ -30,15 +30,15 @@ reads-preserved g c =
       depth = c.read_part.ensures.limits.depth ∙ inv.depth;
       bytes = c.read_part.ensures.limits.bytes ∙ inv.bytes;
       within = c.read_part.ensures.limits.open_count;
-      idle = λ none. absurd (omega (arith, c.due-want.ensures.idle (inv.idle none).0));
-      room = omega (arith, inv.room, c.read_part.ensures.same);
+      idle = λ none. absurd (omega (arith, c.expected-want.ensures.idle (inv.idle none).0));
+      space = omega (arith, inv.space, c.read_part.ensures.same);
       same = c.read_part.ensures.same ∙ inv.same;
     }
 
-pub returns-in-Told-clause-given : goal.returns-in-Told-clause-given
-returns-in-Told-clause-given g c = λ t ms h.
+pub returns-in-Reported-clause-given : goal.returns-in-Reported-clause-given
+returns-in-Reported-clause-given g c = λ t ms h.
     let was = c.reads.invariant.ran t ms h in
-    given-on (Ok (Some c.in-Told.event)) c.read_part.new.machine t was.0 ms (told-given c.in-Told.event _ _ _ _ _ _ _ _ (c.in-Told.ensures.lost (t ++ was.0) ms was.1))
+    given-on (Ok (Some c.in-Reported.event)) c.read_part.new.machine t was.0 ms (reported-given c.in-Reported.event _ _ _ _ _ _ _ _ (c.in-Reported.ensures.lost (t ++ was.0) ms was.1))
 
 pub reads-init : goal.reads-init
 reads-init g c = record {
@@ -48,6 +48,6 @@ reads-init g c = record {
   bytes = refl;
   within = c.requires.within;
   idle = λ n. (n, refl);
-  room = c.requires.room;
+  space = c.requires.space;
   same = refl;
 }

@@ -1,6 +1,6 @@
 use Rattle.std.proofs.Common.{◌≡◌, ◌-◌, ◌<◌, ◌≤◌, ℕ, List, ◌++◌, length, Option}
 use Rattle.cbor_automaton.specs.Trace.{Mark}
-use Rattle.cbor_standing.specs.{MachineView.MachineView, Machine.IsIdle, Machine.StandsFor, NextEvent.StandsBetween, Calls.HasRead}
+use Rattle.cbor_machine.specs.{MachineView.MachineView, Machine.IsIdle, Machine.StandsFor, NextEvent.StandsBetween, Calls.HasRead}
 use Rattle.cbor_events.proofs.item_events.reading.next_event.Given as goal
 
 abbrev pub invariant-reads : goal.invariant-reads
@@ -12,7 +12,7 @@ invariant-reads g l = record {
   bytes : l.machine.bytes ≡ l.fn.machine.bytes;
   within : l.machine.open_count ≤ l.machine.depth;
   idle : IsIdle l.fn.machine → IsIdle l.machine × (l.reader ≡ l.fn.reader);
-  room : 0 < length l.buffer;
+  space : 0 < length l.buffer;
   same : length l.buffer ≡ length l.fn.buffer;
 }
 

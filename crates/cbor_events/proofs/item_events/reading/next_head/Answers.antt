@@ -1,12 +1,12 @@
 use Rattle.std.proofs.Common.{refl, Some, Ok}
-use Rattle.cbor_standing.proofs.Buffers.{head-answer}
+use Rattle.cbor_machine.proofs.Buffers.{head-answer}
 use Rattle.cbor_events.proofs.item_events.reading.next_head.Goals as goal
 use Rattle.cbor_events.proofs.Parts.{none-read}
 
-pub returns-in-Told-clause-answers : goal.returns-in-Told-clause-answers
-returns-in-Told-clause-answers g c = λ kept t ms h p.
+pub returns-in-Reported-clause-answers : goal.returns-in-Reported-clause-answers
+returns-in-Reported-clause-answers g c = λ kept t ms h p.
     let m = c.args.machine.now in
-    head-answer (Ok (Some c.in-Told.event)) _ _ m c.read_part.new.machine kept c.read_part.new.buffer t ms p (c.in-Told.ensures.answers m _ kept t ms h (none-read _ m t ms h.stands) refl)
+    head-answer (Ok (Some c.in-Reported.event)) _ _ m c.read_part.new.machine kept c.read_part.new.buffer t ms p (c.in-Reported.ensures.answers m _ kept t ms h (none-read _ m t ms h.stands) refl)
 
 pub returns-in-Stopped-clause-answers : goal.returns-in-Stopped-clause-answers
 returns-in-Stopped-clause-answers g c = λ kept t ms h p.

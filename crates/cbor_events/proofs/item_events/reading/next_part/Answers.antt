@@ -1,12 +1,12 @@
 use Rattle.std.proofs.Common.{[], ◌++◌, ◌∙◌}
-use Rattle.cbor_events.proofs.Parts.{given-on, told-given, silent-on}
+use Rattle.cbor_events.proofs.Parts.{given-on, reported-given, silent-on}
 use Rattle.cbor_events.proofs.item_events.reading.next_part.Goals as goal
 
 pub returns-then-want-eq0-clause-answers : goal.returns-then-want-eq0-clause-answers
 returns-then-want-eq0-clause-answers g c = c.next_apart.ensures.answers
 
-pub returns-in-Told-clause-answers : goal.returns-in-Told-clause-answers
-returns-in-Told-clause-answers g c = λ was from kept t ms h r d. c.in-Told.ensures.answers was from kept t ms h r d
+pub returns-in-Reported-clause-answers : goal.returns-in-Reported-clause-answers
+returns-in-Reported-clause-answers g c = λ was from kept t ms h r d. c.in-Reported.ensures.answers was from kept t ms h r d
 
 pub returns-in-Stopped-clause-answers : goal.returns-in-Stopped-clause-answers
 returns-in-Stopped-clause-answers g c = λ was from kept t ms h r d. c.in-Stopped.ensures.answers was from kept t ms h r d
@@ -15,8 +15,8 @@ pub returns-in-Open-clause-answers : goal.returns-in-Open-clause-answers
 returns-in-Open-clause-answers g c = λ was from kept t ms h r d.
     c.next_apart-in-Open.ensures.answers was from kept t ms h (c.in-Open.ensures.answers was from [] t ms h r d) (c.read_part.ensures.limits.depth ∙ d)
 
-pub returns-in-Told-clause-given : goal.returns-in-Told-clause-given
-returns-in-Told-clause-given g c = λ t ms h. told-given c.in-Told.event _ _ _ _ _ _ t ms (c.in-Told.ensures.lost t ms h)
+pub returns-in-Reported-clause-given : goal.returns-in-Reported-clause-given
+returns-in-Reported-clause-given g c = λ t ms h. reported-given c.in-Reported.event _ _ _ _ _ _ t ms (c.in-Reported.ensures.lost t ms h)
 
 pub returns-in-Open-clause-given : goal.returns-in-Open-clause-given
 returns-in-Open-clause-given g c = λ t ms h.

@@ -2,14 +2,14 @@ use Rattle.std.proofs.Common.{◌≡◌, ◌∙◌, ap, sym, rules, arith, true,
 use Rattle.std.proofs.lemmas.List.{nil_from_length}
 use Rattle.cbor_head.proofs.WholeHead.{whole_head, only_head, same_parts, no_head}
 use Rattle.cbor_head.proofs.head.Head.read.Goals as goal
-use Rattle.cbor_head.{specs.Read.front, proofs.HeadBack.read_head-back}
+use Rattle.cbor_head.{specs.Read.prefix, proofs.HeadBack.read_head-back}
 use Rattle.cbor_head.proofs.head.Head.read.Goals.{else-is_empty-via-then-is_empty+else-is_head, else-is_empty-via-else-is_empty}
 
 pub returns-in_err-major-clause-each : goal.returns-in_err-major-clause-each
 returns-in_err-major-clause-each c = λ m w n h is. let e = only_head c.args.bytes.now m w n c.in_err-major.ensures h is in cc e
 
 pub is_head-requires : goal.is_head-requires
-is_head-requires c = (read_head-back c.args.bytes.now (front c.in_ok-major.major c.in_ok-major.width c.in_ok-major.argument c.in_ok-major.rest.now) (λ i. omega (arith, c.type_inv.bytes i)) c.in_ok-major.ensures).holds
+is_head-requires c = (read_head-back c.args.bytes.now (prefix c.in_ok-major.major c.in_ok-major.width c.in_ok-major.argument c.in_ok-major.rest.now) (λ i. omega (arith, c.type_inv.bytes i)) c.in_ok-major.ensures).holds
 
 pub returns-then-is_head-clause-found : goal.returns-then-is_head-clause-found
 returns-then-is_head-clause-found c =

@@ -1,8 +1,8 @@
 use Rattle.std.proofs.Common.{rules, ◌≡◌, ◌∷◌, [], ◌∙◌}
 use Rattle.cbor_item.proofs.tree_builder.TreeBuilder.finish.Goals as goal
-use Rattle.cbor_item.{specs.OpenValues.the_whole, specs.OpenValues.standing, proofs.ValuesMade.whole_made}
+use Rattle.cbor_item.{specs.OpenValues.the_whole, specs.OpenValues.open_levels, proofs.ValuesMade.whole_made}
 
 pub returns-clause-made : goal.returns-clause-made
 returns-clause-made c = λ v e.
-    let h : standing c.args.self ≡ the_whole (v ∷ []) ∷ [] = e ∙ whole_made v in
+    let h : open_levels c.args.self ≡ the_whole (v ∷ []) ∷ [] = e ∙ whole_made v in
     search rules

@@ -5,4 +5,4 @@ use Rattle.cbor_reader.proofs.ViewGiven.{grown}
 pub returns : goal.returns
 returns c =
     let old = c.args.self.now in
-    on_ok_weaker c.extend_front.result (grown c.args._is_key c.args._is_text (take c.args.count c.args.front.now) old (record { keys = old.keys; views = old.views; joined = c.extend_front.new.self }) c.requires.utf8 refl refl) c.extend_front.ensures
+    on_ok_weaker c.extend_prefix.result (grown c.args._is_key c.args._is_text (take c.args.count c.args.prefix.now) old (record { keys = old.keys; views = old.views; joined = c.extend_prefix.new.self }) c.requires.utf8 refl refl) c.extend_prefix.ensures

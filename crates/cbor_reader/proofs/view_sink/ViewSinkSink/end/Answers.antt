@@ -1,6 +1,6 @@
 use Rattle.std.proofs.Common.{ap, subst, false, IfSome}
 use Rattle.std.specs.Option.{is_some}
-use Rattle.cbor_walk.specs.Sink.{Repeats}
+use Rattle.cbor_parser.specs.Sink.{Repeats}
 use Rattle.cbor_sinks.specs.{KeyBytes.keys_stand, declared.key_bytes.KeyBytes.KeyBytes}
 use Rattle.cbor_reader.proofs.ViewGiven.{keys-end, views-end, ended, repeats}
 use Rattle.cbor_reader.proofs.view_sink.ViewSinkSink.end.Goals as goal
@@ -14,7 +14,7 @@ end-requires-2 c = record { container = views-end c.args.is_map c.args.self.now 
 pub returns-in-Some-clause-repeats : goal.returns-in-Some-clause-repeats
 returns-in-Some-clause-repeats c =
     let old = c.args.self.now in
-    repeats c.args.is_map old c.in-Some.repeat (subst (λ told. IfSome told (Repeats KeyBytes keys_stand false c.args.is_map old.keys)) c.in-Some.is c.in_ok-repeat.ensures.repeats)
+    repeats c.args.is_map old c.in-Some.repeat (subst (λ reported. IfSome reported (Repeats KeyBytes keys_stand false c.args.is_map old.keys)) c.in-Some.is c.in_ok-repeat.ensures.repeats)
 
 pub returns-clause-ends : goal.returns-clause-ends
 returns-clause-ends c = λ yes.

@@ -1,10 +1,9 @@
 use Rattle.std.proofs.Common.{ℕ, Bool, List, length, ◌∙◌, ap₂, sym, subst, arith, IsUtf8, take_all}
-use Rattle.cbor_item.specs.OpenValues.{give}
-use Rattle.cbor_view.specs.Seen.{standing}
-use Rattle.cbor_judging.specs.Reading.{string_value}
-use Rattle.cbor_walk.specs.Sink.{Gives}
+use Rattle.cbor_item.specs.{OpenValues.give, ViewValue.open_levels}
+use Rattle.cbor_verdict.specs.Reading.{string_value}
+use Rattle.cbor_parser.specs.Sink.{Gives}
 use Rattle.cbor_sinks.specs.{KeyBytes.keys_stand, declared.key_bytes.KeyBytes.KeyBytes}
-use Rattle.cbor_reader.proofs.ViewGiven.{due, takes, utf8-due, whole-due, string-ended}
+use Rattle.cbor_reader.proofs.ViewGiven.{expected, takes, utf8-expected, whole-expected, string-ended}
 use Rattle.cbor_reader.proofs.view_sink.ViewSinkSink.end_string.Goals as goal
 
 pub string-requires : goal.string-requires
@@ -13,16 +12,16 @@ string-requires c =
     let whole = take_all (length content) content (omega arith) ∙ c.as_slice-content.ensures in (
       omega arith,
       (
-        (λ e. subst IsUtf8 (sym whole) (utf8-due c.args.is_key c.args.is_text c.args.self.now c.requires.due e)),
-        due c.args.is_key c.args.self.now (whole-due c.args.is_key c.args.is_text c.args.self.now c.requires.due),
+        (λ e. subst IsUtf8 (sym whole) (utf8-expected c.args.is_key c.args.is_text c.args.self.now c.requires.expected e)),
+        expected c.args.is_key c.args.self.now (whole-expected c.args.is_key c.args.is_text c.args.self.now c.requires.expected),
       ),
     )
 
 pub copied_text-requires : goal.copied_text-requires
-copied_text-requires c = record { takes = takes c.args.is_key c.args.self.now (whole-due c.args.is_key c.args.is_text c.args.self.now c.requires.due) }
+copied_text-requires c = record { takes = takes c.args.is_key c.args.self.now (whole-expected c.args.is_key c.args.is_text c.args.self.now c.requires.expected) }
 
 pub copied_bytes-requires : goal.copied_bytes-requires
-copied_bytes-requires c = record { takes = takes c.args.is_key c.args.self.now (whole-due c.args.is_key c.args.is_text c.args.self.now c.requires.due) }
+copied_bytes-requires c = record { takes = takes c.args.is_key c.args.self.now (whole-expected c.args.is_key c.args.is_text c.args.self.now c.requires.expected) }
 
 pub returns-in_ok-copied_text : goal.returns-in_ok-copied_text
 returns-in_ok-copied_text c =
@@ -32,7 +31,7 @@ returns-in_ok-copied_text c =
     string-ended c.args.is_key t old (record { keys = c.string.new.self; views = c.copied_text.new.self; joined = old.joined })
     (subst (λ (x : List ℕ). Gives KeyBytes keys_stand c.args.is_key (string_value t x) old.keys c.string.new.self) whole c.in_ok-string.ensures)
     (c.in_ok-copied_text.ensures
-    ∙ ap₂ (λ (b : Bool) (x : List ℕ). give (string_value b x) (standing old.views)) (sym c.if-is_text.true) (c.from_utf8_unchecked-text.ensures ∙ c.as_slice-content.ensures))
+    ∙ ap₂ (λ (b : Bool) (x : List ℕ). give (string_value b x) (open_levels old.views)) (sym c.if-is_text.true) (c.from_utf8_unchecked-text.ensures ∙ c.as_slice-content.ensures))
 
 pub returns-in_ok-copied_bytes : goal.returns-in_ok-copied_bytes
 returns-in_ok-copied_bytes c =
@@ -41,4 +40,4 @@ returns-in_ok-copied_bytes c =
     let whole = take_all (length c.as_slice-content.result.now) c.as_slice-content.result.now (omega arith) ∙ c.as_slice-content.ensures in
     string-ended c.args.is_key t old (record { keys = c.string.new.self; views = c.copied_bytes.new.self; joined = old.joined })
     (subst (λ (x : List ℕ). Gives KeyBytes keys_stand c.args.is_key (string_value t x) old.keys c.string.new.self) whole c.in_ok-string.ensures)
-    (c.in_ok-copied_bytes.ensures ∙ ap₂ (λ (b : Bool) (x : List ℕ). give (string_value b x) (standing old.views)) (sym c.if-is_text.false) c.as_slice-content.ensures)
+    (c.in_ok-copied_bytes.ensures ∙ ap₂ (λ (b : Bool) (x : List ℕ). give (string_value b x) (open_levels old.views)) (sym c.if-is_text.false) c.as_slice-content.ensures)

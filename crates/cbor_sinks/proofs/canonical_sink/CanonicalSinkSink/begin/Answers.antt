@@ -2,7 +2,7 @@ use Rattle.cbor_sinks.proofs.canonical_sink.CanonicalSinkSink.begin.Goals as goa
 use Rattle.cbor_sinks.proofs.CanonGiven.{takes, opened}
 
 pub begin-requires-clause-takes : goal.begin-requires-clause-takes
-begin-requires-clause-takes c = takes c.args._is_key c.args.self.now c.requires.due
+begin-requires-clause-takes c = takes c.args._is_key c.args.self.now c.requires.expected
 
 pub returns : goal.returns
 returns c = opened c.args._is_key c.args.major c.args.number c.args.self.now (record { builder = c.begin.new.self }) c.in_ok-begin.ensures.given

@@ -1,10 +1,10 @@
 use Rattle.std.proofs.Common.{◌∙◌, ℕ, suc, ◌-◌, ◌≡◌, sym, ap, subst, inl, arith, IfSome}
 use Rattle.std.specs.Option.{is_some}
-use Rattle.cbor_canonical.specs.Parts.{close}
-use Rattle.cbor_builder.specs.Built.{Built, built, IsRepeatTold}
+use Rattle.cbor_model.specs.Parts.{close}
+use Rattle.cbor_builder.specs.Built.{Built, built, IsRepeatReported}
 use Rattle.cbor_sinks.proofs.KeysGiven.{in-container, end-takes, ended-inner}
 use Rattle.cbor_sinks.proofs.key_bytes.KeyBytes.end_in_key.Goals as goal
-use Rattle.cbor_sinks.{specs.KeyBytes.behind_item, proofs.RepeatsTold.keys-repeat}
+use Rattle.cbor_sinks.{specs.KeyBytes.behind_item, proofs.RepeatsReported.keys-repeat}
 
 pub end_if_distinct-requires : goal.end_if_distinct-requires
 end_if_distinct-requires c = record { container = in-container c.args.is_map c.args.self.now c.requires.full (inl c.requires.inside) }
@@ -18,7 +18,7 @@ settle-requires c = λ none.
 pub returns-in-Some-clause-repeats : goal.returns-in-Some-clause-repeats
 returns-in-Some-clause-repeats c =
     let old = c.args.self.now in
-    keys-repeat old c.in-Some.repeat (subst (λ told. IfSome told (λ repeat. IsRepeatTold old.builder.standing repeat.outside repeat.pair)) c.in-Some.is c.in_ok-repeat.ensures.told) c.args.is_map
+    keys-repeat old c.in-Some.repeat (subst (λ reported. IfSome reported (λ repeat. IsRepeatReported old.builder.open_levels repeat.outside repeat.pair)) c.in-Some.is c.in_ok-repeat.ensures.reported) c.args.is_map
 
 pub returns-clause-ends : goal.returns-clause-ends
 returns-clause-ends c = λ yes.
@@ -27,5 +27,5 @@ returns-clause-ends c = λ yes.
     let some : suc c.settle.new.self.inside ≡ old.inside = omega (arith, c.requires.inside, stays) in
     let none = ap is_some c.in_default.is in
     ended-inner c.args.is_map old c.settle.new.self some (c.in_ok-repeat.ensures.distinct.0 none)
-    (c.in_ok-settle.ensures.builder ∙ ap (λ (x : Built). built x.order (behind_item (old.inside - 1) x.standing)) (c.in_ok-repeat.ensures.ended none)
-    ∙ ap (λ (n : ℕ). built old.builder.order (behind_item n (close old.builder.order old.builder.standing))) (sym stays))
+    (c.in_ok-settle.ensures.builder ∙ ap (λ (x : Built). built x.order (behind_item (old.inside - 1) x.open_levels)) (c.in_ok-repeat.ensures.ended none)
+    ∙ ap (λ (n : ℕ). built old.builder.order (behind_item n (close old.builder.order old.builder.open_levels))) (sym stays))

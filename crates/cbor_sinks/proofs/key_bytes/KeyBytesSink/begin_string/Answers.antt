@@ -1,17 +1,17 @@
 use Rattle.std.proofs.Common.{◌∙◌, ◌∷◌, refl, sym, ap}
 use Rattle.cbor_head.specs.declared.major.Major.{Major}
-use Rattle.cbor_canonical.specs.Parts.{opened}
+use Rattle.cbor_model.specs.Parts.{opened}
 use Rattle.cbor_builder.specs.Built.{built}
 use Rattle.cbor_sinks.proofs.key_bytes.KeyBytesSink.begin_string.Goals as goal
 use Rattle.cbor_sinks.proofs.{KeysGiven.takes, KeyStrings.begins-kept, KeyStrings.begins-left}
 
 pub begin_string-requires-clause-takes : goal.begin_string-requires-clause-takes
-begin_string-requires-clause-takes c = takes c.args.is_key c.args.self.now c.requires.due
+begin_string-requires-clause-takes c = takes c.args.is_key c.args.self.now c.requires.expected
 
 pub returns-in_ok-begin_string : goal.returns-in_ok-begin_string
 returns-in_ok-begin_string c =
     let old = c.args.self.now in
-    let typed = ap (λ (m : Major). built old.builder.order (opened m 0 ∷ old.builder.standing)) c.string_type.ensures in
+    let typed = ap (λ (m : Major). built old.builder.order (opened m 0 ∷ old.builder.open_levels)) c.string_type.ensures in
     begins-kept c.args.is_key c.args.is_text old (record { builder = c.begin_string.new.self; inside = old.inside }) (sym c.keeps.ensures ∙ c.if-keeps.true) (c.in_ok-begin_string.ensures.given ∙ typed) refl
 
 pub returns-else-keeps : goal.returns-else-keeps

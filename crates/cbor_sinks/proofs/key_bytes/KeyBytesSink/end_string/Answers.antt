@@ -3,11 +3,11 @@ use Rattle.cbor_sinks.proofs.KeyStrings.{in-string, string-takes, ends-kept, end
 use Rattle.cbor_sinks.proofs.key_bytes.KeyBytesSink.end_string.Goals as goal
 
 pub end_string-requires : goal.end_string-requires
-end_string-requires c = record { string = in-string c.args.is_key c.args._is_text c.args.self.now (sym c.keeps.ensures ∙ c.if-keeps.true) c.requires.due }
+end_string-requires c = record { string = in-string c.args.is_key c.args._is_text c.args.self.now (sym c.keeps.ensures ∙ c.if-keeps.true) c.requires.expected }
 
 pub settle-requires : goal.settle-requires
 settle-requires c =
-    string-takes c.args.is_key c.args._is_text c.args.self.now (record { builder = c.end_string.new.self; inside = c.args.self.now.inside }) (sym c.keeps.ensures ∙ c.if-keeps.true) c.requires.due c.in_ok-end_string.ensures.given
+    string-takes c.args.is_key c.args._is_text c.args.self.now (record { builder = c.end_string.new.self; inside = c.args.self.now.inside }) (sym c.keeps.ensures ∙ c.if-keeps.true) c.requires.expected c.in_ok-end_string.ensures.given
 
 pub returns-in_ok-settle : goal.returns-in_ok-settle
 returns-in_ok-settle c =

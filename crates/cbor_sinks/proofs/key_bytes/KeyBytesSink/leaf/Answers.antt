@@ -1,15 +1,15 @@
 use Rattle.std.proofs.Common.{◌∙◌, sym}
-use Rattle.cbor_walk.specs.Sink.{leaf_value}
+use Rattle.cbor_parser.specs.Sink.{leaf_value}
 use Rattle.cbor_sinks.proofs.KeysGiven.{takes, key-takes, given-kept, given-left}
 use Rattle.cbor_sinks.proofs.key_bytes.KeyBytesSink.leaf.Goals as goal
 use Rattle.cbor_sinks.proofs.CanonGiven.{leaf-bytes}
 
 pub leaf-requires-clause-takes : goal.leaf-requires-clause-takes
-leaf-requires-clause-takes c = takes c.args.is_key c.args.self.now c.requires.due
+leaf-requires-clause-takes c = takes c.args.is_key c.args.self.now c.requires.expected
 
 pub settle-requires : goal.settle-requires
 settle-requires c =
-    key-takes c.args.is_key _ c.args.self.now (record { builder = c.leaf.new.self; inside = c.args.self.now.inside }) c.requires.due (sym c.keeps.ensures ∙ c.if-keeps.true) c.in_ok-leaf.ensures.given
+    key-takes c.args.is_key _ c.args.self.now (record { builder = c.leaf.new.self; inside = c.args.self.now.inside }) c.requires.expected (sym c.keeps.ensures ∙ c.if-keeps.true) c.in_ok-leaf.ensures.given
 
 pub returns-in_ok-settle : goal.returns-in_ok-settle
 returns-in_ok-settle c =

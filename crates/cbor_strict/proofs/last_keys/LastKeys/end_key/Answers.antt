@@ -1,35 +1,35 @@
 use Rattle.std.proofs.Common.{◌≡◌, ◌<◌, ◌+◌, ◌-◌, ℕ, zero, suc, List, [], ◌∷◌, ◌++◌, length, take, drop, IsTrue, ◌∙◌, true≢false, refl, sym, ap, subst, arith, take-append-drop, slice_index_or}
 use Rattle.cbor_head.specs.Prelude.{key_lt, Spelling, SpelledEntries, spell}
 use Rattle.cbor_head.specs.declared.{order.KeyOrder.KeyOrder, width.Width.Width}
-use Rattle.cbor_judging.specs.Frame.{Frame, a_key, a_content}
-use Rattle.cbor_judging.{specs.LastKey.last_key, proofs.LastKey.nothing-below}
-use Rattle.cbor_strict.specs.inner.LastKeys.{KeysView, IsKept, seen, with_key}
+use Rattle.cbor_verdict.specs.Frame.{Frame, a_key, a_content}
+use Rattle.cbor_verdict.{specs.LastKey.last_key, proofs.LastKey.nothing-below}
+use Rattle.cbor_strict.specs.inner.LastKeys.{KeysView, IsKept, view_value, with_key}
 use Rattle.cbor_strict.proofs.KeptPairs.{key_bounds, key_compared, key_put_in, key_put_out, ended_bounds}
 use Rattle.cbor_strict.proofs.last_keys.LastKeys.end_key.Goals as goal
-use Rattle.cbor_strict.{specs.declared.last_keys.Span.Span, proofs.KeptKeys.none_open}
+use Rattle.cbor_strict.{specs.declared.last_keys.KeySpan.KeySpan, proofs.KeptKeys.none_open}
 
 pub rises-requires-clause-last : goal.rises-requires-clause-last
 rises-requires-clause-last c =
-    let q = ended_bounds (seen c.args.self.now) c.requires c.in-Some.last.now (rw c.deref.ensures.value at c.in-Some.ensures.item.1) in
+    let q = ended_bounds (view_value c.args.self.now) c.requires c.in-Some.last.now (rw c.deref.ensures.value at c.in-Some.ensures.item.1) in
     omega (arith, q.1, q.2)
 
 pub rises-requires-clause-next : goal.rises-requires-clause-next
-rises-requires-clause-next c = (ended_bounds (seen c.args.self.now) c.requires c.in-Some.last.now (rw c.deref.ensures.value at c.in-Some.ensures.item.1)).2
+rises-requires-clause-next c = (ended_bounds (view_value c.args.self.now) c.requires c.in-Some.last.now (rw c.deref.ensures.value at c.in-Some.ensures.item.1)).2
 
 pub overflow_sub-result : goal.overflow_sub-result
 overflow_sub-result c =
-    let q = ended_bounds (seen c.args.self.now) c.requires c.in-Some.last.now (rw c.deref.ensures.value at c.in-Some.ensures.item.1) in
+    let q = ended_bounds (view_value c.args.self.now) c.requires c.in-Some.last.now (rw c.deref.ensures.value at c.in-Some.ensures.item.1) in
     omega (arith, q.2, c.len.ensures, c.args.self.now.bytes.ok.0)
 
 pub cut_out-requires-clause-order : goal.cut_out-requires-clause-order
 cut_out-requires-clause-order c =
-    let q = ended_bounds (seen c.args.self.now) c.requires c.in-Some.last.now (rw c.deref.ensures.value at c.in-Some.ensures.item.1) in
+    let q = ended_bounds (view_value c.args.self.now) c.requires c.in-Some.last.now (rw c.deref.ensures.value at c.in-Some.ensures.item.1) in
     omega (arith, q.0, q.1)
 
 pub cut_out-requires-clause-within : goal.cut_out-requires-clause-within
-cut_out-requires-clause-within c = (ended_bounds (seen c.args.self.now) c.requires c.in-Some.last.now (rw c.deref.ensures.value at c.in-Some.ensures.item.1)).2
+cut_out-requires-clause-within c = (ended_bounds (view_value c.args.self.now) c.requires c.in-Some.last.now (rw c.deref.ensures.value at c.in-Some.ensures.item.1)).2
 
-module _ (k : KeysView) (w : Width) (a : SpelledEntries) (v : Spelling) (b : SpelledEntries) (fs : List Frame) (s : Spelling) (sp : Span) (h : IsKept k (a_key w a v b ∷ fs) (spell s))
+module _ (k : KeysView) (w : Width) (a : SpelledEntries) (v : Spelling) (b : SpelledEntries) (fs : List Frame) (s : Spelling) (sp : KeySpan) (h : IsKept k (a_key w a v b ∷ fs) (spell s))
     (g : sp ≡ slice_index_or k.spans (length k.spans - 1) sp) (first : sp.from ≡ sp.next) where
   -- the first key of a map is kept where it is
   first_kept : (keys : ℕ) → keys + 1 ≡ k.open_keys → IsKept (with_key (record k { open_keys = keys }) sp.next) (a_content w a s b ∷ fs) []
@@ -50,7 +50,7 @@ module _ (k : KeysView) (w : Width) (a : SpelledEntries) (v : Spelling) (b : Spe
 pub returns-then-is_first : goal.returns-then-is_first
 returns-then-is_first c = λ w a v b fs s h.
     let g = rw c.deref.ensures.value at c.in-Some.ensures.item.1 in
-    let k = seen c.args.self.now in
+    let k = view_value c.args.self.now in
     let sp = c.in-Some.last.now in
     let f = c.is_first.ensures.0 c.if-is_first.true in (
       first_rises k w a v b fs s sp h g f.0 c.args.order f.1,
@@ -60,8 +60,8 @@ returns-then-is_first c = λ w a v b fs s h.
 pub returns-then-not-rises : goal.returns-then-not-rises
 returns-then-not-rises c = λ w a v b fs s h.
     let g = rw c.deref.ensures.value at c.in-Some.ensures.item.1 in
-    let q = key_bounds (seen c.args.self.now) w a v b fs s c.in-Some.last.now h g in
-    let m = key_compared (seen c.args.self.now) w a v b fs s c.in-Some.last.now h g in (
+    let q = key_bounds (view_value c.args.self.now) w a v b fs s c.in-Some.last.now h g in
+    let m = key_compared (view_value c.args.self.now) w a v b fs s c.in-Some.last.now h g in (
       λ y. true≢false (sym (c.rises.ensures.1 (rw (m.0, m.1) y)) ∙ c.if-not-rises.true),
       omega (arith, q.2, c.len.ensures, c.args.self.now.bytes.ok.0),
     )
@@ -69,15 +69,15 @@ returns-then-not-rises c = λ w a v b fs s h.
 pub returns-then-is_inside : goal.returns-then-is_inside
 returns-then-is_inside c = λ w a v b fs s h.
     let g = rw c.deref.ensures.value at c.in-Some.ensures.item.1 in
-    let m = key_compared (seen c.args.self.now) w a v b fs s c.in-Some.last.now h g in (
+    let m = key_compared (view_value c.args.self.now) w a v b fs s c.in-Some.last.now h g in (
       rw (← m.0, ← m.1) (c.rises.ensures.0 c.if-not-rises.false),
-      rw c.put_key-then-is_inside.ensures (key_put_in (seen c.args.self.now) w a v b fs s c.in-Some.last.now h g _ (omega (arith, h.open_keys)) (c.is_inside.ensures.0 c.if-is_inside.true)),
+      rw c.put_key-then-is_inside.ensures (key_put_in (view_value c.args.self.now) w a v b fs s c.in-Some.last.now h g _ (omega (arith, h.open_keys)) (c.is_inside.ensures.0 c.if-is_inside.true)),
     )
 
 pub returns : goal.returns
 returns c = λ w a v b fs s h.
     let g = rw c.deref.ensures.value at c.in-Some.ensures.item.1 in
-    let m = key_compared (seen c.args.self.now) w a v b fs s c.in-Some.last.now h g in (
+    let m = key_compared (view_value c.args.self.now) w a v b fs s c.in-Some.last.now h g in (
       rw (← m.0, ← m.1) (c.rises.ensures.0 c.if-not-rises.false),
-      rw c.put_key-2.ensures (key_put_out (seen c.args.self.now) w a v b fs s c.in-Some.last.now h g _ c.cut_out.new.bytes.items (omega (arith, h.open_keys)) (none_open _ c.is_inside.result c.is_inside.ensures c.if-is_inside.false) c.cut_out.ensures),
+      rw c.put_key-2.ensures (key_put_out (view_value c.args.self.now) w a v b fs s c.in-Some.last.now h g _ c.cut_out.new.bytes.items (omega (arith, h.open_keys)) (none_open _ c.is_inside.result c.is_inside.ensures c.if-is_inside.false) c.cut_out.ensures),
     )

@@ -4,8 +4,8 @@ use Rattle.cbor_head.specs.declared.width.Width.TheVariants.{Direct, Indefinite}
 use Rattle.cbor_automaton.specs.Trace.{Mark, a_head, a_chunk}
 use Rattle.cbor_automaton.specs.declared.event.EventKind.TheVariants as kinds
 use Rattle.cbor_automaton.specs.{Marks.mark_of, Marks.count_of, declared.event.EventKind.EventKind}
-use Rattle.cbor_judging.specs.Place.{Container, Place, at_item, IsTaking}
-use Rattle.cbor_judging.{specs.Refusals.IsComplaintReason, specs.Reading.IsHeadFault, specs.Reading.IsFault, proofs.Arguments.direct-is}
+use Rattle.cbor_verdict.specs.Place.{Container, Place, at_item, IsTaking}
+use Rattle.cbor_verdict.{specs.Refusals.IsComplaintReason, specs.Reading.IsHeadFault, specs.Reading.IsFault, proofs.Arguments.direct-is}
 use Rattle.cbor_strict.proofs.OpenHeads.{refused_head, begun_in, begun_no_memory, begun_kept}
 use Rattle.cbor_strict.proofs.open_items.OpenItems.admit_head.Goals as goal
 use Rattle.cbor_strict.specs.{StrictReader.IsAgainstEvent, inner.OpenItems.Answers, inner.OpenItems.frames_in}

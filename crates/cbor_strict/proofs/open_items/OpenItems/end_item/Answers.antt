@@ -6,33 +6,33 @@ use Rattle.cbor_strict.proofs.open_items.OpenItems.end_item.Goals as goal
 pub end_content-requires : goal.end_content-requires
 end_content-requires c =
     let r = c.requires in
-    let k : Closing c.args.self.now c.close.new.self c.args.open c.args.taken c.due.result = record { closed = c.close.ensures; some = c.due.ensures.some; none = c.due.ensures.none } in
-    few_keys _ _ _ _ _ _ _ (has_closed c.args.self.now c.close.new.self c.args.open c.args.taken c.due.result r.b r.e r.t k r.ended r.counted)
+    let k : Closing c.args.self.now c.close.new.self c.args.open c.args.taken c.expected.result = record { closed = c.close.ensures; some = c.expected.ensures.some; none = c.expected.ensures.none } in
+    few_keys _ _ _ _ _ _ _ (has_closed c.args.self.now c.close.new.self c.args.open c.args.taken c.expected.result r.b r.e r.t k r.ended r.counted)
 
 pub end_key-requires : goal.end_key-requires
 end_key-requires c =
     let r = c.requires in
-    let k : Closing c.args.self.now c.close.new.self c.args.open c.args.taken c.due.result = record { closed = c.close.ensures; some = c.due.ensures.some; none = c.due.ensures.none } in
-    key_has_ended c.args.self.now c.close.new.self c.args.open c.args.taken c.due.result r.b r.e r.t k r.ended r.counted c.in-Key.is
+    let k : Closing c.args.self.now c.close.new.self c.args.open c.args.taken c.expected.result = record { closed = c.close.ensures; some = c.expected.ensures.some; none = c.expected.ensures.none } in
+    key_has_ended c.args.self.now c.close.new.self c.args.open c.args.taken c.expected.result r.b r.e r.t k r.ended r.counted c.in-Key.is
 
 pub overflow_sub-taken : goal.overflow_sub-taken
 overflow_sub-taken c =
     let r = c.requires in
-    let k : Closing c.args.self.now c.close.new.self c.args.open c.args.taken c.due.result = record { closed = c.close.ensures; some = c.due.ensures.some; none = c.due.ensures.none } in
-    (refused_key c.args.self.now c.close.new.self c.args.open c.args.taken c.in-Err.length c.due.result r.b r.e r.t (refusal KeyOrder 0 0) k r.ended r.counted r.all c.in-Key.is c.in-Err.ensures).0
+    let k : Closing c.args.self.now c.close.new.self c.args.open c.args.taken c.expected.result = record { closed = c.close.ensures; some = c.expected.ensures.some; none = c.expected.ensures.none } in
+    (refused_key c.args.self.now c.close.new.self c.args.open c.args.taken c.in-Err.length c.expected.result r.b r.e r.t (refusal KeyOrder 0 0) k r.ended r.counted r.all c.in-Key.is c.in-Err.ensures).0
 
 pub returns-in-Member-clause-answers : goal.returns-in-Member-clause-answers
 returns-in-Member-clause-answers c = λ b e t h n m.
-    behind_member c.args.self.now _ c.close.new.self c.args.open c.args.taken c.due.result b e t (record { closed = c.close.ensures; some = c.due.ensures.some; none = c.due.ensures.none }) h n c.in-Member.is refl refl refl
+    behind_member c.args.self.now _ c.close.new.self c.args.open c.args.taken c.expected.result b e t (record { closed = c.close.ensures; some = c.expected.ensures.some; none = c.expected.ensures.none }) h n c.in-Member.is refl refl refl
 
 pub returns-in-Content-clause-answers : goal.returns-in-Content-clause-answers
 returns-in-Content-clause-answers c = λ b e t h n m.
-    behind_content c.args.self.now _ c.close.new.self c.end_content.new.self c.args.open c.args.taken c.due.result b e t (record { closed = c.close.ensures; some = c.due.ensures.some; none = c.due.ensures.none }) h n c.in-Content.is refl refl refl c.end_content.ensures
+    behind_content c.args.self.now _ c.close.new.self c.end_content.new.self c.args.open c.args.taken c.expected.result b e t (record { closed = c.close.ensures; some = c.expected.ensures.some; none = c.expected.ensures.none }) h n c.in-Content.is refl refl refl c.end_content.ensures
 
 pub returns-in-Ok-clause-answers : goal.returns-in-Ok-clause-answers
 returns-in-Ok-clause-answers c = λ b e t h n m.
-    behind_key c.args.self.now _ c.close.new.self c.end_key.new.self c.args.open c.args.taken c.due.result b e t (record { closed = c.close.ensures; some = c.due.ensures.some; none = c.due.ensures.none }) h n c.in-Key.is refl refl refl c.in-Ok.ensures
+    behind_key c.args.self.now _ c.close.new.self c.end_key.new.self c.args.open c.args.taken c.expected.result b e t (record { closed = c.close.ensures; some = c.expected.ensures.some; none = c.expected.ensures.none }) h n c.in-Key.is refl refl refl c.in-Ok.ensures
 
 pub returns-in-Err-clause-answers : goal.returns-in-Err-clause-answers
 returns-in-Err-clause-answers c = λ b e t h n m to.
-    (refused_key c.args.self.now c.close.new.self c.args.open c.args.taken c.in-Err.length c.due.result b e t _ (record { closed = c.close.ensures; some = c.due.ensures.some; none = c.due.ensures.none }) h n m c.in-Key.is c.in-Err.ensures).1 to c.new.ensures
+    (refused_key c.args.self.now c.close.new.self c.args.open c.args.taken c.in-Err.length c.expected.result b e t _ (record { closed = c.close.ensures; some = c.expected.ensures.some; none = c.expected.ensures.none }) h n m c.in-Key.is c.in-Err.ensures).1 to c.new.ensures

@@ -1,6 +1,6 @@
 use Rattle.std.proofs.Common.{[], sym, arith}
 use Rattle.cbor_head.specs.Prelude.{strict, AreBounds}
-use Rattle.cbor_judging.proofs.KindFrames.{keeps_start}
+use Rattle.cbor_verdict.proofs.KindFrames.{keeps_start}
 use Rattle.cbor_strict.proofs.StrictReading.{stands_first, starts_strictly, somewhere_little}
 use Rattle.cbor_strict.proofs.strict_reader.StrictReader.new.Goals as goal
 use Rattle.cbor_strict.specs.inner.StrictEvents.{StandsSomewhere}

@@ -1,9 +1,9 @@
 use Rattle.std.proofs.Common.{Some, length, refl, sym, ap, subst, arith, Ok}
 use Rattle.cbor_head.specs.Prelude.{strict}
-use Rattle.cbor_standing.specs.Machine.{KeepsLimits}
-use Rattle.cbor_judging.specs.Refusals.{IsReaderReason}
+use Rattle.cbor_machine.specs.Machine.{KeepsLimits}
+use Rattle.cbor_verdict.specs.Refusals.{IsReaderReason}
 use Rattle.cbor_strict.specs.StrictReader.{StrictReaderView, StandsStrictly, IsNextStrict, IsStrictRefusal, limits_of, strict_call}
-use Rattle.cbor_strict.proofs.StrictReading.{next_told, next_refused, stands_next, refused_reason, somewhere_little, shown}
+use Rattle.cbor_strict.proofs.StrictReading.{next_reported, next_refused, stands_next, refused_reason, somewhere_little, shown}
 use Rattle.cbor_strict.proofs.strict_reader.StrictReader.next.Goals as goal
 use Rattle.cbor_strict.specs.inner.StrictEvents.{bounds_of}
 
@@ -47,7 +47,7 @@ invariant_of-self-in-Err g c =
 pub returns-in-Ok-clause-answers : goal.returns-in-Ok-clause-answers
 returns-in-Ok-clause-answers g c = λ t ms h.
     subst (λ (o : StrictReaderView g.row.R.Denot). IsNextStrict (Ok c.in-Ok.event) (strict_call o.events (shown c.next_event.new.events c.next_event.new.items c.self.inside.keys c.self.inside.refusal) (g.R.Read.remaining o.reader) (g.R.Read.remaining c.next_event.new.reader) t ms)) c.self.view_is
-    (next_told c.self.inside.events c.next_event.new.events c.self.inside.items c.next_event.new.items c.self.inside.keys _ _ c.in-Ok.ensures.limits c.in-Ok.event c.self.inside.refusal c.in-Ok.ensures.answers t ms
+    (next_reported c.self.inside.events c.next_event.new.events c.self.inside.items c.next_event.new.items c.self.inside.keys _ _ c.in-Ok.ensures.limits c.in-Ok.event c.self.inside.refusal c.in-Ok.ensures.answers t ms
     (subst (λ (o : StrictReaderView g.row.R.Denot). StandsStrictly o.events t ms) (sym c.self.view_is) h))
 
 pub returns-in-Err-clause-answers : goal.returns-in-Err-clause-answers

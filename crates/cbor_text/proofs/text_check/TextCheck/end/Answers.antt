@@ -1,6 +1,6 @@
 use Rattle.std.proofs.Common.{◌≡◌, ◌-◌, ◌<◌, length, sym, subst, arith}
 use Rattle.std.proofs.lemmas.Bool.Decides.{nat_tests}
-use Rattle.cbor_text.proofs.TextFronts.{answers, fixed-now, open-short}
+use Rattle.cbor_text.proofs.TextPrefixes.{answers, fixed-now, open-short}
 use Rattle.cbor_text.proofs.text_check.TextCheck.end.Goals as goal
 use Rattle.cbor_text.specs.{inner.TextCheck.IsFixed, inner.TextCheck.IsOpen, TextCheck.HasChecked, TextCheck.TextView}
 

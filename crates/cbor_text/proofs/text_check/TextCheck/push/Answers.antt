@@ -1,5 +1,5 @@
 use Rattle.std.proofs.Common.{◌≡◌, ◌+◌, ◌-◌, length, sym, subst, arith, length-append}
-use Rattle.cbor_text.proofs.TextFronts.{open-more, open-then-fixed, fixed-more}
+use Rattle.cbor_text.proofs.TextPrefixes.{open-more, open-then-fixed, fixed-more}
 use Rattle.cbor_text.proofs.text_check.TextCheck.push.Goals as goal
 use Rattle.cbor_text.specs.{inner.TextCheck.IsFixed, inner.TextCheck.IsOpen, TextCheck.HasChecked, TextCheck.TextView}
 

@@ -1,5 +1,5 @@
 use Rattle.std.proofs.{Common.arith, lemmas.Result.err_from_is_err_and}
-use Rattle.cborc_files.proofs.Spelled.{spells_none, spells_more, stray_behind}
+use Rattle.cborc_files.proofs.Spelled.{spells_none, spells_more, hex_error_behind}
 use Rattle.cborc_files.proofs.hex_text.Digits.push_all.Goals as goal
 
 pub text-init : goal.text-init
@@ -11,4 +11,4 @@ text-preserved c = spells_more c.args.text.now _ (omega (arith, c.text-test.true
 pub returns-in_err-push-clause-not_hex : goal.returns-in_err-push-clause-not_hex
 returns-in_err-push-clause-not_hex c =
     let p = err_from_is_err_and c.from_residual.result c.from_residual.ensures.1 in
-    rw (p.1, p.2) (λ e. stray_behind c.args.text.now _ (omega (arith, c.text-test.true)) _ _ _ _ c.text.invariant (c.in_err-push.ensures.not_hex e))
+    rw (p.1, p.2) (λ e. hex_error_behind c.args.text.now _ (omega (arith, c.text-test.true)) _ _ _ _ c.text.invariant (c.in_err-push.ensures.not_hex e))

@@ -1,5 +1,5 @@
 use Rattle.std.proofs.Common.{◌-◌, arith}
-use Rattle.cborc_disk.proofs.Appended.{some_file}
+use Rattle.cborc_files.proofs.Appended.{some_file}
 use Rattle.cborc.proofs.tests.streams.EndlessFolder.read_on.Goals as goal
 
 pub returns-in-Ok-clause-gives : goal.returns-in-Ok-clause-gives

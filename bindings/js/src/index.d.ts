@@ -1,0 +1,15 @@
+import type { Naltvigo } from './load.js';
+
+export { EncodeError, Refused, Simple, Tag } from './load.js';
+export type { Bytes, Event, Options, ReadingOptions, Value } from './load.js';
+
+export const canonicalise: Naltvigo['canonicalise'];
+export const check: Naltvigo['check'];
+export const checkCanonical: Naltvigo['checkCanonical'];
+export const decode: Naltvigo['decode'];
+export const diagnostic: Naltvigo['diagnostic'];
+export const encode: Naltvigo['encode'];
+export const events: Naltvigo['events'];
+export const items: Naltvigo['items'];
+export const same: Naltvigo['same'];
+export const version: Naltvigo['version'];

@@ -1,0 +1,46 @@
+// Random inputs, as the native library answers them: fuzz/vectors.py wrote them to the file that VECTORS names.
+import assert from 'node:assert/strict';
+import { readFileSync } from 'node:fs';
+import { test } from 'node:test';
+import { canonicalise, check, checkCanonical, diagnostic, items, Refused, same } from 'naltvigo';
+import { bytes, hex } from './given.mjs';
+
+const ORDERS = ['bytewise', 'length'];
+const KEYS = ['any', 'basic'];
+const file = process.env.VECTORS;
+
+/** The answer as the file has it; `more` makes of what a call returns what stands behind the status. */
+function answer(call, more = () => '-', refused = () => '-') {
+    try {
+        return `0 ${more(call())}`;
+    } catch (error) {
+        if (!(error instanceof Refused)) throw error;
+        return `1 ${error.reason} ${error.place} ${error.read} ${refused(error)}`;
+    }
+}
+
+test('each call answers as the native library', { skip: file ? false : 'VECTORS names no file' }, () => {
+    let before = Uint8Array.of(0), count = 0;
+    for (const line of readFileSync(file, 'utf8').trimEnd().split('\n')) {
+        const [given, ...wanted] = line.split('|'), [order, keys, depth, maxBytes, digits] = given.split(' ');
+        const data = bytes(digits === '-' ? '' : digits);
+        const limits = { keys: KEYS[keys], depth: Number(depth), maxBytes: Number(maxBytes) };
+        const options = { ...limits, order: ORDERS[order] };
+        const front = more => answer(() => items(data, { ...options, ...more }).next().value, item => item.length, () => 0);
+        let isSame;
+        const compared = answer(() => { isSame = same(before, data, limits); }, undefined, ({ side }) => (side === 'left' ? 0 : 1));
+        const answers = [
+            answer(() => canonicalise(data, options), hex),
+            answer(() => check(data, limits)),
+            answer(() => checkCanonical(data, options)),
+            answer(() => diagnostic(data, limits), text => Buffer.from(text).toString('hex')),
+            // of no input there are no items, where the library finds it cut off
+            ...(data.length ? [front({}), front({ canonical: true })] : wanted.slice(4, 6)),
+            isSame === false ? '6 -' : compared,
+        ];
+        assert.deepEqual(answers, wanted, given);
+        before = data;
+        count++;
+    }
+    assert.ok(count > 100);
+});

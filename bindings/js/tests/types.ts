@@ -1,0 +1,49 @@
+// What tsc --strict must accept, and must refuse. It is compiled, and not run.
+import {
+    canonicalise, check, checkCanonical, decode, diagnostic, encode, EncodeError, events, items, Refused, same, Simple, Tag,
+    version,
+} from 'naltvigo';
+import type { Event, Options, Value } from 'naltvigo';
+import { hasMemory64, load, type Naltvigo } from 'naltvigo/load';
+
+const options: Options = { depth: 8, maxBytes: 1n << 30n, order: 'length', keys: 'basic' };
+const data: Uint8Array = encode({ a: [1, 2n, 'x', null, undefined, new Map([[1, new Tag(2, new Simple(3))]])] }, options);
+const value: Value = decode(data, { canonical: true, ...options });
+if (value instanceof Map) for (const [key, it] of value) if (typeof key === 'number' && Array.isArray(it)) it.push(key);
+if (value instanceof Tag) encode(value.content);
+const canonical: Uint8Array = canonicalise(data.buffer, { order: 'bytewise' });
+const nothing: void = check(new DataView(data.buffer));
+checkCanonical(canonical);
+const isSame: boolean = same(data, canonical);
+const text: string = diagnostic(data).toUpperCase();
+for (const item of items(data, { canonical: true })) item.subarray(1);
+for (const event of events([data, data.buffer])) {
+    const it: Event = event;
+    if (it.kind === 'piece') it.data?.byteLength;
+    if (it.number !== undefined) BigInt(it.number);
+}
+try {
+    check(data);
+} catch (error) {
+    if (error instanceof Refused) [error.reason + error.place + error.read, error.name + error.sentence, error.path?.length];
+    if (error instanceof EncodeError) error.path.length;
+}
+const loaded: Promise<Naltvigo> = load(fetch(hasMemory64() ? 'a' : 'b'));
+loaded.then(({ encode: put }) => put(version()));
+interface Point { x: number; y: number }
+const point: Point = { x: 1, y: 2 };
+encode(point);
+export const used = [nothing, isSame, text];
+
+// @ts-expect-error: there is no such order
+canonicalise(data, { order: 'sorted' });
+// @ts-expect-error: nor such an option
+canonicalise(data, { max_bytes: 1 });
+// @ts-expect-error: canonical is of decode and items alone
+check(data, { canonical: true });
+// @ts-expect-error: hex is no buffer
+decode('00');
+// @ts-expect-error: a simple value's number is a number
+new Simple(1n);
+// @ts-expect-error: a list of numbers is no buffer
+canonicalise([1, 2]);

@@ -1,0 +1,170 @@
+/* The calls on whole items in bytes. */
+#include "native.h"
+
+/* Answers of at most so many bytes are made on the stack first. */
+#define SMALL_ANSWER 1024
+
+static size_t least(uint64_t left, uint64_t right) { return (size_t)(left < right ? left : right); }
+
+static uint32_t canonicalise_into(const uint8_t *bytes, size_t length, const struct options *options, uint8_t *out,
+                                  size_t space, size_t *needed, struct naltvigo_refusal *refusal) {
+    PyThreadState *released = release_lock(length);
+    const uint32_t status = naltvigo_canonicalise_raw(bytes, length, options->order, options->keys, options->depth,
+                                                      options->bytes, out, space, needed, refusal);
+    take_lock(released);
+    return status;
+}
+
+/* The same into a new bytes object of `space` bytes, or of as many as are needed. */
+static PyObject *canonicalise_long(const struct state *state, const uint8_t *bytes, size_t length,
+                                   const struct options *options, size_t space) {
+    struct naltvigo_refusal refusal;
+    size_t needed;
+    uint32_t status;
+    do {
+        PyObject *answer = PyBytes_FromStringAndSize(NULL, (Py_ssize_t)space);
+        if (!answer) return NULL;
+        uint8_t *out = (uint8_t *)PyBytes_AsString(answer);
+        status = canonicalise_into(bytes, length, options, out, space, &needed, &refusal);
+        if (status == NALTVIGO_OK && needed == space) return answer;
+        PyObject *part = status == NALTVIGO_OK ? PyBytes_FromStringAndSize((char *)out, (Py_ssize_t)needed) : NULL;
+        Py_DECREF(answer);
+        if (status == NALTVIGO_OK) return part;
+        space = needed;
+    } while (status == NALTVIGO_TOO_SMALL);
+    return raise_status(state, status, &refusal);
+}
+
+PyObject *canonical_bytes(const struct state *state, const uint8_t *bytes, size_t length, const struct options *options,
+                          size_t space) {
+    uint8_t small[SMALL_ANSWER];
+    struct naltvigo_refusal refusal;
+    size_t needed;
+    if (space > sizeof small) return canonicalise_long(state, bytes, length, options, space);
+    const uint32_t status = canonicalise_into(bytes, length, options, small, sizeof small, &needed, &refusal);
+    if (status == NALTVIGO_OK) return PyBytes_FromStringAndSize((char *)small, (Py_ssize_t)needed);
+    if (status == NALTVIGO_TOO_SMALL) return canonicalise_long(state, bytes, length, options, needed);
+    return raise_status(state, status, &refusal);
+}
+
+FUNCTION(canonicalise) {
+    static const struct signature signature = {"canonicalise", {"data"}, LIMITS_KEYS_AND_ORDER};
+    const struct state *state = PyModule_GetState(module);
+    struct options options;
+    struct input input;
+    PyObject *data;
+    if (read_arguments(state, &signature, arguments, count, names, &data, &options)) return NULL;
+    if (open_input(&input, data, COPY)) return NULL;
+    /* canonical bytes are within the limit, however long the input is */
+    PyObject *answer = canonical_bytes(state, input.bytes, input.length, &options, least(input.length, options.bytes));
+    close_input(&input);
+    return answer;
+}
+
+FUNCTION(check) {
+    static const struct signature signature = {"check", {"data"}, LIMITS_AND_KEYS};
+    const struct state *state = PyModule_GetState(module);
+    struct naltvigo_refusal refusal;
+    struct options options;
+    struct input input;
+    PyObject *data;
+    if (read_arguments(state, &signature, arguments, count, names, &data, &options)) return NULL;
+    if (open_input(&input, data, COPY)) return NULL;
+    PyThreadState *released = release_lock(input.length);
+    const uint32_t status = naltvigo_check_valid_raw(input.bytes, input.length, options.keys, options.depth,
+                                                     options.bytes, &refusal);
+    take_lock(released);
+    close_input(&input);
+    return status == NALTVIGO_OK ? Py_NewRef(Py_None) : raise_status(state, status, &refusal);
+}
+
+/* The status of a strict check; -1 with an exception where the arguments are wrong. */
+static int64_t check_strictly(const struct state *state, const struct signature *signature, PyObject *const *arguments,
+                              Py_ssize_t count, PyObject *names, struct naltvigo_refusal *refusal) {
+    struct options options;
+    struct input input;
+    PyObject *data;
+    if (read_arguments(state, signature, arguments, count, names, &data, &options)) return -1;
+    if (open_input(&input, data, COPY)) return -1;
+    PyThreadState *released = release_lock(input.length);
+    const uint32_t status = naltvigo_check_canonical_raw(input.bytes, input.length, options.order, options.keys,
+                                                         options.depth, options.bytes, refusal);
+    take_lock(released);
+    close_input(&input);
+    return status;
+}
+
+FUNCTION(check_canonical) {
+    static const struct signature signature = {"check_canonical", {"data"}, LIMITS_KEYS_AND_ORDER};
+    const struct state *state = PyModule_GetState(module);
+    struct naltvigo_refusal refusal;
+    const int64_t status = check_strictly(state, &signature, arguments, count, names, &refusal);
+    if (status < 0) return NULL;
+    return status == NALTVIGO_OK ? Py_NewRef(Py_None) : raise_status(state, (uint32_t)status, &refusal);
+}
+
+FUNCTION(is_canonical) {
+    static const struct signature signature = {"is_canonical", {"data"}, LIMITS_KEYS_AND_ORDER};
+    const struct state *state = PyModule_GetState(module);
+    struct naltvigo_refusal refusal;
+    const int64_t status = check_strictly(state, &signature, arguments, count, names, &refusal);
+    if (status < 0) return NULL;
+    if (status == NALTVIGO_OK || status == NALTVIGO_REFUSED) return PyBool_FromLong(status == NALTVIGO_OK);
+    return raise_status(state, (uint32_t)status, &refusal);
+}
+
+FUNCTION(same) {
+    static const struct signature signature = {"same", {"left", "right"}, LIMITS_AND_KEYS};
+    const struct state *state = PyModule_GetState(module);
+    struct naltvigo_refusal refusal;
+    struct options options;
+    struct input left, right;
+    PyObject *operands[2];
+    uint32_t side;
+    if (read_arguments(state, &signature, arguments, count, names, operands, &options)) return NULL;
+    if (open_input(&left, operands[0], COPY)) return NULL;
+    if (open_input(&right, operands[1], COPY)) return close_input(&left), NULL;
+    PyThreadState *released = release_lock(left.length + right.length);
+    const uint32_t status = naltvigo_compare_raw(left.bytes, left.length, right.bytes, right.length, options.keys,
+                                                 options.depth, options.bytes, &side, &refusal);
+    take_lock(released);
+    close_input(&left);
+    close_input(&right);
+    if (status == NALTVIGO_OK || status == NALTVIGO_DIFFERENT) return PyBool_FromLong(status == NALTVIGO_OK);
+    return raise_status_of_side(state, status, &refusal, side);
+}
+
+/* The text of an item, in a buffer of `space` bytes, or of as many as are needed. */
+static PyObject *text_of(const struct state *state, const struct input *input, const struct options *options,
+                         size_t space) {
+    struct naltvigo_refusal refusal;
+    size_t needed;
+    uint32_t status;
+    do {
+        uint8_t *out = PyMem_Malloc(space);
+        if (!out) return PyErr_NoMemory();
+        PyThreadState *released = release_lock(input->length);
+        status = naltvigo_diagnostic_raw(input->bytes, input->length, options->keys, options->depth, options->bytes,
+                                         out, space, &needed, &refusal);
+        take_lock(released);
+        PyObject *text = status == NALTVIGO_OK ? PyUnicode_DecodeUTF8((char *)out, (Py_ssize_t)needed, NULL) : NULL;
+        PyMem_Free(out);
+        if (status == NALTVIGO_OK) return text;
+        space = needed;
+    } while (status == NALTVIGO_TOO_SMALL);
+    return raise_status(state, status, &refusal);
+}
+
+FUNCTION(diagnostic) {
+    static const struct signature signature = {"diagnostic", {"data"}, LIMITS_AND_KEYS};
+    const struct state *state = PyModule_GetState(module);
+    struct options options;
+    struct input input;
+    PyObject *data;
+    if (read_arguments(state, &signature, arguments, count, names, &data, &options)) return NULL;
+    if (open_input(&input, data, COPY)) return NULL;
+    /* most texts have at most four characters a byte */
+    PyObject *text = text_of(state, &input, &options, 64 + 4 * least(input.length, options.bytes));
+    close_input(&input);
+    return text;
+}

@@ -1,0 +1,105 @@
+//! The calls on heads, and on items of bytes that are known to be canonical.
+
+use crate::item::GetError;
+use crate::options::{Options, Order, WIDEST};
+use crate::raw::{self, NOT_THERE, OK, TOO_SMALL};
+use alloc::vec;
+use alloc::vec::Vec;
+
+/// The most bytes that a head has.
+pub(crate) const HEAD_MAX: usize = 9;
+
+/// Writes the shortest head of this kind and number to the front of `out`, and returns its length.
+pub(crate) fn put(kind: u8, number: u64, out: &mut [u8]) -> usize {
+    let mut needed = 0;
+    // SAFETY: `out` is borrowed for the call, and has as many bytes as is said.
+    let status = unsafe {
+        raw::naltvigo_put_head_raw(
+            kind.into(),
+            number,
+            out.as_mut_ptr(),
+            out.len(),
+            &mut needed,
+        )
+    };
+    // A head left out would give canonical bytes of another value.
+    assert_eq!(status, OK, "kind {kind} has no head of {number}");
+    needed
+}
+
+/// Appends the shortest head of this kind and number.
+pub(crate) fn append(kind: u8, number: u64, out: &mut Vec<u8>) {
+    let mut head = [0; HEAD_MAX];
+    let size = put(kind, number, &mut head);
+    out.extend_from_slice(&head[..size]);
+}
+
+/// The item that begins at this offset.
+pub(crate) fn item_at(input: &[u8], place: usize) -> Option<raw::Item> {
+    let mut item = raw::Item::default();
+    // SAFETY: the call reads within the slice at any bytes and offset.
+    let status =
+        unsafe { raw::naltvigo_item_at_raw(input.as_ptr(), input.len(), place as u64, &mut item) };
+    (status == OK).then_some(item)
+}
+
+/// The value at the key of these canonical bytes, in the map that the input is.
+pub(crate) fn find(map: &[u8], key: &[u8]) -> Result<raw::Item, GetError> {
+    let mut value = raw::Item::default();
+    // SAFETY: the call reads within the two slices, whatever their bytes.
+    let status = unsafe {
+        raw::naltvigo_find_raw(
+            map.as_ptr(),
+            map.len(),
+            0,
+            key.as_ptr(),
+            key.len(),
+            &mut value,
+        )
+    };
+    match status {
+        OK => Ok(value),
+        NOT_THERE => Err(GetError::NotThere),
+        _ => Err(GetError::WrongKind),
+    }
+}
+
+// A table of so many items lies on the stack.
+const FEW: usize = 64;
+
+/// Calls `read` with the table of all items in an item, in the order of their first bytes. The item is
+/// in its canonical bytes in this order of keys.
+pub(crate) fn with_index<R>(item: &[u8], order: Order, read: impl FnOnce(&[raw::Item]) -> R) -> R {
+    let options = WIDEST.with_order(order);
+    let mut few = [raw::Item::default(); FEW];
+    let (status, count) = index(item, &options, &mut few);
+    if status != TOO_SMALL {
+        assert_eq!(status, OK, "the bytes are canonical");
+        return read(&few[..count]);
+    }
+    let mut many = vec![raw::Item::default(); count];
+    let (status, _) = index(item, &options, &mut many);
+    assert_eq!(status, OK, "the bytes are canonical");
+    read(&many)
+}
+
+// The status, and how many items there are.
+fn index(item: &[u8], options: &Options, items: &mut [raw::Item]) -> (u32, usize) {
+    let (mut needed, mut refusal) = (0, raw::Refusal::default());
+    // SAFETY: the items are borrowed for the call, and are as many as is said.
+    let status = unsafe {
+        raw::naltvigo_index_raw(
+            item.as_ptr(),
+            item.len(),
+            options.order() as u32,
+            options.keys() as u32,
+            options.depth().into(),
+            options.bytes(),
+            items.as_mut_ptr(),
+            items.len(),
+            &mut needed,
+            &mut refusal,
+        )
+    };
+    (status, needed)
+}

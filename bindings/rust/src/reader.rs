@@ -1,0 +1,185 @@
+//! The items of a sequence that comes from a reader.
+
+use crate::events::{Machine, Step};
+use crate::options::Options;
+use crate::reason::Reason;
+use crate::refused::Refused;
+use crate::sequence::{canonical_items, items};
+use alloc::boxed::Box;
+use alloc::vec::Vec;
+use core::error::Error;
+use core::fmt;
+use core::mem;
+
+/// The items of a sequence (RFC 8742) from a reader, each in its own bytes, as [`items`] gives those
+/// of a slice. `read` fills a buffer from its front and returns how many bytes came, none at the end.
+///
+/// An item is given once its last byte is there. The memory is bounded by the longest item, which the
+/// options limit, and what one call of `read` brings.
+///
+/// ```
+/// use naltvigo::{read_items, Options};
+/// use std::io::Read;
+///
+/// let mut file = &b"\x18\x00\x61a"[..]; // or a std::fs::File
+/// let found: Result<Vec<Vec<u8>>, _> =
+///     read_items(|buffer| file.read(buffer), &Options::default()).collect();
+/// assert_eq!(found?, [&b"\x18\x00"[..], b"\x61a"]);
+/// # Ok::<(), naltvigo::ReadError<std::io::Error>>(())
+/// ```
+pub fn read_items<E, R>(read: R, options: &Options) -> ReadItems<R>
+where
+    R: FnMut(&mut [u8]) -> Result<usize, E>,
+{
+    ReadItems {
+        read,
+        buffer: Vec::new(),
+        start: 0,
+        end: 0,
+        offset: 0,
+        cut: None,
+        ended: false,
+        canonical: false,
+        options: *options,
+    }
+}
+
+/// The items of a sequence from a reader, each in its canonical bytes, as [`canonical_items`] gives
+/// those of a slice.
+pub fn read_canonical_items<E, R>(read: R, options: &Options) -> ReadItems<R>
+where
+    R: FnMut(&mut [u8]) -> Result<usize, E>,
+{
+    ReadItems {
+        canonical: true,
+        ..read_items(read, options)
+    }
+}
+
+/// Why no item is given.
+#[derive(Clone, PartialEq, Eq)]
+pub enum ReadError<E> {
+    /// The item is refused; its place counts from the item's first byte. This is the last answer.
+    Refused(Refused),
+    /// `read` failed. The next call tries it again, and nothing is lost.
+    Read(E),
+}
+
+impl<E: fmt::Display> fmt::Display for ReadError<E> {
+    fn fmt(&self, f: &mut fmt::Formatter<'_>) -> fmt::Result {
+        match self {
+            ReadError::Refused(refused) => refused.fmt(f),
+            ReadError::Read(error) => error.fmt(f),
+        }
+    }
+}
+
+impl<E: Error> Error for ReadError<E> {}
+
+// How many bytes are asked for at a time, at least.
+const AT_A_TIME: usize = 1 << 16;
+
+/// The items of a sequence from a reader, as [`read_items`] and [`read_canonical_items`] give them.
+#[derive(Debug)]
+pub struct ReadItems<R> {
+    read: R,
+    // What came and was not given lies from `start` to `end`.
+    buffer: Vec<u8>,
+    start: usize,
+    end: usize,
+    offset: u64,
+    // Of an item that is not all there: what takes its bytes as they come.
+    cut: Option<Box<Machine>>,
+    ended: bool,
+    canonical: bool,
+    options: Options,
+}
+
+impl<R> ReadItems<R> {
+    /// The offset in the sequence of the next item, or of the one that was refused.
+    pub fn offset(&self) -> u64 {
+        self.offset
+    }
+
+    // The item at the front. None if more bytes are needed, or none are left.
+    fn front(&mut self) -> Option<Result<Vec<u8>, Refused>> {
+        let came = &self.buffer[self.start..self.end];
+        if !self.ended
+            && self
+                .cut
+                .as_mut()
+                .is_some_and(|machine| is_cut(machine, came))
+        {
+            return None;
+        }
+        let mut found = if self.canonical {
+            canonical_items(came, &self.options)
+        } else {
+            items(came, &self.options)
+        };
+        match found.next()? {
+            Ok(item) => {
+                let item = item.to_vec();
+                self.cut = None;
+                self.start += item.len();
+                self.offset += item.len() as u64;
+                Some(Ok(item))
+            }
+            Err(refused) if refused.reason == Reason::Truncated && !self.ended => {
+                self.cut = Some(Box::new(Machine::new(&self.options)));
+                None
+            }
+            Err(refused) => {
+                self.start = self.end;
+                self.ended = true;
+                Some(Err(refused))
+            }
+        }
+    }
+
+    fn fill<E>(&mut self) -> Result<(), E>
+    where
+        R: FnMut(&mut [u8]) -> Result<usize, E>,
+    {
+        let start = mem::take(&mut self.start);
+        self.buffer.copy_within(start..self.end, 0);
+        self.end -= start;
+        if self.buffer.len() < self.end + AT_A_TIME {
+            self.buffer.resize(2 * self.end + AT_A_TIME, 0);
+        }
+        let space = &mut self.buffer[self.end..];
+        let read = (self.read)(space)?;
+        assert!(read <= space.len(), "more came than there is space for");
+        self.end += read;
+        self.ended = read == 0;
+        Ok(())
+    }
+}
+
+// Takes the rest of what came of an item; whether more bytes are needed.
+fn is_cut(machine: &mut Machine, came: &[u8]) -> bool {
+    let taken = machine.taken() as usize;
+    machine.events(&came[taken..]).for_each(drop);
+    machine.step(b"").1 == Step::More
+}
+
+impl<E, R> Iterator for ReadItems<R>
+where
+    R: FnMut(&mut [u8]) -> Result<usize, E>,
+{
+    type Item = Result<Vec<u8>, ReadError<E>>;
+
+    fn next(&mut self) -> Option<Self::Item> {
+        loop {
+            if let Some(found) = self.front() {
+                return Some(found.map_err(ReadError::Refused));
+            }
+            if self.ended {
+                return None;
+            }
+            if let Err(error) = self.fill() {
+                return Some(Err(ReadError::Read(error)));
+            }
+        }
+    }
+}

@@ -1,0 +1,162 @@
+//! Sequences from readers, against the same sequences in a slice.
+
+mod random;
+
+use naltvigo::{
+    canonical_items, items, read_canonical_items, read_items, Options, ReadError, Reason, Refused,
+    Value,
+};
+use random::Random;
+use std::io::{self, Read};
+
+// A slice that gives at most so many bytes at a time.
+fn by(size: usize, mut left: &[u8]) -> impl FnMut(&mut [u8]) -> io::Result<usize> + '_ {
+    move |buffer| {
+        let space = buffer.len().min(size);
+        left.read(&mut buffer[..space])
+    }
+}
+
+type Found = (Vec<Vec<u8>>, Option<Refused>, u64);
+
+// The items, the refusal that ends them, and the offset there.
+fn of_slice(input: &[u8], options: &Options, canonical: bool) -> Found {
+    let mut found = if canonical {
+        canonical_items(input, options)
+    } else {
+        items(input, options)
+    };
+    let (mut good, mut refused) = (Vec::new(), None);
+    for item in found.by_ref() {
+        match item {
+            Ok(item) => good.push(item.to_vec()),
+            Err(why) => refused = Some(why),
+        }
+    }
+    (good, refused, found.offset() as u64)
+}
+
+fn of_reader(input: &[u8], options: &Options, canonical: bool, size: usize) -> Found {
+    let mut found = if canonical {
+        read_canonical_items(by(size, input), options)
+    } else {
+        read_items(by(size, input), options)
+    };
+    let (mut good, mut refused) = (Vec::new(), None);
+    for item in found.by_ref() {
+        assert_eq!(refused, None, "a refusal is the last answer");
+        match item {
+            Ok(item) => good.push(item),
+            Err(ReadError::Refused(why)) => refused = Some(why),
+            Err(ReadError::Read(error)) => panic!("{error}"),
+        }
+    }
+    assert!(found.next().is_none());
+    (good, refused, found.offset())
+}
+
+#[test]
+fn random_sequences() {
+    let (mut random, options) = (Random(12), Options::default().with_limits(5, 400).unwrap());
+    let mut ends = [0; 2];
+    for turn in 0..3000 {
+        let canonical = turn % 2 == 0;
+        let mut input = Vec::new();
+        for _ in 0..random.below(6) {
+            let value = random.value(3);
+            if canonical {
+                input.extend(value.encode(&Options::default()).unwrap());
+            } else {
+                random.encode(&value, &mut input);
+            }
+        }
+        // a byte changed, the end cut off, or neither
+        match random.below(4) {
+            0 if !input.is_empty() => {
+                let place = random.below(input.len() as u64) as usize;
+                input[place] = random.below(256) as u8;
+            }
+            1 => input.truncate(random.below(input.len() as u64 + 1) as usize),
+            _ => {}
+        }
+        let wanted = of_slice(&input, &options, canonical);
+        ends[usize::from(wanted.1.is_some())] += 1;
+        for size in [1, 2, 7, 1000] {
+            let found = of_reader(&input, &options, canonical, size);
+            assert_eq!(found, wanted, "{input:02x?} by {size}");
+        }
+    }
+    assert!(ends[0] > 500 && ends[1] > 500, "{ends:?}");
+}
+
+#[test]
+fn long_items() {
+    let options = Options::default().with_bytes(1 << 22).unwrap();
+    let item = |size: usize| Value::bytes(vec![7; size]).encode(&options).unwrap();
+    let sizes = [0, 1, 65530, 65531, 65532, 65536, 200_000, 1 << 20, 3];
+    let input: Vec<u8> = sizes.into_iter().flat_map(item).collect();
+    let wanted = of_slice(&input, &options, true);
+    assert_eq!((wanted.0.len(), wanted.1), (sizes.len(), None));
+    for size in [1000, 65536, 1 << 20] {
+        assert_eq!(of_reader(&input, &options, true, size), wanted);
+    }
+}
+
+// An item comes as soon as its last byte does, without a further read.
+#[test]
+fn no_byte_is_waited_for() {
+    let mut left = &b"\x82\x01\x02\x19\x01\x00"[..];
+    let read = |buffer: &mut [u8]| match left.split_first() {
+        Some((byte, rest)) => {
+            left = rest;
+            buffer[0] = *byte;
+            Ok(1)
+        }
+        None => Err("nothing more came"),
+    };
+    let mut found = read_items(read, &Options::default());
+    assert_eq!(found.next(), Some(Ok(b"\x82\x01\x02".to_vec())));
+    assert_eq!(found.next(), Some(Ok(b"\x19\x01\x00".to_vec())));
+    assert_eq!(
+        (found.offset(), found.next()),
+        (6, Some(Err(ReadError::Read("nothing more came"))))
+    );
+}
+
+// A read that failed is tried again, and nothing is lost.
+#[test]
+fn a_reader_that_fails() {
+    let mut left = b"\x82\x43abc\x18\x64".iter();
+    let mut busy = false;
+    let read = |buffer: &mut [u8]| {
+        busy = !busy;
+        if busy {
+            return Err("busy");
+        }
+        Ok(left.next().map_or(0, |byte| {
+            buffer[0] = *byte;
+            1
+        }))
+    };
+    let found: Vec<_> = read_items(read, &Options::default()).collect();
+    // one behind an error before each byte, and the end behind another
+    let mut wanted = vec![Err(ReadError::Read("busy")); 7];
+    wanted.push(Ok(b"\x82\x43abc\x18\x64".to_vec()));
+    wanted.push(Err(ReadError::Read("busy")));
+    assert_eq!(found, wanted);
+}
+
+#[test]
+fn a_sequence_without_an_end() {
+    let options = Options::default().with_bytes(1000).unwrap();
+    // a text that never ends is refused at the limit
+    let endless = |buffer: &mut [u8]| {
+        buffer.fill(0x60);
+        buffer[0] = 0x7f;
+        Ok::<usize, io::Error>(buffer.len())
+    };
+    match read_items(endless, &options).next() {
+        Some(Err(ReadError::Refused(refused))) => assert_eq!(refused.reason, Reason::TooLong),
+        _ => panic!("it is refused"),
+    }
+}

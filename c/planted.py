@@ -1,0 +1,95 @@
+"""Plants bugs in the inline functions of naltvigo_values.h, one at a time, and shows that the tests of c/ fail for each.
+
+    planted.py DIST
+
+DIST is what scripts/build_c.sh makes. It prints how many bugs there were, and fails where one is not found.
+"""
+
+import os
+import shutil
+import subprocess
+import sys
+import tempfile
+from pathlib import Path
+
+HERE = Path(__file__).resolve().parent
+TESTS = ["cursor", "writer", "round_trips", "damaged"]
+WRITER, CURSOR = "naltvigo_writer.h", "naltvigo_cursor.h"
+
+# The header, what stands there once, and what stands there then.
+BUGS = [
+    (WRITER, "~NALTVIGO_CAST(uint64_t, number)", "NALTVIGO_CAST(uint64_t, -number)"),
+    (WRITER, "length <= naltvigo_writer_room(writer)", "length < naltvigo_writer_room(writer)"),
+    (WRITER, "length > naltvigo_writer_room(writer)", "length >= naltvigo_writer_room(writer)"),
+    (WRITER, "length > SIZE_MAX - writer->needed ? SIZE_MAX : writer->needed + length", "writer->needed + length"),
+    (WRITER, "memcpy(writer->out + writer->needed,", "memcpy(writer->out,"),
+    (WRITER, " && writer->status == NALTVIGO_OK) writer", ") writer"),
+    (WRITER, "writer->status == NALTVIGO_OK || writer->status == NALTVIGO_TOO_SMALL", "writer->status == NALTVIGO_OK"),
+    (WRITER, "if (status == NALTVIGO_BAD_HEAD) naltvigo_writer_fail(writer, status);\n    else ", ""),
+    (WRITER, "is_true ?", "is_true == 1 ?"),
+    (WRITER, " && item.end == length", ""),
+    (WRITER, "naltvigo_writer_fail(writer, NALTVIGO_NOT_THERE)", "naltvigo_writer_append(writer, bytes, length)"),
+    (WRITER, "if (writer->status == NALTVIGO_OK)\n", "if (writer->status != NALTVIGO_TOO_SMALL)\n"),
+    (WRITER, "? writer->needed : 0;\n    return", "? 0 : 0;\n    return"),
+    (CURSOR, "at.in, at.item.end, at.item.content", "at.in, at.length, at.item.content"),
+    (CURSOR, "at.item.kind < NALTVIGO_ARRAY ||", ""),
+    (CURSOR, "if (array.item.kind != NALTVIGO_ARRAY)", "if (array.item.kind < NALTVIGO_ARRAY)"),
+    (CURSOR, "index && member", "index > 1 && member"),
+    (CURSOR, "value.length = NALTVIGO_CAST(size_t, map.item.end);", ""),
+    (CURSOR, "~NALTVIGO_CAST(uint64_t, key)", "NALTVIGO_CAST(uint64_t, -key)"),
+    (CURSOR, "it.item.kind == NALTVIGO_TEXT && ", ""),
+    (CURSOR, "it.item.end - it.item.content == length", "it.item.end - it.item.content >= length"),
+    (CURSOR, "it = naltvigo_next(naltvigo_next(it))", "it = naltvigo_next(it)"),
+    (CURSOR, "if (length > 64)", "if (length > 80)"),
+    (CURSOR, " || tag.item.number != number", ""),
+    (CURSOR, "if (*status == NALTVIGO_OK) *status = at.status;", "*status = at.status;"),
+    (CURSOR, " && at.item.kind != kind", " && at.item.kind > kind"),
+    (CURSOR, "if (*status == NALTVIGO_OK && at.item.kind == NALTVIGO_NEGATIVE)", "if (0)"),
+    (CURSOR, "if (*status == NALTVIGO_OK && at.item.kind == NALTVIGO_UNSIGNED)", "if (0)"),
+    (CURSOR, "at.item.number > INT64_MAX", "at.item.number >= INT64_MAX"),
+    (CURSOR, "-1 - NALTVIGO_CAST(int64_t, at.item.number)", "-NALTVIGO_CAST(int64_t, at.item.number)"),
+    (CURSOR, "&& number != NALTVIGO_FALSE && number != NALTVIGO_TRUE)", "&& number > NALTVIGO_TRUE)"),
+    (CURSOR, "is_map ? NALTVIGO_MAP : NALTVIGO_ARRAY, status", "is_map ? NALTVIGO_MAP : at.item.kind, status"),
+]
+
+
+def is_found(folder, dist, rows):
+    """Whether a test fails, or does not compile, with the headers of the folder."""
+    for name in TESTS:
+        words = [os.environ.get("CC", "cc"), "-O1", "-w", f"-I{folder}", f"-I{rows}", str(HERE / f"{name}.c"), f"{dist}/lib/libnaltvigo.a", "-o", f"{folder}/{name}"]
+        if subprocess.run(words, capture_output=True).returncode != 0:
+            sys.exit(f"{name}.c does not compile")
+        try:
+            ran = subprocess.run([f"{folder}/{name}", "1", "2000"], capture_output=True, timeout=60)
+        except subprocess.TimeoutExpired:
+            return True
+        if ran.returncode != 0:
+            return True
+    return False
+
+
+def main():
+    dist = Path(sys.argv[1]).resolve()
+    missed = 0
+    with tempfile.TemporaryDirectory() as name:
+        rows, folder = Path(name) / "rows", Path(name) / "include"
+        rows.mkdir()
+        tables = sorted((HERE.parent / "crates" / "cbor_reader_tests" / "src" / "tests").glob("*_table.rt"))
+        made = subprocess.run([sys.executable, HERE / "rows.py", *tables], capture_output=True, check=True)
+        (rows / "rows.h").write_bytes(made.stdout)
+        for header, before, after in BUGS:
+            shutil.rmtree(folder, ignore_errors=True)
+            shutil.copytree(dist / "include", folder)
+            text = (folder / header).read_text()
+            if text.count(before) != 1:
+                sys.exit(f"{header} has {text.count(before)} times {before!r}")
+            (folder / header).write_text(text.replace(before, after))
+            if not is_found(folder, dist, rows):
+                print(f"not found: {header}: {before!r} becomes {after!r}")
+                missed += 1
+    print(f"{len(BUGS)} planted bugs, {missed} not found")
+    return 1 if missed else 0
+
+
+if __name__ == "__main__":
+    sys.exit(main())

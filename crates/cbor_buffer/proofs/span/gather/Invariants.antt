@@ -1,9 +1,0 @@
-use Rattle.std.proofs.Common.{◌≡◌, ◌++◌, length, take, drop, map, flat_map}
-use Rattle.cbor_canonical.specs.Pairs.{pair_bytes}
-use Rattle.cbor_buffer.proofs.span.gather.Given as goal
-use Rattle.cbor_buffer.specs.Spans.{span_pair}
-
-abbrev pub invariant-loop-span : goal.invariant-loop-span
-invariant-loop-span l =
-    (l.fn.out ++ flat_map pair_bytes (map (span_pair l.fn.out) l.spans) ≡ l.out ++ flat_map pair_bytes (map (span_pair l.fn.out) (drop l.span-index l.spans)))
-    × (take (length l.fn.out) l.out ≡ l.fn.out)

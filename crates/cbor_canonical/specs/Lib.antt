@@ -1,5 +1,0 @@
-pub mod CanonicalSpelling
-pub mod Lists
-pub mod Pairs
-pub mod Parts
-pub mod StrictReasons

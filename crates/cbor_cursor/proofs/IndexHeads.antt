@@ -1,0 +1,140 @@
+-- The table while the heads are placed.
+use Rattle.std.proofs.Common.{◌≡◌, ℕ, ◌+◌, ◌<◌, ◌≤◌, List, [], ◌∷◌, ◌++◌, length, take, drop, sym, ap, ◌∙◌, arith, append_assoc, append-nil, length-append, length-drop, set}
+use Rattle.std.proofs.{Math.Seq.drop-append_seam, lemmas.List.take_more_set, lemmas.List.drop-drop}
+use Rattle.cbor_head.specs.Prelude.{head, major_number, Spelling, Spellings, no_spellings, a_spelling, spell, spell_all, spellings_count}
+use Rattle.cbor_cursor.specs.Index.{major_in, width_in, number_in, head_size, items_count, all_count, all_listed}
+use Rattle.cbor_cursor.specs.inner.Indexing.{payload_of, members_of, opened_item, opened_at, opened_table}
+use Rattle.cbor_cursor.proofs.Definite.{joined, definite-joined, count-joined, spell-joined}
+use Rattle.cbor_cursor.proofs.IndexParts.{members_in, payload_in, definite_members, spell_parts, length_parts, payload_is, members_is, count_parts, all_count-joined, listed_parts, all_listed-joined}
+use Rattle.cbor_cursor.{specs.inner.Definite.IsDefinite, specs.inner.Definite.AreDefinite, specs.declared.placed.PlacedItem.PlacedItem, proofs.Parts.count_fits}
+
+-- the items that are still to come, and the table of them behind the entries so far
+pub record AreStillExpected (s : Spelling) (bytes : List ℕ) (items : List PlacedItem) (place count : ℕ) : Type 0 where
+  pub expected : Spellings
+  pub definite : AreDefinite expected
+  pub bytes_are : drop place bytes ≡ spell_all expected
+  pub entries : count + all_count expected ≡ items_count s
+  pub table : items_count s ≤ length items → take count items ++ all_listed opened_at place expected ≡ opened_table 0 s
+
+pub at_first : (s : Spelling) (bytes : List ℕ) (items : List PlacedItem) → IsDefinite s → bytes ≡ spell s → AreStillExpected s bytes items 0 0
+at_first s bytes items h e = record {
+  expected = a_spelling s no_spellings;
+  definite = (h, tt);
+  bytes_are = e ∙ sym (append-nil (spell s));
+  entries = omega arith;
+  table = λ _. append-nil _;
+}
+
+pub at_last : (s : Spelling) (bytes : List ℕ) (items : List PlacedItem) (place count : ℕ) → length bytes ≤ place → AreStillExpected s bytes items place count
+    → (count ≡ items_count s) × (count ≤ length items → take count items ≡ opened_table 0 s)
+at_last s bytes items place count l d = go d.expected (omega (arith, ap length d.bytes_are, length-drop place bytes, l, count_fits d.expected)) d.entries d.table
+  where
+    go : (ss : Spellings) → spellings_count ss ≤ 0 → count + all_count ss ≡ items_count s
+        → (items_count s ≤ length items → take count items ++ all_listed opened_at place ss ≡ opened_table 0 s)
+        → (count ≡ items_count s) × (count ≤ length items → take count items ≡ opened_table 0 s)
+    go no_spellings n e t = (omega (arith, e), λ r. sym (append-nil (take count items)) ∙ t (omega (arith, e, r)))
+    go (a_spelling x xs) n e t = absurd (omega (arith, n))
+
+-- the next of them, in parts
+pub record IsNext (s : Spelling) (bytes : List ℕ) (items : List PlacedItem) (place count : ℕ) : Type 0 where
+  pub first : Spelling
+  pub others : Spellings
+  pub definite : IsDefinite first
+  pub all_definite : AreDefinite others
+  pub bytes_are : drop place bytes ≡ head (major_in first) (width_in first) (number_in first) ++ (payload_in first ++ spell_all (joined (members_in first) others))
+  pub entries : count + (items_count first + all_count others) ≡ items_count s
+  pub table : items_count s ≤ length items
+      → take count items ++ (opened_at place first ∷ all_listed opened_at (place + head_size first + length (payload_in first)) (joined (members_in first) others)) ≡ opened_table 0 s
+
+pub next_expected : (s : Spelling) (bytes : List ℕ) (items : List PlacedItem) (place count : ℕ) → place < length bytes → AreStillExpected s bytes items place count → IsNext s bytes items place count
+next_expected s bytes items place count l d = go d.expected d.definite d.bytes_are d.entries d.table
+  where
+    go : (ss : Spellings) → AreDefinite ss → drop place bytes ≡ spell_all ss → count + all_count ss ≡ items_count s
+        → (items_count s ≤ length items → take count items ++ all_listed opened_at place ss ≡ opened_table 0 s)
+        → IsNext s bytes items place count
+    go no_spellings h b e t = absurd (omega (arith, l, length-drop place bytes, ap length b))
+    go (a_spelling x xs) h b e t =
+        let ms = members_in x in
+        let prefix = head (major_in x) (width_in x) (number_in x) in
+        let q = place + head_size x + length (payload_in x) in
+        let end : q + length (spell_all ms) ≡ place + length (spell x) = omega (arith, length_parts x h.0) in
+        record {
+          first = x;
+          others = xs;
+          definite = h.0;
+          all_definite = h.1;
+          bytes_are = b ∙ ap (λ (y : List ℕ). y ++ spell_all xs) (spell_parts x h.0) ∙ append_assoc prefix (payload_in x ++ spell_all ms) (spell_all xs)
+              ∙ ap (λ (y : List ℕ). prefix ++ y) (append_assoc (payload_in x) (spell_all ms) (spell_all xs) ∙ ap (λ (y : List ℕ). payload_in x ++ y) (sym (spell-joined ms xs)));
+          entries = e;
+          table = λ r.
+              ap (λ (y : List PlacedItem). take count items ++ (opened_at place x ∷ y)) (all_listed-joined opened_at q ms xs ∙ ap (λ (z : ℕ). all_listed opened_at q ms ++ all_listed opened_at z xs) end)
+              ∙ ap (λ (y : List PlacedItem). take count items ++ (y ++ all_listed opened_at (place + length (spell x)) xs)) (sym (listed_parts opened_at place x))
+              ∙ t r;
+        }
+
+module _ (s : Spelling) (bytes : List ℕ) (items : List PlacedItem) (place count : ℕ) (i : IsNext s bytes items place count) (within : place ≤ length bytes) where
+  abbrev behind : Spellings
+  behind = joined (members_in i.first) i.others
+
+  -- where the head ends
+  pub content_is : (content : ℕ) → content ≤ length bytes → drop content bytes ≡ payload_in i.first ++ spell_all behind → content ≡ place + head_size i.first
+  content_is content l e =
+      omega (
+        arith,
+        within,
+        l,
+        length-drop place bytes,
+        length-drop content bytes,
+        ap length e,
+        ap length i.bytes_are,
+        length-append (head (major_in i.first) (width_in i.first) (number_in i.first)) (payload_in i.first ++ spell_all behind),
+      )
+
+  module _ (content : ℕ) (l : content ≤ length bytes) (e : drop content bytes ≡ payload_in i.first ++ spell_all behind) where
+    payload_size : payload_of (major_number (major_in i.first)) (number_in i.first) ≡ length (payload_in i.first)
+    payload_size = payload_is i.first i.definite
+
+    members_count : members_of (major_number (major_in i.first)) (number_in i.first) ≡ spellings_count (members_in i.first)
+    members_count = members_is i.first
+
+    -- there is space for what is expected
+    pub space : content + payload_of (major_number (major_in i.first)) (number_in i.first) + members_of (major_number (major_in i.first)) (number_in i.first) ≤ length bytes
+    space =
+        omega (
+          arith,
+          payload_size,
+          members_count,
+          l,
+          length-drop content bytes,
+          ap length e,
+          length-append (payload_in i.first) (spell_all behind),
+          count_fits behind,
+          count-joined (members_in i.first) i.others,
+        )
+
+    pub then_expected : (end members : ℕ) (new : List PlacedItem) → end ≡ content + payload_of (major_number (major_in i.first)) (number_in i.first)
+        → members ≡ members_of (major_number (major_in i.first)) (number_in i.first) → length new ≡ length items
+        → (count < length items → new ≡ set items count (opened_item (major_number (major_in i.first)) (number_in i.first) place content end members))
+        → AreStillExpected s bytes new end (count + 1)
+    then_expected end members new at m len written =
+        let size : end ≡ content + length (payload_in i.first) = at ∙ ap (λ (k : ℕ). content + k) payload_size in
+        let here : content ≡ place + head_size i.first = content_is content l e in
+        record {
+          expected = behind;
+          definite = definite-joined (members_in i.first) i.others (definite_members i.first i.definite) i.all_definite;
+          bytes_are = ap (λ (k : ℕ). drop k bytes) size ∙ sym (drop-drop (length (payload_in i.first)) content bytes) ∙ ap (drop (length (payload_in i.first))) e ∙ drop-append_seam (payload_in i.first) (spell_all behind);
+          entries = omega (arith, i.entries, count_parts i.first, all_count-joined (members_in i.first) i.others);
+          table = λ r.
+              let space' : items_count s ≤ length items = omega (arith, r, len) in
+              let in' : count < length items = omega (arith, space', i.entries, count_parts i.first) in
+              let x : opened_item (major_number (major_in i.first)) (number_in i.first) place content end members ≡ opened_at place i.first =
+              ap (λ (k : ℕ). opened_item (major_number (major_in i.first)) (number_in i.first) place content end k) m
+              ∙ ap (λ (k : ℕ). opened_item (major_number (major_in i.first)) (number_in i.first) place content k (members_of (major_number (major_in i.first)) (number_in i.first))) at
+              ∙ ap (λ (k : ℕ). opened_item (major_number (major_in i.first)) (number_in i.first) place k (k + payload_of (major_number (major_in i.first)) (number_in i.first)) (members_of (major_number (major_in i.first)) (number_in i.first))) here in
+              let q : end ≡ place + head_size i.first + length (payload_in i.first) = size ∙ ap (λ (k : ℕ). k + length (payload_in i.first)) here in
+              ap (λ (xs : List PlacedItem). take (count + 1) xs ++ all_listed opened_at end behind) (written in' ∙ ap (set items count) x)
+              ∙ ap (λ (xs : List PlacedItem). xs ++ all_listed opened_at end behind) (take_more_set items count (opened_at place i.first) in')
+              ∙ append_assoc (take count items) (opened_at place i.first ∷ []) (all_listed opened_at end behind)
+              ∙ ap (λ (k : ℕ). take count items ++ (opened_at place i.first ∷ all_listed opened_at k behind)) q
+              ∙ i.table space';
+        }

@@ -1,0 +1,16 @@
+mod Decoding
+mod Definite
+mod HeadBytes
+mod IndexClosed
+mod IndexHeads
+mod IndexOwn
+mod IndexParts
+mod IndexWalk
+mod ItemHeads
+mod ItemParts
+mod LaterKeys
+mod NormalValues
+mod PairsLeft
+mod Parts
+mod Slices
+mod WholeItems

@@ -1,0 +1,99 @@
+-- The pairs of a map that are still to come, as they stand in canonical bytes.
+use Rattle.std.proofs.Common.{◌≡◌, ◌⊎◌, ℕ, ◌-◌, ◌<◌, List, [], ◌∷◌, ◌++◌, length, flat_map, IsTrue, refl, sym, ap, ◌∙◌, subst, arith, append_assoc, inl, inr}
+use Rattle.cbor_head.specs.Value as value
+use Rattle.cbor_head.specs.Prelude.{Value, Entries, HasEntry, AnyEntry, Same, IsInRange, IsValid, Pair, canonical, canonical_entries, in_order, key_lt}
+use Rattle.cbor_head.specs.declared.order.KeyOrder.{KeyOrder}
+use Rattle.cbor_model.proofs.Sound.{IsSound, sound, sound_at}
+use Rattle.cbor_model.proofs.Sorting.{in_order_in, in_in_order, length-in_order, in_order_rising, rises_at}
+use Rattle.cbor_model.proofs.Reported.{pair_of, pair_in, in_pair, length-canonical_entries, canonical_injective, distinct_bytes}
+use Rattle.cbor_model.{specs.Pairs.pair_bytes, specs.Pairs.IsRising, proofs.Members.In, proofs.Agreement.canonical_agrees, proofs.Sameness.any_from}
+use Rattle.cbor_model.proofs.Orders.{lt_irrefl, lt_trans}
+use Rattle.cbor_cursor.specs.{Items.BeginsWith, Items.HasNoKey, inner.Pairs.ArePairsOf, Places.HasNoKeyBytes}
+
+-- the pairs still to come, so many, and what follows them; all others have another key than this one
+pub record ArePairs (o : KeyOrder) (es : Entries) (key : List ℕ) (left : ℕ) (bytes behind : List ℕ) : Type 0 where
+  pub sound : IsSound (value.map es)
+  pub pairs : List Pair
+  pub count_is : length pairs ≡ left
+  pub bytes_are : bytes ≡ flat_map pair_bytes pairs ++ behind
+  pub rising : IsRising o pairs
+  pub within : (p : Pair) → In p pairs → In p (canonical_entries o es)
+  pub others : (k v : Value) → HasEntry es k v → (canonical o k ≡ key → ⊥) ⊎ In (pair_of o k v) pairs
+
+-- all of them
+pub all_pairs : (o : KeyOrder) (es : Entries) (key : List ℕ) (left : ℕ) (bytes behind : List ℕ) → ArePairsOf o es left bytes behind → ArePairs o es key left bytes behind
+all_pairs o es key left bytes behind a = record {
+  sound = sound (value.map es) a.range a.valid;
+  pairs = in_order o (canonical_entries o es);
+  count_is = length-in_order o (canonical_entries o es) ∙ length-canonical_entries o es ∙ sym a.count_is;
+  bytes_are = a.bytes_are;
+  rising = in_order_rising o (canonical_entries o es) (distinct_bytes o es a.range.1 a.valid.1);
+  within = in_order_in o (canonical_entries o es);
+  others = λ k v h. inr (in_in_order o (canonical_entries o es) (pair_of o k v) (pair_in o es k v h));
+}
+
+-- the next of them
+pub record IsNextPair (o : KeyOrder) (es : Entries) (key : List ℕ) (left : ℕ) (bytes behind : List ℕ) : Type 0 where
+  pub k : Value
+  pub v : Value
+  pub has : HasEntry es k v
+  pub behind_key : List ℕ
+  pub rest : List ℕ
+  pub key_is : BeginsWith o bytes k behind_key
+  pub value_is : BeginsWith o behind_key v rest
+  pub more : (canonical o k ≡ key → ⊥) → ArePairs o es key (left - 1) rest behind
+  -- where it comes after the key, no pair has the key
+  pub none : IsTrue (key_lt o key (canonical o k)) → HasNoKeyBytes o es key
+
+pub next_pair : (o : KeyOrder) (es : Entries) (key : List ℕ) (left : ℕ) (bytes behind : List ℕ) → 0 < left → ArePairs o es key left bytes behind → IsNextPair o es key left bytes behind
+next_pair o es key left bytes behind l a = go a.pairs a.count_is a.bytes_are a.rising a.within a.others
+  where
+    go : (ps : List Pair) → length ps ≡ left → bytes ≡ flat_map pair_bytes ps ++ behind → IsRising o ps → ((p : Pair) → In p ps → In p (canonical_entries o es)) → ((k v : Value) → HasEntry es k v → (canonical o k ≡ key → ⊥) ⊎ In (pair_of o k v) ps) → IsNextPair o es key left bytes behind
+    go [] n e r w t = absurd (omega (arith, n, l))
+    go (p ∷ ps) n e r w t =
+        let q = in_pair o es p (w p (inl refl)) in
+        let k = q.0 in
+        let v = q.1 in
+        let both = sound_at es k v a.sound.range.1 a.sound.valid.0 q.2 in
+        let rest = flat_map pair_bytes ps ++ behind in
+        let first : p.key ≡ canonical o k = ap (λ (r : Pair). r.key) q.3 in
+        record {
+          k = k;
+          v = v;
+          has = q.2;
+          behind_key = canonical o v ++ rest;
+          rest = rest;
+          key_is = record { range = both.0.range; valid = both.0.valid; begins = e ∙ ap (λ (r : Pair). ((r.key ++ r.value) ++ flat_map pair_bytes ps) ++ behind) q.3 ∙ ap (λ (x : List ℕ). x ++ behind) (append_assoc (canonical o k) (canonical o v) (flat_map pair_bytes ps)) ∙ append_assoc (canonical o k) (canonical o v ++ flat_map pair_bytes ps) behind ∙ ap (λ (x : List ℕ). canonical o k ++ x) (append_assoc (canonical o v) (flat_map pair_bytes ps) behind) };
+          value_is = record { range = both.1.range; valid = both.1.valid; begins = refl };
+          more = λ other. record {
+            sound = a.sound;
+            pairs = ps;
+            count_is = omega (arith, n);
+            bytes_are = refl;
+            rising = r.1;
+            within = λ p' m. w p' (inr m);
+            others = λ k' v' h. elim (t k' v' h) [ inl x ↦ inl x | inr (inl same) ↦ inl (λ f. other (sym (ap (λ (r : Pair). r.key) (same ∙ q.3)) ∙ f)) | inr (inr m) ↦ inr m ];
+          };
+          none = λ later k' v' h same. elim (t k' v' h) [
+            | inl other ↦ other same
+            | inr (inl at) ↦ lt_irrefl o key (subst (λ (x : List ℕ). IsTrue (key_lt o key x)) (sym first ∙ sym (ap (λ (r : Pair). r.key) at) ∙ same) later)
+            | inr (inr m) ↦ lt_irrefl o key (lt_trans o key p.key key (subst (λ (x : List ℕ). IsTrue (key_lt o key x)) (sym first) later) (subst (λ (x : List ℕ). IsTrue (key_lt o p.key x)) same (rises_at o p ps r (pair_of o k' v') m)))
+          ];
+        }
+
+-- a key of the same bytes is the same key
+pub found_key : (o : KeyOrder) (es : Entries) (k l v : Value) (V : Value → Type 0) → IsSound (value.map es) → IsInRange k → HasEntry es l v → canonical o l ≡ canonical o k → V v → AnyEntry (Same k) V es
+found_key o es k l v V s h m e f = any_from (Same k) V es l v m (canonical_injective o k l h (sound_at es l v s.range.1 s.valid.0 m).0.range (sym e)) f
+
+-- no key of the same bytes, no same key
+pub no_key : (o : KeyOrder) (es : Entries) (k : Value) → IsSound (value.map es) → IsInRange k → IsValid k → HasNoKeyBytes o es (canonical o k) → HasNoKey es k
+no_key o es k s h g none = λ l v m same.
+    none l v m (sym (canonical_agrees o k l (sound k h g) (sound_at es l v s.range.1 s.valid.0 m).0 same))
+
+-- none are left
+pub no_pair : (o : KeyOrder) (es : Entries) (key : List ℕ) (left : ℕ) (bytes behind : List ℕ) → left ≡ 0 → ArePairs o es key left bytes behind → HasNoKeyBytes o es key
+no_pair o es key left bytes behind z a = λ l v m. elim (a.others l v m) [ inl other ↦ other | inr i ↦ λ same. none a.pairs (a.count_is ∙ z) (pair_of o l v) i ]
+  where
+    none : (ps : List Pair) → length ps ≡ 0 → (p : Pair) → In p ps → ⊥
+    none [] n p m = m
+    none (q ∷ ps) n p m = absurd (cc n)

@@ -1,0 +1,5 @@
+pub mod Canonical
+pub mod Definite
+pub mod Firsts
+pub mod Indexing
+pub mod Pairs

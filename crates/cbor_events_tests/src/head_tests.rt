@@ -1,0 +1,213 @@
+//! Heads, limits, simple values and reasons by tables.
+
+use cbor_head::{Head, Keys, Limits, Reason, Refusal, Simple, argument_bytes, head_laws};
+use std::alloc::{AllocError, Global};
+use std::test::Fail;
+
+// The first and the last argument of each width, as the shortest head of an unsigned integer, and
+// other shortest heads; most are what items of RFC 8949, appendix A, begin with.
+static SHORTEST: &str = r#"
+00 | Unsigned Direct 0
+17 | Unsigned Direct 23
+1818 | Unsigned One 24
+18ff | Unsigned One 255
+190100 | Unsigned Two 256
+19ffff | Unsigned Two 65535
+1a00010000 | Unsigned Four 65536
+1affffffff | Unsigned Four 4294967295
+1b0000000100000000 | Unsigned Eight 4294967296
+1bffffffffffffffff | Unsigned Eight 18446744073709551615
+1903e8 | Unsigned Two 1000 | 1000
+20 | Negative Direct 0 | -1
+3863 | Negative One 99 | -100
+44 | Bytes Direct 4 | h'01020304'
+62 | Text Direct 2 | "ü"
+9819 | Array One 25 | [1, 2, .. 25]
+a2 | Map Direct 2 | {1: 2, 3: 4}
+a5 | Map Direct 5 | {.., .., .., .., ..}
+d820 | Tag One 32 | 32("http://www.example.com")
+f4 | Simple Direct 20 | false
+f5 | Simple Direct 21 | true
+f0 | Simple Direct 16 | simple(16)
+f820 | Simple One 32 | simple(32)
+f8ff | Simple One 255 | simple(255)
+"#;
+
+// Heads that are longer than need be.
+static LONGER: &str = "
+1800 | Unsigned One 0
+1b0000000000000017 | Unsigned Eight 23
+";
+
+// What is no definite head.
+static OTHERS: &str = "
+| nothing
+18 | no argument
+1901 | half an argument
+1b00000001000000 | seven eighths of one
+1c | reserved
+3d | reserved
+5e | reserved
+1f | an integer of indefinite length
+5f | a byte string of indefinite length
+9f | an array of indefinite length
+df | a tag of indefinite length
+ff | the break
+f8 | a simple value without its number
+f800 | a simple value of one byte, in two
+f81f | simple value 31, which does not exist
+f90000 | 0.0
+fa00000000 | 0.0
+fb0000000000000000 | 0.0
+0000 | two heads
+181800 | two heads
+";
+
+// The bytes of a row, and its second column.
+fn row_of(alloc: Global, line: &'static str) -> Result<(Vec<u8>, &'static str), Fail> {
+    let (digits, rest) = line.split_once('|').ok_or("two columns")?;
+    let (column, _) = rest.split_once('|').unwrap_or((rest, ""));
+    Ok((hex::decode(alloc, digits.trim())?, column.trim()))
+}
+
+// Whether the bytes are read as the head that is reported so.
+fn is_read(alloc: Global, bytes: &[u8], reported: &str) -> Result<Option<Head>, AllocError> {
+    let Some(head) = Head::read(bytes) else {
+        return Ok(None);
+    };
+    let text = format!(in alloc; "{:?} {:?} {}", head.major(), head.width(), head.argument())?;
+    let holds = text.as_str() == reported
+        && head.bytes().as_slice() == bytes
+        && head_laws::read_back(&head) == Some(head);
+    Ok(Some(head).filter(|_| holds))
+}
+
+#[test]
+fn heads(rt: HostRuntime) -> Result<(), Fail> {
+    for line in SHORTEST.trim().lines() {
+        let (bytes, reported) = row_of(rt.alloc(), line)?;
+        let head = is_read(rt.alloc(), &bytes, reported)?.ok_or(line)?;
+        assert!(rt;
+            Head::shortest(head.major(), head.argument()) == head,
+            "{line}"
+        );
+    }
+    for line in LONGER.trim().lines() {
+        let (bytes, reported) = row_of(rt.alloc(), line)?;
+        assert!(rt; is_read(rt.alloc(), &bytes, reported)?.is_some(), "{line}");
+    }
+    for line in OTHERS.trim().lines() {
+        let (bytes, _) = row_of(rt.alloc(), line)?;
+        assert!(rt; Head::read(&bytes).is_none(), "{line}");
+    }
+    Ok(())
+}
+
+#[test]
+fn argument_lengths(rt: HostRuntime) {
+    for (first, count) in [
+        (0x00, 0),
+        (0x17, 0),
+        (0x18, 1),
+        (0x19, 2),
+        (0x1a, 4),
+        (0x1b, 8),
+        (0x1c, 0),
+        (0x1d, 0),
+        (0x1e, 0),
+        (0x1f, 0),
+        (0x79, 2),
+        (0xbb, 8),
+        (0xf8, 1),
+        (0xff, 0),
+    ] {
+        assert!(rt; argument_bytes(first) == count, "at {first}");
+    }
+}
+
+#[test]
+fn simple_values(rt: HostRuntime) {
+    for number in [0, 20, 23, 32, 255] {
+        assert!(rt;
+            Simple::new(number).map(Simple::number) == Some(number),
+            "at {number}"
+        );
+    }
+    for number in [24, 31] {
+        assert!(rt; Simple::new(number).is_none(), "at {number}");
+    }
+}
+
+#[test]
+fn limits(rt: HostRuntime) -> Result<(), Fail> {
+    let most = 4611686018427387904;
+    for (depth, bytes) in [(0, 0), (256, 1048576), (1024, 0), (1024, most)] {
+        let limits = Limits::new(depth, bytes).ok_or("limits")?;
+        assert!(rt;
+            limits.depth() == depth && limits.bytes() == bytes && limits.keys() == Keys::Any,
+            "at {depth} and {bytes}"
+        );
+        let basic = limits.with_keys(Keys::IntegersAndTexts);
+        assert!(rt;
+            basic.depth() == depth
+                && basic.bytes() == bytes
+                && basic.keys() == Keys::IntegersAndTexts,
+            "keys at {depth} and {bytes}"
+        );
+    }
+    for (depth, bytes) in [(1025, 0), (0, most + 1), (65535, u64::MAX)] {
+        assert!(rt;
+            Limits::new(depth, bytes).is_none(),
+            "at {depth} and {bytes}"
+        );
+    }
+    Ok(())
+}
+
+// The reasons, in the order of their numbers.
+static REASONS: [Reason; 20] = [
+    Reason::Truncated,
+    Reason::TooLong,
+    Reason::Reserved,
+    Reason::NoIndefinite,
+    Reason::Float,
+    Reason::BadSimple,
+    Reason::StrayBreak,
+    Reason::BadChunk,
+    Reason::TooDeep,
+    Reason::InvalidText,
+    Reason::RepeatedKey,
+    Reason::Trailing,
+    Reason::CanonicalTooLong,
+    Reason::NotShortest,
+    Reason::Indefinite,
+    Reason::KeyOrder,
+    Reason::Read,
+    Reason::Write,
+    Reason::Memory,
+    Reason::KeyKind,
+];
+
+// Their numbers and their names.
+static NAMES: &str = "1 Truncated, 2 TooLong, 3 Reserved, 4 NoIndefinite, 5 Float, 6 BadSimple, \
+    7 StrayBreak, 8 BadChunk, 9 TooDeep, 10 InvalidText, 11 RepeatedKey, 12 Trailing, \
+    13 CanonicalTooLong, 14 NotShortest, 15 Indefinite, 16 KeyOrder, 17 Read, 18 Write, 19 Memory, \
+    20 KeyKind";
+
+#[test]
+fn reasons(rt: HostRuntime) -> Result<(), Fail> {
+    let mut names = NAMES.split(", ");
+    for reason in REASONS {
+        let text = format!(in rt.alloc(); "{} {reason}", reason.number())?;
+        assert!(rt; names.next() == Some(text.as_str()), "{text}");
+    }
+    assert!(rt; names.next().is_none());
+    let refusal = Refusal::at(Reason::Trailing, 1);
+    assert!(rt; refusal == Refusal::new(Reason::Trailing, 1, 1));
+    let text = format!(in rt.alloc(); "{refusal}")?;
+    assert!(rt; text.as_str() == "12 Trailing at 1");
+    // A repeated key of one byte at 3.
+    let key = Refusal::new(Reason::RepeatedKey, 3, 4);
+    assert!(rt; key.reason == Reason::RepeatedKey && key.place == 3 && key.read == 4);
+    Ok(())
+}

@@ -1,4 +1,0 @@
-mod Explained
-mod Keys
-mod Lines
-mod Steps

@@ -1,8 +1,0 @@
-use Rattle.std.proofs.Common.{◌≤◌, ◌≡◌}
-use Rattle.cbor_explain.proofs.way.frames_at.Given as goal
-
-abbrev pub invariant-events : goal.invariant-events
-invariant-events l = record {
-  depth : l.events.events.machine.depth ≡ l.fn.limits.depth;
-  within : l.open ≤ l.fn.limits.depth;
-}

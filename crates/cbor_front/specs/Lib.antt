@@ -1,5 +1,0 @@
-pub mod Due
-pub mod NotCanonical
-pub mod Stack
-pub mod Strings
-pub mod inner

@@ -1,0 +1,88 @@
+//! The content of a string in chunks.
+
+ghost use Rattle.std.specs.Prelude.{◌≡◌, ◌≤◌, ◌++◌, [], length, take, OnOk};
+
+use std::alloc::{AllocError, Global};
+use std::marker::Model;
+
+// So many bytes are copied in one piece.
+const BLOCK: usize = 32;
+
+// Space for so many bytes is made behind a chunk for which there was none.
+const SPACE: usize = 128;
+
+/// The content so far of a string in chunks. Space is left behind it, so that a short chunk is
+/// copied in one piece, and kept for the next string.
+#[derive(Drop)]
+pub struct Joined {
+    buf: Vec<u8>,
+    len: usize,
+}
+
+impl Model for Joined {
+    ghost use Rattle.std.specs.Prelude.{List, ℕ, ◌≤◌, take, vec_len};
+
+    ghost Value = { List ℕ };
+
+    ghost view = { λ b. take b.len b.buf.items };
+
+    ghost invariant = { λ b. b.len ≤ vec_len b.buf };
+}
+
+impl Joined {
+    /// No bytes. Takes no memory.
+    pub fn new(alloc: Global) -> Joined
+        ensures { result ≡ [] }
+    {
+        Joined {
+            buf: Vec::new(alloc),
+            len: 0,
+        }
+    }
+
+    /// The content so far.
+    pub fn as_slice(&self) -> &[u8]
+        ensures { result.now ≡ self.now }
+    {
+        &self.buf[..self.len]
+    }
+
+    /// No bytes again, with as much memory.
+    #[inline(always)]
+    pub fn clear(&mut self)
+        ensures { self.new ≡ [] }
+    {
+        self.len = 0;
+    }
+
+    /// The first of these bytes behind the others. Up to 32 are copied by a piece of 32, where as
+    /// many are given.
+    #[inline(always)]
+    pub fn extend_prefix(&mut self, prefix: &[u8], count: usize) -> Result<(), AllocError>
+        requires { count ≤ length prefix.now }
+        ensures { OnOk result (self.new ≡ self.old ++ take count prefix.now) }
+    {
+        if count <= BLOCK && self.buf.len() - self.len >= BLOCK {
+            if let Some(block) = prefix.first_chunk::<BLOCK>() {
+                self.buf[self.len..self.len + BLOCK].copy_from_slice(block);
+                self.len += count;
+                return Ok(());
+            }
+        }
+        self.extend(&prefix[..count])
+    }
+
+    // All of these bytes behind the others, and space behind them.
+    #[inline(never)]
+    fn extend(&mut self, bytes: &[u8]) -> Result<(), AllocError>
+        ensures { OnOk result (self.new ≡ self.old ++ bytes.now) }
+    {
+        self.buf.truncate(self.len);
+        self.buf.reserve(bytes.len() + SPACE)?;
+        self.buf.extend_from_slice(bytes)?;
+        let len = self.buf.len();
+        self.buf.resize(len.saturating_add(SPACE), 0)?;
+        self.len = len;
+        Ok(())
+    }
+}

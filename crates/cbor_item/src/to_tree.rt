@@ -1,0 +1,111 @@
+//! Items and trees of views.
+
+ghost use Rattle.std.specs.Prelude.{◌≡◌, ◌≤◌, IfOk, IfErr};
+ghost use Rattle.cbor_head.specs.Value.{depth, IsInRange, IsValid};
+ghost use Rattle.cbor_head.specs.declared.limits.TheConstants.{MAX_DEPTH};
+ghost use Rattle.cbor_item.specs.Sent.{no_memory};
+ghost use Rattle.cbor_item.specs.OpenValues.{open_levels, TakesValue};
+ghost use Rattle.cbor_item.specs.View.{view as value_of};
+ghost use Rattle.cbor_item.specs.ViewValue.{view_value};
+ghost use Rattle.cbor_item.specs.inner.ViewWalk.{IsBegun};
+
+use crate::item::Item;
+use crate::parts_law::parts_make_the_value;
+use crate::tree::Tree;
+use crate::tree_builder::TreeBuilder;
+use crate::view::View;
+use crate::view_rest::Rest;
+use cbor_head::{Major, Reason, Refusal, Simple};
+use std::alloc::{AllocError, Global};
+use std::slice;
+
+impl View<'_> {
+    /// The item, with all that it holds. Of a `Simple` the number has to be a simple value's: in
+    /// any view that was read it is.
+    pub fn to_item(&self, alloc: Global) -> Result<Item, AllocError>
+        requires { IsInRange (view_value self.now) }
+        ensures { IfOk result (λ item. value_of item ≡ view_value self.now) }
+    {
+        item_of(alloc, self)
+    }
+
+    /// The item as a tree. Refused for memory alone.
+    pub fn to_tree(&self, alloc: Global) -> Result<Tree, Refusal>
+        requires depth { depth (view_value self.now) ≤ MAX_DEPTH }
+        requires in_range { IsInRange (view_value self.now) }
+        requires valid { IsValid (view_value self.now) }
+        ensures tree { IfOk result (λ tree. value_of tree ≡ view_value self.now) }
+        ensures refused { IfErr result (λ f. f ≡ no_memory) }
+    {
+        match item_of(alloc, self) {
+            Ok(item) => Ok(Tree::from_valid(item)),
+            Err(_) => Err(Refusal::at(Reason::Memory, 0)),
+        }
+    }
+}
+
+// What is open lies in a list and not on the stack, so a view may be of any depth.
+fn item_of(alloc: Global, view: &View<'_>) -> Result<Item, AllocError>
+    requires { IsInRange (view_value view.now) }
+    ensures { IfOk result (λ item. value_of item ≡ view_value view.now) }
+{
+    parts_make_the_value();
+    let mut builder = TreeBuilder::new(alloc);
+    let mut rest = Rest::Members(slice::from_ref(view));
+    let mut outer = Vec::new(alloc);
+    'views: loop {
+        match rest.next() {
+            Some((next, behind)) => {
+                rest = behind;
+                if let Some(content) = begin(alloc, &mut builder, next)? {
+                    outer.push(rest)?;
+                    rest = content;
+                }
+            }
+            None => {
+                let Some(behind) = outer.pop() else {
+                    break;
+                };
+                builder.end()?;
+                rest = behind;
+            }
+        }
+    }
+    Ok(builder.finish())
+}
+
+// Gives a view that holds no other; begins one that does, and answers what is in it.
+fn begin<'a>(
+    alloc: Global,
+    builder: &mut TreeBuilder,
+    view: &'a View<'a>,
+) -> Result<Option<Rest<'a>>, AllocError>
+    requires takes { TakesValue (open_levels builder.old) }
+    requires in_range { IsInRange (view_value view.now) }
+    ensures { IfOk result (λ content. IsBegun (view_value view.now) (open_levels builder.old)
+        (open_levels builder.new) content) }
+{
+    match view {
+        View::Unsigned(number) => builder.leaf(Item::Unsigned(*number))?,
+        View::Negative(number) => builder.leaf(Item::Negative(*number))?,
+        View::Bytes(content) => builder.leaf(Item::Bytes(Vec::from_slice(alloc, content)?))?,
+        View::Text(content) => builder.leaf(Item::Text(String::from_str(alloc, content)?))?,
+        View::Array(members) => {
+            builder.begin(Major::Array, 0)?;
+            return Ok(Some(Rest::Members(members)));
+        }
+        View::Map(pairs) => {
+            builder.begin(Major::Map, 0)?;
+            return Ok(Some(Rest::Pairs(pairs)));
+        }
+        View::Tag(number, content) => {
+            builder.begin(Major::Tag, *number)?;
+            return Ok(Some(Rest::Members(slice::from_ref(content))));
+        }
+        View::Simple(number) => match Simple::new(*number) {
+            Some(simple) => builder.leaf(Item::Simple(simple))?,
+            None => unreachable!(),
+        },
+    }
+    Ok(None)
+}

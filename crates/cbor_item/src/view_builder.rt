@@ -1,0 +1,204 @@
+//! Views from their parts, without recursion.
+
+ghost use Rattle.std.specs.Prelude.{◌≡◌, ◌∷◌, [], List, OnOk, IfOk, IsSome, Some};
+ghost use Rattle.std.specs.Prelude.{MatchResult};
+ghost use Rattle.cbor_head.specs.Value.{Value, bytes, text};
+ghost use Rattle.cbor_builder.specs.Built.{IsContainer};
+ghost use Rattle.cbor_item.specs.OpenValues.{the_whole, opened, give, close, run, parts_of};
+ghost use Rattle.cbor_item.specs.OpenValues.{TakesValue, MayEnd, IsWhole, CanEnd, closed};
+ghost use Rattle.cbor_item.specs.ViewValue.{view_value, open_levels, open_value};
+ghost use Rattle.cbor_item.specs.inner.ViewLevels.{open_view, Begins, outer_members, outer_pairs};
+
+use crate::view::View;
+use crate::view_level::Level;
+use bumpalo::Bump;
+use cbor_head::Major;
+use cbor_output::reserve::{push, push_copy};
+use std::alloc::{AllocError, Global};
+use std::marker::Model;
+
+/// A view from its parts as they come, as `TreeBuilder` makes an item. What is open lies in lists
+/// of the builder's own, so the depth of an item costs memory and no stack. Members, and the
+/// joined chunks of a string, go into the arena once, when they are complete. After a call has
+/// been refused memory the builder may only be dropped.
+#[derive(Drop)]
+pub struct ViewBuilder<'a> {
+    arena: &'a Bump,
+    top: Level<'a>,
+    // What is open around it, the innermost last.
+    below: Vec<Level<'a>>,
+    // The finished members of the open arrays, and the finished pairs of the open maps, those of
+    // the innermost last.
+    members: Vec<View<'a>>,
+    pairs: Vec<(View<'a>, View<'a>)>,
+}
+
+impl<'a> Model for ViewBuilder<'a> {
+    ghost use Rattle.std.specs.Prelude.{List, ◌∷◌, reverse};
+    ghost use Rattle.cbor_item.specs.ViewValue.{OpenView};
+    ghost use Rattle.cbor_item.specs.inner.ViewLevels.{open_views, AllBegin};
+    ghost use Rattle.cbor_item.specs.contracts.view.View as e;
+    ghost use Rattle.std.specs.Coded.{codes};
+    ghost use denote.Signature.{static_lft};
+
+    ghost Value = { List OpenView };
+
+    ghost coded = { Prim.hlevel (codes, (e.the_row static_lft).coded) };
+
+    ghost view = { λ b. open_views (b.top ∷ reverse b.below.items) b.members.items b.pairs.items };
+
+    ghost invariant = { λ b.
+        AllBegin (b.top ∷ reverse b.below.items) b.members.items b.pairs.items };
+}
+
+impl<'a> ViewBuilder<'a> {
+    /// A builder that has been given nothing. Takes no memory.
+    pub fn new(alloc: Global, arena: &'a Bump) -> ViewBuilder<'a>
+        ensures { open_levels result ≡ the_whole [] ∷ [] }
+    {
+        ViewBuilder {
+            arena,
+            top: Level::Whole(None),
+            below: Vec::new(alloc),
+            members: Vec::new(alloc),
+            pairs: Vec::new(alloc),
+        }
+    }
+
+    /// A member that is complete: one without members, a string where it lies, or a view that was
+    /// built before.
+    #[inline(always)]
+    pub fn leaf(&mut self, view: View<'a>) -> Result<(), AllocError>
+        requires takes { TakesValue (open_levels self.old) }
+        ensures { OnOk result (open_levels self.new ≡ give (view_value view.entry) (open_levels self.old)) }
+    {
+        match &mut self.top {
+            Level::Whole(whole) => *whole = Some(view),
+            Level::Array(_) => push(&mut self.members, view)?,
+            Level::Map(_, key) => match key.take() {
+                Some(first) => push(&mut self.pairs, (first, view))?,
+                None => *key = Some(view),
+            },
+            Level::Tag(_, content) => *content = Some(view),
+        }
+        Ok(())
+    }
+
+    /// A byte string that is copied into the arena.
+    pub fn copied_bytes(&mut self, content: &[u8]) -> Result<(), AllocError>
+        requires takes { TakesValue (open_levels self.old) }
+        ensures { OnOk result
+            (open_levels self.new ≡ give (bytes content.now) (open_levels self.old)) }
+    {
+        let content = self.arena.try_alloc_slice_copy(content)?;
+        self.leaf(View::Bytes(content))
+    }
+
+    /// A text that is copied into the arena.
+    pub fn copied_text(&mut self, content: &str) -> Result<(), AllocError>
+        requires takes { TakesValue (open_levels self.old) }
+        ensures { OnOk result
+            (open_levels self.new ≡ give (text content.now) (open_levels self.old)) }
+    {
+        let content = self.arena.try_alloc_str(content)?;
+        self.leaf(View::Text(content))
+    }
+
+    /// An array, a map or a tag begins. The number is the tag's.
+    pub fn begin(&mut self, major: Major, number: u64) -> Result<(), AllocError>
+        requires kind { IsContainer major }
+        requires takes { TakesValue (open_levels self.old) }
+        ensures { OnOk result (open_levels self.new ≡ opened major number ∷ open_levels self.old) }
+    {
+        let inner = match major {
+            Major::Array => Level::Array(self.members.len()),
+            Major::Map => Level::Map(self.pairs.len(), None),
+            _ => Level::Tag(number, None),
+        };
+        push_copy(&mut self.below, &self.top)?;
+        self.top = inner;
+        Ok(())
+    }
+
+    /// The array, map or tag ends. Its members move into the arena.
+    pub fn end(&mut self) -> Result<(), AllocError>
+        requires container { MayEnd (open_levels self.old) }
+        ensures { OnOk result (open_levels self.new ≡ close (open_levels self.old)) }
+    {
+        let ended = ended(self.arena, self.top, &mut self.members, &mut self.pairs)?;
+        let Some(outer) = self.below.pop() else {
+            unreachable!()
+        };
+        self.top = outer;
+        self.leaf(ended)
+    }
+
+    /// The view, once it is complete. Takes no memory.
+    pub fn finish(self) -> View<'a>
+        requires whole { IsWhole (open_levels self) }
+        ensures view { (v : Value) → open_levels self.entry ≡ the_whole (v ∷ []) ∷ [] → view_value result ≡ v }
+        ensures made { (v : Value)
+            → open_levels self.entry ≡ run (parts_of v) (the_whole [] ∷ []) → view_value result ≡ v }
+    {
+        let ViewBuilder {
+            arena: _,
+            top,
+            below: _,
+            members: _,
+            pairs: _,
+        } = self;
+        match top {
+            Level::Whole(Some(view)) => view,
+            _ => unreachable!(),
+        }
+    }
+}
+
+// The array, map or tag that ends, with its members in the arena and no longer in the lists.
+fn ended<'a>(
+    arena: &'a Bump,
+    top: Level<'a>,
+    members: &mut Vec<View<'a>>,
+    pairs: &mut Vec<(View<'a>, View<'a>)>,
+) -> Result<View<'a>, AllocError>
+    requires ends { CanEnd (open_value (open_view top members.old.items pairs.old.items)) }
+    requires begins { Begins top members.old.items pairs.old.items }
+    ensures value { IfOk result (λ view. view_value view
+        ≡ closed (open_value (open_view top.entry members.old.items pairs.old.items))) }
+    ensures members { MatchResult result
+        (λ _. members.new.items ≡ outer_members top.entry members.old.items)
+        (λ _. members.new.items ≡ members.old.items) }
+    ensures pairs { MatchResult result
+        (λ _. pairs.new.items ≡ outer_pairs top.entry pairs.old.items)
+        (λ _. pairs.new.items ≡ pairs.old.items) }
+{
+    match top {
+        Level::Array(first) => {
+            let kept = arena.try_alloc_slice_copy(&members[first..])?;
+            members.truncate(first);
+            Ok(View::Array(kept))
+        }
+        Level::Map(first, _) => {
+            let kept = arena.try_alloc_slice_copy(&pairs[first..])?;
+            pairs.truncate(first);
+            Ok(View::Map(kept))
+        }
+        Level::Tag(number, content) => {
+            let content = placed(arena, content)?;
+            Ok(View::Tag(number, content))
+        }
+        Level::Whole(_) => unreachable!(),
+    }
+}
+
+// One view, in the arena.
+fn placed<'a>(arena: &'a Bump, view: Option<View<'a>>) -> Result<&'a View<'a>, AllocError>
+    requires { IsSome view }
+    ensures { IfOk result (λ placed. view.entry ≡ Some placed.now) }
+{
+    let Some(view) = view else { unreachable!() };
+    match arena.try_alloc(view) {
+        Ok(placed) => Ok(placed),
+        Err(_) => Err(AllocError),
+    }
+}

@@ -1,2 +1,0 @@
-pub mod KeyFronts
-pub mod KeyWords

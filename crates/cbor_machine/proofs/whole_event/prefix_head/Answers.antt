@@ -1,0 +1,37 @@
+use Rattle.std.proofs.Common.{◌∙◌, sym, ap, arith, refl, inl, inr}
+use Rattle.cbor_automaton.specs.Automaton.{has_space}
+use Rattle.cbor_machine.proofs.whole_event.prefix_head.Goals as goal
+use Rattle.cbor_machine.specs.State.{frames_of}
+
+pub overflow_sub-used : goal.overflow_sub-used
+overflow_sub-used c = omega (arith, c.in_ok-argument.ensures.fewer, c.in_ok-first.ensures.cases.1)
+
+pub returns-then-c-ge224-clause-used : goal.returns-then-c-ge224-clause-used
+returns-then-c-ge224-clause-used c = (omega (arith, c.in_ok-argument.ensures.fewer, c.in_ok-first.ensures.cases.1), omega arith)
+
+pub returns-clause-used : goal.returns-clause-used
+returns-clause-used c = (omega (arith, c.in_ok-argument.ensures.fewer, c.in_ok-first.ensures.cases.1), omega arith)
+
+pub returns-then-c-ge224-clause-here : goal.returns-then-c-ge224-clause-here
+returns-then-c-ge224-clause-here c = record {
+  behind = c.in_ok-first.behind.now;
+  rest = c.in_ok-argument.argument.rest.now;
+  is = c.in_ok-first.ensures.cases.0;
+  argument = c.in_ok-argument.ensures.spelled;
+  used = refl;
+  small = omega arith;
+  space = λ low. absurd (omega arith);
+  simple = λ high. (c.if-low-gt24.false, λ e. elim c.if-number-lt32.either [ inl h ↦ h.1 | inr h ↦ absurd (omega arith) ]);
+}
+
+pub returns-clause-here : goal.returns-clause-here
+returns-clause-here c = record {
+  behind = c.in_ok-first.behind.now;
+  rest = c.in_ok-argument.argument.rest.now;
+  is = c.in_ok-first.ensures.cases.0;
+  argument = c.in_ok-argument.ensures.spelled;
+  used = refl;
+  small = omega arith;
+  space = λ low. ap (has_space c.args.depth (frames_of c.args.container_stack.now)) (sym c.numbered_at.ensures) ∙ sym c.has_space.ensures ∙ c.if-not-has_space.false;
+  simple = λ high. absurd (omega arith);
+}

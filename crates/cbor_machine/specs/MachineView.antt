@@ -1,0 +1,26 @@
+-- What contracts see of a machine.
+use Rattle.std.specs.Prelude.{ℕ, Bool, Option}
+use Rattle.cbor_head.specs.declared.reason.Refusal.{Refusal}
+use Rattle.cbor_machine.specs.State.{Inner}
+
+-- a machine, as its callers see it
+pub record MachineView : Type 0 where
+  -- the limits
+  pub depth : ℕ
+  pub bytes : ℕ
+  -- how many bytes it took, and how many of them its events stand for
+  pub taken : ℕ
+  pub reported : ℕ
+  -- how many arrays, maps and tags are open
+  pub open_count : ℕ
+  -- how many bytes more the open payload or head has; 1 where a head is expected, 0 behind the item
+  pub expected : ℕ
+  -- the first byte of an item is expected
+  pub item_expected : Bool
+  -- a payload is open
+  pub in_payload : Bool
+  -- the item is complete
+  pub complete : Bool
+  pub refusal : Option Refusal
+  -- what leads from one step to the next; no public clause looks into it
+  pub inner : Inner

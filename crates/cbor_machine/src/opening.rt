@@ -1,0 +1,140 @@
+//! What a first byte begins.
+
+ghost use Rattle.std.specs.Prelude.{◌≡◌, ◌<◌};
+ghost use Rattle.cbor_head.specs.Verdict.{initial_reason};
+ghost use Rattle.cbor_automaton.specs.Reasons.{IsFormReason};
+ghost use Rattle.cbor_automaton.specs.Automaton as automaton;
+ghost use Rattle.cbor_machine.specs.State.{major_of, opened, IsOpeningDefinite};
+
+use cbor_head::{Reason, Simple, Width};
+
+/// The types of items whose argument may have any width: all but simple values.
+#[derive(Clone, Copy)]
+pub enum ArgumentType {
+    Unsigned,
+    Negative,
+    Bytes,
+    Text,
+    Array,
+    Map,
+    Tag,
+}
+
+/// What a byte begins where an item or a chunk may begin.
+#[derive(Clone, Copy)]
+pub enum Opening {
+    /// A head of one byte.
+    Direct(ArgumentType, u8),
+    /// A head with an argument behind its first byte.
+    Long(ArgumentType, Width),
+    IndefiniteBytes,
+    IndefiniteText,
+    IndefiniteArray,
+    IndefiniteMap,
+    /// A simple value in one byte.
+    Simple(Simple),
+    /// `f8`, with the number of a simple value behind it.
+    LongSimple,
+    Break,
+    /// Nothing.
+    Bad,
+}
+
+/// The type by the high three bits, where they are not 7.
+pub(crate) fn numbered_at(high: u8) -> ArgumentType
+    requires { high < 7 }
+    ensures { major_of result ≡ automaton.major_at high }
+{
+    match high {
+        0 => ArgumentType::Unsigned,
+        1 => ArgumentType::Negative,
+        2 => ArgumentType::Bytes,
+        3 => ArgumentType::Text,
+        4 => ArgumentType::Array,
+        5 => ArgumentType::Map,
+        _ => ArgumentType::Tag,
+    }
+}
+
+fn indefinite_length(kind: ArgumentType) -> Opening
+    ensures opens { opened result ≡ automaton.indefinite_length (major_of kind) }
+    ensures definite { IsOpeningDefinite result }
+{
+    match kind {
+        ArgumentType::Bytes => Opening::IndefiniteBytes,
+        ArgumentType::Text => Opening::IndefiniteText,
+        ArgumentType::Array => Opening::IndefiniteArray,
+        ArgumentType::Map => Opening::IndefiniteMap,
+        ArgumentType::Unsigned | ArgumentType::Negative | ArgumentType::Tag => Opening::Bad,
+    }
+}
+
+// By the low five bits above 23.
+#[inline(always)]
+fn numbered_tail(kind: ArgumentType, low: u8) -> Opening
+    ensures opens { opened result ≡ automaton.numbered_tail (major_of kind) low }
+    ensures definite { IsOpeningDefinite result }
+{
+    match low {
+        0 => Opening::Long(kind, Width::One),
+        1 => Opening::Long(kind, Width::Two),
+        2 => Opening::Long(kind, Width::Four),
+        3 => Opening::Long(kind, Width::Eight),
+        7 => indefinite_length(kind),
+        _ => Opening::Bad,
+    }
+}
+
+fn simple_tail(low: u8) -> Opening
+    ensures opens { opened result ≡ automaton.simple_tail low }
+    ensures definite { IsOpeningDefinite result }
+{
+    match low {
+        0 => Opening::LongSimple,
+        7 => Opening::Break,
+        _ => Opening::Bad,
+    }
+}
+
+/// What a first byte begins.
+#[inline(always)]
+pub(crate) fn opening_of(c: u8) -> Opening
+    ensures opens { opened result ≡ automaton.opening c }
+    ensures definite { IsOpeningDefinite result }
+{
+    let low = c % 32;
+    if c >= 0xe0 {
+        if low >= 24 {
+            return simple_tail(low - 24);
+        }
+        match Simple::new(low) {
+            Some(simple) => Opening::Simple(simple),
+            None => Opening::Bad,
+        }
+    } else {
+        let kind = numbered_at(c / 32);
+        if low < 24 {
+            Opening::Direct(kind, low)
+        } else {
+            numbered_tail(kind, low - 24)
+        }
+    }
+}
+
+/// Why a byte may not stand where an item may begin.
+pub(crate) fn reason_at_item(c: u8) -> Reason
+    ensures is { result ≡ initial_reason c }
+    ensures of_form { IsFormReason result }
+{
+    if c == 0xff {
+        Reason::StrayBreak
+    } else if c == 0xf9 || c == 0xfa || c == 0xfb {
+        Reason::Float
+    } else if c == 0x1f || c == 0x3f || c == 0xdf {
+        Reason::NoIndefinite
+    } else if 28 <= c % 32 && c % 32 <= 30 {
+        Reason::Reserved
+    } else {
+        Reason::TooDeep
+    }
+}

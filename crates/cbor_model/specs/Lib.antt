@@ -1,0 +1,8 @@
+pub mod Argument
+pub mod CanonicalSpelling
+pub mod FirstBytes
+pub mod KeyPrefix
+pub mod Lists
+pub mod Pairs
+pub mod Parts
+pub mod StrictReasons

@@ -1,0 +1,67 @@
+//! Bytes copied within a slice, and from one to another.
+
+ghost use Rattle.std.specs.Prelude.{◌≡◌, ◌≤◌, ◌+◌, ◌-◌, ◌++◌, length, take, slice_range};
+
+/// What lies from `start` to `end` once more behind the first `len`, where there is space for it.
+/// Answers where it ends.
+#[inline(always)]
+pub(crate) fn copy_behind(buf: &mut [u8], len: usize, start: usize, end: usize) -> usize
+    requires begins { start ≤ end }
+    requires ends { end ≤ len }
+    requires space { len + (end - start) ≤ length buf.old }
+    ensures within { result ≤ length buf.new }
+    ensures behind { take result buf.new ≡ take len buf.old ++ slice_range buf.old start end }
+{
+    let (prefix, space) = buf.split_at_mut(len);
+    copy(&prefix[start..end], &mut space[..end - start]);
+    len + (end - start)
+}
+
+/// What lies from `end` to `len`, from `start` on. Answers where it ends then. As many bytes as make
+/// way, or fewer, are copied at once.
+pub(crate) fn copy_down(buf: &mut [u8], start: usize, end: usize, len: usize) -> usize
+    requires begins { start ≤ end }
+    requires ends { end ≤ len }
+    requires len { len ≤ length buf.old }
+    ensures within { result ≤ length buf.new }
+    ensures down { take result buf.new ≡ take start buf.old ++ slice_range buf.old end len }
+{
+    let count = len - end;
+    if count > end - start {
+        buf.copy_within(end..len, start);
+        return start + count;
+    }
+    let (prefix, back) = buf.split_at_mut(end);
+    prefix[start..start + count].copy_from_slice(&back[..count]);
+    start + count
+}
+
+/// The bytes in place of as many. Up to 32 are copied without a call.
+#[inline(always)]
+pub(crate) fn copy(bytes: &[u8], to: &mut [u8])
+    requires { length bytes.now ≡ length to.old }
+    ensures { to.new ≡ bytes.now }
+{
+    match bytes.len() {
+        0 => {}
+        1..=2 => copy_ends(bytes, to, 1),
+        3..=4 => copy_ends(bytes, to, 2),
+        5..=8 => copy_ends(bytes, to, 4),
+        9..=16 => copy_ends(bytes, to, 8),
+        17..=32 => copy_ends(bytes, to, 16),
+        _ => to.copy_from_slice(bytes),
+    }
+}
+
+// The first n and the last n, which meet.
+#[inline(always)]
+fn copy_ends(bytes: &[u8], to: &mut [u8], n: usize)
+    requires length { length bytes.now ≡ length to.old }
+    requires within { n ≤ length bytes.now }
+    requires meet { length bytes.now ≤ n + n }
+    ensures { to.new ≡ bytes.now }
+{
+    let at = bytes.len() - n;
+    to[..n].copy_from_slice(&bytes[..n]);
+    to[at..].copy_from_slice(&bytes[at..]);
+}

@@ -1,0 +1,301 @@
+//! The output: one buffer.
+
+ghost use Rattle.std.specs.Prelude.{◌≡◌, ◌≢◌, ◌≤◌, ◌<◌, ◌+◌, ◌++◌, ◌^◌, ◌∷◌, [], length, take, drop};
+ghost use Rattle.std.specs.Prelude.{slice_range, vec_len, OnOk};
+ghost use Rattle.cbor_head.specs.Head.{shortest_head, IsSimple, major_number};
+ghost use Rattle.cbor_head.specs.declared.major.Major.TheVariants.{Simple};
+
+use crate::copies::{copy, copy_behind, copy_down};
+use crate::head::{head_bytes, number, put_head};
+use cbor_head::Major;
+use std::alloc::{AllocError, Global};
+use std::marker::Model;
+
+// The longest head.
+const HEAD: usize = 9;
+
+// So many bytes are copied in one piece.
+const BLOCK: usize = 32;
+
+// So many bytes of space lie behind what is written, where the buffer has grown for it.
+const SLACK: usize = 40;
+
+// The buffer begins with so many bytes at least, so that a small item takes memory once,
+const FIRST: usize = 256;
+
+// grows by so many at least,
+const NEXT: usize = 512;
+
+// and is made longer by as many, or by so many at once: what is to be written soon is in reach then.
+const STEP: usize = 1024;
+
+/// The bytes written so far. Space is left behind them, so that a head is written in one piece and a
+/// key's first bytes are read in one.
+#[derive(Drop)]
+pub struct OutputBuffer {
+    buf: Vec<u8>,
+    len: usize,
+}
+
+impl Model for OutputBuffer {
+    ghost use Rattle.std.specs.Prelude.{List, ℕ, ◌≤◌, take, vec_len};
+
+    ghost Value = { List ℕ };
+
+    ghost view = { λ b. take b.len b.buf.items };
+
+    ghost invariant = { λ b. b.len ≤ vec_len b.buf };
+}
+
+impl OutputBuffer {
+    // Nothing, which takes no memory.
+    pub(crate) fn new(alloc: Global) -> OutputBuffer
+        ensures { result ≡ [] }
+    {
+        OutputBuffer {
+            buf: Vec::new(alloc),
+            len: 0,
+        }
+    }
+
+    #[inline(always)]
+    pub fn len(&self) -> usize
+        ensures { result ≡ length self.now }
+    {
+        self.len
+    }
+
+    // What is written.
+    #[inline(always)]
+    pub fn as_slice(&self) -> &[u8]
+        ensures { result.now ≡ self.now }
+    {
+        &self.buf[..self.len]
+    }
+
+    // What is written, and the space behind it.
+    #[inline(always)]
+    pub fn with_space(&self) -> &[u8]
+        ensures { take (length self.now) result.now ≡ self.now }
+    {
+        self.buf.as_slice()
+    }
+
+    #[inline(always)]
+    pub fn into_vec(self) -> Vec<u8>
+        ensures { result.items ≡ self }
+    {
+        let OutputBuffer { mut buf, len } = self;
+        buf.truncate(len);
+        buf
+    }
+
+    // The shortest head behind what is there.
+    #[inline(always)]
+    pub(crate) fn head(&mut self, major: Major, n: u64) -> Result<(), AllocError>
+        requires { major ≡ Simple → IsSimple n }
+        ensures { OnOk result (self.new ≡ self.old ++ shortest_head major n) }
+    {
+        make_space(&mut self.buf, self.len, HEAD)?;
+        self.len = put_head(&mut self.buf, self.len, major, n);
+        Ok(())
+    }
+
+    // These bytes behind what is there.
+    #[inline(always)]
+    pub(crate) fn extend(&mut self, bytes: &[u8]) -> Result<(), AllocError>
+        ensures { OnOk result (self.new ≡ self.old ++ bytes.now) }
+    {
+        make_space(&mut self.buf, self.len, bytes.len())?;
+        let end = self.len + bytes.len();
+        copy(bytes, &mut self.buf[self.len..end]);
+        self.len = end;
+        Ok(())
+    }
+
+    // The first of these bytes behind what is there. Up to 32 are copied by a piece of 32, where as
+    // many bytes are given.
+    #[inline(always)]
+    pub fn extend_prefix(&mut self, prefix: &[u8], count: usize) -> Result<(), AllocError>
+        requires { count ≤ length prefix.now }
+        ensures { OnOk result (self.new ≡ self.old ++ take count prefix.now) }
+    {
+        if count <= BLOCK {
+            if let Some(block) = prefix.first_chunk::<BLOCK>() {
+                return self.extend_block(block, count);
+            }
+        }
+        self.extend(&prefix[..count])
+    }
+
+    // The shortest head of so many bytes, and the first so many of these, behind what is there. Space
+    // is made once for both, where they are few.
+    #[inline(always)]
+    pub fn string(&mut self, major: Major, prefix: &[u8], count: usize) -> Result<(), AllocError>
+        requires within { count ≤ length prefix.now }
+        requires kind { major ≢ Simple }
+        ensures { OnOk result
+            (self.new ≡ self.old ++ (shortest_head major count ++ take count prefix.now)) }
+    {
+        if count <= BLOCK {
+            if let Some(block) = prefix.first_chunk::<BLOCK>() {
+                make_space(&mut self.buf, self.len, HEAD + BLOCK)?;
+                let at = put_head(&mut self.buf, self.len, major, count as u64);
+                self.len = put_block(&mut self.buf, at, block, count);
+                return Ok(());
+            }
+        }
+        self.head(major, count as u64)?;
+        self.extend(&prefix[..count])
+    }
+
+    // What stands from `start` to `end`, once more behind what is there. Up to 32 bytes are copied by
+    // a piece of 32, where the space behind them allows it.
+    #[inline(always)]
+    pub(crate) fn extend_within(&mut self, start: usize, end: usize) -> Result<(), AllocError>
+        requires begins { start ≤ end }
+        requires ends { end ≤ length self.old }
+        ensures { OnOk result (self.new ≡ self.old ++ slice_range self.old start end) }
+    {
+        let count = end - start;
+        if count <= BLOCK {
+            if let Some(block) = self.buf[start..].first_chunk::<BLOCK>() {
+                let block = *block;
+                return self.extend_block(&block, count);
+            }
+        }
+        make_space(&mut self.buf, self.len, count)?;
+        self.len = copy_behind(&mut self.buf, self.len, start, end);
+        Ok(())
+    }
+
+    // The first of these bytes behind what is there.
+    #[inline(always)]
+    fn extend_block(&mut self, block: &[u8; BLOCK], count: usize) -> Result<(), AllocError>
+        requires { count ≤ 32 }
+        ensures { OnOk result (self.new ≡ self.old ++ take count block.now) }
+    {
+        make_space(&mut self.buf, self.len, BLOCK)?;
+        self.len = put_block(&mut self.buf, self.len, block, count);
+        Ok(())
+    }
+
+    // What is written up to `end` alone.
+    pub(crate) fn cut(&mut self, end: usize)
+        requires { end ≤ length self.old }
+        ensures { self.new ≡ take end self.old }
+    {
+        self.len = end;
+    }
+
+    // What stands from `end` on, in place of what stands from `start` on.
+    pub(crate) fn close_up(&mut self, start: usize, end: usize)
+        requires begins { start ≤ end }
+        requires ends { end ≤ length self.old }
+        ensures { self.new ≡ take start self.old ++ drop end self.old }
+    {
+        self.len = copy_down(&mut self.buf, start, end, self.len);
+    }
+
+    // The shortest head in place of what stands between `from` and `start`.
+    #[inline(always)]
+    pub(crate) fn fill_head(
+        &mut self,
+        from: usize,
+        start: usize,
+        major: Major,
+        n: u64,
+    ) -> Result<(), AllocError>
+        requires ends { start ≤ length self.old }
+        requires begins { from ≤ start }
+        requires simple { major ≡ Simple → IsSimple n }
+        ensures { OnOk result
+            (self.new ≡ take from self.old ++ (shortest_head major n ++ drop start self.old)) }
+    {
+        if n < 24 && start - from == 1 {
+            self.buf[from] = 32 * number(major) + n as u8;
+            return Ok(());
+        }
+        self.fill_long(from, start, major, n)
+    }
+
+    // Fills in a head of any length: if it differs from the space left for it, what stands behind it is moved.
+    #[inline(never)]
+    fn fill_long(
+        &mut self,
+        from: usize,
+        start: usize,
+        major: Major,
+        n: u64,
+    ) -> Result<(), AllocError>
+        requires ends { start ≤ length self.old }
+        requires begins { from ≤ start }
+        requires simple { major ≡ Simple → IsSimple n }
+        ensures { OnOk result
+            (self.new ≡ take from self.old ++ (shortest_head major n ++ drop start self.old)) }
+    {
+        let (head, count) = head_bytes(major, n);
+        if count == start - from {
+            self.buf[from..start].copy_from_slice(&head[..count]);
+            return Ok(());
+        }
+        make_space(&mut self.buf, self.len, HEAD)?;
+        self.buf.copy_within(start..self.len, from + count);
+        self.buf[from..from + count].copy_from_slice(&head[..count]);
+        self.len = from + count + (self.len - start);
+        Ok(())
+    }
+}
+
+// The first of these bytes behind the first `len`, where there is space for all of them. Answers
+// where they end.
+#[inline(always)]
+fn put_block(buf: &mut Vec<u8>, len: usize, block: &[u8; BLOCK], count: usize) -> usize
+    requires few { count ≤ 32 }
+    requires space { len + 32 ≤ vec_len buf.old }
+    ensures within { result ≤ vec_len buf.new }
+    ensures block { take result buf.new.items ≡ take len buf.old.items ++ take count block.now }
+{
+    buf[len..len + BLOCK].copy_from_slice(block);
+    len + count
+}
+
+// Space for n bytes more than the first `len`, and the slack behind them. These stay.
+#[inline(always)]
+fn make_space(buf: &mut Vec<u8>, len: usize, n: usize) -> Result<(), AllocError>
+    requires within { len ≤ vec_len buf.old }
+    requires few { n < 2 ^ 63 }
+    ensures space { OnOk result (len + n + 40 ≤ vec_len buf.new) }
+    ensures within { len ≤ vec_len buf.new }
+    ensures same { take len buf.new.items ≡ take len buf.old.items }
+{
+    if buf.len() - len < n + SLACK {
+        return grow(buf, len, n);
+    }
+    Ok(())
+}
+
+// Makes space in a buffer that is too short. If it allocates, that is a half more at least, so
+// that all growths together cost no more than what is written in the end.
+#[cold]
+#[inline(never)]
+fn grow(buf: &mut Vec<u8>, len: usize, n: usize) -> Result<(), AllocError>
+    requires within { len ≤ vec_len buf.old }
+    requires few { n < 2 ^ 63 }
+    ensures space { OnOk result (len + n + 40 ≤ vec_len buf.new) }
+    ensures within { len ≤ vec_len buf.new }
+    ensures same { take len buf.new.items ≡ take len buf.old.items }
+{
+    let size = buf.len();
+    if size == 0 {
+        // Made and filled at once.
+        *buf = Vec::from_elem(*buf.allocator(), 0, n.max(FIRST) + SLACK)?;
+        return Ok(());
+    }
+    let least = n.max(NEXT) + SLACK;
+    if buf.capacity() - size < least {
+        buf.reserve_exact(least.max(size / 2))?;
+    }
+    let soon = n.max(STEP) + SLACK;
+    buf.resize(size + soon.min(buf.capacity() - size), 0)
+}

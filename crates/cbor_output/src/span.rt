@@ -1,0 +1,29 @@
+//! Pairs of maps as spans of the buffer.
+
+ghost use Rattle.std.specs.Prelude.{◌≡◌, ◌++◌, OnOk, map, flat_map};
+ghost use Rattle.cbor_model.specs.Pairs.{pair_bytes};
+ghost use Rattle.cbor_output.specs.Spans.{span_pair, AreWithin};
+
+use crate::output_buffer::OutputBuffer;
+use std::alloc::AllocError;
+
+/// A pair: the first eight bytes of its key as a number; its key begins, its value begins, it ends.
+#[derive(Clone, Copy)]
+pub struct Span {
+    pub prefix: u64,
+    pub key: usize,
+    pub val: usize,
+    pub end: usize,
+}
+
+/// The pairs, one behind the other, once more behind what is there.
+pub(crate) fn gather(out: &mut OutputBuffer, spans: &[Span]) -> Result<(), AllocError>
+    requires { AreWithin out.old spans.now }
+    ensures { OnOk result
+        (out.new ≡ out.old ++ flat_map pair_bytes (map (span_pair out.old) spans.now)) }
+{
+    for span in spans {
+        out.extend_within(span.key, span.end)?;
+    }
+    Ok(())
+}

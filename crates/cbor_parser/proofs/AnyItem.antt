@@ -1,0 +1,93 @@
+-- What stands where an item is expected, from its first byte and its argument.
+use Rattle.std.proofs.Common.{◌≡◌, ℕ, suc, ◌+◌, ◌-◌, ◌^◌, ◌%◌, ◌<◌, ◌≤◌, ◌⊎◌, Bool, true, List, ◌∷◌, ◌++◌, length, take, drop, get_or, refl, sym, ap, ◌∙◌, subst, inl, inr, arith, IsUtf8}
+use Rattle.std.proofs.lemmas.Bool.{cases_lt}
+use Rattle.cbor_head.specs.Prelude.{Holds, shortest, shortest_head, with_argument, AreBytes}
+use Rattle.cbor_head.specs.declared.{major.Major.TheVariants.Array, major.Major.TheVariants.Map, width.Width.Width}
+use Rattle.cbor_head.specs.declared.width.Width.TheVariants.{Eight, Indefinite}
+use Rattle.cbor_model.specs.Argument.{IsArgument}
+use Rattle.cbor_verdict.specs.RefusedHere.{MayBegin}
+use Rattle.cbor_parser.proofs.ShortLeaves.{leaf-number, leaf-value, leaf-empty, leaf-bytes, leaf-text}
+use Rattle.cbor_parser.{specs.inner.Leaves.IsShortest, specs.inner.Leaves.IsLeaf, proofs.ShortHeads.rest-is, specs.inner.Items.OpensHere}
+use Rattle.cbor_parser.specs.declared.container.Expected.TheVariants.{Item, Key}
+
+-- ---- arguments
+
+below : (w : Width) (n : ℕ) → Holds w n → n < 2 ^ 64
+below Eight n h = h
+below Indefinite n h = absurd h
+below _ n h = omega (arith, h)
+
+module _ (low : ℕ) (behind : List ℕ) (w : Width) (n : ℕ) (rest : List ℕ) (a : IsArgument low behind w n rest) where
+  pub shortest_argument : w ≡ shortest n → IsShortest low behind n rest
+  shortest_argument e = record { spelled = λ first. a.spelled first ∙ ap (λ (v : Width). with_argument v first n ++ rest) e; range = below w n a.holds }
+
+-- ---- items that end with their head, and heads
+
+module _ (space : Bool) (first : ℕ) (behind : List ℕ) (w : Width) (n : ℕ) (rest : List ℕ) (a : IsArgument (first % 32) behind w n rest) (fewer : length rest ≤ length behind) (short : w ≡ shortest n) where
+  s : IsShortest (first % 32) behind n rest
+  s = shortest_argument (first % 32) behind w n rest a short
+
+  pub any_leaf : (used : ℕ) → used ≡ suc (length behind) - length rest → MayBegin first space → (first ≡ 0xf8 → 32 ≤ n) → (first < 64) ⊎ (224 ≤ first) → (0 < used) × IsLeaf space (first ∷ behind) used
+  any_leaf used e placed wide (inl l) =
+      let same : 1 + (length behind - length rest) ≡ used = omega (arith, e, fewer) in
+      (omega (arith, e, fewer), subst (IsLeaf space (first ∷ behind)) same (leaf-number space first behind n rest s fewer l))
+  any_leaf used e placed wide (inr l) =
+      let same : 1 + (length behind - length rest) ≡ used = omega (arith, e, fewer) in
+      let h : first < 249 = placed.no_float in (
+        omega (arith, e, fewer),
+        subst (IsLeaf space (first ∷ behind)) same (leaf-value space first behind n rest s fewer l (omega (arith, h)) (omega (arith, l, h)) (λ k. wide (omega (arith, l, h, k)))),
+      )
+
+  module _ (used : ℕ) (e : used ≡ suc (length behind) - length rest) (inside : n ≤ length rest) (all : AreBytes (first ∷ behind)) where
+    with_payload : IsLeaf space (first ∷ behind) (1 + (length behind - length rest) + length (take n rest)) → (0 < used + length (take n rest)) × IsLeaf space (first ∷ behind) (used + length (take n rest))
+    with_payload l =
+        let same : 1 + (length behind - length rest) + length (take n rest) ≡ used + length (take n rest) = omega (arith, e, fewer) in
+        (omega (arith, e, fewer), subst (IsLeaf space (first ∷ behind)) same l)
+
+    pub some_bytes : 64 ≤ first → first < 96 → (0 < used + length (take n rest)) × IsLeaf space (first ∷ behind) (used + length (take n rest))
+    some_bytes l h = with_payload (leaf-bytes space first behind n rest s fewer (take n rest) refl inside all l h)
+
+    pub a_text : 96 ≤ first → first < 128 → IsUtf8 (take n rest) → (0 < used + length (take n rest)) × IsLeaf space (first ∷ behind) (used + length (take n rest))
+    a_text l h u = with_payload (leaf-text space first behind n rest s fewer (take n rest) refl inside all l h u)
+
+  module _ (used : ℕ) (e : used ≡ suc (length behind) - length rest) (is_space : space ≡ true) where
+    same_used : 1 + (length behind - length rest) ≡ used
+    same_used = omega (arith, e, fewer)
+
+    back : (hs : List ℕ) → first ∷ behind ≡ hs ++ rest → drop used (first ∷ behind) ≡ rest
+    back hs f = ap (λ (k : ℕ). drop k (first ∷ behind)) (sym same_used) ∙ rest-is first behind hs rest f fewer
+
+    opens : (base : ℕ) → base + first % 32 ≡ first → first ∷ behind ≡ with_argument (shortest n) base n ++ drop used (first ∷ behind)
+    opens base f =
+        let is = ap (λ (x : ℕ). x ∷ behind) (sym f) ∙ s.spelled base in
+        is ∙ ap (λ (x : List ℕ). with_argument (shortest n) base n ++ x) (sym (back _ is))
+
+    pub a_tag : 192 ≤ first → first < 224 → OpensHere space (first ∷ behind) Item 0 used
+    a_tag l h = record { fits = is_space; opens = record { some = omega (arith, e, fewer); inside = omega (arith, e); opener = inr (refl, (n, s.range, opens 192 (omega (arith, l, h)))) } }
+
+    pub an_array : 128 ≤ first → first < 160 → 0 < n → OpensHere space (first ∷ behind) Item (n - 1) used
+    an_array l h some =
+        let m : n ≡ suc (n - 1) = omega (arith, some) in
+        record {
+          fits = is_space;
+          opens = record { some = omega (arith, e, fewer); inside = omega (arith, e); opener = inl (subst (λ (k : ℕ). (k < 2 ^ 64) × (first ∷ behind ≡ shortest_head Array k ++ drop used (first ∷ behind))) m (s.range, opens 128 (omega (arith, l, h)))) };
+        }
+
+    pub a_map : 160 ≤ first → first < 192 → 0 < n → OpensHere space (first ∷ behind) Key (n - 1) used
+    a_map l h some =
+        let m : n ≡ suc (n - 1) = omega (arith, some) in
+        record {
+          fits = is_space;
+          opens = record { some = omega (arith, e, fewer); inside = omega (arith, e); opener = subst (λ (k : ℕ). (k < 2 ^ 64) × (first ∷ behind ≡ shortest_head Map k ++ drop used (first ∷ behind))) m (s.range, opens 160 (omega (arith, l, h))) };
+        }
+
+    -- without members: the head is one byte
+    pub an_empty : 128 ≤ first → first < 192 → n ≡ 0 → (0 < used) × IsLeaf space (first ∷ behind) used
+    an_empty l h none =
+        let low : 0 + first % 32 ≡ 0 + 0 = ap (λ (xs : List ℕ). get_or xs 0 0) (subst (λ (k : ℕ). (0 + first % 32) ∷ behind ≡ with_argument (shortest k) 0 k ++ rest) none (s.spelled 0)) in
+        let whole : behind ≡ rest = ap (drop 1) (subst (λ (k : ℕ). (0 + first % 32) ∷ behind ≡ with_argument (shortest k) 0 k ++ rest) none (s.spelled 0)) in
+        let one : used ≡ 1 = omega (arith, e, ap length whole) in
+        (omega (arith, one), leaf-empty space first behind used (which low) one is_space)
+      where
+        which : 0 + first % 32 ≡ 0 + 0 → (first ≡ 128) ⊎ (first ≡ 160)
+        which low = elim (cases_lt first 160) [ inl k ↦ inl (omega (arith, low, k, l)) | inr k ↦ inr (omega (arith, low, k, h)) ]

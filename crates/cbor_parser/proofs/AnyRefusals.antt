@@ -1,0 +1,28 @@
+-- What is answered where an item is expected, and which string is refused.
+use Rattle.std.proofs.Common.{◌≡◌, ℕ, ◌+◌, ◌-◌, ◌≤◌, Bool, List, ◌∷◌, length, take, get_or, refl, sym, ap, ◌∙◌, subst, inl, inr, arith}
+use Rattle.std.specs.Str.Lossy.{utf8_valid_len}
+use Rattle.cbor_head.specs.declared.reason.Reason.TheVariants as reasons
+use Rattle.cbor_head.specs.{Prelude.refusal, declared.reason.Refusal.Refusal}
+use Rattle.cbor_verdict.proofs.RefusedHere.{refused_same, payload_cut_here, no_text_here}
+use Rattle.cbor_parser.specs.Strings.{IsStringHead, IsStringFault, IsStringRefused}
+use Rattle.cbor_parser.specs.declared.item_start.Any.TheVariants as any
+use Rattle.cbor_parser.specs.{inner.Items.IsRefusedHere, inner.Items.IsAny, declared.item_start.Any.Any, declared.argument.Argument.Argument}
+
+-- what is answered
+pub refuses : (space : Bool) (at : ℕ) (b c : List ℕ) (f : Refusal) (result : Any) → b ≡ c → result ≡ any.Refused f → IsRefusedHere space c at f → IsAny b at space result
+refuses space at b c f result e is h = subst (IsAny b at space) (sym is) (subst (λ (x : List ℕ). IsRefusedHere space x at f) (sym e) h)
+
+pub answers : (space : Bool) (at : ℕ) (b c : List ℕ) (result answer : Any) → b ≡ c → result ≡ answer → IsAny c at space answer → IsAny b at space result
+answers space at b c result answer e is h = subst (IsAny b at space) (sym is) (subst (λ (x : List ℕ). IsAny x at space answer) (sym e) h)
+
+-- the string with this head
+pub string_refused : (b : List ℕ) (h : Argument) (at : ℕ) (f : Refusal) → IsStringHead b h → IsStringFault b h at f → IsStringRefused b h at f
+string_refused b h at f s (inl x) = λ r space texts quiet.
+    refused_same r space at b (s.first ∷ s.behind) _ f s.is x.is
+    (payload_cut_here r space s.first s.behind at h.width h.number h.rest.now s.argument s.fewer quiet s.low s.high x.less (at + length b) (ap (λ (y : List ℕ). at + length y) s.is))
+string_refused b h at f s (inr x) = λ r space texts quiet.
+    let used = length b - length h.rest.now in
+    let text : 96 ≤ s.first = let high = x.text in omega (arith, high, ap (λ (y : List ℕ). get_or y 0 0) s.is) in
+    let end : at + used + h.number ≡ at + (used + h.number) = omega arith in
+    refused_same r space at b (s.first ∷ s.behind) _ f s.is (x.is ∙ ap (refusal reasons.InvalidText (at + used + utf8_valid_len (take h.number h.rest.now))) end)
+    (no_text_here r space s.first s.behind at h.width h.number h.rest.now s.argument s.fewer quiet s.low s.high texts text x.inside used _ _ (ap (λ (y : List ℕ). length y - length h.rest.now) s.is) x.none refl refl)

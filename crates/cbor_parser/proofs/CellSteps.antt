@@ -1,0 +1,219 @@
+-- What an item that is whole makes of the cells, one container at a time.
+use Rattle.std.proofs.Common.{◌≡◌, ◌≢◌, ℕ, zero, suc, ◌+◌, ◌-◌, ◌≤◌, true, false, true≢false, IsTrue, Some, List, [], ◌∷◌, ◌++◌, length, take, drop, refl, sym, ap, ◌∙◌, subst, arith, append_assoc, slice_range, length-append}
+use Rattle.std.proofs.Math.Seq.{take-append_seam, drop-append_seam}
+use Rattle.cbor_head.specs.Prelude.{Rules, plain, strict, complaint, Bounds, key_lt, Spelling, SpelledEntries, array, a_map, tag, spell, refusal}
+use Rattle.cbor_head.specs.declared.reason.Reason.TheVariants as reasons
+use Rattle.cbor_head.specs.declared.{order.KeyOrder.KeyOrder, reason.Reason.Reason, width.Width.Width, width.Width.TheVariants.Indefinite}
+use Rattle.cbor_model.specs.KeyPrefix.{prefix_of}
+use Rattle.cbor_verdict.specs.LastKey as keys
+use Rattle.cbor_verdict.proofs.LastKey.{last_key_with}
+use Rattle.cbor_verdict.proofs.LastKey.{last_is}
+use Rattle.cbor_verdict.proofs.LastKey.{key-fresh, key-falls}
+use Rattle.cbor_verdict.specs.Path as path
+use Rattle.cbor_verdict.specs.Path.{a_member, a_key, a_value, tagged, level_bytes, bytes_before, HasEnded}
+use Rattle.cbor_verdict.proofs.PathSteps.{more_members, more_pairs, member_next, member_bytes, key_next as expected_next, key_bytes, value_next as pair_next, value_bytes, array_ends, array_bytes_end, map_ends, map_bytes_end, tag_ends, tag_bytes_end}
+use Rattle.cbor_verdict.{specs.Frame.keys_onto, specs.Judged.IsJudged, specs.Kinds.KeepsToKinds, specs.Stop.HasComplaint, proofs.PathLevels.judged_key_path}
+use Rattle.cbor_verdict.proofs.PlainPaths.{judged_repeat}
+use Rattle.cbor_parser.specs.inner.Cells.{last_key, key_at, IsKeyExpected, AreCells, StandsAt, HasEndedAt, HasClosed, OutOfOrder, TakesKey}
+use Rattle.cbor_parser.specs.declared.container.Expected.TheVariants.{Item, Key, Value}
+use Rattle.cbor_parser.specs.declared.container.Level.{Level}
+
+-- a part of the input
+pub slice_there : (input p q r : List ℕ) (from to : ℕ) → input ≡ (p ++ q) ++ r → from ≡ length p → to ≡ length (p ++ q) → slice_range input from to ≡ q
+slice_there input p q r from to e f g =
+    let size : to - from ≡ length q = omega (arith, f, g, length-append p q) in
+    ap (λ (n : ℕ). take n (drop from input)) size
+    ∙ ap (λ (n : ℕ). take (length q) (drop n input)) f
+    ∙ ap (λ (x : List ℕ). take (length q) (drop (length p) x)) (e ∙ append_assoc p q r)
+    ∙ ap (take (length q)) (drop-append_seam p (q ++ r))
+    ∙ take-append_seam q r
+
+pub item_is_no_key : (c : Level) → c.expected ≡ Item → c.expected ≡ Key → ⊥
+item_is_no_key c e f = let g : Item ≡ Key = sym e ∙ f in cc
+
+item_is_no_value : (c : Level) → c.expected ≡ Item → c.expected ≡ Value → ⊥
+item_is_no_value c e f = let g : Item ≡ Value = sym e ∙ f in cc
+
+pub key_is_no_value : (c : Level) → c.expected ≡ Key → c.expected ≡ Value → ⊥
+key_is_no_value c e f = let g : Key ≡ Value = sym e ∙ f in cc
+
+module _ (o : KeyOrder) (limits : Bounds) (input : List ℕ) (at : ℕ) where
+  -- the container around is what has ended, or the input's item is whole
+  closed : (ls : List path.Level) (s : Spelling) (cs : List Level) → HasEnded (strict o) limits.depth ls s → AreCells input ls cs → KeepsToKinds limits (strict o) (bytes_before ls ++ spell s) → (rest : List ℕ) → input ≡ (bytes_before ls ++ spell s) ++ rest → at ≡ length (bytes_before ls ++ spell s) → HasClosed o limits input cs at
+  closed ls s [] h a keeps rest e f = absurd (no_cells ls a)
+    where
+      no_cells : (ls : List path.Level) → AreCells input ls [] → ⊥
+      no_cells [] a = a
+      no_cells (l ∷ ls) a = a
+  closed ls s (c ∷ cs) h a keeps rest e f = record { ls = ls; item = s; ended = h; keeps = keeps; are = a; rest = rest; bytes = e; here = f }
+
+  closes_by : (ls : List path.Level) (s t : Spelling) (x : List ℕ) (cs : List Level) → HasEnded (strict o) limits.depth ls t → AreCells input ls cs → KeepsToKinds limits (strict o) (x ++ spell s) → (rest : List ℕ) → input ≡ (x ++ spell s) ++ rest → at ≡ length (x ++ spell s)
+      → bytes_before ls ++ spell t ≡ x ++ spell s → HasClosed o limits input cs at
+  closes_by ls s t x cs h a keeps rest e f same = closed ls t cs h a (subst (KeepsToKinds limits (strict o)) (sym same) keeps) rest (e ∙ ap (λ (u : List ℕ). u ++ rest) (sym same)) (f ∙ ap length (sym same))
+
+  -- ---- a member
+
+  pub item_full : (c : Level) (cs : List Level) → c.expected ≡ Item → c.left ≡ 0 → HasEndedAt o limits input (c ∷ cs) at → HasClosed o limits input cs at
+  item_full c cs expected none h = go h.ls cs h.ended h.are h.keeps h.bytes h.here
+    where
+      go : (ls : List path.Level) (cs : List Level) → HasEnded (strict o) limits.depth ls h.item → AreCells input ls (c ∷ cs) → KeepsToKinds limits (strict o) (bytes_before ls ++ spell h.item) → input ≡ (bytes_before ls ++ spell h.item) ++ h.rest → at ≡ length (bytes_before ls ++ spell h.item) → HasClosed o limits input cs at
+      go [] [] i a keeps e f = record { item = h.item; ended = i; keeps = keeps; rest = h.rest; bytes = e; here = f }
+      go [] (x ∷ xs) i a keeps e f = absurd a
+      go (a_member w zero done ∷ ls) cs i a keeps e f = closes_by ls h.item (array w (more_members done h.item)) (bytes_before (a_member w 0 done ∷ ls)) cs (array_ends (strict o) limits.depth ls w done h.item i) a.1 keeps h.rest e f (array_bytes_end (strict o) limits.depth ls w done h.item a.0.0)
+      go (a_member w (suc n) done ∷ ls) cs i a keeps e f = absurd (omega (arith, none, a.0.2))
+      go (a_key w n done ∷ ls) cs i a keeps e f = absurd (item_is_no_key c expected a.0.1.expected)
+      go (a_value w n done k ∷ ls) cs i a keeps e f = absurd (item_is_no_value c expected a.0.1.expected)
+      go (tagged w n ∷ ls) cs i a keeps e f = closes_by ls h.item (tag w n h.item) (bytes_before (tagged w n ∷ ls)) cs (tag_ends (strict o) limits.depth ls w n h.item i) a.1 keeps h.rest e f (tag_bytes_end (strict o) limits.depth ls w n h.item)
+
+  pub item_next : (c new : Level) (cs : List Level) → c.expected ≡ Item → c.left ≡ suc new.left → new.expected ≡ Item → HasEndedAt o limits input (c ∷ cs) at → StandsAt o limits input (new ∷ cs) at
+  item_next c new cs expected more still h = go h.ls cs h.ended h.are h.keeps h.bytes h.here
+    where
+      go : (ls : List path.Level) (cs : List Level) → HasEnded (strict o) limits.depth ls h.item → AreCells input ls (c ∷ cs) → KeepsToKinds limits (strict o) (bytes_before ls ++ spell h.item) → input ≡ (bytes_before ls ++ spell h.item) ++ h.rest → at ≡ length (bytes_before ls ++ spell h.item) → StandsAt o limits input (new ∷ cs) at
+      go [] [] i a keeps e f = absurd (omega (arith, more, a.1))
+      go [] (x ∷ xs) i a keeps e f = absurd a
+      go (a_member w zero done ∷ ls) cs i a keeps e f = absurd (omega (arith, more, a.0.2))
+      go (a_member w (suc n) done ∷ ls) cs i a keeps e f =
+          let same = member_bytes (strict o) limits.depth ls w n done h.item in
+          record {
+            ls = a_member w n (more_members done h.item) ∷ ls;
+            clean = member_next (strict o) limits.depth ls w n done h.item i;
+            keeps = subst (KeepsToKinds limits (strict o)) (sym same) keeps;
+            are = ((a.0.0, still, omega (arith, more, a.0.2)), a.1);
+            rest = h.rest;
+            bytes = e ∙ ap (λ (u : List ℕ). u ++ h.rest) (sym same);
+            here = f ∙ ap length (sym same);
+          }
+      go (a_key w n done ∷ ls) cs i a keeps e f = absurd (item_is_no_key c expected a.0.1.expected)
+      go (a_value w n done k ∷ ls) cs i a keeps e f = absurd (item_is_no_value c expected a.0.1.expected)
+      go (tagged w n ∷ ls) cs i a keeps e f = absurd (omega (arith, more, a.0.1))
+
+  -- ---- a value
+
+  pub value_full : (c : Level) (cs : List Level) → c.expected ≡ Value → c.left ≡ 0 → HasEndedAt o limits input (c ∷ cs) at → HasClosed o limits input cs at
+  value_full c cs expected none h = go h.ls cs h.ended h.are h.keeps h.bytes h.here
+    where
+      go : (ls : List path.Level) (cs : List Level) → HasEnded (strict o) limits.depth ls h.item → AreCells input ls (c ∷ cs) → KeepsToKinds limits (strict o) (bytes_before ls ++ spell h.item) → input ≡ (bytes_before ls ++ spell h.item) ++ h.rest → at ≡ length (bytes_before ls ++ spell h.item) → HasClosed o limits input cs at
+      go [] [] i a keeps e f = absurd (item_is_no_value c a.0 expected)
+      go [] (x ∷ xs) i a keeps e f = absurd a
+      go (a_member w n done ∷ ls) cs i a keeps e f = absurd (item_is_no_value c a.0.1 expected)
+      go (a_key w n done ∷ ls) cs i a keeps e f = absurd (key_is_no_value c a.0.1.expected expected)
+      go (a_value w zero done k ∷ ls) cs i a keeps e f = closes_by ls h.item (a_map w (more_pairs done k h.item)) (bytes_before (a_value w 0 done k ∷ ls)) cs (map_ends (strict o) limits.depth ls w done k h.item i) a.1 keeps h.rest e f (map_bytes_end (strict o) limits.depth ls w done k h.item a.0.0)
+      go (a_value w (suc n) done k ∷ ls) cs i a keeps e f = absurd (omega (arith, none, a.0.1.left))
+      go (tagged w n ∷ ls) cs i a keeps e f = absurd (item_is_no_value c a.0.0 expected)
+
+  pub value_next : (c new : Level) (cs : List Level) → c.expected ≡ Value → c.left ≡ suc new.left → new.expected ≡ Key → new.key ≡ at → last_key input new ≡ last_key input c → new.prefix ≡ c.prefix → HasEndedAt o limits input (c ∷ cs) at → StandsAt o limits input (new ∷ cs) at
+  value_next c new cs expected more is_key begins kept prefix h = go h.ls cs h.ended h.are h.keeps h.bytes h.here
+    where
+      go : (ls : List path.Level) (cs : List Level) → HasEnded (strict o) limits.depth ls h.item → AreCells input ls (c ∷ cs) → KeepsToKinds limits (strict o) (bytes_before ls ++ spell h.item) → input ≡ (bytes_before ls ++ spell h.item) ++ h.rest → at ≡ length (bytes_before ls ++ spell h.item) → StandsAt o limits input (new ∷ cs) at
+      go [] [] i a keeps e f = absurd (item_is_no_value c a.0 expected)
+      go [] (x ∷ xs) i a keeps e f = absurd a
+      go (a_member w n done ∷ ls) cs i a keeps e f = absurd (item_is_no_value c a.0.1 expected)
+      go (a_key w n done ∷ ls) cs i a keeps e f = absurd (key_is_no_value c a.0.1.expected expected)
+      go (a_value w zero done k ∷ ls) cs i a keeps e f = absurd (omega (arith, more, a.0.1.left))
+      go (a_value w (suc n) done k ∷ ls) cs i a keeps e f =
+          let same = value_bytes (strict o) limits.depth ls w n done k h.item in
+          let l = a_key w n (more_pairs done k h.item) in
+          let last : last_key input new ≡ keys.last_key (more_pairs done k h.item) = kept ∙ a.0.1.holds.is ∙ sym (last_key_with done k h.item) in
+          record {
+            ls = l ∷ ls;
+            clean = pair_next (strict o) limits.depth ls w n done k h.item i;
+            keeps = subst (KeepsToKinds limits (strict o)) (sym same) keeps;
+            are = (
+              (a.0.0, record { expected = is_key; left = omega (arith, more, a.0.1.left); begins = begins ∙ f ∙ ap length (sym same) ∙ length-append (bytes_before ls) (level_bytes l); holds = record { is = last; prefixed = prefix ∙ a.0.1.holds.prefixed ∙ ap prefix_of (sym kept) } }),
+              a.1,
+            );
+            rest = h.rest;
+            bytes = e ∙ ap (λ (u : List ℕ). u ++ h.rest) (sym same);
+            here = f ∙ ap length (sym same);
+          }
+      go (tagged w n ∷ ls) cs i a keeps e f = absurd (item_is_no_value c a.0.0 expected)
+
+  -- ---- a key
+
+  -- where it lies, and the last one
+  record IsKeyHere (c : Level) (cs : List Level) : Type 0 where
+    w : Width
+    left : ℕ
+    done : SpelledEntries
+    ls : List path.Level
+    item : Spelling
+    ended : HasEnded (strict o) limits.depth (a_key w left done ∷ ls) item
+    keeps : KeepsToKinds limits (strict o) (bytes_before (a_key w left done ∷ ls) ++ spell item)
+    definite : w ≢ Indefinite
+    is : IsKeyExpected input c left (keys.last_key done) (length (bytes_before ls) + length (level_bytes (a_key w left done)))
+    are : AreCells input ls cs
+    rest : List ℕ
+    bytes : input ≡ (bytes_before (a_key w left done ∷ ls) ++ spell item) ++ rest
+    here : at ≡ length (bytes_before (a_key w left done ∷ ls) ++ spell item)
+
+  key_here : (c : Level) (cs : List Level) → c.expected ≡ Key → HasEndedAt o limits input (c ∷ cs) at → IsKeyHere c cs
+  key_here c cs expected h = go h.ls cs h.ended h.are h.keeps h.bytes h.here
+    where
+      go : (ls : List path.Level) (cs : List Level) → HasEnded (strict o) limits.depth ls h.item → AreCells input ls (c ∷ cs) → KeepsToKinds limits (strict o) (bytes_before ls ++ spell h.item) → input ≡ (bytes_before ls ++ spell h.item) ++ h.rest → at ≡ length (bytes_before ls ++ spell h.item) → IsKeyHere c cs
+      go [] [] i a keeps e f = absurd (item_is_no_key c a.0 expected)
+      go [] (x ∷ xs) i a keeps e f = absurd a
+      go (a_member w n done ∷ ls) cs i a keeps e f = absurd (item_is_no_key c a.0.1 expected)
+      go (a_key w n done ∷ ls) cs i a keeps e f = record { w = w; left = n; done = done; ls = ls; item = h.item; ended = i; keeps = keeps; definite = a.0.0; is = a.0.1; are = a.1; rest = h.rest; bytes = e; here = f }
+      go (a_value w n done k ∷ ls) cs i a keeps e f = absurd (key_is_no_value c expected a.0.1.expected)
+      go (tagged w n ∷ ls) cs i a keeps e f = absurd (item_is_no_key c a.0.0 expected)
+
+  module _ (c : Level) (cs : List Level) (k : IsKeyHere c cs) where
+    begins_at : c.key ≡ length (bytes_before (a_key k.w k.left k.done ∷ k.ls))
+    begins_at = k.is.begins ∙ sym (length-append (bytes_before k.ls) (level_bytes (a_key k.w k.left k.done)))
+
+    key_bytes_are : key_at input c at ≡ spell k.item
+    key_bytes_are = slice_there input (bytes_before (a_key k.w k.left k.done ∷ k.ls)) (spell k.item) k.rest c.key at k.bytes begins_at k.here
+
+    before_end : c.key ≤ at
+    before_end = omega (arith, begins_at, k.here, length-append (bytes_before (a_key k.w k.left k.done ∷ k.ls)) (spell k.item))
+
+  pub key_next : (c new : Level) (cs : List Level) → c.expected ≡ Key → TakesKey true o input at c new → HasEndedAt o limits input (c ∷ cs) at → StandsAt o limits input (new ∷ cs) at
+  key_next c new cs expected t h =
+      let k = key_here c cs expected h in
+      let key = key_bytes_are c cs k in
+      let rises : IsTrue (key_lt o (keys.last_key k.done) (spell k.item)) = rw (sym k.is.holds.is) (rw (sym key) (t.3 k.is.holds.prefixed)) in
+      let same = key_bytes (strict o) limits.depth k.ls k.w k.left k.done k.item in
+      record {
+        ls = a_value k.w k.left k.done k.item ∷ k.ls;
+        clean = expected_next (strict o) limits.depth k.ls k.w k.left k.done k.item k.ended (key-fresh o _ k.item (spell k.item) refl (keys_onto [] k.done) (keys.last_key k.done) (last_is k.done) rises);
+        keeps = subst (KeepsToKinds limits (strict o)) (sym same) k.keeps;
+        are = ((k.definite, record { expected = t.0; left = t.1 ∙ k.is.left; holds = record { is = t.2.is ∙ key; prefixed = t.2.prefixed } }), k.are);
+        rest = k.rest;
+        bytes = k.bytes ∙ ap (λ (u : List ℕ). u ++ k.rest) (sym same);
+        here = k.here ∙ ap length (sym same);
+      }
+
+  module _ (c : Level) (cs : List Level) (k : IsKeyHere c cs) where
+    abbrev here : List ℕ
+    here = bytes_before (a_key k.w k.left k.done ∷ k.ls)
+
+    -- what the rules have against it
+    has_complaint : (r : Rules) (reason : Reason) → KeepsToKinds limits r (here ++ spell k.item) → IsJudged r 0 limits.depth (here ++ spell k.item) (Some (complaint (length here + length (spell k.item)) (length here) reason)) → HasComplaint r limits input (refusal reason c.key at)
+    has_complaint r reason keeps judged =
+        let end : at ≡ length here + length (spell k.item) = k.here ∙ length-append here (spell k.item) in
+        record {
+          p = here ++ spell k.item;
+          rest = k.rest;
+          splits = k.bytes;
+          complaint = complaint (length here + length (spell k.item)) (length here) reason;
+          judged = judged;
+          keeps = keeps;
+          is = ap (λ (n : ℕ). refusal reason n at) (begins_at c cs k) ∙ ap (refusal reason (length here)) end;
+        }
+
+    falls : key_lt o (last_key input c) (key_at input c at) ≡ false → OutOfOrder o limits input c at
+    falls below =
+        let key = key_bytes_are c cs k in
+        let same : key_lt o (last_key input c) (key_at input c at) ≡ key_lt o (keys.last_key k.done) (spell k.item) =
+        ap (λ (x : List ℕ). key_lt o x (key_at input c at)) k.is.holds.is ∙ ap (key_lt o (keys.last_key k.done)) key in
+        let not_behind : IsTrue (key_lt o (keys.last_key k.done) (spell k.item)) → ⊥ = λ g. true≢false (sym g ∙ sym same ∙ below) in
+        record {
+          strictly = has_complaint (strict o) reasons.KeyOrder k.keeps (judged_key_path (strict o) limits.depth k.w k.left k.done k.ls k.item _ k.ended
+              (key-falls o (length here) k.item (spell k.item) refl (keys_onto [] k.done) (keys.last_key k.done) (last_is k.done) not_behind));
+          repeated = λ e. has_complaint plain reasons.RepeatedKey k.keeps (judged_repeat o limits.depth k.w k.left k.done k.ls k.item k.ended (sym k.is.holds.is ∙ e ∙ key));
+        }
+
+  pub key_out_of_order : (c new : Level) (cs : List Level) → c.expected ≡ Key → TakesKey false o input at c new → HasEndedAt o limits input (c ∷ cs) at → OutOfOrder o limits input new at
+  key_out_of_order c new cs expected t h =
+      let k = key_here c cs expected h in
+      subst (λ (l : Level). OutOfOrder o limits input l at) (sym t.0) (falls c cs k (t.1 (before_end c cs k) k.is.holds.prefixed))

@@ -1,0 +1,147 @@
+-- The parts of a valid item, by their bytes: items without members, and the openers of containers.
+use Rattle.std.proofs.Common.{◌≡◌, ℕ, suc, ◌+◌, ◌-◌, ◌*◌, ◌%◌, ◌<◌, ◌≤◌, Bool, true, false, List, [], ◌∷◌, ◌++◌, length, take, drop, refl, sym, ap, ap₂, ◌∙◌, subst, arith, inl, inr, append_assoc, append-nil, IsUtf8, length-append, length-take-le, take-append-drop}
+use Rattle.std.proofs.lemmas.Bool.{cases_lt}
+use Rattle.cbor_head.specs.Prelude.{Holds, IsSimple, head, major_number, shortest, Spelling, unsigned, negative, bytes, text, simple, no_spellings, no_entries, spell, value_of, HoldsOrIndefinite, Value, AreBytes}
+use Rattle.cbor_head.specs.declared.major.Major.TheVariants as majors
+use Rattle.cbor_head.specs.declared.{major.Major.Major, width.Width.Width}
+use Rattle.cbor_model.{proofs.ReadLaws.length_head, proofs.ByteLists.bytes_prefix, specs.Argument.IsArgument}
+use Rattle.cbor_builder.specs.Built.{IsLeaf, IsContainer}
+use Rattle.cbor_verdict.specs.Levels.{IsTaken, IsOpened, Level, IsLevel, a_member, a_key, some_member, some_key, tagged, level_bytes}
+use Rattle.cbor_verdict.{proofs.Heads.open_or, proofs.KindBytes.head_is_one, proofs.KindBytes.string_is_one, specs.Kinds.IsOfOneHead, proofs.Levels.of-opened}
+use Rattle.cbor_verdict.{specs.Reading.string_major, specs.Reading.string_value, proofs.Arguments.low_bits, proofs.Arguments.spells}
+use Rattle.cbor_parser.specs.inner.OpenContainer.{counted, indefinite, opener, cell_of}
+use Rattle.cbor_parser.specs.inner.Parts.{IsHead, IsOpener, IsPayload, Counts}
+use Rattle.cbor_parser.specs.declared.container.Expected.{Expected, TheVariants.Item, TheVariants.Key}
+use Rattle.cbor_parser.specs.{Sink.leaf_value, declared.open_container.OpenContainer.OpenContainer}
+
+-- ---- items without members
+
+-- it is there, and has this value
+pub record IsScalar (rest behind : List ℕ) (v : Value) : Type 0 where
+  pub item : Spelling
+  pub taken : (d : ℕ) → IsTaken d item
+  pub is : rest ≡ spell item ++ behind
+  pub one : IsOfOneHead (spell item)
+  pub value_is : value_of item ≡ v
+
+pub scalar-head : (m : Major) (n : ℕ) (rest behind : List ℕ) → IsLeaf m → IsHead m n rest behind → IsScalar rest behind (leaf_value m n)
+scalar-head majors.Unsigned n rest behind l h = record {
+  item = unsigned h.width n;
+  taken = λ d. record { spelled = h.holds; within = omega arith; clean = λ at c x. cc x.0 };
+  is = h.is;
+  one = head_is_one majors.Unsigned h.width n (open_or h.width n h.holds);
+  value_is = refl;
+}
+scalar-head majors.Negative n rest behind l h = record {
+  item = negative h.width n;
+  taken = λ d. record { spelled = h.holds; within = omega arith; clean = λ at c x. cc x.0 };
+  is = h.is;
+  one = head_is_one majors.Negative h.width n (open_or h.width n h.holds);
+  value_is = refl;
+}
+scalar-head majors.Simple n rest behind l h = record {
+  item = simple n;
+  taken = λ d. record { spelled = (h.simple refl).0; within = omega arith; clean = λ at c x. x };
+  is = h.is ∙ ap (λ (w : Width). head majors.Simple w n ++ behind) (h.simple refl).1;
+  one = head_is_one majors.Simple (shortest n) n (subst (λ (w : Width). HoldsOrIndefinite w n) (h.simple refl).1 (open_or h.width n h.holds));
+  value_is = refl;
+}
+scalar-head _ n rest behind l h = absurd l
+
+-- the head of a string before its payload
+pub string-bytes : (m : Major) (n : ℕ) (rest behind : List ℕ) (h : IsHead m n rest behind) → n ≤ length behind → rest ≡ (head m h.width (length (take n behind)) ++ take n behind) ++ drop n behind
+string-bytes m n rest behind h inside =
+    h.is
+    ∙ ap₂ (λ (k : ℕ) (x : List ℕ). head m h.width k ++ x) (sym (length-take-le n behind inside)) (sym (take-append-drop n behind))
+    ∙ sym (append_assoc (head m h.width (length (take n behind))) (take n behind) (drop n behind))
+
+pub scalar-string : (t : Bool) (n size : ℕ) (rest behind : List ℕ) → IsHead (string_major t) n rest behind → IsPayload false t n size behind → AreBytes behind
+    → IsScalar rest (drop size behind) (string_value t (take size behind))
+scalar-string t n size rest behind h p are =
+    subst (λ (k : ℕ). IsScalar rest (drop k behind) (string_value t (take k behind))) (sym p.all)
+    (go t h (p.utf8 refl) (length-take-le n behind p.inside) (bytes_prefix (take n behind) (drop n behind) (subst AreBytes (sym (take-append-drop n behind)) are)))
+  where
+    go : (t : Bool) (h : IsHead (string_major t) n rest behind) → (t ≡ true → IsUtf8 (take n behind)) → length (take n behind) ≡ n → AreBytes (take n behind)
+        → IsScalar rest (drop n behind) (string_value t (take n behind))
+    go false h u long small = record {
+      item = bytes h.width (take n behind);
+      taken = λ d. record { spelled = (subst (Holds h.width) (sym long) h.holds, small); within = omega arith; clean = λ at c x. cc x.0 };
+      is = string-bytes majors.Bytes n rest behind h p.inside;
+      one = string_is_one majors.Bytes h.width (length (take n behind)) (take n behind) tt (open_or h.width (length (take n behind)) (subst (Holds h.width) (sym long) h.holds));
+      value_is = refl;
+    }
+    go true h u long small = record {
+      item = text h.width (take n behind);
+      taken = λ d. record { spelled = (subst (Holds h.width) (sym long) h.holds, small); within = omega arith; clean = λ at c x. elim x [ inl y ↦ cc y.0 | inr y ↦ y.1 (u refl) ] };
+      is = string-bytes majors.Text n rest behind h p.inside;
+      one = string_is_one majors.Text h.width (length (take n behind)) (take n behind) tt (open_or h.width (length (take n behind)) (subst (Holds h.width) (sym long) h.holds));
+      value_is = refl;
+    }
+
+-- ---- openers
+
+head-some : (m : Major) (w : Width) (n : ℕ) (xs : List ℕ) → 0 < length (head m w n ++ xs)
+head-some m w n xs = omega (arith, length_head m w n, length-append (head m w n) xs)
+
+counted-opens : (m : Major) (n : ℕ) (l : Level) (c : OpenContainer) (rest behind : List ℕ) (h : IsHead m n rest behind) → 0 < n → level_bytes l ≡ head m h.width (0 + suc (n - 1)) ++ [] → ((d : ℕ) → Holds h.width (0 + suc (n - 1)) → IsLevel d l)
+    → c ≡ cell_of (length behind) l → IsOpened m n l → IsOpener m n c rest behind
+counted-opens m n l c rest behind h some whole fresh is opened =
+    let e : 0 + suc (n - 1) ≡ n = omega (arith, some) in
+    record {
+      level = l;
+      fresh = λ d. fresh d (subst (Holds h.width) (sym e) h.holds);
+      cell = is;
+      opened = opened;
+      some = omega (arith, ap length whole, head-some m h.width (0 + suc (n - 1)) []);
+      is = h.is ∙ ap (λ (x : List ℕ). x ++ behind) (ap (head m h.width) (sym e) ∙ sym (append-nil (head m h.width (0 + suc (n - 1)))) ∙ sym whole);
+    }
+
+pub head-opens : (m : Major) (n : ℕ) (expected : Expected) (c : OpenContainer) (rest behind : List ℕ) → Counts m expected → 0 < n → c ≡ counted expected (n - 1) (length behind) → IsHead m n rest behind → IsOpener m n c rest behind
+head-opens majors.Array n Item c rest behind k some is h = counted-opens majors.Array n (a_member h.width (n - 1) no_spellings) c rest behind h some refl (λ d f. (f, tt)) is (inl (h.width, n - 1, refl))
+head-opens majors.Map n Key c rest behind k some is h = counted-opens majors.Map n (a_key h.width (n - 1) no_entries) c rest behind h some refl (λ d f. (f, tt)) is (inl (h.width, n - 1, refl))
+head-opens _ n _ c rest behind k some is h = absurd k
+
+pub counts-container : (m : Major) (expected : Expected) → Counts m expected → IsContainer m
+counts-container majors.Array expected k = tt
+counts-container majors.Map expected k = tt
+counts-container _ expected k = absurd k
+
+pub tag-opens : (n : ℕ) (c : OpenContainer) (rest behind : List ℕ) → c ≡ counted Item 0 (length behind) → IsHead majors.Tag n rest behind → IsOpener majors.Tag n c rest behind
+tag-opens n c rest behind is h = record {
+  level = tagged h.width n;
+  fresh = λ d. h.holds;
+  cell = is;
+  opened = (h.width, refl);
+  some = subst (λ (x : List ℕ). 0 < length x) (append-nil (head majors.Tag h.width n)) (head-some majors.Tag h.width n []);
+  is = h.is;
+}
+
+pub array-opens : (first : ℕ) (c : OpenContainer) (behind : List ℕ) → first ≡ 0x9f → c ≡ indefinite Item (length behind) → IsOpener majors.Array 0 c (first ∷ behind) behind
+array-opens first c behind f e = record { level = some_member no_spellings; fresh = λ d. tt; cell = e; opened = inr refl; some = omega arith; is = ap (λ (x : ℕ). x ∷ behind) f }
+
+pub map-opens : (first : ℕ) (c : OpenContainer) (behind : List ℕ) → first ≡ 0xbf → c ≡ indefinite Key (length behind) → IsOpener majors.Map 0 c (first ∷ behind) behind
+map-opens first c behind f e = record { level = some_key no_entries; fresh = λ d. tt; cell = e; opened = inr refl; some = omega arith; is = ap (λ (x : ℕ). x ∷ behind) f }
+
+-- nothing else is there yet
+pub opener-whole : (m : Major) (n : ℕ) (l : Level) → IsOpened m n l → level_bytes l ≡ opener l
+opener-whole = of-opened (λ m n l. level_bytes l ≡ opener l) (λ w left n. append-nil (head majors.Array w (0 + suc left))) (λ n. refl) (λ w left n. append-nil (head majors.Map w (0 + suc left))) (λ n. refl) (λ w n. refl)
+
+-- ---- a head, by its first byte
+
+pub head-here : (m : Major) (first : ℕ) (behind rest : List ℕ) (w : Width) (n : ℕ) → IsArgument (first % 32) behind w n rest → 32 * major_number m + first % 32 ≡ first → (m ≡ majors.Simple → IsSimple n × (w ≡ shortest n))
+    → (b : List ℕ) → b ≡ first ∷ behind → IsHead m n b rest
+head-here m first behind rest w n a e proper b is = record {
+  width = w;
+  holds = a.holds;
+  simple = proper;
+  is = is ∙ spells first behind (32 * major_number m) w n rest a e;
+}
+
+pub simple-here : (low : ℕ) (behind : List ℕ) (w : Width) (n : ℕ) (rest : List ℕ) → IsArgument low behind w n rest → low ≤ 24 → (low < 24 → n ≡ low) → (low ≡ 24 → (32 ≤ n) × (n < 256)) → IsSimple n × (w ≡ shortest n)
+simple-here low behind w n rest a l direct wide = (is-simple, low_bits low behind w n rest a l (λ e. (wide e).0))
+  where
+    is-simple : IsSimple n
+    is-simple = elim (cases_lt low 24) [
+      | inl k ↦ (omega (arith, direct k, k), λ m. absurd (omega (arith, direct k, k, m)))
+      | inr k ↦ ((wide (omega (arith, l, k))).1, λ m. (wide (omega (arith, l, k))).0)
+    ]

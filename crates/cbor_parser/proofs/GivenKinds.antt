@@ -1,0 +1,138 @@
+-- A valid item, part by part: of which kinds the keys are that begin in what was taken.
+use Rattle.std.proofs.Common.{◌≡◌, ℕ, suc, ◌+◌, ◌-◌, ◌<◌, ◌≤◌, Bool, false, true, List, [], ◌∷◌, ◌++◌, length, refl, sym, ap, ◌∙◌, subst, inl, inr, arith, append_assoc, append-nil, length-append}
+use Rattle.std.proofs.lemmas.List.{append_cancel_right, nil_from_length}
+use Rattle.cbor_head.specs.Prelude.{Complaint, plain, OfKinds, Holds, head, bounds, with_keys, Spelling, array, a_map, no_spellings, no_entries, spell, spell_all, spell_entries, spellings_count, entries_count, IsSpelled, depth}
+use Rattle.cbor_head.specs.Head as heads
+use Rattle.cbor_head.specs.Value as value
+use Rattle.cbor_head.specs.declared.major.Major.TheVariants as majors
+use Rattle.cbor_head.specs.declared.{keys.Keys.Keys, keys.Keys.TheVariants.Any, keys.Keys.TheVariants.IntegersAndTexts, major.Major.Major, width.Width.Width}
+use Rattle.cbor_head.specs.declared.width.Width.TheVariants.{Indefinite}
+use Rattle.cbor_model.proofs.KeyKinds.{of_kind_in, of_kind_entries}
+use Rattle.cbor_verdict.specs.Kinds.{KeepsToKinds, IsKeyLevel, IsKeyExpectedIn, HasBasicPrefix}
+use Rattle.cbor_verdict.specs.Levels.{Level, a_key, some_member, some_key, some_value, IsLevel, AreLevels, level_bytes, bytes_before, ParseState}
+use Rattle.cbor_verdict.proofs.KindBytes.{Begins, head_is_one, keeps_expected}
+use Rattle.cbor_verdict.proofs.Levels.{of-opened, spelled-all, within-all, pairs-spelled, pairs-within}
+use Rattle.cbor_verdict.proofs.{Heads.open_or, Heads.takes, LevelFrames.around_levels, KindFrames.keeps_closed, KindFrames.keeps_start}
+use Rattle.cbor_verdict.{specs.PathKinds.asks, specs.PathKinds.IsFitPrefix, proofs.PathKinds.no_break, proofs.PathKinds.head_begun}
+use Rattle.cbor_parser.specs.inner.OpenContainer.{counted, behind_head, cell_of, cells_of}
+use Rattle.cbor_parser.specs.inner.Parts.{Counts, IsHead, IsOpener, IsItem, HasBegun, HasBroken, TakesPrefix, EndsBefore}
+use Rattle.cbor_parser.specs.declared.part.Part.TheVariants as part
+use Rattle.cbor_parser.specs.{Stack.around, Stack.open_levels, declared.container.Expected.Expected}
+use Rattle.cbor_parser.specs.declared.{container.Expected.TheVariants.Item, container.Expected.TheVariants.Key, stack.Stack.Stack}
+use Rattle.cbor_parser.{proofs.Stacks.open_levels_count, specs.inner.Parser.IsExpected, specs.inner.Kept.KeepsBefore}
+use Rattle.cbor_parser.{specs.declared.open_container.OpenContainer.OpenContainer, specs.declared.part.Part.Part, proofs.GivenItems.IsScalar}
+use Rattle.cbor_parser.proofs.GivenParts.{height-is, cell-is}
+
+-- ---- what begins so
+
+pub scalar-begun : (v : value.Value) (d : ℕ) (rest behind : List ℕ) → IsScalar rest behind v → HasBegun d rest behind
+scalar-begun v d rest behind i = record { prefix = spell i.item; is = i.is; one = i.one; item = i.item; spelled = (i.taken d).spelled; within = (i.taken d).within; more = []; bytes = sym (append-nil (spell i.item)) }
+
+-- a head
+head-at-prefix : (d : ℕ) (m : Major) (w : Width) (n : ℕ) (behind : List ℕ) → heads.IsHead m w n → takes m ≤ d → Holds w n → HasBegun d (head m w n ++ behind) behind
+head-at-prefix d m w n behind h l holds =
+    let g = head_begun d m w n h l in
+    record { prefix = head m w n; is = refl; one = head_is_one m w n (open_or w n holds); item = g.item; spelled = g.spelled; within = g.within; more = g.rest; bytes = g.bytes }
+
+head-has-begun : (d : ℕ) (m : Major) (n : ℕ) (rest behind : List ℕ) (h : IsHead m n rest behind) → heads.IsHead m h.width n → takes m ≤ d → HasBegun d rest behind
+head-has-begun d m n rest behind h i l = subst (λ (x : List ℕ). HasBegun d x behind) (sym h.is) (head-at-prefix d m h.width n behind i l h.holds)
+
+-- of a container that is empty
+pub counted-begun : (d : ℕ) (m : Major) (expected : Expected) (n : ℕ) (rest behind : List ℕ) → Counts m expected → 0 < d → IsHead m n rest behind → HasBegun d rest behind
+counted-begun d majors.Array expected n rest behind k space h = head-has-begun d majors.Array n rest behind h h.holds (omega (arith, space))
+counted-begun d majors.Map expected n rest behind k space h = head-has-begun d majors.Map n rest behind h h.holds (omega (arith, space))
+counted-begun d _ expected n rest behind k space h = absurd k
+
+pub opener-begun : (d : ℕ) (m : Major) (n : ℕ) (c : OpenContainer) (rest behind : List ℕ) → 0 < d → IsOpener m n c rest behind → HasBegun d rest behind
+opener-begun d m n c rest behind space k =
+    subst (λ (x : List ℕ). HasBegun d x behind) (sym k.is)
+    (of-opened (λ m n l. IsLevel 0 l → HasBegun d (level_bytes l ++ behind) behind) (λ w left n f. counted-head majors.Array w (0 + suc left) f.0 (omega (arith, space)) f.0) (λ n f. without-length 0x9f (array Indefinite no_spellings) refl (tt, tt) (omega (arith, space)))
+    (λ w left n f. counted-head majors.Map w (0 + suc left) f.0 (omega (arith, space)) f.0) (λ n f. without-length 0xbf (a_map Indefinite no_entries) refl (tt, tt) (omega (arith, space))) (λ w n f. head-at-prefix d majors.Tag w n behind f (omega (arith, space)) f) m n k.level k.opened (k.fresh 0))
+  where
+    counted-head : (m : Major) (w : Width) (n : ℕ) → heads.IsHead m w n → takes m ≤ d → Holds w n → HasBegun d ((head m w n ++ []) ++ behind) behind
+    counted-head m w n i l holds = subst (λ (x : List ℕ). HasBegun d (x ++ behind) behind) (sym (append-nil (head m w n))) (head-at-prefix d m w n behind i l holds)
+
+    without-length : (first : ℕ) (item : Spelling) → spell item ≡ first ∷ 0xff ∷ [] → IsSpelled item → depth item ≤ d → HasBegun d (first ∷ behind) behind
+    without-length first item bytes spelled within = record { prefix = first ∷ []; is = refl; one = λ container some. absurd (omega (arith, some)); item = item; spelled = spelled; within = within; more = 0xff ∷ []; bytes = bytes }
+
+-- ---- what is taken
+
+pub begun-takes : (p : Part) (d : ℕ) (c : OpenContainer) (rest behind : List ℕ) → IsItem p → EndsBefore p behind → HasBegun d rest behind → TakesPrefix p d c rest
+begun-takes (part.Item to) d c rest behind i e h = subst (HasBegun d rest) (sym e) h
+begun-takes (part.Break to) d c rest behind i e h = absurd i
+begun-takes (part.Head to) d c rest behind i e h = absurd i
+begun-takes _ d c rest behind i e h = tt
+
+-- ---- no key of another kind begins in it
+
+level-key : (behind : ℕ) (l : Level) → IsKeyLevel l → (cell_of behind l).expected ≡ Key
+level-key behind (a_key w left done) h = refl
+level-key behind (some_key done) h = refl
+level-key behind _ h = absurd h
+
+expected-key : (n : ℕ) (c : OpenContainer) (cs : List OpenContainer) (ls : List Level) → c ∷ cs ≡ cells_of n ls → IsKeyExpectedIn ls → c.expected ≡ Key
+expected-key n c cs [] e h = absurd h
+expected-key n c cs (l ∷ ls) e h = ap (λ (x : OpenContainer). x.expected) (cell-is n l ls e) ∙ level-key (behind_head n ls l) l h
+
+-- kinds are asked for
+no-kinds : Any ≡ IntegersAndTexts → ⊥
+no-kinds e = cc e
+
+pub asked-kinds : (k : Keys) (kinds : Bool) → asks k ≡ kinds → k ≡ IntegersAndTexts → kinds ≡ true
+asked-kinds Any kinds e is = absurd (no-kinds is)
+asked-kinds IntegersAndTexts kinds e is = sym e
+
+-- an item begins so
+pub basic-prefix : (s : Spelling) → IsSpelled s → (x y z rest : List ℕ) → spell s ≡ x ++ z → rest ≡ x ++ y → IsFitPrefix rest → HasBasicPrefix x
+basic-prefix s h [] y z rest e f fit = tt
+basic-prefix s h (b ∷ x) y z rest e f fit = elim (subst IsFitPrefix f fit) [ inl k ↦ k | inr k ↦ absurd (no_break s h (x ++ z) (e ∙ ap (λ (c : ℕ). c ∷ (x ++ z)) k)) ]
+
+-- before the first part
+pub starts-kept : (d : ℕ) (input : List ℕ) (keys : Keys) → KeepsBefore d keys input input
+starts-kept d input keys = λ t e. subst (KeepsToKinds (with_keys (bounds d 0) keys) plain) (sym (nil_from_length t (omega (arith, ap length e, length-append t input)))) (keeps_start (with_keys (bounds d 0) keys) plain)
+
+module _ (S : Type 0) (stands : S → S → ParseState → Type 0) (trusts : Bool) (start : S) (d : ℕ) (input : List ℕ) (keys : Keys) where
+  -- behind an item that begins within them
+  pub begun-keeps : (k : Stack OpenContainer) (cells : List OpenContainer) (g : S) (rest behind : List ℕ) → k.height ≤ length cells → IsExpected S stands trusts start d input (open_levels OpenContainer k cells) g rest → HasBegun (d - k.height) rest behind → (k.top.expected ≡ Key → IsFitPrefix rest)
+      → KeepsBefore d keys input rest → KeepsBefore d keys input behind
+  begun-keeps k cells g rest behind low s h fit keeps = λ t e.
+      let height : length s.ls ≡ k.height = omega (arith, height-is S stands trusts start d input (open_levels OpenContainer k cells) g rest s, open_levels_count OpenContainer k cells low) in
+      let within : depth h.item ≤ d - length s.ls = subst (λ (n : ℕ). depth h.item ≤ d - n) (sym height) h.within in
+      let begins : Begins (d - length s.ls) h.prefix = record { item = h.item; spelled = h.spelled; within = within; rest = h.more; bytes = h.bytes } in
+      let whole : (bytes_before s.ls ++ h.prefix) ++ behind ≡ t ++ behind = append_assoc (bytes_before s.ls) h.prefix behind ∙ ap (λ (x : List ℕ). bytes_before s.ls ++ x) (sym h.is) ∙ sym s.bytes ∙ e in
+      subst (KeepsToKinds (with_keys (bounds d 0) keys) plain) (append_cancel_right (bytes_before s.ls ++ h.prefix) t behind whole)
+      (keeps_expected (with_keys (bounds d 0) keys) plain (around_levels d s.ls s.levels) h.prefix begins h.one
+      (λ asked expected. basic-prefix h.item h.spelled h.prefix behind h.more rest h.bytes h.is (fit (expected-key (length input) k.top (around OpenContainer k cells) s.ls s.cells expected))) (keeps (bytes_before s.ls) s.bytes))
+
+  -- a container without a length ends
+  pub broken-keeps : (c : OpenContainer) (cs : List OpenContainer) (g : S) (rest behind : List ℕ) → IsExpected S stands trusts start d input (c ∷ cs) g rest → HasBroken c rest behind → KeepsBefore d keys input rest → KeepsBefore d keys input behind
+  broken-keeps c cs g rest behind s h keeps = λ t e. go s.ls s.levels s.cells s.bytes t e
+    where
+      closed : (l : Level) (ls : List Level) → AreLevels d (l ∷ ls) → input ≡ bytes_before (l ∷ ls) ++ rest → (t : List ℕ) → input ≡ t ++ behind → (item : Spelling) → spell item ≡ level_bytes l ++ (0xff ∷ []) → IsSpelled item → depth item ≤ d - length ls
+          → 0 < length (level_bytes l) → ((c : Complaint) → OfKinds (length (bytes_before ls)) item c → c.end ≤ length (bytes_before ls) + length (level_bytes l)) → KeepsToKinds (with_keys (bounds d 0) keys) plain t
+      closed l ls levels b t e item is spelled within some ends =
+          let p = bytes_before ls in
+          let x = level_bytes l in
+          let whole : (p ++ spell item) ++ behind ≡ t ++ behind =
+          ap (λ (y : List ℕ). (p ++ y) ++ behind) is ∙ ap (λ (y : List ℕ). y ++ behind) (sym (append_assoc p x (0xff ∷ []))) ∙ append_assoc (p ++ x) (0xff ∷ []) behind ∙ ap (λ (y : List ℕ). (p ++ x) ++ y) (sym h.is) ∙ sym b ∙ e in
+          subst (KeepsToKinds (with_keys (bounds d 0) keys) plain) (append_cancel_right (p ++ spell item) t behind whole)
+          (keeps_closed (with_keys (bounds d 0) keys) plain (around_levels d ls levels.2) item x (0xff ∷ []) spelled within is some ends (keeps (p ++ x) b))
+
+      go : (ls : List Level) → AreLevels d ls → c ∷ cs ≡ cells_of (length input) ls → input ≡ bytes_before ls ++ rest → (t : List ℕ) → input ≡ t ++ behind → KeepsToKinds (with_keys (bounds d 0) keys) plain t
+      go [] levels e b t f = let same : c ≡ counted Item 0 0 = cc in let x : false ≡ true = ap (λ (x : OpenContainer). x.is_indefinite) (sym same) ∙ h.open_ended in absurd (cc x)
+      go (some_member done ∷ ls) levels e b t f =
+          let one : length (head majors.Array Indefinite 0) ≡ 1 = refl in
+          let size = length-append (head majors.Array Indefinite 0) (spell_all done) in
+          closed (some_member done) ls levels b t f (array Indefinite done) refl (tt, spelled-all (d - suc (length ls)) done levels.1) (omega (arith, levels.0, within-all (d - suc (length ls)) done levels.1)) (omega (arith, size, one))
+          (λ x o.
+          let other : length (head majors.Array Indefinite (spellings_count done)) ≡ 1 = refl in
+          omega (arith, size, one, other, (of_kind_in done (length (bytes_before ls) + length (head majors.Array Indefinite (spellings_count done))) x o).within))
+      go (some_key done ∷ ls) levels e b t f =
+          let one : length (head majors.Map Indefinite 0) ≡ 1 = refl in
+          let size = length-append (head majors.Map Indefinite 0) (spell_entries done) in
+          closed (some_key done) ls levels b t f (a_map Indefinite done) refl (tt, pairs-spelled (d - suc (length ls)) done levels.1) (omega (arith, levels.0, pairs-within (d - suc (length ls)) done levels.1)) (omega (arith, size, one))
+          (λ x o.
+          let other : length (head majors.Map Indefinite (entries_count done)) ≡ 1 = refl in
+          omega (arith, size, one, other, (of_kind_entries done (length (bytes_before ls) + length (head majors.Map Indefinite (entries_count done))) x o).within))
+      go (some_value done k ∷ ls) levels e b t f = absurd (h.no_value (ap (λ (x : OpenContainer). x.expected) (cell-is (length input) (some_value done k) ls e)))
+      go (l ∷ ls) levels e b t f = absurd (cc (ap (λ (x : OpenContainer). x.is_indefinite) (sym (cell-is (length input) l ls e)) ∙ h.open_ended))

@@ -1,0 +1,56 @@
+-- The texts of an item that is known to be valid are UTF-8, where the walk stands within it.
+use Rattle.std.proofs.Common.{◌≡◌, ℕ, ◌+◌, ◌-◌, ◌≤◌, Bool, true, false, true≢false, Some, List, ◌∷◌, ◌++◌, length, take, drop, refl, sym, ap, ◌∙◌, subst, append_assoc, IsUtf8, length-take-le, take-append-drop}
+use Rattle.std.{specs.Str.is_utf8, specs.Str.Lossy.utf8_valid_len, proofs.lemmas.Str.IsUtf8-from_is_utf8, proofs.lemmas.Str.is_utf8-from_IsUtf8}
+use Rattle.cbor_head.specs.Prelude.{Complaint, plain, complaint, Holds, head, AreBytes}
+use Rattle.cbor_head.specs.declared.{major.Major.TheVariants.Text, reason.Reason.TheVariants.InvalidText}
+use Rattle.cbor_model.proofs.ByteLists.{bytes_prefix}
+use Rattle.cbor_verdict.specs.Levels.{Level, ParseState, bytes_before}
+use Rattle.cbor_verdict.proofs.{CleanParts.clean-prefix, HeadComplaints.heads_free, Leaves.text_complains, RefusedChunks.AreChunksRead, RefusedChunks.no_text}
+use Rattle.cbor_verdict.specs.{Judged.IsJudged, Reading.string_major}
+use Rattle.cbor_parser.specs.inner.Parser.{StandsBefore, IsHeadExpected, IsExpectedFor}
+use Rattle.cbor_parser.specs.inner.Parts.{IsHead, IsPayload, chunked_from}
+use Rattle.cbor_parser.{specs.declared.open_container.OpenContainer.OpenContainer, proofs.GivenItems.string-bytes}
+
+decided : (q : List ℕ) → ((IsUtf8 q → ⊥) → ⊥) → IsUtf8 q
+decided q h = go (is_utf8 q) refl
+  where
+    go : (b : Bool) → is_utf8 q ≡ b → IsUtf8 q
+    go true e = IsUtf8-from_is_utf8 q e
+    go false e = absurd (h (λ u. true≢false (sym (is_utf8-from_IsUtf8 q u) ∙ e)))
+
+-- what is not looked through is known not to be other than UTF-8
+looked-through : (trusts t : Bool) (n size : ℕ) (bytes : List ℕ) → IsPayload trusts t n size bytes → (trusts ≡ true → t ≡ true → (IsUtf8 (take n bytes) → ⊥) → ⊥) → IsPayload false t n size bytes
+looked-through false t n size bytes p known = p
+looked-through true t n size bytes p known = record { all = p.all; inside = p.inside; utf8 = λ _ e. decided (take n bytes) (known refl e) }
+
+-- by its size
+pub sized : (t : Bool) (n size : ℕ) (bytes : List ℕ) → IsPayload false t n size bytes → (size ≤ length bytes) × (t ≡ true → IsUtf8 (take size bytes))
+sized t n size bytes p = subst (λ (k : ℕ). (k ≤ length bytes) × (t ≡ true → IsUtf8 (take k bytes))) (sym p.all) (p.inside, p.utf8 refl)
+
+module _ (S : Type 0) (stands : S → S → ParseState → Type 0) (trusts : Bool) (P : List Level → Type 0) (d : ℕ) (input : List ℕ) (cs : List OpenContainer) where
+  -- nothing at the start has a complaint
+  never-refused : (rest : List ℕ) (s : StandsBefore S stands trusts P d input cs rest) → trusts ≡ true → (p after : List ℕ) → rest ≡ p ++ after → (c : Complaint) → IsJudged plain (length (bytes_before s.ls)) (d - length s.ls) p (Some c) → ⊥
+  never-refused rest s e p after is c j =
+      let (item, more, taken, prefix) = s.known e in
+      clean-prefix d s.ls j.item item p j.rest after more s.levels j.is taken (append_assoc (bytes_before s.ls) p after ∙ ap (λ (x : List ℕ). bytes_before s.ls ++ x) (sym is) ∙ sym s.bytes ∙ prefix)
+      c j.finding.holds j.finding.ends
+
+  no-other-text : (rest : List ℕ) → StandsBefore S stands trusts P d input cs rest → trusts ≡ true → (n : ℕ) (behind : List ℕ) → IsHead Text n rest behind → n ≤ length behind → AreBytes behind → (IsUtf8 (take n behind) → ⊥) → ⊥
+  no-other-text rest s e n behind h inside are none =
+      let q = take n behind in
+      let small : AreBytes q = bytes_prefix q (drop n behind) (subst AreBytes (sym (take-append-drop n behind)) are) in
+      let hd = head Text h.width (length q) in
+      let at = length (bytes_before s.ls) in
+      let c = complaint (at + length hd + length q) (at + length hd + utf8_valid_len q) InvalidText in
+      never-refused rest s e (hd ++ q) (drop n behind) (string-bytes Text n rest behind h inside) c
+      (text_complains h.width q plain at (d - length s.ls) c (subst (Holds h.width) (sym (length-take-le n behind inside)) h.holds, small) (heads_free at Text h.width (length q)) (refl, none, refl))
+
+module _ (S : Type 0) (stands : S → S → ParseState → Type 0) (trusts t : Bool) (top : OpenContainer) (g : S) (n size : ℕ) where
+  pub known-string : (behind : List ℕ) → IsHeadExpected S stands trusts (string_major t) n behind top g → AreBytes behind → IsPayload trusts t n size behind → IsPayload false t n size behind
+  known-string behind (rest, h, (d, outer, (start, input, expected))) are p =
+      looked-through trusts t n size behind p (λ e text. no-other-text S stands trusts _ d input (top ∷ outer) rest expected e n behind (subst (λ (u : Bool). IsHead (string_major u) n rest behind) text h) p.inside are)
+
+  pub known-chunk : (behind rest : List ℕ) → IsExpectedFor S stands trusts top g (chunked_from t behind) → AreChunksRead t (chunked_from t behind) rest → (from : List ℕ) → IsHead (string_major t) n rest from → IsPayload trusts t n size from → IsPayload false t n size from
+  known-chunk behind rest (d, outer, (start, input, expected)) r from h p = looked-through trusts t n size from p (λ e text none.
+      let x = no_text t (chunked_from t behind) rest r h.width n from h.is h.holds text p.inside none in
+      never-refused S stands trusts _ d input (top ∷ outer) (chunked_from t behind) expected e x.prefix (drop n from) x.splits _ (x.judged (length (bytes_before expected.ls)) (d - length expected.ls)))

@@ -1,0 +1,44 @@
+use Rattle.std.proofs.Common.{◌≡◌, ◌+◌, ◌-◌, ◌*◌, ◌%◌, ◌<◌, ◌≤◌, ℕ, List, get_or, ap, sym, subst, inl, inr, arith, refl}
+use Rattle.cbor_head.specs.declared.major.Major.TheVariants.{Tag, Simple}
+use Rattle.cbor_parser.proofs.GivenItems.{head-here, simple-here, tag-opens}
+use Rattle.cbor_parser.proofs.parser.Parser.take_part.Goals as goal
+use Rattle.cbor_parser.specs.{Stack.around, Stack.open_levels, declared.open_container.OpenContainer.OpenContainer, inner.Parser.TakesTo}
+use Rattle.cbor_parser.specs.inner.Parts.{IsHead, IsOpener}
+use Rattle.cbor_parser.proofs.parser.Parser.take_part.Goals.{After-counted-opened, Else-number-lt32}
+
+tag_opener : (g : _) (c : After-counted-opened g) → IsOpener Tag c.in-Some-read_argument.head.number c.counted-opened.result c.args.rest.now c.in-Some-read_argument.head.rest.now
+tag_opener g c =
+    let h = c.in-Some-read_argument.head in
+    tag-opens h.number c.counted-opened.result c.args.rest.now h.rest.now c.counted-opened.ensures
+    (head-here Tag c.in-Some.first.now c.in-Some.behind.now h.rest.now h.width h.number c.in-Some-read_argument.ensures.spelled (omega (arith, c.in-6.is)) (λ e. cc e) c.args.rest.now c.in-Some.ensures.cases.0)
+
+simple_head : (g : _) (c : Else-number-lt32 g) → IsHead Simple c.in-Some-read_argument.head.number c.args.rest.now c.in-Some-read_argument.head.rest.now
+simple_head g c =
+    let h = c.in-Some-read_argument.head in
+    let first = c.in-Some.first.now in
+    let e = c.in-Some-read_argument.ensures in
+    let high : 32 * 7 + first % 32 ≡ first = omega (arith, c.in_default-2, c.type_inv.rest 0, ap (λ (x : List ℕ). get_or x 0 0) c.in-Some.ensures.cases.0) in
+    let wide : first % 32 ≡ 24 → (32 ≤ h.number) × (h.number < 256) = λ f. (elim c.if-number-lt32.either [ inl x ↦ x.1 | inr x ↦ absurd (x f) ], e.byte f) in
+    let proper = simple-here (first % 32) c.in-Some.behind.now h.width h.number h.rest.now e.spelled c.if-low-gt24.false e.direct wide in
+    head-here Simple first c.in-Some.behind.now h.rest.now h.width h.number e.spelled high (λ f. proper) c.args.rest.now c.in-Some.ensures.cases.0
+
+pub open-requires : goal.open-requires
+open-requires g c = λ n. ((refl, tt), (tt, (c.requires.cells, (c.args.rest.now, tag_opener g (goal.at.open-requires g c).After-counted-opened, (c.args.depth, around OpenContainer c.args.self.now.stack c.args.cells.now, c.requires.expected)))))
+
+pub returns-in-6-clause-takes : goal.returns-in-6-clause-takes
+returns-in-6-clause-takes g c = c.open.ensures.takes c.args.rest.now (tag_opener g (goal.at.returns-in-6-clause-takes g c).After-counted-opened)
+
+pub returns-in-6-clause-prefix : goal.returns-in-6-clause-prefix
+returns-in-6-clause-prefix g c = c.open.ensures.prefix c.args.rest.now (tag_opener g (goal.at.returns-in-6-clause-prefix g c).After-counted-opened) c.args.self.now.stack.top
+
+pub give_leaf-requires : goal.give_leaf-requires
+give_leaf-requires g c = λ n. ((refl, tt), (tt, (c.args.rest.now, simple_head g (goal.at.give_leaf-requires g c).Else-number-lt32, (c.args.depth, around OpenContainer c.args.self.now.stack c.args.cells.now, c.requires.expected))))
+
+pub returns-else-number-lt32-clause-takes : goal.returns-else-number-lt32-clause-takes
+returns-else-number-lt32-clause-takes g c = λ start input expected.
+    subst (λ s. TakesTo g.row.S.Denot g.S.Sink.stands g.S.Sink.trusts g.S.Sink.holds c.give_leaf.result start c.args.depth input c.args.rest.now (open_levels OpenContainer s c.args.cells.now) c.give_leaf.new.self.sink) (sym c.give_leaf.ensures.stack)
+    (c.give_leaf.ensures.takes c.args.rest.now (simple_head g (goal.at.returns-else-number-lt32-clause-takes g c).Else-number-lt32) c.args.depth (around OpenContainer c.args.self.now.stack c.args.cells.now) start input expected)
+
+pub returns-else-number-lt32-clause-prefix : goal.returns-else-number-lt32-clause-prefix
+returns-else-number-lt32-clause-prefix g c =
+    c.give_leaf.ensures.prefix c.args.rest.now (simple_head g (goal.at.returns-else-number-lt32-clause-prefix g c).Else-number-lt32) (c.args.depth - c.args.self.now.stack.height) c.args.self.now.stack.top

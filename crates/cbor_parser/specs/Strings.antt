@@ -1,0 +1,44 @@
+-- The string, or the chunk of one, whose head stands at the start.
+use Rattle.std.specs.Prelude.{◌≡◌, ℕ, ◌+◌, ◌-◌, ◌%◌, ◌<◌, ◌≤◌, ◌⊎◌, Bool, IsTrue, IsUtf8, List, ◌∷◌, length, take, get_or}
+use Rattle.std.specs.Str.Lossy.{utf8_valid_len}
+use Rattle.cbor_head.specs.Prelude.{Rules, OfHead, refusal}
+use Rattle.cbor_head.specs.declared.{major.Major.Major, reason.Reason.TheVariants.Truncated, reason.Reason.TheVariants.InvalidText, reason.Refusal.Refusal}
+use Rattle.cbor_model.specs.Argument.{IsArgument}
+use Rattle.cbor_verdict.specs.{Judged.Never, RefusedHere.IsRefusedBy}
+use Rattle.cbor_parser.specs.declared.argument.Argument.{Argument}
+
+-- the head of a string, and what follows it
+pub record IsStringHead (b : List ℕ) (head : Argument) : Type 0 where
+  pub first : ℕ
+  pub behind : List ℕ
+  pub is : b ≡ first ∷ behind
+  pub low : 64 ≤ first
+  pub high : first < 128
+  pub argument : IsArgument (first % 32) behind head.width head.number head.rest.now
+  pub fewer : length head.rest.now ≤ length behind
+
+-- its payload stands there whole, and is UTF-8 where it is a text's
+pub record IsStringWhole (b : List ℕ) (head : Argument) : Type 0 where
+  pub inside : head.number ≤ length head.rest.now
+  pub utf8 : 96 ≤ get_or b 0 0 → IsUtf8 (take head.number head.rest.now)
+
+-- of its payload less is there
+pub record IsCutOff (b : List ℕ) (head : Argument) (at : ℕ) (f : Refusal) : Type 0 where
+  pub less : length head.rest.now < head.number
+  pub is : f ≡ refusal Truncated (at + length b) (at + length b)
+
+-- it is a text's, and there, and not UTF-8
+pub record IsNoText (b : List ℕ) (head : Argument) (at : ℕ) (f : Refusal) : Type 0 where
+  pub text : 96 ≤ get_or b 0 0
+  pub inside : head.number ≤ length head.rest.now
+  pub none : IsUtf8 (take head.number head.rest.now) → ⊥
+  pub is : f ≡ refusal InvalidText (at + (length b - length head.rest.now) + utf8_valid_len (take head.number head.rest.now)) (at + (length b - length head.rest.now) + head.number)
+
+-- at this place
+abbrev pub IsStringFault : List ℕ → Argument → ℕ → Refusal → Type 0
+IsStringFault b head at f = IsCutOff b head at f ⊎ IsNoText b head at f
+
+-- it is refused so by rules that ask for UTF-8, and have nothing against its head
+abbrev pub IsStringRefused : List ℕ → Argument → ℕ → Refusal → Type 0
+IsStringRefused b head at f =
+    (r : Rules) (space : Bool) → IsTrue r.texts → ((to : ℕ) (m : Major) → Never (OfHead r to m head.width head.number)) → IsRefusedBy r space b at f

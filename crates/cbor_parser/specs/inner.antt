@@ -1,0 +1,13 @@
+-- What private functions speak of; the public contracts do not.
+pub mod CanonicalEnds
+pub mod Cells
+pub mod Faults
+pub mod Items
+pub mod Kept
+pub mod Leaves
+pub mod OpenContainer
+pub mod OpenMaps
+pub mod Parser
+pub mod Parts
+pub mod Repeated
+pub mod Skip

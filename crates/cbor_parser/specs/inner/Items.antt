@@ -1,0 +1,66 @@
+-- What stands where an item is expected, by the rules of the deterministic encoding.
+use Rattle.std.specs.Prelude.{◌≡◌, ℕ, suc, ◌+◌, ◌-◌, ◌^◌, ◌%◌, ◌<◌, ◌≤◌, ◌⊎◌, ◌++◌, Bool, true, false, List, ◌∷◌, length, drop}
+use Rattle.cbor_head.specs.Prelude.{strict, shortest_head, Bounds}
+use Rattle.cbor_head.specs.declared.major.Major.TheVariants.{Array, Map, Tag}
+use Rattle.cbor_head.specs.declared.{keys.Keys.TheVariants.IntegersAndTexts, order.KeyOrder.KeyOrder, reason.Refusal.Refusal}
+use Rattle.cbor_verdict.specs.{PathKinds.IsFitPrefix, RefusedHere.IsRefusedBy}
+use Rattle.cbor_parser.specs.declared.item_start.Any.TheVariants.{Leaf, Opens, Refused}
+use Rattle.cbor_parser.specs.declared.fast_item.FastItem.TheVariants as short
+use Rattle.cbor_parser.specs.declared.container.Expected.TheVariants.{Item, Key, Value}
+use Rattle.cbor_parser.specs.{inner.Leaves.IsLeaf, inner.Leaves.IsShortest, declared.item_start.Any.Any, declared.fast_item.FastItem.FastItem}
+use Rattle.cbor_parser.specs.declared.container.Expected.{Expected}
+
+-- a key that is expected is of the kinds that are asked for, where these are its bytes
+abbrev pub IsFit : Bounds → Expected → List ℕ → Type 0
+IsFit limits expected b = limits.keys ≡ IntegersAndTexts → expected ≡ Key → IsFitPrefix b
+
+-- ---- an item or a head
+
+-- the head of a container in which this is expected, and so many members or pairs more; and what follows it
+abbrev pub IsOpener : Expected → ℕ → List ℕ → List ℕ → Type 0
+IsOpener Item left b rest = ((suc left < 2 ^ 64) × (b ≡ shortest_head Array (suc left) ++ rest)) ⊎ ((left ≡ 0) × ((n : ℕ) × (n < 2 ^ 64) × (b ≡ shortest_head Tag n ++ rest)))
+IsOpener Key left b rest = (suc left < 2 ^ 64) × (b ≡ shortest_head Map (suc left) ++ rest)
+IsOpener Value left b rest = ⊥
+
+-- it takes so many bytes
+pub record OpensWith (expected : Expected) (left used : ℕ) (b : List ℕ) : Type 0 where
+  pub some : 0 < used
+  pub inside : used ≤ length b
+  pub opener : IsOpener expected left b (drop used b)
+
+-- and there is space for it
+pub record OpensHere (space : Bool) (b : List ℕ) (expected : Expected) (left used : ℕ) : Type 0 where
+  pub fits : space ≡ true
+  pub opens : OpensWith expected left used b
+
+abbrev pub IsRefusedHere : Bool → List ℕ → ℕ → Refusal → Type 0
+IsRefusedHere space b at f = (o : KeyOrder) → IsRefusedBy (strict o) space b at f
+
+abbrev pub IsAny : List ℕ → ℕ → Bool → Any → Type 0
+IsAny b at space (Leaf used) = (0 < used) × IsLeaf space b used
+IsAny b at space (Opens expected left used) = OpensHere space b expected left used
+IsAny b at space (Refused f) = IsRefusedHere space b at f
+
+-- ---- what the fast ways find
+
+-- a string with this first byte stands at the start, its head in its shortest form and all of its payload, which lies there
+pub record IsShortString (first : ℕ) (b : List ℕ) (payload end : ℕ) : Type 0 where
+  pub behind : List ℕ
+  pub is : b ≡ first ∷ behind
+  pub count : ℕ
+  pub rest : List ℕ
+  pub head : IsShortest (first % 32) behind count rest
+  pub fewer : length rest ≤ length behind
+  pub begins : payload ≡ 1 + (length behind - length rest)
+  pub size : end ≡ payload + count
+  pub inside : end ≤ length b
+
+abbrev pub IsShortPrefix : FastItem → List ℕ → Type 0
+IsShortPrefix (short.Item used) b = (0 < used) × IsLeaf false b used
+IsShortPrefix (short.Opens expected left used) b = OpensWith expected left used b
+IsShortPrefix short.Other b = Unit {0}
+
+-- something is said
+abbrev pub IsSaid : FastItem → Type 0
+IsSaid short.Other = ⊥
+IsSaid _ = Unit {0}

@@ -1,0 +1,74 @@
+-- What is still to come in an open container, and what stands behind its head.
+use Rattle.std.specs.Prelude.{ℕ, zero, suc, ◌+◌, ◌-◌, ◌++◌, Bool, true, false, Option, Some, None, List, [], ◌∷◌, length}
+use Rattle.cbor_head.specs.Prelude.{head, Spelling, spellings_count, entries_count}
+use Rattle.cbor_head.specs.Spelling as spelling
+use Rattle.cbor_head.specs.declared.major.Major.TheVariants.{Array, Map, Tag}
+use Rattle.cbor_head.specs.declared.width.Width.TheVariants.{Indefinite}
+use Rattle.cbor_verdict.specs.Levels.{Level, a_member, a_key, a_value, some_member, some_key, some_value, tagged, bytes_before}
+use Rattle.cbor_parser.specs.declared.container.Expected.TheVariants.{Item, Key, Value}
+use Rattle.cbor_parser.specs.declared.{container.Expected.Expected, open_container.OpenContainer.OpenContainer}
+
+abbrev pub counted : Expected → ℕ → ℕ → OpenContainer
+counted expected left behind = record { expected = expected; left = left; behind = behind; is_indefinite = false }
+
+abbrev pub indefinite : Expected → ℕ → OpenContainer
+indefinite expected behind = record { expected = expected; left = 0; behind = behind; is_indefinite = true }
+
+-- ---- the head with which it begins
+
+abbrev pub opener : Level → List ℕ
+opener (a_member w left done) = head Array w (spellings_count done + suc left)
+opener (a_key w left done) = head Map w (entries_count done + suc left)
+opener (a_value w left done k) = head Map w (entries_count done + suc left)
+opener (some_member done) = head Array Indefinite 0
+opener (some_key done) = head Map Indefinite 0
+opener (some_value done k) = head Map Indefinite 0
+opener (tagged w n) = head Tag w n
+
+-- of one that is whole; of another item nothing
+abbrev pub full_opener : Spelling → List ℕ
+full_opener (spelling.array w ss) = head Array w (spellings_count ss)
+full_opener (spelling.a_map w es) = head Map w (entries_count es)
+full_opener (spelling.tag w n s) = head Tag w n
+full_opener _ = []
+
+-- ---- the cells
+
+-- where so many bytes are behind its head
+abbrev pub cell_of : ℕ → Level → OpenContainer
+cell_of behind (a_member w left done) = counted Item left behind
+cell_of behind (a_key w left done) = counted Key left behind
+cell_of behind (a_value w left done k) = counted Value left behind
+cell_of behind (some_member done) = indefinite Item behind
+cell_of behind (some_key done) = indefinite Key behind
+cell_of behind (some_value done k) = indefinite Value behind
+cell_of behind (tagged w n) = counted Item 0 behind
+
+-- so many are, within these containers, in an input of so many bytes
+abbrev pub behind_head : ℕ → List Level → Level → ℕ
+behind_head n ls l = n - length (bytes_before ls ++ opener l)
+
+-- in all of them, within an input of so many bytes; the input itself is the outermost, in which one item is expected
+abbrev pub cells_of : ℕ → List Level → List OpenContainer
+cells_of n [] = counted Item 0 0 ∷ []
+cells_of n (l ∷ ls) = cell_of (behind_head n ls l) l ∷ cells_of n ls
+
+-- ---- an item of it is whole
+
+abbrev pub fewer : Expected → ℕ → ℕ → Bool → Option OpenContainer
+fewer expected (suc left) behind e = Some (record { expected = expected; left = left; behind = behind; is_indefinite = e })
+fewer expected zero behind true = Some (indefinite expected behind)
+fewer expected zero behind false = None
+
+-- behind a member, or a pair; nothing, if it was the last
+abbrev pub after_member : OpenContainer → Option OpenContainer
+after_member c = fewer c.expected c.left c.behind c.is_indefinite
+
+abbrev pub after_expected : Expected → OpenContainer → Option OpenContainer
+after_expected Item c = after_member c
+after_expected Key c = Some (record c { expected = Value })
+after_expected Value c = after_member (record c { expected = Key })
+
+-- behind an item
+abbrev pub after : OpenContainer → Option OpenContainer
+after c = after_expected c.expected c

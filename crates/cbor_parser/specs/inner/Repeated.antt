@@ -1,0 +1,36 @@
+-- A key of an open map that is the same as an earlier one, by what stands behind the map's head and how many pairs stand before it.
+use Rattle.std.specs.Prelude.{ℕ, suc, ◌≡◌, ◌≤◌, ◌-◌, ◌^◌, ◌++◌, Option, Some, List, ◌∷◌, length}
+use Rattle.cbor_head.specs.Prelude.{canonical, canonical_entries, plain, Bounds, Spelling, SpelledEntries, spell, entries_count, value_of, entries_of}
+use Rattle.cbor_head.specs.declared.order.KeyOrder.{KeyOrder}
+use Rattle.cbor_builder.specs.{Built.HasKey, Built.AreOpenKeysDifferent, declared.repeat.Repeat.Repeat}
+use Rattle.cbor_verdict.specs.Levels.{IsTaken, Level, AreLevels, bytes_before}
+use Rattle.cbor_verdict.specs.{Given.opens, Kinds.KeepsToKinds}
+use Rattle.cbor_parser.specs.{Sink.IsKeyBehind, inner.OpenContainer.opener, inner.OpenMaps.FindsMap, declared.open_container.OpenContainer.OpenContainer}
+
+-- The input's item has come to a key that has the canonical bytes of an earlier one of its map, as no two keys before it. So many
+-- bytes of the input stand behind the map's head.
+pub record IsKeyReported (limits : Bounds) (input : List ℕ) (behind pair : ℕ) : Type 0 where
+  pub level : Level
+  pub outer : List Level
+  pub levels : AreLevels limits.depth (level ∷ outer)
+  pub es : SpelledEntries
+  pub is_behind : IsKeyBehind level es
+  pub count : entries_count es ≡ pair
+  pub key : Spelling
+  pub taken : IsTaken (limits.depth - suc (length outer)) key
+  pub order : KeyOrder
+  pub held : HasKey (canonical_entries order (entries_of es)) (canonical order (value_of key))
+  pub apart : AreOpenKeysDifferent (opens order (level ∷ outer))
+  pub more : List ℕ
+  pub bytes : input ≡ bytes_before (level ∷ outer) ++ (spell key ++ more)
+  pub small : length input ≤ 2 ^ 62
+  pub keeps : KeepsToKinds limits plain (bytes_before (level ∷ outer) ++ spell key)
+  pub begins : behind ≡ length input - length (bytes_before outer ++ opener level)
+
+-- a cell that is found has what is reported of its map's key
+abbrev pub IsCellReported : Bounds → List ℕ → Option OpenContainer → ℕ → Type 0
+IsCellReported limits input found pair = (c : OpenContainer) × (found ≡ Some c) × IsKeyReported limits input c.behind pair
+
+-- the map of the key that is reported has one of these cells
+abbrev pub IsKeyReportedIn : Bounds → List ℕ → List OpenContainer → Repeat → Type 0
+IsKeyReportedIn limits input cells repeat = (found : Option OpenContainer) → FindsMap cells repeat.outside found → IsCellReported limits input found repeat.pair

@@ -1,0 +1,42 @@
+//! Why a string in chunks is refused.
+
+ghost use Rattle.std.specs.Prelude.{◌<◌, ◌+◌, ◌^◌, length, IfSome};
+ghost use Rattle.cbor_parser.specs.inner.Parts.{chunked_from};
+ghost use Rattle.cbor_parser.specs.inner.Faults.{AreChunksRefused};
+
+use crate::argument::read_argument;
+use crate::item_start::{refusal_at, string_refusal};
+use cbor_head::{Reason, Refusal};
+
+/// The refusal of the string in chunks whose opener stands at this place of the input, before these
+/// bytes: of the first chunk that is none, or that is cut off. None where a break ends it.
+#[cold]
+#[inline(never)]
+pub(crate) fn chunks_fault(is_text: bool, behind: &[u8], at: usize) -> Option<Refusal>
+    requires { at + 1 + length behind.now < 2 ^ 63 }
+    ensures { IfSome result (AreChunksRefused (chunked_from is_text behind.now) at) }
+{
+    let kind = if is_text { 3 } else { 2 };
+    let end = at + 1 + behind.len();
+    let mut rest = behind;
+    'chunks: loop {
+        let Some((first, behind)) = rest.split_first() else {
+            return Some(refusal_at(Reason::Truncated, end, end));
+        };
+        if *first == 0xff {
+            return None;
+        }
+        let here = end - rest.len();
+        let low = *first % 32;
+        if *first / 32 != kind || low > 27 {
+            return Some(refusal_at(Reason::BadChunk, here, here + 1));
+        }
+        let Some(head) = read_argument(low, behind) else {
+            return Some(refusal_at(Reason::Truncated, end, end));
+        };
+        if let Some(refusal) = string_refusal(rest, head, here) {
+            return Some(refusal);
+        }
+        rest = &head.rest[head.number as usize..];
+    }
+}

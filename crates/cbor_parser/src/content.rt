@@ -1,0 +1,111 @@
+//! The strings of a valid item: their payloads, in one piece or in chunks.
+
+ghost use Rattle.std.specs.Prelude.{◌≡◌, ◌∷◌, IfSome};
+ghost use Rattle.cbor_verdict.specs.Reading.{string_major};
+ghost use Rattle.cbor_parser.specs.inner.Parser.{IsHeadExpected, TakesHead, IsExpectedFor, TakesItem};
+ghost use Rattle.cbor_parser.specs.inner.Parts.{IsItem, IsHead, IsPayload, chunked_from, TakesScalar, TakesHeadPrefix};
+
+use crate::argument::{Argument, read_argument};
+use crate::parser::Parser;
+use crate::part::Part;
+use crate::sink::Sink;
+use cbor_text::is_text_prefix;
+
+impl<S> Parser<S> {
+    /// The string of so many bytes whose head stands before these.
+    #[inline(always)]
+    pub(crate) fn take_string<'a>(
+        &mut self,
+        is_text: bool,
+        count: u64,
+        behind: &'a [u8],
+    ) -> Part<'a>
+    where
+        S: Sink<'a>,
+        requires head { IsHeadExpected S S.stands S.trusts (string_major is_text) count behind.now
+            self.old.stack.top self.old.sink }
+        ensures takes { TakesHead S S.stands S.trusts S.holds result (string_major is_text) count behind.now
+            self.old.stack.top self.old.sink self.new.sink }
+        ensures stack { self.new.stack ≡ self.old.stack }
+        ensures kind { IsItem result }
+        ensures prefix { TakesHeadPrefix result (string_major is_text) count behind.now }
+    {
+        let Some(size) = payload_size::<S>(is_text, count, behind) else {
+            return Part::Untaken;
+        };
+        let is_key = self.stack.top.expected.is_key();
+        match self.sink.string(is_key, is_text, behind, size) {
+            Ok(()) => Part::Item(&behind[size..]),
+            Err(_) => Part::Stopped,
+        }
+    }
+
+    /// The string in chunks whose opener stands before these bytes.
+    pub(crate) fn take_chunks<'a>(&mut self, is_text: bool, behind: &'a [u8]) -> Part<'a>
+    where
+        S: Sink<'a>,
+        requires opener { IsExpectedFor S S.stands S.trusts self.old.stack.top self.old.sink
+            (chunked_from is_text behind.now) }
+        ensures takes { TakesItem S S.stands S.trusts S.holds result (chunked_from is_text behind.now)
+            self.old.stack.top self.old.sink self.new.sink }
+        ensures stack { self.new.stack ≡ self.old.stack }
+        ensures kind { IsItem result }
+        ensures prefix { TakesScalar result (chunked_from is_text behind.now) }
+    {
+        let is_key = self.stack.top.expected.is_key();
+        let Ok(()) = self.sink.begin_string(is_key, is_text) else {
+            return Part::Stopped;
+        };
+        let mut rest = behind;
+        'chunks: loop {
+            let Some((first, behind)) = rest.split_first() else {
+                return Part::Broken;
+            };
+            if *first == 0xff {
+                return match self.sink.end_string(is_key, is_text) {
+                    Ok(()) => Part::Item(behind),
+                    Err(_) => Part::Stopped,
+                };
+            }
+            let Some(head) = chunk_head(is_text, *first, behind) else {
+                return Part::Broken;
+            };
+            let Some(size) = payload_size::<S>(is_text, head.number, head.rest) else {
+                return Part::Broken;
+            };
+            let Ok(()) = self.sink.chunk(is_key, is_text, head.rest, size) else {
+                return Part::Stopped;
+            };
+            rest = &head.rest[size..];
+        }
+    }
+}
+
+// The head of a chunk with this first byte.
+#[inline(always)]
+fn chunk_head<'a>(is_text: bool, first: u8, behind: &'a [u8]) -> Option<Argument<'a>>
+    ensures { IfSome result (λ head.
+        IsHead (string_major is_text) head.number (first ∷ behind.now) head.rest.now) }
+{
+    let kind = if is_text { 3 } else { 2 };
+    if first / 32 != kind || first % 32 > 27 {
+        return None;
+    }
+    read_argument(first % 32, behind)
+}
+
+// A payload of so many bytes as a size, if it stands at the start, and is UTF-8 where it is a text's. Where
+// the item is known to be valid, its texts are UTF-8, and are not looked through.
+#[inline(always)]
+fn payload_size<'a, S: Sink<'a>>(is_text: bool, count: u64, rest: &'a [u8]) -> Option<usize>
+    ensures { IfSome result (λ size. IsPayload S.trusts is_text count size rest.now) }
+{
+    if count > rest.len() as u64 {
+        return None;
+    }
+    let size = count as usize;
+    if is_text && !S::is_trusting() && !is_text_prefix(rest, size) {
+        return None;
+    }
+    Some(size)
+}

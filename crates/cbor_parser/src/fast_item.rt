@@ -1,0 +1,156 @@
+//! Short items and short heads at the start of a slice: fast, and where one isn't found, nothing is
+//! said.
+
+ghost use Rattle.std.specs.Prelude.{◌≡◌, ◌<◌, ◌≤◌, ◌-◌, ◌*◌, ◌/◌, ◌^◌, ◌∷◌, ℕ, List, true, IfSome};
+ghost use Rattle.cbor_verdict.specs.PathKinds.{IsFitPrefix};
+ghost use Rattle.cbor_parser.specs.inner.Leaves.{HasShortestHead};
+ghost use Rattle.cbor_parser.specs.inner.Items.{IsShortPrefix, IsShortString, IsSaid};
+
+use crate::container::Expected;
+use cbor_head::argument_bytes;
+use cbor_text::is_text_prefix;
+
+/// What the fast ways find.
+#[derive(Clone, Copy)]
+pub(crate) enum FastItem {
+    /// An item of so many bytes.
+    Item(usize),
+    /// The head, of so many bytes, of a container in which this is expected, and so many members or pairs
+    /// more.
+    Opens(Expected, u64, usize),
+    /// Nothing is said.
+    Other,
+}
+
+/// What stands there, if it is a short item or head in its shortest form. Where kinds of keys are
+/// asked for and this is expected, of a key that is neither an integer nor a text nothing is said.
+#[inline(always)]
+pub(crate) fn fast_item<const KINDS: bool>(first: u8, rest: &[u8], expected: &Expected) -> FastItem
+    requires { (behind : List ℕ) × (rest.now ≡ first ∷ behind) }
+    ensures prefix { IsShortPrefix result rest.now }
+    ensures fits { IsSaid result → KINDS ≡ true → expected.now ≡ Expected.Key → IsFitPrefix rest.now }
+{
+    match first / 32 {
+        0 | 1 => match head_size(first, rest) {
+            0 => FastItem::Other,
+            size => FastItem::Item(size),
+        },
+        2 | 3 => string::<KINDS>(first, rest, expected),
+        // Neither an integer nor a text.
+        _ if KINDS && expected.is_key() => FastItem::Other,
+        4 | 5 => container(first, rest),
+        6 => match head_size(first, rest) {
+            0 => FastItem::Other,
+            size => FastItem::Opens(Expected::Item, 0, size),
+        },
+        // A simple value of one byte.
+        _ if first < 0xf8 => FastItem::Item(1),
+        _ => FastItem::Other,
+    }
+}
+
+// How many bytes the head has that stands there, in its shortest form; 0 says nothing.
+#[inline(always)]
+fn head_size(first: u8, rest: &[u8]) -> usize
+    requires { (behind : List ℕ) × (rest.now ≡ first ∷ behind) }
+    ensures { 0 < result → HasShortestHead first result rest.now }
+{
+    let low = first % 32;
+    if low < 24 {
+        return 1;
+    }
+    if low > 27 {
+        return 0;
+    }
+    let behind = &rest[1..];
+    match behind.first_chunk::<8>() {
+        Some(chunk) => {
+            if u64::from_be_bytes(*chunk) < least(low) {
+                return 0;
+            }
+            1 + usize::from(argument_bytes(low))
+        }
+        // Near the end of an input, of an argument of one byte.
+        None if low == 24 && !behind.is_empty() && behind[0] >= 24 => 2,
+        None => 0,
+    }
+}
+
+// Below this, as a number from its first byte on, the argument behind these low bits is not in its
+// shortest form.
+#[inline(always)]
+fn least(low: u8) -> u64
+    ensures one { low ≡ 24 → result ≡ 24 * 2 ^ 56 }
+    ensures two { low ≡ 25 → result ≡ 2 ^ 56 }
+    ensures four { low ≡ 26 → result ≡ 2 ^ 48 }
+    ensures eight { low ≡ 27 → result ≡ 2 ^ 32 }
+{
+    match low {
+        24 => 24 << 56,
+        25 => 1 << 56,
+        26 => 1 << 48,
+        _ => 1 << 32,
+    }
+}
+
+// A string of up to 255 bytes.
+#[inline(always)]
+fn string<const KINDS: bool>(first: u8, rest: &[u8], expected: &Expected) -> FastItem
+    requires prefix { (behind : List ℕ) × (rest.now ≡ first ∷ behind) }
+    requires kind { (64 ≤ first) × (first < 128) }
+    ensures prefix { IsShortPrefix result rest.now }
+    ensures fits { IsSaid result → KINDS ≡ true → expected.now ≡ Expected.Key → IsFitPrefix rest.now }
+{
+    let Some((payload, end)) = short_string(first, rest) else {
+        return FastItem::Other;
+    };
+    if first < 0x60 {
+        if KINDS && expected.is_key() {
+            return FastItem::Other;
+        }
+        return FastItem::Item(end);
+    }
+    if is_text_prefix(&rest[payload..], end - payload) {
+        return FastItem::Item(end);
+    }
+    FastItem::Other
+}
+
+// Where the payload begins and ends of a string of up to 255 bytes, if all of it is there.
+#[inline(always)]
+fn short_string(first: u8, rest: &[u8]) -> Option<(usize, usize)>
+    requires { (behind : List ℕ) × (rest.now ≡ first ∷ behind) }
+    ensures { IfSome result (λ r. IsShortString first rest.now r.0 r.1) }
+{
+    let low = first % 32;
+    let (payload, end) = if low < 24 {
+        (1, 1 + usize::from(low))
+    } else if low == 24 && rest.len() > 1 && rest[1] >= 24 {
+        (2, 2 + usize::from(rest[1]))
+    } else {
+        return None;
+    };
+    if end > rest.len() {
+        return None;
+    }
+    Some((payload, end))
+}
+
+// An array or map of 1 to 23 members or pairs.
+#[inline(always)]
+fn container(first: u8, rest: &[u8]) -> FastItem
+    requires prefix { (behind : List ℕ) × (rest.now ≡ first ∷ behind) }
+    requires kind { (128 ≤ first) × (first < 192) }
+    ensures { IsShortPrefix result rest.now }
+{
+    let low = first % 32;
+    if low == 0 || low > 23 {
+        return FastItem::Other;
+    }
+    let expected = if first < 0xa0 {
+        Expected::Item
+    } else {
+        Expected::Key
+    };
+    FastItem::Opens(expected, u64::from(low) - 1, 1)
+}

@@ -1,0 +1,34 @@
+//! The slice parser, in one loop without recursion: it accepts canonical bytes, or any valid item whose parts it gives to a sink.
+//!
+//! `cbor_strict` calls [`canonical_prefix`], which stops at the first byte, head, text or key that no canonical item has
+//! there. `cbor_sinks`, `cbor_reader` and `cbor_diag` call [`Parser::parse_item`], which gives the parts of any valid item to a
+//! [`Sink`]. Both report the exact refusal. Open containers stand in a stack that grows from 8 to 64 to 1,024 entries, so
+//! that a shallow item does not pay for the greatest depth.
+#![tactic(auto)]
+
+mod argument;
+mod canonical;
+mod canonical_walk;
+mod chunk_refusal;
+mod container;
+mod content;
+mod fast_item;
+mod indefinite;
+mod item_start;
+mod kinds;
+mod limit;
+mod open_container;
+mod parse;
+mod parser;
+mod part;
+mod refusal;
+mod repeated_key;
+mod sink;
+mod skip;
+mod stack;
+mod take_item;
+
+pub use argument::{Argument, read_argument};
+pub use canonical::canonical_prefix;
+pub use parser::Parser;
+pub use sink::Sink;

@@ -1,0 +1,60 @@
+//! The refusal of a key that is the same as an earlier one of its map, where it is reported which it is.
+
+ghost use Rattle.std.specs.Prelude.{◌≡◌, ◌≤◌, ℕ, List, length, take, IfSome};
+ghost use Rattle.cbor_head.specs.Complaint.{plain};
+ghost use Rattle.cbor_head.specs.Verdict.{IsVerdict, refused};
+ghost use Rattle.cbor_parser.specs.Stack.{open_levels};
+ghost use Rattle.cbor_parser.specs.inner.OpenMaps.{FindsMap};
+ghost use Rattle.cbor_parser.specs.inner.Repeated.{IsKeyReported};
+
+use crate::open_container::OpenContainer;
+use crate::skip::past_items;
+use crate::stack::Stack;
+use cbor_head::{Limits, Reason, Refusal};
+
+/// The refusal of a key that is the same as an earlier one, by how many bytes of the input stand
+/// behind its map's head, and how many pairs stand before it.
+pub(crate) fn repeated_key(
+    input: &[u8],
+    behind: usize,
+    pair: usize,
+    limits: Limits,
+) -> Option<Refusal>
+    requires { IsKeyReported limits input.now behind pair }
+    ensures { IfSome result (λ f. (bytes : List ℕ) → input.now ≡ take limits.bytes bytes
+        → IsVerdict limits plain bytes (refused f)) }
+{
+    let depth = usize::from(limits.depth());
+    let pairs = &input[input.len() - behind..];
+    // That these end is known; the walk over them could only want memory, and takes none.
+    let key = past_items(pairs, 2 * pair as u64, depth)?;
+    let rest = past_items(key, 1, depth)?;
+    let at = (input.len() - key.len()) as u64;
+    let end = (input.len() - rest.len()) as u64;
+    Some(Refusal::new(Reason::RepeatedKey, at, end))
+}
+
+/// The cell of the open map around which so many maps are open, in these cells.
+pub(crate) fn reported_map(
+    stack: &Stack<OpenContainer>,
+    cells: &[OpenContainer],
+    outside: usize,
+) -> Option<OpenContainer>
+    requires { stack.now.height ≤ length cells.now }
+    ensures { FindsMap (open_levels OpenContainer stack.now cells.now) outside result }
+{
+    let mut left = outside;
+    for cell in &cells[..stack.height] {
+        if cell.expected.is_in_map() {
+            if left == 0 {
+                return Some(*cell);
+            }
+            left -= 1;
+        }
+    }
+    if left == 0 && stack.top.expected.is_in_map() {
+        Some(stack.top)
+    } else {
+        None
+    }
+}

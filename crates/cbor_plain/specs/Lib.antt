@@ -1,4 +1,0 @@
-pub mod Front
-pub mod inner
-pub mod Size
-pub mod TreeValues

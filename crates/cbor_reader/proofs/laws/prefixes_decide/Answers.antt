@@ -1,0 +1,9 @@
+use Rattle.cbor_head.specs.Prelude.{accepted, refused}
+use Rattle.cbor_verdict.proofs.Further.{further}
+use Rattle.cbor_reader.proofs.laws.prefixes_decide.Goals as goal
+
+pub returns-clause-accepted : goal.returns-clause-accepted
+returns-clause-accepted c = λ limits r prefix behind s v. further limits r prefix behind (accepted s) v tt
+
+pub returns-clause-refused : goal.returns-clause-refused
+returns-clause-refused c = λ limits r prefix behind f v apart. further limits r prefix behind (refused f) v apart

@@ -1,0 +1,10 @@
+-- The item at the start of an input, and its canonical bytes.
+use Rattle.std.specs.Prelude.{◌≡◌, ℕ, List}
+use Rattle.cbor_head.specs.Prelude.{canonical, plain, Bounds, value_of}
+use Rattle.cbor_head.specs.declared.order.KeyOrder.{KeyOrder}
+use Rattle.cbor_verdict.specs.Readers.{IsRead}
+
+-- it is accepted by the plain rules, and has so many bytes
+pub record IsBuiltPrefix (limits : Bounds) (o : KeyOrder) (input out : List ℕ) (size : ℕ) : Type 0 where
+  pub read : IsRead limits plain input size
+  pub canonical_is : out ≡ canonical o (value_of read.item)

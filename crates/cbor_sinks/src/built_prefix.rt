@@ -1,0 +1,83 @@
+//! The canonical bytes of the valid item at the start of a slice.
+
+ghost use Rattle.std.specs.Prelude.{◌≢◌, IfOk, IfErr};
+ghost use Rattle.cbor_head.specs.Complaint.{plain};
+ghost use Rattle.cbor_head.specs.declared.reason.Reason.TheVariants as reasons;
+ghost use Rattle.cbor_verdict.specs.Readers.{IsUnread, ReportsMemoryAtStart};
+ghost use Rattle.cbor_sinks.specs.BuiltPrefix.{IsBuiltPrefix};
+
+use crate::canonical_sink::CanonicalSink;
+use cbor_head::{KeyOrder, Limits, Refusal};
+use cbor_parser::Parser;
+use std::alloc::Global;
+
+/// The canonical bytes of the item that a slice begins with, and how many bytes the item has.
+#[derive(Drop)]
+pub struct BuiltPrefix {
+    pub canonical: Vec<u8>,
+    pub size: u64,
+}
+
+/// The canonical bytes, in this order and however many, of the well-formed, valid item that the
+/// slice begins with (RFC 8949, sections 3, 4.2 and 5.3.1), within the limits; else its refusal.
+///
+/// It goes over the bytes once, without recursion; where a key is repeated, once more over its map, up
+/// to that key. It is a call of its own, so that what looks for canonical bytes before it has no space
+/// on the stack for the walk.
+#[inline(never)]
+pub fn build_prefix(
+    alloc: Global,
+    bytes: &[u8],
+    limits: Limits,
+    order: KeyOrder,
+) -> Result<BuiltPrefix, Refusal>
+    ensures accepted { IfOk result (λ f.
+        IsBuiltPrefix limits order bytes.now f.canonical.items f.size) }
+    ensures refused { IfErr result (λ f. IsUnread limits plain bytes.now f) }
+    ensures no_read { IfErr result (λ f. f.reason ≢ reasons.Read) }
+    ensures memory { IfErr result ReportsMemoryAtStart }
+{
+    let mut building = Parser::new(CanonicalSink::new(alloc, order));
+    match building.parse_item(bytes, limits) {
+        Ok(size) => Ok(BuiltPrefix {
+            canonical: building.sink.builder.finish(),
+            size,
+        }),
+        Err(refusal) => Err(refusal),
+    }
+}
+
+/// What builds the canonical bytes of one item after another, in memory that it keeps.
+#[derive(Drop)]
+pub struct PrefixBuilder {
+    building: Parser<CanonicalSink>,
+}
+
+impl PrefixBuilder {
+    /// Takes no memory.
+    pub fn new(alloc: Global) -> PrefixBuilder {
+        PrefixBuilder {
+            building: Parser::new(CanonicalSink::new(alloc, KeyOrder::Bytewise)),
+        }
+    }
+
+    /// What [`build_prefix`] answers, whatever call came before; the bytes stay where they are.
+    pub fn build(
+        &mut self,
+        bytes: &[u8],
+        limits: Limits,
+        order: KeyOrder,
+    ) -> Result<(&[u8], u64), Refusal>
+        ensures accepted { IfOk result (λ answer.
+            IsBuiltPrefix limits order bytes.now answer.0.now answer.1) }
+        ensures refused { IfErr result (λ f. IsUnread limits plain bytes.now f) }
+        ensures no_read { IfErr result (λ f. f.reason ≢ reasons.Read) }
+        ensures memory { IfErr result ReportsMemoryAtStart }
+    {
+        self.building.sink.clear(order);
+        match self.building.parse_item(bytes, limits) {
+            Ok(size) => Ok((self.building.sink.builder.as_slice(), size)),
+            Err(refusal) => Err(refusal),
+        }
+    }
+}

@@ -1,0 +1,14 @@
+pub mod ExpectedRefusals
+pub mod Prefixes
+pub mod HeldKeys
+pub mod KeySets
+pub mod KeysAsked
+pub mod PartEnds
+pub mod PartKinds
+pub mod PartPlaces
+pub mod PartsTaken
+pub mod PathFrames
+pub mod Paths
+pub mod PlainSteps
+pub mod Sizes
+pub mod TreeValues

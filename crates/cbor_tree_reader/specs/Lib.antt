@@ -1,0 +1,4 @@
+pub mod Prefix
+pub mod Size
+pub mod TreeValues
+pub mod inner

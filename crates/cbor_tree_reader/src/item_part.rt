@@ -1,0 +1,58 @@
+//! The parts of an item, as the plain reader takes them.
+
+ghost use Rattle.cbor_tree_reader.specs.inner.PlainParts.{HasCome, AnswersPart};
+
+use crate::strings::read_string;
+use cbor_automaton::{Event, EventKind};
+use cbor_events::ItemEvents;
+use cbor_head::{Major, Refusal};
+use std::alloc::Global;
+use std::io::Read;
+
+/// What an event reports, a string whole.
+#[derive(Drop)]
+pub(crate) enum ItemPart {
+    /// An integer or a simple value, by its type and argument.
+    Leaf(Major, u64),
+    /// A string, whether it is a text, and its content.
+    String(bool, Vec<u8>),
+    /// An array, a map or a tag begins; a tag with its number.
+    Begin(Major, u64),
+    /// The innermost container has no more members.
+    Break,
+}
+
+// The part that an event begins, where an item is expected.
+pub(crate) fn read_part<R: Read>(
+    alloc: Global,
+    events: &mut ItemEvents,
+    reader: &mut R,
+    kind: EventKind,
+) -> Result<ItemPart, Refusal>
+    requires { HasCome events.old kind }
+    ensures { AnswersPart events.old kind
+        (R.remaining reader.old) (R.remaining reader.new) events.new result }
+{
+    match kind {
+        EventKind::Unsigned(number) => Ok(ItemPart::Leaf(Major::Unsigned, number)),
+        EventKind::Negative(number) => Ok(ItemPart::Leaf(Major::Negative, number)),
+        EventKind::Simple(simple) => Ok(ItemPart::Leaf(Major::Simple, u64::from(simple.number()))),
+        EventKind::Bytes(length) => {
+            match read_string(alloc, events, reader, false, length) {
+                Ok(content) => Ok(ItemPart::String(false, content)),
+                Err(refusal) => Err(refusal),
+            }
+        }
+        EventKind::Text(length) => {
+            match read_string(alloc, events, reader, true, length) {
+                Ok(content) => Ok(ItemPart::String(true, content)),
+                Err(refusal) => Err(refusal),
+            }
+        }
+        EventKind::Array(count) => Ok(ItemPart::Begin(Major::Array, count.unwrap_or(0))),
+        EventKind::Map(count) => Ok(ItemPart::Begin(Major::Map, count.unwrap_or(0))),
+        EventKind::Tag(number) => Ok(ItemPart::Begin(Major::Tag, number)),
+        EventKind::End => Ok(ItemPart::Break),
+        _ => unreachable!(),
+    }
+}

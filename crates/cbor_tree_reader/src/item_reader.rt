@@ -1,0 +1,102 @@
+//! The item at the start of what a reader gives.
+
+ghost use Rattle.std.specs.Prelude.{◌≡◌, OnOk, MatchResult};
+ghost use Rattle.cbor_head.specs.Complaint.{plain};
+ghost use Rattle.cbor_item.specs.View.{view};
+ghost use Rattle.cbor_tree_reader.specs.Prefix.{IsPrefixRead};
+ghost use Rattle.cbor_verdict.specs.Reading.{IsPrefixUnread};
+ghost use Rattle.cbor_tree_reader.specs.inner.ItemPrefix.{IsExpectedSomewhere, AnswersNextPart, AnswersParts};
+
+use crate::item_part::read_part;
+use crate::payload::no_memory;
+use crate::tree_items::TreeItems;
+use cbor_events::ItemEvents;
+use cbor_head::{Limits, Reason, Refusal};
+use cbor_item::Item;
+use std::alloc::Global;
+use std::io::Read;
+
+/// The valid item that the reader's bytes begin with, whose events these become, and how many bytes
+/// it has. No byte behind the item or its first complaint is read.
+pub fn read_item_prefix<R: Read>(
+    alloc: Global,
+    events: &mut ItemEvents,
+    reader: &mut R,
+    limits: Limits,
+) -> Result<(Item, u64), Refusal>
+    requires { (events.old.machine.depth ≡ limits.depth)
+        × (events.old.machine.bytes ≡ limits.bytes) }
+    ensures limits { OnOk result ((events.new.machine.depth ≡ limits.depth)
+        × (events.new.machine.bytes ≡ limits.bytes)) }
+    ensures prefix { MatchResult result
+        (λ answer. IsPrefixRead plain limits
+        (R.remaining reader.old) (R.remaining reader.new) (view answer.0) answer.1)
+        (λ f. IsPrefixUnread plain limits (R.remaining reader.old) (R.remaining reader.new) f) }
+{
+    events.restart();
+    let mut items = TreeItems::new(alloc, limits.keys());
+    match read_parts(alloc, events, &mut items, reader) {
+        Ok(()) => {
+            let item = items.into_item();
+            let size = events.taken();
+            Ok((item, size))
+        }
+        Err(refusal) => Err(refusal),
+    }
+}
+
+// Takes the parts of the item that are left.
+fn read_parts<R: Read>(
+    alloc: Global,
+    events: &mut ItemEvents,
+    items: &mut TreeItems,
+    reader: &mut R,
+) -> Result<(), Refusal>
+    requires { IsExpectedSomewhere items.old events.old }
+    ensures { AnswersParts items.old items.new events.old events.new
+        (R.remaining reader.old) (R.remaining reader.new) result }
+{
+    'parts: loop {
+        match next_part(alloc, events, items, reader) {
+            Ok(true) => {}
+            Ok(false) => return Ok(()),
+            Err(refusal) => return Err(refusal),
+        }
+    }
+}
+
+// Takes the next part of the item; whether it goes on behind it.
+fn next_part<R: Read>(
+    alloc: Global,
+    events: &mut ItemEvents,
+    items: &mut TreeItems,
+    reader: &mut R,
+) -> Result<bool, Refusal>
+    requires { IsExpectedSomewhere items.old events.old }
+    ensures { AnswersNextPart items.old items.new events.old events.new
+        (R.remaining reader.old) (R.remaining reader.new) result }
+{
+    let height = events.open();
+    let event = match items.next_head(events, reader) {
+        Ok(event) => event,
+        Err(refusal) => return Err(refusal),
+    };
+    let part = match read_part(alloc, events, reader, event.kind) {
+        Ok(part) => part,
+        Err(refusal) => return Err(refusal),
+    };
+    let opened = match items.give(alloc, height, event.place, part) {
+        Ok(opened) => opened,
+        Err(_) => return Err(no_memory(events)),
+    };
+    let open = events.open();
+    match items.end_full(height + opened, open) {
+        Ok(()) => {}
+        Err(_) => return Err(no_memory(events)),
+    }
+    match items.repeated(alloc, open) {
+        Ok(None) => Ok(open > 0),
+        Ok(Some(place)) => Err(Refusal::new(Reason::RepeatedKey, place, events.taken())),
+        Err(_) => Err(no_memory(events)),
+    }
+}

@@ -1,0 +1,62 @@
+//! The canonical bytes of a map's keys.
+
+ghost use Rattle.std.specs.Prelude.{◌≡◌, ◌<◌, ℕ, not, true, IfOk, List, []};
+ghost use Rattle.std.specs.Ordering.{nat_cmp};
+ghost use Rattle.std.specs.Cmp.Lexicographic.{slice_cmp};
+ghost use Rattle.std.specs.BTreeSet.{Updates};
+ghost use Rattle.cbor_tree_reader.specs.inner.HeldKeys.{HasKeyBytes, IsAdded, is_in};
+
+use arrayvec::ArrayVec;
+use std::alloc::{AllocError, Global};
+use std::collections::BTreeSet;
+
+// How many bytes of a key lie in the node of its set: as many as most keys have.
+const SHORT_KEY: usize = 16;
+
+/// The canonical bytes of keys. Those of short keys lie in the nodes of their set, so that no
+/// memory is taken for each and none is followed to compare two.
+#[derive(Drop)]
+pub(crate) struct KeySet {
+    short: BTreeSet<ArrayVec<u8, SHORT_KEY>>,
+    long: BTreeSet<Vec<u8>>,
+}
+
+impl KeySet {
+    // Of no keys.
+    pub(crate) fn new(alloc: Global) -> KeySet
+        ensures { HasKeyBytes result [] }
+    {
+        KeySet {
+            short: BTreeSet::new(alloc),
+            long: BTreeSet::new(alloc),
+        }
+    }
+
+    // Whether the bytes of a key were not there, where they are now.
+    pub(crate) fn add(&mut self, alloc: Global, bytes: &[u8]) -> Result<bool, AllocError>
+        ensures { (ks : List (List ℕ)) → HasKeyBytes self.old ks
+            → IfOk result (IsAdded bytes.now ks self.new) }
+    {
+        match ArrayVec::try_from(bytes) {
+            Ok(short) => insert_short(&mut self.short, short),
+            Err(_) => insert_long(&mut self.long, Vec::from_slice(alloc, bytes)?),
+        }
+    }
+}
+
+fn insert_short(
+    all: &mut BTreeSet<ArrayVec<u8, SHORT_KEY>>,
+    bytes: ArrayVec<u8, SHORT_KEY>,
+) -> Result<bool, AllocError>
+    ensures { IfOk result (λ fresh. (fresh ≡ not (is_in (λ x. x.items) all.old bytes))
+        × Updates (λ x y. slice_cmp nat_cmp x.items y.items) all.old all.new bytes true) }
+{
+    all.insert(bytes).map_err(|_| AllocError)
+}
+
+fn insert_long(all: &mut BTreeSet<Vec<u8>>, bytes: Vec<u8>) -> Result<bool, AllocError>
+    ensures { IfOk result (λ fresh. (fresh ≡ not (is_in (λ x. x.items) all.old bytes))
+        × Updates (λ x y. slice_cmp nat_cmp x.items y.items) all.old all.new bytes true) }
+{
+    all.insert(bytes).map_err(|_| AllocError)
+}

@@ -1,0 +1,75 @@
+//! The bytes of strings.
+
+ghost use Rattle.std.specs.Prelude.{◌≡◌, false};
+ghost use Rattle.cbor_verdict.specs.Reading.{IsPayloadExpected, AnswersPayload};
+
+use cbor_events::ItemEvents;
+use cbor_head::{Reason, Refusal};
+use cbor_text::check_text;
+use std::io::Read;
+
+// Memory is refused behind what was taken.
+pub(crate) fn no_memory(events: &ItemEvents) -> Refusal
+    ensures memory { result.reason ≡ Reason.Memory }
+    ensures place { result.place ≡ result.read }
+    ensures taken { result.read ≡ events.now.machine.taken }
+{
+    Refusal::at(Reason::Memory, events.taken())
+}
+
+// Puts a payload of so many bytes behind what is there, in the parts that come: no memory is taken
+// for bytes that don't.
+pub(crate) fn read_payload<R: Read>(
+    events: &mut ItemEvents,
+    reader: &mut R,
+    count: u64,
+    into: &mut Vec<u8>,
+) -> Result<(), Refusal>
+    requires { IsPayloadExpected events.old count }
+    ensures { AnswersPayload false events.old count into.old.items into.new.items
+        (R.remaining reader.old) (R.remaining reader.new) events.new result }
+{
+    let mut left = count;
+    while left > 0 {
+        match events.next(reader) {
+            Ok(Some(_)) => {}
+            Ok(None) => unreachable!(),
+            Err(refusal) => return Err(refusal),
+        }
+        let piece = events.piece();
+        match into.extend_from_slice(piece) {
+            Ok(()) => {}
+            Err(_) => return Err(no_memory(events)),
+        }
+        left -= piece.len() as u64;
+    }
+    Ok(())
+}
+
+// Reads the payload of a definite string or a chunk, which is UTF-8 if it is of a text. A refused text
+// has the place behind its longest prefix that is.
+pub(crate) fn read_chunk<R: Read>(
+    events: &mut ItemEvents,
+    reader: &mut R,
+    text: bool,
+    count: u64,
+    into: &mut Vec<u8>,
+) -> Result<(), Refusal>
+    requires { IsPayloadExpected events.old count }
+    ensures { AnswersPayload text events.old count into.old.items into.new.items
+        (R.remaining reader.old) (R.remaining reader.new) events.new result }
+{
+    let from = into.len();
+    let place = events.taken();
+    match read_payload(events, reader, count, into) {
+        Ok(()) => {}
+        Err(refusal) => return Err(refusal),
+    }
+    if !text {
+        return Ok(());
+    }
+    match check_text(&into[from..]) {
+        Ok(()) => Ok(()),
+        Err(valid) => Err(Refusal::new(Reason::InvalidText, place + valid as u64, events.taken())),
+    }
+}

@@ -1,0 +1,71 @@
+//! Strings, of one piece or of chunks.
+
+ghost use Rattle.std.specs.Prelude.{None};
+ghost use Rattle.cbor_head.specs.Complaint.{plain};
+ghost use Rattle.cbor_verdict.specs.Reading.{HasBegun, string_kind};
+ghost use Rattle.cbor_tree_reader.specs.inner.PlainParts.{AnswersString};
+
+use crate::next_head::next_head;
+use crate::payload::read_chunk;
+use cbor_automaton::EventKind;
+use cbor_events::ItemEvents;
+use cbor_head::Refusal;
+use std::alloc::Global;
+use std::io::Read;
+
+// The content of a string whose head was read: a text, or bytes.
+pub(crate) fn read_string<R: Read>(
+    alloc: Global,
+    events: &mut ItemEvents,
+    reader: &mut R,
+    text: bool,
+    length: Option<u64>,
+) -> Result<Vec<u8>, Refusal>
+    requires { HasBegun plain events.old (string_kind text length) }
+    ensures { AnswersString text length events.old
+        (R.remaining reader.old) (R.remaining reader.new) events.new result }
+{
+    match length {
+        Some(count) => {
+            let mut content = Vec::new(alloc);
+            match read_chunk(events, reader, text, count, &mut content) {
+                Ok(()) => Ok(content),
+                Err(refusal) => Err(refusal),
+            }
+        }
+        None => read_chunks(alloc, events, reader, text),
+    }
+}
+
+// The chunks joined. Each chunk of a text is UTF-8 by itself.
+fn read_chunks<R: Read>(
+    alloc: Global,
+    events: &mut ItemEvents,
+    reader: &mut R,
+    text: bool,
+) -> Result<Vec<u8>, Refusal>
+    requires { HasBegun plain events.old (string_kind text None) }
+    ensures { AnswersString text None events.old
+        (R.remaining reader.old) (R.remaining reader.new) events.new result }
+{
+    let mut content = Vec::new(alloc);
+    'chunks: loop {
+        match next_head(events, reader) {
+            Ok(event) => match event.kind {
+                EventKind::Chunk(count) => match read_chunk(
+                    events,
+                    reader,
+                    text,
+                    count,
+                    &mut content,
+                ) {
+                    Ok(()) => {}
+                    Err(refusal) => return Err(refusal),
+                },
+                EventKind::End => return Ok(content),
+                _ => unreachable!(),
+            },
+            Err(refusal) => return Err(refusal),
+        }
+    }
+}

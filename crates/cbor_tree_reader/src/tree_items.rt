@@ -1,0 +1,206 @@
+//! What the plain reader keeps of the items that are open, from event to event.
+
+ghost use Rattle.std.specs.Prelude.{◌≡◌, ◌<◌, ◌∷◌, [], List, IfOk, None};
+ghost use Rattle.std.specs.Prelude.{take, ◌++◌, OnOk, Option};
+ghost use Rattle.cbor_builder.specs.Built.{built};
+ghost use Rattle.cbor_model.specs.Parts.{plain};
+ghost use Rattle.cbor_head.specs.Spelling.{Spelling, value_of};
+ghost use Rattle.cbor_item.specs.OpenValues.{IsWhole, TakesValue, open_levels};
+ghost use Rattle.cbor_item.specs.View.{view};
+ghost use Rattle.cbor_verdict.specs.Levels.{item_expected, item_whole};
+ghost use Rattle.cbor_tree_reader.specs.TreeValues.{IsForTree, IsTreeAt, values_with};
+ghost use Rattle.cbor_tree_reader.specs.declared.key_set.KeySet.{KeySet as KeySetView};
+ghost use Rattle.cbor_tree_reader.specs.inner.HeldKeys.{AreHeld};
+ghost use Rattle.cbor_tree_reader.specs.inner.TreeItems.{CanTake, IsGiven, IsEnding, AnswersEnds};
+ghost use Rattle.cbor_tree_reader.specs.inner.TreeItems.{sets, AreKeysBegun, AnswersKey};
+ghost use Rattle.cbor_tree_reader.specs.inner.ItemPrefix.{IsExpectedSomewhere, AnswersExpected};
+
+use crate::item_part::ItemPart;
+use crate::key_set::KeySet;
+use crate::next_head::next_head;
+use crate::tree_parts::give_to_tree;
+use cbor_automaton::Event;
+use cbor_builder::CanonBuilder;
+use cbor_events::ItemEvents;
+use cbor_head::{KeyOrder, Keys, Major, Refusal};
+use cbor_item::{Item, TreeBuilder};
+use std::alloc::{AllocError, Global};
+use std::io::Read;
+use std::mem;
+
+/// What came of an item, and where each open item began.
+#[derive(Drop)]
+pub(crate) struct TreeItems {
+    // Its canonical bytes, by which equal keys are found.
+    builder: CanonBuilder,
+    // The item itself.
+    tree: TreeBuilder,
+    // Which kinds of keys maps may have.
+    kinds: Keys,
+    // At the number of containers around it, where the last item began that came there.
+    starts: Vec<u64>,
+    // The keys of the innermost open container that came, and of those around it, the whole first.
+    keys: KeySet,
+    outer: Vec<KeySet>,
+}
+
+impl TreeItems {
+    // Nothing came.
+    pub(crate) fn new(alloc: Global, kinds: Keys) -> TreeItems
+        ensures built { result.builder ≡ built KeyOrder.Bytewise (plain [] ∷ []) }
+        ensures held { AreHeld (sets result) (plain [] ∷ []) }
+        ensures tree { IsTreeAt result.tree (item_expected []) }
+        ensures kinds { result.kinds ≡ kinds }
+    {
+        TreeItems {
+            builder: CanonBuilder::new(alloc, KeyOrder::Bytewise),
+            tree: TreeBuilder::new(alloc),
+            kinds,
+            starts: Vec::new(alloc),
+            keys: KeySet::new(alloc),
+            outer: Vec::new(alloc),
+        }
+    }
+
+    // The head of the item that is expected, or a break. A key whose kind is asked for is judged at its
+    // first byte.
+    pub(crate) fn next_head<R: Read>(
+        &self,
+        events: &mut ItemEvents,
+        reader: &mut R,
+    ) -> Result<Event, Refusal>
+        requires { IsExpectedSomewhere self.now events.old }
+        ensures { AnswersExpected self.now events.old
+            (R.remaining reader.old) (R.remaining reader.new) events.new result }
+    {
+        match self.kinds {
+            Keys::Any => return next_head(events, reader),
+            Keys::IntegersAndTexts => {}
+        }
+        if !self.builder.is_key_expected() {
+            return next_head(events, reader);
+        }
+        match events.next_key(reader) {
+            Ok(Some(event)) => Ok(event),
+            Ok(None) => unreachable!(),
+            Err(refusal) => Err(refusal),
+        }
+    }
+
+    // The next part of the item, which begins at this place within so many containers; answers how
+    // many it opens.
+    pub(crate) fn give(
+        &mut self,
+        alloc: Global,
+        height: usize,
+        place: u64,
+        part: ItemPart,
+    ) -> Result<usize, AllocError>
+        requires bytes { CanTake self.old.builder part }
+        requires fits { IsForTree part }
+        requires tree { TakesValue (open_levels self.old.tree) }
+        ensures starts { OnOk result
+            (self.new.starts.items ≡ take height self.old.starts.items ++ place ∷ []) }
+        ensures kinds { self.new.kinds ≡ self.old.kinds }
+        ensures given { IfOk result (λ opened. IsGiven self.old.builder part self.new.builder opened) }
+        ensures tree { OnOk result
+            (open_levels self.new.tree ≡ values_with part (open_levels self.old.tree)) }
+        ensures sets { IfOk result (λ opened. AreKeysBegun opened (sets self.old) (sets self.new)) }
+    {
+        self.starts.truncate(height);
+        self.starts.push(place)?;
+        let opened = give_to_builder(&mut self.builder, &part)?;
+        give_to_tree(&mut self.tree, part)?;
+        if opened > 0 {
+            let around = mem::replace(&mut self.keys, KeySet::new(alloc));
+            self.outer.push(around)?;
+        }
+        Ok(opened)
+    }
+
+    // The innermost container ends.
+    fn end_keys(&mut self)
+        ensures same { (self.new.builder ≡ self.old.builder)
+            × (self.new.starts ≡ self.old.starts) × (self.new.tree ≡ self.old.tree)
+            × (self.new.kinds ≡ self.old.kinds) }
+        ensures sets { (s t : KeySetView) (ss : List KeySetView)
+            → sets self.old ≡ s ∷ t ∷ ss → sets self.new ≡ t ∷ ss }
+    {
+        if let Some(around) = self.outer.pop() {
+            self.keys = around;
+        }
+    }
+
+    // Ends the containers that are full, the innermost first, where so many are open, and so many
+    // of these go on.
+    pub(crate) fn end_full(&mut self, height: usize, open: usize) -> Result<(), AllocError>
+        requires { IsEnding self.old height «open» }
+        ensures same { self.new.starts ≡ self.old.starts }
+        ensures ends { AnswersEnds self.old self.new height «open» result }
+    {
+        let mut left = height;
+        'full: while left > open {
+            self.builder.end()?;
+            self.tree.end()?;
+            self.end_keys();
+            left -= 1;
+        }
+        Ok(())
+    }
+
+    // Where the key began that has just come, if it is the same as an earlier key of its map; else
+    // it is one of them now. So many containers are open.
+    pub(crate) fn repeated(&mut self, alloc: Global, open: usize) -> Result<Option<u64>, AllocError>
+        ensures same { (self.new.builder ≡ self.old.builder)
+            × (self.new.starts ≡ self.old.starts) × (self.new.tree ≡ self.old.tree)
+            × (self.new.kinds ≡ self.old.kinds) }
+        ensures answers { AnswersKey self.old self.new «open» result }
+    {
+        let Some(key) = self.builder.waiting_key() else {
+            return Ok(None);
+        };
+        if self.keys.add(alloc, key)? {
+            return Ok(None);
+        }
+        Ok(Some(self.starts.get(open).copied().unwrap_or(0)))
+    }
+
+    // The item, which is whole.
+    pub(crate) fn into_item(self) -> Item
+        requires { IsWhole (open_levels self.tree) }
+        ensures { (s : Spelling) → IsTreeAt self.tree (item_whole s) → view result ≡ value_of s }
+    {
+        let TreeItems {
+            builder: _,
+            tree,
+            kinds: _,
+            starts: _,
+            keys: _,
+            outer: _,
+        } = self;
+        tree.finish()
+    }
+}
+
+// The next part for the canonical bytes; answers how many containers it opens.
+fn give_to_builder(builder: &mut CanonBuilder, part: &ItemPart) -> Result<usize, AllocError>
+    requires { CanTake builder.old part.now }
+    ensures { IfOk result (λ opened. IsGiven builder.old part.now builder.new opened) }
+{
+    match part {
+        ItemPart::Leaf(major, argument) => {
+            builder.leaf(*major, *argument)?;
+            Ok(0)
+        }
+        ItemPart::String(is_text, content) => {
+            let major = if *is_text { Major::Text } else { Major::Bytes };
+            builder.string(major, content)?;
+            Ok(0)
+        }
+        ItemPart::Begin(major, number) => {
+            builder.begin(*major, *number)?;
+            Ok(1)
+        }
+        ItemPart::Break => Ok(0),
+    }
+}

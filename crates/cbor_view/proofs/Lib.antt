@@ -1,4 +1,0 @@
-mod Lookups
-mod Pairs
-mod Views
-mod Walk

@@ -1,4 +1,0 @@
-pub mod Kinds
-pub mod Lookup
-pub mod Seen
-pub mod inner

@@ -1,0 +1,3 @@
+-- What private functions speak of; no public contract does.
+pub mod Commands
+pub mod WordsEnd

@@ -1,0 +1,82 @@
+-- The item at the start of some bytes, of which something was written, or which is refused.
+use Rattle.std.proofs.Common.{ℕ, ◌≡◌, ◌<◌, ◌≤◌, Option, List, ◌++◌, length, drop, refl, sym, ap, ◌∙◌, subst, append_assoc}
+use Rattle.std.specs.Io.KnownBytes.{Appends}
+use Rattle.cbor_head.specs.Prelude.{Rules, plain, Bounds, Spelling, spell, refusal}
+use Rattle.cbor_head.specs.declared.reason.Reason.TheVariants as reasons
+use Rattle.cbor_head.specs.declared.{order.KeyOrder.KeyOrder, reason.Refusal.Refusal}
+use Rattle.cbor_verdict.specs.Readers.{IsRead}
+use Rattle.cbor_sinks.specs.BuiltPrefix.{IsBuiltPrefix}
+use Rattle.cbor_reader.{specs.Sequence.IsAccepted, proofs.Sequences.is_accepted, proofs.Sequences.splits}
+use Rattle.cborc_commands.specs.declared.fault.Fault.TheVariants as faults
+use Rattle.cborc_commands.specs.CanonSequence.{HasCanonicalBytes, canonical_text, too_long}
+use Rattle.cborc_commands.specs.inner.SequenceItems.{IsCutText, IsUnwritten, IsItemNotShown}
+use Rattle.cborc_commands.specs.{Texts.GoesInPart, Texts.in_form, inner.NotWritten.IsNotTaken, declared.fault.Fault.Fault, declared.request.Form.Form}
+use Rattle.cborc_commands.specs.{inner.Items.IsWritten, declared.request.TextStyle.TextStyle, ShowSequence.item_text}
+
+-- the item that is read at the start
+module _ (limits : Bounds) (rules : Rules) (bytes : List ℕ) (size : ℕ) (h : IsRead limits rules bytes size) where
+  pub item_accepted : IsAccepted limits rules h.item
+  item_accepted = is_accepted limits rules bytes h.item h.verdict
+
+  pub written_of : (takes : Spelling → Type 0) (text : Spelling → List ℕ) (before after : Option (List ℕ)) → takes h.item → Appends before after (text h.item)
+      → IsWritten takes text bytes size before after
+  written_of takes text before after t w = record {
+    item = h.item;
+    rest = drop (length (spell h.item)) bytes;
+    taken = t;
+    bytes_are = splits limits rules bytes h.item h.verdict;
+    size_is = h.size;
+    written = w;
+  }
+
+  -- and goes on behind
+  stands_before : (behind : List ℕ) → spell h.item ++ (drop (length (spell h.item)) bytes ++ behind) ≡ bytes ++ behind
+  stands_before behind =
+      sym (append_assoc (spell h.item) (drop (length (spell h.item)) bytes) behind)
+      ∙ ap (λ (x : List ℕ). x ++ behind) (splits limits rules bytes h.item h.verdict)
+
+  -- not all of its text was taken
+  cut_of : (takes : Spelling → Type 0) (text : Spelling → List ℕ) (before after : Option (List ℕ)) (behind : List ℕ) → takes h.item
+      → GoesInPart before after (text h.item) → IsCutText takes text (bytes ++ behind) before after
+  cut_of takes text before after behind t w = record {
+    item = h.item;
+    rest = drop (length (spell h.item)) bytes ++ behind;
+    has = t;
+    bytes_are = stands_before behind;
+    taken = w;
+  }
+
+-- its diagnostic text was not taken whole
+pub text_not_taken : (limits : Bounds) (bytes : List ℕ) (size : ℕ) (h : IsRead limits plain bytes size) (text_style : TextStyle) (before after : Option (List ℕ)) (behind : List ℕ) (fault : Fault)
+    → IsNotTaken (item_text text_style h.item) before after fault → IsItemNotShown limits text_style (bytes ++ behind) fault before after
+text_not_taken limits bytes size h text_style before after behind faults.CannotPrint cut =
+    cut_of limits plain bytes size h (IsAccepted limits plain) (item_text text_style) before after behind (item_accepted limits plain bytes size h) cut
+text_not_taken limits bytes size h text_style before after behind faults.Memory same = same
+text_not_taken limits bytes size h text_style before after behind _ none = absurd none
+
+-- ---- its canonical bytes
+
+module _ (b : Bounds) (o : KeyOrder) (bytes canonical : List ℕ) (size : ℕ) (h : IsBuiltPrefix b o bytes canonical size) where
+  module _ (fits : length canonical ≤ b.bytes) (form : Form) (text : List ℕ) (formed : text ≡ in_form form canonical) where
+    has_bytes : HasCanonicalBytes b o h.read.item
+    has_bytes = record { accepted = item_accepted b plain bytes size h.read; fits = rw (← h.canonical_is) fits }
+
+    text_is : text ≡ canonical_text o form h.read.item
+    text_is = formed ∙ ap (in_form form) h.canonical_is
+
+    pub canonical_of : (before after : Option (List ℕ)) → Appends before after text → IsWritten (HasCanonicalBytes b o) (canonical_text o form) bytes size before after
+    canonical_of before after w = written_of b plain bytes size h.read (HasCanonicalBytes b o) (canonical_text o form) before after has_bytes (subst (Appends before after) text_is w)
+
+    -- a part of its text was taken
+    pub cut_text : (before after : Option (List ℕ)) (behind : List ℕ) → GoesInPart before after text
+        → IsCutText (HasCanonicalBytes b o) (canonical_text o form) (bytes ++ behind) before after
+    cut_text before after behind w =
+        cut_of b plain bytes size h.read (HasCanonicalBytes b o) (canonical_text o form) before after behind has_bytes (subst (GoesInPart before after) text_is w)
+
+  pub grown_too_long : b.bytes < length canonical → (form : Form) (out : Option (List ℕ)) (behind : List ℕ) (f : Refusal) → f ≡ refusal reasons.CanonicalTooLong size size
+      → IsUnwritten b o form (bytes ++ behind) (faults.Refused f) out out
+  grown_too_long l form out behind f is = (
+    too_long h.read.item (drop (length (spell h.read.item)) bytes ++ behind) (item_accepted b plain bytes size h.read) (stands_before b plain bytes size h.read behind) (rw (← h.canonical_is) l)
+        (is ∙ ap (λ (k : ℕ). refusal reasons.CanonicalTooLong k k) h.read.size),
+    refl,
+  )

@@ -1,0 +1,183 @@
+//! The item at the start of some bytes: how many bytes it has, and its diagnostic text.
+
+ghost use Rattle.std.specs.Prelude.{◌≡◌, ◌≢◌, ◌≤◌, ◌++◌, ℕ, codes, OnOk, IfOk, IfErr};
+ghost use Rattle.std.specs.Io.KnownBytes.{Appends};
+ghost use Rattle.cbor_head.specs.Complaint.{plain};
+ghost use Rattle.cbor_head.specs.Spelling.{Spelling, value_of};
+ghost use Rattle.cbor_head.specs.Value.{depth};
+ghost use Rattle.cbor_head.specs.Verdict.{IsVerdict, accepted};
+ghost use Rattle.cbor_head.specs.declared.limits.TheConstants.{MAX_DEPTH};
+ghost use Rattle.cbor_verdict.specs.Readers.{IsRead, IsUnread};
+ghost use Rattle.cbor_sinks.specs.BuiltPrefix.{IsBuiltPrefix};
+ghost use Rattle.cbor_item.specs.ViewValue.{view_value};
+ghost use Rattle.cborc_commands.specs.Rules.{rules_of};
+ghost use Rattle.cborc_commands.specs.Texts.{shown_text};
+ghost use Rattle.cborc_commands.specs.inner.NotWritten.{IsNotTaken};
+
+use crate::fault::Fault;
+use crate::request::{Accepted, TextStyle};
+use bumpalo::Bump;
+use cbor_diag::{TextBuffer, diagnostic_view_indented};
+use cbor_head::{KeyOrder, Limits, Refusal};
+use cbor_item::{View, write_whole};
+use cbor_reader::{ItemCanonicaliser, ItemCheck, check_canonical, read_view};
+use std::alloc::Global;
+use std::io::Write;
+
+/// Space for what is made of items, one after another. It keeps the memory that it took for them.
+#[derive(Drop)]
+pub struct Scratch {
+    alloc: Global,
+    check: ItemCheck,
+    canonical: ItemCanonicaliser,
+}
+
+impl Scratch {
+    /// Of no item so far. Takes no memory.
+    pub fn new(alloc: Global) -> Scratch {
+        Scratch {
+            alloc,
+            check: ItemCheck::new(alloc),
+            canonical: ItemCanonicaliser::new(alloc),
+        }
+    }
+
+    /// How many bytes the item has that the bytes begin with.
+    #[inline(always)]
+    pub fn size_at_start(
+        &mut self,
+        bytes: &[u8],
+        accepted: Accepted,
+        limits: Limits,
+    ) -> Result<u64, Refusal>
+        ensures accepted { IfOk result (IsRead limits (rules_of accepted) bytes.now) }
+        ensures refused { IfErr result (IsUnread limits (rules_of accepted) bytes.now) }
+    {
+        match accepted {
+            Accepted::Valid => self.check.check(bytes, limits),
+            Accepted::Canonical(order) => check_canonical(bytes, limits, order),
+        }
+    }
+
+    /// The canonical bytes of the item that the bytes begin with, and how many bytes the item has.
+    pub fn canonical_at_start<'b>(
+        &'b mut self,
+        bytes: &'b [u8],
+        limits: Limits,
+        order: KeyOrder,
+    ) -> Result<(&'b [u8], u64), Refusal>
+        ensures accepted { IfOk result (λ answer.
+            IsBuiltPrefix limits order bytes.now answer.0.now answer.1) }
+        ensures refused { IfErr result (IsUnread limits plain bytes.now) }
+    {
+        self.canonical.canonicalise(bytes, limits, order)
+    }
+
+    /// Writes the text of the item that the bytes begin with, which is known to be valid within these
+    /// limits, and a line feed. On one line it is made whole before the first byte is written.
+    pub fn print_prefix<'a, O: Write>(
+        &self,
+        bytes: &[u8],
+        limits: Limits,
+        text_style: TextStyle,
+        out: &mut O,
+    ) -> Result<(), Fault<'a>>
+        requires { (size : ℕ) × IsRead limits plain bytes.now size }
+        ensures shown { OnOk result ((s : Spelling) → IsVerdict limits plain bytes.now (accepted s)
+            → Appends (O.contents out.old) (O.contents out.new) (shown_text text_style (value_of s))) }
+        ensures fault { IfErr result (λ fault. (s : Spelling)
+            → IsVerdict limits plain bytes.now (accepted s)
+            → IsNotTaken (shown_text text_style (value_of s)) (O.contents out.old) (O.contents out.new) fault) }
+        ensures silent { IfErr result (λ fault. fault ≢ Fault.CannotPrint → out.new ≡ out.old) }
+    {
+        match text_style {
+            TextStyle::OneLine => self.print_on_one_line(bytes, limits, out),
+            TextStyle::Indented => self.print_indented(bytes, limits, out),
+        }
+    }
+
+    // Writes the text on one line. The space for the text is in a frame of its own, which is not there yet as
+    // the item is checked.
+    #[inline(never)]
+    fn print_on_one_line<'a, O: Write>(
+        &self,
+        bytes: &[u8],
+        limits: Limits,
+        out: &mut O,
+    ) -> Result<(), Fault<'a>>
+        requires { (size : ℕ) × IsRead limits plain bytes.now size }
+        ensures shown { OnOk result ((s : Spelling) → IsVerdict limits plain bytes.now (accepted s)
+            → Appends (O.contents out.old) (O.contents out.new) (shown_text TextStyle.OneLine (value_of s))) }
+        ensures fault { IfErr result (λ fault. (s : Spelling)
+            → IsVerdict limits plain bytes.now (accepted s)
+            → IsNotTaken (shown_text TextStyle.OneLine (value_of s))
+            (O.contents out.old) (O.contents out.new) fault) }
+        ensures silent { IfErr result (λ fault. fault ≢ Fault.CannotPrint → out.new ≡ out.old) }
+    {
+        let mut scratch = TextBuffer::new(self.alloc);
+        match scratch.diagnostic_prefix(bytes, limits) {
+            Ok(text) => print_line(text, out),
+            Err(_) => Err(Fault::Memory),
+        }
+    }
+
+    // Writes the text with one member or pair a line. Such a text can be thousands of times as long as the
+    // bytes, so it is not made in memory, but written as a view of them is gone over.
+    fn print_indented<'a, O: Write>(
+        &self,
+        bytes: &[u8],
+        limits: Limits,
+        out: &mut O,
+    ) -> Result<(), Fault<'a>>
+        requires { (size : ℕ) × IsRead limits plain bytes.now size }
+        ensures shown { OnOk result ((s : Spelling) → IsVerdict limits plain bytes.now (accepted s)
+            → Appends (O.contents out.old) (O.contents out.new) (shown_text TextStyle.Indented (value_of s))) }
+        ensures fault { IfErr result (λ fault. (s : Spelling)
+            → IsVerdict limits plain bytes.now (accepted s)
+            → IsNotTaken (shown_text TextStyle.Indented (value_of s))
+            (O.contents out.old) (O.contents out.new) fault) }
+        ensures silent { IfErr result (λ fault. fault ≢ Fault.CannotPrint → out.new ≡ out.old) }
+    {
+        let arena = Bump::new(self.alloc);
+        match read_view(self.alloc, bytes, limits, &arena) {
+            Ok((view, _)) => print_view(&view, out),
+            // The item is valid, so memory was refused.
+            Err(_) => Err(Fault::Memory),
+        }
+    }
+}
+
+// Writes a text and a line feed.
+fn print_line<'a, O: Write>(text: &[u8], out: &mut O) -> Result<(), Fault<'a>>
+    ensures shown { OnOk result
+        (Appends (O.contents out.old) (O.contents out.new) (text.now ++ codes "\n")) }
+    ensures fault { IfErr result (λ fault. fault ≡ Fault.CannotPrint) }
+    ensures cut { IfErr result (IsNotTaken (text.now ++ codes "\n")
+        (O.contents out.old) (O.contents out.new)) }
+{
+    match write_whole(out, text) {
+        Ok(()) => match write_whole(out, b"\n") {
+            Ok(()) => Ok(()),
+            Err(_) => Err(Fault::CannotPrint),
+        },
+        Err(_) => Err(Fault::CannotPrint),
+    }
+}
+
+// Writes the text of a view with one member or pair a line, and a line feed.
+fn print_view<'a, O: Write>(view: &View<'_>, out: &mut O) -> Result<(), Fault<'a>>
+    requires { depth (view_value view.now) ≤ MAX_DEPTH }
+    ensures shown { OnOk result (Appends (O.contents out.old) (O.contents out.new)
+        (shown_text TextStyle.Indented (view_value view.now))) }
+    ensures fault { IfErr result (λ fault. fault ≡ Fault.CannotPrint) }
+    ensures cut { IfErr result (IsNotTaken (shown_text TextStyle.Indented (view_value view.now))
+        (O.contents out.old) (O.contents out.new)) }
+{
+    match diagnostic_view_indented(view, out) {
+        Ok(_) => match write_whole(out, b"\n") {
+            Ok(()) => Ok(()),
+            Err(_) => Err(Fault::CannotPrint),
+        },
+        Err(_) => Err(Fault::CannotPrint),
+    }
+}

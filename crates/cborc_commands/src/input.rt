@@ -1,0 +1,58 @@
+//! The bytes of an input.
+
+ghost use Rattle.std.specs.Prelude.{◌≡◌, ◌⊎◌, ◌^◌, ◌<◌, true, false, IfOk, IfErr};
+ghost use Rattle.cborc_files.specs.Folder.{KeepsFiles};
+ghost use Rattle.cborc_commands.specs.NoInput.{IsNoInput};
+ghost use Rattle.cborc_commands.specs.inner.Start.{StartsInput};
+ghost use Rattle.cborc_commands.specs.inner.Decided.{IsDecided};
+
+use crate::fault::Fault;
+use crate::input_parts::Parts;
+use crate::listing::is_undecided;
+use crate::request::Options;
+use cbor_head::Limits;
+use cborc_files::Folder;
+use std::alloc::Global;
+
+// How many bytes are read at first, where the limit is no lower.
+const FIRST: u64 = 1_310_721;
+
+/// The first bytes of the input at this path: as many as decide whether it is one item within the
+/// limits, no more than twice as many as the item has, or 1,310,721. Hex text is read to its end.
+pub fn read_item<'a, F: Folder>(
+    alloc: Global,
+    files: &mut F,
+    path: &'a str,
+    options: Options,
+) -> Result<Vec<u8>, Fault<'a>>
+    ensures prefix { IfOk result (λ v. StartsInput (F.held files.old) path.now options v.items) }
+    ensures fault { IfErr result (IsNoInput (F.held files.old) path.now options.hex) }
+    ensures keeps { KeepsFiles (F.held files.old) (F.held files.new) }
+    ensures same { F.behind files.new ≡ F.behind files.old }
+{
+    let limits = options.limits;
+    let least = first(options.hex, limits);
+    let mut parts = Parts::open(alloc, files, path, options.hex, least)?;
+    'parts: while may_report_more(&parts, limits) {
+        parts.read_on(alloc, files, path)?;
+    }
+    parts.finish(alloc, files, path)
+}
+
+// How many bytes of a file are read at first: as many as spell a byte more than the limit.
+fn first(hex: bool, limits: Limits) -> u64
+    ensures some { 0 < result }
+    ensures range { result < 2 ^ 63 }
+{
+    let most = limits.bytes() + 1;
+    FIRST.min(if hex { 2 * most } else { most })
+}
+
+// Whether the input may go on, with what reports more of its first item.
+fn may_report_more(parts: &Parts, limits: Limits) -> bool
+    ensures yes { result ≡ true → parts.now.source.ended ≡ false }
+    ensures no { result ≡ false
+        → (parts.now.source.ended ≡ true) ⊎ IsDecided limits parts.now.rest }
+{
+    parts.goes_on() && is_undecided(parts.rest(), limits)
+}

@@ -1,0 +1,51 @@
+//! The lines of the events of the item at the start of some bytes.
+
+ghost use Rattle.std.specs.Prelude.{◌≡◌, ◌≤◌, ◌<◌, ◌^◌, false, length, IfOk, IfErr};
+ghost use Rattle.cbor_diag.specs.Listing.{IsListed};
+ghost use Rattle.cborc_commands.specs.inner.Decided.{IsDecided};
+ghost use Rattle.cborc_commands.specs.inner.Listed.{IsPrefixNotListed};
+
+use crate::fault::Fault;
+use cbor_diag::listing_from;
+use cbor_head::{Limits, Reason};
+use std::io::{self, Write};
+
+/// Writes the lines of the item at the start of the bytes, which start there in the input, and
+/// answers how many bytes it has. The refusal is that of its form.
+pub fn list_prefix<'a, W: Write>(
+    bytes: &[u8],
+    start: usize,
+    limits: Limits,
+    out: &mut W,
+) -> Result<u64, Fault<'a>>
+    requires { start < 2 ^ 63 }
+    ensures listed { IfOk result (λ size. IsListed start limits bytes.now size
+        (W.contents out.old) (W.contents out.new)) }
+    ensures within { IfOk result (λ size. size ≤ length bytes.now) }
+    ensures fault { IfErr result (IsPrefixNotListed start limits bytes.now
+        (W.contents out.old) (W.contents out.new)) }
+{
+    let mut reader = bytes;
+    match listing_from(&mut reader, start as u64, limits, out) {
+        Ok(size) => Ok(size),
+        Err(refusal) => match refusal.reason {
+            Reason::Write => Err(Fault::CannotPrint),
+            _ => Err(Fault::from(refusal)),
+        },
+    }
+}
+
+/// Whether what stands behind these bytes may report more of the item at their prefix: by its form they
+/// end within it or with it.
+pub fn is_undecided(bytes: &[u8], limits: Limits) -> bool
+    ensures { result ≡ false → IsDecided limits bytes.now }
+{
+    let mut reader = bytes;
+    match listing_from(&mut reader, 0, limits, &mut io::sink()) {
+        Ok(size) => size == bytes.len() as u64,
+        Err(refusal) => matches!(
+            refusal.reason,
+            Reason::Truncated | Reason::Read | Reason::Write
+        ),
+    }
+}

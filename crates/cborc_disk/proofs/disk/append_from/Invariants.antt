@@ -1,5 +1,0 @@
-use Rattle.cborc_disk.proofs.disk.append_from.Given as goal
-use Rattle.cborc_disk.proofs.Appended.{IsTaken}
-
-abbrev pub invariant-reads : goal.invariant-reads
-invariant-reads g l = IsTaken l.fn.most l.left (g.S.Read.remaining l.fn.source) (g.S.Read.remaining l.source) l.fn.bytes.items l.bytes.items

@@ -1,7 +1,0 @@
-//! Tests of `cborc_disk` through its public calls.
-//!
-//! They stand apart, so that the library is proved once and its tests beside it.
-#![tactic(auto)]
-
-#[cfg(test)]
-mod tests;

@@ -1,0 +1,113 @@
+//! What was read, for an explanation of what came of it.
+
+ghost use Rattle.std.specs.Prelude.{◌≡◌, Some, IfOk, OnOk, MatchResult};
+ghost use Rattle.cborc_files.specs.Folder.{Holds, ReadsOn, IsWithin, KeepsFiles, WritesFile};
+
+use crate::folder::{Cause, FileFault, Folder};
+use crate::hex_text::{DigitsFault, HexError};
+use std::alloc::{AllocError, Global};
+
+/// What an answer spoke of in the last two files, and why there was none.
+#[derive(Drop)]
+pub struct Recording {
+    last: Option<Vec<u8>>,
+    earlier: Option<Vec<u8>>,
+    // Where what was read is not hex text.
+    hex_error: Option<HexError>,
+}
+
+impl Recording {
+    /// Nothing yet.
+    pub fn new() -> Recording {
+        Recording {
+            last: None,
+            earlier: None,
+            hex_error: None,
+        }
+    }
+}
+
+/// A folder that keeps what it is reported of the last two files.
+#[derive(Drop)]
+pub struct RecordingFolder<'a, F: Folder> {
+    files: &'a mut F,
+    // It owns nothing, so that what becomes of the files is known once it is gone.
+    kept: &'a mut Recording,
+}
+
+impl<'a, F: Folder> RecordingFolder<'a, F> {
+    /// A folder over `files` that keeps what it is asked for in `kept`.
+    pub fn new(files: &'a mut F, kept: &'a mut Recording) -> RecordingFolder<'a, F>
+        ensures same_reference { result.files.ghost_name ≡ files.entry.ghost_name }
+        ensures files { result.files.now ≡ files.old }
+    {
+        RecordingFolder { files, kept }
+    }
+
+    /// What an answer spoke of in the last file, if it is known.
+    pub fn last(&self) -> Option<&[u8]> {
+        let bytes = self.kept.last.as_ref()?;
+        Some(bytes.as_slice())
+    }
+
+    /// Where what was read is not hex text, if it is not.
+    pub fn hex_error(&self) -> Option<HexError> {
+        self.kept.hex_error
+    }
+
+    /// What the file before that held, if it is known.
+    pub fn earlier(&self) -> Option<&[u8]> {
+        let bytes = self.kept.earlier.as_ref()?;
+        Some(bytes.as_slice())
+    }
+}
+
+impl<'a, F: Folder> Folder for RecordingFolder<'a, F> {
+    type Draft = F::Draft;
+
+    ghost held = { λ memory. F.held memory.files.now };
+
+    ghost behind = { λ memory. Some memory.files.ghost_name };
+
+    fn read(&mut self, alloc: Global, path: &str) -> Result<Vec<u8>, FileFault> {
+        self.files.read(alloc, path)
+    }
+
+    fn read_on(
+        &mut self,
+        alloc: Global,
+        path: &str,
+        from: u64,
+        most: u64,
+        bytes: &mut Vec<u8>,
+    ) -> Result<(), FileFault> {
+        self.files.read_on(alloc, path, from, most, bytes)
+    }
+
+    fn remember(&mut self, alloc: Global, bytes: &[u8]) {
+        self.kept.earlier = self.kept.last.take();
+        self.kept.last = Vec::from_slice(alloc, bytes).ok();
+    }
+
+    fn remember_fault(&mut self, fault: DigitsFault) {
+        if let DigitsFault::NotHex(hex_error) = fault {
+            self.kept.hex_error = Some(hex_error);
+        }
+    }
+
+    fn begin(&mut self, path: &str) -> Result<F::Draft, AllocError> {
+        self.files.begin(path)
+    }
+
+    fn replace(&mut self, path: &str, draft: F::Draft) -> Result<(), FileFault> {
+        self.files.replace(path, draft)
+    }
+
+    fn abandon(&mut self, draft: F::Draft) -> FileFault {
+        self.files.abandon(draft)
+    }
+
+    fn cause(&self) -> Option<Cause> {
+        self.files.cause()
+    }
+}

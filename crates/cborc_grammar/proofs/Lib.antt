@@ -1,2 +1,0 @@
-mod Builds
-mod Simple

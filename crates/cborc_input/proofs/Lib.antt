@@ -1,6 +1,0 @@
-pub mod Faults
-mod Items
-pub mod NoInput
-mod ReadParts
-mod Sources
-mod Undecided

@@ -1,3 +1,0 @@
--- What private functions speak of; no public contract does.
-pub mod Parts
-pub mod Sources

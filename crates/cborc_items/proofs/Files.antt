@@ -1,9 +1,0 @@
--- What stays known of files from call to call, of a text that was put where it belongs.
-use Rattle.std.proofs.Common.{List, ℕ, Option}
-use Rattle.cborc_files.specs.Folder.{Files, KeepsFiles}
-use Rattle.cborc_fronts.proofs.Files.{keeps_keeps, replaces_kept}
-use Rattle.cborc_input.specs.Put.{IsPut, printed, written}
-
-pub put_kept : (path : List ℕ) (a b c : Option Files) (before after : Option (List ℕ)) (text : List ℕ) → KeepsFiles a b → IsPut path b c before after text → IsPut path a c before after text
-put_kept path a b c before after text h (printed s p k) = printed s p (keeps_keeps a b c h k)
-put_kept path a b c before after text h (written s r o) = written s (replaces_kept a b c path text h r) o

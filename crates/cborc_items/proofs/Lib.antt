@@ -1,6 +1,0 @@
-mod Faults
-mod Files
-mod Fronts
-mod Listings
-mod Untold
-mod Whole

@@ -1,6 +1,0 @@
-mod Earlier
-mod Further
-mod Items
-mod Listings
-mod Stopped
-mod Taken

@@ -1,0 +1,19 @@
+/* The three functions that a Rattle static library calls for memory, over the C library's: for the targets whose own
+ * code for them the kit does not have. They answer what the kit's libc/src/heap.rt says of them; nothing proves it. */
+#include <stddef.h>
+#include <stdlib.h>
+
+struct tried { _Bool ok; void *p; }; /* libc::types::Tried */
+
+static unsigned char nothing; /* what `p` points to beside a false `ok`, since it may not be null */
+
+static struct tried tried(void *p) { return (struct tried){p != NULL, p ? p : &nothing}; }
+
+struct tried rattle_alloc(size_t n, size_t align) { return tried(malloc(n ? n : align)); }
+
+struct tried rattle_realloc(void *p, size_t kept, size_t n, size_t align) {
+    (void)kept;
+    return tried(realloc(p, n ? n : align));
+}
+
+void rattle_dealloc(void *p) { free(p); }

@@ -1,0 +1,50 @@
+#!/usr/bin/env python3
+"""Counts the instructions of the program where its cost must not grow: scripts/test_instructions.py PROGRAM
+
+A sequence costs what its items cost by themselves: `canon --seq` of 32 items of 250 nested maps, each out of order, takes at most
+1.2 times the instructions of 32 runs over one. valgrind counts; where it is not there, the last line says so.
+"""
+
+import re
+import shutil
+import subprocess
+import sys
+import tempfile
+from pathlib import Path
+
+ITEMS, LEVELS, PAYLOAD = 32, 250, 60000
+
+
+def nested(levels, payload):
+    """{1: {1: .. h'..', 0: 0}, 0: 0}: every map's keys fall."""
+    return b"\xa2\x01" * levels + b"\x59" + payload.to_bytes(2, "big") + bytes(payload) + b"\x00\x00" * levels
+
+
+def instructions(program, words, folder):
+    counted = [
+        "valgrind", "--tool=callgrind", f"--callgrind-out-file={folder}/counts", program, *words,
+    ]  # fmt: skip
+    ended = subprocess.run(counted, cwd=folder, capture_output=True, text=True)
+    if ended.returncode:
+        raise SystemExit(f"instructions: {' '.join(words)} ends with {ended.returncode}: {ended.stderr[-500:]}")
+    return int(re.search(r"Collected : (\d+)", ended.stderr)[1])
+
+
+def main():
+    program = str(Path(sys.argv[1]).resolve())
+    if not shutil.which("valgrind"):
+        print("instructions: not counted: valgrind is not there")
+        return 0
+    with tempfile.TemporaryDirectory() as folder:
+        item = nested(LEVELS, PAYLOAD)
+        (Path(folder) / "one").write_bytes(item)
+        (Path(folder) / "many").write_bytes(item * ITEMS)
+        one = instructions(program, ["canon", "--seq", "--depth", "256", "one", "out"], folder)
+        many = instructions(program, ["canon", "--seq", "--depth", "256", "many", "out"], folder)
+    times = many / (ITEMS * one)
+    print(f"instructions: {ITEMS} nested items as one sequence take {times:.2f} times what they take alone")
+    return 0 if times <= 1.2 else 1
+
+
+if __name__ == "__main__":
+    sys.exit(main())

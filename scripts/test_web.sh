@@ -1,0 +1,111 @@
+#!/usr/bin/env bash
+# Tests the library as WebAssembly and the package for JavaScript: scripts/test_web.sh [LIBRARY]
+#
+# The modules stand in bindings/js/wasm, as scripts/build_web.sh makes them. The heap of the module by itself, and the
+# package: the tables, values, streams, refused memory, and, beside LIBRARY, the x86-64 libnaltvigo.so, random calls; in
+# Node, with the module of 32-bit memory, and once more with that of 64-bit memory. That retarget.py refuses what it must; the
+# types; the package as npm installs it in an empty folder. Wants Node 20 or later; the kit's rt has to be on the path. The
+# last line names what else was not there; it begins 'web: all well', or the status is not 0.
+set -euo pipefail
+. "$(dirname "${BASH_SOURCE[0]}")/lib/options.sh"
+take_options 1 "$@"
+root=$(cd "$(dirname "${BASH_SOURCE[0]}")/.." && pwd)
+package=$root/bindings/js
+kit=$(dirname "$(rt doc)")
+scratch=$(mktemp -d)
+trap 'rm -rf "$scratch"' EXIT
+missing=()
+say() { echo "web: $*"; }
+fail() { say "FAILED: $*"; exit 1; }
+
+command -v node >/dev/null || { say 'not tested: Node is not there'; exit 0; }
+[ "$(node -p 'process.versions.node.split(".")[0] >= 20')" = true ] || { say "not tested: Node $(node --version) is older than 20"; exit 0; }
+for module in naltvigo64.wasm naltvigo32.wasm; do
+    [ -e "$package/wasm/$module" ] || fail "bindings/js/wasm/$module is not there: run scripts/build_web.sh"
+done
+
+# ---- in Node, whose flag for 64-bit memory went when it had it by itself
+
+node_with() { # 32 | 64, WORD ..
+    local flag=()
+    if [ "$1" = 64 ] && ! node -e "$memory64" 2>/dev/null; then flag=(--experimental-wasm-memory64); fi
+    node "${flag[@]}" "${@:2}"
+}
+memory64='process.exit(WebAssembly.validate(Uint8Array.of(0, 97, 115, 109, 1, 0, 0, 0, 5, 3, 1, 4, 1)) ? 0 : 1)'
+tests() { # NAME 32 | 64, FILE ..
+    node_with "$2" --test "${@:3}" >"$scratch/log" 2>&1 || { cat "$scratch/log"; fail "$1, $2-bit memory"; }
+    [ "$(sed -n 's/^# skipped //p' "$scratch/log")" = 0 ] || [ -z "${VECTORS:-}" ] || fail "$1: a test was skipped"
+    say "$1, $2-bit memory: $(sed -n 's/^# pass //p' "$scratch/log") tests"
+}
+widths=(32)
+if node_with 64 -e "$memory64" 2>/dev/null; then widths+=(64); else missing+=('64-bit memory in Node'); fi
+! node -e "$memory64" 2>/dev/null || widths=(64)
+
+# ---- the heap of the module, by itself
+
+target=(--target=wasm64-unknown-unknown -mcpu=lime1 -O2 -ffreestanding -nostdinc -Wall -Wextra -Werror)
+for name in heap_of_module heap_test; do
+    "$kit/toolchain/bin/clang" "${target[@]}" -c "$root/platform/$name.c" -o "$scratch/$name.o"
+done
+"$kit/toolchain/bin/ld.lld" -flavor wasm -mwasm64 --no-entry --stack-first -z stack-size=131072 --gc-sections "$scratch"/heap_*.o -o "$scratch/heap64.wasm"
+if command -v wasm-opt >/dev/null; then
+    "$root/scripts/lower_memory.sh" "$scratch/heap64.wasm" "$scratch/heap32.wasm"
+    HEAP=$scratch/heap32.wasm tests 'the heap' 32 "$root/platform/heap.test.mjs"
+else
+    missing+=("wasm-opt (Debian: binaryen)")
+fi
+[[ " ${widths[*]} " != *" 64 "* ]] || HEAP=$scratch/heap64.wasm tests 'the heap' 64 "$root/platform/heap.test.mjs"
+
+# ---- what retarget.py refuses
+
+printf '%s\n' 'target datalayout = "e-m:e-p270:32:32-i64:64-i128:128-f80:128-n8:16:32:64-S128"' 'target triple = "x86_64-unknown-linux-gnu"' \
+    'define i64 @f(i64 %0) #0 { ret i64 %0 }' 'attributes #0 = { nounwind "target-cpu"="x86-64" }' >"$scratch/good.ll"
+"$root/scripts/retarget.py" <"$scratch/good.ll" >"$scratch/retargeted.ll" || fail 'retarget.py refuses a plain module'
+grep -q 'triple = "wasm64' "$scratch/retargeted.ll" && ! grep -q x86 "$scratch/retargeted.ll" || fail 'retarget.py leaves something of x86-64'
+for line in 'define void @g() { call void asm sideeffect "pause", ""() ret void }' 'declare i32 @llvm.x86.sse42.crc32.32.8(i32, i8)' \
+    'declare void @exit(i32)' 'define x86_fp80 @g(x86_fp80 %0) { ret x86_fp80 %0 }' 'attributes #1 = { "thunk" }'; do
+    { cat "$scratch/good.ll"; echo "$line"; } >"$scratch/bad.ll"
+    ! "$root/scripts/retarget.py" <"$scratch/bad.ll" >/dev/null 2>&1 || fail "retarget.py lets pass: $line"
+done
+! sed 's/x86_64-/i686-/' "$scratch/good.ll" | "$root/scripts/retarget.py" >/dev/null 2>&1 || fail 'retarget.py lets another triple pass'
+say 'retarget.py refuses assembler, intrinsics, unknown calls, types and attributes'
+
+# ---- the package
+
+if [ -n "${1:-}" ]; then
+    python3 "$root/fuzz/vectors.py" "$1" 10000 >"$scratch/vectors"
+    export VECTORS=$scratch/vectors
+fi
+for width in "${widths[@]}"; do
+    tests 'the package' "$width" "$package"/tests/*.test.mjs
+done
+if command -v jsc >/dev/null; then
+    [ "$(jsc "$package/tests/jsc.js" -- "$package/wasm/naltvigo32.wasm")" = 'the canonical bytes' ] || fail "Safari's engine"
+    say "Safari's engine takes naltvigo32.wasm"
+else
+    missing+=("jsc (Debian: libjavascriptcoregtk-4.0-bin)")
+fi
+if command -v tsc >/dev/null; then
+    tsc -p "$package/tests/tsconfig.json" >"$scratch/log" || { cat "$scratch/log"; fail 'the types'; }
+    say 'the types hold'
+else
+    missing+=("tsc (Debian: node-typescript)")
+fi
+
+# ---- as it is installed, without a network
+
+if command -v npm >/dev/null; then
+    tarball=$(cd "$package" && npm pack --silent --offline --pack-destination "$scratch")
+    mkdir "$scratch/empty"
+    cd "$scratch/empty"
+    echo '{ "private": true, "type": "module" }' >package.json
+    npm install --silent --offline --no-audit --no-fund "$scratch/$tarball" >"$scratch/log" 2>&1 || { cat "$scratch/log"; fail 'npm install'; }
+    echo "import { encode } from 'naltvigo'; console.log(Buffer.from(encode({ Amt: -2, Fun: true })).toString('hex'));" >program.js
+    [ "$(node program.js)" = a263416d74216346756ef5 ] || fail 'the installed package'
+    [ "$(echo bf6346756ef563416d7421ff | node node_modules/naltvigo/examples/values.mjs)" = a263416d74216346756ef5 ] || fail 'the example of the installed package'
+    say "npm installs $tarball in an empty folder, and it runs"
+else
+    missing+=(npm)
+fi
+listed=$(printf ', %s' "${missing[@]}")
+say "all well${missing[*]:+; not tried, since not there: ${listed#, }}"

@@ -1,0 +1,92 @@
+// The events of the input, in columns of numbers: millions of them must fit.
+import { Nesting } from './nesting.js';
+
+const KINDS = ['unsigned', 'negative', 'bytes', 'text', 'array', 'map', 'tag', 'simple', 'chunk', 'piece', 'break'];
+const NUMBER_OF = Object.fromEntries(KINDS.map((kind, number) => [kind, number]));
+const SHIFT = 16;
+const ROWS = 1 << SHIFT;
+
+const NONE = 15; // the width where there is no argument
+const IS_WIDE = 16;
+const IS_KEY = 32;
+const IS_TEXT = 64;
+
+/** The columns of ROWS events. */
+class Columns {
+    constructor() {
+        this.place = new Uint32Array(ROWS);
+        this.depth = new Uint16Array(ROWS);
+        this.kind = new Uint8Array(ROWS);
+        this.flags = new Uint8Array(ROWS);
+        this.number = new Float64Array(ROWS);
+        /** The same cells, for the numbers that are no safe integers. */
+        this.wide = new BigUint64Array(this.number.buffer);
+    }
+}
+
+export class Trace {
+    constructor() {
+        this.count = 0;
+        /** The offset behind the last event. */
+        this.end = 0;
+        this.columns = [];
+        this.nesting = new Nesting();
+    }
+
+    /** Adds an event; its place counts from `start`. */
+    add(event, start) {
+        const { nesting } = this, { kind, number, width } = event, place = start + event.place;
+        const end = place + (kind === 'piece' ? Number(number) : 1 + (width ?? 0));
+        const at = this.count & ROWS - 1;
+        if (at === 0) this.columns.push(new Columns());
+        const columns = this.columns[this.columns.length - 1];
+        columns.place[at] = place;
+        columns.depth[at] = nesting.depthOf(kind);
+        columns.kind[at] = NUMBER_OF[kind];
+        columns.flags[at] = this.#flagsOf(kind, number, width);
+        if (typeof number === 'bigint') columns.wide[at] = number;
+        else columns.number[at] = number ?? 0;
+        nesting.take({ kind, number, place }, end);
+        this.count += 1;
+        this.end = end;
+    }
+
+    #flagsOf(kind, number, width) {
+        const isInner = kind === 'piece' || kind === 'chunk' || kind === 'break';
+        return (width ?? NONE)
+            | (typeof number === 'bigint' ? IS_WIDE : 0)
+            | (!isInner && this.nesting.isAtKey() ? IS_KEY : 0)
+            | (kind === 'piece' && this.nesting.isInText() ? IS_TEXT : 0);
+    }
+
+    /** An event as it was added, and where it stands. */
+    row(index) {
+        const columns = this.columns[index >> SHIFT], at = index & ROWS - 1;
+        const flags = columns.flags[at], place = columns.place[at], kind = KINDS[columns.kind[at]];
+        const isWithout = (flags & NONE) === NONE, width = isWithout ? undefined : flags & NONE;
+        const number = isWithout ? undefined : flags & IS_WIDE ? columns.wide[at] : columns.number[at];
+        const end = place + (kind === 'piece' ? Number(number) : 1 + (width ?? 0));
+        return { kind, number, place, end, depth: columns.depth[at], isKey: !!(flags & IS_KEY), isText: !!(flags & IS_TEXT) };
+    }
+
+    /** The last event that begins at this offset or before it; -1 if there is none. */
+    indexAt(place) {
+        let low = 0, high = this.count;
+        while (low < high) {
+            const middle = low + high >> 1;
+            if (this.columns[middle >> SHIFT].place[middle & ROWS - 1] <= place) low = middle + 1;
+            else high = middle;
+        }
+        return low - 1;
+    }
+
+    /** What is open before the event of this index, in the item whose first event is `from`. */
+    nestingBefore(index, from) {
+        const nesting = new Nesting();
+        for (let i = from; i < index; i++) {
+            const row = this.row(i);
+            nesting.take(row, row.end);
+        }
+        return nesting;
+    }
+}

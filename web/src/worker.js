@@ -1,0 +1,56 @@
+// Inspects inputs beside the page, which stays free meanwhile. A message is { id, call, given }, an answer { id, answer }.
+import { hasMemory64, load } from '../../bindings/js/src/load.js';
+import { bytesOfText, hexOf, TextError } from './bytes.js';
+import { Inspection } from './inspection.js';
+import { moduleBytes } from './module.js';
+import { Rows } from './rows.js';
+
+const FILE_MAX = 2 ** 29;
+const SHORT = 16384; // bytes of a file that the page shows as hex, and of an input that a link holds
+
+const bits = hasMemory64() ? 64 : 32;
+const library = load(moduleBytes(`naltvigo${bits}.wasm`));
+
+let inspection;
+let rows;
+
+async function bytesOf({ text, format, file }) {
+    if (!file) return bytesOfText(text, format);
+    if (file.size > FILE_MAX) throw new TextError(`The file has more than ${FILE_MAX} bytes.`);
+    return new Uint8Array(await file.arrayBuffer());
+}
+
+const calls = {
+    async inspect({ source, settings }) {
+        const naltvigo = await library, bytes = await bytesOf(source);
+        inspection = new Inspection(naltvigo, bytes, settings);
+        inspection.run((task, done) => postMessage({ progress: { task, done, total: bytes.length } }));
+        rows = new Rows(inspection);
+        const hex = bytes.length <= SHORT ? hexOf(bytes) : undefined;
+        return { ...inspection.report(), rowCount: rows.count, hex, bits, version: naltvigo.version() };
+    },
+
+    rows: ({ from, count }) => rows.page(from, count),
+
+    rowAt: ({ place }) => rows.indexAt(place),
+
+    items({ from, count }) {
+        const list = [], to = Math.min(from + count, inspection.ends.length);
+        for (let item = from + 1; item <= to; item++) list.push(inspection.item(item));
+        return list;
+    },
+
+    /** All of an output, of which the report has the begin. */
+    whole({ name }) {
+        const { diagnostic, canonical } = inspection;
+        return name === 'diagnostic' ? { text: diagnostic } : { text: hexOf(canonical), bytes: canonical };
+    },
+};
+
+onmessage = async ({ data: { id, call, given } }) => {
+    try {
+        postMessage({ id, answer: await calls[call](given) });
+    } catch (error) {
+        postMessage({ id, problem: error instanceof TextError ? error.message : `The page failed: ${error.message}` });
+    }
+};
