@@ -53,7 +53,7 @@ fi
 # in the same folders, so that their links lead somewhere
 while IFS= read -r file; do
     put "$root/$file" "share/doc/naltvigo/$file"
-done < <(cd "$root" && ls README.md CHANGELOG.md CONTRIBUTING.md SECURITY.md LICENSE-MIT LICENSE-APACHE docs/*.md bindings/*/README.md)
+done < <(cd "$root" && ls README.md CHANGELOG.md CONTRIBUTING.md SECURITY.md LICENSE-MIT LICENSE-APACHE docs/*.md bindings/*/README.md web/README.md)
 while IFS= read -r file; do
     case $file in *.so.*.*.*) mode=755 ;; *) mode=644 ;; esac
     put "$dist/$file" "$file" $mode
