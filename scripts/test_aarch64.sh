@@ -9,16 +9,12 @@
 # well', or the status is not 0.
 set -euo pipefail
 . "$(dirname "${BASH_SOURCE[0]}")/lib/options.sh"
+. "$(dirname "${BASH_SOURCE[0]}")/lib/testing.sh"
 take_options 1 "$@"
-root=$(cd "$(dirname "${BASH_SOURCE[0]}")/.." && pwd)
+begin_tests aarch64
 target=aarch64-unknown-linux-gnu
 cc=aarch64-linux-gnu-gcc
 c=$root/c
-scratch=$(mktemp -d)
-trap 'rm -rf "$scratch"' EXIT
-missing=()
-say() { echo "aarch64: $*"; }
-fail() { say "FAILED: $*"; exit 1; }
 
 for tool in $cc aarch64-linux-gnu-objcopy qemu-aarch64-static; do
     command -v $tool >/dev/null || { say "not tested: $tool is not there (Debian: gcc-aarch64-linux-gnu, libc6-dev-arm64-cross, qemu-user-static)"; exit 0; }
@@ -117,5 +113,4 @@ if command -v cargo >/dev/null && [ -d "$(rustc --print sysroot)/lib/rustlib/$ta
 else
     missing+=("cargo with the target $target")
 fi
-listed=$(printf ', %s' "${missing[@]}")
-say "all well${missing[*]:+; not tried, since not there: ${listed#, }}"
+end_tests

@@ -6,11 +6,10 @@
 # else was not. Else the status is not 0.
 set -euo pipefail
 . "$(dirname "${BASH_SOURCE[0]}")/lib/options.sh"
+. "$(dirname "${BASH_SOURCE[0]}")/lib/testing.sh"
 take_options 1 "$@"
+begin_tests bindings
 
-root=$(cd "$(dirname "${BASH_SOURCE[0]}")/.." && pwd)
-scratch=$(mktemp -d)
-trap 'rm -rf "$scratch"' EXIT
 dist=${1:-}
 if [ -z "$dist" ]; then
     dist=$scratch/dist
@@ -18,9 +17,6 @@ if [ -z "$dist" ]; then
 fi
 dist=$(cd "$dist" && pwd)
 export NALTVIGO_LIB=$dist/lib
-missing=()
-say() { echo "bindings: $*"; }
-fail() { say "FAILED: $*"; exit 1; }
 
 python3 "$root/scripts/reasons.py" --check || fail 'the tables of reasons are stale'
 python3 "$root/scripts/header.py" || fail 'the numbers of the bindings are not those of the header'
@@ -53,5 +49,4 @@ if command -v cargo >/dev/null; then
 else
     missing+=(cargo)
 fi
-listed=$(printf ', %s' "${missing[@]}")
-say "all well${missing[*]:+; not tried, since not there: ${listed#, }}"
+end_tests

@@ -9,22 +9,12 @@
 # path; the last line names what else was not there. It begins 'C: all well', or the status is not 0.
 set -euo pipefail
 . "$(dirname "${BASH_SOURCE[0]}")/lib/options.sh"
+. "$(dirname "${BASH_SOURCE[0]}")/lib/testing.sh"
 take_options 1 "$@"
+begin_tests C
 
-root=$(cd "$(dirname "${BASH_SOURCE[0]}")/.." && pwd)
-scratch=$(mktemp -d)
-trap 'rm -rf "$scratch"' EXIT
 dist=${1:-$scratch/dist}
 c=$root/c
-
-say() { echo "C: $*"; }
-fail() { say "FAILED: $*"; exit 1; }
-missing=()
-have() {
-    command -v "$1" >/dev/null && return
-    [[ " ${missing[*]} " = *" $1 "* ]] || missing+=("$1")
-    return 1
-}
 
 compilers=()
 for it in gcc clang; do
@@ -216,5 +206,4 @@ if have pkg-config; then
     answers "$cwt" 0 env LD_LIBRARY_PATH="$dist/lib" "$scratch/cwt"
 fi
 say 'the examples, and the C of docs/C.md, do what is said of them'
-listed=$(printf ', %s' "${missing[@]}")
-say "all well${missing[*]:+; not tried, since not there: ${listed#, }}"
+end_tests

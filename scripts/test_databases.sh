@@ -9,17 +9,14 @@
 # left out because its packages are not there; else the status is not 0.
 set -euo pipefail
 . "$(dirname "${BASH_SOURCE[0]}")/lib/options.sh"
+. "$(dirname "${BASH_SOURCE[0]}")/lib/testing.sh"
 take_options 1 "$@"
+begin_tests databases
 
-root=$(cd "$(dirname "${BASH_SOURCE[0]}")/.." && pwd)
-scratch=$(mktemp -d)
 server=
 trap 'stop_server; rm -rf "$scratch"' EXIT
 count=${COUNT:-10000}
 rows=${ROWS:-1000000}
-missing=()
-say() { echo "databases: $*"; }
-fail() { say "FAILED: $*"; exit 1; }
 
 # The server's user reads what is here.
 umask 022
@@ -154,5 +151,4 @@ test_installation() {
 test_sqlite
 test_postgresql
 test_installation
-listed=$(printf '; %s' "${missing[@]}")
-say "all well${missing[*]:+; not tried, since not there: ${listed#; }}"
+end_tests

@@ -8,21 +8,12 @@
 # 'install: all well', names what else was not. Else the status is not 0.
 set -euo pipefail
 . "$(dirname "${BASH_SOURCE[0]}")/lib/options.sh"
+. "$(dirname "${BASH_SOURCE[0]}")/lib/testing.sh"
 take_options 2 "$@"
+begin_tests install
 
-root=$(cd "$(dirname "${BASH_SOURCE[0]}")/.." && pwd)
-scratch=$(mktemp -d)
-trap 'rm -rf "$scratch"' EXIT
 cc=${CC:-cc}
 version=$(cat "$root/VERSION")
-missing=()
-say() { echo "install: $*"; }
-fail() { say "FAILED: $*"; exit 1; }
-have() {
-    command -v "$1" >/dev/null && return
-    [[ " ${missing[*]} " = *" $1 "* ]] || missing+=("$1")
-    return 1
-}
 
 python3 "$root/scripts/version.py" || fail 'the version is not the same everywhere'
 DIST=${1:-$scratch/dist}
@@ -261,5 +252,4 @@ if have dpkg-deb; then
     done
 fi
 say 'the packages have the transcript of a run, with the sums of their files'
-listed=$(printf ', %s' "${missing[@]}")
-say "all well${missing[*]:+; not tried, since not there: ${listed#, }}"
+end_tests

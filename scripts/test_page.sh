@@ -7,25 +7,16 @@
 # 'page: all well', and names what was not there; or the status is not 0.
 set -euo pipefail
 . "$(dirname "${BASH_SOURCE[0]}")/lib/options.sh"
+. "$(dirname "${BASH_SOURCE[0]}")/lib/testing.sh"
+. "$(dirname "${BASH_SOURCE[0]}")/lib/web.sh"
 take_options 1 "$@"
+begin_tests page
 
-root=$(cd "$(dirname "${BASH_SOURCE[0]}")/.." && pwd)
-scratch=$(mktemp -d)
 server=
 trap '[ -z "$server" ] || kill "$server"; rm -rf "$scratch"' EXIT
-missing=()
-say() { echo "page: $*"; }
-fail() { say "FAILED: $*"; exit 1; }
 
-command -v node >/dev/null || { say 'not tested: Node is not there'; exit 0; }
-[ "$(node -p 'process.versions.node.split(".")[0] >= 20')" = true ] || { say "not tested: Node $(node --version) is older than 20"; exit 0; }
-for module in naltvigo64.wasm naltvigo32.wasm; do
-    [ -e "$root/bindings/js/wasm/$module" ] || fail "bindings/js/wasm/$module is not there: run scripts/build_web.sh"
-done
-tests() { # NAME FILE ..
-    timeout 900 node --test "${@:2}" >"$scratch/log" 2>&1 || { cat "$scratch/log"; fail "$1"; }
-    say "$1: $(sed -n 's/^# pass //p' "$scratch/log") tests"
-}
+need_node_and_modules
+tests() { run_tests "$1" timeout 900 node --test "${@:2}"; } # NAME FILE ..
 
 tests 'the scripts' "$root"/web/tests/scripts.test.mjs
 
@@ -69,5 +60,4 @@ for browser in chromium firefox-esr; do
         missing+=("$browser (Debian: $browser)")
     fi
 done
-listed=$(printf ', %s' "${missing[@]}")
-say "all well${missing[*]:+; not tried, since not there: ${listed#, }}"
+end_tests

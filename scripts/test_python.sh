@@ -8,17 +8,13 @@
 # was not. Else the status is not 0.
 set -euo pipefail
 . "$(dirname "${BASH_SOURCE[0]}")/lib/options.sh"
+. "$(dirname "${BASH_SOURCE[0]}")/lib/testing.sh"
 take_options 1 "$@"
+begin_tests Python
 
-root=$(cd "$(dirname "${BASH_SOURCE[0]}")/.." && pwd)
 package=$root/bindings/python
 dist=$(cd "$1" && pwd)
-scratch=$(mktemp -d)
-trap 'rm -rf "$scratch"' EXIT
 export NALTVIGO_LIB=$dist/lib PYTHONDONTWRITEBYTECODE=1
-missing=()
-say() { echo "Python: $*"; }
-fail() { say "FAILED: $*"; exit 1; }
 
 # Runs what follows the name in a folder apart, so that nothing but what is installed is found.
 try() {
@@ -113,5 +109,4 @@ else
 fi
 try 'random inputs' env PYTHONPATH="$scratch/site" "$python" "$package/tests/fuzz_values.py" 50000 1
 say "$(cat "$scratch/log")"
-listed=$(printf ', %s' "${missing[@]}")
-say "all well${missing[*]:+; not tried, since not there: ${listed#, }}"
+end_tests

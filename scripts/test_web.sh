@@ -8,21 +8,14 @@
 # last line names what else was not there; it begins 'web: all well', or the status is not 0.
 set -euo pipefail
 . "$(dirname "${BASH_SOURCE[0]}")/lib/options.sh"
+. "$(dirname "${BASH_SOURCE[0]}")/lib/testing.sh"
+. "$(dirname "${BASH_SOURCE[0]}")/lib/web.sh"
 take_options 1 "$@"
-root=$(cd "$(dirname "${BASH_SOURCE[0]}")/.." && pwd)
+begin_tests web
 package=$root/bindings/js
 kit=$(dirname "$(rt doc)")
-scratch=$(mktemp -d)
-trap 'rm -rf "$scratch"' EXIT
-missing=()
-say() { echo "web: $*"; }
-fail() { say "FAILED: $*"; exit 1; }
 
-command -v node >/dev/null || { say 'not tested: Node is not there'; exit 0; }
-[ "$(node -p 'process.versions.node.split(".")[0] >= 20')" = true ] || { say "not tested: Node $(node --version) is older than 20"; exit 0; }
-for module in naltvigo64.wasm naltvigo32.wasm; do
-    [ -e "$package/wasm/$module" ] || fail "bindings/js/wasm/$module is not there: run scripts/build_web.sh"
-done
+need_node_and_modules
 
 # ---- in Node, whose flag for 64-bit memory went when it had it by itself
 
@@ -33,9 +26,8 @@ node_with() { # 32 | 64, WORD ..
 }
 memory64='process.exit(WebAssembly.validate(Uint8Array.of(0, 97, 115, 109, 1, 0, 0, 0, 5, 3, 1, 4, 1)) ? 0 : 1)'
 tests() { # NAME 32 | 64, FILE ..
-    node_with "$2" --test "${@:3}" >"$scratch/log" 2>&1 || { cat "$scratch/log"; fail "$1, $2-bit memory"; }
+    run_tests "$1, $2-bit memory" node_with "$2" --test "${@:3}"
     [ "$(sed -n 's/^# skipped //p' "$scratch/log")" = 0 ] || [ -z "${VECTORS:-}" ] || fail "$1: a test was skipped"
-    say "$1, $2-bit memory: $(sed -n 's/^# pass //p' "$scratch/log") tests"
 }
 widths=(32)
 if node_with 64 -e "$memory64" 2>/dev/null; then widths+=(64); else missing+=('64-bit memory in Node'); fi
@@ -107,5 +99,4 @@ if command -v npm >/dev/null; then
 else
     missing+=(npm)
 fi
-listed=$(printf ', %s' "${missing[@]}")
-say "all well${missing[*]:+; not tried, since not there: ${listed#, }}"
+end_tests

@@ -49,68 +49,57 @@ PyObject *canonical_bytes(const struct state *state, const uint8_t *bytes, size_
 
 FUNCTION(canonicalise) {
     static const struct signature signature = {"canonicalise", {"data"}, LIMITS_KEYS_AND_ORDER};
-    const struct state *state = PyModule_GetState(module);
-    struct options options;
-    struct input input;
-    PyObject *data;
-    if (read_arguments(state, &signature, arguments, count, names, &data, &options)) return NULL;
-    if (open_input(&input, data, COPY)) return NULL;
+    struct call call;
+    if (open_call(&call, &signature, COPY, module, arguments, count, names)) return NULL;
     /* canonical bytes are within the limit, however long the input is */
-    PyObject *answer = canonical_bytes(state, input.bytes, input.length, &options, least(input.length, options.bytes));
-    close_input(&input);
+    const size_t space = least(call.input.length, call.options.bytes);
+    PyObject *answer = canonical_bytes(call.state, call.input.bytes, call.input.length, &call.options, space);
+    close_call(&call);
     return answer;
 }
 
 FUNCTION(check) {
     static const struct signature signature = {"check", {"data"}, LIMITS_AND_KEYS};
-    const struct state *state = PyModule_GetState(module);
     struct naltvigo_refusal refusal;
-    struct options options;
-    struct input input;
-    PyObject *data;
-    if (read_arguments(state, &signature, arguments, count, names, &data, &options)) return NULL;
-    if (open_input(&input, data, COPY)) return NULL;
-    PyThreadState *released = release_lock(input.length);
-    const uint32_t status = naltvigo_check_valid_raw(input.bytes, input.length, options.keys, options.depth,
-                                                     options.bytes, &refusal);
+    struct call call;
+    if (open_call(&call, &signature, COPY, module, arguments, count, names)) return NULL;
+    const struct options *options = &call.options;
+    PyThreadState *released = release_lock(call.input.length);
+    const uint32_t status = naltvigo_check_valid_raw(call.input.bytes, call.input.length, options->keys, options->depth,
+                                                     options->bytes, &refusal);
     take_lock(released);
-    close_input(&input);
-    return status == NALTVIGO_OK ? Py_NewRef(Py_None) : raise_status(state, status, &refusal);
+    close_call(&call);
+    return status == NALTVIGO_OK ? Py_NewRef(Py_None) : raise_status(call.state, status, &refusal);
 }
 
-/* The status of a strict check; -1 with an exception where the arguments are wrong. */
-static int64_t check_strictly(const struct state *state, const struct signature *signature, PyObject *const *arguments,
-                              Py_ssize_t count, PyObject *names, struct naltvigo_refusal *refusal) {
-    struct options options;
-    struct input input;
-    PyObject *data;
-    if (read_arguments(state, signature, arguments, count, names, &data, &options)) return -1;
-    if (open_input(&input, data, COPY)) return -1;
-    PyThreadState *released = release_lock(input.length);
-    const uint32_t status = naltvigo_check_canonical_raw(input.bytes, input.length, options.order, options.keys,
-                                                         options.depth, options.bytes, refusal);
+/* The status of a strict check, which closes the call. */
+static uint32_t check_strictly(struct call *call, struct naltvigo_refusal *refusal) {
+    const struct options *options = &call->options;
+    PyThreadState *released = release_lock(call->input.length);
+    const uint32_t status = naltvigo_check_canonical_raw(call->input.bytes, call->input.length, options->order,
+                                                         options->keys, options->depth, options->bytes, refusal);
     take_lock(released);
-    close_input(&input);
+    close_call(call);
     return status;
 }
 
 FUNCTION(check_canonical) {
     static const struct signature signature = {"check_canonical", {"data"}, LIMITS_KEYS_AND_ORDER};
-    const struct state *state = PyModule_GetState(module);
     struct naltvigo_refusal refusal;
-    const int64_t status = check_strictly(state, &signature, arguments, count, names, &refusal);
-    if (status < 0) return NULL;
-    return status == NALTVIGO_OK ? Py_NewRef(Py_None) : raise_status(state, (uint32_t)status, &refusal);
+    struct call call;
+    if (open_call(&call, &signature, COPY, module, arguments, count, names)) return NULL;
+    const uint32_t status = check_strictly(&call, &refusal);
+    return status == NALTVIGO_OK ? Py_NewRef(Py_None) : raise_status(call.state, status, &refusal);
 }
 
 FUNCTION(is_canonical) {
     static const struct signature signature = {"is_canonical", {"data"}, LIMITS_KEYS_AND_ORDER};
-    const struct state *state = PyModule_GetState(module);
     struct naltvigo_refusal refusal;
-    const int64_t status = check_strictly(state, &signature, arguments, count, names, &refusal);
-    if (status < 0) return NULL;
+    struct call call;
+    if (open_call(&call, &signature, COPY, module, arguments, count, names)) return NULL;
+    const uint32_t status = check_strictly(&call, &refusal);
     if (status == NALTVIGO_OK || status == NALTVIGO_REFUSED) return PyBool_FromLong(status == NALTVIGO_OK);
-    return raise_status(state, (uint32_t)status, &refusal);
+    return raise_status(call.state, status, &refusal);
 }
 
 FUNCTION(same) {
@@ -135,8 +124,9 @@ FUNCTION(same) {
 }
 
 /* The text of an item, in a buffer of `space` bytes, or of as many as are needed. */
-static PyObject *text_of(const struct state *state, const struct input *input, const struct options *options,
-                         size_t space) {
+static PyObject *text_of(const struct call *call, size_t space) {
+    const struct options *options = &call->options;
+    const struct input *input = &call->input;
     struct naltvigo_refusal refusal;
     size_t needed;
     uint32_t status;
@@ -152,19 +142,15 @@ static PyObject *text_of(const struct state *state, const struct input *input, c
         if (status == NALTVIGO_OK) return text;
         space = needed;
     } while (status == NALTVIGO_TOO_SMALL);
-    return raise_status(state, status, &refusal);
+    return raise_status(call->state, status, &refusal);
 }
 
 FUNCTION(diagnostic) {
     static const struct signature signature = {"diagnostic", {"data"}, LIMITS_AND_KEYS};
-    const struct state *state = PyModule_GetState(module);
-    struct options options;
-    struct input input;
-    PyObject *data;
-    if (read_arguments(state, &signature, arguments, count, names, &data, &options)) return NULL;
-    if (open_input(&input, data, COPY)) return NULL;
+    struct call call;
+    if (open_call(&call, &signature, COPY, module, arguments, count, names)) return NULL;
     /* most texts have at most four characters a byte */
-    PyObject *text = text_of(state, &input, &options, 64 + 4 * least(input.length, options.bytes));
-    close_input(&input);
+    PyObject *text = text_of(&call, 64 + 4 * least(call.input.length, call.options.bytes));
+    close_call(&call);
     return text;
 }

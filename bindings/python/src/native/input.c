@@ -1,4 +1,4 @@
-/* The bytes of an argument. */
+/* The bytes of an argument, and calls over one such argument. */
 #include "native.h"
 
 /* What the pointer to no bytes points to. */
@@ -42,3 +42,13 @@ PyThreadState *release_lock(size_t length) { return length < LONG_INPUT ? NULL :
 void take_lock(PyThreadState *released) {
     if (released) PyEval_RestoreThread(released);
 }
+
+int open_call(struct call *call, const struct signature *signature, enum reading reading, PyObject *module,
+              PyObject *const *arguments, Py_ssize_t count, PyObject *names) {
+    PyObject *data;
+    call->state = PyModule_GetState(module);
+    if (read_arguments(call->state, signature, arguments, count, names, &data, &call->options)) return -1;
+    return open_input(&call->input, data, reading);
+}
+
+void close_call(struct call *call) { close_input(&call->input); }

@@ -55,13 +55,14 @@ static int is_canonical_too_long(const struct state *state) {
 }
 
 /* The canonical bytes of an input within the limits. They may be longer than max_bytes: that limit is the input's. */
-static PyObject *canonical_copy(const struct state *state, const struct input *input, const struct options *options) {
-    struct options wide = *options;
-    PyObject *copy = canonical_bytes(state, input->bytes, input->length, options, input->length);
-    if (copy || !is_canonical_too_long(state)) return copy;
+static PyObject *canonical_copy(const struct call *call) {
+    const struct input *input = &call->input;
+    struct options wide = call->options;
+    PyObject *copy = canonical_bytes(call->state, input->bytes, input->length, &call->options, input->length);
+    if (copy || !is_canonical_too_long(call->state)) return copy;
     PyErr_Clear();
     wide.bytes = NALTVIGO_BYTES_MAX;
-    return canonical_bytes(state, input->bytes, input->length, &wide, input->length);
+    return canonical_bytes(call->state, input->bytes, input->length, &wide, input->length);
 }
 
 static PyObject *decode_canonical(const struct state *state, const uint8_t *bytes, size_t length,
@@ -80,15 +81,15 @@ static PyObject *decode_canonical(const struct state *state, const uint8_t *byte
     return value;
 }
 
-static PyObject *decode_any(const struct state *state, const struct input *input, const struct options *options) {
-    struct options wide = *options;
+static PyObject *decode_any(const struct call *call) {
+    struct options wide = call->options;
     int is_refused;
-    PyObject *value = decode_canonical(state, input->bytes, input->length, options, &is_refused);
+    PyObject *value = decode_canonical(call->state, call->input.bytes, call->input.length, &call->options, &is_refused);
     if (value || !is_refused) return value;
-    PyObject *copy = canonical_copy(state, input, options);
+    PyObject *copy = canonical_copy(call);
     if (!copy) return NULL;
     wide.bytes = NALTVIGO_BYTES_MAX, wide.canonical = 1;
-    value = decode_canonical(state, (const uint8_t *)PyBytes_AsString(copy), (size_t)PyBytes_Size(copy), &wide,
+    value = decode_canonical(call->state, (const uint8_t *)PyBytes_AsString(copy), (size_t)PyBytes_Size(copy), &wide,
                              &is_refused);
     Py_DECREF(copy);
     return value;
@@ -96,13 +97,9 @@ static PyObject *decode_any(const struct state *state, const struct input *input
 
 FUNCTION(loads) {
     static const struct signature signature = {"loads", {"data"}, LIMITS_KEYS_AND_ORDER | 1u << CANONICAL};
-    const struct state *state = PyModule_GetState(module);
-    struct options options;
-    struct input input;
-    PyObject *data;
-    if (read_arguments(state, &signature, arguments, count, names, &data, &options)) return NULL;
-    if (open_input(&input, data, COPY)) return NULL;
-    PyObject *value = decode_any(state, &input, &options);
-    close_input(&input);
+    struct call call;
+    if (open_call(&call, &signature, COPY, module, arguments, count, names)) return NULL;
+    PyObject *value = decode_any(&call);
+    close_call(&call);
     return value;
 }

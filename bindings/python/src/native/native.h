@@ -81,6 +81,18 @@ void close_input(struct input *input);
 PyThreadState *release_lock(size_t length);
 void take_lock(PyThreadState *released);
 
+/* A call over one buffer: what it was given, until close_call. */
+struct call {
+    const struct state *state;
+    struct options options;
+    struct input input;
+};
+
+/* -1 with an exception where the arguments are wrong, or the operand is no buffer. */
+int open_call(struct call *call, const struct signature *signature, enum reading reading, PyObject *module,
+              PyObject *const *arguments, Py_ssize_t count, PyObject *names);
+void close_call(struct call *call);
+
 /* ---- errors.c ---- */
 
 /* Sets the exception for a status other than OK. They return null. */

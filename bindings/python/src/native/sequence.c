@@ -97,15 +97,11 @@ PyType_Spec items_spec = {"naltvigo._native.Items", sizeof(struct items), 0,
 FUNCTION(items) {
     static const struct signature signature = {
         "items", {"data"}, LIMITS_KEYS_AND_ORDER | 1u << CANONICAL | 1u << OFFSETS};
-    const struct state *state = PyModule_GetState(module);
-    struct options options;
-    struct input input;
-    PyObject *data;
-    if (read_arguments(state, &signature, arguments, count, names, &data, &options)) return NULL;
-    if (open_input(&input, data, IN_PLACE)) return NULL;
-    struct items *self = (struct items *)PyType_GenericAlloc(state->items, 0);
-    if (!self) return close_input(&input), NULL;
-    self->cursor = (struct cursor){input, options, 0, 0};
+    struct call call;
+    if (open_call(&call, &signature, IN_PLACE, module, arguments, count, names)) return NULL;
+    struct items *self = (struct items *)PyType_GenericAlloc(call.state->items, 0);
+    if (!self) return close_call(&call), NULL;
+    self->cursor = (struct cursor){call.input, call.options, 0, 0}; /* which closes the input */
     return (PyObject *)self;
 }
 
@@ -171,24 +167,23 @@ static PyObject *array_of(const struct state *state, const struct growing *ends)
                                  (Py_ssize_t)ends->length);
 }
 
-static PyObject *read_sequence(PyObject *module, PyObject *data, const struct options *options, int is_canonicalising) {
-    const struct state *state = PyModule_GetState(module);
+/* The answer of a call over all items, which it closes. */
+static PyObject *read_sequence(struct call *call, int is_canonicalising) {
     struct naltvigo_refusal refusal;
-    struct cursor cursor = {.options = *options};
+    struct cursor cursor = {call->input, call->options, 0, 0};
     struct growing ends = {NULL, 0, 0}, out = {NULL, 0, 0};
     PyObject *answer = NULL;
-    if (open_input(&cursor.input, data, IN_PLACE)) return NULL;
     PyThreadState *released = release_lock(cursor.input.length);
     const uint32_t status = read_all(&cursor, &ends, is_canonicalising ? &out : NULL, &refusal);
     take_lock(released);
     if (status != NALTVIGO_OK)
-        raise_status_of_item(state, status, &refusal, cursor.count, cursor.at);
+        raise_status_of_item(call->state, status, &refusal, cursor.count, cursor.at);
     else if (is_canonicalising)
         answer = Py_BuildValue("y#N", out.length ? (char *)out.bytes : "", (Py_ssize_t)out.length,
-                               array_of(state, &ends));
+                               array_of(call->state, &ends));
     else
-        answer = array_of(state, &ends);
-    close_input(&cursor.input);
+        answer = array_of(call->state, &ends);
+    close_call(call);
     free(ends.bytes);
     free(out.bytes);
     return answer;
@@ -196,16 +191,14 @@ static PyObject *read_sequence(PyObject *module, PyObject *data, const struct op
 
 FUNCTION(item_ends) {
     static const struct signature signature = {"item_ends", {"data"}, LIMITS_KEYS_AND_ORDER | 1u << CANONICAL};
-    struct options options;
-    PyObject *data;
-    if (read_arguments(PyModule_GetState(module), &signature, arguments, count, names, &data, &options)) return NULL;
-    return read_sequence(module, data, &options, 0);
+    struct call call;
+    if (open_call(&call, &signature, IN_PLACE, module, arguments, count, names)) return NULL;
+    return read_sequence(&call, 0);
 }
 
 FUNCTION(canonicalise_items) {
     static const struct signature signature = {"canonicalise_items", {"data"}, LIMITS_KEYS_AND_ORDER};
-    struct options options;
-    PyObject *data;
-    if (read_arguments(PyModule_GetState(module), &signature, arguments, count, names, &data, &options)) return NULL;
-    return read_sequence(module, data, &options, 1);
+    struct call call;
+    if (open_call(&call, &signature, IN_PLACE, module, arguments, count, names)) return NULL;
+    return read_sequence(&call, 1);
 }
