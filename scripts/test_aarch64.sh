@@ -4,7 +4,8 @@
 # FOLDER is as `build_c.sh --target aarch64-unknown-linux-gnu` makes it; without one it is built. The programs of c/ run, by the
 # archive and by the shared object: the tables, items and values, a machine, each request for memory refused, threads, the
 # stack, the examples; with LIBRARY, the x86-64 libnaltvigo.so, random calls are held against it. The wheel and the
-# packages are made, and the crate for Rust is tested where cargo has the target. Wants aarch64-linux-gnu-gcc, its libc
+# packages are made; with AARCH64_TOOLS, a folder of scripts/fetch_aarch64.sh, the wheel is tested in Python, and the crate
+# for Rust is tested with these tools or where cargo has the target. Wants aarch64-linux-gnu-gcc, its libc
 # and qemu-aarch64-static; where one is not there the last line says so, and nothing is tested. Else it begins 'aarch64: all
 # well', or the status is not 0.
 set -euo pipefail
@@ -40,8 +41,8 @@ say "the archive and the shared object export the header's names alone"
 
 # ---- the programs of c/
 
-python3 "$c/rows.py" "$root"/crates/*/src/tests/*_table.rt >"$scratch/rows.h"
-python3 "$c/events.py" "$(dirname "$root"/crates/*/src/tests/tables.rt)" >"$scratch/events.h"
+python3 "$c/rows.py" "$root"/crates/cbor_reader_tests/src/tests/*_table.rt >"$scratch/rows.h"
+python3 "$c/events.py" "$root/crates/cbor_events_tests/src/tests" >"$scratch/events.h"
 # a caller on aarch64 probes its stack, as Debian's compiler does for its packages; see docs/C.md
 flags=(-std=c99 -pedantic -Wall -Wextra -Werror -Wno-overlength-strings -D_POSIX_C_SOURCE=200112L "-I$dist/include" "-I$scratch" -O2 -fstack-clash-protection)
 archive=$dist/lib/libnaltvigo.a
@@ -103,14 +104,31 @@ $cc "$c/canonicalise.c" "-I$scratch/unpacked/include" "-L$scratch/unpacked/lib" 
 [ "$("${qemu[@]}" -E "LD_LIBRARY_PATH=$scratch/unpacked/lib" "$scratch/canonicalise" "$scratch/streamed.cbor" | od -An -tx1 | tr -d ' \n')" = a263416d74216346756ef5 ] ||
     fail 'the example, by the package'
 
+# ---- the wheel, in Debian's Python for aarch64
+
+tools=${AARCH64_TOOLS:-none}
+if [ -d "$tools/python" ]; then
+    python=(qemu-aarch64-static -L "$tools/python" "$tools/python/usr/bin/python3" -m unittest)
+    for name in appendix values hostile sequences; do
+        (cd "$root/bindings/python/tests" && PYTHONDONTWRITEBYTECODE=1 PYTHONPATH=$scratch/wheel "${python[@]}" "test_$name") >"$scratch/log" 2>&1 ||
+            { cat "$scratch/log"; fail "the wheel: test_$name"; }
+        say "the wheel, in Python: test_$name: $(sed -n 's/^\(Ran [0-9]* tests\).*/\1/p' "$scratch/log")"
+    done
+else
+    missing+=("Python for aarch64 (scripts/fetch_aarch64.sh)")
+fi
+
 # ---- the crate for Rust
 
+if [ -d "$tools/rust" ]; then
+    export PATH=$tools/rust/usr/bin:$PATH LD_LIBRARY_PATH=$tools/rust/usr/lib/x86_64-linux-gnu
+fi
 if command -v cargo >/dev/null && [ -d "$(rustc --print sysroot)/lib/rustlib/$target" ]; then
     export NALTVIGO_LIB=$dist/lib CARGO_TARGET_DIR=$scratch/target
     export CARGO_TARGET_AARCH64_UNKNOWN_LINUX_GNU_LINKER=$cc CARGO_TARGET_AARCH64_UNKNOWN_LINUX_GNU_RUNNER="${qemu[*]}"
     (cd "$root/bindings/rust" && cargo test --offline -q --target $target --tests) >"$scratch/log" 2>&1 || { cat "$scratch/log"; fail 'tests in Rust'; }
-    say 'the crate for Rust: its tests pass'
+    say "the crate for Rust, by $(rustc --version | cut -d' ' -f1,2): its tests pass"
 else
-    missing+=("cargo with the target $target")
+    missing+=("cargo with the target $target (scripts/fetch_aarch64.sh)")
 fi
 end_tests

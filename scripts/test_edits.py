@@ -7,7 +7,9 @@ to pass where nothing is edited. An edit has the form of the must-fail edits of 
 crate, its test and the crate where that stands. One that the compiler refuses, so that no prover sees it, has the
 name of that error in a line 'refused': it has to be refused so.
 
-    scripts/test_edits.py [NAME ..]
+    scripts/test_edits.py [--check] [NAME ..]
+
+An edit's test and the text that it replaces have to be there, once. With --check nothing more is asked.
 """
 
 import os
@@ -86,13 +88,7 @@ def refuses(name, folder, tests, test, error, changes):
         print(f"edits: {name}: {test} fails without the edit:\n{said[-2000:]}")
         return False
     for file, old, new in changes:
-        path = os.path.join(folder, file)
-        with open(path, encoding="utf-8") as text:
-            count = text.read().count(old)
-        if count != 1:
-            print(f"edits: {name}: stands {count} times in {file}: {old}")
-            return False
-        change(path, lambda text: text.replace(old, new))
+        change(os.path.join(folder, file), lambda text: text.replace(old, new))
     if error:
         return is_refused(name, tests, error)
     is_passed, said = run_test(tests, test)
@@ -118,8 +114,33 @@ def is_caught(name):
         return refuses(name, folder, tests, test, error, changes)
 
 
+def count_in(path, text):
+    """How often a text stands in a file; 0 where there is no file."""
+    if not os.path.exists(path):
+        return 0
+    with open(path, encoding="utf-8") as file:
+        return file.read().count(text)
+
+
+def stale_parts(name):
+    """What an edit names and the crates do not have."""
+    crate, tests, test, _, changes = read_edit(name)
+    *modules, function = test.split("::")
+    wanted = [(os.path.join(tests, "src", *modules) + ".rt", f"fn {function}(")]
+    wanted += [(os.path.join(crate, file), old) for file, old, _ in changes]
+    for file, text in wanted:
+        count = count_in(os.path.join(ROOT, "crates", file), text)
+        if count != 1:
+            yield f"edits: {name}: stands {count} times in crates/{file}: {text}"
+
+
 def main():
-    names = sys.argv[1:] or sorted(it.removesuffix(".edit") for it in os.listdir(EDITS))
+    words = sys.argv[1:]
+    names = [it for it in words if it != "--check"] or sorted(it.removesuffix(".edit") for it in os.listdir(EDITS))
+    stale = [line for name in names for line in stale_parts(name)]
+    if stale or "--check" in words:
+        print("\n".join(stale) or f"edits: the tests and the text of {len(names)} are there")
+        sys.exit(1 if stale else 0)
     with ThreadPoolExecutor(SIDE_BY_SIDE) as scratch:
         caught = list(scratch.map(is_caught, names))
     sys.exit(0 if all(caught) else 1)
