@@ -106,7 +106,7 @@ $cc "$c/canonicalise.c" "-I$scratch/unpacked/include" "-L$scratch/unpacked/lib" 
 
 # ---- the wheel, in Debian's Python for aarch64
 
-tools=${AARCH64_TOOLS:-none}
+tools=$(realpath -m "${AARCH64_TOOLS:-none}")
 if [ -d "$tools/python" ]; then
     python=(qemu-aarch64-static -L "$tools/python" "$tools/python/usr/bin/python3" -m unittest)
     for name in appendix values hostile sequences; do
