@@ -50,10 +50,11 @@ if [ "$program" != none ]; then
     put "$root/share/_cborc" share/zsh/site-functions/_cborc
     put "$root/share/cborc.fish" share/fish/vendor_completions.d/cborc.fish
 fi
-# in the same folders, so that their links lead somewhere
+# in the same folders, so that their links lead somewhere, with the programs of docs/C.md
 while IFS= read -r file; do
     put "$root/$file" "share/doc/naltvigo/$file"
-done < <(cd "$root" && ls README.md CHANGELOG.md CONTRIBUTING.md SECURITY.md LICENSE-MIT LICENSE-APACHE docs/*.md bindings/*/README.md web/README.md)
+done < <(cd "$root" && ls README.md CHANGELOG.md CONTRIBUTING.md SECURITY.md LICENSE-MIT LICENSE-APACHE docs/*.md bindings/*/README.md \
+    web/README.md c/{cwt,canonicalise,sequence,events}.c)
 while IFS= read -r file; do
     case $file in *.so.*.*.*) mode=755 ;; *) mode=644 ;; esac
     put "$dist/$file" "$file" $mode

@@ -61,6 +61,7 @@ use() { # NAME PREFIX [LIB ROOT]: the folder of the libraries, and the root that
         used+=', C by CMake'
     fi
     python3 "$root/scripts/documents.py" "$prefix/share/doc/naltvigo" || fail "$name: a link in a document"
+    cmp "$prefix/share/doc/naltvigo/c/cwt.c" "$root/c/cwt.c" || fail "$name: an example of docs/C.md"
     say "$name: $used"
 }
 use_page() { # NAME PAGE
