@@ -8,16 +8,16 @@ use Rattle.cbor_head.specs.declared.width.Width.TheVariants.{Direct, One, Two, F
 use Rattle.cbor_head.specs.declared.{major.Major.Major, order.KeyOrder.KeyOrder, reason.Refusal.Refusal, width.Width.Width}
 use Rattle.cbor_model.proofs.{Accepted.accepts_exactly, ReadLaws.length_head}
 use Rattle.cbor_automaton.specs.Bytes.{IsHeadBytes, IsChunkHead, IsEventBytes, last_type}
-use Rattle.cbor_automaton.specs.{Trace.Mark, Marks.count_of, Marks.marks_of, declared.event.Event.Event, declared.event.EventKind.EventKind}
 use Rattle.cbor_automaton.specs.declared.event.EventKind.TheVariants as kinds
+use Rattle.cbor_automaton.specs.{Trace.Mark, Marks.count_of, Marks.marks_of, declared.event.Event.Event, declared.event.EventKind.EventKind}
 use Rattle.cbor_machine.specs.{Machine.KeepsLimits, Machine.IsComplete, NextEvent.ItemEventsView}
-use Rattle.cbor_verdict.{specs.Judged.Never, specs.Kinds.KeepsToKinds, specs.Reading.string_major, specs.Readers.IsRead, specs.Readers.Loses, specs.Reading.IsPrefixUnread}
+use Rattle.cbor_verdict.specs.{Judged.Never, Kinds.KeepsToKinds, Reading.string_major, Reading.IsPrefixUnread, Readers.IsRead, Readers.Loses}
 use Rattle.cbor_verdict.{specs.Refusals.IsReaderReason, proofs.Decisions.whole_beside, proofs.Payloads.IsPayload, proofs.Tops.loses}
 use Rattle.cbor_verdict.proofs.RefusedBehind.{stopped_from, stopped_prefix}
 use Rattle.cbor_strict.specs.StrictReader.{StrictEventsView, StandsStrictly, IsNextClean, IsCleanEnd, IsStrictRefusal, limits_of, strict_call}
 use Rattle.cbor_strict.specs.inner.OpenItems.{IsOver, Stands, frames_in}
-use Rattle.cbor_strict.specs.{declared.open_items.OpenItems.OpenItems, inner.StrictEvents.bounds_of}
-use Rattle.cbor_strict.proofs.{StrictReading.same_bounds, StrictSteps.not_over, StrictSteps.payload_so}
+use Rattle.cbor_strict.{specs.declared.open_items.OpenItems.OpenItems, specs.inner.StrictEvents.bounds_of, proofs.StrictReading.same_bounds}
+use Rattle.cbor_strict.proofs.StrictSteps.{not_over, payload_so}
 
 -- ---- an event has a byte at least
 

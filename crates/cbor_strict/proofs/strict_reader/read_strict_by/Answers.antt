@@ -1,5 +1,4 @@
-use Rattle.std.proofs.Common.{subst, Ok}
-use Rattle.std.proofs.lemmas.Option.{IfSome_then}
+use Rattle.std.proofs.{Common.subst, Common.Ok, lemmas.Option.IfSome_then}
 use Rattle.cbor_head.specs.Prelude.{strict}
 use Rattle.cbor_verdict.proofs.{Accepted.verdict_only, CanonicalPrefixes.prefix_read, CanonicalPrefixes.prefix_refused}
 use Rattle.cbor_strict.specs.StrictReader.{IsNextStrict, limits_of, strict_call}

@@ -1,8 +1,7 @@
 use Rattle.std.proofs.Common.{refl, sym, ap, ◌∙◌}
-use Rattle.cbor_strict.specs.StrictReader.{limits_of}
 use Rattle.cbor_strict.proofs.StrictReading.{starts_within, starts_strictly, same_bounds}
 use Rattle.cbor_strict.proofs.strict_events.StrictEvents.restart.Goals as goal
-use Rattle.cbor_strict.specs.inner.StrictEvents.{bounds_of}
+use Rattle.cbor_strict.specs.{StrictReader.limits_of, inner.StrictEvents.bounds_of}
 
 pub invariant_of-self : goal.invariant_of-self
 invariant_of-self c =
