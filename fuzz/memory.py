@@ -9,7 +9,8 @@ output than the first bytes of what usually stands there, OUT as it was and no f
 some documents by each command, and on the rows of the conformance tables as `canon`, `check` and `compare` judge
 them. Of the calls over readers and `read_view`, on the rows: one call answers Memory, at a place before the end of its usual
 answer, with as many bytes taken as it tells, and every other call answers as usual; the strict reader answers
-Memory again, and reads nothing behind it. And that a head asks for no memory by itself: behind a head of 2^64 - 1,
+Memory again, and reads nothing behind it. That the strict readers ask for no more on items of a megabyte without
+keys than on shorter ones. And that a head asks for no memory by itself: behind a head of 2^64 - 1,
 2^32 or 2^20 bytes, members or pairs, with nothing or little there, no more is asked for than behind a zero, but
 for a constant and so much a byte that came. Ends with status 1 where anything else happens.
 
@@ -305,6 +306,20 @@ def judge_reader(case, given, usual):
     return "reported" if is_told else "wrong"
 
 
+def count_long(program):
+    """What the strict readers ask for on long items without keys, and what is wrong with it."""
+    found = []
+    for count in (1 << 16, 1 << 20):
+        given, asked, size = program.run(Case(b"", [], f"long {count:07}\n".encode()))
+        read = f"{count + 5},{count + 5},0 ".encode()
+        if given[0] != 0 or given[1] != 3 * read + b"\n":
+            return size, [f"long items of {count} bytes: {given}"]
+        found.append((size, asked))
+    if found[0] != found[1]:
+        return found[1][0], [f"long items of 2^16 bytes: {found[0]}; of 2^20 bytes: {found[1]}"]
+    return found[0][0], []
+
+
 def main():
     words = argparse.ArgumentParser(description=__doc__, formatter_class=argparse.RawDescriptionHelpFormatter)
     words.add_argument("--program")
@@ -334,6 +349,9 @@ def main():
             wrong += found
             reported, found = refuse_calls(given.readers, library, folder)
             print(f"memory refused to calls over whole items: {reported} reported, {len(found)} else")
+            wrong += found
+            size, found = count_long(readers[0])
+            print(f"long items of the strict readers: {size} bytes asked for, whatever the length, {len(found)} else")
             wrong += found
     for line in wrong[:20]:
         print(line)

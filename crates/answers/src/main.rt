@@ -12,16 +12,19 @@
 //! piece), `none` or a refusal; then `taken`, `open`, `spans`, `kept` and the length of `piece`.
 //! Behind the calls stands for how many bytes each read was asked.
 //!
-//! A line that begins with `memory` and a count has what [`memory`] says, of a valid item.
+//! A line that begins with `memory` and a count has what [`memory`] says, of a valid item; a line of `long`
+//! and a count what [`long`] says.
 #![tactic(auto)]
 
 mod asked;
 mod events;
+mod long;
 mod memory;
 mod parts;
 mod writing;
 
 use crate::events::answer_events;
+use crate::long::answer_long;
 use crate::memory::answer_memory;
 use crate::parts::Parts;
 use crate::writing::{put_hex, put_refusal};
@@ -72,6 +75,9 @@ fn answer_line<W: Write>(alloc: Global, line: &str, out: &mut W) -> io::Result<(
         };
         let bytes = hex::decode(alloc, digits).map_err(|_| malformed())?;
         return answer_memory(alloc, &bytes, limits, idle, out);
+    }
+    if let Some(count) = line.strip_prefix("long ") {
+        return answer_long(alloc, count.parse::<u32>().map_err(|_| malformed())?, out);
     }
     let Some((limits, digits)) = limits_of(line) else {
         return Err(malformed());

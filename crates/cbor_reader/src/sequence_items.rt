@@ -12,7 +12,7 @@ use crate::tree_reader::read_tree_by;
 use cbor_events::ItemEvents;
 use cbor_head::{KeyOrder, Limits, Reason, Refusal};
 use cbor_item::Tree;
-use cbor_strict::read_strict_by;
+use cbor_strict::{StrictEvents, read_strict_by};
 use std::alloc::Global;
 use std::io::Read;
 use std::marker::Model;
@@ -29,19 +29,21 @@ pub struct SequenceItems {
     limits: Limits,
     // They become each item's in turn, so that the open containers are made once.
     events: ItemEvents,
+    strict_events: StrictEvents,
     finished: bool,
 }
 
 impl Model for SequenceItems {
     ghost use Rattle.std.specs.Prelude.{◌≡◌, false};
     ghost use Rattle.cbor_reader.specs.Sequence.{SequenceItemsView};
+    ghost use Rattle.cbor_strict.specs.StrictReader.{limits_of};
 
     ghost Value = { SequenceItemsView };
 
     ghost view = { λ s. record { limits = s.limits; finished = s.finished } };
 
     ghost invariant = { λ s. s.finished ≡ false → (s.events.machine.depth ≡ s.limits.depth)
-        × (s.events.machine.bytes ≡ s.limits.bytes) };
+        × (s.events.machine.bytes ≡ s.limits.bytes) × (limits_of s.strict_events ≡ s.limits) };
 }
 
 impl SequenceItems {
@@ -54,6 +56,7 @@ impl SequenceItems {
             alloc,
             limits,
             events: ItemEvents::new(limits),
+            strict_events: StrictEvents::new(alloc, limits, KeyOrder::Bytewise),
             finished: false,
         }
     }
@@ -110,7 +113,7 @@ impl SequenceItems {
         if self.finished {
             return None;
         }
-        match read_strict_by(self.alloc, &mut self.events, reader, self.limits, order) {
+        match read_strict_by(&mut self.strict_events, reader, order) {
             Ok(count) => Some(Ok(count)),
             Err(refusal) => last(&mut self.finished, refusal),
         }

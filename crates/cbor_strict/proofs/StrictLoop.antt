@@ -1,75 +1,124 @@
 -- The strict reader's events, one after another, until the item is complete or refused.
-use Rattle.std.proofs.Common.{◌≡◌, ℕ, ◌+◌, ◌-◌, ◌<◌, ◌≤◌, Option, Some, None, List, [], ◌++◌, length, refl, sym, ap, ◌∙◌, subst, arith, append-nil, take, length-append}
+use Rattle.std.proofs.Common.{◌≡◌, ℕ, ◌+◌, ◌-◌, ◌<◌, ◌≤◌, Option, Some, None, List, [], ◌++◌, length, refl, sym, ap, ◌∙◌, subst, inl, inr, arith, append-nil, take, length-append}
 use Rattle.std.{specs.Option.IfSome, proofs.Math.Seq.take-append-add, specs.Io.KnownBytes.Consumes}
 use Rattle.std.proofs.KnownBytes.{Consumes-nil, Consumes-trans}
-use Rattle.cbor_head.specs.Prelude.{Bounds, AreBounds, Spelling, IsItem, spell, strict, Complaint, IsComplaint}
-use Rattle.cbor_head.specs.declared.{order.KeyOrder.KeyOrder, reason.Refusal.Refusal}
-use Rattle.cbor_model.proofs.Accepted.{accepts_exactly}
-use Rattle.cbor_automaton.specs.declared.event.Event.{Event}
-use Rattle.cbor_machine.specs.{Machine.KeepsLimits, NextEvent.ItemEventsView, NextEvent.StandsBetween}
-use Rattle.cbor_verdict.{specs.Kinds.KeepsToKinds, specs.Readers.IsRead, specs.Reading.IsPrefixUnread, proofs.Decisions.whole_beside}
-use Rattle.cbor_verdict.proofs.{KindFrames.keeps_start, RefusedBehind.stopped_from, RefusedBehind.stopped_prefix, Tops.loses}
-use Rattle.cbor_verdict.specs.RefusedBehind.{IsRefusedBehind}
-use Rattle.cbor_strict.specs.inner.StrictEvents.{GoesOn, HasCome, IsStrictlyRead}
-use Rattle.cbor_strict.specs.{declared.open_items.OpenItems.OpenItems, inner.LastKeys.view_value, inner.LastKeys.IsKept, inner.OpenItems.Stands}
-use Rattle.cbor_strict.proofs.StrictReading.{stands_first}
+use Rattle.cbor_head.specs.Prelude.{Bounds, Spelling, IsItem, spell, strict, Complaint, Complains, IsComplaint}
+use Rattle.cbor_head.specs.declared.major.Major.TheVariants as majors
+use Rattle.cbor_head.specs.declared.width.Width.TheVariants.{Direct, One, Two, Four, Eight, Indefinite}
+use Rattle.cbor_head.specs.declared.{major.Major.Major, order.KeyOrder.KeyOrder, reason.Refusal.Refusal, width.Width.Width}
+use Rattle.cbor_model.proofs.{Accepted.accepts_exactly, ReadLaws.length_head}
+use Rattle.cbor_automaton.specs.Bytes.{IsHeadBytes, IsChunkHead, IsEventBytes, last_type}
+use Rattle.cbor_automaton.specs.declared.event.EventKind.TheVariants as kinds
+use Rattle.cbor_automaton.specs.{Trace.Mark, Marks.count_of, Marks.marks_of, declared.event.Event.Event, declared.event.EventKind.EventKind}
+use Rattle.cbor_machine.specs.{Machine.KeepsLimits, Machine.IsComplete, NextEvent.ItemEventsView}
+use Rattle.cbor_verdict.specs.{Judged.Never, Kinds.KeepsToKinds, Reading.string_major, Reading.IsPrefixUnread, Readers.IsRead, Readers.Loses}
+use Rattle.cbor_verdict.{specs.Refusals.IsReaderReason, proofs.Decisions.whole_beside, proofs.Payloads.IsPayload, proofs.Tops.loses}
+use Rattle.cbor_verdict.proofs.RefusedBehind.{stopped_from, stopped_prefix}
+use Rattle.cbor_strict.specs.StrictReader.{StrictEventsView, StandsStrictly, IsNextClean, IsCleanEnd, IsStrictRefusal, limits_of, strict_call}
+use Rattle.cbor_strict.specs.inner.OpenItems.{IsOver, Stands, frames_in}
+use Rattle.cbor_strict.{specs.declared.open_items.OpenItems.OpenItems, specs.inner.StrictEvents.bounds_of, proofs.StrictReading.same_bounds}
+use Rattle.cbor_strict.proofs.StrictSteps.{not_over, payload_so}
 
--- what was read is known, and has no complaint
-pub record IsRunning (o : KeyOrder) (b : Bounds) (v : OpenItems) (e : ItemEventsView) (from now : Option (List ℕ)) : Type 0 where
+-- ---- an event has a byte at least
+
+head_some : (m : Major) (w : Width) (n : ℕ) (bs : List ℕ) → IsHeadBytes m w n bs → 0 < length bs
+head_some m Direct n bs h = omega (arith, ap length h.1, length_head m Direct n)
+head_some m One n bs h = omega (arith, ap length h.1, length_head m One n)
+head_some m Two n bs h = omega (arith, ap length h.1, length_head m Two n)
+head_some m Four n bs h = omega (arith, ap length h.1, length_head m Four n)
+head_some m Eight n bs h = omega (arith, ap length h.1, length_head m Eight n)
+head_some m Indefinite n bs h = omega (arith, ap length h.1, length_head m Indefinite 0)
+
+chunk_some : (type : Option Major) (w : Width) (n : ℕ) (bs : List ℕ) → IsChunkHead type w n bs → 0 < length bs
+chunk_some (Some m) w n bs h = omega (arith, ap length h.1, length_head m w n)
+chunk_some None w n bs h = absurd h
+
+event_some : (reported : List Mark) (w : Width) (kind : EventKind) (bs : List ℕ) → IsEventBytes reported w kind bs → 0 < length bs
+event_some reported w (kinds.Unsigned n) bs h = head_some majors.Unsigned w n bs h.1
+event_some reported w (kinds.Negative n) bs h = head_some majors.Negative w n bs h.1
+event_some reported w (kinds.Simple n) bs h = head_some majors.Simple w n bs h.1
+event_some reported w (kinds.Bytes n) bs h = head_some majors.Bytes w (count_of n) bs h.1
+event_some reported w (kinds.Text n) bs h = head_some majors.Text w (count_of n) bs h.1
+event_some reported w (kinds.Array n) bs h = head_some majors.Array w (count_of n) bs h.1
+event_some reported w (kinds.Map n) bs h = head_some majors.Map w (count_of n) bs h.1
+event_some reported w (kinds.Tag n) bs h = head_some majors.Tag w n bs h.1
+event_some reported w (kinds.Chunk n) bs h = chunk_some (last_type None reported) w n bs h.1
+event_some reported w (kinds.Piece n) bs h = omega (arith, h.0.1, h.1)
+event_some reported w kinds.End bs h = omega (arith, ap length h.1)
+
+-- ---- from one event to the next
+
+-- the events that were reported are those of what was read
+pub record IsRunning (o : KeyOrder) (b : Bounds) (v : StrictEventsView) (from now : Option (List ℕ)) : Type 0 where
   pub t : List ℕ
+  pub marks : List Mark
   pub consumed : Consumes from now t
-  pub stands : Stands v b e t
-  pub keeps : KeepsToKinds b (strict v.order) t
+  pub stands : StandsStrictly v t marks
   pub order : v.order ≡ o
+  pub limits : limits_of v ≡ b
 
-pub runs_first : (o : KeyOrder) (b : Bounds) (v : OpenItems) (e : ItemEventsView) (from : Option (List ℕ)) → AreBounds b → e.refusal ≡ None → (e.machine.depth ≡ b.depth) × (e.machine.bytes ≡ b.bytes) → StandsBetween e.machine [] [] → v.left ≡ 0 → IsKept (view_value v.keys) [] [] → v.order ≡ o → IsRunning o b v e from from
-runs_first o b v e from within live same starts none kept order = record { t = []; consumed = Consumes-nil from; stands = stands_first b e v within live same starts none kept; keeps = keeps_start b (strict v.order); order = order }
+pub runs_first : (o : KeyOrder) (b : Bounds) (v : StrictEventsView) (from : Option (List ℕ)) → StandsStrictly v [] [] → v.order ≡ o → limits_of v ≡ b → IsRunning o b v from from
+runs_first o b v from stands order limits = record { t = []; marks = []; consumed = Consumes-nil from; stands = stands; order = order; limits = limits }
 
-module _ (o : KeyOrder) (b : Bounds) (v new : OpenItems) (e after : ItemEventsView) (from now to : Option (List ℕ)) (h : IsRunning o b v e from now) where
-  pub runs_on : (ev : Event) → GoesOn new b e after h.t now to ev → new.order ≡ v.order → IsRunning o b new after from to
-  runs_on ev n same = record {
-    t = h.t ++ n.next.bytes;
-    consumed = Consumes-trans from now to h.t n.next.bytes h.consumed n.next.consumed;
+-- where nothing more is reported the item is complete
+over : (v : OpenItems) (b : Bounds) (e : ItemEventsView) (t : List ℕ) → Stands v b e t → IsComplete e.machine → IsOver v b e t
+over v b e t (inl h) c = absurd (not_over b e t _ h.at (λ g. cc g) c)
+over v b e t (inr (inl h)) c = absurd (not_over b e t _ h.at (λ g. subst IsPayload g (payload_so (string_major v.is_text) v.left (frames_in h.fs) h.some)) c)
+over v b e t (inr (inr h)) c = h
+
+module _ (o : KeyOrder) (b : Bounds) (v new : StrictEventsView) (from now to : Option (List ℕ)) (h : IsRunning o b v from now) where
+  pub runs_limits : KeepsLimits v.machine new.machine → new.keys ≡ v.keys → limits_of new ≡ b
+  runs_limits limits keys = ap (bounds_of new.machine) keys ∙ sym (same_bounds v.machine new.machine v.keys limits) ∙ h.limits
+
+  pub runs_on : (ev : Event) → IsNextClean ev (strict_call v new now to h.t h.marks) → KeepsLimits v.machine new.machine → new.order ≡ v.order → new.keys ≡ v.keys → IsRunning o b new from to
+  runs_on ev n limits order keys = record {
+    t = h.t ++ n.event.bytes;
+    marks = h.marks ++ marks_of ev.width ev.kind;
+    consumed = Consumes-trans from now to h.t n.event.bytes h.consumed n.event.consumed;
     stands = n.stands;
-    keeps = n.keeps;
-    order = same ∙ h.order;
+    order = order ∙ h.order;
+    limits = runs_limits limits keys;
   }
 
-  pub runs_farther : (ev : Event) → GoesOn new b e after h.t now to ev → KeepsLimits e.machine after.machine → after.machine.bytes - after.machine.taken < e.machine.bytes - e.machine.taken
-  runs_farther ev n l =
-      omega (arith, n.between.stands.taken, n.next.stands.stands.taken, n.next.stands.stands.limited, l.bytes, n.some, length-append h.t n.next.bytes)
+  pub runs_farther : (ev : Event) → IsNextClean ev (strict_call v new now to h.t h.marks) → KeepsLimits v.machine new.machine → new.machine.bytes - new.machine.taken < v.machine.bytes - v.machine.taken
+  runs_farther ev n limits =
+      omega (arith, h.stands.between.stands.taken, n.stands.between.stands.taken, n.stands.between.stands.limited, limits.bytes, event_some h.marks ev.width ev.kind n.event.bytes n.event.are, length-append h.t n.event.bytes)
 
   -- the whole item is read
-  pub runs_out : (count : ℕ) → HasCome new b e after h.t now to → new.order ≡ v.order → count ≡ after.machine.taken → IsStrictlyRead (strict o) b from to count
-  runs_out count n same c =
-      let s = n.over.item in
-      let whole : spell s ≡ h.t = sym n.over.taken in
-      let all : count ≡ length h.t = c ∙ n.over.at.stands.stands.taken in
-      let item : IsItem b.depth s (spell s) = record { spelled = n.over.spelled; within = n.over.within; bytes_are = refl } in
-      let none : (x : Complaint) → IsComplaint b (strict o) s x → ⊥ =
-      subst (λ (p : KeyOrder). (x : Complaint) → IsComplaint b (strict p) s x → ⊥) (same ∙ h.order) (whole_beside b (strict new.order) s item (subst (KeepsToKinds b (strict new.order)) n.over.taken n.keeps) n.over.clean) in
+  pub runs_out : (count : ℕ) → IsCleanEnd (strict_call v new now to h.t h.marks) → KeepsLimits v.machine new.machine → count ≡ new.machine.taken → IfSome from (λ input. IsRead b (strict o) input count) × Loses count from to
+  runs_out count n limits c =
+      let w = h.stands.inner in
+      let bb = limits_of v in
+      let end = over v.inner.items bb v.inner.events h.t w.stands (subst IsComplete (sym w.machine_is) n.end.complete) in
+      let s = end.item in
+      let whole : spell s ≡ h.t = sym end.taken in
+      let all : count ≡ length h.t = c ∙ n.stands.between.stands.taken in
+      let item : IsItem bb.depth s (spell s) = record { spelled = end.spelled; within = end.within; bytes_are = refl } in
+      let clean = subst (λ (p : KeyOrder). Never (Complains (strict p) 0 s)) w.order_is end.clean in
+      let none : (x : Complaint) → IsComplaint bb (strict v.order) s x → ⊥ = whole_beside bb (strict v.order) s item (subst (KeepsToKinds bb (strict v.order)) end.taken w.keeps) clean in
       let lost : Consumes from to h.t = subst (Consumes from to) (append-nil h.t) (Consumes-trans from now to h.t [] h.consumed n.end.consumed) in
-      record {
-        read = prefix_read from to lost (λ rest. record {
-          item = s;
-          verdict = (accepts_exactly b (strict o) (h.t ++ rest) s).1
-              (take (b.bytes - length h.t) rest, (n.over.spelled, n.over.within, cut rest s (omega (arith, c, all, n.over.at.stands.stands.limited, n.over.at.bytes)) whole), none);
-          size = all ∙ ap length (sym whole);
-        });
-        taken = loses h.t count from to all (record { more = h.t; consumed = lost; are = refl });
-      }
+      let read : IfSome from (λ input. IsRead bb (strict v.order) input count) = prefix_read from to lost (λ rest. record {
+        item = s;
+        verdict = (accepts_exactly bb (strict v.order) (h.t ++ rest) s).1 (take (bb.bytes - length h.t) rest, (end.spelled, end.within, cut rest s (omega (arith, c, all, n.stands.between.stands.limited, limits.bytes)) whole), none);
+        size = all ∙ ap length (sym whole);
+      }) in (
+        subst (λ (x : Bounds). IfSome from (λ input. IsRead x (strict o) input count)) h.limits (subst (λ (p : KeyOrder). IfSome from (λ input. IsRead bb (strict p) input count)) h.order read),
+        loses h.t count from to all (record { more = h.t; consumed = lost; are = refl }),
+      )
     where
-      cut : (rest : List ℕ) (s : Spelling) → length h.t ≤ b.bytes → spell s ≡ h.t → spell s ++ take (b.bytes - length h.t) rest ≡ take b.bytes (h.t ++ rest)
+      cut : (rest : List ℕ) (s : Spelling) → length h.t ≤ v.machine.bytes → spell s ≡ h.t → spell s ++ take (v.machine.bytes - length h.t) rest ≡ take v.machine.bytes (h.t ++ rest)
       cut rest s l e =
-          let left = b.bytes - length h.t in
-          let sum : length h.t + left ≡ b.bytes = omega (arith, l) in
+          let left = v.machine.bytes - length h.t in
+          let sum : length h.t + left ≡ v.machine.bytes = omega (arith, l) in
           ap (λ (x : List ℕ). x ++ take left rest) e ∙ sym (take-append-add h.t rest left) ∙ ap (λ (m : ℕ). take m (h.t ++ rest)) sum
 
-      prefix_read : (from to : Option (List ℕ)) → Consumes from to h.t → ((rest : List ℕ) → IsRead b (strict o) (h.t ++ rest) count) → IfSome from (λ input. IsRead b (strict o) input count)
+      prefix_read : (from to : Option (List ℕ)) → Consumes from to h.t → ((rest : List ℕ) → IsRead (limits_of v) (strict v.order) (h.t ++ rest) count) → IfSome from (λ input. IsRead (limits_of v) (strict v.order) input count)
       prefix_read None to c r = tt
       prefix_read (Some input) None c r = absurd c
-      prefix_read (Some input) (Some rest) c r = subst (λ (x : List ℕ). IsRead b (strict o) x count) (sym c) (r rest)
+      prefix_read (Some input) (Some rest) c r = subst (λ (x : List ℕ). IsRead (limits_of v) (strict v.order) x count) (sym c) (r rest)
 
   -- it is refused
-  pub runs_stop : (f : Refusal) → IsRefusedBehind (strict v.order) b h.t now to f → IsPrefixUnread (strict o) b from to f
-  runs_stop f n = subst (λ (p : KeyOrder). IsPrefixUnread (strict p) b from to f) h.order (stopped_prefix (strict v.order) b f from to (stopped_from (strict v.order) b f [] h.t from now to h.consumed n))
+  pub runs_stop : (f : Refusal) → IsStrictRefusal f (strict_call v new now to h.t h.marks) → IsReaderReason (limits_of v) (strict v.order) f.reason → IsPrefixUnread (strict o) b from to f
+  runs_stop f n reason =
+      let behind = stopped_from (strict v.order) (limits_of v) f [] h.t from now to h.consumed (record { bytes = n.bytes; consumed = n.consumed; read = n.read; reason = reason; unread = n.verdict }) in
+      subst (λ (x : Bounds). IsPrefixUnread (strict o) x from to f) h.limits (subst (λ (p : KeyOrder). IsPrefixUnread (strict p) (limits_of v) from to f) h.order (stopped_prefix (strict v.order) (limits_of v) f from to behind))

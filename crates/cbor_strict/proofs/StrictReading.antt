@@ -13,8 +13,8 @@ use Rattle.cbor_verdict.{proofs.Decisions.none_beside, specs.Kinds.KeepsToKinds,
 use Rattle.cbor_verdict.proofs.{OpenSteps.none_open, Steps.same-marks}
 use Rattle.cbor_strict.specs.inner.OpenItems.{frames_in, bytes_before, Stands}
 use Rattle.cbor_strict.specs.StrictReader.{StrictEventsView, StandsStrictly, IsNextStrict, IsStrictRefusal, IsAgainstEvent, StopsAtOnce, strict_call}
-use Rattle.cbor_strict.specs.inner.StrictEvents.{StandsSomewhere, IsStep, AnswersStep, IsLittle, bounds_of, piece_unless}
-use Rattle.cbor_strict.specs.{declared.open_items.OpenItems.OpenItems, inner.LastKeys.view_value, inner.LastKeys.IsKept}
+use Rattle.cbor_strict.specs.inner.StrictEvents.{StandsSomewhere, IsStep, AnswersStep, IsLittle, AreWithinBounds, bounds_of, piece_unless}
+use Rattle.cbor_strict.specs.{declared.last_keys.LastKeys.LastKeys, declared.open_items.OpenItems.OpenItems, inner.LastKeys.view_value, inner.LastKeys.IsKept}
 use Rattle.cbor_strict.proofs.{KeptReading.stands_counted, KeptReading.stands_little, OpenBegins.lift}
 
 -- ---- nothing has a complaint
@@ -111,14 +111,31 @@ stands_strictly e v keys t ms h s keeps =
       inner = record { machine_is = refl; order_is = refl; stands = s; keeps = keeps };
     }
 
-same_bounds : (old new : MachineView) (keys : Keys) → KeepsLimits old new → bounds_of old keys ≡ bounds_of new keys
+pub same_bounds : (old new : MachineView) (keys : Keys) → KeepsLimits old new → bounds_of old keys ≡ bounds_of new keys
 same_bounds old new keys h = ap (λ (d : ℕ). with_keys (bounds d old.bytes) keys) (sym h.depth) ∙ ap (λ (n : ℕ). with_keys (bounds new.depth n) keys) (sym h.bytes)
+
+-- the limits that the events were made with
+pub first_bounds : (limits : Bounds) (keys : Keys) (e : ItemEventsView) → keys ≡ limits.keys → (e.machine.depth ≡ limits.depth) × (e.machine.bytes ≡ limits.bytes) → bounds_of e.machine keys ≡ limits
+first_bounds limits keys e asks same = ap (λ (n : ℕ). with_keys (bounds e.machine.depth n) keys) same.1 ∙ ap (λ (d : ℕ). with_keys (bounds d limits.bytes) keys) same.0 ∙ ap (with_keys (bounds limits.depth limits.bytes)) asks
 
 pub starts_strictly : (limits : Bounds) (keys : Keys) (e : ItemEventsView) (v : OpenItems) → keys ≡ limits.keys → AreBounds limits → e.refusal ≡ None → (e.machine.depth ≡ limits.depth) × (e.machine.bytes ≡ limits.bytes) → StandsBetween e.machine [] [] → v.left ≡ 0 → IsKept (view_value v.keys) [] [] → StandsStrictly (shown e v keys None) [] []
 starts_strictly limits keys e v asks within live same h none kept =
-    stands_strictly e v keys [] [] h
-    (subst (λ (b : Bounds). Stands v b e []) (ap (with_keys (bounds limits.depth limits.bytes)) (sym asks) ∙ ap (λ (d : ℕ). with_keys (bounds d limits.bytes) keys) (sym same.0) ∙ ap (λ (n : ℕ). with_keys (bounds e.machine.depth n) keys) (sym same.1)) (stands_first limits e v within live same h none kept))
-    (keeps_start (bounds_of e.machine keys) (strict v.order))
+    stands_strictly e v keys [] [] h (subst (λ (b : Bounds). Stands v b e []) (sym (first_bounds limits keys e asks same)) (stands_first limits e v within live same h none kept)) (keeps_start (bounds_of e.machine keys) (strict v.order))
+
+pub somewhere_little : (e : ItemEventsView) (v : OpenItems) (keys : Keys) → StandsSomewhere keys v e → IsLittle v e
+somewhere_little e v keys h = stands_little v h.b e h.t h.stands
+
+pub starts_within : (limits : Bounds) (keys : Keys) (e : ItemEventsView) (v : OpenItems) → keys ≡ limits.keys → AreBounds limits → e.refusal ≡ None → (e.machine.depth ≡ limits.depth) × (e.machine.bytes ≡ limits.bytes) → StandsBetween e.machine [] [] → v.left ≡ 0 → IsKept (view_value v.keys) [] [] → AreWithinBounds e v keys None
+starts_within limits keys e v asks within live same h none kept =
+    let there : StandsSomewhere keys v e = record { b = limits; asks = sym asks; t = []; stands = stands_first limits e v within live same h none kept; keeps = keeps_start limits (strict v.order) } in
+    record {
+      stands = λ n. there;
+      stopped = tt;
+      limits = (omega (arith, within.0, same.0), omega (arith, within.1, same.1));
+      within = h.stands.bounded;
+      limited = h.stands.limited;
+      little = somewhere_little e v keys there;
+    }
 
 -- whichever limits ask for the same keys
 reason_as : (r : Rules) (limits others : Bounds) (x : Reason) → limits.keys ≡ others.keys → IsReaderReason limits r x → IsReaderReason others r x
@@ -170,5 +187,30 @@ module _ (e after : ItemEventsView) (v new : OpenItems) (keys : Keys) (from to :
   pub refused_reason : (b : Bounds) (f : Refusal) → b.keys ≡ keys → StandsSomewhere keys v e → AnswersStep keys v new e after from to (Err f) → IsReaderReason b (strict v.order) f.reason
   refused_reason b f same h answers = reason_as (strict v.order) h.b b f.reason (h.asks ∙ sym same) (answers h.b h.t h.asks h.stands h.keeps).1.reason
 
-pub somewhere_little : (e : ItemEventsView) (v : OpenItems) (keys : Keys) → StandsSomewhere keys v e → IsLittle v e
-somewhere_little e v keys h = stands_little v h.b e h.t h.stands
+  pub within_next : (o : Option Event) (r : Option Refusal) → r ≡ None → AreWithinBounds e v keys r → AnswersStep keys v new e after from to (Ok o) → AreWithinBounds after new keys r
+  within_next o r none h answers =
+      let there = stands_next o (h.stands none) answers in
+      record {
+        stands = λ n. there;
+        stopped = rw none tt;
+        limits = (omega (arith, h.limits.0, limits.depth), omega (arith, h.limits.1, limits.bytes));
+        within = limits.open_count;
+        limited = limits.taken;
+        little = somewhere_little after new keys there;
+      }
+
+  -- nothing is kept behind a refusal
+  pub within_stopped : (f : Refusal) (r : Option Refusal) (last : LastKeys) → r ≡ None → AreWithinBounds e v keys r → AnswersStep keys v new e after from to (Err f) → new.order ≡ v.order → after.machine.taken ≡ f.read → IsKept (view_value last) [] [] → AreWithinBounds after (record new { keys = last }) keys (Some f)
+  within_stopped f r last none h answers same read kept = record {
+    stands = λ n. absurd (cc n);
+    stopped = (
+      sym read,
+      subst (λ (o : KeyOrder). IsReaderReason (bounds_of after.machine keys) (strict o) f.reason) (sym same) (refused_reason (bounds_of after.machine keys) f refl (h.stands none) answers),
+      ap length kept.spans,
+      ap length kept.bytes,
+    );
+    limits = (omega (arith, h.limits.0, limits.depth), omega (arith, h.limits.1, limits.bytes));
+    within = limits.open_count;
+    limited = limits.taken;
+    little = record { levels = omega (arith, ap length kept.levels); spans = omega (arith, ap length kept.spans); kept = omega (arith, ap length kept.bytes) };
+  }

@@ -25,11 +25,11 @@ piece_bytes : (kind : EventKind) → IsPiece kind → (kept piece bytes : List �
 piece_bytes (kinds.Piece n) h kept piece bytes k = k
 piece_bytes _ h kept piece bytes k = absurd h
 
-payload_so : (m : Major) (n : ℕ) (fs : List Container) → 0 < n → IsPayload (payload false m n fs)
+pub payload_so : (m : Major) (n : ℕ) (fs : List Container) → 0 < n → IsPayload (payload false m n fs)
 payload_so m zero fs l = absurd (omega (arith, l))
 payload_so m (suc n) fs l = tt
 
-not_over : (b : Bounds) (e : ItemEventsView) (t : List ℕ) (q : Place) → IsAt b e t q → (q ≡ done → ⊥) → IsComplete e.machine → ⊥
+pub not_over : (b : Bounds) (e : ItemEventsView) (t : List ℕ) (q : Place) → IsAt b e t q → (q ≡ done → ⊥) → IsComplete e.machine → ⊥
 not_over b e t q a f c = f (is-done b e t q a c)
 
 module _ (v : OpenItems) (b : Bounds) (e new : ItemEventsView) (t : List ℕ) (from to : Option (List ℕ)) (same : SameLimits e.machine new.machine) (live : new.refusal ≡ None) where

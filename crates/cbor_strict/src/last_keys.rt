@@ -81,12 +81,12 @@ impl LastKeys {
 
     // Nothing is kept any more.
     pub(crate) fn forget(&mut self)
-        ensures none { ((view_value self.new).spans ≡ []) × ((view_value self.new).bytes ≡ [])
-            × ((view_value self.new).levels ≡ []) }
+        ensures { IsKept (view_value self.new) [] [] }
     {
         self.levels.clear();
         self.spans.clear();
         self.bytes.clear();
+        self.open_keys = 0;
     }
 
     // Whether what comes stands in a key that is not complete.

@@ -17,9 +17,9 @@
 
 mod head_faults;
 mod last_keys;
+mod next_event;
 mod open_items;
 mod strict_events;
-mod strict_prefix;
 mod strict_reader;
 mod strict_slice;
 
@@ -27,5 +27,6 @@ mod strict_slice;
 const MOST_OPEN: usize = cbor_head::MAX_DEPTH as usize;
 
 pub use cbor_head::KeyOrder;
+pub use strict_events::StrictEvents;
 pub use strict_reader::{StrictReader, read_strict, read_strict_by};
 pub use strict_slice::check_canonical;

@@ -50,6 +50,17 @@ impl OpenItems {
         }
     }
 
+    // Nothing is open any more, and another item is expected.
+    pub(crate) fn restart(&mut self, order: KeyOrder)
+        ensures kept { IsKept (view_value self.new.keys) [] [] }
+        ensures none { self.new.left ≡ 0 }
+        ensures order { self.new.order ≡ order }
+    {
+        self.order = order;
+        self.keys.forget();
+        self.left = 0;
+    }
+
     // Whether a key is expected that is to be an integer or a text, and nothing of it was read.
     #[inline(always)]
     pub(crate) fn asks(&self, keys: Keys) -> bool

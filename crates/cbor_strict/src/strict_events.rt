@@ -1,81 +1,161 @@
-//! The next event of an item by the strict rules, from a reader.
+//! The events of one item by the strict rules, from a reader that each call is handed.
 
-ghost use Rattle.std.specs.Prelude.{◌≡◌, ℕ, List, None, OnOk, IfErr, true, false};
+ghost use Rattle.std.specs.Prelude.{◌≡◌, ◌≤◌, ℕ, List, [], length, None, Some, Err};
+ghost use Rattle.std.specs.Prelude.{IfErr, IfSome, OnOk, OnErr};
+ghost use Rattle.cbor_head.specs.Complaint.{strict};
 ghost use Rattle.cbor_automaton.specs.Trace.{Mark};
 ghost use Rattle.cbor_automaton.specs.Marks.{IsProper};
 ghost use Rattle.cbor_machine.specs.Machine.{KeepsLimits, IsIdle};
-ghost use Rattle.cbor_machine.specs.NextEvent.{IfReported, StandsBetween, call};
-ghost use Rattle.cbor_strict.specs.StrictReader.{StopsAtOnce};
-ghost use Rattle.cbor_strict.specs.inner.StrictEvents.{StandsSomewhere, AnswersStep, IsNextOf};
-ghost use Rattle.cbor_events.specs.NextKey.{IsKeyReason};
+ghost use Rattle.cbor_machine.specs.NextEvent.{IfReported};
+ghost use Rattle.cbor_verdict.specs.Refusals.{IsReaderReason};
+ghost use Rattle.cbor_strict.specs.StrictReader.{StrictEventsView, StandsStrictly};
+ghost use Rattle.cbor_strict.specs.StrictReader.{IsNextStrict, limits_of, strict_call};
+ghost use Rattle.cbor_strict.specs.inner.LastKeys.{view_value};
+ghost use Rattle.cbor_strict.specs.inner.StrictEvents.{AreWithinBounds, piece_unless};
 
+use crate::next_event::next_event;
 use crate::open_items::OpenItems;
-use cbor_automaton::{Event, EventKind};
+use cbor_automaton::Event;
 use cbor_events::ItemEvents;
-use cbor_head::{Keys, Refusal};
+use cbor_head::{KeyOrder, Keys, Limits, Refusal};
+use std::alloc::Global;
 use std::io::Read;
+use std::marker::Model;
 
-// The next event, if no complaint ends with it.
-pub(crate) fn next_event<R: Read>(
-    events: &mut ItemEvents,
-    items: &mut OpenItems,
+/// The events of one item by the rules of the deterministic encoding, and what is kept of its keys.
+///
+/// Of each open container there is at most one frame, and at most one span; so there are never more
+/// of either than the depth limit allows.
+#[derive(Drop)]
+pub struct StrictEvents {
+    events: ItemEvents,
+    items: OpenItems,
     keys: Keys,
-    reader: &mut R,
-) -> Result<Option<Event>, Refusal>
-    requires { StandsSomewhere keys items.old events.old }
-    ensures order { items.new.order ≡ items.old.order }
-    ensures answers { AnswersStep keys items.old items.new events.old events.new
-        (R.remaining reader.old) (R.remaining reader.new) result }
-    ensures at_once { IfErr result (λ f. (t : List ℕ) (ms : List Mark)
-        → StandsBetween events.old.machine t ms → StopsAtOnce items.old.order f
-        (call events.old events.new (R.remaining reader.old) (R.remaining reader.new) t ms)) }
-    ensures limits { KeepsLimits events.old.machine events.new.machine }
-    ensures proper { IfReported result (λ e. IsProper e.width e.kind) }
-    ensures live { OnOk result (events.new.refusal ≡ None) }
-    ensures taken { IfErr result (λ f. events.new.machine.taken ≡ f.read) }
-    ensures idle { IsIdle events.old.machine → reader.new ≡ reader.old }
-{
-    let is_asked = items.asks(keys);
-    let event = match next_of(events, is_asked, reader) {
-        Ok(Some(event)) => event,
-        Ok(None) => return Ok(None),
-        Err(refusal) => return Err(refusal),
-    };
-    let open = events.open();
-    let taken = events.taken();
-    if let EventKind::Piece(_) = event.kind {
-        return match items.admit_piece(events.piece(), open, taken) {
-            Ok(()) => Ok(Some(event)),
-            Err(refusal) => Err(refusal),
-        };
-    }
-    match items.admit_head(&event, open, taken) {
-        Ok(()) => Ok(Some(event)),
-        Err(refusal) => Err(refusal),
-    }
+    refusal: Option<Refusal>,
 }
 
-// The next event by form, and by its kind if that is asked for.
-#[inline(always)]
-fn next_of<R: Read>(
-    events: &mut ItemEvents,
-    is_asked: bool,
-    reader: &mut R,
-) -> Result<Option<Event>, Refusal>
-    requires live { events.old.refusal ≡ None }
-    requires head { is_asked ≡ true → events.old.machine.in_payload ≡ false }
-    ensures answers { (t : List ℕ) (ms : List Mark) → StandsBetween events.old.machine t ms
-        → IsNextOf is_asked result
-        (call events.old events.new (R.remaining reader.old) (R.remaining reader.new) t ms) }
-    ensures limits { KeepsLimits events.old.machine events.new.machine }
-    ensures proper { IfReported result (λ e. IsProper e.width e.kind) }
-    ensures live { OnOk result (events.new.refusal ≡ None) }
-    ensures taken { IfErr result (λ f. events.new.machine.taken ≡ f.read) }
-    ensures reason { IfErr result (λ f. IsKeyReason f.reason) }
-    ensures idle { IsIdle events.old.machine → reader.new ≡ reader.old }
-{
-    if is_asked {
-        return events.next_key(reader);
+impl Model for StrictEvents {
+    ghost Value = { StrictEventsView };
+
+    ghost view = { λ e. record {
+      machine = e.events.machine;
+      piece = piece_unless e.refusal e.events.piece;
+      order = e.items.order;
+      keys = e.keys;
+      spans = length (view_value e.items.keys).spans;
+      kept = length (view_value e.items.keys).bytes;
+      refusal = e.refusal;
+      inner = record { events = e.events; items = e.items };
+    } };
+
+    ghost invariant = { λ e. AreWithinBounds e.events e.items e.keys e.refusal };
+}
+
+impl StrictEvents {
+    /// The events of an item whose first byte is still to be read. Takes no memory.
+    pub fn new(alloc: Global, limits: Limits, order: KeyOrder) -> StrictEvents
+        ensures starts { StandsStrictly result [] [] }
+        ensures limits { limits_of result ≡ limits }
+        ensures order { result.order ≡ order }
+        ensures piece { result.piece ≡ [] }
+    {
+        StrictEvents {
+            events: ItemEvents::new(limits),
+            items: OpenItems::new(alloc, order),
+            keys: limits.keys(),
+            refusal: None,
+        }
     }
-    events.next(reader)
+
+    // Goes on with the events of another item, whatever came of the one before, within the same
+    // limits.
+    pub(crate) fn restart(&mut self, order: KeyOrder)
+        ensures starts { StandsStrictly self.new [] [] }
+        ensures limits { limits_of self.new ≡ limits_of self.old }
+        ensures order { self.new.order ≡ order }
+    {
+        self.events.restart();
+        self.items.restart(order);
+        self.refusal = None;
+    }
+
+    // The next event, as `StrictReader::next` answers it.
+    pub(crate) fn next<R: Read>(&mut self, reader: &mut R) -> Result<Option<Event>, Refusal>
+        // For all bytes and marks that the events stood for.
+        ensures answers { (t : List ℕ) (ms : List Mark) → StandsStrictly self.old t ms
+            → IsNextStrict result (strict_call self.old self.new
+            (R.remaining reader.old) (R.remaining reader.new) t ms) }
+        ensures limits { KeepsLimits self.old.machine self.new.machine }
+        ensures order { self.new.order ≡ self.old.order }
+        ensures keys { self.new.keys ≡ self.old.keys }
+        ensures proper { IfReported result (λ e. IsProper e.width e.kind) }
+        ensures live { OnOk result (self.new.refusal ≡ None) }
+        ensures refused { IfErr result (λ f. (self.new.refusal ≡ Some f)
+            × (self.new.machine.taken ≡ f.read)
+            × IsReaderReason (limits_of self.old) (strict self.old.order) f.reason) }
+        ensures emptied { OnErr result ((self.new.piece ≡ [])
+            × (self.new.spans ≡ 0) × (self.new.kept ≡ 0)) }
+
+        // Where nothing is wanted the reader is not touched, nor after a refusal.
+        ensures idle { IsIdle self.old.machine → reader.new ≡ reader.old }
+        ensures again { IfSome self.old.refusal
+            (λ f. (result ≡ Err f) × (self.new ≡ self.old) × (reader.new ≡ reader.old)) }
+    {
+        match self.refusal {
+            Some(refusal) => return Err(refusal),
+            None => {}
+        }
+        match next_event(&mut self.events, &mut self.items, self.keys, reader) {
+            Ok(event) => Ok(event),
+            Err(refusal) => {
+                self.refusal = Some(refusal);
+                self.items.keys.forget();
+                Err(refusal)
+            }
+        }
+    }
+
+    // The bytes of the last `Piece`; none before one, and none after a refusal.
+    pub(crate) fn piece(&self) -> &[u8]
+        ensures piece { result.now ≡ self.now.piece }
+        ensures within { length result.now ≤ 512 }
+    {
+        match self.refusal {
+            None => self.events.piece(),
+            Some(_) => &[],
+        }
+    }
+
+    // How many arrays, maps and tags are open.
+    pub(crate) fn open(&self) -> usize
+        ensures count { result ≡ self.now.machine.open_count }
+        ensures within { result ≤ self.now.machine.depth }
+    {
+        self.events.open()
+    }
+
+    // How many bytes were taken.
+    pub(crate) fn taken(&self) -> u64
+        ensures taken { result ≡ self.now.machine.taken }
+        ensures within { result ≤ self.now.machine.bytes }
+    {
+        self.events.taken()
+    }
+
+    // Of how many maps the place of the last complete key is kept.
+    pub(crate) fn spans(&self) -> usize
+        ensures count { result ≡ self.now.spans }
+        ensures within { result ≤ self.now.machine.open_count }
+        ensures limited { result ≤ self.now.machine.depth }
+    {
+        self.items.keys.spans()
+    }
+
+    // How many bytes of keys are kept.
+    pub(crate) fn kept(&self) -> u64
+        ensures count { result ≡ self.now.kept }
+        ensures within { result ≤ self.now.machine.taken }
+    {
+        self.items.keys.kept() as u64
+    }
 }

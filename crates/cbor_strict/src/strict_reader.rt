@@ -13,16 +13,10 @@ ghost use Rattle.cbor_verdict.specs.Readers.{HasNoCanonicalPrefix, Loses};
 ghost use Rattle.cbor_verdict.specs.Refusals.{IsReaderReason};
 ghost use Rattle.cbor_strict.specs.StrictReader.{StrictReaderView, StandsStrictly};
 ghost use Rattle.cbor_strict.specs.StrictReader.{IsNextStrict, limits_of, strict_call};
-ghost use Rattle.cbor_strict.specs.inner.LastKeys.{view_value};
-ghost use Rattle.cbor_strict.specs.inner.StrictEvents.{StandsSomewhere, IsLittle, bounds_of};
-ghost use Rattle.cbor_strict.specs.inner.StrictEvents.{piece_unless};
 
-use crate::open_items::OpenItems;
-use crate::strict_events::next_event;
-use crate::strict_prefix::read_strict_prefix;
+use crate::strict_events::StrictEvents;
 use cbor_automaton::Event;
-use cbor_events::ItemEvents;
-use cbor_head::{KeyOrder, Keys, Limits, Refusal};
+use cbor_head::{KeyOrder, Limits, Refusal};
 use std::alloc::Global;
 use std::io::Read;
 use std::marker::Model;
@@ -33,8 +27,8 @@ use std::marker::Model;
 /// No byte behind the item is read. The refusal is the one that the bytes within the limits call
 /// for, by the rules of the deterministic encoding; or `Read` or `Memory`, where the reader failed
 /// or memory was refused before: then the place is the count of the bytes taken. After a refusal as
-/// many bytes were taken as its `read` reports. No more containers are ever open than the depth limit
-/// allows: that is an invariant of the machine that it reads through.
+/// many bytes were taken as its `read` reports. No more containers are ever open, and no more frames
+/// kept, than the depth limit allows: that is an invariant of the events that it reads through.
 pub fn read_strict<R: Read>(
     alloc: Global,
     reader: &mut R,
@@ -56,39 +50,40 @@ pub fn read_strict<R: Read>(
     ensures read { IfErr result
         (λ f. Loses f.read (R.remaining reader.old) (R.remaining reader.new)) }
 {
-    read_strict_by(alloc, &mut ItemEvents::new(limits), reader, limits, order)
+    read_strict_by(&mut StrictEvents::new(alloc, limits, order), reader, order)
 }
 
 /// Checks an item by events that the caller keeps from item to item: whatever they reported before, they
 /// become the item's.
 pub fn read_strict_by<R: Read>(
-    alloc: Global,
-    events: &mut ItemEvents,
+    events: &mut StrictEvents,
     reader: &mut R,
-    limits: Limits,
     order: KeyOrder,
 ) -> Result<u64, Refusal>
-    requires limits { (events.old.machine.depth ≡ limits.depth)
-        × (events.old.machine.bytes ≡ limits.bytes) }
-    ensures limits { KeepsLimits events.old.machine events.new.machine }
+    ensures limits { limits_of events.new ≡ limits_of events.old }
     ensures accepted { IfOk result (λ count. IfSome (R.remaining reader.old)
-        (λ input. IsRead limits (strict order) input count)) }
+        (λ input. IsRead (limits_of events.old) (strict order) input count)) }
     ensures canonical { IfOk result (λ count. IfSome (R.remaining reader.old)
-        (λ input. IsCanonicalPrefix limits order input count)) }
+        (λ input. IsCanonicalPrefix (limits_of events.old) order input count)) }
     ensures taken { IfOk result
         (λ count. Loses count (R.remaining reader.old) (R.remaining reader.new)) }
     ensures refused { IfErr result (λ f. IfSome (R.remaining reader.old)
-        (λ input. IsUnread limits (strict order) input f)) }
-    ensures reason { IfErr result (λ f. IsReaderReason limits (strict order) f.reason) }
+        (λ input. IsUnread (limits_of events.old) (strict order) input f)) }
+    ensures reason { IfErr result
+        (λ f. IsReaderReason (limits_of events.old) (strict order) f.reason) }
     ensures no_canonical { IfErr result (λ f. f.reason ≢ reasons.Read → f.reason ≢ reasons.Memory
         → IfSome (R.remaining reader.old)
-        (HasNoCanonicalPrefix limits order)) }
+        (HasNoCanonicalPrefix (limits_of events.old) order)) }
     ensures read { IfErr result
         (λ f. Loses f.read (R.remaining reader.old) (R.remaining reader.new)) }
 {
-    match read_strict_prefix(alloc, events, reader, limits, order) {
-        Ok(count) => Ok(count),
-        Err(refusal) => Err(refusal),
+    events.restart(order);
+    'events: loop {
+        match events.next(reader) {
+            Ok(Some(_)) => {}
+            Ok(None) => return Ok(events.taken()),
+            Err(refusal) => return Err(refusal),
+        }
     }
 }
 
@@ -104,38 +99,13 @@ pub fn read_strict_by<R: Read>(
 #[derive(Drop)]
 pub struct StrictReader<R> {
     reader: R,
-    events: ItemEvents,
-    items: OpenItems,
-    keys: Keys,
-    refusal: Option<Refusal>,
+    events: StrictEvents,
 }
 
 impl<R> Model for StrictReader<R> {
     ghost Value = { StrictReaderView R };
 
-    ghost view = { λ e. record {
-      reader = e.reader;
-      events = record {
-        machine = e.events.machine;
-        piece = piece_unless e.refusal e.events.piece;
-        order = e.items.order;
-        keys = e.keys;
-        spans = length (view_value e.items.keys).spans;
-        kept = length (view_value e.items.keys).bytes;
-        refusal = e.refusal;
-        inner = record { events = e.events; items = e.items };
-      };
-    } };
-
-    ghost invariant = { λ e. record {
-      stands : e.refusal ≡ None → StandsSomewhere e.keys e.items e.events;
-      stopped : IfSome e.refusal (λ f. (f.read ≡ e.events.machine.taken)
-          × IsReaderReason (bounds_of e.events.machine e.keys) (strict e.items.order) f.reason
-          × (length (view_value e.items.keys).spans ≡ 0) × (length (view_value e.items.keys).bytes ≡ 0));
-      within : e.events.machine.open_count ≤ e.events.machine.depth;
-      limited : e.events.machine.taken ≤ e.events.machine.bytes;
-      little : IsLittle e.items e.events;
-    } };
+    ghost view = { λ e. record { reader = e.reader; events = e.events } };
 }
 
 impl<R: Read> StrictReader<R> {
@@ -151,10 +121,7 @@ impl<R: Read> StrictReader<R> {
     {
         StrictReader {
             reader,
-            events: ItemEvents::new(limits),
-            items: OpenItems::new(alloc, order),
-            keys: limits.keys(),
-            refusal: None,
+            events: StrictEvents::new(alloc, limits, order),
         }
     }
 
@@ -186,23 +153,7 @@ impl<R: Read> StrictReader<R> {
         ensures again { IfSome self.old.events.refusal
             (λ f. (result ≡ Err f) × (self.new ≡ self.old)) }
     {
-        match self.refusal {
-            Some(refusal) => return Err(refusal),
-            None => {}
-        }
-        match next_event(
-            &mut self.events,
-            &mut self.items,
-            self.keys,
-            &mut self.reader,
-        ) {
-            Ok(event) => Ok(event),
-            Err(refusal) => {
-                self.refusal = Some(refusal);
-                self.items.keys.forget();
-                Err(refusal)
-            }
-        }
+        self.events.next(&mut self.reader)
     }
 
     /// The bytes of the last `Piece`; none before one, and none after a refusal.
@@ -210,10 +161,7 @@ impl<R: Read> StrictReader<R> {
         ensures piece { result.now ≡ self.now.events.piece }
         ensures within { length result.now ≤ 512 }
     {
-        match self.refusal {
-            None => self.events.piece(),
-            Some(_) => &[],
-        }
+        self.events.piece()
     }
 
     /// How many arrays, maps and tags are open: from its head until its last member.
@@ -239,7 +187,7 @@ impl<R: Read> StrictReader<R> {
         ensures within { result ≤ self.now.events.machine.open_count }
         ensures limited { result ≤ self.now.events.machine.depth }
     {
-        self.items.keys.spans()
+        self.events.spans()
     }
 
     /// How many bytes of keys are kept: those of the last complete key of each open map and of the
@@ -248,6 +196,6 @@ impl<R: Read> StrictReader<R> {
         ensures count { result ≡ self.now.events.kept }
         ensures within { result ≤ self.now.events.machine.taken }
     {
-        self.items.keys.kept() as u64
+        self.events.kept()
     }
 }

@@ -1,12 +1,12 @@
 -- What is reported of the item at the start of an input, event by event, by the strict rules.
 use Rattle.std.specs.Prelude.{◌≡◌, ℕ, ◌<◌, ◌≤◌, ◌++◌, Bool, true, false, List, [], length, Option, Some, None, Result, MatchResult, IfSome}
-use Rattle.cbor_head.specs.Prelude.{Rules, strict, Bounds, bounds, with_keys}
+use Rattle.cbor_head.specs.Prelude.{strict, Bounds, AreBounds, bounds, with_keys}
 use Rattle.cbor_head.specs.declared.{keys.Keys.Keys, order.KeyOrder.KeyOrder, reason.Refusal.Refusal}
 use Rattle.cbor_automaton.specs.{Trace.Mark, declared.event.Event.Event}
 use Rattle.cbor_machine.specs.NextEvent.{ItemEventsView, StandsBetween, Call, IsNext, IsNextEvent, IsEnd, call}
 use Rattle.cbor_machine.specs.{MachineView.MachineView, Machine.IsComplete}
 use Rattle.cbor_events.specs.NextKey.{IsNextKey}
-use Rattle.cbor_verdict.specs.{Kinds.KeepsToKinds, Readers.IsRead, Readers.Loses, RefusedBehind.IsRefusedBehind}
+use Rattle.cbor_verdict.specs.{Kinds.KeepsToKinds, Refusals.IsReaderReason, RefusedBehind.IsRefusedBehind}
 use Rattle.cbor_strict.specs.{declared.open_items.OpenItems.OpenItems, inner.LastKeys.view_value, inner.OpenItems.Stands, inner.OpenItems.IsOver}
 
 -- some bytes are taken, and their keys are of these kinds
@@ -63,6 +63,17 @@ pub record Inner : Type 0 where
 abbrev pub bounds_of : MachineView → Keys → Bounds
 bounds_of m keys = with_keys (bounds m.depth m.bytes) keys
 
+-- What stands of the events between two calls: the bounds on what they read and keep, and, unless they refused, some bytes taken.
+pub record AreWithinBounds (events : ItemEventsView) (items : OpenItems) (keys : Keys) (refusal : Option Refusal) : Type 0 where
+  pub stands : refusal ≡ None → StandsSomewhere keys items events
+  pub stopped : IfSome refusal (λ f. (f.read ≡ events.machine.taken)
+      × IsReaderReason (bounds_of events.machine keys) (strict items.order) f.reason
+      × (length (view_value items.keys).spans ≡ 0) × (length (view_value items.keys).bytes ≡ 0))
+  pub limits : AreBounds (bounds_of events.machine keys)
+  pub within : events.machine.open_count ≤ events.machine.depth
+  pub limited : events.machine.taken ≤ events.machine.bytes
+  pub little : IsLittle items events
+
 -- t led to it
 pub record IsInner (inner : Inner) (m : MachineView) (order : KeyOrder) (keys : Keys) (t : List ℕ) : Type 0 where
   pub machine_is : inner.events.machine ≡ m
@@ -74,10 +85,3 @@ pub record IsInner (inner : Inner) (m : MachineView) (order : KeyOrder) (keys : 
 abbrev pub piece_unless : Option Refusal → List ℕ → List ℕ
 piece_unless None piece = piece
 piece_unless (Some f) piece = []
-
--- ---- the whole
-
--- the whole item is read
-pub record IsStrictlyRead (r : Rules) (b : Bounds) (from to : Option (List ℕ)) (count : ℕ) : Type 0 where
-  pub read : IfSome from (λ input. IsRead b r input count)
-  pub taken : Loses count from to

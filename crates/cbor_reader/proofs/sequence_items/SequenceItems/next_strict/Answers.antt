@@ -1,12 +1,15 @@
+use Rattle.std.proofs.Common.{◌≡◌, subst, IfSome}
 use Rattle.cbor_head.specs.Prelude.{strict}
-use Rattle.cbor_reader.proofs.Sequences.{at_end, refused_as, reason_as}
+use Rattle.cbor_verdict.specs.Readers.{IsUnread}
 use Rattle.cbor_reader.proofs.sequence_items.SequenceItems.next_strict.Goals as goal
+use Rattle.cbor_reader.proofs.Sequences.{at_end, refused_as}
 
 pub returns-in-Err-clause-end : goal.returns-in-Err-clause-end
-returns-in-Err-clause-end g c = rw (← c.self.view_is) (λ none live. at_end (strict c.args.order) c.self.inside.limits _ _ c.in-Err.refusal c.in-Err.ensures.refused c.in-Err.ensures.read (c.last.ensures.end none))
+returns-in-Err-clause-end g c =
+    let unread = subst (λ b. IfSome (g.R.Read.remaining c.args.reader.now) (λ input. IsUnread b (strict c.args.order) input c.in-Err.refusal)) (c.self.invariant c.if-self.false).2 c.in-Err.ensures.refused in
+    rw (← c.self.view_is) (λ none live. at_end (strict c.args.order) c.self.inside.limits _ _ c.in-Err.refusal unread c.in-Err.ensures.read (c.last.ensures.end none))
 
 pub returns-in-Err-clause-refused : goal.returns-in-Err-clause-refused
-returns-in-Err-clause-refused g c = rw (← c.self.view_is) (refused_as (strict c.args.order) c.self.inside.limits c.last.result _ _ c.in-Err.refusal c.in-Err.ensures.refused c.in-Err.ensures.read c.last.ensures.refused)
-
-pub returns-in-Err-clause-reason : goal.returns-in-Err-clause-reason
-returns-in-Err-clause-reason g c = rw (← c.self.view_is) (reason_as c.self.inside.limits (strict c.args.order) c.last.result c.in-Err.refusal c.in-Err.ensures.reason c.last.ensures.refused)
+returns-in-Err-clause-refused g c =
+    let unread = subst (λ b. IfSome (g.R.Read.remaining c.args.reader.now) (λ input. IsUnread b (strict c.args.order) input c.in-Err.refusal)) (c.self.invariant c.if-self.false).2 c.in-Err.ensures.refused in
+    rw (← c.self.view_is) (refused_as (strict c.args.order) c.self.inside.limits c.last.result _ _ c.in-Err.refusal unread c.in-Err.ensures.read c.last.ensures.refused)

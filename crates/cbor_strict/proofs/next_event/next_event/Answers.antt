@@ -6,7 +6,7 @@ use Rattle.cbor_verdict.{specs.Kinds.KeepsToKinds, proofs.Payloads.IsPiece, proo
 use Rattle.cbor_verdict.proofs.RefusedBehind.{stopped_behind}
 use Rattle.cbor_strict.proofs.StrictSteps.{head_reported, piece_reported, end_reported, head_keeps, piece_keeps, of_reported, of_end, live_of, piece_is}
 use Rattle.cbor_strict.proofs.StrictStops.{stopped_there, no_payload, at_once_there}
-use Rattle.cbor_strict.proofs.strict_events.next_event.Goals as goal
+use Rattle.cbor_strict.proofs.next_event.next_event.Goals as goal
 use Rattle.cbor_strict.specs.inner.{OpenItems.Stands, OpenItems.HasPartCome, StrictEvents.IsNextOf}
 use Rattle.cbor_strict.proofs.StrictReading.{by_event, small_piece}
 

@@ -1,9 +1,0 @@
-use Rattle.std.proofs.Common.{◌-◌}
-use Rattle.cbor_strict.proofs.strict_prefix.read_strict_prefix.Given as goal
-use Rattle.cbor_strict.proofs.StrictLoop.{IsRunning}
-
-abbrev pub invariant-events : goal.invariant-events
-invariant-events g l = IsRunning l.fn.order l.fn.limits l.items l.events (g.R.Read.remaining l.fn.reader) (g.R.Read.remaining l.reader)
-
-abbrev pub decreases-events : goal.decreases-events
-decreases-events g l = l.events.machine.bytes - l.events.machine.taken

@@ -1,0 +1,81 @@
+//! The next event of an item by the strict rules, from a reader.
+
+ghost use Rattle.std.specs.Prelude.{◌≡◌, ℕ, List, None, OnOk, IfErr, true, false};
+ghost use Rattle.cbor_automaton.specs.Trace.{Mark};
+ghost use Rattle.cbor_automaton.specs.Marks.{IsProper};
+ghost use Rattle.cbor_machine.specs.Machine.{KeepsLimits, IsIdle};
+ghost use Rattle.cbor_machine.specs.NextEvent.{IfReported, StandsBetween, call};
+ghost use Rattle.cbor_strict.specs.StrictReader.{StopsAtOnce};
+ghost use Rattle.cbor_strict.specs.inner.StrictEvents.{StandsSomewhere, AnswersStep, IsNextOf};
+ghost use Rattle.cbor_events.specs.NextKey.{IsKeyReason};
+
+use crate::open_items::OpenItems;
+use cbor_automaton::{Event, EventKind};
+use cbor_events::ItemEvents;
+use cbor_head::{Keys, Refusal};
+use std::io::Read;
+
+// The next event, if no complaint ends with it.
+pub(crate) fn next_event<R: Read>(
+    events: &mut ItemEvents,
+    items: &mut OpenItems,
+    keys: Keys,
+    reader: &mut R,
+) -> Result<Option<Event>, Refusal>
+    requires { StandsSomewhere keys items.old events.old }
+    ensures order { items.new.order ≡ items.old.order }
+    ensures answers { AnswersStep keys items.old items.new events.old events.new
+        (R.remaining reader.old) (R.remaining reader.new) result }
+    ensures at_once { IfErr result (λ f. (t : List ℕ) (ms : List Mark)
+        → StandsBetween events.old.machine t ms → StopsAtOnce items.old.order f
+        (call events.old events.new (R.remaining reader.old) (R.remaining reader.new) t ms)) }
+    ensures limits { KeepsLimits events.old.machine events.new.machine }
+    ensures proper { IfReported result (λ e. IsProper e.width e.kind) }
+    ensures live { OnOk result (events.new.refusal ≡ None) }
+    ensures taken { IfErr result (λ f. events.new.machine.taken ≡ f.read) }
+    ensures idle { IsIdle events.old.machine → reader.new ≡ reader.old }
+{
+    let is_asked = items.asks(keys);
+    let event = match next_of(events, is_asked, reader) {
+        Ok(Some(event)) => event,
+        Ok(None) => return Ok(None),
+        Err(refusal) => return Err(refusal),
+    };
+    let open = events.open();
+    let taken = events.taken();
+    if let EventKind::Piece(_) = event.kind {
+        return match items.admit_piece(events.piece(), open, taken) {
+            Ok(()) => Ok(Some(event)),
+            Err(refusal) => Err(refusal),
+        };
+    }
+    match items.admit_head(&event, open, taken) {
+        Ok(()) => Ok(Some(event)),
+        Err(refusal) => Err(refusal),
+    }
+}
+
+// The next event by form, and by its kind if that is asked for.
+#[inline(always)]
+fn next_of<R: Read>(
+    events: &mut ItemEvents,
+    is_asked: bool,
+    reader: &mut R,
+) -> Result<Option<Event>, Refusal>
+    requires live { events.old.refusal ≡ None }
+    requires head { is_asked ≡ true → events.old.machine.in_payload ≡ false }
+    ensures answers { (t : List ℕ) (ms : List Mark) → StandsBetween events.old.machine t ms
+        → IsNextOf is_asked result
+        (call events.old events.new (R.remaining reader.old) (R.remaining reader.new) t ms) }
+    ensures limits { KeepsLimits events.old.machine events.new.machine }
+    ensures proper { IfReported result (λ e. IsProper e.width e.kind) }
+    ensures live { OnOk result (events.new.refusal ≡ None) }
+    ensures taken { IfErr result (λ f. events.new.machine.taken ≡ f.read) }
+    ensures reason { IfErr result (λ f. IsKeyReason f.reason) }
+    ensures idle { IsIdle events.old.machine → reader.new ≡ reader.old }
+{
+    if is_asked {
+        return events.next_key(reader);
+    }
+    events.next(reader)
+}
