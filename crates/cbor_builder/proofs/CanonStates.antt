@@ -6,7 +6,7 @@ use Rattle.cbor_builder.specs.Built.{Built, HasDistinctKeysSoFar, IsRepeatReport
 use Rattle.cbor_builder.specs.inner.BuilderState.{open_levels, innermost, IsLaid, WasLaid, IsLeftOpen, came_open_levels}
 use Rattle.cbor_builder.specs.inner.CanonState.{if_sound, view_value, IsNested, IsKept}
 use Rattle.cbor_builder.specs.{declared.builder.Core.Core, declared.repeat.Repeat.Repeat, inner.Repeats.Reports}
-use Rattle.cbor_builder.{specs.declared.canon_builder.CanonBuilder.TheInside.Inside, proofs.KeysSoFar.different_distinct, proofs.OpenMembers.lies_finished}
+use Rattle.cbor_builder.{specs.declared.canon_builder.CanonBuilder.TheInside.Inside, proofs.KeysSoFar.different_distinct, proofs.OpenMembers.whole_item}
 
 -- ---- a builder that takes a part is sound
 
@@ -38,9 +38,9 @@ IsOpen [] = ⊥
 IsOpen (c ∷ os) = Unit {0}
 
 -- the bytes of an item that is whole
-pub whole_bytes : (b : Inside) (w : Built) (bs : List ℕ) → IsKept b → view_value b ≡ w → w.open_levels ≡ plain bs ∷ [] → b.core.out.buf ≡ bs
+pub whole_bytes : (b : Inside) (w : Built) (bs : List ℕ) → IsKept b → view_value b ≡ w → w.open_levels ≡ plain bs ∷ [] → b.core.out ≡ bs
 whole_bytes b w bs kept e p =
-    let k = known IsOpen (λ h. h) b w kept e (subst IsOpen (sym p) tt) in lies_finished b.core k.laid bs (k.open_levels_is ∙ p)
+    let k = known IsOpen (λ h. h) b w kept e (subst IsOpen (sym p) tt) in whole_item b.core k.laid bs (k.open_levels_is ∙ p)
 
 -- ---- a map that does not end
 

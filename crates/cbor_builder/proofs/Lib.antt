@@ -2,7 +2,6 @@ pub mod CanonStates
 pub mod FirstRepeat
 pub mod Growth
 pub mod InOrder
-pub mod InPlace
 pub mod Inserted
 pub mod KeysSoFar
 pub mod LookUp

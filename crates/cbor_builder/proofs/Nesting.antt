@@ -25,13 +25,6 @@ outers_fit c = go c.is_open
     go true = let l = length-append (reverse c.below.items) (outermost ∷ []) in let k = length-reverse c.below.items in omega (arith, l, k, c.below.ok.0, c.below.ok.1, c.below.small)
     go false = omega arith
 
-pub nothing_open : (c : Core) → outers c ≡ [] → c.is_open ≡ false
-nothing_open c e = go c.is_open e
-  where
-    go : (opened : Bool) → (if opened then reverse c.below.items ++ outermost ∷ [] else []) ≡ [] → opened ≡ false
-    go true e = let l = length-append (reverse c.below.items) (outermost ∷ []) in absurd (omega (arith, l, ap length e))
-    go false e = refl
-
 -- where something is around, it was found
 pub found_around : (left : Bool) (fs : List Frame) → OuterTakes fs → (left ≡ false → fs ≡ []) → IsTrue left
 found_around true fs h n = refl

@@ -3,9 +3,9 @@ use Rattle.std.proofs.Common.{◌≡◌, ℕ, Bool, List, [], ◌∷◌, length,
 use Rattle.std.proofs.lemmas.List.{drop_all, Sorted.IsPermutation-refl, Sorted.length_permutation}
 use Rattle.cbor_head.specs.declared.order.KeyOrder.{KeyOrder}
 use Rattle.cbor_model.specs.Parts.{Open}
-use Rattle.cbor_output.specs.{declared.span.Span.Span, Moved.meant}
-use Rattle.cbor_builder.specs.inner.BuilderState.{outers, frames, Stand, IsReordered, IsLeftOpen}
-use Rattle.cbor_builder.specs.inner.Laid.{shape_open, outer_spans, opens, Fits}
+use Rattle.cbor_output.specs.declared.span.Span.{Span}
+use Rattle.cbor_builder.specs.inner.BuilderState.{outers, frames, IsReordered, IsLeftOpen}
+use Rattle.cbor_builder.specs.inner.Laid.{shape_open, outer_spans, opens, Fits, Laid}
 use Rattle.cbor_builder.specs.{Built.IsRepeatedKey, declared.builder.Core.Core, declared.frame.Frame.Frame, declared.frame.Shape.Shape}
 use Rattle.cbor_builder.specs.{declared.frame.Shape.TheVariants.Map, declared.frame.Shape.TheVariants.Key, inner.Repeats.first_of, inner.Repeats.AreOf}
 
@@ -43,11 +43,11 @@ reordered_own o out came ss from start rises s f h =
 
 -- ---- where a map does not end
 
-pub left_open : (s n : Core) → Stand s.order s.out s.spans.items (frames s) → n.order ≡ s.order → n.out ≡ s.out → n.top ≡ s.top → outers n ≡ outers s → IsReordered s.spans.items n.spans.items s.top.shape → IsLeftOpen s n
-left_open s n stand order out top around h = (
+pub left_open : (s n : Core) → Laid s.order s.out s.spans.items (frames s) → n.order ≡ s.order → n.out ≡ s.out → n.top ≡ s.top → outers n ≡ outers s → IsReordered s.spans.items n.spans.items s.top.shape → IsLeftOpen s n
+left_open s n laid order out top around h = (
   (
-    coe 1 0 (i. Stand (order i) (out i) s.spans.items (top i ∷ around i)) stand,
+    coe 1 0 (i. Laid (order i) (out i) s.spans.items (top i ∷ around i)) laid,
     coe 1 0 (i. IsReordered s.spans.items n.spans.items (Frame.shape (top i))) h,
   ),
-  λ i. opens (meant (out i)) s.spans.items (top i ∷ around i),
+  λ i. opens (out i) s.spans.items (top i ∷ around i),
 )

@@ -2,6 +2,5 @@
 pub mod BuilderState
 pub mod CanonState
 pub mod Prefix
-pub mod InPlace
 pub mod Laid
 pub mod Repeats

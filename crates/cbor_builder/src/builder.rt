@@ -6,14 +6,13 @@ ghost use Rattle.cbor_head.specs.Head.{shortest_head, IsSimple};
 ghost use Rattle.cbor_head.specs.declared.major.Major.TheVariants.{Simple};
 ghost use Rattle.cbor_builder.specs.Built.{IsKeyExpected, IsRepeatedKey, IsWaitingKey};
 ghost use Rattle.cbor_model.specs.Parts.{plain, give, opened, extended};
-ghost use Rattle.cbor_builder.specs.inner.Laid.{Takes, IsString, outer_spans, shape_open};
-ghost use Rattle.cbor_builder.specs.inner.BuilderState.{open_levels, frames, outers, IsLaid, Stand};
+ghost use Rattle.cbor_builder.specs.inner.Laid.{Takes, IsString, Laid, outer_spans, shape_open};
+ghost use Rattle.cbor_builder.specs.inner.BuilderState.{open_levels, frames, outers, IsLaid};
 ghost use Rattle.cbor_builder.specs.inner.BuilderState.{WasLaid, came_open_levels};
 ghost use Rattle.cbor_builder.specs.inner.BuilderState.{StandsAs, CoreLeaves};
 ghost use Rattle.cbor_builder.specs.declared.frame.Shape.TheVariants.{Key};
 ghost use Rattle.cbor_output.specs.declared.span.Span.{Span};
 ghost use Rattle.cbor_builder.specs.inner.Repeats.{ReportsOf, Reports};
-ghost use Rattle.cbor_output.specs.Moved.{meant, IsWhole};
 
 mod closing;
 mod given_up;
@@ -27,7 +26,7 @@ use crate::repeat::Repeat;
 use crate::repeats::{first_repeat, outward};
 use cbor_head::{KeyOrder, Major};
 use cbor_model::part;
-use cbor_output::reorder_buffer::ReorderBuffer;
+use cbor_output::output_buffer::OutputBuffer;
 use cbor_output::span::Span;
 use std::alloc::{AllocError, Global};
 
@@ -37,7 +36,7 @@ pub(crate) struct Core {
     pub(crate) order: KeyOrder,
     /// Whether anything is open within the item. It stands here since here it takes no space.
     pub(crate) is_open: bool,
-    pub(crate) out: ReorderBuffer,
+    pub(crate) out: OutputBuffer,
     pub(crate) spans: Vec<Span>,
     pub(crate) top: Frame,
     /// What is open around `top`, but for the outermost.
@@ -52,7 +51,7 @@ impl Core {
         Core {
             order,
             is_open: false,
-            out: ReorderBuffer::new(alloc),
+            out: OutputBuffer::new(alloc),
             spans: Vec::new(alloc),
             top: Frame::outermost(),
             below: Vec::new(alloc),
@@ -73,7 +72,6 @@ impl Core {
     }
 
     /// An item that is its head.
-    #[tactic(auto, using(crate::proofs::OpenMembers::member_ready))]
     #[inline(always)]
     pub(crate) fn leaf(&mut self, major: Major, n: u64) -> Result<(), AllocError>
         requires laid { IsLaid self.old }
@@ -84,13 +82,7 @@ impl Core {
     {
         let at = self.out.len();
         self.out.head(major, n)?;
-        complete(
-            &mut self.top,
-            &mut self.spans,
-            &self.out.buf,
-            self.order,
-            at,
-        )
+        complete(&mut self.top, &mut self.spans, &self.out, self.order, at)
     }
 
     /// A whole string: the first of these bytes.
@@ -109,14 +101,8 @@ impl Core {
             (give (shortest_head major count ++ take count prefix.now) (open_levels self.old)) }
     {
         let at = self.out.len();
-        self.out.buf.string(major, prefix, count)?;
-        complete(
-            &mut self.top,
-            &mut self.spans,
-            &self.out.buf,
-            self.order,
-            at,
-        )
+        self.out.string(major, prefix, count)?;
+        complete(&mut self.top, &mut self.spans, &self.out, self.order, at)
     }
 
     /// An item of no bytes.
@@ -127,13 +113,7 @@ impl Core {
         ensures { CoreLeaves result self.old self.new (give [] (open_levels self.old)) }
     {
         let at = self.out.len();
-        complete(
-            &mut self.top,
-            &mut self.spans,
-            &self.out.buf,
-            self.order,
-            at,
-        )
+        complete(&mut self.top, &mut self.spans, &self.out, self.order, at)
     }
 
     /// A string, an array, a map or a tag begins. The number is the tag's; for the others it says
@@ -162,19 +142,19 @@ impl Core {
         ensures { CoreLeaves result self.old self.new
             (extended (take count prefix.now) (open_levels self.old)) }
     {
-        self.out.buf.extend_prefix(prefix, count)?;
+        self.out.extend_prefix(prefix, count)?;
         Ok(())
     }
 
     // Whether the key that waits for its value is equal to an earlier one of its map.
     pub(crate) fn repeated(&self) -> bool
         requires laid { (first : ℕ) → (key : ℕ) → self.now.top.shape ≡ Key first key
-            → Stand self.now.order self.now.out self.now.spans.items (frames self.now) }
+            → Laid self.now.order self.now.out self.now.spans.items (frames self.now) }
         ensures { IsTrue result ↔ IsRepeatedKey (open_levels self.now) }
     {
         match self.top.shape {
             Shape::Key(first, key) => has_key(
-                &self.out.buf,
+                &self.out,
                 self.order,
                 &self.spans[first..],
                 self.top.rises,
@@ -199,7 +179,7 @@ impl Core {
             (λ key. IsWaitingKey (open_levels self.now) key.now) }
     {
         match self.top.shape {
-            Shape::Key(_, key) => Some(part(self.out.buf.as_slice(), key, self.out.len())),
+            Shape::Key(_, key) => Some(part(self.out.as_slice(), key, self.out.len())),
             _ => None,
         }
     }
@@ -214,9 +194,6 @@ impl Core {
         ensures reports { (came : List Span) → WasLaid came self.old
             → Reports (came_open_levels came self.old) result }
     {
-        // Of keys it makes no difference: they lie as they are meant.
-        let len = self.out.len();
-        self.out.cut(len);
         let own = self.take_repeat();
         let mut found = outward(own, None, 0);
         while self.leave() {
@@ -230,14 +207,11 @@ impl Core {
     // The pair of the first repeated key of the innermost, whose bytes and spans are taken away.
     fn take_repeat(&mut self) -> Option<usize>
         requires laid { (came : List Span) × WasLaid came self.old }
-        requires lies { self.old.out.buf ≡ meant self.old.out }
         ensures reports { (came : List Span) → WasLaid came self.old
-            → ReportsOf (shape_open (meant self.old.out) came self.old.top.start self.old.top.shape)
+            → ReportsOf (shape_open self.old.out came self.old.top.start self.old.top.shape)
             result }
         ensures order { self.new.order ≡ self.old.order }
-        ensures whole { IsWhole self.new.out }
-        ensures meant { meant self.new.out ≡ take self.old.top.from self.old.out.buf }
-        ensures lies { self.new.out.buf ≡ take self.old.top.from self.old.out.buf }
+        ensures out { self.new.out ≡ take self.old.top.from self.old.out }
         ensures spans { self.new.spans.items ≡ outer_spans self.old.spans.items self.old.top.shape }
         ensures around { outers self.new ≡ outers self.old }
     {
@@ -246,11 +220,7 @@ impl Core {
         let count = self.spans.len() - first;
         let mut pair = None;
         if !self.top.rises {
-            pair = first_repeat(
-                self.out.buf.as_slice(),
-                self.order,
-                &mut self.spans[first..],
-            );
+            pair = first_repeat(self.out.as_slice(), self.order, &mut self.spans[first..]);
         }
         self.spans.truncate(first);
         self.out.cut(self.top.from);

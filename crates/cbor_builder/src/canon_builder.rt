@@ -255,7 +255,7 @@ impl CanonBuilder {
     pub fn as_slice(&self) -> &[u8]
         ensures { (bs : List ℕ) → self.now.open_levels ≡ plain bs ∷ [] → result.now ≡ bs }
     {
-        self.core.out.buf.as_slice()
+        self.core.out.as_slice()
     }
 
     /// The bytes, once the item is whole: the canonical bytes of the value that the parts make.
@@ -268,6 +268,6 @@ impl CanonBuilder {
             → result.items ≡ canonical self.order v }
     {
         let CanonBuilder { core, is_sound: _ } = self;
-        core.out.buf.into_vec()
+        core.out.into_vec()
     }
 }

@@ -8,13 +8,11 @@ ghost use Rattle.cbor_builder.specs.inner.Prefix.{ArePrefixed, IsPrefixed};
 ghost use Rattle.cbor_output.specs.Spans.{span_pair};
 ghost use Rattle.cbor_builder.specs.inner.Laid.{Takes, IsReady, shape_after, spans_after};
 ghost use Rattle.cbor_builder.specs.inner.Laid.{KeepsRising};
-ghost use Rattle.cbor_output.specs.Moved.{meant, IsWhole, IsSettled, Stays};
 
 use crate::frame::{Frame, Shape};
 use crate::ranking::{compare, prefix};
 use cbor_head::KeyOrder;
 use cbor_output::output_buffer::OutputBuffer;
-use cbor_output::reorder_buffer::ReorderBuffer;
 use cbor_output::reserve::push;
 use cbor_output::span::Span;
 use std::alloc::AllocError;
@@ -107,34 +105,4 @@ fn finish_pair(
     frame.rises = frame.rises && is_above(bytes, order, spans.as_slice(), first, &span);
     frame.shape = Shape::Map(first);
     push(spans, span)
-}
-
-/// The bytes from `at` on, of a member of what is open, lie as they are meant, where it is a key or,
-/// with nothing open, all that there is.
-#[inline(always)]
-pub(crate) fn settle_member(
-    out: &mut ReorderBuffer,
-    at: usize,
-    holder: &Frame,
-    is_open: bool,
-) -> Result<(), AllocError>
-    requires { IsWhole out.old }
-    ensures whole { OnOk result (IsWhole out.new) }
-    ensures meant { OnOk result (meant out.new ≡ meant out.old) }
-    ensures stays { OnOk result (Stays out.old out.new) }
-    ensures key { OnOk result ((first : ℕ) → holder.now.shape ≡ Map first
-        → IsSettled at out.new) }
-    ensures last { OnOk result (is_open ≡ false → IsSettled at out.new) }
-{
-    if !is_open {
-        out.settle(at)?;
-        return Ok(());
-    }
-    match holder.shape {
-        Shape::Map(_) => {
-            out.settle(at)?;
-            Ok(())
-        }
-        _ => Ok(()),
-    }
 }

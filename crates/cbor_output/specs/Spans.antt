@@ -14,10 +14,6 @@ IsWithin out s = (s.key ≤ s.val) × (s.val ≤ s.end) × (s.end ≤ length out
 abbrev pub AreWithin : List ℕ → List Span → Type 0
 AreWithin out ss = AllByRecursion (IsWithin out) ss
 
--- no span begins before n
-abbrev pub AreBehind : ℕ → List Span → Type 0
-AreBehind n ss = AllByRecursion (λ s. n ≤ s.key) ss
-
 -- what stands at an index past the end
 abbrev pub no_span : Span
 no_span = record { prefix = 0; key = 0; val = 0; end = 0 }

@@ -68,13 +68,6 @@ pub(crate) fn head_bytes(major: Major, n: u64) -> ([u8; 9], usize)
     }
 }
 
-/// How many bytes the shortest head has.
-pub(crate) fn head_len(major: Major, n: u64) -> usize
-    ensures { result ≡ length (shortest_head major n) }
-{
-    head_bytes(major, n).1
-}
-
 // The number in the high three bits of a head.
 #[inline(always)]
 pub(crate) fn number(major: Major) -> u8

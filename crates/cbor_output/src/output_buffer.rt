@@ -49,7 +49,7 @@ impl Model for OutputBuffer {
 
 impl OutputBuffer {
     // Nothing, which takes no memory.
-    pub(crate) fn new(alloc: Global) -> OutputBuffer
+    pub fn new(alloc: Global) -> OutputBuffer
         ensures { result ≡ [] }
     {
         OutputBuffer {
@@ -92,7 +92,7 @@ impl OutputBuffer {
 
     // The shortest head behind what is there.
     #[inline(always)]
-    pub(crate) fn head(&mut self, major: Major, n: u64) -> Result<(), AllocError>
+    pub fn head(&mut self, major: Major, n: u64) -> Result<(), AllocError>
         requires { major ≡ Simple → IsSimple n }
         ensures { OnOk result (self.new ≡ self.old ++ shortest_head major n) }
     {
@@ -181,7 +181,7 @@ impl OutputBuffer {
     }
 
     // What is written up to `end` alone.
-    pub(crate) fn cut(&mut self, end: usize)
+    pub fn cut(&mut self, end: usize)
         requires { end ≤ length self.old }
         ensures { self.new ≡ take end self.old }
     {
@@ -199,7 +199,7 @@ impl OutputBuffer {
 
     // The shortest head in place of what stands between `from` and `start`.
     #[inline(always)]
-    pub(crate) fn fill_head(
+    pub fn fill_head(
         &mut self,
         from: usize,
         start: usize,

@@ -1,6 +1,6 @@
 //! Pairs of maps as spans of the buffer.
 
-ghost use Rattle.std.specs.Prelude.{◌≡◌, ◌++◌, OnOk, map, flat_map};
+ghost use Rattle.std.specs.Prelude.{◌≡◌, ◌≤◌, ◌++◌, OnOk, length, take, map, flat_map};
 ghost use Rattle.cbor_model.specs.Pairs.{pair_bytes};
 ghost use Rattle.cbor_output.specs.Spans.{span_pair, AreWithin};
 
@@ -16,8 +16,21 @@ pub struct Span {
     pub end: usize,
 }
 
-/// The pairs, one behind the other, once more behind what is there.
-pub(crate) fn gather(out: &mut OutputBuffer, spans: &[Span]) -> Result<(), AllocError>
+/// Puts the pairs in this order, in place of what stands from `start` on: their bytes are copied behind it, and moved down.
+pub fn rearrange(out: &mut OutputBuffer, start: usize, spans: &[Span]) -> Result<(), AllocError>
+    requires begins { start ≤ length out.old }
+    requires within { AreWithin out.old spans.now }
+    ensures { OnOk result
+        (out.new ≡ take start out.old ++ flat_map pair_bytes (map (span_pair out.old) spans.now)) }
+{
+    let len = out.len();
+    gather(out, spans)?;
+    out.close_up(start, len);
+    Ok(())
+}
+
+// The pairs, one behind the other, once more behind what is there.
+fn gather(out: &mut OutputBuffer, spans: &[Span]) -> Result<(), AllocError>
     requires { AreWithin out.old spans.now }
     ensures { OnOk result
         (out.new ≡ out.old ++ flat_map pair_bytes (map (span_pair out.old) spans.now)) }

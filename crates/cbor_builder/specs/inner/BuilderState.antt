@@ -1,11 +1,9 @@
 -- What a builder stands for.
 use Rattle.std.specs.Prelude.{if◌then◌else◌, Bool, false, ◌≡◌, ◌↔◌, List, [], ◌∷◌, ◌++◌, reverse, take, drop, IsPermutation, IsTrue, Result, OnOk, IfOk}
-use Rattle.cbor_head.specs.declared.order.KeyOrder.{KeyOrder}
 use Rattle.cbor_model.specs.Parts.{Open, HasNoRepeats}
-use Rattle.cbor_output.specs.{Moved.meant, Moved.IsWhole, declared.reorder_buffer.ReorderBuffer.ReorderBuffer, declared.span.Span.Span}
+use Rattle.cbor_output.specs.declared.span.Span.{Span}
 use Rattle.cbor_builder.specs.inner.Laid.{outermost, shape_open, opens, Laid}
-use Rattle.cbor_builder.specs.{inner.InPlace.Agrees, declared.builder.Core.Core, declared.frame.Frame.Frame, declared.frame.Shape.Shape}
-use Rattle.cbor_builder.specs.declared.frame.Shape.TheVariants.{Map}
+use Rattle.cbor_builder.specs.declared.{builder.Core.Core, frame.Frame.Frame, frame.Shape.Shape, frame.Shape.TheVariants.Map}
 
 -- what is around the innermost, from within: the outermost last, which is always the same
 abbrev pub outers : Core → List Frame
@@ -19,16 +17,13 @@ abbrev pub IsRooted : Core → Type 0
 IsRooted c = c.is_open ≡ false → (c.top ≡ outermost) × (c.below.items ≡ [])
 
 abbrev pub open_levels : Core → List Open
-open_levels c = opens (meant c.out) c.spans.items (frames c)
+open_levels c = opens c.out c.spans.items (frames c)
 
 abbrev pub innermost : Core → Open
-innermost c = shape_open (meant c.out) c.spans.items c.top.start c.top.shape
-
-abbrev pub Stand : KeyOrder → ReorderBuffer → List Span → List Frame → Type 0
-Stand o d ss fs = Laid o (meant d) ss fs × IsWhole d × Agrees d.buf (meant d) ss fs
+innermost c = shape_open c.out c.spans.items c.top.start c.top.shape
 
 abbrev pub IsLaid : Core → Type 0
-IsLaid c = Stand c.order c.out c.spans.items (frames c) × IsRooted c
+IsLaid c = Laid c.order c.out c.spans.items (frames c) × IsRooted c
 
 -- it is laid, and these are open
 abbrev pub StandsAs : Core → List Open → Type 0
@@ -49,10 +44,10 @@ IsReordered came ss s = ss ≡ came
 
 -- what is laid as these came
 abbrev pub WasLaid : List Span → Core → Type 0
-WasLaid came c = Stand c.order c.out came (frames c) × IsReordered came c.spans.items c.top.shape
+WasLaid came c = Laid c.order c.out came (frames c) × IsReordered came c.spans.items c.top.shape
 
 abbrev pub came_open_levels : List Span → Core → List Open
-came_open_levels came c = opens (meant c.out) came (frames c)
+came_open_levels came c = opens c.out came (frames c)
 
 -- what is open does not end: its pairs may stand in another order, and all else stands as it did
 abbrev pub IsLeftOpen : Core → Core → Type 0

@@ -2,32 +2,29 @@
 
 ghost use Rattle.std.specs.Prelude.{◌≡◌, ◌↔◌, ◌≤◌, ◌++◌, IsTrue, false, OnOk, IfOk, drop};
 ghost use Rattle.std.specs.Prelude.{take, length, flat_map, IsPermutation};
-ghost use Rattle.cbor_output.specs.Moved.{meant, IsWhole, KeepsPrefix};
 ghost use Rattle.cbor_model.specs.Pairs.{pair_bytes, HasDistinctBytes};
 ghost use Rattle.cbor_model.specs.Parts.{close, closed, HasNoRepeats};
 ghost use Rattle.cbor_builder.specs.declared.frame.Shape.TheVariants.{Map};
 ghost use Rattle.cbor_builder.specs.inner.BuilderState.{open_levels, innermost, outers, IsLaid, IsReordered};
 ghost use Rattle.cbor_builder.specs.inner.BuilderState.{CoreEnds};
-ghost use Rattle.cbor_builder.specs.inner.InPlace.{AreSameKeys};
 ghost use Rattle.cbor_builder.specs.inner.Laid.{CanClose, OuterTakes, outer_spans, Fits};
 ghost use Rattle.cbor_builder.specs.inner.Laid.{pairs_from};
 ghost use Rattle.cbor_head.specs.Canonical.{in_order};
 
 use crate::builder::Core;
 use crate::frame::{Frame, Shape};
-use crate::member::{complete, settle_member};
+use crate::member::complete;
 use crate::sort::sort_distinct;
 use cbor_head::Major;
+use cbor_output::span::rearrange;
 use std::alloc::AllocError;
 
 impl Core {
     /// The spans of the open map in order. False where two keys of it are equal: then not all are.
     #[inline(always)]
     pub(crate) fn order_spans(&mut self, first: usize) -> bool
-        requires fits { Fits self.old.order (meant self.old.out) self.old.spans.items
+        requires fits { Fits self.old.order self.old.out self.old.spans.items
             self.old.top.from self.old.top.start self.old.top.rises (Map first) }
-        requires keys { AreSameKeys self.old.out.buf (meant self.old.out)
-            (drop first self.old.spans.items) }
         ensures order { self.new.order ≡ self.old.order }
         ensures out { self.new.out ≡ self.old.out }
         ensures top { self.new.top ≡ self.old.top }
@@ -36,37 +33,31 @@ impl Core {
         ensures permuted { IsPermutation (drop first self.old.spans.items)
             (drop first self.new.spans.items) }
         ensures distinct { IsTrue result
-            ↔ HasDistinctBytes (pairs_from (meant self.old.out) self.old.spans.items first) }
+            ↔ HasDistinctBytes (pairs_from self.old.out self.old.spans.items first) }
         ensures pairs { IsTrue result
-            → pairs_from (meant self.old.out) self.new.spans.items first
-            ≡ in_order self.old.order (pairs_from (meant self.old.out) self.old.spans.items first) }
+            → pairs_from self.old.out self.new.spans.items first
+            ≡ in_order self.old.order (pairs_from self.old.out self.old.spans.items first) }
     {
         let order = self.order;
-        sort_distinct(self.out.buf.as_slice(), order, &mut self.spans[first..])
+        sort_distinct(self.out.as_slice(), order, &mut self.spans[first..])
     }
 
     // The pairs of the open map in order. False where two keys of it are equal.
     #[inline(never)]
     fn order_pairs(&mut self, first: usize) -> Result<bool, AllocError>
-        requires whole { IsWhole self.old.out }
-        requires within { self.old.top.start ≤ length (meant self.old.out) }
-        requires fits { Fits self.old.order (meant self.old.out) self.old.spans.items
+        requires within { self.old.top.start ≤ length self.old.out }
+        requires fits { Fits self.old.order self.old.out self.old.spans.items
             self.old.top.from self.old.top.start self.old.top.rises (Map first) }
-        requires keys { AreSameKeys self.old.out.buf (meant self.old.out)
-            (drop first self.old.spans.items) }
         ensures order { self.new.order ≡ self.old.order }
         ensures top { self.new.top ≡ self.old.top }
         ensures around { outers self.new ≡ outers self.old }
         ensures spans { take first self.new.spans.items ≡ take first self.old.spans.items }
         ensures distinct { IfOk result (λ distinct. IsTrue distinct
-            ↔ HasDistinctBytes (pairs_from (meant self.old.out) self.old.spans.items first)) }
-        ensures whole { OnOk result (IsWhole self.new.out) }
-        ensures meant { IfOk result (λ distinct. IsTrue distinct
-            → meant self.new.out ≡ take self.old.top.start (meant self.old.out)
+            ↔ HasDistinctBytes (pairs_from self.old.out self.old.spans.items first)) }
+        ensures out { IfOk result (λ distinct. IsTrue distinct
+            → self.new.out ≡ take self.old.top.start self.old.out
             ++ flat_map pair_bytes (in_order self.old.order
-            (pairs_from (meant self.old.out) self.old.spans.items first))) }
-        ensures prefix { IfOk result (λ distinct. IsTrue distinct
-            → KeepsPrefix self.old.top.start self.old.out self.new.out) }
+            (pairs_from self.old.out self.old.spans.items first))) }
         ensures left { IfOk result (λ distinct. distinct ≡ false → (self.new.out ≡ self.old.out)
             × IsPermutation (drop first self.old.spans.items) (drop first self.new.spans.items)) }
     {
@@ -76,12 +67,11 @@ impl Core {
         if !self.order_spans(first) {
             return Ok(false);
         }
-        self.out.rearrange(self.top.start, &self.spans[first..])?;
+        rearrange(&mut self.out, self.top.start, &self.spans[first..])?;
         Ok(true)
     }
 
     // Puts the bytes of what is open in their final form. False where two keys of it are equal.
-    #[tactic(auto, using(cbor_output::proofs::Drafts::whole_length))]
     #[inline(always)]
     fn close_top(&mut self) -> Result<bool, AllocError>
         requires laid { IsLaid self.old }
@@ -94,11 +84,8 @@ impl Core {
         ensures spans { IfOk result (λ distinct. IsTrue distinct
             → self.new.spans.items ≡ outer_spans self.old.spans.items self.old.top.shape) }
         ensures bytes { IfOk result (λ distinct. IsTrue distinct
-            → meant self.new.out ≡ take self.old.top.from (meant self.old.out)
+            → self.new.out ≡ take self.old.top.from self.old.out
             ++ closed self.old.order (innermost self.old)) }
-        ensures whole { OnOk result (IsWhole self.new.out) }
-        ensures prefix { IfOk result (λ distinct. IsTrue distinct
-            → KeepsPrefix self.old.top.from self.old.out self.new.out) }
         ensures left { IfOk result (λ distinct. distinct ≡ false → (self.new.out ≡ self.old.out)
             × IsReordered self.old.spans.items self.new.spans.items self.old.top.shape) }
     {
@@ -140,14 +127,7 @@ impl Core {
             return Ok(false);
         }
         if self.leave() {
-            settle_member(&mut self.out, from, &self.top, self.is_open)?;
-            complete(
-                &mut self.top,
-                &mut self.spans,
-                &self.out.buf,
-                self.order,
-                from,
-            )?;
+            complete(&mut self.top, &mut self.spans, &self.out, self.order, from)?;
         }
         Ok(true)
     }

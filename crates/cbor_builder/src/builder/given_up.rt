@@ -27,7 +27,6 @@ impl Core {
         if !self.give_up_pairs() {
             return Ok(false);
         }
-        self.out.settle(0)?;
         self.out.cut(self.top.from);
         self.leave();
         Ok(true)

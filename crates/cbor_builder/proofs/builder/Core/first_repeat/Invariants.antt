@@ -1,15 +1,13 @@
 use Rattle.std.proofs.Common.{◌≡◌, ◌-◌, ◌^◌, ◌≤◌, List, length}
-use Rattle.cbor_output.specs.{Moved.meant, Moved.IsWhole, declared.span.Span.Span}
+use Rattle.cbor_output.specs.declared.span.Span.{Span}
 use Rattle.cbor_builder.specs.inner.BuilderState.{outers, WasLaid, came_open_levels}
 use Rattle.cbor_builder.proofs.builder.Core.first_repeat.Given as goal
 use Rattle.cbor_builder.specs.inner.{Laid.opens, Laid.Laid, Repeats.ReportsWithin, Repeats.IsBelow}
 
 abbrev pub invariant-loop-self : goal.invariant-loop-self
 invariant-loop-self l =
-    Laid l.self.order (meant l.self.out) l.self.spans.items (outers l.self)
-    × IsWhole l.self.out
-    × (l.self.out.buf ≡ meant l.self.out)
-    × ((came : List Span) → WasLaid came l.fn.self → ReportsWithin (came_open_levels came l.fn.self) (opens (meant l.self.out) l.self.spans.items (outers l.self)) l.found)
+    Laid l.self.order l.self.out l.self.spans.items (outers l.self)
+    × ((came : List Span) → WasLaid came l.fn.self → ReportsWithin (came_open_levels came l.fn.self) (opens l.self.out l.self.spans.items (outers l.self)) l.found)
     × (length (outers l.self) ≤ 2 ^ 63)
     × IsBelow l.found (2 ^ 63 - length (outers l.self))
     × (l.self.order ≡ l.fn.self.order)

@@ -1,32 +1,25 @@
-use Rattle.std.proofs.Common.{take, sym, ap, ◌∙◌, subst, rules}
+use Rattle.std.proofs.Common.{take, sym, ap, ◌∙◌, rules}
 use Rattle.cbor_model.proofs.Decided.{holds}
-use Rattle.cbor_output.specs.{Moved.meant, Moved.IsWhole, declared.reorder_buffer.ReorderBuffer.ReorderBuffer}
 use Rattle.cbor_builder.proofs.builder.Core.give_up.Goals as goal
-use Rattle.cbor_builder.specs.{inner.BuilderState.outers, inner.BuilderState.frames, inner.Laid.opens, inner.Laid.Laid, declared.frame.Frame.Frame}
-use Rattle.cbor_builder.proofs.{InPlace.agrees_refl, Nesting.found_around, Reordered.left_open}
+use Rattle.cbor_builder.specs.{inner.BuilderState.outers, inner.Laid.opens, inner.Laid.Laid, declared.frame.Frame.Frame}
+use Rattle.cbor_builder.proofs.{Nesting.found_around, Reordered.left_open}
 
 pub returns : goal.returns
 returns c =
     let s = c.args.self.now in
     let n = c.give_up_pairs.new.self in
     let e = c.give_up_pairs.ensures in
-    let d = c.cut.new.self in
-    let b = c.leave.new.self in
     let l = c.leave.ensures in
     let t = found_around c.leave.result (outers s) c.requires.takes (λ none. sym e.around ∙ l.none none) in
-    let out = ap meant l.out ∙ c.cut.ensures.meant ∙ ap (take n.top.from) (c.in_ok-settle.ensures.lies ∙ c.in_ok-settle.ensures.meant ∙ ap meant e.out) ∙ ap (λ (g : Frame). take g.from (meant s.out)) e.top in
-    let lies = ap (λ (x : ReorderBuffer). x.buf) l.out ∙ c.cut.ensures.lies ∙ sym c.cut.ensures.meant ∙ sym (ap meant l.out) in
+    let out = l.out ∙ c.cut.ensures ∙ ap (take n.top.from) e.out ∙ ap (λ (g : Frame). take g.from s.out) e.top in
     let frames_are = sym (l.frames t) ∙ e.around in
     let spans = l.spans ∙ e.spans c.if-not-give_up_pairs.false in
     let order = l.order ∙ e.order in
-    let laid = coe 1 0 (i. Laid (order i) (out i) (spans i) (frames_are i)) c.requires.laid.0.0.3 in
+    let laid = coe 1 0 (i. Laid (order i) (out i) (spans i) (frames_are i)) c.requires.laid.0.3 in
     record {
       order = order;
       distinct = holds (e.distinct.0 c.if-not-give_up_pairs.false);
-      ended = λ _. (
-        ((laid, subst IsWhole (sym l.out) c.cut.ensures.whole, agrees_refl b.out.buf (meant b.out) b.spans.items (frames b) lies), l.rooted t),
-        λ i. opens (out i) (spans i) (frames_are i),
-      );
+      ended = λ _. ((laid, l.rooted t), λ i. opens (out i) (spans i) (frames_are i));
       left = λ e. cc;
     }
 

@@ -1,16 +1,15 @@
-use Rattle.std.proofs.Common.{◌≡◌, ◌+◌, ◌≤◌, ◌++◌, ◌∙◌, ℕ, List, length, length-append, length-drop, length-take, take, drop, map, refl, sym, ap, subst, arith, IsPermutation, append_assoc}
+use Rattle.std.proofs.Common.{◌≡◌, ◌+◌, ◌≤◌, ◌++◌, ◌∙◌, ℕ, List, length, length-append, length-drop, length-take, take, drop, map, refl, sym, ap, subst, arith, IsPermutation, append_assoc, IsTrue, ◌↔◌}
 use Rattle.std.proofs.lemmas.List.{take_rest, Sorted.length_permutation}
-use Rattle.cbor_model.specs.Pairs.{IsRising}
-use Rattle.cbor_output.specs.{Spans.span_pair, declared.span.Span.Span, Moved.meant}
+use Rattle.cbor_model.specs.Pairs.{IsRising, HasDistinctBytes}
+use Rattle.cbor_output.specs.{Spans.span_pair, declared.span.Span.Span}
 use Rattle.cbor_builder.proofs.builder.Core.order_spans.Goals as goal
-use Rattle.cbor_builder.{specs.inner.Prefix.ArePrefixed, proofs.InPlace.prefixed_keys, proofs.InOrder.distinct_iff, proofs.InOrder.order_meant}
-use Rattle.cbor_builder.proofs.Inserted.{taken_prefix, rest_prefix}
+use Rattle.cbor_builder.{specs.inner.Prefix.ArePrefixed, proofs.InOrder.sorted_pairs, proofs.Inserted.taken_prefix, proofs.Inserted.rest_prefix}
 
 pub sort_distinct-requires : goal.sort_distinct-requires
 sort_distinct-requires c =
     let s = c.args.self.now in
     let us = take_rest c.deref_mut.result.now c.args.first ∙ ap (drop c.args.first) c.deref_mut.ensures.value in
-    coe 1 0 (i. ArePrefixed (c.as_slice.ensures i) (us i)) (prefixed_keys s.out.buf (meant s.out) (drop c.args.first s.spans.items) c.requires.keys c.requires.fits.3)
+    coe 1 0 (i. ArePrefixed (c.as_slice.ensures i) (us i)) c.requires.fits.3
 
 -- what a part that is put in order leaves
 placed : (n m : ℕ) (us ys post zs : List Span) → n ≤ length us → n + length ys ≡ m → take m ((take n us ++ (ys ++ post)) ++ zs) ≡ take n us ++ ys
@@ -33,7 +32,7 @@ returns c =
     let prefix : length (take n given) ≡ n = omega (arith, length-take n given, c.requires.fits.0, same) in
     let left = placed n s.spans.len given ys _ _ (omega (arith, c.requires.fits.0, same)) (omega (arith, c.requires.fits.0, length_permutation was ys moved, short, s.spans.ok.0)) in
     let all = ap (drop n) left ∙ rest_prefix n (take n given) ys prefix in
-    let distinct = distinct_iff s.out.buf (meant s.out) c.as_slice.result.now _ was c.sort_distinct.result c.as_slice.ensures us c.requires.keys e.distinct in
+    let distinct = coe 0 1 (i. IsTrue c.sort_distinct.result ↔ HasDistinctBytes (map (span_pair (c.as_slice.ensures i)) (us i))) e.distinct in
     record {
       order = refl;
       out = refl;
@@ -44,5 +43,5 @@ returns c =
       distinct = distinct;
       pairs = λ t.
           let rising = subst (λ (bs : List ℕ). IsRising s.order (map (span_pair bs) ys)) c.as_slice.ensures (e.rising t) in
-          ap (map (span_pair (meant s.out))) all ∙ order_meant s.order s.out.buf (meant s.out) was ys c.requires.keys moved rising (distinct.0 t);
+          ap (map (span_pair s.out)) all ∙ sorted_pairs s.order s.out was ys moved rising (distinct.0 t);
     }

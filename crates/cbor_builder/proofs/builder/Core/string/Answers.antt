@@ -1,18 +1,15 @@
 use Rattle.std.proofs.Common.{◌++◌, take}
 use Rattle.cbor_head.specs.Prelude.{shortest_head}
-use Rattle.cbor_output.proofs.Drafts.{extended}
 use Rattle.cbor_builder.proofs.builder.Core.string.Goals as goal
 use Rattle.cbor_builder.proofs.OpenMembers.{member_given, member_ready}
 
 pub returns : goal.returns
 returns c =
     let e = c.complete.ensures in
-    let s = c.args.self.now in
     let b = shortest_head c.args.major c.args.count ++ take c.args.count c.args.prefix.now in
-    member_given c.complete.result s (record s.out { buf = c.string.new.self }) b c.len-at.result c.complete.new.frame c.complete.new.spans c.requires.laid c.requires.takes (extended s.out c.string.new.self b c.requires.laid.0.1 c.in_ok-string.ensures) c.len-at.ensures.meant e.from e.start e.shape e.spans e.rises
+    member_given c.complete.result c.args.self.now c.string.new.self b c.len-at.result c.complete.new.frame c.complete.new.spans c.requires.laid c.requires.takes c.in_ok-string.ensures c.len-at.ensures e.from e.start e.shape e.spans e.rises
 
 pub complete-requires-clause-ready : goal.complete-requires-clause-ready
 complete-requires-clause-ready c =
-    let s = c.args.self.now in
     let b = shortest_head c.args.major c.args.count ++ take c.args.count c.args.prefix.now in
-    member_ready s (record s.out { buf = c.string.new.self }) b c.len-at.result c.requires.laid (extended s.out c.string.new.self b c.requires.laid.0.1 c.in_ok-string.ensures) c.len-at.ensures.meant
+    member_ready c.args.self.now c.string.new.self b c.len-at.result c.requires.laid c.in_ok-string.ensures c.len-at.ensures
