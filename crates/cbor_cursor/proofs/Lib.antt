@@ -1,6 +1,5 @@
 mod Decoding
 mod Definite
-mod HeadBytes
 mod IndexClosed
 mod IndexHeads
 mod IndexOwn

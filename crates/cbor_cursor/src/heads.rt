@@ -8,7 +8,7 @@ ghost use Rattle.cbor_head.specs.declared.order.KeyOrder.{KeyOrder};
 ghost use Rattle.cbor_head.specs.declared.width.Width.{Width};
 ghost use Rattle.cbor_cursor.specs.Items.{BeginsWith, IsHeadOf};
 
-use cbor_parser::read_argument;
+use cbor_head::read_argument;
 
 /// The head of an item: its major type (0 to 7), its argument, and the offset of what follows it.
 #[derive(Clone, Copy, Debug, PartialEq, Eq)]
@@ -51,12 +51,7 @@ pub(crate) fn definite_head(bytes: &[u8], place: usize) -> Option<HeadAt>
             content: place + 1,
         });
     }
-    if low > 27 {
-        return None;
-    }
-    let Some(argument) = read_argument(low, &bytes[place + 1..]) else {
-        return None;
-    };
+    let argument = read_argument(low, &bytes[place + 1..])?;
     Some(HeadAt {
         kind: first / 32,
         argument: argument.number,

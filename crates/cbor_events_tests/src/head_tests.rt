@@ -1,6 +1,9 @@
 //! Heads, limits, simple values and reasons by tables.
 
-use cbor_head::{Head, Keys, Limits, Reason, Refusal, Simple, argument_bytes, head_laws};
+use cbor_head::{
+    Head, Keys, Limits, Major, Reason, Refusal, Simple, Width, argument_bytes, head_laws,
+    initial_byte_error, initial_byte_reason, read_argument,
+};
 use std::alloc::{AllocError, Global};
 use std::test::Fail;
 
@@ -88,13 +91,16 @@ fn heads(rt: HostRuntime) -> Result<(), Fail> {
         let (bytes, reported) = row_of(rt.alloc(), line)?;
         let head = is_read(rt.alloc(), &bytes, reported)?.ok_or(line)?;
         assert!(rt;
-            Head::shortest(head.major(), head.argument()) == head,
+            Head::shortest(head.major(), head.argument()) == head
+                && Width::shortest(head.argument()) == head.width()
+                && head.width().is_shortest(head.argument()),
             "{line}"
         );
     }
     for line in LONGER.trim().lines() {
         let (bytes, reported) = row_of(rt.alloc(), line)?;
-        assert!(rt; is_read(rt.alloc(), &bytes, reported)?.is_some(), "{line}");
+        let head = is_read(rt.alloc(), &bytes, reported)?.ok_or(line)?;
+        assert!(rt; !head.width().is_shortest(head.argument()), "{line}");
     }
     for line in OTHERS.trim().lines() {
         let (bytes, _) = row_of(rt.alloc(), line)?;
@@ -123,6 +129,76 @@ fn argument_lengths(rt: HostRuntime) {
     ] {
         assert!(rt; argument_bytes(first) == count, "at {first}");
     }
+}
+
+#[test]
+fn arguments(rt: HostRuntime) -> Result<(), Fail> {
+    // The heads 17, 18ff, 190100, 1a00010000 and 1b0000000100000000 of RFC 8949, each with a byte behind it.
+    for (low, behind, width, number) in [
+        (23, b"\x00".as_slice(), Width::Direct, 23),
+        (24, b"\xff\x00".as_slice(), Width::One, 255),
+        (25, b"\x01\x00\x00".as_slice(), Width::Two, 256),
+        (26, b"\x00\x01\x00\x00\x00".as_slice(), Width::Four, 65536),
+        (
+            27,
+            b"\x00\x00\x00\x01\x00\x00\x00\x00\x00".as_slice(),
+            Width::Eight,
+            4294967296,
+        ),
+    ] {
+        let argument = read_argument(low, behind).ok_or("an argument")?;
+        assert!(rt;
+            argument.width == width && argument.number == number && argument.rest.len() == 1,
+            "at {low}"
+        );
+        if low > 23 {
+            let cut = &behind[..behind.len() - 2];
+            assert!(rt; read_argument(low, cut).is_none(), "cut at {low}");
+        }
+    }
+    for low in [28, 29, 30, 31] {
+        assert!(rt; read_argument(low, &[0; 9]).is_none(), "at {low}");
+    }
+    Ok(())
+}
+
+// Initial bytes, and why no item begins with them where no container may open (RFC 8949, section 3).
+static INITIAL: [(u8, Option<Reason>); 14] = [
+    (0x00, None),
+    (0x1b, None),
+    (0x5f, None),
+    (0x7f, None),
+    (0xf8, None),
+    (0x1c, Some(Reason::Reserved)),
+    (0xfe, Some(Reason::Reserved)),
+    (0x1f, Some(Reason::NoIndefinite)),
+    (0xdf, Some(Reason::NoIndefinite)),
+    (0xf9, Some(Reason::Float)),
+    (0xff, Some(Reason::StrayBreak)),
+    (0x80, Some(Reason::TooDeep)),
+    (0xbf, Some(Reason::TooDeep)),
+    (0xc0, Some(Reason::TooDeep)),
+];
+
+#[test]
+fn initial_bytes(rt: HostRuntime) {
+    for (first, reason) in INITIAL {
+        assert!(rt; initial_byte_error(first, false) == reason, "at {first}");
+        let deep = reason == Some(Reason::TooDeep);
+        assert!(rt;
+            initial_byte_error(first, true) == reason.filter(|_| !deep),
+            "at {first} with space"
+        );
+        if let Some(reason) = reason {
+            assert!(rt; initial_byte_reason(first) == reason, "why at {first}");
+        }
+    }
+}
+
+#[test]
+fn major_numbers(rt: HostRuntime) {
+    assert!(rt; Major::Unsigned.number() == 0 && Major::Map.number() == 5);
+    assert!(rt; Major::Simple.number() == 7);
 }
 
 #[test]

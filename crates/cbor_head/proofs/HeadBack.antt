@@ -75,7 +75,7 @@ major_kept : (q : ℕ) → q < 8 → major_number (major_of q) ≡ q
 major_kept (suc (suc (suc (suc (suc (suc (suc (suc q)))))))) h = absurd (omega arith)
 major_kept q h = refl
 
-first_kept : (b : ℕ) → b < 256 → 32 * major_number (major_of (b / 32)) + b % 32 ≡ b
+pub first_kept : (b : ℕ) → b < 256 → 32 * major_number (major_of (b / 32)) + b % 32 ≡ b
 first_kept b h = rw (major_kept (b / 32) (omega arith)) (omega arith)
 
 numbered_prefix : (b : ℕ) (m : Major) (w : Width) (k : ℕ) (bs : List ℕ) (h : Prefix) → ByPlace bs

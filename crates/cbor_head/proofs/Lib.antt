@@ -1,3 +1,4 @@
+pub mod Arguments
 pub mod HeadBack
 pub mod HeadLaws
 pub mod Least

@@ -29,21 +29,3 @@ pub one_head : (l m : Major) (v w : Width) (k n : ℕ) (x y : List ℕ) → IsHe
 one_head l m v w k n x y g h e =
     let same : prefix l v k x ≡ prefix m w n y = some_prefix (sym (head_reads l v k x g) ∙ ap read_head e ∙ head_reads m w n y h) in
     (ap (λ (f : Prefix). f.major) same, ap (λ (f : Prefix). f.width) same, ap (λ (f : Prefix). f.argument) same, ap (λ (f : Prefix). f.rest) same)
-
--- what is read of a head's bytes is that head
-pub only_head : (b : List ℕ) {o : Option Prefix} (m : Major) (w : Width) (n : ℕ) → read_head b ≡ o → IsHead m w n → b ≡ head m w n → o ≡ Some (prefix m w n [])
-only_head b m w n e h is = sym e ∙ ap read_head (is ∙ sym (append-nil (head m w n))) ∙ head_reads m w n [] h
-
--- what was read with nothing behind it is all of the bytes
-pub whole_head : (b : List ℕ) {f : Prefix} → ByPlace b → read_head b ≡ Some f → f.rest ≡ [] → b ≡ head f.major f.width f.argument
-whole_head b {f = f} small e none =
-    sym (read_head-back b f small e).bytes_are ∙ ap (λ (l : List ℕ). head f.major f.width f.argument ++ l) none ∙ append-nil (head f.major f.width f.argument)
-
-pub same_parts : (b : List ℕ) {f : Prefix} (m : Major) (w : Width) (n : ℕ) → read_head b ≡ Some f → IsHead m w n → b ≡ head m w n → head_parts f.major f.width f.argument ≡ head_parts m w n
-same_parts b m w n e h is = ap (λ (f : Prefix). head_parts f.major f.width f.argument) (some_prefix (only_head b m w n e h is))
-
--- what was read and is no head, or has something behind it, is no head's bytes
-pub no_head : (b : List ℕ) {f : Prefix} (m : Major) (w : Width) (n : ℕ) → read_head b ≡ Some f → (f.rest ≡ [] → IsHead f.major f.width f.argument → ⊥) → IsHead m w n → b ≡ head m w n → ⊥
-no_head b m w n e other h is =
-    let same = some_prefix (only_head b m w n e h is) in
-    other (ap (λ (f : Prefix). f.rest) same) (subst (λ (f : Prefix). IsHead f.major f.width f.argument) (sym same) h)

@@ -1,7 +1,9 @@
+pub mod Argument
 pub mod Beginning
 pub mod Canonical
 pub mod Complaint
 pub mod Head
+pub mod InitialByte
 pub mod Laws
 pub mod Limits
 pub mod Order

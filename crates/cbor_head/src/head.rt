@@ -1,15 +1,13 @@
 //! Heads.
 
-ghost use Rattle.std.specs.Prelude.{◌≡◌, ◌%◌, ◌<◌, ◌≤◌, ◌⊎◌, ◌↔◌, ◌∷◌, length, ℕ, Some, None};
-ghost use Rattle.std.specs.Prelude.{IsTrue, IfSome, MatchOption};
-ghost use Rattle.cbor_head.specs.Head.{IsHead, IsSimple, HeadParts, head, head_parts, shortest};
-ghost use Rattle.cbor_head.specs.Read.{prefix, read_head};
-ghost use Rattle.cbor_head.specs.Spelling.{HoldsOrIndefinite};
+ghost use Rattle.std.specs.Prelude.{◌≡◌, ◌%◌, ◌<◌, ◌≤◌, ◌⊎◌, ◌↔◌, ◌∷◌, length, ℕ, Some};
+ghost use Rattle.std.specs.Prelude.{IsTrue, IfSome};
+ghost use Rattle.cbor_head.specs.Head.{Holds, IsHead, IsSimple, HeadParts, head, head_parts, shortest};
 ghost use Rattle.cbor_head.specs.declared.major.Major.{Major};
 ghost use Rattle.cbor_head.specs.declared.major.Major.TheVariants.{Simple};
 ghost use Rattle.cbor_head.specs.declared.width.Width.{Width};
 
-use crate::{Major, Width};
+use crate::{Major, Width, read_argument};
 use arrayvec::ArrayVec;
 use byteorder::{BigEndian, ByteOrder};
 use std::marker::Model;
@@ -46,12 +44,14 @@ impl Head {
         ensures each { (m : Major) (w : Width) (n : ℕ) → IsHead m w n
             → bytes.now ≡ head m w n → result ≡ Some (head_parts m w n) }
     {
-        let (major, width, argument, rest) = split(bytes)?;
-        if rest.is_empty() && is_head(major, width, argument) {
+        let (first, behind) = bytes.split_first()?;
+        let major = Major::of_number(*first / 32);
+        let argument = read_argument(*first % 32, behind)?;
+        if argument.rest.is_empty() && is_head(major, argument.width, argument.number) {
             Some(Head {
                 major,
-                width,
-                argument,
+                width: argument.width,
+                argument: argument.number,
             })
         } else {
             None
@@ -129,28 +129,6 @@ pub fn argument_bytes(first: u8) -> u8
     }
 }
 
-// The head at the start, and what follows it.
-#[tactic(auto, unfolding(crate::specs::Read::read_head))]
-fn split(bytes: &[u8]) -> Option<(Major, Width, u64, &[u8])>
-    ensures { MatchOption result
-        (read_head bytes.now ≡ None)
-        (λ h. read_head bytes.now ≡ Some (prefix h.0 h.1 h.2 h.3.now)) }
-{
-    let (first, rest) = bytes.split_first()?;
-    let low = *first % 32;
-    let (argument, rest) = rest.split_at_checked(usize::from(argument_bytes(*first)))?;
-    let (width, argument) = match low {
-        0..=23 => (Width::Direct, u64::from(low)),
-        24 => (Width::One, u64::from(argument[0])),
-        25 => (Width::Two, u64::from(BigEndian::read_u16(argument))),
-        26 => (Width::Four, u64::from(BigEndian::read_u32(argument))),
-        27 => (Width::Eight, BigEndian::read_u64(argument)),
-        31 => (Width::Indefinite, 0),
-        _ => return None,
-    };
-    Some((Major::of_number(*first / 32), width, argument, rest))
-}
-
 // The first byte of a head, and the argument behind it.
 fn joined(first: u8, argument: &[u8]) -> ArrayVec<u8, 9>
     requires { length argument.now ≤ 8 }
@@ -163,14 +141,12 @@ fn joined(first: u8, argument: &[u8]) -> ArrayVec<u8, 9>
     bytes
 }
 
-// Whether what bytes begin with is a definite head: no opener and no break, no float, and no simple
-// value below 32 in a second byte.
+// Whether it is a definite head of an item: no float, and no simple value below 32 in a second byte.
 fn is_head(major: Major, width: Width, argument: u64) -> bool
-    requires { HoldsOrIndefinite width argument }
+    requires { Holds width argument }
     ensures { IsTrue result ↔ IsHead major width argument }
 {
     match (major, width) {
-        (_, Width::Indefinite) => false,
         (Major::Simple, Width::Direct) => true,
         (Major::Simple, Width::One) => argument >= 32,
         (Major::Simple, _) => false,

@@ -22,8 +22,10 @@
 //! The laws of heads are in [`head_laws`], those of items and verdicts in `cbor_model`.
 #![tactic(auto)]
 
+mod argument;
 mod head;
 pub mod head_laws;
+mod initial_byte;
 mod keys;
 mod limits;
 mod major;
@@ -32,7 +34,9 @@ mod reason;
 mod simple;
 mod width;
 
+pub use argument::{Argument, read_argument};
 pub use head::{Head, argument_bytes};
+pub use initial_byte::{initial_byte_error, initial_byte_reason};
 pub use keys::Keys;
 pub use limits::{Limits, MAX_DEPTH};
 pub use major::Major;

@@ -1,6 +1,6 @@
 //! The major types.
 
-ghost use Rattle.std.specs.Prelude.{◌≡◌};
+ghost use Rattle.std.specs.Prelude.{◌≡◌, ◌≤◌};
 ghost use Rattle.cbor_head.specs.Head.{major_number};
 ghost use Rattle.cbor_head.specs.Read.{major_of};
 
@@ -42,9 +42,10 @@ impl Major {
         }
     }
 
-    /// The high three bits of the first byte, 0 to 7.
-    pub(crate) fn number(self) -> u8
-        ensures { result ≡ major_number self }
+    /// The high three bits of an initial byte of this type, 0 to 7.
+    pub fn number(self) -> u8
+        ensures number { result ≡ major_number self }
+        ensures few { result ≤ 7 }
     {
         self as u8
     }

@@ -1,6 +1,6 @@
 //! The widths of a head.
 
-ghost use Rattle.std.specs.Prelude.{◌≡◌};
+ghost use Rattle.std.specs.Prelude.{◌≡◌, ◌↔◌, IsTrue};
 ghost use Rattle.cbor_head.specs.Head.{shortest};
 
 /// How a head spells its argument, by its additional information (RFC 8949, section 3).
@@ -22,7 +22,7 @@ pub enum Width {
 
 impl Width {
     /// The first width that has space for the argument.
-    pub(crate) fn shortest(argument: u64) -> Width
+    pub fn shortest(argument: u64) -> Width
         ensures { result ≡ shortest argument }
     {
         match argument {
@@ -32,5 +32,12 @@ impl Width {
             0x1_0000..=0xffff_ffff => Width::Four,
             _ => Width::Eight,
         }
+    }
+
+    /// Whether no other width spells the argument in fewer bytes (RFC 8949, section 4.2.1).
+    pub fn is_shortest(self, argument: u64) -> bool
+        ensures { IsTrue result ↔ (self ≡ shortest argument) }
+    {
+        self == Width::shortest(argument)
     }
 }

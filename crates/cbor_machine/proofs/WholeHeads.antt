@@ -4,7 +4,7 @@ use Rattle.std.{proofs.Math.Seq.take-append_seam, specs.Int.bytes_high_first}
 use Rattle.byteorder.specs.Numbers.{length-bytes_high_first}
 use Rattle.cbor_head.specs.declared.width.Width.TheVariants.{Direct, One, Two, Four, Eight, Indefinite}
 use Rattle.cbor_head.specs.{Prelude.head, Prelude.major_number, declared.major.Major.Major, declared.major.Major.TheVariants.Simple, declared.width.Width.Width}
-use Rattle.cbor_model.specs.Argument.{IsArgument}
+use Rattle.cbor_head.specs.Argument.{IsArgument}
 use Rattle.cbor_automaton.specs.Automaton.{Frame, State, at_item, in_head, after, close, tail, numbered_tail, major_at, has_space, run, reached, reporting}
 use Rattle.cbor_automaton.specs.Marks.{marks_of, IsDefinite, IsProper}
 use Rattle.cbor_automaton.specs.declared.event.EventKind.TheVariants as kinds

@@ -1,7 +1,6 @@
 -- Events that are taken from a slice at once.
 use Rattle.std.specs.Prelude.{◌≡◌, ℕ, ◌+◌, ◌-◌, ◌/◌, ◌%◌, ◌<◌, ◌≤◌, Bool, true, List, [], ◌∷◌, length, take}
-use Rattle.cbor_head.specs.{Prelude.IsSimple, declared.major.Major.Major, declared.width.Width.Width}
-use Rattle.cbor_model.specs.Argument.{IsArgument}
+use Rattle.cbor_head.specs.{Prelude.IsSimple, declared.major.Major.Major, declared.width.Width.Width, Argument.IsArgument}
 use Rattle.cbor_automaton.specs.Automaton.{Frame, State, in_head, after, mark, run, reached, has_space, major_at}
 use Rattle.cbor_automaton.specs.{Marks.marks_of, Marks.IsProper, Pieces.piece_by, declared.event.EventKind.EventKind}
 use Rattle.cbor_machine.specs.declared.token.Token.TheVariants as tokens

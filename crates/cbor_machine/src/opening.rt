@@ -1,12 +1,10 @@
 //! What a first byte begins.
 
 ghost use Rattle.std.specs.Prelude.{◌≡◌, ◌<◌};
-ghost use Rattle.cbor_head.specs.Verdict.{initial_reason};
-ghost use Rattle.cbor_automaton.specs.Reasons.{IsFormReason};
 ghost use Rattle.cbor_automaton.specs.Automaton as automaton;
 ghost use Rattle.cbor_machine.specs.State.{major_of, opened, IsOpeningDefinite};
 
-use cbor_head::{Reason, Simple, Width};
+use cbor_head::{Simple, Width};
 
 /// The types of items whose argument may have any width: all but simple values.
 #[derive(Clone, Copy)]
@@ -118,23 +116,5 @@ pub(crate) fn opening_of(c: u8) -> Opening
         } else {
             numbered_tail(kind, low - 24)
         }
-    }
-}
-
-/// Why a byte may not stand where an item may begin.
-pub(crate) fn reason_at_item(c: u8) -> Reason
-    ensures is { result ≡ initial_reason c }
-    ensures of_form { IsFormReason result }
-{
-    if c == 0xff {
-        Reason::StrayBreak
-    } else if c == 0xf9 || c == 0xfa || c == 0xfb {
-        Reason::Float
-    } else if c == 0x1f || c == 0x3f || c == 0xdf {
-        Reason::NoIndefinite
-    } else if 28 <= c % 32 && c % 32 <= 30 {
-        Reason::Reserved
-    } else {
-        Reason::TooDeep
     }
 }

@@ -12,10 +12,10 @@ ghost use Rattle.cbor_machine.specs.State.{IsReportedSettled, IsNextOpen, IsNext
 ghost use Rattle.cbor_machine.specs.State.{IsNextReason, IsSettled, is_done, head_left, next_left};
 
 use crate::container_stack::{ContainerStack, Slot};
-use crate::opening::{ArgumentType, Opening, opening_of, reason_at_item};
+use crate::opening::{ArgumentType, Opening, opening_of};
 use crate::position::{Position, after, chunk_payload, close, finish_string, has_space};
 use cbor_automaton::EventKind;
-use cbor_head::{Reason, Simple, Width};
+use cbor_head::{Reason, Simple, Width, initial_byte_reason};
 
 /// What comes of a byte.
 #[derive(Clone, Copy)]
@@ -107,7 +107,7 @@ fn break_at(container_stack: &mut ContainerStack, c: u8) -> Next
     ensures open { IsNextOpen container_stack.new result }
 {
     match container_stack.end() {
-        None => Next::Refuses(reason_at_item(c)),
+        None => Next::Refuses(initial_byte_reason(c)),
         Some(true) => Next::Reports(Width::Indefinite, EventKind::End, Position::Done),
         Some(false) => Next::Reports(Width::Indefinite, EventKind::End, Position::Item),
     }
@@ -132,7 +132,7 @@ fn begin(depth: usize, container_stack: &mut ContainerStack, c: u8) -> Next
     match opening_of(c) {
         Opening::Direct(kind, n) => {
             if !has_space(depth, kind, container_stack) {
-                return Next::Refuses(reason_at_item(c));
+                return Next::Refuses(initial_byte_reason(c));
             }
             let n = u64::from(n);
             Next::Reports(
@@ -143,7 +143,7 @@ fn begin(depth: usize, container_stack: &mut ContainerStack, c: u8) -> Next
         }
         Opening::Long(kind, width) => {
             if !has_space(depth, kind, container_stack) {
-                return Next::Refuses(reason_at_item(c));
+                return Next::Refuses(initial_byte_reason(c));
             }
             Next::Goes(begun(false, kind, width))
         }
@@ -159,14 +159,14 @@ fn begin(depth: usize, container_stack: &mut ContainerStack, c: u8) -> Next
         ),
         Opening::IndefiniteArray => {
             if container_stack.len() >= depth {
-                return Next::Refuses(reason_at_item(c));
+                return Next::Refuses(initial_byte_reason(c));
             }
             container_stack.push(Slot::IndefiniteItem, 0);
             Next::Reports(Width::Indefinite, EventKind::Array(None), Position::Item)
         }
         Opening::IndefiniteMap => {
             if container_stack.len() >= depth {
-                return Next::Refuses(reason_at_item(c));
+                return Next::Refuses(initial_byte_reason(c));
             }
             container_stack.push(Slot::IndefiniteKey, 0);
             Next::Reports(Width::Indefinite, EventKind::Map(None), Position::Item)
@@ -178,7 +178,7 @@ fn begin(depth: usize, container_stack: &mut ContainerStack, c: u8) -> Next
         ),
         Opening::LongSimple => Next::Goes(Position::SimpleNumber),
         Opening::Break => break_at(container_stack, c),
-        Opening::Bad => Next::Refuses(reason_at_item(c)),
+        Opening::Bad => Next::Refuses(initial_byte_reason(c)),
     }
 }
 

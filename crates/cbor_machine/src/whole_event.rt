@@ -5,7 +5,6 @@ ghost use Rattle.std.specs.Prelude.{true, IfSome, None};
 ghost use Rattle.cbor_head.specs.Head.{IsSimple};
 ghost use Rattle.cbor_head.specs.declared.width.Width as width;
 ghost use Rattle.cbor_head.specs.declared.width.Width.TheVariants.{Direct};
-ghost use Rattle.cbor_model.specs.Argument.{IsArgument};
 ghost use Rattle.cbor_automaton.specs.Trace.{a_head};
 ghost use Rattle.cbor_automaton.specs.Automaton as automaton;
 ghost use Rattle.cbor_automaton.specs.Marks.{marks_of, times};
@@ -22,79 +21,7 @@ use crate::container_stack::ContainerStack;
 use crate::opening::{ArgumentType, numbered_at};
 use crate::position::{Position, enter, finish, finish_string, has_space};
 use crate::token::Token;
-use byteorder::{BigEndian, ByteOrder};
-use cbor_head::Width;
-
-// An argument, and what follows it.
-#[derive(Clone, Copy)]
-struct Argument<'a> {
-    pub width: Width,
-    pub number: u64,
-    pub rest: &'a [u8],
-}
-
-// The argument behind the low five bits of a first byte; none where it is not there, or where
-// there is none.
-#[inline(always)]
-fn read_argument<'a>(low: u8, behind: &'a [u8]) -> Option<Argument<'a>>
-    ensures spelled { IfSome result (λ a. IsArgument low behind.now a.width a.number a.rest.now) }
-    ensures fewer { IfSome result (λ a. length a.rest.now ≤ length behind.now) }
-    ensures direct { IfSome result (λ a. low < 24 → a.number ≡ low) }
-    ensures byte { IfSome result (λ a. low ≡ 24 → a.number < 256) }
-    ensures definite { IfSome result (λ a. IsDefinite a.width) }
-{
-    if low < 24 {
-        return Some(Argument {
-            width: Width::Direct,
-            number: u64::from(low),
-            rest: behind,
-        });
-    }
-    match low {
-        24 => {
-            let (number, rest) = behind.split_first()?;
-            Some(Argument {
-                width: Width::One,
-                number: u64::from(*number),
-                rest,
-            })
-        }
-        25 => {
-            if behind.len() < 2 {
-                return None;
-            }
-            let (_, rest) = behind.split_at(2);
-            Some(Argument {
-                width: Width::Two,
-                number: u64::from(BigEndian::read_u16(behind)),
-                rest,
-            })
-        }
-        26 => {
-            if behind.len() < 4 {
-                return None;
-            }
-            let (_, rest) = behind.split_at(4);
-            Some(Argument {
-                width: Width::Four,
-                number: u64::from(BigEndian::read_u32(behind)),
-                rest,
-            })
-        }
-        27 => {
-            if behind.len() < 8 {
-                return None;
-            }
-            let (_, rest) = behind.split_at(8);
-            Some(Argument {
-                width: Width::Eight,
-                number: BigEndian::read_u64(behind),
-                rest,
-            })
-        }
-        _ => None,
-    }
-}
+use cbor_head::{Width, read_argument};
 
 // The low five bits of a first byte with one byte more than these in its argument.
 fn low_bits(left: u8) -> Option<u8>

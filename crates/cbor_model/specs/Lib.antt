@@ -1,4 +1,3 @@
-pub mod Argument
 pub mod CanonicalSpelling
 pub mod FirstBytes
 pub mod KeyPrefix

@@ -1,7 +1,7 @@
 //! The shortest head of a major type and number, as bytes.
 
 ghost use Rattle.std.specs.Prelude.{◌≡◌, ◌≤◌, ◌+◌, ◌++◌, length, take, vec_len};
-ghost use Rattle.cbor_head.specs.Head.{shortest_head, major_number};
+ghost use Rattle.cbor_head.specs.Head.{shortest_head};
 
 use cbor_head::Major;
 
@@ -14,7 +14,7 @@ pub(crate) fn put_head(buf: &mut Vec<u8>, len: usize, major: Major, n: u64) -> u
     ensures same { vec_len buf.new ≡ vec_len buf.old }
     ensures head { take result buf.new.items ≡ take len buf.old.items ++ shortest_head major n }
 {
-    let first = 32 * number(major);
+    let first = 32 * major.number();
     if n < 24 {
         put(buf, len, &[first + n as u8])
     } else if n < 0x100 {
@@ -51,7 +51,7 @@ pub(crate) fn head_bytes(major: Major, n: u64) -> ([u8; 9], usize)
     ensures few { result.1 ≤ 9 }
     ensures bytes { take result.1 result.0 ≡ shortest_head major n }
 {
-    let first = 32 * number(major);
+    let first = 32 * major.number();
     if n < 24 {
         ([first + n as u8, 0, 0, 0, 0, 0, 0, 0, 0], 1)
     } else if n < 0x100 {
@@ -65,23 +65,5 @@ pub(crate) fn head_bytes(major: Major, n: u64) -> ([u8; 9], usize)
     } else {
         let [a, b, c, d, e, f, g, h] = n.to_be_bytes();
         ([first + 27, a, b, c, d, e, f, g, h], 9)
-    }
-}
-
-// The number in the high three bits of a head.
-#[inline(always)]
-pub(crate) fn number(major: Major) -> u8
-    ensures number { result ≡ major_number major }
-    ensures few { result ≤ 7 }
-{
-    match major {
-        Major::Unsigned => 0,
-        Major::Negative => 1,
-        Major::Bytes => 2,
-        Major::Text => 3,
-        Major::Array => 4,
-        Major::Map => 5,
-        Major::Tag => 6,
-        Major::Simple => 7,
     }
 }

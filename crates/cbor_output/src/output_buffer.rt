@@ -6,7 +6,7 @@ ghost use Rattle.cbor_head.specs.Head.{shortest_head, IsSimple, major_number};
 ghost use Rattle.cbor_head.specs.declared.major.Major.TheVariants.{Simple};
 
 use crate::copies::{copy, copy_behind, copy_down};
-use crate::head::{head_bytes, number, put_head};
+use crate::head::{head_bytes, put_head};
 use cbor_head::Major;
 use std::alloc::{AllocError, Global};
 use std::marker::Model;
@@ -213,7 +213,7 @@ impl OutputBuffer {
             (self.new ≡ take from self.old ++ (shortest_head major n ++ drop start self.old)) }
     {
         if n < 24 && start - from == 1 {
-            self.buf[from] = 32 * number(major) + n as u8;
+            self.buf[from] = 32 * major.number() + n as u8;
             return Ok(());
         }
         self.fill_long(from, start, major, n)

@@ -3,9 +3,7 @@ use Rattle.std.proofs.Common.{◌≡◌, ℕ, suc, ◌+◌, ◌-◌, ◌^◌, �
 use Rattle.std.proofs.lemmas.Bool.{cases_lt}
 use Rattle.cbor_head.specs.Prelude.{Holds, shortest, shortest_head, with_argument, AreBytes}
 use Rattle.cbor_head.specs.declared.{major.Major.TheVariants.Array, major.Major.TheVariants.Map, width.Width.Width}
-use Rattle.cbor_head.specs.declared.width.Width.TheVariants.{Eight, Indefinite}
-use Rattle.cbor_model.specs.Argument.{IsArgument}
-use Rattle.cbor_verdict.specs.RefusedHere.{MayBegin}
+use Rattle.cbor_head.specs.{declared.width.Width.TheVariants.Eight, declared.width.Width.TheVariants.Indefinite, Argument.IsArgument, InitialByte.MayBegin}
 use Rattle.cbor_parser.proofs.ShortLeaves.{leaf-number, leaf-value, leaf-empty, leaf-bytes, leaf-text}
 use Rattle.cbor_parser.{specs.inner.Leaves.IsShortest, specs.inner.Leaves.IsLeaf, proofs.ShortHeads.rest-is, specs.inner.Items.OpensHere}
 use Rattle.cbor_parser.specs.declared.container.Expected.TheVariants.{Item, Key}

@@ -2,11 +2,11 @@
 use Rattle.std.proofs.Common.{◌≡◌, ℕ, ◌+◌, ◌-◌, ◌≤◌, Bool, List, ◌∷◌, length, take, get_or, refl, sym, ap, ◌∙◌, subst, inl, inr, arith}
 use Rattle.std.specs.Str.Lossy.{utf8_valid_len}
 use Rattle.cbor_head.specs.declared.reason.Reason.TheVariants as reasons
-use Rattle.cbor_head.specs.{Prelude.refusal, declared.reason.Refusal.Refusal}
+use Rattle.cbor_head.specs.{Prelude.refusal, declared.reason.Refusal.Refusal, declared.argument.Argument.Argument}
 use Rattle.cbor_verdict.proofs.RefusedHere.{refused_same, payload_cut_here, no_text_here}
 use Rattle.cbor_parser.specs.Strings.{IsStringHead, IsStringFault, IsStringRefused}
 use Rattle.cbor_parser.specs.declared.item_start.Any.TheVariants as any
-use Rattle.cbor_parser.specs.{inner.Items.IsRefusedHere, inner.Items.IsAny, declared.item_start.Any.Any, declared.argument.Argument.Argument}
+use Rattle.cbor_parser.specs.{inner.Items.IsRefusedHere, inner.Items.IsAny, declared.item_start.Any.Any}
 
 -- what is answered
 pub refuses : (space : Bool) (at : ℕ) (b c : List ℕ) (f : Refusal) (result : Any) → b ≡ c → result ≡ any.Refused f → IsRefusedHere space c at f → IsAny b at space result

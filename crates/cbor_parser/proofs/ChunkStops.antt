@@ -1,12 +1,11 @@
 -- What a walk finds at fault with a chunk, as with a string.
 use Rattle.std.proofs.Common.{◌≡◌, ℕ, ◌+◌, ◌-◌, ◌/◌, ◌%◌, ◌≤◌, Bool, true, false, List, ◌∷◌, length, get_or, refl, ap, ◌∙◌, inl, inr, arith, length-append}
 use Rattle.cbor_head.specs.{Prelude.major_number, Prelude.refusal, declared.major.Major.TheVariants.Simple, declared.reason.Reason.TheVariants.Truncated}
-use Rattle.cbor_head.specs.declared.reason.Refusal.{Refusal}
-use Rattle.cbor_model.specs.Argument.{IsArgument}
+use Rattle.cbor_head.specs.{declared.reason.Refusal.Refusal, Argument.IsArgument, declared.argument.Argument.Argument}
 use Rattle.cbor_verdict.proofs.RefusedChunks.{AreChunksRead, chunk_cut_here, no_text_chunk_here}
 use Rattle.cbor_verdict.{specs.Reading.string_major, proofs.Leaves.chunks_bytes}
-use Rattle.cbor_parser.specs.{Strings.IsStringFault, declared.argument.Argument.Argument, inner.Faults.AreChunksRefused}
-use Rattle.cbor_parser.{specs.inner.Parts.IsHead, specs.inner.Parts.chunked_from, proofs.GivenItems.head-here}
+use Rattle.cbor_parser.specs.{Strings.IsStringFault, inner.Faults.AreChunksRefused, inner.Parts.IsHead, inner.Parts.chunked_from}
+use Rattle.cbor_parser.proofs.GivenItems.{head-here}
 
 pub chunk_fault_here : (t : Bool) (behind rest : List ℕ) (s : AreChunksRead t (chunked_from t behind) rest) (at : ℕ) (f : Refusal) (h : Argument) → IsHead (string_major t) h.number rest h.rest.now → (96 ≤ get_or rest 0 0 → t ≡ true)
     → IsStringFault rest h (at + 1 + length behind - length rest) f → AreChunksRefused (chunked_from t behind) at f

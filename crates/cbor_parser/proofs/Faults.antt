@@ -2,13 +2,12 @@
 use Rattle.std.proofs.Common.{◌≡◌, ℕ, ◌+◌, ◌/◌, Bool, true, false, List, [], ◌∷◌, refl, sym, subst, IsTrue, Option, Some, None, MatchOption, IfSome}
 use Rattle.cbor_head.specs.{Prelude.plain, Prelude.refusal, declared.reason.Reason.Reason}
 use Rattle.cbor_head.specs.declared.reason.{Reason.TheVariants.Truncated, Reason.TheVariants.KeyKind, Refusal.Refusal}
+use Rattle.cbor_head.specs.{InitialByte.MayBegin, InitialByte.IsInitialByteError, declared.argument.Argument.Argument}
 use Rattle.cbor_model.specs.FirstBytes.{is_basic}
-use Rattle.cbor_verdict.specs.RefusedHere.{MayBegin, IsInitialByteError, IsRefusedBy}
 use Rattle.cbor_verdict.proofs.RefusedHere.{nothing_here, initial_byte_error_stops, kind_refused}
-use Rattle.cbor_verdict.{specs.PathKinds.IsFitPrefix, proofs.HeadComplaints.heads_free}
+use Rattle.cbor_verdict.{specs.RefusedHere.IsRefusedBy, specs.PathKinds.IsFitPrefix, proofs.HeadComplaints.heads_free}
 use Rattle.cbor_parser.specs.Strings.{IsStringHead, IsStringWhole, IsStringFault}
-use Rattle.cbor_parser.{specs.declared.argument.Argument.Argument, proofs.AnyRefusals.string_refused}
-use Rattle.cbor_parser.specs.inner.Faults.{IsFault, AreChunksRefused}
+use Rattle.cbor_parser.{proofs.AnyRefusals.string_refused, specs.inner.Faults.IsFault, specs.inner.Faults.AreChunksRefused}
 
 pub fault_same : (b c : List ℕ) (at : ℕ) (space is_key may_break : Bool) (f g : Refusal) → b ≡ c → g ≡ f → IsFault c at space is_key may_break f → IsFault b at space is_key may_break g
 fault_same b c at space is_key may_break f g is e h = subst (λ (x : List ℕ). IsFault x at space is_key may_break g) (sym is) (subst (IsFault c at space is_key may_break) (sym e) h)

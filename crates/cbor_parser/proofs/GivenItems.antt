@@ -3,8 +3,8 @@ use Rattle.std.proofs.Common.{◌≡◌, ℕ, suc, ◌+◌, ◌-◌, ◌*◌, �
 use Rattle.std.proofs.lemmas.Bool.{cases_lt}
 use Rattle.cbor_head.specs.Prelude.{Holds, IsSimple, head, major_number, shortest, Spelling, unsigned, negative, bytes, text, simple, no_spellings, no_entries, spell, value_of, HoldsOrIndefinite, Value, AreBytes}
 use Rattle.cbor_head.specs.declared.major.Major.TheVariants as majors
-use Rattle.cbor_head.specs.declared.{major.Major.Major, width.Width.Width}
-use Rattle.cbor_model.{proofs.ReadLaws.length_head, proofs.ByteLists.bytes_prefix, specs.Argument.IsArgument}
+use Rattle.cbor_head.specs.{declared.major.Major.Major, declared.width.Width.Width, Argument.IsArgument}
+use Rattle.cbor_model.proofs.{ReadLaws.length_head, ByteLists.bytes_prefix}
 use Rattle.cbor_builder.specs.Built.{IsLeaf, IsContainer}
 use Rattle.cbor_verdict.specs.Levels.{IsTaken, IsOpened, Level, IsLevel, a_member, a_key, some_member, some_key, tagged, level_bytes}
 use Rattle.cbor_verdict.{proofs.Heads.open_or, proofs.KindBytes.head_is_one, proofs.KindBytes.string_is_one, specs.Kinds.IsOfOneHead, proofs.Levels.of-opened}

@@ -3,10 +3,9 @@ use Rattle.std.proofs.Common.{◌≡◌, ℕ, ◌+◌, ◌≤◌, nat_lt, Bool, 
 use Rattle.std.specs.Option.{unwrap_or}
 use Rattle.cbor_head.specs.Prelude.{strict, Bounds, AreBytes, refusal}
 use Rattle.cbor_head.specs.declared.{keys.Keys.Keys, keys.Keys.TheVariants.Any, keys.Keys.TheVariants.IntegersAndTexts, order.KeyOrder.KeyOrder}
-use Rattle.cbor_head.specs.declared.reason.Reason.{Reason, TheVariants.KeyKind}
-use Rattle.cbor_verdict.specs.RefusedHere.{MayBegin, IsInitialByteError, IsPlaceFor}
+use Rattle.cbor_head.specs.{declared.reason.Reason.Reason, declared.reason.Reason.TheVariants.KeyKind, InitialByte.MayBegin, InitialByte.IsInitialByteError}
 use Rattle.cbor_verdict.proofs.RefusedHere.{no_break, initial_byte_error_stops, kind_refused}
-use Rattle.cbor_verdict.specs.{PathKinds.asks, PathKinds.IsOtherPrefix, Path.bytes_before, Stop.IsStopped}
+use Rattle.cbor_verdict.specs.{RefusedHere.IsPlaceFor, PathKinds.asks, PathKinds.IsOtherPrefix, Path.bytes_before, Stop.IsStopped}
 use Rattle.cbor_parser.specs.declared.container.Level as cell
 use Rattle.cbor_parser.proofs.Taking.{whole_is, place_for, key_expected}
 use Rattle.cbor_parser.specs.{declared.container.Expected.TheVariants.Key, declared.stack.Stack.Stack, inner.Cells.StandsAt, Stack.around, Stack.open_levels}

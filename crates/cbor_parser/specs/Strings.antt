@@ -3,9 +3,8 @@ use Rattle.std.specs.Prelude.{◌≡◌, ℕ, ◌+◌, ◌-◌, ◌%◌, ◌<◌
 use Rattle.std.specs.Str.Lossy.{utf8_valid_len}
 use Rattle.cbor_head.specs.Prelude.{Rules, OfHead, refusal}
 use Rattle.cbor_head.specs.declared.{major.Major.Major, reason.Reason.TheVariants.Truncated, reason.Reason.TheVariants.InvalidText, reason.Refusal.Refusal}
-use Rattle.cbor_model.specs.Argument.{IsArgument}
+use Rattle.cbor_head.specs.{Argument.IsArgument, declared.argument.Argument.Argument}
 use Rattle.cbor_verdict.specs.{Judged.Never, RefusedHere.IsRefusedBy}
-use Rattle.cbor_parser.specs.declared.argument.Argument.{Argument}
 
 -- the head of a string, and what follows it
 pub record IsStringHead (b : List ℕ) (head : Argument) : Type 0 where

@@ -4,9 +4,8 @@ ghost use Rattle.std.specs.Prelude.{◌<◌, ◌+◌, ◌^◌, length, IfSome};
 ghost use Rattle.cbor_parser.specs.inner.Parts.{chunked_from};
 ghost use Rattle.cbor_parser.specs.inner.Faults.{AreChunksRefused};
 
-use crate::argument::read_argument;
 use crate::item_start::{refusal_at, string_refusal};
-use cbor_head::{Reason, Refusal};
+use cbor_head::{Reason, Refusal, read_argument};
 
 /// The refusal of the string in chunks whose opener stands at this place of the input, before these
 /// bytes: of the first chunk that is none, or that is cut off. None where a break ends it.

@@ -5,10 +5,10 @@ ghost use Rattle.cbor_verdict.specs.Reading.{string_major};
 ghost use Rattle.cbor_parser.specs.inner.Parser.{IsHeadExpected, TakesHead, IsExpectedFor, TakesItem};
 ghost use Rattle.cbor_parser.specs.inner.Parts.{IsItem, IsHead, IsPayload, chunked_from, TakesScalar, TakesHeadPrefix};
 
-use crate::argument::{Argument, read_argument};
 use crate::parser::Parser;
 use crate::part::Part;
 use crate::sink::Sink;
+use cbor_head::{Argument, read_argument};
 use cbor_text::is_text_prefix;
 
 impl<S> Parser<S> {

@@ -2,14 +2,12 @@
 
 ghost use Rattle.std.specs.Prelude.{◌≡◌, ◌≤◌, ◌<◌, ◌+◌, ◌-◌, ◌^◌, length, MatchOption};
 ghost use Rattle.cbor_head.specs.Verdict.{refusal};
-ghost use Rattle.cbor_verdict.specs.RefusedHere.{MayBegin, IsInitialByteError};
 ghost use Rattle.cbor_parser.specs.declared.item_start.Any.TheVariants as any;
 ghost use Rattle.cbor_parser.specs.inner.Items.{IsAny};
 ghost use Rattle.cbor_parser.specs.Strings.{IsStringHead, IsStringWhole, IsStringFault};
 
-use crate::argument::{Argument, is_shortest, read_argument};
 use crate::container::Expected;
-use cbor_head::{Reason, Refusal};
+use cbor_head::{Argument, Reason, Refusal, initial_byte_error, read_argument};
 use cbor_text::check_text;
 
 /// What stands where an item is expected.
@@ -49,7 +47,7 @@ pub(crate) fn item_start(rest: &[u8], at: usize, space: bool) -> Any
         return Any::Refused(refusal_at(Reason::BadSimple, at + 1, at + 2));
     }
     let used = rest.len() - head.rest.len();
-    if !is_shortest(head.width, head.number) {
+    if !head.width.is_shortest(head.number) {
         return Any::Refused(refusal_at(Reason::NotShortest, at, at + used));
     }
     if first < 0x40 || first >= 0xe0 {
@@ -69,29 +67,6 @@ pub fn refusal_at(reason: Reason, place: usize, read: usize) -> Refusal
     ensures { result ≡ refusal reason place read }
 {
     Refusal::new(reason, place as u64, read as u64)
-}
-
-/// Why no item may have this first byte there.
-pub fn initial_byte_error(first: u8, space: bool) -> Option<Reason>
-    ensures { MatchOption result (MayBegin first space) (IsInitialByteError first space) }
-{
-    let low = first % 32;
-    if low > 27 && low < 31 {
-        return Some(Reason::Reserved);
-    }
-    if first == 0xff {
-        return Some(Reason::StrayBreak);
-    }
-    if low == 31 && (first < 0x40 || first >= 0xc0) {
-        return Some(Reason::NoIndefinite);
-    }
-    if first > 0xf8 {
-        return Some(Reason::Float);
-    }
-    if first >= 0x80 && first < 0xe0 && !space {
-        return Some(Reason::TooDeep);
-    }
-    None
 }
 
 // The container with this head.

@@ -6,7 +6,6 @@
 //! that a shallow item does not pay for the greatest depth.
 #![tactic(auto)]
 
-mod argument;
 mod canonical;
 mod canonical_walk;
 mod chunk_refusal;
@@ -28,7 +27,6 @@ mod skip;
 mod stack;
 mod take_item;
 
-pub use argument::{Argument, read_argument};
 pub use canonical::canonical_prefix;
 pub use parser::Parser;
 pub use sink::Sink;

@@ -8,13 +8,12 @@ ghost use Rattle.cbor_parser.specs.inner.Parser.{IsExpectedIn, Takes, IsHeadExpe
 ghost use Rattle.cbor_parser.specs.inner.Parts.{IsItem, EndsBefore, Counts, HasTaken, TakesPrefix, TakesHeadPrefix, TakesCountedPrefix, TakesOpenerPrefix};
 ghost use Rattle.cbor_parser.specs.inner.Parts.{left_of, Leaves, LeavesWithin};
 
-use crate::argument::read_argument;
 use crate::container::Expected;
 use crate::kinds::is_other_key;
 use crate::open_container::OpenContainer;
 use crate::parser::Parser;
 use crate::sink::Sink;
-use cbor_head::Major;
+use cbor_head::{Major, read_argument};
 
 /// What was taken where an item was expected, and the bytes behind it.
 #[derive(Clone, Copy)]

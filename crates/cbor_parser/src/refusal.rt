@@ -4,12 +4,11 @@ ghost use Rattle.std.specs.Prelude.{◌≡◌, ◌<◌, ◌+◌, ◌^◌, true, 
 ghost use Rattle.cbor_head.specs.declared.keys.Keys.TheVariants as kinds;
 ghost use Rattle.cbor_parser.specs.inner.Faults.{IsFault};
 
-use crate::argument::read_argument;
 use crate::chunk_refusal::chunks_fault;
 use crate::container::Expected;
-use crate::item_start::{initial_byte_error, refusal_at, string_refusal};
+use crate::item_start::{refusal_at, string_refusal};
 use crate::kinds::is_other_key;
-use cbor_head::{Keys, Reason, Refusal};
+use cbor_head::{Keys, Reason, Refusal, initial_byte_error, read_argument};
 
 /// The refusal of what stands there, at this place of the input, where one more container may open
 /// or not, where it is a key whose kind is asked for or not, and where a break may stand or not.

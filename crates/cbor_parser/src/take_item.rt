@@ -5,10 +5,10 @@ ghost use Rattle.cbor_parser.specs.inner.CanonicalEnds.{Takes};
 
 use crate::container::Level;
 use crate::fast_item::{FastItem, fast_item};
-use crate::item_start::{Any, initial_byte_error, item_start};
+use crate::item_start::{Any, item_start};
 use crate::kinds::is_other_key;
 use crate::stack::Stack;
-use cbor_head::{Reason, Refusal};
+use cbor_head::{Reason, Refusal, initial_byte_error};
 
 /// What was taken where an item was expected.
 #[derive(Clone, Copy)]

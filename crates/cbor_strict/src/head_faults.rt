@@ -6,7 +6,7 @@ ghost use Rattle.cbor_automaton.specs.Marks.{mark_of};
 ghost use Rattle.cbor_verdict.specs.Reading.{IsFault};
 
 use cbor_automaton::{Event, EventKind};
-use cbor_head::{Head, KeyOrder, Major, Reason, Width};
+use cbor_head::{KeyOrder, Reason, Width};
 
 // What the rules have against a head that an item may have. One of a single byte is as short as can
 // be, so its argument is not looked at.
@@ -42,7 +42,7 @@ fn head_fault(event: &Event) -> Option<Reason>
     };
     match event.width {
         Width::Indefinite => Some(Reason::Indefinite),
-        width if width == Head::shortest(Major::Unsigned, argument).width() => None,
+        width if width.is_shortest(argument) => None,
         _ => Some(Reason::NotShortest),
     }
 }

@@ -114,7 +114,7 @@ impl OpenItems {
         match head_of(kind) {
             Some((major, argument)) => {
                 if argument < 24 {
-                    let first = 32 * number_of(major) + argument as u8;
+                    let first = 32 * major.number() + argument as u8;
                     return self.keys.keep(&[first]);
                 }
                 let head = Head::shortest(major, argument).bytes();
@@ -238,14 +238,6 @@ impl OpenItems {
             },
         }
     }
-}
-
-// The high three bits of a first byte.
-#[inline(always)]
-fn number_of(major: Major) -> u8
-    ensures { result ≡ major_number major }
-{
-    major as u8
 }
 
 // The type and the argument of a definite head.

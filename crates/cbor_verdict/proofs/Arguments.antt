@@ -4,8 +4,7 @@ use Rattle.std.proofs.lemmas.Bool.Decides.{nat_tests}
 use Rattle.cbor_head.specs.Prelude.{IsHead, major_number, shortest, with_argument}
 use Rattle.cbor_head.specs.declared.major.Major.TheVariants.{Array, Map, Tag, Simple}
 use Rattle.cbor_head.specs.declared.width.Width.TheVariants.{Direct, One, Indefinite}
-use Rattle.cbor_head.specs.declared.{major.Major.Major, width.Width.Width}
-use Rattle.cbor_model.specs.Argument.{IsArgument}
+use Rattle.cbor_head.specs.{declared.major.Major.Major, declared.width.Width.Width, Argument.IsArgument}
 use Rattle.cbor_automaton.proofs.Taking.{IsNumbered}
 use Rattle.cbor_verdict.proofs.Heads.{takes}
 

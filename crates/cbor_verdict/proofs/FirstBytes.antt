@@ -5,14 +5,14 @@ use Rattle.cbor_head.specs.Prelude.{Rules, Bounds, simple, head, major_number, A
 use Rattle.cbor_head.specs.declared.major.Major.TheVariants.{Bytes, Text, Array, Map, Tag, Simple}
 use Rattle.cbor_head.specs.declared.reason.Reason.TheVariants.{Reserved, NoIndefinite, Float, BadSimple, StrayBreak, TooDeep}
 use Rattle.cbor_head.specs.declared.width.Width.TheVariants.{One, Two, Four, Eight, Indefinite}
-use Rattle.cbor_head.specs.declared.{major.Major.Major, reason.Reason.Reason, width.Width.Width}
+use Rattle.cbor_head.specs.{declared.major.Major.Major, declared.reason.Reason.Reason, declared.width.Width.Width, InitialByte.IsInitialByteError}
 use Rattle.cbor_model.proofs.ByteLists.{bytes_back}
 use Rattle.cbor_automaton.specs.Automaton.{Frame, at_item, in_simple, Opening, direct, long, indefinite_length, long_simple, refuses, opening, has_space, begin, take_byte}
 use Rattle.cbor_automaton.{specs.Trace.more_bytes, proofs.Openings.IsLong, proofs.Openings.by-byte, proofs.Taking.IsNumbered}
 use Rattle.cbor_verdict.specs.Path.{Level, a_member, a_key, a_value, bytes_before, AreClean, MayBreak}
 use Rattle.cbor_verdict.{specs.Judged.IsJudged, specs.Kinds.KeepsToKinds, proofs.Judged.judged_start, proofs.Judged.judged_head, specs.PathKinds.KeepsHere}
-use Rattle.cbor_verdict.{specs.RefusedHere.IsInitialByteError, specs.Stop.HasBadByte, proofs.Heads.simple_cut}
-use Rattle.cbor_verdict.proofs.{PathForm.containers, PathForm.containers_count, PathKinds.kept_before, PathStops.bad_byte_here, SpelledBytes.small_major}
+use Rattle.cbor_verdict.{specs.Stop.HasBadByte, proofs.Heads.simple_cut, proofs.PathForm.containers, proofs.PathForm.containers_count}
+use Rattle.cbor_verdict.proofs.{PathKinds.kept_before, PathStops.bad_byte_here, SpelledBytes.small_major}
 
 -- ---- for which reason a byte is refused
 

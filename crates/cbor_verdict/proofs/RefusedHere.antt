@@ -6,14 +6,14 @@ use Rattle.cbor_head.specs.declared.major.Major.TheVariants.{Bytes, Text, Array,
 use Rattle.cbor_head.specs.declared.reason.Reason.TheVariants as reasons
 use Rattle.cbor_head.specs.declared.{major.Major.Major, order.KeyOrder.KeyOrder, reason.Reason.Reason, reason.Refusal.Refusal, width.Width.Width}
 use Rattle.cbor_head.specs.declared.{width.Width.TheVariants.Indefinite, width.Width.TheVariants.Direct, keys.Keys.TheVariants.IntegersAndTexts}
-use Rattle.cbor_head.specs.declared.{order.KeyOrder.TheVariants.Bytewise, reason.Reason.TheVariants.KeyKind}
-use Rattle.cbor_model.{specs.Argument.IsArgument, proofs.ByteLists.bytes_back, proofs.ByteLists.bytes_prefix, specs.FirstBytes.is_basic}
-use Rattle.cbor_model.proofs.KeyKinds.{basic_byte}
+use Rattle.cbor_head.specs.{declared.order.KeyOrder.TheVariants.Bytewise, declared.reason.Reason.TheVariants.KeyKind, Argument.IsArgument}
+use Rattle.cbor_head.specs.InitialByte.{IsInitialByteError, MayBegin}
+use Rattle.cbor_model.{proofs.ByteLists.bytes_back, proofs.ByteLists.bytes_prefix, specs.FirstBytes.is_basic, proofs.KeyKinds.basic_byte}
 use Rattle.cbor_automaton.proofs.FirstByte.{split}
 use Rattle.cbor_verdict.proofs.Heads.{open_or, IsOpener as MayOpen}
 use Rattle.cbor_verdict.proofs.KindBytes.{head_is_one, string_is_one, Begins, judged_begins}
 use Rattle.cbor_verdict.specs.Path.{Level, a_member, a_key, bytes_before, AreClean, MayBreak, IsKeyExpectedIn}
-use Rattle.cbor_verdict.specs.RefusedHere.{IsInitialByteError, IsPlaceFor, IsRefusedBy, HasNoBreak, MayBegin}
+use Rattle.cbor_verdict.specs.RefusedHere.{IsPlaceFor, IsRefusedBy, HasNoBreak}
 use Rattle.cbor_verdict.specs.Stop.{HasComplaint, IsStopped, EndsWithin}
 use Rattle.cbor_verdict.proofs.Arguments.{low_bits, number_byte, fits as fits_in, numbered, spells, fits, direct_head}
 use Rattle.cbor_verdict.proofs.PathKinds.{kept_prefix, head_begun, around_clean}

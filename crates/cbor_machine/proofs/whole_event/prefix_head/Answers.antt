@@ -1,5 +1,5 @@
 use Rattle.std.proofs.Common.{◌∙◌, sym, ap, arith, refl, inl, inr}
-use Rattle.cbor_automaton.specs.Automaton.{has_space}
+use Rattle.cbor_automaton.{specs.Automaton.has_space, proofs.Rows.definite}
 use Rattle.cbor_machine.proofs.whole_event.prefix_head.Goals as goal
 use Rattle.cbor_machine.specs.State.{frames_of}
 
@@ -35,3 +35,9 @@ returns-clause-here c = record {
   space = λ low. ap (has_space c.args.depth (frames_of c.args.container_stack.now)) (sym c.numbered_at.ensures) ∙ sym c.has_space.ensures ∙ c.if-not-has_space.false;
   simple = λ high. absurd (omega arith);
 }
+
+pub returns-then-c-ge224-clause-width : goal.returns-then-c-ge224-clause-width
+returns-then-c-ge224-clause-width c = let a = c.in_ok-argument.argument in definite a.width a.number c.in_ok-argument.ensures.spelled.holds
+
+pub returns-clause-width : goal.returns-clause-width
+returns-clause-width c = let a = c.in_ok-argument.argument in definite a.width a.number c.in_ok-argument.ensures.spelled.holds

@@ -40,7 +40,7 @@ returns-in_default-read_argument c = λ space.
     let low = c.if-low-gt27.false in
     let none = c.in_default-read_argument.ensures in
     chunk_head_cut_here a.is_text (chunked_from a.is_text a.behind.now) c.chunks.rest.now s.read space a.at (a.at + 1 + length a.behind.now) (omega arith) c.refusal_at-in_default-read_argument.result c.in-Some.first.now c.in-Some.behind.now c.in-Some.ensures.cases.0
-    c.refusal_at-in_default-read_argument.ensures (c.if-first-kind.false ∙ s.kind) (none.long refl) (omega (arith, low)) (none.cut refl)
+    c.refusal_at-in_default-read_argument.ensures (c.if-first-kind.false ∙ s.kind) (none.long refl) (omega (arith, low)) (none.cut refl (omega (arith, low)))
 
 pub returns-in-Some-string_refusal : goal.returns-in-Some-string_refusal
 returns-in-Some-string_refusal c =

@@ -1,5 +1,5 @@
-use Rattle.std.proofs.Common.{◌≡◌, ◌⊎◌, ℕ, ◌+◌, ◌-◌, ◌%◌, ◌<◌, ◌≤◌, true, List, [], ◌∷◌, length, take, get_or, refl, sym, ap, subst, inl, inr, arith, length-take-le}
-use Rattle.std.proofs.lemmas.{Bool.cases_lt, List.nil_from_length}
+use Rattle.std.proofs.Common.{◌≡◌, ◌⊎◌, ℕ, ◌+◌, ◌-◌, ◌%◌, ◌<◌, ◌≤◌, true, List, [], ◌∷◌, length, take, get_or, refl, sym, ap, ◌∙◌, subst, inl, inr, arith, length-take-le}
+use Rattle.std.proofs.lemmas.{Bool.cases_lt, Bool.false≢true, List.nil_from_length}
 use Rattle.cbor_head.specs.Prelude.{strict, AreBytes}
 use Rattle.cbor_model.proofs.KeyByteLists.{are_bytes}
 use Rattle.cbor_verdict.proofs.RefusedHere.{nothing_here, initial_byte_error_here, indefinite_here, cut_here, no_simple_here, long_here}
@@ -35,7 +35,7 @@ returns-in_default-read_argument c =
     let low : first % 32 < 28 = elim c.in_default-initial_byte_error.ensures.low [ inl l ↦ l | inr l ↦ absurd (c.if-low-eq31.false l.0) ] in
     refuses c.args.space c.args.at c.args.rest.now (first ∷ c.in-Some.behind.now) _ (any.Refused c.refusal_at-in_default-read_argument.result) split (ap any.Refused c.refusal_at-in_default-read_argument.ensures)
     (λ o. cut_here (strict o) c.args.space first c.in-Some.behind.now c.args.at (c.in_default-read_argument.ensures.long refl) low c.in_default-initial_byte_error.ensures.no_float c.in_default-initial_byte_error.ensures.fits
-    (c.in_default-read_argument.ensures.cut refl) (c.args.at + length c.args.rest.now) (ap (λ (x : List ℕ). c.args.at + length x) split))
+    (c.in_default-read_argument.ensures.cut refl low) (c.args.at + length c.args.rest.now) (ap (λ (x : List ℕ). c.args.at + length x) split))
 
 pub returns-then-head-lt32 : goal.returns-then-head-lt32
 returns-then-head-lt32 c =
@@ -50,7 +50,7 @@ returns-then-not-is_shortest c =
     let wide : c.in-Some.first.now ≡ 248 → 32 ≤ h.number = λ e. elim c.else-first.branch [ else-first-via-then-first+else-head-lt32 w ↦ w.if-head-lt32.false | else-first-via-else-first w ↦ absurd (w.if-first.false e) ] in
     refuses c.args.space c.args.at c.args.rest.now (c.in-Some.first.now ∷ c.in-Some.behind.now) _ (any.Refused c.refusal_at-then-not-is_shortest.result) split (ap any.Refused c.refusal_at-then-not-is_shortest.ensures)
     (λ o. long_here (strict o) c.args.space c.in-Some.first.now c.in-Some.behind.now c.args.at h.width h.number h.rest.now c.in-Some-read_argument.ensures.spelled refl c.in_default-initial_byte_error.ensures.no_float wide c.in_default-initial_byte_error.ensures.fits
-    (c.is_shortest.ensures.long c.if-not-is_shortest.true) (length c.args.rest.now - length h.rest.now) (ap (λ (x : List ℕ). length x - length h.rest.now) split) c.in-Some-read_argument.ensures.fewer)
+    (λ e. false≢true (sym c.if-not-is_shortest.true ∙ c.is_shortest.ensures.1 e)) (length c.args.rest.now - length h.rest.now) (ap (λ (x : List ℕ). length x - length h.rest.now) split) c.in-Some-read_argument.ensures.fewer)
 
 pub returns-then-first-lt64 : goal.returns-then-first-lt64
 returns-then-first-lt64 c =
@@ -61,7 +61,7 @@ returns-then-first-lt64 c =
     let kind : (c.in-Some.first.now < 64) ⊎ (224 ≤ c.in-Some.first.now) =
     elim c.then-first-lt64.branch [ then-first-lt64-via-then-first-lt64 w ↦ inl w.if-first-lt64.true | then-first-lt64-via-else-first-lt64+then-first-ge224 w ↦ inr w.if-first-ge224.true ] in
     answers c.args.space c.args.at c.args.rest.now (c.in-Some.first.now ∷ c.in-Some.behind.now) (any.Leaf used) (any.Leaf used) split refl
-    (any_leaf c.args.space c.in-Some.first.now c.in-Some.behind.now h.width h.number h.rest.now c.in-Some-read_argument.ensures.spelled c.in-Some-read_argument.ensures.fewer (c.is_shortest.ensures.short c.if-not-is_shortest.false)
+    (any_leaf c.args.space c.in-Some.first.now c.in-Some.behind.now h.width h.number h.rest.now c.in-Some-read_argument.ensures.spelled c.in-Some-read_argument.ensures.fewer (c.is_shortest.ensures.0 c.if-not-is_shortest.false)
     used (ap (λ (x : List ℕ). length x - length h.rest.now) split) c.in_default-initial_byte_error.ensures wide kind)
 
 pub string_refusal-requires-clause-head : goal.string_refusal-requires-clause-head
@@ -83,7 +83,7 @@ returns-in-Some-string_refusal c =
     let low : 64 ≤ c.in-Some.first.now = c.if-first-lt64.false in
     let head : IsStringHead c.args.rest.now h = record { first = c.in-Some.first.now; behind = c.in-Some.behind.now; is = c.in-Some.ensures.cases.0; low = low; high = c.if-first-lt128.true; argument = c.in-Some-read_argument.ensures.spelled; fewer = c.in-Some-read_argument.ensures.fewer } in
     λ o. string_refused c.args.rest.now h c.args.at c.in-Some-string_refusal.refusal head c.in-Some-string_refusal.ensures (strict o) c.args.space refl
-    (λ to m. shortest_clean (strict o) to m h.width h.number (c.is_shortest.ensures.short c.if-not-is_shortest.false))
+    (λ to m. shortest_clean (strict o) to m h.width h.number (c.is_shortest.ensures.0 c.if-not-is_shortest.false))
 
 pub returns-in-None : goal.returns-in-None
 returns-in-None c =
@@ -94,7 +94,7 @@ returns-in-None c =
     let h = c.in-Some-read_argument.head in
     let a = c.in-Some-read_argument.ensures.spelled in
     let fewer = c.in-Some-read_argument.ensures.fewer in
-    let short = c.is_shortest.ensures.short c.if-not-is_shortest.false in
+    let short = c.is_shortest.ensures.0 c.if-not-is_shortest.false in
     let whole = c.in-None.ensures in
     let used = length rest - length h.rest.now in
     let u = ap (λ (x : List ℕ). length x - length h.rest.now) split in
@@ -121,7 +121,7 @@ returns c =
     let space : c.args.space ≡ true = c.in_default-initial_byte_error.ensures.fits low high in
     let a = c.in-Some-read_argument.ensures.spelled in
     let fewer = c.in-Some-read_argument.ensures.fewer in
-    let short = c.is_shortest.ensures.short c.if-not-is_shortest.false in
+    let short = c.is_shortest.ensures.0 c.if-not-is_shortest.false in
     let o = c.any_container.ensures in
     let result = c.any_container.result in
     elim (cases_lt first 192) [

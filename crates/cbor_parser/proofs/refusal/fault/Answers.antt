@@ -46,7 +46,7 @@ returns-in_default-read_argument c =
     let none = c.in_default-read_argument.ensures in
     fault_same a.rest.now (c.in-Some.first.now ∷ c.in-Some.behind.now) a.at a.space a.is_key a.may_break _ c.refusal_at-in_default-read_argument.result split c.refusal_at-in_default-read_argument.ensures
     (fault_of c.in-Some.first.now c.in-Some.behind.now a.at a.space a.is_key a.may_break (hex_error at.After-initial_byte_error) _ (fit at.Joined-else-is_key)
-    (cut_here plain a.space c.in-Some.first.now c.in-Some.behind.now a.at (none.long refl) low placed.no_float placed.fits (none.cut refl) (a.at + length a.rest.now) (ap (λ (x : List ℕ). a.at + length x) split)))
+    (cut_here plain a.space c.in-Some.first.now c.in-Some.behind.now a.at (none.long refl) low placed.no_float placed.fits (none.cut refl low) (a.at + length a.rest.now) (ap (λ (x : List ℕ). a.at + length x) split)))
 
 pub returns-then-head-lt32 : goal.returns-then-head-lt32
 returns-then-head-lt32 c =

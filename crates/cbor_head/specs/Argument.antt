@@ -1,6 +1,6 @@
 -- The argument of a head, by its first byte (RFC 8949, section 3).
 use Rattle.std.specs.Prelude.{ℕ, ◌≡◌, ◌+◌, List, ◌∷◌, ◌++◌}
-use Rattle.cbor_head.specs.{Prelude.Holds, Prelude.with_argument, declared.width.Width.Width}
+use Rattle.cbor_head.specs.{Head.Holds, Head.with_argument, declared.width.Width.Width}
 
 -- behind the low five bits of a first byte stands this argument, and then the rest
 pub record IsArgument (low : ℕ) (behind : List ℕ) (w : Width) (n : ℕ) (rest : List ℕ) : Type 0 where

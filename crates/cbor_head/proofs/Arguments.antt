@@ -1,0 +1,105 @@
+-- The head that bytes begin with, by their first byte and the argument behind it.
+use Rattle.std.proofs.Common.{◌≡◌, ℕ, ◌+◌, ◌-◌, ◌*◌, ◌/◌, ◌%◌, ◌^◌, ◌<◌, ◌≤◌, List, [], ◌∷◌, ◌++◌, length, sym, ap, ◌∙◌, arith, length-append, subst}
+use Rattle.std.specs.Int.{bytes_high_first}
+use Rattle.byteorder.specs.Numbers.{length-bytes_high_first}
+use Rattle.cbor_head.specs.Prelude.{Holds, IsHead, head, head_parts, major_number}
+use Rattle.cbor_head.specs.declared.width.Width.TheVariants.{Direct, One, Two, Four, Eight, Indefinite}
+use Rattle.cbor_head.specs.{Argument.IsArgument, Read.major_of, declared.major.Major.TheVariants.Unsigned, declared.major.Major.Major}
+use Rattle.cbor_head.{specs.declared.width.Width.Width, proofs.HeadBack.first_kept, proofs.HeadLaws.major_back}
+use Rattle.cbor_head.proofs.WholeHead.{head_holds, one_head}
+
+-- what the first byte of a head is, and what stands behind it
+record Begins (m : Major) (w : Width) (n : ℕ) (x : List ℕ) (first : ℕ) (behind : List ℕ) : Type 0 where
+  low : ℕ
+  low_is : low < 28
+  first_is : first ≡ 32 * major_number m + low
+  argument : IsArgument low behind w n x
+  space : 24 ≤ low → 2 ^ (low - 24) ≤ length behind
+
+tail_is : (a b : ℕ) (xs ys : List ℕ) → a ∷ xs ≡ b ∷ ys → xs ≡ ys
+tail_is a b xs ys e = cc e
+
+head_is : (a b : ℕ) (xs ys : List ℕ) → a ∷ xs ≡ b ∷ ys → a ≡ b
+head_is a b xs ys e = cc e
+
+begins : (m : Major) (w : Width) (n : ℕ) (x : List ℕ) (first : ℕ) (behind : List ℕ) → IsHead m w n → first ∷ behind ≡ head m w n ++ x → Begins m w n x first behind
+begins m w n x first behind h e = go w (head_holds m w n h) e
+  where
+    go : (w : Width) → Holds w n → first ∷ behind ≡ head m w n ++ x → Begins m w n x first behind
+    go Direct h e = record {
+      low = n;
+      low_is = omega (arith, h);
+      first_is = head_is _ _ _ _ e;
+      argument = record { spelled = λ f. ap (λ (l : List ℕ). (f + n) ∷ l) (tail_is _ _ _ _ e); holds = h };
+      space = λ l. absurd (omega (arith, l, h));
+    }
+    go One h e = let t = tail_is _ _ _ _ e in record {
+      low = 24;
+      low_is = omega arith;
+      first_is = head_is _ _ _ _ e;
+      argument = record { spelled = λ f. ap (λ (l : List ℕ). (f + 24) ∷ l) t; holds = h };
+      space = λ l. omega (arith, ap length t, length-append (bytes_high_first 1 n) x, length-bytes_high_first 1 n);
+    }
+    go Two h e = let t = tail_is _ _ _ _ e in record {
+      low = 25;
+      low_is = omega arith;
+      first_is = head_is _ _ _ _ e;
+      argument = record { spelled = λ f. ap (λ (l : List ℕ). (f + 25) ∷ l) t; holds = h };
+      space = λ l. omega (arith, ap length t, length-append (bytes_high_first 2 n) x, length-bytes_high_first 2 n);
+    }
+    go Four h e = let t = tail_is _ _ _ _ e in record {
+      low = 26;
+      low_is = omega arith;
+      first_is = head_is _ _ _ _ e;
+      argument = record { spelled = λ f. ap (λ (l : List ℕ). (f + 26) ∷ l) t; holds = h };
+      space = λ l. omega (arith, ap length t, length-append (bytes_high_first 4 n) x, length-bytes_high_first 4 n);
+    }
+    go Eight h e = let t = tail_is _ _ _ _ e in record {
+      low = 27;
+      low_is = omega arith;
+      first_is = head_is _ _ _ _ e;
+      argument = record { spelled = λ f. ap (λ (l : List ℕ). (f + 27) ∷ l) t; holds = h };
+      space = λ l. omega (arith, ap length t, length-append (bytes_high_first 8 n) x, length-bytes_high_first 8 n);
+    }
+    go Indefinite h e = absurd h
+
+-- one argument behind the low bits
+one_argument : (low : ℕ) (behind : List ℕ) (v w : Width) (k n : ℕ) (x y : List ℕ) → IsArgument low behind v k x → IsArgument low behind w n y → (v ≡ w) × (k ≡ n) × (x ≡ y)
+one_argument low behind v w k n x y a b =
+    let t = one_head Unsigned Unsigned v w k n x y a.holds b.holds (sym (a.spelled 0) ∙ b.spelled 0) in
+    (t.1, t.2, t.3)
+
+-- no head is empty
+pub no_bytes : (m : Major) (w : Width) (n : ℕ) → [] ≡ head m w n → ⊥
+no_bytes m Direct n e = cc e
+no_bytes m One n e = cc e
+no_bytes m Two n e = cc e
+no_bytes m Four n e = cc e
+no_bytes m Eight n e = cc e
+no_bytes m Indefinite n e = cc e
+
+-- the head that an argument ends
+pub head_here : (first : ℕ) (behind : List ℕ) (w : Width) (n : ℕ) (rest : List ℕ) → first < 256 → IsArgument (first % 32) behind w n rest → first ∷ behind ≡ head (major_of (first / 32)) w n ++ rest
+head_here first behind w n rest small a = ap (λ (x : ℕ). x ∷ behind) (sym (first_kept first small)) ∙ a.spelled (32 * major_number (major_of (first / 32)))
+
+-- a head stands at the start of some bytes: its argument is there, and is the only one
+pub record ReadsHead (first : ℕ) (behind : List ℕ) (m : Major) (w : Width) (n : ℕ) (x : List ℕ) : Type 0 where
+  pub type : first / 32 ≡ major_number m
+  pub low : first % 32 < 28
+  pub space : 24 ≤ first % 32 → 2 ^ (first % 32 - 24) ≤ length behind
+  pub only : (v : Width) (k : ℕ) (y : List ℕ) → IsArgument (first % 32) behind v k y → (v ≡ w) × (k ≡ n) × (y ≡ x)
+
+pub reads_head : (first : ℕ) (behind : List ℕ) (m : Major) (w : Width) (n : ℕ) (x : List ℕ) → IsHead m w n → first ∷ behind ≡ head m w n ++ x → ReadsHead first behind m w n x
+reads_head first behind m w n x h e =
+    let b = begins m w n x first behind h e in
+    let low : first % 32 ≡ b.low = omega (arith, b.first_is, b.low_is) in
+    record {
+      type = omega (arith, b.first_is, b.low_is);
+      low = omega (arith, low, b.low_is);
+      space = λ l. subst (λ (k : ℕ). 24 ≤ k → 2 ^ (k - 24) ≤ length behind) (sym low) b.space l;
+      only = λ v k y a. one_argument b.low behind v w k n y x (subst (λ (l : ℕ). IsArgument l behind v k y) low a) b.argument;
+    }
+
+-- it is the one that is read
+pub same_parts : (first : ℕ) (m : Major) (v w : Width) (k n : ℕ) → first / 32 ≡ major_number m → v ≡ w → k ≡ n → head_parts (major_of (first / 32)) v k ≡ head_parts m w n
+same_parts first m v w k n high e f = let type : major_of (first / 32) ≡ m = ap major_of high ∙ major_back m in cc (type, e, f)
