@@ -12,8 +12,8 @@ use Rattle.cbor_verdict.{proofs.Reasons.item-reason, proofs.SpelledBytes.longest
 use Rattle.cbor_verdict.specs.Refusals.{IsComplaintReason}
 use Rattle.cbor_reader.specs.Canonicalise.{IsCanonicalOf, IsRefusal, of_item, canonical_too_long}
 use Rattle.cbor_reader.specs.WholeItem.{IsWholeItem, IsItemRefusal, unread, trailing}
-use Rattle.cbor_diag.specs.Listing.{IsListing, IsStopped, IsListed, IsUnlisted}
-use Rattle.cbor_diag.specs.Listing as listing
+use Rattle.cbor_listing.specs.Listing.{IsListing, IsStopped, IsListed, IsUnlisted}
+use Rattle.cbor_listing.specs.Listing as listing
 use Rattle.cborc_commands.specs.declared.fault.Fault.TheVariants as faults
 use Rattle.cborc_commands.{specs.inner.Decided.IsDecided, specs.inner.Decided.IsEnough, proofs.Places.place_within, specs.declared.fault.Fault.Fault}
 use Rattle.cborc_commands.{specs.Check.IsWhole, specs.Events.IsFollowed, specs.Events.IsNotListed, proofs.Whole.AreAccepted}

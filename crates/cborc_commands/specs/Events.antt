@@ -3,7 +3,7 @@ use Rattle.std.specs.Prelude.{ℕ, ◌≡◌, ◌≢◌, ◌<◌, ◌≤◌, ◌
 use Rattle.std.specs.Io.KnownBytes.{Keeps}
 use Rattle.cbor_head.specs.{Prelude.Bounds, Prelude.refusal, declared.reason.Reason.TheVariants.Trailing, declared.reason.Reason.TheVariants.Write}
 use Rattle.cbor_head.specs.declared.reason.Refusal.{Refusal}
-use Rattle.cbor_diag.specs.Listing.{IsListed, IsUnlisted}
+use Rattle.cbor_listing.specs.Listing.{IsListed, IsUnlisted}
 use Rattle.cborc_files.specs.Folder.{Files}
 use Rattle.cborc_commands.specs.declared.fault.Fault.TheVariants as faults
 use Rattle.cborc_commands.specs.{Input.IsInput, Fault.IsOfInput, NoInput.IsNoInput, declared.request.Options.Options, declared.fault.Fault.Fault}

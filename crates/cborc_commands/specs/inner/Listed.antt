@@ -1,7 +1,7 @@
 -- Why the item at a prefix is not listed.
 use Rattle.std.specs.Prelude.{ℕ, ◌≡◌, ◌≢◌, ◌≤◌, List, length, Option}
 use Rattle.cbor_head.specs.{Prelude.Bounds, declared.reason.Reason.TheVariants.Write, declared.reason.Refusal.Refusal}
-use Rattle.cbor_diag.specs.Listing.{IsUnlisted}
+use Rattle.cbor_listing.specs.Listing.{IsUnlisted}
 use Rattle.cborc_commands.specs.declared.fault.Fault.TheVariants as faults
 use Rattle.cborc_commands.specs.{Fault.IsOfInput, declared.fault.Fault.Fault}
 
