@@ -154,7 +154,7 @@ module _ (limits : Bounds) (prefix behind : List ℕ) (enough : IsEnough limits 
   not_listed_whole old new (faults.Refused f) (own, reported, inl (u, l)) = (own, reported, inl (unlisted_whole f old new u l, omega (arith, l, no_longer)))
   not_listed_whole old new (faults.Refused f) (own, reported, inr h) = (own, reported, inr (followed_whole f old new h))
   not_listed_whole old new faults.CannotPrint (f, u, l, e) = (f, unlisted_whole f old new u l, omega (arith, l, no_longer), e)
-  not_listed_whole old new faults.Memory (f, u, l) = (f, unlisted_whole f old new u l, omega (arith, l, no_longer))
+  not_listed_whole old new faults.Memory (f, u, l, e) = (f, unlisted_whole f old new u l, omega (arith, l, no_longer), e)
   not_listed_whole old new _ h = absurd h
 
   -- ---- what `compare` finds
