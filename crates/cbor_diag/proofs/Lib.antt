@@ -1,10 +1,7 @@
-pub mod Annotating
 mod Explained
 mod HiddenSteps
 pub mod Layouts
 pub mod Leaving
-pub mod Lines
-pub mod Listed
 mod PathKeys
 mod PathSteps
 pub mod PieceTexts

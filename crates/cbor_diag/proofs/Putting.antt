@@ -4,8 +4,9 @@ use Rattle.std.specs.Result.{OnErr, is_ok}
 use lib.Seq.{take-append_seam}
 use Rattle.std.{specs.Io.KnownBytes.Appends, proofs.KnownBytes.Appends-nil, proofs.KnownBytes.Appends-trans}
 use Rattle.cbor_item.specs.Sent.{stopped_at}
+use Rattle.cbor_listing.specs.Written.{capped}
 use Rattle.cbor_diag.specs.inner.Outbox.{HasPut, HasStopped, Puts}
-use Rattle.cbor_diag.specs.{declared.outbox.Stopped.Stopped, Written.capped, Written.Writes, declared.outbox.Outbox.Outbox}
+use Rattle.cbor_diag.specs.{declared.outbox.Stopped.Stopped, Written.Writes, declared.outbox.Outbox.Outbox}
 
 -- what was taken, and then the rest of it
 regroup : (took more waits w xs ys : List ℕ) (mid : List ℕ) → took ++ mid ≡ w ++ xs → more ++ waits ≡ mid ++ ys → (took ++ more) ++ waits ≡ w ++ (xs ++ ys)

@@ -1,10 +1,8 @@
-pub mod Annotated
 pub mod Explanation
 pub mod Follows
 pub mod Hidden
 pub mod IndentedText
 pub mod ItemPath
-pub mod Listing
 pub mod Sentences
 pub mod Surroundings
 pub mod Text

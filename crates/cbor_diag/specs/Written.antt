@@ -1,12 +1,9 @@
 -- What a writer took of the bytes of a text.
-use Rattle.std.specs.Prelude.{ℕ, ◌≡◌, ◌-◌, ◌^◌, ◌<◌, min, List, length, take, Option, Result, Ok, Err}
+use Rattle.std.specs.Prelude.{ℕ, ◌≡◌, ◌<◌, List, length, take, Option, Result, Ok, Err}
 use Rattle.std.specs.Io.KnownBytes.{Appends}
 use Rattle.cbor_head.specs.declared.reason.Refusal.{Refusal}
 use Rattle.cbor_item.specs.Sent.{stopped_at}
-
--- a count of bytes, which stops at 2^64 - 1
-abbrev pub capped : ℕ → ℕ
-capped n = min n (2 ^ 64 - 1)
+use Rattle.cbor_listing.specs.Written.{capped}
 
 -- All of the bytes went out, and their count is answered; or the first n alone.
 abbrev pub Writes : Option (List ℕ) → Option (List ℕ) → List ℕ → Result ℕ Refusal → Type 0

@@ -1,5 +1,4 @@
 -- What private functions speak of; no public contract does.
-pub mod Annotated
 pub mod Layout
 pub mod Levels
 pub mod Outbox

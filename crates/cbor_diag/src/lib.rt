@@ -1,8 +1,8 @@
-//! Text for people: diagnostic notation (RFC 8949, section 8), listings of events, and explanations of refusals.
+//! Text for people: diagnostic notation (RFC 8949, section 8) and explanations of refusals.
 //!
 //! Users and the program call it. [`diagnostic`] writes an item on one line, [`diagnostic_indented`] with one member or pair
-//! a line, [`listing`] a line for each event of an item, [`annotated`] its bytes
-//! and what they mean, [`explain`] what a refusal means.
+//! a line, [`explain`] what a refusal means. It hands on `cbor_listing`: [`listing`] writes a line for each event of an item,
+//! [`annotated`] its bytes and what they mean.
 //!
 //! ```
 //! let item = Item::Tag(1, Box::new(alloc, Item::Unsigned(1363896240))?);
@@ -27,18 +27,12 @@
 //! [`laws`] has no code: its contracts are the laws of the notation.
 #![tactic(auto)]
 
-mod annotated_line;
-mod annotated_listing;
-mod event_line;
-mod event_listing;
-mod event_meaning;
 mod explanation;
 mod frames;
 mod hidden;
 mod item_path;
 pub mod laws;
 mod layout;
-mod line;
 mod outbox;
 mod path_text;
 mod pieces;
@@ -51,8 +45,7 @@ mod text_buffer;
 mod text_sink;
 mod walk;
 
-pub use annotated_listing::annotated;
-pub use event_listing::{listing, listing_from};
+pub use cbor_listing::{annotated, listing, listing_from};
 pub use explanation::{explain, write_sentences};
 pub use text::{diagnostic, diagnostic_indented, diagnostic_view, diagnostic_view_indented};
 pub use text_buffer::TextBuffer;

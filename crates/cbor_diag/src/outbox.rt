@@ -2,7 +2,7 @@
 
 ghost use Rattle.std.specs.Prelude.{◌≡◌, ℕ, ◌+◌, ◌<◌, [], length, take, IfOk, MatchResult};
 ghost use Rattle.std.specs.Io.KnownBytes.{Appends};
-ghost use Rattle.cbor_diag.specs.Written.{capped};
+ghost use Rattle.cbor_listing.specs.Written.{capped};
 ghost use Rattle.cbor_diag.specs.inner.Outbox.{Puts};
 
 use arrayvec::ArrayVec;

@@ -16,7 +16,7 @@ struct Row {
     written: &'static str,
 }
 
-fn rows() -> [Row; 7] {
+fn rows() -> [Row; 8] {
     [
         // {"a": [0, a float]}
         Row {
@@ -90,6 +90,18 @@ fn rows() -> [Row; 7] {
   at $(24)[0]
 ",
         },
+        // [0, a text with a chunk of bytes]
+        Row {
+            item: b"\x82\x00\x7f\x41\x00\xff",
+            refusal: Refusal::new(Reason::BadChunk, 3, 4),
+            written: "  \
+  A string of indefinite length holds strings of its own type alone.
+  Close the string with ff, or give each chunk the string's type.
+  bytes from 0: 82 00 7f 41 00 ff
+                         ^^
+  at $[1]
+",
+        },
         // an array of 18 zeros, and a byte behind it
         Row {
             item: b"\x92\0\0\0\0\0\0\0\0\0\0\0\0\0\0\0\0\0\0\x01",
@@ -158,5 +170,36 @@ fn finds_the_way(rt: HostRuntime) -> io::Result<()> {
     let mut written = Vec::with_capacity(rt.alloc(), 64)?;
     write_path(rt.alloc(), item, way.as_slice(), &mut written)?;
     assert!(rt; written.as_slice() == b"  at $[0].1[1]\n".as_slice());
+    Ok(())
+}
+
+// Inputs that are refused in a string or behind one, with the place and the way there.
+static IN_STRINGS: [(&[u8], u64, &str); 7] = [
+    // cut in a string of definite length
+    (b"\x82\x00\x62a", 4, "  at $[1]\n"),
+    // a float behind one
+    (b"\x82\x61a\xf9\x00\x00", 3, "  at $[1]\n"),
+    // cut in a chunk
+    (b"\x82\x00\x7f\x62a", 5, "  at $[1]\n"),
+    // cut between two chunks
+    (b"\x82\x00\x7f\x61a", 5, "  at $[1]\n"),
+    // cut in the head of a chunk
+    (b"\x82\x00\x7f\x61a\x79\x00", 7, "  at $[1]\n"),
+    // a float behind a string in chunks
+    (b"\x82\x7f\x61a\xff\xf9\x00\x00", 5, "  at $[1]\n"),
+    // a float behind an item that ends there
+    (b"\x82\x01\xf9\x00\x00", 2, "  at $[1]\n"),
+];
+
+#[test]
+fn finds_the_way_through_strings(rt: HostRuntime) -> io::Result<()> {
+    let limits = Limits::new(256, 1 << 20).unwrap();
+    for (item, place, wanted) in IN_STRINGS {
+        let refusal = Refusal::at(Reason::Truncated, place);
+        let way = path_to(rt.alloc(), item, limits, refusal)?;
+        let mut written = Vec::with_capacity(rt.alloc(), 64)?;
+        write_path(rt.alloc(), item, way.as_slice(), &mut written)?;
+        assert!(rt; written.as_slice() == wanted.as_bytes(), "{item:?}");
+    }
     Ok(())
 }

@@ -2,6 +2,7 @@
 use Rattle.std.proofs.Common.{◌≡◌, refl, sym, subst}
 use Rattle.cbor_head.specs.declared.reason.Reason.TheVariants as reasons
 use Rattle.cbor_head.specs.declared.reason.{Reason.Reason, Refusal.Refusal}
+use Rattle.cbor_listing.specs.Listing.{IsListingReason}
 use Rattle.cborc_commands.specs.Fault.{IsOfInput, reason_fault, refusal_fault}
 use Rattle.cborc_commands.specs.declared.fault.Fault.TheVariants as faults
 use Rattle.cborc_commands.specs.declared.fault.Fault.{Fault}
@@ -13,4 +14,13 @@ refusal_is P f fault e refused memory = subst P (sym e) (by_reason f.reason refl
     by_reason : (reason : Reason) → f.reason ≡ reason → P (reason_fault f reason)
     by_reason reasons.Memory is = memory
     by_reason reasons.Read is = memory
+    by_reason _ is = refused (subst IsOfInput (sym is) tt)
+
+-- the same of a listing, which asks for no memory: want of memory is said where a read failed
+pub listing_refusal_is : (P : Fault → Type 0) (f : Refusal) (fault : Fault) → fault ≡ refusal_fault f → IsListingReason f.reason → (IsOfInput f.reason → P (faults.Refused f)) → (f.reason ≡ reasons.Read → P faults.Memory) → P fault
+listing_refusal_is P f fault e listed refused memory = subst P (sym e) (by_reason f.reason refl)
+  where
+    by_reason : (reason : Reason) → f.reason ≡ reason → P (reason_fault f reason)
+    by_reason reasons.Memory is = absurd (subst IsListingReason is listed)
+    by_reason reasons.Read is = memory is
     by_reason _ is = refused (subst IsOfInput (sym is) tt)

@@ -6,7 +6,7 @@ use Rattle.cbor_head.specs.declared.{order.KeyOrder.KeyOrder, reason.Refusal.Ref
 use Rattle.cbor_verdict.specs.Readers.{IsReadAs}
 use Rattle.cbor_reader.specs.{Canonicalise.IsCanonicalOf, Canonicalise.IsRefusal, Comparing.IsSideRefusal, WholeItem.IsWholeItem, WholeItem.IsItemRefusal}
 use Rattle.cbor_reader.specs.declared.comparison.Side.{Side, TheVariants.Left, TheVariants.Right}
-use Rattle.cbor_diag.specs.Listing.{IsListed}
+use Rattle.cbor_listing.specs.Listing.{IsListed}
 use Rattle.cborc_files.specs.Folder.{Files, KeepsFiles}
 use Rattle.cborc_commands.specs.Texts.{GoesInPart, IsCanonicalText, shown_text}
 use Rattle.cborc_commands.specs.declared.status.Status.TheVariants as statuses

@@ -12,8 +12,8 @@ use Rattle.cbor_verdict.{proofs.Reasons.item-reason, proofs.SpelledBytes.longest
 use Rattle.cbor_verdict.specs.Refusals.{IsComplaintReason}
 use Rattle.cbor_reader.specs.Canonicalise.{IsCanonicalOf, IsRefusal, of_item, canonical_too_long}
 use Rattle.cbor_reader.specs.WholeItem.{IsWholeItem, IsItemRefusal, unread, trailing}
-use Rattle.cbor_diag.specs.Listing.{IsListing, IsStopped, IsListed, IsUnlisted}
-use Rattle.cbor_diag.specs.Listing as listing
+use Rattle.cbor_listing.specs.Listing.{IsListing, IsStopped, IsListed, IsUnlisted}
+use Rattle.cbor_listing.specs.Listing as listing
 use Rattle.cborc_commands.specs.declared.fault.Fault.TheVariants as faults
 use Rattle.cborc_commands.{specs.inner.Decided.IsDecided, specs.inner.Decided.IsEnough, proofs.Places.place_within, specs.declared.fault.Fault.Fault}
 use Rattle.cborc_commands.{specs.Check.IsWhole, specs.Events.IsFollowed, specs.Events.IsNotListed, proofs.Whole.AreAccepted}
@@ -154,7 +154,7 @@ module _ (limits : Bounds) (prefix behind : List ℕ) (enough : IsEnough limits 
   not_listed_whole old new (faults.Refused f) (own, reported, inl (u, l)) = (own, reported, inl (unlisted_whole f old new u l, omega (arith, l, no_longer)))
   not_listed_whole old new (faults.Refused f) (own, reported, inr h) = (own, reported, inr (followed_whole f old new h))
   not_listed_whole old new faults.CannotPrint (f, u, l, e) = (f, unlisted_whole f old new u l, omega (arith, l, no_longer), e)
-  not_listed_whole old new faults.Memory (f, u, l) = (f, unlisted_whole f old new u l, omega (arith, l, no_longer))
+  not_listed_whole old new faults.Memory (f, u, l, e) = (f, unlisted_whole f old new u l, omega (arith, l, no_longer), e)
   not_listed_whole old new _ h = absurd h
 
   -- ---- what `compare` finds

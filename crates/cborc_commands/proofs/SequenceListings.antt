@@ -7,7 +7,7 @@ use Rattle.cbor_head.specs.declared.reason.Refusal.{Refusal}
 use Rattle.cbor_automaton.specs.Event.{events}
 use Rattle.cbor_verdict.{specs.Readers.IsRead, specs.Refusals.IsFormReason, proofs.Reasons.form-reason}
 use Rattle.cbor_reader.specs.Sequence.{IsAccepted}
-use Rattle.cbor_diag.specs.Listing.{lines, IsListing, IsStopped, IsListed, IsUnlisted, of_verdict, of_reader, of_writer}
+use Rattle.cbor_listing.specs.Listing.{lines, IsListing, IsStopped, IsListed, IsUnlisted, of_verdict, of_reader, of_writer}
 use Rattle.cborc_commands.specs.declared.fault.Fault.TheVariants as faults
 use Rattle.cborc_commands.specs.EventsSequence.{gap, item_lines, before_all, within, listed_to, listed_short}
 use Rattle.cborc_commands.{proofs.Outputs.appends_more, proofs.Places.place_within, specs.inner.Listed.IsPrefixNotListed, specs.Fault.IsOfInput}
@@ -74,7 +74,7 @@ module _ (start : ℕ) (limits : Bounds) (bytes : List ℕ) (before middle after
         → IsItemNotListed limits start (bytes ++ behind) fault before after
     item_not_listed known (faults.Refused f) (own, apart, u, l) = refused_so f own apart (known f) u
     item_not_listed known faults.CannotPrint (f, u, l, e) = cut_off f e l u
-    item_not_listed known faults.Memory (f, u, l) = listed_in_part f l u
+    item_not_listed known faults.Memory (f, u, l, e) = listed_in_part f l u
     item_not_listed known _ h = absurd h
 
 -- the output failed before the lines

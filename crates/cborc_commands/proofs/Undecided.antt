@@ -5,7 +5,7 @@ use Rattle.cbor_head.specs.Prelude.{form, Bounds, Spelling, spell}
 use Rattle.cbor_head.specs.declared.reason.Reason.TheVariants as reasons
 use Rattle.cbor_head.specs.declared.reason.Refusal.{Refusal}
 use Rattle.cbor_verdict.proofs.Accepted.{one_item, one_refusal, not_both}
-use Rattle.cbor_diag.specs.Listing.{IsListed, IsUnlisted, of_verdict, of_reader, of_writer}
+use Rattle.cbor_listing.specs.Listing.{IsListed, IsUnlisted, of_verdict, of_reader, of_writer}
 use Rattle.cborc_commands.{specs.inner.Decided.IsDecided, proofs.Within.read_within}
 
 pub decided_of_item : (limits : Bounds) (bytes : List ℕ) (size : ℕ) (old new : Option (List ℕ)) → IsListed 0 limits bytes size old new → eqb size (length bytes) ≡ false → IsDecided limits bytes

@@ -1,9 +1,9 @@
 -- Why `events` ends without the listing of a whole file.
 use Rattle.std.specs.Prelude.{ℕ, ◌≡◌, ◌≢◌, ◌<◌, ◌≤◌, ◌⊎◌, List, length, Option}
 use Rattle.std.specs.Io.KnownBytes.{Keeps}
-use Rattle.cbor_head.specs.{Prelude.Bounds, Prelude.refusal, declared.reason.Reason.TheVariants.Trailing, declared.reason.Reason.TheVariants.Write}
-use Rattle.cbor_head.specs.declared.reason.Refusal.{Refusal}
-use Rattle.cbor_diag.specs.Listing.{IsListed, IsUnlisted}
+use Rattle.cbor_head.specs.declared.reason.Reason.TheVariants.{Read, Trailing, Write}
+use Rattle.cbor_head.specs.{Prelude.Bounds, Prelude.refusal, declared.reason.Refusal.Refusal}
+use Rattle.cbor_listing.specs.Listing.{IsListed, IsUnlisted}
 use Rattle.cborc_files.specs.Folder.{Files}
 use Rattle.cborc_commands.specs.declared.fault.Fault.TheVariants as faults
 use Rattle.cborc_commands.specs.{Input.IsInput, Fault.IsOfInput, NoInput.IsNoInput, declared.request.Options.Options, declared.fault.Fault.Fault}
@@ -15,12 +15,13 @@ pub record IsFollowed (limits : Bounds) (input : List ℕ) (old new : Option (Li
   pub followed : size < length input
   pub is : f ≡ refusal Trailing size size
 
--- the same of a whole input, or a byte follows the item
+-- The form of a whole input is refused, or a byte follows the item; or standard output took not all of its lines. Out of memory is said
+-- only where a read of the bytes failed, which no contract of a reader rules out.
 abbrev pub IsNotListed : Bounds → List ℕ → Option (List ℕ) → Option (List ℕ) → Fault → Type 0
 IsNotListed limits input old new (faults.Refused f) =
     IsOfInput f.reason × (f.reason ≢ Write) × ((IsUnlisted 0 limits input f old new × (f.read ≤ length input)) ⊎ IsFollowed limits input old new f)
 IsNotListed limits input old new faults.CannotPrint = (f : Refusal) × IsUnlisted 0 limits input f old new × (f.read ≤ length input) × (f.reason ≡ Write)
-IsNotListed limits input old new faults.Memory = (f : Refusal) × IsUnlisted 0 limits input f old new × (f.read ≤ length input)
+IsNotListed limits input old new faults.Memory = (f : Refusal) × IsUnlisted 0 limits input f old new × (f.read ≤ length input) × (f.reason ≡ Read)
 IsNotListed limits input old new _ = ⊥
 
 -- the input at a path is one well-formed item, and standard output took its listing

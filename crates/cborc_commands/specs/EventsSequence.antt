@@ -5,7 +5,7 @@ use Rattle.cbor_head.specs.Prelude.{form, Bounds, Spelling, refused, IsVerdict}
 use Rattle.cbor_head.specs.declared.reason.Refusal.{Refusal}
 use Rattle.cbor_automaton.specs.Event.{events}
 use Rattle.cbor_reader.specs.Sequence.{IsAccepted, sequence_bytes}
-use Rattle.cbor_diag.specs.Listing.{lines, IsListing, IsStopped}
+use Rattle.cbor_listing.specs.Listing.{lines, IsListing, IsStopped}
 use Rattle.cborc_files.specs.Folder.{Files}
 use Rattle.cborc_commands.specs.Sequences.{texts_from, StartsWithEach, AreAll, GoesOn, AreFirst}
 use Rattle.cborc_commands.specs.declared.fault.Fault.TheVariants as faults

@@ -1,7 +1,7 @@
 //! The subcommand `events`: the listing of an item's events.
 
 ghost use Rattle.std.specs.Prelude.{◌≡◌, length, OnOk, IfErr};
-ghost use Rattle.cbor_diag.specs.Listing.{IsListed};
+ghost use Rattle.cbor_listing.specs.Listing.{IsListed};
 ghost use Rattle.cborc_commands.specs.Events.{IsNotListed, IsListedOf, IsNotListedOf};
 ghost use Rattle.cborc_files.specs.Folder.{KeepsFiles};
 

@@ -1,7 +1,7 @@
 //! The lines of the events of the item at the start of some bytes.
 
 ghost use Rattle.std.specs.Prelude.{◌≡◌, ◌≤◌, ◌<◌, ◌^◌, false, length, IfOk, IfErr};
-ghost use Rattle.cbor_diag.specs.Listing.{IsListed};
+ghost use Rattle.cbor_listing.specs.Listing.{IsListed};
 ghost use Rattle.cborc_commands.specs.inner.Decided.{IsDecided};
 ghost use Rattle.cborc_commands.specs.inner.Listed.{IsPrefixNotListed};
 

@@ -10,6 +10,8 @@ mod folder;
 mod hex_text;
 mod recording;
 mod replacement;
+#[cfg(test)]
+mod tests;
 mod visible;
 
 pub use disk::{Disk, LONGEST, append_from};

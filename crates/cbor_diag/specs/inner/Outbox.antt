@@ -1,7 +1,8 @@
 -- What a writer took of the bytes that were put behind others.
 use Rattle.std.specs.Prelude.{ℕ, ◌≡◌, ◌+◌, ◌<◌, List, ◌++◌, length, Option, Result, Ok, Err}
 use Rattle.std.specs.Io.KnownBytes.{Appends}
-use Rattle.cbor_diag.specs.{Written.capped, declared.outbox.Outbox.Outbox, declared.outbox.Stopped.Stopped}
+use Rattle.cbor_listing.specs.Written.{capped}
+use Rattle.cbor_diag.specs.declared.outbox.{Outbox.Outbox, Stopped.Stopped}
 
 -- the writer took some of what waited and of the bytes behind it, and the others wait
 pub record HasPut (old new : Option (List ℕ)) (from to : Outbox) (bytes : List ℕ) : Type 0 where

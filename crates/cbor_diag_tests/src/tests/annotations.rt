@@ -1,8 +1,9 @@
 //! Annotated bytes, line by line, of examples of RFC 8949 (sections 3 and 3.4, appendix A) and of inputs that are refused.
 
-use super::streams::{Sink, Stop};
+use super::streams::{STOPS, Sink, Stop};
 use cbor_diag::annotated;
 use cbor_head::{Limits, Reason, Refusal};
+use std::alloc::Global;
 use std::test::Fail;
 
 // The bytes in hex, how many of them the item has, and its lines.
@@ -166,12 +167,43 @@ fn long_payloads_are_cut(rt: HostRuntime) -> Result<(), Fail> {
     Ok(())
 }
 
+// Whether the lines end where a writer stops that takes no more than these bytes of them.
+fn stops_behind(
+    alloc: Global,
+    bytes: &[u8],
+    before: &[u8],
+    stop: (usize, Stop),
+) -> Result<bool, Fail> {
+    let mut sink = Sink::stopping(alloc, before.len(), stop.0, stop.1);
+    let given = annotated(bytes, 0, limits()?, &mut sink);
+    let is_told = match given {
+        Ok(_) => false,
+        Err(refusal) => refusal.reason == Reason::Write && refusal.place == before.len() as u64,
+    };
+    Ok(is_told && sink.ended_with(before))
+}
+
+#[test]
+fn a_failed_write_ends_the_lines(rt: HostRuntime) -> Result<(), Fail> {
+    let alloc = rt.alloc();
+    for (digits, _, lines) in ITEMS {
+        let bytes = hex::decode(alloc, digits.as_bytes())?;
+        let lines = lines.as_bytes();
+        for place in 0..lines.len() {
+            for stop in STOPS {
+                let is_right = stops_behind(alloc, &bytes, &lines[..place], stop)?;
+                assert!(rt; is_right, "{digits} at {place}");
+            }
+        }
+    }
+    Ok(())
+}
+
 // A writer that stops within the second line has the first of the lines, and no byte behind the second head was read.
 #[test]
 fn stops_within_a_line(rt: HostRuntime) -> Result<(), Fail> {
     let alloc = rt.alloc();
-    let mut sink = Sink::new(alloc);
-    sink.stops = Some((70, Stop::TakesNothing));
+    let mut sink = Sink::stopping(alloc, 70, usize::MAX, Stop::TakesNothing);
     let refusal = Refusal::new(Reason::Write, 70, 2);
     assert_eq!(rt;
         annotated(b"\x81\x01", 0, limits()?, &mut sink),

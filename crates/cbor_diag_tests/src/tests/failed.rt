@@ -1,58 +1,12 @@
-//! Writers that stop.
+//! Writers that stop once and would then take more.
 
+use super::streams::{STOPS, Sink, Stop};
 use super::{NESTED, NESTED_INDENTED, tree_of};
 use cbor_diag::{diagnostic, diagnostic_indented};
 use cbor_head::{Reason, Refusal};
 use cbor_item::Tree;
 use std::alloc::Global;
-use std::io;
-use std::io::{Error, ErrorKind, Write};
 use std::test::Fail;
-
-// Takes at most `step` bytes a write. Once, when it holds `space` of them, it fails or takes none,
-// and then goes on.
-#[derive(Drop)]
-struct Cup {
-    held: Vec<u8>,
-    space: usize,
-    step: usize,
-    fails: bool,
-    stopped: bool,
-}
-
-impl Write for Cup {
-    fn write(&mut self, buf: &[u8]) -> io::Result<usize> {
-        if self.held.len() == self.space && !self.stopped {
-            self.stopped = true;
-            if self.fails {
-                return Err(Error::from(ErrorKind::Interrupted));
-            }
-            return Ok(0);
-        }
-        let mut count = buf.len().min(self.step);
-        if !self.stopped && self.held.len() < self.space {
-            count = count.min(self.space - self.held.len());
-        }
-        self.held.extend_from_slice(&buf[..count])?;
-        Ok(count)
-    }
-
-    fn flush(&mut self) -> io::Result<()> {
-        Ok(())
-    }
-}
-
-static STOPS: [(usize, bool); 4] = [(1, false), (1, true), (10000, false), (10000, true)];
-
-fn empty_cup(held: Vec<u8>, space: usize, step: usize, fails: bool) -> Cup {
-    Cup {
-        held,
-        space,
-        step,
-        fails,
-        stopped: false,
-    }
-}
 
 fn write_at(place: usize) -> Result<u64, Refusal> {
     Err(Refusal {
@@ -63,14 +17,14 @@ fn write_at(place: usize) -> Result<u64, Refusal> {
 }
 
 // Whether the text ends where a writer stops that takes no more than these bytes of it.
-fn stops_behind(alloc: Global, tree: &Tree, before: &[u8], step: usize, fails: bool) -> bool {
-    let mut cup = empty_cup(Vec::new(alloc), before.len(), step, fails);
-    diagnostic(tree, &mut cup) == write_at(before.len()) && cup.held.as_slice() == before
+fn stops_behind(alloc: Global, tree: &Tree, before: &[u8], part: usize, stop: Stop) -> bool {
+    let mut sink = Sink::stopping(alloc, before.len(), part, stop);
+    diagnostic(tree, &mut sink) == write_at(before.len()) && sink.ended_with(before)
 }
 
-fn stops_indented(alloc: Global, tree: &Tree, before: &[u8], step: usize, fails: bool) -> bool {
-    let mut cup = empty_cup(Vec::new(alloc), before.len(), step, fails);
-    diagnostic_indented(tree, &mut cup) == write_at(before.len()) && cup.held.as_slice() == before
+fn stops_indented(alloc: Global, tree: &Tree, before: &[u8], part: usize, stop: Stop) -> bool {
+    let mut sink = Sink::stopping(alloc, before.len(), part, stop);
+    diagnostic_indented(tree, &mut sink) == write_at(before.len()) && sink.ended_with(before)
 }
 
 static LINE: &[u8] = b"[1, {\"b\": [2, 3], \"a\": 1, [4]: {}}, []]";
@@ -80,13 +34,13 @@ fn writers_stop_at_each_place(rt: HostRuntime) -> Result<(), Fail> {
     let alloc = rt.alloc();
     let tree = tree_of(alloc, NESTED)?;
     let lines = NESTED_INDENTED.as_bytes();
-    for &(step, fails) in &STOPS {
+    for &(part, stop) in &STOPS {
         for space in 0..LINE.len() {
-            let is_right = stops_behind(alloc, &tree, &LINE[..space], step, fails);
+            let is_right = stops_behind(alloc, &tree, &LINE[..space], part, stop);
             assert!(rt; is_right, "at {space}");
         }
         for space in 0..lines.len() {
-            let is_right = stops_indented(alloc, &tree, &lines[..space], step, fails);
+            let is_right = stops_indented(alloc, &tree, &lines[..space], part, stop);
             assert!(rt; is_right, "at {space}");
         }
     }
@@ -97,20 +51,8 @@ fn writers_stop_at_each_place(rt: HostRuntime) -> Result<(), Fail> {
 fn the_third_number_is_cut_off(rt: HostRuntime) -> Result<(), Fail> {
     let alloc = rt.alloc();
     let tree = tree_of(alloc, b"\x83\x01\x02\x03")?;
-    let mut cup = empty_cup(Vec::new(alloc), 5, 100, false);
-    assert!(rt; diagnostic(&tree, &mut cup) == write_at(5));
-    assert!(rt; cup.held.as_slice() == b"[1, 2".as_slice());
+    assert!(rt; stops_behind(alloc, &tree, b"[1, 2", 100, Stop::TakesNothing));
     Ok(())
-}
-
-// How much of a byte string's text a writer holds that stops there, if the text ends so.
-fn held_at(alloc: Global, tree: &Tree, space: usize, step: usize, fails: bool) -> Option<usize> {
-    let mut cup = empty_cup(Vec::new(alloc), space, step, fails);
-    if diagnostic(tree, &mut cup) == write_at(space) {
-        Some(cup.held.len())
-    } else {
-        None
-    }
 }
 
 static SPACES: [usize; 14] = [
@@ -125,10 +67,15 @@ fn long_strings_are_cut_off(rt: HostRuntime) -> Result<(), Fail> {
     // the head of 700 bytes
     bytes[..3].copy_from_slice(b"\x59\x02\xbc");
     let tree = tree_of(alloc, &bytes)?;
-    for &(step, fails) in &STOPS {
+    let mut text = Vec::from_slice(alloc, b"h'")?;
+    for _ in 0..700 {
+        text.extend_from_slice(b"5a")?;
+    }
+    text.push(b'\'')?;
+    for &(part, stop) in &STOPS {
         for &space in &SPACES {
-            let held = held_at(alloc, &tree, space, step, fails);
-            assert!(rt; held == Some(space));
+            let is_right = stops_behind(alloc, &tree, &text[..space], part, stop);
+            assert!(rt; is_right, "at {space}");
         }
     }
     Ok(())

@@ -2,7 +2,7 @@
 //! or fail.
 
 use super::listing_tables::{ITEMS, REFUSED, Row, answer_text, rows_of};
-use super::streams::{Sink, Source, Stop};
+use super::streams::{STOPS, Sink, Source, Stop};
 use cbor_diag::{listing, listing_from};
 use cbor_head::{Limits, Reason, Refusal};
 use std::alloc::{AllocError, Global};
@@ -24,7 +24,7 @@ fn answers(
     left: u64,
 ) -> bool {
     let given = listing(source, limits, sink);
-    given == wanted && sink.held.as_slice() == lines && source.rest.len() as u64 == left
+    given == wanted && sink.ended_with(lines) && source.rest.len() as u64 == left
 }
 
 // Lists the bytes, with at most so many a read, and so many a write.
@@ -196,13 +196,6 @@ fn a_failed_read_ends_the_listing(rt: HostRuntime) -> Result<(), Fail> {
     Ok(())
 }
 
-static STOPS: [(usize, Stop); 4] = [
-    (1, Stop::Fails),
-    (4, Stop::Fails),
-    (usize::MAX, Stop::Fails),
-    (usize::MAX, Stop::TakesNothing),
-];
-
 // Whether the listing ends where the writer stopped, with no byte behind the event asked for.
 fn reports_a_failed_write(
     alloc: Global,
@@ -213,9 +206,7 @@ fn reports_a_failed_write(
     stop: (usize, Stop),
 ) -> bool {
     let mut source = Source::new(alloc, bytes);
-    let mut sink = Sink::new(alloc);
-    sink.part = stop.0;
-    sink.stops = Some((lines.len(), stop.1));
+    let mut sink = Sink::stopping(alloc, lines.len(), stop.0, stop.1);
     let refusal = Err(Refusal::new(Reason::Write, lines.len() as u64, read));
     let left = (bytes.len() as u64).saturating_sub(read);
     answers(&mut source, limits, &mut sink, refusal, lines, left)

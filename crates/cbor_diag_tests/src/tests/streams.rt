@@ -54,6 +54,14 @@ pub(super) enum Stop {
     TakesNothing,
 }
 
+// How many bytes a write takes at most, and how the writer stops.
+pub(super) static STOPS: [(usize, Stop); 4] = [
+    (1, Stop::Fails),
+    (4, Stop::Fails),
+    (usize::MAX, Stop::Fails),
+    (usize::MAX, Stop::TakesNothing),
+];
+
 // A writer that takes at most `part` bytes a write, and at one place stops once and then goes on.
 #[derive(Drop)]
 pub(super) struct Sink {
@@ -61,6 +69,9 @@ pub(super) struct Sink {
     pub(super) part: usize,
     // How many bytes it takes before it stops, and how.
     pub(super) stops: Option<(usize, Stop)>,
+    has_stopped: bool,
+    // Whether a write came after it stopped.
+    is_asked_again: bool,
 }
 
 impl Sink {
@@ -69,17 +80,34 @@ impl Sink {
             held: Vec::new(alloc),
             part: usize::MAX,
             stops: None,
+            has_stopped: false,
+            is_asked_again: false,
         }
+    }
+
+    // A writer that takes so many bytes, at most `part` a write, and then stops once.
+    pub(super) fn stopping(alloc: Global, space: usize, part: usize, stop: Stop) -> Sink {
+        let mut sink = Sink::new(alloc);
+        sink.part = part;
+        sink.stops = Some((space, stop));
+        sink
+    }
+
+    // Whether it holds these bytes, and was asked for nothing after it stopped.
+    pub(super) fn ended_with(&self, bytes: &[u8]) -> bool {
+        self.held.as_slice() == bytes && !self.is_asked_again
     }
 }
 
 impl Write for Sink {
     fn write(&mut self, buf: &[u8]) -> io::Result<usize> {
+        self.is_asked_again = self.has_stopped;
         let mut n = buf.len().min(self.part);
         match self.stops {
             None => {}
             Some((0, stop)) => {
                 self.stops = None;
+                self.has_stopped = true;
                 return match stop {
                     Stop::Fails => Err(io::Error::from(io::ErrorKind::Interrupted)),
                     Stop::TakesNothing => Ok(0),

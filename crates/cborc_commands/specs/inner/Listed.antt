@@ -1,7 +1,7 @@
 -- Why the item at a prefix is not listed.
 use Rattle.std.specs.Prelude.{ℕ, ◌≡◌, ◌≢◌, ◌≤◌, List, length, Option}
-use Rattle.cbor_head.specs.{Prelude.Bounds, declared.reason.Reason.TheVariants.Write, declared.reason.Refusal.Refusal}
-use Rattle.cbor_diag.specs.Listing.{IsUnlisted}
+use Rattle.cbor_head.specs.{Prelude.Bounds, declared.reason.Reason.TheVariants.Read, declared.reason.Reason.TheVariants.Write, declared.reason.Refusal.Refusal}
+use Rattle.cbor_listing.specs.Listing.{IsUnlisted}
 use Rattle.cborc_commands.specs.declared.fault.Fault.TheVariants as faults
 use Rattle.cborc_commands.specs.{Fault.IsOfInput, declared.fault.Fault.Fault}
 
@@ -12,5 +12,5 @@ IsPrefixNotListed start limits bytes old new (faults.Refused f) =
     IsOfInput f.reason × (f.reason ≢ Write) × IsUnlisted start limits bytes f old new × (f.read ≤ length bytes)
 IsPrefixNotListed start limits bytes old new faults.CannotPrint =
     (f : Refusal) × IsUnlisted start limits bytes f old new × (f.read ≤ length bytes) × (f.reason ≡ Write)
-IsPrefixNotListed start limits bytes old new faults.Memory = (f : Refusal) × IsUnlisted start limits bytes f old new × (f.read ≤ length bytes)
+IsPrefixNotListed start limits bytes old new faults.Memory = (f : Refusal) × IsUnlisted start limits bytes f old new × (f.read ≤ length bytes) × (f.reason ≡ Read)
 IsPrefixNotListed start limits bytes old new _ = ⊥

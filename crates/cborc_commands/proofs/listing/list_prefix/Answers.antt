@@ -1,10 +1,10 @@
 use Rattle.cborc_commands.proofs.listing.list_prefix.Goals as goal
-use Rattle.cborc_commands.{specs.inner.Listed.IsPrefixNotListed, proofs.Faults.refusal_is}
+use Rattle.cborc_commands.{specs.inner.Listed.IsPrefixNotListed, proofs.Faults.listing_refusal_is}
 
 pub returns-in_default : goal.returns-in_default
 returns-in_default g c = record {
   listed = tt;
   within = tt;
-  fault = refusal_is (IsPrefixNotListed c.args.start c.args.limits c.args.bytes.now (g.W.Write.contents c.args.out.now) (g.W.Write.contents c.listing_from.new.writer)) c.in-Err.refusal _ c.from.ensures
-      (λ own. (own, c.in_default.not-Write, c.in-Err.ensures.refused, c.in-Err.ensures.read.1)) (c.in-Err.refusal, c.in-Err.ensures.refused, c.in-Err.ensures.read.1);
+  fault = listing_refusal_is (IsPrefixNotListed c.args.start c.args.limits c.args.bytes.now (g.W.Write.contents c.args.out.now) (g.W.Write.contents c.listing_from.new.writer)) c.in-Err.refusal _ c.from.ensures c.in-Err.ensures.reasons
+      (λ own. (own, c.in_default.not-Write, c.in-Err.ensures.refused, c.in-Err.ensures.read.1)) (λ failed. (c.in-Err.refusal, c.in-Err.ensures.refused, c.in-Err.ensures.read.1, failed));
 }

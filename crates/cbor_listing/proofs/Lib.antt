@@ -1,0 +1,3 @@
+pub mod Annotating
+pub mod Lines
+pub mod Listed

@@ -1,0 +1,4 @@
+pub mod Annotated
+pub mod Listing
+pub mod Written
+pub mod inner

@@ -1,0 +1,6 @@
+-- How many bytes a writer is said to have taken.
+use Rattle.std.specs.Prelude.{ℕ, ◌-◌, ◌^◌, min}
+
+-- a count of bytes, which stops at 2^64 - 1
+abbrev pub capped : ℕ → ℕ
+capped n = min n (2 ^ 64 - 1)
