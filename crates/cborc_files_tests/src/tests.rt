@@ -1,5 +1,7 @@
 //! The machine's files.
 
+mod traced;
+
 use cborc_files::{Disk, FileFault, Folder};
 use std::io::Write;
 use std::{env, fs, io, process};
