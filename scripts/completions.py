@@ -25,7 +25,7 @@ ROWS = [
     ("cborc help ", COMMANDS),
     ("cborc help c", {"check", "canon", "compare"}),
     ("cborc show -", SHARED | {"--indent", "--seq"}),
-    ("cborc events -", SHARED | {"--seq"}),
+    ("cborc events -", SHARED | {"--annotate", "--seq"}),
     ("cborc check -", SHARED | {"--strict", "--seq", "--order"}),
     ("cborc canon -", SHARED | {"--hex-out", "--seq", "--order"}),
     ("cborc canon --o", {"--order"}),

@@ -132,6 +132,13 @@ def sequences():
     listed = b"0 unsigned 0 0\n\n1 array 1 0\n2 unsigned 1 0\n"
     expect("a sequence listed", run(["events", "--seq", "-"], b"\x00\x81\x01"), 0, listed)
     expect("a sequence listed in part", run(["events", "--seq", "-"], b"\x00\x81\x01\x18"), 1, listed + b"\n", refused)
+    annotated = b"       0  00                                unsigned integer 0\n"
+    expect("an item annotated", run(["events", "--annotate", "-"], b"\x00"), 0, annotated)
+    annotated += b"""
+       1  61                                text string, 1 byte
+       2  41                                  "A"
+"""
+    expect("a sequence annotated", run(["events", "--annotate", "--seq", "-"], b"\x00aA"), 0, annotated)
     expect("a sequence canonised in part", run(["canon", "--seq", "-", "-"], b"\x18\x00\x81\x01\x18"), 1, b"\x00\x81\x01", refused)
     item = write("sequence", b"\x00\x81\x01\x18")
     here = os.listdir(FOLDER)

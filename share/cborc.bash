@@ -28,7 +28,7 @@ _cborc() {
         show) COMPREPLY=($(compgen -W "--indent --seq $shared" -- "$word")) ;;
         check) COMPREPLY=($(compgen -W "--strict --seq --order $shared" -- "$word")) ;;
         canon) COMPREPLY=($(compgen -W "--hex-out --seq --order $shared" -- "$word")) ;;
-        events) COMPREPLY=($(compgen -W "--seq $shared" -- "$word")) ;;
+        events) COMPREPLY=($(compgen -W "--annotate --seq $shared" -- "$word")) ;;
         compare) COMPREPLY=($(compgen -W "$shared" -- "$word")) ;;
     esac
 }

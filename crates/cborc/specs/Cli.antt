@@ -71,7 +71,7 @@ show = subcommand (codes "show") (file (codes "FILE") ∷ flag (codes "indent") 
 
 -- the subcommand `events`
 abbrev pub events : Kinds → Shape
-events = subcommand (codes "events") (file (codes "FILE") ∷ sequence ∷ [])
+events = subcommand (codes "events") (file (codes "FILE") ∷ flag (codes "annotate") ∷ sequence ∷ [])
 
 -- the subcommand `check`
 abbrev pub check : Orders → Kinds → Shape

@@ -9,7 +9,8 @@ use Rattle.cborc_files.specs.Folder.{is_stream}
 use Rattle.cborc_commands.specs.declared.request.Verbosity.TheVariants.{Plain, Explained, Quiet}
 use Rattle.cborc_commands.specs.declared.request.Action.TheVariants.{Check, Canon, Compare, Show, Events}
 use Rattle.cborc_commands.specs.declared.request.{Action.Action, Accepted.Accepted, Accepted.TheVariants.Valid, Accepted.TheVariants.Canonical}
-use Rattle.cborc_commands.specs.declared.request.{Form.TheVariants.Raw, Form.TheVariants.Hex, TextStyle.TextStyle}
+use Rattle.cborc_commands.specs.declared.request.{Form.TheVariants.Raw, Form.TheVariants.Hex, TextStyle.TextStyle, EventStyle.EventStyle}
+use Rattle.cborc_commands.specs.declared.request.EventStyle.TheVariants.{Listed, Annotated}
 use Rattle.cborc_commands.specs.declared.request.{TextStyle.TheVariants.OneLine, TextStyle.TheVariants.Indented, Verbosity.Verbosity, Options.Options}
 use Rattle.cborc_commands.specs.declared.request.{Output.Output, Request.Request, Task.Task}
 
@@ -51,6 +52,11 @@ pub record IsOptionsOf (rows : List Row) (options : Options) : Type 0 where
 pub record IsTextStyleOf (rows : List Row) (text_style : TextStyle) : Type 0 where
   pub indented : one_of (codes "indent") rows ≡ Some (codes "true") → text_style ≡ Indented
   pub one_line : one_of (codes "indent") rows ≡ Some (codes "false") → text_style ≡ OneLine
+
+-- what is written of an event
+pub record IsEventStyleOf (rows : List Row) (event_style : EventStyle) : Type 0 where
+  pub annotated : one_of (codes "annotate") rows ≡ Some (codes "true") → event_style ≡ Annotated
+  pub listed : one_of (codes "annotate") rows ≡ Some (codes "false") → event_style ≡ Listed
 
 -- where canonical bytes belong, and in which form
 pub record IsOutputOf (rows : List Row) (output : Output) : Type 0 where
@@ -98,8 +104,8 @@ AsksForAction (name, rows) (Compare right) source sequence =
     (name ≡ codes "compare") × (first_of (codes "A") rows ≡ Some source) × (sequence ≡ false) × (first_of (codes "B") rows ≡ Some right.now)
 AsksForAction (name, rows) (Show style) source sequence =
     (name ≡ codes "show") × (first_of (codes "FILE") rows ≡ Some source) × IsSequenceOf rows sequence × IsTextStyleOf rows style
-AsksForAction (name, rows) Events source sequence =
-    (name ≡ codes "events") × (first_of (codes "FILE") rows ≡ Some source) × IsSequenceOf rows sequence
+AsksForAction (name, rows) (Events style) source sequence =
+    (name ≡ codes "events") × (first_of (codes "FILE") rows ≡ Some source) × IsSequenceOf rows sequence × IsEventStyleOf rows style
 
 -- what it asks for
 abbrev pub AsksFor : Text × List Row → Request → Type 0

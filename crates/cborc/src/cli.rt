@@ -30,7 +30,7 @@ the output or memory fails.
 
 Examples:
   cborc show message.cbor
-  cborc events --hex message.hex
+  cborc events --annotate --hex message.hex
   cborc check --strict --explain message.cbor
   cborc canon message.cbor canonical.cbor && sha256sum canonical.cbor
   cborc show --seq records.cbor
@@ -102,6 +102,11 @@ fn events<'a>(alloc: Global) -> Result<Command<'a>, AllocError>
     let command = Command::new(alloc, "events")
         .about("Writes a line for each event of the item in FILE, or of each of a sequence")
         .arg(file(alloc, "FILE", "The file to read, or - for standard input"))?
+        .arg(flag(
+            alloc,
+            "annotate",
+            "Write the bytes of each event in hex, and what they mean",
+        ))?
         .arg(sequence(alloc))?;
     with_options(alloc, command)
 }

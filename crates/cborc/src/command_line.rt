@@ -2,13 +2,13 @@
 
 ghost use Rattle.std.specs.Prelude.{◌≡◌, ◌≢◌, codes, false, true, IfErr, IfOk, IfSome, IsSome, IsSomeAnd};
 ghost use Rattle.clap.specs.Words.{first_of, found_of, kind_of, rows_of, subcommand_rows_of};
-ghost use Rattle.cborc.specs.CommandLine.{keys_named, order_named, AsksFor, HasLimits, HasOneVerbosity, HasTwoVerbosities, reads_stream_twice, IsAcceptedOf, IsComplete, IsTextStyleOf, IsVerbosityOf, IsOptionsOf, IsOutputOf};
+ghost use Rattle.cborc.specs.CommandLine.{keys_named, order_named, AsksFor, HasLimits, HasOneVerbosity, HasTwoVerbosities, reads_stream_twice, IsAcceptedOf, IsComplete, IsEventStyleOf, IsTextStyleOf, IsVerbosityOf, IsOptionsOf, IsOutputOf};
 ghost use Rattle.cborc.specs.Words.{asks_help_of_help, parsed_words as words_parsed, texts_of, AskFor, HasFault};
 
 use crate::cli::command;
 use cbor_head::{KeyOrder, Keys, Limits};
 use cborc_commands::{
-    Accepted, Action, Form, Options, Output, Request, Task, TextStyle, Verbosity,
+    Accepted, Action, EventStyle, Form, Options, Output, Request, Task, TextStyle, Verbosity,
 };
 use cborc_files::is_stream;
 use clap::error::ErrorKind;
@@ -219,11 +219,22 @@ fn events_of<'a>(given: &ArgMatches<'a>) -> Option<Request<'a>>
     let source = given.get_str("FILE")?;
     let options = options_of(given)?;
     Some(Request {
-        action: Action::Events,
+        action: Action::Events(event_style_of(given)),
         source,
         sequence: given.get_flag("seq"),
         options,
     })
+}
+
+#[tactic(auto, using(crate::proofs::Rows::getters))]
+fn event_style_of(given: &ArgMatches<'_>) -> EventStyle
+    ensures { IsEventStyleOf (rows_of (found_of given.now)) result }
+{
+    if given.get_flag("annotate") {
+        EventStyle::Annotated
+    } else {
+        EventStyle::Listed
+    }
 }
 
 #[tactic(auto, using(crate::proofs::Rows::getters))]

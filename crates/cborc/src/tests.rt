@@ -1,5 +1,6 @@
 //! The program, over a folder in memory.
 
+mod annotated;
 mod command_line;
 mod explained;
 mod failures;
@@ -30,19 +31,19 @@ struct Shelf<'a> {
 
 // The bytes of a file, and for how many more there is space.
 #[derive(Drop)]
-struct Draft {
+struct LimitedFile {
     bytes: Vec<u8>,
-    scratch: usize,
+    space: usize,
 }
 
-impl Write for Draft {
+impl Write for LimitedFile {
     fn write(&mut self, bytes: &[u8]) -> io::Result<usize> {
-        let taken = bytes.len().min(self.scratch);
+        let taken = bytes.len().min(self.space);
         if taken == 0 {
             return Err(io::Error::from(ErrorKind::StorageFull));
         }
         self.bytes.extend_from_slice(&bytes[..taken])?;
-        self.scratch -= taken;
+        self.space -= taken;
         Ok(taken)
     }
 
@@ -52,7 +53,7 @@ impl Write for Draft {
 }
 
 impl<'a> Folder for Shelf<'a> {
-    type Draft = Draft;
+    type Draft = LimitedFile;
 
     fn read(&mut self, alloc: Global, path: &str) -> Result<Vec<u8>, FileFault> {
         match path {
@@ -63,14 +64,14 @@ impl<'a> Folder for Shelf<'a> {
         }
     }
 
-    fn begin(&mut self, path: &str) -> Result<Draft, AllocError> {
-        Ok(Draft {
+    fn begin(&mut self, path: &str) -> Result<LimitedFile, AllocError> {
+        Ok(LimitedFile {
             bytes: Vec::new(*self.written.allocator()),
-            scratch: if path == "small" { 2 } else { usize::MAX },
+            space: if path == "small" { 2 } else { usize::MAX },
         })
     }
 
-    fn replace(&mut self, path: &str, draft: Draft) -> Result<(), FileFault> {
+    fn replace(&mut self, path: &str, draft: LimitedFile) -> Result<(), FileFault> {
         match path {
             "full" => Err(FileFault::Memory),
             "locked" | "folder" | "locked/out" | "absent/out" => Err(self.fail(path)),
@@ -78,8 +79,8 @@ impl<'a> Folder for Shelf<'a> {
         }
     }
 
-    fn abandon(&mut self, draft: Draft) -> FileFault {
-        if draft.scratch == 0 {
+    fn abandon(&mut self, draft: LimitedFile) -> FileFault {
+        if draft.space == 0 {
             self.fail("small")
         } else {
             FileFault::Memory

@@ -6,7 +6,6 @@ use Rattle.cbor_head.specs.declared.{order.KeyOrder.KeyOrder, reason.Refusal.Ref
 use Rattle.cbor_verdict.specs.Readers.{IsReadAs}
 use Rattle.cbor_reader.specs.{Canonicalise.IsCanonicalOf, Canonicalise.IsRefusal, Comparing.IsSideRefusal, WholeItem.IsWholeItem, WholeItem.IsItemRefusal}
 use Rattle.cbor_reader.specs.declared.comparison.Side.{Side, TheVariants.Left, TheVariants.Right}
-use Rattle.cbor_listing.specs.Listing.{IsListed}
 use Rattle.cborc_files.specs.Folder.{Files, KeepsFiles}
 use Rattle.cborc_commands.specs.Texts.{GoesInPart, IsCanonicalText, shown_text}
 use Rattle.cborc_commands.specs.declared.status.Status.TheVariants as statuses
@@ -15,9 +14,10 @@ use Rattle.cborc_commands.proofs.Prefixes.{canonical_whole, refusal_whole, is_wh
 use Rattle.cborc_commands.specs.Check.{accepted_bytes, IsWhole, IsChecked, IsNotChecked}
 use Rattle.cborc_commands.specs.Compare.{IsReported, IsUnreported, AreInputs, AreCompared, AreNotCompared}
 use Rattle.cborc_commands.specs.Events.{IsNotListed, IsListedOf, IsNotListedOf}
-use Rattle.cborc_commands.{proofs.Files.input_before, specs.inner.Decided.IsEnough, specs.inner.NotWritten.IsNoText, specs.inner.NotWritten.IsNotTaken}
-use Rattle.cborc_commands.specs.{Put.IsPut, Put.IsNotPut, inner.Start.StartsInput, Fault.IsOfInput, Fault.refusal_fault, declared.request.TextStyle.TextStyle}
-use Rattle.cborc_commands.specs.declared.{status.Status.Status, request.Options.Options, request.Output.Output, fault.Fault.Fault}
+use Rattle.cborc_commands.{specs.EventStyles.AreListed, specs.declared.request.EventStyle.EventStyle, proofs.Files.input_before, specs.inner.Decided.IsEnough}
+use Rattle.cborc_commands.specs.{inner.NotWritten.IsNoText, inner.NotWritten.IsNotTaken, Put.IsPut, Put.IsNotPut, inner.Start.StartsInput}
+use Rattle.cborc_commands.specs.{Fault.IsOfInput, Fault.refusal_fault, declared.request.TextStyle.TextStyle, declared.status.Status.Status}
+use Rattle.cborc_commands.specs.declared.{request.Options.Options, request.Output.Output, fault.Fault.Fault}
 use Rattle.cborc_commands.proofs.{Faults.refusal_is, ItemFiles.put_kept, Whole.AreAccepted, Whole.read_as}
 use Rattle.cborc_commands.specs.{Canon.HasText, Canon.IsNotCanonised, Show.IsShownOf, Show.IsNotShown}
 
@@ -121,20 +121,21 @@ module _ (options : Options) (source : List ℕ) (held : Option Files) (bytes : 
 
   -- ---- `events`
 
-  pub listed_of : (before after : Option (List ℕ)) → IsListed 0 options.limits bytes (length bytes) before after → IsListedOf options source held before after
-  listed_of before after h = record {
+  pub listed_of : (style : EventStyle) (before after : Option (List ℕ)) → AreListed style 0 options.limits bytes (length bytes) before after
+      → IsListedOf style options source held before after
+  listed_of style before after h = record {
     input = s.input;
     is = s.is;
-    listed = subst (λ (b : List ℕ). IsListed 0 options.limits b (length b) before after) s.splits (listed_whole options.limits bytes s.behind s.enough before after h);
+    listed = subst (λ (b : List ℕ). AreListed style 0 options.limits b (length b) before after) s.splits (listed_whole options.limits bytes s.behind s.enough style before after h);
   }
 
-  listed_so : (before after : Option (List ℕ)) (fault : Fault) → IsNotListed options.limits bytes before after fault
-      → IsNotListed options.limits s.input before after fault
-  listed_so before after fault h = subst (λ (b : List ℕ). IsNotListed options.limits b before after fault) s.splits (not_listed_whole options.limits bytes s.behind s.enough before after fault h)
+  listed_so : (style : EventStyle) (before after : Option (List ℕ)) (fault : Fault) → IsNotListed style options.limits bytes before after fault
+      → IsNotListed style options.limits s.input before after fault
+  listed_so style before after fault h = subst (λ (b : List ℕ). IsNotListed style options.limits b before after fault) s.splits (not_listed_whole options.limits bytes s.behind s.enough style before after fault h)
 
-  pub not_listed_of : (before after : Option (List ℕ)) (fault : Fault) → IsNotListed options.limits bytes before after fault
-      → IsNotListedOf options source held before after fault
-  not_listed_of before after fault h = inl (s.input, s.is, listed_so before after fault h)
+  pub not_listed_of : (style : EventStyle) (before after : Option (List ℕ)) (fault : Fault) → IsNotListed style options.limits bytes before after fault
+      → IsNotListedOf style options source held before after fault
+  not_listed_of style before after fault h = inl (s.input, s.is, listed_so style before after fault h)
 
 -- ---- `compare`
 

@@ -12,11 +12,12 @@ use Rattle.cbor_verdict.{proofs.Reasons.item-reason, proofs.SpelledBytes.longest
 use Rattle.cbor_verdict.specs.Refusals.{IsComplaintReason}
 use Rattle.cbor_reader.specs.Canonicalise.{IsCanonicalOf, IsRefusal, of_item, canonical_too_long}
 use Rattle.cbor_reader.specs.WholeItem.{IsWholeItem, IsItemRefusal, unread, trailing}
-use Rattle.cbor_listing.specs.Listing.{IsListing, IsStopped, IsListed, IsUnlisted}
-use Rattle.cbor_listing.specs.Listing as listing
+use Rattle.cborc_commands.specs.EventStyles.{AreLines, AreLinesCut, AreListed, AreUnlisted}
+use Rattle.cborc_commands.specs.EventStyles as styles
 use Rattle.cborc_commands.specs.declared.fault.Fault.TheVariants as faults
-use Rattle.cborc_commands.{specs.inner.Decided.IsDecided, specs.inner.Decided.IsEnough, proofs.Places.place_within, specs.declared.fault.Fault.Fault}
-use Rattle.cborc_commands.{specs.Check.IsWhole, specs.Events.IsFollowed, specs.Events.IsNotListed, proofs.Whole.AreAccepted}
+use Rattle.cborc_commands.specs.{declared.request.EventStyle.EventStyle, inner.Decided.IsDecided, inner.Decided.IsEnough}
+use Rattle.cborc_commands.{proofs.Places.place_within, specs.declared.fault.Fault.Fault, specs.Check.IsWhole, specs.Events.IsFollowed, specs.Events.IsNotListed}
+use Rattle.cborc_commands.proofs.Whole.{AreAccepted}
 
 -- ---- by its form alone
 
@@ -116,8 +117,8 @@ module _ (limits : Bounds) (prefix behind : List ℕ) (enough : IsEnough limits 
 
   -- ---- what `events` finds
 
-  pub listed_whole : (old new : Option (List ℕ)) → IsListed 0 limits prefix (length prefix) old new → IsListed 0 limits (prefix ++ behind) (length (prefix ++ behind)) old new
-  listed_whole old new h =
+  pub listed_whole : (style : EventStyle) (old new : Option (List ℕ)) → AreListed style 0 limits prefix (length prefix) old new → AreListed style 0 limits (prefix ++ behind) (length (prefix ++ behind)) old new
+  listed_whole style old new h =
       let same = all_of form h.item h.verdict (sym h.size) in
       record {
         item = h.item;
@@ -126,19 +127,19 @@ module _ (limits : Bounds) (prefix behind : List ℕ) (enough : IsEnough limits 
         written = h.written;
       }
 
-  unlisted_whole : (f : Refusal) (old new : Option (List ℕ)) → IsUnlisted 0 limits prefix f old new → f.read ≤ length prefix → IsUnlisted 0 limits (prefix ++ behind) f old new
-  unlisted_whole f old new (listing.of_verdict out v l w) h =
-      listing.of_verdict out (verdict_whole form (refused f) v)
-      (subst (λ (t : List ℕ). IsListing 0 limits.depth t out) (same_prefix f.place (place_within limits prefix f v)) l) w
-  unlisted_whole f old new (listing.of_reader out e v l w) h =
-      listing.of_reader out e
+  unlisted_whole : (style : EventStyle) (f : Refusal) (old new : Option (List ℕ)) → AreUnlisted style 0 limits prefix f old new → f.read ≤ length prefix → AreUnlisted style 0 limits (prefix ++ behind) f old new
+  unlisted_whole style f old new (styles.of_verdict out v l w) h =
+      styles.of_verdict out (verdict_whole form (refused f) v)
+      (subst (λ (t : List ℕ). AreLines style 0 limits.depth t out) (same_prefix f.place (place_within limits prefix f v)) l) w
+  unlisted_whole style f old new (styles.of_reader out e v l w) h =
+      styles.of_reader out e
       (subst (λ (t : List ℕ). IsVerdict limits form t (refused (refusal Truncated f.read f.read))) (same_prefix f.read h) v)
-      (subst (λ (t : List ℕ). IsListing 0 limits.depth t out) (same_prefix f.read h) l) w
-  unlisted_whole f old new (listing.of_writer out e l w) h =
-      listing.of_writer out e (subst (λ (t : List ℕ). IsStopped 0 limits.depth t out) (same_prefix f.read h) l) w
+      (subst (λ (t : List ℕ). AreLines style 0 limits.depth t out) (same_prefix f.read h) l) w
+  unlisted_whole style f old new (styles.of_writer out e l w) h =
+      styles.of_writer out e (subst (λ (t : List ℕ). AreLinesCut style 0 limits.depth t out) (same_prefix f.read h) l) w
 
-  followed_whole : (f : Refusal) (old new : Option (List ℕ)) → IsFollowed limits prefix old new f → IsFollowed limits (prefix ++ behind) old new f
-  followed_whole f old new h = record {
+  followed_whole : (style : EventStyle) (f : Refusal) (old new : Option (List ℕ)) → IsFollowed style limits prefix old new f → IsFollowed style limits (prefix ++ behind) old new f
+  followed_whole style f old new h = record {
     size = h.size;
     listed = record {
       item = h.listed.item;
@@ -150,12 +151,12 @@ module _ (limits : Bounds) (prefix behind : List ℕ) (enough : IsEnough limits 
     is = h.is;
   }
 
-  pub not_listed_whole : (old new : Option (List ℕ)) (fault : Fault) → IsNotListed limits prefix old new fault → IsNotListed limits (prefix ++ behind) old new fault
-  not_listed_whole old new (faults.Refused f) (own, reported, inl (u, l)) = (own, reported, inl (unlisted_whole f old new u l, omega (arith, l, no_longer)))
-  not_listed_whole old new (faults.Refused f) (own, reported, inr h) = (own, reported, inr (followed_whole f old new h))
-  not_listed_whole old new faults.CannotPrint (f, u, l, e) = (f, unlisted_whole f old new u l, omega (arith, l, no_longer), e)
-  not_listed_whole old new faults.Memory (f, u, l, e) = (f, unlisted_whole f old new u l, omega (arith, l, no_longer), e)
-  not_listed_whole old new _ h = absurd h
+  pub not_listed_whole : (style : EventStyle) (old new : Option (List ℕ)) (fault : Fault) → IsNotListed style limits prefix old new fault → IsNotListed style limits (prefix ++ behind) old new fault
+  not_listed_whole style old new (faults.Refused f) (own, reported, inl (u, l)) = (own, reported, inl (unlisted_whole style f old new u l, omega (arith, l, no_longer)))
+  not_listed_whole style old new (faults.Refused f) (own, reported, inr h) = (own, reported, inr (followed_whole style f old new h))
+  not_listed_whole style old new faults.CannotPrint (f, u, l, e) = (f, unlisted_whole style f old new u l, omega (arith, l, no_longer), e)
+  not_listed_whole style old new faults.Memory (f, u, l, e) = (f, unlisted_whole style f old new u l, omega (arith, l, no_longer), e)
+  not_listed_whole style old new _ h = absurd h
 
   -- ---- what `compare` finds
 

@@ -4,15 +4,15 @@ use Rattle.std.{specs.Io.KnownBytes.Appends, proofs.lemmas.List.take-append-le}
 use Rattle.cbor_head.specs.Prelude.{form, Bounds, refused, IsVerdict}
 use Rattle.cbor_head.specs.declared.reason.Reason.TheVariants as reasons
 use Rattle.cbor_head.specs.declared.reason.Refusal.{Refusal}
-use Rattle.cbor_automaton.specs.Event.{events}
 use Rattle.cbor_verdict.{specs.Readers.IsRead, specs.Refusals.IsFormReason, proofs.Reasons.form-reason}
 use Rattle.cbor_reader.specs.Sequence.{IsAccepted}
-use Rattle.cbor_listing.specs.Listing.{lines, IsListing, IsStopped, IsListed, IsUnlisted, of_verdict, of_reader, of_writer}
+use Rattle.cborc_commands.specs.EventStyles.{event_lines, AreLines, AreLinesCut, AreListed, AreUnlisted, of_verdict, of_reader, of_writer}
 use Rattle.cborc_commands.specs.declared.fault.Fault.TheVariants as faults
 use Rattle.cborc_commands.specs.EventsSequence.{gap, item_lines, before_all, within, listed_to, listed_short}
-use Rattle.cborc_commands.{proofs.Outputs.appends_more, proofs.Places.place_within, specs.inner.Listed.IsPrefixNotListed, specs.Fault.IsOfInput}
-use Rattle.cborc_commands.specs.{declared.fault.Fault.Fault, inner.Items.IsWritten, inner.SequenceItems.IsItemNotListed}
-use Rattle.cborc_commands.proofs.{Further.IsSettled, Further.verdict_further, Taken.item_accepted, Taken.written_of}
+use Rattle.cborc_commands.{specs.declared.request.EventStyle.EventStyle, proofs.Outputs.appends_more, proofs.Places.place_within}
+use Rattle.cborc_commands.specs.{inner.Listed.IsPrefixNotListed, Fault.IsOfInput, declared.fault.Fault.Fault, inner.Items.IsWritten}
+use Rattle.cborc_commands.{specs.inner.SequenceItems.IsItemNotListed, proofs.Further.IsSettled, proofs.Further.verdict_further}
+use Rattle.cborc_commands.proofs.Taken.{item_accepted, written_of}
 
 -- ---- no verdict is that the writer failed
 
@@ -21,22 +21,22 @@ verdict_not limits input f v e = subst IsFormReason e (form-reason limits input 
 
 -- ---- one item at the start
 
-module _ (start : ℕ) (limits : Bounds) (bytes : List ℕ) (before middle after : Option (List ℕ)) (g : Appends before middle (gap start)) where
-  pub item_listed : (size : ℕ) → IsListed start limits bytes size middle after → IsWritten (IsAccepted limits form) (item_lines start) bytes size before after
+module _ (style : EventStyle) (start : ℕ) (limits : Bounds) (bytes : List ℕ) (before middle after : Option (List ℕ)) (g : Appends before middle (gap start)) where
+  pub item_listed : (size : ℕ) → AreListed style start limits bytes size middle after → IsWritten (IsAccepted limits form) (item_lines style start) bytes size before after
   item_listed size h =
       let read : IsRead limits form bytes size = record { item = h.item; verdict = h.verdict; size = h.size } in
-      written_of limits form bytes size read (IsAccepted limits form) (item_lines start) before after (item_accepted limits form bytes size read)
-      (appends_more before middle after (gap start) (lines start (events 0 h.item)) g h.written)
+      written_of limits form bytes size read (IsAccepted limits form) (item_lines style start) before after (item_accepted limits form bytes size read)
+      (appends_more before middle after (gap start) (event_lines style start h.item) g h.written)
 
   module _ (behind : List ℕ) where
-    refused_so : (f : Refusal) → IsOfInput f.reason → (f.reason ≡ reasons.Write → ⊥) → (IsVerdict limits form bytes (refused f) → IsSettled behind f) → IsUnlisted start limits bytes f middle after
-        → IsItemNotListed limits start (bytes ++ behind) (faults.Refused f) before after
+    refused_so : (f : Refusal) → IsOfInput f.reason → (f.reason ≡ reasons.Write → ⊥) → (IsVerdict limits form bytes (refused f) → IsSettled behind f) → AreUnlisted style start limits bytes f middle after
+        → IsItemNotListed style limits start (bytes ++ behind) (faults.Refused f) before after
     refused_so f own apart known (of_verdict out v l a) = (
       gap start ++ out,
       record {
         verdict = verdict_further limits form bytes behind f (known v) v;
         so_far = out;
-        listing = subst (λ (t : List ℕ). IsListing start limits.depth t out) (sym (take-append-le f.place bytes behind (place_within limits bytes f v))) l;
+        lines = subst (λ (t : List ℕ). AreLines style start limits.depth t out) (sym (take-append-le f.place bytes behind (place_within limits bytes f v))) l;
         is = refl;
       },
       appends_more before middle after (gap start) out g a,
@@ -44,41 +44,41 @@ module _ (start : ℕ) (limits : Bounds) (bytes : List ℕ) (before middle after
     refused_so f own apart known (of_reader out e v l a) = absurd (subst IsOfInput (ap (λ (x : Refusal). x.reason) e) own)
     refused_so f own apart known (of_writer out e s a) = absurd (apart (ap (λ (x : Refusal). x.reason) e))
 
-    cut_off : (f : Refusal) → f.reason ≡ reasons.Write → f.read ≤ length bytes → IsUnlisted start limits bytes f middle after → IsItemNotListed limits start (bytes ++ behind) faults.CannotPrint before after
+    cut_off : (f : Refusal) → f.reason ≡ reasons.Write → f.read ≤ length bytes → AreUnlisted style start limits bytes f middle after → IsItemNotListed style limits start (bytes ++ behind) faults.CannotPrint before after
     cut_off f is l (of_verdict out v t a) = absurd (verdict_not limits bytes f v is)
     cut_off f is l (of_reader out e v t a) = let t : reasons.Read ≡ reasons.Write = sym (ap (λ (x : Refusal). x.reason) e) ∙ is in absurd (cc t)
     cut_off f is l (of_writer out e s a) = (
       gap start ++ out,
-      within f.read out (subst (λ (t : List ℕ). IsStopped start limits.depth t out) (sym (take-append-le f.read bytes behind l)) s) refl,
+      within f.read out (subst (λ (t : List ℕ). AreLinesCut style start limits.depth t out) (sym (take-append-le f.read bytes behind l)) s) refl,
       appends_more before middle after (gap start) out g a,
     )
 
-    listed_in_part : (f : Refusal) → f.read ≤ length bytes → IsUnlisted start limits bytes f middle after → IsItemNotListed limits start (bytes ++ behind) faults.Memory before after
+    listed_in_part : (f : Refusal) → f.read ≤ length bytes → AreUnlisted style start limits bytes f middle after → IsItemNotListed style limits start (bytes ++ behind) faults.Memory before after
     listed_in_part f l (of_verdict out v t a) = (
       gap start ++ out,
-      listed_to f.place out (subst (λ (x : List ℕ). IsListing start limits.depth x out) (sym (take-append-le f.place bytes behind (place_within limits bytes f v))) t) refl,
+      listed_to f.place out (subst (λ (x : List ℕ). AreLines style start limits.depth x out) (sym (take-append-le f.place bytes behind (place_within limits bytes f v))) t) refl,
       appends_more before middle after (gap start) out g a,
     )
     listed_in_part f l (of_reader out e v t a) = (
       gap start ++ out,
-      listed_to f.read out (subst (λ (x : List ℕ). IsListing start limits.depth x out) (sym (take-append-le f.read bytes behind l)) t) refl,
+      listed_to f.read out (subst (λ (x : List ℕ). AreLines style start limits.depth x out) (sym (take-append-le f.read bytes behind l)) t) refl,
       appends_more before middle after (gap start) out g a,
     )
     listed_in_part f l (of_writer out e s a) = (
       gap start ++ out,
-      listed_short (within f.read out (subst (λ (x : List ℕ). IsStopped start limits.depth x out) (sym (take-append-le f.read bytes behind l)) s) refl),
+      listed_short (within f.read out (subst (λ (x : List ℕ). AreLinesCut style start limits.depth x out) (sym (take-append-le f.read bytes behind l)) s) refl),
       appends_more before middle after (gap start) out g a,
     )
 
-    pub item_not_listed : ((f : Refusal) → IsVerdict limits form bytes (refused f) → IsSettled behind f) → (fault : Fault) → IsPrefixNotListed start limits bytes middle after fault
-        → IsItemNotListed limits start (bytes ++ behind) fault before after
+    pub item_not_listed : ((f : Refusal) → IsVerdict limits form bytes (refused f) → IsSettled behind f) → (fault : Fault) → IsPrefixNotListed style start limits bytes middle after fault
+        → IsItemNotListed style limits start (bytes ++ behind) fault before after
     item_not_listed known (faults.Refused f) (own, apart, u, l) = refused_so f own apart (known f) u
     item_not_listed known faults.CannotPrint (f, u, l, e) = cut_off f e l u
     item_not_listed known faults.Memory (f, u, l, e) = listed_in_part f l u
     item_not_listed known _ h = absurd h
 
 -- the output failed before the lines
-pub gap_not_written : (start : ℕ) (limits : Bounds) (bytes : List ℕ) (before after : Option (List ℕ)) (fault : Fault) → fault ≡ faults.CannotPrint → 0 < start → Appends before after []
-    → IsItemNotListed limits start bytes fault before after
-gap_not_written start limits bytes before after fault e some a =
-    subst (λ (x : Fault). IsItemNotListed limits start bytes x before after) (sym e) ([], before_all some refl, a)
+pub gap_not_written : (style : EventStyle) (start : ℕ) (limits : Bounds) (bytes : List ℕ) (before after : Option (List ℕ)) (fault : Fault) → fault ≡ faults.CannotPrint → 0 < start → Appends before after []
+    → IsItemNotListed style limits start bytes fault before after
+gap_not_written style start limits bytes before after fault e some a =
+    subst (λ (x : Fault). IsItemNotListed style limits start bytes x before after) (sym e) ([], before_all some refl, a)

@@ -16,8 +16,8 @@ use Rattle.cborc_commands.specs.ShowSequence.{item_text, IsSequenceShown, IsSequ
 use Rattle.cborc_commands.specs.inner.SequenceItems.{IsCutText, IsUncounted, IsUnwritten, IsItemNotShown, IsItemNotListed}
 use Rattle.cborc_commands.{specs.Input.IsInput, specs.Input.IsPrefix, proofs.Files.input_prefix, proofs.Files.replaced_by, proofs.Outputs.appends_more}
 use Rattle.cborc_commands.specs.{Put.printed, Put.written, Fault.at_item, NoInput.IsNoInput, declared.fault.Fault.Fault, declared.request.TextStyle.TextStyle}
-use Rattle.cborc_commands.specs.{declared.request.Options.Options, declared.request.Output.Output, CheckSequence.IsSequenceNotChecked}
-use Rattle.cborc_commands.proofs.SequenceItems.{texts_anywhere, one_more_starts}
+use Rattle.cborc_commands.specs.declared.request.{EventStyle.EventStyle, Options.Options, Output.Output}
+use Rattle.cborc_commands.{specs.CheckSequence.IsSequenceNotChecked, proofs.SequenceItems.texts_anywhere, proofs.SequenceItems.one_more_starts}
 
 -- ---- any sequence
 
@@ -233,27 +233,27 @@ module _ (text_style : TextStyle) (options : Options) (source : List ℕ) (held 
 
 -- ---- `events --seq`
 
-module _ (options : Options) (source : List ℕ) (held : Option Files) (before after : Option (List ℕ)) (fault : Fault) where
-  listed_part : (start : ℕ) (bytes : List ℕ) (middle : Option (List ℕ)) (cause : Fault) → IsItemNotListed options.limits start bytes cause middle after
-      → (shown : List ℕ) × IsListedInPart start options.limits bytes shown × Appends middle after shown
-  listed_part start bytes middle (faults.Refused f) (shown, why, a) = (shown, listed_to f.place why.so_far why.listing why.is, a)
+module _ (style : EventStyle) (options : Options) (source : List ℕ) (held : Option Files) (before after : Option (List ℕ)) (fault : Fault) where
+  listed_part : (start : ℕ) (bytes : List ℕ) (middle : Option (List ℕ)) (cause : Fault) → IsItemNotListed style options.limits start bytes cause middle after
+      → (shown : List ℕ) × IsListedInPart style start options.limits bytes shown × Appends middle after shown
+  listed_part start bytes middle (faults.Refused f) (shown, why, a) = (shown, listed_to f.place why.so_far why.lines why.is, a)
   listed_part start bytes middle faults.CannotPrint (shown, why, a) = (shown, listed_short why, a)
   listed_part start bytes middle faults.Memory why = why
   listed_part start bytes middle _ why = absurd why
 
   lines_so_far : (prefix : List ℕ) → IsPrefix held source options.hex prefix → (reported : Fault)
-      → AreStopped (IsAccepted options.limits form) item_lines (IsItemNotListed options.limits) options.limits.bytes prefix before after reported
-      → IsListedSoFar options source held before after
+      → AreStopped (IsAccepted options.limits form) (item_lines style) (IsItemNotListed style options.limits) options.limits.bytes prefix before after reported
+      → IsListedSoFar style options source held before after
   lines_so_far prefix is reported h =
       let part = listed_part h.start h.rest h.middle h.cause h.stopped in
-      prefix_listed prefix is h.items h.rest h.goes_on.starts part.0 (subst (λ (k : ℕ). IsListedInPart k options.limits h.rest part.0) h.goes_on.start_is part.1)
-      (appends_more before h.middle after (all_lines h.items) part.0 h.written part.2)
+      prefix_listed prefix is h.items h.rest h.goes_on.starts part.0 (subst (λ (k : ℕ). IsListedInPart style k options.limits h.rest part.0) h.goes_on.start_is part.1)
+      (appends_more before h.middle after (all_lines style h.items) part.0 h.written part.2)
 
   not_listed_by : (input : List ℕ) → IsInput held source options.hex input
-      → (h : AreStopped (IsAccepted options.limits form) item_lines (IsItemNotListed options.limits) options.limits.bytes input before after fault)
-      → (cause : Fault) → h.cause ≡ cause → IsSequenceNotListed options source held before after (at_item h.index h.start cause)
+      → (h : AreStopped (IsAccepted options.limits form) (item_lines style) (IsItemNotListed style options.limits) options.limits.bytes input before after fault)
+      → (cause : Fault) → h.cause ≡ cause → IsSequenceNotListed style options source held before after (at_item h.index h.start cause)
   not_listed_by input is h (faults.Refused f) e =
-      let why = subst (λ (x : Fault). IsItemNotListed options.limits h.start h.rest x h.middle after) e h.stopped in
+      let why = subst (λ (x : Fault). IsItemNotListed style options.limits h.start h.rest x h.middle after) e h.stopped in
       record {
         input = input;
         is = is;
@@ -262,10 +262,10 @@ module _ (options : Options) (source : List ℕ) (held : Option Files) (before a
         goes_on = h.goes_on;
         shown = why.0;
         refused = why.1;
-        listed = appends_more before h.middle after (all_lines h.items) why.0 h.written why.2;
+        listed = appends_more before h.middle after (all_lines style h.items) why.0 h.written why.2;
       }
   not_listed_by input is h faults.CannotPrint e =
-      let why = subst (λ (x : Fault). IsItemNotListed options.limits h.start h.rest x h.middle after) e h.stopped in
+      let why = subst (λ (x : Fault). IsItemNotListed style options.limits h.start h.rest x h.middle after) e h.stopped in
       record {
         input = input;
         is = is;
@@ -276,22 +276,22 @@ module _ (options : Options) (source : List ℕ) (held : Option Files) (before a
         goes_on = h.goes_on;
         shown = why.0;
         cut = why.1;
-        listed = appends_more before h.middle after (all_lines h.items) why.0 h.written why.2;
+        listed = appends_more before h.middle after (all_lines style h.items) why.0 h.written why.2;
       }
   not_listed_by input is h faults.Memory e = (tt, lines_so_far input (input_prefix held source options.hex input is) fault h)
-  not_listed_by input is h _ e = absurd (subst (λ (x : Fault). IsItemNotListed options.limits h.start h.rest x h.middle after) e h.stopped)
+  not_listed_by input is h _ e = absurd (subst (λ (x : Fault). IsItemNotListed style options.limits h.start h.rest x h.middle after) e h.stopped)
 
-  none_listed : (x : Fault) → IsNoInput held source options.hex x → IsListedSoFar options source held before after → IsSequenceNotListed options source held before after x
+  none_listed : (x : Fault) → IsNoInput held source options.hex x → IsListedSoFar style options source held before after → IsSequenceNotListed style options source held before after x
   none_listed (faults.CannotRead named) why w = (why, w)
   none_listed (faults.NotHex named) why w = (why, w)
   none_listed faults.Memory why w = (why, w)
   none_listed _ why w = absurd why
 
-  pub sequence_not_listed : AreStoppedOf (IsAccepted options.limits form) item_lines (IsItemNotListed options.limits) options source held before after fault
-      → IsSequenceNotListed options source held before after fault
+  pub sequence_not_listed : AreStoppedOf (IsAccepted options.limits form) (item_lines style) (IsItemNotListed style options.limits) options source held before after fault
+      → IsSequenceNotListed style options source held before after fault
   sequence_not_listed (no_input why w) = none_listed fault why (items_listed w.items w.first w.written)
   sequence_not_listed (behind_no_input why prefix is cause h) = none_listed fault why (lines_so_far prefix is cause h)
-  sequence_not_listed (within input is h) = subst (IsSequenceNotListed options source held before after) (sym h.fault_is) (not_listed_by input is h h.cause refl)
+  sequence_not_listed (within input is h) = subst (IsSequenceNotListed style options source held before after) (sym h.fault_is) (not_listed_by input is h h.cause refl)
 
 -- ---- `check --seq`: what is written of the items, which is nothing, goes elsewhere than to standard output
 

@@ -23,8 +23,8 @@ IsActionDone (Canon output order) false options source old new before after Acce
 IsActionDone (Canon output order) true options source old new before after Accepted = IsSequenceCanonised order options source output old new before after
 IsActionDone (Show style) false options source old new before after Accepted = IsShownOf style options source old (Appends before after) × KeepsFiles old new
 IsActionDone (Show style) true options source old new before after Accepted = IsSequenceShown style options source old before after × KeepsFiles old new
-IsActionDone Events false options source old new before after Accepted = IsListedOf options source old before after × KeepsFiles old new
-IsActionDone Events true options source old new before after Accepted = IsSequenceListed options source old before after × KeepsFiles old new
+IsActionDone (Events style) false options source old new before after Accepted = IsListedOf style options source old before after × KeepsFiles old new
+IsActionDone (Events style) true options source old new before after Accepted = IsSequenceListed style options source old before after × KeepsFiles old new
 IsActionDone (Compare right) _ options source old new before after status = AreCompared options source right.now old before after status × KeepsFiles old new
 IsActionDone _ _ options source old new before after _ = ⊥
 
@@ -40,8 +40,8 @@ IsActionNotDone (Canon output order) false options source held before after faul
 IsActionNotDone (Canon output order) true options source held before after fault = IsSequenceNotCanonised order options source output held before after fault
 IsActionNotDone (Show style) false options source held before after fault = IsNotShown style options source held before after fault
 IsActionNotDone (Show style) true options source held before after fault = IsSequenceNotShown style options source held before after fault
-IsActionNotDone Events false options source held before after fault = IsNotListedOf options source held before after fault
-IsActionNotDone Events true options source held before after fault = IsSequenceNotListed options source held before after fault
+IsActionNotDone (Events style) false options source held before after fault = IsNotListedOf style options source held before after fault
+IsActionNotDone (Events style) true options source held before after fault = IsSequenceNotListed style options source held before after fault
 IsActionNotDone (Compare right) _ options source held before after fault = AreNotCompared options source right.now held before after fault
 
 -- the same of a request

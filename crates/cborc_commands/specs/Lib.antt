@@ -4,6 +4,7 @@ pub mod CanonSequence
 pub mod Check
 pub mod CheckSequence
 pub mod Compare
+pub mod EventStyles
 pub mod Events
 pub mod EventsSequence
 pub mod Fault

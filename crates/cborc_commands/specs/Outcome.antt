@@ -13,7 +13,7 @@ use Rattle.cborc_commands.specs.Answer.{IsDone, IsNotDone}
 abbrev pub IsActionSilent : Action → Bool → Fault → Option (List ℕ) → Option (List ℕ) → Type 0
 IsActionSilent (Canon output order) true fault before after = is_stream output.path.now ≡ false → Keeps before after
 IsActionSilent (Show style) true fault before after = Unit {0}
-IsActionSilent Events _ fault before after = Unit {0}
+IsActionSilent (Events style) _ fault before after = Unit {0}
 IsActionSilent _ _ faults.CannotPrint before after = Unit {0}
 IsActionSilent _ _ fault before after = Keeps before after
 

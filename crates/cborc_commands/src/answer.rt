@@ -166,11 +166,11 @@ fn answer<'a, F: Folder, O: Write>(
             }
             Ok(Status::Accepted)
         }
-        Action::Events => {
+        Action::Events(style) => {
             if request.sequence {
-                events_sequence(alloc, files, out, source, options)?;
+                events_sequence(alloc, files, out, source, *style, options)?;
             } else {
-                events(alloc, files, out, source, options)?;
+                events(alloc, files, out, source, *style, options)?;
             }
             Ok(Status::Accepted)
         }

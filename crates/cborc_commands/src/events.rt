@@ -1,49 +1,55 @@
-//! The subcommand `events`: the listing of an item's events.
+//! The subcommand `events`: the lines of an item's events.
 
 ghost use Rattle.std.specs.Prelude.{◌≡◌, length, OnOk, IfErr};
-ghost use Rattle.cbor_listing.specs.Listing.{IsListed};
+ghost use Rattle.cborc_commands.specs.EventStyles.{AreListed};
 ghost use Rattle.cborc_commands.specs.Events.{IsNotListed, IsListedOf, IsNotListedOf};
 ghost use Rattle.cborc_files.specs.Folder.{KeepsFiles};
 
 use crate::fault::Fault;
 use crate::input::read_item;
 use crate::listing::list_prefix;
-use crate::request::Options;
+use crate::request::{EventStyle, Options};
 use cbor_head::{Limits, Reason, Refusal};
 use cborc_files::Folder;
 use std::alloc::Global;
 use std::io::Write;
 
-/// Writes to `out` a line for each event of the item that the file `source` is, but for the pieces
-/// of payloads. What was written before a refusal stays.
+/// Writes to `out` the lines of the events of the item that the file `source` is. What was written
+/// before a refusal stays.
 pub fn events<'a, F: Folder, O: Write>(
     alloc: Global,
     files: &mut F,
     out: &mut O,
     source: &'a str,
+    event_style: EventStyle,
     options: Options,
 ) -> Result<(), Fault<'a>>
-    ensures listed { OnOk result (IsListedOf options source.now
+    ensures listed { OnOk result (IsListedOf event_style options source.now
         (F.held files.old) (O.contents out.old) (O.contents out.new)) }
-    ensures fault { IfErr result (IsNotListedOf options source.now
+    ensures fault { IfErr result (IsNotListedOf event_style options source.now
         (F.held files.old) (O.contents out.old) (O.contents out.new)) }
     ensures keeps { KeepsFiles (F.held files.old) (F.held files.new) }
     ensures same { F.behind files.new ≡ F.behind files.old }
 {
     let limits = options.limits;
     let bytes = read_item(alloc, files, source, options)?;
-    list(bytes.as_slice(), limits, out)
+    list(event_style, bytes.as_slice(), limits, out)
 }
 
 // Writes the lines of the item that all the bytes are; the refusal is that of its form, then
 // `Trailing`.
-fn list<'a, W: Write>(bytes: &[u8], limits: Limits, out: &mut W) -> Result<(), Fault<'a>>
-    ensures listed { OnOk result (IsListed 0 limits bytes.now
+fn list<'a, W: Write>(
+    event_style: EventStyle,
+    bytes: &[u8],
+    limits: Limits,
+    out: &mut W,
+) -> Result<(), Fault<'a>>
+    ensures listed { OnOk result (AreListed event_style 0 limits bytes.now
         (length bytes.now) (W.contents out.old) (W.contents out.new)) }
-    ensures fault { IfErr result (IsNotListed limits bytes.now
+    ensures fault { IfErr result (IsNotListed event_style limits bytes.now
         (W.contents out.old) (W.contents out.new)) }
 {
-    let size = list_prefix(bytes, 0, limits, out)?;
+    let size = list_prefix(event_style, bytes, 0, limits, out)?;
     if size == bytes.len() as u64 {
         Ok(())
     } else {

@@ -1,4 +1,4 @@
-//! `events --seq`: the listing of each item of a sequence (RFC 8742).
+//! `events --seq`: the lines of each item of a sequence (RFC 8742).
 
 ghost use Rattle.std.specs.Prelude.{◌≡◌, ◌<◌, [], OnOk, IfErr};
 ghost use Rattle.std.specs.Io.KnownBytes.{Appends};
@@ -12,7 +12,7 @@ ghost use Rattle.cborc_commands.specs.inner.SequenceItems.{IsItemNotListed};
 use crate::fault::Fault;
 use crate::first_item::Scratch;
 use crate::listing::{is_undecided, list_prefix};
-use crate::request::Options;
+use crate::request::{EventStyle, Options};
 use crate::sequence::{ItemWriter, write_items};
 use cbor_head::Limits;
 use cbor_item::write_whole;
@@ -20,38 +20,47 @@ use cborc_files::Folder;
 use std::alloc::Global;
 use std::io::Write;
 
-/// Writes to `out` a line for each event of each item of the sequence that the file `source` is, but
-/// for the pieces of payloads, with an empty line before each item but the first. The offsets
-/// are counted from the start of the input. What was written before a refusal, or before hex text that
-/// is none, stays.
+/// Writes to `out` the lines of the events of each item of the sequence that the file `source` is, with
+/// an empty line before each item but the first. The offsets are counted from the start of the input.
+/// What was written before a refusal, or before hex text that is none, stays.
 pub fn events_sequence<'a, F: Folder, O: Write>(
     alloc: Global,
     files: &mut F,
     out: &mut O,
     source: &'a str,
+    event_style: EventStyle,
     options: Options,
 ) -> Result<(), Fault<'a>>
-    ensures listed { OnOk result (IsSequenceListed options source.now
+    ensures listed { OnOk result (IsSequenceListed event_style options source.now
         (F.held files.old) (O.contents out.old) (O.contents out.new)) }
-    ensures fault { IfErr result (IsSequenceNotListed options source.now
+    ensures fault { IfErr result (IsSequenceNotListed event_style options source.now
         (F.held files.old) (O.contents out.old) (O.contents out.new)) }
     ensures keeps { KeepsFiles (F.held files.old) (F.held files.new) }
     ensures same { F.behind files.new ≡ F.behind files.old }
 {
-    write_items(alloc, &ListedItems {}, files, source, options, out)?;
+    write_items(
+        alloc,
+        &ListedItems { event_style },
+        files,
+        source,
+        options,
+        out,
+    )?;
     Ok(())
 }
 
-// Items of which the events are listed.
+// Items of which the lines are written.
 #[derive(Clone, Copy)]
-struct ListedItems {}
+struct ListedItems {
+    event_style: EventStyle,
+}
 
 impl ItemWriter for ListedItems {
     ghost takes = { λ _ b. IsAccepted b form };
 
-    ghost text = { λ _. item_lines };
+    ghost text = { λ listed. item_lines listed.event_style };
 
-    ghost stops = { λ _. IsItemNotListed };
+    ghost stops = { λ listed. IsItemNotListed listed.event_style };
 
     fn write_item<'f, W: Write>(
         &self,
@@ -67,7 +76,7 @@ impl ItemWriter for ListedItems {
             return Ok(None);
         }
         write_gap(start, out)?;
-        let size = list_prefix(bytes, start, limits, out)?;
+        let size = list_prefix(self.event_style, bytes, start, limits, out)?;
         Ok(Some(size as usize))
     }
 }

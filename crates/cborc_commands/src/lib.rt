@@ -30,5 +30,7 @@ mod texts;
 pub use answer::{end, flushed, perform};
 pub use fault::Fault;
 pub use in_memory::canon_in_memory;
-pub use request::{Accepted, Action, Form, Options, Output, Request, Task, TextStyle, Verbosity};
+pub use request::{
+    Accepted, Action, EventStyle, Form, Options, Output, Request, Task, TextStyle, Verbosity,
+};
 pub use status::Status;

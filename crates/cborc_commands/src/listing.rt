@@ -1,37 +1,65 @@
 //! The lines of the events of the item at the start of some bytes.
 
-ghost use Rattle.std.specs.Prelude.{◌≡◌, ◌≤◌, ◌<◌, ◌^◌, false, length, IfOk, IfErr};
-ghost use Rattle.cbor_listing.specs.Listing.{IsListed};
+ghost use Rattle.std.specs.Prelude.{◌≡◌, ◌≤◌, ◌<◌, ◌+◌, ◌^◌, false, length, IfOk, IfErr};
+ghost use Rattle.cbor_listing.specs.Listing.{IsListingReason};
+ghost use Rattle.cborc_commands.specs.EventStyles.{AreListed, AreUnlisted};
 ghost use Rattle.cborc_commands.specs.inner.Decided.{IsDecided};
 ghost use Rattle.cborc_commands.specs.inner.Listed.{IsPrefixNotListed};
 
 use crate::fault::Fault;
-use cbor_diag::listing_from;
-use cbor_head::{Limits, Reason};
+use crate::request::EventStyle;
+use cbor_listing::{annotated, listing_from};
+use cbor_head::{Limits, Reason, Refusal};
 use std::io::{self, Write};
 
 /// Writes the lines of the item at the start of the bytes, which start there in the input, and
 /// answers how many bytes it has. The refusal is that of its form.
 pub fn list_prefix<'a, W: Write>(
+    event_style: EventStyle,
     bytes: &[u8],
     start: usize,
     limits: Limits,
     out: &mut W,
 ) -> Result<u64, Fault<'a>>
     requires { start < 2 ^ 63 }
-    ensures listed { IfOk result (λ size. IsListed start limits bytes.now size
+    ensures listed { IfOk result (λ size. AreListed event_style start limits bytes.now size
         (W.contents out.old) (W.contents out.new)) }
     ensures within { IfOk result (λ size. size ≤ length bytes.now) }
-    ensures fault { IfErr result (IsPrefixNotListed start limits bytes.now
+    ensures fault { IfErr result (IsPrefixNotListed event_style start limits bytes.now
         (W.contents out.old) (W.contents out.new)) }
 {
-    let mut reader = bytes;
-    match listing_from(&mut reader, start as u64, limits, out) {
+    match write_lines(event_style, bytes, start as u64, limits, out) {
         Ok(size) => Ok(size),
         Err(refusal) => match refusal.reason {
             Reason::Write => Err(Fault::CannotPrint),
             _ => Err(Fault::from(refusal)),
         },
+    }
+}
+
+// Writes them in this style.
+fn write_lines<W: Write>(
+    event_style: EventStyle,
+    bytes: &[u8],
+    start: u64,
+    limits: Limits,
+    out: &mut W,
+) -> Result<u64, Refusal>
+    requires { start + limits.bytes < 2 ^ 64 }
+    ensures listed { IfOk result (λ size. AreListed event_style start limits bytes.now size
+        (W.contents out.old) (W.contents out.new)) }
+    ensures within { IfOk result (λ size. size ≤ length bytes.now) }
+    ensures unlisted { IfErr result (λ f. AreUnlisted event_style start limits bytes.now f
+        (W.contents out.old) (W.contents out.new)) }
+    ensures reasons { IfErr result (λ f. IsListingReason f.reason) }
+    ensures read { IfErr result (λ f. f.read ≤ length bytes.now) }
+{
+    match event_style {
+        EventStyle::Listed => {
+            let mut reader = bytes;
+            listing_from(&mut reader, start, limits, out)
+        }
+        EventStyle::Annotated => annotated(bytes, start, limits, out),
     }
 }
 

@@ -42,8 +42,8 @@ pub enum Action<'a> {
     Check(Accepted),
     /// Writes the diagnostic text, in this style.
     Show(TextStyle),
-    /// Writes a line for each event.
-    Events,
+    /// Writes the lines of the events, in this style.
+    Events(EventStyle),
     /// Writes the canonical bytes to another file.
     Canon {
         /// Where the canonical bytes are written, and in which form.
@@ -74,6 +74,15 @@ pub enum TextStyle {
     OneLine,
     /// One member or pair a line.
     Indented,
+}
+
+/// What `events` writes of an event.
+#[derive(Clone, Copy, Debug)]
+pub enum EventStyle {
+    /// A line with its offset, name, argument and width; none of a piece of a payload.
+    Listed,
+    /// Its offset, its bytes in hex and what they mean; of a payload a line for each 16 bytes.
+    Annotated,
 }
 
 /// Where `canon` writes.

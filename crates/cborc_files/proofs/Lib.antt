@@ -1,3 +1,4 @@
 pub mod Appended
 mod InMemory
+mod Places
 mod Spelled

@@ -99,8 +99,8 @@ no_digit d byte apart none text spelled more h =
 
 -- ---- the next byte
 
-abbrev pub digits_view : Option ℕ → DigitsView
-digits_view high = record { high = high }
+abbrev pub digits_view : ℕ → ℕ → Option ℕ → DigitsView
+digits_view line column high = record { high = high; line = line; column = column }
 
 module _ (before : List ℕ) where
   pub white : (d : DigitsView) (byte : ℕ) → true ≡ is_white byte → SpellsOn (byte ∷ []) d d before before
@@ -118,8 +118,8 @@ module _ (before : List ℕ) where
         };
   }
 
-  module _ (byte value : ℕ) (apart : false ≡ is_white byte) (is : hex_digit_value byte ≡ Some value) where
-    pub waits : SpellsOn (byte ∷ []) (digits_view None) (digits_view (Some value)) before before
+  module _ (line column byte value : ℕ) (apart : false ≡ is_white byte) (is : hex_digit_value byte ≡ Some value) where
+    pub waits : SpellsOn (byte ∷ []) (digits_view line column None) (digits_view line column (Some value)) before before
     waits = record {
       more = [];
       added = sym (append-nil before);
@@ -132,7 +132,7 @@ module _ (before : List ℕ) where
     }
 
     -- behind a digit that waits
-    pub completes : (high : ℕ) (after : List ℕ) → after ≡ before ++ (high * 16 + value) ∷ [] → SpellsOn (byte ∷ []) (digits_view (Some high)) (digits_view None) before after
+    pub completes : (high : ℕ) (after : List ℕ) → after ≡ before ++ (high * 16 + value) ∷ [] → SpellsOn (byte ∷ []) (digits_view line column (Some high)) (digits_view line column None) before after
     completes high after e = record {
       more = (high * 16 + value) ∷ [];
       added = e;
@@ -183,16 +183,16 @@ module _ (text : List ℕ) (i : ℕ) (within : i < length text) (old middle : Di
 
 -- ---- the end of the text
 
-pub none_yet : Spells [] [] (digits_view None)
+pub none_yet : (line column : ℕ) → Spells [] [] (digits_view line column None)
 unfolding decode_pairs
-none_yet = record { pairs = []; ends = refl; is = refl }
+none_yet line column = record { pairs = []; ends = refl; is = refl }
 
-pub all_spelled : IsWhole (digits_view None)
-all_spelled text spelled h =
+pub all_spelled : (line column : ℕ) → IsWhole (digits_view line column None)
+all_spelled line column text spelled h =
     let even : (length h.pairs % 2 == 1) ≡ false = grind (arith, twice 0 h.pairs spelled h.is) in
     ap decode_of h.ends ∙ by_other (length h.pairs % 2 == 1) (decode_pairs 0 h.pairs) even ∙ h.is
 
-pub one_alone : (high : ℕ) (text spelled : List ℕ) → Spells text spelled (digits_view (Some high)) → IsErr (decode_of (filter is_kept text))
-one_alone high text spelled h =
+pub one_alone : (line column high : ℕ) (text spelled : List ℕ) → Spells text spelled (digits_view line column (Some high)) → IsErr (decode_of (filter is_kept text))
+one_alone line column high text spelled h =
     odd_fails (filter is_kept text) (length spelled)
     (omega (arith, ap length h.ends.1, length-append h.pairs (h.ends.0 ∷ []), twice 0 h.pairs spelled h.is))

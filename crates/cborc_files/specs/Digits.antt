@@ -5,9 +5,13 @@ use Rattle.hex.specs.Hex.{decode_of, decode_pairs, hex_digit_value}
 use Rattle.cborc_files.specs.declared.hex_text.DigitsFault.TheVariants as faults
 use Rattle.cborc_files.specs.{Hex.is_kept, declared.hex_text.DigitsFault.DigitsFault}
 
--- what contracts see of the digits of a text so far: the value of one that waits for another, if one does
+-- what contracts see of the digits of a text so far
 pub record DigitsView : Type 0 where
+  -- the value of one that waits for another, if one does
   pub high : Option ℕ
+  -- where the byte behind them stands
+  pub line : ℕ
+  pub column : ℕ
 
 -- these are the digits of whole bytes, and one more of this value, if there is one
 abbrev pub EndsIn : List ℕ → List ℕ → Option ℕ → Type 0

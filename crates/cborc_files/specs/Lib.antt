@@ -3,3 +3,5 @@ pub mod Disk
 pub mod Folder
 pub mod Hex
 pub mod InMemory
+pub mod Place
+pub mod Recording

@@ -5,6 +5,7 @@ ghost use Rattle.std.specs.List.{filter};
 ghost use Rattle.hex.specs.Hex.{decode_of, hex_digit_value};
 ghost use Rattle.cborc_files.specs.Hex.{is_kept, is_white};
 ghost use Rattle.cborc_files.specs.Digits.{DigitsView, IsOfText, Spells, SpellsOn, IsHexErrorIn, IsWhole};
+ghost use Rattle.cborc_files.specs.Place.{IsAtStart, MovesOn, IsOfHexText, IsFirstOther, IsLastAlone};
 
 use std::io::{self, Write};
 use std::marker::Model;
@@ -22,9 +23,12 @@ pub enum DigitsFault {
 /// nor white space, both from 1, and the byte; or of its end, where its last digit stands alone.
 #[derive(Clone, Copy, Debug, PartialEq, Eq)]
 pub struct HexError {
-    line: u64,
-    column: u64,
-    byte: Option<u8>,
+    /// The line, up to 2^64 - 1.
+    pub line: u64,
+    /// The column there, up to 2^64 - 1.
+    pub column: u64,
+    /// The byte, or none at the end.
+    pub byte: Option<u8>,
 }
 
 impl HexError {
@@ -57,7 +61,7 @@ pub struct Digits {
 impl Model for Digits {
     ghost Value = { DigitsView };
 
-    ghost view = { λ d. record { high = d.high } };
+    ghost view = { λ d. record { high = d.high; line = d.line; column = d.column } };
 
     ghost invariant = { λ d. IfSome d.high (λ value. value < 16) };
 }
@@ -65,7 +69,8 @@ impl Model for Digits {
 impl Digits {
     /// No text yet.
     pub fn new() -> Digits
-        ensures { Spells [] [] result }
+        ensures none { Spells [] [] result }
+        ensures place { IsAtStart result }
     {
         Digits {
             high: None,
@@ -78,8 +83,11 @@ impl Digits {
     pub fn push(&mut self, byte: u8, bytes: &mut Vec<u8>) -> Result<(), DigitsFault>
         ensures goes_on { OnOk result
             (SpellsOn (byte ∷ []) self.old self.new bytes.old.items bytes.new.items) }
+        ensures place { OnOk result (MovesOn (byte ∷ []) self.old self.new) }
+        ensures digit { OnOk result (IsOfHexText byte) }
         ensures not_hex { IfErr result (λ fault. IsOfText fault
             → IsHexErrorIn (byte ∷ []) self.old) }
+        ensures other { IfErr result (IsFirstOther (byte ∷ []) self.old) }
     {
         self.take(byte, bytes)?;
         self.go_on(byte);
@@ -90,8 +98,12 @@ impl Digits {
     fn take(&mut self, byte: u8, bytes: &mut Vec<u8>) -> Result<(), DigitsFault>
         ensures goes_on { OnOk result
             (SpellsOn (byte ∷ []) self.old self.new bytes.old.items bytes.new.items) }
+        ensures line { self.new.line ≡ self.old.line }
+        ensures column { self.new.column ≡ self.old.column }
+        ensures digit { OnOk result (IsOfHexText byte) }
         ensures not_hex { IfErr result (λ fault. IsOfText fault
             → IsHexErrorIn (byte ∷ []) self.old) }
+        ensures other { IfErr result (IsFirstOther (byte ∷ []) self.old) }
     {
         if is_white(byte) {
             return Ok(());
@@ -117,7 +129,9 @@ impl Digits {
     pub fn push_all(&mut self, text: &[u8], bytes: &mut Vec<u8>) -> Result<(), DigitsFault>
         ensures goes_on { OnOk result
             (SpellsOn text.now self.old self.new bytes.old.items bytes.new.items) }
+        ensures place { OnOk result (MovesOn text.now self.old self.new) }
         ensures not_hex { IfErr result (λ fault. IsOfText fault → IsHexErrorIn text.now self.old) }
+        ensures other { IfErr result (IsFirstOther text.now self.old) }
     {
         'text: for byte in text {
             self.push(*byte, bytes)?;
@@ -127,7 +141,8 @@ impl Digits {
 
     // The place behind this byte of the text.
     fn go_on(&mut self, byte: u8)
-        ensures { self.new ≡ self.old }
+        ensures high { self.new.high ≡ self.old.high }
+        ensures place { MovesOn (byte ∷ []) self.old self.new }
     {
         if byte == b'\n' {
             self.line = self.line.saturating_add(1);
@@ -137,7 +152,9 @@ impl Digits {
         }
     }
 
-    fn hex_error(&self, byte: Option<u8>) -> HexError {
+    fn hex_error(&self, byte: Option<u8>) -> HexError
+        ensures { result ≡ record { line = self.now.line; column = self.now.column; byte = byte } }
+    {
         HexError {
             line: self.line,
             column: self.column,
@@ -151,6 +168,7 @@ impl Digits {
         ensures not_hex { IfErr result (λ fault. (text spelled : List ℕ)
             → Spells text spelled self.now
             → IsErr (decode_of (filter is_kept text))) }
+        ensures alone { IfErr result (IsLastAlone self.now) }
     {
         match self.high {
             None => Ok(()),

@@ -1,7 +1,8 @@
 //! What was read, for an explanation of what came of it.
 
-ghost use Rattle.std.specs.Prelude.{◌≡◌, Some, IfOk, OnOk, MatchResult};
+ghost use Rattle.std.specs.Prelude.{◌≡◌, Some, IfOk, IfSome, OnOk, MatchResult, option_map};
 ghost use Rattle.cborc_files.specs.Folder.{Holds, ReadsOn, IsWithin, KeepsFiles, WritesFile};
+ghost use Rattle.cborc_files.specs.Recording.{last_of, earlier_of, hex_error_of, IsRecorded};
 
 use crate::folder::{Cause, FileFault, Folder};
 use crate::hex_text::{DigitsFault, HexError};
@@ -45,18 +46,24 @@ impl<'a, F: Folder> RecordingFolder<'a, F> {
     }
 
     /// What an answer spoke of in the last file, if it is known.
-    pub fn last(&self) -> Option<&[u8]> {
+    pub fn last(&self) -> Option<&[u8]>
+        ensures { option_map (λ bytes. bytes.now) result ≡ last_of self.now }
+    {
         let bytes = self.kept.last.as_ref()?;
         Some(bytes.as_slice())
     }
 
     /// Where what was read is not hex text, if it is not.
-    pub fn hex_error(&self) -> Option<HexError> {
+    pub fn hex_error(&self) -> Option<HexError>
+        ensures { result ≡ hex_error_of self.now }
+    {
         self.kept.hex_error
     }
 
     /// What the file before that held, if it is known.
-    pub fn earlier(&self) -> Option<&[u8]> {
+    pub fn earlier(&self) -> Option<&[u8]>
+        ensures { option_map (λ bytes. bytes.now) result ≡ earlier_of self.now }
+    {
         let bytes = self.kept.earlier.as_ref()?;
         Some(bytes.as_slice())
     }
@@ -84,12 +91,21 @@ impl<'a, F: Folder> Folder for RecordingFolder<'a, F> {
         self.files.read_on(alloc, path, from, most, bytes)
     }
 
-    fn remember(&mut self, alloc: Global, bytes: &[u8]) {
+    fn remember(&mut self, alloc: Global, bytes: &[u8])
+        ensures holds { F.held self.new.files.now ≡ F.held self.old.files.now }
+        ensures same { self.new.files.ghost_name ≡ self.old.files.ghost_name }
+        ensures last { IfSome (last_of self.new) (λ kept. kept ≡ bytes.now) }
+        ensures earlier { earlier_of self.new ≡ last_of self.old }
+    {
         self.kept.earlier = self.kept.last.take();
         self.kept.last = Vec::from_slice(alloc, bytes).ok();
     }
 
-    fn remember_fault(&mut self, fault: DigitsFault) {
+    fn remember_fault(&mut self, fault: DigitsFault)
+        ensures holds { F.held self.new.files.now ≡ F.held self.old.files.now }
+        ensures same { self.new.files.ghost_name ≡ self.old.files.ghost_name }
+        ensures kept { IsRecorded fault (hex_error_of self.old) (hex_error_of self.new) }
+    {
         if let DigitsFault::NotHex(hex_error) = fault {
             self.kept.hex_error = Some(hex_error);
         }

@@ -2,7 +2,7 @@
 
 use crate::folder::Cause;
 use std::alloc::{AllocError, Global};
-use std::fs::{self, Metadata, OpenFile, OpenOptions, Permissions};
+use std::fs::{self, Metadata, OpenFile, OpenOptions};
 use std::io::{self, ErrorKind, Write};
 use std::os::unix::fs::{MetadataExt, OpenOptionsExt};
 use std::path::PathBuf;
@@ -109,8 +109,6 @@ struct Place {
     // Where the new file is until then.
     beside: String,
     path: PathBuf,
-    // Those of the file that it replaces, if there is one.
-    permissions: Option<Permissions>,
 }
 
 impl<W: OpenFile + Drop> Taker<W> {
@@ -120,12 +118,8 @@ impl<W: OpenFile + Drop> Taker<W> {
         let Some(place) = place else {
             return Ok(());
         };
-        let Place {
-            beside,
-            path,
-            permissions,
-        } = place;
-        let done = match settle(file, permissions) {
+        let Place { beside, path } = place;
+        let done = match file.sync_all() {
             Ok(()) => fs::rename(rt, beside.as_str(), path.as_str()),
             Err(error) => Err(error),
         };
@@ -143,14 +137,6 @@ impl<W: OpenFile + Drop> Taker<W> {
             let _ = fs::remove_file(rt, place.beside.as_str());
         }
     }
-}
-
-// Gives a new file its permissions, and brings it to the disk.
-fn settle<W: OpenFile + Drop>(file: W, permissions: Option<Permissions>) -> io::Result<()> {
-    if let Some(permissions) = permissions {
-        file.set_permissions(permissions)?;
-    }
-    file.sync_all()
 }
 
 // What takes the bytes that are to stand at the path.
@@ -175,26 +161,35 @@ fn taker_at<R: Files + RandomSource + AllocGlobal>(
     }
 }
 
-// A new file beside the one at this path, whose place it is to take.
+// A new file beside the one at this path, whose place it is to take: with the permissions of that one,
+// before its first byte comes.
 fn new_taker<R: Files + RandomSource + AllocGlobal>(
     rt: &R,
     path: PathBuf,
     replaced: Option<&Metadata>,
 ) -> Result<Taker<R::File>, Cause> {
-    match create_beside(rt, path.as_str(), replaced) {
-        Ok((file, beside)) => {
-            let permissions = replaced.map(|metadata| metadata.permissions());
-            let place = Some(Place {
-                beside,
-                path,
-                permissions,
-            });
-            Ok(Taker { file, place })
+    let (file, beside) = create_beside(rt, path.as_str(), replaced).map_err(cause_beside)?;
+    let permitted = match replaced {
+        Some(metadata) => file.set_permissions(metadata.permissions()),
+        None => Ok(()),
+    };
+    let taker = Taker {
+        file,
+        place: Some(Place { beside, path }),
+    };
+    match permitted {
+        Ok(()) => Ok(taker),
+        Err(error) => {
+            taker.remove(rt);
+            Err(cause_beside(error))
         }
-        Err(error) => Err(Cause {
-            kind: error.kind(),
-            beside: true,
-        }),
+    }
+}
+
+fn cause_beside(error: io::Error) -> Cause {
+    Cause {
+        kind: error.kind(),
+        beside: true,
     }
 }
 

@@ -1,5 +1,7 @@
 //! The files of this machine.
 
+mod traced;
+
 use crate::{Disk, FileFault, Folder};
 use std::io::Write;
 use std::{env, fs, io, process};

@@ -89,6 +89,9 @@ check --seq=yes in | error: unexpected value 'yes' for '--seq' found; no more we
 check --seq --seq in | error: the argument '--seq' cannot be used multiple times\n;
 compare --seq a b | error: unexpected argument '--seq' found\n;
 canon --seq --seq in out | error: the argument '--seq' cannot be used multiple times\n;
+events --annotate --annotate in | error: the argument '--annotate' cannot be used multiple times\n;
+events --annotate=yes in | error: unexpected value 'yes' for '--annotate' found; no more were expected\n;
+show --annotate in | error: unexpected argument '--annotate' found\n;
 events --seq --seq in | error: the argument '--seq' cannot be used multiple times\n;
 show --seq=1 in | error: unexpected value '1' for '--seq' found; no more were expected\n;
 check --keys none in | error: invalid value 'none' for '--keys <kinds>'\n  [possible values: any, basic]\n;

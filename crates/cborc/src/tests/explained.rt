@@ -154,6 +154,63 @@ fn explains_text_that_is_no_hex(rt: HostRuntime) -> Result<(), AllocError> {
     Ok(())
 }
 
+// Of a fault past 65,536 characters, and of one past as many lines.
+const FAR_COLUMN: &str = "\
+not hex: in
+  With --hex the input is hex digits, two for each byte, and white space.
+  line 2, column 70001: another byte (67)
+";
+
+const FAR_LINE: &str = "\
+not hex: in
+  With --hex the input is hex digits, two for each byte, and white space.
+  line 70001, column 2: another byte (67)
+";
+
+const FAR_END: &str = "\
+not hex: in
+  With --hex the input is hex digits, two for each byte, and white space.
+  line 1, column 70002: the last digit stands alone
+";
+
+#[test]
+fn explains_a_fault_far_behind(rt: HostRuntime) -> Result<(), AllocError> {
+    let alloc = rt.alloc();
+    let digits = "0".repeat(alloc, 70_000)?;
+    let lines = "\n".repeat(alloc, 70_000)?;
+    for (before, text, behind, wanted) in [
+        ("\n", digits.as_str(), "g0", FAR_COLUMN),
+        ("", lines.as_str(), " g", FAR_LINE),
+        ("", digits.as_str(), "0", FAR_END),
+    ] {
+        let text = format!(in alloc; "{before}{text}{behind}")?;
+        let ran = ran(alloc, "check --seq --explain --hex in", text.as_str())?;
+        assert!(rt; ran.err.as_slice() == wanted.as_bytes(), "{wanted}");
+    }
+    Ok(())
+}
+
+const FAR_FLOAT: &str = "\
+refused 5 Float at 101
+  in in
+  A floating-point number begins here; no float is accepted.
+  Write it as an integer, a text, or a tag over integers.
+  bytes from 93: 00 00 00 00 00 00 00 00 f9 00
+                                         ^^
+  at $[100]
+";
+
+// A place past the first 64 bytes of the input.
+#[test]
+fn explains_a_place_far_behind(rt: HostRuntime) -> Result<(), AllocError> {
+    let alloc = rt.alloc();
+    let members = "00".repeat(alloc, 100)?;
+    let file = format!(in alloc; "9f{members}f900")?;
+    let ran = ran(alloc, "check --explain in", file.as_str())?;
+    assert!(rt; ran.err.as_slice() == FAR_FLOAT.as_bytes());
+    Ok(())
+}
+
 #[test]
 fn explains_either_side(rt: HostRuntime) -> Result<(), AllocError> {
     let alloc = rt.alloc();

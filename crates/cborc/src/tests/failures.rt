@@ -60,7 +60,7 @@ fn standard_error_fails(rt: HostRuntime) -> Result<(), AllocError> {
 }
 
 // The words, and how many bytes standard output takes of what they print of a file that holds 0.
-static PRINTED: [(&str, usize); 22] = [
+static PRINTED: [(&str, usize); 24] = [
     ("help", 0),
     ("help", 1),
     ("help", 20),
@@ -81,6 +81,8 @@ static PRINTED: [(&str, usize); 22] = [
     ("canon --seq --hex-out in -", 2),
     ("events in", 0),
     ("events in", 14),
+    ("events --annotate in", 0),
+    ("events --annotate in", 14),
     ("events --seq in", 0),
     ("events --seq in", 14),
 ];

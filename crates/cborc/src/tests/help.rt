@@ -29,7 +29,7 @@ the output or memory fails.
 
 Examples:
   cborc show message.cbor
-  cborc events --hex message.hex
+  cborc events --annotate --hex message.hex
   cborc check --strict --explain message.cbor
   cborc canon message.cbor canonical.cbor && sha256sum canonical.cbor
   cborc show --seq records.cbor
@@ -97,6 +97,7 @@ Arguments:
   <FILE>  The file to read, or - for standard input
 
 Options:
+      --annotate       Write the bytes of each event in hex, and what they mean
       --seq            Read a sequence of items, with the limits on each
       --depth <count>  How deep arrays, maps and tags may nest, 0 to 1024 [default: 256]
       --bytes <count>  How many bytes an item may have, 0 to 4611686018427387904 [default: 1048576]

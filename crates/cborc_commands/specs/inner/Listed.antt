@@ -1,16 +1,15 @@
 -- Why the item at a prefix is not listed.
 use Rattle.std.specs.Prelude.{ℕ, ◌≡◌, ◌≢◌, ◌≤◌, List, length, Option}
 use Rattle.cbor_head.specs.{Prelude.Bounds, declared.reason.Reason.TheVariants.Read, declared.reason.Reason.TheVariants.Write, declared.reason.Refusal.Refusal}
-use Rattle.cbor_listing.specs.Listing.{IsUnlisted}
 use Rattle.cborc_commands.specs.declared.fault.Fault.TheVariants as faults
-use Rattle.cborc_commands.specs.{Fault.IsOfInput, declared.fault.Fault.Fault}
+use Rattle.cborc_commands.specs.{EventStyles.AreUnlisted, declared.request.EventStyle.EventStyle, Fault.IsOfInput, declared.fault.Fault.Fault}
 
 -- The form of the item at the start of these bytes, which start there in the input, is refused; or standard output took not all of
 -- its lines, and of the bytes what was taken; a read that failed would be reported as want of memory.
-abbrev pub IsPrefixNotListed : ℕ → Bounds → List ℕ → Option (List ℕ) → Option (List ℕ) → Fault → Type 0
-IsPrefixNotListed start limits bytes old new (faults.Refused f) =
-    IsOfInput f.reason × (f.reason ≢ Write) × IsUnlisted start limits bytes f old new × (f.read ≤ length bytes)
-IsPrefixNotListed start limits bytes old new faults.CannotPrint =
-    (f : Refusal) × IsUnlisted start limits bytes f old new × (f.read ≤ length bytes) × (f.reason ≡ Write)
-IsPrefixNotListed start limits bytes old new faults.Memory = (f : Refusal) × IsUnlisted start limits bytes f old new × (f.read ≤ length bytes) × (f.reason ≡ Read)
-IsPrefixNotListed start limits bytes old new _ = ⊥
+abbrev pub IsPrefixNotListed : EventStyle → ℕ → Bounds → List ℕ → Option (List ℕ) → Option (List ℕ) → Fault → Type 0
+IsPrefixNotListed style start limits bytes old new (faults.Refused f) =
+    IsOfInput f.reason × (f.reason ≢ Write) × AreUnlisted style start limits bytes f old new × (f.read ≤ length bytes)
+IsPrefixNotListed style start limits bytes old new faults.CannotPrint =
+    (f : Refusal) × AreUnlisted style start limits bytes f old new × (f.read ≤ length bytes) × (f.reason ≡ Write)
+IsPrefixNotListed style start limits bytes old new faults.Memory = (f : Refusal) × AreUnlisted style start limits bytes f old new × (f.read ≤ length bytes) × (f.reason ≡ Read)
+IsPrefixNotListed style start limits bytes old new _ = ⊥

@@ -7,8 +7,8 @@ use Rattle.cbor_reader.specs.Sequence.{IsAccepted}
 use Rattle.cborc_commands.specs.declared.fault.Fault.TheVariants as faults
 use Rattle.cborc_commands.specs.CanonSequence.{HasCanonicalBytes, canonical_text, IsUncanonical}
 use Rattle.cborc_commands.specs.EventsSequence.{IsFormRefused, IsCutOff, IsListedInPart}
-use Rattle.cborc_commands.specs.{Texts.GoesInPart, declared.fault.Fault.Fault, declared.request.Form.Form, declared.request.TextStyle.TextStyle}
-use Rattle.cborc_commands.specs.ShowSequence.{item_text}
+use Rattle.cborc_commands.specs.{Texts.GoesInPart, declared.fault.Fault.Fault, declared.request.Form.Form, declared.request.EventStyle.EventStyle}
+use Rattle.cborc_commands.specs.{declared.request.TextStyle.TextStyle, ShowSequence.item_text}
 
 -- to be counted: it is refused, or memory was
 abbrev pub IsUncounted : Bounds → Rules → List ℕ → Fault → Type 0
@@ -39,9 +39,9 @@ IsItemNotShown b text_style bytes faults.Memory before after = after ≡ before
 IsItemNotShown b text_style bytes _ before after = ⊥
 
 -- to be listed: its form is refused, or memory was, and the output took its lines so far; or it failed
-abbrev pub IsItemNotListed : Bounds → ℕ → List ℕ → Fault → Option (List ℕ) → Option (List ℕ) → Type 0
-IsItemNotListed b start bytes (faults.Refused f) before after =
-    (shown : List ℕ) × IsFormRefused start b bytes f shown × Appends before after shown
-IsItemNotListed b start bytes faults.CannotPrint before after = (shown : List ℕ) × IsCutOff start b bytes shown × Appends before after shown
-IsItemNotListed b start bytes faults.Memory before after = (shown : List ℕ) × IsListedInPart start b bytes shown × Appends before after shown
-IsItemNotListed b start bytes _ before after = ⊥
+abbrev pub IsItemNotListed : EventStyle → Bounds → ℕ → List ℕ → Fault → Option (List ℕ) → Option (List ℕ) → Type 0
+IsItemNotListed style b start bytes (faults.Refused f) before after =
+    (shown : List ℕ) × IsFormRefused style start b bytes f shown × Appends before after shown
+IsItemNotListed style b start bytes faults.CannotPrint before after = (shown : List ℕ) × IsCutOff style start b bytes shown × Appends before after shown
+IsItemNotListed style b start bytes faults.Memory before after = (shown : List ℕ) × IsListedInPart style start b bytes shown × Appends before after shown
+IsItemNotListed style b start bytes _ before after = ⊥

@@ -9,7 +9,9 @@ pub returns : goal.returns
 returns c =
     let empty : app_of c.about.result ≡ new_app (codes "events") = search rules in
     let first : HasRule (grammar.file (codes "FILE")) c.file.result = search rules in
-    let second : HasRule grammar.sequence c.sequence.result = search rules in
+    let second : HasRule (grammar.flag (codes "annotate")) c.flag.result = search rules in
+    let third : HasRule grammar.sequence c.sequence.result = search rules in
     let one = adds_rule _ _ _ _ _ c.in_ok-arg.ensures empty first in
-    let command = adds_rule _ _ _ _ _ c.in_ok-command.ensures one second in
+    let two = adds_rule _ _ _ _ _ c.in_ok-arg-2.ensures one second in
+    let command = adds_rule _ _ _ _ _ c.in_ok-command.ensures two third in
     IfOk-weaker c.with_options.result _ _ (λ r h. (h.0, h.1 ∙ ap (λ (app : App). with_rules app (grammar.options h.0)) command)) c.with_options.ensures

@@ -10,13 +10,13 @@ returns-in_err-bytes-clause-fault g c =
 pub returns-clause-listed : goal.returns-clause-listed
 returns-clause-listed g c =
     on_ok c.list.result _ _
-    (listed_of c.args.options c.args.source.now (g.F.Folder.held c.args.files.now) c.in_ok-bytes.bytes.items c.in_ok-bytes.ensures.prefix
+    (listed_of c.args.options c.args.source.now (g.F.Folder.held c.args.files.now) c.in_ok-bytes.bytes.items c.in_ok-bytes.ensures.prefix c.args.event_style
     (g.O.Write.contents c.args.out.now) (g.O.Write.contents c.list.new.out))
     (rw (c.as_slice.ensures.value) at c.list.ensures.listed)
 
 pub returns-clause-fault : goal.returns-clause-fault
 returns-clause-fault g c =
     if_err c.list.result _ _
-    (not_listed_of c.args.options c.args.source.now (g.F.Folder.held c.args.files.now) c.in_ok-bytes.bytes.items c.in_ok-bytes.ensures.prefix
+    (not_listed_of c.args.options c.args.source.now (g.F.Folder.held c.args.files.now) c.in_ok-bytes.bytes.items c.in_ok-bytes.ensures.prefix c.args.event_style
     (g.O.Write.contents c.args.out.now) (g.O.Write.contents c.list.new.out))
     (rw (c.as_slice.ensures.value) at c.list.ensures.fault)

@@ -5,6 +5,6 @@ pub returns-in_default : goal.returns-in_default
 returns-in_default g c = record {
   listed = tt;
   within = tt;
-  fault = listing_refusal_is (IsPrefixNotListed c.args.start c.args.limits c.args.bytes.now (g.W.Write.contents c.args.out.now) (g.W.Write.contents c.listing_from.new.writer)) c.in-Err.refusal _ c.from.ensures c.in-Err.ensures.reasons
-      (λ own. (own, c.in_default.not-Write, c.in-Err.ensures.refused, c.in-Err.ensures.read.1)) (λ failed. (c.in-Err.refusal, c.in-Err.ensures.refused, c.in-Err.ensures.read.1, failed));
+  fault = listing_refusal_is (IsPrefixNotListed c.args.event_style c.args.start c.args.limits c.args.bytes.now (g.W.Write.contents c.args.out.now) (g.W.Write.contents c.write_lines.new.out)) c.in-Err.refusal _ c.from.ensures c.in-Err.ensures.reasons
+      (λ own. (own, c.in_default.not-Write, c.in-Err.ensures.unlisted, c.in-Err.ensures.read)) (λ failed. (c.in-Err.refusal, c.in-Err.ensures.unlisted, c.in-Err.ensures.read, failed));
 }

@@ -11,9 +11,9 @@ returns-in_default-clause-not_hex c e = no_digit _ c.args.byte c.if-is_white.ens
 pub returns-in-None-clause-goes_on : goal.returns-in-None-clause-goes_on
 returns-in-None-clause-goes_on c =
     rw (← c.self.view_is, c.in-None.is)
-    (waits _ c.args.byte c.in-Some.value c.if-is_white.ensures (sym c.digit_value.ensures.value ∙ c.in-Some.is))
+    (waits _ _ _ c.args.byte c.in-Some.value c.if-is_white.ensures (sym c.digit_value.ensures.value ∙ c.in-Some.is))
 
 pub returns-in-Ok-clause-goes_on : goal.returns-in-Ok-clause-goes_on
 returns-in-Ok-clause-goes_on c =
     rw (← c.self.view_is, c.in-Some-high.is)
-    (completes _ c.args.byte c.in-Some.value c.if-is_white.ensures (sym c.digit_value.ensures.value ∙ c.in-Some.is) c.in-Some-high.high _ c.in-Ok.ensures.items)
+    (completes _ _ _ c.args.byte c.in-Some.value c.if-is_white.ensures (sym c.digit_value.ensures.value ∙ c.in-Some.is) c.in-Some-high.high _ c.in-Ok.ensures.items)

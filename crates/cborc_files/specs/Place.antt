@@ -1,0 +1,49 @@
+-- Where in a text its first byte stands that is no hex text: its line and column, both from 1.
+use Rattle.std.specs.Prelude.{ℕ, ◌≡◌, ◌+◌, ◌-◌, ◌^◌, ◌<◌, ◌⊎◌, ◌==◌, if◌then◌else◌, min, true, List, length, take, slice_index, fold, Some, None, IsSome}
+use Rattle.hex.specs.Hex.{hex_digit_value}
+use Rattle.cborc_files.specs.declared.hex_text.DigitsFault.TheVariants as faults
+use Rattle.cborc_files.specs.{declared.hex_text.DigitsFault.DigitsFault, declared.hex_text.HexError.HexError, Digits.DigitsView, Hex.is_white}
+
+-- the next number, up to the greatest that is reported
+abbrev pub next : ℕ → ℕ
+next n = min (n + 1) (2 ^ 64 - 1)
+
+-- the line behind a byte on this line: a line feed ends it
+abbrev pub line_behind : ℕ → ℕ → ℕ
+line_behind line byte = if byte == 10 then next line else line
+
+-- the column behind a byte in this column
+abbrev pub column_behind : ℕ → ℕ → ℕ
+column_behind column byte = if byte == 10 then 1 else next column
+
+-- the place is the first of a text
+pub record IsAtStart (d : DigitsView) : Type 0 where
+  pub line : d.line ≡ 1
+  pub column : d.column ≡ 1
+
+-- the place is behind these bytes of it
+pub record MovesOn (text : List ℕ) (old new : DigitsView) : Type 0 where
+  pub line : new.line ≡ fold line_behind old.line text
+  pub column : new.column ≡ fold column_behind old.column text
+
+-- a byte of hex text: a digit, or white space
+abbrev pub IsOfHexText : ℕ → Type 0
+IsOfHexText byte = (is_white byte ≡ true) ⊎ IsSome (hex_digit_value byte)
+
+-- among these bytes of a text this one is the first that is neither, and there it stands
+pub record IsOtherAt (text : List ℕ) (old : DigitsView) (e : HexError) (at : ℕ) : Type 0 where
+  pub within : at < length text
+  pub digits : (k : ℕ) → k < at → IsOfHexText (slice_index text k)
+  pub other : IsOfHexText (slice_index text at) → ⊥
+  pub line : e.line ≡ fold line_behind old.line (take at text)
+  pub column : e.column ≡ fold column_behind old.column (take at text)
+  pub byte : e.byte ≡ Some (slice_index text at)
+
+-- a fault of the text reports that
+abbrev pub IsFirstOther : List ℕ → DigitsView → DigitsFault → Type 0
+IsFirstOther text old (faults.NotHex e) = (at : ℕ) × IsOtherAt text old e at
+IsFirstOther text old _ = Unit {0}
+
+-- it reports the end of the text, whose last digit stands alone
+abbrev pub IsLastAlone : DigitsView → DigitsFault → Type 0
+IsLastAlone d fault = fault ≡ faults.NotHex (record { line = d.line; column = d.column; byte = None })
