@@ -26,10 +26,10 @@ import subprocess
 import sys
 import tempfile
 from collections import namedtuple
-from concurrent.futures import ThreadPoolExecutor
 
 from refused import refuse_calls
 from run import PARTS, driver_line, words_of
+from side_by_side import of_all, unlike
 from table import rows
 
 # Valid items, and what else reaches each way to an end, in hex.
@@ -110,27 +110,6 @@ class Program:
         return (ran.returncode, ran.stdout, ran.stderr, self.get("OUT") if is_alone else None), asked, int(size)
 
 
-def of_all(work, programs, cases):
-    """What each case gives, as many at a time as there are programs."""
-    cases = list(cases)
-
-    def go_through(place):
-        return [work(programs[place], it) for it in cases[place :: len(programs)]]
-
-    with ThreadPoolExecutor(len(programs)) as pool:
-        parts = list(pool.map(go_through, range(len(programs))))
-    return [parts[place % len(parts)][place // len(parts)] for place in range(len(cases))]
-
-
-def unlike(programs, cases):
-    """The cases of a command that make other requests than those before them, and the first request to refuse."""
-    cases, found = list(cases), {}
-    for case, asked in zip(cases, of_all(lambda program, it: program.run(it)[1], programs, cases)):
-        found.setdefault(tuple(asked), case)
-    common = len(os.path.commonprefix([*found]))
-    return [(case, common + 1 if place else 1) for place, case in enumerate(found.values())]
-
-
 def refuse_all(programs, cases, judge):
     """Refuses the requests of cases, each a case and the first to refuse: how many runs reported it, how many went on or
     ended otherwise as they may, and what went wrong."""
@@ -169,6 +148,11 @@ def documents_of(command):
 
 # What nests deeper makes the same requests, only more of them.
 DEEP = 256
+
+
+def requests_of(program, case):
+    """The requests that a run makes."""
+    return program.run(case)[1]
 
 
 def rows_to_try():
@@ -320,7 +304,7 @@ def main():
         if given.program:
             programs = several(given.program)
             for name, commands, inputs in (("documents", COMMANDS, documents_of), ("rows", JUDGING, rows_of)):
-                cases = [it for command in commands for it in unlike(programs, inputs(command))]
+                cases = [it for command in commands for it in unlike(requests_of, programs, inputs(command))]
                 reported, usually, found = refuse_all(programs, cases, judge_program)
                 print(f"a request refused on {name}: {reported} runs out of memory, {usually} as usual, {len(found)} else")
                 wrong += found
@@ -329,10 +313,10 @@ def main():
             wrong += found
         if given.readers:
             readers = several(given.readers)
-            reported, ended, found = refuse_all(readers, unlike(readers, lines()), judge_reader)
+            reported, ended, found = refuse_all(readers, unlike(requests_of, readers, lines()), judge_reader)
             print(f"a request of the readers refused: {reported} reported or as usual, {ended} ended, {len(found)} else")
             wrong += found
-            reported, found = refuse_calls(given.readers, library, folder)
+            reported, found = refuse_calls(given.readers, library, folder, rows_to_try())
             print(f"memory refused to calls over whole items: {reported} reported, {len(found)} else")
             wrong += found
     for line in wrong[:20]:

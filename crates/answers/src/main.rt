@@ -12,7 +12,7 @@
 //! piece), `none` or a refusal; then `taken`, `open`, `spans`, `kept` and the length of `piece`.
 //! Behind the calls stands for how many bytes each read was asked.
 //!
-//! A line that begins with `memory` and a count has what [`memory`] says, of a valid item.
+//! A line that begins with `memory` and a count has what [`memory`] says.
 #![tactic(auto)]
 
 mod asked;
