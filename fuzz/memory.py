@@ -1,5 +1,6 @@
 #!/usr/bin/env python3
-"""Refuses each request for memory in turn, and counts what is asked for behind heads that promise much.
+"""Refuses each request for memory in turn, and counts what is asked for behind heads that promise much. Then it looks at
+what a view keeps in its arena (arena.py).
 
     fuzz/memory.py [--program crates/cborc/out/cborc] [--readers crates/answers/out/answers]
 
@@ -27,6 +28,7 @@ import sys
 import tempfile
 from collections import namedtuple
 
+from arena import look_into_arenas
 from refused import refuse_calls
 from run import PARTS, driver_line, words_of
 from side_by_side import of_all, unlike
@@ -294,6 +296,7 @@ def main():
     words.add_argument("--program")
     words.add_argument("--readers")
     given = words.parse_args()
+    sys.setrecursionlimit(10_000)
     wrong = []
     with tempfile.TemporaryDirectory() as folder:
         library = build_library(folder)
@@ -318,6 +321,9 @@ def main():
             wrong += found
             reported, found = refuse_calls(given.readers, library, folder, rows_to_try())
             print(f"memory refused to calls over whole items: {reported} reported, {len(found)} else")
+            wrong += found
+            read, found = look_into_arenas(given.readers, rows())
+            print(f"strings in one piece of {read} views: {len(found)} in the arena")
             wrong += found
     for line in wrong[:20]:
         print(line)

@@ -12,7 +12,8 @@
 //! piece), `none` or a refusal; then `taken`, `open`, `spans`, `kept` and the length of `piece`.
 //! Behind the calls stands for how many bytes each read was asked.
 //!
-//! A line that begins with `memory` and a count has what [`memory`] says.
+//! A line that begins with `memory` and a count has what [`memory`] says. One that begins with `arena`
+//! has what `read_view` answers, and how many bytes its arena holds then.
 #![tactic(auto)]
 
 mod asked;
@@ -67,16 +68,14 @@ fn answer_line<W: Write>(alloc: Global, line: &str, out: &mut W) -> io::Result<(
     if let Some(rest) = line.strip_prefix("memory ") {
         let (idle, rest) = rest.split_once(' ').ok_or_else(malformed)?;
         let idle = idle.parse::<u32>().map_err(|_| malformed())?;
-        let Some((limits, digits)) = limits_of(rest) else {
-            return Err(malformed());
-        };
-        let bytes = hex::decode(alloc, digits).map_err(|_| malformed())?;
+        let (limits, bytes) = input_of(alloc, rest)?;
         return answer_memory(alloc, &bytes, limits, idle, out);
     }
-    let Some((limits, digits)) = limits_of(line) else {
-        return Err(malformed());
-    };
-    let bytes = hex::decode(alloc, digits).map_err(|_| malformed())?;
+    if let Some(rest) = line.strip_prefix("arena ") {
+        let (limits, bytes) = input_of(alloc, rest)?;
+        return answer_arena(alloc, &bytes, limits, out);
+    }
+    let (limits, bytes) = input_of(alloc, line)?;
     for part in PARTS {
         answer_tree(alloc, &bytes, part, limits, out)?;
         answer_strict(alloc, &bytes, part, limits, out)?;
@@ -90,7 +89,13 @@ fn answer_line<W: Write>(alloc: Global, line: &str, out: &mut W) -> io::Result<(
     writeln!(out)
 }
 
-// The limits that a line begins with, and the digits behind them.
+// The limits that a line begins with, and the bytes of the digits behind them.
+fn input_of(alloc: Global, line: &str) -> io::Result<(Limits, Vec<u8>)> {
+    let (limits, digits) = limits_of(line).ok_or_else(malformed)?;
+    let bytes = hex::decode(alloc, digits).map_err(|_| malformed())?;
+    Ok((limits, bytes))
+}
+
 fn limits_of(line: &str) -> Option<(Limits, &str)> {
     let (keys, rest) = line.split_once(' ')?;
     let (depth, rest) = rest.split_once(' ')?;
@@ -159,6 +164,21 @@ fn answer_view<W: Write>(
         }
     };
     write!(out, ":{} ", (bytes.len() as u64).saturating_sub(taken))
+}
+
+// How many bytes the view has, or a refusal, and how many bytes the arena has taken for it.
+fn answer_arena<W: Write>(
+    alloc: Global,
+    bytes: &[u8],
+    limits: Limits,
+    out: &mut W,
+) -> io::Result<()> {
+    let arena = Bump::new(alloc);
+    match read_view(alloc, bytes, limits, &arena) {
+        Ok((_, count)) => write!(out, "{count}")?,
+        Err(refusal) => put_refusal(refusal, out)?,
+    }
+    writeln!(out, " {}", arena.allocated_bytes())
 }
 
 fn answer_strict<W: Write>(
