@@ -89,13 +89,16 @@ fn answer_line<W: Write>(alloc: Global, line: &str, out: &mut W) -> io::Result<(
     writeln!(out)
 }
 
-// The limits that a line begins with, and the bytes of the digits behind them.
+// The limits that a line begins with, and the bytes that the digits behind them spell.
 fn input_of(alloc: Global, line: &str) -> io::Result<(Limits, Vec<u8>)> {
-    let (limits, digits) = limits_of(line).ok_or_else(malformed)?;
+    let Some((limits, digits)) = limits_of(line) else {
+        return Err(malformed());
+    };
     let bytes = hex::decode(alloc, digits).map_err(|_| malformed())?;
     Ok((limits, bytes))
 }
 
+// The limits that a line begins with, and the digits behind them.
 fn limits_of(line: &str) -> Option<(Limits, &str)> {
     let (keys, rest) = line.split_once(' ')?;
     let (depth, rest) = rest.split_once(' ')?;
