@@ -29,7 +29,7 @@ from items import Items
 from large import large_maps
 from library import DIFFERENT, OK, Library
 from reference import ANY_KEYS, INTEGERS_AND_TEXTS, KEY_KIND, KEYS, REASONS, Answers, Limits, listing
-from table import CALLS, rows
+from table import CALLS, chunk_rows, rows
 from values import BYTEWISE, LENGTH_FIRST, canonical, diagnostic, meaning
 
 # The limits where none are tried.
@@ -231,7 +231,7 @@ class Tries:
 
     def table(self):
         """The rows, on which the definitions of reference.py are tried too."""
-        for row in rows():
+        for row in rows() + chunk_rows():
             answers = self.answers(row.given, row.limits)
             for order in (BYTEWISE, LENGTH_FIRST):
                 expect("the row's canonical bytes", row.canonical[order], answers.canonicalised(order))
