@@ -1,5 +1,6 @@
 #!/usr/bin/env python3
-"""Refuses each request for memory in turn, and counts what is asked for behind heads that promise much.
+"""Refuses each request for memory in turn, and counts what is asked for behind heads that promise much. Then it looks at
+what a view keeps in its arena (arena.py).
 
     fuzz/memory.py [--program crates/cborc/out/cborc] [--readers crates/answers/out/answers]
 
@@ -27,10 +28,11 @@ import subprocess
 import sys
 import tempfile
 from collections import namedtuple
-from concurrent.futures import ThreadPoolExecutor
 
+from arena import look_into_arenas
 from refused import refuse_calls
 from run import PARTS, driver_line, words_of
+from side_by_side import of_all, unlike
 from table import rows
 
 # Valid items, and what else reaches each way to an end, in hex.
@@ -111,27 +113,6 @@ class Program:
         return (ran.returncode, ran.stdout, ran.stderr, self.get("OUT") if is_alone else None), asked, int(size)
 
 
-def of_all(work, programs, cases):
-    """What each case gives, as many at a time as there are programs."""
-    cases = list(cases)
-
-    def go_through(place):
-        return [work(programs[place], it) for it in cases[place :: len(programs)]]
-
-    with ThreadPoolExecutor(len(programs)) as pool:
-        parts = list(pool.map(go_through, range(len(programs))))
-    return [parts[place % len(parts)][place // len(parts)] for place in range(len(cases))]
-
-
-def unlike(programs, cases):
-    """The cases of a command that make other requests than those before them, and the first request to refuse."""
-    cases, found = list(cases), {}
-    for case, asked in zip(cases, of_all(lambda program, it: program.run(it)[1], programs, cases)):
-        found.setdefault(tuple(asked), case)
-    common = len(os.path.commonprefix([*found]))
-    return [(case, common + 1 if place else 1) for place, case in enumerate(found.values())]
-
-
 def refuse_all(programs, cases, judge):
     """Refuses the requests of cases, each a case and the first to refuse: how many runs reported it, how many went on or
     ended otherwise as they may, and what went wrong."""
@@ -170,6 +151,11 @@ def documents_of(command):
 
 # What nests deeper makes the same requests, only more of them.
 DEEP = 256
+
+
+def requests_of(program, case):
+    """The requests that a run makes."""
+    return program.run(case)[1]
 
 
 def rows_to_try():
@@ -325,6 +311,7 @@ def main():
     words.add_argument("--program")
     words.add_argument("--readers")
     given = words.parse_args()
+    sys.setrecursionlimit(10_000)
     wrong = []
     with tempfile.TemporaryDirectory() as folder:
         library = build_library(folder)
@@ -335,7 +322,7 @@ def main():
         if given.program:
             programs = several(given.program)
             for name, commands, inputs in (("documents", COMMANDS, documents_of), ("rows", JUDGING, rows_of)):
-                cases = [it for command in commands for it in unlike(programs, inputs(command))]
+                cases = [it for command in commands for it in unlike(requests_of, programs, inputs(command))]
                 reported, usually, found = refuse_all(programs, cases, judge_program)
                 print(f"a request refused on {name}: {reported} runs out of memory, {usually} as usual, {len(found)} else")
                 wrong += found
@@ -344,14 +331,17 @@ def main():
             wrong += found
         if given.readers:
             readers = several(given.readers)
-            reported, ended, found = refuse_all(readers, unlike(readers, lines()), judge_reader)
+            reported, ended, found = refuse_all(readers, unlike(requests_of, readers, lines()), judge_reader)
             print(f"a request of the readers refused: {reported} reported or as usual, {ended} ended, {len(found)} else")
             wrong += found
-            reported, found = refuse_calls(given.readers, library, folder)
+            reported, found = refuse_calls(given.readers, library, folder, rows_to_try())
             print(f"memory refused to calls over whole items: {reported} reported, {len(found)} else")
             wrong += found
             size, found = count_long(readers[0])
             print(f"long items of the strict readers: {size} bytes asked for, whatever the length, {len(found)} else")
+            wrong += found
+            read, found = look_into_arenas(given.readers, rows())
+            print(f"strings in one piece of {read} views: {len(found)} in the arena")
             wrong += found
     for line in wrong[:20]:
         print(line)

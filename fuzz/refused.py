@@ -1,19 +1,21 @@
 """Refuses memory from each request on, to the calls over whole items, for fuzz/memory.py.
 
-From whichever request on memory is refused, `Tree::of` gives back the item that it was given, `encode` answers Memory
-at 0, `encode_to` has written nothing, a builder gives nothing, a sequence gives the first of its items, then Memory,
-and then none, `read_view` answers Memory at 0, or the tree of its view is refused, and `same_meaning` names the side
-that it was at, with Memory at 0: the left one, and from some request on the right one, an array of the same item; of
-canonical bytes it asks for none. And the calls that take no memory make no request: as many are made
-whether these are called or not.
+On some documents and on the rows of the conformance tables: from whichever request on memory is refused, `Tree::of`
+gives back the item that it was given, `encode` answers Memory at 0, `encode_to` has written nothing, a builder gives
+nothing, a sequence gives the first of its items, then Memory, and then none, `read_view` answers Memory at 0, or the
+tree of its view is refused, and `same_meaning` names the side that it was at, with Memory at 0: the left one, and from
+some request on the right one, an array of the same item, or the item itself behind an empty array; of canonical bytes
+it asks for none. And the calls that take no memory make no request: as many are made whether these are called or not.
 """
 
 import os
 import re
 import subprocess
+from collections import namedtuple
 
 from reference import ANY_KEYS, Limits
 from run import driver_line
+from side_by_side import of_all, unlike
 
 # Valid items, and some that are canonical bytes.
 DOCUMENTS = [
@@ -27,6 +29,12 @@ CANONICAL = [
     "98" + "28" + "1a00012345" * 40,
 ]
 MEMORY = re.compile(r"!19,(\d+),(\d+)")
+# The words of an answer.
+WORDS = 8
+
+# What a run is given, the sides that `same_meaning` has to name in words 6 and 7 (None: no more than it may), and
+# whether the calls that take no memory are made beside it.
+Case = namedtuple("Case", "given limits sides idle", defaults=[None, False])
 
 
 class Driver:
@@ -34,18 +42,19 @@ class Driver:
 
     def __init__(self, program, library, folder):
         self.program, self.library, self.folder = os.path.abspath(program), library, folder
+        os.makedirs(folder, exist_ok=True)
 
-    def run(self, digits, idle=0, refused_from=0):
-        """The status, the words of the answer, and how much was asked for."""
+    def run(self, case, idle=0, refused_from=0):
+        """The status, the words of the answer, and each request."""
         counts = f"{self.folder}/counts"
         with open(counts, "w", encoding="utf-8"):
             pass
         env = {"LD_PRELOAD": self.library, "REFUSED_FROM": str(refused_from), "COUNTS": counts}
-        line = f"memory {idle} " + driver_line(bytes.fromhex(digits), Limits(64, 65536, ANY_KEYS))
+        line = f"memory {idle} " + driver_line(case.given, case.limits)
         ran = subprocess.run([self.program], env=env, input=line.encode(), capture_output=True)
         with open(counts, encoding="utf-8") as file:
-            first, *others = file.read().split()
-        return ran.returncode, ran.stdout.decode().split(), (first, len(others))
+            _, *asked = file.read().split()
+        return ran.returncode, ran.stdout.decode().split(), asked
 
 
 def is_items(found, usual):
@@ -64,21 +73,31 @@ def is_refused(place, found, usual):
         lambda: is_items(found, usual),
         lambda: found in ("!19,0,0", re.sub(",.*", ",!19,0,0", usual)),
         lambda: found in ("left!19,0,0", "right!19,0,0"),
+        lambda: found in ("left!19,0,0", "right!19,0,0"),
     ][place]()
 
 
-def go_through(driver, digits):
+def sides_in_order(wanted, answers):
+    """Whether the sides that one comparison named, refused from later and later requests on, are the left one and then
+    the right one; all of these, if they are wanted."""
+    named = [it.partition("!")[0] for it in answers if MEMORY.search(it)]
+    return named == sorted(named) and (wanted is None or set(named) == wanted)
+
+
+def go_through(driver, case):
     """How many answers were Memory, and what went wrong."""
-    status, usual, asked = driver.run(digits)
-    wrong, reported, sides = [], 0, []
-    if status != 0 or len(usual) != 7:
+    case, first = case
+    status, usual, asked = driver.run(case)
+    digits = case.given.hex()
+    wrong, reported, comparisons = [], 0, []
+    if status != 0 or len(usual) != WORDS:
         return 0, [f"{digits}: {status} {usual}"]
-    if driver.run(digits, idle=9) != (status, usual, asked):
-        wrong.append(f"{digits}: other answers or requests beside calls that take no memory")
-    for refused in range(1, 1000):
-        status, found, _ = driver.run(digits, refused_from=refused)
-        if found == usual:
-            break
+    if case.idle:
+        idle = driver.run(case, idle=9)
+        if idle[:2] != (status, usual) or len(idle[2]) != len(asked):
+            wrong.append(f"{digits}: other answers or requests beside calls that take no memory")
+    for refused in range(first, len(asked) + 1):
+        status, found, _ = driver.run(case, refused_from=refused)
         if status != 0:
             # the driver's own memory
             continue
@@ -87,16 +106,27 @@ def go_through(driver, digits):
                 reported += 1
                 if not is_refused(place, word, before):
                     wrong.append(f"{digits}, from request {refused}: {word} in place of {before}")
-        sides.append(found[6].partition("!")[0])
-    # the left one, then the right one
-    named = [it for it in sides if it in ("left", "right")]
-    if sorted(named) != named or set(named) != (set() if digits in CANONICAL else {"left", "right"}):
-        wrong.append(f"{digits}: the sides {named}")
+        comparisons.append(found[6:])
+    for place, wanted in enumerate(case.sides or (None, None)):
+        if not sides_in_order(wanted, [it[place] for it in comparisons]):
+            wrong.append(f"{digits}: the sides {[it[place] for it in comparisons]}")
     return reported, wrong
 
 
-def refuse_calls(program, library, folder):
+def documents():
+    """The documents: what is compared wants memory on both sides, but for canonical bytes."""
+    limits = Limits(64, 65536, ANY_KEYS)
+    both = {"left", "right"}
+    for digits in DOCUMENTS:
+        yield Case(bytes.fromhex(digits), limits, (both, both), True), 1
+    for digits in CANONICAL:
+        yield Case(bytes.fromhex(digits), limits, (set(), {"left"}), True), 1
+
+
+def refuse_calls(program, library, folder, rows):
     """How many answers of the driver were Memory, and what went wrong."""
-    driver = Driver(program, library, folder)
-    found = [go_through(driver, digits) for digits in DOCUMENTS + CANONICAL]
+    drivers = [Driver(program, library, f"{folder}/driver-{number}") for number in range(os.cpu_count() or 1)]
+    cases = [Case(row.given, row.limits) for row in rows]
+    cases = unlike(lambda driver, case: driver.run(case)[2], drivers, cases)
+    found = of_all(go_through, drivers, [*documents(), *cases])
     return sum(reported for reported, _ in found), [line for _, lines in found for line in lines]

@@ -4,14 +4,14 @@
     fuzz/run.py --library dist/lib/libnaltvigo.so [--program crates/cborc/out/cborc]
                 [--readers crates/answers/out/answers] [--seconds 10] [--seed 1]
 
-Each input goes through the calls that must agree on it: canonicalise, in both orders, and what it answers
-once more; check_canonical, check_valid, compare, diagnostic. With the program every tenth goes through show,
-events, canon, compare, and check and check --strict over a sequence; with the readers each goes through read_tree
-and then encode, read_strict, StrictReader call by call with what it asks of its reader, and Sequence, over readers
-that give 1, 2, 3 or 4096 bytes a read, and through read_view, its tree and then encode. One half is read for keys
-of any kind, the other for integers and texts. First come the rows of the conformance tables, whose answers were
-worked out by hand, and large maps out of order (large.py). The first disagreement is reported with its input and the
-seed, and the status is 1. The time ends the run; what a seed tries is always the same.
+Each input goes through the calls that must agree on it: canonicalise, in both orders, and what it answers once more;
+check_canonical, check_valid, compare, diagnostic. With the program every tenth goes through show, events, canon, compare,
+and check and check --strict over a sequence, and each row of the tables through canon, check and check --strict; with
+the readers each goes through read_tree and then encode, read_strict, StrictReader call by call with what it asks of its
+reader, and Sequence, over readers that give 1, 2, 3 or 4096 bytes a read, and through read_view, its tree and then
+encode. One half is read for keys of any kind, the other for integers and texts. First come the rows of the conformance
+tables, whose answers were worked out by hand, and large maps out of order (large.py). The first disagreement is reported
+with its input and the seed, and the status is 1. The time ends the run; what a seed tries is always the same.
 """
 
 import argparse
@@ -29,7 +29,7 @@ from items import Items
 from large import large_maps
 from library import DIFFERENT, OK, Library
 from reference import ANY_KEYS, INTEGERS_AND_TEXTS, KEY_KIND, KEYS, REASONS, Answers, Limits, listing
-from table import CALLS, rows
+from table import CALLS, chunk_rows, rows
 from values import BYTEWISE, LENGTH_FIRST, canonical, diagnostic, meaning
 
 # The limits where none are tried.
@@ -37,6 +37,8 @@ USUAL = Limits(256, 1 << 20, ANY_KEYS)
 
 # How many bytes a read gives at most.
 PARTS = (1, 3, 4096)
+
+ORDERS = ((BYTEWISE, "bytewise"), (LENGTH_FIRST, "length"))
 
 
 class Program:
@@ -153,6 +155,26 @@ def words_of(limits):
     return "--depth", str(limits.depth), "--bytes", str(limits.most), "--keys", KEYS[limits.keys]
 
 
+def try_canon(program, answers, order, name):
+    found = answers.canonicalised(order)
+    wanted = (0, found, b"") if isinstance(found, bytes) else (1, b"", line(found))
+    words = words_of(answers.limits)
+    expect(f"canon --order {name}", wanted, program.run("canon", "--order", name, *words, "given", "-", given=answers.given))
+
+
+def try_row(program, answers):
+    """The subcommands that judge one item, on a row."""
+    words = words_of(answers.limits)
+    checks = [((), answers.plain)]
+    for order, name in ORDERS:
+        checks.append((("--strict", "--order", name), answers.strict[order]))
+        try_canon(program, answers, order, name)
+    for options, verdict in checks:
+        refused = answers.whole(verdict)
+        wanted = (1, b"", line(refused)) if refused else (0, b"accepted %d bytes\n" % answers.size, b"")
+        expect(f"check {' '.join(options)}", wanted, program.run("check", *options, *words, "given", given=answers.given))
+
+
 def try_program(program, answers, others):
     given, words = answers.given, words_of(answers.limits)
     plain = answers.whole(answers.plain)
@@ -164,13 +186,11 @@ def try_program(program, answers, others):
     inputs = [it for it in others if it] + [given]
     checked = program.run("check", "--seq", *words, "given", given=b"".join(inputs))
     expect("check --seq", sequence(inputs, answers.limits), checked)
-    for order, name in ((BYTEWISE, "bytewise"), (LENGTH_FIRST, "length")):
+    for order, name in ORDERS:
         wanted = sequence(inputs, answers.limits, order)
         checked = program.run("check", "--strict", "--seq", "--order", name, *words, "given", given=b"".join(inputs))
         expect(f"check --strict --seq --order {name}", wanted, checked)
-        found = answers.canonicalised(order)
-        wanted = (0, found, b"") if isinstance(found, bytes) else (1, b"", line(found))
-        expect(f"canon --order {name}", wanted, program.run("canon", "--order", name, *words, "given", "-", given=given))
+        try_canon(program, answers, order, name)
 
 
 def try_compare(program, left, right):
@@ -211,12 +231,14 @@ class Tries:
 
     def table(self):
         """The rows, on which the definitions of reference.py are tried too."""
-        for row in rows():
+        for row in rows() + chunk_rows():
             answers = self.answers(row.given, row.limits)
             for order in (BYTEWISE, LENGTH_FIRST):
                 expect("the row's canonical bytes", row.canonical[order], answers.canonicalised(order))
                 expect("the row by the strict rules", row.strict[order], answers.strict[order] or answers.size)
             try_library(self.library, answers, len(row.given))
+            if self.program:
+                try_row(self.program, answers)
             if self.readers:
                 self.readers.add(answers)
         for given, part, word in CALLS:

@@ -107,3 +107,20 @@ def rows():
         with open(path, encoding="utf-8") as file:
             lines += [line for line in file.read().splitlines() if not line.startswith("//")]
     return [row_of(line) for line in lines if line.count("|") >= 4]
+
+
+def chunk_rows():
+    """Each byte behind the opener of a string in chunks: a chunk of the string's type, whose length or bytes or break are
+    missing, or the break; any other byte is no chunk."""
+    limits, indefinite = limits_of(""), [Refusal(15, 0, 1)] * 2
+    found = []
+    for opener, empty in ((0x5F, 0x40), (0x7F, 0x60)):
+        for byte in range(256):
+            if byte == 0xFF:
+                becomes = bytes([empty])
+            elif empty <= byte <= empty + 27:
+                becomes = Refusal(1, 2, 2)
+            else:
+                becomes = Refusal(8, 1, 2)
+            found.append(Row(bytes([opener, byte]), limits, [becomes] * 2, indefinite))
+    return found

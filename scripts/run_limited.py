@@ -1,74 +1,21 @@
 #!/usr/bin/env python3
-"""Runs the built program where memory ends, the stack or the disk, or it is killed: what it says then, and what it leaves.
+"""Runs the built program where memory ends, the stack or the disk: what it says then, and what it leaves.
 
     scripts/run_limited.py [PROGRAM]
 
 run_program.py does this too.
 """
 
-import ctypes
 import filecmp
-import itertools
 import os
 import re
-import signal
 import subprocess
 import tempfile
 import time
 
-from running import PROGRAM, end, expect, faults, limited, low, run, short
+from running import BEFORE, CLAIMS, PROGRAM, Place, end, expect, faults, limited, low, short
 
-# The claims of a token (RFC 8392), 75 bytes of them.
-CLAIMS = (
-    b"\xa7\x01\x75coap://as.example.com\x02\x66erikwm\x03\x73coaps://example.com"
-    b"\x04\x1a\x56\x12\xae\xb0\x05\x1a\x56\x10\xd9\xf0\x06\x1a\x56\x10\xd9\xf0\x07\x42\x0b\x71"
-)
 MEMORY = b"out of memory\n"
-BEFORE = b"\x80"
-
-
-class Place:
-    """A folder for the runs of one test."""
-
-    def __init__(self, folder):
-        self.folder = folder
-
-    def path(self, name):
-        return os.path.join(self.folder, name)
-
-    def clear(self):
-        for name in os.listdir(self.folder):
-            os.remove(self.path(name))
-
-    def put(self, name, content, holes=0):
-        """Writes a file, with so many zeros behind that take no scratch."""
-        with open(self.path(name), "wb") as file:
-            file.write(content)
-            file.truncate(len(content) + holes)
-
-    def get(self, name):
-        if not os.path.exists(self.path(name)):
-            return None
-        with open(self.path(name), "rb") as file:
-            return file.read()
-
-    def remove(self, name):
-        if os.path.exists(self.path(name)):
-            os.remove(self.path(name))
-
-    def wide(self, name, size):
-        """Writes a byte string of so many zeros."""
-        self.put(name, b"\x5a" + size.to_bytes(4, "big"), size)
-
-    def run(self, words, **more):
-        return run(words, cwd=self.folder, **more)
-
-    def keeps(self, name, out, files):
-        """Wants OUT as it was, and no other file than these."""
-        if self.get(out) != BEFORE:
-            faults.append(f"{name}: OUT is not as it was")
-        if sorted(os.listdir(self.folder)) != sorted(files):
-            faults.append(f"{name}: files are {sorted(os.listdir(self.folder))}, and not {sorted(files)}")
 
 
 # ---- memory
@@ -153,95 +100,6 @@ def too_little(place):
         name = f"too little memory: {' '.join(words)}"
         expect(name, place.run(words, preexec_fn=memory), 3, b"", reported)
         place.keeps(name, "out", files)
-
-
-# ---- kills
-
-# Requests of ptrace (2).
-TRACE_ME, TO_SYSTEM_CALL = 0, 24
-system = ctypes.CDLL(None)
-system.ptrace.argtypes = [ctypes.c_long] * 4
-
-
-def kill_at(words, folder, stops):
-    """Kills a run behind so many stops, of which each system call has one before and one behind it. Answers whether it
-    came so far."""
-    quiet = {"stdout": subprocess.DEVNULL, "stderr": subprocess.DEVNULL}
-    child = subprocess.Popen([PROGRAM, *words], cwd=folder, preexec_fn=lambda: system.ptrace(TRACE_ME, 0, 0, 0), **quiet)
-    _, status = os.waitpid(child.pid, 0)
-    while stops and os.WIFSTOPPED(status):
-        system.ptrace(TO_SYSTEM_CALL, child.pid, 0, 0)
-        _, status = os.waitpid(child.pid, 0)
-        stops -= 1
-    is_there = os.WIFSTOPPED(status)
-    if is_there:
-        os.kill(child.pid, signal.SIGKILL)
-        _, status = os.waitpid(child.pid, 0)
-    child.returncode = os.waitstatus_to_exitcode(status)
-    return is_there
-
-
-def look(place, name, out, others, before, after):
-    """What a killed run left: whether OUT was written, and how many new files."""
-    found = place.get(out)
-    if found not in (before, after):
-        faults.append(f"{name}: OUT holds neither what was there nor what is to be")
-    left = set(os.listdir(place.folder)) - {out, *others}
-    for it in left:
-        is_named = re.fullmatch(re.escape(out) + r"\.[0-9a-f]{16}\.tmp", it)
-        if len(left) > 1 or not is_named or not after.startswith(place.get(it)):
-            faults.append(f"{name}: left {sorted(left)}")
-    return found == after, len(left)
-
-
-def kills(place):
-    """Runs killed at each of their system calls: OUT as it was with a new file beside it or none, or as it is to be."""
-    if not kill_at(["check", "in"], place.folder, 0):
-        print("limited: no run is to be stopped here")
-        return
-    # Three byte strings, whose heads are not the shortest.
-    items, canonical = ((head + bytes(5_000)) * 3 for head in (b"\x5a\x00\x00\x13\x88", b"\x59\x13\x88"))
-    rows = [
-        ("a file", ["canon", "in", "out"], "out", b"\x18\x00", BEFORE, b"\x00"),
-        ("a new file", ["canon", "in", "out"], "out", b"\x18\x00", None, b"\x00"),
-        ("IN is OUT", ["canon", "in", "in"], "in", b"\x18\x00", b"\x18\x00", b"\x00"),
-        ("a sequence", ["canon", "--seq", "in", "out"], "out", items, BEFORE, canonical),
-    ]
-    for title, words, out, given, before, after in rows:
-        seen = set()
-        for stops in itertools.count():
-            place.clear()
-            place.put("in", given)
-            if before:
-                place.put(out, before)
-            goes_on = kill_at(words, place.folder, stops)
-            seen.add(look(place, f"killed at stop {stops}, {title}", out, ["in"], before, after))
-            if not goes_on:
-                break
-        # Before the new file was made, while it was there, and behind that.
-        if seen != {(False, 0), (False, 1), (True, 0)}:
-            faults.append(f"killed, {title}: {sorted(seen)} were seen")
-
-
-def kills_of_long_runs(place):
-    """Runs killed while they write much: as their new file is there, holds something, holds all."""
-    count = 32_000_000 // len(CLAIMS)
-    rows = [(["canon", "--bytes", "40000000"], b"\x5a\x02\x00\x00\x00" + bytes(1 << 25)), (["canon", "--seq"], CLAIMS * count)]
-    for words, content in rows:
-        for size in (0, 1, len(content)):
-            place.clear()
-            place.put("in", content)
-            place.put("out", BEFORE)
-            child = subprocess.Popen([PROGRAM, *words, "in", "out"], cwd=place.folder)
-            while child.poll() is None:
-                try:
-                    if any(it.name.endswith(".tmp") and it.stat().st_size >= size for it in os.scandir(place.folder)):
-                        break
-                except FileNotFoundError:
-                    break
-            child.kill()
-            child.wait()
-            look(place, f"{words} killed with {size} bytes", "out", ["in"], BEFORE, content)
 
 
 # ---- disks
@@ -329,7 +187,7 @@ def deep(place):
                         faults.append(f"{opens!r}, {levels} deep: {command}: {ended.returncode} {ended.stderr[:200]!r}")
 
 
-TESTS = (small_items, one_item, too_little, kills, kills_of_long_runs, small_disks, short_files, deep)
+TESTS = (small_items, one_item, too_little, small_disks, short_files, deep)
 
 
 def test():

@@ -14,6 +14,8 @@ import subprocess
 import sys
 
 import completions
+import run_explained
+import run_killed
 import run_limited
 from running import FOLDER, PROGRAM, ROOT, end, expect, faults, limited, run, short, write
 
@@ -316,40 +318,6 @@ def links():
     expect("a link into no folder", run(["canon", "--explain", "-", "astray"], b"\x00"), 3, b"", reported)
 
 
-def explained():
-    ended = run(["check", "--explain", "-"], b"\xa1\x61a\x82\x00\xf9\x00\x00")
-    lines = b"""refused 5 Float at 5
-  in standard input
-  A floating-point number begins here; no float is accepted.
-  Write it as an integer, a text, or a tag over integers.
-  bytes from 0: a1 61 61 82 00 f9 00 00
-"""
-    wanted = lines + b" " * 31 + b'^^\n  at $."a"[1]\n'
-    expect("an explanation", ended, 1, b"", wanted)
-
-
-def causes():
-    os.mkdir(os.path.join(FOLDER, "folder"))
-    item = write("item", b"\x00")
-    beside = b"  A new file beside it was not to be made."
-    absent, folder = b"  There is no such file or folder.\n", b"  It is a folder.\n"
-    expect("why: no file", run(["check", "--explain", "absent"]), 3, b"", b"cannot read absent\n" + absent)
-    expect("why: a folder", run(["show", "--explain", "folder"]), 3, b"", b"cannot read folder\n" + folder)
-    expect("a folder", run(["show", "folder"]), 3, b"", b"cannot read folder\n")
-    expect("why: no folder", run(["canon", "--explain", "-", "absent/out"], b"\x00"), 3, b"", b"cannot write absent/out\n" + beside + b" There is no such file or folder.\n")
-    expect("why: OUT is a folder", run(["canon", "--explain", "-", "folder"], b"\x00"), 3, b"", b"cannot write folder\n" + folder)
-    expect("why: the path has a file in it", run(["check", "--explain", "item/x"]), 3, b"", b"cannot read item/x\n  A part of the path is no folder.\n")
-    expect("why: a path with an escape", run(["check", "--explain", "a\x1b[0m"]), 3, b"", b"cannot read a\\u001b[0m\n" + absent)
-    if os.geteuid() != 0:
-        os.chmod(item, 0)
-        expect("why: not permitted", run(["check", "--explain", "item"]), 3, b"", b"cannot read item\n  It is not permitted.\n")
-        write("folder/out", b"")
-        os.chmod(os.path.join(FOLDER, "folder"), 0o555)
-        reported = b"cannot write folder/out\n" + beside + b" It is not permitted.\n"
-        expect("why: the folder is not to be written", run(["canon", "--explain", "-", "folder/out"], b"\x00"), 3, b"", reported)
-        os.chmod(os.path.join(FOLDER, "folder"), 0o755)
-
-
 def options_of(command):
     """The long options that the program's own help names."""
     text = run([command, "--help"] if command else ["--help"]).stdout.decode()
@@ -380,8 +348,10 @@ def pages():
                 faults.append(f"share/{name}: {shell} cannot read it")
 
 
-for part in (words, streams, outputs_that_fail, files, sequences, parts, leftovers, links, explained, causes, pages):
+for part in (words, streams, outputs_that_fail, files, sequences, parts, leftovers, links, pages):
     part()
+run_explained.test()
 run_limited.test()
+run_killed.test()
 faults += completions.faults()
 end("program")

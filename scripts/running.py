@@ -10,6 +10,13 @@ import subprocess
 import sys
 import tempfile
 
+# What stands in OUT before a run.
+BEFORE = b"\x80"
+# The claims of a token (RFC 8392), 75 bytes of them.
+CLAIMS = (
+    b"\xa7\x01\x75coap://as.example.com\x02\x66erikwm\x03\x73coaps://example.com"
+    b"\x04\x1a\x56\x12\xae\xb0\x05\x1a\x56\x10\xd9\xf0\x06\x1a\x56\x10\xd9\xf0\x07\x42\x0b\x71"
+)
 ROOT = os.path.dirname(os.path.dirname(os.path.abspath(__file__)))
 faults = []
 
@@ -59,6 +66,50 @@ def low(kib):
 def short(size):
     """What keeps each file that a run writes to so many bytes."""
     return lambda: resource.setrlimit(resource.RLIMIT_FSIZE, (size, size))
+
+
+class Place:
+    """A folder for the runs of one test."""
+
+    def __init__(self, folder):
+        self.folder = folder
+
+    def path(self, name):
+        return os.path.join(self.folder, name)
+
+    def clear(self):
+        for name in os.listdir(self.folder):
+            os.remove(self.path(name))
+
+    def put(self, name, content, holes=0):
+        """Writes a file, with so many zeros behind that take no scratch."""
+        with open(self.path(name), "wb") as file:
+            file.write(content)
+            file.truncate(len(content) + holes)
+
+    def get(self, name):
+        if not os.path.exists(self.path(name)):
+            return None
+        with open(self.path(name), "rb") as file:
+            return file.read()
+
+    def remove(self, name):
+        if os.path.exists(self.path(name)):
+            os.remove(self.path(name))
+
+    def wide(self, name, size):
+        """Writes a byte string of so many zeros."""
+        self.put(name, b"\x5a" + size.to_bytes(4, "big"), size)
+
+    def run(self, words, **more):
+        return run(words, cwd=self.folder, **more)
+
+    def keeps(self, name, out, files):
+        """Wants OUT as it was, and no other file than these."""
+        if self.get(out) != BEFORE:
+            faults.append(f"{name}: OUT is not as it was")
+        if sorted(os.listdir(self.folder)) != sorted(files):
+            faults.append(f"{name}: files are {sorted(os.listdir(self.folder))}, and not {sorted(files)}")
 
 
 def end(name):

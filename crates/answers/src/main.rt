@@ -12,8 +12,9 @@
 //! piece), `none` or a refusal; then `taken`, `open`, `spans`, `kept` and the length of `piece`.
 //! Behind the calls stands for how many bytes each read was asked.
 //!
-//! A line that begins with `memory` and a count has what [`memory`] says, of a valid item; a line of `long`
-//! and a count what [`long`] says.
+//! A line that begins with `memory` and a count has what [`memory`] says. One that begins with `arena`
+//! has what `read_view` answers, and how many bytes its arena holds then. A line of `long` and a count has
+//! what [`long`] says.
 #![tactic(auto)]
 
 mod asked;
@@ -70,19 +71,17 @@ fn answer_line<W: Write>(alloc: Global, line: &str, out: &mut W) -> io::Result<(
     if let Some(rest) = line.strip_prefix("memory ") {
         let (idle, rest) = rest.split_once(' ').ok_or_else(malformed)?;
         let idle = idle.parse::<u32>().map_err(|_| malformed())?;
-        let Some((limits, digits)) = limits_of(rest) else {
-            return Err(malformed());
-        };
-        let bytes = hex::decode(alloc, digits).map_err(|_| malformed())?;
+        let (limits, bytes) = input_of(alloc, rest)?;
         return answer_memory(alloc, &bytes, limits, idle, out);
+    }
+    if let Some(rest) = line.strip_prefix("arena ") {
+        let (limits, bytes) = input_of(alloc, rest)?;
+        return answer_arena(alloc, &bytes, limits, out);
     }
     if let Some(count) = line.strip_prefix("long ") {
         return answer_long(alloc, count.parse::<u32>().map_err(|_| malformed())?, out);
     }
-    let Some((limits, digits)) = limits_of(line) else {
-        return Err(malformed());
-    };
-    let bytes = hex::decode(alloc, digits).map_err(|_| malformed())?;
+    let (limits, bytes) = input_of(alloc, line)?;
     for part in PARTS {
         answer_tree(alloc, &bytes, part, limits, out)?;
         answer_strict(alloc, &bytes, part, limits, out)?;
@@ -94,6 +93,15 @@ fn answer_line<W: Write>(alloc: Global, line: &str, out: &mut W) -> io::Result<(
     answer_view(alloc, &bytes, limits, out)?;
     answer_sequence(alloc, &bytes, limits, out)?;
     writeln!(out)
+}
+
+// The limits that a line begins with, and the bytes that the digits behind them spell.
+fn input_of(alloc: Global, line: &str) -> io::Result<(Limits, Vec<u8>)> {
+    let Some((limits, digits)) = limits_of(line) else {
+        return Err(malformed());
+    };
+    let bytes = hex::decode(alloc, digits).map_err(|_| malformed())?;
+    Ok((limits, bytes))
 }
 
 // The limits that a line begins with, and the digits behind them.
@@ -165,6 +173,21 @@ fn answer_view<W: Write>(
         }
     };
     write!(out, ":{} ", (bytes.len() as u64).saturating_sub(taken))
+}
+
+// How many bytes the view has, or a refusal, and how many bytes the arena has taken for it.
+fn answer_arena<W: Write>(
+    alloc: Global,
+    bytes: &[u8],
+    limits: Limits,
+    out: &mut W,
+) -> io::Result<()> {
+    let arena = Bump::new(alloc);
+    match read_view(alloc, bytes, limits, &arena) {
+        Ok((_, count)) => write!(out, "{count}")?,
+        Err(refusal) => put_refusal(refusal, out)?,
+    }
+    writeln!(out, " {}", arena.allocated_bytes())
 }
 
 fn answer_strict<W: Write>(

@@ -3,7 +3,7 @@
 use crate::writing::{put_hex, put_refusal};
 use bumpalo::Bump;
 use cbor_builder::CanonBuilder;
-use cbor_head::{KeyOrder, Limits, Major};
+use cbor_head::{KeyOrder, Limits, Major, Reason};
 use cbor_item::{Tree, ViewBuilder, encode, encode_to, same};
 use cbor_reader::{Sequence, Side, StrictReader, read_tree, read_view, same_meaning};
 use std::alloc::{AllocError, Global};
@@ -11,8 +11,10 @@ use std::io::{self, ErrorKind, Write};
 
 /// The answers of `Tree::of`, and whether the item is the one that was given; `encode`; `encode_to`,
 /// and how many bytes its writer took; a `CanonBuilder`; `next_strict` until it gives none;
-/// `read_view`, and whether the tree of the view is the same; and `same_meaning` of the bytes and an
-/// array of the same item. So many times each call that takes no memory is made beside them.
+/// `read_view`, and whether the tree of the view is the same; and `same_meaning`, of the bytes and an
+/// array of the same item, and of an empty array and the bytes. Bytes that are no valid item have no
+/// tree: then `-` stands for each of the first three. So many times each call that takes no memory is
+/// made beside them.
 pub(crate) fn answer_memory<W: Write>(
     alloc: Global,
     bytes: &[u8],
@@ -25,7 +27,45 @@ pub(crate) fn answer_memory<W: Write>(
     let Ok(array) = array_of(alloc, bytes) else {
         return Err(io::Error::from(ErrorKind::OutOfMemory));
     };
-    call_idle(alloc, bytes, limits, &twin, idle);
+    call_idle(alloc, bytes, limits, idle);
+    match (tree, &twin) {
+        (Some(tree), Some(twin)) => put_tree(alloc, tree, twin, idle, out)?,
+        _ => write!(out, "- - - ")?,
+    }
+    match build(alloc, idle) {
+        Ok(bytes) => put_hex(&bytes, out)?,
+        Err(_) => write!(out, "!")?,
+    }
+    put_items(alloc, bytes, limits, out)?;
+    put_view(alloc, bytes, limits, &twin, idle, out)?;
+    put_sameness(alloc, bytes, &array, limits, out)?;
+    put_sameness(alloc, b"\x9f\xff", bytes, limits, out)?;
+    writeln!(out)
+}
+
+// The tree of the bytes, if they begin with a valid item, unless the driver's own memory is refused.
+fn tree_of(alloc: Global, mut bytes: &[u8], limits: Limits) -> io::Result<Option<Tree>> {
+    match read_tree(alloc, &mut bytes, limits) {
+        Ok((tree, _)) => Ok(Some(tree)),
+        Err(refusal) if matches!(refusal.reason, Reason::Memory) => {
+            Err(io::Error::from(ErrorKind::OutOfMemory))
+        }
+        Err(_) => Ok(None),
+    }
+}
+
+// What `Tree::of` answers of the tree's item, and `encode` and `encode_to` of the tree.
+fn put_tree<W: Write>(
+    alloc: Global,
+    tree: Tree,
+    twin: &Tree,
+    idle: u32,
+    out: &mut W,
+) -> io::Result<()> {
+    for _ in 0..idle {
+        let _ = same(twin, twin);
+        let _ = twin.item();
+    }
     let tree = if idle > 0 {
         Tree::from_valid(tree.into_item())
     } else {
@@ -41,35 +81,8 @@ pub(crate) fn answer_memory<W: Write>(
             Tree::from_valid(item)
         }
     };
-    write!(out, ",{} ", same(&tree, &twin))?;
-    put_encoded(alloc, &tree, out)?;
-    match build(alloc, idle) {
-        Ok(bytes) => put_hex(&bytes, out)?,
-        Err(_) => write!(out, "!")?,
-    }
-    write!(out, " ")?;
-    put_items(alloc, bytes, limits, out)?;
-    put_view(alloc, bytes, limits, &twin, idle, out)?;
-    match same_meaning(alloc, bytes, &array, limits) {
-        Ok(is_same) => writeln!(out, " {is_same}"),
-        Err((side, refusal)) => {
-            write!(
-                out,
-                " {}",
-                if side == Side::Left { "left" } else { "right" }
-            )?;
-            put_refusal(refusal, out)?;
-            writeln!(out)
-        }
-    }
-}
-
-// The tree of the bytes, unless the driver's own memory is refused.
-fn tree_of(alloc: Global, mut bytes: &[u8], limits: Limits) -> io::Result<Tree> {
-    match read_tree(alloc, &mut bytes, limits) {
-        Ok((tree, _)) => Ok(tree),
-        Err(_) => Err(io::Error::from(ErrorKind::OutOfMemory)),
-    }
+    write!(out, ",{} ", same(&tree, twin))?;
+    put_encoded(alloc, &tree, out)
 }
 
 // An array of the one item.
@@ -82,7 +95,7 @@ fn array_of(alloc: Global, bytes: &[u8]) -> Result<Vec<u8>, AllocError> {
 
 // The calls that take no memory. The reader is asked behind the first events, so that it keeps what
 // it has read of keys.
-fn call_idle(alloc: Global, bytes: &[u8], limits: Limits, tree: &Tree, idle: u32) {
+fn call_idle(alloc: Global, bytes: &[u8], limits: Limits, idle: u32) {
     let mut events = StrictReader::new(alloc, bytes, limits, KeyOrder::Bytewise);
     for _ in 0..4 {
         let _ = events.next();
@@ -96,8 +109,6 @@ fn call_idle(alloc: Global, bytes: &[u8], limits: Limits, tree: &Tree, idle: u32
         let _ = events.spans();
         let _ = events.kept();
         let _ = CanonBuilder::new(alloc, KeyOrder::Bytewise);
-        let _ = same(tree, tree);
-        let _ = tree.item();
     }
 }
 
@@ -147,6 +158,7 @@ fn build(alloc: Global, idle: u32) -> Result<Vec<u8>, AllocError> {
 // The counts of the sequence's items, each with a comma.
 fn put_items<W: Write>(alloc: Global, bytes: &[u8], limits: Limits, out: &mut W) -> io::Result<()> {
     let mut sequence = Sequence::new(alloc, bytes, limits);
+    write!(out, " items,")?;
     for _ in 0..=bytes.len() {
         match sequence.next_strict(KeyOrder::Bytewise) {
             Some(Ok(count)) => write!(out, "{count},")?,
@@ -162,7 +174,7 @@ fn put_view<W: Write>(
     alloc: Global,
     bytes: &[u8],
     limits: Limits,
-    tree: &Tree,
+    tree: &Option<Tree>,
     idle: u32,
     out: &mut W,
 ) -> io::Result<()> {
@@ -178,11 +190,33 @@ fn put_view<W: Write>(
                 let _ = view.get_integer(1).is_some();
             }
             write!(out, "{count},")?;
-            match view.to_tree(alloc) {
-                Ok(viewed) => write!(out, "{}", same(&viewed, tree)),
-                Err(refusal) => put_refusal(refusal, out),
+            match (view.to_tree(alloc), tree) {
+                (Ok(viewed), Some(tree)) => write!(out, "{}", same(&viewed, tree)),
+                (Ok(_), None) => write!(out, "no tree"),
+                (Err(refusal), _) => put_refusal(refusal, out),
             }
         }
         Err(refusal) => put_refusal(refusal, out),
+    }
+}
+
+// Whether both mean the same, or the side that is refused.
+fn put_sameness<W: Write>(
+    alloc: Global,
+    left: &[u8],
+    right: &[u8],
+    limits: Limits,
+    out: &mut W,
+) -> io::Result<()> {
+    match same_meaning(alloc, left, right, limits) {
+        Ok(is_same) => write!(out, " {is_same}"),
+        Err((Side::Left, refusal)) => {
+            write!(out, " left")?;
+            put_refusal(refusal, out)
+        }
+        Err((Side::Right, refusal)) => {
+            write!(out, " right")?;
+            put_refusal(refusal, out)
+        }
     }
 }

@@ -8,6 +8,7 @@ mod conformance_table;
 mod cut_short;
 mod failing;
 mod heads;
+mod initial_bytes_table;
 mod keys;
 mod keys_table;
 mod promises;

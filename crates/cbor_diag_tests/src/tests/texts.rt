@@ -3,8 +3,8 @@
 use std::alloc::Global;
 use std::test::Fail;
 
-// As RFC 8949, Appendix A, has both, and then others. Of a string in chunks and of containers without
-// a length it is the text of their value.
+// The bytes of RFC 8949, Appendix A, but for floats, and then others. Of a string in chunks and of containers
+// without a length it is the text of their value.
 pub(super) static TEXTS: &str = r#"
 00 | 0
 0a | 10
@@ -42,6 +42,28 @@ a26161016162820203 | {"a": 1, "b": [2, 3]}
 bf6346756ef563416d7421ff | {"Fun": true, "Amt": -2}
 c11a514b67b0 | 1(1363896240)
 c249010000000000000000 | 2(h'010000000000000000')
+01 | 1
+1818 | 24
+1819 | 25
+1a000f4240 | 1000000
+c349010000000000000000 | 3(h'010000000000000000')
+d82076687474703a2f2f7777772e6578616d706c652e636f6d | 32("http://www.example.com")
+6161 | "a"
+62c3bc | "ü"
+63e6b0b4 | "水"
+64f0908591 | "𐅑"
+83010203 | [1, 2, 3]
+98190102030405060708090a0b0c0d0e0f101112131415161718181819 | [1, 2, 3, 4, 5, 6, 7, 8, 9, 10, 11, 12, 13, 14, 15, 16, 17, 18, 19, 20, 21, 22, 23, 24, 25]
+a201020304 | {1: 2, 3: 4}
+826161a161626163 | ["a", {"b": "c"}]
+a56161614161626142616361436164614461656145 | {"a": "A", "b": "B", "c": "C", "d": "D", "e": "E"}
+9fff | []
+9f01820203820405ff | [1, [2, 3], [4, 5]]
+83018202039f0405ff | [1, [2, 3], [4, 5]]
+83019f0203ff820405 | [1, [2, 3], [4, 5]]
+9f0102030405060708090a0b0c0d0e0f101112131415161718181819ff | [1, 2, 3, 4, 5, 6, 7, 8, 9, 10, 11, 12, 13, 14, 15, 16, 17, 18, 19, 20, 21, 22, 23, 24, 25]
+bf61610161629f0203ffff | {"a": 1, "b": [2, 3]}
+826161bf61626163ff | ["a", {"b": "c"}]
 43ff0a9c | h'ff0a9c'
 69c3bce6b0b4f0908591 | "ü水𐅑"
 64225c0a7f | "\"\\\u000a\u007f"

@@ -14,14 +14,16 @@
 //!
 //! The bytes of the first rows are those of the examples of appendix A without floating-point
 //! numbers. Canonical bytes and refusals were worked out by hand from the definitions. Rows of
-//! refusals stand in `refusals_table.rt` too, those of kinds of keys in `keys_table.rt`.
+//! refusals stand in `refusals_table.rt` too, those of kinds of keys in `keys_table.rt`, those of
+//! each first byte in `initial_bytes_table.rt`.
 
+use super::initial_bytes_table::INITIAL_BYTES;
 use super::keys_table::KINDS_OF_KEYS;
 use super::refusals_table::REFUSALS;
 
-/// The rows of this file and of the two others.
-pub(super) fn tables() -> [&'static str; 3] {
-    [ACCEPTED, REFUSALS, KINDS_OF_KEYS]
+/// The rows of this file and of the three others.
+pub(super) fn tables() -> [&'static str; 4] {
+    [ACCEPTED, REFUSALS, KINDS_OF_KEYS, INITIAL_BYTES]
 }
 
 static ACCEPTED: &str = r#"
