@@ -1,8 +1,8 @@
 -- Why `events` ends without the lines of a whole file.
 use Rattle.std.specs.Prelude.{ℕ, ◌≡◌, ◌≢◌, ◌<◌, ◌≤◌, ◌⊎◌, List, length, Option}
 use Rattle.std.specs.Io.KnownBytes.{Keeps}
-use Rattle.cbor_head.specs.{Prelude.Bounds, Prelude.refusal, declared.reason.Reason.TheVariants.Read, declared.reason.Reason.TheVariants.Trailing, declared.reason.Reason.TheVariants.Write}
-use Rattle.cbor_head.specs.declared.reason.Refusal.{Refusal}
+use Rattle.cbor_head.specs.declared.reason.Reason.TheVariants.{Read, Trailing, Write}
+use Rattle.cbor_head.specs.{Prelude.Bounds, Prelude.refusal, declared.reason.Refusal.Refusal}
 use Rattle.cborc_files.specs.Folder.{Files}
 use Rattle.cborc_commands.specs.declared.fault.Fault.TheVariants as faults
 use Rattle.cborc_commands.specs.{EventStyles.AreListed, EventStyles.AreUnlisted, declared.request.EventStyle.EventStyle, Input.IsInput, Fault.IsOfInput}
