@@ -1,5 +1,5 @@
 -- A whole head, from where an item is expected.
-use Rattle.std.proofs.Common.{◌≡◌, ℕ, suc, ◌+◌, ◌-◌, ◌*◌, ◌/◌, ◌%◌, ◌^◌, ◌<◌, ◌≤◌, true, false, List, [], ◌∷◌, ◌++◌, length, take, refl, sym, ap, ◌∙◌, arith, append-nil, length-append}
+use Rattle.std.proofs.Common.{◌≡◌, ℕ, zero, suc, Bool, nat_lt, ◌+◌, ◌-◌, ◌*◌, ◌/◌, ◌%◌, ◌^◌, ◌<◌, ◌≤◌, true, false, List, [], ◌∷◌, ◌++◌, length, take, refl, sym, ap, ◌∙◌, arith, append-nil, length-append}
 use Rattle.std.{proofs.Math.Seq.take-append_seam, specs.Int.bytes_high_first}
 use Rattle.byteorder.specs.Numbers.{length-bytes_high_first}
 use Rattle.cbor_head.specs.declared.width.Width.TheVariants.{Direct, One, Two, Four, Eight, Indefinite}
@@ -12,7 +12,9 @@ use Rattle.cbor_automaton.proofs.Forward.{feed-fits, head-taken, item_starts, si
 use Rattle.cbor_automaton.{specs.Trace.Mark, specs.Trace.a_head, specs.declared.event.EventKind.EventKind, proofs.FirstByte.number-major_at}
 use Rattle.cbor_automaton.proofs.Rows.{definite}
 use Rattle.cbor_machine.specs.declared.opening.ArgumentType.TheVariants as numbered
-use Rattle.cbor_machine.specs.{State.major_of, Whole.IsArgumentLeft, Whole.IsEventRun, declared.opening.ArgumentType.ArgumentType}
+use Rattle.cbor_machine.specs.declared.frame.Frame.{Frame as NestFrame}
+use Rattle.cbor_machine.{proofs.Frames.length_frames, specs.AtOnce.may_begin, specs.State.frames_of, specs.State.major_of}
+use Rattle.cbor_machine.specs.{Whole.IsArgumentLeft, Whole.IsEventRun, declared.opening.ArgumentType.ArgumentType}
 
 plain : (kind : ArgumentType) (k : ℕ) → tail (major_of kind) k ≡ numbered_tail (major_of kind) k
 plain numbered.Unsigned k = refl
@@ -105,3 +107,40 @@ fed left low n xs rest w at high a = by-width w a
     by-width Four a = let e = a.spelled 0 in let f : 0 + low ≡ 0 + 26 = head-cons e in fed-by left 3 n xs rest (left-is 3 26 (omega arith) refl) a.holds (tail-cons e)
     by-width Eight a = let e = a.spelled 0 in let f : 0 + low ≡ 0 + 27 = head-cons e in fed-by left 7 n xs rest (left-is 7 27 (omega arith) refl) a.holds (tail-cons e)
     by-width Indefinite a = absurd a.holds
+
+-- with no byte behind it an argument stands in the first byte
+pub direct_alone : (low : ℕ) (behind : List ℕ) (w : Width) (n : ℕ) (rest : List ℕ) → length behind ≡ 0 → IsArgument low behind w n rest → low < 24
+direct_alone low behind w n rest none a = by-width w a
+  where
+    head-cons : {x y : ℕ} {xs ys : List ℕ} → x ∷ xs ≡ y ∷ ys → x ≡ y
+    head-cons e = cc
+
+    -- so many bytes of an argument stand behind the first
+    behind-it : (size : ℕ) (first : ℕ) → 0 < size → (0 + low) ∷ behind ≡ first ∷ (bytes_high_first size n ++ rest) → low < 24
+    behind-it size first some e = absurd (omega (arith, none, ap length e, length-append (bytes_high_first size n) rest, length-bytes_high_first size n))
+
+    by-width : (w : Width) → IsArgument low behind w n rest → low < 24
+    by-width Direct a = let e = a.spelled 0 in let f : 0 + low ≡ 0 + n = head-cons e in let h = a.holds in omega arith
+    by-width One a = behind-it 1 24 (omega arith) (a.spelled 0)
+    by-width Two a = behind-it 2 25 (omega arith) (a.spelled 0)
+    by-width Four a = behind-it 4 26 (omega arith) (a.spelled 0)
+    by-width Eight a = behind-it 8 27 (omega arith) (a.spelled 0)
+    by-width Indefinite a = absurd a.holds
+
+-- where there is space for a container, an item may begin with any byte
+pub space_begins : (d : ℕ) (fs : List NestFrame) (c : ℕ) → c < 224 → has_space d (frames_of fs) (major_at (c / 32)) ≡ true → may_begin d (length fs) c ≡ true
+space_begins d fs c small space = by-byte (nat_lt c 0x80) refl
+  where
+    deep : (k : ℕ) → 4 ≤ k → k < 7 → has_space d (frames_of fs) (major_at k) ≡ true → nat_lt (length fs) d ≡ true
+    deep zero l h e = absurd (omega (arith, l))
+    deep (suc zero) l h e = absurd (omega (arith, l))
+    deep (suc (suc zero)) l h e = absurd (omega (arith, l))
+    deep (suc (suc (suc zero))) l h e = absurd (omega (arith, l))
+    deep (suc (suc (suc (suc zero)))) l h e = rw (← length_frames fs) e
+    deep (suc (suc (suc (suc (suc zero))))) l h e = rw (← length_frames fs) e
+    deep (suc (suc (suc (suc (suc (suc zero)))))) l h e = rw (← length_frames fs) e
+    deep _ l h e = absurd (omega (arith, h))
+
+    by-byte : (b : Bool) → nat_lt c 0x80 ≡ b → may_begin d (length fs) c ≡ true
+    by-byte true e = rw e refl
+    by-byte false e = let h = deep (c / 32) (grind (arith, e)) (omega arith) space in grind (arith, h, e)

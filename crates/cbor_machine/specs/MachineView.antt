@@ -22,5 +22,5 @@ pub record MachineView : Type 0 where
   -- the item is complete
   pub complete : Bool
   pub refusal : Option Refusal
-  -- what leads from one step to the next; no public clause looks into it
+  -- what leads from one step to the next; of public clauses only those on saved machines and on `take_whole` look into it
   pub inner : Inner

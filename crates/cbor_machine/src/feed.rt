@@ -1,8 +1,9 @@
 //! The bytes up to the next event.
 
 ghost use Rattle.std.specs.Prelude.{◌≡◌, ◌≤◌, ◌<◌, ◌+◌, [], take, length, min, true, false};
-ghost use Rattle.std.specs.Prelude.{None, IfSome};
+ghost use Rattle.std.specs.Prelude.{None, IfSome, is_some};
 ghost use Rattle.cbor_automaton.specs.Marks.{times, IsProper};
+ghost use Rattle.cbor_machine.specs.AtOnce.{is_taken_at_once};
 ghost use Rattle.cbor_machine.specs.Whole.{IsPrefix};
 ghost use Rattle.cbor_machine.specs.State.{state_of, IsFit, IsSettled};
 ghost use Rattle.cbor_machine.specs.State.{wanted_at, is_in_payload, is_done};
@@ -64,6 +65,8 @@ pub fn walk_whole(
         (take e.used input.now)) }
     ensures within { length container_stack.new ≤ depth }
     ensures none { result ≡ None → (container_stack.new ≡ container_stack.old) × (position.new ≡ position.old) }
+    ensures exact { 0 < length input.now → length input.now ≤ wanted_at position.old
+        → is_some result ≡ is_taken_at_once depth (length container_stack.old) position.old input.now }
 {
     match *position {
         Position::Item => {

@@ -1,7 +1,7 @@
 //! The machine that takes an item byte by byte.
 
 ghost use Rattle.std.specs.Prelude.{◌≡◌, ◌↔◌, ◌≤◌, ◌<◌, ◌+◌, ◌++◌, ℕ, List, [], ◌∷◌, length, take};
-ghost use Rattle.std.specs.Prelude.{min, true, false, Some, None, IfSome, IsTrue};
+ghost use Rattle.std.specs.Prelude.{min, true, false, Some, None, IfSome, IsTrue, is_some, ◌&&◌};
 ghost use Rattle.cbor_head.specs.Value.{AreBytes};
 ghost use Rattle.cbor_automaton.specs.Trace.{Mark};
 ghost use Rattle.cbor_automaton.specs.Reasons.{IsMachineReason};
@@ -11,6 +11,7 @@ ghost use Rattle.cbor_machine.specs.Machine.{IsIdle, IsEvent, IsMore, IsDone, If
 ghost use Rattle.cbor_machine.specs.Machine.{IsGiven};
 ghost use Rattle.cbor_automaton.specs.Marks.{IsProper, times};
 ghost use Rattle.cbor_machine.specs.Machine.{wanted};
+ghost use Rattle.cbor_machine.specs.AtOnce.{is_taken_at_once, begins_long};
 ghost use Rattle.cbor_machine.specs.State.{IsFit, IsSettled, wanted_at, is_at_item, is_in_payload};
 ghost use Rattle.cbor_machine.specs.State.{is_done};
 ghost use Rattle.cbor_machine.specs.Steps.{IsStep};
@@ -152,7 +153,8 @@ impl Machine {
     }
 
     /// Takes the head, the argument or the part of a payload that stands whole in the input, which
-    /// is no longer than what is wanted. None, and nothing is taken, where it is not there.
+    /// is no longer than what is wanted. None, and nothing is taken, where it is not there, or no
+    /// item may have it there.
     #[inline(always)]
     #[tactic(auto, using(crate::proofs::Settled::settled_fit))]
     pub fn take_whole(&mut self, input: &[u8]) -> Option<Event>
@@ -164,6 +166,8 @@ impl Machine {
         ensures piece { IfSome result (λ e. times e.kind ≤ length input.now) }
         ensures limits { KeepsLimits self.old self.new }
         ensures none { result ≡ None → self.new ≡ self.old }
+        ensures exact { is_some result ≡ is_taken_at_once self.old.depth
+            self.old.open_count self.old.inner.position input.now }
     {
         below_256(input);
         let depth = usize::from(self.limits.depth());
@@ -188,6 +192,8 @@ impl Machine {
         ensures limits { KeepsLimits self.old self.new }
         ensures taken { result ≡ true → self.new.taken ≡ self.old.taken + 1 }
         ensures none { result ≡ false → self.new ≡ self.old }
+        ensures exact { result ≡ (self.old.item_expected
+            && begins_long self.old.depth self.old.open_count c) }
     {
         let Position::Item = self.position else {
             return false;

@@ -1,8 +1,9 @@
 //! What a first byte begins.
 
-ghost use Rattle.std.specs.Prelude.{◌≡◌, ◌<◌};
+ghost use Rattle.std.specs.Prelude.{◌≡◌, ◌<◌, ◌/◌, false, nat_le};
 ghost use Rattle.cbor_automaton.specs.Automaton as automaton;
 ghost use Rattle.cbor_machine.specs.State.{major_of, opened, IsOpeningDefinite};
+ghost use Rattle.cbor_machine.specs.AtOnce.{IfLong, is_long, is_long_head};
 
 use cbor_head::{Simple, Width};
 
@@ -57,6 +58,7 @@ pub(crate) fn numbered_at(high: u8) -> ArgumentType
 fn indefinite_length(kind: ArgumentType) -> Opening
     ensures opens { opened result ≡ automaton.indefinite_length (major_of kind) }
     ensures definite { IsOpeningDefinite result }
+    ensures long { is_long result ≡ false }
 {
     match kind {
         ArgumentType::Bytes => Opening::IndefiniteBytes,
@@ -72,6 +74,8 @@ fn indefinite_length(kind: ArgumentType) -> Opening
 fn numbered_tail(kind: ArgumentType, low: u8) -> Opening
     ensures opens { opened result ≡ automaton.numbered_tail (major_of kind) low }
     ensures definite { IsOpeningDefinite result }
+    ensures long { is_long result ≡ nat_le low 3 }
+    ensures kind { IfLong result (λ k. k ≡ kind) }
 {
     match low {
         0 => Opening::Long(kind, Width::One),
@@ -86,6 +90,7 @@ fn numbered_tail(kind: ArgumentType, low: u8) -> Opening
 fn simple_tail(low: u8) -> Opening
     ensures opens { opened result ≡ automaton.simple_tail low }
     ensures definite { IsOpeningDefinite result }
+    ensures long { is_long result ≡ false }
 {
     match low {
         0 => Opening::LongSimple,
@@ -99,6 +104,8 @@ fn simple_tail(low: u8) -> Opening
 pub(crate) fn opening_of(c: u8) -> Opening
     ensures opens { opened result ≡ automaton.opening c }
     ensures definite { IsOpeningDefinite result }
+    ensures long { is_long result ≡ is_long_head c }
+    ensures kind { IfLong result (λ k. major_of k ≡ automaton.major_at (c / 32)) }
 {
     let low = c % 32;
     if c >= 0xe0 {

@@ -1,10 +1,11 @@
 //! The next byte of an item.
 
-ghost use Rattle.std.specs.Prelude.{◌≡◌, ◌≤◌, ◌+◌, ◌-◌, length, false, IfSome};
+ghost use Rattle.std.specs.Prelude.{◌≡◌, ◌≤◌, ◌+◌, ◌-◌, length, false, IfSome, is_some};
 ghost use Rattle.cbor_head.specs.declared.width.Width as width;
 ghost use Rattle.cbor_automaton.specs.Trace.{more_bytes};
 ghost use Rattle.cbor_automaton.specs.Automaton as automaton;
 ghost use Rattle.cbor_automaton.specs.Marks.{mark_of, times, IsDefinite, IsProper};
+ghost use Rattle.cbor_machine.specs.AtOnce.{begins_long};
 ghost use Rattle.cbor_machine.specs.declared.frame.TheConstants.{MOST_OPEN};
 ghost use Rattle.cbor_machine.specs.State.{frames_of, state_of, major_of, next_of, IsFit};
 ghost use Rattle.cbor_machine.specs.State.{IsNextFit, IsRefusal, IsOnce, IsNextSettled};
@@ -82,6 +83,7 @@ pub fn long_at(depth: usize, container_stack: &ContainerStack, c: u8) -> Option<
         (automaton.at_item (frames_of container_stack.now)) c ≡ automaton.goes (state_of to container_stack.now)) }
     ensures fits { IfSome result (λ to. IsFit depth container_stack.now to) }
     ensures open { IfSome result (λ to. ¬ (IsSettled container_stack.now to)) }
+    ensures exact { is_some result ≡ begins_long depth (length container_stack.now) c }
 {
     let Opening::Long(kind, width) = opening_of(c) else {
         return None;

@@ -1,7 +1,7 @@
 //! Whole heads and whole payloads, straight from a slice.
 
 ghost use Rattle.std.specs.Prelude.{◌≡◌, ◌≤◌, ◌<◌, ◌+◌, ◌-◌, ◌^◌, ◌/◌, ◌∷◌, [], List, ℕ, length, take, min};
-ghost use Rattle.std.specs.Prelude.{true, IfSome, None};
+ghost use Rattle.std.specs.Prelude.{true, false, IfSome, None, is_some, nat_le, nat_lt, ◌&&◌};
 ghost use Rattle.cbor_head.specs.Head.{IsSimple};
 ghost use Rattle.cbor_head.specs.declared.width.Width as width;
 ghost use Rattle.cbor_head.specs.declared.width.Width.TheVariants.{Direct};
@@ -11,6 +11,7 @@ ghost use Rattle.cbor_automaton.specs.Marks.{marks_of, times};
 ghost use Rattle.cbor_machine.specs.State.{frames_of, state_of, major_of};
 ghost use Rattle.cbor_automaton.specs.Marks.{IsDefinite, IsProper};
 ghost use Rattle.cbor_machine.specs.State.{IsSettled};
+ghost use Rattle.cbor_machine.specs.AtOnce.{is_width, begins_short};
 ghost use Rattle.cbor_machine.specs.Whole.{IsArgumentLeft, IsEventRun, IsNumberOf};
 ghost use Rattle.cbor_machine.specs.Whole.{IsPrefix, IsHeadHere, ReportsPrefix, LeavesPiece};
 ghost use Rattle.cbor_machine.specs.Token.{kind_of};
@@ -25,7 +26,8 @@ use cbor_head::{Width, read_argument};
 
 // The low five bits of a first byte with one byte more than these in its argument.
 fn low_bits(left: u8) -> Option<u8>
-    ensures { IfSome result (λ low. (left + 1 ≡ 2 ^ (low - 24)) × (24 ≤ low)) }
+    ensures low { IfSome result (λ low. (left + 1 ≡ 2 ^ (low - 24)) × (24 ≤ low) × (low ≤ 27)) }
+    ensures width { is_some result ≡ is_width left }
 {
     match left {
         0 => Some(24),
@@ -41,6 +43,7 @@ fn low_bits(left: u8) -> Option<u8>
 pub(crate) fn whole_argument(left: u8, rest: &[u8]) -> Option<u64>
     ensures is { IfSome result (λ n. IsArgumentLeft left n rest.now) }
     ensures there { IfSome result (λ n. left < length rest.now) }
+    ensures exact { is_some result ≡ (is_width left && nat_lt left (length rest.now)) }
 {
     let low = low_bits(left)?;
     let argument = read_argument(low, rest)?;
@@ -100,6 +103,8 @@ pub(crate) fn prefix_head(
     ensures used { IfSome result (λ h. IsPrefix h.used rest.now) }
     ensures width { IfSome result (λ h. IsDefinite h.width) }
     ensures simple { IfSome result (λ h. 224 ≤ h.first → IsSimple h.number) }
+    ensures exact { length rest.now ≡ 1
+        → is_some result ≡ begins_short depth (length container_stack.now) rest.now }
 {
     let (first, behind) = rest.split_first()?;
     let c = *first;
@@ -183,6 +188,8 @@ pub(crate) fn whole_head(
     ensures number { IfSome result (λ r. IsNumberOf r.token r.number) }
     ensures once { IfSome result (λ r. times (kind_of r.token r.number) ≡ 1) }
     ensures other { IfSome result (λ r. LeavesPiece r) }
+    ensures exact { length rest.now ≡ 1
+        → is_some result ≡ begins_short depth (length container_stack.old) rest.now }
 {
     let head = prefix_head(depth, container_stack, rest)?;
     let token = take_head(head, depth, position, container_stack);

@@ -5,6 +5,11 @@ use Rattle.cbor_head.specs.declared.reason.Refusal.{Refusal}
 use Rattle.cbor_reader.specs.declared.comparison.Side.{Side, TheVariants.Left, TheVariants.Right}
 use Rattle.cbor_reader.specs.{Headline.IsValidItem, WholeItem.IsWholeItem, WholeItem.IsItemRefusal}
 
+-- the input on a side
+abbrev pub input_of : Side → List ℕ → List ℕ → List ℕ
+input_of Left left right = left
+input_of Right left right = right
+
 -- both are whole valid items within the limits, of the same value
 pub record MeanTheSame (limits : Bounds) (left right : List ℕ) : Type 0 where
   pub left_item : Spelling

@@ -3,9 +3,11 @@
 ghost use Rattle.std.specs.Prelude.{◌≡◌, ◌≢◌, ◌↔◌, ◌≤◌, IsTrue, IfOk, IfErr, length};
 ghost use Rattle.cbor_head.specs.Spelling.{Spelling, value_of};
 ghost use Rattle.cbor_head.specs.Value.{Same};
+ghost use Rattle.cbor_head.specs.declared.order.KeyOrder.TheVariants as orders;
 ghost use Rattle.cbor_head.specs.declared.reason.Reason.TheVariants as reasons;
 ghost use Rattle.cbor_verdict.specs.Readers.{ReportsMemoryAtStart};
-ghost use Rattle.cbor_reader.specs.Comparing.{MeanTheSame, IsSideRefusal};
+ghost use Rattle.cbor_reader.specs.Canonicalise.{IsCanonicalOf};
+ghost use Rattle.cbor_reader.specs.Comparing.{MeanTheSame, IsSideRefusal, input_of};
 ghost use Rattle.cbor_reader.specs.Headline.{IsValidItem};
 ghost use Rattle.cbor_reader.specs.WholeItem.{IsWholeItem};
 
@@ -28,8 +30,10 @@ pub enum Side {
 /// The limits hold for each input by itself, and not for canonical bytes. The refusal is that of
 /// the left input, or of the right one where the left is accepted: the one that its bytes within
 /// the limits call for; then `Trailing`, where a byte follows the item, with the item's length as
-/// place and count; or `Memory`, where it was refused before, with 0 as both. Canonical bytes are
-/// compared, so large maps in unlike orders take time like sorting them.
+/// place and count; or `Memory`, where it was refused before, with 0 as both, at the side that was
+/// being read. A side that is canonical as it stands takes no memory, nor does a right one that is
+/// the left one. Canonical bytes are compared, so large maps in unlike orders take time like sorting
+/// them.
 pub fn same_meaning(
     alloc: Global,
     left: &[u8],
@@ -45,6 +49,9 @@ pub fn same_meaning(
         → IsTrue same ↔ Same (value_of s) (value_of t)) }
     ensures refused { IfErr result (λ e. IsSideRefusal limits left.now right.now e.0 e.1) }
     ensures memory { IfErr result (λ e. ReportsMemoryAtStart e.1) }
+    ensures own { IfErr result (λ e. ¬ IsCanonicalOf limits orders.Bytewise
+        (input_of e.0 left.now right.now) (input_of e.0 left.now right.now)) }
+    ensures equal { IfErr result (λ e. left.now ≡ right.now → e.0 ≡ Side.Left) }
     ensures only { IfErr result (λ e. e.1.reason ≢ reasons.Memory
         → IsWholeItem limits left.now
         → ¬ IsWholeItem limits right.now) }

@@ -1,7 +1,7 @@
-use Rattle.std.proofs.Common.{◌∙◌, sym, ap, arith, refl, inl, inr}
+use Rattle.std.proofs.Common.{◌≡◌, ◌∙◌, length, sym, ap, arith, refl, inl, inr}
 use Rattle.cbor_automaton.{specs.Automaton.has_space, proofs.Rows.definite}
 use Rattle.cbor_machine.proofs.whole_event.prefix_head.Goals as goal
-use Rattle.cbor_machine.specs.State.{frames_of}
+use Rattle.cbor_machine.{proofs.WholeHeads.direct_alone, proofs.WholeHeads.space_begins, specs.State.frames_of}
 
 pub overflow_sub-used : goal.overflow_sub-used
 overflow_sub-used c = omega (arith, c.in_ok-argument.ensures.fewer, c.in_ok-first.ensures.cases.1)
@@ -41,3 +41,19 @@ returns-then-c-ge224-clause-width c = let a = c.in_ok-argument.argument in defin
 
 pub returns-clause-width : goal.returns-clause-width
 returns-clause-width c = let a = c.in_ok-argument.argument in definite a.width a.number c.in_ok-argument.ensures.spelled.holds
+
+pub returns-then-c-ge224-clause-exact : goal.returns-then-c-ge224-clause-exact
+returns-then-c-ge224-clause-exact c = λ one.
+    let is = c.in_ok-first.ensures.cases.0 in
+    let none : length c.in_ok-first.behind.now ≡ 0 = omega (arith, one, ap length is) in
+    let short = direct_alone _ _ _ _ _ none c.in_ok-argument.ensures.spelled in
+    rw is (grind (arith, short, c.if-c-ge224.true))
+
+pub returns-clause-exact : goal.returns-clause-exact
+returns-clause-exact c = λ one.
+    let is = c.in_ok-first.ensures.cases.0 in
+    let none : length c.in_ok-first.behind.now ≡ 0 = omega (arith, one, ap length is) in
+    let short = direct_alone _ _ _ _ _ none c.in_ok-argument.ensures.spelled in
+    let space = ap (has_space c.args.depth (frames_of c.args.container_stack.now)) (sym c.numbered_at.ensures) ∙ sym c.has_space.ensures ∙ c.if-not-has_space.false in
+    let begins = space_begins c.args.depth c.args.container_stack.now c.in_ok-first.first.now c.if-c-ge224.false space in
+    rw is (grind (arith, short, begins))
