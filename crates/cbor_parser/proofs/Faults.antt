@@ -1,16 +1,16 @@
 -- Why nothing that rules accept stands where an item is expected.
 use Rattle.std.proofs.Common.{◌≡◌, ℕ, ◌+◌, ◌/◌, ◌%◌, ◌<◌, ◌≤◌, Bool, true, false, List, [], ◌∷◌, refl, sym, subst, inl, inr, arith, IsTrue}
 use Rattle.cbor_head.specs.Prelude.{Rules, OfHead, plain, strict, refusal, shortest}
-use Rattle.cbor_head.specs.declared.{major.Major.Major, width.Width.Width, reason.Reason.Reason, reason.Reason.TheVariants.Truncated, reason.Reason.TheVariants.KeyKind, reason.Reason.TheVariants.Indefinite, reason.Refusal.Refusal}
+use Rattle.cbor_head.specs.declared.reason.Reason.TheVariants.{Truncated, KeyKind, Indefinite}
+use Rattle.cbor_head.specs.declared.{major.Major.Major, width.Width.Width, reason.Reason.Reason, reason.Refusal.Refusal}
 use Rattle.cbor_head.specs.{InitialByte.MayBegin, InitialByte.IsInitialByteError, declared.argument.Argument.Argument}
 use Rattle.cbor_model.specs.FirstBytes.{is_basic}
-use Rattle.cbor_verdict.specs.{PathKinds.IsFitPrefix, RefusedHere.IsRefusedBy, Judged.Never}
 use Rattle.cbor_verdict.proofs.RefusedHere.{nothing_here, indefinite_here, initial_byte_error_stops, kind_refused}
+use Rattle.cbor_verdict.specs.{PathKinds.IsFitPrefix, RefusedHere.IsRefusedBy, Judged.Never}
 use Rattle.cbor_verdict.proofs.HeadComplaints.{heads_free, shortest_clean}
-use Rattle.cbor_parser.specs.Strings.{IsStringHead, IsStringFault}
-use Rattle.cbor_parser.specs.declared.item_start.{Here.Here, ItemStart.ItemStart}
 use Rattle.cbor_parser.specs.declared.item_start.ItemStart.TheVariants as starts
 use Rattle.cbor_parser.specs.inner.Faults.{AreRulesOf, IsFault, IsRefusedStart, IsIndefiniteStart}
+use Rattle.cbor_parser.specs.{Strings.IsStringHead, Strings.IsStringFault, declared.item_start.Here.Here, declared.item_start.ItemStart.ItemStart}
 use Rattle.cbor_parser.proofs.AnyRefusals.{string_refused}
 
 -- ---- what both rules ask
@@ -72,10 +72,10 @@ pub indefinite_fault : (s : Bool) (xs : List ℕ) (first : ℕ) (behind : List �
     → (start : ItemStart) → IsIndefiniteStart s first behind at start → IsRefusedStart s xs at here start
 indefinite_fault true xs first behind at here is no_break fit placed low start e =
     subst (IsRefusedStart true xs at here) (sym e) (λ r rules.
-        let opens : (64 ≤ first) × (first < 192) = elim placed.low [ inl l ↦ absurd (omega (arith, l, low)) | inr l ↦ (l.1, l.2) ] in
-        let f = refusal Indefinite at (at + 1) in
-        fault_same r xs (first ∷ behind) at here f f is refl
-        (fault_of r first behind at here no_break f fit (indefinite_here r here.space first behind at (heads_asked true r rules refl) low opens.0 opens.1 placed.fits)))
+    let opens : (64 ≤ first) × (first < 192) = elim placed.low [ inl l ↦ absurd (omega (arith, l, low)) | inr l ↦ (l.1, l.2) ] in
+    let f = refusal Indefinite at (at + 1) in
+    fault_same r xs (first ∷ behind) at here f f is refl
+    (fault_of r first behind at here no_break f fit (indefinite_here r here.space first behind at (heads_asked true r rules refl) low opens.0 opens.1 placed.fits)))
 indefinite_fault false xs first behind at here is no_break fit placed low (starts.Refused f) h = λ r rules.
     fault_same r xs (first ∷ behind) at here f f is refl
     (fault_of r first behind at here no_break f fit (subst (λ (x : Rules). IsRefusedBy x here.space (first ∷ behind) at f) (sym rules) (h here.space)))

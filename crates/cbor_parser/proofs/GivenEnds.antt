@@ -12,9 +12,9 @@ use Rattle.cbor_parser.specs.Sink.{is_map, IsEndedAs, StandsFull}
 use Rattle.cbor_parser.specs.inner.Parser.{IsExpected, HasEnded, IsCellFull, HasFilled}
 use Rattle.cbor_parser.specs.inner.OpenContainer.{counted, opener, full_opener, behind_head, cell_of, cells_of, after}
 use Rattle.cbor_parser.proofs.GivenParts.{cells-count, cell-is, cells-are}
-use Rattle.cbor_parser.specs.{Expected.pairs, declared.container.Expected.TheVariants.Item, declared.container.Expected.TheVariants.Value}
-use Rattle.cbor_parser.specs.{inner.OpenMaps.HasTakenPairs}
 use Rattle.cbor_parser.specs.inner.OpenContainer.{Cell}
+use Rattle.cbor_parser.specs.{Expected.pairs, declared.container.Expected.TheVariants.Item, declared.container.Expected.TheVariants.Value}
+use Rattle.cbor_parser.specs.inner.OpenMaps.{HasTakenPairs}
 
 pub cell-behind : (behind : ℕ) (l : Level) → (cell_of behind l).kept ≡ behind
 cell-behind behind (a_member w left done) = refl

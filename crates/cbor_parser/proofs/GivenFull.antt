@@ -7,8 +7,7 @@ use Rattle.cbor_verdict.proofs.CleanParts.{clean-within}
 use Rattle.cbor_parser.specs.Sink.{Fills, StandsFull, Reported, takes_key, is_map, IsEndedAs, IsReportedFull, IsContainerFull, Ends, Repeats}
 use Rattle.cbor_parser.specs.inner.Parser.{HasEnded, IsFull, IsToEnd, IsCellFull, HasFilled, TakesTo, EndsTo}
 use Rattle.cbor_parser.specs.declared.part.Part.TheVariants as part
-use Rattle.cbor_parser.specs.{Expected.pairs, declared.part.Part.Part}
-use Rattle.cbor_parser.specs.inner.OpenContainer.{Cell}
+use Rattle.cbor_parser.specs.{Expected.pairs, declared.part.Part.Part, inner.OpenContainer.Cell}
 
 -- a key is expected where a map ends
 ended-kind : (l : Level) (s : Spelling) → IsEndedAs l s → takes_key l ≡ is_map s

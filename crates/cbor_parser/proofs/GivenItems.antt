@@ -11,9 +11,9 @@ use Rattle.cbor_verdict.{proofs.Heads.open_or, proofs.KindBytes.head_is_one, pro
 use Rattle.cbor_verdict.{specs.Reading.string_major, specs.Reading.string_value, proofs.Arguments.low_bits, proofs.Arguments.spells}
 use Rattle.cbor_parser.specs.inner.OpenContainer.{counted, indefinite, opener, cell_of}
 use Rattle.cbor_parser.specs.inner.Parts.{IsHead, IsOpener, IsPayload, Counts}
-use Rattle.cbor_parser.specs.declared.container.Expected.{Expected, TheVariants.Item, TheVariants.Key}
-use Rattle.cbor_parser.specs.{Sink.leaf_value}
 use Rattle.cbor_parser.specs.inner.OpenContainer.{Cell}
+use Rattle.cbor_parser.specs.declared.container.Expected.{Expected, TheVariants.Item, TheVariants.Key}
+use Rattle.cbor_parser.specs.Sink.{leaf_value}
 
 -- ---- items without members
 

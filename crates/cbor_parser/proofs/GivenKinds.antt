@@ -17,12 +17,11 @@ use Rattle.cbor_verdict.{specs.PathKinds.asks, specs.PathKinds.IsFitPrefix, proo
 use Rattle.cbor_parser.specs.inner.OpenContainer.{counted, behind_head, cell_of, cells_of}
 use Rattle.cbor_parser.specs.inner.Parts.{Counts, IsHead, IsOpener, IsItem, HasBegun, HasBroken, TakesPrefix, EndsBefore}
 use Rattle.cbor_parser.specs.declared.part.Part.TheVariants as part
+use Rattle.cbor_parser.specs.inner.OpenContainer.{Cell}
 use Rattle.cbor_parser.specs.{Stack.around, Stack.open_levels, declared.container.Expected.Expected}
 use Rattle.cbor_parser.specs.declared.{container.Expected.TheVariants.Item, container.Expected.TheVariants.Key, stack.Stack.Stack}
-use Rattle.cbor_parser.{proofs.Stacks.open_levels_count, specs.inner.Parser.IsExpected, specs.inner.Kept.KeepsBefore}
-use Rattle.cbor_parser.{specs.declared.part.Part.Part, proofs.GivenItems.IsScalar}
-use Rattle.cbor_parser.proofs.GivenParts.{height-is, cell-is}
-use Rattle.cbor_parser.specs.inner.OpenContainer.{Cell}
+use Rattle.cbor_parser.{proofs.Stacks.open_levels_count, specs.inner.Parser.IsExpected, specs.inner.Kept.KeepsBefore, specs.declared.part.Part.Part}
+use Rattle.cbor_parser.proofs.{GivenItems.IsScalar, GivenParts.height-is, GivenParts.cell-is}
 
 -- ---- what begins so
 

@@ -11,10 +11,10 @@ use Rattle.cbor_parser.specs.Sink.{takes_key, key_expected, Completes, IsItemExp
 use Rattle.cbor_parser.specs.inner.Parser.{BeginsTaken, IsExpected, HasEnded, IsFull, IsToEnd, IsBuilt, IsExpectedFor}
 use Rattle.cbor_parser.specs.inner.OpenContainer.{counted, opener, behind_head, cell_of, cells_of}
 use Rattle.cbor_parser.specs.inner.Parts.{IsHead, IsOpener, Counts}
+use Rattle.cbor_parser.specs.inner.OpenContainer.{Cell}
 use Rattle.cbor_parser.specs.{Expected.awaits, Stack.open_levels, declared.container.Expected.Expected}
 use Rattle.cbor_parser.specs.declared.{container.Expected.TheVariants.Item, container.Expected.TheVariants.Key, stack.Stack.Stack}
-use Rattle.cbor_parser.{proofs.GivenItems.IsScalar, proofs.GivenItems.opener-whole}
-use Rattle.cbor_parser.specs.inner.OpenContainer.{Cell}
+use Rattle.cbor_parser.proofs.GivenItems.{IsScalar, opener-whole}
 
 -- ---- how many are open
 

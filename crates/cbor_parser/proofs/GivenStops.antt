@@ -11,9 +11,8 @@ use Rattle.cbor_parser.proofs.LevelPaths.{paths_of, paths_length, paths_bytes, p
 use Rattle.cbor_parser.specs.{Stack.around, Stack.open_levels, declared.container.Expected.Expected}
 use Rattle.cbor_parser.specs.declared.{container.Expected.TheVariants.Key, container.Expected.TheVariants.Value, stack.Stack.Stack}
 use Rattle.cbor_parser.{proofs.Stacks.more_cells, proofs.Stacks.open_levels_count, specs.Sink.FindsNoRepeat}
-use Rattle.cbor_parser.specs.{inner.Kept.KeepsBefore, inner.Kept.ParseEndKept, inner.Faults.IsFault, declared.item_start.Here.Here, declared.parser.ParseEnd.ParseEnd}
-use Rattle.cbor_parser.{proofs.GivenKinds.asked-kinds, proofs.GivenParts.cells-count}
-use Rattle.cbor_parser.specs.inner.OpenContainer.{Cell}
+use Rattle.cbor_parser.specs.{inner.Kept.KeepsBefore, inner.Kept.ParseEndKept, inner.Faults.IsFault, declared.item_start.Here.Here}
+use Rattle.cbor_parser.{specs.declared.parser.ParseEnd.ParseEnd, proofs.GivenKinds.asked-kinds, proofs.GivenParts.cells-count, specs.inner.OpenContainer.Cell}
 
 -- that kinds are asked for, and a key is expected
 pub record IsAsked (limits : Bounds) (expected : Expected) (is_key : Bool) : Type 0 where

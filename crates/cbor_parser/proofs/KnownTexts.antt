@@ -9,8 +9,7 @@ use Rattle.cbor_verdict.proofs.{CleanParts.clean-prefix, HeadComplaints.heads_fr
 use Rattle.cbor_verdict.specs.{Judged.IsJudged, Reading.string_major}
 use Rattle.cbor_parser.specs.inner.Parser.{StandsBefore, IsHeadExpected, IsExpectedFor}
 use Rattle.cbor_parser.specs.inner.Parts.{IsHead, IsPayload, chunked_from}
-use Rattle.cbor_parser.{proofs.GivenItems.string-bytes}
-use Rattle.cbor_parser.specs.inner.OpenContainer.{Cell}
+use Rattle.cbor_parser.{proofs.GivenItems.string-bytes, specs.inner.OpenContainer.Cell}
 
 decided : (q : List ℕ) → ((IsUtf8 q → ⊥) → ⊥) → IsUtf8 q
 decided q h = go (is_utf8 q) refl

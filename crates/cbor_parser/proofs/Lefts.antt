@@ -5,8 +5,7 @@ use Rattle.cbor_verdict.specs.Levels.{Level, ParseState}
 use Rattle.cbor_parser.specs.declared.part.Part.TheVariants as part
 use Rattle.cbor_parser.specs.inner.Parser.{IsExpected, HasEnded, HasFilled, TakesTo}
 use Rattle.cbor_parser.specs.inner.Parts.{left_of, Leaves, LeavesWithin, TakesPrefix, HasBegun, HasBroken}
-use Rattle.cbor_parser.specs.declared.{part.Part.Part}
-use Rattle.cbor_parser.specs.inner.OpenContainer.{Cell}
+use Rattle.cbor_parser.specs.{declared.part.Part.Part, inner.OpenContainer.Cell}
 
 -- what is behind some of a first byte and these is the last of these
 behind-is : (x : ℕ) (bytes prefix behind : List ℕ) → x ∷ bytes ≡ prefix ++ behind → length behind < length (x ∷ bytes) → drop (length bytes - length behind) bytes ≡ behind

@@ -17,8 +17,8 @@ use Rattle.cbor_verdict.proofs.{Given.pairs-valid, Given.entries-more, Heads.ope
 use Rattle.cbor_verdict.proofs.PathLevels.{judged_path, judged_key_path}
 use Rattle.cbor_parser.specs.declared.container.Expected.TheVariants.{Item, Key, Value}
 use Rattle.cbor_parser.specs.inner.OpenContainer.{behind_head, cell_of, cells_of, counted}
-use Rattle.cbor_parser.{specs.Sink.IsKeyBehind, proofs.GivenParts.cell-is}
 use Rattle.cbor_parser.specs.inner.OpenContainer.{Cell}
+use Rattle.cbor_parser.{specs.Sink.IsKeyBehind, proofs.GivenParts.cell-is}
 
 -- ---- the path
 

@@ -1,8 +1,7 @@
 -- The open map that is reported, among the cells.
 use Rattle.std.proofs.Common.{◌≡◌, ℕ, zero, suc, ◌+◌, ◌<◌, ◌≤◌, Bool, true, false, Some, List, [], ◌∷◌, ◌++◌, length, take, drop, get_or, refl, sym, ap, ◌∙◌, arith, append_assoc, reverse, take_all, take-append-drop}
 use Rattle.std.proofs.lemmas.List.{reverse-append, reverse-reverse, take_more, drop_more}
-use Rattle.cbor_parser.specs.{Expected.pairs, inner.OpenMaps.map_cells, inner.OpenMaps.counts_one}
-use Rattle.cbor_parser.specs.inner.OpenContainer.{Cell}
+use Rattle.cbor_parser.specs.{Expected.pairs, inner.OpenMaps.map_cells, inner.OpenMaps.counts_one, inner.OpenContainer.Cell}
 
 counts_add : (b : Bool) (m n : ℕ) → counts_one b (m + n) ≡ counts_one b m + n
 counts_add true m n = omega arith

@@ -9,10 +9,9 @@ use Rattle.cbor_parser.specs.inner.Repeated.{IsKeyReported, IsCellReported, IsKe
 use Rattle.cbor_parser.specs.declared.parser.ParseEnd.TheVariants as parse_end
 use Rattle.cbor_parser.proofs.GivenStops.{StopsBefore, kept-before, come-before}
 use Rattle.cbor_parser.proofs.ReportedMaps.{IsReportedWithin, reported_within, reported_full}
-use Rattle.cbor_parser.specs.{Expected.pairs, Sink.FindsRepeat, inner.Parser.IsRepeatVisited, inner.Parser.Meets}
-use Rattle.cbor_parser.specs.{inner.Kept.KeepsBefore, inner.Kept.ParseEndKept, declared.parser.ParseEnd.ParseEnd}
-use Rattle.cbor_parser.{proofs.GivenEnds.cell-behind}
 use Rattle.cbor_parser.specs.inner.OpenContainer.{Cell}
+use Rattle.cbor_parser.specs.{Expected.pairs, Sink.FindsRepeat, inner.Parser.IsRepeatVisited, inner.Parser.Meets}
+use Rattle.cbor_parser.{specs.inner.Kept.KeepsBefore, specs.inner.Kept.ParseEndKept, specs.declared.parser.ParseEnd.ParseEnd, proofs.GivenEnds.cell-behind}
 
 -- ---- the cells
 

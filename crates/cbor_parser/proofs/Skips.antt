@@ -8,9 +8,8 @@ use Rattle.cbor_verdict.proofs.Levels.{no-count, spelled-all, within-all, clean-
 use Rattle.cbor_verdict.specs.Levels.{IsTaken, Level, a_member, bytes_before}
 use Rattle.cbor_parser.specs.inner.Skip.{anywhere, anything, StandAtStart, EndsItem, GoesTo}
 use Rattle.cbor_parser.specs.declared.parser.ParseEnd.TheVariants as parse_end
-use Rattle.cbor_parser.specs.{declared.container.Expected.TheVariants.Item, inner.Parser.IsExpected, inner.Parser.Meets, inner.OpenContainer.counted}
-use Rattle.cbor_parser.specs.declared.{parser.ParseEnd.ParseEnd}
-use Rattle.cbor_parser.specs.inner.OpenContainer.{Cell}
+use Rattle.cbor_parser.specs.{declared.container.Expected.TheVariants.Item, inner.Parser.IsExpected, inner.Parser.Meets}
+use Rattle.cbor_parser.specs.{inner.OpenContainer.counted, inner.OpenContainer.Cell, declared.parser.ParseEnd.ParseEnd}
 
 -- the array, before its first member
 abbrev pub members : ℕ → List Level

@@ -3,20 +3,20 @@ use Rattle.std.proofs.Common.{◌≡◌, ℕ, suc, ◌+◌, ◌-◌, ◌<◌, �
 use Rattle.std.proofs.Math.Seq.{drop-append_seam}
 use Rattle.cbor_head.specs.Prelude.{strict, OfCount, Holds, IsHead, head, shortest, Bounds, spell, no_spellings, no_entries, HoldsOrIndefinite}
 use Rattle.cbor_head.specs.declared.major.Major.TheVariants.{Array, Map, Tag}
-use Rattle.cbor_head.specs.declared.{major.Major.Major, order.KeyOrder.KeyOrder, width.Width.Width, width.Width.TheVariants.Indefinite}
+use Rattle.cbor_head.specs.declared.{major.Major.Major, order.KeyOrder.KeyOrder, width.Width.Width, width.Width.TheVariants.Indefinite, keys.Keys.Keys}
+use Rattle.cbor_head.specs.declared.keys.Keys.TheVariants.{Any, IntegersAndTexts}
 use Rattle.cbor_model.{proofs.Normal.Holds-shortest, specs.KeyPrefix.prefix_of}
 use Rattle.cbor_verdict.specs.Path as path
 use Rattle.cbor_verdict.specs.Path.{a_member, a_key, a_value, tagged, level_bytes, bytes_before, IsKeyExpectedIn}
 use Rattle.cbor_verdict.proofs.PathKinds.{kept_prefix, head_begun, keeps_begun, keeps_item}
 use Rattle.cbor_verdict.proofs.{Items.is-definite, Heads.open_or, Heads.takes, KindBytes.head_is_one, KindFrames.keeps_start}
 use Rattle.cbor_verdict.specs.{Judged.Never, Kinds.KeepsToKinds, PathKinds.asks, PathKinds.KeepsHere, RefusedHere.IsPlaceFor}
-use Rattle.cbor_head.specs.declared.keys.Keys.{Keys, TheVariants.Any, TheVariants.IntegersAndTexts}
-use Rattle.cbor_parser.specs.inner.Faults.{IsKeyAsked}
 use Rattle.cbor_parser.specs.inner.Cells.{strict_cell, AreCells, StandsAt, HasEndedAt, IsWhole}
 use Rattle.cbor_parser.specs.declared.container.Expected.TheVariants.{Item, Key, Value}
 use Rattle.cbor_parser.proofs.CellSteps.{item_is_no_key, key_is_no_value, item_full}
-use Rattle.cbor_parser.specs.{inner.Leaves.IsLeaf, inner.Items.IsFit, inner.Items.IsOpener, Stack.open_levels, declared.container.Expected.Expected}
-use Rattle.cbor_parser.{specs.inner.Cells.StrictCell, specs.declared.stack.Stack.Stack, proofs.Stacks.open_levels_count, proofs.Stacks.more_cells}
+use Rattle.cbor_parser.specs.inner.Cells.{StrictCell}
+use Rattle.cbor_parser.specs.{inner.Faults.IsKeyAsked, inner.Leaves.IsLeaf, inner.Items.IsFit, inner.Items.IsOpener, Stack.open_levels}
+use Rattle.cbor_parser.{specs.declared.container.Expected.Expected, specs.declared.stack.Stack.Stack, proofs.Stacks.open_levels_count, proofs.Stacks.more_cells}
 
 -- ---- how many are open
 

@@ -140,7 +140,9 @@ fn in_cells<const KINDS: bool, const N: usize>(
         CanonicalEnd::Whole(at) => Some(Ok(at)),
         CanonicalEnd::Refused(refusal) => Some(Err(refusal)),
         CanonicalEnd::OutOfOrder(refusal) => Some(Err(key_out_of_order(
-            input, &stack.top.kept, refusal,
+            input,
+            &stack.top.kept,
+            refusal,
         ))),
         CanonicalEnd::Full(_) => None,
     }

@@ -134,7 +134,13 @@ impl Stack<OpenContainer<LastKey>> {
 
     // What comes next once the innermost container is whole.
     #[inline(always)]
-    fn close(&mut self, cells: &[OpenContainer<LastKey>], input: &[u8], order: KeyOrder, at: usize) -> Next
+    fn close(
+        &mut self,
+        cells: &[OpenContainer<LastKey>],
+        input: &[u8],
+        order: KeyOrder,
+        at: usize,
+    ) -> Next
         requires end { at ≤ length input.now }
         requires cells { self.old.height ≤ length cells.now }
         ensures fewer { self.new.height ≤ self.old.height }

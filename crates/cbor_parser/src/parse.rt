@@ -116,7 +116,11 @@ fn stopped<'a, S: Sink<'a>>(
 }
 
 // Where the key stands that is reported, by the cells of the open maps.
-fn repeated(stack: &Stack<OpenContainer<usize>>, cells: &[OpenContainer<usize>], repeat: Repeat) -> Stop
+fn repeated(
+    stack: &Stack<OpenContainer<usize>>,
+    cells: &[OpenContainer<usize>],
+    repeat: Repeat,
+) -> Stop
     requires cells { stack.now.height ≤ length cells.now }
     requires reported { (limits : Bounds) × (input : List ℕ)
         × IsKeyReportedIn limits input (open_levels Cell stack.now cells.now) repeat }

@@ -11,8 +11,8 @@ use Rattle.cbor_verdict.specs.{Kinds.KeepsToKinds, Stop.HasComplaint}
 use Rattle.cbor_parser.specs.declared.container.Expected.TheVariants.{Item, Key, Value}
 use Rattle.cbor_parser.specs.declared.container.Step.TheVariants as steps
 use Rattle.cbor_parser.specs.declared.container.Next.TheVariants as nexts
-use Rattle.cbor_parser.specs.declared.{container.Expected.Expected, last_key.LastKey.LastKey, open_container.OpenContainer.OpenContainer, container.Step.Step, container.Next.Next, stack.Stack.Stack}
-use Rattle.cbor_parser.specs.{Stack.open_levels, inner.OpenContainer.counted}
+use Rattle.cbor_parser.specs.declared.{container.Expected.Expected, last_key.LastKey.LastKey, open_container.OpenContainer.OpenContainer, container.Step.Step}
+use Rattle.cbor_parser.specs.{declared.container.Next.Next, declared.stack.Stack.Stack, Stack.open_levels, inner.OpenContainer.counted}
 
 -- ---- a cell
 

@@ -1,12 +1,11 @@
 -- What rules have against the bytes that are left at a place.
 use Rattle.std.specs.Prelude.{◌≡◌, ℕ, ◌+◌, ◌++◌, Bool, true, false, List, ◌∷◌}
 use Rattle.cbor_head.specs.Prelude.{plain, strict, refusal, Rules, Bounds, AreBytes}
-use Rattle.cbor_head.specs.declared.order.KeyOrder.{KeyOrder}
 use Rattle.cbor_head.specs.declared.{keys.Keys.TheVariants.IntegersAndTexts, reason.Refusal.Refusal, reason.Reason.TheVariants.Indefinite as IndefiniteReason}
+use Rattle.cbor_head.specs.declared.order.KeyOrder.{KeyOrder}
 use Rattle.cbor_verdict.specs.Path.{Level, bytes_before, AreClean, IsKeyExpectedIn, MayBreak}
 use Rattle.cbor_verdict.specs.{Kinds.KeepsToKinds, Stop.IsStopped, RefusedHere.IsPlaceFor, RefusedHere.IsRefusedBy}
-use Rattle.cbor_parser.specs.declared.item_start.ItemStart.TheVariants.{Indefinite, Refused}
-use Rattle.cbor_parser.specs.declared.item_start.{Here.Here, ItemStart.ItemStart}
+use Rattle.cbor_parser.specs.declared.item_start.{ItemStart.TheVariants.Indefinite, ItemStart.TheVariants.Refused, Here.Here, ItemStart.ItemStart}
 
 -- the rules of the deterministic encoding, in whichever order; or those of any valid item
 abbrev pub AreRulesOf : Bool → Rules → Type 0

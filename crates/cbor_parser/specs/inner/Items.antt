@@ -1,8 +1,7 @@
 -- What stands where an item is expected, by the rules of the deterministic encoding.
 use Rattle.std.specs.Prelude.{◌≡◌, ℕ, suc, ◌+◌, ◌-◌, ◌^◌, ◌%◌, ◌<◌, ◌≤◌, ◌⊎◌, ◌++◌, Bool, true, false, List, ◌∷◌, length, drop}
-use Rattle.cbor_head.specs.Prelude.{shortest_head, Bounds}
 use Rattle.cbor_head.specs.declared.major.Major.TheVariants.{Array, Map, Tag}
-use Rattle.cbor_head.specs.declared.{keys.Keys.TheVariants.IntegersAndTexts}
+use Rattle.cbor_head.specs.{Prelude.shortest_head, Prelude.Bounds, declared.keys.Keys.TheVariants.IntegersAndTexts}
 use Rattle.cbor_verdict.specs.PathKinds.{IsFitPrefix}
 use Rattle.cbor_parser.specs.declared.item_start.ItemStart.TheVariants.{Leaf, Opens, Indefinite, Refused}
 use Rattle.cbor_parser.specs.declared.fast_item.FastItem.TheVariants as short

@@ -2,8 +2,7 @@
 use Rattle.std.specs.Prelude.{ℕ, suc, ◌≡◌, ◌-◌, Bool, true, false, Option, Some, List, [], ◌∷◌, ◌++◌, length}
 use Rattle.cbor_head.specs.Prelude.{Spelling, a_map}
 use Rattle.cbor_verdict.specs.Levels.{Level, a_member, some_member, tagged, ArePairsTaken, bytes_before}
-use Rattle.cbor_parser.specs.{Expected.pairs, Sink.is_map, inner.OpenContainer.full_opener}
-use Rattle.cbor_parser.specs.inner.OpenContainer.{Cell}
+use Rattle.cbor_parser.specs.{Expected.pairs, Sink.is_map, inner.OpenContainer.full_opener, inner.OpenContainer.Cell}
 
 -- the keys and values of a map are taken; two keys may be the same
 abbrev pub HasTakenPairs : ℕ → Spelling → Type 0

@@ -10,9 +10,8 @@ use Rattle.cbor_parser.specs.declared.parse.Stop.TheVariants as stop
 use Rattle.cbor_parser.specs.declared.part.Part.TheVariants as part
 use Rattle.cbor_parser.specs.Sink.{StandsFull, Reported, IsReportedFull, IsWithin}
 use Rattle.cbor_parser.specs.declared.{parser.ParseEnd.ParseEnd, parser.CloseResult.CloseResult, parse.Stop.Stop}
-use Rattle.cbor_parser.specs.{inner.Repeated.IsKeyReported, declared.part.Part.Part, ParsedItem.IsStop}
-use Rattle.cbor_parser.specs.inner.{Kept.KeepsBefore, Kept.ParseEndKept, OpenContainer.cells_of, OpenMaps.IsCellOf, Parts.IsHead, Parts.IsOpener}
-use Rattle.cbor_parser.specs.inner.OpenContainer.{Cell}
+use Rattle.cbor_parser.specs.{inner.Repeated.IsKeyReported, declared.part.Part.Part, ParsedItem.IsStop, inner.Kept.KeepsBefore, inner.Kept.ParseEndKept}
+use Rattle.cbor_parser.specs.inner.{OpenContainer.cells_of, OpenContainer.Cell, OpenMaps.IsCellOf, Parts.IsHead, Parts.IsOpener}
 
 -- ---- what is known of an input
 

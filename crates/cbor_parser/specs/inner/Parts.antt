@@ -9,8 +9,7 @@ use Rattle.cbor_parser.specs.declared.container.Expected.TheVariants.{Item, Key,
 use Rattle.cbor_parser.specs.declared.part.PackedPart.TheVariants as left
 use Rattle.cbor_parser.specs.declared.part.Part.TheVariants as part
 use Rattle.cbor_parser.specs.declared.{container.Expected.Expected, part.Part.Part, part.PackedPart.PackedPart}
-use Rattle.cbor_parser.specs.inner.OpenContainer.{cell_of}
-use Rattle.cbor_parser.specs.inner.OpenContainer.{Cell}
+use Rattle.cbor_parser.specs.inner.OpenContainer.{cell_of, Cell}
 
 -- it is an item, or nothing can be taken
 abbrev pub IsItem : Part → Type 0

@@ -5,8 +5,7 @@ use Rattle.cbor_head.specs.declared.order.KeyOrder.{KeyOrder}
 use Rattle.cbor_builder.specs.{Built.HasKey, Built.AreOpenKeysDifferent, declared.repeat.Repeat.Repeat}
 use Rattle.cbor_verdict.specs.Levels.{IsTaken, Level, AreLevels, bytes_before}
 use Rattle.cbor_verdict.specs.{Given.opens, Kinds.KeepsToKinds}
-use Rattle.cbor_parser.specs.{Sink.IsKeyBehind, inner.OpenContainer.opener, inner.OpenMaps.FindsMap}
-use Rattle.cbor_parser.specs.inner.OpenContainer.{Cell}
+use Rattle.cbor_parser.specs.{Sink.IsKeyBehind, inner.OpenContainer.opener, inner.OpenContainer.Cell, inner.OpenMaps.FindsMap}
 
 -- The input's item has come to a key that has the canonical bytes of an earlier one of its map, as no two keys before it. So many
 -- bytes of the input stand behind the map's head.

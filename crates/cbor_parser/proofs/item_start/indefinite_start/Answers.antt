@@ -2,8 +2,8 @@ use Rattle.std.proofs.Common.{◌≡◌, ℕ, ◌∷◌, Bool, Option, Some, sym
 use Rattle.cbor_head.specs.declared.reason.Refusal.{Refusal}
 use Rattle.cbor_parser.proofs.item_start.indefinite_start.Goals as goal
 use Rattle.cbor_parser.proofs.item_start.indefinite_start.Goals.{in-95, in-127, in_default}
-use Rattle.cbor_parser.specs.inner.Faults.{AreChunksRefused, IsIndefiniteStart}
 use Rattle.cbor_parser.specs.declared.item_start.ItemStart.TheVariants as starts
+use Rattle.cbor_parser.specs.inner.Faults.{AreChunksRefused, IsIndefiniteStart}
 
 pub returns-in-Some : goal.returns-in-Some
 returns-in-Some c =

@@ -2,17 +2,17 @@ use Rattle.std.proofs.Common.{◌≡◌, ◌⊎◌, ℕ, ◌+◌, ◌-◌, ◌%�
 use Rattle.std.proofs.lemmas.{Bool.cases_lt, Bool.false≢true, List.nil_from_length}
 use Rattle.cbor_head.specs.Prelude.{AreBytes, shortest}
 use Rattle.cbor_model.proofs.KeyByteLists.{are_bytes}
-use Rattle.cbor_verdict.specs.PathKinds.{IsFitPrefix, IsOtherPrefix}
 use Rattle.cbor_verdict.proofs.RefusedHere.{cut_here, no_simple_here, long_here}
+use Rattle.cbor_verdict.specs.PathKinds.{IsFitPrefix, IsOtherPrefix}
 use Rattle.cbor_parser.specs.declared.item_start.ItemStart.TheVariants as starts
-use Rattle.cbor_parser.specs.{Strings.IsStringHead, declared.container.Expected.TheVariants.Item, declared.container.Expected.TheVariants.Key}
 use Rattle.cbor_parser.proofs.AnyItem.{any_leaf, a_tag, an_array, a_map, an_empty, a_text, some_bytes}
-use Rattle.cbor_parser.proofs.AnyRefusals.{answers}
 use Rattle.cbor_parser.proofs.Faults.{texts_asked, kinds_asked, heads_asked, quiet_head, fault_same, cut_off, fault_initial_byte_error, fault_of_kind, fault_of, string_fault, indefinite_fault}
 use Rattle.cbor_parser.proofs.item_start.item_start.Goals as goal
 use Rattle.cbor_parser.proofs.item_start.item_start.Goals.{After-initial_byte_error, Joined-else-here-2, Joined-else-first-2, Joined-else-is_strict, Then-first-lt128}
 use Rattle.cbor_parser.proofs.item_start.item_start.Goals.{else-first-via-then-first+else-here, else-first-via-else-first, else-here-2-via-then-here-2+else-begins_other_kind, else-here-2-via-else-here-2}
 use Rattle.cbor_parser.proofs.item_start.item_start.Goals.{else-first-2-via-then-first-2+else-head-lt32, else-first-2-via-else-first-2, else-is_strict-via-then-is_strict+else-not-is_shortest, else-is_strict-via-else-is_strict, then-first-lt64-via-then-first-lt64, then-first-lt64-via-else-first-lt64+then-first-ge224}
+use Rattle.cbor_parser.specs.{Strings.IsStringHead, declared.container.Expected.TheVariants.Item, declared.container.Expected.TheVariants.Key}
+use Rattle.cbor_parser.proofs.AnyRefusals.{answers}
 
 -- a break stands there only where none may
 no_break : (c : After-initial_byte_error) → c.in-Some.first.now ≡ 0xff → c.args.here.may_break ≡ true → ⊥

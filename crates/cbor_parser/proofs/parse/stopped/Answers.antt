@@ -1,11 +1,10 @@
 use Rattle.std.proofs.Common.{◌≡◌, ◌∙◌, ℕ, nat_lt, refl, sym, ap, subst, arith, inl}
-use Rattle.cbor_model.proofs.ByteLists.{are_bytes}
 use Rattle.cbor_head.specs.Prelude.{plain}
+use Rattle.cbor_model.proofs.ByteLists.{are_bytes}
 use Rattle.cbor_verdict.specs.{Stop.IsAnswered, PathKinds.asks}
 use Rattle.cbor_parser.proofs.parse.stopped.Goals as goal
 use Rattle.cbor_parser.proofs.parse.stopped.Goals.{Joined-parse_end, In-Repeated, in-Untaken, in-Untaken-2}
-use Rattle.cbor_parser.specs.{Stack.open_levels, inner.Repeated.IsKeyReportedIn}
-use Rattle.cbor_parser.proofs.Taking.{asked_of}
+use Rattle.cbor_parser.{specs.Stack.open_levels, specs.inner.Repeated.IsKeyReportedIn, proofs.Taking.asked_of}
 use Rattle.cbor_parser.proofs.{GivenStops.StopsBefore, GivenStops.stopped-there, ReportedStops.reported_where_expected, ReportedStops.reported_at_end}
 use Rattle.cbor_parser.specs.inner.OpenContainer.{Cell}
 

@@ -1,11 +1,10 @@
 use Rattle.std.proofs.Common.{◌≡◌, ◌+◌, ◌≤◌, ℕ, nat_lt, List, ◌∷◌, ◌++◌, length, drop, refl, sym, ap, ◌∙◌, subst}
 use Rattle.cbor_head.specs.Prelude.{strict, AreBytes}
-use Rattle.cbor_verdict.specs.{Path.bytes_before, PathKinds.asks, PathKinds.KeepsHere, Stop.IsStopped}
-use Rattle.cbor_verdict.proofs.RefusedHere.{no_break}
+use Rattle.cbor_verdict.{specs.Path.bytes_before, specs.PathKinds.asks, specs.PathKinds.KeepsHere, specs.Stop.IsStopped, proofs.RefusedHere.no_break}
 use Rattle.cbor_parser.proofs.Taking.{always, key_asked, leaf_ends, opener_opens, whole_is, place_for, fit_here}
 use Rattle.cbor_parser.proofs.take_item.take_any.Goals as goal
-use Rattle.cbor_parser.specs.{inner.Leaves.IsLeaf, inner.Cells.StandsAt, inner.Items.IsFit, inner.Items.IsOpener, Stack.around, Stack.open_levels}
-use Rattle.cbor_parser.specs.inner.Cells.{StrictCell}
+use Rattle.cbor_parser.specs.inner.{Leaves.IsLeaf, Cells.StandsAt, Cells.StrictCell, Items.IsFit, Items.IsOpener}
+use Rattle.cbor_parser.specs.Stack.{around, open_levels}
 
 pub returns-in-Leaf-clause-takes : goal.returns-in-Leaf-clause-takes
 returns-in-Leaf-clause-takes g c =

@@ -3,8 +3,8 @@ use Rattle.cbor_head.specs.Prelude.{strict}
 use Rattle.cbor_verdict.specs.PathKinds.{asks, KeepsHere}
 use Rattle.cbor_parser.proofs.Taking.{leaf_ends, opener_opens, height_is, fit_here}
 use Rattle.cbor_parser.proofs.take_item.take_next.Goals as goal
-use Rattle.cbor_parser.specs.{inner.Leaves.IsLeaf, inner.Items.IsFit, inner.Items.OpensWith, inner.Cells.StandsAt, Stack.around, Stack.open_levels}
-use Rattle.cbor_parser.specs.inner.Cells.{StrictCell}
+use Rattle.cbor_parser.specs.inner.{Leaves.IsLeaf, Items.IsFit, Items.OpensWith, Cells.StandsAt, Cells.StrictCell}
+use Rattle.cbor_parser.specs.Stack.{around, open_levels}
 
 pub returns-in-Item-clause-takes : goal.returns-in-Item-clause-takes
 returns-in-Item-clause-takes g c =

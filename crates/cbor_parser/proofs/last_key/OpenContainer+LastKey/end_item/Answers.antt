@@ -1,8 +1,8 @@
 use Rattle.std.proofs.Common.{◌≡◌, Bool, Some, None, ◌∙◌, sym, ap, subst}
-use Rattle.cbor_parser.specs.inner.{OpenContainer.after, Cells.StrictCell, Cells.TakesKey}
 use Rattle.cbor_parser.proofs.CellSteps.{item_goes, value_goes, key_goes, item_ends, value_ends, key_goes_on, key_out_of_order}
 use Rattle.cbor_parser.proofs.last_key.OpenContainer+LastKey.end_item.Goals as goal
 use Rattle.cbor_parser.proofs.last_key.OpenContainer+LastKey.end_item.Goals.{in-Key+else-not-take_key, in-Value, in-Item}
+use Rattle.cbor_parser.specs.inner.{OpenContainer.after, Cells.StrictCell, Cells.TakesKey}
 
 pub returns-then-not-take_key : goal.returns-then-not-take_key
 returns-then-not-take_key c = λ limits cs h.

@@ -2,9 +2,8 @@ use Rattle.std.proofs.Common.{List, sym, ap, subst, arith, refl, IfSome}
 use Rattle.std.specs.Option.{is_some}
 use Rattle.cbor_parser.proofs.GivenFull.{filled-full, full-asked, full-ended, full-repeats}
 use Rattle.cbor_parser.proofs.parser.Parser.close.Goals as goal
-use Rattle.cbor_parser.{specs.Stack.around, proofs.Stacks.open_levels_count, specs.Sink.Repeats}
-use Rattle.cbor_parser.{specs.inner.Parser.HasEnded, proofs.GivenEnds.goes, proofs.GivenEnds.is-full}
-use Rattle.cbor_parser.specs.inner.OpenContainer.{Cell}
+use Rattle.cbor_parser.{specs.Stack.around, proofs.Stacks.open_levels_count, specs.Sink.Repeats, specs.inner.Parser.HasEnded}
+use Rattle.cbor_parser.{proofs.GivenEnds.goes, proofs.GivenEnds.is-full, specs.inner.OpenContainer.Cell}
 
 pub end-requires : goal.end-requires
 end-requires g c =

@@ -1,7 +1,6 @@
 use Rattle.std.proofs.Common.{ℕ, ◌≤◌, List, length}
 use Rattle.cbor_parser.proofs.parser.Parser.close.Given as goal
-use Rattle.cbor_parser.specs.{Stack.open_levels, inner.Parser.HasFilled}
-use Rattle.cbor_parser.specs.inner.OpenContainer.{Cell}
+use Rattle.cbor_parser.specs.{Stack.open_levels, inner.Parser.HasFilled, inner.OpenContainer.Cell}
 
 abbrev pub invariant-levels : goal.invariant-levels
 invariant-levels g l =

@@ -1,8 +1,7 @@
 use Rattle.std.proofs.Common.{ℕ, ◌∷◌, subst, arith, refl}
 use Rattle.cbor_parser.proofs.parser.Parser.indefinite_part.Goals as goal
-use Rattle.cbor_parser.specs.{Stack.around, Stack.open_levels, inner.Parser.IsExpected}
-use Rattle.cbor_parser.proofs.{GivenEnds.break-ends, GivenItems.array-opens, GivenItems.map-opens}
-use Rattle.cbor_parser.specs.inner.OpenContainer.{Cell}
+use Rattle.cbor_parser.{specs.Stack.around, specs.Stack.open_levels, specs.inner.Parser.IsExpected, proofs.GivenEnds.break-ends}
+use Rattle.cbor_parser.{proofs.GivenItems.array-opens, proofs.GivenItems.map-opens, specs.inner.OpenContainer.Cell}
 
 pub open-requires : goal.open-requires
 open-requires g c =

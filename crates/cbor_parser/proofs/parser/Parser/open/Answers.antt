@@ -1,8 +1,7 @@
 use Rattle.std.proofs.Common.{◌∙◌, ◌-◌, ◌<◌, List, length, sym, subst, arith, refl}
 use Rattle.cbor_parser.proofs.GivenParts.{expected-item, key-awaited, height-is, opened}
 use Rattle.cbor_parser.proofs.parser.Parser.open.Goals as goal
-use Rattle.cbor_parser.{specs.Stack.around, proofs.Stacks.open_levels_count}
-use Rattle.cbor_parser.{specs.inner.Parser.IsExpected, proofs.GivenKinds.opener-begun}
+use Rattle.cbor_parser.{specs.Stack.around, proofs.Stacks.open_levels_count, specs.inner.Parser.IsExpected, proofs.GivenKinds.opener-begun}
 use Rattle.cbor_parser.specs.inner.OpenContainer.{Cell}
 
 pub begin-requires : goal.begin-requires

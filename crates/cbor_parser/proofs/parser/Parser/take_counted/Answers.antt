@@ -2,10 +2,9 @@ use Rattle.std.proofs.Common.{◌∙◌, ◌-◌, ◌<◌, Bool, ℕ, List, leng
 use Rattle.cbor_parser.specs.inner.Parser.{IsExpected, IsToEnd, TakesTo}
 use Rattle.cbor_parser.proofs.GivenParts.{expected-item, key-awaited, height-is, empty-ends}
 use Rattle.cbor_parser.proofs.parser.Parser.take_counted.Goals as goal
-use Rattle.cbor_parser.{specs.Stack.around, specs.Stack.open_levels, proofs.Stacks.open_levels_count}
-use Rattle.cbor_parser.{specs.inner.Parts.IsHead, proofs.GivenItems.counts-container, proofs.GivenItems.head-opens}
-use Rattle.cbor_parser.proofs.{GivenKinds.counted-begun, GivenKinds.begun-takes, GivenFull.ends-takes, parser.Parser.take_counted.Goals.After-is_key-2}
-use Rattle.cbor_parser.specs.inner.OpenContainer.{Cell}
+use Rattle.cbor_parser.{specs.Stack.around, specs.Stack.open_levels, proofs.Stacks.open_levels_count, specs.inner.Parts.IsHead}
+use Rattle.cbor_parser.proofs.{GivenItems.counts-container, GivenItems.head-opens, GivenKinds.counted-begun, GivenKinds.begun-takes, GivenFull.ends-takes}
+use Rattle.cbor_parser.{proofs.parser.Parser.take_counted.Goals.After-is_key-2, specs.inner.OpenContainer.Cell}
 
 -- it has begun, and is to end
 empty : (g : _) (c : After-is_key-2 g) (rest : List ℕ) → IsHead c.args.major c.args.number rest c.args.behind.now → (start : g.row.S.Denot) (input : List ℕ)

@@ -1,9 +1,7 @@
 use Rattle.std.proofs.Common.{◌-◌, subst, sym}
 use Rattle.cbor_parser.proofs.Lefts.{same-takes, same-prefix, left-within}
 use Rattle.cbor_parser.proofs.parser.Parser.take_indefinite.Goals as goal
-use Rattle.cbor_parser.specs.{Stack.open_levels, declared.part.PackedPart.PackedPart}
-use Rattle.cbor_parser.specs.inner.Parts.{Leaves, LeavesWithin}
-use Rattle.cbor_parser.specs.inner.OpenContainer.{Cell}
+use Rattle.cbor_parser.specs.{Stack.open_levels, declared.part.PackedPart.PackedPart, inner.Parts.Leaves, inner.Parts.LeavesWithin, inner.OpenContainer.Cell}
 
 pub returns-clause-within : goal.returns-clause-within
 returns-clause-within g c =

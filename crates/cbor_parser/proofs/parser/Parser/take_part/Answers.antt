@@ -2,8 +2,7 @@ use Rattle.std.proofs.Common.{◌≡◌, ◌+◌, ◌-◌, ◌*◌, ◌%◌, ◌
 use Rattle.cbor_head.specs.declared.major.Major.TheVariants.{Tag, Simple}
 use Rattle.cbor_parser.proofs.GivenItems.{head-here, simple-here, tag-opens}
 use Rattle.cbor_parser.proofs.parser.Parser.take_part.Goals as goal
-use Rattle.cbor_parser.specs.{Stack.around, Stack.open_levels, inner.Parser.TakesTo}
-use Rattle.cbor_parser.specs.inner.Parts.{IsHead, IsOpener}
+use Rattle.cbor_parser.specs.{Stack.around, Stack.open_levels, inner.Parser.TakesTo, inner.Parts.IsHead, inner.Parts.IsOpener}
 use Rattle.cbor_parser.proofs.parser.Parser.take_part.Goals.{After-counted-opened, Else-number-lt32}
 use Rattle.cbor_parser.specs.inner.OpenContainer.{Cell}
 

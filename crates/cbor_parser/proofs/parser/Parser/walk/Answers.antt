@@ -2,8 +2,7 @@ use Rattle.std.proofs.Common.{◌≡◌, ℕ, nat_eq, true, not, List, ◌∷◌
 use Rattle.cbor_head.specs.declared.keys.Keys.{Keys}
 use Rattle.cbor_parser.proofs.parser.Parser.walk.Goals as goal
 use Rattle.cbor_parser.proofs.parser.Parser.walk.Goals.{In-Item, In-Break, Else-advance}
-use Rattle.cbor_parser.specs.{Stack.around, Stack.open_levels}
-use Rattle.cbor_parser.specs.inner.{Parser.IsExpected, Parser.HasFilled, Kept.KeepsBefore}
+use Rattle.cbor_parser.specs.{Stack.around, Stack.open_levels, inner.Parser.IsExpected, inner.Parser.HasFilled, inner.Kept.KeepsBefore}
 use Rattle.cbor_parser.proofs.{GivenEnds.goes, GivenEnds.is-full, GivenKinds.begun-keeps, GivenKinds.broken-keeps}
 use Rattle.cbor_parser.specs.inner.OpenContainer.{Cell}
 

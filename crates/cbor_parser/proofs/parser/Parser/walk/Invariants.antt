@@ -1,8 +1,7 @@
 use Rattle.std.proofs.Common.{◌≡◌, ℕ, ◌≤◌, nat_eq, true, not, List, length}
 use Rattle.cbor_head.specs.declared.keys.Keys.{Keys}
 use Rattle.cbor_parser.proofs.parser.Parser.walk.Given as goal
-use Rattle.cbor_parser.specs.{Stack.open_levels, inner.Parser.IsExpected, inner.Kept.KeepsBefore}
-use Rattle.cbor_parser.specs.inner.OpenContainer.{Cell}
+use Rattle.cbor_parser.specs.{Stack.open_levels, inner.Parser.IsExpected, inner.Kept.KeepsBefore, inner.OpenContainer.Cell}
 
 abbrev pub invariant-parts : goal.invariant-parts
 invariant-parts g l =
