@@ -6,8 +6,9 @@
 A program is called with `bytewise` or `length`, reads lines of hex digits, each an item, and writes the canonical bytes of
 each value that it read, in hex digits, or `refused 5 Float at 1`. It reads items of up to 1,024 levels, with keys of any
 kind. The inputs are the rows of the conformance tables and random items, and then what they become, which has to come back
-as it is. With a library, its diagnostic text of what all of them make is that of the value. The one named Python may answer `no value` where two keys of a map are equal in Python. The first answer that is
-not the wanted one is printed, and the status is 1.
+as it is. With a library, its diagnostic text of what all of them make is that of the value. The one named Python may
+answer `no value` where two keys of a map are equal in Python. The first answer that is not the wanted one is printed, and
+the status is 1.
 """
 
 import argparse

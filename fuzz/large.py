@@ -1,6 +1,5 @@
-"""Large maps whose pairs come out of order, which the builder puts in order at the end, on both sides of the sizes
-from which it does: 2,048 bytes, 64 for each pair; within one another, in keys, beside one another in arrays whose head
-has one or two bytes."""
+"""Large maps whose pairs come out of order: within one another, in keys, beside one another in arrays whose head has one
+or two bytes, with few bytes for each pair and with many."""
 
 
 def head(major, number):

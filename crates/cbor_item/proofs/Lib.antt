@@ -1,11 +1,11 @@
 pub mod Counting
+mod Distinct
 pub mod Held
 mod Lookups
 mod Rests
+mod Sizes
 pub mod Steps
 mod TreeWalk
 pub mod ValuesMade
-mod ViewPairs
 mod ViewValues
-pub mod Views
 pub mod Walk

@@ -13,6 +13,7 @@
 //!
 //! A [`View`] is `Copy`: a string in one piece is a slice of the input; a string in chunks and the members of an array or map
 //! are slices of an arena. `cbor_reader::read_view` makes one; [`TreeBuilder`] and [`ViewBuilder`] make items from their parts.
+//! What goes over items and over views alike, as their comparison and their text do, goes over a [`Node`].
 #![tactic(auto)]
 
 mod dropping;
@@ -24,15 +25,14 @@ mod lookup;
 mod node;
 mod parts_law;
 mod rest;
+mod sameness;
 mod to_tree;
 mod tree;
 mod tree_builder;
 mod tree_level;
-mod tree_same;
 mod view;
 mod view_builder;
 mod view_level;
-mod view_same;
 mod within;
 mod write;
 
@@ -44,9 +44,9 @@ pub use item::Item;
 pub use joined::Joined;
 pub use node::{Node, NodeKind};
 pub use parts_law::parts_make_the_value;
+pub use sameness::same;
 pub use tree::Tree;
 pub use tree_builder::TreeBuilder;
-pub use tree_same::same;
 pub use view::View;
 pub use view_builder::ViewBuilder;
 pub use write::{encode_to, write_whole};

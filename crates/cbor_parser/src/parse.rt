@@ -10,14 +10,15 @@ ghost use Rattle.cbor_parser.specs.ParsedItem.{IsStop};
 ghost use Rattle.cbor_parser.specs.Sink.{IsKnownValid, IsGivenPrefix};
 ghost use Rattle.cbor_parser.specs.inner.Parser.{BeginsTaken, IsExpected, Meets, HasPassed, IsStopWithin};
 ghost use Rattle.cbor_parser.specs.inner.Kept.{KeepsBefore, ParseEndKept};
-ghost use Rattle.cbor_parser.specs.inner.OpenContainer.{counted};
+ghost use Rattle.cbor_parser.specs.inner.OpenContainer.{Cell, counted};
 ghost use Rattle.cbor_parser.specs.inner.Repeated.{IsKeyReportedIn};
 
 use crate::container::Expected;
+use crate::item_start::{Here, ItemStart, item_start};
+use crate::kinds::{asks, is_asked};
 use crate::limit::{truncated_or_too_long, within};
 use crate::open_container::OpenContainer;
 use crate::parser::{ParseEnd, Parser};
-use crate::refusal::{fault, is_asked};
 use crate::repeated_key::{repeated_key, reported_map};
 use crate::sink::Sink;
 use crate::stack::{FEW, MOST, SOME, Stack, lend};
@@ -78,14 +79,14 @@ impl<S> Parser<S> {
 #[inline(never)]
 fn stopped<'a, S: Sink<'a>>(
     building: &mut Parser<S>,
-    cells: &[OpenContainer],
+    cells: &[OpenContainer<usize>],
     input: &[u8],
     parse_end: ParseEnd<'a>,
     limits: Limits,
 ) -> Stop
     requires cells { building.old.stack.height ≤ length cells.now }
     requires come { (start : S) × Meets S S.stands S.trusts S.holds parse_end start limits.depth input.now
-        (open_levels OpenContainer building.old.stack cells.now) building.old.sink }
+        (open_levels Cell building.old.stack cells.now) building.old.sink }
     requires kept { ParseEndKept parse_end limits.depth limits.keys input.now }
     requires within { length input.now ≤ 2 ^ 62 }
     ensures { IsStopWithin S.trusts limits input.now result }
@@ -101,26 +102,35 @@ fn stopped<'a, S: Sink<'a>>(
     }
     let stack = building.stack;
     let at = input.len() - rest.len();
-    let space = stack.height < usize::from(limits.depth());
-    let is_key = is_asked(limits.keys(), stack.top.expected);
-    match fault(rest, at, space, is_key, stack.top.may_break()) {
-        Some(refusal) => Stop::Refused(truncated_or_too_long(refusal, input, limits.bytes())),
-        None => memory,
+    let here = Here {
+        space: stack.height < usize::from(limits.depth()),
+        is_key: is_asked(asks(limits.keys()), stack.top.expected),
+        may_break: stack.top.may_break(),
+    };
+    match item_start(rest, at, here, false) {
+        ItemStart::Refused(refusal) => {
+            Stop::Refused(truncated_or_too_long(refusal, input, limits.bytes()))
+        }
+        _ => memory,
     }
 }
 
 // Where the key stands that is reported, by the cells of the open maps.
-fn repeated(stack: &Stack<OpenContainer>, cells: &[OpenContainer], repeat: Repeat) -> Stop
+fn repeated(
+    stack: &Stack<OpenContainer<usize>>,
+    cells: &[OpenContainer<usize>],
+    repeat: Repeat,
+) -> Stop
     requires cells { stack.now.height ≤ length cells.now }
     requires reported { (limits : Bounds) × (input : List ℕ)
-        × IsKeyReportedIn limits input (open_levels OpenContainer stack.now cells.now) repeat }
+        × IsKeyReportedIn limits input (open_levels Cell stack.now cells.now) repeat }
     ensures { (trusts : Bool) (limits : Bounds) (input : List ℕ)
-        → IsKeyReportedIn limits input (open_levels OpenContainer stack.now cells.now) repeat
+        → IsKeyReportedIn limits input (open_levels Cell stack.now cells.now) repeat
         → IsStopWithin trusts limits input result }
 {
     match reported_map(stack, cells, repeat.outside) {
         Some(map) => Stop::Repeated {
-            behind: map.behind,
+            behind: map.kept,
             pair: repeat.pair,
         },
         None => unreachable!(),
@@ -184,18 +194,18 @@ fn deeper<'a, S: Sink<'a>, const KINDS: bool>(
     building: &mut Parser<S>,
     input: &[u8],
     rest: &'a [u8],
-    few: &[OpenContainer],
+    few: &[OpenContainer<usize>],
     limits: Limits,
 ) -> Result<&'a [u8], Stop>
     requires few { length few.now ≤ SOME }
     requires full { building.old.stack.height ≡ length few.now }
     requires expected { (start : S) × IsExpected S S.stands S.trusts start limits.depth input.now
-        (open_levels OpenContainer building.old.stack few.now) building.old.sink rest.now }
+        (open_levels Cell building.old.stack few.now) building.old.sink rest.now }
     requires kinds { asks limits.keys ≡ KINDS }
     requires kept { KeepsBefore limits.depth limits.keys input.now rest.now }
     requires within { length input.now ≤ 2 ^ 62 }
     ensures { (start : S) → IsExpected S S.stands S.trusts start limits.depth input.now
-        (open_levels OpenContainer building.old.stack few.now) building.old.sink rest.now
+        (open_levels Cell building.old.stack few.now) building.old.sink rest.now
         → MatchResult result
         (λ behind. HasPassed S S.stands S.trusts start limits input.now building.new.sink behind.now)
         (IsStopWithin S.trusts limits input.now) }
@@ -219,18 +229,18 @@ fn deepest<'a, S: Sink<'a>, const KINDS: bool>(
     building: &mut Parser<S>,
     input: &[u8],
     rest: &'a [u8],
-    few: &[OpenContainer],
+    few: &[OpenContainer<usize>],
     limits: Limits,
 ) -> Result<&'a [u8], Stop>
     requires few { length few.now ≤ MOST }
     requires full { building.old.stack.height ≡ length few.now }
     requires expected { (start : S) × IsExpected S S.stands S.trusts start limits.depth input.now
-        (open_levels OpenContainer building.old.stack few.now) building.old.sink rest.now }
+        (open_levels Cell building.old.stack few.now) building.old.sink rest.now }
     requires kinds { asks limits.keys ≡ KINDS }
     requires kept { KeepsBefore limits.depth limits.keys input.now rest.now }
     requires within { length input.now ≤ 2 ^ 62 }
     ensures { (start : S) → IsExpected S S.stands S.trusts start limits.depth input.now
-        (open_levels OpenContainer building.old.stack few.now) building.old.sink rest.now
+        (open_levels Cell building.old.stack few.now) building.old.sink rest.now
         → MatchResult result
         (λ behind. HasPassed S S.stands S.trusts start limits input.now building.new.sink behind.now)
         (IsStopWithin S.trusts limits input.now) }
