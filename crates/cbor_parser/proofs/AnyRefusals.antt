@@ -5,15 +5,11 @@ use Rattle.cbor_head.specs.declared.reason.Reason.TheVariants as reasons
 use Rattle.cbor_head.specs.{Prelude.refusal, declared.reason.Refusal.Refusal, declared.argument.Argument.Argument}
 use Rattle.cbor_verdict.proofs.RefusedHere.{refused_same, payload_cut_here, no_text_here}
 use Rattle.cbor_parser.specs.Strings.{IsStringHead, IsStringFault, IsStringRefused}
-use Rattle.cbor_parser.specs.declared.item_start.Any.TheVariants as any
-use Rattle.cbor_parser.specs.{inner.Items.IsRefusedHere, inner.Items.IsAny, declared.item_start.Any.Any}
+use Rattle.cbor_parser.specs.{inner.Items.IsStart, declared.item_start.ItemStart.ItemStart}
 
 -- what is answered
-pub refuses : (space : Bool) (at : ℕ) (b c : List ℕ) (f : Refusal) (result : Any) → b ≡ c → result ≡ any.Refused f → IsRefusedHere space c at f → IsAny b at space result
-refuses space at b c f result e is h = subst (IsAny b at space) (sym is) (subst (λ (x : List ℕ). IsRefusedHere space x at f) (sym e) h)
-
-pub answers : (space : Bool) (at : ℕ) (b c : List ℕ) (result answer : Any) → b ≡ c → result ≡ answer → IsAny c at space answer → IsAny b at space result
-answers space at b c result answer e is h = subst (IsAny b at space) (sym is) (subst (λ (x : List ℕ). IsAny x at space answer) (sym e) h)
+pub answers : (space : Bool) (b c : List ℕ) (result answer : ItemStart) → b ≡ c → result ≡ answer → IsStart c space answer → IsStart b space result
+answers space b c result answer e is h = subst (IsStart b space) (sym is) (subst (λ (x : List ℕ). IsStart x space answer) (sym e) h)
 
 -- the string with this head
 pub string_refused : (b : List ℕ) (h : Argument) (at : ℕ) (f : Refusal) → IsStringHead b h → IsStringFault b h at f → IsStringRefused b h at f

@@ -11,8 +11,9 @@ use Rattle.cbor_parser.proofs.LevelPaths.{paths_of, paths_length, paths_bytes, p
 use Rattle.cbor_parser.specs.{Stack.around, Stack.open_levels, declared.container.Expected.Expected}
 use Rattle.cbor_parser.specs.declared.{container.Expected.TheVariants.Key, container.Expected.TheVariants.Value, stack.Stack.Stack}
 use Rattle.cbor_parser.{proofs.Stacks.more_cells, proofs.Stacks.open_levels_count, specs.Sink.FindsNoRepeat}
-use Rattle.cbor_parser.specs.{inner.Kept.KeepsBefore, inner.Kept.ParseEndKept, inner.Faults.IsFault, declared.parser.ParseEnd.ParseEnd}
-use Rattle.cbor_parser.{specs.declared.open_container.OpenContainer.OpenContainer, proofs.GivenKinds.asked-kinds, proofs.GivenParts.cells-count}
+use Rattle.cbor_parser.specs.{inner.Kept.KeepsBefore, inner.Kept.ParseEndKept, inner.Faults.IsFault, declared.item_start.Here.Here}
+use Rattle.cbor_parser.{specs.declared.parser.ParseEnd.ParseEnd, specs.declared.open_container.OpenContainer.OpenContainer, proofs.GivenKinds.asked-kinds}
+use Rattle.cbor_parser.proofs.GivenParts.{cells-count}
 
 -- that kinds are asked for, and a key is expected
 pub record IsAsked (limits : Bounds) (expected : Expected) (is_key : Bool) : Type 0 where
@@ -60,9 +61,9 @@ module _ (S : Type 0) (stands : S → S → ParseState → Type 0) (trusts : Boo
 
   module _ (limits : Bounds) (bytes input : List ℕ) (within : input ≡ take limits.bytes bytes) (are : AreBytes input) (k : Stack OpenContainer) (cells : List OpenContainer) (low : k.height ≤ length cells) (g : S) (m : ParseEnd) (rest : Bor (List ℕ)) (stops : StopsBefore m rest) (meets : Meets S stands trusts holds m start limits.depth input (open_levels OpenContainer k cells) g) (kept : ParseEndKept m limits.depth limits.keys input) where
     -- what is found at the place of the rest, where no open map has two keys that are the same
-    pub stopped-there : (at : ℕ) (space is_key may_break : Bool) (f answer : Refusal) → FindsNoRepeat S stands holds g → at ≡ length input - length rest.now → space ≡ nat_lt k.height limits.depth → IsAsked limits k.top.expected is_key
-        → (k.top.is_indefinite ≡ true → k.top.expected ≢ Value → may_break ≡ true) → IsFault rest.now at space is_key may_break f → IsAnswered limits.bytes input f answer → IsVerdict limits plain bytes (refused answer)
-    stopped-there at space is_key may_break f answer apart here roomy asked breaks fault answered =
+    pub stopped-there : (at : ℕ) (here : Here) (f answer : Refusal) → FindsNoRepeat S stands holds g → at ≡ length input - length rest.now → here.space ≡ nat_lt k.height limits.depth → IsAsked limits k.top.expected here.is_key
+        → (k.top.is_indefinite ≡ true → k.top.expected ≢ Value → here.may_break ≡ true) → IsFault plain rest.now at here f → IsAnswered limits.bytes input f answer → IsVerdict limits plain bytes (refused answer)
+    stopped-there at here f answer apart there roomy asked breaks fault answered =
         let come = come-before m rest limits.depth input (open_levels OpenContainer k cells) g stops meets in
         let ls = come.ls in
         let ps = paths_of ls in
@@ -77,9 +78,9 @@ module _ (S : Type 0) (stands : S → S → ParseState → Type 0) (trusts : Boo
         let found = fault limits ps (paths_clean order limits.depth ls come.levels short different)
         (λ b. let may = breaks_path (length input) k.top (around OpenContainer k cells) limits.depth ls come.levels come.cells b in breaks may.0 may.1)
         (subst (KeepsToKinds limits plain) (sym same) (kept-before m rest limits input stops kept (bytes_before ls) come.bytes))
-        (record { both = λ e. let both = asked.both e in (both.0, expected.0 both.1); none = λ e kinds there. asked.none e kinds.1 (expected.1 there) })
+        (record { both = λ e. let both = asked.both e in (both.0, expected.0 both.1); none = λ e kinds key. asked.none e kinds (expected.1 key) })
         (record {
-          here = here ∙ omega (arith, ap length come.bytes, size) ∙ ap length (sym same);
+          here = there ∙ omega (arith, ap length come.bytes, size) ∙ ap length (sym same);
           fits = λ r. let below = ltb-true k.height limits.depth (sym roomy ∙ r) in omega (arith, below, count, height);
           full = λ r. let above = ltb-false k.height limits.depth (sym roomy ∙ r) in omega (arith, above, count, height);
         })

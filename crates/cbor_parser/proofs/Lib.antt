@@ -16,7 +16,6 @@ pub mod KeyOrder
 pub mod KnownTexts
 pub mod Lefts
 pub mod LevelPaths
-pub mod OtherKeys
 pub mod RepeatedKeys
 pub mod Repeats
 pub mod ShortHeads

@@ -1,20 +1,22 @@
 -- What is taken where an item is expected, in the cells.
-use Rattle.std.proofs.Common.{◌≡◌, ℕ, suc, ◌+◌, ◌-◌, ◌<◌, ◌≤◌, Bool, true, nat_lt, List, [], ◌∷◌, ◌++◌, length, take, drop, refl, sym, ap, ◌∙◌, subst, inl, inr, arith, append_assoc, append-nil, length-drop, reverse, slice_range, ltb-true, ltb-false, length-append}
+use Rattle.std.proofs.Common.{◌≡◌, ℕ, suc, ◌+◌, ◌-◌, ◌<◌, ◌≤◌, Bool, true, false, nat_lt, List, [], ◌∷◌, ◌++◌, length, take, drop, refl, sym, ap, ◌∙◌, subst, inl, inr, arith, append_assoc, append-nil, length-drop, reverse, slice_range, ltb-true, ltb-false, length-append}
 use Rattle.std.proofs.Math.Seq.{drop-append_seam}
 use Rattle.cbor_head.specs.Prelude.{strict, OfCount, Holds, IsHead, head, shortest, Bounds, spell, no_spellings, no_entries, HoldsOrIndefinite}
 use Rattle.cbor_head.specs.declared.major.Major.TheVariants.{Array, Map, Tag}
-use Rattle.cbor_head.specs.declared.{major.Major.Major, order.KeyOrder.KeyOrder, width.Width.Width, width.Width.TheVariants.Indefinite}
+use Rattle.cbor_head.specs.declared.{major.Major.Major, order.KeyOrder.KeyOrder, width.Width.Width, width.Width.TheVariants.Indefinite, keys.Keys.Keys}
+use Rattle.cbor_head.specs.declared.keys.Keys.TheVariants.{Any, IntegersAndTexts}
 use Rattle.cbor_model.{proofs.Normal.Holds-shortest, specs.KeyPrefix.prefix_of}
 use Rattle.cbor_verdict.specs.Path as path
 use Rattle.cbor_verdict.specs.Path.{a_member, a_key, a_value, tagged, level_bytes, bytes_before, IsKeyExpectedIn}
 use Rattle.cbor_verdict.proofs.PathKinds.{kept_prefix, head_begun, keeps_begun, keeps_item}
 use Rattle.cbor_verdict.proofs.{Items.is-definite, Heads.open_or, Heads.takes, KindBytes.head_is_one, KindFrames.keeps_start}
-use Rattle.cbor_verdict.specs.{Judged.Never, Kinds.KeepsToKinds, PathKinds.KeepsHere, RefusedHere.IsPlaceFor}
+use Rattle.cbor_verdict.specs.{Judged.Never, Kinds.KeepsToKinds, PathKinds.asks, PathKinds.KeepsHere, RefusedHere.IsPlaceFor}
 use Rattle.cbor_parser.specs.inner.Cells.{a_level, AreCells, StandsAt, HasEndedAt, IsWhole}
 use Rattle.cbor_parser.specs.declared.container.Expected.TheVariants.{Item, Key, Value}
 use Rattle.cbor_parser.proofs.CellSteps.{item_is_no_key, key_is_no_value, item_full}
-use Rattle.cbor_parser.specs.{inner.Leaves.IsLeaf, inner.Items.IsFit, inner.Items.IsOpener, Stack.open_levels, declared.container.Expected.Expected}
-use Rattle.cbor_parser.{specs.declared.container.Level.Level, specs.declared.stack.Stack.Stack, proofs.Stacks.open_levels_count, proofs.Stacks.more_cells}
+use Rattle.cbor_parser.specs.{inner.Faults.IsKeyAsked, inner.Leaves.IsLeaf, inner.Items.IsFit, inner.Items.IsOpener, Stack.open_levels}
+use Rattle.cbor_parser.specs.declared.{container.Expected.Expected, container.Level.Level, stack.Stack.Stack}
+use Rattle.cbor_parser.proofs.Stacks.{open_levels_count, more_cells}
 
 -- ---- how many are open
 
@@ -36,6 +38,22 @@ key_expected input (a_value w left done k ∷ ls) c cs a e = absurd (key_is_no_v
 key_expected input (tagged w n ∷ ls) c cs a e = absurd (item_is_no_key c a.0.0 e)
 key_expected input [] c [] a e = absurd (item_is_no_key c a.0 e)
 key_expected input [] c (x ∷ xs) a e = absurd a
+
+pub asked_of : (keys : Keys) → asks keys ≡ true → keys ≡ IntegersAndTexts
+asked_of Any e = absurd (cc e)
+asked_of IntegersAndTexts e = refl
+
+-- whether it is one whose kind is asked for
+pub key_asked : (o : KeyOrder) (limits : Bounds) (input : List ℕ) (c : Level) (cs : List Level) (at : ℕ) (s : StandsAt o limits input (c ∷ cs) at) (kinds is_key : Bool) → asks limits.keys ≡ kinds
+    → (is_key ≡ true → (kinds ≡ true) × (c.expected ≡ Key)) → (is_key ≡ false → kinds ≡ true → c.expected ≡ Key → ⊥) → IsKeyAsked is_key limits s.ls
+key_asked o limits input c cs at s kinds is_key asked both none = record {
+  both = λ e. let b = both e in (asked_of limits.keys (asked ∙ b.0), key_expected input s.ls c cs s.are b.1);
+  none = λ e these expected. none e (sym asked ∙ ap asks these) (expected_key input s.ls c cs s.are expected);
+}
+
+pub always : (b : Bool) → (b ≡ false → ⊥) → b ≡ true
+always true h = refl
+always false h = absurd (h refl)
 
 -- ---- heads in their shortest form
 

@@ -11,7 +11,7 @@ ghost use Rattle.cbor_parser.specs.inner.CanonicalEnds.{IsFull};
 
 use crate::canonical_walk::{CanonicalEnd, key_out_of_order, walk};
 use crate::container::{Expected, Level};
-use crate::item_start::{Any, item_start};
+use crate::item_start::{Here, ItemStart, item_start};
 use crate::limit::{truncated_or_too_long, within};
 use crate::stack::{FEW, MOST, SOME, Stack, lend};
 use cbor_head::{KeyOrder, Keys, Limits, Refusal};
@@ -53,10 +53,15 @@ fn whole_prefix<const KINDS: bool>(
 {
     // An item that is no container wants no cells.
     if !begins_container(input) {
-        match item_start(input, 0, limits.depth() > 0) {
-            Any::Leaf(used) => return Ok(used),
-            Any::Refused(refusal) => return Err(refusal),
-            Any::Opens(..) => {}
+        let here = Here {
+            space: limits.depth() > 0,
+            is_key: false,
+            may_break: false,
+        };
+        match item_start(input, 0, here, true) {
+            ItemStart::Leaf(used) => return Ok(used),
+            ItemStart::Refused(refusal) => return Err(refusal),
+            ItemStart::Opens(..) | ItemStart::Indefinite => {}
         }
     }
     let level = Level::new(Expected::Item, 0, 0);

@@ -1,98 +1,143 @@
-//! What stands where an item is expected, if it is no short item: slower, and exactly.
+//! What stands where an item is expected, or why it is refused: slower than the fast ways, and exactly.
 
-ghost use Rattle.std.specs.Prelude.{◌≡◌, ◌≤◌, ◌<◌, ◌+◌, ◌-◌, ◌^◌, length, MatchOption};
+ghost use Rattle.std.specs.Prelude.{◌≡◌, ◌≤◌, ◌<◌, ◌+◌, ◌-◌, ◌^◌, true, false, length, MatchOption};
 ghost use Rattle.cbor_head.specs.Verdict.{refusal};
-ghost use Rattle.cbor_parser.specs.declared.item_start.Any.TheVariants as any;
-ghost use Rattle.cbor_parser.specs.inner.Items.{IsAny};
+ghost use Rattle.cbor_verdict.specs.PathKinds.{IsFitPrefix};
+ghost use Rattle.cbor_parser.specs.declared.item_start.ItemStart.TheVariants as starts;
+ghost use Rattle.cbor_parser.specs.inner.Items.{IsStart, IsTaken};
+ghost use Rattle.cbor_parser.specs.inner.Faults.{IsRefusedStart, IsIndefiniteStart};
 ghost use Rattle.cbor_parser.specs.Strings.{IsStringHead, IsStringWhole, IsStringFault};
 
+use crate::chunk_refusal::chunks_fault;
 use crate::container::Expected;
+use crate::kinds::begins_other_kind;
 use cbor_head::{Argument, Reason, Refusal, initial_byte_error, read_argument};
 use cbor_text::check_text;
 
+/// What is known of the place where an item is expected.
+#[derive(Clone, Copy)]
+pub(crate) struct Here {
+    /// One more container may open.
+    pub(crate) space: bool,
+    /// A key is expected, whose kind is asked for.
+    pub(crate) is_key: bool,
+    /// A break may stand there.
+    pub(crate) may_break: bool,
+}
+
 /// What stands where an item is expected.
 #[derive(Clone, Copy)]
-pub(crate) enum Any {
+pub(crate) enum ItemStart {
     /// An item that ends behind so many bytes.
     Leaf(usize),
     /// The head, of so many bytes, of a container in which this is expected, and so many members or pairs
     /// more.
     Opens(Expected, u64, usize),
+    /// What has no length, or a break.
+    Indefinite,
     /// Nothing that may stand there.
     Refused(Refusal),
 }
 
-/// What stands there, at this place of the input, where one more container may open or not.
+/// What stands there, at this place of the input, by the rules of the deterministic encoding
+/// (`is_strict`) or by those of any valid item.
 #[inline(never)]
-pub(crate) fn item_start(rest: &[u8], at: usize, space: bool) -> Any
+pub(crate) fn item_start(rest: &[u8], at: usize, here: Here, is_strict: bool) -> ItemStart
     requires { at + length rest.now < 2 ^ 63 }
-    ensures { IsAny rest.now at space result }
+    ensures refused { IsRefusedStart is_strict rest.now at here result }
+    ensures taken { is_strict ≡ true → here.may_break ≡ false → IsStart rest.now here.space result }
+    ensures fits { IsTaken result → here.is_key ≡ true → IsFitPrefix rest.now }
 {
     let end = at + rest.len();
     let Some((first, behind)) = rest.split_first() else {
-        return Any::Refused(refusal_at(Reason::Truncated, end, end));
+        return ItemStart::Refused(refusal_at(Reason::Truncated, end, end));
     };
-    let first = *first;
-    if let Some(reason) = initial_byte_error(first, space) {
-        return Any::Refused(refusal_at(reason, at, at + 1));
+    let (first, low) = (*first, *first % 32);
+    if first == 0xff && here.may_break {
+        return ItemStart::Indefinite;
     }
-    let low = first % 32;
+    if let Some(reason) = initial_byte_error(first, here.space) {
+        return ItemStart::Refused(refusal_at(reason, at, at + 1));
+    }
+    if here.is_key && begins_other_kind(rest) {
+        return ItemStart::Refused(refusal_at(Reason::KeyKind, at, at + 1));
+    }
     if low == 31 {
-        return Any::Refused(refusal_at(Reason::Indefinite, at, at + 1));
+        return indefinite_start(first, behind, at, is_strict);
     }
     let Some(head) = read_argument(low, behind) else {
-        return Any::Refused(refusal_at(Reason::Truncated, end, end));
+        return ItemStart::Refused(refusal_at(Reason::Truncated, end, end));
     };
     if first == 0xf8 && head.number < 32 {
-        return Any::Refused(refusal_at(Reason::BadSimple, at + 1, at + 2));
+        return ItemStart::Refused(refusal_at(Reason::BadSimple, at + 1, at + 2));
     }
     let used = rest.len() - head.rest.len();
-    if !head.width.is_shortest(head.number) {
-        return Any::Refused(refusal_at(Reason::NotShortest, at, at + used));
+    if is_strict && !head.width.is_shortest(head.number) {
+        return ItemStart::Refused(refusal_at(Reason::NotShortest, at, at + used));
     }
     if first < 0x40 || first >= 0xe0 {
-        return Any::Leaf(used);
+        return ItemStart::Leaf(used);
     }
     if first < 0x80 {
         return match string_refusal(rest, head, at) {
-            Some(refusal) => Any::Refused(refusal),
-            None => Any::Leaf(used + head.number as usize),
+            Some(refusal) => ItemStart::Refused(refusal),
+            None => ItemStart::Leaf(used + head.number as usize),
         };
     }
-    any_container(first, head.number, used)
+    container_start(first, head.number, used)
 }
 
 /// A refusal by places in memory.
-pub fn refusal_at(reason: Reason, place: usize, read: usize) -> Refusal
+pub(crate) fn refusal_at(reason: Reason, place: usize, read: usize) -> Refusal
     ensures { result ≡ refusal reason place read }
 {
     Refusal::new(reason, place as u64, read as u64)
 }
 
+// What begins with this byte, the opener of a string, an array or a map without a length, before these
+// bytes. By the strict rules nothing does; else a string is gone through.
+fn indefinite_start(first: u8, behind: &[u8], at: usize, is_strict: bool) -> ItemStart
+    requires { at + 1 + length behind.now < 2 ^ 63 }
+    ensures { IsIndefiniteStart is_strict first behind.now at result }
+{
+    if is_strict {
+        return ItemStart::Refused(refusal_at(Reason::Indefinite, at, at + 1));
+    }
+    let chunks = match first {
+        0x5f => chunks_fault(false, behind, at),
+        0x7f => chunks_fault(true, behind, at),
+        _ => None,
+    };
+    match chunks {
+        Some(refusal) => ItemStart::Refused(refusal),
+        None => ItemStart::Indefinite,
+    }
+}
+
 // The container with this head.
-fn any_container(first: u8, number: u64, used: usize) -> Any
-    ensures tag { 192 ≤ first → result ≡ any.Opens Expected.Item 0 used }
-    ensures none { first < 192 → number ≡ 0 → result ≡ any.Leaf used }
-    ensures array { first < 160 → 0 < number → result ≡ any.Opens Expected.Item (number - 1) used }
-    ensures map { 160 ≤ first → first < 192 → 0 < number → result ≡ any.Opens Expected.Key (number - 1) used }
+fn container_start(first: u8, number: u64, used: usize) -> ItemStart
+    ensures tag { 192 ≤ first → result ≡ starts.Opens Expected.Item 0 used }
+    ensures none { first < 192 → number ≡ 0 → result ≡ starts.Leaf used }
+    ensures array { first < 160 → 0 < number → result ≡ starts.Opens Expected.Item (number - 1) used }
+    ensures map { 160 ≤ first → first < 192 → 0 < number → result ≡ starts.Opens Expected.Key (number - 1) used }
 {
     if first >= 0xc0 {
-        return Any::Opens(Expected::Item, 0, used);
+        return ItemStart::Opens(Expected::Item, 0, used);
     }
     if number == 0 {
-        return Any::Leaf(used);
+        return ItemStart::Leaf(used);
     }
     let expected = if first < 0xa0 {
         Expected::Item
     } else {
         Expected::Key
     };
-    Any::Opens(expected, number - 1, used)
+    ItemStart::Opens(expected, number - 1, used)
 }
 
 /// Why the string or chunk with this head is none, whichever rules its head meets.
 #[inline(always)]
-pub fn string_refusal(rest: &[u8], head: Argument<'_>, at: usize) -> Option<Refusal>
+pub(crate) fn string_refusal(rest: &[u8], head: Argument<'_>, at: usize) -> Option<Refusal>
     requires place { at + length rest.now < 2 ^ 63 }
     requires head { IsStringHead rest.now head }
     ensures { MatchOption result (IsStringWhole rest.now head.entry)

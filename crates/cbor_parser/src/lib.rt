@@ -20,7 +20,6 @@ mod open_container;
 mod parse;
 mod parser;
 mod part;
-mod refusal;
 mod repeated_key;
 mod sink;
 mod skip;

@@ -14,10 +14,11 @@ ghost use Rattle.cbor_parser.specs.inner.OpenContainer.{counted};
 ghost use Rattle.cbor_parser.specs.inner.Repeated.{IsKeyReportedIn};
 
 use crate::container::Expected;
+use crate::item_start::{Here, ItemStart, item_start};
+use crate::kinds::{asks, is_asked};
 use crate::limit::{truncated_or_too_long, within};
 use crate::open_container::OpenContainer;
 use crate::parser::{ParseEnd, Parser};
-use crate::refusal::{fault, is_asked};
 use crate::repeated_key::{repeated_key, reported_map};
 use crate::sink::Sink;
 use crate::stack::{FEW, MOST, SOME, Stack, lend};
@@ -101,11 +102,16 @@ fn stopped<'a, S: Sink<'a>>(
     }
     let stack = building.stack;
     let at = input.len() - rest.len();
-    let space = stack.height < usize::from(limits.depth());
-    let is_key = is_asked(limits.keys(), stack.top.expected);
-    match fault(rest, at, space, is_key, stack.top.may_break()) {
-        Some(refusal) => Stop::Refused(truncated_or_too_long(refusal, input, limits.bytes())),
-        None => memory,
+    let here = Here {
+        space: stack.height < usize::from(limits.depth()),
+        is_key: is_asked(asks(limits.keys()), stack.top.expected),
+        may_break: stack.top.may_break(),
+    };
+    match item_start(rest, at, here, false) {
+        ItemStart::Refused(refusal) => {
+            Stop::Refused(truncated_or_too_long(refusal, input, limits.bytes()))
+        }
+        _ => memory,
     }
 }
 

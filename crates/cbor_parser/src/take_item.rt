@@ -5,10 +5,10 @@ ghost use Rattle.cbor_parser.specs.inner.CanonicalEnds.{Takes};
 
 use crate::container::Level;
 use crate::fast_item::{FastItem, fast_item};
-use crate::item_start::{Any, item_start};
-use crate::kinds::is_other_key;
+use crate::item_start::{Here, ItemStart, item_start};
+use crate::kinds::is_asked;
 use crate::stack::Stack;
-use cbor_head::{Reason, Refusal, initial_byte_error};
+use cbor_head::Refusal;
 
 /// What was taken where an item was expected.
 #[derive(Clone, Copy)]
@@ -73,19 +73,22 @@ fn take_any<const KINDS: bool>(
     ensures depth { stack.new.height ≤ depth }
     ensures takes { Takes result KINDS depth rest.now at stack.old cells.old stack.new cells.new }
 {
-    if is_other_key::<KINDS>(stack.top.expected, rest) {
-        let reason = initial_byte_error(rest[0], stack.height < depth).unwrap_or(Reason::KeyKind);
-        return TakenItem::Refused(Refusal::new(reason, at as u64, at as u64 + 1));
-    }
-    match item_start(rest, at, stack.height < depth) {
-        Any::Leaf(used) => TakenItem::Item(used),
-        Any::Opens(expected, left, used) => {
+    let here = Here {
+        space: stack.height < depth,
+        is_key: is_asked(KINDS, stack.top.expected),
+        may_break: false,
+    };
+    match item_start(rest, at, here, true) {
+        ItemStart::Leaf(used) => TakenItem::Item(used),
+        ItemStart::Opens(expected, left, used) => {
             if stack.height >= cells.len() {
                 return TakenItem::Full;
             }
             stack.push(cells, Level::new(expected, left, at + used));
             TakenItem::Head(used)
         }
-        Any::Refused(refusal) => TakenItem::Refused(refusal),
+        ItemStart::Refused(refusal) => TakenItem::Refused(refusal),
+        // Nothing of indefinite length is canonical.
+        ItemStart::Indefinite => unreachable!(),
     }
 }

@@ -1,21 +1,43 @@
--- What the plain rules have against the bytes that are left at a place.
-use Rattle.std.specs.Prelude.{◌≡◌, ℕ, ◌++◌, Bool, true, false, List}
-use Rattle.cbor_head.specs.Prelude.{plain, Bounds, AreBytes}
-use Rattle.cbor_head.specs.declared.{keys.Keys.TheVariants.IntegersAndTexts, reason.Refusal.Refusal}
+-- What rules have against the bytes that are left at a place.
+use Rattle.std.specs.Prelude.{◌≡◌, ℕ, ◌+◌, ◌++◌, Bool, true, false, List, ◌∷◌}
+use Rattle.cbor_head.specs.Prelude.{plain, strict, refusal, Rules, Bounds, AreBytes}
+use Rattle.cbor_head.specs.declared.{keys.Keys.TheVariants.IntegersAndTexts, reason.Refusal.Refusal, reason.Reason.TheVariants.Indefinite as IndefiniteReason}
+use Rattle.cbor_head.specs.declared.order.KeyOrder.{KeyOrder}
 use Rattle.cbor_verdict.specs.Path.{Level, bytes_before, AreClean, IsKeyExpectedIn, MayBreak}
-use Rattle.cbor_verdict.specs.{Kinds.AsksForKinds, Kinds.KeepsToKinds, Stop.IsStopped, RefusedHere.IsPlaceFor, RefusedHere.IsRefusedBy}
+use Rattle.cbor_verdict.specs.{Kinds.KeepsToKinds, Stop.IsStopped, RefusedHere.IsPlaceFor, RefusedHere.IsRefusedBy}
+use Rattle.cbor_parser.specs.declared.item_start.{ItemStart.TheVariants.Indefinite, ItemStart.TheVariants.Refused, Here.Here, ItemStart.ItemStart}
+
+-- the rules of the deterministic encoding, in whichever order; or those of any valid item
+abbrev pub AreRulesOf : Bool → Rules → Type 0
+AreRulesOf true r = (o : KeyOrder) × (r ≡ strict o)
+AreRulesOf false r = r ≡ plain
 
 -- kinds of keys are asked for, and a key is expected; or not both
 pub record IsKeyAsked (is_key : Bool) (limits : Bounds) (ls : List Level) : Type 0 where
   pub both : is_key ≡ true → (limits.keys ≡ IntegersAndTexts) × IsKeyExpectedIn ls
-  pub none : is_key ≡ false → AsksForKinds limits plain → IsKeyExpectedIn ls → ⊥
+  pub none : is_key ≡ false → limits.keys ≡ IntegersAndTexts → IsKeyExpectedIn ls → ⊥
 
--- The bytes that are left at this place are refused so, where one more container may open or not, and a break stand or not.
-abbrev pub IsFault : List ℕ → ℕ → Bool → Bool → Bool → Refusal → Type 0
-IsFault b at space is_key may_break f =
-    (limits : Bounds) (ls : List Level) → AreClean plain limits.depth ls → (MayBreak ls → may_break ≡ true) → KeepsToKinds limits plain (bytes_before ls) → IsKeyAsked is_key limits ls → IsPlaceFor space limits.depth ls at → AreBytes (bytes_before ls ++ b)
-    → IsStopped plain limits (bytes_before ls ++ b) f
+-- The bytes that are left at this place are refused so by these rules, where one more container may open or not, and a break stand or not.
+abbrev pub IsFault : Rules → List ℕ → ℕ → Here → Refusal → Type 0
+IsFault r b at here f =
+    (limits : Bounds) (ls : List Level) → AreClean r limits.depth ls → (MayBreak ls → here.may_break ≡ true) → KeepsToKinds limits r (bytes_before ls) → IsKeyAsked here.is_key limits ls → IsPlaceFor here.space limits.depth ls at → AreBytes (bytes_before ls ++ b)
+    → IsStopped r limits (bytes_before ls ++ b) f
+
+abbrev pub IsRefusedHere : Bool → List ℕ → ℕ → Here → Refusal → Type 0
+IsRefusedHere is_strict b at here f = (r : Rules) → AreRulesOf is_strict r → IsFault r b at here f
+
+abbrev pub IsRefusedStart : Bool → List ℕ → ℕ → Here → ItemStart → Type 0
+IsRefusedStart is_strict b at here (Refused f) = IsRefusedHere is_strict b at here f
+IsRefusedStart is_strict b at here _ = Unit {0}
+
+-- ---- what has no length
 
 -- So is refused what begins with the opener of a string in chunks.
 abbrev pub AreChunksRefused : List ℕ → ℕ → Refusal → Type 0
 AreChunksRefused b at f = (space : Bool) → IsRefusedBy plain space b at f
+
+abbrev pub IsIndefiniteStart : Bool → ℕ → List ℕ → ℕ → ItemStart → Type 0
+IsIndefiniteStart true first behind at start = start ≡ Refused (refusal IndefiniteReason at (at + 1))
+IsIndefiniteStart false first behind at (Refused f) = AreChunksRefused (first ∷ behind) at f
+IsIndefiniteStart false first behind at Indefinite = Unit {0}
+IsIndefiniteStart false first behind at _ = ⊥

@@ -1,13 +1,12 @@
 -- What stands where an item is expected, by the rules of the deterministic encoding.
 use Rattle.std.specs.Prelude.{◌≡◌, ℕ, suc, ◌+◌, ◌-◌, ◌^◌, ◌%◌, ◌<◌, ◌≤◌, ◌⊎◌, ◌++◌, Bool, true, false, List, ◌∷◌, length, drop}
-use Rattle.cbor_head.specs.Prelude.{strict, shortest_head, Bounds}
 use Rattle.cbor_head.specs.declared.major.Major.TheVariants.{Array, Map, Tag}
-use Rattle.cbor_head.specs.declared.{keys.Keys.TheVariants.IntegersAndTexts, order.KeyOrder.KeyOrder, reason.Refusal.Refusal}
-use Rattle.cbor_verdict.specs.{PathKinds.IsFitPrefix, RefusedHere.IsRefusedBy}
-use Rattle.cbor_parser.specs.declared.item_start.Any.TheVariants.{Leaf, Opens, Refused}
+use Rattle.cbor_head.specs.{Prelude.shortest_head, Prelude.Bounds, declared.keys.Keys.TheVariants.IntegersAndTexts}
+use Rattle.cbor_verdict.specs.PathKinds.{IsFitPrefix}
+use Rattle.cbor_parser.specs.declared.item_start.ItemStart.TheVariants.{Leaf, Opens, Indefinite, Refused}
 use Rattle.cbor_parser.specs.declared.fast_item.FastItem.TheVariants as short
 use Rattle.cbor_parser.specs.declared.container.Expected.TheVariants.{Item, Key, Value}
-use Rattle.cbor_parser.specs.{inner.Leaves.IsLeaf, inner.Leaves.IsShortest, declared.item_start.Any.Any, declared.fast_item.FastItem.FastItem}
+use Rattle.cbor_parser.specs.{inner.Leaves.IsLeaf, inner.Leaves.IsShortest, declared.item_start.ItemStart.ItemStart, declared.fast_item.FastItem.FastItem}
 use Rattle.cbor_parser.specs.declared.container.Expected.{Expected}
 
 -- a key that is expected is of the kinds that are asked for, where these are its bytes
@@ -33,13 +32,18 @@ pub record OpensHere (space : Bool) (b : List ℕ) (expected : Expected) (left u
   pub fits : space ≡ true
   pub opens : OpensWith expected left used b
 
-abbrev pub IsRefusedHere : Bool → List ℕ → ℕ → Refusal → Type 0
-IsRefusedHere space b at f = (o : KeyOrder) → IsRefusedBy (strict o) space b at f
+-- what stands there, by the rules of the deterministic encoding
+abbrev pub IsStart : List ℕ → Bool → ItemStart → Type 0
+IsStart b space (Leaf used) = (0 < used) × IsLeaf space b used
+IsStart b space (Opens expected left used) = OpensHere space b expected left used
+IsStart b space Indefinite = ⊥
+IsStart b space (Refused f) = Unit {0}
 
-abbrev pub IsAny : List ℕ → ℕ → Bool → Any → Type 0
-IsAny b at space (Leaf used) = (0 < used) × IsLeaf space b used
-IsAny b at space (Opens expected left used) = OpensHere space b expected left used
-IsAny b at space (Refused f) = IsRefusedHere space b at f
+-- an item, or the head of one
+abbrev pub IsTaken : ItemStart → Type 0
+IsTaken (Leaf used) = Unit {0}
+IsTaken (Opens expected left used) = Unit {0}
+IsTaken _ = ⊥
 
 -- ---- what the fast ways find
 

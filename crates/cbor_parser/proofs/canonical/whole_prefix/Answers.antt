@@ -1,18 +1,20 @@
-use Rattle.std.proofs.Common.{[], inl, ◌∙◌, arith}
+use Rattle.std.proofs.Common.{[], refl, inl, ◌∙◌, arith}
+use Rattle.std.proofs.lemmas.Bool.{false≢true}
+use Rattle.cbor_head.specs.Prelude.{strict}
 use Rattle.cbor_model.proofs.KeyByteLists.{are_bytes}
-use Rattle.cbor_verdict.proofs.RefusedHere.{no_break, no_break_here}
-use Rattle.cbor_parser.proofs.Taking.{starts_at, start_keeps, start_place, leaf_is_whole}
+use Rattle.cbor_verdict.proofs.KindFrames.{keeps_start}
+use Rattle.cbor_parser.proofs.Taking.{starts_at, start_place, leaf_is_whole}
 use Rattle.cbor_parser.proofs.canonical.whole_prefix.Goals as goal
 
 pub returns-in-Leaf-clause-whole : goal.returns-in-Leaf-clause-whole
-returns-in-Leaf-clause-whole g c = leaf_is_whole c.args.order c.args.limits c.args.input.now c.depth.result c.in-Leaf.used c.depth.ensures.depth c.in-Leaf.ensures.1
+returns-in-Leaf-clause-whole g c = leaf_is_whole c.args.order c.args.limits c.args.input.now c.depth.result c.in-Leaf.used c.depth.ensures.depth (c.in-Leaf.ensures.taken refl refl).1
 
 pub returns-in-Refused-clause-refused : goal.returns-in-Refused-clause-refused
 returns-in-Refused-clause-refused g c =
     let o = c.args.order in
     let limits = c.args.limits in
     let input = c.args.input.now in
-    inl (c.in-Refused.ensures o limits [] tt (no_break_here [] input (no_break o limits.depth [] tt)) (start_keeps o limits input) (start_place limits c.depth.result c.depth.ensures.depth) (are_bytes input (λ i. omega (arith, c.type_inv.input i))))
+    inl (c.in-Refused.ensures.refused (strict o) (o, refl) limits [] tt (λ b. absurd b) (keeps_start limits (strict o)) (record { both = λ e. absurd (false≢true e); none = λ e kinds expected. expected }) (start_place limits c.depth.result c.depth.ensures.depth) (are_bytes input (λ i. omega (arith, c.type_inv.input i))))
 
 pub returns-in-Whole-clause-whole : goal.returns-in-Whole-clause-whole
 returns-in-Whole-clause-whole g c =
