@@ -72,10 +72,10 @@ pub indefinite_fault : (s : Bool) (xs : List ℕ) (first : ℕ) (behind : List �
     → (start : ItemStart) → IsIndefiniteStart s first behind at start → IsRefusedStart s xs at here start
 indefinite_fault true xs first behind at here is no_break fit placed low start e =
     subst (IsRefusedStart true xs at here) (sym e) (λ r rules.
-        let opens : (64 ≤ first) × (first < 192) = elim placed.low [ inl l ↦ absurd (omega (arith, l, low)) | inr l ↦ (l.1, l.2) ] in
-        let f = refusal Indefinite at (at + 1) in
-        fault_same r xs (first ∷ behind) at here f f is refl
-        (fault_of r first behind at here no_break f fit (indefinite_here r here.space first behind at (heads_asked true r rules refl) low opens.0 opens.1 placed.fits)))
+    let opens : (64 ≤ first) × (first < 192) = elim placed.low [ inl l ↦ absurd (omega (arith, l, low)) | inr l ↦ (l.1, l.2) ] in
+    let f = refusal Indefinite at (at + 1) in
+    fault_same r xs (first ∷ behind) at here f f is refl
+    (fault_of r first behind at here no_break f fit (indefinite_here r here.space first behind at (heads_asked true r rules refl) low opens.0 opens.1 placed.fits)))
 indefinite_fault false xs first behind at here is no_break fit placed low (starts.Refused f) h = λ r rules.
     fault_same r xs (first ∷ behind) at here f f is refl
     (fault_of r first behind at here no_break f fit (subst (λ (x : Rules). IsRefusedBy x here.space (first ∷ behind) at f) (sym rules) (h here.space)))

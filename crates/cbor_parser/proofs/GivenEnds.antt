@@ -12,32 +12,33 @@ use Rattle.cbor_parser.specs.Sink.{is_map, IsEndedAs, StandsFull}
 use Rattle.cbor_parser.specs.inner.Parser.{IsExpected, HasEnded, IsCellFull, HasFilled}
 use Rattle.cbor_parser.specs.inner.OpenContainer.{counted, opener, full_opener, behind_head, cell_of, cells_of, after}
 use Rattle.cbor_parser.proofs.GivenParts.{cells-count, cell-is, cells-are}
+use Rattle.cbor_parser.specs.inner.OpenContainer.{Cell}
 use Rattle.cbor_parser.specs.{Expected.pairs, declared.container.Expected.TheVariants.Item, declared.container.Expected.TheVariants.Value}
-use Rattle.cbor_parser.specs.{inner.OpenMaps.HasTakenPairs, declared.open_container.OpenContainer.OpenContainer}
+use Rattle.cbor_parser.specs.inner.OpenMaps.{HasTakenPairs}
 
-pub cell-behind : (behind : ℕ) (l : Level) → (cell_of behind l).behind ≡ behind
+pub cell-behind : (behind : ℕ) (l : Level) → (cell_of behind l).kept ≡ behind
 cell-behind behind (a_member w left done) = refl
 cell-behind behind _ = refl
 
-some-is : (x y : OpenContainer) → Some x ≡ Some y → x ≡ y
+some-is : (x y : Cell) → Some x ≡ Some y → x ≡ y
 some-is x y e = cc
 
 module _ (S : Type 0) (stands : S → S → ParseState → Type 0) (trusts : Bool) (start : S) (d : ℕ) (input : List ℕ) where
-  begins-there : (l : Level) (ls : List Level) (item : Spelling) → opener l ≡ full_opener item → (cell_of (behind_head (length input) ls l) l).behind ≡ length input - length (bytes_before ls ++ full_opener item)
+  begins-there : (l : Level) (ls : List Level) (item : Spelling) → opener l ≡ full_opener item → (cell_of (behind_head (length input) ls l) l).kept ≡ length input - length (bytes_before ls ++ full_opener item)
   begins-there l ls item heads = cell-behind (behind_head (length input) ls l) l ∙ ap (λ (x : List ℕ). length input - length (bytes_before ls ++ x)) heads
 
   -- it has a cell, and so others are around it
-  filled : (top : OpenContainer) (cs : List OpenContainer) (g : S) (rest : List ℕ) → IsCellFull S stands trusts (StandsFull S stands d start g) d input top cs rest → HasFilled S stands trusts start d input (top ∷ cs) g rest
+  filled : (top : Cell) (cs : List Cell) (g : S) (rest : List ℕ) → IsCellFull S stands trusts (StandsFull S stands d start g) d input top cs rest → HasFilled S stands trusts start d input (top ∷ cs) g rest
   filled top [] g rest s = absurd (omega (arith, ap length s.cells, cells-count (length input) s.ls))
   filled top (c ∷ cs) g rest s = s
 
   -- ---- behind an item
 
-  module _ (c : OpenContainer) (cs : List OpenContainer) (g : S) (rest : List ℕ) (h : HasEnded S stands trusts start d input (c ∷ cs) g rest) where
+  module _ (c : Cell) (cs : List Cell) (g : S) (rest : List ℕ) (h : HasEnded S stands trusts start d input (c ∷ cs) g rest) where
     short : (ls : List Level) → input ≡ (bytes_before ls ++ spell h.item) ++ rest → length (bytes_before ls ++ spell h.item) < 2 ^ 64
     short ls e = let small = h.small in omega (arith, small, ap length e, length-append (bytes_before ls ++ spell h.item) rest)
 
-    no-more : (x : OpenContainer) → None ≡ Some x → ⊥
+    no-more : (x : Cell) → None ≡ Some x → ⊥
     no-more x e = cc
 
     abbrev levels-with : List Level → Type 0
@@ -53,7 +54,7 @@ module _ (S : Type 0) (stands : S → S → ParseState → Type 0) (trusts : Boo
     ended : levels-with h.ls
     ended = (h.levels, record { spelled = h.spelled; within = h.within; clean = h.given.0 }, h.cells, h.given.1, h.bytes)
 
-    pub goes : (new : OpenContainer) → after c ≡ Some new → IsExpected S stands trusts start d input (new ∷ cs) g rest
+    pub goes : (new : Cell) → after c ≡ Some new → IsExpected S stands trusts start d input (new ∷ cs) g rest
     goes new e = go h.ls ended
       where
         on : (l : Level) (ls : List Level) (k : levels-with (l ∷ ls)) → after (cell_of (behind_head (length input) ls l) l) ≡ Some new
@@ -68,7 +69,7 @@ module _ (S : Type 0) (stands : S → S → ParseState → Type 0) (trusts : Boo
             record {
               ls = m ∷ ls;
               levels = there.0;
-              cells = ap₂ (λ (x : OpenContainer) (xs : List OpenContainer). x ∷ xs) cell (cells-are (length input) l ls k.2);
+              cells = ap₂ (λ (x : Cell) (xs : List Cell). x ∷ xs) cell (cells-are (length input) l ls k.2);
               given = subst (stands start g) settled k.3;
               bytes = k.4 ∙ ap (λ (x : List ℕ). x ++ rest) there.1;
               small = h.small;
@@ -86,7 +87,7 @@ module _ (S : Type 0) (stands : S → S → ParseState → Type 0) (trusts : Boo
         go (l ∷ ls) k = absurd (no-more new (on l ls k))
 
     -- nothing is expected in it; its cell may be another, of the same kind, which begins there
-    module _ (new : OpenContainer) (same_kind : pairs new.expected ≡ pairs c.expected) (same_place : new.behind ≡ c.behind) where
+    module _ (new : Cell) (same_kind : pairs new.expected ≡ pairs c.expected) (same_place : new.kept ≡ c.kept) where
       fills : (l : Level) (ls : List Level) → levels-with (l ∷ ls) → (item : Spelling) → settle (l ∷ ls) h.item ≡ item_full ls item → pairs (cell_of (behind_head (length input) ls l) l).expected ≡ is_map item → opener l ≡ full_opener item → HasTakenPairs (d - suc (length ls)) item
           → HasFilled S stands trusts start d input (new ∷ cs) g rest
       fills l ls k item settled kind heads taken =
@@ -102,8 +103,8 @@ module _ (S : Type 0) (stands : S → S → ParseState → Type 0) (trusts : Boo
             given = (
               inl (subst (stands start g) settled k.3),
               record {
-                kind = same_kind ∙ ap (λ (x : OpenContainer). pairs x.expected) cell ∙ kind;
-                place = same_place ∙ ap (λ (x : OpenContainer). x.behind) cell ∙ begins-there l ls item heads;
+                kind = same_kind ∙ ap (λ (x : Cell). pairs x.expected) cell ∙ kind;
+                place = same_place ∙ ap (λ (x : Cell). x.kept) cell ∙ begins-there l ls item heads;
                 taken = taken;
               },
             );
@@ -119,7 +120,7 @@ module _ (S : Type 0) (stands : S → S → ParseState → Type 0) (trusts : Boo
           go [] k =
               let none : cs ≡ [] = cc in
               let low : d - 0 ≡ d = omega arith in
-              subst (λ (x : List OpenContainer). HasFilled S stands trusts start d input (new ∷ x) g rest) (sym none) (record { item = h.item; taken = subst (λ (n : ℕ). IsTaken n h.item) low k.1; given = k.3; bytes = k.4 })
+              subst (λ (x : List Cell). HasFilled S stands trusts start d input (new ∷ x) g rest) (sym none) (record { item = h.item; taken = subst (λ (n : ℕ). IsTaken n h.item) low k.1; given = k.3; bytes = k.4 })
           go (a_member w zero done ∷ ls) k = fills (a_member w zero done) ls k (array w (with_all done (a_spelling h.item no_spellings))) refl refl (ap (head majors.Array w) (sym (last_member done h.item))) tt
           go (a_value w zero done key ∷ ls) k =
               let taken = pairs-more (d - suc (length ls)) done key h.item k.0.1.1 k.0.1.2 k.1 in
@@ -129,7 +130,7 @@ module _ (S : Type 0) (stands : S → S → ParseState → Type 0) (trusts : Boo
 
   -- ---- a break
 
-  module _ (c : OpenContainer) (cs : List OpenContainer) (g : S) (behind : List ℕ) (s : IsExpected S stands trusts start d input (c ∷ cs) g (0xff ∷ behind)) (open_ended : c.is_indefinite ≡ true) where
+  module _ (c : Cell) (cs : List Cell) (g : S) (behind : List ℕ) (s : IsExpected S stands trusts start d input (c ∷ cs) g (0xff ∷ behind)) (open_ended : c.is_indefinite ≡ true) where
     -- the innermost container is whole
     pub break-ends : (c.expected ≡ Value → ⊥) → HasFilled S stands trusts start d input (c ∷ cs) g behind
     break-ends no_value = filled c cs g behind (go s.ls s.levels s.cells s.given s.bytes)
@@ -151,8 +152,8 @@ module _ (S : Type 0) (stands : S → S → ParseState → Type 0) (trusts : Boo
               given = (
                 inr (l, whole, levels, given),
                 record {
-                  kind = ap (λ (x : OpenContainer). pairs x.expected) same ∙ reported;
-                  place = ap (λ (x : OpenContainer). x.behind) same ∙ begins-there l ls item heads;
+                  kind = ap (λ (x : Cell). pairs x.expected) same ∙ reported;
+                  place = ap (λ (x : Cell). x.kept) same ∙ begins-there l ls item heads;
                   taken = taken;
                 },
               );
@@ -162,10 +163,10 @@ module _ (S : Type 0) (stands : S → S → ParseState → Type 0) (trusts : Boo
             }
 
         go : (ls : List Level) → AreLevels d ls → c ∷ cs ≡ cells_of (length input) ls → stands start g (item_expected ls) → input ≡ bytes_before ls ++ 0xff ∷ behind → IsCellFull S stands trusts (StandsFull S stands d start g) d input c cs behind
-        go [] h e f b = let same : c ≡ counted Item 0 0 = cc in let x : false ≡ true = ap (λ (x : OpenContainer). x.is_indefinite) (sym same) ∙ open_ended in absurd (cc x)
+        go [] h e f b = let same : c ≡ counted Item 0 0 = cc in let x : false ≡ true = ap (λ (x : Cell). x.is_indefinite) (sym same) ∙ open_ended in absurd (cc x)
         go (some_member done ∷ ls) h e f b =
             ended (some_member done) ls (array Indefinite done) (head majors.Array Indefinite 0 ++ spell_all done) refl refl refl (tt, spelled-all (d - suc (length ls)) done h.1) (omega (arith, h.0, within-all (d - suc (length ls)) done h.1)) tt h e b refl f
         go (some_key done ∷ ls) h e f b =
             ended (some_key done) ls (a_map Indefinite done) (head majors.Map Indefinite 0 ++ spell_entries done) refl refl refl (tt, pairs-spelled (d - suc (length ls)) done h.1) (omega (arith, h.0, pairs-within (d - suc (length ls)) done h.1)) h.1 h e b refl f
-        go (some_value done k ∷ ls) h e f b = absurd (no_value (ap (λ (x : OpenContainer). x.expected) (cell-is (length input) (some_value done k) ls e)))
-        go (l ∷ ls) h e f b = absurd (cc (ap (λ (x : OpenContainer). x.is_indefinite) (sym (cell-is (length input) l ls e)) ∙ open_ended))
+        go (some_value done k ∷ ls) h e f b = absurd (no_value (ap (λ (x : Cell). x.expected) (cell-is (length input) (some_value done k) ls e)))
+        go (l ∷ ls) h e f b = absurd (cc (ap (λ (x : Cell). x.is_indefinite) (sym (cell-is (length input) l ls e)) ∙ open_ended))

@@ -7,7 +7,7 @@ use Rattle.cbor_verdict.proofs.CleanParts.{clean-within}
 use Rattle.cbor_parser.specs.Sink.{Fills, StandsFull, Reported, takes_key, is_map, IsEndedAs, IsReportedFull, IsContainerFull, Ends, Repeats}
 use Rattle.cbor_parser.specs.inner.Parser.{HasEnded, IsFull, IsToEnd, IsCellFull, HasFilled, TakesTo, EndsTo}
 use Rattle.cbor_parser.specs.declared.part.Part.TheVariants as part
-use Rattle.cbor_parser.specs.{Expected.pairs, declared.open_container.OpenContainer.OpenContainer, declared.part.Part.Part}
+use Rattle.cbor_parser.specs.{Expected.pairs, declared.part.Part.Part, inner.OpenContainer.Cell}
 
 -- a key is expected where a map ends
 ended-kind : (l : Level) (s : Spelling) → IsEndedAs l s → takes_key l ≡ is_map s
@@ -17,11 +17,11 @@ ended-kind l s e = absurd e
 
 module _ (S : Type 0) (stands : S → S → ParseState → Type 0) (trusts : Bool) (start : S) (d : ℕ) (input : List ℕ) where
   -- of its item something else is known
-  known-as : (P Q : List Level → Spelling → Type 0) (cs : List OpenContainer) (rest : List ℕ) → (s : IsFull S stands trusts P d input cs rest) → Q s.ls s.item → IsFull S stands trusts Q d input cs rest
+  known-as : (P Q : List Level → Spelling → Type 0) (cs : List Cell) (rest : List ℕ) → (s : IsFull S stands trusts P d input cs rest) → Q s.ls s.item → IsFull S stands trusts Q d input cs rest
   known-as P Q cs rest s given =
       record { ls = s.ls; item = s.item; levels = s.levels; spelled = s.spelled; within = s.within; cells = s.cells; given = given; bytes = s.bytes; small = s.small; known = s.known }
 
-  fills-of : (P : List Level → Spelling → Type 0) (cs : List OpenContainer) (rest : List ℕ) → (s : IsFull S stands trusts P d input cs rest) → Fills trusts d s.ls s.item
+  fills-of : (P : List Level → Spelling → Type 0) (cs : List Cell) (rest : List ℕ) → (s : IsFull S stands trusts P d input cs rest) → Fills trusts d s.ls s.item
   fills-of P cs rest s =
       record {
         levels = s.levels;
@@ -33,19 +33,19 @@ module _ (S : Type 0) (stands : S → S → ParseState → Type 0) (trusts : Boo
 
   -- ---- one that is to end
 
-  pub container-full : (t : Bool) (cs : List OpenContainer) (g : S) (rest : List ℕ) → IsToEnd S stands trusts t start d input cs g rest → IsContainerFull S stands trusts t g
+  pub container-full : (t : Bool) (cs : List Cell) (g : S) (rest : List ℕ) → IsToEnd S stands trusts t start d input cs g rest → IsContainerFull S stands trusts t g
   container-full t cs g rest s = (start, d, s.ls, s.item, fills-of _ cs rest s, s.given)
 
-  pub has-ended : (t : Bool) (cs : List OpenContainer) (g new : S) (rest : List ℕ) → IsToEnd S stands trusts t start d input cs g rest → Ends S stands trusts t g new → HasEnded S stands trusts start d input cs new rest
+  pub has-ended : (t : Bool) (cs : List Cell) (g new : S) (rest : List ℕ) → IsToEnd S stands trusts t start d input cs g rest → Ends S stands trusts t g new → HasEnded S stands trusts start d input cs new rest
   has-ended t cs g new rest s ends = known-as _ _ cs rest s (ends start d s.ls s.item (fills-of _ cs rest s) s.given)
 
   -- ---- the one of this cell, within those around it
 
-  pub filled-full : (top : OpenContainer) (cs : List OpenContainer) (g : S) (rest : List ℕ) → 0 < length cs → HasFilled S stands trusts start d input (top ∷ cs) g rest → IsCellFull S stands trusts (StandsFull S stands d start g) d input top cs rest
+  pub filled-full : (top : Cell) (cs : List Cell) (g : S) (rest : List ℕ) → 0 < length cs → HasFilled S stands trusts start d input (top ∷ cs) g rest → IsCellFull S stands trusts (StandsFull S stands d start g) d input top cs rest
   filled-full top [] g rest l h = absurd (omega (arith, l))
   filled-full top (c ∷ cs) g rest l h = h
 
-  module _ (t : Bool) (c : OpenContainer) (cs : List OpenContainer) (g : S) (rest : List ℕ) (reported : t ≡ pairs c.expected) (s : IsCellFull S stands trusts (StandsFull S stands d start g) d input c cs rest) where
+  module _ (t : Bool) (c : Cell) (cs : List Cell) (g : S) (rest : List ℕ) (reported : t ≡ pairs c.expected) (s : IsCellFull S stands trusts (StandsFull S stands d start g) d input c cs rest) where
     -- the sink is reported rightly whether it is a map
     stands-reported : StandsFull S (Reported S stands t) d start g s.ls s.item
     stands-reported =
@@ -66,7 +66,7 @@ module _ (S : Type 0) (stands : S → S → ParseState → Type 0) (trusts : Boo
     full-repeats repeat repeats = known-as _ _ cs rest s (repeats start d s.ls s.item (fills-of _ cs rest s) stands-reported, s.given.1)
 
   -- what ends is taken
-  pub ends-takes : (holds : S → S → List Level → Bool → List ℕ → Type 0) (p : Part) (cs : List OpenContainer) (g : S) (rest behind : List ℕ) → length behind < length rest → EndsTo S stands trusts p start d input cs g behind → TakesTo S stands trusts holds p start d input rest cs g
+  pub ends-takes : (holds : S → S → List Level → Bool → List ℕ → Type 0) (p : Part) (cs : List Cell) (g : S) (rest behind : List ℕ) → length behind < length rest → EndsTo S stands trusts p start d input cs g behind → TakesTo S stands trusts holds p start d input rest cs g
   ends-takes holds (part.Item to) cs g rest behind l h = (subst (λ (x : List ℕ). length x < length rest) (sym h.0) l, subst (HasEnded S stands trusts start d input cs g) (sym h.0) h.1)
   ends-takes holds part.Stopped cs g rest behind l h = tt
   ends-takes holds _ cs g rest behind l h = absurd h

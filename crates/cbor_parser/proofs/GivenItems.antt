@@ -11,8 +11,9 @@ use Rattle.cbor_verdict.{proofs.Heads.open_or, proofs.KindBytes.head_is_one, pro
 use Rattle.cbor_verdict.{specs.Reading.string_major, specs.Reading.string_value, proofs.Arguments.low_bits, proofs.Arguments.spells}
 use Rattle.cbor_parser.specs.inner.OpenContainer.{counted, indefinite, opener, cell_of}
 use Rattle.cbor_parser.specs.inner.Parts.{IsHead, IsOpener, IsPayload, Counts}
+use Rattle.cbor_parser.specs.inner.OpenContainer.{Cell}
 use Rattle.cbor_parser.specs.declared.container.Expected.{Expected, TheVariants.Item, TheVariants.Key}
-use Rattle.cbor_parser.specs.{Sink.leaf_value, declared.open_container.OpenContainer.OpenContainer}
+use Rattle.cbor_parser.specs.Sink.{leaf_value}
 
 -- ---- items without members
 
@@ -83,7 +84,7 @@ scalar-string t n size rest behind h p are =
 head-some : (m : Major) (w : Width) (n : ℕ) (xs : List ℕ) → 0 < length (head m w n ++ xs)
 head-some m w n xs = omega (arith, length_head m w n, length-append (head m w n) xs)
 
-counted-opens : (m : Major) (n : ℕ) (l : Level) (c : OpenContainer) (rest behind : List ℕ) (h : IsHead m n rest behind) → 0 < n → level_bytes l ≡ head m h.width (0 + suc (n - 1)) ++ [] → ((d : ℕ) → Holds h.width (0 + suc (n - 1)) → IsLevel d l)
+counted-opens : (m : Major) (n : ℕ) (l : Level) (c : Cell) (rest behind : List ℕ) (h : IsHead m n rest behind) → 0 < n → level_bytes l ≡ head m h.width (0 + suc (n - 1)) ++ [] → ((d : ℕ) → Holds h.width (0 + suc (n - 1)) → IsLevel d l)
     → c ≡ cell_of (length behind) l → IsOpened m n l → IsOpener m n c rest behind
 counted-opens m n l c rest behind h some whole fresh is opened =
     let e : 0 + suc (n - 1) ≡ n = omega (arith, some) in
@@ -96,7 +97,7 @@ counted-opens m n l c rest behind h some whole fresh is opened =
       is = h.is ∙ ap (λ (x : List ℕ). x ++ behind) (ap (head m h.width) (sym e) ∙ sym (append-nil (head m h.width (0 + suc (n - 1)))) ∙ sym whole);
     }
 
-pub head-opens : (m : Major) (n : ℕ) (expected : Expected) (c : OpenContainer) (rest behind : List ℕ) → Counts m expected → 0 < n → c ≡ counted expected (n - 1) (length behind) → IsHead m n rest behind → IsOpener m n c rest behind
+pub head-opens : (m : Major) (n : ℕ) (expected : Expected) (c : Cell) (rest behind : List ℕ) → Counts m expected → 0 < n → c ≡ counted expected (n - 1) (length behind) → IsHead m n rest behind → IsOpener m n c rest behind
 head-opens majors.Array n Item c rest behind k some is h = counted-opens majors.Array n (a_member h.width (n - 1) no_spellings) c rest behind h some refl (λ d f. (f, tt)) is (inl (h.width, n - 1, refl))
 head-opens majors.Map n Key c rest behind k some is h = counted-opens majors.Map n (a_key h.width (n - 1) no_entries) c rest behind h some refl (λ d f. (f, tt)) is (inl (h.width, n - 1, refl))
 head-opens _ n _ c rest behind k some is h = absurd k
@@ -106,7 +107,7 @@ counts-container majors.Array expected k = tt
 counts-container majors.Map expected k = tt
 counts-container _ expected k = absurd k
 
-pub tag-opens : (n : ℕ) (c : OpenContainer) (rest behind : List ℕ) → c ≡ counted Item 0 (length behind) → IsHead majors.Tag n rest behind → IsOpener majors.Tag n c rest behind
+pub tag-opens : (n : ℕ) (c : Cell) (rest behind : List ℕ) → c ≡ counted Item 0 (length behind) → IsHead majors.Tag n rest behind → IsOpener majors.Tag n c rest behind
 tag-opens n c rest behind is h = record {
   level = tagged h.width n;
   fresh = λ d. h.holds;
@@ -116,10 +117,10 @@ tag-opens n c rest behind is h = record {
   is = h.is;
 }
 
-pub array-opens : (first : ℕ) (c : OpenContainer) (behind : List ℕ) → first ≡ 0x9f → c ≡ indefinite Item (length behind) → IsOpener majors.Array 0 c (first ∷ behind) behind
+pub array-opens : (first : ℕ) (c : Cell) (behind : List ℕ) → first ≡ 0x9f → c ≡ indefinite Item (length behind) → IsOpener majors.Array 0 c (first ∷ behind) behind
 array-opens first c behind f e = record { level = some_member no_spellings; fresh = λ d. tt; cell = e; opened = inr refl; some = omega arith; is = ap (λ (x : ℕ). x ∷ behind) f }
 
-pub map-opens : (first : ℕ) (c : OpenContainer) (behind : List ℕ) → first ≡ 0xbf → c ≡ indefinite Key (length behind) → IsOpener majors.Map 0 c (first ∷ behind) behind
+pub map-opens : (first : ℕ) (c : Cell) (behind : List ℕ) → first ≡ 0xbf → c ≡ indefinite Key (length behind) → IsOpener majors.Map 0 c (first ∷ behind) behind
 map-opens first c behind f e = record { level = some_key no_entries; fresh = λ d. tt; cell = e; opened = inr refl; some = omega arith; is = ap (λ (x : ℕ). x ∷ behind) f }
 
 -- nothing else is there yet

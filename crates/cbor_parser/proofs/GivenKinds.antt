@@ -17,11 +17,11 @@ use Rattle.cbor_verdict.{specs.PathKinds.asks, specs.PathKinds.IsFitPrefix, proo
 use Rattle.cbor_parser.specs.inner.OpenContainer.{counted, behind_head, cell_of, cells_of}
 use Rattle.cbor_parser.specs.inner.Parts.{Counts, IsHead, IsOpener, IsItem, HasBegun, HasBroken, TakesPrefix, EndsBefore}
 use Rattle.cbor_parser.specs.declared.part.Part.TheVariants as part
+use Rattle.cbor_parser.specs.inner.OpenContainer.{Cell}
 use Rattle.cbor_parser.specs.{Stack.around, Stack.open_levels, declared.container.Expected.Expected}
 use Rattle.cbor_parser.specs.declared.{container.Expected.TheVariants.Item, container.Expected.TheVariants.Key, stack.Stack.Stack}
-use Rattle.cbor_parser.{proofs.Stacks.open_levels_count, specs.inner.Parser.IsExpected, specs.inner.Kept.KeepsBefore}
-use Rattle.cbor_parser.{specs.declared.open_container.OpenContainer.OpenContainer, specs.declared.part.Part.Part, proofs.GivenItems.IsScalar}
-use Rattle.cbor_parser.proofs.GivenParts.{height-is, cell-is}
+use Rattle.cbor_parser.{proofs.Stacks.open_levels_count, specs.inner.Parser.IsExpected, specs.inner.Kept.KeepsBefore, specs.declared.part.Part.Part}
+use Rattle.cbor_parser.proofs.{GivenItems.IsScalar, GivenParts.height-is, GivenParts.cell-is}
 
 -- ---- what begins so
 
@@ -43,7 +43,7 @@ counted-begun d majors.Array expected n rest behind k space h = head-has-begun d
 counted-begun d majors.Map expected n rest behind k space h = head-has-begun d majors.Map n rest behind h h.holds (omega (arith, space))
 counted-begun d _ expected n rest behind k space h = absurd k
 
-pub opener-begun : (d : ℕ) (m : Major) (n : ℕ) (c : OpenContainer) (rest behind : List ℕ) → 0 < d → IsOpener m n c rest behind → HasBegun d rest behind
+pub opener-begun : (d : ℕ) (m : Major) (n : ℕ) (c : Cell) (rest behind : List ℕ) → 0 < d → IsOpener m n c rest behind → HasBegun d rest behind
 opener-begun d m n c rest behind space k =
     subst (λ (x : List ℕ). HasBegun d x behind) (sym k.is)
     (of-opened (λ m n l. IsLevel 0 l → HasBegun d (level_bytes l ++ behind) behind) (λ w left n f. counted-head majors.Array w (0 + suc left) f.0 (omega (arith, space)) f.0) (λ n f. without-length 0x9f (array Indefinite no_spellings) refl (tt, tt) (omega (arith, space)))
@@ -57,7 +57,7 @@ opener-begun d m n c rest behind space k =
 
 -- ---- what is taken
 
-pub begun-takes : (p : Part) (d : ℕ) (c : OpenContainer) (rest behind : List ℕ) → IsItem p → EndsBefore p behind → HasBegun d rest behind → TakesPrefix p d c rest
+pub begun-takes : (p : Part) (d : ℕ) (c : Cell) (rest behind : List ℕ) → IsItem p → EndsBefore p behind → HasBegun d rest behind → TakesPrefix p d c rest
 begun-takes (part.Item to) d c rest behind i e h = subst (HasBegun d rest) (sym e) h
 begun-takes (part.Break to) d c rest behind i e h = absurd i
 begun-takes (part.Head to) d c rest behind i e h = absurd i
@@ -70,9 +70,9 @@ level-key behind (a_key w left done) h = refl
 level-key behind (some_key done) h = refl
 level-key behind _ h = absurd h
 
-expected-key : (n : ℕ) (c : OpenContainer) (cs : List OpenContainer) (ls : List Level) → c ∷ cs ≡ cells_of n ls → IsKeyExpectedIn ls → c.expected ≡ Key
+expected-key : (n : ℕ) (c : Cell) (cs : List Cell) (ls : List Level) → c ∷ cs ≡ cells_of n ls → IsKeyExpectedIn ls → c.expected ≡ Key
 expected-key n c cs [] e h = absurd h
-expected-key n c cs (l ∷ ls) e h = ap (λ (x : OpenContainer). x.expected) (cell-is n l ls e) ∙ level-key (behind_head n ls l) l h
+expected-key n c cs (l ∷ ls) e h = ap (λ (x : Cell). x.expected) (cell-is n l ls e) ∙ level-key (behind_head n ls l) l h
 
 -- kinds are asked for
 no-kinds : Any ≡ IntegersAndTexts → ⊥
@@ -93,19 +93,19 @@ starts-kept d input keys = λ t e. subst (KeepsToKinds (with_keys (bounds d 0) k
 
 module _ (S : Type 0) (stands : S → S → ParseState → Type 0) (trusts : Bool) (start : S) (d : ℕ) (input : List ℕ) (keys : Keys) where
   -- behind an item that begins within them
-  pub begun-keeps : (k : Stack OpenContainer) (cells : List OpenContainer) (g : S) (rest behind : List ℕ) → k.height ≤ length cells → IsExpected S stands trusts start d input (open_levels OpenContainer k cells) g rest → HasBegun (d - k.height) rest behind → (k.top.expected ≡ Key → IsFitPrefix rest)
+  pub begun-keeps : (k : Stack Cell) (cells : List Cell) (g : S) (rest behind : List ℕ) → k.height ≤ length cells → IsExpected S stands trusts start d input (open_levels Cell k cells) g rest → HasBegun (d - k.height) rest behind → (k.top.expected ≡ Key → IsFitPrefix rest)
       → KeepsBefore d keys input rest → KeepsBefore d keys input behind
   begun-keeps k cells g rest behind low s h fit keeps = λ t e.
-      let height : length s.ls ≡ k.height = omega (arith, height-is S stands trusts start d input (open_levels OpenContainer k cells) g rest s, open_levels_count OpenContainer k cells low) in
+      let height : length s.ls ≡ k.height = omega (arith, height-is S stands trusts start d input (open_levels Cell k cells) g rest s, open_levels_count Cell k cells low) in
       let within : depth h.item ≤ d - length s.ls = subst (λ (n : ℕ). depth h.item ≤ d - n) (sym height) h.within in
       let begins : Begins (d - length s.ls) h.prefix = record { item = h.item; spelled = h.spelled; within = within; rest = h.more; bytes = h.bytes } in
       let whole : (bytes_before s.ls ++ h.prefix) ++ behind ≡ t ++ behind = append_assoc (bytes_before s.ls) h.prefix behind ∙ ap (λ (x : List ℕ). bytes_before s.ls ++ x) (sym h.is) ∙ sym s.bytes ∙ e in
       subst (KeepsToKinds (with_keys (bounds d 0) keys) plain) (append_cancel_right (bytes_before s.ls ++ h.prefix) t behind whole)
       (keeps_expected (with_keys (bounds d 0) keys) plain (around_levels d s.ls s.levels) h.prefix begins h.one
-      (λ asked expected. basic-prefix h.item h.spelled h.prefix behind h.more rest h.bytes h.is (fit (expected-key (length input) k.top (around OpenContainer k cells) s.ls s.cells expected))) (keeps (bytes_before s.ls) s.bytes))
+      (λ asked expected. basic-prefix h.item h.spelled h.prefix behind h.more rest h.bytes h.is (fit (expected-key (length input) k.top (around Cell k cells) s.ls s.cells expected))) (keeps (bytes_before s.ls) s.bytes))
 
   -- a container without a length ends
-  pub broken-keeps : (c : OpenContainer) (cs : List OpenContainer) (g : S) (rest behind : List ℕ) → IsExpected S stands trusts start d input (c ∷ cs) g rest → HasBroken c rest behind → KeepsBefore d keys input rest → KeepsBefore d keys input behind
+  pub broken-keeps : (c : Cell) (cs : List Cell) (g : S) (rest behind : List ℕ) → IsExpected S stands trusts start d input (c ∷ cs) g rest → HasBroken c rest behind → KeepsBefore d keys input rest → KeepsBefore d keys input behind
   broken-keeps c cs g rest behind s h keeps = λ t e. go s.ls s.levels s.cells s.bytes t e
     where
       closed : (l : Level) (ls : List Level) → AreLevels d (l ∷ ls) → input ≡ bytes_before (l ∷ ls) ++ rest → (t : List ℕ) → input ≡ t ++ behind → (item : Spelling) → spell item ≡ level_bytes l ++ (0xff ∷ []) → IsSpelled item → depth item ≤ d - length ls
@@ -119,7 +119,7 @@ module _ (S : Type 0) (stands : S → S → ParseState → Type 0) (trusts : Boo
           (keeps_closed (with_keys (bounds d 0) keys) plain (around_levels d ls levels.2) item x (0xff ∷ []) spelled within is some ends (keeps (p ++ x) b))
 
       go : (ls : List Level) → AreLevels d ls → c ∷ cs ≡ cells_of (length input) ls → input ≡ bytes_before ls ++ rest → (t : List ℕ) → input ≡ t ++ behind → KeepsToKinds (with_keys (bounds d 0) keys) plain t
-      go [] levels e b t f = let same : c ≡ counted Item 0 0 = cc in let x : false ≡ true = ap (λ (x : OpenContainer). x.is_indefinite) (sym same) ∙ h.open_ended in absurd (cc x)
+      go [] levels e b t f = let same : c ≡ counted Item 0 0 = cc in let x : false ≡ true = ap (λ (x : Cell). x.is_indefinite) (sym same) ∙ h.open_ended in absurd (cc x)
       go (some_member done ∷ ls) levels e b t f =
           let one : length (head majors.Array Indefinite 0) ≡ 1 = refl in
           let size = length-append (head majors.Array Indefinite 0) (spell_all done) in
@@ -134,5 +134,5 @@ module _ (S : Type 0) (stands : S → S → ParseState → Type 0) (trusts : Boo
           (λ x o.
           let other : length (head majors.Map Indefinite (entries_count done)) ≡ 1 = refl in
           omega (arith, size, one, other, (of_kind_entries done (length (bytes_before ls) + length (head majors.Map Indefinite (entries_count done))) x o).within))
-      go (some_value done k ∷ ls) levels e b t f = absurd (h.no_value (ap (λ (x : OpenContainer). x.expected) (cell-is (length input) (some_value done k) ls e)))
-      go (l ∷ ls) levels e b t f = absurd (cc (ap (λ (x : OpenContainer). x.is_indefinite) (sym (cell-is (length input) l ls e)) ∙ h.open_ended))
+      go (some_value done k ∷ ls) levels e b t f = absurd (h.no_value (ap (λ (x : Cell). x.expected) (cell-is (length input) (some_value done k) ls e)))
+      go (l ∷ ls) levels e b t f = absurd (cc (ap (λ (x : Cell). x.is_indefinite) (sym (cell-is (length input) l ls e)) ∙ h.open_ended))

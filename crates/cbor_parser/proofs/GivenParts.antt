@@ -11,9 +11,10 @@ use Rattle.cbor_parser.specs.Sink.{takes_key, key_expected, Completes, IsItemExp
 use Rattle.cbor_parser.specs.inner.Parser.{BeginsTaken, IsExpected, HasEnded, IsFull, IsToEnd, IsBuilt, IsExpectedFor}
 use Rattle.cbor_parser.specs.inner.OpenContainer.{counted, opener, behind_head, cell_of, cells_of}
 use Rattle.cbor_parser.specs.inner.Parts.{IsHead, IsOpener, Counts}
+use Rattle.cbor_parser.specs.inner.OpenContainer.{Cell}
 use Rattle.cbor_parser.specs.{Expected.awaits, Stack.open_levels, declared.container.Expected.Expected}
 use Rattle.cbor_parser.specs.declared.{container.Expected.TheVariants.Item, container.Expected.TheVariants.Key, stack.Stack.Stack}
-use Rattle.cbor_parser.{specs.declared.open_container.OpenContainer.OpenContainer, proofs.GivenItems.IsScalar, proofs.GivenItems.opener-whole}
+use Rattle.cbor_parser.proofs.GivenItems.{IsScalar, opener-whole}
 
 -- ---- how many are open
 
@@ -22,10 +23,10 @@ cells-count n [] = refl
 cells-count n (l ∷ ls) = ap suc (cells-count n ls)
 
 -- the innermost, and those around it
-pub cell-is : (n : ℕ) {c : OpenContainer} {cs : List OpenContainer} (l : Level) (ls : List Level) → c ∷ cs ≡ cells_of n (l ∷ ls) → c ≡ cell_of (behind_head n ls l) l
+pub cell-is : (n : ℕ) {c : Cell} {cs : List Cell} (l : Level) (ls : List Level) → c ∷ cs ≡ cells_of n (l ∷ ls) → c ≡ cell_of (behind_head n ls l) l
 cell-is n l ls e = cc
 
-pub cells-are : (n : ℕ) {c : OpenContainer} {cs : List OpenContainer} (l : Level) (ls : List Level) → c ∷ cs ≡ cells_of n (l ∷ ls) → cs ≡ cells_of n ls
+pub cells-are : (n : ℕ) {c : Cell} {cs : List Cell} (l : Level) (ls : List Level) → c ∷ cs ≡ cells_of n (l ∷ ls) → cs ≡ cells_of n ls
 cells-are n l ls e = cc
 
 -- a key is expected in the innermost one
@@ -33,9 +34,9 @@ cell-awaits : (behind : ℕ) (l : Level) → awaits (cell_of behind l).expected 
 cell-awaits behind (a_member w left done) = refl
 cell-awaits behind _ = refl
 
-pub key-awaited : (n : ℕ) (ls : List Level) (top : OpenContainer) (outer : List OpenContainer) → top ∷ outer ≡ cells_of n ls → awaits top.expected ≡ key_expected ls
-key-awaited n [] top outer e = let same : top ≡ counted Item 0 0 = cc in ap (λ (x : OpenContainer). awaits x.expected) same
-key-awaited n (l ∷ ls) top outer e = ap (λ (x : OpenContainer). awaits x.expected) (cell-is n l ls e) ∙ cell-awaits (behind_head n ls l) l
+pub key-awaited : (n : ℕ) (ls : List Level) (top : Cell) (outer : List Cell) → top ∷ outer ≡ cells_of n ls → awaits top.expected ≡ key_expected ls
+key-awaited n [] top outer e = let same : top ≡ counted Item 0 0 = cc in ap (λ (x : Cell). awaits x.expected) same
+key-awaited n (l ∷ ls) top outer e = ap (λ (x : Cell). awaits x.expected) (cell-is n l ls e) ∙ cell-awaits (behind_head n ls l) l
 
 -- an input whose item is known to be valid
 pub known-begins : (limits : Bounds) (bytes input : List ℕ) (d : ℕ) → d ≡ limits.depth → input ≡ take limits.bytes bytes → IsKnownValid limits bytes → BeginsTaken d input
@@ -44,16 +45,16 @@ known-begins limits bytes input d e f (size, h) =
     (h.item, rest, record { spelled = spelled; within = omega (arith, within, e); clean = clean-anywhere h.item 0 (λ c x. none c (inl x)) }, f ∙ sym prefix)
 
 module _ (S : Type 0) (stands : S → S → ParseState → Type 0) (trusts : Bool) where
-  pub expected-item : (top : OpenContainer) (g : S) (rest : List ℕ) (t : Bool) → t ≡ awaits top.expected → IsExpectedFor S stands trusts top g rest → IsItemExpected S stands t g
+  pub expected-item : (top : Cell) (g : S) (rest : List ℕ) (t : Bool) → t ≡ awaits top.expected → IsExpectedFor S stands trusts top g rest → IsItemExpected S stands t g
   expected-item top g rest t e (d, outer, (start, input, s)) =
       (start, d, s.ls, record { levels = s.levels; short = omega (arith, s.small, ap length s.bytes, length-append (bytes_before s.ls) rest) }, (s.given, e ∙ key-awaited (length input) s.ls top outer s.cells))
 
   -- before the first part
-  pub starts : (k : Stack OpenContainer) (g : S) (d : ℕ) (input : List ℕ) (cells : List OpenContainer) → k.height ≡ 0 → k.top ≡ counted Item 0 0 → stands g g (item_expected []) → length input < 2 ^ 63 → (trusts ≡ true → BeginsTaken d input) → IsExpected S stands trusts g d input (open_levels OpenContainer k cells) g input
+  pub starts : (k : Stack Cell) (g : S) (d : ℕ) (input : List ℕ) (cells : List Cell) → k.height ≡ 0 → k.top ≡ counted Item 0 0 → stands g g (item_expected []) → length input < 2 ^ 63 → (trusts ≡ true → BeginsTaken d input) → IsExpected S stands trusts g d input (open_levels Cell k cells) g input
   starts k g d input cells none top fresh small known = record {
     ls = [];
     levels = tt;
-    cells = ap₂ (λ (x : OpenContainer) (n : ℕ). x ∷ reverse (take n cells)) top none;
+    cells = ap₂ (λ (x : Cell) (n : ℕ). x ∷ reverse (take n cells)) top none;
     given = fresh;
     bytes = refl;
     small = small;
@@ -78,10 +79,10 @@ module _ (S : Type 0) (stands : S → S → ParseState → Type 0) (trusts : Boo
 
   module _ (start : S) (d : ℕ) (input : List ℕ) where
     -- the levels are as many as the cells but one
-    pub height-is : (cs : List OpenContainer) (g : S) (rest : List ℕ) (s : IsExpected S stands trusts start d input cs g rest) → length cs ≡ suc (length s.ls)
+    pub height-is : (cs : List Cell) (g : S) (rest : List ℕ) (s : IsExpected S stands trusts start d input cs g rest) → length cs ≡ suc (length s.ls)
     height-is cs g rest s = ap length s.cells ∙ cells-count (length input) s.ls
 
-    module _ (cs : List OpenContainer) (g : S) (rest : List ℕ) (s : IsExpected S stands trusts start d input cs g rest) where
+    module _ (cs : List Cell) (g : S) (rest : List ℕ) (s : IsExpected S stands trusts start d input cs g rest) where
       -- an item is taken, of which this is known
       taken-so : (P : List Level → Spelling → Type 0) (item : Spelling) (behind : List ℕ) → IsTaken (d - length s.ls) item → rest ≡ spell item ++ behind → P s.ls item → (length behind < length rest) × IsFull S stands trusts P d input cs behind
       taken-so P item behind i e given = (
@@ -116,7 +117,7 @@ module _ (S : Type 0) (stands : S → S → ParseState → Type 0) (trusts : Boo
       scalar-ends behind v new k reported i gives = scalar-settles behind v new i (λ c. gives start d s.ls i.item (s.given, reported) c i.value_is)
 
       -- a container opens
-      pub opened : (m : Major) (n : ℕ) (c : OpenContainer) (behind : List ℕ) (new : S) (t : Bool) → t ≡ key_expected s.ls → length s.ls < d → IsOpener m n c rest behind → Opens S stands t m n g new
+      pub opened : (m : Major) (n : ℕ) (c : Cell) (behind : List ℕ) (new : S) (t : Bool) → t ≡ key_expected s.ls → length s.ls < d → IsOpener m n c rest behind → Opens S stands t m n g new
           → (length behind < length rest) × IsExpected S stands trusts start d input (c ∷ cs) new behind
       opened m n c behind new t reported space k opens =
           let size = length-append (level_bytes k.level) behind in
@@ -126,7 +127,7 @@ module _ (S : Type 0) (stands : S → S → ParseState → Type 0) (trusts : Boo
             record {
               ls = k.level ∷ s.ls;
               levels = (space, k.fresh (d - suc (length s.ls)), s.levels);
-              cells = ap₂ (λ (x : OpenContainer) (xs : List OpenContainer). x ∷ xs) (k.cell ∙ ap (λ (b : ℕ). cell_of b k.level) place) s.cells;
+              cells = ap₂ (λ (x : Cell) (xs : List Cell). x ∷ xs) (k.cell ∙ ap (λ (b : ℕ). cell_of b k.level) place) s.cells;
               given = opens start s.ls k.level (s.given, reported) k.opened;
               bytes = s.bytes ∙ ap (λ (x : List ℕ). bytes_before s.ls ++ x) k.is ∙ sym (append_assoc (bytes_before s.ls) (level_bytes k.level) behind);
               small = s.small;

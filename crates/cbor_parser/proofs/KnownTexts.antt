@@ -9,7 +9,7 @@ use Rattle.cbor_verdict.proofs.{CleanParts.clean-prefix, HeadComplaints.heads_fr
 use Rattle.cbor_verdict.specs.{Judged.IsJudged, Reading.string_major}
 use Rattle.cbor_parser.specs.inner.Parser.{StandsBefore, IsHeadExpected, IsExpectedFor}
 use Rattle.cbor_parser.specs.inner.Parts.{IsHead, IsPayload, chunked_from}
-use Rattle.cbor_parser.{specs.declared.open_container.OpenContainer.OpenContainer, proofs.GivenItems.string-bytes}
+use Rattle.cbor_parser.{proofs.GivenItems.string-bytes, specs.inner.OpenContainer.Cell}
 
 decided : (q : List ℕ) → ((IsUtf8 q → ⊥) → ⊥) → IsUtf8 q
 decided q h = go (is_utf8 q) refl
@@ -27,7 +27,7 @@ looked-through true t n size bytes p known = record { all = p.all; inside = p.in
 pub sized : (t : Bool) (n size : ℕ) (bytes : List ℕ) → IsPayload false t n size bytes → (size ≤ length bytes) × (t ≡ true → IsUtf8 (take size bytes))
 sized t n size bytes p = subst (λ (k : ℕ). (k ≤ length bytes) × (t ≡ true → IsUtf8 (take k bytes))) (sym p.all) (p.inside, p.utf8 refl)
 
-module _ (S : Type 0) (stands : S → S → ParseState → Type 0) (trusts : Bool) (P : List Level → Type 0) (d : ℕ) (input : List ℕ) (cs : List OpenContainer) where
+module _ (S : Type 0) (stands : S → S → ParseState → Type 0) (trusts : Bool) (P : List Level → Type 0) (d : ℕ) (input : List ℕ) (cs : List Cell) where
   -- nothing at the start has a complaint
   never-refused : (rest : List ℕ) (s : StandsBefore S stands trusts P d input cs rest) → trusts ≡ true → (p after : List ℕ) → rest ≡ p ++ after → (c : Complaint) → IsJudged plain (length (bytes_before s.ls)) (d - length s.ls) p (Some c) → ⊥
   never-refused rest s e p after is c j =
@@ -45,7 +45,7 @@ module _ (S : Type 0) (stands : S → S → ParseState → Type 0) (trusts : Boo
       never-refused rest s e (hd ++ q) (drop n behind) (string-bytes Text n rest behind h inside) c
       (text_complains h.width q plain at (d - length s.ls) c (subst (Holds h.width) (sym (length-take-le n behind inside)) h.holds, small) (heads_free at Text h.width (length q)) (refl, none, refl))
 
-module _ (S : Type 0) (stands : S → S → ParseState → Type 0) (trusts t : Bool) (top : OpenContainer) (g : S) (n size : ℕ) where
+module _ (S : Type 0) (stands : S → S → ParseState → Type 0) (trusts t : Bool) (top : Cell) (g : S) (n size : ℕ) where
   pub known-string : (behind : List ℕ) → IsHeadExpected S stands trusts (string_major t) n behind top g → AreBytes behind → IsPayload trusts t n size behind → IsPayload false t n size behind
   known-string behind (rest, h, (d, outer, (start, input, expected))) are p =
       looked-through trusts t n size behind p (λ e text. no-other-text S stands trusts _ d input (top ∷ outer) rest expected e n behind (subst (λ (u : Bool). IsHead (string_major u) n rest behind) text h) p.inside are)

@@ -5,7 +5,7 @@ use Rattle.cbor_verdict.specs.Levels.{Level, ParseState}
 use Rattle.cbor_parser.specs.declared.part.Part.TheVariants as part
 use Rattle.cbor_parser.specs.inner.Parser.{IsExpected, HasEnded, HasFilled, TakesTo}
 use Rattle.cbor_parser.specs.inner.Parts.{left_of, Leaves, LeavesWithin, TakesPrefix, HasBegun, HasBroken}
-use Rattle.cbor_parser.specs.declared.{open_container.OpenContainer.OpenContainer, part.Part.Part}
+use Rattle.cbor_parser.specs.{declared.part.Part.Part, inner.OpenContainer.Cell}
 
 -- what is behind some of a first byte and these is the last of these
 behind-is : (x : ℕ) (bytes prefix behind : List ℕ) → x ∷ bytes ≡ prefix ++ behind → length behind < length (x ∷ bytes) → drop (length bytes - length behind) bytes ≡ behind
@@ -17,7 +17,7 @@ behind-is x bytes (y ∷ prefix) behind e l =
     ap (λ (k : ℕ). drop k bytes) count ∙ ap (drop (length prefix)) same ∙ drop-append_seam prefix behind
 
 -- a part that leaves as many bytes takes the same
-module _ (x : ℕ) (bytes : List ℕ) (e : ℕ) (c : OpenContainer) (S : Type 0) (stands : S → S → ParseState → Type 0) (trusts : Bool) (holds : S → S → List Level → Bool → List ℕ → Type 0) (start : S) (d : ℕ) (input : List ℕ) (cs : List OpenContainer) (g : S) where
+module _ (x : ℕ) (bytes : List ℕ) (e : ℕ) (c : Cell) (S : Type 0) (stands : S → S → ParseState → Type 0) (trusts : Bool) (holds : S → S → List Level → Bool → List ℕ → Type 0) (start : S) (d : ℕ) (input : List ℕ) (cs : List Cell) (g : S) where
   pub same-takes : (p q : Part) → TakesTo S stands trusts holds p start d input (x ∷ bytes) cs g → TakesPrefix p e c (x ∷ bytes) → Leaves bytes (left_of p) q → TakesTo S stands trusts holds q start d input (x ∷ bytes) cs g
   same-takes (part.Item b) (part.Item b') t f l =
       subst (λ (xs : List ℕ). (length xs < length (x ∷ bytes)) × HasEnded S stands trusts start d input cs g xs) (sym (l ∙ behind-is x bytes f.prefix b.now f.is t.0)) t

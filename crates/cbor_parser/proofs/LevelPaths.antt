@@ -17,7 +17,8 @@ use Rattle.cbor_verdict.proofs.{Given.pairs-valid, Given.entries-more, Heads.ope
 use Rattle.cbor_verdict.proofs.PathLevels.{judged_path, judged_key_path}
 use Rattle.cbor_parser.specs.declared.container.Expected.TheVariants.{Item, Key, Value}
 use Rattle.cbor_parser.specs.inner.OpenContainer.{behind_head, cell_of, cells_of, counted}
-use Rattle.cbor_parser.{specs.Sink.IsKeyBehind, specs.declared.open_container.OpenContainer.OpenContainer, proofs.GivenParts.cell-is}
+use Rattle.cbor_parser.specs.inner.OpenContainer.{Cell}
+use Rattle.cbor_parser.{specs.Sink.IsKeyBehind, proofs.GivenParts.cell-is}
 
 -- ---- the path
 
@@ -170,11 +171,11 @@ breaks_level behind d (a_member Indefinite left done) ls h b = absurd h.0
 breaks_level behind d (a_key Indefinite left done) ls h b = absurd h.0
 breaks_level behind d _ ls h b = absurd b
 
-module _ (n : ℕ) (top : OpenContainer) (outer : List OpenContainer) where
+module _ (n : ℕ) (top : Cell) (outer : List Cell) where
   pub path_expected : (ls : List Level) → top ∷ outer ≡ cells_of n ls → (top.expected ≡ Key → IsKeyExpectedIn (paths_of ls)) × (IsKeyExpectedIn (paths_of ls) → top.expected ≡ Key)
-  path_expected [] e = let same : top ≡ counted Item 0 0 = cc in (λ expected. absurd (cc (ap (λ (x : OpenContainer). x.expected) (sym same) ∙ expected)), λ h. absurd h)
+  path_expected [] e = let same : top ≡ counted Item 0 0 = cc in (λ expected. absurd (cc (ap (λ (x : Cell). x.expected) (sym same) ∙ expected)), λ h. absurd h)
   path_expected (l ∷ ls) e =
-      let there = ap (λ (x : OpenContainer). x.expected) (cell-is n l ls e) in
+      let there = ap (λ (x : Cell). x.expected) (cell-is n l ls e) in
       let both = level_expected (behind_head n ls l) l (paths_of ls) in
       (λ expected. both.0 (sym there ∙ expected), λ h. there ∙ both.1 h)
 
@@ -183,4 +184,4 @@ module _ (n : ℕ) (top : OpenContainer) (outer : List OpenContainer) where
   breaks_path d (l ∷ ls) h e b =
       let same = cell-is n l ls e in
       let found = breaks_level (behind_head n ls l) (d - suc (length ls)) l (paths_of ls) h.1 b in
-      (ap (λ (x : OpenContainer). x.is_indefinite) same ∙ found.0, λ x. found.1 (ap (λ (y : OpenContainer). y.expected) (sym same) ∙ x))
+      (ap (λ (x : Cell). x.is_indefinite) same ∙ found.0, λ x. found.1 (ap (λ (y : Cell). y.expected) (sym same) ∙ x))

@@ -9,9 +9,9 @@ use Rattle.cbor_parser.specs.inner.Repeated.{IsKeyReported, IsCellReported, IsKe
 use Rattle.cbor_parser.specs.declared.parser.ParseEnd.TheVariants as parse_end
 use Rattle.cbor_parser.proofs.GivenStops.{StopsBefore, kept-before, come-before}
 use Rattle.cbor_parser.proofs.ReportedMaps.{IsReportedWithin, reported_within, reported_full}
+use Rattle.cbor_parser.specs.inner.OpenContainer.{Cell}
 use Rattle.cbor_parser.specs.{Expected.pairs, Sink.FindsRepeat, inner.Parser.IsRepeatVisited, inner.Parser.Meets}
-use Rattle.cbor_parser.specs.{inner.Kept.KeepsBefore, inner.Kept.ParseEndKept, declared.parser.ParseEnd.ParseEnd}
-use Rattle.cbor_parser.{specs.declared.open_container.OpenContainer.OpenContainer, proofs.GivenEnds.cell-behind}
+use Rattle.cbor_parser.{specs.inner.Kept.KeepsBefore, specs.inner.Kept.ParseEndKept, specs.declared.parser.ParseEnd.ParseEnd, proofs.GivenEnds.cell-behind}
 
 -- ---- the cells
 
@@ -24,32 +24,32 @@ cells_maps : (n : ℕ) (ls : List Level) → map_cells (cells_of n ls) ≡ map_l
 cells_maps n [] = refl
 cells_maps n (l ∷ ls) = ap (λ (b : Bool). counts_one b (map_cells (cells_of n ls))) (kind_of (behind_head n ls l) l) ∙ ap (counts_one (is_map_level l)) (cells_maps n ls)
 
-cells_split : (n : ℕ) (inner : List Level) (l : Level) (outer : List Level) → (cs : List OpenContainer) × (cells_of n (inner ++ l ∷ outer) ≡ cs ++ cell_of (behind_head n outer l) l ∷ cells_of n outer)
+cells_split : (n : ℕ) (inner : List Level) (l : Level) (outer : List Level) → (cs : List Cell) × (cells_of n (inner ++ l ∷ outer) ≡ cs ++ cell_of (behind_head n outer l) l ∷ cells_of n outer)
 cells_split n [] l outer = ([], refl)
 cells_split n (m ∷ inner) l outer =
     let r = cells_split n inner l outer in
     let c = cell_of (behind_head n (inner ++ l ∷ outer) m) m in
-    (c ∷ r.0, ap (λ (cs : List OpenContainer). c ∷ cs) r.1)
+    (c ∷ r.0, ap (λ (cs : List Cell). c ∷ cs) r.1)
 
 -- ---- the cell that is found
 
 module _ (limits : Bounds) (input : List ℕ) (small : length input ≤ 2 ^ 62) where
-  among : (around : List OpenContainer) (ls : List Level) (outside pair : ℕ) (found : Option OpenContainer) → IsReportedWithin limits input small ls outside pair → FindsMap (around ++ cells_of (length input) ls) outside found → IsCellReported limits input found pair
+  among : (around : List Cell) (ls : List Level) (outside pair : ℕ) (found : Option Cell) → IsReportedWithin limits input small ls outside pair → FindsMap (around ++ cells_of (length input) ls) outside found → IsCellReported limits input found pair
   among around ls outside pair found t finds =
       let n = length input in
       let (cs, e) = cells_split n t.inner t.level t.outer in
       let behind = behind_head n t.outer t.level in
       let c = cell_of behind t.level in
-      let split : around ++ cells_of n ls ≡ (around ++ cs) ++ c ∷ cells_of n t.outer = ap (λ (ms : List Level). around ++ cells_of n ms) t.splits ∙ ap (λ (ds : List OpenContainer). around ++ ds) e ∙ sym (append_assoc around cs (c ∷ cells_of n t.outer)) in
+      let split : around ++ cells_of n ls ≡ (around ++ cs) ++ c ∷ cells_of n t.outer = ap (λ (ms : List Level). around ++ cells_of n ms) t.splits ∙ ap (λ (ds : List Cell). around ++ ds) e ∙ sym (append_assoc around cs (c ∷ cells_of n t.outer)) in
       (c, finds (around ++ cs) (cells_of n t.outer) c split (kind_of behind t.level ∙ t.is_map) (cells_maps n t.outer ∙ sym t.outside_is), subst (λ (m : ℕ). IsKeyReported limits input m pair) (sym (cell-behind behind t.level)) t.key)
 
-  module _ (S : Type 0) (stands : S → S → ParseState → Type 0) (trusts : Bool) (holds : S → S → List Level → Bool → List ℕ → Type 0) (start g : S) (m : ParseEnd) (cs : List OpenContainer) (repeat : Repeat) (meets : Meets S stands trusts holds m start limits.depth input cs g) (kept : ParseEndKept m limits.depth limits.keys input) where
+  module _ (S : Type 0) (stands : S → S → ParseState → Type 0) (trusts : Bool) (holds : S → S → List Level → Bool → List ℕ → Type 0) (start g : S) (m : ParseEnd) (cs : List Cell) (repeat : Repeat) (meets : Meets S stands trusts holds m start limits.depth input cs g) (kept : ParseEndKept m limits.depth limits.keys input) where
     -- where an item is expected, or a chunk
     pub reported_where_expected : (rest : Bor (List ℕ)) → StopsBefore m rest → FindsRepeat S stands holds g repeat → IsKeyReportedIn limits input cs repeat
     reported_where_expected rest stops reports = λ found finds.
         let h = come-before S stands trusts holds start m rest limits.depth input cs g stops meets in
         let keeps = kept-before m rest limits input stops kept in
-        among [] h.ls repeat.outside repeat.pair found (reported_within limits input small h.ls rest.now repeat h.levels h.bytes (keeps (bytes_before h.ls) h.bytes) (reports start h.ls h.given)) (subst (λ (ds : List OpenContainer). FindsMap ds repeat.outside found) h.cells finds)
+        among [] h.ls repeat.outside repeat.pair found (reported_within limits input small h.ls rest.now repeat h.levels h.bytes (keeps (bytes_before h.ls) h.bytes) (reports start h.ls h.given)) (subst (λ (ds : List Cell). FindsMap ds repeat.outside found) h.cells finds)
 
     -- where a container was to end, whose cell is still the innermost
     pub reported_at_end : (rest : Bor (List ℕ)) → m ≡ parse_end.Repeated rest repeat → IsKeyReportedIn limits input cs repeat
@@ -58,12 +58,12 @@ module _ (limits : Bounds) (input : List ℕ) (small : length input ≤ 2 ^ 62) 
         keeps : KeepsBefore limits.depth limits.keys input rest.now
         keeps = subst (λ (x : ParseEnd). ParseEndKept x limits.depth limits.keys input) e kept
 
-        go : (cs : List OpenContainer) → IsRepeatVisited S stands trusts repeat limits.depth input cs rest.now → IsKeyReportedIn limits input cs repeat
+        go : (cs : List Cell) → IsRepeatVisited S stands trusts repeat limits.depth input cs rest.now → IsKeyReportedIn limits input cs repeat
         go [] h = absurd h
         go (c ∷ cs) h = λ found finds.
             let n = length input in
             let its = h.given.1 in
-            let here = subst (λ (ds : List OpenContainer). FindsMap (c ∷ ds) repeat.outside found) h.cells finds in
+            let here = subst (λ (ds : List Cell). FindsMap (c ∷ ds) repeat.outside found) h.cells finds in
             elim (reported_full limits input small h.ls h.item rest.now repeat h.levels h.spelled h.within its.taken h.bytes (keeps (bytes_before h.ls ++ spell h.item) h.bytes) h.given.0) [
               | inl t ↦ (c, here [] (cells_of n h.ls) c refl (its.kind ∙ t.is_map) (cells_maps n h.ls ∙ sym t.outside_is), subst (λ (m : ℕ). IsKeyReported limits input m repeat.pair) (sym its.place) t.key)
               | inr t ↦ among (c ∷ []) h.ls repeat.outside repeat.pair found t here

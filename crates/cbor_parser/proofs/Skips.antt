@@ -8,8 +8,8 @@ use Rattle.cbor_verdict.proofs.Levels.{no-count, spelled-all, within-all, clean-
 use Rattle.cbor_verdict.specs.Levels.{IsTaken, Level, a_member, bytes_before}
 use Rattle.cbor_parser.specs.inner.Skip.{anywhere, anything, StandAtStart, EndsItem, GoesTo}
 use Rattle.cbor_parser.specs.declared.parser.ParseEnd.TheVariants as parse_end
-use Rattle.cbor_parser.specs.{declared.container.Expected.TheVariants.Item, inner.Parser.IsExpected, inner.Parser.Meets, inner.OpenContainer.counted}
-use Rattle.cbor_parser.specs.declared.{parser.ParseEnd.ParseEnd, open_container.OpenContainer.OpenContainer}
+use Rattle.cbor_parser.specs.{declared.container.Expected.TheVariants.Item, inner.Parser.IsExpected, inner.Parser.Meets}
+use Rattle.cbor_parser.specs.{inner.OpenContainer.counted, inner.OpenContainer.Cell, declared.parser.ParseEnd.ParseEnd}
 
 -- the array, before its first member
 abbrev pub members : ℕ → List Level
@@ -40,7 +40,7 @@ module _ (S : Type 0) (start : S) (d left : ℕ) (rest behind : List ℕ) (h : S
       ∙ ap (λ (x : List ℕ). x ++ behind) (sym (append-nil (prefix ++ spell_all h.items)))
       ∙ ap (λ (n : ℕ). ((head majors.Array Eight n ++ spell_all h.items) ++ []) ++ behind) (sym h.count_is)
 
-  pub members_expected : (top outer : OpenContainer) (g : S) → length rest ≤ 2 ^ 62 → top ≡ counted Item left (length rest) → outer ≡ counted Item 0 0 → IsExpected S (anywhere S) true start d (headed left rest) (top ∷ outer ∷ []) g rest
+  pub members_expected : (top outer : Cell) (g : S) → length rest ≤ 2 ^ 62 → top ≡ counted Item left (length rest) → outer ≡ counted Item 0 0 → IsExpected S (anywhere S) true start d (headed left rest) (top ∷ outer ∷ []) g rest
   members_expected top outer g small e f =
       let size : length (head majors.Array Eight (0 + suc left)) ≡ 9 = refl in
       let all = length-append (head majors.Array Eight (0 + suc left) ++ []) rest in
@@ -48,7 +48,7 @@ module _ (S : Type 0) (start : S) (d left : ℕ) (rest behind : List ℕ) (h : S
       record {
         ls = members left;
         levels = (omega (arith, h.space), (omega (arith, low), tt), tt);
-        cells = ap₂ (λ (x y : OpenContainer). x ∷ y ∷ []) (e ∙ ap (counted Item left) (omega (arith, all, more))) f;
+        cells = ap₂ (λ (x y : Cell). x ∷ y ∷ []) (e ∙ ap (counted Item left) (omega (arith, all, more))) f;
         given = tt;
         bytes = refl;
         small = omega (arith, small, size, all, more);
@@ -60,7 +60,7 @@ module _ (S : Type 0) (start : S) (d left : ℕ) (rest behind : List ℕ) (h : S
   goes_to _ b = tt
 
 -- where a walk that keeps nothing ends
-pub ends_item : (S : Type 0) (start g : S) (d : ℕ) (input : List ℕ) (m : ParseEnd) (cs : List OpenContainer) → Meets S (anywhere S) true (anything S) m start d input cs g → EndsItem m d input
+pub ends_item : (S : Type 0) (start g : S) (d : ℕ) (input : List ℕ) (m : ParseEnd) (cs : List Cell) → Meets S (anywhere S) true (anything S) m start d input cs g → EndsItem m d input
 ends_item S start g d input (parse_end.Whole to) cs b = (b.item, b.taken, b.bytes)
 ends_item S start g d input _ cs b = tt
 

@@ -11,27 +11,27 @@ use Rattle.cbor_verdict.specs.Path.{a_member, a_key, a_value, tagged, level_byte
 use Rattle.cbor_verdict.proofs.PathKinds.{kept_prefix, head_begun, keeps_begun, keeps_item}
 use Rattle.cbor_verdict.proofs.{Items.is-definite, Heads.open_or, Heads.takes, KindBytes.head_is_one, KindFrames.keeps_start}
 use Rattle.cbor_verdict.specs.{Judged.Never, Kinds.KeepsToKinds, PathKinds.asks, PathKinds.KeepsHere, RefusedHere.IsPlaceFor}
-use Rattle.cbor_parser.specs.inner.Cells.{a_level, AreCells, StandsAt, HasEndedAt, IsWhole}
+use Rattle.cbor_parser.specs.inner.Cells.{strict_cell, AreCells, StandsAt, HasEndedAt, IsWhole}
 use Rattle.cbor_parser.specs.declared.container.Expected.TheVariants.{Item, Key, Value}
 use Rattle.cbor_parser.proofs.CellSteps.{item_is_no_key, key_is_no_value, item_full}
+use Rattle.cbor_parser.specs.inner.Cells.{StrictCell}
 use Rattle.cbor_parser.specs.{inner.Faults.IsKeyAsked, inner.Leaves.IsLeaf, inner.Items.IsFit, inner.Items.IsOpener, Stack.open_levels}
-use Rattle.cbor_parser.specs.declared.{container.Expected.Expected, container.Level.Level, stack.Stack.Stack}
-use Rattle.cbor_parser.proofs.Stacks.{open_levels_count, more_cells}
+use Rattle.cbor_parser.{specs.declared.container.Expected.Expected, specs.declared.stack.Stack.Stack, proofs.Stacks.open_levels_count, proofs.Stacks.more_cells}
 
 -- ---- how many are open
 
-pub cells_count : (input : List ℕ) (ls : List path.Level) (cs : List Level) → AreCells input ls cs → length cs ≡ suc (length ls)
+pub cells_count : (input : List ℕ) (ls : List path.Level) (cs : List StrictCell) → AreCells input ls cs → length cs ≡ suc (length ls)
 cells_count input [] (c ∷ []) a = refl
 cells_count input (l ∷ ls) (c ∷ cs) a = ap suc (cells_count input ls cs a.1)
 cells_count input _ _ a = absurd a
 
 -- ---- a key is expected
 
-expected_key : (input : List ℕ) (ls : List path.Level) (c : Level) (cs : List Level) → AreCells input ls (c ∷ cs) → IsKeyExpectedIn ls → c.expected ≡ Key
+expected_key : (input : List ℕ) (ls : List path.Level) (c : StrictCell) (cs : List StrictCell) → AreCells input ls (c ∷ cs) → IsKeyExpectedIn ls → c.expected ≡ Key
 expected_key input (a_key w left done ∷ ls) c cs a h = a.0.1.expected
 expected_key input _ c cs a h = absurd h
 
-pub key_expected : (input : List ℕ) (ls : List path.Level) (c : Level) (cs : List Level) → AreCells input ls (c ∷ cs) → c.expected ≡ Key → IsKeyExpectedIn ls
+pub key_expected : (input : List ℕ) (ls : List path.Level) (c : StrictCell) (cs : List StrictCell) → AreCells input ls (c ∷ cs) → c.expected ≡ Key → IsKeyExpectedIn ls
 key_expected input (a_key w left done ∷ ls) c cs a e = tt
 key_expected input (a_member w left done ∷ ls) c cs a e = absurd (item_is_no_key c a.0.1 e)
 key_expected input (a_value w left done k ∷ ls) c cs a e = absurd (key_is_no_value c e a.0.1.expected)
@@ -44,7 +44,7 @@ asked_of Any e = absurd (cc e)
 asked_of IntegersAndTexts e = refl
 
 -- whether it is one whose kind is asked for
-pub key_asked : (o : KeyOrder) (limits : Bounds) (input : List ℕ) (c : Level) (cs : List Level) (at : ℕ) (s : StandsAt o limits input (c ∷ cs) at) (kinds is_key : Bool) → asks limits.keys ≡ kinds
+pub key_asked : (o : KeyOrder) (limits : Bounds) (input : List ℕ) (c : StrictCell) (cs : List StrictCell) (at : ℕ) (s : StandsAt o limits input (c ∷ cs) at) (kinds is_key : Bool) → asks limits.keys ≡ kinds
     → (is_key ≡ true → (kinds ≡ true) × (c.expected ≡ Key)) → (is_key ≡ false → kinds ≡ true → c.expected ≡ Key → ⊥) → IsKeyAsked is_key limits s.ls
 key_asked o limits input c cs at s kinds is_key asked both none = record {
   both = λ e. let b = both e in (asked_of limits.keys (asked ∙ b.0), key_expected input s.ls c cs s.are b.1);
@@ -67,7 +67,7 @@ from_none left = omega arith
 no_bytes : (xs : List ℕ) (at : ℕ) → slice_range xs at at ≡ []
 no_bytes xs at = let e : at - at ≡ 0 = omega arith in ap (λ (n : ℕ). take n (drop at xs)) e
 
-module _ (o : KeyOrder) (limits : Bounds) (input : List ℕ) (cs : List Level) (at : ℕ) (s : StandsAt o limits input cs at) where
+module _ (o : KeyOrder) (limits : Bounds) (input : List ℕ) (cs : List StrictCell) (at : ℕ) (s : StandsAt o limits input cs at) where
   pub rest_is : drop at input ≡ s.rest
   rest_is = ap (λ (n : ℕ). drop n input) s.here ∙ ap (drop (length (bytes_before s.ls))) s.bytes ∙ drop-append_seam (bytes_before s.ls) s.rest
 
@@ -92,7 +92,7 @@ module _ (o : KeyOrder) (limits : Bounds) (input : List ℕ) (cs : List Level) (
 
   -- a container opens, whose head these bytes are
   module _ (used : ℕ) (inside : used ≤ length (drop at input)) (space : length s.ls < limits.depth) (kept : KeepsHere limits (strict o) s.ls (drop at input)) where
-    opened : (l : path.Level) (c : Level) (m : Major) (w : Width) (n : ℕ) → IsHead m w n → takes m ≤ limits.depth - length s.ls → Holds w n → drop at input ≡ head m w n ++ drop used (drop at input) → level_bytes l ≡ head m w n → path.IsClean (strict o) (length (bytes_before s.ls)) (limits.depth - suc (length s.ls)) l
+    opened : (l : path.Level) (c : StrictCell) (m : Major) (w : Width) (n : ℕ) → IsHead m w n → takes m ≤ limits.depth - length s.ls → Holds w n → drop at input ≡ head m w n ++ drop used (drop at input) → level_bytes l ≡ head m w n → path.IsClean (strict o) (length (bytes_before s.ls)) (limits.depth - suc (length s.ls)) l
         → (at + used ≡ length (bytes_before (l ∷ s.ls)) → AreCells input (l ∷ s.ls) (c ∷ cs)) → StandsAt o limits input (c ∷ cs) (at + used)
     opened l c m w n h deep holds e is clean are =
         let b = drop at input in
@@ -111,13 +111,13 @@ module _ (o : KeyOrder) (limits : Bounds) (input : List ℕ) (cs : List Level) (
           here = here;
         }
 
-    pub opener_opens : (expected : Expected) (left : ℕ) → IsOpener expected left (drop at input) (drop used (drop at input)) → StandsAt o limits input (a_level expected left (at + used) ∷ cs) (at + used)
+    pub opener_opens : (expected : Expected) (left : ℕ) → IsOpener expected left (drop at input) (drop used (drop at input)) → StandsAt o limits input (strict_cell expected left (at + used) ∷ cs) (at + used)
     opener_opens Item left (inl h) =
         let n = suc left in
         let w = shortest n in
         let holds = Holds-shortest n h.0 in
         let from = from_none left in
-        opened (a_member w left no_spellings) (a_level Item left (at + used)) Array w n holds (omega (arith, space)) holds h.1 (append-nil (head Array w (0 + suc left)) ∙ ap (head Array w) from)
+        opened (a_member w left no_spellings) (strict_cell Item left (at + used)) Array w n holds (omega (arith, space)) holds h.1 (append-nil (head Array w (0 + suc left)) ∙ ap (head Array w) from)
         (record {
           holds = subst (HoldsOrIndefinite w) (sym from) (open_or w n holds);
           spelled = tt;
@@ -125,17 +125,17 @@ module _ (o : KeyOrder) (limits : Bounds) (input : List ℕ) (cs : List Level) (
           head_clean = subst (λ (k : ℕ). Never (OfCount (strict o) (length (bytes_before s.ls)) Array w k)) (sym from) (never_long o (length (bytes_before s.ls)) Array w n holds refl);
           clean = λ c x. x;
         })
-        (λ here. ((is-definite w n holds, refl, refl), s.are))
+        (λ here. ((is-definite w n holds, refl, refl, refl), s.are))
     opener_opens Item left (inr (none, (n, range, e))) =
         let w = shortest n in
-        opened (tagged w n) (a_level Item left (at + used)) Tag w n (Holds-shortest n range) (omega (arith, space)) (Holds-shortest n range) e refl (Holds-shortest n range, λ c x. x.1 refl) (λ here. ((refl, none), s.are))
+        opened (tagged w n) (strict_cell Item left (at + used)) Tag w n (Holds-shortest n range) (omega (arith, space)) (Holds-shortest n range) e refl (Holds-shortest n range, λ c x. x.1 refl) (λ here. ((refl, none, refl), s.are))
     opener_opens Key left h =
         let n = suc left in
         let w = shortest n in
         let holds = Holds-shortest n h.0 in
         let from = from_none left in
         let l = a_key w left no_entries in
-        let c = a_level Key left (at + used) in
+        let c = strict_cell Key left (at + used) in
         opened l c Map w n holds (omega (arith, space)) holds h.1 (append-nil (head Map w (0 + suc left)) ∙ ap (head Map w) from)
         (record {
           holds = subst (HoldsOrIndefinite w) (sym from) (open_or w n holds);
@@ -145,35 +145,35 @@ module _ (o : KeyOrder) (limits : Bounds) (input : List ℕ) (cs : List Level) (
           clean = λ x y. y;
         })
         (λ here. (
-          (is-definite w n holds, record { expected = refl; left = refl; begins = here ∙ length-append (bytes_before s.ls) (level_bytes l); holds = record { is = no_bytes input (at + used); prefixed = ap prefix_of (sym (no_bytes input (at + used))) } }),
+          (is-definite w n holds, record { expected = refl; left = refl; definite = refl; begins = here ∙ length-append (bytes_before s.ls) (level_bytes l); holds = record { is = no_bytes input (at + used); prefixed = ap prefix_of (sym (no_bytes input (at + used))) } }),
           s.are,
         ))
     opener_opens Value left h = absurd h
 
 -- as many as the stack's height
-pub height_is : (o : KeyOrder) (limits : Bounds) (input : List ℕ) (k : Stack Level) (cells : List Level) (at : ℕ) (s : StandsAt o limits input (open_levels Level k cells) at) → k.height ≤ length cells → length s.ls ≡ k.height
-height_is o limits input k cells at s l = omega (arith, cells_count input s.ls (open_levels Level k cells) s.are, open_levels_count Level k cells l)
+pub height_is : (o : KeyOrder) (limits : Bounds) (input : List ℕ) (k : Stack StrictCell) (cells : List StrictCell) (at : ℕ) (s : StandsAt o limits input (open_levels StrictCell k cells) at) → k.height ≤ length cells → length s.ls ≡ k.height
+height_is o limits input k cells at s l = omega (arith, cells_count input s.ls (open_levels StrictCell k cells) s.are, open_levels_count StrictCell k cells l)
 
 -- they are there, and one more may open if there is space for it
-pub place_for : (o : KeyOrder) (limits : Bounds) (d : ℕ) (input : List ℕ) (k : Stack Level) (cells : List Level) (at : ℕ) (s : StandsAt o limits input (open_levels Level k cells) at) → k.height ≤ length cells → limits.depth ≡ d
+pub place_for : (o : KeyOrder) (limits : Bounds) (d : ℕ) (input : List ℕ) (k : Stack StrictCell) (cells : List StrictCell) (at : ℕ) (s : StandsAt o limits input (open_levels StrictCell k cells) at) → k.height ≤ length cells → limits.depth ≡ d
     → IsPlaceFor (nat_lt k.height d) limits.depth s.ls at
 place_for o limits d input k cells at s l e =
     let height = height_is o limits input k cells at s l in
     record { here = s.here; fits = λ r. omega (arith, ltb-true k.height d r, height, e); full = λ r. omega (arith, ltb-false k.height d r, height, e) }
 
 -- what is expected is fit
-pub fit_here : (o : KeyOrder) (limits : Bounds) (input : List ℕ) (c : Level) (cs : List Level) (at : ℕ) (s : StandsAt o limits input (c ∷ cs) at) (rest : List ℕ) → IsFit limits c.expected rest → KeepsHere limits (strict o) s.ls rest
+pub fit_here : (o : KeyOrder) (limits : Bounds) (input : List ℕ) (c : StrictCell) (cs : List StrictCell) (at : ℕ) (s : StandsAt o limits input (c ∷ cs) at) (rest : List ℕ) → IsFit limits c.expected rest → KeepsHere limits (strict o) s.ls rest
 fit_here o limits input c cs at s rest fit = record { before = s.keeps; here = λ asked expected. fit asked.1 (expected_key input s.ls c cs s.are expected) }
 
 -- the item of the input is expected before its first byte
-pub at_start : (o : KeyOrder) (limits : Bounds) (input : List ℕ) → StandsAt o limits input (a_level Item 0 0 ∷ []) 0
-at_start o limits input = record { ls = []; clean = tt; keeps = keeps_start limits (strict o); are = (refl, refl); rest = input; bytes = refl; here = refl }
+pub at_start : (o : KeyOrder) (limits : Bounds) (input : List ℕ) → StandsAt o limits input (strict_cell Item 0 0 ∷ []) 0
+at_start o limits input = record { ls = []; clean = tt; keeps = keeps_start limits (strict o); are = (refl, refl, refl); rest = input; bytes = refl; here = refl }
 
 -- whatever lies in the cells
-pub starts_at : (o : KeyOrder) (limits : Bounds) (input : List ℕ) (k : Stack Level) (cells : List Level) → k.height ≡ 0 → k.top ≡ a_level Item 0 0 → StandsAt o limits input (open_levels Level k cells) 0
+pub starts_at : (o : KeyOrder) (limits : Bounds) (input : List ℕ) (k : Stack StrictCell) (cells : List StrictCell) → k.height ≡ 0 → k.top ≡ strict_cell Item 0 0 → StandsAt o limits input (open_levels StrictCell k cells) 0
 starts_at o limits input k cells h e =
-    let one : a_level Item 0 0 ∷ [] ≡ open_levels Level k cells = sym (ap (λ (l : Level). l ∷ reverse (take k.height cells)) e ∙ ap (λ (n : ℕ). a_level Item 0 0 ∷ reverse (take n cells)) h) in
-    subst (λ (cs : List Level). StandsAt o limits input cs 0) one (at_start o limits input)
+    let one : strict_cell Item 0 0 ∷ [] ≡ open_levels StrictCell k cells = sym (ap (λ (l : StrictCell). l ∷ reverse (take k.height cells)) e ∙ ap (λ (n : ℕ). strict_cell Item 0 0 ∷ reverse (take n cells)) h) in
+    subst (λ (cs : List StrictCell). StandsAt o limits input cs 0) one (at_start o limits input)
 
 -- nothing is open around it
 pub start_keeps : (o : KeyOrder) (limits : Bounds) (input : List ℕ) → KeepsHere limits (strict o) [] input
@@ -186,10 +186,10 @@ start_place limits d e = record { here = refl; fits = λ r. omega (arith, ltb-tr
 pub leaf_is_whole : (o : KeyOrder) (limits : Bounds) (input : List ℕ) (d used : ℕ) → d ≡ limits.depth → IsLeaf (nat_lt 0 d) input used → IsWhole o limits input used
 unfolding at_start
 leaf_is_whole o limits input d used e leaf =
-    let first = a_level Item 0 0 in
+    let first = strict_cell Item 0 0 in
     let at : 0 + used ≡ used = omega arith in
     subst (IsWhole o limits input) at
     (item_full o limits input (0 + used) first [] refl refl (leaf_ends o limits input (first ∷ []) 0 (at_start o limits input) (nat_lt 0 d) used leaf (start_place limits d e).fits (start_keeps o limits input)))
 
-pub in_more_cells : (o : KeyOrder) (limits : Bounds) (input : List ℕ) (k : Stack Level) (few more : List Level) (at : ℕ) → StandsAt o limits input (open_levels Level k few) at → k.height ≡ length few → take (length few) more ≡ few → StandsAt o limits input (open_levels Level k more) at
-in_more_cells o limits input k few more at s h e = subst (λ (x : List Level). StandsAt o limits input x at) (more_cells Level k few more h e) s
+pub in_more_cells : (o : KeyOrder) (limits : Bounds) (input : List ℕ) (k : Stack StrictCell) (few more : List StrictCell) (at : ℕ) → StandsAt o limits input (open_levels StrictCell k few) at → k.height ≡ length few → take (length few) more ≡ few → StandsAt o limits input (open_levels StrictCell k more) at
+in_more_cells o limits input k few more at s h e = subst (λ (x : List StrictCell). StandsAt o limits input x at) (more_cells StrictCell k few more h e) s

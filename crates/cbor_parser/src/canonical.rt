@@ -10,9 +10,11 @@ ghost use Rattle.cbor_parser.specs.inner.Cells.{IsWhole};
 ghost use Rattle.cbor_parser.specs.inner.CanonicalEnds.{IsFull};
 
 use crate::canonical_walk::{CanonicalEnd, key_out_of_order, walk};
-use crate::container::{Expected, Level};
+use crate::container::Expected;
 use crate::item_start::{Here, ItemStart, item_start};
+use crate::last_key::{LastKey, strict_cell};
 use crate::limit::{truncated_or_too_long, within};
+use crate::open_container::OpenContainer;
 use crate::stack::{FEW, MOST, SOME, Stack, lend};
 use cbor_head::{KeyOrder, Keys, Limits, Refusal};
 
@@ -64,13 +66,13 @@ fn whole_prefix<const KINDS: bool>(
             ItemStart::Opens(..) | ItemStart::Indefinite => {}
         }
     }
-    let level = Level::new(Expected::Item, 0, 0);
+    let level = strict_cell(Expected::Item, 0, 0);
     let mut cells = [level; FEW];
     let mut stack = Stack::new(level);
     match walk::<KINDS>(input, 0, &mut cells, &mut stack, limits, order) {
         CanonicalEnd::Whole(at) => Ok(at),
         CanonicalEnd::Refused(refusal) => Err(refusal),
-        CanonicalEnd::OutOfOrder(refusal) => Err(key_out_of_order(input, &stack.top, refusal)),
+        CanonicalEnd::OutOfOrder(refusal) => Err(key_out_of_order(input, &stack.top.kept, refusal)),
         CanonicalEnd::Full(at) => with_more_cells::<KINDS>(input, at, &cells, stack, limits, order),
     }
 }
@@ -91,8 +93,8 @@ fn begins_container(input: &[u8]) -> bool {
 fn with_more_cells<const KINDS: bool>(
     input: &[u8],
     at: usize,
-    few: &[Level],
-    stack: Stack<Level>,
+    few: &[OpenContainer<LastKey>],
+    stack: Stack<OpenContainer<LastKey>>,
     limits: Limits,
     order: KeyOrder,
 ) -> Result<usize, Refusal>
@@ -117,8 +119,8 @@ fn with_more_cells<const KINDS: bool>(
 fn in_cells<const KINDS: bool, const N: usize>(
     input: &[u8],
     at: usize,
-    few: &[Level],
-    stack: Stack<Level>,
+    few: &[OpenContainer<LastKey>],
+    stack: Stack<OpenContainer<LastKey>>,
     limits: Limits,
     order: KeyOrder,
 ) -> Option<Result<usize, Refusal>>
@@ -131,14 +133,16 @@ fn in_cells<const KINDS: bool, const N: usize>(
         (λ prefix. IfErr prefix (IsRefused order limits input.now)) }
     ensures none { result ≡ None → N < MOST }
 {
-    let mut cells = [Level::new(Expected::Item, 0, 0); N];
+    let mut cells = [strict_cell(Expected::Item, 0, 0); N];
     lend(few, &mut cells);
     let mut stack = stack;
     match walk::<KINDS>(input, at, &mut cells, &mut stack, limits, order) {
         CanonicalEnd::Whole(at) => Some(Ok(at)),
         CanonicalEnd::Refused(refusal) => Some(Err(refusal)),
         CanonicalEnd::OutOfOrder(refusal) => Some(Err(key_out_of_order(
-            input, &stack.top, refusal,
+            input,
+            &stack.top.kept,
+            refusal,
         ))),
         CanonicalEnd::Full(_) => None,
     }

@@ -5,11 +5,13 @@ ghost use Rattle.cbor_head.specs.Limits.{Bounds};
 ghost use Rattle.cbor_head.specs.declared.order.KeyOrder as orders;
 ghost use Rattle.cbor_verdict.specs.PathKinds.{asks};
 ghost use Rattle.cbor_verdict.specs.Stop.{IsRefused};
-ghost use Rattle.cbor_parser.specs.inner.Cells.{IsKeyRefused, StandsAt};
+ghost use Rattle.cbor_parser.specs.inner.Cells.{StrictCell, IsKeyRefused, StandsAt};
 ghost use Rattle.cbor_parser.specs.Stack.{open_levels};
 ghost use Rattle.cbor_parser.specs.inner.CanonicalEnds.{IsWalked};
 
-use crate::container::{Level, Next};
+use crate::container::Next;
+use crate::last_key::LastKey;
+use crate::open_container::OpenContainer;
 use crate::stack::Stack;
 use crate::take_item::{TakenItem, take_next};
 use cbor_head::{KeyOrder, Limits, Reason, Refusal};
@@ -34,8 +36,8 @@ pub(crate) enum CanonicalEnd {
 pub(crate) fn walk<const KINDS: bool>(
     input: &[u8],
     start: usize,
-    cells: &mut [Level],
-    stack: &mut Stack<Level>,
+    cells: &mut [OpenContainer<LastKey>],
+    stack: &mut Stack<OpenContainer<LastKey>>,
     limits: Limits,
     order: KeyOrder,
 ) -> CanonicalEnd
@@ -43,7 +45,7 @@ pub(crate) fn walk<const KINDS: bool>(
     requires start { start ≤ length input.now }
     requires cells { stack.old.height ≤ length cells.old }
     requires depth { stack.old.height ≤ limits.depth }
-    ensures { StandsAt order limits input.now (open_levels Level stack.old cells.old) start
+    ensures { StandsAt order limits input.now (open_levels StrictCell stack.old cells.old) start
         → IsWalked order limits input.now stack.new cells.new result }
 {
     let depth = usize::from(limits.depth());
@@ -59,7 +61,7 @@ pub(crate) fn walk<const KINDS: bool>(
                     Next::Done => return CanonicalEnd::Whole(at),
                     Next::OutOfOrder => {
                         // Made whole here: else the compiler keeps its parts in registers at each item.
-                        let (place, read) = (stack.top.key as u64, at as u64);
+                        let (place, read) = (stack.top.kept.key as u64, at as u64);
                         return CanonicalEnd::OutOfOrder(Refusal::new(
                             Reason::KeyOrder,
                             place,
@@ -74,17 +76,17 @@ pub(crate) fn walk<const KINDS: bool>(
     }
 }
 
-/// The refusal of the key that is expected in the map, which does not come behind the last one: where it is
+/// The refusal of the key that is expected, which does not come behind the last one: where it is
 /// the same, it is repeated.
 #[cold]
 #[inline(never)]
-pub(crate) fn key_out_of_order(input: &[u8], map: &Level, refusal: Refusal) -> Refusal
+pub(crate) fn key_out_of_order(input: &[u8], keys: &LastKey, refusal: Refusal) -> Refusal
     ensures { (order : orders.KeyOrder) (limits : Bounds)
-        → IsKeyRefused order limits input.now map.now refusal
+        → IsKeyRefused order limits input.now keys.now refusal
         → IsRefused order limits input.now result }
 {
-    let last = part(input, map.last, map.last_end);
-    let key = part(input, map.key, refusal.read as usize);
+    let last = part(input, keys.last, keys.last_end);
+    let key = part(input, keys.key, refusal.read as usize);
     if last == key {
         return Refusal::new(Reason::RepeatedKey, refusal.place, refusal.read);
     }

@@ -1,4 +1,4 @@
-//! An open container.
+//! What is expected in an open container, and what an item leads to.
 
 ghost use Rattle.std.specs.Prelude.{◌≡◌};
 ghost use Rattle.cbor_parser.specs.Expected.{awaits, pairs};
@@ -30,21 +30,6 @@ impl Expected {
     {
         !matches!(self, Expected::Item)
     }
-}
-
-/// An open container.
-#[derive(Clone, Copy)]
-pub(crate) struct Level {
-    pub(crate) expected: Expected,
-    // How many members or pairs follow the one that is expected.
-    pub(crate) left: u64,
-    // Where the key begins that is expected.
-    pub(crate) key: usize,
-    // Where the last key begins and ends; before the first, no bytes.
-    pub(crate) last: usize,
-    pub(crate) last_end: usize,
-    // The first eight bytes of the last key, as a number.
-    pub(crate) prefix: u64,
 }
 
 /// What an item leads to in its container.

@@ -2,6 +2,7 @@
 
 ghost use Rattle.std.specs.Prelude.{◌≤◌, ◌-◌, ◌∷◌, ℕ, length};
 ghost use Rattle.cbor_parser.specs.Stack.{open_levels};
+ghost use Rattle.cbor_parser.specs.inner.OpenContainer.{Cell};
 ghost use Rattle.cbor_parser.specs.inner.Parser.{IsExpectedIn, Takes};
 ghost use Rattle.cbor_parser.specs.inner.Parts.{TakesPrefix, Leaves, LeavesWithin};
 ghost use Rattle.cbor_parser.specs.declared.part.Part.{Part};
@@ -22,20 +23,20 @@ impl<S> Parser<S> {
         &mut self,
         first: u8,
         behind: &'a [u8],
-        cells: &mut [OpenContainer],
+        cells: &mut [OpenContainer<usize>],
         depth: usize,
     ) -> PackedPart
     where
         S: Sink<'a>,
         requires cells { self.old.stack.height ≤ length cells.old }
-        requires expected { IsExpectedIn S S.stands S.trusts depth (open_levels OpenContainer self.old.stack cells.old) self.old.sink
+        requires expected { IsExpectedIn S S.stands S.trusts depth (open_levels Cell self.old.stack cells.old) self.old.sink
             (first ∷ behind.now) }
         ensures cells { self.new.stack.height ≤ length cells.new }
         ensures within { LeavesWithin behind.now result }
         ensures takes { (part : Part) → Leaves behind.now result part
             → Takes S S.stands S.trusts S.holds part depth (first ∷ behind.now)
-            (open_levels OpenContainer self.old.stack cells.old) self.old.sink
-            (open_levels OpenContainer self.new.stack cells.new) self.new.sink }
+            (open_levels Cell self.old.stack cells.old) self.old.sink
+            (open_levels Cell self.new.stack cells.new) self.new.sink }
         ensures prefix { (part : Part) → Leaves behind.now result part
             → TakesPrefix part (depth - self.old.stack.height) self.old.stack.top (first ∷ behind.now) }
     {
@@ -47,18 +48,18 @@ impl<S> Parser<S> {
         &mut self,
         first: u8,
         behind: &'a [u8],
-        cells: &mut [OpenContainer],
+        cells: &mut [OpenContainer<usize>],
         depth: usize,
     ) -> Part<'a>
     where
         S: Sink<'a>,
         requires cells { self.old.stack.height ≤ length cells.old }
-        requires expected { IsExpectedIn S S.stands S.trusts depth (open_levels OpenContainer self.old.stack cells.old) self.old.sink
+        requires expected { IsExpectedIn S S.stands S.trusts depth (open_levels Cell self.old.stack cells.old) self.old.sink
             (first ∷ behind.now) }
         ensures cells { self.new.stack.height ≤ length cells.new }
         ensures takes { Takes S S.stands S.trusts S.holds result depth (first ∷ behind.now)
-            (open_levels OpenContainer self.old.stack cells.old) self.old.sink
-            (open_levels OpenContainer self.new.stack cells.new) self.new.sink }
+            (open_levels Cell self.old.stack cells.old) self.old.sink
+            (open_levels Cell self.new.stack cells.new) self.new.sink }
         ensures prefix { TakesPrefix result (depth - self.old.stack.height) self.old.stack.top
             (first ∷ behind.now) }
     {

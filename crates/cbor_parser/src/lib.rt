@@ -15,6 +15,7 @@ mod fast_item;
 mod indefinite;
 mod item_start;
 mod kinds;
+mod last_key;
 mod limit;
 mod open_container;
 mod parse;

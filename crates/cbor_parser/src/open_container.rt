@@ -1,4 +1,4 @@
-//! What is still to come in an open container, with a length or without, and what stands behind its head.
+//! What is still to come in an open container, with a length or without, and what is kept of it.
 
 ghost use Rattle.std.specs.Prelude.{◌≡◌, ◌≢◌, Some, None, true, false};
 ghost use Rattle.cbor_parser.specs.Expected.{pairs};
@@ -6,43 +6,43 @@ ghost use Rattle.cbor_parser.specs.inner.OpenContainer.{after, counted, indefini
 
 use crate::container::Expected;
 
-/// An open container.
+/// An open container. The check of canonical bytes keeps the last key of a map (`LastKey`); the parser
+/// of valid items keeps how many bytes of the input stand behind the head (`usize`), so that the pairs of
+/// a map are found again where two of its keys are the same.
 #[derive(Clone, Copy)]
-pub(crate) struct OpenContainer {
+pub(crate) struct OpenContainer<K> {
     // How many members or pairs follow the one that is expected; none where there is no length.
     pub(crate) left: u64,
-    // How many bytes of the input stand behind its head. So its pairs are found again where two of its
-    // keys are the same.
-    pub(crate) behind: usize,
     pub(crate) expected: Expected,
     // A break ends it.
     pub(crate) is_indefinite: bool,
+    pub(crate) kept: K,
 }
 
-impl OpenContainer {
-    /// One in which this is expected, and so many members or pairs more, with so many bytes behind its head.
+impl<K: Copy> OpenContainer<K> {
+    /// One in which this is expected, and so many members or pairs more.
     #[inline(always)]
-    pub(crate) fn counted(expected: Expected, left: u64, behind: usize) -> OpenContainer
-        ensures { result ≡ counted expected left behind }
+    pub(crate) fn counted(expected: Expected, left: u64, kept: K) -> OpenContainer<K>
+        ensures { result ≡ counted expected left kept }
     {
         OpenContainer {
-            expected,
             left,
-            behind,
+            expected,
             is_indefinite: false,
+            kept,
         }
     }
 
-    /// One without a length, in which this is expected, with so many bytes behind its opener.
+    /// One without a length, in which this is expected.
     #[inline(always)]
-    pub(crate) fn indefinite(expected: Expected, behind: usize) -> OpenContainer
-        ensures { result ≡ indefinite expected behind }
+    pub(crate) fn indefinite(expected: Expected, kept: K) -> OpenContainer<K>
+        ensures { result ≡ indefinite expected kept }
     {
         OpenContainer {
-            expected,
             left: 0,
-            behind,
+            expected,
             is_indefinite: true,
+            kept,
         }
     }
 
@@ -61,7 +61,7 @@ impl OpenContainer {
         ensures more { result ≡ true → after self.old ≡ Some self.new }
         ensures full { result ≡ false → after self.old ≡ None }
         ensures kind { pairs self.new.expected ≡ pairs self.old.expected }
-        ensures place { self.new.behind ≡ self.old.behind }
+        ensures kept { self.new.kept ≡ self.old.kept }
     {
         match self.expected {
             Expected::Key => {

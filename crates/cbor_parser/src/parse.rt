@@ -10,7 +10,7 @@ ghost use Rattle.cbor_parser.specs.ParsedItem.{IsStop};
 ghost use Rattle.cbor_parser.specs.Sink.{IsKnownValid, IsGivenPrefix};
 ghost use Rattle.cbor_parser.specs.inner.Parser.{BeginsTaken, IsExpected, Meets, HasPassed, IsStopWithin};
 ghost use Rattle.cbor_parser.specs.inner.Kept.{KeepsBefore, ParseEndKept};
-ghost use Rattle.cbor_parser.specs.inner.OpenContainer.{counted};
+ghost use Rattle.cbor_parser.specs.inner.OpenContainer.{Cell, counted};
 ghost use Rattle.cbor_parser.specs.inner.Repeated.{IsKeyReportedIn};
 
 use crate::container::Expected;
@@ -79,14 +79,14 @@ impl<S> Parser<S> {
 #[inline(never)]
 fn stopped<'a, S: Sink<'a>>(
     building: &mut Parser<S>,
-    cells: &[OpenContainer],
+    cells: &[OpenContainer<usize>],
     input: &[u8],
     parse_end: ParseEnd<'a>,
     limits: Limits,
 ) -> Stop
     requires cells { building.old.stack.height ≤ length cells.now }
     requires come { (start : S) × Meets S S.stands S.trusts S.holds parse_end start limits.depth input.now
-        (open_levels OpenContainer building.old.stack cells.now) building.old.sink }
+        (open_levels Cell building.old.stack cells.now) building.old.sink }
     requires kept { ParseEndKept parse_end limits.depth limits.keys input.now }
     requires within { length input.now ≤ 2 ^ 62 }
     ensures { IsStopWithin S.trusts limits input.now result }
@@ -116,17 +116,21 @@ fn stopped<'a, S: Sink<'a>>(
 }
 
 // Where the key stands that is reported, by the cells of the open maps.
-fn repeated(stack: &Stack<OpenContainer>, cells: &[OpenContainer], repeat: Repeat) -> Stop
+fn repeated(
+    stack: &Stack<OpenContainer<usize>>,
+    cells: &[OpenContainer<usize>],
+    repeat: Repeat,
+) -> Stop
     requires cells { stack.now.height ≤ length cells.now }
     requires reported { (limits : Bounds) × (input : List ℕ)
-        × IsKeyReportedIn limits input (open_levels OpenContainer stack.now cells.now) repeat }
+        × IsKeyReportedIn limits input (open_levels Cell stack.now cells.now) repeat }
     ensures { (trusts : Bool) (limits : Bounds) (input : List ℕ)
-        → IsKeyReportedIn limits input (open_levels OpenContainer stack.now cells.now) repeat
+        → IsKeyReportedIn limits input (open_levels Cell stack.now cells.now) repeat
         → IsStopWithin trusts limits input result }
 {
     match reported_map(stack, cells, repeat.outside) {
         Some(map) => Stop::Repeated {
-            behind: map.behind,
+            behind: map.kept,
             pair: repeat.pair,
         },
         None => unreachable!(),
@@ -190,18 +194,18 @@ fn deeper<'a, S: Sink<'a>, const KINDS: bool>(
     building: &mut Parser<S>,
     input: &[u8],
     rest: &'a [u8],
-    few: &[OpenContainer],
+    few: &[OpenContainer<usize>],
     limits: Limits,
 ) -> Result<&'a [u8], Stop>
     requires few { length few.now ≤ SOME }
     requires full { building.old.stack.height ≡ length few.now }
     requires expected { (start : S) × IsExpected S S.stands S.trusts start limits.depth input.now
-        (open_levels OpenContainer building.old.stack few.now) building.old.sink rest.now }
+        (open_levels Cell building.old.stack few.now) building.old.sink rest.now }
     requires kinds { asks limits.keys ≡ KINDS }
     requires kept { KeepsBefore limits.depth limits.keys input.now rest.now }
     requires within { length input.now ≤ 2 ^ 62 }
     ensures { (start : S) → IsExpected S S.stands S.trusts start limits.depth input.now
-        (open_levels OpenContainer building.old.stack few.now) building.old.sink rest.now
+        (open_levels Cell building.old.stack few.now) building.old.sink rest.now
         → MatchResult result
         (λ behind. HasPassed S S.stands S.trusts start limits input.now building.new.sink behind.now)
         (IsStopWithin S.trusts limits input.now) }
@@ -225,18 +229,18 @@ fn deepest<'a, S: Sink<'a>, const KINDS: bool>(
     building: &mut Parser<S>,
     input: &[u8],
     rest: &'a [u8],
-    few: &[OpenContainer],
+    few: &[OpenContainer<usize>],
     limits: Limits,
 ) -> Result<&'a [u8], Stop>
     requires few { length few.now ≤ MOST }
     requires full { building.old.stack.height ≡ length few.now }
     requires expected { (start : S) × IsExpected S S.stands S.trusts start limits.depth input.now
-        (open_levels OpenContainer building.old.stack few.now) building.old.sink rest.now }
+        (open_levels Cell building.old.stack few.now) building.old.sink rest.now }
     requires kinds { asks limits.keys ≡ KINDS }
     requires kept { KeepsBefore limits.depth limits.keys input.now rest.now }
     requires within { length input.now ≤ 2 ^ 62 }
     ensures { (start : S) → IsExpected S S.stands S.trusts start limits.depth input.now
-        (open_levels OpenContainer building.old.stack few.now) building.old.sink rest.now
+        (open_levels Cell building.old.stack few.now) building.old.sink rest.now
         → MatchResult result
         (λ behind. HasPassed S S.stands S.trusts start limits input.now building.new.sink behind.now)
         (IsStopWithin S.trusts limits input.now) }

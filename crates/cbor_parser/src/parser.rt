@@ -2,6 +2,7 @@
 
 ghost use Rattle.std.specs.Prelude.{◌≡◌, ◌≤◌, length};
 ghost use Rattle.cbor_parser.specs.Stack.{open_levels};
+ghost use Rattle.cbor_parser.specs.inner.OpenContainer.{Cell};
 ghost use Rattle.cbor_parser.specs.inner.Parser.{IsExpectedIn, HasFilledIn, Leads, Walks, WalksKept};
 
 use crate::container::Expected;
@@ -14,7 +15,7 @@ use cbor_builder::Repeat;
 /// What came of an item so far: the open containers, and what took what is complete in them.
 #[derive(Drop)]
 pub struct Parser<S> {
-    pub(crate) stack: Stack<OpenContainer>,
+    pub(crate) stack: Stack<OpenContainer<usize>>,
     /// It stays where it is from one item to the next: to hand it on costs as much as a small item.
     pub sink: S,
 }
@@ -63,18 +64,18 @@ impl<S> Parser<S> {
     pub(crate) fn walk<'a, const KINDS: bool>(
         &mut self,
         start: &'a [u8],
-        cells: &mut [OpenContainer],
+        cells: &mut [OpenContainer<usize>],
         depth: usize,
     ) -> ParseEnd<'a>
     where
         S: Sink<'a>,
         requires cells { self.old.stack.height ≤ length cells.old }
-        requires expected { IsExpectedIn S S.stands S.trusts depth (open_levels OpenContainer self.old.stack cells.old) self.old.sink start.now }
+        requires expected { IsExpectedIn S S.stands S.trusts depth (open_levels Cell self.old.stack cells.old) self.old.sink start.now }
         ensures cells { self.new.stack.height ≤ length cells.new }
-        ensures walked { Walks S S.stands S.trusts S.holds result depth start.now (open_levels OpenContainer self.old.stack cells.old)
-            self.old.sink (open_levels OpenContainer self.new.stack cells.new) self.new.sink }
+        ensures walked { Walks S S.stands S.trusts S.holds result depth start.now (open_levels Cell self.old.stack cells.old)
+            self.old.sink (open_levels Cell self.new.stack cells.new) self.new.sink }
         ensures kept { WalksKept S S.stands S.trusts KINDS result depth start.now
-            (open_levels OpenContainer self.old.stack cells.old) self.old.sink }
+            (open_levels Cell self.old.stack cells.old) self.old.sink }
     {
         let mut rest = start;
         'parts: loop {
@@ -112,14 +113,14 @@ impl<S> Parser<S> {
     // The innermost container is whole, and perhaps those around it. Each is ended in the sink first:
     // where two of its keys are the same, its cell still reports what stands behind its head.
     #[inline(always)]
-    fn close<'a>(&mut self, cells: &[OpenContainer]) -> CloseResult
+    fn close<'a>(&mut self, cells: &[OpenContainer<usize>]) -> CloseResult
     where
         S: Sink<'a>,
         requires cells { self.old.stack.height ≤ length cells.now }
-        requires filled { HasFilledIn S S.stands S.trusts (open_levels OpenContainer self.old.stack cells.now) self.old.sink }
+        requires filled { HasFilledIn S S.stands S.trusts (open_levels Cell self.old.stack cells.now) self.old.sink }
         ensures cells { self.new.stack.height ≤ length cells.now }
-        ensures leads { Leads S S.stands S.trusts result (open_levels OpenContainer self.old.stack cells.now) self.old.sink
-            (open_levels OpenContainer self.new.stack cells.now) self.new.sink }
+        ensures leads { Leads S S.stands S.trusts result (open_levels Cell self.old.stack cells.now) self.old.sink
+            (open_levels Cell self.new.stack cells.now) self.new.sink }
     {
         'levels: while self.stack.height > 0 {
             match self.sink.end(self.stack.top.expected.is_in_map()) {
@@ -136,14 +137,14 @@ impl<S> Parser<S> {
 
     // Closes the innermost container at a break. It is a call, so that what ends a container stands in the loop once.
     #[inline(never)]
-    fn close_at_break<'a>(&mut self, cells: &[OpenContainer]) -> CloseResult
+    fn close_at_break<'a>(&mut self, cells: &[OpenContainer<usize>]) -> CloseResult
     where
         S: Sink<'a>,
         requires cells { self.old.stack.height ≤ length cells.now }
-        requires filled { HasFilledIn S S.stands S.trusts (open_levels OpenContainer self.old.stack cells.now) self.old.sink }
+        requires filled { HasFilledIn S S.stands S.trusts (open_levels Cell self.old.stack cells.now) self.old.sink }
         ensures cells { self.new.stack.height ≤ length cells.now }
-        ensures leads { Leads S S.stands S.trusts result (open_levels OpenContainer self.old.stack cells.now) self.old.sink
-            (open_levels OpenContainer self.new.stack cells.now) self.new.sink }
+        ensures leads { Leads S S.stands S.trusts result (open_levels Cell self.old.stack cells.now) self.old.sink
+            (open_levels Cell self.new.stack cells.now) self.new.sink }
     {
         self.close(cells)
     }

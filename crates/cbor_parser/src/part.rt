@@ -4,6 +4,7 @@ ghost use Rattle.std.specs.Prelude.{◌≡◌, ◌≤◌, ◌-◌, true, length}
 ghost use Rattle.cbor_builder.specs.Built.{IsLeaf, IsContainer};
 ghost use Rattle.cbor_verdict.specs.PathKinds.{IsFitPrefix};
 ghost use Rattle.cbor_parser.specs.Stack.{open_levels};
+ghost use Rattle.cbor_parser.specs.inner.OpenContainer.{Cell};
 ghost use Rattle.cbor_parser.specs.inner.Parser.{IsExpectedIn, Takes, IsHeadExpected, IsHeadIn, TakesHead, IsOpenerExpected, TakesOpener, TakesCounted, IsToEndFor, EndsItem};
 ghost use Rattle.cbor_parser.specs.inner.Parts.{IsItem, EndsBefore, Counts, HasTaken, TakesPrefix, TakesHeadPrefix, TakesCountedPrefix, TakesOpenerPrefix};
 ghost use Rattle.cbor_parser.specs.inner.Parts.{left_of, Leaves, LeavesWithin};
@@ -99,16 +100,16 @@ impl<S> Parser<S> {
     pub(crate) fn take_part<'a, const KINDS: bool>(
         &mut self,
         rest: &'a [u8],
-        cells: &mut [OpenContainer],
+        cells: &mut [OpenContainer<usize>],
         depth: usize,
     ) -> Part<'a>
     where
         S: Sink<'a>,
         requires cells { self.old.stack.height ≤ length cells.old }
-        requires expected { IsExpectedIn S S.stands S.trusts depth (open_levels OpenContainer self.old.stack cells.old) self.old.sink rest.now }
+        requires expected { IsExpectedIn S S.stands S.trusts depth (open_levels Cell self.old.stack cells.old) self.old.sink rest.now }
         ensures cells { self.new.stack.height ≤ length cells.new }
-        ensures takes { Takes S S.stands S.trusts S.holds result depth rest.now (open_levels OpenContainer self.old.stack cells.old)
-            self.old.sink (open_levels OpenContainer self.new.stack cells.new) self.new.sink }
+        ensures takes { Takes S S.stands S.trusts S.holds result depth rest.now (open_levels Cell self.old.stack cells.old)
+            self.old.sink (open_levels Cell self.new.stack cells.new) self.new.sink }
         ensures prefix { TakesPrefix result (depth - self.old.stack.height) self.old.stack.top rest.now }
         ensures fits { HasTaken result → KINDS ≡ true → self.old.stack.top.expected ≡ Expected.Key
             → IsFitPrefix rest.now }
@@ -184,7 +185,7 @@ impl<S> Parser<S> {
         expected: Expected,
         number: u64,
         behind: &'a [u8],
-        cells: &mut [OpenContainer],
+        cells: &mut [OpenContainer<usize>],
         depth: usize,
     ) -> Part<'a>
     where
@@ -192,11 +193,11 @@ impl<S> Parser<S> {
         requires kind { Counts major expected }
         requires cells { self.old.stack.height ≤ length cells.old }
         requires head { IsHeadIn S S.stands S.trusts major number behind.now depth
-            (open_levels OpenContainer self.old.stack cells.old) self.old.sink }
+            (open_levels Cell self.old.stack cells.old) self.old.sink }
         ensures cells { self.new.stack.height ≤ length cells.new }
         ensures takes { TakesCounted S S.stands S.trusts S.holds result depth major number behind.now
-            (open_levels OpenContainer self.old.stack cells.old) self.old.sink
-            (open_levels OpenContainer self.new.stack cells.new) self.new.sink }
+            (open_levels Cell self.old.stack cells.old) self.old.sink
+            (open_levels Cell self.new.stack cells.new) self.new.sink }
         ensures prefix { TakesCountedPrefix result (depth - self.old.stack.height) major number behind.now }
     {
         if number > 0 {
@@ -218,9 +219,9 @@ impl<S> Parser<S> {
         &mut self,
         major: Major,
         number: u64,
-        opened: OpenContainer,
+        opened: OpenContainer<usize>,
         behind: &'a [u8],
-        cells: &mut [OpenContainer],
+        cells: &mut [OpenContainer<usize>],
         depth: usize,
     ) -> Part<'a>
     where
@@ -230,8 +231,8 @@ impl<S> Parser<S> {
         requires opener { IsOpenerExpected S S.stands S.trusts major number opened behind.now self.old.stack.top self.old.sink }
         ensures cells { self.new.stack.height ≤ length cells.new }
         ensures takes { TakesOpener S S.stands S.trusts S.holds result depth major number opened behind.now
-            (open_levels OpenContainer self.old.stack cells.old) self.old.sink
-            (open_levels OpenContainer self.new.stack cells.new) self.new.sink }
+            (open_levels Cell self.old.stack cells.old) self.old.sink
+            (open_levels Cell self.new.stack cells.new) self.new.sink }
         ensures prefix { TakesOpenerPrefix result (depth - self.old.stack.height) major number opened behind.now }
     {
         if self.stack.height >= depth || self.stack.height >= cells.len() {

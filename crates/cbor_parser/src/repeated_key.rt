@@ -4,6 +4,7 @@ ghost use Rattle.std.specs.Prelude.{◌≡◌, ◌≤◌, ℕ, List, length, tak
 ghost use Rattle.cbor_head.specs.Complaint.{plain};
 ghost use Rattle.cbor_head.specs.Verdict.{IsVerdict, refused};
 ghost use Rattle.cbor_parser.specs.Stack.{open_levels};
+ghost use Rattle.cbor_parser.specs.inner.OpenContainer.{Cell};
 ghost use Rattle.cbor_parser.specs.inner.OpenMaps.{FindsMap};
 ghost use Rattle.cbor_parser.specs.inner.Repeated.{IsKeyReported};
 
@@ -36,12 +37,12 @@ pub(crate) fn repeated_key(
 
 /// The cell of the open map around which so many maps are open, in these cells.
 pub(crate) fn reported_map(
-    stack: &Stack<OpenContainer>,
-    cells: &[OpenContainer],
+    stack: &Stack<OpenContainer<usize>>,
+    cells: &[OpenContainer<usize>],
     outside: usize,
-) -> Option<OpenContainer>
+) -> Option<OpenContainer<usize>>
     requires { stack.now.height ≤ length cells.now }
-    ensures { FindsMap (open_levels OpenContainer stack.now cells.now) outside result }
+    ensures { FindsMap (open_levels Cell stack.now cells.now) outside result }
 {
     let mut left = outside;
     for cell in &cells[..stack.height] {

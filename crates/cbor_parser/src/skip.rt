@@ -2,6 +2,7 @@
 
 ghost use Rattle.std.specs.Prelude.{◌≡◌, ◌<◌, ◌≤◌, ◌^◌, ℕ, suc, true, List, length, IfSome};
 ghost use Rattle.cbor_parser.specs.Stack.{open_levels};
+ghost use Rattle.cbor_parser.specs.inner.OpenContainer.{Cell};
 ghost use Rattle.cbor_parser.specs.inner.Parser.{IsExpected, IsExpectedIn};
 ghost use Rattle.cbor_parser.specs.inner.Skip.{anywhere, anything, StandAtStart, EndsItem, GoesTo};
 
@@ -131,15 +132,15 @@ fn past_members(rest: &[u8], left: u64, depth: usize) -> ParseEnd<'_>
 fn past_deepest<'a>(
     building: &mut Parser<Nothing>,
     rest: &'a [u8],
-    few: &[OpenContainer],
+    few: &[OpenContainer<usize>],
     depth: usize,
 ) -> ParseEnd<'a>
     requires few { length few.now ≤ MOST }
     requires full { building.old.stack.height ≡ length few.now }
-    requires expected { IsExpectedIn Nothing (anywhere Nothing) true depth (open_levels OpenContainer building.old.stack few.now)
+    requires expected { IsExpectedIn Nothing (anywhere Nothing) true depth (open_levels Cell building.old.stack few.now)
         building.old.sink rest.now }
     ensures { (start : Nothing) (input : List ℕ)
-        → IsExpected Nothing (anywhere Nothing) true start depth input (open_levels OpenContainer building.old.stack few.now)
+        → IsExpected Nothing (anywhere Nothing) true start depth input (open_levels Cell building.old.stack few.now)
         building.old.sink rest.now
         → EndsItem result depth input }
 {

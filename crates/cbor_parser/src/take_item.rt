@@ -3,10 +3,11 @@
 ghost use Rattle.std.specs.Prelude.{◌≤◌, ◌<◌, ◌+◌, ◌^◌, length};
 ghost use Rattle.cbor_parser.specs.inner.CanonicalEnds.{Takes};
 
-use crate::container::Level;
 use crate::fast_item::{FastItem, fast_item};
 use crate::item_start::{Here, ItemStart, item_start};
 use crate::kinds::is_asked;
+use crate::last_key::{LastKey, strict_cell};
+use crate::open_container::OpenContainer;
 use crate::stack::Stack;
 use cbor_head::Refusal;
 
@@ -29,8 +30,8 @@ pub(crate) enum TakenItem {
 pub(crate) fn take_next<const KINDS: bool>(
     rest: &[u8],
     at: usize,
-    cells: &mut [Level],
-    stack: &mut Stack<Level>,
+    cells: &mut [OpenContainer<LastKey>],
+    stack: &mut Stack<OpenContainer<LastKey>>,
     depth: usize,
 ) -> TakenItem
     requires place { at + length rest.now < 2 ^ 63 }
@@ -47,7 +48,7 @@ pub(crate) fn take_next<const KINDS: bool>(
         FastItem::Item(used) => return TakenItem::Item(used),
         FastItem::Opens(expected, left, used) => {
             if stack.height < depth && stack.height < cells.len() {
-                stack.push(cells, Level::new(expected, left, at + used));
+                stack.push(cells, strict_cell(expected, left, at + used));
                 return TakenItem::Head(used);
             }
         }
@@ -62,8 +63,8 @@ pub(crate) fn take_next<const KINDS: bool>(
 fn take_any<const KINDS: bool>(
     rest: &[u8],
     at: usize,
-    cells: &mut [Level],
-    stack: &mut Stack<Level>,
+    cells: &mut [OpenContainer<LastKey>],
+    stack: &mut Stack<OpenContainer<LastKey>>,
     depth: usize,
 ) -> TakenItem
     requires place { at + length rest.now < 2 ^ 63 }
@@ -84,7 +85,7 @@ fn take_any<const KINDS: bool>(
             if stack.height >= cells.len() {
                 return TakenItem::Full;
             }
-            stack.push(cells, Level::new(expected, left, at + used));
+            stack.push(cells, strict_cell(expected, left, at + used));
             TakenItem::Head(used)
         }
         ItemStart::Refused(refusal) => TakenItem::Refused(refusal),

@@ -58,10 +58,6 @@ no_break o d (a_member Indefinite left done ∷ ls) h b = h.1.head_clean _ (refl
 no_break o d (a_key Indefinite left done ∷ ls) h b = h.1.head_clean _ (refl, refl)
 no_break o d _ h b = b
 
-pub no_break_here : (ls : List Level) (b : List ℕ) → (MayBreak ls → ⊥) → HasNoBreak ls b
-no_break_here ls [] h = tt
-no_break_here ls (x ∷ b) h = λ e. h
-
 -- nothing is left
 pub nothing_here : (r : Rules) (space : Bool) (at end : ℕ) → end ≡ at + 0 → IsRefusedBy r space [] at (refusal reasons.Truncated end end)
 nothing_here r space at end e = ends_here r space [] at end e tt (λ d ls fits are. judged_start r (length (bytes_before ls)) (d - length ls))
@@ -73,9 +69,6 @@ module _ (r : Rules) (space : Bool) (first : ℕ) (behind : List ℕ) (at : ℕ)
   initial_byte_error_stops reason h limits ls clean broken keeps place are =
       subst (λ (n : ℕ). IsStopped r limits (bytes_before ls ++ first ∷ behind) (refusal reason n (n + 1))) (sym place.here)
       (inr (inl (initial_byte_error r limits ls clean keeps (bytes_before ls ++ first ∷ behind) are first behind refl space reason h broken place.full)))
-
-  pub initial_byte_error_here : (reason : Reason) → IsInitialByteError first space reason → IsRefusedBy r space (first ∷ behind) at (refusal reason at (at + 1))
-  initial_byte_error_here reason h = λ limits ls clean broken kept place are. initial_byte_error_stops reason h limits ls clean broken kept.before place are
 
   -- a prefix of these bytes is of the kinds that are asked for
   prefix_kept : (limits : Bounds) (ls : List Level) (x y : List ℕ) → first ∷ behind ≡ x ++ y → KeepsHere limits r ls (first ∷ behind) → KeepsHere limits r ls x

@@ -11,60 +11,69 @@ use Rattle.cbor_verdict.specs.{Kinds.KeepsToKinds, Stop.HasComplaint}
 use Rattle.cbor_parser.specs.declared.container.Expected.TheVariants.{Item, Key, Value}
 use Rattle.cbor_parser.specs.declared.container.Step.TheVariants as steps
 use Rattle.cbor_parser.specs.declared.container.Next.TheVariants as nexts
-use Rattle.cbor_parser.specs.declared.{container.Expected.Expected, container.Level.Level, container.Step.Step, container.Next.Next, stack.Stack.Stack}
-use Rattle.cbor_parser.specs.Stack.{open_levels}
+use Rattle.cbor_parser.specs.declared.{container.Expected.Expected, last_key.LastKey.LastKey, open_container.OpenContainer.OpenContainer, container.Step.Step}
+use Rattle.cbor_parser.specs.{declared.container.Next.Next, declared.stack.Stack.Stack, Stack.open_levels, inner.OpenContainer.counted}
 
--- ---- a level
+-- ---- a cell
 
--- a container that begins, whose first key begins there
-abbrev pub a_level : Expected → ℕ → ℕ → Level
-a_level expected left at = record { expected = expected; left = left; key = at; last = at; last_end = at; prefix = 0 }
+abbrev pub StrictCell : Type 0
+StrictCell = OpenContainer LastKey
 
-abbrev pub last_key : List ℕ → Level → List ℕ
-last_key input c = slice_range input c.last c.last_end
+-- of a map whose first key begins there
+abbrev pub no_key : ℕ → LastKey
+no_key at = record { key = at; last = at; last_end = at; prefix = 0 }
+
+-- of a container that begins, behind its head
+abbrev pub strict_cell : Expected → ℕ → ℕ → StrictCell
+strict_cell expected left at = counted expected left (no_key at)
+
+abbrev pub last_key : List ℕ → LastKey → List ℕ
+last_key input k = slice_range input k.last k.last_end
 
 -- the key that is expected, if it ends there
-abbrev pub key_at : List ℕ → Level → ℕ → List ℕ
-key_at input c at = slice_range input c.key at
+abbrev pub key_at : List ℕ → LastKey → ℕ → List ℕ
+key_at input k at = slice_range input k.key at
 
 -- the number is the prefix of the last key
-abbrev pub IsPrefixed : List ℕ → Level → Type 0
-IsPrefixed input c = c.prefix ≡ prefix_of (last_key input c)
+abbrev pub IsPrefixed : List ℕ → LastKey → Type 0
+IsPrefixed input k = k.prefix ≡ prefix_of (last_key input k)
 
 -- it holds this last key
-pub record HoldsKey (input : List ℕ) (c : Level) (key : List ℕ) : Type 0 where
-  pub is : last_key input c ≡ key
-  pub prefixed : IsPrefixed input c
+pub record HoldsKey (input : List ℕ) (k : LastKey) (key : List ℕ) : Type 0 where
+  pub is : last_key input k ≡ key
+  pub prefixed : IsPrefixed input k
 
 -- what is held of a map whose key is expected, behind so many bytes
-pub record IsKeyExpected (input : List ℕ) (c : Level) (more : ℕ) (key : List ℕ) (at : ℕ) : Type 0 where
+pub record IsKeyExpected (input : List ℕ) (c : StrictCell) (more : ℕ) (key : List ℕ) (at : ℕ) : Type 0 where
   pub expected : c.expected ≡ Key
   pub left : c.left ≡ more
-  pub begins : c.key ≡ at
-  pub holds : HoldsKey input c key
+  pub definite : c.is_indefinite ≡ false
+  pub begins : c.kept.key ≡ at
+  pub holds : HoldsKey input c.kept key
 
-pub record IsValueExpected (input : List ℕ) (c : Level) (more : ℕ) (key : List ℕ) : Type 0 where
+pub record IsValueExpected (input : List ℕ) (c : StrictCell) (more : ℕ) (key : List ℕ) : Type 0 where
   pub expected : c.expected ≡ Value
   pub left : c.left ≡ more
-  pub holds : HoldsKey input c key
+  pub definite : c.is_indefinite ≡ false
+  pub holds : HoldsKey input c.kept key
 
 -- what is held of an open container that stands there
-abbrev pub IsCell : List ℕ → ℕ → path.Level → Level → Type 0
-IsCell input at (path.a_member w left done) c = (w ≢ Indefinite) × (c.expected ≡ Item) × (c.left ≡ left)
-IsCell input at (path.tagged w n) c = (c.expected ≡ Item) × (c.left ≡ 0)
+abbrev pub IsCell : List ℕ → ℕ → path.Level → StrictCell → Type 0
+IsCell input at (path.a_member w left done) c = (w ≢ Indefinite) × (c.expected ≡ Item) × (c.left ≡ left) × (c.is_indefinite ≡ false)
+IsCell input at (path.tagged w n) c = (c.expected ≡ Item) × (c.left ≡ 0) × (c.is_indefinite ≡ false)
 IsCell input at (path.a_key w left done) c = (w ≢ Indefinite) × IsKeyExpected input c left (keys.last_key done) (at + length (level_bytes (path.a_key w left done)))
 IsCell input at (path.a_value w left done k) c = (w ≢ Indefinite) × IsValueExpected input c left (spell k)
 
 -- of all of them, and of the input itself
-abbrev pub AreCells : List ℕ → List path.Level → List Level → Type 0
-AreCells input [] (c ∷ []) = (c.expected ≡ Item) × (c.left ≡ 0)
+abbrev pub AreCells : List ℕ → List path.Level → List StrictCell → Type 0
+AreCells input [] (c ∷ []) = (c.expected ≡ Item) × (c.left ≡ 0) × (c.is_indefinite ≡ false)
 AreCells input (l ∷ ls) (c ∷ cs) = IsCell input (length (bytes_before ls)) l c × AreCells input ls cs
 AreCells input _ _ = ⊥
 
 -- ---- where the walk stands
 
 -- an item is expected within these containers, in which nothing has a complaint
-pub record StandsAt (o : KeyOrder) (limits : Bounds) (input : List ℕ) (cs : List Level) (at : ℕ) : Type 0 where
+pub record StandsAt (o : KeyOrder) (limits : Bounds) (input : List ℕ) (cs : List StrictCell) (at : ℕ) : Type 0 where
   pub ls : List path.Level
   pub clean : AreClean (strict o) limits.depth ls
   pub keeps : KeepsToKinds limits (strict o) (bytes_before ls)
@@ -74,7 +83,7 @@ pub record StandsAt (o : KeyOrder) (limits : Bounds) (input : List ℕ) (cs : Li
   pub here : at ≡ length (bytes_before ls)
 
 -- an item is whole within them
-pub record HasEndedAt (o : KeyOrder) (limits : Bounds) (input : List ℕ) (cs : List Level) (at : ℕ) : Type 0 where
+pub record HasEndedAt (o : KeyOrder) (limits : Bounds) (input : List ℕ) (cs : List StrictCell) (at : ℕ) : Type 0 where
   pub ls : List path.Level
   pub item : Spelling
   pub ended : HasEnded (strict o) limits.depth ls item
@@ -94,36 +103,35 @@ pub record IsWhole (o : KeyOrder) (limits : Bounds) (input : List ℕ) (at : ℕ
   pub here : at ≡ length (spell item)
 
 -- the innermost of these has ended with the item; or it was the input's item
-abbrev pub HasClosed : KeyOrder → Bounds → List ℕ → List Level → ℕ → Type 0
+abbrev pub HasClosed : KeyOrder → Bounds → List ℕ → List StrictCell → ℕ → Type 0
 HasClosed o limits input [] at = IsWhole o limits input at
 HasClosed o limits input (c ∷ cs) at = HasEndedAt o limits input (c ∷ cs) at
 
 -- the key that is expected in the map ends there and does not come behind the last one, which is refused; where it has the bytes of that
 -- one, the plain rules refuse it, too
-pub record OutOfOrder (o : KeyOrder) (limits : Bounds) (input : List ℕ) (c : Level) (at : ℕ) : Type 0 where
-  pub strictly : HasComplaint (strict o) limits input (refusal reasons.KeyOrder c.key at)
-  pub repeated : last_key input c ≡ key_at input c at → HasComplaint plain limits input (refusal reasons.RepeatedKey c.key at)
+pub record OutOfOrder (o : KeyOrder) (limits : Bounds) (input : List ℕ) (k : LastKey) (at : ℕ) : Type 0 where
+  pub strictly : HasComplaint (strict o) limits input (refusal reasons.KeyOrder k.key at)
+  pub repeated : last_key input k ≡ key_at input k at → HasComplaint plain limits input (refusal reasons.RepeatedKey k.key at)
 
 -- so it is reported
-abbrev pub IsKeyRefused : KeyOrder → Bounds → List ℕ → Level → Refusal → Type 0
-IsKeyRefused o limits input c f = OutOfOrder o limits input c f.read × (f ≡ refusal reasons.KeyOrder c.key f.read)
+abbrev pub IsKeyRefused : KeyOrder → Bounds → List ℕ → LastKey → Refusal → Type 0
+IsKeyRefused o limits input k f = OutOfOrder o limits input k f.read × (f ≡ refusal reasons.KeyOrder k.key f.read)
 
 -- ---- what the calls do
 
 -- the key that was expected ends there: whether it comes behind the last one
-abbrev pub TakesKey : Bool → KeyOrder → List ℕ → ℕ → Level → Level → Type 0
-TakesKey true o input at old new =
-    (new.expected ≡ Value) × (new.left ≡ old.left) × HoldsKey input new (key_at input old at) × (IsPrefixed input old → key_lt o (last_key input old) (key_at input old at) ≡ true)
+abbrev pub TakesKey : Bool → KeyOrder → List ℕ → ℕ → LastKey → LastKey → Type 0
+TakesKey true o input at old new = HoldsKey input new (key_at input old at) × (IsPrefixed input old → key_lt o (last_key input old) (key_at input old at) ≡ true)
 TakesKey false o input at old new = (new ≡ old) × (old.key ≤ at → IsPrefixed input old → key_lt o (last_key input old) (key_at input old at) ≡ false)
 
 -- an item of it is whole, which ends there
-abbrev pub Advances : Step → KeyOrder → List ℕ → ℕ → Level → Level → Type 0
-Advances steps.Next o input at old new = (limits : Bounds) (cs : List Level) → HasEndedAt o limits input (old ∷ cs) at → StandsAt o limits input (new ∷ cs) at
-Advances steps.Full o input at old new = (limits : Bounds) (cs : List Level) → HasEndedAt o limits input (old ∷ cs) at → HasClosed o limits input cs at
-Advances steps.OutOfOrder o input at old new = (limits : Bounds) (cs : List Level) → HasEndedAt o limits input (old ∷ cs) at → OutOfOrder o limits input new at
+abbrev pub Advances : Step → KeyOrder → List ℕ → ℕ → StrictCell → StrictCell → Type 0
+Advances steps.Next o input at old new = (limits : Bounds) (cs : List StrictCell) → HasEndedAt o limits input (old ∷ cs) at → StandsAt o limits input (new ∷ cs) at
+Advances steps.Full o input at old new = (limits : Bounds) (cs : List StrictCell) → HasEndedAt o limits input (old ∷ cs) at → HasClosed o limits input cs at
+Advances steps.OutOfOrder o input at old new = (limits : Bounds) (cs : List StrictCell) → HasEndedAt o limits input (old ∷ cs) at → OutOfOrder o limits input new.kept at
 
 -- from what has ended, that is what is expected
-abbrev pub Leads : Next → KeyOrder → List ℕ → ℕ → List Level → Stack Level → List Level → Type 0
-Leads nexts.Item o input at old new cells = (limits : Bounds) → HasClosed o limits input old at → StandsAt o limits input (open_levels Level new cells) at
+abbrev pub Leads : Next → KeyOrder → List ℕ → ℕ → List StrictCell → Stack StrictCell → List StrictCell → Type 0
+Leads nexts.Item o input at old new cells = (limits : Bounds) → HasClosed o limits input old at → StandsAt o limits input (open_levels StrictCell new cells) at
 Leads nexts.Done o input at old new cells = (limits : Bounds) → HasClosed o limits input old at → IsWhole o limits input at
-Leads nexts.OutOfOrder o input at old new cells = (limits : Bounds) → HasClosed o limits input old at → OutOfOrder o limits input new.top at
+Leads nexts.OutOfOrder o input at old new cells = (limits : Bounds) → HasClosed o limits input old at → OutOfOrder o limits input new.top.kept at

@@ -1,4 +1,4 @@
--- What is still to come in an open container, and what stands behind its head.
+-- What is still to come in an open container, and what is kept of it.
 use Rattle.std.specs.Prelude.{ℕ, zero, suc, ◌+◌, ◌-◌, ◌++◌, Bool, true, false, Option, Some, None, List, [], ◌∷◌, length}
 use Rattle.cbor_head.specs.Prelude.{head, Spelling, spellings_count, entries_count}
 use Rattle.cbor_head.specs.Spelling as spelling
@@ -8,11 +8,38 @@ use Rattle.cbor_verdict.specs.Levels.{Level, a_member, a_key, a_value, some_memb
 use Rattle.cbor_parser.specs.declared.container.Expected.TheVariants.{Item, Key, Value}
 use Rattle.cbor_parser.specs.declared.{container.Expected.Expected, open_container.OpenContainer.OpenContainer}
 
-abbrev pub counted : Expected → ℕ → ℕ → OpenContainer
-counted expected left behind = record { expected = expected; left = left; behind = behind; is_indefinite = false }
+-- ---- whatever is kept of it
 
-abbrev pub indefinite : Expected → ℕ → OpenContainer
-indefinite expected behind = record { expected = expected; left = 0; behind = behind; is_indefinite = true }
+abbrev pub counted : {K : Type 0} → Expected → ℕ → K → OpenContainer K
+counted expected left kept = record { expected = expected; left = left; is_indefinite = false; kept = kept }
+
+abbrev pub indefinite : {K : Type 0} → Expected → K → OpenContainer K
+indefinite expected kept = record { expected = expected; left = 0; is_indefinite = true; kept = kept }
+
+-- an item of it is whole: what is expected then
+
+abbrev pub fewer : {K : Type 0} → Expected → ℕ → Bool → K → Option (OpenContainer K)
+fewer expected (suc left) e kept = Some (record { expected = expected; left = left; is_indefinite = e; kept = kept })
+fewer expected zero true kept = Some (indefinite expected kept)
+fewer expected zero false kept = None
+
+-- behind a member, or a pair; nothing, if it was the last
+abbrev pub after_member : {K : Type 0} → OpenContainer K → Option (OpenContainer K)
+after_member c = fewer c.expected c.left c.is_indefinite c.kept
+
+abbrev pub after_expected : {K : Type 0} → Expected → OpenContainer K → Option (OpenContainer K)
+after_expected Item c = after_member c
+after_expected Key c = Some (record c { expected = Value })
+after_expected Value c = after_member (record c { expected = Key })
+
+-- behind an item
+abbrev pub after : {K : Type 0} → OpenContainer K → Option (OpenContainer K)
+after c = after_expected c.expected c
+
+-- ---- where it keeps how many bytes of the input stand behind its head
+
+abbrev pub Cell : Type 0
+Cell = OpenContainer ℕ
 
 -- ---- the head with which it begins
 
@@ -35,7 +62,7 @@ full_opener _ = []
 -- ---- the cells
 
 -- where so many bytes are behind its head
-abbrev pub cell_of : ℕ → Level → OpenContainer
+abbrev pub cell_of : ℕ → Level → Cell
 cell_of behind (a_member w left done) = counted Item left behind
 cell_of behind (a_key w left done) = counted Key left behind
 cell_of behind (a_value w left done k) = counted Value left behind
@@ -49,26 +76,6 @@ abbrev pub behind_head : ℕ → List Level → Level → ℕ
 behind_head n ls l = n - length (bytes_before ls ++ opener l)
 
 -- in all of them, within an input of so many bytes; the input itself is the outermost, in which one item is expected
-abbrev pub cells_of : ℕ → List Level → List OpenContainer
+abbrev pub cells_of : ℕ → List Level → List Cell
 cells_of n [] = counted Item 0 0 ∷ []
 cells_of n (l ∷ ls) = cell_of (behind_head n ls l) l ∷ cells_of n ls
-
--- ---- an item of it is whole
-
-abbrev pub fewer : Expected → ℕ → ℕ → Bool → Option OpenContainer
-fewer expected (suc left) behind e = Some (record { expected = expected; left = left; behind = behind; is_indefinite = e })
-fewer expected zero behind true = Some (indefinite expected behind)
-fewer expected zero behind false = None
-
--- behind a member, or a pair; nothing, if it was the last
-abbrev pub after_member : OpenContainer → Option OpenContainer
-after_member c = fewer c.expected c.left c.behind c.is_indefinite
-
-abbrev pub after_expected : Expected → OpenContainer → Option OpenContainer
-after_expected Item c = after_member c
-after_expected Key c = Some (record c { expected = Value })
-after_expected Value c = after_member (record c { expected = Key })
-
--- behind an item
-abbrev pub after : OpenContainer → Option OpenContainer
-after c = after_expected c.expected c

@@ -2,7 +2,7 @@
 use Rattle.std.specs.Prelude.{ℕ, suc, ◌≡◌, ◌-◌, Bool, true, false, Option, Some, List, [], ◌∷◌, ◌++◌, length}
 use Rattle.cbor_head.specs.Prelude.{Spelling, a_map}
 use Rattle.cbor_verdict.specs.Levels.{Level, a_member, some_member, tagged, ArePairsTaken, bytes_before}
-use Rattle.cbor_parser.specs.{Expected.pairs, declared.open_container.OpenContainer.OpenContainer, Sink.is_map, inner.OpenContainer.full_opener}
+use Rattle.cbor_parser.specs.{Expected.pairs, Sink.is_map, inner.OpenContainer.full_opener, inner.OpenContainer.Cell}
 
 -- the keys and values of a map are taken; two keys may be the same
 abbrev pub HasTakenPairs : ℕ → Spelling → Type 0
@@ -10,9 +10,9 @@ HasTakenPairs d (a_map w es) = ArePairsTaken d es
 HasTakenPairs d _ = Unit {0}
 
 -- this container, whole within these, is that of a cell, in an input of so many bytes
-pub record IsCellOf (n d : ℕ) (c : OpenContainer) (ls : List Level) (s : Spelling) : Type 0 where
+pub record IsCellOf (n d : ℕ) (c : Cell) (ls : List Level) (s : Spelling) : Type 0 where
   pub kind : pairs c.expected ≡ is_map s
-  pub place : c.behind ≡ n - length (bytes_before ls ++ full_opener s)
+  pub place : c.kept ≡ n - length (bytes_before ls ++ full_opener s)
   pub taken : HasTakenPairs (d - suc (length ls)) s
 
 -- ---- maps
@@ -33,10 +33,10 @@ map_levels [] = 0
 map_levels (l ∷ ls) = counts_one (is_map_level l) (map_levels ls)
 
 -- so many of the cells are those of maps
-abbrev pub map_cells : List OpenContainer → ℕ
+abbrev pub map_cells : List Cell → ℕ
 map_cells [] = 0
 map_cells (c ∷ cs) = counts_one (pairs c.expected) (map_cells cs)
 
 -- the cell, in these, of the map around which so many maps are open
-abbrev pub FindsMap : List OpenContainer → ℕ → Option OpenContainer → Type 0
-FindsMap cells outside found = (inner outer : List OpenContainer) (c : OpenContainer) → cells ≡ inner ++ c ∷ outer → pairs c.expected ≡ true → map_cells outer ≡ outside → found ≡ Some c
+abbrev pub FindsMap : List Cell → ℕ → Option Cell → Type 0
+FindsMap cells outside found = (inner outer : List Cell) (c : Cell) → cells ≡ inner ++ c ∷ outer → pairs c.expected ≡ true → map_cells outer ≡ outside → found ≡ Some c

@@ -10,8 +10,8 @@ use Rattle.cbor_parser.specs.declared.parse.Stop.TheVariants as stop
 use Rattle.cbor_parser.specs.declared.part.Part.TheVariants as part
 use Rattle.cbor_parser.specs.Sink.{StandsFull, Reported, IsReportedFull, IsWithin}
 use Rattle.cbor_parser.specs.declared.{parser.ParseEnd.ParseEnd, parser.CloseResult.CloseResult, parse.Stop.Stop}
-use Rattle.cbor_parser.specs.{inner.Repeated.IsKeyReported, declared.open_container.OpenContainer.OpenContainer, declared.part.Part.Part, ParsedItem.IsStop}
-use Rattle.cbor_parser.specs.inner.{Kept.KeepsBefore, Kept.ParseEndKept, OpenContainer.cells_of, OpenMaps.IsCellOf, Parts.IsHead, Parts.IsOpener}
+use Rattle.cbor_parser.specs.{inner.Repeated.IsKeyReported, declared.part.Part.Part, ParsedItem.IsStop, inner.Kept.KeepsBefore, inner.Kept.ParseEndKept}
+use Rattle.cbor_parser.specs.inner.{OpenContainer.cells_of, OpenContainer.Cell, OpenMaps.IsCellOf, Parts.IsHead, Parts.IsOpener}
 
 -- ---- what is known of an input
 
@@ -29,7 +29,7 @@ IsStopWithin trusts limits input (stop.Repeated behind pair) = IsKeyReported lim
 
 module _ (S : Type 0) (stands : S → S → ParseState → Type 0) (trusts : Bool) where
   -- these containers are open before the rest of an input, and what is complete in them is given so
-  pub record StandsBefore (given_in : List Level → Type 0) (d : ℕ) (input : List ℕ) (cs : List OpenContainer) (rest : List ℕ) : Type 0 where
+  pub record StandsBefore (given_in : List Level → Type 0) (d : ℕ) (input : List ℕ) (cs : List Cell) (rest : List ℕ) : Type 0 where
     pub ls : List Level
     pub levels : AreLevels d ls
     pub cells : cs ≡ cells_of (length input) ls
@@ -39,11 +39,11 @@ module _ (S : Type 0) (stands : S → S → ParseState → Type 0) (trusts : Boo
     pub known : trusts ≡ true → BeginsTaken d input
 
   -- an item is expected, or a break
-  abbrev pub IsExpected : S → ℕ → List ℕ → List OpenContainer → S → List ℕ → Type 0
+  abbrev pub IsExpected : S → ℕ → List ℕ → List Cell → S → List ℕ → Type 0
   IsExpected start d input cs g rest = StandsBefore (λ ls. stands start g (item_expected ls)) d input cs rest
 
   -- an item is whole, of which so much is known; two keys of a map may be the same
-  pub record IsFull (is_known : List Level → Spelling → Type 0) (d : ℕ) (input : List ℕ) (cs : List OpenContainer) (rest : List ℕ) : Type 0 where
+  pub record IsFull (is_known : List Level → Spelling → Type 0) (d : ℕ) (input : List ℕ) (cs : List Cell) (rest : List ℕ) : Type 0 where
     pub ls : List Level
     pub item : Spelling
     pub levels : AreLevels d ls
@@ -56,15 +56,15 @@ module _ (S : Type 0) (stands : S → S → ParseState → Type 0) (trusts : Boo
     pub known : trusts ≡ true → BeginsTaken d input
 
   -- it has no complaint, and is given to the sink
-  abbrev pub HasEnded : S → ℕ → List ℕ → List OpenContainer → S → List ℕ → Type 0
+  abbrev pub HasEnded : S → ℕ → List ℕ → List Cell → S → List ℕ → Type 0
   HasEnded start d input cs g rest = IsFull (λ ls s. IsClean s × stands start g (settle ls s)) d input cs rest
 
   -- a container is to end in the sink, a map or not
-  abbrev pub IsToEnd : Bool → S → ℕ → List ℕ → List OpenContainer → S → List ℕ → Type 0
+  abbrev pub IsToEnd : Bool → S → ℕ → List ℕ → List Cell → S → List ℕ → Type 0
   IsToEnd is_map start d input cs g rest = IsFull (StandsFull S (Reported S stands is_map) d start g) d input cs rest
 
   -- it has a cell, which is still the innermost
-  abbrev pub IsCellFull : (List Level → Spelling → Type 0) → ℕ → List ℕ → OpenContainer → List OpenContainer → List ℕ → Type 0
+  abbrev pub IsCellFull : (List Level → Spelling → Type 0) → ℕ → List ℕ → Cell → List Cell → List ℕ → Type 0
   IsCellFull is_known d input c cs rest = IsFull (λ ls s. is_known ls s × IsCellOf (length input) d c ls s) d input cs rest
 
   -- the input's item is whole
@@ -75,73 +75,73 @@ module _ (S : Type 0) (stands : S → S → ParseState → Type 0) (trusts : Boo
     pub bytes : input ≡ spell item ++ rest
 
   -- the innermost container is whole; or, where no other cell is around its cell, the input's item
-  abbrev pub HasFilled : S → ℕ → List ℕ → List OpenContainer → S → List ℕ → Type 0
+  abbrev pub HasFilled : S → ℕ → List ℕ → List Cell → S → List ℕ → Type 0
   HasFilled start d input [] g rest = ⊥
   HasFilled start d input (top ∷ []) g rest = IsBuilt start d input g rest
   HasFilled start d input (top ∷ c ∷ cs) g rest = IsCellFull (StandsFull S stands d start g) d input top (c ∷ cs) rest
 
   -- the innermost container was to end, and did not: two of its keys are the same, and this one is reported
-  abbrev pub IsRepeatVisited : Repeat → ℕ → List ℕ → List OpenContainer → List ℕ → Type 0
+  abbrev pub IsRepeatVisited : Repeat → ℕ → List ℕ → List Cell → List ℕ → Type 0
   IsRepeatVisited repeat d input [] rest = ⊥
   IsRepeatVisited repeat d input (top ∷ cs) rest = IsCellFull (λ ls s. IsReportedFull ls s repeat) d input top cs rest
 
   -- ---- what the calls ask for: some input of which this is true
 
-  abbrev pub IsExpectedIn : ℕ → List OpenContainer → S → List ℕ → Type 0
+  abbrev pub IsExpectedIn : ℕ → List Cell → S → List ℕ → Type 0
   IsExpectedIn d cs g rest = (start : S) × (input : List ℕ) × IsExpected start d input cs g rest
 
-  abbrev pub IsExpectedFor : OpenContainer → S → List ℕ → Type 0
-  IsExpectedFor top g rest = (d : ℕ) × (outer : List OpenContainer) × IsExpectedIn d (top ∷ outer) g rest
+  abbrev pub IsExpectedFor : Cell → S → List ℕ → Type 0
+  IsExpectedFor top g rest = (d : ℕ) × (outer : List Cell) × IsExpectedIn d (top ∷ outer) g rest
 
-  abbrev pub HasFilledIn : List OpenContainer → S → Type 0
+  abbrev pub HasFilledIn : List Cell → S → Type 0
   HasFilledIn cs g = (start : S) × (d : ℕ) × (input : List ℕ) × (rest : List ℕ) × HasFilled start d input cs g rest
 
   abbrev pub IsToEndFor : Bool → S → List ℕ → Type 0
-  IsToEndFor is_map g rest = (start : S) × (d : ℕ) × (input : List ℕ) × (cs : List OpenContainer) × IsToEnd is_map start d input cs g rest
+  IsToEndFor is_map g rest = (start : S) × (d : ℕ) × (input : List ℕ) × (cs : List Cell) × IsToEnd is_map start d input cs g rest
 
   -- ---- a head
 
-  abbrev pub IsHeadExpected : Major → ℕ → List ℕ → OpenContainer → S → Type 0
+  abbrev pub IsHeadExpected : Major → ℕ → List ℕ → Cell → S → Type 0
   IsHeadExpected m n behind top g = (rest : List ℕ) × IsHead m n rest behind × IsExpectedFor top g rest
 
-  abbrev pub IsHeadIn : Major → ℕ → List ℕ → ℕ → List OpenContainer → S → Type 0
+  abbrev pub IsHeadIn : Major → ℕ → List ℕ → ℕ → List Cell → S → Type 0
   IsHeadIn m n behind d cs g = (rest : List ℕ) × IsHead m n rest behind × IsExpectedIn d cs g rest
 
-  abbrev pub IsOpenerExpected : Major → ℕ → OpenContainer → List ℕ → OpenContainer → S → Type 0
+  abbrev pub IsOpenerExpected : Major → ℕ → Cell → List ℕ → Cell → S → Type 0
   IsOpenerExpected m n c behind top g = (rest : List ℕ) × IsOpener m n c rest behind × IsExpectedFor top g rest
 
   -- a container that was to end, before these bytes
-  abbrev pub EndsTo : Part → S → ℕ → List ℕ → List OpenContainer → S → List ℕ → Type 0
+  abbrev pub EndsTo : Part → S → ℕ → List ℕ → List Cell → S → List ℕ → Type 0
   EndsTo (part.Item to) start d input cs g behind = (to.now ≡ behind) × HasEnded start d input cs g behind
   EndsTo part.Stopped start d input cs g behind = Unit {0}
   EndsTo _ start d input cs g behind = ⊥
 
   abbrev pub EndsItem : Bool → Part → List ℕ → S → S → Type 0
-  EndsItem is_map result behind g new = (start : S) (d : ℕ) (input : List ℕ) (cs : List OpenContainer) → IsToEnd is_map start d input cs g behind → EndsTo result start d input cs new behind
+  EndsItem is_map result behind g new = (start : S) (d : ℕ) (input : List ℕ) (cs : List Cell) → IsToEnd is_map start d input cs g behind → EndsTo result start d input cs new behind
 
   -- ---- behind a container
 
-  abbrev pub LeadsTo : CloseResult → S → ℕ → List ℕ → List ℕ → List OpenContainer → S → Type 0
+  abbrev pub LeadsTo : CloseResult → S → ℕ → List ℕ → List ℕ → List Cell → S → Type 0
   LeadsTo then.Item start d input rest cs g = IsExpected start d input cs g rest
   LeadsTo then.Done start d input rest cs g = IsBuilt start d input g rest
   LeadsTo (then.Repeated repeat) start d input rest cs g = IsRepeatVisited repeat d input cs rest
   LeadsTo then.Stopped start d input rest cs g = Unit {0}
 
-  abbrev pub Leads : CloseResult → List OpenContainer → S → List OpenContainer → S → Type 0
+  abbrev pub Leads : CloseResult → List Cell → S → List Cell → S → Type 0
   Leads result cs g now new = (start : S) (d : ℕ) (input rest : List ℕ) → HasFilled start d input cs g rest → LeadsTo result start d input rest now new
 
   -- where kinds are asked for
-  abbrev pub WalksKept : Bool → ParseEnd → ℕ → List ℕ → List OpenContainer → S → Type 0
+  abbrev pub WalksKept : Bool → ParseEnd → ℕ → List ℕ → List Cell → S → Type 0
   WalksKept kinds result d rest cs g = kinds ≡ true → (keys : Keys) (start : S) (input : List ℕ) → IsExpected start d input cs g rest → KeepsBefore d keys input rest → ParseEndKept result d keys input
 
   module _ (holds : S → S → List Level → Bool → List ℕ → Type 0) where
     -- the walk has come to an item that is expected, or to some chunk of it
-    abbrev pub HasCome : S → ℕ → List ℕ → List OpenContainer → S → List ℕ → Type 0
+    abbrev pub HasCome : S → ℕ → List ℕ → List Cell → S → List ℕ → Type 0
     HasCome start d input cs g rest = StandsBefore (IsWithin S stands holds start g) d input cs rest
 
     -- ---- what is taken
 
-    abbrev pub TakesTo : Part → S → ℕ → List ℕ → List ℕ → List OpenContainer → S → Type 0
+    abbrev pub TakesTo : Part → S → ℕ → List ℕ → List ℕ → List Cell → S → Type 0
     TakesTo (part.Item behind) start d input rest cs g = (length behind.now < length rest) × HasEnded start d input cs g behind.now
     TakesTo (part.Head behind) start d input rest cs g = (length behind.now < length rest) × IsExpected start d input cs g behind.now
     TakesTo (part.Break behind) start d input rest cs g = (length behind.now < length rest) × HasFilled start d input cs g behind.now
@@ -150,33 +150,33 @@ module _ (S : Type 0) (stands : S → S → ParseState → Type 0) (trusts : Boo
     TakesTo part.Stopped start d input rest cs g = Unit {0}
 
     -- from these cells and this sink to those
-    abbrev pub Takes : Part → ℕ → List ℕ → List OpenContainer → S → List OpenContainer → S → Type 0
+    abbrev pub Takes : Part → ℕ → List ℕ → List Cell → S → List Cell → S → Type 0
     Takes result d rest cs g now new = (start : S) (input : List ℕ) → IsExpected start d input cs g rest → TakesTo result start d input rest now new
 
     -- within whatever cells around this one
-    abbrev pub TakesItem : Part → List ℕ → OpenContainer → S → S → Type 0
-    TakesItem result rest top g new = (d : ℕ) (outer : List OpenContainer) → Takes result d rest (top ∷ outer) g (top ∷ outer) new
+    abbrev pub TakesItem : Part → List ℕ → Cell → S → S → Type 0
+    TakesItem result rest top g new = (d : ℕ) (outer : List Cell) → Takes result d rest (top ∷ outer) g (top ∷ outer) new
 
     -- a head
-    abbrev pub TakesHead : Part → Major → ℕ → List ℕ → OpenContainer → S → S → Type 0
+    abbrev pub TakesHead : Part → Major → ℕ → List ℕ → Cell → S → S → Type 0
     TakesHead result m n behind top g new = (rest : List ℕ) → IsHead m n rest behind → TakesItem result rest top g new
 
-    abbrev pub TakesCounted : Part → ℕ → Major → ℕ → List ℕ → List OpenContainer → S → List OpenContainer → S → Type 0
+    abbrev pub TakesCounted : Part → ℕ → Major → ℕ → List ℕ → List Cell → S → List Cell → S → Type 0
     TakesCounted result d m n behind cs g now new = (rest : List ℕ) → IsHead m n rest behind → Takes result d rest cs g now new
 
-    abbrev pub TakesOpener : Part → ℕ → Major → ℕ → OpenContainer → List ℕ → List OpenContainer → S → List OpenContainer → S → Type 0
+    abbrev pub TakesOpener : Part → ℕ → Major → ℕ → Cell → List ℕ → List Cell → S → List Cell → S → Type 0
     TakesOpener result d m n c behind cs g now new = (rest : List ℕ) → IsOpener m n c rest behind → Takes result d rest cs g now new
 
     -- ---- the walk
 
-    abbrev pub Meets : ParseEnd → S → ℕ → List ℕ → List OpenContainer → S → Type 0
+    abbrev pub Meets : ParseEnd → S → ℕ → List ℕ → List Cell → S → Type 0
     Meets (parse_end.Whole rest) start d input cs g = IsBuilt start d input g rest.now
     Meets (parse_end.Untaken rest) start d input cs g = IsExpected start d input cs g rest.now
     Meets (parse_end.Broken rest) start d input cs g = HasCome start d input cs g rest.now
     Meets (parse_end.Repeated rest repeat) start d input cs g = IsRepeatVisited repeat d input cs rest.now
     Meets parse_end.Stopped start d input cs g = Unit {0}
 
-    abbrev pub Walks : ParseEnd → ℕ → List ℕ → List OpenContainer → S → List OpenContainer → S → Type 0
+    abbrev pub Walks : ParseEnd → ℕ → List ℕ → List Cell → S → List Cell → S → Type 0
     Walks result d rest cs g now new = (start : S) (input : List ℕ) → IsExpected start d input cs g rest → Meets result start d input now new
 
   -- ---- the whole

@@ -8,8 +8,8 @@ use Rattle.cbor_verdict.specs.{Kinds.IsOfOneHead, Reading.string_major}
 use Rattle.cbor_parser.specs.declared.container.Expected.TheVariants.{Item, Key, Value}
 use Rattle.cbor_parser.specs.declared.part.PackedPart.TheVariants as left
 use Rattle.cbor_parser.specs.declared.part.Part.TheVariants as part
-use Rattle.cbor_parser.specs.declared.{container.Expected.Expected, open_container.OpenContainer.OpenContainer, part.Part.Part, part.PackedPart.PackedPart}
-use Rattle.cbor_parser.specs.inner.OpenContainer.{cell_of}
+use Rattle.cbor_parser.specs.declared.{container.Expected.Expected, part.Part.Part, part.PackedPart.PackedPart}
+use Rattle.cbor_parser.specs.inner.OpenContainer.{cell_of, Cell}
 
 -- it is an item, or nothing can be taken
 abbrev pub IsItem : Part → Type 0
@@ -33,7 +33,7 @@ Counts Map Key = Unit {0}
 Counts m expected = ⊥
 
 -- the bytes are the opener of a container that has items, or may have, and those behind it
-pub record IsOpener (m : Major) (n : ℕ) (c : OpenContainer) (rest behind : List ℕ) : Type 0 where
+pub record IsOpener (m : Major) (n : ℕ) (c : Cell) (rest behind : List ℕ) : Type 0 where
   pub level : Level
   pub fresh : (d : ℕ) → IsLevel d level
   pub cell : c ≡ cell_of (length behind) level
@@ -65,12 +65,12 @@ pub record HasBegun (d : ℕ) (rest behind : List ℕ) : Type 0 where
   pub bytes : spell item ≡ prefix ++ more
 
 -- a break stands there, and may
-pub record HasBroken (c : OpenContainer) (rest behind : List ℕ) : Type 0 where
+pub record HasBroken (c : Cell) (rest behind : List ℕ) : Type 0 where
   pub open_ended : c.is_indefinite ≡ true
   pub no_value : c.expected ≡ Value → ⊥
   pub is : rest ≡ 0xff ∷ behind
 
-abbrev pub TakesPrefix : Part → ℕ → OpenContainer → List ℕ → Type 0
+abbrev pub TakesPrefix : Part → ℕ → Cell → List ℕ → Type 0
 TakesPrefix (part.Item behind) d c rest = HasBegun d rest behind.now
 TakesPrefix (part.Head behind) d c rest = HasBegun d rest behind.now
 TakesPrefix (part.Break behind) d c rest = HasBroken c rest behind.now
@@ -78,16 +78,16 @@ TakesPrefix _ d c rest = Unit {0}
 
 -- within whatever containers
 abbrev pub TakesScalar : Part → List ℕ → Type 0
-TakesScalar result rest = (d : ℕ) (c : OpenContainer) → TakesPrefix result d c rest
+TakesScalar result rest = (d : ℕ) (c : Cell) → TakesPrefix result d c rest
 
 abbrev pub TakesHeadPrefix : Part → Major → ℕ → List ℕ → Type 0
 TakesHeadPrefix result m n behind = (rest : List ℕ) → IsHead m n rest behind → TakesScalar result rest
 
 abbrev pub TakesCountedPrefix : Part → ℕ → Major → ℕ → List ℕ → Type 0
-TakesCountedPrefix result d m n behind = (rest : List ℕ) → IsHead m n rest behind → (c : OpenContainer) → TakesPrefix result d c rest
+TakesCountedPrefix result d m n behind = (rest : List ℕ) → IsHead m n rest behind → (c : Cell) → TakesPrefix result d c rest
 
-abbrev pub TakesOpenerPrefix : Part → ℕ → Major → ℕ → OpenContainer → List ℕ → Type 0
-TakesOpenerPrefix result d m n o behind = (rest : List ℕ) → IsOpener m n o rest behind → (c : OpenContainer) → TakesPrefix result d c rest
+abbrev pub TakesOpenerPrefix : Part → ℕ → Major → ℕ → Cell → List ℕ → Type 0
+TakesOpenerPrefix result d m n o behind = (rest : List ℕ) → IsOpener m n o rest behind → (c : Cell) → TakesPrefix result d c rest
 
 -- an item is taken, or a head
 abbrev pub HasTaken : Part → Type 0

@@ -5,7 +5,7 @@ use Rattle.cbor_head.specs.declared.order.KeyOrder.{KeyOrder}
 use Rattle.cbor_builder.specs.{Built.HasKey, Built.AreOpenKeysDifferent, declared.repeat.Repeat.Repeat}
 use Rattle.cbor_verdict.specs.Levels.{IsTaken, Level, AreLevels, bytes_before}
 use Rattle.cbor_verdict.specs.{Given.opens, Kinds.KeepsToKinds}
-use Rattle.cbor_parser.specs.{Sink.IsKeyBehind, inner.OpenContainer.opener, inner.OpenMaps.FindsMap, declared.open_container.OpenContainer.OpenContainer}
+use Rattle.cbor_parser.specs.{Sink.IsKeyBehind, inner.OpenContainer.opener, inner.OpenContainer.Cell, inner.OpenMaps.FindsMap}
 
 -- The input's item has come to a key that has the canonical bytes of an earlier one of its map, as no two keys before it. So many
 -- bytes of the input stand behind the map's head.
@@ -28,9 +28,9 @@ pub record IsKeyReported (limits : Bounds) (input : List ℕ) (behind pair : ℕ
   pub begins : behind ≡ length input - length (bytes_before outer ++ opener level)
 
 -- a cell that is found has what is reported of its map's key
-abbrev pub IsCellReported : Bounds → List ℕ → Option OpenContainer → ℕ → Type 0
-IsCellReported limits input found pair = (c : OpenContainer) × (found ≡ Some c) × IsKeyReported limits input c.behind pair
+abbrev pub IsCellReported : Bounds → List ℕ → Option Cell → ℕ → Type 0
+IsCellReported limits input found pair = (c : Cell) × (found ≡ Some c) × IsKeyReported limits input c.kept pair
 
 -- the map of the key that is reported has one of these cells
-abbrev pub IsKeyReportedIn : Bounds → List ℕ → List OpenContainer → Repeat → Type 0
-IsKeyReportedIn limits input cells repeat = (found : Option OpenContainer) → FindsMap cells repeat.outside found → IsCellReported limits input found repeat.pair
+abbrev pub IsKeyReportedIn : Bounds → List ℕ → List Cell → Repeat → Type 0
+IsKeyReportedIn limits input cells repeat = (found : Option Cell) → FindsMap cells repeat.outside found → IsCellReported limits input found repeat.pair

@@ -18,16 +18,16 @@ returns-in-Refused-clause-refused g c =
 
 pub returns-in-Whole-clause-whole : goal.returns-in-Whole-clause-whole
 returns-in-Whole-clause-whole g c =
-    c.in-Whole.ensures (starts_at c.args.order c.args.limits c.args.input.now c.new-stack.result _ c.new-stack.ensures.height (c.new-stack.ensures.top ∙ c.new-level.ensures))
+    c.in-Whole.ensures (starts_at c.args.order c.args.limits c.args.input.now c.new-stack.result _ c.new-stack.ensures.height (c.new-stack.ensures.top ∙ c.strict_cell-level.ensures))
 
 pub returns-in-Refused-walk-clause-refused : goal.returns-in-Refused-walk-clause-refused
 returns-in-Refused-walk-clause-refused g c =
-    inl (c.in-Refused-walk.ensures (starts_at c.args.order c.args.limits c.args.input.now c.new-stack.result _ c.new-stack.ensures.height (c.new-stack.ensures.top ∙ c.new-level.ensures)))
+    inl (c.in-Refused-walk.ensures (starts_at c.args.order c.args.limits c.args.input.now c.new-stack.result _ c.new-stack.ensures.height (c.new-stack.ensures.top ∙ c.strict_cell-level.ensures)))
 
 pub returns-in-OutOfOrder-clause-refused : goal.returns-in-OutOfOrder-clause-refused
 returns-in-OutOfOrder-clause-refused g c =
-    c.key_out_of_order.ensures c.args.order c.args.limits (c.in-OutOfOrder.ensures (starts_at c.args.order c.args.limits c.args.input.now c.new-stack.result _ c.new-stack.ensures.height (c.new-stack.ensures.top ∙ c.new-level.ensures)))
+    c.key_out_of_order.ensures c.args.order c.args.limits (c.in-OutOfOrder.ensures (starts_at c.args.order c.args.limits c.args.input.now c.new-stack.result _ c.new-stack.ensures.height (c.new-stack.ensures.top ∙ c.strict_cell-level.ensures)))
 
 pub with_more_cells-requires-clause-full : goal.with_more_cells-requires-clause-full
 with_more_cells-requires-clause-full g c =
-    c.in-Full.ensures (starts_at c.args.order c.args.limits c.args.input.now c.new-stack.result _ c.new-stack.ensures.height (c.new-stack.ensures.top ∙ c.new-level.ensures))
+    c.in-Full.ensures (starts_at c.args.order c.args.limits c.args.input.now c.new-stack.result _ c.new-stack.ensures.height (c.new-stack.ensures.top ∙ c.strict_cell-level.ensures))

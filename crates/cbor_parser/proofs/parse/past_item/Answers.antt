@@ -1,10 +1,10 @@
 use Rattle.std.proofs.Common.{◌∙◌, List, [], refl, arith}
 use Rattle.cbor_parser.specs.declared.parser.ParseEnd.TheVariants as parse_end
 use Rattle.cbor_parser.proofs.parse.past_item.Goals as goal
-use Rattle.cbor_parser.specs.{Stack.open_levels, declared.open_container.OpenContainer.OpenContainer, inner.Parser.IsExpected}
-use Rattle.cbor_parser.proofs.{GivenKinds.starts-kept, GivenParts.starts, GivenStops.walk-parse_end, parse.past_item.Goals.After-walk-parse_end}
+use Rattle.cbor_parser.{specs.Stack.open_levels, specs.inner.Parser.IsExpected, proofs.GivenKinds.starts-kept, proofs.GivenParts.starts}
+use Rattle.cbor_parser.{proofs.GivenStops.walk-parse_end, proofs.parse.past_item.Goals.After-walk-parse_end, specs.inner.OpenContainer.Cell}
 
-expected : (g : _) (c : After-walk-parse_end g) (cells : List OpenContainer) → IsExpected g.row.S.Denot g.S.Sink.stands g.S.Sink.trusts c.args.building.now.sink c.args.limits.depth c.args.input.now (open_levels OpenContainer c.args.building.now.stack cells) c.args.building.now.sink c.args.input.now
+expected : (g : _) (c : After-walk-parse_end g) (cells : List Cell) → IsExpected g.row.S.Denot g.S.Sink.stands g.S.Sink.trusts c.args.building.now.sink c.args.limits.depth c.args.input.now (open_levels Cell c.args.building.now.stack cells) c.args.building.now.sink c.args.input.now
 expected g c cells = starts _ g.S.Sink.stands g.S.Sink.trusts c.args.building.now.stack c.args.building.now.sink c.args.limits.depth c.args.input.now cells c.requires.none c.requires.top c.requires.fresh (omega arith) c.requires.known
 
 pub deeper-requires : goal.deeper-requires

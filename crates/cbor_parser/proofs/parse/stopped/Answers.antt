@@ -4,14 +4,14 @@ use Rattle.cbor_model.proofs.ByteLists.{are_bytes}
 use Rattle.cbor_verdict.specs.{Stop.IsAnswered, PathKinds.asks}
 use Rattle.cbor_parser.proofs.parse.stopped.Goals as goal
 use Rattle.cbor_parser.proofs.parse.stopped.Goals.{Joined-parse_end, In-Repeated, in-Untaken, in-Untaken-2}
-use Rattle.cbor_parser.specs.{Stack.open_levels, declared.open_container.OpenContainer.OpenContainer, inner.Repeated.IsKeyReportedIn}
-use Rattle.cbor_parser.proofs.{Taking.asked_of, GivenStops.StopsBefore, GivenStops.stopped-there}
-use Rattle.cbor_parser.proofs.ReportedStops.{reported_where_expected, reported_at_end}
+use Rattle.cbor_parser.{specs.Stack.open_levels, specs.inner.Repeated.IsKeyReportedIn, proofs.Taking.asked_of}
+use Rattle.cbor_parser.proofs.{GivenStops.StopsBefore, GivenStops.stopped-there, ReportedStops.reported_where_expected, ReportedStops.reported_at_end}
+use Rattle.cbor_parser.specs.inner.OpenContainer.{Cell}
 
 stops : (g : _) (c : Joined-parse_end g) → StopsBefore c.args.parse_end c.match-parse_end.rest
 stops g c = elim c.match-parse_end.branch [ in-Untaken w ↦ subst (StopsBefore c.args.parse_end) (sym w.rest-is) w.in-Untaken.is | in-Untaken-2 w ↦ subst (StopsBefore c.args.parse_end) (sym w.rest-is) w.in-Untaken.is ]
 
-reported : (g : _) (c : In-Repeated g) → IsKeyReportedIn c.args.limits c.args.input.now (open_levels OpenContainer c.args.building.now.stack c.args.cells.now) c.in-Repeated.repeat
+reported : (g : _) (c : In-Repeated g) → IsKeyReportedIn c.args.limits c.args.input.now (open_levels Cell c.args.building.now.stack c.args.cells.now) c.in-Repeated.repeat
 reported g c = reported_at_end c.args.limits c.args.input.now c.requires.within g.row.S.Denot g.S.Sink.stands g.S.Sink.trusts g.S.Sink.holds c.requires.come.0 c.args.building.now.sink c.args.parse_end _ c.in-Repeated.repeat c.requires.come.1 c.requires.kept c.in-Repeated.field-0 c.in-Repeated.is
 
 pub repeated-requires-clause-reported : goal.repeated-requires-clause-reported

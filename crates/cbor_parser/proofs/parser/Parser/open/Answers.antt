@@ -1,8 +1,8 @@
 use Rattle.std.proofs.Common.{◌∙◌, ◌-◌, ◌<◌, List, length, sym, subst, arith, refl}
 use Rattle.cbor_parser.proofs.GivenParts.{expected-item, key-awaited, height-is, opened}
 use Rattle.cbor_parser.proofs.parser.Parser.open.Goals as goal
-use Rattle.cbor_parser.{specs.Stack.around, proofs.Stacks.open_levels_count, specs.declared.open_container.OpenContainer.OpenContainer}
-use Rattle.cbor_parser.{specs.inner.Parser.IsExpected, proofs.GivenKinds.opener-begun}
+use Rattle.cbor_parser.{specs.Stack.around, proofs.Stacks.open_levels_count, specs.inner.Parser.IsExpected, proofs.GivenKinds.opener-begun}
+use Rattle.cbor_parser.specs.inner.OpenContainer.{Cell}
 
 pub begin-requires : goal.begin-requires
 begin-requires g c =
@@ -12,9 +12,9 @@ begin-requires g c =
 pub returns-clause-takes : goal.returns-clause-takes
 returns-clause-takes g c = λ rest opener start input expected.
     let behind = c.args.behind.now in
-    let space : length expected.ls < c.args.depth = omega (arith, c.if-self-depth.false, height-is _ _ _ _ _ _ _ _ _ expected, open_levels_count OpenContainer c.args.self.now.stack c.args.cells.now c.requires.cells) in
-    subst (λ (x : List OpenContainer). (length behind < length rest) × IsExpected g.row.S.Denot g.S.Sink.stands g.S.Sink.trusts start c.args.depth input x c.begin.new.self behind) (sym c.push.ensures.levels)
-    (opened _ _ _ _ _ _ _ _ _ expected c.args.major c.args.number c.args.opened behind c.begin.new.self c.is_key.result (c.is_key.ensures ∙ key-awaited (length input) expected.ls c.args.self.now.stack.top (around OpenContainer c.args.self.now.stack c.args.cells.now) expected.cells) space opener c.in-Ok.ensures)
+    let space : length expected.ls < c.args.depth = omega (arith, c.if-self-depth.false, height-is _ _ _ _ _ _ _ _ _ expected, open_levels_count Cell c.args.self.now.stack c.args.cells.now c.requires.cells) in
+    subst (λ (x : List Cell). (length behind < length rest) × IsExpected g.row.S.Denot g.S.Sink.stands g.S.Sink.trusts start c.args.depth input x c.begin.new.self behind) (sym c.push.ensures.levels)
+    (opened _ _ _ _ _ _ _ _ _ expected c.args.major c.args.number c.args.opened behind c.begin.new.self c.is_key.result (c.is_key.ensures ∙ key-awaited (length input) expected.ls c.args.self.now.stack.top (around Cell c.args.self.now.stack c.args.cells.now) expected.cells) space opener c.in-Ok.ensures)
 
 pub returns-clause-prefix : goal.returns-clause-prefix
 returns-clause-prefix g c = λ rest opener o.

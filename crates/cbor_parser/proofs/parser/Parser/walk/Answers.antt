@@ -2,12 +2,12 @@ use Rattle.std.proofs.Common.{◌≡◌, ℕ, nat_eq, true, not, List, ◌∷◌
 use Rattle.cbor_head.specs.declared.keys.Keys.{Keys}
 use Rattle.cbor_parser.proofs.parser.Parser.walk.Goals as goal
 use Rattle.cbor_parser.proofs.parser.Parser.walk.Goals.{In-Item, In-Break, Else-advance}
-use Rattle.cbor_parser.specs.{Stack.around, Stack.open_levels, declared.open_container.OpenContainer.OpenContainer}
-use Rattle.cbor_parser.specs.inner.{Parser.IsExpected, Parser.HasFilled, Kept.KeepsBefore}
+use Rattle.cbor_parser.specs.{Stack.around, Stack.open_levels, inner.Parser.IsExpected, inner.Parser.HasFilled, inner.Kept.KeepsBefore}
 use Rattle.cbor_parser.proofs.{GivenEnds.goes, GivenEnds.is-full, GivenKinds.begun-keeps, GivenKinds.broken-keeps}
+use Rattle.cbor_parser.specs.inner.OpenContainer.{Cell}
 
 -- behind an item, and behind a break, no key of another kind has begun
-item_keeps : (g : _) (c : In-Item g) → not (nat_eq g.row.KINDS 0) ≡ true → (keys : Keys) (start : g.row.S.Denot) (input : List ℕ) → IsExpected g.row.S.Denot g.S.Sink.stands g.S.Sink.trusts start c.args.depth input (open_levels OpenContainer c.args.self.now.stack c.args.cells.now) c.args.self.now.sink c.args.start.now
+item_keeps : (g : _) (c : In-Item g) → not (nat_eq g.row.KINDS 0) ≡ true → (keys : Keys) (start : g.row.S.Denot) (input : List ℕ) → IsExpected g.row.S.Denot g.S.Sink.stands g.S.Sink.trusts start c.args.depth input (open_levels Cell c.args.self.now.stack c.args.cells.now) c.args.self.now.sink c.args.start.now
     → KeepsBefore c.args.depth keys input c.args.start.now → KeepsBefore c.args.depth keys input c.in-Item.behind.now
 item_keeps g c kinds keys start input expected keeps =
     let p = c.parts in
@@ -15,20 +15,20 @@ item_keeps g c kinds keys start input expected keeps =
     begun-keeps g.row.S.Denot g.S.Sink.stands g.S.Sink.trusts start c.args.depth input keys p.self.stack p.cells p.self.sink p.rest.now c.in-Item.behind.now before.cells (before.expected start input expected) c.in-Item.ensures.prefix
     (c.in-Item.ensures.fits tt kinds) (before.kept kinds keys start input expected keeps)
 
-break_keeps : (g : _) (c : In-Break g) → not (nat_eq g.row.KINDS 0) ≡ true → (keys : Keys) (start : g.row.S.Denot) (input : List ℕ) → IsExpected g.row.S.Denot g.S.Sink.stands g.S.Sink.trusts start c.args.depth input (open_levels OpenContainer c.args.self.now.stack c.args.cells.now) c.args.self.now.sink c.args.start.now
+break_keeps : (g : _) (c : In-Break g) → not (nat_eq g.row.KINDS 0) ≡ true → (keys : Keys) (start : g.row.S.Denot) (input : List ℕ) → IsExpected g.row.S.Denot g.S.Sink.stands g.S.Sink.trusts start c.args.depth input (open_levels Cell c.args.self.now.stack c.args.cells.now) c.args.self.now.sink c.args.start.now
     → KeepsBefore c.args.depth keys input c.args.start.now → KeepsBefore c.args.depth keys input c.in-Break.behind.now
 break_keeps g c kinds keys start input expected keeps =
     let p = c.parts in
     let before = p.invariant in
-    broken-keeps g.row.S.Denot g.S.Sink.stands g.S.Sink.trusts start c.args.depth input keys p.self.stack.top (around OpenContainer p.self.stack p.cells) p.self.sink p.rest.now c.in-Break.behind.now (before.expected start input expected) c.in-Break.ensures.prefix
+    broken-keeps g.row.S.Denot g.S.Sink.stands g.S.Sink.trusts start c.args.depth input keys p.self.stack.top (around Cell p.self.stack p.cells) p.self.sink p.rest.now c.in-Break.behind.now (before.expected start input expected) c.in-Break.ensures.prefix
     (before.kept kinds keys start input expected keeps)
 
 -- the innermost container has no more to come
-is_filled : (g : _) (c : Else-advance g) (start : g.row.S.Denot) (input : List ℕ) → IsExpected g.row.S.Denot g.S.Sink.stands g.S.Sink.trusts start c.args.depth input (open_levels OpenContainer c.args.self.now.stack c.args.cells.now) c.args.self.now.sink c.args.start.now
-    → HasFilled g.row.S.Denot g.S.Sink.stands g.S.Sink.trusts start c.args.depth input (c.advance.new.self ∷ around OpenContainer c.take_part.new.self.stack c.take_part.new.cells) c.take_part.new.self.sink c.in-Item.behind.now
+is_filled : (g : _) (c : Else-advance g) (start : g.row.S.Denot) (input : List ℕ) → IsExpected g.row.S.Denot g.S.Sink.stands g.S.Sink.trusts start c.args.depth input (open_levels Cell c.args.self.now.stack c.args.cells.now) c.args.self.now.sink c.args.start.now
+    → HasFilled g.row.S.Denot g.S.Sink.stands g.S.Sink.trusts start c.args.depth input (c.advance.new.self ∷ around Cell c.take_part.new.self.stack c.take_part.new.cells) c.take_part.new.self.sink c.in-Item.behind.now
 is_filled g c start input expected =
     let t = c.take_part.new.self in
-    is-full g.row.S.Denot g.S.Sink.stands g.S.Sink.trusts start c.args.depth input t.stack.top (around OpenContainer t.stack c.take_part.new.cells) t.sink c.in-Item.behind.now (c.in-Item.ensures.takes start input (c.parts.invariant.expected start input expected)).1 c.advance.new.self c.advance.ensures.kind c.advance.ensures.place (c.advance.ensures.full c.if-advance.false)
+    is-full g.row.S.Denot g.S.Sink.stands g.S.Sink.trusts start c.args.depth input t.stack.top (around Cell t.stack c.take_part.new.cells) t.sink c.in-Item.behind.now (c.in-Item.ensures.takes start input (c.parts.invariant.expected start input expected)).1 c.advance.new.self c.advance.ensures.kind c.advance.ensures.kept (c.advance.ensures.full c.if-advance.false)
 
 pub parts-smaller-in-Head : goal.parts-smaller-in-Head
 parts-smaller-in-Head g c = let d = c.requires.expected in (c.in-Head.ensures.takes d.0 d.1 (c.parts.invariant.expected d.0 d.1 d.2)).0
@@ -55,7 +55,7 @@ parts-preserved-then-advance g c =
     let t = c.take_part.new.self in
     record {
       cells = c.in-Item.ensures.cells;
-      expected = λ start input expected. goes g.row.S.Denot g.S.Sink.stands g.S.Sink.trusts start c.args.depth input t.stack.top (around OpenContainer t.stack c.take_part.new.cells) t.sink c.in-Item.behind.now (c.in-Item.ensures.takes start input (c.parts.invariant.expected start input expected)).1 c.advance.new.self (c.advance.ensures.more c.if-advance.true);
+      expected = λ start input expected. goes g.row.S.Denot g.S.Sink.stands g.S.Sink.trusts start c.args.depth input t.stack.top (around Cell t.stack c.take_part.new.cells) t.sink c.in-Item.behind.now (c.in-Item.ensures.takes start input (c.parts.invariant.expected start input expected)).1 c.advance.new.self (c.advance.ensures.more c.if-advance.true);
       kept = item_keeps g (goal.at.parts-preserved-then-advance g c).In-Item;
     }
 

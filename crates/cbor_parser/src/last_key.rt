@@ -1,0 +1,159 @@
+//! The last keys of open maps, by which the next are judged, and what an item that is whole makes of its containers.
+
+ghost use Rattle.std.specs.Prelude.{◌≡◌, ◌≤◌, true, length};
+ghost use Rattle.cbor_model.specs.KeyPrefix.{prefix_of};
+ghost use Rattle.cbor_head.specs.Order.{key_lt};
+ghost use Rattle.cbor_parser.specs.inner.Cells.{StrictCell, strict_cell, no_key, key_at, last_key, IsPrefixed, TakesKey, Advances};
+ghost use Rattle.cbor_parser.specs.inner.Cells.{Leads};
+ghost use Rattle.cbor_parser.specs.Stack.{around, open_levels};
+
+use crate::container::{Expected, Next, Step};
+use crate::open_container::OpenContainer;
+use crate::stack::Stack;
+use cbor_head::KeyOrder;
+use cbor_model::{compare_keys, key_prefix, part};
+use std::cmp::Ordering;
+
+/// Where the keys of an open map lie in the input.
+#[derive(Clone, Copy)]
+pub(crate) struct LastKey {
+    // Where the key begins that is expected.
+    pub(crate) key: usize,
+    // Where the last key begins and ends; before the first, no bytes.
+    pub(crate) last: usize,
+    pub(crate) last_end: usize,
+    // The first eight bytes of the last key, as a number.
+    pub(crate) prefix: u64,
+}
+
+impl LastKey {
+    /// None yet, of a map whose first key begins there.
+    #[inline(always)]
+    pub(crate) fn none(at: usize) -> LastKey
+        ensures { result ≡ no_key at }
+    {
+        LastKey {
+            key: at,
+            last: at,
+            last_end: at,
+            prefix: 0,
+        }
+    }
+
+    // The key that is expected ends there. Whether it comes behind the last one.
+    #[inline(always)]
+    fn take_key(&mut self, input: &[u8], order: KeyOrder, at: usize) -> bool
+        requires { at ≤ length input.now }
+        ensures { TakesKey result order input.now at self.old self.new }
+    {
+        if self.key > at {
+            return false;
+        }
+        let prefix = key_prefix(input, self.key, at);
+        if !self.rises(input, order, prefix, at) {
+            return false;
+        }
+        self.prefix = prefix;
+        self.last = self.key;
+        self.last_end = at;
+        true
+    }
+
+    // Whether the key that ends there, and has this prefix, comes behind the last one.
+    #[inline(always)]
+    fn rises(&self, input: &[u8], order: KeyOrder, prefix: u64, at: usize) -> bool
+        requires { prefix ≡ prefix_of (key_at input.now self.now at) }
+        ensures { IsPrefixed input.now self.now
+            → result ≡ key_lt order (last_key input.now self.now) (key_at input.now self.now at) }
+    {
+        if let KeyOrder::Bytewise = order {
+            if self.prefix != prefix {
+                return self.prefix < prefix;
+            }
+        }
+        let last = part(input, self.last, self.last_end);
+        let key = part(input, self.key, at);
+        compare_keys(order, last, key) == Ordering::Less
+    }
+}
+
+/// A container in which this is expected, and so many members or pairs more, behind its head.
+#[inline(always)]
+pub(crate) fn strict_cell(expected: Expected, left: u64, at: usize) -> OpenContainer<LastKey>
+    ensures { result ≡ strict_cell expected left at }
+{
+    OpenContainer::counted(expected, left, LastKey::none(at))
+}
+
+impl OpenContainer<LastKey> {
+    // An item of it is whole, which ends there.
+    #[inline(always)]
+    fn end_item(&mut self, input: &[u8], order: KeyOrder, at: usize) -> Step
+        requires { at ≤ length input.now }
+        ensures { Advances result order input.now at self.old self.new }
+    {
+        match self.expected {
+            Expected::Key => {
+                if !self.kept.take_key(input, order, at) {
+                    return Step::OutOfOrder;
+                }
+            }
+            // The next key, if there is one, begins there.
+            Expected::Value => self.kept.key = at,
+            Expected::Item => {}
+        }
+        if self.advance() {
+            Step::Next
+        } else {
+            Step::Full
+        }
+    }
+}
+
+impl Stack<OpenContainer<LastKey>> {
+    /// An item is whole, which ends there: with it the containers whose last member it was.
+    #[inline(always)]
+    pub(crate) fn complete(
+        &mut self,
+        cells: &[OpenContainer<LastKey>],
+        input: &[u8],
+        order: KeyOrder,
+        at: usize,
+    ) -> Next
+        requires end { at ≤ length input.now }
+        requires cells { self.old.height ≤ length cells.now }
+        ensures fewer { self.new.height ≤ self.old.height }
+        ensures leads { Leads result order input.now at (open_levels StrictCell self.old cells.now) self.new cells.now }
+    {
+        match self.top.end_item(input, order, at) {
+            Step::Next => Next::Item,
+            Step::Full => self.close(cells, input, order, at),
+            Step::OutOfOrder => Next::OutOfOrder,
+        }
+    }
+
+    // What comes next once the innermost container is whole.
+    #[inline(always)]
+    fn close(
+        &mut self,
+        cells: &[OpenContainer<LastKey>],
+        input: &[u8],
+        order: KeyOrder,
+        at: usize,
+    ) -> Next
+        requires end { at ≤ length input.now }
+        requires cells { self.old.height ≤ length cells.now }
+        ensures fewer { self.new.height ≤ self.old.height }
+        ensures leads { Leads result order input.now at (around StrictCell self.old cells.now) self.new cells.now }
+    {
+        'levels: while self.height > 0 {
+            self.pop(cells);
+            match self.top.end_item(input, order, at) {
+                Step::Next => return Next::Item,
+                Step::Full => {}
+                Step::OutOfOrder => return Next::OutOfOrder,
+            }
+        }
+        Next::Done
+    }
+}
