@@ -124,8 +124,8 @@ fi
 if command -v cargo >/dev/null && [ -d "$(rustc --print sysroot)/lib/rustlib/$target" ]; then
     export NALTVIGO_LIB=$dist/lib CARGO_TARGET_DIR=$scratch/target
     export CARGO_TARGET_AARCH64_UNKNOWN_LINUX_GNU_LINKER=$cc CARGO_TARGET_AARCH64_UNKNOWN_LINUX_GNU_RUNNER="${qemu[*]}"
-    (cd "$root/bindings/rust" && cargo test --offline -q --target $target --tests) >"$scratch/log" 2>&1 || { cat "$scratch/log"; fail 'tests in Rust'; }
-    say "the crate for Rust, by $(rustc --version | cut -d' ' -f1,2): its tests pass"
+    (cd "$root/bindings/rust" && cargo test --release --offline -q --target $target --tests) >"$scratch/log" 2>&1 || { cat "$scratch/log"; fail 'tests in Rust'; }
+    say "the crate, by $(rustc --version | cut -d' ' -f1,2): $(sed -n 's/^test result: ok. \([0-9]*\) passed.*/\1/p' "$scratch/log" | awk '{ sum += $1 } END { print sum }') tests"
 else
     missing+=("cargo with the target $target (scripts/fetch_aarch64.sh)")
 fi
