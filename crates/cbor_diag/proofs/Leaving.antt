@@ -2,13 +2,13 @@
 use Rattle.std.proofs.Common.{◌≡◌, ℕ, ◌+◌, ◌<◌, ◌≤◌, Bool, true, false, List, [], ◌∷◌, ◌++◌, length, Option, Some, None, Result, Ok, Err, Bor, codes, decimal, refl, sym, ap, ◌∙◌, subst, append_assoc, append-nil, length-append, arith, reverse, IsSome, option_to_list}
 use Rattle.std.proofs.lemmas.List.{reverse-append, nil_from_length}
 use Rattle.cbor_head.specs.{Prelude.Value, Prelude.map, Value.array, Value.tag}
+use Rattle.cbor_item.specs.Nodes.{entries_in, values_in}
 use Rattle.cbor_diag.specs.inner.Layout.{gap, end, laid_out, laid_pairs, laid_texts, rows}
 use Rattle.cbor_diag.specs.inner.Outbox.{HasPut, HasStopped, Puts}
 use Rattle.cbor_diag.specs.inner.Levels.{HasLeft, Leaves, all_left, behind, left_of, rest_of}
 use Rattle.cbor_diag.specs.declared.walk.Remaining.TheVariants as parts
 use Rattle.cbor_diag.proofs.Putting.{puts-next, puts-then, puts-stops, stops-more}
-use Rattle.cbor_diag.specs.{declared.outbox.Stopped.Stopped, inner.Nodes.entries_in, inner.Nodes.values_in, declared.layout.Layout.Layout}
-use Rattle.cbor_diag.specs.declared.{outbox.Outbox.Outbox, walk.Remaining.Remaining, walk.OpenNode.OpenNode}
+use Rattle.cbor_diag.specs.declared.{outbox.Stopped.Stopped, layout.Layout.Layout, outbox.Outbox.Outbox, walk.Remaining.Remaining, walk.OpenNode.OpenNode}
 
 -- the first part of the whole could not be put
 pub prefix-stops : (a b : Option (List ℕ)) (s : Outbox) (whole xs more : List ℕ) (e : Outbox) → xs ++ more ≡ whole → HasStopped a b s xs e → HasStopped a b s whole e

@@ -2,7 +2,6 @@
 pub mod Annotated
 pub mod Layout
 pub mod Levels
-pub mod Nodes
 pub mod Outbox
 pub mod Strings
 pub mod TextSinks

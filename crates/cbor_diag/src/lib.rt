@@ -39,7 +39,6 @@ mod item_path;
 pub mod laws;
 mod layout;
 mod line;
-mod node;
 mod outbox;
 mod path_text;
 mod pieces;

@@ -12,11 +12,10 @@ ghost use Rattle.cbor_diag.specs.Written.{Writes};
 ghost use Rattle.cbor_diag.specs.Text.{text};
 
 use crate::layout::Layout;
-use crate::node::Node;
 use crate::outbox::{Outbox, Stopped};
 use crate::walk::put_item;
 use cbor_head::{Reason, Refusal};
-use cbor_item::{Tree, View};
+use cbor_item::{Node, Tree, View};
 use std::io::Write;
 
 /// Writes the diagnostic text on one line (RFC 8949, section 8), and answers how many bytes it is.

@@ -9,10 +9,10 @@ ghost use Rattle.cbor_diag.specs.inner.Levels.{Leaves, behind, rest_of};
 ghost use Rattle.cbor_diag.specs.inner.Outbox.{Puts};
 
 use crate::layout::{Layout, put_end, put_gap};
-use crate::node::{Node, NodeKind};
 use crate::outbox::{Outbox, Stopped};
 use crate::pieces::{put_negative, put_number, put_simple, put_string};
 use cbor_head::MAX_DEPTH;
+use cbor_item::{Node, NodeKind};
 use std::io::Write;
 
 // Most items are no deeper than this,
@@ -172,7 +172,7 @@ fn begin<'a, N: Node, W: Write>(
         out.old out.new (laid_out layout indent (N.value item.now)) [] result }
     ensures opened { IfOk result (IsOpenOf N.value (depth (N.value item.now)) indent) }
 {
-    match item.part() {
+    match item.kind() {
         NodeKind::Unsigned(number) => {
             put_number(number, out, writer)?;
             Ok(None)

@@ -1,5 +1,6 @@
 pub mod Kinds
 pub mod Lookup
+pub mod Nodes
 pub mod OpenValues
 pub mod Refused
 pub mod ViewValue

@@ -2,10 +2,11 @@
 use Rattle.std.specs.Prelude.{ℕ, ◌≡◌, ◌+◌, ◌≤◌, max, false, List, [], ◌∷◌, ◌++◌, length, codes, Option, Some, None, Result, Ok, Err}
 use Rattle.cbor_head.specs.Value.{depth, depth_all, depth_entries}
 use Rattle.cbor_head.specs.{Prelude.Value, declared.limits.TheConstants.MAX_DEPTH}
+use Rattle.cbor_item.specs.Nodes.{entries_in, values_in}
 use Rattle.cbor_diag.specs.inner.Layout.{laid_out, laid_pairs, laid_texts, rows}
 use Rattle.cbor_diag.specs.declared.walk.Remaining.TheVariants as parts
-use Rattle.cbor_diag.specs.{inner.Nodes.entries_in, inner.Nodes.values_in, inner.Outbox.HasPut, inner.Outbox.HasStopped, declared.layout.Layout.Layout}
-use Rattle.cbor_diag.specs.declared.{outbox.Outbox.Outbox, outbox.Stopped.Stopped, walk.OpenNode.OpenNode, walk.Remaining.Remaining}
+use Rattle.cbor_diag.specs.{inner.Outbox.HasPut, inner.Outbox.HasStopped, declared.layout.Layout.Layout, declared.outbox.Outbox.Outbox}
+use Rattle.cbor_diag.specs.declared.{outbox.Stopped.Stopped, walk.OpenNode.OpenNode, walk.Remaining.Remaining}
 
 -- the nodes that are left have these values
 module _ {N : Type 0} (see : N → Value) where

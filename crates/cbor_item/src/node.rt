@@ -1,38 +1,52 @@
-//! What is written: items, and views of items.
+//! Nodes: what goes over items goes over views too.
 
 ghost use Rattle.std.specs.Prelude.{◌≡◌};
 ghost use Rattle.cbor_head.specs.Value.{Value};
+ghost use Rattle.cbor_item.specs.Nodes.{value_of, HasSimpleNumber};
 ghost use Rattle.cbor_item.specs.View.{view};
 ghost use Rattle.cbor_item.specs.ViewValue.{view_value};
-ghost use Rattle.cbor_diag.specs.inner.Nodes.{value_of};
 
-use cbor_item::{Item, View};
+use crate::item::Item;
+use crate::view::View;
 
-/// What an item or a view is: a level of it, with the nodes that it holds where they lie.
+/// One level of an item: what it is, and the nodes that it holds, where they lie.
 #[derive_where(Clone, Copy)]
-pub(crate) enum NodeKind<'a, N> {
+pub enum NodeKind<'a, N> {
+    /// The number itself.
     Unsigned(u64),
+    /// -1 minus the number.
     Negative(u64),
+    /// A byte string.
     Bytes(&'a [u8]),
+    /// A text.
     Text(&'a str),
+    /// The members, in their order.
     Array(&'a [N]),
+    /// The pairs of a key and its value, in any order.
     Map(&'a [(N, N)]),
+    /// A tag's number and its content.
     Tag(u64, &'a N),
+    /// `false`, `true`, `null`, `undefined` and the other simple values.
     Simple(u8),
 }
 
-/// What a walk goes over.
-pub(crate) trait Node: Sized {
+/// An item in memory, whether it owns its parts or borrows them: [`Item`] and [`View`].
+pub trait Node: Sized {
     ghost value: { Self → Value };
 
-    fn part(&self) -> NodeKind<'_, Self>
-        ensures { value_of value result ≡ value self.now };
+    /// What it is, and what it holds.
+    fn kind(&self) -> NodeKind<'_, Self>
+        ensures value { value_of value result ≡ value self.now };
 }
 
 impl Node for Item {
     ghost value = { view };
 
-    fn part(&self) -> NodeKind<'_, Item> {
+    #[inline]
+    fn kind(&self) -> NodeKind<'_, Item>
+        ensures value { value_of view result ≡ view self.now }
+        ensures simple { HasSimpleNumber result }
+    {
         match self {
             Item::Unsigned(number) => NodeKind::Unsigned(*number),
             Item::Negative(number) => NodeKind::Negative(*number),
@@ -49,7 +63,8 @@ impl Node for Item {
 impl Node for View<'_> {
     ghost value = { view_value };
 
-    fn part(&self) -> NodeKind<'_, Self> {
+    #[inline]
+    fn kind(&self) -> NodeKind<'_, Self> {
         match self {
             View::Unsigned(number) => NodeKind::Unsigned(*number),
             View::Negative(number) => NodeKind::Negative(*number),
