@@ -1,10 +1,11 @@
 pub mod Counting
 pub mod Held
 mod Lookups
+mod Rests
 pub mod Steps
+mod TreeWalk
 pub mod ValuesMade
 mod ViewPairs
 mod ViewValues
-mod ViewWalk
 pub mod Views
 pub mod Walk

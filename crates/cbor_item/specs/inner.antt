@@ -2,8 +2,9 @@
 pub mod Containers
 pub mod Levels
 pub mod Members
+pub mod Rest
+pub mod TreeWalk
 pub mod ViewLevels
 pub mod ViewPairs
-pub mod ViewWalk
 pub mod Walk
 pub mod Within

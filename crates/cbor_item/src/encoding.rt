@@ -1,20 +1,20 @@
 //! Canonical bytes.
 
-ghost use Rattle.std.specs.Prelude.{◌≡◌, ◌↔◌, IsSome, IfSome, IfOk, IfErr};
+ghost use Rattle.std.specs.Prelude.{◌≡◌, ◌↔◌, IsSome, IfSome, IfOk, IfErr, option_map};
 ghost use Rattle.cbor_head.specs.Canonical.{canonical};
 ghost use Rattle.cbor_head.specs.Value.{IsInRange, IsValid};
 ghost use Rattle.cbor_builder.specs.Built.{TakesPart};
 ghost use Rattle.cbor_item.specs.Sent.{no_memory};
 ghost use Rattle.cbor_item.specs.View.{view};
+ghost use Rattle.cbor_item.specs.inner.Rest.{left};
 ghost use Rattle.cbor_item.specs.inner.Walk.{IsBegun};
 
-use crate::item::Item;
+use crate::node::{Node, NodeKind};
+use crate::rest::Rest;
 use crate::tree::Tree;
-use crate::tree_rest::Rest;
 use cbor_builder::CanonBuilder;
 use cbor_head::{KeyOrder, Major, Reason, Refusal};
 use std::alloc::{AllocError, Global};
-use std::slice;
 
 /// The canonical bytes (RFC 8949, sections 4.2.1 and 4.2.3). Refused for memory alone.
 pub fn encode(alloc: Global, tree: &Tree, order: KeyOrder) -> Result<Vec<u8>, Refusal>
@@ -28,24 +28,24 @@ pub fn encode(alloc: Global, tree: &Tree, order: KeyOrder) -> Result<Vec<u8>, Re
     }
 }
 
-// The canonical bytes, or none where a map in the item, at any depth, has two equal keys: that
+// The canonical bytes, or none where a map in the node, at any depth, has two equal keys: that
 // texts are UTF-8 their type says.
 //
-// What is open lies in a list and not on the stack, so an item may be of any depth.
-pub(crate) fn encode_distinct(
+// What is open lies in a list and not on the stack, so a node may be of any depth.
+pub(crate) fn encode_distinct<N: Node>(
     alloc: Global,
-    item: &Item,
+    node: &N,
     order: KeyOrder,
 ) -> Result<Option<Vec<u8>>, AllocError>
-    requires { IsInRange (view item.now) }
-    ensures valid { IfOk result (λ bytes. IsSome bytes ↔ IsValid (view item.now)) }
+    requires { IsInRange (N.value node.now) }
+    ensures valid { IfOk result (λ bytes. IsSome bytes ↔ IsValid (N.value node.now)) }
     ensures bytes { IfOk result (λ bytes.
-        IfSome bytes (λ bytes. bytes.items ≡ canonical order (view item.now))) }
+        IfSome bytes (λ bytes. bytes.items ≡ canonical order (N.value node.now))) }
 {
     let mut builder = CanonBuilder::new(alloc, order);
-    let mut rest = Rest::Members(slice::from_ref(item));
+    let mut rest = Rest::One(node);
     let mut outer = Vec::new(alloc);
-    'items: loop {
+    'nodes: loop {
         match rest.next() {
             Some((next, behind)) => {
                 rest = behind;
@@ -68,32 +68,35 @@ pub(crate) fn encode_distinct(
     Ok(Some(builder.finish()))
 }
 
-// Gives an item that holds no other; begins one that does, and answers what is in it.
-fn begin<'a>(builder: &mut CanonBuilder, item: &'a Item) -> Result<Option<Rest<'a>>, AllocError>
+// Gives a node that holds no other; begins one that does, and answers what is in it.
+fn begin<'a, N: Node>(
+    builder: &mut CanonBuilder,
+    node: &'a N,
+) -> Result<Option<Rest<'a, N>>, AllocError>
     requires takes { TakesPart builder.old.open_levels }
-    requires in_range { IsInRange (view item.now) }
+    requires in_range { IsInRange (N.value node.now) }
     ensures order { IfOk result (λ _. builder.new.order ≡ builder.old.order) }
-    ensures begun { IfOk result (λ content. IsBegun builder.old.order (view item.now)
-        builder.old.open_levels builder.new.open_levels content) }
+    ensures begun { IfOk result (λ content. IsBegun builder.old.order (N.value node.now)
+        builder.old.open_levels builder.new.open_levels (option_map (left N.value) content)) }
 {
-    match item {
-        Item::Unsigned(n) => builder.leaf(Major::Unsigned, *n)?,
-        Item::Negative(n) => builder.leaf(Major::Negative, *n)?,
-        Item::Bytes(bytes) => builder.string(Major::Bytes, bytes)?,
-        Item::Text(text) => builder.string(Major::Text, text.as_bytes())?,
-        Item::Array(items) => {
-            builder.begin(Major::Array, items.len() as u64)?;
-            return Ok(Some(Rest::Members(items)));
+    match node.kind() {
+        NodeKind::Unsigned(n) => builder.leaf(Major::Unsigned, n)?,
+        NodeKind::Negative(n) => builder.leaf(Major::Negative, n)?,
+        NodeKind::Bytes(bytes) => builder.string(Major::Bytes, bytes)?,
+        NodeKind::Text(text) => builder.string(Major::Text, text.as_bytes())?,
+        NodeKind::Array(members) => {
+            builder.begin(Major::Array, members.len() as u64)?;
+            return Ok(Some(Rest::Members(members)));
         }
-        Item::Map(pairs) => {
+        NodeKind::Map(pairs) => {
             builder.begin(Major::Map, pairs.len() as u64)?;
             return Ok(Some(Rest::Pairs(pairs)));
         }
-        Item::Tag(n, content) => {
-            builder.begin(Major::Tag, *n)?;
-            return Ok(Some(Rest::Members(slice::from_ref(content))));
+        NodeKind::Tag(n, content) => {
+            builder.begin(Major::Tag, n)?;
+            return Ok(Some(Rest::One(content)));
         }
-        Item::Simple(simple) => builder.leaf(Major::Simple, u64::from(simple.number()))?,
+        NodeKind::Simple(number) => builder.leaf(Major::Simple, u64::from(number))?,
     }
     Ok(None)
 }

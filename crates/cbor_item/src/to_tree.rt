@@ -1,23 +1,24 @@
 //! Items and trees of views.
 
-ghost use Rattle.std.specs.Prelude.{◌≡◌, ◌≤◌, IfOk, IfErr};
+ghost use Rattle.std.specs.Prelude.{◌≡◌, ◌≤◌, IfOk, IfErr, option_map};
 ghost use Rattle.cbor_head.specs.Value.{depth, IsInRange, IsValid};
 ghost use Rattle.cbor_head.specs.declared.limits.TheConstants.{MAX_DEPTH};
 ghost use Rattle.cbor_item.specs.Sent.{no_memory};
 ghost use Rattle.cbor_item.specs.OpenValues.{open_levels, TakesValue};
 ghost use Rattle.cbor_item.specs.View.{view as value_of};
 ghost use Rattle.cbor_item.specs.ViewValue.{view_value};
-ghost use Rattle.cbor_item.specs.inner.ViewWalk.{IsBegun};
+ghost use Rattle.cbor_item.specs.inner.Rest.{left};
+ghost use Rattle.cbor_item.specs.inner.TreeWalk.{IsBegun};
 
 use crate::item::Item;
+use crate::node::{Node, NodeKind};
 use crate::parts_law::parts_make_the_value;
+use crate::rest::Rest;
 use crate::tree::Tree;
 use crate::tree_builder::TreeBuilder;
 use crate::view::View;
-use crate::view_rest::Rest;
 use cbor_head::{Major, Reason, Refusal, Simple};
 use std::alloc::{AllocError, Global};
-use std::slice;
 
 impl View<'_> {
     /// The item, with all that it holds. Of a `Simple` the number has to be a simple value's: in
@@ -44,16 +45,16 @@ impl View<'_> {
     }
 }
 
-// What is open lies in a list and not on the stack, so a view may be of any depth.
-fn item_of(alloc: Global, view: &View<'_>) -> Result<Item, AllocError>
-    requires { IsInRange (view_value view.now) }
-    ensures { IfOk result (λ item. value_of item ≡ view_value view.now) }
+// What is open lies in a list and not on the stack, so a node may be of any depth.
+fn item_of<N: Node>(alloc: Global, node: &N) -> Result<Item, AllocError>
+    requires { IsInRange (N.value node.now) }
+    ensures { IfOk result (λ item. value_of item ≡ N.value node.now) }
 {
     parts_make_the_value();
     let mut builder = TreeBuilder::new(alloc);
-    let mut rest = Rest::Members(slice::from_ref(view));
+    let mut rest = Rest::One(node);
     let mut outer = Vec::new(alloc);
-    'views: loop {
+    'nodes: loop {
         match rest.next() {
             Some((next, behind)) => {
                 rest = behind;
@@ -74,35 +75,35 @@ fn item_of(alloc: Global, view: &View<'_>) -> Result<Item, AllocError>
     Ok(builder.finish())
 }
 
-// Gives a view that holds no other; begins one that does, and answers what is in it.
-fn begin<'a>(
+// Gives a node that holds no other; begins one that does, and answers what is in it.
+fn begin<'a, N: Node>(
     alloc: Global,
     builder: &mut TreeBuilder,
-    view: &'a View<'a>,
-) -> Result<Option<Rest<'a>>, AllocError>
+    node: &'a N,
+) -> Result<Option<Rest<'a, N>>, AllocError>
     requires takes { TakesValue (open_levels builder.old) }
-    requires in_range { IsInRange (view_value view.now) }
-    ensures { IfOk result (λ content. IsBegun (view_value view.now) (open_levels builder.old)
-        (open_levels builder.new) content) }
+    requires in_range { IsInRange (N.value node.now) }
+    ensures { IfOk result (λ content. IsBegun (N.value node.now) (open_levels builder.old)
+        (open_levels builder.new) (option_map (left N.value) content)) }
 {
-    match view {
-        View::Unsigned(number) => builder.leaf(Item::Unsigned(*number))?,
-        View::Negative(number) => builder.leaf(Item::Negative(*number))?,
-        View::Bytes(content) => builder.leaf(Item::Bytes(Vec::from_slice(alloc, content)?))?,
-        View::Text(content) => builder.leaf(Item::Text(String::from_str(alloc, content)?))?,
-        View::Array(members) => {
+    match node.kind() {
+        NodeKind::Unsigned(number) => builder.leaf(Item::Unsigned(number))?,
+        NodeKind::Negative(number) => builder.leaf(Item::Negative(number))?,
+        NodeKind::Bytes(content) => builder.leaf(Item::Bytes(Vec::from_slice(alloc, content)?))?,
+        NodeKind::Text(content) => builder.leaf(Item::Text(String::from_str(alloc, content)?))?,
+        NodeKind::Array(members) => {
             builder.begin(Major::Array, 0)?;
             return Ok(Some(Rest::Members(members)));
         }
-        View::Map(pairs) => {
+        NodeKind::Map(pairs) => {
             builder.begin(Major::Map, 0)?;
             return Ok(Some(Rest::Pairs(pairs)));
         }
-        View::Tag(number, content) => {
-            builder.begin(Major::Tag, *number)?;
-            return Ok(Some(Rest::Members(slice::from_ref(content))));
+        NodeKind::Tag(number, content) => {
+            builder.begin(Major::Tag, number)?;
+            return Ok(Some(Rest::One(content)));
         }
-        View::Simple(number) => match Simple::new(*number) {
+        NodeKind::Simple(number) => match Simple::new(number) {
             Some(simple) => builder.leaf(Item::Simple(simple))?,
             None => unreachable!(),
         },

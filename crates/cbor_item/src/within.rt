@@ -3,13 +3,13 @@
 ghost use Rattle.std.specs.Prelude.{◌≤◌, ◌<◌, ◌^◌, ◌↔◌, IsTrue, length, MatchOption};
 ghost use Rattle.cbor_head.specs.Value.{depth, AreBytes, IsInRange};
 ghost use Rattle.cbor_item.specs.View.{view};
-ghost use Rattle.cbor_item.specs.inner.Walk.{left};
+ghost use Rattle.cbor_item.specs.inner.Rest.{left};
 ghost use Rattle.cbor_item.specs.inner.Within.{Holds, HoldsNone};
 
 use crate::item::Item;
-use crate::tree_rest::Rest;
+use crate::node::{Node, NodeKind};
+use crate::rest::Rest;
 use cbor_head::MAX_DEPTH;
-use std::slice;
 
 // Most items are no deeper than this,
 const FEW: usize = 16;
@@ -35,11 +35,11 @@ fn is_within_most(item: &Item) -> bool
 }
 
 // Whether it nests no deeper than there are cells: one for each container around the one at hand.
-fn is_nested_in<'a>(item: &'a Item, cells: &mut [Rest<'a>]) -> bool
+fn is_nested_in<'a>(item: &'a Item, cells: &mut [Rest<'a, Item>]) -> bool
     ensures shallow { IsTrue result ↔ depth (view item.now) ≤ length cells.old }
     ensures in_range { IsTrue result → IsInRange (view item.now) }
 {
-    let mut rest = Rest::Members(slice::from_ref(item));
+    let mut rest = Rest::One(item);
     let mut height = 0;
     'items: loop {
         match rest.next() {
@@ -66,33 +66,29 @@ fn is_nested_in<'a>(item: &'a Item, cells: &mut [Rest<'a>]) -> bool
 }
 
 // What is in an item that holds others.
-fn held(item: &Item) -> Option<Rest<'_>>
+fn held(item: &Item) -> Option<Rest<'_, Item>>
     ensures { MatchOption result (HoldsNone (view item.now))
-        (λ content. Holds (view item.now) (left content)) }
+        (λ content. Holds (view item.now) (left view content)) }
 {
-    match item {
-        Item::Unsigned(n) | Item::Negative(n) => {
-            let _number = *n;
-            None
-        }
-        Item::Bytes(bytes) => {
+    match item.kind() {
+        NodeKind::Unsigned(_) | NodeKind::Negative(_) | NodeKind::Simple(_) => None,
+        NodeKind::Bytes(bytes) => {
             check_bytes(bytes);
             None
         }
-        Item::Text(text) => {
+        NodeKind::Text(text) => {
             check_bytes(text.as_bytes());
             None
         }
-        Item::Array(items) => Some(Rest::Members(items)),
-        Item::Map(pairs) => Some(Rest::Pairs(pairs)),
-        Item::Tag(n, content) => {
-            let _number = *n;
-            Some(Rest::Members(slice::from_ref(content)))
+        NodeKind::Array(members) => {
+            check_count(members);
+            Some(Rest::Members(members))
         }
-        Item::Simple(simple) => {
-            let _number = simple.number();
-            None
+        NodeKind::Map(pairs) => {
+            check_count(pairs);
+            Some(Rest::Pairs(pairs))
         }
+        NodeKind::Tag(_, content) => Some(Rest::One(content)),
     }
 }
 
@@ -100,4 +96,9 @@ fn held(item: &Item) -> Option<Rest<'_>>
 fn check_bytes(bytes: &[u8])
     ensures count { length bytes.now < 2 ^ 64 }
     ensures bytes { AreBytes bytes.now }
+{}
+
+// And of how long it is.
+fn check_count<T>(parts: &[T])
+    ensures { length parts.now < 2 ^ 64 }
 {}

@@ -1,28 +1,10 @@
--- A walk over an item that gives its parts to a builder: what is still to come, and what comes of it.
-use Rattle.std.specs.Prelude.{ℕ, suc, ◌+◌, ◌≡◌, ◌↔◌, List, [], ◌∷◌, Option, Some, None, reverse}
-use Rattle.std.specs.Prelude as list
+-- A walk over a node that gives its parts to a builder of canonical bytes: what comes of what is still to come.
+use Rattle.std.specs.Prelude.{ℕ, suc, ◌+◌, ◌≡◌, ◌↔◌, List, [], ◌∷◌, Option, Some, None}
 use Rattle.cbor_head.specs.Prelude.{canonical, Value, Values, Entries, map, no_values, a_value, IsInRange, IsValid}
 use Rattle.cbor_head.specs.Value.{array, tag, no_entries, entry}
 use Rattle.cbor_head.specs.declared.order.KeyOrder.{KeyOrder}
 use Rattle.cbor_model.specs.Parts.{Open, plain, a_key, a_string, with_member, closed, give, HasNoRepeats}
 use Rattle.cbor_builder.specs.Built.{CanHold}
-use Rattle.cbor_item.specs.declared.tree_rest.Rest.TheVariants.{Members, Pairs, Value as OneValue}
-use Rattle.cbor_item.specs.{View.view, declared.item.Item.Item, declared.tree_rest.Rest.Rest}
-
--- the keys and values of pairs, in turn
-abbrev pub flat : List (Item × Item) → List Value
-flat [] = []
-flat (p ∷ ps) = view p.0 ∷ view p.1 ∷ flat ps
-
--- the values that are still to come of a container
-abbrev pub left : Rest → List Value
-left (Members is) = list.map view is.now
-left (Pairs ps) = flat ps.now
-left (OneValue i ps) = view i.now ∷ flat ps.now
-
--- the same of all that is open, the innermost first
-abbrev pub left_of_all : Rest → List Rest → List (List Value)
-left_of_all r rs = left r ∷ list.map left (reverse rs)
 
 -- an open part, with the canonical bytes of these given to it
 abbrev pub with_all : KeyOrder → List Value → Open → Open
@@ -100,7 +82,7 @@ pub record Opens (o : KeyOrder) (v : Value) (c : Open) (vs : List Value) : Type 
   pub smaller : size v ≡ suc (suc (weight vs))
   pub valid : IsValid v ↔ (AreAllValid vs × HasNoRepeats (with_all o vs c))
 
--- the item's bytes have been given, where nothing is to come of it; or it stands open
-abbrev pub IsBegun : KeyOrder → Value → List Open → List Open → Option Rest → Type 0
+-- its bytes have been given, where nothing is to come of it; or it stands open, and these are to come
+abbrev pub IsBegun : KeyOrder → Value → List Open → List Open → Option (List Value) → Type 0
 IsBegun o v os os' None = (os' ≡ give (canonical o v) os) × IsValid v
-IsBegun o v os os' (Some r) = (c : Open) × (os' ≡ c ∷ os) × Opens o v c (left r)
+IsBegun o v os os' (Some vs) = (c : Open) × (os' ≡ c ∷ os) × Opens o v c vs

@@ -1,18 +1,20 @@
-use Rattle.std.proofs.Common.{List, ◌∷◌, map, subst, reverse}
+use Rattle.std.proofs.Common.{◌≡◌, List, ◌∷◌, Some, ap, map, option_map, subst, reverse}
 use Rattle.cbor_head.specs.Prelude.{Value}
-use Rattle.cbor_item.proofs.ViewWalk.{Walks, walks_first, walks_begun, pushed}
+use Rattle.cbor_item.proofs.TreeWalk.{Walks, walks_first, walks_begun}
 use Rattle.cbor_item.proofs.to_tree.item_of.Goals as goal
-use Rattle.cbor_item.specs.{OpenValues.open_levels, ViewValue.view_value, inner.ViewWalk.left, inner.ViewWalk.IsBegun}
+use Rattle.cbor_item.{specs.OpenValues.open_levels, specs.inner.Rest.left, specs.inner.TreeWalk.IsBegun, proofs.Rests.pushed}
 
-pub views-init : goal.views-init
-views-init c = rw (c.from_ref.ensures.value, c.new-outer.ensures.items, c.new-builder.ensures) (walks_first _ (c.parts_make_the_value.ensures _) c.requires)
+pub nodes-init : goal.nodes-init
+nodes-init g c = rw (c.new-outer.ensures.items, c.new-builder.ensures) (walks_first _ (c.parts_make_the_value.ensures _) c.requires)
 
-pub views-preserved-in-Some-2 : goal.views-preserved-in-Some-2
-views-preserved-in-Some-2 c =
-    let w = view_value c.args.view.now in
-    let v = view_value c.in-Some.next.now in
-    let os = open_levels c.views.builder in
-    let vss = map left (reverse c.views.outer.items) in
-    let k = subst (λ (vs : List Value). Walks w (vs ∷ vss) os) c.in-Some.ensures c.views.invariant in
-    let begun = subst (IsBegun v os (open_levels c.begin.new.builder)) c.in-Some-2.is c.in_ok-content-in-Some.ensures in
-    rw (pushed _ _ _ _ c.in_ok-push-in-Some.ensures.items) (walks_begun w v c.in-Some-2.content (left c.in-Some.behind) vss os _ k begun)
+pub nodes-preserved-in-Some-2 : goal.nodes-preserved-in-Some-2
+nodes-preserved-in-Some-2 g c =
+    let see = g.N.Node.value in
+    let w = see c.args.node.now in
+    let v = see c.in-Some.next.now in
+    let os = open_levels c.nodes.builder in
+    let vss = map (left see) (reverse c.nodes.outer.items) in
+    let k = subst (λ (vs : List Value). Walks w (vs ∷ vss) os) c.in-Some.ensures c.nodes.invariant in
+    let is : option_map (left see) c.in_ok-content-in-Some.field-0 ≡ Some (left see c.in-Some-2.content) = ap (option_map (left see)) c.in-Some-2.is in
+    let begun = subst (IsBegun v os (open_levels c.begin.new.builder)) is c.in_ok-content-in-Some.ensures in
+    rw (pushed see _ _ _ _ c.in_ok-push-in-Some.ensures.items) (walks_begun w v (left see c.in-Some-2.content) (left see c.in-Some.behind) vss os _ k begun)

@@ -1,0 +1,40 @@
+//! What is still to come of an open container.
+
+ghost use Rattle.std.specs.Prelude.{◌≡◌, ◌∷◌, [], MatchOption};
+ghost use Rattle.cbor_item.specs.inner.Rest.{left};
+
+use crate::node::Node;
+
+/// What is still to come of an open container.
+#[derive_where(Clone, Copy)]
+pub(crate) enum Rest<'a, N> {
+    /// A tag's content, or what no container is around.
+    One(&'a N),
+    /// The members of an array.
+    Members(&'a [N]),
+    /// The pairs of a map.
+    Pairs(&'a [(N, N)]),
+    /// The value of a pair, and the pairs behind it.
+    Value(&'a N, &'a [(N, N)]),
+}
+
+impl<'a, N: Node> Rest<'a, N> {
+    /// The next node, and what comes behind it.
+    pub(crate) fn next(self) -> Option<(&'a N, Rest<'a, N>)>
+        ensures { MatchOption result (left N.value self.entry ≡ [])
+            (λ next. left N.value self.entry ≡ N.value next.0.now ∷ left N.value next.1) }
+    {
+        match self {
+            Rest::One(node) => Some((node, Rest::Members(&[]))),
+            Rest::Members(nodes) => {
+                let (node, behind) = nodes.split_first()?;
+                Some((node, Rest::Members(behind)))
+            }
+            Rest::Pairs(pairs) => {
+                let (pair, behind) = pairs.split_first()?;
+                Some((&pair.0, Rest::Value(&pair.1, behind)))
+            }
+            Rest::Value(value, behind) => Some((value, Rest::Pairs(behind))),
+        }
+    }
+}
