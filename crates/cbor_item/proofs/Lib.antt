@@ -2,10 +2,9 @@ pub mod Counting
 pub mod Held
 mod Lookups
 mod Rests
+mod Sizes
 pub mod Steps
 mod TreeWalk
 pub mod ValuesMade
-mod ViewPairs
 mod ViewValues
-pub mod Views
 pub mod Walk

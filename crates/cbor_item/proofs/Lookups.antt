@@ -2,10 +2,16 @@
 use Rattle.std.proofs.Common.{◌≡◌, ℕ, zero, suc, ◌+◌, ◌<◌, ◌≤◌, List, [], ◌∷◌, length, drop, get_or, Option, Some, None, Bor, inl, inr, refl, ap, subst, arith, ◌↔◌, ℤ, pos, negsuc, option_map, MatchOption, IfSome}
 use Rattle.std.proofs.lemmas.List.{drop_all, drop_more}
 use Rattle.cbor_head.specs.Value as value
-use Rattle.cbor_head.specs.Prelude.{Value, HasEntry, Same, map}
+use Rattle.cbor_head.specs.Prelude.{Value, Entries, HasEntry, Same, map}
 use Rattle.cbor_model.specs.Lists.{values_of}
-use Rattle.cbor_item.specs.{Kinds.integer, Lookup.HasValueAt, Lookup.member_at, ViewValue.view_value, ViewValue.view_values, declared.view.View.View}
-use Rattle.cbor_item.specs.inner.ViewPairs.{Pair, entries}
+use Rattle.cbor_item.specs.{Kinds.integer, Lookup.HasValueAt, Lookup.member_at, Nodes.entries_in, ViewValue.view_value, ViewValue.view_values}
+use Rattle.cbor_item.specs.declared.view.View.{View}
+
+abbrev Pair : Type 0
+Pair = View × View
+
+abbrev entries : List Pair → Entries
+entries ps = entries_in view_value ps
 
 -- what these pairs have at the key, the others have
 abbrev pub LeadsBehind : Value → List Pair → List Pair → Type 0
