@@ -4,6 +4,7 @@ use Rattle.cbor_head.specs.Value as value
 use Rattle.cbor_head.specs.Prelude.{Value, AreInRange, AreEntriesInRange, IsInRange}
 use Rattle.cbor_head.specs.Value.{depth, depth_all, depth_entries}
 use Rattle.cbor_model.{proofs.Lists.values_counted, proofs.Lists.entries_counted, specs.Lists.values_of}
+use Rattle.cbor_item.specs.inner.Texts.{HasUtf8Texts, HaveUtf8Texts, EntriesHaveUtf8Texts}
 use Rattle.cbor_item.specs.{Nodes.entries_in, Nodes.values_in, inner.Rest.flat, inner.Walk.size, inner.Within.Holds}
 use Rattle.cbor_item.proofs.Walk.{weight-all, weight-flat}
 
@@ -12,6 +13,7 @@ module _ {N : Type 0} (see : N → Value) where
   holds_members v ns is few = record {
     deeper = ap depth (sym is);
     in_range = λ h. subst IsInRange is (omega (arith, values_counted see ns), h);
+    texts = λ h. subst HasUtf8Texts is h;
     smaller = ap size (sym is) ∙ ap (λ (n : ℕ). suc (suc n)) (weight-all (map see ns));
   }
 
@@ -19,6 +21,7 @@ module _ {N : Type 0} (see : N → Value) where
   holds_pairs v ps is few = record {
     deeper = ap depth (sym is) ∙ ap suc (deep ps);
     in_range = λ h. subst IsInRange is (omega (arith, entries_counted see ps), ranges ps h);
+    texts = λ h. subst HasUtf8Texts is (utf8 ps h);
     smaller = ap size (sym is) ∙ ap (λ (n : ℕ). suc (suc n)) (weight-flat see ps);
   }
     where
@@ -29,3 +32,7 @@ module _ {N : Type 0} (see : N → Value) where
       ranges : (ps : List (N × N)) → AreInRange (values_of (flat see ps)) → AreEntriesInRange (entries_in see ps)
       ranges [] h = tt
       ranges (p ∷ ps) h = (h.0, h.1.0, ranges ps h.1.1)
+
+      utf8 : (ps : List (N × N)) → HaveUtf8Texts (values_of (flat see ps)) → EntriesHaveUtf8Texts (entries_in see ps)
+      utf8 [] h = tt
+      utf8 (p ∷ ps) h = (h.0, h.1.0, utf8 ps h.1.1)

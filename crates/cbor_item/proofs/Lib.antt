@@ -1,4 +1,5 @@
 pub mod Counting
+mod Distinct
 pub mod Held
 mod Lookups
 mod Rests

@@ -2,6 +2,7 @@
 pub mod Containers
 pub mod Levels
 pub mod Rest
+pub mod Texts
 pub mod TreeWalk
 pub mod ViewLevels
 pub mod Walk

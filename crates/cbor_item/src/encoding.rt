@@ -28,8 +28,7 @@ pub fn encode(alloc: Global, tree: &Tree, order: KeyOrder) -> Result<Vec<u8>, Re
     }
 }
 
-// The canonical bytes, or none where a map in the node, at any depth, has two equal keys: that
-// texts are UTF-8 their type says.
+// The canonical bytes, or none where a map in the node, at any depth, has two equal keys.
 //
 // What is open lies in a list and not on the stack, so a node may be of any depth.
 pub(crate) fn encode_distinct<N: Node>(

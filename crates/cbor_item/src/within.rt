@@ -1,9 +1,10 @@
-//! How deep an item is, and the ranges of its numbers.
+//! How deep an item is, the ranges of its numbers, and that its texts are UTF-8.
 
 ghost use Rattle.std.specs.Prelude.{◌≤◌, ◌<◌, ◌^◌, ◌↔◌, IsTrue, length, MatchOption};
 ghost use Rattle.cbor_head.specs.Value.{depth, AreBytes, IsInRange};
 ghost use Rattle.cbor_item.specs.View.{view};
 ghost use Rattle.cbor_item.specs.inner.Rest.{left};
+ghost use Rattle.cbor_item.specs.inner.Texts.{HasUtf8Texts};
 ghost use Rattle.cbor_item.specs.inner.Within.{Holds, HoldsNone};
 
 use crate::item::Item;
@@ -17,10 +18,11 @@ const FEW: usize = 16;
 const MOST: usize = MAX_DEPTH as usize;
 
 // Whether the item nests no deeper than a tree may. It looks no deeper itself, and where it
-// answers true it has read every number.
+// answers true it has read every number and every text.
 pub(crate) fn is_within(item: &Item) -> bool
     ensures shallow { IsTrue result ↔ depth (view item.now) ≤ MAX_DEPTH }
     ensures in_range { IsTrue result → IsInRange (view item.now) }
+    ensures texts { IsTrue result → HasUtf8Texts (view item.now) }
 {
     is_nested_in(item, &mut [Rest::Members(&[]); FEW]) || is_within_most(item)
 }
@@ -30,6 +32,7 @@ pub(crate) fn is_within(item: &Item) -> bool
 fn is_within_most(item: &Item) -> bool
     ensures shallow { IsTrue result ↔ depth (view item.now) ≤ MAX_DEPTH }
     ensures in_range { IsTrue result → IsInRange (view item.now) }
+    ensures texts { IsTrue result → HasUtf8Texts (view item.now) }
 {
     is_nested_in(item, &mut [Rest::Members(&[]); MOST])
 }
@@ -38,6 +41,7 @@ fn is_within_most(item: &Item) -> bool
 fn is_nested_in<'a>(item: &'a Item, cells: &mut [Rest<'a, Item>]) -> bool
     ensures shallow { IsTrue result ↔ depth (view item.now) ≤ length cells.old }
     ensures in_range { IsTrue result → IsInRange (view item.now) }
+    ensures texts { IsTrue result → HasUtf8Texts (view item.now) }
 {
     let mut rest = Rest::One(item);
     let mut height = 0;

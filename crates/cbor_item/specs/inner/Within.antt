@@ -1,19 +1,21 @@
--- How deep what is still to come of open containers nests.
+-- How deep what is still to come of open containers nests, and what else a look at it finds.
 use Rattle.std.specs.Prelude.{ℕ, suc, ◌+◌, ◌≡◌, ◌≤◌, List, [], ◌∷◌, length}
 use Rattle.cbor_head.specs.Prelude.{Value, IsInRange, AreInRange}
 use Rattle.cbor_head.specs.Value.{depth, depth_all}
 use Rattle.cbor_model.specs.Lists.{values_of}
-use Rattle.cbor_item.specs.inner.Walk.{size, weight}
+use Rattle.cbor_item.specs.inner.{Texts.HasUtf8Texts, Texts.HaveUtf8Texts, Walk.size, Walk.weight}
 
 -- an item holds no other
 pub record HoldsNone (v : Value) : Type 0 where
   pub shallow : depth v ≡ 0
   pub in_range : IsInRange v
+  pub texts : HasUtf8Texts v
 
 -- it holds these
 pub record Holds (v : Value) (vs : List Value) : Type 0 where
   pub deeper : depth v ≡ suc (depth_all (values_of vs))
   pub in_range : AreInRange (values_of vs) → IsInRange v
+  pub texts : HaveUtf8Texts (values_of vs) → HasUtf8Texts v
   pub smaller : size v ≡ suc (suc (weight vs))
 
 -- with what is to come of each, the innermost first, none is deeper than this in the outermost
