@@ -7,7 +7,7 @@ mod reused;
 mod sorted;
 mod tree_builder;
 mod trees;
-mod words;
+pub(crate) mod words;
 
 use self::words::{columns_of, item_of, tree_of};
 use cbor_head::{Reason, Refusal};
@@ -40,12 +40,13 @@ pub(crate) static EIGHT_KEYS: &str = "t:aa 1 10 2 100 3 n:0 4 t:z 5 100 a:1 6 n:
 // Items, their canonical bytes, and those in length-first order, where they are others. Of eight keys
 // they are {10: 2, 100: 3, -1: 4, "z": 5, "aa": 1, [100]: 6, [-1]: 7, false: 8}, and
 // {10: 2, -1: 4, false: 8, 100: 3, "z": 5, [-1]: 7, "aa": 1, [100]: 6}.
-static ENCODED: &str = r#"
+pub(crate) static ENCODED: &str = r#"
 0 | 00 | | 0
 18446744073709551615 | 1bffffffffffffffff | | 18446744073709551615
 n:18446744073709551615 | 3bffffffffffffffff | | -18446744073709551616
 s:32 | f820 | | simple(32)
 h:01020304 | 4401020304 | | h'01020304'
+t:IETF h:01020304 a:2 c:1 | c18264494554464401020304 | | 1(["IETF", h'01020304'])
 t:IETF | 6449455446 | | "IETF"
 a:0 | 80 | | []
 m:0 | a0 | | {}

@@ -95,7 +95,7 @@ fn take_pairs(items: &mut Vec<Item>, pairs: &mut Vec<(Item, Item)>, size: u64) -
 }
 
 // The columns of a row, three of them before others.
-pub(super) fn columns_of(line: &str) -> Result<(&str, &str, &str), Fail> {
+pub(crate) fn columns_of(line: &str) -> Result<(&str, &str, &str), Fail> {
     let (first, rest) = line.split_once('|').ok_or("a column")?;
     let (second, rest) = rest.split_once('|').ok_or("a column")?;
     let (third, _) = rest.split_once('|').ok_or("a column")?;
