@@ -13,6 +13,7 @@
 //!
 //! A [`View`] is `Copy`: a string in one piece is a slice of the input; a string in chunks and the members of an array or map
 //! are slices of an arena. `cbor_reader::read_view` makes one; [`TreeBuilder`] and [`ViewBuilder`] make items from their parts.
+//! What goes over items and over views alike, as their comparison and their text do, goes over a [`Node`].
 #![tactic(auto)]
 
 mod dropping;

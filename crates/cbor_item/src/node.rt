@@ -1,4 +1,4 @@
-//! Nodes: what goes over items goes over views too.
+//! What trees and views have in common: one level of an item, and the nodes that it holds.
 
 ghost use Rattle.std.specs.Prelude.{◌≡◌};
 ghost use Rattle.cbor_head.specs.Value.{Value};
@@ -31,6 +31,15 @@ pub enum NodeKind<'a, N> {
 }
 
 /// An item in memory, whether it owns its parts or borrows them: [`Item`] and [`View`].
+///
+/// ```
+/// fn has_members<N: Node>(node: &N) -> bool {
+///     match node.kind() {
+///         NodeKind::Array(members) => !members.is_empty(),
+///         _ => false,
+///     }
+/// }
+/// ```
 pub trait Node: Sized {
     ghost value: { Self → Value };
 

@@ -2,7 +2,7 @@
 
 use bumpalo::Bump;
 use cbor_head::Major;
-use cbor_item::{Joined, View, ViewBuilder};
+use cbor_item::{Item, Joined, Node, NodeKind, View, ViewBuilder};
 use std::test::Fail;
 
 // {"a": [h'01', -1], 1(true): "bc"}, of which two strings are copied
@@ -98,5 +98,22 @@ fn finds_members(rt: HostRuntime) -> Result<(), Fail> {
     assert!(rt; matches!(map.get_integer(-1), Some(View::Unsigned(2))));
     assert!(rt; matches!(map.get_integer(5), Some(View::Unsigned(3))));
     assert!(rt; map.get_integer(0).is_none());
+    Ok(())
+}
+
+fn count_of<N: Node>(node: &N) -> usize {
+    match node.kind() {
+        NodeKind::Array(members) => members.len(),
+        _ => 0,
+    }
+}
+
+// [1, 2], as an item and as a view
+#[test]
+fn items_and_views_are_nodes(rt: HostRuntime) -> Result<(), Fail> {
+    let item = Item::Array(vec![in rt.alloc(); Item::Unsigned(1), Item::Unsigned(2)]?);
+    assert!(rt; count_of(&item) == 2);
+    let members = [View::Unsigned(1), View::Unsigned(2)];
+    assert!(rt; count_of(&View::Array(&members)) == 2);
     Ok(())
 }
