@@ -1,5 +1,4 @@
-"""Refuses memory from each request on, to the calls over whole items, for fuzz/memory.py: on each valid item of the
-conformance tables, and on some that are larger.
+"""Refuses memory from each request on, to the calls over whole items, for fuzz/memory.py.
 
 From whichever request on memory is refused, `Tree::of` gives back the item that it was given, `encode` answers Memory
 at 0, `encode_to` has written nothing, a builder gives nothing, a sequence gives the first of its items, then Memory,
@@ -12,11 +11,9 @@ whether these are called or not.
 import os
 import re
 import subprocess
-from concurrent.futures import ThreadPoolExecutor
 
 from reference import ANY_KEYS, Limits
 from run import driver_line
-from table import rows
 
 # Valid items, and some that are canonical bytes.
 DOCUMENTS = [
@@ -30,19 +27,6 @@ CANONICAL = [
     "98" + "28" + "1a00012345" * 40,
 ]
 MEMORY = re.compile(r"!19,(\d+),(\d+)")
-# The greatest depth of an item: what nests deeper makes the same requests, only more of them.
-DEEP = 256
-# An array of such an item is a level deeper.
-LIMITS = Limits(DEEP + 1, 65536, ANY_KEYS)
-
-
-def items():
-    """The items, in hex, and whether each is its canonical bytes."""
-    found = dict.fromkeys(DOCUMENTS, False) | dict.fromkeys(CANONICAL, True)
-    for row in rows():
-        if isinstance(row.canonical[0], bytes) and row.limits.depth <= DEEP:
-            found[row.given.hex()] = row.canonical[0] == row.given
-    return found
 
 
 class Driver:
@@ -50,7 +34,6 @@ class Driver:
 
     def __init__(self, program, library, folder):
         self.program, self.library, self.folder = os.path.abspath(program), library, folder
-        os.makedirs(folder, exist_ok=True)
 
     def run(self, digits, idle=0, refused_from=0):
         """The status, the words of the answer, and how much was asked for."""
@@ -58,7 +41,7 @@ class Driver:
         with open(counts, "w", encoding="utf-8"):
             pass
         env = {"LD_PRELOAD": self.library, "REFUSED_FROM": str(refused_from), "COUNTS": counts}
-        line = f"memory {idle} " + driver_line(bytes.fromhex(digits), LIMITS)
+        line = f"memory {idle} " + driver_line(bytes.fromhex(digits), Limits(64, 65536, ANY_KEYS))
         ran = subprocess.run([self.program], env=env, input=line.encode(), capture_output=True)
         with open(counts, encoding="utf-8") as file:
             first, *others = file.read().split()
@@ -84,7 +67,7 @@ def is_refused(place, found, usual):
     ][place]()
 
 
-def go_through(driver, digits, is_canonical):
+def go_through(driver, digits):
     """How many answers were Memory, and what went wrong."""
     status, usual, asked = driver.run(digits)
     wrong, reported, sides = [], 0, []
@@ -107,19 +90,13 @@ def go_through(driver, digits, is_canonical):
         sides.append(found[6].partition("!")[0])
     # the left one, then the right one
     named = [it for it in sides if it in ("left", "right")]
-    if sorted(named) != named or set(named) != (set() if is_canonical else {"left", "right"}):
+    if sorted(named) != named or set(named) != (set() if digits in CANONICAL else {"left", "right"}):
         wrong.append(f"{digits}: the sides {named}")
     return reported, wrong
 
 
 def refuse_calls(program, library, folder):
     """How many answers of the driver were Memory, and what went wrong."""
-    drivers = [Driver(program, library, f"{folder}/calls{place}") for place in range(os.cpu_count() or 1)]
-    given = list(items().items())
-
-    def go_through_some(place):
-        return [go_through(drivers[place], *it) for it in given[place :: len(drivers)]]
-
-    with ThreadPoolExecutor(len(drivers)) as pool:
-        found = [it for some in pool.map(go_through_some, range(len(drivers))) for it in some]
+    driver = Driver(program, library, folder)
+    found = [go_through(driver, digits) for digits in DOCUMENTS + CANONICAL]
     return sum(reported for reported, _ in found), [line for _, lines in found for line in lines]
