@@ -1,9 +1,9 @@
 -- Why the lines of an item are not all written.
 use Rattle.std.proofs.Common.{ℕ, List, Option, inl}
 use Rattle.cbor_head.specs.{Prelude.Bounds, declared.reason.Refusal.Refusal}
-use Rattle.cbor_diag.specs.Listing as listing
-use Rattle.cbor_diag.specs.Annotated as annotating
-use Rattle.cbor_diag.specs.{Listing.IsUnlisted, Annotated.IsUnannotated}
+use Rattle.cbor_listing.specs.Listing as listing
+use Rattle.cbor_listing.specs.Annotated as annotating
+use Rattle.cbor_listing.specs.{Listing.IsUnlisted, Annotated.IsUnannotated}
 use Rattle.cborc_commands.specs.EventStyles.{AreUnlisted, of_verdict, of_reader, of_writer}
 use Rattle.cborc_commands.specs.declared.fault.Fault.TheVariants as faults
 use Rattle.cborc_commands.specs.declared.request.EventStyle.{TheVariants.Listed, TheVariants.Annotated, EventStyle}
