@@ -108,12 +108,10 @@ $cc "$c/canonicalise.c" "-I$scratch/unpacked/include" "-L$scratch/unpacked/lib" 
 
 tools=$(realpath -m "${AARCH64_TOOLS:-none}")
 if [ -d "$tools/python" ]; then
-    python=(qemu-aarch64-static -L "$tools/python" "$tools/python/usr/bin/python3" -m unittest)
-    for name in appendix naltvigo sequences values; do
-        (cd "$root/bindings/python/tests" && PYTHONDONTWRITEBYTECODE=1 PYTHONPATH=$scratch/wheel "${python[@]}" "test_$name") >"$scratch/log" 2>&1 ||
-            { cat "$scratch/log"; fail "the wheel: test_$name"; }
-        say "the wheel, in Python: test_$name: $(sed -n 's/^\(Ran [0-9]* tests\).*/\1/p' "$scratch/log")"
-    done
+    python=(qemu-aarch64-static -L "$tools/python" "$tools/python/usr/bin/python3")
+    (cd "$root/bindings/python/tests" && PYTHONDONTWRITEBYTECODE=1 PYTHONPATH=$scratch/wheel "${python[@]}" -m unittest test_appendix \
+        test_naltvigo test_sequences test_values) >"$scratch/log" 2>&1 || { cat "$scratch/log"; fail 'the wheel'; }
+    say "the wheel, by $("${python[@]}" --version): $(sed -n 's/^\(Ran [0-9]* tests\).*/\1/p' "$scratch/log")"
 else
     missing+=("Python for aarch64 (scripts/fetch_aarch64.sh)")
 fi
@@ -126,8 +124,8 @@ fi
 if command -v cargo >/dev/null && [ -d "$(rustc --print sysroot)/lib/rustlib/$target" ]; then
     export NALTVIGO_LIB=$dist/lib CARGO_TARGET_DIR=$scratch/target
     export CARGO_TARGET_AARCH64_UNKNOWN_LINUX_GNU_LINKER=$cc CARGO_TARGET_AARCH64_UNKNOWN_LINUX_GNU_RUNNER="${qemu[*]}"
-    (cd "$root/bindings/rust" && cargo test --offline -q --target $target --tests) >"$scratch/log" 2>&1 || { cat "$scratch/log"; fail 'tests in Rust'; }
-    say "the crate for Rust, by $(rustc --version | cut -d' ' -f1,2): its tests pass"
+    (cd "$root/bindings/rust" && cargo test --release --offline -q --target $target --tests) >"$scratch/log" 2>&1 || { cat "$scratch/log"; fail 'tests in Rust'; }
+    say "the crate, by $(rustc --version | cut -d' ' -f1,2): $(sed -n 's/^test result: ok. \([0-9]*\) passed.*/\1/p' "$scratch/log" | awk '{ sum += $1 } END { print sum }') tests"
 else
     missing+=("cargo with the target $target (scripts/fetch_aarch64.sh)")
 fi

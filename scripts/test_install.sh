@@ -225,7 +225,8 @@ mkdir "$scratch/archive"
 tar -C "$scratch/archive" --strip-components=1 -xzf "$scratch"/reported/*.tar.gz
 transcript=$scratch/archive/share/doc/naltvigo/transcript.txt
 (cd "$scratch/archive" && grep -E '^[0-9a-f]{64}  ' "$transcript" | sha256sum --check --quiet) || fail 'the transcript has other sums'
-[ "$(grep -cE '^[0-9a-f]{64}  ' "$transcript")" = 4 ] || fail 'the transcript lacks a file'
+files=("$root"/include/*.h cborc libnaltvigo.a libnaltvigo.so)
+[ "$(grep -cE '^[0-9a-f]{64}  ' "$transcript")" = ${#files[@]} ] || fail 'the transcript lacks a file'
 if [ -z "${GATE_LOG:-}" ]; then
     diff - <(sed -n '/^Crate/,/^$/p' "$transcript") <<'CRATES' || fail 'the transcript of the crates'
 Crate lower

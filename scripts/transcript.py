@@ -16,7 +16,7 @@ from collections import defaultdict
 from pathlib import Path
 
 ROOT = Path(__file__).resolve().parent.parent
-FILES = ["bin/cborc", "include/naltvigo.h", "lib/libnaltvigo.a", "lib/libnaltvigo.so.*.*.*"]
+FILES = ["bin/cborc", "include/*.h", "lib/libnaltvigo.a", "lib/libnaltvigo.so.*.*.*"]
 
 CRATE = re.compile(r"== (\w+)(: its tests)?")
 LOGIC = re.compile(r"logic \S+: (.*\bsum=\w+)")

@@ -1,7 +1,7 @@
 //! The canonical bytes of the item at the start of a slice.
 
 ghost use Rattle.std.specs.Prelude.{◌≢◌, IfOk, IfErr, IsOk};
-ghost use Rattle.std.specs.Cow.{cow_slice_items};
+ghost use Rattle.std.specs.Cow.{cow_slice_items, IsBorrowedSlice};
 ghost use Rattle.cbor_head.specs.Complaint.{plain};
 ghost use Rattle.cbor_head.specs.Value.{Value};
 ghost use Rattle.cbor_head.specs.declared.reason.Reason.TheVariants as reasons;
@@ -30,6 +30,8 @@ pub fn read_canonical<'a>(
     ensures accepted { IfOk result (λ answer.
         IsBuiltPrefix limits order bytes.now (cow_slice_items answer.0) answer.1) }
     ensures own { (v : Value) → BeginsWithCanonical limits order bytes.now v → IsOk result }
+    ensures borrowed { (v : Value) → BeginsWithCanonical limits order bytes.now v
+        → IfOk result (λ answer. IsBorrowedSlice answer.0) }
     ensures refused { IfErr result (λ f. IsUnread limits plain bytes.now f) }
     ensures no_read { IfErr result (λ f. f.reason ≢ reasons.Read) }
     ensures memory { IfErr result ReportsMemoryAtStart }

@@ -1,7 +1,7 @@
 //! The canonical bytes of a whole input.
 
 ghost use Rattle.std.specs.Prelude.{◌≡◌, ◌≢◌, IfOk, IfErr, IsOk, MatchResult};
-ghost use Rattle.std.specs.Cow.{cow_slice_items};
+ghost use Rattle.std.specs.Cow.{cow_slice_items, IsBorrowedSlice};
 ghost use Rattle.cbor_head.specs.declared.reason.Reason.TheVariants as reasons;
 ghost use Rattle.cbor_verdict.specs.Readers.{ReportsMemoryAtStart};
 ghost use Rattle.cbor_reader.specs.Canonicalise.{IsCanonicalOf, IsRefusal, DeterminesItsValue, IsCanonicaliserReason, IsMemoryRefusal};
@@ -58,6 +58,8 @@ pub fn canonical_bytes<'a>(
         (λ c. IsCanonicalOf limits order bytes.now (cow_slice_items c))
         (λ f. IsRefusal limits order bytes.now f) }
     ensures own { IsCanonicalOf limits order bytes.now bytes.now → IsOk result }
+    ensures borrowed { IsCanonicalOf limits order bytes.now bytes.now
+        → IfOk result IsBorrowedSlice }
     ensures accepted { IfOk result (λ c. IsAnsweredBy limits order bytes.now (cow_slice_items c)) }
     ensures refused { IfErr result
         (λ f. f.reason ≢ reasons.Memory → HasNoAnswer limits order bytes.now) }
@@ -82,6 +84,8 @@ fn answer<'a>(
         (λ c. IsCanonicalOf limits order bytes.now (cow_slice_items c))
         (λ f. IsRefusal limits order bytes.now f) }
     ensures own { IsCanonicalOf limits order bytes.now bytes.now → IsOk result }
+    ensures borrowed { IsCanonicalOf limits order bytes.now bytes.now
+        → IfOk result IsBorrowedSlice }
     ensures memory { IfErr result ReportsMemoryAtStart }
 {
     let canonical = encoded_item(alloc, bytes, limits, order)?;

@@ -1,7 +1,7 @@
 //! The item that a whole input is.
 
 ghost use Rattle.std.specs.Prelude.{◌≡◌, IfOk, IfErr, IsOk};
-ghost use Rattle.std.specs.Cow.{cow_slice_items};
+ghost use Rattle.std.specs.Cow.{cow_slice_items, IsBorrowedSlice};
 ghost use Rattle.cbor_head.specs.Canonical.{canonical};
 ghost use Rattle.cbor_head.specs.Complaint.{plain};
 ghost use Rattle.cbor_head.specs.Spelling.{Spelling, value_of};
@@ -30,6 +30,8 @@ pub(crate) fn encoded_item<'a>(
     ensures refused { IfErr result (IsItemRefusal limits plain bytes.now) }
     ensures memory { IfErr result ReportsMemoryAtStart }
     ensures own { IsCanonicalOf limits order bytes.now bytes.now → IsOk result }
+    ensures borrowed { IsCanonicalOf limits order bytes.now bytes.now
+        → IfOk result IsBorrowedSlice }
 {
     // What any limits keep to.
     let _bytes = limits.bytes();

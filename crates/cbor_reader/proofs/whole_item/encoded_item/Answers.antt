@@ -16,3 +16,6 @@ returns-in-Err-clause-refused c = unread c.in-Err.ensures.refused c.in-Err.ensur
 
 pub returns-in-Err-clause-own : goal.returns-in-Err-clause-own
 returns-in-Err-clause-own c = λ a. c.in-Err.ensures.own (value_of a.item) (own_prefix c.args.limits c.args.order c.args.bytes.now (omega arith) a)
+
+pub returns-else-size-bytes-clause-borrowed : goal.returns-else-size-bytes-clause-borrowed
+returns-else-size-bytes-clause-borrowed c = λ a. c.in-Ok.ensures.borrowed (value_of a.item) (own_prefix c.args.limits c.args.order c.args.bytes.now (omega arith) a)
