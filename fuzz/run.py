@@ -231,16 +231,10 @@ class Tries:
 
     def table(self):
         """The rows, on which the definitions of reference.py are tried too."""
-        for row in rows() + chunk_rows():
-            answers = self.answers(row.given, row.limits)
-            for order in (BYTEWISE, LENGTH_FIRST):
-                expect("the row's canonical bytes", row.canonical[order], answers.canonicalised(order))
-                expect("the row by the strict rules", row.strict[order], answers.strict[order] or answers.size)
-            try_library(self.library, answers, len(row.given))
-            if self.program:
-                try_row(self.program, answers)
-            if self.readers:
-                self.readers.add(answers)
+        for row in rows():
+            self.row(row, self.program)
+        for row in chunk_rows():
+            self.row(row, None)
         for given, part, word in CALLS:
             answers = self.answers(given, USUAL)
             expect("the calls by hand", word, Strictly(answers).word(BYTEWISE, part))
@@ -248,6 +242,17 @@ class Tries:
                 self.readers.add(answers)
         if self.readers:
             self.readers.flush()
+
+    def row(self, row, program):
+        answers = self.answers(row.given, row.limits)
+        for order in (BYTEWISE, LENGTH_FIRST):
+            expect("the row's canonical bytes", row.canonical[order], answers.canonicalised(order))
+            expect("the row by the strict rules", row.strict[order], answers.strict[order] or answers.size)
+        try_library(self.library, answers, len(row.given))
+        if program:
+            try_row(program, answers)
+        if self.readers:
+            self.readers.add(answers)
 
     def large(self):
         for given in large_maps():
