@@ -246,7 +246,7 @@ fn replaces_a_file_by_one_of_its_mode(rt: HostRuntime) -> io::Result<()> {
             b"\x01\x02"
         };
         assert!(rt; left.as_slice() == held, "{wanted}");
-        assert!(rt; fs::metadata(&rt, path)?.mode() & 0o777 == mode, "{wanted}");
+        assert!(rt; fs::metadata(&rt, path)?.mode() & 0o777 == mode, "{mode}");
     }
     fs::remove_file(&rt, path)
 }
