@@ -7,13 +7,13 @@ use Rattle.cborc_commands.specs.Fault.{IsOfInput, reason_fault, refusal_fault}
 use Rattle.cborc_commands.specs.declared.fault.Fault.TheVariants as faults
 use Rattle.cborc_commands.specs.declared.fault.Fault.{Fault}
 
--- the fault of a refusal: the refusal, or want of memory
-pub refusal_is : (P : Fault → Type 0) (f : Refusal) (fault : Fault) → fault ≡ refusal_fault f → (IsOfInput f.reason → P (faults.Refused f)) → P faults.Memory → P fault
+-- the fault of a refusal: the refusal, or want of memory, where it is none of the input
+pub refusal_is : (P : Fault → Type 0) (f : Refusal) (fault : Fault) → fault ≡ refusal_fault f → (IsOfInput f.reason → P (faults.Refused f)) → (¬ IsOfInput f.reason → P faults.Memory) → P fault
 refusal_is P f fault e refused memory = subst P (sym e) (by_reason f.reason refl)
   where
     by_reason : (reason : Reason) → f.reason ≡ reason → P (reason_fault f reason)
-    by_reason reasons.Memory is = memory
-    by_reason reasons.Read is = memory
+    by_reason reasons.Memory is = memory (λ own. subst IsOfInput is own)
+    by_reason reasons.Read is = memory (λ own. subst IsOfInput is own)
     by_reason _ is = refused (subst IsOfInput (sym is) tt)
 
 -- the same of a listing, which asks for no memory: want of memory is said where a read failed

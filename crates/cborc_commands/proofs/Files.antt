@@ -2,7 +2,7 @@
 use Rattle.std.proofs.Common.{List, [], ℕ, ◌%◌, ◌≡◌, Bool, true, false, Option, Some, None, Result, Ok, Err, ◌∙◌, ap, arith, length, subst, sym, ◌==◌, if◌then◌else◌, IfSome, take_all}
 use Rattle.std.specs.{List.filter, Io.KnownBytes.Appends}
 use Rattle.hex.specs.{Hex.decode_pairs, declared.error.FromHexError.FromHexError, declared.error.FromHexError.TheVariants.OddLength}
-use Rattle.cborc_files.specs.Folder.{Files, Holds, IsBlank, KeepsFiles, ReplacesFile}
+use Rattle.cborc_files.specs.Folder.{Files, Holds, IsBlank, IsThere, KeepsFiles, ReplacesFile}
 use Rattle.cborc_files.specs.Hex.{is_kept}
 use Rattle.cborc_commands.specs.Input.{IsInput, IsPrefix, IsNotHex}
 
@@ -34,6 +34,20 @@ pub held_before : (a b : Option Files) (path bytes : List ℕ) → KeepsFiles a 
 held_before None b path bytes k h = tt
 held_before (Some f) None path bytes k h = absurd k
 held_before (Some f) (Some g) path bytes k h = sym (k path) ∙ h
+
+-- a file that holds something is there
+pub holds_there : (held : Option Files) (path bytes : List ℕ) → Holds held path bytes → IsThere held path
+holds_there None path bytes h = tt
+holds_there (Some files) path bytes h = λ none. let two : Some bytes ≡ None = sym h ∙ none in cc two
+
+pub there_before : (a b : Option Files) (path : List ℕ) → KeepsFiles a b → IsThere b path → IsThere a path
+there_before None b path k h = tt
+there_before (Some f) None path k h = absurd k
+there_before (Some f) (Some g) path k h = λ none. h (k path ∙ none)
+
+pub input_is_there : (held : Option Files) (path : List ℕ) (hex : Bool) (input : List ℕ) → IsInput held path hex input → IsThere held path
+input_is_there held path false input h = holds_there held path input h
+input_is_there held path true input (text, h, e) = holds_there held path text h
 
 pub input_before : (a b : Option Files) (path : List ℕ) (hex : Bool) (input : List ℕ) → KeepsFiles a b → IsInput b path hex input → IsInput a path hex input
 input_before a b path false input k h = held_before a b path input k h

@@ -14,7 +14,7 @@ use Rattle.cborc_commands.proofs.Prefixes.{canonical_whole, refusal_whole, is_wh
 use Rattle.cborc_commands.specs.Check.{accepted_bytes, IsWhole, IsChecked, IsNotChecked}
 use Rattle.cborc_commands.specs.Compare.{IsReported, IsUnreported, AreInputs, AreCompared, AreNotCompared}
 use Rattle.cborc_commands.specs.Events.{IsNotListed, IsListedOf, IsNotListedOf}
-use Rattle.cborc_commands.{specs.EventStyles.AreListed, specs.declared.request.EventStyle.EventStyle, proofs.Files.input_before, specs.inner.Decided.IsEnough}
+use Rattle.cborc_commands.{specs.EventStyles.AreListed, specs.declared.request.EventStyle.EventStyle, proofs.Files.input_before, proofs.Files.input_is_there, specs.inner.Decided.IsEnough}
 use Rattle.cborc_commands.specs.{inner.NotWritten.IsNoText, inner.NotWritten.IsNotTaken, Put.IsPut, Put.IsNotPut, inner.Start.StartsInput}
 use Rattle.cborc_commands.specs.{Fault.IsOfInput, Fault.refusal_fault, declared.request.TextStyle.TextStyle, declared.status.Status.Status}
 use Rattle.cborc_commands.specs.declared.{request.Options.Options, request.Output.Output, fault.Fault.Fault}
@@ -42,7 +42,7 @@ module _ (o : KeyOrder) (options : Options) (source : List ℕ) (output : Output
   not_put before after bytes text s t faults.CannotPrint (h, cut) =
       (record { input = s.input; is = s.is; text = text; canonical = text_whole bytes text s t; reported = cut refl }, h)
   not_put before after bytes text s t (faults.CannotWrite named) (h, cut) = record { input = s.input; is = s.is; text = text; canonical = text_whole bytes text s t; reported = h }
-  not_put before after bytes text s t faults.Memory h = tt
+  not_put before after bytes text s t faults.Memory h = input_is_there held source options.hex s.input s.is
   not_put before after bytes text s t _ h = absurd h.0
 
   pub no_text : (before after : Option (List ℕ)) (bytes : List ℕ) → StartsInput held source options bytes → (fault : Fault)
@@ -53,7 +53,7 @@ module _ (o : KeyOrder) (options : Options) (source : List ℕ) (output : Output
     subst (λ (b : List ℕ). IsRefusal options.limits o b f) s.splits (refusal_whole options.limits bytes s.behind s.enough o f h.0),
     h.1,
   )
-  no_text before after bytes s faults.Memory h = tt
+  no_text before after bytes s faults.Memory h = input_is_there held source options.hex s.input s.is
   no_text before after bytes s _ h = absurd h
 
 module _ (rules : Rules) (options : Options) (source : List ℕ) (held : Option Files) (bytes : List ℕ)
@@ -67,7 +67,7 @@ module _ (rules : Rules) (options : Options) (source : List ℕ) (held : Option 
   pub unreported : (size : ℕ) (before after : Option (List ℕ)) → IsWhole options.limits rules bytes size → (fault : Fault)
       → IsNotTaken (accepted_bytes size) before after fault → IsNotChecked rules options source held before after fault
   unreported size before after w faults.CannotPrint h = checked size w (GoesInPart before after) h
-  unreported size before after w faults.Memory h = tt
+  unreported size before after w faults.Memory h = input_is_there held source options.hex s.input s.is
   unreported size before after w _ h = absurd h
 
   pub not_checked : (before after : Option (List ℕ)) (f : Refusal) → (IsOfInput f.reason → IsItemRefusal options.limits rules bytes f) → (fault : Fault) → fault ≡ refusal_fault f
@@ -78,7 +78,7 @@ module _ (rules : Rules) (options : Options) (source : List ℕ) (held : Option 
         s.is,
         subst (λ (b : List ℕ). IsItemRefusal options.limits rules b f) s.splits (item_refusal_whole options.limits bytes s.behind s.enough rules f (h own)),
         own,
-      )) tt
+      )) (λ other. input_is_there held source options.hex s.input s.is)
 
 module _ (options : Options) (source : List ℕ) (held : Option Files) (bytes : List ℕ) (s : StartsInput held source options bytes) where
   -- ---- `show`
@@ -101,7 +101,7 @@ module _ (options : Options) (source : List ℕ) (held : Option Files) (bytes : 
     unshown_by : (text_style : TextStyle) (before after : Option (List ℕ)) (fault : Fault) → IsNotTaken (shown_text text_style (value_of w.0.item)) before after fault
         → IsNotShown text_style options source held before after fault
     unshown_by text_style before after faults.CannotPrint h = shown_by text_style (GoesInPart before after) h
-    unshown_by text_style before after faults.Memory h = (tt, subst (Keeps before) (sym h) (Keeps-refl before))
+    unshown_by text_style before after faults.Memory h = (input_is_there held source options.hex s.input s.is, subst (Keeps before) (sym h) (Keeps-refl before))
     unshown_by text_style before after _ h = absurd h
 
     pub unshown : (text_style : TextStyle) (before after : Option (List ℕ)) (fault : Fault)
@@ -117,7 +117,7 @@ module _ (options : Options) (source : List ℕ) (held : Option Files) (bytes : 
         s.is,
         subst (λ (b : List ℕ). IsItemRefusal options.limits plain b f) s.splits (item_refusal_whole options.limits bytes s.behind s.enough plain f (h own)),
         own,
-      )) (tt, keeps)
+      )) (λ other. (input_is_there held source options.hex s.input s.is, keeps))
 
   -- ---- `events`
 

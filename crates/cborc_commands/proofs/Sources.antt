@@ -6,11 +6,13 @@ use Rattle.hex.specs.Hex.{decode_of, decode_pairs}
 use Rattle.cborc_files.specs.Digits.{DigitsView, EndsIn, Spells, SpellsOn, IsWhole, IsOfText}
 use Rattle.cborc_files.specs.Folder.{Files, Holds, IsNoDigits, ReadsOn, KeepsFiles}
 use Rattle.cborc_files.specs.declared.hex_text.DigitsFault.TheVariants as digits
+use Rattle.cborc_files.specs.declared.folder.FileFault.TheVariants as file_faults
+use Rattle.cborc_files.specs.declared.folder.FileFault.{FileFault}
 use Rattle.cborc_files.specs.{Hex.is_kept, declared.hex_text.DigitsFault.DigitsFault}
 use Rattle.cborc_commands.specs.Input.{IsInput, IsPrefix, IsNotHex}
 use Rattle.cborc_commands.specs.declared.fault.Fault.TheVariants as faults
 use Rattle.cborc_commands.specs.inner.Sources.{StartsFile, Gives, IsAll, HasGiven, IsFresh, Adds, IsPartAdded, IsUndecoded, IsHexErrorText, IsNoPart, StartsInputAt, HasInput, HasNoInput}
-use Rattle.cborc_commands.{proofs.Files.held_before, proofs.Files.keeps_keeps, specs.NoInput.IsNoInput, specs.declared.fault.Fault.Fault}
+use Rattle.cborc_commands.{proofs.Files.held_before, proofs.Files.keeps_keeps, proofs.Files.there_before, specs.NoInput.IsNoInput, specs.declared.fault.Fault.Fault}
 use Rattle.cborc_commands.specs.declared.source.Source.{Source}
 
 pub same_files : (held : Option Files) → KeepsFiles held held
@@ -178,7 +180,7 @@ pub no_part : (held now : Option Files) (path : List ℕ) (s : Source) (bytes : 
 no_part held now path s bytes keeps g (faults.CannotRead named) h = h
 no_part held now path s bytes keeps g (faults.NotHex named) (e, h) =
     (e, subst (IsNotHex held path) (sym h.hex_is) (hex_error_text held now path s bytes keeps g h))
-no_part held now path s bytes keeps g faults.Memory h = tt
+no_part held now path s bytes keeps g faults.Memory h = there_before held now path keeps h
 no_part held now path s bytes keeps g _ h = absurd h
 
 pub no_first_part : (held : Option Files) (path : List ℕ) (hex : Bool) (s : Source) → IsFresh hex s → (fault : Fault) → IsNoPart held path s fault → IsNoInput held path hex fault
@@ -186,7 +188,7 @@ no_first_part held path hex s f (faults.CannotRead named) h = h
 no_first_part held path hex s f (faults.NotHex named) (e, h) =
     subst (λ (b : Bool). IsNoInput held path b (faults.NotHex named)) f.hex_is
     (no_part held held path s [] (same_files held) (fresh_given held path hex s h.whole f h.holds) (faults.NotHex named) (e, h))
-no_first_part held path hex s f faults.Memory h = tt
+no_first_part held path hex s f faults.Memory h = h
 no_first_part held path hex s f _ h = absurd h
 
 -- ---- reading on to the end
@@ -289,6 +291,12 @@ pub hex_error_end : (part before after : List ℕ) (old new : DigitsView) (ended
 hex_error_end part before after old new ended e s hex_error text spelled more none h =
     subst (λ (xs : List ℕ). IsErr (decode_of (filter is_kept (text ++ xs)))) (sym (ap (λ (xs : List ℕ). part ++ xs) (none e) ∙ append-nil part))
     (hex_error (text ++ part) (spelled ++ s.more) (s.goes_on text spelled h))
+
+-- the fault of reading
+pub by_reading : (P : Fault → Type 0) (fault : FileFault) (reported failed : Fault) → (fault ≡ file_faults.Failed → reported ≡ failed) → (fault ≡ file_faults.Memory → reported ≡ faults.Memory)
+    → P failed → (fault ≡ file_faults.Memory → P faults.Memory) → P reported
+by_reading P file_faults.Failed reported failed other memory h m = subst P (sym (other refl)) h
+by_reading P file_faults.Memory reported failed other memory h m = subst P (sym (memory refl)) (m refl)
 
 -- the fault of decoding
 pub by_digits : (P : Fault → Type 0) (fault : DigitsFault) (reported hexed : Fault) → (IsOfText fault → reported ≡ hexed) → (¬ IsOfText fault → reported ≡ faults.Memory)

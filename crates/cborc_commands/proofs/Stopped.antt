@@ -14,7 +14,7 @@ use Rattle.cborc_commands.specs.CanonSequence.{HasCanonicalBytes, canonical_text
 use Rattle.cborc_commands.specs.EventsSequence.{item_lines, all_lines, IsListedInPart, listed_to, listed_short, IsListedSoFar, items_listed, prefix_listed, IsSequenceNotListed}
 use Rattle.cborc_commands.specs.ShowSequence.{item_text, IsSequenceShown, IsSequenceNotShown}
 use Rattle.cborc_commands.specs.inner.SequenceItems.{IsCutText, IsUncounted, IsUnwritten, IsItemNotShown, IsItemNotListed}
-use Rattle.cborc_commands.{specs.Input.IsInput, specs.Input.IsPrefix, proofs.Files.input_prefix, proofs.Files.replaced_by, proofs.Outputs.appends_more}
+use Rattle.cborc_commands.{specs.Input.IsInput, specs.Input.IsPrefix, proofs.Files.input_is_there, proofs.Files.input_prefix, proofs.Files.replaced_by, proofs.Outputs.appends_more}
 use Rattle.cborc_commands.specs.{Put.printed, Put.written, Fault.at_item, NoInput.IsNoInput, declared.fault.Fault.Fault, declared.request.TextStyle.TextStyle}
 use Rattle.cborc_commands.specs.declared.request.{EventStyle.EventStyle, Options.Options, Output.Output}
 use Rattle.cborc_commands.{specs.CheckSequence.IsSequenceNotChecked, proofs.SequenceItems.texts_anywhere, proofs.SequenceItems.one_more_starts}
@@ -126,7 +126,7 @@ module _ (o : KeyOrder) (options : Options) (source : List ℕ) (output : Output
         none_more : (x : Fault) → IsNoInput held source options.hex x → IsTakenSoFar Has text_of options source held from to → IsSequenceNotCanonised o options source output held before after x
         none_more (faults.CannotRead named) why w = (why, sends (IsTakenSoFar Has text_of options source held) w)
         none_more (faults.NotHex named) why w = (why, sends (IsTakenSoFar Has text_of options source held) w)
-        none_more faults.Memory why w = (why, sends (IsTakenSoFar Has text_of options source held) w)
+        none_more faults.Memory why w = (inr why, sends (IsTakenSoFar Has text_of options source held) w)
         none_more _ why w = absurd why
 
         by_cause : (input : List ℕ) → IsInput held source options.hex input → (h : AreStopped Has (λ start. text_of) Unwritten options.limits.bytes input from to fault) (cause : Fault)
@@ -142,7 +142,7 @@ module _ (o : KeyOrder) (options : Options) (source : List ℕ) (output : Output
         }
         by_cause input is h faults.CannotPrint e why = cut (h.fault_is ∙ ap (at_item h.index h.start) e)
         by_cause input is h faults.Memory e why =
-            none_more faults.Memory tt (so_far Has text_of from to Unwritten options.limits.bytes input fault h options source held (input_prefix held source options.hex input is) (inl why))
+            none_more faults.Memory (input_is_there held source options.hex input is) (so_far Has text_of from to Unwritten options.limits.bytes input fault h options source held (input_prefix held source options.hex input is) (inl why))
         by_cause input is h _ e why = absurd why
 
         by_stop : AreStoppedOf Has (λ start. text_of) Unwritten options source held from to fault → IsSequenceNotCanonised o options source output held before after fault
@@ -167,11 +167,11 @@ module _ (o : KeyOrder) (options : Options) (source : List ℕ) (output : Output
     not_written file_faults.Failed failed memory =
         subst (IsSequenceNotCanonised o options source output held out out) (sym (failed refl)) ((s, same), t)
     not_written file_faults.Memory failed memory =
-        subst (IsSequenceNotCanonised o options source output held out out) (sym (memory refl)) (tt, unless_stream s (IsTakenSoFar Has text_of options source held out out))
+        subst (IsSequenceNotCanonised o options source output held out out) (sym (memory refl)) (inl s, unless_stream s (IsTakenSoFar Has text_of options source held out out))
 
   -- memory was refused before anything was read
   pub none_begun : is_stream output.path.now ≡ false → (out : Option (List ℕ)) → IsSequenceNotCanonised o options source output held out out faults.Memory
-  none_begun s out = (tt, unless_stream s (IsTakenSoFar Has text_of options source held out out))
+  none_begun s out = (inl s, unless_stream s (IsTakenSoFar Has text_of options source held out out))
 
 -- ---- `show --seq`
 
@@ -213,7 +213,7 @@ module _ (text_style : TextStyle) (options : Options) (source : List ℕ) (held 
     }
     not_shown_by input is h faults.CannotPrint why = (input, is, cut_in Valid (item_text text_style) before after Unshown options.limits.bytes input fault h why)
     not_shown_by input is h faults.Memory why =
-        (tt, so_far Valid (item_text text_style) before after Unshown options.limits.bytes input fault h options source held (input_prefix held source options.hex input is) (inl why))
+        (input_is_there held source options.hex input is, so_far Valid (item_text text_style) before after Unshown options.limits.bytes input fault h options source held (input_prefix held source options.hex input is) (inl why))
     not_shown_by input is h _ why = absurd why
 
     none_shown : (x : Fault) → IsNoInput held source options.hex x → IsTakenSoFar Valid (item_text text_style) options source held before after
@@ -278,7 +278,7 @@ module _ (style : EventStyle) (options : Options) (source : List ℕ) (held : Op
         cut = why.1;
         listed = appends_more before h.middle after (all_lines style h.items) why.0 h.written why.2;
       }
-  not_listed_by input is h faults.Memory e = (tt, lines_so_far input (input_prefix held source options.hex input is) fault h)
+  not_listed_by input is h faults.Memory e = (input_is_there held source options.hex input is, lines_so_far input (input_prefix held source options.hex input is) fault h)
   not_listed_by input is h _ e = absurd (subst (λ (x : Fault). IsItemNotListed style options.limits h.start h.rest x h.middle after) e h.stopped)
 
   none_listed : (x : Fault) → IsNoInput held source options.hex x → IsListedSoFar style options source held before after → IsSequenceNotListed style options source held before after x
@@ -305,7 +305,7 @@ module _ (rules : Rules) (options : Options) (source : List ℕ) (held : Option 
   not_checked_by input is h (faults.Refused f) e =
       let why = subst (IsUncounted options.limits rules h.rest) e h.stopped in
       (input, is, record { items = h.items; rest = h.rest; goes_on = h.goes_on; verdict = why })
-  not_checked_by input is h faults.Memory e = tt
+  not_checked_by input is h faults.Memory e = input_is_there held source options.hex input is
   not_checked_by input is h _ e = absurd (subst (IsUncounted options.limits rules h.rest) e h.stopped)
 
   none_checked : (x : Fault) → IsNoInput held source options.hex x → IsSequenceNotChecked rules options source held before after x

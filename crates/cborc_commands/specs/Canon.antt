@@ -1,5 +1,5 @@
 -- What `canon` writes, and why it writes nothing.
-use Rattle.std.specs.Prelude.{ℕ, ◌≡◌, List, Option, Some}
+use Rattle.std.specs.Prelude.{ℕ, ◌≡◌, ◌≢◌, List, Option, None, Some}
 use Rattle.cbor_head.specs.{Prelude.Bounds, declared.order.KeyOrder.KeyOrder}
 use Rattle.cbor_reader.specs.Canonicalise.{IsCanonicalOf, IsRefusal}
 use Rattle.cborc_files.specs.Folder.{Files}
@@ -33,11 +33,11 @@ pub record HoldsCanonical (limits : Bounds) (o : KeyOrder) (before after : Optio
   pub is : IsCanonicalOf limits o input canonical
   pub written : after ≡ Some canonical
 
--- why no file in memory comes to hold them. What the other holds is refused, it is not there, this one was not written, or memory was refused.
+-- why no file in memory comes to hold them. What the other holds is refused, it is not there, this one was not written, or it is there and memory was refused.
 abbrev pub IsNotHeld : Bounds → KeyOrder → Files → List ℕ → List ℕ → Fault → Type 0
 IsNotHeld limits o files source target (faults.Refused f) = (input : List ℕ) × (files source ≡ Some input) × IsRefusal limits o input f × IsOfInput f.reason
 IsNotHeld limits o files source target (faults.CannotRead named) = named.now ≡ source
 IsNotHeld limits o files source target (faults.CannotWrite named) = IsNotPut target (faults.CannotWrite named)
 IsNotHeld limits o files source target faults.CannotPrint = IsNotPut target faults.CannotPrint
-IsNotHeld limits o files source target faults.Memory = Unit {0}
+IsNotHeld limits o files source target faults.Memory = files source ≢ None
 IsNotHeld limits o files source target _ = ⊥

@@ -1,5 +1,5 @@
 -- What `canon --seq` writes, why it does not write all, and what is written then (RFC 8742).
-use Rattle.std.specs.Prelude.{ℕ, ◌≡◌, ◌<◌, ◌≤◌, ◌⊎◌, ◌++◌, true, List, length, flat_map, Option}
+use Rattle.std.specs.Prelude.{ℕ, ◌≡◌, ◌<◌, ◌≤◌, ◌⊎◌, ◌++◌, true, false, List, length, flat_map, Option}
 use Rattle.std.specs.Io.KnownBytes.{Appends}
 use Rattle.cbor_head.specs.Prelude.{canonical, plain, Bounds, Spelling, spell, value_of, refusal, refused, IsVerdict}
 use Rattle.cbor_head.specs.declared.{order.KeyOrder.KeyOrder, reason.Reason.TheVariants.CanonicalTooLong, reason.Refusal.Refusal}
@@ -63,7 +63,8 @@ pub record HasFirstTexts (o : KeyOrder) (options : Options) (source : List ℕ) 
   pub starts : StartsWithEach (HasCanonicalBytes options.limits o) input items rest
   pub some : (0 < length items) ⊎ AreAll (HasCanonicalBytes options.limits o) options.limits.bytes input items
 
--- why not all is written, and what standard output took: an item is refused; standard output or the file took not all; there is no input, or memory was refused
+-- why not all is written, and what standard output took: an item is refused; standard output or the file took not all; there is no input, or memory was refused,
+-- for a file that takes the place of another even before anything is read
 abbrev pub IsSequenceNotCanonised : KeyOrder → Options → List ℕ → Output → Option Files → Option (List ℕ) → Option (List ℕ) → Fault → Type 0
 IsSequenceNotCanonised o options source output held before after (faults.RefusedItem index start f) =
     HasUncanonicalItem o options source output held before after index start f
@@ -72,6 +73,9 @@ IsSequenceNotCanonised o options source output held before after faults.CannotPr
     × IsCutShort (HasCanonicalBytes options.limits o) (canonical_text o output.form) options source held before after
 IsSequenceNotCanonised o options source output held before after (faults.CannotWrite named) =
     IsNotPut output.path.now (faults.CannotWrite named) × HasFirstTexts o options source held
+IsSequenceNotCanonised o options source output held before after faults.Memory =
+    (is_stream output.path.now ≡ false ⊎ IsNoInput held source options.hex faults.Memory)
+    × IsSent output.path.now (IsTakenSoFar (HasCanonicalBytes options.limits o) (canonical_text o output.form) options source held before after)
 IsSequenceNotCanonised o options source output held before after fault =
     IsNoInput held source options.hex fault
     × IsSent output.path.now (IsTakenSoFar (HasCanonicalBytes options.limits o) (canonical_text o output.form) options source held before after)

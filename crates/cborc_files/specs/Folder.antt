@@ -17,6 +17,11 @@ abbrev pub Holds : Option Files → List ℕ → List ℕ → Type 0
 Holds None path bytes = Unit {0}
 Holds (Some files) path bytes = files path ≡ Some bytes
 
+-- there is a file at this path, where the folder reports what it holds
+abbrev pub IsThere : Option Files → List ℕ → Type 0
+IsThere None path = Unit {0}
+IsThere (Some files) path = files path ≢ None
+
 -- To the old bytes were added those of the file at this path that stand behind its first from bytes: all of them, or they are so
 -- many.
 pub record ReadsOn (held : Option Files) (path : List ℕ) (from most : ℕ) (old new : List ℕ) : Type 0 where

@@ -3,7 +3,7 @@
 ghost use Rattle.std.specs.Prelude.{◌≡◌, ◌++◌, take, drop, Option, None, OnOk, OnErr, IfOk, IfErr, IfSome};
 ghost use Rattle.std.specs.Borrow.{GName};
 ghost use Rattle.cborc_files.specs.Folder.{Files, is_stream, Holds, ReadsOn, IsWithin, KeepsFiles};
-ghost use Rattle.cborc_files.specs.Folder.{IsBlank, ReplacesFile, WritesFile};
+ghost use Rattle.cborc_files.specs.Folder.{IsBlank, IsThere, ReplacesFile, WritesFile};
 
 use crate::hex_text::DigitsFault;
 use std::alloc::{AllocError, Global};
@@ -47,9 +47,11 @@ pub trait Folder {
     // The reference to the folder behind this one, where it passes all on to another.
     ghost behind: { Self → Option GName } = { λ _. None };
 
-    /// Reads a file whole.
+    /// Reads a file whole. Memory is refused only for a file that is there.
     fn read(&mut self, alloc: Global, path: &str) -> Result<Vec<u8>, FileFault>
         ensures gives { IfOk result (λ v. Holds (held self.old) path.now v.items) }
+        ensures memory { IfErr result
+            (λ fault. fault ≡ FileFault.Memory → IsThere (held self.old) path.now) }
         ensures keeps { KeepsFiles (held self.old) (held self.new) }
         ensures same { behind self.new ≡ behind self.old };
 
@@ -92,7 +94,8 @@ pub trait Folder {
 
     /// Appends those bytes of a file that stand behind its first `from`, so many if there are: fewer
     /// only where the file ends. A file is read on where the last call for it ended: a folder that
-    /// can read a part of a file at a time reads no more than is asked for, and none twice.
+    /// can read a part of a file at a time reads no more than is asked for, and none twice. Memory is
+    /// refused only for a file that is there.
     fn read_on(
         &mut self,
         alloc: Global,
@@ -104,6 +107,8 @@ pub trait Folder {
         ensures gives { OnOk result
             (ReadsOn (held self.old) path.now from most bytes.old.items bytes.new.items) }
         ensures within { OnOk result (IsWithin from bytes.old.items bytes.new.items) }
+        ensures memory { IfErr result
+            (λ fault. fault ≡ FileFault.Memory → IsThere (held self.old) path.now) }
         ensures keeps { KeepsFiles (held self.old) (held self.new) }
         ensures same { behind self.new ≡ behind self.old }
     {

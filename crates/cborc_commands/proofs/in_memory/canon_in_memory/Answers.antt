@@ -16,7 +16,7 @@ not_held options o source output files before after raw (faults.CannotRead named
 not_held options o source output files before after raw (faults.NotHex named) h = absurd (subst (λ (hex : Bool). IsNotHex (Some files) source hex) raw h.1)
 not_held options o source output files before after raw (faults.CannotWrite named) h = h.reported
 not_held options o source output files before after raw faults.CannotPrint h = h.1
-not_held options o source output files before after raw faults.Memory h = tt
+not_held options o source output files before after raw faults.Memory h = h
 not_held options o source output files before after raw _ h = absurd h
 
 pub returns-clause-fault : goal.returns-clause-fault

@@ -1,7 +1,7 @@
 use Rattle.std.proofs.Common.{arith, refl}
 use Rattle.cborc_commands.proofs.Sources.{read_added, spelled_added, hex_error_part, by_digits}
 use Rattle.cborc_commands.proofs.source.Source.append.Goals as goal
-use Rattle.cborc_commands.specs.inner.Sources.{IsNoPart}
+use Rattle.cborc_commands.{proofs.Files.holds_there, specs.inner.Sources.IsNoPart}
 
 pub returns-then-not-self-clause-added : goal.returns-then-not-self-clause-added
 returns-then-not-self-clause-added g c =
@@ -24,4 +24,4 @@ returns-clause-fault g c =
       hex_error_part _ _ _ c.args.most _ c.read_part-2.new.bytes.items c.if-not-self.false read (omega (arith, count))
           (rw (c.as_slice.ensures.value) at (c.in-Err.ensures.not_hex e)),
     ))
-    tt
+    (holds_there _ _ _ read.holds)
