@@ -3,8 +3,8 @@ use Rattle.std.proofs.Common.{ℕ, ◌≡◌, ◌⊎◌, ◌↔◌, inl, inr, Bo
 use Rattle.std.proofs.lemmas.Bool.{false≢true}
 use Rattle.cbor_head.specs.Prelude.{Bounds, Spelling, value_of, Same}
 use Rattle.cbor_head.specs.declared.reason.Refusal.{Refusal}
-use Rattle.cbor_reader.specs.{Headline.IsValidItem, WholeItem.IsWholeItem, Comparing.IsSideRefusal}
-use Rattle.cbor_reader.specs.declared.comparison.Side.{Side, TheVariants.Left, TheVariants.Right}
+use Rattle.cbor_reader.specs.{Headline.IsValidItem, WholeItem.IsWholeItem, Comparing.IsSideRefusal, declared.comparison.Side.Side}
+use Rattle.cbor_reader.specs.declared.comparison.Side.TheVariants.{Left, Right}
 use Rattle.naltvigo.specs.Comparing.{side_number}
 
 module _ (l m : Bounds) (left right : List ℕ) (same : Bool) (k : m ≡ l) (reports : (s t : Spelling) → IsValidItem l left s → IsValidItem l right t → IsTrue same ↔ Same (value_of s) (value_of t)) where

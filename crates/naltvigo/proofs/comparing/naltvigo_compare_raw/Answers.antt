@@ -1,7 +1,7 @@
 use Rattle.std.proofs.Common.{sym}
 use Rattle.naltvigo.proofs.comparing.naltvigo_compare_raw.Goals as goal
-use Rattle.naltvigo.specs.Settings.{item_limits}
 use Rattle.naltvigo.proofs.Compared.{named-side, other-values, same-values}
+use Rattle.naltvigo.specs.Settings.{item_limits}
 
 pub returns-in-Ok-true-clause-values : goal.returns-in-Ok-true-clause-values
 returns-in-Ok-true-clause-values c =
