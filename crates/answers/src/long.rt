@@ -59,19 +59,20 @@ pub(crate) fn answer_long<W: Write>(alloc: Global, count: u32, out: &mut W) -> i
             Ok(size) => write!(out, "{size}")?,
             Err(refusal) => put_refusal(refusal, out)?,
         }
-        put_taken(alloc, LongItem::new(first, count, byte), limits, out)?;
+        let item = LongItem::new(first, count, byte);
+        put_taken(alloc, item, u64::from(count) + 2, limits, out)?;
     }
     writeln!(out)
 }
 
-// Reads the events until none is reported.
+// Reads the events until none is reported, at most so many.
 fn put_taken<W: Write>(
     alloc: Global,
     item: LongItem,
+    most: u64,
     limits: Limits,
     out: &mut W,
 ) -> io::Result<()> {
-    let most = item.left as u64 + 2;
     let mut events = StrictReader::new(alloc, item, limits, KeyOrder::Bytewise);
     for _ in 0..most {
         match events.next() {
