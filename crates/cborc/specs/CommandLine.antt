@@ -9,8 +9,8 @@ use Rattle.cborc_files.specs.Folder.{is_stream}
 use Rattle.cborc_commands.specs.declared.request.Verbosity.TheVariants.{Plain, Explained, Quiet}
 use Rattle.cborc_commands.specs.declared.request.Action.TheVariants.{Check, Canon, Compare, Show, Events}
 use Rattle.cborc_commands.specs.declared.request.{Action.Action, Accepted.Accepted, Accepted.TheVariants.Valid, Accepted.TheVariants.Canonical}
-use Rattle.cborc_commands.specs.declared.request.{Form.TheVariants.Raw, Form.TheVariants.Hex, TextStyle.TextStyle}
-use Rattle.cborc_commands.specs.declared.request.EventStyle.{EventStyle, TheVariants.Listed, TheVariants.Annotated}
+use Rattle.cborc_commands.specs.declared.request.{Form.TheVariants.Raw, Form.TheVariants.Hex, TextStyle.TextStyle, EventStyle.EventStyle}
+use Rattle.cborc_commands.specs.declared.request.EventStyle.TheVariants.{Listed, Annotated}
 use Rattle.cborc_commands.specs.declared.request.{TextStyle.TheVariants.OneLine, TextStyle.TheVariants.Indented, Verbosity.Verbosity, Options.Options}
 use Rattle.cborc_commands.specs.declared.request.{Output.Output, Request.Request, Task.Task}
 

@@ -32,11 +32,11 @@ module _ (b : Bounds) (r : Rules) (prefix behind : List ℕ) (f : Refusal) (know
 -- the fault of a refusal
 module _ (b : Bounds) (prefix behind : List ℕ) (f : Refusal) (known : IsSettled behind f) (fault : Fault) (is : fault ≡ refusal_fault f) where
   pub uncounted : (r : Rules) → IsUnread b r prefix f → IsUncounted b r (prefix ++ behind) fault
-  uncounted r h = refusal_is (IsUncounted b r (prefix ++ behind)) f fault is (λ own. unread_further b r prefix behind f known own h) tt
+  uncounted r h = refusal_is (IsUncounted b r (prefix ++ behind)) f fault is (λ own. unread_further b r prefix behind f known own h) (λ other. tt)
 
   pub uncanonical : (o : KeyOrder) (form : Form) (out : Option (List ℕ)) → IsUnread b plain prefix f → IsUnwritten b o form (prefix ++ behind) fault out out
   uncanonical o form out h =
-      refusal_is (λ (x : Fault). IsUnwritten b o form (prefix ++ behind) x out out) f fault is (λ own. (canon.of_verdict (unread_further b plain prefix behind f known own h), refl)) refl
+      refusal_is (λ (x : Fault). IsUnwritten b o form (prefix ++ behind) x out out) f fault is (λ own. (canon.of_verdict (unread_further b plain prefix behind f known own h), refl)) (λ other. refl)
 
   pub item_not_shown : (text_style : TextStyle) (out : Option (List ℕ)) → IsUnread b plain prefix f → IsItemNotShown b text_style (prefix ++ behind) fault out out
   item_not_shown text_style out h =

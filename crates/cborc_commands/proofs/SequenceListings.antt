@@ -74,7 +74,7 @@ module _ (style : EventStyle) (start : ℕ) (limits : Bounds) (bytes : List ℕ)
         → IsItemNotListed style limits start (bytes ++ behind) fault before after
     item_not_listed known (faults.Refused f) (own, apart, u, l) = refused_so f own apart (known f) u
     item_not_listed known faults.CannotPrint (f, u, l, e) = cut_off f e l u
-    item_not_listed known faults.Memory (f, u, l) = listed_in_part f l u
+    item_not_listed known faults.Memory (f, u, l, e) = listed_in_part f l u
     item_not_listed known _ h = absurd h
 
 -- the output failed before the lines

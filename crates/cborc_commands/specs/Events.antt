@@ -1,8 +1,8 @@
 -- Why `events` ends without the lines of a whole file.
 use Rattle.std.specs.Prelude.{ℕ, ◌≡◌, ◌≢◌, ◌<◌, ◌≤◌, ◌⊎◌, List, length, Option}
 use Rattle.std.specs.Io.KnownBytes.{Keeps}
-use Rattle.cbor_head.specs.{Prelude.Bounds, Prelude.refusal, declared.reason.Reason.TheVariants.Trailing, declared.reason.Reason.TheVariants.Write}
-use Rattle.cbor_head.specs.declared.reason.Refusal.{Refusal}
+use Rattle.cbor_head.specs.declared.reason.Reason.TheVariants.{Trailing, Read, Write}
+use Rattle.cbor_head.specs.{Prelude.Bounds, Prelude.refusal, declared.reason.Refusal.Refusal}
 use Rattle.cborc_files.specs.Folder.{Files}
 use Rattle.cborc_commands.specs.declared.fault.Fault.TheVariants as faults
 use Rattle.cborc_commands.specs.{EventStyles.AreListed, EventStyles.AreUnlisted, declared.request.EventStyle.EventStyle, Input.IsInput, Fault.IsOfInput}
@@ -15,12 +15,12 @@ pub record IsFollowed (style : EventStyle) (limits : Bounds) (input : List ℕ) 
   pub followed : size < length input
   pub is : f ≡ refusal Trailing size size
 
--- the same of a whole input, or a byte follows the item
+-- The same of a whole input, or a byte follows the item. Memory is reported where a read failed, as none of a slice does.
 abbrev pub IsNotListed : EventStyle → Bounds → List ℕ → Option (List ℕ) → Option (List ℕ) → Fault → Type 0
 IsNotListed style limits input old new (faults.Refused f) =
     IsOfInput f.reason × (f.reason ≢ Write) × ((AreUnlisted style 0 limits input f old new × (f.read ≤ length input)) ⊎ IsFollowed style limits input old new f)
 IsNotListed style limits input old new faults.CannotPrint = (f : Refusal) × AreUnlisted style 0 limits input f old new × (f.read ≤ length input) × (f.reason ≡ Write)
-IsNotListed style limits input old new faults.Memory = (f : Refusal) × AreUnlisted style 0 limits input f old new × (f.read ≤ length input)
+IsNotListed style limits input old new faults.Memory = (f : Refusal) × AreUnlisted style 0 limits input f old new × (f.read ≤ length input) × (f.reason ≡ Read)
 IsNotListed style limits input old new _ = ⊥
 
 -- the input at a path is one well-formed item, and standard output took its lines

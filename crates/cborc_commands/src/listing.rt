@@ -2,6 +2,8 @@
 
 ghost use Rattle.std.specs.Prelude.{◌≡◌, ◌≤◌, ◌<◌, ◌+◌, ◌^◌, false, length, IfOk, IfErr};
 ghost use Rattle.cborc_commands.specs.EventStyles.{AreListed, AreUnlisted};
+ghost use Rattle.cbor_head.specs.Complaint.{form};
+ghost use Rattle.cbor_diag.specs.Listing.{IsListingReason};
 ghost use Rattle.cborc_commands.specs.inner.Decided.{IsDecided};
 ghost use Rattle.cborc_commands.specs.inner.Listed.{IsPrefixNotListed};
 
@@ -50,6 +52,7 @@ fn write_lines<W: Write>(
     ensures within { IfOk result (λ size. size ≤ length bytes.now) }
     ensures unlisted { IfErr result (λ f. AreUnlisted event_style start limits bytes.now f
         (W.contents out.old) (W.contents out.new)) }
+    ensures reasons { IfErr result (λ f. IsListingReason f.reason) }
     ensures read { IfErr result (λ f. f.read ≤ length bytes.now) }
 {
     match event_style {
@@ -64,7 +67,7 @@ fn write_lines<W: Write>(
 /// Whether what stands behind these bytes may report more of the item at their prefix: by its form they
 /// end within it or with it.
 pub fn is_undecided(bytes: &[u8], limits: Limits) -> bool
-    ensures { result ≡ false → IsDecided limits bytes.now }
+    ensures { result ≡ false → IsDecided form limits bytes.now }
 {
     let mut reader = bytes;
     match listing_from(&mut reader, 0, limits, &mut io::sink()) {

@@ -1,10 +1,9 @@
 -- Where the byte behind some bytes of a text stands.
 use Rattle.std.proofs.Common.{ℕ, ◌+◌, ◌<◌, ◌≡◌, ◌∙◌, List, [], ◌∷◌, ◌++◌, length, take, slice_index, fold, refl, sym, ap, subst, arith}
-use Rattle.std.proofs.{lemmas.List.take_more, lemmas.List.Sums.fold-append}
-use Rattle.cborc_files.specs.declared.hex_text.{DigitsFault.DigitsFault, HexError.HexError}
+use Rattle.std.proofs.lemmas.List.{take_more, Sums.fold-append}
 use Rattle.cborc_files.specs.declared.hex_text.DigitsFault.TheVariants as faults
-use Rattle.cborc_files.specs.Digits.{DigitsView}
 use Rattle.cborc_files.specs.Place.{line_behind, column_behind, MovesOn, IsOfHexText, IsOtherAt, IsFirstOther}
+use Rattle.cborc_files.specs.{declared.hex_text.DigitsFault.DigitsFault, declared.hex_text.HexError.HexError, Digits.DigitsView}
 
 pub stays : (d : DigitsView) → MovesOn [] d d
 stays d = record { line = refl; column = refl }

@@ -1,9 +1,8 @@
 -- Where in a text its first byte stands that is no hex text: its line and column, both from 1.
 use Rattle.std.specs.Prelude.{ℕ, ◌≡◌, ◌+◌, ◌-◌, ◌^◌, ◌<◌, ◌⊎◌, ◌==◌, if◌then◌else◌, min, true, List, length, take, slice_index, fold, Some, None, IsSome}
 use Rattle.hex.specs.Hex.{hex_digit_value}
-use Rattle.cborc_files.specs.declared.hex_text.{DigitsFault.DigitsFault, HexError.HexError}
 use Rattle.cborc_files.specs.declared.hex_text.DigitsFault.TheVariants as faults
-use Rattle.cborc_files.specs.{Digits.DigitsView, Hex.is_white}
+use Rattle.cborc_files.specs.{declared.hex_text.DigitsFault.DigitsFault, declared.hex_text.HexError.HexError, Digits.DigitsView, Hex.is_white}
 
 -- the next number, up to the greatest that is reported
 abbrev pub next : ℕ → ℕ

@@ -1,7 +1,7 @@
 -- What a folder keeps for an explanation.
 use Rattle.std.specs.Prelude.{◌≡◌, ℕ, List, Option, Some, option_map}
-use Rattle.cborc_files.specs.declared.{recording.RecordingFolder.RecordingFolder, hex_text.HexError.HexError, hex_text.DigitsFault.DigitsFault}
 use Rattle.cborc_files.specs.declared.hex_text.DigitsFault.TheVariants as faults
+use Rattle.cborc_files.specs.declared.{recording.RecordingFolder.RecordingFolder, hex_text.HexError.HexError, hex_text.DigitsFault.DigitsFault}
 
 -- the bytes that an answer spoke of in the last file
 abbrev pub last_of : {F D : Type 0} → RecordingFolder F D → Option (List ℕ)
