@@ -7,7 +7,7 @@ use Rattle.cborc_commands.specs.{Rules.rules_of, declared.input.Judge.Judge, dec
 -- the rules by which the first item of an input is judged
 abbrev pub judging_rules : Judge → Rules
 judging_rules Form = form
-judging_rules (Item accepted) = rules_of accepted
+judging_rules (Item which) = rules_of which
 
 -- what these bytes report of their first item does not depend on what follows them: by these rules they end neither within it nor with it
 pub record IsDecided (rules : Rules) (limits : Bounds) (bytes : List ℕ) : Type 0 where
