@@ -14,10 +14,10 @@ use Rattle.cborc_commands.proofs.Prefixes.{canonical_whole, refusal_whole, is_wh
 use Rattle.cborc_commands.specs.Check.{accepted_bytes, IsWhole, IsChecked, IsNotChecked}
 use Rattle.cborc_commands.specs.Compare.{IsReported, IsUnreported, AreInputs, AreCompared, AreNotCompared}
 use Rattle.cborc_commands.specs.Events.{IsNotListed, IsListedOf, IsNotListedOf}
-use Rattle.cborc_commands.{specs.EventStyles.AreListed, specs.declared.request.EventStyle.EventStyle, proofs.Files.input_before, proofs.Files.input_is_there, specs.inner.Decided.IsEnough}
-use Rattle.cborc_commands.specs.{inner.NotWritten.IsNoText, inner.NotWritten.IsNotTaken, Put.IsPut, Put.IsNotPut, inner.Start.StartsInput}
-use Rattle.cborc_commands.specs.{Fault.IsOfInput, Fault.refusal_fault, declared.request.TextStyle.TextStyle, declared.status.Status.Status}
-use Rattle.cborc_commands.specs.declared.{request.Options.Options, request.Output.Output, fault.Fault.Fault}
+use Rattle.cborc_commands.{specs.EventStyles.AreListed, specs.declared.request.EventStyle.EventStyle, proofs.Files.input_before, proofs.Files.input_is_there}
+use Rattle.cborc_commands.specs.{inner.Decided.IsEnough, inner.NotWritten.IsNoText, inner.NotWritten.IsNotTaken, Put.IsPut, Put.IsNotPut}
+use Rattle.cborc_commands.specs.{inner.Start.StartsInput, Fault.IsOfInput, Fault.refusal_fault, declared.request.TextStyle.TextStyle}
+use Rattle.cborc_commands.specs.declared.{status.Status.Status, request.Options.Options, request.Output.Output, fault.Fault.Fault}
 use Rattle.cborc_commands.proofs.{Faults.refusal_is, ItemFiles.put_kept, Whole.AreAccepted, Whole.read_as}
 use Rattle.cborc_commands.specs.{Canon.HasText, Canon.IsNotCanonised, Show.IsShownOf, Show.IsNotShown}
 

@@ -7,13 +7,12 @@ use Rattle.cborc_files.specs.Digits.{DigitsView, EndsIn, Spells, SpellsOn, IsWho
 use Rattle.cborc_files.specs.Folder.{Files, Holds, IsNoDigits, ReadsOn, KeepsFiles}
 use Rattle.cborc_files.specs.declared.hex_text.DigitsFault.TheVariants as digits
 use Rattle.cborc_files.specs.declared.folder.FileFault.TheVariants as file_faults
-use Rattle.cborc_files.specs.declared.folder.FileFault.{FileFault}
-use Rattle.cborc_files.specs.{Hex.is_kept, declared.hex_text.DigitsFault.DigitsFault}
+use Rattle.cborc_files.specs.{declared.folder.FileFault.FileFault, Hex.is_kept, declared.hex_text.DigitsFault.DigitsFault}
 use Rattle.cborc_commands.specs.Input.{IsInput, IsPrefix, IsNotHex}
 use Rattle.cborc_commands.specs.declared.fault.Fault.TheVariants as faults
 use Rattle.cborc_commands.specs.inner.Sources.{StartsFile, Gives, IsAll, HasGiven, IsFresh, Adds, IsPartAdded, IsUndecoded, IsHexErrorText, IsNoPart, StartsInputAt, HasInput, HasNoInput}
-use Rattle.cborc_commands.{proofs.Files.held_before, proofs.Files.keeps_keeps, proofs.Files.there_before, specs.NoInput.IsNoInput, specs.declared.fault.Fault.Fault}
-use Rattle.cborc_commands.specs.declared.source.Source.{Source}
+use Rattle.cborc_commands.proofs.Files.{held_before, keeps_keeps, there_before}
+use Rattle.cborc_commands.specs.{NoInput.IsNoInput, declared.fault.Fault.Fault, declared.source.Source.Source}
 
 pub same_files : (held : Option Files) → KeepsFiles held held
 same_files None = tt

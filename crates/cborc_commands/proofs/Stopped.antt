@@ -14,10 +14,11 @@ use Rattle.cborc_commands.specs.CanonSequence.{HasCanonicalBytes, canonical_text
 use Rattle.cborc_commands.specs.EventsSequence.{item_lines, all_lines, IsListedInPart, listed_to, listed_short, IsListedSoFar, items_listed, prefix_listed, IsSequenceNotListed}
 use Rattle.cborc_commands.specs.ShowSequence.{item_text, IsSequenceShown, IsSequenceNotShown}
 use Rattle.cborc_commands.specs.inner.SequenceItems.{IsCutText, IsUncounted, IsUnwritten, IsItemNotShown, IsItemNotListed}
-use Rattle.cborc_commands.{specs.Input.IsInput, specs.Input.IsPrefix, proofs.Files.input_is_there, proofs.Files.input_prefix, proofs.Files.replaced_by, proofs.Outputs.appends_more}
-use Rattle.cborc_commands.specs.{Put.printed, Put.written, Fault.at_item, NoInput.IsNoInput, declared.fault.Fault.Fault, declared.request.TextStyle.TextStyle}
-use Rattle.cborc_commands.specs.declared.request.{EventStyle.EventStyle, Options.Options, Output.Output}
-use Rattle.cborc_commands.{specs.CheckSequence.IsSequenceNotChecked, proofs.SequenceItems.texts_anywhere, proofs.SequenceItems.one_more_starts}
+use Rattle.cborc_commands.proofs.Files.{input_is_there, input_prefix, replaced_by}
+use Rattle.cborc_commands.{specs.Input.IsInput, specs.Input.IsPrefix, proofs.Outputs.appends_more, specs.Put.printed, specs.Put.written, specs.Fault.at_item}
+use Rattle.cborc_commands.specs.{NoInput.IsNoInput, declared.fault.Fault.Fault, declared.request.TextStyle.TextStyle, declared.request.EventStyle.EventStyle}
+use Rattle.cborc_commands.specs.{declared.request.Options.Options, declared.request.Output.Output, CheckSequence.IsSequenceNotChecked}
+use Rattle.cborc_commands.proofs.SequenceItems.{texts_anywhere, one_more_starts}
 
 -- ---- any sequence
 

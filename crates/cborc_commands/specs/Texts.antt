@@ -2,8 +2,7 @@
 use Rattle.std.specs.Prelude.{ℕ, ◌≡◌, ◌<◌, ◌++◌, List, length, take, codes, Option}
 use Rattle.std.specs.Io.KnownBytes.{Appends}
 use Rattle.hex.specs.Hex.{encode_lower}
-use Rattle.cbor_head.specs.Prelude.{Bounds, Value}
-use Rattle.cbor_head.specs.declared.order.KeyOrder.{KeyOrder}
+use Rattle.cbor_head.specs.{Prelude.Bounds, Prelude.Value, declared.order.KeyOrder.KeyOrder}
 use Rattle.cbor_reader.specs.Canonicalise.{IsCanonicalOf}
 use Rattle.cbor_diag.specs.{Text.text, IndentedText.indented}
 use Rattle.cborc_commands.specs.declared.request.{Form.Form, Form.TheVariants.Raw, Form.TheVariants.Hex, TextStyle.TextStyle}

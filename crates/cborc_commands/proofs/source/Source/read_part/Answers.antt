@@ -1,6 +1,6 @@
 use Rattle.std.proofs.Common.{refl}
-use Rattle.cborc_commands.{proofs.Sources.by_reading, specs.inner.Sources.IsNoPart}
 use Rattle.cborc_commands.proofs.source.Source.read_part.Goals as goal
+use Rattle.cborc_commands.{proofs.Sources.by_reading, specs.inner.Sources.IsNoPart}
 
 pub returns-in-Err-clause-fault : goal.returns-in-Err-clause-fault
 returns-in-Err-clause-fault g c =
