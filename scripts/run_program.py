@@ -175,6 +175,25 @@ def sequences():
     os.remove(item)
 
 
+def long_items():
+    """Items of more bytes than are read at first: whole, cut off, with a byte behind, refused within."""
+    members = 3_000_000
+    whole = b"\x9a" + members.to_bytes(4, "big") + bytes(members)
+    size = len(whole)
+    for data, refused in (
+        (whole, b""),
+        (whole[:-1], b"refused 1 Truncated at %d\n" % (size - 1)),
+        (whole + b"\x00", b"refused 12 Trailing at %d\n" % size),
+        (whole[:2_000_000] + b"\x1c" + whole, b"refused 3 Reserved at 2000000\n"),
+    ):
+        path = write("long", data)
+        for words in (["check", "long"], ["check", "--strict", "long"], ["show", "long"], ["events", "long"], ["events", "--annotate", "long"], ["canon", "long", "-"]):
+            ended = run([*words, "--bytes", "1000000000"])
+            if (ended.returncode, ended.stderr) != (1 if refused else 0, refused):
+                faults.append(f"{words} of a long item: found {(ended.returncode, ended.stderr)}, and not {refused}")
+        os.remove(path)
+
+
 def parts():
     """Sequences longer than what is held of them, inputs without end, and files longer than memory."""
     item = b"\x58\x49" + bytes(range(73))
@@ -348,7 +367,7 @@ def pages():
                 faults.append(f"share/{name}: {shell} cannot read it")
 
 
-for part in (words, streams, outputs_that_fail, files, sequences, parts, leftovers, links, pages):
+for part in (words, streams, outputs_that_fail, files, sequences, long_items, parts, leftovers, links, pages):
     part()
 run_explained.test()
 run_limited.test()

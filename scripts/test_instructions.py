@@ -2,7 +2,9 @@
 """Counts the instructions of the program where its cost must not grow: scripts/test_instructions.py PROGRAM
 
 A sequence costs what its items cost by themselves: `canon --seq` of 32 items of 250 nested maps, each out of order, takes at most
-1.2 times the instructions of 32 runs over one. valgrind counts; where it is not there, the last line says so.
+1.2 times the instructions of 32 runs over one. An item costs what it costs in a sequence, also if the limit on its bytes is high:
+`check` of 6 MB takes at most 2.5 times the instructions of `check --seq`. valgrind counts; where it is not there, the last line
+says so.
 """
 
 import re
@@ -13,6 +15,7 @@ import tempfile
 from pathlib import Path
 
 ITEMS, LEVELS, PAYLOAD = 32, 250, 60000
+MEMBERS = 6_000_000
 
 
 def nested(levels, payload):
@@ -30,20 +33,34 @@ def instructions(program, words, folder):
     return int(re.search(r"Collected : (\d+)", ended.stderr)[1])
 
 
+def times_of_a_sequence(program, folder):
+    """What nested items cost as one sequence, by what they cost alone."""
+    item = nested(LEVELS, PAYLOAD)
+    (Path(folder) / "one").write_bytes(item)
+    (Path(folder) / "many").write_bytes(item * ITEMS)
+    one = instructions(program, ["canon", "--seq", "--depth", "256", "one", "out"], folder)
+    many = instructions(program, ["canon", "--seq", "--depth", "256", "many", "out"], folder)
+    return many / (ITEMS * one)
+
+
+def times_of_an_item(program, folder):
+    """What an array of many integers costs as an item, by what it costs as a sequence of one."""
+    (Path(folder) / "array").write_bytes(b"\x9a" + MEMBERS.to_bytes(4, "big") + bytes(MEMBERS))
+    words = ["--bytes", "1000000000", "array"]
+    return instructions(program, ["check", *words], folder) / instructions(program, ["check", "--seq", *words], folder)
+
+
 def main():
     program = str(Path(sys.argv[1]).resolve())
     if not shutil.which("valgrind"):
         print("instructions: not counted: valgrind is not there")
         return 0
     with tempfile.TemporaryDirectory() as folder:
-        item = nested(LEVELS, PAYLOAD)
-        (Path(folder) / "one").write_bytes(item)
-        (Path(folder) / "many").write_bytes(item * ITEMS)
-        one = instructions(program, ["canon", "--seq", "--depth", "256", "one", "out"], folder)
-        many = instructions(program, ["canon", "--seq", "--depth", "256", "many", "out"], folder)
-    times = many / (ITEMS * one)
-    print(f"instructions: {ITEMS} nested items as one sequence take {times:.2f} times what they take alone")
-    return 0 if times <= 1.2 else 1
+        of_a_sequence = times_of_a_sequence(program, folder)
+        of_an_item = times_of_an_item(program, folder)
+    print(f"instructions: {ITEMS} nested items as one sequence take {of_a_sequence:.2f} times what they take alone")
+    print(f"instructions: an item of {MEMBERS} bytes takes {of_an_item:.2f} times what it takes in a sequence")
+    return 0 if of_a_sequence <= 1.2 and of_an_item <= 2.5 else 1
 
 
 if __name__ == "__main__":

@@ -1,7 +1,7 @@
 -- Which fault a part of a subcommand passes on, and what it reports of the whole.
 use Rattle.std.proofs.Common.{ℕ, ◌≡◌, ◌++◌, inl, List, length, Option, refl, sym, subst}
 use Rattle.std.{specs.Io.KnownBytes.Appends, specs.Io.KnownBytes.Keeps, proofs.KnownBytes.Keeps-refl}
-use Rattle.cbor_head.specs.Prelude.{Rules, plain, Bounds, accepted, IsVerdict, Spelling, value_of}
+use Rattle.cbor_head.specs.Prelude.{Rules, form, plain, Bounds, accepted, IsVerdict, Spelling, value_of}
 use Rattle.cbor_head.specs.declared.{order.KeyOrder.KeyOrder, reason.Refusal.Refusal}
 use Rattle.cbor_verdict.specs.Readers.{IsReadAs}
 use Rattle.cbor_reader.specs.{Canonicalise.IsCanonicalOf, Canonicalise.IsRefusal, Comparing.IsSideRefusal, WholeItem.IsWholeItem, WholeItem.IsItemRefusal}
@@ -22,7 +22,7 @@ use Rattle.cborc_commands.proofs.{Faults.refusal_is, ItemFiles.put_kept, Whole.A
 use Rattle.cborc_commands.specs.{Canon.HasText, Canon.IsNotCanonised, Show.IsShownOf, Show.IsNotShown}
 
 module _ (o : KeyOrder) (options : Options) (source : List ℕ) (output : Output) (held : Option Files) where
-  text_whole : (bytes text : List ℕ) (s : StartsInput held source options bytes) → IsCanonicalText options.limits o output.form bytes text
+  text_whole : (bytes text : List ℕ) (s : StartsInput plain held source options bytes) → IsCanonicalText options.limits o output.form bytes text
       → IsCanonicalText options.limits o output.form s.input text
   text_whole bytes text s t = record {
     canonical = t.canonical;
@@ -30,13 +30,13 @@ module _ (o : KeyOrder) (options : Options) (source : List ℕ) (output : Output
     formed = t.formed;
   }
 
-  pub canonised : (mid new : Option Files) (before after : Option (List ℕ)) (bytes text : List ℕ) → StartsInput held source options bytes
+  pub canonised : (mid new : Option Files) (before after : Option (List ℕ)) (bytes text : List ℕ) → StartsInput plain held source options bytes
       → IsCanonicalText options.limits o output.form bytes text → KeepsFiles held mid → IsPut output.path.now mid new before after text
       → HasText o options source output.form held (IsPut output.path.now held new before after)
   canonised mid new before after bytes text s t k p =
       record { input = s.input; is = s.is; text = text; canonical = text_whole bytes text s t; reported = put_kept output.path.now held mid new before after text k p }
 
-  pub not_put : (before after : Option (List ℕ)) (bytes text : List ℕ) → StartsInput held source options bytes → IsCanonicalText options.limits o output.form bytes text
+  pub not_put : (before after : Option (List ℕ)) (bytes text : List ℕ) → StartsInput plain held source options bytes → IsCanonicalText options.limits o output.form bytes text
       → (fault : Fault) → IsNotPut output.path.now fault × (fault ≡ faults.CannotPrint → GoesInPart before after text)
       → IsNotCanonised o options source output held before after fault
   not_put before after bytes text s t faults.CannotPrint (h, cut) =
@@ -45,7 +45,7 @@ module _ (o : KeyOrder) (options : Options) (source : List ℕ) (output : Output
   not_put before after bytes text s t faults.Memory h = input_is_there held source options.hex s.input s.is
   not_put before after bytes text s t _ h = absurd h.0
 
-  pub no_text : (before after : Option (List ℕ)) (bytes : List ℕ) → StartsInput held source options bytes → (fault : Fault)
+  pub no_text : (before after : Option (List ℕ)) (bytes : List ℕ) → StartsInput plain held source options bytes → (fault : Fault)
       → IsNoText options.limits o bytes fault → IsNotCanonised o options source output held before after fault
   no_text before after bytes s (faults.Refused f) h = (
     s.input,
@@ -57,9 +57,9 @@ module _ (o : KeyOrder) (options : Options) (source : List ℕ) (output : Output
   no_text before after bytes s _ h = absurd h
 
 module _ (rules : Rules) (options : Options) (source : List ℕ) (held : Option Files) (bytes : List ℕ)
-    (s : StartsInput held source options bytes) where
+    (s : StartsInput rules held source options bytes) where
   whole_of : (size : ℕ) → IsWhole options.limits rules bytes size → IsWhole options.limits rules s.input size
-  whole_of size w = subst (λ (b : List ℕ). IsWhole options.limits rules b size) s.splits (is_whole options.limits bytes s.behind s.enough rules size w)
+  whole_of size w = subst (λ (b : List ℕ). IsWhole options.limits rules b size) s.splits (is_whole rules options.limits bytes s.behind s.enough size w)
 
   pub checked : (size : ℕ) → IsWhole options.limits rules bytes size → (Reported : List ℕ → Type 0) → Reported (accepted_bytes size) → IsChecked rules options source held Reported
   checked size w Reported t = record { input = s.input; is = s.is; size = size; whole = whole_of size w; reported = t }
@@ -76,11 +76,11 @@ module _ (rules : Rules) (options : Options) (source : List ℕ) (held : Option 
       refusal_is (IsNotChecked rules options source held before after) f fault e (λ own. (
         s.input,
         s.is,
-        subst (λ (b : List ℕ). IsItemRefusal options.limits rules b f) s.splits (item_refusal_whole options.limits bytes s.behind s.enough rules f (h own)),
+        subst (λ (b : List ℕ). IsItemRefusal options.limits rules b f) s.splits (item_refusal_whole rules options.limits bytes s.behind s.enough f (h own)),
         own,
       )) (λ other. input_is_there held source options.hex s.input s.is)
 
-module _ (options : Options) (source : List ℕ) (held : Option Files) (bytes : List ℕ) (s : StartsInput held source options bytes) where
+module _ (options : Options) (source : List ℕ) (held : Option Files) (bytes : List ℕ) (s : StartsInput plain held source options bytes) where
   -- ---- `show`
 
   -- an item that is all of the bytes
@@ -115,12 +115,13 @@ module _ (options : Options) (source : List ℕ) (held : Option Files) (bytes : 
       refusal_is (IsNotShown text_style options source held before after) f fault e (λ own. (
         s.input,
         s.is,
-        subst (λ (b : List ℕ). IsItemRefusal options.limits plain b f) s.splits (item_refusal_whole options.limits bytes s.behind s.enough plain f (h own)),
+        subst (λ (b : List ℕ). IsItemRefusal options.limits plain b f) s.splits (item_refusal_whole plain options.limits bytes s.behind s.enough f (h own)),
         own,
       )) (λ other. (input_is_there held source options.hex s.input s.is, keeps))
 
-  -- ---- `events`
+-- ---- `events`
 
+module _ (options : Options) (source : List ℕ) (held : Option Files) (bytes : List ℕ) (s : StartsInput form held source options bytes) where
   pub listed_of : (style : EventStyle) (before after : Option (List ℕ)) → AreListed style 0 options.limits bytes (length bytes) before after
       → IsListedOf style options source held before after
   listed_of style before after h = record {
@@ -139,7 +140,7 @@ module _ (options : Options) (source : List ℕ) (held : Option Files) (bytes : 
 
 -- ---- `compare`
 
-module _ (limits : Bounds) (left left_behind right right_behind : List ℕ) (enough : IsEnough limits left left_behind) (enough_too : IsEnough limits right right_behind)
+module _ (limits : Bounds) (left left_behind right right_behind : List ℕ) (enough : IsEnough plain limits left left_behind) (enough_too : IsEnough plain limits right right_behind)
     (are : AreAccepted limits left) (are_too : AreAccepted limits right) where
   prefixes_equal : IsWholeItem limits left × IsWholeItem limits right → (left ≡ left ++ left_behind) × (right ≡ right ++ right_behind)
   prefixes_equal (l, r) = (whole_item limits left left_behind enough are l, whole_item limits right right_behind enough_too are_too r)
@@ -159,8 +160,8 @@ module _ (limits : Bounds) (left left_behind right right_behind : List ℕ) (eno
   left_whole l = subst (IsWholeItem limits) (whole_item limits left left_behind enough are l) l
 
   side_whole : (side : Side) (f : Refusal) → IsSideRefusal limits left right side f → IsSideRefusal limits (left ++ left_behind) (right ++ right_behind) side f
-  side_whole Left f h = item_refusal_whole limits left left_behind enough plain f h
-  side_whole Right f (l, h) = (left_whole l, item_refusal_whole limits right right_behind enough_too plain f h)
+  side_whole Left f h = item_refusal_whole plain limits left left_behind enough f h
+  side_whole Right f (l, h) = (left_whole l, item_refusal_whole plain limits right right_behind enough_too f h)
 
   pub unreported_whole : (before after : Option (List ℕ)) (fault : Fault) → IsUnreported limits left right before after fault
       → IsUnreported limits (left ++ left_behind) (right ++ right_behind) before after fault
@@ -171,7 +172,7 @@ module _ (limits : Bounds) (left left_behind right right_behind : List ℕ) (eno
   unreported_whole before after _ h = absurd h
 
 module _ (options : Options) (left right : List ℕ) (old mid : Option Files) (keeps : KeepsFiles old mid) (first second : List ℕ)
-    (s : StartsInput old left options first) (t : StartsInput mid right options second) (are : AreAccepted options.limits first) (are_too : AreAccepted options.limits second) where
+    (s : StartsInput plain old left options first) (t : StartsInput plain mid right options second) (are : AreAccepted options.limits first) (are_too : AreAccepted options.limits second) where
   both : AreInputs old left right options s.input t.input
   both = record { left_is = s.is; right_is = input_before old mid right options.hex t.input keeps t.is }
 

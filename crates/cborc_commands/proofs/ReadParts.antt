@@ -1,6 +1,7 @@
 -- An input that is read part by part.
 use Rattle.std.proofs.Common.{ℕ, ◌+◌, ◌*◌, ◌≡◌, ◌<◌, ◌⊎◌, inl, inr, Bool, true, false, Option, List, [], ◌++◌, length, drop, refl, sym, ap, ◌∙◌, arith, subst, append_assoc, append-nil, length-append}
 use Rattle.std.proofs.Math.Seq.{drop-append_seam}
+use Rattle.cbor_head.specs.Prelude.{Rules}
 use Rattle.cborc_files.specs.Folder.{Files, KeepsFiles}
 use Rattle.cborc_commands.specs.inner.Parts.{PartsView, IsReadTo, IsNextPart}
 use Rattle.cborc_commands.specs.inner.Sources.{HasGiven, IsFresh, IsPartAdded, IsNoPart, StartsInputAt, HasInput, HasNoInput}
@@ -64,11 +65,11 @@ module _ (held now : Option Files) (path : List ℕ) (hex : Bool) (taken : List 
   no_next_part fault h = subst (λ (b : Bool). IsNoInput held path b fault) r.hex_is (no_part held now path p.source (taken ++ p.rest) keeps r.given fault h)
 
 -- the bytes that were read so far, where that is enough
-pub parts_enough : (held now : Option Files) (path : List ℕ) (options : Options) (p : PartsView) → KeepsFiles held now → IsReadTo held path options.hex [] p → HasInput now path p.source
-    → (p.source.ended ≡ true) ⊎ IsDecided options.limits p.rest → (bytes : List ℕ) → bytes ≡ p.rest → StartsInput held path options bytes
-parts_enough held now path options p keeps r h ends bytes same =
+pub parts_enough : (rules : Rules) (held now : Option Files) (path : List ℕ) (options : Options) (p : PartsView) → KeepsFiles held now → IsReadTo held path options.hex [] p → HasInput now path p.source
+    → (p.source.ended ≡ true) ⊎ IsDecided rules options.limits p.rest → (bytes : List ℕ) → bytes ≡ p.rest → StartsInput rules held path options bytes
+parts_enough rules held now path options p keeps r h ends bytes same =
     let k = input_there held now path options.hex [] p keeps r h in
-    subst (StartsInput held path options) (sym same) (record {
+    subst (StartsInput rules held path options) (sym same) (record {
       input = p.rest ++ k.behind;
       is = k.is;
       behind = k.behind;

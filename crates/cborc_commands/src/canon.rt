@@ -7,8 +7,8 @@ ghost use Rattle.cborc_commands.specs.Canon.{HasText, IsNotCanonised};
 ghost use Rattle.cborc_files.specs.Folder.{KeepsFiles};
 
 use crate::fault::Fault;
-use crate::input::read_item;
-use crate::request::{Options, Output};
+use crate::input::{Judge, read_item};
+use crate::request::{Accepted, Options, Output};
 use crate::texts::canonical_text;
 use cbor_head::{KeyOrder, Limits};
 use cbor_item::write_whole;
@@ -39,7 +39,7 @@ pub fn canon<'a, F: Folder, O: Write>(
 {
     let limits = options.limits;
     let Output { path, form } = output;
-    let bytes = read_item(alloc, files, source, options)?;
+    let bytes = read_item(alloc, files, source, Judge::Item(Accepted::Valid), options)?;
     let text = canonical_text(alloc, bytes.as_slice(), limits, order, form)?;
     put(files, out, path, text.as_slice())
 }

@@ -11,7 +11,7 @@ ghost use Rattle.cborc_files.specs.Folder.{KeepsFiles};
 
 use crate::fault::Fault;
 use crate::first_item::Scratch;
-use crate::input::read_item;
+use crate::input::{Judge, read_item};
 use crate::request::{Accepted, Options};
 use cbor_head::{Limits, Reason, Refusal};
 use cbor_item::write_whole;
@@ -38,7 +38,7 @@ pub fn check<'a, F: Folder, O: Write>(
     ensures same { F.behind files.new ≡ F.behind files.old }
 {
     let limits = options.limits;
-    let bytes = read_item(alloc, files, source, options)?;
+    let bytes = read_item(alloc, files, source, Judge::Item(accepted), options)?;
     let mut scratch = Scratch::new(alloc);
     let size = size_of_item(&mut scratch, bytes.as_slice(), accepted, limits)?;
     report(alloc, out, size)

@@ -6,8 +6,8 @@ ghost use Rattle.cborc_commands.specs.Compare.{IsReported, IsUnreported, AreComp
 ghost use Rattle.cborc_files.specs.Folder.{KeepsFiles};
 
 use crate::fault::Fault;
-use crate::input::read_item;
-use crate::request::Options;
+use crate::input::{Judge, read_item};
+use crate::request::{Accepted, Options};
 use crate::status::Status;
 use cbor_head::Limits;
 use cbor_item::write_whole;
@@ -37,8 +37,9 @@ pub fn compare<'a, F: Folder, O: Write>(
     ensures same { F.behind files.new ≡ F.behind files.old }
 {
     valid_items();
-    let first = read_item(alloc, files, left, *options)?;
-    let second = read_item(alloc, files, right, *options)?;
+    let judge = Judge::Item(Accepted::Valid);
+    let first = read_item(alloc, files, left, judge, *options)?;
+    let second = read_item(alloc, files, right, judge, *options)?;
     report(
         alloc,
         out,

@@ -6,7 +6,7 @@ ghost use Rattle.cborc_commands.specs.Events.{IsNotListed, IsListedOf, IsNotList
 ghost use Rattle.cborc_files.specs.Folder.{KeepsFiles};
 
 use crate::fault::Fault;
-use crate::input::read_item;
+use crate::input::{Judge, read_item};
 use crate::listing::list_prefix;
 use crate::request::{EventStyle, Options};
 use cbor_head::{Limits, Reason, Refusal};
@@ -32,7 +32,7 @@ pub fn events<'a, F: Folder, O: Write>(
     ensures same { F.behind files.new ≡ F.behind files.old }
 {
     let limits = options.limits;
-    let bytes = read_item(alloc, files, source, options)?;
+    let bytes = read_item(alloc, files, source, Judge::Form, options)?;
     list(event_style, bytes.as_slice(), limits, out)
 }
 

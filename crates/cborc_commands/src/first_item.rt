@@ -1,6 +1,6 @@
 //! The item at the start of some bytes: how many bytes it has, and its diagnostic text.
 
-ghost use Rattle.std.specs.Prelude.{◌≡◌, ◌≢◌, ◌≤◌, ◌++◌, ℕ, codes, OnOk, IfOk, IfErr};
+ghost use Rattle.std.specs.Prelude.{◌≡◌, ◌≢◌, ◌≤◌, ◌++◌, ℕ, codes, false, OnOk, IfOk, IfErr};
 ghost use Rattle.std.specs.Io.KnownBytes.{Appends};
 ghost use Rattle.cbor_head.specs.Complaint.{plain};
 ghost use Rattle.cbor_head.specs.Spelling.{Spelling, value_of};
@@ -12,13 +12,14 @@ ghost use Rattle.cbor_sinks.specs.BuiltPrefix.{IsBuiltPrefix};
 ghost use Rattle.cbor_item.specs.ViewValue.{view_value};
 ghost use Rattle.cborc_commands.specs.Rules.{rules_of};
 ghost use Rattle.cborc_commands.specs.Texts.{shown_text};
+ghost use Rattle.cborc_commands.specs.inner.Decided.{IsDecided};
 ghost use Rattle.cborc_commands.specs.inner.NotWritten.{IsNotTaken};
 
 use crate::fault::Fault;
 use crate::request::{Accepted, TextStyle};
 use bumpalo::Bump;
 use cbor_diag::{TextBuffer, diagnostic_view_indented};
-use cbor_head::{KeyOrder, Limits, Refusal};
+use cbor_head::{KeyOrder, Limits, Reason, Refusal};
 use cbor_item::{View, write_whole};
 use cbor_reader::{ItemCanonicaliser, ItemCheck, check_canonical, read_view};
 use std::alloc::Global;
@@ -56,6 +57,28 @@ impl Scratch {
         match accepted {
             Accepted::Valid => self.check.check(bytes, limits),
             Accepted::Canonical(order) => check_canonical(bytes, limits, order),
+        }
+    }
+
+    /// Whether what stands behind these bytes may report more of the item that they begin with: they
+    /// end within it or with it.
+    pub fn is_undecided<'a>(
+        &mut self,
+        bytes: &[u8],
+        accepted: Accepted,
+        limits: Limits,
+    ) -> Result<bool, Fault<'a>>
+        ensures decided { IfOk result (λ more. more ≡ false
+            → IsDecided (rules_of accepted) limits bytes.now) }
+        ensures memory { IfErr result (λ fault. fault ≡ Fault.Memory) }
+    {
+        match self.size_at_start(bytes, accepted, limits) {
+            Ok(size) => Ok(size == bytes.len() as u64),
+            Err(refusal) => match refusal.reason {
+                Reason::Truncated => Ok(true),
+                Reason::Memory | Reason::Read => Err(Fault::Memory),
+                _ => Ok(false),
+            },
         }
     }
 

@@ -1,15 +1,16 @@
-//! The bytes of an input.
+//! The bytes of an input that is to be one item.
 
 ghost use Rattle.std.specs.Prelude.{◌≡◌, ◌⊎◌, ◌^◌, ◌<◌, true, false, IfOk, IfErr};
 ghost use Rattle.cborc_files.specs.Folder.{KeepsFiles};
 ghost use Rattle.cborc_commands.specs.NoInput.{IsNoInput};
 ghost use Rattle.cborc_commands.specs.inner.Start.{StartsInput};
-ghost use Rattle.cborc_commands.specs.inner.Decided.{IsDecided};
+ghost use Rattle.cborc_commands.specs.inner.Decided.{judging_rules, IsDecided};
 
 use crate::fault::Fault;
+use crate::first_item::Scratch;
 use crate::input_parts::Parts;
 use crate::listing::is_undecided;
-use crate::request::Options;
+use crate::request::{Accepted, Options};
 use cbor_head::Limits;
 use cborc_files::Folder;
 use std::alloc::Global;
@@ -17,15 +18,27 @@ use std::alloc::Global;
 // How many bytes are read at first, where the limit is no lower.
 const FIRST: u64 = 1_310_721;
 
+/// By what the first item of an input is judged.
+#[derive(Clone, Copy)]
+pub enum Judge {
+    /// By its form alone.
+    Form,
+    /// By what is accepted of it.
+    Item(Accepted),
+}
+
 /// The first bytes of the input at this path: as many as decide whether it is one item within the
-/// limits, no more than twice as many as the item has, or 1,310,721. Hex text is read to its end.
+/// limits, no more than twice as many as the item has, or 1,310,721. Where these are not enough, as
+/// many again are read, and all are judged again. Hex text is read to its end.
 pub fn read_item<'a, F: Folder>(
     alloc: Global,
     files: &mut F,
     path: &'a str,
+    judge: Judge,
     options: Options,
 ) -> Result<Vec<u8>, Fault<'a>>
-    ensures prefix { IfOk result (λ v. StartsInput (F.held files.old) path.now options v.items) }
+    ensures prefix { IfOk result (λ v. StartsInput (judging_rules judge) (F.held files.old)
+        path.now options v.items) }
     ensures fault { IfErr result (IsNoInput (F.held files.old) path.now options.hex) }
     ensures keeps { KeepsFiles (F.held files.old) (F.held files.new) }
     ensures same { F.behind files.new ≡ F.behind files.old }
@@ -33,10 +46,14 @@ pub fn read_item<'a, F: Folder>(
     let limits = options.limits;
     let least = first(options.hex, limits);
     let mut parts = Parts::open(alloc, files, path, options.hex, least)?;
-    'parts: while may_report_more(&parts, limits) {
+    let mut scratch = Scratch::new(alloc);
+    'parts: loop {
+        let more = may_report_more(&parts, &mut scratch, judge, limits)?;
+        if !more {
+            return parts.finish(alloc, files, path);
+        }
         parts.read_on(alloc, files, path)?;
     }
-    parts.finish(alloc, files, path)
 }
 
 // How many bytes of a file are read at first: as many as spell a byte more than the limit.
@@ -49,10 +66,22 @@ fn first(hex: bool, limits: Limits) -> u64
 }
 
 // Whether the input may go on, with what reports more of its first item.
-fn may_report_more(parts: &Parts, limits: Limits) -> bool
-    ensures yes { result ≡ true → parts.now.source.ended ≡ false }
-    ensures no { result ≡ false
-        → (parts.now.source.ended ≡ true) ⊎ IsDecided limits parts.now.rest }
+fn may_report_more<'a>(
+    parts: &Parts,
+    scratch: &mut Scratch,
+    judge: Judge,
+    limits: Limits,
+) -> Result<bool, Fault<'a>>
+    ensures yes { IfOk result (λ more. more ≡ true → parts.now.source.ended ≡ false) }
+    ensures no { IfOk result (λ more. more ≡ false → (parts.now.source.ended ≡ true)
+        ⊎ IsDecided (judging_rules judge) limits parts.now.rest) }
+    ensures memory { IfErr result (λ fault. fault ≡ Fault.Memory) }
 {
-    parts.goes_on() && is_undecided(parts.rest(), limits)
+    if !parts.goes_on() {
+        return Ok(false);
+    }
+    match judge {
+        Judge::Form => Ok(is_undecided(parts.rest(), limits)),
+        Judge::Item(accepted) => scratch.is_undecided(parts.rest(), accepted, limits),
+    }
 }

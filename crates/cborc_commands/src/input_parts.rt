@@ -125,6 +125,8 @@ impl Parts {
         path: &'a str,
     ) -> Result<(), Fault<'a>>
         ensures read { OnOk result (IsNextPart (F.held files.old) path.now self.old self.new) }
+        ensures doubles { OnOk result (self.new.source.ended ≡ false
+            → self.old.source.size + length self.old.rest ≤ self.new.source.size) }
         ensures fault { IfErr result (IsNoPart (F.held files.old) path.now self.old.source) }
         ensures keeps { KeepsFiles (F.held files.old) (F.held files.new) }
         ensures same { F.behind files.new ≡ F.behind files.old }

@@ -3,6 +3,7 @@
 ghost use Rattle.std.specs.Prelude.{◌≡◌, ◌≤◌, ◌<◌, ◌+◌, ◌^◌, false, length, IfOk, IfErr};
 ghost use Rattle.cbor_listing.specs.Listing.{IsListingReason};
 ghost use Rattle.cborc_commands.specs.EventStyles.{AreListed, AreUnlisted};
+ghost use Rattle.cbor_head.specs.Complaint.{form};
 ghost use Rattle.cborc_commands.specs.inner.Decided.{IsDecided};
 ghost use Rattle.cborc_commands.specs.inner.Listed.{IsPrefixNotListed};
 
@@ -66,7 +67,7 @@ fn write_lines<W: Write>(
 /// Whether what stands behind these bytes may report more of the item at their prefix: by its form they
 /// end within it or with it.
 pub fn is_undecided(bytes: &[u8], limits: Limits) -> bool
-    ensures { result ≡ false → IsDecided limits bytes.now }
+    ensures { result ≡ false → IsDecided form limits bytes.now }
 {
     let mut reader = bytes;
     match listing_from(&mut reader, 0, limits, &mut io::sink()) {

@@ -8,7 +8,7 @@ ghost use Rattle.cborc_files.specs.Folder.{KeepsFiles};
 use crate::check::size_of_item;
 use crate::fault::Fault;
 use crate::first_item::Scratch;
-use crate::input::read_item;
+use crate::input::{Judge, read_item};
 use crate::request::{Accepted, Options, TextStyle};
 use cborc_files::Folder;
 use std::alloc::Global;
@@ -32,7 +32,7 @@ pub fn show<'a, F: Folder, O: Write>(
     ensures same { F.behind files.new ≡ F.behind files.old }
 {
     let limits = options.limits;
-    let bytes = read_item(alloc, files, source, options)?;
+    let bytes = read_item(alloc, files, source, Judge::Item(Accepted::Valid), options)?;
     let prefix = bytes.as_slice();
     let mut scratch = Scratch::new(alloc);
     size_of_item(&mut scratch, prefix, Accepted::Valid, limits)?;

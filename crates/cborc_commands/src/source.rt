@@ -54,6 +54,7 @@ impl Source {
             bytes.old.items bytes.new.items) }
         ensures few { OnOk result (length bytes.new.items + self.old.size
             ≤ length bytes.old.items + self.new.size) }
+        ensures whole { OnOk result (self.new.ended ≡ false → self.old.size + most ≤ self.new.size) }
         ensures size { (self.old.size ≤ self.new.size) × (self.new.size < 2 ^ 63) }
         ensures fault { IfErr result (IsNoPart (F.held files.old) path.now self.old) }
         ensures keeps { KeepsFiles (F.held files.old) (F.held files.new) }
