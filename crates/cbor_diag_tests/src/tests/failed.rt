@@ -74,6 +74,7 @@ fn long_strings_are_cut_off(rt: HostRuntime) -> Result<(), Fail> {
     text.push(b'\'')?;
     for &(part, stop) in &STOPS {
         for &space in &SPACES {
+            assert!(rt; space <= text.len());
             let is_right = stops_behind(alloc, &tree, &text[..space], part, stop);
             assert!(rt; is_right, "at {space}");
         }
