@@ -9,8 +9,8 @@ ghost use Rattle.cborc_commands.specs.inner.Listed.{IsPrefixNotListed};
 
 use crate::fault::Fault;
 use crate::request::EventStyle;
-use cbor_listing::{annotated, listing_from};
 use cbor_head::{Limits, Reason, Refusal};
+use cbor_listing::{annotated, listing_from};
 use std::io::{self, Write};
 
 /// Writes the lines of the item at the start of the bytes, which start there in the input, and
