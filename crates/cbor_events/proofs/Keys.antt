@@ -17,9 +17,9 @@ use Rattle.cbor_machine.specs.declared.position.Position.TheVariants as position
 use Rattle.cbor_machine.specs.Machine.{StandsFor, KeepsLimits, IsComplete, IsGiven, wanted, wanted_within}
 use Rattle.cbor_machine.specs.NextEvent.{ItemEventsView, StandsBetween, IfReported, IsNext, machine_call, call}
 use Rattle.cbor_machine.specs.Steps.{Ran, Stopped as HasRefused}
+use Rattle.cbor_machine.specs.NextKey.{IsBasicKind, IsOtherKey, IsNextKey}
 use Rattle.cbor_machine.specs.{declared.position.Position.Position, MachineView.MachineView, Calls.HasRead}
 use Rattle.cbor_machine.proofs.{Buffers.head-answer, Buffers.refused-call, NextEvents.run-rest, NextEvents.whole-clear}
-use Rattle.cbor_events.specs.NextKey.{IsBasicKind, IsOtherKey, IsNextKey}
 use Rattle.cbor_events.specs.inner.Reads.{IsPartTaken, IsPartRead, HasTaken, HasStopped, IfGiven, HasFirst, IsFirstAnswer, IsTakenAt}
 use Rattle.cbor_events.specs.declared.part.PartialEvent.TheVariants.{Reported, Open, Stopped}
 use Rattle.cbor_events.specs.declared.part.PartialEvent.{PartialEvent}

@@ -1,18 +1,19 @@
 //! The events of one item, from a reader that each call is handed.
 
 ghost use Rattle.std.specs.Prelude.{◌≡◌, ◌≤◌, ◌<◌, ℕ, List, [], length, take, None, Some, OnOk};
-ghost use Rattle.std.specs.Prelude.{OnErr, IfErr, IfSome, Err, Option};
+ghost use Rattle.std.specs.Prelude.{OnErr, IfErr, IfSome, Err, Option, true, false};
 ghost use Rattle.cbor_automaton.specs.Trace.{Mark};
 ghost use Rattle.cbor_automaton.specs.Marks.{IsProper};
 ghost use Rattle.cbor_automaton.specs.Reasons.{IsEventReason};
 ghost use Rattle.cbor_machine.specs.Machine.{KeepsLimits, IsIdle, wanted};
 ghost use Rattle.cbor_machine.specs.NextEvent.{ItemEventsView, StandsBetween, IfReported, IsNext};
 ghost use Rattle.cbor_machine.specs.NextEvent.{call};
-ghost use Rattle.cbor_events.specs.NextKey.{IsKeyReason};
+ghost use Rattle.cbor_machine.specs.NextKey.{IsKeyReason, IsNextOf};
 
 mod key;
 mod reading;
 
+use crate::item_events::key::key_head;
 use crate::item_events::reading::advance;
 use cbor_automaton::Event;
 use cbor_head::{Limits, Refusal};
@@ -55,7 +56,7 @@ impl Model for ItemEvents {
 
 impl ItemEvents {
     /// The events of an item whose first byte is still to be read. Which kinds of keys its maps may
-    /// have is for the caller to ask for, by `next_key`.
+    /// have is for the caller to ask for, by `next_by_kind`.
     pub fn new(limits: Limits) -> ItemEvents
         ensures starts { StandsBetween result.machine [] [] }
         ensures limits { (result.machine.depth ≡ limits.depth)
@@ -111,10 +112,52 @@ impl ItemEvents {
         ensures again { IfSome self.old.refusal
             (λ f. (result ≡ Err f) × (self.new ≡ self.old) × (reader.new ≡ reader.old)) }
     {
+        self.next_by_kind(false, reader)
+    }
+
+    /// The next event, as [`next`](ItemEvents::next) reports it. If `is_asked`, a key or a break is
+    /// expected, and the key must be an integer or a text.
+    ///
+    /// The kind of that key is judged at its first byte, before any more is asked of the reader.
+    /// Where that byte may stand there, and is of another kind, it is taken, and refused at its
+    /// place: `KeyKind`, even where the byte limit is reached with it.
+    #[inline(always)]
+    pub fn next_by_kind<R: Read>(
+        &mut self,
+        is_asked: bool,
+        reader: &mut R,
+    ) -> Result<Option<Event>, Refusal>
+        // Where it is asked for, no payload is open.
+        requires head { is_asked ≡ true → self.old.refusal ≡ None
+            → self.old.machine.in_payload ≡ false }
+        // For all bytes and marks that the machine stood for, as long as nothing was refused.
+        ensures answers { self.old.refusal ≡ None
+            → (t : List ℕ) (ms : List Mark) → StandsBetween self.old.machine t ms
+            → IsNextOf is_asked result
+            (call self.old self.new (R.remaining reader.old) (R.remaining reader.new) t ms) }
+        ensures limits { KeepsLimits self.old.machine self.new.machine }
+        ensures proper { IfReported result (λ e. IsProper e.width e.kind) }
+        ensures live { OnOk result (self.new.refusal ≡ None) }
+        ensures refused { IfErr result (λ f. (self.new.refusal ≡ Some f)
+            × (self.new.machine.taken ≡ f.read) × IsKeyReason f.reason) }
+        ensures form { is_asked ≡ false → self.old.refusal ≡ None
+            → IfErr result (λ f. IsEventReason f.reason) }
+        ensures emptied { OnErr result (self.new.piece ≡ []) }
+
+        // Where nothing is wanted the reader is not touched, nor after a refusal.
+        ensures idle { IsIdle self.old.machine → reader.new ≡ reader.old }
+        ensures again { IfSome self.old.refusal
+            (λ f. (result ≡ Err f) × (self.new ≡ self.old) × (reader.new ≡ reader.old)) }
+    {
         if let Some(refusal) = self.refusal {
             return Err(refusal);
         }
-        match advance(&mut self.machine, reader, &mut self.buffer, &mut self.held) {
+        let answer = if is_asked {
+            key_head(&mut self.machine, reader)
+        } else {
+            advance(&mut self.machine, reader, &mut self.buffer, &mut self.held)
+        };
+        match answer {
             Ok(event) => Ok(event),
             Err(refusal) => {
                 self.refusal = Some(refusal);

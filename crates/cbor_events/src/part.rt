@@ -70,31 +70,6 @@ pub(crate) enum PartialEvent {
     Stopped(Refusal),
 }
 
-// The part, made anew. What a call has left in memory is then read where the call was, and what comes
-// without it stays in registers.
-#[inline(always)]
-fn part_anew(part: PartialEvent) -> PartialEvent
-    ensures { result ≡ part }
-{
-    match part {
-        PartialEvent::Reported(event) => PartialEvent::Reported(event),
-        PartialEvent::Open => PartialEvent::Open,
-        PartialEvent::Stopped(refusal) => PartialEvent::Stopped(refusal),
-    }
-}
-
-// An answer, made anew for the same reason.
-#[inline(always)]
-pub(crate) fn answer_anew(answer: Result<Option<Event>, Refusal>) -> Result<Option<Event>, Refusal>
-    ensures { result ≡ answer }
-{
-    match answer {
-        Ok(Some(event)) => Ok(Some(event)),
-        Ok(None) => Ok(None),
-        Err(refusal) => Err(refusal),
-    }
-}
-
 // Hands the machine bytes that it wants.
 #[inline(always)]
 fn take_read(machine: &mut Machine, part: &[u8]) -> PartialEvent
@@ -115,10 +90,11 @@ fn take_read(machine: &mut Machine, part: &[u8]) -> PartialEvent
     if part.len() == 1 && machine.begin_head(part[0]) {
         return PartialEvent::Open;
     }
-    take_apart(machine, part)
+    take_slowly(machine, part)
 }
 
-// Takes the bytes one by one, whatever they are.
+// Takes the bytes one by one, whatever they are, with a stack frame of its own, so that the caller's stays
+// small.
 #[inline(never)]
 fn take_slowly(machine: &mut Machine, part: &[u8]) -> PartialEvent
     requires some { 0 < length part.now }
@@ -138,23 +114,6 @@ fn take_slowly(machine: &mut Machine, part: &[u8]) -> PartialEvent
         Out::Done => unreachable!(),
         Out::Refused(refusal) => PartialEvent::Stopped(refusal),
     }
-}
-
-// Takes a part with a stack frame of its own, so that the caller's stays small.
-#[inline(always)]
-fn take_apart(machine: &mut Machine, part: &[u8]) -> PartialEvent
-    requires some { 0 < length part.now }
-    requires wanted { length part.now ≤ wanted machine.old }
-    ensures answers { (t : List ℕ) (ms : List Mark) → StandsFor machine.old t ms
-        → IsPartTaken result machine.old machine.new t part.now ms }
-    ensures limits { KeepsLimits machine.old machine.new }
-    ensures proper { IfPartReported result (λ e. IsProper e.width e.kind) }
-    ensures piece { IfPartReported result (λ e. kind_size e.kind ≤ length part.now) }
-    ensures taken { IfStopped result (λ f. machine.new.taken ≡ f.read) }
-    ensures reason { IfStopped result (λ f. IsMachineReason f.reason) }
-    ensures progress { result ≡ PartialEvent.Open → machine.old.taken < machine.new.taken }
-{
-    part_anew(take_slowly(machine, part))
 }
 
 // Reads at most so many bytes that the machine wants, by one call of `read`.

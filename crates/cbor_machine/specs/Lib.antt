@@ -5,6 +5,7 @@ pub mod Feed
 pub mod Machine
 pub mod MachineView
 pub mod NextEvent
+pub mod NextKey
 pub mod Saved
 pub mod State
 pub mod Steps

@@ -17,7 +17,7 @@ use Rattle.cbor_verdict.proofs.PlainPaths.{judged_repeat}
 use Rattle.cbor_parser.specs.inner.Cells.{StrictCell, last_key, key_at, IsKeyExpected, AreCells, StandsAt, HasEndedAt, HasClosed, OutOfOrder, TakesKey}
 use Rattle.cbor_parser.specs.declared.container.Expected.TheVariants.{Item, Key, Value}
 use Rattle.cbor_parser.specs.inner.OpenContainer.{after, after_expected, fewer}
-use Rattle.cbor_parser.specs.declared.{container.Expected.Expected, last_key.LastKey.LastKey, open_container.OpenContainer.OpenContainer}
+use Rattle.cbor_parser.specs.declared.{container.Expected.Expected, last_key.LastKey.LastKey}
 
 -- a part of the input
 pub slice_there : (input p q r : List ℕ) (from to : ℕ) → input ≡ (p ++ q) ++ r → from ≡ length p → to ≡ length (p ++ q) → slice_range input from to ≡ q

@@ -1,6 +1,6 @@
 -- Why nothing that rules accept stands where an item is expected.
 use Rattle.std.proofs.Common.{◌≡◌, ℕ, ◌+◌, ◌/◌, ◌%◌, ◌<◌, ◌≤◌, Bool, true, false, List, [], ◌∷◌, refl, sym, subst, inl, inr, arith, IsTrue}
-use Rattle.cbor_head.specs.Prelude.{Rules, OfHead, plain, strict, refusal, shortest}
+use Rattle.cbor_head.specs.Prelude.{Rules, OfHead, refusal, shortest}
 use Rattle.cbor_head.specs.declared.reason.Reason.TheVariants.{Truncated, KeyKind, Indefinite}
 use Rattle.cbor_head.specs.declared.{major.Major.Major, width.Width.Width, reason.Reason.Reason, reason.Refusal.Refusal}
 use Rattle.cbor_head.specs.{InitialByte.MayBegin, InitialByte.IsInitialByteError, declared.argument.Argument.Argument}

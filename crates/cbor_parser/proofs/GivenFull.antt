@@ -6,8 +6,9 @@ use Rattle.cbor_verdict.specs.Levels.{Level, some_member, some_key, bytes_before
 use Rattle.cbor_verdict.proofs.CleanParts.{clean-within}
 use Rattle.cbor_parser.specs.Sink.{Fills, StandsFull, Reported, takes_key, is_map, IsEndedAs, IsReportedFull, IsContainerFull, Ends, Repeats}
 use Rattle.cbor_parser.specs.inner.Parser.{HasEnded, IsFull, IsToEnd, IsCellFull, HasFilled, TakesTo, EndsTo}
-use Rattle.cbor_parser.specs.declared.part.Part.TheVariants as part
-use Rattle.cbor_parser.specs.{Expected.pairs, declared.part.Part.Part, inner.OpenContainer.Cell}
+use Rattle.cbor_parser.specs.declared.part.GivenPart.TheVariants as part
+use Rattle.cbor_parser.specs.declared.parser.SinkStop.TheVariants as stop
+use Rattle.cbor_parser.specs.{declared.part.GivenPart.GivenPart, Expected.pairs, inner.OpenContainer.Cell}
 
 -- a key is expected where a map ends
 ended-kind : (l : Level) (s : Spelling) → IsEndedAs l s → takes_key l ≡ is_map s
@@ -66,7 +67,7 @@ module _ (S : Type 0) (stands : S → S → ParseState → Type 0) (trusts : Boo
     full-repeats repeat repeats = known-as _ _ cs rest s (repeats start d s.ls s.item (fills-of _ cs rest s) stands-reported, s.given.1)
 
   -- what ends is taken
-  pub ends-takes : (holds : S → S → List Level → Bool → List ℕ → Type 0) (p : Part) (cs : List Cell) (g : S) (rest behind : List ℕ) → length behind < length rest → EndsTo S stands trusts p start d input cs g behind → TakesTo S stands trusts holds p start d input rest cs g
+  pub ends-takes : (holds : S → S → List Level → Bool → List ℕ → Type 0) (p : GivenPart) (cs : List Cell) (g : S) (rest behind : List ℕ) → length behind < length rest → EndsTo S stands trusts p start d input cs g behind → TakesTo S stands trusts holds p start d input rest cs g
   ends-takes holds (part.Item to) cs g rest behind l h = (subst (λ (x : List ℕ). length x < length rest) (sym h.0) l, subst (HasEnded S stands trusts start d input cs g) (sym h.0) h.1)
-  ends-takes holds part.Stopped cs g rest behind l h = tt
+  ends-takes holds (part.Stopped stop.Memory) cs g rest behind l h = tt
   ends-takes holds _ cs g rest behind l h = absurd h

@@ -5,7 +5,7 @@ use Rattle.cbor_head.specs.Prelude.{Complaint, plain, OfKinds, Holds, head, boun
 use Rattle.cbor_head.specs.Head as heads
 use Rattle.cbor_head.specs.Value as value
 use Rattle.cbor_head.specs.declared.major.Major.TheVariants as majors
-use Rattle.cbor_head.specs.declared.{keys.Keys.Keys, keys.Keys.TheVariants.Any, keys.Keys.TheVariants.IntegersAndTexts, major.Major.Major, width.Width.Width}
+use Rattle.cbor_head.specs.declared.{keys.Keys.Keys, keys.Keys.TheVariants.IntegersAndTexts, major.Major.Major, width.Width.Width}
 use Rattle.cbor_head.specs.declared.width.Width.TheVariants.{Indefinite}
 use Rattle.cbor_model.proofs.KeyKinds.{of_kind_in, of_kind_entries}
 use Rattle.cbor_verdict.specs.Kinds.{KeepsToKinds, IsKeyLevel, IsKeyExpectedIn, HasBasicPrefix}
@@ -13,15 +13,15 @@ use Rattle.cbor_verdict.specs.Levels.{Level, a_key, some_member, some_key, some_
 use Rattle.cbor_verdict.proofs.KindBytes.{Begins, head_is_one, keeps_expected}
 use Rattle.cbor_verdict.proofs.Levels.{of-opened, spelled-all, within-all, pairs-spelled, pairs-within}
 use Rattle.cbor_verdict.proofs.{Heads.open_or, Heads.takes, LevelFrames.around_levels, KindFrames.keeps_closed, KindFrames.keeps_start}
-use Rattle.cbor_verdict.{specs.PathKinds.asks, specs.PathKinds.IsFitPrefix, proofs.PathKinds.no_break, proofs.PathKinds.head_begun}
+use Rattle.cbor_verdict.{specs.PathKinds.IsFitPrefix, proofs.PathKinds.no_break, proofs.PathKinds.head_begun}
 use Rattle.cbor_parser.specs.inner.OpenContainer.{counted, behind_head, cell_of, cells_of}
 use Rattle.cbor_parser.specs.inner.Parts.{Counts, IsHead, IsOpener, IsItem, HasBegun, HasBroken, TakesPrefix, EndsBefore}
-use Rattle.cbor_parser.specs.declared.part.Part.TheVariants as part
+use Rattle.cbor_parser.specs.declared.part.GivenPart.TheVariants as part
 use Rattle.cbor_parser.specs.inner.OpenContainer.{Cell}
-use Rattle.cbor_parser.specs.{Stack.around, Stack.open_levels, declared.container.Expected.Expected}
+use Rattle.cbor_parser.specs.{declared.part.GivenPart.GivenPart, Stack.around, Stack.open_levels, declared.container.Expected.Expected}
 use Rattle.cbor_parser.specs.declared.{container.Expected.TheVariants.Item, container.Expected.TheVariants.Key, stack.Stack.Stack}
-use Rattle.cbor_parser.{proofs.Stacks.open_levels_count, specs.inner.Parser.IsExpected, specs.inner.Kept.KeepsBefore, specs.declared.part.Part.Part}
-use Rattle.cbor_parser.proofs.{GivenItems.IsScalar, GivenParts.height-is, GivenParts.cell-is}
+use Rattle.cbor_parser.{proofs.Stacks.open_levels_count, specs.inner.Parser.IsExpected, specs.inner.Kept.KeepsBefore, proofs.GivenItems.IsScalar}
+use Rattle.cbor_parser.proofs.GivenParts.{height-is, cell-is}
 
 -- ---- what begins so
 
@@ -57,7 +57,7 @@ opener-begun d m n c rest behind space k =
 
 -- ---- what is taken
 
-pub begun-takes : (p : Part) (d : ℕ) (c : Cell) (rest behind : List ℕ) → IsItem p → EndsBefore p behind → HasBegun d rest behind → TakesPrefix p d c rest
+pub begun-takes : (p : GivenPart) (d : ℕ) (c : Cell) (rest behind : List ℕ) → IsItem p → EndsBefore p behind → HasBegun d rest behind → TakesPrefix p d c rest
 begun-takes (part.Item to) d c rest behind i e h = subst (HasBegun d rest) (sym e) h
 begun-takes (part.Break to) d c rest behind i e h = absurd i
 begun-takes (part.Head to) d c rest behind i e h = absurd i
@@ -74,14 +74,6 @@ expected-key : (n : ℕ) (c : Cell) (cs : List Cell) (ls : List Level) → c ∷
 expected-key n c cs [] e h = absurd h
 expected-key n c cs (l ∷ ls) e h = ap (λ (x : Cell). x.expected) (cell-is n l ls e) ∙ level-key (behind_head n ls l) l h
 
--- kinds are asked for
-no-kinds : Any ≡ IntegersAndTexts → ⊥
-no-kinds e = cc e
-
-pub asked-kinds : (k : Keys) (kinds : Bool) → asks k ≡ kinds → k ≡ IntegersAndTexts → kinds ≡ true
-asked-kinds Any kinds e is = absurd (no-kinds is)
-asked-kinds IntegersAndTexts kinds e is = sym e
-
 -- an item begins so
 pub basic-prefix : (s : Spelling) → IsSpelled s → (x y z rest : List ℕ) → spell s ≡ x ++ z → rest ≡ x ++ y → IsFitPrefix rest → HasBasicPrefix x
 basic-prefix s h [] y z rest e f fit = tt
@@ -93,7 +85,7 @@ starts-kept d input keys = λ t e. subst (KeepsToKinds (with_keys (bounds d 0) k
 
 module _ (S : Type 0) (stands : S → S → ParseState → Type 0) (trusts : Bool) (start : S) (d : ℕ) (input : List ℕ) (keys : Keys) where
   -- behind an item that begins within them
-  pub begun-keeps : (k : Stack Cell) (cells : List Cell) (g : S) (rest behind : List ℕ) → k.height ≤ length cells → IsExpected S stands trusts start d input (open_levels Cell k cells) g rest → HasBegun (d - k.height) rest behind → (k.top.expected ≡ Key → IsFitPrefix rest)
+  pub begun-keeps : (k : Stack Cell) (cells : List Cell) (g : S) (rest behind : List ℕ) → k.height ≤ length cells → IsExpected S stands trusts start d input (open_levels Cell k cells) g rest → HasBegun (d - k.height) rest behind → (keys ≡ IntegersAndTexts → k.top.expected ≡ Key → IsFitPrefix rest)
       → KeepsBefore d keys input rest → KeepsBefore d keys input behind
   begun-keeps k cells g rest behind low s h fit keeps = λ t e.
       let height : length s.ls ≡ k.height = omega (arith, height-is S stands trusts start d input (open_levels Cell k cells) g rest s, open_levels_count Cell k cells low) in
@@ -102,7 +94,7 @@ module _ (S : Type 0) (stands : S → S → ParseState → Type 0) (trusts : Boo
       let whole : (bytes_before s.ls ++ h.prefix) ++ behind ≡ t ++ behind = append_assoc (bytes_before s.ls) h.prefix behind ∙ ap (λ (x : List ℕ). bytes_before s.ls ++ x) (sym h.is) ∙ sym s.bytes ∙ e in
       subst (KeepsToKinds (with_keys (bounds d 0) keys) plain) (append_cancel_right (bytes_before s.ls ++ h.prefix) t behind whole)
       (keeps_expected (with_keys (bounds d 0) keys) plain (around_levels d s.ls s.levels) h.prefix begins h.one
-      (λ asked expected. basic-prefix h.item h.spelled h.prefix behind h.more rest h.bytes h.is (fit (expected-key (length input) k.top (around Cell k cells) s.ls s.cells expected))) (keeps (bytes_before s.ls) s.bytes))
+      (λ asked expected. basic-prefix h.item h.spelled h.prefix behind h.more rest h.bytes h.is (fit asked.1 (expected-key (length input) k.top (around Cell k cells) s.ls s.cells expected))) (keeps (bytes_before s.ls) s.bytes))
 
   -- a container without a length ends
   pub broken-keeps : (c : Cell) (cs : List Cell) (g : S) (rest behind : List ℕ) → IsExpected S stands trusts start d input (c ∷ cs) g rest → HasBroken c rest behind → KeepsBefore d keys input rest → KeepsBefore d keys input behind

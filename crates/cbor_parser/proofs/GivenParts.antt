@@ -1,5 +1,5 @@
 -- A valid item, part by part, given to a sink: where the walk stands behind what a sink took.
-use Rattle.std.proofs.Common.{◌≡◌, ℕ, Bool, true, suc, ◌-◌, ◌^◌, ◌<◌, List, [], ◌∷◌, ◌++◌, length, take, refl, sym, ap, ap₂, ◌∙◌, subst, arith, inl, inr, append_assoc, append-nil, reverse, length-append}
+use Rattle.std.proofs.Common.{◌≡◌, ℕ, Bool, true, suc, ◌-◌, ◌^◌, ◌<◌, List, [], ◌∷◌, ◌++◌, length, take, refl, sym, ap, ap₂, ◌∙◌, subst, arith, inl, inr, append_assoc, append-nil, length-append}
 use Rattle.cbor_head.specs.Prelude.{plain, Holds, head, Bounds, Spelling, array, a_map, no_spellings, no_entries, spell, Value}
 use Rattle.cbor_head.specs.declared.major.Major.TheVariants as majors
 use Rattle.cbor_head.specs.declared.major.Major.{Major}
@@ -12,8 +12,8 @@ use Rattle.cbor_parser.specs.inner.Parser.{BeginsTaken, IsExpected, HasEnded, Is
 use Rattle.cbor_parser.specs.inner.OpenContainer.{counted, opener, behind_head, cell_of, cells_of}
 use Rattle.cbor_parser.specs.inner.Parts.{IsHead, IsOpener, Counts}
 use Rattle.cbor_parser.specs.inner.OpenContainer.{Cell}
-use Rattle.cbor_parser.specs.{Expected.awaits, Stack.open_levels, declared.container.Expected.Expected}
-use Rattle.cbor_parser.specs.declared.{container.Expected.TheVariants.Item, container.Expected.TheVariants.Key, stack.Stack.Stack}
+use Rattle.cbor_parser.specs.{Expected.awaits, declared.container.Expected.Expected}
+use Rattle.cbor_parser.specs.declared.container.Expected.TheVariants.{Item, Key}
 use Rattle.cbor_parser.proofs.GivenItems.{IsScalar, opener-whole}
 
 -- ---- how many are open
@@ -50,16 +50,8 @@ module _ (S : Type 0) (stands : S → S → ParseState → Type 0) (trusts : Boo
       (start, d, s.ls, record { levels = s.levels; short = omega (arith, s.small, ap length s.bytes, length-append (bytes_before s.ls) rest) }, (s.given, e ∙ key-awaited (length input) s.ls top outer s.cells))
 
   -- before the first part
-  pub starts : (k : Stack Cell) (g : S) (d : ℕ) (input : List ℕ) (cells : List Cell) → k.height ≡ 0 → k.top ≡ counted Item 0 0 → stands g g (item_expected []) → length input < 2 ^ 63 → (trusts ≡ true → BeginsTaken d input) → IsExpected S stands trusts g d input (open_levels Cell k cells) g input
-  starts k g d input cells none top fresh small known = record {
-    ls = [];
-    levels = tt;
-    cells = ap₂ (λ (x : Cell) (n : ℕ). x ∷ reverse (take n cells)) top none;
-    given = fresh;
-    bytes = refl;
-    small = small;
-    known = known;
-  }
+  pub starts : (g : S) (d : ℕ) (input : List ℕ) → stands g g (item_expected []) → length input < 2 ^ 63 → (trusts ≡ true → BeginsTaken d input) → IsExpected S stands trusts g d input (counted Item 0 0 ∷ []) g input
+  starts g d input fresh small known = record { ls = []; levels = tt; cells = refl; given = fresh; bytes = refl; small = small; known = known }
 
   -- the whole
   pub prefix-given : (start g : S) (b : Bounds) (input rest : List ℕ) (size : ℕ) → (h : IsBuilt S stands trusts start b.depth (take b.bytes input) g rest) → KeepsToKinds b plain (spell h.item) → size ≡ length (take b.bytes input) - length rest

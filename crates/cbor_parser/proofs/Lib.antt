@@ -14,14 +14,15 @@ pub mod GivenParts
 pub mod GivenStops
 pub mod KeyOrder
 pub mod KnownTexts
-pub mod Lefts
 pub mod LevelPaths
+pub mod ParserRules
 pub mod RepeatedKeys
 pub mod Repeats
 pub mod ShortHeads
 pub mod ShortLeaves
 pub mod Skips
 pub mod Stacks
+pub mod StrictPlaces
 pub mod Taking
 pub mod ReportedCells
 pub mod ReportedKeys

@@ -1,17 +1,15 @@
 -- Where a walk stops and the sink reports a key that is the same as an earlier one: the cell of its map, and what is reported of it.
-use Rattle.std.proofs.Common.{◌≡◌, ◌≤◌, ℕ, ◌^◌, Bool, Bor, Option, List, [], ◌∷◌, ◌++◌, length, refl, sym, ap, ◌∙◌, subst, append_assoc, inl, inr}
+use Rattle.std.proofs.Common.{◌≡◌, ◌≤◌, ℕ, ◌^◌, Bool, Option, List, [], ◌∷◌, ◌++◌, length, refl, sym, ap, ◌∙◌, subst, append_assoc, inl, inr}
 use Rattle.cbor_head.specs.Prelude.{Bounds, spell}
 use Rattle.cbor_builder.specs.declared.repeat.Repeat.{Repeat}
 use Rattle.cbor_verdict.specs.Levels.{Level, a_member, bytes_before, ParseState}
 use Rattle.cbor_parser.specs.inner.OpenContainer.{cell_of, cells_of, behind_head}
 use Rattle.cbor_parser.specs.inner.OpenMaps.{is_map_level, map_levels, map_cells, counts_one, FindsMap}
 use Rattle.cbor_parser.specs.inner.Repeated.{IsKeyReported, IsCellReported, IsKeyReportedIn}
-use Rattle.cbor_parser.specs.declared.parser.ParseEnd.TheVariants as parse_end
-use Rattle.cbor_parser.proofs.GivenStops.{StopsBefore, kept-before, come-before}
 use Rattle.cbor_parser.proofs.ReportedMaps.{IsReportedWithin, reported_within, reported_full}
 use Rattle.cbor_parser.specs.inner.OpenContainer.{Cell}
-use Rattle.cbor_parser.specs.{Expected.pairs, Sink.FindsRepeat, inner.Parser.IsRepeatVisited, inner.Parser.Meets}
-use Rattle.cbor_parser.{specs.inner.Kept.KeepsBefore, specs.inner.Kept.ParseEndKept, specs.declared.parser.ParseEnd.ParseEnd, proofs.GivenEnds.cell-behind}
+use Rattle.cbor_parser.specs.{Expected.pairs, Sink.FindsRepeat, inner.Parser.IsRepeatVisited, inner.Parser.HasCome, inner.Kept.KeepsBefore}
+use Rattle.cbor_parser.proofs.GivenEnds.{cell-behind}
 
 -- ---- the cells
 
@@ -43,28 +41,23 @@ module _ (limits : Bounds) (input : List ℕ) (small : length input ≤ 2 ^ 62) 
       let split : around ++ cells_of n ls ≡ (around ++ cs) ++ c ∷ cells_of n t.outer = ap (λ (ms : List Level). around ++ cells_of n ms) t.splits ∙ ap (λ (ds : List Cell). around ++ ds) e ∙ sym (append_assoc around cs (c ∷ cells_of n t.outer)) in
       (c, finds (around ++ cs) (cells_of n t.outer) c split (kind_of behind t.level ∙ t.is_map) (cells_maps n t.outer ∙ sym t.outside_is), subst (λ (m : ℕ). IsKeyReported limits input m pair) (sym (cell-behind behind t.level)) t.key)
 
-  module _ (S : Type 0) (stands : S → S → ParseState → Type 0) (trusts : Bool) (holds : S → S → List Level → Bool → List ℕ → Type 0) (start g : S) (m : ParseEnd) (cs : List Cell) (repeat : Repeat) (meets : Meets S stands trusts holds m start limits.depth input cs g) (kept : ParseEndKept m limits.depth limits.keys input) where
+  module _ (S : Type 0) (stands : S → S → ParseState → Type 0) (trusts : Bool) (holds : S → S → List Level → Bool → List ℕ → Type 0) (start g : S) (cs : List Cell) (rest : List ℕ) (repeat : Repeat) (keeps : KeepsBefore limits.depth limits.keys input rest) where
     -- where an item is expected, or a chunk
-    pub reported_where_expected : (rest : Bor (List ℕ)) → StopsBefore m rest → FindsRepeat S stands holds g repeat → IsKeyReportedIn limits input cs repeat
-    reported_where_expected rest stops reports = λ found finds.
-        let h = come-before S stands trusts holds start m rest limits.depth input cs g stops meets in
-        let keeps = kept-before m rest limits input stops kept in
-        among [] h.ls repeat.outside repeat.pair found (reported_within limits input small h.ls rest.now repeat h.levels h.bytes (keeps (bytes_before h.ls) h.bytes) (reports start h.ls h.given)) (subst (λ (ds : List Cell). FindsMap ds repeat.outside found) h.cells finds)
+    pub reported_where_expected : HasCome S stands trusts holds start limits.depth input cs g rest → FindsRepeat S stands holds g repeat → IsKeyReportedIn limits input cs repeat
+    reported_where_expected h reports = λ found finds.
+        among [] h.ls repeat.outside repeat.pair found (reported_within limits input small h.ls rest repeat h.levels h.bytes (keeps (bytes_before h.ls) h.bytes) (reports start h.ls h.given)) (subst (λ (ds : List Cell). FindsMap ds repeat.outside found) h.cells finds)
 
     -- where a container was to end, whose cell is still the innermost
-    pub reported_at_end : (rest : Bor (List ℕ)) → m ≡ parse_end.Repeated rest repeat → IsKeyReportedIn limits input cs repeat
-    reported_at_end rest e = go cs (subst (λ (x : ParseEnd). Meets S stands trusts holds x start limits.depth input cs g) e meets)
+    pub reported_at_end : IsRepeatVisited S stands trusts repeat limits.depth input cs rest → IsKeyReportedIn limits input cs repeat
+    reported_at_end visited = go cs visited
       where
-        keeps : KeepsBefore limits.depth limits.keys input rest.now
-        keeps = subst (λ (x : ParseEnd). ParseEndKept x limits.depth limits.keys input) e kept
-
-        go : (cs : List Cell) → IsRepeatVisited S stands trusts repeat limits.depth input cs rest.now → IsKeyReportedIn limits input cs repeat
+        go : (cs : List Cell) → IsRepeatVisited S stands trusts repeat limits.depth input cs rest → IsKeyReportedIn limits input cs repeat
         go [] h = absurd h
         go (c ∷ cs) h = λ found finds.
             let n = length input in
             let its = h.given.1 in
             let here = subst (λ (ds : List Cell). FindsMap (c ∷ ds) repeat.outside found) h.cells finds in
-            elim (reported_full limits input small h.ls h.item rest.now repeat h.levels h.spelled h.within its.taken h.bytes (keeps (bytes_before h.ls ++ spell h.item) h.bytes) h.given.0) [
+            elim (reported_full limits input small h.ls h.item rest repeat h.levels h.spelled h.within its.taken h.bytes (keeps (bytes_before h.ls ++ spell h.item) h.bytes) h.given.0) [
               | inl t ↦ (c, here [] (cells_of n h.ls) c refl (its.kind ∙ t.is_map) (cells_maps n h.ls ∙ sym t.outside_is), subst (λ (m : ℕ). IsKeyReported limits input m repeat.pair) (sym its.place) t.key)
               | inr t ↦ among (c ∷ []) h.ls repeat.outside repeat.pair found t here
             ]

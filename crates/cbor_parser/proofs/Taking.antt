@@ -1,22 +1,22 @@
 -- What is taken where an item is expected, in the cells.
-use Rattle.std.proofs.Common.{◌≡◌, ℕ, suc, ◌+◌, ◌-◌, ◌<◌, ◌≤◌, Bool, true, false, nat_lt, List, [], ◌∷◌, ◌++◌, length, take, drop, refl, sym, ap, ◌∙◌, subst, inl, inr, arith, append_assoc, append-nil, length-drop, reverse, slice_range, ltb-true, ltb-false, length-append}
+use Rattle.std.proofs.Common.{◌≡◌, ℕ, suc, ◌+◌, ◌-◌, ◌<◌, ◌≤◌, Bool, true, false, nat_lt, List, [], ◌∷◌, ◌++◌, length, take, drop, refl, sym, ap, ◌∙◌, subst, inl, inr, arith, append_assoc, append-nil, length-drop, slice_range, ltb-true, ltb-false, length-append}
 use Rattle.std.proofs.Math.Seq.{drop-append_seam}
 use Rattle.cbor_head.specs.Prelude.{strict, OfCount, Holds, IsHead, head, shortest, Bounds, spell, no_spellings, no_entries, HoldsOrIndefinite}
 use Rattle.cbor_head.specs.declared.major.Major.TheVariants.{Array, Map, Tag}
-use Rattle.cbor_head.specs.declared.{major.Major.Major, order.KeyOrder.KeyOrder, width.Width.Width, width.Width.TheVariants.Indefinite, keys.Keys.Keys}
-use Rattle.cbor_head.specs.declared.keys.Keys.TheVariants.{Any, IntegersAndTexts}
+use Rattle.cbor_head.specs.declared.{major.Major.Major, order.KeyOrder.KeyOrder, width.Width.Width, width.Width.TheVariants.Indefinite}
+use Rattle.cbor_head.specs.declared.keys.Keys.TheVariants.{IntegersAndTexts}
 use Rattle.cbor_model.{proofs.Normal.Holds-shortest, specs.KeyPrefix.prefix_of}
 use Rattle.cbor_verdict.specs.Path as path
 use Rattle.cbor_verdict.specs.Path.{a_member, a_key, a_value, tagged, level_bytes, bytes_before, IsKeyExpectedIn}
 use Rattle.cbor_verdict.proofs.PathKinds.{kept_prefix, head_begun, keeps_begun, keeps_item}
 use Rattle.cbor_verdict.proofs.{Items.is-definite, Heads.open_or, Heads.takes, KindBytes.head_is_one, KindFrames.keeps_start}
-use Rattle.cbor_verdict.specs.{Judged.Never, Kinds.KeepsToKinds, PathKinds.asks, PathKinds.KeepsHere, RefusedHere.IsPlaceFor}
+use Rattle.cbor_verdict.specs.{Judged.Never, Kinds.KeepsToKinds, PathKinds.KeepsHere, RefusedHere.IsPlaceFor}
 use Rattle.cbor_parser.specs.inner.Cells.{strict_cell, AreCells, StandsAt, HasEndedAt, IsWhole}
 use Rattle.cbor_parser.specs.declared.container.Expected.TheVariants.{Item, Key, Value}
 use Rattle.cbor_parser.proofs.CellSteps.{item_is_no_key, key_is_no_value, item_full}
 use Rattle.cbor_parser.specs.inner.Cells.{StrictCell}
 use Rattle.cbor_parser.specs.{inner.Faults.IsKeyAsked, inner.Leaves.IsLeaf, inner.Items.IsFit, inner.Items.IsOpener, Stack.open_levels}
-use Rattle.cbor_parser.{specs.declared.container.Expected.Expected, specs.declared.stack.Stack.Stack, proofs.Stacks.open_levels_count, proofs.Stacks.more_cells}
+use Rattle.cbor_parser.{specs.declared.container.Expected.Expected, specs.declared.stack.Stack.Stack, proofs.Stacks.open_levels_count}
 
 -- ---- how many are open
 
@@ -39,16 +39,12 @@ key_expected input (tagged w n ∷ ls) c cs a e = absurd (item_is_no_key c a.0.0
 key_expected input [] c [] a e = absurd (item_is_no_key c a.0 e)
 key_expected input [] c (x ∷ xs) a e = absurd a
 
-pub asked_of : (keys : Keys) → asks keys ≡ true → keys ≡ IntegersAndTexts
-asked_of Any e = absurd (cc e)
-asked_of IntegersAndTexts e = refl
-
 -- whether it is one whose kind is asked for
-pub key_asked : (o : KeyOrder) (limits : Bounds) (input : List ℕ) (c : StrictCell) (cs : List StrictCell) (at : ℕ) (s : StandsAt o limits input (c ∷ cs) at) (kinds is_key : Bool) → asks limits.keys ≡ kinds
-    → (is_key ≡ true → (kinds ≡ true) × (c.expected ≡ Key)) → (is_key ≡ false → kinds ≡ true → c.expected ≡ Key → ⊥) → IsKeyAsked is_key limits s.ls
-key_asked o limits input c cs at s kinds is_key asked both none = record {
-  both = λ e. let b = both e in (asked_of limits.keys (asked ∙ b.0), key_expected input s.ls c cs s.are b.1);
-  none = λ e these expected. none e (sym asked ∙ ap asks these) (expected_key input s.ls c cs s.are expected);
+pub key_asked : (o : KeyOrder) (limits : Bounds) (input : List ℕ) (c : StrictCell) (cs : List StrictCell) (at : ℕ) (s : StandsAt o limits input (c ∷ cs) at) (is_key : Bool)
+    → (is_key ≡ true → (limits.keys ≡ IntegersAndTexts) × (c.expected ≡ Key)) → (is_key ≡ false → limits.keys ≡ IntegersAndTexts → c.expected ≡ Key → ⊥) → IsKeyAsked is_key limits s.ls
+key_asked o limits input c cs at s is_key both none = record {
+  both = λ e. let b = both e in (b.0, key_expected input s.ls c cs s.are b.1);
+  none = λ e these expected. none e these (expected_key input s.ls c cs s.are expected);
 }
 
 pub always : (b : Bool) → (b ≡ false → ⊥) → b ≡ true
@@ -169,12 +165,6 @@ fit_here o limits input c cs at s rest fit = record { before = s.keeps; here = �
 pub at_start : (o : KeyOrder) (limits : Bounds) (input : List ℕ) → StandsAt o limits input (strict_cell Item 0 0 ∷ []) 0
 at_start o limits input = record { ls = []; clean = tt; keeps = keeps_start limits (strict o); are = (refl, refl, refl); rest = input; bytes = refl; here = refl }
 
--- whatever lies in the cells
-pub starts_at : (o : KeyOrder) (limits : Bounds) (input : List ℕ) (k : Stack StrictCell) (cells : List StrictCell) → k.height ≡ 0 → k.top ≡ strict_cell Item 0 0 → StandsAt o limits input (open_levels StrictCell k cells) 0
-starts_at o limits input k cells h e =
-    let one : strict_cell Item 0 0 ∷ [] ≡ open_levels StrictCell k cells = sym (ap (λ (l : StrictCell). l ∷ reverse (take k.height cells)) e ∙ ap (λ (n : ℕ). strict_cell Item 0 0 ∷ reverse (take n cells)) h) in
-    subst (λ (cs : List StrictCell). StandsAt o limits input cs 0) one (at_start o limits input)
-
 -- nothing is open around it
 pub start_keeps : (o : KeyOrder) (limits : Bounds) (input : List ℕ) → KeepsHere limits (strict o) [] input
 start_keeps o limits input = record { before = keeps_start limits (strict o); here = λ asked expected. absurd expected }
@@ -190,6 +180,3 @@ leaf_is_whole o limits input d used e leaf =
     let at : 0 + used ≡ used = omega arith in
     subst (IsWhole o limits input) at
     (item_full o limits input (0 + used) first [] refl refl (leaf_ends o limits input (first ∷ []) 0 (at_start o limits input) (nat_lt 0 d) used leaf (start_place limits d e).fits (start_keeps o limits input)))
-
-pub in_more_cells : (o : KeyOrder) (limits : Bounds) (input : List ℕ) (k : Stack StrictCell) (few more : List StrictCell) (at : ℕ) → StandsAt o limits input (open_levels StrictCell k few) at → k.height ≡ length few → take (length few) more ≡ few → StandsAt o limits input (open_levels StrictCell k more) at
-in_more_cells o limits input k few more at s h e = subst (λ (x : List StrictCell). StandsAt o limits input x at) (more_cells StrictCell k few more h e) s

@@ -1,5 +1,4 @@
 -- What private functions speak of; the public contracts do not.
-pub mod CanonicalEnds
 pub mod Cells
 pub mod Faults
 pub mod Items
@@ -10,4 +9,6 @@ pub mod OpenMaps
 pub mod Parser
 pub mod Parts
 pub mod Repeated
+pub mod Rules
 pub mod Skip
+pub mod StrictRules

@@ -31,25 +31,3 @@ impl Expected {
         !matches!(self, Expected::Item)
     }
 }
-
-/// What an item leads to in its container.
-#[derive(Clone, Copy)]
-pub(crate) enum Step {
-    /// Another is expected.
-    Next,
-    /// The container is whole.
-    Full,
-    /// It is a key that does not come behind the one before.
-    OutOfOrder,
-}
-
-/// What is expected behind an item.
-#[derive(Clone, Copy)]
-pub(crate) enum Next {
-    /// Another item.
-    Item,
-    /// Nothing: the input's item is whole.
-    Done,
-    /// It is a key that does not come behind the one before.
-    OutOfOrder,
-}

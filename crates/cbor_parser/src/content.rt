@@ -5,8 +5,9 @@ ghost use Rattle.cbor_verdict.specs.Reading.{string_major};
 ghost use Rattle.cbor_parser.specs.inner.Parser.{IsHeadExpected, TakesHead, IsExpectedFor, TakesItem};
 ghost use Rattle.cbor_parser.specs.inner.Parts.{IsItem, IsHead, IsPayload, chunked_from, TakesScalar, TakesHeadPrefix};
 
-use crate::parser::Parser;
-use crate::part::Part;
+use crate::open_container::OpenContainer;
+use crate::parser::{Parser, SinkStop};
+use crate::part::GivenPart;
 use crate::sink::Sink;
 use cbor_head::{Argument, read_argument};
 use cbor_text::is_text_prefix;
@@ -16,65 +17,69 @@ impl<S> Parser<S> {
     #[inline(always)]
     pub(crate) fn take_string<'a>(
         &mut self,
+        top: &OpenContainer<usize>,
         is_text: bool,
         count: u64,
         behind: &'a [u8],
-    ) -> Part<'a>
+    ) -> GivenPart<'a>
     where
         S: Sink<'a>,
         requires head { IsHeadExpected S S.stands S.trusts (string_major is_text) count behind.now
-            self.old.stack.top self.old.sink }
+            top.now self.old.sink }
         ensures takes { TakesHead S S.stands S.trusts S.holds result (string_major is_text) count behind.now
-            self.old.stack.top self.old.sink self.new.sink }
-        ensures stack { self.new.stack ≡ self.old.stack }
+            top.now self.old.sink self.new.sink }
         ensures kind { IsItem result }
         ensures prefix { TakesHeadPrefix result (string_major is_text) count behind.now }
     {
         let Some(size) = payload_size::<S>(is_text, count, behind) else {
-            return Part::Untaken;
+            return GivenPart::Untaken;
         };
-        let is_key = self.stack.top.expected.is_key();
+        let is_key = top.expected.is_key();
         match self.sink.string(is_key, is_text, behind, size) {
-            Ok(()) => Part::Item(&behind[size..]),
-            Err(_) => Part::Stopped,
+            Ok(()) => GivenPart::Item(&behind[size..]),
+            Err(_) => GivenPart::Stopped(SinkStop::Memory),
         }
     }
 
     /// The string in chunks whose opener stands before these bytes.
-    pub(crate) fn take_chunks<'a>(&mut self, is_text: bool, behind: &'a [u8]) -> Part<'a>
+    pub(crate) fn take_chunks<'a>(
+        &mut self,
+        top: &OpenContainer<usize>,
+        is_text: bool,
+        behind: &'a [u8],
+    ) -> GivenPart<'a>
     where
         S: Sink<'a>,
-        requires opener { IsExpectedFor S S.stands S.trusts self.old.stack.top self.old.sink
+        requires opener { IsExpectedFor S S.stands S.trusts top.now self.old.sink
             (chunked_from is_text behind.now) }
         ensures takes { TakesItem S S.stands S.trusts S.holds result (chunked_from is_text behind.now)
-            self.old.stack.top self.old.sink self.new.sink }
-        ensures stack { self.new.stack ≡ self.old.stack }
+            top.now self.old.sink self.new.sink }
         ensures kind { IsItem result }
         ensures prefix { TakesScalar result (chunked_from is_text behind.now) }
     {
-        let is_key = self.stack.top.expected.is_key();
+        let is_key = top.expected.is_key();
         let Ok(()) = self.sink.begin_string(is_key, is_text) else {
-            return Part::Stopped;
+            return GivenPart::Stopped(SinkStop::Memory);
         };
         let mut rest = behind;
         'chunks: loop {
             let Some((first, behind)) = rest.split_first() else {
-                return Part::Broken;
+                return GivenPart::Stopped(SinkStop::Broken);
             };
             if *first == 0xff {
                 return match self.sink.end_string(is_key, is_text) {
-                    Ok(()) => Part::Item(behind),
-                    Err(_) => Part::Stopped,
+                    Ok(()) => GivenPart::Item(behind),
+                    Err(_) => GivenPart::Stopped(SinkStop::Memory),
                 };
             }
             let Some(head) = chunk_head(is_text, *first, behind) else {
-                return Part::Broken;
+                return GivenPart::Stopped(SinkStop::Broken);
             };
             let Some(size) = payload_size::<S>(is_text, head.number, head.rest) else {
-                return Part::Broken;
+                return GivenPart::Stopped(SinkStop::Broken);
             };
             let Ok(()) = self.sink.chunk(is_key, is_text, head.rest, size) else {
-                return Part::Stopped;
+                return GivenPart::Stopped(SinkStop::Memory);
             };
             rest = &head.rest[size..];
         }

@@ -1,13 +1,15 @@
 //! Short items and short heads at the start of a slice: fast, and where one isn't found, nothing is
 //! said.
 
-ghost use Rattle.std.specs.Prelude.{◌≡◌, ◌<◌, ◌≤◌, ◌-◌, ◌*◌, ◌/◌, ◌^◌, ◌∷◌, ℕ, List, true, IfSome};
+ghost use Rattle.std.specs.Prelude.{◌≡◌, ◌<◌, ◌≤◌, ◌-◌, ◌*◌, ◌/◌, ◌^◌, ◌∷◌, ℕ, List, IfSome};
+ghost use Rattle.cbor_head.specs.declared.keys.Keys.TheVariants.{IntegersAndTexts};
 ghost use Rattle.cbor_verdict.specs.PathKinds.{IsFitPrefix};
 ghost use Rattle.cbor_parser.specs.inner.Leaves.{HasShortestHead};
 ghost use Rattle.cbor_parser.specs.inner.Items.{IsShortPrefix, IsShortString, IsSaid};
 
 use crate::container::Expected;
-use cbor_head::argument_bytes;
+use crate::kinds::is_asked;
+use cbor_head::{Keys, argument_bytes};
 use cbor_text::is_text_prefix;
 
 /// What the fast ways find.
@@ -25,19 +27,19 @@ pub(crate) enum FastItem {
 /// What stands there, if it is a short item or head in its shortest form. Where kinds of keys are
 /// asked for and this is expected, of a key that is neither an integer nor a text nothing is said.
 #[inline(always)]
-pub(crate) fn fast_item<const KINDS: bool>(first: u8, rest: &[u8], expected: &Expected) -> FastItem
+pub(crate) fn fast_item(first: u8, rest: &[u8], expected: &Expected, keys: Keys) -> FastItem
     requires { (behind : List ℕ) × (rest.now ≡ first ∷ behind) }
     ensures prefix { IsShortPrefix result rest.now }
-    ensures fits { IsSaid result → KINDS ≡ true → expected.now ≡ Expected.Key → IsFitPrefix rest.now }
+    ensures fits { IsSaid result → keys ≡ IntegersAndTexts → expected.now ≡ Expected.Key → IsFitPrefix rest.now }
 {
     match first / 32 {
         0 | 1 => match head_size(first, rest) {
             0 => FastItem::Other,
             size => FastItem::Item(size),
         },
-        2 | 3 => string::<KINDS>(first, rest, expected),
+        2 | 3 => string(first, rest, expected, keys),
         // Neither an integer nor a text.
-        _ if KINDS && expected.is_key() => FastItem::Other,
+        _ if is_asked(keys, *expected) => FastItem::Other,
         4 | 5 => container(first, rest),
         6 => match head_size(first, rest) {
             0 => FastItem::Other,
@@ -95,17 +97,17 @@ fn least(low: u8) -> u64
 
 // A string of up to 255 bytes.
 #[inline(always)]
-fn string<const KINDS: bool>(first: u8, rest: &[u8], expected: &Expected) -> FastItem
+fn string(first: u8, rest: &[u8], expected: &Expected, keys: Keys) -> FastItem
     requires prefix { (behind : List ℕ) × (rest.now ≡ first ∷ behind) }
     requires kind { (64 ≤ first) × (first < 128) }
     ensures prefix { IsShortPrefix result rest.now }
-    ensures fits { IsSaid result → KINDS ≡ true → expected.now ≡ Expected.Key → IsFitPrefix rest.now }
+    ensures fits { IsSaid result → keys ≡ IntegersAndTexts → expected.now ≡ Expected.Key → IsFitPrefix rest.now }
 {
     let Some((payload, end)) = short_string(first, rest) else {
         return FastItem::Other;
     };
     if first < 0x60 {
-        if KINDS && expected.is_key() {
+        if is_asked(keys, *expected) {
             return FastItem::Other;
         }
         return FastItem::Item(end);

@@ -1,25 +1,19 @@
 //! Keys of other kinds than the limits ask for.
 
 ghost use Rattle.std.specs.Prelude.{◌≡◌, true, false};
-ghost use Rattle.cbor_verdict.specs.PathKinds.{asks, IsFitPrefix, IsOtherPrefix};
+ghost use Rattle.cbor_head.specs.declared.keys.Keys.TheVariants.{IntegersAndTexts};
+ghost use Rattle.cbor_verdict.specs.PathKinds.{IsFitPrefix, IsOtherPrefix};
 
 use crate::container::Expected;
 use cbor_head::Keys;
 
-/// Whether limits ask for kinds of keys.
-pub(crate) fn asks(keys: Keys) -> bool
-    ensures { result ≡ asks keys }
-{
-    matches!(keys, Keys::IntegersAndTexts)
-}
-
 /// Whether kinds are asked for, and a key is expected.
 #[inline(always)]
-pub(crate) fn is_asked(kinds: bool, expected: Expected) -> bool
-    ensures both { result ≡ true → (kinds ≡ true) × (expected ≡ Expected.Key) }
-    ensures none { result ≡ false → kinds ≡ true → expected ≡ Expected.Key → ⊥ }
+pub(crate) fn is_asked(keys: Keys, expected: Expected) -> bool
+    ensures both { result ≡ true → (keys ≡ IntegersAndTexts) × (expected ≡ Expected.Key) }
+    ensures none { result ≡ false → keys ≡ IntegersAndTexts → expected ≡ Expected.Key → ⊥ }
 {
-    kinds && matches!(expected, Expected::Key)
+    matches!(keys, Keys::IntegersAndTexts) && matches!(expected, Expected::Key)
 }
 
 /// Whether neither an integer nor a text begins there. A break is no key.
@@ -36,9 +30,9 @@ pub(crate) fn begins_other_kind(rest: &[u8]) -> bool
 
 /// Whether kinds are asked for, a key is expected, and neither an integer nor a text begins there.
 #[inline(always)]
-pub(crate) fn is_other_key<const KINDS: bool>(expected: Expected, rest: &[u8]) -> bool
-    ensures fits { result ≡ false → KINDS ≡ true → expected ≡ Expected.Key → IsFitPrefix rest.now }
-    ensures other { result ≡ true → (KINDS ≡ true) × (expected ≡ Expected.Key) × IsOtherPrefix rest.now }
+pub(crate) fn is_other_key(keys: Keys, expected: Expected, rest: &[u8]) -> bool
+    ensures fits { result ≡ false → keys ≡ IntegersAndTexts → expected ≡ Expected.Key → IsFitPrefix rest.now }
+    ensures other { result ≡ true → (keys ≡ IntegersAndTexts) × (expected ≡ Expected.Key) × IsOtherPrefix rest.now }
 {
-    is_asked(KINDS, expected) && begins_other_kind(rest)
+    is_asked(keys, expected) && begins_other_kind(rest)
 }

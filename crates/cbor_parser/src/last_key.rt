@@ -3,13 +3,13 @@
 ghost use Rattle.std.specs.Prelude.{◌≡◌, ◌≤◌, true, length};
 ghost use Rattle.cbor_model.specs.KeyPrefix.{prefix_of};
 ghost use Rattle.cbor_head.specs.Order.{key_lt};
-ghost use Rattle.cbor_parser.specs.inner.Cells.{StrictCell, strict_cell, no_key, key_at, last_key, IsPrefixed, TakesKey, Advances};
-ghost use Rattle.cbor_parser.specs.inner.Cells.{Leads};
-ghost use Rattle.cbor_parser.specs.Stack.{around, open_levels};
+ghost use Rattle.cbor_parser.specs.inner.Cells.{strict_cell, no_key, key_at, last_key, IsPrefixed, TakesKey};
+ghost use Rattle.cbor_parser.specs.inner.StrictRules.{Advances};
 
-use crate::container::{Expected, Next, Step};
+use crate::container::Expected;
+use crate::item_rules::Step;
 use crate::open_container::OpenContainer;
-use crate::stack::Stack;
+use crate::strict_rules::StrictStop;
 use cbor_head::KeyOrder;
 use cbor_model::{compare_keys, key_prefix, part};
 use std::cmp::Ordering;
@@ -86,16 +86,16 @@ pub(crate) fn strict_cell(expected: Expected, left: u64, at: usize) -> OpenConta
 }
 
 impl OpenContainer<LastKey> {
-    // An item of it is whole, which ends there.
+    /// An item of it is whole, which ends there.
     #[inline(always)]
-    fn end_item(&mut self, input: &[u8], order: KeyOrder, at: usize) -> Step
+    pub(crate) fn end_item(&mut self, input: &[u8], order: KeyOrder, at: usize) -> Step<StrictStop>
         requires { at ≤ length input.now }
         ensures { Advances result order input.now at self.old self.new }
     {
         match self.expected {
             Expected::Key => {
                 if !self.kept.take_key(input, order, at) {
-                    return Step::OutOfOrder;
+                    return Step::Stopped(StrictStop::OutOfOrder);
                 }
             }
             // The next key, if there is one, begins there.
@@ -107,53 +107,5 @@ impl OpenContainer<LastKey> {
         } else {
             Step::Full
         }
-    }
-}
-
-impl Stack<OpenContainer<LastKey>> {
-    /// An item is whole, which ends there: with it the containers whose last member it was.
-    #[inline(always)]
-    pub(crate) fn complete(
-        &mut self,
-        cells: &[OpenContainer<LastKey>],
-        input: &[u8],
-        order: KeyOrder,
-        at: usize,
-    ) -> Next
-        requires end { at ≤ length input.now }
-        requires cells { self.old.height ≤ length cells.now }
-        ensures fewer { self.new.height ≤ self.old.height }
-        ensures leads { Leads result order input.now at (open_levels StrictCell self.old cells.now) self.new cells.now }
-    {
-        match self.top.end_item(input, order, at) {
-            Step::Next => Next::Item,
-            Step::Full => self.close(cells, input, order, at),
-            Step::OutOfOrder => Next::OutOfOrder,
-        }
-    }
-
-    // What comes next once the innermost container is whole.
-    #[inline(always)]
-    fn close(
-        &mut self,
-        cells: &[OpenContainer<LastKey>],
-        input: &[u8],
-        order: KeyOrder,
-        at: usize,
-    ) -> Next
-        requires end { at ≤ length input.now }
-        requires cells { self.old.height ≤ length cells.now }
-        ensures fewer { self.new.height ≤ self.old.height }
-        ensures leads { Leads result order input.now at (around StrictCell self.old cells.now) self.new cells.now }
-    {
-        'levels: while self.height > 0 {
-            self.pop(cells);
-            match self.top.end_item(input, order, at) {
-                Step::Next => return Next::Item,
-                Step::Full => {}
-                Step::OutOfOrder => return Next::OutOfOrder,
-            }
-        }
-        Next::Done
     }
 }

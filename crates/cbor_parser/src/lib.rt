@@ -2,17 +2,17 @@
 //!
 //! `cbor_strict` calls [`canonical_prefix`], which stops at the first byte, head, text or key that no canonical item has
 //! there. `cbor_sinks`, `cbor_reader` and `cbor_diag` call [`Parser::parse_item`], which gives the parts of any valid item to a
-//! [`Sink`]. Both report the exact refusal. Open containers stand in a stack that grows from 8 to 64 to 1,024 entries, so
-//! that a shallow item does not pay for the greatest depth.
+//! [`Sink`]. Both report the exact refusal. The loop is compiled for each, by the rules that it is given. Open containers
+//! stand in a stack that grows from 8 to 16 to 1,024 entries, so that a shallow item does not pay for the greatest depth.
 #![tactic(auto)]
 
 mod canonical;
-mod canonical_walk;
 mod chunk_refusal;
 mod container;
 mod content;
 mod fast_item;
 mod indefinite;
+mod item_rules;
 mod item_start;
 mod kinds;
 mod last_key;
@@ -25,7 +25,8 @@ mod repeated_key;
 mod sink;
 mod skip;
 mod stack;
-mod take_item;
+mod strict_rules;
+mod walk;
 
 pub use canonical::canonical_prefix;
 pub use parser::Parser;

@@ -1,52 +1,63 @@
-//! The walk over a valid item, whose parts go to a sink.
+//! The valid item at the start of a slice, whose parts go to a sink.
 
-ghost use Rattle.std.specs.Prelude.{◌≡◌, ◌≤◌, length};
+ghost use Rattle.std.specs.Prelude.{◌≡◌, ◌≤◌, ◌^◌, ℕ, Bool, List, true, false, [], length, MatchResult};
+ghost use Rattle.cbor_head.specs.Limits.{Bounds};
+ghost use Rattle.cbor_verdict.specs.Levels.{item_expected};
 ghost use Rattle.cbor_parser.specs.Stack.{open_levels};
+ghost use Rattle.cbor_parser.specs.ParsedItem.{IsStop};
+ghost use Rattle.cbor_parser.specs.Sink.{IsKnownValid, IsGivenPrefix};
 ghost use Rattle.cbor_parser.specs.inner.OpenContainer.{Cell};
-ghost use Rattle.cbor_parser.specs.inner.Parser.{IsExpectedIn, HasFilledIn, Leads, Walks, WalksKept};
+ghost use Rattle.cbor_parser.specs.inner.Parser.{Expects, HasItem, Fills, Passes, Stops, LacksNothing, IsStopWithin};
+ghost use Rattle.cbor_parser.specs.inner.Repeated.{IsKeyReportedIn};
+ghost use Rattle.cbor_parser.specs.inner.Rules.{StopsAt, HasCellLeft};
 
 use crate::container::Expected;
+use crate::item_rules::{ItemRules, Part, Step};
+use crate::item_start::{Here, ItemStart, item_start};
+use crate::kinds::is_asked;
+use crate::limit::{truncated_or_too_long, within};
 use crate::open_container::OpenContainer;
-use crate::part::Part;
+use crate::parse::parse;
+use crate::part::GivenPart;
+use crate::repeated_key::{repeated_key, reported_map};
 use crate::sink::Sink;
 use crate::stack::Stack;
+use crate::walk::WalkStop;
 use cbor_builder::Repeat;
+use cbor_head::{Limits, Reason, Refusal};
 
-/// What came of an item so far: the open containers, and what took what is complete in them.
+/// The parser of valid items, which gives their parts to a sink.
 #[derive(Drop)]
 pub struct Parser<S> {
-    pub(crate) stack: Stack<OpenContainer<usize>>,
     /// It stays where it is from one item to the next: to hand it on costs as much as a small item.
     pub sink: S,
+    // The key that the sink has reported as repeated. Here it is out of the way of what each item returns.
+    repeat: Repeat,
 }
 
-/// What is expected behind a container that is whole.
+/// Why the sink is given no more.
 #[derive(Clone, Copy)]
-pub(crate) enum CloseResult {
-    /// Another item.
-    Item,
-    /// Nothing: the input's item is whole.
-    Done,
-    /// Nothing: two keys of the map that is to end are the same. It is still open, and this one is reported.
-    Repeated(Repeat),
-    /// Nothing: memory is refused.
-    Stopped,
-}
-
-/// How a walk ends.
-#[derive(Clone, Copy)]
-pub(crate) enum ParseEnd<'a> {
-    /// The item is whole, before these bytes.
-    Whole(&'a [u8]),
-    /// An item is expected before these bytes, and what stands there may not, or there is no cell for it.
-    Untaken(&'a [u8]),
-    /// A string in chunks stands before these bytes, and is refused. The sink has some chunks of it.
-    Broken(&'a [u8]),
-    /// Two keys of the map that is to end before these bytes are the same. It is still open, and this
-    /// one is reported.
-    Repeated(&'a [u8], Repeat),
+pub(crate) enum SinkStop {
+    /// A string in chunks stands there, and is refused. The sink has some chunks of it.
+    Broken,
+    /// Two keys of the map that is to end are the same. It is still open.
+    Repeated,
     /// Memory is refused.
-    Stopped,
+    Memory,
+}
+
+/// Why there is no valid item.
+#[derive(Clone, Copy)]
+pub(crate) enum ParseError {
+    /// The bytes within the limits call for this refusal, or memory was refused.
+    Refused(Refusal),
+    /// A key is the same as an earlier one of its map.
+    Repeated {
+        /// So many bytes of the input stand behind the map's head,
+        behind: usize,
+        /// and so many pairs before the key.
+        pair: usize,
+    },
 }
 
 impl<S> Parser<S> {
@@ -55,97 +66,175 @@ impl<S> Parser<S> {
     pub fn new(sink: S) -> Parser<S>
         ensures { result.sink ≡ sink }
     {
-        let stack = Stack::new(OpenContainer::counted(Expected::Item, 0, 0));
-        Parser { stack, sink }
+        let repeat = Repeat {
+            outside: 0,
+            pair: 0,
+        };
+        Parser { sink, repeat }
     }
 
-    /// Goes over the item, from where another is expected to its end. Where kinds of keys are asked for,
-    /// it stops at a key of another kind.
-    pub(crate) fn walk<'a, const KINDS: bool>(
-        &mut self,
-        start: &'a [u8],
-        cells: &mut [OpenContainer<usize>],
-        depth: usize,
-    ) -> ParseEnd<'a>
+    /// Gives the sink the parts of the well-formed, valid item that the slice begins with (RFC 8949,
+    /// sections 3 and 5.3.1), within the limits, and answers how many bytes the item has; else the
+    /// refusal that the bytes within the limits call for, or `Memory`, where it was refused before,
+    /// with 0 as place and count. A sink that looks for no equal keys is given only an item that is
+    /// known to be valid, and of why it takes no more nothing is said.
+    ///
+    /// It goes over the bytes once, without recursion; where a key is repeated, once more over its map,
+    /// up to that key.
+    pub fn parse_item<'a>(&mut self, bytes: &'a [u8], limits: Limits) -> Result<u64, Refusal>
     where
         S: Sink<'a>,
-        requires cells { self.old.stack.height ≤ length cells.old }
-        requires expected { IsExpectedIn S S.stands S.trusts depth (open_levels Cell self.old.stack cells.old) self.old.sink start.now }
-        ensures cells { self.new.stack.height ≤ length cells.new }
-        ensures walked { Walks S S.stands S.trusts S.holds result depth start.now (open_levels Cell self.old.stack cells.old)
-            self.old.sink (open_levels Cell self.new.stack cells.new) self.new.sink }
-        ensures kept { WalksKept S S.stands S.trusts KINDS result depth start.now
-            (open_levels Cell self.old.stack cells.old) self.old.sink }
+        requires fresh { S.stands self.old.sink self.old.sink (item_expected []) }
+        requires known { S.trusts ≡ true → IsKnownValid limits bytes.now }
+        ensures { MatchResult result
+            (λ size. IsGivenPrefix (S.stands self.old.sink self.new.sink) limits bytes.now size)
+            (λ f. S.trusts ≡ false → IsStop limits bytes.now f) }
     {
-        let mut rest = start;
-        'parts: loop {
-            match self.take_part::<KINDS>(rest, cells, depth) {
-                Part::Head(behind) => rest = behind,
-                Part::Item(behind) => {
-                    rest = behind;
-                    // First, so that nothing of what a container's end answers is made ready before.
-                    if self.stack.top.advance() {
-                        continue 'parts;
-                    }
-                    match self.close(cells) {
-                        CloseResult::Item => {}
-                        CloseResult::Done => return ParseEnd::Whole(rest),
-                        CloseResult::Repeated(repeat) => return ParseEnd::Repeated(rest, repeat),
-                        CloseResult::Stopped => return ParseEnd::Stopped,
-                    }
-                }
-                Part::Break(behind) => {
-                    rest = behind;
-                    match self.close_at_break(cells) {
-                        CloseResult::Item => {}
-                        CloseResult::Done => return ParseEnd::Whole(rest),
-                        CloseResult::Repeated(repeat) => return ParseEnd::Repeated(rest, repeat),
-                        CloseResult::Stopped => return ParseEnd::Stopped,
-                    }
-                }
-                Part::Untaken => return ParseEnd::Untaken(rest),
-                Part::Broken => return ParseEnd::Broken(rest),
-                Part::Stopped => return ParseEnd::Stopped,
-            }
+        let input = within(bytes, limits.bytes());
+        let outermost = OpenContainer::counted(Expected::Item, 0, 0);
+        match parse(self, input, outermost, limits) {
+            Ok(behind) => Ok((input.len() - behind.len()) as u64),
+            Err(ParseError::Refused(refusal)) => Err(refusal),
+            // Only here, where the cells of the walk are off the stack.
+            Err(ParseError::Repeated { behind, pair }) => match repeated_key(
+                input, behind, pair, limits,
+            ) {
+                Some(refusal) => Err(refusal),
+                None => Err(Refusal::at(Reason::Memory, 0)),
+            },
         }
     }
+}
 
-    // The innermost container is whole, and perhaps those around it. Each is ended in the sink first:
-    // where two of its keys are the same, its cell still reports what stands behind its head.
+impl<'a, S: Sink<'a>> ItemRules<'a> for Parser<S> {
+    /// How many bytes of the input stand behind its head.
+    type Kept = usize;
+
+    type Stop = SinkStop;
+
+    type Error = ParseError;
+
+    ghost stands = { Expects S S.stands S.trusts };
+
+    ghost ends = { HasItem S S.stands S.trusts };
+
+    ghost fills = { Fills S S.stands S.trusts };
+
+    ghost passes = { Passes S S.stands S.trusts };
+
+    ghost lacks = { LacksNothing };
+
+    ghost stops = { Stops S S.stands S.trusts S.holds };
+
+    ghost refuses = { λ first limits input error. IsStopWithin S.trusts limits input error };
+
     #[inline(always)]
-    fn close<'a>(&mut self, cells: &[OpenContainer<usize>]) -> CloseResult
-    where
-        S: Sink<'a>,
-        requires cells { self.old.stack.height ≤ length cells.now }
-        requires filled { HasFilledIn S S.stands S.trusts (open_levels Cell self.old.stack cells.now) self.old.sink }
-        ensures cells { self.new.stack.height ≤ length cells.now }
-        ensures leads { Leads S S.stands S.trusts result (open_levels Cell self.old.stack cells.now) self.old.sink
-            (open_levels Cell self.new.stack cells.now) self.new.sink }
-    {
-        'levels: while self.stack.height > 0 {
-            match self.sink.end(self.stack.top.expected.is_in_map()) {
-                Ok(None) => self.stack.pop(cells),
-                Ok(Some(repeat)) => return CloseResult::Repeated(repeat),
-                Err(_) => return CloseResult::Stopped,
-            }
-            if self.stack.top.advance() {
-                return CloseResult::Item;
-            }
+    fn take(
+        &mut self,
+        rest: &'a [u8],
+        stack: &mut Stack<OpenContainer<usize>>,
+        cells: &mut [OpenContainer<usize>],
+        limits: Limits,
+    ) -> Part<SinkStop> {
+        let depth = usize::from(limits.depth());
+        match self.take_part(rest, stack, cells, depth, limits.keys()) {
+            GivenPart::Item(behind) => Part::Item(rest.len() - behind.len()),
+            GivenPart::Head(behind) => Part::Head(rest.len() - behind.len()),
+            GivenPart::Break(behind) => Part::Break(rest.len() - behind.len()),
+            GivenPart::Untaken => Part::Untaken,
+            GivenPart::Stopped(stop) => Part::Stopped(stop),
         }
-        CloseResult::Done
     }
 
-    // Closes the innermost container at a break. It is a call, so that what ends a container stands in the loop once.
+    #[inline(always)]
+    fn end_item(&mut self, top: &mut OpenContainer<usize>, _rest: &'a [u8]) -> Step<SinkStop> {
+        if top.advance() {
+            Step::Next
+        } else {
+            Step::Full
+        }
+    }
+
+    // The container is ended in the sink first: where two of its keys are the same, its cell still reports
+    // what stands behind its head.
+    #[inline(always)]
+    fn end_container(&mut self, top: &OpenContainer<usize>, _rest: &'a [u8]) -> Option<SinkStop> {
+        match self.sink.end(top.expected.is_in_map()) {
+            Ok(None) => None,
+            Ok(Some(repeat)) => {
+                self.repeat = repeat;
+                Some(SinkStop::Repeated)
+            }
+            Err(_) => Some(SinkStop::Memory),
+        }
+    }
+
+    // Two keys of an open map that are the same are reported first; else, why the bytes are refused before
+    // which an item is expected, or a string in chunks has begun.
+    #[cold]
     #[inline(never)]
-    fn close_at_break<'a>(&mut self, cells: &[OpenContainer<usize>]) -> CloseResult
-    where
-        S: Sink<'a>,
-        requires cells { self.old.stack.height ≤ length cells.now }
-        requires filled { HasFilledIn S S.stands S.trusts (open_levels Cell self.old.stack cells.now) self.old.sink }
-        ensures cells { self.new.stack.height ≤ length cells.now }
-        ensures leads { Leads S S.stands S.trusts result (open_levels Cell self.old.stack cells.now) self.old.sink
-            (open_levels Cell self.new.stack cells.now) self.new.sink }
+    fn error(
+        &mut self,
+        stop: WalkStop<'a, SinkStop>,
+        stack: &Stack<OpenContainer<usize>>,
+        cells: &[OpenContainer<usize>],
+        input: &'a [u8],
+        limits: Limits,
+    ) -> ParseError
+        requires cells { stack.now.height ≤ length cells.now }
+        requires left { HasCellLeft stop stack.now.height (length cells.now) limits }
+        requires within { length input.now ≤ 2 ^ 62 }
+        requires stopped { (first : Parser S) × StopsAt (Parser S) ℕ SinkStop (Expects S S.stands S.trusts) (Stops S S.stands S.trusts S.holds)
+            LacksNothing stop first self.old limits input.now (open_levels Cell stack.now cells.now) (length cells.now) }
+        ensures { (first : Parser S) → StopsAt (Parser S) ℕ SinkStop (Expects S S.stands S.trusts) (Stops S S.stands S.trusts S.holds)
+            LacksNothing stop.entry first self.old limits input.now (open_levels Cell stack.now cells.now) (length cells.now)
+            → IsStopWithin S.trusts limits input.now result }
     {
-        self.close(cells)
+        let memory = ParseError::Refused(Refusal::at(Reason::Memory, 0));
+        let rest = match stop {
+            WalkStop::Untaken(rest) => rest,
+            WalkStop::Stopped(rest, why) => match why {
+                SinkStop::Broken => rest,
+                SinkStop::Repeated => return repeated(stack, cells, self.repeat),
+                SinkStop::Memory => return memory,
+            },
+        };
+        if let Some(repeat) = self.sink.first_repeat() {
+            return repeated(stack, cells, repeat);
+        }
+        let at = input.len() - rest.len();
+        let here = Here {
+            space: stack.height < usize::from(limits.depth()),
+            is_key: is_asked(limits.keys(), stack.top.expected),
+            may_break: stack.top.may_break(),
+        };
+        match item_start(rest, at, here, false) {
+            ItemStart::Refused(refusal) => {
+                ParseError::Refused(truncated_or_too_long(refusal, input, limits.bytes()))
+            }
+            _ => memory,
+        }
+    }
+}
+
+// Where the key stands that is reported, by the cells of the open maps.
+fn repeated(
+    stack: &Stack<OpenContainer<usize>>,
+    cells: &[OpenContainer<usize>],
+    repeat: Repeat,
+) -> ParseError
+    requires cells { stack.now.height ≤ length cells.now }
+    requires reported { (limits : Bounds) × (input : List ℕ)
+        × IsKeyReportedIn limits input (open_levels Cell stack.now cells.now) repeat }
+    ensures { (trusts : Bool) (limits : Bounds) (input : List ℕ)
+        → IsKeyReportedIn limits input (open_levels Cell stack.now cells.now) repeat
+        → IsStopWithin trusts limits input result }
+{
+    match reported_map(stack, cells, repeat.outside) {
+        Some(map) => ParseError::Repeated {
+            behind: map.kept,
+            pair: repeat.pair,
+        },
+        None => unreachable!(),
     }
 }

@@ -25,11 +25,10 @@ pub(crate) fn repeated_key(
     ensures { IfSome result (λ f. (bytes : List ℕ) → input.now ≡ take limits.bytes bytes
         → IsVerdict limits plain bytes (refused f)) }
 {
-    let depth = usize::from(limits.depth());
     let pairs = &input[input.len() - behind..];
     // That these end is known; the walk over them could only want memory, and takes none.
-    let key = past_items(pairs, 2 * pair as u64, depth)?;
-    let rest = past_items(key, 1, depth)?;
+    let key = past_items(pairs, 2 * pair as u64, limits)?;
+    let rest = past_items(key, 1, limits)?;
     let at = (input.len() - key.len()) as u64;
     let end = (input.len() - rest.len()) as u64;
     Some(Refusal::new(Reason::RepeatedKey, at, end))

@@ -19,9 +19,10 @@ use Rattle.cbor_verdict.proofs.OpenSteps.{distinct_snoc, array_opens, map_opens,
 use Rattle.cbor_verdict.proofs.Scalars.{at-as, reads-unsigned, reads-negative, reads-simple}
 use Rattle.cbor_verdict.{specs.Judged.IsJudged, specs.Judged.Never, specs.OpenMaps.AreOpen, specs.OpenMaps.AreOpenDistinct, proofs.Heads.open_or}
 use Rattle.cbor_verdict.proofs.{OpenMaps.judged_within, WholeStrings.string-expected, WholeStrings.reads-string}
-use Rattle.cbor_strict.specs.inner.OpenItems.{frames_in, bytes_before, IsLeaf, IsMap, IsOther}
-use Rattle.cbor_strict.specs.{inner.LastKeys.from_outside, inner.LastKeys.expected_of, declared.last_keys.Expected.TheVariants.Member}
-use Rattle.cbor_strict.proofs.OpenEnds.{outside_length, frames_length}
+use Rattle.cbor_verdict.{specs.Kinds.KeepsToKinds, specs.Kinds.IsKeyExpected, proofs.ItemExpected.ExpectsItem, proofs.KindFrames.around_frames}
+use Rattle.cbor_strict.specs.inner.OpenItems.{AreOpenClean, frames_in, bytes_before, IsLeaf, IsMap, IsOther}
+use Rattle.cbor_strict.specs.{declared.open_items.OpenItems.OpenItems, inner.LastKeys.from_outside, inner.LastKeys.expected_of}
+use Rattle.cbor_strict.{specs.declared.last_keys.Expected.TheVariants.Member, proofs.OpenEnds.outside_length, proofs.OpenEnds.frames_length}
 
 -- ---- what is found of the item is found of the whole
 
@@ -34,6 +35,21 @@ module _ (o : KeyOrder) (b : Bounds) (fs : List Frame) (are : AreOpen (strict o)
       let level : length (from_outside fs) + are.left ≡ b.depth - 0 = (let levels = are.levels in omega (arith, levels)) in
       subst (λ (n : ℕ). IsJudged (strict o) 0 n (bytes_before fs ++ p) found) level
       (judged_within (from_outside fs) (strict o) 0 (length (bytes_before fs)) are.left p found (omega arith) are.path are.closed distinct (subst (λ (n : ℕ). IsJudged (strict o) (length (bytes_before fs)) n p found) space_left j))
+
+-- an item is expected
+pub expects : (v : OpenItems) (b : Bounds) (t : List ℕ) (fs : List Frame) → AreOpenClean v b fs → t ≡ bytes_before fs → KeepsToKinds b (strict v.order) t → ExpectsItem (strict v.order) b t (frames_in fs) (IsKeyExpected (from_outside fs))
+expects v b t fs clean taken keeps =
+    let are = clean.are in
+    record {
+      left = are.left;
+      fs = from_outside fs;
+      around = around_frames b.depth are.left (from_outside fs) t are.levels are.path (sym taken);
+      space = space_left v.order b fs are clean.distinct;
+      lift = λ p found j.
+          subst (λ (x : List ℕ). IsJudged (strict v.order) 0 (b.depth - 0) (x ++ p) found) (sym taken)
+          (lift v.order b fs are clean.distinct p found (subst (λ (x : List ℕ). IsJudged (strict v.order) (length x) (b.depth - length (frames_in fs)) p found) taken j));
+      keeps = keeps;
+    }
 
 -- ---- an item of one head
 
@@ -63,7 +79,7 @@ module _ (o : KeyOrder) (b : Bounds) (gs : List Container) (t x : List ℕ) (e :
       } in
       (_, (reads-string (strict o) b gs t x e w is_text n i [] from from e reads (λ u. IsUtf8-nil)).0)
 
-  pub leaf_reads : (kind : EventKind) → IsBegun (strict o) b gs t x e w kind → IsLeaf kind → (v : Value) × ReadsItem (strict o) b gs t x from from e v
+  pub leaf_reads : (kind : EventKind) → IsBegun (strict o) b gs t x e w kind → IsLeaf (mark_of w kind) → (v : Value) × ReadsItem (strict o) b gs t x from from e v
   leaf_reads (kinds.Unsigned n) i l = (_, reads-unsigned (strict o) b gs t x e w n from i)
   leaf_reads (kinds.Negative n) i l = (_, reads-negative (strict o) b gs t x e w n from i)
   leaf_reads (kinds.Simple n) i l = (_, reads-simple (strict o) b gs t x e w n from i)
@@ -92,7 +108,7 @@ pub record HasOpened (o : KeyOrder) (b : Bounds) (fs : List Frame) (t x : List �
   pub at : IsAt b e (t ++ x) (at_item (frames_in (f ∷ fs)))
 
 module _ (o : KeyOrder) (b : Bounds) (fs : List Frame) (t x : List ℕ) (e : ItemEventsView) (w : Width) (are : AreOpen (strict o) b.depth (from_outside fs)) (distinct : AreOpenDistinct (strict o) 0 (from_outside fs)) (taken : t ≡ bytes_before fs) where
-  pub other_opens : (kind : EventKind) → IsBegun (strict o) b (frames_in fs) t x e w kind → IsOther kind → (f : Frame) × (expected_of f ≡ Member) × HasOpened o b fs t x e f
+  pub other_opens : (kind : EventKind) → IsBegun (strict o) b (frames_in fs) t x e w kind → IsOther (mark_of w kind) → (f : Frame) × (expected_of f ≡ Member) × HasOpened o b fs t x e f
   other_opens (kinds.Array (Some zero)) begun l = absurd (omega (arith, l))
   other_opens (kinds.Array (Some (suc more))) begun l =
       let i = definite b.depth (frames_in fs) majors.Array w (suc more) x begun.next (proper-definite w begun.proper) begun.taking in
@@ -123,9 +139,10 @@ module _ (o : KeyOrder) (b : Bounds) (fs : List Frame) (t x : List ℕ) (e : Ite
           at = at-as b e (t ++ x) (t ++ x) begun.next (at_item (frames_in (f ∷ fs))) refl i.follows.1 begun.at;
         },
       )
+  other_opens (kinds.Array None) begun l = absurd (omega (arith, l))
   other_opens _ begun l = absurd l
 
-  pub pairs_open : (kind : EventKind) → IsBegun (strict o) b (frames_in fs) t x e w kind → IsMap kind → (v : Spelling) × (es : SpelledEntries) × HasOpened o b fs t x e (a_key w no_entries v es)
+  pub pairs_open : (kind : EventKind) → IsBegun (strict o) b (frames_in fs) t x e w kind → IsMap (mark_of w kind) → (v : Spelling) × (es : SpelledEntries) × HasOpened o b fs t x e (a_key w no_entries v es)
   pairs_open (kinds.Map (Some zero)) begun l = absurd (omega (arith, l))
   pairs_open (kinds.Map (Some (suc more))) begun l =
       let i = definite b.depth (frames_in fs) majors.Map w (suc more) x begun.next (proper-definite w begun.proper) begun.taking in
@@ -144,4 +161,5 @@ module _ (o : KeyOrder) (b : Bounds) (fs : List Frame) (t x : List ℕ) (e : Ite
           at = at-as b e (t ++ x) (t ++ x) begun.next (at_item (frames_in (f ∷ fs))) refl (i.follows.1 ∙ state) begun.at;
         },
       )
+  pairs_open (kinds.Map None) begun l = absurd (omega (arith, l))
   pairs_open _ begun l = absurd l

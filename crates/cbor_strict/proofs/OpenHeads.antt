@@ -1,5 +1,5 @@
 -- What becomes of the open containers as a head comes.
-use Rattle.std.proofs.Common.{◌≡◌, ◌≢◌, ℕ, ◌+◌, ◌<◌, ◌≤◌, ◌⊎◌, Bool, false, Option, Some, None, List, [], ◌∷◌, ◌++◌, length, refl, sym, ap, ◌∙◌, subst, inl, inr, arith, append-nil, length-append}
+use Rattle.std.proofs.Common.{◌≡◌, ◌≢◌, ℕ, ◌+◌, ◌<◌, ◌≤◌, ◌⊎◌, Bool, true, false, Option, Some, None, List, [], ◌∷◌, ◌++◌, length, refl, sym, ap, ◌∙◌, subst, inl, inr, arith, append-nil, length-append}
 use Rattle.std.proofs.lemmas.List.{nil_from_length}
 use Rattle.cbor_head.specs.Prelude.{head, shortest, shortest_head, Bounds, Value, Spelling, SpelledEntries, no_entries, spell, strict, OfHead, Complains, refusal}
 use Rattle.cbor_head.specs.Complaint as complaint
@@ -9,17 +9,18 @@ use Rattle.cbor_head.specs.declared.{limits.TheConstants.MAX_DEPTH, major.Major.
 use Rattle.cbor_head.specs.declared.{reason.Reason.TheVariants.Memory, reason.Refusal.Refusal, width.Width.Width}
 use Rattle.cbor_text.specs.TextCheck.{HasChecked}
 use Rattle.cbor_automaton.specs.declared.event.EventKind.TheVariants as kinds
-use Rattle.cbor_automaton.specs.{Trace.Mark, Trace.a_head, Marks.mark_of, declared.event.Event.Event, declared.event.EventKind.EventKind}
+use Rattle.cbor_automaton.specs.Trace.{Mark, a_head, a_chunk, a_byte, a_break}
+use Rattle.cbor_automaton.specs.{Marks.mark_of, declared.event.Event.Event, declared.event.EventKind.EventKind}
 use Rattle.cbor_machine.specs.NextEvent.{ItemEventsView}
-use Rattle.cbor_verdict.specs.Place.{Container, at_item, close, payload, IsTaking}
+use Rattle.cbor_verdict.specs.Place.{Container, Place, at_item, close, payload, IsTaking}
 use Rattle.cbor_verdict.specs.Frame.{Frame, a_key, before}
-use Rattle.cbor_verdict.specs.Reading.{AreRefused, IsReached, IsUndecided, HasCause, OfMark, IsFault, IsBegun, ReadsItem, string_kind, string_major}
+use Rattle.cbor_verdict.specs.Reading.{AreRefused, IsReached, IsUndecided, HasCause, OfMark, IsFault, IsHeadFault, IsBegun, ReadsItem, string_kind, string_major}
 use Rattle.cbor_verdict.proofs.Items.{whole-cause, definite, proper-definite, never-open, head-count, cause-in, undecided-in, head-judged}
 use Rattle.cbor_verdict.proofs.Steps.{head-size, fault_of, at-reached}
 use Rattle.cbor_verdict.{specs.OpenMaps.AreOpen, specs.OpenMaps.AreOpenDistinct, specs.Judged.Never, proofs.Scalars.at-as, proofs.Undecided.mark-undecided}
 use Rattle.cbor_verdict.proofs.WholeStrings.{string-head, string-expected}
 use Rattle.cbor_strict.specs.inner.LastKeys.{view_value, from_outside, expected_of, IsKept}
-use Rattle.cbor_strict.specs.inner.OpenItems.{AreOpenClean, frames_in, bytes_before, Stands, HasEnded, HasHeadCome, HasBegunIn, IsLeaf, IsMap, IsOther, short_head}
+use Rattle.cbor_strict.specs.inner.OpenItems.{AreOpenClean, frames_in, bytes_before, Stands, HasEnded, HasHeadCome, HasBegunIn, IsLeaf, IsMap, IsNoHead, IsOther, GoesOn}
 use Rattle.cbor_strict.proofs.OpenBegins.{lift, no_break, no_openers, leaf_reads, HasOpened, other_opens, pairs_open}
 use Rattle.cbor_strict.specs.declared.{last_keys.Expected.TheVariants.Member, last_keys.LastKeys.LastKeys, open_items.OpenItems.OpenItems}
 use Rattle.cbor_strict.proofs.{KeptEnds.kept_keys, KeptEnds.kept_levels, OpenEnds.frames_length, OpenEnds.before_more, OpenItems.around_as}
@@ -43,9 +44,10 @@ module _ (o : KeyOrder) (b : Bounds) (fs : List Frame) (are : AreOpen (strict o)
 
 -- ---- the head has a complaint
 
-pub refused_head : (v : OpenItems) (b : Bounds) (event : Event) (t x : List ℕ) (e : ItemEventsView) (reason : Reason) (f : Refusal) (taken : ℕ) (to : Option (List ℕ)) → HasHeadCome v b event t x e
-    → IsFault (strict v.order) (mark_of event.width event.kind) reason → taken ≡ e.machine.taken → f ≡ refusal reason event.place taken → AreRefused (strict v.order) b (t ++ x) to f
-refused_head v b event t x e reason f taken to h fault all is =
+pub refused_head : (v : OpenItems) (b : Bounds) (event : Event) (m : Major) (k : ℕ) (t x : List ℕ) (e : ItemEventsView) (reason : Reason) (f : Refusal) (taken : ℕ) (to : Option (List ℕ)) → mark_of event.width event.kind ≡ a_head m event.width k → HasHeadCome v b event t x e
+    → IsHeadFault event.width k reason → taken ≡ e.machine.taken → f ≡ refusal reason event.place taken → AreRefused (strict v.order) b (t ++ x) to f
+refused_head v b event m k t x e reason f taken to mark h head_fault all is =
+    let fault = subst (λ (y : Mark). IsFault (strict v.order) y reason) (sym mark) (refl, head_fault) in
     let size : taken ≡ length t + length x = all ∙ h.at.stands.stands.taken ∙ length-append t x in
     let f_is : f ≡ refusal reason (length t) (length t + length x) = is ∙ ap (λ (n : ℕ). refusal reason n taken) h.place ∙ ap (refusal reason (length t)) size in
     let c = complaint.complaint (length t + length x) (length t) reason in
@@ -69,38 +71,22 @@ same_width _ _ = inr (λ e. cc e)
 shortest_so : (o : KeyOrder) (at : ℕ) (m : Major) (w : Width) (n : ℕ) → Never (OfHead (strict o) at m w n) → w ≡ shortest n
 shortest_so o at m w n none = elim (same_width w (shortest n)) [ inl e ↦ e | inr f ↦ absurd (none _ (refl, f, refl)) ]
 
-short_of : (o : KeyOrder) (b : Bounds) (fs : List Container) (t x : List ℕ) (e : ItemEventsView) (w : Width) (m : Major) (n : ℕ) (kind : EventKind) → mark_of w kind ≡ a_head m w n → w ≢ Indefinite → short_head kind ≡ shortest_head m n
-    → IsBegun (strict o) b fs t x e w kind → x ≡ short_head kind
-short_of o b fs t x e w m n kind is f short i =
+short_begun : (o : KeyOrder) (b : Bounds) (fs : List Container) (t x : List ℕ) (e : ItemEventsView) (w : Width) (kind : EventKind) (m : Major) (n : ℕ) → mark_of w kind ≡ a_head m w n → IsBegun (strict o) b fs t x e w kind → x ≡ shortest_head m n
+short_begun o b fs t x e w kind m n is i =
+    let f : w ≢ Indefinite = λ opener. no_openers o b fs t x e w m n kind is opener i in
     let d = definite b.depth fs m w n x i.next f (subst (λ (y : Mark). IsTaking b.depth (at_item fs) y x i.next) is i.taking) in
     let clean : Never (OfHead (strict o) (length t) m w n) =
     λ c h. i.clean c (subst (λ (y : Mark). OfMark (strict o) (length t) (at_item fs) y c) (sym is) (head-count (strict o) (length t) m w n c f h)) in
-    d.bytes_are ∙ ap (λ (y : Width). head m y n) (shortest_so o (length t) m w n clean) ∙ sym short
-
-short_begun : (o : KeyOrder) (b : Bounds) (fs : List Container) (t x : List ℕ) (e : ItemEventsView) (w : Width) (kind : EventKind) → IsBegun (strict o) b fs t x e w kind → x ≡ short_head kind
-short_begun o b fs t x e w (kinds.Unsigned n) i = short_of o b fs t x e w majors.Unsigned n (kinds.Unsigned n) refl (never-open b.depth fs majors.Unsigned w n x i.next tt i.taking) refl i
-short_begun o b fs t x e w (kinds.Negative n) i = short_of o b fs t x e w majors.Negative n (kinds.Negative n) refl (never-open b.depth fs majors.Negative w n x i.next tt i.taking) refl i
-short_begun o b fs t x e w (kinds.Simple n) i = short_of o b fs t x e w majors.Simple n (kinds.Simple n) refl (never-open b.depth fs majors.Simple w n x i.next tt i.taking) refl i
-short_begun o b fs t x e w (kinds.Tag n) i = short_of o b fs t x e w majors.Tag n (kinds.Tag n) refl (never-open b.depth fs majors.Tag w n x i.next tt i.taking) refl i
-short_begun o b fs t x e w (kinds.Bytes (Some n)) i = short_of o b fs t x e w majors.Bytes n (kinds.Bytes (Some n)) refl (proper-definite w i.proper) refl i
-short_begun o b fs t x e w (kinds.Text (Some n)) i = short_of o b fs t x e w majors.Text n (kinds.Text (Some n)) refl (proper-definite w i.proper) refl i
-short_begun o b fs t x e w (kinds.Array (Some n)) i = short_of o b fs t x e w majors.Array n (kinds.Array (Some n)) refl (proper-definite w i.proper) refl i
-short_begun o b fs t x e w (kinds.Map (Some n)) i = short_of o b fs t x e w majors.Map n (kinds.Map (Some n)) refl (proper-definite w i.proper) refl i
-short_begun o b fs t x e w (kinds.Bytes None) i = absurd (no_openers o b fs t x e w majors.Bytes 0 (kinds.Bytes None) refl i.proper i)
-short_begun o b fs t x e w (kinds.Text None) i = absurd (no_openers o b fs t x e w majors.Text 0 (kinds.Text None) refl i.proper i)
-short_begun o b fs t x e w (kinds.Array None) i = absurd (no_openers o b fs t x e w majors.Array 0 (kinds.Array None) refl i.proper i)
-short_begun o b fs t x e w (kinds.Map None) i = absurd (no_openers o b fs t x e w majors.Map 0 (kinds.Map None) refl i.proper i)
-short_begun o b fs t x e w kinds.End i = absurd (i.item refl)
-short_begun o b fs t x e w _ i = absurd i.taking
+    d.bytes_are ∙ ap (λ (y : Width). head m y n) (shortest_so o (length t) m w n clean)
 
 -- the item that is expected has begun
-pub begun_in : (v : OpenItems) (b : Bounds) (event : Event) (t x : List ℕ) (e : ItemEventsView) → (h : HasHeadCome v b event t x e) → ((reason : Reason) → IsFault (strict v.order) (mark_of event.width event.kind) reason → ⊥)
+pub begun_in : (v : OpenItems) (b : Bounds) (event : Event) (m : Major) (n : ℕ) (t x : List ℕ) (e : ItemEventsView) → mark_of event.width event.kind ≡ a_head m event.width n → (h : HasHeadCome v b event t x e) → ((reason : Reason) → IsHeadFault event.width n reason → ⊥)
     → IsBegun (strict v.order) b (frames_in h.fs) t x e event.width event.kind
-begun_in v b event t x e h fine = record {
+begun_in v b event m n t x e is h fine = record {
   next = h.next;
   taking = h.taking;
   item = λ g. no_break h.fs h.next (subst (λ (k : EventKind). IsTaking b.depth (at_item (frames_in h.fs)) (mark_of event.width k) x h.next) g h.taking).1;
-  clean = λ c g. let f = fault_of (at_item (frames_in h.fs)) (mark_of event.width event.kind) (strict v.order) (length t) c g in fine f.0 f.1;
+  clean = λ c g. let f = fault_of (at_item (frames_in h.fs)) (mark_of event.width event.kind) (strict v.order) (length t) c g in fine f.0 (subst (λ (y : Mark). IsFault (strict v.order) y f.0) is f.1).1;
   proper = h.proper;
   at = h.at;
 }
@@ -113,15 +99,15 @@ begun_no_memory v b w kind t x e f taken to fs around before i all is =
     (mark-undecided (strict v.order) b (frames_in fs) (bytes_before fs) x (mark_of w kind) i.next i.taking)
 
 -- what is kept now
-pub begun_kept : (v new : OpenItems) (b : Bounds) (event : Event) (t x : List ℕ) (e : ItemEventsView) → (h : HasHeadCome v b event t x e) → ((reason : Reason) → IsFault (strict v.order) (mark_of event.width event.kind) reason → ⊥)
-    → new.order ≡ v.order → new.left ≡ v.left → ((fs : List Frame) → IsKept (view_value v.keys) fs [] → IsKept (view_value new.keys) fs (short_head event.kind)) → HasBegunIn new b event.width event.kind t x e
-begun_kept v new b event t x e h fine same same_left kept =
-    let i = begun_in v b event t x e h fine in
+pub begun_kept : (v new : OpenItems) (b : Bounds) (event : Event) (m : Major) (n : ℕ) (t x : List ℕ) (e : ItemEventsView) → mark_of event.width event.kind ≡ a_head m event.width n → (h : HasHeadCome v b event t x e) → ((reason : Reason) → IsHeadFault event.width n reason → ⊥)
+    → new.order ≡ v.order → new.left ≡ v.left → ((fs : List Frame) → IsKept (view_value v.keys) fs [] → IsKept (view_value new.keys) fs (shortest_head m n)) → HasBegunIn new b event.width event.kind t x e
+begun_kept v new b event m n t x e is h fine same same_left kept =
+    let i = begun_in v b event m n t x e is h fine in
     record {
       fs = h.fs;
       around = around_as v.order new b h.fs (sym same) h.around.are h.around.distinct;
       none = same_left ∙ h.none;
-      kept = subst (IsKept (view_value new.keys) h.fs) (sym (short_begun v.order b (frames_in h.fs) t x e event.width event.kind i)) (kept h.fs h.kept);
+      kept = subst (IsKept (view_value new.keys) h.fs) (sym (short_begun v.order b (frames_in h.fs) t x e event.width event.kind m n is i)) (kept h.fs h.kept);
       taken = h.taken;
       begun = subst (λ (o : KeyOrder). IsBegun (strict o) b (frames_in h.fs) t x e event.width event.kind) (sym same) i;
     }
@@ -150,7 +136,7 @@ module _ (v : OpenItems) (b : Bounds) (w : Width) (kind : EventKind) (t x : List
         at = at-as b e (t ++ spell m.item) (t ++ x) (close (frames_in h.fs)) (close (frames_in h.fs)) (ap (λ (y : List ℕ). t ++ y) same) refl m.at;
       }
 
-pub leaf_ended : (v : OpenItems) (b : Bounds) (w : Width) (kind : EventKind) (t x : List ℕ) (e : ItemEventsView) → (h : HasBegunIn v b w kind t x e) → IsLeaf kind → HasEnded v b e (t ++ x)
+pub leaf_ended : (v : OpenItems) (b : Bounds) (w : Width) (kind : EventKind) (t x : List ℕ) (e : ItemEventsView) → (h : HasBegunIn v b w kind t x e) → IsLeaf (mark_of w kind) → HasEnded v b e (t ++ x)
 leaf_ended v b w kind t x e h l = let r = leaf_reads v.order b (frames_in h.fs) t x e w None kind h.begun l in read_ended v b w kind t x e h r.0 r.1
 
 -- ---- a string opens
@@ -194,13 +180,13 @@ opened_in v new b w kind t x e h f same_order same_left m kept = inl (record {
   at = m.at;
 })
 
-pub other_begun : (v new : OpenItems) (b : Bounds) (w : Width) (kind : EventKind) (t x : List ℕ) (e : ItemEventsView) → HasBegunIn v b w kind t x e → IsOther kind → new.order ≡ v.order → new.left ≡ v.left
+pub other_begun : (v new : OpenItems) (b : Bounds) (w : Width) (kind : EventKind) (t x : List ℕ) (e : ItemEventsView) → HasBegunIn v b w kind t x e → IsOther (mark_of w kind) → new.order ≡ v.order → new.left ≡ v.left
     → ((f : Frame) (fs : List Frame) (p : List ℕ) → expected_of f ≡ Member → IsKept (view_value v.keys) fs p → before f ≡ p → IsKept (view_value new.keys) (f ∷ fs) []) → Stands new b e (t ++ x)
 other_begun v new b w kind t x e h l same_order same_left step =
     let (f, expected, m) = other_opens v.order b h.fs t x e w h.around.are h.around.distinct h.taken kind h.begun l in
     opened_in v new b w kind t x e h f same_order same_left m (step f h.fs x expected h.kept m.head_is)
 
-pub map_begun : (v new : OpenItems) (b : Bounds) (w : Width) (kind : EventKind) (t x : List ℕ) (e : ItemEventsView) → HasBegunIn v b w kind t x e → IsMap kind → new.order ≡ v.order → new.left ≡ v.left
+pub map_begun : (v new : OpenItems) (b : Bounds) (w : Width) (kind : EventKind) (t x : List ℕ) (e : ItemEventsView) → HasBegunIn v b w kind t x e → IsMap (mark_of w kind) → new.order ≡ v.order → new.left ≡ v.left
     → ((w : Width) (u : Spelling) (es : SpelledEntries) (fs : List Frame) (p : List ℕ) → IsKept (view_value v.keys) fs p → before (a_key w no_entries u es) ≡ p → IsKept (view_value new.keys) (a_key w no_entries u es ∷ fs) []) → Stands new b e (t ++ x)
 map_begun v new b w kind t x e h l same_order same_left step =
     let (u, es, m) = pairs_open v.order b h.fs t x e w h.around.are h.around.distinct h.taken kind h.begun l in
@@ -208,17 +194,50 @@ map_begun v new b w kind t x e h l same_order same_left step =
 
 -- there is space for it
 module _ (v : OpenItems) (b : Bounds) (w : Width) (kind : EventKind) (t x : List ℕ) (e : ItemEventsView) (h : HasBegunIn v b w kind t x e) where
-  space_so : IsOther kind ⊎ IsMap kind → length h.fs < b.depth
+  space_so : IsOther (mark_of w kind) ⊎ IsMap (mark_of w kind) → length h.fs < b.depth
   space_so l = go kind h.begun l
     where
-      go : (kind : EventKind) → IsBegun (strict v.order) b (frames_in h.fs) t x e w kind → IsOther kind ⊎ IsMap kind → length h.fs < b.depth
+      go : (kind : EventKind) → IsBegun (strict v.order) b (frames_in h.fs) t x e w kind → IsOther (mark_of w kind) ⊎ IsMap (mark_of w kind) → length h.fs < b.depth
       go (kinds.Array (Some n)) i l = let d = definite b.depth (frames_in h.fs) majors.Array w n x i.next (proper-definite w i.proper) i.taking in omega (arith, d.follows.0, frames_length h.fs)
       go (kinds.Map (Some n)) i l = let d = definite b.depth (frames_in h.fs) majors.Map w n x i.next (proper-definite w i.proper) i.taking in omega (arith, d.follows.0, frames_length h.fs)
       go (kinds.Tag n) i l = let d = definite b.depth (frames_in h.fs) majors.Tag w n x i.next (never-open b.depth (frames_in h.fs) majors.Tag w n x i.next tt i.taking) i.taking in omega (arith, d.follows.0, frames_length h.fs)
+      go (kinds.Array None) i l = absurd (elim l [ inl y ↦ omega (arith, y) | inr y ↦ y ])
+      go (kinds.Map None) i l = absurd (elim l [ inl y ↦ y | inr y ↦ omega (arith, y) ])
       go _ i l = elim l [ inl y ↦ absurd y | inr y ↦ absurd y ]
 
-  pub space_levels : IsOther kind ⊎ IsMap kind → length (view_value v.keys).levels < MAX_DEPTH
+  pub space_levels : IsOther (mark_of w kind) ⊎ IsMap (mark_of w kind) → length (view_value v.keys).levels < MAX_DEPTH
   space_levels l = omega (arith, kept_levels (view_value v.keys) h.fs x h.kept, space_so l, h.begun.at.limits.0)
 
-  pub space_keys : IsOther kind ⊎ IsMap kind → (view_value v.keys).open_keys ≤ MAX_DEPTH
+  pub space_keys : IsOther (mark_of w kind) ⊎ IsMap (mark_of w kind) → (view_value v.keys).open_keys ≤ MAX_DEPTH
   space_keys l = omega (arith, kept_keys (view_value v.keys) h.fs x h.kept, space_so l, h.begun.at.limits.0)
+
+-- ---- which head it is
+
+pub string_of : (is_text : Bool) (w : Width) (kind : EventKind) (n : ℕ) → mark_of w kind ≡ a_head (string_major is_text) w n → 0 < n → kind ≡ string_kind is_text (Some n)
+string_of true w (kinds.Text (Some k)) n is some = cc is
+string_of true w (kinds.Text None) n is some = let none : 0 ≡ n = cc is in absurd (omega (arith, none, some))
+string_of false w (kinds.Bytes (Some k)) n is some = cc is
+string_of false w (kinds.Bytes None) n is some = let none : 0 ≡ n = cc is in absurd (omega (arith, none, some))
+string_of true w _ n is some = absurd (cc is)
+string_of false w _ n is some = absurd (cc is)
+
+pub map_of : (w : Width) (kind : EventKind) (m : Major) (n : ℕ) → mark_of w kind ≡ a_head m w n → m ≡ majors.Map → GoesOn m n → IsMap (mark_of w kind)
+map_of w kind m n is map more = subst IsMap (sym is) (subst (λ (k : Major). IsMap (a_head k w n)) (sym map) (subst (λ (k : Major). GoesOn k n) map more))
+
+pub other_of : (w : Width) (kind : EventKind) (m : Major) (n : ℕ) → mark_of w kind ≡ a_head m w n → GoesOn m n → (m ≡ majors.Bytes → ⊥) → (m ≡ majors.Text → ⊥) → (m ≡ majors.Map → ⊥) → IsOther (mark_of w kind)
+other_of w kind m n is more bytes text map = subst IsOther (sym is) (go m more bytes text map)
+  where
+    go : (m : Major) → GoesOn m n → (m ≡ majors.Bytes → ⊥) → (m ≡ majors.Text → ⊥) → (m ≡ majors.Map → ⊥) → IsOther (a_head m w n)
+    go majors.Array more bytes text map = more
+    go majors.Tag more bytes text map = tt
+    go majors.Bytes more bytes text map = absurd (bytes refl)
+    go majors.Text more bytes text map = absurd (text refl)
+    go majors.Map more bytes text map = absurd (map refl)
+    go _ more bytes text map = absurd more
+
+-- an event where an item is expected has one, if it is no break
+pub head_comes : (d : ℕ) (fs : List Frame) (m : Mark) (x : List ℕ) (next : Place) → IsTaking d (at_item (frames_in fs)) m x next → IsNoHead m → ⊥
+head_comes d fs (a_head m w n) x next h none = none
+head_comes d fs (a_chunk w n) x next h none = h
+head_comes d fs a_byte x next h none = h
+head_comes d fs a_break x next h none = no_break fs next h.1

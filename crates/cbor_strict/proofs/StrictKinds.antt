@@ -4,13 +4,9 @@ use Rattle.cbor_head.specs.Prelude.{Holds, head, Bounds, AreBytes, HoldsOrIndefi
 use Rattle.cbor_head.specs.declared.major.Major.TheVariants as majors
 use Rattle.cbor_head.specs.declared.width.Width.{Width}
 use Rattle.cbor_model.proofs.{ReadLaws.length_head, ByteLists.bytes_join}
-use Rattle.cbor_automaton.specs.declared.event.EventKind.TheVariants as kinds
-use Rattle.cbor_automaton.specs.{Trace.Mark, Trace.a_break, Marks.mark_of, Marks.count_of, declared.event.EventKind.EventKind}
-use Rattle.cbor_events.specs.NextKey.{IsBasicKind}
-use Rattle.cbor_verdict.specs.Kinds.{AsksForKinds, KeepsToKinds, IsKeyExpected, IsKeyFrame, HasBasicPrefix, IsOfOneHead}
-use Rattle.cbor_verdict.specs.Place.{Container, Place, at_item, IsTaking}
+use Rattle.cbor_verdict.specs.Kinds.{KeepsToKinds, IsKeyExpected, IsKeyFrame, IsOfOneHead}
 use Rattle.cbor_verdict.proofs.Heads.{open_or, zero_bytes, zero_length}
-use Rattle.cbor_verdict.proofs.KindBytes.{basic_mark, kinds_behind, Begins, mark_begins, string_is_one, keeps_expected}
+use Rattle.cbor_verdict.proofs.KindBytes.{kinds_behind, Begins, string_is_one}
 use Rattle.cbor_verdict.proofs.KindFrames.{expected_last, IsAround, around_frames, keeps_more}
 use Rattle.cbor_verdict.proofs.WholeStrings.{made_of, made-spells, made-spelled, made-flat}
 use Rattle.cbor_verdict.specs.{Frame.Frame, Frame.a_key, OpenMaps.before_all, OpenMaps.ArePath, Reading.string_major}
@@ -31,29 +27,11 @@ key_top keys expected some none (f ∷ fs) p k =
     let s = some f fs p k in
     ((λ e. d.1 ((key_frame f).0 (sym s ∙ e))), (λ h. s ∙ (key_frame f).1 (d.0 h)))
 
--- ---- the head of an integer or a text
-
-pub basic_kind : (d : ℕ) (cs : List Container) (w : Width) (kind : EventKind) (x : List ℕ) (next : Place) → IsTaking d (at_item cs) (mark_of w kind) x next → (mark_of w kind ≡ a_break → ⊥) → IsBasicKind kind → HasBasicPrefix x
-basic_kind d cs w (kinds.Unsigned n) x next h none k = basic_mark d cs majors.Unsigned w n x next h refl
-basic_kind d cs w (kinds.Negative n) x next h none k = basic_mark d cs majors.Negative w n x next h refl
-basic_kind d cs w (kinds.Text n) x next h none k = basic_mark d cs majors.Text w (count_of n) x next h refl
-basic_kind d cs w (kinds.Chunk n) x next h none k = absurd h
-basic_kind d cs w (kinds.Piece n) x next h none k = absurd h
-basic_kind d cs w kinds.End x next h none k = absurd (none refl)
-basic_kind d cs w _ x next h none k = absurd k
-
 -- ---- the bytes so far
 
 module _ (limits : Bounds) (r : Rules) (fs : List Frame) (left : ℕ) (levels : length fs + left ≡ limits.depth) (path : ArePath left fs) where
   around : IsAround limits.depth left fs (before_all fs) (IsKeyExpected fs)
   around = around_frames limits.depth left fs (before_all fs) levels path refl
-
-  -- behind a head
-  pub keeps_mark : (cs : List Container) (mark : Mark) (x : List ℕ) (next : Place) → limits.depth - length cs ≡ left → IsTaking limits.depth (at_item cs) mark x next → (mark ≡ a_break → ⊥) → (AsksForKinds limits r → IsKeyExpected fs → HasBasicPrefix x)
-      → KeepsToKinds limits r (before_all fs) → KeepsToKinds limits r (before_all fs ++ x)
-  keeps_mark cs mark x next space taking none basic keeps =
-      let m = mark_begins limits.depth cs mark x next taking none in
-      keeps_expected limits r around x (subst (λ (n : ℕ). Begins n x) space m.0) m.1 basic keeps
 
   -- further bytes of an item that holds no others
   keeps_further : (x y : List ℕ) → 0 < length x → Begins left (x ++ y) → IsOfOneHead (x ++ y) → KeepsToKinds limits r (before_all fs ++ x) → KeepsToKinds limits r (before_all fs ++ (x ++ y))

@@ -1,18 +1,18 @@
 -- The strict reader's events, one after another, until the item is complete or refused.
-use Rattle.std.proofs.Common.{◌≡◌, ℕ, ◌+◌, ◌-◌, ◌<◌, ◌≤◌, Option, Some, None, List, [], ◌++◌, length, refl, sym, ap, ◌∙◌, subst, inl, inr, arith, append-nil, take, length-append}
-use Rattle.std.{specs.Option.IfSome, proofs.Math.Seq.take-append-add, specs.Io.KnownBytes.Consumes}
-use Rattle.std.proofs.KnownBytes.{Consumes-nil, Consumes-trans}
-use Rattle.cbor_head.specs.Prelude.{Bounds, Spelling, IsItem, spell, strict, Complaint, Complains, IsComplaint}
+use Rattle.std.proofs.Common.{◌≡◌, ℕ, ◌-◌, ◌<◌, Option, Some, None, List, [], ◌++◌, length, refl, sym, ap, ◌∙◌, subst, inl, inr, arith, append-nil, length-append}
+use Rattle.std.{specs.Option.IfSome, specs.Io.KnownBytes.Consumes, proofs.KnownBytes.Consumes-nil, proofs.KnownBytes.Consumes-trans}
+use Rattle.cbor_head.specs.Prelude.{Bounds, spell, value_of, strict, Complains}
 use Rattle.cbor_head.specs.declared.major.Major.TheVariants as majors
 use Rattle.cbor_head.specs.declared.width.Width.TheVariants.{Direct, One, Two, Four, Eight, Indefinite}
 use Rattle.cbor_head.specs.declared.{major.Major.Major, order.KeyOrder.KeyOrder, reason.Refusal.Refusal, width.Width.Width}
-use Rattle.cbor_model.proofs.{Accepted.accepts_exactly, ReadLaws.length_head}
+use Rattle.cbor_model.proofs.ReadLaws.{length_head}
 use Rattle.cbor_automaton.specs.Bytes.{IsHeadBytes, IsChunkHead, IsEventBytes, last_type}
 use Rattle.cbor_automaton.specs.declared.event.EventKind.TheVariants as kinds
 use Rattle.cbor_automaton.specs.{Trace.Mark, Marks.count_of, Marks.marks_of, declared.event.Event.Event, declared.event.EventKind.EventKind}
 use Rattle.cbor_machine.specs.{Machine.KeepsLimits, Machine.IsComplete, NextEvent.ItemEventsView}
-use Rattle.cbor_verdict.specs.{Judged.Never, Kinds.KeepsToKinds, Reading.string_major, Reading.IsPrefixUnread, Readers.IsRead, Readers.Loses}
-use Rattle.cbor_verdict.{specs.Refusals.IsReaderReason, proofs.Decisions.whole_beside, proofs.Payloads.IsPayload, proofs.Tops.loses}
+use Rattle.cbor_verdict.specs.{Judged.Never, Kinds.KeepsToKinds, Reading.string_major, Place.done as at_end, Reading.IsPrefixUnread, Reading.ReadsItem, Readers.IsRead, Readers.Loses}
+use Rattle.cbor_verdict.proofs.Tops.{loses, known, item-read}
+use Rattle.cbor_verdict.{specs.Refusals.IsReaderReason, proofs.Payloads.IsPayload, proofs.Scalars.at-as}
 use Rattle.cbor_verdict.proofs.RefusedBehind.{stopped_from, stopped_prefix}
 use Rattle.cbor_strict.specs.StrictReader.{StrictEventsView, StandsStrictly, IsNextClean, IsCleanEnd, IsStrictRefusal, limits_of, strict_call}
 use Rattle.cbor_strict.specs.inner.OpenItems.{IsOver, Stands, frames_in}
@@ -90,32 +90,23 @@ module _ (o : KeyOrder) (b : Bounds) (v new : StrictEventsView) (from now to : O
       let w = h.stands.inner in
       let bb = limits_of v in
       let end = over v.inner.items bb v.inner.events h.t w.stands (subst IsComplete (sym w.machine_is) n.end.complete) in
-      let s = end.item in
-      let whole : spell s ≡ h.t = sym end.taken in
       let all : count ≡ length h.t = c ∙ n.stands.between.stands.taken in
-      let item : IsItem bb.depth s (spell s) = record { spelled = end.spelled; within = end.within; bytes_are = refl } in
-      let clean = subst (λ (p : KeyOrder). Never (Complains (strict p) 0 s)) w.order_is end.clean in
-      let none : (x : Complaint) → IsComplaint bb (strict v.order) s x → ⊥ = whole_beside bb (strict v.order) s item (subst (KeepsToKinds bb (strict v.order)) end.taken w.keeps) clean in
       let lost : Consumes from to h.t = subst (Consumes from to) (append-nil h.t) (Consumes-trans from now to h.t [] h.consumed n.end.consumed) in
-      let read : IfSome from (λ input. IsRead bb (strict v.order) input count) = prefix_read from to lost (λ rest. record {
-        item = s;
-        verdict = (accepts_exactly bb (strict v.order) (h.t ++ rest) s).1 (take (bb.bytes - length h.t) rest, (end.spelled, end.within, cut rest s (omega (arith, c, all, n.stands.between.stands.limited, limits.bytes)) whole), none);
-        size = all ∙ ap length (sym whole);
-      }) in (
+      let reads : ReadsItem (strict v.order) bb [] [] [] from to v.inner.events (value_of end.item) = record {
+        item = end.item;
+        spelled = end.spelled;
+        within = omega (arith, end.within);
+        clean = subst (λ (p : KeyOrder). Never (Complains (strict p) 0 end.item)) w.order_is end.clean;
+        taken = record { more = spell end.item; consumed = subst (Consumes from to) end.taken lost; are = refl };
+        value = refl;
+        at = at-as bb v.inner.events h.t (spell end.item) at_end at_end end.taken refl end.at;
+      } in
+      let keeps = subst (KeepsToKinds bb (strict v.order)) end.taken w.keeps in
+      let read : IfSome from (λ input. IsRead bb (strict v.order) input count) =
+      known from (λ input. IsRead bb (strict v.order) input count) (λ input k. subst (IsRead bb (strict v.order) input) (sym (all ∙ ap length end.taken)) (item-read (strict v.order) bb input from to k v.inner.events (value_of end.item) reads keeps).read) in (
         subst (λ (x : Bounds). IfSome from (λ input. IsRead x (strict o) input count)) h.limits (subst (λ (p : KeyOrder). IfSome from (λ input. IsRead bb (strict p) input count)) h.order read),
         loses h.t count from to all (record { more = h.t; consumed = lost; are = refl }),
       )
-    where
-      cut : (rest : List ℕ) (s : Spelling) → length h.t ≤ v.machine.bytes → spell s ≡ h.t → spell s ++ take (v.machine.bytes - length h.t) rest ≡ take v.machine.bytes (h.t ++ rest)
-      cut rest s l e =
-          let left = v.machine.bytes - length h.t in
-          let sum : length h.t + left ≡ v.machine.bytes = omega (arith, l) in
-          ap (λ (x : List ℕ). x ++ take left rest) e ∙ sym (take-append-add h.t rest left) ∙ ap (λ (m : ℕ). take m (h.t ++ rest)) sum
-
-      prefix_read : (from to : Option (List ℕ)) → Consumes from to h.t → ((rest : List ℕ) → IsRead (limits_of v) (strict v.order) (h.t ++ rest) count) → IfSome from (λ input. IsRead (limits_of v) (strict v.order) input count)
-      prefix_read None to c r = tt
-      prefix_read (Some input) None c r = absurd c
-      prefix_read (Some input) (Some rest) c r = subst (λ (x : List ℕ). IsRead (limits_of v) (strict v.order) x count) (sym c) (r rest)
 
   -- it is refused
   pub runs_stop : (f : Refusal) → IsStrictRefusal f (strict_call v new now to h.t h.marks) → IsReaderReason (limits_of v) (strict v.order) f.reason → IsPrefixUnread (strict o) b from to f

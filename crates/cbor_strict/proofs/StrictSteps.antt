@@ -1,23 +1,22 @@
 -- From one event to the next, by the strict rules.
-use Rattle.std.proofs.Common.{◌≡◌, ℕ, zero, suc, ◌<◌, Bool, true, false, true≢false, Option, Some, None, List, [], ◌++◌, length, refl, sym, ap, ◌∙◌, subst, inl, inr, arith, append_assoc, length-append, Ok}
+use Rattle.std.proofs.Common.{◌≡◌, ◌≢◌, ℕ, zero, suc, ◌<◌, Bool, true, false, Option, Some, None, List, [], ◌++◌, length, refl, sym, ap, ◌∙◌, subst, inl, inr, arith, append_assoc, length-append, Ok}
 use Rattle.cbor_head.specs.Prelude.{head, Bounds, AreBytes, strict}
 use Rattle.cbor_head.specs.declared.major.Major.{Major}
 use Rattle.cbor_model.proofs.ByteLists.{bytes_join}
 use Rattle.cbor_automaton.specs.declared.event.EventKind.TheVariants as kinds
-use Rattle.cbor_automaton.specs.{Trace.Mark, Trace.a_break, Marks.marks_of, Marks.mark_of, declared.event.Event.Event, declared.event.EventKind.EventKind}
-use Rattle.cbor_machine.specs.NextEvent.{ItemEventsView, StandsBetween, IsNextEvent, IsEnd, Call, call, IsKept as IsPieceKept}
-use Rattle.cbor_machine.specs.Machine.{IsComplete}
-use Rattle.cbor_events.specs.NextKey.{IsBasicKind}
+use Rattle.cbor_automaton.specs.{Trace.Mark, Marks.marks_of, Marks.mark_of, declared.event.Event.Event, declared.event.EventKind.EventKind}
+use Rattle.cbor_machine.specs.NextEvent.{ItemEventsView, StandsBetween, IsNextEvent, call, IsKept as IsPieceKept}
+use Rattle.cbor_machine.specs.{Machine.IsComplete, NextKey.IsBasicKind, NextKey.IsNextOf}
 use Rattle.cbor_verdict.specs.Place.{Container, Place, at_item, payload, done, IsTaking}
 use Rattle.cbor_verdict.specs.Kinds.{AsksForKinds, KeepsToKinds, IsKeyExpected}
 use Rattle.cbor_verdict.proofs.Payloads.{IsPiece, IsPayload, none-come, part-fits, part-comes, piece-expected}
 use Rattle.cbor_verdict.proofs.Steps.{SameLimits, next-at, head-taken, same-place}
+use Rattle.cbor_verdict.proofs.ItemExpected.{of_reported, of_end, head-keeps}
 use Rattle.cbor_verdict.{specs.Reading.IsAt, specs.Reading.string_major, proofs.Items.taking-some, proofs.Scalars.at-as}
 use Rattle.cbor_verdict.proofs.ParseState.{is-complete, is-done}
 use Rattle.cbor_strict.specs.inner.OpenItems.{frames_in, bytes_before, Stands, HasHeadCome, HasPartCome}
-use Rattle.cbor_strict.proofs.StrictKinds.{basic_kind, keeps_mark, keeps_string}
-use Rattle.cbor_strict.specs.{declared.open_items.OpenItems.OpenItems, inner.StrictEvents.HasCome, inner.StrictEvents.IsNextOf, inner.LastKeys.from_outside}
-use Rattle.cbor_strict.proofs.OpenBegins.{no_break, space_left}
+use Rattle.cbor_strict.{proofs.StrictKinds.keeps_string, specs.declared.open_items.OpenItems.OpenItems, specs.inner.StrictEvents.HasCome}
+use Rattle.cbor_strict.{specs.inner.LastKeys.from_outside, proofs.OpenBegins.no_break, proofs.OpenBegins.expects}
 
 -- ---- what an event can be
 
@@ -32,7 +31,8 @@ payload_so m (suc n) fs l = tt
 pub not_over : (b : Bounds) (e : ItemEventsView) (t : List ℕ) (q : Place) → IsAt b e t q → (q ≡ done → ⊥) → IsComplete e.machine → ⊥
 not_over b e t q a f c = f (is-done b e t q a c)
 
-module _ (v : OpenItems) (b : Bounds) (e new : ItemEventsView) (t : List ℕ) (from to : Option (List ℕ)) (same : SameLimits e.machine new.machine) (live : new.refusal ≡ None) where
+module _ (v : OpenItems) (b : Bounds) (e new : ItemEventsView) (t : List ℕ) (from to : Option (List ℕ)) (same : SameLimits e.machine new.machine) (live : new.refusal ≡ None) (asked : Bool) (o : Option Event)
+    (answers : e.refusal ≡ None → (u : List ℕ) (ms : List Mark) → StandsBetween e.machine u ms → IsNextOf asked (Ok o) (call e new from to u ms)) where
   -- an event that is no part of a payload
   pub record HeadReported (ev : Event) : Type 0 where
     pub marks : List Mark
@@ -40,15 +40,17 @@ module _ (v : OpenItems) (b : Bounds) (e new : ItemEventsView) (t : List ℕ) (f
     pub next : IsNextEvent ev (call e new from to t marks)
     pub some : 0 < length next.bytes
     pub come : HasHeadCome v b ev t next.bytes new
+    pub basic : asked ≡ true → IsBasicKind ev.kind
 
-  pub head_reported : (ev : Event) → Stands v b e t → ((ms : List Mark) → StandsBetween e.machine t ms → IsNextEvent ev (call e new from to t ms)) → (IsPiece ev.kind → ⊥) → HeadReported ev
-  head_reported ev (inl h) next none =
-      let n = next h.at.marks h.at.stands in
+  pub head_reported : (ev : Event) → o ≡ Some ev → Stands v b e t → (IsPiece ev.kind → ⊥) → HeadReported ev
+  head_reported ev is (inl h) none =
+      let (n, basic) = of_reported asked o ev _ is (answers h.at.live t h.at.marks h.at.stands) in
       let taking = head-taken b e new t (at_item (frames_in h.fs)) ev from to tt h.at n same in
       record {
         marks = h.at.marks;
         between = h.at.stands;
         next = n;
+        basic = basic;
         some = taking-some b.depth (frames_in h.fs) (mark_of ev.width ev.kind) n.bytes _ taking;
         come = record {
           fs = h.fs;
@@ -63,10 +65,10 @@ module _ (v : OpenItems) (b : Bounds) (e new : ItemEventsView) (t : List ℕ) (f
           at = next-at b e new t (t ++ n.bytes) (at_item (frames_in h.fs)) (h.at.marks ++ marks_of ev.width ev.kind) h.at same live n.stands;
         };
       }
-  head_reported ev (inr (inl h)) next none =
-      let n = next h.at.marks h.at.stands in
+  head_reported ev is (inr (inl h)) none =
+      let n = (of_reported asked o ev _ is (answers h.at.live t h.at.marks h.at.stands)).0 in
       absurd (none (piece-expected b e t _ ev.kind h.at (payload_so (string_major v.is_text) v.left (frames_in h.fs) h.some) n.expected))
-  head_reported ev (inr (inr h)) next none = absurd ((next h.at.marks h.at.stands).unfinished (is-complete b e t h.at))
+  head_reported ev is (inr (inr h)) none = absurd ((of_reported asked o ev _ is (answers h.at.live t h.at.marks h.at.stands)).0.unfinished (is-complete b e t h.at))
 
   -- a part of a payload
   pub record PieceReported (ev : Event) (piece : List ℕ) : Type 0 where
@@ -77,28 +79,28 @@ module _ (v : OpenItems) (b : Bounds) (e new : ItemEventsView) (t : List ℕ) (f
     pub some : 0 < length piece
     pub come : HasPartCome v b e t piece new
 
-  pub piece_reported : (ev : Event) → Stands v b e t → ((u : List ℕ) (ms : List Mark) → StandsBetween e.machine u ms → IsNextEvent ev (call e new from to u ms)) → IsPiece ev.kind → PieceReported ev new.piece
-  piece_reported ev (inl h) next is =
-      let n = next t h.at.marks h.at.stands in
-      absurd (no_piece ev.kind is _ _ (head-taken b e new t (at_item (frames_in h.fs)) ev from to tt h.at n same))
+  pub piece_reported : (ev : Event) → o ≡ Some ev → Stands v b e t → IsPiece ev.kind → PieceReported ev new.piece
+  piece_reported ev is (inl h) piece =
+      let n = (of_reported asked o ev _ is (answers h.at.live t h.at.marks h.at.stands)).0 in
+      absurd (no_piece ev.kind piece _ _ (head-taken b e new t (at_item (frames_in h.fs)) ev from to tt h.at n same))
     where
       no_piece : (kind : EventKind) → IsPiece kind → (bs : List ℕ) (q : Place) → IsTaking b.depth (at_item (frames_in h.fs)) (mark_of ev.width kind) bs q → ⊥
-      no_piece (kinds.Piece k) is bs q taking = taking
-      no_piece _ is bs q taking = is
-  piece_reported ev (inr (inr h)) next is = absurd ((next t h.at.marks h.at.stands).unfinished (is-complete b e t h.at))
-  piece_reported ev (inr (inl h)) next is =
+      no_piece (kinds.Piece k) piece bs q taking = taking
+      no_piece _ piece bs q taking = piece
+  piece_reported ev is (inr (inr h)) piece = absurd ((of_reported asked o ev _ is (answers h.at.live t h.at.marks h.at.stands)).0.unfinished (is-complete b e t h.at))
+  piece_reported ev is (inr (inl h)) piece =
       let m = string_major v.is_text in
       let k = none-come b false m (frames_in h.fs) t v.left [] from e h.at in
-      let n = next (t ++ k.p) k.at.marks k.at.stands in
+      let n = (of_reported asked o ev _ is (answers h.at.live (t ++ k.p) k.at.marks k.at.stands)).0 in
       let fits = part-fits b false m (frames_in h.fs) t v.left [] [] from from e v.left k h.some ev to new same n in
       let more = part-comes b false m (frames_in h.fs) t v.left [] [] from from e v.left k h.some ev to new same n new.piece live refl in
       let it : more.p ≡ new.piece = sym more.grows in
-      let here = next t h.at.marks h.at.stands in
+      let here = (of_reported asked o ev _ is (answers h.at.live t h.at.marks h.at.stands)).0 in
       record {
         marks = h.at.marks;
         between = h.at.stands;
         next = here;
-        bytes_are = sym (piece_bytes ev.kind is e.piece new.piece here.bytes here.piece_is);
+        bytes_are = sym (piece_bytes ev.kind piece e.piece new.piece here.bytes here.piece_is);
         some = fits.0;
         come = record {
           expected = h;
@@ -110,32 +112,21 @@ module _ (v : OpenItems) (b : Bounds) (e new : ItemEventsView) (t : List ℕ) (f
       }
 
   -- nothing more
-  pub end_reported : Stands v b e t → KeepsToKinds b (strict v.order) t → ((ms : List Mark) → StandsBetween e.machine t ms → IsEnd (call e new from to t ms)) → HasCome v b e new t from to
-  end_reported (inl h) keeps next = absurd (not_over b e t _ h.at (λ g. cc g) (next h.at.marks h.at.stands).complete)
-  end_reported (inr (inl h)) keeps next = absurd (not_over b e t _ h.at (λ g. subst IsPayload g (payload_so (string_major v.is_text) v.left (frames_in h.fs) h.some)) (next h.at.marks h.at.stands).complete)
-  end_reported (inr (inr h)) keeps next =
-      let n = next h.at.marks h.at.stands in
+  pub end_reported : o ≡ None → Stands v b e t → KeepsToKinds b (strict v.order) t → HasCome v b e new t from to
+  end_reported is (inl h) keeps = absurd (not_over b e t _ h.at (λ g. cc g) (of_end asked o _ is (answers h.at.live t h.at.marks h.at.stands)).complete)
+  end_reported is (inr (inl h)) keeps = absurd (not_over b e t _ h.at (λ g. subst IsPayload g (payload_so (string_major v.is_text) v.left (frames_in h.fs) h.some)) (of_end asked o _ is (answers h.at.live t h.at.marks h.at.stands)).complete)
+  end_reported is (inr (inr h)) keeps =
+      let n = of_end asked o _ is (answers h.at.live t h.at.marks h.at.stands) in
       let a = next-at b e new t t done h.at.marks h.at same live n.stands in
       record { marks = h.at.marks; between = h.at.stands; end = n; keeps = keeps; over = record { item = h.item; spelled = h.spelled; within = h.within; clean = h.clean; none = h.none; kept = h.kept; taken = h.taken; at = at-as b new t t _ done refl (same-place b new e t _ done a h.at) a } }
 
 -- ---- no key of another kind begins in it
 
-pub of_reported : (asked : Bool) (ev : Event) (c : Call) → IsNextOf asked (Ok (Some ev)) c → IsNextEvent ev c × (asked ≡ true → IsBasicKind ev.kind)
-of_reported true ev c h = (h.0, λ a. h.1)
-of_reported false ev c h = (h, λ a. absurd (true≢false (sym a)))
-
-pub of_end : (asked : Bool) (c : Call) → IsNextOf asked (Ok None) c → IsEnd c
-of_end true c h = h
-of_end false c h = h
-
 pub head_keeps : (v : OpenItems) (b : Bounds) (ev : Event) (t x : List ℕ) (e : ItemEventsView) (h : HasHeadCome v b ev t x e) → KeepsToKinds b (strict v.order) t → (AsksForKinds b (strict v.order) → IsKeyExpected (from_outside h.fs) → IsBasicKind ev.kind)
     → KeepsToKinds b (strict v.order) (t ++ x)
 head_keeps v b ev t x e h keeps basic =
-    let are = h.around.are in
-    let none : mark_of ev.width ev.kind ≡ a_break → ⊥ = λ i. no_break h.fs h.next (subst (λ (m : Mark). IsTaking b.depth (at_item (frames_in h.fs)) m x h.next) i h.taking).1 in
-    subst (λ (y : List ℕ). KeepsToKinds b (strict v.order) (y ++ x)) (sym h.taken)
-    (keeps_mark b (strict v.order) (from_outside h.fs) are.left are.levels are.path (frames_in h.fs) (mark_of ev.width ev.kind) x h.next (space_left v.order b h.fs are h.around.distinct) h.taking none
-    (λ asked expected. basic_kind b.depth (frames_in h.fs) ev.width ev.kind x h.next h.taking none (basic asked expected)) (subst (KeepsToKinds b (strict v.order)) h.taken keeps))
+    let item : ev.kind ≢ kinds.End = λ i. no_break h.fs h.next (subst (λ (k : EventKind). IsTaking b.depth (at_item (frames_in h.fs)) (mark_of ev.width k) x h.next) i h.taking).1 in
+    head-keeps (strict v.order) b t (frames_in h.fs) (expects v b t h.fs h.around h.taken keeps) ev.width ev.kind x h.next h.taking item basic
 
 pub piece_keeps : (v : OpenItems) (b : Bounds) (old : ItemEventsView) (t x : List ℕ) (e : ItemEventsView) → HasPartCome v b old t x e → KeepsToKinds b (strict v.order) t → KeepsToKinds b (strict v.order) (t ++ x)
 piece_keeps v b old t x e h keeps =

@@ -1,69 +1,23 @@
 -- Why no more is reported: the refusal is that of what was taken, and of what the reader held behind it.
-use Rattle.std.proofs.Common.{◌≡◌, ℕ, ◌-◌, ◌<◌, ◌≤◌, ◌⊎◌, ◌↔◌, Bool, true, false, true≢false, Option, None, List, [], ◌++◌, length, refl, sym, ap, ◌∙◌, subst, inl, inr, arith, append_assoc, Err, length-append}
-use Rattle.cbor_head.specs.Prelude.{head, Bounds, MayFollow, spell, strict}
+use Rattle.std.proofs.Common.{◌≡◌, ℕ, ◌-◌, ◌<◌, ◌≤◌, ◌↔◌, Bool, true, false, true≢false, Option, None, List, [], ◌++◌, length, refl, sym, ap, ◌∙◌, subst, inl, inr, arith, append_assoc, Err, length-append}
+use Rattle.cbor_head.specs.Prelude.{head, Bounds, spell, strict}
 use Rattle.cbor_head.specs.declared.{order.KeyOrder.KeyOrder, reason.Reason.TheVariants.Memory, reason.Reason.TheVariants.KeyKind, reason.Refusal.Refusal}
 use Rattle.cbor_head.specs.declared.keys.Keys.{Keys, TheVariants.IntegersAndTexts}
 use Rattle.cbor_model.proofs.ByteLists.{bytes_join}
 use Rattle.cbor_automaton.specs.{Reasons.IsEventReason, Trace.Mark}
 use Rattle.cbor_machine.specs.NextEvent.{ItemEventsView, StandsBetween, IsNext, call}
-use Rattle.cbor_machine.{specs.Machine.IsComplete, proofs.Positions.no-payload}
-use Rattle.cbor_events.specs.NextKey.{IsBehindBasic, IsOtherKey, IsKeyReason}
-use Rattle.cbor_verdict.specs.Kinds.{AsksForKinds, KeepsToKinds, IsKeyExpected}
-use Rattle.cbor_verdict.proofs.RefusedBehind.{basic_first, stopped_by, stopped_within, stopped_other}
-use Rattle.cbor_verdict.specs.{Frame.Frame, Judged.IsJudged, OpenMaps.AreOpen, Place.at_item, Reading.HasCause, Reading.string_major}
-use Rattle.cbor_verdict.proofs.{KindFrames.IsAround, KindFrames.around_frames, Payloads.none-come, Payloads.part-cut, ParseState.is-complete}
-use Rattle.cbor_verdict.{proofs.Steps.SameLimits, proofs.Steps.stops, specs.RefusedBehind.IsRefusedBehind, proofs.CutHeads.string_cut}
+use Rattle.cbor_machine.{specs.Machine.IsComplete, proofs.Positions.no-payload, specs.NextKey.IsNextOf, specs.NextKey.IsKeyReason}
+use Rattle.cbor_verdict.{specs.Kinds.KeepsToKinds, specs.Kinds.IsKeyExpected, proofs.ItemExpected.of_refused, proofs.ItemExpected.stopped-expected}
+use Rattle.cbor_verdict.{proofs.RefusedBehind.stopped_by, specs.Frame.Frame, specs.Judged.IsJudged, specs.Reading.HasCause, specs.Reading.string_major}
+use Rattle.cbor_verdict.proofs.{Payloads.none-come, Payloads.part-cut, ParseState.is-complete, Steps.SameLimits, Steps.stops}
+use Rattle.cbor_verdict.{specs.RefusedBehind.IsRefusedBehind, proofs.CutHeads.string_cut}
 use Rattle.cbor_strict.specs.inner.LastKeys.{view_value, from_outside, IsKept}
-use Rattle.cbor_strict.specs.inner.OpenItems.{frames_in, bytes_before, Stands, IsItemExpected, IsInString}
+use Rattle.cbor_strict.specs.inner.OpenItems.{frames_in, bytes_before, Stands, IsInString}
 use Rattle.cbor_strict.{specs.declared.open_items.OpenItems.OpenItems, specs.StrictReader.StopsAtOnce, proofs.StrictReading.by_form}
-use Rattle.cbor_strict.{specs.inner.StrictEvents.IsNextOf, proofs.OpenBegins.space_left, proofs.OpenBegins.lift, proofs.StrictKinds.keeps_string}
-
--- ---- within a head
-
-module _ (v : OpenItems) (b : Bounds) (e : ItemEventsView) (t : List ℕ) (h : IsItemExpected v b e t) where
-  abbrev are : AreOpen (strict v.order) b.depth (from_outside h.fs)
-  are = h.around.are
-
-  -- the bytes before the item, and a part of it
-  lifted : (p : List ℕ) → IsJudged (strict v.order) (length t) (b.depth - length (frames_in h.fs)) p None → IsJudged (strict v.order) 0 (b.depth - 0) (t ++ p) None
-  lifted p j =
-      subst (λ (x : List ℕ). IsJudged (strict v.order) 0 (b.depth - 0) (x ++ p) None) (sym h.taken)
-      (lift v.order b h.fs are h.around.distinct p None (subst (λ (x : List ℕ). IsJudged (strict v.order) (length x) (b.depth - length (frames_in h.fs)) p None) h.taken j))
-
-  around : IsAround b.depth are.left (from_outside h.fs) t (IsKeyExpected (from_outside h.fs))
-  around = around_frames b.depth are.left (from_outside h.fs) t are.levels are.path (sym h.taken)
-
--- ---- what was answered
-
-pub of_refused : (asked : Bool) (f : Refusal) (e new : ItemEventsView) (from to : Option (List ℕ)) (t : List ℕ) (ms : List Mark) → IsNextOf asked (Err f) (call e new from to t ms)
-    → (IsNext (Err f) (call e new from to t ms) × (asked ≡ true → IsBehindBasic f (call e new from to t ms))) ⊎ ((asked ≡ true) × IsOtherKey f (call e new from to t ms))
-of_refused true f e new from to t ms (inl h) = inl (h.0, λ a. h.1)
-of_refused true f e new from to t ms (inr h) = inr (refl, h)
-of_refused false f e new from to t ms h = inl (h, λ a. absurd (true≢false (sym a)))
+use Rattle.cbor_strict.proofs.{OpenBegins.expects, OpenBegins.lift, StrictKinds.keeps_string}
 
 module _ (v : OpenItems) (b : Bounds) (e new : ItemEventsView) (t : List ℕ) (from to : Option (List ℕ)) (f : Refusal) (asked : Bool) (same : SameLimits e.machine new.machine) (reason : IsKeyReason f.reason)
     (all : new.machine.taken ≡ f.read) (most : new.machine.taken ≤ new.machine.bytes) (keeps : KeepsToKinds b (strict v.order) t) where
-  -- where an item is expected
-  stopped_expected : (h : IsItemExpected v b e t) → ((asked ≡ true → AsksForKinds b (strict v.order) × IsKeyExpected (from_outside h.fs)) × (AsksForKinds b (strict v.order) → IsKeyExpected (from_outside h.fs) → asked ≡ true))
-      → ((ms : List Mark) → StandsBetween e.machine t ms → IsNextOf asked (Err f) (call e new from to t ms)) → ¬ IsComplete e.machine × IsRefusedBehind (strict v.order) b t from to f
-  stopped_expected h expected next =
-      let cs = frames_in h.fs in
-      let space = space_left v.order b h.fs h.around.are h.around.distinct in
-      elim (of_refused asked f e new from to t h.at.marks (next h.at.marks h.at.stands)) [
-        | inr k ↦
-            let d = expected.0 k.0 in (
-              k.1.unfinished,
-              stopped_other (strict v.order) b t from to f cs (around v b e t h) space (lifted v b e t h) keeps e k.1.byte h.at d.0 d.1 (subst (λ (n : ℕ). MayFollow n t k.1.byte) (same.depth ∙ h.at.depth) k.1.follows) k.1.item k.1.other k.1.consumed
-                  (omega (arith, all, most, ap (λ (x : Refusal). x.read) k.1.is, same.bytes, h.at.bytes)) k.1.is,
-            )
-        | inl n ↦
-            let s = stops b e new t (at_item cs) from to f h.at same n.0.1 in (
-              n.0.0,
-              stopped_within (strict v.order) b t from to f cs (around v b e t h) space (lifted v b e t h) keeps s.bytes s.consumed s.read s.cut
-                  (λ asks key rest is. basic_first t s.cut.p s.cut.last from to s.bytes rest f.place (n.1 (expected.1 asks key)) s.cut.place s.cut.splits s.consumed is),
-            )
-      ]
-
   not_memory : f.reason ≡ Memory → ⊥
   not_memory e = elim reason [ inl h ↦ subst IsEventReason e h | inr h ↦ let two : Memory ≡ KeyKind = sym e ∙ h in cc two ]
 
@@ -108,14 +62,15 @@ pub record IsAsked (asked : Bool) (keys : Keys) (v : OpenItems) : Type 0 where
 
 -- the events refuse
 pub stopped_there : (v : OpenItems) (b : Bounds) (e new : ItemEventsView) (t : List ℕ) (from to : Option (List ℕ)) (f : Refusal) (asked : Bool) (keys : Keys) → SameLimits e.machine new.machine → IsKeyReason f.reason → new.machine.taken ≡ f.read → new.machine.taken ≤ new.machine.bytes
-    → IsAsked asked keys v → b.keys ≡ keys → Stands v b e t → KeepsToKinds b (strict v.order) t → ((u : List ℕ) (ms : List Mark) → StandsBetween e.machine u ms → IsNextOf asked (Err f) (call e new from to u ms)) → ¬ IsComplete e.machine × IsRefusedBehind (strict v.order) b t from to f
+    → IsAsked asked keys v → b.keys ≡ keys → Stands v b e t → KeepsToKinds b (strict v.order) t → (e.refusal ≡ None → (u : List ℕ) (ms : List Mark) → StandsBetween e.machine u ms → IsNextOf asked (Err f) (call e new from to u ms)) → ¬ IsComplete e.machine × IsRefusedBehind (strict v.order) b t from to f
 stopped_there v b e new t from to f asked keys same reason all most asks keys_are (inl h) keeps next =
     let expected = asks.expected h.fs [] h.kept h.none in
-    stopped_expected v b e new t from to f asked same reason all most keeps h (λ a. ((refl, keys_are ∙ (expected.0 a).0), (expected.0 a).1), λ k d. expected.1 (sym keys_are ∙ k.1, d)) (λ ms st. next t ms st)
+    stopped-expected (strict v.order) b t (frames_in h.fs) (expects v b t h.fs h.around h.taken keeps) e new from to asked f h.at same all most (λ a. ((refl, keys_are ∙ (expected.0 a).0), (expected.0 a).1)) (λ k d. expected.1 (sym keys_are ∙ k.1, d))
+    (next h.at.live t h.at.marks h.at.stands)
 stopped_there v b e new t from to f asked keys same reason all most asks keys_are (inr (inl h)) keeps next =
-    stopped_string v b e new t from to f asked same reason all most keeps h (λ u ms st. subst (λ (a : Bool). IsNextOf a (Err f) (call e new from to u ms)) (asks.payload h.some) (next u ms st))
+    stopped_string v b e new t from to f asked same reason all most keeps h (λ u ms st. subst (λ (a : Bool). IsNextOf a (Err f) (call e new from to u ms)) (asks.payload h.some) (next h.at.live u ms st))
 stopped_there v b e new t from to f asked keys same reason all most asks keys_are (inr (inr h)) keeps next =
-    absurd (elim (of_refused asked f e new from to t h.at.marks (next t h.at.marks h.at.stands)) [ inl n ↦ n.0.0 (is-complete b e t h.at) | inr k ↦ k.1.unfinished (is-complete b e t h.at) ])
+    absurd (elim (of_refused asked f (call e new from to t h.at.marks) (next h.at.live t h.at.marks h.at.stands)) [ inl n ↦ n.0.0 (is-complete b e t h.at) | inr k ↦ k.1.unfinished (is-complete b e t h.at) ])
 
 -- no payload is open where a key is expected
 pub no_payload : (v : OpenItems) (b : Bounds) (e : ItemEventsView) (t : List ℕ) (asked : Bool) (keys : Keys) → IsAsked asked keys v → Stands v b e t → asked ≡ true → e.machine.in_payload ≡ false
@@ -125,4 +80,4 @@ no_payload v b e t asked keys asks (inr (inr h)) a = absurd (((asks.expected [] 
 
 -- no event is left out before it
 pub at_once_there : (asked : Bool) (o : KeyOrder) (f : Refusal) (e new : ItemEventsView) (from to : Option (List ℕ)) (t : List ℕ) (ms : List Mark) → IsNextOf asked (Err f) (call e new from to t ms) → StopsAtOnce o f (call e new from to t ms)
-at_once_there asked o f e new from to t ms h = elim (of_refused asked f e new from to t ms h) [ inl n ↦ by_form o f _ n.0.1 | inr k ↦ inr (inr (inr (inr k.1))) ]
+at_once_there asked o f e new from to t ms h = elim (of_refused asked f (call e new from to t ms) h) [ inl n ↦ by_form o f _ n.0.1 | inr k ↦ inr (inr (inr (inr k.1))) ]

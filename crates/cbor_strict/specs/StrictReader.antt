@@ -7,8 +7,7 @@ use Rattle.cbor_head.specs.declared.{reason.Reason.TheVariants.Memory, reason.Re
 use Rattle.cbor_automaton.specs.{Bytes.IsEventBytes, Trace.Mark, Marks.marks_of, declared.event.Event.Event, declared.event.EventKind.EventKind}
 use Rattle.cbor_automaton.specs.declared.event.EventKind.TheVariants.{Piece}
 use Rattle.cbor_machine.specs.NextEvent.{StandsBetween, Call, machine_call, IsNextEvent, IsEnd, IsCut, IsTooLong, HasFormError}
-use Rattle.cbor_machine.specs.{MachineView.MachineView, Machine.IsComplete}
-use Rattle.cbor_events.specs.NextKey.{IsOtherKey}
+use Rattle.cbor_machine.specs.{MachineView.MachineView, Machine.IsComplete, NextKey.IsOtherKey}
 use Rattle.cbor_verdict.specs.{Readers.IsUnread, Refusals.IsComplaintReason}
 use Rattle.cbor_strict.specs.{KeptKeys.open_maps, KeptKeys.key_bytes, inner.StrictEvents.Inner, inner.StrictEvents.IsInner}
 

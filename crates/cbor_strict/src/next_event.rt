@@ -1,13 +1,12 @@
 //! The next event of an item by the strict rules, from a reader.
 
-ghost use Rattle.std.specs.Prelude.{◌≡◌, ℕ, List, None, OnOk, IfErr, true, false};
+ghost use Rattle.std.specs.Prelude.{◌≡◌, ℕ, List, None, OnOk, IfErr};
 ghost use Rattle.cbor_automaton.specs.Trace.{Mark};
 ghost use Rattle.cbor_automaton.specs.Marks.{IsProper};
 ghost use Rattle.cbor_machine.specs.Machine.{KeepsLimits, IsIdle};
 ghost use Rattle.cbor_machine.specs.NextEvent.{IfReported, StandsBetween, call};
 ghost use Rattle.cbor_strict.specs.StrictReader.{StopsAtOnce};
-ghost use Rattle.cbor_strict.specs.inner.StrictEvents.{StandsSomewhere, AnswersStep, IsNextOf};
-ghost use Rattle.cbor_events.specs.NextKey.{IsKeyReason};
+ghost use Rattle.cbor_strict.specs.inner.StrictEvents.{StandsSomewhere, AnswersStep};
 
 use crate::open_items::OpenItems;
 use cbor_automaton::{Event, EventKind};
@@ -36,7 +35,7 @@ pub(crate) fn next_event<R: Read>(
     ensures idle { IsIdle events.old.machine → reader.new ≡ reader.old }
 {
     let is_asked = items.asks(keys);
-    let event = match next_of(events, is_asked, reader) {
+    let event = match events.next_by_kind(is_asked, reader) {
         Ok(Some(event)) => event,
         Ok(None) => return Ok(None),
         Err(refusal) => return Err(refusal),
@@ -53,29 +52,4 @@ pub(crate) fn next_event<R: Read>(
         Ok(()) => Ok(Some(event)),
         Err(refusal) => Err(refusal),
     }
-}
-
-// The next event by form, and by its kind if that is asked for.
-#[inline(always)]
-fn next_of<R: Read>(
-    events: &mut ItemEvents,
-    is_asked: bool,
-    reader: &mut R,
-) -> Result<Option<Event>, Refusal>
-    requires live { events.old.refusal ≡ None }
-    requires head { is_asked ≡ true → events.old.machine.in_payload ≡ false }
-    ensures answers { (t : List ℕ) (ms : List Mark) → StandsBetween events.old.machine t ms
-        → IsNextOf is_asked result
-        (call events.old events.new (R.remaining reader.old) (R.remaining reader.new) t ms) }
-    ensures limits { KeepsLimits events.old.machine events.new.machine }
-    ensures proper { IfReported result (λ e. IsProper e.width e.kind) }
-    ensures live { OnOk result (events.new.refusal ≡ None) }
-    ensures taken { IfErr result (λ f. events.new.machine.taken ≡ f.read) }
-    ensures reason { IfErr result (λ f. IsKeyReason f.reason) }
-    ensures idle { IsIdle events.old.machine → reader.new ≡ reader.old }
-{
-    if is_asked {
-        return events.next_key(reader);
-    }
-    events.next(reader)
 }

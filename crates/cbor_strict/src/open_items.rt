@@ -5,7 +5,9 @@ ghost use Rattle.std.specs.Prelude.{length};
 ghost use Rattle.std.specs.Prelude.{OnOk, IfErr, MatchOption, MatchResult, IsUtf8};
 ghost use Rattle.std.specs.Str.Lossy.{utf8_valid_len};
 ghost use Rattle.cbor_head.specs.Head.{IsSimple, major_number, shortest_head};
+ghost use Rattle.cbor_head.specs.declared.width.Width.{Width};
 ghost use Rattle.cbor_text.specs.TextCheck.{HasChecked};
+ghost use Rattle.cbor_automaton.specs.{Marks.mark_of, Trace.a_head};
 ghost use Rattle.cbor_strict.specs.StrictReader.{IsAgainstEvent};
 ghost use Rattle.cbor_verdict.specs.Frame.{Frame};
 ghost use Rattle.cbor_verdict.specs.Kinds.{IsKeyExpected};
@@ -14,7 +16,7 @@ ghost use Rattle.cbor_strict.specs.inner.OpenItems.{IsItemEnded, AnswersEnd, IsH
 ghost use Rattle.cbor_strict.specs.inner.OpenItems.{AnswersHead};
 ghost use Rattle.cbor_strict.specs.inner.OpenItems.{IsPartCome, AnswersPart, IsBegunIn};
 ghost use Rattle.cbor_strict.specs.inner.OpenItems.{AnswersBegun};
-ghost use Rattle.cbor_strict.specs.inner.OpenItems.{IsSameString, IsBegunBy, short_head};
+ghost use Rattle.cbor_strict.specs.inner.OpenItems.{IsSameString, IsNoHead, IsLeaf, GoesOn};
 
 use crate::head_faults::fault_of;
 use crate::last_keys::{Expected, LastKeys};
@@ -92,54 +94,56 @@ impl OpenItems {
         ensures against { IfErr result (λ f. IsAgainstEvent self.old.order f.reason) }
         ensures read { IfErr result (λ f. f.read ≡ taken) }
     {
-        match fault_of(event) {
+        let Some((major, argument)) = head_of(&event.kind) else {
+            unreachable!()
+        };
+        match fault_of(event.width, argument) {
             Some(reason) => return Err(Refusal::new(reason, event.place, taken)),
             None => {}
         }
-        match self.keep_head(&event.kind) {
-            Ok(()) => self.begin(event.kind, open, taken),
+        match self.keep_head(major, argument) {
+            Ok(()) => self.begin(major, argument, open, taken),
             Err(_) => Err(Refusal::at(Reason::Memory, taken)),
         }
     }
 
-    // Keeps the head of an item, if it is definite and the item stands in a key.
-    fn keep_head(&mut self, kind: &EventKind) -> Result<(), AllocError>
+    // Keeps the head of an item, as short as can be, if the item stands in a key.
+    fn keep_head(&mut self, major: Major, argument: u64) -> Result<(), AllocError>
+        requires { major ≡ Major.Simple → IsSimple argument }
         ensures same { IsSameString self.old self.new }
         ensures kept { (fs : List Frame) → IsKept (view_value self.old.keys) fs []
-            → OnOk result (IsKept (view_value self.new.keys) fs (short_head kind.now)) }
+            → OnOk result (IsKept (view_value self.new.keys) fs (shortest_head major argument)) }
     {
         if !self.keys.is_inside() {
             return Ok(());
         }
-        match head_of(kind) {
-            Some((major, argument)) => {
-                if argument < 24 {
-                    let first = 32 * major.number() + argument as u8;
-                    return self.keys.keep(&[first]);
-                }
-                let head = Head::shortest(major, argument).bytes();
-                self.keys.keep(head.as_slice())
-            }
-            None => Ok(()),
+        if argument < 24 {
+            let first = 32 * major.number() + argument as u8;
+            return self.keys.keep(&[first]);
         }
+        let head = Head::shortest(major, argument).bytes();
+        self.keys.keep(head.as_slice())
     }
 
     // The item whose head was read begins.
-    fn begin(&mut self, kind: EventKind, open: usize, taken: u64) -> Result<(), Refusal>
-        requires { IsBegunIn self.old kind «open» taken }
+    fn begin(&mut self, major: Major, argument: u64, open: usize, taken: u64) -> Result<(), Refusal>
+        requires { IsBegunIn self.old major argument «open» taken }
         ensures order { self.new.order ≡ self.old.order }
-        ensures answers { AnswersBegun self.old self.new kind «open» taken result }
+        ensures answers { AnswersBegun self.old self.new major argument «open» taken result }
         ensures against { IfErr result (λ f. IsAgainstEvent self.old.order f.reason) }
         ensures read { IfErr result (λ f. f.read ≡ taken) }
     {
-        match what_begins(kind) {
-            Begun::Leaf => return self.end_item(open, taken),
-            Begun::String(is_text, count) => self.begin_string(is_text, count),
-            Begun::Map => match self.keys.open_map() {
+        if !goes_on(major, argument) {
+            return self.end_item(open, taken);
+        }
+        match major {
+            Major::Bytes => self.begin_string(false, argument),
+            Major::Text => self.begin_string(true, argument),
+            Major::Map => match self.keys.open_map() {
                 Ok(()) => {}
                 Err(_) => return Err(Refusal::at(Reason::Memory, taken)),
             },
-            Begun::Other => self.keys.open_other(),
+            _ => self.keys.open_other(),
         }
         Ok(())
     }
@@ -240,50 +244,32 @@ impl OpenItems {
     }
 }
 
-// The type and the argument of a definite head.
+// The type and the argument of the head of an item; 0 where it is indefinite.
 fn head_of(kind: &EventKind) -> Option<(Major, u64)>
-    ensures { MatchOption result (short_head kind.now ≡ [])
-        (λ h. (short_head kind.now ≡ shortest_head h.0 h.1)
-        × (h.0 ≡ Major.Simple → IsSimple h.1)) }
+    ensures { (w : Width) → MatchOption result (IsNoHead (mark_of w kind.now))
+        (λ h. (mark_of w kind.now ≡ a_head h.0 w h.1) × (h.0 ≡ Major.Simple → IsSimple h.1)) }
 {
     match kind {
         EventKind::Unsigned(argument) => Some((Major::Unsigned, *argument)),
         EventKind::Negative(argument) => Some((Major::Negative, *argument)),
         EventKind::Simple(simple) => Some((Major::Simple, u64::from(simple.number()))),
-        EventKind::Bytes(Some(count)) => Some((Major::Bytes, *count)),
-        EventKind::Text(Some(count)) => Some((Major::Text, *count)),
-        EventKind::Array(Some(count)) => Some((Major::Array, *count)),
-        EventKind::Map(Some(count)) => Some((Major::Map, *count)),
+        EventKind::Bytes(count) => Some((Major::Bytes, count.unwrap_or(0))),
+        EventKind::Text(count) => Some((Major::Text, count.unwrap_or(0))),
+        EventKind::Array(count) => Some((Major::Array, count.unwrap_or(0))),
+        EventKind::Map(count) => Some((Major::Map, count.unwrap_or(0))),
         EventKind::Tag(number) => Some((Major::Tag, *number)),
-        _ => None,
+        EventKind::Chunk(_) | EventKind::Piece(_) | EventKind::End => None,
     }
 }
 
-// What a definite head begins.
-#[derive(Clone, Copy)]
-enum Begun {
-    // An item that ends with its head.
-    Leaf,
-    // A string, whether it is a text, and how many bytes it has, at least one.
-    String(bool, u64),
-    // A map with pairs.
-    Map,
-    // An array with members, or a tag.
-    Other,
-}
-
-fn what_begins(kind: EventKind) -> Begun
-    ensures { IsBegunBy kind result }
+// Whether more of the item comes behind its head, if that is definite.
+fn goes_on(major: Major, argument: u64) -> bool
+    ensures leaf { (w : Width) → result ≡ false → IsLeaf (a_head major w argument) }
+    ensures more { result ≡ true → GoesOn major argument }
 {
-    match kind {
-        EventKind::Bytes(Some(0))
-        | EventKind::Text(Some(0))
-        | EventKind::Array(Some(0))
-        | EventKind::Map(Some(0)) => Begun::Leaf,
-        EventKind::Bytes(Some(count)) => Begun::String(false, count),
-        EventKind::Text(Some(count)) => Begun::String(true, count),
-        EventKind::Map(Some(_)) => Begun::Map,
-        EventKind::Array(Some(_)) | EventKind::Tag(_) => Begun::Other,
-        _ => Begun::Leaf,
+    match major {
+        Major::Tag => true,
+        Major::Unsigned | Major::Negative | Major::Simple => false,
+        _ => argument > 0,
     }
 }

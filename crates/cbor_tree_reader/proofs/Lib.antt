@@ -2,7 +2,6 @@ pub mod ExpectedRefusals
 pub mod Prefixes
 pub mod HeldKeys
 pub mod KeySets
-pub mod KeysAsked
 pub mod PartEnds
 pub mod PartKinds
 pub mod PartPlaces

@@ -1,5 +1,5 @@
 -- The kinds of keys in what was read: of the first byte of a head, of what a part is, and behind a break.
-use Rattle.std.proofs.Common.{◌≡◌, ◌≢◌, ◌↔◌, ℕ, suc, ◌+◌, ◌-◌, ◌^◌, ◌<◌, true, false, Bool, List, [], ◌∷◌, ◌++◌, length, map, refl, sym, subst, arith, append_assoc, length-append}
+use Rattle.std.proofs.Common.{◌≢◌, ◌↔◌, ℕ, suc, ◌+◌, ◌-◌, ◌^◌, ◌<◌, true, false, Bool, List, [], ◌∷◌, ◌++◌, length, map, refl, sym, subst, arith, append_assoc, length-append}
 use Rattle.cbor_head.specs.Prelude.{plain, Complaint, OfKinds, head, Bounds, Spelling, array, a_map, tag, spell_all, spell_entries, spellings_count, value_of, Value}
 use Rattle.cbor_head.specs.Value as value
 use Rattle.cbor_head.specs.declared.major.Major.TheVariants as majors
@@ -7,15 +7,13 @@ use Rattle.cbor_head.specs.declared.{major.Major.Major, order.KeyOrder.KeyOrder,
 use Rattle.cbor_head.specs.declared.width.Width.TheVariants.{Indefinite}
 use Rattle.cbor_model.proofs.KeyKinds.{of_kind_in, of_kind_entries}
 use Rattle.cbor_automaton.specs.declared.event.EventKind.TheVariants as kinds
-use Rattle.cbor_automaton.specs.{Marks.mark_of, Marks.count_of, Trace.a_break, declared.event.EventKind.EventKind}
-use Rattle.cbor_events.specs.NextKey.{IsBasicKind}
+use Rattle.cbor_automaton.specs.{Marks.mark_of, Marks.count_of, declared.event.EventKind.EventKind}
 use Rattle.cbor_builder.specs.Built.{IsKeyExpected}
 use Rattle.cbor_verdict.specs.Kinds.{KeepsToKinds, IsKeyExpectedIn, IsOfOneHead, HasBasicPrefix}
 use Rattle.cbor_verdict.specs.Levels.{Level, a_key, some_member, some_key, frame, AreLevels, bytes_before}
 use Rattle.cbor_verdict.specs.Place.{Container, Place, at_item, Ends, IsTaking}
-use Rattle.cbor_verdict.proofs.KindBytes.{head_bytes, basic_mark, string_is_one}
-use Rattle.cbor_verdict.{specs.Given.opens, specs.Reading.string_value, proofs.Given.full-array, proofs.Given.full-map, proofs.LevelFrames.around_levels}
-use Rattle.cbor_verdict.proofs.KindFrames.{keeps_closed}
+use Rattle.cbor_verdict.{proofs.KindBytes.head_bytes, proofs.KindBytes.string_is_one, specs.Given.opens, specs.Reading.string_value}
+use Rattle.cbor_verdict.proofs.{Given.full-array, Given.full-map, LevelFrames.around_levels, KindFrames.keeps_closed}
 use Rattle.cbor_tree_reader.specs.inner.PlainParts.{leaf_value, Begins, BeginsString}
 
 -- ---- the first byte of a head
@@ -29,16 +27,6 @@ basic-more [] y some h = absurd (omega (arith, some))
 basic-more (b ∷ bs) y some h = h
 
 module _ (d : ℕ) (fs : List Container) where
-  -- of an event
-  pub mark-basic : (w : Width) (kind : EventKind) (x : List ℕ) (next : Place) → IsTaking d (at_item fs) (mark_of w kind) x next → kind ≢ kinds.End → IsBasicKind kind → HasBasicPrefix x
-  mark-basic w (kinds.Unsigned n) x next h item i = basic_mark d fs majors.Unsigned w n x next h refl
-  mark-basic w (kinds.Negative n) x next h item i = basic_mark d fs majors.Negative w n x next h refl
-  mark-basic w (kinds.Text n) x next h item i = basic_mark d fs majors.Text w (count_of n) x next h refl
-  mark-basic w (kinds.Chunk n) x next h item i = absurd h
-  mark-basic w (kinds.Piece n) x next h item i = absurd h
-  mark-basic w kinds.End x next h item i = absurd (item refl)
-  mark-basic w _ x next h item i = absurd i
-
   pub mark-string : (w : Width) (kind : EventKind) (x y : List ℕ) (next : Place) → BeginsString kind → IsTaking d (at_item fs) (mark_of w kind) x next → IsOfOneHead (x ++ y)
   mark-string w (kinds.Bytes n) x y next i h =
       let g = head_bytes d fs majors.Bytes w (count_of n) x next h in
@@ -53,10 +41,6 @@ string-item kind h e = subst BeginsString e h
 
 pub begins-item : (kind : EventKind) (m : Major) (k : ℕ) → Begins kind m k → kind ≢ kinds.End
 begins-item kind m k h e = subst (λ (x : EventKind). Begins x m k) e h
-
-pub no-break : (w : Width) (kind : EventKind) → kind ≢ kinds.End → mark_of w kind ≡ a_break → ⊥
-no-break w kinds.End item e = item refl
-no-break w _ item e = cc e
 
 -- ---- where a key is expected
 

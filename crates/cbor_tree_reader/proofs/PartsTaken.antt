@@ -1,6 +1,6 @@
 -- A part that was read where an item is expected: what it makes of the path, and why it is refused.
 use Rattle.std.proofs.Common.{◌≡◌, ◌≢◌, ℕ, suc, ◌+◌, ◌-◌, ◌^◌, ◌<◌, ◌≤◌, Option, List, [], ◌∷◌, ◌++◌, length, map, take, slice_get, Some, refl, sym, ap, ap₂, ◌∙◌, subst, inl, arith, append-nil, length-append}
-use Rattle.std.{specs.Io.KnownBytes.Consumes, proofs.lemmas.List.length-map}
+use Rattle.std.{specs.Io.KnownBytes.Consumes, proofs.KnownBytes.Consumes-trans, proofs.lemmas.List.length-map}
 use Rattle.cbor_head.specs.Prelude.{head, canonical, Bounds, Value, spell, spell_all, spellings_count, value_of, plain}
 use Rattle.cbor_head.specs.declared.major.Major.TheVariants as majors
 use Rattle.cbor_head.specs.declared.{order.KeyOrder.KeyOrder, reason.Reason.TheVariants.Memory, reason.Refusal.Refusal, width.Width.Width}
@@ -18,9 +18,8 @@ use Rattle.cbor_verdict.specs.Kinds.{AsksForKinds, KeepsToKinds, IsKeyExpectedIn
 use Rattle.cbor_verdict.specs.Levels.{IsTaken, Level, a_member, some_member, frame, AreLevels, bytes_before, item_expected, settle}
 use Rattle.cbor_verdict.specs.Reading.{IsAt, IsUndecided, IsNextHead, ReadsItem, StopsItem, string_value}
 use Rattle.cbor_verdict.proofs.Items.{extends-by, extends-in, taking-some}
-use Rattle.cbor_verdict.proofs.KindBytes.{item_basic, Begins, mark_begins, keeps_expected}
-use Rattle.cbor_verdict.{specs.Given.opens, specs.Given.StandsAt, proofs.LevelFrames.around_levels, proofs.KindFrames.keeps_on}
-use Rattle.cbor_verdict.proofs.{ParseState.open-is, ParseState.short-at, Levels.clean-anywhere, Given.settled}
+use Rattle.cbor_verdict.{proofs.KindBytes.item_basic, proofs.ItemExpected.basic-event, proofs.ItemExpected.head-keeps, specs.Given.opens, specs.Given.StandsAt}
+use Rattle.cbor_verdict.proofs.{KindFrames.keeps_on, ParseState.open-is, ParseState.short-at, Levels.clean-anywhere, Given.settled}
 use Rattle.cbor_verdict.proofs.{Undecided.item-undecided, Undecided.mark-undecided, Steps.at-reached, RefusedBehind.stopped_behind}
 use Rattle.cbor_verdict.{specs.RefusedBehind.IsRefusedBehind, proofs.Valid.count_bounded}
 use Rattle.cbor_tree_reader.specs.declared.item_part.ItemPart.TheVariants.{Leaf, String, Begin, Break}
@@ -28,9 +27,9 @@ use Rattle.cbor_tree_reader.specs.inner.TreeItems.{AreApartSoFar, HaveBegun, Can
 use Rattle.cbor_tree_reader.specs.inner.PlainParts.{IsCome, leaf_value, BeginsString, IsStill, ReadsPart}
 use Rattle.cbor_tree_reader.proofs.HeldKeys.{held-given, held-opened, held-broken}
 use Rattle.cbor_tree_reader.specs.TreeValues.{level_values, values_with, IsForTree}
-use Rattle.cbor_tree_reader.proofs.ExpectedRefusals.{few, expected-keeps, refused-item, undecided-whole}
+use Rattle.cbor_tree_reader.proofs.ExpectedRefusals.{few, expects, refused-item, undecided-whole}
 use Rattle.cbor_tree_reader.proofs.TreeValues.{values-given, settles-right, tree-step}
-use Rattle.cbor_tree_reader.proofs.PartKinds.{basic-more, mark-basic, mark-string, string-item, begins-item, no-break, HoldsNone, leaf-holds-none, string-holds-none, no-kinds, keeps-broken}
+use Rattle.cbor_tree_reader.proofs.PartKinds.{basic-more, mark-string, string-item, begins-item, HoldsNone, leaf-holds-none, string-holds-none, no-kinds, keeps-broken}
 use Rattle.cbor_tree_reader.proofs.Paths.{given-apart, opened-apart, so-far, settled-begun, settled-place, begun-more, begun-space, begins-at}
 use Rattle.cbor_tree_reader.proofs.PartPlaces.{IsPlaced, begins-container, breaks, leaf-canonical, leaf-major, opens-by, stands-as, string-canonical}
 use Rattle.cbor_tree_reader.specs.declared.{tree_items.TreeItems.TreeItems, item_part.ItemPart.ItemPart}
@@ -82,7 +81,7 @@ module _ (v : TreeItems) (b : Bounds) (e : ItemEventsView) (t : List ℕ) (d : I
 
     -- the first byte reports the kind
     first-kind : ev.kind ≢ kinds.End → AsksForKinds b plain → IsKeyExpectedIn d.ls → HasBasicPrefix n.bytes
-    first-kind item asked is_key = mark-basic b.depth gs ev.width ev.kind n.bytes n.next n.taking item (expected.kind asked is_key)
+    first-kind item asked is_key = basic-event b.depth gs ev.width ev.kind n.bytes n.next n.taking item (expected.kind asked is_key)
 
     -- the places behind it
     module _ (now : TreeItems) (height place : ℕ) (same : height ≡ e.machine.open_count) (same_place : place ≡ ev.place) (starts : now.starts.items ≡ take height v.starts.items ++ place ∷ []) (same_kinds : now.kinds ≡ v.kinds) where
@@ -135,10 +134,9 @@ module _ (v : TreeItems) (b : Bounds) (e : ItemEventsView) (t : List ℕ) (d : I
         let o = v.builder.order in
         let short : length (bytes_before d.ls ++ spell m.item) < 2 ^ 64 = subst (λ (y : List ℕ). length (y ++ spell m.item) < 2 ^ 64) d.taken (short-at b new (t ++ spell m.item) (close gs) m.at) in
         let is : IsTaken (b.depth - length d.ls) m.item = record { spelled = m.spelled; within = omega (arith, m.within, length-map d.ls frame); clean = clean-anywhere m.item (length t) m.clean } in
-        let keeps = subst (λ (y : List ℕ). KeepsToKinds b plain (y ++ spell r.item)) (sym d.taken)
-        (keeps_on b plain (around_levels b.depth d.ls d.levels) r.item (spell r.item) [] r.spelled is.within (sym (append-nil (spell r.item)))
-        (λ asked is_key some. item_basic r.item n.bytes r.taken.more r.spelled r.taken.are some-head (first-kind whole asked is_key))
-        (λ c o. absurd (no-kinds r.item (subst HoldsNone (sym r.value) none) (length (bytes_before d.ls)) c o)) (expected-keeps v b e t d)) in
+        let x = expects v b e t d in
+        let keeps = keeps_on b plain x.around r.item (spell r.item) [] r.spelled (omega (arith, r.within, x.space)) (sym (append-nil (spell r.item)))
+        (λ asked is_key some. item_basic r.item n.bytes r.taken.more r.spelled r.taken.are some-head (first-kind whole asked is_key)) (λ c o. absurd (no-kinds r.item (subst HoldsNone (sym r.value) none) (length t) c o)) d.keeps in
         record {
           bytes = spell m.item;
           some = length_spell m.item;
@@ -195,9 +193,7 @@ module _ (v : TreeItems) (b : Bounds) (e : ItemEventsView) (t : List ℕ) (d : I
         refl
     take-read (Begin m k) r =
         let item = begins-item ev.kind m k r.0 in
-        let begun = mark_begins b.depth gs (mark_of ev.width ev.kind) n.bytes n.next n.taking (no-break ev.width ev.kind item) in
-        let keeps = subst (λ (y : List ℕ). KeepsToKinds b plain (y ++ n.bytes)) (sym d.taken)
-        (keeps_expected b plain (around_levels b.depth d.ls d.levels) n.bytes (subst (λ (i : ℕ). Begins (b.depth - i) n.bytes) (length-map d.ls frame) begun.0) begun.1 (first-kind item) (expected-keeps v b e t d)) in
+        let keeps = head-keeps plain b t gs (expects v b e t d) ev.width ev.kind n.bytes n.next n.taking item expected.kind in
         head-taken (Begin m k) r.1 keeps
         (λ now height place count same same_place starts same_kinds given step keys at.
         let l = opens-by v.builder.order b d.ls d.levels now.starts.items (begun-so now height place same same_place starts same_kinds) (here-so now height place same same_place starts same_kinds) t n.bytes after ev.width ev.kind m k came r.0 in
@@ -211,7 +207,7 @@ module _ (v : TreeItems) (b : Bounds) (e : ItemEventsView) (t : List ℕ) (d : I
         keeps)
     take-read Break r =
         let taking = subst (λ (k : EventKind). IsTaking b.depth (at_item gs) (mark_of ev.width k) n.bytes n.next) r.0 n.taking in
-        let broken = keeps-broken b d.ls n.next d.levels (few v b e t d) taking.1 (expected-keeps v b e t d) in
+        let broken = keeps-broken b d.ls n.next d.levels (few v b e t d) taking.1 (subst (KeepsToKinds b plain) d.taken d.keeps) in
         let keeps = subst (λ (y : List ℕ). KeepsToKinds b plain (y ++ n.bytes)) (sym d.taken) (subst (λ (y : List ℕ). KeepsToKinds b plain (bytes_before d.ls ++ y)) (sym taking.0) broken) in
         head-taken Break r.1 keeps
         (λ now height place count same same_place starts same_kinds given step keys at.
@@ -237,12 +233,11 @@ module _ (v : TreeItems) (b : Bounds) (e : ItemEventsView) (t : List ℕ) (d : I
     pub refused-part : (f : Refusal) → ((fs : List Container) (s x : List ℕ) (w : Width) → IsCome b fs s x after w ev.kind → BeginsString ev.kind × StopsItem plain b fs s x mid to f) → IsRefusedBehind plain b t from to f
     refused-part f refused =
         let h = refused gs t n.bytes ev.width came in
-        let s = subst (λ (y : List ℕ). StopsItem plain b gs y n.bytes mid to f) d.taken h.1 in
+        let s = h.1 in
         let are = sym s.taken.are in
-        refused-item v b e t d from to f
-        (record { bytes = s.bytes; taken = extends-in [] [] n.bytes s.bytes from mid to (extends-by n.bytes from mid n.consumed) s.taken; read = s.read; why = s.why })
-        (subst IsOfOneHead are (mark-string b.depth gs ev.width ev.kind n.bytes s.taken.more n.next h.0 n.taking))
+        refused-item v b e t d s.bytes (subst IsOfOneHead are (mark-string b.depth gs ev.width ev.kind n.bytes s.taken.more n.next h.0 n.taking))
         (λ asked is_key. subst HasBasicPrefix are (basic-more n.bytes s.taken.more some-head (first-kind (string-item ev.kind h.0) asked is_key)))
+        from to f (subst (Consumes from to) are (Consumes-trans from mid to n.bytes s.taken.more n.consumed s.taken.consumed)) s.read s.why
 
     pub part-fits : (part : ItemPart) → IsReadSo part → CanTake v.builder part × IsForTree part
     part-fits part read = go part (read gs t n.bytes ev.width came)

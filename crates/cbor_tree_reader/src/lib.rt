@@ -6,7 +6,6 @@
 mod item_part;
 mod item_reader;
 mod key_set;
-mod next_head;
 mod payload;
 mod strings;
 mod tree_items;

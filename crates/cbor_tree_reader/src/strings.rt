@@ -5,7 +5,6 @@ ghost use Rattle.cbor_head.specs.Complaint.{plain};
 ghost use Rattle.cbor_verdict.specs.Reading.{HasBegun, string_kind};
 ghost use Rattle.cbor_tree_reader.specs.inner.PlainParts.{AnswersString};
 
-use crate::next_head::next_head;
 use crate::payload::read_chunk;
 use cbor_automaton::EventKind;
 use cbor_events::ItemEvents;
@@ -50,22 +49,18 @@ fn read_chunks<R: Read>(
 {
     let mut content = Vec::new(alloc);
     'chunks: loop {
-        match next_head(events, reader) {
-            Ok(event) => match event.kind {
-                EventKind::Chunk(count) => match read_chunk(
-                    events,
-                    reader,
-                    text,
-                    count,
-                    &mut content,
-                ) {
-                    Ok(()) => {}
-                    Err(refusal) => return Err(refusal),
-                },
-                EventKind::End => return Ok(content),
-                _ => unreachable!(),
-            },
+        let kind = match events.next(reader) {
+            Ok(Some(event)) => event.kind,
+            Ok(None) => unreachable!(),
             Err(refusal) => return Err(refusal),
+        };
+        match kind {
+            EventKind::Chunk(count) => match read_chunk(events, reader, text, count, &mut content) {
+                Ok(()) => {}
+                Err(refusal) => return Err(refusal),
+            },
+            EventKind::End => return Ok(content),
+            _ => unreachable!(),
         }
     }
 }

@@ -1,8 +1,8 @@
 //! What the plain reader keeps of the items that are open, from event to event.
 
-ghost use Rattle.std.specs.Prelude.{◌≡◌, ◌<◌, ◌∷◌, [], List, IfOk, None};
+ghost use Rattle.std.specs.Prelude.{◌≡◌, ◌<◌, ◌∷◌, ◌↔◌, [], List, IfOk, None, true};
 ghost use Rattle.std.specs.Prelude.{take, ◌++◌, OnOk, Option};
-ghost use Rattle.cbor_builder.specs.Built.{built};
+ghost use Rattle.cbor_builder.specs.Built.{built, IsKeyExpected};
 ghost use Rattle.cbor_model.specs.Parts.{plain};
 ghost use Rattle.cbor_head.specs.Spelling.{Spelling, value_of};
 ghost use Rattle.cbor_item.specs.OpenValues.{IsWhole, TakesValue, open_levels};
@@ -17,7 +17,6 @@ ghost use Rattle.cbor_tree_reader.specs.inner.ItemPrefix.{IsExpectedSomewhere, A
 
 use crate::item_part::ItemPart;
 use crate::key_set::KeySet;
-use crate::next_head::next_head;
 use crate::tree_parts::give_to_tree;
 use cbor_automaton::Event;
 use cbor_builder::CanonBuilder;
@@ -62,6 +61,17 @@ impl TreeItems {
         }
     }
 
+    // Whether a key is expected that is to be an integer or a text.
+    fn asks(&self) -> bool
+        ensures { (result ≡ true) ↔ ((self.now.kinds ≡ Keys.IntegersAndTexts)
+            × IsKeyExpected self.now.builder.open_levels) }
+    {
+        match self.kinds {
+            Keys::Any => false,
+            Keys::IntegersAndTexts => self.builder.is_key_expected(),
+        }
+    }
+
     // The head of the item that is expected, or a break. A key whose kind is asked for is judged at its
     // first byte.
     pub(crate) fn next_head<R: Read>(
@@ -73,14 +83,7 @@ impl TreeItems {
         ensures { AnswersExpected self.now events.old
             (R.remaining reader.old) (R.remaining reader.new) events.new result }
     {
-        match self.kinds {
-            Keys::Any => return next_head(events, reader),
-            Keys::IntegersAndTexts => {}
-        }
-        if !self.builder.is_key_expected() {
-            return next_head(events, reader);
-        }
-        match events.next_key(reader) {
+        match events.next_by_kind(self.asks(), reader) {
             Ok(Some(event)) => Ok(event),
             Ok(None) => unreachable!(),
             Err(refusal) => Err(refusal),

@@ -1,22 +1,22 @@
 -- Strings of chunks.
-use Rattle.std.proofs.Common.{◌≡◌, ℕ, ◌+◌, ◌-◌, ◌<◌, ◌≤◌, ◌⊎◌, Bool, true, false, Option, Some, None, List, [], ◌∷◌, ◌++◌, length, replicate, refl, sym, ap, ◌∙◌, subst, inl, inr, arith, append_assoc, append-nil, IsTrue, IsUtf8, length-append}
+use Rattle.std.proofs.Common.{◌≡◌, ℕ, ◌+◌, ◌-◌, ◌<◌, ◌≤◌, ◌⊎◌, Bool, true, false, Option, Some, None, List, [], ◌∷◌, ◌++◌, length, refl, sym, ap, ◌∙◌, subst, inl, inr, arith, append_assoc, append-nil, IsTrue, IsUtf8, length-append}
 use Rattle.std.{specs.Str.Lossy.utf8_valid_len, proofs.lemmas.Grind.flat_map-append, proofs.lemmas.Str.IsUtf8-nil, proofs.lemmas.Str.IsUtf8-append}
 use Rattle.std.proofs.KnownBytes.{Consumes-trans}
-use Rattle.cbor_head.specs.Prelude.{Holds, head, Bounds, AreBytes, Chunk, spell, chunks_joined, Rules, Complaint, complaint, OfHead, OfIndefinite, OfCount, OfString, refusal}
+use Rattle.cbor_head.specs.Prelude.{Holds, head, Bounds, AreBytes, Chunk, spell, chunks_joined, Rules, Complaint, complaint, OfHead, OfIndefinite, OfCount, refusal}
 use Rattle.cbor_head.specs.declared.major.Major.TheVariants as majors
 use Rattle.cbor_head.specs.declared.{major.Major.Major, width.Width.Width, width.Width.TheVariants.Indefinite, reason.Refusal.Refusal}
 use Rattle.cbor_head.specs.declared.reason.Reason.TheVariants.{InvalidText}
-use Rattle.cbor_model.proofs.{OneFirst.count_last, Reasons.string_ranked, Agree.string_later, ReadLaws.length_head}
-use Rattle.cbor_automaton.specs.Trace.{Mark, a_head, a_chunk, a_byte, a_break}
+use Rattle.cbor_model.proofs.ReadLaws.{length_head}
 use Rattle.cbor_automaton.specs.declared.event.EventKind.TheVariants as kinds
-use Rattle.cbor_automaton.{specs.Marks.mark_of, specs.declared.event.Event.Event, specs.declared.event.EventKind.EventKind, proofs.Taking.nothing-taken}
+use Rattle.cbor_automaton.specs.{Trace.a_head, Marks.mark_of, declared.event.Event.Event, declared.event.EventKind.EventKind}
+use Rattle.cbor_automaton.proofs.Taking.{nothing-taken}
 use Rattle.cbor_machine.specs.NextEvent.{ItemEventsView}
 use Rattle.cbor_verdict.specs.Place.{Container, Place, at_item, in_chunks, close, payload, IsTaking}
-use Rattle.cbor_verdict.specs.Reading.{IsAt, IsFormRefusal, IsNextHead, Extends, IsBegun, OfMark, ReadsItem, StopsItem, StopsHead, ReadsPayload, StopsPayload, string_major, string_kind, string_value, state_at}
-use Rattle.cbor_verdict.proofs.Items.{whole-cause, is-definite, head-count, extends-none, extends-on}
-use Rattle.cbor_verdict.proofs.Leaves.{chunks_bytes, chunks_of, is-chunked, chunks-value, chunks_on, chunk_judged, chunk, AreChunksSoFar, cut_chunk, chunk_complains, chunks_more, chunks_whole}
-use Rattle.cbor_verdict.{specs.Judged.IsJudged, specs.Judged.Never, proofs.Scalars.at-as, proofs.Heads.zero_bytes, proofs.Heads.zero_length}
-use Rattle.cbor_verdict.proofs.{CutHeads.chunk_cut, WholeStrings.stops-payload}
+use Rattle.cbor_verdict.specs.Reading.{IsAt, IsFormRefusal, IsNextHead, Extends, IsBegun, OfMark, ReadsItem, StopsItem, ReadsPayload, StopsPayload, string_major, string_kind, string_value, state_at}
+use Rattle.cbor_verdict.proofs.Items.{whole-cause, extends-none, extends-on}
+use Rattle.cbor_verdict.proofs.Leaves.{chunks_bytes, chunks_of, is-chunked, chunks-value, chunks_on, chunk, AreChunksSoFar, cut_chunk, chunk_complains, chunks_more, chunks_whole}
+use Rattle.cbor_verdict.{specs.Judged.IsJudged, specs.Judged.Never, proofs.Scalars.at-as, proofs.CutHeads.chunk_cut, proofs.Steps.Stops}
+use Rattle.cbor_verdict.proofs.WholeStrings.{stops-payload}
 
 -- ---- of chunks
 
@@ -62,28 +62,6 @@ chunk-or-end d m fs w (kinds.Chunk n) bs next h = inl (n, refl)
 chunk-or-end d m fs w kinds.End bs next h = inr refl
 chunk-or-end d m fs w _ bs next h = absurd h
 
--- the head of a chunk that is not the shortest
-chunk-head-judged : (text : Bool) (done : List Chunk) (r : Rules) (at d : ℕ) → AreChunksSoFar r at (string_major text) done → (w : Width) (n : ℕ) (c : Complaint) → Holds w n
-    → OfHead r (at + length (chunks_bytes (string_major text) done)) (string_major text) w n c → IsJudged r at d (chunks_bytes (string_major text) done ++ head (string_major text) w n) (Some c)
-chunk-head-judged text done r at d a w n c h o =
-    let m = string_major text in
-    let q : List ℕ = replicate n 0 in
-    let same : length q ≡ n = zero_length n in
-    let to = at + length (chunks_bytes m done) in
-    let o2 : OfHead r to m w (length q) c = subst (λ (k : ℕ). OfHead r to m w k c) (sym same) o in
-    let end = count_last r to m w (length q) c (head-count r to m w (length q) c (is-definite w n h) o2) in
-    subst (λ (k : ℕ). IsJudged r at d (chunks_bytes m done ++ head m w k) (Some c)) same
-    (chunk_judged text done r at d a (chunk w q) (head m w (length q)) q (subst (Holds w) (sym same) h, zero_bytes n) refl (Some c)
-    (record {
-      holds = of-string m o2;
-      ends = omega (arith, end);
-      first = λ e g l. inr (omega (arith, l, end, string_later r to m w q c (of-string m o2), string_later r to m w q e g), omega (arith, end, string_later r to m w q c (of-string m o2), string_ranked r to m w q e g));
-    }))
-  where
-    of-string : (m : Major) → OfHead r (at + length (chunks_bytes m done)) m w (length {A = ℕ} (replicate n 0)) c → OfString r (at + length (chunks_bytes m done)) m w (replicate n 0) c
-    of-string majors.Text o = inl o
-    of-string _ o = o
-
 -- a chunk's head
 record ChunkHead (r : Rules) (at : ℕ) (m : Major) (fs : List Container) (w : Width) (n : ℕ) (bs : List ℕ) (next : Place) : Type 0 where
   bytes_are : bs ≡ head m w n
@@ -103,36 +81,23 @@ module _ (r : Rules) (b : Bounds) (fs : List Container) (t x : List ℕ) (text :
   there = length-append t (chunks_bytes (string_major text) a.done)
 
   -- no head comes
-  pub stops-chunk-head : (to : Option (List ℕ)) (f : Refusal) → StopsHead r b (in_chunks (string_major text) fs) (t ++ chunks_bytes (string_major text) a.done) mid to f → StopsItem r b fs t x from to f
+  pub stops-chunk-head : (to : Option (List ℕ)) (f : Refusal) → Stops b (in_chunks (string_major text) fs) (t ++ chunks_bytes (string_major text) a.done) mid to f → StopsItem r b fs t x from to f
   stops-chunk-head to f s =
       let y = chunks_bytes (string_major text) a.done in
+      let c = s.cut in
       record {
         bytes = y ++ s.bytes;
         taken = extends-on x y s.bytes (y ++ s.bytes) from mid to a.taken s.consumed refl;
         read = s.read ∙ ap length (append_assoc t y s.bytes);
-        why = elim s.why [
-          | inl c ↦ inr (record {
-            p = y ++ c.p;
-            last = c.last;
-            splits = ap (λ (u : List ℕ). y ++ u) c.splits ∙ sym (append_assoc y c.p c.last);
-            found = None;
-            judged = cut_chunk text a.done r (length t) (b.depth - length fs) a.so_far b.depth fs c.begun c.p
-                (nothing-taken b.depth (state_at (in_chunks (string_major text) fs)) c.begun c.p tt c.are_bytes c.ran);
-            cause = (c.place ∙ ap length (append_assoc t y c.p), subst (λ (u : List ℕ). IsFormRefusal b u to f) (append_assoc t y s.bytes) c.refused);
-          })
-          | inr c ↦ inr (whole-cause r b fs t (y ++ s.bytes) to f c.complaint
-              (go c.complaint c.next s.bytes c.mark c.taking (subst (λ (k : ℕ). OfMark r k (in_chunks (string_major text) fs) c.mark c.complaint) there c.of)) c.is (subst (λ (u : List ℕ). length u ≤ b.bytes) (append_assoc t y s.bytes) c.within))
-        ];
+        why = inr (record {
+          p = y ++ c.p;
+          last = c.last;
+          splits = ap (λ (u : List ℕ). y ++ u) c.splits ∙ sym (append_assoc y c.p c.last);
+          found = None;
+          judged = cut_chunk text a.done r (length t) (b.depth - length fs) a.so_far b.depth fs c.begun c.p (nothing-taken b.depth (state_at (in_chunks (string_major text) fs)) c.begun c.p tt c.are_bytes c.ran);
+          cause = (c.place ∙ ap length (append_assoc t y c.p), subst (λ (u : List ℕ). IsFormRefusal b u to f) (append_assoc t y s.bytes) c.refused);
+        });
       }
-    where
-      go : (c : Complaint) (next : Place) (bs : List ℕ) (mark : Mark) → IsTaking b.depth (in_chunks (string_major text) fs) mark bs next → OfMark r (length t + length (chunks_bytes (string_major text) a.done)) (in_chunks (string_major text) fs) mark c
-          → IsJudged r (length t) (b.depth - length fs) (chunks_bytes (string_major text) a.done ++ bs) (Some c)
-      go c next bs (a_chunk w n) h o =
-          subst (λ (u : List ℕ). IsJudged r (length t) (b.depth - length fs) (chunks_bytes (string_major text) a.done ++ u) (Some c)) (sym h.0)
-          (chunk-head-judged text a.done r (length t) (b.depth - length fs) a.so_far w n c h.1 o)
-      go c next bs (a_head m w n) h o = absurd h
-      go c next bs a_byte h o = absurd h
-      go c next bs a_break h o = absurd o
 
   module _ (ev : Event) (mid2 : Option (List ℕ)) (e2 : ItemEventsView) (n : IsNextHead r b (in_chunks (string_major text) fs) (t ++ chunks_bytes (string_major text) a.done) ev mid mid2 e2) where
     pub chunk-kind : ((k : ℕ) → ev.kind ≡ kinds.Chunk k → ⊥) → (ev.kind ≡ kinds.End → ⊥) → ⊥

@@ -11,6 +11,7 @@ pub mod Further
 pub mod Given
 pub mod HeadComplaints
 pub mod Heads
+pub mod ItemExpected
 pub mod Items
 pub mod Judged
 pub mod KindBytes

@@ -1,10 +1,9 @@
 -- From one event to the next: which it can be, its bytes, and where it leads.
 use Rattle.std.proofs.Common.{◌≡◌, ℕ, zero, ◌+◌, ◌-◌, ◌<◌, ◌⊎◌, Bool, Option, Some, None, List, [], ◌∷◌, ◌++◌, length, refl, sym, ap, ◌∙◌, subst, inl, inr, arith, append_assoc, append-nil, length-append, Ok}
 use Rattle.std.specs.Io.KnownBytes.{Consumes}
-use Rattle.cbor_head.specs.Prelude.{Bounds, bounds, Rules, form, strict, Complaint, complaint, IsBeginning, refused, IsVerdict}
+use Rattle.cbor_head.specs.Prelude.{Bounds, bounds, Rules, form, Complaint, complaint, IsBeginning, refused, IsVerdict}
 use Rattle.cbor_head.specs.declared.reason.Reason.TheVariants as reasons
-use Rattle.cbor_head.specs.declared.{width.Width.Width, width.Width.TheVariants.Indefinite, order.KeyOrder.KeyOrder, reason.Reason.Reason}
-use Rattle.cbor_head.specs.declared.reason.Refusal.{Refusal}
+use Rattle.cbor_head.specs.declared.{width.Width.TheVariants.Indefinite, reason.Reason.Reason, reason.Refusal.Refusal}
 use Rattle.cbor_model.proofs.{KindsUnasked.form_beside, ByteLists.bytes_back}
 use Rattle.cbor_automaton.specs.Trace.{Mark, a_head, a_chunk, a_byte, a_break}
 use Rattle.cbor_automaton.specs.Automaton.{State, start, run, reached}
@@ -20,7 +19,7 @@ use Rattle.cbor_machine.specs.NextEvent.{ItemEventsView, StandsBetween, IsNextEv
 use Rattle.cbor_machine.specs.{State.state_of, State.is_in_payload, declared.position.Position.Position, MachineView.MachineView}
 use Rattle.cbor_machine.proofs.{Positions.position-done, NextEvents.whole-clear, NextEvents.run-rest}
 use Rattle.cbor_verdict.specs.Place.{Place, at_item, in_payload, in_chunks, done, IsTaking}
-use Rattle.cbor_verdict.specs.Reading.{state_at, IsAt, IsReached, OfMark, IsHeadExpected, IsNextHead, IsCutHead, StopsHead, IsFault, IsFormRefusal}
+use Rattle.cbor_verdict.specs.Reading.{state_at, IsAt, IsReached, OfMark, IsHeadExpected, IsNextHead, IsCutHead, IsFault, IsFormRefusal}
 use Rattle.cbor_verdict.proofs.Places.{place_of, state-back, one-place, clear-at, taking-at}
 
 -- what has become of the limits
@@ -220,10 +219,6 @@ module _ (b : Bounds) (old new : ItemEventsView) (t : List ℕ) (q : Place) (fro
   pub stops : IsCut f (call old new from to t a.marks) ⊎ IsTooLong f (call old new from to t a.marks) ⊎ HasFormError f (call old new from to t a.marks) → Stops b q t from to f
   stops h = elim h [ inl c ↦ stops-cut c | inr (inl c) ↦ stops-full c | inr (inr c) ↦ stops-error c ]
 
--- a head that doesn't come
-pub no-head : (r : Rules) (b : Bounds) (q : Place) (t : List ℕ) (from to : Option (List ℕ)) (f : Refusal) → Stops b q t from to f → StopsHead r b q t from to f
-no-head r b q t from to f s = record { bytes = s.bytes; consumed = s.consumed; read = s.read; why = inl s.cut }
-
 -- ---- as a reader meets them
 
 pub limits-as : (old new : MachineView) → KeepsLimits old new → SameLimits old new
@@ -239,21 +234,3 @@ module _ (b : Bounds) (old new : ItemEventsView) (t : List ℕ) (q : Place) (fro
   not-ended o e f n =
       let end = subst (λ (x : Option Event). IsNext (Ok x) (call old new from to t a.marks)) e n in
       f (one-place q done (sym a.state ∙ ap (λ (p : Position). state_of p old.machine.inner.frames) (position-done old.machine.inner.position (sym a.stands.stands.inner.shown.complete ∙ end.complete.0))))
-
-pub head-open : (q : Place) → IsHeadExpected q → q ≡ done → ⊥
-head-open q h e = subst IsHeadExpected e h
-
--- ---- what the strict rules have against a head
-
-abbrev pub IsHeadKind : EventKind → Type 0
-IsHeadKind (kinds.Piece n) = ⊥
-IsHeadKind kinds.End = ⊥
-IsHeadKind kind = Unit {0}
-
-pub open-fault : (o : KeyOrder) (w : Width) (kind : EventKind) → w ≡ Indefinite → IsHeadKind kind → IsFault (strict o) (mark_of w kind) reasons.Indefinite
-open-fault o w kind e h = subst (λ (v : Width). IsFault (strict o) (mark_of v kind) reasons.Indefinite) (sym e) (go kind h)
-  where
-    go : (kind : EventKind) → IsHeadKind kind → IsFault (strict o) (mark_of Indefinite kind) reasons.Indefinite
-    go (kinds.Piece n) h = absurd h
-    go kinds.End h = absurd h
-    go _ h = (refl, refl)

@@ -1,15 +1,9 @@
 -- The kinds of keys, where an item is expected on a path.
-use Rattle.std.specs.Prelude.{ℕ, ◌≡◌, ◌⊎◌, ◌/◌, Bool, true, false, IsTrue, List, [], ◌∷◌}
-use Rattle.cbor_head.specs.{Prelude.Rules, Prelude.Bounds, declared.keys.Keys.Keys}
-use Rattle.cbor_head.specs.declared.keys.Keys.TheVariants.{Any, IntegersAndTexts}
+use Rattle.std.specs.Prelude.{ℕ, ◌≡◌, ◌⊎◌, ◌/◌, IsTrue, List, [], ◌∷◌}
+use Rattle.cbor_head.specs.Prelude.{Rules, Bounds}
 use Rattle.cbor_model.specs.FirstBytes.{is_basic}
 use Rattle.cbor_verdict.specs.Path.{Level, bytes_before, IsKeyExpectedIn}
 use Rattle.cbor_verdict.specs.Kinds.{AsksForKinds, KeepsToKinds}
-
--- whether kinds are asked for
-abbrev pub asks : Keys → Bool
-asks Any = false
-asks IntegersAndTexts = true
 
 -- an integer or a text begins so, or a break stands there, or nothing
 abbrev pub IsFitPrefix : List ℕ → Type 0

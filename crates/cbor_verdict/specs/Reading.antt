@@ -137,13 +137,6 @@ IsHeadExpected (at_item fs) = Unit {0}
 IsHeadExpected (in_chunks m fs) = Unit {0}
 IsHeadExpected _ = ⊥
 
-pub record HasHeadExpected (e : ItemEventsView) : Type 0 where
-  pub b : Bounds
-  pub q : Place
-  pub expected : IsHeadExpected q
-  pub t : List ℕ
-  pub at : IsAt b e t q
-
 -- the next event, without complaint
 pub record IsNextHead (r : Rules) (b : Bounds) (q : Place) (t : List ℕ) (e : Event) (from to : Option (List ℕ)) (new : ItemEventsView) : Type 0 where
   pub bytes : List ℕ
@@ -165,27 +158,6 @@ pub record IsCutHead (b : Bounds) (q : Place) (t bytes : List ℕ) (to : Option 
   pub ran : run b.depth (state_at q) p ≡ reached begun []
   pub place : f.place ≡ length (t ++ p)
   pub refused : IsFormRefusal b (t ++ bytes) to f
-
--- the head has a complaint
-pub record HasHeadComplaint (r : Rules) (b : Bounds) (q : Place) (t bytes : List ℕ) (f : Refusal) : Type 0 where
-  pub mark : Mark
-  pub next : Place
-  pub taking : IsTaking b.depth q mark bytes next
-  pub complaint : Complaint
-  pub of : OfMark r (length t) q mark complaint
-  pub is : f ≡ refusal complaint.reason complaint.place complaint.end
-  pub within : length (t ++ bytes) ≤ b.bytes
-
-pub record StopsHead (r : Rules) (b : Bounds) (q : Place) (t : List ℕ) (from to : Option (List ℕ)) (f : Refusal) : Type 0 where
-  pub bytes : List ℕ
-  pub consumed : Consumes from to bytes
-  pub read : f.read ≡ length (t ++ bytes)
-  pub why : IsCutHead b q t bytes to f ⊎ HasHeadComplaint r b q t bytes f
-
-abbrev pub AnswersHead : Rules → ItemEventsView → Option (List ℕ) → Option (List ℕ) → ItemEventsView → Result Event Refusal → Type 0
-AnswersHead r e from to new result =
-    (b : Bounds) (q : Place) (t : List ℕ) → IsHeadExpected q → IsAt b e t q
-    → MatchResult result (λ event. IsNextHead r b q t event from to new) (λ f. StopsHead r b q t from to f)
 
 -- ---- strings
 

@@ -2,6 +2,7 @@
 
 mod annotated;
 mod command_line;
+mod disk;
 mod explained;
 mod failures;
 mod help;

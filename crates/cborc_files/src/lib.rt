@@ -10,8 +10,6 @@ mod folder;
 mod hex_text;
 mod recording;
 mod replacement;
-#[cfg(test)]
-mod tests;
 mod visible;
 
 pub use disk::{Disk, LONGEST, append_from};

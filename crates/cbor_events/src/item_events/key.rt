@@ -1,19 +1,17 @@
 //! The next event where a key is expected that is to be an integer or a text.
 
-ghost use Rattle.std.specs.Prelude.{◌≡◌, ◌≢◌, ◌≤◌, ◌<◌, ◌⊎◌, ◌/◌, ℕ, List, [], None, Some, OnOk, OnErr, IfErr};
-ghost use Rattle.std.specs.Prelude.{IfSome, IsTrue, Err, false, true};
-ghost use Rattle.cbor_head.specs.declared.reason.Reason.TheVariants.{KeyKind};
+ghost use Rattle.std.specs.Prelude.{◌≡◌, ◌≢◌, ◌≤◌, ◌<◌, ◌⊎◌, ◌/◌, ℕ, List, IfErr, IsTrue};
+ghost use Rattle.std.specs.Prelude.{false, true};
 ghost use Rattle.cbor_model.specs.FirstBytes as first_bytes;
 ghost use Rattle.cbor_automaton.specs.Trace.{Mark};
 ghost use Rattle.cbor_automaton.specs.Marks.{IsProper};
 ghost use Rattle.cbor_automaton.specs.Reasons.{IsEventReason};
 ghost use Rattle.cbor_machine.specs.Machine.{KeepsLimits, IsIdle, StandsFor, wanted};
-ghost use Rattle.cbor_machine.specs.NextEvent.{StandsBetween, IfReported, machine_call, call};
-ghost use Rattle.cbor_events.specs.NextKey.{IsNextKey, IsKeyReason};
+ghost use Rattle.cbor_machine.specs.NextEvent.{StandsBetween, IfReported, machine_call};
+ghost use Rattle.cbor_machine.specs.NextKey.{IsNextKey, IsKeyReason};
 ghost use Rattle.cbor_events.specs.inner.Reads.{HasFirst, HasStopped, IsFirstAnswer, IsTakenAt};
 ghost use Rattle.cbor_events.specs.inner.Reads.{IfPartReported, IfStopped};
 
-use crate::item_events::ItemEvents;
 use crate::item_events::reading::{ARGUMENT, at_end, next_part};
 use crate::part::{PartialEvent, read_part};
 use cbor_automaton::Event;
@@ -21,50 +19,16 @@ use cbor_head::{Reason, Refusal};
 use cbor_machine::Machine;
 use std::io::Read;
 
-impl ItemEvents {
-    /// The next event where a key is expected that is to be an integer or a text, with its bytes read.
-    ///
-    /// As [`next`](ItemEvents::next), but the kind is judged at the first byte of the key, before
-    /// any more is asked of the reader. Where that byte may stand there, and is neither of an
-    /// integer nor of a text nor a break, it is taken, and refused at its place: `KeyKind`, even
-    /// where the byte limit is reached with it.
-    #[inline(never)]
-    pub fn next_key<R: Read>(&mut self, reader: &mut R) -> Result<Option<Event>, Refusal>
-        // No payload is open.
-        requires head { self.old.refusal ≡ None → self.old.machine.in_payload ≡ false }
-        // For all bytes and marks that the machine stood for, as long as nothing was refused.
-        ensures answers { self.old.refusal ≡ None
-            → (t : List ℕ) (ms : List Mark) → StandsBetween self.old.machine t ms
-            → IsNextKey result
-            (call self.old self.new (R.remaining reader.old) (R.remaining reader.new) t ms) }
-        ensures limits { KeepsLimits self.old.machine self.new.machine }
-        ensures proper { IfReported result (λ e. IsProper e.width e.kind) }
-        ensures live { OnOk result (self.new.refusal ≡ None) }
-        ensures refused { IfErr result (λ f. (self.new.refusal ≡ Some f)
-            × (self.new.machine.taken ≡ f.read) × IsKeyReason f.reason) }
-        ensures emptied { OnErr result (self.new.piece ≡ []) }
-
-        // Where nothing is wanted the reader is not touched, nor after a refusal.
-        ensures idle { IsIdle self.old.machine → reader.new ≡ reader.old }
-        ensures again { IfSome self.old.refusal
-            (λ f. (result ≡ Err f) × (self.new ≡ self.old) × (reader.new ≡ reader.old)) }
-    {
-        if let Some(refusal) = self.refusal {
-            return Err(refusal);
-        }
-        match key_head(&mut self.machine, reader) {
-            Ok(event) => Ok(event),
-            Err(refusal) => {
-                self.refusal = Some(refusal);
-                self.held = 0;
-                Err(refusal)
-            }
-        }
-    }
-}
-
 // The head of a key that is to be an integer or a text, or a break.
-fn key_head<R: Read>(machine: &mut Machine, reader: &mut R) -> Result<Option<Event>, Refusal>
+//
+// The kind is judged at the first byte, before any more is asked of the reader. Where that byte may
+// stand there, and is neither of an integer nor of a text nor a break, it is taken, and refused at
+// its place, even where the byte limit is reached with it.
+#[inline(never)]
+pub(crate) fn key_head<R: Read>(
+    machine: &mut Machine,
+    reader: &mut R,
+) -> Result<Option<Event>, Refusal>
     requires within { machine.old.open_count ≤ machine.old.depth }
     requires head { machine.old.in_payload ≡ false }
     ensures answers { (kept t : List ℕ) (ms : List Mark) → StandsBetween machine.old t ms

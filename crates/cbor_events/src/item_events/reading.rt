@@ -14,7 +14,7 @@ ghost use Rattle.cbor_machine.specs.Machine.{StandsFor};
 ghost use Rattle.cbor_events.specs.inner.Reads.{IfGiven};
 
 use crate::item_events::PART;
-use crate::part::{PartialEvent, answer_anew, read_part};
+use crate::part::{PartialEvent, read_part};
 use cbor_automaton::{Event, EventKind};
 use cbor_head::Refusal;
 use cbor_machine::{Machine, Out, take_part};
@@ -54,7 +54,8 @@ pub(crate) fn at_end(machine: &mut Machine) -> Result<Option<Event>, Refusal>
     }
 }
 
-// Reads what the machine wants, one part after another, until it reports an event or stops.
+// Reads what the machine wants, one part after another, until it reports an event or stops. It has a stack
+// frame of its own, so that the caller's stays small.
 #[inline(never)]
 fn next_event<R: Read>(
     machine: &mut Machine,
@@ -92,34 +93,6 @@ fn next_event<R: Read>(
     }
 }
 
-// `next_event` with a stack frame of its own, so that the caller's stays small.
-#[inline(always)]
-fn next_apart<R: Read>(
-    machine: &mut Machine,
-    reader: &mut R,
-    buffer: &mut [u8],
-) -> Result<Option<Event>, Refusal>
-    requires space { 0 < length buffer.old }
-    requires within { machine.old.open_count ≤ machine.old.depth }
-    ensures answers { (was : MachineView) (from : Option (List ℕ)) (kept t : List ℕ)
-        (ms : List Mark) → StandsBetween was t ms
-        → HasRead from (R.remaining reader.old) machine.old t ms
-        → machine.old.depth ≡ was.depth
-        → IsNext result (machine_call was machine.new from (R.remaining reader.new)
-        kept (piece_after result kept buffer.new) t ms) }
-    ensures given { (t : List ℕ) (ms : List Mark) → StandsFor machine.old t ms
-        → IfGiven result machine.new t ms }
-    ensures limits { KeepsLimits machine.old machine.new }
-    ensures proper { IfReported result (λ e. IsProper e.width e.kind) }
-    ensures taken { IfErr result (λ f. machine.new.taken ≡ f.read) }
-    ensures reason { IfErr result (λ f. IsEventReason f.reason) }
-    ensures idle { IsIdle machine.old → reader.new ≡ reader.old }
-    ensures fits { piece_size result ≤ length buffer.new }
-    ensures same { length buffer.new ≡ length buffer.old }
-{
-    answer_anew(next_event(machine, reader, buffer))
-}
-
 // The next part of an event; mostly it takes one read.
 #[inline(always)]
 pub(crate) fn next_part<R: Read>(
@@ -147,11 +120,11 @@ pub(crate) fn next_part<R: Read>(
 {
     let want = expected(machine, buffer);
     if want == 0 {
-        return next_apart(machine, reader, buffer);
+        return next_event(machine, reader, buffer);
     }
     match read_part(machine, reader, buffer, want) {
         PartialEvent::Reported(event) => Ok(Some(event)),
-        PartialEvent::Open => next_apart(machine, reader, buffer),
+        PartialEvent::Open => next_event(machine, reader, buffer),
         PartialEvent::Stopped(refusal) => Err(refusal),
     }
 }
@@ -172,7 +145,7 @@ fn next_head<R: Read>(machine: &mut Machine, reader: &mut R) -> Result<Option<Ev
 {
     let mut head = [0; ARGUMENT];
     if !machine.wants_head() {
-        return next_apart(machine, reader, &mut head);
+        return next_event(machine, reader, &mut head);
     }
     match read_part(machine, reader, &mut head[..1], 1) {
         PartialEvent::Reported(event) => Ok(Some(event)),

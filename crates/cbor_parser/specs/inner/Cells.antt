@@ -2,17 +2,15 @@
 use Rattle.std.specs.Prelude.{◌≡◌, ◌≢◌, ℕ, ◌+◌, ◌≤◌, Bool, true, false, List, [], ◌∷◌, ◌++◌, length, slice_range}
 use Rattle.cbor_head.specs.Prelude.{plain, strict, Bounds, key_lt, Spelling, spell, refusal}
 use Rattle.cbor_head.specs.declared.reason.Reason.TheVariants as reasons
-use Rattle.cbor_head.specs.declared.{order.KeyOrder.KeyOrder, reason.Refusal.Refusal, width.Width.TheVariants.Indefinite}
+use Rattle.cbor_head.specs.declared.{order.KeyOrder.KeyOrder, width.Width.TheVariants.Indefinite}
 use Rattle.cbor_model.specs.KeyPrefix.{prefix_of}
 use Rattle.cbor_verdict.specs.LastKey as keys
 use Rattle.cbor_verdict.specs.Path as path
 use Rattle.cbor_verdict.specs.Path.{level_bytes, bytes_before, AreClean, HasEnded}
 use Rattle.cbor_verdict.specs.{Kinds.KeepsToKinds, Stop.HasComplaint}
 use Rattle.cbor_parser.specs.declared.container.Expected.TheVariants.{Item, Key, Value}
-use Rattle.cbor_parser.specs.declared.container.Step.TheVariants as steps
-use Rattle.cbor_parser.specs.declared.container.Next.TheVariants as nexts
-use Rattle.cbor_parser.specs.declared.{container.Expected.Expected, last_key.LastKey.LastKey, open_container.OpenContainer.OpenContainer, container.Step.Step}
-use Rattle.cbor_parser.specs.{declared.container.Next.Next, declared.stack.Stack.Stack, Stack.open_levels, inner.OpenContainer.counted}
+use Rattle.cbor_parser.specs.declared.{container.Expected.Expected, last_key.LastKey.LastKey, open_container.OpenContainer.OpenContainer}
+use Rattle.cbor_parser.specs.inner.OpenContainer.{counted}
 
 -- ---- a cell
 
@@ -113,25 +111,9 @@ pub record OutOfOrder (o : KeyOrder) (limits : Bounds) (input : List ℕ) (k : L
   pub strictly : HasComplaint (strict o) limits input (refusal reasons.KeyOrder k.key at)
   pub repeated : last_key input k ≡ key_at input k at → HasComplaint plain limits input (refusal reasons.RepeatedKey k.key at)
 
--- so it is reported
-abbrev pub IsKeyRefused : KeyOrder → Bounds → List ℕ → LastKey → Refusal → Type 0
-IsKeyRefused o limits input k f = OutOfOrder o limits input k f.read × (f ≡ refusal reasons.KeyOrder k.key f.read)
-
 -- ---- what the calls do
 
 -- the key that was expected ends there: whether it comes behind the last one
 abbrev pub TakesKey : Bool → KeyOrder → List ℕ → ℕ → LastKey → LastKey → Type 0
 TakesKey true o input at old new = HoldsKey input new (key_at input old at) × (IsPrefixed input old → key_lt o (last_key input old) (key_at input old at) ≡ true)
 TakesKey false o input at old new = (new ≡ old) × (old.key ≤ at → IsPrefixed input old → key_lt o (last_key input old) (key_at input old at) ≡ false)
-
--- an item of it is whole, which ends there
-abbrev pub Advances : Step → KeyOrder → List ℕ → ℕ → StrictCell → StrictCell → Type 0
-Advances steps.Next o input at old new = (limits : Bounds) (cs : List StrictCell) → HasEndedAt o limits input (old ∷ cs) at → StandsAt o limits input (new ∷ cs) at
-Advances steps.Full o input at old new = (limits : Bounds) (cs : List StrictCell) → HasEndedAt o limits input (old ∷ cs) at → HasClosed o limits input cs at
-Advances steps.OutOfOrder o input at old new = (limits : Bounds) (cs : List StrictCell) → HasEndedAt o limits input (old ∷ cs) at → OutOfOrder o limits input new.kept at
-
--- from what has ended, that is what is expected
-abbrev pub Leads : Next → KeyOrder → List ℕ → ℕ → List StrictCell → Stack StrictCell → List StrictCell → Type 0
-Leads nexts.Item o input at old new cells = (limits : Bounds) → HasClosed o limits input old at → StandsAt o limits input (open_levels StrictCell new cells) at
-Leads nexts.Done o input at old new cells = (limits : Bounds) → HasClosed o limits input old at → IsWhole o limits input at
-Leads nexts.OutOfOrder o input at old new cells = (limits : Bounds) → HasClosed o limits input old at → OutOfOrder o limits input new.top.kept at

@@ -1,17 +1,16 @@
 -- What the walk over a valid item holds: of the open containers what is still to come, and a sink that took what is complete.
 use Rattle.std.specs.Prelude.{◌≡◌, ℕ, ◌-◌, ◌^◌, ◌<◌, ◌≤◌, Bool, true, false, List, [], ◌∷◌, ◌++◌, length, take}
 use Rattle.cbor_head.specs.Prelude.{Bounds, Spelling, spell, IsSpelled, depth}
-use Rattle.cbor_head.specs.declared.{keys.Keys.Keys, major.Major.Major}
+use Rattle.cbor_head.specs.declared.major.Major.{Major}
 use Rattle.cbor_builder.specs.declared.repeat.Repeat.{Repeat}
 use Rattle.cbor_verdict.specs.Levels.{IsClean, IsTaken, Level, AreLevels, bytes_before, ParseState, item_expected, item_whole, settle}
-use Rattle.cbor_parser.specs.declared.parser.ParseEnd.TheVariants as parse_end
-use Rattle.cbor_parser.specs.declared.parser.CloseResult.TheVariants as then
-use Rattle.cbor_parser.specs.declared.parse.Stop.TheVariants as stop
-use Rattle.cbor_parser.specs.declared.part.Part.TheVariants as part
+use Rattle.cbor_parser.specs.declared.parser.ParseError.TheVariants as error
+use Rattle.cbor_parser.specs.declared.parser.SinkStop.TheVariants as stop
+use Rattle.cbor_parser.specs.declared.part.GivenPart.TheVariants as part
 use Rattle.cbor_parser.specs.Sink.{StandsFull, Reported, IsReportedFull, IsWithin}
-use Rattle.cbor_parser.specs.declared.{parser.ParseEnd.ParseEnd, parser.CloseResult.CloseResult, parse.Stop.Stop}
-use Rattle.cbor_parser.specs.{inner.Repeated.IsKeyReported, declared.part.Part.Part, ParsedItem.IsStop, inner.Kept.KeepsBefore, inner.Kept.ParseEndKept}
-use Rattle.cbor_parser.specs.inner.{OpenContainer.cells_of, OpenContainer.Cell, OpenMaps.IsCellOf, Parts.IsHead, Parts.IsOpener}
+use Rattle.cbor_parser.specs.declared.{parser.ParseError.ParseError, parser.Parser.Parser, parser.SinkStop.SinkStop, part.GivenPart.GivenPart}
+use Rattle.cbor_parser.specs.{inner.Repeated.IsKeyReported, ParsedItem.IsStop, inner.Kept.KeepsBefore, inner.OpenContainer.cells_of, inner.OpenContainer.Cell}
+use Rattle.cbor_parser.specs.inner.{OpenMaps.IsCellOf, Parts.IsHead, Parts.IsOpener}
 
 -- ---- what is known of an input
 
@@ -21,9 +20,9 @@ BeginsTaken d input = (item : Spelling) × (rest : List ℕ) × IsTaken d item �
 
 -- why it begins no item, where these are the bytes within the limits; unless it is known to begin one. Or a key of an open map is
 -- reported that is the same as an earlier one.
-abbrev pub IsStopWithin : Bool → Bounds → List ℕ → Stop → Type 0
-IsStopWithin trusts limits input (stop.Refused f) = trusts ≡ false → (bytes : List ℕ) → input ≡ take limits.bytes bytes → IsStop limits bytes f
-IsStopWithin trusts limits input (stop.Repeated behind pair) = IsKeyReported limits input behind pair
+abbrev pub IsStopWithin : Bool → Bounds → List ℕ → ParseError → Type 0
+IsStopWithin trusts limits input (error.Refused f) = trusts ≡ false → (bytes : List ℕ) → input ≡ take limits.bytes bytes → IsStop limits bytes f
+IsStopWithin trusts limits input (error.Repeated behind pair) = IsKeyReported limits input behind pair
 
 -- ---- where the walk stands, before the rest of an input, with a sink that began in its first state
 
@@ -93,9 +92,6 @@ module _ (S : Type 0) (stands : S → S → ParseState → Type 0) (trusts : Boo
   abbrev pub IsExpectedFor : Cell → S → List ℕ → Type 0
   IsExpectedFor top g rest = (d : ℕ) × (outer : List Cell) × IsExpectedIn d (top ∷ outer) g rest
 
-  abbrev pub HasFilledIn : List Cell → S → Type 0
-  HasFilledIn cs g = (start : S) × (d : ℕ) × (input : List ℕ) × (rest : List ℕ) × HasFilled start d input cs g rest
-
   abbrev pub IsToEndFor : Bool → S → List ℕ → Type 0
   IsToEndFor is_map g rest = (start : S) × (d : ℕ) × (input : List ℕ) × (cs : List Cell) × IsToEnd is_map start d input cs g rest
 
@@ -111,28 +107,13 @@ module _ (S : Type 0) (stands : S → S → ParseState → Type 0) (trusts : Boo
   IsOpenerExpected m n c behind top g = (rest : List ℕ) × IsOpener m n c rest behind × IsExpectedFor top g rest
 
   -- a container that was to end, before these bytes
-  abbrev pub EndsTo : Part → S → ℕ → List ℕ → List Cell → S → List ℕ → Type 0
+  abbrev pub EndsTo : GivenPart → S → ℕ → List ℕ → List Cell → S → List ℕ → Type 0
   EndsTo (part.Item to) start d input cs g behind = (to.now ≡ behind) × HasEnded start d input cs g behind
-  EndsTo part.Stopped start d input cs g behind = Unit {0}
+  EndsTo (part.Stopped stop.Memory) start d input cs g behind = Unit {0}
   EndsTo _ start d input cs g behind = ⊥
 
-  abbrev pub EndsItem : Bool → Part → List ℕ → S → S → Type 0
+  abbrev pub EndsItem : Bool → GivenPart → List ℕ → S → S → Type 0
   EndsItem is_map result behind g new = (start : S) (d : ℕ) (input : List ℕ) (cs : List Cell) → IsToEnd is_map start d input cs g behind → EndsTo result start d input cs new behind
-
-  -- ---- behind a container
-
-  abbrev pub LeadsTo : CloseResult → S → ℕ → List ℕ → List ℕ → List Cell → S → Type 0
-  LeadsTo then.Item start d input rest cs g = IsExpected start d input cs g rest
-  LeadsTo then.Done start d input rest cs g = IsBuilt start d input g rest
-  LeadsTo (then.Repeated repeat) start d input rest cs g = IsRepeatVisited repeat d input cs rest
-  LeadsTo then.Stopped start d input rest cs g = Unit {0}
-
-  abbrev pub Leads : CloseResult → List Cell → S → List Cell → S → Type 0
-  Leads result cs g now new = (start : S) (d : ℕ) (input rest : List ℕ) → HasFilled start d input cs g rest → LeadsTo result start d input rest now new
-
-  -- where kinds are asked for
-  abbrev pub WalksKept : Bool → ParseEnd → ℕ → List ℕ → List Cell → S → Type 0
-  WalksKept kinds result d rest cs g = kinds ≡ true → (keys : Keys) (start : S) (input : List ℕ) → IsExpected start d input cs g rest → KeepsBefore d keys input rest → ParseEndKept result d keys input
 
   module _ (holds : S → S → List Level → Bool → List ℕ → Type 0) where
     -- the walk has come to an item that is expected, or to some chunk of it
@@ -141,46 +122,55 @@ module _ (S : Type 0) (stands : S → S → ParseState → Type 0) (trusts : Boo
 
     -- ---- what is taken
 
-    abbrev pub TakesTo : Part → S → ℕ → List ℕ → List ℕ → List Cell → S → Type 0
+    abbrev pub TakesTo : GivenPart → S → ℕ → List ℕ → List ℕ → List Cell → S → Type 0
     TakesTo (part.Item behind) start d input rest cs g = (length behind.now < length rest) × HasEnded start d input cs g behind.now
     TakesTo (part.Head behind) start d input rest cs g = (length behind.now < length rest) × IsExpected start d input cs g behind.now
     TakesTo (part.Break behind) start d input rest cs g = (length behind.now < length rest) × HasFilled start d input cs g behind.now
     TakesTo part.Untaken start d input rest cs g = IsExpected start d input cs g rest
-    TakesTo part.Broken start d input rest cs g = HasCome start d input cs g rest
-    TakesTo part.Stopped start d input rest cs g = Unit {0}
+    TakesTo (part.Stopped stop.Broken) start d input rest cs g = HasCome start d input cs g rest
+    TakesTo (part.Stopped stop.Repeated) start d input rest cs g = ⊥
+    TakesTo (part.Stopped stop.Memory) start d input rest cs g = Unit {0}
 
     -- from these cells and this sink to those
-    abbrev pub Takes : Part → ℕ → List ℕ → List Cell → S → List Cell → S → Type 0
+    abbrev pub Takes : GivenPart → ℕ → List ℕ → List Cell → S → List Cell → S → Type 0
     Takes result d rest cs g now new = (start : S) (input : List ℕ) → IsExpected start d input cs g rest → TakesTo result start d input rest now new
 
     -- within whatever cells around this one
-    abbrev pub TakesItem : Part → List ℕ → Cell → S → S → Type 0
+    abbrev pub TakesItem : GivenPart → List ℕ → Cell → S → S → Type 0
     TakesItem result rest top g new = (d : ℕ) (outer : List Cell) → Takes result d rest (top ∷ outer) g (top ∷ outer) new
 
     -- a head
-    abbrev pub TakesHead : Part → Major → ℕ → List ℕ → Cell → S → S → Type 0
+    abbrev pub TakesHead : GivenPart → Major → ℕ → List ℕ → Cell → S → S → Type 0
     TakesHead result m n behind top g new = (rest : List ℕ) → IsHead m n rest behind → TakesItem result rest top g new
 
-    abbrev pub TakesCounted : Part → ℕ → Major → ℕ → List ℕ → List Cell → S → List Cell → S → Type 0
+    abbrev pub TakesCounted : GivenPart → ℕ → Major → ℕ → List ℕ → List Cell → S → List Cell → S → Type 0
     TakesCounted result d m n behind cs g now new = (rest : List ℕ) → IsHead m n rest behind → Takes result d rest cs g now new
 
-    abbrev pub TakesOpener : Part → ℕ → Major → ℕ → Cell → List ℕ → List Cell → S → List Cell → S → Type 0
+    abbrev pub TakesOpener : GivenPart → ℕ → Major → ℕ → Cell → List ℕ → List Cell → S → List Cell → S → Type 0
     TakesOpener result d m n c behind cs g now new = (rest : List ℕ) → IsOpener m n c rest behind → Takes result d rest cs g now new
 
-    -- ---- the walk
+-- ---- where a parse stands, from its first state: no key of another kind began
 
-    abbrev pub Meets : ParseEnd → S → ℕ → List ℕ → List Cell → S → Type 0
-    Meets (parse_end.Whole rest) start d input cs g = IsBuilt start d input g rest.now
-    Meets (parse_end.Untaken rest) start d input cs g = IsExpected start d input cs g rest.now
-    Meets (parse_end.Broken rest) start d input cs g = HasCome start d input cs g rest.now
-    Meets (parse_end.Repeated rest repeat) start d input cs g = IsRepeatVisited repeat d input cs rest.now
-    Meets parse_end.Stopped start d input cs g = Unit {0}
+module _ (S : Type 0) (stands : S → S → ParseState → Type 0) (trusts : Bool) where
+  abbrev pub Expects : Parser S → Parser S → Bounds → List ℕ → List Cell → List ℕ → Type 0
+  Expects first now limits input cs rest = IsExpected S stands trusts first.sink limits.depth input cs now.sink rest × KeepsBefore limits.depth limits.keys input rest
 
-    abbrev pub Walks : ParseEnd → ℕ → List ℕ → List Cell → S → List Cell → S → Type 0
-    Walks result d rest cs g now new = (start : S) (input : List ℕ) → IsExpected start d input cs g rest → Meets result start d input now new
+  abbrev pub HasItem : Parser S → Parser S → Bounds → List ℕ → List Cell → List ℕ → Type 0
+  HasItem first now limits input cs rest = HasEnded S stands trusts first.sink limits.depth input cs now.sink rest × KeepsBefore limits.depth limits.keys input rest
 
-  -- ---- the whole
+  abbrev pub Fills : Parser S → Parser S → Bounds → List ℕ → List Cell → List ℕ → Type 0
+  Fills first now limits input cs rest = HasFilled S stands trusts first.sink limits.depth input cs now.sink rest × KeepsBefore limits.depth limits.keys input rest
 
   -- the item ends before these bytes
-  abbrev pub HasPassed : S → Bounds → List ℕ → S → List ℕ → Type 0
-  HasPassed start limits input g rest = IsBuilt start limits.depth input g rest × KeepsBefore limits.depth limits.keys input rest
+  abbrev pub Passes : Parser S → Parser S → Bounds → List ℕ → List ℕ → Type 0
+  Passes first now limits input rest = IsBuilt S stands trusts first.sink limits.depth input now.sink rest × KeepsBefore limits.depth limits.keys input rest
+
+  -- it stops: within a string, before equal keys, or for want of memory
+  abbrev pub Stops : (holds : S → S → List Level → Bool → List ℕ → Type 0) → Parser S → Parser S → Bounds → List ℕ → List Cell → List ℕ → SinkStop → Type 0
+  Stops holds first now limits input cs rest stop.Broken = HasCome S stands trusts holds first.sink limits.depth input cs now.sink rest × KeepsBefore limits.depth limits.keys input rest
+  Stops holds first now limits input cs rest stop.Repeated = IsRepeatVisited S stands trusts now.repeat limits.depth input cs rest × KeepsBefore limits.depth limits.keys input rest
+  Stops holds first now limits input cs rest stop.Memory = Unit {0}
+
+-- what stands there may be refused whatever cells there are
+abbrev pub LacksNothing : Bounds → List Cell → ℕ → Type 0
+LacksNothing limits cs count = Unit {0}

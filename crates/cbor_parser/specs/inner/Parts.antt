@@ -1,22 +1,19 @@
 -- What is taken of the bytes that are left: an item, a head, a break.
-use Rattle.std.specs.Prelude.{◌≡◌, ℕ, ◌-◌, ◌<◌, ◌≤◌, Bool, true, false, List, ◌∷◌, ◌++◌, length, take, drop, IsUtf8}
+use Rattle.std.specs.Prelude.{◌≡◌, ℕ, ◌<◌, ◌≤◌, Bool, true, false, List, ◌∷◌, ◌++◌, length, take, IsUtf8}
 use Rattle.cbor_head.specs.Prelude.{Holds, IsSimple, head, shortest, Spelling, spell, IsSpelled, depth}
 use Rattle.cbor_head.specs.declared.major.Major.TheVariants.{Array, Map, Simple}
 use Rattle.cbor_head.specs.declared.{major.Major.Major, width.Width.Width, width.Width.TheVariants.Indefinite}
 use Rattle.cbor_verdict.specs.Levels.{Level, IsLevel, IsOpened, level_bytes}
 use Rattle.cbor_verdict.specs.{Kinds.IsOfOneHead, Reading.string_major}
 use Rattle.cbor_parser.specs.declared.container.Expected.TheVariants.{Item, Key, Value}
-use Rattle.cbor_parser.specs.declared.part.PackedPart.TheVariants as left
-use Rattle.cbor_parser.specs.declared.part.Part.TheVariants as part
-use Rattle.cbor_parser.specs.declared.{container.Expected.Expected, part.Part.Part, part.PackedPart.PackedPart}
-use Rattle.cbor_parser.specs.inner.OpenContainer.{cell_of, Cell}
+use Rattle.cbor_parser.specs.declared.part.GivenPart.TheVariants as part
+use Rattle.cbor_parser.specs.{declared.container.Expected.Expected, declared.part.GivenPart.GivenPart, inner.OpenContainer.cell_of, inner.OpenContainer.Cell}
 
 -- it is an item, or nothing can be taken
-abbrev pub IsItem : Part → Type 0
+abbrev pub IsItem : GivenPart → Type 0
 IsItem (part.Item behind) = Unit {0}
 IsItem part.Untaken = Unit {0}
-IsItem part.Broken = Unit {0}
-IsItem part.Stopped = Unit {0}
+IsItem (part.Stopped e) = Unit {0}
 IsItem _ = ⊥
 
 -- the bytes are a definite head of this type, of an item that there is, and those behind it
@@ -70,57 +67,32 @@ pub record HasBroken (c : Cell) (rest behind : List ℕ) : Type 0 where
   pub no_value : c.expected ≡ Value → ⊥
   pub is : rest ≡ 0xff ∷ behind
 
-abbrev pub TakesPrefix : Part → ℕ → Cell → List ℕ → Type 0
+abbrev pub TakesPrefix : GivenPart → ℕ → Cell → List ℕ → Type 0
 TakesPrefix (part.Item behind) d c rest = HasBegun d rest behind.now
 TakesPrefix (part.Head behind) d c rest = HasBegun d rest behind.now
 TakesPrefix (part.Break behind) d c rest = HasBroken c rest behind.now
 TakesPrefix _ d c rest = Unit {0}
 
 -- within whatever containers
-abbrev pub TakesScalar : Part → List ℕ → Type 0
+abbrev pub TakesScalar : GivenPart → List ℕ → Type 0
 TakesScalar result rest = (d : ℕ) (c : Cell) → TakesPrefix result d c rest
 
-abbrev pub TakesHeadPrefix : Part → Major → ℕ → List ℕ → Type 0
+abbrev pub TakesHeadPrefix : GivenPart → Major → ℕ → List ℕ → Type 0
 TakesHeadPrefix result m n behind = (rest : List ℕ) → IsHead m n rest behind → TakesScalar result rest
 
-abbrev pub TakesCountedPrefix : Part → ℕ → Major → ℕ → List ℕ → Type 0
+abbrev pub TakesCountedPrefix : GivenPart → ℕ → Major → ℕ → List ℕ → Type 0
 TakesCountedPrefix result d m n behind = (rest : List ℕ) → IsHead m n rest behind → (c : Cell) → TakesPrefix result d c rest
 
-abbrev pub TakesOpenerPrefix : Part → ℕ → Major → ℕ → Cell → List ℕ → Type 0
+abbrev pub TakesOpenerPrefix : GivenPart → ℕ → Major → ℕ → Cell → List ℕ → Type 0
 TakesOpenerPrefix result d m n o behind = (rest : List ℕ) → IsOpener m n o rest behind → (c : Cell) → TakesPrefix result d c rest
 
 -- an item is taken, or a head
-abbrev pub HasTaken : Part → Type 0
+abbrev pub HasTaken : GivenPart → Type 0
 HasTaken (part.Item behind) = Unit {0}
 HasTaken (part.Head behind) = Unit {0}
 HasTaken _ = ⊥
 
--- with so many bytes behind it
-abbrev pub left_of : Part → PackedPart
-left_of (part.Item behind) = left.Item (length behind.now)
-left_of (part.Head behind) = left.Head (length behind.now)
-left_of (part.Break behind) = left.Break (length behind.now)
-left_of part.Untaken = left.Untaken
-left_of part.Broken = left.Broken
-left_of part.Stopped = left.Stopped
-
-abbrev pub LeavesWithin : List ℕ → PackedPart → Type 0
-LeavesWithin bytes (left.Item count) = count ≤ length bytes
-LeavesWithin bytes (left.Head count) = count ≤ length bytes
-LeavesWithin bytes (left.Break count) = count ≤ length bytes
-LeavesWithin bytes _ = Unit {0}
-
--- behind it are so many of these bytes, the last
-abbrev pub Leaves : List ℕ → PackedPart → Part → Type 0
-Leaves bytes (left.Item count) (part.Item behind) = behind.now ≡ drop (length bytes - count) bytes
-Leaves bytes (left.Head count) (part.Head behind) = behind.now ≡ drop (length bytes - count) bytes
-Leaves bytes (left.Break count) (part.Break behind) = behind.now ≡ drop (length bytes - count) bytes
-Leaves bytes left.Untaken part.Untaken = Unit {0}
-Leaves bytes left.Broken part.Broken = Unit {0}
-Leaves bytes left.Stopped part.Stopped = Unit {0}
-Leaves bytes _ _ = ⊥
-
 -- what is taken ends before these
-abbrev pub EndsBefore : Part → List ℕ → Type 0
+abbrev pub EndsBefore : GivenPart → List ℕ → Type 0
 EndsBefore (part.Item to) behind = to.now ≡ behind
 EndsBefore _ behind = Unit {0}

@@ -1,20 +1,18 @@
 -- Where the strict reader stands between two events: which containers are open, what was read of the item in the innermost, and
 -- what is kept. Nothing read has a complaint.
-use Rattle.std.specs.Prelude.{◌≡◌, ℕ, suc, ◌+◌, ◌-◌, ◌<◌, ◌≤◌, ◌⊎◌, ◌++◌, true, false, List, [], ◌∷◌, length, Option, Some, Result, MatchResult}
-use Rattle.cbor_head.specs.Prelude.{Holds, head, shortest_head, AreBytes, Spelling, spell, spellings_count, entries_count, IsSpelled, depth, Rules, strict, Complaint, OfHead, Complains, Bounds}
+use Rattle.std.specs.Prelude.{◌≡◌, ℕ, suc, ◌+◌, ◌-◌, ◌<◌, ◌≤◌, ◌⊎◌, ◌++◌, true, false, List, [], ◌∷◌, length, Option, Result, MatchResult}
+use Rattle.cbor_head.specs.Prelude.{Holds, head, AreBytes, Spelling, spell, spellings_count, entries_count, IsSpelled, depth, Rules, strict, Complaint, OfHead, Complains, Bounds}
 use Rattle.cbor_head.specs.declared.major.Major.TheVariants as majors
-use Rattle.cbor_head.specs.declared.{reason.Refusal.Refusal, width.Width.Width}
+use Rattle.cbor_head.specs.declared.{major.Major.Major, reason.Refusal.Refusal, width.Width.Width}
 use Rattle.cbor_text.specs.TextCheck.{HasChecked}
-use Rattle.cbor_automaton.specs.declared.event.EventKind.TheVariants as kinds
-use Rattle.cbor_automaton.specs.{Marks.mark_of, Marks.IsProper, declared.event.Event.Event, declared.event.EventKind.EventKind}
+use Rattle.cbor_automaton.specs.{Trace.Mark, Trace.a_head, Marks.mark_of, Marks.IsProper, declared.event.Event.Event, declared.event.EventKind.EventKind}
 use Rattle.cbor_machine.specs.NextEvent.{ItemEventsView}
 use Rattle.cbor_verdict.specs.Place.{Container, Place, at_item, counted, close, payload, done as at_end, IsTaking}
 use Rattle.cbor_verdict.specs.Frame.{Frame, a_member, a_key, a_content, tagged}
 use Rattle.cbor_verdict.specs.OpenMaps.{before_all, AreOpen, AreOpenDistinct}
-use Rattle.cbor_verdict.specs.Reading.{AreRefused, IsAt, IsBegun, string_kind, string_major}
-use Rattle.cbor_strict.specs.declared.open_items.Begun.TheVariants.{Leaf, String, Map as BegunMap, Other}
+use Rattle.cbor_verdict.specs.Reading.{AreRefused, IsAt, IsBegun, string_major}
 use Rattle.cbor_strict.specs.inner.LastKeys.{view_value, from_outside, IsKept}
-use Rattle.cbor_strict.specs.declared.open_items.{Begun.Begun, OpenItems.OpenItems}
+use Rattle.cbor_strict.specs.declared.open_items.OpenItems.{OpenItems}
 
 -- an open container, as the events count what is expected in it
 abbrev pub counted_in : Frame → Container
@@ -139,42 +137,36 @@ pub record IsSameString (old new : OpenItems) : Type 0 where
   pub order : new.order ≡ old.order
   pub left : new.left ≡ old.left
 
--- the bytes of a definite head, as short as can be
-abbrev pub short_head : EventKind → List ℕ
-short_head (kinds.Unsigned n) = shortest_head majors.Unsigned n
-short_head (kinds.Negative n) = shortest_head majors.Negative n
-short_head (kinds.Simple n) = shortest_head majors.Simple n
-short_head (kinds.Bytes (Some n)) = shortest_head majors.Bytes n
-short_head (kinds.Text (Some n)) = shortest_head majors.Text n
-short_head (kinds.Array (Some n)) = shortest_head majors.Array n
-short_head (kinds.Map (Some n)) = shortest_head majors.Map n
-short_head (kinds.Tag n) = shortest_head majors.Tag n
-short_head kind = []
+abbrev pub IsNoHead : Mark → Type 0
+IsNoHead (a_head m w n) = ⊥
+IsNoHead m = Unit {0}
 
 -- an item that ends with this head, if it is definite
-abbrev pub IsLeaf : EventKind → Type 0
-IsLeaf (kinds.Bytes (Some n)) = n ≡ 0
-IsLeaf (kinds.Text (Some n)) = n ≡ 0
-IsLeaf (kinds.Array (Some n)) = n ≡ 0
-IsLeaf (kinds.Map (Some n)) = n ≡ 0
-IsLeaf (kinds.Tag n) = ⊥
-IsLeaf kind = Unit {0}
+abbrev pub IsLeaf : Mark → Type 0
+IsLeaf (a_head majors.Bytes w n) = n ≡ 0
+IsLeaf (a_head majors.Text w n) = n ≡ 0
+IsLeaf (a_head majors.Array w n) = n ≡ 0
+IsLeaf (a_head majors.Map w n) = n ≡ 0
+IsLeaf (a_head majors.Tag w n) = ⊥
+IsLeaf m = Unit {0}
+
+-- a string with bytes, a container with members, or a tag
+abbrev pub GoesOn : Major → ℕ → Type 0
+GoesOn majors.Unsigned n = ⊥
+GoesOn majors.Negative n = ⊥
+GoesOn majors.Simple n = ⊥
+GoesOn majors.Tag n = Unit {0}
+GoesOn m n = 0 < n
 
 -- an array with members, or a tag
-abbrev pub IsOther : EventKind → Type 0
-IsOther (kinds.Array (Some n)) = 0 < n
-IsOther (kinds.Tag n) = Unit {0}
-IsOther kind = ⊥
+abbrev pub IsOther : Mark → Type 0
+IsOther (a_head majors.Array w n) = 0 < n
+IsOther (a_head majors.Tag w n) = Unit {0}
+IsOther m = ⊥
 
-abbrev pub IsMap : EventKind → Type 0
-IsMap (kinds.Map (Some n)) = 0 < n
-IsMap kind = ⊥
-
-abbrev pub IsBegunBy : EventKind → Begun → Type 0
-IsBegunBy kind Leaf = IsLeaf kind
-IsBegunBy kind (String text n) = (kind ≡ string_kind text (Some n)) × (0 < n)
-IsBegunBy kind BegunMap = IsMap kind
-IsBegunBy kind Other = IsOther kind
+abbrev pub IsMap : Mark → Type 0
+IsMap (a_head majors.Map w n) = 0 < n
+IsMap m = ⊥
 
 -- its head has no complaint, and is kept in a key
 pub record HasBegunIn (v : OpenItems) (b : Bounds) (w : Width) (kind : EventKind) (t x : List ℕ) (e : ItemEventsView) : Type 0 where
@@ -185,9 +177,11 @@ pub record HasBegunIn (v : OpenItems) (b : Bounds) (w : Width) (kind : EventKind
   pub taken : t ≡ bytes_before fs
   pub begun : IsBegun (strict v.order) b (frames_in fs) t x e w kind
 
-pub record IsBegunIn (v : OpenItems) (kind : EventKind) (count taken : ℕ) : Type 0 where
+pub record IsBegunIn (v : OpenItems) (m : Major) (n : ℕ) (count taken : ℕ) : Type 0 where
   pub b : Bounds
   pub w : Width
+  pub kind : EventKind
+  pub is : mark_of w kind ≡ a_head m w n
   pub t : List ℕ
   pub x : List ℕ
   pub e : ItemEventsView
@@ -195,9 +189,9 @@ pub record IsBegunIn (v : OpenItems) (kind : EventKind) (count taken : ℕ) : Ty
   pub counted : count ≡ e.machine.open_count
   pub all : taken ≡ e.machine.taken
 
-abbrev pub AnswersBegun : OpenItems → OpenItems → EventKind → ℕ → ℕ → Result (Unit {0}) Refusal → Type 0
-AnswersBegun old new kind count taken result =
-    (b : Bounds) (w : Width) (t x : List ℕ) (e : ItemEventsView) → HasBegunIn old b w kind t x e → count ≡ e.machine.open_count → taken ≡ e.machine.taken
+abbrev pub AnswersBegun : OpenItems → OpenItems → Major → ℕ → ℕ → ℕ → Result (Unit {0}) Refusal → Type 0
+AnswersBegun old new m n count taken result =
+    (b : Bounds) (w : Width) (kind : EventKind) (t x : List ℕ) (e : ItemEventsView) → mark_of w kind ≡ a_head m w n → HasBegunIn old b w kind t x e → count ≡ e.machine.open_count → taken ≡ e.machine.taken
     → Answers (strict old.order) new b e (t ++ x) result
 
 -- a part of the payload that is expected has come

@@ -1,11 +1,10 @@
 -- What is reported of the item at the start of an input, event by event, by the strict rules.
-use Rattle.std.specs.Prelude.{◌≡◌, ℕ, ◌<◌, ◌≤◌, ◌++◌, Bool, true, false, List, [], length, Option, Some, None, Result, MatchResult, IfSome}
+use Rattle.std.specs.Prelude.{◌≡◌, ℕ, ◌<◌, ◌≤◌, ◌++◌, List, [], length, Option, Some, None, Result, MatchResult, IfSome}
 use Rattle.cbor_head.specs.Prelude.{strict, Bounds, AreBounds, bounds, with_keys}
 use Rattle.cbor_head.specs.declared.{keys.Keys.Keys, order.KeyOrder.KeyOrder, reason.Refusal.Refusal}
 use Rattle.cbor_automaton.specs.{Trace.Mark, declared.event.Event.Event}
-use Rattle.cbor_machine.specs.NextEvent.{ItemEventsView, StandsBetween, Call, IsNext, IsNextEvent, IsEnd, call}
+use Rattle.cbor_machine.specs.NextEvent.{ItemEventsView, StandsBetween, IsNextEvent, IsEnd, call}
 use Rattle.cbor_machine.specs.{MachineView.MachineView, Machine.IsComplete}
-use Rattle.cbor_events.specs.NextKey.{IsNextKey}
 use Rattle.cbor_verdict.specs.{Kinds.KeepsToKinds, Refusals.IsReaderReason, RefusedBehind.IsRefusedBehind}
 use Rattle.cbor_strict.specs.{declared.open_items.OpenItems.OpenItems, inner.LastKeys.view_value, inner.OpenItems.Stands, inner.OpenItems.IsOver}
 
@@ -16,11 +15,6 @@ pub record StandsSomewhere (keys : Keys) (v : OpenItems) (e : ItemEventsView) : 
   pub t : List ℕ
   pub stands : Stands v b e t
   pub keeps : KeepsToKinds b (strict v.order) t
-
--- what is read next, and whether it is a key that is to be an integer or a text
-abbrev pub IsNextOf : Bool → Result (Option Event) Refusal → Call → Type 0
-IsNextOf true result c = IsNextKey result c
-IsNextOf false result c = IsNext result c
 
 -- this event was reported: its bytes are taken, and nothing read has a complaint
 pub record GoesOn (v : OpenItems) (b : Bounds) (e after : ItemEventsView) (t : List ℕ) (from to : Option (List ℕ)) (event : Event) : Type 0 where

@@ -4,8 +4,7 @@ use Rattle.std.specs.Io.KnownBytes.{Consumes}
 use Rattle.cbor_head.specs.Prelude.{plain, Bounds, Spelling, spell}
 use Rattle.cbor_head.specs.declared.reason.Refusal.{Refusal}
 use Rattle.cbor_automaton.specs.declared.event.Event.{Event}
-use Rattle.cbor_machine.specs.NextEvent.{ItemEventsView}
-use Rattle.cbor_events.specs.NextKey.{IsBasicKind}
+use Rattle.cbor_machine.specs.{NextEvent.ItemEventsView, NextKey.IsBasicKind}
 use Rattle.cbor_verdict.specs.Kinds.{AsksForKinds, KeepsToKinds, IsKeyExpectedIn}
 use Rattle.cbor_verdict.specs.Place.{at_item, done as at_end}
 use Rattle.cbor_verdict.specs.Levels.{IsTaken, Level, frame, AreLevels, bytes_before, item_expected, item_whole}

@@ -1,4 +1,4 @@
-use Rattle.std.proofs.Common.{◌≡◌, ◌⊎◌, ℕ, ◌+◌, ◌-◌, ◌%◌, ◌<◌, ◌≤◌, Bool, true, false, List, [], ◌∷◌, length, take, get_or, refl, sym, ap, ◌∙◌, subst, inl, inr, arith, length-take-le}
+use Rattle.std.proofs.Common.{◌≡◌, ◌⊎◌, ℕ, ◌+◌, ◌-◌, ◌%◌, ◌<◌, ◌≤◌, true, List, [], ◌∷◌, length, take, get_or, refl, sym, ap, ◌∙◌, subst, inl, inr, arith, length-take-le}
 use Rattle.std.proofs.lemmas.{Bool.cases_lt, Bool.false≢true, List.nil_from_length}
 use Rattle.cbor_head.specs.Prelude.{AreBytes, shortest}
 use Rattle.cbor_model.proofs.KeyByteLists.{are_bytes}

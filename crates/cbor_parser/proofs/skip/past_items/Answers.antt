@@ -1,10 +1,37 @@
-use Rattle.std.proofs.Common.{ℕ, subst, arith}
+use Rattle.std.proofs.Common.{◌≡◌, ℕ, suc, ◌+◌, ◌-◌, true, [], ◌∷◌, length, refl, sym, ap, subst, arith, length-append}
+use Rattle.cbor_head.specs.Prelude.{spell}
 use Rattle.cbor_parser.proofs.skip.past_items.Goals as goal
-use Rattle.cbor_parser.{specs.inner.Skip.StandAtStart, proofs.Skips.none_at_start}
+use Rattle.cbor_parser.proofs.Skips.{one_more, gone_on, none_at_start}
+use Rattle.cbor_parser.{proofs.GivenKinds.starts-kept, proofs.GivenParts.starts, specs.declared.skip.Nothing.Nothing, specs.inner.Parser.IsExpected}
+use Rattle.cbor_parser.specs.inner.{Skip.StandAtStart, Skip.anywhere, OpenContainer.Cell}
 
-pub returns-then-count-eq0 : goal.returns-then-count-eq0
-returns-then-count-eq0 c = λ behind h. none_at_start c.args.depth c.args.rest.now c.args.count behind c.if-count-eq0.true h
+pub parse-requires : goal.parse-requires
+parse-requires c = λ n.
+    let a = c.args in
+    let rest = c.loop.rest.now in
+    let (behind, h) = c.requires.items in
+    let some : a.count - c.loop.counter ≡ suc (a.count - (c.loop.counter + 1)) = omega (arith, c.loop-test.true) in
+    let more = one_more a.limits.depth rest (a.count - (c.loop.counter + 1)) behind (subst (λ (m : ℕ). StandAtStart a.limits.depth rest m behind) some (c.loop.invariant.left behind h)) in
+    let expected = starts Nothing (anywhere Nothing) true c.new.result.sink a.limits.depth rest tt (omega (arith, c.loop.invariant.small)) (λ t. (more.item, more.more, more.taken, more.bytes)) in (
+      (refl, tt),
+      (
+        (subst (λ (x : Cell). IsExpected Nothing (anywhere Nothing) true c.new.result.sink a.limits.depth rest (x ∷ []) c.new.result.sink rest) (sym c.counted-outermost.ensures) expected, starts-kept a.limits.depth rest a.limits.keys),
+        (c.loop.invariant.small, omega arith),
+      ),
+    )
 
-pub returns-in-Whole : goal.returns-in-Whole
-returns-in-Whole c = λ behind h.
-    c.in-Whole.ensures behind (subst (λ (n : ℕ). StandAtStart c.args.depth c.args.rest.now n behind) (omega (arith, c.if-count-eq0.false)) h)
+pub loop-preserved : goal.loop-preserved
+loop-preserved c =
+    let a = c.args in
+    let rest = c.loop.rest.now in
+    let built = c.in-Ok.ensures.0 in
+    let to = c.in-Ok.behind.now in
+    let some : a.count - c.loop.counter ≡ suc (a.count - (c.loop.counter + 1)) = omega (arith, c.loop-test.true) in
+    record {
+      left = λ behind h.
+          gone_on a.limits.depth rest (a.count - (c.loop.counter + 1)) behind (subst (λ (m : ℕ). StandAtStart a.limits.depth rest m behind) some (c.loop.invariant.left behind h)) built.item to built.taken built.bytes;
+      small = omega (arith, c.loop.invariant.small, ap length built.bytes, length-append (spell built.item) to);
+    }
+
+pub returns : goal.returns
+returns c = λ behind h. none_at_start c.args.limits.depth c.loop.rest.now (c.args.count - c.loop.counter) behind (omega (arith, c.loop-test.false)) (c.loop.invariant.left behind h)

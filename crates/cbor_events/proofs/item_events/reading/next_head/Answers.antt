@@ -16,7 +16,7 @@ returns-in-Stopped-clause-answers g c = λ kept t ms h p.
 pub returns-then-not-wants_head-clause-answers : goal.returns-then-not-wants_head-clause-answers
 returns-then-not-wants_head-clause-answers g c = λ kept t ms h p.
     let m = c.args.machine.now in
-    head-answer c.next_apart.result _ _ m c.next_apart.new.machine kept c.next_apart.new.buffer t ms p (c.next_apart.ensures.answers m _ kept t ms h (none-read _ m t ms h.stands) refl)
+    head-answer c.next_event.result _ _ m c.next_event.new.machine kept c.next_event.new.buffer t ms p (c.next_event.ensures.answers m _ kept t ms h (none-read _ m t ms h.stands) refl)
 
 pub returns-in-Open-clause-answers : goal.returns-in-Open-clause-answers
 returns-in-Open-clause-answers g c = λ kept t ms h p.

@@ -3,7 +3,7 @@ use Rattle.cbor_events.proofs.Parts.{given-on, reported-given, silent-on}
 use Rattle.cbor_events.proofs.item_events.reading.next_part.Goals as goal
 
 pub returns-then-want-eq0-clause-answers : goal.returns-then-want-eq0-clause-answers
-returns-then-want-eq0-clause-answers g c = c.next_apart.ensures.answers
+returns-then-want-eq0-clause-answers g c = c.next_event.ensures.answers
 
 pub returns-in-Reported-clause-answers : goal.returns-in-Reported-clause-answers
 returns-in-Reported-clause-answers g c = λ was from kept t ms h r d. c.in-Reported.ensures.answers was from kept t ms h r d
@@ -13,7 +13,7 @@ returns-in-Stopped-clause-answers g c = λ was from kept t ms h r d. c.in-Stoppe
 
 pub returns-in-Open-clause-answers : goal.returns-in-Open-clause-answers
 returns-in-Open-clause-answers g c = λ was from kept t ms h r d.
-    c.next_apart-in-Open.ensures.answers was from kept t ms h (c.in-Open.ensures.answers was from [] t ms h r d) (c.read_part.ensures.limits.depth ∙ d)
+    c.next_event-in-Open.ensures.answers was from kept t ms h (c.in-Open.ensures.answers was from [] t ms h r d) (c.read_part.ensures.limits.depth ∙ d)
 
 pub returns-in-Reported-clause-given : goal.returns-in-Reported-clause-given
 returns-in-Reported-clause-given g c = λ t ms h. reported-given c.in-Reported.event _ _ _ _ _ _ t ms (c.in-Reported.ensures.lost t ms h)
@@ -21,4 +21,4 @@ returns-in-Reported-clause-given g c = λ t ms h. reported-given c.in-Reported.e
 pub returns-in-Open-clause-given : goal.returns-in-Open-clause-given
 returns-in-Open-clause-given g c = λ t ms h.
     let was = silent-on _ _ _ _ _ _ t ms (c.in-Open.ensures.lost t ms h) in
-    given-on c.next_apart-in-Open.result _ t was.0 ms (c.next_apart-in-Open.ensures.given (t ++ was.0) ms was.1)
+    given-on c.next_event-in-Open.result _ t was.0 ms (c.next_event-in-Open.ensures.given (t ++ was.0) ms was.1)

@@ -12,13 +12,13 @@ use Rattle.cbor_parser.{specs.Sink.IsItemExpected, proofs.GivenItems.IsScalar, p
 use Rattle.cbor_parser.proofs.KnownTexts.{known-chunk, sized}
 
 expected : (g : _) (c : After-is_key-is_key g) → IsItemExpected g.row.S.Denot g.S.Sink.stands c.is_key-is_key.result c.args.self.now.sink
-expected g c = expected-item g.row.S.Denot g.S.Sink.stands g.S.Sink.trusts c.args.self.now.stack.top c.args.self.now.sink (chunked_from c.args.is_text c.args.behind.now) c.is_key-is_key.result c.is_key-is_key.ensures c.requires.opener
+expected g c = expected-item g.row.S.Denot g.S.Sink.stands g.S.Sink.trusts c.args.top.now c.args.self.now.sink (chunked_from c.args.is_text c.args.behind.now) c.is_key-is_key.result c.is_key-is_key.ensures c.requires.opener
 
 head : (g : _) (c : In-Some-payload_size g) → IsHead (string_major c.args.is_text) c.in-Some-chunk_head.head.number c.chunks.rest.now c.in-Some-chunk_head.head.rest.now
 head g c = subst (λ (x : List ℕ). IsHead (string_major c.args.is_text) c.in-Some-chunk_head.head.number x c.in-Some-chunk_head.head.rest.now) (sym c.in-Some.ensures.cases.0) c.in-Some-chunk_head.ensures
 
 payload : (g : _) (c : In-Some-payload_size g) → IsPayload false c.args.is_text c.in-Some-chunk_head.head.number c.in-Some-payload_size.size c.in-Some-chunk_head.head.rest.now
-payload g c = known-chunk g.row.S.Denot g.S.Sink.stands g.S.Sink.trusts c.args.is_text c.args.self.now.stack.top c.args.self.now.sink _ _ c.args.behind.now c.chunks.rest.now c.requires.opener c.chunks.invariant.chunks.read _ (head g c) c.in-Some-payload_size.ensures
+payload g c = known-chunk g.row.S.Denot g.S.Sink.stands g.S.Sink.trusts c.args.is_text c.args.top.now c.args.self.now.sink _ _ c.args.behind.now c.chunks.rest.now c.requires.opener c.chunks.invariant.chunks.read _ (head g c) c.in-Some-payload_size.ensures
 
 -- where a break stands
 whole : (g : _) (c : Then-first g) → IsScalar (chunked_from c.args.is_text c.args.behind.now) c.in-Some.behind.now (string_value c.args.is_text (chunks_joined c.chunks.invariant.chunks.read.done))
@@ -43,21 +43,19 @@ chunks-preserved g c =
     record {
       chunks = subst (λ (x : List ℕ). AreChunks g.row.S.Denot g.S.Sink.stands g.S.Sink.holds c.is_key-is_key.result c.args.is_text c.args.behind.now x c.args.self.now.sink c.chunk.new.self) (sym (take_rest c.in-Some-chunk_head.head.rest.now c.in-Some-payload_size.size))
           (one-more _ _ _ c.is_key-is_key.result c.args.is_text _ _ c.chunks.rest.now c.chunks.self.sink c.chunks.invariant.chunks _ _ _ c.chunk.new.self (head g at) (payload g at) c.in-Ok-chunk.ensures);
-      stack = c.chunks.invariant.stack;
     }
 
 pub returns-in-Ok-end_string-clause-takes : goal.returns-in-Ok-end_string-clause-takes
 returns-in-Ok-end_string-clause-takes g c = λ d outer start input expected.
-    let reported = c.is_key-is_key.ensures ∙ key-awaited (length input) expected.ls c.args.self.now.stack.top outer expected.cells in
+    let reported = c.is_key-is_key.ensures ∙ key-awaited (length input) expected.ls c.args.top.now outer expected.cells in
     let s = c.chunks.invariant.chunks in
     let all = whole g (goal.at.returns-in-Ok-end_string-clause-takes g c).Then-first in
-    scalar-settles _ _ _ start d input (c.args.self.now.stack.top ∷ outer) _ _ expected c.in-Some.behind.now _ c.end_string.new.self all
+    scalar-settles _ _ _ start d input (c.args.top.now ∷ outer) _ _ expected c.in-Some.behind.now _ c.end_string.new.self all
     (λ k. c.in-Ok-end_string.ensures start d expected.ls (chunks_joined s.read.done) all.item (s.given start expected.ls (expected.given, reported)) reported k all.value_is)
 
 pub chunks-init : goal.chunks-init
 chunks-init g c = record {
   chunks = no-chunks g.row.S.Denot g.S.Sink.stands g.S.Sink.holds c.is_key-is_key.result c.args.is_text c.args.behind.now c.args.self.now.sink c.begin_string.new.self (are_bytes c.args.behind.now (λ i. omega (arith, c.type_inv.behind i))) c.in-Ok.ensures;
-  stack = refl;
 }
 
 pub returns-in-Ok-end_string-clause-prefix : goal.returns-in-Ok-end_string-clause-prefix

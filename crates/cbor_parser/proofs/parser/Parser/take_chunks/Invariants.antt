@@ -1,11 +1,10 @@
-use Rattle.std.proofs.Common.{◌≡◌, length}
+use Rattle.std.proofs.Common.{length}
 use Rattle.cbor_parser.proofs.parser.Parser.take_chunks.Given as goal
 use Rattle.cbor_parser.proofs.Chunked.{AreChunks}
 
 abbrev pub invariant-chunks : goal.invariant-chunks
 invariant-chunks g l = record {
   chunks : AreChunks g.row.S.Denot g.S.Sink.stands g.S.Sink.holds l.is_key l.is_text l.fn.behind l.rest l.fn.self.sink l.self.sink;
-  stack : l.self.stack ≡ l.fn.self.stack;
 }
 
 abbrev pub decreases-chunks : goal.decreases-chunks

@@ -1,8 +1,8 @@
-use Rattle.std.proofs.Common.{◌≡◌, ◌+◌, ◌-◌, ◌*◌, ◌%◌, ◌<◌, ◌≤◌, ℕ, List, get_or, ap, sym, subst, inl, inr, arith, refl}
+use Rattle.std.proofs.Common.{◌≡◌, ◌+◌, ◌-◌, ◌*◌, ◌%◌, ◌<◌, ◌≤◌, ℕ, List, get_or, ap, inl, inr, arith, refl}
 use Rattle.cbor_head.specs.declared.major.Major.TheVariants.{Tag, Simple}
 use Rattle.cbor_parser.proofs.GivenItems.{head-here, simple-here, tag-opens}
 use Rattle.cbor_parser.proofs.parser.Parser.take_part.Goals as goal
-use Rattle.cbor_parser.specs.{Stack.around, Stack.open_levels, inner.Parser.TakesTo, inner.Parts.IsHead, inner.Parts.IsOpener}
+use Rattle.cbor_parser.specs.{Stack.around, inner.Parts.IsHead, inner.Parts.IsOpener}
 use Rattle.cbor_parser.proofs.parser.Parser.take_part.Goals.{After-counted-opened, Else-number-lt32}
 use Rattle.cbor_parser.specs.inner.OpenContainer.{Cell}
 
@@ -23,22 +23,20 @@ simple_head g c =
     head-here Simple first c.in-Some.behind.now h.rest.now h.width h.number e.spelled high (λ f. proper) c.args.rest.now c.in-Some.ensures.cases.0
 
 pub open-requires : goal.open-requires
-open-requires g c = λ n. ((refl, tt), (tt, (c.requires.cells, (c.args.rest.now, tag_opener g (goal.at.open-requires g c).After-counted-opened, (c.args.depth, around Cell c.args.self.now.stack c.args.cells.now, c.requires.expected)))))
+open-requires g c = λ n. ((refl, tt), (tt, (c.requires.cells, (c.args.rest.now, tag_opener g (goal.at.open-requires g c).After-counted-opened, (c.args.depth, around Cell c.args.stack.now c.args.cells.now, c.requires.expected)))))
 
 pub returns-in-6-clause-takes : goal.returns-in-6-clause-takes
 returns-in-6-clause-takes g c = c.open.ensures.takes c.args.rest.now (tag_opener g (goal.at.returns-in-6-clause-takes g c).After-counted-opened)
 
 pub returns-in-6-clause-prefix : goal.returns-in-6-clause-prefix
-returns-in-6-clause-prefix g c = c.open.ensures.prefix c.args.rest.now (tag_opener g (goal.at.returns-in-6-clause-prefix g c).After-counted-opened) c.args.self.now.stack.top
+returns-in-6-clause-prefix g c = c.open.ensures.prefix c.args.rest.now (tag_opener g (goal.at.returns-in-6-clause-prefix g c).After-counted-opened) c.args.stack.now.top
 
 pub give_leaf-requires : goal.give_leaf-requires
-give_leaf-requires g c = λ n. ((refl, tt), (tt, (c.args.rest.now, simple_head g (goal.at.give_leaf-requires g c).Else-number-lt32, (c.args.depth, around Cell c.args.self.now.stack c.args.cells.now, c.requires.expected))))
+give_leaf-requires g c = λ n. ((refl, tt), (tt, (c.args.rest.now, simple_head g (goal.at.give_leaf-requires g c).Else-number-lt32, (c.args.depth, around Cell c.args.stack.now c.args.cells.now, c.requires.expected))))
 
 pub returns-else-number-lt32-clause-takes : goal.returns-else-number-lt32-clause-takes
-returns-else-number-lt32-clause-takes g c = λ start input expected.
-    subst (λ s. TakesTo g.row.S.Denot g.S.Sink.stands g.S.Sink.trusts g.S.Sink.holds c.give_leaf.result start c.args.depth input c.args.rest.now (open_levels Cell s c.args.cells.now) c.give_leaf.new.self.sink) (sym c.give_leaf.ensures.stack)
-    (c.give_leaf.ensures.takes c.args.rest.now (simple_head g (goal.at.returns-else-number-lt32-clause-takes g c).Else-number-lt32) c.args.depth (around Cell c.args.self.now.stack c.args.cells.now) start input expected)
+returns-else-number-lt32-clause-takes g c = c.give_leaf.ensures.takes c.args.rest.now (simple_head g (goal.at.returns-else-number-lt32-clause-takes g c).Else-number-lt32) c.args.depth (around Cell c.args.stack.now c.args.cells.now)
 
 pub returns-else-number-lt32-clause-prefix : goal.returns-else-number-lt32-clause-prefix
 returns-else-number-lt32-clause-prefix g c =
-    c.give_leaf.ensures.prefix c.args.rest.now (simple_head g (goal.at.returns-else-number-lt32-clause-prefix g c).Else-number-lt32) (c.args.depth - c.args.self.now.stack.height) c.args.self.now.stack.top
+    c.give_leaf.ensures.prefix c.args.rest.now (simple_head g (goal.at.returns-else-number-lt32-clause-prefix g c).Else-number-lt32) (c.args.depth - c.args.stack.now.height) c.args.stack.now.top

@@ -1,34 +1,58 @@
-use Rattle.std.proofs.Common.{refl, inl, inr}
-use Rattle.cbor_strict.proofs.OpenHeads.{leaf_ended, string_begun, other_begun, map_begun, begun_no_memory, space_levels, space_keys}
+use Rattle.std.proofs.Common.{false, true, refl, sym, ap, subst, inl, inr, ◌∙◌}
+use Rattle.cbor_automaton.specs.Trace.{a_head}
+use Rattle.cbor_strict.proofs.OpenHeads.{leaf_ended, string_begun, other_begun, map_begun, begun_no_memory, space_levels, space_keys, string_of, map_of, other_of}
 use Rattle.cbor_strict.proofs.open_items.OpenItems.begin.Goals as goal
+use Rattle.cbor_strict.specs.inner.OpenItems.{IsLeaf, GoesOn}
 
 pub end_item-requires : goal.end_item-requires
 end_item-requires c =
     let r = c.requires in
-    record { b = r.b; e = r.e; t = _; ended = leaf_ended c.args.self.now r.b r.w c.args.kind r.t r.x r.e r.has c.in-Leaf.ensures; counted = r.counted; all = r.all }
+    record { b = r.b; e = r.e; t = _; ended = leaf_ended c.args.self.now r.b r.w r.kind r.t r.x r.e r.has (subst IsLeaf (sym r.is) (c.goes_on.ensures.leaf r.w c.if-not-goes_on.true)); counted = r.counted; all = r.all }
 
-pub returns-in-Leaf-clause-answers : goal.returns-in-Leaf-clause-answers
-returns-in-Leaf-clause-answers c = λ b w t x e h n m. c.end_item.ensures.answers b e _ (leaf_ended c.args.self.now b w c.args.kind t x e h c.in-Leaf.ensures) n m
+pub returns-then-not-goes_on-clause-answers : goal.returns-then-not-goes_on-clause-answers
+returns-then-not-goes_on-clause-answers c = λ b w kind t x e is h n m. c.end_item.ensures.answers b e _ (leaf_ended c.args.self.now b w kind t x e h (subst IsLeaf (sym is) (c.goes_on.ensures.leaf w c.if-not-goes_on.true))) n m
+
+pub returns-in-Bytes-clause-answers : goal.returns-in-Bytes-clause-answers
+returns-in-Bytes-clause-answers c = λ b w kind t x e is h n m.
+    let some = subst (λ k. GoesOn k c.args.argument) c.in-Bytes.is (c.goes_on.ensures.more c.if-not-goes_on.false) in
+    let s = c.begin_string.ensures in
+    string_begun c.args.self.now c.begin_string.new.self b w kind t x e false c.args.argument h (string_of false w kind c.args.argument (is ∙ ap (λ k. a_head k w c.args.argument) c.in-Bytes.is) some) some s.same.0 s.same.1 s.expected.0 s.expected.1 s.checked
+
+pub returns-in-Text-clause-answers : goal.returns-in-Text-clause-answers
+returns-in-Text-clause-answers c = λ b w kind t x e is h n m.
+    let some = subst (λ k. GoesOn k c.args.argument) c.in-Text.is (c.goes_on.ensures.more c.if-not-goes_on.false) in
+    let s = c.begin_string-in-Text.ensures in
+    string_begun c.args.self.now c.begin_string-in-Text.new.self b w kind t x e true c.args.argument h (string_of true w kind c.args.argument (is ∙ ap (λ k. a_head k w c.args.argument) c.in-Text.is) some) some s.same.0 s.same.1 s.expected.0 s.expected.1 s.checked
 
 pub open_map-requires-clause-levels : goal.open_map-requires-clause-levels
-open_map-requires-clause-levels c = let r = c.requires in space_levels c.args.self.now r.b r.w c.args.kind r.t r.x r.e r.has (inr c.in-Map.ensures)
+open_map-requires-clause-levels c =
+    let r = c.requires in
+    space_levels c.args.self.now r.b r.w r.kind r.t r.x r.e r.has (inr (map_of r.w r.kind c.args.major c.args.argument r.is c.in-Map.is (c.goes_on.ensures.more c.if-not-goes_on.false)))
 
 pub open_map-requires-clause-keys : goal.open_map-requires-clause-keys
-open_map-requires-clause-keys c = let r = c.requires in space_keys c.args.self.now r.b r.w c.args.kind r.t r.x r.e r.has (inr c.in-Map.ensures)
-
-pub open_other-requires : goal.open_other-requires
-open_other-requires c = let r = c.requires in space_levels c.args.self.now r.b r.w c.args.kind r.t r.x r.e r.has (inl c.in-Other.ensures)
-
-pub returns-in-String-clause-answers : goal.returns-in-String-clause-answers
-returns-in-String-clause-answers c = λ b w t x e h n m.
-    string_begun c.args.self.now c.begin_string.new.self b w c.args.kind t x e c.in-String.is_text c.in-String.count h c.in-String.ensures.0 c.in-String.ensures.1 c.begin_string.ensures.same.0 c.begin_string.ensures.same.1
-    c.begin_string.ensures.expected.0 c.begin_string.ensures.expected.1 c.begin_string.ensures.checked
+open_map-requires-clause-keys c =
+    let r = c.requires in
+    space_keys c.args.self.now r.b r.w r.kind r.t r.x r.e r.has (inr (map_of r.w r.kind c.args.major c.args.argument r.is c.in-Map.is (c.goes_on.ensures.more c.if-not-goes_on.false)))
 
 pub returns-in-Ok-clause-answers : goal.returns-in-Ok-clause-answers
-returns-in-Ok-clause-answers c = λ b w t x e h n m. map_begun c.args.self.now _ b w c.args.kind t x e h c.in-Map.ensures refl refl c.in-Ok.ensures
+returns-in-Ok-clause-answers c = λ b w kind t x e is h n m. map_begun c.args.self.now _ b w kind t x e h (map_of w kind c.args.major c.args.argument is c.in-Map.is (c.goes_on.ensures.more c.if-not-goes_on.false)) refl refl c.in-Ok.ensures
 
 pub returns-in-Err-clause-answers : goal.returns-in-Err-clause-answers
-returns-in-Err-clause-answers c = λ b w t x e h n m to. begun_no_memory c.args.self.now b w c.args.kind t x e _ c.args.taken to h.fs h.around h.taken h.begun m c.at.ensures
+returns-in-Err-clause-answers c = λ b w kind t x e is h n m to. begun_no_memory c.args.self.now b w kind t x e _ c.args.taken to h.fs h.around h.taken h.begun m c.at.ensures
 
-pub returns-in-Other-clause-answers : goal.returns-in-Other-clause-answers
-returns-in-Other-clause-answers c = λ b w t x e h n m. other_begun c.args.self.now _ b w c.args.kind t x e h c.in-Other.ensures refl refl c.open_other.ensures
+pub open_other-requires : goal.open_other-requires
+open_other-requires c =
+    let r = c.requires in
+    let o = c.in_default in
+    space_levels c.args.self.now r.b r.w r.kind r.t r.x r.e r.has (inl (other_of r.w r.kind c.args.major c.args.argument r.is (c.goes_on.ensures.more c.if-not-goes_on.false) o.not-Bytes o.not-Text o.not-Map))
+
+pub returns-in_default : goal.returns-in_default
+returns-in_default c =
+    let o = c.in_default in
+    record {
+      order = refl;
+      answers = λ b w kind t x e is h n m.
+          other_begun c.args.self.now _ b w kind t x e h (other_of w kind c.args.major c.args.argument is (c.goes_on.ensures.more c.if-not-goes_on.false) o.not-Bytes o.not-Text o.not-Map) refl refl c.open_other.ensures;
+      against = tt;
+      read = tt;
+    }

@@ -1,4 +1,4 @@
-use Rattle.std.proofs.Common.{sym, arith}
+use Rattle.std.proofs.Common.{arith}
 use Rattle.cbor_head.specs.Prelude.{AreBounds}
 use Rattle.cbor_strict.proofs.StrictReading.{starts_within, starts_strictly, first_bounds}
 use Rattle.cbor_strict.proofs.strict_events.StrictEvents.new.Goals as goal

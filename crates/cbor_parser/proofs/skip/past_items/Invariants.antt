@@ -1,0 +1,9 @@
+use Rattle.std.proofs.Common.{ℕ, ◌-◌, ◌^◌, ◌≤◌, List, length}
+use Rattle.cbor_parser.proofs.skip.past_items.Given as goal
+use Rattle.cbor_parser.specs.inner.Skip.{StandAtStart}
+
+abbrev pub invariant-loop : goal.invariant-loop
+invariant-loop l = record {
+  left : (behind : List ℕ) → StandAtStart l.limits.depth l.items l.count behind → StandAtStart l.limits.depth l.rest (l.count - l.counter) behind;
+  small : length l.rest ≤ 2 ^ 62;
+}
