@@ -29,7 +29,7 @@ if [ -z "$program" ] || [ -z "$dist" ]; then
     command -v rt >/dev/null || { echo "install: rt, the prover of a Rattle kit, is not on the path; the README says what it is" >&2; exit 1; }
 fi
 if [ -z "$program" ]; then
-    (cd "$root/crates/cborc" && rt run -- --version) >"$scratch/log" 2>&1 || { cat "$scratch/log" >&2; exit 1; }
+    "$root/scripts/build.py" --version >"$scratch/log" 2>&1 || { cat "$scratch/log" >&2; exit 1; }
     program=$root/crates/cborc/out/cborc
 fi
 if [ -z "$dist" ]; then

@@ -213,7 +213,13 @@ def functions_of(source):
 
 
 def owner_of(head):
-    head = re.sub(r"^impl\s*(<[^{]*?>)?\s*", "", head.replace("\n", " "))
+    head = re.sub(r"^impl\s*", "", head.replace("\n", " "))
+    if head.startswith("<"):
+        depth, end = 1, 1
+        while depth:
+            depth += {"<": 1, ">": -1}.get(head[end], 0)
+            end += 1
+        head = head[end:].lstrip()
     of_trait, _, target = head.rpartition(" for ")
     name = re.match(r"&?(?:mut )?(\w+)", target.strip()).group(1)
     return Owner(name, re.match(r"(?:\w+::)*(\w+)", of_trait.strip()).group(1) if of_trait else None)
