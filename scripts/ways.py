@@ -5,13 +5,18 @@
     scripts/ways.py --check    fails if the table there differs
 
 Calls of functions are followed by the names that a file imports. A call of a method is followed if exactly one type in
-scope has a method of that name; so a method that several types have is not followed.
+scope has a method of that name; so a method that several types have is not followed. A method of a trait in scope is
+followed into those of its impls in the crate whose types the files so far name.
 """
 
 import re
 import sys
 
-from proved import CRATES, ITEM, ROOT, after_partner, crates
+import proved
+from proved import CRATES, ROOT, after_partner, crates
+
+# An item, of a trait that only its crate sees too.
+ITEM = re.compile(proved.ITEM.pattern.replace("pub trait", r"pub(?:\(\w+\))? trait"), re.M)
 
 # The calls of the table. Their crates are not named here, since calls move between crates.
 CALLS = [
@@ -35,7 +40,7 @@ class File:
         self.text = path.read_text(encoding="utf-8")
         self.plain = re.sub(r"//[^\n]*|\"(?:[^\"\\]|\\[\s\S])*\"", "", self.text)
         self.types = set(re.findall(r"(?m)^(?:pub(?:\(crate\))? )?(?:struct|enum|trait) (\w+)", self.plain))
-        self.bodies, self.brings = {}, {}
+        self.bodies, self.brings, self.bare, self.impls, self.wanted = {}, {}, set(), set(), {}
         self.read_functions()
         for used in re.findall(r"(?m)^(?:pub(?:\(\w+\))? )?use ([^;]+);", self.plain):
             self.bring(re.sub(r"\s+", " ", used))
@@ -49,7 +54,7 @@ class File:
                 self.brings[alias or name.rpartition("::")[2]] = (head if inner else used.rpartition("::")[0] + "::") + name
 
     def read_functions(self):
-        place, owner, end = 0, None, -1
+        place, owner, end, arguments = 0, None, -1, set()
         while True:
             match = ITEM.search(self.plain, place)
             if not match:
@@ -60,14 +65,21 @@ class File:
             if match["impl"] or match["trait"]:
                 end = after_partner(self.plain, match.end() - 1)
                 of = re.sub(r"^(unsafe )?impl\s*(<[^{]*?>)?\s*", "", (match["impl"] or "").replace("\n", " "))
-                of = of.split(" for ")[-1]
+                trait, _, of = of.rpartition(" for ")
                 owner = match["trait"] or re.match(r"&?(?:mut )?(\w+)", of)[1]
+                arguments = set(re.findall(r"\w+", of)) - {owner}
+                trait = re.search(r"(\w+)\s*(?:<[^<>]*>)?\s*$", trait)
+                if trait:
+                    self.impls.add((trait[1], owner))
                 continue
             start = self.body_from(match.end())
             if start is not None:
                 place = after_partner(self.plain, start)
                 # of several functions of one name, the first counts
                 self.bodies.setdefault((owner, match["name"]), self.plain[start:place])
+                self.wanted.setdefault((owner, match["name"]), arguments if owner else set())
+            else:
+                self.bare.add((owner, match["name"]))
 
     def body_from(self, place):
         """The offset of the body of a function whose signature goes on here, after its clauses."""
@@ -112,14 +124,16 @@ class Sources:
         return self.named(found, name) if found and found is not file else None
 
     def having(self, file, owner, name):
-        """The file that has a method of a type, among the type's file and its modules, or none."""
-        inside = [it for (crate, parts), it in self.files.items() if crate == file.crate and parts[:len(file.parts)] == file.parts]
-        return next((it for it in [file, *inside] if (owner, name) in it.bodies), None)
+        """The file that has a method of a type, among the type's file, its modules and what imports the type, or none."""
+        ours = [it for it in self.files.values() if it.crate == file.crate]
+        inside = [it for it in ours if it.parts[:len(file.parts)] == file.parts]
+        beside = [it for it in ours if owner in it.brings and self.named(it, owner) is file]
+        return next((it for it in [file, *inside, *beside] if (owner, name) in it.bodies), None)
 
     def way(self, file, owner, name):
         """The files of its crate, in the order in which a function and what it calls reach them; and what these use of other
         crates."""
-        crate, order, others, seen, waiting = file.crate, [], [], set(), [(file, owner, name)]
+        crate, order, others, seen, types, waiting = file.crate, [], [], set(), set(), [(file, owner, name)]
         while waiting:
             file, owner, name = waiting.pop()
             if (file.path, owner, name) in seen:
@@ -131,19 +145,32 @@ class Sources:
                 continue
             if file not in order:
                 order.append(file)
-            waiting += reversed(self.called(file, owner, file.bodies[owner, name]))
+                types |= {*file.brings, *file.types}
+            waiting += reversed(self.called(file, owner, file.bodies[owner, name], types))
         return order, others
 
-    def called(self, file, owner, body):
+    def is_for(self, file, owner, name, types):
+        """Whether a method is for these types: of one that only an instance of its type has, the instance's arguments are among them."""
+        return all(word in types for word in file.wanted[owner, name] if self.named(file, word))
+
+    def implementing(self, crate, trait, name, types):
+        """The methods of a name in the crate's impls of a trait for these types."""
+        files = [it for it in self.files.values() if it.crate == crate]
+        return [(it, owner, name) for it in files for of, owner in sorted(it.impls) if of == trait and owner in types and (owner, name) in it.bodies]
+
+    def called(self, file, owner, body, types):
         in_sight = {word: self.named(file, word) for word in {*file.brings, *file.types}}
         found = []
         for dot, path, name in re.findall(r"(\.)?((?:\w+::)*)(\w+)(?:::<[^>]*>)?\(", body):
             if dot:
                 on_self = re.search(rf"\bself\.{name}\(", body) and self.having(in_sight.get(owner) or file, owner, name)
                 others = [(self.having(of, word, name), word) for word, of in in_sight.items() if of and word != owner]
-                holders = [(on_self, owner)] if on_self else [it for it in others if it[0]]
+                holders = [(on_self, owner)] if on_self else [(of, word) for of, word in others if of and self.is_for(of, word, name, types)]
                 if len(holders) == 1:
                     found.append((holders[0][0], holders[0][1], name))
+                elif not holders:
+                    traits = [word for word, of in in_sight.items() if of and of.crate == file.crate and (word, name) in of.bare]
+                    found += [it for trait in traits for it in self.implementing(file.crate, trait, name, types)]
                 continue
             if path:
                 word = path.split("::")[-2]
