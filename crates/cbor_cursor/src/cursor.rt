@@ -105,16 +105,7 @@ impl<'a> Cursor<'a> {
     pub fn kind(&self) -> Major
         ensures { result ≡ major_of (value_in self.now) }
     {
-        match head_in(self.bytes).kind {
-            0 => Major::Unsigned,
-            1 => Major::Negative,
-            2 => Major::Bytes,
-            3 => Major::Text,
-            4 => Major::Array,
-            5 => Major::Map,
-            6 => Major::Tag,
-            _ => Major::Simple,
-        }
+        Major::of_number(head_in(self.bytes).kind)
     }
 
     /// The argument of the item's head: the number of an integer, tag or simple value, or how many

@@ -199,6 +199,11 @@ fn initial_bytes(rt: HostRuntime) {
 fn major_numbers(rt: HostRuntime) {
     assert!(rt; Major::Unsigned.number() == 0 && Major::Map.number() == 5);
     assert!(rt; Major::Simple.number() == 7);
+    for number in 0..8 {
+        assert!(rt; Major::of_number(number).number() == number, "at {number}");
+    }
+    assert!(rt; Major::of_number(4) == Major::Array && Major::of_number(6) == Major::Tag);
+    assert!(rt; Major::of_number(8) == Major::Simple && Major::of_number(255) == Major::Simple);
 }
 
 #[test]

@@ -1,6 +1,6 @@
 //! The major types.
 
-ghost use Rattle.std.specs.Prelude.{◌≡◌, ◌≤◌};
+ghost use Rattle.std.specs.Prelude.{◌≡◌, ◌≤◌, ◌<◌};
 ghost use Rattle.cbor_head.specs.Head.{major_number};
 ghost use Rattle.cbor_head.specs.Read.{major_of};
 
@@ -26,9 +26,11 @@ pub enum Major {
 }
 
 impl Major {
-    /// The type of these high three bits of a first byte.
-    pub(crate) fn of_number(number: u8) -> Major
-        ensures { result ≡ major_of number }
+    /// The type with this number, 0 to 7: the high three bits of an initial byte. For a number above
+    /// 7, which no type has, `Simple`.
+    pub fn of_number(number: u8) -> Major
+        ensures major { result ≡ major_of number }
+        ensures number { number < 8 → major_number result ≡ number }
     {
         match number {
             0 => Major::Unsigned,

@@ -47,30 +47,10 @@ fn shortest_head(kind: u32, number: u64) -> Option<Head>
     ensures some { IfSome result (λ h. HasHead kind number) }
     ensures none { result ≡ None → ¬ HasHead kind number }
 {
-    let major = major_numbered(kind)?;
-    if kind == 7 && !is_simple(number) {
+    if kind > 7 || (kind == 7 && !is_simple(number)) {
         return None;
     }
-    Some(Head::shortest(major, number))
-}
-
-// The major type of this number.
-fn major_numbered(number: u32) -> Option<Major>
-    ensures some { IfSome result (λ m. number ≡ major_number m) }
-    ensures below { IfSome result (λ m. number < 8) }
-    ensures none { result ≡ None → 8 ≤ number }
-{
-    Some(match number {
-        0 => Major::Unsigned,
-        1 => Major::Negative,
-        2 => Major::Bytes,
-        3 => Major::Text,
-        4 => Major::Array,
-        5 => Major::Map,
-        6 => Major::Tag,
-        7 => Major::Simple,
-        _ => return None,
-    })
+    Some(Head::shortest(Major::of_number(kind as u8), number))
 }
 
 // Whether a simple value has this number.

@@ -24,7 +24,7 @@ returns-then-is_head-clause-found c =
     let split = c.in_ok-first.ensures.cases.0 in
     let none = nil_from_length a.rest.now (eqb-true (length a.rest.now) 0 (sym c.is_empty.ensures ∙ c.if-is_empty.true)) in
     let here = head_here c.in_ok-first.first.now c.in_ok-first.behind.now a.width a.number a.rest.now (omega (arith, c.type_inv.bytes 0, ap (λ (l : List ℕ). get_or l 0 0) split)) c.in_ok-argument.ensures.spelled in
-    split ∙ here ∙ ap (λ (m : Major). head m a.width a.number ++ a.rest.now) (sym c.of_number-major.ensures)
+    split ∙ here ∙ ap (λ (m : Major). head m a.width a.number ++ a.rest.now) (sym c.of_number-major.ensures.major)
     ∙ ap (λ (l : List ℕ). head c.of_number-major.result a.width a.number ++ l) none ∙ append-nil (head c.of_number-major.result a.width a.number)
 
 pub returns-then-is_head-clause-each : goal.returns-then-is_head-clause-each
@@ -42,7 +42,7 @@ returns-else-is_empty-clause-each c = λ m w n h is.
     let o = s.only a.width a.number a.rest.now c.in_ok-argument.ensures.spelled in
     let IsThat : HeadParts → Type 0 = λ f. IsHead f.major f.width f.argument in
     let same = same_parts c.in_ok-first.first.now m a.width w a.number n s.type o.0 o.1 in
-    let one = subst (λ (k : Major). IsHead k a.width a.number) (sym c.of_number-major.ensures) (subst IsThat (sym same) h) in
+    let one = subst (λ (k : Major). IsHead k a.width a.number) (sym c.of_number-major.ensures.major) (subst IsThat (sym same) h) in
     absurd (elim c.else-is_empty.branch [
       | else-is_empty-via-then-is_empty+else-is_head x ↦ false≢true (sym x.if-is_head.false ∙ x.is_head.ensures.1 one)
       | else-is_empty-via-else-is_empty x ↦ false≢true (sym x.if-is_empty.false ∙ c.is_empty.ensures ∙ ap (λ (l : List ℕ). length l == 0) o.2)
