@@ -30,7 +30,6 @@ pub fn head_at(bytes: &[u8], place: usize) -> Option<HeadAt>
     definite_head(bytes, place)
 }
 
-// A head of one byte takes the first return: it is the most frequent one.
 #[inline(always)]
 pub(crate) fn definite_head(bytes: &[u8], place: usize) -> Option<HeadAt>
     ensures found { (m : Major) (w : Width) (n : ℕ) (x : List ℕ) → IsHead m w n
@@ -43,15 +42,7 @@ pub(crate) fn definite_head(bytes: &[u8], place: usize) -> Option<HeadAt>
         return None;
     }
     let first = bytes[place];
-    let low = first % 32;
-    if low < 24 {
-        return Some(HeadAt {
-            kind: first / 32,
-            argument: u64::from(low),
-            content: place + 1,
-        });
-    }
-    let argument = read_argument(low, &bytes[place + 1..])?;
+    let argument = read_argument(first % 32, &bytes[place + 1..])?;
     Some(HeadAt {
         kind: first / 32,
         argument: argument.number,

@@ -9,7 +9,7 @@ returns-in_err-argument-clause-found c = λ m w n x h e.
     let bytes = c.args.bytes.now in
     let p = c.args.place in
     let b = reads_head (get_or bytes p 0) (drop (p + 1) bytes) m w n x h (sym (drop_more bytes p 0 (omega (arith, c.if-place-bytes.false))) ∙ e) in
-    absurd (omega (arith, b.space c.if-low-lt24.false, ap length (take_rest bytes (p + 1)), c.in_err-argument.ensures.cut refl b.low))
+    absurd (omega (arith, b.space (c.in_err-argument.ensures.long refl), ap length (take_rest bytes (p + 1)), c.in_err-argument.ensures.cut refl b.low))
 
 pub returns-clause-found : goal.returns-clause-found
 returns-clause-found c = λ m w n x h e.
