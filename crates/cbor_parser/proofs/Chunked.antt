@@ -36,25 +36,25 @@ one-read t b rest s n from h inside utf8 =
 
 -- ---- given to a sink
 
-pub record AreChunks (S : Type 0) (stands : S → S → ParseState → Type 0) (holds : S → S → List Level → Bool → List ℕ → Type 0) (key t : Bool) (behind rest : List ℕ) (g now : S) : Type 0 where
-  pub read : AreChunksRead t (chunked_from t behind) rest
+pub record AreChunks (S : Type 0) (stands : S → S → ParseState → Type 0) (holds : S → S → List Level → Bool → List ℕ → Type 0) (key t : Bool) (begin rest : List ℕ) (g now : S) : Type 0 where
+  pub read : AreChunksRead t begin rest
   pub given : (start : S) (ls : List Level) → Reported S stands key start g (item_expected ls) → holds start now ls t (chunks_joined read.done)
 
-module _ (S : Type 0) (stands : S → S → ParseState → Type 0) (holds : S → S → List Level → Bool → List ℕ → Type 0) (key t : Bool) (behind : List ℕ) (g : S) where
-  pub no-chunks : (now : S) → AreBytes behind → BeginsString S stands holds key t g now → AreChunks S stands holds key t behind behind g now
-  no-chunks now are begins =
+module _ (S : Type 0) (stands : S → S → ParseState → Type 0) (holds : S → S → List Level → Bool → List ℕ → Type 0) (key t : Bool) (begin : List ℕ) (g : S) where
+  pub no-chunks : (behind : List ℕ) (now : S) → begin ≡ chunked_from t behind → AreBytes behind → BeginsString S stands holds key t g now → AreChunks S stands holds key t begin behind g now
+  no-chunks behind now is are begins =
       let (read, none) = none-read t behind are in
-      record { read = read; given = λ start ls expected. subst (λ (ks : List Chunk). holds start now ls t (chunks_joined ks)) (sym none) (begins start ls expected) }
+      subst (λ (x : List ℕ). AreChunks S stands holds key t x behind g now) (sym is) (record { read = read; given = λ start ls expected. subst (λ (ks : List Chunk). holds start now ls t (chunks_joined ks)) (sym none) (begins start ls expected) })
 
-  module _ (rest : List ℕ) (now : S) (s : AreChunks S stands holds key t behind rest g now) where
+  module _ (rest : List ℕ) (now : S) (s : AreChunks S stands holds key t begin rest g now) where
     -- a chunk is expected
     pub chunk-expected : IsItemExpected S stands key g → IsChunkExpected S holds key t now
     chunk-expected (start, d, ls, space, expected) = (start, d, ls, chunks_joined s.read.done, space, s.given start ls expected, expected.1)
 
-    pub one-more : (n size : ℕ) (from : List ℕ) (new : S) → IsHead (string_major t) n rest from → IsPayload false t n size from → GrowsString S holds key t (take size from) now new → AreChunks S stands holds key t behind (drop size from) g new
+    pub one-more : (n size : ℕ) (from : List ℕ) (new : S) → IsHead (string_major t) n rest from → IsPayload false t n size from → GrowsString S holds key t (take size from) now new → AreChunks S stands holds key t begin (drop size from) g new
     one-more n size from new h p grows =
-        let (read, joined) = one-read t (chunked_from t behind) rest s.read n from h p.inside (p.utf8 refl) in
-        subst (λ (i : ℕ). AreChunks S stands holds key t behind (drop i from) g new) (sym p.all) (record {
+        let (read, joined) = one-read t begin rest s.read n from h p.inside (p.utf8 refl) in
+        subst (λ (i : ℕ). AreChunks S stands holds key t begin (drop i from) g new) (sym p.all) (record {
           read = read;
           given = λ start ls expected.
               subst (holds start new ls t) (ap (λ (i : ℕ). chunks_joined s.read.done ++ take i from) p.all ∙ sym joined)
@@ -62,7 +62,7 @@ module _ (S : Type 0) (stands : S → S → ParseState → Type 0) (holds : S �
         })
 
     -- the break
-    pub all-chunks : (after : List ℕ) → rest ≡ 0xff ∷ after → IsScalar (chunked_from t behind) after (string_value t (chunks_joined s.read.done))
+    pub all-chunks : (after : List ℕ) → rest ≡ 0xff ∷ after → IsScalar begin after (string_value t (chunks_joined s.read.done))
     all-chunks after e =
         let done = s.read.done in
         let before = chunks_bytes (string_major t) done in

@@ -1,14 +1,12 @@
 -- A container without more to come, given to a sink: it ends, or a key is reported that is the same as an earlier one.
-use Rattle.std.proofs.Common.{◌≡◌, ℕ, Bool, ◌<◌, List, [], ◌∷◌, ◌++◌, length, refl, sym, ◌∙◌, ap, subst, inl, inr, arith, length-append}
+use Rattle.std.proofs.Common.{◌≡◌, ℕ, Bool, ◌<◌, List, [], ◌∷◌, ◌++◌, length, refl, sym, ◌∙◌, ap, inl, inr, arith, length-append}
 use Rattle.cbor_head.specs.Prelude.{Spelling, array, a_map, spell}
 use Rattle.cbor_builder.specs.declared.repeat.Repeat.{Repeat}
 use Rattle.cbor_verdict.specs.Levels.{Level, some_member, some_key, bytes_before, ParseState}
 use Rattle.cbor_verdict.proofs.CleanParts.{clean-within}
 use Rattle.cbor_parser.specs.Sink.{Fills, StandsFull, Reported, takes_key, is_map, IsEndedAs, IsReportedFull, IsContainerFull, Ends, Repeats}
-use Rattle.cbor_parser.specs.inner.Parser.{HasEnded, IsFull, IsToEnd, IsCellFull, HasFilled, TakesTo, EndsTo}
-use Rattle.cbor_parser.specs.declared.part.GivenPart.TheVariants as part
-use Rattle.cbor_parser.specs.declared.parser.SinkStop.TheVariants as stop
-use Rattle.cbor_parser.specs.{declared.part.GivenPart.GivenPart, Expected.pairs, inner.OpenContainer.Cell}
+use Rattle.cbor_parser.specs.inner.Parser.{HasEnded, IsFull, IsToEnd, IsCellFull, HasFilled}
+use Rattle.cbor_parser.specs.{Expected.pairs, inner.OpenContainer.Cell}
 
 -- a key is expected where a map ends
 ended-kind : (l : Level) (s : Spelling) → IsEndedAs l s → takes_key l ≡ is_map s
@@ -65,9 +63,3 @@ module _ (S : Type 0) (stands : S → S → ParseState → Type 0) (trusts : Boo
     -- it does not end
     pub full-repeats : (repeat : Repeat) → Repeats S stands trusts t g repeat → IsCellFull S stands trusts (λ ls item. IsReportedFull ls item repeat) d input c cs rest
     full-repeats repeat repeats = known-as _ _ cs rest s (repeats start d s.ls s.item (fills-of _ cs rest s) stands-reported, s.given.1)
-
-  -- what ends is taken
-  pub ends-takes : (holds : S → S → List Level → Bool → List ℕ → Type 0) (p : GivenPart) (cs : List Cell) (g : S) (rest behind : List ℕ) → length behind < length rest → EndsTo S stands trusts p start d input cs g behind → TakesTo S stands trusts holds p start d input rest cs g
-  ends-takes holds (part.Item to) cs g rest behind l h = (subst (λ (x : List ℕ). length x < length rest) (sym h.0) l, subst (HasEnded S stands trusts start d input cs g) (sym h.0) h.1)
-  ends-takes holds (part.Stopped stop.Memory) cs g rest behind l h = tt
-  ends-takes holds _ cs g rest behind l h = absurd h

@@ -1,6 +1,6 @@
 -- The parts of a valid item, by their bytes: items without members, and the openers of containers.
 use Rattle.std.proofs.Common.{◌≡◌, ℕ, suc, ◌+◌, ◌-◌, ◌*◌, ◌%◌, ◌<◌, ◌≤◌, Bool, true, false, List, [], ◌∷◌, ◌++◌, length, take, drop, refl, sym, ap, ap₂, ◌∙◌, subst, arith, inl, inr, append_assoc, append-nil, IsUtf8, length-append, length-take-le, take-append-drop}
-use Rattle.std.proofs.lemmas.Bool.{cases_lt}
+use Rattle.std.proofs.{lemmas.Bool.cases_lt, lemmas.List.take_rest, Math.Seq.drop-append_seam}
 use Rattle.cbor_head.specs.Prelude.{Holds, IsSimple, head, major_number, shortest, Spelling, unsigned, negative, bytes, text, simple, no_spellings, no_entries, spell, value_of, HoldsOrIndefinite, Value, AreBytes}
 use Rattle.cbor_head.specs.declared.major.Major.TheVariants as majors
 use Rattle.cbor_head.specs.{declared.major.Major.Major, declared.width.Width.Width, Argument.IsArgument}
@@ -12,8 +12,8 @@ use Rattle.cbor_verdict.{specs.Reading.string_major, specs.Reading.string_value,
 use Rattle.cbor_parser.specs.inner.OpenContainer.{counted, indefinite, opener, cell_of}
 use Rattle.cbor_parser.specs.inner.Parts.{IsHead, IsOpener, IsPayload, Counts}
 use Rattle.cbor_parser.specs.inner.OpenContainer.{Cell}
-use Rattle.cbor_parser.specs.declared.container.Expected.{Expected, TheVariants.Item, TheVariants.Key}
-use Rattle.cbor_parser.specs.Sink.{leaf_value}
+use Rattle.cbor_parser.specs.{inner.Rules.behind, declared.container.Expected.Expected}
+use Rattle.cbor_parser.specs.{declared.container.Expected.TheVariants.Item, declared.container.Expected.TheVariants.Key, Sink.leaf_value}
 
 -- ---- items without members
 
@@ -117,15 +117,28 @@ tag-opens n c rest behind is h = record {
   is = h.is;
 }
 
-pub array-opens : (first : ℕ) (c : Cell) (behind : List ℕ) → first ≡ 0x9f → c ≡ indefinite Item (length behind) → IsOpener majors.Array 0 c (first ∷ behind) behind
-array-opens first c behind f e = record { level = some_member no_spellings; fresh = λ d. tt; cell = e; opened = inr refl; some = omega arith; is = ap (λ (x : ℕ). x ∷ behind) f }
+pub array-opens : (c : Cell) (rest behind : List ℕ) → rest ≡ 0x9f ∷ behind → c ≡ indefinite Item (length behind) → IsOpener majors.Array 0 c rest behind
+array-opens c rest behind is e = record { level = some_member no_spellings; fresh = λ d. tt; cell = e; opened = inr refl; some = omega arith; is = is }
 
-pub map-opens : (first : ℕ) (c : Cell) (behind : List ℕ) → first ≡ 0xbf → c ≡ indefinite Key (length behind) → IsOpener majors.Map 0 c (first ∷ behind) behind
-map-opens first c behind f e = record { level = some_key no_entries; fresh = λ d. tt; cell = e; opened = inr refl; some = omega arith; is = ap (λ (x : ℕ). x ∷ behind) f }
+pub map-opens : (c : Cell) (rest behind : List ℕ) → rest ≡ 0xbf ∷ behind → c ≡ indefinite Key (length behind) → IsOpener majors.Map 0 c rest behind
+map-opens c rest behind is e = record { level = some_key no_entries; fresh = λ d. tt; cell = e; opened = inr refl; some = omega arith; is = is }
 
 -- nothing else is there yet
 pub opener-whole : (m : Major) (n : ℕ) (l : Level) → IsOpened m n l → level_bytes l ≡ opener l
 opener-whole = of-opened (λ m n l. level_bytes l ≡ opener l) (λ w left n. append-nil (head majors.Array w (0 + suc left))) (λ n. refl) (λ w left n. append-nil (head majors.Map w (0 + suc left))) (λ n. refl) (λ w n. refl)
+
+-- ---- what follows so many bytes: what is left of the rest
+
+pub follows : (rest prefix left : List ℕ) (used : ℕ) → rest ≡ prefix ++ left → used + length left ≡ length rest → behind used rest ≡ left
+follows rest prefix left used e u =
+    let size : used ≡ length prefix = omega (arith, u, ap length e, length-append prefix left) in
+    take_rest rest used ∙ ap (λ (n : ℕ). drop n rest) size ∙ ap (drop (length prefix)) e ∙ drop-append_seam prefix left
+
+pub as-used : (P : List ℕ → Type 0) (rest prefix left : List ℕ) (used : ℕ) → rest ≡ prefix ++ left → used + length left ≡ length rest → (length left < length rest) × P left → (0 < used) × (used ≤ length rest) × P (behind used rest)
+as-used P rest prefix left used e u (less, h) = (omega (arith, u, less), omega (arith, u), subst P (sym (follows rest prefix left used e u)) h)
+
+pub head-shorter : (m : Major) (n : ℕ) (rest behind : List ℕ) → IsHead m n rest behind → length behind < length rest
+head-shorter m n rest behind h = omega (arith, ap length h.is, length_head m h.width n, length-append (head m h.width n) behind)
 
 -- ---- a head, by its first byte
 

@@ -15,13 +15,13 @@ use Rattle.cbor_verdict.proofs.Levels.{of-opened, spelled-all, within-all, pairs
 use Rattle.cbor_verdict.proofs.{Heads.open_or, Heads.takes, LevelFrames.around_levels, KindFrames.keeps_closed, KindFrames.keeps_start}
 use Rattle.cbor_verdict.{specs.PathKinds.IsFitPrefix, proofs.PathKinds.no_break, proofs.PathKinds.head_begun}
 use Rattle.cbor_parser.specs.inner.OpenContainer.{counted, behind_head, cell_of, cells_of}
-use Rattle.cbor_parser.specs.inner.Parts.{Counts, IsHead, IsOpener, IsItem, HasBegun, HasBroken, TakesPrefix, EndsBefore}
-use Rattle.cbor_parser.specs.declared.part.GivenPart.TheVariants as part
+use Rattle.cbor_parser.specs.inner.Parts.{Counts, IsHead, IsOpener, HasBegun, HasBroken}
+use Rattle.cbor_parser.specs.inner.Rules as rules
 use Rattle.cbor_parser.specs.inner.OpenContainer.{Cell}
-use Rattle.cbor_parser.specs.{declared.part.GivenPart.GivenPart, Stack.around, Stack.open_levels, declared.container.Expected.Expected}
+use Rattle.cbor_parser.specs.{Stack.around, Stack.open_levels, declared.container.Expected.Expected}
 use Rattle.cbor_parser.specs.declared.{container.Expected.TheVariants.Item, container.Expected.TheVariants.Key, stack.Stack.Stack}
-use Rattle.cbor_parser.{proofs.Stacks.open_levels_count, specs.inner.Parser.IsExpected, specs.inner.Kept.KeepsBefore, proofs.GivenItems.IsScalar}
-use Rattle.cbor_parser.proofs.GivenParts.{height-is, cell-is}
+use Rattle.cbor_parser.{proofs.Stacks.open_levels_count, specs.inner.Parser.IsExpected, specs.inner.Kept.KeepsBefore}
+use Rattle.cbor_parser.proofs.{GivenItems.IsScalar, GivenItems.follows, GivenParts.height-is, GivenParts.cell-is}
 
 -- ---- what begins so
 
@@ -55,13 +55,9 @@ opener-begun d m n c rest behind space k =
     without-length : (first : ℕ) (item : Spelling) → spell item ≡ first ∷ 0xff ∷ [] → IsSpelled item → depth item ≤ d → HasBegun d (first ∷ behind) behind
     without-length first item bytes spelled within = record { prefix = first ∷ []; is = refl; one = λ container some. absurd (omega (arith, some)); item = item; spelled = spelled; within = within; more = 0xff ∷ []; bytes = bytes }
 
--- ---- what is taken
-
-pub begun-takes : (p : GivenPart) (d : ℕ) (c : Cell) (rest behind : List ℕ) → IsItem p → EndsBefore p behind → HasBegun d rest behind → TakesPrefix p d c rest
-begun-takes (part.Item to) d c rest behind i e h = subst (HasBegun d rest) (sym e) h
-begun-takes (part.Break to) d c rest behind i e h = absurd i
-begun-takes (part.Head to) d c rest behind i e h = absurd i
-begun-takes _ d c rest behind i e h = tt
+-- of so many bytes
+pub begun-so : (d : ℕ) (rest behind : List ℕ) (used : ℕ) → used + length behind ≡ length rest → HasBegun d rest behind → HasBegun d rest (rules.behind used rest)
+begun-so d rest behind used u h = subst (HasBegun d rest) (sym (follows rest h.prefix behind used h.is u)) h
 
 -- ---- no key of another kind begins in it
 

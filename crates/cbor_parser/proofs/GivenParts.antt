@@ -1,5 +1,5 @@
 -- A valid item, part by part, given to a sink: where the walk stands behind what a sink took.
-use Rattle.std.proofs.Common.{◌≡◌, ℕ, Bool, true, suc, ◌-◌, ◌^◌, ◌<◌, List, [], ◌∷◌, ◌++◌, length, take, refl, sym, ap, ap₂, ◌∙◌, subst, arith, inl, inr, append_assoc, append-nil, length-append}
+use Rattle.std.proofs.Common.{◌≡◌, ℕ, Bool, true, suc, ◌+◌, ◌-◌, ◌^◌, ◌<◌, ◌≤◌, List, [], ◌∷◌, ◌++◌, length, take, refl, sym, ap, ap₂, ◌∙◌, subst, arith, inl, inr, append_assoc, append-nil, length-append}
 use Rattle.cbor_head.specs.Prelude.{plain, Holds, head, Bounds, Spelling, array, a_map, no_spellings, no_entries, spell, Value}
 use Rattle.cbor_head.specs.declared.major.Major.TheVariants as majors
 use Rattle.cbor_head.specs.declared.major.Major.{Major}
@@ -12,9 +12,10 @@ use Rattle.cbor_parser.specs.inner.Parser.{BeginsTaken, IsExpected, HasEnded, Is
 use Rattle.cbor_parser.specs.inner.OpenContainer.{counted, opener, behind_head, cell_of, cells_of}
 use Rattle.cbor_parser.specs.inner.Parts.{IsHead, IsOpener, Counts}
 use Rattle.cbor_parser.specs.inner.OpenContainer.{Cell}
+use Rattle.cbor_parser.specs.inner.Rules as rules
+use Rattle.cbor_parser.proofs.GivenItems.{IsScalar, opener-whole, as-used}
 use Rattle.cbor_parser.specs.{Expected.awaits, declared.container.Expected.Expected}
 use Rattle.cbor_parser.specs.declared.container.Expected.TheVariants.{Item, Key}
-use Rattle.cbor_parser.proofs.GivenItems.{IsScalar, opener-whole}
 
 -- ---- how many are open
 
@@ -102,19 +103,24 @@ module _ (S : Type 0) (stands : S → S → ParseState → Type 0) (trusts : Boo
           }
 
       -- one that the sink may take in several parts
-      pub scalar-settles : (behind : List ℕ) (v : Value) (new : S) → (i : IsScalar rest behind v) → (Completes d s.ls i.item → stands start new (settle s.ls i.item)) → (length behind < length rest) × HasEnded S stands trusts start d input cs new behind
-      scalar-settles behind v new i settles = let taken = i.taken (d - length s.ls) in taken-so _ i.item behind taken i.is (taken.clean, settles (completes i.item behind taken i.is))
+      pub scalar-settles : (behind : List ℕ) (v : Value) (new : S) (used : ℕ) → used + length behind ≡ length rest → (i : IsScalar rest behind v) → (Completes d s.ls i.item → stands start new (settle s.ls i.item))
+          → (0 < used) × (used ≤ length rest) × HasEnded S stands trusts start d input cs new (rules.behind used rest)
+      scalar-settles behind v new used u i settles =
+          let taken = i.taken (d - length s.ls) in
+          as-used (HasEnded S stands trusts start d input cs new) rest (spell i.item) behind used i.is u (taken-so _ i.item behind taken i.is (taken.clean, settles (completes i.item behind taken i.is)))
 
-      pub scalar-ends : (behind : List ℕ) (v : Value) (new : S) (k : Bool) → k ≡ key_expected s.ls → IsScalar rest behind v → Gives S stands k v g new → (length behind < length rest) × HasEnded S stands trusts start d input cs new behind
-      scalar-ends behind v new k reported i gives = scalar-settles behind v new i (λ c. gives start d s.ls i.item (s.given, reported) c i.value_is)
+      pub scalar-ends : (behind : List ℕ) (v : Value) (new : S) (used : ℕ) → used + length behind ≡ length rest → (k : Bool) → k ≡ key_expected s.ls → IsScalar rest behind v → Gives S stands k v g new
+          → (0 < used) × (used ≤ length rest) × HasEnded S stands trusts start d input cs new (rules.behind used rest)
+      scalar-ends behind v new used u k reported i gives = scalar-settles behind v new used u i (λ c. gives start d s.ls i.item (s.given, reported) c i.value_is)
 
       -- a container opens
       pub opened : (m : Major) (n : ℕ) (c : Cell) (behind : List ℕ) (new : S) (t : Bool) → t ≡ key_expected s.ls → length s.ls < d → IsOpener m n c rest behind → Opens S stands t m n g new
-          → (length behind < length rest) × IsExpected S stands trusts start d input (c ∷ cs) new behind
+          → (0 < length rest - length behind) × (length rest - length behind ≤ length rest) × IsExpected S stands trusts start d input (c ∷ cs) new (rules.behind (length rest - length behind) rest)
       opened m n c behind new t reported space k opens =
           let size = length-append (level_bytes k.level) behind in
           let place : length behind ≡ behind_head (length input) s.ls k.level =
-          omega (arith, ap length s.bytes, ap length k.is, size, length-append (bytes_before s.ls) rest, length-append (bytes_before s.ls) (opener k.level), ap length (opener-whole m n k.level k.opened)) in (
+          omega (arith, ap length s.bytes, ap length k.is, size, length-append (bytes_before s.ls) rest, length-append (bytes_before s.ls) (opener k.level), ap length (opener-whole m n k.level k.opened)) in
+          as-used (IsExpected S stands trusts start d input (c ∷ cs) new) rest (level_bytes k.level) behind (length rest - length behind) k.is (omega (arith, ap length k.is, size)) (
             omega (arith, k.some, ap length k.is, size),
             record {
               ls = k.level ∷ s.ls;

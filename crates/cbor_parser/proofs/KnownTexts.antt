@@ -7,8 +7,7 @@ use Rattle.cbor_model.proofs.ByteLists.{bytes_prefix}
 use Rattle.cbor_verdict.specs.Levels.{Level, ParseState, bytes_before}
 use Rattle.cbor_verdict.proofs.{CleanParts.clean-prefix, HeadComplaints.heads_free, Leaves.text_complains, RefusedChunks.AreChunksRead, RefusedChunks.no_text}
 use Rattle.cbor_verdict.specs.{Judged.IsJudged, Reading.string_major}
-use Rattle.cbor_parser.specs.inner.Parser.{StandsBefore, IsHeadExpected, IsExpectedFor}
-use Rattle.cbor_parser.specs.inner.Parts.{IsHead, IsPayload, chunked_from}
+use Rattle.cbor_parser.specs.inner.{Parser.StandsBefore, Parser.IsExpectedFor, Parts.IsHead, Parts.IsPayload}
 use Rattle.cbor_parser.{proofs.GivenItems.string-bytes, specs.inner.OpenContainer.Cell}
 
 decided : (q : List ℕ) → ((IsUtf8 q → ⊥) → ⊥) → IsUtf8 q
@@ -46,11 +45,11 @@ module _ (S : Type 0) (stands : S → S → ParseState → Type 0) (trusts : Boo
       (text_complains h.width q plain at (d - length s.ls) c (subst (Holds h.width) (sym (length-take-le n behind inside)) h.holds, small) (heads_free at Text h.width (length q)) (refl, none, refl))
 
 module _ (S : Type 0) (stands : S → S → ParseState → Type 0) (trusts t : Bool) (top : Cell) (g : S) (n size : ℕ) where
-  pub known-string : (behind : List ℕ) → IsHeadExpected S stands trusts (string_major t) n behind top g → AreBytes behind → IsPayload trusts t n size behind → IsPayload false t n size behind
-  known-string behind (rest, h, (d, outer, (start, input, expected))) are p =
+  pub known-string : (rest behind : List ℕ) → IsHead (string_major t) n rest behind → IsExpectedFor S stands trusts top g rest → AreBytes behind → IsPayload trusts t n size behind → IsPayload false t n size behind
+  known-string rest behind h (d, outer, (start, input, expected)) are p =
       looked-through trusts t n size behind p (λ e text. no-other-text S stands trusts _ d input (top ∷ outer) rest expected e n behind (subst (λ (u : Bool). IsHead (string_major u) n rest behind) text h) p.inside are)
 
-  pub known-chunk : (behind rest : List ℕ) → IsExpectedFor S stands trusts top g (chunked_from t behind) → AreChunksRead t (chunked_from t behind) rest → (from : List ℕ) → IsHead (string_major t) n rest from → IsPayload trusts t n size from → IsPayload false t n size from
-  known-chunk behind rest (d, outer, (start, input, expected)) r from h p = looked-through trusts t n size from p (λ e text none.
-      let x = no_text t (chunked_from t behind) rest r h.width n from h.is h.holds text p.inside none in
-      never-refused S stands trusts _ d input (top ∷ outer) (chunked_from t behind) expected e x.prefix (drop n from) x.splits _ (x.judged (length (bytes_before expected.ls)) (d - length expected.ls)))
+  pub known-chunk : (begin rest : List ℕ) → IsExpectedFor S stands trusts top g begin → AreChunksRead t begin rest → (from : List ℕ) → IsHead (string_major t) n rest from → IsPayload trusts t n size from → IsPayload false t n size from
+  known-chunk begin rest (d, outer, (start, input, expected)) r from h p = looked-through trusts t n size from p (λ e text none.
+      let x = no_text t begin rest r h.width n from h.is h.holds text p.inside none in
+      never-refused S stands trusts _ d input (top ∷ outer) begin expected e x.prefix (drop n from) x.splits _ (x.judged (length (bytes_before expected.ls)) (d - length expected.ls)))

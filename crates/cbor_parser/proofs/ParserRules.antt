@@ -1,17 +1,15 @@
 -- Where a parse that gives a valid item to a sink stands.
-use Rattle.std.proofs.Common.{◌≡◌, ◌∙◌, ◌-◌, ◌≤◌, ℕ, Bool, Bor, List, [], ◌∷◌, ◌++◌, ◌⊎◌, length, drop, subst, sym, ap, inl, inr, arith, length-append}
-use Rattle.std.proofs.{lemmas.List.take_rest, Math.Seq.drop-append_seam}
+use Rattle.std.proofs.Common.{◌≡◌, ◌-◌, ◌≤◌, ℕ, Bool, Bor, List, [], ◌∷◌, ◌⊎◌, length, subst, inl, inr}
 use Rattle.cbor_head.specs.{Prelude.Bounds, declared.keys.Keys.TheVariants.IntegersAndTexts}
 use Rattle.cbor_verdict.specs.{Levels.Level, Levels.ParseState, PathKinds.IsFitPrefix}
 use Rattle.cbor_parser.specs.inner.Parser.{HasFilled, Expects, HasItem, Fills, Passes, Stops, LacksNothing, HasCome, IsRepeatVisited, TakesTo as Takes}
 use Rattle.cbor_parser.specs.inner.Rules.{IsFilled, TakesTo, StopsAt, behind}
 use Rattle.cbor_parser.specs.declared.item_rules.Part.TheVariants as part
-use Rattle.cbor_parser.specs.declared.part.GivenPart.TheVariants as given
 use Rattle.cbor_parser.specs.declared.parser.SinkStop.TheVariants as stop
 use Rattle.cbor_parser.specs.declared.walk.WalkStop.TheVariants as walks
 use Rattle.cbor_parser.specs.inner.{Kept.KeepsBefore, OpenContainer.Cell, Parts.TakesPrefix, Parts.HasTaken}
-use Rattle.cbor_parser.specs.declared.{container.Expected.TheVariants.Key, item_rules.Part.Part, part.GivenPart.GivenPart, walk.WalkStop.WalkStop}
-use Rattle.cbor_parser.specs.{declared.parser.Parser.Parser, declared.parser.SinkStop.SinkStop, declared.stack.Stack.Stack, Stack.around, Stack.open_levels}
+use Rattle.cbor_parser.specs.declared.{container.Expected.TheVariants.Key, item_rules.Part.Part, walk.WalkStop.WalkStop, parser.Parser.Parser}
+use Rattle.cbor_parser.specs.{declared.parser.SinkStop.SinkStop, declared.stack.Stack.Stack, Stack.around, Stack.open_levels}
 use Rattle.cbor_parser.proofs.{GivenStops.come-expected, GivenKinds.begun-keeps, GivenKinds.broken-keeps}
 
 module _ (S : Type 0) (stands : S → S → ParseState → Type 0) (trusts : Bool) (first now : Parser S) (limits : Bounds) (input : List ℕ) where
@@ -26,37 +24,18 @@ module _ (S : Type 0) (stands : S → S → ParseState → Type 0) (trusts : Boo
 
 -- ---- what is taken
 
--- how many bytes it has
-abbrev pub counted : ℕ → GivenPart → Part SinkStop
-counted size (given.Item behind) = part.Item (size - length behind.now)
-counted size (given.Head behind) = part.Head (size - length behind.now)
-counted size (given.Break behind) = part.Break (size - length behind.now)
-counted size given.Untaken = part.Untaken
-counted size (given.Stopped stop) = part.Stopped stop
-
--- what follows these bytes
-follows : (rest prefix b : List ℕ) → rest ≡ prefix ++ b → behind (length rest - length b) rest ≡ b
-follows rest prefix b e =
-    let used : length rest - length b ≡ length prefix = omega (arith, ap length e, length-append prefix b) in
-    take_rest rest (length rest - length b) ∙ ap (λ (n : ℕ). drop n rest) used ∙ ap (drop (length prefix)) e ∙ drop-append_seam prefix b
-
 module _ (S : Type 0) (stands : S → S → ParseState → Type 0) (trusts : Bool) (holds : S → S → List Level → Bool → List ℕ → Type 0) (first now new : Parser S) (limits : Bounds) (input : List ℕ) (k : Stack Cell) (cells : List Cell) (low : k.height ≤ length cells) (rest : List ℕ) (h : Expects S stands trusts first now limits input (open_levels Cell k cells) rest) (cs : List Cell) (count : ℕ) where
   -- within these limits it begins no key of another kind
-  pub taken : (p : GivenPart) → Takes S stands trusts holds p first.sink limits.depth input rest cs new.sink → TakesPrefix p (limits.depth - k.height) k.top rest → (HasTaken p → limits.keys ≡ IntegersAndTexts → k.top.expected ≡ Key → IsFitPrefix rest)
-      → TakesTo (Parser S) ℕ SinkStop (Expects S stands trusts) (Stops S stands trusts holds) (HasItem S stands trusts) (Fills S stands trusts) (Passes S stands trusts) LacksNothing (counted (length rest) p) first new limits input cs count rest
-  taken (given.Item b) t prefix fits =
-      let kept = begun-keeps S stands trusts first.sink limits.depth input limits.keys k cells now.sink rest b.now low h.0 prefix (fits tt) h.1 in
-      (omega (arith, t.0), omega arith, subst (λ (x : List ℕ). HasItem S stands trusts first new limits input cs x) (sym (follows rest prefix.prefix b.now prefix.is)) (t.1, kept))
-  taken (given.Head b) t prefix fits =
-      let kept = begun-keeps S stands trusts first.sink limits.depth input limits.keys k cells now.sink rest b.now low h.0 prefix (fits tt) h.1 in
-      (omega (arith, t.0), omega arith, subst (λ (x : List ℕ). Expects S stands trusts first new limits input cs x) (sym (follows rest prefix.prefix b.now prefix.is)) (t.1, kept))
-  taken (given.Break b) t prefix fits =
-      let kept = broken-keeps S stands trusts first.sink limits.depth input limits.keys k.top (around Cell k cells) now.sink rest b.now h.0 prefix h.1 in
-      (omega (arith, t.0), omega arith, subst (λ (x : List ℕ). Filled S stands trusts first new limits input cs x) (sym (follows rest (0xff ∷ []) b.now prefix.is)) (is_filled S stands trusts first new limits input cs b.now t.1 kept))
-  taken given.Untaken t prefix fits = ((t, h.1), tt)
-  taken (given.Stopped stop.Broken) t prefix fits = (t, h.1)
-  taken (given.Stopped stop.Repeated) t prefix fits = absurd t
-  taken (given.Stopped stop.Memory) t prefix fits = tt
+  pub taken : (p : Part SinkStop) → Takes S stands trusts holds p first.sink limits.depth input rest cs new.sink → TakesPrefix p (limits.depth - k.height) k.top rest → (HasTaken p → limits.keys ≡ IntegersAndTexts → k.top.expected ≡ Key → IsFitPrefix rest)
+      → TakesTo (Parser S) ℕ SinkStop (Expects S stands trusts) (Stops S stands trusts holds) (HasItem S stands trusts) (Fills S stands trusts) (Passes S stands trusts) LacksNothing p first new limits input cs count rest
+  taken (part.Item used) t prefix fits = (t.0, t.1, (t.2, begun-keeps S stands trusts first.sink limits.depth input limits.keys k cells now.sink rest (behind used rest) low h.0 prefix (fits tt) h.1))
+  taken (part.Head used) t prefix fits = (t.0, t.1, (t.2, begun-keeps S stands trusts first.sink limits.depth input limits.keys k cells now.sink rest (behind used rest) low h.0 prefix (fits tt) h.1))
+  taken (part.Break used) t prefix fits =
+      (t.0, t.1, is_filled S stands trusts first new limits input cs (behind used rest) t.2 (broken-keeps S stands trusts first.sink limits.depth input limits.keys k.top (around Cell k cells) now.sink rest (behind used rest) h.0 prefix h.1))
+  taken part.Untaken t prefix fits = ((t, h.1), tt)
+  taken (part.Stopped stop.Broken) t prefix fits = (t, h.1)
+  taken (part.Stopped stop.Repeated) t prefix fits = absurd t
+  taken (part.Stopped stop.Memory) t prefix fits = tt
 
 -- ---- where it stops
 

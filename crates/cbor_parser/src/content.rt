@@ -2,42 +2,41 @@
 
 ghost use Rattle.std.specs.Prelude.{◌≡◌, ◌∷◌, IfSome};
 ghost use Rattle.cbor_verdict.specs.Reading.{string_major};
-ghost use Rattle.cbor_parser.specs.inner.Parser.{IsHeadExpected, TakesHead, IsExpectedFor, TakesItem};
-ghost use Rattle.cbor_parser.specs.inner.Parts.{IsItem, IsHead, IsPayload, chunked_from, TakesScalar, TakesHeadPrefix};
+ghost use Rattle.cbor_parser.specs.inner.Parser.{IsExpectedFor, TakesItem};
+ghost use Rattle.cbor_parser.specs.inner.Parts.{IsHead, IsPayload, chunked_from, TakesScalar};
 
+use crate::item_rules::Part;
 use crate::open_container::OpenContainer;
 use crate::parser::{Parser, SinkStop};
-use crate::part::GivenPart;
 use crate::sink::Sink;
 use cbor_head::{Argument, read_argument};
 use cbor_text::is_text_prefix;
 
 impl<S> Parser<S> {
-    /// The string of so many bytes whose head stands before these.
+    /// The string of so many bytes, which stand behind its head.
     #[inline(always)]
     pub(crate) fn take_string<'a>(
         &mut self,
         top: &OpenContainer<usize>,
         is_text: bool,
         count: u64,
+        rest: &'a [u8],
         behind: &'a [u8],
-    ) -> GivenPart<'a>
+    ) -> Part<SinkStop>
     where
         S: Sink<'a>,
-        requires head { IsHeadExpected S S.stands S.trusts (string_major is_text) count behind.now
-            top.now self.old.sink }
-        ensures takes { TakesHead S S.stands S.trusts S.holds result (string_major is_text) count behind.now
-            top.now self.old.sink self.new.sink }
-        ensures kind { IsItem result }
-        ensures prefix { TakesHeadPrefix result (string_major is_text) count behind.now }
+        requires head { IsHead (string_major is_text) count rest.now behind.now }
+        requires expected { IsExpectedFor S S.stands S.trusts top.now self.old.sink rest.now }
+        ensures takes { TakesItem S S.stands S.trusts S.holds result rest.now top.now self.old.sink self.new.sink }
+        ensures prefix { TakesScalar result rest.now }
     {
         let Some(size) = payload_size::<S>(is_text, count, behind) else {
-            return GivenPart::Untaken;
+            return Part::Untaken;
         };
         let is_key = top.expected.is_key();
         match self.sink.string(is_key, is_text, behind, size) {
-            Ok(()) => GivenPart::Item(&behind[size..]),
-            Err(_) => GivenPart::Stopped(SinkStop::Memory),
+            Ok(()) => Part::Item(rest.len() - behind.len() + size),
+            Err(_) => Part::Stopped(SinkStop::Memory),
         }
     }
 
@@ -46,40 +45,39 @@ impl<S> Parser<S> {
         &mut self,
         top: &OpenContainer<usize>,
         is_text: bool,
+        start: &'a [u8],
         behind: &'a [u8],
-    ) -> GivenPart<'a>
+    ) -> Part<SinkStop>
     where
         S: Sink<'a>,
-        requires opener { IsExpectedFor S S.stands S.trusts top.now self.old.sink
-            (chunked_from is_text behind.now) }
-        ensures takes { TakesItem S S.stands S.trusts S.holds result (chunked_from is_text behind.now)
-            top.now self.old.sink self.new.sink }
-        ensures kind { IsItem result }
-        ensures prefix { TakesScalar result (chunked_from is_text behind.now) }
+        requires opener { start.now ≡ chunked_from is_text behind.now }
+        requires expected { IsExpectedFor S S.stands S.trusts top.now self.old.sink start.now }
+        ensures takes { TakesItem S S.stands S.trusts S.holds result start.now top.now self.old.sink self.new.sink }
+        ensures prefix { TakesScalar result start.now }
     {
         let is_key = top.expected.is_key();
         let Ok(()) = self.sink.begin_string(is_key, is_text) else {
-            return GivenPart::Stopped(SinkStop::Memory);
+            return Part::Stopped(SinkStop::Memory);
         };
         let mut rest = behind;
         'chunks: loop {
             let Some((first, behind)) = rest.split_first() else {
-                return GivenPart::Stopped(SinkStop::Broken);
+                return Part::Stopped(SinkStop::Broken);
             };
             if *first == 0xff {
                 return match self.sink.end_string(is_key, is_text) {
-                    Ok(()) => GivenPart::Item(behind),
-                    Err(_) => GivenPart::Stopped(SinkStop::Memory),
+                    Ok(()) => Part::Item(start.len() - behind.len()),
+                    Err(_) => Part::Stopped(SinkStop::Memory),
                 };
             }
             let Some(head) = chunk_head(is_text, *first, behind) else {
-                return GivenPart::Stopped(SinkStop::Broken);
+                return Part::Stopped(SinkStop::Broken);
             };
             let Some(size) = payload_size::<S>(is_text, head.number, head.rest) else {
-                return GivenPart::Stopped(SinkStop::Broken);
+                return Part::Stopped(SinkStop::Broken);
             };
             let Ok(()) = self.sink.chunk(is_key, is_text, head.rest, size) else {
-                return GivenPart::Stopped(SinkStop::Memory);
+                return Part::Stopped(SinkStop::Memory);
             };
             rest = &head.rest[size..];
         }

@@ -1,15 +1,15 @@
 //! What has no length: the openers of strings, arrays and maps, and the break that ends them.
 
-ghost use Rattle.std.specs.Prelude.{◌≤◌, ◌-◌, ◌∷◌, length};
+ghost use Rattle.std.specs.Prelude.{◌≡◌, ◌≤◌, ◌-◌, ◌∷◌, length};
 ghost use Rattle.cbor_parser.specs.Stack.{open_levels};
 ghost use Rattle.cbor_parser.specs.inner.OpenContainer.{Cell};
 ghost use Rattle.cbor_parser.specs.inner.Parser.{IsExpectedIn, Takes};
 ghost use Rattle.cbor_parser.specs.inner.Parts.{TakesPrefix};
 
 use crate::container::Expected;
+use crate::item_rules::Part;
 use crate::open_container::OpenContainer;
-use crate::parser::Parser;
-use crate::part::GivenPart;
+use crate::parser::{Parser, SinkStop};
 use crate::sink::Sink;
 use crate::stack::Stack;
 use cbor_head::Major;
@@ -20,31 +20,31 @@ impl<S> Parser<S> {
     #[inline(always)]
     pub(crate) fn take_indefinite<'a>(
         &mut self,
+        rest: &'a [u8],
         first: u8,
         behind: &'a [u8],
         stack: &mut Stack<OpenContainer<usize>>,
         cells: &mut [OpenContainer<usize>],
         depth: usize,
-    ) -> GivenPart<'a>
+    ) -> Part<SinkStop>
     where
         S: Sink<'a>,
         requires cells { stack.old.height ≤ length cells.old }
-        requires expected { IsExpectedIn S S.stands S.trusts depth (open_levels Cell stack.old cells.old) self.old.sink
-            (first ∷ behind.now) }
+        requires begins { rest.now ≡ first ∷ behind.now }
+        requires expected { IsExpectedIn S S.stands S.trusts depth (open_levels Cell stack.old cells.old) self.old.sink rest.now }
         ensures cells { stack.new.height ≤ length cells.new }
-        ensures takes { Takes S S.stands S.trusts S.holds result depth (first ∷ behind.now)
-            (open_levels Cell stack.old cells.old) self.old.sink
-            (open_levels Cell stack.new cells.new) self.new.sink }
-        ensures prefix { TakesPrefix result (depth - stack.old.height) stack.old.top
-            (first ∷ behind.now) }
+        ensures takes { Takes S S.stands S.trusts S.holds result depth rest.now (open_levels Cell stack.old cells.old)
+            self.old.sink (open_levels Cell stack.new cells.new) self.new.sink }
+        ensures prefix { TakesPrefix result (depth - stack.old.height) stack.old.top rest.now }
     {
         match first {
-            0x5f => self.take_chunks(&stack.top, false, behind),
-            0x7f => self.take_chunks(&stack.top, true, behind),
+            0x5f => self.take_chunks(&stack.top, false, rest, behind),
+            0x7f => self.take_chunks(&stack.top, true, rest, behind),
             0x9f => self.open(
                 Major::Array,
                 0,
                 OpenContainer::indefinite(Expected::Item, behind.len()),
+                rest,
                 behind,
                 stack,
                 cells,
@@ -54,13 +54,14 @@ impl<S> Parser<S> {
                 Major::Map,
                 0,
                 OpenContainer::indefinite(Expected::Key, behind.len()),
+                rest,
                 behind,
                 stack,
                 cells,
                 depth,
             ),
-            0xff if stack.top.may_break() => GivenPart::Break(behind),
-            _ => GivenPart::Untaken,
+            0xff if stack.top.may_break() => Part::Break(1),
+            _ => Part::Untaken,
         }
     }
 }

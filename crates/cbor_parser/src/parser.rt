@@ -18,7 +18,6 @@ use crate::kinds::is_asked;
 use crate::limit::{truncated_or_too_long, within};
 use crate::open_container::OpenContainer;
 use crate::parse::parse;
-use crate::part::GivenPart;
 use crate::repeated_key::{repeated_key, reported_map};
 use crate::sink::Sink;
 use crate::stack::Stack;
@@ -137,13 +136,7 @@ impl<'a, S: Sink<'a>> ItemRules<'a> for Parser<S> {
         limits: Limits,
     ) -> Part<SinkStop> {
         let depth = usize::from(limits.depth());
-        match self.take_part(rest, stack, cells, depth, limits.keys()) {
-            GivenPart::Item(behind) => Part::Item(rest.len() - behind.len()),
-            GivenPart::Head(behind) => Part::Head(rest.len() - behind.len()),
-            GivenPart::Break(behind) => Part::Break(rest.len() - behind.len()),
-            GivenPart::Untaken => Part::Untaken,
-            GivenPart::Stopped(stop) => Part::Stopped(stop),
-        }
+        self.take_part(rest, stack, cells, depth, limits.keys())
     }
 
     #[inline(always)]

@@ -1,16 +1,15 @@
 -- What the walk over a valid item holds: of the open containers what is still to come, and a sink that took what is complete.
 use Rattle.std.specs.Prelude.{◌≡◌, ℕ, ◌-◌, ◌^◌, ◌<◌, ◌≤◌, Bool, true, false, List, [], ◌∷◌, ◌++◌, length, take}
 use Rattle.cbor_head.specs.Prelude.{Bounds, Spelling, spell, IsSpelled, depth}
-use Rattle.cbor_head.specs.declared.major.Major.{Major}
 use Rattle.cbor_builder.specs.declared.repeat.Repeat.{Repeat}
 use Rattle.cbor_verdict.specs.Levels.{IsClean, IsTaken, Level, AreLevels, bytes_before, ParseState, item_expected, item_whole, settle}
 use Rattle.cbor_parser.specs.declared.parser.ParseError.TheVariants as error
 use Rattle.cbor_parser.specs.declared.parser.SinkStop.TheVariants as stop
-use Rattle.cbor_parser.specs.declared.part.GivenPart.TheVariants as part
+use Rattle.cbor_parser.specs.declared.item_rules.Part.TheVariants as part
 use Rattle.cbor_parser.specs.Sink.{StandsFull, Reported, IsReportedFull, IsWithin}
-use Rattle.cbor_parser.specs.declared.{parser.ParseError.ParseError, parser.Parser.Parser, parser.SinkStop.SinkStop, part.GivenPart.GivenPart}
+use Rattle.cbor_parser.specs.declared.{parser.ParseError.ParseError, parser.Parser.Parser, parser.SinkStop.SinkStop, item_rules.Part.Part}
 use Rattle.cbor_parser.specs.{inner.Repeated.IsKeyReported, ParsedItem.IsStop, inner.Kept.KeepsBefore, inner.OpenContainer.cells_of, inner.OpenContainer.Cell}
-use Rattle.cbor_parser.specs.inner.{OpenMaps.IsCellOf, Parts.IsHead, Parts.IsOpener}
+use Rattle.cbor_parser.specs.inner.{OpenMaps.IsCellOf, Rules.behind}
 
 -- ---- what is known of an input
 
@@ -92,29 +91,6 @@ module _ (S : Type 0) (stands : S → S → ParseState → Type 0) (trusts : Boo
   abbrev pub IsExpectedFor : Cell → S → List ℕ → Type 0
   IsExpectedFor top g rest = (d : ℕ) × (outer : List Cell) × IsExpectedIn d (top ∷ outer) g rest
 
-  abbrev pub IsToEndFor : Bool → S → List ℕ → Type 0
-  IsToEndFor is_map g rest = (start : S) × (d : ℕ) × (input : List ℕ) × (cs : List Cell) × IsToEnd is_map start d input cs g rest
-
-  -- ---- a head
-
-  abbrev pub IsHeadExpected : Major → ℕ → List ℕ → Cell → S → Type 0
-  IsHeadExpected m n behind top g = (rest : List ℕ) × IsHead m n rest behind × IsExpectedFor top g rest
-
-  abbrev pub IsHeadIn : Major → ℕ → List ℕ → ℕ → List Cell → S → Type 0
-  IsHeadIn m n behind d cs g = (rest : List ℕ) × IsHead m n rest behind × IsExpectedIn d cs g rest
-
-  abbrev pub IsOpenerExpected : Major → ℕ → Cell → List ℕ → Cell → S → Type 0
-  IsOpenerExpected m n c behind top g = (rest : List ℕ) × IsOpener m n c rest behind × IsExpectedFor top g rest
-
-  -- a container that was to end, before these bytes
-  abbrev pub EndsTo : GivenPart → S → ℕ → List ℕ → List Cell → S → List ℕ → Type 0
-  EndsTo (part.Item to) start d input cs g behind = (to.now ≡ behind) × HasEnded start d input cs g behind
-  EndsTo (part.Stopped stop.Memory) start d input cs g behind = Unit {0}
-  EndsTo _ start d input cs g behind = ⊥
-
-  abbrev pub EndsItem : Bool → GivenPart → List ℕ → S → S → Type 0
-  EndsItem is_map result behind g new = (start : S) (d : ℕ) (input : List ℕ) (cs : List Cell) → IsToEnd is_map start d input cs g behind → EndsTo result start d input cs new behind
-
   module _ (holds : S → S → List Level → Bool → List ℕ → Type 0) where
     -- the walk has come to an item that is expected, or to some chunk of it
     abbrev pub HasCome : S → ℕ → List ℕ → List Cell → S → List ℕ → Type 0
@@ -122,32 +98,22 @@ module _ (S : Type 0) (stands : S → S → ParseState → Type 0) (trusts : Boo
 
     -- ---- what is taken
 
-    abbrev pub TakesTo : GivenPart → S → ℕ → List ℕ → List ℕ → List Cell → S → Type 0
-    TakesTo (part.Item behind) start d input rest cs g = (length behind.now < length rest) × HasEnded start d input cs g behind.now
-    TakesTo (part.Head behind) start d input rest cs g = (length behind.now < length rest) × IsExpected start d input cs g behind.now
-    TakesTo (part.Break behind) start d input rest cs g = (length behind.now < length rest) × HasFilled start d input cs g behind.now
+    abbrev pub TakesTo : Part SinkStop → S → ℕ → List ℕ → List ℕ → List Cell → S → Type 0
+    TakesTo (part.Item used) start d input rest cs g = (0 < used) × (used ≤ length rest) × HasEnded start d input cs g (behind used rest)
+    TakesTo (part.Head used) start d input rest cs g = (0 < used) × (used ≤ length rest) × IsExpected start d input cs g (behind used rest)
+    TakesTo (part.Break used) start d input rest cs g = (0 < used) × (used ≤ length rest) × HasFilled start d input cs g (behind used rest)
     TakesTo part.Untaken start d input rest cs g = IsExpected start d input cs g rest
     TakesTo (part.Stopped stop.Broken) start d input rest cs g = HasCome start d input cs g rest
     TakesTo (part.Stopped stop.Repeated) start d input rest cs g = ⊥
     TakesTo (part.Stopped stop.Memory) start d input rest cs g = Unit {0}
 
     -- from these cells and this sink to those
-    abbrev pub Takes : GivenPart → ℕ → List ℕ → List Cell → S → List Cell → S → Type 0
+    abbrev pub Takes : Part SinkStop → ℕ → List ℕ → List Cell → S → List Cell → S → Type 0
     Takes result d rest cs g now new = (start : S) (input : List ℕ) → IsExpected start d input cs g rest → TakesTo result start d input rest now new
 
     -- within whatever cells around this one
-    abbrev pub TakesItem : GivenPart → List ℕ → Cell → S → S → Type 0
+    abbrev pub TakesItem : Part SinkStop → List ℕ → Cell → S → S → Type 0
     TakesItem result rest top g new = (d : ℕ) (outer : List Cell) → Takes result d rest (top ∷ outer) g (top ∷ outer) new
-
-    -- a head
-    abbrev pub TakesHead : GivenPart → Major → ℕ → List ℕ → Cell → S → S → Type 0
-    TakesHead result m n behind top g new = (rest : List ℕ) → IsHead m n rest behind → TakesItem result rest top g new
-
-    abbrev pub TakesCounted : GivenPart → ℕ → Major → ℕ → List ℕ → List Cell → S → List Cell → S → Type 0
-    TakesCounted result d m n behind cs g now new = (rest : List ℕ) → IsHead m n rest behind → Takes result d rest cs g now new
-
-    abbrev pub TakesOpener : GivenPart → ℕ → Major → ℕ → Cell → List ℕ → List Cell → S → List Cell → S → Type 0
-    TakesOpener result d m n c behind cs g now new = (rest : List ℕ) → IsOpener m n c rest behind → Takes result d rest cs g now new
 
 -- ---- where a parse stands, from its first state: no key of another kind began
 

@@ -6,15 +6,9 @@ use Rattle.cbor_head.specs.declared.{major.Major.Major, width.Width.Width, width
 use Rattle.cbor_verdict.specs.Levels.{Level, IsLevel, IsOpened, level_bytes}
 use Rattle.cbor_verdict.specs.{Kinds.IsOfOneHead, Reading.string_major}
 use Rattle.cbor_parser.specs.declared.container.Expected.TheVariants.{Item, Key, Value}
-use Rattle.cbor_parser.specs.declared.part.GivenPart.TheVariants as part
-use Rattle.cbor_parser.specs.{declared.container.Expected.Expected, declared.part.GivenPart.GivenPart, inner.OpenContainer.cell_of, inner.OpenContainer.Cell}
-
--- it is an item, or nothing can be taken
-abbrev pub IsItem : GivenPart → Type 0
-IsItem (part.Item behind) = Unit {0}
-IsItem part.Untaken = Unit {0}
-IsItem (part.Stopped e) = Unit {0}
-IsItem _ = ⊥
+use Rattle.cbor_parser.specs.declared.item_rules.Part.TheVariants as part
+use Rattle.cbor_parser.specs.declared.{container.Expected.Expected, item_rules.Part.Part, parser.SinkStop.SinkStop}
+use Rattle.cbor_parser.specs.inner.{OpenContainer.cell_of, OpenContainer.Cell, Rules.behind}
 
 -- the bytes are a definite head of this type, of an item that there is, and those behind it
 pub record IsHead (m : Major) (n : ℕ) (rest behind : List ℕ) : Type 0 where
@@ -67,32 +61,18 @@ pub record HasBroken (c : Cell) (rest behind : List ℕ) : Type 0 where
   pub no_value : c.expected ≡ Value → ⊥
   pub is : rest ≡ 0xff ∷ behind
 
-abbrev pub TakesPrefix : GivenPart → ℕ → Cell → List ℕ → Type 0
-TakesPrefix (part.Item behind) d c rest = HasBegun d rest behind.now
-TakesPrefix (part.Head behind) d c rest = HasBegun d rest behind.now
-TakesPrefix (part.Break behind) d c rest = HasBroken c rest behind.now
+abbrev pub TakesPrefix : Part SinkStop → ℕ → Cell → List ℕ → Type 0
+TakesPrefix (part.Item used) d c rest = HasBegun d rest (behind used rest)
+TakesPrefix (part.Head used) d c rest = HasBegun d rest (behind used rest)
+TakesPrefix (part.Break used) d c rest = HasBroken c rest (behind used rest)
 TakesPrefix _ d c rest = Unit {0}
 
 -- within whatever containers
-abbrev pub TakesScalar : GivenPart → List ℕ → Type 0
+abbrev pub TakesScalar : Part SinkStop → List ℕ → Type 0
 TakesScalar result rest = (d : ℕ) (c : Cell) → TakesPrefix result d c rest
 
-abbrev pub TakesHeadPrefix : GivenPart → Major → ℕ → List ℕ → Type 0
-TakesHeadPrefix result m n behind = (rest : List ℕ) → IsHead m n rest behind → TakesScalar result rest
-
-abbrev pub TakesCountedPrefix : GivenPart → ℕ → Major → ℕ → List ℕ → Type 0
-TakesCountedPrefix result d m n behind = (rest : List ℕ) → IsHead m n rest behind → (c : Cell) → TakesPrefix result d c rest
-
-abbrev pub TakesOpenerPrefix : GivenPart → ℕ → Major → ℕ → Cell → List ℕ → Type 0
-TakesOpenerPrefix result d m n o behind = (rest : List ℕ) → IsOpener m n o rest behind → (c : Cell) → TakesPrefix result d c rest
-
 -- an item is taken, or a head
-abbrev pub HasTaken : GivenPart → Type 0
-HasTaken (part.Item behind) = Unit {0}
-HasTaken (part.Head behind) = Unit {0}
+abbrev pub HasTaken : Part SinkStop → Type 0
+HasTaken (part.Item used) = Unit {0}
+HasTaken (part.Head used) = Unit {0}
 HasTaken _ = ⊥
-
--- what is taken ends before these
-abbrev pub EndsBefore : GivenPart → List ℕ → Type 0
-EndsBefore (part.Item to) behind = to.now ≡ behind
-EndsBefore _ behind = Unit {0}

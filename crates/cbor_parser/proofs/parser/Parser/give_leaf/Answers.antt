@@ -1,18 +1,22 @@
-use Rattle.std.proofs.Common.{◌∙◌, length, refl}
+use Rattle.std.proofs.Common.{◌∙◌, ◌-◌, length, refl, arith}
 use Rattle.cbor_parser.proofs.GivenParts.{expected-item, key-awaited, scalar-ends}
 use Rattle.cbor_parser.proofs.parser.Parser.give_leaf.Goals as goal
-use Rattle.cbor_parser.{specs.Sink.leaf_value, proofs.GivenItems.scalar-head, proofs.GivenKinds.scalar-begun}
+use Rattle.cbor_parser.{specs.Sink.leaf_value, proofs.GivenItems.scalar-head, proofs.GivenItems.head-shorter}
+use Rattle.cbor_parser.proofs.GivenKinds.{begun-so, scalar-begun}
 
 pub leaf-requires : goal.leaf-requires
 leaf-requires g c =
-    let (rest, head, expected) = c.requires.head in
-    λ k. ((refl, tt), (c.requires.kind, ((λ e. (head.simple e).0), expected-item g.row.S.Denot g.S.Sink.stands g.S.Sink.trusts c.args.top.now c.args.self.now.sink rest c.is_key.result c.is_key.ensures expected)))
+    let r = c.requires in
+    λ k. ((refl, tt), (r.kind, ((λ e. (r.head.simple e).0), expected-item g.row.S.Denot g.S.Sink.stands g.S.Sink.trusts c.args.top.now c.args.self.now.sink c.args.rest.now c.is_key.result c.is_key.ensures r.expected)))
 
 pub returns-in-Ok-clause-takes : goal.returns-in-Ok-clause-takes
-returns-in-Ok-clause-takes g c = λ rest head d outer start input expected.
-    scalar-ends _ _ _ start d input _ c.args.self.now.sink rest expected c.args.behind.now (leaf_value c.args.major c.args.number) c.leaf.new.self c.is_key.result
-    (c.is_key.ensures ∙ key-awaited (length input) expected.ls c.args.top.now outer expected.cells) (scalar-head c.args.major c.args.number rest c.args.behind.now c.requires.kind head) c.in-Ok.ensures
+returns-in-Ok-clause-takes g c = λ d outer start input expected.
+    let a = c.args in
+    scalar-ends _ _ _ start d input _ a.self.now.sink a.rest.now expected a.behind.now (leaf_value a.major a.number) c.leaf.new.self (length a.rest.now - length a.behind.now) (omega (arith, head-shorter a.major a.number a.rest.now a.behind.now c.requires.head)) c.is_key.result
+    (c.is_key.ensures ∙ key-awaited (length input) expected.ls a.top.now outer expected.cells) (scalar-head a.major a.number a.rest.now a.behind.now c.requires.kind c.requires.head) c.in-Ok.ensures
 
 pub returns-in-Ok-clause-prefix : goal.returns-in-Ok-clause-prefix
-returns-in-Ok-clause-prefix g c = λ rest head d o.
-    scalar-begun (leaf_value c.args.major c.args.number) d rest c.args.behind.now (scalar-head c.args.major c.args.number rest c.args.behind.now c.requires.kind head)
+returns-in-Ok-clause-prefix g c = λ d o.
+    let a = c.args in
+    begun-so d a.rest.now a.behind.now (length a.rest.now - length a.behind.now) (omega (arith, head-shorter a.major a.number a.rest.now a.behind.now c.requires.head))
+    (scalar-begun (leaf_value a.major a.number) d a.rest.now a.behind.now (scalar-head a.major a.number a.rest.now a.behind.now c.requires.kind c.requires.head))

@@ -1,21 +1,26 @@
-use Rattle.std.proofs.Common.{◌∙◌, ◌-◌, ◌<◌, List, length, sym, subst, arith, refl}
+use Rattle.std.proofs.Common.{◌∙◌, ◌-◌, ◌<◌, List, length, sym, subst, ap, arith, refl, length-append}
+use Rattle.cbor_verdict.specs.Levels.{level_bytes}
 use Rattle.cbor_parser.proofs.GivenParts.{expected-item, key-awaited, height-is, opened}
 use Rattle.cbor_parser.proofs.parser.Parser.open.Goals as goal
-use Rattle.cbor_parser.{specs.Stack.around, proofs.Stacks.open_levels_count, specs.inner.Parser.IsExpected, proofs.GivenKinds.opener-begun}
-use Rattle.cbor_parser.specs.inner.OpenContainer.{Cell}
+use Rattle.cbor_parser.{specs.declared.item_rules.Part.TheVariants.Head, specs.Stack.around, proofs.Stacks.open_levels_count, specs.inner.Parser.TakesTo}
+use Rattle.cbor_parser.{proofs.GivenKinds.begun-so, proofs.GivenKinds.opener-begun, specs.inner.OpenContainer.Cell}
 
 pub begin-requires : goal.begin-requires
 begin-requires g c =
-    let (rest, opener, expected) = c.requires.opener in
-    λ k. ((refl, tt), (c.requires.kind, expected-item g.row.S.Denot g.S.Sink.stands g.S.Sink.trusts c.args.stack.now.top c.args.self.now.sink rest c.is_key.result c.is_key.ensures expected))
+    let a = c.args in
+    λ k. ((refl, tt), (c.requires.kind, expected-item g.row.S.Denot g.S.Sink.stands g.S.Sink.trusts a.stack.now.top a.self.now.sink a.rest.now c.is_key.result c.is_key.ensures (a.depth, around Cell a.stack.now a.cells.now, c.requires.expected)))
 
 pub returns-clause-takes : goal.returns-clause-takes
-returns-clause-takes g c = λ rest opener start input expected.
-    let behind = c.args.behind.now in
-    let space : length expected.ls < c.args.depth = omega (arith, c.if-stack-depth.false, height-is _ _ _ _ _ _ _ _ _ expected, open_levels_count Cell c.args.stack.now c.args.cells.now c.requires.cells) in
-    subst (λ (x : List Cell). (length behind < length rest) × IsExpected g.row.S.Denot g.S.Sink.stands g.S.Sink.trusts start c.args.depth input x c.begin.new.self behind) (sym c.push.ensures.levels)
-    (opened _ _ _ _ _ _ _ _ _ expected c.args.major c.args.number c.args.opened behind c.begin.new.self c.is_key.result (c.is_key.ensures ∙ key-awaited (length input) expected.ls c.args.stack.now.top (around Cell c.args.stack.now c.args.cells.now) expected.cells) space opener c.in-Ok.ensures)
+returns-clause-takes g c = λ start input expected.
+    let a = c.args in
+    let space : length expected.ls < a.depth = omega (arith, c.if-stack-depth.false, height-is _ _ _ _ _ _ _ _ _ expected, open_levels_count Cell a.stack.now a.cells.now c.requires.cells) in
+    subst (λ (x : List Cell). TakesTo g.row.S.Denot g.S.Sink.stands g.S.Sink.trusts g.S.Sink.holds (Head (length a.rest.now - length a.behind.now)) start a.depth input a.rest.now x c.begin.new.self) (sym c.push.ensures.levels)
+    (opened _ _ _ _ _ _ _ _ _ expected a.major a.number a.opened a.behind.now c.begin.new.self c.is_key.result (c.is_key.ensures ∙ key-awaited (length input) expected.ls a.stack.now.top (around Cell a.stack.now a.cells.now) expected.cells) space c.requires.opener c.in-Ok.ensures)
 
 pub returns-clause-prefix : goal.returns-clause-prefix
-returns-clause-prefix g c = λ rest opener o.
-    opener-begun (c.args.depth - c.args.stack.now.height) c.args.major c.args.number c.args.opened rest c.args.behind.now (omega (arith, c.if-stack-depth.false)) opener
+returns-clause-prefix g c =
+    let a = c.args in
+    let k = c.requires.opener in
+    let left = a.depth - a.stack.now.height in
+    begun-so left a.rest.now a.behind.now (length a.rest.now - length a.behind.now) (omega (arith, ap length k.is, length-append (level_bytes k.level) a.behind.now))
+    (opener-begun left a.major a.number a.opened a.rest.now a.behind.now (omega (arith, c.if-stack-depth.false)) k)

@@ -4,7 +4,7 @@ use Rattle.cbor_parser.proofs.Chunked.{AreChunks}
 
 abbrev pub invariant-chunks : goal.invariant-chunks
 invariant-chunks g l = record {
-  chunks : AreChunks g.row.S.Denot g.S.Sink.stands g.S.Sink.holds l.is_key l.is_text l.fn.behind l.rest l.fn.self.sink l.self.sink;
+  chunks : AreChunks g.row.S.Denot g.S.Sink.stands g.S.Sink.holds l.is_key l.is_text l.fn.start l.rest l.fn.self.sink l.self.sink;
 }
 
 abbrev pub decreases-chunks : goal.decreases-chunks

@@ -1,35 +1,41 @@
-use Rattle.std.proofs.Common.{ℕ, ◌∷◌, subst, arith, refl}
+use Rattle.std.proofs.Common.{◌≡◌, ℕ, [], ◌∷◌, length, sym, ap, ◌∙◌, subst, arith, refl}
 use Rattle.cbor_parser.proofs.parser.Parser.take_indefinite.Goals as goal
-use Rattle.cbor_parser.{specs.Stack.around, specs.Stack.open_levels, specs.inner.Parser.IsExpected, proofs.GivenEnds.break-ends}
-use Rattle.cbor_parser.{proofs.GivenItems.array-opens, proofs.GivenItems.map-opens, specs.inner.OpenContainer.Cell}
+use Rattle.cbor_parser.proofs.GivenItems.{array-opens, map-opens, as-used, follows}
+use Rattle.cbor_parser.specs.{inner.Parser.IsExpected, inner.Parser.HasFilled, inner.Parts.HasBroken, inner.OpenContainer.Cell, Stack.around, Stack.open_levels}
+use Rattle.cbor_parser.proofs.{GivenEnds.break-ends, parser.Parser.take_indefinite.Goals.Then-may_break}
 
 pub open-requires : goal.open-requires
 open-requires g c =
-    let opens = array-opens c.args.first c.indefinite.result c.args.behind.now c.in-159.is c.indefinite.ensures in
-    λ n. ((refl, tt), (tt, (c.requires.cells, (c.args.first ∷ c.args.behind.now, opens, (c.args.depth, around Cell c.args.stack.now c.args.cells.now, c.requires.expected)))))
+    let a = c.args in
+    let opens = array-opens c.indefinite.result a.rest.now a.behind.now (c.requires.begins ∙ ap (λ (x : ℕ). x ∷ a.behind.now) c.in-159.is) c.indefinite.ensures in
+    λ n. ((refl, tt), (tt, (c.requires.cells, (opens, c.requires.expected))))
 
 pub open-requires-in-191 : goal.open-requires-in-191
 open-requires-in-191 g c =
-    let opens = map-opens c.args.first c.indefinite-in-191.result c.args.behind.now c.in-191.is c.indefinite-in-191.ensures in
-    λ n. ((refl, tt), (tt, (c.requires.cells, (c.args.first ∷ c.args.behind.now, opens, (c.args.depth, around Cell c.args.stack.now c.args.cells.now, c.requires.expected)))))
+    let a = c.args in
+    let opens = map-opens c.indefinite-in-191.result a.rest.now a.behind.now (c.requires.begins ∙ ap (λ (x : ℕ). x ∷ a.behind.now) c.in-191.is) c.indefinite-in-191.ensures in
+    λ n. ((refl, tt), (tt, (c.requires.cells, (opens, c.requires.expected))))
 
-pub returns-in-159-clause-takes : goal.returns-in-159-clause-takes
-returns-in-159-clause-takes g c = c.open.ensures.takes _ (array-opens c.args.first c.indefinite.result c.args.behind.now c.in-159.is c.indefinite.ensures)
-
-pub returns-in-191-clause-takes : goal.returns-in-191-clause-takes
-returns-in-191-clause-takes g c = c.open-in-191.ensures.takes _ (map-opens c.args.first c.indefinite-in-191.result c.args.behind.now c.in-191.is c.indefinite-in-191.ensures)
-
-pub returns-in-159-clause-prefix : goal.returns-in-159-clause-prefix
-returns-in-159-clause-prefix g c = c.open.ensures.prefix _ (array-opens c.args.first c.indefinite.result c.args.behind.now c.in-159.is c.indefinite.ensures) _
-
-pub returns-in-191-clause-prefix : goal.returns-in-191-clause-prefix
-returns-in-191-clause-prefix g c = c.open-in-191.ensures.prefix _ (map-opens c.args.first c.indefinite-in-191.result c.args.behind.now c.in-191.is c.indefinite-in-191.ensures) _
+-- it is a break
+is-break : (g : _) (c : Then-may_break g) → c.args.rest.now ≡ 0xff ∷ c.args.behind.now
+is-break g c = c.requires.begins ∙ ap (λ (x : ℕ). x ∷ c.args.behind.now) c.in-255.is
 
 pub returns-in-255-clause-takes : goal.returns-in-255-clause-takes
 returns-in-255-clause-takes g c = λ start input expected.
-    let k = c.args.stack.now in
-    let may = c.may_break.ensures.only c.if-may_break.true in (
-      omega arith,
-      break-ends _ _ _ _ _ _ k.top (around Cell k c.args.cells.now) _ c.args.behind.now
-          (subst (λ (x : ℕ). IsExpected g.row.S.Denot g.S.Sink.stands g.S.Sink.trusts start c.args.depth input (open_levels Cell k c.args.cells.now) c.args.self.now.sink (x ∷ c.args.behind.now)) c.in-255.is expected) may.0 may.1,
-    )
+    let a = c.args in
+    let S = g.row.S.Denot in
+    let K = g.S.Sink in
+    let k = a.stack.now in
+    let cs = open_levels Cell k a.cells.now in
+    let may = c.may_break.ensures.only c.if-may_break.true in
+    let is = is-break g (goal.at.returns-in-255-clause-takes g c).Then-may_break in
+    let size : length a.rest.now ≡ length (0xff ∷ a.behind.now) = ap length is in
+    as-used (HasFilled S K.stands K.trusts start a.depth input cs a.self.now.sink) a.rest.now (0xff ∷ []) a.behind.now 1 is (omega (arith, size))
+    (omega (arith, size), break-ends _ _ _ _ _ _ k.top (around Cell k a.cells.now) _ a.behind.now (subst (IsExpected S K.stands K.trusts start a.depth input cs a.self.now.sink) is expected) may.0 may.1)
+
+pub returns-in-255-clause-prefix : goal.returns-in-255-clause-prefix
+returns-in-255-clause-prefix g c =
+    let a = c.args in
+    let may = c.may_break.ensures.only c.if-may_break.true in
+    let is = is-break g (goal.at.returns-in-255-clause-prefix g c).Then-may_break in
+    subst (HasBroken a.stack.now.top a.rest.now) (sym (follows a.rest.now (0xff ∷ []) a.behind.now 1 is (omega (arith, ap length is)))) (record { open_ended = may.0; no_value = may.1; is = is })

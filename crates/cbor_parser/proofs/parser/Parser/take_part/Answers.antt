@@ -1,4 +1,4 @@
-use Rattle.std.proofs.Common.{◌≡◌, ◌+◌, ◌-◌, ◌*◌, ◌%◌, ◌<◌, ◌≤◌, ℕ, List, get_or, ap, inl, inr, arith, refl}
+use Rattle.std.proofs.Common.{◌≡◌, ◌+◌, ◌*◌, ◌%◌, ◌<◌, ◌≤◌, ℕ, List, get_or, ap, inl, inr, arith, refl}
 use Rattle.cbor_head.specs.declared.major.Major.TheVariants.{Tag, Simple}
 use Rattle.cbor_parser.proofs.GivenItems.{head-here, simple-here, tag-opens}
 use Rattle.cbor_parser.proofs.parser.Parser.take_part.Goals as goal
@@ -23,20 +23,7 @@ simple_head g c =
     head-here Simple first c.in-Some.behind.now h.rest.now h.width h.number e.spelled high (λ f. proper) c.args.rest.now c.in-Some.ensures.cases.0
 
 pub open-requires : goal.open-requires
-open-requires g c = λ n. ((refl, tt), (tt, (c.requires.cells, (c.args.rest.now, tag_opener g (goal.at.open-requires g c).After-counted-opened, (c.args.depth, around Cell c.args.stack.now c.args.cells.now, c.requires.expected)))))
-
-pub returns-in-6-clause-takes : goal.returns-in-6-clause-takes
-returns-in-6-clause-takes g c = c.open.ensures.takes c.args.rest.now (tag_opener g (goal.at.returns-in-6-clause-takes g c).After-counted-opened)
-
-pub returns-in-6-clause-prefix : goal.returns-in-6-clause-prefix
-returns-in-6-clause-prefix g c = c.open.ensures.prefix c.args.rest.now (tag_opener g (goal.at.returns-in-6-clause-prefix g c).After-counted-opened) c.args.stack.now.top
+open-requires g c = λ n. ((refl, tt), (tt, (c.requires.cells, (tag_opener g (goal.at.open-requires g c).After-counted-opened, c.requires.expected))))
 
 pub give_leaf-requires : goal.give_leaf-requires
-give_leaf-requires g c = λ n. ((refl, tt), (tt, (c.args.rest.now, simple_head g (goal.at.give_leaf-requires g c).Else-number-lt32, (c.args.depth, around Cell c.args.stack.now c.args.cells.now, c.requires.expected))))
-
-pub returns-else-number-lt32-clause-takes : goal.returns-else-number-lt32-clause-takes
-returns-else-number-lt32-clause-takes g c = c.give_leaf.ensures.takes c.args.rest.now (simple_head g (goal.at.returns-else-number-lt32-clause-takes g c).Else-number-lt32) c.args.depth (around Cell c.args.stack.now c.args.cells.now)
-
-pub returns-else-number-lt32-clause-prefix : goal.returns-else-number-lt32-clause-prefix
-returns-else-number-lt32-clause-prefix g c =
-    c.give_leaf.ensures.prefix c.args.rest.now (simple_head g (goal.at.returns-else-number-lt32-clause-prefix g c).Else-number-lt32) (c.args.depth - c.args.stack.now.height) c.args.stack.now.top
+give_leaf-requires g c = λ n. ((refl, tt), (tt, (simple_head g (goal.at.give_leaf-requires g c).Else-number-lt32, (c.args.depth, around Cell c.args.stack.now c.args.cells.now, c.requires.expected))))
