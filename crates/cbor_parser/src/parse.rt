@@ -7,7 +7,7 @@ ghost use Rattle.cbor_parser.specs.inner.Rules.{CellsFitInMemory};
 
 use crate::item_rules::ItemRules;
 use crate::open_container::OpenContainer;
-use crate::stack::{FEW, MOST, SOME, Stack, lend};
+use crate::stack::{FEW, MOST, Stack, lend};
 use crate::walk::{WalkStop, walk};
 use cbor_head::Limits;
 
@@ -65,43 +65,9 @@ fn shallow<'a, R: ItemRules<'a>>(
     }
 }
 
-// Goes on from the place where the cells are too few.
+// Goes on from the place where the cells are too few, with one for each container that may be open.
 #[inline(never)]
 fn deeper<'a, R: ItemRules<'a>>(
-    rules: &mut R,
-    input: &'a [u8],
-    rest: &'a [u8],
-    stack: Stack<OpenContainer<R::Kept>>,
-    few: &[OpenContainer<R::Kept>],
-    limits: Limits,
-) -> Result<&'a [u8], R::Error>
-    requires few { length few.now ≤ SOME }
-    requires full { stack.height ≡ length few.now }
-    requires expected { (first : R) × R.stands first rules.old limits input.now
-        (open_levels (Cell R.Kept) stack few.now) rest.now }
-    requires within { length input.now ≤ 2 ^ 62 }
-    requires fits { CellsFitInMemory R.Kept.row }
-    ensures { (first : R)
-        → R.stands first rules.old limits input.now (open_levels (Cell R.Kept) stack few.now) rest.now
-        → MatchResult result
-        (λ behind. R.passes first rules.new limits input.now behind.now)
-        (R.refuses first limits input.now) }
-{
-    let mut stack = stack;
-    let mut cells = [stack.top; SOME];
-    lend(few, &mut cells);
-    match walk(rules, rest, &mut stack, &mut cells, limits) {
-        Ok(behind) => Ok(behind),
-        Err(WalkStop::Untaken(rest)) if stack.height >= SOME => {
-            deepest(rules, input, rest, stack, &cells, limits)
-        }
-        Err(stop) => Err(rules.error(stop, &stack, &cells, input, limits)),
-    }
-}
-
-// Goes on with a cell for each container that may be open.
-#[inline(never)]
-fn deepest<'a, R: ItemRules<'a>>(
     rules: &mut R,
     input: &'a [u8],
     rest: &'a [u8],

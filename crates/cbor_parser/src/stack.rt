@@ -50,10 +50,8 @@ impl<L: Copy> Stack<L> {
     }
 }
 
-/// Most items are no deeper than this.
-pub const FEW: usize = 8;
-/// Few items are deeper than this. With more, the cells of the deepest items would not fit 64 KiB of stack.
-pub const SOME: usize = 16;
+/// Few items are deeper than this. With many more, the cells of the deepest items would not fit 64 KiB of stack.
+pub const FEW: usize = 16;
 /// No item is deeper than this.
 pub const MOST: usize = MAX_DEPTH as usize;
 
