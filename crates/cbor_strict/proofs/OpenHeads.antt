@@ -20,7 +20,7 @@ use Rattle.cbor_verdict.proofs.Steps.{head-size, fault_of, at-reached}
 use Rattle.cbor_verdict.{specs.OpenMaps.AreOpen, specs.OpenMaps.AreOpenDistinct, specs.Judged.Never, proofs.Scalars.at-as, proofs.Undecided.mark-undecided}
 use Rattle.cbor_verdict.proofs.WholeStrings.{string-head, string-expected}
 use Rattle.cbor_strict.specs.inner.LastKeys.{view_value, from_outside, expected_of, IsKept}
-use Rattle.cbor_strict.specs.inner.OpenItems.{AreOpenClean, frames_in, bytes_before, Stands, HasEnded, HasHeadCome, HasBegunIn, IsLeaf, IsMap, IsNoHead, IsOther, GoesOn}
+use Rattle.cbor_strict.specs.inner.OpenItems.{AreOpenClean, frames_in, bytes_before, Stands, HasEnded, HasHeadCome, HasBegunIn, IsLeaf, IsMap, IsOther, GoesOn}
 use Rattle.cbor_strict.proofs.OpenBegins.{lift, no_break, no_openers, leaf_reads, HasOpened, other_opens, pairs_open}
 use Rattle.cbor_strict.specs.declared.{last_keys.Expected.TheVariants.Member, last_keys.LastKeys.LastKeys, open_items.OpenItems.OpenItems}
 use Rattle.cbor_strict.proofs.{KeptEnds.kept_keys, KeptEnds.kept_levels, OpenEnds.frames_length, OpenEnds.before_more, OpenItems.around_as}
@@ -236,8 +236,8 @@ other_of w kind m n is more bytes text map = subst IsOther (sym is) (go m more b
     go _ more bytes text map = absurd more
 
 -- an event where an item is expected has one, if it is no break
-pub head_comes : (d : ℕ) (fs : List Frame) (m : Mark) (x : List ℕ) (next : Place) → IsTaking d (at_item (frames_in fs)) m x next → IsNoHead m → ⊥
-head_comes d fs (a_head m w n) x next h none = none
+pub head_comes : (d : ℕ) (fs : List Frame) (m : Mark) (x : List ℕ) (next : Place) → IsTaking d (at_item (frames_in fs)) m x next → ((major : Major) (w : Width) (n : ℕ) → m ≢ a_head major w n) → ⊥
+head_comes d fs (a_head m w n) x next h none = none m w n refl
 head_comes d fs (a_chunk w n) x next h none = h
 head_comes d fs a_byte x next h none = h
 head_comes d fs a_break x next h none = no_break fs next h.1

@@ -2,12 +2,12 @@
 
 ghost use Rattle.std.specs.Prelude.{◌≡◌, ◌<◌, ◌≤◌, ◌+◌, ◌^◌, ◌++◌, ◌↔◌, ℕ, true, false, List, []};
 ghost use Rattle.std.specs.Prelude.{length};
-ghost use Rattle.std.specs.Prelude.{OnOk, IfErr, MatchOption, MatchResult, IsUtf8};
+ghost use Rattle.std.specs.Prelude.{OnOk, IfErr, MatchResult, IsUtf8};
 ghost use Rattle.std.specs.Str.Lossy.{utf8_valid_len};
 ghost use Rattle.cbor_head.specs.Head.{IsSimple, major_number, shortest_head};
 ghost use Rattle.cbor_head.specs.declared.width.Width.{Width};
 ghost use Rattle.cbor_text.specs.TextCheck.{HasChecked};
-ghost use Rattle.cbor_automaton.specs.{Marks.mark_of, Trace.a_head};
+ghost use Rattle.cbor_automaton.specs.Trace.{a_head};
 ghost use Rattle.cbor_strict.specs.StrictReader.{IsAgainstEvent};
 ghost use Rattle.cbor_verdict.specs.Frame.{Frame};
 ghost use Rattle.cbor_verdict.specs.Kinds.{IsKeyExpected};
@@ -16,11 +16,12 @@ ghost use Rattle.cbor_strict.specs.inner.OpenItems.{IsItemEnded, AnswersEnd, IsH
 ghost use Rattle.cbor_strict.specs.inner.OpenItems.{AnswersHead};
 ghost use Rattle.cbor_strict.specs.inner.OpenItems.{IsPartCome, AnswersPart, IsBegunIn};
 ghost use Rattle.cbor_strict.specs.inner.OpenItems.{AnswersBegun};
-ghost use Rattle.cbor_strict.specs.inner.OpenItems.{IsSameString, IsNoHead, IsLeaf, GoesOn};
+ghost use Rattle.cbor_strict.specs.inner.OpenItems.{IsSameString, IsLeaf, GoesOn};
 
 use crate::head_faults::fault_of;
 use crate::last_keys::{Expected, LastKeys};
-use cbor_automaton::{Event, EventKind};
+use cbor_automaton::Event;
+use cbor_events::head_of;
 use cbor_head::{Head, KeyOrder, Keys, Major, Reason, Refusal};
 use cbor_text::TextCheck;
 use std::alloc::{AllocError, Global};
@@ -94,7 +95,7 @@ impl OpenItems {
         ensures against { IfErr result (λ f. IsAgainstEvent self.old.order f.reason) }
         ensures read { IfErr result (λ f. f.read ≡ taken) }
     {
-        let Some((major, argument)) = head_of(&event.kind) else {
+        let Some((major, argument)) = head_of(event.kind) else {
             unreachable!()
         };
         match fault_of(event.width, argument) {
@@ -241,24 +242,6 @@ impl OpenItems {
                 Err(length) => { Err(Refusal::new(Reason::KeyOrder, taken - length as u64, taken)) }
             },
         }
-    }
-}
-
-// The type and the argument of the head of an item; 0 where it is indefinite.
-fn head_of(kind: &EventKind) -> Option<(Major, u64)>
-    ensures { (w : Width) → MatchOption result (IsNoHead (mark_of w kind.now))
-        (λ h. (mark_of w kind.now ≡ a_head h.0 w h.1) × (h.0 ≡ Major.Simple → IsSimple h.1)) }
-{
-    match kind {
-        EventKind::Unsigned(argument) => Some((Major::Unsigned, *argument)),
-        EventKind::Negative(argument) => Some((Major::Negative, *argument)),
-        EventKind::Simple(simple) => Some((Major::Simple, u64::from(simple.number()))),
-        EventKind::Bytes(count) => Some((Major::Bytes, count.unwrap_or(0))),
-        EventKind::Text(count) => Some((Major::Text, count.unwrap_or(0))),
-        EventKind::Array(count) => Some((Major::Array, count.unwrap_or(0))),
-        EventKind::Map(count) => Some((Major::Map, count.unwrap_or(0))),
-        EventKind::Tag(number) => Some((Major::Tag, *number)),
-        EventKind::Chunk(_) | EventKind::Piece(_) | EventKind::End => None,
     }
 }
 

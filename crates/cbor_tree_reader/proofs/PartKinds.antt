@@ -1,5 +1,5 @@
 -- The kinds of keys in what was read: of the first byte of a head, of what a part is, and behind a break.
-use Rattle.std.proofs.Common.{◌≢◌, ◌↔◌, ℕ, suc, ◌+◌, ◌-◌, ◌^◌, ◌<◌, true, false, Bool, List, [], ◌∷◌, ◌++◌, length, map, refl, sym, subst, arith, append_assoc, length-append}
+use Rattle.std.proofs.Common.{◌≡◌, ap, ◌∙◌, ◌≢◌, ◌↔◌, ℕ, suc, ◌+◌, ◌-◌, ◌^◌, ◌<◌, true, false, Bool, List, [], ◌∷◌, ◌++◌, length, map, refl, sym, subst, arith, append_assoc, length-append}
 use Rattle.cbor_head.specs.Prelude.{plain, Complaint, OfKinds, head, Bounds, Spelling, array, a_map, tag, spell_all, spell_entries, spellings_count, value_of, Value}
 use Rattle.cbor_head.specs.Value as value
 use Rattle.cbor_head.specs.declared.major.Major.TheVariants as majors
@@ -7,14 +7,14 @@ use Rattle.cbor_head.specs.declared.{major.Major.Major, order.KeyOrder.KeyOrder,
 use Rattle.cbor_head.specs.declared.width.Width.TheVariants.{Indefinite}
 use Rattle.cbor_model.proofs.KeyKinds.{of_kind_in, of_kind_entries}
 use Rattle.cbor_automaton.specs.declared.event.EventKind.TheVariants as kinds
-use Rattle.cbor_automaton.specs.{Marks.mark_of, Marks.count_of, declared.event.EventKind.EventKind}
+use Rattle.cbor_automaton.specs.{Marks.mark_of, Marks.count_of, Trace.a_head, declared.event.EventKind.EventKind}
 use Rattle.cbor_builder.specs.Built.{IsKeyExpected}
 use Rattle.cbor_verdict.specs.Kinds.{KeepsToKinds, IsKeyExpectedIn, IsOfOneHead, HasBasicPrefix}
 use Rattle.cbor_verdict.specs.Levels.{Level, a_key, some_member, some_key, frame, AreLevels, bytes_before}
 use Rattle.cbor_verdict.specs.Place.{Container, Place, at_item, Ends, IsTaking}
 use Rattle.cbor_verdict.{proofs.KindBytes.head_bytes, proofs.KindBytes.string_is_one, specs.Given.opens, specs.Reading.string_value}
 use Rattle.cbor_verdict.proofs.{Given.full-array, Given.full-map, LevelFrames.around_levels, KindFrames.keeps_closed}
-use Rattle.cbor_tree_reader.specs.inner.PlainParts.{leaf_value, Begins, BeginsString}
+use Rattle.cbor_tree_reader.specs.inner.PlainParts.{leaf_value, BeginsString}
 
 -- ---- the first byte of a head
 
@@ -39,8 +39,8 @@ module _ (d : ℕ) (fs : List Container) where
 pub string-item : (kind : EventKind) → BeginsString kind → kind ≢ kinds.End
 string-item kind h e = subst BeginsString e h
 
-pub begins-item : (kind : EventKind) (m : Major) (k : ℕ) → Begins kind m k → kind ≢ kinds.End
-begins-item kind m k h e = subst (λ (x : EventKind). Begins x m k) e h
+pub head-item : (w : Width) (kind : EventKind) (m : Major) (k : ℕ) → mark_of w kind ≡ a_head m w k → kind ≢ kinds.End
+head-item w kind m k h e = cc (sym h ∙ ap (mark_of w) e)
 
 -- ---- where a key is expected
 

@@ -1,24 +1,24 @@
 -- What a part of an item is, and where it leads: the containers that are open behind it.
-use Rattle.std.proofs.Common.{◌≡◌, ◌≢◌, ℕ, zero, suc, ◌+◌, ◌-◌, ◌^◌, ◌<◌, Bool, true, false, Some, None, List, [], ◌∷◌, ◌++◌, length, map, slice_get, refl, sym, ap, ◌∙◌, subst, arith, append_assoc, append-nil, length-append}
+use Rattle.std.proofs.Common.{◌≡◌, ◌≢◌, ℕ, zero, suc, ◌+◌, ◌-◌, ◌^◌, ◌<◌, Bool, true, false, Option, Some, List, [], ◌∷◌, ◌++◌, length, map, slice_get, refl, sym, ap, ◌∙◌, subst, arith, append_assoc, append-nil, length-append}
 use Rattle.std.proofs.lemmas.List.{length-map}
-use Rattle.cbor_head.specs.Prelude.{Holds, IsSimple, head, shortest_head, canonical, Bounds, Spelling, array, a_map, no_spellings, no_entries, spell_all, spell_entries, spellings_count, plain}
+use Rattle.cbor_head.specs.Prelude.{Holds, head, shortest_head, canonical, Bounds, Value, Spelling, array, a_map, no_spellings, no_entries, spell_all, spell_entries, spellings_count, plain}
 use Rattle.cbor_head.specs.declared.major.Major.TheVariants as majors
 use Rattle.cbor_head.specs.declared.{major.Major.Major, order.KeyOrder.KeyOrder, width.Width.Width, width.Width.TheVariants.Indefinite}
 use Rattle.cbor_model.specs.Parts.{Open, an_array, a_map as an_open_map, opened}
 use Rattle.cbor_automaton.specs.declared.event.EventKind.TheVariants as kinds
-use Rattle.cbor_automaton.specs.{Marks.mark_of, Trace.a_head, declared.event.EventKind.EventKind}
+use Rattle.cbor_automaton.specs.{Marks.mark_of, Trace.Mark, Trace.a_head, declared.event.EventKind.EventKind}
 use Rattle.cbor_machine.specs.NextEvent.{ItemEventsView}
 use Rattle.cbor_builder.specs.Built.{IsContainer, IsLeaf}
 use Rattle.cbor_item.specs.OpenValues as trees
 use Rattle.cbor_item.specs.OpenValues.{OpenValue}
 use Rattle.cbor_verdict.specs.Place.{Container, Place, at_item, expect, Ends, IsTaking}
 use Rattle.cbor_verdict.specs.Levels.{Level, a_member, a_key, some_member, some_key, tagged, frame, AreLevels, bytes_before, ParseState, item_expected, item_full}
-use Rattle.cbor_verdict.specs.Reading.{string_major, IsBegun, string_value}
-use Rattle.cbor_verdict.proofs.Items.{definite, is-definite, proper-definite, never-open}
-use Rattle.cbor_verdict.{specs.Given.opens, specs.Given.StandsAt, proofs.Members.closes, proofs.Heads.open_or, proofs.Given.full-array, proofs.Given.full-map}
-use Rattle.cbor_verdict.proofs.{Loops.array_bytes-whole, Loops.map_bytes-whole, Steps.fault_of}
+use Rattle.cbor_verdict.specs.Reading.{string_major, IsBegun, ReadsItem, string_value}
+use Rattle.cbor_verdict.proofs.Scalars.{reads-unsigned, reads-negative, reads-simple}
+use Rattle.cbor_verdict.{proofs.Items.is-definite, specs.Given.opens, specs.Given.StandsAt, proofs.Members.closes, proofs.Heads.open_or}
+use Rattle.cbor_verdict.proofs.{Given.full-array, Given.full-map, Loops.array_bytes-whole, Loops.map_bytes-whole, Steps.fault_of}
 use Rattle.cbor_tree_reader.specs.inner.TreeItems.{HaveBegun, HaveBegunIn, HasItsPlace}
-use Rattle.cbor_tree_reader.specs.inner.PlainParts.{IsCome, leaf_value, IsLeafMajor, Begins}
+use Rattle.cbor_tree_reader.specs.inner.PlainParts.{IsCome, leaf_value, IsLeafMajor}
 use Rattle.cbor_tree_reader.specs.TreeValues.{level_values, values_at, IsFullRight}
 
 -- ---- strings
@@ -41,24 +41,19 @@ pub leaf-canonical : (o : KeyOrder) (m : Major) (k : ℕ) → IsLeafMajor m k �
 leaf-canonical o majors.Unsigned k h = refl
 leaf-canonical o majors.Negative k h = refl
 leaf-canonical o majors.Simple k h = refl
-leaf-canonical o _ k h = absurd h
+leaf-canonical o _ k h = absurd h.0
 
-pub leaf-major : (m : Major) (k : ℕ) → IsLeafMajor m k → IsLeaf m × (m ≡ majors.Simple → IsSimple k)
-leaf-major majors.Unsigned k h = (tt, (λ e. cc e))
-leaf-major majors.Negative k h = (tt, (λ e. cc e))
-leaf-major majors.Simple k h = (tt, (λ e. h))
-leaf-major _ k h = absurd h
+-- this of the value of an item of one head, by its mark
+abbrev pub OfLeaf : (Value → Type 0) → Mark → Type 0
+OfLeaf P (a_head m w k) = IsLeaf m → P (leaf_value m k)
+OfLeaf P _ = ⊥ → Unit {0}
 
-pub begins-container : (kind : EventKind) (m : Major) (k : ℕ) → Begins kind m k → IsContainer m
-begins-container (kinds.Array (Some n)) m k h = subst IsContainer (sym h.0) tt
-begins-container (kinds.Array None) m k h = subst IsContainer (sym h.0) tt
-begins-container (kinds.Map (Some n)) m k h = subst IsContainer (sym h.0) tt
-begins-container (kinds.Map None) m k h = subst IsContainer (sym h.0) tt
-begins-container (kinds.Tag n) m k h = subst IsContainer (sym h.0) tt
-begins-container _ m k h = absurd h
-
-pub simple-begun : (b : Bounds) (fs : List Container) (t x : List ℕ) (e : ItemEventsView) (w : Width) (n : ℕ) → IsBegun plain b fs t x e w (kinds.Simple n) → IsSimple n
-simple-begun b fs t x e w n i = (definite b.depth fs majors.Simple w n x i.next (never-open b.depth fs majors.Simple w n x i.next tt i.taking) i.taking).follows.0
+module _ (b : Bounds) (fs : List Container) (t x : List ℕ) (e : ItemEventsView) (w : Width) where
+  pub leaf-read : (from : Option (List ℕ)) (kind : EventKind) → IsCome b fs t x e w kind → OfLeaf (ReadsItem plain b fs t x from from e) (mark_of w kind)
+  leaf-read from (kinds.Unsigned n) i = λ l. reads-unsigned plain b fs t x e w n from (come-begun b fs t x e w _ _ refl (λ g. cc g) i)
+  leaf-read from (kinds.Negative n) i = λ l. reads-negative plain b fs t x e w n from (come-begun b fs t x e w _ _ refl (λ g. cc g) i)
+  leaf-read from (kinds.Simple n) i = λ l. reads-simple plain b fs t x e w n from (come-begun b fs t x e w _ _ refl (λ g. cc g) i)
+  leaf-read from _ i = λ l. absurd l
 
 -- ---- where a part leads
 
@@ -113,32 +108,18 @@ module _ (o : KeyOrder) (b : Bounds) (ls : List Level) (levels : AreLevels b.dep
       expected-here (a_key w left no_entries) (head majors.Map w (suc left)) next _ _ (space-for space, (subst (Holds w) count holds, tt), levels)
       (ap (λ (x : List ℕ). bytes_before ls ++ x) (ap (head majors.Map w) count ∙ sym (append-nil (head majors.Map w (0 + suc left))))) (follows ∙ ap (λ (x : ℕ). expect x fs) two) refl tt refl
 
-  module _ (t x : List ℕ) (e : ItemEventsView) (w : Width) where
-    -- a container begins
-    pub opens-by : (kind : EventKind) (m : Major) (k : ℕ) → (i : IsCome b fs t x e w kind) → Begins kind m k → IsPlaced o b.depth (bytes_before ls ++ x) i.next (opened m k ∷ opens o ls) (suc (length ls)) xs (trees.opened m k ∷ level_values ls)
-    opens-by (kinds.Array (Some n)) m k i g =
-        let d = definite b.depth fs majors.Array w n x i.next (proper-definite w i.proper) i.taking in
-        subst (λ (z : Major). IsPlaced o b.depth (bytes_before ls ++ x) i.next (opened z k ∷ opens o ls) (suc (length ls)) xs (trees.opened z k ∷ level_values ls)) (sym g.0)
-        (subst (λ (y : List ℕ). IsPlaced o b.depth (bytes_before ls ++ y) i.next (an_array 0 [] ∷ opens o ls) (suc (length ls)) xs (trees.an_array [] ∷ level_values ls)) (sym d.bytes_are) (array-begins n w i.next d.holds d.follows.0 d.follows.1))
-    opens-by (kinds.Map (Some n)) m k i g =
-        let d = definite b.depth fs majors.Map w n x i.next (proper-definite w i.proper) i.taking in
-        subst (λ (z : Major). IsPlaced o b.depth (bytes_before ls ++ x) i.next (opened z k ∷ opens o ls) (suc (length ls)) xs (trees.opened z k ∷ level_values ls)) (sym g.0)
-        (subst (λ (y : List ℕ). IsPlaced o b.depth (bytes_before ls ++ y) i.next (an_open_map [] ∷ opens o ls) (suc (length ls)) xs (trees.a_map [] ∷ level_values ls)) (sym d.bytes_are) (map-begins n w i.next d.holds d.follows.0 d.follows.1))
-    opens-by (kinds.Tag n) m k i g =
-        let d = definite b.depth fs majors.Tag w n x i.next (never-open b.depth fs majors.Tag w n x i.next tt i.taking) i.taking in
-        subst (λ (z : Major). IsPlaced o b.depth (bytes_before ls ++ x) i.next (opened z k ∷ opens o ls) (suc (length ls)) xs (trees.opened z k ∷ level_values ls)) (sym g.0)
-        (subst (λ (j : ℕ). IsPlaced o b.depth (bytes_before ls ++ x) i.next (opened majors.Tag j ∷ opens o ls) (suc (length ls)) xs (trees.opened majors.Tag j ∷ level_values ls)) (sym g.1)
-        (subst (λ (y : List ℕ). IsPlaced o b.depth (bytes_before ls ++ y) i.next (opened majors.Tag n ∷ opens o ls) (suc (length ls)) xs (trees.opened majors.Tag n ∷ level_values ls)) (sym d.bytes_are)
-        (expected-here (tagged w n) (head majors.Tag w n) i.next _ _ (space-for d.follows.0, d.holds, levels) refl d.follows.1 refl tt refl)))
-    opens-by (kinds.Array None) m k i g =
-        let taking = subst (λ (v : Width). IsTaking b.depth (at_item fs) (a_head majors.Array v 0) x i.next) i.proper i.taking in
-        subst (λ (z : Major). IsPlaced o b.depth (bytes_before ls ++ x) i.next (opened z k ∷ opens o ls) (suc (length ls)) xs (trees.opened z k ∷ level_values ls)) (sym g.0)
-        (expected-here (some_member no_spellings) x i.next _ _ (space-for taking.2.0, tt, levels) (ap (λ (y : List ℕ). bytes_before ls ++ y) (taking.1 ∙ sym (append-nil (head majors.Array Indefinite 0)))) taking.2.1 refl tt refl)
-    opens-by (kinds.Map None) m k i g =
-        let taking = subst (λ (v : Width). IsTaking b.depth (at_item fs) (a_head majors.Map v 0) x i.next) i.proper i.taking in
-        subst (λ (z : Major). IsPlaced o b.depth (bytes_before ls ++ x) i.next (opened z k ∷ opens o ls) (suc (length ls)) xs (trees.opened z k ∷ level_values ls)) (sym g.0)
-        (expected-here (some_key no_entries) x i.next _ _ (space-for taking.2.0, tt, levels) (ap (λ (y : List ℕ). bytes_before ls ++ y) (taking.1 ∙ sym (append-nil (head majors.Map Indefinite 0)))) taking.2.1 refl tt refl)
-    opens-by _ m k i g = absurd g
+  -- a container begins
+  pub opens-by : (m : Major) (w : Width) (k : ℕ) (x : List ℕ) (next : Place) → IsContainer m → IsTaking b.depth (at_item fs) (a_head m w k) x next → IsPlaced o b.depth (bytes_before ls ++ x) next (opened m k ∷ opens o ls) (suc (length ls)) xs (trees.opened m k ∷ level_values ls)
+  opens-by majors.Array Indefinite k x next c h = expected-here (some_member no_spellings) x next _ _ (space-for h.2.0, tt, levels) (ap (λ (y : List ℕ). bytes_before ls ++ y) (h.1 ∙ sym (append-nil (head majors.Array Indefinite 0)))) h.2.1 refl tt refl
+  opens-by majors.Map Indefinite k x next c h = expected-here (some_key no_entries) x next _ _ (space-for h.2.0, tt, levels) (ap (λ (y : List ℕ). bytes_before ls ++ y) (h.1 ∙ sym (append-nil (head majors.Map Indefinite 0)))) h.2.1 refl tt refl
+  opens-by majors.Tag Indefinite k x next c h = absurd h.2
+  opens-by majors.Array w k x next c h =
+      subst (λ (y : List ℕ). IsPlaced o b.depth (bytes_before ls ++ y) next (an_array 0 [] ∷ opens o ls) (suc (length ls)) xs (trees.an_array [] ∷ level_values ls)) (sym h.0) (array-begins k w next h.1 h.2.0 h.2.1)
+  opens-by majors.Map w k x next c h =
+      subst (λ (y : List ℕ). IsPlaced o b.depth (bytes_before ls ++ y) next (an_open_map [] ∷ opens o ls) (suc (length ls)) xs (trees.a_map [] ∷ level_values ls)) (sym h.0) (map-begins k w next h.1 h.2.0 h.2.1)
+  opens-by majors.Tag w k x next c h =
+      expected-here (tagged w k) x next _ _ (space-for h.2.0, h.1, levels) (ap (λ (y : List ℕ). bytes_before ls ++ y) h.0) h.2.1 refl tt refl
+  opens-by _ w k x next c h = absurd c
 
 -- the break
 pub breaks : (o : KeyOrder) (b : Bounds) (ls : List Level) (next : Place) (xs : List ℕ) → AreLevels b.depth ls → HaveBegun xs ls → length (bytes_before ls) < 2 ^ 63 → Ends (map frame ls) next

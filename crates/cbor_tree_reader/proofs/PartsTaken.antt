@@ -8,7 +8,7 @@ use Rattle.cbor_head.specs.declared.width.Width.TheVariants.{Indefinite}
 use Rattle.cbor_model.specs.Parts.{Open, give, opened}
 use Rattle.cbor_model.proofs.{Counts.holds_fits, ReadLaws.length_spell}
 use Rattle.cbor_automaton.specs.declared.event.EventKind.TheVariants as kinds
-use Rattle.cbor_automaton.specs.{Marks.mark_of, declared.event.Event.Event, declared.event.EventKind.EventKind}
+use Rattle.cbor_automaton.specs.{Marks.mark_of, Trace.Mark, declared.event.Event.Event, declared.event.EventKind.EventKind}
 use Rattle.cbor_machine.specs.NextEvent.{ItemEventsView}
 use Rattle.cbor_builder.specs.Built.{Built, built, TakesPart}
 use Rattle.cbor_item.specs.OpenValues as trees
@@ -29,9 +29,9 @@ use Rattle.cbor_tree_reader.proofs.HeldKeys.{held-given, held-opened, held-broke
 use Rattle.cbor_tree_reader.specs.TreeValues.{level_values, values_with, IsForTree}
 use Rattle.cbor_tree_reader.proofs.ExpectedRefusals.{few, expects, refused-item, undecided-whole}
 use Rattle.cbor_tree_reader.proofs.TreeValues.{values-given, settles-right, tree-step}
-use Rattle.cbor_tree_reader.proofs.PartKinds.{basic-more, mark-string, string-item, begins-item, HoldsNone, leaf-holds-none, string-holds-none, no-kinds, keeps-broken}
+use Rattle.cbor_tree_reader.proofs.PartKinds.{basic-more, mark-string, string-item, head-item, HoldsNone, leaf-holds-none, string-holds-none, no-kinds, keeps-broken}
 use Rattle.cbor_tree_reader.proofs.Paths.{given-apart, opened-apart, so-far, settled-begun, settled-place, begun-more, begun-space, begins-at}
-use Rattle.cbor_tree_reader.proofs.PartPlaces.{IsPlaced, begins-container, breaks, leaf-canonical, leaf-major, opens-by, stands-as, string-canonical}
+use Rattle.cbor_tree_reader.proofs.PartPlaces.{IsPlaced, breaks, leaf-canonical, opens-by, stands-as, string-canonical}
 use Rattle.cbor_tree_reader.specs.declared.{tree_items.TreeItems.TreeItems, item_part.ItemPart.ItemPart}
 use Rattle.cbor_tree_reader.specs.{inner.ItemPrefix.IsExpectedAt, inner.ItemPrefix.IsNextExpected, declared.key_set.KeySet.KeySet}
 use Rattle.cbor_tree_reader.specs.inner.HeldKeys.{AreHeld, AreHeldSoFar}
@@ -192,18 +192,19 @@ module _ (v : TreeItems) (b : Bounds) (e : ItemEventsView) (t : List ℕ) (d : I
         (λ g now count h. (h.0 ∙ ap (λ (x : List ℕ). built g.order (give x g.open_levels)) (string-canonical g.order is_text content.items), h.1))
         refl
     take-read (Begin m k) r =
-        let item = begins-item ev.kind m k r.0 in
+        let head = r.0.1 ev.width in
+        let item = head-item ev.width ev.kind m k head in
         let keeps = head-keeps plain b t gs (expects v b e t d) ev.width ev.kind n.bytes n.next n.taking item expected.kind in
         head-taken (Begin m k) r.1 keeps
         (λ now height place count same same_place starts same_kinds given step keys at.
-        let l = opens-by v.builder.order b d.ls d.levels now.starts.items (begun-so now height place same same_place starts same_kinds) (here-so now height place same same_place starts same_kinds) t n.bytes after ev.width ev.kind m k came r.0 in
+        let l = opens-by v.builder.order b d.ls d.levels now.starts.items (begun-so now height place same same_place starts same_kinds) (here-so now height place same same_place starts same_kinds) m ev.width k n.bytes n.next r.0.0 (subst (λ (y : Mark). IsTaking b.depth (at_item gs) y n.bytes n.next) head n.taking) in
         let one : suc (length d.ls) ≡ length d.ls + count = omega (arith, given.1) in
         placed-ending now height place same same_place starts same_kinds (Begin m k) (trees.opened m k ∷ level_values d.ls) refl step n.bytes n.next (opened m k ∷ v.builder.open_levels) count at
         (subst (λ (h : ℕ). IsPlaced v.builder.order b.depth (bytes_before d.ls ++ n.bytes) n.next (opened m k ∷ v.builder.open_levels) h now.starts.items (trees.opened m k ∷ level_values d.ls)) one
         (subst (λ (os : List Open). IsPlaced v.builder.order b.depth (bytes_before d.ls ++ n.bytes) n.next (opened m k ∷ os) (suc (length d.ls)) now.starts.items (trees.opened m k ∷ level_values d.ls)) (sym d.open_levels) l))
-        given.0 (opened-apart m k v.builder.open_levels (begins-container ev.kind m k r.0) d.apart)
+        given.0 (opened-apart m k v.builder.open_levels r.0.0 d.apart)
         (let k2 = keys.opened (omega (arith, given.1)) in
-        subst (λ (ss : List KeySet). AreHeldSoFar ss (opened m k ∷ v.builder.open_levels)) (sym k2.are) (held-opened m k k2.fresh (sets v) v.builder.open_levels (begins-container ev.kind m k r.0) k2.none d.held))
+        subst (λ (ss : List KeySet). AreHeldSoFar ss (opened m k ∷ v.builder.open_levels)) (sym k2.are) (held-opened m k k2.fresh (sets v) v.builder.open_levels r.0.0 k2.none d.held))
         keeps)
     take-read Break r =
         let taking = subst (λ (k : EventKind). IsTaking b.depth (at_item gs) (mark_of ev.width k) n.bytes n.next) r.0 n.taking in
@@ -243,9 +244,9 @@ module _ (v : TreeItems) (b : Bounds) (e : ItemEventsView) (t : List ℕ) (d : I
     part-fits part read = go part (read gs t n.bytes ev.width came)
       where
         go : (part : ItemPart) → ReadsPart b gs t n.bytes ev.kind after new mid to part → CanTake v.builder part × IsForTree part
-        go (Leaf m k) r = let l = leaf-major m k r.0 in ((l.0, l.1, takes-part), r.0)
+        go (Leaf m k) r = ((r.0.0, r.0.1, takes-part), r.0)
         go (String is_text content) r = (takes-part, r.0)
-        go (Begin m k) r = let c = begins-container ev.kind m k r.0 in ((c, takes-part), c)
+        go (Begin m k) r = ((r.0.0, takes-part), r.0.0)
         go Break r = (tt, tt)
 
     -- memory is refused behind it

@@ -4,7 +4,7 @@ ghost use Rattle.cbor_tree_reader.specs.inner.PlainParts.{HasCome, AnswersPart};
 
 use crate::strings::read_string;
 use cbor_automaton::{Event, EventKind};
-use cbor_events::ItemEvents;
+use cbor_events::{ItemEvents, head_of};
 use cbor_head::{Major, Refusal};
 use std::alloc::Global;
 use std::io::Read;
@@ -34,9 +34,6 @@ pub(crate) fn read_part<R: Read>(
         (R.remaining reader.old) (R.remaining reader.new) events.new result }
 {
     match kind {
-        EventKind::Unsigned(number) => Ok(ItemPart::Leaf(Major::Unsigned, number)),
-        EventKind::Negative(number) => Ok(ItemPart::Leaf(Major::Negative, number)),
-        EventKind::Simple(simple) => Ok(ItemPart::Leaf(Major::Simple, u64::from(simple.number()))),
         EventKind::Bytes(length) => {
             match read_string(alloc, events, reader, false, length) {
                 Ok(content) => Ok(ItemPart::String(false, content)),
@@ -49,10 +46,14 @@ pub(crate) fn read_part<R: Read>(
                 Err(refusal) => Err(refusal),
             }
         }
-        EventKind::Array(count) => Ok(ItemPart::Begin(Major::Array, count.unwrap_or(0))),
-        EventKind::Map(count) => Ok(ItemPart::Begin(Major::Map, count.unwrap_or(0))),
-        EventKind::Tag(number) => Ok(ItemPart::Begin(Major::Tag, number)),
-        EventKind::End => Ok(ItemPart::Break),
-        _ => unreachable!(),
+        _ => {
+            let Some((major, argument)) = head_of(kind) else {
+                return Ok(ItemPart::Break);
+            };
+            if let Major::Array | Major::Map | Major::Tag = major {
+                return Ok(ItemPart::Begin(major, argument));
+            }
+            Ok(ItemPart::Leaf(major, argument))
+        }
     }
 }

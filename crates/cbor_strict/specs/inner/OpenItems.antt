@@ -137,10 +137,6 @@ pub record IsSameString (old new : OpenItems) : Type 0 where
   pub order : new.order ≡ old.order
   pub left : new.left ≡ old.left
 
-abbrev pub IsNoHead : Mark → Type 0
-IsNoHead (a_head m w n) = ⊥
-IsNoHead m = Unit {0}
-
 -- an item that ends with this head, if it is definite
 abbrev pub IsLeaf : Mark → Type 0
 IsLeaf (a_head majors.Bytes w n) = n ≡ 0

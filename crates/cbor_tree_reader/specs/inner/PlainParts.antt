@@ -1,13 +1,14 @@
 -- What a part of an item is that was read, by the plain rules.
-use Rattle.std.specs.Prelude.{ℕ, ◌≡◌, ◌≢◌, ◌++◌, Bool, true, IsUtf8, List, Option, Some, None, Result, MatchResult, Vec}
+use Rattle.std.specs.Prelude.{ℕ, ◌≡◌, ◌≢◌, ◌++◌, Bool, true, IsUtf8, List, Option, Result, MatchResult, Vec}
 use Rattle.std.specs.Global.{Global}
 use Rattle.cbor_head.specs.Prelude.{plain, IsSimple, Bounds, Value}
 use Rattle.cbor_head.specs.Value as value
 use Rattle.cbor_head.specs.declared.major.Major.TheVariants as majors
 use Rattle.cbor_head.specs.declared.{major.Major.Major, reason.Refusal.Refusal, width.Width.Width}
 use Rattle.cbor_automaton.specs.declared.event.EventKind.TheVariants as kinds
-use Rattle.cbor_automaton.specs.{Marks.mark_of, Marks.IsProper, declared.event.EventKind.EventKind}
+use Rattle.cbor_automaton.specs.{Marks.mark_of, Marks.IsProper, Trace.a_head, declared.event.EventKind.EventKind}
 use Rattle.cbor_machine.specs.NextEvent.{ItemEventsView}
+use Rattle.cbor_builder.specs.Built.{IsContainer, IsLeaf}
 use Rattle.cbor_verdict.specs.Place.{Container, Place, at_item, IsTaking}
 use Rattle.cbor_verdict.specs.Reading.{IsAt, IsBegun, ReadsItem, StopsItem, string_kind, string_value}
 use Rattle.cbor_tree_reader.specs.declared.item_part.ItemPart.TheVariants.{Leaf, String, Begin, Break}
@@ -35,19 +36,11 @@ leaf_value majors.Simple n = value.simple n
 leaf_value _ n = value.unsigned n
 
 abbrev pub IsLeafMajor : Major → ℕ → Type 0
-IsLeafMajor majors.Unsigned n = Unit {0}
-IsLeafMajor majors.Negative n = Unit {0}
-IsLeafMajor majors.Simple n = IsSimple n
-IsLeafMajor _ n = ⊥
+IsLeafMajor m n = IsLeaf m × (m ≡ majors.Simple → IsSimple n)
 
 -- the number that goes with what begins
 abbrev pub Begins : EventKind → Major → ℕ → Type 0
-Begins (kinds.Array (Some k)) m n = (m ≡ majors.Array) × (n ≡ k)
-Begins (kinds.Array None) m n = (m ≡ majors.Array) × (n ≡ 0)
-Begins (kinds.Map (Some k)) m n = (m ≡ majors.Map) × (n ≡ k)
-Begins (kinds.Map None) m n = (m ≡ majors.Map) × (n ≡ 0)
-Begins (kinds.Tag k) m n = (m ≡ majors.Tag) × (n ≡ k)
-Begins _ m n = ⊥
+Begins kind m n = IsContainer m × ((w : Width) → mark_of w kind ≡ a_head m w n)
 
 -- a string begins
 abbrev pub BeginsString : EventKind → Type 0
