@@ -62,15 +62,15 @@ key_counted (entry j u a) k v b n m last e l =
     rw (le-ltb m (length (spell j)) (omega (arith, e, size)), le-ltb (m - length (spell j)) (length (spell u)) (omega (arith, e, size)))
     (key_counted a k v b n (m - length (spell j) - length (spell u)) (length (spell j)) (omega (arith, e, size)) l)
 
-content_counted : (a : SpelledEntries) (k v : Spelling) (b : SpelledEntries) (n m last : ℕ) → m ≡ length (spell_entries a) + length (spell k) + n → n < length (spell v)
+value_counted : (a : SpelledEntries) (k v : Spelling) (b : SpelledEntries) (n m last : ℕ) → m ≡ length (spell_entries a) + length (spell k) + n → n < length (spell v)
     → (open_maps_in_entries m (with_entries a (entry k v b)) ≡ open_maps n v) × (key_bytes_in_entries m last (with_entries a (entry k v b)) ≡ length (spell k) + key_bytes n v)
-content_counted no_entries k v b n m last e l =
+value_counted no_entries k v b n m last e l =
     let same : m - length (spell k) ≡ n = omega (arith, e) in
     rw (le-ltb m (length (spell k)) (omega (arith, e)), lt-ltb (m - length (spell k)) (length (spell v)) (omega (arith, e, l))) (ap (λ (x : ℕ). open_maps x v) same, ap (λ (x : ℕ). length (spell k) + key_bytes x v) same)
-content_counted (entry j u a) k v b n m last e l =
+value_counted (entry j u a) k v b n m last e l =
     let size = pair_size j u a in
     rw (le-ltb m (length (spell j)) (omega (arith, e, size)), le-ltb (m - length (spell j)) (length (spell u)) (omega (arith, e, size)))
-    (content_counted a k v b n (m - length (spell j) - length (spell u)) (length (spell j)) (omega (arith, e, size)) l)
+    (value_counted a k v b n (m - length (spell j) - length (spell u)) (length (spell j)) (omega (arith, e, size)) l)
 
 -- an item stands in its container whole
 pub plug_size : (f : Frame) (s : Spelling) → length (before f) + length (spell s) ≤ length (spell (plug f s))
@@ -108,7 +108,7 @@ plug_counted (a_content w a k b) s n m e l =
     let sizes = length-append (hd ++ spell_entries a) (spell k) in
     let sizes2 = length-append hd (spell_entries a) in
     let es = with_entries a (entry k s b) in
-    let both = content_counted a k s b n (m - length (head Map w (entries_count es))) 0 (omega (arith, e, heads, sizes, sizes2)) l in
+    let both = value_counted a k s b n (m - length (head Map w (entries_count es))) 0 (omega (arith, e, heads, sizes, sizes2)) l in
     rw (le-leb (length (head Map w (entries_count es))) m (omega (arith, e, heads, sizes, sizes2)), lt-ltb m (length (spell (a_map w es))) (omega (arith, e, l, whole)))
     (ap suc both.0 ∙ one_more (open_maps n s), both.1)
 plug_counted (tagged w k) s n m e l =

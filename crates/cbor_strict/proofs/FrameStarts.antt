@@ -34,26 +34,26 @@ members_start _ no_spellings y rest m h i c e = absurd (omega (arith, c))
 
 record EntriesStart (a es : SpelledEntries) (y rest : List ℕ) (m : ℕ) : Type 0 where
   key : Spelling
-  content : Spelling
+  value : Spelling
   others : SpelledEntries
-  are : es ≡ with_entries a (entry key content others)
-  spelled : IsSpelled key × IsSpelled content
+  are : es ≡ with_entries a (entry key value others)
+  spelled : IsSpelled key × IsSpelled value
   counts : entries_count others ≡ m
-  bytes_are : spell key ++ (spell content ++ (spell_entries others ++ y)) ≡ rest
+  bytes_are : spell key ++ (spell value ++ (spell_entries others ++ y)) ≡ rest
 
 pair_apart : (k v c d : List ℕ) → ((k ++ v) ++ c) ++ d ≡ k ++ (v ++ (c ++ d))
 pair_apart k v c d = append_assoc (k ++ v) c d ∙ append_assoc k v (c ++ d)
 
 entries_start : (a es : SpelledEntries) (y rest : List ℕ) (m : ℕ) → AreEntriesSpelled a → AreEntriesSpelled es → entries_count es ≡ entries_count a + suc m → spell_entries es ++ y ≡ spell_entries a ++ rest → EntriesStart a es y rest m
 entries_start no_entries (entry k v es) y rest m h i c e =
-    record { key = k; content = v; others = es; are = refl; spelled = (i.0, i.1); counts = omega (arith, c); bytes_are = sym (pair_apart (spell k) (spell v) (spell_entries es) y) ∙ e }
+    record { key = k; value = v; others = es; are = refl; spelled = (i.0, i.1); counts = omega (arith, c); bytes_are = sym (pair_apart (spell k) (spell v) (spell_entries es) y) ∙ e }
 entries_start (entry j u a) (entry k v es) y rest m h i c e =
     let x = unique k j i.0 h.0 (spell v ++ (spell_entries es ++ y)) (spell u ++ (spell_entries a ++ rest)) (sym (pair_apart (spell k) (spell v) (spell_entries es) y) ∙ e ∙ pair_apart (spell j) (spell u) (spell_entries a) rest) in
     let z = unique v u i.1 h.1 (spell_entries es ++ y) (spell_entries a ++ rest) x.1 in
     let o = entries_start a es y rest m h.2 i.2 (omega (arith, c)) z.1 in
     record {
       key = o.key;
-      content = o.content;
+      value = o.value;
       others = o.others;
       are = ap (λ (q : Spelling). entry q v es) x.0 ∙ ap (λ (q : Spelling). entry j q es) z.0 ∙ ap (λ (q : SpelledEntries). entry j u q) o.are;
       spelled = o.spelled;
@@ -101,14 +101,14 @@ starts_in (a_key w a v b) s x rest h l i e =
     let m = entries_start a z.0 (break_of w ++ x) rest (entries_count b) h.1 here (sym (reported_is w n (entries_count z.0) l z.2))
     (sym (append_assoc (spell_entries z.0) (break_of w) x) ∙ ap (λ (t : Spelling). body t ++ x) (sym z.1) ∙ sym o.1) in
     record {
-      frame = a_key w a m.content m.others;
+      frame = a_key w a m.value m.others;
       item = m.key;
       is = z.1 ∙ ap (λ (y : SpelledEntries). a_map w y) m.are;
       size = ap (λ (y : ℕ). length (head Map w (entries_count a + suc y) ++ spell_entries a)) m.counts;
       maps = refl;
       keys = λ n k. refl;
       spelled = m.spelled.0;
-      bytes_are = ap (λ (y : List ℕ). spell m.key ++ y) (pair_apart (spell m.content) (spell_entries m.others) (break_of w) x) ∙ m.bytes_are;
+      bytes_are = ap (λ (y : List ℕ). spell m.key ++ y) (pair_apart (spell m.value) (spell_entries m.others) (break_of w) x) ∙ m.bytes_are;
     }
 starts_in (a_content w a k b) s x rest h l i e =
     let n = entries_count a + suc (entries_count b) in
@@ -118,16 +118,16 @@ starts_in (a_content w a k b) s x rest h l i e =
     let here : AreEntriesSpelled z.0 = (subst IsSpelled z.1 i).1 in
     let m = entries_start a z.0 (break_of w ++ x) (spell k ++ rest) (entries_count b) h.1 here (sym (reported_is w n (entries_count z.0) l z.2))
     (sym (append_assoc (spell_entries z.0) (break_of w) x) ∙ ap (λ (t : Spelling). body t ++ x) (sym z.1) ∙ sym o.1) in
-    let u = unique m.key k m.spelled.0 h.2 (spell m.content ++ (spell_entries m.others ++ (break_of w ++ x))) rest m.bytes_are in
+    let u = unique m.key k m.spelled.0 h.2 (spell m.value ++ (spell_entries m.others ++ (break_of w ++ x))) rest m.bytes_are in
     record {
       frame = a_content w a k m.others;
-      item = m.content;
-      is = z.1 ∙ ap (λ (y : SpelledEntries). a_map w y) m.are ∙ ap (λ (y : Spelling). a_map w (with_entries a (entry y m.content m.others))) u.0;
+      item = m.value;
+      is = z.1 ∙ ap (λ (y : SpelledEntries). a_map w y) m.are ∙ ap (λ (y : Spelling). a_map w (with_entries a (entry y m.value m.others))) u.0;
       size = ap (λ (y : ℕ). length (head Map w (entries_count a + suc y) ++ spell_entries a ++ spell k)) m.counts;
       maps = refl;
       keys = λ n k. refl;
       spelled = m.spelled.1;
-      bytes_are = ap (λ (y : List ℕ). spell m.content ++ y) (append_assoc (spell_entries m.others) (break_of w) x) ∙ u.1;
+      bytes_are = ap (λ (y : List ℕ). spell m.value ++ y) (append_assoc (spell_entries m.others) (break_of w) x) ∙ u.1;
     }
 starts_in (tagged w n) s x rest h l i e =
     let o = one_head Tag w n (major s) (width s) (count s) (holds_or_open w n h) (holds_of s i) rest (body s ++ x)

@@ -8,7 +8,7 @@ use Rattle.cbor_verdict.specs.Frame.{Frame, a_key, a_content, with_entries, befo
 use Rattle.cbor_verdict.{specs.LastKey.last_key, proofs.OpenSteps.content_before, proofs.OpenSteps.pair_count, proofs.LastKey.last_key_with}
 use Rattle.cbor_strict.specs.inner.LastKeys.{KeysView, stands_in_key, keys_around, levels_of, before_last, kept_bytes, kept_before, span, spans_of, with_last, with_key, IsKept, HasKeyEnded}
 use Rattle.cbor_strict.proofs.KeptKeys.{in_some_key, in_no_key, kept_if_in, kept_if_out, kept_in_key, kept_size, span_is}
-use Rattle.cbor_strict.specs.declared.last_keys.{Expected.TheVariants.Key, Expected.TheVariants.Content, KeySpan.KeySpan}
+use Rattle.cbor_strict.specs.declared.last_keys.{Expected.TheVariants.Key, Expected.TheVariants.Value, KeySpan.KeySpan}
 
 -- ---- keys
 
@@ -133,17 +133,17 @@ module _ (k : KeysView) (w : Width) (a : SpelledEntries) (v : Spelling) (b : Spe
   key_compared = (compared_last k.bytes (last_key a) (spell s) sp key_places, compared_key k.bytes (last_key a) (spell s) sp key_places)
 
   -- the key takes its place
-  abbrev of_content : Bool → KeySpan
-  of_content q =
+  abbrev of_value : Bool → KeySpan
+  of_value q =
       let from = kept_before fs + (if q then length (hd ++ spell_entries a) else 0) in
       span from (from + length (spell s)) (from + length (spell s))
 
-  spans_put : (q : Bool) (from to : ℕ) → stands_in_key fs ≡ q → span from to to ≡ of_content q → slice_set k.spans (length k.spans - 1) (span from to to) ≡ spans_of fs ++ of_content (stands_in_key fs) ∷ []
+  spans_put : (q : Bool) (from to : ℕ) → stands_in_key fs ≡ q → span from to to ≡ of_value q → slice_set k.spans (length k.spans - 1) (span from to to) ≡ spans_of fs ++ of_value (stands_in_key fs) ∷ []
   spans_put q from to i is =
-      put_last k.spans (spans_of fs) (sp_of (stands_in_key fs)) (span from to to) h.spans ∙ ap (λ (x : KeySpan). spans_of fs ++ x ∷ []) (is ∙ ap of_content (sym i))
+      put_last k.spans (spans_of fs) (sp_of (stands_in_key fs)) (span from to to) h.spans ∙ ap (λ (x : KeySpan). spans_of fs ++ x ∷ []) (is ∙ ap of_value (sym i))
 
-  levels_put : slice_set k.levels (length k.levels - 1) Content ≡ levels_of fs ++ Content ∷ []
-  levels_put = put_last k.levels (levels_of fs) Key Content h.levels
+  levels_put : slice_set k.levels (length k.levels - 1) Value ≡ levels_of fs ++ Value ∷ []
+  levels_put = put_last k.levels (levels_of fs) Key Value h.levels
 
   pub key_put_in : (keys : ℕ) → keys + 1 ≡ k.open_keys → 0 < keys → IsKept (with_key (record k { open_keys = keys }) sp.next) (a_content w a s b ∷ fs) []
   key_put_in keys less inside =
@@ -250,9 +250,9 @@ module _ (k : KeysView) (w : Width) (a : SpelledEntries) (key s n m : Spelling) 
   ]
 
   -- another key is expected
-  pub content_ends : (new : KeysView) (here : ℕ) → here ≡ length k.bytes → new ≡ with_last k Key (span sp.from sp.to here) → IsKept (record new { open_keys = new.open_keys + 1 }) (new_frame ∷ fs) []
-  content_ends new here at is = record {
-    levels = ap (λ (x : KeysView). x.levels) is ∙ put_last k.levels (levels_of fs) Content Key h.levels;
+  pub value_ends : (new : KeysView) (here : ℕ) → here ≡ length k.bytes → new ≡ with_last k Key (span sp.from sp.to here) → IsKept (record new { open_keys = new.open_keys + 1 }) (new_frame ∷ fs) []
+  value_ends new here at is = record {
+    levels = ap (λ (x : KeysView). x.levels) is ∙ put_last k.levels (levels_of fs) Value Key h.levels;
     spans = ap (λ (x : KeysView). x.spans) is ∙ put_last k.spans (spans_of fs) (old_span (stands_in_key fs)) (span sp.from sp.to here) h.spans
         ∙ ap (λ (x : KeySpan). spans_of fs ++ x ∷ []) (ap (span sp.from sp.to) at ∙ span_put);
     bytes = ap (λ (x : KeysView). x.bytes) is ∙ h.bytes ∙ bytes_put;

@@ -62,7 +62,7 @@ pub data StaysOpen : List Frame → Type 0 where
   none_open : StaysOpen []
   member_open : (w : Width) (a : Spellings) (t : Spelling) (b : Spellings) (gs : List Frame) → StaysOpen (a_member w a (a_spelling t b) ∷ gs)
   key_open : (w : Width) (a : SpelledEntries) (v : Spelling) (b : SpelledEntries) (gs : List Frame) → StaysOpen (a_key w a v b ∷ gs)
-  content_open : (w : Width) (a : SpelledEntries) (k l m : Spelling) (b : SpelledEntries) (gs : List Frame) → StaysOpen (a_content w a k (entry l m b) ∷ gs)
+  value_open : (w : Width) (a : SpelledEntries) (k l m : Spelling) (b : SpelledEntries) (gs : List Frame) → StaysOpen (a_content w a k (entry l m b) ∷ gs)
 
 pub stays_open : (fs : List Frame) → StaysOpen (still_open fs)
 stays_open [] = none_open
@@ -70,7 +70,7 @@ stays_open (a_member w a no_spellings ∷ fs) = stays_open fs
 stays_open (a_member w a (a_spelling t b) ∷ fs) = member_open w a t b fs
 stays_open (a_key w a v b ∷ fs) = key_open w a v b fs
 stays_open (a_content w a k no_entries ∷ fs) = stays_open fs
-stays_open (a_content w a k (entry l m b) ∷ fs) = content_open w a k l m b fs
+stays_open (a_content w a k (entry l m b) ∷ fs) = value_open w a k l m b fs
 stays_open (tagged w n ∷ fs) = stays_open fs
 
 -- an item that has ended in these containers, in all of which nothing has a complaint
@@ -129,8 +129,8 @@ ended_state _ = refl
 
 -- ---- how many the events count
 
-pub content_state : (n : ℕ) (xs : List Container) → close (counted (suc n + suc n) ∷ xs) ≡ at_item (counted (n + suc n) ∷ xs)
-content_state n xs = let e : suc n + suc n ≡ suc (n + suc n) = omega arith in ap (λ (k : ℕ). close (counted k ∷ xs)) e
+pub value_state : (n : ℕ) (xs : List Container) → close (counted (suc n + suc n) ∷ xs) ≡ at_item (counted (n + suc n) ∷ xs)
+value_state n xs = let e : suc n + suc n ≡ suc (n + suc n) = omega arith in ap (λ (k : ℕ). close (counted k ∷ xs)) e
 
 still_count : (fs : List Frame) → length (open_at (close (frames_in fs))) ≡ length (still_open fs)
 still_count [] = refl
@@ -138,7 +138,7 @@ still_count (a_member w a no_spellings ∷ fs) = still_count fs
 still_count (a_member w a (a_spelling t b) ∷ fs) = ap suc (frames_length fs)
 still_count (a_key w a v b ∷ fs) = ap suc (frames_length fs)
 still_count (a_content w a k no_entries ∷ fs) = still_count fs
-still_count (a_content w a k (entry l m b) ∷ fs) = ap (λ (q : Place). length (open_at q)) (content_state (entries_count b) (frames_in fs)) ∙ ap suc (frames_length fs)
+still_count (a_content w a k (entry l m b) ∷ fs) = ap (λ (q : Place). length (open_at q)) (value_state (entries_count b) (frames_in fs)) ∙ ap suc (frames_length fs)
 still_count (tagged w n ∷ fs) = still_count fs
 
 pub open_so : (b : Bounds) (e : ItemEventsView) (t : List ℕ) (fs : List Frame) → (a : IsAt b e t (close (frames_in fs))) → e.machine.open_count ≡ length (still_open fs)
@@ -186,8 +186,8 @@ module _ (o : KeyOrder) (b : Bounds) (e : ItemEventsView) (t : List ℕ) (gs : L
         at = m.at;
       }
 
-  pub content_next : (w : Width) (a : SpelledEntries) (key l x : Spelling) (c : SpelledEntries) → EndsIn o b e t (a_content w a key (entry l x c) ∷ gs) s → IsExpectedIn o b e t (a_key w (with_entries a (entry key s no_entries)) x c ∷ gs)
-  content_next w a key l x c m =
+  pub value_next : (w : Width) (a : SpelledEntries) (key l x : Spelling) (c : SpelledEntries) → EndsIn o b e t (a_content w a key (entry l x c) ∷ gs) s → IsExpectedIn o b e t (a_key w (with_entries a (entry key s no_entries)) x c ∷ gs)
+  value_next w a key l x c m =
       let f = a_content w a key (entry l x c) in
       let g = a_key w (with_entries a (entry key s no_entries)) x c in
       let at = length (bytes_before gs) in
@@ -196,7 +196,7 @@ module _ (o : KeyOrder) (b : Bounds) (e : ItemEventsView) (t : List ℕ) (gs : L
         are = content_ends (strict o) b.depth (from_outside gs) w a key s l x c m.clean.are m.clean.spelled m.clean.within (clean_in f m);
         distinct = distinct_snoc (from_outside gs) g (strict o) 0 at (omega arith) u.0 (subst (AreDistinct (strict o)) (sym (content_keys w a key s l x x c at)) u.1);
         taken = next_bytes f m ∙ ap (λ (y : List ℕ). bytes_before gs ++ y) (sym (content_before w a key s l x x c)) ∙ sym (before_more gs g);
-        at = at-as b e t t (close (frames_in (f ∷ gs))) (at_item (frames_in (g ∷ gs))) refl (content_state (entries_count c) (frames_in gs) ∙ ap (λ (n : ℕ). at_item (counted n ∷ frames_in gs)) (omega arith)) m.at;
+        at = at-as b e t t (close (frames_in (f ∷ gs))) (at_item (frames_in (g ∷ gs))) refl (value_state (entries_count c) (frames_in gs) ∙ ap (λ (n : ℕ). at_item (counted n ∷ frames_in gs)) (omega arith)) m.at;
       }
 
   pub key_next : (w : Width) (a : SpelledEntries) (v : Spelling) (c : SpelledEntries) → EndsIn o b e t (a_key w a v c ∷ gs) s → IsTrue (key_lt o (last_key a) (spell s)) → IsExpectedIn o b e t (a_content w a s c ∷ gs)

@@ -8,10 +8,10 @@ use Rattle.cbor_machine.specs.NextEvent.{ItemEventsView}
 use Rattle.cbor_verdict.specs.Frame.{Frame, a_member, a_key, a_content, with_all, with_entries, before}
 use Rattle.cbor_verdict.specs.{Place.close, LastKey.last_key, Reading.AreRefused, Reading.IsAt, OpenMaps.AreOpen, OpenMaps.AreOpenDistinct, Judged.Never}
 use Rattle.cbor_verdict.proofs.OpenSteps.{member_before}
-use Rattle.cbor_strict.specs.declared.last_keys.Expected.TheVariants.{Member, Key, Content}
+use Rattle.cbor_strict.specs.declared.last_keys.Expected.TheVariants.{Member, Key, Value}
 use Rattle.cbor_strict.specs.inner.LastKeys.{view_value, from_outside, stands_in_key, kept_bytes, expected_of, IsKept, AreDefinite, HasKeyEnded, still_open, ended_item}
 use Rattle.cbor_strict.specs.inner.OpenItems.{frames_in, bytes_before, AreOpenClean, Stands, HasEnded}
-use Rattle.cbor_strict.proofs.OpenEnds.{definite_of, outside_length, StaysOpen, none_open, member_open, key_open, content_open, stays_open, EndsClean, open_so, EndsIn, IsExpectedIn, ends_in, member_next, content_next, key_next, key_refused}
+use Rattle.cbor_strict.proofs.OpenEnds.{definite_of, outside_length, StaysOpen, none_open, member_open, key_open, value_open, stays_open, EndsClean, open_so, EndsIn, IsExpectedIn, ends_in, member_next, value_next, key_next, key_refused}
 use Rattle.cbor_strict.specs.declared.{last_keys.Expected.Expected, last_keys.LastKeys.LastKeys, open_items.OpenItems.OpenItems}
 use Rattle.cbor_strict.proofs.{KeptKeys.kept_if_in, KeptKeys.kept_if_out, KeptEnds.kept_keys}
 
@@ -99,22 +99,22 @@ behind_member old new keys count taken expected b e t k h c d same_order same_ke
         stands_expected old.order new b e t (g ∷ gs) (member_next old.order b e t gs s w a x c2 (ends_of old.order b e t keys _ s m)) (sym same_order) left_so
         (subst (λ (y : LastKeys). IsKept (view_value y) (g ∷ gs) []) (sym same_keys) (member_kept keys w a s x c2 gs m.kept))
     go _ s (key_open w a v c2 gs) m = absurd (cc (sym d ∙ k.some (a_key w a v c2) gs (spell s) m.kept))
-    go _ s (content_open w a key l x c2 gs) m = absurd (cc (sym d ∙ k.some (a_content w a key (entry l x c2)) gs (spell s) m.kept))
+    go _ s (value_open w a key l x c2 gs) m = absurd (cc (sym d ∙ k.some (a_content w a key (entry l x c2)) gs (spell s) m.kept))
 
 -- a value
-pub behind_content : (old new : OpenItems) (keys last : LastKeys) (count taken : ℕ) (expected : Expected) (b : Bounds) (e : ItemEventsView) (t : List ℕ) → Closing old keys count taken expected → (h : HasEnded old b e t)
-    → count ≡ e.machine.open_count → expected ≡ Content → new.order ≡ old.order → new.keys ≡ last → new.left ≡ old.left
+pub behind_value : (old new : OpenItems) (keys last : LastKeys) (count taken : ℕ) (expected : Expected) (b : Bounds) (e : ItemEventsView) (t : List ℕ) → Closing old keys count taken expected → (h : HasEnded old b e t)
+    → count ≡ e.machine.open_count → expected ≡ Value → new.order ≡ old.order → new.keys ≡ last → new.left ≡ old.left
     → ((w : Width) (a : SpelledEntries) (k s l m : Spelling) (b : SpelledEntries) (fs : List Frame) → IsKept (view_value keys) (a_content w a k (entry l m b) ∷ fs) (spell s) → IsKept (view_value last) (a_key w (with_entries a (entry k s no_entries)) m b ∷ fs) [])
     → Stands new b e t
-behind_content old new keys last count taken expected b e t k h c d same_order same_keys same_left step = go (still_open h.fs) (ended_item h.fs h.item) (has_closed old keys count taken expected b e t k h c).stays (has_closed old keys count taken expected b e t k h c)
+behind_value old new keys last count taken expected b e t k h c d same_order same_keys same_left step = go (still_open h.fs) (ended_item h.fs h.item) (has_closed old keys count taken expected b e t k h c).stays (has_closed old keys count taken expected b e t k h c)
   where
     go : (gs : List Frame) (s : Spelling) → StaysOpen gs → HasClosed old.order b e t keys gs s → Stands new b e t
     go [] s none_open m = absurd (cc (sym d ∙ k.none (spell s) m.kept))
     go _ s (member_open w a x c2 gs) m = absurd (cc (sym d ∙ k.some (a_member w a (a_spelling x c2)) gs (spell s) m.kept))
     go _ s (key_open w a v c2 gs) m = absurd (cc (sym d ∙ k.some (a_key w a v c2) gs (spell s) m.kept))
-    go _ s (content_open w a key l x c2 gs) m =
+    go _ s (value_open w a key l x c2 gs) m =
         let g = a_key w (with_entries a (entry key s no_entries)) x c2 in
-        stands_expected old.order new b e t (g ∷ gs) (content_next old.order b e t gs s w a key l x c2 (ends_of old.order b e t keys _ s m)) (sym same_order) (same_left ∙ h.none)
+        stands_expected old.order new b e t (g ∷ gs) (value_next old.order b e t gs s w a key l x c2 (ends_of old.order b e t keys _ s m)) (sym same_order) (same_left ∙ h.none)
         (subst (λ (y : LastKeys). IsKept (view_value y) (g ∷ gs) []) (sym same_keys) (step w a key s l x c2 gs m.kept))
 
 -- a key, and nothing else
@@ -125,7 +125,7 @@ by_key old keys count taken expected b e t k h c d P of_key = go (still_open h.f
     go : (gs : List Frame) (s : Spelling) → StaysOpen gs → HasClosed old.order b e t keys gs s → P
     go [] s none_open m = absurd (cc (sym d ∙ k.none (spell s) m.kept))
     go _ s (member_open w a x others gs) m = absurd (cc (sym d ∙ k.some (a_member w a (a_spelling x others)) gs (spell s) m.kept))
-    go _ s (content_open w a key l x others gs) m = absurd (cc (sym d ∙ k.some (a_content w a key (entry l x others)) gs (spell s) m.kept))
+    go _ s (value_open w a key l x others gs) m = absurd (cc (sym d ∙ k.some (a_content w a key (entry l x others)) gs (spell s) m.kept))
     go _ s (key_open w a v others gs) m = of_key w a v others gs s m
 
 pub key_has_ended : (old : OpenItems) (keys : LastKeys) (count taken : ℕ) (expected : Expected) (b : Bounds) (e : ItemEventsView) (t : List ℕ) → Closing old keys count taken expected → (h : HasEnded old b e t)

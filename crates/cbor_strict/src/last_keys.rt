@@ -28,7 +28,7 @@ pub(crate) enum Expected {
     /// A key of a map.
     Key,
     /// The value of a key.
-    Content,
+    Value,
 }
 
 /// Where the last complete key of an open map lies in the buffer: nowhere yet, where it is empty;
@@ -240,7 +240,7 @@ impl LastKeys {
     {
         let end = self.bytes.len();
         self.put(
-            Expected::Content,
+            Expected::Value,
             KeySpan {
                 from,
                 to: end,
@@ -250,7 +250,7 @@ impl LastKeys {
     }
 
     // The value of a key is complete, and another key is expected.
-    pub(crate) fn end_content(&mut self)
+    pub(crate) fn end_value(&mut self)
         requires { (view_value self.old).open_keys ≤ MOST_OPEN }
         ensures { (w : Width) (a : SpelledEntries) (k s l m : Spelling) (b : SpelledEntries)
             (fs : List Frame)

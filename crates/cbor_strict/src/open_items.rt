@@ -233,8 +233,8 @@ impl OpenItems {
         self.keys.close(open);
         match self.keys.expected() {
             Expected::Member => Ok(()),
-            Expected::Content => {
-                self.keys.end_content();
+            Expected::Value => {
+                self.keys.end_value();
                 Ok(())
             }
             Expected::Key => match self.keys.end_key(self.order) {

@@ -1,4 +1,4 @@
-//! The parts of an item, as the plain reader takes them.
+//! The parts of an item, as the tree reader takes them.
 
 ghost use Rattle.cbor_tree_reader.specs.inner.PlainParts.{HasCome, AnswersPart};
 

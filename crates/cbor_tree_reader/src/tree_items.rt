@@ -1,4 +1,4 @@
-//! What the plain reader keeps of the items that are open, from event to event.
+//! What the tree reader keeps of the items that are open, from event to event.
 
 ghost use Rattle.std.specs.Prelude.{◌≡◌, ◌<◌, ◌∷◌, ◌↔◌, [], List, IfOk, None, true};
 ghost use Rattle.std.specs.Prelude.{take, ◌++◌, OnOk, Option};

@@ -4,7 +4,7 @@ use Rattle.cbor_head.specs.Prelude.{head, key_lt, Spelling, SpelledEntries, no_s
 use Rattle.cbor_head.specs.declared.{major.Major.TheVariants.Map, order.KeyOrder.KeyOrder, width.Width.Width, width.Width.TheVariants.Indefinite}
 use Rattle.cbor_verdict.specs.Frame.{Frame, a_member, a_key, a_content, tagged, plug, before}
 use Rattle.cbor_verdict.specs.LastKey.{last_key}
-use Rattle.cbor_strict.specs.declared.last_keys.Expected.TheVariants.{Member, Key, Content}
+use Rattle.cbor_strict.specs.declared.last_keys.Expected.TheVariants.{Member, Key, Value}
 use Rattle.cbor_strict.specs.declared.last_keys.{Expected.Expected, LastKeys.LastKeys, KeySpan.KeySpan}
 
 pub record KeysView : Type 0 where
@@ -39,7 +39,7 @@ keys_around (f ∷ fs) = if is_key f then suc (keys_around fs) else keys_around 
 
 abbrev pub expected_of : Frame → Expected
 expected_of (a_key w a v b) = Key
-expected_of (a_content w a k b) = Content
+expected_of (a_content w a k b) = Value
 expected_of _ = Member
 
 abbrev pub levels_of : List Frame → List Expected
@@ -150,4 +150,4 @@ with_last k expected sp = record { levels = slice_set k.levels (length k.levels 
 
 -- the last complete key of the innermost map is all from there on, and its value is expected
 abbrev pub with_key : KeysView → ℕ → KeysView
-with_key k from = with_last k Content (span from (length k.bytes) (length k.bytes))
+with_key k from = with_last k Value (span from (length k.bytes) (length k.bytes))

@@ -1,4 +1,4 @@
--- What the plain reader keeps: what a builder holds, in which no two keys of an open map are the same, and where each open
+-- What the tree reader keeps: what a builder holds, in which no two keys of an open map are the same, and where each open
 -- item began.
 use Rattle.std.specs.Prelude.{ℕ, suc, ◌≡◌, ◌<◌, ◌++◌, List, [], ◌∷◌, length, reverse, slice_get, Option, Some, Result, OnOk, IfOk, MatchOption}
 use Rattle.cbor_head.specs.Prelude.{plain, shortest_head, IsSimple, Bounds}

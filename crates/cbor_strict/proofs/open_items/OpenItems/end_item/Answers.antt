@@ -1,10 +1,10 @@
 use Rattle.std.proofs.Common.{refl}
 use Rattle.cbor_head.specs.{Prelude.refusal, declared.reason.Reason.TheVariants.KeyOrder}
-use Rattle.cbor_strict.proofs.OpenItems.{Closing, has_closed, few_keys, key_has_ended, behind_member, behind_content, behind_key, refused_key}
+use Rattle.cbor_strict.proofs.OpenItems.{Closing, has_closed, few_keys, key_has_ended, behind_member, behind_value, behind_key, refused_key}
 use Rattle.cbor_strict.proofs.open_items.OpenItems.end_item.Goals as goal
 
-pub end_content-requires : goal.end_content-requires
-end_content-requires c =
+pub end_value-requires : goal.end_value-requires
+end_value-requires c =
     let r = c.requires in
     let k : Closing c.args.self.now c.close.new.self c.args.open c.args.taken c.expected.result = record { closed = c.close.ensures; some = c.expected.ensures.some; none = c.expected.ensures.none } in
     few_keys _ _ _ _ _ _ _ (has_closed c.args.self.now c.close.new.self c.args.open c.args.taken c.expected.result r.b r.e r.t k r.ended r.counted)
@@ -25,9 +25,9 @@ pub returns-in-Member-clause-answers : goal.returns-in-Member-clause-answers
 returns-in-Member-clause-answers c = λ b e t h n m.
     behind_member c.args.self.now _ c.close.new.self c.args.open c.args.taken c.expected.result b e t (record { closed = c.close.ensures; some = c.expected.ensures.some; none = c.expected.ensures.none }) h n c.in-Member.is refl refl refl
 
-pub returns-in-Content-clause-answers : goal.returns-in-Content-clause-answers
-returns-in-Content-clause-answers c = λ b e t h n m.
-    behind_content c.args.self.now _ c.close.new.self c.end_content.new.self c.args.open c.args.taken c.expected.result b e t (record { closed = c.close.ensures; some = c.expected.ensures.some; none = c.expected.ensures.none }) h n c.in-Content.is refl refl refl c.end_content.ensures
+pub returns-in-Value-clause-answers : goal.returns-in-Value-clause-answers
+returns-in-Value-clause-answers c = λ b e t h n m.
+    behind_value c.args.self.now _ c.close.new.self c.end_value.new.self c.args.open c.args.taken c.expected.result b e t (record { closed = c.close.ensures; some = c.expected.ensures.some; none = c.expected.ensures.none }) h n c.in-Value.is refl refl refl c.end_value.ensures
 
 pub returns-in-Ok-clause-answers : goal.returns-in-Ok-clause-answers
 returns-in-Ok-clause-answers c = λ b e t h n m.
