@@ -32,7 +32,7 @@ pub fn check_valid(alloc: Global, bytes: &[u8], limits: Limits) -> Result<u64, R
 }
 
 // The size of a valid item that is not canonical. It is a call of its own, so that no space is made for the keys of one
-// that is. The answer is taken apart and made again, so that it stays in registers.
+// that is.
 #[inline(never)]
 fn valid_size(alloc: Global, bytes: &[u8], limits: Limits) -> Result<u64, Refusal>
     ensures accepted { IfOk result (λ count. IsRead limits plain bytes.now count) }
