@@ -131,8 +131,8 @@ module _ (f : Refusal) (c : Call) (mid_from : Option (List ℕ)) (mid : MachineV
         unfinished = not-whole new.depth (t ++ (r.bytes ++ last)) q ms b.0 b.1;
       }
 
-  initial_byte_error : Stopped mid new last f → HasFormError f c
-  initial_byte_error s =
+  form_error : Stopped mid new last f → HasFormError f c
+  form_error s =
       let small = subst AreBytes s.splits bytes in
       let b = beyond s.prefix (bytes_prefix s.prefix (s.byte ∷ []) small) s.ran in
       let all : r.bytes ++ last ≡ (r.bytes ++ s.prefix) ++ s.byte ∷ [] = ap (λ xs. r.bytes ++ xs) s.splits ∙ sym (append_assoc r.bytes s.prefix (s.byte ∷ [])) in
@@ -144,7 +144,7 @@ module _ (f : Refusal) (c : Call) (mid_from : Option (List ℕ)) (mid : MachineV
         byte = s.byte;
         consumed = subst (Consumes c.held c.left) all lost;
         is = s.is ∙ ap (λ n. refusal f.reason n (n + 1)) (taken-there s.prefix);
-        initial_byte_error = (refuses-rightly new.depth (t ++ (r.bytes ++ s.prefix)) q ms s.byte f.reason b.2 ((bytes_back s.prefix (s.byte ∷ []) small).0) b.0 b.1 (ap (λ d. take_byte d q s.byte) depth ∙ s.refuses)).0;
+        cannot_follow = (refuses-rightly new.depth (t ++ (r.bytes ++ s.prefix)) q ms s.byte f.reason b.2 ((bytes_back s.prefix (s.byte ∷ []) small).0) b.0 b.1 (ap (λ d. take_byte d q s.byte) depth ∙ s.refuses)).0;
         verdict = λ more. judged ((t ++ (r.bytes ++ s.prefix)) ++ s.byte ∷ []) more here;
         stands = stood s.prefix within b.0 b.1 b.2;
         unfinished = not-whole new.depth (t ++ (r.bytes ++ s.prefix)) q ms b.0 b.1;
@@ -155,4 +155,4 @@ module _ (f : Refusal) (c : Call) (mid_from : Option (List ℕ)) (mid : MachineV
     where
       go : (Ran mid new last [] × (new.taken ≡ new.bytes) × (f ≡ refusal TooLong new.bytes new.bytes)) ⊎ Stopped mid new last f → IsTooLong f c ⊎ HasFormError f c
       go (inl x) = inl (too-long x.0 x.1 x.2)
-      go (inr x) = inr (initial_byte_error x)
+      go (inr x) = inr (form_error x)

@@ -73,5 +73,5 @@ abbrev pub IsEnded : List Frame → Position → List Frame → Type 0
 IsEnded old position new = (c : ℕ) → automaton.break_at (frames_of old) c ≡ automaton.reports a_break (state_of position new)
 
 -- a break may not stand where an item is expected in these
-abbrev pub IsHexError : List Frame → Type 0
-IsHexError fs = (c : ℕ) → automaton.break_at (frames_of fs) c ≡ automaton.refuses (initial_reason c)
+abbrev pub IsStrayBreak : List Frame → Type 0
+IsStrayBreak fs = (c : ℕ) → automaton.break_at (frames_of fs) c ≡ automaton.refuses (initial_reason c)

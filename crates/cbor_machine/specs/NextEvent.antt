@@ -117,7 +117,7 @@ pub record HasFormError (f : Refusal) (c : Call) : Type 0 where
   pub byte : ℕ
   pub consumed : Consumes c.held c.left (bytes ++ byte ∷ [])
   pub is : f ≡ refusal f.reason (length (c.taken ++ bytes)) (length (c.taken ++ bytes) + 1)
-  pub initial_byte_error : ¬ MayFollow c.new.depth (c.taken ++ bytes) byte
+  pub cannot_follow : ¬ MayFollow c.new.depth (c.taken ++ bytes) byte
   -- whatever may follow
   pub verdict : (more : List ℕ)
       → IsVerdict (bounds c.new.depth c.new.bytes) form ((c.taken ++ bytes ++ byte ∷ []) ++ more) (refused f)

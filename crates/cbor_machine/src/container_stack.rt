@@ -4,7 +4,7 @@ ghost use Rattle.std.specs.Prelude.{◌≡◌, ◌≤◌, ◌<◌, ◌++◌, ◌
 ghost use Rattle.cbor_automaton.specs.Automaton as automaton;
 ghost use Rattle.cbor_machine.specs.State.{frame_of, frames_of, state_of, IsSettled};
 ghost use Rattle.cbor_machine.specs.ContainerStack.{expected_frame, level_frame, joined, IsAdvanced, IsEnded};
-ghost use Rattle.cbor_machine.specs.ContainerStack.{IsHexError, ends_by_break, position_after};
+ghost use Rattle.cbor_machine.specs.ContainerStack.{IsStrayBreak, ends_by_break, position_after};
 
 use crate::frame::{Frame, MOST_OPEN};
 use std::marker::Model;
@@ -238,7 +238,7 @@ impl ContainerStack {
         ensures fewer { length self.new ≤ length self.old }
         ensures settled { IfSome result (λ done. IsSettled self.new (position_after done)) }
         ensures none { result ≡ None → self.new ≡ self.old }
-        ensures hex_error { result ≡ None → IsHexError self.old }
+        ensures stray_break { result ≡ None → IsStrayBreak self.old }
     {
         if self.height == 0 || !is_open(self.top) {
             return None;

@@ -79,7 +79,7 @@ stops_too : (o : KeyOrder) (f : Refusal) (m n : MachineView) (held left : Option
 stops_too o f m n held left a b x y t ms h = elim h [
   | inl k ↦ inl (record { bytes = k.bytes; consumed = k.consumed; reason = k.reason; is = k.is; verdict = k.verdict; short = k.short; stands = k.stands; unfinished = k.unfinished })
   | inr (inl k) ↦ inr (inl (record { bytes = k.bytes; consumed = k.consumed; is = k.is; full = k.full; verdict = k.verdict; stands = k.stands; unfinished = k.unfinished }))
-  | inr (inr (inl k)) ↦ inr (inr (inl (record { bytes = k.bytes; byte = k.byte; consumed = k.consumed; is = k.is; initial_byte_error = k.initial_byte_error; verdict = k.verdict; stands = k.stands; unfinished = k.unfinished })))
+  | inr (inr (inl k)) ↦ inr (inr (inl (record { bytes = k.bytes; byte = k.byte; consumed = k.consumed; is = k.is; cannot_follow = k.cannot_follow; verdict = k.verdict; stands = k.stands; unfinished = k.unfinished })))
   | inr (inr (inr (inl k))) ↦ inr (inr (inr (inl (record { width = k.width; kind = k.kind; bytes = k.bytes; consumed = k.consumed; are = k.are; piece = k.piece; read = k.read; stands = k.stands; against = k.against }))))
   | inr (inr (inr (inr k))) ↦ inr (inr (inr (inr (record { unfinished = k.unfinished; byte = k.byte; small = k.small; consumed = k.consumed; other = k.other; item = k.item; follows = k.follows; is = k.is }))))
 ]

@@ -37,4 +37,4 @@ module _ (r : Rules) (limits : Bounds) (ls : List Level) (clean : AreClean r lim
         let path = path_run r limits.depth ls clean in
         let whole = run-on limits.depth (bytes_before ls) x (at_item (containers ls)) q path.0 ms path.1 leads in
         let why = refuses-rightly limits.depth p q _ byte reason (bytes_prefix p (byte ∷ rest) all) small whole unfinished refused in
-        record { p = p; byte = byte; rest = rest; splits = is; judged = judged_path r limits.depth ls clean x None j; keeps = keeps None j; initial_byte_error = why.0; reason = why.1; is = refl }
+        record { p = p; byte = byte; rest = rest; splits = is; judged = judged_path r limits.depth ls clean x None j; keeps = keeps None j; cannot_follow = why.0; reason = why.1; is = refl }

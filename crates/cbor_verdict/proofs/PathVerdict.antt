@@ -40,7 +40,7 @@ module _ (r : Rules) (limits : Bounds) (input : List ℕ) where
 
   pub bad_byte_stops : (f : Refusal) → HasBadByte r limits (take limits.bytes input) f → IsVerdict limits r input (refused f)
   bad_byte_stops f h =
-      let g = stands_longest limits.depth h.p h.byte h.rest (h.judged.item, h.judged.rest, h.judged.is) h.initial_byte_error in
+      let g = stands_longest limits.depth h.p h.byte h.rest (h.judged.item, h.judged.rest, h.judged.is) h.cannot_follow in
       let longest : IsLongestBeginning limits.depth (take limits.bytes input) h.p = record { beginning = g.beginning; rest = h.byte ∷ h.rest; splits = h.splits; longest = λ x y i e. g.longest x y i (sym h.splits ∙ e) } in
       break_decides limits r input h.p f h.judged h.keeps longest (f.reason, h.reason, h.is)
 

@@ -24,7 +24,7 @@ pub record HasBadByte (r : Rules) (limits : Bounds) (b : List ℕ) (f : Refusal)
   pub splits : b ≡ p ++ byte ∷ rest
   pub judged : IsJudged r 0 limits.depth p None
   pub keeps : KeepsToKinds limits r p
-  pub initial_byte_error : MayFollow limits.depth p byte → ⊥
+  pub cannot_follow : MayFollow limits.depth p byte → ⊥
   pub reason : IsReasonAt limits.depth p byte f.reason
   pub is : f ≡ refusal f.reason (length p) (length p + 1)
 
