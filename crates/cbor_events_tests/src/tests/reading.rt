@@ -4,8 +4,8 @@ use super::parts::Parts;
 use super::rows::{Row, bytes_of, rows_of};
 use super::tables::{ACCEPTED, NOT_VALID, PREFIXES, REFUSED};
 use super::{Reported, event, join, limits, refusal};
-use cbor_events::{Event, EventKind, EventReader, ItemEvents, Out};
-use cbor_head::{Limits, Reason, Refusal, Width};
+use cbor_events::{Event, EventKind, EventReader, ItemEvents, Out, head_of};
+use cbor_head::{Limits, Major, Reason, Refusal, Width};
 use std::alloc::{AllocError, Global};
 use std::io::Read;
 use std::process::Abort;
@@ -286,9 +286,16 @@ fn judges_the_kind_of_a_key(rt: HostRuntime) {
     let mut events = ItemEvents::new(limits);
     let other = Refusal { reason: Reason::KeyKind, place: 0, read: 1 };
     assert!(rt; events.next_by_kind(true, &mut input) == Err(other));
-    assert!(rt; input == b"\x00");
+    assert!(rt; input == b"\x00".as_slice());
     let mut events = ItemEvents::new(limits);
     let mut input: &[u8] = b"\x41\x00";
     let next = events.next_by_kind(false, &mut input);
     assert!(rt; matches!(next, Ok(Some(Event { kind: EventKind::Bytes(Some(1)), .. }))));
+}
+
+#[test]
+fn gives_the_head_of_an_event(rt: HostRuntime) {
+    assert!(rt; head_of(EventKind::Map(Some(2))) == Some((Major::Map, 2)));
+    assert!(rt; head_of(EventKind::Text(None)) == Some((Major::Text, 0)));
+    assert!(rt; head_of(EventKind::End) == None);
 }
