@@ -134,13 +134,13 @@ module _ (t : Bool) (b rest : List ℕ) (s : AreChunksRead t b rest) where
 
       -- no chunk begins so
       pub no_chunk_here : f ≡ refusal BadChunk place (place + 1) → first ≢ 0xff → (first / 32 ≡ major_number m → 28 ≤ first % 32) → IsRefusedBy plain space b at f
-      no_chunk_here e stray_break other = λ limits ls clean broken kept here are.
+      no_chunk_here e no_break other = λ limits ls clean broken kept here are.
           let whole = bytes_before ls ++ b in
           let fs = containers ls in
           let small : first < 256 = (subst AreBytes is s.small).0 in
           let size : length (bytes_before ls ++ before) ≡ place = length-append (bytes_before ls) before ∙ ap (λ (n : ℕ). n + length before) (sym here.here) ∙ there in
           let found = bad_byte_here plain limits ls clean whole before rest (ap (λ (x : List ℕ). bytes_before ls ++ x) s.bytes) (kept_prefix limits plain ls before rest (subst (KeepsHere limits plain ls) s.bytes kept)) (one before rest s.bytes)
-          (between t s.done plain _ _ (s.so_far _)) first more (in_chunks m fs) _ BadChunk is are (string_leads limits.depth fs s.done (s.so_far 0).are t) tt (no_chunk t fs first small (stray_break, other)) in
+          (between t s.done plain _ _ (s.so_far _)) first more (in_chunks m fs) _ BadChunk is are (string_leads limits.depth fs s.done (s.so_far 0).are t) tt (no_chunk t fs first small (no_break, other)) in
           inr (inl (subst (HasBadByte plain limits whole) (ap (λ (n : ℕ). refusal BadChunk n (n + 1)) size ∙ sym e) found))
 
     -- a chunk's payload is cut, or no text
