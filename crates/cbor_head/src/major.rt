@@ -26,8 +26,8 @@ pub enum Major {
 }
 
 impl Major {
-    /// The type with this number, 0 to 7: the high three bits of an initial byte. For a number above
-    /// 7, which no type has, `Simple`.
+    /// The type with this number, 0 to 7: the high three bits of an initial byte. It returns `Simple`
+    /// for a number above 7, which no type has.
     pub fn of_number(number: u8) -> Major
         ensures major { result ≡ major_of number }
         ensures number { number < 8 → major_number result ≡ number }

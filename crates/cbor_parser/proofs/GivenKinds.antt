@@ -55,7 +55,7 @@ opener-begun d m n c rest behind space k =
     without-length : (first : ℕ) (item : Spelling) → spell item ≡ first ∷ 0xff ∷ [] → IsSpelled item → depth item ≤ d → HasBegun d (first ∷ behind) behind
     without-length first item bytes spelled within = record { prefix = first ∷ []; is = refl; one = λ container some. absurd (omega (arith, some)); item = item; spelled = spelled; within = within; more = 0xff ∷ []; bytes = bytes }
 
--- of so many bytes
+-- what begins leaves the rest behind so many bytes
 pub begun-so : (d : ℕ) (rest behind : List ℕ) (used : ℕ) → used + length behind ≡ length rest → HasBegun d rest behind → HasBegun d rest (rules.behind used rest)
 begun-so d rest behind used u h = subst (HasBegun d rest) (sym (follows rest h.prefix behind used h.is u)) h
 

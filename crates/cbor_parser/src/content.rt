@@ -13,7 +13,7 @@ use cbor_head::{Argument, read_argument};
 use cbor_text::is_text_prefix;
 
 impl<S> Parser<S> {
-    /// The string of so many bytes, which stand behind its head.
+    /// Takes the string that `rest` begins with: so many bytes, which stand `behind` its head.
     #[inline(always)]
     pub(crate) fn take_string<'a>(
         &mut self,
@@ -40,7 +40,7 @@ impl<S> Parser<S> {
         }
     }
 
-    /// The string in chunks whose opener stands before these bytes.
+    /// Takes the string in chunks that `start` begins with; `behind` follows its opener.
     pub(crate) fn take_chunks<'a>(
         &mut self,
         top: &OpenContainer<usize>,
@@ -97,8 +97,8 @@ fn chunk_head<'a>(is_text: bool, first: u8, behind: &'a [u8]) -> Option<Argument
     read_argument(first % 32, behind)
 }
 
-// A payload of so many bytes as a size, if it stands at the start, and is UTF-8 where it is a text's. Where
-// the item is known to be valid, its texts are UTF-8, and are not looked through.
+// A payload of so many bytes as a size, if it stands at the start, and is UTF-8 if it is a text's. If the
+// item is known to be valid, its texts are UTF-8, and are not looked through.
 #[inline(always)]
 fn payload_size<'a, S: Sink<'a>>(is_text: bool, count: u64, rest: &'a [u8]) -> Option<usize>
     ensures { IfSome result (λ size. IsPayload S.trusts is_text count size rest.now) }

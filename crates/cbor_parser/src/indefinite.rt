@@ -15,8 +15,7 @@ use crate::stack::Stack;
 use cbor_head::Major;
 
 impl<S> Parser<S> {
-    /// Takes what begins with this byte before these bytes, if it is an opener without a length, or
-    /// a break.
+    /// Takes what `rest` begins with, if its first byte is an opener without a length, or a break.
     #[inline(always)]
     pub(crate) fn take_indefinite<'a>(
         &mut self,

@@ -19,7 +19,7 @@ use crate::stack::Stack;
 use cbor_head::{Keys, Major, read_argument};
 
 impl<S> Parser<S> {
-    /// Takes what stands at the start, but for a key of another kind where kinds are asked for.
+    /// Takes what stands at the start, but for a key of another kind if kinds are asked for.
     #[inline(always)]
     pub(crate) fn take_part<'a>(
         &mut self,

@@ -50,7 +50,7 @@ impl<L: Copy> Stack<L> {
     }
 }
 
-/// Few items are deeper than this. With many more, the cells of the deepest items would not fit 64 KiB of stack.
+/// Few items are deeper than this. The cells of these and of the deepest items have to fit 64 KiB of stack.
 pub const FEW: usize = 16;
 /// No item is deeper than this.
 pub const MOST: usize = MAX_DEPTH as usize;

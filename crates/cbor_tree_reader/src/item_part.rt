@@ -3,7 +3,7 @@
 ghost use Rattle.cbor_tree_reader.specs.inner.PlainParts.{HasCome, AnswersPart};
 
 use crate::strings::read_string;
-use cbor_automaton::{Event, EventKind};
+use cbor_automaton::EventKind;
 use cbor_events::{ItemEvents, head_of};
 use cbor_head::{Major, Refusal};
 use std::alloc::Global;

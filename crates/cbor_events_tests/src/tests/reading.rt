@@ -274,23 +274,43 @@ fn goes_on_with_another_item(rt: HostRuntime) {
     assert!(rt; events.next(&mut input) == Ok(None));
 }
 
-// 1 and h'00', each where a key is to be an integer or a text: the string is refused at its first byte, and no more of it
-// is read. Where no kind is asked for, it is reported.
+// Reads 1, then h'00', as keys that must be integers or texts: the string is refused at its first byte, and no more of
+// it is read. If no kind is asked for, it is reported.
 #[test]
 fn judges_the_kind_of_a_key(rt: HostRuntime) {
     let limits = limits(&rt, 1, 4);
     let mut input: &[u8] = b"\x01\x41\x00";
     let mut events = ItemEvents::new(limits);
     let next = events.next_by_kind(true, &mut input);
-    assert!(rt; matches!(next, Ok(Some(Event { kind: EventKind::Unsigned(1), .. }))));
+    assert!(rt;
+        matches!(
+            next,
+            Ok(Some(Event {
+                kind: EventKind::Unsigned(1),
+                ..
+            }))
+        )
+    );
     let mut events = ItemEvents::new(limits);
-    let other = Refusal { reason: Reason::KeyKind, place: 0, read: 1 };
+    let other = Refusal {
+        reason: Reason::KeyKind,
+        place: 0,
+        read: 1,
+    };
     assert!(rt; events.next_by_kind(true, &mut input) == Err(other));
     assert!(rt; input == b"\x00".as_slice());
     let mut events = ItemEvents::new(limits);
     let mut input: &[u8] = b"\x41\x00";
     let next = events.next_by_kind(false, &mut input);
-    assert!(rt; matches!(next, Ok(Some(Event { kind: EventKind::Bytes(Some(1)), .. }))));
+    assert!(rt;
+        matches!(
+            next,
+            Ok(Some(Event {
+                kind: EventKind::Bytes(Some(1)),
+                ..
+            }))
+        )
+    );
 }
 
 #[test]

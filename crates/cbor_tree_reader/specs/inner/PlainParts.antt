@@ -38,7 +38,7 @@ leaf_value _ n = value.unsigned n
 abbrev pub IsLeafMajor : Major → ℕ → Type 0
 IsLeafMajor m n = IsLeaf m × (m ≡ majors.Simple → IsSimple n)
 
--- the number that goes with what begins
+-- a container of this type and argument begins
 abbrev pub Begins : EventKind → Major → ℕ → Type 0
 Begins kind m n = IsContainer m × ((w : Width) → mark_of w kind ≡ a_head m w n)
 
