@@ -1,11 +1,11 @@
 -- A container without more to come, given to a sink: it ends, or a key is reported that is the same as an earlier one.
-use Rattle.std.proofs.Common.{◌≡◌, ℕ, Bool, ◌<◌, List, [], ◌∷◌, ◌++◌, length, refl, sym, ◌∙◌, ap, inl, inr, arith, length-append}
+use Rattle.std.proofs.Common.{◌≡◌, ℕ, Bool, List, ◌++◌, length, refl, sym, ◌∙◌, ap, inl, inr, arith, length-append}
 use Rattle.cbor_head.specs.Prelude.{Spelling, array, a_map, spell}
 use Rattle.cbor_builder.specs.declared.repeat.Repeat.{Repeat}
 use Rattle.cbor_verdict.specs.Levels.{Level, some_member, some_key, bytes_before, ParseState}
 use Rattle.cbor_verdict.proofs.CleanParts.{clean-within}
 use Rattle.cbor_parser.specs.Sink.{Fills, StandsFull, Reported, takes_key, is_map, IsEndedAs, IsReportedFull, IsContainerFull, Ends, Repeats}
-use Rattle.cbor_parser.specs.inner.Parser.{HasEnded, IsFull, IsToEnd, IsCellFull, HasFilled}
+use Rattle.cbor_parser.specs.inner.Parser.{HasEnded, IsFull, IsToEnd, IsCellFull}
 use Rattle.cbor_parser.specs.{Expected.pairs, inner.OpenContainer.Cell}
 
 -- a key is expected where a map ends
@@ -39,10 +39,6 @@ module _ (S : Type 0) (stands : S → S → ParseState → Type 0) (trusts : Boo
   has-ended t cs g new rest s ends = known-as _ _ cs rest s (ends start d s.ls s.item (fills-of _ cs rest s) s.given)
 
   -- ---- the one of this cell, within those around it
-
-  pub filled-full : (top : Cell) (cs : List Cell) (g : S) (rest : List ℕ) → 0 < length cs → HasFilled S stands trusts start d input (top ∷ cs) g rest → IsCellFull S stands trusts (StandsFull S stands d start g) d input top cs rest
-  filled-full top [] g rest l h = absurd (omega (arith, l))
-  filled-full top (c ∷ cs) g rest l h = h
 
   module _ (t : Bool) (c : Cell) (cs : List Cell) (g : S) (rest : List ℕ) (reported : t ≡ pairs c.expected) (s : IsCellFull S stands trusts (StandsFull S stands d start g) d input c cs rest) where
     -- the sink is reported rightly whether it is a map
