@@ -15,7 +15,7 @@ use Rattle.cbor_parser.specs.declared.{walk.WalkStop.WalkStop, walk.CloseResult.
 abbrev pub CellsFitInMemory : RattleType → Type 0
 CellsFitInMemory K = 1024 * size (layout (the_row K)) < 2 ^ 63
 
--- what follows so many bytes
+-- what follows so many bytes, in the form that a slice's range has, so that the loop needs no proof of its own
 abbrev pub behind : ℕ → List ℕ → List ℕ
 behind used rest = take (length rest - used) (drop used rest)
 
