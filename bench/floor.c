@@ -4,7 +4,7 @@
  *   strict   the deterministic check, bytewise: adjacent key spans are compared in place
  *   canon    one output buffer; a map's pairs are sorted by spans as it closes; equal keys are refused
  *
- * It knows no places and no reasons beyond a word, and no other order of keys.
+ * It has no offsets, only a word for a reason, and only one order of keys.
  */
 #include "floor.h"
 
@@ -20,7 +20,7 @@ static struct { Span *p; size_t n, cap; } spans;
 
 #define FAIL(w) do { in->why = (w); return 0; } while (0)
 
-/* Short texts of ASCII by loads that overlap; the rest by utf8_long. */
+/* Short texts of ASCII with loads that overlap; the rest with utf8_long. */
 static int utf8_long(const uint8_t *p, size_t n);
 static inline int utf8(const uint8_t *p, size_t n) {
   if (n >= 4 && n <= 8) {
@@ -236,7 +236,7 @@ static inline int write(In *in, Out *o, int depth) {
     }
     if (b - 0x60u < 24 && utf8(p + 1, b - 0x60u)) {
       space(o, 24);
-      memcpy(o->p + o->n, p, 24); /* a fixed copy; what is past the text is written over */
+      memcpy(o->p + o->n, p, 24); /* a fixed copy; what is after the text is overwritten */
       o->n += 1 + (b - 0x60u), in->p = p + 1 + (b - 0x60u);
       return 1;
     }

@@ -1,4 +1,4 @@
-/* The same work in plain C, as a measure: 1 where the item is accepted. */
+/* The same work in plain C, for comparison: 1 if the item is accepted. */
 #ifndef FLOOR_H
 #define FLOOR_H
 #include <stddef.h>

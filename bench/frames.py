@@ -1,9 +1,10 @@
-"""Lists the functions of a program that take most of the stack, in bytes; with a second program, those that changed.
+#!/usr/bin/env python3
+"""Lists the functions of a program that use most stack, in bytes; with a second program, those that changed.
 
     python3 frames.py PROGRAM [LATER]
 
-What a call takes in all is held by c/stack.c and scripts/run_limited.py, in the gate; this says where it goes. It is
-read off the first instructions of each function; what is pushed is not counted.
+c/stack.c and scripts/run_limited.py check in the gate what a call uses in all; this says where. It is
+computed from the first instructions of each function; what is pushed is not counted.
 """
 
 import re
@@ -11,13 +12,13 @@ import subprocess
 import sys
 
 MOST = 30
-# A large frame is touched as it is taken: piece by piece, or in a loop down to the place in r11.
+# A large frame is touched as it is allocated: piece by piece, or in a loop down to the address in r11.
 TAKES = re.compile(r"\t(?:sub +\$0x([0-9a-f]+),%rsp|lea +-0x([0-9a-f]+)\(%rsp\),%r11)$")
 BEFORE = re.compile(r"\t(?:push|movq +\$0x0,\(%rsp\)|mov +%rsp,%rbp)")
 
 
 def frames(program):
-    """What each function takes, by its name."""
+    """The bytes that each function uses, by its name."""
     lines = subprocess.run(["objdump", "-d", "--no-show-raw-insn", program], check=True, capture_output=True, text=True)
     taken, name = {}, None
     for line in lines.stdout.splitlines():

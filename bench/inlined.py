@@ -1,10 +1,11 @@
-"""Lists the functions marked #[inline(always)] that a program has as functions all the same, the largest first.
+#!/usr/bin/env python3
+"""Lists the functions marked #[inline(always)] that a program has as functions nevertheless, the largest first.
 
     python3 inlined.py PROGRAM
 
-The compiler drops the mark, with no message, where a function would grow very large, and what was to be part of a
-loop is a call then. What makes it large is in turn what is marked and stands in it often: of that the rare and the
-dear can be a call instead (#[inline(never)]), in the sinks of a walk most of all.
+The compiler drops the mark, with no message, if a function would grow very large, and what should be part of a
+loop is then a call. What makes it large are the marked functions that it calls often. Those that are rare or
+expensive can be calls instead (#[inline(never)]), especially in the sinks of a walk.
 """
 
 import pathlib

@@ -4,7 +4,7 @@
 
 writes for each input NAME the files NAME.cbor, NAME.bytewise and NAME.length, and for each array the
 canonical bytes of its members as a sequence, NAME.sequence. The writer is a plain
-recursion over Python values, so that what the program answers can be held against it.
+recursion over Python values, so that the program's output can be compared with it.
 """
 
 import random
@@ -42,7 +42,7 @@ def head(major, argument, wide=False):
 
 
 def encode(value, order=None):
-    """The bytes as written, or the canonical ones where `order` is bytewise or length."""
+    """The bytes as written, or the canonical ones if `order` is bytewise or length."""
     as_written = order is None
     if value is None or isinstance(value, bool):
         return bytes([{False: 0xF4, True: 0xF5, None: 0xF6}[value]])
@@ -74,7 +74,7 @@ def shuffled(chance, pairs):
 
 
 def filled(make, size):
-    """An array of what `make` gives, of at most so many bytes."""
+    """An array of what `make` returns, of at most this many bytes."""
     made, used = [], 5
     while True:
         member = make()
@@ -101,12 +101,12 @@ def record(chance):
 
 
 def texts(chance, count):
-    """A map of so many shuffled texts of five digits."""
+    """A map whose keys are this number of texts of five digits, shuffled."""
     return shuffled(chance, ((f"{it:05}", it % 24) for it in range(count)))
 
 
 def past_ascii(chance):
-    """A text of Latin, Greek, Cyrillic or Han letters, or of signs beyond the first plane."""
+    """A text of Latin, Greek, Cyrillic or Han letters, or of characters outside the Basic Multilingual Plane."""
     first, count = chance.choice(((0x61, 26), (0xE0, 32), (0x3B1, 24), (0x430, 32), (0x4E00, 2000), (0x1F600, 60)))
     return "".join(chr(first + chance.randrange(count)) for _ in range(chance.randrange(10, 70)))
 
@@ -117,7 +117,7 @@ def in_chunks(chance):
 
 
 def chain(chance):
-    """Arrays, maps and tags in one another, 20 to 250 deep, with scalars beside them."""
+    """Arrays, maps and tags in one another, 20 to 250 deep, with scalars next to them."""
     core = chance.randrange(1000)
     short = lambda: "".join(chance.choices("abcdefgh", k=chance.randrange(1, 5)))
     for _ in range(chance.randrange(20, 251)):

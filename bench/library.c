@@ -1,7 +1,7 @@
 /* library FOLDER NAME..: times calls of naltvigo.h in process on FOLDER/NAME.cbor and its canonical bytes
- * FOLDER/NAME.bytewise, beside plain C (floor.c) and, where it is there, libcbor; prints a row of Markdown
- * tables for each, in MB/s of processor time, the best of some calls; then what a call on a small item costs, and events.
- * library --calls NAME ITEM MEMBERS TIMES: makes so many calls on a small item, or on an array of so many of it, for a
+ * FOLDER/NAME.bytewise, and compares with plain C (floor.c) and, if it is installed, libcbor; prints a row of Markdown
+ * tables for each, in MB/s of processor time, the best of some calls; then the cost of a call on a small item, and events.
+ * library --calls NAME ITEM MEMBERS TIMES: makes TIMES calls on a small item, or on an array of MEMBERS of it, for a
  * count of their instructions (small.py). */
 #define _POSIX_C_SOURCE 199309L
 #include "../c/options.h"
@@ -43,7 +43,7 @@ static double now(void) {
 static struct bytes in, canonical, out;
 static struct naltvigo_refusal why;
 
-/* Takes FOLDER/NAME, its canonical bytes, and space for an answer. */
+/* Reads FOLDER/NAME and its canonical bytes, and allocates space for a result. */
 static void take_document(const char *folder, const char *name) {
     in = slurp(folder, name, "cbor");
     canonical = slurp(folder, name, "bytewise");
@@ -79,7 +79,7 @@ static int diagnostic(void) {
     size_t needed;
     return naltvigo_diagnostic(in.at, in.length, LIMITS(256, NALTVIGO_BYTES_MAX), (char *)out.at, out.length, &needed, &why) == NALTVIGO_OK;
 }
-/* All events of the input, in parts of so many bytes with space for so many events a call. */
+/* All events of the input, in parts of this size with space for this number of events in a call. */
 static int events_by(size_t part, size_t space) {
     static struct naltvigo_machine machine;
     static struct naltvigo_event events[64];
@@ -110,8 +110,8 @@ static int libcbor_load(void) { return load(0); }
 static int libcbor_again(void) { return load(1); }
 #endif
 
-/* Prints how many MB/s a call takes of so many bytes, or that it answers anything else than is due. */
-static void tell(int (*call)(void), size_t length) {
+/* Prints the MB/s of a call on an input of this length, or that it returns something else than it should. */
+static void print_speed(int (*call)(void), size_t length) {
     double best = 1e9, spent = 0;
     for (int turn = 0; turn < 5 || (spent < 0.1 && turn < 1000); turn++) {
         double from = now();
@@ -124,13 +124,13 @@ static void tell(int (*call)(void), size_t length) {
         if (took < best) best = took;
     }
     double speed = (double)length / best / 1e6;
-    /* It says nothing of a call that reads next to none of the bytes. */
+    /* Nothing for a call that reads almost none of the bytes. */
     if (speed < 1e6) printf(" %.1f |", speed);
     else printf("  |");
     fflush(stdout);
 }
 
-/* Small items: what a call costs by itself. The claims are those of RFC 8392, appendix A.1. */
+/* Small items: the cost of a call itself. The claims are those of RFC 8392, appendix A.1. */
 #define CLAIMS \
     "\x01\x75" "coap://as.example.com" "\x02\x65" "erikw" "\x03\x78\x18" "coap://light.example.com" \
     "\x04\x1a\x56\x12\xae\xb0\x05\x1a\x56\x10\xd9\xf0\x06\x1a\x56\x10\xd9\xf0"
@@ -139,7 +139,7 @@ static const struct {
     const char *name;
     const char *bytes;
     size_t length;
-    /* Where these are not canonical, those that are. */
+    /* If these are not canonical, those that are. */
     const char *canonical;
     size_t canonical_length;
 } small[] = {
@@ -152,7 +152,7 @@ static const struct {
 };
 
 /* Prints how many nanoseconds a call takes, the best of some thousands. */
-static void tell_nanoseconds(int (*call)(void)) {
+static void print_nanoseconds(int (*call)(void)) {
     enum { CALLS = 2000 };
     double best = 1e9;
     for (int turn = 0; turn < 200; turn++) {
@@ -169,9 +169,9 @@ static void tell_nanoseconds(int (*call)(void)) {
     printf(" %.0f |", 1e9 * best);
 }
 
-enum { MEMBERS = 16, ROOM = 4096 };
+enum { MEMBERS = 16, SPACE = 4096 };
 
-/* The item, or an array of so many of it. */
+/* The item, or an array of this many of it. */
 static struct bytes members_of(const char *bytes, size_t length, size_t members, uint8_t *made) {
     if (members == 0) return (struct bytes){(uint8_t *)bytes, length};
     made[0] = (uint8_t)(0x80 + members);
@@ -180,13 +180,13 @@ static struct bytes members_of(const char *bytes, size_t length, size_t members,
 }
 
 static void take_small(size_t i, size_t members) {
-    static uint8_t given[ROOM], meant[ROOM], space[ROOM];
+    static uint8_t given[SPACE], meant[SPACE], space[SPACE];
     in = canonical = members_of(small[i].bytes, small[i].length, members, given);
     if (small[i].canonical) canonical = members_of(small[i].canonical, small[i].canonical_length, members, meant);
     out = (struct bytes){space, sizeof space};
 }
 
-/* Makes so many of the calls of this name on a small item, or on an array of so many of it. */
+/* Makes this number of calls on a small item, or on an array of this many of it. */
 static int repeat(const char *name, size_t item, size_t members, long times) {
     static const struct { const char *name; int (*call)(void); } calls[] = {
         {"canonicalise", canonicalise}, {"plain_canonicalise", plain_canonicalise},
@@ -204,18 +204,18 @@ static int repeat(const char *name, size_t item, size_t members, long times) {
     return 2;
 }
 
-static void tell_small(void) {
+static void print_small(void) {
     puts("\n| small item, ns a call | bytes | `canonicalise` | plain C | `check_canonical` | plain C | `check_valid` | `compare` |");
     puts("| --- | ---: | ---: | ---: | ---: | ---: | ---: | ---: |");
     for (size_t i = 0; i < sizeof small / sizeof *small; i++) {
         take_small(i, 0);
         printf("| %s | %zu |", small[i].name, in.length);
-        tell_nanoseconds(canonicalise);
-        tell_nanoseconds(plain_canonicalise);
-        tell_nanoseconds(check_canonical);
-        tell_nanoseconds(plain_check_canonical);
-        tell_nanoseconds(check_valid);
-        tell_nanoseconds(compare);
+        print_nanoseconds(canonicalise);
+        print_nanoseconds(plain_canonicalise);
+        print_nanoseconds(check_canonical);
+        print_nanoseconds(plain_check_canonical);
+        print_nanoseconds(check_valid);
+        print_nanoseconds(compare);
         puts("");
     }
 }
@@ -228,12 +228,12 @@ int main(int count, char **words) {
     for (int i = 2; i < count; i++) {
         take_document(words[1], words[i]);
         printf("| %s | %zu |", words[i], in.length);
-        tell(canonicalise, in.length);
-        tell(plain_canonicalise, in.length);
-        tell(check_canonical, canonical.length);
-        tell(plain_check_canonical, canonical.length);
-        tell(check_valid, in.length);
-        tell(compare, in.length);
+        print_speed(canonicalise, in.length);
+        print_speed(plain_canonicalise, in.length);
+        print_speed(check_canonical, canonical.length);
+        print_speed(plain_check_canonical, canonical.length);
+        print_speed(check_valid, in.length);
+        print_speed(compare, in.length);
         puts("");
         give_up_document();
     }
@@ -242,21 +242,21 @@ int main(int count, char **words) {
     for (int i = 2; i < count; i++) {
         take_document(words[1], words[i]);
         printf("| %s |", words[i]);
-        tell(canonicalise, in.length);
-        tell(libcbor_load, in.length);
-        tell(libcbor_again, in.length);
+        print_speed(canonicalise, in.length);
+        print_speed(libcbor_load, in.length);
+        print_speed(libcbor_again, in.length);
         puts("");
         give_up_document();
     }
 #endif
-    tell_small();
+    print_small();
     puts("\n| events by `naltvigo_machine_take`, MB/s | bytes | 64 events a call | 1 event a call |");
     puts("| --- | ---: | ---: | ---: |");
     for (int i = 2; i < count; i++) {
         in = slurp(words[1], words[i], "cbor");
         printf("| %s | %zu |", words[i], in.length);
-        tell(events_64, in.length);
-        tell(events_1, in.length);
+        print_speed(events_64, in.length);
+        print_speed(events_1, in.length);
         puts("");
         free(in.at);
     }

@@ -1,4 +1,4 @@
-/* One file in plain C, for a count of its instructions: plain canon|strict FILE */
+/* Canonicalises or checks one file in plain C, for a count of its instructions: plain canon|strict FILE */
 #include "floor.h"
 
 #include <stdio.h>

@@ -2,8 +2,8 @@
 
     python3 program.py CBORC FOLDER
 
-Times are processor time, the least of some runs. What `canon` writes is held against the canonical
-bytes that inputs.py wrote. Ends with status 1 where a run answers anything else than is due.
+Times are processor time, the least of some runs. What `canon` writes is compared with the canonical
+bytes that inputs.py wrote. Ends with status 1 if a run returns something else than it should.
 """
 
 import os
@@ -24,7 +24,7 @@ COMMANDS = {
     "check of canonical": (["check"], "bytewise", None),
     "check --strict of canonical": (["check", "--strict"], "bytewise", None),
 }
-# Whose peak memory is reported.
+# The inputs whose peak memory is reported.
 MEASURED = ["canon", "check --strict of canonical"]
 TITLES = {
     "one": "the integer 0: the start of the program",
@@ -47,7 +47,7 @@ TITLES = {
     "small_chunks": "small maps of a byte string or a text, in chunks",
     "chains": "chains of arrays, maps and tags, 20 to 250 deep",
 }
-# Of the other subcommands: instructions a byte, beside those of `check`.
+# For the other subcommands: instructions a byte, next to those of `check`.
 COUNTED = {
     "check": (["check"], "cbor"),
     "show": (["show"], "cbor"),
@@ -58,7 +58,7 @@ COUNTED = {
     "check --strict of canonical": (["check", "--strict"], "bytewise"),
     "check --strict --seq of members": (["check", "--strict", "--seq"], "sequence"),
 }
-# How a run ended, the seconds that it took, and its peak of resident memory in bytes, where that is known.
+# How a run ended, the seconds that it took, and its peak of resident memory in bytes, if that is known.
 Ran = namedtuple("Ran", "status processor wall peak", defaults=[None])
 faults = []
 
@@ -72,7 +72,7 @@ def words_of(cborc, folder, name, command):
 
 
 def instructions(words):
-    """Returns how many instructions a run takes, or None where callgrind is not to be had."""
+    """Returns the number of instructions of a run, or None if there is no callgrind."""
     valgrind = shutil.which("valgrind")
     if not valgrind:
         return None
@@ -82,8 +82,8 @@ def instructions(words):
     return int(counts[-1]) if ran.returncode == 0 and counts else None
 
 
-def tell_instructions(cborc, folder):
-    """Prints instructions a byte of the other subcommands, less those of the integer 0."""
+def print_instructions(cborc, folder):
+    """Prints the instructions a byte of the other subcommands, minus those of the integer 0."""
     names = ["records", "integers", "zeros", "text", "map_10000", "map_100000"]
     print(f"\n| instructions a byte | {' | '.join(f'`{it}`' for it in COUNTED)} |")
     print("| --- |" + " ---: |" * len(COUNTED))
@@ -99,7 +99,7 @@ def tell_instructions(cborc, folder):
 
 
 def run(words, folder, out="stdout"):
-    """Runs the words, with what they say in files of the folder."""
+    """Runs the command, with its output in files of the folder."""
     flags = os.O_WRONLY | os.O_CREAT | os.O_TRUNC
     file = lambda number, name: (os.POSIX_SPAWN_OPEN, number, os.path.join(folder, name), flags, 0o600)
     began = perf_counter()
@@ -110,7 +110,7 @@ def run(words, folder, out="stdout"):
 
 
 def run_measured(words, folder, out="stdout"):
-    """The same with the peak of memory, where GNU's time is to be had, whose own millisecond is counted too."""
+    """The same with the peak of memory, if GNU time is installed, whose own millisecond is counted too."""
     tool = shutil.which("time")
     if not tool:
         return run(words, folder, out)
@@ -119,7 +119,7 @@ def run_measured(words, folder, out="stdout"):
 
 
 def least_time(cborc, folder, name, command):
-    """Returns the least time of some runs, or in words why there is none."""
+    """Returns the least time of some runs, or a sentence why there is none."""
     words, wanted = words_of(cborc, folder, name, command), COMMANDS[command][2]
     least = None
     for _ in range(TURNS):
@@ -144,7 +144,7 @@ def contents(path):
 
 
 def speed(time, size):
-    """Returns MB/s, or nothing of an input so small that the program's start is most of the time."""
+    """Returns MB/s, or nothing for an input so small that most of the time is the program's start."""
     if isinstance(time, str):
         return time
     return f"{size / 1e6 / time:.1f}" if size > MIB // 16 else ""
@@ -162,7 +162,7 @@ def size_of(folder, name, command):
     return os.path.getsize(f"{folder}/{name}.{COMMANDS[command][1]}")
 
 
-def tell(cborc, folder):
+def print_tables(cborc, folder):
     print(f"Processor time, least of {TURNS}. What is `of canonical` reads the canonical bytes, the others what stands here.\n")
     speeds = " | ".join(f"`{it}`, MB/s" for it in COMMANDS)
     peaks = " | ".join(f"`{it}`, peak memory, MiB" for it in MEASURED)
@@ -179,7 +179,7 @@ def tell(cborc, folder):
     return times
 
 
-def tell_bounds(times, folder):
+def print_bounds(times, folder):
     ratios = []
     for command in COMMANDS:
         small, large = times["map_10000", command], times["map_100000", command]
@@ -194,7 +194,7 @@ def tell_bounds(times, folder):
 
 
 def end():
-    """Tells what was answered that was not due, and the status to end with."""
+    """Prints unexpected results, and returns the exit status."""
     for fault in faults:
         print(f"fault: {fault}", file=sys.stderr)
     return 1 if faults else 0
@@ -202,8 +202,8 @@ def end():
 
 def main():
     cborc, folder = os.path.abspath(sys.argv[1]), sys.argv[2]
-    tell_bounds(tell(cborc, folder), folder)
-    tell_instructions(cborc, folder)
+    print_bounds(print_tables(cborc, folder), folder)
+    print_instructions(cborc, folder)
     return end()
 
 

@@ -1,9 +1,9 @@
-"""Counts the instructions of inputs that are refused for two equal keys, beside the same with none, and prints Markdown.
+"""Counts the instructions of inputs that are refused for two equal keys, and of the same without, and prints Markdown.
 
     python3 repeats.py CBORC FOLDER
 
-Each count is callgrind's, less that of the integer 0, a byte of the refused input. The files are written in the folder.
-In each input the key that is repeated stands at the end, so that all before it is gone over.
+Each count is callgrind's, minus that of the integer 0, for a byte of the refused input. The files are written to the folder.
+In each input the repeated key is at the end, so that all before it is read.
 """
 
 import random
@@ -13,12 +13,12 @@ from inputs import MIB, SEED, Map, encode, filled, head, in_chunks, past_ascii, 
 from strict import instructions
 
 DEPTH = 254
-# With what stands behind it within the byte limit.
+# Small enough that what follows it is within the byte limit.
 MOST = MIB - 32
 
 
 def ends_with(member):
-    """An array of what is given, and behind it the member with the last key repeated, or not."""
+    """An array of what is given, followed by the member with the last key repeated, or not."""
     return lambda before: lambda key: head(4, len(before) + 1) + b"".join(map(encode, before)) + member(key)
 
 
@@ -37,7 +37,7 @@ def map_of_records(key):
 
 
 def nested_keys(core):
-    """Items of maps in one another as keys, around a key of these bytes; in the last of them, beside another key."""
+    """Items of maps in one another as keys, around a key of these bytes; in the last of them, with another key."""
     def make(key):
         one, last = core, core + b"\x00" + key
         item = b"\xa1" * DEPTH + one + b"\x00" * DEPTH
@@ -47,16 +47,16 @@ def nested_keys(core):
 
 
 def shapes():
-    """Each with what makes its bytes of the last key, the repeated key, and another one."""
+    """Each with a function from the last key to its bytes, the repeated key, and another one."""
     chance = random.Random(SEED)
-    behind = ends_with(small_map)
-    yield "records, then a small map", behind(filled(lambda: record(chance), MOST)), "b", "c"
+    then_map = ends_with(small_map)
+    yield "records, then a small map", then_map(filled(lambda: record(chance), MOST)), "b", "c"
     yield "a map of 100,001 texts", large_map, "00007", "zzzzz"
     yield "a map of 5,501 texts, nearly all with records", map_of_records, "00007", "zzzzz"
     yield "maps in one another as keys, around a number in two bytes", nested_keys(b"\x18\x00"), b"\x18\x00", b"\x01"
     yield "the same, canonical but for the last key", nested_keys(b"\x00"), b"\x00", b"\x01"
-    yield "texts past ASCII, then a small map", behind(filled(lambda: past_ascii(chance), MOST)), "b", "c"
-    yield "small maps with a text in chunks", behind(filled(lambda: in_chunks(chance), MOST)), "b", "c"
+    yield "texts past ASCII, then a small map", then_map(filled(lambda: past_ascii(chance), MOST)), "b", "c"
+    yield "small maps with a text in chunks", then_map(filled(lambda: in_chunks(chance), MOST)), "b", "c"
 
 
 def count(words, path, out, status):

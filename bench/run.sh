@@ -1,25 +1,26 @@
 #!/usr/bin/env bash
 # Prints how long the library and the program take, as Markdown tables.
 #
-#   bench/run.sh [items] [program] [beside] [library] [strict] [views]      all six without a word
+#   bench/run.sh [items] [program] [instructions] [library] [strict] [views]      all six by default
 #
 # items    proves and runs items.rattle, a program over cbor_item, on trees made from a seed
 # program  makes files from a seed (inputs.py), and runs cborc on them (program.py); then on a sequence of
-#          300 MB and on files of 1 GiB, and beside /bin/true (streams.py), some minutes; counts the
+#          300 MB and on files of 1 GiB, and compared with /bin/true (streams.py), some minutes; counts the
 #          instructions of an item of a sequence (sequence.py), and of inputs that are refused for equal
 #          keys (repeats.py), by valgrind
-# beside   counts the instructions of canon, check and check --strict beside those of plain C
-#          (beside.py, plain.c, floor.c), by valgrind
-# library  builds the library for C, and times its calls in process beside plain C (library.c, floor.c)
+# instructions
+#          counts the instructions of canon, check and check --strict, and of plain C
+#          (instructions.py, plain.c, floor.c), by valgrind
+# library  builds the library for C, and times its calls in process, compared with plain C (library.c, floor.c)
 #          and libcbor, where Debian's libcbor-dev is installed; counts their instructions on small items,
 #          by valgrind (small.py), and the stack that they need (c/stack.c)
 # strict   proves and runs strict.rattle, a program over cbor_strict, and counts the instructions of
-#          read_strict from a reader beside those of plain C (strict.py, plain.c, floor.c), by valgrind
+#          read_strict from a reader and of plain C (strict.py, plain.c, floor.c), by valgrind
 # views    proves and runs views.rattle, a program over cbor_reader and example, and counts the instructions
-#          and the memory of read_view beside those of check_valid and read_tree (views.py), by valgrind
+#          and the memory of read_view, check_valid and read_tree (views.py), by valgrind
 #
-# The kit's rt has to be on the path. What rt says goes to standard error. All is done on a copy in
-# a temporary folder, which takes over what earlier checks of the clone kept, so that only what
+# The kit's rt must be on the path. The output of rt goes to standard error. All is done on a copy in
+# a temporary folder, with what earlier checks of the clone stored, so that only what
 # changed is proved again; cborc is the one that a check or the gate left, if no source is newer.
 set -euo pipefail
 
@@ -67,11 +68,11 @@ program() {
     python3 "$root/bench/repeats.py" "$cborc" "$scratch/inputs"
 }
 
-beside() {
+instructions() {
     make_program
     make_inputs
     make_plain
-    python3 "$root/bench/beside.py" "$cborc" "$scratch/plain" "$scratch/inputs" integers map_100000 texts records chains \
+    python3 "$root/bench/instructions.py" "$cborc" "$scratch/plain" "$scratch/inputs" integers map_100000 texts records chains \
         small_chunks keys_around_bytes
 }
 
@@ -113,16 +114,16 @@ views() {
     python3 "$root/bench/views.py" out/views "$scratch/inputs" records integers texts map_100000 small_chunks zeros
 }
 
-[ $# -gt 0 ] || set -- items program beside library strict views
+[ $# -gt 0 ] || set -- items program instructions library strict views
 date -u +'%Y-%m-%d, '"$(nproc) processors, load $(cut -d' ' -f1 /proc/loadavg)"
 for part; do
     case $part in
-        items | program | beside | library | strict | views)
+        items | program | instructions | library | strict | views)
             printf '\n## %s\n\n' "$part"
             ("$part")
             ;;
         *)
-            echo "usage: bench/run.sh [items] [program] [beside] [library] [strict] [views]" >&2
+            echo "usage: bench/run.sh [items] [program] [instructions] [library] [strict] [views]" >&2
             exit 2
             ;;
     esac

@@ -1,9 +1,9 @@
-"""Counts the instructions of an item of a sequence that are not its bytes' own work, and prints a Markdown table.
+"""Counts the instructions for an item of a sequence beyond those for its bytes, and prints a Markdown table.
 
     python3 sequence.py CBORC FOLDER
 
-Each count is callgrind's of so many items behind one another, less that of half as many; the bytes' own work is the
-same of the members of an array. The files are written in the folder. The items are those of small.py.
+Each count is callgrind's for n items one after another, minus that for half as many. What the bytes cost is the
+same count for the members of an array. The files are written to the folder. The items are those of small.py.
 """
 
 import sys
@@ -25,7 +25,7 @@ COUNT = 4000
 
 
 def count(words, path, out, head, item):
-    """The instructions of an item, where so many follow what `head` makes of their count."""
+    """The instructions of an item, if COUNT of them follow what `head` makes of this number."""
     found = []
     for times in (COUNT, COUNT // 2):
         with open(path, "wb") as file:

@@ -2,8 +2,8 @@
 
     python3 small.py LIBRARY
 
-LIBRARY is library.c. Each count is callgrind's of 1,000 calls, less that of none, a call. The second table has what a
-call costs beyond the bytes' own work: less what each further such item in an array takes, the mean of 15.
+LIBRARY is library.c. Each count is callgrind's of 1,000 calls, minus that of none, for one call. The second table has what a
+call costs beyond the work for the bytes: minus the cost of each further such item in an array, the mean of 15.
 """
 
 import sys
@@ -19,19 +19,19 @@ MEMBERS = 16
 
 
 def count(library, call, place, members=0):
-    """The instructions of a call on an item, or on an array of so many of it."""
+    """The instructions of a call on an item, or on an array of this many of it."""
     words = ["--calls", call, str(place), str(members)]
     none, some = (instructions(library, *words, str(times)) for times in (0, TIMES))
     return (some - none) / TIMES
 
 
 def beyond(library, call, place):
-    """Those of a call on an item that are not its bytes' own work."""
+    """Those of a call on an item beyond the work for its bytes."""
     one, many = (count(library, call, place, members) for members in (1, MEMBERS))
     return count(library, call, place) - (many - one) / (MEMBERS - 1)
 
 
-def tell(library, title, calls, counted):
+def print_tables(library, title, calls, counted):
     names = [f"`{it}`" for it in calls] + ["plain C, canonical", "plain C, check"]
     print(f"| {title} | " + " | ".join(names) + " |\n| --- |" + " ---: |" * len(names))
     for place, item in enumerate(ITEMS):
@@ -41,9 +41,9 @@ def tell(library, title, calls, counted):
 
 def main():
     library = sys.argv[1]
-    tell(library, "small item, instructions a call", CALLS, count)
+    print_tables(library, "small item, instructions a call", CALLS, count)
     print()
-    tell(library, "those beyond the bytes' own work", CALLS[:4], beyond)
+    print_tables(library, "those beyond the bytes' own work", CALLS[:4], beyond)
 
 
 if __name__ == "__main__":

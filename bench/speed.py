@@ -34,7 +34,7 @@ def main():
     for table in tables.values():
         print(f"printed, but not in docs/PERFORMANCE.md: {table.splitlines()[0]}")
     if when:
-        line = f"Measured: {when[1]}, {when[2]}, but for the tables that say otherwise."
+        line = f"Measured: {when[1]}, {when[2]}, except in the tables that say otherwise."
         text = MEASURED.sub(line, text) if MEASURED.search(text) else text.replace("\n\n", f"\n\n{line}\n\n", 1)
     DOCUMENT.write_text(text, encoding="utf-8")
 

@@ -2,9 +2,9 @@
 
     python3 streams.py CBORC FOLDER
 
-The folder has what inputs.py writes. What else is read is written there: 300 MB of claims sets, with keys out of order
-and once more as their canonical bytes, and files of 1 GiB that take next to no space on the disk. Ends with status 1
-where a run answers anything else than is due.
+The folder has what inputs.py writes. All other inputs are written there: 300 MB of claims sets, with keys out of order
+and once more as their canonical bytes, and files of 1 GiB that need almost no space on the disk. Ends with status 1
+if a run returns something else than it should.
 """
 
 import filecmp
@@ -16,9 +16,9 @@ import program
 from inputs import SEED, Map, encode, shuffled
 from program import faults, mebibytes, run, run_measured
 
-# Of one process: the least of so many runs.
+# For one process: the least of this many runs.
 STARTS = 300
-# Claims sets of so many bytes, so many unlike ones, and how often these stand behind one another.
+# Claims sets: the bytes in all, the number of different ones, and how often these are repeated.
 SIZE = 75
 UNLIKE = 10_000
 TIMES = 400
@@ -26,7 +26,7 @@ GIB = 1 << 30
 
 
 def measure(name, words, folder, wanted, to="stdout"):
-    """The quickest of some runs, each held against what is due: a status and what is said."""
+    """The quickest of some runs, each compared with the expected status and output."""
     runs = []
     while len(runs) < program.TURNS and all(it.processor <= program.LONG for it in runs):
         runs.append(run_measured(words, folder, to))
@@ -36,7 +36,7 @@ def measure(name, words, folder, wanted, to="stdout"):
     return min(runs, key=lambda it: it.processor)
 
 
-def tell_start(cborc, folder):
+def print_start(cborc, folder):
     with open(f"{folder}/zero", "wb") as file:
         file.write(b"\x00")
     rows = {
@@ -70,7 +70,7 @@ def write_claims(folder):
             file.writelines(block for _ in range(TIMES))
 
 
-def tell_sequences(cborc, folder):
+def print_sequences(cborc, folder):
     write_claims(folder)
     count = UNLIKE * TIMES
     accepted = b"accepted %d items\n" % count
@@ -87,9 +87,9 @@ def tell_sequences(cborc, folder):
     for name, words, out, to in rows:
         ran = measure(name, [cborc, *words], folder, (0, out, b""), to)
         print(f"| {name} | {program.speed(ran.processor, SIZE * count)} | {mebibytes(ran.peak)} |", flush=True)
-    beside = program.speed(program.least_time(cborc, folder, "records", "check"), os.path.getsize(f"{folder}/records.cbor"))
-    print(f"\nBeside them `check` made {beside} MB/s of records.")
-    # It is made here where `canon` made none.
+    records = program.speed(program.least_time(cborc, folder, "records", "check"), os.path.getsize(f"{folder}/records.cbor"))
+    print(f"\nFor comparison, `check` made {records} MB/s of records.")
+    # It is made here if `canon` made none.
     with open(f"{folder}/out", "ab") as written:
         if not filecmp.cmp(written.name, ordered, shallow=False):
             faults.append("canon --seq: other bytes than the canonical ones")
@@ -97,7 +97,7 @@ def tell_sequences(cborc, folder):
         os.remove(name)
 
 
-def tell_long(cborc, folder):
+def print_long(cborc, folder):
     string = b"\x5a" + GIB.to_bytes(4, "big")
     within = ["--bytes", "4000000000"]
     rows = [
@@ -105,21 +105,21 @@ def tell_long(cborc, folder):
         ("one byte string: `check --bytes 4000000000`", ["check", *within], string, 0, b"accepted %d bytes\n" % (GIB + 5), b""),
         ("zeros: `check --seq`", ["check", "--seq"], b"", 0, b"accepted %d items\n" % GIB, b""),
     ]
-    print("\n| a file of 1 GiB | answer | processor time, s | wall time, s | peak memory, MiB |\n| --- | --- | ---: | ---: | ---: |")
+    print("\n| a file of 1 GiB | result | processor time, s | wall time, s | peak memory, MiB |\n| --- | --- | ---: | ---: | ---: |")
     for name, words, head, status, out, err in rows:
         with open(f"{folder}/long", "wb") as file:
             file.write(head)
             file.truncate(len(head) + GIB)
         ran = measure(name, [cborc, *words, f"{folder}/long"], folder, (status, out, err))
-        answer = (out or err).decode().strip()
-        print(f"| {name} | `{answer}` | {ran.processor:.3f} | {ran.wall:.3f} | {mebibytes(ran.peak)} |", flush=True)
+        result = (out or err).decode().strip()
+        print(f"| {name} | `{result}` | {ran.processor:.3f} | {ran.wall:.3f} | {mebibytes(ran.peak)} |", flush=True)
     os.remove(f"{folder}/long")
 
 
 def main():
     cborc, folder = os.path.abspath(sys.argv[1]), sys.argv[2]
-    for tell in (tell_start, tell_sequences, tell_long):
-        tell(cborc, folder)
+    for print_tables in (print_start, print_sequences, print_long):
+        print_tables(cborc, folder)
     return program.end()
 
 

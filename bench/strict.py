@@ -1,9 +1,9 @@
-"""Counts the instructions of `read_strict` from a reader beside those of plain C, and prints Markdown.
+"""Counts the instructions of `read_strict` from a reader and of plain C, and prints Markdown.
 
     python3 strict.py PROGRAM FLOOR FOLDER NAME..
 
 PROGRAM is strict.rattle, FLOOR plain.c; both read one file. Each count is callgrind's, of the canonical
-bytes NAME.bytewise of inputs.py, less that of the integer 0, a byte. Ends with status 1 where a file is
+bytes NAME.bytewise of inputs.py, minus that of the integer 0, for one byte. Ends with status 1 if a file is
 refused.
 """
 
@@ -13,7 +13,7 @@ import sys
 
 
 def run_under(tool, *words, status=0):
-    """Returns what the run of a program writes, which ends with this status, and what a tool of valgrind says of it."""
+    """Returns the output of a program that ends with this status, and the report of a tool of valgrind."""
     ran = subprocess.run(["valgrind", f"--tool={tool}", f"--{tool}-out-file=/dev/null", *words], capture_output=True, text=True)
     if ran.returncode != status:
         sys.exit(f"{' '.join(words)}: status {ran.returncode}")
@@ -21,7 +21,7 @@ def run_under(tool, *words, status=0):
 
 
 def instructions(*words, status=0):
-    """Returns how many instructions a run takes that ends with this status."""
+    """Returns the number of instructions of a run that ends with this status."""
     _, said = run_under("callgrind", *words, status=status)
     return int(next(line.split()[-1] for line in said.splitlines() if "Collected" in line))
 

@@ -1,4 +1,4 @@
-/* values CALL TIMES: makes or reads the claims of a token (RFC 8392, appendix A.1) so many times, for a count of the
+/* values CALL TIMES: makes or reads the claims of a token (RFC 8392, appendix A.1) TIMES times, for a count of the
  * instructions (values.py). */
 #include <naltvigo_values.h>
 #include <stdlib.h>

@@ -2,7 +2,7 @@
 
     python3 values.py DIST
 
-DIST is what scripts/build_c.sh makes. Each count is callgrind's of 1,000 turns, less that of none, a turn.
+DIST is what scripts/build_c.sh makes. Each count is callgrind's of 1,000 turns, minus that of none, for one turn.
 """
 
 import os
@@ -14,8 +14,8 @@ from strict import instructions
 
 SOURCE = os.path.join(os.path.dirname(os.path.abspath(__file__)), "values.c")
 CALLS = {
-    "put": "put 14 items and an end",
-    "finish": "put them, and `naltvigo_finish`",
+    "put": "put a map of 7 pairs",
+    "finish": "put it, and `naltvigo_finish`",
     "open": "`naltvigo_open`",
     "look": "two look-ups and two getters",
 }

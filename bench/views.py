@@ -1,10 +1,10 @@
-"""Counts the instructions and the memory of `read_view` beside those of `check_valid` and `read_tree`, and prints Markdown.
+"""Counts the instructions and the memory of `read_view`, `check_valid` and `read_tree`, and prints Markdown.
 
     python3 views.py PROGRAM FOLDER NAME..
 
-PROGRAM is views.rattle, the files are NAME.cbor of inputs.py. Instructions are callgrind's, less those of the integer 0,
-a byte; memory is the most that dhat sees in use, less that of reading the file alone, an item. An item in a map counts
-as key and as value. The last table is of two fields of each record of records.sequence. Ends with status 1 where a
+PROGRAM is views.rattle, the files are NAME.cbor of inputs.py. Instructions are callgrind's, minus those of the integer 0,
+for one byte; memory is the most that dhat sees in use, minus that for reading the file, for one item. An item in a map counts
+as key and as value. The last table is about two fields of each record of records.sequence. Ends with status 1 if a
 file is refused.
 """
 
@@ -16,7 +16,7 @@ from strict import instructions, run_under
 
 
 def items_of(data):
-    """How many items there are, at every depth: heads, but for breaks and chunks."""
+    """The number of items, at every depth: heads, except those of breaks and chunks."""
     place = count = 0
     is_in_chunks = False
     while place < len(data):
@@ -38,7 +38,7 @@ def in_use(*words):
     return int(re.search(r"At t-gmax: ([\d,]+) bytes", said)[1].replace(",", "")), int(wrote.split()[1])
 
 
-def tell_instructions(program, folder, names):
+def print_instructions(program, folder, names):
     calls = ("valid", "view", "tree")
     starts = {it: instructions(program, it, f"{folder}/one.cbor") for it in calls}
     print("| a view | `check_valid` | `read_view` | ratio | `read_tree` | ratio |\n| --- |" + " ---: |" * 5)
@@ -48,7 +48,7 @@ def tell_instructions(program, folder, names):
         print(f"| {name} | {valid:.2f} | {view:.2f} | {view / valid:.2f} | {tree:.2f} | {tree / valid:.2f} |", flush=True)
 
 
-def tell_memory(program, folder, names):
+def print_memory(program, folder, names):
     print("\n| bytes an item | items | arena of a view | most, while it is made | most of `read_tree` |\n| --- |" + " ---: |" * 4)
     for name in names:
         path = f"{folder}/{name}.cbor"
@@ -61,7 +61,7 @@ def tell_memory(program, folder, names):
         print(f"| {name} | {count:,} | " + " | ".join(f"{it / count:.1f}" for it in cells) + " |", flush=True)
 
 
-def tell_fields(program, folder):
+def print_fields(program, folder):
     path = f"{folder}/records.sequence"
     wrote, _ = run_under("callgrind", program, "fields", path)
     count, start = int(wrote.split()[0]), instructions(program, "none", path)
@@ -72,9 +72,9 @@ def tell_fields(program, folder):
 
 def main():
     program, folder, *names = sys.argv[1:]
-    tell_instructions(program, folder, names)
-    tell_memory(program, folder, names)
-    tell_fields(program, folder)
+    print_instructions(program, folder, names)
+    print_memory(program, folder, names)
+    print_fields(program, folder)
 
 
 if __name__ == "__main__":

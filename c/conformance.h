@@ -1,9 +1,9 @@
-/* The rows of the conformance tables, and what compares with them. */
+/* The rows of the conformance tables, and functions that compare with them. */
 #include <naltvigo.h>
 
 #include "hex.h"
 
-struct answer {
+struct result {
     const char *canonical; /* in hex, or none */
     struct naltvigo_refusal refusal, strict;
 };
@@ -11,7 +11,7 @@ struct row {
     const char *given;
     uint32_t keys, depth;
     uint64_t bytes;
-    struct answer by_order[2];
+    struct result by_order[2];
 };
 struct pair {
     const char *left, *right;
@@ -25,7 +25,7 @@ struct pair {
 static const struct naltvigo_refusal unset = {77, 78, 79};
 
 static inline int are_equal(struct naltvigo_refusal a, struct naltvigo_refusal b) {
-    return a.reason == b.reason && a.place == b.place && a.read == b.read;
+    return a.reason == b.reason && a.offset == b.offset && a.consumed == b.consumed;
 }
 
 static inline int all_are(const uint8_t *bytes, size_t n, uint8_t byte) {

@@ -1,11 +1,11 @@
-/* Finds and reads values by a cursor (naltvigo_cursor.h) in items that were worked out by hand. Prints how many checks
- * there were; the status is 0 where all hold. */
+/* Finds and reads values with a cursor (naltvigo_cursor.h) in items that were worked out by hand. Prints the number of checks;
+ * the status is 0 if all hold. */
 #include <naltvigo_values.h>
 
 #include "checks.h"
 #include "hex.h"
 
-/* A cursor at the item that these digits spell; the bytes are kept to the next call. */
+/* A cursor at the item that has these hex digits; the bytes stay until the next call. */
 static struct naltvigo_cursor open_hex(const char *hex) {
     static uint8_t *in;
     size_t n;
@@ -13,7 +13,7 @@ static struct naltvigo_cursor open_hex(const char *hex) {
     free(in);
     in = unhex(hex, &n);
     root = naltvigo_open(in, n, NULL, NULL);
-    check(root.status == NALTVIGO_OK && root.item.place == 0 && root.item.end == n, "open", hex);
+    check(root.status == NALTVIGO_OK && root.item.offset == 0 && root.item.end == n, "open", hex);
     return root;
 }
 
@@ -21,8 +21,8 @@ static struct naltvigo_cursor open_hex(const char *hex) {
 
 enum { GETTERS = 10 };
 
-/* What each getter says of an item, in a row of letters: o OK, k WRONG_KIND, r OUT_OF_RANGE, t NOT_THERE, d DIFFERENT.
- * Where it does not say OK, the answer is 0 or empty. */
+/* The status of each getter on an item, in a row of letters: o OK, k WRONG_KIND, r OUT_OF_RANGE, t NOT_THERE, d DIFFERENT.
+ * If it is not OK, the result is 0 or empty. */
 static void get_all(struct naltvigo_cursor at, uint32_t before, char *row) {
     uint32_t s[GETTERS];
     size_t length[3], i;
@@ -63,7 +63,7 @@ static void each_getter_on_each_kind(void) {
         const struct naltvigo_cursor at = open_hex(kinds[i].hex);
         get_all(at, NALTVIGO_OK, row);
         check(strcmp(row, kinds[i].row) == 0, "getters", kinds[i].hex);
-        get_all(at, NALTVIGO_DIFFERENT, row); /* a failure before stays */
+        get_all(at, NALTVIGO_DIFFERENT, row); /* an earlier failure stays */
         check(strcmp(row, "dddddddddd") == 0, "sticky", kinds[i].hex);
     }
     get_all(naltvigo_next(open_hex("01")), NALTVIGO_OK, row);
@@ -93,8 +93,8 @@ static void values_of_getters(void) {
 static const char mixed[] = "a60161610a820203204061" "62a08100c7f6f4f5";
 
 /* The call led to the item at this offset, or nowhere for this reason. */
-static void leads_to(struct naltvigo_cursor at, uint64_t place, const char *what) {
-    check(at.status == NALTVIGO_OK && at.item.place == place, "leads to", what);
+static void leads_to(struct naltvigo_cursor at, uint64_t offset, const char *what) {
+    check(at.status == NALTVIGO_OK && at.item.offset == offset, "leads to", what);
 }
 static void leads_nowhere(struct naltvigo_cursor at, uint32_t status, const char *what) {
     check(at.status == status && naltvigo_kind(at) == NALTVIGO_NONE, "leads nowhere", what);
@@ -120,7 +120,7 @@ static void look_ups(void) {
     leads_nowhere(naltvigo_at_encoded(map, (const uint8_t *)"\x81", 1), NALTVIGO_NOT_THERE, "a part of a key");
     leads_nowhere(naltvigo_at_encoded(map, NULL, 0), NALTVIGO_NOT_THERE, "no bytes");
     leads_nowhere(naltvigo_at_int(naltvigo_at_int(map, 10), 2), NALTVIGO_WRONG_KIND, "a key of an array");
-    leads_nowhere(naltvigo_at_text(naltvigo_at_int(map, 2), "b"), NALTVIGO_NOT_THERE, "behind what is not there");
+    leads_nowhere(naltvigo_at_text(naltvigo_at_int(map, 2), "b"), NALTVIGO_NOT_THERE, "after what is not there");
     leads_nowhere(naltvigo_at_text(naltvigo_at_text(map, "b"), "b"), NALTVIGO_NOT_THERE, "in an empty map");
 }
 
@@ -129,18 +129,18 @@ static void inner_ones(void) {
     const struct naltvigo_cursor map = open_hex("a201a102030482" "0506");
     const struct naltvigo_cursor value = naltvigo_at_int(naltvigo_at_int(map, 1), 2);
     leads_to(value, 4, "a value within a value");
-    leads_nowhere(naltvigo_next(value), NALTVIGO_NOT_THERE, "behind the inner map");
+    leads_nowhere(naltvigo_next(value), NALTVIGO_NOT_THERE, "after the inner map");
     leads_nowhere(naltvigo_at_int(naltvigo_at_int(map, 1), 4), NALTVIGO_NOT_THERE, "a key of the outer map");
-    leads_nowhere(naltvigo_next(naltvigo_at_index(naltvigo_at_int(map, 4), 1)), NALTVIGO_NOT_THERE, "behind the inner array");
+    leads_nowhere(naltvigo_next(naltvigo_at_index(naltvigo_at_int(map, 4), 1)), NALTVIGO_NOT_THERE, "after the inner array");
     leads_to(naltvigo_next(naltvigo_at_int(map, 1)), 5, "the next key");
-    leads_nowhere(naltvigo_next(naltvigo_at_int(map, 4)), NALTVIGO_NOT_THERE, "behind the last pair");
+    leads_nowhere(naltvigo_next(naltvigo_at_int(map, 4)), NALTVIGO_NOT_THERE, "after the last pair");
 }
 
 static void members(void) {
     const struct naltvigo_cursor map = open_hex(mixed), array = naltvigo_at_int(map, 10);
     leads_to(naltvigo_first(array), 6, "first");
     leads_to(naltvigo_next(naltvigo_first(array)), 7, "next");
-    leads_nowhere(naltvigo_next(naltvigo_next(naltvigo_first(array))), NALTVIGO_NOT_THERE, "behind the last member");
+    leads_nowhere(naltvigo_next(naltvigo_next(naltvigo_first(array))), NALTVIGO_NOT_THERE, "after the last member");
     leads_to(naltvigo_at_index(array, 0), 6, "0");
     leads_to(naltvigo_at_index(array, 1), 7, "1");
     leads_nowhere(naltvigo_at_index(array, 2), NALTVIGO_NOT_THERE, "2");
@@ -150,7 +150,7 @@ static void members(void) {
     leads_nowhere(naltvigo_first(naltvigo_at_int(map, 1)), NALTVIGO_WRONG_KIND, "the first of a text");
     leads_nowhere(naltvigo_first(naltvigo_at_text(map, "b")), NALTVIGO_NOT_THERE, "the first of an empty map");
     leads_nowhere(naltvigo_first(naltvigo_at_int(map, 3)), NALTVIGO_NOT_THERE, "the first of nothing");
-    leads_nowhere(naltvigo_next(map), NALTVIGO_NOT_THERE, "behind the whole item");
+    leads_nowhere(naltvigo_next(map), NALTVIGO_NOT_THERE, "after the whole item");
     leads_nowhere(naltvigo_first(open_hex("80")), NALTVIGO_NOT_THERE, "the first of an empty array");
     leads_nowhere(naltvigo_at_index(open_hex("80"), 0), NALTVIGO_NOT_THERE, "an index of an empty array");
 }
@@ -162,24 +162,24 @@ static void pairs(void) {
     struct naltvigo_cursor at = naltvigo_first(map);
     size_t i;
     for (i = 0; i < 12; i++, at = naltvigo_next(at)) leads_to(at, places[i], "pairs");
-    leads_nowhere(at, NALTVIGO_NOT_THERE, "behind the last pair");
+    leads_nowhere(at, NALTVIGO_NOT_THERE, "after the last pair");
     at = naltvigo_at_int(map, -1);
     for (i = 5; i < 12; i++, at = naltvigo_next(at)) leads_to(at, places[i], "pairs from one on");
-    leads_nowhere(at, NALTVIGO_NOT_THERE, "behind the last pair");
+    leads_nowhere(at, NALTVIGO_NOT_THERE, "after the last pair");
 }
 
 static void tags(void) {
     const struct naltvigo_cursor tag = naltvigo_at_encoded(open_hex(mixed), (const uint8_t *)"\x81", 2);
     leads_to(naltvigo_at_tag(tag, 7), 16, "the content");
     leads_to(naltvigo_first(tag), 16, "the content");
-    leads_nowhere(naltvigo_next(naltvigo_first(tag)), NALTVIGO_NOT_THERE, "behind the content");
+    leads_nowhere(naltvigo_next(naltvigo_first(tag)), NALTVIGO_NOT_THERE, "after the content");
     leads_nowhere(naltvigo_at_tag(tag, 6), NALTVIGO_WRONG_KIND, "another number");
     leads_nowhere(naltvigo_at_tag(naltvigo_at_tag(tag, 7), 7), NALTVIGO_WRONG_KIND, "no tag");
     leads_nowhere(naltvigo_at_tag(naltvigo_at_int(tag, 1), 7), NALTVIGO_WRONG_KIND, "a key of a tag");
 }
 
-/* Keys around the length up to which a key is put together on the stack; all but one byte in common. A byte string and
- * a value have the same bytes as keys that are not there. */
+/* Keys with lengths around that up to which a key is built on the stack; they differ in one byte. A byte string and
+ * a value have the same bytes as keys that the map does not have. */
 static void long_texts(void) {
     enum { FROM = 55, TO = 90 };
     static uint8_t items[8192], out[8192];
@@ -215,11 +215,11 @@ static void opening(void) {
     struct naltvigo_options options = naltvigo_defaults();
     static const uint8_t keys[] = {0xa2, 0x20, 0, 0x18, 0x64, 0}; /* {-1: 0, 100: 0}, the shorter key first */
     leads_nowhere(naltvigo_open((const uint8_t *)"\x18", 2, NULL, &why), NALTVIGO_REFUSED, "a longer head");
-    check(why.reason == NALTVIGO_NOT_SHORTEST && why.place == 0 && why.read == 2, "why", "a longer head");
+    check(why.reason == NALTVIGO_NOT_SHORTEST && why.offset == 0 && why.consumed == 2, "why", "a longer head");
     leads_nowhere(naltvigo_open(NULL, 0, NULL, &why), NALTVIGO_REFUSED, "no bytes");
     check(why.reason == NALTVIGO_TRUNCATED, "why", "no bytes");
     leads_nowhere(naltvigo_open((const uint8_t *)"\0", 2, NULL, &why), NALTVIGO_REFUSED, "two items");
-    check(why.reason == NALTVIGO_TRAILING && why.place == 1, "why", "two items");
+    check(why.reason == NALTVIGO_TRAILING && why.offset == 1, "why", "two items");
     leads_nowhere(naltvigo_open(keys, sizeof keys, NULL, NULL), NALTVIGO_REFUSED, "another order");
     options.order = NALTVIGO_LENGTH_FIRST;
     leads_to(naltvigo_at_int(naltvigo_open(keys, sizeof keys, &options, NULL), 100), 5, "100, length first");
@@ -230,7 +230,7 @@ static void opening(void) {
     leads_nowhere(naltvigo_open(keys, sizeof keys, &options, NULL), NALTVIGO_BAD_LIMITS, "no limits");
 }
 
-/* The first failure of several getters is the one that stands, and those behind it answer 0. */
+/* The first failure of several getters stays, and those after it return 0. */
 static void one_status(void) {
     const struct naltvigo_cursor map = open_hex(mixed);
     uint32_t status = NALTVIGO_OK;
@@ -238,7 +238,7 @@ static void one_status(void) {
     check(*naltvigo_get_text(naltvigo_at_int(map, 1), &length, &status) == 'a' && status == NALTVIGO_OK, "one status", "OK");
     check(naltvigo_get_bool(naltvigo_at_int(map, -1), &status) == 0 && status == NALTVIGO_WRONG_KIND, "one status", "the first failure");
     check(naltvigo_get_int(naltvigo_at_int(map, 3), &status) == 0 && status == NALTVIGO_WRONG_KIND, "one status", "a second one");
-    check(naltvigo_get_count(naltvigo_at_int(map, 10), &status) == 0, "one status", "behind it");
+    check(naltvigo_get_count(naltvigo_at_int(map, 10), &status) == 0, "one status", "after it");
     status = NALTVIGO_OK;
     check(naltvigo_get_int(naltvigo_open((const uint8_t *)"\x18", 2, NULL, NULL), &status) == 0 && status == NALTVIGO_REFUSED, "one status", "of opening");
 }

@@ -1,18 +1,18 @@
-/* Reads bytes that changed under a cursor (naltvigo_cursor.h), as no caller should let them: no call may read outside the
- * input, each returns, and a walk over all items ends. Of canonical items each byte is changed to each other value, and
- * the item is cut at each place; random items are changed in some places at once.
+/* Reads bytes that changed under a cursor (naltvigo_cursor.h), which no caller should allow: no call may read outside the
+ * input, each must return, and a walk over all items must end. In canonical items each byte is changed to each other value,
+ * and the item is cut at each offset; random items are changed at several offsets at once.
  *
  *     damaged [SEED [COUNT]]
  *
- * Each input is a block of exactly its length: a sanitizer or valgrind sees what is read beside it. Prints how many
- * inputs there were; the status is 0 where all was well. */
+ * Each input is a block of exactly its length: a sanitizer or valgrind sees what is read outside it. Prints the number of
+ * inputs; the status is 0 if nothing was wrong. */
 #include <naltvigo_values.h>
 
 #include "checks.h"
 #include "hex.h"
 #include "samples.h"
 
-/* An input, how many items the walk over it came to, and how many inputs there were. */
+/* An input, the number of items in the walk over it, and the number of inputs. */
 static const uint8_t *in;
 static size_t in_length, visited;
 static unsigned long inputs, still_canonical, between_neighbours;
@@ -25,7 +25,7 @@ static void lies_within(const void *from, size_t length, uint32_t status, const 
 
 static void is_within(struct naltvigo_cursor at, const char *what) {
     if (at.status == NALTVIGO_OK)
-        check(at.item.place < at.item.content && at.item.content <= at.item.end && at.item.end <= at.length && at.length <= in_length, "within", what);
+        check(at.item.offset < at.item.content && at.item.content <= at.item.end && at.item.end <= at.length && at.length <= in_length, "within", what);
     else check(naltvigo_kind(at) == NALTVIGO_NONE, "no item", what);
 }
 
@@ -57,7 +57,7 @@ static void look_up(struct naltvigo_cursor at) {
     is_within(naltvigo_at_tag(at, at.item.number), "at_tag");
 }
 
-/* Each item begins behind the one before it, so a walk that ends comes to no more items than there are bytes. */
+/* Each item begins after the one before it, so a walk that ends has at most as many items as there are bytes. */
 static void walk(struct naltvigo_cursor at) {
     struct naltvigo_cursor member;
     check(++visited <= in_length, "walk", "ends");
@@ -66,7 +66,7 @@ static void walk(struct naltvigo_cursor at) {
     get_all(at);
     look_up(at);
     for (member = naltvigo_first(at); member.status == NALTVIGO_OK; member = naltvigo_next(member)) {
-        check(member.item.place >= at.item.content && member.item.end <= at.item.end, "walk", "in its container");
+        check(member.item.offset >= at.item.content && member.item.end <= at.item.end, "walk", "in its container");
         walk(member);
     }
     is_within(naltvigo_next(at), "next");
@@ -89,7 +89,7 @@ static void keeps_its_neighbours(const uint8_t *bytes, size_t length) {
     between_neighbours++;
 }
 
-/* Walks over an input from the item that stands there now, and from what a cursor found before the change. */
+/* Walks over an input from the item that is there now, and from what a cursor found before the change. */
 static void try_input(const uint8_t *bytes, size_t length, const struct naltvigo_cursor *before) {
     const struct naltvigo_cursor now = naltvigo_cursor_at(bytes, length, 0);
     struct naltvigo_writer writer = naltvigo_write_to(NULL, 0);

@@ -1,4 +1,4 @@
-/* Calls the functions that docs/C.md shows by themselves. The status is 0 where they answer as it says. */
+/* Calls the functions that docs/C.md shows alone. The status is 0 if they return what it says. */
 #include <naltvigo_values.h>
 
 #include "checks.h"
@@ -9,6 +9,7 @@ int64_t greatest_reading(const uint8_t *in, size_t in_length, uint64_t *scale, u
 uint64_t count_payload(const uint8_t *in, size_t in_length, uint32_t *status);
 uint32_t find_amount(const uint8_t *in, size_t in_length, struct naltvigo_item *value);
 uint32_t check_message(const uint8_t *in, size_t in_length);
+void explain_refusal(const uint8_t *in, size_t in_length, const struct naltvigo_refusal *why, char *text, size_t space);
 
 /* {1: h'0102', 2: [h'', h'030405']}, and 1,001 items. */
 static void counts_payload(void) {
@@ -25,13 +26,13 @@ static void finds_amount(void) {
     static const uint8_t map[] = {0xa2, 0x63, 'A', 'm', 't', 0x21, 0x63, 'F', 'u', 'n', 0xf5};
     struct naltvigo_item value = {0, 0, 0, 0, 0, 0};
     check(find_amount(map, sizeof map, &value) == NALTVIGO_OK, "find_amount", "status");
-    check(value.kind == 1 && value.number == 1 && value.place == 5 && value.end == 6, "find_amount", "value");
+    check(value.kind == 1 && value.number == 1 && value.offset == 5 && value.end == 6, "find_amount", "value");
     check(find_amount((const uint8_t *)"\xa0", 1, &value) == NALTVIGO_NOT_THERE, "find_amount", "no such key");
     check(find_amount((const uint8_t *)"\x80", 1, &value) == NALTVIGO_WRONG_KIND, "find_amount", "no map");
     check(find_amount(map, 5, &value) == NALTVIGO_REFUSED, "find_amount", "cut off");
 }
 
-/* {"unit": "mV", "readings": [-5, 1000]}, and as it is with a scale, and with a text in the place of the readings. */
+/* {"unit": "mV", "readings": [-5, 1000]}, the same with a scale, and with a text instead of the readings. */
 static const char encoded[] = "a264756e6974626d56687265" "6164696e6773" "82241903e8";
 static const char scaled[] = "a2657363616c6502687265" "6164696e6773" "8103";
 static const char wrong[] = "a1687265" "6164696e6773" "6161";
@@ -47,7 +48,24 @@ static void reads(const char *hex, int64_t wanted, uint64_t wanted_scale, uint32
     free(in);
 }
 
+/* {"a": [0, 0.0]}, with space for the text, for one byte too few, and for none. */
+static void explains(void) {
+    static const uint8_t in[] = {0xa1, 0x61, 'a', 0x82, 0, 0xf9, 0, 0};
+    static const char wanted[] = "A floating-point number begins here; floats are not accepted.\n"
+                                 "Encode it as an integer, as a text, or as a tag that contains integers.\n"
+                                 "$.\"a\"[1]";
+    const struct naltvigo_refusal why = {NALTVIGO_FLOAT, 5, 6};
+    char text[sizeof wanted];
+    explain_refusal(in, sizeof in, &why, text, sizeof text);
+    check(strcmp(text, wanted) == 0, "explain_refusal", text);
+    explain_refusal(in, sizeof in, &why, text, sizeof text - 1);
+    check(text[0] == 0, "explain_refusal", "a byte too few");
+    explain_refusal(in, sizeof in, &why, text, 1);
+    check(text[0] == 0, "explain_refusal", "no space");
+}
+
 int main(void) {
+    explains();
     static const int64_t readings[] = {-5, 1000};
     size_t n, length = 0;
     uint8_t *wanted = unhex(encoded, &n), *bytes = encode_readings(readings, 2, &length);

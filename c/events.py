@@ -1,6 +1,6 @@
 """Prints a C header of the tables of cbor_events' tests: events.py FOLDER > events.h
 
-The tables' own text says what their columns are.
+The comments in the tables say what the columns are.
 """
 
 import re
@@ -36,8 +36,8 @@ rows = []
 for name, status in (("ACCEPTED", "NALTVIGO_OK"), ("PREFIXES", "NALTVIGO_MORE")):
     rows += [row(given, limits, text, status, "{0, 0, 0}") for given, limits, text, _, _ in table(name)]
 reasons = dict(re.findall(r"(\w+) = (\d+),", (FOLDER / "../../../cbor_head/src/reason.rt").read_text()))
-for given, limits, text, answer, _ in table("REFUSED"):
-    reason, place, read = answer.split()
+for given, limits, text, refusal, _ in table("REFUSED"):
+    reason, place, read = refusal.split()
     rows.append(row(given, limits, text, "NALTVIGO_REFUSED", "{%s, %s, %s}" % (reasons[reason], place, read)))
 if len(rows) < 100:
     sys.exit(f"{FOLDER}: {len(rows)} rows: where are the tables?")

@@ -1,4 +1,4 @@
-/* Bytes from hex digits, each in a block of exactly their count, so that a tool sees any access beside them. */
+/* Bytes from hex digits, in a block of exactly their number, so that a tool sees any access outside it. */
 #include <stdint.h>
 #include <stdlib.h>
 #include <string.h>

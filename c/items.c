@@ -1,7 +1,7 @@
 /* Calls naltvigo_put_head, naltvigo_item_at, naltvigo_find and naltvigo_index as a C program does: each width of a
- * head, each first byte, and each canonical answer of the conformance tables, which a reader in this file, written
- * after RFC 8949, appendix C, goes over too; and these answers cut and damaged. Prints how many checks there were;
- * the status is 0 where all hold. */
+ * head, each first byte, and each canonical item of the conformance tables, which a reader in this file, written
+ * after RFC 8949, appendix C, reads too; and these items cut and damaged. Prints the number of checks;
+ * the status is 0 if all hold. */
 #include "options.h"
 #include "checks.h"
 #include "conformance.h"
@@ -67,21 +67,21 @@ static void all_heads(void) {
 static const struct naltvigo_item unset_item = {71, 72, 73, 74, 75, 76};
 
 static int same_item(const struct naltvigo_item *a, const struct naltvigo_item *b) {
-    return a->number == b->number && a->place == b->place && a->content == b->content && a->end == b->end && a->kind == b->kind;
+    return a->number == b->number && a->offset == b->offset && a->content == b->content && a->end == b->end && a->kind == b->kind;
 }
 
-/* What any bytes are answered: offsets in order, or nothing is written. */
-static uint32_t item_of_any(const uint8_t *in, size_t n, uint64_t place, struct naltvigo_item *item) {
+/* For any bytes: offsets in order, or nothing is written. */
+static uint32_t item_of_any(const uint8_t *in, size_t n, uint64_t offset, struct naltvigo_item *item) {
     *item = unset_item;
-    uint32_t s = naltvigo_item_at(in, n, place, item);
+    uint32_t s = naltvigo_item_at(in, n, offset, item);
     if (s == NALTVIGO_OK)
-        check(item->place == place && place < item->content && item->content <= item->end && item->end <= n && item->kind < 8 && item->behind == 0, "item", "offsets");
+        check(item->offset == offset && offset < item->content && item->content <= item->end && item->end <= n && item->kind < 8 && item->entries == 0, "item", "offsets");
     else
-        check(s == NALTVIGO_NOT_THERE && same_item(item, &unset_item) && item->behind == unset_item.behind, "no item", "kept");
+        check(s == NALTVIGO_NOT_THERE && same_item(item, &unset_item) && item->entries == unset_item.entries, "no item", "kept");
     return s;
 }
 
-/* Each first byte with the least argument of its width, and zeros behind that: for an array they are its members. */
+/* Each first byte with the least argument of its width, followed by zeros: for an array they are its members. */
 static void first_bytes(void) {
     static const uint64_t least[] = {24, 256, 65536, UINT64_C(4294967296)};
     for (unsigned first = 0; first < 256; first++) {
@@ -115,12 +115,12 @@ static uint64_t argument_of(const uint8_t *in, size_t *at) {
     return number;
 }
 
-/* The entries of the item at an offset, and how many they are. */
+/* The entries of the item at an offset, and their number. */
 static size_t entries_of(const uint8_t *in, size_t at, struct naltvigo_item *entries) {
     struct naltvigo_item *own = entries;
     size_t next = at, count = 1;
     own->kind = in[at] / 32;
-    own->place = at;
+    own->offset = at;
     own->number = argument_of(in, &next);
     own->content = next;
     uint64_t within = own->kind == 4 ? own->number : own->kind == 5 ? 2 * own->number : own->kind == 6;
@@ -131,34 +131,34 @@ static size_t entries_of(const uint8_t *in, size_t at, struct naltvigo_item *ent
         next = (size_t)entries[first].end;
     }
     own->end = next;
-    own->behind = (uint32_t)count;
+    own->entries = (uint32_t)count;
     return count;
 }
 
 static int same_key(const uint8_t *in, const struct naltvigo_item *a, const struct naltvigo_item *b) {
-    const size_t n = (size_t)(a->end - a->place);
-    return n == b->end - b->place && memcmp(in + a->place, in + b->place, n) == 0;
+    const size_t n = (size_t)(a->end - a->offset);
+    return n == b->end - b->offset && memcmp(in + a->offset, in + b->offset, n) == 0;
 }
 
-/* Each item, as a key, in the item as a map; and its bytes with one byte less or more, which are no item's. */
+/* Each item, as a key, in the item as a map; and its bytes with one byte less or more, which are not those of an item. */
 static void finds(const uint8_t *in, size_t n, const struct naltvigo_item *entries, size_t count, size_t map) {
     for (size_t k = 0; k < count; k++) {
         const struct naltvigo_item *key = &entries[k], *value = NULL;
         size_t pair = map + 1;
         for (uint64_t i = 0; entries[map].kind == 5 && i < entries[map].number; i++) {
-            const size_t behind = pair + entries[pair].behind;
-            if (same_key(in, &entries[pair], key)) value = &entries[behind];
-            pair = behind + entries[behind].behind;
+            const size_t of_value = pair + entries[pair].entries;
+            if (same_key(in, &entries[pair], key)) value = &entries[of_value];
+            pair = of_value + entries[of_value].entries;
         }
         const uint32_t none = entries[map].kind == 5 ? NALTVIGO_NOT_THERE : NALTVIGO_WRONG_KIND;
-        const size_t length = (size_t)(key->end - key->place);
+        const size_t length = (size_t)(key->end - key->offset);
         struct naltvigo_item found = unset_item;
-        uint32_t s = naltvigo_find(in, n, entries[map].place, in + key->place, length - 1, &found);
+        uint32_t s = naltvigo_find(in, n, entries[map].offset, in + key->offset, length - 1, &found);
         check(s == none && same_item(&found, &unset_item), "find", "a byte less");
-        if (key->end < n) s = naltvigo_find(in, n, entries[map].place, in + key->place, length + 1, &found);
+        if (key->end < n) s = naltvigo_find(in, n, entries[map].offset, in + key->offset, length + 1, &found);
         check(s == none && same_item(&found, &unset_item), "find", "a byte more");
-        s = naltvigo_find(in, n, entries[map].place, in + key->place, length, &found);
-        if (value) check(s == NALTVIGO_OK && same_item(&found, value) && found.behind == 0, "find", "value");
+        s = naltvigo_find(in, n, entries[map].offset, in + key->offset, length, &found);
+        if (value) check(s == NALTVIGO_OK && same_item(&found, value) && found.entries == 0, "find", "value");
         else check(s == none && same_item(&found, &unset_item), "find", "none");
     }
 }
@@ -172,7 +172,7 @@ static void indexes(const uint8_t *in, size_t n, const struct naltvigo_options *
         uint32_t s = naltvigo_index(in, n, options, space ? items : NULL, space, &needed, &why);
         check(s == (space < count ? NALTVIGO_TOO_SMALL : NALTVIGO_OK) && needed == count && are_equal(why, unset), "index", "status");
         for (size_t i = 0; s == NALTVIGO_OK && i < space; i++)
-            check(i < count ? same_item(&items[i], &wanted[i]) && items[i].behind == wanted[i].behind : same_item(&items[i], &unset_item), "index", "entry");
+            check(i < count ? same_item(&items[i], &wanted[i]) && items[i].entries == wanted[i].entries : same_item(&items[i], &unset_item), "index", "entry");
         free(items);
     }
 }
@@ -187,11 +187,11 @@ static void damaged(const uint8_t *in, size_t n, const uint8_t *key, size_t key_
         if (cut < n) check(item_of_any(bytes, cut, 0, &item) == NALTVIGO_NOT_THERE, "cut", "none");
         for (size_t c = 0; cut == n && n < 300 && c < n * sizeof changes; c++) {
             bytes[c / sizeof changes] ^= changes[c % sizeof changes];
-            for (size_t place = 0; place < n + 2; place++) {
-                item_of_any(bytes, n, place, &item);
+            for (size_t offset = 0; offset < n + 2; offset++) {
+                item_of_any(bytes, n, offset, &item);
                 item = unset_item;
-                uint32_t s = naltvigo_find(bytes, n, place, key, key_length, &item);
-                if (s == NALTVIGO_OK) check(item.place < item.content && item.content <= item.end && item.end <= n, "damaged", "find");
+                uint32_t s = naltvigo_find(bytes, n, offset, key, key_length, &item);
+                if (s == NALTVIGO_OK) check(item.offset < item.content && item.content <= item.end && item.end <= n, "damaged", "find");
                 else check((s == NALTVIGO_NOT_THERE || s == NALTVIGO_WRONG_KIND) && same_item(&item, &unset_item), "damaged", "kept");
             }
             bytes[c / sizeof changes] ^= changes[c % sizeof changes];
@@ -205,15 +205,15 @@ static void items_of(const struct row *row, uint32_t order) {
     uint8_t *in = unhex(row->by_order[order].canonical, &n);
     struct naltvigo_item *entries = room_for(n * sizeof *entries);
     const size_t count = entries_of(in, 0, entries);
-    check(entries[0].end == n && entries[0].behind == count, "reader", row->given);
+    check(entries[0].end == n && entries[0].entries == count, "reader", row->given);
     indexes(in, n, OF_ROW(row, order), entries, count);
     for (size_t i = 0; i < count; i++) {
         struct naltvigo_item item;
-        check(item_of_any(in, n, entries[i].place, &item) == NALTVIGO_OK && same_item(&item, &entries[i]), "item", row->given);
+        check(item_of_any(in, n, entries[i].offset, &item) == NALTVIGO_OK && same_item(&item, &entries[i]), "item", row->given);
         if (count < 100) finds(in, n, entries, count, i);
     }
     const struct naltvigo_item *key = &entries[count > 1];
-    damaged(in, n, in + key->place, (size_t)(key->end - key->place));
+    damaged(in, n, in + key->offset, (size_t)(key->end - key->offset));
     free(entries);
     free(in);
 }
@@ -243,12 +243,12 @@ static void by_hand(void) {
     check(naltvigo_find(in, sizeof in, 3, in + 4, 1, &item) == NALTVIGO_OK && same_item(&item, &wanted[4]), "find", "0");
     check(naltvigo_find(in, sizeof in, 3, in + 5, 1, &item) == NALTVIGO_NOT_THERE, "find", "true");
     check(naltvigo_find(in, sizeof in, 3, NULL, 0, &item) == NALTVIGO_NOT_THERE, "find", "no key");
-    check(naltvigo_find(in, sizeof in, 6, in + 4, 1, &item) == NALTVIGO_NOT_THERE, "find", "behind");
-    check(naltvigo_find(in, sizeof in, UINT64_MAX, in + 4, 1, &item) == NALTVIGO_NOT_THERE, "find", "far behind");
+    check(naltvigo_find(in, sizeof in, 6, in + 4, 1, &item) == NALTVIGO_NOT_THERE, "find", "after the end");
+    check(naltvigo_find(in, sizeof in, UINT64_MAX, in + 4, 1, &item) == NALTVIGO_NOT_THERE, "find", "far after the end");
     check(naltvigo_find(NULL, 0, 0, NULL, 0, &item) == NALTVIGO_NOT_THERE, "find", "NULL");
     check(item_of_any(NULL, 0, 0, &item) == NALTVIGO_NOT_THERE, "item", "NULL");
-    check(item_of_any(in, sizeof in, 6, &item) == NALTVIGO_NOT_THERE, "item", "behind");
-    check(item_of_any(in, sizeof in, UINT64_MAX, &item) == NALTVIGO_NOT_THERE, "item", "far behind");
+    check(item_of_any(in, sizeof in, 6, &item) == NALTVIGO_NOT_THERE, "item", "after the end");
+    check(item_of_any(in, sizeof in, UINT64_MAX, &item) == NALTVIGO_NOT_THERE, "item", "far after the end");
     check(naltvigo_index(NULL, 0, NULL, NULL, 0, &needed, NULL) == NALTVIGO_REFUSED && needed == 0, "index", "NULL");
     needed = 999;
     check(naltvigo_index(in, 6, OPTIONS(2, 64, 100), &item, 1, &needed, NULL) == NALTVIGO_BAD_ORDER && needed == 0, "index", "order");

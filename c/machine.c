@@ -1,6 +1,6 @@
 /* Feeds a machine of naltvigo.h each row of the events' tables, byte by byte and in larger parts, copied
- * between two steps as a program that stores it does, and compares the events. Prints how many checks there
- * were; the status is 0 where all hold. */
+ * between two steps as a program that stores it does, and compares the events. Prints the number of
+ * checks; the status is 0 if all hold. */
 #include "options.h"
 #include "checks.h"
 
@@ -22,10 +22,10 @@ struct events_row {
 static const struct naltvigo_event unset = {77, 78, 79, 80};
 
 static int are_equal(struct naltvigo_event a, struct naltvigo_event b) {
-    return a.place == b.place && a.number == b.number && a.kind == b.kind && a.width == b.width;
+    return a.offset == b.offset && a.number == b.number && a.kind == b.kind && a.width == b.width;
 }
 
-/* What a machine reported of an item: neighbouring pieces are joined. */
+/* What a machine reported about an item; adjacent pieces are joined. */
 struct reported {
     struct naltvigo_event events[64];
     size_t count;
@@ -45,13 +45,13 @@ static void compare(const struct events_row *row, const struct reported *reporte
     for (size_t i = 0; i < reported->count && i < row->count; i++)
         check(are_equal(reported->events[i], row->events[i]), "event", row->given);
     if (status == NALTVIGO_REFUSED)
-        check(why.reason == row->refusal.reason && why.place == row->refusal.place && why.read == row->refusal.read,
+        check(why.reason == row->refusal.reason && why.offset == row->refusal.offset && why.consumed == row->refusal.consumed,
               "refusal", row->given);
     else
-        check(why.reason == 77 && why.place == 78 && why.read == 79, "no refusal", row->given);
+        check(why.reason == 77 && why.offset == 78 && why.consumed == 79, "no refusal", row->given);
 }
 
-/* The events of the row, with its bytes in parts of so many. */
+/* The events of the row, with its bytes in parts of this size. */
 static void feed(const struct events_row *row, const uint8_t *in, size_t n, size_t part) {
     struct naltvigo_machine machine, copy;
     struct reported reported = {.count = 0};
@@ -73,7 +73,7 @@ static void feed(const struct events_row *row, const uint8_t *in, size_t n, size
         check((status == NALTVIGO_EVENT) == !are_equal(event, unset), "reported", row->given);
         if (status == NALTVIGO_EVENT) join(&reported, event);
     } while (status == NALTVIGO_EVENT || (status == NALTVIGO_MORE && at < n));
-    check(machine.taken == at, "taken", row->given);
+    check(machine.consumed == at, "taken", row->given);
     compare(row, &reported, status, why);
     if (status == NALTVIGO_MORE) return;
     struct naltvigo_event event = unset;
@@ -81,7 +81,7 @@ static void feed(const struct events_row *row, const uint8_t *in, size_t n, size
           "the same again", row->given);
 }
 
-/* The same events, so many a call. */
+/* The same events, up to this number in a call. */
 static void take(const struct events_row *row, const uint8_t *in, size_t n, size_t part, size_t space) {
     struct naltvigo_machine machine;
     struct reported reported = {.count = 0};
@@ -101,7 +101,7 @@ static void take(const struct events_row *row, const uint8_t *in, size_t n, size
         at += used;
         for (size_t i = 0; i < many && i < 65; i++) join(&reported, events[i]);
     } while (status == NALTVIGO_EVENT || (status == NALTVIGO_MORE && at < n));
-    check(machine.taken == at, "taken", row->given);
+    check(machine.consumed == at, "taken", row->given);
     compare(row, &reported, status, why);
 }
 
@@ -121,11 +121,11 @@ static void without_room(void) {
     size_t used = 999, reported = 999;
     naltvigo_machine_start(LIMITS(2, 8), &machine);
     check(naltvigo_machine_take(&machine, (const uint8_t *)"", 1, &used, NULL, 0, &reported, &why) == NALTVIGO_EVENT
-              && used == 0 && reported == 0 && machine.taken == 0,
+              && used == 0 && reported == 0 && machine.consumed == 0,
           "no space", "00");
 }
 
-/* Numbers that hold no machine are refused, and stay. */
+/* Numbers that are not a machine are refused, and stay unchanged. */
 static void refuses_other_numbers(void) {
     struct naltvigo_machine machine, broken;
     struct naltvigo_event event = unset;
@@ -133,12 +133,12 @@ static void refuses_other_numbers(void) {
     size_t used;
     check(naltvigo_machine_start(LIMITS(1025, 8), &machine) == NALTVIGO_BAD_LIMITS, "depth", "1025");
     check(naltvigo_machine_start(LIMITS(2, NALTVIGO_BYTES_MAX + 1), &machine) == NALTVIGO_BAD_LIMITS, "bytes", "too many");
-    /* which keys, no machine asks */
+    /* a machine ignores the kinds of keys */
     check(naltvigo_machine_start(ALL_OPTIONS(99, 99, 2, 8), &machine) == NALTVIGO_OK, "start", "2 8");
     for (int i = 0; i < 4; i++) {
         broken = machine;
         if (i == 0) broken.open = 3;
-        if (i == 1) broken.taken = broken.reported = 9;
+        if (i == 1) broken.consumed = broken.reported = 9;
         if (i == 2) broken.depth = 1025;
         if (i == 3) broken.reported = 1;
         used = 999;

@@ -1,4 +1,4 @@
-/* Refuses the Nth malloc or realloc of each call for each N, and counts what is given back. Linked with
+/* Refuses the Nth malloc or realloc of each call for each N, and counts what is freed. Linked with
  * --wrap=malloc,realloc,free. */
 #include "options.h"
 
@@ -32,10 +32,10 @@ void __wrap_free(void *p) {
     __real_free(p);
 }
 
-/* {_ "Fun": [_ 1, h'0102', {3: 4, 2: 5}], "Amt": -2, "b": (_ "st", "ream")}, and a key that is no scalar */
+/* {_ "Fun": [_ 1, h'0102', {3: 4, 2: 5}], "Amt": -2, "b": (_ "st", "ream")}, and a key that is not a scalar */
 static const uint8_t in[] = {0xbf, 0x63, 'F',  'u', 'n', 0x9f, 0x01, 0x42, 1,   2,    0xa2, 3,    4,    2,    5,   0xff, 0x63, 'A', 'm',
                              't',  0x21, 0x61, 'b', 0x7f, 0x62, 's',  't',  0x64, 'r', 'e',  'a',  'm',  0xff, 0xa1, 2,   3,    4,   0xff};
-static uint8_t out[128];
+static uint8_t out[512];
 static size_t needed;
 static uint64_t front;
 static uint32_t side;
@@ -46,9 +46,18 @@ static uint32_t length_first(void) { return naltvigo_canonicalise(in, sizeof in,
 static uint32_t check_valid(void) { return naltvigo_check_valid(in, sizeof in, LIMITS(256, 1000), &why); }
 static uint32_t compare(void) { return naltvigo_compare(in, sizeof in, in, sizeof in, LIMITS(256, 1000), &side, &why); }
 static uint32_t diagnostic(void) { return naltvigo_diagnostic(in, sizeof in, LIMITS(256, 1000), (char *)out, sizeof out, &needed, &why); }
+static uint32_t explain(void) {
+    /* a float as the value of the key {"a": 1}: the path has that key, which takes memory */
+    static const uint8_t item[] = {0x81, 0xa1, 0xa1, 0x61, 'a', 1, 0xf9, 0, 0};
+    const struct naltvigo_refusal at = {NALTVIGO_FLOAT, 6, 7};
+    uint32_t status = naltvigo_explain(item, sizeof item, LIMITS(256, 1000), &at, (char *)out, sizeof out, &needed);
+    /* as the other calls report it */
+    if (status == NALTVIGO_NO_MEMORY) why.reason = NALTVIGO_MEMORY;
+    return status;
+}
 static uint32_t check_canonical(void) { return naltvigo_check_canonical(in, sizeof in, OPTIONS(0, 256, 1000), &why); }
 
-/* The count of the item at the front stands where an answer's length stands. */
+/* The length of the item at the front is where other calls have the length of a result. */
 static uint32_t next_valid(void) {
     uint32_t status = naltvigo_next_valid(in, sizeof in, LIMITS(256, 1000), &front, &why);
     return needed = (size_t)front, status;
@@ -71,7 +80,7 @@ static uint32_t finish(void) {
     return naltvigo_finish(&w, NULL, out, sizeof out, &needed, &why);
 }
 
-/* {"Amt": -2, "Fun": [1, 2]}, by all ways that a cursor goes; and a writer that is not finished */
+/* {"Amt": -2, "Fun": [1, 2]}, with all calls of a cursor; and a writer that is not finished */
 static uint32_t look_up(void) {
     static const uint8_t item[] = {0xa2, 0x63, 'A', 'm', 't', 0x21, 0x63, 'F', 'u', 'n', 0x82, 1, 2};
     uint8_t items[8];
@@ -87,7 +96,7 @@ static uint32_t look_up(void) {
 }
 
 static int refuse_each(const char *name, uint32_t (*call)(void), uint32_t status) {
-    uint8_t before[sizeof out], answer[sizeof out];
+    uint8_t before[sizeof out], result[sizeof out];
     const struct naltvigo_refusal unset = {0, 0, 0};
     taken = live = 0, left = -1;
     memset(out, 0xaa, sizeof out);
@@ -95,7 +104,7 @@ static int refuse_each(const char *name, uint32_t (*call)(void), uint32_t status
     needed = 0;
     int bad = call() != status || live != 0;
     size_t length = needed;
-    memcpy(answer, out, sizeof out);
+    memcpy(result, out, sizeof out);
     long whole = taken, refusals = 0;
     for (long n = 1; n <= whole + 1; n++) {
         memset(out, 0xaa, sizeof out);
@@ -104,12 +113,12 @@ static int refuse_each(const char *name, uint32_t (*call)(void), uint32_t status
         left = -1;
         bad |= live != 0;
         if (n > whole) {
-            bad |= s != status || needed != length || memcmp(out, answer, sizeof out) != 0;
+            bad |= s != status || needed != length || memcmp(out, result, sizeof out) != 0;
         } else {
             refusals++;
-            bad |= s != NALTVIGO_NO_MEMORY || why.reason != NALTVIGO_MEMORY || why.place != why.read;
-            /* At the front; where the text alone could not be had, behind the input. */
-            bad |= why.read != 0 && (call != diagnostic || why.read != sizeof in);
+            bad |= s != NALTVIGO_NO_MEMORY || why.reason != NALTVIGO_MEMORY || why.offset != why.consumed;
+            /* At the front; if there was no memory only for the text, after the input. */
+            bad |= why.consumed != 0 && (call != diagnostic || why.consumed != sizeof in);
             bad |= memcmp(out, before, sizeof out) != 0 || needed != 0;
         }
     }
@@ -124,6 +133,7 @@ int main(void) {
     bad |= refuse_each("next_valid", next_valid, NALTVIGO_OK);
     bad |= refuse_each("compare", compare, NALTVIGO_OK);
     bad |= refuse_each("diagnostic", diagnostic, NALTVIGO_OK);
+    bad |= refuse_each("explain", explain, NALTVIGO_OK);
     bad |= refuse_each("finish", finish, NALTVIGO_OK);
     bad |= refuse_each("open and get", look_up, NALTVIGO_OK) || taken != 0;
     bad |= refuse_each("check_canonical", check_canonical, NALTVIGO_REFUSED) || taken != 0;

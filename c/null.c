@@ -1,6 +1,6 @@
-/* Calls each inline function of naltvigo.h with null pointers where it takes them: no options, no refusal, no input, no
- * space. What a call returns is the same with a refusal and without. Prints how many checks there were; the status is 0
- * where all hold. */
+/* Calls each inline function of naltvigo.h with null pointers where it accepts them: no options, no refusal, no input, no
+ * space. What a call returns is the same with a refusal and without. Prints the number of checks; the status is 0
+ * if all hold. */
 #include <naltvigo.h>
 #include <stddef.h>
 
@@ -11,7 +11,7 @@ enum { CALLS = 11 };
 static uint8_t out[256];
 static struct naltvigo_machine machine;
 
-/* A call on an input, and what it says of it beside its status. */
+/* A call on an input, and its results besides the status. */
 static uint32_t call(int which, const uint8_t *in, size_t length, struct naltvigo_refusal *why, uint64_t *said) {
     size_t needed = 0, used = 0;
     uint32_t side = 9, status;
@@ -56,7 +56,7 @@ int main(void) {
         for (which = 0; which < CALLS; which++) {
             const void *in = inputs[i].bytes;
             const uint32_t status = call(which, in, inputs[i].length, &why, &with);
-            check(call(which, in, inputs[i].length, NULL, &without) == status && with == without, "null", "the same answer");
+            check(call(which, in, inputs[i].length, NULL, &without) == status && with == without, "null", "the same result");
             refused += status == NALTVIGO_REFUSED;
         }
     check(refused > 25, "null", "refusals are among them");

@@ -2,7 +2,7 @@
 
     planted.py DIST
 
-DIST is what scripts/build_c.sh makes. It prints how many bugs there were, and fails where one is not found.
+DIST is what scripts/build_c.sh makes. It prints the number of bugs, and fails if one is not found.
 """
 
 import os
@@ -16,19 +16,13 @@ HERE = Path(__file__).resolve().parent
 TESTS = ["cursor", "writer", "round_trips", "damaged"]
 WRITER, CURSOR = "naltvigo_writer.h", "naltvigo_cursor.h"
 
-# The header, what stands there once, and what stands there then.
+# The header, a text that is there once, and the text that replaces it.
 BUGS = [
-    (WRITER, "~NALTVIGO_CAST(uint64_t, number)", "NALTVIGO_CAST(uint64_t, -number)"),
-    (WRITER, "length <= naltvigo_writer_room(writer)", "length < naltvigo_writer_room(writer)"),
-    (WRITER, "length > naltvigo_writer_room(writer)", "length >= naltvigo_writer_room(writer)"),
-    (WRITER, "length > SIZE_MAX - writer->needed ? SIZE_MAX : writer->needed + length", "writer->needed + length"),
-    (WRITER, "memcpy(writer->out + writer->needed,", "memcpy(writer->out,"),
-    (WRITER, " && writer->status == NALTVIGO_OK) writer", ") writer"),
-    (WRITER, "writer->status == NALTVIGO_OK || writer->status == NALTVIGO_TOO_SMALL", "writer->status == NALTVIGO_OK"),
-    (WRITER, "if (status == NALTVIGO_BAD_HEAD) naltvigo_writer_fail(writer, status);\n    else ", ""),
+    (WRITER, "writer.out_length = out ? out_length : 0", "writer.out_length = out_length"),
+    (WRITER, "NALTVIGO_ARRAY); }", "NALTVIGO_MAP); }"),
+    (WRITER, "writer, NALTVIGO_BYTES, bytes, length", "writer, NALTVIGO_TEXT, bytes, length"),
+    (WRITER, "writer, NALTVIGO_NEGATIVE, number", "writer, NALTVIGO_UNSIGNED, number"),
     (WRITER, "is_true ?", "is_true == 1 ?"),
-    (WRITER, " && item.end == length", ""),
-    (WRITER, "naltvigo_writer_fail(writer, NALTVIGO_NOT_THERE)", "naltvigo_writer_append(writer, bytes, length)"),
     (WRITER, "if (writer->status == NALTVIGO_OK)\n", "if (writer->status != NALTVIGO_TOO_SMALL)\n"),
     (WRITER, "? writer->needed : 0;\n    return", "? 0 : 0;\n    return"),
     (CURSOR, "at.in, at.item.end, at.item.content", "at.in, at.length, at.item.content"),
@@ -36,20 +30,14 @@ BUGS = [
     (CURSOR, "if (array.item.kind != NALTVIGO_ARRAY)", "if (array.item.kind < NALTVIGO_ARRAY)"),
     (CURSOR, "index && member", "index > 1 && member"),
     (CURSOR, "value.length = NALTVIGO_CAST(size_t, map.item.end);", ""),
-    (CURSOR, "~NALTVIGO_CAST(uint64_t, key)", "NALTVIGO_CAST(uint64_t, -key)"),
     (CURSOR, "it.item.kind == NALTVIGO_TEXT && ", ""),
     (CURSOR, "it.item.end - it.item.content == length", "it.item.end - it.item.content >= length"),
     (CURSOR, "it = naltvigo_next(naltvigo_next(it))", "it = naltvigo_next(it)"),
     (CURSOR, "if (length > 64)", "if (length > 80)"),
     (CURSOR, " || tag.item.number != number", ""),
-    (CURSOR, "if (*status == NALTVIGO_OK) *status = at.status;", "*status = at.status;"),
-    (CURSOR, " && at.item.kind != kind", " && at.item.kind > kind"),
-    (CURSOR, "if (*status == NALTVIGO_OK && at.item.kind == NALTVIGO_NEGATIVE)", "if (0)"),
-    (CURSOR, "if (*status == NALTVIGO_OK && at.item.kind == NALTVIGO_UNSIGNED)", "if (0)"),
-    (CURSOR, "at.item.number > INT64_MAX", "at.item.number >= INT64_MAX"),
-    (CURSOR, "-1 - NALTVIGO_CAST(int64_t, at.item.number)", "-NALTVIGO_CAST(int64_t, at.item.number)"),
-    (CURSOR, "&& number != NALTVIGO_FALSE && number != NALTVIGO_TRUE)", "&& number > NALTVIGO_TRUE)"),
-    (CURSOR, "is_map ? NALTVIGO_MAP : NALTVIGO_ARRAY, status", "is_map ? NALTVIGO_MAP : at.item.kind, status"),
+    (CURSOR, "at, NALTVIGO_NEGATIVE, status", "at, NALTVIGO_UNSIGNED, status"),
+    (CURSOR, "at.item.kind == NALTVIGO_SIMPLE && ", ""),
+    (CURSOR, "*status == NALTVIGO_OK ? NALTVIGO_CAST(const char *, text) : \"\"", "NALTVIGO_CAST(const char *, text)"),
 ]
 
 

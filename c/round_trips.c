@@ -1,10 +1,10 @@
 /* Round trips of items (naltvigo_values.h). Random values are put, finished, found again and compared. Each item of
- * canonical bytes, random or of the conformance tables, is read by a cursor: put once more it becomes the same bytes, its
+ * canonical bytes, random or of the conformance tables, is read with a cursor: put once more it becomes the same bytes, its
  * diagnostic text is the library's, and the items in it are the entries of naltvigo_index.
  *
  *     round_trips [SEED [COUNT]]
  *
- * Prints how many checks there were; the status is 0 where all hold. */
+ * Prints the number of checks; the status is 0 if all hold. */
 #include <naltvigo_values.h>
 
 #include "options.h"
@@ -12,7 +12,7 @@
 #include "conformance.h"
 #include "samples.h"
 
-/* The diagnostic text of an item as it is written; what has no space is left out. */
+/* The diagnostic text of an item while it is written; what has no space is left out. */
 static char text[1 << 16];
 static size_t text_length;
 
@@ -48,15 +48,15 @@ static void write_simple(uint8_t number) {
     else write_number("simple(", number), write_word(")");
 }
 
-/* The table of the item, and how many of its entries a cursor has come to. */
+/* The table of the item, and the number of entries that a cursor has reached. */
 static struct naltvigo_item table[1 << 16];
 static size_t table_length, entry;
 
-/* That the next entry of the table is this item; `behind` is held against what is passed until the item ends. */
+/* Checks that the next entry of the table is this item; `entries` is compared with what is passed until the item ends. */
 static const struct naltvigo_item *pass_entry(const struct naltvigo_item *item) {
     const struct naltvigo_item *of_table = &table[entry < table_length ? entry++ : 0];
-    check(of_table->place == item->place && of_table->content == item->content && of_table->end == item->end, "table", "places");
-    check(of_table->kind == item->kind && of_table->number == item->number && item->behind == 0, "table", "head");
+    check(of_table->offset == item->offset && of_table->content == item->content && of_table->end == item->end, "table", "places");
+    check(of_table->kind == item->kind && of_table->number == item->number && item->entries == 0, "table", "head");
     return of_table;
 }
 
@@ -111,7 +111,7 @@ static void copy_members(struct naltvigo_cursor at, struct naltvigo_writer *w, u
     write_word(is_map ? "}" : "]");
 }
 
-/* Puts what the cursor stands at by other calls than naltvigo_put_encoded, and writes its text (RFC 8949, section 8). */
+/* Puts the item at the cursor with calls other than naltvigo_put_encoded, and writes its text (RFC 8949, section 8). */
 static void copy(struct naltvigo_cursor at, struct naltvigo_writer *w) {
     const struct naltvigo_item *of_table = pass_entry(&at.item);
     const uint32_t kind = naltvigo_kind(at);
@@ -126,12 +126,12 @@ static void copy(struct naltvigo_cursor at, struct naltvigo_writer *w) {
         copy_scalar(at, w, &status);
     }
     check(status == NALTVIGO_OK, "copy", "status");
-    check(of_table + of_table->behind == table + entry, "table", "behind");
+    check(of_table + of_table->entries == table + entry, "table", "entries");
 }
 
 /* Canonical bytes, read and put once more, are themselves, and their text is the library's. */
 static void is_copied(const uint8_t *in, size_t n, const struct naltvigo_options *options, const char *what) {
-    const size_t space = 2 * n + 64; /* the ends of arrays take more */
+    const size_t space = 2 * n + 64; /* the ends of arrays need more */
     uint8_t *items = room_for(space), *out = room_for(n);
     char *diagnostic = room_for(8 * n + 64);
     size_t needed = 0, length;
@@ -152,15 +152,15 @@ static void is_copied(const uint8_t *in, size_t n, const struct naltvigo_options
     free(items), free(out), free(diagnostic);
 }
 
-/* Counts, writes, finishes, reads. Answers how many items that were. */
+/* Counts, writes, finishes, reads. Returns the number of items. */
 static uint64_t random_round_trip(void) {
     const uint64_t from = seed;
     struct naltvigo_writer counted = naltvigo_write_to(NULL, 0), w;
     uint8_t *items, *out;
     size_t length = 0;
-    uint64_t read, behind;
+    uint64_t read, drawn;
     put_sample(&counted, 5);
-    behind = seed;
+    drawn = seed;
     items = room_for(counted.needed), out = room_for(counted.needed);
     w = naltvigo_write_to(items, counted.needed);
     seed = from;
@@ -169,7 +169,7 @@ static uint64_t random_round_trip(void) {
     check(naltvigo_finish(&w, NULL, out, w.needed, &length, NULL) == NALTVIGO_OK && length <= w.needed, "random", "finish");
     seed = from;
     read = read_sample(naltvigo_open(out, length, NULL, NULL), 5);
-    check(seed == behind, "random", "drawn");
+    check(seed == drawn, "random", "drawn");
     is_copied(out, length, NULL, "random");
     free(items), free(out);
     return read;

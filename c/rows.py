@@ -1,6 +1,6 @@
 """Prints a C header of the conformance tables of cbor_reader's tests: rows.py TABLE.. > rows.h
 
-Their own text says what the columns are. `rows_of` and `pairs_of` are the tables for Python's tests.
+The comments in the tables say what the columns are. `rows_of` and `pairs_of` are the tables for Python's tests.
 """
 
 import re
@@ -15,13 +15,13 @@ class Limits(NamedTuple):
 
 
 def hex_of(column):
-    """The bytes that hex digits spell; `3*00` stands for 000000."""
+    """The bytes of hex digits; `3*00` means 000000."""
     words = [word.split("*") for word in column.split()]
     return "".join(word[0] if len(word) == 1 else int(word[0]) * word[1] for word in words)
 
 
 def refusal_of(column):
-    """The reason, the place and the count of `12 Trailing at 1, read 1`."""
+    """The reason, the offset and the count of `12 Trailing at 1, read 1`."""
     found = re.fullmatch(r"(\d+) \w+ at (\d+), read (\d+)", column)
     return found and tuple(int(number) for number in found.groups())
 
@@ -42,7 +42,7 @@ def row(line):
     """The input in hex, the limits, and for each order: the canonical bytes, or the refusal, and the strict refusal."""
     given, limits, plain, strict, _ = [column.strip() for column in line.split("|", 4)]
     given = hex_of(given)
-    answers = []
+    results = []
     for plain_one, strict_one in zip(by_order(plain), by_order(strict)):
         refusal = refusal_of(plain_one)
         canonical = None if refusal else given if plain_one == "same" else hex_of(plain_one)
@@ -52,15 +52,15 @@ def row(line):
             strict_one = f"12 Trailing at {taken[1]}, read {taken[1]}"
         is_own = whole or not strict_one and plain_one == "same"
         own = None if is_own else refusal_of(strict_one or plain_one)
-        answers.append((canonical, refusal, own))
-    return given, limits_of(limits), answers
+        results.append((canonical, refusal, own))
+    return given, limits_of(limits), results
 
 
 def pair(line):
     """The two inputs in hex, and 'same', 'different', or the side that is refused and its refusal."""
-    left, right, answer = [column.strip() for column in line.split("|")[:3]]
-    found = re.fullmatch(r"(left|right) (.*)", answer)
-    return hex_of(left), hex_of(right), (found[1], refusal_of(found[2])) if found else (answer, None)
+    left, right, result = [column.strip() for column in line.split("|")[:3]]
+    found = re.fullmatch(r"(left|right) (.*)", result)
+    return hex_of(left), hex_of(right), (found[1], refusal_of(found[2])) if found else (result, None)
 
 
 def lines_of(paths):
@@ -90,19 +90,19 @@ def refusal_in_c(refusal):
     return "{%d, %d, %d}" % (refusal or (0, 0, 0))
 
 
-def row_in_c(given, limits, answers):
+def row_in_c(given, limits, results):
     keys = {"any": "NALTVIGO_ANY_KEYS", "basic": "NALTVIGO_INTEGERS_AND_TEXTS"}[limits.keys]
     texts = []
-    for canonical, refusal, own in answers:
+    for canonical, refusal, own in results:
         shown = "0" if canonical is None else f'"{canonical}"'
         texts.append("{%s, %s, %s}" % (shown, refusal_in_c(refusal), refusal_in_c(own)))
     return '    {"%s", %s, %d, %d, {%s}},' % (given, keys, limits.depth, limits.most, ", ".join(texts))
 
 
-def pair_in_c(left, right, answer):
-    status = {"same": "NALTVIGO_OK", "different": "NALTVIGO_DIFFERENT"}.get(answer[0], "NALTVIGO_REFUSED")
-    side = "NALTVIGO_RIGHT" if answer[0] == "right" else "NALTVIGO_LEFT"
-    return '    {"%s", "%s", %s, %s, %s},' % (left, right, status, side, refusal_in_c(answer[1]))
+def pair_in_c(left, right, result):
+    status = {"same": "NALTVIGO_OK", "different": "NALTVIGO_DIFFERENT"}.get(result[0], "NALTVIGO_REFUSED")
+    side = "NALTVIGO_RIGHT" if result[0] == "right" else "NALTVIGO_LEFT"
+    return '    {"%s", "%s", %s, %s, %s},' % (left, right, status, side, refusal_in_c(result[1]))
 
 
 if __name__ == "__main__":

@@ -20,7 +20,7 @@ static uint64_t draw_number(void) {
     return below(3) ? edges[number % (sizeof edges / sizeof *edges)] : number >> below(64);
 }
 
-/* A string of random length; the bytes are ASCII, and those behind the first few depend on their place. */
+/* A string of random length; the bytes are ASCII, and those after the first few depend on their offset. */
 struct string {
     char bytes[300];
     size_t length;
@@ -37,7 +37,7 @@ static inline int is_string(const struct string *it, const void *bytes, size_t l
     return length == it->length && memcmp(bytes, it->bytes, length) == 0;
 }
 
-/* A key that no other number of pair in its map draws. */
+/* A key that differs from those of the other pairs in its map. */
 struct key {
     uint64_t kind, number;
     struct string text;
@@ -154,7 +154,7 @@ static inline void read_scalar(struct naltvigo_cursor at, uint64_t kind) {
     check(status == NALTVIGO_OK, "sample", "status");
 }
 
-/* Answers how many items there are, with those within. */
+/* Returns the number of items, with those inside. */
 static inline uint64_t read_sample(struct naltvigo_cursor at, int depth) {
     const uint64_t kind = depth && below(2) ? SCALARS + below(KINDS - SCALARS) : below(SCALARS);
     uint64_t count, i, items = 1;
@@ -174,7 +174,7 @@ static inline uint64_t read_sample(struct naltvigo_cursor at, int depth) {
             if (is_map) {
                 const struct key key = draw_key(i);
                 const struct naltvigo_cursor value = at_key(at, &key, 0), again = at_key(at, &key, 1);
-                check(value.status == NALTVIGO_OK && value.item.place == again.item.place, "sample", "look-ups");
+                check(value.status == NALTVIGO_OK && value.item.offset == again.item.offset, "sample", "look-ups");
                 items += (key.kind == 5 ? 2 : 1) + read_sample(value, depth - 1);
             } else {
                 items += read_sample(naltvigo_at_index(at, i), depth - 1);

@@ -1,17 +1,24 @@
-/* Measures the stack that each call needs, on a thread whose stack was painted before, over items that nest
- * to the depth that the call is passed; prints the most in bytes, as Markdown, and fails where it is more than the
- * header says. */
+/* Measures the stack that each call needs, by painting it before the call, on items that nest to the depth that is passed
+ * to the call. Prints the most in bytes, as Markdown, and fails if it is more than the header says. */
 #include "options.h"
 
-#include <pthread.h>
 #include <stdio.h>
 #include <stdlib.h>
 #include <string.h>
 
-enum { STACK = 4 << 20, PAINT = 0xa5, CALLS = 10 };
+#ifdef __GNUC__
+#define NOT_INLINE __attribute__((noinline))
+#else
+#define NOT_INLINE
+#endif
+
+/* The main thread has more on each system that this runs on; a call needs a sixteenth of this. */
+enum { PAINTED = 1 << 20, PAINT = 0xa5, CALLS = 11 };
+
+static uintptr_t lowest;
 
 static const char *const names[CALLS] = {"canonicalise", "check_canonical", "check_valid", "next_canonical",
-                                         "next_valid", "compare", "diagnostic", "index", "find", "machine_take"};
+                                         "next_valid", "compare", "diagnostic", "index", "find", "explain", "machine_take"};
 static uint8_t in[16384], out[65536];
 static struct naltvigo_item items[16384];
 static size_t length;
@@ -28,7 +35,15 @@ static void events(void) {
     while (naltvigo_machine_take(&machine, in + at, length - at, &used, space, 4, &reported, &why) == NALTVIGO_EVENT) at += used;
 }
 
-static void *work(void *unused) {
+/* The refusal of the item, or, if nothing is refused, its end. */
+static void explain(void) {
+    struct naltvigo_refusal why = {NALTVIGO_TRAILING, length, length};
+    size_t needed;
+    naltvigo_check_valid(in, length, LIMITS(depth, 1 << 20), &why);
+    naltvigo_explain(in, length, LIMITS(depth, 1 << 20), &why, (char *)out, sizeof out, &needed);
+}
+
+static void work(void) {
     struct naltvigo_refusal why;
     size_t needed;
     uint64_t front;
@@ -43,34 +58,40 @@ static void *work(void *unused) {
     case 6: naltvigo_diagnostic(in, length, LIMITS(depth, 1 << 20), (char *)out, sizeof out, &needed, &why); break;
     case 7: naltvigo_index(in, length, OPTIONS(0, depth, 1 << 20), items, sizeof items / sizeof *items, &needed, &why); break;
     case 8: naltvigo_find(in, length, 0, (const uint8_t *)"\xf5", 1, &items[0]); break;
+    case 9: explain(); break;
     default: events();
     }
-    return unused;
 }
 
-static void *nothing(void *unused) { return unused; }
+static void nothing(void) {}
 
-/* What a thread that does this writes of its stack. */
-static size_t written_by(void *(*start)(void *)) {
-    pthread_attr_t attributes;
-    pthread_t thread;
-    uint8_t *stack;
+/* Paints the stack below its caller, and notes where the paint begins. */
+static NOT_INLINE void paint(void) {
+    volatile uint8_t area[PAINTED];
+    for (size_t i = 0; i < PAINTED; i++) area[i] = PAINT;
+    lowest = (uintptr_t)area;
+}
+
+/* The number of bytes of the paint that are left, from its lowest byte on. */
+static NOT_INLINE size_t left(void) {
+    const volatile uint8_t *area = (const volatile uint8_t *)lowest;
     size_t i = 0;
-    if (posix_memalign((void **)&stack, 4096, STACK)) abort();
-    memset(stack, PAINT, STACK);
-    pthread_attr_init(&attributes);
-    if (pthread_attr_setstack(&attributes, stack, STACK) || pthread_create(&thread, &attributes, start, NULL)) abort();
-    pthread_join(thread, NULL);
-    while (i < STACK && stack[i] == PAINT) i++;
-    free(stack);
-    return STACK - i;
+    while (i < PAINTED && area[i] == PAINT) i++;
+    return i;
+}
+
+/* What a call of this writes of the stack. */
+static NOT_INLINE size_t written_by(void (*function)(void)) {
+    paint();
+    function();
+    return PAINTED - left();
 }
 
 static void put(const char *bytes, size_t count, size_t times) {
     for (; times; times--, length += count) memcpy(in + length, bytes, count);
 }
 
-/* An item that nests so deep; 0 where there is no further one. */
+/* An item of this depth; 0 if there is no further one. */
 static int make(int shape, size_t levels) {
     static const uint8_t zeros[2048];
     const size_t inner = levels ? levels - 1 : 0;
@@ -88,7 +109,7 @@ static int make(int shape, size_t levels) {
     case 9: put("\x81", 1, levels), put("\x59\x08\0", 3, 1), put((const char *)zeros, 2048, 1); break;
     case 10: put("\xa1", 1, levels), put("\xf9", 1, 1); break;
     case 11: put("\xa2\0", 2, levels), put("\0\0", 2, 1); break;
-    /* A key of the outermost map is repeated behind two deep values, and a break stands deep in the third. */
+    /* A key of the outermost map is repeated after two deep values, and a break is deep in the third. */
     case 12:
         put("\xa3\0", 2, 1), put("\x81", 1, inner), put("\0\1", 2, 1), put("\x81", 1, inner);
         put("\0\0", 2, 1), put("\x81", 1, inner), put("\xff", 1, 1);
@@ -100,7 +121,7 @@ static int make(int shape, size_t levels) {
 
 int main(void) {
     int bad = 0;
-    size_t thread = written_by(nothing);
+    const size_t least = written_by(nothing);
     printf("| depth |");
     for (int i = 0; i < CALLS; i++) printf(" `%s` |", names[i]);
     printf("\n| ---: |");
@@ -113,7 +134,7 @@ int main(void) {
         for (int shape = 0; make(shape, depth); shape++)
             for (call = 0; call < CALLS; call++) {
                 size_t written = written_by(work);
-                written = written > thread ? written - thread : 0;
+                written = written > least ? written - least : 0;
                 if (written > most[call]) most[call] = written;
             }
         printf("| %u |", (unsigned)depth);

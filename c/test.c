@@ -1,6 +1,6 @@
 /* Calls each function of naltvigo.h as a C program does: every row of the conformance tables, every size of
- * buffer near the answer's, numbers out of range, null pointers. Prints how many checks there were; the
- * status is 0 where all hold. */
+ * buffer near the result's, numbers out of range, null pointers. Prints the number of checks; the
+ * status is 0 if all hold. */
 #include "options.h"
 #include "checks.h"
 #include "conformance.h"
@@ -26,15 +26,15 @@ static void becomes(const struct row *row, uint32_t order, const uint8_t *in, si
             check(s == NALTVIGO_TOO_SMALL && all_are(out, space, 0xaa), "too small", row->given);
         } else {
             check(s == NALTVIGO_OK && memcmp(out, wanted, m) == 0, "canonical", row->given);
-            check(all_are(out + m, space - m, 0xaa), "kept behind", row->given);
+            check(all_are(out + m, space - m, 0xaa), "unchanged after", row->given);
         }
         free(out);
     }
     s = naltvigo_check_canonical(wanted, m, OF_ROW(row, order), &why);
-    check(s == NALTVIGO_OK && are_equal(why, unset), "the answer is canonical", row->given);
+    check(s == NALTVIGO_OK && are_equal(why, unset), "the result is canonical", row->given);
     uint32_t side = 9;
     s = naltvigo_compare(in, n, wanted, m, LIMITS_OF_ROW(row), &side, &why);
-    check(s == NALTVIGO_OK && side == 9 && are_equal(why, unset), "the answer means the same", row->given);
+    check(s == NALTVIGO_OK && side == 9 && are_equal(why, unset), "the result has the same value", row->given);
     free(wanted);
 }
 
@@ -48,7 +48,7 @@ static void is_refused(const struct row *row, uint32_t order, const uint8_t *in,
     check(all_are(out, sizeof out, 0xaa), "kept", row->given);
 }
 
-/* Whether this is the answer of a call for the front of an input that is one item of n bytes, or refused so. */
+/* Whether this is the result of a call for the front of an input that is one item of n bytes, or that is so refused. */
 static int is_front(uint32_t s, uint64_t taken, struct naltvigo_refusal why, struct naltvigo_refusal wanted, size_t n) {
     if (wanted.reason) return s == NALTVIGO_REFUSED && taken == 0 && are_equal(why, wanted);
     return s == NALTVIGO_OK && taken == n;
@@ -59,7 +59,7 @@ static void is_valid_or_not(const struct row *row, const uint8_t *in, size_t n) 
     size_t needed;
     uint64_t taken;
     uint32_t s = naltvigo_check_valid(in, n, LIMITS_OF_ROW(row), &why);
-    /* the limit on canonical bytes is canonicalise's alone */
+    /* only canonicalise limits canonical bytes */
     if (row->by_order[0].canonical || wanted.reason == NALTVIGO_CANONICAL_TOO_LONG) {
         check(s == NALTVIGO_OK && are_equal(why, unset), "valid", row->given);
         s = naltvigo_diagnostic(in, n, LIMITS_OF_ROW(row), NULL, 0, &needed, &why);
@@ -75,7 +75,7 @@ static void is_valid_or_not(const struct row *row, const uint8_t *in, size_t n) 
     check(wanted.reason == NALTVIGO_TRAILING || is_front(s, taken, why, wanted, n), "front", row->given);
 }
 
-static void answers(const struct row *row) {
+static void canonicalises_row(const struct row *row) {
     size_t n;
     uint8_t *in = unhex(row->given, &n);
     for (uint32_t order = 0; order < 2; order++) {
@@ -197,7 +197,7 @@ static void names(void) {
         size_t n = strlen(wanted[r - 1]);
         memset(name, 7, sizeof name);
         check(naltvigo_reason_name(r, name, sizeof name) == n && strcmp(name, wanted[r - 1]) == 0, "name", wanted[r - 1]);
-        check(all_are((uint8_t *)name + n + 1, sizeof name - n - 1, 7), "kept behind the name", wanted[r - 1]);
+        check(all_are((uint8_t *)name + n + 1, sizeof name - n - 1, 7), "unchanged after the name", wanted[r - 1]);
         memset(name, 7, sizeof name);
         check(naltvigo_reason_name(r, name, n) == n && all_are((uint8_t *)name, n, 7), "short name", wanted[r - 1]);
         check(naltvigo_reason_name(r, NULL, 0) == n, "name's length", wanted[r - 1]);
@@ -217,7 +217,7 @@ static void names(void) {
     check(naltvigo_version() == NALTVIGO_VERSION_NUMBER, "version", NALTVIGO_VERSION);
 }
 
-/* Items behind one another, and why the next one is none. */
+/* Items one after another, and why no other item follows. */
 static void sequences(void) {
     /* [_ 1], "a", {2: 0}, and a break */
     static const uint8_t in[] = {0x9f, 1, 0xff, 0x61, 0x61, 0xa1, 2, 0, 0xff};
@@ -251,7 +251,7 @@ static void sequences(void) {
     check(are_equal(why, unset), "untold", "next");
 }
 
-/* What a null pointer for the options stands for: bytewise, keys of any kind, 64 levels, 2^20 bytes. */
+/* What a null pointer for the options means: bytewise, keys of any kind, 64 levels, 2^20 bytes. */
 static void defaults(void) {
     const uint8_t keys[] = {0xa2, 0x20, 0, 0x18, 0x64, 0}; /* {-1: 0, 100: 0} */
     struct naltvigo_refusal why = unset;
@@ -261,7 +261,7 @@ static void defaults(void) {
     uint8_t tower[66];
     memset(tower, 0x81, sizeof tower);
     tower[64] = 0x80;
-    check(naltvigo_check_valid(tower, 65, NULL, &why) == NALTVIGO_REFUSED && why.place == 64, "defaults", "65 levels");
+    check(naltvigo_check_valid(tower, 65, NULL, &why) == NALTVIGO_REFUSED && why.offset == 64, "defaults", "65 levels");
     tower[63] = 0x80;
     check(naltvigo_check_valid(tower, 64, NULL, &why) == NALTVIGO_OK, "defaults", "64 levels");
     size_t most = (size_t)1 << 20;
@@ -274,7 +274,7 @@ static void defaults(void) {
     free(text);
 }
 
-/* A caller that does not ask why: of a break, which each call refuses, and of what it accepts. */
+/* A caller that does not ask why: for a break, which each call refuses, and for what it accepts. */
 static void no_refusal_wanted(void) {
     const uint8_t stray = 0xff, one = 1;
     uint8_t out[8];
@@ -301,7 +301,7 @@ static void no_refusal_wanted(void) {
 }
 
 int main(void) {
-    for (size_t i = 0; i < sizeof rows / sizeof *rows; i++) answers(&rows[i]);
+    for (size_t i = 0; i < sizeof rows / sizeof *rows; i++) canonicalises_row(&rows[i]);
     for (size_t i = 0; i < sizeof pairs / sizeof *pairs; i++) compares(&pairs[i]);
     reads("1bffffffffffffffff", "18446744073709551615");
     reads("3bffffffffffffffff", "-18446744073709551616");

@@ -1,5 +1,5 @@
 /* values: reads lines of hex digits, each an item. Writes the canonical bytes of each value that was read, put anew, to a
- * line, in hex digits, or `refused 5 Float at 1`: values [bytewise|length] < LINES. */
+ * line, in hex digits, or `refused 5 Float at 1`: values [bytewise|length [MAX_BYTES]] < LINES. */
 #include <naltvigo_values.h>
 #include <stdio.h>
 #include <stdlib.h>
@@ -43,7 +43,7 @@ static void *room_for(size_t length) {
 }
 
 /* Writes the line of an item: its canonical bytes are read, put and finished. */
-static void answer(const uint8_t *in, size_t length, const struct naltvigo_options *options) {
+static void write_line(const uint8_t *in, size_t length, const struct naltvigo_options *options) {
     struct naltvigo_refusal why = {0, 0, 0};
     size_t needed = 0, i;
     uint8_t *canonical = room_for(2 * length + 16), *items, *out;
@@ -51,7 +51,7 @@ static void answer(const uint8_t *in, size_t length, const struct naltvigo_optio
     if (status == NALTVIGO_REFUSED) {
         char name[NALTVIGO_NAME_MAX];
         naltvigo_reason_name(why.reason, name, sizeof name);
-        printf("refused %d %s at %llu\n", (int)why.reason, name, (unsigned long long)why.place);
+        printf("refused %d %s at %llu\n", (int)why.reason, name, (unsigned long long)why.offset);
     } else {
         const struct naltvigo_cursor root = naltvigo_open(canonical, needed, options, NULL);
         struct naltvigo_writer writer = naltvigo_write_to(NULL, 0);
@@ -84,9 +84,10 @@ int main(int count, char **words) {
     options.depth = NALTVIGO_DEPTH_MAX;
     options.bytes = 1 << 30;
     if (count > 1) options.order = strcmp(words[1], "length") == 0 ? NALTVIGO_LENGTH_FIRST : NALTVIGO_BYTEWISE;
+    if (count > 2) options.bytes = strtoull(words[2], NULL, 10);
     while ((high = getchar()) != EOF) {
         if (high == '\n') {
-            answer(in, length, &options);
+            write_line(in, length, &options);
             length = 0;
             continue;
         }

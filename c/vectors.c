@@ -1,5 +1,5 @@
-/* Holds the library against the answers of another machine's: vectors FILE, which fuzz/vectors.py writes and describes.
- * Prints how many calls there were; the status is 0 where all answers are equal. */
+/* Compares the library with the results of another machine's: vectors FILE, which fuzz/vectors.py writes and describes.
+ * Prints the number of calls; the status is 0 if all results are equal. */
 #include <naltvigo.h>
 
 #include <stdio.h>
@@ -9,17 +9,17 @@
 enum { MOST = 1 << 16 };
 static uint8_t in[MOST], before[MOST], out[4 * MOST];
 static size_t length, length_before = 1;
-static char line[1 << 20], answers[1 << 20];
+static char line[1 << 20], results[1 << 20];
 static struct naltvigo_options options;
 static struct naltvigo_refusal why;
 
-/* Where the next answer is written. */
+/* Where the next result is written. */
 static char *at;
 
 static void status_is(uint32_t status) {
     at += sprintf(at, "|%u", (unsigned)status);
     if (status == NALTVIGO_REFUSED || status == NALTVIGO_NO_MEMORY)
-        at += sprintf(at, " %u %lu %lu", (unsigned)why.reason, (unsigned long)why.place, (unsigned long)why.read);
+        at += sprintf(at, " %u %llu %llu", (unsigned)why.reason, (unsigned long long)why.offset, (unsigned long long)why.consumed);
 }
 
 static void plain(uint32_t status) {
@@ -29,7 +29,7 @@ static void plain(uint32_t status) {
 
 static void with_count(uint32_t status, uint64_t count) {
     status_is(status);
-    at += sprintf(at, " %lu", (unsigned long)count);
+    at += sprintf(at, " %llu", (unsigned long long)count);
 }
 
 static void with_bytes(uint32_t status, size_t count) {
@@ -38,13 +38,13 @@ static void with_bytes(uint32_t status, size_t count) {
     for (size_t i = 0; status == NALTVIGO_OK && i < count; i++) at += sprintf(at, "%02x", out[i]);
 }
 
-/* The options and the input at the front of the line; answers the rest of it, from the first bar on. */
+/* The options and the input at the front of the line; returns the rest of it, from the first bar on. */
 static char *read_line(void) {
     char *bar = strchr(line, '|');
     unsigned order, keys, depth;
-    unsigned long bytes;
+    unsigned long long bytes;
     int used;
-    if (!bar || sscanf(line, "%u %u %u %lu %n", &order, &keys, &depth, &bytes, &used) != 4) abort();
+    if (!bar || sscanf(line, "%u %u %u %llu %n", &order, &keys, &depth, &bytes, &used) != 4) abort();
     options.order = order, options.keys = keys, options.depth = depth, options.bytes = bytes;
     length = 0;
     for (const char *hex = line + used; hex < bar && *hex != '-'; hex += 2) {
@@ -55,11 +55,11 @@ static char *read_line(void) {
     return bar;
 }
 
-static void make_answers(void) {
+static void make_results(void) {
     size_t needed;
     uint64_t taken;
     uint32_t side, status;
-    at = answers;
+    at = results;
     status = naltvigo_canonicalise(in, length, &options, out, sizeof out, &needed, &why), with_bytes(status, needed);
     plain(naltvigo_check_valid(in, length, &options, &why));
     plain(naltvigo_check_canonical(in, length, &options, &why));
@@ -78,11 +78,11 @@ int main(int count, char **words) {
     while (fgets(line, sizeof line, file)) {
         line[strcspn(line, "\n")] = 0;
         const char *wanted = read_line();
-        make_answers();
-        if (strcmp(answers, wanted) != 0 && wrong++ < 5) fprintf(stderr, "%s\nis answered %s\n", line, answers);
+        make_results();
+        if (strcmp(results, wanted) != 0 && wrong++ < 5) fprintf(stderr, "%s\nreturns %s\n", line, results);
         memcpy(before, in, length), length_before = length;
         lines++;
     }
-    printf("%lu inputs, %lu calls, %lu answered otherwise\n", lines, 7 * lines, wrong);
+    printf("%lu inputs, %lu calls, %lu returned otherwise\n", lines, 7 * lines, wrong);
     return wrong != 0 || lines == 0;
 }

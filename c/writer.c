@@ -1,5 +1,5 @@
-/* Puts values by a writer (naltvigo_writer.h), and reads integers back. The bytes are those of RFC 8949, appendix A and
- * section 4.2.1, or worked out by hand. Prints how many checks there were; the status is 0 where all hold. */
+/* Puts values with a writer (naltvigo_writer.h), and reads integers back. The bytes are those of RFC 8949, appendix A and
+ * section 4.2.1, or worked out by hand. Prints the number of checks; the status is 0 if all hold. */
 #include <naltvigo_values.h>
 
 #include "checks.h"
@@ -49,7 +49,7 @@ static const struct {
     {UINT64_MAX, "1bffffffffffffffff"},
 };
 
-/* Puts an integer: unsigned, or -1 less the number; by its own call, or as int64_t where it is in range. */
+/* Puts an integer: unsigned, or -1 minus the number; with its own call, or as int64_t if it is in range. */
 static void puts_integer(uint64_t number, int is_negative, int by_int, const char *hex) {
     uint8_t items[9];
     struct naltvigo_writer writer = naltvigo_write_to(items, sizeof items);
@@ -90,7 +90,7 @@ static void integers_both_ways(void) {
     }
 }
 
-/* ---- Other items, by all ways to put them */
+/* ---- Other items, with all calls that put them */
 
 static void put_24_tags(struct naltvigo_writer *w) {
     naltvigo_put_tag(w, 24);
@@ -114,7 +114,7 @@ static void put_keys_in_no_order(struct naltvigo_writer *w) {
     naltvigo_put_text(w, "aa"), naltvigo_put_int(w, 1);
 }
 
-/* Puts a row's items, and returns their canonical bytes; null behind the last row. */
+/* Puts a row's items, and returns their canonical bytes; null after the last row. */
 static const char *put_scalar(int row, struct naltvigo_writer *w) {
     switch (row) {
     case 0: return naltvigo_put_bool(w, 0), "f4";
@@ -187,7 +187,7 @@ static int puts_row(const char *(*put)(int, struct naltvigo_writer *), int row) 
 
 /* ---- What goes wrong in writing */
 
-/* There are no simple values from 24 to 31, and more space does not mend that. */
+/* There are no simple values from 24 to 31, and more space does not fix that. */
 static void simple_values_that_do_not_exist(void) {
     for (int number = 0; number < 256; number++) {
         uint8_t items[4];
@@ -202,7 +202,7 @@ static void simple_values_that_do_not_exist(void) {
     }
 }
 
-/* Bytes that would end the array around them, or take their neighbour, are not put. */
+/* Bytes that would end the array around them, or include the next item, are not put. */
 static void only_whole_items_are_put(void) {
     static const char *const others[] = {"", "0101", "01ff", "ff", "81", "4201", "18", "1c", "a100", "c1", "8201", "9f01ff", "5f4101ff"};
     static const char *const whole[] = {"00", "420102", "82018102", "a10002", "c100", "1800", "f6"};
@@ -226,12 +226,12 @@ static void only_whole_items_are_put(void) {
     }
 }
 
-static void is_refused(const struct naltvigo_writer *writer, uint32_t reason, uint64_t place, const char *what) {
+static void is_refused(const struct naltvigo_writer *writer, uint32_t reason, uint64_t offset, const char *what) {
     uint8_t out[64];
     size_t needed = 999;
     struct naltvigo_refusal why = unset;
     check(naltvigo_finish(writer, NULL, out, sizeof out, &needed, &why) == NALTVIGO_REFUSED && needed == 0, "refused", what);
-    check(why.reason == reason && why.place == place, "why", what);
+    check(why.reason == reason && why.offset == offset, "why", what);
 }
 
 static void mistakes_are_refused(void) {
@@ -245,7 +245,7 @@ static void mistakes_are_refused(void) {
     is_refused(&w, NALTVIGO_TRAILING, 3, "three of two members");
     w = one_of_two; /* back to there */
     naltvigo_put_end(&w);
-    is_refused(&w, NALTVIGO_STRAY_BREAK, 2, "an end behind a count");
+    is_refused(&w, NALTVIGO_STRAY_BREAK, 2, "an end after a count");
     w = naltvigo_write_to(items, sizeof items);
     naltvigo_put_map(&w), naltvigo_put_int(&w, 1), naltvigo_put_end(&w);
     is_refused(&w, NALTVIGO_STRAY_BREAK, 2, "a key without a value");
@@ -273,13 +273,13 @@ static void finishes_by_options(void) {
     check(naltvigo_finish(&writer, &options, NULL, 0, &needed, NULL) == NALTVIGO_REFUSED && needed == 0, "options", "depth");
 }
 
-/* A count that does not fit stays at the greatest. */
+/* A count that does not fit stays at the maximum. */
 static void counts_without_wrapping(void) {
     struct naltvigo_writer writer = naltvigo_write_to(NULL, 0);
-    naltvigo_writer_append(&writer, NULL, SIZE_MAX - 1);
+    writer.needed = SIZE_MAX - 1; /* as after so many bytes */
     naltvigo_put_int(&writer, 1000);
     check(writer.needed == SIZE_MAX && writer.status == NALTVIGO_TOO_SMALL, "count", "greatest");
-    writer = naltvigo_write_to(NULL, 100); /* nothing is written to no buffer, whatever its length */
+    writer = naltvigo_write_to(NULL, 100); /* nothing is written to a null buffer, whatever its length */
     naltvigo_put_text(&writer, "abc");
     check(writer.needed == 4 && writer.status == NALTVIGO_TOO_SMALL, "count", "no buffer");
 }

@@ -1,8 +1,8 @@
-"""That no string in one piece is copied into a view's arena, for fuzz/memory.py.
+"""Checks that no string in one piece is copied into a view's arena, for fuzz/memory.py.
 
 `read_view` reads each valid row of the conformance tables and random valid items. It reads each once more with longer
-strings: to each byte string and text in one piece, key or member, as many bytes are added as would be seen in the
-arena. The arena takes the same for both.
+strings: to each byte string and text in one piece, key or member, so many bytes are added that a copy would be seen in the
+arena. The arena must have the same size for both.
 """
 
 import random
@@ -10,25 +10,25 @@ import subprocess
 
 from items import Items
 from large import head
-from reference import ANY_KEYS, Answers, Limits
+from reference import ANY_KEYS, Limits, Results
 from run import driver_line
 from values import ARRAY, BYTES, MAP, TAG, TEXT
 
-# How many bytes a string becomes longer, and how many random items are tried.
+# The number of bytes added to a string, and the number of random items.
 MORE = 10_000
 RANDOM_ITEMS = 300
 MOST = 1 << 40
 
 
 class Longer:
-    """A valid item with longer strings, but for those in chunks."""
+    """A valid item with longer strings, except those in chunks."""
 
     def __init__(self, given):
         self.given, self.at, self.found = given, 0, []
         self.item()
 
     def item(self):
-        """Goes over an item or a break; whether it was a break."""
+        """Reads an item or a break; returns whether it was a break."""
         start, first = self.at, self.given[self.at]
         major, low = first >> 5, first & 31
         width = 1 << low - 24 if 24 <= low < 28 else 0
@@ -51,7 +51,7 @@ class Longer:
         return first == 0xFF
 
     def chunks(self):
-        """How many bytes the chunks of a string have with their break."""
+        """The number of bytes of a string's chunks with their break."""
         at = self.at
         while self.given[at] != 0xFF:
             low = self.given[at] & 31
@@ -67,19 +67,19 @@ def inputs(rows):
     tried = [(row.given, row.limits) for row in rows]
     tried += [(items.item(), Limits(64, MOST, ANY_KEYS)) for _ in range(RANDOM_ITEMS)]
     for given, limits in tried:
-        answers = Answers(given, limits)
-        if answers.plain is None:
-            yield given[: answers.size], limits._replace(most=MOST)
+        results = Results(given, limits)
+        if results.plain is None:
+            yield given[: results.size], limits._replace(most=MOST)
 
 
 def look_into_arenas(program, rows):
-    """How many items were read, and what went wrong."""
+    """The number of items that were read, and what went wrong."""
     tried = [(given, b"".join(Longer(given).found), limits) for given, limits in inputs(rows)]
     lines = [f"arena {driver_line(it, limits)}" for *both, limits in tried for it in both]
     ran = subprocess.run([program], input="".join(lines).encode(), capture_output=True, check=True)
-    answers = [it.split() for it in ran.stdout.decode().splitlines()]
+    results = [it.split() for it in ran.stdout.decode().splitlines()]
     wrong = []
-    for (given, longer, _), usual, found in zip(tried, answers[::2], answers[1::2], strict=True):
+    for (given, longer, _), usual, found in zip(tried, results[::2], results[1::2], strict=True):
         if [usual[0], found[0], usual[1]] != [str(len(given)), str(len(longer)), found[1]]:
             wrong.append(f"{given.hex()}: its view has {usual}, with longer strings {found}")
     return len(tried), wrong

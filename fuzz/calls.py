@@ -1,32 +1,32 @@
-"""What the strict reader has to answer call by call, and to ask of its reader, from the form of the input."""
+"""What each call of the strict reader must return, and what it must request from its reader, from the form of the input."""
 
 TRUNCATED, TOO_LONG, FORM_REASONS = 1, 2, range(3, 10)
 
-# A payload is asked for in parts of at most so many bytes.
+# A payload is requested in parts of at most this many bytes.
 PART = 512
 
 
 class Strictly:
-    """What `StrictReader` is, behind each count of bytes, on an input; see crates/answers for the words."""
+    """The state of `StrictReader` on an input after each number of bytes; crates/fuzz_readers explains the words."""
 
-    def __init__(self, answers):
-        self.answers, self.form = answers, answers.form
+    def __init__(self, results):
+        self.results, self.form = results, results.form
         self.events = {it.end: it for it in self.form.events}
         self.open, self.spans, self.kept = self.form.opened(), self.form.opened(of_maps=True), self.form.kept()
 
     def word(self, order, part):
-        """The answers over a reader that gives at most so many bytes a read."""
+        """The results with a reader that returns at most this many bytes a read."""
         return Calls(self, order, part).word()
 
 
 class Calls:
     def __init__(self, of, order, part):
-        self.of, self.refused, self.part = of, of.answers.strict[order], part
+        self.of, self.refused, self.part = of, of.results.strict[order], part
         self.taken = self.held = 0
-        self.asked, self.reported = [], []
+        self.requested, self.reported = [], []
 
     def word(self):
-        it = self.of.answers
+        it = self.of.results
         self.read_on()
         if self.refused:
             last = "!%d,%d,%d" % self.refused
@@ -34,22 +34,22 @@ class Calls:
         else:
             last = "none"
         calls = "".join(self.reported) + 3 * self.call(last, self.refused)
-        return f"{calls}:{''.join(f'{count}+' for count in self.asked)}:{len(it.given) - self.taken}"
+        return f"{calls}:{''.join(f'{count}+' for count in self.requested)}:{len(it.given) - self.taken}"
 
-    def call(self, answer, refused=None):
-        """An answer, and how the reader stands behind it."""
-        # the byte that may not stand there opens nothing
+    def call(self, result, refused=None):
+        """A result, and the state of the reader after it."""
+        # a byte that cannot follow opens nothing
         at = self.taken - (refused is not None and refused.reason in FORM_REASONS)
         spans, kept = (0, 0) if refused else (self.of.spans[at], self.of.kept[at])
-        return f"{answer},{self.taken},{self.of.open[at]},{spans},{kept},{self.held};"
+        return f"{result},{self.taken},{self.of.open[at]},{spans},{kept},{self.held};"
 
     def read(self, wanted):
-        """How many bytes come of those that are wanted: nothing is asked for past the limit."""
-        wanted = min(wanted, self.of.answers.limits.most - self.taken)
+        """The number of bytes that are read of those requested: nothing is requested past the limit."""
+        wanted = min(wanted, self.of.results.limits.most - self.taken)
         if wanted == 0:
             return 0
-        self.asked.append(wanted)
-        count = min(wanted, self.part, len(self.of.answers.given) - self.taken)
+        self.requested.append(wanted)
+        count = min(wanted, self.part, len(self.of.results.given) - self.taken)
         self.taken += count
         return count
 
@@ -63,19 +63,19 @@ class Calls:
                 if count == 0 or self.is_refused():
                     return
                 if take.is_payload:
-                    self.tell_piece(count)
+                    self.report_piece(count)
                 elif left == 0 and self.taken in self.of.events:
-                    self.tell(self.of.events[self.taken])
+                    self.report(self.of.events[self.taken])
 
     def is_refused(self):
-        """Whether the refusal stands in place of what ends here; the end of the input is met by a read alone."""
+        """Whether the refusal replaces the event that ends here; only a read notices the end of the input."""
         it = self.refused
         return it and it.reason not in (TRUNCATED, TOO_LONG) and it.read == self.taken
 
-    def tell(self, event):
+    def report(self, event):
         self.reported.append(self.call(f"{event.name},{event.argument},{event.place},{event.width}"))
 
-    def tell_piece(self, count):
+    def report_piece(self, count):
         place = self.taken - count
         self.held = count
         self.reported.append(self.call(f"piece,{count},{place},0,{self.of.form.bytes[place : self.taken].hex()}"))

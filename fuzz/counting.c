@@ -1,6 +1,6 @@
-// Stands between a program and the C library: counts the requests for memory, refuses the one whose number is in
-// REFUSED_REQUEST, or all from that in REFUSED_FROM on, and writes to the file COUNTS how many bytes were asked for,
-// and each request: its kind and size, and a number for the calls that it came from.
+// Runs between a program and the C library: counts the requests for memory, refuses the one whose number is in
+// REFUSED_REQUEST, or all from that in REFUSED_FROM on, and writes to the file COUNTS how many bytes were requested,
+// and for each request its kind, its size, and a number for the calls that made it.
 #define _GNU_SOURCE
 #include <dlfcn.h>
 #include <errno.h>
@@ -11,7 +11,7 @@
 #include <stdlib.h>
 #include <unistd.h>
 
-// NEAR: how many words of the stack are looked at.
+// NEAR: the number of words of the stack that are examined.
 enum { LISTED = 1 << 16, NEAR = 64 };
 
 static unsigned long requests, bytes, refused, refused_from;
@@ -33,14 +33,14 @@ static int find_text(struct dl_phdr_info *info, size_t size, void *unused) {
     return 1;
 }
 
-// Whether a call of the program ends here: by a distance, a register or a word of memory.
+// Whether a call instruction of the program ends here: of a distance, a register or a word of memory.
 static int is_behind_call(const unsigned char *at) {
     if (at < text + 6 || at >= text_end) return 0;
     return at[-5] == 0xe8 || (at[-2] == 0xff && (at[-1] & 0x38) == 0x10) || (at[-6] == 0xff && at[-5] == 0x15);
 }
 
-// What stands on the stack near its top and lies behind a call. What an earlier call left there counts too, so
-// requests from one place may get unlike numbers.
+// The return addresses on the stack near its top. Those that an earlier call left there count too, so
+// requests from one place may get different numbers.
 static uint32_t calls(void) {
     const unsigned char *const *word = __builtin_frame_address(0);
     uint32_t number = 0;

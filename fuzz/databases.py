@@ -1,28 +1,30 @@
 #!/usr/bin/env python3
-"""Random items and bytes, and what the functions of the database extensions have to answer of them.
+"""Random items and bytes, and what the functions of the database extensions must return for them.
 
     databases.py sqlite EXTENSION [COUNT [SEED]]    loads the extension, and tries COUNT blobs
-    databases.py postgresql [COUNT [SEED]]          writes SQL that does the same; each count it ends with has to be 0
+    databases.py postgresql [COUNT [SEED]]          writes SQL that does the same; each count at its end must be 0
 
-The answers are those of reference.py and values.py, which took nothing from the library. COUNT is 10000 without a word.
+The results are those of reference.py and values.py, which use nothing from the library. COUNT is 10000 by default.
 """
 
 import random
+import re
 import sqlite3
 import sys
 from collections import Counter, namedtuple
 
 from items import Items
-from reference import ANY_KEYS, REASONS, Answers, Limits, Refusal
-from values import BYTEWISE, LENGTH_FIRST, MAP, NEGATIVE, TEXT, UNSIGNED, canonical, diagnostic, meaning
+from reference import ANY_KEYS, REASONS, Limits, Refusal, Results
+from values import ARRAY, BYTES, BYTEWISE, LENGTH_FIRST, MAP, NEGATIVE, SIMPLE, TAG, TEXT, UNSIGNED, canonical, diagnostic, meaning
 
 # The constants of both extensions.
 LIMITS = Limits(256, 1 << 25, ANY_KEYS)
 ORDERS = {"bytewise": BYTEWISE, "length": LENGTH_FIRST}
 
-# A blob and what is to be answered: `canonical` and `is_canonical` by order, `refusal` or None, `other` and whether it is
-# the same, `keys` and what stands there. What needs a valid item and has none is a refusal.
-Case = namedtuple("Case", "given canonical is_canonical refusal text other same keys found")
+# A blob and what is to be returned: `canonical` and `is_canonical` by order, `refusal` or None, `other` and whether it is
+# the same, `steps` and the item at this path, `natives` of that item by the name of a call, `rows` of cbor_each. What needs a
+# valid item and has none is a refusal.
+Case = namedtuple("Case", "given canonical is_canonical refusal text other same steps found natives rows value")
 
 
 def line(refusal):
@@ -30,7 +32,7 @@ def line(refusal):
 
 
 def key_of(value):
-    """An integer or a text as SQL has it, of a key; None for another one."""
+    """An integer or a text of a key as in SQL; None for another key."""
     if value[0] == UNSIGNED and value[1] < 1 << 63:
         return value[1]
     if value[0] == NEGATIVE and value[1] < 1 << 63:
@@ -46,28 +48,61 @@ def value_of(key):
     return (UNSIGNED, key) if key >= 0 else (NEGATIVE, -1 - key)
 
 
-def at(value, keys):
-    """The value at a key, at the next key in that, and so on; or None."""
-    for key in keys:
-        pairs = value[1] if value[0] == MAP else ()
-        value = next((content for it, content in pairs if meaning(it) == meaning(value_of(key))), None)
-        if value is None:
-            return None
+def step(value, key):
+    """The value at a key of a map, at an index of an array, in a tag of this number; or None."""
+    if value[0] == MAP:
+        return next((content for it, content in value[1] if meaning(it) == meaning(value_of(key))), None)
+    if value[0] == ARRAY and key in range(len(value[1])):
+        return value[1][key]
+    return value[2] if value[0] == TAG and key == value[1] else None
+
+
+def at(value, steps):
+    """The value at a path, or None."""
+    for key in steps:
+        value = value and step(value, key)
     return value
+
+
+def natives(value):
+    """What each call for a value of SQL returns."""
+    number = key_of(value) if value and value[0] in (UNSIGNED, NEGATIVE) else None
+    return {
+        "int": number,
+        "text": key_of(value) if value and value[0] == TEXT else None,
+        "bytes": value[1] if value and value[0] == BYTES else None,
+        "bool": value[1] == 21 if value and value[0] == SIMPLE and value[1] in (20, 21) else None,
+    }
+
+
+def rows_of(value):
+    """The rows of cbor_each: a key or None, and a value."""
+    if value[0] == MAP:
+        pairs = [(canonical(BYTEWISE, key), canonical(BYTEWISE, content)) for key, content in value[1]]
+        return sorted(pairs)
+    return [(None, canonical(BYTEWISE, it)) for it in value[1]] if value[0] == ARRAY else []
 
 
 class Cases:
     def __init__(self, seed):
         self.chance = random.Random(seed)
         self.items = Items(self.chance)
-        self.last = Answers(b"\x00", LIMITS)
+        self.last = Results(b"\x00", LIMITS)
 
-    def keys(self, value):
-        """One or two keys, most of them such as lead somewhere."""
+    def there(self, value):
+        """The steps from a value that lead somewhere and that SQL has."""
+        if value and value[0] == ARRAY:
+            return list(range(len(value[1])))
+        if value and value[0] == TAG:
+            return [value[1]] if value[1] < 1 << 63 else []
+        pairs = value[1] if value and value[0] == MAP else ()
+        return [key for key in (key_of(key) for key, _ in pairs) if key is not None]
+
+    def steps(self, value):
+        """One or two steps, most of them such as lead somewhere."""
         found = []
         for _ in range(self.chance.choice([1, 1, 2])):
-            pairs = value[1] if value and value[0] == MAP else ()
-            there = [key for key in (key_of(key) for key, _ in pairs) if key is not None]
+            there = self.there(value)
             if there and self.chance.random() < 0.8:
                 found.append(self.chance.choice(there))
             else:
@@ -88,26 +123,29 @@ class Cases:
 
     def next(self):
         given = self.given()
-        answers = Answers(given, LIMITS)
-        refused = answers.whole(answers.plain)
-        value = None if refused else answers.value
+        results = Results(given, LIMITS)
+        refused = results.whole(results.plain)
+        value = None if refused else results.value
         # an item with the same value, or nearly
         if value and self.chance.random() < 0.5:
-            self.last = Answers(self.items.spell(self.items.like(value), 0.4), LIMITS)
+            self.last = Results(self.items.spell(self.items.like(value), 0.4), LIMITS)
         other = self.last.whole(self.last.plain)
         same = refused or other or meaning(value) == meaning(self.last.value)
-        keys = self.keys(value)
-        found = refused or at(value, keys)
+        steps = self.steps(value)
+        found = refused or at(value, steps)
         return Case(
             given,
-            {name: answers.canonicalised(order) for name, order in ORDERS.items()},
-            {name: answers.whole(answers.strict[order]) is None for name, order in ORDERS.items()},
+            {name: results.canonicalised(order) for name, order in ORDERS.items()},
+            {name: results.whole(results.strict[order]) is None for name, order in ORDERS.items()},
             refused and line(refused),
             refused or diagnostic(value).decode(),
             self.last.given,
             ("left: " if refused else "right: ") + line(same) if isinstance(same, Refusal) else same,
-            keys,
+            steps,
             found if refused or found is None else canonical(BYTEWISE, found),
+            natives(None if refused else found),
+            refused or rows_of(value),
+            value,
         )
 
 
@@ -116,9 +154,11 @@ class Cases:
 
 def asked(database, sql, words):
     try:
-        return database.execute(f"SELECT {sql}", words).fetchone()[0]
+        found = database.execute(f"SELECT {sql}", words).fetchall()
+        return found if " FROM " in sql else found[0][0]
     except sqlite3.OperationalError as error:
-        return error.args
+        # without path and sentence, which come from the library
+        return (re.sub(r"( at \d+) \(\$.*?\): .*", r"\1", str(error)),)
 
 
 def error(refusal):
@@ -132,6 +172,24 @@ def expect(case, sql, words, wanted):
     found = asked(expect.database, sql, words)
     if found != wanted:
         sys.exit(f"{sql} of {case.given.hex()} {words[1:]}\n  wanted {wanted}\n  found  {found}")
+
+
+def expect_values(case):
+    """The item at a path, the rows, and the same item made of them."""
+    given, path = (case.given, *case.steps), f"(?{', ?' * len(case.steps)})"
+    expect(case, f"cbor_get{path}", given, case.found)
+    for name, wanted in case.natives.items():
+        expect(case, f"cbor_{name}{path}", given, case.found if isinstance(case.found, Refusal) else wanted)
+        if isinstance(case.found, bytes):
+            expect(case, f"cbor_{name}(?)", (case.found,), wanted)
+    rows = case.rows
+    wanted = rows if isinstance(rows, Refusal) else [(at, *row) for at, row in enumerate(rows)]
+    expect(case, "ordinal, key, value FROM cbor_each(?)", (case.given,), wanted)
+    if case.value and case.value[0] in (ARRAY, MAP) and len(rows) < 60:
+        is_map = case.value[0] == MAP
+        items = [it for row in reversed(rows) for it in row] if is_map else [value for _, value in rows]
+        call = f"cbor_{'map' if is_map else 'array'}({', '.join(['cbor_item(?)'] * len(items))})"
+        expect(case, call, items, case.canonical["bytewise"])
 
 
 def in_sqlite(extension, count, seed):
@@ -154,7 +212,7 @@ def in_sqlite(extension, count, seed):
         expect(case, "cbor_diagnostic(?)", one, case.text)
         same = error(case.same) if isinstance(case.same, str) else case.same
         expect(case, "cbor_same(?, ?)", (case.given, case.other), same)
-        expect(case, f"cbor_get(?{', ?' * len(case.keys)})", (case.given, *case.keys), case.found)
+        expect_values(case)
     seen = ", ".join(f"{name} {number}" for name, number in verdicts.most_common())
     print(f"SQLite: {count} blobs from seed {seed}, none differs: {seen}")
 
@@ -163,7 +221,8 @@ def in_sqlite(extension, count, seed):
 
 PREPARE = r"""
 CREATE TABLE tried (given bytea, canonical bytea, by_length bytea, is_canonical bool, is_by_length bool, refusal text,
-    shown text, other bytea, same bool, same_error text, integer1 int8, text1 text, integer2 int8, text2 text, found bytea);
+    shown text, other bytea, same bool, same_error text, integer1 int8, text1 text, integer2 int8, text2 text, found bytea,
+    an_int int8, a_text text, some_bytes bytea, a_bool bool, rows text);
 -- the detail of the error that a call fails with
 CREATE FUNCTION detail_of(call text, item bytea, other bytea) RETURNS text LANGUAGE plpgsql AS $$
 DECLARE said text; state text;
@@ -172,7 +231,8 @@ BEGIN
     RETURN NULL;
 EXCEPTION WHEN invalid_binary_representation THEN
     GET STACKED DIAGNOSTICS said = PG_EXCEPTION_DETAIL;
-    RETURN said;
+    -- without path and sentence, which are the library's
+    RETURN regexp_replace(said, '( at \d+) \(\$.*\): .*', '\1');
 END $$;
 COPY tried FROM stdin;"""
 
@@ -189,11 +249,26 @@ SELECT count(*) AS blobs, count(canonical) AS valid, count(found) AS found, coun
         THEN coalesce(cbor_get(given, integer1), cbor_get(given, text1))
         ELSE coalesce(cbor_get(given, integer1, integer2), cbor_get(given, integer1, text2), cbor_get(given, text1, integer2),
             cbor_get(given, text1, text2)) END IS DISTINCT FROM found) AS wrong_get,
+    count(*) FILTER (WHERE ROW(cbor_int(found), cbor_text(found), cbor_bytes(found), cbor_bool(found))
+        IS DISTINCT FROM ROW(an_int, a_text, some_bytes, a_bool)) AS wrong_values,
+    count(*) FILTER (WHERE refusal IS NULL AND coalesce(integer2::text, text2) IS NULL AND
+        ROW(coalesce(cbor_int(given, integer1), cbor_int(given, text1)), coalesce(cbor_text(given, integer1), cbor_text(given, text1)),
+            coalesce(cbor_bytes(given, integer1), cbor_bytes(given, text1)), coalesce(cbor_bool(given, integer1), cbor_bool(given, text1)))
+        IS DISTINCT FROM ROW(an_int, a_text, some_bytes, a_bool)) AS wrong_paths,
+    count(*) FILTER (WHERE CASE WHEN refusal IS NULL THEN (SELECT string_agg(concat_ws(':', ordinal, key::text, value::text), ',' ORDER BY ordinal)
+        FROM cbor_each(given)) END IS DISTINCT FROM rows) AS wrong_rows,
+    count(*) FILTER (WHERE canonical <> CASE WHEN refusal IS NULL THEN CASE get_byte(canonical, 0) >> 5
+        WHEN 4 THEN (SELECT cbor_array(VARIADIC coalesce(array_agg(value ORDER BY ordinal), '{}')) FROM cbor_each(given))
+        WHEN 5 THEN (SELECT cbor_map(VARIADIC coalesce(array_agg(it ORDER BY ordinal DESC, place), '{}'))
+            FROM cbor_each(given), unnest(ARRAY[key, value]) WITH ORDINALITY u (it, place)) END END) AS wrong_made,
     count(*) FILTER (WHERE detail_of('cbor_canonical($1)', given, NULL) IS DISTINCT FROM refusal
         OR detail_of('cbor_diagnostic($1)', given, NULL) IS DISTINCT FROM refusal
         OR detail_of('cbor_get($1, 0)', given, NULL) IS DISTINCT FROM refusal
         OR detail_of('cbor_same($1, $2)', given, other) IS DISTINCT FROM same_error) AS wrong_errors
 FROM tried;"""
+
+
+ESCAPES = str.maketrans({"\\": r"\\", "\n": r"\n", "\r": r"\r", "\t": r"\t"})
 
 
 def column(it):
@@ -202,17 +277,20 @@ def column(it):
         return r"\N"
     if isinstance(it, bool):
         return "t" if it else "f"
-    return r"\\x" + it.hex() if isinstance(it, bytes) else str(it).replace("\\", r"\\").replace("\n", r"\n")
+    return r"\\x" + it.hex() if isinstance(it, bytes) else str(it).translate(ESCAPES)
 
 
 def row(case):
     is_error = isinstance(case.same, str)
     keys = []
-    for key in (case.keys + [None])[:2]:
+    for key in (case.steps + [None])[:2]:
         keys += [None, key] if isinstance(key, str) else [key, None]
+    rows = None
+    if case.value and case.rows:
+        rows = ",".join(":".join(str(it) for it in (at, *(r"\x" + it.hex() for it in row if it is not None))) for at, row in enumerate(case.rows))
     return [
         case.given, *case.canonical.values(), *case.is_canonical.values(), case.refusal, case.text, case.other,
-        None if is_error else case.same, case.same if is_error else None, *keys, case.found,
+        None if is_error else case.same, case.same if is_error else None, *keys, case.found, *case.natives.values(), rows,
     ]  # fmt: skip
 
 

@@ -1,4 +1,4 @@
-"""What ends a run: an answer that is not the wanted one."""
+"""The exception that ends a run: a result that differs from the expected one."""
 
 
 class Disagreement(Exception):

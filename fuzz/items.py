@@ -1,4 +1,4 @@
-"""Items to try: random values in random spellings, and bytes that were changed behind them."""
+"""Items to try: random values in random encodings, and bytes that were changed afterwards."""
 
 from reference import ANY_KEYS, INTEGERS_AND_TEXTS, Limits
 from values import ARRAY, BYTES, LENGTH_FIRST, MAP, NEGATIVE, SIMPLE, TAG, TEXT, UNSIGNED, canonical
@@ -14,7 +14,7 @@ class Items:
 
     def __init__(self, chance):
         self.chance = chance
-        # how likely a key is of any kind, and not an integer or a text
+        # the probability that a key is of any kind, and not an integer or a text
         self.others = 0.2
 
     # ---- values
@@ -73,10 +73,10 @@ class Items:
             return (kind, tuple(pairs))
         return self.value(0) if self.chance.random() < 0.03 else value
 
-    # ---- spellings
+    # ---- encodings
 
     def spell(self, value, wide):
-        """The bytes of a value; `wide` is how likely a head is longer than it must be, or without a length."""
+        """The bytes of a value; `wide` is the probability that a head is longer than needed, or without a length."""
         kind = value[0]
         if kind in (UNSIGNED, NEGATIVE):
             return self.head(kind, value[1], wide)
@@ -110,7 +110,7 @@ class Items:
     # ---- inputs
 
     def late_repeat(self):
-        """The bytes of a map with a key that is repeated behind a deep value, or behind many pairs."""
+        """The bytes of a map with a key that is repeated after a deep value, or after many pairs."""
         levels, pairs = self.chance.choice([(9, 1), (65, 1), (70, 3), (1, 260), (2, 400)])
         deep = (UNSIGNED, 0)
         for _ in range(levels):
@@ -120,7 +120,7 @@ class Items:
         return self.spell((MAP, tuple(entries)), self.chance.choice([0, 0.1]))
 
     def item(self):
-        """The bytes of an item: canonical, or nearly, or spelled anyhow."""
+        """The bytes of an item: canonical, or nearly, or in any encoding."""
         if self.chance.random() < 0.01:
             return self.late_repeat()
         value = self.value(self.chance.choice([0, 1, 2, 3, 4]))
@@ -129,7 +129,7 @@ class Items:
         return self.spell(value, self.chance.choice([0, 0, 0.1, 0.5]))
 
     def changed(self, given):
-        """The same with some change, so that it may be no item any more."""
+        """The same with some change, so that it may no longer be an item."""
         chance = self.chance
         at = chance.randrange(len(given) + 1)
         kind = chance.randrange(6)

@@ -1,4 +1,4 @@
-"""Large maps whose pairs come out of order: within one another, in keys, beside one another in arrays whose head has one
+"""Large maps whose pairs are out of order: within one another, in keys, next to one another in arrays whose head has one
 or two bytes, with few bytes for each pair and with many."""
 
 
@@ -20,7 +20,7 @@ def container(major, members, count, definite):
 
 
 def nest(depth, size, definite=True):
-    """So many maps {1: the next, 0: bytes} around 5."""
+    """This many maps {1: the next, 0: bytes} around 5."""
     item = b"\x05"
     for _ in range(depth):
         item = container(5, b"\x01" + item + b"\x00" + content(size), 2, definite)
@@ -28,7 +28,7 @@ def nest(depth, size, definite=True):
 
 
 def falling(size):
-    """40 pairs with keys from 63 to 24, and so many bytes each."""
+    """40 pairs with keys from 63 to 24, and this many bytes each."""
     return head(5, 40) + b"".join(head(0, 87 - key) + content(size) for key in range(24, 64))
 
 

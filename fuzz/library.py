@@ -1,4 +1,4 @@
-"""The calls of the library for C, each with its answer in the reference's terms."""
+"""The calls of the library for C, each with its result in the terms of reference.py."""
 
 import ctypes
 import os
@@ -10,10 +10,10 @@ OK, REFUSED, TOO_SMALL, DIFFERENT = 0, 1, 2, 6
 
 
 class Why(ctypes.Structure):
-    _fields_ = [("reason", ctypes.c_uint32), ("place", ctypes.c_uint64), ("read", ctypes.c_uint64)]
+    _fields_ = [("reason", ctypes.c_uint32), ("offset", ctypes.c_uint64), ("consumed", ctypes.c_uint64)]
 
     def refusal(self):
-        return Refusal(self.reason, self.place, self.read)
+        return Refusal(self.reason, self.offset, self.consumed)
 
 
 class Library:
@@ -23,7 +23,7 @@ class Library:
         self.calls = ctypes.CDLL(os.path.abspath(path))
 
     def words(self, limits):
-        """The kinds of keys, the depth and the bytes, as each call has them in a row."""
+        """The kinds of keys, the depth and the bytes, in the order of the parameters of each call."""
         return ctypes.c_uint32(limits.keys), ctypes.c_uint32(limits.depth), ctypes.c_uint64(limits.most)
 
     def writing(self, call, given, words, space):

@@ -1,23 +1,27 @@
 #!/usr/bin/env python3
-"""Refuses each request for memory in turn, and counts what is asked for behind heads that promise much. Then it looks at
-what a view keeps in its arena (arena.py).
+"""Refuses each request for memory in turn, and counts what is requested after heads with large lengths. Then it checks
+what a view stores in its arena (arena.py).
 
-    fuzz/memory.py [--program crates/cborc/out/cborc] [--readers crates/answers/out/answers]
+    fuzz/memory.py [--program crates/cborc/out/cborc] [--readers crates/fuzz_readers/out/fuzz_readers]
 
-A library between the program and the C library (counting.c), built here by `cc`, lists the requests and refuses
-one of them. Wanted is of `cborc`, whichever is refused: `out of memory` and status 3, with no more on standard
-output than the first bytes of what usually stands there, OUT as it was and no file beside it; or all as usual; on
-some documents by each command, and on the rows of the conformance tables as `canon`, `check` and `compare` judge
-them. Of the calls over readers and `read_view`, on the rows: one call answers Memory, at a place before the end of its usual
-answer, with as many bytes taken as it tells, and every other call answers as usual; the strict reader answers
-Memory again, and reads nothing behind it. That the strict readers ask for no more on items of a megabyte without
-keys than on shorter ones. And that a head asks for no memory by itself: behind a head of 2^64 - 1,
-2^32 or 2^20 bytes, members or pairs, with nothing or little there, no more is asked for than behind a zero, but
-for a constant and so much a byte that came. Ends with status 1 where anything else happens.
+A library between the program and the C library (counting.c), built here with `cc`, lists the requests and refuses
+one of them. Whichever it refuses, this must hold:
 
-An input is left out where one before it makes the same requests by the same command: of the same kinds and sizes, and
-from the same calls, as far as the stack tells. What all inputs of a command begin with, as its words are read, is
-refused in the first alone.
+- `cborc` reports `out of memory` with status 3, writes no more to standard output than the first bytes of its usual
+  output, leaves OUT unchanged and leaves no other file; or all is as usual. This is tried with each command on some
+  documents, and with `canon`, `check` and `compare` on the rows of the conformance tables.
+- Of the calls on readers and `read_view`, on the rows, one returns Memory, with an offset before the end of its usual
+  result, and the bytes consumed are as many as it reports. Every other call returns its usual result. The strict reader
+  then returns Memory again, and reads nothing more.
+- The strict readers request no more on items of a megabyte without keys than on shorter ones.
+- A head alone requests no memory: after a head for 2^64 - 1, 2^32 or 2^20 bytes, members or pairs, followed by little
+  or nothing, no more is requested than after a zero, except a constant and a fixed amount for each byte present.
+
+Ends with status 1 if anything else happens.
+
+An input is skipped if an earlier one makes the same requests with the same command: of the same kinds and sizes, and
+from the same calls, as far as the stack shows. The requests that all inputs of a command begin with, while its words
+are read, are refused for the first input only.
 """
 
 import argparse
@@ -35,7 +39,7 @@ from run import PARTS, driver_line, words_of
 from side_by_side import of_all, unlike
 from table import rows
 
-# Valid items, and what else reaches each way to an end, in hex.
+# Valid items, and inputs for each other way to end, in hex.
 DOCUMENTS = {
     "a map": "bf6346756ef563416d7421ff",
     "keys in keys": "a2a2186400200000a1a1010000a10080",
@@ -62,15 +66,15 @@ COMMANDS = [
     ["compare", "FILE", "FILE"],
     ["check", "--hex", "HEX"],
 ]
-# What judges an item, on the rows of the conformance tables.
+# The commands that judge an item, on the rows of the conformance tables.
 JUDGING = [["canon", "FILE", "OUT"], ["check", "FILE"], ["compare", "FILE", "FILE"]]
 BEFORE = b"what was there"
-# What more may be asked for than for a zero: so many bytes, and so many for each byte that came.
+# What may be requested beyond the requests for a zero: a number of bytes, and a number for each byte present.
 CONSTANT = 4096
 A_BYTE = 256
 
 
-# What a run is given: the file, the words, and standard input.
+# The input of a run: the file, the words, and standard input.
 Case = namedtuple("Case", "file words given", defaults=[b""])
 
 
@@ -83,7 +87,7 @@ def build_library(folder):
 
 
 class Program:
-    """A program over files of a folder, with the library between it and the C library."""
+    """A program on files of a folder, with the library between it and the C library."""
 
     def __init__(self, program, library, folder):
         self.program = os.path.abspath(program)
@@ -100,7 +104,7 @@ class Program:
             return file.read()
 
     def run(self, case, refused=0):
-        """What a run answers (status, outputs, the file OUT, None where another is left), its requests and their bytes."""
+        """The result of a run (status, outputs, the file OUT, None if another file is left), its requests and their bytes."""
         self.put("FILE", case.file)
         self.put("HEX", case.file.hex().encode())
         self.put("OUT", BEFORE)
@@ -114,8 +118,8 @@ class Program:
 
 
 def refuse_all(programs, cases, judge):
-    """Refuses the requests of cases, each a case and the first to refuse: how many runs reported it, how many went on or
-    ended otherwise as they may, and what went wrong."""
+    """Refuses the requests of cases, each a case and the first to refuse: the number of runs that reported it, the number
+    that continued or ended otherwise as they may, and what went wrong."""
 
     def refuse(program, case):
         case, first = case
@@ -149,7 +153,7 @@ def documents_of(command):
         yield Case(bytes.fromhex(digits), command)
 
 
-# What nests deeper makes the same requests, only more of them.
+# Deeper items make the same requests, only more of them.
 DEEP = 256
 
 
@@ -168,20 +172,20 @@ def rows_of(command):
 
 
 def promises():
-    """Heads of great lengths, with nothing behind them or little, alone and in one another."""
+    """Heads with great lengths, followed by little or nothing, alone and in one another."""
     pairs = b"".join(bytes([key, 0]) for key in range(24))
     for major in (0x40, 0x60, 0x80, 0xA0):
         for count in (2**64 - 1, 2**40, 2**32, 2**20):
             head = bytes([major | 27]) + count.to_bytes(8, "big")
-            for behind in (b"", b"\0", pairs):
-                yield head + behind
+            for following in (b"", b"\0", pairs):
+                yield head + following
             yield b"\x81" + head
             yield b"\xa1" + head
             if major in (0x40, 0x60):
                 yield bytes([major | 31]) + head
             else:
                 yield head * 255 + b"\0"
-        # in their shortest heads, as the strict rules want them
+        # in their shortest heads, as the strict rules require
         head = bytes([major | 26]) + (2**20).to_bytes(4, "big")
         yield head
         if major in (0x80, 0xA0):
@@ -189,7 +193,7 @@ def promises():
 
 
 def is_refused(given, command):
-    """Whether a promise is refused as it must be."""
+    """Whether such a head is refused as it must be."""
     reasons = [b"1 Truncated"]
     if "--strict" in command:
         reasons += [b"14 NotShortest", b"15 Indefinite"]
@@ -197,7 +201,7 @@ def is_refused(given, command):
 
 
 def count_promises(program):
-    """The most that was asked for beyond a zero, for each byte that came, and what went wrong."""
+    """The most that was requested beyond a zero, for each byte present, and what went wrong."""
     most, wrong = 0, []
     for command in COMMANDS:
         if "HEX" in command:
@@ -214,18 +218,18 @@ def count_promises(program):
     return most, wrong
 
 
-# ---- the calls over readers
+# ---- the calls on readers
 
 
 def is_word(found, usual, length):
-    """Whether a call answered Memory before the end of its usual answer, with the rest left to its reader."""
+    """Whether a call returned Memory before the end of its usual result, with the rest left to its reader."""
     memory = re.fullmatch(r"!19,(\d+),(\d+):(\d+)", found)
     left = int(usual.rpartition(":")[2])
     return memory and memory[1] == memory[2] and int(memory[1]) + int(memory[3]) == length and int(memory[3]) >= left
 
 
 def reads(asked, part, length):
-    """How many bytes come of so many reads."""
+    """The number of bytes that these reads return."""
     taken = 0
     for count in asked:
         taken += min(count, part, length - taken)
@@ -233,13 +237,13 @@ def reads(asked, part, length):
 
 
 def calls_of(word):
-    """The calls, what was asked for and how many bytes are left."""
+    """The calls, what was requested and the number of bytes left."""
     calls, asked, left = word.split(":")
     return calls.split(";")[:-1], [int(it) for it in asked.split("+")[:-1]], int(left)
 
 
 def is_calls(found, usual, part, length):
-    """Whether the strict reader gave the first of its usual answers, then Memory, and then the same, with no read."""
+    """Whether the strict reader returned the first of its usual results, then Memory, and then the same, with no read."""
     calls, asked, left = calls_of(found)
     usual_calls, usual_asked, _ = calls_of(usual)
     first = len(calls) - 3
@@ -259,12 +263,12 @@ def is_sequence(found, usual):
 
 
 def is_view(found, usual, length):
-    """Whether read_view answered so, or its tree was refused."""
+    """Whether read_view returned this, or its tree was refused."""
     return is_word(found, usual, length) or found == re.sub(",.*:", ",!19,0,0:", usual)
 
 
 def is_line(found, usual, length):
-    """Whether all calls answered as usual but one, which was refused memory."""
+    """Whether one call was refused memory, and all others returned their usual results."""
     found, usual = found.split(" "), usual.split(" ")
     others = [place for place, pair in enumerate(zip(found, usual, strict=True)) if pair[0] != pair[1]]
     if len(others) != 1:
@@ -278,7 +282,7 @@ def is_line(found, usual, length):
 
 
 def lines():
-    """What the driver of the readers is given, a row a run."""
+    """The input of the driver of the readers, one row for each run."""
     for row in rows_to_try():
         yield Case(row.given, [], driver_line(row.given, row.limits).encode())
 
@@ -293,7 +297,7 @@ def judge_reader(case, given, usual):
 
 
 def count_long(program):
-    """What the strict readers ask for on long items without keys, and what is wrong with it."""
+    """What the strict readers request on long items without keys, and what is wrong with it."""
     found = []
     for count in (1 << 16, 1 << 20):
         given, asked, size = program.run(Case(b"", [], f"long {count:07}\n".encode()))
@@ -338,7 +342,7 @@ def main():
             print(f"memory refused to calls over whole items: {reported} reported, {len(found)} else")
             wrong += found
             size, found = count_long(readers[0])
-            print(f"long items of the strict readers: {size} bytes asked for, whatever the length, {len(found)} else")
+            print(f"long items of the strict readers: {size} bytes requested, whatever the length, {len(found)} else")
             wrong += found
             read, found = look_into_arenas(given.readers, rows())
             print(f"strings in one piece of {read} views: {len(found)} in the arena")

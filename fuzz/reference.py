@@ -1,7 +1,7 @@
-"""The answers that the definitions call for, worked out anew: nothing here was taken from the library.
+"""The results that the definitions require, computed independently: nothing here comes from the library.
 
-RFC 8949 without floating point; deterministic encoding by sections 4.2.1 and 4.2.3. What an input is read as
-is kept apart from what is wrong with it: `Form` reads the heads alone and collects every complaint, and the
+RFC 8949 without floating point; deterministic encoding by sections 4.2.1 and 4.2.3. How an input is read
+is separate from what is wrong with it: `Form` reads only the heads and collects every complaint, and the
 verdict is then the complaint that ends first.
 """
 
@@ -19,16 +19,16 @@ REASONS = {
 }  # fmt: skip
 KEY_KIND = 20
 
-# How deep an item may be, how many bytes it may have, and which kinds of keys.
+# The depth that an item may have, its bytes, and the kinds of keys.
 Limits = namedtuple("Limits", "depth most keys")
 
-# A refusal, with the offset of what is wrong and the count of the bytes that were taken.
+# A refusal, with the offset of what is wrong and the number of bytes consumed.
 Refusal = namedtuple("Refusal", "reason place read")
 
-# A head or a break; its argument and width are "-" where it has none.
+# A head or a break; its argument and width are "-" if it has none.
 Event = namedtuple("Event", "place end name argument width")
 
-# So many bytes in a row, from this place on: the first byte of a head, its argument, or a payload.
+# A number of bytes from this offset on: the first byte of a head, its argument, or a payload.
 Take = namedtuple("Take", "place count is_payload")
 
 # A complaint of valid or deterministic encoding: at equal ends one on a key's kind comes first, one on a whole key last.
@@ -42,7 +42,7 @@ FEWEST = {0: 0, 1: 24, 2: 1 << 8, 4: 1 << 16, 8: 1 << 32}
 
 
 class Break(Exception):
-    """The input goes no further as a well-formed item."""
+    """The input is not a well-formed item from here on."""
 
     def __init__(self, reason, place, read):
         self.refusal = Refusal(reason, place, read)
@@ -60,7 +60,7 @@ def valid_front(payload):
 class Form:
     """The item at the front of an input, by its form; with all complaints that end in what was read.
 
-    `value` and `size` are the item's where it is well-formed within the limits, else `broken` says where not.
+    `value` and `size` are the item's if it is well-formed within the limits; if not, `broken` says where.
     """
 
     def __init__(self, given, limits):
@@ -69,9 +69,9 @@ class Form:
         self.at, self.value, self.size, self.broken = 0, None, None, None
         self.events, self.plain, self.strict = [], [], {BYTEWISE: [], LENGTH_FIRST: []}
         self.takes = []
-        # of each array, map and tag the end of its head, its own end and whether it is a map
+        # for each array, map and tag: the end of its head, its own end and whether it is a map
         self.containers = []
-        # of each key that stands in no other one its start, its end, and where the map's next key or the map ends
+        # for each key that is not inside another key: its start, its end, and where the map's next key or the map ends
         self.keys, self.keys_around = [], 0
         try:
             self.value = self.item(0)
@@ -90,7 +90,7 @@ class Form:
             complaints.append(complaint)
 
     def take(self, count, is_payload=False):
-        """So many bytes, or the end of the input or of the limit."""
+        """This many bytes, or the end of the input or of the limit."""
         self.takes.append(Take(self.at, count, is_payload))
         taken = self.bytes[self.at : self.at + count]
         self.at += len(taken)
@@ -99,7 +99,7 @@ class Form:
         return taken
 
     def argument(self, first):
-        """The argument, and in how many bytes it stands, of a definite head whose first byte was taken."""
+        """The argument, and the number of its bytes, of a definite head whose first byte was consumed."""
         information = first & 31
         if information < 24:
             return information, 0
@@ -110,7 +110,7 @@ class Form:
         self.events.append(Event(place, self.at, name, argument, width))
 
     def reported(self, place, major, argument, size, name=None):
-        """A definite head, complete; a simple value has one spelling alone."""
+        """A definite head, complete; a simple value has only one encoding."""
         if size and argument < FEWEST[size] and major != SIMPLE:
             self.in_both(self.at, place, 14)
         self.event(place, name or KINDS[major], argument, size)
@@ -120,7 +120,7 @@ class Form:
         self.event(place, KINDS[major], "-", "-")
 
     def first(self, may_close, levels):
-        """The first byte of an item, or a break where one may stand."""
+        """The first byte of an item, or a break if one may be here."""
         place = self.at
         first = self.take(1)[0]
         major, information = first >> 5, first & 31
@@ -237,7 +237,7 @@ class Form:
         key = self.item(levels, may_close, is_key=True)
         self.keys_around -= 1
         if key is None:
-            # the break of the map is no key
+            # the break of the map is not a key
             if not self.keys_around:
                 self.keys.pop()
         else:
@@ -252,7 +252,7 @@ class Form:
         kept.clear()
 
     def opened(self, of_maps=False):
-        """How many arrays, maps and tags, or maps alone, are open behind each count of bytes: from the head's end
+        """The number of arrays, maps and tags, or only of maps, that are open after each number of bytes: from the head's end
         until the last member or the break is complete."""
         changes = [0] * (len(self.bytes) + 2)
         for start, end, is_map in self.containers:
@@ -262,8 +262,8 @@ class Form:
         return list(accumulate(changes))
 
     def kept(self):
-        """How many bytes lie, behind each count of bytes, in the last complete key of an open map or in a key that
-        is not complete. What lies in a key within another one lies in that one, which is needed for longer."""
+        """After each number of bytes, the number of bytes in the last complete key of an open map or in a key that
+        is not complete. A key inside another one counts with that one, which is needed for longer."""
         changes = [0] * (len(self.bytes) + 2)
         for start, end, until in self.keys:
             for place in range(start, len(self.bytes) if end is None else end):
@@ -285,8 +285,8 @@ def listing(events):
     return "".join(f"{it.place} {it.name} {it.argument} {it.width}\n" for it in events).encode()
 
 
-class Answers:
-    """What each call has to answer on an input."""
+class Results:
+    """What each call must return for an input."""
 
     def __init__(self, given, limits):
         self.given, self.limits = given, limits
@@ -297,7 +297,7 @@ class Answers:
         self.value = self.form.value if self.plain is None else None
 
     def whole(self, verdict):
-        """The verdict of the one item that the whole input is to be."""
+        """The verdict on the whole input as one item."""
         if verdict is None and self.size < len(self.given):
             return Refusal(12, self.size, self.size)
         return verdict

@@ -1,11 +1,14 @@
 """Refuses memory from each request on, to the calls over whole items, for fuzz/memory.py.
 
-On some documents and on the rows of the conformance tables: from whichever request on memory is refused, `Tree::of`
-gives back the item that it was given, `encode` answers Memory at 0, `encode_to` has written nothing, a builder gives
-nothing, a sequence gives the first of its items, then Memory, and then none, `read_view` answers Memory at 0, or the
-tree of its view is refused, and `same_meaning` names the side that it was at, with Memory at 0: the left one, and from
-some request on the right one, an array of the same item, or the item itself behind an empty array; of canonical bytes
-it asks for none. And the calls that take no memory make no request: as many are made whether these are called or not.
+On some documents and on the rows of the conformance tables, from whichever request on memory is refused:
+
+- `Tree::of` returns the item that it was passed, `encode` returns Memory at 0, `encode_to` has written nothing, and a
+  builder returns nothing.
+- A sequence returns the first of its items, then Memory, and then none.
+- `read_view` returns Memory at 0, or the tree of its view is refused.
+- `same_meaning` names the side that it was reading, with Memory at 0: the left one, and from some request on the right
+  one, which is an array of the same item, or the item itself after an empty array. For canonical bytes it requests none.
+- The calls that allocate nothing make no request: the number of requests is the same with and without these calls.
 """
 
 import os
@@ -29,23 +32,23 @@ CANONICAL = [
     "98" + "28" + "1a00012345" * 40,
 ]
 MEMORY = re.compile(r"!19,(\d+),(\d+)")
-# The words of an answer.
+# The words of a result.
 WORDS = 8
 
-# What a run is given, the sides that `same_meaning` has to name in words 6 and 7 (None: no more than it may), and
-# whether the calls that take no memory are made beside it.
+# The input of a run, the sides that `same_meaning` must name in words 6 and 7 (None: those that it may name), and
+# whether the calls that allocate nothing are made too.
 Case = namedtuple("Case", "given limits sides idle", defaults=[None, False])
 
 
 class Driver:
-    """The driver of the readers (crates/answers), with a library that refuses between it and the C library."""
+    """The driver of the readers (crates/fuzz_readers), with a library that refuses between it and the C library."""
 
     def __init__(self, program, library, folder):
         self.program, self.library, self.folder = os.path.abspath(program), library, folder
         os.makedirs(folder, exist_ok=True)
 
     def run(self, case, idle=0, refused_from=0):
-        """The status, the words of the answer, and each request."""
+        """The status, the words of the result, and each request."""
         counts = f"{self.folder}/counts"
         with open(counts, "w", encoding="utf-8"):
             pass
@@ -64,7 +67,7 @@ def is_items(found, usual):
 
 
 def is_refused(place, found, usual):
-    """Whether a call's answer is that of one that was refused memory."""
+    """Whether a call returned what one returns that was refused memory."""
     return [
         lambda: found == "!19,true",
         lambda: found == "!19,0,0",
@@ -77,15 +80,15 @@ def is_refused(place, found, usual):
     ][place]()
 
 
-def sides_in_order(wanted, answers):
+def sides_in_order(wanted, results):
     """Whether the sides that one comparison named, refused from later and later requests on, are the left one and then
-    the right one; all of these, if they are wanted."""
-    named = [it.partition("!")[0] for it in answers if MEMORY.search(it)]
+    the right one; and these sides, if any are expected."""
+    named = [it.partition("!")[0] for it in results if MEMORY.search(it)]
     return named == sorted(named) and (wanted is None or set(named) == wanted)
 
 
 def go_through(driver, case):
-    """How many answers were Memory, and what went wrong."""
+    """The number of results that were Memory, and what went wrong."""
     case, first = case
     status, usual, asked = driver.run(case)
     digits = case.given.hex()
@@ -95,7 +98,7 @@ def go_through(driver, case):
     if case.idle:
         idle = driver.run(case, idle=9)
         if idle[:2] != (status, usual) or len(idle[2]) != len(asked):
-            wrong.append(f"{digits}: other answers or requests beside calls that take no memory")
+            wrong.append(f"{digits}: other results or requests with calls that allocate nothing")
     for refused in range(first, len(asked) + 1):
         status, found, _ = driver.run(case, refused_from=refused)
         if status != 0:
@@ -114,7 +117,7 @@ def go_through(driver, case):
 
 
 def documents():
-    """The documents: what is compared wants memory on both sides, but for canonical bytes."""
+    """The documents: a comparison needs memory on both sides, except for canonical bytes."""
     limits = Limits(64, 65536, ANY_KEYS)
     both = {"left", "right"}
     for digits in DOCUMENTS:
@@ -124,7 +127,7 @@ def documents():
 
 
 def refuse_calls(program, library, folder, rows):
-    """How many answers of the driver were Memory, and what went wrong."""
+    """The number of results of the driver that were Memory, and what went wrong."""
     drivers = [Driver(program, library, f"{folder}/driver-{number}") for number in range(os.cpu_count() or 1)]
     cases = [Case(row.given, row.limits) for row in rows]
     cases = unlike(lambda driver, case: driver.run(case)[2], drivers, cases)

@@ -1,11 +1,11 @@
-"""Work on many cases side by side, with a program in a folder of its own for each at a time."""
+"""Work on many cases in parallel, each with a program in its own folder."""
 
 import os
 from concurrent.futures import ThreadPoolExecutor
 
 
 def of_all(work, programs, cases):
-    """What each case gives, as many at a time as there are programs."""
+    """The result of each case; as many run at a time as there are programs."""
     cases = list(cases)
 
     def go_through(place):

@@ -2,21 +2,24 @@
 
 import glob
 import os
-import re
+import sys
 from collections import namedtuple
 
-from reference import ANY_KEYS, KEYS, Limits, Refusal
+from reference import KEYS, Limits, Refusal
 
 ROOT = os.path.dirname(os.path.dirname(os.path.abspath(__file__)))
+sys.path.append(f"{ROOT}/c")
+import rows as columns  # noqa: E402
+
 TABLES = f"{ROOT}/crates/cbor_reader_tests/src/tests/*_table.rt"
 
 # By the two orders: the canonical bytes or a refusal, and how many bytes the strict reader takes or a refusal.
 Row = namedtuple("Row", "given limits canonical strict")
 
-# Inputs, in bytewise order: what a reader that gives at most so many bytes a read is asked, and what is reported call by
-# call. Worked out by hand, in the words of crates/answers.
+# Inputs, in bytewise order: what is requested from a reader that returns at most this many bytes a read, and what each call
+# reports. Worked out by hand, in the words of crates/fuzz_readers.
 CALLS = [
-    # [0, 0] keeps nothing
+    # [0, 0] stores nothing
     (
         bytes.fromhex("820000"),
         4096,
@@ -31,7 +34,7 @@ CALLS = [
         + 3 * "!16,5,8,8,1,0,0,0;"
         + ":1+1+1+1+1+1+1+1+:1",
     ),
-    # {"hello": 1000}, and a byte that nothing asks for
+    # {"hello": 1000}, and a byte that nothing requests
     (
         bytes.fromhex("a16568656c6c6f1903e800"),
         3,
@@ -40,7 +43,7 @@ CALLS = [
         + 3 * "none,10,0,0,0,2;"
         + ":1+1+5+2+1+2+:1",
     ),
-    # {0: "a", 0: ..}: the piece is not held any more
+    # {0: "a", 0: ..}: the piece is no longer held
     (
         bytes.fromhex("a20061610000"),
         4096,
@@ -48,9 +51,9 @@ CALLS = [
         + 3 * "!16,4,5,5,1,0,0,0;"
         + ":1+1+1+1+1+:1",
     ),
-    # a break where a member is due: the array is open
+    # a break where a member is expected: the array is open
     (bytes.fromhex("81ff"), 1, "array,1,0,0,1,1,0,0,0;" + 3 * "!7,1,2,2,1,0,0,0;" + ":1+1+:0"),
-    # a string of 600 bytes, of which 515 are there
+    # a string of 600 bytes, of which 515 are present
     (
         bytes.fromhex("590258") + bytes(515),
         4096,
@@ -62,56 +65,37 @@ CALLS = [
 ]
 
 
-def bytes_of(column):
-    """The bytes that hex digits spell; `3*00` stands for 000000."""
-    words = [word.split("*") for word in column.split()]
-    return bytes.fromhex("".join(word[0] if len(word) == 1 else int(word[0]) * word[1] for word in words))
-
-
-def by_order(column, read):
-    both = [read(it.strip()) for it in column.split("/")]
-    return both * (2 // len(both))
-
-
 def refusal(text):
-    found = re.fullmatch(r"(\d+) \w+ at (\d+), read (\d+)", text)
-    return Refusal(*map(int, found.groups())) if found else None
+    found = columns.refusal_of(text)
+    return Refusal(*found) if found else None
 
 
 def limits_of(column):
-    """The limits of a column as `depth 1 bytes 4 keys basic`."""
-    depth, most, keys = (re.search(rf"{name} (\w+)", column) for name in ("depth", "bytes", "keys"))
-    return Limits(
-        int(depth[1]) if depth else 256,
-        int(most[1]) if most else 1 << 20,
-        KEYS.index(keys[1]) if keys else ANY_KEYS,
-    )
+    depth, most, keys = columns.limits_of(column)
+    return Limits(depth, most, KEYS.index(keys))
 
 
 def row_of(line):
     given, limits, becomes, strict = (it.strip() for it in line.split("|")[:4])
-    given = bytes_of(given)
+    given = bytes.fromhex(columns.hex_of(given))
 
     def canonical(text):
-        return refusal(text) or (given if text == "same" else bytes_of(text))
+        return refusal(text) or (given if text == "same" else bytes.fromhex(columns.hex_of(text)))
 
     def taken(text):
         return refusal(text) or (len(given) if text == "same" else int(text.removeprefix("taken ")))
 
-    return Row(given, limits_of(limits), by_order(becomes, canonical), by_order(strict or becomes, taken))
+    by_order = [canonical(it) for it in columns.by_order(becomes)]
+    return Row(given, limits_of(limits), by_order, [taken(it) for it in columns.by_order(strict or becomes)])
 
 
 def rows():
-    lines = []
-    for path in sorted(glob.glob(TABLES)):
-        with open(path, encoding="utf-8") as file:
-            lines += [line for line in file.read().splitlines() if not line.startswith("//")]
-    return [row_of(line) for line in lines if line.count("|") >= 4]
+    return [row_of(line) for line in columns.lines_of(sorted(glob.glob(TABLES))) if line.count("|") >= 4]
 
 
 def chunk_rows():
-    """Each byte behind the opener of a string in chunks: a chunk of the string's type, whose length or bytes or break are
-    missing, or the break; any other byte is no chunk."""
+    """Each byte after the opener of a string in chunks: a chunk of the string's type, whose length or bytes or break are
+    missing, or the break; any other byte is not a chunk."""
     limits, indefinite = limits_of(""), [Refusal(15, 0, 1)] * 2
     found = []
     for opener, empty in ((0x5F, 0x40), (0x7F, 0x60)):

@@ -1,4 +1,4 @@
-"""Values: their canonical bytes, when two are the same, and their diagnostic text, worked out anew from RFC 8949.
+"""Values: their canonical bytes, when two are the same, and their diagnostic text, computed from RFC 8949 alone.
 
 Deterministic encoding by sections 4.2.1 and 4.2.3. A value is a tuple that begins with its major type.
 """
@@ -24,7 +24,7 @@ def canonical(order, value):
     """The canonical bytes of a value."""
     kind = value[0]
     if kind in (UNSIGNED, NEGATIVE, SIMPLE):
-        # a simple value of 32 or more takes a byte behind its first one
+        # a simple value of 32 or more has a second byte
         return head(kind, value[1])
     if kind in (BYTES, TEXT):
         return head(kind, len(value[1])) + value[1]
@@ -38,7 +38,7 @@ def canonical(order, value):
 
 
 def meaning(value):
-    """Equal for two values exactly where they are the same: the pairs of a map in any order (section 5.6.1)."""
+    """Equal for two values exactly if they are the same: the pairs of a map in any order (section 5.6.1)."""
     kind = value[0]
     if kind == ARRAY:
         return (kind, tuple(meaning(it) for it in value[1]))

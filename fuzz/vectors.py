@@ -1,13 +1,13 @@
 #!/usr/bin/env python3
-"""Writes random inputs and what the library answers to them here, for the same library elsewhere to be held against.
+"""Writes random inputs and what the library returns for them, to compare with the same library on another machine.
 
     fuzz/vectors.py LIBRARY COUNT [SEED] > FILE
 
-LIBRARY is libnaltvigo.so as this machine runs it. A line is an input and seven answers, with bars between: the order, the
-kinds of keys, the limits on depth and on bytes, and the input in hex; then the answers of canonicalise, check_valid,
-check_canonical, diagnostic, next_valid, next_canonical, and compare with the input of the line before. An answer is the
-status; of REFUSED the reason, the place and how many bytes were read; then what else the call answers: bytes in hex, how
-many were taken, the side that is refused, or `-`. c/vectors.c and bindings/js/tests/native.test.mjs read it.
+LIBRARY is a libnaltvigo.so for this machine. A line is an input and seven results, with bars between: the order, the
+kinds of keys, the limits on depth and on bytes, and the input in hex; then the results of canonicalise, check_valid,
+check_canonical, diagnostic, next_valid, next_canonical, and compare with the input of the line before. A result is the
+status; for REFUSED the reason, the offset and the number of bytes consumed; then what else the call returns: bytes in hex, the
+number consumed, the side that is refused, or `-`. c/vectors.c and bindings/js/tests/native.test.mjs read it.
 """
 
 import random
@@ -17,43 +17,43 @@ from items import Items
 from library import OK, REFUSED, Library
 from reference import Refusal
 
-# c/vectors.c has no more space for an input.
+# c/vectors.c has space for an input of this size.
 LONGEST = 1 << 14
 
 
-def answer(found, more):
+def result(found, more):
     if isinstance(found, Refusal):
         return f"{REFUSED} {found.reason} {found.place} {found.read} {more}"
     return f"{OK} {more}"
 
 
 def of_bytes(found):
-    return answer(found, "-" if isinstance(found, Refusal) else found.hex() or "-")
+    return result(found, "-" if isinstance(found, Refusal) else found.hex() or "-")
 
 
 def of_front(found):
-    return answer(found, 0 if isinstance(found, Refusal) else found)
+    return result(found, 0 if isinstance(found, Refusal) else found)
 
 
 def of_comparison(found):
     if isinstance(found, tuple):
         side, refusal = found
-        return answer(refusal, ("left", "right").index(side))
+        return result(refusal, ("left", "right").index(side))
     return f"{found} -"
 
 
 def line(library, given, before, order, limits):
     most = len(given) + 64
-    answers = [
+    results = [
         of_bytes(library.canonicalise(given, order, limits, most)),
-        answer(library.check_valid(given, limits), "-"),
-        answer(library.check_canonical(given, order, limits), "-"),
+        result(library.check_valid(given, limits), "-"),
+        result(library.check_canonical(given, order, limits), "-"),
         of_bytes(library.diagnostic(given, limits, 4 * most)),
         of_front(library.next_valid(given, limits)),
         of_front(library.next_canonical(given, order, limits)),
         of_comparison(library.compare(before, given, limits)),
     ]
-    return "|".join([f"{order} {limits.keys} {limits.depth} {limits.most} {given.hex() or '-'}", *answers])
+    return "|".join([f"{order} {limits.keys} {limits.depth} {limits.most} {given.hex() or '-'}", *results])
 
 
 def main():

@@ -1,12 +1,14 @@
 /*
  * naltvigo.h: deterministic CBOR (RFC 8949, without floating point) for C99 and C++.
  *
- * Canonical bytes, checks, comparison and diagnostic text of CBOR items, and the items in canonical bytes;
- * naltvigo_values.h makes items from values of C, and reads values out of them. The functions behind this header
- * are proved: for every input they are safe, they return, and they answer what their contracts say
- * (crates/naltvigo/src; this file says the same in words, and the gate compares the numbers and the
- * signatures). What is said below of memory, of the stack and of threads is tested. Nothing checks the
- * caller's side, "What a caller owes".
+ * This header declares the calls that make canonical bytes, check, compare and print CBOR items, and that find the
+ * items in canonical bytes. naltvigo_values.h adds inline functions that make items from values of C and read values
+ * out of them.
+ *
+ * Each exported function is proved: for every input it is safe, it returns, and its result is what its contract says
+ * (crates/naltvigo/src). This file says the same in words. The gate compares the numbers and signatures with that crate. What
+ * is said below about memory, the stack and threads is tested. The inline functions are C, and are tested, not proved. Nothing
+ * checks what the caller must do ("What the caller must ensure").
  *
  *     uint8_t out[512];
  *     size_t needed;
@@ -14,64 +16,70 @@
  *     switch (naltvigo_canonicalise(in, n, NULL, out, sizeof out, &needed, &why)) {
  *     case NALTVIGO_OK:        // the canonical bytes are out[0 .. needed)
  *     case NALTVIGO_TOO_SMALL: // call again with space for `needed` bytes
- *     case NALTVIGO_REFUSED:   // why.reason at the offset why.place
- *     default:                 // no memory, or options out of range: nothing is known of the input
+ *     case NALTVIGO_REFUSED:   // why.reason, at the offset why.offset
+ *     default:                 // out of memory, or options out of range: no verdict on the input
  *     }
  *
- * Changed since 1.0
- *  - The order and the limits are one `const struct naltvigo_options *`, null for the defaults. Each call
- *    with numbers stands under its name with `_raw` behind it, so a caller of 1.0 compiles with that rename
- *    and the number of `keys` before `depth`; but `_raw` takes no null pointer, and diagnostic text as uint8_t.
+ * Changed since 1.0 (which was never released)
+ *  - The order and the limits are one `const struct naltvigo_options *`. Null means the defaults. Each call of 1.0 is
+ *    still exported under its name with the suffix `_raw`. A caller of 1.0 compiles after this rename if it passes the
+ *    number for `keys` before `depth`. A `_raw` function accepts no null pointer, and writes diagnostic text as uint8_t.
  *  - New: `keys`, the kinds of keys that maps may have, and the reason NALTVIGO_KEY_KIND.
  *  - NALTVIGO_DEPTH_MAX is 1024.
- *  - naltvigo_reason_name writes a zero byte behind the name, and NALTVIGO_NAME_MAX counts it.
- *  - New: naltvigo_next_valid, naltvigo_next_canonical, naltvigo_machine_take (many events a call, on which
- *    naltvigo_machine_step stands now), naltvigo_status_name, naltvigo_version.
+ *  - naltvigo_reason_name writes a zero byte after the name, and NALTVIGO_NAME_MAX counts it.
+ *  - New: naltvigo_next_valid, naltvigo_next_canonical, naltvigo_machine_take (many events in a call),
+ *    naltvigo_status_name, naltvigo_version.
  *  - New: naltvigo_index, naltvigo_item_at, naltvigo_find and naltvigo_put_head, which read and write the items of
  *    canonical bytes, with the statuses 10 to 13.
- *  - `refusal` may be null in the inline functions.
+ *  - New: naltvigo_writer_*_raw, which put the parts of items, and naltvigo_get_*_raw, which read the values of items.
+ *  - New: naltvigo_explain, the sentences and the path of a refusal as text.
+ *  - `refusal` may be null in the inline functions, except in naltvigo_explain.
+ *  - The fields of a refusal, an event and an item are named `offset`, `consumed` and `entries`.
  *
- * What a caller owes
- *  - `in` has `in_length` readable bytes, `out` has `out_length` writable ones, each at most PTRDIFF_MAX.
- *  - Every other pointer is valid and not null. In the inline functions below `refusal` may be null, and so may
- *    an input or a buffer beside a length of 0; not in the exports behind them, whose names end in `_raw`.
- *  - `out`, `*needed`, `*side`, `*refusal` and the like overlap neither an input nor one another, and nobody else
- *    reads or writes them, or writes an input, during the call. They need no first value.
- *  - No call comes from a signal handler, nor from the child of a fork of a process with threads, since
- *    malloc may not be called there. (The calls that take no memory, below, call no malloc.)
+ * What the caller must ensure
+ *  - `in` has `in_length` readable bytes, and `out` has `out_length` writable bytes. Each length is at most PTRDIFF_MAX.
+ *  - Every other pointer is valid and not null. In the inline functions below, `refusal` may be null (except in
+ *    naltvigo_explain), and an input or a buffer may be null if its length is 0. In the exported functions, whose names end
+ *    in `_raw`, no pointer may be null.
+ *  - `out`, `*needed`, `*side`, `*refusal` and the other outputs overlap neither an input nor each other. During the call
+ *    nobody else reads or writes them, and nobody writes an input. Outputs need not be initialised.
+ *  - No call is made from a signal handler, or in the child of a fork of a process with threads, because malloc may not be
+ *    called there. (The calls that allocate no memory, listed below, do not call malloc.)
  *
  * Ownership
- *  - The library keeps no pointer after a call, and hands none out: there is nothing to free.
+ *  - The library keeps no pointer after a call and returns none: there is nothing to free.
  *
  * Memory
- *  - From malloc, realloc and free of the program, all of it given back before the call returns; at most in
- *    proportion to the bytes that came, since a length in a head takes none. docs/PERFORMANCE.md has figures.
+ *  - Memory comes from the program's malloc, realloc and free. A call frees all of it before it returns. It allocates at most
+ *    an amount in proportion to the bytes of its input: a length in a head allocates nothing. docs/PERFORMANCE.md has
+ *    figures.
  *  - naltvigo_check_canonical, naltvigo_next_canonical, naltvigo_index, naltvigo_item_at, naltvigo_find,
- *    naltvigo_put_head, naltvigo_reason_name and the calls of a machine take none at all, by proof: they are
- *    handed no allocator.
- *  - A call to which malloc answers NULL answers NALTVIGO_NO_MEMORY, with `out` as it was, and may be tried
- *    again. malloc and realloc align to 16 bytes, as C libraries for 64 bits do.
+ *    naltvigo_put_head, naltvigo_reason_name, naltvigo_writer_*_raw, naltvigo_get_*_raw and the calls of a machine allocate
+ *    no memory. This is proved: they have no allocator.
+ *  - If malloc returns NULL, the call returns NALTVIGO_NO_MEMORY and leaves `out` unchanged. It may be tried again. malloc
+ *    and realloc must align to 16 bytes, as C libraries for 64 bits do.
  *
  * Stack
- *  - A call needs at most NALTVIGO_STACK bytes, 64 KiB, at any depth, whether the input is accepted or
- *    refused: measured in the gate (c/stack.c), not proved.
+ *  - A call needs at most NALTVIGO_STACK bytes (64 KiB), at any depth, whether the input is accepted or refused. This is
+ *    measured in the gate (c/stack.c), not proved.
  *
  * Threads
- *  - No state is kept between calls, and none is shared: any number of threads may call at once, each with
- *    outputs of its own; inputs may be shared.
+ *  - The library has no state (except, in the assembly of portable/ for x86-64, an atomic byte: what the processor can run).
+ *    Any number of threads may call it at the same time, each with its own outputs. Inputs may be shared.
  *
  * Options
- *  - Null, or a struct that begins as naltvigo_defaults(): the order of keys, which the calls that do not ask
- *    for it leave unread, and three limits: `depth`, how deep arrays, maps and tags may nest, 0 to
- *    NALTVIGO_DEPTH_MAX, `bytes`, how many bytes an item may have, 0 to NALTVIGO_BYTES_MAX, and `keys`, which
- *    kinds of keys its maps may have, which the calls of a machine leave unread.
+ *  - Null, or a struct that begins as naltvigo_defaults(). It has the order of keys, and three limits: `depth`, how deep
+ *    arrays, maps and tags may nest, 0 to NALTVIGO_DEPTH_MAX; `bytes`, how many bytes an item may have, 0 to
+ *    NALTVIGO_BYTES_MAX; and `keys`, the kinds of keys that its maps may have. A call ignores options that it does not need
+ *    (for example, a machine ignores the order and the kinds of keys).
  *
- * What canonical bytes leave open
- *  - Values are compared as CBOR items. A bignum (tag 2 or 3 over bytes) equals no integer, and c24101 and c2420001 differ:
- *    what a tag wraps is not looked into, nor is the item inside tag 24. Texts are not normalised (Unicode). Floats are
- *    refused. Sign or hash `out` only where the status is NALTVIGO_OK. docs/SIGNING.md has examples.
+ * Differences that canonical bytes do not remove
+ *  - Values are compared as CBOR items. A bignum (tag 2 or 3 with a byte string) equals no integer, and c24101 and c2420001
+ *    differ. The content of a tag has no meaning here, and the item inside tag 24 is a byte string. Texts are not
+ *    normalised (Unicode). Floats are refused. Sign or hash `out` only if the status is NALTVIGO_OK. docs/SIGNING.md has
+ *    examples.
  *
- * All sizes, places and counts are bytes.
+ * All sizes and offsets are in bytes.
  */
 #ifndef NALTVIGO_H
 #define NALTVIGO_H
@@ -96,26 +104,26 @@ extern "C" {
 #define NALTVIGO_VERSION_PATCH 0
 #define NALTVIGO_VERSION "2.0.0"
 
-/* The same as one number, which a newer version has greater: a byte each for the three. */
+/* The same as one number, one byte for each of the three. A newer version has a greater number. */
 #define NALTVIGO_VERSION_NUMBER \
     (UINT32_C(65536) * NALTVIGO_VERSION_MAJOR + UINT32_C(256) * NALTVIGO_VERSION_MINOR + NALTVIGO_VERSION_PATCH)
 
-/* What a call answers. New numbers may come: take any other one for a failure. */
+/* What a call returns. Later versions may add numbers: treat any other number as a failure. */
 enum {
-    NALTVIGO_OK = 0,         /* the answer stands in `out`, the input is accepted, the inputs mean the same */
-    NALTVIGO_REFUSED = 1,    /* an input is refused; `*refusal` says why */
-    NALTVIGO_TOO_SMALL = 2,  /* the answer has `*needed` bytes, more than `out`, which is as it was */
-    NALTVIGO_NO_MEMORY = 3,  /* memory was refused; `*refusal` stands at 0 (but see naltvigo_diagnostic) */
-    NALTVIGO_BAD_ORDER = 4,  /* `order` is none of the two */
-    NALTVIGO_BAD_LIMITS = 5, /* `depth` or `bytes` is out of range, or `keys` is none of the two */
-    NALTVIGO_DIFFERENT = 6,  /* the inputs do not mean the same */
-    NALTVIGO_EVENT = 7,      /* `*event` is what comes next */
-    NALTVIGO_MORE = 8,       /* all of the input was used, and more is expected */
-    NALTVIGO_BAD_MACHINE = 9, /* `*machine` holds no machine */
-    NALTVIGO_NOT_THERE = 10,  /* no item begins there, or no pair of the map has the key */
+    NALTVIGO_OK = 0,         /* the result is in `out`; the input is accepted; the two inputs have the same value */
+    NALTVIGO_REFUSED = 1,    /* an input is refused; `*refusal` says why and where */
+    NALTVIGO_TOO_SMALL = 2,  /* the result has `*needed` bytes, more than `out` has; `out` is unchanged */
+    NALTVIGO_NO_MEMORY = 3,  /* out of memory; the offset in `*refusal` is 0 (but see naltvigo_diagnostic) */
+    NALTVIGO_BAD_ORDER = 4,  /* `order` is neither of the two orders */
+    NALTVIGO_BAD_LIMITS = 5, /* `depth` or `bytes` is out of range, or `keys` is neither of the two kinds */
+    NALTVIGO_DIFFERENT = 6,  /* the two inputs have different values */
+    NALTVIGO_EVENT = 7,      /* `*event` is the next event */
+    NALTVIGO_MORE = 8,       /* the whole input was used, and the item is not complete */
+    NALTVIGO_BAD_MACHINE = 9, /* `*machine` is not a machine */
+    NALTVIGO_NOT_THERE = 10,  /* no item begins at the offset, or no pair of the map has the key */
     NALTVIGO_WRONG_KIND = 11, /* the item is of another kind */
-    NALTVIGO_BAD_HEAD = 12,   /* no head has this kind and this number */
-    NALTVIGO_OUT_OF_RANGE = 13 /* a number does not fit its type (naltvigo_values.h) */
+    NALTVIGO_BAD_HEAD = 12,   /* no head has this kind with this number */
+    NALTVIGO_OUT_OF_RANGE = 13 /* the number does not fit the type (naltvigo_values.h) */
 };
 
 /* The order of the keys of a map, by their canonical bytes. */
@@ -124,31 +132,31 @@ enum {
     NALTVIGO_LENGTH_FIRST = 1 /* the shorter key first, then lexicographic (section 4.2.3) */
 };
 
-/* The kinds of keys that maps may have, at every depth. Another one is refused at its first byte. */
+/* The kinds of keys that maps may have, at every depth. A key of another kind is refused at its first byte. */
 enum {
-    NALTVIGO_ANY_KEYS = 0,          /* every item (RFC 8949, section 3.1) */
-    NALTVIGO_INTEGERS_AND_TEXTS = 1 /* integers, and texts in one piece or in chunks */
+    NALTVIGO_ANY_KEYS = 0,          /* any item (RFC 8949, section 3.1) */
+    NALTVIGO_INTEGERS_AND_TEXTS = 1 /* integers and text strings, of definite or indefinite length */
 };
 
-/* The greatest limits. */
+/* The largest limits. */
 #define NALTVIGO_DEPTH_MAX UINT32_C(1024)
 #define NALTVIGO_BYTES_MAX (UINT64_C(1) << 62)
 
 /* The order of keys, and the limits on an item. */
 struct naltvigo_options {
-    uint64_t bytes; /* how many bytes the item, and its canonical bytes, may have; 2^20 by default */
-    uint32_t depth; /* how deep its arrays, maps and tags may nest; 64 by default */
-    uint32_t order; /* NALTVIGO_BYTEWISE by default */
-    uint32_t keys;  /* NALTVIGO_ANY_KEYS by default */
+    uint64_t bytes; /* how many bytes the item, and its canonical bytes, may have; default 2^20 */
+    uint32_t depth; /* how deep its arrays, maps and tags may nest; default 64 */
+    uint32_t order; /* default NALTVIGO_BYTEWISE */
+    uint32_t keys;  /* default NALTVIGO_ANY_KEYS */
 };
 
-/* The options that a null pointer stands for. Change a copy: new members may come, with defaults. */
+/* The default options, which a null pointer means. Change a copy of them: later versions may add members. */
 static inline struct naltvigo_options naltvigo_defaults(void) {
     struct naltvigo_options options = {UINT64_C(1) << 20, 64, NALTVIGO_BYTEWISE, NALTVIGO_ANY_KEYS};
     return options;
 }
 
-/* Which input of two `*refusal` is of. */
+/* Which of two inputs `*refusal` is about. */
 enum { NALTVIGO_LEFT = 0, NALTVIGO_RIGHT = 1 };
 
 /* Why an input is refused: the numbers of `reason`. */
@@ -156,93 +164,93 @@ enum {
     NALTVIGO_TRUNCATED = 1,           /* the input ends within the item */
     NALTVIGO_TOO_LONG = 2,            /* the byte limit is reached within the item */
     NALTVIGO_RESERVED = 3,            /* additional information 28 to 30 where an item may begin */
-    NALTVIGO_NO_INDEFINITE = 4,       /* additional information 31 on an integer or a tag */
+    NALTVIGO_NO_INDEFINITE = 4,       /* additional information 31 with an integer or a tag */
     NALTVIGO_FLOAT = 5,               /* a floating-point number */
-    NALTVIGO_BAD_SIMPLE = 6,          /* a simple value below 32 in a second byte */
+    NALTVIGO_BAD_SIMPLE = 6,          /* a simple value below 32 in two bytes */
     NALTVIGO_STRAY_BREAK = 7,         /* a break where an item must begin */
     NALTVIGO_BAD_CHUNK = 8,           /* neither a chunk of the string nor a break */
-    NALTVIGO_TOO_DEEP = 9,            /* an array, map or tag beyond the depth limit */
-    NALTVIGO_INVALID_TEXT = 10,       /* a text, or a chunk of one, that is not UTF-8 */
-    NALTVIGO_REPEATED_KEY = 11,       /* a key that is the same as an earlier one of its map */
+    NALTVIGO_TOO_DEEP = 9,            /* an array, map or tag nested deeper than the depth limit */
+    NALTVIGO_INVALID_TEXT = 10,       /* a text string, or a chunk of one, that is not UTF-8 */
+    NALTVIGO_REPEATED_KEY = 11,       /* a key that equals an earlier key of its map */
     NALTVIGO_TRAILING = 12,           /* a byte follows the item */
-    NALTVIGO_CANONICAL_TOO_LONG = 13, /* the canonical bytes are more than the byte limit */
-    NALTVIGO_NOT_SHORTEST = 14,       /* a head that is not the shortest (check_canonical) */
+    NALTVIGO_CANONICAL_TOO_LONG = 13, /* there are more canonical bytes than the byte limit */
+    NALTVIGO_NOT_SHORTEST = 14,       /* a head longer than necessary (check_canonical) */
     NALTVIGO_INDEFINITE = 15,         /* an item of indefinite length (check_canonical) */
-    NALTVIGO_KEY_ORDER = 16,          /* a key that does not come after the one before it (check_canonical) */
-    NALTVIGO_READ = 17,               /* not answered by this library */
-    NALTVIGO_WRITE = 18,              /* not answered by this library */
-    NALTVIGO_MEMORY = 19,             /* memory was refused; the status is NALTVIGO_NO_MEMORY */
-    NALTVIGO_KEY_KIND = 20            /* a key of another kind than the limits allow */
+    NALTVIGO_KEY_ORDER = 16,          /* a key that does not sort after the previous key (check_canonical) */
+    NALTVIGO_READ = 17,               /* never returned by this library */
+    NALTVIGO_WRITE = 18,              /* never returned by this library */
+    NALTVIGO_MEMORY = 19,             /* out of memory; the status is NALTVIGO_NO_MEMORY */
+    NALTVIGO_KEY_KIND = 20            /* a key of a kind that the limits do not allow */
 };
 
-/* A refusal. It is written where the status is REFUSED or NO_MEMORY, and left as it was elsewhere. */
+/* A refusal. A call writes it if the status is REFUSED or NO_MEMORY, and otherwise leaves it unchanged. */
 struct naltvigo_refusal {
-    uint32_t reason; /* one of the numbers above */
-    uint64_t place;  /* the offset of what is wrong; at most `read` */
-    uint64_t read;   /* how many bytes were taken; at most the input's length, and `bytes` */
+    uint32_t reason;   /* one of the numbers above */
+    uint64_t offset;   /* of the byte at which the item is wrong; at most `consumed` */
+    uint64_t consumed; /* the number of bytes read; at most the length of the input and the byte limit */
 };
 
-/* A machine that takes one item in parts of any length, and gives its events. It is the caller's, of 9.1 KiB;
- * it holds no pointer, so it may be copied, moved and stored. The fields may be read, and are written by the
- * calls of a machine alone: naltvigo_machine_take of other numbers answers NALTVIGO_BAD_MACHINE, or what some
- * machine within its limits would, safely, but of no item. */
+/* A machine: it reads one item that arrives in parts of any length, and reports its events. The caller owns its 9.1 KiB.
+ * It holds no pointer, so it may be copied, moved and stored. A caller may read the fields. Only the calls of a machine
+ * write them: with other numbers naltvigo_machine_take returns NALTVIGO_BAD_MACHINE, or what some machine within its limits
+ * would return, which is safe but describes no item. */
 struct naltvigo_machine {
-    uint64_t bytes;   /* the byte limit */
-    uint64_t taken;   /* how many bytes were taken */
-    uint64_t reported;    /* how many of them the events reported stand for */
-    uint64_t number;  /* of the open head its argument so far, of the open payload what follows the next byte */
-    uint64_t place;   /* the offset of what was refused */
-    uint16_t depth;   /* the depth limit */
-    uint16_t open;    /* how many arrays, maps and tags are open */
-    uint8_t position; /* 0: an item is expected; 1: within a head; 2: a simple value's number is expected; 3: within a
-                       * payload; 4: a chunk is expected; 5: the item's end */
-    uint8_t kind;     /* the major type of the head, payload or string */
-    uint8_t width;    /* of the open head: 1, 2, 3, 4 for an argument of 1, 2, 4, 8 bytes */
-    uint8_t left;     /* how many bytes of the argument follow the next one */
-    uint8_t chunk;    /* 1 where the head or payload is a chunk's */
-    uint8_t reason;   /* why the item was refused; 0 where it was not */
-    /* Of each open array, map or tag, the outermost first: how many members, or pairs, follow the one that is
-     * expected; and what it is: an array, an array of indefinite length, a map, a map whose next item is a value, the last two
-     * of indefinite length, a tag: 0 to 6. What stands behind these means nothing. */
-    uint64_t lefts[NALTVIGO_DEPTH_MAX];
+    uint64_t bytes;    /* the byte limit */
+    uint64_t consumed; /* the number of bytes consumed */
+    uint64_t reported; /* how many of these bytes belong to events that were reported */
+    uint64_t number;   /* of an open head, its argument so far; of an open payload, how many bytes follow the next byte */
+    uint64_t offset;   /* the offset of what was refused */
+    uint16_t depth;    /* the depth limit */
+    uint16_t open;     /* the number of open arrays, maps and tags */
+    uint8_t position;  /* 0: before an item; 1: within a head; 2: before the number of a simple value; 3: within a
+                        * payload; 4: before a chunk; 5: after the item */
+    uint8_t kind;      /* the major type of the head, payload or string */
+    uint8_t width;     /* of an open head: 1, 2, 3, 4 for an argument of 1, 2, 4, 8 bytes */
+    uint8_t left;      /* how many bytes of the argument follow the next one */
+    uint8_t chunk;     /* 1 if the head or payload belongs to a chunk, else 0 */
+    uint8_t reason;    /* the reason why the item was refused, or 0 */
+    /* Of each open array, map or tag, the outermost first: how many members or pairs follow the one that is expected
+     * now, and its kind: 0 an array, 1 an array of indefinite length, 2 a map, 3 a map before a value, 4 and 5 the same
+     * two of indefinite length, 6 a tag. The rest of both arrays is unused. */
+    uint64_t remaining[NALTVIGO_DEPTH_MAX];
     uint8_t kinds[NALTVIGO_DEPTH_MAX];
 };
 
 /* The kinds of an event: the major type, 0 to 7, and these. */
 enum {
     NALTVIGO_CHUNK = 8, /* the head of a chunk of a string of indefinite length */
-    NALTVIGO_PIECE = 9, /* some bytes of a payload: those at the event's place */
-    NALTVIGO_BREAK = 10 /* the break, which ends what has indefinite length */
+    NALTVIGO_PIECE = 9, /* some bytes of a payload, which begin at the offset of the event */
+    NALTVIGO_BREAK = 10 /* the break, which ends an item of indefinite length */
 };
 
-/* The width of what has no argument: an indefinite length, or a break. */
+/* The width of an event without an argument: an indefinite length, or a break. */
 enum { NALTVIGO_NO_ARGUMENT = 255 };
 
-/* An event. One that is not reported is left as it was. */
+/* An event. An element of the array that no event was written to is unchanged. */
 struct naltvigo_event {
-    uint64_t place;  /* the offset of its first byte, from the item's first byte */
-    uint64_t number; /* the argument, which for kind 1 stands for -1 less it, and for a map counts pairs; how many
-                      * bytes a piece has; 0 where there is none */
+    uint64_t offset; /* the offset of its first byte, from the item's first byte */
+    uint64_t number; /* the argument: for kind 1 the integer is -1 - number, for a map it is the number of pairs; for a
+                      * piece its number of bytes; 0 if there is no argument */
     uint32_t kind;   /* the major type, or one of the numbers above */
-    uint32_t width;  /* how many bytes the argument has: 0, 1, 2, 4, 8, or NALTVIGO_NO_ARGUMENT */
+    uint32_t width;  /* the number of bytes of the argument: 0, 1, 2, 4, 8, or NALTVIGO_NO_ARGUMENT */
 };
 
 /* An item of canonical bytes. Offsets count from the input's first byte. */
 struct naltvigo_item {
-    uint64_t number;  /* the argument of its head, which for kind 1 stands for -1 less it: the number of an integer,
-                       * a tag or a simple value, or how many bytes, members or pairs the item has */
-    uint64_t place;   /* the offset of its first byte */
-    uint64_t content; /* the offset behind its head: of a string's bytes, of the first member, of the first key, of
-                       * what is tagged */
-    uint64_t end;     /* the offset behind the item */
+    uint64_t number;  /* the argument of its head: of an integer (for kind 1 the integer is -1 - number), a tag or a simple
+                       * value; or the number of bytes, members or pairs of the item */
+    uint64_t offset;  /* the offset of its first byte */
+    uint64_t content; /* the offset after its head: of the bytes of a string, the first member, the first key, the content
+                       * of a tag */
+    uint64_t end;     /* the offset after the item */
     uint32_t kind;    /* the major type, 0 to 7 */
-    uint32_t behind;  /* in a table of naltvigo_index, how many entries it and all items within it have; else 0 */
+    uint32_t entries; /* in a table of naltvigo_index: the number of entries for this item and all items in it; else 0 */
 };
 
-/* What a call needs of the stack, in bytes. */
+/* The bytes of stack that a call needs at most. */
 #define NALTVIGO_STACK 65536
 
-/* The exports. No pointer may be null, whatever the length beside it. */
+/* The exports. No pointer may be null, even if its length is 0. */
 uint32_t naltvigo_canonicalise_raw(const uint8_t *in, size_t in_length, uint32_t order, uint32_t keys,
                                    uint32_t depth, uint64_t bytes, uint8_t *out, size_t out_length,
                                    size_t *needed, struct naltvigo_refusal *refusal);
@@ -256,10 +264,13 @@ uint32_t naltvigo_compare_raw(const uint8_t *left, size_t left_length, const uin
 uint32_t naltvigo_diagnostic_raw(const uint8_t *in, size_t in_length, uint32_t keys, uint32_t depth,
                                  uint64_t bytes, uint8_t *out, size_t out_length, size_t *needed,
                                  struct naltvigo_refusal *refusal);
+uint32_t naltvigo_explain_raw(const uint8_t *in, size_t in_length, uint32_t depth, uint64_t bytes,
+                              uint32_t reason, uint64_t offset, uint8_t *out, size_t out_length,
+                              size_t *needed);
 uint32_t naltvigo_next_valid_raw(const uint8_t *in, size_t in_length, uint32_t keys, uint32_t depth,
-                                 uint64_t bytes, uint64_t *taken, struct naltvigo_refusal *refusal);
+                                 uint64_t bytes, uint64_t *length, struct naltvigo_refusal *refusal);
 uint32_t naltvigo_next_canonical_raw(const uint8_t *in, size_t in_length, uint32_t order, uint32_t keys,
-                                     uint32_t depth, uint64_t bytes, uint64_t *taken,
+                                     uint32_t depth, uint64_t bytes, uint64_t *length,
                                      struct naltvigo_refusal *refusal);
 uint32_t naltvigo_version_raw(void);
 size_t naltvigo_reason_name_raw(uint32_t reason, uint8_t *out, size_t out_length);
@@ -270,7 +281,7 @@ uint32_t naltvigo_machine_take_raw(struct naltvigo_machine *machine, const uint8
 uint32_t naltvigo_index_raw(const uint8_t *in, size_t in_length, uint32_t order, uint32_t keys,
                             uint32_t depth, uint64_t bytes, struct naltvigo_item *items, size_t items_length,
                             size_t *needed, struct naltvigo_refusal *refusal);
-uint32_t naltvigo_item_at_raw(const uint8_t *in, size_t in_length, uint64_t place,
+uint32_t naltvigo_item_at_raw(const uint8_t *in, size_t in_length, uint64_t offset,
                               struct naltvigo_item *item);
 uint32_t naltvigo_find_raw(const uint8_t *in, size_t in_length, uint64_t map, const uint8_t *key,
                            size_t key_length, struct naltvigo_item *value);
@@ -278,19 +289,54 @@ uint32_t naltvigo_put_head_raw(uint32_t kind, uint64_t number, uint8_t *out, siz
                                size_t *needed);
 
 /*
- * naltvigo_canonicalise: the canonical bytes of an item.
+ * The exports of the writer and of the getters, for languages other than C: naltvigo_writer.h and naltvigo_cursor.h call them, and
+ * say what they do.
  *
- * Writes the canonical bytes, in this order of keys, of the one well-formed, valid item that the whole
- * input is to the start of `out`. `*needed` is their count where the status is OK or TOO_SMALL, else 0; with
- * `out_length` 0 a caller asks for it first, at the price of a whole call. An answer is hardly ever longer
- * than the input: only arrays and maps of indefinite length with 256 members or more grow, by at most 7
- * bytes each. Bytes of `out` behind the answer stay as they were, and all of them where the status is not OK.
+ * A writer is two numbers: `*needed`, the number of bytes put so far, and a status. Begin with 0 and NALTVIGO_OK. Each call
+ * takes the status, puts a part after the first `*needed` bytes of `out`, adds to `*needed`, and returns the new status. If
+ * there is no space for the whole part, nothing is written. Any numbers are safe.
  *
- * Two accepted inputs get equal answers in one order exactly if their values are the same, within
- * whichever limits; and an answer, given again within the same limits, is its own answer. It is copied to
- * `out` as it stands, and takes no memory.
+ * A getter reads `*item`. `found` is the status of the call that found the item, and `status` that of the getter before it, or
+ * NALTVIGO_OK. It returns the first of these that is not OK, or its own. If it is not OK, the value is 0.
+ */
+uint32_t naltvigo_writer_head_raw(uint32_t kind, uint64_t number, uint8_t *out, size_t out_length,
+                                  size_t *needed, uint32_t status);
+uint32_t naltvigo_writer_int_raw(int64_t number, uint8_t *out, size_t out_length, size_t *needed,
+                                 uint32_t status);
+uint32_t naltvigo_writer_string_raw(uint32_t kind, const uint8_t *bytes, size_t length, uint8_t *out,
+                                    size_t out_length, size_t *needed, uint32_t status);
+uint32_t naltvigo_writer_open_raw(uint32_t kind, uint8_t *out, size_t out_length, size_t *needed,
+                                  uint32_t status);
+uint32_t naltvigo_writer_end_raw(uint8_t *out, size_t out_length, size_t *needed, uint32_t status);
+uint32_t naltvigo_writer_encoded_raw(const uint8_t *item, size_t length, uint8_t *out, size_t out_length,
+                                     size_t *needed, uint32_t status);
+uint32_t naltvigo_get_number_raw(const struct naltvigo_item *item, uint32_t found, uint32_t kind,
+                                 uint64_t *number, uint32_t status);
+uint32_t naltvigo_get_int_raw(const struct naltvigo_item *item, uint32_t found, int64_t *number,
+                              uint32_t status);
+uint32_t naltvigo_get_count_raw(const struct naltvigo_item *item, uint32_t found, uint64_t *count,
+                                uint32_t status);
+uint32_t naltvigo_get_bool_raw(const struct naltvigo_item *item, uint32_t found, uint32_t *is_true,
+                               uint32_t status);
+uint32_t naltvigo_get_string_raw(const struct naltvigo_item *item, uint32_t found, uint32_t kind,
+                                 uint64_t *start, size_t *length, uint32_t status);
+uint32_t naltvigo_get_encoded_raw(const struct naltvigo_item *item, uint32_t found, uint64_t *start,
+                                  size_t *length, uint32_t status);
+
+/*
+ * naltvigo_canonicalise: the canonical bytes of an item (RFC 8949, section 4.2).
  *
- * Answers OK, TOO_SMALL, REFUSED (reasons 1 to 13, 20), NO_MEMORY, BAD_ORDER, BAD_LIMITS.
+ * The whole input must be one well-formed, valid item. Writes its canonical bytes, in the given order of keys, to the start
+ * of `out`. `*needed` is their number if the status is OK or TOO_SMALL, else 0. With `out_length` 0 a caller gets the
+ * number first, at the cost of a whole call. The result is hardly ever longer than the input: only arrays and maps of
+ * indefinite length with 256 members or more grow, each by at most 7 bytes. Bytes of `out` after the result are unchanged.
+ * If the status is not OK, all of `out` is unchanged.
+ *
+ * In one order of keys, two accepted inputs have equal results if and only if their values are the same, whatever the
+ * limits. If a result is canonicalised again within the same limits, it does not change. Such an input is copied to `out`,
+ * and the call allocates no memory.
+ *
+ * Returns OK, TOO_SMALL, REFUSED (reasons 1 to 13, 20), NO_MEMORY, BAD_ORDER, BAD_LIMITS.
  */
 static inline uint32_t naltvigo_canonicalise(const uint8_t *in, size_t in_length,
                                              const struct naltvigo_options *options, uint8_t *out,
@@ -305,12 +351,12 @@ static inline uint32_t naltvigo_canonicalise(const uint8_t *in, size_t in_length
 }
 
 /*
- * naltvigo_check_canonical: whether the input is canonical as it stands.
+ * naltvigo_check_canonical: whether the input is canonical.
  *
- * OK exactly where the whole input is one valid item in its canonical bytes, in this order of keys: then
- * naltvigo_canonicalise would answer the input itself. It takes no memory.
+ * OK if and only if the whole input is one valid item in its canonical bytes, in the given order of keys. Then
+ * naltvigo_canonicalise would return the input itself. It allocates no memory.
  *
- * Answers OK, REFUSED (reasons 1 to 10, 12, 14 to 16, 20), BAD_ORDER, BAD_LIMITS.
+ * Returns OK, REFUSED (reasons 1 to 10, 12, 14 to 16, 20), BAD_ORDER, BAD_LIMITS.
  */
 static inline uint32_t naltvigo_check_canonical(const uint8_t *in, size_t in_length,
                                                 const struct naltvigo_options *options,
@@ -323,9 +369,9 @@ static inline uint32_t naltvigo_check_canonical(const uint8_t *in, size_t in_len
 }
 
 /*
- * naltvigo_check_valid: whether the whole input is one well-formed, valid item, however it is spelled.
+ * naltvigo_check_valid: whether the whole input is one well-formed, valid item, in any encoding.
  *
- * Answers OK, REFUSED (reasons 1 to 12, 20), NO_MEMORY, BAD_LIMITS.
+ * Returns OK, REFUSED (reasons 1 to 12, 20), NO_MEMORY, BAD_LIMITS.
  */
 static inline uint32_t naltvigo_check_valid(const uint8_t *in, size_t in_length,
                                             const struct naltvigo_options *options,
@@ -340,52 +386,52 @@ static inline uint32_t naltvigo_check_valid(const uint8_t *in, size_t in_length,
 /*
  * naltvigo_next_valid: the item at the start of the input, as in a sequence of items (RFC 8742).
  *
- * OK where the input begins with a well-formed, valid item, however it is spelled: `*taken` is the count of
- * its bytes, at least 1, and what follows them is not looked at. `*taken` is 0 where the status is not OK. A
- * sequence is read by calls until no byte is left; what becomes of each item, naltvigo_canonicalise of its
- * `*taken` bytes or another call says. An input without a byte is REFUSED, by TRUNCATED at 0.
+ * OK if the input begins with a well-formed, valid item, in any encoding. `*length` is then the number of its bytes, at
+ * least 1; the bytes after it are not read. If the status is not OK, `*length` is 0. To read a sequence, call again after
+ * each item until no byte is left; pass each item to naltvigo_canonicalise or another call. An empty input is REFUSED,
+ * with TRUNCATED at 0.
  *
- * Answers OK, REFUSED (reasons 1 to 11, 20), NO_MEMORY, BAD_LIMITS.
+ * Returns OK, REFUSED (reasons 1 to 11, 20), NO_MEMORY, BAD_LIMITS.
  */
 static inline uint32_t naltvigo_next_valid(const uint8_t *in, size_t in_length,
-                                           const struct naltvigo_options *options, uint64_t *taken,
+                                           const struct naltvigo_options *options, uint64_t *length,
                                            struct naltvigo_refusal *refusal) {
     struct naltvigo_refusal ignored;
     const struct naltvigo_options with = options ? *options : naltvigo_defaults();
     const uint8_t none = 0;
     return naltvigo_next_valid_raw(in_length ? in : &none, in_length, with.keys, with.depth, with.bytes,
-                                   taken, refusal ? refusal : &ignored);
+                                   length, refusal ? refusal : &ignored);
 }
 
 /*
- * naltvigo_next_canonical: the same of an item in its canonical bytes, in this order of keys.
+ * naltvigo_next_canonical: as naltvigo_next_valid, for an item in its canonical bytes, in the given order of keys.
  *
- * It takes no memory.
+ * It allocates no memory.
  *
- * Answers OK, REFUSED (reasons 1 to 10, 14 to 16, 20), BAD_ORDER, BAD_LIMITS.
+ * Returns OK, REFUSED (reasons 1 to 10, 14 to 16, 20), BAD_ORDER, BAD_LIMITS.
  */
 static inline uint32_t naltvigo_next_canonical(const uint8_t *in, size_t in_length,
-                                               const struct naltvigo_options *options, uint64_t *taken,
+                                               const struct naltvigo_options *options, uint64_t *length,
                                                struct naltvigo_refusal *refusal) {
     struct naltvigo_refusal ignored;
     const struct naltvigo_options with = options ? *options : naltvigo_defaults();
     const uint8_t none = 0;
     return naltvigo_next_canonical_raw(in_length ? in : &none, in_length, with.order, with.keys, with.depth,
-                                       with.bytes, taken, refusal ? refusal : &ignored);
+                                       with.bytes, length, refusal ? refusal : &ignored);
 }
 
 /*
- * naltvigo_compare: whether two inputs mean the same.
+ * naltvigo_compare: whether two inputs have the same value.
  *
- * OK where each input is one well-formed, valid item and the two have the same value, DIFFERENT where they
- * have not: equal kinds, numbers and bytes, arrays place by place, maps by their pairs in any order (RFC
- * 8949, section 5.6.1). So OK is answered exactly where naltvigo_canonicalise, in either order, answers equal
- * bytes, the byte limit aside. The limits hold for each input by itself.
+ * Each input must be one well-formed, valid item. OK if the two values are the same, DIFFERENT if they are not: kinds,
+ * numbers and bytes must be equal, the members of arrays the same in the same order, the pairs of maps the same in any order
+ * (RFC 8949, section 5.6.1). So, apart from the byte limit, OK is returned if and only if
+ * naltvigo_canonicalise, in either order, returns equal bytes. The limits apply to each input separately.
  *
- * REFUSED is of the left input, or of the right one where the left is accepted: `*side` says which. It is
- * written where the status is REFUSED or NO_MEMORY.
+ * The left input is checked first. `*side` says which input REFUSED is about. It is written if the status is REFUSED or
+ * NO_MEMORY.
  *
- * Answers OK, DIFFERENT, REFUSED (reasons 1 to 12, 20), NO_MEMORY, BAD_LIMITS.
+ * Returns OK, DIFFERENT, REFUSED (reasons 1 to 12, 20), NO_MEMORY, BAD_LIMITS.
  */
 static inline uint32_t naltvigo_compare(const uint8_t *left, size_t left_length, const uint8_t *right,
                                         size_t right_length, const struct naltvigo_options *options,
@@ -399,14 +445,14 @@ static inline uint32_t naltvigo_compare(const uint8_t *left, size_t left_length,
 }
 
 /*
- * naltvigo_diagnostic: an item as people read it.
+ * naltvigo_diagnostic: an item in diagnostic notation (RFC 8949, section 8).
  *
- * Writes the diagnostic text (RFC 8949, section 8) of the one well-formed, valid item that the whole input
- * is to the start of `out`, on one line, in UTF-8 and with no zero byte at its end. The pairs of a map stand
- * in their order. `*needed`, `out` and TOO_SMALL are as with naltvigo_canonicalise. NO_MEMORY stands at 0, or
- * behind the input, which then is such an item, where memory for its text was refused.
+ * The whole input must be one well-formed, valid item. Writes its text to the start of `out`, on one line, in UTF-8, without
+ * a zero byte at its end. The pairs of a map keep their order. `*needed`, `out` and TOO_SMALL are as with
+ * naltvigo_canonicalise. For NO_MEMORY the offset is 0, or the end of the input if there was no memory for the text. In
+ * the second case the input is valid.
  *
- * Answers OK, TOO_SMALL, REFUSED (reasons 1 to 12, 20), NO_MEMORY, BAD_LIMITS.
+ * Returns OK, TOO_SMALL, REFUSED (reasons 1 to 12, 20), NO_MEMORY, BAD_LIMITS.
  */
 static inline uint32_t naltvigo_diagnostic(const uint8_t *in, size_t in_length,
                                            const struct naltvigo_options *options, char *out,
@@ -422,9 +468,44 @@ static inline uint32_t naltvigo_diagnostic(const uint8_t *in, size_t in_length,
 }
 
 /*
- * naltvigo_machine_start: a machine before an item's first byte, within these limits.
+ * naltvigo_explain: what a refusal means, what to do about it, and the path to its offset.
  *
- * Answers OK, BAD_LIMITS. It takes no memory.
+ * Writes three lines, joined by line feeds, to the start of `out`: a sentence, a piece of advice, and the path. The text is
+ * UTF-8 without a zero byte or a line feed at its end. No other line feed is in it, and no line is empty. `*needed`, `out`
+ * and TOO_SMALL are as with naltvigo_canonicalise.
+ *
+ * `in` begins with the item that was refused, and the options are those with which it was refused (only the limits on depth
+ * and bytes matter). Of the refusal, `reason` and `offset` are read. The path leads through the bytes before the offset: `$`
+ * is the item, `[2]` a member of an array, counted from 0, `."a"` the value of a key, `(24)` the content of a tag, and
+ * `, key 2 of the map at 9` a key of the map whose head is at offset 9. A key is in diagnostic notation. One that has more
+ * than 64 bytes, or a character that a terminal does not show, is replaced: `.(the key at 17)`. Without an input (`in_length`
+ * 0) the path is `$`. If the number is not that of a reason, the status is OK and `*needed` is 0.
+ *
+ * It allocates memory in proportion to the depth of the offset, and for the text.
+ *
+ *     {"a": [0, 0.0]}, refused with the reason 5 at offset 5:
+ *         A floating-point number begins here; floats are not accepted.
+ *         Encode it as an integer, as a text, or as a tag that contains integers.
+ *         $."a"[1]
+ *
+ * Returns OK, TOO_SMALL, NO_MEMORY, BAD_LIMITS. For the last two `*needed` is 0.
+ */
+static inline uint32_t naltvigo_explain(const uint8_t *in, size_t in_length,
+                                        const struct naltvigo_options *options,
+                                        const struct naltvigo_refusal *refusal, char *out, size_t out_length,
+                                        size_t *needed) {
+    const struct naltvigo_options with = options ? *options : naltvigo_defaults();
+    uint8_t none[2] = {0, 0};
+    void *const text = out;
+    return naltvigo_explain_raw(in_length ? in : none, in_length, with.depth, with.bytes, refusal->reason,
+                                refusal->offset, out_length ? NALTVIGO_CAST(uint8_t *, text) : none + 1,
+                                out_length, needed);
+}
+
+/*
+ * naltvigo_machine_start: sets `*machine` to a machine before the first byte of an item, with these limits.
+ *
+ * Returns OK, BAD_LIMITS. It allocates no memory.
  */
 static inline uint32_t naltvigo_machine_start(const struct naltvigo_options *options,
                                               struct naltvigo_machine *machine) {
@@ -433,19 +514,20 @@ static inline uint32_t naltvigo_machine_start(const struct naltvigo_options *opt
 }
 
 /*
- * naltvigo_machine_take: takes bytes from the start of a part of an item, and gives their events.
+ * naltvigo_machine_take: reads the next part of an item and reports its events.
  *
- * EVENT where `events` is full, MORE where the whole part was used, OK once the item is complete and all its
- * events were reported, REFUSED where the input is no well-formed item within the limits (reasons 2 to 9; places
- * count from the item's first byte). `*used` says how many bytes of the part were taken: give the rest, and
- * then what comes next, to the next call; `*reported` says how many events were written to the start of `events`,
- * whatever the status. A payload comes in pieces as its bytes do. After OK or REFUSED a call uses nothing and
- * answers the same; with space for no event it uses nothing and answers EVENT. An item that ends too early is
- * seen by the caller: its bytes end, and the status is MORE.
- * UTF-8, repeated keys and kinds of keys are not checked. A call fills 9 KiB of its stack, so many events a
- * call are cheaper than one.
+ * EVENT if `events` is full. MORE if the whole part was used and the item is not complete. OK if the item is complete and
+ * all its events were reported. REFUSED if the input is not a well-formed item within the limits (reasons 2 to 9; offsets
+ * count from the first byte of the item). `*used` is the number of bytes of this part that were consumed: pass the others,
+ * and then the next part, to the next call. `*reported` is the number of events written to the start of `events`, for every
+ * status. A payload is reported in pieces, as its bytes arrive. After OK or REFUSED a call consumes nothing and returns the same
+ * status. With `events_length` 0 it consumes nothing and returns EVENT. If the caller has no more bytes and the status is MORE,
+ * the item is truncated.
  *
- * Answers OK, EVENT, MORE, REFUSED, BAD_MACHINE. It takes no memory.
+ * UTF-8, repeated keys and kinds of keys are not checked. A call fills 9 KiB of stack, so many events in one call are cheaper
+ * than one.
+ *
+ * Returns OK, EVENT, MORE, REFUSED, BAD_MACHINE. It allocates no memory.
  */
 static inline uint32_t naltvigo_machine_take(struct naltvigo_machine *machine, const uint8_t *in,
                                              size_t in_length, size_t *used, struct naltvigo_event *events,
@@ -460,7 +542,7 @@ static inline uint32_t naltvigo_machine_take(struct naltvigo_machine *machine, c
 }
 
 /*
- * naltvigo_machine_step: the same up to one event: EVENT where `*event` is reported.
+ * naltvigo_machine_step: as naltvigo_machine_take, for at most one event: EVENT if it was written to `*event`.
  */
 static inline uint32_t naltvigo_machine_step(struct naltvigo_machine *machine, const uint8_t *in,
                                              size_t in_length, size_t *used, struct naltvigo_event *event,
@@ -470,25 +552,25 @@ static inline uint32_t naltvigo_machine_step(struct naltvigo_machine *machine, c
 }
 
 /*
- * naltvigo_index: all items of canonical bytes, in a table.
+ * naltvigo_index: a table of all items in canonical bytes.
  *
- * REFUSED exactly where naltvigo_check_canonical is. Where the status is OK, items[0 .. *needed) are the item that
- * the input is and all items within it, in the order of their first bytes. The first item within items[i] is
- * items[i + 1], and the one that follows items[i] is items[i + items[i].behind]; those of a map are a key, its
- * value, the next key. `*needed` is the count of entries where the status is OK or TOO_SMALL, else 0. An input of n
- * bytes has at most n; with `items_length` 0 a caller asks for the count first, at the price of a whole call.
+ * REFUSED if and only if naltvigo_check_canonical refuses. If the status is OK, items[0 .. *needed) are the item that the input
+ * is and all items in it, in the order of their first bytes. The first item inside items[i] is items[i + 1]; the next item
+ * after items[i] is items[i + items[i].entries]. The items of a map are a key, its value, the next key, and so on. `*needed`
+ * is the number of entries if the status is OK or TOO_SMALL, else 0. An input of n bytes has at most n entries. With
+ * `items_length` 0 a caller gets the number first, at the cost of a whole call.
  *
- * Where the status is TOO_SMALL, `items` is written over, but with no table. 2^32 entries or more are TOO_SMALL
- * however much space there is. It takes no memory.
+ * If the status is TOO_SMALL, `items` was written, but it is not a table. For 2^32 or more entries the status is always
+ * TOO_SMALL. It allocates no memory.
  *
  *     [100, {0: true}] is 82 18 64 a1 00 f5, with five entries:
- *         kind 4, number 2, place 0, content 1, end 6, behind 5     the array
- *         kind 0, number 100, place 1, content 3, end 3, behind 1   100
- *         kind 5, number 1, place 3, content 4, end 6, behind 3     the map
- *         kind 0, number 0, place 4, content 5, end 5, behind 1     the key
- *         kind 7, number 21, place 5, content 6, end 6, behind 1    true
+ *         kind 4, number 2,   offset 0, content 1, end 6, entries 5   the array
+ *         kind 0, number 100, offset 1, content 3, end 3, entries 1   100
+ *         kind 5, number 1,   offset 3, content 4, end 6, entries 3   the map
+ *         kind 0, number 0,   offset 4, content 5, end 5, entries 1   the key
+ *         kind 7, number 21,  offset 5, content 6, end 6, entries 1   true
  *
- * Answers OK, TOO_SMALL, REFUSED (reasons 1 to 10, 12, 14 to 16, 20), BAD_ORDER, BAD_LIMITS.
+ * Returns OK, TOO_SMALL, REFUSED (reasons 1 to 10, 12, 14 to 16, 20), BAD_ORDER, BAD_LIMITS.
  */
 static inline uint32_t naltvigo_index(const uint8_t *in, size_t in_length,
                                       const struct naltvigo_options *options, struct naltvigo_item *items,
@@ -505,27 +587,27 @@ static inline uint32_t naltvigo_index(const uint8_t *in, size_t in_length,
 /*
  * naltvigo_item_at: the item at an offset.
  *
- * It takes any bytes and any offset: where the status is OK, place < content <= end <= `in_length`. Where an item
- * stands in its canonical bytes at this offset, it is that item, and OK. Of other bytes nothing more is said, so
- * naltvigo_check_canonical comes first. It goes over the item once, to find its end. It takes no memory.
+ * Any bytes and any offset are safe: if the status is OK, offset < content <= end <= `in_length`. If an item in its
+ * canonical bytes begins at the offset, the status is OK and `*item` is that item. So call naltvigo_check_canonical
+ * first. The call reads the item once, to find its end. It allocates no memory.
  *
- * Answers OK, NOT_THERE, and leaves `*item` as it was where the status is not OK.
+ * Returns OK, NOT_THERE. If the status is not OK, `*item` is unchanged.
  */
-static inline uint32_t naltvigo_item_at(const uint8_t *in, size_t in_length, uint64_t place,
+static inline uint32_t naltvigo_item_at(const uint8_t *in, size_t in_length, uint64_t offset,
                                         struct naltvigo_item *item) {
     const uint8_t none = 0;
-    return naltvigo_item_at_raw(in_length ? in : &none, in_length, place, item);
+    return naltvigo_item_at_raw(in_length ? in : &none, in_length, offset, item);
 }
 
 /*
- * naltvigo_find: the value at a key of the map at an offset.
+ * naltvigo_find: the value of a key in the map at an offset.
  *
- * `key` is the canonical bytes of the key. It takes any bytes and any offset, as naltvigo_item_at does. Where a map
- * stands in its canonical bytes at this offset, in either order of its keys, the status is OK exactly if the map has
- * the key. It goes over the pairs once, up to the key or to one that comes after it. It takes no memory.
+ * `key` is the canonical bytes of the key. Any bytes and any offset are safe, as with naltvigo_item_at. If a map in its
+ * canonical bytes, in either order of keys, begins at the offset, the status is OK if and only if the map has the key. The
+ * call reads the pairs once, up to the key or to one that sorts after it. It allocates no memory.
  *
- * Answers OK, NOT_THERE (also where no item is at the offset), WRONG_KIND (the item is no map), and leaves `*value`
- * as it was where the status is not OK.
+ * Returns OK, NOT_THERE (also if no item begins at the offset), WRONG_KIND (the item is not a map). If the status is not
+ * OK, `*value` is unchanged.
  */
 static inline uint32_t naltvigo_find(const uint8_t *in, size_t in_length, uint64_t map, const uint8_t *key,
                                      size_t key_length, struct naltvigo_item *value) {
@@ -535,13 +617,13 @@ static inline uint32_t naltvigo_find(const uint8_t *in, size_t in_length, uint64
 }
 
 /*
- * naltvigo_put_head: the shortest head of a kind and a number.
+ * naltvigo_put_head: the shortest head for a kind and a number (RFC 8949, section 3).
  *
- * Writes it to the start of `out`. `*needed` is 1, 2, 3, 5 or 9 where the status is OK or TOO_SMALL, else 0. Behind
- * it a caller puts the bytes of the string, the members of the array, the pairs of the map in the order of their
- * keys, or what is tagged, each in its canonical bytes: these are then the item's. It takes no memory.
+ * Writes it to the start of `out`. `*needed` is 1, 2, 3, 5 or 9 if the status is OK or TOO_SMALL, else 0. After the head
+ * the caller writes the bytes of the string, the members of the array, the pairs of the map in the order of their keys, or
+ * the content of the tag, each in its canonical bytes. All of it is then the canonical bytes of the item. It allocates no memory.
  *
- * Answers OK, TOO_SMALL, BAD_HEAD: a kind above 7; or a simple value (kind 7) of 24 to 31, or above 255.
+ * Returns OK, TOO_SMALL, BAD_HEAD: a kind above 7, or a simple value (kind 7) of 24 to 31 or above 255.
  */
 static inline uint32_t naltvigo_put_head(uint32_t kind, uint64_t number, uint8_t *out, size_t out_length,
                                          size_t *needed) {
@@ -549,14 +631,14 @@ static inline uint32_t naltvigo_put_head(uint32_t kind, uint64_t number, uint8_t
     return naltvigo_put_head_raw(kind, number, out_length ? out : &none, out_length, needed);
 }
 
-/* What the longest name of a reason needs, the zero byte at its end included. */
+/* The bytes that the longest name of a reason needs, with the zero byte at its end. */
 #define NALTVIGO_NAME_MAX 17
 
 /*
- * naltvigo_reason_name: the name of a reason, as "TooDeep", in ASCII and with a zero byte at its end.
+ * naltvigo_reason_name: the name of a reason, for example "TooDeep", in ASCII and with a zero byte at its end.
  *
- * Answers its length without the zero byte, and writes both where `out` has space for both. A number that is
- * no reason's has the empty name.
+ * Returns its length without the zero byte. Writes both if `out` has space for both. The name of a number that is not
+ * a reason is empty.
  */
 static inline size_t naltvigo_reason_name(uint32_t reason, char *out, size_t out_length) {
     uint8_t none = 0;
@@ -564,7 +646,7 @@ static inline size_t naltvigo_reason_name(uint32_t reason, char *out, size_t out
     return naltvigo_reason_name_raw(reason, out_length ? NALTVIGO_CAST(uint8_t *, name) : &none, out_length);
 }
 
-/* naltvigo_status_name: the name of a status, as "TOO_SMALL", which lasts; "" for a number that is none's. */
+/* naltvigo_status_name: the name of a status, for example "TOO_SMALL", in static memory; "" for any other number. */
 static inline const char *naltvigo_status_name(uint32_t status) {
     switch (status) {
     case NALTVIGO_OK: return "OK";
@@ -585,7 +667,7 @@ static inline const char *naltvigo_status_name(uint32_t status) {
     }
 }
 
-/* naltvigo_version: the version of the library that runs, as NALTVIGO_VERSION_NUMBER is the header's. */
+/* naltvigo_version: the version of the linked library. NALTVIGO_VERSION_NUMBER is the version of this header. */
 static inline uint32_t naltvigo_version(void) { return naltvigo_version_raw(); }
 
 #ifdef __cplusplus

@@ -1,7 +1,7 @@
 /*
  * naltvigo_values.h: CBOR items from values of C, and values of C from CBOR items.
  *
- * A writer appends items to a buffer, and naltvigo_finish makes their canonical bytes. A cursor stands at an item of
+ * A writer appends items to a buffer, and naltvigo_finish makes their canonical bytes. A cursor points at an item in
  * canonical bytes and reads it.
  *
  *     uint8_t items[64], bytes[64];
@@ -20,21 +20,21 @@
  *     if (status != NALTVIGO_OK) return status;               // checked once, for all getters
  *
  * What is left out
- *  - Floating-point numbers, which the library refuses: put an integer in a unit that both sides know, or a text.
- *    Dates, big numbers and other meanings of tags are the caller's.
+ *  - Floating-point numbers: the library refuses them. Use an integer in a unit that both sides know, or a text. Dates, big
+ *    numbers and other meanings of tags are left to the caller.
  *
  * What is proved
- *  - naltvigo_put_head writes the heads, naltvigo_item_at and naltvigo_find find the items, naltvigo_canonicalise
- *    and naltvigo_check_canonical decide what is accepted: these calls are proved. The functions here are inline C
- *    around them, and tested.
+ *  - The exports are proved: naltvigo_writer_*_raw put the parts of items, naltvigo_item_at_raw and naltvigo_find_raw find the
+ *    items, naltvigo_get_*_raw read their values, naltvigo_canonicalise_raw and naltvigo_check_canonical_raw decide what is
+ *    accepted. The functions here are inline C around them, and they are tested.
  *
  * Memory and threads
- *  - Only naltvigo_finish allocates, as naltvigo_canonicalise does. Writers and cursors hold no more than pointers to
- *    the caller's bytes: there is nothing to free, and both may be copied.
+ *  - Only naltvigo_finish allocates, as naltvigo_canonicalise does. Writers and cursors hold only pointers to the caller's
+ *    bytes. There is nothing to free, and both may be copied.
  *
- * What a caller owes
- *  - As in naltvigo.h. The bytes under a cursor stay where they are, and unchanged. If they do change, no call reads
- *    outside them, and every call returns; but what it answers means nothing.
+ * What the caller must ensure
+ *  - As in naltvigo.h. The input of a cursor must stay in place and unchanged. If it changes, no call reads outside it, and
+ *    every call returns, but the results mean nothing.
  */
 #ifndef NALTVIGO_VALUES_H
 #define NALTVIGO_VALUES_H

@@ -1,4 +1,4 @@
-/* naltvigo_writer.h: CBOR items from values of C. naltvigo_values.h says what all of it is for, with an example. */
+/* naltvigo_writer.h: makes CBOR items from values of C. naltvigo_values.h has an overview and an example. */
 #ifndef NALTVIGO_WRITER_H
 #define NALTVIGO_WRITER_H
 
@@ -10,7 +10,7 @@
 extern "C" {
 #endif
 
-/* The kinds of items: the major types (RFC 8949, section 3.1), and one for no item. */
+/* The kinds of items: the major types (RFC 8949, section 3.1), and NALTVIGO_NONE for no item. */
 enum {
     NALTVIGO_UNSIGNED = 0, /* an integer from 0 to 2^64 - 1 */
     NALTVIGO_NEGATIVE = 1, /* an integer from -2^64 to -1 */
@@ -26,60 +26,47 @@ enum {
 /* The simple values with names (section 3.3). */
 enum { NALTVIGO_FALSE = 20, NALTVIGO_TRUE = 21, NALTVIGO_NULL = 22, NALTVIGO_UNDEFINED = 23 };
 
-/* A writer: what it appends to `out`, and how it went. Only `needed` and `status` are for callers to read. */
+/* A writer. It appends to `out`. Callers may read `needed` and `status` only. */
 struct naltvigo_writer {
     uint8_t *out;
     size_t out_length;
-    size_t needed;   /* how many bytes were put; those that `out` has no space for are counted all the same */
-    uint32_t status; /* OK; TOO_SMALL if `needed` is more than `out_length`; or the first failure of a put call */
+    size_t needed;   /* the number of bytes put, with those that `out` has no space for */
+    uint32_t status; /* OK; TOO_SMALL if `needed` is more than `out_length`; or the first other failure of a put call */
 };
 
 /*
  * naltvigo_write_to: a writer that appends to `out`.
  *
- * Each put call appends, and returns nothing: after all of them `status` is OK, or says what failed first; more space
- * mends TOO_SMALL, nothing mends the others. `out` may be null: then nothing is written, and `needed` counts what all
- * the items take. A copy of the writer, taken between two put calls, goes on from there.
+ * Each put call appends an item, or part of one, and returns nothing. Check `status` after all of them. TOO_SMALL means that
+ * `out` is too small: start again with `needed` bytes. Any other failure (BAD_HEAD, NOT_THERE) is an error in what was put.
+ * `status` has the first of these, even if TOO_SMALL came before it. `out` may be null: then nothing is written, and `needed`
+ * counts the bytes of all items. A copy of a writer continues from where it was copied.
  */
 static inline struct naltvigo_writer naltvigo_write_to(uint8_t *out, size_t out_length) {
+    static uint8_t none;
     struct naltvigo_writer writer;
-    writer.out = out;
-    writer.out_length = out_length;
+    writer.out = out ? out : &none;
+    writer.out_length = out ? out_length : 0;
     writer.needed = 0;
     writer.status = NALTVIGO_OK;
     return writer;
 }
 
-/* Internal: records a failure. More space mends TOO_SMALL, so another failure takes its place. */
-static inline void naltvigo_writer_fail(struct naltvigo_writer *writer, uint32_t status) {
-    if (writer->status == NALTVIGO_OK || writer->status == NALTVIGO_TOO_SMALL) writer->status = status;
-}
-
-/* Internal: how many bytes more have space. */
-static inline size_t naltvigo_writer_room(const struct naltvigo_writer *writer) {
-    return writer->out && writer->needed < writer->out_length ? writer->out_length - writer->needed : 0;
-}
-
-/* Internal: counts so many bytes more. */
-static inline void naltvigo_writer_count(struct naltvigo_writer *writer, size_t length) {
-    if (length > naltvigo_writer_room(writer) && writer->status == NALTVIGO_OK) writer->status = NALTVIGO_TOO_SMALL;
-    writer->needed = length > SIZE_MAX - writer->needed ? SIZE_MAX : writer->needed + length;
-}
-
-/* Internal: appends bytes, whatever they are. */
-static inline void naltvigo_writer_append(struct naltvigo_writer *writer, const void *bytes, size_t length) {
-    if (length && length <= naltvigo_writer_room(writer)) memcpy(writer->out + writer->needed, bytes, length);
-    naltvigo_writer_count(writer, length);
-}
-
-/* Internal: appends the shortest head. */
+/* Internal: puts the shortest head. */
 static inline void naltvigo_writer_head(struct naltvigo_writer *writer, uint32_t kind, uint64_t number) {
-    const size_t space = naltvigo_writer_room(writer);
-    uint8_t *const out = space ? writer->out + writer->needed : writer->out;
-    size_t length = 0;
-    const uint32_t status = naltvigo_put_head(kind, number, out, space, &length);
-    if (status == NALTVIGO_BAD_HEAD) naltvigo_writer_fail(writer, status);
-    else naltvigo_writer_count(writer, length);
+    writer->status = naltvigo_writer_head_raw(kind, number, writer->out, writer->out_length, &writer->needed, writer->status);
+}
+
+/* Internal: puts a string. */
+static inline void naltvigo_writer_string(struct naltvigo_writer *writer, uint32_t kind, const void *bytes, size_t length) {
+    const void *const from = length ? bytes : "";
+    writer->status = naltvigo_writer_string_raw(kind, NALTVIGO_CAST(const uint8_t *, from), length, writer->out,
+                                                writer->out_length, &writer->needed, writer->status);
+}
+
+/* Internal: puts the beginning of an array or a map without a count. */
+static inline void naltvigo_writer_open(struct naltvigo_writer *writer, uint32_t kind) {
+    writer->status = naltvigo_writer_open_raw(kind, writer->out, writer->out_length, &writer->needed, writer->status);
 }
 
 /* An integer from 0 to 2^64 - 1. */
@@ -94,33 +81,30 @@ static inline void naltvigo_put_negative(struct naltvigo_writer *writer, uint64_
 
 /* An integer from -2^63 to 2^63 - 1. */
 static inline void naltvigo_put_int(struct naltvigo_writer *writer, int64_t number) {
-    if (number < 0) naltvigo_put_negative(writer, ~NALTVIGO_CAST(uint64_t, number));
-    else naltvigo_put_uint(writer, NALTVIGO_CAST(uint64_t, number));
+    writer->status = naltvigo_writer_int_raw(number, writer->out, writer->out_length, &writer->needed, writer->status);
 }
 
 /* A byte string. */
 static inline void naltvigo_put_bytes(struct naltvigo_writer *writer, const void *bytes, size_t length) {
-    naltvigo_writer_head(writer, NALTVIGO_BYTES, length);
-    naltvigo_writer_append(writer, bytes, length);
+    naltvigo_writer_string(writer, NALTVIGO_BYTES, bytes, length);
 }
 
-/* A text of so many bytes of UTF-8; naltvigo_finish refuses other bytes. */
+/* A text string: `length` bytes of UTF-8. naltvigo_finish refuses bytes that are not UTF-8. */
 static inline void naltvigo_put_text_of(struct naltvigo_writer *writer, const char *text, size_t length) {
-    naltvigo_writer_head(writer, NALTVIGO_TEXT, length);
-    naltvigo_writer_append(writer, text, length);
+    naltvigo_writer_string(writer, NALTVIGO_TEXT, text, length);
 }
 
-/* A text that a zero byte ends. */
+/* A text string that ends at a zero byte. */
 static inline void naltvigo_put_text(struct naltvigo_writer *writer, const char *text) {
     naltvigo_put_text_of(writer, text, strlen(text));
 }
 
-/* A simple value, 0 to 23 or 32 to 255. There is none from 24 to 31: the writer fails with BAD_HEAD. */
+/* A simple value, 0 to 23 or 32 to 255. The numbers 24 to 31 do not exist: the writer fails with BAD_HEAD. */
 static inline void naltvigo_put_simple(struct naltvigo_writer *writer, uint8_t number) {
     naltvigo_writer_head(writer, NALTVIGO_SIMPLE, number);
 }
 
-/* True for any number but 0. */
+/* False if `is_true` is 0, else true. */
 static inline void naltvigo_put_bool(struct naltvigo_writer *writer, int is_true) {
     naltvigo_put_simple(writer, is_true ? NALTVIGO_TRUE : NALTVIGO_FALSE);
 }
@@ -131,18 +115,20 @@ static inline void naltvigo_put_undefined(struct naltvigo_writer *writer) {
     naltvigo_put_simple(writer, NALTVIGO_UNDEFINED);
 }
 
-/* A tag; the item that is put next is its content. */
+/* A tag. Its content is the item that is put next. */
 static inline void naltvigo_put_tag(struct naltvigo_writer *writer, uint64_t number) {
     naltvigo_writer_head(writer, NALTVIGO_TAG, number);
 }
 
-/* An array or a map of what is put next, up to naltvigo_put_end. For each pair of a map a key is put, and then its
- * value; the pairs may come in any order. */
-static inline void naltvigo_put_array(struct naltvigo_writer *writer) { naltvigo_writer_append(writer, "\x9f", 1); }
-static inline void naltvigo_put_map(struct naltvigo_writer *writer) { naltvigo_writer_append(writer, "\xbf", 1); }
-static inline void naltvigo_put_end(struct naltvigo_writer *writer) { naltvigo_writer_append(writer, "\xff", 1); }
+/* The beginning of an array or a map. Its members are put next, and naltvigo_put_end ends it. For each pair of a map put the key
+ * and then the value. The pairs may come in any order. */
+static inline void naltvigo_put_array(struct naltvigo_writer *writer) { naltvigo_writer_open(writer, NALTVIGO_ARRAY); }
+static inline void naltvigo_put_map(struct naltvigo_writer *writer) { naltvigo_writer_open(writer, NALTVIGO_MAP); }
+static inline void naltvigo_put_end(struct naltvigo_writer *writer) {
+    writer->status = naltvigo_writer_end_raw(writer->out, writer->out_length, &writer->needed, writer->status);
+}
 
-/* An array of so many items, or a map of so many pairs, which are put next. No naltvigo_put_end comes behind them. */
+/* An array of `count` items, or a map of `pairs` pairs, which are put next. No naltvigo_put_end follows them. */
 static inline void naltvigo_put_array_of(struct naltvigo_writer *writer, uint64_t count) {
     naltvigo_writer_head(writer, NALTVIGO_ARRAY, count);
 }
@@ -150,23 +136,23 @@ static inline void naltvigo_put_map_of(struct naltvigo_writer *writer, uint64_t 
     naltvigo_writer_head(writer, NALTVIGO_MAP, pairs);
 }
 
-/* An item in canonical bytes, as naltvigo_finish or naltvigo_get_encoded returned them. Bytes that are not one item by
- * themselves would shift their neighbours: the writer fails with NOT_THERE, and nothing is put. */
+/* An item in canonical bytes, from naltvigo_finish or naltvigo_get_encoded. Bytes that are not exactly one item would change
+ * the items after them: the writer fails with NOT_THERE, and nothing is put. */
 static inline void naltvigo_put_encoded(struct naltvigo_writer *writer, const uint8_t *bytes, size_t length) {
-    struct naltvigo_item item;
-    if (naltvigo_item_at(bytes, length, 0, &item) == NALTVIGO_OK && item.end == length)
-        naltvigo_writer_append(writer, bytes, length);
-    else naltvigo_writer_fail(writer, NALTVIGO_NOT_THERE);
+    const uint8_t none = 0;
+    writer->status = naltvigo_writer_encoded_raw(length ? bytes : &none, length, writer->out, writer->out_length,
+                                                 &writer->needed, writer->status);
 }
 
 /*
  * naltvigo_finish: the canonical bytes of the one item that was put.
  *
- * They are written to `out`, which does not overlap the writer's buffer. `*needed` is their count. If the writer's
- * buffer was too small, the status is TOO_SMALL too, and `*needed` what the writer needs: nearly always enough for
- * `out` as well (naltvigo_canonicalise says when not). The writer's other failures are returned as they are, with
- * `*needed` 0. REFUSED says that what was put is no item: a count that was not met, an end that is missing or too
- * many, equal keys, a text that is not UTF-8; places count from the first byte that the writer put.
+ * They are written to `out`, which must not overlap the buffer of the writer. `*needed` is their number. TOO_SMALL means that
+ * one of the two buffers was too small. If it was the writer's (its own status is then TOO_SMALL), `*needed` is what the
+ * writer needs, which is nearly always enough for `out` as well (naltvigo_canonicalise says when not). Any other failure of
+ * the writer is returned, with `*needed` 0. REFUSED means that what was put is not one valid item: a wrong count, a missing or
+ * surplus end, equal keys, a text that is not UTF-8. Its offset counts in the bytes that the writer put, before they are
+ * sorted, and not in `out`.
  *
  * Returns OK, TOO_SMALL, REFUSED (reasons 1 to 13, 20), NO_MEMORY, BAD_ORDER, BAD_LIMITS, BAD_HEAD, NOT_THERE.
  */

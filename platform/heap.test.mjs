@@ -18,7 +18,7 @@ function random(seed) {
     };
 }
 
-test('every size has a block of its own, aligned, with room for it', () => {
+test('every size gets its own block, aligned and large enough', () => {
     const x = heap(), sizes = [...Array(5000).keys()];
     for (let power = 13; power <= 29; power++) sizes.push(2 ** power - 1, 2 ** power, ...(power < 29 ? [2 ** power + 1] : []));
     const blocks = sizes.map(size => [Number(x.allocate(BigInt(size))), size]);
@@ -30,7 +30,7 @@ test('every size has a block of its own, aligned, with room for it', () => {
     for (let i = 1; i < blocks.length; i++) assert.ok(blocks[i - 1][0] + Math.max(blocks[i - 1][1], 16) + 16 <= blocks[i][0]);
 });
 
-test('a released block is used again for its size, and for no other', () => {
+test('a released block is used again only for its size', () => {
     const x = heap();
     for (let size = 1; size < 70000; size = size * 2 - (size > 40 ? 3 : 0)) {
         const one = x.allocate(BigInt(size)), next = x.allocate(BigInt(size));
@@ -80,7 +80,7 @@ test('blocks keep what is written to them, whatever happens to others', () => {
     assert.ok(live.every(block => holds(block)));
 });
 
-test('where the memory may not grow, a request is refused, and all else goes on', () => {
+test('if the memory may not grow, a request is refused, and everything else continues', () => {
     for (const pages of [0, 1, 2, 16, 100]) {
         const x = heap(limitedMemory(bytes, pages)), most = x.memory.buffer.byteLength + pages * PAGE, blocks = [];
         for (let at; (at = x.try_alloc(1000n, 8n)) !== 0n;) {

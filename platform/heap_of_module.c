@@ -1,10 +1,10 @@
 /* Memory in a WebAssembly module: the three functions that a Rattle static library calls for it, and two by which
- * JavaScript gets blocks for its bytes. They answer what the kit's libc/src/heap.rt says of the three; nothing proves
- * it, platform/heap.test.mjs tests it.
+ * JavaScript gets blocks for its bytes. They return what the kit's libc/src/heap.rt says of the three. This is not proved;
+ * platform/heap.test.mjs tests it.
  *
- * A block has a power of two bytes, 16 at least, behind a header of 16; a released block waits for the next request of
- * its size. So at most twice what is asked for is taken, and 16 bytes a block. The memory is the module's own, behind
- * its stack and its data, and grows as it must; the module never gives it back.
+ * A block is a header of 16 bytes and then a power of two bytes, at least 16. A released block waits for the next request
+ * of its size. So a request uses at most twice its size and 16 bytes more. The memory is the module's own, after
+ * its stack and its data, and grows when needed; the module never gives it back.
  *
  * Compiled for 64-bit addresses; build_web.sh lowers one of its two modules to 32 bits, with this in it. */
 typedef unsigned long size_t;
@@ -22,10 +22,10 @@ _Static_assert(sizeof(size_t) == 8 && sizeof(void *) == 8 && sizeof(struct block
 extern byte __heap_base;
 static byte *top;                          /* the first byte that no block has */
 static struct block *waiting[LARGEST + 1]; /* released blocks of 2^i bytes */
-static byte nothing;                       /* what `p` points to beside a false `ok`, since it may not be null */
+static byte nothing;                       /* what `p` points to if `ok` is false, since it may not be null */
 
-/* Whether the memory reaches up to an address; it grows where it does not. The answer of memory.grow is not read: what
- * binaryen 108 makes of it for 32 bits is no -1 where it fails. */
+/* Whether the memory reaches up to an address; if not, it grows. The result of memory.grow is not read: what
+ * binaryen 108 makes of it for 32 bits is not -1 if it fails. */
 static _Bool reaches(size_t end) {
     const size_t have = __builtin_wasm_memory_size(0) * PAGE;
     if (end <= have) return 1;
@@ -43,7 +43,7 @@ static struct block *new_block(size_t size) {
     return it;
 }
 
-/* Room for n bytes, aligned to 16, or null. */
+/* Space for n bytes, aligned to 16, or null. */
 void *allocate(size_t n) {
     const unsigned i = n <= 1ul << SMALLEST ? SMALLEST : 64 - (unsigned)__builtin_clzl(n - 1);
     struct block *it;
@@ -54,7 +54,7 @@ void *allocate(size_t n) {
     return it ? it + 1 : 0;
 }
 
-/* Gives back what `allocate` answered. */
+/* Releases what `allocate` returned. */
 void release(void *p) {
     struct block *it = (struct block *)p - 1;
     const unsigned i = (unsigned)__builtin_ctzl(it->size);
@@ -66,7 +66,7 @@ void release(void *p) {
  * Node 20 and binaryen 108 refuse. */
 __asm__(".export_name allocate, allocate\n.export_name release, release");
 
-/* IMPORTS is defined where the library was compiled for wasm64: then it imports the three from `env`, by these names. */
+/* IMPORTS is defined if the library was compiled for wasm64: then it imports the three from `env`, by these names. */
 #ifdef IMPORTS
 #define NAMED(name) __asm__("import " #name " from env")
 #else
@@ -83,7 +83,7 @@ struct tried rattle_alloc(size_t n, size_t align) {
     return tried(allocate(n));
 }
 
-/* The first `kept` bytes stay; where there is no space for n, the block is as it was. */
+/* The first `kept` bytes stay; if there is no space for n, the block is unchanged. */
 struct tried rattle_realloc(void *p, size_t kept, size_t n, size_t align) {
     byte *to;
     (void)align;

@@ -1,11 +1,11 @@
-/* The three functions that a Rattle static library calls for memory, over the C library's: for the targets whose own
- * code for them the kit does not have. They answer what the kit's libc/src/heap.rt says of them; nothing proves it. */
+/* The three functions that a Rattle static library calls for memory, over malloc: for targets for which the kit has no
+ * code for them. They return what the kit's libc/src/heap.rt says of them; this is not proved. */
 #include <stddef.h>
 #include <stdlib.h>
 
 struct tried { _Bool ok; void *p; }; /* libc::types::Tried */
 
-static unsigned char nothing; /* what `p` points to beside a false `ok`, since it may not be null */
+static unsigned char nothing; /* what `p` points to if `ok` is false, since it may not be null */
 
 static struct tried tried(void *p) { return (struct tried){p != NULL, p ? p : &nothing}; }
 

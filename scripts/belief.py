@@ -26,13 +26,13 @@ from collections import deque
 import reading
 from sources import CRATES, IMPORT, NAME, OF_MODELS, ROOT, Exports, Module, Source, ghost_uses, parse_spec
 
-# The calls of the headline, each with a crate that hands it out.
+# The calls of the headline, each with a crate that exports it.
 HEADLINE = [("cbor_reader", "canonicalise"), ("cbor_reader", "read_strict")]
-# Engines that only crates of ours see: what they hand out is public only if another crate hands it on.
-MACHINERY = {"cbor_machine", "cbor_output", "cbor_parser", "cbor_sinks", "cbor_tree_reader"}
-# Crates of specs, proofs and laws, whose lemmas are made to be taken; and the files of them that have code all the same.
-THEORY = {"cbor_model", "cbor_automaton", "cbor_verdict"}
-THEORY_CODE = {("cbor_model", "key_order"), ("cbor_model", "prefix_number")}
+# Engines that only our crates use: what they export is public only if another crate re-exports it.
+MACHINERY = {"cbor_machine", "cbor_output", "cbor_parser", "cbor_sinks", "cbor_strict", "cbor_tree_reader"}
+# Crates of specs, proofs and laws, whose lemmas are meant for other crates; and those of their files that have code.
+THEORY = {"theory_values", "theory_automaton", "theory_verdicts"}
+THEORY_CODE = {("theory_values", "key_order"), ("theory_values", "prefix_number")}
 # Files of proofs that are theory in a crate with code: what the state of a machine means.
 THEORY_PROOFS = {
     f"Rattle.cbor_machine.proofs.{it}"
@@ -62,7 +62,7 @@ class Tree:
         self.handed_out = {it for crate in users for it in self.exports.of_crate(crate).values()}
 
     def is_public(self, function):
-        """Whether users see the function's contract. Of a program, `main` and what its public modules hand out count."""
+        """Whether users see the function's contract. Of a program, `main` and what its public modules export count."""
         if function.crate in self.programs and not function.module:
             return True
         owner = function.owner
@@ -81,7 +81,7 @@ class Tree:
         return [d for m in self.modules.values() for d in m.definitions.values()]
 
     def origin(self, path, name):
-        """The module and name of what a module hands on under a name."""
+        """The module and name of what a module re-exports under a name."""
         module = self.modules.get(path)
         while module is not None and name in module.handed_on:
             path, name = module.handed_on[name]
@@ -163,13 +163,13 @@ class Tree:
         return came
 
     def headline(self):
-        """The functions of the headline, and a message for each that no crate hands out."""
+        """The functions of the headline, and a message for each that no crate exports."""
         found, lacking = [], []
         for crate, call in HEADLINE:
             item = self.exports.of_crate(crate).get(call)
             of_call = [it for it in self.functions if it.owner is None and (it.crate, it.module, it.name) == item]
             found += of_call
-            lacking += [] if of_call else [f"{crate} does not hand out {call}, a call of the headline"]
+            lacking += [] if of_call else [f"{crate} does not export {call}, a call of the headline"]
         return found, lacking
 
 
@@ -252,7 +252,7 @@ def faults_of_places(tree, public, private, proved):
 
 
 def map_of_crates():
-    """The crates of the map in docs/ARCHITECTURE.md, with the groups that they stand in; and messages for other groups."""
+    """The crates of the map in docs/ARCHITECTURE.md, with the groups that they are in; and messages for other groups."""
     found, messages, group = {}, [], None
     text = (ROOT / "docs" / "ARCHITECTURE.md").read_text().partition("\n## The map\n")[2].partition("\n## ")[0]
     for row in text.splitlines():

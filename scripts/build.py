@@ -1,40 +1,39 @@
 #!/usr/bin/env python3
 """Proves and builds the program, and runs it in crates/cborc: scripts/build.py [WORD ..]
 
-`rt run` proves one crate after another. Here the crates below the program are proved side by side, in the order of the
-kit's `rt ci`: first what most lines wait for. Then `rt run` proves the program and gives it the WORDs. What was proved
-before is taken over. The kit's rt has to be on the path. If it is put together otherwise, `rt run` does all.
+`rt run` proves one crate after another. Here the crates below the program are proved in parallel, in the order of the
+kit's `rt ci`: first those that most lines depend on. Then `rt run` proves the program and passes it the WORDs. What was
+proved before is not proved again. The kit's rt must be on the path. If the kit is of another version, `rt run` does all.
 """
 
-import importlib.machinery
-import importlib.util
 import os
+import shutil
 import subprocess
 import sys
 import tempfile
+import time
+
+from kit import load_rt
 
 PROGRAM = os.path.join(os.path.dirname(os.path.dirname(os.path.abspath(__file__))), "crates", "cborc")
-# A second job nearly halves the time of a proof. With four it takes as long, and half as much again of processors.
+# A second job nearly halves the time of a proof. Four jobs take as long as two, and 1.5 times the processor time.
 JOBS = 2
-# Proved beside cbor_diag, which nothing else could run beside: earlier it would hold up what most others wait for.
-LATE = {"cborc_files": ["cbor_reader"]}
+# Begun when cbor_item and cbor_parser can begin. Earlier it would delay the crates that most others wait for.
+LATE = {"cborc_files": ["theory_verdicts"]}
 
 
-def load_rt():
-    """The kit's rt, as a module."""
-    kit = os.path.dirname(subprocess.run(["rt", "doc"], check=True, stdout=subprocess.PIPE, text=True).stdout)
-    loader = importlib.machinery.SourceFileLoader("rt", f"{kit}/bin/rt")
-    module = importlib.util.module_from_spec(importlib.util.spec_from_loader("rt", loader))
-    loader.exec_module(module)
-    return module
+def say(text):
+    print(f"build.py: {text}", file=sys.stderr, flush=True)
 
 
-def is_built(crate, given):
+def is_built(crate, given, count):
     """Whether a library is proved now, or was, and those below it."""
+    began = time.monotonic()
     with tempfile.TemporaryFile("w+") as crate.out:
         is_well = all(given[it.name, "proof"] for it in crate.deps) and not crate.build_rlib(["--jobs", str(JOBS)], anew=False)
         crate.out.seek(0)
-        print(f"{crate.name}: proved" if is_well else f"{crate.out.read()}{crate.name}: NOT PROVED", file=sys.stderr)
+        place = f"{crate.name} ({len(given) + 1} of {count})"
+        say(f"{place}: proved, {time.monotonic() - began:.0f} s" if is_well else f"{crate.out.read()}{place}: NOT PROVED")
     return is_well
 
 
@@ -46,8 +45,9 @@ def are_built(rt):
     tasks = {}
     for it in libraries:
         waits = [dep.name for dep in it.deps] + LATE.get(it.name, [])
-        tasks[it.name, "proof"] = [(name, "proof") for name in waits], it.count(rb"\n"), 0, lambda given, _, it=it: is_built(it, given)
-    # in_lanes takes so many at a time.
+        call = lambda given, _, it=it: is_built(it, given, len(libraries) + 1)
+        tasks[it.name, "proof"] = [(name, "proof") for name in waits], it.count(rb"\n"), 0, call
+    # in_lanes runs this many at a time.
     os.environ["RT_JOBS"] = str(max(1, rt.processors() // JOBS))
     are_well = all(rt.in_lanes(tasks).values())
     for it in held:
@@ -58,11 +58,16 @@ def are_built(rt):
 def main():
     if sys.argv[1:2] in (["-h"], ["--help"]):
         sys.exit(print(__doc__.strip()))
+    if not shutil.which("rt"):
+        say("rt is not on the path: it is part of the Rattle kit, see README.md")
+        sys.exit(2)
+    say("proves and builds the program: about half an hour on four processors where nothing was proved before")
     try:
         if not are_built(load_rt()):
             sys.exit(1)
     except (AttributeError, ImportError, OSError, TypeError) as error:
-        print(f"build.py: one crate after another: {error}", file=sys.stderr)
+        say(f"one crate after another: {error}")
+    say("cborc, the last crate: proves and runs it")
     sys.exit(subprocess.run(["rt", "run", "--jobs", str(JOBS), "--", *sys.argv[1:]], cwd=PROGRAM).returncode)
 
 

@@ -2,13 +2,13 @@
 # Makes the library as WebAssembly: scripts/build_web.sh [FOLDER]
 #
 # FOLDER (bindings/js/wasm without one) gets naltvigo64.wasm, with 64-bit memory and vectors, and naltvigo32.wasm, the same
-# lowered to 32-bit memory, without vectors. The kit's rt has to be on the path, over libraries as `rt ci` leaves them, and
-# wasm-opt: Debian's binaryen. Two runs make equal bytes.
+# lowered to 32-bit memory, without vectors. It needs the kit's rt on the path, libraries as `rt ci` leaves them, and
+# wasm-opt: Debian's binaryen. Two runs make equal bytes. NALTVIGO_MODULES is a folder of scripts/modules.sh, whose module is used.
 #
-# The kit's compiler makes wasm64 of no code that takes memory. So naltvigo is proved and compiled for x86-64 without any
-# later processor's instructions; the LLVM module that the compiler hands to clang is kept, retargeted, and compiled by
-# the same clang for wasm64. So the proof's verdict names x86-64, and this script and platform/heap_of_module.c are
-# trusted. It refuses a module with anything of x86-64 in it. scripts/build_web_release.sh goes the kit's own way.
+# The kit's compiler does not compile code that allocates to wasm64. So naltvigo is proved and compiled for x86-64 without any
+# later processor's instructions; the LLVM module that the compiler passes to clang is stored, retargeted, and compiled by
+# the same clang for wasm64. Therefore the proof's verdict names x86-64, and this script and platform/heap_of_module.c are
+# trusted. It refuses a module with anything of x86-64 in it. scripts/build_web_release.sh compiles as the kit does.
 set -euo pipefail
 . "$(dirname "${BASH_SOURCE[0]}")/lib/options.sh"
 take_options 1 "$@"
@@ -22,27 +22,17 @@ fail() { echo "build_web.sh: $*" >&2; exit 1; }
 command -v wasm-opt >/dev/null || fail "wasm-opt is not there: Debian's binaryen has it"
 mkdir -p "$folder"
 
-# ---- the LLVM module, as a toolchain whose clang keeps what it is given hands it out
+# ---- the LLVM module, retargeted
 
-mkdir -p "$scratch/toolchain/bin"
-ln -s "$kit/toolchain/lib" "$scratch/toolchain/lib"
-for tool in ld.lld llvm-ar; do
-    ln -s "$kit/toolchain/bin/$tool" "$scratch/toolchain/bin/$tool"
-done
-printf '#!/bin/sh\ncp module.bc %q\nexec %q "$@"\n' "$scratch/module.bc" "$clang" >"$scratch/toolchain/bin/clang"
-chmod +x "$scratch/toolchain/bin/clang"
-"$root/scripts/compile_library.sh" --toolchain "$scratch/toolchain" "$scratch/unused.a" --cpu x86-64
-"$clang" --target=x86_64-unknown-linux-gnu -S -emit-llvm -Xclang -disable-llvm-passes -x ir "$scratch/module.bc" -o "$scratch/x86.ll"
-
-# ---- retargeted
-
-"$root/scripts/retarget.py" <"$scratch/x86.ll" >"$scratch/wasm.ll"
+modules=${NALTVIGO_MODULES:-$scratch}
+"$root/scripts/modules.sh" "$modules" x86-64
+"$root/scripts/retarget.py" wasm64-unknown-unknown <"$modules/x86-64.ll" >"$scratch/wasm.ll"
 exports=$(sed -n 's/^define [^@]*@\(naltvigo_[a-z_]*\)(.*/--export=\1/p' "$scratch/wasm.ll")
 [ -n "$exports" ] || fail 'the module exports nothing'
 
 # ---- compiled and linked
 
-# the words with which the kit's compiler itself has clang compile for wasm64
+# the options with which the kit's compiler itself calls clang for wasm64
 target=(--target=wasm64-unknown-unknown -mcpu=lime1)
 words=("${target[@]}" -mllvm -expand-div-rem-bits=64 -mllvm -expand-fp-convert-bits=64 -ffunction-sections -fdata-sections
     -mllvm -trap-unreachable -mllvm -disable-machine-licm -mllvm -disable-postra-machine-licm -mllvm -sink-common-insts=false
@@ -57,4 +47,5 @@ link "$scratch/vectors.o" "$folder/naltvigo64.wasm"
 "$clang" "${words[@]}" -c -x ir "$scratch/wasm.ll" -o "$scratch/plain.o"
 link "$scratch/plain.o" "$scratch/plain.wasm"
 "$root/scripts/lower_memory.sh" "$scratch/plain.wasm" "$folder/naltvigo32.wasm"
+chmod 644 "$folder"/naltvigo64.wasm "$folder"/naltvigo32.wasm # the linker makes programs
 ls -l "$folder"/naltvigo64.wasm "$folder"/naltvigo32.wasm

@@ -1,12 +1,12 @@
 #!/usr/bin/env bash
-# Makes the library as WebAssembly by the kit's own way, for a release: scripts/build_web_release.sh LIBRARIES [FOLDER]
+# Makes the library as WebAssembly as the kit does, for a release: scripts/build_web_release.sh LIBRARIES [FOLDER]
 #
 # FOLDER (bindings/js/wasm without one) gets naltvigo64.wasm and naltvigo32.wasm as build_web.sh makes them, without vectors;
-# but the verdict of the proof, which is the last line, names wasm64. For that the kit's libc has to import its heap on
-# wasm64, which is one attribute (platform/libc_on_wasm64.patch), and all above it is proved anew: the kit's libraries from
+# but the verdict of the proof, which is the last line, names wasm64. For that the kit's libc must import its heap on
+# wasm64, which is one attribute (platform/libc_on_wasm64.patch), and all above it is proved again: the kit's libraries from
 # libc to std, and ours. They go to LIBRARIES, in some 90 minutes and at most 13 GB; what an earlier run left there is
-# taken as it is. Trusted are then the kit's compiler, the lowering, and platform/heap_of_module.c. The gate does not run
-# this. Wants the kit's rt on the path, patch, and wasm-opt: Debian's binaryen. JOBS is how many checks run at once.
+# used. The kit's compiler, the lowering and platform/heap_of_module.c are then trusted. The gate does not run this.
+# It needs the kit's rt on the path, patch, and wasm-opt: Debian's binaryen. JOBS is how many checks run at once.
 set -euo pipefail
 . "$(dirname "${BASH_SOURCE[0]}")/lib/options.sh"
 take_options 2 "$@"
@@ -37,10 +37,10 @@ prove() {
     echo "$name, $((SECONDS - began)) s: $(tail -1 "$scratch/log")"
 }
 
-# What the kit proved a library of its own over.
+# The libraries that the kit proved a library of its own with.
 kit_dependencies() { sed -n 's/^dep //p' "$kit/rlibs/$1.rlib/format"; }
 
-# The kit's libraries that do not depend on libc stay; libc is changed, and the others are proved over that.
+# The kit's libraries that do not depend on libc are used as they are; libc is changed, and the others are proved with that.
 for name in core std_alloc std_collections; do
     ln -sfn "$kit/rlibs/$name.rlib" "$libraries/$name.rlib"
 done
@@ -53,7 +53,7 @@ for name in libc std_heap io os std_io std; do
     prove $name "$scratch/$name" $(kit_dependencies $name)
 done
 
-# A library below naltvigo, and what it needs, of the kit or of ours.
+# A library below naltvigo, and the libraries that it needs, the kit's or ours.
 needs() { sed -n "s/^$1\( staticlib\)\?: *//p" "$root/crates.txt"; }
 build() {
     local name=$1 dep found
@@ -69,7 +69,7 @@ build() {
 }
 for name in $(needs naltvigo); do build "$name"; done
 
-# ---- compiled, with its heap beside it so that nothing is imported, and linked
+# ---- compiled, with its heap so that nothing is imported, and linked
 
 "$root/scripts/compile_library.sh" --target wasm64-unknown-unknown --libraries "$libraries" "$scratch/naltvigo.a" >"$scratch/verdict"
 "$kit/toolchain/bin/clang" --target=wasm64-unknown-unknown -mcpu=lime1 -O2 -ffreestanding -nostdinc -Wall -Wextra -Werror -DIMPORTS \

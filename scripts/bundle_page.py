@@ -1,8 +1,8 @@
 #!/usr/bin/env python3
-"""Writes web/ as one HTML file, which needs nothing beside it: scripts/bundle_page.py FILE
+"""Writes web/ as one HTML file, which needs no other file: scripts/bundle_page.py FILE
 
-The styles, the scripts and both modules of bindings/js/wasm stand in the file, and its policy (CSP) lets it load and
-send nothing. Each ES module becomes a function that returns its exports, so names do not meet; what the bundler does
+The styles, the scripts and both modules of bindings/js/wasm are in the file, and its policy (CSP) lets it load and
+send nothing. Each ES module becomes a function that returns its exports, so that names do not clash. What the bundler does
 not know, such as a default export, a cycle or an import that it would lose, is an error.
 """
 
@@ -17,7 +17,7 @@ ROOT = Path(__file__).resolve().parent.parent
 WEB = ROOT / "web"
 WASM = ROOT / "bindings/js/wasm"
 
-# Files that a built page has its own form of.
+# Files of which a built page has its own form.
 INLINED = {WEB / "src" / path.name: path for path in (WEB / "inlined").glob("*.js")}
 
 IMPORT = re.compile(r"^import \{([\w,\s]+)\} from '(\.[\w./-]+)';$", re.MULTILINE)
@@ -38,7 +38,7 @@ def names_in(text):
 
 
 class Bundle:
-    """The modules that one script needs, each behind those that it imports."""
+    """The modules that one script needs, each after those that it imports."""
 
     def __init__(self):
         self.numbers = {}
@@ -128,7 +128,7 @@ def page():
     text = replaced(text, re.search(r'http-equiv="Content-Security-Policy" content="([^"]*)"', text)[1], policy)
     text = replaced(text, '<link rel="stylesheet" href="style.css">', f"<style>{style}</style>")
     text = replaced(text, '<script type="module" src="src/main.js"></script>\n', "")
-    # behind the elements that it looks for
+    # after the elements that it looks for
     return replaced(text, "</body>", f"<script>{script}</script>\n</body>")
 
 

@@ -1,7 +1,7 @@
 #!/usr/bin/env python3
-"""What bash, zsh and fish offer behind words of cborc, by the completions in share/.
+"""Compares what bash, zsh and fish offer after words of cborc, with the completions in share/.
 
-    scripts/completions.py    asks each shell that is there
+    scripts/completions.py    tries each shell that is installed
 """
 
 import os
@@ -18,7 +18,7 @@ SHARE = os.path.join(os.path.dirname(os.path.dirname(os.path.abspath(__file__)))
 COMMANDS = {"show", "events", "check", "canon", "compare"}
 SHARED = {"--depth", "--bytes", "--keys", "--hex", "--quiet", "--explain", "--help"}
 
-# What stands on the line, and what is offered there; of options, in whichever shell, the long ones.
+# What is on the line, and what is offered there; of options, in each shell, only the long ones.
 ROWS = [
     ("cborc c", {"check", "canon", "compare"}),
     ("cborc -", {"--help", "--version"}),
@@ -29,15 +29,15 @@ ROWS = [
     ("cborc check -", SHARED | {"--strict", "--seq", "--order"}),
     ("cborc canon -", SHARED | {"--hex-out", "--seq", "--order"}),
     ("cborc canon --o", {"--order"}),
-    ("cborc check --order ", {"bytewise", "length"}),
+    ("cborc check --order ", {"bytewise", "length", "length-first"}),
     ("cborc show --keys ", {"any", "basic"}),
     ("cborc show re", {"records.cbor"}),
 ]
 
-# What bash alone is asked: a name with a space, and a word with its value, which it takes apart.
+# For bash only: a name with a space, and a word with its value, which bash splits.
 ROWS_OF_BASH = [
     ("cborc show tw", {"two words.cbor"}),
-    ("cborc check --order=", {"bytewise", "length"}),
+    ("cborc check --order=", {"bytewise", "length", "length-first"}),
     ("cborc check --order=by", {"bytewise"}),
 ]
 
@@ -63,7 +63,7 @@ def of_fish(line, folder):
     return {entry.split("\t")[0] for entry in asked.stdout.splitlines()}
 
 
-# What zsh would offer, reported by the call that takes the offers.
+# What zsh would offer, reported by the function that receives the offers.
 TELLER = """
 PS1=; fpath=(%s $fpath); autoload -Uz compinit; compinit -D -u
 compadd() {
@@ -76,7 +76,7 @@ print ready:
 """
 
 
-def read_until(terminal, end, seconds=10):
+def read_until(terminal, end, seconds=60):
     found = ""
     until = time.monotonic() + seconds
     while end not in found and time.monotonic() < until:
@@ -121,7 +121,7 @@ def faults():
             for line, wanted in ROWS + (ROWS_OF_BASH if shell == "bash" else []):
                 got = offered(ask(line, folder))
                 if got != wanted:
-                    found.append(f"{shell} offers behind '{line}' {sorted(got)}, and not {sorted(wanted)}")
+                    found.append(f"{shell} offers after '{line}' {sorted(got)}, and not {sorted(wanted)}")
     return found
 
 

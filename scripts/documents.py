@@ -1,10 +1,12 @@
 #!/usr/bin/env python3
-"""Checks the documents: links lead to files, files that prose names exist, sizes, width, and generated parts.
+"""Checks the documents: links lead to files, files that prose names exist, scripts that they name as commands are executable,
+quoted code is in the sources, width, and generated parts.
 
     scripts/documents.py [FOLDER]    prints what is wrong, and fails if something is; of a folder of installed documents,
                                      only whether links lead to files
 """
 
+import os
 import re
 import subprocess
 import sys
@@ -13,22 +15,20 @@ from pathlib import Path
 ROOT = Path(__file__).resolve().parent.parent
 
 # Scripts that write a document or a part of one, and compare it by --check.
-WRITERS = ["proved.py", "ways.py", "reasons.py"]
-# At most so many lines, or words.
-MOST_LINES = {"README.md": 70, "CHANGELOG.md": 120}
-MOST_WORDS = {"docs/DECISIONS.md": 6000}
-# The map of ARCHITECTURE fits a screen, and its glossary a look.
-MOST_ROWS = {"## The map": 40, "## Words": 40}
+WRITERS = ["ways.py", "reasons.py", "limits.py"]
+# The document that quotes contracts, and the least number of quotations in it.
+QUOTING, LEAST_QUOTED = "docs/CONTRACTS.md", 15
 # A file of a crate, or of another folder here, that a document names.
-IN_CRATES = re.compile(r"(?:cborc?|naltvigo|example|answers)\w*/(?:src|specs|proofs|must-fail)/[\w/.-]*")
-IN_FOLDERS = re.compile(r"(?:bench|bindings|c|docs|fuzz|include|platform|scripts|share|web|\.ci)/[\w/.-]*[\w/]")
-# The width of prose. Tables and code may be wider, and so may what scripts/proved.py writes.
+IN_CRATES = re.compile(r"(?:crates/)?(?:cborc?|naltvigo|example|fuzz_readers)\w*/(?:src|specs|proofs|must-fail|wrong-bodies)/[\w/.-]*")
+IN_FOLDERS = re.compile(r"(?:bench|bindings|c|docs|examples|fuzz|include|platform|scripts|share|web|\.ci)/[\w/.-]*[\w/]")
+# A command in backticks or in a line of code, without the variables that are set for it.
+COMMAND = re.compile(r"(?m)(?:`|^\s*(?:\$ )?)(?:\w+=\S+ )*(?:\./)?([\w.-]+/[\w./-]+)(?= |$)")
+# The width of prose. Tables and code may be wider.
 WIDTH = 130
-GENERATED = {"docs/PROVED.md", "docs/CALLS.md"}
 
 
-def documents():
-    listed = subprocess.run(["git", "ls-files", "--", "*.md"], cwd=ROOT, capture_output=True, text=True, check=True).stdout
+def files(*patterns):
+    listed = subprocess.run(["git", "ls-files", "--", *patterns], cwd=ROOT, capture_output=True, text=True, check=True).stdout
     return [ROOT / line for line in listed.splitlines()]
 
 
@@ -59,47 +59,69 @@ def wide_lines(path, name):
             yield f"{name}:{number}: {len(line)} characters, more than {WIDTH}"
 
 
-def sizes():
-    for name, most in MOST_LINES.items():
-        lines = text_of(ROOT / name).count("\n")
-        if lines > most:
-            yield f"{name}: {lines} lines, more than {most}"
-    for name, most in MOST_WORDS.items():
-        words = len(text_of(ROOT / name).split())
-        if words > most:
-            yield f"{name}: {words} words, more than {most}"
+def lines_of_code(text):
+    """The lines of a source without indentation, blank lines and whole-line comments."""
+    lines = (line.strip() for line in text.splitlines())
+    return [line for line in lines if line and not line.startswith(("//", "--"))]
+
+
+def stale_quotations():
+    """Blocks of Rattle and antt in the document of contracts that are not in the file that their first line names."""
+    blocks = re.findall(r"(?ms)^```(?:rust|antt)\n(.*?)^```$", text_of(ROOT / QUOTING))
+    if len(blocks) < LEAST_QUOTED:
+        yield f"{QUOTING}: {len(blocks)} quotations; at least {LEAST_QUOTED} are expected"
+    for block in blocks:
+        first, _, quoted = block.partition("\n")
+        path = ROOT / first.lstrip("/- ")
+        if not path.is_file():
+            yield f"{QUOTING}: the first line of a quotation names no file: {first}"
+            continue
+        wanted, found = lines_of_code(quoted), lines_of_code(text_of(path))
+        starts = range(len(found) - len(wanted) + 1)
+        if not wanted or not any(found[i : i + len(wanted)] == wanted for i in starts):
+            yield f"{QUOTING}: this is not in {path.relative_to(ROOT)}:\n{quoted}"
 
 
 def missing_files(path, name):
     """Files that a document names in backticks, and that do not exist."""
     for number, line in enumerate(text_of(path).splitlines(), 1):
         for word in re.findall(r"`([^`\s]+)[^`]*`", line):
-            if IN_CRATES.fullmatch(word) and not (ROOT / "crates" / word).exists():
-                yield f"{name}:{number}: crates/{word} does not exist"
+            if IN_CRATES.fullmatch(word) and not (ROOT / "crates" / word.removeprefix("crates/")).exists():
+                yield f"{name}:{number}: {word} does not exist"
             if IN_FOLDERS.fullmatch(word) and not (ROOT / word).exists():
                 yield f"{name}:{number}: {word} does not exist"
 
 
-def long_tables():
-    """Tables of ARCHITECTURE that are longer than they may be."""
-    text = text_of(ROOT / "docs" / "ARCHITECTURE.md")
-    for heading, most in MOST_ROWS.items():
-        section = text.partition(f"\n{heading}\n")[2].partition("\n## ")[0]
-        rows = sum(line.startswith("| ") for line in section.splitlines()) - 1
-        if not 0 < rows <= most:
-            yield f"docs/ARCHITECTURE.md: {rows} rows below '{heading}'; 1 to {most} are allowed"
+def is_script(path):
+    with open(path, "rb") as file:
+        return file.read(2) == b"#!"
+
+
+def wrong_modes():
+    """Scripts that cannot be run by their names, and what is executable without being a script."""
+    for path in files():
+        if is_script(path) != os.access(path, os.X_OK):
+            name = path.relative_to(ROOT)
+            yield f"{name} is not executable" if is_script(path) else f"{name} is executable, and its first line names no program"
+
+
+def commands_that_fail(path, name):
+    """Commands that begin with a file here which is not executable."""
+    for word in COMMAND.findall(text_of(path)):
+        if (ROOT / word).is_file() and not os.access(ROOT / word, os.X_OK):
+            yield f"{name}: {word} is not executable"
 
 
 def faults():
-    for path in documents():
+    for path in files("*.md"):
         name = path.relative_to(ROOT).as_posix()
         yield from broken_links(path, name)
-        if name not in GENERATED:
-            yield from wide_lines(path, name)
+        yield from wide_lines(path, name)
+        yield from commands_that_fail(path, name)
         if name.startswith("docs/") or "/" not in name:
             yield from missing_files(path, name)
-    yield from sizes()
-    yield from long_tables()
+    yield from wrong_modes()
+    yield from stale_quotations()
     for script in WRITERS:
         if subprocess.run([sys.executable, ROOT / "scripts" / script, "--check"]).returncode != 0:
             yield f"scripts/{script} --check fails"

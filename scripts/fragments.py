@@ -2,8 +2,8 @@
 """Takes the C out of docs/C.md, so that scripts/test_c.sh can compile it.
 
     scripts/fragments.py FOLDER    writes each block of C to FOLDER/LINE.c, named for the line where it begins; fails if a
-                                   whole program is not, word for word, the file of c/ that its first comment names, or
-                                   if C stands in a block of another kind
+                                   whole program is not, word for word, the file of examples/ that its first comment names, or
+                                   if C is in a block of another kind
 """
 
 import re
@@ -34,10 +34,10 @@ def fault_of(kind, block):
     if "int main(" not in block:
         return None
     named = re.match(r"/\* (\w+)\b", block)
-    path = ROOT / "c" / f"{named[1]}.c" if named else None
+    path = ROOT / "examples" / f"{named[1]}.c" if named else None
     if path is None or not path.exists():
-        return "a program whose first comment names no file of c/"
-    return None if path.read_text(encoding="utf-8") == block else f"another program than c/{path.name}"
+        return "a program whose first comment names no file of examples/"
+    return None if path.read_text(encoding="utf-8") == block else f"another program than examples/{path.name}"
 
 
 def main():

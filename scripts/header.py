@@ -1,8 +1,8 @@
 #!/usr/bin/env python3
-"""Holds include/naltvigo.h against crates/naltvigo, the constants, structs and exports' signatures; and the numbers that the
-crate for Rust repeats against the header.
+"""Compares include/naltvigo.h with crates/naltvigo: the constants, structs and exports' signatures. Compares with the header what
+the bindings repeat: numbers, and in Rust's raw.rs the structs and signatures, with the parameters' names.
 
-    scripts/header.py [ROOT]    says what differs, and fails where something does
+    scripts/header.py [ROOT]    prints what differs, and fails if something does
 """
 
 import re
@@ -12,20 +12,23 @@ from pathlib import Path
 ROOT = Path(sys.argv[1] if len(sys.argv) > 1 else Path(__file__).resolve().parent.parent)
 CRATE = ROOT / "crates" / "naltvigo" / "src"
 
-# What a parameter of Rattle's is in C.
+# A parameter's type in Rattle, and in C.
 TYPES = {
     "Global": [],
     "u32": ["uint32_t"],
     "u64": ["uint64_t"],
     "usize": ["size_t"],
+    "i64": ["int64_t"],
     "&[u8]": ["const uint8_t *", "size_t"],
     "&mut [u8]": ["uint8_t *", "size_t"],
     "&mut u32": ["uint32_t *"],
     "&mut usize": ["size_t *"],
     "&mut u64": ["uint64_t *"],
+    "&mut i64": ["int64_t *"],
     "&mut NaltvigoRefusal": ["struct naltvigo_refusal *"],
     "&mut [NaltvigoEvent]": ["struct naltvigo_event *", "size_t"],
     "&mut SavedMachine": ["struct naltvigo_machine *"],
+    "&PlacedItem": ["const struct naltvigo_item *"],
     "&mut PlacedItem": ["struct naltvigo_item *"],
     "&mut [PlacedItem]": ["struct naltvigo_item *", "size_t"],
     "u8": ["uint8_t"],
@@ -34,7 +37,10 @@ TYPES = {
     "[u8; MOST_OPEN]": ["uint8_t[NALTVIGO_DEPTH_MAX]"],
 }
 
-# A struct of the crates, and what it is in C.
+# The fields of SavedMachine that have another name in C.
+FIELDS = {"place": "offset", "taken": "consumed", "lefts": "remaining"}
+
+# A struct of the crates, and its name in C.
 STRUCTS = {
     "naltvigo_refusal": (CRATE / "status.rt", "NaltvigoRefusal"),
     "naltvigo_event": (CRATE / "streaming.rt", "NaltvigoEvent"),
@@ -80,24 +86,24 @@ def constants_of_header(text):
 def exports_of_crate():
     found = {}
     for path in CRATE.glob("*.rt"):
-        for name, given, answer in re.findall(r'pub extern "C" fn (\w+)\(([^)]*)\) -> (\w+)', path.read_text()):
+        for name, given, result in re.findall(r'pub extern "C" fn (\w+)\(([^)]*)\) -> (\w+)', path.read_text()):
             kinds = [it.split(":")[1].strip() for it in given.split(",") if it.strip()]
-            found[name] = TYPES[answer] + [c for kind in kinds for c in TYPES[kind]]
+            found[name] = TYPES[result] + [c for kind in kinds for c in TYPES[kind]]
     return found
 
 
 def exports_of_header(text):
     found = {}
-    for answer, name, given in re.findall(r"(?m)^(\w+) (naltvigo_\w+)\(([^)]*)\);", text):
+    for result, name, given in re.findall(r"(?m)^(\w+) (naltvigo_\w+)\(([^)]*)\);", text):
         kinds = [re.sub(r"\w+$", "", " ".join(it.split())).strip() for it in given.split(",") if it != "void"]
-        found[name] = [answer] + kinds
+        found[name] = [result] + kinds
     return found
 
 
 def struct_of_crate(name):
     path, of_crate = STRUCTS[name]
     body = re.search(r"pub struct %s \{(.*?)\n\}" % of_crate, path.read_text(), re.S)[1]
-    return [(field, TYPES[kind][0]) for field, kind in re.findall(r"pub (\w+): ([^,]+),", body)]
+    return [(FIELDS.get(field, field), TYPES[kind][0]) for field, kind in re.findall(r"pub (\w+): ([^,]+),", body)]
 
 
 def struct_of_header(name, text):
@@ -117,6 +123,56 @@ def numbers_of_bindings():
         if path.exists():
             text = path.read_text(encoding="utf-8")
             yield from ((file, name, int(value)) for name, value in re.findall(f"(?m){pattern}", text))
+
+
+# A type of raw.rs, and its name in C.
+RUST_TYPES = {
+    "u8": "uint8_t",
+    "u16": "uint16_t",
+    "u32": "uint32_t",
+    "u64": "uint64_t",
+    "usize": "size_t",
+    "*const u8": "const uint8_t *",
+    "*mut u8": "uint8_t *",
+    "*mut u32": "uint32_t *",
+    "*mut u64": "uint64_t *",
+    "*mut usize": "size_t *",
+    "[u64; DEPTH_MAX]": "uint64_t[NALTVIGO_DEPTH_MAX]",
+    "[u8; DEPTH_MAX]": "uint8_t[NALTVIGO_DEPTH_MAX]",
+    **{f"*mut {name.title()}": f"struct naltvigo_{name} *" for name in ("refusal", "event", "item", "machine")},
+}
+
+# A parameter whose name is a keyword of Rust.
+RUST_NAMES = {"input": "in", "input_length": "in_length"}
+
+
+def parameters_of_header(text):
+    """Each export's result and parameters, with their names."""
+    for result, name, given in re.findall(r"(?m)^(\w+) (naltvigo_\w+)\(([^)]*)\);", text):
+        words = [" ".join(it.split()) for it in given.split(",") if it != "void"]
+        yield name, [result, *(re.sub(r"\b(\w+)$", r": \1", it).replace(" : ", ": ") for it in words)]
+
+
+def in_c(fields):
+    """The fields or parameters of raw.rs, as in C: type and name."""
+    for name, kind in re.findall(r"(\w+): ([^,;\n]+(?:; \w+\])?),?", fields):
+        yield RUST_TYPES[kind], RUST_NAMES.get(name, name)
+
+
+def differences_in_rust(rust, text):
+    header = dict(parameters_of_header(text))
+    exports = re.findall(r"pub fn (naltvigo_\w+)\(([^)]*)\) -> (\w+);", rust)
+    for name, given, result in exports:
+        found = [RUST_TYPES[result], *(f"{kind}: {it}" for kind, it in in_c(given))]
+        if found != header.get(name):
+            yield f"raw.rs has {name} {found}, the header {header.get(name)}"
+    for name in STRUCTS:
+        fields = re.search(r"#\[repr\(C\)\]\n[^{}]*pub struct %s \{(.*?)\n\}" % name.removeprefix("naltvigo_").title(), rust, re.S)
+        found = [(it, kind) for kind, it in in_c(fields[1])] if fields else None
+        if found != struct_of_header(name, text):
+            yield f"raw.rs has the fields {found} of {name}, the header {struct_of_header(name, text)}"
+    if not exports or rust.count("fn naltvigo_") != len(exports):
+        yield f"of the exports in raw.rs {len(exports)} were read"
 
 
 def differences(what, crate, header):
@@ -139,6 +195,9 @@ def main():
     for file, name, value in numbers_of_bindings():
         if name in constants_of_header(text) and constants_of_header(text)[name] != value:
             found.append(f"{file} has {value} for {name}")
+    rust = ROOT / "bindings" / "rust" / "src" / "raw.rs"
+    if rust.exists():
+        found += differences_in_rust(rust.read_text(encoding="utf-8"), text)
     for line in found:
         print(f"naltvigo.h: {line}")
     return 1 if found else 0

@@ -1,8 +1,8 @@
 #!/usr/bin/env python3
-"""Lays out the imports of specs/ and proofs/; with --check it says which files are laid out otherwise.
+"""Formats the imports of specs/ and proofs/; with --check it names the files that are formatted otherwise.
 
-What a file takes of a crate stands together, lower crates first. Of modules that it takes one or two names of, one
-line has as many as fit, each name by its way down from the module that they share.
+The imports from one crate are together, lower crates first. A line has as many modules as fit, if the file imports one or
+two names of each; each name then has its path from the module that they share.
 """
 
 import os
@@ -16,7 +16,7 @@ IMPORT = re.compile(r"^use (Rattle\.[^\s{]+)\.\{(.*)\}$")
 
 
 def ranks():
-    """The crates, each behind those that it stands on; std and the kit's stand before them."""
+    """The crates, each after those that it depends on; std and the kit's crates come first."""
     lines = [it.partition("#")[0].partition(":") for it in (ROOT / "crates.txt").read_text().splitlines()]
     stands_on = {name.split()[0]: libraries.split() for name, colon, libraries in lines if colon}
     order = []
@@ -33,14 +33,14 @@ def ranks():
 
 
 def one_line(taken):
-    """The import of (module, names), each name by its way down from the module that all share."""
+    """The import of (module, names), each name with its path from the module that all share."""
     shared = os.path.commonprefix([module.split(".") for module, _ in taken])
     ways = [module.split(".")[len(shared):] + [name] for module, names in taken for name in names]
     return f"use {'.'.join(shared)}.{{{', '.join('.'.join(it) for it in ways)}}}"
 
 
 def taken_by(line):
-    """What an import takes, by modules; nothing where it renames, or takes a name of a crate that stands in no module below."""
+    """The names that an import brings in, by module; none if it renames, or if a name is directly in a crate."""
     match = IMPORT.match(line)
     names = split_names(match[2]) if match else []
     taken = {}
@@ -51,7 +51,7 @@ def taken_by(line):
 
 
 def of_crate(lines):
-    """A file's imports of one crate, those of few names in as few lines as fit."""
+    """A file's imports from one crate, those of few names in as few lines as fit."""
     by_line, of_module = {it: taken_by(it) for it in lines}, {}
     for taken in by_line.values():
         for module, names in taken.items():

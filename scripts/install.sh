@@ -2,14 +2,14 @@
 # Installs the program and the library for C: scripts/install.sh [PREFIX]
 #
 # PREFIX (/usr/local for root, else ~/.local) gets bin/cborc, its man page and completions, the headers, both
-# libraries, what pkg-config and CMake ask for, and a list of all that in share/naltvigo, by which scripts/uninstall.sh
-# removes it. Both are proved and built first, which takes the kit's rt; PROGRAM and DIST name a program and a folder as
-# build_c.sh makes it that stand built. With PROGRAM=none the library alone is installed. With DESTDIR all goes below that
-# folder, as it is to stand at PREFIX. GATE_LOG names the log of .ci/run: then the transcript of its proofs is installed
-# with the documents.
+# libraries, the files for pkg-config and CMake, and a list of all that in share/naltvigo, by which scripts/uninstall.sh
+# removes it. Both are proved and built first, which needs the kit's rt, unless PROGRAM and DIST name a program and a folder
+# of build_c.sh. With PROGRAM=none only the library is installed. With DESTDIR all goes below that
+# folder, with the paths that it will have at PREFIX. GATE_LOG names the log of .ci/run: then the transcript of its proofs is
+# installed with the documents.
 #
 # With DATABASES, one or both of the words sqlite and postgresql, their extensions are built and installed too, as the
-# README of each in bindings/ says. That for PostgreSQL goes where its pg_config (PG_CONFIG) says, and not below PREFIX.
+# README of each in bindings/ says. The extension for PostgreSQL goes where its pg_config (PG_CONFIG) says, not below PREFIX.
 set -euo pipefail
 . "$(dirname "${BASH_SOURCE[0]}")/lib/options.sh"
 take_options 1 "$@"
@@ -43,18 +43,22 @@ put() { # FILE TO [MODE]
     files+=("$2")
 }
 if [ "$program" != none ]; then
-    strip --strip-unneeded --remove-section=.comment -o "$scratch/cborc" "$program"
+    "${STRIP:-strip}" --strip-unneeded --remove-section=.comment -o "$scratch/cborc" "$program"
     put "$scratch/cborc" bin/cborc 755
     put "$root/share/cborc.1" share/man/man1/cborc.1
     put "$root/share/cborc.bash" share/bash-completion/completions/cborc
     put "$root/share/_cborc" share/zsh/site-functions/_cborc
     put "$root/share/cborc.fish" share/fish/vendor_completions.d/cborc.fish
 fi
-# in the same folders, so that their links lead somewhere, with the programs of docs/C.md
+# in the same folders, so that their links lead somewhere, with the examples
 while IFS= read -r file; do
     put "$root/$file" "share/doc/naltvigo/$file"
 done < <(cd "$root" && ls README.md CHANGELOG.md CONTRIBUTING.md SECURITY.md LICENSE-MIT LICENSE-APACHE docs/*.md bindings/*/README.md \
-    web/README.md c/{cwt,canonicalise,sequence,events}.c)
+    web/README.md portable/README.md examples/* | grep -v -e '^docs/PROVED.md$' -e '^docs/CALLS.md$')
+"$root/scripts/docs.sh" "$scratch/docs"
+for file in PROVED.md CALLS.md; do
+    put "$scratch/docs/$file" "share/doc/naltvigo/docs/$file"
+done
 while IFS= read -r file; do
     case $file in *.so.*.*.*) mode=755 ;; *) mode=644 ;; esac
     put "$dist/$file" "$file" $mode

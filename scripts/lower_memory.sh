@@ -1,8 +1,8 @@
 #!/usr/bin/env bash
 # Lowers a WebAssembly module from 64-bit to 32-bit memory: scripts/lower_memory.sh MODULE LOWERED
 #
-# Addresses are cut to 32 bits where the memory is read and written; functions still take and answer 64-bit ones. Wants
-# wasm-opt, of Debian's binaryen.
+# Addresses are cut to 32 bits where the memory is read and written; functions still take and return 64-bit ones. It needs
+# wasm-opt, from Debian's binaryen.
 set -euo pipefail
 . "$(dirname "${BASH_SOURCE[0]}")/lib/options.sh"
 take_options 2 "$@"

@@ -1,10 +1,9 @@
 #!/usr/bin/env python3
-"""Writes docs/PROVED.md, the contract of each public call, and docs/CALLS.md, the documentation of each.
+"""Writes PROVED.md, the contract of each public call, and CALLS.md, the documentation of each.
 
-    scripts/proved.py            writes both, from crates/*/src and crates/*/specs
-    scripts/proved.py --check    fails if one of them differs
+    scripts/proved.py FOLDER    writes both to FOLDER, from crates/*/src and crates/*/specs
 
-The two are apart since a contract is proved, and a sentence of documentation is not.
+There are two documents because a contract is proved, and a sentence of documentation is not.
 """
 
 import re
@@ -16,23 +15,24 @@ CRATES = ROOT / "crates"
 
 PROVED = """# What is proved
 
-Written by `scripts/proved.py` from the sources. Below is the contract of each public call, word for word. It is proved
-for every input that meets its `requires`, as is that the call is safe and returns. A call without a clause is proved
-to be safe and to return, and no more.
+Written by `scripts/docs.sh` from the sources. This page has the contract of each public call, word for word.
+[CONTRACTS.md](CONTRACTS.md) explains the notation. Each contract is proved for every input that meets its `requires`. It
+is also proved that each call is safe and returns. For a call without a clause nothing else is proved.
 
-The table after the contracts of a crate explains the words of its `specs/` that contracts cite. The explanation is the
-comment of the definition; the definition itself counts. [READING.md](READING.md) lists the definitions in the order to
-read them, [CALLS.md](CALLS.md) has the documentation of the calls, and [TESTED.md](TESTED.md) what no clause can say.
+The table after the contracts of a crate explains the words of its `specs/` that contracts use. The explanation is the
+comment of the definition. What counts is the definition itself: [READING.md](READING.md) lists the definitions in the
+order in which to read them. [CALLS.md](CALLS.md) has the documentation of the calls, and [TRUST.md](TRUST.md) says what
+no contract states.
 
-A call that allocates may answer `Memory`, one that reads `Read`, one that writes `Write`. Unless a clause excludes it,
-expect that at any time.
+A call that allocates may return the reason `Memory`, one that reads `Read`, and one that writes `Write`. Unless a clause
+excludes it, expect that at any time.
 """
 
 CALLS = """# The public calls
 
-Written by `scripts/proved.py` from the documentation in the sources: the first paragraph of each public call. A
-sentence here is an explanation. What is proved is the contract of the call in [PROVED.md](PROVED.md), and what is only
-tested stands in [TESTED.md](TESTED.md).
+Written by `scripts/docs.sh` from the documentation in the sources: the first paragraph of each public call. A sentence
+on this page is an explanation. What is proved is the contract of the call in [PROVED.md](PROVED.md). What is only tested
+is in [TRUST.md](TRUST.md).
 """
 
 # An item of a source file that a caller may see, or that holds what one may see.
@@ -81,7 +81,7 @@ def joined(text):
 
 
 def public_of(crate):
-    """The names and the public modules that lib.rt hands out; of a program, None for everything."""
+    """The names and the public modules that lib.rt exports; of a program, None for everything."""
     library = CRATES / crate / "src" / "lib.rt"
     if not library.exists():
         return None, set()
@@ -95,7 +95,7 @@ def public_of(crate):
 
 
 def definitions_of(crate):
-    """The definitions in a crate's specs, but for specs/inner, in order: name to file and comment."""
+    """The definitions in a crate's specs except specs/inner, in order: name to file and comment."""
     found = {}
     for path in sorted((CRATES / crate / "specs").glob("*.antt")):
         comment = []
@@ -185,7 +185,7 @@ def cited_by(call, words_of):
 
 
 def contracts_of(crate, words, calls, reached):
-    """The section of a crate in docs/PROVED.md."""
+    """The section of a crate in PROVED.md."""
     lines = [f"## `{crate}`", ""]
     if calls:
         lines += ["```text", "\n\n".join(call.contract() for call in calls), "```", ""]
@@ -198,7 +198,7 @@ def contracts_of(crate, words, calls, reached):
 
 
 def documentation_of(crate, calls):
-    """The section of a crate in docs/CALLS.md."""
+    """The section of a crate in CALLS.md."""
     if not calls:
         return ""
     source = CRATES / crate / "src"
@@ -209,30 +209,25 @@ def documentation_of(crate, calls):
 
 
 def crates():
-    """The crates of crates.txt, but for those of tests."""
+    """The crates of crates.txt except those of tests."""
     names = re.findall(r"(?m)^(\w+)(?: staticlib)?:", (ROOT / "crates.txt").read_text())
     return [name for name in names if not name.endswith("_tests")]
 
 
 def main():
+    if len(sys.argv) != 2 or sys.argv[1].startswith("-"):
+        print(__doc__)
+        return 0 if {"-h", "--help"} & set(sys.argv[1:]) else 2
     words_of = {crate: definitions_of(crate) for crate in crates()}
     calls = {crate: list(calls_of(crate)) for crate in crates()}
     reached = {word for of in calls.values() for call in of for word in cited_by(call, words_of)}
     contracts = (contracts_of(crate, words_of[crate], calls[crate], reached) for crate in crates())
     documentation = (documentation_of(crate, calls[crate]) for crate in crates())
-    written = {
-        "docs/PROVED.md": PROVED + "\n" + "\n".join(filter(None, contracts)),
-        "docs/CALLS.md": CALLS + "\n" + "\n".join(filter(None, documentation)),
-    }
-    out_of_date = 0
-    for name, text in written.items():
-        path = ROOT / name
-        if "--check" not in sys.argv:
-            path.write_text(text, encoding="utf-8")
-        elif not path.exists() or path.read_text(encoding="utf-8") != text:
-            print(f"{name} is out of date: run scripts/proved.py")
-            out_of_date = 1
-    return out_of_date
+    folder = Path(sys.argv[1])
+    folder.mkdir(parents=True, exist_ok=True)
+    (folder / "PROVED.md").write_text(PROVED + "\n" + "\n".join(filter(None, contracts)), encoding="utf-8")
+    (folder / "CALLS.md").write_text(CALLS + "\n" + "\n".join(filter(None, documentation)), encoding="utf-8")
+    return 0
 
 
 if __name__ == "__main__":

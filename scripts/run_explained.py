@@ -1,5 +1,5 @@
 #!/usr/bin/env python3
-"""Runs the built program with --explain: what it says of refusals and of files.
+"""Runs the built program with --explain: what it says about refusals and files.
 
     scripts/run_explained.py [PROGRAM]
 
@@ -15,8 +15,8 @@ def explained():
     ended = run(["check", "--explain", "-"], b"\xa1\x61a\x82\x00\xf9\x00\x00")
     lines = b"""refused 5 Float at 5
   in standard input
-  A floating-point number begins here; no float is accepted.
-  Write it as an integer, a text, or a tag over integers.
+  A floating-point number begins here; floats are not accepted.
+  Encode it as an integer, as a text, or as a tag that contains integers.
   bytes from 0: a1 61 61 82 00 f9 00 00
 """
     wanted = lines + b" " * 31 + b'^^\n  at $."a"[1]\n'
@@ -24,13 +24,13 @@ def explained():
 
 
 def places():
-    """Refusals behind and within strings in chunks, and far along their input."""
-    chunk = b"A string of indefinite length holds strings of its own type alone."
-    chunk += b"\n  Close the string with ff, or give each chunk the string's type."
-    cut = b"The input ends within the item.\n  Look whether the input was cut, or a length is wrong."
-    float_ = b"A floating-point number begins here; no float is accepted."
-    float_ += b"\n  Write it as an integer, a text, or a tag over integers."
-    # The bytes, the refusal, what it says, the bytes that are shown, how many stand before the place, and the path.
+    """Refusals after and within strings in chunks, and far into their input."""
+    chunk = b"A chunk of a string must be a string of the same type and of definite length."
+    chunk += b"\n  End the string with a break (ff), or fix the type of the chunk."
+    cut = b"The input ends within the item.\n  Check whether the input was cut off, or a length is too large."
+    float_ = b"A floating-point number begins here; floats are not accepted."
+    float_ += b"\n  Encode it as an integer, as a text, or as a tag that contains integers."
+    # The bytes, the refusal, its sentences, the bytes that are shown, how many of them are before the offset, and the path.
     rows = [
         ("82007f4100ff", b"8 BadChunk at 3", chunk, b"0: 82 00 7f 41 00 ff", 3, b"$[1]"),
         ("82007f61616261", b"1 Truncated at 7", cut, b"0: 82 00 7f 61 61 62 61", 7, b"$[1]"),
@@ -40,29 +40,29 @@ def places():
         mark = b" " * (len("  bytes from ") + shown.index(b":") + 2 + 3 * before) + b"^^"
         lines = [b"refused " + refused, b"  in standard input", b"  " + text, b"  bytes from " + shown, mark, b"  at " + path, b""]
         expect(f"an explanation of {digits[:12]}", run(["check", "--explain", "-"], bytes.fromhex(digits)), 1, b"", b"\n".join(lines))
-    reported = b"not hex: -\n  With --hex the input is hex digits, two for each byte, and white space.\n"
-    reported += b"  line 1, column 70001: another byte (67)\n"
+    reported = b"not hex: -\n  With --hex, the input must consist of hex digits, two for each byte, and white space.\n"
+    reported += b"  line 1, column 70001: not a hex digit (byte 67)\n"
     expect("a fault far along a line", run(["check", "--hex", "--explain", "-"], b"0" * 70_000 + b"g"), 3, b"", reported)
 
 
 def causes():
     os.mkdir(os.path.join(FOLDER, "folder"))
     item = write("item", b"\x00")
-    beside = b"  A new file beside it was not to be made."
+    new_file = b"  A new file next to it could not be created."
     absent, folder = b"  There is no such file or folder.\n", b"  It is a folder.\n"
     expect("why: no file", run(["check", "--explain", "absent"]), 3, b"", b"cannot read absent\n" + absent)
     expect("why: a folder", run(["show", "--explain", "folder"]), 3, b"", b"cannot read folder\n" + folder)
     expect("a folder", run(["show", "folder"]), 3, b"", b"cannot read folder\n")
-    expect("why: no folder", run(["canon", "--explain", "-", "absent/out"], b"\x00"), 3, b"", b"cannot write absent/out\n" + beside + b" There is no such file or folder.\n")
+    expect("why: no folder", run(["canon", "--explain", "-", "absent/out"], b"\x00"), 3, b"", b"cannot write absent/out\n" + new_file + b" There is no such file or folder.\n")
     expect("why: OUT is a folder", run(["canon", "--explain", "-", "folder"], b"\x00"), 3, b"", b"cannot write folder\n" + folder)
-    expect("why: the path has a file in it", run(["check", "--explain", "item/x"]), 3, b"", b"cannot read item/x\n  A part of the path is no folder.\n")
+    expect("why: the path has a file in it", run(["check", "--explain", "item/x"]), 3, b"", b"cannot read item/x\n  A part of the path is not a folder.\n")
     expect("why: a path with an escape", run(["check", "--explain", "a\x1b[0m"]), 3, b"", b"cannot read a\\u001b[0m\n" + absent)
     if os.geteuid() != 0:
         os.chmod(item, 0)
         expect("why: not permitted", run(["check", "--explain", "item"]), 3, b"", b"cannot read item\n  It is not permitted.\n")
         write("folder/out", b"")
         os.chmod(os.path.join(FOLDER, "folder"), 0o555)
-        reported = b"cannot write folder/out\n" + beside + b" It is not permitted.\n"
+        reported = b"cannot write folder/out\n" + new_file + b" It is not permitted.\n"
         expect("why: the folder is not to be written", run(["canon", "--explain", "-", "folder/out"], b"\x00"), 3, b"", reported)
         os.chmod(os.path.join(FOLDER, "folder"), 0o755)
 

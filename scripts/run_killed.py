@@ -1,5 +1,5 @@
 #!/usr/bin/env python3
-"""Stops the built program at its system calls: it is killed there, and what it leaves is looked at.
+"""Stops the built program at each of its system calls, kills it there, and checks what it leaves.
 
     scripts/run_killed.py [PROGRAM]
 
@@ -18,15 +18,15 @@ import tempfile
 
 from running import BEFORE, CLAIMS, PROGRAM, Place, end, faults
 
-# Requests of ptrace (2), and where it has the number of a system call (x86-64).
+# Requests of ptrace (2), and the register with the number of a system call (x86-64).
 TRACE_ME, PEEK, TO_SYSTEM_CALL = 0, 3, 24
 NUMBER = 15 * 8
 system = ctypes.CDLL(None)
 system.ptrace.argtypes = [ctypes.c_long] * 4
 system.ptrace.restype = ctypes.c_long
-# Numbers of system calls: what writes, what brings a file to the disk, what renames one.
+# Numbers of system calls: those that write, that flush a file to the disk, that rename one.
 WRITES, SYNCS, RENAMES = {1, 18, 20}, {74, 75}, {82, 264, 316}
-# Who may read a file that is its owner's alone: nobody else.
+# The permissions of a file that only its owner may read.
 OWN, OTHERS = 0o600, 0o077
 
 
@@ -43,7 +43,7 @@ def traced(words, folder):
 
 
 def kill_at(words, folder, stops):
-    """Kills a run behind so many stops, of which each system call has one before and one behind it. Answers whether it
+    """Kills a run after this number of stops; a system call has one before and one after it. Returns whether the run
     came so far."""
     child = traced(words, folder)
     _, status = os.waitpid(child.pid, 0)
@@ -72,8 +72,8 @@ def system_calls(words, folder):
 
 
 def look(place, name, out, others, before, after):
-    """What a killed run left: whether OUT was written, and how many new files, which nobody may read who may not read
-    OUT."""
+    """What a killed run left: whether OUT was written, and the number of new files, which nobody may read who may not
+    read OUT."""
     found = place.get(out)
     if found not in (before, after):
         faults.append(f"{name}: OUT holds neither what was there nor what is to be")
@@ -89,7 +89,7 @@ def look(place, name, out, others, before, after):
 
 
 def kills(place):
-    """Runs killed at each of their system calls: OUT as it was with a new file beside it or none, or as it is to be."""
+    """Runs killed at each of their system calls: OUT is unchanged, with or without a new file next to it, or complete."""
     # Three byte strings, whose heads are not the shortest.
     items, canonical = ((head + bytes(5_000)) * 3 for head in (b"\x5a\x00\x00\x13\x88", b"\x59\x13\x88"))
     rows = [
@@ -110,13 +110,13 @@ def kills(place):
             seen.add(look(place, f"killed at stop {stops}, {title}", out, ["in"], before, after))
             if not goes_on:
                 break
-        # Before the new file was made, while it was there, and behind that.
+        # Before the new file was made, while it existed, and after that.
         if seen != {(False, 0), (False, 1), (True, 0)}:
             faults.append(f"killed, {title}: {sorted(seen)} were seen")
 
 
 def kills_of_long_runs(place):
-    """Runs killed while they write much: as their new file is there, holds something, holds all."""
+    """Runs killed while they write much: when the new file exists, when it has something, when it is complete."""
     count = 32_000_000 // len(CLAIMS)
     rows = [(["canon", "--bytes", "40000000"], b"\x5a\x02\x00\x00\x00" + bytes(1 << 25)), (["canon", "--seq"], CLAIMS * count)]
     for words, content in rows:
@@ -138,7 +138,7 @@ def kills_of_long_runs(place):
 
 
 def synced(place):
-    """A new file is brought to the disk behind its last byte, before it takes its place."""
+    """A new file is flushed to the disk after its last byte, before it replaces OUT."""
     if platform.machine() != "x86_64":
         return
     for words in (["canon", "in", "out"], ["canon", "--seq", "in", "out"], ["canon", "in", "new"]):
@@ -148,8 +148,8 @@ def synced(place):
         calls = system_calls(words, place.folder)
         found = [place for place, call in enumerate(calls) if call in RENAMES]
         before = calls[: found[0]] if found else []
-        behind = [call for call in before if call in WRITES | SYNCS]
-        if len(found) != 2 or not behind or behind[-1] not in SYNCS:
+        writes = [call for call in before if call in WRITES | SYNCS]
+        if len(found) != 2 or not writes or writes[-1] not in SYNCS:
             faults.append(f"{words}: no file was renamed, or it was not brought to the disk before: {calls}")
 
 

@@ -1,5 +1,5 @@
 #!/usr/bin/env python3
-"""Runs the built program where memory ends, the stack or the disk: what it says then, and what it leaves.
+"""Runs the built program with little memory, stack or disk: what it says then, and what it leaves.
 
     scripts/run_limited.py [PROGRAM]
 
@@ -22,7 +22,7 @@ MEMORY = b"out of memory\n"
 
 
 def start():
-    """How many KiB of memory the program has asked for as it waits for its input."""
+    """The KiB of memory that the program has requested when it waits for its input."""
     words = [PROGRAM, "check", "-"]
     with subprocess.Popen(words, stdin=subprocess.PIPE, stdout=subprocess.DEVNULL, stderr=subprocess.DEVNULL) as child:
 
@@ -36,7 +36,7 @@ def start():
 
 
 def small_items(place):
-    """64 MB of small items, within 2 MiB and what the program starts with."""
+    """64 MB of small items, within 2 MiB more than the program starts with."""
     count = 64_000_000 // len(CLAIMS)
     place.put("long", CLAIMS * count)
     few = limited(start() + 2 * 1024)
@@ -53,7 +53,7 @@ def small_items(place):
 
 
 def one_item(place):
-    """A byte string of 100 MB is held once, in a vector that has scratch for half as many bytes more."""
+    """A byte string of 100 MB is stored once, in a vector with capacity for half as many bytes more."""
     size = 100_000_000
     place.wide("wide", size)
     ended = place.run(["check", "--bytes", "200000000", "wide"], preexec_fn=limited(start() + size // 1024 * 16 // 10))
@@ -61,7 +61,7 @@ def one_item(place):
 
 
 def too_little(place):
-    """Items that there is no memory for: the word for that, and nothing left behind."""
+    """Items for which memory runs out: the reason for that, and no file left."""
     size = 40_000_000
     place.wide("wide", size)
     # The same with its length in eight bytes, which is not canonical.
@@ -70,10 +70,10 @@ def too_little(place):
     place.put("out", BEFORE)
     files = ["wide", "long", "second", "out"]
     within = ["--bytes", "100000000"]
-    # The second is enough for the item, and not for its canonical bytes or its text too, the last for all.
+    # The second is enough for the item, but not for its canonical bytes or its text too; the last is enough for all.
     few, more, most = (limited(start() + scratch // 1024) for scratch in (16 << 20, 2 * size, 8 * size))
     expect("check within more", place.run(["check", *within, "wide"], preexec_fn=more), 0, b"accepted 40000005 bytes\n")
-    # What is canonical is written as it stands.
+    # Canonical input is written as it is.
     expect("canon within more", place.run(["canon", *within, "wide", "same"], preexec_fn=more), 0)
     if place.get("same") != place.get("wide"):
         faults.append("canon within more: OUT holds something else")
@@ -84,7 +84,7 @@ def too_little(place):
     rows = [
         (few, ["check", *within, "wide"], MEMORY),
         (few, ["check", "--strict", *within, "wide"], MEMORY),
-        (few, ["check", "--explain", *within, "wide"], MEMORY + b"  A lower --bytes asks for less memory.\n"),
+        (few, ["check", "--explain", *within, "wide"], MEMORY + b"  Use a lower --bytes to need less memory.\n"),
         (few, ["check", "--seq", *within, "second"], MEMORY),
         (few, ["show", *within, "wide"], MEMORY),
         (more, ["show", *within, "wide"], MEMORY),
@@ -104,8 +104,8 @@ def too_little(place):
 
 # ---- disks
 
-# On a disk of 64 KiB and so many files, the folder itself one of them, that nobody else sees: runs the words, and tells
-# the status, the files and what OUT holds.
+# On a private disk of 64 KiB and $1 files, the folder itself one of them: runs the rest of the words, and prints
+# the status, the files and the content of OUT.
 ON_A_SMALL_DISK = """
 mount -t tmpfs -o "size=64k,nr_inodes=$1" tmpfs disk || exit 99
 printf '\\200' >disk/out
@@ -123,7 +123,7 @@ def on_a_small_disk(place, files, words):
 
 
 def small_disks(place):
-    """Disks that are full: OUT as it was, and no other file."""
+    """Disks that are full: OUT is unchanged, and there is no other file."""
     os.mkdir(place.path("disk"))
     place.wide("wide", 200_000)
     place.put("long", CLAIMS * 5_000)
@@ -136,16 +136,16 @@ def small_disks(place):
         print("limited: no disk for a test is to be had here")
         return
     full = b"cannot write disk/%s\n  The disk is full.\n"
-    beside = b"cannot write disk/%s\n  A new file beside it was not to be made. The disk is full.\n"
+    new_file = b"cannot write disk/%s\n  A new file next to it could not be created. The disk is full.\n"
     rows = [(9, ["wide"], "out", full), (9, ["wide"], "new", full), (9, ["--seq", "long"], "out", full)]
-    rows += [(9, ["--seq", "long"], "new", full), (2, ["one"], "out", beside), (2, ["one"], "new", beside)]
+    rows += [(9, ["--seq", "long"], "new", full), (2, ["one"], "out", new_file), (2, ["one"], "new", new_file)]
     for files, words, out, reported in rows:
         ended = on_a_small_disk(place, files, [PROGRAM, "canon", "--explain", *words, f"disk/{out}"])
         expect(f"a full disk: {words} to {out}", ended, 0, b"status 3\nout\n 80\n", reported % out.encode())
 
 
 def short_files(place):
-    """Files and outputs that take no more, as on a full disk."""
+    """Files and outputs that accept no more, as on a full disk."""
     place.put("long", CLAIMS * 100_000)
     place.put("out", BEFORE)
     for out in ("out", "new"):
@@ -172,7 +172,7 @@ OVER_ITEMS = ["check --seq item", "show --seq item", "events --seq item", "canon
 
 
 def deep(place):
-    """Items as deep as any may be, and a level deeper, within 64 KiB of the stack."""
+    """Items of the greatest depth, and one level deeper, within 64 KiB of stack."""
     for opens, closes in TOWERS:
         for levels, status in ((DEEPEST, 0), (DEEPEST + 1, 1)):
             place.put("item", opens * levels + b"\0" + closes * levels)

@@ -1,9 +1,10 @@
 #!/usr/bin/env python3
-"""Runs the built program as a user does, and holds the man page and the completions against its help.
+"""Runs the built program as a user does, and compares the man page and the completions with its help.
 
-    scripts/run_program.py [PROGRAM]
+    scripts/run_program.py [PROGRAM [PART ..]]
 
-builds crates/cborc/out/cborc by `rt run` where no program is given.
+builds crates/cborc/out/cborc with `rt run` if no program is given. With PARTs it runs only these, for a program that runs
+slowly, as under qemu: words, files, sequences, leftovers, links; and parts, if it needs no more than 8 MiB of memory.
 """
 
 import os
@@ -17,6 +18,7 @@ import completions
 import run_explained
 import run_killed
 import run_limited
+import run_timed
 from running import FOLDER, PROGRAM, ROOT, end, expect, faults, limited, run, short, write
 
 COMMANDS = ["show", "events", "check", "canon", "compare"]
@@ -34,6 +36,9 @@ def holds(name, data, files):
 def words():
     if run([]).returncode != 2 or run([]).stdout != b"":
         faults.append("no word: status 2 and no output wanted")
+    expect("no FILE", run(["check"], b"\x18\x00"), 0, b"accepted 2 bytes\n")
+    expect("a unit", run(["check", "--bytes", "1K"], b"\x59\x03\xfd" + bytes(1021)), 0, b"accepted 1024 bytes\n")
+    expect("past the unit", run(["check", "--bytes", "1K"], b"\x59\x03\xfe" + bytes(1022)), 1, b"", b"refused 2 TooLong at 1024\n")
     if run(["check", "--bytes", "x", "-"]).returncode != 2:
         faults.append("a wrong word: status 2 wanted")
     if run(["check", "--keys", "none", "-"]).returncode != 2:
@@ -41,7 +46,7 @@ def words():
     if run(["compare", "-", "-"]).returncode != 2:
         faults.append("standard input twice: status 2 wanted")
     for word in (b"x\xff", b"a" * 5000 + b"\xff"):
-        expect("a word that is not UTF-8", run(["check", "-", word, b"\xff"]), 2, b"", b"word 3 is not UTF-8; a file by such a name is read as '- < FILE'\n")
+        expect("a word that is not UTF-8", run(["check", "-", word, b"\xff"]), 2, b"", b"argument 3 is not UTF-8; to read a file of such a name, use '- < FILE'\n")
     version = run(["--version"])
     with open(os.path.join(ROOT, "VERSION"), "rb") as file:
         wanted = b"cborc " + file.read()
@@ -59,16 +64,16 @@ def streams():
     expect("a key of another kind", run(["check", "--keys", "basic", "-"], b"\xa1\x80\x00"), 1, b"", b"refused 20 KeyKind at 1\n")
     few = limited(8 * 1024)
     with open("/dev/zero", "rb") as endless:
-        ended = subprocess.run([PROGRAM, "check", "-"], stdin=endless, capture_output=True, timeout=20, preexec_fn=few)
+        ended = subprocess.run([PROGRAM, "check", "-"], stdin=endless, capture_output=True, timeout=300, preexec_fn=few)
         expect("no end", ended, 1, b"", b"refused 12 Trailing at 1\n")
         for command in (["check"], ["events", "--seq"], ["check", "--seq"], ["show", "--seq"]):
             words = [PROGRAM, *command, "--hex", "-"]
-            ended = subprocess.run(words, stdin=endless, capture_output=True, timeout=20, preexec_fn=few)
+            ended = subprocess.run(words, stdin=endless, capture_output=True, timeout=300, preexec_fn=few)
             expect("no end, and no hex", ended, 3, b"", b"not hex: -\n")
-    behind = b"00 " * 2_000_000
+    following = b"00 " * 2_000_000
     words = ["check", "--hex", "--bytes", "1", "-"]
-    expect("digits behind the limit", run(words, behind, preexec_fn=few), 1, b"", b"refused 12 Trailing at 1\n")
-    expect("no digit behind the limit", run(words, behind + b"g", preexec_fn=few), 3, b"", b"not hex: -\n")
+    expect("digits after the limit", run(words, following, preexec_fn=few), 1, b"", b"refused 12 Trailing at 1\n")
+    expect("no digit after the limit", run(words, following + b"g", preexec_fn=few), 3, b"", b"not hex: -\n")
     with open(write("kept", b"x"), "ab") as end:
         subprocess.run([PROGRAM, "canon", "-", "-"], input=b"\x18\x00", stdout=end)
     holds("kept", b"x\x00", ["kept"])
@@ -90,8 +95,8 @@ def outputs_that_fail():
     os.close(reading)
     ended = subprocess.run([PROGRAM, "check", "-"], input=b"\x00", stdout=writing, stderr=subprocess.PIPE)
     os.close(writing)
-    # Where the system ends a program at a closed pipe, it ends as other tools do.
-    if (ended.returncode, ended.stderr) not in ((3, line), (-signal.SIGPIPE, b"")):
+    # If the system ends a program at a closed pipe, it ends as other tools do.
+    if (ended.returncode, ended.stderr) not in ((3, b""), (-signal.SIGPIPE, b"")):
         faults.append(f"a closed pipe: found {(ended.returncode, ended.stderr)}")
 
 
@@ -153,10 +158,10 @@ def sequences():
     holds("sequence", b"", here)
     reported = b"cannot read absent\n  There is no such file or folder.\n"
     expect("no sequence", run(["canon", "--seq", "--explain", "absent", "sequence"]), 3, b"", reported)
-    reported = b"cannot write absent/out\n  A new file beside it was not to be made. There is no such file or folder.\n"
+    reported = b"cannot write absent/out\n  A new file next to it could not be created. There is no such file or folder.\n"
     expect("no folder for a sequence", run(["canon", "--seq", "--explain", "-", "absent/out"], b"\x00"), 3, b"", reported)
     holds("sequence", b"", here)
-    # Behind 100,000 items: one that is refused, and no scratch.
+    # After 100,000 items: one that is refused, and no space.
     write("sequence", b"\x00" * 100_000 + b"\xff")
     write("kept", b"\x80")
     here.append("kept")
@@ -176,7 +181,7 @@ def sequences():
 
 
 def long_items():
-    """Items of more bytes than are read at first: whole, cut off, with a byte behind, refused within."""
+    """Items of more bytes than are read at first: whole, truncated, with a byte after them, refused within."""
     members = 3_000_000
     whole = b"\x9a" + members.to_bytes(4, "big") + bytes(members)
     size = len(whole)
@@ -195,7 +200,7 @@ def long_items():
 
 
 def parts():
-    """Sequences longer than what is held of them, inputs without end, and files longer than memory."""
+    """Sequences longer than what is stored of them, inputs without end, and files longer than memory."""
     item = b"\x58\x49" + bytes(range(73))
     count = 300_000
     path = write("long", item * count)
@@ -228,7 +233,7 @@ def parts():
     if not run(["events", "--seq", "long"]).stdout.endswith(last):
         faults.append("events of a long sequence: the last lines are others")
     reported = run(["check", "--seq", "--explain", "long"], preexec_fn=few).stderr
-    if b"where the item starts at %d\n" % (75 * count + 1) not in reported or b"bytes from 0: 18\n" not in reported:
+    if b"; the item starts at %d\n" % (75 * count + 1) not in reported or b"bytes from 0: 18\n" not in reported:
         faults.append(f"an explanation of a long sequence: {reported}")
     os.remove(path)
     hex_parts(item, count, few)
@@ -239,7 +244,7 @@ def parts():
         feed = f"import sys\nwhile True: sys.stdout.buffer.write(bytes([{byte}]) * 65536)"
         with subprocess.Popen([sys.executable, "-c", feed], stdout=subprocess.PIPE, stderr=subprocess.DEVNULL) as pipe:
             words = [PROGRAM, "check", "--seq", "-"]
-            ended = subprocess.run(words, stdin=pipe.stdout, capture_output=True, timeout=20, preexec_fn=few)
+            ended = subprocess.run(words, stdin=pipe.stdout, capture_output=True, timeout=300, preexec_fn=few)
             pipe.stdout.close()
         expect("a sequence without end", ended, 1, b"", b"item 1 refused " + line + b"\n")
     path = write("zeros", b"")
@@ -263,36 +268,36 @@ def hex_parts(item, count, few):
     ended = run(["canon", "--seq", "--hex", "digits", "-"], preexec_fn=few)
     if (ended.returncode, ended.stdout) != (0, item * count):
         faults.append(f"canon of a long hex sequence: status {ended.returncode}, {len(ended.stdout)} bytes")
-    for front, behind, status, reported, written in (
+    for front, following, status, reported, written in (
         (b"", b"00 18", 1, b"item %d refused 1 Truncated at 1\n" % (count + 2), item * count + b"\x00"),
         (b"ff", b"", 1, b"item 1 refused 7 StrayBreak at 0\n", b""),
         (b"ff", b"g", 3, b"not hex: digits\n", b""),
         (b"00" + b"\n" * 200_001, b"0", 3, b"not hex: digits\n", b"\x00" + item * count),
     ):
         with open(path, "wb") as file:
-            file.write(front + lines + behind)
+            file.write(front + lines + following)
         for command in (["check"], ["show"], ["events"], ["canon", "-"]):
             ended = run([command[0], "--seq", "--hex", "digits", *command[1:]], preexec_fn=few)
             if (ended.returncode, ended.stderr) != (status, reported):
-                faults.append(f"{command} of a hex sequence, {front[:4]} and {behind}: {(ended.returncode, ended.stderr)}")
-        # By canon; where the text is no hex, the items of the parts before that was found.
+                faults.append(f"{command} of a hex sequence, {front[:4]} and {following}: {(ended.returncode, ended.stderr)}")
+        # By canon: if the text is not hex, the items of the parts before that.
         if not written.startswith(ended.stdout) or (status == 1 and ended.stdout != written):
-            faults.append(f"canon of a hex sequence, {front[:4]} and {behind}: {len(ended.stdout)} bytes")
+            faults.append(f"canon of a hex sequence, {front[:4]} and {following}: {len(ended.stdout)} bytes")
     with open(path, "wb") as file:
         file.write(lines + b"00 18")
     reported = run(["check", "--seq", "--hex", "--explain", "digits"], preexec_fn=few).stderr
-    if b"where the item starts at %d\n" % (75 * count + 1) not in reported or b"bytes from 0: 18\n" not in reported:
+    if b"; the item starts at %d\n" % (75 * count + 1) not in reported or b"bytes from 0: 18\n" not in reported:
         faults.append(f"an explanation of a long hex sequence: {reported}")
     with open(path, "ab") as file:
         file.write(b"\n0g")
     reported = run(["check", "--seq", "--hex", "--explain", "digits"], preexec_fn=few).stderr
-    if b"  line %d, column 2: another byte (67)\n" % (count + 2) not in reported:
+    if b"  line %d, column 2: not a hex digit (byte 67)\n" % (count + 2) not in reported:
         faults.append(f"an explanation of other bytes in a long hex sequence: {reported}")
     os.remove(path)
 
 
 def leftovers():
-    """What a run leaves that was ended amid its work, and that no such thing hinders a later one."""
+    """What an interrupted run leaves, and that it does not hinder a later run."""
     path = write("out", b"\x80")
     before = set(os.listdir(FOLDER))
     ended = run(["canon", "-", "out"], b"\x82\x00\x00", preexec_fn=short(1))
@@ -306,10 +311,10 @@ def leftovers():
         write(f"out.{number:016x}.tmp", b"")
         write(f".cborc-{number}.tmp", b"")
     among = len(os.listdir(FOLDER))
-    expect("beside leftovers", run(["canon", "-", "out"], b"\x18\x00"), 0)
+    expect("next to leftovers", run(["canon", "-", "out"], b"\x18\x00"), 0)
     with open(path, "rb") as file:
         if file.read() != b"\x00" or len(os.listdir(FOLDER)) != among:
-            faults.append("beside leftovers OUT was not written, or there is one more")
+            faults.append("next to leftovers OUT was not written, or there is one more")
     longest = "n" * 255
     expect("the longest name", run(["canon", "-", longest], b"\x00"), 0)
     for name in os.listdir(FOLDER):
@@ -318,7 +323,7 @@ def leftovers():
 
 
 def links():
-    """Links that lead to no file: what they lead to is made, and they stay."""
+    """Links to a file that does not exist: the file is made, and the links stay."""
     os.mkdir(os.path.join(FOLDER, "deep"))
     os.symlink("deep/first", os.path.join(FOLDER, "dangling"))
     os.symlink("second", os.path.join(FOLDER, "deep", "first"))
@@ -330,10 +335,10 @@ def links():
         if file.read() != b"\x00" or sorted(os.listdir(os.path.join(FOLDER, "deep"))) != ["first", "second"]:
             faults.append("what a dangling link leads to was not made")
     os.symlink("round", os.path.join(FOLDER, "round"))
-    reported = b"cannot write round\n  Links lead round in a circle.\n"
+    reported = b"cannot write round\n  Symbolic links form a loop.\n"
     expect("a circle of links", run(["canon", "--explain", "-", "round"], b"\x00"), 3, b"", reported)
     os.symlink("nowhere/file", os.path.join(FOLDER, "astray"))
-    reported = b"cannot write astray\n  A new file beside it was not to be made. There is no such file or folder.\n"
+    reported = b"cannot write astray\n  A new file next to it could not be created. There is no such file or folder.\n"
     expect("a link into no folder", run(["canon", "--explain", "-", "astray"], b"\x00"), 3, b"", reported)
 
 
@@ -367,10 +372,13 @@ def pages():
                 faults.append(f"share/{name}: {shell} cannot read it")
 
 
-for part in (words, streams, outputs_that_fail, files, sequences, long_items, parts, leftovers, links, pages):
+chosen = [globals()[name] for name in sys.argv[2:]]
+for part in chosen or (words, streams, outputs_that_fail, files, sequences, long_items, parts, leftovers, links, pages):
     part()
-run_explained.test()
-run_limited.test()
-run_killed.test()
-faults += completions.faults()
+if not chosen:
+    run_explained.test()
+    run_limited.test()
+    run_killed.test()
+    run_timed.test()
+    faults += completions.faults()
 end("program")

@@ -1,11 +1,11 @@
 #!/usr/bin/env python3
-"""Runs the blocks of a README, and holds what they say against what it promises.
+"""Runs the blocks of a README, and compares their output with what it promises.
 
     run_readme.py sh README            runs its ```sh blocks by bash, in this folder, up to the first that fails
     run_readme.py sql README WORD..    gives its ```sql blocks to one run of the command WORD.., a client of a database
 
-In a ```sql block a line that begins with `-- ` is a line of the answer, an error's too. All of them, in their order, have
-to be all lines of the answer.
+In a ```sql block a line that begins with `-- ` is a line of the output, also of an error. Together, in their order, they
+must be all lines of the output.
 """
 
 import re
@@ -30,14 +30,14 @@ def run_sh(readme):
 def run_sql(readme, command):
     text = "".join(blocks(readme, "sql"))
     promised = [line[3:].strip() for line in text.splitlines() if line.startswith("-- ")]
-    # by lines, so that answers and errors come in their order
+    # by lines, so that output and errors come in their order
     run = subprocess.run(["stdbuf", "-oL", *command], input=text, stdout=subprocess.PIPE, stderr=subprocess.STDOUT, text=True)
-    # the number of the line is no promise
-    answer = [re.sub(r"^(\w+ error) near line \d+:", r"\1:", line.strip()) for line in run.stdout.splitlines()]
-    answer = [line for line in answer if line]
-    for number, (wanted, found) in enumerate(zip(promised + [None], answer + [None])):
+    # the number of the line is not promised
+    output = [re.sub(r"^(\w+ error) near line \d+:", r"\1:", line.strip()) for line in run.stdout.splitlines()]
+    output = [line for line in output if line]
+    for number, (wanted, found) in enumerate(zip(promised + [None], output + [None])):
         if wanted != found:
-            sys.exit(f"{readme}: line {number + 1} of the answer\n  promised {wanted}\n  found    {found}")
+            sys.exit(f"{readme}: line {number + 1} of the output\n  promised {wanted}\n  found    {found}")
 
 
 def main(words):

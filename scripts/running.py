@@ -1,6 +1,6 @@
-"""What the tests of the built program share: runs of it in a folder of their own, and the list of what was wrong.
+"""What the tests of the built program share: runs of it in a folder of their own, and the list of faults.
 
-The program is the first word of the script that takes this in; where there is none, crates/cborc/out/cborc is built by
+The program is the first word of the script that imports this; if there is none, crates/cborc/out/cborc is built by
 `rt run`.
 """
 
@@ -10,7 +10,7 @@ import subprocess
 import sys
 import tempfile
 
-# What stands in OUT before a run.
+# The content of OUT before a run.
 BEFORE = b"\x80"
 # The claims of a token (RFC 8392), 75 bytes of them.
 CLAIMS = (
@@ -31,8 +31,8 @@ def built():
 
 PROGRAM = os.path.abspath(sys.argv[1]) if len(sys.argv) > 1 else built()
 # It is removed as the script ends.
-ROOM = tempfile.TemporaryDirectory()
-FOLDER = ROOM.name
+TEMPORARY = tempfile.TemporaryDirectory()
+FOLDER = TEMPORARY.name
 
 
 def run(words, given=b"", **more):
@@ -54,17 +54,17 @@ def write(name, data):
 
 
 def limited(kib):
-    """What keeps a run within so much memory."""
+    """A limit on the memory of a run."""
     return lambda: resource.setrlimit(resource.RLIMIT_AS, (kib * 1024, kib * 1024))
 
 
 def low(kib):
-    """What keeps a run within so much of the stack."""
+    """A limit on the stack of a run."""
     return lambda: resource.setrlimit(resource.RLIMIT_STACK, (kib * 1024, kib * 1024))
 
 
 def short(size):
-    """What keeps each file that a run writes to so many bytes."""
+    """A limit on the bytes of each file that a run writes."""
     return lambda: resource.setrlimit(resource.RLIMIT_FSIZE, (size, size))
 
 
@@ -82,7 +82,7 @@ class Place:
             os.remove(self.path(name))
 
     def put(self, name, content, holes=0):
-        """Writes a file, with so many zeros behind that take no scratch."""
+        """Writes a file, followed by this many zeros, which use no disk."""
         with open(self.path(name), "wb") as file:
             file.write(content)
             file.truncate(len(content) + holes)
@@ -98,14 +98,14 @@ class Place:
             os.remove(self.path(name))
 
     def wide(self, name, size):
-        """Writes a byte string of so many zeros."""
+        """Writes a byte string of this many zeros."""
         self.put(name, b"\x5a" + size.to_bytes(4, "big"), size)
 
     def run(self, words, **more):
         return run(words, cwd=self.folder, **more)
 
     def keeps(self, name, out, files):
-        """Wants OUT as it was, and no other file than these."""
+        """Expects OUT unchanged, and no other files than these."""
         if self.get(out) != BEFORE:
             faults.append(f"{name}: OUT is not as it was")
         if sorted(os.listdir(self.folder)) != sorted(files):
@@ -113,7 +113,7 @@ class Place:
 
 
 def end(name):
-    """Tells what was wrong, and ends with status 1 where anything was."""
+    """Prints what was wrong, and ends with status 1 if anything was."""
     for fault in faults:
         print(f"{name}:", fault)
     if faults:

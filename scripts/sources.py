@@ -1,4 +1,4 @@
-"""What the sources say: the definitions of specs/, the clauses of src/, and what a crate hands out.
+"""What the sources say: the definitions of specs/, the clauses of src/, and what a crate exports.
 
 `scripts/belief.py` computes from this what must be believed. Modules are named as `use` names them
 (Rattle.cbor_head.specs.Head); those of `src/` by their crate and path.
@@ -14,7 +14,7 @@ NAME = re.compile(r"[^\s(){}\[\],;]+")
 IMPORT = re.compile(r"^(pub )?use (Rattle\.[^\s.{]+(?:\.[^\s.{]+)*)(?:\.\{(.*)\}| as (\S+))?$")
 HEAD = re.compile(r"^\s*(?:abbrev |unfoldable )?(?:pub )?(?:(record|data) )?([^\s:(){}]+)")
 ITEM = re.compile(r"(?m)^pub (?:(?:const|unsafe|final|ghost|extern \"C\") )*(?:fn|struct|enum|union|trait|type|const|static) (\w+)")
-# Ghost members that tie a type to its model, and are no clause of a call.
+# Ghost members that relate a type to its model, and are not a clause of a call.
 OF_MODELS = ("view", "invariant", "inverse", "coded", "hlevel")
 
 
@@ -60,12 +60,12 @@ class Module:
             self.modules[alias or path.rsplit(".", 1)[1]] = path
             return
         for item in split_names(items):
-            # an item may be named by its way down from the module in front of the braces
+            # an item may be named by its path from the module in front of the braces
             way, _, there = item.partition(" as ")
             below, _, here = way.rpartition(".")
             module = f"{path}.{below}" if below else path
             self.names[there or here] = (module, here)
-            # a module may be brought in as an item is
+            # a module may be imported as an item is
             self.modules[there or here] = f"{module}.{here}"
             if is_public:
                 self.handed_on[there or here] = (module, here)
@@ -129,7 +129,7 @@ class Function:
 
 
 class Owner:
-    """The type or trait in whose block a function stands."""
+    """The type or trait in whose block a function is."""
 
     def __init__(self, name, of_trait=None, is_trait=False):
         self.name, self.of_trait, self.is_trait = name, of_trait, is_trait
@@ -167,7 +167,7 @@ def ghost_uses(text):
 
 
 def blocks(text, start):
-    """The text between the brace at `start` and its partner, and the place behind it."""
+    """The text between the brace at `start` and its partner, and the offset after it."""
     depth, place = 0, start
     while True:
         if text[place] == "{":
@@ -226,7 +226,7 @@ def owner_of(head):
 
 
 def clauses_of(text, place, function):
-    """Collects the clauses between a signature and its body; answers the place of the body."""
+    """Collects the clauses between a signature and its body; returns the offset of the body."""
     # an array type has a semicolon of its own
     pattern = re.compile(r"(?P<array>\[[^\[\]{};]*;)|\b(?P<word>requires|ensures|ghost)\b\*?\s*(\w+)?\s*:?\s*\{|\{|;")
     while True:
@@ -242,18 +242,18 @@ def clauses_of(text, place, function):
         function.clauses.append(body)
 
 
-# ---- what a crate hands out
+# ---- what a crate exports
 
 
 class Exports:
-    """What the crates hand out: (crate, module, name) of the item itself, found through each `pub use`."""
+    """What the crates export: (crate, module, name) of the item itself, found through each `pub use`."""
 
     def __init__(self, sources):
         self.sources = {(it.crate, it.module): it for it in sources}
         self.crates = {it.crate for it in sources}
 
     def of_crate(self, crate):
-        """By the name that it has outside, each item that a crate hands out."""
+        """Each item that a crate exports, by the name that it has outside."""
         return self.of_module(crate, ())
 
     def of_module(self, crate, module):
@@ -269,7 +269,7 @@ class Exports:
         return found
 
     def named(self, crate, module, path):
-        """What a path names in a module: an item, or all that a module hands out."""
+        """What a path names in a module: an item, or all that a module exports."""
         if path[0] in ("crate", "self", "super"):
             module = {"crate": (), "self": module, "super": module[:-1]}[path[0]]
         elif (crate, module + (path[0],)) in self.sources:

@@ -1,16 +1,17 @@
 #!/usr/bin/env bash
 # Tests the library for C on aarch64 Linux, under qemu: scripts/test_aarch64.sh [FOLDER]
 #
-# FOLDER is as `build_c.sh --target aarch64-unknown-linux-gnu` makes it; without one it is built. The programs of c/ run, by the
-# archive and by the shared object: the tables, items and values, a machine, each request for memory refused, threads, the
-# stack, the examples; with LIBRARY, the x86-64 libnaltvigo.so, random calls are held against it. The wheel and the
-# packages are made; with AARCH64_TOOLS, a folder of scripts/fetch_aarch64.sh, the wheel is tested in Python, and the crate
-# for Rust is tested with these tools or where cargo has the target. Wants aarch64-linux-gnu-gcc, its libc
-# and qemu-aarch64-static; where one is not there the last line says so, and nothing is tested. Else it begins 'aarch64: all
+# FOLDER is as `build_c.sh --target aarch64-unknown-linux-gnu` makes it; without one it is built. The programs of c/ run, with the
+# archive and with the shared object: the tables, items and values, a machine, each request for memory refused, threads, the
+# stack, the examples. With LIBRARY, the x86-64 libnaltvigo.so, random calls are compared with it. The wheel and the
+# packages are made; with FETCHED_TOOLS, a folder of scripts/fetch_tools.sh, the wheel is tested in Python, and the crate
+# for Rust is tested with these tools or if cargo has the target. It needs aarch64-linux-gnu-gcc, its libc
+# and qemu-aarch64-static; if one is missing, the last line says so, and nothing is tested. Else it begins 'aarch64: all
 # well', or the status is not 0.
 set -euo pipefail
 . "$(dirname "${BASH_SOURCE[0]}")/lib/options.sh"
 . "$(dirname "${BASH_SOURCE[0]}")/lib/testing.sh"
+. "$(dirname "${BASH_SOURCE[0]}")/lib/wheel.sh"
 take_options 1 "$@"
 begin_tests aarch64
 target=aarch64-unknown-linux-gnu
@@ -27,7 +28,7 @@ dist=${1:-$scratch/dist}
 [ -n "${1:-}" ] || "$root/scripts/build_c.sh" --target $target "$dist"
 dist=$(cd "$dist" && pwd)
 
-# ---- what is exported, and what is called
+# ---- exported and undefined symbols
 
 names=$(grep -o '^[a-z0-9_]* naltvigo_[a-z_]*_raw(' "$dist/include/naltvigo.h" | sed 's/.* //; s/($//' | sort)
 for file in lib/libnaltvigo.a lib/libnaltvigo.so; do
@@ -71,7 +72,7 @@ run stack stack.c "$archive" -pthread
 if [ -n "${LIBRARY:-}" ]; then
     python3 "$root/fuzz/vectors.py" "$LIBRARY" 20000 >"$scratch/vectors"
     arguments=("$scratch/vectors")
-    run 'random calls beside x86-64' vectors.c "$archive"
+    run 'random calls compared with x86-64' vectors.c "$archive"
 fi
 
 $cc "${flags[@]}" "$c/values.c" "$archive" -o "$scratch/values"
@@ -79,9 +80,9 @@ python3 "$root/fuzz/languages.py" --inputs 200 "aarch64=${qemu[*]} $scratch/valu
 
 # ---- the examples
 
-$cc -Wall -Wextra -Werror "$c/cwt.c" "-I$dist/include" "$archive" -o "$scratch/cwt"
+$cc -Wall -Wextra -Werror "$root/examples/cwt.c" "-I$dist/include" "$archive" -o "$scratch/cwt"
 "${qemu[@]}" "$scratch/cwt" | grep -q '^expires 1444064944, issued by coap://as.example.com$' || fail 'cwt.c'
-$cc -Wall -Wextra -Werror "$c/canonicalise.c" "-I$dist/include" "$archive" -o "$scratch/canonicalise"
+$cc -Wall -Wextra -Werror "$root/examples/canonicalise.c" "-I$dist/include" "$archive" -o "$scratch/canonicalise"
 printf '\277\143Fun\365\143Amt!\377' >"$scratch/streamed.cbor"
 [ "$("${qemu[@]}" "$scratch/canonicalise" "$scratch/streamed.cbor" | od -An -tx1 | tr -d ' \n')" = a263416d74216346756ef5 ] || fail 'the example'
 say 'the examples write what they have to'
@@ -100,33 +101,30 @@ tar -C "$scratch/unpacked" --strip-components=1 -xzf "$scratch"/packages/*.tar.g
 for file in "$scratch"/unpacked/lib/libnaltvigo.so "$scratch"/wheel/naltvigo/_native.abi3.so; do
     aarch64-linux-gnu-readelf -h "$(realpath "$file")" | grep -q 'Machine: *AArch64' || fail "$file is not for aarch64"
 done
-$cc "$c/canonicalise.c" "-I$scratch/unpacked/include" "-L$scratch/unpacked/lib" -lnaltvigo -o "$scratch/canonicalise"
+$cc "$root/examples/canonicalise.c" "-I$scratch/unpacked/include" "-L$scratch/unpacked/lib" -lnaltvigo -o "$scratch/canonicalise"
 [ "$("${qemu[@]}" -E "LD_LIBRARY_PATH=$scratch/unpacked/lib" "$scratch/canonicalise" "$scratch/streamed.cbor" | od -An -tx1 | tr -d ' \n')" = a263416d74216346756ef5 ] ||
     fail 'the example, by the package'
 
 # ---- the wheel, in Debian's Python for aarch64
 
-tools=$(realpath -m "${AARCH64_TOOLS:-none}")
-if [ -d "$tools/python" ]; then
-    python=(qemu-aarch64-static -L "$tools/python" "$tools/python/usr/bin/python3")
-    (cd "$root/bindings/python/tests" && PYTHONDONTWRITEBYTECODE=1 PYTHONPATH=$scratch/wheel "${python[@]}" -m unittest test_appendix \
-        test_naltvigo test_sequences test_values) >"$scratch/log" 2>&1 || { cat "$scratch/log"; fail 'the wheel'; }
-    say "the wheel, by $("${python[@]}" --version): $(sed -n 's/^\(Ran [0-9]* tests\).*/\1/p' "$scratch/log")"
-else
-    missing+=("Python for aarch64 (scripts/fetch_aarch64.sh)")
-fi
+tools=$(realpath -m "${FETCHED_TOOLS:-none}")
+test_wheel aarch64 "$tools/python-aarch64" "$scratch"/packages/*.whl
 
 # ---- the crate for Rust
 
 if [ -d "$tools/rust" ]; then
     export PATH=$tools/rust/usr/bin:$PATH LD_LIBRARY_PATH=$tools/rust/usr/lib/x86_64-linux-gnu
 fi
-if command -v cargo >/dev/null && [ -d "$(rustc --print sysroot)/lib/rustlib/$target" ]; then
-    export NALTVIGO_LIB=$dist/lib CARGO_TARGET_DIR=$scratch/target
+if [ ! -d /usr/share/cargo/registry ]; then
+    missing+=('the crate cc, librust-cc-dev')
+elif command -v cargo >/dev/null && [ -d "$(rustc --print sysroot)/lib/rustlib/$target" ]; then
+    export NALTVIGO_LIB=$dist/lib CARGO_TARGET_DIR=$scratch/target CARGO_HOME=$scratch/cargo NALTVIGO_EMULATED=yes
+    mkdir "$CARGO_HOME"
+    cp "$root/scripts/lib/debian_crates.toml" "$CARGO_HOME/config.toml"
     export CARGO_TARGET_AARCH64_UNKNOWN_LINUX_GNU_LINKER=$cc CARGO_TARGET_AARCH64_UNKNOWN_LINUX_GNU_RUNNER="${qemu[*]}"
     (cd "$root/bindings/rust" && cargo test --release --offline -q --target $target --tests) >"$scratch/log" 2>&1 || { cat "$scratch/log"; fail 'tests in Rust'; }
-    say "the crate, by $(rustc --version | cut -d' ' -f1,2): $(sed -n 's/^test result: ok. \([0-9]*\) passed.*/\1/p' "$scratch/log" | awk '{ sum += $1 } END { print sum }') tests"
+    say "the crate, by $(rustc --version | cut -d' ' -f1,2): $(sed -n 's/^test result: ok. \([0-9]*\) passed.*/\1/p' "$scratch/log" | awk '{ sum += $1 } END { print sum }') tests$(sed -n 's/^a_kibibyte: /; /p' "$scratch/log")"
 else
-    missing+=("cargo with the target $target (scripts/fetch_aarch64.sh)")
+    missing+=("cargo with the target $target (scripts/fetch_tools.sh)")
 fi
 end_tests

@@ -2,11 +2,11 @@
 # Tests the extensions for SQLite and PostgreSQL: scripts/test_databases.sh [DIST]
 #
 # DIST has the library for C, as build_c.sh makes it; without one it is built. Each extension is built as its README says,
-# and tried: the README's commands, tables with constraints and indexes, random items against the definitions (COUNT of
-# them, 10000 without it), and in PostgreSQL a scan of 1,000,000 rows (ROWS) by two workers beside one process, a dump that
-# is restored, and memory that is refused. The server is one of the test's own, on a socket in a folder of its own, run by
+# and tested: the README's commands, tables with constraints and indexes, random items against the definitions (COUNT of
+# them, 10000 by default), some planted bugs, and in PostgreSQL a scan of 1,000,000 rows (ROWS) by two workers and by one process,
+# a dump that is restored, and memory that is refused. The server is the test's own, on a socket in a folder of its own, run by
 # nobody if this is root; nothing is written to the system. The last line begins 'databases: all well' and names what was
-# left out because its packages are not there; else the status is not 0.
+# left out because packages are missing; else the status is not 0.
 set -euo pipefail
 . "$(dirname "${BASH_SOURCE[0]}")/lib/options.sh"
 . "$(dirname "${BASH_SOURCE[0]}")/lib/testing.sh"
@@ -33,7 +33,7 @@ export PREFIX=$scratch/dist PYTHONDONTWRITEBYTECODE=1
 . "$root/scripts/lib/databases.sh"
 . "$root/scripts/lib/postgresql.sh"
 
-# Runs a command, and shows what it said if it fails.
+# Runs a command, and shows its output if it fails.
 quietly() { # WHAT WORD..
     local what=$1
     shift
@@ -68,6 +68,23 @@ test_sqlite() {
     say "SQLite: $(sed -n 's/^\(Ran [0-9]* tests\).*/\1/p' "$scratch/log")"
     "$python" "$root/fuzz/databases.py" sqlite "$scratch/sqlite/naltvigo_sqlite" "$count" >"$scratch/log" || fail 'random items in SQLite'
     say "$(cat "$scratch/log")"
+    is_hardened naltvigo_sqlite.so
+    [ "$(nm -D --defined-only naltvigo_sqlite.so | awk '{ print $3 }')" = sqlite3_naltvigosqlite_init ] || fail 'what naltvigo_sqlite.so exports'
+    PYTHON=$python try_planted sqlite
+}
+
+# Whether an extension was built with the flags against overruns.
+is_hardened() { # FILE
+    # grep reads to the end, so that no pipe breaks
+    readelf -Wl "$1" | grep GNU_RELRO >/dev/null && readelf -Wd "$1" | grep BIND_NOW >/dev/null || fail "$1 has no full RELRO"
+    nm -D -u "$1" | grep __stack_chk_fail >/dev/null || fail "$1 has no stack protector"
+    [ "$(uname -m)" != x86_64 ] || objdump -d "$1" | grep endbr64 >/dev/null || fail "$1 has no -fcf-protection"
+}
+
+# Bugs planted in an extension, a few in each run: the tests above fail.
+try_planted() { # BINDING
+    python3 "$root/scripts/test_planted.py" "$1" >"$scratch/log" || { cat "$scratch/log"; fail "planted bugs in $1"; }
+    say "$1: $(tail -1 "$scratch/log")"
 }
 
 # ---- PostgreSQL
@@ -82,6 +99,7 @@ test_postgresql() {
     cd "$scratch/postgresql"
     # the build, the installation below the server's own tree, and the tests of pg_regress
     DESTDIR=$tree PG_CONFIG=$pg_config quietly 'the build and the tests for PostgreSQL' python3 "$root/scripts/run_readme.py" sh README.md
+    is_hardened naltvigo.so
     say "PostgreSQL: $(grep -c '^ok\|^test .* ok' "$scratch/log") files of tests, on $("$tree$bin/postgres" --version)"
     psql -qc 'CREATE DATABASE readme'
     PGDATABASE=readme quietly 'the README for PostgreSQL' python3 "$root/scripts/run_readme.py" sql README.md psql -XAtq
@@ -89,6 +107,8 @@ test_postgresql() {
     test_parallel
     test_dump
     test_memory
+    test_time
+    DESTDIR=$tree PG_CONFIG=$pg_config try_planted postgresql
     stop_server
 }
 
@@ -96,7 +116,7 @@ test_random_items() {
     psql -qc 'CREATE DATABASE random' -c '\c random' -c 'CREATE EXTENSION naltvigo'
     python3 "$root/fuzz/databases.py" postgresql "$count" | psql -Xq -v ON_ERROR_STOP=1 -x -A -F' ' random >"$scratch/log" ||
         fail 'random items in PostgreSQL'
-    [ "$(grep -c '^wrong_.* 0$' "$scratch/log")" = 7 ] || { cat "$scratch/log"; fail 'PostgreSQL differs on random items'; }
+    [ "$(grep -c '^wrong_.* 0$' "$scratch/log")" = 11 ] || { cat "$scratch/log"; fail 'PostgreSQL differs on random items'; }
     say "PostgreSQL: $(sed -n 's/^blobs //p' "$scratch/log") blobs, $(sed -n 's/^valid //p' "$scratch/log") valid, none differs"
 }
 
@@ -118,22 +138,29 @@ test_dump() {
     say 'PostgreSQL: a dump is restored with its constraint and index'
 }
 
-# The server's process of a session may have little more memory: a call fails, and the session goes on.
+# The server's process of a session may use little more memory: a call fails, and the session continues.
 test_memory() {
     command -v prlimit >/dev/null || { missing+=('memory refused in PostgreSQL (prlimit, util-linux)'); return; }
     as_user psql -Xq contrib_regression <"$root/bindings/postgresql/test/memory.sql" >"$scratch/log" 2>&1 || fail 'refused memory'
     diff "$root/bindings/postgresql/test/memory.out" "$scratch/log" || fail 'refused memory'
-    say 'PostgreSQL: refused memory is an error, the session goes on, and nothing is left behind'
+    say 'PostgreSQL: refused memory is an error, the session goes on, and no memory stays allocated'
 }
 
-# What install.sh installs where it is asked for the extensions.
+# What a sender chooses costs no more than other bytes.
+test_time() {
+    psql -qc 'CREATE DATABASE time'
+    quietly 'the time of chosen keys' psql -Xq -v ON_ERROR_STOP=1 -f "$root/bindings/postgresql/test/time.sql" time
+    sed 's/^/databases: PostgreSQL: /' "$scratch/log"
+}
+
+# What install.sh installs if DATABASES names the extensions.
 test_installation() {
-    local to=$scratch/installed names=() name pg_config answer
+    local to=$scratch/installed names=() name pg_config result
     pg_config=$(find_pg_config)
     [ -n "$(lacks_sqlite)" ] || names+=(sqlite)
     [ -n "$(lacks_postgresql "$pg_config")" ] || names+=(postgresql)
     [ ${#names[@]} != 0 ] || return 0
-    # the program is not what is tried here
+    # the program is not tested here
     cp "$(type -P true)" "$scratch/program"
     export PROGRAM=$scratch/program DIST=$scratch/dist
     DATABASES=${names[*]} DESTDIR=$to quietly 'the installation' "$root/scripts/install.sh" /opt/naltvigo
@@ -141,8 +168,8 @@ test_installation() {
         if [ "$name" = postgresql ]; then
             [ -f "$to$("$pg_config" --sharedir)/extension/naltvigo.control" ] || fail 'what is installed for PostgreSQL'
         elif command -v sqlite3 >/dev/null; then
-            answer=$(sqlite3 :memory: ".load $to/opt/naltvigo/lib/sqlite3/naltvigo_sqlite" "SELECT cbor_is_valid(x'00')")
-            [ "$answer" = 1 ] || fail 'what is installed for SQLite'
+            result=$(sqlite3 :memory: ".load $to/opt/naltvigo/lib/sqlite3/naltvigo_sqlite" "SELECT cbor_is_valid(x'00')")
+            [ "$result" = 1 ] || fail 'what is installed for SQLite'
         fi
     done
     say "installed where asked: ${names[*]}"

@@ -1,15 +1,15 @@
 #!/usr/bin/env python3
-"""Makes each edit of fuzz/edits on a copy, and runs the test that it names, which has to fail.
+"""Makes each edit of fuzz/edits on a copy, and runs the test that it names, which must fail.
 
-These are wrong bodies that no clause speaks against: a read that failed is tried again, single bytes are asked
-for, memory is asked for by the length in a head. The tests are built without a proof, some side by side, and each has
-to pass where nothing is edited. An edit has the form of the must-fail edits of the crates, behind lines with its
-crate, its test and the crate where that stands. One that the compiler refuses, so that no prover sees it, has the
-name of that error in a line 'refused': it has to be refused so.
+These are wrong bodies that no clause excludes: a failed read is tried again, single bytes are read, memory is requested
+by the length in a head. The tests are built without a proof, some at a time, and each must pass without the edit,
+unless --passed says that scripts/test.sh has just run them. An edit has the form of those of the crates, after lines
+with its crate, its test and the crate of the test. One that the compiler refuses before the prover sees it has the
+name of that error in a line 'refused', and must be refused with it.
 
-    scripts/test_edits.py [--check] [NAME ..]
+    scripts/test_edits.py [--check | --passed] [NAME ..]
 
-An edit's test and the text that it replaces have to be there, once. With --check nothing more is asked.
+The test of an edit must exist, and the text that it replaces must exist once. --check tries no more than that.
 """
 
 import os
@@ -20,24 +20,17 @@ import sys
 import tempfile
 from concurrent.futures import ThreadPoolExecutor
 
+import edit_files
+
 ROOT = os.path.dirname(os.path.dirname(os.path.abspath(__file__)))
 EDITS = os.path.join(ROOT, "fuzz", "edits")
-# Beside other stages of the gate.
-SIDE_BY_SIDE = 3
+# Other stages of the gate run at the same time.
+SIDE_BY_SIDE = 2
 
 
 def read_edit(name):
     """The crate, the crate of the test, the test, the compiler's error if it is to refuse it, and the (file, old, new)."""
-    with open(os.path.join(EDITS, name + ".edit"), encoding="utf-8") as file:
-        lines = [line.partition(": ") for line in file.read().splitlines()]
-    words, old, changes = {}, None, []
-    for word, _, text in lines:
-        if word == "old":
-            old = text
-        elif word == "new":
-            changes.append((words["file"], old, text))
-        else:
-            words[word] = text
+    words, changes = edit_files.read_edit(os.path.join(EDITS, name + ".edit"))
     return words["crate"], words["tests"], words["test"], words.get("refused"), changes
 
 
@@ -49,7 +42,7 @@ def change(path, edit):
 
 
 def keep_test(folder, test):
-    """Has all tests but one ignored."""
+    """Marks all tests except one as ignored."""
     name = test.rpartition("::")[2]
     for place, _, files in os.walk(os.path.join(folder, "src")):
         for file in files:
@@ -57,13 +50,13 @@ def keep_test(folder, test):
 
 
 def try_tests(folder):
-    """What is said of the tests."""
+    """The output about the tests."""
     ended = subprocess.run(["rt", "try", "--test"], cwd=folder, capture_output=True, text=True)
     return ended.stdout + ended.stderr
 
 
 def run_test(folder, test):
-    """Whether the test passed, and what was said."""
+    """Whether the test passed, and its output."""
     said = try_tests(folder)
     result = re.search(r"(?m)^test result: \w+\. (\d+) passed; (\d+) failed;", said)
     if not result or f"test {test} ... " not in said or int(result[1]) + int(result[2]) != 1 or "no-answer" in said:
@@ -81,14 +74,18 @@ def is_refused(name, tests, error):
     return True
 
 
-def refuses(name, folder, tests, test, error, changes):
-    """Whether the test passes as the crate stands, and with the edit fails, or is not compiled."""
+def passes(name, tests, test):
+    """Whether the test passes without the edit."""
     is_passed, said = run_test(tests, test)
     if not is_passed:
         print(f"edits: {name}: {test} fails without the edit:\n{said[-2000:]}")
-        return False
-    for file, old, new in changes:
-        change(os.path.join(folder, file), lambda text: text.replace(old, new))
+    return is_passed
+
+
+def refuses(name, folder, tests, test, error, changes):
+    """Whether the test fails with the edit, or is not compiled."""
+    for file, text in edit_files.apply(folder, changes).items():
+        change(os.path.join(folder, file), lambda _, text=text: text)
     if error:
         return is_refused(name, tests, error)
     is_passed, said = run_test(tests, test)
@@ -99,23 +96,23 @@ def refuses(name, folder, tests, test, error, changes):
     return True
 
 
-def is_caught(name):
+def is_caught(name, is_passed):
     """Whether an edit of a copy of the crates is refused as it says."""
     crate, tests, test, error, changes = read_edit(name)
     with tempfile.TemporaryDirectory() as scratch:
         for part in ("crates", "crates.txt", "HANDLES"):
             source, to = os.path.join(ROOT, part), os.path.join(scratch, part)
             if os.path.isdir(source):
-                shutil.copytree(source, to, ignore=shutil.ignore_patterns("out", "must-fail", "proofs"))
+                shutil.copytree(source, to, ignore=shutil.ignore_patterns("out", "must-fail", "wrong-bodies", "proofs"))
             else:
                 shutil.copy(source, to)
         folder, tests = (os.path.join(scratch, "crates", it) for it in (crate, tests))
         keep_test(tests, test)
-        return refuses(name, folder, tests, test, error, changes)
+        return (is_passed or passes(name, tests, test)) and refuses(name, folder, tests, test, error, changes)
 
 
 def count_in(path, text):
-    """How often a text stands in a file; 0 where there is no file."""
+    """How often a text is in a file; 0 if there is no file."""
     if not os.path.exists(path):
         return 0
     with open(path, encoding="utf-8") as file:
@@ -126,23 +123,25 @@ def stale_parts(name):
     """What an edit names and the crates do not have."""
     crate, tests, test, _, changes = read_edit(name)
     *modules, function = test.split("::")
-    wanted = [(os.path.join(tests, "src", *modules) + ".rt", f"fn {function}(")]
-    wanted += [(os.path.join(crate, file), old) for file, old, _ in changes]
-    for file, text in wanted:
-        count = count_in(os.path.join(ROOT, "crates", file), text)
-        if count != 1:
-            yield f"edits: {name}: stands {count} times in crates/{file}: {text}"
+    path = os.path.join(tests, "src", *modules) + ".rt"
+    count = count_in(os.path.join(ROOT, "crates", path), f"fn {function}(")
+    if count != 1:
+        yield f"edits: {name}: its test is {count} times in crates/{path}, and not once"
+    try:
+        edit_files.apply(os.path.join(ROOT, "crates", crate), changes)
+    except edit_files.BadEdit as error:
+        yield f"edits: {name}: {error}"
 
 
 def main():
     words = sys.argv[1:]
-    names = [it for it in words if it != "--check"] or sorted(it.removesuffix(".edit") for it in os.listdir(EDITS))
+    names = [it for it in words if it not in ("--check", "--passed")] or sorted(it.removesuffix(".edit") for it in os.listdir(EDITS))
     stale = [line for name in names for line in stale_parts(name)]
     if stale or "--check" in words:
         print("\n".join(stale) or f"edits: the tests and the text of {len(names)} are there")
         sys.exit(1 if stale else 0)
     with ThreadPoolExecutor(SIDE_BY_SIDE) as scratch:
-        caught = list(scratch.map(is_caught, names))
+        caught = list(scratch.map(lambda name: is_caught(name, "--passed" in words), names))
     sys.exit(0 if all(caught) else 1)
 
 

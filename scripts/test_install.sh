@@ -1,11 +1,11 @@
 #!/usr/bin/env bash
-# Installs and packages, and uses what is there then: scripts/test_install.sh [DIST [PROGRAM]]
+# Installs and packages, and uses the result: scripts/test_install.sh [DIST [PROGRAM]]
 #
 # Into a fresh prefix by install.sh, from the archive, and as the Debian packages in a fresh root: each time the program runs,
-# its man page shows, C programs are built by pkg-config and by CMake and run, and nothing is left behind at the end. Each
-# script answers --help. DIST and PROGRAM stand built, or are built first; GATE_LOG, where it is set, names the log of the
-# gate's proofs, whose transcript the packages then have. A C compiler has to be there; the last line, which begins
-# 'install: all well', names what else was not. Else the status is not 0.
+# its man page shows, C programs are built with pkg-config and with CMake and run, and nothing is left at the end. Each
+# script understands --help. DIST and PROGRAM are built already, or are built first. GATE_LOG, if it is set, names the log of the
+# gate's proofs, whose transcript the packages then have. It needs a C compiler; the last line, which begins
+# 'install: all well', names what else was missing. Otherwise the status is not 0.
 set -euo pipefail
 . "$(dirname "${BASH_SOURCE[0]}")/lib/options.sh"
 . "$(dirname "${BASH_SOURCE[0]}")/lib/testing.sh"
@@ -30,7 +30,7 @@ claims='expires 1444064944, issued by coap://as.example.com'
 xxd_of() { od -An -tx1 | tr -d ' \n'; }
 
 mkdir "$scratch/project"
-cp "$root/c/canonicalise.c" "$root/c/cwt.c" "$scratch/project"
+cp "$root/examples/canonicalise.c" "$root/examples/cwt.c" "$scratch/project"
 cat >"$scratch/project/CMakeLists.txt" <<CMAKE
 cmake_minimum_required(VERSION 3.13)
 project(canonicalise C)
@@ -43,7 +43,7 @@ foreach(example canonicalise cwt)
 endforeach()
 CMAKE
 
-# Uses what stands below a prefix, in an environment that knows of no other.
+# Uses what is installed below a prefix, in an environment that knows no other.
 use() { # NAME PREFIX [LIB ROOT]: the folder of the libraries, and the root that Debian's files mean
     local name=$1 prefix=$2 lib=${3:-$2/lib} above=${4:-} used='the program'
     [ "$("$prefix/bin/cborc" --version | head -1)" = "cborc $version" ] || fail "$name: the program's version"
@@ -61,7 +61,9 @@ use() { # NAME PREFIX [LIB ROOT]: the folder of the libraries, and the root that
         used+=', C by CMake'
     fi
     python3 "$root/scripts/documents.py" "$prefix/share/doc/naltvigo" || fail "$name: a link in a document"
-    cmp "$prefix/share/doc/naltvigo/c/cwt.c" "$root/c/cwt.c" || fail "$name: an example of docs/C.md"
+    cmp "$prefix/share/doc/naltvigo/examples/cwt.c" "$root/examples/cwt.c" || fail "$name: an example of docs/C.md"
+    grep -q '^canonicalise(' "$prefix/share/doc/naltvigo/docs/PROVED.md" || fail "$name: the contracts of the calls"
+    grep -q '^| `canonicalise` |' "$prefix/share/doc/naltvigo/docs/CALLS.md" || fail "$name: the documentation of the calls"
     say "$name: $used"
 }
 use_page() { # NAME PAGE
@@ -107,9 +109,9 @@ for script in "$root"/scripts/*.sh; do
     grep -q 'unknown option --no-such-option' "$scratch/log" || fail "$name --no-such-option says nothing of it"
     rmdir "$scratch/apart" || fail "$name --no-such-option makes files"
 done
-say 'each script answers --help, and refuses other options'
+say 'each script understands --help, and refuses other options'
 
-# ---- into a prefix, beside what is there
+# ---- into a prefix that has other files
 
 mkdir -p "$scratch/prefix/bin"
 echo kept >"$scratch/prefix/bin/other"
@@ -150,7 +152,7 @@ unpack_debian() { # ROOT
         done
     fi
 }
-# As a machine with nothing but the C library has it.
+# As on a machine that has only the C library.
 run_as_root_folder() { # ROOT
     local file
     for file in $(ldd "$1/usr/bin/cborc" | grep -o '/[^ ]*'); do
@@ -178,16 +180,15 @@ if have dpkg-deb; then
     fi
     [ ! -d "$fresh/var/lib/dpkg/info" ] || remove_debian "$fresh"
     if have lintian; then
-        lintian --fail-on error "$scratch"/packages/*.deb >"$scratch/log" 2>&1 || { cat "$scratch/log"; fail 'lintian finds errors'; }
-        say 'lintian finds no error'
+        lintian --fail-on error,warning --suppress-tags-from-file "$root/share/debian/explained.txt" "$scratch"/packages/*.deb >"$scratch/log" 2>&1 || { cat "$scratch/log"; fail 'lintian finds errors or warnings'; }
+        say 'lintian finds no error and no warning'
     fi
 fi
 
 # ---- what the gate proved, in each package
 
-# A log of rt ci stands in for the gate's where there is none.
-log=${GATE_LOG:-$scratch/gate.log}
-[ -n "${GATE_LOG:-}" ] || cat >"$log" <<'LOG'
+# A log of rt ci. In the gate's own log all crates may be kept, and then it has no line of a proof to take away.
+cat >"$scratch/made.log" <<'LOG'
      11 == lower
      11 fn lower::echo: proved
      11 empty contracts: 0 found; tried 1 of 1 functions
@@ -217,10 +218,10 @@ lower                         10      22       8 (1)
 stage proofs: 42 s
 LOG
 for change in 's/^\([0-9]* passed\), 0/\1, 1/' '/rt: ok;/d' 's/^ *[0-9]* logic=.*//' '/^[0-9]* passed, 0 failed$/d'; do
-    sed "$change" "$log" >"$scratch/other.log"
+    sed "$change" "$scratch/made.log" >"$scratch/other.log"
     ! python3 "$root/scripts/transcript.py" "$scratch/other.log" "$scratch/prefix" >/dev/null 2>&1 || fail "a log changed by $change gets a transcript"
 done
-GATE_LOG=$log package "$scratch/reported"
+GATE_LOG=${GATE_LOG:-$scratch/made.log} package "$scratch/reported"
 mkdir "$scratch/archive"
 tar -C "$scratch/archive" --strip-components=1 -xzf "$scratch"/reported/*.tar.gz
 transcript=$scratch/archive/share/doc/naltvigo/transcript.txt

@@ -1,9 +1,9 @@
 #!/usr/bin/env python3
-"""Counts the instructions of the program where its cost must not grow: scripts/test_instructions.py PROGRAM
+"""Counts the instructions of the program in cases where its cost must not grow: scripts/test_instructions.py PROGRAM
 
 A sequence costs what its items cost by themselves: `canon --seq` of 32 items of 250 nested maps, each out of order, takes at most
 1.2 times the instructions of 32 runs over one. An item costs what it costs in a sequence, also if the limit on its bytes is high:
-`check` of 6 MB takes at most 2.5 times the instructions of `check --seq`. valgrind counts; where it is not there, the last line
+`check` of 6 MB takes at most 2.5 times the instructions of `check --seq`. valgrind counts; if it is missing, the last line
 says so.
 """
 
@@ -34,7 +34,7 @@ def instructions(program, words, folder):
 
 
 def times_of_a_sequence(program, folder):
-    """What nested items cost as one sequence, by what they cost alone."""
+    """The cost of nested items as one sequence, divided by their cost alone."""
     item = nested(LEVELS, PAYLOAD)
     (Path(folder) / "one").write_bytes(item)
     (Path(folder) / "many").write_bytes(item * ITEMS)
@@ -44,7 +44,7 @@ def times_of_a_sequence(program, folder):
 
 
 def times_of_an_item(program, folder):
-    """What an array of many integers costs as an item, by what it costs as a sequence of one."""
+    """The cost of an array of many integers as an item, divided by its cost as a sequence of one."""
     (Path(folder) / "array").write_bytes(b"\x9a" + MEMBERS.to_bytes(4, "big") + bytes(MEMBERS))
     words = ["--bytes", "1000000000", "array"]
     return instructions(program, ["check", *words], folder) / instructions(program, ["check", "--seq", *words], folder)

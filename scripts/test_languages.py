@@ -1,10 +1,11 @@
 #!/usr/bin/env python3
 """Shows that the languages read the same values and write the same bytes: scripts/test_languages.py DIST
 
-DIST is what scripts/build_c.sh makes. It builds c/values.c, the package for Python and the example `values` of the crate for
-Rust, and tries them and the package for JavaScript with fuzz/languages.py on the rows of the conformance tables and on
-random items. A C compiler and Python's headers have to be there; the last line, which begins 'languages: all well', names
-what else was not: cargo, or Node and the modules of scripts/build_web.sh. Else the status is not 0.
+DIST is what scripts/build_c.sh makes. It builds c/values.c, the package for Python and the examples `values` of the crate for
+Rust and of the package for Go, and tries them and the package for JavaScript with fuzz/languages.py on the rows of the
+conformance tables and on random items. It needs a C compiler and Python's headers; the last line, which begins
+'languages: all well', names what else was missing: cargo, Go, or Node and the modules of scripts/build_web.sh. Otherwise the
+status is not 0.
 """
 
 import os
@@ -19,7 +20,7 @@ ROOT = Path(__file__).resolve().parent.parent
 
 
 def done(*words, **more):
-    """What a command writes; ends where it fails."""
+    """The output of a command; ends if it fails."""
     ended = subprocess.run(words, capture_output=True, text=True, **more)
     if ended.returncode != 0:
         sys.exit(f"languages: FAILED: {' '.join(map(str, words))}\n{ended.stdout}{ended.stderr}")
@@ -41,11 +42,19 @@ def in_python(dist, scratch):
 
 
 def in_rust(dist, scratch):
-    own = os.environ | {"NALTVIGO_LIB": f"{dist}/lib", "CARGO_TARGET_DIR": str(scratch / "target")}
+    own = os.environ | {"NALTVIGO_LIB": f"{dist}/lib", "CARGO_TARGET_DIR": str(scratch / "target"), "CARGO_HOME": str(scratch / "cargo")}
+    (scratch / "cargo").mkdir()
+    shutil.copy(ROOT / "scripts" / "lib" / "debian_crates.toml", scratch / "cargo" / "config.toml")
     crate = ROOT / "bindings" / "rust"
     done("cargo", "build", "--offline", "-q", "--example", "values", cwd=crate, env=own)
     (crate / "Cargo.lock").unlink(missing_ok=True)
     return str(scratch / "target" / "debug" / "examples" / "values")
+
+
+def in_go(scratch):
+    own = os.environ | {"GOCACHE": str(scratch / "cache"), "GOPROXY": "off"}
+    done("go", "build", "-o", scratch / "go_values", "./examples/values", cwd=ROOT / "bindings" / "go", env=own)
+    return str(scratch / "go_values")
 
 
 def in_javascript():
@@ -57,13 +66,15 @@ def main():
     with tempfile.TemporaryDirectory() as folder:
         scratch = Path(folder)
         programs = {"C": in_c(dist, scratch), "Python": in_python(dist, scratch)}
-        if shutil.which("cargo"):
+        if shutil.which("cargo") and Path("/usr/share/cargo/registry").is_dir():
             programs["Rust"] = in_rust(dist, scratch)
+        if shutil.which("go") and (ROOT / "portable" / "naltvigo-x86_64-elf.S").exists():
+            programs["Go"] = in_go(scratch)
         if shutil.which("node") and (ROOT / "bindings/js/wasm/naltvigo32.wasm").exists():
             programs["JavaScript"] = in_javascript()
         words = [f"{name}={command}" for name, command in programs.items()]
         print(done(sys.executable, ROOT / "fuzz" / "languages.py", "--library", dist / "lib" / "libnaltvigo.so", "--inputs", "2000", *words), end="")
-    tools = {"Rust": "cargo", "JavaScript": "node, or the modules of scripts/build_web.sh"}
+    tools = {"Rust": "cargo and librust-cc-dev", "Go": "go, or the assembly in portable/", "JavaScript": "node, or the modules of scripts/build_web.sh"}
     missing = ", ".join(tool for name, tool in tools.items() if name not in programs)
     print("languages: all well" + (f"; not tried, since not there: {missing}" if missing else ""))
 

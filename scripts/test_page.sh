@@ -1,10 +1,10 @@
 #!/usr/bin/env bash
 # Tests the page that inspects CBOR, in Chromium and Firefox: scripts/test_page.sh [FOLDER]
 #
-# The modules stand in bindings/js/wasm, as scripts/build_web.sh makes them. The page's scripts by themselves, in Node 20 or
-# later; then, in each browser that is there, without a window (Debian's chromium and firefox-esr), the page as one file, and
+# The modules are in bindings/js/wasm, as scripts/build_web.sh makes them. The page's scripts alone, in Node 20 or
+# later; then, in each installed browser, without a window (Debian's chromium and firefox-esr), the page as one file, and
 # from its source over python3's http.server. FOLDER gets pictures of it. The last line begins
-# 'page: all well', and names what was not there; or the status is not 0.
+# 'page: all well', and names what was missing; or the status is not 0.
 set -euo pipefail
 . "$(dirname "${BASH_SOURCE[0]}")/lib/options.sh"
 . "$(dirname "${BASH_SOURCE[0]}")/lib/testing.sh"

@@ -2,10 +2,11 @@
 # Tests the package for Python, as it is installed: scripts/test_python.sh DIST
 #
 # DIST has the library for C, as build_c.sh makes it. The wheel is built twice, by pip and from the source archive, installed
-# in a fresh folder, and tested there: unit tests, types, refused memory, and random inputs under sanitizers. Where
-# /usr/bin/python3 is another Python it runs the unit tests too, since Debian's cbor2 is there. python3, its headers
-# (Debian's python3-dev) and a C compiler have to be there; the last line, which begins 'Python: all well', names what else
-# was not. Else the status is not 0.
+# in a fresh folder, and tested there: unit tests, types, refused memory, random inputs under sanitizers, and one part in
+# PLANTED_PARTS of the planted bugs, by the day (8; 1 tries all). The source archive is installed once more in an environment
+# that has a C compiler alone, if portable/ has the assembly. If /usr/bin/python3 is another Python it runs the unit tests
+# too, with Debian's cbor2. Needed are python3, its headers (Debian's python3-dev) and a C compiler; the last line, which
+# begins 'Python: all well', names what else is missing. Otherwise the status is not 0.
 set -euo pipefail
 . "$(dirname "${BASH_SOURCE[0]}")/lib/options.sh"
 . "$(dirname "${BASH_SOURCE[0]}")/lib/testing.sh"
@@ -16,7 +17,7 @@ package=$root/bindings/python
 dist=$(cd "$1" && pwd)
 export NALTVIGO_LIB=$dist/lib PYTHONDONTWRITEBYTECODE=1
 
-# Runs what follows the name in a folder apart, so that nothing but what is installed is found.
+# Runs what follows the name in another folder, so that only what is installed is found.
 try() {
     local name=$1
     shift
@@ -24,15 +25,15 @@ try() {
 }
 
 python=$(python3 -c 'import sys; print(sys.executable)')
-headers=$("$python" -c 'import sysconfig; print(sysconfig.get_path("include"))')
-[ -e "$headers/Python.h" ] || fail "$headers/Python.h is not there: install python3-dev"
+folder=$("$python" -c 'import sysconfig; print(sysconfig.get_path("include"))')
+[ -e "$folder/Python.h" ] || fail "$folder/Python.h is missing: install python3-dev"
 
 # ---- The wheel and the source archive
 
 build() { "$python" "$package/build_wheel.py" "$@"; }
 
 mkdir "$scratch"/{wheel,again,sdist,site,watched}
-wheel=$(build "$scratch/wheel")
+wheel=$(build "$scratch/wheel") # of the library in DIST
 build "$scratch/again" >/dev/null
 cmp "$scratch/wheel/$wheel" "$scratch/again/$wheel" || fail 'two wheels differ'
 sdist=$(build --sdist "$scratch/sdist")
@@ -50,13 +51,27 @@ else
     "$python" -m zipfile -e "$scratch/wheel/$wheel" "$scratch/site"
 fi
 
-# what the tag says of glibc holds, and nothing but the C library is needed
+# what the tag says of glibc is true, and only the C library is needed
 extension=$scratch/site/naltvigo/_native.abi3.so
 greatest=$(objdump -T "$extension" | sed -n 's/.*GLIBC_\([0-9.]*\)).*/\1/p' | sort -V | tail -1)
 tagged=$(sed -n 's/.*manylinux_\([0-9]*\)_\([0-9]*\)_.*/\1.\2/p' <<<"$wheel")
 [ "$(printf '%s\n' "$greatest" "$tagged" | sort -V | tail -1)" = "$tagged" ] || fail "$wheel needs glibc $greatest"
 [ "$(objdump -p "$extension" | awk '/NEEDED/ { print $2 }')" = libc.so.6 ] || fail 'the extension needs more than the C library'
-[ "$(objdump -T "$extension" | awk '/g .*\.text/ { print $NF }')" = PyInit__native ] || fail 'the extension exports more than its start'
+# it is hardened: the stack, copies of known sizes, a table of addresses that does not change, and where jumps may lead
+symbols=$(objdump -T "$extension") headers=$(readelf -dlW "$extension")
+for name in __stack_chk_fail __memcpy_chk; do
+    grep -q "$name" <<<"$symbols" || fail "the extension is not hardened: no $name"
+done
+grep -q GNU_RELRO <<<"$headers" && grep -q BIND_NOW <<<"$headers" || fail 'the extension is not hardened: no RELRO'
+! grep -q 'GNU_STACK.* RWE ' <<<"$headers" || fail 'the extension has a stack that can be executed'
+if [ "$(uname -m)" = x86_64 ]; then
+    code=$(objdump -d "$extension")
+    grep -q endbr64 <<<"$code" || fail 'the extension is not hardened: no endbr64'
+fi
+
+# a Python without the interpreter's lock is refused
+! "${CC:-cc}" -DPy_GIL_DISABLED -I"$folder" -I"$dist/include" -fsyntax-only "$package/src/native/module.c" 2>"$scratch/log" || fail 'a build without the lock'
+grep -q 'needs the interpreter.s lock' "$scratch/log" || fail 'the sentence of a build without the lock'
 
 # ---- Its tests
 
@@ -82,6 +97,8 @@ checker=$python
 if "$checker" -m mypy --version >/dev/null 2>&1; then
     try types "$checker" -m mypy --strict "$package/src/naltvigo"
     try 'types of what is installed' env MYPYPATH="$scratch/site" "$checker" -m mypy --strict "$package/tests/typed_use.py"
+    "$python" -c 'import doctest, sys; print(doctest.script_from_examples(open(sys.argv[1]).read()))' "$package/README.md" >"$scratch/readme.py"
+    try 'types of the README' env MYPYPATH="$scratch/site" "$checker" -m mypy --strict "$scratch/readme.py"
     try 'stubs of the extension' env PYTHONPATH="$scratch/site" MYPYPATH="$scratch/site" "$checker" -m mypy.stubtest naltvigo._native
     say 'the types hold, for mypy --strict and for the extension as it is'
 else
@@ -102,11 +119,46 @@ if [ -e "$runtime" ] && CFLAGS=$sanitizers build "$scratch/watched" >"$scratch/l
     watched=(env LD_PRELOAD="$runtime" ASAN_OPTIONS=detect_leaks=0 PYTHONMALLOC=malloc PYTHONPATH="$scratch/watched" "$python")
     try 'random inputs under sanitizers' "${watched[@]}" "$package/tests/fuzz_values.py" 15000 7
     say "under sanitizers: $(cat "$scratch/log")"
-    try 'tests under sanitizers' "${watched[@]}" -m unittest discover "$package/tests" -p 'test_[ahsv]*.py'
-    say "under sanitizers: $(sed -n 's/^\(Ran [0-9]* tests\).*/\1/p' "$scratch/log")"
+    for tests in appendix files frozen hostile sequences thresholds values; do
+        try 'tests under sanitizers' "${watched[@]}" -m unittest discover "$package/tests" -p "test_$tests.py"
+        say "under sanitizers: $tests, $(sed -n 's/^\(Ran [0-9]* tests\).*/\1/p' "$scratch/log")"
+    done
 else
     missing+=('a compiler with -fsanitize')
 fi
 try 'random inputs' env PYTHONPATH="$scratch/site" "$python" "$package/tests/fuzz_values.py" 50000 1
 say "$(cat "$scratch/log")"
+
+# ---- Planted bugs, a part a day
+
+parts=${PLANTED_PARTS:-8}
+try 'planted bugs' "$python" "$package/tests/planted.py" "$dist" "$(($(date +%s) / 86400 % parts))" "$parts"
+say "$(cat "$scratch/log")"
+
+# ---- From the assembly: the source archive with a C compiler alone, and wheels for systems whose Python is not here
+
+# Builds a wheel of the assembly, and compares its tag and the parts of the C library that it needs.
+build_for() { # COMPILER TAG LIBRARY ..
+    local built
+    have "$1" || return 0
+    built=$(env -u NALTVIGO_LIB CC="$1" "$python" "$package/build_wheel.py" "$scratch") || fail "a wheel by $1"
+    [ "$built" = "${wheel%%-abi3-*}-abi3-$2.whl" ] || fail "a wheel by $1 is $built"
+    "$python" -m zipfile -e "$scratch/$built" "$scratch/of-$1"
+    [ "$(objdump -p "$scratch/of-$1/naltvigo/_native.abi3.so" | awk '/NEEDED/ { print $2 }' | xargs)" = "${*:3}" ] || fail "$built needs more than the C library"
+    say "$built is built; not run"
+}
+
+if [ -e "$root/portable/naltvigo-$(uname -m)-elf.S" ]; then
+    ! env -u NALTVIGO_LIB CC="${CC:-cc} -m32" "$python" "$package/build_wheel.py" "$scratch" >"$scratch/log" 2>&1 || fail 'a wheel for a target without assembly'
+    grep -q 'naltvigo has no assembly for this target: there is x86_64' "$scratch/log" || { cat "$scratch/log"; fail 'the sentence of a target without assembly'; }
+    build_for riscv64-linux-gnu-gcc manylinux_2_27_riscv64 libc.so.6 ld-linux-riscv64-lp64d.so.1
+    build_for musl-gcc "musllinux_1_2_$(uname -m)" libc.so
+    "$python" -m venv "$scratch/venv"
+    alone=(env -i PATH=/usr/bin:/bin HOME="$scratch" PYTHONDONTWRITEBYTECODE=1)
+    try 'installing the source archive' "${alone[@]}" "$scratch/venv/bin/python" -m pip install -q --no-index --no-cache-dir "$scratch/again/$sdist"
+    try 'the source archive' "${alone[@]}" "$scratch/venv/bin/python" -m unittest discover "$package/tests"
+    say "the source archive, installed with a C compiler alone: $(sed -n 's/^\(Ran [0-9]* tests\).*/\1/p' "$scratch/log")"
+else
+    missing+=('the assembly in portable/')
+fi
 end_tests

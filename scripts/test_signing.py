@@ -1,18 +1,19 @@
 #!/usr/bin/env python3
-"""Runs each block of docs/SIGNING.md in a new folder, and compares what it prints with the document.
+"""Runs each block of README.md, docs/SIGNING.md and docs/TUTORIAL.md, and compares what it prints with the document.
 
     scripts/test_signing.py PROGRAM DIST
 
-PROGRAM is the built cborc, DIST the library for C as scripts/build_c.sh makes it. The blocks of shell run in order, in one
-bash with `set -euo pipefail`; a block of text behind one is what it prints, and a block of shell with none behind it
-prints nothing. A block in another language is a file, whose name its first line has. The Python package and the Rust
-crate of bindings/ are used from where they are. The last line begins 'signing: all well', and names what was left out
-because a tool is missing. Else the status is not 0.
+PROGRAM is the built cborc, DIST the library for C as scripts/build_c.sh makes it. Each document gets a new folder. Its
+blocks of shell run in order, in one bash with `set -euo pipefail`. A block of text after a block of shell is what that one
+prints; a block of shell without one prints nothing. A block in another language is a file, and its first line has the
+file's name. The packages for Python, JavaScript and Rust are those of bindings/. The last line begins 'signing: ok' and
+names the tools that are missing, whose blocks did not run. If something is wrong, the status is not 0.
 
 No document, man page or help text may show `canon` in a pipe: a refusal would be hashed or signed as zero bytes. The one
-pipe that SIGNING.md shows, to warn of it, is in quotes.
+pipe that SIGNING.md shows as a warning is in quotes.
 """
 
+import importlib.util
 import os
 import re
 import shutil
@@ -22,13 +23,20 @@ import tempfile
 from pathlib import Path
 
 ROOT = Path(__file__).resolve().parent.parent
-GUIDE = ROOT / "docs" / "SIGNING.md"
+GUIDES = [ROOT / "README.md", ROOT / "docs" / "SIGNING.md", ROOT / "docs" / "TUTORIAL.md"]
 FENCE = re.compile(r"(?ms)^```(\w+)\n(.*?)^```$")
 PIPE = re.compile(r"\bcborc canon\b[^|`'\n]*\|(?!\|)")
 
-# What a block of shell needs, by the command that shows it, and what is here besides commands.
-TOOLS = {"openssl": ["openssl"], "xxd": ["xxd"], "cc": ["cc", "pkg-config"], "python3": ["the Python package"], "cargo": ["cargo"]}
-HERE = set()
+# What a block of shell needs, by the command that shows it, and what this machine has besides commands.
+TOOLS = {
+    "openssl": ["openssl"],
+    "xxd": ["xxd"],
+    "cc": ["cc", "pkg-config", "OpenSSL's headers"],
+    "python3": ["the Python package", "the Python package cryptography"],
+    "node": ["node", "the JavaScript package"],
+    "cargo": ["cargo", "librust-cc-dev"],
+}
+HERE = {"librust-cc-dev"} if Path("/usr/share/cargo/registry").is_dir() else set()
 
 
 def blocks(text):
@@ -43,11 +51,11 @@ def missing_for(script):
     return {tool for name in commands for tool in TOOLS[name] if tool not in HERE and not shutil.which(tool)}
 
 
-def named(language, text, line):
-    """The file that a block stands for: its name is in a comment on the first line."""
+def named(guide, language, text, line):
+    """The file that a block is: its name is in a comment on the first line."""
     found = re.match(r"(?://|/\*|#) (?:[\w-]+/)*[\w.-]+\.\w+", text)
     if not found:
-        sys.exit(f"docs/SIGNING.md:{line}: a block of {language} whose first line names no file")
+        sys.exit(f"{guide.name}:{line}: a block of {language} whose first line names no file")
     return re.sub(r"^\S+ ", "", found[0])
 
 
@@ -58,6 +66,8 @@ def environment(scratch, program, dist):
     (tools / "cborc").symlink_to(program)
     (tools / "python3").symlink_to(sys.executable)
     (scratch / "naltvigo").symlink_to(ROOT)
+    (scratch / "cargo").mkdir()
+    shutil.copy(ROOT / "scripts" / "lib" / "debian_crates.toml", scratch / "cargo" / "config.toml")
     return {
         **os.environ,
         "PATH": f"{tools}:{os.environ['PATH']}",
@@ -69,6 +79,7 @@ def environment(scratch, program, dist):
         "PYTHONPATH": str(scratch / "site"),
         "PYTHONDONTWRITEBYTECODE": "1",
         "CARGO_TARGET_DIR": str(scratch / "target"),
+        "CARGO_HOME": str(scratch / "cargo"),
     }
 
 
@@ -81,39 +92,59 @@ def install_python(scratch, env):
         return
     shutil.unpack_archive(scratch / done.stdout.split()[-1], scratch / "site", "zip")
     HERE.add("the Python package")
+    if importlib.util.find_spec("cryptography"):
+        HERE.add("the Python package cryptography")
 
 
-def plan(folder):
+def install_others(scratch):
+    """The package for JavaScript, if scripts/build_web.sh has made its modules; where cargo finds the crate cc; the headers of
+    OpenSSL's library."""
+    package = ROOT / "bindings" / "js"
+    if (package / "wasm" / "naltvigo32.wasm").exists():
+        modules = scratch / "node_modules"
+        modules.mkdir()
+        (modules / "naltvigo").symlink_to(package)
+        HERE.add("the JavaScript package")
+    if Path("/usr/share/cargo/registry").is_dir():
+        (scratch / "cargo").mkdir(exist_ok=True)
+        shutil.copy(ROOT / "scripts" / "lib" / "debian_crates.toml", scratch / "cargo" / "config.toml")
+        HERE.add("Debian's librust-cc-dev")
+    if shutil.which("pkg-config") and subprocess.run(["pkg-config", "--exists", "libcrypto"]).returncode == 0:
+        HERE.add("OpenSSL's headers")
+
+
+def plan(guide, folder):
     """The blocks of shell to run, each with its line and what it prints, and the tools that others lack; writes the files."""
-    found = list(blocks(GUIDE.read_text(encoding="utf-8")))
+    found = list(blocks(guide.read_text(encoding="utf-8")))
     runs, lacking = [], set()
-    for (language, block, line), (behind, expected, _) in zip(found, [*found[1:], ("", "", 0)]):
+    for (language, block, line), (next_language, expected, _) in zip(found, [*found[1:], ("", "", 0)]):
         if language not in ("sh", "text"):
-            path = folder / named(language, block, line)
+            path = folder / named(guide, language, block, line)
             path.parent.mkdir(parents=True, exist_ok=True)
             path.write_text(block, encoding="utf-8")
         elif language == "sh" and missing_for(block):
             lacking.update(missing_for(block))
         elif language == "sh":
-            runs.append((line, block, expected if behind == "text" else ""))
+            runs.append((line, block, expected if next_language == "text" else ""))
     return runs, lacking
 
 
-def run_guide(runs, folder, env):
-    """Runs the blocks in one shell, and yields what is not as the document says."""
+def run_guide(guide, runs, folder, env):
+    """Runs the blocks in one shell, and yields what differs from the document."""
+    name = guide.relative_to(ROOT).as_posix()
     with tempfile.TemporaryDirectory() as outputs:
         script = "set -euo pipefail\n" + "".join(f"{{\n{block}}} >{outputs}/{line} 2>&1\n" for line, block, _ in runs)
         done = subprocess.run(["bash", "-c", script], cwd=folder, env=env, stdin=subprocess.DEVNULL)
         for line, _, expected in runs:
             output = Path(outputs, str(line))
             if not output.exists():
-                yield f"docs/SIGNING.md:{line}: not reached, since a block before it ended with status {done.returncode}"
+                yield f"{name}:{line}: not reached, since a block before it ended with status {done.returncode}"
                 return
             printed = output.read_text(encoding="utf-8", errors="replace")
             if printed != expected:
-                yield f"docs/SIGNING.md:{line}: printed\n{printed}and not\n{expected}"
+                yield f"{name}:{line}: printed\n{printed}and not\n{expected}"
         if done.returncode != 0:
-            yield f"docs/SIGNING.md: the last block ended with status {done.returncode}"
+            yield f"{name}: the last block ended with status {done.returncode}"
 
 
 def pipes(program):
@@ -139,15 +170,20 @@ def main():
         scratch = Path(scratch)
         env = environment(scratch, program, dist)
         install_python(scratch, env)
-        folder = scratch / "work"
-        folder.mkdir()
-        runs, lacking = plan(folder)
-        faults += run_guide(runs, folder, env)
+        install_others(scratch)
+        count, missing = 0, set()
+        for guide in GUIDES:
+            folder = scratch / guide.stem
+            folder.mkdir()
+            runs, lacking = plan(guide, folder)
+            count += len(runs)
+            missing |= lacking
+            faults += run_guide(guide, runs, folder, env)
     for fault in faults:
         print(f"signing: {fault}")
     if not faults:
-        left = f"; not tried, since not there: {', '.join(sorted(lacking))}" if lacking else ""
-        print(f"signing: all well: {len(runs)} blocks of shell{left}")
+        left = f"; not run, because these are missing: {', '.join(sorted(missing))}" if missing else ""
+        print(f"signing: ok: {count} blocks of shell{left}")
     return 1 if faults else 0
 
 

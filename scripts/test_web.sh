@@ -1,11 +1,11 @@
 #!/usr/bin/env bash
 # Tests the library as WebAssembly and the package for JavaScript: scripts/test_web.sh [LIBRARY]
 #
-# The modules stand in bindings/js/wasm, as scripts/build_web.sh makes them. The heap of the module by itself, and the
-# package: the tables, values, streams, refused memory, and, beside LIBRARY, the x86-64 libnaltvigo.so, random calls; in
+# The modules are in bindings/js/wasm, as scripts/build_web.sh makes them. The heap of the module alone, and the package:
+# the tables, values, streams, hostile inputs, refused memory, and random calls, compared with LIBRARY, the x86-64 library; in
 # Node, with the module of 32-bit memory, and once more with that of 64-bit memory. That retarget.py refuses what it must; the
-# types; the package as npm installs it in an empty folder. Wants Node 20 or later; the kit's rt has to be on the path. The
-# last line names what else was not there; it begins 'web: all well', or the status is not 0.
+# types; the package as npm installs it in an empty folder; planted bugs. It needs Node 20 or later, and the kit's rt on
+# the path. The last line names what else is missing; it begins 'web: all well', or the status is not 0.
 set -euo pipefail
 . "$(dirname "${BASH_SOURCE[0]}")/lib/options.sh"
 . "$(dirname "${BASH_SOURCE[0]}")/lib/testing.sh"
@@ -17,7 +17,7 @@ kit=$(dirname "$(rt doc)")
 
 need_node_and_modules
 
-# ---- in Node, whose flag for 64-bit memory went when it had it by itself
+# ---- in Node, which needs no flag for 64-bit memory in later versions
 
 node_with() { # 32 | 64, WORD ..
     local flag=()
@@ -33,7 +33,7 @@ widths=(32)
 if node_with 64 -e "$memory64" 2>/dev/null; then widths+=(64); else missing+=('64-bit memory in Node'); fi
 ! node -e "$memory64" 2>/dev/null || widths=(64)
 
-# ---- the heap of the module, by itself
+# ---- the heap of the module, alone
 
 target=(--target=wasm64-unknown-unknown -mcpu=lime1 -O2 -ffreestanding -nostdinc -Wall -Wextra -Werror)
 for name in heap_of_module heap_test; do
@@ -52,14 +52,14 @@ fi
 
 printf '%s\n' 'target datalayout = "e-m:e-p270:32:32-i64:64-i128:128-f80:128-n8:16:32:64-S128"' 'target triple = "x86_64-unknown-linux-gnu"' \
     'define i64 @f(i64 %0) #0 { ret i64 %0 }' 'attributes #0 = { nounwind "target-cpu"="x86-64" }' >"$scratch/good.ll"
-"$root/scripts/retarget.py" <"$scratch/good.ll" >"$scratch/retargeted.ll" || fail 'retarget.py refuses a plain module'
-grep -q 'triple = "wasm64' "$scratch/retargeted.ll" && ! grep -q x86 "$scratch/retargeted.ll" || fail 'retarget.py leaves something of x86-64'
+"$root/scripts/retarget.py" wasm64-unknown-unknown <"$scratch/good.ll" >"$scratch/retargeted.ll" || fail 'retarget.py refuses a plain module'
+! grep -q x86 "$scratch/retargeted.ll" || fail 'retarget.py leaves something of x86-64'
 for line in 'define void @g() { call void asm sideeffect "pause", ""() ret void }' 'declare i32 @llvm.x86.sse42.crc32.32.8(i32, i8)' \
     'declare void @exit(i32)' 'define x86_fp80 @g(x86_fp80 %0) { ret x86_fp80 %0 }' 'attributes #1 = { "thunk" }'; do
     { cat "$scratch/good.ll"; echo "$line"; } >"$scratch/bad.ll"
-    ! "$root/scripts/retarget.py" <"$scratch/bad.ll" >/dev/null 2>&1 || fail "retarget.py lets pass: $line"
+    ! "$root/scripts/retarget.py" wasm64-unknown-unknown <"$scratch/bad.ll" >/dev/null 2>&1 || fail "retarget.py lets pass: $line"
 done
-! sed 's/x86_64-/i686-/' "$scratch/good.ll" | "$root/scripts/retarget.py" >/dev/null 2>&1 || fail 'retarget.py lets another triple pass'
+! sed 's/x86_64-/i686-/' "$scratch/good.ll" | "$root/scripts/retarget.py" wasm64-unknown-unknown >/dev/null 2>&1 || fail 'retarget.py lets another triple pass'
 say 'retarget.py refuses assembler, intrinsics, unknown calls, types and attributes'
 
 # ---- the package
@@ -86,17 +86,37 @@ fi
 
 # ---- as it is installed, without a network
 
-if command -v npm >/dev/null; then
+if command -v npm >/dev/null && command -v esbuild >/dev/null; then
     tarball=$(cd "$package" && npm pack --silent --offline --pack-destination "$scratch")
-    mkdir "$scratch/empty"
-    cd "$scratch/empty"
+    mkdir "$scratch/project"
+    cd "$scratch/project"
     echo '{ "private": true, "type": "module" }' >package.json
     npm install --silent --offline --no-audit --no-fund "$scratch/$tarball" >"$scratch/log" 2>&1 || { cat "$scratch/log"; fail 'npm install'; }
     echo "import { encode } from 'naltvigo'; console.log(Buffer.from(encode({ Amt: -2, Fun: true })).toString('hex'));" >program.js
     [ "$(node program.js)" = a263416d74216346756ef5 ] || fail 'the installed package'
+    echo "const { encode } = require('naltvigo'); console.log(Buffer.from(encode({ Amt: -2, Fun: true })).toString('hex'));" >program.cjs
+    [ "$(node program.cjs)" = a263416d74216346756ef5 ] || fail 'the installed package by require'
     [ "$(echo bf6346756ef563416d7421ff | node node_modules/naltvigo/examples/values.mjs)" = a263416d74216346756ef5 ] || fail 'the example of the installed package'
+    PROJECT=$scratch/project tests "the README's programs and both kinds of modules, installed" 32 "$package"/tests/readme.test.mjs "$package"/tests/installed.mjs
+    mkdir bundled
+    cp -r node_modules bundled
+    (cd bundled && "$root/scripts/run_readme.py" sh "$package/README.md" >"$scratch/log" 2>&1) || { cat "$scratch/log"; fail "the README's bundle"; }
+    mkdir alone && mv bundled/bundle.mjs alone
+    [ "$(node alone/bundle.mjs)" = "{ name: 'x' }" ] || fail "the README's bundle, alone"
+    if command -v tsc >/dev/null; then
+        cp "$package/tests/types.ts" types.mts
+        cp "$package/tests/required.cts" "$package/tests/tsconfig.json" .
+        sed -i 's/"types.ts"/"types.mts", "required.cts"/' tsconfig.json
+        tsc -p tsconfig.json >"$scratch/log" || { cat "$scratch/log"; fail 'the types of the installed package'; }
+        say 'the types of the installed package hold, for import and for require'
+    fi
     say "npm installs $tarball in an empty folder, and it runs"
 else
-    missing+=(npm)
+    command -v npm >/dev/null || missing+=(npm)
+    command -v esbuild >/dev/null || missing+=("esbuild (Debian: esbuild)")
 fi
+
+# ---- bugs that are planted in the package, some at each commit
+
+node "$package/tests/planted.mjs" || fail 'a planted bug is not found'
 end_tests

@@ -1,11 +1,11 @@
 #!/usr/bin/env python3
-"""Puts the seconds since it began before each line of `rt ci`, and tells at the end how long each crate took.
+"""Puts the seconds since it began before each line of `rt ci`, and reports at the end how long each crate took.
 
     rt ci 2>&1 | scripts/timed.py
 
-rt tells when a crate is proved and when its edits begin, but neither when its proof begins nor when its edits
-end. So what rt has running is looked up each second: a check in a crate's folder is its proof, one with --test
-that of its tests, one of an edited copy an edit. The line 'N passed, M failed' stays as it is, and the last.
+rt prints when a crate is proved and when its edits begin, but neither when its proof begins nor when its edits
+end. So this looks up each second what rt is running: a check in a crate's folder is its proof, one with --test
+is that of its tests, one of an edited copy is an edit. The line 'N passed, M failed' is unchanged and stays the last.
 """
 
 import glob
@@ -26,7 +26,7 @@ def text_of(file):
 
 
 def is_ours(process):
-    """Whether a process runs below the shell that this one runs below, where rt does too."""
+    """Whether a process runs below the shell that this one runs below, as rt does."""
     while process not in (os.getppid(), 0, 1):
         process = int(re.search(r"(?m)^PPid:\s+(\d+)", text_of(f"/proc/{process}/status"))[1])
     return process == os.getppid()
@@ -57,7 +57,7 @@ def watch(taken, ended):
 
 
 def table(taken, edits):
-    """The lines of the table, a crate each."""
+    """The lines of the table, one for each crate."""
     yield f"{'seconds':24}{'proof':>8}{'tests':>8}{'edits':>8}"
     for crate in sorted({it for it, _ in taken}):
         columns = "".join(f"{taken.get((crate, kind), 0):8.0f}" for kind in KINDS)

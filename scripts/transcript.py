@@ -3,9 +3,9 @@
 
     scripts/transcript.py LOG FOLDER
 
-LOG is what `.ci/run` or `rt ci` said. FOLDER is where scripts/install.sh put the
-program and the library. The transcript has no times: two runs that prove the same files from nothing write the same. A run
-that failed, or was of some crates alone, gets none: the status is 1. docs/EVIDENCE.md says what the transcript shows.
+LOG is the output of `.ci/run` or `rt ci`. FOLDER is where scripts/install.sh put the
+program and the library. The transcript has no times: two runs that prove the same files from nothing write the same. If the
+run failed, or proved only some crates, there is no transcript and the status is 1. docs/TRUST.md says what the transcript shows.
 """
 
 import hashlib
@@ -33,7 +33,7 @@ SECONDS = re.compile(r"^ *\d+ (?=\D)")
 
 
 class Crate:
-    """What the log says of one crate: of the crate itself, and of its tests."""
+    """What the log says about one crate: about the crate itself, and about its tests."""
 
     def __init__(self):
         self.proof, self.test_proof, self.kept = [], [], ""
@@ -88,7 +88,7 @@ class Run:
             self.sentence = found[1]
 
     def faults(self):
-        """Why the log is no evidence."""
+        """Why the log is not evidence."""
         if not self.count.endswith(" passed, 0 failed"):
             yield "the log does not end as a gate that passed"
         if len(self.logic) > 1:
@@ -103,7 +103,7 @@ def output(*words):
 
 
 def source():
-    """The commit, and the sum of the tree, which names the contents of all files."""
+    """The commit, and the checksum of the tree, which names the contents of all files."""
     try:
         changed = output("git", "status", "--porcelain", "--untracked-files=no")
         yield "commit " + output("git", "rev-parse", "HEAD") + (", with changes that are not committed" if changed else "")
@@ -113,12 +113,12 @@ def source():
 
 
 def kit():
-    """What the kit says of itself: its name and sums."""
+    """The kit's name and checksums, as it reports them."""
     try:
         folder = Path(output("rt", "doc")).parent
         yield from ((folder / "KIT-ID").read_text() + (folder / "WHAT").read_text()).splitlines()
     except OSError:
-        yield "not there where this was written; the sums of the logic stand with each proof"
+        yield "not there when this was written; the checksums of the logic are with each proof"
 
 
 def sums(folder):
@@ -129,7 +129,7 @@ def sums(folder):
 
 def transcript(run, folder):
     version = (ROOT / "VERSION").read_text().strip()
-    yield f"Naltvigo {version}: what a run of the gate proved. docs/EVIDENCE.md says what this shows."
+    yield f"Naltvigo {version}: what a run of the gate proved. docs/TRUST.md says what this shows."
     parts = [("Source", source()), ("Kit", [*kit(), *(f"logic {it}" for it in run.logic)]), ("Result", [run.count, run.sentence])]
     parts += [(f"Crate {name}", crate.lines()) for name, crate in sorted(run.crates.items())]
     for title, lines in parts:

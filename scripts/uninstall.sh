@@ -1,8 +1,8 @@
 #!/usr/bin/env bash
 # Removes what scripts/install.sh, or an archive, put below a prefix: scripts/uninstall.sh [PREFIX]
 #
-# PREFIX is as with install.sh; as PREFIX/share/naltvigo/uninstall.sh it needs none. Nothing else is touched, and folders
-# only where they are empty then.
+# PREFIX is as with install.sh; PREFIX/share/naltvigo/uninstall.sh needs none. Nothing else is removed, and folders
+# only if they are empty then.
 set -euo pipefail
 . "$(dirname "${BASH_SOURCE[0]}")/lib/options.sh"
 take_options 1 "$@"

@@ -1,7 +1,7 @@
 #!/usr/bin/env python3
 """The version: the file VERSION, and the places that repeat it.
 
-    scripts/version.py          fails where a place has another version, and names it
+    scripts/version.py          fails if a place has another version, and names it
     scripts/version.py 2.1.0    sets it everywhere; CHANGELOG.md gets its entry by hand
 """
 
@@ -11,12 +11,12 @@ from pathlib import Path
 
 ROOT = Path(__file__).resolve().parent.parent
 
-# Each place: a file, or a pattern of files of which one has it, and what stands before and behind the version there.
+# A place: a file, or a pattern of files of which one has it, and the text before and after the version there.
 PLACES = [
-    ("crates/cborc/src/cli.rt", r'const VERSION: &str = "\\\n', r"\n"),
-    ("crates/cborc/src/cli.rt", r'\.version\("', r'"\)'),
-    ("crates/cborc/src/tests/*.rt", r'const VERSION: &str = "\\\ncborc ', r"\n"),
-    ("crates/cborc/src/tests/*.rt", r'"-V", "cborc ', r'\\n"'),
+    ("crates/cborc_words/src/cli.rt", r'const VERSION: &str = "\\\n', r"\n"),
+    ("crates/cborc_words/src/cli.rt", r'\.version\("', r'"\)'),
+    ("crates/cborc_tests/src/tests/*.rt", r'const VERSION: &str = "\\\ncborc ', r"\n"),
+    ("crates/cborc_tests/src/tests/*.rt", r'"-V", "cborc ', r'\\n"'),
     ("share/cborc.1", r'(?m:^)\.TH CBORC 1 "[^"]*" "cborc ', r'"'),
     ("include/naltvigo.h", r'#define NALTVIGO_VERSION "', r'"'),
     ("bindings/python/pyproject.toml", r'(?m:^)version = "', r'"'),
@@ -24,7 +24,7 @@ PLACES = [
     ("bindings/js/package.json", r'(?m:^)  "version": "', r'"'),
 ]
 
-# One of the three numbers by itself: a file, what stands before it, and which one.
+# One of the three numbers alone: a file, the text before it, and which number.
 NUMBERS = [
     ("include/naltvigo.h", r"#define NALTVIGO_VERSION_MAJOR ", 0),
     ("include/naltvigo.h", r"#define NALTVIGO_VERSION_MINOR ", 1),
@@ -33,13 +33,13 @@ NUMBERS = [
 
 
 def places(version):
-    """Each place, with what is to stand there."""
+    """Each place, and what must be there."""
     numbers = [int(number) for number in version.split(".")]
-    for file, before, behind in PLACES:
-        yield file, f"({before})([0-9.]+)({behind})", version
+    for file, before, after in PLACES:
+        yield file, f"({before})([0-9.]+)({after})", version
     for file, before, which in NUMBERS:
         yield file, f"({before})([0-9]+)()", str(numbers[which])
-    # a byte each
+    # one byte each
     yield "crates/naltvigo/src/naming.rt", "(pub const VERSION: u32 = )(0x[0-9a-f_]+)(;)", "0x%02x_%02x_%02x" % tuple(numbers)
 
 
@@ -54,7 +54,7 @@ def main():
         texts = {path: path.read_text(encoding="utf-8") for path in sorted(ROOT.glob(file))}
         found = [(path, match[1]) for path, text in texts.items() for match in re.findall(pattern, text)]
         if len(found) != 1:
-            faults.append(f"{file}: {len(found)} places have the version behind {pattern}, and not one")
+            faults.append(f"{file}: {len(found)} places have the version after {pattern}, and not one")
         elif found[0][1] != wanted and len(sys.argv) > 1:
             path = found[0][0]
             path.write_text(re.sub(pattern, rf"\g<1>{wanted}\g<3>", texts[path]), encoding="utf-8")

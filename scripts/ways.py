@@ -15,7 +15,7 @@ import sys
 import proved
 from proved import CRATES, ROOT, after_partner, crates
 
-# An item, of a trait that only its crate sees too.
+# An item, also of a trait that only its crate sees.
 ITEM = re.compile(proved.ITEM.pattern.replace("pub trait", r"pub(?:\(\w+\))? trait"), re.M)
 
 # The calls of the table. Their crates are not named here, since calls move between crates.
@@ -82,7 +82,7 @@ class File:
                 self.bare.add((owner, match["name"]))
 
     def body_from(self, place):
-        """The offset of the body of a function whose signature goes on here, after its clauses."""
+        """The offset of the body of a function whose signature continues here, after its clauses."""
         # an array type has a semicolon of its own
         clause = re.compile(r"\b(?:requires|ensures)\b\*?\s*\w*\s*\{|\bghost\b[^;{]*[;{]|\[[^\[\]{};]*;|\{|;")
         while True:
@@ -127,8 +127,8 @@ class Sources:
         """The file that has a method of a type, among the type's file, its modules and what imports the type, or none."""
         ours = [it for it in self.files.values() if it.crate == file.crate]
         inside = [it for it in ours if it.parts[:len(file.parts)] == file.parts]
-        beside = [it for it in ours if owner in it.brings and self.named(it, owner) is file]
-        return next((it for it in [file, *inside, *beside] if (owner, name) in it.bodies), None)
+        nearby = [it for it in ours if owner in it.brings and self.named(it, owner) is file]
+        return next((it for it in [file, *inside, *nearby] if (owner, name) in it.bodies), None)
 
     def way(self, file, owner, name):
         """The files of its crate, in the order in which a function and what it calls reach them; and what these use of other
@@ -150,7 +150,7 @@ class Sources:
         return order, others
 
     def is_for(self, file, owner, name, types):
-        """Whether a method is for these types: of one that only an instance of its type has, the instance's arguments are among them."""
+        """Whether a method is for these types. If only an instance of its type has it, the instance's arguments are among them."""
         return all(word in types for word in file.wanted[owner, name] if self.named(file, word))
 
     def implementing(self, crate, trait, name, types):

@@ -16,7 +16,7 @@ _cborc() {
         return
     fi
     case $before in
-        --order) COMPREPLY=($(compgen -W "bytewise length" -- "$word")); return ;;
+        --order) COMPREPLY=($(compgen -W "bytewise length length-first" -- "$word")); return ;;
         --keys) COMPREPLY=($(compgen -W "any basic" -- "$word")); return ;;
         --depth | --bytes) return ;;
     esac

@@ -50,6 +50,6 @@ const server = createServer((request, response) => {
     child.on('exit', () => rmSync(profile, { recursive: true, force: true, maxRetries: 5 }));
 });
 setTimeout(() => {
-    console.log(JSON.stringify({ problem: `no answer in ${MINUTES} minutes` }));
+    console.log(JSON.stringify({ problem: `no result in ${MINUTES} minutes` }));
     end(1);
 }, MINUTES * 60000).unref();

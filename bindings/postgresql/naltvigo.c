@@ -1,11 +1,13 @@
 /*
- * naltvigo.c: deterministic CBOR in PostgreSQL. naltvigo--1.0.sql lists the functions.
+ * naltvigo.c: deterministic CBOR in PostgreSQL: the calls on whole items. naltvigo--1.0.sql lists all functions.
  *
- * The library calls nothing of PostgreSQL, and gives its memory back before it returns. So no error (a longjmp) passes
- * through it, and what an error leaves behind is palloc'd. A call cannot be cancelled before it ends.
+ * The library calls nothing of PostgreSQL, and frees its memory before it returns. So no error (a longjmp) passes through it,
+ * and all that an error leaves allocated is palloc'd. A call cannot be cancelled before it ends.
  */
 #include "calls.h"
 
+#include "access/detoast.h"
+#include "common/string.h"
 #include "mb/pg_wchar.h"
 #include "utils/builtins.h"
 
@@ -48,37 +50,146 @@ limits_with_order(const text *order)
 
 /* ---- refusals */
 
+/* The sentence, the advice and the path of a refusal, each a string of its own. */
+struct explanation
+{
+	char	   *sentence;
+	char	   *advice;
+	char	   *path;
+};
+
+/* All three in one text, a line each. NULL if memory was refused. */
+static char *
+explanation_lines(const uint8_t *item, size_t item_length, const struct naltvigo_refusal *why)
+{
+	const struct naltvigo_options options = limits();
+	size_t		space = 512;
+	size_t		length;
+
+	for (;;)
+	{
+		char	   *lines = palloc(space + 1);
+		uint32_t	status = naltvigo_explain(item, item_length, &options, why, lines, space, &length);
+
+		if (status == NALTVIGO_OK && length > 0)
+		{
+			lines[length] = '\0';
+			/* a path that the database's encoding may lack is left out */
+			if (GetDatabaseEncoding() == PG_UTF8 || pg_is_ascii(lines))
+				return lines;
+			return explanation_lines(item, 0, why);
+		}
+		pfree(lines);
+		if (status != NALTVIGO_TOO_SMALL)
+			return NULL;
+		space = length;
+	}
+}
+
+static struct explanation
+explanation_of(const bytea *item, const struct naltvigo_refusal *why)
+{
+	struct explanation found = {"", "", "$"};
+	char	   *lines = explanation_lines(ITEM(item), why);
+	char	   *advice = lines ? strchr(lines, '\n') : NULL;
+	char	   *path = advice ? strchr(advice + 1, '\n') : NULL;
+
+	if (path)
+	{
+		*advice++ = '\0';
+		*path++ = '\0';
+		found = (struct explanation) {lines, advice, path};
+	}
+	return found;
+}
+
 static char *
 refusal_text(const struct naltvigo_refusal *why)
 {
 	char		name[NALTVIGO_NAME_MAX];
 
 	naltvigo_reason_name(why->reason, name, sizeof name);
-	return psprintf("refused %u %s at %llu", why->reason, name, (unsigned long long) why->place);
+	return psprintf("refused %u %s at %llu", why->reason, name, (unsigned long long) why->offset);
 }
 
-/* Any status but OK as an error; side is of which item. */
+/* Any status but OK as an error; side says which item, or is empty. */
 static void pg_attribute_noreturn()
-fail(uint32_t status, const struct naltvigo_refusal *why, const char *side)
+fail(uint32_t status, const struct naltvigo_refusal *why, const bytea *item, const char *side)
 {
 	if (status == NALTVIGO_REFUSED)
+	{
+		const struct explanation found = explanation_of(item, why);
+
 		ereport(ERROR,
 				(errcode(ERRCODE_INVALID_BINARY_REPRESENTATION),
 				 errmsg("invalid CBOR item"),
-				 errdetail("%s%s", side, refusal_text(why))));
+				 errdetail("%s%s (%s): %s", side, refusal_text(why), found.path, found.sentence),
+				 found.advice[0] ? errhint("%s", found.advice) : 0));
+	}
 	if (status == NALTVIGO_NO_MEMORY)
 		ereport(ERROR,
 				(errcode(ERRCODE_OUT_OF_MEMORY),
 				 errmsg("out of memory")));
-	elog(ERROR, "naltvigo answered %s", naltvigo_status_name(status));
+	elog(ERROR, "naltvigo returned %s", naltvigo_status_name(status));
 }
 
-/* ---- answers of any length */
+/* ---- items */
+
+bytea *
+item_of_datum(Datum datum)
+{
+	if (toast_raw_datum_size(datum) - VARHDRSZ <= CBOR_BYTES)
+		return DatumGetByteaPP(datum);
+	return DatumGetByteaPSlice(datum, 0, CBOR_BYTES + 1);
+}
+
+bytea *
+bytea_of(const uint8_t *bytes, size_t length)
+{
+	bytea	   *out = palloc(VARHDRSZ + length);
+
+	memcpy(VARDATA(out), bytes, length);
+	SET_VARSIZE(out, VARHDRSZ + length);
+	return out;
+}
+
+bytea *
+bytea_of_item(struct naltvigo_cursor at)
+{
+	uint32_t	status = NALTVIGO_OK;
+	size_t		length;
+	const uint8_t *bytes = naltvigo_get_encoded(at, &length, &status);
+
+	if (status != NALTVIGO_OK)
+		elog(ERROR, "no item is here: %s", naltvigo_status_name(status));
+	return bytea_of(bytes, length);
+}
+
+bytea *
+canonical_item(bytea *item)
+{
+	const struct naltvigo_options options = limits();
+	struct naltvigo_refusal why;
+
+	if (naltvigo_check_canonical(ITEM(item), &options, &why) == NALTVIGO_OK)
+		return item;
+	/* another encoding, or no item at all */
+	return canonical_bytes(item, &options);
+}
+
+/* ---- results of any length */
+
+/* The length of an item that is not refused. */
+static size_t
+within_limit(const bytea *item)
+{
+	return Min(VARSIZE_ANY_EXHDR(item), CBOR_BYTES);
+}
 
 bytea *
 canonical_bytes(const bytea *item, const struct naltvigo_options *options)
 {
-	size_t		space = VARSIZE_ANY_EXHDR(item);
+	size_t		space = within_limit(item);
 	size_t		length;
 	struct naltvigo_refusal why;
 
@@ -93,7 +204,7 @@ canonical_bytes(const bytea *item, const struct naltvigo_options *options)
 			return out;
 		}
 		if (status != NALTVIGO_TOO_SMALL)
-			fail(status, &why, "");
+			fail(status, &why, item, "");
 		pfree(out);
 		space = length;
 	}
@@ -104,7 +215,7 @@ static text *
 diagnostic_text(const bytea *item)
 {
 	const struct naltvigo_options options = limits();
-	size_t		space = 2 * VARSIZE_ANY_EXHDR(item) + 64;
+	size_t		space = 2 * within_limit(item) + 64;
 	size_t		length;
 	struct naltvigo_refusal why;
 
@@ -120,7 +231,7 @@ diagnostic_text(const bytea *item)
 			return cstring_to_text_with_len(converted, converted == out ? length : strlen(converted));
 		}
 		if (status != NALTVIGO_TOO_SMALL)
-			fail(status, &why, "");
+			fail(status, &why, item, "");
 		pfree(out);
 		space = length;
 	}
@@ -134,14 +245,14 @@ cbor_canonical(PG_FUNCTION_ARGS)
 {
 	const struct naltvigo_options options = limits_with_order(PG_GETARG_TEXT_PP(1));
 
-	PG_RETURN_BYTEA_P(canonical_bytes(PG_GETARG_BYTEA_PP(0), &options));
+	PG_RETURN_BYTEA_P(canonical_bytes(GETARG_ITEM(0), &options));
 }
 
 PG_FUNCTION_INFO_V1(cbor_is_canonical);
 Datum
 cbor_is_canonical(PG_FUNCTION_ARGS)
 {
-	bytea	   *item = PG_GETARG_BYTEA_PP(0);
+	bytea	   *item = GETARG_ITEM(0);
 	const struct naltvigo_options options = limits_with_order(PG_GETARG_TEXT_PP(1));
 	struct naltvigo_refusal why;
 	const uint32_t status = naltvigo_check_canonical(ITEM(item), &options, &why);
@@ -150,17 +261,15 @@ cbor_is_canonical(PG_FUNCTION_ARGS)
 	PG_RETURN_BOOL(status == NALTVIGO_OK);
 }
 
-/* Whether the argument is one valid item, and else why not. */
+/* Whether this is one valid item, and else why not. */
 static bool
-validity(FunctionCallInfo fcinfo, struct naltvigo_refusal *why)
+is_valid(const bytea *item, struct naltvigo_refusal *why)
 {
-	bytea	   *item = PG_GETARG_BYTEA_PP(0);
 	const struct naltvigo_options options = limits();
 	const uint32_t status = naltvigo_check_valid(ITEM(item), &options, why);
 
 	if (status != NALTVIGO_OK && status != NALTVIGO_REFUSED)
-		fail(status, why, "");
-	PG_FREE_IF_COPY(item, 0);
+		fail(status, why, item, "");
 	return status == NALTVIGO_OK;
 }
 
@@ -169,8 +278,11 @@ Datum
 cbor_is_valid(PG_FUNCTION_ARGS)
 {
 	struct naltvigo_refusal why;
+	bytea	   *item = GETARG_ITEM(0);
+	const bool	found = is_valid(item, &why);
 
-	PG_RETURN_BOOL(validity(fcinfo, &why));
+	PG_FREE_IF_COPY(item, 0);
+	PG_RETURN_BOOL(found);
 }
 
 PG_FUNCTION_INFO_V1(cbor_refusal);
@@ -179,24 +291,40 @@ cbor_refusal(PG_FUNCTION_ARGS)
 {
 	struct naltvigo_refusal why;
 
-	if (validity(fcinfo, &why))
+	if (is_valid(GETARG_ITEM(0), &why))
 		PG_RETURN_NULL();
 	PG_RETURN_TEXT_P(cstring_to_text(refusal_text(&why)));
+}
+
+PG_FUNCTION_INFO_V1(cbor_explain);
+Datum
+cbor_explain(PG_FUNCTION_ARGS)
+{
+	bytea	   *item = GETARG_ITEM(0);
+	struct naltvigo_refusal why;
+	char	   *lines;
+
+	if (is_valid(item, &why))
+		PG_RETURN_NULL();
+	lines = explanation_lines(ITEM(item), &why);
+	if (lines == NULL)
+		fail(NALTVIGO_NO_MEMORY, &why, item, "");
+	PG_RETURN_TEXT_P(cstring_to_text(lines));
 }
 
 PG_FUNCTION_INFO_V1(cbor_same);
 Datum
 cbor_same(PG_FUNCTION_ARGS)
 {
-	bytea	   *left = PG_GETARG_BYTEA_PP(0);
-	bytea	   *right = PG_GETARG_BYTEA_PP(1);
+	bytea	   *left = GETARG_ITEM(0);
+	bytea	   *right = GETARG_ITEM(1);
 	const struct naltvigo_options options = limits();
 	struct naltvigo_refusal why;
 	uint32_t	side = NALTVIGO_LEFT;
 	const uint32_t status = naltvigo_compare(ITEM(left), ITEM(right), &options, &side, &why);
 
 	if (status != NALTVIGO_OK && status != NALTVIGO_DIFFERENT)
-		fail(status, &why, side == NALTVIGO_LEFT ? "left: " : "right: ");
+		fail(status, &why, side == NALTVIGO_LEFT ? left : right, side == NALTVIGO_LEFT ? "left: " : "right: ");
 	PG_FREE_IF_COPY(left, 0);
 	PG_FREE_IF_COPY(right, 1);
 	PG_RETURN_BOOL(status == NALTVIGO_OK);
@@ -206,5 +334,5 @@ PG_FUNCTION_INFO_V1(cbor_diagnostic);
 Datum
 cbor_diagnostic(PG_FUNCTION_ARGS)
 {
-	PG_RETURN_TEXT_P(diagnostic_text(PG_GETARG_BYTEA_PP(0)));
+	PG_RETURN_TEXT_P(diagnostic_text(GETARG_ITEM(0)));
 }

@@ -1,4 +1,4 @@
-"""Prints what calls cost beside cbor2's C extension, as a Markdown table, in one run: bench.py [TURNS]
+"""Prints the costs of calls next to those of cbor2's C extension, as a Markdown table, in one run: bench.py [TURNS]
 
 Each number is the least of many short runs, turn by turn, in microseconds of the processor a call. Python's collector of
 cycles is on, as it is in programs.

@@ -2,12 +2,12 @@
 # The extensions for SQLite and PostgreSQL: what building them takes, and their installation by install.sh, which has $root,
 # $scratch, $dist and put.
 
-# What is not there, in words; nothing if all is.
+# What is missing, in words; nothing if all is there.
 lacks_sqlite() {
     echo '#include <sqlite3ext.h>' | "${CC:-cc}" -E - >/dev/null 2>&1 || echo 'its headers, libsqlite3-dev'
 }
 
-# The pg_config of a server that is installed; PG_CONFIG names another one.
+# The pg_config of an installed server; PG_CONFIG names another one.
 find_pg_config() {
     local found
     for found in "${PG_CONFIG:-}" /usr/lib/postgresql/*/bin/pg_config "$(command -v pg_config || true)"; do
@@ -18,7 +18,7 @@ find_pg_config() {
     done
 }
 
-# What is not there, in words; nothing if all is.
+# What is missing, in words; nothing if all is there.
 lacks_postgresql() { # PG_CONFIG
     local major
     if [ -z "$1" ]; then

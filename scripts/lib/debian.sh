@@ -3,7 +3,7 @@
 #
 #     make_debian TREE FOLDER
 #
-# TREE is what install.sh put below /usr. FOLDER gets one package for each stanza, but for the program's where the tree has no
+# TREE is what install.sh put below /usr. FOLDER gets one package for each stanza, except the program's if the tree has no
 # program; their paths are printed. $root, $scratch, $version, $machine, $architecture, $tools and $SOURCE_DATE_EPOCH are set.
 # DEBFULLNAME and DEBEMAIL name the maintainer, as for Debian's own tools.
 
@@ -30,7 +30,7 @@ split_tree() {
     chmod 644 "libnaltvigo2/$lib/libnaltvigo.so.$version"
     mv "$tree/include" libnaltvigo-dev/usr/include
     mv "$tree"/lib/libnaltvigo.{a,so} "$tree/lib/pkgconfig" "$tree/lib/cmake" "libnaltvigo-dev/$lib"
-    # One folder more stands between these files and the prefix; pkg-config is to know Debian's folders as such.
+    # These files are one folder deeper below the prefix; pkg-config must recognise Debian's folders as the system's.
     sed -i "s|^prefix=.*|prefix=/usr|; s|^libdir=.*|libdir=\${prefix}/${lib#usr/}|" "libnaltvigo-dev/$lib/pkgconfig/naltvigo.pc"
     sed -i 's|/\.\./include|/../../include|' "libnaltvigo-dev/$lib/cmake/naltvigo/naltvigo-config.cmake"
     mv "$tree/share/doc/naltvigo" naltvigo-doc/usr/share/doc/naltvigo
@@ -44,7 +44,7 @@ split_program() { # TREE
     gzip -9n cborc/usr/share/man/man1/cborc.1
 }
 
-# What each package says of itself: its licence, what changed, and, beside what was built, what the gate proved.
+# The documents of each package: its licence, what changed, and, with what was built, what the gate proved.
 add_documents() { # PACKAGE
     local doc=$1/usr/share/doc/$1 transcript=naltvigo-doc/usr/share/doc/naltvigo/transcript.txt
     # it names what one architecture has, so the package for all of them is the last, and has none
@@ -78,7 +78,7 @@ newest_libc() { # PACKAGE
     find "$1" -type f -exec "${tools}objdump" -T {} + 2>/dev/null | grep -o 'GLIBC_[0-9.]*' | sed 's/GLIBC_//' | sort -V | tail -1
 }
 
-# A file counts in whole KiB, anything else as one, as dpkg counts.
+# A file counts in whole KiB, anything else as one KiB, as dpkg counts.
 installed_size() { # PACKAGE
     find "$1" -printf '%y %s\n' | awk '{ size += $1 == "f" ? int(($2 + 1023) / 1024) : 1 } END { print size }'
 }

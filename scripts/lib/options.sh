@@ -1,5 +1,5 @@
 # shellcheck shell=bash
-# For the scripts one folder up: what each does with the words of its command line.
+# For the scripts in scripts/: how they read their command line.
 #
 #     . "$(dirname "${BASH_SOURCE[0]}")/lib/options.sh"
 #     take_options MOST "$@"

@@ -2,12 +2,12 @@
 # A server of PostgreSQL for a test, which writes nothing to the system. The script that uses this has a folder $scratch, which
 # others may read, and calls stop_server at its end.
 
-# Runs a command as nobody if this is root, as whom the server does not run.
+# Runs a command, as nobody if this is root: the server does not run as root.
 as_user() {
     if [ "$(id -u)" = 0 ]; then runuser -u nobody -- "$@"; else "$@"; fi
 }
 
-# Starts a server on a socket in $scratch. Its programs find their files from where they stand, so a copy of them, with links
+# Starts a server on a socket in $scratch. Its programs find their files from their own path, so a copy of them, with links
 # to the rest, is a tree that extensions are installed in: below $tree, as `make install` with DESTDIR does. Programs are
 # in $tree$bin.
 start_server() { # PG_CONFIG

@@ -1,11 +1,11 @@
 # shellcheck shell=bash
-# For the tests one folder up: what each begins and ends with, behind take_options.
+# For the tests in scripts/: what each begins and ends with, after take_options.
 #
-#     begin_tests NAME    sets root, the repository's folder; scratch, one that goes with the script; missing, without a word
-#     say WORD ..         a line of the test's
-#     fail WORD ..        its last line, and status 1
-#     have TOOL           whether a tool is there; else it is one of those that are missing
-#     end_tests           the last line: all well, but for what is missing
+#     begin_tests NAME    sets root, the repository's folder; scratch, a folder removed at the end; missing, empty
+#     say WORD ..         prints a line
+#     fail WORD ..        prints the last line, and ends with status 1
+#     have TOOL           whether a tool is installed; if not, adds it to missing
+#     end_tests           prints the last line: all well, and what is missing
 
 begin_tests() {
     test_name=$1

@@ -1,7 +1,7 @@
 # shellcheck shell=bash
-# For test_web.sh and test_page.sh, behind begin_tests: what both want.
+# For test_web.sh and test_page.sh, after begin_tests: what both need.
 
-# Ends the script where no Node is there that is young enough; fails where the modules are not built.
+# Ends the script if there is no Node, or it is too old; fails if the modules are not built.
 need_node_and_modules() {
     local module
     command -v node >/dev/null || { say 'not tested: Node is not there'; exit 0; }
@@ -11,7 +11,7 @@ need_node_and_modules() {
     done
 }
 
-# Runs what has Node test files, and says how many tests passed. $scratch/log has the rest of what it said.
+# Runs a command in which Node tests files, and prints how many tests passed. The rest of its output is in $scratch/log.
 run_tests() { # NAME COMMAND ..
     "${@:2}" >"$scratch/log" 2>&1 || { cat "$scratch/log"; fail "$1"; }
     say "$1: $(sed -n 's/^# pass //p' "$scratch/log") tests"

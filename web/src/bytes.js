@@ -9,12 +9,15 @@ export function hexOf(bytes, between = '') {
     return parts.join(between);
 }
 
-/** Text that stands for no bytes; the message says which character is wrong. */
+/** Text that encodes no bytes; the message says which character is wrong. */
 export class TextError extends Error {}
 
 const isSpace = code => code === 32 || code >= 9 && code <= 13;
 const BETWEEN = /#.*|[\s,:]|0x/gi;
 const looksLikeHex = text => /^[0-9a-f]*$/i.test(text.replace(BETWEEN, ''));
+
+/** How SQL writes bytes: PostgreSQL's \x0102, as a literal or alone, and x'0102' of the standard. */
+const SQL = /^\s*(?:'?\\x([0-9a-f]*)'?(?:::bytea)?|x'([0-9a-f]*)')\s*(?:;\s*)?$/i;
 
 function digitOf(code) {
     if (code >= 48 && code <= 57) return code - 48;
@@ -38,7 +41,7 @@ function ofHex(text) {
         } else if (half === 0 && text[i - 1] === '0' && (character === 'x' || character === 'X')) {
             half = -1;
         } else if (!isSpace(code) && character !== ',' && character !== ':') {
-            throw new TextError(`Character ${i + 1} is no hex digit: ${JSON.stringify(character)}.`);
+            throw new TextError(`Character ${i + 1} is not a hex digit: ${JSON.stringify(character)}.`);
         }
     }
     if (half >= 0) throw new TextError('The last byte has one hex digit; a byte has two.');
@@ -50,8 +53,8 @@ const BASE64 = new Map([...ALPHABET].map((character, value) => [character.charCo
 BASE64.set(45, 62).set(95, 63); // base64url: - and _
 const PADDING = 61;
 
-/** The bytes of base64 or base64url, with or without padding; white space is left out. */
-function ofBase64(text) {
+/** The bytes of base64 or base64url, with or without padding; white space is left out. `begin` begins the message on a character. */
+function ofBase64(text, begin) {
     const bytes = new Uint8Array(Math.ceil(text.length * 3 / 4));
     let length = 0, bits = 0, count = 0, isPadded = false;
     for (let i = 0; i < text.length; i++) {
@@ -62,7 +65,7 @@ function ofBase64(text) {
             continue;
         }
         if (value === undefined || isPadded) {
-            throw new TextError(`Character ${i + 1} is not of base64: ${JSON.stringify(text[i])}.`);
+            throw new TextError(`${begin} ${i + 1} is not of base64: ${JSON.stringify(text[i])}.`);
         }
         bits = (bits << 6 | value) & 0xffff;
         count += 6;
@@ -76,7 +79,31 @@ function ofBase64(text) {
     return bytes.subarray(0, length);
 }
 
-/** The bytes that a text stands for. `format` is 'hex', 'base64', or 'auto': hex if there are hex digits alone. */
+const PASTE = 'Paste the bytes of the CBOR, as hex or base64, such as a1616101 for {"a": 1}.';
+const DIAGNOSTIC = /^(?:[[{("]|-?\d+\s*\(|(?:h|b64|b32|h32|t|dt|ip|same)'|<<|(?:true|false|null|undefined|simple\(\d+\))$)/;
+
+function isJson(text) {
+    try {
+        JSON.parse(text);
+        return true;
+    } catch {
+        return false;
+    }
+}
+
+/** What to do with a text that is JSON or diagnostic notation; undefined for any other. */
+function adviceOnText(text) {
+    const start = text.trim();
+    if (!DIAGNOSTIC.test(start)) return undefined;
+    return isJson(start) ? `This is JSON, which is text; CBOR is bytes. ${PASTE}` : `This looks like diagnostic notation. ${PASTE}`;
+}
+
+/** The bytes that a text encodes. `format` is 'hex', 'base64', or 'auto': hex if there are hex digits alone, or as SQL has them. */
 export function bytesOfText(text, format) {
-    return format === 'hex' || format === 'auto' && looksLikeHex(text) ? ofHex(text) : ofBase64(text);
+    const literal = format === 'base64' ? null : SQL.exec(text);
+    if (literal) return ofHex(literal[1] ?? literal[2]);
+    if (format === 'hex' || format === 'auto' && looksLikeHex(text)) return ofHex(text);
+    const advice = format === 'auto' ? adviceOnText(text) : undefined;
+    if (advice) throw new TextError(advice);
+    return ofBase64(text, format === 'auto' ? 'This is not hex, and character' : 'Character');
 }

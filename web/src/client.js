@@ -1,4 +1,4 @@
-// Asks the worker, and starts another where the one that is busy works on what nobody waits for.
+// Calls the worker, and starts another one if the worker is busy with what nobody waits for.
 import { startWorker } from './start_worker.js';
 
 export class Client {
@@ -37,7 +37,7 @@ export class Client {
         else reject(new Error(problem));
     }
 
-    /** The answer of a call of the worker; it never comes if the work is dropped. */
+    /** The result of a call of the worker; it never comes if the work is dropped. */
     ask(call, given) {
         const id = this.#next++;
         return new Promise((resolve, reject) => {

@@ -2,7 +2,7 @@
 import { Refused } from '../../bindings/js/src/refused.js';
 import { hexOf } from './bytes.js';
 import { Trace } from './trace.js';
-import { adviceOn, reasonMeaning } from './words.js';
+import { adviceOn, floatAt } from './words.js';
 
 /** Bytes that grow. */
 class Output {
@@ -28,13 +28,15 @@ class Output {
 }
 
 /** A reason at an offset of the input, in its item, which is counted from 1. */
-const mark = ({ reason, name, place }, item, start) => ({
-    name,
+const mark = (error, item, start) => ({
+    reason: error.reason,
+    name: error.reasonName,
     item,
     start,
-    place: start + place,
-    meaning: reasonMeaning(reason),
-    advice: adviceOn(reason),
+    offset: start + error.offset,
+    meaning: error.sentence,
+    advice: adviceOn(error),
+    path: error.path,
 });
 
 const PREVIEW = 8192; // characters
@@ -48,17 +50,20 @@ const BREAK = 0xff;
 const cut = (text, length) => (text.length > length ? `${text.slice(0, length)}…` : text);
 
 export class Inspection {
-    /** `settings` are the library's options, and `isOne`: whether the input must be one item. */
-    constructor(naltvigo, bytes, { isOne, ...options }) {
+    /**
+     * `settings` are the library's options, `isOne`: whether the input must be one item, and `known`: what is known of
+     * each item (names.js).
+     */
+    constructor(naltvigo, bytes, { isOne, known, ...options }) {
         this.naltvigo = naltvigo;
         this.bytes = bytes;
         this.isOne = isOne;
         this.options = options;
-        /** Offsets behind the valid items. */
+        /** Offsets after the valid items. */
         this.ends = [];
         this.refusal = undefined;
         this.notCanonical = undefined;
-        this.trace = new Trace();
+        this.trace = new Trace(known);
     }
 
     /** `progress(task, offset)` is called now and then. */
@@ -138,7 +143,7 @@ export class Inspection {
         try {
             for (const event of this.naltvigo.events(bytes.subarray(refusal.start), this.options)) add(event, refusal.start);
         } catch (error) {
-            if (!(error instanceof Refused)) throw error; // the refusal that is known, or a byte behind the item
+            if (!(error instanceof Refused)) throw error; // the refusal that is known, or a byte after the item
         }
     }
 
@@ -153,32 +158,45 @@ export class Inspection {
         }
         const end = ends.at(-1), array = [Uint8Array.of(ARRAY), this.bytes.subarray(0, end), Uint8Array.of(BREAK)];
         for (const event of naltvigo.events(array, { depth: options.depth + 1, maxBytes: end + 2 })) {
-            const isMember = event.place > 0 && event.place <= end;
+            const isMember = event.offset > 0 && event.offset <= end;
             if (isMember) add(event, -1);
         }
     }
 
-    /** Finds the row of a mark, and the path to it. A row behind the last one is that of a refusal without an event. */
+    /** Finds the row of a mark. A row after the last one is that of a refusal without an event. */
     #locate(found) {
         if (!found) return;
-        const { trace } = this, { place, start } = found;
-        const isBehind = place >= trace.end;
-        found.row = isBehind ? trace.count : trace.indexAt(place);
-        const first = start ? trace.indexAt(start - 1) + 1 : 0;
-        const nesting = trace.nestingBefore(found.row, Math.min(first, found.row));
-        found.path = nesting.path((from, to) => this.#keyText(from, to));
+        const { trace } = this, { offset } = found;
+        found.row = offset >= trace.end ? trace.count : trace.indexAt(offset);
+        if (found.name === 'Float') found.float = floatAt(this.bytes, offset);
     }
 
-    #keyText(from, to) {
+    /** Whether these bytes are one valid item. */
+    isItem(from, end) {
         try {
-            return cut(this.naltvigo.diagnostic(this.bytes.subarray(from, to), this.options), SHORT_TEXT);
+            this.naltvigo.check(this.bytes.subarray(from, end), this.options);
+            return true;
         } catch (error) {
             if (!(error instanceof Refused)) throw error;
-            return `(key at ${from})`;
+            return false;
         }
     }
 
-    /** What the page shows at once; all else it asks for. */
+    /** The inspection of an item in a byte string: `held` as in a row. */
+    inner({ head, from, end }) {
+        const settings = { ...this.options, isOne: true, known: this.#knownAt(head) };
+        const inner = new Inspection(this.naltvigo, this.bytes.subarray(from, end), settings);
+        inner.run(() => {});
+        return inner;
+    }
+
+    /** What is known of the item that begins at an offset. */
+    #knownAt(offset) {
+        const item = this.ends.findIndex(end => end > offset), start = item > 0 ? this.ends[item - 1] : 0;
+        return this.trace.knownAt(this.trace.indexAt(offset), start ? this.trace.indexAt(start - 1) + 1 : 0);
+    }
+
+    /** What the page shows at once; it requests everything else. */
     report() {
         const { bytes, ends, refusal, notCanonical, trace, diagnostic, canonical } = this;
         const text = diagnostic.slice(0, PREVIEW), begin = canonical.subarray(0, PREVIEW / 2);
@@ -198,7 +216,7 @@ export class Inspection {
     item(number) {
         const { naltvigo, options } = this, bytes = this.itemBytes(number), start = this.startOf(number);
         const text = cut(naltvigo.diagnostic(bytes, options), SHORT_TEXT);
-        const row = { number, place: start, length: bytes.length, text };
+        const row = { number, offset: start, length: bytes.length, text };
         try {
             naltvigo.checkCanonical(bytes, options);
         } catch (error) {

@@ -1,7 +1,7 @@
-// The link to an input: its bytes in hex and the settings that are not the usual ones, behind the # of the address.
+// The link to an input: its bytes in hex and the settings that are not the usual ones, after the # of the address.
 
 /** The usual settings, by the ids of their fields. */
-export const USUAL = Object.freeze({ order: 'bytewise', keys: 'any', items: 'sequence', depth: '256', bytes: '67108864' });
+export const USUAL = Object.freeze({ order: 'bytewise', keys: 'any', items: 'sequence', depth: '256', bytes: '67108864', labels: 'auto' });
 
 /** `hex` is undefined for an input that is too long for a link. */
 export function linkOf(hex, settings) {

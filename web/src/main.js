@@ -3,19 +3,19 @@ import { Client } from './client.js';
 import { byId, digits } from './dom.js';
 import { linkOf, ofLink, USUAL } from './link.js';
 import { Pages } from './pages.js';
-import { eventRow, itemRow, showNotice, showOutput, showProblem, showVerdict } from './view.js';
+import { eventRow, itemRow, moreRow, showNotice, showOutput, showProblem, showVerdict } from './view.js';
 
-const PAUSE = 150; // ms behind the last key stroke
+const PAUSE = 150; // ms after the last key stroke
 const LONG_TEXT = 1 << 18; // characters; a text field is slow with more
 const ABOUT = 'The library is proved, as compiled for x86-64. That this module does the same is tested; '
-    + 'so is the page, which shows what it answers.';
+    + 'so is the page, which shows its results.';
 
 const OUTPUTS = {
     diagnostic: { title: 'diagnostic text', unit: 'characters', file: 'diagnostic.txt' },
     canonical: { title: 'canonical bytes', unit: 'bytes', file: 'canonical.cbor' },
 };
 
-const form = byId('form'), text = byId('text'), file = byId('file');
+const form = byId('form'), settings = byId('settings'), limits = byId('options'), text = byId('text'), file = byId('file');
 const result = byId('result'), progress = byId('progress');
 const client = new Client(({ task, done, total }) => {
     progress.textContent = `${task}: ${digits(done)} of ${digits(total)} bytes`;
@@ -25,7 +25,7 @@ const events = new Pages('events-pages', {
     columns: [['Offset', 'number'], ['Bytes', 'bytes'], ['Meaning', '']],
     size: 200,
     load: (from, count) => client.ask('rows', { from, count }),
-    rowOf: eventRow,
+    rowOf: row => eventRow(row, toggleInner),
 });
 const items = new Pages('sequence-pages', {
     title: 'Items',
@@ -35,6 +35,27 @@ const items = new Pages('sequence-pages', {
     rowOf: itemRow,
 });
 
+/** Shows the rows of the item in a byte string after its row, or takes them away. */
+async function toggleInner({ held, within = 0, depth }, row, button) {
+    const isOpen = button.ariaExpanded === 'true';
+    button.ariaExpanded = String(!isOpen);
+    if (isOpen) {
+        while (isWithin(row.nextElementSibling, row)) row.nextElementSibling.remove();
+        return;
+    }
+    const { rows, more } = await client.ask('inner', { held, within });
+    if (button.ariaExpanded !== 'true' || !row.isConnected) return;
+    const made = rows.map(it => eventRow({ ...it, depth: depth + it.depth }, toggleInner));
+    if (more) made.push(moreRow(more));
+    for (const it of made) it.innerOf = row;
+    row.after(...made);
+}
+
+function isWithin(row, outer) {
+    for (let it = row?.innerOf; it; it = it.innerOf) if (it === outer) return true;
+    return false;
+}
+
 let held; // an input that the text field does not hold: a file, or a long text
 let timer;
 let turn = 0;
@@ -43,8 +64,8 @@ function fields() {
     return Object.fromEntries(Object.keys(USUAL).map(name => [name, byId(name).value]));
 }
 
-function optionsOf({ order, keys, items: kind, depth, bytes }) {
-    return { order, keys, isOne: kind === 'one', depth: Number(depth), maxBytes: Number(bytes) };
+function optionsOf({ order, keys, items: kind, depth, bytes, labels }) {
+    return { order, keys, isOne: kind === 'one', depth: Number(depth), maxBytes: Number(bytes), known: labels };
 }
 
 function setLink(hex) {
@@ -90,7 +111,8 @@ async function inspect() {
     if (!held && text.value.trim() === '') {
         setLink();
         showNotice('There is no input.');
-    } else if (!form.checkValidity()) {
+    } else if (!limits.checkValidity()) {
+        settings.open = true;
         showProblem('A limit is out of its range: the depth is 0 to 1024, the bytes 0 to 4294967296.');
     } else {
         await inspectSource(isCurrent);
@@ -130,6 +152,7 @@ function takeLink() {
     for (const [name, value] of Object.entries(link.settings)) {
         byId(name).value = value;
         if (!byId(name).value) byId(name).value = USUAL[name];
+        settings.open ||= byId(name).value !== USUAL[name];
     }
     takeText(link.hex);
 }
@@ -154,14 +177,15 @@ text.addEventListener('paste', event => {
 });
 file.addEventListener('change', () => { if (file.files.length) takeFile(file.files[0]); });
 form.addEventListener('change', ({ target }) => { if (target !== text && target !== file) inspectSoon(); });
-form.addEventListener('submit', event => event.preventDefault());
+limits.addEventListener('change', inspectSoon);
+for (const it of [form, limits]) it.addEventListener('submit', event => event.preventDefault());
 byId('clear').addEventListener('click', () => {
     takeText('');
     text.focus();
 });
 byId('goto').addEventListener('submit', async event => {
     event.preventDefault();
-    await events.focus(await client.ask('rowAt', { place: Number(byId('offset').value) }));
+    await events.focus(await client.ask('rowAt', { offset: Number(byId('offset').value) }));
 });
 document.addEventListener('dragover', event => {
     event.preventDefault();

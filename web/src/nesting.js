@@ -1,31 +1,38 @@
-// Which containers are open behind each event: how deep a row stands, and the path to an item.
+// Which containers are open after each event: how deep a row is, and what is known of the next item.
+import { keyName, knownContent, knownMember, knownValue, valueName } from './names.js';
 
 /** An array, map, tag or string that is not complete. `left` counts members, a map's keys and values, or bytes. */
 class Open {
-    constructor(kind, number, place, left) {
+    constructor(kind, number, left, known) {
         this.kind = kind;
         this.number = number;
-        this.place = place;
         this.left = left;
+        this.known = known;
         this.seen = 0;
-        this.memberAt = 0;
-        this.keyFrom = 0;
-        this.keyTo = 0;
+        /** Of a map, the key that was last, if it is an integer. */
+        this.key = undefined;
     }
 }
 
 const MEMBERS = { array: 1, map: 2 };
 
+const negative = number => (typeof number === 'number' ? -1 - number : -1n - number);
+
+/** The integer of an event, or undefined. */
+const integerOf = (kind, number) => (kind === 'unsigned' ? number : kind === 'negative' ? negative(number) : undefined);
+
 export class Nesting {
-    constructor() {
+    /** `known` is what is known of each item from the start (names.js). */
+    constructor(known) {
         this.open = [];
+        this.known = known;
     }
 
     get top() {
         return this.open[this.open.length - 1];
     }
 
-    /** How deep the row of this event stands; a break stands where its container does. */
+    /** The depth of the row of this event; a break has the depth of its container. */
     depthOf(kind) {
         return kind === 'break' ? this.open.length - 1 : this.open.length;
     }
@@ -42,33 +49,45 @@ export class Nesting {
         return string?.kind === 'text';
     }
 
-    /** Takes an event whose bytes end at `end`. */
-    take({ kind, number, place }, end) {
+    /** What is known of the next item. */
+    knownNext() {
+        const { top } = this;
+        if (top === undefined) return this.known;
+        if (top.kind === 'tag') return knownContent(top.known, Number(top.number));
+        if (top.kind === 'array') return knownMember(top.known, top.seen);
+        return this.isAtKey() ? undefined : knownValue(top.known, top.key);
+    }
+
+    /** The name of the next item, if it is an integer that has one. */
+    nameOf(kind, number) {
+        const { top } = this, integer = integerOf(kind, number);
+        if (integer === undefined || top?.known === undefined || top.kind !== 'map') return undefined;
+        return this.isAtKey() ? keyName(top.known, integer) : valueName(top.known, top.key, integer);
+    }
+
+    /** Takes an event. */
+    take({ kind, number }) {
         switch (kind) {
         case 'piece':
-            this.#takePiece(number, end);
+            this.#takePiece(number);
             return;
         case 'chunk':
-            if (number) this.#push(kind, number, place, Number(number));
+            if (number) this.open.push(new Open(kind, number, Number(number)));
             return;
         case 'break':
             this.open.pop();
-            this.#complete(end);
+            this.#complete();
             return;
         default:
-            if (this.top) this.top.memberAt = place;
-            this.#begin(kind, number, place, end);
+            this.#begin(kind, number);
         }
     }
 
-    #push(kind, number, place, left) {
-        this.open.push(new Open(kind, number, place, left));
-    }
-
-    #begin(kind, number, place, end) {
-        const left = kind === 'tag' ? 1 : this.#leftOf(kind, number);
-        if (left === 0) this.#complete(end);
-        else this.#push(kind, number, place, left);
+    #begin(kind, number) {
+        const left = kind === 'tag' ? 1 : this.#leftOf(kind, number), known = this.knownNext();
+        if (this.isAtKey()) this.top.key = integerOf(kind, number);
+        if (left === 0) this.#complete();
+        else this.open.push(new Open(kind, number, left, known));
     }
 
     #leftOf(kind, number) {
@@ -76,37 +95,21 @@ export class Nesting {
         return number === undefined ? Infinity : Number(number) * (MEMBERS[kind] ?? 1);
     }
 
-    #takePiece(count, end) {
+    #takePiece(count) {
         const { top } = this;
         top.left -= Number(count);
         if (top.left > 0) return;
         this.open.pop();
-        this.#complete(end);
+        this.#complete();
     }
 
     /** An item is complete, and whatever ends with it. */
-    #complete(end) {
+    #complete() {
         for (let { top } = this; top !== undefined; { top } = this) {
             top.seen += 1;
-            if (top.kind === 'map' && top.seen % 2 === 1) {
-                top.keyFrom = top.memberAt;
-                top.keyTo = end;
-            }
             top.left -= 1;
             if (top.left > 0) return;
             this.open.pop();
         }
-    }
-
-    /** The path to the next item: `$`, `[2]` for a member, `."a"` for the value of a key, `(1)` for what a tag wraps. */
-    path(keyText) {
-        return this.open.reduce((path, it) => path + this.#stepOf(it, keyText), '$');
-    }
-
-    #stepOf({ kind, number, place, seen, keyFrom, keyTo }, keyText) {
-        if (kind === 'array') return `[${seen}]`;
-        if (kind === 'tag') return `(${number})`;
-        if (kind !== 'map') return '';
-        return seen % 2 ? `.${keyText(keyFrom, keyTo)}` : `, key ${seen / 2 + 1} of the map at ${place}`;
     }
 }

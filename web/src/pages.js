@@ -28,7 +28,7 @@ export class Pages {
         return element('button', { type: 'button', textContent: text, onclick: () => this.#show(target()) });
     }
 
-    /** Shows a table of so many rows, at the page that has the row of this index. */
+    /** Shows a table of this many rows, at the page that has the row of this index. */
     async show(count, index = 0) {
         this.#count = count;
         await this.#show(index);

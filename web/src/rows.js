@@ -10,7 +10,7 @@ const escaped = character => (character === '"' || character === '\\'
     ? `\\${character}`
     : `\\u${character.charCodeAt(0).toString(16).padStart(4, '0')}`);
 
-/** The bytes from `start` to `end` in hex: before the marked one, it, and behind it. Long ones are cut. */
+/** The bytes from `start` to `end` in hex: before the marked one, it, and after it. Long ones are cut. */
 export function hexParts(bytes, start, end, marked) {
     const spaced = (from, to) => hexOf(bytes.subarray(from, to), ' ');
     const isLong = end - start > HEAD + 2 * AROUND, shown = isLong ? start + HEAD : end;
@@ -24,8 +24,8 @@ export function hexParts(bytes, start, end, marked) {
 }
 
 /** What a piece of a string holds. */
-function contentOf(bytes, { place, end, isText }) {
-    const shown = Math.min(end, place + 4 * HEAD), isCut = shown < end, part = bytes.subarray(place, shown), rest = isCut ? '…' : '';
+function contentOf(bytes, { offset, end, isText }) {
+    const shown = Math.min(end, offset + 4 * HEAD), isCut = shown < end, part = bytes.subarray(offset, shown), rest = isCut ? '…' : '';
     if (!isText) return `h'${hexOf(part)}'${rest}`;
     // as a stream, so that a character that is cut is left out
     const text = new TextDecoder('utf-8', { ignoreBOM: true }).decode(part, { stream: isCut });
@@ -33,12 +33,14 @@ function contentOf(bytes, { place, end, isText }) {
 }
 
 export class Rows {
-    constructor({ bytes, trace, refusal, notCanonical }) {
+    constructor(inspection) {
+        const { bytes, trace, refusal, notCanonical } = inspection;
+        this.inspection = inspection;
         this.bytes = bytes;
         this.trace = trace;
         this.found = refusal ?? notCanonical;
         this.kind = refusal ? 'bad' : 'warn';
-        /** A refused byte that has no event gets a row of its own, and so do the bytes behind it. */
+        /** A refused byte that has no event gets a row of its own, and so do the bytes after it. */
         this.extra = [];
         if (this.found?.row === trace.count) this.#addExtra();
         else if (trace.end < bytes.length) this.#addUnread(trace.end);
@@ -49,21 +51,22 @@ export class Rows {
     }
 
     #addExtra() {
-        const { bytes, trace, found } = this, { place } = found;
-        const end = Math.min(bytes.length, place + 1), depth = trace.nesting.open.length;
-        const meaning = place >= bytes.length ? 'the end of the input' : 'refused here';
-        this.extra.push({ place: trace.end, end, depth, meaning });
+        const { bytes, trace, found } = this, { offset, float } = found;
+        const end = float?.end ?? Math.min(bytes.length, offset + 1), depth = trace.nesting.open.length;
+        const isAtEnd = offset >= bytes.length;
+        const meaning = float ? `float ${float.value}, ${float.precision} precision` : isAtEnd ? 'the end of the input' : 'refused here';
+        this.extra.push({ offset: trace.end, end, depth, meaning });
         if (end < bytes.length) this.#addUnread(end);
     }
 
-    #addUnread(place) {
-        this.extra.push({ place, end: this.bytes.length, depth: 0, meaning: 'not read' });
+    #addUnread(offset) {
+        this.extra.push({ offset, end: this.bytes.length, depth: 0, meaning: 'not read' });
     }
 
     /** The row that shows the byte at this offset. */
-    indexAt(place) {
-        const behind = this.extra.findLastIndex(it => it.place <= place);
-        return behind >= 0 ? this.trace.count + behind : Math.max(0, this.trace.indexAt(place));
+    indexAt(offset) {
+        const extra = this.extra.findLastIndex(it => it.offset <= offset);
+        return extra >= 0 ? this.trace.count + extra : Math.max(0, this.trace.indexAt(offset));
     }
 
     row(index) {
@@ -73,14 +76,23 @@ export class Rows {
         const isMarked = found?.row === index;
         return {
             index,
-            place: row.place,
+            offset: row.offset,
             depth: row.depth,
             isKey: !!row.isKey,
-            hex: hexParts(bytes, row.place, row.end, isMarked ? found.place : undefined),
+            name: row.name ?? '',
+            held: row.kind === 'piece' ? this.#heldIn(index, row) : undefined,
+            hex: hexParts(bytes, row.offset, row.end, isMarked ? found.offset : undefined),
             meaning,
-            note: isMarked ? `${found.name} at ${found.place}: ${found.meaning}` : '',
+            note: isMarked ? `${found.name} at ${found.offset}: ${found.meaning}` : '',
             kind: isMarked ? this.kind : '',
         };
+    }
+
+    /** A byte string that holds one valid item: the offsets of its head, of its content, and after it. */
+    #heldIn(index, { offset, end, isText }) {
+        const head = isText ? undefined : this.trace.row(index - 1);
+        const isWhole = head?.kind === 'bytes' && head.number === end - offset;
+        return isWhole && this.inspection.isItem(offset, end) ? { head: head.offset, from: offset, end } : undefined;
     }
 
     page(from, count) {

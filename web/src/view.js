@@ -1,5 +1,6 @@
 // What the page shows of an inspection, besides its tables.
 import { byId, counted, digits, element } from './dom.js';
+import { WHY_NO_FLOATS } from './words.js';
 
 const line = (...children) => element('p', {}, ...children);
 const code = text => element('code', { textContent: text });
@@ -25,8 +26,16 @@ export function showProblem(text) {
 
 const sentence = ({ meaning, advice }) => line(`${meaning} ${advice}`);
 
+/** Of a float its value, and why it is refused. */
+function aboutFloat({ float, name }) {
+    if (name !== 'Float') return [];
+    return [...(float ? [line('Its value: ', code(float.value), `, in ${float.precision} precision.`)] : []), line(WHY_NO_FLOATS)];
+}
+
 function way({ path, item }, isSequence) {
-    return line('Path: ', code(isSequence ? `item ${item}, ${path}` : path));
+    const shown = code(isSequence ? `item ${item}, ${path}` : path);
+    shown.className = 'path';
+    return line('Path: ', shown);
 }
 
 function sizes({ length, itemCount, canonical, refusal }) {
@@ -39,9 +48,10 @@ export function showVerdict(report) {
     const { refusal, notCanonical, itemCount } = report, isSequence = itemCount + (refusal ? 1 : 0) > 1 && !report.isOne;
     if (refusal) {
         const where = isSequence ? `Item ${digits(refusal.item)} is refused` : 'Refused';
-        show('bad', `${where}: ${refusal.name} at ${refusal.place}`, sentence(refusal), way(refusal, isSequence), sizes(report));
+        const headline = `${where}: ${refusal.name} at ${refusal.offset}`;
+        show('bad', headline, sentence(refusal), ...aboutFloat(refusal), way(refusal, isSequence), sizes(report));
     } else if (notCanonical) {
-        const headline = `Valid, but not canonical: first ${notCanonical.name} at ${notCanonical.place}`;
+        const headline = `Valid, but not canonical: first ${notCanonical.name} at ${notCanonical.offset}`;
         show('warn', headline, sentence(notCanonical), way(notCanonical, isSequence), sizes(report));
     } else {
         show('good', 'Valid and canonical', sizes(report));
@@ -84,8 +94,12 @@ export function showOutput(id, { title, unit, file, output: { text, shown, lengt
     byId(id).replaceChildren(box, note, element('div', { className: 'row' }, copy, store, said));
 }
 
-/** A row of the table of annotated bytes. */
-export function eventRow({ place, depth, isKey, hex, meaning, note, kind }) {
+/** In place of the rows of an item in a byte string that are not shown. */
+export const moreRow = more => element('tr', {}, element('td', { colSpan: 3, textContent: `${counted(more, 'row', 'rows')} more` }));
+
+/** A row of the table of annotated bytes. `toggle(given, row, button)` opens and closes the item in a byte string. */
+export function eventRow(given, toggle) {
+    const { offset, depth, isKey, hex, meaning, name, held, note, kind } = given;
     const bytes = element('td', { className: 'bytes' }, hex.before, ' ');
     if (hex.mark) bytes.append(element('mark', { textContent: hex.mark }), ' ');
     bytes.append(hex.after);
@@ -94,14 +108,22 @@ export function eventRow({ place, depth, isKey, hex, meaning, note, kind }) {
     means.style.setProperty('--depth', depth);
     if (isKey) means.append(element('span', { className: 'role', textContent: 'key' }), ' ');
     means.append(element('bdi', { textContent: meaning }));
+    if (name) means.append(' ', element('span', { className: 'name', textContent: name }));
+    if (held) means.append(' ', heldButton(given, toggle));
     if (note) means.append(element('span', { className: 'note', textContent: note }));
-    return element('tr', { className: kind }, element('td', { className: 'number', textContent: place }), bytes, means);
+    return element('tr', { className: kind }, element('td', { className: 'number', textContent: offset }), bytes, means);
+}
+
+function heldButton(given, toggle) {
+    const button = element('button', { type: 'button', className: 'held', textContent: 'Item inside', ariaExpanded: 'false' });
+    button.onclick = () => toggle(given, button.closest('tr'), button);
+    return button;
 }
 
 /** A row of the list of items. */
-export function itemRow({ number, place, length, text, notCanonical }) {
-    const verdict = notCanonical ? `no: ${notCanonical.name} at ${notCanonical.place}` : 'yes';
+export function itemRow({ number, offset, length, text, notCanonical }) {
+    const verdict = notCanonical ? `no: ${notCanonical.name} at ${notCanonical.offset}` : 'yes';
     const cell = (className, content) => element('td', { className }, content);
-    return element('tr', { className: notCanonical ? 'warn' : '' }, cell('number', digits(number)), cell('number', String(place)),
+    return element('tr', { className: notCanonical ? 'warn' : '' }, cell('number', digits(number)), cell('number', String(offset)),
         cell('number', digits(length)), cell('', verdict), cell('bytes', element('bdi', { textContent: text })));
 }

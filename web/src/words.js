@@ -1,13 +1,6 @@
-// What the page says of an event, and of a reason.
-import { REASONS } from '../../bindings/js/src/reasons.js';
+// What the page says of an event, and of a refusal.
+import { tagName } from './names.js';
 
-/** The tags of RFC 8949, section 3.4. */
-const TAGS = new Map([
-    [0, 'date and time as text'], [1, 'seconds since 1970'], [2, 'unsigned bignum'], [3, 'negative bignum'],
-    [4, 'decimal fraction'], [5, 'bigfloat'], [21, 'base64url expected'], [22, 'base64 expected'], [23, 'base16 expected'],
-    [24, 'encoded CBOR item'], [32, 'URI'], [33, 'base64url text'], [34, 'base64 text'], [36, 'MIME message'],
-    [55799, 'self-described CBOR'],
-]);
 const SIMPLE = new Map([[20, 'false'], [21, 'true'], [22, 'null'], [23, 'undefined']]);
 
 const counted = (number, one, many) => `${number} ${Number(number) === 1 ? one : many}`;
@@ -15,7 +8,7 @@ const extent = (number, one, many) => (number === undefined ? 'indefinite length
 const negative = number => (-1n - BigInt(number)).toString();
 
 function tag(number) {
-    const name = TAGS.get(Number(number));
+    const name = tagName(number);
     return name ? `tag ${number}: ${name}` : `tag ${number}`;
 }
 
@@ -35,21 +28,41 @@ const MEANINGS = {
 /** What the head of an event means; a piece has its content for it. */
 export const meaningOf = ({ kind, number }) => MEANINGS[kind](number);
 
-// The library's advice names its options and calls; here are the page's for the same reasons.
+// Where the page has what the library's advice speaks of.
 const SEE_CANONICAL = 'The canonical bytes are below.';
-const ADVICE = {
-    2: 'Raise the byte limit in the settings.',
-    9: 'The depth limit is in the settings.',
-    12: 'To read several items, set the input to any number of items.',
-    13: 'Raise the byte limit in the settings.',
+const HINTS = {
+    2: 'The limit is in the settings.',
+    9: 'The limit is in the settings.',
+    12: 'In the settings, the input can be any number of items.',
+    13: 'The limit is in the settings.',
     14: SEE_CANONICAL,
     15: SEE_CANONICAL,
-    16: `The order of keys is in the settings. ${SEE_CANONICAL}`,
-    20: 'Write the key as an integer or a text, or allow any keys in the settings.',
+    16: `${SEE_CANONICAL} The order of keys is in the settings.`,
+    20: 'The kinds of keys are in the settings.',
 };
 
-/** What a reason means. */
-export const reasonMeaning = reason => REASONS[reason][1];
+/** What to do about a refusal, by the library's advice and on the page. */
+export const adviceOn = ({ reason, advice }) => (HINTS[reason] ? `${advice} ${HINTS[reason]}` : advice);
 
-/** What to do about it. */
-export const adviceOn = reason => ADVICE[reason] ?? REASONS[reason][2];
+// ---- floats
+
+const WIDTHS = new Map([[0xf9, ['half', 2]], [0xfa, ['single', 4]], [0xfb, ['double', 8]]]);
+
+function half(bits) {
+    const sign = bits >> 15 ? -1 : 1, exponent = bits >> 10 & 31, fraction = bits & 1023;
+    if (exponent === 31) return fraction ? NaN : sign * Infinity;
+    return sign * (exponent ? (1 + fraction / 1024) * 2 ** (exponent - 15) : fraction / 1024 * 2 ** -14);
+}
+
+/** The float at an offset: its words, and where it ends; undefined if there is none, or a part of one. */
+export function floatAt(bytes, offset) {
+    const [precision, width] = WIDTHS.get(bytes[offset]) ?? [], end = offset + 1 + width;
+    if (!width || end > bytes.length) return undefined;
+    const view = new DataView(bytes.buffer, bytes.byteOffset + offset + 1, width);
+    const value = width === 2 ? half(view.getUint16(0)) : width === 4 ? view.getFloat32(0) : view.getFloat64(0);
+    return { end, value: Object.is(value, -0) ? '-0' : String(value), precision };
+}
+
+/** Why floats are refused. */
+export const WHY_NO_FLOATS = 'One number can be several floats, and an integer as well: 1 is also 1.0 in 2, 4 or 8 bytes. Protocols '
+    + 'choose among them by different rules, so this library accepts none.';

@@ -47,7 +47,7 @@ export const shown = () => browser.evaluate(async () => {
         headline: textOf('#verdict strong'),
         verdict: textOf('#verdict'),
         kind: byId('verdict').className,
-        path: textOf('#verdict code'),
+        path: textOf('#verdict code.path'),
         hasResult: !byId('result').hidden,
         rows,
         marked: rows.find(it => it.mark !== undefined),
@@ -97,7 +97,7 @@ const EXAMPLE_ROWS = [
 export function assertExample(page) {
     assert.equal(page.headline, 'Valid, but not canonical: first Indefinite at 0');
     assert.equal(page.kind, 'warn');
-    assert.match(page.verdict, /An item has indefinite length, which canonical bytes never have\./);
+    assert.match(page.verdict, /An item has an indefinite length, which canonical bytes never have\./);
     assert.deepEqual(page.rows.map(({ cells, depth }) => [...cells, Number(depth.match(/\d+/)[0])]), EXAMPLE_ROWS);
     assert.deepEqual(page.rows.map(it => it.isKey), [false, true, false, false, true, false, false, false]);
     assert.equal(page.marked.mark, 'bf');

@@ -38,7 +38,7 @@ export class Firefox {
         this.next = 1;
         this.waiting = new Map();
         this.left = Buffer.alloc(0);
-        /** Marionette hands on nothing of the console. */
+        /** Marionette passes on nothing of the console. */
         this.complaints = [];
         socket.on('data', data => this.take(data)).on('error', () => {});
         child.on('exit', () => { for (const { reject } of this.waiting.values()) reject(new Error('Firefox ended')); });

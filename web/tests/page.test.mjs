@@ -48,18 +48,105 @@ test('what is typed is inspected, and set in the link with the settings', async 
     assert.deepEqual([page.hasResult, page.hash], [false, '']);
 });
 
-test('text that stands for no bytes is a problem', async () => {
+test('text that is not bytes is a problem', async () => {
     await open('');
     await set('text', 'a1!');
     let page = await shown();
-    assert.deepEqual([page.headline, page.hasResult, page.kind], ['Character 3 is not of base64: "!".', false, 'bad']);
+    assert.deepEqual([page.headline, page.hasResult, page.kind], ['This is not hex, and character 3 is not of base64: "!".', false, 'bad']);
     await set('format', 'hex');
-    assert.equal((await shown()).headline, 'Character 3 is no hex digit: "!".');
+    assert.equal((await shown()).headline, 'Character 3 is not a hex digit: "!".');
     await set('text', 'a');
     assert.equal((await shown()).headline, 'The last byte has one hex digit; a byte has two.');
     await set('depth', '1025');
     page = await shown();
     assert.deepEqual([page.hasResult, page.headline.startsWith('A limit is out of its range')], [false, true]);
+});
+
+test('JSON and diagnostic notation get a sentence that says what to paste', async () => {
+    await open('');
+    await set('text', '{"a": [1, 2]}');
+    let page = await shown();
+    assert.match(page.headline, /^This is JSON.*Paste the bytes of the CBOR, as hex or base64/);
+    assert.deepEqual([page.hasResult, page.kind], [false, 'bad']);
+    await set('text', "{1: h'0102'}");
+    assert.match((await shown()).headline, /^This looks like diagnostic notation\. Paste/);
+});
+
+test('the result is above the settings, which are folded', async () => {
+    const placed = () => browser.evaluate(() => {
+        const [verdict, settings] = ['verdict', 'settings'].map(id => document.getElementById(id));
+        const isBefore = verdict.compareDocumentPosition(settings) & Node.DOCUMENT_POSITION_FOLLOWING;
+        return [isBefore > 0, settings.open, document.getElementById('order').checkVisibility()];
+    });
+    await open(`#hex=${EXAMPLE}`);
+    assert.deepEqual(await placed(), [true, false, false]);
+    await open(`#hex=${EXAMPLE}&order=length`);
+    assert.deepEqual(await placed(), [true, true, true]);
+    await open(`#hex=${EXAMPLE}`);
+    await set('depth', '5000');
+    assert.match((await shown()).headline, /out of its range/);
+    assert.deepEqual(await placed(), [true, true, true]);
+});
+
+test('a float is shown with its value, and why it is refused', async () => {
+    const page = await open('#hex=82fb3ff199999999999a00');
+    assert.equal(page.headline, 'Refused: Float at 1');
+    assert.match(page.verdict, /floats are not accepted\..*Its value: 1\.1, in double precision\..*this library accepts none\./);
+    assert.deepEqual(page.rows.map(it => it.cells), [
+        [0, '82', 'array, 2 members'], [1, 'fb 3f f1 99 99 99 99 99 9a', 'float 1.1, double precision'], [10, '00', 'not read'],
+    ]);
+    await picture('float');
+});
+
+// A COSE_Sign1 whose protected header and payload, a map of the claims iss and exp, are in byte strings.
+const CWT = 'd28443a10126a104423131581aa20175636f61703a2f2f61732e6578616d706c652e636f6d04004101';
+
+test('names are next to numbers, and an item in a byte string opens in place', async () => {
+    await open(`#hex=${CWT}`);
+    const table = () => browser.evaluate(() => [...document.querySelectorAll('#events-pages tbody tr')].map(row => [
+        row.cells[0].textContent, row.querySelector('bdi').textContent, row.querySelector('.name')?.textContent ?? '', row.querySelector('.unseen').textContent,
+    ]));
+    const press = number => browser.evaluate(number => document.querySelectorAll('button.held')[number].click(), number);
+    const before = await table();
+    assert.deepEqual(before[0].slice(0, 3), ['0', 'tag 18: COSE_Sign1', '']);
+    assert.deepEqual(before.find(it => it[2]), ['7', 'unsigned integer 4', 'kid', 'depth 3: ']);
+    await press(0);
+    await until(async () => (await table()).length === before.length + 3);
+    assert.deepEqual((await table()).slice(4, 7), [
+        ['3', 'map, 1 pair', '', 'depth 3: '], ['4', 'unsigned integer 1', 'alg', 'depth 4: '], ['5', 'negative integer -7', 'ES256', 'depth 4: '],
+    ]);
+    await picture('opened');
+    await press(0);
+    await until(async () => (await table()).length === before.length);
+    assert.deepEqual(await table(), before);
+    // one within another, and both away at once
+    const outer = await open('#hex=43424105');
+    assert.equal(outer.rows.length, 2);
+    await press(0);
+    await until(async () => (await table()).length === 4);
+    await press(1);
+    await until(async () => (await table()).length === 6);
+    assert.deepEqual((await table()).map(it => it.slice(0, 2)), [
+        ['0', 'byte string, 3 bytes'], ['1', "h'424105'"], ['1', 'byte string, 2 bytes'], ['2', "h'4105'"], ['2', 'byte string, 1 byte'], ['3', "h'05'"],
+    ]);
+    await press(0);
+    await until(async () => (await table()).length === 2);
+    // of many rows the first are shown
+    await open(`#hex=5901f79901f4${'17'.repeat(500)}`);
+    await press(0);
+    await until(() => browser.evaluate(() => document.querySelectorAll('#events-pages tbody tr').length === 203));
+    assert.equal(await browser.evaluate(() => document.querySelector('#events-pages tbody tr:last-child').textContent), '301 rows more');
+});
+
+test('names of labels of an input that the settings name', async () => {
+    const names = () => browser.evaluate(() => [...document.querySelectorAll('.name')].map(it => it.textContent));
+    await open('#hex=a10126');
+    assert.deepEqual(await names(), []);
+    await open('#hex=a10126&labels=headers');
+    assert.deepEqual(await names(), ['alg', 'ES256']);
+    await set('labels', 'keys');
+    await shown();
+    assert.deepEqual(await names(), ['kty']);
 });
 
 test('a sequence is a list', async () => {
@@ -80,9 +167,9 @@ test('a sequence is a list', async () => {
 /** Refusals: link, headline, path, offset of the marked row, marked byte, rows. */
 const REFUSED = [
     ['a2616100616101', 'Refused: RepeatedKey at 4', '$, key 2 of the map at 0', 4, '61', 7],
-    ['8301f97c00', 'Refused: Float at 2', '$[1]', 2, 'f9', 4],
+    ['8301f97c00', 'Refused: Float at 2', '$[1]', 2, 'f9', 3],
     ['7f4100ff', 'Refused: BadChunk at 1', '$', 1, '41', 3],
-    ['9f82f5fb0000000000000000', 'Refused: Float at 3', '$[0][1]', 3, 'fb', 5],
+    ['9f82f5fb0000000000000000', 'Refused: Float at 3', '$[0][1]', 3, 'fb', 4],
     ['6341c080', 'Refused: InvalidText at 2', '$', 1, 'c0', 2],
     ['1903', 'Refused: Truncated at 2', '$', 0, 'end', 1],
     ['5bffffffffffffffff', 'Refused: Truncated at 9', '$', 9, 'end', 2],
@@ -117,7 +204,7 @@ test('both orders of keys', async () => {
     assert.deepEqual([page.kind, page.canonical], ['good', BYTEWISE]);
     await set('order', 'length');
     page = await shown();
-    // -1 must stand before 100, which is the longer key
+    // -1 must be before 100, which is the longer key
     assert.equal(page.headline, 'Valid, but not canonical: first KeyOrder at 6');
     assert.deepEqual([page.marked.mark, page.canonical], ['20', SHORTER_FIRST]);
     assert.equal((await open(`#hex=${SHORTER_FIRST}&order=length`)).kind, 'good');

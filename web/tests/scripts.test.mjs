@@ -3,9 +3,12 @@ import assert from 'node:assert/strict';
 import { readFile } from 'node:fs/promises';
 import { test } from 'node:test';
 import { load } from '../../bindings/js/src/load.js';
+import { chosenIntegers, harmlessIntegers } from '../../bindings/js/tests/chosen_keys.mjs';
+import { leastTime, millisecond } from '../../bindings/js/tests/times.mjs';
 import { bytesOfText } from '../src/bytes.js';
 import { Inspection } from '../src/inspection.js';
 import { linkOf, ofLink, USUAL } from '../src/link.js';
+import { KNOWN } from '../src/names.js';
 import { hexParts, Rows } from '../src/rows.js';
 
 const naltvigo = await load(readFile(new URL('../../bindings/js/wasm/naltvigo32.wasm', import.meta.url)));
@@ -48,7 +51,16 @@ test('hex with what people put between', () => {
     }
 });
 
-test('text that stands for no bytes', () => {
+test('hex as SQL writes it', () => {
+    const literals = ['\\xa10102', "'\\xA10102'", "'\\xa10102'::bytea;", "x'a10102'", " X'A10102'\n"];
+    for (const format of ['auto', 'hex']) for (const text of literals) assert.equal(hexOf(bytesOfText(text, format)), 'a10102', text);
+    assert.equal(hexOf(bytesOfText('\\x', 'auto')), '');
+    assert.throws(() => bytesOfText("x'a'", 'auto'), /one hex digit/);
+    for (const text of ['\\xa1\\x01', "x'a1", "x'ag'", "'a1'"]) assert.throws(() => bytesOfText(text, 'auto'), /This is not hex, and character/, text);
+    assert.throws(() => bytesOfText('\\xa1', 'base64'), /Character 1 is not of base64/);
+});
+
+test('text that is not bytes', () => {
     const wrong = [
         ['hex', '0g', 'Character 2'],
         ['hex', '0', 'one hex digit'],
@@ -71,7 +83,7 @@ test('a link gives back what it was made of', () => {
     assert.equal(ofLink('#other=1'), undefined);
 });
 
-// ---- rows, beside a generator that knows what it writes
+// ---- rows, compared with a generator that knows what it writes
 
 /** A random item and the rows that it must get: offset, end, depth, whether it is a key, and what it means. */
 class Writer {
@@ -88,12 +100,12 @@ class Writer {
     }
 
     row(bytes, depth, isKey, meaning) {
-        const place = this.bytes.length;
+        const offset = this.bytes.length;
         this.bytes.push(...bytes);
-        this.rows.push([place, this.bytes.length, depth, isKey, meaning]);
+        this.rows.push([offset, this.bytes.length, depth, isKey, meaning]);
     }
 
-    /** A head whose argument stands in as many bytes as it needs, or more. */
+    /** A head whose argument has as many bytes as it needs, or more. */
     head(major, number) {
         const width = [0, 1, 2, 4, 8].filter(it => (it ? number < 256n ** BigInt(it) : number < 24n));
         const chosen = width[this.below(width.length)];
@@ -174,8 +186,7 @@ class Writer {
     }
 
     tag(depth, isKey, levels) {
-        const number = 100n + this.number() % (2n ** 63n);
-        if (number === 55799n) return this.integer(depth, isKey);
+        const number = 100000n + this.number() % (2n ** 63n); // those below may have names
         this.row(this.head(6, number), depth, isKey, `tag ${number}`);
         return this.item(depth + 1, false, levels - 1);
     }
@@ -187,7 +198,7 @@ function writtenBy(seed, count) {
     return writer;
 }
 
-const seen = ({ trace }, rows) => rows.map((row, i) => [row.place, trace.row(i).end, row.depth, row.isKey, row.meaning]);
+const seen = ({ trace }, rows) => rows.map((row, i) => [row.offset, trace.row(i).end, row.depth, row.isKey, row.meaning]);
 
 test('random items and sequences have the rows that they were written from', () => {
     let count = 0;
@@ -215,17 +226,17 @@ test('a sequence at the depth limit, and one of many rows', () => {
     const { inspection, rows } = inspected(bytesOf('818100a10000'), { depth: 2 });
     assert.deepEqual([inspection.refusal, inspection.ends, rows.length], [undefined, [3, 6], 6]);
     const count = 200000, { trace } = inspected(new Uint8Array(count).fill(0x20)).inspection;
-    for (let index = 0; index < count; index += 997) assert.deepEqual([trace.row(index).place, trace.indexAt(index)], [index, index]);
+    for (let index = 0; index < count; index += 997) assert.deepEqual([trace.row(index).offset, trace.indexAt(index)], [index, index]);
     assert.equal(trace.count, count);
 });
 
 test('canonical bytes that are longer than the limit', () => {
     const item = [0x9f, ...Array(256).fill(0), 0xff], canonical = `990100${'00'.repeat(256)}`;
     const { refusal, ends } = inspected(Uint8Array.from(item), { maxBytes: 258 }).inspection;
-    assert.deepEqual([refusal.name, refusal.place, ends], ['CanonicalTooLong', 258, []]);
+    assert.deepEqual([refusal.name, refusal.offset, ends], ['CanonicalTooLong', 258, []]);
     assert.equal(hexOf(inspected(Uint8Array.from(item), { maxBytes: 259 }).inspection.canonical), canonical);
     const second = inspected(Uint8Array.from([1, ...item, 2]), { maxBytes: 258 });
-    assert.deepEqual([second.inspection.refusal.item, second.inspection.refusal.place, second.inspection.ends], [2, 259, [1]]);
+    assert.deepEqual([second.inspection.refusal.item, second.inspection.refusal.offset, second.inspection.ends], [2, 259, [1]]);
     assert.deepEqual([second.rows.length, second.rows[259].hex.mark, second.inspection.diagnostic], [260, '02', '1']);
 });
 
@@ -234,7 +245,7 @@ test('wherever an item is cut, its rows and the marked end cover its bytes', () 
         const { bytes } = writtenBy(seed, 1);
         for (let length = 1; length < bytes.length; length++) {
             const { inspection, rows } = inspected(Uint8Array.from(bytes.slice(0, length)));
-            assert.deepEqual([inspection.refusal.name, inspection.refusal.place], ['Truncated', length]);
+            assert.deepEqual([inspection.refusal.name, inspection.refusal.offset], ['Truncated', length]);
             assert.equal(rows.at(-1).hex.mark, 'end');
             const all = rows.map(({ hex }) => hex.before + hex.after).join(' ').replace(/\s/g, '');
             assert.equal(all, hexOf(bytes.slice(0, length)));
@@ -249,14 +260,15 @@ test('the path to what is refused', () => {
         ['a1820102f97c00', 'Float', 4, '$.[1, 2]'],
         ['a2616100616101', 'RepeatedKey', 4, '$, key 2 of the map at 0'],
         ['82a1000081a200010002', 'RepeatedKey', 8, '$[1][0], key 2 of the map at 5'],
+        ['0181d863f90000', 'Float', 4, '$[0](99)'],
         ['815f4100f6', 'BadChunk', 4, '$[0]'],
         ['82616162c328', 'InvalidText', 4, '$[1]'],
         ['a17f616161627f', 'BadChunk', 6, '$, key 1 of the map at 0'],
         ['bfa1000180ff1c', 'Reserved', 6, '$'],
     ];
-    for (const [hex, name, place, path] of paths) {
+    for (const [hex, name, offset, path] of paths) {
         const { refusal } = inspected(bytesOf(hex)).inspection;
-        assert.deepEqual([refusal.name, refusal.place, refusal.path], [name, place, path], hex);
+        assert.deepEqual([refusal.name, refusal.offset, refusal.path], [name, offset, path], hex);
     }
 });
 
@@ -281,4 +293,129 @@ test('a long row is cut, and shows the marked byte', () => {
     assert.deepEqual(hexParts(bytes, 0, 200), { before: begin, mark: '', after: ' … (200 bytes)' });
     assert.deepEqual(hexParts(bytes, 0, 200, 100), { before: `${begin} … 60 61 62 63`, mark: '64', after: '65 66 67 68 … (200 bytes)' });
     assert.deepEqual(hexParts(bytes, 0, 200, 199), { before: `${begin} … c3 c4 c5 c6`, mark: 'c7', after: ' … (200 bytes)' });
+});
+
+const INTEGERS = 'a10126'; // {1: -7}
+const named = (hex, options) => inspected(bytesOf(hex), options).rows.filter(row => row.name).map(row => [row.meaning, row.name]);
+
+test('names of tags, and of labels of COSE and CWT', () => {
+    const meanings = hex => inspected(bytesOf(hex)).rows[0].meaning;
+    for (const [hex, meaning] of [
+        ['d28440a0f640', 'tag 18: COSE_Sign1'], ['d83d00', 'tag 61: CBOR Web Token (CWT)'], ['d8404101', 'tag 64: typed array of 8-bit unsigned integers'],
+        ['d9d9f700', 'tag 55799: self-described CBOR'], ['d8344401020304', 'tag 52: IPv4 address'], ['d86300', 'tag 99'],
+        ['dbffffffffffffffff00', 'tag 18446744073709551615'],
+    ]) assert.equal(meanings(hex), meaning);
+    // RFC 9052, appendix C.2.1: the unprotected header has kid; there are no names without the tag
+    assert.deepEqual(named('d28443a10126a10442313154546869732069732074686520636f6e74656e742e40'), [['unsigned integer 4', 'kid']]);
+    assert.deepEqual(named('8443a10126a10442313140'), []);
+    assert.deepEqual(named(INTEGERS), []);
+    assert.deepEqual(named(INTEGERS, { known: KNOWN.headers }), [['unsigned integer 1', 'alg'], ['negative integer -7', 'ES256']]);
+    assert.deepEqual(named('a10126', { known: KNOWN.claims })[0], ['unsigned integer 1', 'iss, issuer (CWT)']);
+    assert.deepEqual(named('a4010220012158200000000000000000000000000000000000000000000000000000000000000000' + '2240', { known: KNOWN.keys }).map(it => it[1]),
+        ['kty', 'crv, or k', 'x', 'y']);
+    // {8: {1: {1: 2}}}, the claim cnf with a COSE_Key; and a key of a map in it that is not an integer
+    assert.deepEqual(named('a108a101a10102', { known: KNOWN.claims }).map(it => it[1]), ['cnf, confirmation (CWT)', 'COSE_Key', 'kty']);
+    assert.deepEqual(named('a2810101616101', { known: KNOWN.claims }), []);
+    assert.deepEqual(named('a13bfffffffffffffffe00', { known: KNOWN.claims }), []);
+});
+
+/** A CWT as a COSE_Sign1 (RFC 8392, appendix A.3, with fewer claims): its claims are in a byte string. */
+const PAYLOAD = 'a2017563' + '6f61703a2f2f61732e6578616d706c652e636f6d' + '0400';
+const CWT = `d28443a10126a104423131581a${PAYLOAD}4101`;
+
+test('a byte string that holds an item', () => {
+    const { inspection, rows } = inspected(bytesOf(CWT)), held = rows.filter(row => row.held).map(row => row.held);
+    assert.equal(inspection.refusal, undefined);
+    assert.deepEqual(held.map(({ from, end }) => hexOf(bytesOf(CWT).subarray(from, end))).slice(0, 1), ['a10126']);
+    const inner = inspection.inner(held[0]), shown = new Rows(inner).page(0, 9);
+    assert.deepEqual(shown.map(row => [row.meaning, row.name]), [['map, 1 pair', ''], ['unsigned integer 1', 'alg'], ['negative integer -7', 'ES256']]);
+    const claims = held.find(({ from, end }) => end - from === 26), names = new Rows(inspection.inner(claims)).page(0, 9).map(row => row.name);
+    assert.deepEqual(names.filter(Boolean), ['iss, issuer (CWT)', 'exp, expiration time (CWT)']);
+    for (const [hex, count] of [['4101', 1], ['40', 0], ['420102', 0], ['41ff', 0], ['43f93c00', 0], ['6101', 0], ['5f4101ff', 0], ['d8184101', 1], ['424101', 1]]) {
+        assert.equal(inspected(bytesOf(hex)).rows.filter(row => row.held).length, count, hex);
+    }
+    // an item within an item within a byte string
+    const outer = inspected(bytesOf('01434241054101')), first = outer.rows.find(row => row.held).held;
+    assert.deepEqual(first, { head: 1, from: 2, end: 5 });
+    const second = new Rows(outer.inspection.inner(first)).page(0, 9);
+    assert.deepEqual(second.map(row => [row.offset, row.meaning]), [[0, 'byte string, 2 bytes'], [1, "h'4105'"]]);
+    assert.deepEqual(second[1].held, { head: 0, from: 1, end: 3 });
+});
+
+test('a float is shown with its value', () => {
+    // RFC 8949, appendix A
+    for (const [hex, value] of [
+        ['f90000', '0'], ['f98000', '-0'], ['f93c00', '1'], ['fb3ff199999999999a', '1.1'], ['f93e00', '1.5'], ['f97bff', '65504'],
+        ['fa47c35000', '100000'], ['fa7f7fffff', '3.4028234663852886e+38'], ['fb7e37e43c8800759c', '1e+300'], ['f90001', '5.960464477539063e-8'],
+        ['f90400', '0.00006103515625'], ['f9c400', '-4'], ['fbc010666666666666', '-4.1'], ['f97c00', 'Infinity'], ['f97e00', 'NaN'], ['f9fc00', '-Infinity'],
+    ]) {
+        const { inspection, rows } = inspected(bytesOf(`82${hex}00`)), precision = { 3: 'half', 5: 'single', 9: 'double' }[hex.length / 2];
+        assert.deepEqual([inspection.refusal.name, inspection.refusal.float.value, inspection.refusal.float.precision], ['Float', value, precision], hex);
+        assert.deepEqual(rows.map(row => row.meaning), ['array, 2 members', `float ${value}, ${precision} precision`, 'not read']);
+        assert.equal(rows[1].hex.mark + rows[1].hex.after.replaceAll(' ', ''), hex);
+    }
+    const cut = inspected(bytesOf('82fb3ff1'));
+    assert.deepEqual([cut.inspection.refusal.float, cut.rows[1].meaning], [undefined, 'refused here']);
+});
+
+test('JSON and diagnostic notation get a sentence that says what to paste', () => {
+    for (const text of ['{"a": 1}', '[1, 2]', '"text"', ' {\n"a": [true]}', 'true', 'null']) {
+        assert.throws(() => bytesOfText(text, 'auto'), /^Error: This is JSON.* Paste the bytes of the CBOR/, text);
+    }
+    for (const text of ["{1: h'00'}", "h'0102'", '24(0)', "[1, h'']", '<<1, 2>>', 'undefined', 'simple(5)', "(_ h'01')"]) {
+        assert.throws(() => bytesOfText(text, 'auto'), /^Error: This looks like diagnostic notation\. Paste the bytes/, text);
+    }
+    assert.equal(hexOf(bytesOfText('true', 'base64')), 'b6bb9e');
+    assert.equal(hexOf(bytesOfText('24 01', 'auto')), '2401');
+});
+
+// ---- time
+
+/** The least time of an inspection and its first page, in milliseconds. */
+const timeOf = (bytes, turns) => leastTime(() => {
+    const inspection = new Inspection(naltvigo, bytes, { ...OPTIONS, depth: 1024 });
+    inspection.run(() => {});
+    new Rows(inspection).page(0, 200);
+}, turns);
+
+/** A map of these keys, in bytes, each with the value 0. */
+const mapOf = keys => Buffer.concat([Buffer.of(0xba), uint32(keys.length), ...keys.flatMap(key => [key, Buffer.of(0)])]);
+const uint32 = number => Buffer.from([24, 16, 8, 0].map(shift => number >>> shift & 255));
+const integer = number => Buffer.concat([Buffer.of(0x1a), uint32(number)]);
+const numbers = count => Array.from({ length: count }, (_, i) => i);
+
+test('1 MiB of chosen keys takes at most 5 times as long as 1 MiB of harmless ones', () => {
+    const size = 1 << 20, harmless = mapOf(harmlessIntegers(Math.floor(size / 6)).map(integer));
+    const families = {
+        integers: Buffer.concat([Buffer.of(0x98, 40), ...Array(40).fill(mapOf(chosenIntegers(4000).map(integer)))]),
+        'texts with one start': mapOf(numbers(1000).map(i => Buffer.concat([Buffer.of(0x79, 4, 0), Buffer.from(String(i).padStart(1024, 'x'))]))),
+        'deep keys': mapOf(numbers(size / 512).map(i => Buffer.concat([Buffer.alloc(506, 0x81), integer(i)]))),
+        'keys in keys': mapOf(numbers(size / 512).map(i => Buffer.concat([Buffer.alloc(250, 0xa1), integer(i), Buffer.alloc(250)]))),
+        'deep values': Buffer.concat([Buffer.of(0x9f), ...numbers(size / 2001).map(() => Buffer.from('a100'.repeat(1000) + '00', 'hex')), Buffer.of(0xff)]),
+    };
+    for (const [name, bytes] of Object.entries(families)) {
+        let ratio = Infinity;
+        for (let i = 0; i < 5 && ratio > 5; i++) ratio = Math.min(ratio, timeOf(bytes, 2) / bytes.length / (timeOf(harmless, 2) / harmless.length));
+        assert.ok(ratio <= 5, `${name}: ${ratio} times as long`);
+    }
+});
+
+test('no item of 1 KiB takes more than a millisecond beyond its check', () => {
+    const pairs = (count, ...bytes) => Buffer.concat(Array(count).fill(Buffer.from(bytes)));
+    const items = {
+        arrays: Buffer.concat([Buffer.alloc(1000, 0x81), Buffer.of(0)]),
+        tags: Buffer.concat([Buffer.alloc(1000, 0xc1), Buffer.of(0)]),
+        values: Buffer.concat([pairs(500, 0xa1, 0), Buffer.of(0)]),
+        keys: Buffer.concat([Buffer.alloc(500, 0xa1), Buffer.alloc(501)]),
+        members: Buffer.concat([Buffer.of(0x9f), Buffer.alloc(1000), Buffer.of(0xff)]),
+        integers: mapOf(chosenIntegers(169).map(integer)),
+        chunks: Buffer.concat([Buffer.of(0x5f), pairs(500, 0x41, 0), Buffer.of(0xff)]),
+    };
+    for (const [name, bytes] of Object.entries(items)) {
+        assert.ok(bytes.length <= 1024 && bytes.length >= 1000);
+        timeOf(bytes, 20); // compiled before it is measured
+        const check = leastTime(() => naltvigo.check(bytes, { depth: 1024 }), 100);
+        const beyond = timeOf(bytes, 100) - check;
+        assert.ok(beyond <= millisecond(naltvigo.check), `${name}: ${beyond} ms beyond its check, ${check} ms`);
+    }
 });

@@ -7,7 +7,7 @@ import { setTimeout as pause } from 'node:timers/promises';
 import { assertExample, BROWSER, browser, EXAMPLE, folder, open, picture, set, shown, until } from './driven.mjs';
 
 /**
- * Begins to measure how long the page does not answer. Other processes may hold the processor meanwhile, so a worker does
+ * Begins to measure how long the page does not respond. Other processes may use the processor meanwhile, so a worker does
  * the same short work again and again, and finds how many times longer that may take; up to four times is allowed for.
  */
 const beginToMeasure = () => browser.evaluate(() => {
@@ -34,13 +34,13 @@ const beginToMeasure = () => browser.evaluate(() => {
     }, 4);
 });
 
-/** The longest time in ms that the page did not answer, on a processor of its own. */
+/** The longest time in ms that the page did not respond, on a processor of its own. */
 const longestPause = () => browser.evaluate(() => new Promise(resolve => {
     window.control.onmessage = ({ data }) => resolve(Math.max(...window.pauses) / data);
     window.control.postMessage('');
 }));
 
-test('a file of 10 MB is inspected while the page answers within 100 ms', async () => {
+test('a file of 10 MB is inspected while the page responds within 100 ms', async () => {
     const file = join(folder, 'large.cbor'), record = Buffer.from('a263416d74216346756ef5', 'hex');
     const count = Math.ceil(10e6 / record.length), head = Buffer.from([0x9a, 0, 0, 0, 0]);
     head.writeUInt32BE(count, 1);
@@ -48,7 +48,7 @@ test('a file of 10 MB is inspected while the page answers within 100 ms', async 
     writeFileSync(file, Buffer.concat([head, ...Array(count - 1).fill(record), wrong]));
     const last = 5 + (count - 1) * record.length;
     let worst = Infinity, page;
-    for (let attempt = 0; attempt < 3 && worst > 100; attempt++) {
+    for (let attempt = 0; attempt < 6 && worst > 100; attempt++) {
         await open('');
         await beginToMeasure();
         await browser.choose('#file', file);
@@ -60,7 +60,7 @@ test('a file of 10 MB is inspected while the page answers within 100 ms', async 
     assert.deepEqual(page.marked.cells, [last + 6, '63', 'text string, 3 bytes']);
     assert.equal(page.hash, '');
     assert.ok(page.rows.length <= 200 && page.diagnostic.length <= 8192 && page.canonical.length <= 8192);
-    assert.ok(worst <= 100, `the page did not answer for ${worst} ms`);
+    assert.ok(worst <= 100, `the page did not respond for ${worst} ms`);
     await picture('large');
     // another input ends the work on this one
     await browser.choose('#file', file);
@@ -69,8 +69,27 @@ test('a file of 10 MB is inspected while the page answers within 100 ms', async 
     assert.equal((await shown()).diagnostic, '1');
 });
 
+test('1 MB of hex is inspected while the page responds within 200 ms', async () => {
+    let worst = Infinity, page;
+    for (let attempt = 0; attempt < 6 && worst > 200; attempt++) {
+        await open('');
+        await beginToMeasure();
+        await browser.evaluate(() => {
+            const paste = new Event('paste', { bubbles: true, cancelable: true }), item = 'a263416d74216346756ef5';
+            const count = 95325, text = `9a0001745d${item.repeat(count)}`;
+            paste.clipboardData = { getData: () => text };
+            document.getElementById('text').dispatchEvent(paste);
+        });
+        page = await shown();
+        worst = await longestPause();
+    }
+    assert.deepEqual([page.headline, page.rows.length], ['Valid and canonical', 200]);
+    assert.ok(worst <= 200, `the page did not respond for ${worst} ms`);
+});
+
 /** How light the page's background is, 0 to 1, and the elements whose text stands out less than WCAG 2 asks for: 4.5. */
 const colors = () => browser.evaluate(() => {
+    document.getElementById('settings').open = true;
     const channels = color => color.match(/[\d.]+/g).map(Number);
     const light = color => channels(color).slice(0, 3).map(it => it / 255)
         .map(it => (it <= 0.04045 ? it / 12.92 : ((it + 0.055) / 1.055) ** 2.4))
@@ -115,12 +134,17 @@ const focused = () => browser.evaluate(() => {
 test('with the keyboard alone', async () => {
     await open('');
     const order = [];
-    for (let i = 0; i < 14; i++) {
+    for (let i = 0; i < 10; i++) {
         await browser.press('Tab');
         order.push(await focused());
     }
     const examples = ['a map of indefinite length', 'a sequence', 'a repeated key', 'a float', 'a wrong chunk'];
-    assert.deepEqual(order, ['text', ...examples, 'format', 'file', 'clear', 'order', 'keys', 'items', 'depth', 'bytes']);
+    assert.deepEqual(order, ['text', ...examples, 'format', 'file', 'clear', 'Settings']);
+    await browser.press('Enter');
+    for (const id of ['order', 'keys', 'items', 'depth', 'bytes', 'labels']) {
+        await browser.press('Tab');
+        assert.equal(await focused(), id);
+    }
     await open('');
     await browser.press('Tab');
     await browser.type(EXAMPLE);

@@ -1,95 +1,139 @@
 // From bytes to values. The module makes canonical bytes of the input, and a table of the items in them; no byte is read
 // here but the content of strings.
 import { canonicalRegion } from './calls.js';
-import { numberAt } from './instance.js';
-import { bytesOf, settingsOfReading } from './options.js';
-import { Simple, Tag } from './values.js';
+import { inputOf } from './input.js';
+import { numberOf, wordsAt } from './instance.js';
+import { REFUSED } from './numbers.js';
+import { settingsOfDecoding } from './options.js';
+import { contentStep, keyStep, memberStep, valueStep } from './path.js';
+import { emptyMap, finished } from './sorted_map.js';
+import { textOf } from './texts.js';
+import { DecodeError, Simple, Tag } from './values.js';
 
 export function decode(library, data, options) {
-    const given = settingsOfReading(options), bytes = bytesOf(data);
-    // what is judged and read is the module's own copy, and no call of it comes between
-    const region = given.canonical ? inputRegion(library, bytes) : canonicalRegion(library, bytes, given);
-    return read(region.instance, region.block.offset, tableOf(region, given));
+    const given = settingsOfDecoding(options), bytes = inputOf(data, given), instance = library.instance();
+    const input = instance.left.put(bytes);
+    // What is judged and read is the module's own copy, and no other call comes in between. Most inputs are canonical.
+    let region = { instance, block: instance.left, length: bytes.length }, count = indexOf(region, given);
+    if (count < 0 && given.canonical) throw instance.error(REFUSED, given, input);
+    if (count < 0) {
+        region = canonicalRegion(library, bytes, given);
+        count = indexOf(region, given);
+    }
+    return new Reader(region, count, given.asObjects).value();
 }
 
-function inputRegion(library, bytes) {
-    const instance = library.instance();
-    instance.left.put(bytes);
-    return { instance, block: instance.left, length: bytes.length };
-}
+// struct naltvigo_item in words of 32 bits: number, offset, content, end, kind, entries.
+const ITEM = { size: 10, number: 0, content: 4, kind: 8 };
+const FIRST = 100; // as many as there is space for at first; a larger table is kept for the next call
 
-// struct naltvigo_item: number, place, content, end, kind, behind. FIRST is how many there is space for at first.
-const ITEM = { size: 40, number: 0, content: 16, kind: 32 };
-const FIRST = 100;
-
-/** Where the table of the items of canonical bytes stands, in the order of their first bytes; other bytes are refused. */
-function tableOf({ instance, block, length }, { order, keys, depth, maxBytes }) {
+/** How many items there are in canonical bytes, which then are in the instance's table; -1 if they are refused. */
+function indexOf({ instance, block, length }, { order, keys, depth, maxBytes }) {
     const { exports, first, refusal, table } = instance, size = BigInt(length);
-    instance.write(table, FIRST, (pointer, space) => exports.naltvigo_index_raw(
-        block.pointer, size, order, keys, depth, maxBytes, pointer, space, first, refusal), ITEM.size);
-    return table.offset;
+    return instance.write(table, FIRST, (pointer, space) => exports.naltvigo_index_raw(
+        block.pointer, size, order, keys, depth, maxBytes, pointer, space, first, refusal), 4 * ITEM.size);
 }
 
-const TEXT = new TextDecoder('utf-8', { fatal: true, ignoreBOM: true });
+const UNSIGNED = 0;
+const NEGATIVE = 1;
+const BYTES = 2;
+const TEXT = 3;
+const ARRAY = 4;
+const MAP = 5;
+const TAG = 6;
 const SIMPLE = [false, true, null, undefined];
 
-const negative = argument => (argument < Number.MAX_SAFE_INTEGER ? -1 - argument : -1n - BigInt(argument));
-
-/** A text; a short one of ASCII is made here, since a call of the decoder costs more. */
-function textOf(bytes, from, end) {
-    if (end - from > 24) return TEXT.decode(bytes.subarray(from, end));
-    let text = '';
-    for (let at = from; at < end; at++) {
-        if (bytes[at] > 127) return TEXT.decode(bytes.subarray(from, end));
-        text += String.fromCharCode(bytes[at]);
-    }
-    return text;
-}
-
-/** An array, map or tag that is open: what it is, how many items it wants, and a map's key without its value. */
-class Container {
-    constructor(value, missing) {
-        this.value = value;
-        this.missing = missing;
-        this.key = undefined;
+/** Reads the values of canonical bytes by the table of their items, in the order of their first bytes. */
+class Reader {
+    constructor({ instance, block }, count, asObjects) {
+        this.bytes = instance.bytes();
+        this.offset = block.offset;
+        this.words = wordsAt(this.bytes.buffer, instance.table.offset, count * ITEM.size);
+        this.asObjects = asObjects;
+        // Of each array, map and tag around the one that is open: its kind, what it becomes, how many items are missing, and a
+        // key without its value.
+        this.around = [];
     }
 
-    take(item) {
-        this.missing--;
-        if (this.value instanceof Tag) this.value.content = item;
-        else if (Array.isArray(this.value)) this.value.push(item);
-        else if (this.missing % 2) this.key = item;
-        else this.value.set(this.key, item);
+    value() {
+        const { words, around, asObjects } = this;
+        let kind = TAG, made = new Tag(0, undefined), missing = 1, key;
+        for (let at = 0; ; at += ITEM.size) {
+            const low = words[at], high = words[at + 1], argument = high === 0 ? low : numberOf(low, high);
+            let value, inner;
+            switch (words[at + ITEM.kind]) {
+            case UNSIGNED: value = argument; break;
+            case NEGATIVE: value = argument < Number.MAX_SAFE_INTEGER ? -1 - argument : -1n - BigInt(argument); break;
+            case BYTES: value = this.#bytesAt(at, argument); break;
+            case TEXT: value = this.#textAt(at, argument); break;
+            case ARRAY: value = new Array(argument); inner = argument; break;
+            case MAP: value = asObjects ? {} : emptyMap(argument); inner = 2 * argument; break;
+            case TAG: value = new Tag(argument, undefined); inner = 1; break;
+            default: value = argument >= 20 && argument < 24 ? SIMPLE[argument - 20] : new Simple(argument);
+            }
+            if (inner > 0) {
+                around.push(kind, made, missing, key);
+                kind = words[at + ITEM.kind];
+                made = value;
+                missing = inner;
+                continue;
+            }
+            for (;;) {
+                if (kind === ARRAY) made[made.length - missing] = value;
+                else if (kind === TAG) made.content = value;
+                else if (missing % 2 === 0) key = asObjects ? this.#propertyName(value, made) : value;
+                else if (asObjects) this.#setProperty(made, key, value);
+                else made.set(key, value);
+                if (--missing > 0) break;
+                if (around.length === 0) return made.content;
+                value = finished(made);
+                key = around.pop();
+                missing = around.pop();
+                made = around.pop();
+                kind = around.pop();
+            }
+        }
     }
-}
 
-/** The value of the item whose bytes stand at an offset, by the table of its items. */
-function read(instance, offset, table) {
-    const bytes = instance.bytes(), words = instance.words(), open = [];
-    for (let at = table; ; at += ITEM.size) {
-        const argument = numberAt(words, at + ITEM.number);
-        const from = offset + numberAt(words, at + ITEM.content);
-        let value, missing = 0;
-        switch (words.getUint32(at + ITEM.kind, true)) {
-        case 0: value = argument; break;
-        case 1: value = negative(argument); break;
-        case 2: value = bytes.slice(from, from + argument); break;
-        case 3: value = textOf(bytes, from, from + argument); break;
-        case 4: value = []; missing = argument; break;
-        case 5: value = new Map(); missing = 2 * argument; break;
-        case 6: value = new Tag(argument, undefined); missing = 1; break;
-        default: value = argument >= 20 && argument < 24 ? SIMPLE[argument - 20] : new Simple(argument);
+    #contentAt(at) {
+        return this.offset + numberOf(this.words[at + ITEM.content], this.words[at + ITEM.content + 1]);
+    }
+
+    #bytesAt(at, length) {
+        const from = this.#contentAt(at);
+        return this.bytes.slice(from, from + length);
+    }
+
+    #textAt(at, length) {
+        const from = this.#contentAt(at);
+        return textOf(this.bytes, from, from + length);
+    }
+
+    #propertyName(key, object) {
+        if (typeof key === 'string') return key;
+        const problem = 'the key is not a text, so the map cannot be an object; decode it as a Map';
+        throw new DecodeError(this.#path() + keyStep(Object.keys(object).length + 1), problem);
+    }
+
+    /** As JSON.parse does it: whatever the name is, the property is the object's own. */
+    #setProperty(object, name, value) {
+        if (value === undefined) {
+            const problem = 'the value is undefined, and encode leaves out such a property; decode the map as a Map';
+            throw new DecodeError(this.#path() + valueStep(name), problem);
         }
-        if (missing) {
-            open.push(new Container(value, missing));
-            continue;
+        if (name in Object.prototype) Object.defineProperty(object, name, { value, writable: true, enumerable: true, configurable: true });
+        else object[name] = value;
+    }
+
+    /** The path to the map that is open. */
+    #path() {
+        let path = '$';
+        for (let i = 4; i < this.around.length; i += 4) {
+            const [kind, made, missing, key] = this.around.slice(i, i + 4);
+            if (kind === ARRAY) path += memberStep(made.length - missing);
+            else if (kind === TAG) path += contentStep(made.number);
+            else path += valueStep(key);
         }
-        for (;;) {
-            const around = open.at(-1);
-            if (!around) return value;
-            around.take(value);
-            if (around.missing) break;
-            value = open.pop().value;
-        }
+        return path;
     }
 }

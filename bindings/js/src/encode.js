@@ -1,29 +1,20 @@
-// From values to bytes: the value is written as it stands, its heads by the module, which then makes canonical bytes of
-// that. No head is made here.
+// From values to bytes: the value is written as it is, its heads by the module, which then makes canonical bytes of that.
+// No head is made here.
 import { canonicalBytes } from './calls.js';
+import { typedArrayName } from './input.js';
 import { settings } from './options.js';
 import { Output } from './output.js';
-import { Refused } from './refused.js';
-import { EncodeError, Simple, Tag } from './values.js';
+import { contentStep, keyStep, memberStep, valueStep } from './path.js';
+import { SortedMap } from './sorted_map.js';
+import { EncodeError, problemOfSimple, problemOfTag, Simple, Tag, withArticle } from './values.js';
 
 export function encode(library, value, options) {
-    const given = settings(options), output = Output.lent(library);
+    const given = settings(options), output = Output.lent(library, given.maxBytes);
     try {
         write(value, output, given);
-        return canonicalOf(library, value, output, given);
+        return canonicalBytes(library, output.written(), given);
     } finally {
         output.giveBack();
-    }
-}
-
-/** The canonical bytes of a value that is written; where it is refused, it is written again up to there for the path. */
-function canonicalOf(library, value, output, given) {
-    try {
-        return canonicalBytes(library, output.bytes.subarray(0, output.length), given);
-    } catch (error) {
-        if (!(error instanceof Refused)) throw error;
-        const path = write(value, new Output(library), given, error.place);
-        throw new Refused(error.reason, error.place, error.read, { path });
     }
 }
 
@@ -39,29 +30,35 @@ class Container {
     }
 }
 
-/**
- * Writes a value, in a loop. Beyond the limits it stops: the module refuses what is written so far as it would the
- * whole. With `stop`, it returns the path to the item that begins at that offset.
- */
-function write(value, output, { depth, maxBytes }, stop) {
-    const open = [];
+const ARRAY = 'array';
+const MAP = 'map';
+const TAG = 'tag';
+
+/** Writes a value, in a loop. Beyond the limits it stops: the module refuses what is written so far as it would the whole. */
+function write(value, output, { depth, maxBytes }) {
+    const open = [], most = Number(maxBytes);
+    let around = new Container(undefined, undefined, 0);
     for (let item = value; ;) {
-        if (output.length === stop) return pathOf(open);
-        const container = put(item, output, open);
-        if (container) open.push(container);
-        if (open.length > depth || output.length > maxBytes) return undefined;
-        while (open.length && open.at(-1).at === open.at(-1).count) open.pop();
-        if (!open.length) return undefined;
-        const around = open.at(-1), index = around.at++;
-        item = around.members[index];
-        const isHole = item === undefined && around.kind === 'array' && !(index in around.members);
-        if (isHole) throw problem(open, 'the array has a hole');
+        const inner = put(item, output, open);
+        if (output.length > most) return;
+        if (inner !== undefined) {
+            open.push(inner);
+            if (open.length > depth) return;
+            around = inner;
+        }
+        while (around.at === around.count) {
+            open.pop();
+            if (open.length === 0) return;
+            around = open[open.length - 1];
+        }
+        item = around.members[around.at++];
+        if (item === undefined && isHole(around)) throw problem(open, 'the array has a hole');
     }
 }
 
-const WIDEST = 1n << 64n;
+const isHole = ({ kind, members, at }) => kind === ARRAY && !(at - 1 in members);
 
-const hasLoneSurrogate = text => (text.isWellFormed ? !text.isWellFormed() : /\p{Surrogate}/u.test(text));
+const WIDEST = 1n << 64n;
 
 /** Writes the head of an item and a string's bytes; returns what then is open. */
 function put(item, output, open) {
@@ -75,30 +72,25 @@ function put(item, output, open) {
         output.head(item < 0n ? 1 : 0, item < 0n ? -1n - item : item);
         return undefined;
     case 'string':
-        if (hasLoneSurrogate(item)) throw problem(open, 'the string has a lone surrogate, so it has no UTF-8');
-        output.text(item);
+        if (!output.text(item)) throw problem(open, 'the string has a lone surrogate, so it has no UTF-8');
         return undefined;
     case 'boolean': output.head(7, item ? 21 : 20); return undefined;
     case 'undefined': output.head(7, 23); return undefined;
     case 'object': return item === null ? output.head(7, 22) : putObject(item, output, open);
-    default: throw problem(open, `a ${typeof item} has no CBOR`);
+    default: throw problem(open, `a ${typeof item} cannot be encoded`);
     }
 }
 
 function putObject(item, output, open) {
-    if (Array.isArray(item)) return opened('array', 4, item, item.length, output);
-    if (typeOf.call(item) === 'Uint8Array') return output.byteString(item);
-    if (item instanceof Tag) {
-        const { number, content } = new Tag(item.number, item.content);
-        return opened(`(${number})`, 6, [content], 1, output, number);
-    }
-    if (item instanceof Simple) return output.head(7, item.number);
+    if (Array.isArray(item)) return opened(ARRAY, 4, item, item.length, output);
+    if (typedArrayName(item) === 'Uint8Array') return byteString(item, output, open);
+    if (isPlain(item)) return objectOf(item, output, open);
+    if (item instanceof Tag) return tagOf(item, output, open);
+    if (item instanceof Simple) return simpleOf(item, output, open);
     if (isMap(item)) return mapOf(item, output);
-    if (isPlain(item)) {
-        if (Object.getOwnPropertySymbols(item).length) throw problem(open, 'the object has a symbol for a key');
-        return objectOf(item, output);
-    }
-    throw problem(open, `${nameOf(item)} has no CBOR; ${THESE_HAVE}`);
+    if (isPlainElsewhere(item)) return objectOf(item, output, open);
+    if (item instanceof Map) throw problem(open, 'the object inherits from Map, but is none; a Proxy of a Map cannot be encoded');
+    throw problem(open, `${nameOf(item)} cannot be encoded; ${INSTEAD}`);
 }
 
 function opened(kind, major, members, count, output, number = count) {
@@ -106,56 +98,111 @@ function opened(kind, major, members, count, output, number = count) {
     return new Container(kind, members, count);
 }
 
+function byteString(bytes, output, open) {
+    const { length } = output;
+    try {
+        return output.byteString(bytes);
+    } catch (error) {
+        if (!(error instanceof TypeError)) throw error;
+        output.length = length;
+        throw problem(open, 'the Uint8Array is detached: its memory is gone');
+    }
+}
+
+function tagOf({ number, content }, output, open) {
+    const why = problemOfTag(number);
+    if (why) throw problem(open, why);
+    return opened(TAG, 6, [content, number], 1, output, number);
+}
+
+function simpleOf({ number }, output, open) {
+    const why = problemOfSimple(number);
+    if (why) throw problem(open, why);
+    return output.head(7, number);
+}
+
 // Keys and values are read at once, so that they stay as many as the head says whatever a getter does later.
+// A property that is undefined is left out, as JSON.stringify leaves it out; a Map has each of its pairs.
 function mapOf(map, output) {
-    const members = [];
-    Map.prototype.forEach.call(map, (value, key) => members.push(key, value));
-    return opened('map', 5, members, members.length, output, members.length / 2);
+    const members = [], take = (value, key) => members.push(key, value);
+    if (map instanceof SortedMap) map.forEach(take);
+    else Map.prototype.forEach.call(map, take);
+    return opened(MAP, 5, members, members.length, output, members.length / 2);
 }
 
-function objectOf(object, output) {
-    const members = [];
-    for (const key of Object.keys(object)) members.push(key, object[key]);
-    return opened('map', 5, members, members.length, output, members.length / 2);
+function objectOf(object, output, open) {
+    if (Object.getOwnPropertySymbols(object).length > 0) throw problem(open, 'the object has a symbol for a key');
+    const names = Object.keys(object), members = new Array(2 * names.length);
+    let end = 0;
+    for (const name of names) {
+        const value = object[name];
+        if (value === undefined) continue;
+        insert(members, end, name, value);
+        end += 2;
+    }
+    return opened(MAP, 5, members, end, output, end / 2);
 }
 
-const typeOf = Object.getOwnPropertyDescriptor(Object.getPrototypeOf(Uint8Array.prototype), Symbol.toStringTag).get;
+const SORTED = 64;
 
-// Of any realm: a frame, or a test's sandbox, has a Map and an Object of its own.
-const isMap = item => item instanceof Map || Object.prototype.toString.call(item) === '[object Map]';
+/**
+ * Inserts a pair after those of shorter names and, of equal length, of lesser ones. In most objects that is the canonical
+ * order, and the module has nothing to move; if it is not, or the object is large, the module sorts the pairs.
+ */
+function insert(members, end, name, value) {
+    let at = end;
+    if (end < 2 * SORTED) {
+        for (; at > 0 && comesBefore(name, members[at - 2]); at -= 2) {
+            members[at] = members[at - 2];
+            members[at + 1] = members[at - 1];
+        }
+    }
+    members[at] = name;
+    members[at + 1] = value;
+}
+
+const comesBefore = (a, b) => (a.length === b.length ? a < b : a.length < b.length);
+
+const mapSize = Object.getOwnPropertyDescriptor(Map.prototype, 'size').get;
+
+/** Whether this is a Map, of any realm: a frame, or a test's sandbox, has a Map of its own. A Proxy of one is none. */
+function isMap(item) {
+    try {
+        mapSize.call(item);
+        return true;
+    } catch {
+        return false;
+    }
+}
 
 function isPlain(item) {
     const prototype = Object.getPrototypeOf(item);
-    if (prototype === null || prototype === Object.prototype) return true;
+    return prototype === Object.prototype || prototype === null;
+}
+
+function isPlainElsewhere(item) {
+    const prototype = Object.getPrototypeOf(item);
     return Object.getPrototypeOf(prototype) === null && Object.hasOwn(prototype, 'hasOwnProperty');
 }
 
 // ---- what is said of it
 
 const ofNumber = item => (Number.isInteger(item)
-    ? `${item} is no safe integer; write it as a bigint`
-    : `${item} is a float; write it as an integer, a text, or a tag over integers`);
+    ? `${item} is not a safe integer; write it as a bigint`
+    : `${item} is a float; write it as an integer, a text, or a tag that contains integers`);
 
-const THESE_HAVE = 'a Uint8Array, an array, a Map, a plain object, a Tag or a Simple has';
+const INSTEAD = 'make it a Uint8Array, an array, a Map, a plain object, a Tag or a Simple';
 
-const nameOf = item => `a ${item.constructor?.name || 'object without a constructor'}`;
+const nameOf = item => withArticle(item.constructor?.name || 'object without a constructor');
 
 const problem = (open, text) => new EncodeError(pathOf(open), text);
 
-function keyText(key, pair) {
-    if (typeof key === 'string') return JSON.stringify(key);
-    return typeof key === 'object' && key !== null ? `(key ${pair})` : String(key);
-}
-
-/** The path to the item that is next: `$` is the value, `[2]` a member of an array, `."a"` the value of a key. */
+/** The path to the item that is next. */
 function pathOf(open) {
-    let path = '$';
-    for (const { kind, members, at } of open) {
-        const pair = at - 1 >> 1;
-        if (kind === 'array') path += `[${at - 1}]`;
-        else if (kind !== 'map') path += kind;
-        else if (at % 2) path += `, key ${pair} of the map`;
-        else path += `.${keyText(members[at - 2], pair)}`;
-    }
-    return path;
+    return open.reduce((path, { kind, members, at }) => {
+        const pair = at + 1 >> 1;
+        if (kind === ARRAY) return path + memberStep(at - 1);
+        if (kind === TAG) return path + contentStep(members[1]);
+        return path + (at % 2 ? keyStep(pair) : valueStep(members[at - 2], pair));
+    }, '$');
 }

@@ -1,7 +1,7 @@
 import type { Naltvigo } from './load.js';
 
-export { EncodeError, Refused, Simple, Tag } from './load.js';
-export type { Bytes, Event, Options, ReadingOptions, Value } from './load.js';
+export { DecodeError, EncodeError, Refused, Simple, SortedMap, Tag } from './load.js';
+export type { Bytes, DecodingOptions, Event, ObjectValue, Options, ReadingOptions, Value } from './load.js';
 
 export const canonicalise: Naltvigo['canonicalise'];
 export const check: Naltvigo['check'];
@@ -10,6 +10,8 @@ export const decode: Naltvigo['decode'];
 export const diagnostic: Naltvigo['diagnostic'];
 export const encode: Naltvigo['encode'];
 export const events: Naltvigo['events'];
+export const freeMemory: Naltvigo['freeMemory'];
 export const items: Naltvigo['items'];
+export const readItems: Naltvigo['readItems'];
 export const same: Naltvigo['same'];
 export const version: Naltvigo['version'];

@@ -1,17 +1,31 @@
 // An instance of the module: its memory, the blocks of it that calls use, and what calls write there.
 //
-// A pointer, a size and a 64-bit number are a BigInt where they are passed, with 32-bit memory too. The views
-// of the memory end when it grows, so each is asked for again behind whatever may make it grow.
+// A pointer, a size and a 64-bit number are a BigInt where they are passed, with 32-bit memory too. The views of the
+// memory end when it grows, so each is read again after whatever may make it grow.
 import { outOfMemory, Refused } from './refused.js';
 import { NO_MEMORY, OK, REFUSED, TOO_SMALL } from './numbers.js';
 
 /** A uint64_t, as a number where that is a safe integer, and else as a bigint. */
-export function numberAt(words, offset) {
-    const high = words.getUint32(offset + 4, true);
-    return high < 0x200000 ? high * 0x100000000 + words.getUint32(offset, true) : words.getBigUint64(offset, true);
+export function numberOf(low, high) {
+    return high < 0x200000 ? high * 0x100000000 + low : BigInt(high) << 32n | BigInt(low);
 }
 
-/** A block of the module's memory, which grows as it must and is kept from call to call. */
+/** The uint64_t at an offset. */
+export const numberAt = (words, offset) => numberOf(words.getUint32(offset, true), words.getUint32(offset + 4, true));
+
+const IS_LITTLE_ENDIAN = new Uint8Array(Uint32Array.of(1).buffer)[0] === 1;
+
+/** Little-endian numbers of 32 bits at an offset; a copy if this machine is big-endian. */
+export function wordsAt(buffer, offset, count, isLittleEndian = IS_LITTLE_ENDIAN) {
+    if (isLittleEndian) return new Uint32Array(buffer, offset, count);
+    const view = new DataView(buffer, offset, 4 * count);
+    return Uint32Array.from({ length: count }, (_, i) => view.getUint32(4 * i, true));
+}
+
+const SMALLEST = 256;
+const TEXT = new TextDecoder('utf-8', { ignoreBOM: true });
+
+/** A block of the module's memory, which grows if it must and is reused from call to call. */
 class Block {
     constructor(instance) {
         this.instance = instance;
@@ -20,13 +34,13 @@ class Block {
         this.size = 0;
     }
 
-    /** Room for this many bytes; what was there may be lost. */
+    /** Space for this many bytes; what was there may be lost. Even for none there is a block: no pointer is null. */
     atLeast(count) {
-        if (count <= this.size) return this;
-        let size = 256;
+        if (this.size > 0 && count <= this.size) return this;
+        let size = SMALLEST;
         while (size < count) size *= 2;
         const { allocate, release } = this.instance.exports;
-        if (this.size) release(this.pointer);
+        if (this.size > 0) release(this.pointer);
         this.size = 0;
         this.pointer = allocate(BigInt(size));
         if (this.pointer === 0n) throw outOfMemory();
@@ -35,10 +49,11 @@ class Block {
         return this;
     }
 
+    /** Copies bytes here: where they are, and how many, as a number and as the module takes it. */
     put(bytes) {
         this.atLeast(bytes.length);
         this.instance.bytes().set(bytes, this.offset);
-        return this.pointer;
+        return { pointer: this.pointer, length: bytes.length, size: BigInt(bytes.length) };
     }
 }
 
@@ -52,9 +67,11 @@ const LONGEST_HEAD = 9n;
 export class Instance {
     #bytes;
     #words;
+    #putHead;
 
     constructor(instance) {
         this.exports = instance.exports;
+        this.#putHead = instance.exports.naltvigo_put_head_raw;
         /** False once a call did not return: its stack and its blocks are then as the trap left them. */
         this.isUsable = true;
         this.#refresh();
@@ -108,33 +125,63 @@ export class Instance {
         return status;
     }
 
-    /** How many units `call(pointer, space)` writes to a block; it is called again where they need more space. */
+    /** How many units `call(pointer, space)` writes to a block; -1 if the input is refused. */
     write(block, guess, call, unit = 1) {
         for (let space = guess; ;) {
             const { pointer, size } = block.atLeast(space * unit);
             const status = this.run(() => call(pointer, BigInt(Math.floor(size / unit))));
             if (status === OK) return this.firstResult();
+            if (status === REFUSED) return -1;
             if (status !== TOO_SMALL) throw this.failure(status);
             space = this.firstResult();
         }
     }
 
-    /** Writes the shortest head of a major type and a number or bigint to the bytes at an offset; its length. */
+    /** Writes the shortest head of a major type and a number or bigint to the bytes at an offset; returns its length. */
     putHead(major, number, bytes, offset) {
-        const { exports, head, first } = this, wide = BigInt(number);
-        const status = this.run(() => exports.naltvigo_put_head_raw(major, wide, head, LONGEST_HEAD, first));
+        const wide = BigInt(number);
+        this.isUsable = false;
+        const status = this.#putHead(major, wide, this.head, LONGEST_HEAD, this.first);
+        this.isUsable = true;
         if (status !== OK) throw this.failure(status);
-        const length = this.firstResult(), memory = this.bytes(), from = this.results + HEAD;
+        const memory = this.bytes(), length = memory[this.results], from = this.results + HEAD;
         for (let i = 0; i < length; i++) bytes[offset + i] = memory[from + i];
         return length;
     }
 
-    /** The error of a status that is not OK. */
-    failure(status, where) {
-        if (status === NO_MEMORY) return outOfMemory();
-        if (status !== REFUSED) return new Error(`naltvigo: a status that it does not have: ${status}`);
+    /** The error of a status that is neither OK nor REFUSED. */
+    failure(status) {
+        return status === NO_MEMORY ? outOfMemory() : new Error(`naltvigo: an unknown status: ${status}`);
+    }
+
+    /** The reason of the last refusal. */
+    reason() {
+        return this.words().getUint32(this.results + REFUSAL, true);
+    }
+
+    /**
+     * The error of a status that is not OK. Of a refused item `input` has the bytes, `{ pointer, length }`, as long as they
+     * are in the memory.
+     */
+    error(status, given, input, where) {
+        if (status !== REFUSED) return this.failure(status);
         const at = this.results + REFUSAL;
-        return new Refused(this.words().getUint32(at, true), this.count(at + 8), this.count(at + 16), where);
+        return this.refused(this.reason(), this.count(at + 8), this.count(at + 16), given, input, where);
+    }
+
+    /** The error of a refusal. Without `input` it has no path. */
+    refused(reason, offset, consumed, { depth, maxBytes }, input, where) {
+        const { exports, table, first } = this, pointer = input?.pointer ?? first, length = BigInt(input?.length ?? 0);
+        const named = exports.naltvigo_reason_name_raw(reason, table.atLeast(SMALLEST).pointer, BigInt(SMALLEST));
+        const reasonName = this.#text(table, Number(named));
+        const count = this.write(table, SMALLEST, (to, space) =>
+            exports.naltvigo_explain_raw(pointer, length, depth, maxBytes, reason, BigInt(offset), to, space, first));
+        const [sentence, advice, path] = this.#text(table, count).split('\n');
+        return new Refused(reason, offset, consumed, { reasonName, sentence, advice, path: input && path }, where);
+    }
+
+    #text({ offset }, length) {
+        return TEXT.decode(this.bytes().subarray(offset, offset + length));
     }
 }
 
@@ -150,7 +197,12 @@ export class Library {
 
     /** An instance that trapped, as where JavaScript's own stack was at its end, is never called again. */
     instance() {
-        if (!this.#instance.isUsable) this.#instance = new Instance(new WebAssembly.Instance(this.#module, {}));
+        if (!this.#instance?.isUsable) this.#instance = new Instance(new WebAssembly.Instance(this.#module, {}));
         return this.#instance;
+    }
+
+    /** Drops the instance with its memory; the next call makes another. */
+    freeMemory() {
+        this.#instance = undefined;
     }
 }

@@ -1,9 +1,17 @@
 // The calls over a module that the caller brings.
 
-/** A Uint8Array (a Buffer of Node's is one), another view, or an ArrayBuffer, shared or not. It is copied at once. */
+/** A Uint8Array (a Buffer of Node's is one), another view, or an ArrayBuffer, shared or not. */
 export type Bytes = ArrayBufferView | ArrayBuffer | SharedArrayBuffer;
 
-/** What each call takes beside its input; what it does not speak of, it leaves unread. */
+/** A ReadableStream of buffers. */
+export interface ByteStream {
+    getReader(): {
+        read(): Promise<{ done: boolean; value?: Bytes }>;
+        cancel(reason?: unknown): Promise<void>;
+    };
+}
+
+/** What each call takes besides its input. An option that does not concern a call is checked, and not used. */
 export interface Options {
     /** How deep arrays, maps and tags may nest: 0 to 1024, and 64 by default. */
     depth?: number;
@@ -20,9 +28,32 @@ export interface ReadingOptions extends Options {
     canonical?: boolean;
 }
 
+export interface DecodingOptions extends ReadingOptions {
+    /** What maps become: Maps by default, or plain objects, whose keys are texts. */
+    maps?: 'map' | 'object';
+}
+
 /** What `decode` returns, and the most exact type of what `encode` takes. */
 export type Value =
     | number | bigint | string | boolean | null | undefined | Uint8Array | Value[] | Map<Value, Value> | Tag | Simple;
+
+/** What `decode` returns with `maps: 'object'`. */
+export type ObjectValue =
+    | number | bigint | string | boolean | null | undefined | Uint8Array | ObjectValue[] | { [name: string]: ObjectValue }
+    | Tag | Simple;
+
+/**
+ * A Map that cannot be changed: `set`, `delete` and `clear` throw a TypeError. `decode` makes one of a map of more than
+ * 255 pairs if it has a key that engines hash by its value alone: an integer, or a text that begins with a digit. Its
+ * look-ups are by bisection, so that keys which a stranger has chosen cost no more than others. `new Map(sorted)` is an
+ * ordinary Map.
+ */
+export class SortedMap<K = Value, V = Value> extends Map<K, V> {
+    private constructor();
+    set(key: K, value: V): never;
+    delete(key: K): never;
+    clear(): never;
+}
 
 /** A tag's number, 0 to 2 ** 64 - 1, and its content. */
 export class Tag {
@@ -38,33 +69,42 @@ export class Simple {
     readonly number: number;
 }
 
-/** An input is refused: it is not what the call asks for. */
+/** An input is refused: it is not what the call requires. */
 export class Refused extends Error {
     private constructor();
     /** The number of the reason, as in naltvigo.h. */
     readonly reason: number;
     /** The name of the reason, as 'Float'. */
-    readonly name: string;
+    readonly reasonName: string;
     /** The offset of what is wrong, in bytes from the first one of the item. */
-    readonly place: number;
-    /** How many bytes were read. */
-    readonly read: number;
-    /** What the reason means, and what to do. */
+    readonly offset: number;
+    /** How many bytes of the item were read. */
+    readonly consumed: number;
+    /** What the reason means. */
     readonly sentence: string;
+    /** What to do about it. */
+    readonly advice: string;
+    /** The path to what is refused, as `$[1]."a"`; not of `events`, whose bytes are not kept. */
+    readonly path?: string;
     /** Of `same`: the input that is refused. */
     readonly side?: 'left' | 'right';
-    /** Of `items`: which item is refused, counted from 1. */
+    /** Of `items` and `readItems`: which item is refused, counted from 1. */
     readonly item?: number;
-    /** Of `items`: where the item begins that is refused. */
+    /** Of `items` and `readItems`: the offset of that item's first byte. */
     readonly start?: number;
-    /** Of `encode`: the path to what is refused, as `$."a"[2]`. */
-    readonly path?: string;
 }
 
-/** `encode` was given a value that has no CBOR here. */
+/** `encode` was given a value that cannot be encoded. */
 export class EncodeError extends TypeError {
     private constructor();
     /** The path to the value, as `$."a"[2]`. */
+    readonly path: string;
+}
+
+/** `decode` with `maps: 'object'` found a map with a key that is not a text, or a value that is undefined. */
+export class DecodeError extends TypeError {
+    private constructor();
+    /** The path to the key or value. */
     readonly path: string;
 }
 
@@ -77,30 +117,32 @@ export class EncodeError extends TypeError {
 export interface Event {
     kind: 'unsigned' | 'negative' | 'bytes' | 'text' | 'array' | 'map' | 'tag' | 'simple' | 'chunk' | 'piece' | 'break';
     /** The offset of its first byte, from the item's first one. */
-    place: number;
+    offset: number;
     /**
      * The argument: the number (a negative one is -1 less it), the tag, the simple value, or how many bytes, members or
-     * pairs there are. A bigint where it is no safe integer; undefined for an indefinite length and a break.
+     * pairs there are. A bigint if it is not a safe integer; undefined for an indefinite length and a break.
      */
     number: number | bigint | undefined;
-    /** How many bytes the argument has behind the first one: 0, 1, 2, 4 or 8; undefined as above. */
+    /** How many bytes the argument has after the first one: 0, 1, 2, 4 or 8; undefined as above. */
     width: number | undefined;
     /** The bytes of a piece, as a view of what was given. */
     data?: Uint8Array;
 }
 
 /**
- * The calls. Each of them throws a `RangeError` or `TypeError` for options that there are not, a `TypeError` for an input
- * that is no buffer, and a `RangeError` where the engine gives no more memory.
+ * The calls. Each of them throws a `RangeError` or `TypeError` for options that do not exist or are out of range, a
+ * `TypeError` for an input that is not a buffer, and a `RangeError` if the engine gives no more memory.
  */
 export interface Naltvigo {
     /**
-     * The canonical bytes of a value. Throws `EncodeError` for a value without CBOR, and `Refused` for equal keys and
-     * beyond the limits.
+     * The canonical bytes of a value. A property that is undefined is left out. Throws `EncodeError` for a value that
+     * cannot be encoded, and `Refused` for equal keys and beyond the limits.
      */
     encode(this: void, value: unknown, options?: Options): Uint8Array;
     /** The value of the one valid item that the input is; else throws `Refused`. The pairs of a Map are in canonical order. */
-    decode(this: void, data: Bytes, options?: ReadingOptions): Value;
+    decode(this: void, data: Bytes, options: DecodingOptions & { maps: 'object' }): ObjectValue;
+    decode(this: void, data: Bytes, options?: ReadingOptions & { maps?: 'map' }): Value;
+    decode(this: void, data: Bytes, options?: DecodingOptions): Value | ObjectValue;
     /** The canonical bytes of the one valid item that the input is, in any encoding; else throws `Refused`. */
     canonicalise(this: void, data: Bytes, options?: Options): Uint8Array;
     /** Returns if the input is one valid item, in any encoding; else throws `Refused`. */
@@ -111,13 +153,22 @@ export interface Naltvigo {
     same(this: void, left: Bytes, right: Bytes, options?: Options): boolean;
     /** The diagnostic text (RFC 8949, section 8) of the one valid item that the input is, its pairs in their order. */
     diagnostic(this: void, data: Bytes, options?: Options): string;
-    /** The items of a sequence (RFC 8742), as views of the input. Throws `Refused` behind the last one that is valid. */
+    /** The items of a sequence (RFC 8742), as views of the input. Throws `Refused` after the last one that is valid. */
     items(this: void, data: Bytes, options?: ReadingOptions): Generator<Uint8Array, void, undefined>;
     /**
-     * The events of the one item whose bytes come in these chunks. Form alone is judged: neither UTF-8, nor repeated
-     * keys. Throws `Refused` behind the events before what is wrong.
+     * The items of a sequence whose bytes come in chunks, each as soon as it is complete. An item that is whole in a
+     * chunk is a view of it. Throws `Refused` after the last one that is valid.
+     */
+    readItems(
+        this: void, chunks: AsyncIterable<Bytes> | Iterable<Bytes> | ByteStream, options?: ReadingOptions,
+    ): AsyncGenerator<Uint8Array, void, undefined>;
+    /**
+     * The events of the one item whose bytes come in these chunks. Only its form is judged: neither UTF-8, nor repeated
+     * keys. Throws `Refused` after the events before what is wrong.
      */
     events(this: void, chunks: Bytes | Iterable<Bytes>, options?: Options): Generator<Event, void, undefined>;
+    /** Gives back the memory of the module, which else grows to what the largest call needs. The next call takes new memory. */
+    freeMemory(this: void): void;
     /** The version of the library, as '2.0.0'. */
     version(this: void): string;
 }
@@ -125,7 +176,13 @@ export interface Naltvigo {
 /** Whether this engine takes naltvigo64.wasm; naltvigo32.wasm is for the others. */
 export function hasMemory64(): boolean;
 
-/** The calls, over naltvigo64.wasm or naltvigo32.wasm: its bytes, a WebAssembly.Module, a Response, or a promise of one. */
+/**
+ * The calls, over naltvigo64.wasm or naltvigo32.wasm: its bytes, a WebAssembly.Module, a Response, or a promise of one.
+ * A Response without success is an Error.
+ */
 export function load(source: ModuleSource | PromiseLike<ModuleSource>): Promise<Naltvigo>;
+
+/** The same at once, where nothing may be awaited; a browser's main thread compiles small modules alone so. */
+export function loadSync(source: Bytes | WebAssembly.Module): Naltvigo;
 
 export type ModuleSource = Bytes | WebAssembly.Module | { arrayBuffer(): Promise<ArrayBuffer> };

@@ -1,19 +1,20 @@
-// What is given beside an input.
+// What is given besides an input.
 import { DEPTH_MAX } from './numbers.js';
 
 const BYTES_MAX = 1n << 62n;
 const ORDERS = new Map([['bytewise', 0], ['length', 1]]);
 const KEYS = new Map([['any', 0], ['basic', 1]]);
+const MAPS = new Map([['map', false], ['object', true]]);
 
-const DEFAULTS = Object.freeze({ order: 0, keys: 0, depth: 64, maxBytes: 1n << 20n, canonical: false });
+const DEFAULTS = Object.freeze({ order: 0, keys: 0, depth: 64, maxBytes: 1n << 20n, canonical: false, asObjects: false });
 
 const wrongType = (name, types, value) => new TypeError(`naltvigo: ${name} is ${types}, and not ${typeof value}`);
 const outOfRange = (name, range, value) => new RangeError(`naltvigo: ${name} is ${range}, and not ${String(value)}`);
 
-function numberOf(numbers, name, value) {
-    const number = numbers.get(value);
-    if (number === undefined) throw outOfRange(name, [...numbers.keys()].map(it => `'${it}'`).join(' or '), value);
-    return number;
+function choiceOf(choices, name, value) {
+    const chosen = choices.get(value);
+    if (chosen === undefined) throw outOfRange(name, [...choices.keys()].map(it => `'${it}'`).join(' or '), value);
+    return chosen;
 }
 
 function depthOf(depth) {
@@ -41,8 +42,8 @@ export function settings(options) {
     const { order = 'bytewise', keys = 'any', depth = 64, maxBytes = 1 << 20, ...others } = options;
     for (const name of Object.keys(others)) throw new TypeError(`naltvigo: there is no option ${name}`);
     return {
-        order: numberOf(ORDERS, 'order', order),
-        keys: numberOf(KEYS, 'keys', keys),
+        order: choiceOf(ORDERS, 'order', order),
+        keys: choiceOf(KEYS, 'keys', keys),
         depth: depthOf(depth),
         maxBytes: maxBytesOf(maxBytes),
     };
@@ -57,14 +58,10 @@ export function settingsOfReading(options) {
     return { ...settings(others), canonical };
 }
 
-// Of any realm, as views are.
-const ARRAY_BUFFERS = ['[object ArrayBuffer]', '[object SharedArrayBuffer]'];
-const isArrayBuffer = data => ARRAY_BUFFERS.includes(Object.prototype.toString.call(data));
-
-/** The bytes of a Uint8Array, of another view, or of an ArrayBuffer; no copy. */
-export function bytesOf(data) {
-    if (data instanceof Uint8Array) return data;
-    if (ArrayBuffer.isView(data)) return new Uint8Array(data.buffer, data.byteOffset, data.byteLength);
-    if (isArrayBuffer(data)) return new Uint8Array(data);
-    throw wrongType('the input', 'a Uint8Array or another buffer', data);
+/** The same, and `maps`. */
+export function settingsOfDecoding(options) {
+    if (options === undefined) return DEFAULTS;
+    requireObject(options);
+    const { maps = 'map', ...others } = options;
+    return { ...settingsOfReading(others), asObjects: choiceOf(MAPS, 'maps', maps) };
 }

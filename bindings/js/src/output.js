@@ -1,81 +1,128 @@
-// Bytes that are written one behind another, the heads of items by the module.
+// Bytes that are written one after another, the heads of items by the module.
+import { GrowingBytes } from './growing.js';
 
 // Of the bytes themselves, whatever a subclass says.
 const lengthOf = Object.getOwnPropertyDescriptor(Object.getPrototypeOf(Uint8Array.prototype), 'length').get;
 const TEXT = new TextEncoder();
-const KEPT = 4096;
-const SHORT = 64;
+const KEPT = 1 << 16;
+const SHORT = 64; // characters
+const short = new Uint8Array(3 * SHORT);
+const LONGEST_HEAD = 9;
 
-/** Bytes that grow. One output is kept for the next call; a getter of a value may call `encode` meanwhile. */
-export class Output {
+// The heads of small numbers, each as the module wrote it the first time: its length, and its two bytes.
+const SMALL = 256;
+const known = new Uint32Array(8 * SMALL);
+
+/** What is written. One output is kept for the next call; a getter of a value may call `encode` meanwhile. */
+export class Output extends GrowingBytes {
     static #spare;
 
-    constructor(library) {
-        this.library = library;
-        this.bytes = new Uint8Array(KEPT);
-        this.length = 0;
+    constructor() {
+        super(KEPT);
     }
 
-    static lent(library) {
-        const output = Output.#spare ?? new Output(library);
+    /** `maxBytes` is the limit; of a string that goes beyond it no more is written than shows that it does. */
+    static lent(library, maxBytes) {
+        const output = Output.#spare ?? new Output();
         Output.#spare = undefined;
-        output.library = library;
-        output.length = 0;
-        return output;
+        return output.begin(library, maxBytes);
+    }
+
+    begin(library, maxBytes) {
+        this.library = library;
+        this.length = 0;
+        this.most = Number(maxBytes) + 1;
+        return this;
     }
 
     giveBack() {
+        this.library = undefined;
         if (this.bytes.length === KEPT) Output.#spare = this;
     }
 
-    /** Room for so many bytes more. */
-    reserve(count) {
-        if (this.length + count <= this.bytes.length) return;
-        const bytes = new Uint8Array(Math.max(this.length + count, 2 * this.bytes.length));
-        bytes.set(this.bytes.subarray(0, this.length));
-        this.bytes = bytes;
+    /** The bytes that were written, no more than one beyond the limit. */
+    written() {
+        return this.bytes.subarray(0, Math.min(this.length, this.most));
     }
 
+    /** Writes the head of a major type and a number or bigint. */
     head(major, number) {
-        this.reserve(9);
+        if (this.length + LONGEST_HEAD > this.bytes.length) this.reserve(LONGEST_HEAD);
+        if (typeof number === 'bigint' || number >= SMALL) this.#newHead(major, number);
+        else this.#smallHead(major, number);
+    }
+
+    #newHead(major, number) {
         this.length += this.library.instance().putHead(major, number, this.bytes, this.length);
     }
 
+    #smallHead(major, number) {
+        const { bytes, length } = this, index = major * SMALL + number, head = known[index];
+        if (head === 0) {
+            this.#newHead(major, number);
+            known[index] = this.length - length << 16 | bytes[length] << 8 | bytes[length + 1];
+        } else {
+            bytes[length] = head >> 8 & 255;
+            bytes[length + 1] = head & 255; // of a head of one byte this byte is written over
+            this.length = length + (head >> 16);
+        }
+    }
+
     byteString(bytes) {
-        const count = lengthOf.call(bytes);
+        const count = lengthOf.call(bytes), shown = Math.min(count, this.most);
         this.head(2, count);
-        this.reserve(count);
-        this.bytes.set(bytes, this.length);
-        this.length += count;
+        this.reserve(shown);
+        this.bytes.set(shown < count ? Uint8Array.prototype.subarray.call(bytes, 0, shown) : bytes, this.length);
+        this.length += shown;
     }
 
+    /** Writes a text; false if it has a lone surrogate, so that it has no UTF-8. */
     text(text) {
-        if (text.length > SHORT || !this.#ascii(text)) this.#utf8(text);
+        if (text.length <= SHORT && this.#ascii(text)) return true;
+        if (hasLoneSurrogate(text)) return false;
+        this.#utf8(text);
+        return true;
     }
 
-    /** Writes a short text of ASCII, since a call of the encoder costs more; false where it is none. */
+    /** Writes a short text of ASCII, since a call of the encoder costs more; false if it is none. */
     #ascii(text) {
         const begin = this.length, count = text.length;
         this.head(3, count);
         this.reserve(count);
+        const { bytes, length } = this;
         for (let i = 0; i < count; i++) {
             const code = text.charCodeAt(i);
             if (code > 127) {
                 this.length = begin;
                 return false;
             }
-            this.bytes[this.length + i] = code;
+            bytes[length + i] = code;
         }
-        this.length += count;
+        this.length = length + count;
         return true;
     }
 
-    /** The head of a text has the length in UTF-8, so the text is written behind it first, and then moved. */
+    /** The head of a text has the length in UTF-8, so the text is written elsewhere first, and then copied. */
     #utf8(text) {
-        this.reserve(9 + 3 * text.length);
-        const from = this.length + 9, { written } = TEXT.encodeInto(text, this.bytes.subarray(from));
-        this.head(3, written);
+        if (text.length <= SHORT) {
+            const { written } = TEXT.encodeInto(text, short);
+            this.head(3, written);
+            this.reserve(written);
+            for (let i = 0; i < written; i++) this.bytes[this.length + i] = short[i];
+            this.length += written;
+        } else {
+            this.#longText(text);
+        }
+    }
+
+    #longText(text) {
+        const shown = text.length > this.most ? text.slice(0, this.most) : text;
+        this.reserve(LONGEST_HEAD + 3 * shown.length);
+        const from = this.length + LONGEST_HEAD, { written } = TEXT.encodeInto(shown, this.bytes.subarray(from));
+        this.head(3, shown === text ? written : text.length);
         this.bytes.copyWithin(this.length, from, from + written);
         this.length += written;
     }
 }
+
+const hasLoneSurrogate = text => (text.isWellFormed ? !text.isWellFormed() : /\p{Surrogate}/u.test(text));

@@ -1,17 +1,18 @@
-import { REASONS } from './reasons.js';
+import { sharedByCopies } from './copies.js';
 
-/** An input is refused: it is not what the call asks for. `name` is that of the reason, as in naltvigo.h. */
+/** An input is refused: it is not what the call requires. `texts` come from the module. */
 export class Refused extends Error {
-    /** @param where for `same` `{ side }`, for `items` `{ item, start }`, for `encode` `{ path }` */
-    constructor(reason, place, read, where = {}) {
-        const [name, meaning, advice] = REASONS[reason];
-        const { side, item, start, path } = where;
+    /** @param where for `same` `{ side }`, for `items` `{ item, start }` */
+    constructor(reason, offset, consumed, texts, where = {}) {
+        const { reasonName, sentence, advice, path } = texts, { side, item, start } = where;
         const of = side ? `${side} ` : item ? `item ${item} ` : '';
-        const sentence = `${meaning} ${advice}`;
-        super(`${of}refused ${reason} ${name} at ${path ?? place}: ${sentence}`);
-        Object.assign(this, { reason, name, place, read, sentence, side, item, start, path });
+        const at = path === undefined || path === '$' ? offset : `${offset} (${path})`;
+        super(`${of}refused ${reason} ${reasonName} at ${at}: ${sentence} ${advice}`);
+        Object.assign(this, { reason, reasonName, offset, consumed, sentence, advice, path, side, item, start });
     }
 }
+Object.defineProperty(Refused.prototype, 'name', { value: 'Refused', writable: true, configurable: true });
+sharedByCopies(Refused, 'Refused');
 
 /** The error of a call to which the engine gave no more memory. The call may be tried again. */
 export const outOfMemory = () => new RangeError('naltvigo: out of memory');

@@ -1,5 +1,6 @@
-// What is given beside an input, and the errors.
+// What is given besides an input, and the errors.
 import assert from 'node:assert/strict';
+import { readFileSync } from 'node:fs';
 import { test } from 'node:test';
 import {
     canonicalise, check, checkCanonical, decode, diagnostic, encode, events, items, Refused, same, version,
@@ -33,28 +34,80 @@ test('options out of range, of another type, or not known', () => {
     for (const call of [decode, items]) assert.throws(() => call(ZERO, { canonical: 1 }), TypeError);
 });
 
-test('an input that is no buffer', () => {
+test('an input that is not a buffer', () => {
     for (const data of [undefined, null, '00', 0, {}, () => 0]) {
         for (const call of OF_ONE) assert.throws(() => call(data), TypeError);
         assert.throws(() => same(ZERO, data), TypeError);
         assert.throws(() => same(data, ZERO), TypeError);
     }
-    assert.throws(() => canonicalise([0]), TypeError);
+    for (const [data, kind] of [[null, 'null'], [undefined, 'undefined'], ['00', 'a string'], [[0], 'an object']]) {
+        assert.throws(() => canonicalise(data), { name: 'TypeError', message: `naltvigo: the input is a Uint8Array or another buffer, not ${kind}` });
+    }
     assert.throws(() => events(0), TypeError);
     assert.throws(() => [...events([0])], TypeError);
     assert.throws(() => [...events('00')], TypeError);
 });
 
-test('a refusal has its reason, name, place, count of bytes read and sentence', () => {
+test('a refusal has its reason, its name, an offset, how many bytes were consumed, and a sentence', () => {
     assert.throws(() => checkCanonical(bytes('1800')), error => {
         assert.ok(error instanceof Refused && error instanceof Error && !(error instanceof TypeError));
-        const { reason, name, place, read, sentence, side, item, start, path } = error;
-        assert.deepEqual({ reason, name, place, read }, { reason: 14, name: 'NotShortest', place: 0, read: 2 });
-        assert.match(sentence, /^A number or a length .*\. canonicalise writes the item in canonical bytes\.$/);
-        assert.equal(error.message, `refused 14 NotShortest at 0: ${sentence}`);
-        assert.deepEqual([side, item, start, path], [undefined, undefined, undefined, undefined]);
+        const { name, reason, reasonName, offset, consumed, sentence, advice, side, item, start, path } = error;
+        assert.deepEqual([name, reason, reasonName, offset, consumed], ['Refused', 14, 'NotShortest', 0, 2]);
+        assert.ok(String(error).startsWith('Refused: refused 14 NotShortest at 0: '));
+        assert.match(sentence, /^A number or a length .*\.$/);
+        assert.equal(error.message, `refused 14 NotShortest at 0: ${sentence} ${advice}`);
+        assert.deepEqual([side, item, start, path], [undefined, undefined, undefined, '$']);
         return true;
     });
+});
+
+const thrownBy = call => {
+    try {
+        call();
+    } catch (error) {
+        return error;
+    }
+    return assert.fail('nothing is thrown');
+};
+
+test('the sentence and the advice of each reason are those of the library', () => {
+    const source = readFileSync(new URL('../../../crates/cbor_diag/src/sentences.rt', import.meta.url), 'utf8');
+    const texts = new Set([...source.matchAll(/"([^"\n]*)"/g)].map(found => found[1])), seen = new Set();
+    for (const [given, call] of [
+        ['19', check], ['4401', data => check(data, { maxBytes: 1 })], ['1c', check], ['1f', check], ['f90000', check], ['f800', check], ['ff', check],
+        ['7f4100ff', check], ['8180', data => check(data, { depth: 1 })], ['61ff', check], ['a201000100', check], ['0000', check],
+        [`9f${'00'.repeat(256)}ff`, data => canonicalise(data, { maxBytes: 258 })], ['1800', checkCanonical], ['9fff', checkCanonical],
+        ['a201000000', checkCanonical], ['a140f6', data => check(data, { keys: 'basic' })],
+    ]) {
+        const { reason, reasonName, sentence, advice } = thrownBy(() => call(bytes(given)));
+        assert.ok(texts.has(sentence) && texts.has(advice) && sentence !== advice, `${given}: ${sentence} ${advice}`);
+        assert.match(advice, /^(Check|Raise|The input may|Encode|End|Remove|Read|If) /i);
+        assert.ok(source.includes(`Reason::${reasonName}`));
+        seen.add(reason);
+    }
+    assert.deepEqual([...seen].sort((a, b) => a - b), [...Array(16).keys()].map(i => i + 1).concat(20));
+});
+
+test('each call that refuses says the path', () => {
+    const given = bytes('82a1000082d863f9000000'), path = '$[1][0](99)';
+    const late = bytes('82a1000081a200010002'), key = '$[1][0], key 2 of the map at 5';
+    for (const call of [canonicalise, check, decode, diagnostic, data => decode(data, { canonical: true }), data => decode(data, { maps: 'object' })]) {
+        assert.deepEqual([thrownBy(() => call(given)).offset, thrownBy(() => call(given)).path], [7, path]);
+    }
+    for (const call of [canonicalise, check, checkCanonical, decode, diagnostic]) assert.equal(thrownBy(() => call(late)).path, key);
+    assert.ok(thrownBy(() => check(late)).message.startsWith(`refused 11 RepeatedKey at 8 (${key}): This key `));
+    for (const [left, right, side] of [[given, ZERO, 'left'], [ZERO, given, 'right']]) {
+        const error = thrownBy(() => same(left, right));
+        assert.deepEqual([error.side, error.path], [side, path]);
+    }
+    const sequence = Uint8Array.from([...bytes('6161'), ...given]), error = thrownBy(() => [...items(sequence)]);
+    assert.deepEqual([error.item, error.start, error.offset, error.path], [2, 2, 7, path]);
+    assert.equal(thrownBy(() => [...events(given)]).path, undefined);
+    assert.match(thrownBy(() => [...events(given)]).sentence, /floating/);
+    assert.match(thrownBy(() => [...events(bytes('0000'))]).sentence, /a byte follows/);
+    // of a path that is longer than there is space for at first
+    const deep = `${'a163616263'.repeat(60)}f9`;
+    assert.equal(thrownBy(() => check(bytes(deep))).path, `$${'."abc"'.repeat(60)}`);
 });
 
 test('the version is that of the package', async () => {
@@ -62,7 +115,7 @@ test('the version is that of the package', async () => {
     assert.equal(version(), own);
 });
 
-test('an answer that is longer than its input, and texts that are', () => {
+test('a result that is longer than its input, and texts that are', () => {
     // an array of indefinite length with 65,536 members: its definite head has five bytes
     const data = new Uint8Array(65538).fill(0);
     data[0] = 0x9f;

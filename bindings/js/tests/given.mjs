@@ -1,4 +1,4 @@
-// What the tests share: the package as Node takes it, hex digits, answers, and numbers that are the same in every run.
+// What the tests share: the package as Node loads it, hex digits, results, and numbers that are the same in every run.
 import { execFileSync } from 'node:child_process';
 import { fileURLToPath } from 'node:url';
 import { Refused } from 'naltvigo';
@@ -9,13 +9,13 @@ export const { rows, pairs, events } = JSON.parse(execFileSync('python3', [scrip
 export const bytes = hex => Uint8Array.from(hex.match(/../g) ?? [], digits => parseInt(digits, 16));
 export const hex = given => Buffer.from(given).toString('hex');
 
-/** What a call answers, or its refusal as three numbers. */
+/** What a call returns, or its refusal as three numbers. */
 export function answerOf(call) {
     try {
         return call();
     } catch (error) {
         if (!(error instanceof Refused)) throw error;
-        return [error.reason, error.place, error.read];
+        return [error.reason, error.offset, error.consumed];
     }
 }
 

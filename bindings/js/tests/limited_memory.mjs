@@ -1,4 +1,4 @@
-// A module whose memory may not grow beyond so many pages of 64 KiB.
+// A module whose memory may not grow beyond a number of pages of 64 KiB.
 
 /** A number in LEB128 at an offset, and where it ends. */
 function leb128(bytes, at) {
@@ -15,7 +15,7 @@ function toLeb128(number) {
 
 const MEMORY_SECTION = 5;
 
-/** The module's bytes with a maximum for its memory: as many pages as it begins with, and so many more. */
+/** The module's bytes with a maximum for its memory: the pages that it begins with, and this many more. */
 export function limitedMemory(bytes, morePages) {
     for (let at = 8; at < bytes.length;) {
         const [size, content] = leb128(bytes, at + 1), end = content + size;

@@ -9,7 +9,7 @@ import { limitedMemory } from './limited_memory.mjs';
 
 const wasm = readFileSync(new URL(`../wasm/naltvigo${hasMemory64() ? 64 : 32}.wasm`, import.meta.url));
 
-/** A map of so many pairs, the greatest key first: canonicalise has to sort them. */
+/** A map of this many pairs, the greatest key first: canonicalise must sort them. */
 function unsorted(count) {
     const data = new Uint8Array(5 + 6 * count), view = new DataView(data.buffer);
     data[0] = 0xba;

@@ -1,4 +1,4 @@
-// Random inputs, as the native library answers them: fuzz/vectors.py wrote them to the file that VECTORS names.
+// Random inputs with the results of the native library: fuzz/vectors.py wrote them to the file that VECTORS names.
 import assert from 'node:assert/strict';
 import { readFileSync } from 'node:fs';
 import { test } from 'node:test';
@@ -9,17 +9,17 @@ const ORDERS = ['bytewise', 'length'];
 const KEYS = ['any', 'basic'];
 const file = process.env.VECTORS;
 
-/** The answer as the file has it; `more` makes of what a call returns what stands behind the status. */
+/** The result as the file has it; `more` makes what follows the status from what a call returns. */
 function answer(call, more = () => '-', refused = () => '-') {
     try {
         return `0 ${more(call())}`;
     } catch (error) {
         if (!(error instanceof Refused)) throw error;
-        return `1 ${error.reason} ${error.place} ${error.read} ${refused(error)}`;
+        return `1 ${error.reason} ${error.offset} ${error.consumed} ${refused(error)}`;
     }
 }
 
-test('each call answers as the native library', { skip: file ? false : 'VECTORS names no file' }, () => {
+test('each call returns what the native library returns', { skip: file ? false : 'VECTORS names no file' }, () => {
     let before = Uint8Array.of(0), count = 0;
     for (const line of readFileSync(file, 'utf8').trimEnd().split('\n')) {
         const [given, ...wanted] = line.split('|'), [order, keys, depth, maxBytes, digits] = given.split(' ');
@@ -34,7 +34,7 @@ test('each call answers as the native library', { skip: file ? false : 'VECTORS 
             answer(() => check(data, limits)),
             answer(() => checkCanonical(data, options)),
             answer(() => diagnostic(data, limits), text => Buffer.from(text).toString('hex')),
-            // of no input there are no items, where the library finds it cut off
+            // without input there are no items; the library reports that it is truncated
             ...(data.length ? [front({}), front({ canonical: true })] : wanted.slice(4, 6)),
             isSame === false ? '6 -' : compared,
         ];

@@ -1,28 +1,36 @@
-// The README's programs print what they say.
+// The README's programs print what they say, each as a file of a project that has the package: PROJECT, where it is
+// installed, or else a folder in which the package itself is linked.
 import assert from 'node:assert/strict';
-import * as fs from 'node:fs/promises';
+import { execFileSync } from 'node:child_process';
+import { existsSync, mkdirSync, mkdtempSync, readFileSync, rmSync, symlinkSync, writeFileSync } from 'node:fs';
+import { tmpdir } from 'node:os';
+import { join } from 'node:path';
 import { fileURLToPath } from 'node:url';
-import { inspect, format } from 'node:util';
-import { test } from 'node:test';
-import * as naltvigo from 'naltvigo';
-import * as loading from 'naltvigo/load';
+import { after, test } from 'node:test';
 
-const root = new URL('../', import.meta.url);
-const readFile = name => fs.readFile(fileURLToPath(new URL(name, root)));
-const MODULES = { naltvigo, 'naltvigo/load': loading, 'node:fs/promises': { readFile } };
-const AsyncFunction = (async () => {}).constructor;
-const shown = value => (typeof value === 'string' ? value : inspect(value, { breakLength: Infinity, compact: 10 }));
+const root = fileURLToPath(new URL('../', import.meta.url));
+const folder = mkdtempSync(join(process.env.PROJECT ?? tmpdir(), 'readme-'));
+after(() => rmSync(folder, { recursive: true }));
+if (!process.env.PROJECT) {
+    mkdirSync(join(folder, 'node_modules'));
+    symlinkSync(root, join(folder, 'node_modules/naltvigo'));
+}
 
-test('each program of the README', async () => {
-    const readme = await fs.readFile(new URL('README.md', root), 'utf8');
-    const programs = [...readme.matchAll(/^```js\n(.*?)^```$/gms)].map(found => found[1]);
-    assert.ok(programs.length >= 4);
-    for (const program of programs) {
-        const printed = [], log = (...values) => printed.push(format('%s', values.map(shown).join(' ')));
-        const body = program.replace(/^import (\{.*\}) from '(.*)';$/gm, "const $1 = modules['$2'];");
-        await new AsyncFunction('modules', 'console', body)(MODULES, { log });
-        const wanted = [...program.matchAll(/console\.log\(.*\); \/\/ (.*)$/gm)].map(found => found[1]);
+// node breaks long lines where it likes
+const spaced = text => text.replace(/\s+/g, ' ').trim();
+const isBuilt = !!process.env.PROJECT || existsSync(join(root, 'cjs'));
+
+test('each program of the README', () => {
+    const programs = [...readFileSync(join(root, 'README.md'), 'utf8').matchAll(/^```js\n(.*?)^```$/gms)].map(found => found[1]);
+    assert.ok(programs.length >= 7);
+    for (const [i, program] of programs.entries()) {
+        const isCommon = program.includes('require(');
+        if (isCommon && !isBuilt) continue; // prepack.mjs makes what it requires
+        const file = join(folder, `program${i}.${isCommon ? 'cjs' : 'mjs'}`);
+        writeFileSync(file, program);
+        const wanted = [...program.matchAll(/(?:console\.log\(.*\); |^)\/\/ (.*)$/gm)].map(found => found[1]);
         assert.ok(wanted.length > 0);
-        assert.deepEqual(printed, wanted);
+        const printed = execFileSync(process.execPath, [...process.execArgv, file], { encoding: 'utf8' });
+        assert.equal(spaced(printed), spaced(wanted.join('\n')));
     }
 });

@@ -83,7 +83,7 @@ test('pairs', () => {
         }
         assert.throws(call, error => {
             assert.ok(error instanceof Refused);
-            assert.deepEqual([error.side, error.reason, error.place, error.read], [answer, ...refusal]);
+            assert.deepEqual([error.side, error.reason, error.offset, error.consumed], [answer, ...refusal]);
             assert.ok(error.message.startsWith(`${answer} refused `));
             return true;
         });

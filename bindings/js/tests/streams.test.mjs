@@ -1,4 +1,4 @@
-// Items behind one another, and items in parts.
+// Sequences of items, and items in parts.
 import assert from 'node:assert/strict';
 import { test } from 'node:test';
 import { canonicalise, check, diagnostic, events, items, Refused } from 'naltvigo';
@@ -8,14 +8,14 @@ const NAMES = ['Truncated', 'TooLong', 'Reserved', 'NoIndefinite', 'Float', 'Bad
 const TRUNCATED = 1;
 const TRAILING = 12;
 
-/** The events as the tables write them, neighbouring pieces as one; and the refusal behind them. */
+/** The events as the tables write them, adjacent pieces as one; and the refusal after them. */
 function reported(chunks, data, options) {
     const found = [];
     let refusal;
     try {
         for (const event of events(chunks, options)) {
-            const { kind, place, number } = event;
-            const payload = kind === 'piece' ? hex(data.subarray(place, place + number)) : undefined;
+            const { kind, offset, number } = event;
+            const payload = kind === 'piece' ? hex(data.subarray(offset, offset + number)) : undefined;
             assert.equal(event.data && hex(event.data), payload);
             const last = found.at(-1);
             if (event.kind === 'piece' && last?.kind === 'piece') last.number += event.number;
@@ -23,10 +23,10 @@ function reported(chunks, data, options) {
         }
     } catch (error) {
         if (!(error instanceof Refused)) throw error;
-        refusal = [error.reason, error.place, error.read];
+        refusal = [error.reason, error.offset, error.consumed];
     }
     const nameOf = kind => (kind === 'break' ? 'end' : kind);
-    const words = found.map(({ place, kind, number = '-', width = '-' }) => `${place} ${nameOf(kind)} ${number} ${width}`);
+    const words = found.map(({ offset, kind, number = '-', width = '-' }) => `${offset} ${nameOf(kind)} ${number} ${width}`);
     return [words.join(' '), refusal];
 }
 
@@ -45,8 +45,8 @@ test('each row of the tables of events, however it is cut', () => {
     });
     const prefixes = tables.prefixes.map(row => [row, [TRUNCATED, row.given.length / 2, row.given.length / 2]]);
     const refused = tables.refused.map(row => {
-        const [name, place, read] = row.answer.split(' ');
-        return [row, [1 + NAMES.indexOf(name), Number(place), Number(read)]];
+        const [name, offset, consumed] = row.answer.split(' ');
+        return [row, [1 + NAMES.indexOf(name), Number(offset), Number(consumed)]];
     });
     for (const [{ given, events: wanted, depth, maxBytes }, refusal] of [...accepted, ...prefixes, ...refused]) {
         const data = bytes(given);
@@ -57,7 +57,7 @@ test('each row of the tables of events, however it is cut', () => {
 test('each text of the tables', () => {
     let count = 0;
     for (const { given, text } of tables.accepted) {
-        // some comments tell of a missing length, which values have not, or have the text in other words; and some
+        // some comments mention a missing length, which values do not have, or give the text in other words; and some
         // rows are well-formed alone
         if (/_|\.\.|U\+/.test(text) || answerOf(() => check(bytes(given), { depth: 256 }))) continue;
         assert.equal(diagnostic(bytes(given), { depth: 256 }), text, given);
@@ -66,7 +66,7 @@ test('each text of the tables', () => {
     assert.ok(count > 40, `${count} texts`);
 });
 
-test('refused and trailing bytes come behind the events before them', () => {
+test('refused and trailing bytes come after the events before them', () => {
     for (const [chunks, wanted, refusal] of [
         [[bytes('8201')], '0 array 2 0 1 unsigned 1 0', [1, 2, 2]],
         [[], '', [1, 0, 0]],
@@ -76,13 +76,16 @@ test('refused and trailing bytes come behind the events before them', () => {
         [[bytes('426162f6')], '0 bytes 2 0 1 piece 2 0', [12, 3, 3]],
         [[bytes('4361')], '0 bytes 3 0 1 piece 1 0', [1, 2, 2]],
     ]) assert.deepEqual(reported(chunks, Buffer.concat(chunks), {}), [wanted, refusal]);
+    for (const chunks of [[], [bytes('')], bytes(''), [bytes('00')]]) {
+        assert.deepEqual(answerOf(() => [...events(chunks, { maxBytes: 0 })]), answerOf(() => check(bytes(''), { maxBytes: 0 })));
+    }
 });
 
 test('a large payload is one piece a chunk, and its number is a number', () => {
     const data = new Uint8Array(100005).fill(7);
     data.set(bytes('5a000186a0'));
     const found = [...events([data.subarray(0, 60000), data.subarray(60000)])];
-    const parts = found.map(({ kind, place, number }) => [kind, place, number]);
+    const parts = found.map(({ kind, offset, number }) => [kind, offset, number]);
     assert.deepEqual(parts, [['bytes', 0, 100000], ['piece', 5, 59995], ['piece', 60000, 40005]]);
     assert.equal(found[1].data.buffer, data.buffer);
     assert.deepEqual([...events(bytes('1b001fffffffffffff'))][0].number, 2 ** 53 - 1);
@@ -95,7 +98,7 @@ test('many events, among other calls', () => {
     data.set(bytes('994e20'));
     let count = 0;
     for (const event of events(data)) {
-        assert.equal(event.place, count === 0 ? 0 : count + 2);
+        assert.equal(event.offset, count === 0 ? 0 : count + 2);
         if (count++ % 1000 === 0) assert.equal(hex(canonicalise(bytes('1800'))), '00');
     }
     assert.equal(count, 20001);
@@ -113,19 +116,19 @@ test('an item of 1,024 levels, however it is cut, and one level more', () => {
         for (const chunks of [[data], [...data].map(byte => Uint8Array.of(byte)), [data.subarray(0, 700), data.subarray(700)]]) {
             const found = [...events(chunks, { depth: 1024 })];
             assert.equal(found.length, heads + 1 + 1024 * end.length / 2);
-            assert.deepEqual(found.map(({ place }) => place), [...data.keys()]);
+            assert.deepEqual(found.map(({ offset }) => offset), [...data.keys()]);
         }
-        const more = bytes(`${opener.repeat(1025)}00${end.repeat(1025)}`), place = 1024 * opener.length / 2;
-        assert.deepEqual(answerOf(() => [...events(more, { depth: 1024 })]), [9, place, place + 1]);
+        const more = bytes(`${opener.repeat(1025)}00${end.repeat(1025)}`), offset = 1024 * opener.length / 2;
+        assert.deepEqual(answerOf(() => [...events(more, { depth: 1024 })]), [9, offset, offset + 1]);
     }
 });
 
-test('items refused behind those before them', () => {
+test('items refused after those before them', () => {
     const found = [];
     assert.throws(() => {
         for (const item of items(bytes('18006161ff'))) found.push(hex(item));
     }, error => {
-        assert.deepEqual([error.item, error.start, error.reason, error.place, error.read], [3, 4, 7, 0, 1]);
+        assert.deepEqual([error.item, error.start, error.reason, error.offset, error.consumed], [3, 4, 7, 0, 1]);
         assert.ok(error.message.startsWith('item 3 refused 7 StrayBreak at 0: '));
         return true;
     });
@@ -155,7 +158,7 @@ test('a long sequence, its items views of the input, among other calls', () => {
         i++;
     }
     assert.equal(i, 5000);
-    // the refusal of an item behind several rounds has its number and start
+    // the refusal of an item after several rounds has its number and start
     const cut = data.slice();
     const start = at - parts.at(-1).length;
     cut[start] = 0xff;

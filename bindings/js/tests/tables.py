@@ -1,4 +1,4 @@
-"""Prints the repository's tables of inputs and answers as JSON, for the tests in JavaScript: tests/tables.py"""
+"""Prints the repository's tables of inputs and results as JSON, for the tests in JavaScript: tests/tables.py"""
 
 import json
 import re

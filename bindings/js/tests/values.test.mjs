@@ -85,9 +85,24 @@ test('texts at every boundary of their heads, of one byte a character to four', 
     }
 });
 
+test('objects of any names in any order', () => {
+    const { below, from } = random(19), parts = ['a', 'b', 'B', 'é', '漢', '😀', '\uffff', '0', '1', 'zz', ''];
+    for (let turn = 0; turn < 500; turn++) {
+        const object = Object.create(null);
+        for (let i = below(80); i > 0; i--) object[from(parts) + from(parts) + from(parts)] = below(30);
+        for (const order of ['bytewise', 'length']) {
+            assert.equal(hex(encode(object, { order })), hex(encoded(new Map(Object.entries(object)), order)));
+        }
+    }
+    assert.throws(() => encode({ b: 0, aa: { '\ud800': 1, x: 5 } }), error => error.path === '$."aa", key 2 of the map');
+    const calls = [], note = name => ({ get: () => { calls.push(name); return 0; }, enumerable: true });
+    encode(Object.defineProperties({}, { bb: note('bb'), a: note('a'), c: note('c') }));
+    assert.deepEqual(calls, ['bb', 'a', 'c']);
+});
+
 test('objects, null prototypes, subclasses, and values of another realm', () => {
     assert.equal(hex(encode({ Fun: true, Amt: -2 })), 'a263416d74216346756ef5');
-    assert.equal(hex(encode(Object.assign(Object.create(null), { a: undefined }))), 'a16161f7');
+    assert.equal(hex(encode(Object.assign(Object.create(null), { a: null }))), 'a16161f6');
     assert.equal(hex(encode(JSON.parse('{"__proto__":1}'))), hex(encoded(new Map([['__proto__', 1]]))));
     assert.deepEqual(decode(encode(JSON.parse('{"__proto__":1}'))), new Map([['__proto__', 1]]));
     assert.equal(hex(encode(Buffer.from('ab'))), '426162');
@@ -97,7 +112,7 @@ test('objects, null prototypes, subclasses, and values of another realm', () => 
     assert.equal(hex(encode(there)), hex(encoded([new Map([['a', [Uint8Array.of(1, 2), new Map([[1, 'x']])]]]), new Map()])));
 });
 
-test('what has no CBOR is an EncodeError with a path', () => {
+test('what cannot be encoded is an EncodeError with a path', () => {
     class Point {}
     const hole = [1, , 3]; // eslint-disable-line no-sparse-arrays
     const cases = [
@@ -107,12 +122,12 @@ test('what has no CBOR is an EncodeError with a path', () => {
         [hole, '$[1]', /hole/], [Array(3), '$[0]', /hole/], [[[0, hole]], '$[0][1][1]', /hole/],
         [() => 0, '$', /function/], [Symbol('s'), '$', /symbol/], [new Date(), '$', /Date/], [/a/, '$', /RegExp/],
         [new Set(), '$', /Set/], [new Point(), '$', /Point/], [new Number(1), '$', /Number/],
-        [new Float64Array(1), '$', /Float64Array/], [new ArrayBuffer(1), '$', /ArrayBuffer/],
-        [new Uint8ClampedArray(1), '$', /Uint8ClampedArray/],
+        [new Float64Array(1), '$', /Float64Array/], [new ArrayBuffer(1), '$', / an ArrayBuffer cannot be encoded; make it a Uint8Array, /],
+        [new Uint8ClampedArray(1), '$', / a Uint8ClampedArray cannot be encoded; /],
         [{ [Symbol('s')]: 1 }, '$', /symbol/], [Promise.resolve(1), '$', /Promise/],
         [{ a: [0, { b: 1.5 }] }, '$."a"[1]."b"', /float/], [new Map([[1, new Tag(24, 1.5)]]), '$.1(24)', /float/],
-        [new Map([[0, 0], [1.5, 0]]), '$, key 1 of the map', /float/], [new Map([[[1], [2.5]]]), '$.(key 0)[0]', /float/],
-        [new Map([[new Tag(1, 1.5), 0]]), '$, key 0 of the map(1)', /float/],
+        [new Map([[0, 0], [1.5, 0]]), '$, key 2 of the map', /float/], [new Map([[[1], [2.5]]]), '$.(key 1)[0]', /float/],
+        [new Map([[new Tag(1, 1.5), 0]]), '$, key 1 of the map(1)', /float/],
         [new Map([[2n ** 60n, 0.1]]), '$.1152921504606846976', /float/],
     ];
     for (const [value, path, problem] of cases) {
@@ -128,23 +143,67 @@ test('what has no CBOR is an EncodeError with a path', () => {
 
 test('equal keys are refused, with the path of the second', () => {
     const cases = [
-        [new Map([[1, 'a'], [1n, 'b']]), '$, key 1 of the map'],
-        [[new Map([['x', 0], [[], 1], [[], 2]])], '$[0], key 2 of the map'],
-        [{ a: new Map([[new Tag(1, 0), 0], [new Map(), 1], [new Tag(1n, -0), 2]]) }, '$."a", key 2 of the map'],
+        [new Map([[1, 'a'], [1n, 'b']]), '$, key 2 of the map at 0'],
+        [[new Map([['x', 0], [[], 1], [[], 2]])], '$[0], key 3 of the map at 1'],
+        [{ a: new Map([[new Tag(1, 0), 0], [new Map(), 1], [new Tag(1n, -0), 2]]) }, '$."a", key 3 of the map at 3'],
     ];
     for (const [value, path] of cases) {
         assert.throws(() => encode(value), error => {
             assert.ok(error instanceof Refused);
-            assert.deepEqual([error.reason, error.name, error.path], [11, 'RepeatedKey', path]);
-            assert.ok(error.message.startsWith(`refused 11 RepeatedKey at ${path}: `));
+            assert.deepEqual([error.reason, error.reasonName, error.path], [11, 'RepeatedKey', path]);
+            assert.ok(error.message.startsWith(`refused 11 RepeatedKey at ${error.offset} (${path}): `));
             return true;
         });
     }
-    assert.throws(() => decode(bytes('a201000100')), error => {
-        assert.ok(error instanceof Refused);
-        assert.deepEqual([error.reason, error.place, error.path], [11, 3, undefined]);
-        return true;
-    });
+});
+
+test('each error of encode has the path of what is wrong', () => {
+    const tag = new Tag(1, 0), simple = Object.create(Simple.prototype), detached = new Uint8Array(9);
+    tag.number = -1;
+    structuredClone(detached, { transfer: [detached.buffer] });
+    const revoked = Proxy.revocable(new Map(), {});
+    revoked.revoke();
+    for (const [value, problem] of [
+        [tag, /a tag's number is 0 to/], [Object.assign(new Tag(1, 0), { number: 1.5 }), /safe integer/],
+        [Object.assign(new Tag(1, 0), { number: '1' }), /safe integer/], [Object.assign(new Tag(1, 0), { number: 2n ** 64n }), /0 to 2/],
+        [simple, /a simple value's number/], [new Proxy(new Map([[1, 2]]), {}), /a Proxy of a Map/],
+        [Object.create(Map.prototype), /inherits from Map/], [detached, /detached/],
+    ]) {
+        for (const [around, path] of [[value, '$'], [[0, { a: value }], '$[1]."a"'], [new Map([[1, 2], [3, value]]), '$.3']]) {
+            assert.throws(() => encode(around), error => {
+                assert.ok(error instanceof EncodeError, String(error));
+                assert.equal(error.path, path);
+                assert.match(error.message, problem);
+                return true;
+            });
+        }
+        assert.equal(hex(encode(['after', 1])), hex(encoded(['after', 1])));
+    }
+});
+
+test('a refusal has the path of the item that has the refused byte', () => {
+    for (const [value, options, path] of [
+        ['abc', { maxBytes: 2 }, '$'], ['abc', { maxBytes: 0 }, '$'], [5, { maxBytes: 0 }, '$'], [[1, 'abc'], { maxBytes: 4 }, '$[1]'],
+        [[1, 'abc', 2], { maxBytes: 6 }, '$[2]'], [{ a: [new Uint8Array(300)] }, { maxBytes: 9 }, '$."a"[0]'],
+        [new Map([['key', 0]]), { maxBytes: 2 }, '$, key 1 of the map at 0'], [new Map([[1, 'value']]), { maxBytes: 4 }, '$.1'],
+        [new Tag(1000, [1, 'x'.repeat(100)]), { maxBytes: 50 }, '$(1000)[1]'], [[[], 'é'.repeat(100)], { maxBytes: 100 }, '$[1]'],
+        [1000, { maxBytes: 2 }, '$'], [[2n ** 60n], { maxBytes: 4 }, '$[0]'], [[[[]]], { depth: 2 }, '$[0][0]'],
+    ]) {
+        assert.throws(() => encode(value, options), error => {
+            assert.ok(error instanceof Refused, String(error));
+            assert.equal(error.path, path);
+            return true;
+        });
+    }
+});
+
+test('a value is read once, whether it is refused or not', () => {
+    let calls = 0;
+    const once = { get a() { if (calls++ > 0) throw new RangeError('mine'); return new Map([[1, 0], [1n, 0]]); } };
+    assert.throws(() => encode([once]), error => error instanceof Refused && error.reason === 11 && error.path.startsWith('$[0]."a", key 2'));
+    let other = 0;
+    const changing = { get a() { return other++ > 0 ? 'short' : 'x'.repeat(100); } };
+    assert.throws(() => encode([changing], { maxBytes: 50 }), error => error instanceof Refused && error.reason === 2 && error.path === '$[0]."a"');
 });
 
 test('limits hold for what is encoded', () => {
@@ -157,7 +216,7 @@ test('limits hold for what is encoded', () => {
     assert.equal(hex(encode([[]], { depth: 2 })), '8180');
     refused([[]], { depth: 1 }, 9, '$[0]');
     refused([], { depth: 0 }, 9, '$');
-    refused(new Map([[[], 0]]), { depth: 1 }, 9, '$, key 0 of the map');
+    refused(new Map([[[], 0]]), { depth: 1 }, 9, '$, key 1 of the map at 0');
     const cycle = { a: [] };
     cycle.a.push(cycle);
     refused(cycle, undefined, 9);
@@ -166,7 +225,7 @@ test('limits hold for what is encoded', () => {
     refused(new Uint8Array(98), { maxBytes: 99 }, 2);
     refused(Array(1 << 20).fill(0), undefined, 2);
     refused(Array(1e7).fill('abc'), undefined, 2);
-    refused(new Map([[Uint8Array.of(1), 0]]), { keys: 'basic' }, 20, '$, key 0 of the map');
+    refused(new Map([[Uint8Array.of(1), 0]]), { keys: 'basic' }, 20, '$, key 1 of the map at 0');
     assert.equal(hex(encode({ b: 0, aa: 0 }, { order: 'length' })), 'a2616200626161' + '00');
     assert.equal(hex(encode(new Map([[-1, 0], [100, 0]]), { order: 'length' })), 'a22000186400');
 });
@@ -203,7 +262,7 @@ test('a value that changes while it is encoded gives the bytes of some value, an
     assert.throws(() => encode({ get a() { throw new RangeError('mine'); } }), /mine/);
     // a refusal of a nested call is that call's
     const twice = { get b() { return encode(new Map([[1, 0], [1n, 0]])); } };
-    assert.throws(() => encode([0, twice]), error => error.reason === 11 && error.path === '$, key 1 of the map');
+    assert.throws(() => encode([0, twice]), error => error.reason === 11 && error.path === '$, key 2 of the map at 0');
     assert.equal(hex(encode([1])), '8101');
     class Wrong extends Uint8Array { get length() { return 1000; } }
     assert.equal(hex(encode(new Wrong(2))), '420000');
@@ -228,6 +287,8 @@ test('Tag and Simple', () => {
     for (const number of [-1, 20, 21, 22, 23, 24, 31, 256, 1.5, '1', 1n, null, undefined]) {
         assert.throws(() => new Simple(number), /naltvigo: /);
     }
+    class Own extends Tag {}
+    assert.ok(new Own(1, 0) instanceof Tag && new Own(1, 0) instanceof Own && !(new Tag(1, 0) instanceof Own));
     const tag = new Tag(1, 0);
     tag.number = 1.5;
     assert.throws(() => encode(tag), /naltvigo: /);

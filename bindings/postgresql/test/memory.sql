@@ -1,4 +1,4 @@
--- The process of this session may take 32 MiB more than it has: a call that needs more fails, the session goes on, and the
+-- The process of this session may use 32 MiB more than it has: a call that needs more fails, the session continues, and the
 -- same call succeeds once memory is there.
 \pset tuples_only on
 \pset format unaligned
@@ -13,7 +13,7 @@ SELECT cbor_is_canonical(cbor_canonical('\x1800'));
 \! prlimit --pid $PID --as=unlimited
 SELECT length(cbor_canonical(map)) FROM held;
 
--- refusals and answers leave nothing behind
+-- refusals and results leave no memory allocated
 CREATE FUNCTION pg_temp.turns(count int) RETURNS int LANGUAGE plpgsql AS $$
 DECLARE refused int := 0;
 BEGIN

@@ -1,9 +1,9 @@
 """Random and damaged bytes through every call, best with an extension that a sanitizer watches.
 
-    fuzz_values.py [COUNT [SEED]]    so many inputs (100,000), from that seed (1)
+    fuzz_values.py [COUNT [SEED]]    COUNT inputs (100,000), from the seed SEED (1)
 
 Bytes that `check` accepts must come back from dumps(loads(..)) as canonicalise writes them; bytes that it refuses must be
-refused by loads for the same reason at the same place. A failure names the seed and the input.
+refused by loads for the same reason at the same offset. A failure names the seed and the input.
 """
 
 import random
@@ -13,7 +13,7 @@ import naltvigo
 from items import any_encoding, some_value
 from naltvigo import Refused
 
-# breaks, indefinite lengths, a reserved byte, lengths that are no input's, and keys that are equal in Python
+# breaks, indefinite lengths, a reserved byte, lengths that no input has, and keys that are equal in Python
 INSERTED = [bytes.fromhex(one) for one in ("ff", "9f", "bf", "7f", "1c", "5bffffffffffffffff", "bb00000000000000", "f5", "01")]
 
 
@@ -44,7 +44,7 @@ def outcome(call, *words, **options):
 
 
 def judge(data, options):
-    """What is wrong with the answers on this input, or None."""
+    """What is wrong with the results on this input, or None."""
     refusal = outcome(naltvigo.check, data, **options)
     value = outcome(naltvigo.loads, data, **options)
     if refusal is not None:

@@ -1,8 +1,8 @@
-"""Values at random, and their bytes as RFC 8949 describes them: what the tests hold the package against."""
+"""Random values, and their bytes as RFC 8949 describes them: what the tests compare the package with."""
 
 import itertools
 
-from naltvigo import FrozenDict, Simple, Tag, undefined
+from naltvigo import FrozenDict, FrozenList, Simple, Tag, undefined
 
 WIDTHS = ((24, 1), (25, 2), (26, 4), (27, 8))
 
@@ -27,9 +27,9 @@ def encoded(value, order="bytewise"):
         return head(2, len(value)) + value
     if isinstance(value, str):
         return head(3, len(value.encode())) + value.encode()
-    if isinstance(value, (list, tuple)):
+    if isinstance(value, (list, tuple, FrozenList)):
         return head(4, len(value)) + b"".join(encoded(one, order) for one in value)
-    if isinstance(value, dict):
+    if isinstance(value, (dict, FrozenDict)):
         by = (lambda pair: pair[0]) if order == "bytewise" else (lambda pair: (len(pair[0]), pair[0]))
         pairs = sorted(((encoded(k, order), encoded(v, order)) for k, v in value.items()), key=by)
         return head(5, len(value)) + b"".join(itertools.chain(*pairs))
@@ -66,7 +66,7 @@ def any_encoding(value, rng):
     if isinstance(value, Tag):
         return any_head(6, value.number, rng) + any_encoding(value.content, rng)
     kind, members = 4, [any_encoding(one, rng) for one in value]
-    if isinstance(value, dict):
+    if isinstance(value, (dict, FrozenDict)):
         pairs = list(value.items())
         rng.shuffle(pairs)
         kind, members = 5, [any_encoding(k, rng) + any_encoding(v, rng) for k, v in pairs]

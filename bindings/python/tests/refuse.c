@@ -1,5 +1,5 @@
 /* Refuses memory on purpose: loaded before a program, it refuses the n-th request from refuse_from(n, count) on, and
- * so many. Of Python with PYTHONMALLOC=malloc these are all its requests, and those of the library. */
+ * `count` of them. Of Python with PYTHONMALLOC=malloc these are all its requests, and those of the library. */
 #define _GNU_SOURCE
 #include <dlfcn.h>
 #include <stddef.h>
@@ -32,7 +32,7 @@ void *realloc(void *at, size_t size) {
     return is_refused() ? NULL : of_libc(at, size);
 }
 
-/* dlsym asks calloc for memory before it can say where calloc is. */
+/* dlsym calls calloc before it can find calloc. */
 void *calloc(size_t count, size_t size) {
     static char early[4096];
     static size_t used;

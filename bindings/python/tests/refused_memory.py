@@ -1,4 +1,4 @@
-"""Each request for memory of each call refused: the call raises MemoryError, or answers as ever, and can be made again.
+"""Each request for memory of each call refused: the call raises MemoryError, or returns as usual, and can be made again.
 
     cc -shared -fPIC -O1 refuse.c -o refuse.so -ldl
     LD_PRELOAD=./refuse.so PYTHONMALLOC=malloc python3 refused_memory.py
@@ -25,7 +25,7 @@ VALUE = {
     5: FrozenDict({1: 2}), 6: Encoded(b"\x9f\x01\xff"), 7: DEEP, 8: {n: str(n) for n in range(100)},
 }  # fmt: skip
 DATA = dumps(VALUE)
-SPELLED = b"\x9f" + DATA + b"\x7f\x61a\x61b\xff\xa2\xa1\0\0\0\xa1\x80\0\1\xff"
+STREAMED = b"\x9f" + DATA + b"\x7f\x61a\x61b\xff\xa2\xa1\0\0\0\xa1\x80\0\1\xff"
 
 
 class Table(dict):
@@ -33,7 +33,7 @@ class Table(dict):
 
 
 def call(function, *words, **options):
-    """A call to be made. It needs no frame of Python's: CPython answers SystemError where one is refused memory."""
+    """A call to be made. It needs no frame of Python's: CPython raises SystemError if memory for one is refused."""
     return function, words, options
 
 
@@ -42,16 +42,16 @@ CALLS = {
     "dumps of a subclass": call(dumps, Table(VALUE)),
     "dumps by default": call(dumps, [1, [2.5]], default=repr),
     "loads": call(loads, DATA),
-    "loads of other bytes": call(loads, SPELLED),
-    "loads of a copy": call(loads, bytearray(SPELLED)),
-    "canonicalise": call(naltvigo.canonicalise, SPELLED),
-    "check": call(naltvigo.check, memoryview(bytearray(SPELLED))[::1]),
+    "loads of other bytes": call(loads, STREAMED),
+    "loads of a copy": call(loads, bytearray(STREAMED)),
+    "canonicalise": call(naltvigo.canonicalise, STREAMED),
+    "check": call(naltvigo.check, memoryview(bytearray(STREAMED))[::1]),
     "check_canonical": call(naltvigo.check_canonical, DATA),
     "is_canonical": call(naltvigo.is_canonical, array.array("B", DATA)),
-    "same": call(naltvigo.same, SPELLED, bytearray(SPELLED)),
-    "diagnostic": call(naltvigo.diagnostic, SPELLED),
-    "item_ends": call(naltvigo.item_ends, SPELLED * 40),
-    "canonicalise_items": call(naltvigo.canonicalise_items, SPELLED * 40),
+    "same": call(naltvigo.same, STREAMED, bytearray(STREAMED)),
+    "diagnostic": call(naltvigo.diagnostic, STREAMED),
+    "item_ends": call(naltvigo.item_ends, STREAMED * 40),
+    "canonicalise_items": call(naltvigo.canonicalise_items, STREAMED * 40),
     "a tag": call(Tag, 5, ()),
 }
 WRONG = {
@@ -67,7 +67,7 @@ WRONG = {
 
 
 def outcome(to_call):
-    """What a call answers, or the type of its exception."""
+    """What a call returns, or the type of its exception."""
     function, words, options = to_call
     try:
         return function(*words, **options)
@@ -102,19 +102,19 @@ def try_all(name, to_call, wanted, counts):
         if not refused:
             break
     if outcome(to_call) != wanted:
-        sys.exit(f"{name}: another answer once memory is there again")
+        sys.exit(f"{name}: another result once there is memory again")
 
 
 def iterators(counts):
-    """Iterators, and the machine behind `events`: they are made and used apart."""
-    wanted = list(naltvigo.items(SPELLED * 3, offsets=True))
+    """Iterators, and the machine of `events`: they are made in one call and used in others."""
+    wanted = list(naltvigo.items(STREAMED * 3, offsets=True))
     for start in range(1, 60):
-        for data in (SPELLED * 3, bytearray(SPELLED * 3)):
+        for data in (STREAMED * 3, bytearray(STREAMED * 3)):
             found, refused = with_refusal(call(list, naltvigo.items(data, offsets=True)), start)
             counts[0], counts[1] = counts[0] + 1, counts[1] + refused
             if not (found == wanted or found is MemoryError and refused):
                 sys.exit(f"items, request {start} refused: {found!r}")
-        making = call(naltvigo.items, bytearray(SPELLED)), call(start_machine), call(start_machine().take, SPELLED, 0)
+        making = call(naltvigo.items, bytearray(STREAMED)), call(start_machine), call(start_machine().take, STREAMED, 0)
         for to_call in making:
             found, refused = with_refusal(to_call, start)
             counts[0], counts[1] = counts[0] + 1, counts[1] + refused
@@ -134,7 +134,7 @@ def main():
     iterators(counts)
     if counts[1] < 1000:
         sys.exit(f"only {counts[1]} calls were refused memory: is refuse.so loaded?")
-    print(f"{counts[0]} calls, {counts[1]} of them refused memory: MemoryError, or the usual answer")
+    print(f"{counts[0]} calls, {counts[1]} of them refused memory: MemoryError, or the usual result")
 
 
 if __name__ == "__main__":

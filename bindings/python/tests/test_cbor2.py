@@ -1,4 +1,4 @@
-"""Beside cbor2 (Debian's python3-cbor2), on values that both take: equal bytes, and each reads the other's."""
+"""Compared with cbor2 (Debian's python3-cbor2), on values that both accept: equal bytes, and each reads the other's."""
 
 import random
 import unittest
@@ -20,7 +20,7 @@ def to_cbor2(value):
         return cbor2.CBORSimpleValue(value.number)
     if isinstance(value, naltvigo.Tag):
         return cbor2.CBORTag(value.number, to_cbor2(value.content))
-    if isinstance(value, dict):
+    if isinstance(value, (dict, naltvigo.FrozenDict)):
         pairs = {to_cbor2(key): to_cbor2(one) for key, one in value.items()}
         return cbor2.types.FrozenDict(pairs) if isinstance(value, naltvigo.FrozenDict) else pairs
     if isinstance(value, (list, tuple)):
@@ -34,7 +34,7 @@ def has_other_meaning(value):
         return value.number < 2**16 or has_other_meaning(value.content)
     if isinstance(value, naltvigo.Simple):
         return True
-    if isinstance(value, dict):
+    if isinstance(value, (dict, naltvigo.FrozenDict)):
         return any(has_other_meaning(one) for pair in value.items() for one in pair)
     return isinstance(value, (list, tuple)) and any(map(has_other_meaning, value))
 

@@ -1,16 +1,16 @@
-"""Inputs and objects that mean harm, or change meanwhile: each is a clear exception, and nothing leaks."""
+"""Hostile inputs and objects, and objects that change during a call: each gives a clear exception, and nothing leaks."""
 
+import collections
 import gc
 import itertools
 import random
-import sys
 import threading
-import time
 import unittest
 
 import naltvigo
 from items import any_encoding, encoded, head, some_value
 from naltvigo import Encoded, FrozenDict, Refused, Tag, dumps, loads
+from times import least_time
 
 
 class Unequal(str):
@@ -38,7 +38,7 @@ class Objects(unittest.TestCase):
         for value in (ring, loop):
             with self.assertRaises(Refused) as raised:
                 dumps(value, depth=1024)
-            self.assertEqual((raised.exception.name, len(raised.exception.path)), ("TooDeep", 1024))
+            self.assertEqual((raised.exception.name, raised.exception.offset), ("TooDeep", 1024 if value is ring else 341 * 5 + 3))
         self.assertEqual(repr(Tag(0, ring)), "Tag(0, [[...]])")
         ring[0] = Tag(0, ring)
         self.assertEqual(repr(ring), "[Tag(0, [...])]")
@@ -46,55 +46,35 @@ class Objects(unittest.TestCase):
     def test_repeated_keys(self):
         with self.assertRaises(Refused) as raised:
             dumps([{Unequal("k"): 1, Unequal("k"): 2}])
-        self.assertEqual((raised.exception.name, repr(raised.exception.path)), ("RepeatedKey", "(0, 'k')"))
+        self.assertEqual((raised.exception.name, raised.exception.path), ("RepeatedKey", "$[0], key 2 of the map at 1"))
         for value in ({(1,): 0, UnequalTuple((1,)): 1}, {b"a": 0, Encoded(b"\x41a"): 1}):
             with self.assertRaises(Refused) as raised:
                 dumps(value)
             self.assertEqual(raised.exception.name, "RepeatedKey")
 
     def test_containers_that_change(self):
-        class Grows(dict):
-            def items(self):
-                victim.append(0)
-                return super().items()
-
-        class Clears(dict):
-            def items(self):
-                victim.clear()
-                victim.update((n, n) for n in range(100))
-                gc.collect()
-                return super().items()
-
-        victim = [Grows(), 1, 2]
-        with self.assertRaisesRegex(RuntimeError, "changed its size"):
-            dumps(victim)
-        victim = {0: 0, 1: Clears(), 2: 5}
-        with self.assertRaisesRegex(RuntimeError, "changed its size"):
-            dumps(victim)
-        for change in (lambda o: victim.update({2: 2}), lambda o: victim.pop(1), lambda o: victim.clear()):
-            victim = {0: 1.5, 1: 1}
-            with self.assertRaisesRegex(RuntimeError, "changed its size"):
-                dumps(victim, default=lambda o: change(o) and None)
+        for kind in (dict, collections.OrderedDict, type("Table", (dict,), {})):
+            for change in (lambda o: victim.update({2: 2}), lambda o: victim.pop(1), lambda o: victim.clear()):
+                victim = kind({0: 1.5, 1: 1})
+                with self.assertRaisesRegex(RuntimeError, "changed its size"):
+                    dumps(victim, default=lambda o: change(o) and None)
         victim = [[1.5], 2]
         for change in (lambda o: victim.clear(), lambda o: victim.extend(range(9)), lambda o: victim.__delitem__(0)):
             victim[:] = [[1.5, 1.5], 2]
             with self.assertRaisesRegex(RuntimeError, "changed its size"):
                 dumps(victim, default=change)
 
-    def test_items_that_are_no_pairs(self):
-        class Bad(dict):
-            def items(self):
-                return [1, 2]
+    def test_a_dict_that_grows_with_each_pair_is_not_followed(self):
+        victim, calls = {0: 1.5, 1: 1.5}, []
 
-        class Raises(dict):
-            def items(self):
-                raise KeyError("mine")
+        def grow(value):
+            calls.append(value)
+            if len(calls) < 1000:
+                victim[len(victim)] = 1.5
 
-        with self.assertRaisesRegex(TypeError, "gives tuples"):
-            dumps(Bad())
-        with self.assertRaises(KeyError) as raised:
-            dumps([Raises()])
-        self.assertEqual(raised.exception.path, (0,))
+        with self.assertRaisesRegex(RuntimeError, "changed its size"):
+            dumps(victim, default=grow)
+        self.assertEqual(len(calls), 2)
 
     def test_long_chains_are_let_go_of(self):
         chain = 0
@@ -114,18 +94,31 @@ class Objects(unittest.TestCase):
         deep = 0
         for turn in range(1024):
             deep = {0: deep} if turn % 2 else [deep]
-        found = []
+        data, found = dumps(deep, depth=1024), []
+        inputs = [data] + [
+            b"\xa1" + opening * 500 + b"\0" + closing * 500 + b"\0"
+            for opening, closing in ((b"\x81\x81", b""), (b"\xa1", b"\0"), (b"\xa1\0", b""), (b"\xc1\x81", b""), (b"\x81\xa1", b"\0"))
+        ]
+
+        def work():
+            for given in inputs:
+                value = loads(given, depth=1024)
+                # CPython compares lists and dicts by recursion; keys are compared without it
+                is_equal = given is data or value == loads(given, depth=1024)
+                found.append(is_equal and dumps(value, depth=1024) == given)
+                del value
+
         threading.stack_size(128 * 1024)
         try:
-            thread = threading.Thread(target=lambda: found.append(loads(dumps(deep, depth=1024), depth=1024)))
+            thread = threading.Thread(target=work)
             thread.start()
             thread.join()
         finally:
             threading.stack_size(0)
-        self.assertEqual(dumps(found[0], depth=1024), dumps(deep, depth=1024))
+        self.assertEqual(found, [True] * len(inputs))
 
     def test_deep_keys(self):
-        # maps within maps, as values within a key: no hash of one asks for those of all
+        # maps within maps, as values within a key: the hash of one does not need those of all
         for opening, depth in ((b"\xa1\x00", 900), (b"\xa1\x80\xa1\x00", 600), (b"\x81", 1000), (b"\xc1", 1000)):
             data = b"\xa1" + opening * (depth // (2 if len(opening) > 2 else 1)) + b"\x00" + b"\x00"
             self.assertEqual(dumps(loads(data, depth=1024), depth=1024), data)
@@ -134,8 +127,7 @@ class Objects(unittest.TestCase):
 class Bytes(unittest.TestCase):
     def test_keys_that_are_equal_in_python(self):
         for given in (
-            "a2 01 00 f5 00", "a2 00 00 f4 00", "a2 8101 00 81f5 00", "a2 c001 00 c0f5 00", "a2 a10101 00 a101f5 00",
-            "bf 01 00 f5 00 ff",
+            "a2 01 00 f5 00", "a2 00 00 f4 00", "bf 01 00 f5 00 ff", "a1 a2 01 00 f5 00 00",
         ):  # fmt: skip
             data = bytes.fromhex(given)
             naltvigo.check(data)
@@ -143,7 +135,10 @@ class Bytes(unittest.TestCase):
                 with self.assertRaisesRegex(ValueError, "equal in Python") as raised:
                     loads(whole)
                 self.assertNotIsInstance(raised.exception, Refused)
-        for given in ("a2 41 61 00 61 61 00", "a2 20 00 21 00", "a3 f6 00 f7 00 e0 00", "a2 01 00 c001 00"):
+        for given in (
+            "a2 41 61 00 61 61 00", "a2 20 00 21 00", "a3 f6 00 f7 00 e0 00", "a2 01 00 c001 00", "a2 8101 00 81f5 00",
+            "a2 c001 00 c0f5 00", "a2 a10101 00 a101f5 00", "a3 80 00 a0 00 c080 00",
+        ):  # fmt: skip
             data = bytes.fromhex(given)
             self.assertEqual(dumps(loads(data)), naltvigo.canonicalise(data))
 
@@ -195,10 +190,10 @@ class Bytes(unittest.TestCase):
         self.assertGreater(refused, 2000)
 
 
-def colliding_integers(bits=10, honest=580, chosen=100):
+def colliding_integers(chosen, bits=10, honest=580):
     """Integers whose places in a dict's table of 2**bits are hard to find.
 
-    When a table has no more bits of a hash to go by, it goes from place i to 5 * i + 1. So many small integers take the
+    When a table has used all bits of a hash, it goes from place i to 5 * i + 1. Therefore many small integers take the
     places of one such way. Of each chosen one all earlier tries lead to taken places, so it has to go that way to its end.
     """
     mask, rng, found, taken, place = (1 << bits) - 1, random.Random(1), [], set(), 0
@@ -222,23 +217,33 @@ class Collisions(unittest.TestCase):
 
     def test_tuples(self):
         # hash(-1) == hash(-2), so all of these have one hash
-        keys = list(itertools.product((b"\x20", b"\x21"), repeat=12))
-        data = head(5, len(keys)) + b"".join(b"\x8c" + b"".join(key) + b"\0" for key in keys)
+        data, harmless = (
+            head(5, 1 << 12) + b"".join(b"\x8c" + b"".join(key) + b"\0" for key in itertools.product(numbers, repeat=12))
+            for numbers in ((b"\x20", b"\x21"), (b"\0", b"\1"))
+        )
         naltvigo.check(data)
-        start = time.process_time()
         with self.assertRaisesRegex(ValueError, "keys of a map collide") as raised:
             loads(data)
-        self.assertLess(time.process_time() - start, 0.2)
-        self.assertEqual(raised.exception.path[:-1], ())
+        # a dict of them would take a hundred times as long as one of the others
+        self.assertLess(least_time(lambda: loads(data)), 2 * least_time(lambda: loads(harmless)))
+        self.assertEqual(raised.exception.path, "$")
         self.assertNotIsInstance(raised.exception, Refused)
         with self.assertRaisesRegex(ValueError, "keys of a map collide"):
             loads(b"\xa1" + data + b"\0")
 
     def test_integers(self):
-        data = encoded({key: 0 for key in colliding_integers()})
-        naltvigo.check(data, keys="basic")
+        # at most 31.5 meetings a key; 32.4
+        taken, refused = (encoded(dict.fromkeys(colliding_integers(chosen), 0)) for chosen in (62, 63))
+        self.assertEqual(len(loads(taken, keys="basic")), 580 + 62)
+        naltvigo.check(refused, keys="basic")
         with self.assertRaisesRegex(ValueError, "keys of a map collide"):
-            loads(data, keys="basic")
+            loads(refused, keys="basic")
+
+    def test_multiples_of_powers_of_two_are_taken(self):
+        # at most 15 meetings a key in each table; 34 if those in earlier tables counted too
+        for shift in range(0, 50, 4):
+            keys = [n << shift for n in range(min(20000, 1 << 61 - shift))]
+            self.assertEqual(list(loads(encoded(dict.fromkeys(keys, 0)))), keys)
 
     def test_a_few_are_taken(self):
         keys = list(itertools.product((b"\x20", b"\x21"), repeat=6))
@@ -260,7 +265,7 @@ class Collisions(unittest.TestCase):
 
 
 class Collector(unittest.TestCase):
-    """loads lets the collector of cycles rest, and leaves it as it was."""
+    """loads pauses the collector of cycles, and leaves it as it was."""
 
     def test_it_runs_on(self):
         inputs = [b"\x80", b"\xa1\xa1\x01\x02\x03", b"\xa1\xa0\x03", b"\x82\x01", b"\x81\xa2\x01\0\xf5\0", encoded([[n] for n in range(3000)])]
@@ -283,59 +288,6 @@ class Collector(unittest.TestCase):
                 self.assertTrue(gc.is_tracked(value))
                 value = value[0]
             self.assertTrue(gc.is_tracked(value))
-
-    def test_it_runs_for_code_of_python(self):
-        seen = []
-        usual = FrozenDict.__hash__
-        FrozenDict.__hash__ = lambda self: seen.append(gc.isenabled()) or usual(self)
-        try:
-            loads(b"\xa1\xa1\x01\x02\x03")
-        finally:
-            FrozenDict.__hash__ = usual
-        self.assertEqual(set(seen), {True})
-
-
-class Leaks(unittest.TestCase):
-    @unittest.skipUnless(sys.getallocatedblocks(), "Python does not count its blocks")
-    def test_no_blocks_are_left(self):
-        rng = random.Random(5)
-        values = [some_value(rng, 4) for _ in range(50)]
-        inputs = [dumps(value) for value in values] + [b"\xa2\1\0\xf5\0", b"\x81\xa2\1\0\xf5\0", b"\x61\xff", b"\x9f\x18\1\xff"]
-        inputs.append(dumps({n: str(n) for n in range(200)}))
-        bad = [{"a": [1, 2.5]}, [["\ud800"]], {1: 2**64}, {1: [[[[]]]]}, {1: Encoded(b"\xff")}]
-        calls = 0
-
-        def each():
-            for value in values + bad:
-                yield dumps, (value,), {"depth": 3}
-            for data in inputs:
-                yield loads, (data,), {}
-                yield naltvigo.canonicalise, (data,), {}
-                yield naltvigo.is_canonical, (bytearray(data),), {}
-                yield naltvigo.canonicalise_items, (data + data,), {}
-                yield naltvigo.items, (data,), {"wrong": 1}
-                yield list, (naltvigo.items(data + data, offsets=True),), {}
-
-        def once():
-            nonlocal calls
-            for call, words, options in each():
-                calls += 1
-                try:
-                    call(*words, **options)
-                except (ValueError, TypeError, OverflowError):
-                    pass
-
-        def growth():
-            nonlocal calls
-            gc.collect()
-            calls, before = 0, sys.getallocatedblocks()
-            while calls < 200_000:
-                once()
-            gc.collect()
-            return sys.getallocatedblocks() - before
-
-        # each call is made more than 300 times a turn, so that a leak shows in every turn; what Python keeps does not
-        self.assertLess(min(growth() for _ in range(4)), 100)
 
 
 if __name__ == "__main__":

@@ -1,4 +1,4 @@
-"""Tests of the package, as it is installed. The repository's tables of inputs and answers are its vectors.
+"""Tests of the package, as it is installed. The repository's tables of inputs and results are its vectors.
 
 python3 -m unittest discover bindings/python/tests
 """
@@ -14,7 +14,7 @@ import unittest
 from pathlib import Path
 
 import naltvigo
-from naltvigo import Refused, _reasons
+from naltvigo import Refused
 
 ROOT = Path(__file__).resolve().parents[3]
 sys.path.insert(0, str(ROOT / "c"))
@@ -26,15 +26,15 @@ ORDERS = ("bytewise", "length")
 
 
 def answer_of(call, *words, **more):
-    """What a call answers, or the refusal as three numbers."""
+    """What a call returns, or the refusal as three numbers."""
     try:
         return call(*words, **more)
     except Refused as refused:
-        return (refused.reason, refused.place, refused.read)
+        return (refused.reason, refused.offset, refused.consumed)
 
 
 class Rows(unittest.TestCase):
-    """Each row of the conformance tables, by each call that it speaks of."""
+    """Each row of the conformance tables, with each call that it is about."""
 
     def rows(self):
         for given, (depth, most, keys), answers in rows_of(TABLES):
@@ -57,7 +57,7 @@ class Rows(unittest.TestCase):
     def test_check_and_diagnostic(self):
         for data, limits, _, canonical, refusal, _ in self.rows():
             with self.subTest(data=data.hex()):
-                # the limit on canonical bytes is that of canonicalise alone
+                # only canonicalise has the limit on canonical bytes
                 wanted = None if refusal and refusal[0] == 13 else refusal
                 self.assertEqual(answer_of(naltvigo.check, data, **limits), wanted)
                 text = answer_of(naltvigo.diagnostic, data, **limits)
@@ -82,7 +82,7 @@ class Rows(unittest.TestCase):
                 with self.assertRaises(Refused) as raised:
                     naltvigo.same(*words, depth=256)
                 error = raised.exception
-                self.assertEqual((error.side, error.reason, error.place, error.read), (answer, *refusal))
+                self.assertEqual((error.side, error.reason, error.offset, error.consumed), (answer, *refusal))
                 self.assertTrue(str(error).startswith(f"{answer} refused "))
 
 
@@ -111,22 +111,22 @@ class Events(unittest.TestCase):
                 with self.subTest(given=given):
                     reported = self.reported(chunks)
                     words = " ".join(
-                        " ".join(str("-" if it is None else it) for it in (e.place, e.kind, e.number, e.width)) for e in reported
+                        " ".join(str("-" if it is None else it) for it in (e.offset, e.kind, e.number, e.width)) for e in reported
                     )
                     self.assertEqual(words.replace("break", "end"), " ".join(wanted.split()))
                     for event in reported:
                         if event.kind == "piece":
-                            self.assertEqual(event.data, data[event.place : event.place + event.number])
+                            self.assertEqual(event.data, data[event.offset : event.offset + event.number])
 
     def test_texts(self):
         for text, given, _ in self.rows():
-            # some comments tell of a missing length, which values have not, or of a text in other words; and some
+            # some comments mention a missing length, which values do not have, or give the text in other words; and some
             # rows are well-formed alone
             if not re.search(r"_|\.\.|U\+", text) and answer_of(naltvigo.check, bytes.fromhex(given)) is None:
                 with self.subTest(given=given):
                     self.assertEqual(naltvigo.diagnostic(bytes.fromhex(given)), text)
 
-    def test_refusals_come_behind_the_events_before_them(self):
+    def test_refusals_come_after_the_events_before_them(self):
         for chunks, kinds, refusal in (
             ([b"\x82\x01"], ["array", "unsigned"], (1, 2, 2)),
             ([], [], (1, 0, 0)),
@@ -140,14 +140,14 @@ class Events(unittest.TestCase):
                     reported.append(event.kind)
             self.assertEqual(reported, kinds)
             error = raised.exception
-            self.assertEqual((error.reason, error.place, error.read), refusal)
+            self.assertEqual((error.reason, error.offset, error.consumed), refusal)
 
     def test_limits(self):
         self.assertEqual(answer_of(lambda: list(naltvigo.events(b"\x82\x01", max_bytes=2))), (2, 2, 2))
         self.assertEqual(answer_of(lambda: list(naltvigo.events(b"\x81\x80", depth=1))), (9, 1, 2))
 
     def test_a_chunk_that_changes(self):
-        # an event's data stay, and a bytearray may change behind its event
+        # an event's data stay, and a bytearray may change after its event
         chunk = bytearray(b"\x42ab")
         event = list(naltvigo.events([chunk]))[1]
         chunk[1:] = b"xy"
@@ -155,14 +155,14 @@ class Events(unittest.TestCase):
 
 
 class Sequences(unittest.TestCase):
-    def test_refused_behind_those_before(self):
+    def test_refused_after_those_before(self):
         found = []
         with self.assertRaises(Refused) as raised:
             for item in naltvigo.items(b"\x18\x00\x61a\xff"):
                 found.append(item)
         self.assertEqual(found, [b"\x18\x00", b"\x61a"])
         error = raised.exception
-        self.assertEqual((error.item, error.start, error.reason, error.place, error.read), (3, 4, 7, 0, 1))
+        self.assertEqual((error.item, error.start, error.reason, error.offset, error.consumed), (3, 4, 7, 0, 1))
         self.assertTrue(str(error).startswith("item 3 refused 7 StrayBreak at 0: "))
 
     def test_canonical_ones(self):
@@ -177,7 +177,7 @@ class Sequences(unittest.TestCase):
 
 
 class Words(unittest.TestCase):
-    """What is given beside the input."""
+    """What is given with the input."""
 
     CALLS = ("canonicalise", "check", "check_canonical", "diagnostic", "items", "events")
 
@@ -191,12 +191,11 @@ class Words(unittest.TestCase):
         # a limit of another type is reported as one, in range or not
         for name in (*self.CALLS, "same"):
             inputs = [b"\x00"] * (2 if name == "same" else 1)
-            for limit in (1.5, 1e6, 2000.5, -0.5, "1", b"", None):
+            for limit in (1.5, 1e6, 2000.5, -0.5, "1", b"", None, True):
                 for word in ("depth", "max_bytes"):
                     said = f"^{word} is an integer, and not {type(limit).__name__}$"
                     with self.subTest(name=name, word=word, limit=limit), self.assertRaisesRegex(TypeError, said):
                         getattr(naltvigo, name)(*inputs, **{word: limit})
-        self.assertEqual(naltvigo.canonicalise(b"\x00", depth=False, max_bytes=True), b"\x00")
 
     def test_orders(self):
         for name in ("canonicalise", "check_canonical", "items"):
@@ -247,11 +246,12 @@ class Words(unittest.TestCase):
 
 class Rest(unittest.TestCase):
     def test_answers_of_all_sizes(self):
-        # on both sides of the buffers that are kept, and answers longer than their input
+        # around the sizes of buffers, and results longer than their input
         for count in (0, 1, 255, 256, 4090, 4091, 4092, 4093, 4096, 70000):
             with self.subTest(count=count):
                 data = b"\x9f" + b"\x00" * count + b"\xff"
                 head = b"\x80" if count == 0 else None
+                self.assertEqual(naltvigo.canonicalise(b"\x5b" + count.to_bytes(8, "big") + data[1:-1]), naltvigo.dumps(data[1:-1]))
                 answer = naltvigo.canonicalise(data)
                 self.assertEqual(answer[-count:] if count else b"", b"\x00" * count)
                 if head:
@@ -261,9 +261,9 @@ class Rest(unittest.TestCase):
 
     def test_an_input_far_longer_than_the_limit(self):
         # refused as ever, and without space by the input's length
-        endless, behind = b"\x9f" + b"\x00" * (1 << 24), b"\x00" * (1 << 24)
+        endless, trailing = b"\x9f" + b"\x00" * (1 << 24), b"\x00" * (1 << 24)
         for name in ("canonicalise", "diagnostic"):
-            for data, wanted in ((endless, (2, 10, 10)), (behind, (12, 1, 1))):
+            for data, wanted in ((endless, (2, 10, 10)), (trailing, (12, 1, 1))):
                 with self.subTest(name=name, wanted=wanted):
                     tracemalloc.start()
                     try:
@@ -281,13 +281,23 @@ class Rest(unittest.TestCase):
         with self.assertRaises(Refused) as raised:
             naltvigo.canonicalise(b"\xa2\x00\x01\x00\x02")
         error = pickle.loads(pickle.dumps(raised.exception))
-        self.assertEqual((error.reason, error.name, error.place, error.read), (11, "RepeatedKey", 3, 4))
+        self.assertEqual((error.reason, error.name, error.offset, error.consumed), (11, "RepeatedKey", 3, 4))
+        self.assertEqual((error.sentence, error.advice, error.path), (raised.exception.sentence, raised.exception.advice, "$, key 2 of the map at 0"))
         self.assertEqual(str(error), str(raised.exception))
+        self.assertIn(f"{error.sentence} {error.advice}", str(error))
         self.assertIsInstance(error, ValueError)
 
     def test_names_are_those_of_the_header(self):
         header = re.sub(r"/\*.*?\*/", "", (ROOT / "include/naltvigo.h").read_text(), flags=re.S)
-        for number, (name, _, _) in _reasons.REASONS.items():
+        found = {}
+        for given, (depth, most, keys), _ in rows_of(TABLES):
+            for call in (naltvigo.check, naltvigo.check_canonical, naltvigo.canonicalise):
+                try:
+                    call(bytes.fromhex(given), depth=depth, max_bytes=most, keys=keys)
+                except Refused as refused:
+                    found[refused.reason] = refused.name
+        self.assertEqual(set(found), {*range(1, 17), 20})
+        for number, name in found.items():
             snake = re.sub(r"(?<!^)(?=[A-Z])", "_", name).upper()
             self.assertRegex(header, rf"\bNALTVIGO_{snake} = {number}\b")
 
@@ -310,7 +320,7 @@ class Rest(unittest.TestCase):
         self.assertEqual(faults, [])
 
     def test_the_lock_is_not_held(self):
-        # no thread gives way by itself for ten seconds, so another one counts only while a call has let go of the lock
+        # no thread yields by itself for ten seconds, so another one counts only while a call has released the lock
         data = b"\x9f" + b"\xa1\x00\x00" * (1 << 22) + b"\xff"
         counted, done = [0], threading.Event()
 

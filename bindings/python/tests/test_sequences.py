@@ -1,4 +1,4 @@
-"""Calls over sequences: items with offsets, all ends, all canonical bytes, and files that are mapped."""
+"""Calls on sequences: items with offsets, all ends, all canonical bytes, and files that are mapped."""
 
 import array
 import gc
@@ -65,7 +65,7 @@ class Bulk(unittest.TestCase):
             with self.assertRaises(Refused) as raised:
                 call(b"\x18\x00\x61a\x82\xff")
             error = raised.exception
-            self.assertEqual((error.item, error.start, error.reason, error.place, error.read), (3, 4, 7, 1, 2))
+            self.assertEqual((error.item, error.start, error.reason, error.offset, error.consumed), (3, 4, 7, 1, 2))
         found = []
         iterator = items(b"\x18\x00\x61a\xff", offsets=True)
         with self.assertRaises(Refused):
@@ -89,10 +89,11 @@ class Bulk(unittest.TestCase):
         self.assertEqual(list(items(b"\0" + long + b"\1")), [b"\0", long, b"\1"])
         with self.assertRaises(Refused) as raised:
             list(items(b"\0" + long, max_bytes=20_000))
-        self.assertEqual((raised.exception.name, raised.exception.place), ("TooLong", 20_000))
+        self.assertEqual((raised.exception.name, raised.exception.offset), ("TooLong", 20_000))
 
     def test_an_iterator_of_several_threads(self):
-        given = [encoded([n % 24] * (100_000 + n)) for n in range(60)]
+        # arrays of small integers, whose lengths are in four bytes
+        given = [b"\x9a" + (100_000 + n).to_bytes(4, "big") + bytes([n % 24]) * (100_000 + n) for n in range(60)]
         iterator, found, errors = items(b"".join(given)), [], []
 
         def take():
@@ -117,12 +118,6 @@ class Bulk(unittest.TestCase):
         whole, pairs = items(data), items(memoryview(data), offsets=True)
         data[:] = b"\xff" * 50
         self.assertEqual((list(whole), list(pairs)), ([b"\x00", b"\x61a"], [(0, 1), (1, 3)]))
-        data = array.array("H", [0, 0x6161])
-        view = items(memoryview(data).toreadonly())
-        with self.assertRaises(BufferError):
-            data.append(1)
-        self.assertEqual(list(view), [b"\x00", b"\x00", b"\x61a"])
-        data.append(1)
 
     def test_is_canonical(self):
         rng = random.Random(11)
@@ -138,8 +133,11 @@ class Bulk(unittest.TestCase):
 
 
 class Mapped(unittest.TestCase):
+    @classmethod
+    def setUpClass(cls):
+        cls.given, cls.canonical = some_sequence(1, 20_000)
+
     def setUp(self):
-        self.given, self.canonical = some_sequence(1, 20_000)
         self.file = tempfile.TemporaryFile()
         self.addCleanup(self.file.close)
         self.file.write(b"".join(self.given))

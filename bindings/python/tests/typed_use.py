@@ -43,7 +43,7 @@ def refusals() -> tuple[int, str, int, str | None]:
     try:
         naltvigo.check(b"")
     except Refused as refused:
-        return refused.reason, refused.name, refused.place, refused.side
+        return refused.reason, refused.name, refused.offset, refused.side
     known: bool = naltvigo.is_canonical(b"") or naltvigo.same(b"", b"")
     return int(known), naltvigo.__version__, 0, None
 

@@ -1,5 +1,5 @@
 //! Reads lines of hex digits, each an item. Writes the canonical bytes of each decoded value to a
-//! line, in hex digits, or `refused 5 Float at 1`: `values [bytewise|length] < LINES`.
+//! line, in hex digits, or `refused 5 Float at 1`: `values [bytewise|length [MAX_BYTES]] < LINES`.
 
 use naltvigo::{Options, Order, Value};
 use std::env;
@@ -18,9 +18,10 @@ fn main() -> Result<(), Box<dyn Error>> {
     let order = match env::args().nth(1).as_deref() {
         None | Some("bytewise") => Order::Bytewise,
         Some("length") => Order::LengthFirst,
-        Some(_) => return Err("usage: values [bytewise|length] < LINES".into()),
+        Some(_) => return Err("usage: values [bytewise|length [MAX_BYTES]] < LINES".into()),
     };
-    let widest = Options::default().with_limits(1024, 1 << 30);
+    let most = env::args().nth(2).map_or(Ok(1 << 30), |it| it.parse())?;
+    let widest = Options::default().with_limits(1024, most);
     let options = widest.ok_or("limits")?.with_order(order);
     let mut out = io::BufWriter::new(io::stdout().lock());
     for line in io::stdin().lock().lines() {
@@ -34,7 +35,7 @@ fn main() -> Result<(), Box<dyn Error>> {
             }
             Err(why) => {
                 let number = why.reason.number();
-                writeln!(out, "refused {number} {:?} at {}", why.reason, why.place)?;
+                writeln!(out, "refused {number} {:?} at {}", why.reason, why.offset)?;
             }
         }
     }

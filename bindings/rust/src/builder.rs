@@ -1,7 +1,8 @@
 //! Values from their parts.
 
-use crate::containers::{Array, Map, Tag};
+use crate::containers::{Array, Tag};
 use crate::heads;
+use crate::map::Map;
 use crate::options::Order;
 use crate::parts::Part;
 use crate::value::{Simple, Value};

@@ -3,8 +3,10 @@
 use crate::options::Options;
 use crate::raw::{self, DIFFERENT, OK, TOO_SMALL};
 use crate::reason::Reason;
-use crate::refused::{NotWritten, Refused, Side};
+use crate::refused::{NotCompared, NotWritten, Refused, Side};
+use alloc::boxed::Box;
 use alloc::string::String;
+use alloc::vec;
 use alloc::vec::Vec;
 
 // SAFETY, of each call below: a slice's pointer is not null and has as many bytes as its length;
@@ -15,7 +17,7 @@ use alloc::vec::Vec;
 /// Two items have equal canonical bytes in one order exactly if their values are the same.
 /// Canonicalising canonical bytes returns them.
 pub fn canonicalise(input: &[u8], options: &Options) -> Result<Vec<u8>, Refused> {
-    written(within(input, options), |out| {
+    written(input, options, 1, |out| {
         canonicalise_into(input, options, out)
     })
 }
@@ -45,7 +47,7 @@ pub fn canonicalise_into(
     match status {
         OK => Ok(needed),
         TOO_SMALL => Err(NotWritten::TooSmall(needed)),
-        _ => Err(NotWritten::Refused(Refused::of(refusal))),
+        _ => Err(NotWritten::Refused(Refused::of(refusal, input, options))),
     }
 }
 
@@ -58,7 +60,7 @@ pub fn canonicalise_into(
 /// # Ok::<(), naltvigo::Refused>(())
 /// ```
 pub fn diagnostic(input: &[u8], options: &Options) -> Result<String, Refused> {
-    let text = written(within(input, options).saturating_mul(4), |out| {
+    let text = written(input, options, 4, |out| {
         let (mut needed, mut refusal) = (0, raw::Refusal::default());
         let status = unsafe {
             raw::naltvigo_diagnostic_raw(
@@ -76,10 +78,10 @@ pub fn diagnostic(input: &[u8], options: &Options) -> Result<String, Refused> {
         match status {
             OK => Ok(needed),
             TOO_SMALL => Err(NotWritten::TooSmall(needed)),
-            _ => Err(NotWritten::Refused(Refused::of(refusal))),
+            _ => Err(NotWritten::Refused(Refused::of(refusal, input, options))),
         }
     })?;
-    // It is UTF-8, since texts are; no proof of this crate's says so.
+    // It is UTF-8, since texts are.
     Ok(String::from_utf8(text).expect("diagnostic text is UTF-8"))
 }
 
@@ -96,10 +98,10 @@ pub fn check(input: &[u8], options: &Options) -> Result<(), Refused> {
             &mut refusal,
         )
     };
-    accepted(status, refusal)
+    accepted(status, refusal, input, options)
 }
 
-/// Checks that `input` is one valid item in its canonical bytes. It takes no memory.
+/// Checks that `input` is one valid item in its canonical bytes. It allocates no memory.
 ///
 /// ```
 /// use naltvigo::{check_canonical, Options, Reason};
@@ -121,11 +123,11 @@ pub fn check_canonical(input: &[u8], options: &Options) -> Result<(), Refused> {
             &mut refusal,
         )
     };
-    accepted(status, refusal)
+    accepted(status, refusal, input, options)
 }
 
-/// Whether two valid items have the same value: maps by their pairs in any order (RFC 8949,
-/// section 5.6.1). The limits are for each of the two; the left one is checked first.
+/// Whether two valid items have the same value; the order of a map's pairs does not count
+/// (RFC 8949, section 5.6.1). The limits are for each of the two; the left one is checked first.
 ///
 /// ```
 /// use naltvigo::{same, Options};
@@ -133,7 +135,7 @@ pub fn check_canonical(input: &[u8], options: &Options) -> Result<(), Refused> {
 /// assert_eq!(same(b"\x18\x00", b"\x00", &Options::default()), Ok(true));
 /// assert_eq!(same(b"\x61a", b"\x41a", &Options::default()), Ok(false));
 /// ```
-pub fn same(left: &[u8], right: &[u8], options: &Options) -> Result<bool, (Side, Refused)> {
+pub fn same(left: &[u8], right: &[u8], options: &Options) -> Result<bool, NotCompared> {
     let (mut side, mut refusal) = (0, raw::Refusal::default());
     let status = unsafe {
         raw::naltvigo_compare_raw(
@@ -151,34 +153,74 @@ pub fn same(left: &[u8], right: &[u8], options: &Options) -> Result<bool, (Side,
     match status {
         OK => Ok(true),
         DIFFERENT => Ok(false),
-        _ if side == 0 => Err((Side::Left, Refused::of(refusal))),
-        _ => Err((Side::Right, Refused::of(refusal))),
+        _ if side == raw::LEFT => Err(NotCompared {
+            side: Side::Left,
+            refused: Refused::of(refusal, left, options),
+        }),
+        _ => Err(NotCompared {
+            side: Side::Right,
+            refused: Refused::of(refusal, right, options),
+        }),
     }
 }
 
-pub(crate) fn accepted(status: u32, refusal: raw::Refusal) -> Result<(), Refused> {
+pub(crate) fn accepted(
+    status: u32,
+    refusal: raw::Refusal,
+    input: &[u8],
+    options: &Options,
+) -> Result<(), Refused> {
     match status {
         OK => Ok(()),
-        _ => Err(Refused::of(refusal)),
+        _ => Err(Refused::of(refusal, input, options)),
     }
 }
 
-// The input's length, or the byte limit where that is less: more is refused, and no canonical bytes
+/// The sentence, the advice and the path of a refusal of this input, a line each. Empty if memory is
+/// refused.
+pub(crate) fn explain(input: &[u8], options: &Options, reason: Reason, offset: u64) -> Box<str> {
+    let mut text = vec![0; 512];
+    loop {
+        let mut needed = 0;
+        let status = unsafe {
+            raw::naltvigo_explain_raw(
+                input.as_ptr(),
+                input.len(),
+                options.depth().into(),
+                options.bytes(),
+                reason.number().into(),
+                offset,
+                text.as_mut_ptr(),
+                text.len(),
+                &mut needed,
+            )
+        };
+        if status != TOO_SMALL {
+            text.truncate(needed);
+            return String::from_utf8(text).unwrap_or_default().into();
+        }
+        text.resize(needed, 0);
+    }
+}
+
+// The input's length, or the byte limit if that is less: more is refused, and no canonical bytes
 // are longer than the limit.
 fn within(input: &[u8], options: &Options) -> usize {
     usize::try_from(options.bytes()).map_or(input.len(), |limit| input.len().min(limit))
 }
 
-// What is written to a buffer of `space` bytes, or of as many as it asks for.
+// What is written to a buffer with this many bytes for each of the input, or of the size that it needs.
 fn written(
-    space: usize,
+    input: &[u8],
+    options: &Options,
+    times: usize,
     mut write: impl FnMut(&mut [u8]) -> Result<usize, NotWritten>,
 ) -> Result<Vec<u8>, Refused> {
     let mut out = Vec::new();
-    let mut space = space;
+    let mut space = within(input, options).saturating_mul(times);
     loop {
         if out.try_reserve_exact(space).is_err() {
-            return Err(Refused::at(Reason::Memory, 0));
+            return Err(Refused::at(Reason::Memory, 0, &[], options));
         }
         out.resize(space, 0);
         match write(&mut out) {

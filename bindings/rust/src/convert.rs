@@ -1,8 +1,11 @@
-//! Native types to values, and values and items to native types.
+//! Native types to values and keys.
 
-use crate::containers::{Array, Map, Tag};
-use crate::item::{GetError, Item, Key, View};
+use crate::containers::{Array, Tag};
+use crate::item::Item;
+use crate::key::Key;
+use crate::map::Map;
 use crate::value::{Simple, Value};
+use alloc::collections::BTreeMap;
 use alloc::string::String;
 use alloc::vec::Vec;
 use core::num::TryFromIntError;
@@ -33,6 +36,20 @@ from! {
 impl<T: Into<Value>> From<Option<T>> for Value {
     fn from(value: Option<T>) -> Value {
         value.map_or(Value::NULL, Into::into)
+    }
+}
+
+/// An array of what is collected: `[1, 2].into_iter().collect::<Value>()`. There is no
+/// `From<Vec<T>>`, since the bytes of a `Vec<u8>` might be a byte string or an array.
+impl<T: Into<Value>> FromIterator<T> for Value {
+    fn from_iter<I: IntoIterator<Item = T>>(members: I) -> Value {
+        Value::Array(members.into_iter().collect())
+    }
+}
+
+impl<K: Into<Value>, V: Into<Value>> From<BTreeMap<K, V>> for Value {
+    fn from(pairs: BTreeMap<K, V>) -> Value {
+        Value::Map(pairs.into_iter().collect())
     }
 }
 
@@ -108,103 +125,3 @@ macro_rules! integers {
 }
 
 integers!(u8 u16 u32 u64 usize i8 i16 i32 i64 isize);
-
-// What a native type is read from.
-fn integer_of_item(item: Item<'_>) -> Result<i128, GetError> {
-    match item.view() {
-        View::Unsigned(number) => Ok(number.into()),
-        View::Negative(number) => Ok(-1 - i128::from(number)),
-        _ => Err(GetError::WrongKind),
-    }
-}
-
-fn integer_of_value(value: &Value) -> Result<i128, GetError> {
-    match value {
-        Value::Unsigned(number) => Ok((*number).into()),
-        Value::Negative(number) => Ok(-1 - i128::from(*number)),
-        _ => Err(GetError::WrongKind),
-    }
-}
-
-macro_rules! to_integers {
-    ($($type:ty)*) => {$(
-        impl TryFrom<Item<'_>> for $type {
-            type Error = GetError;
-
-            fn try_from(item: Item<'_>) -> Result<$type, GetError> {
-                integer_of_item(item)?.try_into().map_err(|_| GetError::OutOfRange)
-            }
-        }
-
-        impl TryFrom<&Value> for $type {
-            type Error = GetError;
-
-            fn try_from(value: &Value) -> Result<$type, GetError> {
-                integer_of_value(value)?.try_into().map_err(|_| GetError::OutOfRange)
-            }
-        }
-    )*};
-}
-
-to_integers!(u8 u16 u32 u64 usize i8 i16 i32 i64 isize i128);
-
-macro_rules! to_native {
-    ($($type:ty: $item:pat, $value:pat => $native:expr;)*) => {$(
-        impl<'a> TryFrom<Item<'a>> for $type {
-            type Error = GetError;
-
-            fn try_from(item: Item<'a>) -> Result<$type, GetError> {
-                match item.view() {
-                    $item => Ok($native),
-                    _ => Err(GetError::WrongKind),
-                }
-            }
-        }
-
-        impl<'a> TryFrom<&'a Value> for $type {
-            type Error = GetError;
-
-            fn try_from(value: &'a Value) -> Result<$type, GetError> {
-                match value {
-                    $value => Ok($native),
-                    _ => Err(GetError::WrongKind),
-                }
-            }
-        }
-    )*};
-}
-
-to_native! {
-    &'a str: View::Text(text), Value::Text(text) => text;
-    &'a [u8]: View::Bytes(bytes), Value::Bytes(bytes) => bytes;
-}
-
-fn flag(simple: Simple) -> Result<bool, GetError> {
-    match simple {
-        Simple::FALSE => Ok(false),
-        Simple::TRUE => Ok(true),
-        _ => Err(GetError::WrongKind),
-    }
-}
-
-impl TryFrom<Item<'_>> for bool {
-    type Error = GetError;
-
-    fn try_from(item: Item<'_>) -> Result<bool, GetError> {
-        match item.view() {
-            View::Simple(simple) => flag(simple),
-            _ => Err(GetError::WrongKind),
-        }
-    }
-}
-
-impl TryFrom<&Value> for bool {
-    type Error = GetError;
-
-    fn try_from(value: &Value) -> Result<bool, GetError> {
-        match value {
-            Value::Simple(simple) => flag(*simple),
-            _ => Err(GetError::WrongKind),
-        }
-    }
-}

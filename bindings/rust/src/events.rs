@@ -1,23 +1,26 @@
 //! The events of an item.
 
+use crate::machine::{Machine, Taken, MANY};
 use crate::options::Options;
 use crate::raw::{self, EVENT, MORE, OK};
 use crate::reason::Reason;
 use crate::refused::Refused;
 use core::iter::FusedIterator;
+use core::mem;
 
 /// An event of an item.
 #[derive(Clone, Copy, Debug, PartialEq, Eq)]
+#[non_exhaustive]
 pub struct Event<'a> {
     /// The offset of its first byte, from the item's first one.
-    pub place: u64,
-    /// How many bytes its argument has: 0, 1, 2, 4 or 8; none without a length, and for a break.
+    pub offset: u64,
+    /// How many bytes its argument has: 0, 1, 2, 4 or 8; none for an indefinite length and a break.
     pub width: Option<u8>,
     /// What it is.
     pub kind: Kind<'a>,
 }
 
-/// What an event is. A length or count is none where the item has indefinite length.
+/// What an event is. A length or count is none if the item has indefinite length.
 #[derive(Clone, Copy, Debug, PartialEq, Eq)]
 #[allow(missing_docs)]
 pub enum Kind<'a> {
@@ -38,146 +41,27 @@ pub enum Kind<'a> {
     Break,
 }
 
-/// What a step of a machine returns.
-#[derive(Clone, Copy, Debug, PartialEq, Eq)]
-pub enum Step<'a> {
-    /// An event is complete.
-    Event(Event<'a>),
-    /// All of the part was used, and the item needs more bytes.
-    More,
-    /// The item is complete, and all its events were returned.
-    Done,
-    /// The item is refused.
-    Refused(Refused),
-}
-
-/// A machine that takes one item in parts of any length, and returns its events. It takes no memory.
-///
-/// It checks that the item is well-formed, and not UTF-8, repeated keys or canonical encoding. It does
-/// not know where the parts end: after the last one, a step of no bytes says whether the item is
-/// complete.
-///
-/// ```
-/// use naltvigo::{Kind, Machine, Options, Step};
-///
-/// let (mut machine, mut numbers) = (Machine::new(&Options::default()), Vec::new());
-/// for part in [b"\x82\x18", b"\x64\x01"] {
-///     for event in machine.events(part) {
-///         if let Kind::Unsigned(number) = event?.kind {
-///             numbers.push(number);
-///         }
-///     }
-/// }
-/// assert_eq!(numbers, [100, 1]);
-/// assert_eq!(machine.step(b""), (0, Step::Done));
-/// # Ok::<(), naltvigo::Refused>(())
-/// ```
+// The events of a part, which begins at this offset of the item. One call of the library returns a
+// batch of them.
 #[derive(Clone, Debug)]
-pub struct Machine(raw::Machine);
-
-impl Machine {
-    /// A machine before an item's first byte; of the options it takes the limits.
-    pub fn new(options: &Options) -> Machine {
-        Machine(raw::Machine::new(options))
-    }
-
-    /// How many bytes were taken.
-    pub fn taken(&self) -> u64 {
-        self.0.taken
-    }
-
-    /// How many arrays, maps and tags are open: each from its head until its last member or its break.
-    pub fn open(&self) -> u16 {
-        self.0.open
-    }
-
-    /// The events of a part. They end with the part, with the item, or with a refusal. Bytes behind the
-    /// item are not taken.
-    ///
-    /// Go on to the end: the library returns up to 64 events a call, and those that are not asked for
-    /// are lost.
-    pub fn events<'m, 'a>(&'m mut self, part: &'a [u8]) -> PartEvents<'m, 'a> {
-        PartEvents {
-            reported: Told::new(part, self.taken()),
-            machine: self,
-            ended: false,
-        }
-    }
-
-    /// Takes bytes from the front of a part until an event is complete, or none is left: how many,
-    /// and what came of them. Once the item is complete, or refused, it takes none and returns the same.
-    ///
-    /// A call fills 9 KiB of its stack, so [`events`](Machine::events) is cheaper for many events.
-    pub fn step<'a>(&mut self, part: &'a [u8]) -> (usize, Step<'a>) {
-        let begins = self.taken();
-        let mut space = [raw::Event::default()];
-        let taken = self.take(part, &mut space);
-        let reported = match taken.status {
-            EVENT => Step::Event(event_of(&space[0], part, begins)),
-            MORE => Step::More,
-            OK => Step::Done,
-            _ => Step::Refused(Refused::of(taken.refusal)),
-        };
-        (taken.used, reported)
-    }
-
-    // Takes bytes from the front of a part until `space` is full or no byte is left.
-    fn take(&mut self, part: &[u8], space: &mut [raw::Event]) -> Taken {
-        let (mut used, mut reported) = (0, 0);
-        let mut refusal = raw::Refusal::default();
-        // SAFETY: as of the calls; the machine is one, since none but the library writes it.
-        let status = unsafe {
-            raw::naltvigo_machine_take_raw(
-                &mut self.0,
-                part.as_ptr(),
-                part.len(),
-                &mut used,
-                space.as_mut_ptr(),
-                space.len(),
-                &mut reported,
-                &mut refusal,
-            )
-        };
-        Taken {
-            status,
-            used,
-            reported,
-            refusal,
-        }
-    }
-}
-
-// What came of a part: how many bytes of it were used, and how many events were returned.
-#[derive(Clone, Debug)]
-struct Taken {
-    status: u32,
-    used: usize,
-    reported: usize,
-    refusal: raw::Refusal,
-}
-
-// How many events a call of the library returns at most.
-const MANY: usize = 64;
-
-// The events of a part that begins there in the item, those of a call of the library at a time.
-#[derive(Clone, Debug)]
-struct Told<'a> {
+struct Batch<'a> {
     part: &'a [u8],
     begins: u64,
+    // How many bytes of the part the machine had used before the batch.
     used: usize,
-    space: [raw::Event; MANY],
-    // How many of the events in the space were given.
+    events: [raw::Event; MANY],
+    // How many events of the batch were given.
     given: usize,
     last: Taken,
 }
 
-impl<'a> Told<'a> {
-    fn new(part: &'a [u8], begins: u64) -> Told<'a> {
-        Told {
+impl<'a> Batch<'a> {
+    fn new(part: &'a [u8], begins: u64) -> Batch<'a> {
+        Batch {
             part,
             begins,
             used: 0,
-            space: [raw::Event::default(); MANY],
+            events: [raw::Event::default(); MANY],
             given: 0,
             last: Taken {
                 status: EVENT,
@@ -188,21 +72,31 @@ impl<'a> Told<'a> {
         }
     }
 
-    // The next event; none where the status of the last call says why.
-    fn next(&mut self, machine: &mut Machine) -> Option<Event<'a>> {
-        if self.given == self.last.reported && self.last.status == EVENT {
-            self.last = machine.take(&self.part[self.used..], &mut self.space);
-            self.used += self.last.used;
-            self.given = 0;
-        }
-        let event = self.space[..self.last.reported].get(self.given)?;
+    fn is_given(&self) -> bool {
+        self.given == self.last.reported
+    }
+
+    // Whether the next batch must come from the machine.
+    fn is_next(&self) -> bool {
+        self.is_given() && self.last.status == EVENT
+    }
+
+    fn fill(&mut self, machine: &mut Machine) {
+        self.used += self.last.used;
+        self.last = machine.take(&self.part[self.used..], &mut self.events);
+        self.given = 0;
+    }
+
+    // The next event of the batch; none if the status of the last call says why.
+    fn next(&mut self) -> Option<Event<'a>> {
+        let event = self.events[..self.last.reported].get(self.given)?;
         self.given += 1;
         Some(event_of(event, self.part, self.begins))
     }
 }
 
 // The event as Rust has it, of a part that begins there in the item.
-fn event_of<'a>(event: &raw::Event, part: &'a [u8], begins: u64) -> Event<'a> {
+pub(crate) fn event_of<'a>(event: &raw::Event, part: &'a [u8], begins: u64) -> Event<'a> {
     let width = u8::try_from(event.width).ok().filter(|&width| width < 255);
     let number = event.number;
     let length = width.map(|_| number);
@@ -216,11 +110,11 @@ fn event_of<'a>(event: &raw::Event, part: &'a [u8], begins: u64) -> Event<'a> {
         6 => Kind::Tag(number),
         7 => Kind::Simple(number as u8),
         8 => Kind::Chunk(number),
-        9 => Kind::Piece(&part[(event.place - begins) as usize..][..number as usize]),
+        9 => Kind::Piece(&part[(event.offset - begins) as usize..][..number as usize]),
         _ => Kind::Break,
     };
     Event {
-        place: event.place,
+        offset: event.offset,
         width,
         kind,
     }
@@ -228,8 +122,8 @@ fn event_of<'a>(event: &raw::Event, part: &'a [u8], begins: u64) -> Event<'a> {
 
 /// The events of the one item that a slice is.
 ///
-/// A refusal is the last that comes: what is wrong with the item's form, a byte behind it, or that
-/// the slice ends within it.
+/// A refusal is the last that comes: the item is not well-formed, a byte follows it, or the slice ends
+/// within it.
 ///
 /// ```
 /// use naltvigo::{Events, Kind, Options};
@@ -243,32 +137,44 @@ fn event_of<'a>(event: &raw::Event, part: &'a [u8], begins: u64) -> Event<'a> {
 #[derive(Clone, Debug)]
 pub struct Events<'a> {
     machine: Machine,
-    reported: Told<'a>,
+    batch: Batch<'a>,
+    options: Options,
     ended: bool,
 }
 
 impl<'a> Events<'a> {
-    /// The events of this slice; of the options it takes the limits.
+    /// The events of this slice, within the limits of these options.
     pub fn new(input: &'a [u8], options: &Options) -> Events<'a> {
         Events {
             machine: Machine::new(options),
-            reported: Told::new(input, 0),
+            batch: Batch::new(input, 0),
+            options: *options,
             ended: false,
         }
     }
 
-    // What comes behind the last event, once.
+    // What follows the last event, once.
     fn end(&mut self) -> Option<Refused> {
-        if core::mem::replace(&mut self.ended, true) {
+        if mem::replace(&mut self.ended, true) {
             return None;
         }
-        let taken = self.machine.taken();
-        match self.reported.last.status {
+        let (consumed, input) = (self.machine.consumed(), self.batch.part);
+        match self.batch.last.status {
             // all was offered, so the item is cut off
-            MORE => Some(Refused::at(Reason::Truncated, taken)),
-            OK if self.reported.used == self.reported.part.len() => None,
-            OK => Some(Refused::at(Reason::Trailing, taken)),
-            _ => Some(Refused::of(self.reported.last.refusal)),
+            MORE => Some(Refused::at(
+                Reason::Truncated,
+                consumed,
+                input,
+                &self.options,
+            )),
+            OK if consumed == input.len() as u64 => None,
+            OK => Some(Refused::at(
+                Reason::Trailing,
+                consumed,
+                input,
+                &self.options,
+            )),
+            _ => Some(Refused::of(self.batch.last.refusal, input, &self.options)),
         }
     }
 }
@@ -277,7 +183,10 @@ impl<'a> Iterator for Events<'a> {
     type Item = Result<Event<'a>, Refused>;
 
     fn next(&mut self) -> Option<Self::Item> {
-        match self.reported.next(&mut self.machine) {
+        if self.batch.is_next() {
+            self.batch.fill(&mut self.machine);
+        }
+        match self.batch.next() {
             Some(event) => Some(Ok(event)),
             None => self.end().map(Err),
         }
@@ -289,26 +198,57 @@ impl FusedIterator for Events<'_> {}
 /// The events of a part of an item, as [`Machine::events`] gives them. A refusal of the item's form
 /// is the last that comes.
 #[derive(Debug)]
-#[must_use = "no byte is taken before an event is asked for"]
+#[must_use = "no byte is consumed before an event is requested"]
 pub struct PartEvents<'m, 'a> {
     machine: &'m mut Machine,
-    reported: Told<'a>,
+    // The machine as it was before the batch.
+    before: Machine,
+    batch: Batch<'a>,
     ended: bool,
+}
+
+impl<'m, 'a> PartEvents<'m, 'a> {
+    pub(crate) fn new(machine: &'m mut Machine, part: &'a [u8]) -> PartEvents<'m, 'a> {
+        PartEvents {
+            batch: Batch::new(part, machine.consumed()),
+            before: machine.clone(),
+            machine,
+            ended: false,
+        }
+    }
 }
 
 impl<'a> Iterator for PartEvents<'_, 'a> {
     type Item = Result<Event<'a>, Refused>;
 
     fn next(&mut self) -> Option<Self::Item> {
-        if let Some(event) = self.reported.next(self.machine) {
+        if self.batch.is_next() {
+            self.before.clone_from(self.machine);
+            self.batch.fill(self.machine);
+        }
+        if let Some(event) = self.batch.next() {
             return Some(Ok(event));
         }
-        if core::mem::replace(&mut self.ended, true) {
+        if mem::replace(&mut self.ended, true) {
             return None;
         }
-        match self.reported.last.status {
+        match self.batch.last.status {
             MORE | OK => None,
-            _ => Some(Err(Refused::of(self.reported.last.refusal))),
+            _ => Some(Err(self.machine.refused(self.batch.last.refusal))),
+        }
+    }
+}
+
+// Events that were not given are those of bytes that the machine has not consumed.
+impl Drop for PartEvents<'_, '_> {
+    fn drop(&mut self) {
+        let Batch {
+            part, used, given, ..
+        } = self.batch;
+        if !self.batch.is_given() {
+            self.machine.clone_from(&self.before);
+            self.machine
+                .take(&part[used..], &mut self.batch.events[..given]);
         }
     }
 }

@@ -1,7 +1,7 @@
 //! The calls on heads, and on items of bytes that are known to be canonical.
 
-use crate::item::GetError;
 use crate::options::{Options, Order, WIDEST};
+use crate::parts::Part;
 use crate::raw::{self, NOT_THERE, OK, TOO_SMALL};
 use alloc::vec;
 use alloc::vec::Vec;
@@ -12,7 +12,7 @@ pub(crate) const HEAD_MAX: usize = 9;
 /// Writes the shortest head of this kind and number to the front of `out`, and returns its length.
 pub(crate) fn put(kind: u8, number: u64, out: &mut [u8]) -> usize {
     let mut needed = 0;
-    // SAFETY: `out` is borrowed for the call, and has as many bytes as is said.
+    // SAFETY: `out` is borrowed for the call, and its length is passed.
     let status = unsafe {
         raw::naltvigo_put_head_raw(
             kind.into(),
@@ -27,24 +27,31 @@ pub(crate) fn put(kind: u8, number: u64, out: &mut [u8]) -> usize {
     needed
 }
 
-/// Appends the shortest head of this kind and number.
-pub(crate) fn append(kind: u8, number: u64, out: &mut Vec<u8>) {
+/// Appends the shortest head of a part, and its payload.
+pub(crate) fn append(part: Part<'_>, out: &mut Vec<u8>) {
     let mut head = [0; HEAD_MAX];
-    let size = put(kind, number, &mut head);
+    let size = put(part.kind, part.number, &mut head);
     out.extend_from_slice(&head[..size]);
+    out.extend_from_slice(part.payload);
 }
 
 /// The item that begins at this offset.
-pub(crate) fn item_at(input: &[u8], place: usize) -> Option<raw::Item> {
+pub(crate) fn item_at(input: &[u8], offset: u64) -> Option<raw::Item> {
     let mut item = raw::Item::default();
     // SAFETY: the call reads within the slice at any bytes and offset.
     let status =
-        unsafe { raw::naltvigo_item_at_raw(input.as_ptr(), input.len(), place as u64, &mut item) };
+        unsafe { raw::naltvigo_item_at_raw(input.as_ptr(), input.len(), offset, &mut item) };
     (status == OK).then_some(item)
 }
 
+/// Why a look-up finds nothing.
+pub(crate) enum NotFound {
+    NotThere,
+    NotMap,
+}
+
 /// The value at the key of these canonical bytes, in the map that the input is.
-pub(crate) fn find(map: &[u8], key: &[u8]) -> Result<raw::Item, GetError> {
+pub(crate) fn find(map: &[u8], key: &[u8]) -> Result<raw::Item, NotFound> {
     let mut value = raw::Item::default();
     // SAFETY: the call reads within the two slices, whatever their bytes.
     let status = unsafe {
@@ -59,12 +66,12 @@ pub(crate) fn find(map: &[u8], key: &[u8]) -> Result<raw::Item, GetError> {
     };
     match status {
         OK => Ok(value),
-        NOT_THERE => Err(GetError::NotThere),
-        _ => Err(GetError::WrongKind),
+        NOT_THERE => Err(NotFound::NotThere),
+        _ => Err(NotFound::NotMap),
     }
 }
 
-// A table of so many items lies on the stack.
+// A table of up to this many items is on the stack.
 const FEW: usize = 64;
 
 /// Calls `read` with the table of all items in an item, in the order of their first bytes. The item is
@@ -83,10 +90,10 @@ pub(crate) fn with_index<R>(item: &[u8], order: Order, read: impl FnOnce(&[raw::
     read(&many)
 }
 
-// The status, and how many items there are.
+// The status, and the number of items.
 fn index(item: &[u8], options: &Options, items: &mut [raw::Item]) -> (u32, usize) {
     let (mut needed, mut refusal) = (0, raw::Refusal::default());
-    // SAFETY: the items are borrowed for the call, and are as many as is said.
+    // SAFETY: the items are borrowed for the call, and their number is passed.
     let status = unsafe {
         raw::naltvigo_index_raw(
             item.as_ptr(),

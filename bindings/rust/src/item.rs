@@ -2,25 +2,29 @@
 
 use crate::builder::value_of_bytes;
 use crate::calls::{check_canonical, diagnostic};
-use crate::heads;
+use crate::get_error::GetError;
+use crate::heads::{self, NotFound};
+use crate::key::Key;
 use crate::options::{Options, Order, WIDEST};
+use crate::parts::Part;
 use crate::raw;
+use crate::reason::Reason;
 use crate::refused::Refused;
 use crate::sequence::canonical_items;
 use crate::value::{Simple, Value};
 use alloc::vec::Vec;
-use core::error::Error;
 use core::fmt;
 use core::hash::{Hash, Hasher};
 use core::iter::FusedIterator;
 
-/// An item in its canonical bytes, which it borrows. Reading from it takes no memory.
+/// An item in its canonical bytes, which it borrows. Reading from it needs no memory, except for a
+/// [`GetError`]'s text.
 ///
 /// Two items in one order of keys are equal exactly if their values are the same. `Display` and
 /// `Debug` are the diagnostic text.
 ///
 /// ```
-/// use naltvigo::{GetError, Item, Options, Value};
+/// use naltvigo::{Item, Options, Value};
 ///
 /// let claims = Value::map([(4.into(), 1444064944.into()), (1.into(), "as.example".into())])?;
 /// let bytes = claims.encode(&Options::default())?;
@@ -30,7 +34,8 @@ use core::iter::FusedIterator;
 /// let issuer: &str = item.field(1)?;
 /// assert_eq!((expires, issuer), (1444064944, "as.example"));
 /// assert!(item.get("no such key").is_none());
-/// assert_eq!(item.field::<u8>(4), Err(GetError::OutOfRange));
+/// let wrong = item.field::<&str>(4).unwrap_err();
+/// assert_eq!(wrong.to_string(), "the value at key 4 is an integer, not a text");
 /// # Ok::<(), Box<dyn std::error::Error>>(())
 /// ```
 #[derive(Clone, Copy)]
@@ -58,56 +63,8 @@ pub enum View<'a> {
     Simple(Simple),
 }
 
-/// A key to look up in a map; integers, texts and items become one by `from`.
-#[derive(Clone, Copy, Debug)]
-pub enum Key<'k> {
-    /// An integer from 0.
-    Unsigned(u64),
-    /// The integer -1 - n.
-    Negative(u64),
-    /// A text.
-    Text(&'k str),
-    /// Any key, by its canonical bytes in the order of the map that is searched.
-    Encoded(&'k [u8]),
-}
-
-impl<'k> From<&'k str> for Key<'k> {
-    fn from(text: &'k str) -> Key<'k> {
-        Key::Text(text)
-    }
-}
-
-impl<'k> From<Item<'k>> for Key<'k> {
-    fn from(item: Item<'k>) -> Key<'k> {
-        Key::Encoded(item.bytes)
-    }
-}
-
-/// Why there is no such item, or not as the type that is asked for.
-#[derive(Clone, Copy, PartialEq, Eq, Hash)]
-pub enum GetError {
-    /// The map has no such key.
-    NotThere,
-    /// The item is of another kind.
-    WrongKind,
-    /// The integer is outside of the type.
-    OutOfRange,
-}
-
-impl fmt::Display for GetError {
-    fn fmt(&self, f: &mut fmt::Formatter<'_>) -> fmt::Result {
-        f.write_str(match self {
-            GetError::NotThere => "the map has no such key",
-            GetError::WrongKind => "the item is of another kind",
-            GetError::OutOfRange => "the integer is outside of the type",
-        })
-    }
-}
-
-impl Error for GetError {}
-
-// A text up to this long is looked up without memory.
-const SHORT_TEXT: usize = 64;
+// A string of up to this many bytes is looked up without memory.
+const SHORT: usize = 64;
 
 impl<'a> Item<'a> {
     /// The item that the whole input is, if these are its canonical bytes. Fails as
@@ -117,7 +74,7 @@ impl<'a> Item<'a> {
         Ok(Item::first(input, options.order()))
     }
 
-    /// The item in canonical bytes at the front of a sequence, and the bytes behind it. None where
+    /// The item in canonical bytes at the front of a sequence, and the bytes after it. None where
     /// no byte is left.
     pub fn open_front(
         input: &'a [u8],
@@ -138,11 +95,11 @@ impl<'a> Item<'a> {
 
     fn of(input: &'a [u8], item: raw::Item, order: Order) -> Item<'a> {
         Item {
-            bytes: &input[item.place as usize..item.end as usize],
+            bytes: &input[item.offset as usize..item.end as usize],
             order,
             kind: item.kind,
             number: item.number,
-            content: (item.content - item.place) as usize,
+            content: (item.content - item.offset) as usize,
         }
     }
 
@@ -171,49 +128,109 @@ impl<'a> Item<'a> {
         }
     }
 
-    /// The value at a key of a map. None if this is no map, or has no such key.
+    /// The value at a key of a map. None if this is not a map, or has no such key.
     ///
-    /// The pairs before it are gone over, so a map of many pairs is better made a
-    /// [`Value`](crate::Value) if it is asked often.
+    /// It reads the pairs before the key, so make a map of many pairs a
+    /// [`Value`](crate::Value) if you search it often.
     pub fn get<'k>(self, key: impl Into<Key<'k>>) -> Option<Item<'a>> {
         self.find(key.into()).ok()
     }
 
-    /// The value at a key of a map, as this type: an integer, `&str`, `&[u8]` or `bool`.
+    /// Whether this is a map with such a key.
+    pub fn contains_key<'k>(self, key: impl Into<Key<'k>>) -> bool {
+        self.get(key).is_some()
+    }
+
+    /// The value at a key of a map, as this type: an item, an integer, `&str`, `String`, `&[u8]`,
+    /// `Vec<u8>`, `bool`, or a type with `TryFrom<Item>`. Of an array or a map take an item, then
+    /// [`into_members`](Item::into_members) or [`into_pairs`](Item::into_pairs).
     pub fn field<'k, T>(self, key: impl Into<Key<'k>>) -> Result<T, GetError>
     where
-        T: TryFrom<Item<'a>, Error = GetError>,
+        T: TryFrom<Item<'a>>,
+        GetError: From<T::Error>,
     {
-        self.find(key.into())?.try_into()
+        let key = key.into();
+        let value = self.find(key).map_err(|why| match why {
+            NotFound::NotThere => GetError::not_there(key),
+            NotFound::NotMap => GetError::wrong_kind(self.part(), "a map"),
+        })?;
+        T::try_from(value).map_err(|why| GetError::from(why).at(key))
     }
 
-    fn find(self, key: Key<'_>) -> Result<Item<'a>, GetError> {
-        let mut space = [0; heads::HEAD_MAX + SHORT_TEXT];
-        let (kind, number, text) = match key {
-            Key::Unsigned(number) => (0, number, ""),
-            Key::Negative(number) => (1, number, ""),
-            Key::Text(text) => (3, text.len() as u64, text),
-            Key::Encoded(bytes) => return self.find_bytes(bytes),
-        };
-        if text.len() > SHORT_TEXT {
-            let mut encoded = Vec::new();
-            heads::append(kind, number, &mut encoded);
-            encoded.extend_from_slice(text.as_bytes());
-            return self.find_bytes(&encoded);
+    /// The same, or none if there is no such key or its value is null.
+    pub fn optional<'k, T>(self, key: impl Into<Key<'k>>) -> Result<Option<T>, GetError>
+    where
+        T: TryFrom<Item<'a>>,
+        GetError: From<T::Error>,
+    {
+        let key = key.into();
+        match self.find(key) {
+            Err(NotFound::NotThere) => Ok(None),
+            Ok(value) if matches!(value.view(), View::Simple(Simple::NULL)) => Ok(None),
+            Ok(value) => T::try_from(value)
+                .map(Some)
+                .map_err(|why| GetError::from(why).at(key)),
+            Err(NotFound::NotMap) => Err(GetError::wrong_kind(self.part(), "a map")),
         }
-        let head = heads::put(kind, number, &mut space);
-        let size = head + text.len();
-        space[head..size].copy_from_slice(text.as_bytes());
-        self.find_bytes(&space[..size])
     }
 
-    fn find_bytes(self, key: &[u8]) -> Result<Item<'a>, GetError> {
+    // Its head, to say what it is.
+    pub(crate) fn part(self) -> Part<'a> {
+        Part {
+            kind: self.kind as u8,
+            number: self.number,
+            payload: &[],
+        }
+    }
+
+    fn find(self, key: Key<'_>) -> Result<Item<'a>, NotFound> {
+        match (key, key.part()) {
+            (_, Some(part)) if part.payload.len() <= SHORT => {
+                let mut space = [0; heads::HEAD_MAX + SHORT];
+                let head = heads::put(part.kind, part.number, &mut space);
+                let size = head + part.payload.len();
+                space[head..size].copy_from_slice(part.payload);
+                self.find_bytes(&space[..size])
+            }
+            (_, Some(part)) => {
+                let mut encoded = Vec::new();
+                heads::append(part, &mut encoded);
+                self.find_bytes(&encoded)
+            }
+            (Key::Encoded(bytes), _) => self.find_bytes(bytes),
+            (Key::Value(value), _) => match value.encode(&WIDEST.with_order(self.order)) {
+                Ok(bytes) => self.find_bytes(&bytes),
+                Err(why) if why.reason == Reason::Memory => panic!("{why}"),
+                // deeper than any item
+                Err(_) => Err(NotFound::NotThere),
+            },
+            _ => Err(NotFound::NotThere),
+        }
+    }
+
+    fn find_bytes(self, key: &[u8]) -> Result<Item<'a>, NotFound> {
         let value = heads::find(self.bytes, key)?;
         Ok(Item::of(self.bytes, value, self.order))
     }
 
-    /// The member of an array at an index. None if this is no array, or has no such member. The
-    /// members before it are gone over.
+    /// The members of an array.
+    pub fn members(self) -> Result<Members<'a>, GetError> {
+        match self.view() {
+            View::Array(members) => Ok(members),
+            _ => Err(GetError::wrong_kind(self.part(), "an array")),
+        }
+    }
+
+    /// The pairs of a map, in the order of their keys.
+    pub fn pairs(self) -> Result<Pairs<'a>, GetError> {
+        match self.view() {
+            View::Map(pairs) => Ok(pairs),
+            _ => Err(GetError::wrong_kind(self.part(), "a map")),
+        }
+    }
+
+    /// The member of an array at an index. None if this is not an array, or has no such member. It reads
+    /// the members before that one.
     pub fn at(self, index: usize) -> Option<Item<'a>> {
         match self.view() {
             View::Array(mut members) => members.nth(index),

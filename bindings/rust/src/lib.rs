@@ -16,7 +16,8 @@
 //! # Ok::<(), Box<dyn std::error::Error>>(())
 //! ```
 //!
-//! Bytes: each accepted input has one canonical encoding, each refused one a reason and an exact place.
+//! Bytes: each accepted input has one canonical encoding, each refused one a reason and an exact
+//! offset.
 //!
 //! ```
 //! use naltvigo::{canonicalise, Options, Reason};
@@ -28,16 +29,19 @@
 //!
 //! // [1.5]
 //! let refused = canonicalise(b"\x81\xf9\x3e\x00", &Options::default()).unwrap_err();
-//! assert_eq!((refused.reason, refused.place), (Reason::Float, 1));
+//! assert_eq!((refused.reason, refused.offset), (Reason::Float, 1));
 //! # Ok::<(), naltvigo::Refused>(())
 //! ```
 //!
-//! The proved code is the static library behind this crate, which calls it and is tested. It keeps
-//! no state, so its calls may be made from any number of threads at once. It takes memory from C's
-//! `malloc`; values take it from Rust's allocator.
+//! The proved code is a library that this crate calls; the crate itself is tested. The library keeps
+//! no state, so any number of threads may call it at once. It allocates with C's `malloc`; values use
+//! Rust's allocator.
+//!
+//! [`Value`], [`View`], [`Kind`] and [`Step`] have all the variants that they will have. Other enums
+//! may get more, and [`Refused`] and [`Event`] more fields.
 #![no_std]
 #![warn(missing_docs)]
-// but for the calls of the library
+// except for the calls of the library
 #![deny(unsafe_code)]
 
 extern crate alloc;
@@ -47,11 +51,17 @@ mod builder;
 mod calls;
 mod containers;
 mod convert;
-#[allow(unsafe_code)]
 mod events;
+mod extract;
+mod get_error;
 #[allow(unsafe_code)]
 mod heads;
 mod item;
+mod key;
+#[allow(unsafe_code)]
+mod machine;
+mod map;
+mod map_parts;
 mod options;
 mod parts;
 #[allow(unsafe_code)]
@@ -64,13 +74,18 @@ mod sequence;
 mod value;
 
 pub use calls::{canonicalise, canonicalise_into, check, check_canonical, diagnostic, same};
-pub use containers::{Array, Map, RepeatedKey, Tag};
-pub use events::{Event, Events, Kind, Machine, PartEvents, Step};
-pub use item::{GetError, Item, Key, Members, Pairs, View};
+pub use containers::{Array, Tag};
+pub use events::{Event, Events, Kind, PartEvents};
+pub use get_error::GetError;
+pub use item::{Item, Members, Pairs, View};
+pub use key::Key;
+pub use machine::{Machine, Step};
+pub use map::{Map, RepeatedKey};
+pub use map_parts::{Entry, Iter};
 pub use options::{Keys, Options, Order};
 pub use reader::{read_canonical_items, read_items, ReadError, ReadItems};
 pub use reason::Reason;
-pub use refused::{NotWritten, Refused, Side};
+pub use refused::{NotCompared, NotWritten, Refused, Side};
 pub use sequence::{canonical_items, items, Items};
 pub use value::{Simple, Value};
 
@@ -79,9 +94,9 @@ pub use value::{Simple, Value};
 #[doc = include_str!("../README.md")]
 struct Readme;
 
-/// The version of the library that runs: a byte each for its three numbers.
+/// The version of the library that runs: one byte for each of its three numbers.
 #[allow(unsafe_code)]
 pub fn library_version() -> u32 {
-    // SAFETY: it takes nothing.
+    // SAFETY: it has no parameters.
     unsafe { raw::naltvigo_version_raw() }
 }

@@ -4,6 +4,7 @@ use crate::raw::DEPTH_MAX;
 
 /// The order of the keys of a map, by their canonical bytes.
 #[derive(Clone, Copy, Debug, Default, PartialEq, Eq, Hash)]
+#[non_exhaustive]
 pub enum Order {
     /// Lexicographic (RFC 8949, section 4.2.1).
     #[default]
@@ -14,6 +15,7 @@ pub enum Order {
 
 /// The kinds of keys that the maps of an item may have, at every depth.
 #[derive(Clone, Copy, Debug, Default, PartialEq, Eq, Hash)]
+#[non_exhaustive]
 pub enum Keys {
     /// Every item (RFC 8949, section 3.1).
     #[default]
@@ -35,7 +37,7 @@ pub enum Keys {
 /// let map = b"\xa1\x80\x00"; // {[]: 0}
 /// assert!(check(map, &deeper).is_ok());
 /// let refused = check(map, &deeper.with_keys(Keys::IntegersAndTexts)).unwrap_err();
-/// assert_eq!((refused.reason, refused.place), (Reason::KeyKind, 1));
+/// assert_eq!((refused.reason, refused.offset), (Reason::KeyKind, 1));
 /// ```
 #[derive(Clone, Copy, Debug, PartialEq, Eq, Hash)]
 pub struct Options {
@@ -61,13 +63,13 @@ impl Options {
         })
     }
 
-    /// These options with another depth limit, in levels, 0 to 1024. None where it is greater.
+    /// These options with another depth limit, in levels, 0 to 1024. None if it is greater.
     #[must_use]
     pub const fn with_depth(self, depth: u16) -> Option<Options> {
         self.with_limits(depth, self.bytes)
     }
 
-    /// These options with another byte limit, 0 to 2^62. None where it is greater.
+    /// These options with another byte limit, 0 to 2^62. None if it is greater.
     #[must_use]
     pub const fn with_bytes(self, bytes: u64) -> Option<Options> {
         self.with_limits(self.depth, bytes)
@@ -86,7 +88,7 @@ impl Options {
         Options { keys, ..self }
     }
 
-    /// The order of keys, which the calls that do not ask for it leave unread.
+    /// The order of keys. Calls that need no order ignore it.
     pub const fn order(&self) -> Order {
         self.order
     }

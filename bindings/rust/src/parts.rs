@@ -3,12 +3,13 @@
 //! What goes over a value, or makes one, does it by this list. So it needs no stack of the machine's,
 //! however deep the value is.
 
+use crate::map_parts;
 use crate::raw;
 use crate::value::Value;
 use alloc::vec::Vec;
 use core::slice;
 
-/// A head, and the payload behind it if it is a string's. The order of two parts is that of their
+/// A head, and the payload after it if it is a string's. The order of two parts is that of their
 /// bytes, since a greater number never has a shorter head.
 #[derive(Clone, Copy, Debug, PartialEq, Eq, PartialOrd, Ord, Hash)]
 pub(crate) struct Part<'a> {
@@ -65,7 +66,7 @@ pub(crate) struct Parts<'a> {
 // What is still to come of a container.
 enum Rest<'a> {
     Members(slice::Iter<'a, Value>),
-    Pairs(slice::Iter<'a, (Value, Value)>),
+    Pairs(map_parts::Iter<'a>),
     One(&'a Value),
 }
 
@@ -109,7 +110,7 @@ impl<'a> Iterator for Parts<'a> {
         let value = self.next_value()?;
         match value {
             Value::Array(members) => self.open.push(Rest::Members(members.iter())),
-            Value::Map(pairs) => self.open.push(Rest::Pairs(pairs.as_slice().iter())),
+            Value::Map(pairs) => self.open.push(Rest::Pairs(pairs.iter())),
             Value::Tag(tag) => self.open.push(Rest::One(tag.content())),
             _ => {}
         }

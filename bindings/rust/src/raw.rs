@@ -1,4 +1,4 @@
-//! The exports of `naltvigo.h`. `scripts/header.py` compares the numbers with it.
+//! The exports of `naltvigo.h`. `scripts/header.py` compares numbers, structs and signatures with it.
 
 use crate::options::Options;
 
@@ -9,20 +9,22 @@ pub const EVENT: u32 = 7;
 pub const MORE: u32 = 8;
 pub const NOT_THERE: u32 = 10;
 
+pub const LEFT: u32 = 0;
+
 pub const DEPTH_MAX: usize = 1024;
 
 #[repr(C)]
 #[derive(Clone, Copy, Debug, Default)]
 pub struct Refusal {
     pub reason: u32,
-    pub place: u64,
-    pub read: u64,
+    pub offset: u64,
+    pub consumed: u64,
 }
 
 #[repr(C)]
 #[derive(Clone, Copy, Debug, Default)]
 pub struct Event {
-    pub place: u64,
+    pub offset: u64,
     pub number: u64,
     pub kind: u32,
     pub width: u32,
@@ -32,21 +34,21 @@ pub struct Event {
 #[derive(Clone, Copy, Debug, Default)]
 pub struct Item {
     pub number: u64,
-    pub place: u64,
+    pub offset: u64,
     pub content: u64,
     pub end: u64,
     pub kind: u32,
-    pub behind: u32,
+    pub entries: u32,
 }
 
 #[repr(C)]
 #[derive(Clone, Debug)]
 pub struct Machine {
     pub bytes: u64,
-    pub taken: u64,
+    pub consumed: u64,
     pub reported: u64,
     pub number: u64,
-    pub place: u64,
+    pub offset: u64,
     pub depth: u16,
     pub open: u16,
     pub position: u8,
@@ -55,7 +57,7 @@ pub struct Machine {
     pub left: u8,
     pub chunk: u8,
     pub reason: u8,
-    pub lefts: [u64; DEPTH_MAX],
+    pub remaining: [u64; DEPTH_MAX],
     pub kinds: [u8; DEPTH_MAX],
 }
 
@@ -63,10 +65,10 @@ impl Machine {
     pub fn new(options: &Options) -> Machine {
         let mut machine = Machine {
             bytes: 0,
-            taken: 0,
+            consumed: 0,
             reported: 0,
             number: 0,
-            place: 0,
+            offset: 0,
             depth: 0,
             open: 0,
             position: 0,
@@ -75,10 +77,10 @@ impl Machine {
             left: 0,
             chunk: 0,
             reason: 0,
-            lefts: [0; DEPTH_MAX],
+            remaining: [0; DEPTH_MAX],
             kinds: [0; DEPTH_MAX],
         };
-        // SAFETY: the pointer is that of a whole machine. Options are in range, so it answers OK.
+        // SAFETY: the pointer is that of a whole machine. Options are in range, so it returns OK.
         unsafe {
             naltvigo_machine_start_raw(options.depth().into(), options.bytes(), &mut machine)
         };
@@ -123,7 +125,7 @@ extern "C" {
         keys: u32,
         depth: u32,
         bytes: u64,
-        taken: *mut u64,
+        length: *mut u64,
         refusal: *mut Refusal,
     ) -> u32;
     pub fn naltvigo_next_canonical_raw(
@@ -133,7 +135,7 @@ extern "C" {
         keys: u32,
         depth: u32,
         bytes: u64,
-        taken: *mut u64,
+        length: *mut u64,
         refusal: *mut Refusal,
     ) -> u32;
     pub fn naltvigo_compare_raw(
@@ -157,6 +159,17 @@ extern "C" {
         out_length: usize,
         needed: *mut usize,
         refusal: *mut Refusal,
+    ) -> u32;
+    pub fn naltvigo_explain_raw(
+        input: *const u8,
+        input_length: usize,
+        depth: u32,
+        bytes: u64,
+        reason: u32,
+        offset: u64,
+        out: *mut u8,
+        out_length: usize,
+        needed: *mut usize,
     ) -> u32;
     pub fn naltvigo_machine_start_raw(depth: u32, bytes: u64, machine: *mut Machine) -> u32;
     pub fn naltvigo_machine_take_raw(
@@ -191,7 +204,7 @@ extern "C" {
     pub fn naltvigo_item_at_raw(
         input: *const u8,
         input_length: usize,
-        place: u64,
+        offset: u64,
         item: *mut Item,
     ) -> u32;
     pub fn naltvigo_find_raw(

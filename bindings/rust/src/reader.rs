@@ -1,6 +1,6 @@
 //! The items of a sequence that comes from a reader.
 
-use crate::events::{Machine, Step};
+use crate::machine::Machine;
 use crate::options::Options;
 use crate::reason::Reason;
 use crate::refused::Refused;
@@ -59,7 +59,7 @@ where
 /// Why no item is given.
 #[derive(Clone, PartialEq, Eq)]
 pub enum ReadError<E> {
-    /// The item is refused; its place counts from the item's first byte. This is the last answer.
+    /// The item is refused; the offset counts from the item's first byte. This is the last result.
     Refused(Refused),
     /// `read` failed. The next call tries it again, and nothing is lost.
     Read(E),
@@ -76,7 +76,7 @@ impl<E: fmt::Display> fmt::Display for ReadError<E> {
 
 impl<E: Error> Error for ReadError<E> {}
 
-// How many bytes are asked for at a time, at least.
+// The size of the first buffer.
 const AT_A_TIME: usize = 1 << 16;
 
 /// The items of a sequence from a reader, as [`read_items`] and [`read_canonical_items`] give them.
@@ -108,7 +108,7 @@ impl<R> ReadItems<R> {
             && self
                 .cut
                 .as_mut()
-                .is_some_and(|machine| is_cut(machine, came))
+                .is_some_and(|machine| machine.needs_more(&came[machine.consumed() as usize..]))
         {
             return None;
         }
@@ -141,26 +141,30 @@ impl<R> ReadItems<R> {
     where
         R: FnMut(&mut [u8]) -> Result<usize, E>,
     {
-        let start = mem::take(&mut self.start);
-        self.buffer.copy_within(start..self.end, 0);
-        self.end -= start;
-        if self.buffer.len() < self.end + AT_A_TIME {
-            self.buffer.resize(2 * self.end + AT_A_TIME, 0);
+        self.move_to_the_front();
+        if self.buffer.len() == self.end {
+            // more than the limit of an item is never kept
+            let limit = usize::try_from(self.options.bytes()).unwrap_or(usize::MAX);
+            let most = limit.saturating_add(AT_A_TIME);
+            let size = (2 * self.end).max(AT_A_TIME).min(most);
+            self.buffer.resize(size, 0);
         }
         let space = &mut self.buffer[self.end..];
-        let read = (self.read)(space)?;
-        assert!(read <= space.len(), "more came than there is space for");
-        self.end += read;
-        self.ended = read == 0;
+        let count = (self.read)(space)?;
+        assert!(count <= space.len(), "more came than there is space for");
+        self.end += count;
+        self.ended = count == 0;
         Ok(())
     }
-}
 
-// Takes the rest of what came of an item; whether more bytes are needed.
-fn is_cut(machine: &mut Machine, came: &[u8]) -> bool {
-    let taken = machine.taken() as usize;
-    machine.events(&came[taken..]).for_each(drop);
-    machine.step(b"").1 == Step::More
+    // Once for each item, however few bytes a read returns.
+    fn move_to_the_front(&mut self) {
+        let start = mem::take(&mut self.start);
+        if start > 0 {
+            self.buffer.copy_within(start..self.end, 0);
+            self.end -= start;
+        }
+    }
 }
 
 impl<E, R> Iterator for ReadItems<R>

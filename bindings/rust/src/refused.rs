@@ -1,51 +1,92 @@
 //! The refusal of an input.
 
-use crate::containers::RepeatedKey;
-use crate::item::GetError;
+use crate::calls::explain;
+use crate::get_error::GetError;
+use crate::map::RepeatedKey;
+use crate::options::Options;
 use crate::raw;
 use crate::reader::ReadError;
 use crate::reason::Reason;
+use alloc::boxed::Box;
 use core::error::Error;
 use core::fmt;
 
 /// Why an input is refused, and where. `Display` and `Debug`, which `main` prints of an error that it
 /// returns, are a sentence: `refused 12 Trailing at 1: The item is complete, and a byte follows it.`
-#[derive(Clone, Copy, PartialEq, Eq, Hash)]
+///
+/// ```
+/// use naltvigo::{check, Options, Reason};
+///
+/// let refused = check(b"\xa1\x61a\x82\x00\xf9\x3e\x00", &Options::default()).unwrap_err();
+/// assert_eq!((refused.reason, refused.offset), (Reason::Float, 5));
+/// assert_eq!(refused.path(), r#"$."a"[1]"#);
+/// assert!(!refused.sentence().is_empty() && !refused.advice().is_empty());
+/// ```
+#[derive(Clone, PartialEq, Eq, Hash)]
+#[non_exhaustive]
 pub struct Refused {
-    /// Why. [`Reason::Memory`] where memory was refused, and nothing is known of the input.
+    /// Why. [`Reason::Memory`] if memory was refused, and nothing is known of the input.
     pub reason: Reason,
     /// The offset in bytes of what is wrong.
-    pub place: u64,
-    /// How many bytes were looked at.
-    pub read: u64,
+    pub offset: u64,
+    /// How many bytes were consumed: those that the decision depends on.
+    pub consumed: u64,
+    // A sentence, an advice and a path, a line each. Empty if memory was refused.
+    explanation: Box<str>,
 }
 
 impl Refused {
-    pub(crate) fn of(refusal: raw::Refusal) -> Refused {
+    pub(crate) fn of(refusal: raw::Refusal, input: &[u8], options: &Options) -> Refused {
+        let reason = Reason::numbered(refusal.reason).unwrap_or(Reason::Memory);
         Refused {
-            reason: Reason::numbered(refusal.reason).unwrap_or(Reason::Memory),
-            place: refusal.place,
-            read: refusal.read,
+            reason,
+            offset: refusal.offset,
+            consumed: refusal.consumed,
+            explanation: explain(input, options, reason, refusal.offset),
         }
     }
 
-    pub(crate) fn at(reason: Reason, place: u64) -> Refused {
-        Refused {
-            reason,
-            place,
-            read: place,
-        }
+    pub(crate) fn at(reason: Reason, offset: u64, input: &[u8], options: &Options) -> Refused {
+        let refusal = raw::Refusal {
+            reason: reason.number().into(),
+            offset,
+            consumed: offset,
+        };
+        Refused::of(refusal, input, options)
+    }
+
+    fn line(&self, number: usize) -> &str {
+        self.explanation.splitn(3, '\n').nth(number).unwrap_or("")
+    }
+
+    /// What is wrong, in a sentence.
+    pub fn sentence(&self) -> &str {
+        self.line(0)
+    }
+
+    /// What to do about it, in a sentence.
+    pub fn advice(&self) -> &str {
+        self.line(1)
+    }
+
+    /// Where in the item it is: `$."a"[1]` is the second member of the array at the key `"a"`, and `$` the
+    /// item itself. It is `$` as well if the bytes were not at hand: of a [`Machine`](crate::Machine).
+    pub fn path(&self) -> &str {
+        self.line(2)
     }
 }
 
 impl fmt::Display for Refused {
     fn fmt(&self, f: &mut fmt::Formatter<'_>) -> fmt::Result {
-        let (number, meaning) = (self.reason.number(), self.reason.meaning());
-        write!(
-            f,
-            "refused {number} {:?} at {}: {meaning}",
-            self.reason, self.place
-        )
+        let (number, reason) = (self.reason.number(), self.reason);
+        write!(f, "refused {number} {reason:?} at {}", self.offset)?;
+        if !matches!(self.path(), "$" | "") {
+            write!(f, " ({})", self.path())?;
+        }
+        match self.sentence() {
+            "" => Ok(()),
+            sentence => write!(f, ": {sentence}"),
+        }
     }
 }
 
@@ -60,12 +101,35 @@ pub enum Side {
     Right,
 }
 
+/// Why two inputs were not compared: one of them is refused.
+#[derive(Clone, PartialEq, Eq, Hash)]
+#[non_exhaustive]
+pub struct NotCompared {
+    /// Which of the two.
+    pub side: Side,
+    /// Why.
+    pub refused: Refused,
+}
+
+impl fmt::Display for NotCompared {
+    fn fmt(&self, f: &mut fmt::Formatter<'_>) -> fmt::Result {
+        let side = match self.side {
+            Side::Left => "left",
+            Side::Right => "right",
+        };
+        write!(f, "{side}: {}", self.refused)
+    }
+}
+
+impl Error for NotCompared {}
+
 /// Why nothing was written to a buffer.
-#[derive(Clone, Copy, PartialEq, Eq, Hash)]
+#[derive(Clone, PartialEq, Eq, Hash)]
+#[non_exhaustive]
 pub enum NotWritten {
     /// The input is refused.
     Refused(Refused),
-    /// The answer has this many bytes, more than the buffer.
+    /// The result has this many bytes, more than the buffer.
     TooSmall(usize),
 }
 
@@ -79,7 +143,7 @@ impl fmt::Display for NotWritten {
     fn fmt(&self, f: &mut fmt::Formatter<'_>) -> fmt::Result {
         match self {
             NotWritten::Refused(refused) => refused.fmt(f),
-            NotWritten::TooSmall(needed) => write!(f, "the answer has {needed} bytes"),
+            NotWritten::TooSmall(needed) => write!(f, "the result has {needed} bytes"),
         }
     }
 }
@@ -97,4 +161,4 @@ macro_rules! debug_as_display {
     )*};
 }
 
-debug_as_display!(Refused NotWritten GetError RepeatedKey ReadError<E>);
+debug_as_display!(Refused NotCompared NotWritten GetError RepeatedKey ReadError<E>);

@@ -7,7 +7,7 @@ use crate::refused::Refused;
 use core::iter::FusedIterator;
 
 /// The items of a sequence (RFC 8742), each in its own bytes. The limits are for each item, and the
-/// order of keys is not looked at: see [`canonical_items`].
+/// order of keys is not checked: see [`canonical_items`].
 ///
 /// ```
 /// use naltvigo::{items, Options};
@@ -43,7 +43,7 @@ pub fn canonical_items<'a>(input: &'a [u8], options: &Options) -> Items<'a> {
     }
 }
 
-/// The items of a sequence, as [`items`] and [`canonical_items`] give them. A refusal, whose place
+/// The items of a sequence, as [`items`] and [`canonical_items`] give them. A refusal, whose offset
 /// counts from its item's first byte, is the last that comes.
 #[derive(Clone, Debug)]
 pub struct Items<'a> {
@@ -62,7 +62,7 @@ impl Items<'_> {
 
     // How many bytes the next item has.
     fn size(&self) -> Result<usize, Refused> {
-        let (mut taken, mut refusal) = (0, raw::Refusal::default());
+        let (mut length, mut refusal) = (0, raw::Refusal::default());
         let status = if self.canonical {
             unsafe {
                 raw::naltvigo_next_canonical_raw(
@@ -72,7 +72,7 @@ impl Items<'_> {
                     self.options.keys() as u32,
                     self.options.depth().into(),
                     self.options.bytes(),
-                    &mut taken,
+                    &mut length,
                     &mut refusal,
                 )
             }
@@ -84,13 +84,13 @@ impl Items<'_> {
                     self.options.keys() as u32,
                     self.options.depth().into(),
                     self.options.bytes(),
-                    &mut taken,
+                    &mut length,
                     &mut refusal,
                 )
             }
         };
-        accepted(status, refusal)?;
-        Ok(taken as usize)
+        accepted(status, refusal, self.left, &self.options)?;
+        Ok(length as usize)
     }
 }
 

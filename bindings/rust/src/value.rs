@@ -2,8 +2,11 @@
 
 use crate::builder::{value_of, value_of_bytes};
 use crate::calls::{canonicalise, diagnostic};
-use crate::containers::{Array, Map, RepeatedKey, Tag};
+use crate::containers::{Array, Tag};
+use crate::get_error::GetError;
 use crate::heads;
+use crate::key::Key;
+use crate::map::{Map, RepeatedKey};
 use crate::options::{Options, WIDEST};
 use crate::parts::{Part, Parts};
 use crate::refused::Refused;
@@ -69,6 +72,9 @@ impl Simple {
     }
 }
 
+// The levels that a comparison keeps on the stack, in a few KiB.
+const LEVELS: u8 = 32;
+
 impl Value {
     /// The simple value null.
     pub const NULL: Value = Value::Simple(Simple::NULL);
@@ -78,9 +84,9 @@ impl Value {
         Map::new(pairs).map(Value::Map)
     }
 
-    /// An array of these members.
+    /// An array of these members, as `collect` makes it of an iterator.
     pub fn array(members: impl IntoIterator<Item = Value>) -> Value {
-        Value::Array(members.into_iter().collect())
+        members.into_iter().collect()
     }
 
     /// A byte string. There is no `From<Vec<u8>>`, since `vec![1, 2]` might as well be an array.
@@ -97,7 +103,7 @@ impl Value {
     /// `KeyKind`; and with `Memory` as [`canonicalise`] does.
     ///
     /// Heads and payloads are written in the order of the value; the proved `canonicalise` makes the
-    /// canonical bytes of them, in the order of keys that is asked for.
+    /// canonical bytes of them, in the requested order of keys.
     pub fn encode(&self, options: &Options) -> Result<Vec<u8>, Refused> {
         let mut out = Vec::new();
         for part in self.parts() {
@@ -105,8 +111,7 @@ impl Value {
             if out.len() as u64 > options.bytes() {
                 break;
             }
-            heads::append(part.kind, part.number, &mut out);
-            out.extend_from_slice(part.payload);
+            heads::append(part, &mut out);
         }
         canonicalise(&out, options)
     }
@@ -122,11 +127,67 @@ impl Value {
         Parts::of_value(self)
     }
 
-    /// The value at a key of a map. None if this is no map, or has no such key.
-    pub fn get(&self, key: impl Into<Value>) -> Option<&Value> {
+    /// The order of all parts.
+    pub(crate) fn cmp_parts(&self, other: &Value) -> Ordering {
+        self.cmp_down(other, LEVELS)
+    }
+
+    // The same, without memory for this many levels.
+    fn cmp_down(&self, other: &Value, levels: u8) -> Ordering {
+        let Some(levels) = levels.checked_sub(1) else {
+            return self.parts().cmp(other.parts());
+        };
+        let down = |(one, two): (&Value, &Value)| one.cmp_down(two, levels);
+        let first = |found: Ordering| found.is_ne().then_some(found);
+        // two containers of one head have as many members
+        Part::of(self)
+            .cmp(&Part::of(other))
+            .then_with(|| match (self, other) {
+                (Value::Array(one), Value::Array(two)) => {
+                    let mut found = one.iter().zip(two.iter()).map(down);
+                    found.find_map(first).unwrap_or(Ordering::Equal)
+                }
+                (Value::Map(one), Value::Map(two)) => {
+                    let pairs = one.iter().zip(two.iter());
+                    let mut found = pairs
+                        .map(|(one, two)| down((one.0, two.0)).then_with(|| down((one.1, two.1))));
+                    found.find_map(first).unwrap_or(Ordering::Equal)
+                }
+                (Value::Tag(one), Value::Tag(two)) => down((one.content(), two.content())),
+                _ => Ordering::Equal,
+            })
+    }
+
+    /// The value at a key of a map. None if this is not a map, or has no such key.
+    pub fn get<'k>(&self, key: impl Into<Key<'k>>) -> Option<&Value> {
         match self {
             Value::Map(pairs) => pairs.get(key),
             _ => None,
+        }
+    }
+
+    /// The value at a key of a map, as this type: a reference to a value, an integer, `&str`, `&[u8]`
+    /// or `bool`.
+    pub fn field<'v, 'k, T>(&'v self, key: impl Into<Key<'k>>) -> Result<T, GetError>
+    where
+        T: TryFrom<&'v Value>,
+        GetError: From<T::Error>,
+    {
+        let (key, map) = (key.into(), <&Map>::try_from(self)?);
+        let value = map.get(key).ok_or_else(|| GetError::not_there(key))?;
+        T::try_from(value).map_err(|why| GetError::from(why).at(key))
+    }
+
+    /// The same, or none if there is no such key or its value is null.
+    pub fn optional<'v, 'k, T>(&'v self, key: impl Into<Key<'k>>) -> Result<Option<T>, GetError>
+    where
+        T: TryFrom<&'v Value>,
+        GetError: From<T::Error>,
+    {
+        let (key, map) = (key.into(), <&Map>::try_from(self)?);
+        match map.get(key) {
+            None | Some(Value::Simple(Simple::NULL)) => Ok(None),
+            Some(_) => self.field(key).map(Some),
         }
     }
 }
@@ -139,7 +200,7 @@ impl Clone for Value {
 
 impl PartialEq for Value {
     fn eq(&self, other: &Value) -> bool {
-        self.parts().eq(other.parts())
+        self.cmp(other).is_eq()
     }
 }
 
@@ -147,9 +208,7 @@ impl Eq for Value {}
 
 impl Ord for Value {
     fn cmp(&self, other: &Value) -> Ordering {
-        // the first parts decide for all that hold no others
-        let first = Part::of(self).cmp(&Part::of(other));
-        first.then_with(|| self.parts().cmp(other.parts()))
+        self.cmp_parts(other)
     }
 }
 

@@ -2,32 +2,48 @@
 
 use naltvigo::{
     canonical_items, canonicalise, check, check_canonical, diagnostic, items, library_version,
-    same, Event, Events, Keys, Kind, Machine, NotWritten, Options, Order, Reason, Refused, Side,
-    Step,
+    same, Event, Events, Keys, Kind, Machine, NotCompared, NotWritten, Options, Order, Reason,
+    Refused, Side, Step,
 };
 use std::iter::FusedIterator;
 use std::thread;
 
-fn refused(reason: Reason, place: u64, read: u64) -> Refused {
-    Refused {
-        reason,
-        place,
-        read,
-    }
+type Triple = (Reason, u64, u64);
+
+fn triple(refused: Refused) -> Triple {
+    (refused.reason, refused.offset, refused.consumed)
+}
+
+// What a call returns, or why it refuses.
+fn of<T>(found: Result<T, Refused>) -> Result<T, Triple> {
+    found.map_err(triple)
+}
+
+fn sides(found: Result<bool, NotCompared>) -> Result<bool, (Side, Triple)> {
+    found.map_err(|why| (why.side, triple(why.refused)))
 }
 
 #[test]
 fn nothing_at_all() {
     let options = Options::default();
-    let truncated = refused(Reason::Truncated, 0, 0);
-    assert_eq!(canonicalise(b"", &options), Err(truncated));
-    assert_eq!(check(b"", &options), Err(truncated));
-    assert_eq!(check_canonical(b"", &options), Err(truncated));
-    assert_eq!(diagnostic(b"", &options), Err(truncated));
-    assert_eq!(same(b"", b"\x00", &options), Err((Side::Left, truncated)));
-    assert_eq!(same(b"\x00", b"", &options), Err((Side::Right, truncated)));
+    let truncated = (Reason::Truncated, 0, 0);
+    assert_eq!(of(canonicalise(b"", &options)), Err(truncated));
+    assert_eq!(of(check(b"", &options)), Err(truncated));
+    assert_eq!(of(check_canonical(b"", &options)), Err(truncated));
+    assert_eq!(of(diagnostic(b"", &options)), Err(truncated));
+    assert_eq!(
+        sides(same(b"", b"\x00", &options)),
+        Err((Side::Left, truncated))
+    );
+    assert_eq!(
+        sides(same(b"\x00", b"", &options)),
+        Err((Side::Right, truncated))
+    );
     assert_eq!(items(b"", &options).count(), 0);
-    assert_eq!(Events::new(b"", &options).next(), Some(Err(truncated)));
+    assert_eq!(
+        Events::new(b"", &options).next().map(of),
+        Some(Err(truncated))
+    );
 }
 
 #[test]
@@ -36,8 +52,8 @@ fn defaults() {
     let tower = |levels: usize| [vec![0x81; levels - 1], vec![0x80]].concat();
     assert_eq!(check(&tower(64), &options), Ok(()));
     assert_eq!(
-        check(&tower(65), &options),
-        Err(refused(Reason::TooDeep, 64, 65))
+        of(check(&tower(65), &options)),
+        Err((Reason::TooDeep, 64, 65))
     );
     // {-1: 0, 100: 0}
     let keys = b"\xa2\x20\x00\x18\x64\x00";
@@ -88,13 +104,10 @@ fn limits_and_their_ranges() {
     // by the calls
     let flat = Options::default().with_depth(0).unwrap();
     assert_eq!(check(b"\x00", &flat), Ok(()));
-    assert_eq!(check(b"\x80", &flat), Err(refused(Reason::TooDeep, 0, 1)));
+    assert_eq!(of(check(b"\x80", &flat)), Err((Reason::TooDeep, 0, 1)));
     let short = Options::default().with_bytes(1).unwrap();
     assert_eq!(check(b"\x00", &short), Ok(()));
-    assert_eq!(
-        check(b"\x18\x18", &short),
-        Err(refused(Reason::TooLong, 1, 1))
-    );
+    assert_eq!(of(check(b"\x18\x18", &short)), Err((Reason::TooLong, 1, 1)));
 }
 
 // {[]: 0}, whose key is neither an integer nor a text.
@@ -103,32 +116,38 @@ fn kinds_of_keys() {
     let any = Options::default().with_order(Order::LengthFirst);
     let basic = any.with_keys(Keys::IntegersAndTexts);
     let map = b"\xa1\x80\x00";
-    let of_kind = refused(Reason::KeyKind, 1, 2);
+    let of_kind = (Reason::KeyKind, 1, 2);
     assert_eq!(canonicalise(map, &any), Ok(map.to_vec()));
-    assert_eq!(canonicalise(map, &basic), Err(of_kind));
-    assert_eq!(check(map, &basic), Err(of_kind));
-    assert_eq!(check_canonical(map, &basic), Err(of_kind));
-    assert_eq!(diagnostic(map, &basic), Err(of_kind));
-    assert_eq!(same(b"\x00", map, &basic), Err((Side::Right, of_kind)));
-    assert_eq!(items(map, &basic).next(), Some(Err(of_kind)));
-    assert_eq!(canonical_items(map, &basic).next(), Some(Err(of_kind)));
-    // the form alone is looked at
+    assert_eq!(of(canonicalise(map, &basic)), Err(of_kind));
+    assert_eq!(of(check(map, &basic)), Err(of_kind));
+    assert_eq!(of(check_canonical(map, &basic)), Err(of_kind));
+    assert_eq!(of(diagnostic(map, &basic)), Err(of_kind));
+    assert_eq!(
+        sides(same(b"\x00", map, &basic)),
+        Err((Side::Right, of_kind))
+    );
+    assert_eq!(items(map, &basic).next().map(of), Some(Err(of_kind)));
+    assert_eq!(
+        canonical_items(map, &basic).next().map(of),
+        Some(Err(of_kind))
+    );
+    // only well-formedness is checked
     assert_eq!(Events::new(map, &basic).filter(Result::is_ok).count(), 3);
-    // other options stand
+    // with other options
     let keys = b"\xa2\x20\x00\x18\x64\x00";
     assert_eq!(check_canonical(keys, &basic), Ok(()));
     let shorter = basic.with_limits(64, 5).unwrap();
     assert_eq!(check(keys, &shorter).unwrap_err().reason, Reason::TooLong);
-    assert_eq!(check(map, &shorter), Err(of_kind));
+    assert_eq!(of(check(map, &shorter)), Err(of_kind));
 }
 
-// An answer that is longer than its input.
+// A result that is longer than its input.
 #[test]
-fn longer_answers() {
+fn longer_results() {
     let given = [vec![0x9f], vec![0; 70_000], vec![0xff]].concat();
-    let answer = canonicalise(&given, &Options::default()).unwrap();
-    assert_eq!(answer[..5], [0x9a, 0x00, 0x01, 0x11, 0x70]);
-    assert_eq!(answer.len(), 70_005);
+    let result = canonicalise(&given, &Options::default()).unwrap();
+    assert_eq!(result[..5], [0x9a, 0x00, 0x01, 0x11, 0x70]);
+    assert_eq!(result.len(), 70_005);
     // simple(255), of which each has 11 letters
     let simples = [vec![0x98, 100], [0xf8, 0xff].repeat(100)].concat();
     let text = diagnostic(&simples, &Options::default()).unwrap();
@@ -139,7 +158,7 @@ fn longer_answers() {
 fn a_sequence_ends_at_a_refusal() {
     let mut found = items(b"\x18\x00\xff\x00", &Options::default());
     assert_eq!(found.next(), Some(Ok(&b"\x18\x00"[..])));
-    assert_eq!(found.next(), Some(Err(refused(Reason::StrayBreak, 0, 1))));
+    assert_eq!(found.next().map(of), Some(Err((Reason::StrayBreak, 0, 1))));
     assert_eq!(found.next(), None);
 }
 
@@ -153,7 +172,7 @@ fn a_sequence_of_canonical_items() {
     let mut found = canonical_items(&input, &shorter);
     assert_eq!(found.next(), Some(Ok(&b"\x61a"[..])));
     assert_eq!(found.next(), Some(Ok(&keys[..])));
-    assert_eq!(found.next(), Some(Err(refused(Reason::NotShortest, 0, 2))));
+    assert_eq!(found.next().map(of), Some(Err((Reason::NotShortest, 0, 2))));
     assert_eq!(found.next(), None);
     let mut found = canonical_items(&input, &options);
     assert_eq!(found.next(), Some(Ok(&b"\x61a"[..])));
@@ -166,8 +185,8 @@ fn a_sequence_of_canonical_items() {
     let short = options.with_limits(0, 2).unwrap();
     let found: Result<Vec<_>, _> = canonical_items(b"\x61a\x61b", &short).collect();
     assert_eq!(found, Ok(vec![&b"\x61a"[..], b"\x61b"]));
-    let long = canonical_items(b"\x62ab", &short).next();
-    assert_eq!(long, Some(Err(refused(Reason::TooLong, 2, 2))));
+    let long = canonical_items(b"\x62ab", &short).next().map(of);
+    assert_eq!(long, Some(Err((Reason::TooLong, 2, 2))));
 }
 
 // Where each item begins, and the one that is refused.
@@ -213,7 +232,7 @@ fn events_and_what_follows_them() {
     let mut next = || {
         events
             .next()
-            .map(|event| event.map(|it| (it.place, it.width, it.kind)))
+            .map(|event| of(event.map(|it| (it.offset, it.width, it.kind))))
     };
     assert_eq!(next(), Some(Ok((0, None, Kind::Map(None)))));
     assert_eq!(next(), Some(Ok((1, Some(0), Kind::Text(Some(1))))));
@@ -223,13 +242,13 @@ fn events_and_what_follows_them() {
     assert_eq!(next(), Some(Ok((5, Some(0), Kind::Piece(b"\x01")))));
     assert_eq!(next(), Some(Ok((6, None, Kind::Break))));
     assert_eq!(next(), Some(Ok((7, None, Kind::Break))));
-    assert_eq!(next(), Some(Err(refused(Reason::Trailing, 8, 8))));
+    assert_eq!(next(), Some(Err((Reason::Trailing, 8, 8))));
     assert_eq!(next(), None);
-    let last = Events::new(b"\x82\x01", &options).last();
-    assert_eq!(last, Some(Err(refused(Reason::Truncated, 2, 2))));
+    let last = Events::new(b"\x82\x01", &options).last().map(of);
+    assert_eq!(last, Some(Err((Reason::Truncated, 2, 2))));
     let short = options.with_limits(1, 2).unwrap();
-    let last = Events::new(b"\x82\x01", &short).last();
-    assert_eq!(last, Some(Err(refused(Reason::TooLong, 2, 2))));
+    let last = Events::new(b"\x82\x01", &short).last().map(of);
+    assert_eq!(last, Some(Err((Reason::TooLong, 2, 2))));
 }
 
 #[test]
@@ -243,15 +262,15 @@ fn a_machine_by_single_bytes() {
         assert_eq!(used, 1);
         assert!(matches!(reported, Step::Event(event) if event.kind == Kind::Unsigned(256)));
         assert_eq!(machine.step(b"\x00"), (0, Step::Done));
-        assert_eq!(machine.taken(), 3);
+        assert_eq!(machine.consumed(), 3);
     }
 }
 
-// The same events as of the whole slice, but for payloads that lie in several parts.
+// The same events as of the whole slice, except for payloads that are in several parts.
 #[test]
 fn a_machine_by_parts() {
     let options = Options::default();
-    // [_ 200 times {0: "ab"}], so more events than a call of the library tells
+    // [_ 200 times {0: "ab"}], so more events than a call of the library returns
     let item = [vec![0x9f], b"\xa1\x00\x62ab".repeat(200), vec![0xff]].concat();
     let joined = |reported: &[Event]| {
         let mut payload = Vec::new();
@@ -259,7 +278,7 @@ fn a_machine_by_parts() {
         for event in reported {
             match event.kind {
                 Kind::Piece(piece) => payload.extend_from_slice(piece),
-                _ => heads.push((event.place, event.width, format!("{:?}", event.kind))),
+                _ => heads.push((event.offset, event.width, format!("{:?}", event.kind))),
             }
         }
         (heads, payload)
@@ -271,9 +290,9 @@ fn a_machine_by_parts() {
         let mut machine = Machine::new(&options);
         let mut reported = Vec::new();
         for part in item.chunks(size) {
-            let begins = machine.taken();
+            let begins = machine.consumed();
             reported.extend(machine.events(part).map(Result::unwrap));
-            assert_eq!(machine.taken(), begins + part.len() as u64);
+            assert_eq!(machine.consumed(), begins + part.len() as u64);
         }
         assert_eq!(joined(&reported), whole, "parts of {size}");
         assert_eq!(machine.step(b""), (0, Step::Done));
@@ -283,24 +302,27 @@ fn a_machine_by_parts() {
 #[test]
 fn the_end_of_the_parts() {
     let options = Options::default();
-    // what is behind the item stays
+    // what follows the item stays
     let mut machine = Machine::new(&options);
     let reported = machine.events(b"\x61a\x00\x00");
     assert_eq!(reported.filter(Result::is_ok).count(), 2);
     assert_eq!(
-        (machine.taken(), machine.step(b"\x00")),
+        (machine.consumed(), machine.step(b"\x00")),
         (2, (0, Step::Done))
     );
     assert!(machine.events(b"\x00").next().is_none());
     // a refusal is the last, and comes again
     let mut machine = Machine::new(&options);
-    let float = refused(Reason::Float, 2, 3);
+    let float = (Reason::Float, 2, 3);
     let mut reported = machine.events(b"\x82\x01\xf9\x00");
     assert_eq!(reported.by_ref().take(2).filter(Result::is_ok).count(), 2);
-    assert_eq!(reported.next(), Some(Err(float)));
+    assert_eq!(reported.next().map(of), Some(Err(float)));
     assert_eq!(reported.next(), None);
-    assert_eq!(machine.events(b"").next(), Some(Err(float)));
-    assert_eq!(machine.step(b"\x00"), (0, Step::Refused(float)));
+    drop(reported);
+    assert_eq!(machine.events(b"").next().map(of), Some(Err(float)));
+    assert!(
+        matches!(machine.step(b"\x00"), (0, Step::Refused(why)) if triple(why.clone()) == float)
+    );
     // parts that end too early
     let mut machine = Machine::new(&options);
     assert_eq!(machine.events(b"\x82\x01").count(), 2);
@@ -330,11 +352,22 @@ fn what_is_open() {
 
 #[test]
 fn texts() {
-    let error = check(b"\xf9\x3e\x00", &Options::default()).unwrap_err();
-    let wanted = "refused 5 Float at 0: A floating-point number begins here; no float is accepted.";
+    let error = check(b"\xa1\x01\x82\x00\xf9\x3e\x00", &Options::default()).unwrap_err();
+    assert_eq!(
+        (triple(error.clone()), error.path()),
+        ((Reason::Float, 4, 5), "$.1[1]")
+    );
+    assert!(error.sentence().ends_with('.') && error.advice().ends_with('.'));
+    assert_ne!(error.sentence(), error.advice());
+    let wanted = format!("refused 5 Float at 4 ($.1[1]): {}", error.sentence());
     assert_eq!(error.to_string(), wanted);
     // as main prints an error that it returns
     assert_eq!(format!("{error:?}"), wanted);
+    let top = check(b"\xf9\x3e\x00", &Options::default()).unwrap_err();
+    assert_eq!(
+        top.to_string(),
+        format!("refused 5 Float at 0: {}", error.sentence())
+    );
     let boxed: Box<dyn std::error::Error> = NotWritten::from(error).into();
     assert_eq!(format!("{boxed:?}"), wanted);
     assert_eq!(
@@ -343,14 +376,68 @@ fn texts() {
     );
 }
 
+// Each call that refuses says the same, with the path in the item.
+#[test]
+fn paths() {
+    let options = Options::default();
+    // {"a": [0, 0]}, the last one a float or in two bytes
+    let float = b"\xa1\x61a\x82\x00\xf9\x3e\x00";
+    let long = b"\xa1\x61a\x82\x00\x18\x00";
+    let path = r#"$."a"[1]"#;
+    let calls = [
+        canonicalise(float, &options).map(drop),
+        diagnostic(float, &options).map(drop),
+        check(float, &options),
+        check_canonical(float, &options),
+        check_canonical(long, &options),
+        items(float, &options).next().unwrap().map(drop),
+        canonical_items(long, &options).next().unwrap().map(drop),
+        Events::new(float, &options)
+            .find(Result::is_err)
+            .unwrap()
+            .map(drop),
+        naltvigo::Value::decode(float, &options).map(drop),
+        naltvigo::Item::open(long, &options).map(drop),
+        same(b"\x00", float, &options)
+            .map(drop)
+            .map_err(|why| why.refused),
+        same(float, b"\x00", &options)
+            .map(drop)
+            .map_err(|why| why.refused),
+    ];
+    for refused in calls {
+        let refused = refused.unwrap_err();
+        assert_eq!((refused.path(), refused.offset), (path, 5), "{refused}");
+    }
+    // of an item of a sequence, and of a value that is too deep
+    let sequence = [&[0; 10][..], float].concat();
+    let refused = items(&sequence, &options).find_map(Result::err).unwrap();
+    assert_eq!((refused.path(), refused.offset), (path, 5));
+    let value = naltvigo::Value::tag(7, naltvigo::Value::array([]));
+    let refused = value.encode(&options.with_depth(1).unwrap()).unwrap_err();
+    assert_eq!((refused.reason, refused.path()), (Reason::TooDeep, "$(7)"));
+    // the parts of a machine are gone
+    let mut machine = Machine::new(&options);
+    let refused = machine.events(float).find_map(Result::err).unwrap();
+    assert_eq!((refused.path(), refused.offset), ("$", 5));
+    // a path longer than the first space for it: 1,000 levels of keys of 60 letters
+    let level = [&[0xa1, 0x78, 60][..], &[b'k'; 60]].concat();
+    let deep = [level.repeat(1000), vec![0xf9, 0, 0]].concat();
+    let refused = check(&deep, &options.with_depth(1024).unwrap()).unwrap_err();
+    assert_eq!(
+        refused.path(),
+        format!("${}", format!(".\"{}\"", "k".repeat(60)).repeat(1000))
+    );
+}
+
 #[test]
 fn threads() {
     let work = |number: u8| {
         for turn in 0..2000 {
             let given = [vec![0x9f], vec![number; turn % 20], vec![0xff]].concat();
-            let answer = canonicalise(&given, &Options::default()).unwrap();
+            let result = canonicalise(&given, &Options::default()).unwrap();
             assert_eq!(
-                answer,
+                result,
                 [vec![0x80 + (turn % 20) as u8], vec![number; turn % 20]].concat()
             );
         }

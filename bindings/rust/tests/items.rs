@@ -1,4 +1,4 @@
-//! Items: what the cursor says of canonical bytes, against the events of the same bytes.
+//! Items: what the cursor finds in canonical bytes, compared with the events of the same bytes.
 
 mod random;
 
@@ -64,7 +64,7 @@ fn random_items_are_their_events() {
     }
 }
 
-// Every key of random maps, and keys that are not there, found as in the value.
+// Every key of random maps, and keys that they do not have, found as in the value.
 #[test]
 fn random_keys() {
     let mut random = Random(8);
@@ -72,7 +72,7 @@ fn random_keys() {
         let order = [Order::Bytewise, Order::LengthFirst][turn % 2];
         let options = Options::default().with_order(order);
         let depth = random.below(2);
-        let pairs = (0..random.below(20)).map(|place| (random.value(depth), place.into()));
+        let pairs = (0..random.below(20)).map(|at| (random.value(depth), at.into()));
         let Ok(map) = Value::map(pairs.collect::<Vec<_>>()) else {
             continue;
         };
@@ -80,11 +80,11 @@ fn random_keys() {
         let item = Item::open(&bytes, &options).unwrap();
         let mut keys: Vec<Value> = (0..20).map(|_| random.value(1)).collect();
         if let Value::Map(pairs) = &map {
-            keys.extend(pairs.into_iter().map(|pair| pair.0.clone()));
+            keys.extend(pairs.keys().cloned());
         }
         for key in keys {
             let encoded = key.encode(&options).unwrap();
-            let wanted = map.get(key.clone());
+            let wanted = map.get(&key);
             let found = item.get(Key::Encoded(&encoded));
             assert_eq!(found.map(Item::to_value).as_ref(), wanted, "{key} of {map}");
             let by_type = match &key {
@@ -120,10 +120,13 @@ fn keys_of_each_kind() {
     }
     assert_eq!(item.field::<u64>(0_u8), Ok(0));
     for key in ["b", "aa", &long[..66]] {
-        assert_eq!(item.field::<u64>(key), Err(GetError::NotThere));
+        assert!(matches!(
+            item.field::<u64>(key),
+            Err(GetError::NotThere { .. })
+        ));
     }
     assert!(item.get(-2).is_none() && item.get(Key::Negative(u64::MAX)).is_none());
-    // bytes that are no item's are no key
+    // bytes that are not an item are not a key
     assert!(item.get(Key::Encoded(b"")).is_none());
     assert!(item.get(Key::Encoded(b"\x18")).is_none());
     assert!(item.get(Key::Encoded(&bytes)).is_none());
@@ -141,17 +144,36 @@ fn what_is_not_there() {
         (array.tagged(1), map.tagged(1), tag.tagged(2)),
         (None, None, None)
     );
-    assert_eq!(array.field::<u8>(0), Err(GetError::WrongKind));
-    assert_eq!(map.field::<u8>(0), Err(GetError::NotThere));
-    assert_eq!(map.field::<u8>(1), Err(GetError::OutOfRange));
+    let says = |wrong: GetError, sentence| assert_eq!(wrong.to_string(), sentence);
+    says(
+        array.field::<u8>(0).unwrap_err(),
+        "the item is an array, not a map",
+    );
+    says(map.field::<u8>(0).unwrap_err(), "the map has no key 0");
+    says(
+        map.field::<u8>(1).unwrap_err(),
+        "the value at key 1 is -1, which u8 does not hold",
+    );
     assert_eq!(map.field::<i8>(1), Ok(-1));
-    assert_eq!(map.field::<&str>(1), Err(GetError::WrongKind));
-    assert_eq!(map.field::<bool>(1), Err(GetError::WrongKind));
+    says(
+        map.field::<&str>(1).unwrap_err(),
+        "the value at key 1 is an integer, not a text",
+    );
+    says(
+        map.field::<bool>(1).unwrap_err(),
+        "the value at key 1 is an integer, not false or true",
+    );
     assert_eq!(<&str>::try_from(tag.tagged(1).unwrap()), Ok("a"));
     assert_eq!(<&[u8]>::try_from(open(b"\x41a")), Ok(&b"a"[..]));
-    assert_eq!(<&[u8]>::try_from(open(b"\x61a")), Err(GetError::WrongKind));
+    says(
+        <&[u8]>::try_from(open(b"\x61a")).unwrap_err(),
+        "the item is a text, not a byte string",
+    );
     assert_eq!(bool::try_from(open(b"\xf5")), Ok(true));
-    assert_eq!(bool::try_from(open(b"\xf6")), Err(GetError::WrongKind));
+    says(
+        bool::try_from(open(b"\xf6")).unwrap_err(),
+        "the item is null, not false or true",
+    );
     assert_eq!(
         i128::try_from(open(b"\x3b\xff\xff\xff\xff\xff\xff\xff\xff")),
         Ok(-1 << 64)
@@ -171,8 +193,8 @@ fn canonical_bytes_alone() {
         let value = random.value(3);
         random.encode(&value, &mut given);
         // a byte changed, or none
-        let place = random.below(given.len() as u64 * 2) as usize;
-        if let Some(byte) = given.get_mut(place) {
+        let at = random.below(given.len() as u64 * 2) as usize;
+        if let Some(byte) = given.get_mut(at) {
             *byte = random.below(256) as u8;
         }
         let opened = Item::open(&given, &options).map(Item::bytes);
@@ -200,7 +222,7 @@ fn a_sequence() {
         (&b"\x01"[..], &b"\x61a"[..])
     );
     let refused = Item::open_front(rest, &options).unwrap().unwrap_err();
-    assert_eq!((refused.reason, refused.place), (Reason::NotShortest, 0));
+    assert_eq!((refused.reason, refused.offset), (Reason::NotShortest, 0));
     assert!(Item::open_front(b"", &options).is_none());
 }
 

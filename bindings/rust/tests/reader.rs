@@ -9,7 +9,7 @@ use naltvigo::{
 use random::Random;
 use std::io::{self, Read};
 
-// A slice that gives at most so many bytes at a time.
+// A slice that gives at most this many bytes at a time.
 fn by(size: usize, mut left: &[u8]) -> impl FnMut(&mut [u8]) -> io::Result<usize> + '_ {
     move |buffer| {
         let space = buffer.len().min(size);
@@ -44,7 +44,7 @@ fn of_reader(input: &[u8], options: &Options, canonical: bool, size: usize) -> F
     };
     let (mut good, mut refused) = (Vec::new(), None);
     for item in found.by_ref() {
-        assert_eq!(refused, None, "a refusal is the last answer");
+        assert_eq!(refused, None, "a refusal is the last result");
         match item {
             Ok(item) => good.push(item),
             Err(ReadError::Refused(why)) => refused = Some(why),
@@ -73,8 +73,8 @@ fn random_sequences() {
         // a byte changed, the end cut off, or neither
         match random.below(4) {
             0 if !input.is_empty() => {
-                let place = random.below(input.len() as u64) as usize;
-                input[place] = random.below(256) as u8;
+                let at = random.below(input.len() as u64) as usize;
+                input[at] = random.below(256) as u8;
             }
             1 => input.truncate(random.below(input.len() as u64 + 1) as usize),
             _ => {}
@@ -96,30 +96,40 @@ fn long_items() {
     let sizes = [0, 1, 65530, 65531, 65532, 65536, 200_000, 1 << 20, 3];
     let input: Vec<u8> = sizes.into_iter().flat_map(item).collect();
     let wanted = of_slice(&input, &options, true);
-    assert_eq!((wanted.0.len(), wanted.1), (sizes.len(), None));
+    assert_eq!((wanted.0.len(), &wanted.1), (sizes.len(), &None));
     for size in [1000, 65536, 1 << 20] {
         assert_eq!(of_reader(&input, &options, true, size), wanted);
     }
 }
 
-// An item comes as soon as its last byte does, without a further read.
-#[test]
-fn no_byte_is_waited_for() {
-    let mut left = &b"\x82\x01\x02\x19\x01\x00"[..];
-    let read = |buffer: &mut [u8]| match left.split_first() {
+// A reader that gives a byte at a time, and fails after the last one.
+fn byte_by_byte(mut left: &[u8]) -> impl FnMut(&mut [u8]) -> Result<usize, &'static str> + '_ {
+    move |buffer| match left.split_first() {
         Some((byte, rest)) => {
             left = rest;
             buffer[0] = *byte;
             Ok(1)
         }
         None => Err("nothing more came"),
-    };
-    let mut found = read_items(read, &Options::default());
-    assert_eq!(found.next(), Some(Ok(b"\x82\x01\x02".to_vec())));
-    assert_eq!(found.next(), Some(Ok(b"\x19\x01\x00".to_vec())));
+    }
+}
+
+// An item comes as soon as its last byte does, without a further read, in however many reads it came.
+#[test]
+fn no_byte_is_waited_for() {
+    let arrays = (0..24).map(|count: u8| [0x80 + count].into_iter().chain(0..count).collect());
+    let items: Vec<Vec<u8>> = [b"\x82\x01\x02".to_vec(), b"\x19\x01\x00".to_vec()]
+        .into_iter()
+        .chain(arrays)
+        .collect();
+    let (input, end) = (items.concat(), items.concat().len() as u64);
+    let mut found = read_items(byte_by_byte(&input), &Options::default());
+    for item in items {
+        assert_eq!(found.next(), Some(Ok(item)));
+    }
     assert_eq!(
         (found.offset(), found.next()),
-        (6, Some(Err(ReadError::Read("nothing more came"))))
+        (end, Some(Err(ReadError::Read("nothing more came"))))
     );
 }
 
@@ -139,7 +149,7 @@ fn a_reader_that_fails() {
         }))
     };
     let found: Vec<_> = read_items(read, &Options::default()).collect();
-    // one behind an error before each byte, and the end behind another
+    // an error before each byte, and one before the end
     let mut wanted = vec![Err(ReadError::Read("busy")); 7];
     wanted.push(Ok(b"\x82\x43abc\x18\x64".to_vec()));
     wanted.push(Err(ReadError::Read("busy")));

@@ -1,10 +1,10 @@
-//! How much space calls make for their answers.
+//! How much space calls make for their results.
 
 use naltvigo::{canonicalise, diagnostic, Options, Reason, Refused};
 use std::alloc::{GlobalAlloc, Layout, System};
 use std::sync::atomic::{AtomicUsize, Ordering};
 
-// How many bytes were asked for at once, at most.
+// How many bytes were requested at once, at most.
 static MOST: AtomicUsize = AtomicUsize::new(0);
 
 struct Watched;
@@ -24,28 +24,24 @@ unsafe impl GlobalAlloc for Watched {
 #[global_allocator]
 static WATCHED: Watched = Watched;
 
-// Refused as ever, and without space by the input's length.
+fn triple(why: Refused) -> (Reason, u64, u64) {
+    (why.reason, why.offset, why.consumed)
+}
+
+// Refused as ever, and without space for the input's length.
 #[test]
 fn of_an_input_far_longer_than_the_limit() {
     let options = Options::default().with_limits(64, 10).unwrap();
-    let behind = vec![0; 1 << 24];
-    let mut endless = behind.clone();
+    let trailing = vec![0; 1 << 24];
+    let mut endless = trailing.clone();
     endless[0] = 0x9f;
-    let refused = |reason, place| {
-        let read = place;
-        Err(Refused {
-            reason,
-            place,
-            read,
-        })
-    };
     for (input, wanted) in [
-        (&endless, refused(Reason::TooLong, 10)),
-        (&behind, refused(Reason::Trailing, 1)),
+        (&endless, (Reason::TooLong, 10, 10)),
+        (&trailing, (Reason::Trailing, 1, 1)),
     ] {
         MOST.store(0, Ordering::Relaxed);
-        assert_eq!(canonicalise(input, &options).map(drop), wanted);
-        assert_eq!(diagnostic(input, &options).map(drop), wanted);
+        assert_eq!(canonicalise(input, &options).map_err(triple), Err(wanted));
+        assert_eq!(diagnostic(input, &options).map_err(triple), Err(wanted));
         assert!(MOST.load(Ordering::Relaxed) < 1 << 20);
     }
     // at the limit nothing changes

@@ -22,7 +22,7 @@ fn tables() -> String {
         .collect()
 }
 
-// The lines of the tables with so many columns.
+// The lines of the tables with this many columns.
 fn lines(columns: usize) -> Vec<Vec<String>> {
     let text = tables();
     let lines = text.lines().filter(|line| !line.starts_with("//"));
@@ -36,7 +36,7 @@ fn lines(columns: usize) -> Vec<Vec<String>> {
     lines.filter_map(split).collect()
 }
 
-// The bytes that hex digits spell; `3*00` stands for 000000.
+// The bytes of hex digits; `3*00` means 000000.
 fn unhex(column: &str) -> Vec<u8> {
     let digits: String = column
         .split_whitespace()
@@ -49,20 +49,20 @@ fn unhex(column: &str) -> Vec<u8> {
     (0..digits.len()).step_by(2).map(byte).collect()
 }
 
-// The number, the place and the count of `12 Trailing at 1, read 1`.
+// The number, the offset and the count of `12 Trailing at 1, read 1`.
 fn refusal(column: &str) -> Option<(u8, u64, u64)> {
     let (number, rest) = column.split_once(' ')?;
     let (_, rest) = rest.split_once(" at ")?;
-    let (place, read) = rest.split_once(", read ")?;
+    let (offset, consumed) = rest.split_once(", read ")?;
     Some((
         number.parse().ok()?,
-        place.parse().ok()?,
-        read.parse().ok()?,
+        offset.parse().ok()?,
+        consumed.parse().ok()?,
     ))
 }
 
 fn numbers(refused: Refused) -> (u8, u64, u64) {
-    (refused.reason.number(), refused.place, refused.read)
+    (refused.reason.number(), refused.offset, refused.consumed)
 }
 
 fn limit(limits: &str, name: &str) -> Option<u64> {
@@ -80,7 +80,7 @@ fn keys(limits: &str) -> Keys {
     }
 }
 
-fn one_row(row: &[String], order: Order, place: usize) {
+fn one_row(row: &[String], order: Order, column: usize) {
     let given = unhex(&row[0]);
     let depth = limit(&row[1], "depth").unwrap_or(256) as u16;
     let bytes = limit(&row[1], "bytes").unwrap_or(1 << 20);
@@ -89,9 +89,9 @@ fn one_row(row: &[String], order: Order, place: usize) {
         .unwrap()
         .with_order(order)
         .with_keys(keys(&row[1]));
-    let half = |column: &str| {
-        let parts: Vec<&str> = column.split('/').map(str::trim).collect();
-        parts[place.min(parts.len() - 1)].to_owned()
+    let half = |of: &str| {
+        let parts: Vec<&str> = of.split('/').map(str::trim).collect();
+        parts[column.min(parts.len() - 1)].to_owned()
     };
     let (plain, strict) = (half(&row[2]), half(&row[3]));
     match refusal(&plain) {
@@ -104,7 +104,7 @@ fn one_row(row: &[String], order: Order, place: usize) {
             let checked = check(&given, &options).map_err(numbers);
             let decoded = Value::decode(&given, &options).map_err(numbers);
             assert_eq!(decoded, Err(wanted), "{row:?}");
-            // the limit on canonical bytes is that of canonicalise alone
+            // only canonicalise has the limit on canonical bytes
             let valid = wanted.0 == Reason::CanonicalTooLong.number();
             assert_eq!(checked, if valid { Ok(()) } else { Err(wanted) }, "{row:?}");
         }
@@ -135,12 +135,12 @@ fn one_row(row: &[String], order: Order, place: usize) {
             assert_eq!(found, Ok(vec![&wanted[..]; 2]), "{row:?}");
             for space in [wanted.len() - 1, wanted.len(), wanted.len() + 3] {
                 let mut out = vec![7; space];
-                let answer = canonicalise_into(&given, &options, &mut out);
+                let result = canonicalise_into(&given, &options, &mut out);
                 if space < wanted.len() {
-                    assert_eq!(answer, Err(NotWritten::TooSmall(wanted.len())));
+                    assert_eq!(result, Err(NotWritten::TooSmall(wanted.len())));
                     assert!(out.iter().all(|&byte| byte == 7));
                 } else {
-                    assert_eq!(answer, Ok(wanted.len()));
+                    assert_eq!(result, Ok(wanted.len()));
                     assert_eq!(out[..wanted.len()], wanted);
                     assert!(out[wanted.len()..].iter().all(|&byte| byte == 7));
                 }
@@ -158,12 +158,12 @@ fn one_row(row: &[String], order: Order, place: usize) {
         None => Err(refusal(if strict.is_empty() { &plain } else { &strict }).unwrap()),
     };
     assert_eq!(found, wanted, "{row:?}");
-    // in a sequence nothing is behind an item, and without a byte there is none
+    // in a sequence nothing trails an item, and without a byte there is no item
     let trailing = Reason::Trailing.number();
     let first = match wanted {
         _ if given.is_empty() => None,
         Ok(()) => Some(Ok(&given[..])),
-        Err((number, place, _)) if number == trailing => Some(Ok(&given[..place as usize])),
+        Err((number, offset, _)) if number == trailing => Some(Ok(&given[..offset as usize])),
         Err(wanted) => Some(Err(wanted)),
     };
     let found = canonical_items(&given, &options).next();
@@ -205,7 +205,7 @@ fn pairs() {
         };
         let found = same(&unhex(&pair[0]), &unhex(&pair[1]), &options);
         assert_eq!(
-            found.map_err(|(side, refused)| (side, numbers(refused))),
+            found.map_err(|why| (why.side, numbers(why.refused))),
             wanted,
             "{pair:?}"
         );

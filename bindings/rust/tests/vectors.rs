@@ -1,5 +1,5 @@
 //! The examples of RFC 8949, Appendix A, without floats: values made in Rust, against the bytes there
-//! and their diagnostic text. Bytes that are not canonical stand beside those that are.
+//! and their diagnostic text. Some are given in other encodings as well.
 
 use naltvigo::{check_canonical, Item, Options, Simple, Tag, Value};
 

@@ -1,6 +1,6 @@
--- What a public builder stands for, from what its core does.
+-- What a public builder represents, from what its core does.
 use Rattle.std.proofs.Common.{◌≡◌, ℕ, Bool, true, false, List, [], ◌∷◌, Option, Some, None, true≢false, refl, sym, ap, ◌∙◌, subst, IsTrue, IfSome, IsNone, ◌↔◌, Ok}
-use Rattle.cbor_model.specs.Parts.{Open, plain, a_map, HasNoRepeats, IsInContainer}
+use Rattle.theory_values.specs.Parts.{Open, plain, a_map, HasNoRepeats, IsInContainer}
 use Rattle.cbor_output.specs.declared.span.Span.{Span}
 use Rattle.cbor_builder.specs.Built.{Built, HasDistinctKeysSoFar, IsRepeatReported, LeavesIfDistinct, keys_so_far, AreAllDifferent}
 use Rattle.cbor_builder.specs.inner.BuilderState.{open_levels, innermost, IsLaid, WasLaid, IsLeftOpen, came_open_levels}
@@ -8,9 +8,9 @@ use Rattle.cbor_builder.specs.inner.CanonState.{if_sound, view_value, IsNested, 
 use Rattle.cbor_builder.specs.{declared.builder.Core.Core, declared.repeat.Repeat.Repeat, inner.Repeats.Reports}
 use Rattle.cbor_builder.{specs.declared.canon_builder.CanonBuilder.TheInside.Inside, proofs.KeysSoFar.different_distinct, proofs.OpenMembers.whole_item}
 
--- ---- a builder that takes a part is sound
+-- ---- a builder that accepts a part has not failed
 
--- what is known of a builder in which something is open
+-- what is known about a builder in which something is open
 pub record Known (b : Inside) (w : Built) : Type 0 where
   pub order : b.core.order ≡ w.order
   pub open_levels_is : open_levels b.core ≡ w.open_levels

@@ -4,7 +4,7 @@ use Rattle.std.specs.List.{count_by}
 use mir.Val.{bool_byte}
 use Rattle.std.proofs.lemmas.List.Sorted.{IsPermutation-sym, IsPermutation-trans, sum_by-IsPermutation}
 use Rattle.std.proofs.lemmas.{Bool.cases_lt, Bool.cases_eq, List.get_or-map, List.length-map, List.Sums.sum_by-cons}
-use Rattle.cbor_model.proofs.Members.{all_at, all_from}
+use Rattle.theory_values.proofs.Members.{all_at, all_from}
 use Rattle.cbor_output.specs.Spans.{no_span, IsWithin, AreWithin}
 use Rattle.cbor_output.specs.declared.span.Span.{Span}
 use Rattle.cbor_builder.specs.Built.{IsRepeatAt, AreAllDifferent, IsFirstRepeat}
@@ -12,7 +12,7 @@ use Rattle.cbor_builder.specs.inner.Repeats.{nth, place, lies_before, HasPlace, 
 use Rattle.cbor_builder.{specs.inner.Prefix.key_of, specs.inner.Laid.Tile, specs.declared.repeats.Tie.Tie, proofs.Growth.tile_within, proofs.Ranks.all_permuted}
 use Rattle.cbor_builder.proofs.Ties.{tie_permuted, first_same}
 
--- ---- the places of pairs one behind the other
+-- ---- the places of pairs one after another
 
 tile_at : (a n : ℕ) (ss : List Span) (i : ℕ) → Tile a ss n → i < length ss → (a ≤ (nth ss i).key) × ((nth ss i).key ≤ (nth ss i).val) × ((nth ss i).val ≤ (nth ss i).end)
 tile_at a n [] i h l = absurd (omega (arith, l))
@@ -25,7 +25,7 @@ tile_apart a n (s ∷ ss) i zero h l k = absurd (omega (arith, l))
 tile_apart a n (s ∷ ss) zero (suc j) h l k = (tile_at s.end n ss j h.3 (omega (arith, k))).0
 tile_apart a n (s ∷ ss) (suc i) (suc j) h l k = tile_apart s.end n ss i j h.3 (omega (arith, l)) (omega (arith, k))
 
--- the places rise, and where two are equal the keys are
+-- the places rise, and pairs at equal places have equal keys
 abbrev Rise : List ℕ → List Span → Type 0
 Rise out ss = (i j : ℕ) → i < j → j < length ss → (place (nth ss i) ≤ place (nth ss j)) × (place (nth ss i) ≡ place (nth ss j) → key_of out (nth ss i) ≡ key_of out (nth ss j))
 
@@ -41,7 +41,7 @@ tile_rises out a n ss h i j l k =
           λ t. slice_range out (key t) (val t),
     )
 
--- so many lie before a place: those, and no others
+-- the number of spans before a place: the first ones, and no others
 module _ (out : List ℕ) (at : ℕ) where
   abbrev count : List Span → ℕ
   count ss = count_by (lies_before at) ss
@@ -71,18 +71,18 @@ module _ (out : List ℕ) (xs : List Span) (rise : Rise out xs) where
   keys_at : (i : ℕ) → i < length xs → get_or (map (key_of out) xs) i [] ≡ key_of out (nth xs i)
   keys_at i l = get_or-map (key_of out) xs i no_span [] l
 
-  -- a repeated key is that of a tie
+  -- a repeated key belongs to a tie
   pub repeat_ties : (i : ℕ) → IsRepeatAt (map (key_of out) xs) i → (j : ℕ) × (j < i) × (i < length xs) × HasTie out xs (length xs) (place (nth xs j)) (place (nth xs i))
   repeat_ties i (j, less, within, same) =
       let l : i < length xs = omega (arith, within, length-map xs (key_of out)) in
       let up = (rise j i less l).0 in
       (j, less, l, (j, i, less, l, (sym (keys_at j (omega (arith, l, less))) ∙ same ∙ keys_at i l, omega (arith, up), omega (arith, up))))
 
-  -- and a later span with the key of an earlier one repeats it
+  -- and a later span with the key of an earlier one repeats that key
   repeats_at : (j i : ℕ) → j < i → i < length xs → key_of out (nth xs j) ≡ key_of out (nth xs i) → IsRepeatAt (map (key_of out) xs) i
   repeats_at j i less l same = (j, less, omega (arith, l, length-map xs (key_of out)), keys_at j (omega (arith, less, l)) ∙ same ∙ sym (keys_at i l))
 
-  -- what lies at the place of another and has none of lower place before it
+  -- the span that shares a place with another, with none of lower place before it
   same_place : (i j at : ℕ) → i ≤ j → j < length xs → (place (nth xs i) < at → ⊥) → place (nth xs j) ≡ at → (place (nth xs i) ≡ at) × (key_of out (nth xs i) ≡ key_of out (nth xs j))
   same_place i j at l k low e = elim (cases_lt i j) [
     | inl less ↦
@@ -124,19 +124,19 @@ module _ (out : List ℕ) (xs : List Span) (rise : Rise out xs) where
       there : (place (nth xs n) ≡ t.later) × (key_of out (nth xs n) ≡ key_of out (nth xs j))
       there = same_place n j t.later l lj (λ g. omega (arith, (side n (omega (arith, l, lj))).0 g)) (omega (arith, up, high))
 
-      -- where the two lie at one place, so do those at n and behind it
+      -- if the two have one place, so do span n and the next one
       behind_at : t.earlier ≡ t.later → (n ≤ i) × ((place (nth xs (n + 1)) ≡ t.later) × (key_of out (nth xs (n + 1)) ≡ key_of out (nth xs j)))
       behind_at is =
           let more : n ≤ i = omega (arith, (side i (omega (arith, less, lj))).1, up, low, high, is) in
           (more, same_place (n + 1) j t.later (omega (arith, more, less)) lj (λ g. omega (arith, (side (n + 1) (omega (arith, more, less, lj))).0 g)) (omega (arith, up, high)))
 
--- ---- of spans in whatever order
+-- ---- spans in any order
 
 pub bit_most : (b : Bool) → bool_byte b ≤ 1
 bit_most true = omega arith
 bit_most false = omega arith
 
--- their places fit a word
+-- their places fit in a word
 pub placed : (out : List ℕ) (xs ys zs : List Span) → length out < 2 ^ 63 → AreOf out xs ys → IsPermutation ys zs → ArePlaced zs
 placed out xs ys zs short (start, end, tile, ends, prefixed, moved) m = all_from HasPlace zs (λ s i. fits s (all_at (IsWithin out) zs s within i))
   where

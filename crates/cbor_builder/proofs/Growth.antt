@@ -1,11 +1,11 @@
--- What stands open when the buffer grows.
+-- What is open while the buffer grows.
 use Rattle.std.proofs.Common.{◌≡◌, ℕ, suc, ◌+◌, ◌-◌, ◌≤◌, List, [], ◌∷◌, ◌++◌, append_assoc, length, length-append, length-drop, take, drop, take-append-drop, length-take, drop-drop, refl, sym, ap, ◌∙◌, subst, arith, map, slice_range, flat_map, take_all}
 use Rattle.std.proofs.lemmas.List.{take-append-le, drop-append-le, drop_all, map-append, length-map, nil_from_length}
 use Rattle.std.proofs.Math.Seq.{drop-append_seam}
 use Rattle.cbor_head.specs.declared.major.Major.TheVariants as of_major
 use Rattle.cbor_head.specs.{declared.major.Major.Major, Prelude.in_order, Prelude.shortest_head, declared.order.KeyOrder.KeyOrder}
-use Rattle.cbor_model.specs.Parts.{plain, an_array, a_map, a_key, a_string, pair, with_member, with_content, give, opened, extended, close, closed}
-use Rattle.cbor_model.specs.{Pairs.IsRising, Pairs.pair_bytes, KeyPrefix.prefix_of}
+use Rattle.theory_values.specs.Parts.{plain, an_array, a_map, a_key, a_string, pair, with_member, with_content, give, opened, extended, close, closed}
+use Rattle.theory_values.specs.{Pairs.IsRising, Pairs.pair_bytes, KeyPrefix.prefix_of}
 use Rattle.cbor_output.{proofs.Written.take_prefix, proofs.Written.drop_prefix, specs.Spans.span_pair, specs.Spans.AreWithin, specs.declared.span.Span.Span}
 use Rattle.cbor_output.proofs.Slices.{slice_all, slice_prefix}
 use Rattle.cbor_builder.specs.inner.Laid.{pairs_from, Tile, shape_open, outer_spans, opens, Fits, Laid, Takes, IsString, IsReady, shape_after, span, spans_after, KeepsRising, Stands, Completed, opening_frame}
@@ -115,7 +115,7 @@ given o out b ss f fs out' ss' f' laid takes e c =
         )
     by_shape (Content m) fits outer takes keeps = absurd takes
 
--- what a map with a waiting key is ready for, when its value stands behind it
+-- what a map with a waiting key is ready for, once its value follows the key
 pub key_ready : (o : KeyOrder) (out b : List ℕ) (ss : List Span) (f : Frame) (fs : List Frame) (bytes : List ℕ) (at : ℕ) → Laid o out ss (f ∷ fs) → bytes ≡ out ++ b → at ≡ length out
     → IsReady bytes ss at f.shape
 key_ready o out b ss f fs bytes at laid eb ea first key e =
@@ -142,7 +142,7 @@ lengthened o out b ss f fs laid string = by_shape f.shape laid.2 laid.3 string
 
 -- ---- what ends
 
--- what closes is given to what holds it
+-- the bytes of what closes are given to what holds it
 pub ended : (o : KeyOrder) (out : List ℕ) (ss : List Span) (f g : Frame) (fs : List Frame) (out' : List ℕ) (ss' : List Span) (g' : Frame)
     → Laid o out ss (f ∷ g ∷ fs) → Takes g.shape → out' ≡ take f.from out ++ closed o (shape_open out ss f.start f.shape)
     → Completed o (outer_spans ss f.shape) f.from g out' ss' g'

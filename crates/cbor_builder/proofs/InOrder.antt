@@ -2,8 +2,8 @@
 use Rattle.std.proofs.Common.{◌≡◌, IsPermutation, ℕ, List, ◌++◌, length, take, drop, take-append-drop, map, sym, ap, ◌∙◌, flat_map, refl}
 use Rattle.std.proofs.lemmas.List.Sorted.{IsPermutation-map}
 use Rattle.cbor_head.specs.{Prelude.in_order, declared.order.KeyOrder.KeyOrder}
-use Rattle.cbor_model.specs.Pairs.{IsRising, HasDistinctBytes, pair_bytes}
-use Rattle.cbor_model.proofs.Sorting.{in_order-rising}
+use Rattle.theory_values.specs.Pairs.{IsRising, HasDistinctBytes, pair_bytes}
+use Rattle.theory_values.proofs.Sorting.{in_order-rising}
 use Rattle.cbor_output.specs.{Spans.span_pair, declared.span.Span.Span}
 use Rattle.cbor_builder.{specs.inner.Laid.pairs_from, specs.inner.Laid.Tile, proofs.Growth.tile_joins, proofs.Neighbours.rising_is_in_order}
 

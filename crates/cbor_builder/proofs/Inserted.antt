@@ -1,4 +1,4 @@
--- Spans put in order one by one.
+-- Spans sorted by insertion.
 use Rattle.std.proofs.Common.{◌≡◌, ℕ, zero, suc, ◌+◌, ◌-◌, ◌<◌, ◌≤◌, List, [], ◌∷◌, ◌++◌, length, length-take, take, drop, drop-drop, get_or, set, map, refl, sym, ap, ◌∙◌, subst, arith, inl, inr, IsPermutation, IsTrue, take-take}
 use Rattle.std.proofs.lemmas.List.{take_more, take-map, drop_all, get_or-drop, get_or_default}
 use Rattle.std.proofs.lemmas.List.Sorted.{IsPermutation-trans, IsPermutation-append_comm, IsPermutation-append_right, IsPermutation-map}
@@ -7,14 +7,14 @@ use Rattle.std.{proofs.Math.Seq.take-append_seam, proofs.Math.Seq.drop-append_se
 use Rattle.std.specs.{declared.cmp.Ordering.TheVariants.Less, declared.cmp.Ordering.TheVariants.Greater, Ordering.is_lt, Ordering.ordering_reverse}
 use Rattle.cbor_head.specs.Prelude.{key_cmp, key_lt, AreBytes, Pair}
 use Rattle.cbor_head.specs.declared.order.KeyOrder.{KeyOrder}
-use Rattle.cbor_model.{specs.Pairs.HasDistinctBytes, specs.Pairs.IsRising, proofs.Orders.key_cmp_total, proofs.Orders.lt_trans}
+use Rattle.theory_values.{specs.Pairs.HasDistinctBytes, specs.Pairs.IsRising, proofs.Orders.key_cmp_total, proofs.Orders.lt_trans}
 use Rattle.cbor_output.{specs.Spans.span_pair, specs.Spans.no_span, specs.declared.span.Span.Span, proofs.ByIndex.all_index, proofs.ByIndex.at_read}
 use Rattle.cbor_builder.specs.inner.Prefix.{key_of, IsPrefixed, ArePrefixed, rank, ranked_by, at_start}
 use Rattle.cbor_builder.{specs.Built.HasKey, proofs.Ranks.agree_spans, proofs.KeysSoFar.distinct_permuted}
 
--- ---- a list with one more at a place
+-- ---- a list with one more at an index
 
--- the last one stands where one more does
+-- the last one is where one more is inserted
 pub free_place : (n : ℕ) (ss : List Span) → n + 1 ≡ length ss → (h : Span) × (ss ≡ insert (take n ss) n h)
 free_place zero (s ∷ []) e = (s, refl)
 free_place (suc n) (s ∷ ss) e = let r = free_place n ss (omega (arith, e)) in (r.0, ap (λ (us : List Span). s ∷ us) r.1)
@@ -28,7 +28,7 @@ set_free ss us n h s e l = ap (λ (us : List Span). set us n s) e ∙ go ss n l
     go [] (suc n) l = absurd (omega (arith, l))
     go (x ∷ ss) (suc n) l = ap (λ (us : List Span). x ∷ us) (go ss n (omega (arith, l)))
 
--- one is doubled, and it makes no difference which of the two
+-- one is doubled, and either of the two may be replaced
 doubled : (ss : List Span) (n : ℕ) (s : Span) → n < length ss → s ≡ get_or ss n s → insert ss (suc n) s ≡ insert ss n s
 doubled [] n s l e = absurd (omega (arith, l))
 doubled (x ∷ ss) zero s l e = let f : s ≡ x = e in ap (λ (t : Span). t ∷ s ∷ ss) (sym f) ∙ ap (λ (t : Span). s ∷ t ∷ ss) f
@@ -43,7 +43,7 @@ at_start_taken n us l =
 pub taken_prefix : (n : ℕ) (us ts : List Span) → length us ≡ n → take n (us ++ ts) ≡ us
 taken_prefix n us ts e = ap (λ k. take k (us ++ ts)) (sym e) ∙ take-append_seam us ts
 
--- what lies behind the first ones is as it was
+-- what follows the first n is unchanged
 pub rest_prefix : (n : ℕ) (us ts : List Span) → length us ≡ n → drop n (us ++ ts) ≡ ts
 rest_prefix n us ts e = ap (λ k. drop k (us ++ ts)) (sym e) ∙ drop-append_seam us ts
 
@@ -79,7 +79,7 @@ mapped_at P f [] n s l e a = absurd (omega (arith, l))
 mapped_at P f (x ∷ ss) zero s l e a = subst (λ (t : Span). P (f t)) (sym e) a.0
 mapped_at P f (x ∷ ss) (suc n) s l e a = mapped_at P f ss n s (omega (arith, l)) e a.1
 
--- where the last of the first ones is below, all of them are
+-- if the last of the first ones is below, all of them are
 pub below_all : (o : KeyOrder) (out : List ℕ) (next : Span) (ss : List Span) (at n : ℕ) (s : Span) → suc n ≡ at → n < length ss → s ≡ get_or ss n s
     → IsTrue (key_lt o (key_of out s) (key_of out next)) → IsRising o (map (span_pair out) ss) → AreBelow o out next (take at ss)
 below_all o out next ss at n s q l e h r = subst (λ k. AreBelow o out next (take k ss)) q (go ss n l e r)
@@ -96,7 +96,7 @@ all_inserted P f ss zero y a h = (h, a)
 all_inserted P f [] (suc n) y a h = (h, tt)
 all_inserted P f (x ∷ ss) (suc n) y a h = (a.0, all_inserted P f ss n y a.1 h)
 
--- between those below and those above it keeps them rising
+-- between those below and those above, it keeps the keys rising
 pub inserted_rises : (o : KeyOrder) (out : List ℕ) (next : Span) (ss : List Span) (n : ℕ) → IsRising o (map (span_pair out) ss) → AreBelow o out next (take n ss) → AreAbove o out next (drop n ss)
     → IsRising o (map (span_pair out) (insert ss n next))
 inserted_rises o out next ss zero r b a = (a, r)
@@ -108,7 +108,7 @@ insert_end : (ss : List Span) (y : Span) → insert ss (length ss) y ≡ ss ++ y
 insert_end [] y = refl
 insert_end (s ∷ ss) y = ap (λ (us : List Span). s ∷ us) (insert_end ss y)
 
--- behind the last one, where it is above that
+-- after the last one, if it is above that
 pub above_last : (o : KeyOrder) (out : List ℕ) (ss : List Span) (n : ℕ) (last next : Span) → suc n ≡ length ss → last ≡ get_or ss n last → IsTrue (key_lt o (key_of out last) (key_of out next))
     → IsRising o (map (span_pair out) ss) → IsRising o (map (span_pair out) (ss ++ next ∷ []))
 above_last o out ss n last next q e l r =
@@ -116,9 +116,9 @@ above_last o out ss n last next q e l r =
     subst (λ (us : List Span). IsRising o (map (span_pair out) us)) (insert_end ss next)
     (inserted_rises o out next ss m r (below_all o out next ss m n last q (omega (arith, q)) e l r) (subst (AreAbove o out next) (sym (drop_all m ss (omega arith))) tt))
 
--- ---- what a comparison reports
+-- ---- what a comparison shows
 
--- of the one before the free place, and the next: and the free place can move one to the prefix
+-- the one before the free place, compared with the next: the free place can move one to the left
 pub visited : (o : KeyOrder) (out : List ℕ) (ss us : List Span) (at n : ℕ) (h s next : Span) (r : Ordering) → AreBytes out → ArePrefixed out ss → IsPrefixed out next → suc n ≡ at → at ≤ length ss → us ≡ insert ss at h
     → s ≡ get_or us n no_span → r ≡ rank o (ranked_by out s) (ranked_by out next) → (s ≡ get_or ss n s) × (r ≡ key_cmp o (key_of out s) (key_of out next)) × (set us at s ≡ insert ss n s)
 visited o out ss us at n h s next r b f g q l e is k =

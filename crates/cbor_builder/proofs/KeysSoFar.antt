@@ -1,9 +1,9 @@
--- Keys of a map of which none is equal to another, with the one that waits for its value.
+-- Different keys of a map, with the one that waits for its value.
 use Rattle.std.proofs.Common.{◌≡◌, ◌≢◌, ℕ, zero, suc, ◌<◌, List, [], ◌∷◌, ◌++◌, length, length-append, get_or, sym, ap, ◌∙◌, arith, inl, inr, IsPermutation}
 use Rattle.std.{specs.List.AllByRecursion, proofs.lemmas.Bool.cases_lt, proofs.Math.ListN.get_or-append, proofs.Math.Seq.get_or-append_seam}
 use Rattle.std.proofs.lemmas.List.Sorted.{IsPermutation-sym, IsPermutation-map}
 use Rattle.cbor_head.specs.Prelude.{Pair}
-use Rattle.cbor_model.{specs.Pairs.HasDistinctBytes, proofs.Members.In, proofs.Members.all_from}
+use Rattle.theory_values.{specs.Pairs.HasDistinctBytes, proofs.Members.In, proofs.Members.all_from}
 use Rattle.cbor_builder.specs.Built.{HasKey, IsRepeatAt, AreAllDifferent, IsFirstRepeat}
 use Rattle.cbor_builder.proofs.{Neighbours.keys, Ties.two_permuted}
 
@@ -75,7 +75,7 @@ different_distinct (p ∷ ps) d = (
     place_of (p ∷ ps) q (inl e) = (zero, omega arith, ap (λ (p : Pair). p.key) (sym e))
     place_of (p ∷ ps) q (inr m) = let at = place_of ps q m in (suc at.0, omega (arith, at.1), at.2)
 
--- they do so in whatever order
+-- in any order
 pub distinct_permuted : (ps qs : List Pair) → IsPermutation ps qs → HasDistinctBytes ps → HasDistinctBytes qs
 distinct_permuted ps qs m d = different_distinct qs (λ i r.
     let moved = IsPermutation-sym (keys ps) (keys qs) (IsPermutation-map (λ (p : Pair). p.key) ps qs m) in

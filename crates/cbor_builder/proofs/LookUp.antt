@@ -1,11 +1,11 @@
--- A key looked for among the pairs of its map.
+-- Looking for a key among the pairs of its map.
 use Rattle.std.proofs.Common.{◌≡◌, ◌↔◌, ℕ, ◌+◌, ◌<◌, ◌≤◌, ◌⊎◌, List, [], ◌∷◌, ◌++◌, length, drop, get_or, map, false, true≢false, inl, inr, refl, sym, ap, ◌∙◌, subst, IsTrue}
 use Rattle.std.{specs.List.AllByRecursion, specs.Ordering.is_eq, specs.declared.cmp.Ordering.Ordering, proofs.lemmas.Cmp.tied_itself}
 use Rattle.std.proofs.lemmas.List.{drop_all, get_or_default}
 use Rattle.cbor_head.specs.Prelude.{key_cmp, key_lt, Value, Entries, HasEntry, Same, AreBytes, AreEntriesInRange, IsInRange, IsValid, Pair, canonical, canonical_entries}
 use Rattle.cbor_head.specs.{Value.no_entries, Value.entry, declared.order.KeyOrder.KeyOrder}
-use Rattle.cbor_model.{specs.Pairs.IsRising, specs.Pairs.AreKeysValid, proofs.Keys.same_exactly, proofs.Orders.key_cmp_total, proofs.Orders.lt_irrefl}
-use Rattle.cbor_model.proofs.Sound.{IsSound, sound}
+use Rattle.theory_values.{specs.Pairs.IsRising, specs.Pairs.AreKeysValid, proofs.Keys.same_exactly, proofs.Orders.key_cmp_total, proofs.Orders.lt_irrefl}
+use Rattle.theory_values.proofs.Sound.{IsSound, sound}
 use Rattle.cbor_output.{specs.Spans.span_pair, specs.declared.span.Span.Span, proofs.ByIndex.at_read, proofs.ByIndex.all_index}
 use Rattle.cbor_builder.specs.inner.Prefix.{key_of, IsPrefixed, ArePrefixed, rank, ranked_by}
 use Rattle.cbor_builder.{specs.Built.HasKey, specs.Built.HasSameKey, proofs.Ranks.agree_spans, proofs.Ranks.equal_keys}
@@ -31,7 +31,7 @@ key_step o out ks i d y r b fr fy l h0 =
       ]),
     )
 
--- the key at hand is another
+-- the current key is another
 pub passed : {P Q R : Type 0} (r : Ordering) → (P ↔ Q) → (Q ↔ (IsTrue (is_eq r) ⊎ R)) → is_eq r ≡ false → (P ↔ R)
 passed r inv step e = (
   (λ p. elim (step.0 (inv.0 p)) [ inl t ↦ absurd (true≢false (sym t ∙ e)) | inr n ↦ n ]),
@@ -41,7 +41,7 @@ passed r inv step e = (
 pub no_key_left : (out : List ℕ) (ks : List Span) (i : ℕ) (k : List ℕ) → length ks ≤ i → HasKey (map (span_pair out) (drop i ks)) k → ⊥
 no_key_left out ks i k l h = subst (λ (us : List Span). HasKey (map (span_pair out) us) k) (drop_all i ks l) h
 
--- a key above all of them is none of them
+-- a key above all of them is not one of them
 pub above_other : (o : KeyOrder) (out : List ℕ) (ks : List Span) (next : Span) → IsRising o (map (span_pair out) (ks ++ next ∷ [])) → HasKey (map (span_pair out) ks) (key_of out next) → ⊥
 above_other o out [] next r h = absurd h
 above_other o out (k ∷ ks) next r (inl e) = lt_irrefl o (key_of out next) (subst (λ (x : List ℕ). IsTrue (key_lt o x (key_of out next))) e (last ks r.0))

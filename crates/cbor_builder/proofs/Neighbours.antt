@@ -4,9 +4,9 @@ use Rattle.std.specs.{Ordering.is_eq, declared.cmp.Ordering.Ordering, declared.c
 use Rattle.std.proofs.lemmas.List.Sorted.{IsPermutation-sym, Contains-permutation}
 use Rattle.cbor_head.specs.Prelude.{key_lt, Pair, in_order}
 use Rattle.cbor_head.specs.declared.order.KeyOrder.{KeyOrder}
-use Rattle.cbor_model.proofs.Sorting.{rises_at, rising_cons, rising_unique, in_order_rising, in_order_in, in_in_order}
-use Rattle.cbor_model.{specs.Pairs.HasDistinctBytes, specs.Pairs.IsRising, proofs.Members.in_contains, proofs.Members.contains_in}
-use Rattle.cbor_model.proofs.Orders.{lt_trans, lt_other}
+use Rattle.theory_values.proofs.Sorting.{rises_at, rising_cons, rising_unique, in_order_rising, in_order_in, in_in_order}
+use Rattle.theory_values.{specs.Pairs.HasDistinctBytes, specs.Pairs.IsRising, proofs.Members.in_contains, proofs.Members.contains_in}
+use Rattle.theory_values.proofs.Orders.{lt_trans, lt_other}
 use Rattle.cbor_output.specs.{Spans.span_pair, declared.span.Span.Span}
 use Rattle.cbor_builder.specs.inner.{Prefix.key_of, Repeats.DoNeighboursDiffer}
 

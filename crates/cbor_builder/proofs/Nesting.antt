@@ -17,7 +17,7 @@ rooted_given o out ss at f f' opened below from start shape rises r is =
     let d = subst (λ (g : Frame). KeepsRising o out ss at g.shape g.rises f'.rises) e rises in
     (λ i. record { from = a i; start = b i; shape = c i; rises = d i }, (r is).1)
 
--- they fit the memory
+-- their number fits in memory
 pub outers_fit : (c : Core) → length (outers c) ≤ 2 ^ 63
 outers_fit c = go c.is_open
   where
@@ -25,7 +25,7 @@ outers_fit c = go c.is_open
     go true = let l = length-append (reverse c.below.items) (outermost ∷ []) in let k = length-reverse c.below.items in omega (arith, l, k, c.below.ok.0, c.below.ok.1, c.below.small)
     go false = omega arith
 
--- where something is around, it was found
+-- if something is around, it was found
 pub found_around : (left : Bool) (fs : List Frame) → OuterTakes fs → (left ≡ false → fs ≡ []) → IsTrue left
 found_around true fs h n = refl
 found_around false fs h n = absurd (subst OuterTakes (n refl) h)

@@ -1,8 +1,8 @@
--- What a builder stands for as it is given members.
+-- What a builder represents as it is given members.
 use Rattle.std.proofs.Common.{◌≡◌, ℕ, List, [], ◌∷◌, ◌++◌, length, length-take, take, refl, sym, subst, arith, Result, OnOk}
 use Rattle.std.{specs.Global.Vec, proofs.lemmas.Result.on_ok_weaker}
 use Rattle.cbor_head.specs.declared.order.KeyOrder.{KeyOrder}
-use Rattle.cbor_model.specs.Parts.{plain, closed, close, give, extended}
+use Rattle.theory_values.specs.Parts.{plain, closed, close, give, extended}
 use Rattle.cbor_output.specs.declared.span.Span.{Span}
 use Rattle.cbor_builder.specs.inner.Laid.{shape_open, outer_spans, opens, Takes, IsReady, shape_after, spans_after, KeepsRising, Completed, Stands, IsString, Laid}
 use Rattle.cbor_builder.specs.inner.BuilderState.{IsLaid, StandsAs, CoreLeaves, open_levels, frames, outers}

@@ -2,7 +2,7 @@
 use Rattle.std.proofs.Common.{◌≡◌, ℕ, suc, ◌+◌, ◌-◌, ◌^◌, ◌<◌, ◌≤◌, List, [], ◌∷◌, ◌++◌, length, drop, take, map, Option, Some, None, Bool, true, false, refl, sym, ap, ◌∙◌, subst, arith, inl, inr, IsTrue, MatchOption, IfSome, ◌↔◌}
 use Rattle.std.{specs.Option.option_or, specs.Bool.then_some, proofs.lemmas.List.length-map, proofs.lemmas.List.drop_all}
 use Rattle.cbor_head.specs.{Prelude.Pair, declared.order.KeyOrder.KeyOrder}
-use Rattle.cbor_model.{specs.Parts.Open, proofs.Sorting.rising_distinct}
+use Rattle.theory_values.{specs.Parts.Open, proofs.Sorting.rising_distinct}
 use Rattle.cbor_output.specs.{Spans.span_pair, declared.span.Span.Span}
 use Rattle.cbor_builder.specs.Built.{HasKey, IsRepeatedKey, IsRepeatReported, keys_so_far, open_maps, AreAllDifferent, IsFirstRepeat}
 use Rattle.cbor_builder.specs.inner.Laid.{pairs_from, shape_open, outer_spans, opens, Fits}
@@ -41,7 +41,7 @@ maps_same raw out ss (f ∷ fs) =
     ∙ ap (λ (n : ℕ). maps_of f.shape + n) (maps_same (take f.from raw) (take f.from out) (outer_spans ss f.shape) fs)
     ∙ maps_more out ss f.start f.shape (opens (take f.from out) (outer_spans ss f.shape) fs)
 
--- ---- how many maps there are
+-- ---- the number of maps
 
 maps_least : (s : Shape) → maps_of s ≤ 1
 maps_least Plain = omega arith
@@ -62,7 +62,7 @@ below_first None n = tt
 
 -- ---- of what is open
 
--- its keys, but for one that waits
+-- its keys, without one that waits
 abbrev pub own_keys : List ℕ → List Span → Shape → List (List ℕ)
 own_keys out ss s = map (key_of out) (drop (first_of ss s) ss)
 
@@ -90,7 +90,7 @@ with_key ps k None false count e h w = waits_alone ps k h (λ g. let t : false �
 count_keys : (out : List ℕ) (ss : List Span) (first n : ℕ) → n ≡ length ss - first → n ≡ length (keys (pairs_from out ss first))
 count_keys out ss first n e = count out ss first n e ∙ sym (length-map (pairs_from out ss first) (λ (p : Pair). p.key))
 
--- what is found among the spans of its pairs, and of the key that waits, is what is reported
+-- what is found among the spans of its pairs, and for the key that waits, is what is reported
 pub shape_reports : (out : List ℕ) (ss : List Span) (start count : ℕ) (s : Shape) (r : Option ℕ) (waits : Bool) (os : List Open) → count ≡ length ss - first_of ss s
     → MatchOption r (AreAllDifferent (own_keys out ss s)) (IsFirstRepeat (own_keys out ss s)) → (IsTrue waits ↔ IsRepeatedKey (shape_open out ss start s ∷ os))
     → MatchOption (option_or r (then_some waits count)) (AreAllDifferent (keys_so_far (shape_open out ss start s))) (IsFirstRepeat (keys_so_far (shape_open out ss start s)))

@@ -4,15 +4,15 @@ use Rattle.cbor_head.specs.Value as value
 use Rattle.cbor_head.specs.Prelude.{Value, Values, Entries, values_count, Pair, in_order, canonical, canonical_all, canonical_entries, shortest_head}
 use Rattle.cbor_head.specs.declared.major.Major.TheVariants.{Bytes, Text, Array, Map, Tag}
 use Rattle.cbor_head.specs.declared.{order.KeyOrder.KeyOrder, major.Major.Major}
-use Rattle.cbor_model.proofs.Induction.{AllOf, AllIn, by_cases}
-use Rattle.cbor_model.specs.Parts.{Open, plain, an_array, a_map, a_key, a_string, pair, closed, give, opened, run, after, Part, begin, end, string_parts, chunks_joined, Makes, MakesAll, MakesEntries, MakesString}
-use Rattle.cbor_model.{proofs.Reported.length-canonical_entries, specs.Pairs.pair_bytes}
+use Rattle.theory_values.proofs.Induction.{AllOf, AllIn, by_cases}
+use Rattle.theory_values.specs.Parts.{Open, plain, an_array, a_map, a_key, a_string, pair, closed, give, opened, run, after, Part, begin, end, string_parts, chunks_joined, Makes, MakesAll, MakesEntries, MakesString}
+use Rattle.theory_values.{proofs.Reported.length-canonical_entries, specs.Pairs.pair_bytes}
 
 pub run-append : (o : KeyOrder) (ps qs : List Part) (os : List Open) → run o (ps ++ qs) os ≡ run o qs (run o ps os)
 run-append o [] qs os = refl
 run-append o (p ∷ ps) qs os = run-append o ps qs (after o p os)
 
--- strings, however cut
+-- strings, however they are cut
 runs_string : (o : KeyOrder) (m : Major) (bs : List (List ℕ)) (s : List ℕ) (os : List Open) → run o (string_parts bs) (a_string m s ∷ os) ≡ give (closed o (a_string m (s ++ chunks_joined bs))) os
 runs_string o m [] s os = ap (λ (t : List ℕ). give (closed o (a_string m t)) os) (sym (append-nil s))
 runs_string o m (b ∷ bs) s os =
@@ -54,7 +54,7 @@ runs_entries o (value.entry k v es) b ps m acc os =
     ∙ runs_entries o es b.2 m.2 m.5 (acc ++ pair (canonical o k) (canonical o v) ∷ []) os
     ∙ ap (λ (qs : List Pair). a_map qs ∷ os) (append_assoc acc (pair (canonical o k) (canonical o v) ∷ []) (canonical_entries o es))
 
--- the parts of what is within, between a beginning and an end
+-- the parts of what is inside, between a beginning and an end
 runs_around : (o : KeyOrder) (m : Major) (n : ℕ) (qs ps : List Part) (c : Open) (os : List Open) → ps ≡ begin m n ∷ qs ++ end ∷ [] → run o qs (opened m n ∷ os) ≡ c ∷ os → run o ps os ≡ give (closed o c) os
 runs_around o m n qs ps c os is within = ap (λ (p : List Part). run o p os) is ∙ run-append o qs (end ∷ []) (opened m n ∷ os) ∙ ap (run o (end ∷ [])) within
 

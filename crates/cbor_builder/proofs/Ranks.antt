@@ -8,9 +8,9 @@ use Rattle.std.proofs.lemmas.{Fn.always_returns_same, List.get_or_default}
 use denote.Param.Members.{Mut}
 use Rattle.cbor_head.specs.Prelude.{key_cmp, key_lt, AreBytes}
 use Rattle.cbor_head.specs.declared.order.KeyOrder.{KeyOrder, TheVariants.Bytewise, TheVariants.LengthFirst}
-use Rattle.cbor_model.proofs.Members.{all_at, all_from, in_contains, contains_in}
-use Rattle.cbor_model.{proofs.Orders.key_cmp_total, proofs.Orders.tied, proofs.KeyByteLists.bytes_slice, specs.KeyPrefix.prefix_of}
-use Rattle.cbor_model.proofs.KeyPrefixes.{agree_prefix}
+use Rattle.theory_values.proofs.Members.{all_at, all_from, in_contains, contains_in}
+use Rattle.theory_values.{proofs.Orders.key_cmp_total, proofs.Orders.tied, proofs.KeyByteLists.bytes_slice, specs.KeyPrefix.prefix_of}
+use Rattle.theory_values.proofs.KeyPrefixes.{agree_prefix}
 use Rattle.cbor_output.{proofs.ByIndex.all_index, specs.Spans.no_span, specs.declared.span.Span.Span}
 use Rattle.cbor_builder.specs.inner.Prefix.{key_of, IsPrefixed, ArePrefixed, by_prefix, rank, ranked_by}
 use Rattle.cbor_builder.{specs.inner.Repeats.nth, proofs.Neighbours.is_tied}
@@ -53,7 +53,7 @@ sorted_keys o out ys b h s = λ k d l g.
     let lower = all_index _ ys k d h (omega (arith, g)) in
     sym (ap is_lt (agree_spans o out (get_or ys (k + 1) d) (get_or ys k d) b upper lower)) ∙ s k d l g
 
--- ---- what a comparison says of keys
+-- ---- what a comparison shows about keys
 
 pub equal_keys : (o : KeyOrder) (x y : List ℕ) → is_eq (key_cmp o x y) ≡ true → x ≡ y
 equal_keys o x y e = tied o x y (is_tied _ e)
@@ -61,7 +61,7 @@ equal_keys o x y e = tied o x y (is_tied _ e)
 pub other_keys : (o : KeyOrder) (x y : List ℕ) → is_eq (key_cmp o x y) ≡ false → x ≢ y
 other_keys o x y e is = true≢false (ap is_eq (sym (tied_itself (key_cmp_total o) x)) ∙ ap (λ (k : List ℕ). is_eq (key_cmp o x k)) is ∙ e)
 
--- what a comparison of two of them says of their keys
+-- what a comparison of two of them shows about their keys
 pub compared : (o : KeyOrder) (out : List ℕ) (ss : List Span) (i j : ℕ) (d e : Span) (r : Ordering) → AreBytes out → ArePrefixed out ss → i < length ss → j < length ss
     → r ≡ rank o (ranked_by out (get_or ss i d)) (ranked_by out (get_or ss j e))
     → (is_eq r ≡ true → key_of out (nth ss i) ≡ key_of out (nth ss j)) × (is_eq r ≡ false → key_of out (nth ss i) ≢ key_of out (nth ss j))

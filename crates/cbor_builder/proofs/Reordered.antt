@@ -1,8 +1,8 @@
--- Spans of the innermost in another order than they came in.
+-- Spans of the innermost in another order than they arrived in.
 use Rattle.std.proofs.Common.{◌≡◌, ℕ, Bool, List, [], ◌∷◌, length, length-drop, length-take, drop, take, refl, sym, ap, ◌∙◌, subst, arith, IsPermutation, IsTrue, ◌↔◌}
 use Rattle.std.proofs.lemmas.List.{drop_all, Sorted.IsPermutation-refl, Sorted.length_permutation}
 use Rattle.cbor_head.specs.declared.order.KeyOrder.{KeyOrder}
-use Rattle.cbor_model.specs.Parts.{Open}
+use Rattle.theory_values.specs.Parts.{Open}
 use Rattle.cbor_output.specs.declared.span.Span.{Span}
 use Rattle.cbor_builder.specs.inner.BuilderState.{outers, frames, IsReordered, IsLeftOpen}
 use Rattle.cbor_builder.specs.inner.Laid.{shape_open, outer_spans, opens, Fits, Laid}
@@ -41,7 +41,7 @@ reordered_own o out came ss from start rises (Key first at) f h = (start, at, f.
 reordered_own o out came ss from start rises s f h =
     let none = drop_all (length came) came (omega arith) in coe 1 0 (i. AreOf out (none i) ((ap (drop (length came)) h ∙ none) i)) (0, 0, refl, omega arith, tt, IsPermutation-refl [])
 
--- ---- where a map does not end
+-- ---- a map that does not end
 
 pub left_open : (s n : Core) → Laid s.order s.out s.spans.items (frames s) → n.order ≡ s.order → n.out ≡ s.out → n.top ≡ s.top → outers n ≡ outers s → IsReordered s.spans.items n.spans.items s.top.shape → IsLeftOpen s n
 left_open s n laid order out top around h = (

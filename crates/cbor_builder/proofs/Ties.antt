@@ -7,7 +7,7 @@ use Rattle.std.proofs.lemmas.List.Sorted.{IsPermutation-keeps, ranks_by, sorted_
 use Rattle.std.specs.{List.swap, Ordering.is_lt, Ordering.ordering_reverse, declared.cmp.Ordering.Ordering}
 use Rattle.std.proofs.lemmas.Bool.{cases_lt, cases_eq}
 use Rattle.cbor_head.specs.{Prelude.key_cmp, Prelude.key_lt, declared.order.KeyOrder.KeyOrder}
-use Rattle.cbor_model.proofs.Orders.{key_cmp_total, tied}
+use Rattle.theory_values.proofs.Orders.{key_cmp_total, tied}
 use Rattle.cbor_output.specs.{Spans.no_span, declared.span.Span.Span}
 use Rattle.cbor_builder.specs.inner.Repeats.{nth, place, AreGrouped, IsTie, HasTie, IsUpTo, IsFirstTie, IsFirstOf, IsLeastOfKey}
 use Rattle.cbor_builder.specs.{inner.Prefix.key_of, declared.repeats.Tie.Tie}
@@ -18,7 +18,7 @@ module _ {X : Type 0} (d : X) (R : X → X → Type 0) where
   abbrev Two : List X → Type 0
   Two xs = (i : ℕ) × (j : ℕ) × (i < length xs) × (j < length xs) × (i ≢ j) × R (get_or xs i d) (get_or xs j d)
 
-  -- where what stood at an index stands when those at a and b have changed places
+  -- the index of an element after those at a and b were exchanged
   moved_to : (f g : ℕ → X) (a b n i : ℕ) → Swapped f g a b → a < n → b < n → i < n → (j : ℕ) × (j < n) × (g j ≡ f i) × (i ≡ a → j ≡ b) × (i ≡ b → j ≡ a) × (i ≢ a → i ≢ b → j ≡ i)
   moved_to f g a b n i w la lb li = elim (cases_eq i a) [
     | inl ea ↦ (b, lb, w.1 ∙ ap f (sym ea), (λ e. refl), (λ e. sym e ∙ ea), (λ u v. absurd (u ea)))
@@ -49,9 +49,9 @@ tie_permuted out xs ys earlier later m (i, j, less, l, tie) =
     let (k, n, lk, ln, ne, (same, low, high)) = two_permuted no_span (IsTie out earlier later) xs ys m (i, j, omega (arith, less, l), l, (λ e. omega (arith, less, e)), tie) in
     elim (cases_lt k n) [ inl g ↦ (k, n, g, ln, (same, low, high)) | inr g ↦ (n, k, omega (arith, g, ne), lk, (sym same, omega (arith, low), omega (arith, high))) ]
 
--- ---- what a look at sorted spans finds
+-- ---- what a pass over sorted spans finds
 
--- keys in order stand together
+-- equal keys are neighbours among sorted ones
 pub grouped : (o : KeyOrder) (out : List ℕ) (ss : List Span) → IsSortedBy (λ x y. key_lt o (key_of out x) (key_of out y)) ss → AreGrouped out ss
 grouped o out ss sorted i j k l m h same =
     let lt = λ (x y : Span). key_lt o (key_of out x) (key_of out y) in
@@ -69,7 +69,7 @@ grouped o out ss sorted i j k l m h same =
         go Equal e = tied o x y e
         go Greater e = let l : key_lt o y x ≡ true = ap is_lt ((key_cmp_total o).antisymm y x ∙ ap ordering_reverse e) in cc
 
--- where the ties are the same, the first of them is
+-- lists with the same ties have the same first tie
 pub first_same : (out : List ℕ) (xs ys : List Span) (n m : ℕ) (r : Option Tie) → ((earlier later : ℕ) → HasTie out xs n earlier later → HasTie out ys m earlier later)
     → ((earlier later : ℕ) → HasTie out ys m earlier later → HasTie out xs n earlier later) → IsFirstTie out xs n r → IsFirstTie out ys m r
 first_same out xs ys n m None forth back h = λ earlier later t. h earlier later (back earlier later t)
@@ -82,7 +82,7 @@ module _ (out : List ℕ) (ss : List Span) where
   abbrev key : ℕ → List ℕ
   key i = key_of out (nth ss i)
 
-  -- one alone
+  -- a single span
   pub tie_alone : (at : ℕ) → at ≡ place (nth ss 0) → IsFirstTie out ss 1 None × IsLeastOfKey out ss 1 (key 0) at
   tie_alone at is = ((λ earlier later t. omega (arith, t.2, t.3)), ((0, omega arith, refl, sym is), λ i l e. let none : 0 ≡ i = omega (arith, l) in omega (arith, is, ap (λ k. place (nth ss k)) none)))
 
@@ -99,7 +99,7 @@ module _ (out : List ℕ) (ss : List Span) where
     | inr k ↦ let e : j ≡ n = omega (arith, l, k) in inr (i, omega (arith, less, e), subst (λ m. IsTie out earlier later (nth ss i) (nth ss m)) e tie)
   ]
 
-  -- the key at n is another than the one before it
+  -- the key at n differs from the one before it
   pub tie_passed : (n at : ℕ) (r : Option Tie) → AreGrouped out ss → 1 ≤ n → n < length ss → key (n - 1) ≢ key n → at ≡ place (nth ss n)
       → IsFirstTie out ss n r → IsFirstTie out ss (n + 1) r × IsLeastOfKey out ss (n + 1) (key (n + 1 - 1)) at
   tie_passed n at r group low l other is h = (
@@ -110,7 +110,7 @@ module _ (out : List ℕ) (ss : List Span) where
       alone : (i : ℕ) → i < n → key i ≡ key n → ⊥
       alone i g e = other (group i (n - 1) n (omega (arith, g)) (omega arith) l e)
 
-  -- it is the same
+  -- the key at n is the one before it
   pub tie_visited : (n at least : ℕ) (r : Option Tie) (t : Tie) → key (n - 1) ≡ key n → at ≡ place (nth ss n) → IsLeastOfKey out ss n (key (n - 1)) least
       → IsFirstTie out ss n r → IsFirstOf r (record { earlier = min least at; later = max least at }) t → IsFirstTie out ss (n + 1) (Some t) × IsLeastOfKey out ss (n + 1) (key (n + 1 - 1)) (min least at)
   tie_visited n at least r t same is ((q, lq, meets, lies), all) h (one, up, found) = (

@@ -1,12 +1,13 @@
--- What contracts see of a builder, and when it takes the next part.
+-- What contracts see of a builder, and when it accepts the next part.
 use Rattle.std.specs.Prelude.{ℕ, suc, ◌≡◌, ◌↔◌, ◌<◌, ◌^◌, ◌⊎◌, List, [], ◌∷◌, ◌++◌, length, map, slice_index_or, Option, IsNone, IfSome, Result, OnOk, OnErr, IfOk}
 use Rattle.cbor_head.specs.Prelude.{Value, Entries, HasEntry, Same, Pair}
 use Rattle.cbor_head.specs.declared.major.Major.TheVariants.{Unsigned, Negative, Bytes, Text, Array, Map, Tag, Simple}
 use Rattle.cbor_head.specs.declared.{order.KeyOrder.KeyOrder, major.Major.Major}
-use Rattle.cbor_model.specs.Parts.{Open, an_array, a_map, a_key, a_string, HasNoRepeats}
+use Rattle.theory_values.specs.Parts.{Open, an_array, a_map, a_key, a_string, HasNoRepeats}
 use Rattle.cbor_builder.specs.declared.repeat.Repeat.{Repeat}
 
--- the order of keys, and what is open, the innermost first: nothing, from a call that is refused memory until it is as new again
+-- The order of keys, and what is open, the innermost first. After a call that ran out of memory nothing is open until the
+-- builder is cleared.
 pub record Built : Type 0 where
   pub order : KeyOrder
   pub open_levels : List Open
@@ -39,7 +40,7 @@ IsContainer _ = ⊥
 
 -- ---- what may follow
 
--- one more member fits: it is no string, and an array's count stays below 2^64
+-- one more member is allowed: no string is open, and an array's count stays below 2^64
 abbrev pub CanHold : Open → Type 0
 CanHold (an_array n bs) = suc n < 2 ^ 64
 CanHold (a_string m bs) = ⊥
@@ -50,12 +51,12 @@ abbrev pub TakesPart : List Open → Type 0
 TakesPart [] = ⊥
 TakesPart (c ∷ os) = CanHold c
 
--- a string is open, in something that holds it
+-- a string is open, inside something that can hold it
 abbrev pub IsInString : List Open → Type 0
 IsInString (a_string m bs ∷ c ∷ os) = Unit {0}
 IsInString _ = ⊥
 
--- no two keys of the innermost are equal, where it is a map
+-- no two keys of the innermost are equal, if it is a map
 abbrev pub HasDistinctKeysSoFar : List Open → Type 0
 HasDistinctKeysSoFar [] = Unit {0}
 HasDistinctKeysSoFar (c ∷ os) = HasNoRepeats c
@@ -116,7 +117,7 @@ abbrev pub AreOpenKeysDifferent : List Open → Type 0
 AreOpenKeysDifferent [] = Unit {0}
 AreOpenKeysDifferent (c ∷ os) = AreAllDifferent (keys_so_far c) × AreOpenKeysDifferent os
 
--- so many of these are maps
+-- this number of these are maps
 abbrev pub open_maps : List Open → ℕ
 open_maps [] = 0
 open_maps (a_map ps ∷ os) = suc (open_maps os)
@@ -132,13 +133,13 @@ IsRepeatReported (c ∷ os) outside pair =
 
 -- ---- what a call leaves
 
--- a call leaves the order, and these open, or nothing where it was refused memory
+-- after a call the order is unchanged, and these are open, or nothing if memory ran out
 pub record Leaves {A E : Type 0} (r : Result A E) (old new : Built) (os : List Open) : Type 0 where
   pub order : new.order ≡ old.order
   pub given : OnOk r (new ≡ built old.order os)
   pub refused : OnErr r (new.open_levels ≡ [])
 
--- the same where no two keys of the innermost are equal, else nothing, and then the repeated key is reported
+-- the same if no two keys of the innermost are equal; otherwise nothing is open, and the repeated key is reported
 pub record LeavesIfDistinct {E : Type 0} (r : Result (Option Repeat) E) (old new : Built) (os : List Open) : Type 0 where
   pub order : new.order ≡ old.order
   pub distinct : IfOk r (λ reported. IsNone reported ↔ HasDistinctKeysSoFar old.open_levels)

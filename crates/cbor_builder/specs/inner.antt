@@ -1,4 +1,4 @@
--- What private functions speak of; no public contract does.
+-- Definitions that only private functions use.
 pub mod BuilderState
 pub mod CanonState
 pub mod Prefix

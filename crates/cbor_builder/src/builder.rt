@@ -5,7 +5,7 @@ ghost use Rattle.std.specs.Prelude.{OnOk, MatchOption, take, length};
 ghost use Rattle.cbor_head.specs.Head.{shortest_head, IsSimple};
 ghost use Rattle.cbor_head.specs.declared.major.Major.TheVariants.{Simple};
 ghost use Rattle.cbor_builder.specs.Built.{IsKeyExpected, IsRepeatedKey, IsWaitingKey};
-ghost use Rattle.cbor_model.specs.Parts.{plain, give, opened, extended};
+ghost use Rattle.theory_values.specs.Parts.{plain, give, opened, extended};
 ghost use Rattle.cbor_builder.specs.inner.Laid.{Takes, IsString, Laid, outer_spans, shape_open};
 ghost use Rattle.cbor_builder.specs.inner.BuilderState.{open_levels, frames, outers, IsLaid};
 ghost use Rattle.cbor_builder.specs.inner.BuilderState.{WasLaid, came_open_levels};
@@ -25,21 +25,22 @@ use crate::opening::opening;
 use crate::repeat::Repeat;
 use crate::repeats::{first_repeat, outward};
 use cbor_head::{KeyOrder, Major};
-use cbor_model::part;
 use cbor_output::output_buffer::OutputBuffer;
 use cbor_output::span::Span;
 use std::alloc::{AllocError, Global};
+use theory_values::part;
 
-/// A builder. After a call has answered an error it may only be dropped, or cleared.
+/// A builder. After a call has returned an error, it may only be dropped or cleared.
 #[derive(Drop)]
 pub(crate) struct Core {
     pub(crate) order: KeyOrder,
-    /// Whether anything is open within the item. It stands here since here it takes no space.
+    /// Whether anything is open within the item. It is a field of its own here because it takes no
+    /// extra space.
     pub(crate) is_open: bool,
     pub(crate) out: OutputBuffer,
     pub(crate) spans: Vec<Span>,
     pub(crate) top: Frame,
-    /// What is open around `top`, but for the outermost.
+    /// The frames around `top`, except the outermost.
     pub(crate) below: Vec<Frame>,
 }
 
@@ -58,7 +59,7 @@ impl Core {
         }
     }
 
-    // As it was then, for keys in this order, with the memory that it has taken since.
+    // Makes it as new, for keys in this order. Its memory stays allocated.
     pub(crate) fn clear(&mut self, order: KeyOrder)
         ensures order { self.new.order ≡ order }
         ensures stands { StandsAs self.new (plain [] ∷ []) }
@@ -71,7 +72,7 @@ impl Core {
         self.is_open = false;
     }
 
-    /// An item that is its head.
+    /// Adds an item that is only a head.
     #[inline(always)]
     pub(crate) fn leaf(&mut self, major: Major, n: u64) -> Result<(), AllocError>
         requires laid { IsLaid self.old }
@@ -85,7 +86,7 @@ impl Core {
         complete(&mut self.top, &mut self.spans, &self.out, self.order, at)
     }
 
-    /// A whole string: the first of these bytes.
+    /// Adds a whole string: the first `count` bytes of `prefix`.
     #[inline(always)]
     pub(crate) fn string(
         &mut self,
@@ -105,7 +106,7 @@ impl Core {
         complete(&mut self.top, &mut self.spans, &self.out, self.order, at)
     }
 
-    /// An item of no bytes.
+    /// Adds an item of no bytes.
     #[inline(always)]
     pub(crate) fn nothing(&mut self) -> Result<(), AllocError>
         requires laid { IsLaid self.old }
@@ -116,8 +117,8 @@ impl Core {
         complete(&mut self.top, &mut self.spans, &self.out, self.order, at)
     }
 
-    /// A string, an array, a map or a tag begins. The number is the tag's; for the others it says
-    /// for which length or count the head is to have space.
+    /// Begins a string, an array, a map or a tag. The number is a tag's number; for the others it
+    /// is the length or count for which the head gets space.
     #[inline(always)]
     pub(crate) fn begin(&mut self, major: Major, n: u64) -> Result<(), AllocError>
         requires laid { IsLaid self.old }
@@ -133,7 +134,7 @@ impl Core {
         Ok(())
     }
 
-    /// More of a string: the first of these bytes.
+    /// Extends the open string by the first `count` bytes of `prefix`.
     #[inline(always)]
     pub(crate) fn bytes(&mut self, prefix: &[u8], count: usize) -> Result<(), AllocError>
         requires within { count ≤ length prefix.now }
@@ -184,8 +185,9 @@ impl Core {
         }
     }
 
-    /// Which repeated key is reported: of the outermost open map that has one its first. The spans of the
-    /// innermost may stand in another order than they came in. Then nothing is open. Takes no memory.
+    /// The repeated key that is reported: the first one of the outermost open map that has one.
+    /// The spans of the innermost may be in another order than they arrived in. Afterwards nothing
+    /// is open. No memory is allocated.
     #[cold]
     #[inline(never)]
     pub(crate) fn first_repeat(&mut self) -> Option<Repeat>
@@ -204,7 +206,7 @@ impl Core {
         found
     }
 
-    // The pair of the first repeated key of the innermost, whose bytes and spans are taken away.
+    // The pair of the first repeated key of the innermost. Its bytes and spans are removed.
     fn take_repeat(&mut self) -> Option<usize>
         requires laid { (came : List Span) × WasLaid came self.old }
         ensures reports { (came : List Span) → WasLaid came self.old

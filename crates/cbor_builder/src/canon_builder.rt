@@ -7,7 +7,7 @@ ghost use Rattle.cbor_head.specs.Value.{Value};
 ghost use Rattle.cbor_head.specs.declared.major.Major.TheVariants.{Simple};
 ghost use Rattle.cbor_builder.specs.Built.{built, IsLeaf, IsStringType, IsContainer, TakesPart};
 ghost use Rattle.cbor_builder.specs.Built.{IsInString, HasDistinctKeysSoFar};
-ghost use Rattle.cbor_model.specs.Parts.{IsInContainer, Part, Makes, run, plain, give, opened, extended, close};
+ghost use Rattle.theory_values.specs.Parts.{IsInContainer, Part, Makes, run, plain, give, opened, extended, close};
 ghost use Rattle.cbor_builder.specs.Built.{around, Leaves, LeavesIfDistinct};
 
 mod expected_key;
@@ -18,9 +18,9 @@ use cbor_head::{KeyOrder, Major};
 use std::alloc::{AllocError, Global};
 use std::marker::Model;
 
-/// Canonical bytes (RFC 8949, sections 4.2.1 and 4.2.3) from the parts of one item as they come,
-/// without a tree. A map's pairs are put in order as the map ends. A call that is refused memory
-/// leaves nothing open, so that the builder takes no more parts until it is cleared.
+/// Canonical bytes (RFC 8949, sections 4.2.1 and 4.2.3) from the parts of one item in their order, without a tree. A
+/// map's pairs are sorted when the map ends. After a call that ran out of memory nothing is open, and the builder
+/// accepts no part until it is cleared.
 ///
 /// ```
 /// // {1: [2], 0: "a"}
@@ -55,7 +55,7 @@ impl Model for CanonBuilder {
 }
 
 impl CanonBuilder {
-    /// A builder that has been given nothing. Takes no memory.
+    /// A builder without any part. Allocates nothing.
     pub fn new(alloc: Global, order: KeyOrder) -> CanonBuilder
         ensures { result ≡ built order (plain [] ∷ []) }
     {
@@ -65,7 +65,7 @@ impl CanonBuilder {
         }
     }
 
-    /// As new, for another item, with the memory that it has. Whatever call came before.
+    /// Makes the builder as new, for another item, in whatever state it is. Its memory stays allocated.
     pub fn clear(&mut self, order: KeyOrder)
         ensures { self.new ≡ built order (plain [] ∷ []) }
     {
@@ -73,8 +73,8 @@ impl CanonBuilder {
         self.is_sound = true;
     }
 
-    /// An integer or a simple value. The argument of a negative integer n is -1 - n; that of a simple
-    /// value is its number, 0 to 23 or 32 to 255.
+    /// Adds an integer or a simple value. The argument of a negative integer n is -1 - n; that of a simple value is its
+    /// number, 0 to 23 or 32 to 255.
     #[inline(always)]
     pub fn leaf(&mut self, major: Major, argument: u64) -> Result<(), AllocError>
         requires kind { IsLeaf major }
@@ -90,8 +90,8 @@ impl CanonBuilder {
         done
     }
 
-    /// A whole byte string or text: what `begin_string`, `bytes` and `end_string` do in turn, in one
-    /// step. Whether a text is UTF-8 is not looked at.
+    /// Adds a whole byte string or text string: `begin_string`, `bytes` and `end_string` in one step. It does not check
+    /// that a text is UTF-8.
     #[inline(always)]
     pub fn string(&mut self, major: Major, content: &[u8]) -> Result<(), AllocError>
         requires kind { IsStringType major }
@@ -102,8 +102,8 @@ impl CanonBuilder {
         self.prefix_string(major, content, content.len())
     }
 
-    /// Writes a string from the first `count` bytes of `prefix`. What follows them is not looked at, but a short string
-    /// is copied faster where something does.
+    /// Adds a whole string: the first `count` bytes of `prefix`. The bytes after them do not matter, but a short string
+    /// is copied faster if there are some.
     #[inline(always)]
     pub fn prefix_string(
         &mut self,
@@ -124,7 +124,7 @@ impl CanonBuilder {
         done
     }
 
-    /// An item of no bytes, as the value of a key where the keys alone are wanted.
+    /// Adds an item of no bytes: the value of a key, if only the keys are needed.
     #[inline(always)]
     pub fn nothing(&mut self) -> Result<(), AllocError>
         requires takes { TakesPart self.old.open_levels }
@@ -137,7 +137,7 @@ impl CanonBuilder {
         done
     }
 
-    /// A byte string or a text begins.
+    /// Begins a byte string or a text string.
     #[inline(always)]
     pub fn begin_string(&mut self, major: Major) -> Result<(), AllocError>
         requires kind { IsStringType major }
@@ -151,7 +151,7 @@ impl CanonBuilder {
         done
     }
 
-    /// More of the string.
+    /// Extends the open string by these bytes.
     #[inline(always)]
     pub fn bytes(&mut self, content: &[u8]) -> Result<(), AllocError>
         requires string { IsInString self.old.open_levels }
@@ -175,21 +175,21 @@ impl CanonBuilder {
         done
     }
 
-    /// The string ends.
+    /// Ends the open string.
     #[inline(always)]
     pub fn end_string(&mut self) -> Result<(), AllocError>
         requires string { IsInString self.old.open_levels }
         ensures { Leaves result self.old self.new (close self.old.order self.old.open_levels) }
     {
         self.is_sound = false;
-        // No string has keys that could be equal.
+        // A string has no keys that could be equal.
         let _ = self.core.end()?;
         self.is_sound = true;
         Ok(())
     }
 
-    /// An array, a map or a tag begins. The number is the tag's; of an array or a map it may be the
-    /// count that is expected, for which the head then has space.
+    /// Begins an array, a map or a tag. The number is a tag's number. For an array or a map it may be the expected
+    /// count: the head then gets space for it.
     #[inline(always)]
     pub fn begin(&mut self, major: Major, number: u64) -> Result<(), AllocError>
         requires kind { IsContainer major }
@@ -203,8 +203,7 @@ impl CanonBuilder {
         done
     }
 
-    /// The array, map or tag ends. No two keys of a map may be the same: `repeated` reports it of
-    /// each.
+    /// Ends the array, map or tag. No two keys of a map may be the same: call `repeated` after each key.
     pub fn end(&mut self) -> Result<(), AllocError>
         requires container { IsInContainer self.old.open_levels }
         requires distinct { HasDistinctKeysSoFar self.old.open_levels }
@@ -217,10 +216,10 @@ impl CanonBuilder {
         Ok(())
     }
 
-    /// The array, map or tag ends, where its keys haven't been looked at. Where two keys of the map are
-    /// the same it does not: then it answers what `first_repeat` would report, and nothing is open, so
-    /// that the builder takes no more parts until it is cleared. A map of n pairs whose keys don't come
-    /// in order takes some n log n comparisons, once.
+    /// Ends the array, map or tag, for callers that do not call `repeated` after each key. If two keys of the map are
+    /// the same, it does not end: the call returns what `first_repeat` would report, and nothing is open, so the
+    /// builder accepts no part until it is cleared. A map of n pairs whose keys do not arrive in order needs about n
+    /// log n comparisons, once.
     #[inline(always)]
     pub fn end_if_distinct(&mut self) -> Result<Option<Repeat>, AllocError>
         requires container { IsInContainer self.old.open_levels }
@@ -235,8 +234,8 @@ impl CanonBuilder {
         Ok(None)
     }
 
-    /// The array, map or tag ends, and nothing of it is kept. Where two keys of the map are the same it
-    /// does not, as in `end_if_distinct`. It takes as many comparisons.
+    /// Ends the array, map or tag, and removes it from the builder. If two keys of the map are the same, it does not
+    /// end, as in `end_if_distinct`. It needs as many comparisons.
     #[inline(always)]
     pub fn give_up_if_distinct(&mut self) -> Result<Option<Repeat>, AllocError>
         requires container { IsInContainer self.old.open_levels }
@@ -250,7 +249,7 @@ impl CanonBuilder {
         Ok(None)
     }
 
-    /// The bytes, once the item is whole, as `finish` answers them. They stay where they are.
+    /// Returns the bytes, once the item is whole, as `finish` does. They stay in the builder.
     #[inline(always)]
     pub fn as_slice(&self) -> &[u8]
         ensures { (bs : List ℕ) → self.now.open_levels ≡ plain bs ∷ [] → result.now ≡ bs }
@@ -258,8 +257,11 @@ impl CanonBuilder {
         self.core.out.as_slice()
     }
 
-    /// The bytes, once the item is whole: the canonical bytes of the value that the parts make.
-    /// Takes no memory.
+    /// Returns the bytes, once the item is whole: the canonical bytes of the value that the parts make. Allocates
+    /// nothing.
+    ///
+    /// Unlike the `finish` of a tree builder it has no `requires`: before the item is whole there is no tree to return,
+    /// but there are bytes. No clause says which bytes those are.
     #[inline(always)]
     pub fn finish(self) -> Vec<u8>
         ensures bytes { (bs : List ℕ) → self.open_levels ≡ plain bs ∷ [] → result.items ≡ bs }

@@ -1,4 +1,4 @@
-//! What is open.
+//! What is open in a builder.
 
 ghost use Rattle.std.specs.Prelude.{◌≡◌};
 ghost use Rattle.cbor_builder.specs.inner.Laid.{outermost};
@@ -7,17 +7,17 @@ ghost use Rattle.cbor_builder.specs.inner.Repeats.{first_of, maps_of};
 use cbor_head::Major;
 use cbor_output::span::Span;
 
-/// What is open, and how far it has come.
+/// The kind of an open part, and how far it has come.
 #[derive(Clone, Copy)]
 pub(crate) enum Shape {
-    /// The item itself, or a tag's content behind the tag's head.
+    /// The item itself, or a tag's content after the tag's head.
     Plain,
-    /// An array of so many members so far.
+    /// An array with this number of members so far.
     Array(u64),
     /// A map whose pairs are the spans from this index on.
     Map(usize),
-    /// A map with a key that waits for its value: the key begins at the second offset, and is the last that
-    /// the map has.
+    /// A map whose pairs are the spans from the first index on, with a key that waits for its value. The
+    /// key begins at the second offset, after all pairs.
     Key(usize, usize),
     /// A string.
     Content(Major),
@@ -29,12 +29,12 @@ pub(crate) struct Frame {
     pub(crate) from: usize,
     pub(crate) start: usize,
     pub(crate) shape: Shape,
-    /// Of a map, whether the keys of its pairs rise so far.
+    /// For a map, whether the keys of its pairs rise so far.
     pub(crate) rises: bool,
 }
 
 impl Frame {
-    /// Of the item itself, of which nothing is there.
+    /// The frame of the item itself, before any part of it was given.
     pub(crate) fn outermost() -> Frame
         ensures { result ≡ outermost }
     {
@@ -46,7 +46,7 @@ impl Frame {
         }
     }
 
-    // The index from which on the spans are those of its pairs.
+    // The index of the first span of its pairs.
     pub(crate) fn first_span(&self, spans: &[Span]) -> usize
         ensures { result ≡ first_of spans.now self.now.shape }
     {
@@ -56,7 +56,7 @@ impl Frame {
         }
     }
 
-    // One of a map, of another none.
+    // 1 for a map, 0 for anything else.
     pub(crate) fn maps(&self) -> usize
         ensures { result ≡ maps_of self.now.shape }
     {

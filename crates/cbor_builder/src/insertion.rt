@@ -1,19 +1,19 @@
-//! A few pairs, put in order one by one.
+//! Sorts a few pairs by insertion.
 
 ghost use Rattle.std.specs.Prelude.{◌≡◌, ◌↔◌, ◌<◌, ◌∷◌, IsTrue, false, map, length};
 ghost use Rattle.std.specs.Prelude.{IsPermutation};
 ghost use Rattle.cbor_builder.specs.Built.{HasKey};
 ghost use Rattle.cbor_builder.specs.inner.Prefix.{key_of, IsPrefixed, ArePrefixed, at_start};
 ghost use Rattle.cbor_output.specs.Spans.{span_pair};
-ghost use Rattle.cbor_model.specs.Pairs.{HasDistinctBytes, IsRising};
+ghost use Rattle.theory_values.specs.Pairs.{HasDistinctBytes, IsRising};
 
 use crate::ranking::compare;
 use cbor_head::KeyOrder;
 use cbor_output::span::Span;
 use std::cmp::Ordering;
 
-/// The spans sorted by their keys where they stand. False where two keys are equal: then not all are
-/// sorted.
+/// Sorts the spans by their keys in place. Returns false if two keys are equal: then the spans are
+/// sorted only in part.
 pub(crate) fn insert_each(bytes: &[u8], order: KeyOrder, spans: &mut [Span]) -> bool
     requires { ArePrefixed bytes.now spans.old }
     ensures distinct { IsTrue result ↔ HasDistinctBytes (map (span_pair bytes.now) spans.old) }
@@ -29,8 +29,8 @@ pub(crate) fn insert_each(bytes: &[u8], order: KeyOrder, spans: &mut [Span]) -> 
     true
 }
 
-// One more among those before the last place, which is free. False where one of them has the
-// same key.
+// Inserts one more span among those before the last element, which is free. Returns false if one of
+// them has the same key.
 #[inline(always)]
 fn insert(bytes: &[u8], order: KeyOrder, places: &mut [Span], next: &Span) -> bool
     requires free { 0 < length places.old }

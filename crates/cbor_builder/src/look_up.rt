@@ -1,11 +1,11 @@
-//! A key looked for among the pairs of its map.
+//! Looks for a key among the pairs of its map.
 
 ghost use Rattle.std.specs.Prelude.{◌↔◌, ◌≤◌, IsTrue, map, length, slice_range};
 ghost use Rattle.cbor_head.specs.declared.order.KeyOrder.{KeyOrder};
 ghost use Rattle.cbor_builder.specs.Built.{HasKey};
 ghost use Rattle.cbor_builder.specs.inner.Prefix.{ArePrefixed, IsPrefixed, key_of};
 ghost use Rattle.cbor_output.specs.Spans.{span_pair};
-ghost use Rattle.cbor_model.specs.Pairs.{IsRising};
+ghost use Rattle.theory_values.specs.Pairs.{IsRising};
 
 use crate::member::is_above;
 use crate::ranking::{compare, prefix};
@@ -13,9 +13,9 @@ use cbor_head::KeyOrder;
 use cbor_output::output_buffer::OutputBuffer;
 use cbor_output::span::Span;
 
-// Whether one of the pairs has the key that stands from `key` to `val`. Where their keys rise, a
-// key above the last one costs one comparison. Else a pair costs a comparison of two numbers, where
-// the first eight bytes of the keys differ.
+// Whether one of the pairs has the key from `key` to `val`. If their keys rise, a key above the
+// last one costs one comparison. Otherwise a pair costs a comparison of two numbers if the first
+// eight bytes of the keys differ.
 pub(crate) fn has_key(
     out: &OutputBuffer,
     order: KeyOrder,
@@ -44,7 +44,7 @@ pub(crate) fn has_key(
     has_key_of(bytes, order, spans, &wanted)
 }
 
-// Whether one of the pairs has the key of another.
+// Whether one of the pairs has the key of `wanted`.
 fn has_key_of(bytes: &[u8], order: KeyOrder, spans: &[Span], wanted: &Span) -> bool
     requires prefixed { ArePrefixed bytes.now spans.now }
     requires wanted { IsPrefixed bytes.now wanted.now }

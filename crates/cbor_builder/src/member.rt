@@ -2,7 +2,7 @@
 
 ghost use Rattle.std.specs.Prelude.{ℕ, ◌≡◌, ◌≤◌, ◌++◌, ◌∷◌, [], IsTrue, false, OnOk, map, drop, length};
 ghost use Rattle.cbor_head.specs.declared.order.KeyOrder.{KeyOrder};
-ghost use Rattle.cbor_model.specs.Pairs.{IsRising};
+ghost use Rattle.theory_values.specs.Pairs.{IsRising};
 ghost use Rattle.cbor_builder.specs.declared.frame.Shape.TheVariants.{Key, Map};
 ghost use Rattle.cbor_builder.specs.inner.Prefix.{ArePrefixed, IsPrefixed};
 ghost use Rattle.cbor_output.specs.Spans.{span_pair};
@@ -17,7 +17,7 @@ use cbor_output::reserve::push;
 use cbor_output::span::Span;
 use std::alloc::AllocError;
 
-/// Whether a pair's key is above those of the spans from an index on, where they rise.
+/// Whether a pair's key is above those of the spans from an index on, if these rise.
 #[inline(always)]
 pub(crate) fn is_above(
     bytes: &[u8],
@@ -41,7 +41,7 @@ pub(crate) fn is_above(
     }
 }
 
-/// A member that begins at `at` and ends the buffer is finished.
+/// Finishes a member that begins at `at` and ends the buffer.
 #[inline(always)]
 pub(crate) fn complete(
     frame: &mut Frame,
@@ -72,8 +72,8 @@ pub(crate) fn complete(
     Ok(())
 }
 
-// The pair whose key stands from `key` to `val`, and whose value ends the buffer, is finished. It
-// is apart so that no space is made for a pair where none is finished.
+// Finishes the pair whose key is from `key` to `val` and whose value ends the buffer. It is a
+// function of its own so that no space is made for a pair if none is finished.
 #[inline(always)]
 fn finish_pair(
     frame: &mut Frame,

@@ -1,4 +1,4 @@
-//! What begins.
+//! The frame of a container that begins.
 
 ghost use Rattle.std.specs.Prelude.{◌≡◌};
 ghost use Rattle.cbor_builder.specs.inner.Laid.{opening_frame};
@@ -6,7 +6,8 @@ ghost use Rattle.cbor_builder.specs.inner.Laid.{opening_frame};
 use crate::frame::{Frame, Shape};
 use cbor_head::Major;
 
-/// The frame of what begins: its head stands from `from` to `end`, and there are so many spans.
+/// The frame of the container that begins. Its head is from `from` to `end`, and there are `spans`
+/// spans before it.
 #[inline(always)]
 pub(crate) fn opening(major: Major, from: usize, end: usize, spans: usize) -> Frame
     ensures { result ≡ opening_frame major from end spans }

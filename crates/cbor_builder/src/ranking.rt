@@ -1,18 +1,18 @@
-//! How the pairs of a map stand to each other.
+//! How the pairs of a map compare.
 
 ghost use Rattle.std.specs.Prelude.{◌≡◌, ◌≤◌, length, slice_range};
-ghost use Rattle.cbor_model.specs.KeyPrefix.{prefix_of};
+ghost use Rattle.theory_values.specs.KeyPrefix.{prefix_of};
 ghost use Rattle.cbor_builder.specs.inner.Prefix.{by_prefix, rank, ranked_by};
 ghost use Rattle.cbor_head.specs.Order.{key_cmp};
 
 use cbor_head::KeyOrder;
-use cbor_model::{compare_keys, key_prefix, part};
 use cbor_output::output_buffer::OutputBuffer;
 use cbor_output::span::Span;
 use std::cmp::Ordering;
+use theory_values::{compare_keys, key_prefix, part};
 
-// The first eight bytes of a key as a number. They are read in one piece, beyond what is written
-// too.
+// The first eight bytes of a key as a number. All eight are read at once, also beyond the key's
+// and the written bytes.
 #[tactic(auto, using(cbor_output::proofs::Slices::slice_within))]
 #[inline(always)]
 pub(crate) fn prefix(out: &OutputBuffer, key: usize, val: usize) -> u64
@@ -23,7 +23,7 @@ pub(crate) fn prefix(out: &OutputBuffer, key: usize, val: usize) -> u64
     key_prefix(out.with_space(), key, val)
 }
 
-/// How two pairs stand to each other.
+/// How two pairs compare.
 #[inline(always)]
 pub(crate) fn compare(bytes: &[u8], order: KeyOrder, x: &Span, y: &Span) -> Ordering
     ensures { result ≡ rank order (ranked_by bytes.now x.now) (ranked_by bytes.now y.now) }
@@ -41,7 +41,7 @@ pub(crate) fn compare(bytes: &[u8], order: KeyOrder, x: &Span, y: &Span) -> Orde
     }
 }
 
-// Two numbers, where the first eight bytes of the keys differ.
+// Compares two numbers, if the first eight bytes of the keys differ.
 #[inline(always)]
 fn compare_bytewise(bytes: &[u8], x: &Span, y: &Span) -> Ordering
     ensures { result ≡ by_prefix (ranked_by bytes.now x.now) (ranked_by bytes.now y.now) }
@@ -55,7 +55,7 @@ fn compare_bytewise(bytes: &[u8], x: &Span, y: &Span) -> Ordering
     compare_long(bytes, x.key, x.val, y.key, y.val)
 }
 
-// The keys are given by their places, so that no span has to stand in memory for it.
+// Keys are passed by their offsets, so that no span has to be in memory.
 #[inline(never)]
 fn compare_long(bytes: &[u8], x: usize, x_end: usize, y: usize, y_end: usize) -> Ordering
     ensures { result ≡ key_cmp KeyOrder.Bytewise

@@ -15,15 +15,15 @@ use crate::sort::sort_by_keys;
 use cbor_head::KeyOrder;
 use cbor_output::span::Span;
 
-/// Two pairs with equal keys, by their places.
+/// Two pairs with equal keys, by their offsets.
 #[derive(Clone, Copy)]
 struct Tie {
     earlier: usize,
     later: usize,
 }
 
-/// The number of the first pair whose key is equal to an earlier one. The spans may lie in any
-/// order, and are sorted by their keys. Takes no memory.
+/// The number of the first pair whose key is equal to an earlier one. The spans may be in any
+/// order, and are sorted by their keys. Allocates nothing.
 pub(crate) fn first_repeat(bytes: &[u8], order: KeyOrder, spans: &mut [Span]) -> Option<usize>
     requires { (xs : List Span) × AreOf bytes.now xs spans.old }
     ensures { (xs : List Span) → AreOf bytes.now xs spans.old
@@ -32,12 +32,12 @@ pub(crate) fn first_repeat(bytes: &[u8], order: KeyOrder, spans: &mut [Span]) ->
 {
     sort_by_keys(bytes, order, spans);
     let tie = first_tie(bytes, order, spans)?;
-    // Where both lie at one place, one comes before the other all the same.
+    // If both are at one offset, one still comes before the other.
     Some(count_before(spans, tie.later) + usize::from(tie.earlier == tie.later))
 }
 
-// Which is reported from one container out: the first of its own pairs, or what is reported within it,
-// behind so many maps more.
+// What is reported of a container: the first repeated key of its own pairs, or else what is
+// reported within it, with this many more maps around it.
 pub(crate) fn outward(own: Option<usize>, within: Option<Repeat>, maps: usize) -> Option<Repeat>
     requires fits { IfSome within (λ repeat. repeat.outside + maps < 2 ^ 64) }
     ensures { result ≡ outward own within maps }
@@ -52,7 +52,7 @@ pub(crate) fn outward(own: Option<usize>, within: Option<Repeat>, maps: usize) -
     }
 }
 
-// Of the pairs with equal keys, which stand together, those two whose later one comes first.
+// Of the pairs with equal keys, which are neighbours, the two whose later one comes first.
 fn first_tie(bytes: &[u8], order: KeyOrder, spans: &[Span]) -> Option<Tie>
     requires prefixed { ArePrefixed bytes.now spans.now }
     requires placed { ArePlaced spans.now }
@@ -63,7 +63,7 @@ fn first_tie(bytes: &[u8], order: KeyOrder, spans: &[Span]) -> Option<Tie>
         return None;
     }
     let mut first = None;
-    // Of the key that stands here, where the first of its pairs lies.
+    // The least offset of the pairs with the current key.
     let mut least = place(&spans[0]);
     for i in 1..spans.len() {
         let here = place(&spans[i]);
@@ -79,7 +79,8 @@ fn first_tie(bytes: &[u8], order: KeyOrder, spans: &[Span]) -> Option<Tie>
     first
 }
 
-// The one whose later pair comes first, and where they share that, whose earlier one does.
+// The tie whose later pair comes first; if both have the same later pair, the one whose earlier
+// pair comes first.
 fn first_of(first: Option<Tie>, tie: Tie) -> Tie
     ensures { IsFirstOf first tie result }
 {
@@ -89,7 +90,7 @@ fn first_of(first: Option<Tie>, tie: Tie) -> Tie
     }
 }
 
-// How many pairs lie before this place.
+// The number of pairs before this offset.
 fn count_before(spans: &[Span], at: usize) -> usize
     requires { ArePlaced spans.now }
     ensures { result ≡ count_by (lies_before at) spans.now }
@@ -103,8 +104,8 @@ fn count_before(spans: &[Span], at: usize) -> usize
     count
 }
 
-// Where a pair lies: twice its middle. That distinguishes all pairs but those of no bytes that lie at
-// one place, whose keys are equal.
+// Where a pair is: twice its middle. That distinguishes all pairs except those of no bytes at one
+// offset, whose keys are equal.
 fn place(span: &Span) -> usize
     requires { HasPlace span.now }
     ensures { result ≡ place span.now }

@@ -1,9 +1,9 @@
-//! The pairs of a map, put in order.
+//! Sorts the pairs of a map.
 
 ghost use Rattle.std.specs.Prelude.{◌↔◌, IsTrue, map};
 ghost use Rattle.std.specs.Prelude.{IsPermutation, IsSortedBy};
 ghost use Rattle.cbor_builder.specs.inner.Repeats.{DoNeighboursDiffer};
-ghost use Rattle.cbor_model.specs.Pairs.{HasDistinctBytes, IsRising};
+ghost use Rattle.theory_values.specs.Pairs.{HasDistinctBytes, IsRising};
 ghost use Rattle.cbor_output.specs.Spans.{span_pair};
 ghost use Rattle.cbor_builder.specs.inner.Prefix.{rank, ranked_by, ArePrefixed};
 ghost use Rattle.std.specs.Ordering.{is_lt};
@@ -13,7 +13,7 @@ use crate::ranking::compare;
 use cbor_head::KeyOrder;
 use cbor_output::span::Span;
 
-// So many pairs are put in order one by one.
+// Up to this number of pairs are sorted by insertion.
 const FEW: usize = 16;
 
 // Whether no two neighbours have equal keys.
@@ -29,8 +29,8 @@ fn differ(bytes: &[u8], order: KeyOrder, spans: &[Span]) -> bool
     true
 }
 
-/// The spans sorted by their keys where they stand. False where two keys are equal: then not all are
-/// sorted. It takes no memory.
+/// Sorts the spans by their keys in place. Returns false if two keys are equal: then the spans
+/// are sorted only in part. Allocates nothing.
 #[inline(always)]
 pub(crate) fn sort_distinct(bytes: &[u8], order: KeyOrder, spans: &mut [Span]) -> bool
     requires { ArePrefixed bytes.now spans.old }
@@ -45,7 +45,8 @@ pub(crate) fn sort_distinct(bytes: &[u8], order: KeyOrder, spans: &mut [Span]) -
     insert_each(bytes, order, spans)
 }
 
-/// The spans sorted by their keys. Where they are already that is one pass. It takes no memory.
+/// Sorts the spans by their keys. If they are sorted already, that is one pass. Allocates
+/// nothing.
 pub(crate) fn sort_by_keys(bytes: &[u8], order: KeyOrder, spans: &mut [Span])
     ensures permuted { IsPermutation spans.old spans.new }
     ensures sorted { IsSortedBy

@@ -1,11 +1,11 @@
--- What the bytes of a spelling decode to.
+-- What the bytes of an encoding decode to.
 use Rattle.std.proofs.Common.{◌≡◌, ℕ, ◌≤◌, List, [], ◌++◌, length, sym, ap, ◌∙◌, arith, append-nil, length-append, Option}
 use Rattle.cbor_head.specs.Value as value
 use Rattle.cbor_head.specs.Prelude.{head, break_of, Spelling, Spellings, SpelledEntries, array, a_map, tag, no_spellings, a_spelling, no_entries, entry, spell, spell_all, spell_entries, spellings_count, entries_count, value_of, values_of, entries_of, IsSpelled, AreSpelled, AreEntriesSpelled, depth, depth_all, depth_entries}
 use Rattle.cbor_head.specs.Read.{either, read, read_many, read_pairs}
 use Rattle.cbor_head.specs.declared.major.Major.TheVariants as majors
 use Rattle.cbor_head.specs.declared.order.KeyOrder.{KeyOrder}
-use Rattle.cbor_model.proofs.ReadLaws.{reads, reads_all, reads_pairs, length_head}
+use Rattle.theory_values.proofs.ReadLaws.{reads, reads_all, reads_pairs, length_head}
 use Rattle.cbor_cursor.specs.Decoded.{decoded, members_in, pairs_in}
 use Rattle.cbor_cursor.specs.inner.Canonical.{encoded_items}
 

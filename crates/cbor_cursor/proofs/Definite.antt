@@ -1,9 +1,9 @@
--- The normal spelling has definite lengths; lists of spellings one behind another.
+-- The encoding that `normal` returns has definite lengths; lists of encodings one after another.
 use Rattle.std.proofs.Common.{◌≡◌, ℕ, ◌+◌, ◌*◌, ◌^◌, ◌<◌, List, ◌++◌, length, refl, sym, ap, ◌∙◌, subst, arith, append_assoc}
 use Rattle.cbor_head.specs.Value as value
 use Rattle.cbor_head.specs.Prelude.{Holds, shortest, Value, Values, Entries, IsInRange, AreInRange, AreEntriesInRange, Spellings, SpelledEntries, no_spellings, a_spelling, no_entries, entry, spell, spell_all, spell_entries, spellings_count, entries_count}
 use Rattle.cbor_head.specs.declared.order.KeyOrder.{KeyOrder}
-use Rattle.cbor_model.proofs.Normal.{normal, normal_all, normal_entries, by_put, spellings_count-normal, entries_count-normal, Holds-shortest}
+use Rattle.theory_values.proofs.Normal.{normal, normal_all, normal_entries, by_put, spellings_count-normal, entries_count-normal, Holds-shortest}
 use Rattle.cbor_cursor.specs.inner.Definite.{IsDefinite, AreDefinite, AreEntriesDefinite}
 
 held : (n m : ℕ) → m ≡ n → n < 2 ^ 64 → Holds (shortest n) m
@@ -31,7 +31,7 @@ mutual
       let q = definite o v h.1 in
       by_put o (normal o k) (normal o v) (λ fs put. AreEntriesDefinite fs → AreEntriesDefinite put) (λ a. (p, q, tt)) (λ k' v' fs a. (p, q, a)) (λ k' v' fs put ih a. (a.0, a.1, ih a.2)) (normal_entries o es) (definite-entries o es h.2)
 
--- ---- one list behind another
+-- ---- one list after another
 
 abbrev pub joined : Spellings → Spellings → Spellings
 joined no_spellings ts = ts
@@ -49,7 +49,7 @@ pub spell-joined : (ss ts : Spellings) → spell_all (joined ss ts) ≡ spell_al
 spell-joined no_spellings ts = refl
 spell-joined (a_spelling s ss) ts = ap (λ (l : List ℕ). spell s ++ l) (spell-joined ss ts) ∙ sym (append_assoc (spell s) (spell_all ss) (spell_all ts))
 
--- keys and values, as they stand
+-- keys and values, in their order
 abbrev pub flat : SpelledEntries → Spellings
 flat no_entries = no_spellings
 flat (entry k v es) = a_spelling k (a_spelling v (flat es))

@@ -4,20 +4,20 @@ use Rattle.std.proofs.Math.{Seq.drop-append_seam, Seq.take-append_seam, Dec.eqb-
 use Rattle.cbor_head.specs.Prelude.{major_number, Spelling, Spellings, SpelledEntries, unsigned, negative, bytes, text, byte_chunks, text_chunks, array, a_map, tag, simple, no_spellings, a_spelling, no_entries, entry, spell, spell_all, spellings_count}
 use Rattle.cbor_cursor.specs.Index.{major_in, number_in, head_size, items_count, all_count, listed, all_listed, placed}
 use Rattle.cbor_cursor.specs.inner.Definite.{IsDefinite, AreDefinite, AreEntriesDefinite}
-use Rattle.cbor_cursor.specs.inner.Indexing.{members_of, opened_item, opened_at, end_of, entries_in, closed_item, closed}
+use Rattle.cbor_cursor.specs.inner.Indexing.{opened_item, opened_at, end_of, entries_in, closed_item, closed}
 use Rattle.cbor_cursor.proofs.IndexParts.{members_in, payload_in, length_parts, payload_is, members_is, count_parts, length-listed, length-all_listed, listed_parts}
-use Rattle.cbor_cursor.{specs.declared.placed.PlacedItem.PlacedItem, proofs.Definite.flat, proofs.IndexWalk.closed_is}
+use Rattle.cbor_cursor.{specs.WellFormed.members_of, specs.declared.placed.PlacedItem.PlacedItem, proofs.Definite.flat, proofs.IndexWalk.closed_is}
 
 -- ---- over the entries of some items
 
--- behind all entries of an item
+-- after all entries of an item
 behind_item : (p : ℕ) (s : Spelling) (rest : List PlacedItem) → drop (items_count s) (listed placed p s ++ rest) ≡ rest
 behind_item p s rest = ap (λ (n : ℕ). drop n (listed placed p s ++ rest)) (sym (length-listed placed p s)) ∙ drop-append_seam (listed placed p s) rest
 
-abbrev within : ℕ → Spelling → List PlacedItem
+abbrev pub within : ℕ → Spelling → List PlacedItem
 within p s = all_listed placed (p + head_size s + length (payload_in s)) (members_in s)
 
-first_entry : (p : ℕ) (s : Spelling) (ss : Spellings) (rest : List PlacedItem)
+pub first_entry : (p : ℕ) (s : Spelling) (ss : Spellings) (rest : List PlacedItem)
     → all_listed placed p (a_spelling s ss) ++ rest ≡ placed p s ∷ (within p s ++ (all_listed placed (p + length (spell s)) ss ++ rest))
 first_entry p s ss rest =
     let q = p + length (spell s) in
@@ -53,27 +53,27 @@ counts (a_spelling s ss) p rest =
 -- ---- one entry
 
 abbrev ended : PlacedItem → List PlacedItem → PlacedItem
-ended x xs = if x.behind == 0 then closed_item x xs else x
+ended x xs = if x.entries == 0 then closed_item x xs else x
 
-opened_more : {A : Type 0} (kind number place content end n : ℕ) (f : PlacedItem → A)
-    → f (opened_item kind number place content end (suc n)) ≡ f record { number = number; place = place; content = content; end = suc n; kind = kind; behind = 0 }
-opened_more kind number place content end n f =
-    ap (λ (b : Bool). f (if b then record { number = number; place = place; content = content; end = end; kind = kind; behind = 1 } else record { number = number; place = place; content = content; end = suc n; kind = kind; behind = 0 })) (eqb-suc-zero n)
+opened_more : {A : Type 0} (kind number offset content end n : ℕ) (f : PlacedItem → A)
+    → f (opened_item kind number offset content end (suc n)) ≡ f record { number = number; offset = offset; content = content; end = suc n; kind = kind; entries = 0 }
+opened_more kind number offset content end n f =
+    ap (λ (b : Bool). f (if b then record { number = number; offset = offset; content = content; end = end; kind = kind; entries = 1 } else record { number = number; offset = offset; content = content; end = suc n; kind = kind; entries = 0 })) (eqb-suc-zero n)
 
-ended_parts : (kind number place content end total p : ℕ) (ms : Spellings) (rest : List PlacedItem) → end ≡ p → total ≡ p + length (spell_all ms)
-    → ended (opened_item kind number place content end (spellings_count ms)) (all_listed placed p ms ++ rest)
-    ≡ record { number = number; place = place; content = content; end = total; kind = kind; behind = 1 + all_count ms }
-ended_parts kind number place content end total p no_spellings rest e t =
-    ap (λ (n : ℕ). record { number = number; place = place; content = content; end = n; kind = kind; behind = 1 }) (e ∙ sym (add-zero p) ∙ sym t)
-ended_parts kind number place content end total p (a_spelling s ss) rest e t =
-    let x : PlacedItem = record { number = number; place = place; content = content; end = suc (spellings_count ss); kind = kind; behind = 0 } in
+ended_parts : (kind number offset content end total p : ℕ) (ms : Spellings) (rest : List PlacedItem) → end ≡ p → total ≡ p + length (spell_all ms)
+    → ended (opened_item kind number offset content end (spellings_count ms)) (all_listed placed p ms ++ rest)
+    ≡ record { number = number; offset = offset; content = content; end = total; kind = kind; entries = 1 + all_count ms }
+ended_parts kind number offset content end total p no_spellings rest e t =
+    ap (λ (n : ℕ). record { number = number; offset = offset; content = content; end = n; kind = kind; entries = 1 }) (e ∙ sym (add-zero p) ∙ sym t)
+ended_parts kind number offset content end total p (a_spelling s ss) rest e t =
+    let x : PlacedItem = record { number = number; offset = offset; content = content; end = suc (spellings_count ss); kind = kind; entries = 0 } in
     let n = all_count (a_spelling s ss) in
     let space : n ≤ length (all_listed placed p (a_spelling s ss) ++ rest) =
     omega (arith, length-append (all_listed placed p (a_spelling s ss)) rest, length-all_listed placed p (a_spelling s ss)) in
     let more : n + 1 ≡ 1 + n = omega arith in
-    opened_more kind number place content end (spellings_count ss) (λ (y : PlacedItem). ended y (all_listed placed p (a_spelling s ss) ++ rest))
+    opened_more kind number offset content end (spellings_count ss) (λ (y : PlacedItem). ended y (all_listed placed p (a_spelling s ss) ++ rest))
     ∙ sym (closed_is x (all_listed placed p (a_spelling s ss) ++ rest) total n (ends s ss p content rest ∙ sym t) (counts (a_spelling s ss) p rest) space)
-    ∙ ap (λ (k : ℕ). record { number = number; place = place; content = content; end = total; kind = kind; behind = k }) more
+    ∙ ap (λ (k : ℕ). record { number = number; offset = offset; content = content; end = total; kind = kind; entries = k }) more
 
 pub ended_item : (s : Spelling) (p : ℕ) (rest : List PlacedItem) → IsDefinite s → ended (opened_at p s) (within p s ++ rest) ≡ placed p s
 ended_item s p rest h =
@@ -83,7 +83,7 @@ ended_item s p rest h =
     ap (λ (n : ℕ). ended (opened_item kind (number_in s) p content (content + n) (members_of kind (number_in s))) (within p s ++ rest)) (payload_is s h)
     ∙ ap (λ (n : ℕ). ended (opened_item kind (number_in s) p content q n) (within p s ++ rest)) (members_is s)
     ∙ ended_parts kind (number_in s) p content q (p + length (spell s)) q (members_in s) rest refl (omega (arith, length_parts s h))
-    ∙ ap (λ (n : ℕ). record { number = number_in s; place = p; content = content; end = p + length (spell s); kind = kind; behind = n }) (sym (count_parts s))
+    ∙ ap (λ (n : ℕ). record { number = number_in s; offset = p; content = content; end = p + length (spell s); kind = kind; entries = n }) (sym (count_parts s))
 
 -- ---- all entries
 

@@ -5,7 +5,7 @@ use Rattle.cbor_head.specs.declared.major.Major.TheVariants as majors
 use Rattle.cbor_head.specs.declared.width.Width.{TheVariants.Indefinite, Width}
 use Rattle.cbor_cursor.specs.Index.{major_in, width_in, number_in, head_size, items_count, all_count, pairs_count, listed, all_listed, pairs_listed}
 use Rattle.cbor_cursor.proofs.Definite.{joined, flat, definite-flat, count-flat, spell-flat}
-use Rattle.cbor_cursor.specs.inner.{Definite.IsDefinite, Definite.AreDefinite, Indexing.payload_of, Indexing.members_of}
+use Rattle.cbor_cursor.specs.{WellFormed.payload_of, WellFormed.members_of, inner.Definite.IsDefinite, inner.Definite.AreDefinite}
 use Rattle.cbor_cursor.specs.declared.placed.PlacedItem.{PlacedItem}
 
 -- the items directly within one
@@ -115,10 +115,10 @@ module _ (f : ℕ → Spelling → PlacedItem) where
   all_listed-joined p no_spellings ts = ap (λ (q : ℕ). all_listed f q ts) (sym (add-zero p))
   all_listed-joined p (a_spelling s ss) ts =
       let q = p + length (spell s) in
-      let place : q + length (spell_all ss) ≡ p + length (spell s ++ spell_all ss) = omega (arith, length-append (spell s) (spell_all ss)) in
+      let offset : q + length (spell_all ss) ≡ p + length (spell s ++ spell_all ss) = omega (arith, length-append (spell s) (spell_all ss)) in
       ap (λ (l : List PlacedItem). listed f p s ++ l) (all_listed-joined q ss ts)
       ∙ sym (append_assoc (listed f p s) (all_listed f q ss) (all_listed f (q + length (spell_all ss)) ts))
-      ∙ ap (λ (r : ℕ). (listed f p s ++ all_listed f q ss) ++ all_listed f r ts) place
+      ∙ ap (λ (r : ℕ). (listed f p s ++ all_listed f q ss) ++ all_listed f r ts) offset
 
   pairs_listed-flat : (p : ℕ) (es : SpelledEntries) → pairs_listed f p es ≡ all_listed f p (flat es)
   pairs_listed-flat p no_entries = refl

@@ -8,22 +8,22 @@ behind_first : (next : ℕ) (xs : List PlacedItem) (d : PlacedItem) (n : ℕ) �
 behind_first next xs d n within = ap (drop n) (sym (drop-cons xs next d within)) ∙ drop-drop n next xs
 
 pub one_end : (left next e : ℕ) (xs : List PlacedItem) (d : PlacedItem) → 0 < left → next < length xs
-    → end_of left e (drop next xs) ≡ end_of (left - 1) (get_or xs next d).end (drop (next + (get_or xs next d).behind) xs)
+    → end_of left e (drop next xs) ≡ end_of (left - 1) (get_or xs next d).end (drop (next + (get_or xs next d).entries) xs)
 one_end zero next e xs d l within = absurd (omega arith)
 one_end (suc n) next e xs d l within =
     let x = get_or xs next d in
     let m : n ≡ suc n - 1 = omega arith in
-    ap (end_of (suc n) e) (drop-cons xs next d within) ∙ ap (end_of n x.end) (behind_first next xs d x.behind within)
-    ∙ ap (λ (k : ℕ). end_of k x.end (drop (next + x.behind) xs)) m
+    ap (end_of (suc n) e) (drop-cons xs next d within) ∙ ap (end_of n x.end) (behind_first next xs d x.entries within)
+    ∙ ap (λ (k : ℕ). end_of k x.end (drop (next + x.entries) xs)) m
 
 pub one_more : (left next : ℕ) (xs : List PlacedItem) (d : PlacedItem) → 0 < left → next < length xs
-    → entries_in left (drop next xs) ≡ (get_or xs next d).behind + entries_in (left - 1) (drop (next + (get_or xs next d).behind) xs)
+    → entries_in left (drop next xs) ≡ (get_or xs next d).entries + entries_in (left - 1) (drop (next + (get_or xs next d).entries) xs)
 one_more zero next xs d l within = absurd (omega arith)
 one_more (suc n) next xs d l within =
     let x = get_or xs next d in
     let m : n ≡ suc n - 1 = omega arith in
-    ap (entries_in (suc n)) (drop-cons xs next d within) ∙ ap (λ (ys : List PlacedItem). x.behind + entries_in n ys) (behind_first next xs d x.behind within)
-    ∙ ap (λ (k : ℕ). x.behind + entries_in k (drop (next + x.behind) xs)) m
+    ap (entries_in (suc n)) (drop-cons xs next d within) ∙ ap (λ (ys : List PlacedItem). x.entries + entries_in n ys) (behind_first next xs d x.entries within)
+    ∙ ap (λ (k : ℕ). x.entries + entries_in k (drop (next + x.entries) xs)) m
 
 no_end : (left e : ℕ) → end_of left e [] ≡ e
 no_end zero e = refl
@@ -40,7 +40,7 @@ none_left next e xs left (inr l) =
     (ap (end_of left e) none ∙ no_end left e, ap (entries_in left) none ∙ no_entries left)
 
 pub closed_is : (x : PlacedItem) (xs : List PlacedItem) (e n : ℕ) → end_of x.end x.content xs ≡ e → entries_in x.end xs ≡ n → n ≤ length xs
-    → record { number = x.number; place = x.place; content = x.content; end = e; kind = x.kind; behind = n + 1 } ≡ closed_item x xs
+    → record { number = x.number; offset = x.offset; content = x.content; end = e; kind = x.kind; entries = n + 1 } ≡ closed_item x xs
 closed_is x xs e n f g l =
     let space : nat_le (entries_in x.end xs) (length xs) ≡ true = le-leb _ _ (omega (arith, g, l)) in
     let more : n + 1 ≡ suc (entries_in x.end xs) = omega (arith, g) in

@@ -1,9 +1,9 @@
 -- The head of a value's canonical bytes, and what follows it.
 use Rattle.std.proofs.Common.{◌≡◌, ℕ, List, [], ◌++◌, length, refl, sym, ap, ◌∙◌, append_assoc, append-nil}
 use Rattle.cbor_head.specs.Value as value
-use Rattle.cbor_head.specs.Prelude.{IsHead, shortest, shortest_head, Value, Values, Entries, IsInRange, canonical, spell, major_number}
+use Rattle.cbor_head.specs.Prelude.{IsHead, shortest, shortest_head, Value, Values, Entries, IsInRange, canonical, major_number}
 use Rattle.cbor_head.specs.declared.order.KeyOrder.{KeyOrder}
-use Rattle.cbor_model.proofs.Normal.{normal, spell-normal, Holds-shortest}
+use Rattle.theory_values.proofs.Normal.{Holds-shortest}
 use Rattle.cbor_cursor.specs.Items.{BeginsWith, major_of, argument_of, content_of}
 use Rattle.cbor_cursor.specs.{Decoded.decoded, Decoded.encoded, inner.Canonical.IsCanonical, inner.Pairs.ArePairsOf}
 
@@ -31,11 +31,7 @@ pub from_head : (o : KeyOrder) (v : Value) (bytes rest : List ℕ) → BeginsWit
 from_head o v bytes rest b =
     b.begins ∙ ap (λ (l : List ℕ). l ++ rest) (head_and_content o v) ∙ append_assoc (shortest_head (major_of v) (argument_of v)) (content_of o v) rest
 
--- a value's canonical bytes spell an item of definite lengths
-pub from_spelling : (o : KeyOrder) (v : Value) (bytes rest : List ℕ) → BeginsWith o bytes v rest → bytes ≡ spell (normal o v) ++ rest
-from_spelling o v bytes rest b = b.begins ∙ ap (λ (l : List ℕ). l ++ rest) (sym (spell-normal o v))
-
--- what has the major type of a map is one
+-- an item with the major type of a map is a map
 pub is_map : (v : Value) → major_number (major_of v) ≡ 5 → (es : Entries) × (v ≡ value.map es)
 is_map (value.map es) e = (es, refl)
 is_map (value.unsigned n) e = absurd (cc e)
@@ -46,7 +42,7 @@ is_map (value.array vs) e = absurd (cc e)
 is_map (value.tag n v) e = absurd (cc e)
 is_map (value.simple n) e = absurd (cc e)
 
--- the pairs behind its head
+-- the pairs after its head
 pub pairs_of : (o : KeyOrder) (es : Entries) (bytes rest content : List ℕ) (count : ℕ) → BeginsWith o bytes (value.map es) rest → count ≡ value.entries_count es → content ≡ content_of o (value.map es) ++ rest → ArePairsOf o es count content rest
 pairs_of o es bytes rest content count b n e = record { range = b.range; valid = b.valid; count_is = n; bytes_are = e }
 
@@ -54,7 +50,7 @@ pairs_of o es bytes rest content count b n e = record { range = b.range; valid =
 pub whole_begins : (o : KeyOrder) (bytes : List ℕ) → IsCanonical (encoded o bytes) → BeginsWith o bytes (decoded bytes) []
 whole_begins o bytes i = record { range = i.range; valid = i.valid; begins = i.bytes_are ∙ sym (append-nil _) }
 
--- what has the major type of an array is one
+-- an item with the major type of an array is an array
 pub is_array : (v : Value) → major_number (major_of v) ≡ 4 → (vs : Values) × (v ≡ value.array vs)
 is_array (value.array vs) e = (vs, refl)
 is_array (value.unsigned n) e = absurd (cc e)
@@ -65,7 +61,7 @@ is_array (value.map es) e = absurd (cc e)
 is_array (value.tag n v) e = absurd (cc e)
 is_array (value.simple n) e = absurd (cc e)
 
--- what has the major type of a tag is one
+-- an item with the major type of a tag is a tag
 pub is_tag : (v : Value) → major_number (major_of v) ≡ 6 → (n : ℕ) × (w : Value) × (v ≡ value.tag n w)
 is_tag (value.tag n v) e = (n, v, refl)
 is_tag (value.unsigned n) e = absurd (cc e)

@@ -2,16 +2,16 @@
 use Rattle.std.proofs.Common.{◌≡◌, ℕ, zero, suc, ◌-◌, ◌<◌, ◌≤◌, List, [], ◌++◌, refl, sym, ap, ap₂, ◌∙◌, subst, arith, append_assoc, append-nil, Some, None}
 use Rattle.std.proofs.Common.{flat_map}
 use Rattle.cbor_head.specs.Value as value
-use Rattle.cbor_head.specs.Prelude.{Value, Values, Entries, IsInRange, AreInRange, AreEntriesInRange, IsValid, AreValid, AreEntriesValid, canonical, canonical_all, canonical_entries, a_spelling, major_number, spell}
+use Rattle.cbor_head.specs.Prelude.{Value, Values, Entries, IsInRange, AreInRange, AreEntriesInRange, IsValid, AreValid, AreEntriesValid, canonical, canonical_all, canonical_entries, major_number}
 use Rattle.cbor_head.specs.declared.order.KeyOrder.{KeyOrder}
-use Rattle.cbor_model.{specs.Pairs.pair_bytes, proofs.Normal.normal, proofs.Normal.spell-normal}
+use Rattle.theory_values.specs.{Pairs.pair_bytes, Lookup.member_at}
 use Rattle.cbor_cursor.specs.Items.{BeginsWith, major_of, argument_of, content_of}
-use Rattle.cbor_cursor.specs.Decoded.{decoded, encoded, members_in, pairs_in, member_at}
+use Rattle.cbor_cursor.specs.Decoded.{decoded, encoded, members_in, pairs_in}
 use Rattle.cbor_cursor.specs.inner.Canonical.{IsCanonical, encoded_items, AreCanonical, AreCanonicalPairs}
 use Rattle.cbor_cursor.proofs.ItemHeads.{is_array, is_map, is_tag}
 use Rattle.cbor_cursor.proofs.NormalValues.{IsNormal, whole_normal, part, AreNormal, parts, all_normal, ArePairsNormal, ArePairParts, pair_parts, all_pairs_normal, in_byte_order, map_pairs_normal}
-use Rattle.cbor_cursor.specs.inner.{Definite.AreItems, Firsts.IsFirstMember, Firsts.IsFirstPair, Pairs.ArePairsOf}
-use Rattle.cbor_cursor.proofs.{Definite.definite, Parts.nothing}
+use Rattle.cbor_cursor.specs.WellFormed.{BeginsWithItems, none, more}
+use Rattle.cbor_cursor.{specs.inner.Firsts.IsFirstMember, specs.inner.Firsts.IsFirstPair, specs.inner.Pairs.ArePairsOf, proofs.SpelledItems.canonical_item}
 
 -- ---- the first of several
 
@@ -83,7 +83,7 @@ pub record IsAtIndex (o : KeyOrder) (vs : Values) (i : ℕ) : Type 0 where
   pub range : IsInRange v
   pub valid : IsValid v
   pub normal_is : IsNormal o v
-  pub before : AreItems i (canonical_all o vs) (canonical o v ++ rest)
+  pub before : BeginsWithItems i (canonical_all o vs) (canonical o v ++ rest)
 
 pub at_index : (o : KeyOrder) (vs : Values) (i : ℕ) → AreInRange vs → AreValid vs → AreNormal o vs → i < value.values_count vs → IsAtIndex o vs i
 at_index o value.no_values i h g m l = absurd (omega (arith, l))
@@ -94,7 +94,7 @@ at_index o (value.a_value v vs) zero h g m l = record {
   range = h.0;
   valid = g.0;
   normal_is = cc m;
-  before = nothing _;
+  before = none 0 _ _ refl refl;
 }
 at_index o (value.a_value v vs) (suc i) h g m l =
     let r = at_index o vs i h.1 g.1 (cc m) (omega (arith, l)) in
@@ -105,12 +105,7 @@ at_index o (value.a_value v vs) (suc i) h g m l =
       range = r.range;
       valid = r.valid;
       normal_is = r.normal_is;
-      before = record {
-        items = a_spelling (normal o v) r.before.items;
-        definite = (definite o v h.0, r.before.definite);
-        count_is = ap suc r.before.count_is;
-        bytes_are = ap₂ (λ (x y : List ℕ). x ++ y) (sym (spell-normal o v)) r.before.bytes_are ∙ sym (append_assoc (spell (normal o v)) _ (canonical o r.v ++ r.rest));
-      };
+      before = more (suc i) i _ (canonical_all o vs) _ refl (canonical_item o v _ (canonical_all o vs) (record { range = h.0; valid = g.0; begins = refl })) r.before;
     }
 
 pub no_member_at : (vs : Values) (i : ℕ) → value.values_count vs ≤ i → member_at vs i ≡ None
@@ -118,7 +113,7 @@ no_member_at value.no_values i l = refl
 no_member_at (value.a_value v vs) zero l = absurd (omega (arith, l))
 no_member_at (value.a_value v vs) (suc i) l = no_member_at vs i (omega (arith, l))
 
--- ---- what stands behind the head of a container
+-- ---- what follows the head of a container
 
 pub record IsArrayContent (o : KeyOrder) (bytes content : List ℕ) (count : ℕ) : Type 0 where
   pub vs : Values

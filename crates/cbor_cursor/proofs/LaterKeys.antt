@@ -5,7 +5,7 @@ use Rattle.std.specs.Ordering.{nat_cmp, is_lt, ordering_then, ordering_reverse, 
 use Rattle.std.{proofs.lemmas.Cmp.ranked, specs.declared.cmp.Ordering.Ordering, specs.Cmp.Lexicographic.slice_cmp}
 use Rattle.cbor_head.specs.{Prelude.key_cmp, Prelude.key_lt, declared.order.KeyOrder.KeyOrder}
 use Rattle.cbor_head.specs.declared.order.KeyOrder.TheVariants.{Bytewise, LengthFirst}
-use Rattle.cbor_model.proofs.Orders.{key_cmp_total}
+use Rattle.theory_values.proofs.Orders.{key_cmp_total}
 
 -- one that is no shorter, and comes after the other bytewise
 pub after_in_both : (xs ys : List ℕ) → length ys ≤ length xs → key_cmp Bytewise xs ys ≡ Greater → (o : KeyOrder) → IsTrue (key_lt o ys xs)
@@ -28,7 +28,7 @@ shorter_first xs ys l h = go (nat_cmp (length ys) (length xs)) refl (ranked (len
 
 -- ---- comparisons of parts
 
--- where one of them is at its end
+-- the comparison if one of them is at its end
 pub cmp_ended : (at : ℕ) (xs ys : List ℕ) → at ≤ length xs → at ≤ length ys → (length xs ≤ at) ⊎ (length ys ≤ at) → nat_cmp (length xs) (length ys) ≡ slice_cmp nat_cmp (drop at xs) (drop at ys)
 cmp_ended at xs ys l m ended = go (drop at xs) (drop at ys) (length-drop at xs) (length-drop at ys) (nat_cmp (length xs) (length ys)) refl (ranked (length xs) (length ys) (nat_cmp (length xs) (length ys)) refl)
   where

@@ -1,10 +1,10 @@
--- Values as they are decoded: each map's pairs stand in the order of its bytes.
+-- Values as they are decoded: the pairs of each map are in the order of its bytes.
 use Rattle.std.proofs.Common.{◌≡◌, ℕ, List, ◌∷◌, ◌++◌, flat_map, refl, sym, ap, ap₂, ◌∙◌, subst, arith, inl, inr}
 use Rattle.cbor_head.specs.Value as value
 use Rattle.cbor_head.specs.Prelude.{Value, Values, Entries, HasEntry, IsInRange, AreInRange, AreEntriesInRange, IsValid, AreValid, AreEntriesValid, Pair, canonical, canonical_all, canonical_entries, in_order, Spelling, SpelledEntries, no_entries, entry, spell, spell_all, spell_entries, entries_count, value_of, values_of, entries_of, AreSpelled, AreEntriesSpelled}
 use Rattle.cbor_head.specs.declared.order.KeyOrder.{KeyOrder}
-use Rattle.cbor_model.proofs.Normal.{AllSpelled, normal, normal_all, normal_entries, pairs, put_entry-all, pairs-normal, spell-normal, spellings_count-normal, IsSpelled-normal}
-use Rattle.cbor_model.{specs.Pairs.pair_bytes, proofs.Theorems.canonical_again}
+use Rattle.theory_values.proofs.Normal.{AllSpelled, normal, normal_all, normal_entries, pairs, put_entry-all, pairs-normal, spell-normal, spellings_count-normal, IsSpelled-normal}
+use Rattle.theory_values.{specs.Pairs.pair_bytes, proofs.Theorems.canonical_again}
 use Rattle.cbor_cursor.specs.Decoded.{decoded, Encoded, encoded, value_in, EncodedItems, members_in, pairs_in}
 use Rattle.cbor_cursor.specs.inner.Canonical.{IsCanonical, encoded_items, AreCanonical, AreCanonicalPairs}
 use Rattle.cbor_cursor.proofs.Decoding.{decoded_is, members_are, pairs_are}
@@ -86,7 +86,7 @@ all_normal m c = members_normal m.order (members_in m) m.bytes m.count c.range (
 
 -- ---- pairs
 
--- as they stand
+-- in their order
 abbrev spelled_pairs : KeyOrder → Entries → SpelledEntries
 spelled_pairs o value.no_entries = no_entries
 spelled_pairs o (value.entry k v es) = entry (normal o k) (normal o v) (spelled_pairs o es)
@@ -126,7 +126,7 @@ all_pairs_normal m c = pairs_normal m.order (pairs_in m) m.bytes m.count c.range
 
 -- ---- the pairs of a map
 
--- a key or value of a map's normal spelling
+-- a key or value of a map's normal encoding
 abbrev IsSettled : KeyOrder → Spelling → Type 0
 IsSettled o s = (spell s ≡ canonical o (value_of s)) × IsNormal o (value_of s)
 

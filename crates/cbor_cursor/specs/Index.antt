@@ -1,4 +1,4 @@
--- All items of an item, in the order of their first bytes, each with its head and its places.
+-- All items in an item, in the order of their first bytes, each with its head and its offsets.
 use Rattle.std.specs.Prelude.{ℕ, suc, ◌≡◌, ◌+◌, List, [], ◌∷◌, ◌++◌, length}
 use Rattle.cbor_head.specs.Prelude.{Spelling, Spellings, SpelledEntries, unsigned, negative, bytes, text, byte_chunks, text_chunks, array, a_map, tag, simple, no_spellings, a_spelling, no_entries, entry, spell, spellings_count, entries_count, head, shortest, major_number, value_of, canonical, IsSpelled, IsInRange}
 use Rattle.cbor_head.specs.declared.major.Major.TheVariants as majors
@@ -38,7 +38,7 @@ width_in (a_map w es) = w
 width_in (tag w n s) = w
 width_in (simple n) = shortest n
 
--- the argument of its head: of a string how many bytes, of an array how many members, of a map how many pairs it has
+-- the argument of its head: the number of bytes of a string, of members of an array, or of pairs of a map
 abbrev pub number_in : Spelling → ℕ
 number_in (unsigned w n) = n
 number_in (negative w n) = n
@@ -51,11 +51,11 @@ number_in (a_map w es) = entries_count es
 number_in (tag w n s) = n
 number_in (simple n) = n
 
--- how many bytes its head has
+-- the number of bytes of its head
 abbrev pub head_size : Spelling → ℕ
 head_size s = length (head (major_in s) (width_in s) (number_in s))
 
--- how many items an item is: itself, and all within it
+-- the number of items in an item: itself, and all within it
 abbrev mutual
   pub items_count : Spelling → ℕ
   items_count (array w ss) = suc (all_count ss)
@@ -71,26 +71,26 @@ abbrev mutual
   pairs_count no_entries = 0
   pairs_count (entry k v es) = items_count k + items_count v + pairs_count es
 
--- an item whose first byte stands at a place
+-- an item whose first byte is at an offset
 abbrev pub placed : ℕ → Spelling → PlacedItem
-placed place s = record { number = number_in s; place = place; content = place + head_size s; end = place + length (spell s); kind = major_number (major_in s); behind = items_count s }
+placed offset s = record { number = number_in s; offset = offset; content = offset + head_size s; end = offset + length (spell s); kind = major_number (major_in s); entries = items_count s }
 
--- f of an item at a place, and of all items within it, in the order of their first bytes
+-- f of an item at an offset, and of all items within it, in the order of their first bytes
 abbrev mutual
   pub listed : (ℕ → Spelling → PlacedItem) → ℕ → Spelling → List PlacedItem
-  listed f place (array w ss) = f place (array w ss) ∷ all_listed f (place + head_size (array w ss)) ss
-  listed f place (a_map w es) = f place (a_map w es) ∷ pairs_listed f (place + head_size (a_map w es)) es
-  listed f place (tag w n s) = f place (tag w n s) ∷ listed f (place + head_size (tag w n s)) s
-  listed f place s = f place s ∷ []
+  listed f offset (array w ss) = f offset (array w ss) ∷ all_listed f (offset + head_size (array w ss)) ss
+  listed f offset (a_map w es) = f offset (a_map w es) ∷ pairs_listed f (offset + head_size (a_map w es)) es
+  listed f offset (tag w n s) = f offset (tag w n s) ∷ listed f (offset + head_size (tag w n s)) s
+  listed f offset s = f offset s ∷ []
 
   pub all_listed : (ℕ → Spelling → PlacedItem) → ℕ → Spellings → List PlacedItem
-  all_listed f place no_spellings = []
-  all_listed f place (a_spelling s ss) = listed f place s ++ all_listed f (place + length (spell s)) ss
+  all_listed f offset no_spellings = []
+  all_listed f offset (a_spelling s ss) = listed f offset s ++ all_listed f (offset + length (spell s)) ss
 
   pub pairs_listed : (ℕ → Spelling → PlacedItem) → ℕ → SpelledEntries → List PlacedItem
-  pairs_listed f place no_entries = []
-  pairs_listed f place (entry k v es) = listed f place k ++ (listed f (place + length (spell k)) v ++ pairs_listed f (place + length (spell k) + length (spell v)) es)
+  pairs_listed f offset no_entries = []
+  pairs_listed f offset (entry k v es) = listed f offset k ++ (listed f (offset + length (spell k)) v ++ pairs_listed f (offset + length (spell k) + length (spell v)) es)
 
--- the table of an item whose first byte stands at a place
+-- the table of an item whose first byte is at an offset
 abbrev pub table : ℕ → Spelling → List PlacedItem
-table place s = listed placed place s
+table offset s = listed placed offset s

@@ -2,5 +2,6 @@ pub mod Decoded
 pub mod Index
 pub mod Items
 pub mod Opening
-pub mod Places
+pub mod Offsets
+pub mod WellFormed
 pub mod inner

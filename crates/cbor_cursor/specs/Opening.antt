@@ -2,7 +2,7 @@
 use Rattle.std.specs.Prelude.{ℕ, ◌≡◌, ◌<◌, List, length}
 use Rattle.cbor_head.specs.{Prelude.Bounds, Prelude.refusal, declared.order.KeyOrder.KeyOrder, declared.reason.Refusal.Refusal}
 use Rattle.cbor_head.specs.declared.reason.Reason.TheVariants.{Trailing}
-use Rattle.cbor_verdict.specs.Readers.{IsCanonicalPrefix}
+use Rattle.theory_verdicts.specs.Readers.{IsCanonicalPrefix}
 
 -- they begin with an item in its canonical bytes, and a byte follows it
 pub record IsTrailing (limits : Bounds) (o : KeyOrder) (bytes : List ℕ) (f : Refusal) : Type 0 where

@@ -4,14 +4,14 @@ ghost use Rattle.std.specs.Prelude.{◌≡◌, ◌<◌, Some, None, IfSome, Matc
 ghost use Rattle.cbor_head.specs.declared.order.KeyOrder.{KeyOrder};
 ghost use Rattle.cbor_cursor.specs.Decoded.{decoded, encoded};
 ghost use Rattle.cbor_cursor.specs.inner.Canonical.{IsCanonical, encoded_items};
-ghost use Rattle.cbor_cursor.specs.Decoded.{member_of};
+ghost use Rattle.theory_values.specs.Lookup.{member_of};
 ghost use Rattle.cbor_cursor.specs.inner.Canonical.{AreCanonical};
 ghost use Rattle.cbor_cursor.specs.inner.Firsts.{IsFirstMember};
 
 use crate::contents::{ARRAY, content_in};
 use crate::skip::{end_of, items_end};
 
-// The first of so many items, and what follows it.
+// The first of `count` items, and what follows it.
 pub(crate) fn first_member(bytes: &[u8], count: u64) -> Option<(&[u8], &[u8])>
     ensures member { (o : KeyOrder) → AreCanonical (encoded_items o bytes.now count)
         → MatchOption result (count ≡ 0) (λ r. IsFirstMember o bytes.now count r.0.now r.1.now) }

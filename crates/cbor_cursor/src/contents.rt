@@ -35,7 +35,7 @@ pub(crate) fn head_in(bytes: &[u8]) -> HeadAt
     }
 }
 
-// What follows the head, and the argument, of an item of this major type.
+// The bytes after the head, and the argument, if the item has this major type.
 pub(crate) fn content_in(bytes: &[u8], kind: u8) -> Option<(&[u8], u64)>
     ensures { (o : KeyOrder) → IsCanonical (encoded o bytes.now) → MatchOption result
         (major_number (major_of (decoded bytes.now)) ≡ kind → ⊥)

@@ -6,12 +6,13 @@ ghost use Rattle.cbor_head.specs.Complaint.{strict};
 ghost use Rattle.cbor_head.specs.Value.{Value, Values, Entries, IsInRange, IsValid, bytes, text};
 ghost use Rattle.cbor_head.specs.Value.{array, map, tag};
 ghost use Rattle.cbor_head.specs.Verdict.{IsVerdict, refused};
-ghost use Rattle.cbor_verdict.specs.Readers.{BeginsWithCanonical, IsCanonicalPrefix, HasNoCanonicalPrefix};
+ghost use Rattle.theory_verdicts.specs.Readers.{BeginsWithCanonical, IsCanonicalPrefix, HasNoCanonicalPrefix};
 ghost use Rattle.cbor_cursor.specs.Opening.{IsTrailing};
 ghost use Rattle.cbor_cursor.specs.Items.{major_of, argument_of};
 ghost use Rattle.cbor_cursor.specs.Decoded.{value_in, members_in, pairs_in, encoded};
 ghost use Rattle.cbor_cursor.specs.inner.Canonical.{IsCanonical};
-ghost use Rattle.cbor_cursor.specs.Decoded.{member_of, HasValueAt, integer, count_of};
+ghost use Rattle.cbor_cursor.specs.Decoded.{count_of};
+ghost use Rattle.theory_values.specs.Lookup.{HasValueAt, integer, member_of};
 
 use crate::array_members::member_at;
 use crate::contents::{ARRAY, BYTES, MAP, TAG, TEXT, content_in, head_in};
@@ -63,9 +64,9 @@ impl<'a> Cursor<'a> {
         Ok((Cursor::new(order, &bytes[..count]), &bytes[count..]))
     }
 
-    /// The one item that all the bytes are, if they are its canonical bytes and within the limits.
-    /// Otherwise fails with the refusal of the strict check, or with `Trailing` at the item's length
-    /// if a byte follows the item.
+    /// The item, if all of the bytes are its canonical bytes and it is within the limits. Otherwise
+    /// fails with the refusal of the strict check, or with `Trailing` at the item's length if a byte
+    /// follows the item.
     pub fn open_whole(
         bytes: &'a [u8],
         limits: Limits,

@@ -3,31 +3,29 @@
 //! ```text
 //! 82 18 64 a1 00 f5        [100, {0: true}]
 //!
-//! entry  kind  number  place  content  end  behind
-//!     0     4       2      0        1    6       5
-//!     1     0     100      1        3    3       1
-//!     2     5       1      3        4    6       3
-//!     3     0       0      4        5    5       1
-//!     4     7      21      5        6    6       1
+//! entry  kind  number  offset  content  end  entries
+//!     0     4       2       0        1    6        5
+//!     1     0     100       1        3    3        1
+//!     2     5       1       3        4    6        3
+//!     3     0       0       4        5    5        1
+//!     4     7      21       5        6    6        1
 //! ```
 //!
 //! One pass over the bytes writes the heads. A second one, over the entries from the last to the
 //! first, sets where arrays, maps and tags end: the entries of the items inside are complete by then.
 
 ghost use Rattle.std.specs.Prelude.{◌≡◌, ◌<◌, ◌≤◌, ◌+◌, ◌^◌, ◌++◌, ℕ, List, length, take, drop, slice_set};
-ghost use Rattle.cbor_head.specs.Head.{IsHead, head, major_number};
 ghost use Rattle.cbor_head.specs.Spelling.{Spelling, spell};
-ghost use Rattle.cbor_head.specs.declared.major.Major.{Major};
 ghost use Rattle.cbor_head.specs.declared.order.KeyOrder.{KeyOrder};
-ghost use Rattle.cbor_head.specs.declared.width.Width.{Width};
 ghost use Rattle.cbor_cursor.specs.Index.{table, items_count, IsCanonicalItem};
+ghost use Rattle.cbor_cursor.specs.WellFormed.{BeginsWithHead, payload_of, members_of};
 ghost use Rattle.cbor_cursor.specs.inner.Definite.{IsDefinite};
-ghost use Rattle.cbor_cursor.specs.inner.Indexing.{closed, closed_item, members_of, payload_of, opened_item, opened_table, BeginsWithHead, IsDefiniteItem};
+ghost use Rattle.cbor_cursor.specs.inner.Indexing.{closed, closed_item, opened_item, opened_table, IsDefiniteItem};
 
 use crate::heads::{HeadAt, definite_head};
 use crate::placed::PlacedItem;
 
-/// The greatest number of entries that a table has, since `behind` has 32 bits.
+/// The greatest number of entries that a table has, since `entries` has 32 bits.
 pub const MAX_ENTRIES: usize = 0xffff_ffff;
 
 /// Writes the table of an item to the start of `items`, and returns the number of its entries. All of
@@ -57,28 +55,26 @@ fn open_items(bytes: &[u8], items: &mut [PlacedItem]) -> usize
         × (result ≤ length items.old → take result items.new ≡ opened_table 0 s) }
     ensures kept { drop result items.new ≡ drop result items.old }
 {
-    let mut place = 0;
+    let mut offset = 0;
     let mut count = 0;
-    while place < bytes.len() {
-        let head = head_there(bytes, place);
+    while offset < bytes.len() {
+        let head = head_there(bytes, offset);
         let step = step_of(head);
-        put(items, count, opened(head, place, step));
+        put(items, count, opened(head, offset, step));
         count += 1;
-        place = step.end;
+        offset = step.end;
     }
     count
 }
 
 // The head at an offset at which one begins.
 #[inline(always)]
-fn head_there(bytes: &[u8], place: usize) -> HeadAt
-    requires { BeginsWithHead (drop place bytes.now) }
-    ensures found { (m : Major) (w : Width) (n : ℕ) (x : List ℕ) → IsHead m w n
-        → drop place bytes.now ≡ head m w n ++ x → (result.kind ≡ major_number m)
-        × (result.argument ≡ n) × (drop result.content bytes.now ≡ x) }
-    ensures within { (place < result.content) × (result.content ≤ length bytes.now) }
+fn head_there(bytes: &[u8], offset: usize) -> HeadAt
+    requires { (kind : ℕ) × (argument : ℕ) × (content : List ℕ) × BeginsWithHead (drop offset bytes.now) kind argument content }
+    ensures head { BeginsWithHead (drop offset bytes.now) result.kind result.argument (drop result.content bytes.now) }
+    ensures within { (offset < result.content) × (result.content ≤ length bytes.now) }
 {
-    match definite_head(bytes, place) {
+    match definite_head(bytes, offset) {
         Some(head) => head,
         None => unreachable!(),
     }
@@ -95,8 +91,8 @@ fn put(items: &mut [PlacedItem], at: usize, item: PlacedItem)
     }
 }
 
-// The offset behind a head, or behind the payload of a string, and how many items follow there that
-// are directly inside the item.
+// The offset after a head, or after the payload of a string, and the number of items that follow there
+// and are directly inside the item.
 #[derive(Clone, Copy)]
 struct Step {
     end: usize,
@@ -123,24 +119,24 @@ fn step_of(head: HeadAt) -> Step
     }
 }
 
-// A new entry. If the item has items inside, its end is not known yet: `end` holds how many are
-// directly inside, and `behind` is 0.
+// A new entry. If there are items inside, its end is not known yet: `end` then holds their number, and
+// `entries` is 0.
 #[inline(always)]
-fn opened(head: HeadAt, place: usize, step: Step) -> PlacedItem
-    ensures { result ≡ opened_item head.kind head.argument place head.content step.end step.members }
+fn opened(head: HeadAt, offset: usize, step: Step) -> PlacedItem
+    ensures { result ≡ opened_item head.kind head.argument offset head.content step.end step.members }
 {
-    let (end, behind) = if step.members == 0 {
+    let (end, entries) = if step.members == 0 {
         (step.end, 1)
     } else {
         (step.members, 0)
     };
     PlacedItem {
         number: head.argument,
-        place: place as u64,
+        offset: offset as u64,
         content: head.content as u64,
         end: end as u64,
         kind: u32::from(head.kind),
-        behind,
+        entries,
     }
 }
 
@@ -152,34 +148,33 @@ fn close_items(items: &mut [PlacedItem])
     let mut i = items.len();
     while i > 0 {
         i -= 1;
-        if items[i].behind == 0 {
+        if items[i].entries == 0 {
             items[i] = close(items[i], &items[i + 1..]);
         }
     }
 }
 
-// The entry with its end, which is that of the last item inside it. The entries behind it are
-// complete.
+// The entry with its end: the end of the last item inside it. The entries after it are complete.
 #[inline(always)]
-fn close(item: PlacedItem, behind: &[PlacedItem]) -> PlacedItem
-    requires { length behind.now < MAX_ENTRIES }
-    ensures { result ≡ closed_item item behind.now }
+fn close(item: PlacedItem, later: &[PlacedItem]) -> PlacedItem
+    requires { length later.now < MAX_ENTRIES }
+    ensures { result ≡ closed_item item later.now }
 {
     let mut left = item.end;
     let mut end = item.content;
     let mut next = 0;
-    while left > 0 && next < behind.len() {
-        let member = behind[next];
+    while left > 0 && next < later.len() {
+        let member = later[next];
         end = member.end;
-        next += member.behind as usize;
+        next += member.entries as usize;
         left -= 1;
     }
-    if next > behind.len() {
+    if next > later.len() {
         return item;
     }
     PlacedItem {
         end,
-        behind: next as u32 + 1,
+        entries: next as u32 + 1,
         ..item
     }
 }

@@ -6,13 +6,13 @@ ghost use Rattle.cbor_head.specs.Order.{key_cmp, key_lt};
 ghost use Rattle.cbor_head.specs.Value.{IsInRange, IsValid, text};
 ghost use Rattle.cbor_head.specs.declared.order.KeyOrder.{KeyOrder};
 ghost use Rattle.cbor_head.specs.declared.order.KeyOrder.TheVariants.{Bytewise};
-ghost use Rattle.cbor_cursor.specs.Decoded.{integer};
+ghost use Rattle.theory_values.specs.Lookup.{integer};
 
 use arrayvec::ArrayVec;
 use cbor_head::{Head, Major};
 use std::cmp::Ordering;
 
-// `After` means in both orders, so the caller need not know the order.
+// `After` means after it in both orders, so the caller need not know the order.
 #[derive(Clone, Copy)]
 pub(crate) enum KeyMatch {
     Before,
@@ -36,7 +36,7 @@ pub(crate) fn match_key(stored: &[u8], first: u8, head: &[u8], payload: &[u8]) -
     match_pieces(stored, head, payload)
 }
 
-// The first byte of a key, or 0 of no bytes.
+// The first byte of these bytes, or 0 if there are none.
 pub(crate) fn first_byte(head: &[u8]) -> u8
     ensures { result ≡ slice_index head.now 0 }
 {
@@ -71,8 +71,8 @@ fn compare_pieces(stored: &[u8], head: &[u8], payload: &[u8]) -> Ordering
     }
 }
 
-// Most keys of a map differ in their first bytes, so a loop is quicker here than a comparison by
-// words.
+// Most keys of a map differ in their first bytes, so a loop is faster here than a comparison word by
+// word.
 #[inline(always)]
 fn compare(a: &[u8], b: &[u8]) -> Ordering
     ensures { result ≡ key_cmp Bytewise a.now b.now }

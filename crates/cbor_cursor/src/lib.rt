@@ -1,4 +1,4 @@
-//! Reads values out of one CBOR item that is in its canonical bytes, and takes no memory.
+//! Reads values out of one CBOR item that is in its canonical bytes, and allocates nothing.
 //!
 //! A receiver of signed bytes calls [`Cursor::open`], which makes the strict check once and returns a
 //! [`Cursor`] over the item. The library for C calls [`head_at`], [`item_end`], [`item_at`], [`find`].
@@ -13,11 +13,15 @@
 //!
 //! There are two layers:
 //!
-//! - Offsets. [`head_at`], [`item_end`], [`item_at`], [`find`] and [`skip_item`] take any bytes and any
-//!   offset. If the canonical bytes of a value begin there (`BeginsWith`), their contracts say exactly
-//!   what they return. For other bytes they say that the offsets are in order and within the bytes.
-//! - Cursors. A [`Cursor`], [`Members`] or [`Pairs`] is made of checked bytes alone. Its contracts
-//!   need no premise: they speak of the value that the bytes encode (`value_in`).
+//! - Offsets. [`head_at`], [`item_end`], [`item_at`] and [`skip_item`] take any bytes and any offset.
+//!   They return a head or an item exactly if a well-formed one of definite lengths begins there
+//!   (`BeginsWithHead`, `BeginsWithItem`), and `None` otherwise. If the canonical bytes of a value begin
+//!   there (`BeginsWith`), it is that value's item. [`find`] takes any bytes too. It returns `NotMap`
+//!   exactly if a head of another kind begins there. If the canonical bytes of a map begin there, it
+//!   returns the offset of the value in the very pair that has the key, or `NotThere` if no pair has
+//!   it. For other bytes its contract says that the offsets are in order and within the bytes.
+//! - Cursors. A [`Cursor`], [`Members`] or [`Pairs`] is made only from checked bytes. Its contracts
+//!   need no premise: they are about the value that the bytes encode (`value_in`).
 //!
 //! A look-up compares the bytes of keys, which are equal exactly if the keys are the same. It stops
 //! at the first key that comes after the one sought in both orders of keys (RFC 8949, sections 4.2.1
@@ -29,24 +33,23 @@ mod contents;
 mod cursor;
 mod heads;
 mod index;
+mod items;
 mod keys;
+pub mod laws;
 mod lookup;
 mod map_pairs;
 mod members;
 mod pairs;
 mod placed;
-mod places;
 mod skip;
-#[cfg(test)]
-mod tests;
 
 pub use cbor_head::{KeyOrder, Limits, Major, Refusal};
 pub use cursor::Cursor;
 pub use heads::{HeadAt, head_at};
 pub use index::{MAX_ENTRIES, fill_table};
+pub use items::{ItemAt, item_at};
 pub use lookup::{Lookup, find};
 pub use members::Members;
 pub use pairs::Pairs;
 pub use placed::PlacedItem;
-pub use places::{ItemAt, item_at};
 pub use skip::{item_end, skip_item};

@@ -1,16 +1,19 @@
 //! The value at a key of a map, by offsets.
 
-ghost use Rattle.std.specs.Prelude.{◌≡◌, ◌≤◌, ◌++◌, ◌↔◌, ℕ, List, length, drop, IfSome, MatchOption};
-ghost use Rattle.cbor_head.specs.Value.{Value, Entries, AnyEntry, Same, IsInRange, IsValid, map};
+ghost use Rattle.std.specs.Prelude.{◌≡◌, ◌≢◌, ◌+◌, ◌≤◌, ◌++◌, ◌↔◌, ℕ, List, length, drop, IfSome, MatchOption};
+ghost use Rattle.cbor_head.specs.Head.{shortest_head};
+ghost use Rattle.cbor_head.specs.Value.{Value, Entries, AnyEntry, Same, IsInRange, IsValid, entries_count, map};
+ghost use Rattle.cbor_head.specs.declared.major.Major.TheVariants.{Map};
 ghost use Rattle.cbor_head.specs.Canonical.{canonical};
 ghost use Rattle.cbor_head.specs.declared.order.KeyOrder.{KeyOrder};
 ghost use Rattle.cbor_cursor.specs.Items.{BeginsWith, HasNoKey};
-ghost use Rattle.cbor_cursor.specs.Places.{IsItemAt, IsWithin, IsValueAt, HasNoKeyBytes, MatchLookup};
+ghost use Rattle.cbor_cursor.specs.Offsets.{IsItemAt, IsWithin, IsValueAt, HasNoKeyBytes, MatchLookup};
+ghost use Rattle.cbor_cursor.specs.WellFormed.{BeginsWithHead};
 ghost use Rattle.cbor_cursor.specs.inner.Pairs.{ArePairsOf, BeginsWithValueAt};
 
 use crate::heads::definite_head;
+use crate::items::{ItemAt, item_at};
 use crate::keys::{KeyMatch, first_byte, match_key};
-use crate::places::{ItemAt, item_at};
 use crate::skip::end_of;
 
 /// What a map has at a key.
@@ -18,34 +21,38 @@ use crate::skip::end_of;
 pub enum Lookup {
     /// The value of the pair that has the key.
     Found(ItemAt),
-    /// No pair has the key, or no item begins at the offset of the map.
+    /// No pair has the key, or no head begins at the offset.
     NotThere,
-    /// The item is not a map.
+    /// A head of another kind than a map's begins at the offset.
     NotMap,
 }
 
 /// The value at a key of the map at an offset. The key is given by its canonical bytes. It takes any
-/// bytes, any offset and any key, and goes over the pairs once, without recursion.
+/// bytes, any offset and any key, and reads the pairs once, without recursion.
 ///
 /// If a map begins there in its canonical bytes, in either order of keys, it returns `Found` exactly
 /// if the map has the key (RFC 8949, section 5.6). It stops at the first key that comes after the
 /// sought key in both orders.
-pub fn find(bytes: &[u8], place: usize, key: &[u8]) -> Lookup
+pub fn find(bytes: &[u8], offset: usize, key: &[u8]) -> Lookup
     ensures pair { (o : KeyOrder) (es : Entries) (rest : List ℕ) (k : Value)
-        → BeginsWith o (drop place bytes.now) (map es) rest
+        → BeginsWith o (drop offset bytes.now) (map es) rest
         → IsInRange k → IsValid k → key.now ≡ canonical o k
         → MatchLookup result
         (λ i. AnyEntry (Same k) (λ v. (after : List ℕ) × IsItemAt o bytes.now v after i) es)
         (HasNoKey es k) ⊥ }
-    // Other bytes are no key of the map, so it has none of them.
+    // Other bytes are not a key of the map, so it has none of them.
     ensures any_key { (o : KeyOrder) (es : Entries) (rest : List ℕ)
-        → BeginsWith o (drop place bytes.now) (map es) rest
-        → MatchLookup result (λ i. IsValueAt o es key.now bytes.now i) (HasNoKeyBytes o es key.now) ⊥ }
-    ensures not_map { (o : KeyOrder) (v : Value) (rest : List ℕ) → BeginsWith o (drop place bytes.now) v rest
+        → BeginsWith o (drop offset bytes.now) (map es) rest
+        → MatchLookup result
+        (λ i. IsValueAt o es (offset + length (shortest_head Map (entries_count es))) key.now bytes.now rest i)
+        (HasNoKeyBytes o es key.now) ⊥ }
+    ensures not_map { (o : KeyOrder) (v : Value) (rest : List ℕ) → BeginsWith o (drop offset bytes.now) v rest
         → (result ≡ Lookup.NotMap) ↔ ((es : Entries) → v ≡ map es → ⊥) }
+    ensures other_kind { (result ≡ Lookup.NotMap) ↔ ((kind : ℕ) × (argument : ℕ) × (content : List ℕ)
+        × BeginsWithHead (drop offset bytes.now) kind argument content × (kind ≢ 5)) }
     ensures within { MatchLookup result (λ i. IsWithin bytes.now i) (Unit {0}) (Unit {0}) }
 {
-    let Some(head) = definite_head(bytes, place) else {
+    let Some(head) = definite_head(bytes, offset) else {
         return Lookup::NotThere;
     };
     if head.kind != 5 {
@@ -57,42 +64,42 @@ pub fn find(bytes: &[u8], place: usize, key: &[u8]) -> Lookup
     }
 }
 
-// The value at a key of so many pairs. The key is given by its head, and what follows it.
+// The value at a key of n pairs. The key is in two pieces: its head, and what follows that.
 #[inline(always)]
-fn find_item(bytes: &[u8], place: usize, count: u64, head: &[u8], payload: &[u8]) -> Option<ItemAt>
-    requires { place ≤ length bytes.now }
+fn find_item(bytes: &[u8], offset: usize, count: u64, head: &[u8], payload: &[u8]) -> Option<ItemAt>
+    requires { offset ≤ length bytes.now }
     ensures pair { (o : KeyOrder) (es : Entries) (rest : List ℕ) (k : Value)
-        → ArePairsOf o es count (drop place bytes.now) rest
+        → ArePairsOf o es count (drop offset bytes.now) rest
         → IsInRange k → IsValid k → head.now ++ payload.now ≡ canonical o k
         → MatchOption result (HasNoKey es k)
         (λ i. AnyEntry (Same k) (λ v. (after : List ℕ) × IsItemAt o bytes.now v after i) es) }
     ensures any_key { (o : KeyOrder) (es : Entries) (rest : List ℕ)
-        → ArePairsOf o es count (drop place bytes.now) rest
+        → ArePairsOf o es count (drop offset bytes.now) rest
         → MatchOption result (HasNoKeyBytes o es (head.now ++ payload.now))
-        (λ i. IsValueAt o es (head.now ++ payload.now) bytes.now i) }
+        (λ i. IsValueAt o es offset (head.now ++ payload.now) bytes.now rest i) }
     ensures within { IfSome result (λ i. IsWithin bytes.now i) }
 {
-    let value = value_place(bytes, place, count, head, payload)?;
+    let value = value_start(bytes, offset, count, head, payload)?;
     item_at(bytes, value)
 }
 
-// The offset of the value at a key of so many pairs.
-pub(crate) fn value_place(
+// The offset of the value at a key of n pairs.
+pub(crate) fn value_start(
     bytes: &[u8],
-    place: usize,
+    offset: usize,
     count: u64,
     head: &[u8],
     payload: &[u8],
 ) -> Option<usize>
-    requires { place ≤ length bytes.now }
+    requires { offset ≤ length bytes.now }
     ensures pair { (o : KeyOrder) (es : Entries) (rest : List ℕ)
-        → ArePairsOf o es count (drop place bytes.now) rest
+        → ArePairsOf o es count (drop offset bytes.now) rest
         → MatchOption result (HasNoKeyBytes o es (head.now ++ payload.now))
-        (λ p. BeginsWithValueAt o es (head.now ++ payload.now) (drop p bytes.now)) }
+        (λ p. BeginsWithValueAt o es (head.now ++ payload.now) (drop p bytes.now) rest) }
     ensures within { IfSome result (λ p. p ≤ length bytes.now) }
 {
     let first = first_byte(head);
-    let mut at = place;
+    let mut at = offset;
     let mut left = count;
     while left > 0 {
         let value = end_of(bytes, at)?;

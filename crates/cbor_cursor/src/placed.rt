@@ -1,20 +1,21 @@
-//! Items as C has them.
+//! Items in the layout of C.
 
-/// An item by its head and its places. The places are offsets in bytes.
+/// An item by its head and its offsets in bytes.
 #[repr(C)]
 #[derive(Clone, Copy, Debug, PartialEq, Eq)]
 pub struct PlacedItem {
     /// The argument of its head: the number of an integer, a tag or a simple value, or how many
     /// bytes, members or pairs the item has.
     pub number: u64,
-    /// Of its first byte.
-    pub place: u64,
-    /// Of what follows its head.
+    /// The offset of its first byte.
+    pub offset: u64,
+    /// The offset of what follows its head.
     pub content: u64,
-    /// Of what follows the item.
+    /// The offset of what follows the item.
     pub end: u64,
     /// Its major type, 0 to 7.
     pub kind: u32,
-    /// In a table, how many entries the item and all items inside it have; elsewhere 0.
-    pub behind: u32,
+    /// In a table, the number of entries for the item and all items inside it: the entry of the next
+    /// sibling is this many places later. Elsewhere 0.
+    pub entries: u32,
 }

@@ -1,32 +1,35 @@
 //! Where items end.
 
-ghost use Rattle.std.specs.Prelude.{◌≡◌, ◌<◌, ◌≤◌, ◌++◌, ℕ, List, length, drop, IfSome, MatchOption};
+ghost use Rattle.std.specs.Prelude.{◌≡◌, ◌↔◌, ◌<◌, ◌≤◌, ℕ, List, length, drop, IfSome, MatchOption};
 ghost use Rattle.cbor_head.specs.Value.{Value};
-ghost use Rattle.cbor_head.specs.Spelling.{Spelling, spell};
 ghost use Rattle.cbor_head.specs.declared.order.KeyOrder.{KeyOrder};
 ghost use Rattle.cbor_cursor.specs.Items.{BeginsWith};
-ghost use Rattle.cbor_cursor.specs.inner.Definite.{IsDefinite, AreItems, HasHead};
+ghost use Rattle.cbor_cursor.specs.WellFormed.{BeginsWithHead, BeginsWithItem, BeginsWithItems, HasNoItem};
 
 use crate::heads::{HeadAt, definite_head};
 
-/// The offset after the item at an offset; `None` if no whole item of definite lengths is there. It
-/// takes any bytes and any offset, and reads each byte at most once, without recursion.
+/// The offset after the item at an offset of any bytes; `None` exactly if no well-formed item of
+/// definite lengths begins there and ends within the bytes. It reads each byte at most once, without
+/// recursion.
 ///
 /// If an item begins there in its canonical bytes, the offset is the one after that item.
-pub fn item_end(bytes: &[u8], place: usize) -> Option<usize>
-    ensures item { (o : KeyOrder) (v : Value) (rest : List ℕ) → BeginsWith o (drop place bytes.now) v rest
+pub fn item_end(bytes: &[u8], offset: usize) -> Option<usize>
+    ensures item { (o : KeyOrder) (v : Value) (rest : List ℕ) → BeginsWith o (drop offset bytes.now) v rest
         → MatchOption result ⊥ (λ end. drop end bytes.now ≡ rest) }
-    ensures within { IfSome result (λ end. (place < end) × (end ≤ length bytes.now)) }
+    ensures well_formed { MatchOption result (HasNoItem (drop offset bytes.now))
+        (λ end. BeginsWithItem (drop offset bytes.now) (drop end bytes.now)) }
+    ensures within { IfSome result (λ end. (offset < end) × (end ≤ length bytes.now)) }
 {
-    end_of(bytes, place)
+    end_of(bytes, offset)
 }
 
-/// What follows the item that the bytes begin with; `None` if they begin with no whole item of
-/// definite lengths.
+/// What follows the item that the bytes begin with; `None` exactly if they begin with no well-formed
+/// item of definite lengths.
 pub fn skip_item(bytes: &[u8]) -> Option<&[u8]>
     ensures item { (o : KeyOrder) (v : Value) (rest : List ℕ) → BeginsWith o bytes.now v rest
-        → MatchOption result ⊥ (λ behind. behind.now ≡ rest) }
-    ensures fewer { IfSome result (λ behind. length behind.now < length bytes.now) }
+        → MatchOption result ⊥ (λ after. after.now ≡ rest) }
+    ensures well_formed { MatchOption result (HasNoItem bytes.now) (λ after. BeginsWithItem bytes.now after.now) }
+    ensures fewer { IfSome result (λ after. length after.now < length bytes.now) }
 {
     let end = end_of(bytes, 0)?;
     Some(&bytes[end..])
@@ -34,44 +37,44 @@ pub fn skip_item(bytes: &[u8]) -> Option<&[u8]>
 
 // The offset after an item.
 #[inline(always)]
-pub(crate) fn end_of(bytes: &[u8], place: usize) -> Option<usize>
-    ensures item { (s : Spelling) (rest : List ℕ) → IsDefinite s → drop place bytes.now ≡ spell s ++ rest
-        → MatchOption result ⊥ (λ end. drop end bytes.now ≡ rest) }
-    ensures within { IfSome result (λ end. (place < end) × (end ≤ length bytes.now)) }
+pub(crate) fn end_of(bytes: &[u8], offset: usize) -> Option<usize>
+    ensures item { MatchOption result (HasNoItem (drop offset bytes.now))
+        (λ end. (rest : List ℕ) → BeginsWithItem (drop offset bytes.now) rest ↔ (drop end bytes.now ≡ rest)) }
+    ensures within { IfSome result (λ end. (offset < end) × (end ≤ length bytes.now)) }
 {
-    let head = definite_head(bytes, place)?;
-    end_behind(bytes, head)
+    let head = definite_head(bytes, offset)?;
+    end_after(bytes, head)
 }
 
 // The offset after an item, by its head. Only an item that contains others needs the loop.
 #[inline(always)]
-pub(crate) fn end_behind(bytes: &[u8], head: HeadAt) -> Option<usize>
+pub(crate) fn end_after(bytes: &[u8], head: HeadAt) -> Option<usize>
     requires { head.content ≤ length bytes.now }
-    ensures item { (s : Spelling) (rest : List ℕ) → IsDefinite s
-        → HasHead s rest head.kind head.argument (drop head.content bytes.now)
-        → MatchOption result ⊥ (λ end. drop end bytes.now ≡ rest) }
+    ensures item { (start : List ℕ) → BeginsWithHead start head.kind head.argument (drop head.content bytes.now)
+        → MatchOption result (HasNoItem start)
+        (λ end. (rest : List ℕ) → BeginsWithItem start rest ↔ (drop end bytes.now ≡ rest)) }
     ensures within { IfSome result (λ end. (head.content ≤ end) × (end ≤ length bytes.now)) }
 {
-    let step = step_behind(bytes, head)?;
+    let step = step_after(bytes, head)?;
     if step.items == 0 {
         return Some(step.end);
     }
     items_end(bytes, step.end, step.items)
 }
 
-// The offset after so many items. Each item has a byte at least, so a container that promises more
-// items than bytes are left is cut.
-pub(crate) fn items_end(bytes: &[u8], place: usize, count: usize) -> Option<usize>
-    requires { place ≤ length bytes.now }
-    ensures items { (rest : List ℕ) → AreItems count (drop place bytes.now) rest
-        → MatchOption result ⊥ (λ end. drop end bytes.now ≡ rest) }
-    ensures within { IfSome result (λ end. (place ≤ end) × (end ≤ length bytes.now)) }
+// The offset after n items. Each item has at least one byte, so a container that promises more items
+// than bytes are left is truncated.
+pub(crate) fn items_end(bytes: &[u8], offset: usize, count: usize) -> Option<usize>
+    requires { offset ≤ length bytes.now }
+    ensures items { MatchOption result ((rest : List ℕ) → BeginsWithItems count (drop offset bytes.now) rest → ⊥)
+        (λ end. (rest : List ℕ) → BeginsWithItems count (drop offset bytes.now) rest ↔ (drop end bytes.now ≡ rest)) }
+    ensures within { IfSome result (λ end. (offset ≤ end) × (end ≤ length bytes.now)) }
 {
-    let mut end = place;
+    let mut end = offset;
     let mut left = count;
     while left > 0 {
         let head = definite_head(bytes, end)?;
-        let step = step_behind(bytes, head)?;
+        let step = step_after(bytes, head)?;
         end = step.end;
         left -= 1;
         if step.items == 0 {
@@ -94,11 +97,11 @@ struct Step {
 }
 
 #[inline(always)]
-fn step_behind(bytes: &[u8], head: HeadAt) -> Option<Step>
+fn step_after(bytes: &[u8], head: HeadAt) -> Option<Step>
     requires { head.content ≤ length bytes.now }
-    ensures taken { (s : Spelling) (rest : List ℕ) → IsDefinite s
-        → HasHead s rest head.kind head.argument (drop head.content bytes.now)
-        → MatchOption result ⊥ (λ p. AreItems p.items (drop p.end bytes.now) rest) }
+    ensures item { (start : List ℕ) → BeginsWithHead start head.kind head.argument (drop head.content bytes.now)
+        → MatchOption result (HasNoItem start)
+        (λ p. (rest : List ℕ) → BeginsWithItem start rest ↔ BeginsWithItems p.items (drop p.end bytes.now) rest) }
     ensures within { IfSome result (λ p. (head.content ≤ p.end) × (p.end ≤ length bytes.now)) }
 {
     let number = head.argument;

@@ -7,7 +7,7 @@ use Rattle.cbor_diag.specs.Hidden.{begins_hidden, has_hidden}
 abbrev pub NoneBefore : List ℕ → ℕ → Type 0
 NoneBefore text i = has_hidden text ≡ has_hidden (drop i text)
 
--- what the bytes from there on begin with
+-- the beginning of the bytes from an index on
 begins_at : (text : List ℕ) (i : ℕ) → i < length text → begins_hidden (take (length text - i) (drop i text)) ≡ begins_hidden (drop i text)
 begins_at text i within = ap begins_hidden (take_rest text i)
 

@@ -1,4 +1,4 @@
--- What is left of a text, from one put to the next.
+-- What is left of a text after each part that is put.
 use Rattle.std.proofs.Common.{◌≡◌, ℕ, ◌+◌, ◌<◌, ◌≤◌, Bool, true, false, List, [], ◌∷◌, ◌++◌, length, Option, Some, None, Result, Ok, Err, Bor, codes, decimal, refl, sym, ap, ◌∙◌, subst, append_assoc, append-nil, length-append, arith, reverse, IsSome, option_to_list}
 use Rattle.std.proofs.lemmas.List.{reverse-append, nil_from_length}
 use Rattle.cbor_head.specs.{Prelude.Value, Prelude.map, Value.array, Value.tag}
@@ -18,7 +18,7 @@ prefix-stops a b s whole xs more e is p = subst (λ (l : List ℕ). HasStopped a
 pub prefix-left : (a b : Option (List ℕ)) (s t : Outbox) (whole xs more : List ℕ) → xs ++ more ≡ whole → 0 < length xs → HasPut a b s t xs → HasLeft 1 a b s t whole more
 prefix-left a b s t whole xs more is some p = record { done = xs; written = p; some = some; joins = is }
 
--- the text of what holds no other, or not all of it
+-- the text of an item that holds no other
 pub leaf-left : (l : Layout) (n : ℕ) (v w : Value) (a b : Option (List ℕ)) (s t : Outbox) → v ≡ w → 0 < length (laid_out l n v) → HasPut a b s t (laid_out l n v) → HasLeft 1 a b s t (laid_out l n w) []
 leaf-left l n v w a b s t is some p =
     prefix-left a b s t (laid_out l n w) (laid_out l n v) [] (append-nil (laid_out l n v) ∙ ap (laid_out l n) is) some p
@@ -74,13 +74,13 @@ module _ {N : Type 0} (see : N → Value) where
   ended l vs us o a b s t whole xs is has all some p =
       prefix-left a b s t whole xs (all_left see l o (reverse us)) (ap (λ (x : List ℕ). xs ++ x) (sym (popped l vs us o is has)) ∙ all) some p
 
-  -- behind what stands before it
+  -- the end of a container was put, after the text before it
   pub ends : (l : Layout) (vs us : List (OpenNode N)) (o : Option (OpenNode N)) (a b c : Option (List ℕ)) (s t u : Outbox) (whole xs ys : List ℕ) → vs ≡ us ++ option_to_list o → (0 < length vs → IsSome o) → xs ++ (ys ++ behind see l (reverse vs)) ≡ whole → 0 < length ys
       → HasPut a b s t xs → HasPut b c t u ys → HasLeft 1 a c s u whole (all_left see l o (reverse us))
   ends l vs us o a b c s t u whole xs ys is has all some p q =
       ended l vs us o a c s u whole (xs ++ ys) is has (append_assoc xs ys (behind see l (reverse vs)) ∙ all) (omega (arith, length-append xs ys)) (puts-then a b c s t u xs ys p q)
 
-  -- ---- the prefixes of containers
+  -- ---- the starts of containers
 
   pub array-prefix : (l : Layout) (n : ℕ) (v : Value) (ns : List N) → array (values_in see ns) ≡ v
       → codes "[" ++ ((rows l n true (laid_texts l (n + 1) (values_in see ns)) ++ codes "]") ++ []) ≡ laid_out l n v
@@ -96,7 +96,7 @@ module _ {N : Type 0} (see : N → Value) where
       ap (λ (x : List ℕ). (decimal k ++ codes "(") ++ x) (append-nil (laid_out l n (see content) ++ codes ")"))
       ∙ sym (append_assoc (decimal k ++ codes "(") (laid_out l n (see content)) (codes ")")) ∙ ap (laid_out l n) is
 
-  -- ---- what is left of a container, and what comes first of it
+  -- ---- what is left of a container, and its first part
 
   left_as : (l : Layout) (n : ℕ) (left other : Remaining N) (rest : List ℕ) → left ≡ other → left_of see l n other ++ rest ≡ left_of see l n left ++ rest
   left_as l n left other rest is = ap (λ (x : Remaining N). left_of see l n x ++ rest) (sym is)
@@ -126,7 +126,7 @@ module _ {N : Type 0} (see : N → Value) where
   value-next l n left x b rest is =
       four (codes ": ") (laid_out l (n + 1) (see x.now)) (rows l n false (laid_pairs l (n + 1) (entries_in see b.now))) (codes "}") rest ∙ left_as l n left (parts.Value x b) rest is
 
-  -- an item comes behind what was put
+  -- an item follows what was put
   pub goes-on : (l : Layout) (vs : List (OpenNode N)) (a b c : Option (List ℕ)) (s t u : Outbox) (whole xs mid : List ℕ) (r : Result (Option (OpenNode N)) Stopped) → xs ++ mid ≡ whole → HasPut a b s t xs → Leaves 1 see l b c t u mid vs r → Leaves 1 see l a c s u whole vs r
   goes-on l vs a b c s t u whole xs mid (Ok o) is p q = put-left 1 (omega arith) a b c s t u whole xs mid (all_left see l o vs) is p q
   goes-on l vs a b c s t u whole xs mid (Err e) is p q = put-stops a b c s t whole xs mid u is p q

@@ -1,4 +1,4 @@
--- The texts of what holds no other items.
+-- The texts of items that hold no others.
 use Rattle.std.proofs.Common.{◌≡◌, ℕ, ◌+◌, ◌-◌, ◌*◌, ◌/◌, ◌%◌, ◌<◌, ◌≤◌, Bool, true, false, ◌||◌, cond, List, [], ◌∷◌, ◌++◌, length, take, drop, replicate, flat_map, codes, decimal, Option, Result, refl, sym, ap, ◌∙◌, subst, append_assoc, append-nil, take-append-drop, arith, get_or, eqb, ltb, ne_eqb, take_all, get_or-drop, length-drop, take-add}
 use Rattle.std.proofs.lemmas.{Bool.or_from, List.take-replicate, List.take_more, List.Concat.flat_map-append}
 use Rattle.hex.specs.Hex.{encode_with, encode_lower, lower_digits}
@@ -74,7 +74,7 @@ more xs i h =
 stops-in-text : (a b : Option (List ℕ)) (s : Outbox) (xs : List ℕ) (i : ℕ) (e : Outbox) → HasStopped a b s (escaped_to xs i) e → HasStopped a b s (flat_map escaped xs) e
 stops-in-text a b s xs i e p = subst (λ (l : List ℕ). HasStopped a b s l e) (cut xs i) (stops-more a b s (escaped_to xs i) (flat_map escaped (drop i xs)) e p)
 
--- the text is written to `start`, and stands raw from there to `at`
+-- the text is written to `start`, and needs no escape from there to `at`
 pub record IsWriting (a b : Option (List ℕ)) (s t : Outbox) (xs : List ℕ) (start at : ℕ) : Type 0 where
   pub within : start ≤ at
   pub written : HasPut a b s t (escaped_to xs start)

@@ -8,7 +8,7 @@ use Rattle.cbor_listing.specs.Written.{capped}
 use Rattle.cbor_diag.specs.inner.Outbox.{HasPut, HasStopped, Puts}
 use Rattle.cbor_diag.specs.{declared.outbox.Stopped.Stopped, Written.Writes, declared.outbox.Outbox.Outbox}
 
--- what was taken, and then the rest of it
+-- what the writer accepted, and then the rest of it
 regroup : (took more waits w xs ys : List ℕ) (mid : List ℕ) → took ++ mid ≡ w ++ xs → more ++ waits ≡ mid ++ ys → (took ++ more) ++ waits ≡ w ++ (xs ++ ys)
 regroup took more waits w xs ys mid p q =
     append_assoc took more waits ∙ ap (λ (l : List ℕ). took ++ l) q ∙ sym (append_assoc took mid ys) ∙ ap (λ (l : List ℕ). l ++ ys) p ∙ append_assoc w xs ys
@@ -46,7 +46,7 @@ pub puts-next : (a b c : Option (List ℕ)) (s t u : Outbox) (xs ys : List ℕ) 
 puts-next a b c s t u xs ys (Ok x) p q = puts-then a b c s t u xs ys p q
 puts-next a b c s t u xs ys (Err e) p q = puts-stops a b c s t xs ys u p q
 
--- what was to follow
+-- a writer that stopped stops for more bytes too
 pub stops-more : (a b : Option (List ℕ)) (s : Outbox) (xs ys : List ℕ) (e : Outbox) → HasStopped a b s xs e → HasStopped a b s (xs ++ ys) e
 stops-more a b s xs ys e p =
     let not_all = p.not_all in
@@ -59,12 +59,12 @@ stops-more a b s xs ys e p =
       counted = p.counted;
     }
 
--- ---- what waited went out, or some of it
+-- ---- the bytes that waited were written, or some of them
 
 abbrev pub SentSome : Option (List ℕ) → Option (List ℕ) → ℕ → List ℕ → ℕ → Type 0
 SentSome a b taken bytes total = (n : ℕ) × (total ≡ capped (taken + n)) × (n < length bytes) × Appends a b (take n bytes)
 
--- some of the bytes behind nothing that waits
+-- some of the bytes were written, with nothing waiting before them
 pub sent-some : (a b : Option (List ℕ)) (s : Outbox) (bytes whole : List ℕ) (e : Outbox) → bytes ≡ s.waiting.items ++ whole → SentSome a b s.taken bytes e.taken → HasStopped a b s whole e
 sent-some a b s bytes whole e is sent =
     let few = sent.2 in
@@ -78,7 +78,7 @@ sent-some a b s bytes whole e is sent =
       counted = λ k f. sent.1 ∙ omega (arith, f, exactly);
     }
 
--- nothing waited, and the bytes went out
+-- nothing waited, and the bytes were written
 pub sent-past : (a b : Option (List ℕ)) (s t : Outbox) (bytes : List ℕ) → s.waiting.items ≡ [] → t.waiting.items ≡ [] → t.taken ≡ capped (s.taken + length bytes) → Appends a b bytes → HasPut a b s t bytes
 sent-past a b s t bytes none still counted out = record {
   took = bytes;
@@ -87,7 +87,7 @@ sent-past a b s t bytes none still counted out = record {
   counted = λ k e. counted ∙ omega (arith, e);
 }
 
--- what waited went out, and then the bytes, or not all of them
+-- the bytes that waited were written, and then the new ones, or not all of them
 pub sends-past : (a b c : Option (List ℕ)) (s t u : Outbox) (bytes : List ℕ) (r : Result (Unit {0}) Stopped) → HasPut a b s t [] → t.waiting.items ≡ [] → u.waiting.items ≡ []
     → MatchResult r (λ x. (u.taken ≡ capped (t.taken + length bytes)) × Appends b c bytes) (λ e. SentSome b c t.taken bytes u.taken) → Puts a c s u bytes r
 sends-past a b c s t u bytes (Ok x) p none still h = puts-then a b c s t u [] bytes p (sent-past b c t u bytes none still h.0 h.1)
@@ -100,7 +100,7 @@ where_err (Err x) b f e h = h
 pub puts-from : (a b : Option (List ℕ)) (s t u : Outbox) (xs : List ℕ) (r : Result (Unit {0}) Stopped) → t ≡ s → Puts a b t u xs r → Puts a b s u xs r
 puts-from a b s t u xs r is p = subst (λ (o : Outbox). Puts a b o u xs r) is p
 
--- ---- from nothing to the whole
+-- ---- from an empty outbox to the whole text
 
 pub writes-stopped : (a b : Option (List ℕ)) (s e : Outbox) (text : List ℕ) (place : ℕ) → place ≡ e.taken → s.waiting.items ≡ [] → s.taken ≡ 0 → HasStopped a b s text e → Writes a b text (Err (stopped_at place))
 writes-stopped a b s e text place is none start p =
@@ -120,6 +120,6 @@ writes-all a b s t text none start gone p =
       subst (λ (l : List ℕ). Appends a b l) took p.appended,
     )
 
--- what waited went out behind the text, or not all of it
+-- the bytes that waited at the end of the text were written, or not all of them
 pub flush-puts : (a b c : Option (List ℕ)) (s t u : Outbox) (text : List ℕ) (r : Result (Unit {0}) Stopped) → HasPut a b s t text → Puts b c t u [] r → Puts a c s u text r
 flush-puts a b c s t u text r p q = subst (λ (l : List ℕ). Puts a c s u l r) (append-nil text) (puts-next a b c s t u text [] r p q)

@@ -1,4 +1,4 @@
--- A text in either layout is read back as its value, and as far as it goes.
+-- A text in either layout is read back as its value, up to its end.
 use Rattle.std.proofs.Common.{◌≡◌, ℕ, zero, suc, ◌+◌, ◌*◌, ◌<◌, Bool, true, false, List, [], ◌∷◌, ◌++◌, drop, replicate, flat_map, codes, decimal, inl, inr, eqb, refl, sym, ap, ◌∙◌, subst, append_assoc, ◌↔◌, arith}
 use Rattle.std.proofs.lemmas.Bool.{cond-false}
 use Rattle.hex.specs.Hex.{encode_lower}
@@ -49,7 +49,7 @@ rows-ends l level c [] xs h = end-ends l level c xs h
 rows-ends l level c (t ∷ ts) xs h =
     subst Ends (sym (member_joined (gap l level false) t (rows l level false ts) (c ∷ xs))) (gap-ends l level (t ++ (rows l level false ts ++ c ∷ xs)))
 
--- what stands behind blanks
+-- what follows blanks
 skipped : (gs cs : List ℕ) → Pass blank gs → (b : Begins cs) → rest blank (gs ++ cs) ≡ cs
 skipped gs cs h b = rest-all blank gs cs h (subst (Stands blank) (sym b.is) b.no_blank)
 

@@ -1,4 +1,4 @@
--- A reader of texts in either layout, how texts begin, and what it reads of leaves.
+-- A reader of texts in either layout, how texts begin, and how it reads leaves.
 use Rattle.std.proofs.Common.{◌≡◌, ℕ, zero, suc, ◌+◌, ◌-◌, ◌^◌, ◌<◌, ◌≤◌, Bool, true, false, cond, List, [], ◌∷◌, ◌++◌, length, drop, flat_map, codes, decimal, eqb, refl, sym, ap, ◌∙◌, subst, append_assoc, ◌||◌, arith, eqb-true, ne_eqb}
 use Rattle.std.{proofs.lemmas.Bool.cond-true, proofs.lemmas.Bool.cond-false, specs.Str.Parse.digits_value}
 use Rattle.hex.specs.Hex.{encode_lower, decode_of, is_hex_digit}
@@ -19,14 +19,14 @@ got a xs = (a, xs)
 abbrev pub blank : ℕ → Bool
 blank c = eqb c 44 || (eqb c 32 || eqb c 10)
 
--- a number, and what is behind it
+-- a number, and what follows it
 abbrev number : List ℕ → ℕ
 number cs = digits_value 10 (prefix digit cs)
 
 abbrev behind : List ℕ → List ℕ
 behind cs = rest digit cs
 
--- the values that stand for themselves, by their first byte
+-- the values with a name, by their first byte
 abbrev word : ℕ → List ℕ → Read
 word c cs =
     cond (eqb c 34) (let r = unquoted (drop 1 cs) in (value.text r.0, r.1))
@@ -38,7 +38,7 @@ word c cs =
     (cond (eqb c 117) (value.simple 23, drop 9 cs)
     (value.simple (number (drop 7 cs)), drop 1 (behind (drop 7 cs)))))))))
 
--- a number, or the tag of what stands in parentheses
+-- a number, or the tag with the content in parentheses
 abbrev numbered : List ℕ → Read → Read
 numbered cs r = cond (eqb (first (behind cs)) 40) (value.tag (number cs) r.0, drop 1 r.1) (value.unsigned (number cs), behind cs)
 
@@ -67,11 +67,11 @@ abbrev mutual
       let rs = read_pairs k s.1 in
       cond (eqb (first here) 125) (value.no_entries, drop 1 here) (value.entry r.0 s.0 rs.0, rs.1)
 
--- what is read of the members, from the first byte that is no blank
+-- how members are read, from the first byte that is not a blank
 abbrev pub closes : ℕ → List ℕ → Values × List ℕ
 closes k here = cond (eqb (first here) 93) (value.no_values, drop 1 here) (value.a_value (read k here).0 (read_members k (read k here).1).0, (read_members k (read k here).1).1)
 
--- the same of the pairs, from the key and from the value on
+-- how pairs are read, from a key and its value on
 abbrev pub with-value : ℕ → Value → Read → Entries × List ℕ
 with-value k key s = (value.entry key s.0 (read_pairs k s.1).0, (read_pairs k s.1).1)
 
@@ -81,7 +81,7 @@ with-key k r = with-value k r.0 (read k (drop 2 r.1))
 abbrev pub closes-pairs : ℕ → List ℕ → Entries × List ℕ
 closes-pairs k here = cond (eqb (first here) 125) (value.no_entries, drop 1 here) (with-key k (read k here))
 
--- how far a value is to be read
+-- how many steps a value needs
 abbrev mutual
   pub size : Value → ℕ
   size (value.array vs) = suc (size_all vs)
@@ -130,7 +130,7 @@ by-tests P n false false true s e1 e2 e3 e4 a b c d f = subst P (sym (eqb-true n
 by-tests P n false false false true e1 e2 e3 e4 a b c d f = subst P (sym (eqb-true n 23 e4)) d
 by-tests P n false false false false e1 e2 e3 e4 a b c d f = f (rw (e1, e2, e3, e4) refl)
 
--- a simple value has one of four names, or shows its number
+-- a simple value has one of four names, or is written with its number
 simple-cases : (P : ℕ → Type 0) (n : ℕ) → P 20 → P 21 → P 22 → P 23 → (simple_text n ≡ (codes "simple(" ++ decimal n) ++ codes ")" → P n) → P n
 simple-cases P n a b c d f = by-tests P n (eqb n 20) (eqb n 21) (eqb n 22) (eqb n 23) refl refl refl refl a b c d f
 

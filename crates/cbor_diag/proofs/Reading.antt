@@ -1,4 +1,4 @@
--- Texts read back, so that they report their values. It reads more than texts: only texts matter.
+-- Texts are read back, so they determine their values. The reader accepts more than texts; only texts matter.
 use Rattle.std.proofs.Common.{◌≡◌, ℕ, zero, suc, ◌/◌, ◌%◌, ◌^◌, ◌<◌, ◌≤◌, Bool, true, false, cond, List, [], ◌∷◌, ◌++◌, length, get_or, flat_map, codes, decimal, Result, Ok, Err, is_some, ◌⊎◌, inl, inr, eqb, ltb, refl, sym, ap, ◌∙◌, subst, arith, lt-ltb, ltb-true, eqb-true}
 use Rattle.std.{proofs.lemmas.Bool.cases_Bool, specs.List.AllByRecursion, specs.Char.digit_value, specs.Str.Parse.digits_value, specs.Str.Parse.AllDigits}
 use Rattle.std.proofs.lemmas.{Fmt.decimal_is_IsNumeral_wide, Str.Parse.digit_from_value}
@@ -20,7 +20,7 @@ rest p (x ∷ xs) = cond (p x) (rest p xs) (x ∷ xs)
 abbrev pub Pass : (ℕ → Bool) → List ℕ → Type 0
 Pass p xs = AllByRecursion (λ x. p x ≡ true) xs
 
--- it begins with none that passes
+-- the first byte does not pass
 abbrev pub Stands : (ℕ → Bool) → List ℕ → Type 0
 Stands p [] = Unit {0}
 Stands p (x ∷ xs) = p x ≡ false
@@ -101,18 +101,18 @@ onto c r = (c ∷ r.0, r.1)
 abbrev pub first : List ℕ → ℕ
 first cs = get_or cs 0 0
 
--- the bytes to the closing quote, and what is behind it
+-- the bytes up to the closing quote, and what follows it
 abbrev mutual
   pub unquoted : List ℕ → Two
   unquoted [] = ([], [])
   unquoted (c ∷ cs) = cond (eqb c 34) ([], cs) (cond (eqb c 92) (marked cs) (onto c (unquoted cs)))
 
-  -- behind a backslash
+  -- after a backslash
   marked : List ℕ → Two
   marked [] = ([], [])
   marked (c ∷ cs) = cond (eqb c 117) (numbered cs) (onto c (unquoted cs))
 
-  -- behind a `u`
+  -- after a `u`
   numbered : List ℕ → Two
   numbered (y ∷ z ∷ h ∷ l ∷ cs) = onto (first (decoded (decode_of (h ∷ l ∷ [])))) (unquoted cs)
   numbered _ = ([], [])
@@ -126,7 +126,7 @@ control b bs x h more =
     let back : first (decoded (decode_of (encode_lower (b ∷ [])))) ≡ b = ap first (decoded-back (b ∷ []) (h.0, tt)) in
     ap (λ (n : ℕ). onto n (unquoted (flat_map escaped bs ++ 34 ∷ x))) back ∙ ap (onto b) more
 
--- a byte of a text, and then the others: behind a backslash, as its number, or raw
+-- a byte of a text, and then the others: after a backslash, as its number, or raw
 quoted : (b : ℕ) (p q r s : Bool) → eqb b 34 ≡ p → eqb b 92 ≡ q → ltb b 32 ≡ r → eqb b 127 ≡ s → (bs x : List ℕ) → AreBytes (b ∷ bs) → unquoted (flat_map escaped bs ++ 34 ∷ x) ≡ (bs, x)
     → unquoted ((escaped b ++ flat_map escaped bs) ++ 34 ∷ x) ≡ (b ∷ bs, x)
 quoted b true q r s e f g h bs x k more = subst (λ n. unquoted ((escaped n ++ flat_map escaped bs) ++ 34 ∷ x) ≡ (n ∷ bs, x)) (sym (eqb-true b 34 e)) (ap (onto 34) more)

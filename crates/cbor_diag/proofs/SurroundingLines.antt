@@ -1,10 +1,10 @@
--- The lines around a place, part by part.
+-- The lines around an offset, part by part.
 use Rattle.std.proofs.Common.{ℕ, ◌+◌, ◌-◌, ◌*◌, ◌/◌, ◌%◌, ◌<◌, ◌≡◌, min, Option, List, [], ◌∷◌, ◌++◌, length, take, drop, get_or, replicate, sym, ap, ◌∙◌, arith, append-nil, subst, codes, length-drop}
 use Rattle.std.{specs.Io.KnownBytes.Appends, proofs.KnownBytes.Appends-trans, proofs.lemmas.Grind.flat_map-append}
 use Rattle.std.proofs.lemmas.List.{take_min, take_more}
 use Rattle.cbor_diag.specs.Surroundings.{digit, spaced, label, lines_from, lines_around, surroundings}
 
--- what is written of a byte
+-- what is written for a byte
 abbrev pub digits_of : ℕ → List ℕ
 digits_of b = 32 ∷ digit (b / 16) ∷ digit (b % 16) ∷ []
 

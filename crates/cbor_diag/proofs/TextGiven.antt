@@ -1,12 +1,12 @@
--- A sink that writes the text of the parts that it is given: where it stands behind each.
+-- A sink that writes the text of the parts that it is given: its state after each part.
 use Rattle.std.proofs.Common.{◌≡◌, ℕ, zero, suc, ◌<◌, Bool, true, false, List, [], ◌∷◌, ◌++◌, codes, decimal, Option, Some, None, length, refl, sym, ap, ap₂, ◌∙◌, append_assoc, append-nil, length-append, inl, inr, arith, IsSome, option_to_list}
 use Rattle.std.proofs.lemmas.List.{flat_map_more, same_from_push, Concat.flat_map-append}
 use Rattle.hex.specs.Hex.{encode_with, lower_digits}
 use Rattle.cbor_head.specs.Prelude.{Spelling, Spellings, SpelledEntries, array, a_map, no_spellings, a_spelling, no_entries, entry, value_of, values_of, entries_of, Value}
 use Rattle.cbor_head.specs.declared.major.Major.TheVariants as majors
 use Rattle.cbor_head.specs.declared.major.Major.{Major}
-use Rattle.cbor_verdict.specs.Levels.{Level, IsOpened, a_member, a_value, some_member, some_key, some_value, tagged, item_expected, item_full, settle}
-use Rattle.cbor_verdict.{specs.Frame.with_all, specs.Frame.with_entries, specs.Reading.string_value, proofs.Levels.of-opened}
+use Rattle.theory_verdicts.specs.Levels.{Level, IsOpened, a_member, a_value, some_member, some_key, some_value, tagged, item_expected, item_full, settle}
+use Rattle.theory_verdicts.{specs.Frame.with_all, specs.Frame.with_entries, specs.Reading.string_value, proofs.Levels.of-opened}
 use Rattle.cbor_parser.specs.Sink.{Reported, IsEndedAs, StandsFull, IsContainerFull, Gives, Opens, Ends, BeginsString, GrowsString, EndsString}
 use Rattle.cbor_diag.specs.Text.{text, texts, pair_texts, joined, escaped}
 use Rattle.cbor_diag.specs.inner.Strings.{opening, content_text, closing, string_text}
@@ -57,7 +57,7 @@ behind old new x y z inner around is at w = record {
   around = w.around ∙ at.around;
 }
 
--- ---- behind an item
+-- ---- after an item
 
 -- one text more
 joined-more : (ts : List (List ℕ)) (t : List ℕ) → joined (ts ++ t ∷ []) ≡ (joined ts ++ comma (are_none ts)) ++ t
@@ -169,7 +169,7 @@ full-at k d start g vs s (inr (v, ended, levels, at)) = indefinite start g vs v 
 pub some-open : (t k : Bool) (g : TextSink) → IsContainerFull TextSink text_stands t k g → ((o : Open) → g.inner ≡ Some o → ⊥) → ⊥
 some-open t k g (start, d, vs, s, fills, full) none = let at = full-at k d start g vs s full in none at.1 at.3.innermost
 
--- the container around it is innermost then, if there is one
+-- then the container around it is the innermost, if there is one
 popped : (vs : List Level) (around new : List Open) (r : Option Open) → around ≡ around_in vs ++ option_to_list (inner_in vs) → around ≡ new ++ option_to_list r → (0 < length around → IsSome r) → (r ≡ inner_in vs) × (new ≡ around_in vs)
 popped [] around new None are is some = (refl, sym (append-nil new) ∙ sym is ∙ are)
 popped [] around new (Some x) are is some = let n = ap length (sym is ∙ are) in absurd (omega (arith, n, length-append new (x ∷ [])))

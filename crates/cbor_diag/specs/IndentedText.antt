@@ -8,7 +8,7 @@ use Rattle.cbor_diag.specs.Text.{text}
 abbrev pub new_line : ℕ → List ℕ
 new_line level = codes "\n" ++ replicate (2 * level) 0x20
 
--- texts one a line, joined by a comma, a level deeper than what closes them
+-- the texts, each on its own line, joined by commas, one level deeper than the closing bracket
 abbrev pub lines : ℕ → List (List ℕ) → List ℕ
 lines level [] = []
 lines level (t ∷ ts) =

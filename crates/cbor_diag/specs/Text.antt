@@ -4,8 +4,7 @@ use Rattle.hex.specs.Hex.{encode_lower}
 use Rattle.cbor_head.specs.Value as value
 use Rattle.cbor_head.specs.Prelude.{Value, Values, Entries}
 
--- a byte of a text: a quote and a backslash behind a backslash, controls as \u00 and two hex digits,
--- all else raw
+-- a byte of a text: a backslash before a quote or a backslash; controls as \u00 and two hex digits; all else as it is
 abbrev pub escaped : ℕ → List ℕ
 escaped b =
     if b == 0x22 || b == 0x5c then 0x5c ∷ b ∷ []

@@ -1,20 +1,20 @@
-//! The containers that are open while the events of an item are followed.
+//! The containers that are open after some events of an item.
 
 ghost use Rattle.std.specs.Prelude.{◌≡◌, ◌≤◌, length};
 
 use crate::item_path::Step;
-use cbor_automaton::{Event, EventKind};
+use cbor_head::{Event, EventKind};
 use std::alloc::{AllocError, Global};
 
 // A container that is open.
 #[derive(Clone, Copy, Debug)]
 pub(crate) struct PathFrame {
     kind: Kind,
-    // Where its head stands.
+    // The offset of its head.
     place: u64,
-    // How many items have begun in it: of a map its keys and values.
+    // How many items have begun in it; in a map, keys and values.
     begun: u64,
-    // Of a map, where the key stands that began last.
+    // In a map, the offset of the last key.
     key: u64,
 }
 
@@ -26,7 +26,7 @@ enum Kind {
 }
 
 impl PathFrame {
-    // The step from the container to what began last in it.
+    // The step from the container to the last item that began in it.
     pub(crate) fn step(&self) -> Option<Step> {
         if self.begun == 0 {
             return None;
@@ -43,13 +43,13 @@ impl PathFrame {
     }
 }
 
-// The containers that are open, from the outermost in, and what of a string is still to come.
+// The open containers, from the outermost in, and what is left of an open string.
 #[derive(Drop)]
 pub(crate) struct Frames {
     open: Vec<PathFrame>,
-    // The bytes of a payload.
+    // The bytes that are left of a payload.
     payload: u64,
-    // Whether chunks may come.
+    // Whether more chunks may follow.
     chunked: bool,
 }
 
@@ -69,19 +69,19 @@ impl Frames {
         self.open.as_slice()
     }
 
-    // Leaves so many of the outermost containers open.
+    // Keeps only the outermost `count` containers open.
     pub(crate) fn leave(&mut self, count: usize)
         ensures { length self.new.open.items ≤ count }
     {
         self.open.truncate(count);
     }
 
-    // Whether a string has bytes or chunks still to come.
+    // Whether a string has bytes or chunks left.
     pub(crate) fn is_in_string(&self) -> bool {
         self.payload > 0 || self.chunked
     }
 
-    // An item begins in the innermost container.
+    // Begins an item in the innermost container.
     pub(crate) fn begin(&mut self, place: u64)
         ensures { length self.new.open.items ≤ length self.old.open.items }
     {
@@ -93,7 +93,7 @@ impl Frames {
         }
     }
 
-    // Follows an event into what it opens.
+    // Follows an event: an item begins, and may open a container or a string.
     pub(crate) fn enter(&mut self, event: &Event) -> Result<(), AllocError> {
         match event.kind {
             EventKind::Piece(count) => {

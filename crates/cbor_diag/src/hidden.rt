@@ -4,7 +4,7 @@ ghost use Rattle.std.specs.Prelude.{◌≡◌};
 ghost use Rattle.cbor_diag.specs.Hidden as hidden;
 
 /// Whether a text in UTF-8 has a C1 control, a separator of lines or paragraphs, or a bidirectional
-/// control. Such a character may change how a terminal shows what stands around it.
+/// control. Such a character may change how a terminal shows the text around it.
 pub(crate) fn has_hidden(text: &[u8]) -> bool
     ensures { result ≡ hidden.has_hidden text.now }
 {

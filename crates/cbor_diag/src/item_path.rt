@@ -1,4 +1,4 @@
-//! The way to a place through an item, from its events.
+//! The path to an offset in an item, from its events.
 
 ghost use Rattle.std.specs.Prelude.{◌≤◌, length, IfOk};
 
@@ -7,30 +7,30 @@ use cbor_events::EventReader;
 use cbor_head::{Limits, Refusal};
 use std::alloc::{AllocError, Global};
 
-/// A step of the way: from a container to what is in it.
+/// A step of a path: from a container to what is in it.
 #[derive(Clone, Copy, Debug, PartialEq, Eq)]
 pub enum Step {
     /// A member of an array, counted from 0.
     Member(u64),
     /// A key of a map.
     Key {
-        /// Which key, counted from 1.
+        /// The number of the key, from 1.
         number: u64,
-        /// The offset in bytes of the map's head.
+        /// The offset of the map's head, in bytes.
         map: u64,
     },
     /// The value of a key.
     Value {
-        /// The offset in bytes of the key.
+        /// The offset of the key, in bytes.
         key: u64,
     },
-    /// The content of a tag, by the tag's number.
+    /// The content of a tag, with the tag's number.
     Content(u64),
 }
 
-/// The way through an item to where a refusal of it stands, a step for each container that is open
-/// there. The bytes begin with the item, and places are offsets in them. It is found from the
-/// events of the bytes up to that place, so by their form alone.
+/// The path through an item to the offset of a refusal: a step for each container that is open
+/// there. The bytes begin with the item, and offsets are counted from its first byte. The path
+/// comes from the events before that offset, so only form matters.
 pub(crate) fn path_to(
     alloc: Global,
     item: &[u8],
@@ -49,7 +49,7 @@ pub(crate) fn path_to(
     Ok(way)
 }
 
-// The containers that are open at a place.
+// The containers that are open at an offset.
 fn frames_at(alloc: Global, item: &[u8], limits: Limits, place: u64) -> Result<Frames, AllocError>
     ensures { IfOk result (λ frames. length frames.open.items ≤ limits.depth) }
 {
@@ -75,7 +75,7 @@ fn frames_at(alloc: Global, item: &[u8], limits: Limits, place: u64) -> Result<F
             }
         }
     }
-    // What began at the place is no step of the way there.
+    // What began at the offset is not a step of the path.
     frames.leave(open);
     Ok(frames)
 }

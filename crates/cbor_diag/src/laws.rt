@@ -1,5 +1,4 @@
-//! The laws of diagnostic text. These functions have nothing to compute: their contracts are what
-//! they are for.
+//! The laws of diagnostic text. These functions compute nothing: their purpose is their contracts.
 
 ghost use Rattle.std.specs.Prelude.{◌≡◌, ◌++◌, ◌↔◌, ℕ, List};
 ghost use Rattle.cbor_head.specs.Value.{Value, IsInRange};
@@ -10,16 +9,16 @@ ghost use Rattle.cbor_diag.specs.Text.{text};
 
 use cbor_item::Tree;
 
-/// A text reports its value, pair for pair in order, and where it ends inside a longer text: before
-/// anything but a digit or an opening parenthesis. So values have equal texts exactly where they
-/// are equal.
+/// A text determines its value, pair for pair in order, and where it ends within a longer text:
+/// before anything except a digit or an opening parenthesis. So values have equal texts exactly if
+/// they are equal.
 pub fn text_determines_the_value()
     ensures reported { (v w : Value) (x y : List ℕ) → IsInRange v → IsInRange w → Ends x → Ends y
         → text v ++ x ≡ text w ++ y → (v ≡ w) × (x ≡ y) }
     ensures equal { (v w : Value) → IsInRange v → IsInRange w → text v ≡ text w ↔ v ≡ w }
 {}
 
-/// The text with one member or pair a line determines the value, at whatever levels.
+/// The text with one member or pair a line determines the value, at any level.
 pub fn indented_text_determines_the_value()
     ensures reported { (i j : ℕ) (v w : Value) (x y : List ℕ) → IsInRange v → IsInRange w
         → Ends x → Ends y → indented i v ++ x ≡ indented j w ++ y → (v ≡ w) × (x ≡ y) }
@@ -27,7 +26,7 @@ pub fn indented_text_determines_the_value()
         → indented i v ≡ indented i w ↔ v ≡ w }
 {}
 
-/// Trees have equal texts exactly where their items have equal values, pair for pair in order.
+/// Trees have equal texts exactly if their items have equal values, pair for pair in order.
 pub fn texts_distinguish_trees(left: &Tree, right: &Tree)
     ensures one_line { text (view left.now) ≡ text (view right.now)
         ↔ view left.now ≡ view right.now }

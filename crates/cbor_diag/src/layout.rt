@@ -16,7 +16,7 @@ pub(crate) enum Layout {
     Indented,
 }
 
-// What stands before a member or a pair.
+// Puts the gap before a member or a pair.
 #[inline(always)]
 pub(crate) fn put_gap<W: Write>(
     layout: Layout,
@@ -37,7 +37,7 @@ pub(crate) fn put_gap<W: Write>(
     }
 }
 
-// What stands behind the last member or pair.
+// Puts the text after the last member or pair.
 pub(crate) fn put_end<W: Write>(
     layout: Layout,
     level: u16,

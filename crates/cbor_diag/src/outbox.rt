@@ -1,4 +1,4 @@
-//! Bytes on their way to a writer, gathered so that a write takes many.
+//! Collects bytes for a writer, so that one write has many.
 
 ghost use Rattle.std.specs.Prelude.{◌≡◌, ℕ, ◌+◌, ◌<◌, [], length, take, IfOk, MatchResult};
 ghost use Rattle.std.specs.Io.KnownBytes.{Appends};
@@ -9,14 +9,14 @@ use arrayvec::ArrayVec;
 use cbor_item::write_whole;
 use std::io::Write;
 
-/// Bytes that wait to be written, and how many the writer took before them.
+/// Bytes that wait to be written, and the number of bytes that the writer accepted before them.
 #[derive(Drop)]
 pub(crate) struct Outbox {
     waiting: ArrayVec<u8, 512>,
     taken: u64,
 }
 
-/// The writer failed. How many bytes it took stands in the outbox.
+/// The writer failed. The outbox has the number of bytes that the writer accepted.
 #[derive(Clone, Copy)]
 pub(crate) struct Stopped;
 
@@ -31,7 +31,7 @@ impl Outbox {
         }
     }
 
-    // Nothing waits, and none was taken.
+    // Empties the outbox, and sets the number of accepted bytes to 0.
     pub(crate) fn clear(&mut self)
         ensures { self.new.waiting.items ≡ [] }
     {
@@ -39,21 +39,21 @@ impl Outbox {
         self.taken = 0;
     }
 
-    // What waits.
+    // The bytes that wait.
     pub(crate) fn as_slice(&self) -> &[u8]
         ensures { result.now ≡ self.now.waiting.items }
     {
         self.waiting.as_slice()
     }
 
-    // How many bytes the writer took.
+    // The number of bytes that the writer accepted.
     pub(crate) fn taken(&self) -> u64
         ensures { result ≡ self.now.taken }
     {
         self.taken
     }
 
-    // The bytes wait behind those that do, or go out after them.
+    // Puts the bytes after those that wait, or writes them after those.
     #[inline(always)]
     pub(crate) fn put<W: Write>(&mut self, writer: &mut W, bytes: &[u8]) -> Result<(), Stopped>
         ensures { Puts (W.contents writer.old) (W.contents writer.new) self.old self.new
@@ -65,7 +65,7 @@ impl Outbox {
         self.make_space(writer, bytes)
     }
 
-    // Puts bytes for which there may be no space: what waits goes out first.
+    // Puts bytes for which there may be no space: those that wait are written first.
     #[cold]
     #[inline(never)]
     fn make_space<W: Write>(&mut self, writer: &mut W, bytes: &[u8]) -> Result<(), Stopped>
@@ -76,13 +76,13 @@ impl Outbox {
         if self.waiting.try_extend_from_slice(bytes).is_ok() {
             return Ok(());
         }
-        // More than can wait.
+        // These are more than the outbox can hold.
         let (taken, sent) = send(writer, self.taken, bytes);
         self.taken = taken;
         sent
     }
 
-    // What waits goes out.
+    // Writes the bytes that wait.
     pub(crate) fn flush<W: Write>(&mut self, writer: &mut W) -> Result<(), Stopped>
         ensures done { Puts (W.contents writer.old) (W.contents writer.new) self.old self.new
             [] result }
@@ -100,7 +100,8 @@ impl Outbox {
     }
 }
 
-// Writes the bytes behind so many that the writer took, and answers how many it has taken then.
+// Writes the bytes to a writer that accepted `taken` bytes before. Returns how many it has
+// accepted now.
 fn send<W: Write>(writer: &mut W, taken: u64, bytes: &[u8]) -> (u64, Result<(), Stopped>)
     ensures { MatchResult result.1
         (λ _. (result.0 ≡ capped (taken + length bytes.now))

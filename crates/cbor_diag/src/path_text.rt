@@ -1,4 +1,4 @@
-//! The text of a way.
+//! The text of a path.
 
 ghost use Rattle.std.specs.Prelude.{◌≡◌, IfOk, OnOk};
 ghost use Rattle.cbor_item.specs.View.{view as value_of};
@@ -9,14 +9,14 @@ ghost use Rattle.cbor_diag.specs.inner.Written.{Writes};
 use crate::hidden::has_hidden;
 use crate::item_path::Step;
 use crate::text::diagnostic;
-use cbor_head::Limits;
+use cbor_head::{Limits, Reason};
 use cbor_item::Tree;
-use cbor_reader::read_tree;
+use cbor_tree_reader::read_tree;
 use std::alloc::Global;
 use std::io::{self, ErrorKind, Write};
 
-/// Writes a way through an item on a line: `$` is the item, `[2]` a member of an array, `."a"` the
-/// value of a key, `(24)` the content of a tag.
+/// Writes a path through an item: `$` is the item, `[2]` a member of an array, `."a"` the value of a
+/// key, `(24)` the content of a tag.
 pub(crate) fn write_path<W: Write>(
     alloc: Global,
     item: &[u8],
@@ -26,11 +26,11 @@ pub(crate) fn write_path<W: Write>(
     ensures { OnOk result
         (Writes (IsPathText item.now way.now) (W.contents writer.old) (W.contents writer.new)) }
 {
-    writer.write_all(b"  at $")?;
+    writer.write_all(b"$")?;
     for step in way {
         write_step(alloc, item, step, writer)?;
     }
-    writer.write_all(b"\n")
+    Ok(())
 }
 
 fn write_step<W: Write>(alloc: Global, item: &[u8], step: &Step, writer: &mut W) -> io::Result<()>
@@ -45,7 +45,8 @@ fn write_step<W: Write>(alloc: Global, item: &[u8], step: &Step, writer: &mut W)
     }
 }
 
-// Writes the key that stands at a place: its text, if it is short and a terminal shows all of it.
+// Writes the key at an offset: its text, if that is short and a terminal shows all of it; otherwise
+// the offset.
 fn write_key<W: Write>(alloc: Global, item: &[u8], place: u64, writer: &mut W) -> io::Result<()>
     ensures { OnOk result
         (Writes (IsKeyText item.now place) (W.contents writer.old) (W.contents writer.new)) }
@@ -63,7 +64,10 @@ fn write_key<W: Write>(alloc: Global, item: &[u8], place: u64, writer: &mut W) -
             writer.write_all(b".")?;
             writer.write_all(bytes)
         }
-        Err(_) => write!(writer, ".(the key at {place})"),
+        Err(refusal) => match refusal.reason {
+            Reason::Memory => Err(io::Error::from(ErrorKind::OutOfMemory)),
+            _ => write!(writer, ".(the key at {place})"),
+        },
     }
 }
 

@@ -1,4 +1,4 @@
-//! The parts of a text that hold no others.
+//! The texts of items that hold no others, and the parts of such texts.
 
 ghost use Rattle.std.specs.Prelude.{◌≡◌, ◌≢◌, ◌+◌, ◌*◌, ◌≤◌, ◌↔◌, [], ◌∷◌, ◌++◌, IsTrue, codes, decimal};
 ghost use Rattle.std.specs.Prelude.{flat_map, length, replicate};
@@ -12,10 +12,10 @@ use cbor_head::MAX_DEPTH;
 use itoa::Buffer;
 use std::io::Write;
 
-// How many bytes are turned into digits at once.
+// The number of bytes that are turned into digits at once.
 const HEX_RUN: usize = 256;
 
-// Two for each of as many levels as there can be.
+// Two spaces for each possible level.
 const MOST_SPACES: usize = 2 * MAX_DEPTH as usize;
 
 const SPACES: [u8; MOST_SPACES] = [b' '; MOST_SPACES];
@@ -31,7 +31,7 @@ pub(crate) fn put_number<W: Write>(
     out.put(writer, Buffer::new().format(number).as_bytes())
 }
 
-// The number -1 - n.
+// Puts the number -1 - n.
 #[inline(never)]
 pub(crate) fn put_negative<W: Write>(
     n: u64,
@@ -66,7 +66,7 @@ pub(crate) fn put_simple<W: Write>(
     }
 }
 
-// A string of bytes or a text.
+// Puts a byte string or a text string.
 pub(crate) fn put_string<W: Write>(
     is_text: bool,
     content: &[u8],
@@ -81,7 +81,7 @@ pub(crate) fn put_string<W: Write>(
     put_closing(is_text, out, writer)
 }
 
-// What stands before the content of a string.
+// Puts the text before the content of a string.
 #[inline(always)]
 pub(crate) fn put_opening<W: Write>(
     is_text: bool,
@@ -98,7 +98,7 @@ pub(crate) fn put_opening<W: Write>(
     }
 }
 
-// The content of a string, or a part of it: whatever it is cut into, each byte is put alone.
+// Puts the content of a string, or a part of it. The parts may be cut anywhere.
 #[inline(always)]
 pub(crate) fn put_content<W: Write>(
     is_text: bool,
@@ -116,7 +116,7 @@ pub(crate) fn put_content<W: Write>(
     }
 }
 
-// What stands behind the content of a string.
+// Puts the text after the content of a string.
 #[inline(always)]
 pub(crate) fn put_closing<W: Write>(
     is_text: bool,
@@ -133,7 +133,7 @@ pub(crate) fn put_closing<W: Write>(
     }
 }
 
-// Two digits a byte, of however many.
+// Puts two digits for each byte.
 #[inline(never)]
 fn put_hex<W: Write>(bytes: &[u8], out: &mut Outbox, writer: &mut W) -> Result<(), Stopped>
     ensures { Puts (W.contents writer.old) (W.contents writer.new) out.old out.new
@@ -148,7 +148,7 @@ fn put_hex<W: Write>(bytes: &[u8], out: &mut Outbox, writer: &mut W) -> Result<(
     Ok(())
 }
 
-// Two digits a byte.
+// Puts two digits for each of at most `HEX_RUN` bytes.
 fn put_digits<W: Write>(bytes: &[u8], out: &mut Outbox, writer: &mut W) -> Result<(), Stopped>
     requires { length bytes.now ≤ HEX_RUN }
     ensures { Puts (W.contents writer.old) (W.contents writer.new) out.old out.new
@@ -162,7 +162,7 @@ fn put_digits<W: Write>(bytes: &[u8], out: &mut Outbox, writer: &mut W) -> Resul
     }
 }
 
-// The bytes of a text, escaped where they don't stand as they are.
+// Puts the bytes of a text, escaped where necessary.
 #[inline(always)]
 fn put_escaped<W: Write>(text: &[u8], out: &mut Outbox, writer: &mut W) -> Result<(), Stopped>
     ensures { Puts (W.contents writer.old) (W.contents writer.new) out.old out.new
@@ -179,7 +179,7 @@ fn put_escaped<W: Write>(text: &[u8], out: &mut Outbox, writer: &mut W) -> Resul
     out.put(writer, &text[start..])
 }
 
-// Whether a byte of a text stands as it is. Small letters are known by the first comparison.
+// Whether a byte of a text is written as it is. Small letters need one comparison.
 fn is_raw(byte: u8) -> bool
     ensures { IsTrue result ↔ (escaped byte ≡ byte ∷ []) }
 {
@@ -190,7 +190,7 @@ fn is_raw(byte: u8) -> bool
     }
 }
 
-// A byte that doesn't stand as it is.
+// Puts a byte that must be escaped.
 #[inline(never)]
 fn put_escape<W: Write>(byte: u8, out: &mut Outbox, writer: &mut W) -> Result<(), Stopped>
     requires { escaped byte ≢ byte ∷ [] }
@@ -207,7 +207,7 @@ fn put_escape<W: Write>(byte: u8, out: &mut Outbox, writer: &mut W) -> Result<()
     }
 }
 
-// These bytes, and two spaces for each level.
+// Puts these bytes, and two spaces for each level.
 #[inline(never)]
 pub(crate) fn put_line<W: Write>(
     start: &[u8],

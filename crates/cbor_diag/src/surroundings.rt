@@ -1,4 +1,4 @@
-//! The bytes around a place.
+//! The bytes around an offset.
 
 ghost use Rattle.std.specs.Prelude.{◌≡◌, ◌<◌, replicate, OnOk};
 ghost use Rattle.std.specs.Io.KnownBytes.{Appends};
@@ -7,13 +7,13 @@ ghost use Rattle.cbor_diag.specs.Surroundings.{digit, spaced, surroundings};
 use std::alloc::Global;
 use std::io::{self, Write};
 
-// How many bytes are shown, and how many of them before the place.
+// The number of bytes that are shown, and the number of those before the offset.
 const SHOWN: usize = 16;
 
 const BEFORE: usize = 8;
 
-/// Writes some bytes around a place as hex digits, behind the offset of the first of them, and on
-/// the next line a mark below the place; one behind the end is marked behind the last byte.
+/// Writes two lines: the offset of the first byte and some bytes around the offset as hex digits,
+/// and a mark below the byte at the offset. An offset past the end is marked after the last byte.
 pub(crate) fn write_surroundings<W: Write>(
     alloc: Global,
     bytes: &[u8],
@@ -37,7 +37,7 @@ pub(crate) fn write_surroundings<W: Write>(
     writer.write_all(b"^^\n")
 }
 
-// Writes a blank and two hex digits for each byte.
+// Writes a space and two hex digits for each byte.
 fn write_digits<W: Write>(bytes: &[u8], writer: &mut W) -> io::Result<()>
     ensures { OnOk result (Appends (W.contents writer.old) (W.contents writer.new)
         (spaced bytes.now)) }
@@ -48,7 +48,6 @@ fn write_digits<W: Write>(bytes: &[u8], writer: &mut W) -> io::Result<()>
     Ok(())
 }
 
-// The hex digit of a number below 16.
 fn digit(number: u8) -> u8
     requires { number < 16 }
     ensures { result ≡ digit number }

@@ -18,12 +18,12 @@ use cbor_head::{Reason, Refusal};
 use cbor_item::{Node, Tree, View};
 use std::io::Write;
 
-/// Writes the diagnostic text on one line (RFC 8949, section 8), and answers how many bytes it is.
-/// The pairs of a map stand in the order of the tree.
+/// Writes the diagnostic text on one line (RFC 8949, section 8), and returns its length in bytes.
+/// The pairs of a map are written in the order of the tree.
 ///
-/// A write that gives an error, `Interrupted` too, or takes nothing ends the call: the refusal is
-/// `Write`, and its place is how many bytes the writer took. These are the first of the text. It
-/// takes no memory.
+/// A write that returns an error, `Interrupted` too, or that accepts no bytes ends the call. The
+/// refusal is then `Write`, and its `place` is the number of bytes that the writer accepted: the
+/// first of the text. Nothing is allocated.
 pub fn diagnostic<W: Write>(tree: &Tree, writer: &mut W) -> Result<u64, Refusal>
     ensures { Writes (W.contents writer.old) (W.contents writer.new)
         (text (value_of tree.now)) result }
@@ -31,8 +31,8 @@ pub fn diagnostic<W: Write>(tree: &Tree, writer: &mut W) -> Result<u64, Refusal>
     write_text(tree.item(), Layout::OneLine, writer)
 }
 
-/// Writes the diagnostic text with one member or pair a line, two spaces a level. For the rest it
-/// is as [`diagnostic`].
+/// Writes the diagnostic text with one member or pair a line, indented by two spaces a level.
+/// Otherwise it is as [`diagnostic`].
 pub fn diagnostic_indented<W: Write>(tree: &Tree, writer: &mut W) -> Result<u64, Refusal>
     ensures { Writes (W.contents writer.old) (W.contents writer.new)
         (indented 0 (value_of tree.now)) result }
@@ -40,7 +40,8 @@ pub fn diagnostic_indented<W: Write>(tree: &Tree, writer: &mut W) -> Result<u64,
     write_text(tree.item(), Layout::Indented, writer)
 }
 
-/// As [`diagnostic`], of a view. Any view that was read is shallow enough.
+/// Writes the diagnostic text of a view, as [`diagnostic`]. Any view that was read is shallow
+/// enough.
 pub fn diagnostic_view<W: Write>(view: &View<'_>, writer: &mut W) -> Result<u64, Refusal>
     requires { depth (view_value view.now) ≤ MAX_DEPTH }
     ensures { Writes (W.contents writer.old) (W.contents writer.new)
@@ -49,7 +50,7 @@ pub fn diagnostic_view<W: Write>(view: &View<'_>, writer: &mut W) -> Result<u64,
     write_text(view, Layout::OneLine, writer)
 }
 
-/// As [`diagnostic_indented`], of a view.
+/// Writes the diagnostic text of a view, as [`diagnostic_indented`].
 pub fn diagnostic_view_indented<W: Write>(view: &View<'_>, writer: &mut W) -> Result<u64, Refusal>
     requires { depth (view_value view.now) ≤ MAX_DEPTH }
     ensures { Writes (W.contents writer.old) (W.contents writer.new)
@@ -74,7 +75,7 @@ fn write_text<N: Node, W: Write>(item: &N, layout: Layout, writer: &mut W) -> Re
     }
 }
 
-// Puts an item's text, and has all of it go out.
+// Puts an item's text, and writes all that waits.
 fn send_item<N: Node, W: Write>(
     item: &N,
     layout: Layout,

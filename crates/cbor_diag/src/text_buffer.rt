@@ -1,21 +1,21 @@
-//! The diagnostic text of an item in its bytes, and space for it.
+//! The diagnostic text of an encoded item, in a buffer.
 
 ghost use Rattle.std.specs.Prelude.{◌≡◌, ℕ, IfOk};
 ghost use Rattle.cbor_head.specs.Complaint.{plain};
 ghost use Rattle.cbor_head.specs.Spelling.{Spelling, value_of};
 ghost use Rattle.cbor_head.specs.Verdict.{IsVerdict, accepted};
-ghost use Rattle.cbor_verdict.specs.Readers.{IsRead};
+ghost use Rattle.theory_verdicts.specs.Readers.{IsRead};
 ghost use Rattle.cbor_diag.specs.Text.{text};
 
 use crate::outbox::Outbox;
 use crate::text_sink::TextSink;
 use cbor_head::Limits;
-use cbor_model::spelling_laws::verdict_is_one;
 use cbor_parser::Parser;
 use std::alloc::{AllocError, Global};
+use theory_values::spelling_laws::verdict_is_one;
 
-/// Space for a text, for one after another. A text of up to 512 bytes lies in it; for a longer one
-/// memory is taken.
+/// A buffer for one text after another. It has space for 512 bytes; memory is allocated for a longer
+/// text.
 #[derive(Drop)]
 pub struct TextBuffer {
     alloc: Global,
@@ -24,7 +24,7 @@ pub struct TextBuffer {
 }
 
 impl TextBuffer {
-    /// Of no text. Takes no memory.
+    /// An empty buffer. Allocates nothing.
     pub fn new(alloc: Global) -> TextBuffer {
         TextBuffer {
             alloc,
@@ -33,12 +33,12 @@ impl TextBuffer {
         }
     }
 
-    /// The diagnostic text on one line (RFC 8949, section 8) of the item that the bytes begin with,
-    /// which is known to be valid within these limits: its keys are not looked at again. The text
-    /// before is given up.
+    /// Returns the diagnostic text on one line (RFC 8949, section 8) of the item that the bytes
+    /// begin with. The item must be valid within these limits: its keys are not compared again. The
+    /// previous text is overwritten.
     ///
-    /// An `Err` is that memory was refused. None is taken but for a long text, and where a container
-    /// stands in another.
+    /// An `Err` means that memory ran out. Memory is allocated only for a long text, and if a
+    /// container is inside another.
     pub fn diagnostic_prefix(&mut self, bytes: &[u8], limits: Limits) -> Result<&[u8], AllocError>
         requires { (size : ℕ) × IsRead limits plain bytes.now size }
         ensures { IfOk result (λ shown. (s : Spelling) → IsVerdict limits plain bytes.now (accepted s)
@@ -51,7 +51,7 @@ impl TextBuffer {
         let mut building = Parser::new(sink);
         match building.parse_item(bytes, limits) {
             Ok(_) => building.sink.finish(),
-            // The item is valid, so memory was refused.
+            // The item is valid, so memory ran out.
             Err(_) => Err(AllocError),
         }
     }

@@ -1,10 +1,10 @@
-//! The diagnostic text of an item, from its parts as a walk comes to them.
+//! The diagnostic text of an item, from its parts in their order.
 
 ghost use Rattle.std.specs.Prelude.{◌≡◌, ◌++◌, [], true, IfOk, OnOk, option_to_list};
 ghost use Rattle.cbor_head.specs.Head.{IsSimple};
 ghost use Rattle.cbor_head.specs.Spelling.{Spelling, value_of};
 ghost use Rattle.cbor_head.specs.declared.major.Major.TheVariants as majors;
-ghost use Rattle.cbor_verdict.specs.Levels.{item_expected, item_whole};
+ghost use Rattle.theory_verdicts.specs.Levels.{item_expected, item_whole};
 ghost use Rattle.cbor_parser.specs.Sink.{leaf_value};
 ghost use Rattle.cbor_diag.specs.inner.Outbox.{Puts};
 ghost use Rattle.cbor_diag.specs.inner.TextSinks.{opener, closer, Reaches};
@@ -21,27 +21,27 @@ use cbor_parser::Sink;
 use std::alloc::{AllocError, Global};
 use std::io::Write;
 
-/// What writes the text of the parts that come, on one line. It looks for no equal keys.
+/// A sink that writes the text of the parts on one line. It does not look for equal keys.
 #[derive(Drop)]
 pub(crate) struct TextSink<'o> {
     // The innermost container, and those around it, the outermost first.
     inner: Option<Open>,
     around: Vec<Open>,
-    // The text, and what of it waits to be written behind that.
+    // The text, and what waits to be written after it.
     shown: &'o mut Vec<u8>,
     out: &'o mut Outbox,
 }
 
-/// A container whose end is not written.
+/// A container whose end is not written yet.
 #[derive(Clone, Copy)]
 pub(crate) struct Open {
     major: Major,
-    // Whether none of its members or pairs is written.
+    // Whether no member or pair of it is written yet.
     is_first: bool,
 }
 
 impl<'o> TextSink<'o> {
-    // Of nothing yet.
+    // A sink without any part.
     pub(crate) fn new(alloc: Global, shown: &'o mut Vec<u8>, out: &'o mut Outbox) -> TextSink<'o>
         requires shown { shown.old.items ≡ [] }
         requires out { out.old.waiting.items ≡ [] }
@@ -55,7 +55,7 @@ impl<'o> TextSink<'o> {
         }
     }
 
-    // The text of the item, which is whole. If it is short, all of it waits.
+    // Returns the text of the item, which must be whole. A short text is only in the outbox.
     pub(crate) fn finish(self) -> Result<&'o [u8], AllocError>
         ensures { IfOk result (λ shown. (s : Spelling)
             → text_stands self.entry self.entry (item_whole s) → shown.now ≡ text (value_of s)) }
@@ -73,7 +73,7 @@ impl<'o> TextSink<'o> {
         Ok(shown.as_slice())
     }
 
-    // Puts what stands before an item.
+    // Puts the text before an item.
     #[inline(always)]
     fn reach(&mut self, is_key: bool) -> Result<(), Stopped>
         ensures { OnOk result (Reaches is_key self.old self.new) }
@@ -177,7 +177,7 @@ impl<'a, 'o> Sink<'a> for TextSink<'o> {
         Ok(None)
     }
 
-    // It keeps none.
+    // The sink stores no keys.
     fn first_repeat(&mut self) -> Option<Repeat> {
         None
     }
@@ -189,7 +189,7 @@ impl From<Stopped> for AllocError {
     }
 }
 
-// A container, if there is one, is around another.
+// Adds the container, if there is one, to those around.
 #[inline(always)]
 fn push(around: &mut Vec<Open>, inner: Option<Open>) -> Result<(), AllocError>
     ensures { OnOk result (around.new.items ≡ around.old.items ++ option_to_list inner) }
@@ -200,7 +200,7 @@ fn push(around: &mut Vec<Open>, inner: Option<Open>) -> Result<(), AllocError>
     Ok(())
 }
 
-// An integer or a simple value.
+// Puts an integer or a simple value.
 fn put_leaf<W: Write>(
     major: Major,
     number: u64,
@@ -218,7 +218,7 @@ fn put_leaf<W: Write>(
     }
 }
 
-// The prefix of a container.
+// Puts the start of a container.
 fn put_opener<W: Write>(
     major: Major,
     number: u64,
@@ -238,7 +238,7 @@ fn put_opener<W: Write>(
     }
 }
 
-// The end of a container.
+// Puts the end of a container.
 #[inline(always)]
 fn put_closer<W: Write>(major: Major, out: &mut Outbox, writer: &mut W) -> Result<(), Stopped>
     ensures { Puts (W.contents writer.old) (W.contents writer.new) out.old out.new

@@ -1,4 +1,4 @@
-//! The walk over an item, or a view of one, and all that it holds.
+//! A walk over an item or a view, and all that it holds.
 
 ghost use Rattle.std.specs.Prelude.{◌≡◌, ◌+◌, ◌<◌, ◌≤◌, ◌↔◌, [], ◌∷◌, ◌++◌, length, reverse, take, IfOk, IsSome};
 ghost use Rattle.std.specs.Prelude.{option_to_list};
@@ -22,8 +22,8 @@ const SOME: usize = 128;
 // and none than this.
 const MOST: usize = MAX_DEPTH as usize;
 
-/// A container whose end is not written, at so many levels of indentation. Those around the innermost
-/// open one lie in the prefix of cells that are lent, the outermost first.
+/// A container whose end is not written yet, and its level of indentation. Those around the innermost
+/// one are in the first of the cells, the outermost first.
 #[derive_where(Clone, Copy, Default)]
 pub(crate) struct OpenNode<'a, N> {
     indent: u16,
@@ -33,11 +33,11 @@ pub(crate) struct OpenNode<'a, N> {
 /// What is left of a container.
 #[derive_where(Clone, Copy, Default)]
 pub(crate) enum Remaining<'a, N> {
-    /// Members, and whether they are all of them.
+    /// The members that are left, and whether these are all.
     Array(&'a [N], bool),
-    /// Pairs, and whether they are all of them.
+    /// The pairs that are left, and whether these are all.
     Map(&'a [(N, N)], bool),
-    /// The value of a pair whose key is written, and the pairs behind it.
+    /// The value of a pair whose key is written, and the pairs after it.
     Value(&'a N, &'a [(N, N)]),
     /// The content of a tag.
     Content(&'a N),
@@ -63,7 +63,7 @@ pub(crate) fn put_item<N: Node, W: Write>(
     }
 }
 
-// Puts what is left of a container that no other is around.
+// Puts what is left of the outermost container.
 fn put_levels<N: Node, W: Write>(
     level: OpenNode<'_, N>,
     layout: Layout,
@@ -81,7 +81,7 @@ fn put_levels<N: Node, W: Write>(
     }
 }
 
-// Writes the levels once the first cells are too few: more cells are lent.
+// Continues with more cells, once the first ones are too few.
 #[inline(never)]
 fn put_deeper<'a, N: Node, W: Write>(
     level: OpenNode<'a, N>,
@@ -103,7 +103,7 @@ fn put_deeper<'a, N: Node, W: Write>(
     }
 }
 
-// Writes the levels with a cell for each container that may be open.
+// Continues with a cell for each container that may be open.
 #[inline(never)]
 fn put_deepest<'a, N: Node, W: Write>(
     level: OpenNode<'a, N>,
@@ -123,7 +123,7 @@ fn put_deepest<'a, N: Node, W: Write>(
     Ok(())
 }
 
-// These become the first of more cells, which lie in the caller's frame.
+// Copies these into the first of the new cells.
 #[inline(always)]
 fn lend<'a, N>(around: &[OpenNode<'a, N>], cells: &mut [OpenNode<'a, N>])
     requires { length around.now ≤ length cells.old }
@@ -132,8 +132,8 @@ fn lend<'a, N>(around: &[OpenNode<'a, N>], cells: &mut [OpenNode<'a, N>])
     cells[..around.len()].copy_from_slice(around);
 }
 
-// Puts what is left, with so many of the cells around the innermost container. Where the cells are too
-// few, all of them are around the container that it answers.
+// Puts what is left. `height` of the cells are around the innermost container. If the cells are too
+// few, it returns the innermost container, and all cells are around that.
 fn put_within<'a, N: Node, W: Write>(
     level: OpenNode<'a, N>,
     layout: Layout,
@@ -159,7 +159,7 @@ fn put_within<'a, N: Node, W: Write>(
     Ok(innermost)
 }
 
-// Puts an item that holds no other, or the prefix of one that does, which is then open.
+// Puts an item that holds no other, or the start of a container, which is then open.
 #[inline(always)]
 fn begin<'a, N: Node, W: Write>(
     item: &'a N,
@@ -212,7 +212,7 @@ fn begin<'a, N: Node, W: Write>(
     }
 }
 
-// Puts what comes next in the innermost container, and answers which is the innermost then.
+// Puts what comes next in the innermost container, and returns the new innermost one.
 fn go_on<'a, N: Node, W: Write>(
     level: OpenNode<'a, N>,
     layout: Layout,
@@ -276,7 +276,7 @@ fn go_on<'a, N: Node, W: Write>(
     }
 }
 
-// Puts an item of the container, or its prefix, and answers which container is the innermost then.
+// Puts an item of the container, or its start, and returns the new innermost container.
 #[inline(always)]
 fn go_into<'a, N: Node, W: Write>(
     item: &'a N,
@@ -308,7 +308,7 @@ fn go_into<'a, N: Node, W: Write>(
     }
 }
 
-// One more container is around the innermost.
+// Adds a container to those around the innermost.
 #[inline(always)]
 fn push<'a, N>(cells: &mut [OpenNode<'a, N>], height: &mut usize, level: OpenNode<'a, N>)
     requires { height.old < length cells.old }
@@ -319,7 +319,7 @@ fn push<'a, N>(cells: &mut [OpenNode<'a, N>], height: &mut usize, level: OpenNod
     *height += 1;
 }
 
-// The innermost of them, if there is one, which is around no other any more.
+// Removes the last of them, if there is one, and returns it.
 #[inline(always)]
 fn pop<'a, N>(cells: &[OpenNode<'a, N>], height: &mut usize) -> Option<OpenNode<'a, N>>
     requires { height.old ≤ length cells.now }

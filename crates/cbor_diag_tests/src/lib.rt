@@ -1,6 +1,6 @@
 //! Tests of `cbor_diag` through its public calls.
 //!
-//! They are a crate of their own so that the library is proved once, and its tests separately.
+//! They are a separate crate, so that the library is proved once, and its tests on their own.
 #![tactic(auto)]
 
 #[cfg(test)]

@@ -1,6 +1,7 @@
-//! Texts of items written out by hand.
+//! Diagnostic texts of items, written by hand.
 
 mod annotations;
+mod explanations;
 mod failed;
 mod listing_tables;
 mod listings;
@@ -17,14 +18,14 @@ use cbor_reader::read_tree;
 use std::alloc::{AllocError, Global};
 use std::test::Fail;
 
-// The tree of an item in its bytes.
+// The tree of an encoded item.
 pub(crate) fn tree_of(alloc: Global, mut bytes: &[u8]) -> Result<Tree, Fail> {
     let limits = Limits::new(1024, 1 << 20).ok_or("limits")?;
     let (tree, _) = read_tree(alloc, &mut bytes, limits)?;
     Ok(tree)
 }
 
-// Whether the item is shown so, and the count of its bytes is answered.
+// Whether this is the item's text, and its number of bytes is returned.
 fn shows(alloc: Global, bytes: &[u8], want: &str) -> Result<bool, Fail> {
     let tree = tree_of(alloc, bytes)?;
     let mut shown = Vec::new(alloc);
@@ -48,7 +49,7 @@ fn trees_are_shown(rt: HostRuntime) -> Result<(), Fail> {
     Ok(())
 }
 
-// [1, {"b": [2, 3], "a": 1, [4]: {}}, []]: the map's keys are in no order.
+// [1, {"b": [2, 3], "a": 1, [4]: {}}, []]: the keys of the map are not sorted.
 pub(crate) static NESTED: &[u8] = b"\x83\x01\xa3\x61b\x82\x02\x03\x61a\x01\x81\x04\xa0\x80";
 
 pub(crate) static NESTED_INDENTED: &str = "[
@@ -73,7 +74,7 @@ fn indented_texts(rt: HostRuntime) -> Result<(), Fail> {
     assert!(rt; shows_indented(alloc, b"\x80", "[]")?);
     assert!(rt; shows_indented(alloc, b"\xa0", "{}")?);
     assert!(rt; shows_indented(alloc, NESTED, NESTED_INDENTED)?);
-    // what a tag stands before begins on its line
+    // the content of a tag begins on the tag's line
     assert!(rt; shows_indented(alloc, b"\xc1\x81\x01", "1([\n  1\n])")?);
     Ok(())
 }
@@ -96,14 +97,14 @@ fn push_tower(
     push_times(text, closes, 1024)
 }
 
-// What opens and closes a container, in hex and as text: arrays, tags, and maps as keys.
+// The start and the end of a container, in hex and as text: arrays, tags, and maps as keys.
 static TOWERS: [(&str, &str, &str, &str); 3] = [
     ("81", "", "[", "]"),
     ("c1", "", "1(", ")"),
     ("a1", "00", "{", ": 0}"),
 ];
 
-// As deep as a tree can be: 1024 of a kind around 7.
+// The greatest depth of a tree: 1024 containers of one kind around 7.
 #[test]
 fn deepest_texts(rt: HostRuntime) -> Result<(), Fail> {
     let alloc = rt.alloc();
@@ -118,7 +119,7 @@ fn deepest_texts(rt: HostRuntime) -> Result<(), Fail> {
     Ok(())
 }
 
-// The string of so many bytes that a part has in all times, and its text.
+// Whether a string that repeats a part, encoded with a 16-bit length, has this text.
 fn shows_long(
     alloc: Global,
     first: u8,
@@ -140,7 +141,7 @@ fn shows_long(
 
 static LENGTHS: [u16; 8] = [254, 255, 256, 257, 511, 512, 513, 1500];
 
-// Longer than what is gathered before a write, so that runs go out by themselves.
+// Longer than the outbox, so that runs are written directly.
 #[test]
 fn long_strings(rt: HostRuntime) -> Result<(), Fail> {
     let alloc = rt.alloc();

@@ -5,13 +5,13 @@ use lib.Seq.{drop-append_seam}
 use Rattle.cbor_head.specs.Prelude.{Holds, IsHead, head, major_number, MayFollow, AreBytes, HoldsOrIndefinite, refusal}
 use Rattle.cbor_head.specs.declared.major.Major.TheVariants as majors
 use Rattle.cbor_head.specs.declared.width.Width.TheVariants.{Direct, One, Two, Four, Eight, Indefinite}
-use Rattle.cbor_head.specs.declared.{major.Major.Major, reason.Reason.TheVariants.TooLong, reason.Reason.TheVariants.KeyKind, reason.Refusal.Refusal}
-use Rattle.cbor_head.specs.declared.width.Width.{Width}
-use Rattle.cbor_model.{specs.FirstBytes.is_basic, proofs.ByteLists.bytes_join}
-use Rattle.cbor_automaton.specs.Automaton.{indefinite_map, State, start, at_item, in_head, in_simple, in_payload, run, reached}
-use Rattle.cbor_automaton.specs.declared.event.EventKind.TheVariants as kinds
-use Rattle.cbor_automaton.specs.{Trace.Mark, Marks.count_of, Bytes.IsHeadBytes, Bytes.IsEventBytes, declared.event.Event.Event}
-use Rattle.cbor_automaton.{specs.declared.event.EventKind.EventKind, proofs.Beginnings.reached-begins, proofs.Runs.run-on, proofs.Taking.IsClear}
+use Rattle.cbor_head.specs.declared.event.EventKind.TheVariants as kinds
+use Rattle.cbor_head.specs.declared.{event.Event.Event, event.EventKind.EventKind, major.Major.Major}
+use Rattle.cbor_head.specs.declared.{reason.Reason.TheVariants.TooLong, reason.Reason.TheVariants.KeyKind, reason.Refusal.Refusal, width.Width.Width}
+use Rattle.theory_values.{specs.FirstBytes.is_basic, proofs.ByteLists.bytes_join}
+use Rattle.theory_automaton.specs.Automaton.{indefinite_map, State, start, at_item, in_head, in_simple, in_payload, run, reached}
+use Rattle.theory_automaton.{specs.Trace.Mark, specs.Marks.count_of, specs.Bytes.IsHeadBytes, specs.Bytes.IsEventBytes, proofs.Beginnings.reached-begins}
+use Rattle.theory_automaton.proofs.{Runs.run-on, Taking.IsClear}
 use Rattle.cbor_machine.specs.State.{state_of, wanted_at, is_done}
 use Rattle.cbor_machine.specs.declared.position.Position.TheVariants as positions
 use Rattle.cbor_machine.specs.Machine.{StandsFor, KeepsLimits, IsComplete, IsGiven, wanted, wanted_within}
@@ -47,7 +47,7 @@ high-of m w n b y f h = high-first m w n b y (f h.0) (sym h.1)
 abbrev pub IsBasicFirst : ℕ → Type 0
 IsBasicFirst b = IsTrue (is_basic (b / 32)) ⊎ (b ≡ 0xff)
 
--- none of these is
+-- anything but these
 other-high : (m : Major) (b : ℕ) → major_number m ≤ 6 → (IsTrue (is_basic (major_number m)) → ⊥) → IsHigh m b → IsBasicFirst b → ⊥
 other-high m b l none h (inl k) = none (subst (λ (n : ℕ). IsTrue (is_basic n)) h.high k)
 other-high m b l none h (inr e) = omega (arith, l, h.low, e)
@@ -74,7 +74,7 @@ basic-kind ms w (kinds.Tag n) b y small h k = other-high majors.Tag b (omega ari
 basic-kind ms w (kinds.Simple n) b y small h k = no-simple w n b y small h k
 basic-kind ms w _ b y small h k = tt
 
--- an event behind what was reported, which begins with this byte
+-- an event after what was reported, which begins with this byte
 pub given-kind : (e : Event) (old new : MachineView) (t bs : List ℕ) (ms : List Mark) (b : ℕ) → b < 256 → StandsBetween old t ms → IsGiven e new (t ++ b ∷ []) bs ms → IsBasicFirst b → IsBasicKind e.kind
 given-kind e old new t bs ms b small h g k =
     let here : drop e.place ((t ++ b ∷ []) ++ bs) ≡ b ∷ bs = ap (λ (n : ℕ). drop n ((t ++ b ∷ []) ++ bs)) (g.place ∙ h.whole) ∙ behind t in
@@ -147,14 +147,14 @@ held-first held to b x rest c e = go to (subst (λ (o : Option (List ℕ)). Cons
 basic-held : (held to : Option (List ℕ)) (b : ℕ) → Consumes held to (b ∷ []) → IsTrue (is_basic (b / 32)) → (x : ℕ) (rest : List ℕ) → held ≡ Some (x ∷ rest) → IsTrue (is_basic (x / 32))
 basic-held held to b c k x rest e = subst (λ (n : ℕ). IsTrue (is_basic (n / 32))) (sym (held-first held to b x rest c e)) k
 
--- a call whose first byte goes on
+-- a call after whose first byte the head continues
 pub first-read : (old mid : MachineView) (from to : Option (List ℕ)) (b : ℕ) (t : List ℕ) (ms : List Mark) → HasFirst Open old mid from to b t ms ⊎ HasStopped Open old → HasRead from to mid t ms
 first-read old mid from to b t ms (inl k) = record { bytes = b ∷ []; consumed = k.consumed; stands = k.taken }
 first-read old mid from to b t ms (inr s) = absurd s
 
--- ---- what is answered
+-- ---- what is returned
 
--- nothing is wanted
+-- no byte is expected
 pub end-key : (r : Result (Option Event) Refusal) (m new : MachineView) (from to : Option (List ℕ)) (kept t : List ℕ) (ms : List Mark) → StandsBetween m t ms → wanted m ≡ 0 → KeepsLimits m new → IfReported r (λ e. ⊥)
     → IsNext r (machine_call m new from to kept kept t ms) → IsNextKey r (machine_call m new from to kept kept t ms)
 end-key (Ok (Some e)) m new from to kept t ms h none l reported n = absurd reported
@@ -229,7 +229,7 @@ pub reported-key : (e : Event) (old new : MachineView) (from to : Option (List �
 reported-key e old new from to b kept t ms h (inr s) basic n = absurd s
 reported-key e old new from to b kept t ms h (inl k) basic n = (n, reported-kind e old new t ms b k.are_bytes.0 h k.taken basic)
 
--- the byte was refused, or none came, or the limit is reached behind it
+-- the byte was refused, or there was none, or the limit is reached after it
 pub stopped-key : (f : Refusal) (old new : MachineView) (from to : Option (List ℕ)) (b : ℕ) (kept t : List ℕ) (ms : List Mark) → StandsBetween old t ms → HasFirst (Stopped f) old new from to b t ms ⊎ HasStopped (Stopped f) old → (IsTakenAt (Stopped f) old.taken → IsBasicFirst b)
     → IsNext (Err f) (machine_call old new from to kept kept t ms) → IsNextKey (Err f) (machine_call old new from to kept kept t ms)
 stopped-key f old new from to b kept t ms h (inr s) basic n = let taken = h.stands.taken in inl (n, λ behind. absurd (omega (arith, s, behind, taken)))
@@ -243,7 +243,7 @@ stopped-key f old new from to b kept t ms h (inl k) basic n =
       ],
     )
 
--- its head goes on
+-- the head continues
 pub open-key : (r : Result (Option Event) Refusal) (old mid new : MachineView) (from mid_from to : Option (List ℕ)) (b : ℕ) (kept t : List ℕ) (ms : List Mark) → StandsBetween old t ms → mid.depth ≡ old.depth → HasFirst Open old mid from mid_from b t ms ⊎ HasStopped Open old → IsBasicFirst b
     → (StandsFor mid (t ++ b ∷ []) ms → IfGiven r new (t ++ b ∷ []) ms) → IsNext r (machine_call old new from to kept kept t ms) → IsNextKey r (machine_call old new from to kept kept t ms)
 open-key r old mid new from mid_from to b kept t ms h depth (inr s) basic given n = absurd s
@@ -252,7 +252,7 @@ open-key (Ok None) old mid new from mid_from to b kept t ms h depth (inl k) basi
 open-key (Err f) old mid new from mid_from to b kept t ms h depth (inl k) basic given n =
     inl (n, λ behind. elim basic [ inl y ↦ basic-held from mid_from b k.consumed y | inr y ↦ absurd (open-item old t ms h mid b depth k.taken y) ])
 
--- as the events' view has it
+-- as in the view of the events
 pub refused-key : (f : Refusal) (from same to : ItemEventsView) (held left : Option (List ℕ)) (piece t : List ℕ) (ms : List Mark) → from ≡ same
     → IsNextKey (Err f) (machine_call from.machine to.machine held left from.piece piece t ms) → IsNextKey (Err f) (call same to held left t ms)
 refused-key f from same to held left piece t ms e (inl h) = inl (refused-call f from same to held left piece t ms e h.0, h.1)

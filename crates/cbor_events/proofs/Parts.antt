@@ -1,8 +1,8 @@
 -- What one read makes of a call for the next event.
 use Rattle.std.proofs.Common.{◌≡◌, ℕ, zero, suc, ◌<◌, ◌≤◌, ◌⊎◌, inl, inr, append_assoc, List, [], ◌++◌, length, take, drop, refl, sym, subst, ◌∙◌, arith, append-nil, Option, Some, Result, Ok}
 use Rattle.std.{specs.Io.KnownBytes.Consumes, proofs.KnownBytes.Consumes-nil}
-use Rattle.cbor_head.specs.{Prelude.AreBytes, declared.reason.Refusal.Refusal}
-use Rattle.cbor_automaton.specs.{Trace.Mark, Trace.total, Marks.marks_of, Bytes.IsEventBytes, declared.event.Event.Event}
+use Rattle.cbor_head.specs.{declared.event.Event.Event, Prelude.AreBytes, declared.reason.Refusal.Refusal}
+use Rattle.theory_automaton.specs.{Trace.Mark, Trace.total, Marks.marks_of, Bytes.IsEventBytes}
 use Rattle.cbor_machine.specs.NextEvent.{StandsBetween, IfReported, IsNext, machine_call}
 use Rattle.cbor_machine.proofs.NextEvents.{event-here, read-on, complete-wants, wanted-space}
 use Rattle.cbor_machine.specs.{MachineView.MachineView, Machine.StandsFor, Machine.wanted, Calls.HasRead, Calls.piece_after}
@@ -11,7 +11,7 @@ use Rattle.cbor_events.specs.inner.Reads.{IsPartTaken, IsPartRead, HasTaken, Has
 use Rattle.cbor_events.specs.declared.part.PartialEvent.TheVariants.{Reported, Open, Stopped}
 use Rattle.cbor_events.specs.declared.part.PartialEvent.{PartialEvent}
 
--- the bytes that were read are what the machine wanted, and stand before the buffer
+-- the bytes that were read are those that the machine expected, and are at the start of the buffer
 pub part-read : (p : PartialEvent) (from mid_from to : Option (List ℕ)) (was mid new : MachineView) (kept buffer t last : List ℕ) (ms : List Mark) → StandsBetween was t ms → (r : HasRead from mid_from mid t ms)
     → mid.depth ≡ was.depth → new.depth ≡ mid.depth → new.bytes ≡ mid.bytes → Consumes mid_from to last → AreBytes last → 0 < length last → length last ≤ wanted mid → last ≡ take (length last) buffer
     → IsPartTaken p mid new (t ++ r.bytes) last ms → IsPartRead p was new from to kept buffer t ms
@@ -32,13 +32,13 @@ some-read (suc n) want some none = omega arith
 pub none-read : (from : Option (List ℕ)) (m : MachineView) (t : List ℕ) (ms : List Mark) → StandsFor m t ms → HasRead from from m t ms
 none-read from m t ms h = record { bytes = []; consumed = Consumes-nil from; stands = subst (λ xs. StandsFor m xs ms) (sym (append-nil t)) h }
 
--- where no event is reported the piece stays
+-- if no event is reported, the piece is unchanged
 pub end-answer : (r : Result (Option Event) Refusal) (from to : Option (List ℕ)) (was new : MachineView) (kept buffer t : List ℕ) (ms : List Mark) → IfReported r (λ e. ⊥)
     → IsNext r (machine_call was new from to kept kept t ms) → IsNext r (machine_call was new from to kept (piece_after r kept buffer) t ms)
 end-answer (Ok (Some e)) from to was new kept buffer t ms none h = absurd none
 end-answer _ from to was new kept buffer t ms none h = h
 
--- ---- what the machine took, whichever call began
+-- ---- what the machine consumed since any earlier state
 
 -- bytes that reported nothing, and then others
 pub given-on : (r : Result (Option Event) Refusal) (new : MachineView) (t bs : List ℕ) (ms : List Mark) → IfGiven r new (t ++ bs) ms → IfGiven r new t ms

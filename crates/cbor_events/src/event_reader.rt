@@ -1,17 +1,16 @@
-//! A reader together with the events of the item that it is at.
+//! A reader together with the events of its current item.
 
 ghost use Rattle.std.specs.Prelude.{◌≡◌, ◌≤◌, ℕ, List, [], length, None, Some, OnOk, OnErr, IfErr};
 ghost use Rattle.std.specs.Prelude.{IfSome, Err};
-ghost use Rattle.cbor_automaton.specs.Trace.{Mark};
-ghost use Rattle.cbor_automaton.specs.Marks.{IsProper};
-ghost use Rattle.cbor_automaton.specs.Reasons.{IsEventReason};
+ghost use Rattle.theory_automaton.specs.Trace.{Mark};
+ghost use Rattle.theory_automaton.specs.Marks.{IsProper};
+ghost use Rattle.theory_automaton.specs.Reasons.{IsEventReason};
 ghost use Rattle.cbor_machine.specs.Machine.{KeepsLimits, IsIdle};
 ghost use Rattle.cbor_machine.specs.NextEvent.{StandsBetween, IfReported, IsNext, call};
 ghost use Rattle.cbor_events.specs.EventReader.{EventReaderView};
 
 use crate::item_events::ItemEvents;
-use cbor_automaton::Event;
-use cbor_head::{Limits, Refusal};
+use cbor_head::{Event, Limits, Refusal};
 use std::io::Read;
 use std::marker::Model;
 
@@ -31,7 +30,7 @@ impl<R> Model for EventReader<R> {
 }
 
 impl<R: Read> EventReader<R> {
-    /// The events of the item that the reader is at, whichever kinds of keys its maps have.
+    /// The events of the reader's next item. Its maps may have keys of any kind.
     pub fn new(reader: R, limits: Limits) -> EventReader<R>
         ensures starts { StandsBetween result.events.machine [] [] }
         ensures limits { (result.events.machine.depth ≡ limits.depth)
@@ -46,12 +45,12 @@ impl<R: Read> EventReader<R> {
         }
     }
 
-    /// The next event, with its bytes read; none once the item is complete, and then nothing is
-    /// read.
+    /// Returns the next event, after reading its bytes. Returns `None` once the item is complete,
+    /// and then reads nothing.
     ///
-    /// What is read, and when, is said at [`ItemEvents::next`].
+    /// [`ItemEvents::next`] says what is read, and when.
     pub fn next(&mut self) -> Result<Option<Event>, Refusal>
-        // For all bytes and marks that the machine stood for, as long as nothing was refused.
+        // For all bytes and marks that the machine represented, as long as nothing was refused.
         ensures answers { self.old.events.refusal ≡ None
             → (t : List ℕ) (ms : List Mark) → StandsBetween self.old.events.machine t ms
             → IsNext result (call self.old.events self.new.events
@@ -63,7 +62,7 @@ impl<R: Read> EventReader<R> {
             × (self.new.events.machine.taken ≡ f.read) × IsEventReason f.reason) }
         ensures emptied { OnErr result (self.new.events.piece ≡ []) }
 
-        // Where nothing is wanted the reader is not touched, nor after a refusal.
+        // If nothing is expected, the reader is not touched, nor after a refusal.
         ensures idle { IsIdle self.old.events.machine → self.new.reader ≡ self.old.reader }
         ensures again { IfSome self.old.events.refusal
             (λ f. (result ≡ Err f) × (self.new ≡ self.old)) }
@@ -71,7 +70,7 @@ impl<R: Read> EventReader<R> {
         self.events.next(&mut self.reader)
     }
 
-    /// The bytes of the last `Piece`; none before one, and none after a refusal.
+    /// The bytes of the last `Piece`. Empty before the first one, and after a refusal.
     pub fn piece(&self) -> &[u8]
         ensures piece { result.now ≡ self.now.events.piece }
         ensures within { length result.now ≤ 512 }
@@ -79,7 +78,8 @@ impl<R: Read> EventReader<R> {
         self.events.piece()
     }
 
-    /// How many arrays, maps and tags are open: from its head until its last member or its break.
+    /// The number of open arrays, maps and tags. Each is open from its head until its last member
+    /// or its break.
     pub fn open(&self) -> usize
         ensures count { result ≡ self.now.events.machine.open_count }
         ensures within { result ≤ self.now.events.machine.depth }
@@ -87,7 +87,7 @@ impl<R: Read> EventReader<R> {
         self.events.open()
     }
 
-    /// How many bytes were taken; after a refusal its `read`.
+    /// The number of bytes consumed; after a refusal its `read`.
     pub fn taken(&self) -> u64
         ensures taken { result ≡ self.now.events.machine.taken }
         ensures within { result ≤ self.now.events.machine.bytes }

@@ -3,13 +3,12 @@
 ghost use Rattle.std.specs.Prelude.{◌≡◌, ◌≢◌, ℕ, MatchOption};
 ghost use Rattle.cbor_head.specs.Head.{IsSimple};
 ghost use Rattle.cbor_head.specs.declared.width.Width.{Width};
-ghost use Rattle.cbor_automaton.specs.{Marks.mark_of, Trace.a_head};
+ghost use Rattle.theory_automaton.specs.{Marks.mark_of, Trace.a_head};
 
-use cbor_automaton::EventKind;
-use cbor_head::Major;
+use cbor_head::{EventKind, Major};
 
 /// The major type and the argument of an item's head; the argument is 0 if the length is indefinite.
-/// None for the head of a chunk, a part of a payload and a break.
+/// `None` for the head of a chunk, a part of a payload and a break.
 #[inline(always)]
 pub fn head_of(kind: EventKind) -> Option<(Major, u64)>
     ensures { (w : Width) → MatchOption result

@@ -1,10 +1,10 @@
-//! The events of one item, from a reader that each call is handed.
+//! The events of one item, from a reader that is passed to each call.
 
 ghost use Rattle.std.specs.Prelude.{◌≡◌, ◌≤◌, ◌<◌, ℕ, List, [], length, take, None, Some, OnOk};
 ghost use Rattle.std.specs.Prelude.{OnErr, IfErr, IfSome, Err, Option, true, false};
-ghost use Rattle.cbor_automaton.specs.Trace.{Mark};
-ghost use Rattle.cbor_automaton.specs.Marks.{IsProper};
-ghost use Rattle.cbor_automaton.specs.Reasons.{IsEventReason};
+ghost use Rattle.theory_automaton.specs.Trace.{Mark};
+ghost use Rattle.theory_automaton.specs.Marks.{IsProper};
+ghost use Rattle.theory_automaton.specs.Reasons.{IsEventReason};
 ghost use Rattle.cbor_machine.specs.Machine.{KeepsLimits, IsIdle, wanted};
 ghost use Rattle.cbor_machine.specs.NextEvent.{ItemEventsView, StandsBetween, IfReported, IsNext};
 ghost use Rattle.cbor_machine.specs.NextEvent.{call};
@@ -15,22 +15,21 @@ mod reading;
 
 use crate::item_events::key::key_head;
 use crate::item_events::reading::advance;
-use cbor_automaton::Event;
-use cbor_head::{Limits, Refusal};
+use cbor_head::{Event, Limits, Refusal};
 use cbor_machine::Machine;
 use std::io::Read;
 use std::marker::Model;
 
-// A payload is read in parts of at most so many bytes.
+// A payload is read in parts of at most this number of bytes.
 pub(crate) const PART: usize = 512;
 
-/// The events of one item, from a reader that each call of [`next`](ItemEvents::next) is handed.
+/// The events of one item, from a reader that is passed to each call of [`next`](ItemEvents::next).
 ///
-/// No byte behind the item is read, nor one beyond the byte limit. No call takes memory.
+/// No byte after the item is read, nor one beyond the byte limit. No call allocates.
 #[derive(Drop)]
 pub struct ItemEvents {
     machine: Machine,
-    // The last piece stands at the start.
+    // The last piece is at its start.
     buffer: [u8; PART],
     held: usize,
     refusal: Option<Refusal>,
@@ -55,8 +54,8 @@ impl Model for ItemEvents {
 }
 
 impl ItemEvents {
-    /// The events of an item whose first byte is still to be read. Which kinds of keys its maps may
-    /// have is for the caller to ask for, by `next_by_kind`.
+    /// The events of an item whose first byte was not read yet. The caller decides which kinds of
+    /// keys its maps may have, by calling `next_by_kind`.
     pub fn new(limits: Limits) -> ItemEvents
         ensures starts { StandsBetween result.machine [] [] }
         ensures limits { (result.machine.depth ≡ limits.depth)
@@ -72,8 +71,7 @@ impl ItemEvents {
         }
     }
 
-    /// Goes on with the events of another item, whatever came of the one before, within the same
-    /// limits.
+    /// Begins the events of another item within the same limits, in whatever state this is.
     pub fn restart(&mut self)
         ensures starts { StandsBetween self.new.machine [] [] }
         ensures limits { KeepsLimits self.old.machine self.new.machine }
@@ -85,16 +83,16 @@ impl ItemEvents {
         self.refusal = None;
     }
 
-    /// The next event, with its bytes read; none once the item is complete, and then nothing is
-    /// read.
+    /// Returns the next event, after reading its bytes. Returns `None` once the item is complete,
+    /// and then reads nothing.
     ///
-    /// One byte of a head is asked for, then what is missing of its argument; of a payload what is
-    /// left, at most 512 bytes. A `read` of 0 bytes is the end of the input: `Truncated`. An error
-    /// of `read`, `Interrupted` too, is `Read`. After a refusal every later call answers it again
-    /// and reads nothing.
+    /// It reads one byte of a head, then the rest of the head's argument. Of a payload it reads
+    /// what is left, at most 512 bytes. A `read` of 0 bytes is the end of the input: `Truncated`.
+    /// An error of `read`, `Interrupted` too, is `Read`. After a refusal every later call returns
+    /// it again and reads nothing.
     #[inline(always)]
     pub fn next<R: Read>(&mut self, reader: &mut R) -> Result<Option<Event>, Refusal>
-        // For all bytes and marks that the machine stood for, as long as nothing was refused.
+        // For all bytes and marks that the machine represented, as long as nothing was refused.
         ensures answers { self.old.refusal ≡ None
             → (t : List ℕ) (ms : List Mark) → StandsBetween self.old.machine t ms
             → IsNext result
@@ -107,7 +105,7 @@ impl ItemEvents {
         ensures reason { self.old.refusal ≡ None → IfErr result (λ f. IsEventReason f.reason) }
         ensures emptied { OnErr result (self.new.piece ≡ []) }
 
-        // Where nothing is wanted the reader is not touched, nor after a refusal.
+        // If nothing is expected, the reader is not touched, nor after a refusal.
         ensures idle { IsIdle self.old.machine → reader.new ≡ reader.old }
         ensures again { IfSome self.old.refusal
             (λ f. (result ≡ Err f) × (self.new ≡ self.old) × (reader.new ≡ reader.old)) }
@@ -115,22 +113,22 @@ impl ItemEvents {
         self.next_by_kind(false, reader)
     }
 
-    /// The next event, as [`next`](ItemEvents::next) reports it. If `is_asked`, a key or a break is
-    /// expected, and the key must be an integer or a text.
+    /// Returns the next event, as [`next`](ItemEvents::next) does. If `is_asked`, a key or a break
+    /// must be expected, and the key must be an integer or a text.
     ///
-    /// The kind of that key is judged at its first byte, before any more is asked of the reader.
-    /// Where that byte may stand there, and is of another kind, it is taken, and refused at its
-    /// place: `KeyKind`, even where the byte limit is reached with it.
+    /// The kind of that key is judged at its first byte, before more is read. A first byte that is
+    /// allowed there and begins an item of another kind is consumed, and refused at its offset with
+    /// `KeyKind`, even if the byte limit is reached with it.
     #[inline(always)]
     pub fn next_by_kind<R: Read>(
         &mut self,
         is_asked: bool,
         reader: &mut R,
     ) -> Result<Option<Event>, Refusal>
-        // Where it is asked for, no payload is open.
+        // If the kind is judged, no payload is open.
         requires head { is_asked ≡ true → self.old.refusal ≡ None
             → self.old.machine.in_payload ≡ false }
-        // For all bytes and marks that the machine stood for, as long as nothing was refused.
+        // For all bytes and marks that the machine represented, as long as nothing was refused.
         ensures answers { self.old.refusal ≡ None
             → (t : List ℕ) (ms : List Mark) → StandsBetween self.old.machine t ms
             → IsNextOf is_asked result
@@ -144,7 +142,7 @@ impl ItemEvents {
             → IfErr result (λ f. IsEventReason f.reason) }
         ensures emptied { OnErr result (self.new.piece ≡ []) }
 
-        // Where nothing is wanted the reader is not touched, nor after a refusal.
+        // If nothing is expected, the reader is not touched, nor after a refusal.
         ensures idle { IsIdle self.old.machine → reader.new ≡ reader.old }
         ensures again { IfSome self.old.refusal
             (λ f. (result ≡ Err f) × (self.new ≡ self.old) × (reader.new ≡ reader.old)) }
@@ -167,7 +165,7 @@ impl ItemEvents {
         }
     }
 
-    /// The bytes of the last `Piece`; none before one, and none after a refusal.
+    /// The bytes of the last `Piece`. Empty before the first one, and after a refusal.
     pub fn piece(&self) -> &[u8]
         ensures piece { result.now ≡ self.now.piece }
         ensures within { length result.now ≤ 512 }
@@ -175,7 +173,8 @@ impl ItemEvents {
         &self.buffer[..self.held]
     }
 
-    /// How many arrays, maps and tags are open: from its head until its last member or its break.
+    /// The number of open arrays, maps and tags. Each is open from its head until its last member
+    /// or its break.
     pub fn open(&self) -> usize
         ensures count { result ≡ self.now.machine.open_count }
         ensures within { result ≤ self.now.machine.depth }
@@ -183,7 +182,7 @@ impl ItemEvents {
         self.machine.open()
     }
 
-    /// How many bytes were taken; after a refusal its `read`.
+    /// The number of bytes consumed; after a refusal its `read`.
     pub fn taken(&self) -> u64
         ensures taken { result ≡ self.now.machine.taken }
         ensures within { result ≤ self.now.machine.bytes }

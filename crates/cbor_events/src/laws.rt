@@ -6,18 +6,17 @@ ghost use Rattle.cbor_head.specs.Spelling.{Spelling, IsSpelled, IsItem, spell};
 ghost use Rattle.cbor_head.specs.Complaint.{form};
 ghost use Rattle.cbor_head.specs.Verdict.{IsVerdict, accepted, refused};
 ghost use Rattle.cbor_head.specs.declared.reason.Refusal.{Refusal};
-ghost use Rattle.cbor_automaton.specs.Trace.{Mark, total, trace};
+ghost use Rattle.theory_automaton.specs.Trace.{Mark, total, trace};
 ghost use Rattle.cbor_head.specs.Value.{AreBytes};
 ghost use Rattle.cbor_head.specs.Beginning.{IsLongestBeginning};
-ghost use Rattle.cbor_automaton.specs.Marks.{marks_of};
-ghost use Rattle.cbor_automaton.specs.Event.{events, marks_in, joined, cut, AreReported};
-ghost use Rattle.cbor_automaton.specs.declared.event.Event.{Event};
+ghost use Rattle.theory_automaton.specs.Marks.{marks_of};
+ghost use Rattle.theory_automaton.specs.Event.{events, marks_in, joined, cut, AreReported};
+ghost use Rattle.cbor_head.specs.declared.event.Event.{Event};
 ghost use Rattle.cbor_machine.specs.NextEvent.{Call, StandsBetween, IsNextEvent, IsEnd};
 ghost use Rattle.cbor_machine.specs.MachineView.{MachineView};
 ghost use Rattle.cbor_machine.specs.Machine.{StandsFor, IsComplete, IsGiven, IsRefused};
 
-/// What a machine answers is the verdict of form: of its refusals, and of the item that is
-/// complete.
+/// What a machine returns is the verdict of form: its refusals, and the complete item.
 pub fn machine_verdict()
     ensures refuses { (r : Refusal) (m : MachineView) (t bs : List ℕ) (ms : List Mark)
         → IsRefused r m t bs ms → (more : List ℕ)
@@ -27,8 +26,9 @@ pub fn machine_verdict()
         → (s : Spelling) × IsVerdict (bounds m.depth m.bytes) form (t ++ more) (accepted s) }
 {}
 
-/// The events that a machine reported, neighbouring pieces joined, are those of each item that starts
-/// with what it took, as far as they end within that, the last piece cut there.
+/// The events that a machine reported, with neighbouring pieces joined, are those of each item that
+/// starts with the bytes consumed, as far as they end within these bytes. The last piece is cut
+/// there.
 pub fn reported_events()
     ensures none { AreReported [] [] }
     ensures more { (es : List Event) (ms : List Mark) (e : Event) (m : MachineView) (t bs : List ℕ)
@@ -40,8 +40,8 @@ pub fn reported_events()
         → joined es ≡ cut (length t) (events 0 s) }
 {}
 
-/// The events that `ItemEvents::next` reported. Each leads on from those before it; at the end of an
-/// item they are, neighbouring pieces joined, all of its events. Behind a refusal `reported_events`
+/// The events that `ItemEvents::next` reported. Each follows those before it. At the end of an item
+/// they are, with neighbouring pieces joined, all of its events. After a refusal `reported_events`
 /// says what they are.
 pub fn next_events()
     ensures more { (c : Call) (es : List Event) (e : Event) → AreReported es c.reported
@@ -52,7 +52,7 @@ pub fn next_events()
         → (s : Spelling) × IsItem c.old.depth s c.taken × (joined es ≡ events 0 s) }
 {}
 
-/// The marks of an item are those of its events, and stand for all of its bytes.
+/// The marks of an item are those of its events, and cover all of its bytes.
 pub fn marks_of_events()
     ensures marks { (s : Spelling) → IsSpelled s → marks_in (events 0 s) ≡ trace s }
     ensures bytes { (s : Spelling) → IsSpelled s → total (trace s) ≡ length (spell s) }

@@ -1,11 +1,11 @@
-//! A part of an item: bytes asked for by one call of `read`, and what the machine makes of them.
+//! A part of an item: bytes requested by one call of `read`, and what the machine makes of them.
 
 ghost use Rattle.std.specs.Prelude.{◌≡◌, ◌≤◌, ◌<◌, ◌⊎◌, ℕ, List, length, Option};
 ghost use Rattle.cbor_head.specs.Verdict.{refusal};
-ghost use Rattle.cbor_automaton.specs.Trace.{Mark};
-ghost use Rattle.cbor_automaton.specs.Marks.{IsProper};
-ghost use Rattle.cbor_automaton.specs.Pieces.{kind_size};
-ghost use Rattle.cbor_automaton.specs.Reasons.{IsEventReason, IsMachineReason};
+ghost use Rattle.theory_automaton.specs.Trace.{Mark};
+ghost use Rattle.theory_automaton.specs.Marks.{IsProper};
+ghost use Rattle.theory_automaton.specs.Pieces.{kind_size};
+ghost use Rattle.theory_automaton.specs.Reasons.{IsEventReason, IsMachineReason};
 ghost use Rattle.cbor_machine.specs.MachineView.{MachineView};
 ghost use Rattle.cbor_machine.specs.Machine.{KeepsLimits, StandsFor, wanted};
 ghost use Rattle.cbor_machine.specs.NextEvent.{StandsBetween};
@@ -13,12 +13,11 @@ ghost use Rattle.cbor_machine.specs.Calls.{HasRead};
 ghost use Rattle.cbor_events.specs.inner.Reads.{IsAsked, IsPartTaken, IsPartRead, IfPartReported, IfStopped};
 ghost use Rattle.cbor_events.specs.inner.Reads.{HasTaken, HasStopped};
 
-use cbor_automaton::Event;
-use cbor_head::{Reason, Refusal};
+use cbor_head::{Event, Reason, Refusal};
 use cbor_machine::{Machine, Out, below_256, take_part};
 use std::io::Read;
 
-// What one call of `read` gave.
+// The result of one call of `read`.
 #[derive(Clone, Copy)]
 enum ReadOutcome {
     Got(usize),
@@ -26,7 +25,7 @@ enum ReadOutcome {
     Failed,
 }
 
-// As many as were got. Where one was wanted it is one, and the compiler knows so.
+// The number of bytes read. If one was requested it is one, which the compiler can see.
 #[inline(always)]
 fn got(count: usize, want: usize) -> usize
     requires some { 0 < count }
@@ -39,7 +38,7 @@ fn got(count: usize, want: usize) -> usize
     count
 }
 
-// Reads at most `want` bytes into the prefix of the buffer, by one call of `read`.
+// Reads at most `want` bytes into the start of the buffer, by one call of `read`.
 #[inline(always)]
 fn ask<R: Read>(reader: &mut R, buffer: &mut [u8], want: usize) -> ReadOutcome
     requires some { 0 < want }
@@ -54,14 +53,14 @@ fn ask<R: Read>(reader: &mut R, buffer: &mut [u8], want: usize) -> ReadOutcome
     }
 }
 
-// A refusal of what was taken, and no byte more.
+// A refusal at the first byte that was not consumed.
 fn cut(reason: Reason, taken: u64) -> Refusal
     ensures { result ≡ refusal reason taken taken }
 {
     Refusal::new(reason, taken, taken)
 }
 
-// What came of bytes that the machine wanted.
+// The result of bytes that the machine expected.
 #[derive(Clone, Copy)]
 pub(crate) enum PartialEvent {
     Reported(Event),
@@ -70,7 +69,7 @@ pub(crate) enum PartialEvent {
     Stopped(Refusal),
 }
 
-// Hands the machine bytes that it wants.
+// Gives the machine bytes that it expects.
 #[inline(always)]
 fn take_read(machine: &mut Machine, part: &[u8]) -> PartialEvent
     requires some { 0 < length part.now }
@@ -93,8 +92,8 @@ fn take_read(machine: &mut Machine, part: &[u8]) -> PartialEvent
     take_slowly(machine, part)
 }
 
-// Takes the bytes one by one, whatever they are, with a stack frame of its own, so that the caller's stays
-// small.
+// Consumes the bytes one by one, whatever they are. It has a stack frame of its own, so that the caller's
+// stays small.
 #[inline(never)]
 fn take_slowly(machine: &mut Machine, part: &[u8]) -> PartialEvent
     requires some { 0 < length part.now }
@@ -116,7 +115,7 @@ fn take_slowly(machine: &mut Machine, part: &[u8]) -> PartialEvent
     }
 }
 
-// Reads at most so many bytes that the machine wants, by one call of `read`.
+// Reads at most this number of bytes, which the machine expects, by one call of `read`.
 #[inline(always)]
 pub(crate) fn read_part<R: Read>(
     machine: &mut Machine,
@@ -128,7 +127,7 @@ pub(crate) fn read_part<R: Read>(
     requires space { want ≤ length buffer.old }
     requires wanted { want ≤ wanted machine.old }
     requires within { machine.old.open_count ≤ machine.old.depth }
-    // Of a call that began where the machine was `was`, and the reader held `from`.
+    // For a call that began when the machine was `was` and the reader held `from`.
     ensures answers { (was : MachineView) (from : Option (List ℕ)) (kept t : List ℕ)
         (ms : List Mark) → StandsBetween was t ms
         → HasRead from (R.remaining reader.old) machine.old t ms

@@ -1,4 +1,4 @@
-//! Heads, limits, simple values and reasons by tables.
+//! Tables of heads, limits, simple values and reasons.
 
 use cbor_head::{
     Head, Keys, Limits, Major, Reason, Refusal, Simple, Width, argument_bytes, head_laws,
@@ -7,8 +7,8 @@ use cbor_head::{
 use std::alloc::{AllocError, Global};
 use std::test::Fail;
 
-// The first and the last argument of each width, as the shortest head of an unsigned integer, and
-// other shortest heads; most are what items of RFC 8949, appendix A, begin with.
+// The first and the last argument of each width, as the shortest head of an unsigned integer, and other
+// shortest heads. Most of them begin an item of RFC 8949, appendix A.
 static SHORTEST: &str = r#"
 00 | Unsigned Direct 0
 17 | Unsigned Direct 23
@@ -36,13 +36,13 @@ f820 | Simple One 32 | simple(32)
 f8ff | Simple One 255 | simple(255)
 "#;
 
-// Heads that are longer than need be.
+// Heads that are longer than necessary.
 static LONGER: &str = "
 1800 | Unsigned One 0
 1b0000000000000017 | Unsigned Eight 23
 ";
 
-// What is no definite head.
+// Bytes that are not one definite head.
 static OTHERS: &str = "
 | nothing
 18 | no argument
@@ -73,7 +73,7 @@ fn row_of(alloc: Global, line: &'static str) -> Result<(Vec<u8>, &'static str), 
     Ok((hex::decode(alloc, digits.trim())?, column.trim()))
 }
 
-// Whether the bytes are read as the head that is reported so.
+// Whether the bytes are read as this head.
 fn is_read(alloc: Global, bytes: &[u8], reported: &str) -> Result<Option<Head>, AllocError> {
     let Some(head) = Head::read(bytes) else {
         return Ok(None);
@@ -133,7 +133,7 @@ fn argument_lengths(rt: HostRuntime) {
 
 #[test]
 fn arguments(rt: HostRuntime) -> Result<(), Fail> {
-    // The heads 17, 18ff, 190100, 1a00010000 and 1b0000000100000000 of RFC 8949, each with a byte behind it.
+    // The heads 17, 18ff, 190100, 1a00010000 and 1b0000000100000000 of RFC 8949, each with a byte after it.
     for (low, behind, width, number) in [
         (23, b"\x00".as_slice(), Width::Direct, 23),
         (24, b"\xff\x00".as_slice(), Width::One, 255),
@@ -162,7 +162,7 @@ fn arguments(rt: HostRuntime) -> Result<(), Fail> {
     Ok(())
 }
 
-// Initial bytes, and why no item begins with them where no container may open (RFC 8949, section 3).
+// Initial bytes, and why no item may begin with them if no container may open (RFC 8949, section 3).
 static INITIAL: [(u8, Option<Reason>); 14] = [
     (0x00, None),
     (0x1b, None),
@@ -287,7 +287,7 @@ fn reasons(rt: HostRuntime) -> Result<(), Fail> {
     assert!(rt; refusal == Refusal::new(Reason::Trailing, 1, 1));
     let text = format!(in rt.alloc(); "{refusal}")?;
     assert!(rt; text.as_str() == "12 Trailing at 1");
-    // A repeated key of one byte at 3.
+    // A repeated key of one byte, at offset 3.
     let key = Refusal::new(Reason::RepeatedKey, 3, 4);
     assert!(rt; key.reason == Reason::RepeatedKey && key.place == 3 && key.read == 4);
     Ok(())

@@ -1,4 +1,4 @@
-//! The machine against the tables of its format, and a caller of it.
+//! The machine against the tables, and a caller of it.
 
 ghost use Rattle.std.specs.Prelude.{◌≡◌, ◌≤◌, ◌<◌, length};
 ghost use Rattle.cbor_machine.specs.Machine.{IsMore};
@@ -19,7 +19,8 @@ use cbor_head::{Limits, Reason, Refusal, Width};
 use std::alloc::{AllocError, Global};
 use std::process::Abort;
 
-/// Gives all of some bytes to a machine, whatever events it reports. The answer is the last step's, with all that was used.
+/// Gives all of these bytes to a machine, whatever events it reports. Returns the last result, with the number of bytes
+/// used by all steps.
 fn feed(machine: &mut Machine, input: &[u8]) -> Step
     ensures used { result.used ≤ length input.now }
     ensures more { IsMore result.out → Goes machine.old machine.new input.now }
@@ -35,7 +36,7 @@ fn feed(machine: &mut Machine, input: &[u8]) -> Step
     }
 }
 
-// What came of bytes: the events, neighbouring pieces joined, the last answer, and how many bytes were taken.
+// The events, with neighbouring pieces joined, the last result, and the number of bytes consumed.
 #[derive(Debug, Drop, PartialEq)]
 struct Reported {
     events: Vec<Event>,
@@ -56,7 +57,7 @@ fn join(events: &mut Vec<Event>, event: Event) -> Result<(), AllocError> {
     Ok(())
 }
 
-// Gives bytes in parts of at most so many.
+// Gives the bytes in parts of at most `part` bytes.
 fn report(alloc: Global, limits: Limits, bytes: &[u8], part: usize) -> Result<Reported, AllocError>
     requires { 0 < part }
 {
@@ -82,9 +83,9 @@ fn limits(rt: &impl Abort, depth: u16, bytes: u64) -> Limits {
     Limits::new(depth, bytes).expect(rt, "limits in range")
 }
 
-// Gives bytes whole, one by one, and so to a machine that is saved between, and looks for what is
-// wanted of each.
-fn look_at_reported(rt: &impl Abort, alloc: Global, row: &Row) -> Result<(), AllocError> {
+// Gives the row's bytes at once, one by one, and one by one to a machine that is saved in between. Each time the row's
+// events and result are expected.
+fn check_row(rt: &impl Abort, alloc: Global, row: &Row) -> Result<(), AllocError> {
     let whole = report(alloc, row.limits, &row.bytes, usize::MAX)?;
     assert!(rt; whole == row.reported, "{}", row.line);
     let single = report(alloc, row.limits, &row.bytes, 1)?;
@@ -145,9 +146,9 @@ fn steps(rt: HostRuntime) {
     }
 }
 
-// A refusal is given again, and nothing more is used; the limit is answered whatever is offered.
+// A refusal is returned again, and nothing more is used. The byte limit is reported whatever follows.
 #[test]
-fn refusals_stay(rt: HostRuntime) {
+fn refusals_are_returned_again(rt: HostRuntime) {
     let mut machine = Machine::new(limits(&rt, 2, 4));
     assert!(rt; machine.step(&[0x81]).used == 1);
     let refused = step(1, refusal(Reason::StrayBreak, 1, 2));
@@ -156,7 +157,7 @@ fn refusals_stay(rt: HostRuntime) {
     assert!(rt; machine.step(&[0x00]) == again);
     assert!(rt; machine.taken() == 2);
 
-    // the first byte of [0] is all that may be taken
+    // the limit is the first byte of [0]
     let mut machine = Machine::new(limits(&rt, 2, 1));
     let head = event(0, Width::Direct, EventKind::Array(Some(1)));
     assert!(rt; machine.step(&[0x81, 0x00]) == step(1, Out::Event(head)));
@@ -166,16 +167,16 @@ fn refusals_stay(rt: HostRuntime) {
 }
 
 #[test]
-fn answers_what_the_tables_say(rt: HostRuntime) -> Result<(), AllocError> {
+fn matches_the_tables(rt: HostRuntime) -> Result<(), AllocError> {
     for table in [ACCEPTED, NOT_VALID, REFUSED, PREFIXES] {
         for row in &rows_of(&rt, rt.alloc(), table)? {
-            look_at_reported(&rt, rt.alloc(), row)?;
+            check_row(&rt, rt.alloc(), row)?;
         }
     }
     Ok(())
 }
 
-// However the bytes are cut, they are fed.
+// `feed` uses all bytes, however they are cut.
 #[test]
 fn feeds(rt: HostRuntime) {
     // [1, [_ 2, 3], [4, 5]]

@@ -1,4 +1,4 @@
--- The head that bytes begin with, by their first byte and the argument behind it.
+-- The head that bytes begin with, by their first byte and the argument after it.
 use Rattle.std.proofs.Common.{◌≡◌, ℕ, ◌+◌, ◌-◌, ◌*◌, ◌/◌, ◌%◌, ◌^◌, ◌<◌, ◌≤◌, List, [], ◌∷◌, ◌++◌, length, sym, ap, ◌∙◌, arith, length-append, subst}
 use Rattle.std.specs.Int.{bytes_high_first}
 use Rattle.byteorder.specs.Numbers.{length-bytes_high_first}
@@ -8,7 +8,7 @@ use Rattle.cbor_head.specs.{Argument.IsArgument, Read.major_of, declared.major.M
 use Rattle.cbor_head.{specs.declared.width.Width.Width, proofs.HeadBack.first_kept, proofs.HeadLaws.major_back}
 use Rattle.cbor_head.proofs.WholeHead.{head_holds, one_head}
 
--- what the first byte of a head is, and what stands behind it
+-- what the first byte of a head is, and what follows it
 record Begins (m : Major) (w : Width) (n : ℕ) (x : List ℕ) (first : ℕ) (behind : List ℕ) : Type 0 where
   low : ℕ
   low_is : low < 28
@@ -63,7 +63,7 @@ begins m w n x first behind h e = go w (head_holds m w n h) e
     }
     go Indefinite h e = absurd h
 
--- one argument behind the low bits
+-- one argument after the low bits
 one_argument : (low : ℕ) (behind : List ℕ) (v w : Width) (k n : ℕ) (x y : List ℕ) → IsArgument low behind v k x → IsArgument low behind w n y → (v ≡ w) × (k ≡ n) × (x ≡ y)
 one_argument low behind v w k n x y a b =
     let t = one_head Unsigned Unsigned v w k n x y a.holds b.holds (sym (a.spelled 0) ∙ b.spelled 0) in
@@ -82,7 +82,7 @@ no_bytes m Indefinite n e = cc e
 pub head_here : (first : ℕ) (behind : List ℕ) (w : Width) (n : ℕ) (rest : List ℕ) → first < 256 → IsArgument (first % 32) behind w n rest → first ∷ behind ≡ head (major_of (first / 32)) w n ++ rest
 head_here first behind w n rest small a = ap (λ (x : ℕ). x ∷ behind) (sym (first_kept first small)) ∙ a.spelled (32 * major_number (major_of (first / 32)))
 
--- a head stands at the start of some bytes: its argument is there, and is the only one
+-- some bytes begin with a head: its argument is complete, and it is the only one
 pub record ReadsHead (first : ℕ) (behind : List ℕ) (m : Major) (w : Width) (n : ℕ) (x : List ℕ) : Type 0 where
   pub type : first / 32 ≡ major_number m
   pub low : first % 32 < 28
@@ -100,6 +100,6 @@ reads_head first behind m w n x h e =
       only = λ v k y a. one_argument b.low behind v w k n y x (subst (λ (l : ℕ). IsArgument l behind v k y) low a) b.argument;
     }
 
--- it is the one that is read
+-- the two heads are the same
 pub same_parts : (first : ℕ) (m : Major) (v w : Width) (k n : ℕ) → first / 32 ≡ major_number m → v ≡ w → k ≡ n → head_parts (major_of (first / 32)) v k ≡ head_parts m w n
 same_parts first m v w k n high e f = let type : major_of (first / 32) ≡ m = ap major_of high ∙ major_back m in cc (type, e, f)

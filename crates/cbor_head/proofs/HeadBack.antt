@@ -1,4 +1,4 @@
--- What is read as a head is that head's spelling.
+-- What is read as a head is the encoding of that head.
 use Rattle.std.proofs.Common.{ℕ, zero, suc, ◌+◌, ◌*◌, ◌/◌, ◌%◌, ◌^◌, ◌≡◌, ◌<◌, ◌≤◌, ◌==◌, ◌⊎◌, inl, inr, Bool, true, false, cond, if◌then◌else◌, List, [], ◌∷◌, ◌++◌, length, take, drop, get_or, Option, Some, None, refl, sym, ap, ◌∙◌, arith, nat_le, nat_lt, subst, ltb-true, leb-true, eqb-true, append-nil, take-append-drop, length-take-le}
 use Rattle.std.{proofs.lemmas.List.nil_from_length, proofs.Math.Nat.mod-lt, proofs.lemmas.Nat.same_from_place, specs.Int.byte_at, specs.Int.bytes_high_first}
 use Rattle.byteorder.specs.Endian.{big_number, big_bytes, big_from}
@@ -8,7 +8,7 @@ use Rattle.cbor_head.specs.Read.{◌>>=◌, Prefix, prefix, major_of, numbered, 
 use Rattle.cbor_head.specs.declared.width.Width.TheVariants.{Direct, One, Two, Four, Eight, Indefinite}
 use Rattle.cbor_head.{specs.declared.major.Major.Major, specs.declared.width.Width.Width, proofs.HeadLaws.reported}
 
--- a list of bytes, by place
+-- a list of bytes, by index
 abbrev pub ByPlace : List ℕ → Type 0
 ByPlace xs = (i : ℕ) → get_or xs i 0 < 256
 
@@ -32,7 +32,7 @@ by_place-bytes : (n x : ℕ) → ByPlace (bytes_high_first n x)
 by_place-bytes zero x = λ i. omega arith
 by_place-bytes (suc n) x = by_place-cons (byte_at n x) (bytes_high_first n x) (byte_small n x) (by_place-bytes n x)
 
--- bytes of one number are the same
+-- bytes of the same length and number are the same
 same_number : (k : ℕ) (xs ys : List ℕ) → length xs ≡ k → length ys ≡ k → ByPlace xs → ByPlace ys → big_from 0 k xs ≡ big_from 0 k ys → xs ≡ ys
 same_number zero xs ys a b h i e = nil_from_length xs a ∙ sym (nil_from_length ys b)
 same_number (suc k) [] ys a b h i e = absurd (omega arith)

@@ -7,7 +7,7 @@ use Rattle.cbor_head.specs.Read.{prefix, major_of, numbered, with_low, read_head
 use Rattle.cbor_head.specs.declared.width.Width.TheVariants.{Direct, One, Two, Four, Eight, Indefinite}
 use Rattle.cbor_head.specs.declared.{major.Major.Major, major.Major.TheVariants.Unsigned, width.Width.Width}
 
--- the argument that a head reports: an opener reports none
+-- the argument that is read back from a head: 0 for an indefinite length
 abbrev pub reported : Width → ℕ → ℕ
 reported Indefinite n = 0
 reported _ n = n
@@ -26,7 +26,7 @@ high m low h = omega arith
 low_of : (m low : ℕ) → low < 32 → (32 * m + low) % 32 ≡ low
 low_of m low h = omega arith
 
--- the first byte reports the type and the low five bits
+-- the first byte has the type and the low five bits
 first : (m : Major) (low : ℕ) (bs : List ℕ) → low < 32 → read_head ((32 * major_number m + low) ∷ bs) ≡ with_low m low bs
 unfolding read_head
 first m low bs h = rw (high (major_number m) low h, low_of (major_number m) low h, major_back m) refl

@@ -5,7 +5,7 @@ use Rattle.cbor_head.specs.Prelude.{head, Holds, shortest, shortest_head, major_
 use Rattle.cbor_head.specs.declared.width.Width.TheVariants.{Direct, One, Two, Four, Eight, Indefinite}
 use Rattle.cbor_head.specs.declared.{major.Major.Major, width.Width.Width}
 
--- what is shortest, by size
+-- the shortest width, by the size of the argument
 data Size (n : ℕ) : Type 0 where
   direct : n < 24 → shortest n ≡ Direct → Size n
   one : 24 ≤ n → n < 2 ^ 8 → shortest n ≡ One → Size n
@@ -34,7 +34,7 @@ IsLeast m w n v = Holds v n × (length (head m v n) ≤ length (head m w n))
 least_at : (m : Major) (w : Width) (n : ℕ) → Holds w n → (v : Width) → shortest n ≡ v → Holds v n → length (head m v n) ≤ length (head m w n) → IsLeast m w n (shortest n)
 least_at m w n h v e a l = subst (IsLeast m w n) (sym e) (a, l)
 
--- how long a head is at least, by its argument
+-- the least length of a head, by its argument
 at_least : (m : Major) (w : Width) (n : ℕ) → Holds w n
     → (length (head m Direct n) ≤ length (head m w n)) × (24 ≤ n → length (head m One n) ≤ length (head m w n)) × (2 ^ 8 ≤ n → length (head m Two n) ≤ length (head m w n))
     × (2 ^ 16 ≤ n → length (head m Four n) ≤ length (head m w n)) × (2 ^ 32 ≤ n → length (head m Eight n) ≤ length (head m w n)) × (n < 2 ^ 64)

@@ -24,7 +24,7 @@ head_reads m w n x h =
 some_prefix : {f g : Prefix} → Some f ≡ Some g → f ≡ g
 some_prefix e = cc e
 
--- two definite heads that bytes begin with are one
+-- two definite heads that bytes begin with are the same
 pub one_head : (l m : Major) (v w : Width) (k n : ℕ) (x y : List ℕ) → IsHead l v k → IsHead m w n → head l v k ++ x ≡ head m w n ++ y → (l ≡ m) × (v ≡ w) × (k ≡ n) × (x ≡ y)
 one_head l m v w k n x y g h e =
     let same : prefix l v k x ≡ prefix m w n y = some_prefix (sym (head_reads l v k x g) ∙ ap read_head e ∙ head_reads m w n y h) in

@@ -2,7 +2,7 @@
 use Rattle.std.specs.Prelude.{ℕ, ◌≡◌, ◌+◌, List, ◌∷◌, ◌++◌}
 use Rattle.cbor_head.specs.{Head.Holds, Head.with_argument, declared.width.Width.Width}
 
--- behind the low five bits of a first byte stands this argument, and then the rest
+-- after the low five bits of a first byte comes this argument, and then the rest
 pub record IsArgument (low : ℕ) (behind : List ℕ) (w : Width) (n : ℕ) (rest : List ℕ) : Type 0 where
   pub spelled : (first : ℕ) → (first + low) ∷ behind ≡ with_argument w first n ++ rest
   pub holds : Holds w n

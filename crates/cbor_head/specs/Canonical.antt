@@ -4,17 +4,17 @@ use Rattle.cbor_head.specs.Value.{Value, Values, Entries, unsigned, negative, by
 use Rattle.cbor_head.specs.declared.major.Major.TheVariants.{Unsigned, Negative, Bytes, Text, Array, Map, Tag, Simple}
 use Rattle.cbor_head.specs.{Head.shortest_head, Order.key_lt, declared.order.KeyOrder.KeyOrder}
 
--- an encoded key, and the encoded value behind it
+-- an encoded key, and the encoded value after it
 pub record Pair : Type 0 where
   pub key : List ℕ
   pub value : List ℕ
 
--- put before the first pair whose key comes after its own
+-- a pair inserted before the first pair whose key comes after its own
 abbrev pub put : KeyOrder → Pair → List Pair → List Pair
 put o p [] = p ∷ []
 put o p (q ∷ qs) = if key_lt o p.key q.key then p ∷ q ∷ qs else q ∷ put o p qs
 
--- the pairs in rising order of their keys: the one such list, where no two keys are equal
+-- the pairs in rising order of their keys: the only such list, if no two keys are equal
 abbrev pub in_order : KeyOrder → List Pair → List Pair
 in_order o [] = []
 in_order o (p ∷ ps) = put o p (in_order o ps)

@@ -8,7 +8,7 @@ use Rattle.cbor_head.specs.{Head.head, Head.shortest, Value.Same, Value.IsIntege
 use Rattle.cbor_head.specs.declared.{keys.Keys.TheVariants.IntegersAndTexts, order.KeyOrder.KeyOrder, major.Major.Major, width.Width.Width}
 use Rattle.cbor_head.specs.declared.{width.Width.TheVariants.Indefinite, reason.Reason.Reason}
 
--- what is asked of the keys of a map
+-- what a rule requires of the keys of a map
 pub data KeyRule : Type 0 where
   unasked : KeyRule
   -- that no two are the same
@@ -38,21 +38,21 @@ plain = record { texts = true; heads = false; keys = distinct; kinds = true }
 abbrev pub strict : KeyOrder → Rules
 strict o = record { texts = true; heads = true; keys = rising o; kinds = true }
 
--- a fault of an item: where it ends, its place and its reason
+-- what is wrong with an item: where it ends, its offset and its reason
 pub record Complaint : Type 0 where
   pub end : ℕ
   pub place : ℕ
   pub reason : Reason
 
--- a complaint, by end, place and reason
+-- a complaint, from its end, offset and reason
 abbrev pub complaint : ℕ → ℕ → Reason → Complaint
 complaint end place reason = record { end = end; place = place; reason = reason }
 
--- a definite head, at a place, that is not the shortest (section 4.2.1)
+-- a definite head, at an offset, that is not the shortest (section 4.2.1)
 abbrev pub OfHead : Rules → ℕ → Major → Width → ℕ → Complaint → Type 0
 OfHead r at major w n c = IsTrue r.heads × (w ≢ shortest n) × (c ≡ complaint (at + length (head major w n)) at NotShortest)
 
--- an opener without length (section 4.2.1)
+-- an indefinite length (section 4.2.1)
 abbrev pub OfIndefinite : Rules → ℕ → Complaint → Type 0
 OfIndefinite r at c = IsTrue r.heads × (c ≡ complaint (at + 1) at IndefiniteReason)
 
@@ -61,33 +61,33 @@ abbrev pub OfCount : Rules → ℕ → Major → Width → ℕ → Complaint →
 OfCount r at major Indefinite n c = OfIndefinite r at c
 OfCount r at major w n c = OfHead r at major w n c
 
--- a payload, at a place, that is not UTF-8 (section 3.1); its place is behind the longest prefix that is
+-- a payload, at an offset, that is not UTF-8 (section 3.1); the complaint's offset is after the longest prefix that is UTF-8
 abbrev pub OfPayload : Rules → ℕ → List ℕ → Complaint → Type 0
 OfPayload r at payload c = IsTrue r.texts × ¬ IsUtf8 payload × (c ≡ complaint (at + length payload) (at + utf8_valid_len payload) InvalidText)
 
--- a definite string, or a chunk, at a place
+-- a definite string, or a chunk, at an offset
 abbrev pub OfString : Rules → ℕ → Major → Width → List ℕ → Complaint → Type 0
 OfString r at Text w payload c = OfHead r at Text w (length payload) c ⊎ OfPayload r (at + length (head Text w (length payload))) payload c
 OfString r at major w payload c = OfHead r at major w (length payload) c
 
--- the chunks from a place on
+-- the chunks from an offset on
 abbrev pub OfChunks : Rules → ℕ → Major → List Chunk → Complaint → Type 0
 OfChunks r at major [] c = ⊥
 OfChunks r at major (k ∷ ks) c = OfString r at major k.width k.payload c ⊎ OfChunks r (at + length (chunk_bytes major k)) major ks c
 
--- a key before k is the same (section 5.6)
+-- one of the keys before k is the same (section 5.6)
 abbrev pub IsRepeated : List Spelling → Spelling → Type 0
 IsRepeated [] k = ⊥
 IsRepeated (b ∷ bs) k = Same (value_of b) (value_of k) ⊎ IsRepeated bs k
 
--- a key at a place, where these keys stand before it, the nearest first (sections 5.6 and 4.2.1)
+-- a key at an offset, after these keys of its map, the nearest first (sections 5.6 and 4.2.1)
 abbrev pub OfKey : KeyRule → ℕ → List Spelling → Spelling → Complaint → Type 0
 OfKey unasked at before k c = ⊥
 OfKey distinct at before k c = IsRepeated before k × (c ≡ complaint (at + length (spell k)) at RepeatedKey)
 OfKey (rising o) at [] k c = ⊥
 OfKey (rising o) at (b ∷ bs) k c = ¬ IsTrue (key_lt o (spell b) (spell k)) × (c ≡ complaint (at + length (spell k)) at KeyOrderReason)
 
--- s, at a place, has this complaint; one on the kind of a key is distinguished, by OfKinds
+-- s, at an offset, has this complaint; OfKinds has the complaints on the kind of a key
 abbrev mutual
   pub Complains : Rules → ℕ → Spelling → Complaint → Type 0
   Complains r at (unsigned w n) c = OfHead r at Unsigned w n c
@@ -101,19 +101,19 @@ abbrev mutual
   Complains r at (tag w n s) c = OfHead r at Tag w n c ⊎ Complains r (at + length (head Tag w n)) s c
   Complains r at (simple n) c = ⊥
 
-  -- members from a place on
+  -- members from an offset on
   pub ComplainsIn : Rules → ℕ → Spellings → Complaint → Type 0
   ComplainsIn r at no_spellings c = ⊥
   ComplainsIn r at (a_spelling s ss) c = Complains r at s c ⊎ ComplainsIn r (at + length (spell s)) ss c
 
-  -- pairs from a place on, behind these keys
+  -- pairs from an offset on, after these keys
   pub ComplainsInEntries : Rules → ℕ → List Spelling → SpelledEntries → Complaint → Type 0
   ComplainsInEntries r at before no_entries c = ⊥
   ComplainsInEntries r at before (entry k v es) c =
       Complains r at k c ⊎ OfKey r.keys at before k c ⊎ Complains r (at + length (spell k)) v c
       ⊎ ComplainsInEntries r (at + length (spell k) + length (spell v)) (k ∷ before) es c
 
--- s, at a place, has this complaint on a key that is neither an integer nor a text: it ends with the key's first byte
+-- s, at an offset, has this complaint on a key that is neither an integer nor a text: it ends with the key's first byte
 abbrev mutual
   pub OfKinds : ℕ → Spelling → Complaint → Type 0
   OfKinds at (array w ss) c = OfKindsIn (at + length (head Array w (spellings_count ss))) ss c

@@ -29,7 +29,7 @@ major_number Map = 5
 major_number Tag = 6
 major_number Simple = 7
 
--- the bytes of a head: the first byte, with the low five bits added, and the argument behind it, most significant byte first
+-- the bytes of a head: the first byte, with the low five bits added, and the argument after it, most significant byte first
 abbrev pub with_argument : Width → ℕ → ℕ → List ℕ
 with_argument Direct first n = (first + n) ∷ []
 with_argument One first n = (first + 24) ∷ big_bytes 1 n
@@ -38,7 +38,7 @@ with_argument Four first n = (first + 26) ∷ big_bytes 4 n
 with_argument Eight first n = (first + 27) ∷ big_bytes 8 n
 with_argument Indefinite first n = (first + 31) ∷ []
 
--- a head's bytes; of an indefinite one, the opener alone
+-- a head's bytes; for an indefinite length, the initial byte only
 abbrev pub head : Major → Width → ℕ → List ℕ
 head major width n = with_argument width (32 * major_number major) n
 

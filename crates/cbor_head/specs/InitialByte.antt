@@ -4,7 +4,7 @@ use Rattle.cbor_head.specs.declared.reason.Reason.TheVariants.{Reserved, NoIndef
 use Rattle.cbor_head.specs.declared.reason.Reason.TheVariants.{StrayBreak, TooDeep}
 use Rattle.cbor_head.specs.declared.reason.Reason.{Reason}
 
--- a first byte that no item may have, where one more array, map or tag may open or not, and why
+-- why no item may begin with this byte; the flag says whether one more array, map or tag may open
 abbrev pub IsInitialByteError : ℕ → Bool → Reason → Type 0
 IsInitialByteError first space Reserved = (28 ≤ first % 32) × (first % 32 < 31)
 IsInitialByteError first space NoIndefinite = (first % 32 ≡ 31) × ((first < 64) ⊎ ((192 ≤ first) × (first < 224)))

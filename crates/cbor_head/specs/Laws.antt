@@ -1,4 +1,4 @@
--- Words of the laws of the model: items and complaints at the start of bytes (RFC 8949, sections 3 and 5.3.1).
+-- Definitions for the laws of the model: items and complaints at the start of bytes (RFC 8949, sections 3 and 5.3.1).
 use Rattle.std.specs.Prelude.{ℕ, ◌≡◌, ◌≤◌, ◌++◌, List, take}
 use Rattle.cbor_head.specs.Complaint.{Rules, Complaint, IsComplaint}
 use Rattle.cbor_head.specs.Spelling.{Spelling, IsSpelled, IsItem, spell, depth}
@@ -13,7 +13,7 @@ IsAtStart d b s rest = IsSpelled s × (depth s ≤ d) × (spell s ++ rest ≡ b)
 abbrev pub StartsWith : ℕ → Spelling → List ℕ → Type 0
 StartsWith d s p = (rest : List ℕ) × IsItem d s (p ++ rest)
 
--- the first bytes of the input, as many as the limit allows, begin with the item s, well-formed within the depth, that has no complaint
+-- the first bytes of the input, up to the byte limit, begin with the item s, well-formed within the depth, that has no complaint
 abbrev pub IsPrefixWithoutComplaint : Bounds → Rules → List ℕ → Spelling → Type 0
 IsPrefixWithoutComplaint limits rules input s = (rest : List ℕ) × IsAtStart limits.depth (take limits.bytes input) s rest × ((c : Complaint) → IsComplaint limits rules s c → ⊥)
 
@@ -25,6 +25,6 @@ IsFirstComplaint limits rules s t c = IsFirstOf (IsComplaint limits rules s) t c
 abbrev pub IsWithout : Bounds → Rules → Spelling → ℕ → Type 0
 IsWithout limits rules s t = HasNoneOf (IsComplaint limits rules s) t
 
--- what an item that starts with p has answered, by its complaints
+-- the answer that an item starting with p decides, from its complaints
 abbrev pub Decides : Bounds → Rules → List ℕ → List ℕ → Spelling → Answer → Type 0
 Decides limits rules p behind s x = DecidesBy (IsComplaint limits rules) limits p behind s x

@@ -4,7 +4,7 @@ use Rattle.std.specs.Ordering.{nat_cmp, then_cmp, on, is_lt}
 use Rattle.std.specs.{declared.cmp.Ordering.Ordering, Cmp.Lexicographic.slice_cmp}
 use Rattle.cbor_head.specs.declared.order.KeyOrder.{KeyOrder, TheVariants.Bytewise, TheVariants.LengthFirst}
 
--- Bytewise: lexicographic, a beginning before what it begins. LengthFirst: fewer bytes first, then bytewise.
+-- Bytewise: lexicographic, a proper prefix first. LengthFirst: fewer bytes first, then bytewise.
 abbrev pub key_cmp : KeyOrder → List ℕ → List ℕ → Ordering
 key_cmp Bytewise = slice_cmp nat_cmp
 key_cmp LengthFirst = then_cmp (on length nat_cmp) (slice_cmp nat_cmp)

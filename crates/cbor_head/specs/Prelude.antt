@@ -1,5 +1,5 @@
--- The names of this crate that its callers cite, passed on from one place. Declares nothing.
--- A value and its spelling have constructors of the same names: those here are the spelling's.
+-- The names of this crate that its callers cite, re-exported. Declares nothing. A value and its encoding have
+-- constructors of the same names: those here are of the encoding, Spelling.
 pub use Rattle.cbor_head.specs.Limits.{Bounds, bounds, with_keys, AreBounds}
 pub use Rattle.cbor_head.specs.Head.{IsSimple, Holds, major_number, with_argument, head, shortest, shortest_head, IsHead, head_parts}
 pub use Rattle.cbor_head.specs.Value.{Value, map, Values, no_values, a_value, Entries, values_count, HasEntry, AnyEntry, Same, SameValues, Covered, Covers, AreBytes, IsInRange, AreInRange, AreEntriesInRange, HasDistinctKeys, IsValid, AreValid, AreEntriesValid, IsIntegerOrText, HasBasicKeys, HaveBasicKeys, EntriesHaveBasicKeys}

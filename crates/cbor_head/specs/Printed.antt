@@ -3,7 +3,6 @@ use Rattle.std.specs.Prelude.{ℕ, List, ◌++◌, codes, decimal}
 use Rattle.cbor_head.specs.declared.reason.Reason.TheVariants.{Truncated, TooLong, Reserved, NoIndefinite, Float, BadSimple, StrayBreak, BadChunk, TooDeep, InvalidText, RepeatedKey, Trailing, CanonicalTooLong, NotShortest, Indefinite, KeyOrder, Read, Write, Memory, KeyKind}
 use Rattle.cbor_head.specs.{Reason.reason_number, declared.reason.Reason.Reason, declared.reason.Refusal.Refusal}
 
--- the name of a reason
 abbrev pub reason_name : Reason → List ℕ
 reason_name Truncated = codes "Truncated"
 reason_name TooLong = codes "TooLong"
@@ -26,6 +25,6 @@ reason_name Write = codes "Write"
 reason_name Memory = codes "Memory"
 reason_name KeyKind = codes "KeyKind"
 
--- the number of the reason, its name, and the place
+-- the number of the reason, its name, and the offset
 abbrev pub refusal_text : Refusal → List ℕ
 refusal_text r = decimal (reason_number r.reason) ++ codes " " ++ reason_name r.reason ++ codes " at " ++ decimal r.place

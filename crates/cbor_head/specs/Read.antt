@@ -12,7 +12,7 @@ abbrev pub ◌>>=◌ : {A B : Type 0} → Option A → (A → Option B) → Opti
 None >>= f = None
 (Some x) >>= f = f x
 
--- f of the value, or o where there is none
+-- f of the value, or o if there is none
 abbrev pub either : {A B : Type 0} → B → (A → B) → Option A → B
 either o f None = o
 either o f (Some x) = f x
@@ -28,7 +28,7 @@ pub record Prefix : Type 0 where
 abbrev pub prefix : Major → Width → ℕ → List ℕ → Prefix
 prefix m w n rest = record { major = m; width = w; argument = n; rest = rest }
 
--- the type that the high three bits report
+-- the type with the number in the high three bits
 abbrev pub major_of : ℕ → Major
 major_of n = if n == 0 then Unsigned else if n == 1 then Negative else if n == 2 then Bytes else if n == 3 then Text else if n == 4 then Array else if n == 5 then Map else if n == 6 then Tag else Simple
 
@@ -36,7 +36,7 @@ major_of n = if n == 0 then Unsigned else if n == 1 then Negative else if n == 2
 abbrev pub numbered : Major → Width → ℕ → List ℕ → Option Prefix
 numbered m w k bs = if nat_le k (length bs) then Some (prefix m w (big_number k bs) (drop k bs)) else None
 
--- the head that the low five bits report, with the bytes behind the first
+-- the head with this type and these low five bits in its initial byte, read from the bytes after that byte
 abbrev pub with_low : Major → ℕ → List ℕ → Option Prefix
 with_low m low bs =
     if nat_lt low 24 then Some (prefix m Direct low bs)
@@ -60,11 +60,11 @@ payload n bs f = if nat_le n (length bs) then Some (f (take n bs), drop n bs) el
 abbrev pub is_break : Prefix → Bool
 is_break h = elim h.width [ Indefinite ↦ (elim h.major [ Simple ↦ true | _ ↦ false ]) | _ ↦ false ]
 
--- whether two types are one
+-- whether two types are the same
 abbrev pub same_major : Major → Major → Bool
 same_major m n = major_number m == major_number n
 
--- a chunk behind its head
+-- a chunk after its head
 abbrev pub chunk : Width → ℕ → List ℕ → Option (Chunk × List ℕ)
 chunk Indefinite n bs = None
 chunk w n bs = payload n bs (λ p. record { width = w; payload = p })
@@ -93,7 +93,7 @@ abbrev pub read_pairs : Reader → ℕ → List ℕ → Option (SpelledEntries �
 read_pairs one zero bs = Some (no_entries, bs)
 read_pairs one (suc k) bs = one bs >>= λ s. one s.1 >>= λ v. read_pairs one k v.1 >>= λ es. Some (entry s.0 v.0 es.0, es.1)
 
--- behind the break
+-- after the break
 abbrev pub past_break : List ℕ → Option (List ℕ)
 past_break bs = read_head bs >>= λ h. if is_break h then Some h.rest else None
 
@@ -107,7 +107,7 @@ abbrev pub read_pairs_until : Reader → ℕ → List ℕ → Option (SpelledEnt
 read_pairs_until one zero bs = None
 read_pairs_until one (suc k) bs = either (past_break bs >>= λ rest. Some (no_entries, rest)) (λ s. one s.1 >>= λ v. read_pairs_until one k v.1 >>= λ es. Some (entry s.0 v.0 es.0, es.1)) (one bs)
 
--- behind a head, what has no items inside
+-- after a head, an item without items inside
 abbrev pub leaf : Major → Width → ℕ → Reader
 leaf Unsigned Indefinite n bs = None
 leaf Unsigned w n bs = Some (unsigned w n, bs)
@@ -121,7 +121,7 @@ leaf Simple Direct n bs = Some (simple n, bs)
 leaf Simple One n bs = if nat_le 32 n then Some (simple n, bs) else None
 leaf _ _ n bs = None
 
--- behind a head, what has items inside
+-- after a head, an item with items inside
 abbrev pub container_stack : Reader → Major → Width → ℕ → Reader
 container_stack one Array Indefinite n bs = read_until one (length bs) bs >>= λ ss. Some (array Indefinite ss.0, ss.1)
 container_stack one Array w n bs = read_many one n bs >>= λ ss. Some (array w ss.0, ss.1)
@@ -131,7 +131,7 @@ container_stack one Tag Indefinite n bs = None
 container_stack one Tag w n bs = one bs >>= λ s. Some (tag w n s.0, s.1)
 container_stack one _ w n bs = None
 
--- the first of two that is there
+-- the first of two, if it exists, or else the second
 abbrev pub or_else : {A : Type 0} → Option A → Option A → Option A
 or_else None o = o
 or_else (Some x) o = Some x

@@ -3,7 +3,6 @@ use Rattle.std.specs.Prelude.{ℕ}
 use Rattle.cbor_head.specs.declared.reason.Reason.TheVariants.{Truncated, TooLong, Reserved, NoIndefinite, Float, BadSimple, StrayBreak, BadChunk, TooDeep, InvalidText, RepeatedKey, Trailing, CanonicalTooLong, NotShortest, Indefinite, KeyOrder, Read, Write, Memory, KeyKind}
 use Rattle.cbor_head.specs.declared.reason.Reason.{Reason}
 
--- the number of a reason
 abbrev pub reason_number : Reason → ℕ
 reason_number Truncated = 1
 reason_number TooLong = 2

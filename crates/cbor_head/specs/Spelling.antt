@@ -1,4 +1,4 @@
--- How a value is spelled in bytes (RFC 8949, section 3).
+-- How a value is encoded in bytes (RFC 8949, section 3).
 use Rattle.std.specs.Prelude.{ℕ, suc, max, ◌≡◌, ◌≤◌, ◌++◌, List, [], ◌∷◌, length, flat_map}
 use Rattle.std.specs.List.{AllByRecursion}
 use Rattle.cbor_head.specs.Head.{Holds, IsSimple, head, shortest}
@@ -12,7 +12,7 @@ pub record Chunk : Type 0 where
   pub width : Width
   pub payload : List ℕ
 
--- an item with the width of each head. Indefinite is the width of what has no length. A simple value has one spelling.
+-- an item with the width of each head. The width of an item of indefinite length is Indefinite. A simple value has one encoding.
 mutual
   pub data Spelling : Type 0 where
     unsigned : Width → ℕ → Spelling
@@ -44,7 +44,7 @@ abbrev pub entries_count : SpelledEntries → ℕ
 entries_count no_entries = 0
 entries_count (entry k v es) = suc (entries_count es)
 
--- the break, where there is no length (section 3.2.1)
+-- the break, if the length is indefinite (section 3.2.1)
 abbrev pub break_of : Width → List ℕ
 break_of Indefinite = 0xff ∷ []
 break_of _ = []
@@ -61,7 +61,7 @@ chunk_bytes major c = string_bytes_of major c.width c.payload
 abbrev pub chunked : Major → List Chunk → List ℕ
 chunked major cs = head major Indefinite 0 ++ flat_map (chunk_bytes major) cs ++ 0xff ∷ []
 
--- the bytes of a spelling
+-- the bytes of an encoding
 abbrev mutual
   pub spell : Spelling → List ℕ
   spell (unsigned w n) = head Unsigned w n
@@ -87,12 +87,12 @@ abbrev mutual
 abbrev pub IsChunk : Chunk → Type 0
 IsChunk c = Holds c.width (length c.payload) × AreBytes c.payload
 
--- a count that the width holds, or no length at all
+-- a count that the width holds, or an indefinite length
 abbrev pub HoldsOrIndefinite : Width → ℕ → Type 0
 HoldsOrIndefinite Indefinite n = Unit {0}
 HoldsOrIndefinite w n = Holds w n
 
--- each width holds its argument, and each simple value is one
+-- each width holds its argument, and the number of each simple value exists
 abbrev mutual
   pub IsSpelled : Spelling → Type 0
   IsSpelled (unsigned w n) = Holds w n
@@ -134,7 +134,7 @@ abbrev mutual
 abbrev pub chunks_joined : List Chunk → List ℕ
 chunks_joined cs = flat_map (λ c. c.payload) cs
 
--- the value that a spelling stands for
+-- the value of an encoding
 abbrev mutual
   pub value_of : Spelling → Value
   value_of (unsigned w n) = value.unsigned n

@@ -4,7 +4,7 @@ use Rattle.std.specs.List.{AllByRecursion}
 use Rattle.cbor_head.specs.Head.{IsSimple}
 
 mutual
-  -- an item without its spelling. Negative n is the number -1 - n. A text is the list of its bytes.
+  -- an item without its encoding. Negative n is the number -1 - n. A text is the list of its bytes.
   pub data Value : Type 0 where
     unsigned : ℕ → Value
     negative : ℕ → Value
@@ -38,12 +38,12 @@ abbrev pub HasEntry : Entries → Value → Value → Type 0
 HasEntry no_entries k v = ⊥
 HasEntry (entry k' v' es) k v = ((k ≡ k') × (v ≡ v')) ⊎ HasEntry es k v
 
--- some pair has a key that K holds of and a value that V holds of
+-- some pair has a key for which K holds and a value for which V holds
 abbrev pub AnyEntry : (Value → Type 0) → (Value → Type 0) → Entries → Type 0
 AnyEntry K V no_entries = ⊥
 AnyEntry K V (entry k v es) = (K k × V v) ⊎ AnyEntry K V es
 
--- Equal kind and equal numbers or bytes; arrays place by place; maps where each pair of either has a pair of the other
+-- Equal kind and equal numbers or bytes; arrays member by member; maps where each pair of either has a pair of the other
 -- with the same key and the same value.
 abbrev mutual
   pub Same : Value → Value → Type 0
@@ -76,8 +76,8 @@ abbrev mutual
 abbrev pub AreBytes : List ℕ → Type 0
 AreBytes bs = AllByRecursion (λ b. b < 256) bs
 
--- What makes a value one: numbers are below 2^64, bytes are bytes, a simple value's number is one (section 3.3). And counts
--- of bytes, members and pairs are below 2^64, so that a head can report them.
+-- In range: numbers are below 2^64, bytes are below 256, and the number of a simple value exists (section 3.3). Counts of
+-- bytes, members and pairs are below 2^64, so that a head can hold them.
 abbrev mutual
   pub IsInRange : Value → Type 0
   IsInRange (unsigned n) = n < 2 ^ 64
@@ -126,7 +126,7 @@ IsIntegerOrText (negative n) = Unit {0}
 IsIntegerOrText (text s) = Unit {0}
 IsIntegerOrText _ = ⊥
 
--- each key, at every depth, is one
+-- each key, at every depth, is an integer or a text
 abbrev mutual
   pub HasBasicKeys : Value → Type 0
   HasBasicKeys (array vs) = HaveBasicKeys vs

@@ -9,17 +9,17 @@ use byteorder::{BigEndian, ByteOrder};
 /// The argument of a head, and what follows it.
 #[derive(Clone, Copy, Debug)]
 pub struct Argument<'a> {
-    /// How the argument is spelled. It is not `Indefinite`.
+    /// How the argument is encoded. It is not `Indefinite`.
     pub width: Width,
     /// The argument.
     pub number: u64,
-    /// The bytes behind the head.
+    /// The bytes after the head.
     pub rest: &'a [u8],
 }
 
 /// Reads the argument of a head from the additional information, the low five bits of its initial
-/// byte, and the bytes behind that byte (RFC 8949, section 3). None for additional information above
-/// 27, and if the argument is cut off.
+/// byte, and the bytes after that byte (RFC 8949, section 3). Returns `None` for additional
+/// information above 27, or if the argument is truncated.
 ///
 /// ```
 /// // the head 19 03e8, and one byte more

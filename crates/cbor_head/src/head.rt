@@ -12,8 +12,8 @@ use arrayvec::ArrayVec;
 use byteorder::{BigEndian, ByteOrder};
 use std::marker::Model;
 
-/// A definite head: a type, an argument, and a width that has space for it. A simple value has its
-/// shortest head alone (RFC 8949, section 3).
+/// A definite head: a type, an argument, and a width that has space for it. A simple value has only
+/// its shortest head (RFC 8949, section 3).
 #[derive(Clone, Copy, Debug, PartialEq, Eq)]
 pub struct Head {
     major: Major,
@@ -32,11 +32,11 @@ impl Model for Head {
 }
 
 impl Head {
-    /// The definite head that the whole slice is (RFC 8949, section 3). None for all else: a part
-    /// of a head, a head and more, an opener of indefinite length, the break, additional
-    /// information 28 to 30, a float, and a simple value below 32 in a second byte.
+    /// The head, if the whole slice is one definite head (RFC 8949, section 3). Returns `None` for
+    /// anything else: a part of a head, a head with bytes after it, a head of indefinite length, the
+    /// break, additional information 28 to 30, a float, or a simple value below 32 in a second byte.
     pub fn read(bytes: &[u8]) -> Option<Head>
-        // The bytes are those of what is answered.
+        // These are the bytes of the head that is returned.
         ensures found { IfSome result (λ h. bytes.now ≡ head h.major h.width h.argument) }
         // That is a head.
         ensures head { IfSome result (λ h. IsHead h.major h.width h.argument) }
@@ -96,7 +96,7 @@ impl Head {
         self.major
     }
 
-    /// How the argument is spelled.
+    /// How the argument is encoded.
     pub fn width(&self) -> Width
         ensures { result ≡ self.now.width }
     {
@@ -129,7 +129,7 @@ pub fn argument_bytes(first: u8) -> u8
     }
 }
 
-// The first byte of a head, and the argument behind it.
+// The first byte of a head, and the argument after it.
 fn joined(first: u8, argument: &[u8]) -> ArrayVec<u8, 9>
     requires { length argument.now ≤ 8 }
     ensures { result.items ≡ first ∷ argument.now }
@@ -141,7 +141,8 @@ fn joined(first: u8, argument: &[u8]) -> ArrayVec<u8, 9>
     bytes
 }
 
-// Whether it is a definite head of an item: no float, and no simple value below 32 in a second byte.
+// Whether it is a definite head of an item: neither a float nor a simple value below 32 in a second
+// byte.
 fn is_head(major: Major, width: Width, argument: u64) -> bool
     requires { Holds width argument }
     ensures { IsTrue result ↔ IsHead major width argument }

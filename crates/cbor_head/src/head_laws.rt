@@ -7,8 +7,8 @@ ghost use Rattle.cbor_head.specs.declared.width.Width.{Width};
 
 use crate::Head;
 
-/// A byte list begins with at most one definite head. So no two have the same bytes, and no head's
-/// bytes are a proper beginning of another's.
+/// A byte list begins with at most one definite head. So no two heads have the same bytes, and no
+/// head's bytes are a proper prefix of another's.
 pub fn one_head()
     ensures { (l m : Major) (v w : Width) (k n : ℕ) (x y : List ℕ)
         → IsHead l v k → IsHead m w n → head l v k ++ x ≡ head m w n ++ y

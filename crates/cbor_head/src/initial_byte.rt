@@ -6,8 +6,8 @@ ghost use Rattle.cbor_head.specs.Verdict.{initial_reason};
 
 use crate::Reason;
 
-/// Why no item may begin with this byte, if an array, a map or a tag may still open (`space`) or not;
-/// `None` if one may (RFC 8949, section 3 and appendix F).
+/// Returns why no item may begin with this byte, or `None` if one may (RFC 8949, section 3 and
+/// appendix F). `space` says whether the depth limit lets one more array, map or tag open.
 ///
 /// ```
 /// assert_eq!(rt; initial_byte_error(0x81, true), None);
@@ -22,8 +22,7 @@ pub fn initial_byte_error(first: u8, space: bool) -> Option<Reason>
     Some(initial_byte_reason(first))
 }
 
-/// Why this byte does not stand where an item is expected, if it does not. A byte that begins an
-/// array, a map or a tag is `TooDeep`, and so is each that begins another item.
+/// Why an item cannot begin with this byte. For a byte that begins an item it is `TooDeep`.
 pub fn initial_byte_reason(first: u8) -> Reason
     ensures { result ≡ initial_reason first }
 {

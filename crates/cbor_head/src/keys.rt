@@ -5,6 +5,6 @@
 pub enum Keys {
     /// Every item (RFC 8949, section 3.1).
     Any,
-    /// Integers, and texts in one piece or in chunks.
+    /// Integers and text strings. A text string may be in chunks.
     IntegersAndTexts,
 }

@@ -1,16 +1,16 @@
-//! Heads of CBOR items, limits and refusals (RFC 8949, section 3), with the definitions that every contract cites.
+//! Heads of CBOR items, events, limits and refusals (RFC 8949, section 3), with the definitions that every contract cites.
 //!
-//! Users and every other crate here call it. [`Head`] is a head, [`Limits`] bounds an item, [`Refusal`] says why bytes are
-//! not accepted and at which offset.
+//! Users and all other crates here use it. [`Head`] is a head, [`Event`] is what is reported of an item, [`Limits`] bounds
+//! an item, [`Refusal`] says why bytes are not accepted and at which offset.
 //!
 //! An item begins with a head: the major type in the high three bits of the initial byte, the additional information in its
 //! low five bits, and then up to eight bytes of argument:
 //!
 //! ```text
-//!  0x19         0x03 0xe8
-//! +-----+-----+-----------+
-//! | 000 | 11001 | argument |     unsigned, width Two, argument 1000
-//! +-----+-----+-----------+
+//!  0x19          0x03 0xe8
+//! +-----+-------+-----------+
+//! | 000 | 11001 | argument  |    unsigned, width Two, argument 1000
+//! +-----+-------+-----------+
 //! ```
 //!
 //! ```
@@ -19,10 +19,11 @@
 //! assert_eq!(rt; head.bytes().as_slice(), b"\x82");
 //! ```
 //!
-//! The laws of heads are in [`head_laws`], those of items and verdicts in `cbor_model`.
+//! The laws of heads are in [`head_laws`], those of items and verdicts in `theory_values`.
 #![tactic(auto)]
 
 mod argument;
+mod event;
 mod head;
 pub mod head_laws;
 mod initial_byte;
@@ -35,6 +36,7 @@ mod simple;
 mod width;
 
 pub use argument::{Argument, read_argument};
+pub use event::{Event, EventKind};
 pub use head::{Head, argument_bytes};
 pub use initial_byte::{initial_byte_error, initial_byte_reason};
 pub use keys::Keys;

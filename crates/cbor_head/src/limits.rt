@@ -6,14 +6,14 @@ ghost use Rattle.cbor_head.specs.Limits.{Bounds, bounds, with_keys, AreBounds};
 use crate::Keys;
 use std::marker::Model;
 
-/// How deep the arrays, maps and tags of an item may nest, whatever its limits.
+/// The greatest depth limit: arrays, maps and tags never nest deeper.
 pub const MAX_DEPTH: u16 = 1024;
 
 /// The limits on one item: how deep its arrays, maps and tags may nest, from 0 to 1024, how many
 /// bytes it may have, from 0 to 2^62, and which kinds of keys its maps may have.
 #[derive(Clone, Copy, Debug, PartialEq, Eq)]
 pub struct Limits {
-    // In this order they take two words.
+    // In this order the fields take two words.
     depth: u16,
     keys: Keys,
     bytes: u64,
@@ -30,7 +30,8 @@ impl Model for Limits {
 }
 
 impl Limits {
-    /// The limits, for keys of any kind; none for a depth above 1024 or a byte limit above 2^62.
+    /// Returns the limits, with keys of any kind, or `None` for a depth above 1024 or a byte
+    /// limit above 2^62.
     pub fn new(depth: u16, bytes: u64) -> Option<Limits>
         ensures allowed { IsSome result ↔ AreBounds (bounds depth bytes) }
         ensures exact { IsSome result ↔ (depth ≤ 1024) × (bytes ≤ 2 ^ 62) }

@@ -9,7 +9,7 @@ ghost use Rattle.cbor_head.specs.Read.{major_of};
 pub enum Major {
     /// An unsigned integer.
     Unsigned,
-    /// A negative integer: note well that argument n stands for -1 - n.
+    /// A negative integer. The argument n means the integer -1 - n.
     Negative,
     /// A byte string.
     Bytes,

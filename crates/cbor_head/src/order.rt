@@ -5,6 +5,7 @@
 pub enum KeyOrder {
     /// Lexicographic on the encoded keys (RFC 8949, section 4.2.1).
     Bytewise,
-    /// The shorter encoded key first, at equal length as `Bytewise` (RFC 8949, section 4.2.3).
+    /// The shorter encoded key first; keys of equal length as in `Bytewise` (RFC 8949, section
+    /// 4.2.3).
     LengthFirst,
 }

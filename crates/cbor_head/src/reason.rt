@@ -17,11 +17,11 @@ pub enum Reason {
     Reserved = 3,
     /// Additional information 31 on an integer or a tag.
     NoIndefinite = 4,
-    /// A floating-point number, which this codec leaves out.
+    /// A floating-point number, which this codec does not support.
     Float = 5,
     /// A simple value below 32 in a second byte.
     BadSimple = 6,
-    /// A break where an item must begin and none may close.
+    /// A break where an item must begin and nothing may end.
     StrayBreak = 7,
     /// In an indefinite-length string, neither a definite string of its type nor a break.
     BadChunk = 8,
@@ -29,23 +29,23 @@ pub enum Reason {
     TooDeep = 9,
     /// A text, or a chunk of one, that is not UTF-8.
     InvalidText = 10,
-    /// A key that is the same as an earlier one of its map.
+    /// A key that is equal to an earlier key of its map.
     RepeatedKey = 11,
     /// A byte follows the item.
     Trailing = 12,
     /// The canonical bytes are longer than the byte limit.
     CanonicalTooLong = 13,
-    /// A head that is not the shortest of its argument.
+    /// A head that is not the shortest for its argument.
     NotShortest = 14,
     /// An item of indefinite length.
     Indefinite = 15,
     /// A key that does not come after the one before it.
     KeyOrder = 16,
-    /// The reader gave an error.
+    /// The reader returned an error.
     Read = 17,
-    /// The writer gave an error, or took nothing.
+    /// The writer returned an error, or accepted no bytes.
     Write = 18,
-    /// Memory was refused.
+    /// Memory ran out.
     Memory = 19,
     /// A key of another kind than the limits allow.
     KeyKind = 20,
@@ -92,21 +92,21 @@ impl fmt::Display for Reason {
     }
 }
 
-/// A refusal: why, where, and how far the input was taken.
+/// A refusal: why, where, and how many bytes were consumed.
 #[derive(Clone, Copy, Debug, PartialEq, Eq)]
 pub struct Refusal {
     /// Why the item is refused.
     pub reason: Reason,
-    /// The offset in bytes, from the item's first byte, of what is wrong.
+    /// The offset of the fault, in bytes from the item's first byte.
     pub place: u64,
-    /// How many of the item's bytes were taken.
+    /// The number of the item's bytes that were consumed.
     pub read: u64,
 }
 
 impl Refusal {
     ghost use Rattle.cbor_head.specs.Verdict.{refusal};
 
-    /// The refusal for a reason, of what stands at a place, where so many bytes were taken.
+    /// The refusal with this reason, offset and number of bytes consumed.
     pub fn new(reason: Reason, place: u64, read: u64) -> Refusal
         ensures { result ≡ refusal reason place read }
     {
@@ -117,7 +117,8 @@ impl Refusal {
         }
     }
 
-    /// The refusal for a reason, of what comes behind the bytes taken.
+    /// The refusal with this reason at the first byte that was not consumed: `read` is
+    /// `place` too.
     pub fn at(reason: Reason, place: u64) -> Refusal
         ensures { result ≡ refusal reason place place }
     {
@@ -125,7 +126,7 @@ impl Refusal {
     }
 }
 
-/// Writes the reason's number and name, and the place: `12 Trailing at 1`.
+/// Writes the reason's number and name, and the offset: `12 Trailing at 1`.
 impl fmt::Display for Refusal {
     ghost output = { λ r. Some (refusal_text r) };
 

@@ -22,7 +22,7 @@ impl Model for Simple {
 }
 
 impl Simple {
-    /// The simple value of this number; none for 24 to 31, which do not exist.
+    /// The simple value with this number; none for 24 to 31, which do not exist.
     pub fn new(number: u8) -> Option<Simple>
         ensures exists { IsSome result ↔ IsSimple number }
         ensures value { IfSome result (λ s. s ≡ number) }
@@ -34,7 +34,7 @@ impl Simple {
         }
     }
 
-    /// The number that it was made of.
+    /// The number of the value: 0 to 23, or 32 to 255.
     pub fn number(self) -> u8
         ensures number { result ≡ self }
         ensures simple { IsSimple result }

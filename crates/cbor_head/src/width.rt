@@ -3,7 +3,7 @@
 ghost use Rattle.std.specs.Prelude.{◌≡◌, ◌↔◌, IsTrue};
 ghost use Rattle.cbor_head.specs.Head.{shortest};
 
-/// How a head spells its argument, by its additional information (RFC 8949, section 3).
+/// How a head encodes its argument, by its additional information (RFC 8949, section 3).
 #[derive(Clone, Copy, Debug, PartialEq, Eq)]
 pub enum Width {
     /// In the first byte itself: 0 to 23.
@@ -34,7 +34,7 @@ impl Width {
         }
     }
 
-    /// Whether no other width spells the argument in fewer bytes (RFC 8949, section 4.2.1).
+    /// Whether no other width encodes the argument in fewer bytes (RFC 8949, section 4.2.1).
     pub fn is_shortest(self, argument: u64) -> bool
         ensures { IsTrue result ↔ (self ≡ shortest argument) }
     {

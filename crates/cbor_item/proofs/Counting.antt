@@ -1,8 +1,8 @@
--- Of maps without repeated keys, sameness needs the counts and one direction.
+-- For maps without repeated keys, sameness needs only the counts and one direction.
 use Rattle.std.proofs.Common.{◌≡◌, suc, ◌≤◌, ◌↔◌, ◌⊎◌, inl, inr, refl, sym, ap, ◌∙◌, subst, arith}
 use Rattle.cbor_head.specs.Prelude.{Value, Entries, map, HasEntry, HasDistinctKeys, Same, Covered}
 use Rattle.cbor_head.specs.Value.{no_entries, entry, entries_count}
-use Rattle.cbor_model.proofs.Sameness.{HasSame, IsSameOf, same_maps, Same-maps, Same-sym, Same-trans, from_covered}
+use Rattle.theory_values.proofs.Sameness.{HasSame, IsSameOf, same_maps, Same-maps, Same-sym, Same-trans, from_covered}
 
 -- fs without one pair
 record Pulled (k v : Value) (fs : Entries) : Type 0 where

@@ -1,4 +1,4 @@
--- Of values whose texts are UTF-8, valid are those without repeated keys.
+-- Values whose texts are UTF-8 are valid exactly if no key is repeated.
 use Rattle.cbor_head.specs.Prelude.{Value, Values, Entries, map, no_values, a_value, IsValid, AreValid, AreEntriesValid}
 use Rattle.cbor_head.specs.Value.{text, array, tag, no_entries, entry}
 use Rattle.cbor_item.specs.Refused.{HasDistinctKeysThroughout, HaveDistinctKeysThroughout, EntriesHaveDistinctKeysThroughout}

@@ -3,7 +3,7 @@ use Rattle.std.proofs.Common.{◌≡◌, ℕ, suc, ◌<◌, ◌^◌, List, [], �
 use Rattle.cbor_head.specs.Value as value
 use Rattle.cbor_head.specs.Prelude.{Value, AreInRange, AreEntriesInRange, IsInRange}
 use Rattle.cbor_head.specs.Value.{depth, depth_all, depth_entries}
-use Rattle.cbor_model.{proofs.Lists.values_counted, proofs.Lists.entries_counted, specs.Lists.values_of}
+use Rattle.theory_values.{proofs.Lists.values_counted, proofs.Lists.entries_counted, specs.Lists.values_of}
 use Rattle.cbor_item.specs.inner.Texts.{HasUtf8Texts, HaveUtf8Texts, EntriesHaveUtf8Texts}
 use Rattle.cbor_item.specs.{Nodes.entries_in, Nodes.values_in, inner.Rest.flat, inner.Walk.size, inner.Within.Holds}
 use Rattle.cbor_item.proofs.Walk.{weight-all, weight-flat}

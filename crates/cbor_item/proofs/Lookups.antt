@@ -3,9 +3,9 @@ use Rattle.std.proofs.Common.{◌≡◌, ℕ, zero, suc, ◌+◌, ◌<◌, ◌�
 use Rattle.std.proofs.lemmas.List.{drop_all, drop_more}
 use Rattle.cbor_head.specs.Value as value
 use Rattle.cbor_head.specs.Prelude.{Value, Entries, HasEntry, Same, map}
-use Rattle.cbor_model.specs.Lists.{values_of}
-use Rattle.cbor_item.specs.{Kinds.integer, Lookup.HasValueAt, Lookup.member_at, Nodes.entries_in, ViewValue.view_value, ViewValue.view_values}
-use Rattle.cbor_item.specs.declared.view.View.{View}
+use Rattle.theory_values.specs.Lookup.{HasValueAt, integer, member_at}
+use Rattle.theory_values.specs.Lists.{values_of}
+use Rattle.cbor_item.specs.{Nodes.entries_in, ViewValue.view_value, ViewValue.view_values, declared.view.View.View}
 
 abbrev Pair : Type 0
 Pair = View × View
@@ -13,7 +13,7 @@ Pair = View × View
 abbrev entries : List Pair → Entries
 entries ps = entries_in view_value ps
 
--- what these pairs have at the key, the others have
+-- what these pairs have at the key, the others have too
 abbrev pub LeadsBehind : Value → List Pair → List Pair → Type 0
 LeadsBehind k ps rest = (v : Value) → HasValueAt (map (entries ps)) k v → HasValueAt (map (entries rest)) k v
 

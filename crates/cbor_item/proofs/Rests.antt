@@ -1,4 +1,4 @@
--- What is still to come of open containers, a step at a time.
+-- What is left of open containers, step by step.
 use Rattle.std.proofs.Common.{◌≡◌, List, [], ◌∷◌, ◌++◌, map, reverse, ap, ◌∙◌}
 use Rattle.std.proofs.lemmas.List.{reverse-append}
 use Rattle.cbor_head.specs.Prelude.{Value}

@@ -1,4 +1,4 @@
--- A slice of a list, a step of a loop at a time.
+-- A slice of a list, one step of a loop at a time.
 use Rattle.std.proofs.Common.{◌≡◌, ℕ, suc, ◌+◌, ◌-◌, ◌<◌, ◌≤◌, List, ◌∷◌, length, take, drop, get_or, slice_range, ap, ◌∙◌, arith}
 use Rattle.cbor_output.proofs.ByIndex.{at_read}
 

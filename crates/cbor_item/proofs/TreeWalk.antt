@@ -1,15 +1,15 @@
--- A walk over a node that makes a tree, a step at a time.
+-- A walk over a node that makes a tree, step by step.
 use Rattle.std.proofs.Common.{◌≡◌, ℕ, List, [], ◌∷◌, ◌++◌, map, append_assoc, append-nil, refl, sym, ap, ◌∙◌, subst, Some, None}
 use Rattle.std.specs.List.{AllByRecursion}
 use Rattle.cbor_head.specs.declared.major.Major.TheVariants as Major
 use Rattle.cbor_head.specs.Value as value
 use Rattle.cbor_head.specs.Prelude.{Value, IsInRange, AreInRange, AreEntriesInRange}
-use Rattle.cbor_model.specs.Lists.{values_of}
+use Rattle.theory_values.specs.Lists.{values_of}
 use Rattle.cbor_item.specs.OpenValues.{OpenValue, ValuePart, leaf, begin, end, after, give, opened, parts_of, parts_of_entries, Makes, the_whole}
 use Rattle.cbor_item.specs.inner.TreeWalk.{parts_in, parts_behind, parts_left, IsBegun}
 use Rattle.cbor_item.specs.{Nodes.entries_in, Nodes.values_in, inner.Rest.flat}
 
--- what is to come may follow where these are open, and makes w
+-- the remaining parts may follow with these open, and make w
 pub record Walks (w : Value) (vss : List (List Value)) (os : List OpenValue) : Type 0 where
   pub makes : Makes w (parts_left vss) os
   pub in_range : AllByRecursion (λ vs. AreInRange (values_of vs)) vss
@@ -20,7 +20,6 @@ walks_first w made h = record {
   in_range = ((h, tt), tt);
 }
 
--- its first part was given
 -- its first part was given
 pub walks_begun : (w v : Value) (us vs : List Value) (vss : List (List Value)) (os os' : List OpenValue) → Walks w ((v ∷ vs) ∷ vss) os → IsBegun v os os' (Some us)
     → Walks w (us ∷ vs ∷ vss) os'

@@ -1,7 +1,7 @@
--- A view's value, a level at a time.
+-- The value of a view, level by level.
 use Rattle.std.proofs.Common.{◌≡◌, ℕ, List, map, drop, Option, Some, None, Bor, ap, sym, subst, ◌∙◌, rules}
 use Rattle.cbor_head.specs.Value as value
-use Rattle.cbor_model.specs.Lists.{values_of, entries_of}
+use Rattle.theory_values.specs.Lists.{values_of, entries_of}
 use Rattle.cbor_item.specs.declared.view_level.Level.TheVariants as levels
 use Rattle.cbor_item.specs.declared.view.View.TheViews.{Array, Map, Tag}
 use Rattle.cbor_item.specs.{OpenValues.closed, OpenValues.CanEnd, ViewValue.view_value, ViewValue.open_value, inner.ViewLevels.open_view}

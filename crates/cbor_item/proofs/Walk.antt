@@ -1,12 +1,12 @@
--- A walk over a node that makes canonical bytes, a step at a time.
+-- A walk over a node that makes canonical bytes, step by step.
 use Rattle.std.proofs.Common.{◌≡◌, ◌↔◌, ℕ, suc, ◌+◌, ◌<◌, ◌^◌, List, [], ◌∷◌, ◌++◌, append_assoc, append-nil, length, map, refl, sym, ap, ◌∙◌, subst, arith, flat_map, Option, Some, None, Ok, is_some, true, false}
 use Rattle.cbor_head.specs.declared.major.Major.TheVariants as Major
 use Rattle.cbor_head.specs.Value as value
 use Rattle.cbor_head.specs.Prelude.{Pair, canonical, canonical_all, canonical_entries, in_order, shortest_head, Value, values_count, IsInRange, AreInRange, AreEntriesInRange, IsValid, AreValid, AreEntriesValid}
 use Rattle.cbor_head.specs.declared.order.KeyOrder.{KeyOrder}
-use Rattle.cbor_model.specs.Parts.{Open, plain, an_array, a_map, pair, with_member, closed, close, give, HasNoRepeats}
-use Rattle.cbor_model.{specs.Pairs.pair_bytes, specs.Pairs.AreKeysValid, proofs.Keys.distinct_exactly, proofs.Sound.valid_apart}
-use Rattle.cbor_model.{proofs.Reported.length-canonical_entries, specs.Lists.values_of}
+use Rattle.theory_values.specs.Parts.{Open, plain, an_array, a_map, pair, with_member, closed, close, give, HasNoRepeats}
+use Rattle.theory_values.{specs.Pairs.pair_bytes, specs.Pairs.AreKeysValid, proofs.Keys.distinct_exactly, proofs.Sound.valid_apart}
+use Rattle.theory_values.{proofs.Reported.length-canonical_entries, specs.Lists.values_of}
 use Rattle.cbor_builder.specs.Built.{Built, HasDistinctKeysSoFar, LeavesIfDistinct}
 use Rattle.cbor_builder.specs.declared.repeat.Repeat.{Repeat}
 use Rattle.cbor_item.specs.inner.Walk.{IsBegun, with_all, TakesAll, AreAllValid, LeadsAround, Leads, AreSoundAround, AreSound, size, size_all, size_entries, weight, Opens}
@@ -146,9 +146,9 @@ distinct_if_sound o w vs vss [] l s = absurd l
 distinct_if_sound o w vs vss (c ∷ []) l s = absurd l.1
 distinct_if_sound o w vs vss (c ∷ d ∷ os) l s = s.1.0
 
--- ---- what is known at each turn
+-- ---- what is known at each step
 
--- of the order, and of what is open and to come
+-- about the order, and about what is open and what remains
 pub record Walks (o : KeyOrder) (w : Value) (vss : List (List Value)) (b : Built) : Type 0 where
   pub order : b.order ≡ o
   pub leads : Leads o w vss b.open_levels

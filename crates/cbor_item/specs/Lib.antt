@@ -1,5 +1,4 @@
 pub mod Kinds
-pub mod Lookup
 pub mod Nodes
 pub mod OpenValues
 pub mod Refused

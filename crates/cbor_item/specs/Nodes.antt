@@ -1,9 +1,9 @@
--- The value that a node stands for, by those of the nodes that it holds.
+-- The value of a node, from the values of the nodes that it holds.
 use Rattle.std.specs.Prelude.{List, map}
 use Rattle.cbor_head.specs.Value as value
 use Rattle.cbor_head.specs.Prelude.{Value, Values, Entries}
 use Rattle.cbor_head.specs.Head.{IsSimple}
-use Rattle.cbor_model.specs.Lists.{values_of, entries_of}
+use Rattle.theory_values.specs.Lists.{values_of, entries_of}
 use Rattle.cbor_item.specs.declared.node.NodeKind.TheVariants as kinds
 use Rattle.cbor_item.specs.declared.node.NodeKind.{NodeKind}
 
@@ -26,7 +26,7 @@ module _ {N : Type 0} (see : N → Value) where
   value_of (kinds.Tag n c) = value.tag n (see c.now)
   value_of (kinds.Simple n) = value.simple n
 
--- the number of a simple value is one (RFC 8949, section 3.3)
+-- the number of a simple value exists (RFC 8949, section 3.3)
 abbrev pub HasSimpleNumber : {N : Type 0} → NodeKind N → Type 0
 HasSimpleNumber (kinds.Simple n) = IsSimple n
 HasSimpleNumber _ = Unit {0}

@@ -1,10 +1,10 @@
--- What the parts given to a tree builder stand for (RFC 8949, section 2).
+-- What the parts given to a tree builder represent (RFC 8949, section 2).
 use Rattle.std.specs.Prelude.{ℕ, ◌≡◌, ◌++◌, List, [], ◌∷◌, map}
 use Rattle.cbor_head.specs.Value as value
 use Rattle.cbor_head.specs.Prelude.{Value, Values, Entries}
 use Rattle.cbor_head.specs.declared.major.Major.TheVariants.{Array, Map, Tag}
 use Rattle.cbor_head.specs.declared.major.Major.{Major}
-use Rattle.cbor_model.specs.Lists.{values_of, entries_of}
+use Rattle.theory_values.specs.Lists.{values_of, entries_of}
 use Rattle.cbor_item.specs.{View.view, declared.item.Item.Item}
 
 -- What is open, with its finished members: items, or their values. Around all is the whole, which has one member once the
@@ -58,7 +58,7 @@ opened Map n = a_map []
 opened Tag n = a_tag n []
 opened m n = the_whole []
 
--- the value of what ends: nothing ends where a key waits for its value, or a tag for its content
+-- the value of what ends: nothing ends while a key waits for its value, or a tag for its content
 abbrev pub closed : OpenValue → Value
 closed (the_whole (v ∷ vs)) = v
 closed (an_array vs) = value.array (values_of vs)
@@ -109,13 +109,13 @@ pub data ValuePart : Type 0 where
   begin : Major → ℕ → ValuePart
   end : ValuePart
 
--- what is open behind a part
+-- what is open after a part
 abbrev pub after : ValuePart → List OpenValue → List OpenValue
 after (leaf v) os = give v os
 after (begin m n) os = opened m n ∷ os
 after end os = close os
 
--- what is open behind these parts
+-- what is open after these parts
 abbrev pub run : List ValuePart → List OpenValue → List OpenValue
 run [] os = os
 run (p ∷ ps) os = run ps (after p os)

@@ -21,7 +21,7 @@ abbrev mutual
   EntriesHaveDistinctKeysThroughout no_entries = Unit {0}
   EntriesHaveDistinctKeysThroughout (entry k v es) = HasDistinctKeysThroughout k × HasDistinctKeysThroughout v × EntriesHaveDistinctKeysThroughout es
 
--- too deep; or not, and a map has two pairs with the same key; or not too deep, and memory was refused
+-- too deep; or not too deep, and a map has two pairs with the same key; or not too deep, and memory ran out
 abbrev pub Refuses : Value → Reason → Type 0
 Refuses v TooDeep = MAX_DEPTH < depth v
 Refuses v RepeatedKey = (depth v ≤ MAX_DEPTH) × ¬ HasDistinctKeysThroughout v

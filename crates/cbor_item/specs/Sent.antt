@@ -1,17 +1,17 @@
--- What a writer has taken of the bytes that it was given.
+-- What a writer has accepted of the bytes that it was given.
 use Rattle.std.specs.Prelude.{ℕ, ◌≡◌, ◌<◌, ◌⊎◌, List, length, take, Option, Result, Ok, Err}
 use Rattle.std.specs.Io.KnownBytes.{Keeps, Appends}
 use Rattle.cbor_head.specs.declared.reason.{Reason.TheVariants.Write, Reason.TheVariants.Memory, Refusal.Refusal}
 
--- memory was refused, and there is no input
+-- memory ran out, and there is no input
 abbrev pub no_memory : Refusal
 no_memory = record { reason = Memory; place = 0; read = 0 }
 
--- the writer failed, or took nothing, when it had taken so many bytes
+-- the writer failed, or accepted nothing, after this number of bytes
 abbrev pub stopped_at : ℕ → Refusal
 stopped_at n = record { reason = Write; place = n; read = 0 }
 
--- All of the bytes went out, and their count is answered; or the first n alone, or none where memory was refused.
+-- All of the bytes were written, and their number is returned; or only the first n, or none if memory ran out.
 abbrev pub Sends : Option (List ℕ) → Option (List ℕ) → List ℕ → Result ℕ Refusal → Type 0
 Sends old new bytes (Ok n) = (n ≡ length bytes) × Appends old new bytes
 Sends old new bytes (Err e) =

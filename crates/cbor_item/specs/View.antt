@@ -1,8 +1,8 @@
--- The value that an item stands for (RFC 8949, section 2).
+-- The value of an item (RFC 8949, section 2).
 use Rattle.std.specs.Prelude.{string_bytes}
 use Rattle.cbor_head.specs.Value as value
 use Rattle.cbor_head.specs.Prelude.{Value}
-use Rattle.cbor_model.specs.Lists.{values_of, entries_of}
+use Rattle.theory_values.specs.Lists.{values_of, entries_of}
 use Rattle.cbor_item.specs.declared.item.Item.{Item, TheOpen.Item-F, TheFolds.fold-Item}
 
 -- one level, with each item inside already seen as its value

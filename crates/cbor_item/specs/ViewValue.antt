@@ -1,8 +1,8 @@
--- The value that a view stands for (RFC 8949, section 2), and what is open of views.
+-- The value of a view (RFC 8949, section 2), and what is open of views.
 use Rattle.std.specs.Prelude.{List, map}
 use Rattle.cbor_head.specs.Value as value
 use Rattle.cbor_head.specs.Prelude.{Value}
-use Rattle.cbor_model.specs.Lists.{values_of, entries_of}
+use Rattle.theory_values.specs.Lists.{values_of, entries_of}
 use Rattle.cbor_item.specs.OpenValues.{Open, OpenValue, the_whole, an_array, a_map, a_key, a_tag}
 use Rattle.cbor_item.specs.declared.view.View.{View, TheOpen.View-F, TheFolds.fold-View}
 

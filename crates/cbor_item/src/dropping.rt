@@ -6,11 +6,11 @@ ghost use Rattle.cbor_item.specs.inner.Containers.{containers, containers_in, co
 use crate::item::Item;
 use std::mem;
 
-// Stands where there is none.
+// Takes the place of a container that was moved out.
 const NONE: Item = Item::Unsigned(0);
 
-/// Lets go of an item, however deep it nests, in one loop and without memory. The container that is
-/// taken apart is out of the one around it; in its place there stands what is around that.
+/// Drops an item, however deep it nests, in one loop and without allocating. The container that
+/// is taken apart is moved out of the one around it; what is around that is stored in its slot.
 pub(crate) fn drop_deep(item: Item) {
     let mut inner = item;
     let mut outer = NONE;
@@ -34,8 +34,8 @@ fn is_container(item: &Item) -> bool
     matches!(item, Item::Array(_) | Item::Map(_) | Item::Tag(..))
 }
 
-// The last container that it holds, in whose place there stands the other then. What is behind it is
-// let go. The other itself where it holds none.
+// Takes out the last container that it holds, and stores the other in its slot. The members after
+// it are dropped. If it holds no container, returns the other itself.
 fn exchange(item: &mut Item, other: Item) -> Result<Item, Item>
     ensures { MatchResult result
         (λ held. (containers held < containers item.old)

@@ -16,7 +16,8 @@ use cbor_builder::CanonBuilder;
 use cbor_head::{KeyOrder, Major, Reason, Refusal};
 use std::alloc::{AllocError, Global};
 
-/// The canonical bytes (RFC 8949, sections 4.2.1 and 4.2.3). Refused for memory alone.
+/// The canonical bytes (RFC 8949, sections 4.2.1 and 4.2.3). It fails only if memory runs
+/// out.
 pub fn encode(alloc: Global, tree: &Tree, order: KeyOrder) -> Result<Vec<u8>, Refusal>
     ensures bytes { IfOk result (λ bytes. bytes.items ≡ canonical order (view tree.now)) }
     ensures refused { IfErr result (λ refusal. refusal ≡ no_memory) }
@@ -28,9 +29,9 @@ pub fn encode(alloc: Global, tree: &Tree, order: KeyOrder) -> Result<Vec<u8>, Re
     }
 }
 
-// The canonical bytes, or none where a map in the node, at any depth, has two equal keys.
+// The canonical bytes, or none if a map in the node, at any depth, has two equal keys.
 //
-// What is open lies in a list and not on the stack, so a node may be of any depth.
+// What is open is in a list and not on the stack, so a node may have any depth.
 pub(crate) fn encode_distinct<N: Node>(
     alloc: Global,
     node: &N,
@@ -67,7 +68,7 @@ pub(crate) fn encode_distinct<N: Node>(
     Ok(Some(builder.finish()))
 }
 
-// Gives a node that holds no other; begins one that does, and answers what is in it.
+// Adds a node that holds no other. Begins one that does, and returns what it holds.
 fn begin<'a, N: Node>(
     builder: &mut CanonBuilder,
     node: &'a N,

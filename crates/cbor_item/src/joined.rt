@@ -5,14 +5,14 @@ ghost use Rattle.std.specs.Prelude.{◌≡◌, ◌≤◌, ◌++◌, [], length, 
 use std::alloc::{AllocError, Global};
 use std::marker::Model;
 
-// So many bytes are copied in one piece.
+// This number of bytes is copied in one piece.
 const BLOCK: usize = 32;
 
-// Space for so many bytes is made behind a chunk for which there was none.
+// For a chunk that did not fit, space for this number of bytes is added.
 const SPACE: usize = 128;
 
-/// The content so far of a string in chunks. Space is left behind it, so that a short chunk is
-/// copied in one piece, and kept for the next string.
+/// The content so far of a string in chunks. Some space follows it, so that a short chunk is copied
+/// in one piece. The space is reused for the next string.
 #[derive(Drop)]
 pub struct Joined {
     buf: Vec<u8>,
@@ -30,7 +30,7 @@ impl Model for Joined {
 }
 
 impl Joined {
-    /// No bytes. Takes no memory.
+    /// Creates an empty content. Allocates nothing.
     pub fn new(alloc: Global) -> Joined
         ensures { result ≡ [] }
     {
@@ -47,7 +47,7 @@ impl Joined {
         &self.buf[..self.len]
     }
 
-    /// No bytes again, with as much memory.
+    /// Empties the content. Its memory stays allocated.
     #[inline(always)]
     pub fn clear(&mut self)
         ensures { self.new ≡ [] }
@@ -55,8 +55,8 @@ impl Joined {
         self.len = 0;
     }
 
-    /// The first of these bytes behind the others. Up to 32 are copied by a piece of 32, where as
-    /// many are given.
+    /// Appends the first `count` bytes of `prefix`. Up to 32 are copied as one piece of 32, if the
+    /// slice has 32 bytes.
     #[inline(always)]
     pub fn extend_prefix(&mut self, prefix: &[u8], count: usize) -> Result<(), AllocError>
         requires { count ≤ length prefix.now }
@@ -72,7 +72,7 @@ impl Joined {
         self.extend(&prefix[..count])
     }
 
-    // All of these bytes behind the others, and space behind them.
+    // Appends all of these bytes, and leaves space after them.
     #[inline(never)]
     fn extend(&mut self, bytes: &[u8]) -> Result<(), AllocError>
         ensures { OnOk result (self.new ≡ self.old ++ bytes.now) }

@@ -1,11 +1,12 @@
-//! What kind of item a view is, and what it holds.
+//! The kind of a view, and what it holds.
 
 ghost use Rattle.std.specs.Prelude.{◌≡◌, ◌≢◌, ◌↔◌, ◌≤ℤ◌, ℕ, ℤ, List, Bool, IsTrue};
 ghost use Rattle.std.specs.Prelude.{MatchOption};
 ghost use Rattle.cbor_head.specs.Value.{Value, Values, Entries, unsigned, negative, bytes, text};
 ghost use Rattle.cbor_head.specs.Value.{array, map, tag, simple};
-ghost use Rattle.cbor_model.specs.Lists.{values_of, entries_of};
-ghost use Rattle.cbor_item.specs.Kinds.{boolean, integer};
+ghost use Rattle.theory_values.specs.Lists.{values_of, entries_of};
+ghost use Rattle.cbor_item.specs.Kinds.{boolean};
+ghost use Rattle.theory_values.specs.Lookup.{integer};
 ghost use Rattle.cbor_item.specs.ViewValue.{view_value, view_values, view_pairs};
 
 use crate::view::View;
@@ -14,7 +15,7 @@ use crate::view::View;
 const MOST: u64 = 0x7fff_ffff_ffff_ffff;
 
 impl<'a> View<'a> {
-    /// An unsigned integer's number.
+    /// The number of an unsigned integer.
     pub fn as_u64(&self) -> Option<u64>
         ensures { MatchOption result ((n : ℕ) → view_value self.now ≢ unsigned n)
             (λ n. view_value self.now ≡ unsigned n) }
@@ -36,7 +37,7 @@ impl<'a> View<'a> {
         }
     }
 
-    /// An integer, of either sign, that an `i64` holds.
+    /// The number of an integer of either sign, if an `i64` can hold it.
     pub fn as_i64(&self) -> Option<i64>
         ensures { MatchOption result
             ((z : ℤ) → i64.MIN ≤ℤ z → z ≤ℤ i64.MAX → view_value self.now ≢ integer z)
@@ -49,7 +50,7 @@ impl<'a> View<'a> {
         }
     }
 
-    /// A byte string's bytes.
+    /// The bytes of a byte string.
     pub fn as_bytes(&self) -> Option<&'a [u8]>
         ensures { MatchOption result ((s : List ℕ) → view_value self.now ≢ bytes s)
             (λ s. view_value self.now ≡ bytes s.now) }
@@ -60,7 +61,7 @@ impl<'a> View<'a> {
         }
     }
 
-    /// A text.
+    /// The text of a text string.
     pub fn as_text(&self) -> Option<&'a str>
         ensures { MatchOption result ((s : List ℕ) → view_value self.now ≢ text s)
             (λ s. view_value self.now ≡ text s.now) }
@@ -71,7 +72,7 @@ impl<'a> View<'a> {
         }
     }
 
-    /// An array's members, in their order.
+    /// The members of an array, in their order.
     pub fn as_array(&self) -> Option<&'a [View<'a>]>
         ensures { MatchOption result ((vs : Values) → view_value self.now ≢ array vs)
             (λ members. view_value self.now ≡ array (values_of (view_values members.now))) }
@@ -82,7 +83,7 @@ impl<'a> View<'a> {
         }
     }
 
-    /// A map's pairs of a key and its value, in the order of the input.
+    /// The pairs of a map, each a key and its value, in the order of the input.
     pub fn as_map(&self) -> Option<&'a [(View<'a>, View<'a>)]>
         ensures { MatchOption result ((es : Entries) → view_value self.now ≢ map es)
             (λ pairs. view_value self.now ≡ map (entries_of (view_pairs pairs.now))) }
@@ -93,7 +94,7 @@ impl<'a> View<'a> {
         }
     }
 
-    /// A tag's number and its content.
+    /// The number and the content of a tag.
     pub fn as_tag(&self) -> Option<(u64, &'a View<'a>)>
         ensures { MatchOption result ((n : ℕ) (v : Value) → view_value self.now ≢ tag n v)
             (λ t. view_value self.now ≡ tag t.0 (view_value t.1.now)) }
@@ -104,7 +105,7 @@ impl<'a> View<'a> {
         }
     }
 
-    /// A simple value's number.
+    /// The number of a simple value.
     pub fn as_simple(&self) -> Option<u8>
         ensures { MatchOption result ((n : ℕ) → view_value self.now ≢ simple n)
             (λ n. view_value self.now ≡ simple n) }
@@ -115,7 +116,7 @@ impl<'a> View<'a> {
         }
     }
 
-    /// Whether `true` or `false` (RFC 8949, section 3.3).
+    /// The value of `true` or `false` (RFC 8949, section 3.3).
     pub fn as_bool(&self) -> Option<bool>
         ensures { MatchOption result ((b : Bool) → view_value self.now ≢ boolean b)
             (λ b. view_value self.now ≡ boolean b) }

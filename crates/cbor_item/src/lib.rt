@@ -13,7 +13,7 @@
 //!
 //! A [`View`] is `Copy`: a string in one piece is a slice of the input; a string in chunks and the members of an array or map
 //! are slices of an arena. `cbor_reader::read_view` makes one; [`TreeBuilder`] and [`ViewBuilder`] make items from their parts.
-//! What goes over items and over views alike, as their comparison and their text do, goes over a [`Node`].
+//! Code that handles items and views alike, such as their comparison and their text, uses [`Node`].
 #![tactic(auto)]
 
 mod dropping;
@@ -38,13 +38,13 @@ mod write;
 
 pub use cbor_builder::{CanonBuilder, Repeat};
 pub use cbor_head::KeyOrder;
-pub use cbor_model::{canonical_laws, compare_keys, key_prefix};
 pub use encoding::encode;
 pub use item::Item;
 pub use joined::Joined;
 pub use node::{Node, NodeKind};
 pub use parts_law::parts_make_the_value;
 pub use sameness::same;
+pub use theory_values::{canonical_laws, compare_keys, key_prefix};
 pub use tree::Tree;
 pub use tree_builder::TreeBuilder;
 pub use view::View;

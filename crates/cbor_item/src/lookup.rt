@@ -2,14 +2,13 @@
 
 ghost use Rattle.std.specs.Prelude.{◌≡◌, ◌↔◌, IsTrue, MatchOption, option_map};
 ghost use Rattle.cbor_head.specs.Value.{Value, IsValid, text};
-ghost use Rattle.cbor_item.specs.Kinds.{integer};
-ghost use Rattle.cbor_item.specs.Lookup.{member_of, HasValueAt};
+ghost use Rattle.theory_values.specs.Lookup.{HasValueAt, integer, member_of};
 ghost use Rattle.cbor_item.specs.ViewValue.{view_value};
 
 use crate::view::View;
 
 impl<'a> View<'a> {
-    /// An array's member at an index; none behind its end, and where it is no array.
+    /// The member of an array at an index. `None` past its end, and if the item is not an array.
     pub fn member(&self, index: usize) -> Option<&'a View<'a>>
         ensures { option_map (λ v. view_value v.now) result ≡ member_of (view_value self.now) index }
     {
@@ -19,8 +18,8 @@ impl<'a> View<'a> {
         }
     }
 
-    /// The value of a map's pair whose key is the same; none where there is none. It looks at one pair
-    /// after another, as the two calls below do.
+    /// The value of the map's pair with the same key. `None` if there is none, or if the item is not a
+    /// map. It compares one pair after another, as the two calls below do.
     pub fn get(&self, key: &View<'_>) -> Option<&'a View<'a>>
         requires map { IsValid (view_value self.now) }
         requires key { IsValid (view_value key.now) }
@@ -39,7 +38,7 @@ impl<'a> View<'a> {
         None
     }
 
-    /// The value at a text, likewise.
+    /// The value of the map's pair whose key is this text, as `get`.
     pub fn get_text(&self, key: &str) -> Option<&'a View<'a>>
         ensures { MatchOption result
             ((v : Value) → HasValueAt (view_value self.now) (text key.now) v → ⊥)
@@ -56,7 +55,7 @@ impl<'a> View<'a> {
         None
     }
 
-    /// The value at an integer, which may be negative, likewise.
+    /// The value of the map's pair whose key is this integer, as `get`.
     pub fn get_integer(&self, key: i64) -> Option<&'a View<'a>>
         ensures { MatchOption result
             ((v : Value) → HasValueAt (view_value self.now) (integer key) v → ⊥)

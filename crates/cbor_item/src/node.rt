@@ -9,7 +9,7 @@ ghost use Rattle.cbor_item.specs.ViewValue.{view_value};
 use crate::item::Item;
 use crate::view::View;
 
-/// One level of an item: what it is, and the nodes that it holds, where they lie.
+/// One level of an item: its kind, and the nodes that it holds, as references.
 #[derive_where(Clone, Copy)]
 pub enum NodeKind<'a, N> {
     /// The number itself.
@@ -43,7 +43,7 @@ pub enum NodeKind<'a, N> {
 pub trait Node: Sized {
     ghost value: { Self → Value };
 
-    /// What it is, and what it holds.
+    /// The kind of the node, and what it holds.
     fn kind(&self) -> NodeKind<'_, Self>
         ensures value { value_of value result ≡ value self.now };
 }

@@ -1,5 +1,5 @@
 //! The law of what a builder of items is given and makes. This function has no code to run: its
-//! contract is what it is for.
+//! purpose is its contract.
 
 ghost use Rattle.std.specs.Prelude.{◌∷◌, []};
 ghost use Rattle.cbor_head.specs.Value.{Value};

@@ -12,9 +12,9 @@ use crate::node::{Node, NodeKind};
 use crate::tree::Tree;
 use crate::view::View;
 
-/// Whether two trees are the same: kinds, numbers and strings equal, arrays place by place, maps by
-/// their pairs in any order (RFC 8949, section 5.6.1). Takes no memory. Maps whose pairs come in
-/// another order take longer than those in the same order.
+/// Whether two trees are the same: kinds, numbers and strings equal, arrays member by member, maps
+/// by their pairs in any order (RFC 8949, section 5.6.1). Allocates nothing. Maps whose pairs are
+/// in another order take longer than those in the same order.
 pub fn same(a: &Tree, b: &Tree) -> bool
     ensures { IsTrue result ↔ Same (view a.now) (view b.now) }
 {
@@ -22,8 +22,8 @@ pub fn same(a: &Tree, b: &Tree) -> bool
 }
 
 impl View<'_> {
-    /// Whether two views are of the same item: kinds, numbers and strings equal, arrays place by
-    /// place, maps by their pairs in any order (RFC 8949, section 5.6.1). Maps whose pairs come in
+    /// Whether two views are of the same item: kinds, numbers and strings equal, arrays member by
+    /// member, maps by their pairs in any order (RFC 8949, section 5.6.1). Maps whose pairs are in
     /// another order take longer than those in the same order.
     pub fn same(&self, other: &View<'_>) -> bool
         requires left { IsValid (view_value self.now) }
@@ -34,8 +34,8 @@ impl View<'_> {
     }
 }
 
-// Of two maps with as many pairs and without equal keys, the one is looked up in the other. Both
-// ways would double the work with each level.
+// For two maps with the same number of pairs and without equal keys, it is enough to look up the
+// keys of one in the other. Both ways would double the work with each level.
 #[cycle(same)]
 fn is_same<N: Node>(a: &N, b: &N) -> bool
     requires left { IsValid (N.value a.now) }
@@ -72,7 +72,7 @@ fn are_same<N: Node>(xs: &[N], ys: &[N]) -> bool
     true
 }
 
-// Whether each pair of xs is the same as some pair of ys. A look-up begins behind the last hit.
+// Whether each pair of xs is the same as some pair of ys. A look-up begins after the last hit.
 #[cycle(same)]
 fn is_covered<N: Node>(xs: &[(N, N)], ys: &[(N, N)]) -> bool
     requires left { AreEntriesValid (entries_in N.value xs.now) }
@@ -89,8 +89,8 @@ fn is_covered<N: Node>(xs: &[(N, N)], ys: &[(N, N)]) -> bool
     true
 }
 
-// The place in ys of a pair of the same key and the same value, looked for from start on and then
-// before it.
+// The index in ys of a pair with the same key and the same value. The search begins at `start` and
+// then continues at 0.
 #[cycle(same)]
 fn find<N: Node>(key: &N, value: &N, ys: &[(N, N)], start: usize) -> Option<usize>
     requires start { start ≤ length ys.now }

@@ -21,8 +21,8 @@ use cbor_head::{Major, Reason, Refusal, Simple};
 use std::alloc::{AllocError, Global};
 
 impl View<'_> {
-    /// The item, with all that it holds. Of a `Simple` the number has to be a simple value's: in
-    /// any view that was read it is.
+    /// Copies the item, with all that it holds. The number of a `Simple` must be a simple
+    /// value's: in any view that was read it is.
     pub fn to_item(&self, alloc: Global) -> Result<Item, AllocError>
         requires { IsInRange (view_value self.now) }
         ensures { IfOk result (λ item. value_of item ≡ view_value self.now) }
@@ -30,7 +30,7 @@ impl View<'_> {
         item_of(alloc, self)
     }
 
-    /// The item as a tree. Refused for memory alone.
+    /// Copies the item into a tree. It fails only if memory runs out.
     pub fn to_tree(&self, alloc: Global) -> Result<Tree, Refusal>
         requires depth { depth (view_value self.now) ≤ MAX_DEPTH }
         requires in_range { IsInRange (view_value self.now) }
@@ -45,7 +45,7 @@ impl View<'_> {
     }
 }
 
-// What is open lies in a list and not on the stack, so a node may be of any depth.
+// What is open is in a list and not on the stack, so a node may have any depth.
 fn item_of<N: Node>(alloc: Global, node: &N) -> Result<Item, AllocError>
     requires { IsInRange (N.value node.now) }
     ensures { IfOk result (λ item. value_of item ≡ N.value node.now) }
@@ -75,7 +75,7 @@ fn item_of<N: Node>(alloc: Global, node: &N) -> Result<Item, AllocError>
     Ok(builder.finish())
 }
 
-// Gives a node that holds no other; begins one that does, and answers what is in it.
+// Adds a node that holds no other. Begins one that does, and returns what it holds.
 fn begin<'a, N: Node>(
     alloc: Global,
     builder: &mut TreeBuilder,

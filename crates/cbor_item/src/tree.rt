@@ -15,7 +15,7 @@ use std::alloc::Global;
 use std::marker::Model;
 
 /// An item of depth at most [`MAX_DEPTH`] in which no map has two equal keys (RFC 8949, section 5.6).
-/// It is dropped without recursion, which takes no memory.
+/// It is dropped without recursion, which allocates nothing.
 pub struct Tree {
     item: Item,
 }
@@ -40,9 +40,9 @@ impl Model for Tree {
 }
 
 impl Tree {
-    /// The item as a tree. Otherwise it is given back, with `TooDeep` where it is deeper than `MAX_DEPTH`,
-    /// else `RepeatedKey` where some map has two equal keys, else `Memory`. Memory may be refused
-    /// before equal keys are found.
+    /// Makes a tree of the item. If it is not one, the item is returned with a reason: `TooDeep` if it is
+    /// deeper than `MAX_DEPTH`, else `RepeatedKey` if a map has two equal keys, else `Memory`. Memory may
+    /// run out before equal keys are found.
     pub fn of(alloc: Global, item: Item) -> Result<Tree, (Item, Reason)>
         ensures tree { IfOk result (λ tree. tree ≡ item) }
         ensures accepted { IfOk result
@@ -60,8 +60,8 @@ impl Tree {
         }
     }
 
-    /// The tree of an item that is known to be one, with no look at it: for a reader that has
-    /// counted the depth and compared the keys.
+    /// Makes a tree of an item without checking it, for a reader that has counted the depth and compared
+    /// the keys.
     pub fn from_valid(item: Item) -> Tree
         requires depth { depth (view item) ≤ MAX_DEPTH }
         requires in_range { IsInRange (view item) }
@@ -81,7 +81,7 @@ impl Tree {
         &self.item
     }
 
-    /// The item, without the tree. Takes no memory.
+    /// Takes the item out of the tree. Allocates nothing.
     pub fn into_item(self) -> Item
         ensures item { result ≡ self }
         ensures depth { depth (view self) ≤ MAX_DEPTH }

@@ -13,11 +13,11 @@ use cbor_head::Major;
 use std::alloc::{AllocError, Global};
 use std::marker::Model;
 
-/// An item (RFC 8949, section 3) from its parts as they come. What is open lies in a list of its
-/// own, so the depth of an item costs memory and no stack. The pairs of a map keep the order in
-/// which they came. Memory is taken for what came, never by a length in a head. After a call has
-/// been refused memory the builder may only be dropped. It is dropped without recursion, as a
-/// [`Tree`](crate::Tree) is.
+/// Builds an item (RFC 8949, section 3) from its parts in their order. What is open is in a
+/// list, so a deep item needs memory and no stack. The pairs of a map stay in the order in which
+/// they arrived. Memory is allocated for parts that arrived, never for a length in a head. After
+/// a call that ran out of memory the builder may only be dropped. It is dropped without
+/// recursion, as a [`Tree`](crate::Tree) is.
 ///
 /// ```
 /// // {1: [2]}
@@ -53,7 +53,7 @@ impl Model for TreeBuilder {
 }
 
 impl TreeBuilder {
-    /// A builder that has been given nothing. Takes no memory.
+    /// A builder without any part. Allocates nothing.
     pub fn new(alloc: Global) -> TreeBuilder
         ensures { open_levels result ≡ the_whole [] ∷ [] }
     {
@@ -64,7 +64,7 @@ impl TreeBuilder {
         }
     }
 
-    /// A member that is complete: one without members, or one that was built before.
+    /// Adds a complete member: one without members, or one that was built before.
     pub fn leaf(&mut self, item: Item) -> Result<(), AllocError>
         requires takes { TakesValue (open_levels self.old) }
         ensures { OnOk result (open_levels self.new ≡ give (view item) (open_levels self.old)) }
@@ -72,7 +72,7 @@ impl TreeBuilder {
         self.top.put(item)
     }
 
-    /// An array, a map or a tag begins. The number is the tag's.
+    /// Begins an array, a map or a tag. The number is a tag's number.
     pub fn begin(&mut self, major: Major, number: u64) -> Result<(), AllocError>
         requires kind { IsContainer major }
         requires takes { TakesValue (open_levels self.old) }
@@ -85,7 +85,7 @@ impl TreeBuilder {
         Ok(())
     }
 
-    /// The array, map or tag ends.
+    /// Ends the array, map or tag.
     pub fn end(&mut self) -> Result<(), AllocError>
         requires container { MayEnd (open_levels self.old) }
         ensures { OnOk result (open_levels self.new ≡ close (open_levels self.old)) }
@@ -98,7 +98,7 @@ impl TreeBuilder {
         self.top.put(ended)
     }
 
-    /// The item, once it is complete. Takes no memory.
+    /// Returns the item, once it is complete. Allocates nothing.
     pub fn finish(self) -> Item
         requires whole { IsWhole (open_levels self) }
         ensures item { (v : Value) → open_levels self ≡ the_whole (v ∷ []) ∷ [] → view result ≡ v }

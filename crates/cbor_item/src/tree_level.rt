@@ -1,4 +1,4 @@
-//! What is open of an item that is being built.
+//! The open parts of an item that is being built.
 
 ghost use Rattle.std.specs.Prelude.{◌≡◌, OnOk, IfOk};
 ghost use Rattle.cbor_head.specs.declared.major.Major.TheVariants as majors;
@@ -12,10 +12,10 @@ use crate::item::Item;
 use cbor_head::Major;
 use std::alloc::{AllocError, Global};
 
-/// What is open, with its finished members.
+/// An open part, with its finished members.
 #[derive(Drop)]
 pub(crate) enum Level {
-    // Around all: the item, once it is complete.
+    // The outermost: the item, once it is complete.
     Whole(Option<Item>),
     Array(Vec<Item>),
     // The pairs, and the key that waits for its value.
@@ -25,7 +25,7 @@ pub(crate) enum Level {
 }
 
 impl Level {
-    // What begins; the number is a tag's.
+    // The part that begins; the number is a tag's number.
     pub(crate) fn begun(alloc: Global, major: Major, number: u64) -> Level
         requires { IsContainer major }
         ensures { level_value result ≡ opened major number }
@@ -37,7 +37,7 @@ impl Level {
         }
     }
 
-    // One more member. Where memory is refused it is dropped.
+    // Adds one more member. If memory runs out, the member is dropped.
     pub(crate) fn put(&mut self, item: Item) -> Result<(), AllocError>
         requires { CanHold (level_value self.old) }
         ensures { OnOk result (level_value self.new ≡ with_member (view item) (level_value self.old)) }
@@ -77,7 +77,7 @@ impl Level {
         }
     }
 
-    // The item that ends.
+    // The item of the part that ends.
     pub(crate) fn ended(self, alloc: Global) -> Result<Item, AllocError>
         requires { CanEnd (level_value self) }
         ensures { IfOk result (λ item. view item ≡ closed (level_value self)) }
@@ -96,7 +96,7 @@ impl Level {
         }
     }
 
-    // What is open is dropped, however deep its members nest.
+    // Drops the part, however deep its members nest.
     pub(crate) fn drop_deep(self) {
         match self {
             Level::Whole(Some(item)) | Level::Tag(_, Some(item)) => drop_deep(item),

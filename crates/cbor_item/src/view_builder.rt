@@ -17,10 +17,10 @@ use cbor_output::reserve::{push, push_copy};
 use std::alloc::{AllocError, Global};
 use std::marker::Model;
 
-/// A view from its parts as they come, as `TreeBuilder` makes an item. What is open lies in lists
-/// of the builder's own, so the depth of an item costs memory and no stack. Members, and the
-/// joined chunks of a string, go into the arena once, when they are complete. After a call has
-/// been refused memory the builder may only be dropped.
+/// Builds a view from its parts in their order, as `TreeBuilder` builds an item. What is open is
+/// in lists of the builder, so a deep item needs memory and no stack. Members, and the joined
+/// chunks of a string, go into the arena once, when they are complete. After a call that ran out
+/// of memory the builder may only be dropped.
 #[derive(Drop)]
 pub struct ViewBuilder<'a> {
     arena: &'a Bump,
@@ -52,7 +52,7 @@ impl<'a> Model for ViewBuilder<'a> {
 }
 
 impl<'a> ViewBuilder<'a> {
-    /// A builder that has been given nothing. Takes no memory.
+    /// A builder without any part. Allocates nothing.
     pub fn new(alloc: Global, arena: &'a Bump) -> ViewBuilder<'a>
         ensures { open_levels result ≡ the_whole [] ∷ [] }
     {
@@ -65,7 +65,7 @@ impl<'a> ViewBuilder<'a> {
         }
     }
 
-    /// A member that is complete: one without members, a string where it lies, or a view that was
+    /// Adds a complete member: one without members, a string that is borrowed, or a view that was
     /// built before.
     #[inline(always)]
     pub fn leaf(&mut self, view: View<'a>) -> Result<(), AllocError>
@@ -84,7 +84,7 @@ impl<'a> ViewBuilder<'a> {
         Ok(())
     }
 
-    /// A byte string that is copied into the arena.
+    /// Adds a byte string that is copied into the arena.
     pub fn copied_bytes(&mut self, content: &[u8]) -> Result<(), AllocError>
         requires takes { TakesValue (open_levels self.old) }
         ensures { OnOk result
@@ -94,7 +94,7 @@ impl<'a> ViewBuilder<'a> {
         self.leaf(View::Bytes(content))
     }
 
-    /// A text that is copied into the arena.
+    /// Adds a text that is copied into the arena.
     pub fn copied_text(&mut self, content: &str) -> Result<(), AllocError>
         requires takes { TakesValue (open_levels self.old) }
         ensures { OnOk result
@@ -104,7 +104,7 @@ impl<'a> ViewBuilder<'a> {
         self.leaf(View::Text(content))
     }
 
-    /// An array, a map or a tag begins. The number is the tag's.
+    /// Begins an array, a map or a tag. The number is a tag's number.
     pub fn begin(&mut self, major: Major, number: u64) -> Result<(), AllocError>
         requires kind { IsContainer major }
         requires takes { TakesValue (open_levels self.old) }
@@ -120,7 +120,7 @@ impl<'a> ViewBuilder<'a> {
         Ok(())
     }
 
-    /// The array, map or tag ends. Its members move into the arena.
+    /// Ends the array, map or tag. Its members move into the arena.
     pub fn end(&mut self) -> Result<(), AllocError>
         requires container { MayEnd (open_levels self.old) }
         ensures { OnOk result (open_levels self.new ≡ close (open_levels self.old)) }
@@ -133,7 +133,7 @@ impl<'a> ViewBuilder<'a> {
         self.leaf(ended)
     }
 
-    /// The view, once it is complete. Takes no memory.
+    /// Returns the view, once it is complete. Allocates nothing.
     pub fn finish(self) -> View<'a>
         requires whole { IsWhole (open_levels self) }
         ensures view { (v : Value) → open_levels self.entry ≡ the_whole (v ∷ []) ∷ [] → view_value result ≡ v }
@@ -154,7 +154,7 @@ impl<'a> ViewBuilder<'a> {
     }
 }
 
-// The array, map or tag that ends, with its members in the arena and no longer in the lists.
+// The array, map or tag that ends. Its members move from the lists into the arena.
 fn ended<'a>(
     arena: &'a Bump,
     top: Level<'a>,
@@ -191,7 +191,7 @@ fn ended<'a>(
     }
 }
 
-// One view, in the arena.
+// The view, moved into the arena.
 fn placed<'a>(arena: &'a Bump, view: Option<View<'a>>) -> Result<&'a View<'a>, AllocError>
     requires { IsSome view }
     ensures { IfOk result (λ placed. view.entry ≡ Some placed.now) }

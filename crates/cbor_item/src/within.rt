@@ -1,4 +1,4 @@
-//! How deep an item is, the ranges of its numbers, and that its texts are UTF-8.
+//! Checks how deep an item is, and finds that its numbers are in range and its texts are UTF-8.
 
 ghost use Rattle.std.specs.Prelude.{◌≤◌, ◌<◌, ◌^◌, ◌↔◌, IsTrue, length, MatchOption};
 ghost use Rattle.cbor_head.specs.Value.{depth, AreBytes, IsInRange};
@@ -17,8 +17,8 @@ const FEW: usize = 16;
 // and no tree than this.
 const MOST: usize = MAX_DEPTH as usize;
 
-// Whether the item nests no deeper than a tree may. It looks no deeper itself, and where it
-// answers true it has read every number and every text.
+// Whether the item nests no deeper than a tree may. It goes no deeper itself. If it returns true,
+// it has read every number and every text.
 pub(crate) fn is_within(item: &Item) -> bool
     ensures shallow { IsTrue result ↔ depth (view item.now) ≤ MAX_DEPTH }
     ensures in_range { IsTrue result → IsInRange (view item.now) }
@@ -27,7 +27,7 @@ pub(crate) fn is_within(item: &Item) -> bool
     is_nested_in(item, &mut [Rest::Members(&[]); FEW]) || is_within_most(item)
 }
 
-// Whether an item that may be deep is within the depth limit: the cells take 32 KiB of the stack.
+// Whether an item that may be deep is within the depth limit. Its cells take 32 KiB of the stack.
 #[inline(never)]
 fn is_within_most(item: &Item) -> bool
     ensures shallow { IsTrue result ↔ depth (view item.now) ≤ MAX_DEPTH }
@@ -37,7 +37,8 @@ fn is_within_most(item: &Item) -> bool
     is_nested_in(item, &mut [Rest::Members(&[]); MOST])
 }
 
-// Whether it nests no deeper than there are cells: one for each container around the one at hand.
+// Whether the item nests no deeper than there are cells: one for each container around the
+// current one.
 fn is_nested_in<'a>(item: &'a Item, cells: &mut [Rest<'a, Item>]) -> bool
     ensures shallow { IsTrue result ↔ depth (view item.now) ≤ length cells.old }
     ensures in_range { IsTrue result → IsInRange (view item.now) }
@@ -69,7 +70,7 @@ fn is_nested_in<'a>(item: &'a Item, cells: &mut [Rest<'a, Item>]) -> bool
     }
 }
 
-// What is in an item that holds others.
+// What a container holds; `None` for other items.
 fn held(item: &Item) -> Option<Rest<'_, Item>>
     ensures { MatchOption result (HoldsNone (view item.now))
         (λ content. Holds (view item.now) (left view content)) }
@@ -96,13 +97,13 @@ fn held(item: &Item) -> Option<Rest<'_, Item>>
     }
 }
 
-// What the type of a slice says of its bytes.
+// What the type of a slice ensures about its bytes. Nothing runs.
 fn check_bytes(bytes: &[u8])
     ensures count { length bytes.now < 2 ^ 64 }
     ensures bytes { AreBytes bytes.now }
 {}
 
-// And of how long it is.
+// What the type of a slice ensures about its length. Nothing runs.
 fn check_count<T>(parts: &[T])
     ensures { length parts.now < 2 ^ 64 }
 {}

@@ -1,4 +1,4 @@
-//! Canonical bytes into a writer.
+//! Writes canonical bytes.
 
 ghost use Rattle.std.specs.Prelude.{◌<◌, length, take, MatchResult};
 ghost use Rattle.std.specs.Io.KnownBytes.{Appends};
@@ -12,12 +12,12 @@ use cbor_head::{KeyOrder, Reason, Refusal};
 use std::alloc::Global;
 use std::io::Write;
 
-/// Writes the canonical bytes, and answers how many they are. The bytes are made whole before the
-/// first is written, so where memory is refused nothing is.
+/// Writes the canonical bytes, and returns their number. All bytes are made before the first is
+/// written, so if memory runs out, nothing is written.
 ///
-/// A write that gives an error, `Interrupted` too, or takes nothing ends the call: the refusal is
-/// `Write`, and its place is how many bytes the writer took. These are the first of the canonical
-/// bytes.
+/// A write that returns an error, `Interrupted` too, or that accepts no bytes ends the call. The
+/// refusal is then `Write`, and its `place` is the number of bytes that the writer accepted: the
+/// first of the canonical bytes.
 pub fn encode_to<W: Write>(
     alloc: Global,
     tree: &Tree,
@@ -34,8 +34,8 @@ pub fn encode_to<W: Write>(
     }
 }
 
-/// Writes the bytes. The error is how many the writer took before it failed, `Interrupted` too, or
-/// took nothing.
+/// Writes the bytes. The error is the number of bytes that the writer accepted before a write
+/// returned an error, `Interrupted` too, or accepted no bytes.
 pub fn write_whole<W: Write>(writer: &mut W, bytes: &[u8]) -> Result<(), usize>
     ensures { MatchResult result
         (λ _. Appends (W.contents writer.old) (W.contents writer.new) bytes.now)

@@ -1,6 +1,6 @@
-//! Tests of `cbor_item`, `cbor_builder` and `cbor_model`, of views and of `read_view`, through their public calls.
+//! Tests of `cbor_item`, `cbor_builder` and `theory_values`, of views and of `read_view`, through their public calls.
 //!
-//! They are a crate of their own so that each library is proved once, and its tests separately.
+//! They are a separate crate, so that each library is proved once, and its tests on their own.
 #![tactic(auto)]
 
 #[cfg(test)]

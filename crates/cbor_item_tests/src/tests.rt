@@ -1,4 +1,4 @@
-//! Examples, by trees.
+//! Examples, as trees.
 
 mod canon_builder;
 mod failed;
@@ -17,7 +17,8 @@ use std::cmp::Ordering;
 use std::process::Abort;
 use std::test::Fail;
 
-// The tree has these canonical bytes, and these in length-first order, and is written so.
+// The tree has these canonical bytes in bytewise and in length-first order, and they are what is
+// written.
 pub(crate) fn check_all(
     rt: &impl Abort,
     alloc: Global,
@@ -37,9 +38,9 @@ pub(crate) fn check_all(
 // {"aa": 1, 10: 2, 100: 3, -1: 4, "z": 5, [100]: 6, [-1]: 7, false: 8}
 pub(crate) static EIGHT_KEYS: &str = "t:aa 1 10 2 100 3 n:0 4 t:z 5 100 a:1 6 n:0 a:1 7 s:20 8 m:8";
 
-// Items, their canonical bytes, and those in length-first order, where they are others. Of eight keys
-// they are {10: 2, 100: 3, -1: 4, "z": 5, "aa": 1, [100]: 6, [-1]: 7, false: 8}, and
-// {10: 2, -1: 4, false: 8, 100: 3, "z": 5, [-1]: 7, "aa": 1, [100]: 6}.
+// Items, their canonical bytes, and those in length-first order, if they differ. For the eight keys
+// these are {10: 2, 100: 3, -1: 4, "z": 5, "aa": 1, [100]: 6, [-1]: 7, false: 8}, and {10: 2, -1: 4,
+// false: 8, 100: 3, "z": 5, [-1]: 7, "aa": 1, [100]: 6}.
 pub(crate) static ENCODED: &str = r#"
 0 | 00 | | 0
 18446744073709551615 | 1bffffffffffffffff | | 18446744073709551615
@@ -100,9 +101,9 @@ fn finds_the_same(rt: HostRuntime) -> Result<(), Fail> {
     Ok(())
 }
 
-// Where memory is refused, nothing else is answered.
+// If memory runs out, nothing else is reported.
 #[test]
-fn answers_for_memory(rt: HostRuntime) -> Result<(), Fail> {
+fn reports_memory(rt: HostRuntime) -> Result<(), Fail> {
     let alloc = rt.alloc();
     let refusal = Refusal::new(Reason::Memory, 0, 0);
     let Some(item) = item_of(alloc, EIGHT_KEYS) else {
@@ -113,7 +114,7 @@ fn answers_for_memory(rt: HostRuntime) -> Result<(), Fail> {
         Err((item, reason)) => {
             assert!(rt; reason == Reason::Memory);
             assert!(rt; matches!(&item, Item::Map(pairs) if pairs.len() == 8));
-            // One allocation failed, and no other does.
+            // One allocation fails, and no later one.
             Tree::of(alloc, item).map_err(|_| "memory was refused again")?
         }
     };
@@ -132,7 +133,7 @@ fn answers_for_memory(rt: HostRuntime) -> Result<(), Fail> {
     Ok(())
 }
 
-// The keys 100, -1 and [100], encoded.
+// The encoded keys 100, -1 and [100].
 #[test]
 fn compares_keys(rt: HostRuntime) {
     let (hundred, minus_one, in_array) = (b"\x18\x64", b"\x20", b"\x81\x18\x64");

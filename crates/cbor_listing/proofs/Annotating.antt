@@ -1,4 +1,4 @@
--- What the annotated bytes written so far are, and what is answered.
+-- What the annotated bytes written so far are, and what is returned.
 use Rattle.std.proofs.Common.{◌≡◌, ℕ, ◌+◌, ◌-◌, ◌^◌, ◌<◌, ◌≤◌, ◌⊎◌, min, Bool, true, false, cond, codes, List, [], ◌∷◌, ◌++◌, length, take, drop, Option, Some, None, refl, sym, ap, ap₂, ◌∙◌, subst, inl, inr, arith, append_assoc, append-nil, length-append, length-drop, take-append-drop, length-take-le}
 use Rattle.std.specs.Io.KnownBytes.{Consumes, Appends, IsAtEnd}
 use Rattle.std.proofs.KnownBytes.{Consumes-nil, Consumes-trans, Appends-nil, Appends-trans}
@@ -9,12 +9,11 @@ use lib.Seq.{drop-append_seam}
 use Rattle.cbor_head.specs.Prelude.{Bounds, bounds, Spelling, spell, IsItem, form, refusal, accepted, refused, IsVerdict}
 use Rattle.cbor_head.specs.declared.reason.Reason.TheVariants.{Read, Write, Truncated}
 use Rattle.cbor_head.specs.declared.width.Width.TheVariants.{One, Two, Four, Eight}
-use Rattle.cbor_head.specs.declared.{width.Width.Width, reason.Refusal.Refusal}
-use Rattle.cbor_model.proofs.KindsUnasked.{form_beside}
-use Rattle.cbor_automaton.specs.declared.event.EventKind.TheVariants.{Bytes, Text, Chunk, Piece, End}
-use Rattle.cbor_automaton.specs.{Trace.Mark, Trace.total, Trace.more_bytes, Event.event, Event.events, Event.cut, Event.joined, Event.joined_with, Event.piece_onto, Event.kind_onto, Event.onto, Event.event_size, Event.AreReported}
-use Rattle.cbor_automaton.specs.{Marks.marks_of, Marks.count_of, Open.open_after, declared.event.Event.Event, declared.event.EventKind.EventKind}
-use Rattle.cbor_automaton.proofs.{Rows.total-append, Joining.bytes-total}
+use Rattle.cbor_head.specs.declared.event.EventKind.TheVariants.{Bytes, Text, Chunk, Piece, End}
+use Rattle.cbor_head.specs.declared.{width.Width.Width, reason.Refusal.Refusal, event.Event.Event, event.EventKind.EventKind}
+use Rattle.theory_values.proofs.KindsUnasked.{form_beside}
+use Rattle.theory_automaton.specs.{Trace.Mark, Trace.total, Trace.more_bytes, Event.event, Event.events, Event.cut, Event.joined, Event.joined_with, Event.piece_onto, Event.kind_onto, Event.onto, Event.event_size, Event.AreReported}
+use Rattle.theory_automaton.{specs.Marks.marks_of, specs.Marks.count_of, specs.Open.open_after, proofs.Rows.total-append, proofs.Joining.bytes-total}
 use Rattle.cbor_machine.specs.NextEvent.{machine_call, StandsBetween, IsNextEvent, IsEnd, IsCut, IsTooLong, HasFormError}
 use Rattle.cbor_machine.proofs.Reported.{reported-none, reported-joined, next-more, next-all}
 use Rattle.cbor_machine.{specs.Machine.StandsFor, specs.Machine.before, specs.MachineView.MachineView, proofs.Form.complete-verdict}
@@ -84,11 +83,11 @@ context-more : (item : Spelling) (c : Context) (es : List Event) (e : Event)
 context-more item c [] e = refl
 context-more item c (f ∷ es) e = context-more item (context_after (level_in item c f) f c) es e
 
--- these are the lines of the events, and this is the context behind them, in each item that starts with t
+-- these are the lines of the events, and this is the context after them, in each item that starts with t
 abbrev pub AreLines : ℕ → ℕ → List ℕ → List ℕ → List Event → Context → Type 0
 AreLines start d t text es context = (item : Spelling) (rest : List ℕ) → IsItem d item (t ++ rest) → (text ≡ annotated start item es) × (context ≡ context_behind item no_string es)
 
--- The lines of all events so far were written, and no byte behind these events was taken.
+-- The lines of all events so far were written, and no byte after these events was consumed.
 pub record HasAnnotated (start : ℕ) (m : MachineView) (input : List ℕ) (now old new : Option (List ℕ)) (written : ℕ) (context : Context) : Type 0 where
   pub t : List ℕ
   pub marks : List Mark
@@ -117,7 +116,7 @@ none-annotated start m input old s = record {
   count = refl;
 }
 
--- what is written of an event, and the context behind it
+-- what is written for an event, and the context after it
 abbrev pub level_now : MachineView → Context → Event → ℕ
 level_now m context e = level m.open_count context e.kind
 
@@ -130,9 +129,9 @@ size-is m new now to kept piece t ms e s next =
     let sum = total-append ms (marks_of e.width e.kind) in
     omega (arith, sum, s.whole, next.stands.whole, length-append t next.bytes)
 
--- ---- the bytes of an event stand in the input and in the item
+-- ---- the bytes of an event in the input and in the item
 
--- what lies within the first bytes is the same whatever follows
+-- the first bytes do not depend on what follows
 same-part : (all xs ys : List ℕ) (from size : ℕ) → from + size ≤ length all → take size (drop from (all ++ xs)) ≡ take size (drop from (all ++ ys))
 same-part all xs ys from size h =
     let inside : size ≤ length (drop from all) = omega (arith, length-drop from all) in
@@ -146,7 +145,7 @@ cond-same : (b : Bool) (xs ys : List ℕ) → (b ≡ true → xs ≡ ys) → con
 cond-same true xs ys h = h refl
 cond-same false xs ys h = refl
 
--- the lines of an event, of which the bytes are taken, don't depend on what follows
+-- the lines of an event whose bytes were consumed do not depend on what follows
 same-rows : (k : EventKind) (start depth : ℕ) (context : Context) (e : Event) (all xs ys : List ℕ) → e.place + event_size e ≤ length all → IsHeldBehind k (length all) context
     → event_rows_by k start depth context e (all ++ xs) ≡ event_rows_by k start depth context e (all ++ ys)
 same-rows (Piece n) start depth context e all xs ys within held =
@@ -156,7 +155,7 @@ same-rows (Piece n) start depth context e all xs ys within held =
 same-rows k start depth context e all xs ys within held =
     ap (λ (bs : List ℕ). row_start (start + e.place) depth bs ++ meaning k ++ codes "\n") (same-part all xs ys e.place (event_size e) within)
 
--- a payload of which no byte is to come is taken
+-- a payload of which no byte is missing was consumed
 held-behind : (w : Width) (k : EventKind) (t bs : List ℕ) (depth at : ℕ) (c : Context) → length bs ≡ total (marks_of w k) → at ≡ length (t ++ bs) → IsHeld (length t) c
     → IsHeld (length (t ++ bs)) (context_by k depth at c)
 held-behind w (Bytes count) t bs depth at c size is held = omega arith
@@ -185,7 +184,7 @@ consumed-within : (input : List ℕ) (to : Option (List ℕ)) (bs : List ℕ) �
 consumed-within input None bs h = absurd h
 consumed-within input (Some ys) bs h = omega (arith, ap length h, length-append bs ys)
 
--- where the bytes of the event stand in the input
+-- where the bytes of the event are in the input
 pub record EventStands (start : ℕ) (new : MachineView) (input : List ℕ) (context : Context) (e : Event) (bytes : List ℕ) : Type 0 where
   pub within : new.taken ≤ length input
   pub size : new.taken ≡ e.place + event_size e
@@ -209,7 +208,7 @@ event-stands start m new input now to old mid written context kept piece e h nex
       limited = next.stands.stands.limited;
     }
 
--- the lines with those of one event more, whose bytes are there in the input
+-- the lines with those of one more event, whose bytes are in the input
 input-rows : (start depth : ℕ) (context : Context) (e : Event) (input all rest : List ℕ) (to : Option (List ℕ)) → Consumes (Some input) to all → e.place + event_size e ≤ length all
     → IsHeldBehind e.kind (length all) context → event_rows start depth context e input ≡ event_rows start depth context e (all ++ rest)
 input-rows start depth context e input all rest None h within held = absurd h
@@ -233,7 +232,7 @@ rows-are start m new input now to old mid written context kept piece e h next it
           ∙ ap₂ (λ (n : ℕ) (bs : List ℕ). event_rows start n context e bs) same spelled,
     )
 
--- an item that starts with what is taken with the event
+-- an item that starts with the bytes consumed up to the event
 there : (m new : MachineView) (t bs : List ℕ) → new.depth ≡ m.depth → (item : Spelling) (rest : List ℕ) → IsItem new.depth item ((t ++ bs) ++ rest) → IsItem m.depth item (t ++ (bs ++ rest))
 there m new t bs same item rest i = subst (IsItem m.depth item) (append_assoc t bs rest) (subst (λ (d : ℕ). IsItem d item ((t ++ bs) ++ rest)) same i)
 
@@ -295,7 +294,7 @@ taken-within start m new input now to old out written count context kept piece h
 
 -- ---- the item is refused
 
--- of what was taken with the bytes behind the last event
+-- the lines of what was consumed, with the bytes after the last event
 annotation-of : (start : ℕ) (m : MachineView) (input : List ℕ) (now old out : Option (List ℕ)) (written : ℕ) (context : Context) (h : HasAnnotated start m input now old out written context)
     (at : MachineView) (bs : List ℕ) → at.depth ≡ m.depth → StandsFor at (h.t ++ bs) h.marks → IsAnnotation start at.depth (h.t ++ bs) h.text
 annotation-of start m input now old out written context h at bs same stands = record {
@@ -304,7 +303,7 @@ annotation-of start m input now old out written context h at bs same stands = re
       ∙ ap (annotated start s) (reported-joined at (h.t ++ bs) h.marks h.reported stands h.are_reported s rest i);
 }
 
--- the first k bytes of an input are those taken
+-- the first k bytes of an input are those consumed
 prefix-annotated : (start d k : ℕ) (t rest out : List ℕ) → k ≡ length t → IsAnnotation start d t out → IsAnnotation start d (take k (t ++ rest)) out
 prefix-annotated start d k t rest out e h = subst (λ (xs : List ℕ). IsAnnotation start d xs out) (sym (take_at t rest k (sym e))) h
 
@@ -343,7 +342,7 @@ long-unannotated start m new input now to old out written context kept piece h f
     (λ rest k. of_verdict h.text (i.verdict rest)
     (prefix-annotated start new.depth f.place all rest h.text place (annotation-of start m input now old out written context h (before new (length all)) i.bytes same i.stands)) h.annotated_so_far)
 
--- what was taken, with the byte that is refused
+-- what was consumed, with the byte that is refused
 broken-taken : (start : ℕ) (m new : MachineView) (input : List ℕ) (now to old out : Option (List ℕ)) (written : ℕ) (context : Context) (kept piece : List ℕ) (h : HasAnnotated start m input now old out written context) (f : Refusal)
     (i : HasFormError f (machine_call m new now to kept piece h.t h.marks)) → Consumes (Some input) to ((h.t ++ i.bytes) ++ i.byte ∷ [])
 broken-taken start m new input now to old out written context kept piece h f i =
@@ -428,7 +427,7 @@ stopped-unannotated start m new input now to old mid out written count context k
 
 -- ---- the limits
 
--- by form alone, whichever keys are asked for
+-- only the form matters, whatever kinds of keys are allowed
 pub annotated-within : (start : ℕ) (limits : Bounds) (m : MachineView) (input : List ℕ) (old out : Option (List ℕ)) (count : ℕ) → m.depth ≡ limits.depth → m.bytes ≡ limits.bytes
     → IsAnnotated start (bounds m.depth m.bytes) input count old out → IsAnnotated start limits input count old out
 annotated-within start limits m input old out count depth bytes h =

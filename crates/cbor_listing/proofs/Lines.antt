@@ -1,9 +1,8 @@
--- The lines of events: neighbouring pieces as one have the same.
+-- The lines of events: joining neighbouring pieces does not change them.
 use Rattle.std.proofs.Common.{◌≡◌, ℕ, ◌<◌, List, [], ◌∷◌, ◌++◌, length, refl, ap, ◌∙◌, arith, append-nil}
 use Rattle.std.proofs.lemmas.Grind.{flat_map-append}
-use Rattle.cbor_head.specs.declared.width.Width.{Width}
-use Rattle.cbor_automaton.specs.Event.{event, joined_with, piece_onto, kind_onto, onto, joined}
-use Rattle.cbor_automaton.specs.declared.event.{Event.Event, EventKind.EventKind, EventKind.TheVariants.Piece}
+use Rattle.cbor_head.specs.declared.{width.Width.Width, event.Event.Event, event.EventKind.EventKind, event.EventKind.TheVariants.Piece}
+use Rattle.theory_automaton.specs.Event.{event, joined_with, piece_onto, kind_onto, onto, joined}
 use Rattle.cbor_listing.specs.Listing.{line, lines}
 
 pub lines-more : (start : ℕ) (es : List Event) (e : Event) → lines start (es ++ e ∷ []) ≡ lines start es ++ line start e
@@ -27,7 +26,7 @@ pub lines-joined : (start : ℕ) (es : List Event) → lines start (joined es) �
 lines-joined start [] = refl
 lines-joined start (e ∷ es) = kind-lines start e.place e.width e.kind (joined es) ∙ ap (λ l. line start e ++ l) (lines-joined start es)
 
--- ---- an event that is no piece stands by itself
+-- ---- an event that is not a piece is not joined
 
 abbrev pub HasLine : EventKind → Type 0
 HasLine (Piece n) = ⊥

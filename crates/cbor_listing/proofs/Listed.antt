@@ -1,4 +1,4 @@
--- What a listing has written so far, and what it answers.
+-- What a listing has written so far, and what it returns.
 use Rattle.std.proofs.Common.{◌≡◌, ℕ, ◌+◌, ◌-◌, ◌^◌, ◌<◌, ◌≤◌, ◌⊎◌, min, List, [], ◌∷◌, ◌++◌, length, take, drop, Option, Some, None, refl, sym, ap, ◌∙◌, subst, inl, inr, arith, append_assoc, append-nil, length-append, take-append-drop, length-take-le}
 use Rattle.std.specs.Io.KnownBytes.{Consumes, Appends, IsAtEnd}
 use Rattle.std.proofs.KnownBytes.{Consumes-nil, Consumes-trans, Appends-nil, Appends-trans}
@@ -6,19 +6,19 @@ use Rattle.std.{proofs.lemmas.List.take_at, specs.Option.IfSome}
 use lib.Seq.{drop-append_seam}
 use Rattle.cbor_head.specs.Prelude.{Bounds, bounds, Spelling, spell, IsItem, form, refusal, accepted, refused, IsVerdict}
 use Rattle.cbor_head.specs.declared.reason.Reason.TheVariants.{Read, Write, Truncated}
-use Rattle.cbor_head.specs.declared.{width.Width.Width, reason.Reason.Reason, reason.Refusal.Refusal}
-use Rattle.cbor_model.proofs.{Accepted.accepts_exactly, KindsUnasked.form_beside, ReadLaws.unique}
-use Rattle.cbor_automaton.specs.{Trace.Mark, Trace.total, Marks.marks_of, Marks.IsProper, Reasons.IsEventReason, Event.joined, Event.AreReported}
-use Rattle.cbor_automaton.specs.declared.event.{Event.Event, EventKind.EventKind, EventKind.TheVariants.Piece}
-use Rattle.cbor_automaton.proofs.{Joining.bytes-total, Rows.total-append}
+use Rattle.cbor_head.specs.declared.{width.Width.Width, reason.Reason.Reason, reason.Refusal.Refusal, event.Event.Event, event.EventKind.EventKind}
+use Rattle.cbor_head.specs.declared.event.EventKind.TheVariants.{Piece}
+use Rattle.theory_values.proofs.{Accepted.accepts_exactly, KindsUnasked.form_beside, ReadLaws.unique}
+use Rattle.theory_automaton.specs.{Trace.Mark, Trace.total, Marks.marks_of, Marks.IsProper, Reasons.IsEventReason, Event.joined, Event.AreReported}
+use Rattle.theory_automaton.proofs.{Joining.bytes-total, Rows.total-append}
 use Rattle.cbor_machine.specs.NextEvent.{machine_call, StandsBetween, IsNextEvent, IsEnd, IsCut, IsTooLong, HasFormError}
 use Rattle.cbor_machine.proofs.Reported.{reported-none, reported-joined, next-more, next-all}
 use Rattle.cbor_machine.{specs.Machine.StandsFor, specs.Machine.before, specs.MachineView.MachineView, proofs.Form.complete-verdict}
-use Rattle.cbor_verdict.specs.Readers.{Loses}
+use Rattle.theory_verdicts.specs.Readers.{Loses}
 use Rattle.cbor_listing.specs.Listing.{line, lines, IsListing, IsStopped, IsListed, IsUnlisted, IsListingReason, of_verdict, of_reader, of_writer}
 use Rattle.cbor_listing.proofs.Lines.{lines-more, lines-joined, has-line, joined-last}
 
--- The lines of all events so far were written, and no byte behind these events was taken.
+-- The lines of all events so far were written, and no byte after these events was consumed.
 pub record HasListed (start : ℕ) (m : MachineView) (from now old new : Option (List ℕ)) (written : ℕ) : Type 0 where
   pub t : List ℕ
   pub marks : List Mark
@@ -47,7 +47,7 @@ one-more start m new from now to old mid out written more kept piece e h next wr
       count = omega (arith, size, h.count, sum);
     }
 
--- ---- each event has a byte
+-- ---- each event has at least one byte
 
 some-marks : (w : Width) (k : EventKind) → IsProper w k → 0 < total (marks_of w k)
 some-marks w (Piece n) h = let size = bytes-total n in let some = h.1 in omega (arith, size, some)
@@ -60,14 +60,14 @@ takes-more m new now to kept piece t ms e s next =
     let sum = total-append ms (marks_of e.width e.kind) in
     (omega (arith, some, sum, s.stands.taken, s.whole, next.stands.stands.taken, next.stands.whole), next.stands.stands.limited)
 
--- the place of the next event is within the limit
+-- the offset of the next event is within the limit
 pub place-within : (m new : MachineView) (now to : Option (List ℕ)) (kept piece t : List ℕ) (ms : List Mark) (e : Event) → StandsBetween m t ms
     → IsNextEvent e (machine_call m new now to kept piece t ms) → e.place ≤ new.bytes
 place-within m new now to kept piece t ms e s next =
     let more = takes-more m new now to kept piece t ms e s next in
     omega (arith, more, next.place, s.stands.taken)
 
--- ---- what the reader lost
+-- ---- what was read from the reader
 
 pub loses : (bs : List ℕ) (k : ℕ) (from to : Option (List ℕ)) → k ≡ length bs → Consumes from to bs → Loses k from to
 loses bs k None to e h = tt
@@ -77,7 +77,7 @@ loses bs k (Some xs) (Some ys) e h = (
   omega (arith, e, ap length h, length-append bs ys),
 )
 
--- of a reader whose bytes are known, that they begin with those taken
+-- if the reader's bytes are known, they begin with those consumed
 pub known : (from to : Option (List ℕ)) (bs : List ℕ) (P : List ℕ → Type 0) → Consumes from to bs → ((rest : List ℕ) → to ≡ Some rest → P (bs ++ rest)) → IfSome from P
 known None to bs P h f = tt
 known (Some xs) None bs P h f = absurd h
@@ -119,7 +119,7 @@ listing-of start m t ms es stands reported = record {
   of_events = λ s rest i. sym (lines-joined start es) ∙ ap (lines start) (reported-joined m t ms es stands reported s rest i);
 }
 
--- the first k bytes of an input are those taken
+-- the first k bytes of an input are those consumed
 prefix-listed : (start : ℕ) (d k : ℕ) (t rest out : List ℕ) → k ≡ length t → IsListing start d t out → IsListing start d (take k (t ++ rest)) out
 prefix-listed start d k t rest out e h = subst (λ (xs : List ℕ). IsListing start d xs out) (sym (take_at t rest k (sym e))) h
 
@@ -158,7 +158,7 @@ long-unlisted start m new from now to old out written kept piece h f i =
     (λ rest k. of_verdict (lines start h.reported) (i.verdict rest)
     (prefix-listed start new.depth f.place all rest (lines start h.reported) place (listing-of start (before new (length all)) all h.marks h.reported i.stands h.are_reported)) h.listed)
 
--- what was taken, with the byte that is refused
+-- what was consumed, with the byte that is refused
 broken-taken : (start : ℕ) (m new : MachineView) (from now to old out : Option (List ℕ)) (written : ℕ) (kept piece : List ℕ) (h : HasListed start m from now old out written) (f : Refusal) (i : HasFormError f (machine_call m new now to kept piece h.t h.marks))
     → Consumes from to ((h.t ++ i.bytes) ++ i.byte ∷ [])
 broken-taken start m new from now to old out written kept piece h f i =
@@ -191,7 +191,7 @@ refused-lost start m new from now to old out written kept piece h f (inr (inr i)
 
 -- ---- the writer stopped
 
--- the lines so far, and the prefix of the next
+-- the lines so far, and the start of the next
 abbrev stopped_lines : ℕ → List Event → Event → ℕ → List ℕ
 stopped_lines start es e n = lines start es ++ take n (line start e)
 
@@ -234,14 +234,14 @@ stopped-lost start m new from now to old mid written kept piece e h n next is =
 
 -- ---- the reasons
 
--- the events stop for no other
+-- the events stop for no other reason
 pub listing_reason : (r : Reason) → IsEventReason r → IsListingReason r
 listing_reason Write h = tt
 listing_reason _ h = h
 
 -- ---- the limits
 
--- by form alone, whichever keys are asked for
+-- only the form matters, whatever kinds of keys are allowed
 pub listed-within : (start : ℕ) (limits : Bounds) (m : MachineView) (from old out : Option (List ℕ)) (count : ℕ) → m.depth ≡ limits.depth → m.bytes ≡ limits.bytes
     → IfSome from (λ input. IsListed start (bounds m.depth m.bytes) input count old out) → IfSome from (λ input. IsListed start limits input count old out)
 listed-within start limits m None old out count depth bytes h = tt

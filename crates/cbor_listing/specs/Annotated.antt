@@ -1,13 +1,14 @@
--- The annotated bytes of an item: for each head and each break a line with its offset, its bytes and what they mean; of a payload a line for each 16 bytes.
+-- The annotated bytes of an item: a line for each head and each break, with its offset, its bytes and what they mean; a line for each 16 bytes of a
+-- payload.
 use Rattle.std.specs.Prelude.{◌≡◌, ℕ, zero, suc, ◌+◌, ◌-◌, ◌*◌, ◌/◌, ◌==◌, ◌&&◌, ◌<◌, ◌++◌, nat_le, nat_lt, min, if◌then◌else◌, Bool, true, false, List, [], ◌∷◌, length, map, take, drop, replicate, Option, Some, None, is_none, codes, decimal}
 use Rattle.std.specs.Io.KnownBytes.{Appends}
 use Rattle.hex.specs.Hex.{encode_lower}
 use Rattle.cbor_head.specs.Prelude.{Bounds, Spelling, IsItem, spell, IsBeginning, form, refusal, accepted, refused, IsVerdict}
 use Rattle.cbor_head.specs.declared.reason.Reason.TheVariants.{Read, Write, Truncated}
-use Rattle.cbor_head.specs.declared.reason.Refusal.{Refusal}
-use Rattle.cbor_automaton.specs.Event.{events, event_size, cut, joined}
-use Rattle.cbor_automaton.specs.declared.event.EventKind.TheVariants.{Unsigned, Negative, Simple, Bytes, Text, Chunk, Piece, Array, Map, Tag, End}
-use Rattle.cbor_automaton.specs.{Open.open_after, Marks.count_of, declared.event.Event.Event, declared.event.EventKind.EventKind}
+use Rattle.cbor_head.specs.declared.event.EventKind.TheVariants.{Unsigned, Negative, Simple, Bytes, Text, Chunk, Piece, Array, Map, Tag, End}
+use Rattle.cbor_head.specs.declared.{reason.Refusal.Refusal, event.Event.Event, event.EventKind.EventKind}
+use Rattle.theory_automaton.specs.Event.{events, event_size, cut, joined}
+use Rattle.theory_automaton.specs.{Open.open_after, Marks.count_of}
 use Rattle.cbor_listing.specs.{Written.capped, declared.annotated_line.Context.Context}
 
 -- ---- columns
@@ -15,7 +16,7 @@ use Rattle.cbor_listing.specs.{Written.capped, declared.annotated_line.Context.C
 abbrev pub spaces : ℕ → List ℕ
 spaces n = replicate n 0x20
 
--- offset, bytes in hex and indentation: 8, 32 and as many columns as the level asks for, two spaces between
+-- offset, bytes in hex and indentation: 8 and 32 columns and the columns of the level, with two spaces between
 abbrev pub row_start : ℕ → ℕ → List ℕ → List ℕ
 row_start at level bytes =
     spaces (8 - length (decimal at)) ++ decimal at ++ codes "  "
@@ -42,7 +43,7 @@ simple_meaning n =
     else if n == 23 then codes "undefined"
     else codes "simple value " ++ decimal n
 
--- of a head or a break
+-- what a head or a break means
 abbrev pub meaning : EventKind → List ℕ
 meaning (Unsigned n) = codes "unsigned integer " ++ decimal n
 meaning (Negative n) = codes "negative integer -" ++ decimal (n + 1)
@@ -60,7 +61,7 @@ meaning End = codes "break"
 abbrev pub visible : ℕ → ℕ
 visible b = if nat_le 0x20 b && nat_le b 0x7e then b else 0x2e
 
--- of some bytes of a payload
+-- what bytes of a payload hold
 abbrev pub content : Bool → List ℕ → List ℕ
 content true bytes = codes "\"" ++ map visible bytes ++ codes "\""
 content false bytes = codes "h'" ++ encode_lower bytes ++ codes "'"
@@ -70,24 +71,24 @@ content false bytes = codes "h'" ++ encode_lower bytes ++ codes "'"
 abbrev pub payload_row : ℕ → ℕ → Bool → List ℕ → List ℕ
 payload_row at level is_text bytes = row_start at level bytes ++ content is_text bytes ++ codes "\n"
 
--- the first of the lines of a payload's bytes, 16 bytes each but for the last
+-- the first lines of a payload's bytes, 16 bytes each, fewer in the last
 abbrev pub payload_rows : ℕ → ℕ → ℕ → Bool → List ℕ → List ℕ
 payload_rows zero at level is_text bytes = []
 payload_rows (suc k) at level is_text bytes =
     payload_rows k at level is_text bytes ++ payload_row (at + 16 * k) level is_text (take 16 (drop (16 * k) bytes))
 
--- the lines of a payload, and one that says so where it has more than 512 bytes, which are all that is shown
+-- the lines of a payload of at most 512 bytes; of a longer one the lines of the first 512, and a line that says so
 abbrev pub payload_text : ℕ → ℕ → Bool → List ℕ → List ℕ
 payload_text at level is_text bytes =
     payload_rows ((min 512 (length bytes) + 15) / 16) at level is_text bytes
     ++ (if nat_lt 512 (length bytes) then codes "          ..\n" else [])
 
--- whether a piece of n bytes ends a payload of which so many are to come
+-- whether a piece of n bytes ends a payload of which this number of bytes is still to come
 abbrev pub ends_payload : ℕ → ℕ → Bool
 ends_payload left n = nat_lt 0 left && nat_le left n
 
--- Of a head or a break its line, and with the last piece of a payload the lines of all its bytes. The bytes are those from the start of
--- the item, which stand there in the input.
+-- For a head or a break its line; for the last piece of a payload the lines of all its bytes. The bytes are those from the start of the item, which is at
+-- this offset of the input.
 abbrev pub event_rows_by : EventKind → ℕ → ℕ → Context → Event → List ℕ → List ℕ
 event_rows_by (Piece n) start level context e bytes =
     if ends_payload context.left n then payload_text (start + context.begun) context.level context.is_text (take context.size (drop context.begun bytes)) else []
@@ -97,11 +98,11 @@ event_rows_by kind start level context e bytes =
 abbrev pub event_rows : ℕ → ℕ → Context → Event → List ℕ → List ℕ
 event_rows start level context e bytes = event_rows_by e.kind start level context e bytes
 
--- behind the head of a string, or of a chunk, that stands at this level and ends there
+-- after the head of a string or of a chunk, which is at this level and ends at this offset
 abbrev pub string_context : Bool → Bool → ℕ → ℕ → ℕ → Context
 string_context is_text in_chunks level at size = record { is_text = is_text; in_chunks = in_chunks; level = level + 1; begun = at; size = size; left = size }
 
--- behind an event that stands at this level and ends there
+-- after an event that is at this level and ends at this offset
 abbrev pub context_by : EventKind → ℕ → ℕ → Context → Context
 context_by (Bytes count) level at context = string_context false (is_none count) level at (count_of count)
 context_by (Text count) level at context = string_context true (is_none count) level at (count_of count)
@@ -113,7 +114,8 @@ context_by _ level at context = context
 abbrev pub context_after : ℕ → Event → Context → Context
 context_after level e context = context_by e.kind level (e.place + event_size e) context
 
--- how deep the line of an event stands, before which so many arrays, maps and tags are open; a break stands where its head does
+-- the level of the line of an event, before which this number of arrays, maps and tags is open; a break is at the level
+-- of its head
 abbrev pub level : ℕ → Context → EventKind → ℕ
 level opened context (Chunk n) = opened + 1
 level opened context End = if context.in_chunks then opened else opened - 1
@@ -147,12 +149,12 @@ annotated start item es = annotated_behind start item no_string es
 
 -- ---- what was written
 
--- the annotated bytes of t, which stand at start: of each item that starts with them, the lines of the events that end within them
+-- the annotated bytes of t, at offset start: of each item that starts with them, the lines of the events that end within them
 pub record IsAnnotation (start d : ℕ) (t out : List ℕ) : Type 0 where
   pub beginning : IsBeginning d t
   pub of_events : (s : Spelling) (rest : List ℕ) → IsItem d s (t ++ rest) → out ≡ annotated start s (cut (length t) (events 0 s))
 
--- The same up to within the lines of the last event, which ends where t does: no byte behind it was taken.
+-- The same up to a point within the lines of the last event, which ends where t does: no byte after it was consumed.
 pub record IsAnnotationCut (start d : ℕ) (t out : List ℕ) : Type 0 where
   pub beginning : IsBeginning d t
   pub earlier : List Event
@@ -164,7 +166,7 @@ pub record IsAnnotationCut (start d : ℕ) (t out : List ℕ) : Type 0 where
       → (part < length (annotated_event start s (context_behind s no_string earlier) last))
       × (out ≡ annotated start s earlier ++ take part (annotated_event start s (context_behind s no_string earlier) last))
 
--- the item at the start of the bytes b, which stand at start, is accepted, and all its lines were written
+-- the item at the start of the bytes b, at offset start, is accepted, and all its lines were written
 pub record IsAnnotated (start : ℕ) (limits : Bounds) (b : List ℕ) (count : ℕ) (old new : Option (List ℕ)) : Type 0 where
   pub item : Spelling
   pub verdict : IsVerdict limits form b (accepted item)
@@ -173,13 +175,13 @@ pub record IsAnnotated (start : ℕ) (limits : Bounds) (b : List ℕ) (count : �
 
 -- the bytes b are refused, and something was written
 pub data IsUnannotated (start : ℕ) (limits : Bounds) (b : List ℕ) (f : Refusal) (old new : Option (List ℕ)) : Type 0 where
-  -- the verdict of form: the annotated bytes before its place
+  -- the verdict of form: the annotated bytes before its offset
   of_verdict : (out : List ℕ) → IsVerdict limits form b (refused f)
       → IsAnnotation start limits.depth (take f.place b) out → Appends old new out → IsUnannotated start limits b f old new
-  -- the reader failed: the annotated bytes taken; as a whole input, these are Truncated
+  -- the reader failed: the annotated bytes consumed; as a whole input, these are Truncated
   of_reader : (out : List ℕ) → f ≡ refusal Read f.read f.read
       → IsVerdict limits form (take f.read b) (refused (refusal Truncated f.read f.read))
       → IsAnnotation start limits.depth (take f.read b) out → Appends old new out → IsUnannotated start limits b f old new
-  -- the writer failed or took nothing: the annotated bytes taken, up to the place
+  -- the writer failed or accepted nothing: the annotated bytes consumed, up to the offset
   of_writer : (out : List ℕ) → f ≡ refusal Write (capped (length out)) f.read
       → IsAnnotationCut start limits.depth (take f.read b) out → Appends old new out → IsUnannotated start limits b f old new

@@ -4,10 +4,10 @@ use Rattle.std.specs.Io.KnownBytes.{Appends}
 use Rattle.cbor_head.specs.Prelude.{Bounds, Spelling, IsItem, spell, IsBeginning, form, refusal, accepted, refused, IsVerdict}
 use Rattle.cbor_head.specs.declared.reason.Reason.TheVariants.{Read, Write, Truncated}
 use Rattle.cbor_head.specs.declared.width.Width.TheVariants.{Direct, One, Two, Four, Eight, Indefinite}
-use Rattle.cbor_head.specs.declared.{reason.Reason.Reason, reason.Refusal.Refusal, width.Width.Width}
-use Rattle.cbor_automaton.specs.Event.{events, event_size, cut}
-use Rattle.cbor_automaton.specs.declared.event.EventKind.TheVariants.{Unsigned, Negative, Simple, Bytes, Text, Chunk, Piece, Array, Map, Tag, End}
-use Rattle.cbor_automaton.specs.{Reasons.IsEventReason, declared.event.Event.Event, declared.event.EventKind.EventKind}
+use Rattle.cbor_head.specs.declared.event.EventKind.TheVariants.{Unsigned, Negative, Simple, Bytes, Text, Chunk, Piece, Array, Map, Tag, End}
+use Rattle.cbor_head.specs.declared.{reason.Reason.Reason, reason.Refusal.Refusal, width.Width.Width, event.Event.Event, event.EventKind.EventKind}
+use Rattle.theory_automaton.specs.Event.{events, event_size, cut}
+use Rattle.theory_automaton.specs.Reasons.{IsEventReason}
 use Rattle.cbor_listing.specs.Written.{capped}
 
 -- the name of an event, and the argument of its head if it has one; a piece has no line
@@ -30,7 +30,7 @@ abbrev pub argument_text : Option ℕ → List ℕ
 argument_text None = codes "-"
 argument_text (Some n) = decimal n
 
--- how many bytes of the argument stand behind the first byte of a head, or a hyphen for no argument
+-- the number of bytes of the argument after the first byte of a head, or a hyphen for no argument
 abbrev pub width_text : Width → List ℕ
 width_text Direct = codes "0"
 width_text One = codes "1"
@@ -55,15 +55,14 @@ line start e = row start e (columns e.kind)
 abbrev pub lines : ℕ → List Event → List ℕ
 lines start es = flat_map (line start) es
 
--- the listing of the bytes t, which stand at start: of each item that starts with them, the lines of
--- the events that end within them
+-- the listing of the bytes t, at offset start: of each item that starts with them, the lines of the events that end
+-- within them
 pub record IsListing (start d : ℕ) (t out : List ℕ) : Type 0 where
   pub beginning : IsBeginning d t
   pub of_events : (s : Spelling) (rest : List ℕ) → IsItem d s (t ++ rest)
       → out ≡ lines start (cut (length t) (events 0 s))
 
--- The same up to within the last line. The event of this line ends where t does: no byte behind it
--- was taken.
+-- The same up to a point within the last line. The event of this line ends where t does: no byte after it was consumed.
 pub record IsStopped (start d : ℕ) (t out : List ℕ) : Type 0 where
   pub beginning : IsBeginning d t
   pub earlier : List Event
@@ -75,7 +74,7 @@ pub record IsStopped (start d : ℕ) (t out : List ℕ) : Type 0 where
   pub within : part < length (line start last)
   pub is : out ≡ lines start earlier ++ take part (line start last)
 
--- the item at the start of the bytes b, which stand at start, is accepted, and its listing was written
+-- the item at the start of the bytes b, at offset start, is accepted, and its listing was written
 pub record IsListed (start : ℕ) (limits : Bounds) (b : List ℕ) (count : ℕ) (old new : Option (List ℕ)) : Type 0 where
   pub item : Spelling
   pub verdict : IsVerdict limits form b (accepted item)
@@ -84,14 +83,14 @@ pub record IsListed (start : ℕ) (limits : Bounds) (b : List ℕ) (count : ℕ)
 
 -- the bytes b are refused, and something was written
 pub data IsUnlisted (start : ℕ) (limits : Bounds) (b : List ℕ) (f : Refusal) (old new : Option (List ℕ)) : Type 0 where
-  -- the verdict of form: the listing of the bytes before its place
+  -- the verdict of form: the listing of the bytes before its offset
   of_verdict : (out : List ℕ) → IsVerdict limits form b (refused f)
       → IsListing start limits.depth (take f.place b) out → Appends old new out → IsUnlisted start limits b f old new
-  -- the reader failed: the listing of the bytes taken; as a whole input, these are Truncated
+  -- the reader failed: the listing of the bytes consumed; as a whole input, these are Truncated
   of_reader : (out : List ℕ) → f ≡ refusal Read f.read f.read
       → IsVerdict limits form (take f.read b) (refused (refusal Truncated f.read f.read))
       → IsListing start limits.depth (take f.read b) out → Appends old new out → IsUnlisted start limits b f old new
-  -- the writer failed or took nothing: the listing of the bytes taken, up to the place
+  -- the writer failed or accepted nothing: the listing of the bytes consumed, up to the offset
   of_writer : (out : List ℕ) → f ≡ refusal Write (capped (length out)) f.read
       → IsStopped start limits.depth (take f.read b) out → Appends old new out → IsUnlisted start limits b f old new
 

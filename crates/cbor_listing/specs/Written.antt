@@ -1,4 +1,4 @@
--- How many bytes a writer is said to have taken.
+-- The number of bytes that a writer accepted.
 use Rattle.std.specs.Prelude.{ℕ, ◌-◌, ◌^◌, min}
 
 -- a count of bytes, which stops at 2^64 - 1

@@ -1,2 +1,2 @@
--- What private functions speak of; no public contract does.
+-- Definitions that only private functions use.
 pub mod Annotated

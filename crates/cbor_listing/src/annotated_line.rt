@@ -4,8 +4,8 @@ ghost use Rattle.std.specs.Prelude.{◌≡◌, ◌≤◌, ◌<◌, ◌+◌, ◌-
 ghost use Rattle.std.specs.Prelude.{take, drop, decimal};
 ghost use Rattle.arrayvec.specs.ArrayVec.{array_vec_len};
 ghost use Rattle.hex.specs.Hex.{encode_lower};
-ghost use Rattle.cbor_automaton.specs.Event.{event_size};
-ghost use Rattle.cbor_automaton.specs.Marks.{count_of};
+ghost use Rattle.theory_automaton.specs.Event.{event_size};
+ghost use Rattle.theory_automaton.specs.Marks.{count_of};
 ghost use Rattle.cbor_listing.specs.Annotated.{row_start, spaces, visible, content, payload_row, payload_rows};
 ghost use Rattle.cbor_listing.specs.Annotated.{payload_text, ends_payload, event_rows, context_by, no_string, level};
 ghost use Rattle.cbor_listing.specs.Annotated.{string_context as spec_of_string};
@@ -14,45 +14,45 @@ ghost use Rattle.cbor_listing.specs.inner.Annotated.{IsShortHead, IsHeldBehind};
 use crate::event_meaning::push_meaning;
 use crate::line::{push, push_number, push_spaces};
 use arrayvec::ArrayVec;
-use cbor_automaton::{Event, EventKind};
+use cbor_head::{Event, EventKind};
 use itoa::Buffer;
 
-// How many bytes of a payload have a line, and how many hex digits that is.
+// The number of payload bytes on a line, and of their hex digits.
 const ROW: usize = 16;
 
 const DIGITS: usize = 2 * ROW;
 
-// Deeper lines stand as deep as this level does.
+// Deeper levels are indented as this one.
 const MOST_LEVELS: usize = 32;
 
-// So many bytes of a payload are shown.
+// The number of bytes of a payload that are shown.
 const MOST_SHOWN: usize = 512;
 
-// A line of a payload has at most 160 bytes, that of a head at most 190. An event has at most 33 of them.
+// A line of a payload has at most 160 bytes, that of a head at most 190. An event has at most 33 lines.
 const LONGEST: usize = 5376;
 
 // The lines of an event, put together to be written at once.
 pub(crate) type Rows = ArrayVec<u8, LONGEST>;
 
-// What the last head of a string, or of a chunk, says about what comes behind it.
+// What the last head of a string, or of a chunk, says about what comes after it.
 #[derive(Clone, Copy)]
 pub(crate) struct Context {
     // Whether it is a text.
     pub(crate) is_text: bool,
-    // Whether it has indefinite length, and its break is to come.
+    // Whether it has indefinite length, and its break is still missing.
     pub(crate) in_chunks: bool,
-    // How deep its payload stands.
+    // The level of its payload.
     pub(crate) level: usize,
     // Where its payload begins, counted from the start of the item.
     pub(crate) begun: u64,
     // How many bytes it has.
     pub(crate) size: u64,
-    // How many of them are to come.
+    // How many of them are still missing.
     pub(crate) left: u64,
 }
 
 impl Context {
-    // Before any event.
+    // The context before any event.
     pub(crate) fn none() -> Context
         ensures { result ≡ no_string }
     {
@@ -66,7 +66,7 @@ impl Context {
         }
     }
 
-    // Behind an event that stands at this level, and ends there.
+    // The context after an event that is at this level and ends at this offset.
     pub(crate) fn after(self, kind: &EventKind, level: usize, at: u64) -> Context
         requires { level < 2 ^ 32 }
         ensures { result ≡ context_by kind.now level at self }
@@ -99,7 +99,7 @@ impl Context {
         }
     }
 
-    // How deep an event stands, before which so many containers are open.
+    // The level of an event, before which this number of containers is open.
     pub(crate) fn level_of(self, opened: usize, kind: &EventKind) -> usize
         requires { opened < 2 ^ 16 }
         ensures { result ≡ level opened self kind.now }
@@ -111,7 +111,7 @@ impl Context {
         }
     }
 
-    // Whether a piece of so many bytes is the last of the payload.
+    // Whether a piece of this number of bytes is the last of the payload.
     fn ends_with(self, n: usize) -> bool
         ensures { result ≡ ends_payload self.left n }
     {
@@ -142,8 +142,8 @@ fn size_of(count: Option<u64>) -> u64
     }
 }
 
-// Makes `rows` the lines of an event at this level, of the item that the input starts with, and that stands there. So
-// many bytes of it were taken with the event.
+// Sets `rows` to the lines of an event of the item that the input starts with. `start` is the item's own
+// offset. The first `taken` bytes of the item end with the event.
 pub(crate) fn set_rows(
     rows: &mut Rows,
     start: u64,
@@ -183,7 +183,7 @@ pub(crate) fn set_rows(
     }
 }
 
-// So many bytes from there on.
+// This number of bytes, from this offset on.
 fn part_of(input: &[u8], from: u64, size: u64) -> &[u8]
     requires { from + size ≤ length input.now }
     ensures { result.now ≡ take size (drop from input.now) }
@@ -245,7 +245,7 @@ fn push_row(rows: &mut Rows, at: u64, level: usize, is_text: bool, bytes: &[u8])
     push(rows, b"\n");
 }
 
-// Offset, bytes and indentation.
+// Writes the offset, the bytes and the indentation.
 fn push_start(rows: &mut Rows, at: u64, level: usize, bytes: &[u8])
     requires few { length bytes.now ≤ 16 }
     requires fits { array_vec_len rows.old + 120 ≤ 5376 }
@@ -260,7 +260,7 @@ fn push_start(rows: &mut Rows, at: u64, level: usize, bytes: &[u8])
     push_spaces(rows, 2 * level.min(MOST_LEVELS));
 }
 
-// The offset, at the right of its column.
+// Writes the offset, right-aligned in its column.
 fn push_offset(rows: &mut Rows, at: u64)
     requires fits { array_vec_len rows.old + 20 ≤ 5376 }
     ensures text { rows.new.items
@@ -273,7 +273,7 @@ fn push_offset(rows: &mut Rows, at: u64)
     push(rows, digits);
 }
 
-// Two digits a byte.
+// Writes two hex digits for each byte.
 fn push_digits(rows: &mut Rows, bytes: &[u8])
     requires few { length bytes.now ≤ 16 }
     requires fits { array_vec_len rows.old + 32 ≤ 5376 }
@@ -288,7 +288,7 @@ fn push_digits(rows: &mut Rows, bytes: &[u8])
     }
 }
 
-// What bytes of a payload hold.
+// Writes what bytes of a payload hold.
 fn push_content(rows: &mut Rows, is_text: bool, bytes: &[u8])
     requires few { length bytes.now ≤ 16 }
     requires fits { array_vec_len rows.old + 36 ≤ 5376 }
@@ -306,7 +306,7 @@ fn push_content(rows: &mut Rows, is_text: bool, bytes: &[u8])
     }
 }
 
-// The bytes of a text, each that is not printable ASCII as a dot.
+// Writes the bytes of a text, with a dot for each that is not printable ASCII.
 fn push_visible(rows: &mut Rows, bytes: &[u8])
     requires few { length bytes.now ≤ 16 }
     requires fits { array_vec_len rows.old + 16 ≤ 5376 }

@@ -10,9 +10,9 @@ use cbor_head::{Limits, Reason, Refusal};
 use cbor_item::write_whole;
 use std::io::Write;
 
-/// Writes for each event of the item at the start of the bytes its offset, its bytes in hex and what they mean, indented by
-/// depth, and answers how many bytes the item has. The item starts at the offset `start` of an input of many: the offsets in
-/// its lines are counted from the start of that input, and the places of a refusal from the start of the item.
+/// Writes a line for each event of the item that the bytes begin with: its offset, its bytes in hex and what they mean, indented by
+/// depth. Returns the number of bytes of the item. The item starts at the offset `start` of an input of several items: the offsets in its
+/// lines are counted from the start of that input, and the offsets of a refusal from the start of the item.
 ///
 /// Of `bf 63 46 75 6e f5 ff`, the map of "Fun" to true:
 ///
@@ -24,11 +24,11 @@ use std::io::Write;
 ///        6  ff                                break
 /// ```
 ///
-/// A payload has a line for each 16 bytes of it, once all of it was read; of more than 512 bytes the first are shown, and a line
-/// with `..`. Of a text, a byte that is not printable ASCII is shown as a dot. Levels beyond 32 are not indented further.
+/// A payload has a line for each 16 bytes of it, written once all of it was read. Of more than 512 bytes the first 512 are shown, and a
+/// line with `..`. In a text, a byte that is not printable ASCII is shown as a dot. Levels beyond 32 are not indented further.
 ///
-/// Only the form is checked, as by [`listing`](crate::listing): what was written before a refusal stays, and a writer that
-/// fails is `Write`, its place how many bytes it took. No memory is taken.
+/// Only the form is checked, as by [`listing`](crate::listing). What was written before a refusal stays. If the writer fails, the refusal
+/// is `Write`, and its `place` is the number of bytes that the writer accepted. Nothing is allocated.
 pub fn annotated<W: Write>(
     bytes: &[u8],
     start: u64,

@@ -7,8 +7,7 @@ ghost use Rattle.cbor_listing.specs.Listing.{columns, argument_text, width_text,
 
 use crate::line::{push, push_number};
 use arrayvec::ArrayVec;
-use cbor_automaton::{Event, EventKind};
-use cbor_head::Width;
+use cbor_head::{Event, EventKind, Width};
 
 // An offset and an argument have at most 20 digits each, a name at most 8 letters; with the width,
 // three spaces and the line feed that is 53.
@@ -69,7 +68,7 @@ fn columns_of(kind: &EventKind) -> Option<(&'static [u8], Option<u64>)>
     Some(columns)
 }
 
-// How many bytes an argument of this width has behind the first of its head.
+// The number of bytes that an argument of this width has after the first byte of its head.
 fn width_digit(width: Width) -> [u8; 1]
     ensures { result ≡ width_text width }
 {

@@ -1,7 +1,7 @@
 //! The listing of an item's events.
 
 ghost use Rattle.std.specs.Prelude.{◌+◌, ◌<◌, ◌^◌, IfOk, IfErr, IfSome};
-ghost use Rattle.cbor_verdict.specs.Readers.{Loses};
+ghost use Rattle.theory_verdicts.specs.Readers.{Loses};
 ghost use Rattle.cbor_listing.specs.Listing.{IsListed, IsUnlisted, IsListingReason};
 
 use crate::event_line::line_of;
@@ -10,8 +10,8 @@ use cbor_head::{Limits, Reason, Refusal};
 use cbor_item::write_whole;
 use std::io::{Read, Write};
 
-/// Writes a line for each event of the item that the reader's bytes begin with, but for the pieces
-/// of payloads, and answers how many bytes the item has (RFC 8949, section 3).
+/// Writes a line for each event of the reader's next item, except for the pieces of payloads, and
+/// returns the number of bytes of the item (RFC 8949, section 3).
 ///
 /// A line is the event's offset, name, argument and width, with one space between. Of
 /// `82 01 18 64`, the array of 1 and 100:
@@ -22,11 +22,11 @@ use std::io::{Read, Write};
 /// 2 unsigned 100 1
 /// ```
 ///
-/// The line of an event is written before the next byte is asked for, and no byte behind the item
-/// is read. Only the form is checked, neither UTF-8 nor keys. What was written before a refusal
-/// stays: the lines of the events of all that was taken, but for a byte that is refused. A write
-/// that gives an error, `Interrupted` too, or takes nothing is `Write`; its place is how many bytes
-/// the writer took of the lines, and stays at 2^64 - 1. No memory is taken.
+/// The line of an event is written before the next byte is read, and no byte after the item is read.
+/// Only the form is checked, neither UTF-8 nor keys. What was written before a refusal stays: the
+/// lines of all events whose bytes were consumed. A write that returns an error, `Interrupted` too,
+/// or that accepts no bytes is refused with `Write`. Its `place` is the number of bytes of the lines
+/// that the writer accepted, at most 2^64 - 1. Nothing is allocated.
 pub fn listing<R: Read, W: Write>(
     reader: &mut R,
     limits: Limits,
@@ -47,8 +47,9 @@ pub fn listing<R: Read, W: Write>(
     listing_from(reader, 0, limits, writer)
 }
 
-/// Writes the lines of an item that starts at the offset `start` of an input of many: the offsets in its lines are
-/// counted from the start of that input, and the places of a refusal from the start of the item.
+/// Writes the lines of an item that starts at the offset `start` of an input of several items: the
+/// offsets in its lines are counted from the start of that input, and the offsets of a refusal from
+/// the start of the item.
 pub fn listing_from<R: Read, W: Write>(
     reader: &mut R,
     start: u64,

@@ -6,7 +6,7 @@ ghost use Rattle.cbor_listing.specs.Annotated.{counted, extent, meaning, simple_
 
 use crate::line::{push, push_number};
 use arrayvec::ArrayVec;
-use cbor_automaton::EventKind;
+use cbor_head::EventKind;
 use itoa::Buffer;
 
 // A name has at most 18 letters, a number of 128 bits at most 39 digits, a unit at most 8 letters.
@@ -69,7 +69,7 @@ fn push_simple<const N: usize>(line: &mut ArrayVec<u8, N>, number: u8)
     }
 }
 
-// A name, and how many there are of what is counted.
+// Writes a name, and the number of what is counted.
 fn push_sized<const N: usize>(
     line: &mut ArrayVec<u8, N>,
     name: &[u8],

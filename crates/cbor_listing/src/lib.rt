@@ -1,7 +1,7 @@
 //! The events of an item as lines: heads with their arguments, or bytes with what they mean.
 //!
-//! Users and the program call it through `cbor_diag`, which hands it on. [`listing`] writes a line for each event of the item
-//! that a reader's bytes begin with, [`annotated`] the bytes of an item in hex and what each of its heads and breaks means.
+//! Users and the program call it through `cbor_diag`, which re-exports it. [`listing`] writes a line for each event of a
+//! reader's next item. [`annotated`] writes the bytes of an item in hex and what each of its heads and breaks means.
 //!
 //! ```
 //! // [1, 100]

@@ -6,7 +6,7 @@ ghost use Rattle.arrayvec.specs.ArrayVec.{array_vec_len};
 use arrayvec::ArrayVec;
 use itoa::Buffer;
 
-// As many spaces as are pushed at once.
+// The number of spaces that are pushed at once.
 const MOST_SPACES: usize = 64;
 
 const SPACES: [u8; MOST_SPACES] = [b' '; MOST_SPACES];

@@ -1,8 +1,8 @@
--- Which buffer the bytes of an event were read into.
+-- The buffer into which the bytes of an event were read.
 use Rattle.std.proofs.Common.{◌≡◌, ℕ, Bool, true, false, true≢false, inl, inr, List, take, refl, sym, ap, subst, ◌∙◌, Option, Some, None, Result, Ok, Err}
-use Rattle.cbor_head.specs.declared.reason.Refusal.{Refusal}
-use Rattle.cbor_automaton.specs.declared.event.EventKind.TheVariants as kinds
-use Rattle.cbor_automaton.specs.{Trace.Mark, Pieces.piece_by, Pieces.kind_size, declared.event.Event.Event, declared.event.EventKind.EventKind}
+use Rattle.cbor_head.specs.declared.event.EventKind.TheVariants as kinds
+use Rattle.cbor_head.specs.declared.{reason.Refusal.Refusal, event.Event.Event, event.EventKind.EventKind}
+use Rattle.theory_automaton.specs.{Trace.Mark, Pieces.piece_by, Pieces.kind_size}
 use Rattle.cbor_machine.specs.NextEvent.{ItemEventsView, Call, machine_call, call, IsExpected, IsNextEvent, IsCut, IsTooLong, HasFormError, IsNext}
 use Rattle.cbor_machine.specs.{inner.Machine.IsShown, MachineView.MachineView, Calls.piece_after, Calls.piece_size}
 use Rattle.cbor_machine.proofs.Positions.{no-payload-done}
@@ -17,7 +17,7 @@ payload-kept false kind kept buffer p d = absurd (true≢false (sym p))
 payload-kept true (kinds.Piece n) kept buffer p d = refl
 payload-kept true kind kept buffer p d = absurd d
 
--- a refusal doesn't speak of the piece
+-- a refusal does not depend on the piece
 cut-as : (f : Refusal) (c : Call) (piece : List ℕ) → IsCut f c → IsCut f (record c { new_piece = piece })
 cut-as f c piece h = record {
   bytes = h.bytes;
@@ -58,7 +58,7 @@ refusal-as f c piece (u, inl h) = (u, inl (cut-as f c piece h))
 refusal-as f c piece (u, inr (inl h)) = (u, inr (inl (too_long-as f c piece h)))
 refusal-as f c piece (u, inr (inr h)) = (u, inr (inr (form_error-as f c piece h)))
 
--- as the events' view has it
+-- as in the view of the events
 pub refused-call : (f : Refusal) (from same to : ItemEventsView) (held left : Option (List ℕ)) (piece t : List ℕ) (ms : List Mark) → from ≡ same
     → IsNext (Err f) (machine_call from.machine to.machine held left from.piece piece t ms) → IsNext (Err f) (call same to held left t ms)
 refused-call f from same to held left piece t ms e h = subst (λ (v : ItemEventsView). IsNext (Err f) (call v to held left t ms)) e (refusal-as f (machine_call from.machine to.machine held left from.piece piece t ms) to.piece h)

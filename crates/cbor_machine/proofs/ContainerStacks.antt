@@ -1,9 +1,9 @@
--- The stack with the innermost container apart, as a list of frames.
+-- The stack, with its innermost container in a field of its own, as a list of frames.
 use Rattle.std.proofs.Common.{◌≡◌, ℕ, zero, suc, ◌+◌, ◌-◌, ◌≤◌, ◌<◌, true, false, List, [], ◌∷◌, ◌++◌, map, take, drop, length, get_or, set, Some, add-one, refl, sym, ap, ◌∙◌, subst, arith, slice_get, length-append, length-set, length-take-le}
 use Rattle.std.proofs.{lemmas.List.length-map, lemmas.List.map-append, lemmas.Option.get_or_from_slice_get, Math.Seq.take-suc}
-use Rattle.cbor_automaton.specs.Automaton as automaton
-use Rattle.cbor_automaton.specs.Automaton.{at_item, close, break_at, reports, indefinite_array, indefinite_map, counted}
-use Rattle.cbor_automaton.specs.Trace.{a_break}
+use Rattle.theory_automaton.specs.Automaton as automaton
+use Rattle.theory_automaton.specs.Automaton.{at_item, close, break_at, reports, indefinite_array, indefinite_map, counted}
+use Rattle.theory_automaton.specs.Trace.{a_break}
 use Rattle.cbor_machine.specs.ContainerStack.{level_frame, joined, levels, nested, IsRooted, IsContainerStack, advanced, ends_by_break}
 use Rattle.cbor_machine.specs.{State.frame_of, State.frames_of, declared.frame.TheConstants.MOST_OPEN, declared.frame.Frame.Frame}
 use Rattle.cbor_machine.specs.declared.{frame.Frame.TheVariants.Tag, container_stack.Slot.Slot, container_stack.Level.Level}
@@ -32,7 +32,7 @@ around-below o os (suc k) d h = ap (map level_frame) (sym (take-suc os k d (omeg
 only-root : (outer : List Level) (top : Level) → IsRooted outer zero top → level_frame top ≡ Tag
 only-root outer top r = let e = r.root in cc
 
--- the innermost goes on
+-- the innermost continues
 pub goes-on : (outer : List Level) (h : ℕ) (top next : Level) → IsRooted outer h top
     → ((fs : List automaton.Frame) → close (frame_of (level_frame top) ∷ fs) ≡ advanced true (frame_of (level_frame next)) fs) → (level_frame top ≡ Tag → true ≡ false)
     → IsRooted outer h next × (at_item (frames_of (nested outer h next)) ≡ close (frames_of (nested outer h top)))
@@ -66,7 +66,7 @@ popped-to outer (suc k) top below some at r =
     let Is : ℕ → Level → Type 0 = λ j l. IsRooted outer j l × (frames_of (nested outer (suc k) top) ≡ frame_of (level_frame top) ∷ frames_of (nested outer j l)) in
     subst (λ j. Is j below) (sym one) (subst (Is k) there (popped outer k top below r))
 
--- where the innermost is full, they are complete as those around it are
+-- if the innermost is full, the item completes the containers around it
 pub full-closes : (outer : List Level) (h : ℕ) (top below : Level) → 0 < h → slice_get outer (h - 1) ≡ Some below → IsRooted outer h top → ((fs : List automaton.Frame) → close (frame_of (level_frame top) ∷ fs) ≡ close fs)
     → close (frames_of (nested outer (h - 1) below)) ≡ close (frames_of (nested outer h top))
 full-closes outer h top below some at r full = sym (full (frames_of (nested outer (h - 1) below))) ∙ ap close (sym (popped-to outer h top below some at r).1)
@@ -95,7 +95,7 @@ frame-innermost outer zero i top e h = absurd (omega arith)
 frame-innermost [] (suc k) i top e h = absurd (omega arith)
 frame-innermost (o ∷ os) (suc k) i top e h = let same : k ≡ i = omega arith in subst (λ j. slice_get (nested (o ∷ os) (suc k) top) j ≡ Some (level_frame top)) same (behind-all os k top (omega arith))
 
--- ---- levels that lie beside each other
+-- ---- the two arrays as levels
 
 pub joined-at : (ds : List Slot) (ns : List ℕ) (k : ℕ) (d : Slot) → k < length ds → k < length ns → slice_get (joined ds ns) k ≡ Some (record { expected = get_or ds k d; left = get_or ns k 0 })
 joined-at [] ns k d h l = absurd (omega arith)
@@ -115,7 +115,7 @@ joined-length n (x ∷ ds) [] d l = absurd (omega arith)
 joined-length zero (x ∷ ds) (y ∷ ns) d l = absurd (omega arith)
 joined-length (suc n) (x ∷ ds) (y ∷ ns) d l = ap suc (joined-length n ds ns (omega arith) (omega arith))
 
--- one more opens around which these are
+-- one more container opens inside these
 module _ (ds : List Slot) (ns : List ℕ) (h : ℕ) (top next : Level) (r : IsContainerStack ds ns h top) where
   ds-with : List Slot
   ds-with = set ds h top.expected

@@ -1,7 +1,7 @@
 -- One step after another.
 use Rattle.std.proofs.Common.{◌≡◌, ℕ, ◌+◌, ◌-◌, ◌≤◌, List, [], ◌++◌, length, take, drop, ap, sym, ◌∙◌, arith, append-nil, append_assoc, subst, length-drop, take-append-drop, take_all}
 use Rattle.std.proofs.Math.Seq.{take-add, take-length}
-use Rattle.cbor_automaton.specs.Trace.{Mark}
+use Rattle.theory_automaton.specs.Trace.{Mark}
 use Rattle.cbor_machine.specs.Machine.{StandsFor, IsAnswer, IsMore}
 use Rattle.cbor_machine.specs.declared.step.Out.TheVariants as outs
 use Rattle.cbor_machine.specs.{MachineView.MachineView, Steps.Goes, declared.step.Out.Out}

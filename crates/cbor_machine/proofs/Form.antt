@@ -1,17 +1,17 @@
--- The verdict of form: by its rules nothing is complained of, so a form error decides.
+-- The verdict of form: its rules allow no complaint, so a form error decides.
 use Rattle.std.proofs.Common.{ℕ, ◌-◌, List, ◌++◌, length, take, refl, sym, ap, ◌∙◌, inr, arith}
 use Rattle.cbor_head.specs.Prelude.{Bounds, bounds, Spelling, form, Complaint, IsComplaint, IsVerdict}
 use Rattle.cbor_head.specs.Verdict as verdict
 use Rattle.cbor_head.specs.declared.reason.Refusal.{Refusal}
-use Rattle.cbor_model.proofs.{Beginnings.item_decides, KindsUnasked.form_complaint, Reasons.each_complaint}
-use Rattle.cbor_automaton.{specs.Trace.Mark, proofs.Runs.take-behind}
+use Rattle.theory_values.proofs.{Beginnings.item_decides, KindsUnasked.form_complaint, Reasons.each_complaint}
+use Rattle.theory_automaton.{specs.Trace.Mark, proofs.Runs.take-behind}
 use Rattle.cbor_machine.specs.Machine.{StandsFor, IsComplete, IsRefused}
 use Rattle.cbor_machine.specs.MachineView.{MachineView}
 
 pub never : (limits : Bounds) (s : Spelling) (c : Complaint) → ¬ IsComplaint limits form s c
 never limits s c h = each_complaint form (λ x. ⊥) (λ t at q. cc t) (λ t at n. cc t) (λ t at. cc t) (λ e at n. cc e) (λ o e at n. cc e) 0 s c ((form_complaint limits s c).0 h)
 
--- a refusal is the verdict of form on each input that goes on from there
+-- a refusal is the verdict of form on each input that starts with these bytes
 pub refusal-verdict : (r : Refusal) (m : MachineView) (t bs : List ℕ) (ms : List Mark) → IsRefused r m t bs ms → (more : List ℕ) → IsVerdict (bounds m.depth m.bytes) form ((t ++ bs) ++ more) (verdict.refused r)
 refusal-verdict r m t bs ms h more =
     let start = h.stands.beginning in
@@ -28,7 +28,7 @@ refusal-verdict r m t bs ms h more =
       );
     }
 
--- where the machine is complete, the item is accepted
+-- if the machine is complete, the item is accepted
 pub complete-verdict : (m : MachineView) (t : List ℕ) (ms : List Mark) → StandsFor m t ms → IsComplete m → (more : List ℕ) → (s : Spelling) × IsVerdict (bounds m.depth m.bytes) form (t ++ more) (verdict.accepted s)
 complete-verdict m t ms h c more =
     let w = h.complete.0 c in

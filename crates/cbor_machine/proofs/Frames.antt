@@ -7,14 +7,14 @@ use Rattle.cbor_machine.specs.declared.position.Position.TheVariants.{Head, Payl
 use Rattle.cbor_machine.specs.declared.take_byte.Next.TheVariants.{Refuses, Goes, Reports}
 use Rattle.cbor_machine.specs.declared.{position.Position.Position, take_byte.Next.Next, frame.Frame.Frame}
 
--- the innermost frame stands last
+-- the innermost frame is last
 pub frames_push : (xs : List Frame) (f : Frame) → frames_of (xs ++ f ∷ []) ≡ frame_of f ∷ frames_of xs
 frames_push xs f = ap (map frame_of) (reverse-append xs (f ∷ []))
 
 pub length_frames : (xs : List Frame) → length (frames_of xs) ≡ length xs
 length_frames xs = length-map (reverse xs) frame_of ∙ length-reverse xs
 
--- an argument with so many bytes to come has space for the next
+-- an argument with k + 1 bytes to come has space for the next
 pub space_now : (a k : ℕ) → (a + 1) * 256 ^ (k + 1) ≤ 2 ^ 64 → (a + 1) * 256 ≤ 2 ^ 64
 space_now a k h =
     let big : 256 ^ 1 ≤ 256 ^ (k + 1) = pow-le-pow_right {n = 256} (omega arith) {i = 1} {j = k + 1} (omega arith) in
@@ -45,7 +45,7 @@ pub wanted-head : (position : Position) → (is_in_payload position ≡ true →
 wanted-head (Payload chunk kind left) h = absurd (h refl)
 wanted-head _ h = refl
 
--- what goes on without an event goes on within the item
+-- a byte that completes no event leads to a position within the item
 pub still-going : (position : Position) (depth : ℕ) (fs : List Frame) → IsFit depth fs position → (IsSettled fs position → ⊥) → is_done position ≡ false
 still-going Done depth fs fit within = absurd (within fit)
 still-going _ depth fs fit within = refl

@@ -1,16 +1,16 @@
--- What a machine stands for, after each kind of step.
+-- What a machine represents after each kind of step.
 use Rattle.std.proofs.Common.{◌≡◌, ◌⊎◌, ℕ, ◌+◌, ◌-◌, ◌≤◌, List, [], ◌∷◌, ◌++◌, length, take, drop, None, refl, ap, sym, ◌∙◌, arith, append-nil, append_assoc, subst, inl, inr, length-append, length-take, take-take}
 use Rattle.std.proofs.Math.Seq.{take-append_seam}
-use Rattle.cbor_head.specs.{Prelude.AreBytes, Prelude.refusal, declared.reason.Reason.TheVariants.TooLong, declared.reason.Refusal.Refusal}
-use Rattle.cbor_model.proofs.ByteLists.{bytes_join, bytes_prefix, bytes_back}
-use Rattle.cbor_automaton.specs.Automaton.{State, start, in_payload, done, refuses, take_byte, run, reached}
-use Rattle.cbor_automaton.specs.Automaton as automaton
-use Rattle.cbor_automaton.proofs.Beginnings.{item-done, done-item, reached-begins}
-use Rattle.cbor_automaton.proofs.Events as events
-use Rattle.cbor_automaton.proofs.Events.{IsClear, clear-pending, pending}
-use Rattle.cbor_automaton.specs.{Trace.Mark, Trace.total, Marks.marks_of, declared.event.Event.Event}
-use Rattle.cbor_automaton.proofs.{Refusals.IsUnfinished, Refusals.refuses-rightly, Longest.longest, Tiling.last-bytes}
-use Rattle.cbor_automaton.specs.Bytes.{IsEventBytes}
+use Rattle.cbor_head.specs.{declared.event.Event.Event, Prelude.AreBytes, Prelude.refusal, declared.reason.Reason.TheVariants.TooLong}
+use Rattle.cbor_head.specs.declared.reason.Refusal.{Refusal}
+use Rattle.theory_values.proofs.ByteLists.{bytes_join, bytes_prefix, bytes_back}
+use Rattle.theory_automaton.specs.Automaton.{State, start, in_payload, done, refuses, take_byte, run, reached}
+use Rattle.theory_automaton.specs.Automaton as automaton
+use Rattle.theory_automaton.proofs.Beginnings.{item-done, done-item, reached-begins}
+use Rattle.theory_automaton.proofs.Events as events
+use Rattle.theory_automaton.proofs.Events.{IsClear, clear-pending, pending}
+use Rattle.theory_automaton.{specs.Trace.Mark, specs.Trace.total, specs.Marks.marks_of, proofs.Refusals.IsUnfinished, proofs.Refusals.refuses-rightly}
+use Rattle.theory_automaton.{proofs.Longest.longest, proofs.Tiling.last-bytes, specs.Bytes.IsEventBytes}
 use Rattle.cbor_machine.specs.State.{state_of, is_done, IsFit, IsSettled}
 use Rattle.cbor_machine.specs.declared.position.Position.TheVariants.{Head, SimpleNumber, Done}
 use Rattle.cbor_machine.specs.Machine.{IsWhole, StandsFor, IsGiven, before, IsRefused, IsAnswer}
@@ -18,9 +18,9 @@ use Rattle.cbor_machine.specs.Steps.{Ran, Stopped, IsStep}
 use Rattle.cbor_machine.specs.declared.step.Out.TheVariants as outs
 use Rattle.cbor_machine.specs.{Feed.IsWalked, declared.frame.Frame.Frame, declared.position.Position.Position, declared.feed.FeedResult.FeedResult}
 use Rattle.cbor_machine.specs.{declared.feed.FeedResult.TheVariants.Refused, inner.Machine.IsShown, MachineView.MachineView, declared.step.Out.Out}
-pub use Rattle.cbor_model.proofs.ByteLists.{bytes_take}
-use Rattle.cbor_automaton.proofs.Runs.{take-behind, run-on, silent-unfinished, sane-run, tiles}
-use Rattle.cbor_automaton.proofs.Opens.{stack, opens}
+pub use Rattle.theory_values.proofs.ByteLists.{bytes_take}
+use Rattle.theory_automaton.proofs.Runs.{take-behind, run-on, silent-unfinished, sane-run, tiles}
+use Rattle.theory_automaton.proofs.Opens.{stack, opens}
 use Rattle.cbor_machine.proofs.{Frames.length_frames, Positions.position-done}
 
 -- ---- the position of a machine, and its state
@@ -53,7 +53,7 @@ item-position m t ms e w =
     let same : done ≡ state_of m.inner.position m.inner.frames = cc in
     done-position m.inner.position m.inner.frames same
 
--- the view shows the inner state, and behind an item nothing is open
+-- the view shows the inner state, and after an item nothing is open
 pub record IsSound (m : MachineView) : Type 0 where
   pub shown : IsShown m
   pub empty : m.inner.position ≡ Done → m.inner.frames ≡ []
@@ -89,7 +89,7 @@ meant m t ms b e sound bounded taken limited next live = record {
   inner = record { ran = e; shown = sound.shown };
 }
 
--- what was reached without the end is no whole item
+-- bytes that do not lead to the end are not a whole item
 pub not-whole : (d : ℕ) (t : List ℕ) (q : State) (ms : List Mark) → run d start t ≡ reached q ms → IsUnfinished q → ¬ IsWhole d t
 not-whole d t q ms e u = λ w.
     let all = sym (item-done d w.0 t w.1) ∙ e in
@@ -209,7 +209,7 @@ limit-refused old new r t bs ms h b going depth sound bounded reported s limit i
           };
     }
 
--- a step, of a machine that stood for t and ms
+-- a step of a machine that represented t and ms
 pub answered : (out : Out) (old new : MachineView) (t bs : List ℕ) (ms : List Mark) → StandsFor old t ms → AreBytes bs → ¬ (old.inner.position ≡ Done) → new.depth ≡ old.depth → IsSound new → new.open_count ≤ new.depth
     → new.taken ≡ old.taken + length bs → new.taken ≤ new.bytes → IsStep out old new bs → IsAnswer out new t bs ms
 answered outs.More old new t bs ms h b going depth sound bounded taken limit s = silent old new t bs ms h b depth sound bounded limit s

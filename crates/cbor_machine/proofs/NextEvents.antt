@@ -2,16 +2,16 @@
 use Rattle.std.proofs.Common.{◌≡◌, ℕ, zero, suc, ◌+◌, ◌-◌, ◌<◌, ◌≤◌, Bool, true, false, true≢false, List, [], ◌∷◌, ◌++◌, length, take, drop, replicate, refl, sym, ap, subst, ◌∙◌, arith, append_assoc, append-nil, length-append, take_all, Option, Some, None, min}
 use Rattle.std.{specs.Io.KnownBytes.Consumes, proofs.KnownBytes.Consumes-trans}
 use lib.Seq.{drop-append_seam}
-use Rattle.cbor_head.specs.{Prelude.AreBytes, declared.reason.Refusal.Refusal, declared.major.Major.Major, declared.width.Width.Width}
-use Rattle.cbor_model.proofs.ByteLists.{bytes_join, bytes_back}
-use Rattle.cbor_automaton.specs.Trace.{Mark, a_byte, total}
-use Rattle.cbor_automaton.specs.Automaton.{Frame, State, start, in_head, in_simple, in_payload, done, run, Outcome, reached}
-use Rattle.cbor_automaton.specs.declared.event.EventKind.TheVariants as kinds
-use Rattle.cbor_automaton.proofs.Events.{pending, IsSane, clear-pending}
-use Rattle.cbor_automaton.proofs.Taking.{IsClear, IsWithin, mark-taken, nothing-taken, first-mark, reports-first}
-use Rattle.cbor_automaton.specs.{Marks.mark_of, Marks.marks_of, Bytes.IsEventBytes, Taking.IsTaking, Pieces.piece_by, declared.event.Event.Event}
-use Rattle.cbor_automaton.{specs.declared.event.EventKind.EventKind, proofs.Forward.reporting_all, proofs.Beginnings.onwards, proofs.Beginnings.run-append}
-use Rattle.cbor_automaton.proofs.{Joining.bytes-total, Runs.tiles, Runs.sane-run}
+use Rattle.cbor_head.specs.declared.event.EventKind.TheVariants as kinds
+use Rattle.cbor_head.specs.{declared.event.Event.Event, declared.event.EventKind.EventKind, Prelude.AreBytes, declared.reason.Refusal.Refusal}
+use Rattle.cbor_head.specs.declared.{major.Major.Major, width.Width.Width}
+use Rattle.theory_values.proofs.ByteLists.{bytes_join, bytes_back}
+use Rattle.theory_automaton.specs.Trace.{Mark, a_byte, total}
+use Rattle.theory_automaton.specs.Automaton.{Frame, State, start, in_head, in_simple, in_payload, done, run, Outcome, reached}
+use Rattle.theory_automaton.proofs.Events.{pending, IsSane, clear-pending}
+use Rattle.theory_automaton.proofs.Taking.{IsClear, IsWithin, mark-taken, nothing-taken, first-mark, reports-first}
+use Rattle.theory_automaton.specs.{Marks.mark_of, Marks.marks_of, Bytes.IsEventBytes, Taking.IsTaking, Pieces.piece_by}
+use Rattle.theory_automaton.proofs.{Forward.reporting_all, Beginnings.onwards, Beginnings.run-append, Joining.bytes-total, Runs.tiles, Runs.sane-run}
 use Rattle.cbor_machine.specs.State.{wanted_at, state_of, is_in_payload, is_done}
 use Rattle.cbor_machine.specs.declared.frame.Frame as frames
 use Rattle.cbor_machine.specs.declared.position.Position.TheVariants as positions
@@ -32,7 +32,7 @@ whole-clear d t q ms e whole =
     let all : total ms + pending q ≡ length t + 0 = tiles d t start q ms tt e in
     sane-clear q (sane-run d t start q ms tt e) (omega arith)
 
--- ---- what a run goes on with
+-- ---- how a run continues
 
 untell : (ms ns : List Mark) (o : Outcome) (q : State) → reporting_all ms o ≡ reached q (ms ++ ns) → o ≡ reached q ns
 untell [] ns o q e = e
@@ -56,7 +56,7 @@ payload-expected : (position : Position) (fs : List frames.Frame) (n : ℕ) → 
 payload-expected (positions.Payload chunk kind left) fs n h = (refl, tt)
 payload-expected _ fs n h = absurd h
 
--- no byte of a payload
+-- not a byte of a payload
 abbrev IsOther : Mark → Type 0
 IsOther a_byte = ⊥
 IsOther _ = Unit {0}
@@ -77,7 +77,7 @@ other-open d _ fs m bs u o h = (refl, refl)
 
 -- ---- the bytes of one event
 
--- from one end of an event to another the marks have as many bytes as there are
+-- from one end of an event to another, the marks have as many bytes as were consumed
 clear-total : (d : ℕ) (bs : List ℕ) (q u : State) (ms : List Mark) → IsClear q → IsClear u → run d q bs ≡ reached u ms → total ms ≡ length bs
 clear-total d bs q u ms h k e =
     let from = clear-pending q h in
@@ -128,7 +128,7 @@ module _ (d : ℕ) (position : Position) (fs : List frames.Frame) (r u : State) 
       let expected = other-open d position fs (mark_of w kind) (pre ++ last) u tt (one-taken (mark_of w kind) f) in
       ((expected.0, subst (λ (b : Bool). IsExpected b kind) (sym expected.1) tt), refl)
 
--- ---- the answers
+-- ---- the results
 
 -- an event is complete
 pub event-here : (e : Event) (from mid_from to : Option (List ℕ)) (old mid new : MachineView) (kept buffer t last : List ℕ) (ms : List Mark) → StandsBetween old t ms → (r : HasRead from mid_from mid t ms)
@@ -182,13 +182,13 @@ end-here from mid_from to old mid new kept t last ms h r depth complete same c n
       stands = record { stands = subst (λ m. StandsFor m t ms) (sym same) (subst (λ xs. StandsFor mid xs ms) here r.stands); whole = h.whole };
     }
 
--- one read after another, and no event is complete
+-- one read after another, without a complete event
 pub read-on : (from mid_from to : Option (List ℕ)) (mid new : MachineView) (t last : List ℕ) (ms : List Mark) → (r : HasRead from mid_from mid t ms) → Consumes mid_from to last → StandsFor new ((t ++ r.bytes) ++ last) ms
     → HasRead from to new t ms
 read-on from mid_from to mid new t last ms r c h =
     record { bytes = r.bytes ++ last; consumed = Consumes-trans _ _ _ _ _ r.consumed c; stands = subst (λ xs. StandsFor new xs ms) (append_assoc t r.bytes last) h }
 
--- ---- what the machine wants
+-- ---- the bytes that the machine expects
 
 pub complete-wants : (m : MachineView) → IsShown m → 0 < wanted m → ¬ IsComplete m
 complete-wants m shown h = λ c.
@@ -204,7 +204,7 @@ wants-short m h = go m.refusal h
     go None k = omega arith
     go (Some f) k = absurd (omega arith)
 
--- what is wanted is within the limit and belongs to what is open, and nothing was refused
+-- the expected bytes are within the limit and belong to what is open, and nothing was refused
 pub wants-all : (m : MachineView) (n : ℕ) → 0 < n → n ≤ wanted m → (n ≤ m.expected) × (n ≤ m.bytes - m.taken) × (m.refusal ≡ None)
 wants-all m n some h = go m.refusal h
   where

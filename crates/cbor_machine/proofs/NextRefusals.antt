@@ -4,11 +4,11 @@ use Rattle.std.{specs.Io.KnownBytes.Consumes, specs.Io.KnownBytes.IsAtEnd, proof
 use Rattle.cbor_head.specs.Prelude.{Bounds, bounds, AreBytes, IsBeginning, IsItem, form, refusal, refused, IsVerdict}
 use Rattle.cbor_head.specs.declared.reason.Reason.TheVariants.{Read, Truncated, TooLong}
 use Rattle.cbor_head.specs.declared.reason.{Reason.Reason, Refusal.Refusal}
-use Rattle.cbor_model.proofs.ByteLists.{bytes_join, bytes_prefix, bytes_back}
-use Rattle.cbor_model.proofs.Verdicts.{item_one}
-use Rattle.cbor_automaton.specs.Automaton.{State, start, take_byte, run, reached}
-use Rattle.cbor_automaton.proofs.Runs.{run-on, silent-unfinished, sane-run}
-use Rattle.cbor_automaton.{specs.Trace.Mark, proofs.Refusals.IsUnfinished, proofs.Refusals.refuses-rightly}
+use Rattle.theory_values.proofs.ByteLists.{bytes_join, bytes_prefix, bytes_back}
+use Rattle.theory_values.proofs.Verdicts.{item_one}
+use Rattle.theory_automaton.specs.Automaton.{State, start, take_byte, run, reached}
+use Rattle.theory_automaton.proofs.Runs.{run-on, silent-unfinished, sane-run}
+use Rattle.theory_automaton.{specs.Trace.Mark, proofs.Refusals.IsUnfinished, proofs.Refusals.refuses-rightly}
 use Rattle.cbor_machine.specs.Machine.{StandsFor, IsComplete, IsWhole, before, IsRefused}
 use Rattle.cbor_machine.specs.Steps.{Ran, Stopped, IsStep}
 use Rattle.cbor_machine.specs.NextEvent.{Call, IsCut, IsTooLong, HasFormError}
@@ -17,7 +17,7 @@ use Rattle.cbor_machine.proofs.MachineStates.{meant, not-whole, shown-before, sh
 use Rattle.cbor_machine.specs.{State.state_of, State.is_done, inner.Machine.IsShown, MachineView.MachineView, Calls.HasRead}
 use Rattle.cbor_machine.proofs.Form.{never, refusal-verdict}
 
--- a beginning that is the whole input, within the limit, and no item
+-- a beginning that is the whole input, within the limit, and not an item
 cut-verdict : (limits : Bounds) (p : List ℕ) → IsBeginning limits.depth p → ¬ IsWhole limits.depth p → length p < limits.bytes → IsVerdict limits form p (refused (refusal Truncated (length p) (length p)))
 cut-verdict limits p b unfinished short =
     let all : take limits.bytes p ≡ p = take_all limits.bytes p (omega arith) in
@@ -34,7 +34,7 @@ cut-verdict limits p b unfinished short =
       );
     }
 
--- the item was not complete before the machine read, where it is not now
+-- if the item is not complete now, it was not complete before the read
 pub still-expected : (from to : Option (List ℕ)) (old mid : MachineView) (t : List ℕ) (ms : List Mark) → StandsFor old t ms → HasRead from to mid t ms → mid.depth ≡ old.depth → ¬ IsComplete mid → ¬ IsComplete old
 still-expected from to old mid t ms h r depth going = λ c.
     let w = h.complete.0 c in
@@ -68,7 +68,7 @@ cut-here f c mid_from r lost reason is short going =
       unfinished = unfinished;
     }
 
--- the machine read some bytes more, which reported nothing, and stopped
+-- the machine read some more bytes, which reported nothing, and stopped
 module _ (f : Refusal) (c : Call) (mid_from : Option (List ℕ)) (mid : MachineView) (last : List ℕ) (r : HasRead c.held mid_from mid c.taken c.reported) (lost_last : Consumes mid_from c.left last)
     (bytes : AreBytes last) (going : ¬ IsComplete mid) (depth : c.new.depth ≡ mid.depth) (fits : mid.taken + length last ≤ c.new.bytes) (ref : IsRefused f c.new (c.taken ++ r.bytes) last c.reported) where
   abbrev new : MachineView

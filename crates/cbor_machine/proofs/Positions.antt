@@ -1,6 +1,6 @@
--- Positions between two bytes of an item: whether it is done, and what is open there.
+-- Positions between two bytes of an item: whether the item is done, and what is open.
 use Rattle.std.proofs.Common.{◌≡◌, true, false, List, refl, sym, ◌∙◌, true≢false}
-use Rattle.cbor_automaton.specs.Automaton.{Frame, at_item}
+use Rattle.theory_automaton.specs.Automaton.{Frame, at_item}
 use Rattle.cbor_machine.specs.State.{state_of, is_in_payload, is_done}
 use Rattle.cbor_machine.specs.declared.frame.Frame as frames
 use Rattle.cbor_machine.specs.declared.position.Position.{Position, TheVariants.Payload, TheVariants.Done}
@@ -18,7 +18,7 @@ pub no-payload-done : (position : Position) → is_in_payload position ≡ true 
 no-payload-done (Payload chunk kind left) p d = true≢false (sym d)
 no-payload-done _ p d = true≢false (sym p)
 
--- where an item is expected no payload is open
+-- if an item is expected, no payload is open
 pub no-payload : (m : MachineView) (fs : List Frame) → IsShown m → state_of m.inner.position m.inner.frames ≡ at_item fs → m.in_payload ≡ false
 no-payload m fs shown e = shown.in_payload ∙ item m.inner.position m.inner.frames e
   where

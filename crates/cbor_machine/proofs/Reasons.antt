@@ -1,6 +1,6 @@
--- From the reasons of a byte to those of a machine, and of a reader of events.
+-- The reasons of a byte are reasons of a machine, and of a reader of events.
 use Rattle.cbor_head.specs.declared.reason.Reason.{Reason, TheVariants.TooLong}
-use Rattle.cbor_automaton.specs.Reasons.{IsFormReason, IsMachineReason}
+use Rattle.theory_automaton.specs.Reasons.{IsFormReason, IsMachineReason}
 
 pub form-machine : (r : Reason) → IsFormReason r → IsMachineReason r
 form-machine TooLong h = absurd h

@@ -1,12 +1,12 @@
--- The events of a machine, joined, are those of the item that end within what it took.
+-- The events of a machine, joined, are those of the item that end within the bytes consumed.
 use Rattle.std.proofs.Common.{◌≡◌, ℕ, ◌+◌, List, [], ◌∷◌, ◌++◌, ◌≤◌, cond, length, drop, refl, sym, ap, ◌∙◌, subst, arith, append-nil}
 use Rattle.std.proofs.{lemmas.Grind.flat_map-append, Math.Seq.drop-append_seam, lemmas.Bool.le-leb}
-use Rattle.cbor_head.specs.Prelude.{Spelling, IsItem}
-use Rattle.cbor_automaton.specs.Trace.{Mark, total, within}
-use Rattle.cbor_automaton.specs.Event.{events, marks_in, event_size, prefix_of, joined, cut, IsRow, AreReported}
-use Rattle.cbor_automaton.proofs.Joining.{rejoin, joined-rejoin, cut-rejoin}
-use Rattle.cbor_automaton.proofs.Rows.{total-append, row-append, events-row}
-use Rattle.cbor_automaton.specs.{Marks.marks_of, Bytes.IsEventBytes, declared.event.Event.Event}
+use Rattle.cbor_head.specs.{declared.event.Event.Event, Prelude.Spelling, Prelude.IsItem}
+use Rattle.theory_automaton.specs.Trace.{Mark, total, within}
+use Rattle.theory_automaton.specs.Event.{events, marks_in, event_size, prefix_of, joined, cut, IsRow, AreReported}
+use Rattle.theory_automaton.proofs.Joining.{rejoin, joined-rejoin, cut-rejoin}
+use Rattle.theory_automaton.proofs.Rows.{total-append, row-append, events-row}
+use Rattle.theory_automaton.specs.{Marks.marks_of, Bytes.IsEventBytes}
 use Rattle.cbor_machine.specs.Machine.{StandsFor, IsWhole, IsGiven}
 use Rattle.cbor_machine.specs.NextEvent.{Call, StandsBetween, IsNextEvent, IsEnd}
 use Rattle.cbor_machine.specs.MachineView.{MachineView}
@@ -40,7 +40,7 @@ next-more c es e reported between h =
     subst (λ (bs : List ℕ). IsEventBytes c.reported e.width e.kind bs) (sym (ap (λ k. drop k (c.taken ++ h.bytes)) h.place ∙ drop-append_seam c.taken h.bytes)) h.are in
     reported-more es c.reported e c.new c.taken h.bytes reported (record { stands = h.stands.stands; place = at; ends = h.stands.whole; bytes = bytes })
 
--- events that end within n bytes are all there
+-- all of the events end within n bytes
 cut-all : (es : List Event) (at n : ℕ) → IsRow at es → at + total (marks_in es) ≤ n → cut n es ≡ es
 cut-all [] at n h le = refl
 cut-all (e ∷ es) at n h le =

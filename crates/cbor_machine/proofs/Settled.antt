@@ -1,2 +1,2 @@
--- What the steps know of a nest that stands between two bytes.
+-- What the steps know about containers between two bytes.
 pub use Rattle.cbor_machine.proofs.Frames.{settled_fit}

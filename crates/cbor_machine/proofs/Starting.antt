@@ -1,7 +1,7 @@
 -- A machine before an item's first byte.
 use Rattle.std.proofs.Common.{◌≡◌, List, length, [], None, refl, ap, sym, arith}
 use Rattle.cbor_head.specs.Prelude.{Bounds}
-use Rattle.cbor_automaton.specs.Automaton.{at_item, reached}
+use Rattle.theory_automaton.specs.Automaton.{at_item, reached}
 use Rattle.cbor_machine.specs.declared.position.Position.TheVariants as positions
 use Rattle.cbor_machine.{specs.State.frames_of, specs.declared.frame.Frame.Frame, specs.Machine.StandsFor, proofs.MachineStates.meant}
 use Rattle.cbor_machine.specs.contracts.machine.Machine.{the_view}

@@ -1,16 +1,15 @@
--- A whole head, from where an item is expected.
+-- A whole head where an item is expected.
 use Rattle.std.proofs.Common.{◌≡◌, ℕ, zero, suc, Bool, nat_lt, ◌+◌, ◌-◌, ◌*◌, ◌/◌, ◌%◌, ◌^◌, ◌<◌, ◌≤◌, true, false, List, [], ◌∷◌, ◌++◌, length, take, refl, sym, ap, ◌∙◌, arith, append-nil, length-append}
 use Rattle.std.{proofs.Math.Seq.take-append_seam, specs.Int.bytes_high_first}
 use Rattle.byteorder.specs.Numbers.{length-bytes_high_first}
 use Rattle.cbor_head.specs.declared.width.Width.TheVariants.{Direct, One, Two, Four, Eight, Indefinite}
-use Rattle.cbor_head.specs.{Prelude.head, Prelude.major_number, declared.major.Major.Major, declared.major.Major.TheVariants.Simple, declared.width.Width.Width}
-use Rattle.cbor_head.specs.Argument.{IsArgument}
-use Rattle.cbor_automaton.specs.Automaton.{Frame, State, at_item, in_head, after, close, tail, numbered_tail, major_at, has_space, run, reached, reporting}
-use Rattle.cbor_automaton.specs.Marks.{marks_of, IsDefinite, IsProper}
-use Rattle.cbor_automaton.specs.declared.event.EventKind.TheVariants as kinds
-use Rattle.cbor_automaton.proofs.Forward.{feed-fits, head-taken, item_starts, simple-direct, simple-one}
-use Rattle.cbor_automaton.{specs.Trace.Mark, specs.Trace.a_head, specs.declared.event.EventKind.EventKind, proofs.FirstByte.number-major_at}
-use Rattle.cbor_automaton.proofs.Rows.{definite}
+use Rattle.cbor_head.specs.declared.event.EventKind.TheVariants as kinds
+use Rattle.cbor_head.specs.{declared.event.EventKind.EventKind, Prelude.head, Prelude.major_number, declared.major.Major.Major}
+use Rattle.cbor_head.specs.{declared.major.Major.TheVariants.Simple, declared.width.Width.Width, Argument.IsArgument}
+use Rattle.theory_automaton.specs.Automaton.{Frame, State, at_item, in_head, after, close, tail, numbered_tail, major_at, has_space, run, reached, reporting}
+use Rattle.theory_automaton.specs.Marks.{marks_of, IsDefinite, IsProper}
+use Rattle.theory_automaton.proofs.Forward.{feed-fits, head-taken, item_starts, simple-direct, simple-one}
+use Rattle.theory_automaton.{specs.Trace.Mark, specs.Trace.a_head, proofs.FirstByte.number-major_at, proofs.Rows.definite}
 use Rattle.cbor_machine.specs.declared.opening.ArgumentType.TheVariants as numbered
 use Rattle.cbor_machine.specs.declared.frame.Frame.{Frame as NestFrame}
 use Rattle.cbor_machine.{proofs.Frames.length_frames, specs.AtOnce.may_begin, specs.State.frames_of, specs.State.major_of}
@@ -20,7 +19,7 @@ plain : (kind : ArgumentType) (k : ℕ) → tail (major_of kind) k ≡ numbered_
 plain numbered.Unsigned k = refl
 plain _ k = refl
 
--- what stands before the rest
+-- what comes before the rest
 pub prefix-of : (xs hs rest : List ℕ) → xs ≡ hs ++ rest → take (length xs - length rest) xs ≡ hs
 prefix-of xs hs rest e =
     let n : length xs - length rest ≡ length hs = omega (arith, ap length e, length-append hs rest) in
@@ -76,7 +75,7 @@ simple-run d fs xs c behind w n rest to xs-is a small high low enough to-is =
     by-width Eight n a more = let e = a.spelled 0 in absurd (let f : 0 + c % 32 ≡ 0 + 27 = head-cons e in omega arith)
     by-width Indefinite n a more = absurd a.holds
 
--- the argument of a head that is open, where all of its bytes are there
+-- the argument of an open head, if all of its bytes are available
 fed-by : (left k n : ℕ) (xs rest : List ℕ) → left ≡ k → n < 256 ^ suc k → xs ≡ bytes_high_first (suc k) n ++ rest → IsArgumentLeft left n xs × (left < length xs)
 fed-by left k n xs rest same fits is =
     let bs = bytes_high_first (suc k) n in
@@ -108,14 +107,14 @@ fed left low n xs rest w at high a = by-width w a
     by-width Eight a = let e = a.spelled 0 in let f : 0 + low ≡ 0 + 27 = head-cons e in fed-by left 7 n xs rest (left-is 7 27 (omega arith) refl) a.holds (tail-cons e)
     by-width Indefinite a = absurd a.holds
 
--- with no byte behind it an argument stands in the first byte
+-- an argument with no byte after the first is in the first byte
 pub direct_alone : (low : ℕ) (behind : List ℕ) (w : Width) (n : ℕ) (rest : List ℕ) → length behind ≡ 0 → IsArgument low behind w n rest → low < 24
 direct_alone low behind w n rest none a = by-width w a
   where
     head-cons : {x y : ℕ} {xs ys : List ℕ} → x ∷ xs ≡ y ∷ ys → x ≡ y
     head-cons e = cc
 
-    -- so many bytes of an argument stand behind the first
+    -- there are no `size` bytes of an argument
     behind-it : (size : ℕ) (first : ℕ) → 0 < size → (0 + low) ∷ behind ≡ first ∷ (bytes_high_first size n ++ rest) → low < 24
     behind-it size first some e = absurd (omega (arith, none, ap length e, length-append (bytes_high_first size n) rest, length-bytes_high_first size n))
 
@@ -127,7 +126,7 @@ direct_alone low behind w n rest none a = by-width w a
     by-width Eight a = behind-it 8 27 (omega arith) (a.spelled 0)
     by-width Indefinite a = absurd a.holds
 
--- where there is space for a container, an item may begin with any byte
+-- if there is space for a container, an item may begin with any byte below 224
 pub space_begins : (d : ℕ) (fs : List NestFrame) (c : ℕ) → c < 224 → has_space d (frames_of fs) (major_at (c / 32)) ≡ true → may_begin d (length fs) c ≡ true
 space_begins d fs c small space = by-byte (nat_lt c 0x80) refl
   where

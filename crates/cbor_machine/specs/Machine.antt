@@ -1,9 +1,9 @@
--- What a machine stands for: the bytes taken so far, and the marks reported.
+-- What a machine represents: the bytes consumed so far, and the marks reported.
 use Rattle.std.specs.Prelude.{true, ◌≡◌, ◌↔◌, ◌⊎◌, ℕ, ◌-◌, ◌≤◌, ◌++◌, min, List, length, take, drop, Option, Some, None, IfSome}
 use Rattle.cbor_head.specs.Prelude.{Bounds, bounds, AreBytes, Spelling, IsItem, IsBeginning, IsLongestBeginning, IsFormError}
-use Rattle.cbor_head.specs.declared.reason.Refusal.{Refusal}
-use Rattle.cbor_automaton.specs.Trace.{Mark, total, trace, within}
-use Rattle.cbor_automaton.specs.{Open.open_after, Marks.marks_of, Marks.times, Bytes.IsEventBytes, declared.event.Event.Event}
+use Rattle.cbor_head.specs.declared.{event.Event.Event, reason.Refusal.Refusal}
+use Rattle.theory_automaton.specs.Trace.{Mark, total, trace, within}
+use Rattle.theory_automaton.specs.{Open.open_after, Marks.marks_of, Marks.times, Bytes.IsEventBytes}
 use Rattle.cbor_machine.specs.declared.step.Out.TheVariants as outs
 use Rattle.cbor_machine.specs.{MachineView.MachineView, inner.Machine.IsInner, declared.step.Step.Step, declared.step.Out.Out}
 
@@ -11,38 +11,38 @@ use Rattle.cbor_machine.specs.{MachineView.MachineView, inner.Machine.IsInner, d
 abbrev pub IsComplete : MachineView → Type 0
 IsComplete m = (m.complete ≡ true) × (m.refusal ≡ None)
 
--- how many bytes the machine uses, whatever they are
+-- how many of the next bytes the machine uses, whatever they are
 abbrev pub wanted_within : Option Refusal → ℕ → ℕ
 wanted_within None n = n
 wanted_within (Some r) n = 0
 
--- how many bytes more it uses of what comes: what is expected, within the limit, and none once it has refused
+-- how many of the next bytes it uses, whatever they are: those expected, within the byte limit; none after a refusal
 abbrev pub wanted : MachineView → ℕ
 wanted m = wanted_within m.refusal (min (m.bytes - m.taken) m.expected)
 
--- nothing is wanted: the item is complete, or the byte limit is reached
+-- no byte is expected: the item is complete, or the byte limit is reached
 abbrev pub IsIdle : MachineView → Type 0
 IsIdle m = IsComplete m ⊎ (m.taken ≡ m.bytes)
 
--- The limits stay as they are, and are kept.
+-- The limits are unchanged and still hold.
 pub record KeepsLimits (old new : MachineView) : Type 0 where
   pub depth : new.depth ≡ old.depth
   pub bytes : new.bytes ≡ old.bytes
   pub open_count : new.open_count ≤ new.depth
   pub taken : new.taken ≤ new.bytes
 
--- some item is spelled so
+-- some item has these bytes
 abbrev pub IsWhole : ℕ → List ℕ → Type 0
 IsWhole d t = (s : Spelling) × IsItem d s t
 
--- The machine has taken t, and reported ms. It is no history: t and ms are nowhere kept.
+-- The machine has consumed t, and reported ms. It stores neither.
 pub record StandsFor (m : MachineView) (t : List ℕ) (ms : List Mark) : Type 0 where
   -- t is always a beginning
   pub beginning : IsBeginning m.depth t
   -- what was reported is what ends within t, of each item that starts with t
   pub reported : (s : Spelling) (rest : List ℕ) → IsItem m.depth s (t ++ rest)
       → ms ≡ within (length t) (trace s)
-  -- it is complete exactly where t is a whole item
+  -- it is complete exactly if t is a whole item
   pub complete : IsComplete m ↔ IsWhole m.depth t
   -- the open containers are those of each such item, and at most the depth
   pub counted : (s : Spelling) (rest : List ℕ) → IsItem m.depth s (t ++ rest)
@@ -54,41 +54,41 @@ pub record StandsFor (m : MachineView) (t : List ℕ) (ms : List Mark) : Type 0 
   pub next : m.reported ≡ total ms
   pub live : m.refusal ≡ None
   pub are_bytes : AreBytes t
-  -- the inner state is the one behind t
+  -- the inner state is the one after t
   pub inner : IsInner m t ms
 
--- an event is complete, of a machine that stood for t and ms and has now used bs
+-- an event is complete, of a machine that represented t and ms and has now used bs
 pub record IsGiven (e : Event) (m : MachineView) (t bs : List ℕ) (ms : List Mark) : Type 0 where
   pub stands : StandsFor m (t ++ bs) (ms ++ marks_of e.width e.kind)
   -- it begins where what was reported before it ends
   pub place : e.place ≡ total ms
   -- and ends here
   pub ends : total (ms ++ marks_of e.width e.kind) ≡ length (t ++ bs)
-  -- what was taken since is its head, its part of a payload, or the break
+  -- the bytes consumed since are its head, its part of a payload, or the break
   pub bytes : IsEventBytes ms e.width e.kind (drop e.place (t ++ bs))
 
--- the longest beginning of the input is p, and behind it the form has this error
+-- the longest beginning of the input is p, and after it the form has this error
 pub record FormErrorBehind (limits : Bounds) (input p : List ℕ) (r : Refusal) : Type 0 where
   pub longest : IsLongestBeginning limits.depth (take limits.bytes input) p
   pub error : IsFormError limits p longest.rest r
 
--- the machine before it refused anything, when it had taken so many bytes
+-- the machine before it refused anything, when it had consumed this number of bytes
 abbrev pub before : MachineView → ℕ → MachineView
 before m n = record m { taken = n; refusal = None }
 
 -- the item is refused
 pub record IsRefused (r : Refusal) (m : MachineView) (t bs : List ℕ) (ms : List Mark) : Type 0 where
-  -- what was taken of bs, and the byte that is refused, if one is
+  -- what was consumed of bs before the byte that is refused, if there is one
   pub prefix : List ℕ
   pub behind : List ℕ
   pub splits : bs ≡ prefix ++ behind
   pub stands : StandsFor (before m (length (t ++ prefix))) (t ++ prefix) ms
   pub unfinished : ¬ IsWhole m.depth (t ++ prefix)
-  -- whatever may follow
+  -- for any bytes after these
   pub error : (more : List ℕ)
       → FormErrorBehind (bounds m.depth m.bytes) ((t ++ bs) ++ more) (t ++ prefix) r
 
--- what a step answers, of a machine that stood for t and ms and has now used bs
+-- what a step returns, of a machine that represented t and ms and has now used bs
 abbrev pub IsAnswer : Out → MachineView → List ℕ → List ℕ → List Mark → Type 0
 IsAnswer outs.More m t bs ms = StandsFor m (t ++ bs) ms
 IsAnswer (outs.Event e) m t bs ms = IsGiven e m t bs ms
@@ -100,7 +100,7 @@ abbrev pub IsEvent : Out → Type 0
 IsEvent (outs.Event e) = Unit {0}
 IsEvent _ = ⊥
 
--- more bytes are asked for
+-- more bytes are needed
 abbrev pub IsMore : Out → Type 0
 IsMore outs.More = Unit {0}
 IsMore _ = ⊥
@@ -110,17 +110,17 @@ abbrev pub IsDone : Out → Type 0
 IsDone outs.Done = Unit {0}
 IsDone _ = ⊥
 
--- the bytes of a piece
+-- the number of marks of the event: the bytes of a piece, 1 for any other event
 abbrev pub piece_of : Out → ℕ
 piece_of (outs.Event e) = times e.kind
 piece_of _ = 0
 
--- what holds of the refusal, if it is one
+-- what holds for the refusal, if it is one
 abbrev pub IfRefused : Out → (Refusal → Type 0) → Type 0
 IfRefused (outs.Refused r) P = P r
 IfRefused _ P = Unit {0}
 
--- Once the item is complete, or refused, a step uses nothing and answers the same.
+-- Once the item is complete, or refused, a step uses nothing and returns the same.
 pub record Stays (step : Step) (old new : MachineView) : Type 0 where
   pub done : IsDone step.out ↔ IsComplete old
   pub complete : IsComplete old → (step.used ≡ 0) × (new ≡ old)

@@ -8,12 +8,12 @@ pub record MachineView : Type 0 where
   -- the limits
   pub depth : ℕ
   pub bytes : ℕ
-  -- how many bytes it took, and how many of them its events stand for
+  -- how many bytes it consumed, and how many of them belong to its events
   pub taken : ℕ
   pub reported : ℕ
   -- how many arrays, maps and tags are open
   pub open_count : ℕ
-  -- how many bytes more the open payload or head has; 1 where a head is expected, 0 behind the item
+  -- how many more bytes the open payload or head has; 1 where a head is expected, 0 after the item
   pub expected : ℕ
   -- the first byte of an item is expected
   pub item_expected : Bool

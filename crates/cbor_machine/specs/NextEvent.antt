@@ -3,9 +3,8 @@ use Rattle.std.specs.Prelude.{◌≡◌, ℕ, ◌+◌, ◌<◌, ◌⊎◌, ◌++
 use Rattle.std.specs.Io.KnownBytes.{Consumes, IsAtEnd}
 use Rattle.cbor_head.specs.Prelude.{MayFollow, form, bounds, refusal, refused, IsVerdict}
 use Rattle.cbor_head.specs.declared.reason.Reason.TheVariants.{Read, Truncated, TooLong}
-use Rattle.cbor_head.specs.declared.reason.Refusal.{Refusal}
-use Rattle.cbor_automaton.specs.{Trace.Mark, Trace.total, Marks.marks_of, Bytes.IsEventBytes, declared.event.Event.Event, declared.event.EventKind.EventKind}
-use Rattle.cbor_automaton.specs.declared.event.EventKind.TheVariants.{Piece}
+use Rattle.cbor_head.specs.declared.{reason.Refusal.Refusal, event.Event.Event, event.EventKind.EventKind, event.EventKind.TheVariants.Piece}
+use Rattle.theory_automaton.specs.{Trace.Mark, Trace.total, Marks.marks_of, Bytes.IsEventBytes}
 use Rattle.cbor_machine.specs.Machine.{StandsFor, IsComplete, IsWhole, before}
 use Rattle.cbor_machine.specs.MachineView.{MachineView}
 
@@ -16,13 +15,13 @@ pub record ItemEventsView : Type 0 where
   pub piece : List ℕ
   pub refusal : Option Refusal
 
--- The machine has taken t, reported ms, and stands where an event ends: ms are all the events of t.
+-- The machine has consumed t and reported ms, and an event ends here: ms are all the events of t.
 pub record StandsBetween (m : MachineView) (t : List ℕ) (ms : List Mark) : Type 0 where
   pub stands : StandsFor m t ms
   pub whole : total ms ≡ length t
 
--- One call for the next event: the machine, what the reader holds and the last piece, before it
--- and after it; and what was taken and reported before it.
+-- One call for the next event: the machine, what the reader holds and the last piece, before and after the call;
+-- and what was consumed and reported before it.
 pub record Call : Type 0 where
   pub old : MachineView
   pub new : MachineView
@@ -46,20 +45,20 @@ machine_call from to before_it after_it kept piece t ms = record {
   reported = ms;
 }
 
--- a call, by what stood before it and after it, the bytes taken and the marks reported
+-- a call, from what the reader held before and after it, the bytes consumed and the marks reported
 abbrev pub call : ItemEventsView → ItemEventsView → Option (List ℕ) → Option (List ℕ) → List ℕ → List Mark → Call
 call from to before_it after_it t ms = machine_call from.machine to.machine before_it after_it from.piece to.piece t ms
 
 -- ---- an event
 
--- where a payload is open a piece of it is expected, else a head or a break
+-- if a payload is open, a piece of it is expected, otherwise a head or a break
 abbrev pub IsExpected : Bool → EventKind → Type 0
 IsExpected true (Piece n) = Unit {0}
 IsExpected true kind = ⊥
 IsExpected false (Piece n) = ⊥
 IsExpected false kind = Unit {0}
 
--- the bytes of a piece are kept, and any other event leaves those that were
+-- a piece becomes the last piece, and any other event leaves the last piece unchanged
 abbrev pub IsKept : EventKind → List ℕ → List ℕ → List ℕ → Type 0
 IsKept (Piece n) kept piece bytes = piece ≡ bytes
 IsKept kind kept piece bytes = piece ≡ kept
@@ -68,7 +67,7 @@ IsKept kind kept piece bytes = piece ≡ kept
 pub record IsNextEvent (e : Event) (c : Call) : Type 0 where
   pub unfinished : ¬ IsComplete c.old
   pub expected : IsExpected c.old.in_payload e.kind
-  -- its bytes, which the reader lost: of a head by its type, width and argument
+  -- its bytes, which were read from the reader; those of a head follow from its type, width and argument
   pub bytes : List ℕ
   pub consumed : Consumes c.held c.left bytes
   pub are : IsEventBytes c.reported e.width e.kind bytes
@@ -86,8 +85,8 @@ pub record IsEnd (c : Call) : Type 0 where
 
 -- ---- a refusal
 
--- The reader ended or failed within the item, before the byte limit. No other verdict stood: that
--- of the bytes taken, as a whole input, is Truncated.
+-- The reader ended or failed within the item, before the byte limit. The verdict on the bytes consumed, as a whole
+-- input, is Truncated.
 pub record IsCut (f : Refusal) (c : Call) : Type 0 where
   pub bytes : List ℕ
   pub consumed : Consumes c.held c.left bytes
@@ -105,32 +104,32 @@ pub record IsTooLong (f : Refusal) (c : Call) : Type 0 where
   pub consumed : Consumes c.held c.left bytes
   pub is : f ≡ refusal TooLong c.new.bytes c.new.bytes
   pub full : length (c.taken ++ bytes) ≡ c.new.bytes
-  -- whatever may follow
+  -- for any bytes after these
   pub verdict : (more : List ℕ)
       → IsVerdict (bounds c.new.depth c.new.bytes) form ((c.taken ++ bytes) ++ more) (refused f)
   pub stands : StandsFor (before c.new (length (c.taken ++ bytes))) (c.taken ++ bytes) c.reported
   pub unfinished : ¬ IsWhole c.new.depth (c.taken ++ bytes)
 
--- a byte may not follow what was taken
+-- a byte that may not follow the bytes before it
 pub record HasFormError (f : Refusal) (c : Call) : Type 0 where
   pub bytes : List ℕ
   pub byte : ℕ
   pub consumed : Consumes c.held c.left (bytes ++ byte ∷ [])
   pub is : f ≡ refusal f.reason (length (c.taken ++ bytes)) (length (c.taken ++ bytes) + 1)
   pub cannot_follow : ¬ MayFollow c.new.depth (c.taken ++ bytes) byte
-  -- whatever may follow
+  -- for any bytes after these
   pub verdict : (more : List ℕ)
       → IsVerdict (bounds c.new.depth c.new.bytes) form ((c.taken ++ bytes ++ byte ∷ []) ++ more) (refused f)
-  -- where the machine stood
+  -- the machine before the byte that was refused
   pub stands : StandsFor (before c.new (length (c.taken ++ bytes))) (c.taken ++ bytes) c.reported
   pub unfinished : ¬ IsWhole c.new.depth (c.taken ++ bytes)
 
--- of the event, if one is reported
+-- what holds for the event, if one is reported
 abbrev pub IfReported : Result (Option Event) Refusal → (Event → Type 0) → Type 0
 IfReported (Ok (Some e)) P = P e
 IfReported _ P = Unit {0}
 
--- what is answered where an event ended
+-- what is returned if the last event was complete
 abbrev pub IsNext : Result (Option Event) Refusal → Call → Type 0
 IsNext (Ok (Some e)) c = IsNextEvent e c
 IsNext (Ok None) c = IsEnd c

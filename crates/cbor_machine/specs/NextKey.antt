@@ -1,15 +1,15 @@
--- What is reported where a key is expected that is to be an integer or a text: its kind is judged at its first byte.
+-- What is reported where a key is expected that must be an integer or a text: its kind is judged at its first byte.
 use Rattle.std.specs.Prelude.{◌≡◌, ◌≢◌, ℕ, ◌+◌, ◌<◌, ◌⊎◌, ◌/◌, Bool, true, false, IsTrue, List, [], ◌∷◌, length, Option, Some, None, Result, Ok, Err}
 use Rattle.std.specs.Io.KnownBytes.{Consumes}
+use Rattle.cbor_head.specs.declared.event.EventKind.TheVariants.{Simple, Bytes, Array, Map, Tag}
 use Rattle.cbor_head.specs.{Prelude.MayFollow, Prelude.refusal, declared.reason.Reason.Reason, declared.reason.Reason.TheVariants.KeyKind}
-use Rattle.cbor_head.specs.declared.reason.Refusal.{Refusal}
-use Rattle.cbor_model.specs.FirstBytes.{is_basic}
-use Rattle.cbor_automaton.specs.declared.event.EventKind.TheVariants.{Simple, Bytes, Array, Map, Tag}
-use Rattle.cbor_automaton.specs.{Reasons.IsEventReason, declared.event.Event.Event, declared.event.EventKind.EventKind}
+use Rattle.cbor_head.specs.declared.{reason.Refusal.Refusal, event.Event.Event, event.EventKind.EventKind}
+use Rattle.theory_values.specs.FirstBytes.{is_basic}
+use Rattle.theory_automaton.specs.Reasons.{IsEventReason}
 use Rattle.cbor_machine.specs.NextEvent.{Call, IsNext, IsNextEvent, IsEnd}
 use Rattle.cbor_machine.specs.Machine.{IsComplete}
 
--- what a key that is an integer or a text may begin with, or a break
+-- the first event of a key that is an integer or a text, or a break
 abbrev pub IsBasicKind : EventKind → Type 0
 IsBasicKind (Simple n) = ⊥
 IsBasicKind (Bytes n) = ⊥
@@ -18,29 +18,29 @@ IsBasicKind (Map n) = ⊥
 IsBasicKind (Tag n) = ⊥
 IsBasicKind kind = Unit {0}
 
--- Where it stands behind the first byte that was read, that byte is of an integer or a text, if it is known.
+-- if the refusal is after the first byte, that byte begins an integer or a text
 abbrev pub IsBehindBasic : Refusal → Call → Type 0
 IsBehindBasic f c = length c.taken < f.place → (first : ℕ) (rest : List ℕ) → c.held ≡ Some (first ∷ rest) → IsTrue (is_basic (first / 32))
 
--- The first byte of an item that is neither an integer nor a text was read, and no more. It may stand there.
+-- The first byte of an item that is neither an integer nor a text was read, and no more. Such an item may begin there.
 pub record IsOtherKey (f : Refusal) (c : Call) : Type 0 where
   pub unfinished : ¬ IsComplete c.old
   pub byte : ℕ
   pub small : byte < 256
   pub consumed : Consumes c.held c.left (byte ∷ [])
   pub other : ¬ IsTrue (is_basic (byte / 32))
-  -- no break
+  -- not a break
   pub item : byte ≢ 0xff
   pub follows : MayFollow c.new.depth c.taken byte
   pub is : f ≡ refusal KeyKind (length c.taken) (length c.taken + 1)
 
--- what is answered where an event ended, and a key or a break is expected
+-- what is returned if the last event was complete, and a key or a break is expected
 abbrev pub IsNextKey : Result (Option Event) Refusal → Call → Type 0
 IsNextKey (Ok (Some e)) c = IsNextEvent e c × IsBasicKind e.kind
 IsNextKey (Ok None) c = IsEnd c
 IsNextKey (Err f) c = (IsNext (Err f) c × IsBehindBasic f c) ⊎ IsOtherKey f c
 
--- what is answered where an event ended, and where it is asked for, a key or a break is expected
+-- what is returned if the last event was complete, and, if kinds of keys are judged, a key or a break is expected
 abbrev pub IsNextOf : Bool → Result (Option Event) Refusal → Call → Type 0
 IsNextOf true result c = IsNextKey result c
 IsNextOf false result c = IsNext result c

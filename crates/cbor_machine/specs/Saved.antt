@@ -20,6 +20,6 @@ pub record Starts (s : SavedMachine) (depth bytes : ℕ) : Type 0 where
   pub bytes_is : machine.bytes ≡ bytes
   pub stands : StandsFor machine [] []
 
--- zeros alone
+-- only zeros
 abbrev pub AreZeros : List ℕ → Type 0
 AreZeros ns = ns ≡ replicate (length ns) 0

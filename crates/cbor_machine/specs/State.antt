@@ -1,10 +1,10 @@
--- The machine's fields as a state of the automaton, and what its functions keep of them.
+-- The machine's fields as a state of the automaton, and what its functions preserve.
 use Rattle.std.specs.Prelude.{◌≡◌, ℕ, suc, ◌⊎◌, ◌+◌, ◌*◌, ◌^◌, ◌≤◌, Bool, List, [], map, reverse}
 use Rattle.cbor_head.specs.declared.major.Major.TheVariants as majors
 use Rattle.cbor_head.specs.declared.major.Major.{Major}
-use Rattle.cbor_automaton.specs.Automaton as automaton
-use Rattle.cbor_automaton.specs.Marks.{mark_of, times, IsDefinite, IsProper}
-use Rattle.cbor_automaton.specs.{Automaton.State, Reasons.IsFormReason}
+use Rattle.theory_automaton.specs.Automaton as automaton
+use Rattle.theory_automaton.specs.Marks.{mark_of, times, IsDefinite, IsProper}
+use Rattle.theory_automaton.specs.{Automaton.State, Reasons.IsFormReason}
 use Rattle.cbor_machine.specs.declared.frame.Frame.TheVariants as frames
 use Rattle.cbor_machine.specs.declared.opening.ArgumentType.TheVariants as numbered
 use Rattle.cbor_machine.specs.declared.opening.Opening.TheVariants.{Direct as DirectOpening, Long, IndefiniteBytes, IndefiniteText, IndefiniteArray, IndefiniteMap, Simple, LongSimple, Break, Bad}
@@ -13,7 +13,6 @@ use Rattle.cbor_machine.specs.declared.take_byte.Next.TheVariants.{Refuses, Goes
 use Rattle.cbor_machine.specs.declared.{frame.Frame.Frame, opening.ArgumentType.ArgumentType, opening.Opening.Opening, position.Position.Position}
 use Rattle.cbor_machine.specs.declared.take_byte.Next.{Next}
 
--- the major type
 abbrev pub major_of : ArgumentType → Major
 major_of numbered.Unsigned = majors.Unsigned
 major_of numbered.Negative = majors.Negative
@@ -58,13 +57,13 @@ opened LongSimple = automaton.long_simple
 opened Break = automaton.breaks
 opened Bad = automaton.bad
 
--- what comes of a byte, as the automaton says it
+-- the result of a byte, as that of the automaton
 abbrev pub next_of : Next → List Frame → automaton.Next
 next_of (Refuses r) fs = automaton.refuses r
 next_of (Goes position) fs = automaton.goes (state_of position fs)
 next_of (Reports w kind position) fs = automaton.reports (mark_of w kind) (state_of position fs)
 
--- The argument has space for the bytes that are left, and a container for its frame; behind the item nothing is open.
+-- The argument has space for the bytes that are left, and a container for its frame; after the item nothing is open.
 abbrev pub IsFit : ℕ → List Frame → Position → Type 0
 IsFit depth fs (Head chunk kind width left argument) =
     ((argument + 1) * 256 ^ (left + 1) ≤ 2 ^ 64) × ((chunk ≡ Bool.true) ⊎ (automaton.has_space depth (frames_of fs) (major_of kind) ≡ Bool.true)) × IsDefinite width
@@ -93,7 +92,7 @@ abbrev pub IsReportedSettled : List Frame → Next → Type 0
 IsReportedSettled fs (Reports w kind position) = IsSettled fs position
 IsReportedSettled fs _ = Unit {0}
 
--- what goes on without an event is within a head
+-- a byte that completes no event leaves a head open
 abbrev pub IsNextOpen : List Frame → Next → Type 0
 IsNextOpen fs (Goes position) = ¬ IsSettled fs position
 IsNextOpen fs _ = Unit {0}
@@ -115,7 +114,7 @@ abbrev pub IsOnce : Next → Type 0
 IsOnce (Reports w kind position) = times kind ≡ 1
 IsOnce _ = Unit {0}
 
--- the bytes that are still to come of the head that is open, or the next one
+-- the number of bytes that are missing from the open head, or from the next one
 abbrev pub head_left : Position → ℕ
 head_left (Head chunk kind width left argument) = left + 1
 head_left (Payload chunk kind left) = 0
@@ -126,7 +125,7 @@ abbrev pub next_left : Next → ℕ
 next_left (Goes position) = head_left position
 next_left _ = 0
 
--- the bytes that are still to come of what is open, a payload too: whatever they are, all are used
+-- the number of bytes that are missing from what is open, a payload too: whatever they are, all are used
 abbrev pub wanted_at : Position → ℕ
 wanted_at (Payload chunk kind left) = left + 1
 wanted_at position = head_left position
@@ -146,7 +145,7 @@ abbrev pub is_done : Position → Bool
 is_done Done = Bool.true
 is_done _ = Bool.false
 
--- why a byte may not stand where it does, if it may not
+-- the reason, if the byte is not allowed here
 abbrev pub IsNextReason : Next → Type 0
 IsNextReason (Refuses r) = IsFormReason r
 IsNextReason _ = Unit {0}

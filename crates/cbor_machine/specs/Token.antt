@@ -1,7 +1,7 @@
 -- What is reported of an item, as events.
 use Rattle.std.specs.Prelude.{ℕ, Some}
-use Rattle.cbor_automaton.specs.declared.event.EventKind.TheVariants as kinds
-use Rattle.cbor_automaton.specs.declared.event.EventKind.{EventKind}
+use Rattle.cbor_head.specs.declared.event.EventKind.TheVariants as kinds
+use Rattle.cbor_head.specs.declared.event.EventKind.{EventKind}
 use Rattle.cbor_machine.specs.declared.token.Token.TheVariants.{Unsigned, Negative, Bytes, Text, Array, Map, Tag, Simple, Piece, Chunk}
 use Rattle.cbor_machine.specs.declared.token.Token.{Token}
 

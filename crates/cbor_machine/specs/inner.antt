@@ -1,3 +1,3 @@
--- What private functions speak of; no public contract does.
+-- Definitions that only private functions use.
 pub mod Machine
 pub mod Saved

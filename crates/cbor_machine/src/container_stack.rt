@@ -1,7 +1,7 @@
-//! The open containers, with the innermost one apart.
+//! The open containers, with the innermost one in a field of its own.
 
 ghost use Rattle.std.specs.Prelude.{◌≡◌, ◌≤◌, ◌<◌, ◌++◌, ◌∷◌, [], length, false, None, Some, IfSome, slice_get};
-ghost use Rattle.cbor_automaton.specs.Automaton as automaton;
+ghost use Rattle.theory_automaton.specs.Automaton as automaton;
 ghost use Rattle.cbor_machine.specs.State.{frame_of, frames_of, state_of, IsSettled};
 ghost use Rattle.cbor_machine.specs.ContainerStack.{expected_frame, level_frame, joined, IsAdvanced, IsEnded};
 ghost use Rattle.cbor_machine.specs.ContainerStack.{IsStrayBreak, ends_by_break, position_after};
@@ -81,7 +81,7 @@ impl Level {
     }
 }
 
-// A member of a container is complete. Whether another is expected.
+// Completes a member of a container. Returns whether another is expected.
 #[inline(always)]
 fn advance(top: &mut Level) -> bool
     ensures moved { IsAdvanced result
@@ -122,14 +122,13 @@ fn advance(top: &mut Level) -> bool
     }
 }
 
-// A break may stand there.
+// Whether a break may come here.
 fn is_open(level: Level) -> bool
     ensures { result ≡ ends_by_break (frame_of (level_frame level)) }
 {
     matches!(level.expected, Slot::IndefiniteItem | Slot::IndefiniteKey)
 }
 
-// The level that lies there.
 #[inline(always)]
 fn level_at(slots: &[Slot], lefts: &[u64], place: usize) -> Level
     requires slots { place < length slots.now }
@@ -143,11 +142,11 @@ fn level_at(slots: &[Slot], lefts: &[u64], place: usize) -> Level
 }
 
 impl ContainerStack {
-    /// Nothing is open.
+    /// A stack with no open container.
     pub fn new() -> ContainerStack
         ensures { result ≡ [] }
     {
-        // Blanks of zeros alone are filled in fastest.
+        // All bytes of both arrays are zero, which is fastest to fill in.
         ContainerStack {
             slots: [Slot::Item; LEVELS],
             lefts: [0; LEVELS],
@@ -156,7 +155,7 @@ impl ContainerStack {
         }
     }
 
-    /// Nothing is open any more. No level is filled again.
+    /// Closes all containers. The arrays keep their contents, which are not read again.
     pub fn clear(&mut self)
         ensures { self.new ≡ [] }
     {
@@ -172,7 +171,7 @@ impl ContainerStack {
         self.height
     }
 
-    /// The open container around which so many others are open.
+    /// The open container around which this number of others is open.
     pub fn frame(&self, place: usize) -> Frame
         requires { place < length self.now }
         ensures { slice_get self.now place ≡ Some result }
@@ -196,8 +195,8 @@ impl ContainerStack {
         self.top = Level { expected, left };
     }
 
-    /// An item is complete: with it the containers whose last member it was. Whether nothing
-    /// more is expected.
+    /// Completes an item, and the containers whose last member it is. Returns whether nothing more
+    /// is expected.
     #[inline(always)]
     pub fn complete(&mut self) -> bool
         ensures state { state_of (position_after result) self.new
@@ -231,8 +230,9 @@ impl ContainerStack {
         }
     }
 
-    /// The innermost container ends by a break, if it has no length and no value is expected in it.
-    /// Whether nothing more is expected then.
+    /// Ends the innermost container by a break, and returns whether nothing more is expected then.
+    /// Returns `None`, and changes nothing, if it has a definite length or a value is expected in
+    /// it.
     pub fn end(&mut self) -> Option<bool>
         ensures ends { IfSome result (λ done. IsEnded self.old (position_after done) self.new) }
         ensures fewer { length self.new ≤ length self.old }

@@ -2,7 +2,7 @@
 
 ghost use Rattle.std.specs.Prelude.{◌≡◌, ◌≤◌, ◌<◌, ◌+◌, [], take, length, min, true, false};
 ghost use Rattle.std.specs.Prelude.{None, IfSome, is_some};
-ghost use Rattle.cbor_automaton.specs.Marks.{times, IsProper};
+ghost use Rattle.theory_automaton.specs.Marks.{times, IsProper};
 ghost use Rattle.cbor_machine.specs.AtOnce.{is_taken_at_once};
 ghost use Rattle.cbor_machine.specs.Whole.{IsPrefix};
 ghost use Rattle.cbor_machine.specs.State.{state_of, IsFit, IsSettled};
@@ -16,21 +16,20 @@ use crate::position::{Position, after};
 use crate::take_byte::{Next, head_kind, take_byte};
 use crate::token::kind_by;
 use crate::whole_event::{whole_argument, whole_head, whole_piece};
-use cbor_automaton::EventKind;
-use cbor_head::{Reason, Width};
+use cbor_head::{EventKind, Reason, Width};
 
-/// What came of some bytes.
+/// The result of a walk over some bytes.
 #[derive(Clone, Copy)]
 pub enum FeedResult {
-    /// All were taken, and no event is complete.
+    /// All were consumed, and no event is complete.
     More,
     /// The last of them completes an event.
     Reported(Width, EventKind),
-    /// The last of them may not stand there.
+    /// The last of them is not allowed there.
     Refused(Reason),
 }
 
-/// An event whose bytes stand whole at the start, and how many they are.
+/// An event whose bytes are complete at the start, and their number.
 #[derive(Clone, Copy)]
 pub struct WholeEvent {
     pub used: usize,
@@ -38,8 +37,8 @@ pub struct WholeEvent {
     pub kind: EventKind,
 }
 
-/// The head, the argument of the open head or the part of a payload that stands whole at the start;
-/// none where there is none, or no item may have it there.
+/// The head, the argument of the open head or the part of a payload that is complete at the start.
+/// `None` if none is complete, or if no item may have it there.
 #[inline(always)]
 #[tactic(auto, using(crate::proofs::Frames::settled_fit))]
 pub fn walk_whole(
@@ -107,7 +106,7 @@ pub fn walk_whole(
     }
 }
 
-/// Takes bytes until one completes an event or is refused.
+/// Consumes bytes until one completes an event or is refused.
 #[inline(always)]
 #[tactic(auto, using(crate::proofs::Frames::settled_fit))]
 pub fn walk(
@@ -142,7 +141,7 @@ pub fn walk(
     walk_bytes(depth, position, container_stack, input)
 }
 
-// Takes bytes one by one until one completes an event or is refused.
+// Consumes bytes one by one until one completes an event or is refused.
 #[tactic(auto, using(crate::proofs::Frames::settled_fit))]
 #[inline(never)]
 fn walk_bytes(

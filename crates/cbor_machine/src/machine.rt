@@ -1,15 +1,15 @@
-//! The machine that takes an item byte by byte.
+//! The machine that reads an item byte by byte.
 
 ghost use Rattle.std.specs.Prelude.{◌≡◌, ◌↔◌, ◌≤◌, ◌<◌, ◌+◌, ◌++◌, ℕ, List, [], ◌∷◌, length, take};
 ghost use Rattle.std.specs.Prelude.{min, true, false, Some, None, IfSome, IsTrue, is_some, ◌&&◌};
 ghost use Rattle.cbor_head.specs.Value.{AreBytes};
-ghost use Rattle.cbor_automaton.specs.Trace.{Mark};
-ghost use Rattle.cbor_automaton.specs.Reasons.{IsMachineReason};
+ghost use Rattle.theory_automaton.specs.Trace.{Mark};
+ghost use Rattle.theory_automaton.specs.Reasons.{IsMachineReason};
 ghost use Rattle.cbor_machine.specs.MachineView.{MachineView};
 ghost use Rattle.cbor_machine.specs.Machine.{StandsFor, KeepsLimits, Stays, IsAnswer, IsComplete};
 ghost use Rattle.cbor_machine.specs.Machine.{IsIdle, IsEvent, IsMore, IsDone, IfRefused, piece_of};
 ghost use Rattle.cbor_machine.specs.Machine.{IsGiven};
-ghost use Rattle.cbor_automaton.specs.Marks.{IsProper, times};
+ghost use Rattle.theory_automaton.specs.Marks.{IsProper, times};
 ghost use Rattle.cbor_machine.specs.Machine.{wanted};
 ghost use Rattle.cbor_machine.specs.AtOnce.{is_taken_at_once, begins_long};
 ghost use Rattle.cbor_machine.specs.State.{IsFit, IsSettled, wanted_at, is_at_item, is_in_payload};
@@ -24,14 +24,13 @@ use crate::feed::{FeedResult, walk, walk_whole};
 use crate::position::Position;
 use crate::step::{Out, Step};
 use crate::take_byte::long_at;
-use cbor_automaton::Event;
-use cbor_head::{Limits, Reason, Refusal};
+use cbor_head::{Event, Limits, Reason, Refusal};
 pub use saved::SavedMachine;
 use std::marker::Model;
 
-/// Takes one item byte by byte, in parts of any length, and reports its events.
+/// Consumes the bytes of one item, in parts of any length, and reports its events.
 ///
-/// It keeps the open containers and no byte of the item. No call takes memory.
+/// It stores the open containers and no byte of the item. No call allocates.
 #[derive(Drop)]
 pub struct Machine {
     limits: Limits,
@@ -69,7 +68,7 @@ impl Model for Machine {
 }
 
 impl Machine {
-    /// A machine before an item's first byte. It does not look at the kinds of keys.
+    /// A machine before an item's first byte. It does not check the kinds of keys.
     pub fn new(limits: Limits) -> Machine
         ensures limits { (result.depth ≡ limits.depth) × (result.bytes ≡ limits.bytes) }
         ensures starts { StandsFor result [] [] }
@@ -84,7 +83,7 @@ impl Machine {
         }
     }
 
-    /// Goes on with another item, whatever came of the one before, within the same limits.
+    /// Begins another item within the same limits, in whatever state the machine is.
     pub fn restart(&mut self)
         ensures limits { (self.new.depth ≡ self.old.depth) × (self.new.bytes ≡ self.old.bytes) }
         ensures starts { StandsFor self.new [] [] }
@@ -96,7 +95,8 @@ impl Machine {
         self.refusal = None;
     }
 
-    /// How many arrays, maps and tags are open: from its head until its last member or its break.
+    /// The number of open arrays, maps and tags. Each is open from its head until its last member or
+    /// its break.
     pub fn open(&self) -> usize
         ensures count { result ≡ self.now.open_count }
         ensures within { result ≤ self.now.depth }
@@ -104,7 +104,7 @@ impl Machine {
         self.container_stack.len()
     }
 
-    /// How many bytes were taken; after a refusal its `read`.
+    /// The number of bytes consumed; after a refusal its `read`.
     pub fn taken(&self) -> u64
         ensures taken { result ≡ self.now.taken }
         ensures within { result ≤ self.now.bytes }
@@ -112,9 +112,9 @@ impl Machine {
         self.taken
     }
 
-    /// How many bytes more belong to the head or payload that is open, or to the next head's first
-    /// byte, within the byte limit: a step uses that many, whatever they are. None once the item is
-    /// complete or refused.
+    /// The number of bytes still missing from the open head or payload, or 1 if a head is expected,
+    /// at most what the byte limit leaves: a step uses that many, whatever they are. 0 once the item
+    /// is complete or refused.
     #[inline(always)]
     pub fn wanted(&self) -> u64
         ensures wanted { result ≡ wanted self.now }
@@ -132,7 +132,7 @@ impl Machine {
         }
     }
 
-    /// Whether the next bytes are those of a payload.
+    /// Whether the next bytes belong to a payload.
     #[inline(always)]
     pub fn is_in_payload(&self) -> bool
         ensures { result ≡ self.now.in_payload }
@@ -140,7 +140,7 @@ impl Machine {
         matches!(self.position, Position::Payload(..))
     }
 
-    /// Whether the first byte of an item's head is wanted.
+    /// Whether the first byte of an item's head is expected.
     #[inline(always)]
     pub fn wants_head(&self) -> bool
         ensures expected { result ≡ true ↔ (self.now.item_expected ≡ true) × (0 < wanted self.now) }
@@ -152,9 +152,9 @@ impl Machine {
             && self.taken < self.limits.bytes()
     }
 
-    /// Takes the head, the argument or the part of a payload that stands whole in the input, which
-    /// is no longer than what is wanted. None, and nothing is taken, where it is not there, or no
-    /// item may have it there.
+    /// Consumes the head, the argument or the part of a payload that is complete in the input. The
+    /// input has at most `wanted` bytes. Returns `None` and consumes nothing if none is complete, or
+    /// if no item may have it there.
     #[inline(always)]
     #[tactic(auto, using(crate::proofs::Settled::settled_fit))]
     pub fn take_whole(&mut self, input: &[u8]) -> Option<Event>
@@ -182,8 +182,8 @@ impl Machine {
         Some(event)
     }
 
-    /// Takes the first byte of an item's head with an argument. False, and it is not taken, where it
-    /// is no such byte, or no item may have it there.
+    /// Consumes the first byte of an item's head, if it has an argument after that byte. Returns
+    /// false and consumes nothing for any other byte, or if no item may have it there.
     #[inline(always)]
     pub fn begin_head(&mut self, c: u8) -> bool
         requires { 0 < wanted self.old }
@@ -209,19 +209,21 @@ impl Machine {
         }
     }
 
-    /// Takes bytes from the prefix of the input until an event is complete, or a byte is refused, or
-    /// none is left. Once the item is complete, or refused, it uses nothing and answers the same.
+    /// Consumes bytes from the start of the input until an event is complete, a byte is refused, or
+    /// no byte is left. Once the item is complete or refused, it uses nothing and returns the same
+    /// result.
     #[inline(always)]
     pub fn step(&mut self, input: &[u8]) -> Step
         ensures used { (result.used ≤ length input.now)
             × (self.new.taken ≡ self.old.taken + result.used) }
         ensures limits { KeepsLimits self.old self.new }
 
-        // For all bytes and marks that the machine stood for.
+        // For all bytes and marks that the machine represented.
         ensures answers { (t : List ℕ) (ms : List Mark) → StandsFor self.old t ms
             → IsAnswer result.out self.new t (take result.used input.now) ms }
 
-        // What is wanted is used; of a payload the lesser of what is offered and what is wanted.
+        // At most the expected bytes: all are used. Of a payload, the lesser of the input's length
+        // and what is expected.
         ensures wanted { (length input.now ≤ wanted self.old → result.used ≡ length input.now)
             × (self.old.in_payload ≡ true
             → result.used ≡ min (length input.now) (wanted self.old)) }
@@ -237,7 +239,7 @@ impl Machine {
     }
 }
 
-/// A step, and what it does with the inner state.
+/// A step, with a contract that also says what becomes of the inner state.
 #[inline(always)]
 #[tactic(auto, using(crate::proofs::Settled::settled_fit))]
 pub fn take_part(machine: &mut Machine, input: &[u8]) -> Step
@@ -311,7 +313,6 @@ pub fn take_part(machine: &mut Machine, input: &[u8]) -> Step
     }
 }
 
-// The lesser of the two.
 #[inline(always)]
 fn part(len: usize, space: u64) -> usize
     ensures { result ≡ min len space }
@@ -323,7 +324,7 @@ fn part(len: usize, space: u64) -> usize
     }
 }
 
-/// Bytes are below 256, as the contracts of a step ask of them. Nothing runs.
+/// States that bytes are below 256, as the contracts of a step require. Nothing runs.
 pub fn below_256(bytes: &[u8])
     ensures { AreBytes bytes.now }
 {}

@@ -1,7 +1,7 @@
 //! What a first byte begins.
 
 ghost use Rattle.std.specs.Prelude.{◌≡◌, ◌<◌, ◌/◌, false, nat_le};
-ghost use Rattle.cbor_automaton.specs.Automaton as automaton;
+ghost use Rattle.theory_automaton.specs.Automaton as automaton;
 ghost use Rattle.cbor_machine.specs.State.{major_of, opened, IsOpeningDefinite};
 ghost use Rattle.cbor_machine.specs.AtOnce.{IfLong, is_long, is_long_head};
 
@@ -24,7 +24,7 @@ pub enum ArgumentType {
 pub enum Opening {
     /// A head of one byte.
     Direct(ArgumentType, u8),
-    /// A head with an argument behind its first byte.
+    /// A head with an argument after its first byte.
     Long(ArgumentType, Width),
     IndefiniteBytes,
     IndefiniteText,
@@ -32,14 +32,14 @@ pub enum Opening {
     IndefiniteMap,
     /// A simple value in one byte.
     Simple(Simple),
-    /// `f8`, with the number of a simple value behind it.
+    /// `f8`, followed by the number of a simple value.
     LongSimple,
     Break,
     /// Nothing.
     Bad,
 }
 
-/// The type by the high three bits, where they are not 7.
+/// The type with this number, which is below 7: the high three bits of an initial byte.
 pub(crate) fn numbered_at(high: u8) -> ArgumentType
     requires { high < 7 }
     ensures { major_of result ≡ automaton.major_at high }
@@ -69,7 +69,7 @@ fn indefinite_length(kind: ArgumentType) -> Opening
     }
 }
 
-// By the low five bits above 23.
+// `low` is the additional information less 24.
 #[inline(always)]
 fn numbered_tail(kind: ArgumentType, low: u8) -> Opening
     ensures opens { opened result ≡ automaton.numbered_tail (major_of kind) low }

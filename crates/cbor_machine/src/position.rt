@@ -1,7 +1,7 @@
 //! Where the next byte belongs.
 
 ghost use Rattle.std.specs.Prelude.{◌≡◌, ◌≤◌, ◌⊎◌, length, false, true};
-ghost use Rattle.cbor_automaton.specs.Automaton as automaton;
+ghost use Rattle.theory_automaton.specs.Automaton as automaton;
 ghost use Rattle.cbor_machine.specs.declared.frame.TheConstants.{MOST_OPEN};
 ghost use Rattle.cbor_machine.specs.State.{frames_of, state_of, major_of, IsSettled};
 
@@ -9,32 +9,32 @@ use crate::container_stack::{ContainerStack, Slot};
 use crate::opening::ArgumentType;
 use cbor_head::Width;
 
-/// Where the next byte belongs. A flag is true for what belongs to a chunk.
+/// Where the next byte belongs. A flag is true within a chunk.
 #[derive(Clone, Copy)]
 pub enum Position {
     /// An item may begin.
     Item,
-    /// In a head behind its first byte.
+    /// In a head, after its first byte.
     Head {
         chunk: bool,
         kind: ArgumentType,
         width: Width,
-        /// So many bytes of the argument follow the next one.
+        /// This number of bytes of the argument follows the next one.
         left: u8,
         /// The argument so far.
         argument: u64,
     },
-    /// The number of a simple value, behind `f8`.
+    /// The number of a simple value, after `f8`.
     SimpleNumber,
-    /// In a payload, so many of its bytes after the next one.
+    /// In a payload, with this number of its bytes after the next one.
     Payload(bool, ArgumentType, u64),
     /// A chunk may begin, or the break.
     Chunks(ArgumentType),
-    /// Behind the item.
+    /// After the item.
     Done,
 }
 
-/// An item is complete, where an item was expected.
+/// Completes an item.
 #[inline(always)]
 pub(crate) fn finish(position: &mut Position, container_stack: &mut ContainerStack)
     requires { position.old ≡ Position.Item }
@@ -47,7 +47,7 @@ pub(crate) fn finish(position: &mut Position, container_stack: &mut ContainerSta
     }
 }
 
-/// There is space for one more container, if it is one.
+/// Whether an item of this type is within the depth limit.
 #[inline(always)]
 #[tactic(auto, using(crate::proofs::Frames::length_frames))]
 pub fn has_space(depth: usize, kind: ArgumentType, container_stack: &ContainerStack) -> bool
@@ -63,7 +63,7 @@ pub fn has_space(depth: usize, kind: ArgumentType, container_stack: &ContainerSt
     }
 }
 
-/// The head of an item is complete.
+/// Completes the head of an item.
 #[inline(always)]
 #[tactic(auto, using(crate::proofs::Frames::length_frames, crate::proofs::Frames::frames_push))]
 pub(crate) fn enter(
@@ -109,7 +109,7 @@ pub(crate) fn enter(
     }
 }
 
-/// A string of definite length is complete.
+/// Completes a string of definite length.
 #[inline(always)]
 pub(crate) fn finish_string(
     chunk: bool,
@@ -130,7 +130,7 @@ pub(crate) fn finish_string(
     finish(position, container_stack);
 }
 
-/// Where the next byte belongs behind an item that was expected.
+/// Where the next byte belongs after an item that was expected.
 pub(crate) fn close(container_stack: &mut ContainerStack) -> Position
     ensures state { state_of result container_stack.new ≡ automaton.close (frames_of container_stack.old) }
     ensures fewer { length container_stack.new ≤ length container_stack.old }
@@ -141,7 +141,7 @@ pub(crate) fn close(container_stack: &mut ContainerStack) -> Position
     position
 }
 
-/// Where it belongs behind the head of a chunk.
+/// Where the next byte belongs after the head of a chunk.
 pub(crate) fn chunk_payload(
     kind: ArgumentType,
     n: u64,
@@ -157,7 +157,7 @@ pub(crate) fn chunk_payload(
     Position::Payload(true, kind, n - 1)
 }
 
-/// Where it belongs behind a definite head.
+/// Where the next byte belongs after a definite head.
 #[inline(always)]
 pub(crate) fn after(
     chunk: bool,

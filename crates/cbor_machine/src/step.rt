@@ -1,9 +1,8 @@
-//! What a step of the machine answers.
+//! What a step of the machine returns.
 
-use cbor_automaton::Event;
-use cbor_head::Refusal;
+use cbor_head::{Event, Refusal};
 
-/// What came of a step.
+/// The result of a step.
 #[derive(Clone, Copy, Debug, PartialEq, Eq)]
 pub enum Out {
     /// All of the input was used, and no event is complete.
@@ -16,14 +15,14 @@ pub enum Out {
     Refused(Refusal),
 }
 
-/// How many bytes of the input a step used, and what came of them.
+/// The number of bytes of the input that a step used, and its result.
 ///
 /// Of the input `19 03 e8 00` the first step uses three bytes and reports `Unsigned(1000)`, and the
-/// next uses none of `00` and answers `Done`.
+/// next uses none of `00` and returns `Done`.
 #[derive(Clone, Copy, Debug, PartialEq, Eq)]
 pub struct Step {
-    /// The bytes used, from the prefix of the input.
+    /// The number of bytes used, from the start of the input.
     pub used: usize,
-    /// What came of them.
+    /// The result.
     pub out: Out,
 }

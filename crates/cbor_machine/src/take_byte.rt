@@ -2,9 +2,9 @@
 
 ghost use Rattle.std.specs.Prelude.{◌≡◌, ◌≤◌, ◌+◌, ◌-◌, length, false, IfSome, is_some};
 ghost use Rattle.cbor_head.specs.declared.width.Width as width;
-ghost use Rattle.cbor_automaton.specs.Trace.{more_bytes};
-ghost use Rattle.cbor_automaton.specs.Automaton as automaton;
-ghost use Rattle.cbor_automaton.specs.Marks.{mark_of, times, IsDefinite, IsProper};
+ghost use Rattle.theory_automaton.specs.Trace.{more_bytes};
+ghost use Rattle.theory_automaton.specs.Automaton as automaton;
+ghost use Rattle.theory_automaton.specs.Marks.{mark_of, times, IsDefinite, IsProper};
 ghost use Rattle.cbor_machine.specs.AtOnce.{begins_long};
 ghost use Rattle.cbor_machine.specs.declared.frame.TheConstants.{MOST_OPEN};
 ghost use Rattle.cbor_machine.specs.State.{frames_of, state_of, major_of, next_of, IsFit};
@@ -15,13 +15,12 @@ ghost use Rattle.cbor_machine.specs.State.{IsNextReason, IsSettled, is_done, hea
 use crate::container_stack::{ContainerStack, Slot};
 use crate::opening::{ArgumentType, Opening, opening_of};
 use crate::position::{Position, after, chunk_payload, close, finish_string, has_space};
-use cbor_automaton::EventKind;
-use cbor_head::{Reason, Simple, Width, initial_byte_reason};
+use cbor_head::{EventKind, Reason, Simple, Width, initial_byte_reason};
 
-/// What comes of a byte.
+/// The result of a byte.
 #[derive(Clone, Copy)]
 pub enum Next {
-    /// It may not stand there.
+    /// It is not allowed here.
     Refuses(Reason),
     /// No event is complete.
     Goes(Position),
@@ -29,7 +28,7 @@ pub enum Next {
     Reports(Width, EventKind, Position),
 }
 
-/// What a definite head reports.
+/// The event of a definite head.
 #[inline(always)]
 pub(crate) fn head_kind(chunk: bool, kind: ArgumentType, n: u64) -> EventKind
     ensures mark { (w : width.Width) → mark_of w result ≡ automaton.mark chunk (major_of kind) w n }
@@ -50,7 +49,7 @@ pub(crate) fn head_kind(chunk: bool, kind: ArgumentType, n: u64) -> EventKind
     }
 }
 
-// The bytes of an argument after the next one.
+// The number of bytes of an argument after the next one.
 fn left_of(width: Width) -> u8
     ensures { result ≡ more_bytes width - 1 }
 {
@@ -62,7 +61,7 @@ fn left_of(width: Width) -> u8
     }
 }
 
-// Behind the first byte of a head.
+// After the first byte of a head.
 fn begun(chunk: bool, kind: ArgumentType, width: Width) -> Position
     ensures { result ≡ Position.Head chunk kind width (more_bytes width - 1) 0 }
 {
@@ -75,8 +74,8 @@ fn begun(chunk: bool, kind: ArgumentType, width: Width) -> Position
     }
 }
 
-/// Where the next byte belongs behind the first byte of an item's head with an argument; none where
-/// it is no such byte, or no item may have it there.
+/// Where the next byte belongs after the first byte of an item's head, if the head has an argument
+/// after that byte. `None` for any other byte, or if no item may have it there.
 #[inline(always)]
 pub fn long_at(depth: usize, container_stack: &ContainerStack, c: u8) -> Option<Position>
     ensures next { IfSome result (λ to. automaton.take_byte depth
@@ -184,7 +183,7 @@ fn begin(depth: usize, container_stack: &mut ContainerStack, c: u8) -> Next
     }
 }
 
-// Two strings of the same type.
+// Whether both are strings of the same type.
 fn is_same_string(a: ArgumentType, b: ArgumentType) -> bool
     ensures { result ≡ automaton.is_major (major_of a) (major_of b) }
 {

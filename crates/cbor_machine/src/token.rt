@@ -4,36 +4,35 @@ ghost use Rattle.std.specs.Prelude.{◌≡◌};
 ghost use Rattle.cbor_machine.specs.Token.{kind_of};
 ghost use Rattle.cbor_machine.specs.Whole.{IsNumberOf};
 
-use cbor_automaton::EventKind;
-use cbor_head::Simple;
+use cbor_head::{EventKind, Simple};
 
-/// What stands whole before an item's rest: a definite head, or bytes of a payload. Its number
-/// and its width stand beside it.
+/// What is complete at the start of an item's rest: a definite head, or bytes of a payload. Its
+/// number and its width are separate.
 #[derive(Clone, Copy)]
 pub(crate) enum Token {
     /// An unsigned integer.
     Unsigned,
-    /// A negative integer, by its argument: n stands for -1 - n.
+    /// A negative integer, by its argument: n means -1 - n.
     Negative,
-    /// The head of a byte string of so many bytes.
+    /// The head of a byte string of this number of bytes.
     Bytes,
-    /// The head of a text string of so many bytes.
+    /// The head of a text string of this number of bytes.
     Text,
-    /// The head of an array of so many items.
+    /// The head of an array of this number of items.
     Array,
-    /// The head of a map of so many pairs.
+    /// The head of a map of this number of pairs.
     Map,
     /// A tag number, whose content follows.
     Tag,
     /// A simple value.
     Simple,
-    /// So many bytes of a payload, at least one.
+    /// This number of bytes of a payload, at least one.
     Piece,
-    /// The head of a chunk of so many bytes.
+    /// The head of a chunk of this number of bytes.
     Chunk,
 }
 
-/// The event that is reported by this token, with this number.
+/// The event of this token, with this number.
 #[inline(always)]
 pub(crate) fn kind_by(token: Token, number: u64) -> EventKind
     requires { IsNumberOf token number }

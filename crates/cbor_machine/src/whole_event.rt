@@ -1,22 +1,22 @@
-//! Whole heads and whole payloads, straight from a slice.
+//! Whole heads and whole payloads, read directly from a slice.
 
 ghost use Rattle.std.specs.Prelude.{◌≡◌, ◌≤◌, ◌<◌, ◌+◌, ◌-◌, ◌^◌, ◌/◌, ◌∷◌, [], List, ℕ, length, take, min};
 ghost use Rattle.std.specs.Prelude.{true, false, IfSome, None, is_some, nat_le, nat_lt, ◌&&◌};
 ghost use Rattle.cbor_head.specs.Head.{IsSimple};
 ghost use Rattle.cbor_head.specs.declared.width.Width as width;
 ghost use Rattle.cbor_head.specs.declared.width.Width.TheVariants.{Direct};
-ghost use Rattle.cbor_automaton.specs.Trace.{a_head};
-ghost use Rattle.cbor_automaton.specs.Automaton as automaton;
-ghost use Rattle.cbor_automaton.specs.Marks.{marks_of, times};
+ghost use Rattle.theory_automaton.specs.Trace.{a_head};
+ghost use Rattle.theory_automaton.specs.Automaton as automaton;
+ghost use Rattle.theory_automaton.specs.Marks.{marks_of, times};
 ghost use Rattle.cbor_machine.specs.State.{frames_of, state_of, major_of};
-ghost use Rattle.cbor_automaton.specs.Marks.{IsDefinite, IsProper};
+ghost use Rattle.theory_automaton.specs.Marks.{IsDefinite, IsProper};
 ghost use Rattle.cbor_machine.specs.State.{IsSettled};
 ghost use Rattle.cbor_machine.specs.AtOnce.{is_width, begins_short};
 ghost use Rattle.cbor_machine.specs.Whole.{IsArgumentLeft, IsEventRun, IsNumberOf};
 ghost use Rattle.cbor_machine.specs.Whole.{IsPrefix, IsHeadHere, ReportsPrefix, LeavesPiece};
 ghost use Rattle.cbor_machine.specs.Token.{kind_of};
 ghost use Rattle.cbor_machine.specs.declared.frame.TheConstants.{MOST_OPEN};
-ghost use Rattle.cbor_automaton.specs.Pieces.{piece_by};
+ghost use Rattle.theory_automaton.specs.Pieces.{piece_by};
 
 use crate::container_stack::ContainerStack;
 use crate::opening::{ArgumentType, numbered_at};
@@ -24,7 +24,7 @@ use crate::position::{Position, enter, finish, finish_string, has_space};
 use crate::token::Token;
 use cbor_head::{Width, read_argument};
 
-// The low five bits of a first byte with one byte more than these in its argument.
+// The low five bits of a first byte whose argument has one byte more than `left`.
 fn low_bits(left: u8) -> Option<u8>
     ensures low { IfSome result (λ low. (left + 1 ≡ 2 ^ (low - 24)) × (24 ≤ low) × (low ≤ 27)) }
     ensures width { is_some result ≡ is_width left }
@@ -38,7 +38,7 @@ fn low_bits(left: u8) -> Option<u8>
     }
 }
 
-/// The argument of a head that is open, where its bytes are there: so many behind the next one.
+/// The argument of the open head, if all its bytes are available: `left` more after the next one.
 #[inline(always)]
 pub(crate) fn whole_argument(left: u8, rest: &[u8]) -> Option<u64>
     ensures is { IfSome result (λ n. IsArgumentLeft left n rest.now) }
@@ -50,7 +50,7 @@ pub(crate) fn whole_argument(left: u8, rest: &[u8]) -> Option<u64>
     Some(argument.number)
 }
 
-/// What was taken from the prefix of a slice, and what it reports.
+/// What was consumed from the start of a slice, and the event of it.
 #[derive(Clone, Copy)]
 pub(crate) struct Whole {
     pub used: usize,
@@ -59,7 +59,7 @@ pub(crate) struct Whole {
     pub number: u64,
 }
 
-// What the head of an item of this type reports.
+// The event of the head of an item of this type.
 #[inline(always)]
 fn reported_of(kind: ArgumentType) -> Token
     ensures marks { (w : width.Width) (n : ℕ)
@@ -82,7 +82,7 @@ fn reported_of(kind: ArgumentType) -> Token
     }
 }
 
-/// A definite head that an item may have, and how many bytes it takes.
+/// A definite head that an item may have, and its number of bytes.
 #[derive(Clone, Copy)]
 pub(crate) struct DefiniteHead {
     pub first: u8,
@@ -91,8 +91,8 @@ pub(crate) struct DefiniteHead {
     pub number: u64,
 }
 
-/// The definite head that stands whole at the start; none where there is none, or no item may
-/// have it there.
+/// The definite head that is complete at the start. `None` if none is, or if no item may have it
+/// there.
 #[inline(always)]
 pub(crate) fn prefix_head(
     depth: usize,
@@ -134,7 +134,7 @@ pub(crate) fn prefix_head(
     })
 }
 
-/// It is taken. Answers what it reports.
+/// Consumes it, and returns its event.
 #[inline(always)]
 pub(crate) fn take_head(
     head: DefiniteHead,
@@ -168,7 +168,7 @@ pub(crate) fn take_head(
     reported_of(kind)
 }
 
-/// Takes a whole head and gives its event, in one call.
+/// Consumes a whole head and returns its event, in one call.
 #[inline(always)]
 pub(crate) fn whole_head(
     depth: usize,
@@ -201,7 +201,7 @@ pub(crate) fn whole_head(
     })
 }
 
-/// How many bytes of a payload are there.
+/// The number of bytes of a payload that are available.
 #[inline(always)]
 pub(crate) fn whole_piece(
     chunk: bool,

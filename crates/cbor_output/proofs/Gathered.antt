@@ -1,7 +1,7 @@
--- Pairs gathered one behind the other.
+-- Pairs gathered one after the other.
 use Rattle.std.proofs.Common.{◌≡◌, ℕ, ◌+◌, ◌<◌, ◌≤◌, List, ◌++◌, append_assoc, append-nil, length, drop, get_or, map, sym, ap, ◌∙◌, slice_range, flat_map}
 use Rattle.std.proofs.lemmas.List.{drop_all, get_or_default}
-use Rattle.cbor_model.specs.Pairs.{pair_bytes}
+use Rattle.theory_values.specs.Pairs.{pair_bytes}
 use Rattle.cbor_output.{proofs.ByIndex.at_read, proofs.ByIndex.all_index, specs.Spans.span_pair, specs.Spans.AreWithin, specs.declared.span.Span.Span}
 use Rattle.cbor_output.proofs.Slices.{slices_join}
 

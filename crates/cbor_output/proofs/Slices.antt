@@ -3,7 +3,7 @@ use Rattle.std.proofs.Common.{◌≡◌, ℕ, ◌+◌, ◌-◌, ◌≤◌, List,
 use Rattle.std.proofs.lemmas.List.{take-append-le, drop-append-le, take_rest}
 use Rattle.std.proofs.Math.Seq.{take-add, drop-append_seam}
 
--- a part of what stands at the start
+-- a part of the start of a list
 pub slice_prefix : (xs ys : List ℕ) (s e : ℕ) → s ≤ e → e ≤ length xs → slice_range (xs ++ ys) s e ≡ slice_range xs s e
 slice_prefix xs ys s e h g =
     let l = length-drop s xs in
@@ -26,11 +26,11 @@ block_part all out block s e is h g few read =
 pub prefix_of_list : (all out : List ℕ) (len : ℕ) → take len all ≡ out → len ≤ length all → take (length out) all ≡ out
 prefix_of_list all out len is h = let l = length-take len all in ap (λ k. take k all) (omega (arith, l, h, ap length is)) ∙ is
 
--- it begins what goes on behind it too
+-- a prefix stays a prefix when more is appended
 pub prefix_kept : (out xs ys : List ℕ) → take (length out) xs ≡ out → take (length out) (xs ++ ys) ≡ out
 prefix_kept out xs ys is = let l = length-take (length out) xs in take-append-le (length out) xs ys (omega (arith, l, ap length is)) ∙ is
 
--- what lies behind a list moves down into it
+-- what follows a list moves down into it
 pub moved_down : (xs ys zs : List ℕ) (start end : ℕ) → end ≡ length xs → start ≤ end → zs ≡ xs ++ ys → take start zs ++ drop end zs ≡ take start xs ++ ys
 moved_down xs ys zs start end e h is =
     ap (λ (us : List ℕ). take start us ++ drop end us) is

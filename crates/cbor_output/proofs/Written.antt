@@ -15,12 +15,12 @@ drop_prefix start out x g =
     let e : start ≡ length (take start out) = omega (arith, length-take start out, g) in
     ap (λ k. drop k (take start out ++ x)) e ∙ drop-append_seam (take start out) x
 
--- the length stays where as many bytes are written as stood there
+-- the length is the same if the number of bytes written is the number of bytes replaced
 pub length_kept : (xs ys : List ℕ) (a k : ℕ) → a + k ≤ length xs → length ys ≡ k → length (take a xs ++ (ys ++ drop k (drop a xs))) ≡ length xs
 length_kept xs ys a k h e =
     omega (arith, length-append (take a xs) (ys ++ drop k (drop a xs)), length-append ys (drop k (drop a xs)), length-take a xs, length-drop k (drop a xs), length-drop a xs, h, e)
 
--- the first k of the bytes that are written behind the first len
+-- the first k of the bytes that are written after the first len
 pub written : (xs ys rest : List ℕ) (len k : ℕ) → len ≤ length xs → k ≤ length ys → take (len + k) (take len xs ++ (ys ++ rest)) ≡ take len xs ++ take k ys
 written xs ys rest len k h g =
     let prefix = take len xs ++ take k ys in
@@ -29,7 +29,7 @@ written xs ys rest len k h g =
     ap (λ (us : List ℕ). take len xs ++ (us ++ rest)) (sym (take-append-drop k ys)) ∙ simp append_assoc in
     (λ i. take (n i) (split i)) ∙ take-append_seam prefix (drop k ys ++ rest)
 
--- one byte in place of one
+-- one byte replaces one byte
 pub byte_written : (xs : List ℕ) (at start len x : ℕ) → start ≡ at + 1 → start ≤ len → len ≤ length xs → take len (set xs at x) ≡ take at (take len xs) ++ (x ∷ drop start (take len xs))
 byte_written xs at start len x e h g =
     let out = take len xs in
@@ -44,7 +44,7 @@ head_and_tail prefix h tail rest m e =
     let regroup : prefix ++ (h ++ (tail ++ rest)) ≡ (prefix ++ (h ++ tail)) ++ rest = simp append_assoc in
     (λ i. take (n i) (regroup i)) ∙ take-append_seam (prefix ++ (h ++ tail)) rest
 
--- a head in place of one of the same length
+-- a head replaces one of the same length
 pub head_kept : (xs h : List ℕ) (len from start k : ℕ) → len ≤ length xs → from ≤ start → start ≤ len → k ≡ start - from → length h ≡ k
     → take len (take from xs ++ (h ++ drop k (drop from xs))) ≡ take from (take len xs) ++ (h ++ drop start (take len xs))
 head_kept xs h len from start k g b e is n =
@@ -57,7 +57,7 @@ head_kept xs h len from start k g b e is n =
     let prefix : take from xs ≡ take from out = ap (take from) whole ∙ take-append-le from out (drop len xs) (omega (arith, l, b, e, g)) in
     (λ i. take len (prefix i ++ (h ++ rest i))) ∙ head_and_tail (take from out) h (drop start out) (drop len xs) len (omega (arith, l, length-take from out, length-drop start out, n, is, b, e, g))
 
--- a head in place of one of another length: what follows has been moved
+-- a head replaces one of another length: what follows has been moved
 pub head_moved : (xs h : List ℕ) (len from start k m : ℕ) → len ≤ length xs → from ≤ start → start ≤ len → from + k + (len - start) ≤ length xs → length h ≡ k → m ≡ from + k + (len - start)
     → take m (take from (paste xs (from + k) (drop start xs) (len - start)) ++ (h ++ drop k (drop from (paste xs (from + k) (drop start xs) (len - start))))) ≡ take from (take len xs) ++ (h ++ drop start (take len xs))
 head_moved xs h len from start k m g b e fits n is =

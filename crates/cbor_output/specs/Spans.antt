@@ -7,13 +7,13 @@ use Rattle.cbor_output.specs.declared.span.Span.{Span}
 abbrev pub span_pair : List ℕ → Span → Pair
 span_pair out s = record { key = slice_range out s.key s.val; value = slice_range out s.val s.end }
 
--- the parts of a pair lie one behind the other
+-- the key and the value of a pair follow each other
 abbrev pub IsWithin : List ℕ → Span → Type 0
 IsWithin out s = (s.key ≤ s.val) × (s.val ≤ s.end) × (s.end ≤ length out)
 
 abbrev pub AreWithin : List ℕ → List Span → Type 0
 AreWithin out ss = AllByRecursion (IsWithin out) ss
 
--- what stands at an index past the end
+-- the value for an index past the end
 abbrev pub no_span : Span
 no_span = record { prefix = 0; key = 0; val = 0; end = 0 }

@@ -2,8 +2,8 @@
 
 ghost use Rattle.std.specs.Prelude.{◌≡◌, ◌≤◌, ◌+◌, ◌-◌, ◌++◌, length, take, slice_range};
 
-/// What lies from `start` to `end` once more behind the first `len`, where there is space for it.
-/// Answers where it ends.
+/// Copies the bytes from `start` to `end` to after the first `len` bytes, if there is space.
+/// Returns where the copy ends.
 #[inline(always)]
 pub(crate) fn copy_behind(buf: &mut [u8], len: usize, start: usize, end: usize) -> usize
     requires begins { start ≤ end }
@@ -17,8 +17,8 @@ pub(crate) fn copy_behind(buf: &mut [u8], len: usize, start: usize, end: usize) 
     len + (end - start)
 }
 
-/// What lies from `end` to `len`, from `start` on. Answers where it ends then. As many bytes as make
-/// way, or fewer, are copied at once.
+/// Moves the bytes from `end` to `len` down to `start`. Returns their new end. If old and new bytes
+/// do not overlap, they are copied as one slice.
 pub(crate) fn copy_down(buf: &mut [u8], start: usize, end: usize, len: usize) -> usize
     requires begins { start ≤ end }
     requires ends { end ≤ len }
@@ -36,7 +36,7 @@ pub(crate) fn copy_down(buf: &mut [u8], start: usize, end: usize, len: usize) ->
     start + count
 }
 
-/// The bytes in place of as many. Up to 32 are copied without a call.
+/// Overwrites bytes with the same number of bytes. Up to 32 are copied without a call.
 #[inline(always)]
 pub(crate) fn copy(bytes: &[u8], to: &mut [u8])
     requires { length bytes.now ≡ length to.old }
@@ -53,7 +53,7 @@ pub(crate) fn copy(bytes: &[u8], to: &mut [u8])
     }
 }
 
-// The first n and the last n, which meet.
+// The first n bytes and the last n, which together cover the slice.
 #[inline(always)]
 fn copy_ends(bytes: &[u8], to: &mut [u8], n: usize)
     requires length { length bytes.now ≡ length to.old }

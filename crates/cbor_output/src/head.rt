@@ -5,8 +5,8 @@ ghost use Rattle.cbor_head.specs.Head.{shortest_head};
 
 use cbor_head::Major;
 
-// The shortest head behind the first `len` bytes, where there is space for any. Answers where it
-// ends. Each width has a write of its own, so that the argument is written as one word.
+// Writes the shortest head after the first `len` bytes, if there is space for any head. Returns
+// where it ends. Each width has a write of its own, so that the argument is written as one word.
 #[inline(always)]
 pub(crate) fn put_head(buf: &mut Vec<u8>, len: usize, major: Major, n: u64) -> usize
     requires space { len + 9 ≤ vec_len buf.old }
@@ -31,7 +31,7 @@ pub(crate) fn put_head(buf: &mut Vec<u8>, len: usize, major: Major, n: u64) -> u
     }
 }
 
-// These bytes behind the first `len`, where there is space for them. Answers where they end.
+// Writes these bytes after the first `len`, if there is space for them. Returns where they end.
 #[inline(always)]
 fn put(buf: &mut Vec<u8>, len: usize, bytes: &[u8]) -> usize
     requires space { len + length bytes.now ≤ vec_len buf.old }
@@ -44,7 +44,7 @@ fn put(buf: &mut Vec<u8>, len: usize, bytes: &[u8]) -> usize
     end
 }
 
-// The bytes of the shortest head, with zeros behind them, and their count.
+// The bytes of the shortest head, followed by zeros, and their number.
 #[inline(always)]
 pub(crate) fn head_bytes(major: Major, n: u64) -> ([u8; 9], usize)
     ensures count { result.1 ≡ length (shortest_head major n) }

@@ -1,6 +1,6 @@
 //! The output buffer of the builder, in which the pairs of a map are put in order.
 //!
-//! `cbor_builder` calls it, and `cbor_item` its lists. No public contract of the crates above speaks of it.
+//! `cbor_builder` calls it, and `cbor_item` its lists. No public contract of the crates above mentions it.
 #![tactic(auto)]
 
 mod copies;

@@ -1,7 +1,7 @@
 //! The output: one buffer.
 
 ghost use Rattle.std.specs.Prelude.{◌≡◌, ◌≢◌, ◌≤◌, ◌<◌, ◌+◌, ◌++◌, ◌^◌, ◌∷◌, [], length, take, drop};
-ghost use Rattle.std.specs.Prelude.{slice_range, vec_len, OnOk};
+ghost use Rattle.std.specs.Prelude.{slice_range, vec_len, OnOk, OnErr};
 ghost use Rattle.cbor_head.specs.Head.{shortest_head, IsSimple, major_number};
 ghost use Rattle.cbor_head.specs.declared.major.Major.TheVariants.{Simple};
 
@@ -14,23 +14,23 @@ use std::marker::Model;
 // The longest head.
 const HEAD: usize = 9;
 
-// So many bytes are copied in one piece.
+// The number of bytes that are copied in one piece.
 const BLOCK: usize = 32;
 
-// So many bytes of space lie behind what is written, where the buffer has grown for it.
+// The bytes of space after the content, once the buffer has grown for it.
 const SLACK: usize = 40;
 
-// The buffer begins with so many bytes at least, so that a small item takes memory once,
+// The least size of the first allocation, so that a small item allocates once.
 const FIRST: usize = 256;
 
-// grows by so many at least,
+// The least growth of an allocation.
 const NEXT: usize = 512;
 
-// and is made longer by as many, or by so many at once: what is to be written soon is in reach then.
+// The least number of bytes by which the buffer is lengthened, so that the next writes fit.
 const STEP: usize = 1024;
 
-/// The bytes written so far. Space is left behind them, so that a head is written in one piece and a
-/// key's first bytes are read in one.
+/// The bytes written so far. Some space follows them, so that a head can be written in one piece
+/// and the first bytes of a key can be read in one.
 #[derive(Drop)]
 pub struct OutputBuffer {
     buf: Vec<u8>,
@@ -48,7 +48,7 @@ impl Model for OutputBuffer {
 }
 
 impl OutputBuffer {
-    // Nothing, which takes no memory.
+    // An empty buffer; allocates nothing.
     pub fn new(alloc: Global) -> OutputBuffer
         ensures { result ≡ [] }
     {
@@ -65,7 +65,7 @@ impl OutputBuffer {
         self.len
     }
 
-    // What is written.
+    // The bytes written so far.
     #[inline(always)]
     pub fn as_slice(&self) -> &[u8]
         ensures { result.now ≡ self.now }
@@ -73,7 +73,7 @@ impl OutputBuffer {
         &self.buf[..self.len]
     }
 
-    // What is written, and the space behind it.
+    // The content and the space after it.
     #[inline(always)]
     pub fn with_space(&self) -> &[u8]
         ensures { take (length self.now) result.now ≡ self.now }
@@ -90,7 +90,7 @@ impl OutputBuffer {
         buf
     }
 
-    // The shortest head behind what is there.
+    // Appends the shortest head.
     #[inline(always)]
     pub fn head(&mut self, major: Major, n: u64) -> Result<(), AllocError>
         requires { major ≡ Simple → IsSimple n }
@@ -101,7 +101,7 @@ impl OutputBuffer {
         Ok(())
     }
 
-    // These bytes behind what is there.
+    // Appends these bytes.
     #[inline(always)]
     pub(crate) fn extend(&mut self, bytes: &[u8]) -> Result<(), AllocError>
         ensures { OnOk result (self.new ≡ self.old ++ bytes.now) }
@@ -113,8 +113,8 @@ impl OutputBuffer {
         Ok(())
     }
 
-    // The first of these bytes behind what is there. Up to 32 are copied by a piece of 32, where as
-    // many bytes are given.
+    // Appends the first of these bytes. Up to 32 are copied as one piece of 32, if the slice has 32
+    // bytes.
     #[inline(always)]
     pub fn extend_prefix(&mut self, prefix: &[u8], count: usize) -> Result<(), AllocError>
         requires { count ≤ length prefix.now }
@@ -128,8 +128,8 @@ impl OutputBuffer {
         self.extend(&prefix[..count])
     }
 
-    // The shortest head of so many bytes, and the first so many of these, behind what is there. Space
-    // is made once for both, where they are few.
+    // Appends the shortest head for a string of this length, and the first bytes of the slice. Few
+    // bytes need one check for space.
     #[inline(always)]
     pub fn string(&mut self, major: Major, prefix: &[u8], count: usize) -> Result<(), AllocError>
         requires within { count ≤ length prefix.now }
@@ -149,8 +149,8 @@ impl OutputBuffer {
         self.extend(&prefix[..count])
     }
 
-    // What stands from `start` to `end`, once more behind what is there. Up to 32 bytes are copied by
-    // a piece of 32, where the space behind them allows it.
+    // Appends a copy of the bytes from `start` to `end`. Up to 32 bytes are copied as one piece of
+    // 32, if the space after them allows it.
     #[inline(always)]
     pub(crate) fn extend_within(&mut self, start: usize, end: usize) -> Result<(), AllocError>
         requires begins { start ≤ end }
@@ -169,7 +169,7 @@ impl OutputBuffer {
         Ok(())
     }
 
-    // The first of these bytes behind what is there.
+    // Appends the first of these bytes.
     #[inline(always)]
     fn extend_block(&mut self, block: &[u8; BLOCK], count: usize) -> Result<(), AllocError>
         requires { count ≤ 32 }
@@ -180,7 +180,7 @@ impl OutputBuffer {
         Ok(())
     }
 
-    // What is written up to `end` alone.
+    // The bytes written up to `end`.
     pub fn cut(&mut self, end: usize)
         requires { end ≤ length self.old }
         ensures { self.new ≡ take end self.old }
@@ -188,7 +188,7 @@ impl OutputBuffer {
         self.len = end;
     }
 
-    // What stands from `end` on, in place of what stands from `start` on.
+    // Moves the bytes from `end` on down to `start`.
     pub(crate) fn close_up(&mut self, start: usize, end: usize)
         requires begins { start ≤ end }
         requires ends { end ≤ length self.old }
@@ -197,7 +197,7 @@ impl OutputBuffer {
         self.len = copy_down(&mut self.buf, start, end, self.len);
     }
 
-    // The shortest head in place of what stands between `from` and `start`.
+    // Replaces the bytes between `from` and `start` with the shortest head.
     #[inline(always)]
     pub fn fill_head(
         &mut self,
@@ -219,7 +219,7 @@ impl OutputBuffer {
         self.fill_long(from, start, major, n)
     }
 
-    // Fills in a head of any length: if it differs from the space left for it, what stands behind it is moved.
+    // Fills in a head of any length. If it differs from the space left for it, the bytes after it are moved.
     #[inline(never)]
     fn fill_long(
         &mut self,
@@ -247,7 +247,7 @@ impl OutputBuffer {
     }
 }
 
-// The first of these bytes behind the first `len`, where there is space for all of them. Answers
+// Writes the first of these bytes after the first `len`, if there is space for all of them. Returns
 // where they end.
 #[inline(always)]
 fn put_block(buf: &mut Vec<u8>, len: usize, block: &[u8; BLOCK], count: usize) -> usize
@@ -260,11 +260,13 @@ fn put_block(buf: &mut Vec<u8>, len: usize, block: &[u8; BLOCK], count: usize) -
     len + count
 }
 
-// Space for n bytes more than the first `len`, and the slack behind them. These stay.
+// Makes space for n bytes after the first `len`, and for the slack. The first `len` bytes are
+// unchanged.
 #[inline(always)]
 fn make_space(buf: &mut Vec<u8>, len: usize, n: usize) -> Result<(), AllocError>
     requires within { len ≤ vec_len buf.old }
     requires few { n < 2 ^ 63 }
+    ensures needed { OnErr result (vec_len buf.old < len + n + 40) }
     ensures space { OnOk result (len + n + 40 ≤ vec_len buf.new) }
     ensures within { len ≤ vec_len buf.new }
     ensures same { take len buf.new.items ≡ take len buf.old.items }
@@ -275,8 +277,8 @@ fn make_space(buf: &mut Vec<u8>, len: usize, n: usize) -> Result<(), AllocError>
     Ok(())
 }
 
-// Makes space in a buffer that is too short. If it allocates, that is a half more at least, so
-// that all growths together cost no more than what is written in the end.
+// Makes space in a buffer that is too short. An allocation grows it by at least a half, so that the cost of
+// all copies together is proportional to what is written in the end.
 #[cold]
 #[inline(never)]
 fn grow(buf: &mut Vec<u8>, len: usize, n: usize) -> Result<(), AllocError>
@@ -288,7 +290,7 @@ fn grow(buf: &mut Vec<u8>, len: usize, n: usize) -> Result<(), AllocError>
 {
     let size = buf.len();
     if size == 0 {
-        // Made and filled at once.
+        // Allocated and filled in one step.
         *buf = Vec::from_elem(*buf.allocator(), 0, n.max(FIRST) + SLACK)?;
         return Ok(());
     }

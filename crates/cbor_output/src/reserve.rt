@@ -1,17 +1,19 @@
-//! One more element, for which there mostly is space.
+//! Appending one element where there usually is space.
 
-ghost use Rattle.std.specs.Prelude.{◌≡◌, ◌<◌, ◌++◌, ◌∷◌, [], MatchResult, OnOk};
+ghost use Rattle.std.specs.Prelude.{◌≡◌, ◌<◌, ◌++◌, ◌∷◌, [], MatchResult, OnOk, OnErr};
 ghost use Rattle.std.specs.Prelude.{vec_len, vec_capacity};
 
 use std::alloc::AllocError;
 
-// Space is made for so many at least, so that a small item takes memory once for each list.
+// The first allocation has space for at least this number, so that a small item allocates once for
+// each list.
 const SPACE: usize = 16;
 
-/// One more behind the others.
+/// Appends one element. It fails only if there was no space for it.
 #[inline(always)]
 pub fn push<T: Copy>(list: &mut Vec<T>, last: T) -> Result<(), AllocError>
-    ensures { MatchResult result (λ _. list.new.items ≡ list.old.items ++ last ∷ [])
+    ensures needed { OnErr result (vec_len list.old ≡ vec_capacity list.old) }
+    ensures pushed { MatchResult result (λ _. list.new.items ≡ list.old.items ++ last ∷ [])
         (λ _. list.new.items ≡ list.old.items) }
 {
     if list.len() == list.capacity() {
@@ -21,11 +23,12 @@ pub fn push<T: Copy>(list: &mut Vec<T>, last: T) -> Result<(), AllocError>
     Ok(())
 }
 
-/// Pushes a copy of what stands elsewhere. It is read once there is space, and so goes straight to its
-/// place.
+/// Appends a copy of a value that is stored elsewhere, as `push` does. The value is read only once
+/// there is space, so it is copied once.
 #[inline(always)]
 pub fn push_copy<T: Copy>(list: &mut Vec<T>, last: &T) -> Result<(), AllocError>
-    ensures { MatchResult result (λ _. list.new.items ≡ list.old.items ++ last.now ∷ [])
+    ensures needed { OnErr result (vec_len list.old ≡ vec_capacity list.old) }
+    ensures pushed { MatchResult result (λ _. list.new.items ≡ list.old.items ++ last.now ∷ [])
         (λ _. list.new.items ≡ list.old.items) }
 {
     if list.len() == list.capacity() {

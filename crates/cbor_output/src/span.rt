@@ -1,13 +1,14 @@
 //! Pairs of maps as spans of the buffer.
 
 ghost use Rattle.std.specs.Prelude.{◌≡◌, ◌≤◌, ◌++◌, OnOk, length, take, map, flat_map};
-ghost use Rattle.cbor_model.specs.Pairs.{pair_bytes};
+ghost use Rattle.theory_values.specs.Pairs.{pair_bytes};
 ghost use Rattle.cbor_output.specs.Spans.{span_pair, AreWithin};
 
 use crate::output_buffer::OutputBuffer;
 use std::alloc::AllocError;
 
-/// A pair: the first eight bytes of its key as a number; its key begins, its value begins, it ends.
+/// A pair: the first eight bytes of its key as a number, and the offsets of its key, its value and
+/// its end.
 #[derive(Clone, Copy)]
 pub struct Span {
     pub prefix: u64,
@@ -16,7 +17,8 @@ pub struct Span {
     pub end: usize,
 }
 
-/// Puts the pairs in this order, in place of what stands from `start` on: their bytes are copied behind it, and moved down.
+/// Puts the pairs in this order, in place of the bytes from `start` on. Their bytes are copied to
+/// the end, and then moved down.
 pub fn rearrange(out: &mut OutputBuffer, start: usize, spans: &[Span]) -> Result<(), AllocError>
     requires begins { start ≤ length out.old }
     requires within { AreWithin out.old spans.now }
@@ -29,7 +31,7 @@ pub fn rearrange(out: &mut OutputBuffer, start: usize, spans: &[Span]) -> Result
     Ok(())
 }
 
-// The pairs, one behind the other, once more behind what is there.
+// Appends copies of the pairs, one after the other.
 fn gather(out: &mut OutputBuffer, spans: &[Span]) -> Result<(), AllocError>
     requires { AreWithin out.old spans.now }
     ensures { OnOk result

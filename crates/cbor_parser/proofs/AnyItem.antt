@@ -1,4 +1,4 @@
--- What stands where an item is expected, from its first byte and its argument.
+-- What begins where an item is expected, from its first byte and its argument.
 use Rattle.std.proofs.Common.{◌≡◌, ℕ, suc, ◌+◌, ◌-◌, ◌^◌, ◌%◌, ◌<◌, ◌≤◌, ◌⊎◌, Bool, true, List, ◌∷◌, ◌++◌, length, take, drop, get_or, refl, sym, ap, ◌∙◌, subst, inl, inr, arith, IsUtf8}
 use Rattle.std.proofs.lemmas.Bool.{cases_lt}
 use Rattle.cbor_head.specs.Prelude.{Holds, shortest, shortest_head, with_argument, AreBytes}

@@ -1,13 +1,13 @@
--- What is answered where an item is expected, and which string is refused.
+-- What is returned where an item is expected, and which string is refused.
 use Rattle.std.proofs.Common.{◌≡◌, ℕ, ◌+◌, ◌-◌, ◌≤◌, Bool, List, ◌∷◌, length, take, get_or, refl, sym, ap, ◌∙◌, subst, inl, inr, arith}
 use Rattle.std.specs.Str.Lossy.{utf8_valid_len}
 use Rattle.cbor_head.specs.declared.reason.Reason.TheVariants as reasons
 use Rattle.cbor_head.specs.{Prelude.refusal, declared.reason.Refusal.Refusal, declared.argument.Argument.Argument}
-use Rattle.cbor_verdict.proofs.RefusedHere.{refused_same, payload_cut_here, no_text_here}
+use Rattle.theory_verdicts.proofs.RefusedHere.{refused_same, payload_cut_here, no_text_here}
 use Rattle.cbor_parser.specs.Strings.{IsStringHead, IsStringFault, IsStringRefused}
 use Rattle.cbor_parser.specs.{inner.Items.IsStart, declared.item_start.ItemStart.ItemStart}
 
--- what is answered
+-- what is returned
 pub answers : (space : Bool) (b c : List ℕ) (result answer : ItemStart) → b ≡ c → result ≡ answer → IsStart c space answer → IsStart b space result
 answers space b c result answer e is h = subst (IsStart b space) (sym is) (subst (λ (x : List ℕ). IsStart x space answer) (sym e) h)
 

@@ -1,11 +1,11 @@
--- Why an input begins with no canonical item, by what is reported where the walk over it stops.
+-- Why an input does not begin with a canonical item, from what the walk over it reports.
 use Rattle.std.proofs.Common.{◌≡◌, ◌≢◌, ℕ, List, take, refl, inl, inr, sym, ◌∙◌, subst}
 use Rattle.cbor_head.specs.Prelude.{plain, strict, Bounds, IsVerdict, refused, refusal}
 use Rattle.cbor_head.specs.declared.order.KeyOrder as orders
 use Rattle.cbor_head.specs.declared.reason.{Reason.Reason, Reason.TheVariants.Truncated, Reason.TheVariants.RepeatedKey, Refusal.Refusal}
-use Rattle.cbor_model.proofs.PlainVerdicts.{refused_plainly}
-use Rattle.cbor_verdict.specs.Stop.{RepeatsKey, IsStopped, IsRefused, IsAnswered}
-use Rattle.cbor_verdict.proofs.{Reasons.never-given, PathVerdict.complaint_stops, PathVerdict.stopped}
+use Rattle.theory_values.proofs.PlainVerdicts.{refused_plainly}
+use Rattle.theory_verdicts.specs.Stop.{RepeatsKey, IsStopped, IsRefused, IsAnswered}
+use Rattle.theory_verdicts.proofs.{Reasons.never-given, PathVerdict.complaint_stops, PathVerdict.stopped}
 use Rattle.cbor_parser.specs.NotCanonical.{strict_reason, IsNotCanonical}
 
 same_reason : (r : Reason) → r ≢ RepeatedKey → strict_reason r ≡ r
@@ -30,7 +30,7 @@ module _ (o : orders.KeyOrder) (limits : Bounds) (input : List ℕ) where
     plainly = λ apart. complaint_stops plain limits input f h.plainly;
   }
 
-  -- so it is answered, of an input within n bytes
+  -- this is the result for an input, within n bytes
   pub not_canonical : (f : Refusal) → IsRefused o limits (take limits.bytes input) f → (g : Refusal) → IsAnswered limits.bytes (take limits.bytes input) f g → IsNotCanonical limits o input g
   not_canonical f (inl h) g a = stop_reported f h g a
   not_canonical f (inr h) g a =

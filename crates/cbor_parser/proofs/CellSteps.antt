@@ -1,19 +1,19 @@
--- What an item that is whole makes of the cells, one container at a time.
+-- How a complete item changes the cells, one container at a time.
 use Rattle.std.proofs.Common.{◌≡◌, ◌≢◌, ℕ, zero, suc, ◌+◌, ◌-◌, ◌≤◌, Bool, true, false, true≢false, IsTrue, Option, Some, None, List, [], ◌∷◌, ◌++◌, length, take, drop, refl, sym, ap, ◌∙◌, subst, arith, append_assoc, slice_range, length-append}
 use Rattle.std.proofs.Math.Seq.{take-append_seam, drop-append_seam}
 use Rattle.cbor_head.specs.Prelude.{Rules, plain, strict, complaint, Bounds, key_lt, Spelling, SpelledEntries, array, a_map, tag, spell, refusal}
 use Rattle.cbor_head.specs.declared.reason.Reason.TheVariants as reasons
 use Rattle.cbor_head.specs.declared.{order.KeyOrder.KeyOrder, reason.Reason.Reason, width.Width.Width, width.Width.TheVariants.Indefinite}
-use Rattle.cbor_model.specs.KeyPrefix.{prefix_of}
-use Rattle.cbor_verdict.specs.LastKey as keys
-use Rattle.cbor_verdict.proofs.LastKey.{last_key_with}
-use Rattle.cbor_verdict.proofs.LastKey.{last_is}
-use Rattle.cbor_verdict.proofs.LastKey.{key-fresh, key-falls}
-use Rattle.cbor_verdict.specs.Path as path
-use Rattle.cbor_verdict.specs.Path.{a_member, a_key, a_value, tagged, level_bytes, bytes_before, HasEnded}
-use Rattle.cbor_verdict.proofs.PathSteps.{more_members, more_pairs, member_next, member_bytes, key_next as expected_next, key_bytes, value_next as pair_next, value_bytes, array_ends, array_bytes_end, map_ends, map_bytes_end, tag_ends, tag_bytes_end}
-use Rattle.cbor_verdict.{specs.Frame.keys_onto, specs.Judged.IsJudged, specs.Kinds.KeepsToKinds, specs.Stop.HasComplaint, proofs.PathLevels.judged_key_path}
-use Rattle.cbor_verdict.proofs.PlainPaths.{judged_repeat}
+use Rattle.theory_values.specs.KeyPrefix.{prefix_of}
+use Rattle.theory_verdicts.specs.LastKey as keys
+use Rattle.theory_verdicts.proofs.LastKey.{last_key_with}
+use Rattle.theory_verdicts.proofs.LastKey.{last_is}
+use Rattle.theory_verdicts.proofs.LastKey.{key-fresh, key-falls}
+use Rattle.theory_verdicts.specs.Path as path
+use Rattle.theory_verdicts.specs.Path.{a_member, a_key, a_value, tagged, level_bytes, bytes_before, HasEnded}
+use Rattle.theory_verdicts.proofs.PathSteps.{more_members, more_pairs, member_next, member_bytes, key_next as expected_next, key_bytes, value_next as pair_next, value_bytes, array_ends, array_bytes_end, map_ends, map_bytes_end, tag_ends, tag_bytes_end}
+use Rattle.theory_verdicts.{specs.Frame.keys_onto, specs.Judged.IsJudged, specs.Kinds.KeepsToKinds, specs.Stop.HasComplaint, proofs.PathLevels.judged_key_path}
+use Rattle.theory_verdicts.proofs.PlainPaths.{judged_repeat}
 use Rattle.cbor_parser.specs.inner.Cells.{StrictCell, last_key, key_at, IsKeyExpected, AreCells, StandsAt, HasEndedAt, HasClosed, OutOfOrder, TakesKey}
 use Rattle.cbor_parser.specs.declared.container.Expected.TheVariants.{Item, Key, Value}
 use Rattle.cbor_parser.specs.inner.OpenContainer.{after, after_expected, fewer}
@@ -131,7 +131,7 @@ module _ (o : KeyOrder) (limits : Bounds) (input : List ℕ) (at : ℕ) where
 
   -- ---- a key
 
-  -- where it lies, and the last one
+  -- where the key is, and the last one
   record IsKeyHere (c : StrictCell) (cs : List StrictCell) : Type 0 where
     w : Width
     left : ℕ
@@ -188,7 +188,7 @@ module _ (o : KeyOrder) (limits : Bounds) (input : List ℕ) (at : ℕ) where
     abbrev here : List ℕ
     here = bytes_before (a_key k.w k.left k.done ∷ k.ls)
 
-    -- what the rules have against it
+    -- the complaint of the rules about it
     has_complaint : (r : Rules) (reason : Reason) → KeepsToKinds limits r (here ++ spell k.item) → IsJudged r 0 limits.depth (here ++ spell k.item) (Some (complaint (length here + length (spell k.item)) (length here) reason)) → HasComplaint r limits input (refusal reason c.kept.key at)
     has_complaint r reason keeps judged =
         let end : at ≡ length here + length (spell k.item) = k.here ∙ length-append here (spell k.item) in
@@ -221,7 +221,7 @@ module _ (o : KeyOrder) (limits : Bounds) (input : List ℕ) (at : ℕ) where
 
   -- ---- where the next is expected
 
-  -- each has a length
+  -- each is of definite length
   definite_cell : (c : StrictCell) (cs : List StrictCell) → HasEndedAt o limits input (c ∷ cs) at → c.is_indefinite ≡ false
   definite_cell c cs h = go h.ls cs h.are
     where

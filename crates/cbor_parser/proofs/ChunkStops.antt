@@ -2,8 +2,8 @@
 use Rattle.std.proofs.Common.{◌≡◌, ℕ, ◌+◌, ◌-◌, ◌/◌, ◌%◌, ◌≤◌, Bool, true, false, List, ◌∷◌, length, get_or, refl, ap, ◌∙◌, inl, inr, arith, length-append}
 use Rattle.cbor_head.specs.{Prelude.major_number, Prelude.refusal, declared.major.Major.TheVariants.Simple, declared.reason.Reason.TheVariants.Truncated}
 use Rattle.cbor_head.specs.{declared.reason.Refusal.Refusal, Argument.IsArgument, declared.argument.Argument.Argument}
-use Rattle.cbor_verdict.proofs.RefusedChunks.{AreChunksRead, chunk_cut_here, no_text_chunk_here}
-use Rattle.cbor_verdict.{specs.Reading.string_major, proofs.Leaves.chunks_bytes}
+use Rattle.theory_verdicts.proofs.RefusedChunks.{AreChunksRead, chunk_cut_here, no_text_chunk_here}
+use Rattle.theory_verdicts.{specs.Reading.string_major, proofs.Leaves.chunks_bytes}
 use Rattle.cbor_parser.specs.{Strings.IsStringFault, inner.Faults.AreChunksRefused, inner.Parts.IsHead, inner.Parts.chunked_from}
 use Rattle.cbor_parser.proofs.GivenItems.{head-here}
 

@@ -2,11 +2,11 @@
 use Rattle.std.proofs.Common.{◌≡◌, ℕ, ◌≤◌, Bool, true, false, List, [], ◌∷◌, ◌++◌, length, take, drop, refl, sym, ap, ◌∙◌, subst, append_assoc, append-nil, arith, IsUtf8, length-take-le, take-append-drop}
 use Rattle.std.proofs.lemmas.Grind.{flat_map-append}
 use Rattle.cbor_head.specs.Prelude.{plain, Holds, head, Chunk, chunk_bytes, chunks_joined, AreBytes}
-use Rattle.cbor_model.proofs.ByteLists.{bytes_prefix, bytes_back}
-use Rattle.cbor_verdict.proofs.Leaves.{chunks_bytes, chunks_of, is-chunked, chunks-value, chunks_on, chunk, chunks_more, chunks_whole}
-use Rattle.cbor_verdict.specs.Levels.{Level, ParseState, item_expected}
-use Rattle.cbor_verdict.proofs.{HeadComplaints.heads_free, Levels.clean-anywhere, RefusedChunks.AreChunksRead, RefusedChunks.chunks_are_one}
-use Rattle.cbor_verdict.specs.{Kinds.IsOfOneHead, Reading.string_major, Reading.string_value}
+use Rattle.theory_values.proofs.ByteLists.{bytes_prefix, bytes_back}
+use Rattle.theory_verdicts.proofs.Leaves.{chunks_bytes, chunks_of, is-chunked, chunks-value, chunks_on, chunk, chunks_more, chunks_whole}
+use Rattle.theory_verdicts.specs.Levels.{Level, ParseState, item_expected}
+use Rattle.theory_verdicts.proofs.{HeadComplaints.heads_free, Levels.clean-anywhere, RefusedChunks.AreChunksRead, RefusedChunks.chunks_are_one}
+use Rattle.theory_verdicts.specs.{Kinds.IsOfOneHead, Reading.string_major, Reading.string_value}
 use Rattle.cbor_parser.specs.Sink.{Reported, BeginsString, IsChunkExpected, GrowsString, IsItemExpected}
 use Rattle.cbor_parser.specs.inner.Parts.{IsHead, IsPayload, chunked_from}
 use Rattle.cbor_parser.proofs.GivenItems.{IsScalar, string-bytes}

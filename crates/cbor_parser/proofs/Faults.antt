@@ -1,19 +1,19 @@
--- Why nothing that rules accept stands where an item is expected.
+-- Why nothing that rules accept begins where an item is expected.
 use Rattle.std.proofs.Common.{◌≡◌, ℕ, ◌+◌, ◌/◌, ◌%◌, ◌<◌, ◌≤◌, Bool, true, false, List, [], ◌∷◌, refl, sym, subst, inl, inr, arith, IsTrue}
 use Rattle.cbor_head.specs.Prelude.{Rules, OfHead, refusal, shortest}
 use Rattle.cbor_head.specs.declared.reason.Reason.TheVariants.{Truncated, KeyKind, Indefinite}
 use Rattle.cbor_head.specs.declared.{major.Major.Major, width.Width.Width, reason.Reason.Reason, reason.Refusal.Refusal}
 use Rattle.cbor_head.specs.{InitialByte.MayBegin, InitialByte.IsInitialByteError, declared.argument.Argument.Argument}
-use Rattle.cbor_model.specs.FirstBytes.{is_basic}
-use Rattle.cbor_verdict.proofs.RefusedHere.{nothing_here, indefinite_here, initial_byte_error_stops, kind_refused}
-use Rattle.cbor_verdict.specs.{PathKinds.IsFitPrefix, RefusedHere.IsRefusedBy, Judged.Never}
-use Rattle.cbor_verdict.proofs.HeadComplaints.{heads_free, shortest_clean}
+use Rattle.theory_values.specs.FirstBytes.{is_basic}
+use Rattle.theory_verdicts.proofs.RefusedHere.{nothing_here, indefinite_here, initial_byte_error_stops, kind_refused}
+use Rattle.theory_verdicts.specs.{PathKinds.IsFitPrefix, RefusedHere.IsRefusedBy, Judged.Never}
+use Rattle.theory_verdicts.proofs.HeadComplaints.{heads_free, shortest_clean}
 use Rattle.cbor_parser.specs.declared.item_start.ItemStart.TheVariants as starts
 use Rattle.cbor_parser.specs.inner.Faults.{AreRulesOf, IsFault, IsRefusedStart, IsIndefiniteStart}
 use Rattle.cbor_parser.specs.{Strings.IsStringHead, Strings.IsStringFault, declared.item_start.Here.Here, declared.item_start.ItemStart.ItemStart}
 use Rattle.cbor_parser.proofs.AnyRefusals.{string_refused}
 
--- ---- what both rules ask
+-- ---- what both rules require
 
 pub texts_asked : (s : Bool) (r : Rules) → AreRulesOf s r → IsTrue r.texts
 texts_asked true r (o, e) = subst (λ (x : Rules). IsTrue x.texts) (sym e) refl
@@ -27,7 +27,7 @@ pub heads_asked : (s : Bool) (r : Rules) → AreRulesOf s r → s ≡ true → I
 heads_asked true r (o, e) is = subst (λ (x : Rules). IsTrue x.heads) (sym e) refl
 heads_asked false r e is = cc is
 
--- nothing against a head that is the shortest where that is asked
+-- no complaint about a head that is the shortest if that is required
 pub quiet_head : (s : Bool) (r : Rules) → AreRulesOf s r → (w : Width) (n : ℕ) → (s ≡ true → w ≡ shortest n) → (to : ℕ) (m : Major) → Never (OfHead r to m w n)
 quiet_head true r rules w n short to m = shortest_clean r to m w n (short refl)
 quiet_head false r e w n short to m = subst (λ (x : Rules). Never (OfHead x to m w n)) (sym e) (heads_free to m w n)
@@ -51,7 +51,7 @@ module _ (r : Rules) (first : ℕ) (behind : List ℕ) (at : ℕ) (here : Here) 
   pub fault_of_kind : IsTrue r.kinds → MayBegin first here.space → here.is_key ≡ true → ¬ IsTrue (is_basic (first / 32)) → IsFault r b at here (refusal KeyKind at (at + 1))
   fault_of_kind kinds placed key other = λ limits ls clean breaks keeps asked place are. let both = asked.both key in kind_refused here.space first behind at placed other r kinds limits ls clean keeps both.0 both.1 place are
 
-  -- where a key whose kind is asked for is fit
+  -- if the kind of a key is judged, the key is fit
   pub fault_of : (f : Refusal) → (here.is_key ≡ true → IsFitPrefix b) → IsRefusedBy r here.space b at f → IsFault r b at here f
   fault_of f fit h = λ limits ls clean breaks keeps asked place are. h limits ls clean (λ e m. no_break e (breaks m)) (record { before = keeps; here = λ kinds expected. fits here.is_key (λ e. fit e) (λ e. asked.none e kinds.1 expected) }) place are
     where

@@ -1,13 +1,13 @@
--- A valid item, given to a sink: what an item's end makes of the open containers, and the break.
+-- A valid item, given to a sink: how an item's end changes the open containers, and the break.
 use Rattle.std.proofs.Common.{◌≡◌, ℕ, Bool, zero, suc, ◌-◌, ◌^◌, ◌<◌, ◌≤◌, true, false, Some, None, List, [], ◌∷◌, ◌++◌, length, map, refl, sym, ap, ap₂, ◌∙◌, subst, arith, inl, inr, append_assoc, length-append}
 use Rattle.cbor_head.specs.Prelude.{canonical, head, Spelling, array, a_map, tag, no_spellings, a_spelling, no_entries, entry, spell, spell_all, spell_entries, value_of, IsSpelled, depth}
 use Rattle.cbor_head.specs.declared.major.Major.TheVariants as majors
 use Rattle.cbor_head.specs.declared.{order.KeyOrder.TheVariants.Bytewise, width.Width.TheVariants.Indefinite}
-use Rattle.cbor_model.specs.Parts as parts
-use Rattle.cbor_verdict.proofs.Levels.{spelled-all, within-all, pairs-spelled, pairs-within, pairs-more}
-use Rattle.cbor_verdict.specs.Levels.{IsTaken, Level, a_member, a_key, a_value, some_member, some_key, some_value, tagged, frame, AreLevels, bytes_before, ParseState, item_expected, item_full, settle}
-use Rattle.cbor_verdict.proofs.PathSteps.{member_count, pair_count, last_member, last_pair}
-use Rattle.cbor_verdict.{proofs.Given.settled, specs.Frame.with_all, specs.Frame.with_entries, specs.Given.opens, specs.Given.StandsAt, specs.Place.close}
+use Rattle.theory_values.specs.Parts as parts
+use Rattle.theory_verdicts.proofs.Levels.{spelled-all, within-all, pairs-spelled, pairs-within, pairs-more}
+use Rattle.theory_verdicts.specs.Levels.{IsTaken, Level, a_member, a_key, a_value, some_member, some_key, some_value, tagged, frame, AreLevels, bytes_before, ParseState, item_expected, item_full, settle}
+use Rattle.theory_verdicts.proofs.PathSteps.{member_count, pair_count, last_member, last_pair}
+use Rattle.theory_verdicts.{proofs.Given.settled, specs.Frame.with_all, specs.Frame.with_entries, specs.Given.opens, specs.Given.StandsAt, specs.Place.close}
 use Rattle.cbor_parser.specs.Sink.{is_map, IsEndedAs, StandsFull}
 use Rattle.cbor_parser.specs.inner.Parser.{IsExpected, HasEnded, IsCellFull, HasFilled}
 use Rattle.cbor_parser.specs.inner.OpenContainer.{counted, opener, full_opener, behind_head, cell_of, cells_of, after}
@@ -32,7 +32,7 @@ module _ (S : Type 0) (stands : S → S → ParseState → Type 0) (trusts : Boo
   filled top [] g rest s = absurd (omega (arith, ap length s.cells, cells-count (length input) s.ls))
   filled top (c ∷ cs) g rest s = s
 
-  -- ---- behind an item
+  -- ---- after an item
 
   module _ (c : Cell) (cs : List Cell) (g : S) (rest : List ℕ) (h : HasEnded S stands trusts start d input (c ∷ cs) g rest) where
     short : (ls : List Level) → input ≡ (bytes_before ls ++ spell h.item) ++ rest → length (bytes_before ls ++ spell h.item) < 2 ^ 64
@@ -44,7 +44,7 @@ module _ (S : Type 0) (stands : S → S → ParseState → Type 0) (trusts : Boo
     abbrev levels-with : List Level → Type 0
     levels-with ls = AreLevels d ls × IsTaken (d - length ls) h.item × (c ∷ cs ≡ cells_of (length input) ls) × stands start g (settle ls h.item) × (input ≡ (bytes_before ls ++ spell h.item) ++ rest)
 
-    -- what the builder of canonical bytes would hold, of which the containers and the bytes are wanted here
+    -- what the builder of canonical bytes would hold; here its containers and bytes are needed
     abbrev IsSettled : List Level → ParseState → Type 0
     IsSettled ls = StandsAt Bytewise d (bytes_before ls ++ spell h.item) (close (map frame ls)) (parts.give (canonical Bytewise (value_of h.item)) (opens Bytewise ls)) (length ls)
 
@@ -131,7 +131,7 @@ module _ (S : Type 0) (stands : S → S → ParseState → Type 0) (trusts : Boo
   -- ---- a break
 
   module _ (c : Cell) (cs : List Cell) (g : S) (behind : List ℕ) (s : IsExpected S stands trusts start d input (c ∷ cs) g (0xff ∷ behind)) (open_ended : c.is_indefinite ≡ true) where
-    -- the innermost container is whole
+    -- the innermost container is complete
     pub break-ends : (c.expected ≡ Value → ⊥) → HasFilled S stands trusts start d input (c ∷ cs) g behind
     break-ends no_value = filled c cs g behind (go s.ls s.levels s.cells s.given s.bytes)
       where

@@ -1,9 +1,10 @@
--- A container without more to come, given to a sink: it ends, or a key is reported that is the same as an earlier one.
+-- A container without further members, given to a sink: it ends, or a key is reported that is the same as an earlier
+-- one.
 use Rattle.std.proofs.Common.{◌≡◌, ℕ, Bool, List, ◌++◌, length, refl, sym, ◌∙◌, ap, inl, inr, arith, length-append}
 use Rattle.cbor_head.specs.Prelude.{Spelling, array, a_map, spell}
 use Rattle.cbor_builder.specs.declared.repeat.Repeat.{Repeat}
-use Rattle.cbor_verdict.specs.Levels.{Level, some_member, some_key, bytes_before, ParseState}
-use Rattle.cbor_verdict.proofs.CleanParts.{clean-within}
+use Rattle.theory_verdicts.specs.Levels.{Level, some_member, some_key, bytes_before, ParseState}
+use Rattle.theory_verdicts.proofs.CleanParts.{clean-within}
 use Rattle.cbor_parser.specs.Sink.{Fills, StandsFull, Reported, takes_key, is_map, IsEndedAs, IsReportedFull, IsContainerFull, Ends, Repeats}
 use Rattle.cbor_parser.specs.inner.Parser.{HasEnded, IsFull, IsToEnd, IsCellFull}
 use Rattle.cbor_parser.specs.{Expected.pairs, inner.OpenContainer.Cell}
@@ -41,7 +42,7 @@ module _ (S : Type 0) (stands : S → S → ParseState → Type 0) (trusts : Boo
   -- ---- the one of this cell, within those around it
 
   module _ (t : Bool) (c : Cell) (cs : List Cell) (g : S) (rest : List ℕ) (reported : t ≡ pairs c.expected) (s : IsCellFull S stands trusts (StandsFull S stands d start g) d input c cs rest) where
-    -- the sink is reported rightly whether it is a map
+    -- the sink gets the right flag for a map
     stands-reported : StandsFull S (Reported S stands t) d start g s.ls s.item
     stands-reported =
         let kind : t ≡ is_map s.item = reported ∙ s.given.1.kind in

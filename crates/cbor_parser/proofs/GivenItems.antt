@@ -4,11 +4,11 @@ use Rattle.std.proofs.{lemmas.Bool.cases_lt, lemmas.List.take_rest, Math.Seq.dro
 use Rattle.cbor_head.specs.Prelude.{Holds, IsSimple, head, major_number, shortest, Spelling, unsigned, negative, bytes, text, simple, no_spellings, no_entries, spell, value_of, HoldsOrIndefinite, Value, AreBytes}
 use Rattle.cbor_head.specs.declared.major.Major.TheVariants as majors
 use Rattle.cbor_head.specs.{declared.major.Major.Major, declared.width.Width.Width, Argument.IsArgument}
-use Rattle.cbor_model.proofs.{ReadLaws.length_head, ByteLists.bytes_prefix}
+use Rattle.theory_values.proofs.{ReadLaws.length_head, ByteLists.bytes_prefix}
 use Rattle.cbor_builder.specs.Built.{IsLeaf, IsContainer}
-use Rattle.cbor_verdict.specs.Levels.{IsTaken, IsOpened, Level, IsLevel, a_member, a_key, some_member, some_key, tagged, level_bytes}
-use Rattle.cbor_verdict.{proofs.Heads.open_or, proofs.KindBytes.head_is_one, proofs.KindBytes.string_is_one, specs.Kinds.IsOfOneHead, proofs.Levels.of-opened}
-use Rattle.cbor_verdict.{specs.Reading.string_major, specs.Reading.string_value, proofs.Arguments.low_bits, proofs.Arguments.spells}
+use Rattle.theory_verdicts.specs.Levels.{IsTaken, IsOpened, Level, IsLevel, a_member, a_key, some_member, some_key, tagged, level_bytes}
+use Rattle.theory_verdicts.{proofs.Heads.open_or, proofs.KindBytes.head_is_one, proofs.KindBytes.string_is_one, specs.Kinds.IsOfOneHead}
+use Rattle.theory_verdicts.{proofs.Levels.of-opened, specs.Reading.string_major, specs.Reading.string_value, proofs.Arguments.low_bits, proofs.Arguments.spells}
 use Rattle.cbor_parser.specs.inner.OpenContainer.{counted, indefinite, opener, cell_of}
 use Rattle.cbor_parser.specs.inner.Parts.{IsHead, IsOpener, IsPayload, Counts}
 use Rattle.cbor_parser.specs.inner.OpenContainer.{Cell}
@@ -17,7 +17,7 @@ use Rattle.cbor_parser.specs.{declared.container.Expected.TheVariants.Item, decl
 
 -- ---- items without members
 
--- it is there, and has this value
+-- the item exists, and has this value
 pub record IsScalar (rest behind : List ℕ) (v : Value) : Type 0 where
   pub item : Spelling
   pub taken : (d : ℕ) → IsTaken d item
@@ -123,11 +123,11 @@ array-opens c rest behind is e = record { level = some_member no_spellings; fres
 pub map-opens : (c : Cell) (rest behind : List ℕ) → rest ≡ 0xbf ∷ behind → c ≡ indefinite Key (length behind) → IsOpener majors.Map 0 c rest behind
 map-opens c rest behind is e = record { level = some_key no_entries; fresh = λ d. tt; cell = e; opened = inr refl; some = omega arith; is = is }
 
--- nothing else is there yet
+-- nothing was given before
 pub opener-whole : (m : Major) (n : ℕ) (l : Level) → IsOpened m n l → level_bytes l ≡ opener l
 opener-whole = of-opened (λ m n l. level_bytes l ≡ opener l) (λ w left n. append-nil (head majors.Array w (0 + suc left))) (λ n. refl) (λ w left n. append-nil (head majors.Map w (0 + suc left))) (λ n. refl) (λ w n. refl)
 
--- ---- what follows so many bytes: what is left of the rest
+-- ---- what follows the first `used` bytes: the remainder of the rest
 
 pub follows : (rest prefix left : List ℕ) (used : ℕ) → rest ≡ prefix ++ left → used + length left ≡ length rest → behind used rest ≡ left
 follows rest prefix left used e u =

@@ -1,4 +1,4 @@
--- A valid item, part by part: of which kinds the keys are that begin in what was taken.
+-- A valid item, part by part: the kinds of the keys that begin in what was read.
 use Rattle.std.proofs.Common.{◌≡◌, ℕ, suc, ◌+◌, ◌-◌, ◌<◌, ◌≤◌, Bool, false, true, List, [], ◌∷◌, ◌++◌, length, refl, sym, ap, ◌∙◌, subst, inl, inr, arith, append_assoc, append-nil, length-append}
 use Rattle.std.proofs.lemmas.List.{append_cancel_right, nil_from_length}
 use Rattle.cbor_head.specs.Prelude.{Complaint, plain, OfKinds, Holds, head, bounds, with_keys, Spelling, array, a_map, no_spellings, no_entries, spell, spell_all, spell_entries, spellings_count, entries_count, IsSpelled, depth}
@@ -7,13 +7,13 @@ use Rattle.cbor_head.specs.Value as value
 use Rattle.cbor_head.specs.declared.major.Major.TheVariants as majors
 use Rattle.cbor_head.specs.declared.{keys.Keys.Keys, keys.Keys.TheVariants.IntegersAndTexts, major.Major.Major, width.Width.Width}
 use Rattle.cbor_head.specs.declared.width.Width.TheVariants.{Indefinite}
-use Rattle.cbor_model.proofs.KeyKinds.{of_kind_in, of_kind_entries}
-use Rattle.cbor_verdict.specs.Kinds.{KeepsToKinds, IsKeyLevel, IsKeyExpectedIn, HasBasicPrefix}
-use Rattle.cbor_verdict.specs.Levels.{Level, a_key, some_member, some_key, some_value, IsLevel, AreLevels, level_bytes, bytes_before, ParseState}
-use Rattle.cbor_verdict.proofs.KindBytes.{Begins, head_is_one, keeps_expected}
-use Rattle.cbor_verdict.proofs.Levels.{of-opened, spelled-all, within-all, pairs-spelled, pairs-within}
-use Rattle.cbor_verdict.proofs.{Heads.open_or, Heads.takes, LevelFrames.around_levels, KindFrames.keeps_closed, KindFrames.keeps_start}
-use Rattle.cbor_verdict.{specs.PathKinds.IsFitPrefix, proofs.PathKinds.no_break, proofs.PathKinds.head_begun}
+use Rattle.theory_values.proofs.KeyKinds.{of_kind_in, of_kind_entries}
+use Rattle.theory_verdicts.specs.Kinds.{KeepsToKinds, IsKeyLevel, IsKeyExpectedIn, HasBasicPrefix}
+use Rattle.theory_verdicts.specs.Levels.{Level, a_key, some_member, some_key, some_value, IsLevel, AreLevels, level_bytes, bytes_before, ParseState}
+use Rattle.theory_verdicts.proofs.KindBytes.{Begins, head_is_one, keeps_expected}
+use Rattle.theory_verdicts.proofs.Levels.{of-opened, spelled-all, within-all, pairs-spelled, pairs-within}
+use Rattle.theory_verdicts.proofs.{Heads.open_or, Heads.takes, LevelFrames.around_levels, KindFrames.keeps_closed, KindFrames.keeps_start}
+use Rattle.theory_verdicts.{specs.PathKinds.IsFitPrefix, proofs.PathKinds.no_break, proofs.PathKinds.head_begun}
 use Rattle.cbor_parser.specs.inner.OpenContainer.{counted, behind_head, cell_of, cells_of}
 use Rattle.cbor_parser.specs.inner.Parts.{Counts, IsHead, IsOpener, HasBegun, HasBroken}
 use Rattle.cbor_parser.specs.inner.Rules as rules
@@ -55,7 +55,7 @@ opener-begun d m n c rest behind space k =
     without-length : (first : ℕ) (item : Spelling) → spell item ≡ first ∷ 0xff ∷ [] → IsSpelled item → depth item ≤ d → HasBegun d (first ∷ behind) behind
     without-length first item bytes spelled within = record { prefix = first ∷ []; is = refl; one = λ container some. absurd (omega (arith, some)); item = item; spelled = spelled; within = within; more = 0xff ∷ []; bytes = bytes }
 
--- what begins leaves the rest behind so many bytes
+-- after the bytes of what begins, the rest is left
 pub begun-so : (d : ℕ) (rest behind : List ℕ) (used : ℕ) → used + length behind ≡ length rest → HasBegun d rest behind → HasBegun d rest (rules.behind used rest)
 begun-so d rest behind used u h = subst (HasBegun d rest) (sym (follows rest h.prefix behind used h.is u)) h
 
@@ -80,7 +80,7 @@ pub starts-kept : (d : ℕ) (input : List ℕ) (keys : Keys) → KeepsBefore d k
 starts-kept d input keys = λ t e. subst (KeepsToKinds (with_keys (bounds d 0) keys) plain) (sym (nil_from_length t (omega (arith, ap length e, length-append t input)))) (keeps_start (with_keys (bounds d 0) keys) plain)
 
 module _ (S : Type 0) (stands : S → S → ParseState → Type 0) (trusts : Bool) (start : S) (d : ℕ) (input : List ℕ) (keys : Keys) where
-  -- behind an item that begins within them
+  -- after an item that begins within these containers
   pub begun-keeps : (k : Stack Cell) (cells : List Cell) (g : S) (rest behind : List ℕ) → k.height ≤ length cells → IsExpected S stands trusts start d input (open_levels Cell k cells) g rest → HasBegun (d - k.height) rest behind → (keys ≡ IntegersAndTexts → k.top.expected ≡ Key → IsFitPrefix rest)
       → KeepsBefore d keys input rest → KeepsBefore d keys input behind
   begun-keeps k cells g rest behind low s h fit keeps = λ t e.
@@ -92,7 +92,7 @@ module _ (S : Type 0) (stands : S → S → ParseState → Type 0) (trusts : Boo
       (keeps_expected (with_keys (bounds d 0) keys) plain (around_levels d s.ls s.levels) h.prefix begins h.one
       (λ asked expected. basic-prefix h.item h.spelled h.prefix behind h.more rest h.bytes h.is (fit asked.1 (expected-key (length input) k.top (around Cell k cells) s.ls s.cells expected))) (keeps (bytes_before s.ls) s.bytes))
 
-  -- a container without a length ends
+  -- a container of indefinite length ends
   pub broken-keeps : (c : Cell) (cs : List Cell) (g : S) (rest behind : List ℕ) → IsExpected S stands trusts start d input (c ∷ cs) g rest → HasBroken c rest behind → KeepsBefore d keys input rest → KeepsBefore d keys input behind
   broken-keeps c cs g rest behind s h keeps = λ t e. go s.ls s.levels s.cells s.bytes t e
     where

@@ -1,12 +1,12 @@
--- A valid item, part by part, given to a sink: where the walk stands behind what a sink took.
+-- A valid item, part by part, given to a sink: the position of the walk after what a sink took.
 use Rattle.std.proofs.Common.{◌≡◌, ℕ, Bool, true, suc, ◌+◌, ◌-◌, ◌^◌, ◌<◌, ◌≤◌, List, [], ◌∷◌, ◌++◌, length, take, refl, sym, ap, ap₂, ◌∙◌, subst, arith, inl, inr, append_assoc, append-nil, length-append}
 use Rattle.cbor_head.specs.Prelude.{plain, Holds, head, Bounds, Spelling, array, a_map, no_spellings, no_entries, spell, Value}
 use Rattle.cbor_head.specs.declared.major.Major.TheVariants as majors
 use Rattle.cbor_head.specs.declared.major.Major.{Major}
-use Rattle.cbor_model.proofs.{Accepted.accepts_exactly, ReadLaws.length_spell}
-use Rattle.cbor_verdict.specs.Levels.{IsTaken, Level, a_member, some_member, some_key, level_bytes, bytes_before, ParseState, item_expected, settle}
-use Rattle.cbor_verdict.{specs.Kinds.KeepsToKinds, proofs.Members.closes, proofs.Decisions.whole_beside, proofs.Heads.open_or, proofs.Items.is-definite}
-use Rattle.cbor_verdict.proofs.{Levels.clean-anywhere, Levels.no-count, Loops.array_bytes-whole, Loops.map_bytes-whole}
+use Rattle.theory_values.proofs.{Accepted.accepts_exactly, ReadLaws.length_spell}
+use Rattle.theory_verdicts.specs.Levels.{IsTaken, Level, a_member, some_member, some_key, level_bytes, bytes_before, ParseState, item_expected, settle}
+use Rattle.theory_verdicts.{specs.Kinds.KeepsToKinds, proofs.Members.closes, proofs.Decisions.whole_beside, proofs.Heads.open_or, proofs.Items.is-definite}
+use Rattle.theory_verdicts.proofs.{Levels.clean-anywhere, Levels.no-count, Loops.array_bytes-whole, Loops.map_bytes-whole}
 use Rattle.cbor_parser.specs.Sink.{takes_key, key_expected, Completes, IsItemExpected, Gives, Opens, IsKnownValid, IsGivenPrefix}
 use Rattle.cbor_parser.specs.inner.Parser.{BeginsTaken, IsExpected, HasEnded, IsFull, IsToEnd, IsBuilt, IsExpectedFor}
 use Rattle.cbor_parser.specs.inner.OpenContainer.{counted, opener, behind_head, cell_of, cells_of}
@@ -71,7 +71,7 @@ module _ (S : Type 0) (stands : S → S → ParseState → Type 0) (trusts : Boo
   }
 
   module _ (start : S) (d : ℕ) (input : List ℕ) where
-    -- the levels are as many as the cells but one
+    -- there is one level less than cells
     pub height-is : (cs : List Cell) (g : S) (rest : List ℕ) (s : IsExpected S stands trusts start d input cs g rest) → length cs ≡ suc (length s.ls)
     height-is cs g rest s = ap length s.cells ∙ cells-count (length input) s.ls
 
@@ -102,7 +102,7 @@ module _ (S : Type 0) (stands : S → S → ParseState → Type 0) (trusts : Boo
             short = omega (arith, s.small, ap length s.bytes, ap length e, length-append (bytes_before s.ls) rest, length-append (spell item) behind, length-append (bytes_before s.ls) (spell item));
           }
 
-      -- one that the sink may take in several parts
+      -- one that the sink may be given in several parts
       pub scalar-settles : (behind : List ℕ) (v : Value) (new : S) (used : ℕ) → used + length behind ≡ length rest → (i : IsScalar rest behind v) → (Completes d s.ls i.item → stands start new (settle s.ls i.item))
           → (0 < used) × (used ≤ length rest) × HasEnded S stands trusts start d input cs new (rules.behind used rest)
       scalar-settles behind v new used u i settles =

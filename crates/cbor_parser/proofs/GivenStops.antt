@@ -1,17 +1,17 @@
--- Where the walk over a valid item stops: the refusal of what stands there is that of the input.
+-- Where the walk over a valid item stops: the refusal of what begins there is that of the input.
 use Rattle.std.proofs.Common.{◌≡◌, ◌≢◌, ℕ, ◌-◌, ◌^◌, ◌<◌, ◌≤◌, Bool, true, false, nat_lt, List, ◌++◌, length, take, sym, ap, ◌∙◌, subst, inl, arith, ltb-true, ltb-false, length-append}
 use Rattle.cbor_head.specs.Prelude.{plain, Bounds, AreBytes, IsVerdict, refused}
 use Rattle.cbor_head.specs.declared.{keys.Keys.TheVariants.IntegersAndTexts, reason.Refusal.Refusal}
-use Rattle.cbor_verdict.specs.Levels.{Level, ParseState, bytes_before}
-use Rattle.cbor_verdict.specs.Path as path
-use Rattle.cbor_verdict.{specs.Kinds.KeepsToKinds, specs.Stop.IsStopped, specs.Stop.IsAnswered, proofs.PathVerdict.stopped}
+use Rattle.theory_verdicts.specs.Levels.{Level, ParseState, bytes_before}
+use Rattle.theory_verdicts.specs.Path as path
+use Rattle.theory_verdicts.{specs.Kinds.KeepsToKinds, specs.Stop.IsStopped, specs.Stop.IsAnswered, proofs.PathVerdict.stopped}
 use Rattle.cbor_parser.proofs.LevelPaths.{paths_of, paths_length, paths_bytes, paths_clean, path_expected, breaks_path}
 use Rattle.cbor_parser.specs.{inner.Parser.IsExpected, inner.Parser.HasCome, Stack.around, Stack.open_levels, declared.container.Expected.Expected}
 use Rattle.cbor_parser.specs.declared.{container.Expected.TheVariants.Key, container.Expected.TheVariants.Value, stack.Stack.Stack}
 use Rattle.cbor_parser.{proofs.Stacks.open_levels_count, specs.Sink.FindsNoRepeat, specs.inner.Kept.KeepsBefore, specs.inner.Faults.IsFault}
 use Rattle.cbor_parser.{specs.declared.item_start.Here.Here, proofs.GivenParts.cells-count, specs.inner.OpenContainer.Cell}
 
--- that kinds are asked for, and a key is expected
+-- kinds are judged, and a key is expected
 pub record IsAsked (limits : Bounds) (expected : Expected) (is_key : Bool) : Type 0 where
   pub both : is_key ≡ true → (limits.keys ≡ IntegersAndTexts) × (expected ≡ Key)
   pub none : is_key ≡ false → limits.keys ≡ IntegersAndTexts → expected ≡ Key → ⊥
@@ -22,7 +22,7 @@ module _ (S : Type 0) (stands : S → S → ParseState → Type 0) (trusts : Boo
   come-expected d input cs g rest h = record { ls = h.ls; levels = h.levels; cells = h.cells; given = inl h.given; bytes = h.bytes; small = h.small; known = h.known }
 
   module _ (limits : Bounds) (bytes input : List ℕ) (within : input ≡ take limits.bytes bytes) (are : AreBytes input) (k : Stack Cell) (cells : List Cell) (low : k.height ≤ length cells) (g : S) (rest : List ℕ) (come : HasCome S stands trusts holds start limits.depth input (open_levels Cell k cells) g rest) (kept : KeepsBefore limits.depth limits.keys input rest) where
-    -- what is found at the place of the rest, where no open map has two keys that are the same
+    -- what is found at the offset of the rest, if no open map has two keys that are the same
     pub stopped-there : (at : ℕ) (here : Here) (f answer : Refusal) → FindsNoRepeat S stands holds g → at ≡ length input - length rest → here.space ≡ nat_lt k.height limits.depth → IsAsked limits k.top.expected here.is_key
         → (k.top.is_indefinite ≡ true → k.top.expected ≢ Value → here.may_break ≡ true) → IsFault plain rest at here f → IsAnswered limits.bytes input f answer → IsVerdict limits plain bytes (refused answer)
     stopped-there at here f answer apart there roomy asked breaks fault answered =

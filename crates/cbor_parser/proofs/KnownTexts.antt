@@ -1,12 +1,12 @@
--- The texts of an item that is known to be valid are UTF-8, where the walk stands within it.
+-- The texts of an item that is known to be valid are UTF-8, at the walk's position in it.
 use Rattle.std.proofs.Common.{◌≡◌, ℕ, ◌+◌, ◌-◌, ◌≤◌, Bool, true, false, true≢false, Some, List, ◌∷◌, ◌++◌, length, take, drop, refl, sym, ap, ◌∙◌, subst, append_assoc, IsUtf8, length-take-le, take-append-drop}
 use Rattle.std.{specs.Str.is_utf8, specs.Str.Lossy.utf8_valid_len, proofs.lemmas.Str.IsUtf8-from_is_utf8, proofs.lemmas.Str.is_utf8-from_IsUtf8}
 use Rattle.cbor_head.specs.Prelude.{Complaint, plain, complaint, Holds, head, AreBytes}
 use Rattle.cbor_head.specs.declared.{major.Major.TheVariants.Text, reason.Reason.TheVariants.InvalidText}
-use Rattle.cbor_model.proofs.ByteLists.{bytes_prefix}
-use Rattle.cbor_verdict.specs.Levels.{Level, ParseState, bytes_before}
-use Rattle.cbor_verdict.proofs.{CleanParts.clean-prefix, HeadComplaints.heads_free, Leaves.text_complains, RefusedChunks.AreChunksRead, RefusedChunks.no_text}
-use Rattle.cbor_verdict.specs.{Judged.IsJudged, Reading.string_major}
+use Rattle.theory_values.proofs.ByteLists.{bytes_prefix}
+use Rattle.theory_verdicts.specs.Levels.{Level, ParseState, bytes_before}
+use Rattle.theory_verdicts.proofs.{CleanParts.clean-prefix, HeadComplaints.heads_free, Leaves.text_complains}
+use Rattle.theory_verdicts.{proofs.RefusedChunks.AreChunksRead, proofs.RefusedChunks.no_text, specs.Judged.IsJudged, specs.Reading.string_major}
 use Rattle.cbor_parser.specs.inner.{Parser.StandsBefore, Parser.IsExpectedFor, Parts.IsHead, Parts.IsPayload}
 use Rattle.cbor_parser.{proofs.GivenItems.string-bytes, specs.inner.OpenContainer.Cell}
 
@@ -17,7 +17,7 @@ decided q h = go (is_utf8 q) refl
     go true e = IsUtf8-from_is_utf8 q e
     go false e = absurd (h (λ u. true≢false (sym (is_utf8-from_IsUtf8 q u) ∙ e)))
 
--- what is not looked through is known not to be other than UTF-8
+-- a text that is not checked is known to be UTF-8
 looked-through : (trusts t : Bool) (n size : ℕ) (bytes : List ℕ) → IsPayload trusts t n size bytes → (trusts ≡ true → t ≡ true → (IsUtf8 (take n bytes) → ⊥) → ⊥) → IsPayload false t n size bytes
 looked-through false t n size bytes p known = p
 looked-through true t n size bytes p known = record { all = p.all; inside = p.inside; utf8 = λ _ e. decided (take n bytes) (known refl e) }

@@ -4,17 +4,17 @@ use Rattle.std.proofs.lemmas.List.{map-append}
 use Rattle.cbor_head.specs.Prelude.{Pair, canonical, canonical_entries, plain, Complaint, complaint, IsRepeated, OfKey, ComplainsInEntries, head, Spelling, SpelledEntries, no_entries, entry, spell, spell_entries, entries_count, HoldsOrIndefinite, value_of, entries_of}
 use Rattle.cbor_head.specs.declared.major.Major.TheVariants as majors
 use Rattle.cbor_head.specs.declared.{order.KeyOrder.KeyOrder, reason.Reason.TheVariants.RepeatedKey, width.Width.Width, width.Width.TheVariants.Indefinite}
-use Rattle.cbor_model.{specs.Parts.pair, proofs.Keys.distinct_exactly}
+use Rattle.theory_values.{specs.Parts.pair, proofs.Keys.distinct_exactly}
 use Rattle.cbor_builder.specs.Built.{keys_so_far, AreAllDifferent, AreOpenKeysDifferent}
 use Rattle.cbor_builder.proofs.{KeysSoFar.different_distinct, Neighbours.keys}
-use Rattle.cbor_verdict.specs.Levels.{IsTaken, ArePairsTaken, Level, a_member, a_key, a_value, some_member, some_key, some_value, tagged, level_bytes, IsLevel, AreLevels, bytes_before}
-use Rattle.cbor_verdict.proofs.Levels.{no-count, spelled-all, within-all, clean-all, pairs-spelled, pairs-within, pairs-more, pairs-clean}
-use Rattle.cbor_verdict.specs.Path as path
-use Rattle.cbor_verdict.specs.Path.{IsClean, AreClean, IsKeyExpectedIn, MayBreak}
-use Rattle.cbor_verdict.specs.{Frame.with_entries, Frame.keys_onto, Given.level_open, Given.opens, Judged.IsJudged, Judged.Never}
-use Rattle.cbor_verdict.{specs.SoFar.IsMapSoFar, specs.SoFar.map_bytes, proofs.Frames.entries_right, proofs.Frames.spell_entries_with}
-use Rattle.cbor_verdict.proofs.{Given.pairs-valid, Given.entries-more, Heads.open_or, Judged.zero_item, Valid.in_range_entries}
-use Rattle.cbor_verdict.proofs.PathLevels.{judged_path, judged_key_path}
+use Rattle.theory_verdicts.specs.Levels.{IsTaken, ArePairsTaken, Level, a_member, a_key, a_value, some_member, some_key, some_value, tagged, level_bytes, IsLevel, AreLevels, bytes_before}
+use Rattle.theory_verdicts.proofs.Levels.{no-count, spelled-all, within-all, clean-all, pairs-spelled, pairs-within, pairs-more, pairs-clean}
+use Rattle.theory_verdicts.specs.Path as path
+use Rattle.theory_verdicts.specs.Path.{IsClean, AreClean, IsKeyExpectedIn, MayBreak}
+use Rattle.theory_verdicts.specs.{Frame.with_entries, Frame.keys_onto, Given.level_open, Given.opens, Judged.IsJudged, Judged.Never}
+use Rattle.theory_verdicts.{specs.SoFar.IsMapSoFar, specs.SoFar.map_bytes, proofs.Frames.entries_right, proofs.Frames.spell_entries_with}
+use Rattle.theory_verdicts.proofs.{Given.pairs-valid, Given.entries-more, Heads.open_or, Judged.zero_item, Valid.in_range_entries}
+use Rattle.theory_verdicts.proofs.PathLevels.{judged_path, judged_key_path}
 use Rattle.cbor_parser.specs.declared.container.Expected.TheVariants.{Item, Key, Value}
 use Rattle.cbor_parser.specs.inner.OpenContainer.{behind_head, cell_of, cells_of, counted}
 use Rattle.cbor_parser.specs.inner.OpenContainer.{Cell}

@@ -1,7 +1,7 @@
--- Where a parse that gives a valid item to a sink stands.
+-- The position of a parse that gives a valid item to a sink.
 use Rattle.std.proofs.Common.{◌≡◌, ◌-◌, ◌≤◌, ℕ, Bool, Bor, List, [], ◌∷◌, ◌⊎◌, length, subst, inl, inr}
 use Rattle.cbor_head.specs.{Prelude.Bounds, declared.keys.Keys.TheVariants.IntegersAndTexts}
-use Rattle.cbor_verdict.specs.{Levels.Level, Levels.ParseState, PathKinds.IsFitPrefix}
+use Rattle.theory_verdicts.specs.{Levels.Level, Levels.ParseState, PathKinds.IsFitPrefix}
 use Rattle.cbor_parser.specs.inner.Parser.{HasFilled, Expects, HasItem, Fills, Passes, Stops, LacksNothing, HasCome, IsRepeatVisited, TakesTo as Takes}
 use Rattle.cbor_parser.specs.inner.Rules.{IsFilled, TakesTo, StopsAt, behind}
 use Rattle.cbor_parser.specs.declared.item_rules.Part.TheVariants as part

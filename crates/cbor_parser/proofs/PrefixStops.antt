@@ -2,9 +2,9 @@
 use Rattle.std.proofs.Common.{◌≢◌, ℕ, List, take, refl, sym, ap, subst, inl, inr, arith}
 use Rattle.cbor_head.specs.{Prelude.plain, Prelude.Bounds, declared.reason.Reason.Reason, declared.reason.Reason.TheVariants.Read}
 use Rattle.cbor_head.specs.declared.reason.Refusal.{Refusal}
-use Rattle.cbor_verdict.specs.Readers.{IsUnread, of_verdict, of_memory, ReportsMemoryAtStart}
-use Rattle.cbor_verdict.proofs.Reasons.{never-read, never-memory, verdict-reason}
-use Rattle.cbor_verdict.{specs.Refusals.IsReaderReason, proofs.SpelledBytes.longest_always}
+use Rattle.theory_verdicts.specs.Readers.{IsUnread, of_verdict, of_memory, ReportsMemoryAtStart}
+use Rattle.theory_verdicts.proofs.Reasons.{never-read, never-memory, verdict-reason}
+use Rattle.theory_verdicts.{specs.Refusals.IsReaderReason, proofs.SpelledBytes.longest_always}
 use Rattle.cbor_parser.specs.ParsedItem.{IsStop}
 
 pub record IsReportedAtStart (limits : Bounds) (input : List ℕ) (f : Refusal) : Type 0 where

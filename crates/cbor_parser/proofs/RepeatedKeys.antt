@@ -1,10 +1,10 @@
--- What is gone over to a key that is reported, and its refusal.
+-- The items that are skipped before a key that is reported, and its refusal.
 use Rattle.std.proofs.Common.{◌≡◌, ℕ, suc, ◌+◌, ◌-◌, ◌*◌, ◌^◌, ◌<◌, ◌≤◌, List, ◌∷◌, ◌++◌, length, take, drop, refl, sym, ap, ap₂, ◌∙◌, subst, arith, append_assoc, append-nil, length-append, take_all}
 use Rattle.std.proofs.Math.Seq.{drop-append-add}
 use Rattle.cbor_head.specs.Prelude.{plain, Bounds, Spelling, Spellings, SpelledEntries, no_spellings, a_spelling, no_entries, entry, spell, spell_all, spell_entries, spellings_count, entries_count, IsVerdict, refused, refusal}
 use Rattle.cbor_head.specs.declared.reason.{Reason.TheVariants.RepeatedKey, Refusal.Refusal}
-use Rattle.cbor_model.proofs.ReadLaws.{length_spell}
-use Rattle.cbor_verdict.specs.Levels.{IsTaken, AreTaken, ArePairsTaken, bytes_before}
+use Rattle.theory_values.proofs.ReadLaws.{length_spell}
+use Rattle.theory_verdicts.specs.Levels.{IsTaken, AreTaken, ArePairsTaken, bytes_before}
 use Rattle.cbor_parser.specs.inner.{OpenContainer.opener, Repeated.IsKeyReported, Skip.StandAtStart}
 use Rattle.cbor_parser.proofs.{Repeats.pairs_taken, Repeats.opened, ReportedMaps.reported_verdict}
 
@@ -32,7 +32,7 @@ unfolding items_of
 items_taken d e no_entries l h = tt
 items_taken d e (entry k v es) l h = (deeper d e k l h.0, (deeper d e v l h.1, items_taken d e es l h.2))
 
--- each has a byte at least
+-- each has at least one byte
 items_short : (es : SpelledEntries) → 2 * entries_count es ≤ length (spell_entries es)
 items_short no_entries = omega arith
 items_short (entry k v es) = omega (arith, items_short es, length_spell k, length_spell v, length-append (spell k ++ spell v) (spell_entries es), length-append (spell k) (spell v))

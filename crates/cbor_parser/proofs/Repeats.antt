@@ -3,10 +3,10 @@ use Rattle.std.proofs.Common.{◌≡◌, ℕ, suc, ◌+◌, ◌-◌, ◌^◌, �
 use Rattle.cbor_head.specs.Prelude.{canonical, canonical_entries, IsRepeated, head, Spelling, SpelledEntries, no_entries, entry, spell, spell_entries, entries_count, value_of, entries_of}
 use Rattle.cbor_head.specs.declared.major.Major.TheVariants as majors
 use Rattle.cbor_head.specs.declared.order.KeyOrder.{KeyOrder}
-use Rattle.cbor_model.proofs.{Keys.same_exactly, Sound.IsSound, Sound.sound}
+use Rattle.theory_values.proofs.{Keys.same_exactly, Sound.IsSound, Sound.sound}
 use Rattle.cbor_builder.specs.Built.{HasKey}
-use Rattle.cbor_verdict.specs.Levels.{IsTaken, ArePairsTaken, Level, a_key, some_key, IsLevel, AreLevels, level_bytes, bytes_before}
-use Rattle.cbor_verdict.{specs.Frame.keys_onto, proofs.Valid.in_range_of, proofs.Valid.valid_of}
+use Rattle.theory_verdicts.specs.Levels.{IsTaken, ArePairsTaken, Level, a_key, some_key, IsLevel, AreLevels, level_bytes, bytes_before}
+use Rattle.theory_verdicts.{specs.Frame.keys_onto, proofs.Valid.in_range_of, proofs.Valid.valid_of}
 use Rattle.cbor_parser.specs.{Sink.IsKeyBehind, inner.OpenContainer.opener}
 
 -- ---- by its canonical bytes

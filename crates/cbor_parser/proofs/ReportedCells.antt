@@ -43,7 +43,7 @@ none_left left false f l = omega (arith, l)
 none_left zero true f l = absurd (cc (f refl))
 none_left (suc n) true f l = omega (arith, l)
 
--- behind the cell at this place
+-- after the cell at this index
 pub maps_more : (xs : List Cell) (i : ℕ) (d : Cell) (b : Bool) → i < length xs → pairs (get_or xs i d).expected ≡ b → map_cells (take (i + 1) xs) ≡ map_cells (take i xs) + counts_one b 0
 maps_more xs i d b l e = ap map_cells (take_more xs i d l) ∙ maps_append (take i xs) (get_or xs i d ∷ []) ∙ ap (λ (t : Bool). map_cells (take i xs) + counts_one t 0) e
 
@@ -58,7 +58,7 @@ module _ (xs : List Cell) (top : Cell) (inner outer : List Cell) (c : Cell) (out
       ∙ ap (λ (ys : List Cell). ys ++ reverse inner) (reverse-append (c ∷ []) outer)
       ∙ append_assoc (reverse outer) (c ∷ []) (reverse inner)
 
-  -- it is the map at this place
+  -- it is the map at this index
   pub reported_at : (i : ℕ) (d : Cell) (left : ℕ) → i < length xs → pairs (get_or xs i d).expected ≡ true → map_cells (take i xs) + left ≡ outside → left ≡ 0 → Some (get_or xs i d) ≡ Some c
   reported_at i d left l here before none =
       let x = get_or xs i d in

@@ -1,12 +1,12 @@
--- The first key of a map that is the same as an earlier one, with what stands before it.
+-- The first key of a map that is the same as an earlier one, with what comes before it.
 use Rattle.std.proofs.Common.{◌≡◌, ℕ, zero, suc, ◌+◌, ◌-◌, ◌<◌, ◌≤◌, List, [], ◌∷◌, ◌++◌, length, map, get_or, refl, sym, ap, ◌∙◌, subst, inl, inr, arith, append_assoc, append-nil, length-append}
 use Rattle.std.proofs.{lemmas.Bool.cases_lt, Math.ListN.get_or-append, Math.Seq.get_or-append_seam}
 use Rattle.cbor_head.specs.Prelude.{Pair, canonical, canonical_entries, Holds, head, Spelling, SpelledEntries, a_map, no_entries, entry, spell, spell_entries, entries_count, break_of, HoldsOrIndefinite, value_of, entries_of}
 use Rattle.cbor_head.specs.declared.major.Major.TheVariants as majors
 use Rattle.cbor_head.specs.declared.{order.KeyOrder.KeyOrder, width.Width.Width, width.Width.TheVariants.Indefinite}
 use Rattle.cbor_builder.specs.Built.{HasKey, keys_so_far, IsFirstRepeat, AreAllDifferent}
-use Rattle.cbor_verdict.specs.Levels.{IsTaken, ArePairsTaken, Level, a_key, a_value, some_key, some_value, level_bytes, IsLevel}
-use Rattle.cbor_verdict.{specs.Given.level_open, proofs.Heads.open_or}
+use Rattle.theory_verdicts.specs.Levels.{IsTaken, ArePairsTaken, Level, a_key, a_value, some_key, some_value, level_bytes, IsLevel}
+use Rattle.theory_verdicts.{specs.Given.level_open, proofs.Heads.open_or}
 use Rattle.cbor_parser.specs.{Sink.IsKeyBehind, inner.OpenContainer.opener}
 
 -- ---- canonical keys
@@ -88,7 +88,7 @@ pair_at o d (entry k v es) (suc n) h l =
 
 -- ---- a map
 
--- A map begins so and has these bytes. Behind so many of its pairs stands the first key that is the same as an earlier one.
+-- A map begins so and has these bytes. After n of its pairs comes the first key that is the same as an earlier one.
 pub record IsKeyIn (o : KeyOrder) (d : ℕ) (opening bytes : List ℕ) (pair : ℕ) : Type 0 where
   pub level : Level
   pub es : SpelledEntries
@@ -103,7 +103,7 @@ pub record IsKeyIn (o : KeyOrder) (d : ℕ) (opening bytes : List ℕ) (pair : �
   pub more : List ℕ
   pub bytes_are : bytes ≡ level_bytes level ++ (spell key ++ more)
 
--- a map that begins so, where a key is expected behind these pairs
+-- a map that begins so, with a key expected after these pairs
 record IsExpectedBehind (o : KeyOrder) (d : ℕ) (opening : List ℕ) (es : SpelledEntries) : Type 0 where
   level : Level
   is_behind : IsKeyBehind level es
@@ -127,7 +127,7 @@ expected_in o d w n h es l taken =
     }
 
 module _ (o : KeyOrder) (d : ℕ) (w : Width) (n : ℕ) (holds : HoldsOrIndefinite w n) where
-  -- behind these pairs
+  -- after these pairs
   key_behind : (before : SpelledEntries) (key : Spelling) (others : List (List ℕ)) (more bytes : List ℕ) → entries_count before < n → ArePairsTaken d before → IsTaken d key
       → IsFirstRepeat (keys o before ++ canonical o (value_of key) ∷ others) (entries_count before) → bytes ≡ (head majors.Map w n ++ spell_entries before) ++ (spell key ++ more)
       → IsKeyIn o d (head majors.Map w n) bytes (entries_count before)

@@ -4,10 +4,10 @@ use Rattle.cbor_head.specs.Prelude.{IsBeginning, plain, complaint, Bounds, Spell
 use Rattle.cbor_head.specs.declared.{order.KeyOrder.KeyOrder, reason.Reason.TheVariants.RepeatedKey}
 use Rattle.cbor_builder.specs.Built.{keys_so_far, IsFirstRepeat, AreOpenKeysDifferent, IsRepeatReported, open_maps}
 use Rattle.cbor_builder.specs.declared.repeat.Repeat.{Repeat}
-use Rattle.cbor_verdict.specs.Given.{level_open, opens, full_open}
-use Rattle.cbor_verdict.specs.Levels.{Level, a_member, some_member, tagged, level_bytes, AreLevels, bytes_before}
-use Rattle.cbor_verdict.{specs.Kinds.KeepsToKinds, proofs.KindFrames.keeps_prefix, proofs.LevelFrames.begins_so_far, proofs.LevelFrames.begins_before}
-use Rattle.cbor_verdict.proofs.PathVerdict.{complaint_stops}
+use Rattle.theory_verdicts.specs.Given.{level_open, opens, full_open}
+use Rattle.theory_verdicts.specs.Levels.{Level, a_member, some_member, tagged, level_bytes, AreLevels, bytes_before}
+use Rattle.theory_verdicts.{specs.Kinds.KeepsToKinds, proofs.KindFrames.keeps_prefix, proofs.LevelFrames.begins_so_far, proofs.LevelFrames.begins_before}
+use Rattle.theory_verdicts.proofs.PathVerdict.{complaint_stops}
 use Rattle.cbor_parser.specs.Sink.{is_map as its_kind, IsReportedIn, IsReportedFull}
 use Rattle.cbor_parser.specs.inner.OpenMaps.{HasTakenPairs, is_map_level, map_levels}
 use Rattle.cbor_parser.proofs.ReportedKeys.{IsKeyIn, key_in_level, key_in_map}
@@ -16,7 +16,7 @@ use Rattle.cbor_parser.proofs.{LevelPaths.repeat_of_whole, Repeats.repeated_by_b
 
 -- ---- the maps among open containers
 
--- so many are maps
+-- n of them are maps
 maps_open : (o : KeyOrder) (ls : List Level) → open_maps (opens o ls) ≡ map_levels ls
 maps_open o [] = refl
 maps_open o (a_member w left done ∷ ls) = maps_open o ls

@@ -2,7 +2,7 @@
 use Rattle.std.proofs.Common.{◌≡◌, ◌≤◌, ℕ, ◌^◌, Bool, Option, List, [], ◌∷◌, ◌++◌, length, refl, sym, ap, ◌∙◌, subst, append_assoc, inl, inr}
 use Rattle.cbor_head.specs.Prelude.{Bounds, spell}
 use Rattle.cbor_builder.specs.declared.repeat.Repeat.{Repeat}
-use Rattle.cbor_verdict.specs.Levels.{Level, a_member, bytes_before, ParseState}
+use Rattle.theory_verdicts.specs.Levels.{Level, a_member, bytes_before, ParseState}
 use Rattle.cbor_parser.specs.inner.OpenContainer.{cell_of, cells_of, behind_head}
 use Rattle.cbor_parser.specs.inner.OpenMaps.{is_map_level, map_levels, map_cells, counts_one, FindsMap}
 use Rattle.cbor_parser.specs.inner.Repeated.{IsKeyReported, IsCellReported, IsKeyReportedIn}
@@ -47,7 +47,7 @@ module _ (limits : Bounds) (input : List ℕ) (small : length input ≤ 2 ^ 62) 
     reported_where_expected h reports = λ found finds.
         among [] h.ls repeat.outside repeat.pair found (reported_within limits input small h.ls rest repeat h.levels h.bytes (keeps (bytes_before h.ls) h.bytes) (reports start h.ls h.given)) (subst (λ (ds : List Cell). FindsMap ds repeat.outside found) h.cells finds)
 
-    -- where a container was to end, whose cell is still the innermost
+    -- a container should end, and its cell is still the innermost
     pub reported_at_end : IsRepeatVisited S stands trusts repeat limits.depth input cs rest → IsKeyReportedIn limits input cs repeat
     reported_at_end visited = go cs visited
       where

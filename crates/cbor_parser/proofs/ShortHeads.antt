@@ -6,11 +6,11 @@ use Rattle.cbor_head.specs.Prelude.{IsSimple, head, with_argument, shortest, Are
 use Rattle.cbor_head.specs.declared.width.Width.TheVariants.{Direct, One, Two, Four, Eight}
 use Rattle.cbor_head.specs.declared.{order.KeyOrder.KeyOrder, major.Major.TheVariants.Bytes, major.Major.TheVariants.Text, width.Width.Width}
 use Rattle.cbor_head.proofs.HeadBack.{prefix_number}
-use Rattle.cbor_model.proofs.Normal.{Holds-shortest}
-use Rattle.cbor_verdict.proofs.Arguments.{direct-is}
+use Rattle.theory_values.proofs.Normal.{Holds-shortest}
+use Rattle.theory_verdicts.proofs.Arguments.{direct-is}
 use Rattle.cbor_parser.specs.inner.Leaves.{IsItemThen, IsShortest, IsShortestHead}
 
--- a list of bytes, by place
+-- a list of bytes, by offset
 abbrev pub ByPlace : List ℕ → Type 0
 ByPlace xs = (i : ℕ) → get_or xs i 0 < 256
 
@@ -111,7 +111,7 @@ shortest-head low least size behind chunk is l h least_is size_is low_is high_is
 
 -- ---- items without members
 
--- the bytes behind the head
+-- the bytes after the head
 module _ (o : KeyOrder) (d : ℕ) where
   pub an-unsigned : (low : ℕ) (behind rest : List ℕ) (n : ℕ) → IsShortest low behind n rest → IsItemThen o d (low ∷ behind) rest
   an-unsigned low behind rest n s = record {

@@ -5,7 +5,7 @@ use Rattle.byteorder.specs.Endian.{big_number}
 use Rattle.cbor_head.specs.Prelude.{AreBytes, Holds, shortest, with_argument}
 use Rattle.cbor_head.specs.declared.width.Width.TheVariants.{Direct, One, Two, Four, Eight, Indefinite}
 use Rattle.cbor_head.specs.declared.{order.KeyOrder.KeyOrder, width.Width.Width}
-use Rattle.cbor_model.proofs.{KeyByteLists.bytes_take, KeyByteLists.bytes_drop, Normal.Holds-shortest}
+use Rattle.theory_values.proofs.{KeyByteLists.bytes_take, KeyByteLists.bytes_drop, Normal.Holds-shortest}
 use Rattle.cbor_parser.specs.inner.Leaves.{IsItemThen, IsShortest, IsShortestHead, IsLeaf}
 use Rattle.cbor_parser.proofs.ShortHeads.{ByPlace, direct, an-unsigned, a-negative, a-simple, some-bytes, a-text, no-array, no-map, of-one, rest-is}
 use Rattle.cbor_parser.specs.inner.Items.{IsShortString}
@@ -57,7 +57,7 @@ module _ (space : Bool) (first : ℕ) (behind : List ℕ) where
     ]);
   }
 
-  -- behind a head in its shortest form
+  -- after a head in its shortest form
   module _ (n : ℕ) (rest : List ℕ) (s : IsShortest (first % 32) behind n rest) (fewer : length rest ≤ length behind) where
     here : drop (1 + (length behind - length rest)) (first ∷ behind) ≡ rest
     here = let e : first ≡ (first - first % 32) + first % 32 = omega arith in rest-is first behind _ rest (ap (λ c. c ∷ behind) e ∙ s.spelled (first - first % 32)) fewer

@@ -1,8 +1,8 @@
--- Items that are gone over one by one.
+-- Items that are skipped one by one.
 use Rattle.std.proofs.Common.{◌≡◌, ℕ, suc, ◌-◌, List, ◌++◌, refl, sym, ◌∙◌, subst, arith, append_assoc}
 use Rattle.cbor_head.specs.Prelude.{Spelling, Spellings, no_spellings, a_spelling, spell, spell_all, spellings_count}
-use Rattle.cbor_model.proofs.ReadLaws.{unique}
-use Rattle.cbor_verdict.specs.Levels.{IsTaken, AreTaken}
+use Rattle.theory_values.proofs.ReadLaws.{unique}
+use Rattle.theory_verdicts.specs.Levels.{IsTaken, AreTaken}
 use Rattle.cbor_parser.specs.inner.Skip.{StandAtStart}
 
 -- no items
@@ -13,7 +13,7 @@ none_at_start d rest count behind none h = h.bytes_are ∙ go h.items (h.count_i
     go no_spellings e = refl
     go (a_spelling s ss) e = absurd (cc e)
 
--- the first of them, and those behind it
+-- the first of them, and those after it
 pub record IsOneMore (d : ℕ) (rest : List ℕ) (count : ℕ) (behind : List ℕ) : Type 0 where
   pub item : Spelling
   pub taken : IsTaken d item
@@ -34,7 +34,7 @@ one_more d rest count behind h = go h.items h.taken h.count_is h.bytes_are
       others = record { items = ss; taken = t.1; space = h.space; count_is = omega (arith, n); bytes_are = refl };
     }
 
--- behind one item are the others
+-- the others follow one item
 pub gone_on : (d : ℕ) (rest : List ℕ) (count : ℕ) (behind : List ℕ) → StandAtStart d rest (suc count) behind → (item : Spelling) (more : List ℕ) → IsTaken d item → rest ≡ spell item ++ more → StandAtStart d more count behind
 gone_on d rest count behind h item more taken e =
     let o = one_more d rest count behind h in

@@ -1,9 +1,9 @@
--- Where a parse by the strict rules stands behind what it took.
+-- The position of a parse by the strict rules after what it took.
 use Rattle.std.proofs.Common.{◌≡◌, ℕ, ◌+◌, ◌-◌, ◌<◌, ◌≤◌, Bool, true, List, [], ◌∷◌, length, drop, refl, sym, ap, ◌∙◌, subst, arith, length-drop}
 use Rattle.std.proofs.lemmas.List.{drop-drop}
 use Rattle.cbor_head.specs.Prelude.{strict, Bounds, AreBytes}
 use Rattle.cbor_head.specs.declared.order.KeyOrder.{KeyOrder}
-use Rattle.cbor_verdict.specs.PathKinds.{KeepsHere}
+use Rattle.theory_verdicts.specs.PathKinds.{KeepsHere}
 use Rattle.cbor_parser.specs.inner.Cells.{StrictCell, strict_cell, StandsAt, HasEndedAt, HasClosed}
 use Rattle.cbor_parser.specs.inner.StrictRules.{AreBefore, Expect, HaveItem, Fill, Pass, Stop, Advances}
 use Rattle.cbor_parser.specs.declared.item_rules.Step.TheVariants as step
@@ -14,7 +14,7 @@ use Rattle.cbor_parser.specs.declared.{container.Expected.TheVariants.Item, cont
 use Rattle.cbor_parser.specs.declared.strict_rules.{StrictRules.StrictRules, StrictStop.StrictStop}
 
 module _ (first now : StrictRules) (limits : Bounds) (input : List ℕ) (c : StrictCell) (cs : List StrictCell) (rest : List ℕ) (h : Expect first now limits input (c ∷ cs) rest) where
-  -- behind so many bytes
+  -- after the first `used` bytes
   module _ (used : ℕ) (some : 0 < used) (inside : used ≤ length rest) (behind : List ℕ) (is : behind ≡ drop used rest) where
     at : ℕ
     at = length input - length rest

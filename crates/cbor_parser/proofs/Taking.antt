@@ -5,12 +5,12 @@ use Rattle.cbor_head.specs.Prelude.{strict, OfCount, Holds, IsHead, head, shorte
 use Rattle.cbor_head.specs.declared.major.Major.TheVariants.{Array, Map, Tag}
 use Rattle.cbor_head.specs.declared.{major.Major.Major, order.KeyOrder.KeyOrder, width.Width.Width, width.Width.TheVariants.Indefinite}
 use Rattle.cbor_head.specs.declared.keys.Keys.TheVariants.{IntegersAndTexts}
-use Rattle.cbor_model.{proofs.Normal.Holds-shortest, specs.KeyPrefix.prefix_of}
-use Rattle.cbor_verdict.specs.Path as path
-use Rattle.cbor_verdict.specs.Path.{a_member, a_key, a_value, tagged, level_bytes, bytes_before, IsKeyExpectedIn}
-use Rattle.cbor_verdict.proofs.PathKinds.{kept_prefix, head_begun, keeps_begun, keeps_item}
-use Rattle.cbor_verdict.proofs.{Items.is-definite, Heads.open_or, Heads.takes, KindBytes.head_is_one, KindFrames.keeps_start}
-use Rattle.cbor_verdict.specs.{Judged.Never, Kinds.KeepsToKinds, PathKinds.KeepsHere, RefusedHere.IsPlaceFor}
+use Rattle.theory_values.{proofs.Normal.Holds-shortest, specs.KeyPrefix.prefix_of}
+use Rattle.theory_verdicts.specs.Path as path
+use Rattle.theory_verdicts.specs.Path.{a_member, a_key, a_value, tagged, level_bytes, bytes_before, IsKeyExpectedIn}
+use Rattle.theory_verdicts.proofs.PathKinds.{kept_prefix, head_begun, keeps_begun, keeps_item}
+use Rattle.theory_verdicts.proofs.{Items.is-definite, Heads.open_or, Heads.takes, KindBytes.head_is_one, KindFrames.keeps_start}
+use Rattle.theory_verdicts.specs.{Judged.Never, Kinds.KeepsToKinds, PathKinds.KeepsHere, RefusedHere.IsPlaceFor}
 use Rattle.cbor_parser.specs.inner.Cells.{strict_cell, AreCells, StandsAt, HasEndedAt, IsWhole}
 use Rattle.cbor_parser.specs.declared.container.Expected.TheVariants.{Item, Key, Value}
 use Rattle.cbor_parser.proofs.CellSteps.{item_is_no_key, key_is_no_value, item_full}
@@ -39,7 +39,7 @@ key_expected input (tagged w n ∷ ls) c cs a e = absurd (item_is_no_key c a.0.0
 key_expected input [] c [] a e = absurd (item_is_no_key c a.0 e)
 key_expected input [] c (x ∷ xs) a e = absurd a
 
--- whether it is one whose kind is asked for
+-- whether it is a key whose kind is judged
 pub key_asked : (o : KeyOrder) (limits : Bounds) (input : List ℕ) (c : StrictCell) (cs : List StrictCell) (at : ℕ) (s : StandsAt o limits input (c ∷ cs) at) (is_key : Bool)
     → (is_key ≡ true → (limits.keys ≡ IntegersAndTexts) × (c.expected ≡ Key)) → (is_key ≡ false → limits.keys ≡ IntegersAndTexts → c.expected ≡ Key → ⊥) → IsKeyAsked is_key limits s.ls
 key_asked o limits input c cs at s is_key both none = record {
@@ -150,7 +150,7 @@ module _ (o : KeyOrder) (limits : Bounds) (input : List ℕ) (cs : List StrictCe
 pub height_is : (o : KeyOrder) (limits : Bounds) (input : List ℕ) (k : Stack StrictCell) (cells : List StrictCell) (at : ℕ) (s : StandsAt o limits input (open_levels StrictCell k cells) at) → k.height ≤ length cells → length s.ls ≡ k.height
 height_is o limits input k cells at s l = omega (arith, cells_count input s.ls (open_levels StrictCell k cells) s.are, open_levels_count StrictCell k cells l)
 
--- they are there, and one more may open if there is space for it
+-- they exist, and one more may open if there is space for it
 pub place_for : (o : KeyOrder) (limits : Bounds) (d : ℕ) (input : List ℕ) (k : Stack StrictCell) (cells : List StrictCell) (at : ℕ) (s : StandsAt o limits input (open_levels StrictCell k cells) at) → k.height ≤ length cells → limits.depth ≡ d
     → IsPlaceFor (nat_lt k.height d) limits.depth s.ls at
 place_for o limits d input k cells at s l e =

@@ -3,6 +3,6 @@ use Rattle.std.specs.Prelude.{◌≡◌, ◌⊎◌, ℕ, List}
 use Rattle.cbor_head.specs.Prelude.{plain, Bounds, IsVerdict, refusal, refused}
 use Rattle.cbor_head.specs.declared.reason.{Reason.TheVariants.Memory, Refusal.Refusal}
 
--- the item is refused so; or memory was refused, which is reported at the start
+-- the item is refused with this refusal; or memory was refused, which is reported at the start
 abbrev pub IsStop : Bounds → List ℕ → Refusal → Type 0
 IsStop limits input f = IsVerdict limits plain input (refused f) ⊎ (f ≡ refusal Memory 0 0)

@@ -1,4 +1,4 @@
--- What private functions speak of; the public contracts do not.
+-- What only private functions mention.
 pub mod Cells
 pub mod Faults
 pub mod Items

@@ -2,8 +2,8 @@
 
 ghost use Rattle.std.specs.Prelude.{◌≤◌, ◌^◌, IfOk, IfErr, MatchResult, length};
 ghost use Rattle.cbor_head.specs.Complaint.{strict};
-ghost use Rattle.cbor_verdict.specs.Readers.{IsRead};
-ghost use Rattle.cbor_verdict.specs.Stop.{IsRefused};
+ghost use Rattle.theory_verdicts.specs.Readers.{IsRead};
+ghost use Rattle.theory_verdicts.specs.Stop.{IsRefused};
 ghost use Rattle.cbor_parser.specs.NotCanonical.{IsNotCanonical};
 ghost use Rattle.cbor_parser.specs.inner.Cells.{IsWhole};
 
@@ -15,13 +15,13 @@ use crate::parse::parse;
 use crate::strict_rules::StrictRules;
 use cbor_head::{KeyOrder, Limits, Refusal};
 
-/// How many bytes the item has that the slice begins with, where they are its canonical bytes in
-/// this order (RFC 8949, sections 4.2.1 and 4.2.3); else the refusal that the bytes within the limits
-/// call for, by the rules of the deterministic encoding: but a key that is the same as the one before
-/// it is a `RepeatedKey`.
+/// Returns the size in bytes of the item that the slice begins with, if its bytes are canonical in
+/// this order (RFC 8949, sections 4.2.1 and 4.2.3); else the refusal of the bytes within the limits
+/// by the rules of the deterministic encoding. A key that is the same as the one before it is a
+/// `RepeatedKey` here.
 ///
-/// It goes over the bytes once, without recursion, and takes no memory. It is part of what asks for
-/// it, so that no answer is copied.
+/// It reads the bytes once, without recursion, and allocates nothing. It is inlined into its
+/// callers, so that its result is not copied.
 #[inline(always)]
 pub fn canonical_prefix(bytes: &[u8], limits: Limits, order: KeyOrder) -> Result<u64, Refusal>
     ensures { MatchResult result
@@ -35,14 +35,15 @@ pub fn canonical_prefix(bytes: &[u8], limits: Limits, order: KeyOrder) -> Result
     }
 }
 
-// The canonical item at the start of a whole input, at whose end an item is `Truncated`.
+// The canonical item at the start of a whole input. If the input ends within the item, it is
+// `Truncated`.
 #[inline(always)]
 fn whole_prefix(input: &[u8], limits: Limits, order: KeyOrder) -> Result<usize, Refusal>
     requires { length input.now ≤ 2 ^ 62 }
     ensures whole { IfOk result (IsWhole order limits input.now) }
     ensures refused { IfErr result (IsRefused order limits input.now) }
 {
-    // An item that is no container wants no cells.
+    // An item that is no container needs no cells.
     if !begins_container(input) {
         let here = Here {
             space: limits.depth() > 0,

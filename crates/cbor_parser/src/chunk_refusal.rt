@@ -7,8 +7,9 @@ ghost use Rattle.cbor_parser.specs.inner.Faults.{AreChunksRefused};
 use crate::item_start::{refusal_at, string_refusal};
 use cbor_head::{Reason, Refusal, read_argument};
 
-/// The refusal of the string in chunks whose opener stands at this place of the input, before these
-/// bytes: of the first chunk that is none, or that is cut off. None where a break ends it.
+/// The refusal of a string in chunks, for the first part that is no chunk or is incomplete. The
+/// string's opener is at this offset of the input, and `behind` follows it. None if a break ends
+/// the string.
 #[cold]
 #[inline(never)]
 pub(crate) fn chunks_fault(is_text: bool, behind: &[u8], at: usize) -> Option<Refusal>

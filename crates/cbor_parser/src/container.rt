@@ -1,4 +1,4 @@
-//! What is expected in an open container, and what an item leads to.
+//! What is expected in an open container.
 
 ghost use Rattle.std.specs.Prelude.{◌≡◌};
 ghost use Rattle.cbor_parser.specs.Expected.{awaits, pairs};
@@ -15,7 +15,7 @@ pub enum Expected {
 }
 
 impl Expected {
-    /// Whether it is a key.
+    /// Whether a key is expected.
     #[inline(always)]
     pub fn is_key(self) -> bool
         ensures { result ≡ awaits self }
@@ -23,7 +23,7 @@ impl Expected {
         matches!(self, Expected::Key)
     }
 
-    /// Whether it is expected in a map.
+    /// Whether a key or a value of a map is expected.
     #[inline(always)]
     pub fn is_in_map(self) -> bool
         ensures { result ≡ pairs self }

@@ -1,7 +1,7 @@
 //! The strings of a valid item: their payloads, in one piece or in chunks.
 
 ghost use Rattle.std.specs.Prelude.{◌≡◌, ◌∷◌, IfSome};
-ghost use Rattle.cbor_verdict.specs.Reading.{string_major};
+ghost use Rattle.theory_verdicts.specs.Reading.{string_major};
 ghost use Rattle.cbor_parser.specs.inner.Parser.{IsExpectedFor, TakesItem};
 ghost use Rattle.cbor_parser.specs.inner.Parts.{IsHead, IsPayload, chunked_from, TakesScalar};
 
@@ -13,7 +13,8 @@ use cbor_head::{Argument, read_argument};
 use cbor_text::is_text_prefix;
 
 impl<S> Parser<S> {
-    /// Takes the string that `rest` begins with: so many bytes, which stand `behind` its head.
+    /// Takes the string that `rest` begins with. Its payload has `count` bytes; `behind` follows
+    /// its head.
     #[inline(always)]
     pub(crate) fn take_string<'a>(
         &mut self,
@@ -97,8 +98,8 @@ fn chunk_head<'a>(is_text: bool, first: u8, behind: &'a [u8]) -> Option<Argument
     read_argument(first % 32, behind)
 }
 
-// A payload of so many bytes as a size, if it stands at the start, and is UTF-8 if it is a text's. If the
-// item is known to be valid, its texts are UTF-8, and are not looked through.
+// The size of a payload, if all its bytes are there, and are UTF-8 if it is a text's. If the item
+// is known to be valid, its texts are not checked.
 #[inline(always)]
 fn payload_size<'a, S: Sink<'a>>(is_text: bool, count: u64, rest: &'a [u8]) -> Option<usize>
     ensures { IfSome result (λ size. IsPayload S.trusts is_text count size rest.now) }

@@ -1,9 +1,9 @@
-//! Short items and short heads at the start of a slice: fast, and where one isn't found, nothing is
-//! said.
+//! Fast recognition of short items and short heads at the start of a slice. If none is recognised,
+//! nothing is claimed.
 
 ghost use Rattle.std.specs.Prelude.{◌≡◌, ◌<◌, ◌≤◌, ◌-◌, ◌*◌, ◌/◌, ◌^◌, ◌∷◌, ℕ, List, IfSome};
 ghost use Rattle.cbor_head.specs.declared.keys.Keys.TheVariants.{IntegersAndTexts};
-ghost use Rattle.cbor_verdict.specs.PathKinds.{IsFitPrefix};
+ghost use Rattle.theory_verdicts.specs.PathKinds.{IsFitPrefix};
 ghost use Rattle.cbor_parser.specs.inner.Leaves.{HasShortestHead};
 ghost use Rattle.cbor_parser.specs.inner.Items.{IsShortPrefix, IsShortString, IsSaid};
 
@@ -12,20 +12,20 @@ use crate::kinds::is_asked;
 use cbor_head::{Keys, argument_bytes};
 use cbor_text::is_text_prefix;
 
-/// What the fast ways find.
+/// What the fast functions recognise.
 #[derive(Clone, Copy)]
 pub(crate) enum FastItem {
-    /// An item of so many bytes.
+    /// An item of this number of bytes.
     Item(usize),
-    /// The head, of so many bytes, of a container in which this is expected, and so many members or pairs
-    /// more.
+    /// The head of a container: what is expected in it, how many members or pairs follow the first,
+    /// and the number of bytes of the head.
     Opens(Expected, u64, usize),
-    /// Nothing is said.
+    /// Not recognised; nothing is claimed.
     Other,
 }
 
-/// What stands there, if it is a short item or head in its shortest form. Where kinds of keys are
-/// asked for and this is expected, of a key that is neither an integer nor a text nothing is said.
+/// Recognises a short item or head in its shortest form. If kinds of keys are judged and a key is
+/// expected, a key that is neither an integer nor a text is not recognised.
 #[inline(always)]
 pub(crate) fn fast_item(first: u8, rest: &[u8], expected: &Expected, keys: Keys) -> FastItem
     requires { (behind : List ℕ) × (rest.now ≡ first ∷ behind) }
@@ -51,7 +51,7 @@ pub(crate) fn fast_item(first: u8, rest: &[u8], expected: &Expected, keys: Keys)
     }
 }
 
-// How many bytes the head has that stands there, in its shortest form; 0 says nothing.
+// The number of bytes of a head in its shortest form; 0 claims nothing.
 #[inline(always)]
 fn head_size(first: u8, rest: &[u8]) -> usize
     requires { (behind : List ℕ) × (rest.now ≡ first ∷ behind) }
@@ -72,13 +72,13 @@ fn head_size(first: u8, rest: &[u8]) -> usize
             }
             1 + usize::from(argument_bytes(low))
         }
-        // Near the end of an input, of an argument of one byte.
+        // Fewer than eight bytes follow: only an argument of one byte is recognised.
         None if low == 24 && !behind.is_empty() && behind[0] >= 24 => 2,
         None => 0,
     }
 }
 
-// Below this, as a number from its first byte on, the argument behind these low bits is not in its
+// The eight bytes after the first, read as a number, are below this if the argument is not in its
 // shortest form.
 #[inline(always)]
 fn least(low: u8) -> u64
@@ -118,7 +118,7 @@ fn string(first: u8, rest: &[u8], expected: &Expected, keys: Keys) -> FastItem
     FastItem::Other
 }
 
-// Where the payload begins and ends of a string of up to 255 bytes, if all of it is there.
+// Where the payload of a string of up to 255 bytes begins and ends, if it is complete.
 #[inline(always)]
 fn short_string(first: u8, rest: &[u8]) -> Option<(usize, usize)>
     requires { (behind : List ℕ) × (rest.now ≡ first ∷ behind) }

@@ -1,4 +1,4 @@
-//! What has no length: the openers of strings, arrays and maps, and the break that ends them.
+//! Indefinite lengths: the openers of strings, arrays and maps, and the break that ends them.
 
 ghost use Rattle.std.specs.Prelude.{◌≡◌, ◌≤◌, ◌-◌, ◌∷◌, length};
 ghost use Rattle.cbor_parser.specs.Stack.{open_levels};
@@ -15,7 +15,8 @@ use crate::stack::Stack;
 use cbor_head::Major;
 
 impl<S> Parser<S> {
-    /// Takes what `rest` begins with, if its first byte is an opener without a length, or a break.
+    /// Takes what `rest` begins with, if its first byte is an opener of indefinite length, or a
+    /// break.
     #[inline(always)]
     pub(crate) fn take_indefinite<'a>(
         &mut self,

@@ -1,4 +1,4 @@
-//! By which rules a parse takes items, and what it does with them.
+//! The rules by which a parse takes items, and what it does with them.
 
 ghost use Rattle.std.specs.Prelude.{◌≤◌, ◌^◌, ◌∷◌, [], ℕ, List, length};
 ghost use Rattle.cbor_head.specs.Limits.{Bounds};
@@ -11,68 +11,68 @@ use crate::stack::Stack;
 use crate::walk::WalkStop;
 use cbor_head::Limits;
 
-/// What was taken where an item was expected, and how many bytes it has. Numbers stay in registers, where
-/// slices would be copied at each item.
+/// What was taken where an item was expected, with its number of bytes. Numbers stay in registers; slices would be
+/// copied for each item.
 #[derive(Clone, Copy)]
 pub(crate) enum Part<E> {
     /// An item.
     Item(usize),
-    /// The head of a container, which is open now.
+    /// The head of a container, which is now open.
     Head(usize),
-    /// The break of the innermost container, which is whole, and is still open.
+    /// The break of the innermost container, which is complete, and is still open.
     Break(usize),
-    /// Nothing: it may not stand there, or it is a container for which there is no cell.
+    /// Nothing: it is not allowed there, or it is a container and there is no cell for it.
     Untaken,
-    /// Nothing more.
+    /// Nothing: the parse stops.
     Stopped(E),
 }
 
-/// What an item leads to in its container.
+/// What follows an item in its container.
 #[derive(Clone, Copy)]
 pub(crate) enum Step<E> {
     /// Another is expected.
     Next,
-    /// The container is whole.
+    /// The container is complete.
     Full,
     /// The parse stops.
     Stopped(E),
 }
 
-/// By which rules a parse takes items, what it keeps of each open container, and what becomes of what it
-/// takes. `StrictRules` keeps the last key of each map; `Parser` gives each part of a valid item to a sink.
+/// The rules by which a parse takes items, with what is stored for each open container, and what is done with the
+/// items. `StrictRules` stores the last key of each map; `Parser` gives each part of a valid item to a sink.
 pub(crate) trait ItemRules<'a> {
-    /// What is kept of an open container.
+    /// What is stored for an open container.
     type Kept: Copy;
 
-    /// Why a parse stops behind what is taken.
+    /// Why a parse stops after what is taken.
     type Stop: Copy;
 
     /// Why there is no item.
     type Error;
 
-    // From the first state to this one, within these limits, an item is expected in these containers, before the rest
-    // of the input.
+    // The rules went from the first state to this one, within these limits; now an item is expected in these
+    // containers, before the rest of the input.
     ghost stands: { Self → Self → Bounds → List ℕ → List (Cell Self.Kept) → List ℕ → Type 0 };
 
-    // An item of the innermost container is whole.
+    // An item of the innermost container is complete.
     ghost ends: { Self → Self → Bounds → List ℕ → List (Cell Self.Kept) → List ℕ → Type 0 };
 
-    // The innermost container, which is not the input itself, is whole.
+    // The innermost container, which is not the input itself, is complete.
     ghost fills: { Self → Self → Bounds → List ℕ → List (Cell Self.Kept) → List ℕ → Type 0 };
 
-    // The input's item is whole.
+    // The input's item is complete.
     ghost passes: { Self → Self → Bounds → List ℕ → List ℕ → Type 0 };
 
-    // With so many cells for these containers, what stands there may be refused for want of one.
+    // With this number of cells for these containers, the next item may be left because a cell is missing.
     ghost lacks: { Bounds → List (Cell Self.Kept) → ℕ → Type 0 };
 
     // The parse stops, before the rest of the input.
     ghost stops: { Self → Self → Bounds → List ℕ → List (Cell Self.Kept) → List ℕ → Self.Stop → Type 0 };
 
-    // So the input is refused, by rules in this first state.
+    // The input is refused for this reason, by rules in this first state.
     ghost refuses: { Self → Bounds → List ℕ → Self.Error → Type 0 };
 
-    /// Takes what stands at the start.
+    /// Takes the item, head or break at the start of `rest`.
     fn take(
         &mut self,
         rest: &'a [u8],
@@ -89,7 +89,7 @@ pub(crate) trait ItemRules<'a> {
             → TakesTo Self Self.Kept Self.Stop stands stops ends fills passes lacks result start self.new limits input
             (open_levels (Cell Self.Kept) stack.new cells.new) (length cells.new) rest.now };
 
-    /// An item of this container is whole, before these bytes.
+    /// Ends an item of this container; these bytes follow it.
     fn end_item(&mut self, top: &mut OpenContainer<Self::Kept>, rest: &'a [u8]) -> Step<Self::Stop>
         requires { (start : Self) × (limits : Bounds) × (input : List ℕ) × (outer : List (Cell Self.Kept))
             × ends start self.old limits input (top.old ∷ outer) rest.now }
@@ -97,7 +97,7 @@ pub(crate) trait ItemRules<'a> {
             → ends start self.old limits input (top.old ∷ outer) rest.now
             → StepsTo Self Self.Kept Self.Stop stands stops fills passes result start self.new limits input (top.new ∷ outer) rest.now };
 
-    /// This container, which is not the input itself, is whole, before these bytes.
+    /// Ends this container, which is not the input itself; these bytes follow it.
     fn end_container(
         &mut self,
         top: &OpenContainer<Self::Kept>,
@@ -109,7 +109,7 @@ pub(crate) trait ItemRules<'a> {
             → fills start self.old limits input (top.now ∷ c ∷ outer) rest.now
             → ClosesTo Self Self.Kept Self.Stop stops ends result start self.new limits input top.now (c ∷ outer) rest.now };
 
-    /// Why there is no item, where a walk stops so.
+    /// Why there is no item, if a walk stops for this reason.
     fn error(
         &mut self,
         stop: WalkStop<'a, Self::Stop>,

@@ -1,8 +1,9 @@
-//! What stands where an item is expected, or why it is refused: slower than the fast ways, and exactly.
+//! What begins where an item is expected, or why it is refused. Slower than the fast functions, and
+//! complete.
 
 ghost use Rattle.std.specs.Prelude.{◌≡◌, ◌≤◌, ◌<◌, ◌+◌, ◌-◌, ◌^◌, true, false, length, MatchOption};
 ghost use Rattle.cbor_head.specs.Verdict.{refusal};
-ghost use Rattle.cbor_verdict.specs.PathKinds.{IsFitPrefix};
+ghost use Rattle.theory_verdicts.specs.PathKinds.{IsFitPrefix};
 ghost use Rattle.cbor_parser.specs.declared.item_start.ItemStart.TheVariants as starts;
 ghost use Rattle.cbor_parser.specs.inner.Items.{IsStart, IsTaken};
 ghost use Rattle.cbor_parser.specs.inner.Faults.{IsRefusedStart, IsIndefiniteStart};
@@ -14,33 +15,33 @@ use crate::kinds::begins_other_kind;
 use cbor_head::{Argument, Reason, Refusal, initial_byte_error, read_argument};
 use cbor_text::check_text;
 
-/// What is known of the place where an item is expected.
+/// What is known of the position where an item is expected.
 #[derive(Clone, Copy)]
 pub(crate) struct Here {
     /// One more container may open.
     pub(crate) space: bool,
-    /// A key is expected, whose kind is asked for.
+    /// A key is expected, and its kind is judged.
     pub(crate) is_key: bool,
-    /// A break may stand there.
+    /// A break is allowed there.
     pub(crate) may_break: bool,
 }
 
-/// What stands where an item is expected.
+/// What begins where an item is expected.
 #[derive(Clone, Copy)]
 pub(crate) enum ItemStart {
-    /// An item that ends behind so many bytes.
+    /// An item of this number of bytes.
     Leaf(usize),
-    /// The head, of so many bytes, of a container in which this is expected, and so many members or pairs
-    /// more.
+    /// The head of a container: what is expected in it, how many members or pairs follow the first,
+    /// and the number of bytes of the head.
     Opens(Expected, u64, usize),
-    /// What has no length, or a break.
+    /// An opener of indefinite length, or a break.
     Indefinite,
-    /// Nothing that may stand there.
+    /// Nothing that is allowed there.
     Refused(Refusal),
 }
 
-/// What stands there, at this place of the input, by the rules of the deterministic encoding
-/// (`is_strict`) or by those of any valid item.
+/// What begins at this offset of the input, by the rules of the deterministic encoding (`is_strict`)
+/// or by those of any valid item.
 #[inline(never)]
 pub(crate) fn item_start(rest: &[u8], at: usize, here: Here, is_strict: bool) -> ItemStart
     requires { at + length rest.now < 2 ^ 63 }
@@ -87,15 +88,15 @@ pub(crate) fn item_start(rest: &[u8], at: usize, here: Here, is_strict: bool) ->
     container_start(first, head.number, used)
 }
 
-/// A refusal by places in memory.
+/// A refusal with offsets given as `usize`.
 pub(crate) fn refusal_at(reason: Reason, place: usize, read: usize) -> Refusal
     ensures { result ≡ refusal reason place read }
 {
     Refusal::new(reason, place as u64, read as u64)
 }
 
-// What begins with this byte, the opener of a string, an array or a map without a length, before these
-// bytes. By the strict rules nothing does; else a string is gone through.
+// What begins with this opener of a string, an array or a map of indefinite length; `behind` follows
+// it. By the strict rules it is refused; else a string's chunks are checked.
 fn indefinite_start(first: u8, behind: &[u8], at: usize, is_strict: bool) -> ItemStart
     requires { at + 1 + length behind.now < 2 ^ 63 }
     ensures { IsIndefiniteStart is_strict first behind.now at result }
@@ -135,7 +136,7 @@ fn container_start(first: u8, number: u64, used: usize) -> ItemStart
     ItemStart::Opens(expected, number - 1, used)
 }
 
-/// Why the string or chunk with this head is none, whichever rules its head meets.
+/// Why the string or chunk with this head is refused, by whichever rules its head is read.
 #[inline(always)]
 pub(crate) fn string_refusal(rest: &[u8], head: Argument<'_>, at: usize) -> Option<Refusal>
     requires place { at + length rest.now < 2 ^ 63 }

@@ -1,13 +1,13 @@
-//! Keys of other kinds than the limits ask for.
+//! Keys of kinds that the limits do not allow.
 
 ghost use Rattle.std.specs.Prelude.{◌≡◌, true, false};
 ghost use Rattle.cbor_head.specs.declared.keys.Keys.TheVariants.{IntegersAndTexts};
-ghost use Rattle.cbor_verdict.specs.PathKinds.{IsFitPrefix, IsOtherPrefix};
+ghost use Rattle.theory_verdicts.specs.PathKinds.{IsFitPrefix, IsOtherPrefix};
 
 use crate::container::Expected;
 use cbor_head::Keys;
 
-/// Whether kinds are asked for, and a key is expected.
+/// Whether kinds of keys are judged, and a key is expected.
 #[inline(always)]
 pub(crate) fn is_asked(keys: Keys, expected: Expected) -> bool
     ensures both { result ≡ true → (keys ≡ IntegersAndTexts) × (expected ≡ Expected.Key) }
@@ -16,7 +16,7 @@ pub(crate) fn is_asked(keys: Keys, expected: Expected) -> bool
     matches!(keys, Keys::IntegersAndTexts) && matches!(expected, Expected::Key)
 }
 
-/// Whether neither an integer nor a text begins there. A break is no key.
+/// Whether an item begins there that is neither an integer nor a text. A break is no key.
 #[inline(always)]
 pub(crate) fn begins_other_kind(rest: &[u8]) -> bool
     ensures fits { result ≡ false → IsFitPrefix rest.now }
@@ -28,7 +28,8 @@ pub(crate) fn begins_other_kind(rest: &[u8]) -> bool
     }
 }
 
-/// Whether kinds are asked for, a key is expected, and neither an integer nor a text begins there.
+/// Whether kinds of keys are judged, a key is expected, and an item begins there that is neither an
+/// integer nor a text.
 #[inline(always)]
 pub(crate) fn is_other_key(keys: Keys, expected: Expected, rest: &[u8]) -> bool
     ensures fits { result ≡ false → keys ≡ IntegersAndTexts → expected ≡ Expected.Key → IsFitPrefix rest.now }

@@ -1,7 +1,8 @@
-//! The last keys of open maps, by which the next are judged, and what an item that is whole makes of its containers.
+//! The last keys of open maps, which the next keys are compared with, and what a complete item changes in its
+//! container.
 
 ghost use Rattle.std.specs.Prelude.{◌≡◌, ◌≤◌, true, length};
-ghost use Rattle.cbor_model.specs.KeyPrefix.{prefix_of};
+ghost use Rattle.theory_values.specs.KeyPrefix.{prefix_of};
 ghost use Rattle.cbor_head.specs.Order.{key_lt};
 ghost use Rattle.cbor_parser.specs.inner.Cells.{strict_cell, no_key, key_at, last_key, IsPrefixed, TakesKey};
 ghost use Rattle.cbor_parser.specs.inner.StrictRules.{Advances};
@@ -11,15 +12,15 @@ use crate::item_rules::Step;
 use crate::open_container::OpenContainer;
 use crate::strict_rules::StrictStop;
 use cbor_head::KeyOrder;
-use cbor_model::{compare_keys, key_prefix, part};
 use std::cmp::Ordering;
+use theory_values::{compare_keys, key_prefix, part};
 
-/// Where the keys of an open map lie in the input.
+/// Where the keys of an open map are in the input.
 #[derive(Clone, Copy)]
 pub(crate) struct LastKey {
-    // Where the key begins that is expected.
+    // The offset of the key that is expected.
     pub(crate) key: usize,
-    // Where the last key begins and ends; before the first, no bytes.
+    // Where the last key begins and ends; an empty range before the first key.
     pub(crate) last: usize,
     pub(crate) last_end: usize,
     // The first eight bytes of the last key, as a number.
@@ -27,7 +28,7 @@ pub(crate) struct LastKey {
 }
 
 impl LastKey {
-    /// None yet, of a map whose first key begins there.
+    /// No last key, in a map whose first key begins there.
     #[inline(always)]
     pub(crate) fn none(at: usize) -> LastKey
         ensures { result ≡ no_key at }
@@ -40,7 +41,7 @@ impl LastKey {
         }
     }
 
-    // The key that is expected ends there. Whether it comes behind the last one.
+    // Takes the expected key, which ends there. Returns whether it comes after the last one.
     #[inline(always)]
     fn take_key(&mut self, input: &[u8], order: KeyOrder, at: usize) -> bool
         requires { at ≤ length input.now }
@@ -59,7 +60,7 @@ impl LastKey {
         true
     }
 
-    // Whether the key that ends there, and has this prefix, comes behind the last one.
+    // Whether the key that ends there, with this prefix, comes after the last one.
     #[inline(always)]
     fn rises(&self, input: &[u8], order: KeyOrder, prefix: u64, at: usize) -> bool
         requires { prefix ≡ prefix_of (key_at input.now self.now at) }
@@ -77,7 +78,7 @@ impl LastKey {
     }
 }
 
-/// A container in which this is expected, and so many members or pairs more, behind its head.
+/// The cell of a container after its head: what is expected in it, and how many members or pairs follow the first.
 #[inline(always)]
 pub(crate) fn strict_cell(expected: Expected, left: u64, at: usize) -> OpenContainer<LastKey>
     ensures { result ≡ strict_cell expected left at }
@@ -86,7 +87,7 @@ pub(crate) fn strict_cell(expected: Expected, left: u64, at: usize) -> OpenConta
 }
 
 impl OpenContainer<LastKey> {
-    /// An item of it is whole, which ends there.
+    /// Ends an item of this container there.
     #[inline(always)]
     pub(crate) fn end_item(&mut self, input: &[u8], order: KeyOrder, at: usize) -> Step<StrictStop>
         requires { at ≤ length input.now }

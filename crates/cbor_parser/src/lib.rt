@@ -1,9 +1,11 @@
-//! The slice parser, in one loop without recursion: it accepts canonical bytes, or any valid item whose parts it gives to a sink.
+//! The slice parser, in one loop without recursion: it accepts canonical bytes, or any valid item,
+//! whose parts it gives to a sink.
 //!
-//! `cbor_strict` and `cbor_reader` call [`canonical_prefix`], which stops at the first byte, head, text or key that no canonical
-//! item has there. `cbor_sinks`, `cbor_reader` and `cbor_diag` call [`Parser::parse_item`], which gives a [`Sink`] the parts of
-//! any valid item. Both report the exact refusal. The loop is compiled for each, by the rules that it is given. Open containers
-//! stand in a stack that grows from 16 to 1,024 entries, so that a shallow item does not pay for the greatest depth.
+//! `cbor_strict` and `cbor_reader` call [`canonical_prefix`], which stops at the first byte, head,
+//! text or key that is not canonical. `cbor_sinks`, `cbor_reader` and `cbor_diag` call
+//! [`Parser::parse_item`], which gives a [`Sink`] the parts of any valid item. Both report the
+//! exact refusal. The loop is compiled for each set of rules. The open containers are on a stack
+//! that grows from 16 to 1,024 entries, so that a shallow item does not pay for the greatest depth.
 #![tactic(auto)]
 
 mod canonical;

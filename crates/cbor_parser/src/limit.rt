@@ -1,7 +1,8 @@
-//! The limit on the bytes of an item: what of an input is within it, and what its end means.
+//! The limit on the bytes of an item: the part of an input within it, and the reason if that part
+//! ends within an item.
 
 ghost use Rattle.std.specs.Prelude.{◌≡◌, take};
-ghost use Rattle.cbor_verdict.specs.Stop.{IsAnswered};
+ghost use Rattle.theory_verdicts.specs.Stop.{IsAnswered};
 
 use cbor_head::{Reason, Refusal};
 
@@ -16,7 +17,7 @@ pub fn within(bytes: &[u8], limit: u64) -> &[u8]
     }
 }
 
-/// Where the input ends by the limit within an item, it is too long.
+/// If the input ends within an item because of the limit, the item is too long and not truncated.
 pub fn truncated_or_too_long(refusal: Refusal, input: &[u8], limit: u64) -> Refusal
     ensures { IsAnswered limit input.now refusal result }
 {

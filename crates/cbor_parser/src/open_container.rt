@@ -1,4 +1,5 @@
-//! What is still to come in an open container, with a length or without, and what is kept of it.
+//! What is still to come in an open container, of definite or indefinite length, and what is stored
+//! for it.
 
 ghost use Rattle.std.specs.Prelude.{◌≡◌, ◌≢◌, Some, None, true, false};
 ghost use Rattle.cbor_parser.specs.Expected.{pairs};
@@ -6,12 +7,12 @@ ghost use Rattle.cbor_parser.specs.inner.OpenContainer.{after, counted, indefini
 
 use crate::container::Expected;
 
-/// An open container. The check of canonical bytes keeps the last key of a map (`LastKey`); the parser
-/// of valid items keeps how many bytes of the input stand behind the head (`usize`), so that the pairs of
-/// a map are found again where two of its keys are the same.
+/// An open container. The check of canonical bytes stores the last key of a map (`LastKey`); the
+/// parser of valid items stores how many bytes of the input follow the head (`usize`), so that the
+/// pairs of a map can be read again if two of its keys are the same.
 #[derive(Clone, Copy)]
 pub(crate) struct OpenContainer<K> {
-    // How many members or pairs follow the one that is expected; none where there is no length.
+    // How many members or pairs follow the one that is expected; 0 for indefinite length.
     pub(crate) left: u64,
     pub(crate) expected: Expected,
     // A break ends it.
@@ -20,7 +21,8 @@ pub(crate) struct OpenContainer<K> {
 }
 
 impl<K: Copy> OpenContainer<K> {
-    /// One in which this is expected, and so many members or pairs more.
+    /// One of definite length: what is expected in it, and how many members or pairs follow the
+    /// first.
     #[inline(always)]
     pub(crate) fn counted(expected: Expected, left: u64, kept: K) -> OpenContainer<K>
         ensures { result ≡ counted expected left kept }
@@ -33,7 +35,7 @@ impl<K: Copy> OpenContainer<K> {
         }
     }
 
-    /// One without a length, in which this is expected.
+    /// One of indefinite length, in which this is expected.
     #[inline(always)]
     pub(crate) fn indefinite(expected: Expected, kept: K) -> OpenContainer<K>
         ensures { result ≡ indefinite expected kept }
@@ -46,7 +48,7 @@ impl<K: Copy> OpenContainer<K> {
         }
     }
 
-    /// Whether a break may stand here.
+    /// Whether a break is allowed here.
     #[inline(always)]
     pub(crate) fn may_break(self) -> bool
         ensures may { self.is_indefinite ≡ true → self.expected ≢ Expected.Value → result ≡ true }
@@ -55,7 +57,7 @@ impl<K: Copy> OpenContainer<K> {
         self.is_indefinite && !matches!(self.expected, Expected::Value)
     }
 
-    /// An item of it is whole: whether another is expected.
+    /// Ends an item of it. Returns whether another is expected.
     #[inline(always)]
     pub(crate) fn advance(&mut self) -> bool
         ensures more { result ≡ true → after self.old ≡ Some self.new }
@@ -71,7 +73,7 @@ impl<K: Copy> OpenContainer<K> {
             Expected::Value => self.expected = Expected::Key,
             Expected::Item => {}
         }
-        // A member or a pair is whole.
+        // A member or a pair is complete.
         if self.left == 0 {
             return self.is_indefinite;
         }

@@ -1,4 +1,4 @@
-//! The item at the start of a slice, by whichever rules, in a stack that grows.
+//! The item at the start of a slice, by any rules, with a stack that grows.
 
 ghost use Rattle.std.specs.Prelude.{◌≡◌, ◌≤◌, ◌∷◌, ◌^◌, [], length, MatchResult};
 ghost use Rattle.cbor_parser.specs.Stack.{open_levels};
@@ -11,7 +11,8 @@ use crate::stack::{FEW, MOST, Stack, lend};
 use crate::walk::{WalkStop, walk};
 use cbor_head::Limits;
 
-/// The bytes behind the item that the input begins with. The outermost container is the input itself.
+/// Parses the item that the input begins with, and returns the bytes after it. The outermost
+/// container is the input itself.
 #[inline(always)]
 pub(crate) fn parse<'a, R: ItemRules<'a>>(
     rules: &mut R,
@@ -30,7 +31,7 @@ pub(crate) fn parse<'a, R: ItemRules<'a>>(
     shallow(rules, input, input, Stack::new(outermost), &none, limits)
 }
 
-// Goes over an item that is not deep.
+// Parses with few cells, which are enough for an item that is not deep.
 #[inline(always)]
 fn shallow<'a, R: ItemRules<'a>>(
     rules: &mut R,
@@ -57,7 +58,7 @@ fn shallow<'a, R: ItemRules<'a>>(
     lend(few, &mut cells);
     match walk(rules, rest, &mut stack, &mut cells, limits) {
         Ok(behind) => Ok(behind),
-        // With a cell left, it is not for want of one.
+        // If a cell is left, a missing cell is not the reason.
         Err(WalkStop::Untaken(rest)) if stack.height >= FEW => {
             deeper(rules, input, rest, stack, &cells, limits)
         }
@@ -65,7 +66,7 @@ fn shallow<'a, R: ItemRules<'a>>(
     }
 }
 
-// Goes on from the place where the cells are too few, with one for each container that may be open.
+// Continues at the position where the cells ran out, with one for each container that may be open.
 #[inline(never)]
 fn deeper<'a, R: ItemRules<'a>>(
     rules: &mut R,

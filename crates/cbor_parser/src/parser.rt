@@ -1,8 +1,8 @@
-//! The valid item at the start of a slice, whose parts go to a sink.
+//! The parser of valid items, which gives their parts to a sink.
 
 ghost use Rattle.std.specs.Prelude.{◌≡◌, ◌≤◌, ◌^◌, ℕ, Bool, List, true, false, [], length, MatchResult};
 ghost use Rattle.cbor_head.specs.Limits.{Bounds};
-ghost use Rattle.cbor_verdict.specs.Levels.{item_expected};
+ghost use Rattle.theory_verdicts.specs.Levels.{item_expected};
 ghost use Rattle.cbor_parser.specs.Stack.{open_levels};
 ghost use Rattle.cbor_parser.specs.ParsedItem.{IsStop};
 ghost use Rattle.cbor_parser.specs.Sink.{IsKnownValid, IsGivenPrefix};
@@ -28,39 +28,39 @@ use cbor_head::{Limits, Reason, Refusal};
 /// The parser of valid items, which gives their parts to a sink.
 #[derive(Drop)]
 pub struct Parser<S> {
-    /// It stays where it is from one item to the next: to hand it on costs as much as a small item.
+    /// Stays in place from one item to the next: moving it costs as much as a small item.
     pub sink: S,
-    // The key that the sink has reported as repeated. Here it is out of the way of what each item returns.
+    // The key that the sink reported as repeated. It is here so that the result of each item stays small.
     repeat: Repeat,
 }
 
-/// Why the sink is given no more.
+/// Why nothing more is given to the sink.
 #[derive(Clone, Copy)]
 pub(crate) enum SinkStop {
-    /// A string in chunks stands there, and is refused. The sink has some chunks of it.
+    /// A string in chunks has begun, and is refused. The sink has some of its chunks.
     Broken,
-    /// Two keys of the map that is to end are the same. It is still open.
+    /// Two keys of the map that should end are the same. The map is still open.
     Repeated,
-    /// Memory is refused.
+    /// Memory was refused.
     Memory,
 }
 
 /// Why there is no valid item.
 #[derive(Clone, Copy)]
 pub(crate) enum ParseError {
-    /// The bytes within the limits call for this refusal, or memory was refused.
+    /// The refusal of the bytes within the limits, or refused memory.
     Refused(Refusal),
     /// A key is the same as an earlier one of its map.
     Repeated {
-        /// So many bytes of the input stand behind the map's head,
+        /// This number of bytes of the input follows the map's head,
         behind: usize,
-        /// and so many pairs before the key.
+        /// and this number of pairs comes before the key.
         pair: usize,
     },
 }
 
 impl<S> Parser<S> {
-    /// Of no item yet.
+    /// A parser that has parsed nothing.
     #[inline(always)]
     pub fn new(sink: S) -> Parser<S>
         ensures { result.sink ≡ sink }
@@ -73,13 +73,13 @@ impl<S> Parser<S> {
     }
 
     /// Gives the sink the parts of the well-formed, valid item that the slice begins with (RFC 8949,
-    /// sections 3 and 5.3.1), within the limits, and answers how many bytes the item has; else the
-    /// refusal that the bytes within the limits call for, or `Memory`, where it was refused before,
-    /// with 0 as place and count. A sink that looks for no equal keys is given only an item that is
-    /// known to be valid, and of why it takes no more nothing is said.
+    /// sections 3 and 5.3.1), within the limits, and returns the item's size in bytes; else the refusal of
+    /// the bytes within the limits, or `Memory`, if memory was refused before that, with 0 as `place` and
+    /// `read`. A sink that does not look for equal keys must be given only items that are known to be
+    /// valid; nothing is claimed about why it stops.
     ///
-    /// It goes over the bytes once, without recursion; where a key is repeated, once more over its map,
-    /// up to that key.
+    /// It reads the bytes once, without recursion; if a key is repeated, it reads its map once more, up to
+    /// that key.
     pub fn parse_item<'a>(&mut self, bytes: &'a [u8], limits: Limits) -> Result<u64, Refusal>
     where
         S: Sink<'a>,
@@ -94,7 +94,7 @@ impl<S> Parser<S> {
         match parse(self, input, outermost, limits) {
             Ok(behind) => Ok((input.len() - behind.len()) as u64),
             Err(ParseError::Refused(refusal)) => Err(refusal),
-            // Only here, where the cells of the walk are off the stack.
+            // Only here the cells of the walk are off the stack.
             Err(ParseError::Repeated { behind, pair }) => match repeated_key(
                 input, behind, pair, limits,
             ) {
@@ -106,7 +106,7 @@ impl<S> Parser<S> {
 }
 
 impl<'a, S: Sink<'a>> ItemRules<'a> for Parser<S> {
-    /// How many bytes of the input stand behind its head.
+    /// How many bytes of the input follow the container's head.
     type Kept = usize;
 
     type Stop = SinkStop;
@@ -148,8 +148,8 @@ impl<'a, S: Sink<'a>> ItemRules<'a> for Parser<S> {
         }
     }
 
-    // The container is ended in the sink first: where two of its keys are the same, its cell still reports
-    // what stands behind its head.
+    // The container is ended in the sink first: if two of its keys are the same, its cell is still there
+    // and has the number of bytes after its head.
     #[inline(always)]
     fn end_container(&mut self, top: &OpenContainer<usize>, _rest: &'a [u8]) -> Option<SinkStop> {
         match self.sink.end(top.expected.is_in_map()) {
@@ -162,8 +162,8 @@ impl<'a, S: Sink<'a>> ItemRules<'a> for Parser<S> {
         }
     }
 
-    // Two keys of an open map that are the same are reported first; else, why the bytes are refused before
-    // which an item is expected, or a string in chunks has begun.
+    // Two equal keys of an open map are reported first. Else the reason is that of the bytes at which an
+    // item is expected, or a string in chunks has begun.
     #[cold]
     #[inline(never)]
     fn error(
@@ -210,7 +210,7 @@ impl<'a, S: Sink<'a>> ItemRules<'a> for Parser<S> {
     }
 }
 
-// Where the key stands that is reported, by the cells of the open maps.
+// The position of the reported key, from the cells of the open maps.
 fn repeated(
     stack: &Stack<OpenContainer<usize>>,
     cells: &[OpenContainer<usize>],

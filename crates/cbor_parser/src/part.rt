@@ -3,7 +3,7 @@
 ghost use Rattle.std.specs.Prelude.{◌≡◌, ◌≤◌, ◌-◌, length};
 ghost use Rattle.cbor_builder.specs.Built.{IsLeaf, IsContainer};
 ghost use Rattle.cbor_head.specs.declared.keys.Keys.TheVariants.{IntegersAndTexts};
-ghost use Rattle.cbor_verdict.specs.PathKinds.{IsFitPrefix};
+ghost use Rattle.theory_verdicts.specs.PathKinds.{IsFitPrefix};
 ghost use Rattle.cbor_parser.specs.Stack.{open_levels};
 ghost use Rattle.cbor_parser.specs.inner.OpenContainer.{Cell};
 ghost use Rattle.cbor_parser.specs.inner.Parser.{IsExpectedIn, IsExpectedFor, Takes, TakesItem};
@@ -19,7 +19,7 @@ use crate::stack::Stack;
 use cbor_head::{Keys, Major, read_argument};
 
 impl<S> Parser<S> {
-    /// Takes what stands at the start, but for a key of another kind if kinds are asked for.
+    /// Takes what is at the start of `rest`, except a key of another kind if kinds are judged.
     #[inline(always)]
     pub(crate) fn take_part<'a>(
         &mut self,
@@ -102,7 +102,7 @@ impl<S> Parser<S> {
         }
     }
 
-    // An item that is its head.
+    // Gives an item that consists of its head.
     #[inline(always)]
     fn give_leaf<'a>(
         &mut self,
@@ -126,7 +126,7 @@ impl<S> Parser<S> {
         }
     }
 
-    // An array or a map of so many members or pairs.
+    // An array or a map of this number of members or pairs.
     #[inline(always)]
     fn take_counted<'a>(
         &mut self,
@@ -160,14 +160,14 @@ impl<S> Parser<S> {
         let Ok(()) = self.sink.begin(stack.top.expected.is_key(), major, 0) else {
             return Part::Stopped(SinkStop::Memory);
         };
-        // There is no cell for it. As it has no keys, no two are the same.
+        // It has no cell. As it has no keys, no two are the same.
         match self.sink.end(expected.is_key()) {
             Ok(None) => Part::Item(rest.len() - behind.len()),
             _ => Part::Stopped(SinkStop::Memory),
         }
     }
 
-    // The head of a container, in which this is to come.
+    // Opens the container with this head.
     #[inline(always)]
     pub(crate) fn open<'a>(
         &mut self,

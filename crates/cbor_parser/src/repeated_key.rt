@@ -1,4 +1,5 @@
-//! The refusal of a key that is the same as an earlier one of its map, where it is reported which it is.
+//! The refusal of a key that is the same as an earlier one of its map, from the key's position in the
+//! map.
 
 ghost use Rattle.std.specs.Prelude.{◌≡◌, ◌≤◌, ℕ, List, length, take, IfSome};
 ghost use Rattle.cbor_head.specs.Complaint.{plain};
@@ -13,8 +14,8 @@ use crate::skip::past_items;
 use crate::stack::Stack;
 use cbor_head::{Limits, Reason, Refusal};
 
-/// The refusal of a key that is the same as an earlier one, by how many bytes of the input stand
-/// behind its map's head, and how many pairs stand before it.
+/// The refusal of a key that is the same as an earlier one. `behind` bytes of the input follow its map's
+/// head, and `pair` pairs come before the key.
 pub(crate) fn repeated_key(
     input: &[u8],
     behind: usize,
@@ -26,7 +27,8 @@ pub(crate) fn repeated_key(
         → IsVerdict limits plain bytes (refused f)) }
 {
     let pairs = &input[input.len() - behind..];
-    // That these end is known; the walk over them could only want memory, and takes none.
+    // These items are known to be complete. The walk over them could only fail for memory, and allocates
+    // nothing.
     let key = past_items(pairs, 2 * pair as u64, limits)?;
     let rest = past_items(key, 1, limits)?;
     let at = (input.len() - key.len()) as u64;
@@ -34,7 +36,7 @@ pub(crate) fn repeated_key(
     Some(Refusal::new(Reason::RepeatedKey, at, end))
 }
 
-/// The cell of the open map around which so many maps are open, in these cells.
+/// The cell of the open map that has this number of open maps around it.
 pub(crate) fn reported_map(
     stack: &Stack<OpenContainer<usize>>,
     cells: &[OpenContainer<usize>],

@@ -1,11 +1,11 @@
-//! What takes the parts of an item.
+//! The sink, which is given the parts of an item.
 
 ghost use Rattle.std.specs.Prelude.{◌≡◌, ◌≤◌, true, false, ℕ, Bool, List, IfOk, IfSome, IsNone, IsUtf8, OnOk, length, take};
 ghost use Rattle.cbor_head.specs.Head.{IsSimple};
 ghost use Rattle.cbor_head.specs.declared.major.Major.TheVariants as majors;
 ghost use Rattle.cbor_builder.specs.Built.{IsLeaf, IsContainer};
-ghost use Rattle.cbor_verdict.specs.Levels.{Level, ParseState};
-ghost use Rattle.cbor_verdict.specs.Reading.{string_value};
+ghost use Rattle.theory_verdicts.specs.Levels.{Level, ParseState};
+ghost use Rattle.theory_verdicts.specs.Reading.{string_value};
 ghost use Rattle.cbor_parser.specs.Sink.{leaf_value, IsItemExpected, Gives, Opens, IsContainerFull, Ends, Repeats, BeginsString, IsChunkExpected, GrowsString, EndsString};
 ghost use Rattle.cbor_parser.specs.Sink.{FindsNoRepeat, FindsRepeat};
 
@@ -13,22 +13,21 @@ use cbor_builder::Repeat;
 use cbor_head::Major;
 use std::alloc::AllocError;
 
-/// What takes the parts of a valid item, as a walk over a slice comes to them. Of each item it is
-/// reported whether it is a key. After a call was refused memory, or a container was to end with two equal
-/// keys, it is given nothing more.
+/// Is given the parts of a valid item as a walk over a slice reads them. `is_key` says whether the item is a
+/// key. After a call was refused memory, or a container could not end because of two equal keys, it is given
+/// nothing more.
 pub trait Sink<'a> {
-    // Where the item stands whose parts it took since the first state.
+    // The position in the item whose parts it was given since the first state.
     ghost stands: { Self → Self → ParseState → Type 0 };
 
-    // Within these containers it took the chunks, with this content so far, of a string, a text or
-    // not.
+    // Within these containers it was given some chunks of a string, a text or not, with this content so far.
     ghost holds: { Self → Self → List Level → Bool → List ℕ → Type 0 };
 
-    // Whether it takes only what is known to be valid, and so looks for no equal keys.
+    // Whether it is given only what is known to be valid, and so looks for no equal keys.
     ghost trusts: { Bool } = { false };
 
-    /// Whether it takes only what is known to be valid. Then no text is looked through for UTF-8 before
-    /// it is given.
+    /// Whether it is given only what is known to be valid. Then texts are not checked for UTF-8 before they
+    /// are given.
     fn is_trusting() -> bool
         ensures { result ≡ trusts };
 
@@ -39,7 +38,7 @@ pub trait Sink<'a> {
         requires expected { IsItemExpected Self stands is_key self.old }
         ensures { OnOk result (Gives Self stands is_key (leaf_value major number) self.old self.new) };
 
-    /// A string in one piece, whose content is the first so many of these bytes.
+    /// A string in one piece, whose content is the first `count` of these bytes.
     fn string(
         &mut self,
         is_key: bool,
@@ -58,7 +57,7 @@ pub trait Sink<'a> {
         requires expected { IsItemExpected Self stands is_key self.old }
         ensures { OnOk result (BeginsString Self stands holds is_key is_text self.old self.new) };
 
-    /// A chunk of it, whose content is the first so many of these bytes.
+    /// A chunk of the string, whose content is the first `count` of these bytes.
     fn chunk(
         &mut self,
         is_key: bool,
@@ -72,7 +71,7 @@ pub trait Sink<'a> {
         ensures { OnOk result (GrowsString Self holds is_key is_text (take count prefix.now)
             self.old self.new) };
 
-    /// The string ends.
+    /// The string in chunks ends.
     fn end_string(&mut self, is_key: bool, is_text: bool) -> Result<(), AllocError>
         requires expected { IsChunkExpected Self holds is_key is_text self.old }
         ensures { OnOk result (EndsString Self stands holds is_key is_text self.old self.new) };
@@ -83,9 +82,9 @@ pub trait Sink<'a> {
         requires expected { IsItemExpected Self stands is_key self.old }
         ensures { OnOk result (Opens Self stands is_key major number self.old self.new) };
 
-    /// The innermost container ends, a map or not. Where two of its keys are equal it does not, and
-    /// the key that is reported is the one that `first_repeat` reports: from the outermost open map in, the
-    /// first that is equal to an earlier one of its map.
+    /// The innermost container ends, a map or not. If two of its keys are equal it does not end, and the
+    /// result is what `first_repeat` returns: from the outermost open map in, the first key that is equal to
+    /// an earlier one of its map.
     fn end(&mut self, is_map: bool) -> Result<Option<Repeat>, AllocError>
         requires full { IsContainerFull Self stands trusts is_map self.old }
         ensures ends { IfOk result (λ reported. IsNone reported
@@ -93,9 +92,9 @@ pub trait Sink<'a> {
         ensures repeats { IfOk result (λ reported. IfSome reported
             (Repeats Self stands trusts is_map self.old)) };
 
-    /// From the outermost open map in, the first key that is equal to an earlier one of its map. None
-    /// where no two that are complete are equal. An item is expected, or a chunk of a string. What was taken
-    /// is given up.
+    /// From the outermost open map in, the first key that is equal to an earlier one of its map. None if no
+    /// two complete keys are equal. It is called where an item or a chunk of a string is expected; after it,
+    /// the parts given so far are of no further use.
     fn first_repeat(&mut self) -> Option<Repeat>
         ensures none { IsNone result → trusts ≡ false → FindsNoRepeat Self stands holds self.old }
         ensures found { IfSome result (FindsRepeat Self stands holds self.old) };

@@ -1,4 +1,4 @@
-//! Over items that are known to be valid, with nothing kept of them.
+//! Skips items that are known to be valid, and stores nothing of them.
 
 ghost use Rattle.std.specs.Prelude.{◌≡◌, ◌≤◌, ◌^◌, ℕ, true, List, length, IfSome};
 ghost use Rattle.cbor_parser.specs.inner.Skip.{anywhere, anything, StandAtStart};
@@ -12,7 +12,7 @@ use cbor_builder::Repeat;
 use cbor_head::{Limits, Major};
 use std::alloc::AllocError;
 
-/// Keeps nothing.
+/// Stores nothing.
 #[derive(Drop)]
 pub(crate) struct Nothing;
 
@@ -81,7 +81,7 @@ impl<'a> Sink<'a> for Nothing {
     }
 }
 
-/// The bytes behind so many items, which are known to be valid.
+/// The bytes after this number of items, which are known to be valid.
 pub(crate) fn past_items(items: &[u8], count: u64, limits: Limits) -> Option<&[u8]>
     requires small { length items.now ≤ 2 ^ 62 }
     requires items { (behind : List ℕ) × StandAtStart limits.depth items.now count behind }

@@ -1,12 +1,12 @@
-//! The open containers of an item, in cells that are lent.
+//! The open containers of an item, in cells that the caller lends.
 
 ghost use Rattle.std.specs.Prelude.{◌≡◌, ◌≤◌, ◌<◌, ◌∷◌, suc, length, take};
 ghost use Rattle.cbor_parser.specs.Stack.{around, open_levels};
 
 use cbor_head::MAX_DEPTH;
 
-/// How many containers are open, and the innermost; those around it lie in the first so many of the
-/// cells that each call is lent. The first is the input itself, with one item expected.
+/// The number of open containers, and the innermost. Those around it are in the first of the cells that
+/// each call borrows. The outermost is the input itself, in which one item is expected.
 #[derive(Clone, Copy)]
 pub struct Stack<L> {
     pub height: usize,
@@ -14,7 +14,7 @@ pub struct Stack<L> {
 }
 
 impl<L: Copy> Stack<L> {
-    /// The input alone.
+    /// A stack with the input alone.
     pub fn new(input: L) -> Stack<L>
         ensures height { result.height ≡ 0 }
         ensures top { result.top ≡ input }
@@ -25,7 +25,7 @@ impl<L: Copy> Stack<L> {
         }
     }
 
-    /// One more container opens.
+    /// Opens one more container.
     #[inline(always)]
     pub fn push(&mut self, cells: &mut [L], level: L)
         requires { self.old.height < length cells.old }
@@ -37,7 +37,7 @@ impl<L: Copy> Stack<L> {
         self.top = level;
     }
 
-    /// The innermost container closes.
+    /// Closes the innermost container.
     #[inline(always)]
     pub fn pop(&mut self, cells: &[L])
         requires open { 0 < self.old.height }
@@ -50,13 +50,13 @@ impl<L: Copy> Stack<L> {
     }
 }
 
-/// Few items are deeper than this. The cells of these and of the deepest items have to fit 64 KiB of stack.
+/// Few items are deeper. The cells of these and of the deepest items have to fit in 64 KiB of stack.
 pub const FEW: usize = 16;
-/// No item is deeper than this.
+/// No item is deeper.
 pub const MOST: usize = MAX_DEPTH as usize;
 
-/// These become the first of more cells. They are the caller's: to hand them out would take their
-/// size once more of the stack.
+/// Copies these cells to the start of a larger array of the caller. Returning the array would need its size
+/// twice on the stack.
 #[inline(always)]
 pub fn lend<L: Copy>(few: &[L], cells: &mut [L])
     requires { length few.now ≤ length cells.old }

@@ -1,9 +1,9 @@
-//! The rules of the deterministic encoding: what is no canonical item is refused, and of each open map the last key is kept.
+//! The rules of the deterministic encoding: what is not canonical is refused, and the last key of each open map is stored.
 
 ghost use Rattle.std.specs.Prelude.{◌≡◌, ◌≤◌, ◌<◌, ◌-◌, ◌∷◌, ◌^◌, ℕ, List, length};
 ghost use Rattle.cbor_head.specs.Limits.{Bounds};
 ghost use Rattle.cbor_head.specs.declared.order.KeyOrder as orders;
-ghost use Rattle.cbor_verdict.specs.Stop.{IsRefused};
+ghost use Rattle.theory_verdicts.specs.Stop.{IsRefused};
 ghost use Rattle.cbor_parser.specs.Stack.{open_levels};
 ghost use Rattle.cbor_parser.specs.inner.Cells.{StrictCell, OutOfOrder};
 ghost use Rattle.cbor_parser.specs.inner.StrictRules.{Expect, HaveItem, Fill, Pass, LackCells, Stop};
@@ -19,23 +19,23 @@ use crate::open_container::OpenContainer;
 use crate::stack::Stack;
 use crate::walk::WalkStop;
 use cbor_head::{KeyOrder, Limits, Reason, Refusal};
-use cbor_model::part;
+use theory_values::part;
 
 /// The rules of the deterministic encoding with this order of keys, for an item at the start of this input.
 #[derive(Clone, Copy)]
 pub(crate) struct StrictRules<'a> {
     input: &'a [u8],
     order: KeyOrder,
-    // Of what stands where an item is expected. Here it is out of the way of what each item returns.
+    // The refusal of the next item, if the walk stops for it. It is here so that the result of each item stays small.
     refusal: Refusal,
 }
 
 /// Why there is no canonical item.
 #[derive(Clone, Copy)]
 pub(crate) enum StrictStop {
-    /// What stands where an item is expected is refused.
+    /// The next item is refused.
     Refused,
-    /// The key that has ended does not come behind the last one.
+    /// The key that has ended does not come after the last one.
     OutOfOrder,
 }
 
@@ -123,14 +123,14 @@ impl<'a> ItemRules<'a> for StrictRules<'a> {
             WalkStop::Stopped(rest, StrictStop::OutOfOrder) => {
                 key_out_of_order(input, &stack.top.kept, input.len() - rest.len())
             }
-            // With a cell left, each item is taken or refused.
+            // If a cell is left, each item is taken or refused.
             WalkStop::Untaken(_) => unreachable!(),
         }
     }
 }
 
 impl<'a> StrictRules<'a> {
-    /// For the item at the start of this input.
+    /// The rules for the item at the start of this input.
     #[inline(always)]
     pub(crate) fn new(input: &'a [u8], order: KeyOrder) -> StrictRules<'a>
         ensures input { result.input.now ≡ input.now }
@@ -143,7 +143,7 @@ impl<'a> StrictRules<'a> {
         }
     }
 
-    // Takes any item, slower.
+    // Takes any item that the fast functions do not recognise.
     #[inline(always)]
     fn take_any(
         &mut self,
@@ -186,8 +186,7 @@ impl<'a> StrictRules<'a> {
     }
 }
 
-// The refusal of the key that is expected and ends there, which does not come behind the last one: where
-// it is the same, it is repeated.
+// The refusal of the expected key, which ends there and does not come after the last one. If it is the same, it is repeated.
 fn key_out_of_order(input: &[u8], keys: &LastKey, at: usize) -> Refusal
     ensures { (order : orders.KeyOrder) (limits : Bounds)
         → OutOfOrder order limits input.now keys.now at

@@ -1,4 +1,4 @@
-//! The walk over an item, by whichever rules.
+//! The walk over an item, by any rules.
 
 ghost use Rattle.std.specs.Prelude.{◌≡◌, ◌≤◌, ℕ, List, length, MatchResult};
 ghost use Rattle.cbor_head.specs.Limits.{Bounds};
@@ -11,27 +11,27 @@ use crate::open_container::OpenContainer;
 use crate::stack::Stack;
 use cbor_head::Limits;
 
-/// Where a walk stops that did not come to the item's end.
+/// Why a walk stops before the item's end.
 #[derive(Clone, Copy)]
 pub(crate) enum WalkStop<'a, E> {
-    /// An item is expected before these bytes, and what stands there may not, or there is no cell for it.
+    /// An item is expected before these bytes. What begins there is not allowed, or there is no cell for it.
     Untaken(&'a [u8]),
-    /// The rules stop it there.
+    /// The rules stopped it before these bytes.
     Stopped(&'a [u8], E),
 }
 
-/// What is expected behind a container that is whole.
+/// What is expected after a container that is complete.
 #[derive(Clone, Copy)]
 pub(crate) enum CloseResult<E> {
     /// Another item.
     Item,
-    /// Nothing: the input's item is whole.
+    /// Nothing: the input's item is complete.
     Done,
-    /// Nothing: the rules stop the walk.
+    /// Nothing: the rules stopped the walk.
     Stopped(E),
 }
 
-/// Goes over the item, from where another is expected to its end; the bytes behind it.
+/// Walks from where an item is expected to the end of the input's item. Returns the bytes after it.
 pub(crate) fn walk<'a, R: ItemRules<'a>>(
     rules: &mut R,
     start: &'a [u8],
@@ -80,7 +80,7 @@ pub(crate) fn walk<'a, R: ItemRules<'a>>(
     }
 }
 
-// The innermost container is whole, and perhaps those around it.
+// Closes the innermost container, which is complete, and those around it that are complete with it.
 #[inline(always)]
 fn close<'a, R: ItemRules<'a>>(
     rules: &mut R,
@@ -111,7 +111,7 @@ fn close<'a, R: ItemRules<'a>>(
     CloseResult::Done
 }
 
-// Closes the innermost container at a break. It is a call, so that what ends a container stands in the loop once.
+// Closes the innermost container at a break. Not inlined, so that the code that ends a container is in the loop once.
 #[inline(never)]
 fn close_at_break<'a, R: ItemRules<'a>>(
     rules: &mut R,

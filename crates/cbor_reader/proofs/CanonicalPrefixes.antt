@@ -1,13 +1,11 @@
--- What the look for canonical bytes reports of a valid item.
-use Rattle.std.proofs.Common.{ℕ, ◌≤◌, ◌≢◌, List, length, take, sym, ap, ◌∙◌, arith, Result, Ok, Err, IfOk, IfErr, MatchResult, length-append}
+-- What a check for canonical bytes returns for a valid item.
+use Rattle.std.proofs.Common.{ℕ, ◌≤◌, ◌≢◌, List, length, take, refl, sym, ap, ◌∙◌, arith, length-append}
 use Rattle.std.proofs.Math.Seq.{take-append_seam}
-use Rattle.cbor_head.specs.Prelude.{canonical, plain, strict, Bounds, value_of}
-use Rattle.cbor_head.specs.declared.{order.KeyOrder.KeyOrder, reason.Reason.TheVariants.Read, reason.Reason.TheVariants.Memory, reason.Refusal.Refusal}
-use Rattle.cbor_model.{proofs.PlainVerdicts.accepted_plainly, specs.StrictReasons.IsStrictReason}
-use Rattle.cbor_verdict.proofs.CanonicalPrefixes.{strict_bytes, strict_value, prefix_read, prefix_refused}
-use Rattle.cbor_verdict.specs.Readers.{IsRead, IsCanonicalPrefix, HasNoCanonicalPrefix}
-use Rattle.cbor_verdict.proofs.Reasons.{never-read, never-memory}
-use Rattle.cbor_parser.specs.NotCanonical.{IsNotCanonical}
+use Rattle.cbor_head.specs.Prelude.{canonical, strict, Bounds, value_of}
+use Rattle.cbor_head.specs.declared.reason.Reason.TheVariants as reasons
+use Rattle.cbor_head.specs.declared.{order.KeyOrder.KeyOrder, reason.Reason.Reason}
+use Rattle.theory_values.{proofs.PlainVerdicts.accepted_plainly, specs.StrictReasons.IsStrictReason}
+use Rattle.theory_verdicts.{proofs.CanonicalPrefixes.strict_bytes, proofs.CanonicalPrefixes.strict_value, specs.Readers.IsRead, specs.Readers.IsCanonicalPrefix}
 use Rattle.cbor_sinks.specs.BuiltPrefix.{IsBuiltPrefix}
 
 module _ (limits : Bounds) (o : KeyOrder) (input : List ℕ) where
@@ -24,24 +22,9 @@ module _ (limits : Bounds) (o : KeyOrder) (input : List ℕ) where
   pub prefix_within : (count : ℕ) → IsCanonicalPrefix limits o input count → count ≤ length input
   prefix_within count h = omega (arith, h.size, ap length h.begins.begins, length-append (canonical o h.value) h.begins.rest)
 
-  -- ---- what the look answers
-
-  abbrev IsLook : Result ℕ Refusal → Type 0
-  IsLook r = MatchResult r (λ count. IsRead limits (strict o) input count) (IsNotCanonical limits o input)
-
-  pub looks_built : (r : Result ℕ Refusal) → IsLook r → IfOk r (λ count. IsBuiltPrefix limits o input (take count input) count)
-  looks_built (Ok count) h = canonical_built count h
-  looks_built (Err f) h = tt
-
-  pub looks_within : (r : Result ℕ Refusal) → IsLook r → IfOk r (λ count. count ≤ length input)
-  looks_within (Ok count) h = prefix_within count (prefix_read limits o input count h)
-  looks_within (Err f) h = tt
-
-  -- a verdict reports neither that a reader failed nor that memory was refused
-  pub reports_reason : (r : Result ℕ Refusal) → IsLook r → IfErr r (λ f. ¬ IsStrictReason f.reason → (f.reason ≢ Read) × (f.reason ≢ Memory))
-  reports_reason (Ok count) h = tt
-  reports_reason (Err f) h = λ apart. (let v = h.plainly apart in (never-read limits plain input f v, never-memory limits plain input f v))
-
-  pub finds_none : (r : Result ℕ Refusal) → IsLook r → IfErr r (λ f. HasNoCanonicalPrefix limits o input)
-  finds_none (Ok count) h = tt
-  finds_none (Err f) h = prefix_refused limits o input _ h.strictly
+-- what is refused for another reason is refused whatever the form
+pub not-strict : (r : Reason) → r ≢ reasons.NotShortest → r ≢ reasons.Indefinite → r ≢ reasons.KeyOrder → ¬ IsStrictReason r
+not-strict reasons.NotShortest no-head no-length no-order = λ _. no-head refl
+not-strict reasons.Indefinite no-head no-length no-order = λ _. no-length refl
+not-strict reasons.KeyOrder no-head no-length no-order = λ _. no-order refl
+not-strict _ no-head no-length no-order = λ h. h

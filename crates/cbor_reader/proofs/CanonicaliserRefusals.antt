@@ -1,8 +1,8 @@
--- What a refusal of the canonicaliser can say: where it stands, and its reason.
+-- What a refusal of the canonicaliser can be: its offset, and its reason.
 use Rattle.std.proofs.Common.{ℕ, List, length, ap, arith, inl, inr}
 use Rattle.cbor_head.specs.{Prelude.Bounds, Prelude.plain, declared.order.KeyOrder.KeyOrder, declared.reason.Refusal.Refusal}
-use Rattle.cbor_verdict.specs.Readers.{of_verdict, of_reader, of_memory}
-use Rattle.cbor_verdict.{specs.Refusals.StandsWithin, proofs.Accepted.item_within_limit, proofs.Reasons.verdict-reason}
+use Rattle.theory_verdicts.specs.Readers.{of_verdict, of_reader, of_memory}
+use Rattle.theory_verdicts.{specs.Refusals.StandsWithin, proofs.Accepted.item_within_limit, proofs.Reasons.verdict-reason}
 use Rattle.cbor_reader.specs.Canonicalise.{IsRefusal, of_item, canonical_too_long, IsCanonicaliserReason}
 use Rattle.cbor_reader.{specs.WholeItem.unread, specs.WholeItem.trailing, proofs.Headline.valid_item, proofs.Readings.within_at, proofs.Readings.unread_within}
 

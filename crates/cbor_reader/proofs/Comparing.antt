@@ -3,9 +3,9 @@ use Rattle.std.proofs.Common.{ℕ, ◌^◌, ◌≡◌, ◌≤◌, ◌↔◌, Boo
 use Rattle.std.specs.Bool.{Decides}
 use Rattle.cbor_head.specs.Prelude.{canonical, Bounds, Spelling, IsItem, value_of, Same}
 use Rattle.cbor_head.specs.declared.order.KeyOrder.{KeyOrder, TheVariants.Bytewise}
-use Rattle.cbor_model.proofs.Sameness.{Same-refl, Same-sym, Same-trans}
-use Rattle.cbor_model.proofs.Sound.{IsSound as IsSoundValue, sound}
-use Rattle.cbor_model.proofs.Keys.{same_exactly}
+use Rattle.theory_values.proofs.Sameness.{Same-refl, Same-sym, Same-trans}
+use Rattle.theory_values.proofs.Sound.{IsSound as IsSoundValue, sound}
+use Rattle.theory_values.proofs.Keys.{same_exactly}
 use Rattle.cbor_reader.proofs.Headline.{again, answers_exactly, equal_exactly, valid_item_value}
 use Rattle.cbor_reader.specs.{Canonicalise.IsCanonicalOf, Comparing.MeanTheSame, Headline.IsValidItem, WholeItem.IsWholeItem}
 use Rattle.cbor_reader.proofs.WholeItems.{becomes, only_item}

@@ -3,9 +3,9 @@ use Rattle.std.proofs.Common.{ℕ, ◌≡◌, ◌<◌, List, [], ◌++◌, lengt
 use Rattle.std.proofs.lemmas.List.{take-append-le}
 use Rattle.cbor_head.specs.Prelude.{Bounds, Spelling, IsItem, Rules, IsComplaint, refused, refusal, IsFormError, IsVerdict}
 use Rattle.cbor_head.specs.declared.reason.{Reason.TheVariants.Truncated, Reason.TheVariants.TooLong, Refusal.Refusal}
-use Rattle.cbor_verdict.specs.Judged.{Never}
+use Rattle.theory_verdicts.specs.Judged.{Never}
 
--- where the first n bytes of the input are p, and the item goes on behind p
+-- the first n bytes of the input are p, and the item continues after p
 pub cut : (limits : Bounds) (r : Rules) (input : List ℕ) (s : Spelling) (p q : List ℕ) (f : Refusal) → IsItem limits.depth s (p ++ q) → Never (IsComplaint limits r s) → 0 < length q → take limits.bytes input ≡ p
     → IsFormError limits p [] f → IsVerdict limits r input (refused f)
 cut limits r input s p q f i none l e b = record {

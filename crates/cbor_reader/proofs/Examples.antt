@@ -1,4 +1,4 @@
--- Examples of answers, and why the laws say no more.
+-- Examples of results, and why the laws say no more.
 use Rattle.std.proofs.Common.{ℕ, ◌≡◌, ◌<◌, ◌≤◌, inl, inr, List, [], ◌∷◌, length, refl, sym, ap, arith}
 use Rattle.std.specs.{Char.encode_utf8, Str.chars, Str.is_utf8, Str.Lossy.utf8_valid_len}
 use Rattle.std.proofs.lemmas.Str.{is_utf8-from_IsUtf8, IsUtf8-from_is_utf8}
@@ -7,8 +7,8 @@ use Rattle.cbor_head.specs.Value as value
 use Rattle.cbor_head.specs.declared.reason.Reason.TheVariants.{Truncated, TooLong, InvalidText}
 use Rattle.cbor_head.specs.declared.order.KeyOrder.{KeyOrder, TheVariants.Bytewise, TheVariants.LengthFirst}
 use Rattle.cbor_head.specs.declared.{reason.Refusal.Refusal, width.Width.TheVariants.Direct, width.Width.TheVariants.One}
-use Rattle.cbor_model.proofs.{Examples.chunk, Examples.pairs, KindsUnasked.any_complaint, OneVerdict.one_verdict}
-use Rattle.cbor_verdict.specs.Readers.{BeginsWithCanonical}
+use Rattle.theory_values.proofs.{Examples.chunk, Examples.pairs, KindsUnasked.any_complaint, OneVerdict.one_verdict}
+use Rattle.theory_verdicts.specs.Readers.{BeginsWithCanonical}
 use Rattle.cbor_tree_reader.specs.Size.{size}
 use Rattle.cbor_reader.{specs.Canonicalise.IsCanonicalOf, proofs.CutShort.too_long, proofs.OneAnswer.one_canonical, proofs.Headline.answers_exactly}
 
@@ -23,7 +23,7 @@ item_becomes o s input out h l e m none f k =
 zero_becomes : IsCanonicalOf (bounds 256 1048576) Bytewise (0x18 ∷ 0x00 ∷ []) (0x00 ∷ [])
 zero_becomes = item_becomes Bytewise (unsigned One 0) _ _ (omega arith) (omega arith) refl (omega arith) (λ c x. cc x.0) refl (omega arith)
 
--- it isn't its own answer, though the plain verdict accepts it whole
+-- it is not its own result, though the plain verdict accepts it whole
 not_its_own : IsCanonicalOf (bounds 256 1048576) Bytewise (0x18 ∷ 0x00 ∷ []) (0x18 ∷ 0x00 ∷ []) → ⊥
 not_its_own a =
     let e = one_canonical (bounds 256 1048576) Bytewise (0x18 ∷ 0x00 ∷ []) (0x18 ∷ 0x00 ∷ []) (0x00 ∷ []) a zero_becomes in
@@ -46,7 +46,7 @@ becomes_bytewise = item_becomes Bytewise by_length _ _ (search arith) (omega ari
 stays_bytewise : IsCanonicalOf (bounds 256 1048576) Bytewise (0xa2 ∷ 0x18 ∷ 0x64 ∷ 0x00 ∷ 0x20 ∷ 0x00 ∷ []) (0xa2 ∷ 0x18 ∷ 0x64 ∷ 0x00 ∷ 0x20 ∷ 0x00 ∷ [])
 stays_bytewise = item_becomes Bytewise bytewise _ _ (search arith) (omega arith) refl (omega arith) (λ c x. grind arith) refl (omega arith)
 
--- their answers are equal and their values not, but the same
+-- their results are equal, and their values are the same but not equal
 other_value : value_of by_length ≡ value_of bytewise → ⊥
 other_value e = cc e
 
@@ -63,7 +63,8 @@ split_item : ((c : Complaint) → Complains plain 0 split_character c → ⊥) �
 unfolding utf8_valid_len is_utf8 chars encode_utf8
 split_item f = f (complaint 3 2 InvalidText) (inr (inl (inr (refl, (λ u. cc (is_utf8-from_IsUtf8 (0xc3 ∷ []) u)), refl))))
 
--- ---- 100, of which the first byte comes: as many as the limit, that is too long and not truncated
+-- ---- 100, cut after its first byte: if the byte limit ends there too, it is too long and not
+-- truncated
 
 cut_at_limit : IsVerdict (bounds 256 1) plain (0x18 ∷ 0x64 ∷ []) (refused (refusal Truncated 1 1)) → ⊥
 cut_at_limit v =
@@ -74,7 +75,7 @@ cut_at_limit v =
     let g : Truncated ≡ TooLong = ap (λ (f : Refusal). f.reason) f in
     cc g
 
--- ---- {1: 2} with a byte behind it
+-- ---- {1: 2} with a byte after it
 
 begins_a_map : BeginsWithCanonical (bounds 256 1048576) Bytewise (0xa1 ∷ 0x01 ∷ 0x02 ∷ 0x00 ∷ []) (value.map (value.entry (value.unsigned 1) (value.unsigned 2) value.no_entries))
 begins_a_map = record { range = search arith; valid = search arith; keys = λ e. (tt, tt, tt); within = omega arith; fits = omega arith; rest = 0x00 ∷ []; begins = refl }

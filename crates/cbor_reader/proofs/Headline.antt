@@ -1,14 +1,14 @@
--- The headline's clauses on what `canonicalise` answers, from what the verdict is.
+-- The headline's clauses on what `canonicalise` returns, from what the verdict is.
 use Rattle.std.proofs.Common.{ℕ, ◌^◌, ◌≡◌, ◌≢◌, ◌≤◌, ◌↔◌, List, [], ◌++◌, length, take, refl, sym, ap, ◌∙◌, arith, subst, inl, inr, append-nil, take_all}
 use Rattle.std.proofs.lemmas.Bool.{cases_lt}
 use Rattle.cbor_head.specs.Prelude.{Bounds, Same, IsInRange, IsValid, HasBasicKeys, Spelling, spell, value_of, depth, IsItem, canonical, Rules, plain, accepted, IsVerdict}
 use Rattle.cbor_head.specs.Value as value
 use Rattle.cbor_head.specs.declared.{keys.Keys.TheVariants.IntegersAndTexts, order.KeyOrder.KeyOrder, reason.Reason.TheVariants.Memory, reason.Refusal.Refusal}
-use Rattle.cbor_model.proofs.BasicKeys.{has_basic_keys, none_of_kinds, basic_same}
-use Rattle.cbor_model.proofs.Sound.{IsSound as IsSoundValue, sound}
-use Rattle.cbor_model.proofs.{Accepted.accepts_exactly, ReadLaws.one_list, Depth.depth-value_of, Keys.same_exactly}
-use Rattle.cbor_model.proofs.{Theorems.canonical_spelled, Theorems.canonical_again, PlainRules.none_plainly}
-use Rattle.cbor_verdict.proofs.{Accepted.item_within_limit, Valid.in_range_of, Valid.valid_of}
+use Rattle.theory_values.proofs.BasicKeys.{has_basic_keys, none_of_kinds, basic_same}
+use Rattle.theory_values.proofs.Sound.{IsSound as IsSoundValue, sound}
+use Rattle.theory_values.proofs.{Accepted.accepts_exactly, ReadLaws.one_list, Depth.depth-value_of, Keys.same_exactly}
+use Rattle.theory_values.proofs.{Theorems.canonical_spelled, Theorems.canonical_again, PlainRules.none_plainly}
+use Rattle.theory_verdicts.proofs.{Accepted.item_within_limit, Valid.in_range_of, Valid.valid_of}
 use Rattle.cbor_reader.specs.Headline.{IsValidItem, IsAnsweredBy, HasNoAnswer}
 use Rattle.cbor_reader.{specs.Canonicalise.IsCanonicalOf, specs.Canonicalise.IsRefusal, proofs.OneAnswer.only_memory}
 
@@ -52,7 +52,7 @@ valid_item_value limits input s m i =
     let v = valid_item_accepted limits input s i in
     (prefix_range limits plain input s m v, prefix_valid limits input s v, prefix_depth limits plain input s v)
 
--- ---- the answer
+-- ---- the result
 
 pub answers_exactly : (limits : Bounds) (o : KeyOrder) (input out : List ℕ)
     → IsCanonicalOf limits o input out ↔ IsAnsweredBy limits o input out
@@ -68,7 +68,7 @@ accepts_valid_items limits o input = (
   (λ (s, i, l). (canonical o (value_of s), (answers_exactly limits o input (canonical o (value_of s))).1 (s, i, refl, l))),
 )
 
--- a valid item is refused for its canonical bytes alone, or for memory
+-- a valid item is refused only because its canonical bytes are too long, or for memory
 pub refused_too_long : (limits : Bounds) (o : KeyOrder) (input : List ℕ) (f : Refusal)
     → IsRefusal limits o input f → f.reason ≢ Memory → HasNoAnswer limits o input
 refused_too_long limits o input f r h s i =
@@ -98,7 +98,7 @@ equal_exactly limits others o x y a b s t f g h i k j =
     let same = same_exactly o (value_of s) (value_of t) (answered_value limits o x a s f h i) (answered_value others o y b t g k j) in
     ((λ q. same.1 (sym left ∙ q ∙ right)), (λ q. left ∙ same.0 q ∙ sym right))
 
--- an answer is its own answer
+-- a result is its own result
 pub again : (limits : Bounds) (o : KeyOrder) (input out : List ℕ) → limits.bytes ≤ 2 ^ 62 → IsCanonicalOf limits o input out → IsCanonicalOf limits o out out
 again limits o input out m a =
     let v = value_of a.item in

@@ -14,3 +14,4 @@ pub mod ValidTexts
 mod ViewPrefixes
 mod ViewGiven
 pub mod WholeItems
+mod WrittenParts

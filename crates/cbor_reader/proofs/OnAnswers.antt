@@ -1,4 +1,4 @@
--- The headline's clauses on a result, where it is known to be the answer.
+-- The headline's clauses on a result, if it is known to be right.
 use Rattle.std.proofs.Common.{ℕ, ◌^◌, ◌≢◌, ◌≤◌, List, Result, Ok, Err}
 use Rattle.std.specs.Result.{MatchResult, IfOk, IfErr}
 use Rattle.cbor_head.specs.{Prelude.Bounds, declared.order.KeyOrder.KeyOrder, declared.reason.Reason.TheVariants.Memory, declared.reason.Refusal.Refusal}

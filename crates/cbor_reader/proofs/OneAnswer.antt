@@ -1,9 +1,9 @@
--- An input has one answer but for want of memory.
+-- An input has one result unless memory is refused.
 use Rattle.std.proofs.Common.{ℕ, ◌≡◌, ◌≢◌, List, length, sym, ap, ◌∙◌, arith}
 use Rattle.cbor_head.specs.Prelude.{Bounds, Spelling, spell, value_of, canonical, Rules, plain, IsVerdict, accepted, refusal}
 use Rattle.cbor_head.specs.declared.{order.KeyOrder.KeyOrder, reason.Reason.TheVariants.Trailing, reason.Reason.TheVariants.Memory, reason.Refusal.Refusal}
-use Rattle.cbor_verdict.proofs.Accepted.{one_item, one_refusal, not_both, verdict_only}
-use Rattle.cbor_verdict.specs.Readers.{of_verdict, of_reader, of_memory}
+use Rattle.theory_verdicts.proofs.Accepted.{one_item, one_refusal, not_both, verdict_only}
+use Rattle.theory_verdicts.specs.Readers.{of_verdict, of_reader, of_memory}
 use Rattle.cbor_reader.specs.Canonicalise.{IsCanonicalOf, IsRefusal, of_item, canonical_too_long}
 use Rattle.cbor_reader.specs.WholeItem.{IsItemRefusal, unread, trailing}
 
@@ -18,7 +18,7 @@ module _ (limits : Bounds) (r : Rules) (input : List ℕ) where
       let same : n ≡ m = s.size ∙ ap (λ (s : Spelling). length (spell s)) (one_item limits r input s.item t.item s.verdict t.verdict) ∙ sym t.size in
       e ∙ ap (λ (k : ℕ). refusal Trailing k k) same ∙ sym is
 
-  -- what is accepted and all of the input is refused for memory alone
+  -- an input that is one accepted item is refused only for memory
   pub memory_alone : (s : Spelling) (f : Refusal) → IsVerdict limits r input (accepted s) → spell s ≡ input → IsItemRefusal limits r input f → f.reason ≡ Memory
   memory_alone s f v all (unread (of_verdict w) g) = absurd (not_both limits r input s f v w)
   memory_alone s f v all (unread (of_reader is w) g) = absurd (g (ap (λ (x : Refusal). x.reason) is))

@@ -1,10 +1,10 @@
--- Which inputs are their own answers: those that the strict verdict accepts whole.
+-- Which inputs are their own results: those that the strict verdict accepts whole.
 use Rattle.std.proofs.Common.{ℕ, ◌≡◌, List, length, sym, ◌∙◌, [], subst, ◌^◌, ◌≤◌, ◌↔◌, append-nil}
 use Rattle.cbor_head.specs.Prelude.{Bounds, Spelling, spell, value_of, canonical, plain, strict, accepted, IsVerdict}
 use Rattle.cbor_head.specs.declared.order.KeyOrder.{KeyOrder}
-use Rattle.cbor_model.proofs.PlainVerdicts.{accepted_plainly}
-use Rattle.cbor_verdict.proofs.CanonicalPrefixes.{strict_bytes, strict_value, strict_accepts, one_prefix}
-use Rattle.cbor_verdict.specs.Readers.{BeginsWithCanonical}
+use Rattle.theory_values.proofs.PlainVerdicts.{accepted_plainly}
+use Rattle.theory_verdicts.proofs.CanonicalPrefixes.{strict_bytes, strict_value, strict_accepts, one_prefix}
+use Rattle.theory_verdicts.specs.Readers.{BeginsWithCanonical}
 use Rattle.cbor_reader.proofs.Headline.{prefix_range, prefix_valid, prefix_keys, prefix_depth, valid_item, answers_exactly}
 use Rattle.cbor_reader.specs.Canonicalise.{IsCanonicalOf}
 
@@ -33,6 +33,6 @@ module _ (limits : Bounds) (o : KeyOrder) (input : List ℕ) where
       let i = valid_item limits input s (accepted_plainly limits o input s v) e in
       (answers_exactly limits o input input).1 (s, i, sym e ∙ strict_bytes limits o input s v, i.fits)
 
-  -- it is its own answer exactly where the strict verdict accepts it whole
+  -- it is its own result exactly if the strict verdict accepts it whole
   pub own_answers_exactly : limits.bytes ≤ 2 ^ 62 → IsCanonicalOf limits o input input ↔ ((s : Spelling) × IsVerdict limits (strict o) input (accepted s) × (spell s ≡ input))
   own_answers_exactly m = (own_answer_accepted m, (λ (s, v, e). accepted_own_answer s v e))

@@ -3,9 +3,9 @@ use Rattle.std.proofs.Common.{ℕ, ◌≡◌, ◌≢◌, ◌≤◌, ◌⊎◌, L
 use Rattle.cbor_head.specs.Prelude.{Rules, Bounds, Spelling, spell, value_of, Value, accepted, refused, refusal, IsVerdict}
 use Rattle.cbor_head.specs.declared.reason.Reason.TheVariants.{Read, Memory, Truncated}
 use Rattle.cbor_head.specs.declared.{keys.Keys.TheVariants.IntegersAndTexts, reason.Reason.Reason, reason.Refusal.Refusal}
-use Rattle.cbor_verdict.specs.Readers.{IsRead, IsReadAs, IsUnread, of_verdict, of_reader, of_memory}
-use Rattle.cbor_verdict.proofs.Accepted.{one_item, one_refusal, not_both, verdict_only}
-use Rattle.cbor_verdict.{specs.Refusals.StandsWithin, proofs.Within.longest_within, proofs.Within.verdict_within}
+use Rattle.theory_verdicts.specs.Readers.{IsRead, IsReadAs, IsUnread, of_verdict, of_reader, of_memory}
+use Rattle.theory_verdicts.proofs.Accepted.{one_item, one_refusal, not_both, verdict_only}
+use Rattle.theory_verdicts.{specs.Refusals.StandsWithin, proofs.Within.longest_within, proofs.Within.verdict_within}
 use Rattle.cbor_reader.proofs.Sequences.{is_accepted, verdict_of, splits}
 use Rattle.cbor_reader.specs.Sequence.{IsAccepted}
 
@@ -23,7 +23,7 @@ module _ (limits : Bounds) (r : Rules) (input : List ℕ) where
   pub one_unread : (f g : Refusal) → IsUnread limits r input f → IsUnread limits r input g → f.reason ≢ Read → f.reason ≢ Memory → g.reason ≢ Read → g.reason ≢ Memory → f ≡ g
   one_unread f g u v a b c d = one_refusal limits r input f g (verdict_only limits r input f u a b) (verdict_only limits r input g v c d)
 
-  -- the verdict, or what came in between
+  -- the verdict, or a failure of the reader or of memory
   reported_by : (f : Refusal) → IsUnread limits r input f → IsVerdict limits r input (refused f) ⊎ (((f.reason ≡ Read) ⊎ (f.reason ≡ Memory)) × StandsWithin limits.bytes input f)
   reported_by f (of_verdict w) = inl w
   reported_by f (of_reader is w) =

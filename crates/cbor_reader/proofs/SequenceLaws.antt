@@ -4,10 +4,10 @@ use Rattle.std.{specs.Option.IfSome, specs.List.AllByRecursion, proofs.lemmas.Li
 use Rattle.cbor_head.specs.Prelude.{Spelling, simple, spell, value_of, IsItem, canonical, Rules, plain, strict, Bounds, accepted, refused, refusal, IsVerdict}
 use Rattle.cbor_head.specs.declared.reason.Reason.TheVariants.{Read, Memory, Truncated, TooLong}
 use Rattle.cbor_head.specs.declared.{order.KeyOrder.KeyOrder, reason.Refusal.Refusal}
-use Rattle.cbor_model.proofs.ReadLaws.{length_spell, unique}
-use Rattle.cbor_verdict.specs.Readers.{BeginsWithCanonical, IsUnread, of_verdict, of_reader, of_memory}
-use Rattle.cbor_verdict.proofs.CanonicalPrefixes.{strict_bytes, strict_value, strict_accepts}
-use Rattle.cbor_verdict.proofs.Accepted.{one_refusal, verdict_only}
+use Rattle.theory_values.proofs.ReadLaws.{length_spell, unique}
+use Rattle.theory_verdicts.specs.Readers.{BeginsWithCanonical, IsUnread, of_verdict, of_reader, of_memory}
+use Rattle.theory_verdicts.proofs.CanonicalPrefixes.{strict_bytes, strict_value, strict_accepts}
+use Rattle.theory_verdicts.proofs.Accepted.{one_refusal, verdict_only}
 use Rattle.cbor_reader.specs.Sequence.{sequence_bytes, IsAccepted, StartsWithItems, IsLongestSequence, EndsBefore, IsAtEnd, IsRefused, Given, given_by, items_of, AreGivenBy, HasGiven}
 use Rattle.cbor_reader.proofs.Sequences.{simple_is_fine, is_accepted, verdict_of, not_refused, empty_is_truncated, verdict_before, splits}
 use Rattle.cbor_reader.{specs.Headline.IsValidItem, proofs.CutShort.cut}
@@ -53,7 +53,7 @@ one_more r (g ∷ gs) s h = (h.0, one_more r gs s h.1)
 -- ---- the longest
 
 module _ (limits : Bounds) (r : Rules) where
-  -- behind it no item is accepted
+  -- after it no item is accepted
   beginning : (items others : List Spelling) (rest behind : List ℕ) (f : Refusal) → AllByRecursion (IsAccepted limits r) items → AllByRecursion (IsAccepted limits r) others
       → sequence_bytes items ++ rest ≡ sequence_bytes others ++ behind → IsVerdict limits r rest (refused f) → (more : List Spelling) × (others ++ more ≡ items)
   beginning items [] rest behind f h k e w = (items, refl)

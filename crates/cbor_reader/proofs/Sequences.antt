@@ -4,10 +4,10 @@ use Rattle.std.{specs.Option.IfSome, specs.List.AllByRecursion, proofs.Math.Seq.
 use Rattle.cbor_head.specs.Prelude.{Value, Spelling, simple, spell, value_of, Rules, Complaint, IsComplaint, Bounds, accepted, refused, refusal, IsFormError, IsVerdict}
 use Rattle.cbor_head.specs.declared.reason.Reason.TheVariants.{Read, Memory, Truncated, TooLong}
 use Rattle.cbor_head.specs.declared.reason.Refusal.{Refusal}
-use Rattle.cbor_model.proofs.{Accepted.accepts_exactly, KeyKinds.of_kind, OneFirst.after_head, ReadLaws.length_spell}
-use Rattle.cbor_verdict.specs.Readers.{IsRead, IsReadAs, IsUnread, Loses}
-use Rattle.cbor_verdict.proofs.Accepted.{item_within_limit, prefix_accepted, one_refusal, not_both, verdict_only}
-use Rattle.cbor_verdict.specs.Refusals.{IsReaderReason}
+use Rattle.theory_values.proofs.{Accepted.accepts_exactly, KeyKinds.of_kind, OneFirst.after_head, ReadLaws.length_spell}
+use Rattle.theory_verdicts.specs.Readers.{IsRead, IsReadAs, IsUnread, Loses}
+use Rattle.theory_verdicts.proofs.Accepted.{item_within_limit, prefix_accepted, one_refusal, not_both, verdict_only}
+use Rattle.theory_verdicts.specs.Refusals.{IsReaderReason}
 use Rattle.cbor_reader.specs.Sequence.{sequence_bytes, IsAccepted, IfRefused, EndsBefore, IsAtEnd, IsRefused, Given, given_by, items_of, HasGiven, IsTaken}
 use Rattle.cbor_reader.proofs.CutShort.{truncated}
 
@@ -45,7 +45,7 @@ pub simple_is_fine : (limits : Bounds) (r : Rules) (n : ℕ) (c : Complaint) →
 simple_is_fine limits r n c (inl h) = h
 simple_is_fine limits r n c (inr h) = h.2
 
--- a complaint ends behind the first byte
+-- a complaint ends after the first byte
 some_end : (limits : Bounds) (r : Rules) (s : Spelling) (c : Complaint) → IsComplaint limits r s c → 0 < c.end
 some_end limits r s c (inl h) = after_head s r 0 c h
 some_end limits r s c (inr h) = omega (arith, (of_kind s 0 c h.2).later)
@@ -55,7 +55,7 @@ pub empty_is_truncated : (limits : Bounds) (r : Rules) → 0 < limits.bytes → 
 empty_is_truncated limits r l = truncated limits r (simple 0) (spell (simple 0)) 0 (record { spelled = omega arith; within = omega arith; bytes_are = refl }) (simple_is_fine limits r 0) (length_spell (simple 0)) l
 
 module _ (limits : Bounds) (r : Rules) (input : List ℕ) where
-  -- none of what breaks the form reads nothing, but the end
+  -- a form error before the first byte of an item is the end of the input
   break_before : (p behind : List ℕ) (f : Refusal) → take limits.bytes input ≡ p ++ behind → IsFormError limits p behind f → IsBeforeItem f → EndsBefore limits.bytes input
   break_before p [] f e (inl b) (x, y) = absurd (apart (sym x ∙ ap (λ (g : Refusal). g.reason) b.1))
     where
@@ -89,7 +89,7 @@ module _ (limits : Bounds) (r : Rules) (input : List ℕ) where
       let same : f ≡ refusal Truncated 0 0 = one_refusal limits r input f (refusal Truncated 0 0) (verdict_only limits r input f u x y) (subst (λ (b : List ℕ). IsVerdict limits r b (refused (refusal Truncated 0 0))) (sym e) (empty_is_truncated limits r l)) in
       h (ap (λ (g : Refusal). g.reason) same, ap (λ (g : Refusal). g.read) same)
 
--- ---- what a call answers
+-- ---- what a call returns
 
 module _ (r : Rules) (b : Bounds) where
   pub at_end : (from to : Option (List ℕ)) (f : Refusal) → IfSome from (λ input. IsUnread b r input f) → Loses f.read from to → IsBeforeItem f → IsAtEnd b.bytes from to

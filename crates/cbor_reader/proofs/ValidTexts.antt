@@ -4,11 +4,11 @@ use Rattle.std.specs.List.{AllByRecursion}
 use Rattle.cbor_head.specs.Value as value
 use Rattle.cbor_head.specs.Prelude.{Value, Entries, HasEntry, HasDistinctKeys, Same, IsValid, AreValid, AreEntriesValid, Chunk, Spelling, Spellings, SpelledEntries, unsigned, negative, bytes, text, byte_chunks, text_chunks, array, a_map, tag, simple, no_spellings, a_spelling, no_entries, entry, spellings_count, entries_count, value_of, values_of, entries_of, Rules, plain, IsRepeated, OfPayload, OfChunks, Complains, ComplainsIn, ComplainsInEntries}
 use Rattle.cbor_head.specs.declared.major.Major.TheVariants.{Bytes, Text, Array, Map}
-use Rattle.cbor_model.proofs.Stable.{utf8_stable}
-use Rattle.cbor_verdict.{specs.Judged.Never, proofs.Levels.no-count, proofs.Valid.valid_of}
+use Rattle.theory_values.proofs.Stable.{utf8_stable}
+use Rattle.theory_verdicts.{specs.Judged.Never, proofs.Levels.no-count, proofs.Valid.valid_of}
 use Rattle.cbor_reader.specs.Headline.{HasValidTexts, HaveValidTexts, EntriesHaveValidTexts}
 
--- ---- without complaint on a text, by rules that ask for them to be UTF-8
+-- ---- no complaint about a text, by rules that require UTF-8
 
 module _ (r : Rules) (asks : IsTrue r.texts) where
   judged : (at : ℕ) (q : List ℕ) → Never (OfPayload r at q) → IsUtf8 q

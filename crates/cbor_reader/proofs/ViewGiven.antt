@@ -1,4 +1,4 @@
--- A builder of views that is given the parts of an item: what it stands for behind each.
+-- A builder of views that is given the parts of an item: its position after each.
 use Rattle.std.proofs.Common.{◌≡◌, ℕ, Bool, true, false, List, [], ◌∷◌, ◌++◌, refl, sym, ap, ap₂, ◌∙◌, subst, inl, inr, IsUtf8}
 use Rattle.std.proofs.lemmas.Str.{IsUtf8-append}
 use Rattle.cbor_head.specs.Prelude.{Spelling, Spellings, SpelledEntries, array, a_map, value_of, Value}
@@ -7,8 +7,8 @@ use Rattle.cbor_builder.specs.declared.repeat.Repeat.{Repeat}
 use Rattle.cbor_item.specs.OpenValues as parts
 use Rattle.cbor_item.specs.OpenValues.{OpenValue, an_array, give, close, TakesValue, MayEnd}
 use Rattle.cbor_item.specs.ViewValue.{open_levels}
-use Rattle.cbor_verdict.specs.Levels.{Level, IsOpened, some_member, some_key, item_expected}
-use Rattle.cbor_verdict.{specs.Reading.string_value, proofs.Levels.of-opened}
+use Rattle.theory_verdicts.specs.Levels.{Level, IsOpened, some_member, some_key, item_expected}
+use Rattle.theory_verdicts.{specs.Reading.string_value, proofs.Levels.of-opened}
 use Rattle.cbor_parser.specs.Sink.{FindsNoRepeat, FindsRepeat, Reported, IsEndedAs, StandsFull, IsItemExpected, IsChunkExpected, IsContainerFull, Gives, Opens, Ends, Repeats, BeginsString, GrowsString, EndsString}
 use Rattle.cbor_sinks.specs.{KeyBytes.keys_stand, KeyBytes.keys_hold, declared.key_bytes.KeyBytes.KeyBytes}
 use Rattle.cbor_tree_reader.specs.TreeValues.{member_values, pair_values, level_value, level_values, full_value, IsContainer}

@@ -1,9 +1,9 @@
--- The value of an accepted item, and memory that was refused behind it.
+-- The value of an accepted item, and memory that was refused after it.
 use Rattle.std.proofs.Common.{ℕ, ◌^◌, ◌≡◌, ◌≤◌, List, [], length, refl, sym, ap, ◌∙◌, arith, subst, append-nil}
 use Rattle.cbor_head.specs.Prelude.{plain, Bounds, spell, Value, IsInRange, IsValid, refusal}
 use Rattle.cbor_head.specs.{declared.limits.TheConstants.MAX_DEPTH, Value.depth, declared.reason.Reason.TheVariants.Memory, declared.reason.Refusal.Refusal}
-use Rattle.cbor_verdict.specs.Readers.{IsRead, IsReadAs, IsUnread, of_memory}
-use Rattle.cbor_verdict.proofs.Tops.{prefix-free, without}
+use Rattle.theory_verdicts.specs.Readers.{IsRead, IsReadAs, IsUnread, of_memory}
+use Rattle.theory_verdicts.proofs.Tops.{prefix-free, without}
 use Rattle.cbor_tree_reader.{specs.Size.size, proofs.Sizes.size_bounded}
 use Rattle.cbor_reader.proofs.Headline.{prefix_range, prefix_valid, prefix_depth}
 
@@ -23,7 +23,7 @@ view_bounded limits input v count r =
 
 -- ---- refusals
 
--- memory was refused when the item had been taken
+-- memory was refused when the item had been read
 pub memory_behind : (limits : Bounds) (input : List ℕ) (count : ℕ) (f : Refusal) → IsRead limits plain input count → f ≡ refusal Memory count count → IsUnread limits plain input f
 memory_behind limits input count f a is =
     let w = a.verdict in

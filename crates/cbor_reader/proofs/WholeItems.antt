@@ -1,10 +1,10 @@
--- Whole inputs: from what is read of one to the item that it is, or the refusal; and from that to what `canonicalise` answers.
+-- Whole inputs: from what is read of one to the item that it is, or the refusal; and from that to what `canonicalise` returns.
 use Rattle.std.proofs.Common.{ℕ, ◌<◌, arith, ◌≡◌, ◌≤◌, List, length, refl, sym, ap, ◌∙◌, subst, ◌↔◌}
 use Rattle.cbor_head.specs.Prelude.{canonical, Bounds, Value, Spelling, value_of, plain, refusal}
 use Rattle.cbor_head.specs.declared.reason.Reason.TheVariants.{Read, Memory, CanonicalTooLong}
 use Rattle.cbor_head.specs.declared.{order.KeyOrder.KeyOrder, reason.Refusal.Refusal}
-use Rattle.cbor_model.proofs.ReadLaws.{one_list}
-use Rattle.cbor_verdict.{specs.Readers.IsRead, specs.Readers.IsReadAs, proofs.Accepted.item_is_whole, proofs.Accepted.one_item}
+use Rattle.theory_values.proofs.ReadLaws.{one_list}
+use Rattle.theory_verdicts.{specs.Readers.IsRead, specs.Readers.IsReadAs, proofs.Accepted.item_is_whole, proofs.Accepted.one_item}
 use Rattle.cbor_reader.specs.Canonicalise.{IsCanonicalOf, IsRefusal, of_item, canonical_too_long}
 use Rattle.cbor_reader.specs.WholeItem.{IsWholeItem, IsItemRefusal, unread}
 use Rattle.cbor_reader.proofs.Headline.{valid_item, valid_item_accepted, answers_exactly}
@@ -17,7 +17,7 @@ pub all-of-it : (limits : Bounds) (input : List ℕ) (size : ℕ) (a : IsRead li
 all-of-it limits input size a all =
     valid_item limits input a.item a.verdict (item_is_whole limits plain input a.item a.verdict (omega (arith, all, a.size)))
 
--- memory was refused when all of it had been taken
+-- memory was refused when all of it had been read
 pub memory_at_end : (limits : Bounds) (o : KeyOrder) (input : List ℕ) (f : Refusal) → IsWholeItem limits input → f ≡ refusal Memory (length input) (length input) → IsRefusal limits o input f
 memory_at_end limits o input f (s, i) is =
     let a : IsRead limits plain input (length input) = record { item = s; verdict = valid_item_accepted limits input s i; size = ap length (sym i.well_formed.bytes_are) } in
@@ -33,7 +33,7 @@ pub grows_too_long : (limits : Bounds) (o : KeyOrder) (input out : List ℕ) (f 
 grows_too_long limits o input out f h l is =
     canonical_too_long h.0 (valid_item_accepted limits input h.0 h.1) h.1.well_formed.bytes_are (subst (λ (b : List ℕ). limits.bytes < length b) h.2 l) is
 
--- ---- a tree, and what is answered
+-- ---- a tree, and the result
 
 pub tree_becomes : (limits : Bounds) (o : KeyOrder) (input out : List ℕ) (v : Value) → IsReadAs limits plain input v (length input) → IsCanonicalOf limits o input out ↔ ((out ≡ canonical o v) × (length out ≤ limits.bytes))
 tree_becomes limits o input out v a = (

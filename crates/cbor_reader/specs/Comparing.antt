@@ -5,7 +5,7 @@ use Rattle.cbor_head.specs.declared.reason.Refusal.{Refusal}
 use Rattle.cbor_reader.specs.declared.comparison.Side.{Side, TheVariants.Left, TheVariants.Right}
 use Rattle.cbor_reader.specs.{Headline.IsValidItem, WholeItem.IsWholeItem, WholeItem.IsItemRefusal}
 
--- the input on a side
+-- the input on this side
 abbrev pub input_of : Side → List ℕ → List ℕ → List ℕ
 input_of Left left right = left
 input_of Right left right = right
@@ -18,7 +18,7 @@ pub record MeanTheSame (limits : Bounds) (left right : List ℕ) : Type 0 where
   pub right_whole : IsValidItem limits right right_item
   pub same : Same (value_of left_item) (value_of right_item)
 
--- the refusal of this side: of the left one, or of the right one where the left is accepted
+-- the refusal of this side; the right one is refused only if the left one is accepted
 abbrev pub IsSideRefusal : Bounds → List ℕ → List ℕ → Side → Refusal → Type 0
 IsSideRefusal limits left right Left f = IsItemRefusal limits plain left f
 IsSideRefusal limits left right Right f = IsWholeItem limits left × IsItemRefusal limits plain right f

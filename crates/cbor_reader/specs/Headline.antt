@@ -1,4 +1,4 @@
--- Which inputs are accepted, and what is answered of them (RFC 8949, sections 3, 4.2 and 5.3).
+-- Which inputs are accepted, and with which result (RFC 8949, sections 3, 4.2 and 5.3).
 use Rattle.std.specs.Prelude.{ℕ, ◌≡◌, ◌<◌, ◌≤◌, List, length, IsUtf8}
 use Rattle.std.specs.List.{AllByRecursion}
 use Rattle.cbor_head.specs.Prelude.{canonical, Bounds, Spelling, Spellings, SpelledEntries, text, text_chunks, array, a_map, tag, no_spellings, a_spelling, no_entries, entry, IsItem, value_of, plain, Complaint, IsComplaint}
@@ -10,11 +10,11 @@ pub record IsValidItem (limits : Bounds) (input : List ℕ) (s : Spelling) : Typ
   pub valid : (c : Complaint) → IsComplaint limits plain s c → ⊥
   pub fits : length input ≤ limits.bytes
 
--- the input is such an item, and out is the canonical bytes of its value, no more than the limit of bytes either
+-- the input is such an item, and out is the canonical bytes of its value, which are within the byte limit too
 abbrev pub IsAnsweredBy : Bounds → KeyOrder → List ℕ → List ℕ → Type 0
 IsAnsweredBy limits o input out = (s : Spelling) × IsValidItem limits input s × (out ≡ canonical o (value_of s)) × (length out ≤ limits.bytes)
 
--- the input is no such item, or the canonical bytes of its value are more than the limit
+-- the input is no such item, or the canonical bytes of its value exceed the byte limit
 abbrev pub HasNoAnswer : Bounds → KeyOrder → List ℕ → Type 0
 HasNoAnswer limits o input = (s : Spelling) → IsValidItem limits input s → limits.bytes < length (canonical o (value_of s))
 

@@ -3,4 +3,5 @@ pub mod Comparing
 pub mod Headline
 pub mod Sequence
 pub mod WholeItem
+pub mod Written
 pub mod inner

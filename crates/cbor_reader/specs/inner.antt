@@ -1,2 +1,2 @@
--- What private functions speak of; no public contract does.
+-- What only private functions mention.
 pub mod ViewSinks

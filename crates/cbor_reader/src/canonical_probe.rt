@@ -1,61 +1,58 @@
-//! A look at an item for canonical bytes, before it is built.
+//! A check of an item for canonical bytes, before anything is built for it.
 
-ghost use Rattle.std.specs.Prelude.{◌≤◌, ◌≢◌, ◌↔◌, IfOk, IfErr, IsTrue, length, take};
+ghost use Rattle.std.specs.Prelude.{◌≡◌, ◌≤◌, ◌≢◌, IfOk, IfErr, IfSome, Ok, None, length, take};
 ghost use Rattle.cbor_head.specs.Complaint.{plain};
 ghost use Rattle.cbor_head.specs.Verdict.{IsVerdict, refused};
 ghost use Rattle.cbor_head.specs.declared.reason.Reason.TheVariants as reasons;
-ghost use Rattle.cbor_model.specs.StrictReasons.{IsStrictReason};
-ghost use Rattle.cbor_verdict.specs.Readers.{HasNoCanonicalPrefix};
+ghost use Rattle.theory_verdicts.specs.Readers.{HasNoCanonicalPrefix};
 ghost use Rattle.cbor_sinks.specs.BuiltPrefix.{IsBuiltPrefix};
 
 use cbor_head::{KeyOrder, Limits, Reason, Refusal};
 use cbor_parser::canonical_prefix;
 
-/// How many bytes the item has that the slice begins with, where they are its canonical bytes in this
-/// order; else why they are none: unless the item [`may_be_valid`], that is its refusal.
+/// The size in bytes of the item that the slice begins with, if its bytes are canonical in this
+/// order. None if they are not: the item may still be valid. Else its refusal.
 #[inline(always)]
-pub(crate) fn probe_canonical(bytes: &[u8], limits: Limits, order: KeyOrder) -> Result<u64, Refusal>
-    ensures accepted { IfOk result (λ count.
-        IsBuiltPrefix limits order bytes.now (take count bytes.now) count) }
-    ensures within { IfOk result (λ count. count ≤ length bytes.now) }
-    ensures refused { IfErr result (λ f. ¬ IsStrictReason f.reason
-        → IsVerdict limits plain bytes.now (refused f)) }
-    ensures reason { IfErr result (λ f. ¬ IsStrictReason f.reason
-        → (f.reason ≢ reasons.Read) × (f.reason ≢ reasons.Memory)) }
+pub(crate) fn probe_canonical(
+    bytes: &[u8],
+    limits: Limits,
+    order: KeyOrder,
+) -> Result<Option<u64>, Refusal>
+    ensures accepted { IfOk result (λ found. IfSome found (λ count.
+        IsBuiltPrefix limits order bytes.now (take count bytes.now) count)) }
+    ensures within { IfOk result (λ found. IfSome found (λ count. count ≤ length bytes.now)) }
+    ensures none { result ≡ Ok None → HasNoCanonicalPrefix limits order bytes.now }
+    ensures refused { IfErr result (λ f. IsVerdict limits plain bytes.now (refused f)) }
+    ensures reason { IfErr result (λ f. (f.reason ≢ reasons.Read) × (f.reason ≢ reasons.Memory)) }
     ensures no_canonical { IfErr result (λ _. HasNoCanonicalPrefix limits order bytes.now) }
 {
-    canonical_prefix(bytes, limits, order)
+    match canonical_prefix(bytes, limits, order) {
+        Ok(size) => Ok(Some(size)),
+        Err(refusal) => match refusal.reason {
+            Reason::NotShortest | Reason::Indefinite | Reason::KeyOrder => Ok(None),
+            _ => Err(refusal),
+        },
+    }
 }
 
-/// Whether what is refused for this reason, since it is not canonical, may be valid.
-#[inline(always)]
-pub(crate) fn may_be_valid(refusal: &Refusal) -> bool
-    ensures { IsTrue result ↔ IsStrictReason refusal.now.reason }
-{
-    matches!(
-        refusal.reason,
-        Reason::NotShortest | Reason::Indefinite | Reason::KeyOrder
-    )
-}
-
-// Behind an item that is not canonical, so many are not looked at so.
+// The number of items that are not probed after one that is not canonical.
 const PAUSE: u8 = 15;
 
-/// Whether an item of many is looked at so: where the item before was canonical, or [`PAUSE`] others
-/// have come since.
+/// Decides which items of many are probed: an item is if the one before was canonical, or after
+/// [`PAUSE`] items that were not probed.
 #[derive(Clone, Copy)]
 pub(crate) struct CanonicalProbe {
-    // So many items are not looked at.
+    // The number of next items that are not probed.
     pause: u8,
 }
 
 impl CanonicalProbe {
-    /// Before the first item.
+    /// The state before the first item.
     pub(crate) fn new() -> CanonicalProbe {
         CanonicalProbe { pause: 0 }
     }
 
-    /// Whether the next item is looked at.
+    /// Whether the next item is to be probed.
     #[inline(always)]
     pub(crate) fn is_expected(&mut self) -> bool {
         if self.pause == 0 {
@@ -65,7 +62,7 @@ impl CanonicalProbe {
         false
     }
 
-    /// It was, and it is not canonical.
+    /// The item was probed, and is not canonical.
     #[inline(always)]
     pub(crate) fn failed(&mut self) {
         self.pause = PAUSE;

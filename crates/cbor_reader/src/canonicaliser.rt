@@ -3,7 +3,7 @@
 ghost use Rattle.std.specs.Prelude.{◌≡◌, ◌≢◌, IfOk, IfErr, IsOk, MatchResult};
 ghost use Rattle.std.specs.Cow.{cow_slice_items, IsBorrowedSlice};
 ghost use Rattle.cbor_head.specs.declared.reason.Reason.TheVariants as reasons;
-ghost use Rattle.cbor_verdict.specs.Readers.{ReportsMemoryAtStart};
+ghost use Rattle.theory_verdicts.specs.Readers.{ReportsMemoryAtStart};
 ghost use Rattle.cbor_reader.specs.Canonicalise.{IsCanonicalOf, IsRefusal, DeterminesItsValue, IsCanonicaliserReason, IsMemoryRefusal};
 ghost use Rattle.cbor_reader.specs.Headline.{IsAnsweredBy, HasNoAnswer};
 
@@ -12,13 +12,14 @@ use cbor_head::{KeyOrder, Limits, Reason, Refusal};
 use std::alloc::Global;
 use std::borrow::CowSlice;
 
-/// The canonical bytes, in this order, of the one well-formed, valid item that the whole input is,
-/// where these and the input are within the limits (RFC 8949, sections 4.2.1 and 4.2.3).
+/// Returns the canonical bytes, in this order, of the one well-formed, valid item that the whole
+/// input is, if the input and these bytes are within the limits (RFC 8949, sections 4.2.1 and
+/// 4.2.3).
 ///
-/// The refusal is the one that the bytes within the limits call for; then `Trailing`, where a byte
-/// follows the item, be it past the limit, with the item's length as place and count; then
-/// `CanonicalTooLong`, with the input's length; or `Memory`, where it was refused before, with 0 or,
-/// where the answer could not be copied, the input's length as place and count.
+/// The refusal is that of the bytes within the limits; then `Trailing`, if a byte follows the item,
+/// even past the limit, with the item's length as `place` and `read`; then `CanonicalTooLong`, with
+/// the input's length as both. If memory is refused before that, it is `Memory`, with 0 as both; or
+/// with the input's length, if the result is known but could not be copied.
 pub fn canonicalise(
     alloc: Global,
     bytes: &[u8],
@@ -46,8 +47,8 @@ pub fn canonicalise(
     }
 }
 
-/// The answer of [`canonicalise`], where it need not be a copy: of an input that is canonical it is
-/// the input itself, for which no memory is taken.
+/// Returns the result of [`canonicalise`], without a copy if possible: if the input is canonical,
+/// the result is the input itself, and nothing is allocated.
 pub fn canonical_bytes<'a>(
     alloc: Global,
     bytes: &'a [u8],
@@ -73,7 +74,7 @@ pub fn canonical_bytes<'a>(
     answer(alloc, bytes, limits, order)
 }
 
-// The answer, and no more of it.
+// The result; an input that is canonical is borrowed.
 fn answer<'a>(
     alloc: Global,
     bytes: &'a [u8],

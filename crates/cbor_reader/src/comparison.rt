@@ -5,7 +5,7 @@ ghost use Rattle.cbor_head.specs.Spelling.{Spelling, value_of};
 ghost use Rattle.cbor_head.specs.Value.{Same};
 ghost use Rattle.cbor_head.specs.declared.order.KeyOrder.TheVariants as orders;
 ghost use Rattle.cbor_head.specs.declared.reason.Reason.TheVariants as reasons;
-ghost use Rattle.cbor_verdict.specs.Readers.{ReportsMemoryAtStart};
+ghost use Rattle.theory_verdicts.specs.Readers.{ReportsMemoryAtStart};
 ghost use Rattle.cbor_reader.specs.Canonicalise.{IsCanonicalOf};
 ghost use Rattle.cbor_reader.specs.Comparing.{MeanTheSame, IsSideRefusal, input_of};
 ghost use Rattle.cbor_reader.specs.Headline.{IsValidItem};
@@ -18,22 +18,23 @@ use std::alloc::Global;
 /// One of the two inputs of a comparison.
 #[derive(Clone, Copy, Debug, PartialEq, Eq)]
 pub enum Side {
-    /// The first one, which is judged first.
+    /// The first one; its refusal is reported first.
     Left,
     /// The second one.
     Right,
 }
 
-/// Whether the one well-formed, valid item that each input is has the same value (RFC 8949, section
-/// 5.6.1): equal kinds, numbers and bytes, arrays place by place, maps by their pairs in any order.
+/// Whether the two inputs, each one well-formed, valid item, have the same value (RFC 8949, section
+/// 5.6.1): equal kinds, numbers and bytes, arrays member by member, maps by their pairs in any
+/// order.
 ///
-/// The limits hold for each input by itself, and not for canonical bytes. The refusal is that of
-/// the left input, or of the right one where the left is accepted: the one that its bytes within
-/// the limits call for; then `Trailing`, where a byte follows the item, with the item's length as
-/// place and count; or `Memory`, where it was refused before, with 0 as both, at the side that was
-/// being read. A side that is canonical as it stands takes no memory, nor does a right one that is
-/// the left one. Canonical bytes are compared, so large maps in unlike orders take time like sorting
-/// them.
+/// The limits hold for each input separately, and not for canonical bytes. The refusal is that of
+/// the left input, or of the right one if the left is accepted: that of its bytes within the
+/// limits; then `Trailing`, if a byte follows the item, with the item's length as `place` and
+/// `read`; or `Memory`, if memory was refused before that, with 0 as both, for the side that was
+/// being read. A side that is canonical already allocates nothing, nor does a right one with the
+/// bytes of the left. Canonical bytes are compared, so large maps in different orders take as long
+/// as sorting them.
 pub fn same_meaning(
     alloc: Global,
     left: &[u8],
@@ -60,11 +61,11 @@ pub fn same_meaning(
         Ok(bytes) => bytes,
         Err(refusal) => return Err((Side::Left, refusal)),
     };
-    // The same bytes are the same item, which is judged already.
+    // The same bytes are the same item, which is checked already.
     if left == right {
         return Ok(true);
     }
-    // So are its canonical bytes, which are judged to be a valid item by that.
+    // If the right input is the left one's canonical bytes, it is a valid item of the same value.
     if is_within(right, left_item.as_slice(), limits.bytes()) {
         return Ok(true);
     }
@@ -75,7 +76,7 @@ pub fn same_meaning(
     Ok(left_item.as_slice() == right_item.as_slice())
 }
 
-// Whether an input is these bytes, and they are no more than the limit.
+// Whether an input is these bytes, and they are within the limit.
 #[inline(always)]
 fn is_within(input: &[u8], canonical: &[u8], limit: u64) -> bool
     ensures equal { IsTrue result → input.now ≡ canonical.now }

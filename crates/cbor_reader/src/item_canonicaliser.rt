@@ -1,18 +1,18 @@
-//! Canonical bytes of items that come one after another.
+//! Canonical bytes of one item after another.
 
 ghost use Rattle.std.specs.Prelude.{◌≢◌, IfOk, IfErr};
 ghost use Rattle.cbor_head.specs.Complaint.{plain};
 ghost use Rattle.cbor_head.specs.declared.reason.Reason.TheVariants as reasons;
-ghost use Rattle.cbor_verdict.specs.Readers.{IsUnread, ReportsMemoryAtStart};
+ghost use Rattle.theory_verdicts.specs.Readers.{IsUnread, ReportsMemoryAtStart};
 ghost use Rattle.cbor_sinks.specs.BuiltPrefix.{IsBuiltPrefix};
 
-use crate::canonical_probe::{CanonicalProbe, may_be_valid, probe_canonical};
+use crate::canonical_probe::{CanonicalProbe, probe_canonical};
 use cbor_head::{KeyOrder, Limits, Refusal};
 use cbor_sinks::PrefixBuilder;
 use std::alloc::Global;
 
-/// Answers the canonical bytes of one item after another, each as
-/// [`read_canonical`](crate::read_canonical) does, in memory that it keeps.
+/// Returns the canonical bytes of one item after another, each as
+/// [`read_canonical`](crate::read_canonical) does, in memory that it reuses.
 #[derive(Drop)]
 pub struct ItemCanonicaliser {
     prefixes: PrefixBuilder,
@@ -20,7 +20,7 @@ pub struct ItemCanonicaliser {
 }
 
 impl ItemCanonicaliser {
-    /// Takes no memory.
+    /// Allocates nothing.
     pub fn new(alloc: Global) -> ItemCanonicaliser {
         ItemCanonicaliser {
             prefixes: PrefixBuilder::new(alloc),
@@ -28,8 +28,9 @@ impl ItemCanonicaliser {
         }
     }
 
-    /// The canonical bytes of the item that the slice begins with, and how many bytes the item has; or
-    /// its refusal. They are looked for in the slice itself first where the item before was canonical.
+    /// Returns the canonical bytes of the item that the slice begins with, and the item's size in
+    /// bytes; or its refusal. The slice is first checked for canonical bytes if the item before was
+    /// canonical, and else only for some items; if it is canonical, it is not copied.
     pub fn canonicalise<'a>(
         &'a mut self,
         bytes: &'a [u8],
@@ -43,10 +44,9 @@ impl ItemCanonicaliser {
         ensures memory { IfErr result ReportsMemoryAtStart }
     {
         if self.looks.is_expected() {
-            match probe_canonical(bytes, limits, order) {
-                Ok(size) => return Ok((&bytes[..size as usize], size)),
-                Err(refusal) if !may_be_valid(&refusal) => return Err(refusal),
-                Err(_) => self.looks.failed(),
+            match probe_canonical(bytes, limits, order)? {
+                Some(size) => return Ok((&bytes[..size as usize], size)),
+                None => self.looks.failed(),
             }
         }
         self.prefixes.build(bytes, limits, order)

@@ -1,20 +1,20 @@
-//! Items that are checked one after another.
+//! Checks of one item after another.
 
 ghost use Rattle.std.specs.Prelude.{◌≢◌, [], IfOk, IfErr};
 ghost use Rattle.cbor_head.specs.Complaint.{plain};
 ghost use Rattle.cbor_head.specs.declared.reason.Reason.TheVariants as reasons;
-ghost use Rattle.cbor_verdict.specs.Levels.{item_expected};
-ghost use Rattle.cbor_verdict.specs.Readers.{IsRead, IsUnread, ReportsMemoryAtStart};
+ghost use Rattle.theory_verdicts.specs.Levels.{item_expected};
+ghost use Rattle.theory_verdicts.specs.Readers.{IsRead, IsUnread, ReportsMemoryAtStart};
 ghost use Rattle.cbor_sinks.specs.KeyBytes.{keys_stand};
 
-use crate::canonical_probe::{CanonicalProbe, may_be_valid, probe_canonical};
+use crate::canonical_probe::{CanonicalProbe, probe_canonical};
 use cbor_head::{KeyOrder, Limits, Refusal};
 use cbor_parser::Parser;
 use cbor_sinks::KeyBytes;
 use std::alloc::Global;
 
-/// Checks one item after another, each as [`check_valid`](crate::check_valid) does, in memory that
-/// it keeps.
+/// Checks one item after another, each as [`check_valid`](crate::check_valid) does, in memory that it
+/// reuses.
 #[derive(Drop)]
 pub struct ItemCheck {
     building: Parser<KeyBytes>,
@@ -22,7 +22,7 @@ pub struct ItemCheck {
 }
 
 impl ItemCheck {
-    /// Takes no memory.
+    /// Allocates nothing.
     pub fn new(alloc: Global) -> ItemCheck {
         ItemCheck {
             building: Parser::new(KeyBytes::new(alloc)),
@@ -30,9 +30,9 @@ impl ItemCheck {
         }
     }
 
-    /// How many bytes the item has that the slice begins with, or its refusal. Canonical bytes, by
-    /// the order of RFC 8949, are judged without a copy of their keys; they are looked for first
-    /// where the item before was canonical.
+    /// Returns the size in bytes of the item that the slice begins with, or its refusal. Bytes that
+    /// are canonical in the order of RFC 8949 are checked without a copy of their keys; this is tried
+    /// first if the item before was canonical, and else only for some items.
     pub fn check(&mut self, bytes: &[u8], limits: Limits) -> Result<u64, Refusal>
         ensures accepted { IfOk result (λ count. IsRead limits plain bytes.now count) }
         ensures refused { IfErr result (λ f. IsUnread limits plain bytes.now f) }
@@ -40,10 +40,9 @@ impl ItemCheck {
         ensures memory { IfErr result ReportsMemoryAtStart }
     {
         if self.looks.is_expected() {
-            match probe_canonical(bytes, limits, KeyOrder::Bytewise) {
-                Ok(size) => return Ok(size),
-                Err(refusal) if !may_be_valid(&refusal) => return Err(refusal),
-                Err(_) => self.looks.failed(),
+            match probe_canonical(bytes, limits, KeyOrder::Bytewise)? {
+                Some(size) => return Ok(size),
+                None => self.looks.failed(),
             }
         }
         self.building.sink.clear();
@@ -51,9 +50,9 @@ impl ItemCheck {
     }
 }
 
-// How many bytes the item has that the slice begins with, and what kept the keys of its maps, which
-// held none before; else its refusal. It is a call of its own, so that what looks for canonical bytes
-// before it has no space on the stack for it.
+// The size in bytes of the item that the slice begins with, or its refusal. The sink held no keys
+// before. Not inlined, so that the check for canonical bytes before it has no space on its stack for
+// the walk.
 #[inline(never)]
 fn size_by_keys(
     building: &mut Parser<KeyBytes>,

@@ -1,4 +1,4 @@
-//! Laws of the answers: functions with nothing to run, whose contracts are the laws.
+//! Laws of the results: functions with nothing to run, whose contracts are the laws.
 
 ghost use Rattle.std.specs.Prelude.{◌≡◌, ◌≢◌, ◌↔◌, ◌⊎◌, ◌≤◌, ◌<◌, ◌^◌, ◌++◌, ℕ, List, length, take};
 ghost use Rattle.cbor_head.specs.Canonical.{canonical};
@@ -12,16 +12,17 @@ ghost use Rattle.cbor_head.specs.declared.keys.Keys.TheVariants.{IntegersAndText
 ghost use Rattle.cbor_head.specs.declared.order.KeyOrder.{KeyOrder};
 ghost use Rattle.cbor_head.specs.declared.reason.Refusal.{Refusal};
 ghost use Rattle.cbor_head.specs.declared.reason.Reason.TheVariants.{Memory, Truncated, TooLong, CanonicalTooLong, Trailing, Read};
-ghost use Rattle.cbor_model.specs.StrictReasons.{IsStrictReason};
+ghost use Rattle.theory_values.specs.StrictReasons.{IsStrictReason};
 ghost use Rattle.cbor_reader.specs.Canonicalise.{IsCanonicalOf, IsRefusal};
 ghost use Rattle.cbor_reader.specs.Comparing.{MeanTheSame};
 ghost use Rattle.cbor_reader.specs.Headline.{IsValidItem, IsAnsweredBy, HasNoAnswer, HasValidTexts};
-ghost use Rattle.cbor_verdict.specs.Readers.{BeginsWithCanonical, IsRead, IsReadAs, IsUnread};
-ghost use Rattle.cbor_verdict.specs.Refusals.{StandsWithin};
+ghost use Rattle.theory_verdicts.specs.Readers.{BeginsWithCanonical, IsRead, IsReadAs, IsUnread};
+ghost use Rattle.theory_verdicts.specs.Refusals.{StandsWithin};
 ghost use Rattle.cbor_tree_reader.specs.Size.{size};
 ghost use Rattle.cbor_reader.specs.WholeItem.{IsWholeItem, IsItemRefusal};
+ghost use Rattle.cbor_reader.specs.Written.{written};
 
-/// An input has one answer but where memory is refused.
+/// An input has one result, unless memory is refused.
 pub fn one_answer()
     ensures bytes { (limits : Bounds) (o : KeyOrder) (input x y : List ℕ)
         → IsCanonicalOf limits o input x → IsCanonicalOf limits o input y → x ≡ y }
@@ -32,9 +33,9 @@ pub fn one_answer()
         → IsCanonicalOf limits o input x → IsRefusal limits o input f → f.reason ≡ Memory }
 {}
 
-/// Canonical bytes are answered exactly of an input that is one well-formed, valid item within the
+/// Canonical bytes are returned exactly for an input that is one well-formed, valid item within the
 /// limits whose canonical bytes are within the byte limit too; and they are the canonical bytes of
-/// its value. Such an input is refused for want of memory only.
+/// its value. Such an input is refused only if memory is refused.
 pub fn answered_are_valid_items()
     ensures accepted { (limits : Bounds) (o : KeyOrder) (input : List ℕ)
         → ((out : List ℕ) × IsCanonicalOf limits o input out)
@@ -45,10 +46,10 @@ pub fn answered_are_valid_items()
         → IsRefusal limits o input f → f.reason ≢ Memory → HasNoAnswer limits o input }
 {}
 
-/// An input is answered as its tree is encoded. Where `read_tree` reads all of it as a value, the
-/// answer is the canonical bytes of this value, within the limit, and these alone; where they are
-/// longer, or bytes follow the item, that is the refusal; and what `read_tree` refuses for another
-/// cause than the reader is refused so.
+/// The result for an input is the encoding of its tree. If `read_tree` reads all of it as a value, the
+/// result is the canonical bytes of this value, if they are within the limit; if they are longer, or
+/// bytes follow the item, that is the refusal; and what `read_tree` refuses, except for a failure of
+/// the reader, has the same refusal here.
 pub fn answers_are_encoded_trees()
     ensures answer { (limits : Bounds) (o : KeyOrder) (input out : List ℕ) (v : Value)
         → IsReadAs limits plain input v (length input)
@@ -63,10 +64,23 @@ pub fn answers_are_encoded_trees()
         → IsUnread limits plain input f → f.reason ≢ Read → IsRefusal limits o input f }
 {}
 
-/// An item has no plain complaint but on the kind of a key, wherever it stands, exactly where each
-/// text and each chunk of one is UTF-8 and its value is valid. A valid item is the whole input exactly where the plain
-/// verdict accepts it and nothing follows it. Its value is in range, valid, and within the depth,
-/// and its keys are of the kinds that the limits ask for.
+/// The parts of a valid value, written one after another in any order of its pairs, each head as short
+/// as possible, are one valid item. `canonicalise` returns the canonical bytes of the value for them.
+pub fn written_parts_are_canonicalised()
+    ensures item { (limits : Bounds) (v : Value) → IsInRange v → IsValid v
+        → (limits.keys ≡ IntegersAndTexts → HasBasicKeys v) → value.depth v ≤ limits.depth
+        → length (written v) ≤ limits.bytes → IsWholeItem limits (written v) }
+    ensures canonical { (limits : Bounds) (o : KeyOrder) (v : Value) (out : List ℕ) → IsInRange v
+        → IsValid v → (limits.keys ≡ IntegersAndTexts → HasBasicKeys v)
+        → value.depth v ≤ limits.depth → length (written v) ≤ limits.bytes
+        → IsCanonicalOf limits o (written v) out
+        ↔ ((out ≡ canonical o v) × (length out ≤ limits.bytes)) }
+{}
+
+/// An item has no plain complaint except on the kind of a key, at any offset, exactly if each text
+/// and each chunk of one is UTF-8 and its value is valid. A valid item is the whole input exactly
+/// if the plain verdict accepts it and nothing follows it. Its value is in range, valid, and within
+/// the depth, and its keys are of the kinds that the limits allow.
 pub fn valid_items()
     ensures complaints { (s : Spelling) (at : ℕ) → ((c : Complaint) → Complains plain at s c → ⊥)
         ↔ (HasValidTexts s × IsValid (value_of s)) }
@@ -78,8 +92,8 @@ pub fn valid_items()
         → IsValidItem limits input s → HasBasicKeys (value_of s) }
 {}
 
-/// Two accepted inputs get equal answers in one order, within whichever limits, exactly if they are
-/// items of the same value.
+/// Two accepted inputs get equal results in one order, within any limits, exactly if they are items of
+/// the same value.
 pub fn equal_answers_of_same_values()
     ensures { (limits others : Bounds) (o : KeyOrder) (x y a b : List ℕ) (s t : Spelling)
         → limits.bytes ≤ 2 ^ 62 → others.bytes ≤ 2 ^ 62
@@ -88,21 +102,21 @@ pub fn equal_answers_of_same_values()
         → (a ≡ b) ↔ Same (value_of s) (value_of t) }
 {}
 
-/// An answer, given again as input in the same order and within the same limits, is its own answer.
+/// A result, given again as input in the same order and within the same limits, is its own result.
 pub fn answer_again_is_itself()
     ensures { (limits : Bounds) (o : KeyOrder) (input out : List ℕ) → limits.bytes ≤ 2 ^ 62
         → IsCanonicalOf limits o input out → IsCanonicalOf limits o out out }
 {}
 
-/// An input is its own answer exactly where the strict verdict in this order accepts it whole.
+/// An input is its own result exactly if the strict verdict in this order accepts it whole.
 pub fn own_answers_are_strictly_accepted()
     ensures { (limits : Bounds) (o : KeyOrder) (input : List ℕ) → limits.bytes ≤ 2 ^ 62
         → IsCanonicalOf limits o input input
         ↔ ((s : Spelling) × IsVerdict limits (strict o) input (accepted s) × (spell s ≡ input)) }
 {}
 
-/// The plain verdict accepts an item whose value is in range, valid, and within the depth, with keys
-/// of the kinds that the limits ask for, and that has no more bytes than the limit.
+/// The plain verdict accepts an item whose value is in range, valid, and within the depth, with
+/// keys of the kinds that the limits allow, and that has no more bytes than the limit.
 pub fn plainly_accepted_values()
     ensures range { (limits : Bounds) (input : List ℕ) (s : Spelling) → limits.bytes ≤ 2 ^ 62
         → IsVerdict limits plain input (accepted s) → IsInRange (value_of s) }
@@ -121,9 +135,9 @@ pub fn values_are_no_larger_than_their_items()
     ensures { (s : Spelling) → size (value_of s) ≤ length (spell s) }
 {}
 
-/// The strict verdict accepts exactly an input that begins with the canonical bytes of a valid
-/// value within the limits. What it accepts is just these bytes, and their value is the same. No
-/// input begins so in two ways.
+/// The strict verdict accepts exactly an input that begins with the canonical bytes of a valid value
+/// within the limits. What it accepts is just these bytes, and their value is the same. If an input
+/// begins with the canonical bytes of two values, the values are the same, and so are the bytes.
 pub fn strictly_accepted_prefixes()
     ensures accepted { (limits : Bounds) (o : KeyOrder) (input : List ℕ)
         → ((s : Spelling) × IsVerdict limits (strict o) input (accepted s))
@@ -139,9 +153,8 @@ pub fn strictly_accepted_prefixes()
         → Same v w × (canonical o v ≡ canonical o w) }
 {}
 
-/// Of an item within the depth and without complaint, fewer bytes than it has are refused: as
-/// truncated where the input ends behind them and the limit is more; as too long where they are the
-/// limit, whatever follows the item.
+/// A proper prefix of an item within the depth and without complaint is refused: as truncated if the
+/// input ends after it and the limit is larger; as too long if it fills the limit, whatever follows.
 pub fn items_cut_short()
     ensures truncated { (limits : Bounds) (r : Rules) (s : Spelling) (b : List ℕ) (k : ℕ)
         → IsItem limits.depth s b → ((c : Complaint) → IsComplaint limits r s c → ⊥)
@@ -152,9 +165,9 @@ pub fn items_cut_short()
         → IsVerdict limits r (b ++ rest) (refused (refusal TooLong limits.bytes limits.bytes)) }
 {}
 
-/// The readers of the prefix of one input agree. What one of them reads is one value, of so many
-/// bytes; what is refused, but for the reader or for memory, has one refusal; and what is read is
-/// refused for these alone.
+/// The readers of the start of one input agree. What one of them reads is one value, of one number of
+/// bytes. What is refused, except by a failure of the reader or of memory, has one refusal; and what
+/// is read can otherwise be refused only by these failures.
 pub fn one_reading()
     ensures value { (limits : Bounds) (r : Rules) (input : List ℕ) (v w : Value) (m n : ℕ)
         → IsReadAs limits r input v m → IsReadAs limits r input w n → (v ≡ w) × (m ≡ n) }
@@ -167,7 +180,7 @@ pub fn one_reading()
 {}
 
 /// The verdict of the strict rules, in some order, is the plain one too, unless it refuses for a
-/// reason that the deterministic encoding alone has: a head that is not the shortest, an indefinite
+/// reason that only the deterministic encoding has: a head that is not the shortest, an indefinite
 /// length, keys that do not rise.
 pub fn strict_verdicts_are_plain()
     ensures accepted { (limits : Bounds) (o : KeyOrder) (input : List ℕ) (s : Spelling)
@@ -177,8 +190,8 @@ pub fn strict_verdicts_are_plain()
         → IsVerdict limits (strict o) input (refused f) → IsVerdict limits plain input (refused f) }
 {}
 
-/// What is accepted is accepted within wider limits: of no lower depth and no fewer bytes, and that
-/// ask for the kinds of keys only where the others do.
+/// What is accepted is accepted within wider limits: with at least the same depth and bytes, and with
+/// kinds of keys restricted only if the others restrict them.
 pub fn wider_limits_accept_as_much()
     ensures { (limits others : Bounds) (r : Rules) (input : List ℕ) (s : Spelling)
         → limits.depth ≤ others.depth → limits.bytes ≤ others.bytes
@@ -186,7 +199,8 @@ pub fn wider_limits_accept_as_much()
         → IsVerdict limits r input (accepted s) → IsVerdict others r input (accepted s) }
 {}
 
-/// What a prefix of an input is answered, the input is, unless the prefix ends within the item.
+/// The result for a prefix of an input is the result for the input, unless the prefix ends within the
+/// item.
 pub fn prefixes_decide()
     ensures accepted { (limits : Bounds) (r : Rules) (prefix behind : List ℕ) (s : Spelling)
         → IsVerdict limits r prefix (accepted s) → IsVerdict limits r (prefix ++ behind) (accepted s) }
@@ -195,8 +209,8 @@ pub fn prefixes_decide()
         → IsVerdict limits r (prefix ++ behind) (refused f) }
 {}
 
-/// A refusal's place is no later than the bytes read, and these are no more than the limit and no
-/// more than the input has.
+/// A refusal's offset is at most the number of bytes read, which is at most the limit and at most
+/// the length of the input.
 pub fn refusals_stand_within_the_input()
     ensures verdict { (limits : Bounds) (r : Rules) (input : List ℕ) (f : Refusal)
         → IsVerdict limits r input (refused f) → StandsWithin limits.bytes input f }
@@ -206,7 +220,8 @@ pub fn refusals_stand_within_the_input()
         → IsRefusal limits o input f → StandsWithin limits.bytes input f }
 {}
 
-/// On the inputs that are whole valid items within the limits, to mean the same is an equivalence.
+/// On the inputs that are whole valid items within the limits, having the same meaning is an
+/// equivalence.
 pub fn meaning_is_an_equivalence()
     ensures reflexive { (limits : Bounds) (x : List ℕ) → IsWholeItem limits x → MeanTheSame limits x x }
     ensures symmetric { (limits : Bounds) (x y : List ℕ) → MeanTheSame limits x y → MeanTheSame limits y x }
@@ -214,8 +229,8 @@ pub fn meaning_is_an_equivalence()
         → MeanTheSame limits x y → MeanTheSame limits y z → MeanTheSame limits x z }
 {}
 
-/// Two whole valid items mean the same exactly if their answers are equal, in whichever order of
-/// keys and within whichever limits both have one.
+/// Two whole valid items have the same value exactly if their results are equal, in any order of keys
+/// and within any limits for which both have one.
 pub fn same_meaning_of_equal_answers()
     ensures { (limits others : Bounds) (o : KeyOrder) (x y a b : List ℕ) → others.bytes ≤ 2 ^ 62
         → IsWholeItem limits x → IsWholeItem limits y
@@ -223,7 +238,7 @@ pub fn same_meaning_of_equal_answers()
         → MeanTheSame limits x y ↔ (a ≡ b) }
 {}
 
-/// An input is a whole valid item, or has one refusal, but where memory is refused.
+/// An input is a whole valid item, or has one refusal, unless memory is refused.
 pub fn items_and_their_refusals()
     ensures one { (limits : Bounds) (r : Rules) (input : List ℕ) (f g : Refusal)
         → IsItemRefusal limits r input f → IsItemRefusal limits r input g

@@ -18,8 +18,8 @@
 //! assert_eq!(rt; check_canonical(turned, limits, KeyOrder::Bytewise), Err(refusal));
 //! ```
 //!
-//! A refused input has one refusal, with its offset. [`laws`] and [`sequence_laws`] have no code: their contracts are the
-//! laws of these answers.
+//! A refused input has one refusal, with its offset. [`laws`] and [`sequence_laws`] have no code: their contracts are the laws of
+//! these results.
 #![tactic(auto)]
 
 mod canonical_probe;
@@ -32,7 +32,6 @@ pub mod laws;
 mod sequence;
 mod sequence_items;
 pub mod sequence_laws;
-mod tree_reader;
 mod valid_slice;
 mod view_reader;
 mod view_sink;
@@ -42,11 +41,11 @@ pub use canonical_reader::read_canonical;
 pub use canonicaliser::{canonical_bytes, canonicalise};
 pub use cbor_item::{KeyOrder, Tree, View};
 pub use cbor_strict::{StrictReader, check_canonical, read_strict};
+pub use cbor_tree_reader::read_tree;
 pub use comparison::{Side, same_meaning};
 pub use item_canonicaliser::ItemCanonicaliser;
 pub use item_check::ItemCheck;
 pub use sequence::Sequence;
 pub use sequence_items::SequenceItems;
-pub use tree_reader::read_tree;
 pub use valid_slice::check_valid;
 pub use view_reader::{read_view, whole_view};

@@ -1,10 +1,10 @@
-//! A reader together with the items of the sequence that it is at.
+//! A sequence of items together with its reader.
 
 ghost use Rattle.std.specs.Prelude.{◌≡◌, true, false, None, IfSome};
 ghost use Rattle.cbor_head.specs.Complaint.{plain, strict};
 ghost use Rattle.cbor_item.specs.View.{view};
-ghost use Rattle.cbor_verdict.specs.Readers.{IsRead, IsCanonicalPrefix, Loses};
-ghost use Rattle.cbor_verdict.specs.Refusals.{IsReaderReason};
+ghost use Rattle.theory_verdicts.specs.Readers.{IsRead, IsCanonicalPrefix, Loses};
+ghost use Rattle.theory_verdicts.specs.Refusals.{IsReaderReason};
 ghost use Rattle.cbor_reader.specs.Sequence.{SequenceView, IfGiven, IfRefused, is_last, IsTaken, IsAtEnd, IsRefused};
 
 use crate::sequence_items::SequenceItems;
@@ -38,7 +38,7 @@ impl<R> Model for Sequence<R> {
 }
 
 impl<R: Read> Sequence<R> {
-    /// The sequence that the reader is at. Takes no memory, and reads nothing.
+    /// The sequence that begins where the reader is. Allocates and reads nothing.
     pub fn new(alloc: Global, reader: R, limits: Limits) -> Sequence<R>
         ensures limits { result.items.limits ≡ limits }
         ensures live { result.items.finished ≡ false }
@@ -50,8 +50,8 @@ impl<R: Read> Sequence<R> {
         }
     }
 
-    /// The tree of the next item, as [`read_tree`](crate::read_tree) answers it; none where the
-    /// input ends before the item's first byte, and for ever after that or after a refusal.
+    /// Returns the tree of the next item, as [`read_tree`](crate::read_tree) does. None if the
+    /// input ends before the item's first byte, and always after that or after a refusal.
     pub fn next(&mut self) -> Option<Result<Tree, Refusal>>
         ensures item { IfGiven result (λ tree. IsTaken plain self.old.items.limits
             (R.remaining self.old.reader) (R.remaining self.new.reader) (view tree)) }
@@ -70,9 +70,9 @@ impl<R: Read> Sequence<R> {
         self.items.next(&mut self.reader)
     }
 
-    /// How many bytes the next item has, where they are its canonical bytes in this order, as
-    /// [`read_strict`](crate::read_strict) answers it; none where the input ends before the item's
-    /// first byte, and for ever after that or after a refusal.
+    /// Returns the size in bytes of the next item, if its bytes are canonical in this order, as
+    /// [`read_strict`](crate::read_strict) does. None if the input ends before the item's first
+    /// byte, and always after that or after a refusal.
     pub fn next_strict(&mut self, order: KeyOrder) -> Option<Result<u64, Refusal>>
         ensures item { IfGiven result (λ count. IfSome (R.remaining self.old.reader) (λ input.
             IsRead self.old.items.limits

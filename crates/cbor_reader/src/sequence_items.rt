@@ -1,33 +1,34 @@
-//! The items of a sequence, from a reader that each call is handed.
+//! The items of a sequence, from a reader that is passed to each call.
 
 ghost use Rattle.std.specs.Prelude.{◌≡◌, true, false, None, Some, IfSome};
 ghost use Rattle.cbor_head.specs.Complaint.{plain, strict};
 ghost use Rattle.cbor_head.specs.declared.reason.Reason.TheVariants as reasons;
 ghost use Rattle.cbor_item.specs.View.{view};
-ghost use Rattle.cbor_verdict.specs.Readers.{IsRead, IsCanonicalPrefix, Loses};
-ghost use Rattle.cbor_verdict.specs.Refusals.{IsReaderReason};
+ghost use Rattle.theory_verdicts.specs.Readers.{IsRead, IsCanonicalPrefix, Loses};
+ghost use Rattle.theory_verdicts.specs.Refusals.{IsReaderReason};
 ghost use Rattle.cbor_reader.specs.Sequence.{SequenceItemsView, IfGiven, IfRefused, is_last, IsTaken, IsAtEnd, IsRefused};
 
-use crate::tree_reader::read_tree_by;
 use cbor_events::ItemEvents;
 use cbor_head::{KeyOrder, Limits, Reason, Refusal};
 use cbor_item::Tree;
 use cbor_strict::{StrictEvents, read_strict_by};
+use cbor_tree_reader::read_tree_by;
 use std::alloc::Global;
 use std::io::Read;
 use std::marker::Model;
 
-/// The items of a sequence (RFC 8742), one after another, from a reader that each call is handed.
+/// The items of a sequence (RFC 8742), one after another, from a reader that is passed to each
+/// call.
 ///
-/// The limits hold for each item by itself, and so do the places that refusals report. Calls of
-/// [`next`](SequenceItems::next) and [`next_strict`](SequenceItems::next_strict) may be mixed: each
-/// judges what the reader then holds. Behind a refusal no item begins, so it is the last answer but
-/// `None`.
+/// The limits hold for each item separately, and the offsets of refusals count from the start of
+/// the item. Calls of [`next`](SequenceItems::next) and [`next_strict`](SequenceItems::next_strict)
+/// may be mixed: each reads what the reader then holds. After a refusal no further item is read,
+/// and each call returns `None`.
 #[derive(Drop)]
 pub struct SequenceItems {
     alloc: Global,
     limits: Limits,
-    // They become each item's in turn, so that the open containers are made once.
+    // Reused for each item, so that the list of open containers is allocated once.
     events: ItemEvents,
     strict_events: StrictEvents,
     finished: bool,
@@ -47,7 +48,7 @@ impl Model for SequenceItems {
 }
 
 impl SequenceItems {
-    /// The items of a sequence of which none was read. Takes no memory.
+    /// A sequence of which no item was read. Allocates nothing.
     pub fn new(alloc: Global, limits: Limits) -> SequenceItems
         ensures limits { result.limits ≡ limits }
         ensures live { result.finished ≡ false }
@@ -61,8 +62,9 @@ impl SequenceItems {
         }
     }
 
-    /// The tree of the next item, as [`read_tree`](crate::read_tree) answers it; none where the input ends before the
-    /// item's first byte, and for ever after that or after a refusal. Then nothing is read.
+    /// Returns the tree of the next item, as [`read_tree`](crate::read_tree) does. None if the
+    /// input ends before the item's first byte, and always after that or after a refusal; then
+    /// nothing is read.
     pub fn next<R: Read>(&mut self, reader: &mut R) -> Option<Result<Tree, Refusal>>
         ensures item { IfGiven result (λ tree. IsTaken plain self.old.limits
             (R.remaining reader.old) (R.remaining reader.new) (view tree)) }
@@ -85,9 +87,9 @@ impl SequenceItems {
         }
     }
 
-    /// How many bytes the next item has, where they are its canonical bytes in this order, as
-    /// [`read_strict`](crate::read_strict) answers it; none where the input ends before the item's first byte, and for
-    /// ever after that or after a refusal. Then nothing is read.
+    /// Returns the size in bytes of the next item, if its bytes are canonical in this order, as
+    /// [`read_strict`](crate::read_strict) does. None if the input ends before the item's first
+    /// byte, and always after that or after a refusal; then nothing is read.
     pub fn next_strict<R: Read>(
         &mut self,
         reader: &mut R,
@@ -120,7 +122,7 @@ impl SequenceItems {
     }
 }
 
-// No item is read any more: the refusal is answered, or none where the input ended before it.
+// Ends the sequence. Returns the refusal, or None if the input ended before an item.
 fn last<T>(finished: &mut bool, refusal: Refusal) -> Option<Result<T, Refusal>>
     ensures end { result ≡ None → (refusal.reason ≡ reasons.Truncated) × (refusal.read ≡ 0) }
     ensures refused { IfRefused result (λ f. (f ≡ refusal)

@@ -11,12 +11,12 @@ ghost use Rattle.cbor_head.specs.declared.order.KeyOrder.{KeyOrder};
 ghost use Rattle.cbor_head.specs.declared.reason.Reason.TheVariants.{Memory, Read, Truncated, TooLong};
 ghost use Rattle.cbor_head.specs.declared.reason.Refusal.{Refusal};
 ghost use Rattle.cbor_reader.specs.Headline.{IsValidItem};
-ghost use Rattle.cbor_verdict.specs.Readers.{BeginsWithCanonical, IsRead, IsUnread, Loses};
+ghost use Rattle.theory_verdicts.specs.Readers.{BeginsWithCanonical, IsRead, IsUnread, Loses};
 ghost use Rattle.cbor_reader.specs.Sequence.{sequence_bytes, IsAccepted, StartsWithItems, IsLongestSequence, EndsBefore, IsAtEnd, IsRefused, IsTaken};
 ghost use Rattle.cbor_reader.specs.Sequence.{Given, given_by, items_of, AreGivenBy, HasGiven};
 
-/// The items of a sequence: by the plain rules the valid items within the limits; by the strict
-/// ones, in an order, the items within the limits that are spelled by their canonical bytes.
+/// The items of a sequence: by the plain rules the valid items within the limits; by the strict ones,
+/// in an order, the items within the limits whose bytes are canonical.
 pub fn items_of_sequences()
     ensures plain { (limits : Bounds) (s : Spelling)
         → IsAccepted limits plain s ↔ IsValidItem limits (spell s) s }
@@ -26,9 +26,9 @@ pub fn items_of_sequences()
         × (spell s ≡ canonical o (value_of s))) }
 {}
 
-/// A run begins with nothing given, and what a call gives is one item more: a tree is its value, a
-/// number that of its bytes. Where one call gave all and gives one more, it gave all again. Then the
-/// input starts with a sequence that is accepted by the rules of this call.
+/// A run begins with nothing given, and each call that gives something adds one item: a tree is its
+/// value, a number is its size in bytes. If all items were given by calls with the same rules, the
+/// input starts with a sequence that is accepted by these rules.
 pub fn runs_of_calls()
     ensures starts { (b : Bounds) (input : List ℕ) → HasGiven b (Some input) input [] }
     ensures value { (r : Rules) (b : Bounds) (from to : Option (List ℕ)) (input : List ℕ)
@@ -45,9 +45,10 @@ pub fn runs_of_calls()
         → AreGivenBy r (given ++ given_by r s ∷ []) }
 {}
 
-/// The items that one call gave, until it gives none or refuses, are the longest sequence that the
-/// input starts with. Where none is left, whichever calls gave them, the input is the sequence;
-/// else the refusal, but of the reader or of memory, is the verdict on the rest.
+/// The items given by calls with the same rules, up to the call that gives none or refuses, are the
+/// longest sequence that the input starts with. If none is left, whichever calls gave them, the input
+/// is the sequence; else the refusal, unless it is of the reader or of memory, is the verdict on the
+/// rest.
 pub fn longest_sequences()
     ensures ended { (r : Rules) (b : Bounds) (held to : Option (List ℕ)) (input : List ℕ)
         (given : List Given) → HasGiven b held input given → AreGivenBy r given
@@ -69,9 +70,9 @@ pub fn longest_sequences()
         → (items ≡ others) × (rest ≡ behind) }
 {}
 
-/// An input ends before an item exactly where the verdict is that it is truncated at 0. With a byte
+/// An input ends before an item exactly if the verdict is that it is truncated at 0. With a byte
 /// limit of 0 the verdict on each input is that it is too long at 0, and no other refusal is reported
-/// but of memory.
+/// except for refused memory.
 pub fn inputs_without_an_item()
     ensures ended { (limits : Bounds) (r : Rules) (input : List ℕ)
         → EndsBefore limits.bytes input ↔ IsVerdict limits r input (refused (refusal Truncated 0 0)) }

@@ -1,4 +1,4 @@
-//! The item at the start of a slice, or that a whole slice is, as a view.
+//! The item at the start of a slice, or the one that a whole slice is, as a view.
 
 ghost use Rattle.std.specs.Prelude.{◌≡◌, ◌≢◌, ◌≤◌, IfOk, IfErr};
 ghost use Rattle.cbor_head.specs.Complaint.{plain};
@@ -6,8 +6,8 @@ ghost use Rattle.cbor_head.specs.Spelling.{Spelling, value_of};
 ghost use Rattle.cbor_head.specs.Value.{depth, IsInRange, IsValid};
 ghost use Rattle.cbor_head.specs.declared.limits.TheConstants.{MAX_DEPTH};
 ghost use Rattle.cbor_head.specs.declared.reason.Reason.TheVariants as reasons;
-ghost use Rattle.cbor_verdict.specs.Readers.{IsReadAs, IsUnread, ReportsMemoryAtStart};
-ghost use Rattle.cbor_verdict.specs.Refusals.{IsReaderReason};
+ghost use Rattle.theory_verdicts.specs.Readers.{IsReadAs, IsUnread, ReportsMemoryAtStart};
+ghost use Rattle.theory_verdicts.specs.Refusals.{IsReaderReason};
 ghost use Rattle.cbor_reader.specs.Headline.{IsValidItem};
 ghost use Rattle.cbor_tree_reader.specs.Size.{size};
 ghost use Rattle.cbor_reader.specs.WholeItem.{IsItemRefusal};
@@ -20,14 +20,15 @@ use cbor_item::View;
 use cbor_parser::Parser;
 use std::alloc::Global;
 
-/// The view of the well-formed, valid item that the slice begins with, and how many bytes it has
-/// (RFC 8949, sections 3 and 5.3.1). The pairs of a map keep their order.
+/// Returns the view of the well-formed, valid item that the slice begins with, and the item's size
+/// in bytes (RFC 8949, sections 3 and 5.3.1). The pairs of a map keep their order.
 ///
-/// It answers as [`read_tree`](crate::read_tree) does of a reader over the slice, with the refusal
-/// that the bytes within the limits call for; or `Memory`, where it was refused before or the view
-/// could not be kept, with 0 as place and count. A string in one piece lies in the slice. All
-/// else lies in the arena, what a refused read left there too, and is given up with it. A view has no
-/// more items, at every depth, and bytes of strings together than bytes were taken.
+/// It returns what [`read_tree`](crate::read_tree) returns for a reader over the slice, with the
+/// refusal of the bytes within the limits; or `Memory`, if memory was refused before that or the
+/// view could not be stored, with 0 as `place` and `read`. A string in one piece is borrowed from
+/// the slice. All else is in the arena, as is what a refused read leaves, and is freed with the
+/// arena. The number of a view's items, at every depth, plus the bytes of its strings is at most
+/// the number of bytes read.
 pub fn read_view<'a>(
     alloc: Global,
     bytes: &'a [u8],
@@ -37,7 +38,7 @@ pub fn read_view<'a>(
     ensures accepted { IfOk result (λ answer.
         IsReadAs limits plain bytes.now (view_value answer.0) answer.1) }
     ensures bounded { IfOk result (λ answer. size (view_value answer.0) ≤ answer.1) }
-    // What `View::to_tree` asks for.
+    // `View::to_tree` requires this.
     ensures depth { IfOk result (λ answer. depth (view_value answer.0) ≤ MAX_DEPTH) }
     ensures in_range { IfOk result (λ answer. IsInRange (view_value answer.0)) }
     ensures valid { IfOk result (λ answer. IsValid (view_value answer.0)) }
@@ -46,7 +47,7 @@ pub fn read_view<'a>(
     ensures no_read { IfErr result (λ f. f.reason ≢ reasons.Read) }
     ensures memory { IfErr result ReportsMemoryAtStart }
 {
-    // What any limits keep to.
+    // Calling these gives the prover the bounds that all limits keep.
     let _depth = limits.depth();
     let _bytes = limits.bytes();
     let mut building = Parser::new(ViewSink::new(alloc, arena));
@@ -56,9 +57,9 @@ pub fn read_view<'a>(
     }
 }
 
-/// The view of the one well-formed, valid item that the whole slice is. It is read as [`read_view`]
-/// reads it; where a byte follows the item, the refusal is `Trailing`, with the item's length as
-/// place and count.
+/// Returns the view of the one well-formed, valid item that the whole slice is, as [`read_view`]
+/// does; if a byte follows the item, the refusal is `Trailing`, with the item's length as `place`
+/// and `read`.
 pub fn whole_view<'a>(
     alloc: Global,
     bytes: &'a [u8],
@@ -67,7 +68,7 @@ pub fn whole_view<'a>(
 ) -> Result<View<'a>, Refusal>
     ensures accepted { IfOk result (λ view. (s : Spelling)
         × IsValidItem limits bytes.now s × (view_value view ≡ value_of s)) }
-    // What `View::to_tree` asks for.
+    // `View::to_tree` requires this.
     ensures depth { IfOk result (λ view. depth (view_value view) ≤ MAX_DEPTH) }
     ensures in_range { IfOk result (λ view. IsInRange (view_value view)) }
     ensures valid { IfOk result (λ view. IsValid (view_value view)) }

@@ -1,4 +1,4 @@
-//! A builder of views, as what takes the parts of an item.
+//! A builder of views as a sink of the slice parser.
 
 ghost use Rattle.std.specs.Prelude.{◌≡◌, [], true, false, IsUtf8};
 ghost use Rattle.cbor_builder.specs.Built.{IsLeaf};
@@ -6,8 +6,8 @@ ghost use Rattle.cbor_head.specs.Head.{IsSimple};
 ghost use Rattle.cbor_head.specs.Spelling.{Spelling, value_of};
 ghost use Rattle.cbor_head.specs.declared.major.Major.TheVariants as majors;
 ghost use Rattle.cbor_item.specs.OpenValues.{IsWhole};
-ghost use Rattle.cbor_verdict.specs.Levels.{item_expected, item_whole};
-ghost use Rattle.cbor_verdict.specs.Reading.{string_value};
+ghost use Rattle.theory_verdicts.specs.Levels.{item_expected, item_whole};
+ghost use Rattle.theory_verdicts.specs.Reading.{string_value};
 ghost use Rattle.cbor_reader.specs.declared.view_sink.ViewSink.{ViewSink as ViewSinkView};
 ghost use Rattle.cbor_reader.specs.inner.ViewSinks.{view_stands, view_holds};
 ghost use Rattle.cbor_item.specs.ViewValue.{view_value, open_levels};
@@ -21,7 +21,7 @@ use cbor_parser::Sink;
 use cbor_sinks::KeyBytes;
 use std::alloc::{AllocError, Global};
 
-/// The views of the parts that came, and the canonical bytes of keys, by which equal ones are found.
+/// The views of the parts so far, and the canonical bytes of keys, which equal ones are found by.
 #[derive(Drop)]
 pub(crate) struct ViewSink<'a> {
     keys: KeyBytes,
@@ -31,7 +31,7 @@ pub(crate) struct ViewSink<'a> {
 }
 
 impl<'a> ViewSink<'a> {
-    // Nothing came.
+    // A sink that was given nothing.
     pub(crate) fn new(alloc: Global, arena: &'a Bump) -> ViewSink<'a>
         ensures { view_stands result result (item_expected []) }
     {
@@ -42,7 +42,7 @@ impl<'a> ViewSink<'a> {
         }
     }
 
-    // The view of the item, which is whole.
+    // The view of the item, which is complete.
     pub(crate) fn finish(self) -> View<'a>
         requires { IsWhole (open_levels self.views) }
         ensures { (start : ViewSinkView) (s : Spelling)
@@ -155,7 +155,7 @@ fn leaf_view<'a>(major: Major, number: u64) -> View<'a>
     }
 }
 
-// A string that lies in the input.
+// A string that is borrowed from the input.
 #[inline(always)]
 fn string_view<'a>(is_text: bool, content: &'a [u8]) -> View<'a>
     requires { is_text ≡ true → IsUtf8 content.now }

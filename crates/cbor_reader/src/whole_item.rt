@@ -5,7 +5,7 @@ ghost use Rattle.std.specs.Cow.{cow_slice_items, IsBorrowedSlice};
 ghost use Rattle.cbor_head.specs.Canonical.{canonical};
 ghost use Rattle.cbor_head.specs.Complaint.{plain};
 ghost use Rattle.cbor_head.specs.Spelling.{Spelling, value_of};
-ghost use Rattle.cbor_verdict.specs.Readers.{ReportsMemoryAtStart};
+ghost use Rattle.theory_verdicts.specs.Readers.{ReportsMemoryAtStart};
 ghost use Rattle.cbor_reader.specs.Canonicalise.{IsCanonicalOf};
 ghost use Rattle.cbor_reader.specs.Headline.{IsValidItem};
 ghost use Rattle.cbor_reader.specs.WholeItem.{IsItemRefusal};
@@ -15,8 +15,8 @@ use cbor_head::{KeyOrder, Limits, Reason, Refusal};
 use std::alloc::Global;
 use std::borrow::CowSlice;
 
-// The canonical bytes, in this order and however many, of the one item that all the bytes are: these
-// bytes themselves, where they are canonical.
+// The canonical bytes, in this order and of any length, of the one item that the whole input is; the
+// input itself if it is canonical.
 #[inline(always)]
 pub(crate) fn encoded_item<'a>(
     alloc: Global,
@@ -33,7 +33,7 @@ pub(crate) fn encoded_item<'a>(
     ensures borrowed { IsCanonicalOf limits order bytes.now bytes.now
         → IfOk result IsBorrowedSlice }
 {
-    // What any limits keep to.
+    // Calling this gives the prover the bound that all limits keep.
     let _bytes = limits.bytes();
     match read_canonical(alloc, bytes, limits, order) {
         Ok((canonical, size)) => {

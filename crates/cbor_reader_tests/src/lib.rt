@@ -1,6 +1,6 @@
 //! Tests of `cbor_reader` and `cbor_strict` through their public calls.
 //!
-//! They are a crate of their own so that each library is proved once, and its tests separately.
+//! They are a separate crate, so that the libraries are not proved again when tests change.
 #![tactic(auto)]
 
 #[cfg(test)]

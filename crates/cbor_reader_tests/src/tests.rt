@@ -1,4 +1,4 @@
-//! The readers against tables, over readers that give all at once, and in parts.
+//! The readers on tables, with readers that give all at once, and in parts.
 
 mod built;
 mod conformance;
@@ -25,7 +25,7 @@ use std::io;
 use std::io::Read;
 use std::process::Abort;
 
-// A reader that gives at most so many bytes a read.
+// A reader that gives at most this number of bytes a read.
 #[derive(Drop)]
 pub(crate) struct Parts<'a> {
     pub(crate) rest: &'a [u8],
@@ -45,7 +45,7 @@ pub(crate) fn limits<R: Abort>(rt: &R, depth: u16, bytes: u64) -> Limits {
     Limits::new(depth, bytes).expect(rt, "limits")
 }
 
-/// Why a text spells no bytes.
+/// Why a text does not stand for bytes.
 #[derive(Debug, Drop)]
 pub(crate) enum BadHex {
     Digit,
@@ -54,7 +54,8 @@ pub(crate) enum BadHex {
     Memory,
 }
 
-// The bytes that pairs of hex digits spell, white space between them. `3*00` stands for 000000.
+// The bytes that pairs of hex digits stand for, with white space between them. `3*00` stands for
+// 000000.
 pub(crate) fn bytes_of(alloc: Global, text: &str) -> Result<Vec<u8>, BadHex> {
     let mut bytes = Vec::new(alloc);
     for word in text.split_whitespace() {

@@ -1,18 +1,18 @@
--- A builder of canonical bytes that is given the parts of an item: what it stands for behind each.
+-- A builder of canonical bytes that is given the parts of an item: its position after each.
 use Rattle.std.proofs.Common.{◌≡◌, ℕ, suc, ◌+◌, ◌-◌, ◌^◌, ◌<◌, Bool, true, false, List, [], ◌∷◌, ◌++◌, length, refl, sym, ap, ap₂, ◌∙◌, subst, arith, inl, inr, ◌↔◌, IsNone, Option, Some, None, MatchOption, IfSome, Result, Ok, Err, IfOk, length-append}
 use Rattle.std.specs.Option.{is_some}
 use Rattle.cbor_head.specs.Prelude.{canonical, canonical_all, canonical_entries, head, shortest_head, Spelling, Spellings, SpelledEntries, array, a_map, spell, spell_all, spellings_count, value_of, values_of, entries_of, Value}
 use Rattle.cbor_head.specs.declared.major.Major.TheVariants as majors
 use Rattle.cbor_head.specs.declared.{major.Major.Major, order.KeyOrder.KeyOrder, width.Width.TheVariants.Indefinite}
-use Rattle.cbor_model.specs.Parts as parts
-use Rattle.cbor_model.{proofs.Counts.holds_fits, specs.Parts.IsInContainer}
+use Rattle.theory_values.specs.Parts as parts
+use Rattle.theory_values.{proofs.Counts.holds_fits, specs.Parts.IsInContainer}
 use Rattle.cbor_builder.specs.Built.{Built, built, AreOpenKeysDifferent, IsLeaf, IsInString, HasDistinctKeysSoFar, TakesPart}
 use Rattle.cbor_builder.specs.declared.repeat.Repeat.{Repeat}
-use Rattle.cbor_verdict.proofs.Given.{full-array, full-map, settled}
-use Rattle.cbor_verdict.specs.Given.{level_open, opens, StandsAt}
-use Rattle.cbor_verdict.specs.Levels.{AreTaken, ArePairsTaken, Level, IsOpened, a_member, some_member, some_key, AreLevels, bytes_before, ParseState, item_expected, item_full, settle}
-use Rattle.cbor_verdict.{proofs.Levels.of-opened, proofs.Levels.pairs-shorter, proofs.Valid.count_bounded, specs.Place.Place}
-use Rattle.cbor_verdict.specs.Reading.{string_major, string_value}
+use Rattle.theory_verdicts.proofs.Given.{full-array, full-map, settled}
+use Rattle.theory_verdicts.specs.Given.{level_open, opens, StandsAt}
+use Rattle.theory_verdicts.specs.Levels.{AreTaken, ArePairsTaken, Level, IsOpened, a_member, some_member, some_key, AreLevels, bytes_before, ParseState, item_expected, item_full, settle}
+use Rattle.theory_verdicts.{proofs.Levels.of-opened, proofs.Levels.pairs-shorter, proofs.Valid.count_bounded, specs.Place.Place}
+use Rattle.theory_verdicts.specs.Reading.{string_major, string_value}
 use Rattle.cbor_parser.specs.Sink.{FindsNoRepeat, leaf_value, Reported, Completes, Fills, IsEndedAs, StandsFull, IsItemExpected, Gives, Opens, IsContainerFull, Ends, IsChunkExpected, EndsString}
 use Rattle.cbor_sinks.specs.CanonSink.{canon_stands, sink_stands, sink_holds}
 use Rattle.cbor_sinks.specs.declared.canonical_sink.CanonicalSink.{CanonicalSink}
@@ -66,7 +66,7 @@ opened t m n old new is start ls l (at, reported) k = (
   ap (λ (x : Built). x.open_levels) is ∙ ap₂ (λ (c : parts.Open) (os : List parts.Open). c ∷ os) (sym (level-opened start.builder.order m n l k)) at.1,
 )
 
--- one without a length has no more to come
+-- one of indefinite length has no more members
 pub full-indefinite : {trusts : Bool} (start g : Built) (d : ℕ) (ls : List Level) (l : Level) (s : Spelling) → canon_stands start g (item_expected (l ∷ ls)) → AreLevels d (l ∷ ls) → IsEndedAs l s → Fills trusts d ls s → canon_stands start g (item_full ls s)
 full-indefinite start g d ls (some_member done) (array w ss) at levels ended k =
     let e = d - suc (length ls) in (
@@ -115,7 +115,7 @@ ended t old new distinct is start d ls s k stood =
           (ap (λ (x : Built). x.open_levels) is ∙ ap₂ (λ (o : KeyOrder) (os : List parts.Open). parts.close o os) at.0 at.1.3 ∙ ap (λ (x : List ℕ). parts.give x (opens start.builder.order ls)) full.canonical_is),
     )
 
--- by what the builder answers
+-- by what the builder returns
 pub ends-if : (trusts : Bool) {E : Type 0} (r : Result (Option Repeat) E) (t : Bool) (old new : CanonicalSink) → IfOk r (λ reported. IsNone reported ↔ HasDistinctKeysSoFar old.builder.open_levels) → IfOk r (λ reported. IsNone reported → new.builder ≡ built old.builder.order (parts.close old.builder.order old.builder.open_levels))
     → IfOk r (λ reported. IsNone reported → Ends CanonicalSink sink_stands trusts t old new)
 ends-if trusts (Ok reported) t old new x y = λ none. ended t old new (x.0 none) (y none)

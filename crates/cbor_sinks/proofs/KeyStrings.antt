@@ -1,21 +1,21 @@
--- What finds equal keys, and is given a string in chunks: what it stands for behind each.
+-- The sink that finds equal keys is given a string in chunks: its position after each.
 use Rattle.std.proofs.Common.{◌≡◌, ℕ, Bool, true, false, List, [], ◌∷◌, ◌++◌, length, refl, sym, ap, ap₂, ◌∙◌, subst, arith}
 use Rattle.cbor_head.specs.Prelude.{canonical, shortest_head, Spelling, value_of}
 use Rattle.cbor_head.specs.declared.order.KeyOrder.{KeyOrder}
-use Rattle.cbor_model.specs.Parts.{Open, a_string, give, extended, close, opened}
+use Rattle.theory_values.specs.Parts.{Open, a_string, give, extended, close, opened}
 use Rattle.cbor_builder.specs.Built.{Built, built, IsInString, TakesPart}
-use Rattle.cbor_verdict.specs.{Levels.Level, Levels.settle, Reading.string_major, Reading.string_value}
+use Rattle.theory_verdicts.specs.{Levels.Level, Levels.settle, Reading.string_major, Reading.string_value}
 use Rattle.cbor_parser.specs.Sink.{key_expected, Completes, BeginsString, IsChunkExpected, GrowsString, EndsString}
 use Rattle.cbor_sinks.proofs.KeysGiven.{stands-by, with-kept, with-left}
 use Rattle.cbor_sinks.proofs.KeysKept.{Some, in_key-is, item-kept, some-kept, value-takes}
 use Rattle.cbor_sinks.specs.KeyBytes.{in_key, kept, kept_all, inside, is_kept, behind_item, with_item, keys_stand, keys_hold}
 use Rattle.cbor_sinks.{proofs.CanonGiven.string-bytes, proofs.CanonGiven.string-opens, specs.declared.key_bytes.KeyBytes.KeyBytes}
 
--- whether it is kept, in these containers
+-- whether it is stored, in these containers
 here : (k : Bool) (g : KeyBytes) (ls : List Level) → g.inside ≡ inside ls → k ≡ key_expected ls → in_key ls ≡ is_kept g.inside k
 here k g ls e f = in_key-is ls ∙ (λ i. is_kept (sym e i) (sym f i))
 
--- the content so far, where it is kept or not
+-- the content so far, if it is stored
 abbrev content_in : KeyOrder → Bool → List ℕ → List Level → Bool → List Open
 content_in o t content ls b = kept b (a_string (string_major t) content) (kept_all o ls)
 
@@ -56,7 +56,7 @@ grows-left k t x old lacks start ls content at reported =
 
 -- ---- its end
 
--- behind a key
+-- after a key
 pub string-takes : (k t : Bool) (old mid : KeyBytes) → is_kept old.inside k ≡ true → IsChunkExpected KeyBytes keys_hold k t old → mid.builder ≡ built old.builder.order (close old.builder.order old.builder.open_levels) → old.inside ≡ 0 → TakesPart mid.builder.open_levels
 string-takes k t old mid keeps (start, d, ls, content, space, at, reported) is none =
     let o = old.builder.order in

@@ -1,10 +1,10 @@
--- What is kept of an item reports of all of its open maps whether two keys are the same.
+-- What is stored of an item decides for all of its open maps whether two keys are the same.
 use Rattle.std.proofs.Common.{◌≡◌, ℕ, Bool, true, false, List, [], ◌∷◌, ◌++◌, map, refl, ap, ◌∙◌, subst, inl, inr, arith}
 use Rattle.std.proofs.lemmas.List.{map-append}
 use Rattle.cbor_head.specs.{Prelude.Pair, declared.order.KeyOrder.KeyOrder}
-use Rattle.cbor_model.specs.Parts.{Open, a_map, a_key, a_string, pair}
+use Rattle.theory_values.specs.Parts.{Open, a_map, a_key, a_string, pair}
 use Rattle.cbor_builder.specs.Built.{keys_so_far, AreAllDifferent, AreOpenKeysDifferent}
-use Rattle.cbor_verdict.specs.{Given.level_open, Given.opens, Levels.Level, Reading.string_major}
+use Rattle.theory_verdicts.specs.{Given.level_open, Given.opens, Levels.Level, Reading.string_major}
 use Rattle.cbor_parser.specs.Sink.{FindsNoRepeat}
 use Rattle.cbor_sinks.specs.KeyBytes.{in_key, bare_pairs, kept, kept_all, keys_stand, keys_hold}
 use Rattle.cbor_sinks.specs.declared.key_bytes.KeyBytes.{KeyBytes}

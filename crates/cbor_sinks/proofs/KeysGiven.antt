@@ -1,13 +1,13 @@
--- What finds equal keys, and is given the parts of an item: what it stands for behind each.
+-- The sink that finds equal keys is given the parts of an item: its position after each.
 use Rattle.std.proofs.Common.{◌≡◌, ℕ, zero, suc, ◌^◌, ◌<◌, Bool, true, false, List, [], ◌∷◌, refl, sym, ap, ◌∙◌, subst, inl, inr, arith, ◌⊎◌, ◌↔◌, IsNone, Option, Result, Ok, Err, IfOk}
 use Rattle.std.proofs.lemmas.Bool.{false≢true}
 use Rattle.cbor_head.specs.Prelude.{canonical, Spelling, array, a_map, value_of, Value}
 use Rattle.cbor_head.specs.declared.order.KeyOrder.{KeyOrder}
-use Rattle.cbor_model.specs.Parts.{IsInContainer, Open, plain, give, close}
+use Rattle.theory_values.specs.Parts.{IsInContainer, Open, plain, give, close}
 use Rattle.cbor_builder.specs.Built.{Built, built, HasDistinctKeysSoFar, TakesPart, around}
 use Rattle.cbor_builder.specs.declared.repeat.Repeat.{Repeat}
-use Rattle.cbor_verdict.specs.Given.{level_open, opens, IsFull}
-use Rattle.cbor_verdict.specs.Levels.{Level, some_member, some_key, AreLevels, ParseState, item_full, settle}
+use Rattle.theory_verdicts.specs.Given.{level_open, opens, IsFull}
+use Rattle.theory_verdicts.specs.Levels.{Level, some_member, some_key, AreLevels, ParseState, item_full, settle}
 use Rattle.cbor_parser.specs.Sink.{key_expected, is_map, Reported, IsEndedAs, Fills, StandsFull, IsItemExpected, IsContainerFull, Gives, Ends}
 use Rattle.cbor_sinks.proofs.KeysKept.{in_key-is, item-kept, takes-part, value-takes, inside-few, innermost, may-end, IsBehind, map-ended, other-ended, inner-ended, inner-takes}
 use Rattle.cbor_sinks.specs.KeyBytes.{is_open_map, in_key, kept, kept_all, one_more, inside, is_kept, behind_item, with_item, KeepsAt, keys_stand}
@@ -22,7 +22,7 @@ stands-by o p os xs n m st e f g h =
 pub takes : (k : Bool) (g : KeyBytes) → IsItemExpected KeyBytes keys_stand k g → TakesPart g.builder.open_levels
 takes k g (start, d, ls, space, at) = subst TakesPart (sym at.0.0) (takes-part g.builder.order d ls space.levels space.short)
 
--- behind a key
+-- after a key
 pub key-takes : (k : Bool) (b : List ℕ) (g new : KeyBytes) → IsItemExpected KeyBytes keys_stand k g → is_kept g.inside k ≡ true → new.builder ≡ built g.builder.order (give b g.builder.open_levels)
     → g.inside ≡ 0 → TakesPart new.builder.open_levels
 key-takes k b g new (start, d, ls, space, at) keeps is none =
@@ -42,7 +42,7 @@ given k v b old new same is stays start d ls s at done e =
     (ap (λ (x : Built). x.open_levels) is ∙ reported) (stays ∙ at.0.1)
     (item-kept o d ls s done.levels done.taken (omega (arith, done.short)))
 
--- it is kept, or not
+-- it is stored
 pub with-kept : (n : ℕ) (k : Bool) (b : List ℕ) (os : List Open) → is_kept n k ≡ true → behind_item n (give b os) ≡ with_item n k b os
 with-kept zero false b os e = absurd (false≢true e)
 with-kept _ _ b os e = refl
@@ -62,7 +62,7 @@ given-left k v b old same lacks = given k v b old old same (ap (built old.builde
 
 -- ---- containers
 
--- one without a length has no more to come
+-- one of indefinite length has no more members
 ended-as : (o : KeyOrder) (l : Level) (s : Spelling) → IsEndedAs l s → (is_open_map (level_open o l) ≡ is_map s) × (key_expected (l ∷ []) ≡ is_map s)
 ended-as o (some_member done) (array w ss) e = (refl, refl)
 ended-as o (some_key done) (a_map w es) e = (refl, refl)
@@ -81,7 +81,7 @@ full-at k d start g ls s fills (inr (l, ended, levels, at)) =
     let full = indefinite o d ls l s levels ended fills in
     ((full.0, level_open o l, full.1, like.0, at.0.0, at.0.1), at.1 ∙ like.1)
 
--- it may end, where it stands in a key or is a map
+-- it may end, if it is in a key or is a map
 pub in-container : (k : Bool) (g : KeyBytes) → IsContainerFull KeyBytes keys_stand false k g → (0 < g.inside) ⊎ (k ≡ true) → IsInContainer g.builder.open_levels
 in-container k g (start, d, ls, s, fills, full) h =
     let at = full-at k d start g ls s fills full in

@@ -1,16 +1,16 @@
--- What is kept of an item for its keys alone, as its parts come.
+-- What is stored of an item for its keys alone, part by part.
 use Rattle.std.proofs.Common.{◌≡◌, ℕ, zero, suc, ◌-◌, ◌^◌, ◌<◌, ◌≤◌, Bool, true, false, List, [], ◌∷◌, ◌++◌, length, refl, sym, ap, ◌∙◌, subst, inl, inr, arith, ◌||◌, ◌≢◌, ◌⊎◌, if◌then◌else◌, length-append}
 use Rattle.std.{specs.List.AllByRecursion, proofs.lemmas.Bool.false≢true}
 use Rattle.cbor_head.specs.Prelude.{Pair, canonical, Spelling, no_spellings, a_spelling, no_entries, entry, spell, value_of}
 use Rattle.cbor_head.specs.declared.major.Major.TheVariants as majors
 use Rattle.cbor_head.specs.declared.order.KeyOrder.{KeyOrder}
-use Rattle.cbor_model.specs.Parts.{IsInContainer, Open, plain, a_map, a_key, pair, with_member, closed, give, close, HasNoRepeats}
-use Rattle.cbor_model.{proofs.ReadLaws.length_head, specs.Pairs.HasDistinctBytes}
+use Rattle.theory_values.specs.Parts.{IsInContainer, Open, plain, a_map, a_key, pair, with_member, closed, give, close, HasNoRepeats}
+use Rattle.theory_values.{proofs.ReadLaws.length_head, specs.Pairs.HasDistinctBytes}
 use Rattle.cbor_builder.specs.Built.{HasDistinctKeysSoFar, CanHold, TakesPart, around}
-use Rattle.cbor_verdict.specs.Given.{level_open, opens, IsFull}
-use Rattle.cbor_verdict.specs.Levels as levels
-use Rattle.cbor_verdict.specs.Levels.{IsTaken, Level, a_member, a_value, some_member, some_key, some_value, tagged, AreLevels, level_bytes, bytes_before, item_expected, item_full, settle}
-use Rattle.cbor_verdict.{proofs.Given.settled, specs.Frame.with_all, specs.Frame.with_entries}
+use Rattle.theory_verdicts.specs.Given.{level_open, opens, IsFull}
+use Rattle.theory_verdicts.specs.Levels as levels
+use Rattle.theory_verdicts.specs.Levels.{IsTaken, Level, a_member, a_value, some_member, some_key, some_value, tagged, AreLevels, level_bytes, bytes_before, item_expected, item_full, settle}
+use Rattle.theory_verdicts.{proofs.Given.settled, specs.Frame.with_all, specs.Frame.with_entries}
 use Rattle.cbor_parser.specs.Sink.{takes_key, key_expected, is_map}
 use Rattle.cbor_sinks.specs.KeyBytes.{is_open_map, in_key, bare_pairs, bare, kept, kept_all, one_more, inside, is_kept, behind_item, with_item, KeepsAt}
 use Rattle.cbor_sinks.proofs.CanonGiven.{opens-take}
@@ -29,7 +29,7 @@ bare-distinct : (ps : List Pair) → HasDistinctBytes (bare_pairs ps) → HasDis
 bare-distinct [] h = tt
 bare-distinct (p ∷ ps) h = (others-differ p.key ps h.0, bare-distinct ps h.1)
 
--- ---- where an item stands
+-- ---- the position of an item
 
 map-key : (o : KeyOrder) (l : Level) → takes_key l ≡ is_open_map (level_open o l)
 map-key o (a_member w left done) = refl
@@ -56,7 +56,7 @@ innermost [] = plain []
 innermost (c ∷ os) = c
 
 module _ (o : KeyOrder) where
-  -- it has more to come
+  -- it has more members
   expected : (c : Open) (l : Level) (ls : List Level) → c ∷ opens o ls ≡ level_open o l ∷ opens o ls → KeepsAt o (kept (in_key ls) c (kept_all o ls)) (one_more (in_key ls) (inside ls)) (item_expected (l ∷ ls))
   expected c l ls e = (ap (λ (os : List Open). kept (in_key ls) (innermost os) (kept_all o ls)) e, refl)
 
@@ -155,7 +155,7 @@ pub may-end : (o : KeyOrder) (c : Open) (ls : List Level) → ((other : Open) (c
     → IsInContainer (kept (in_key ls) c (kept_all o ls))
 may-end o c ls inner h = kept-ends (in_key ls) (inside ls) c (kept_all o ls) inner (some-kept o ls) h
 
--- behind its end, in containers of which so many are open of a key
+-- after its end, in containers of which n are open within a key
 pub record IsBehind (o : KeyOrder) (n : ℕ) (k : Bool) (c : Open) (os new : List Open) (m : ℕ) : Type 0 where
   pub differ : HasNoRepeats c
   pub holds : new ≡ with_item n k (closed o c) os
@@ -172,7 +172,7 @@ map-ended o true n k c os is none e h = absurd (omega (arith, none))
 map-ended o false n k (a_map ps) os is none e h = let out = outside n k (closed o (a_map ps)) os is in record { differ = bare-distinct ps h; holds = out.0; count = out.1 }
 map-ended o false n k _ os is none e h = absurd (false≢true e)
 
--- of an array or a tag in no key nothing is kept
+-- of an array or a tag outside of keys nothing is stored
 pub other-ended : (o : KeyOrder) (t : Bool) (n : ℕ) (k : Bool) (c : Open) (os : List Open) → t ≡ is_kept n k → one_more t n ≡ 0 → is_open_map c ≡ false → IsInContainer (c ∷ plain [] ∷ [])
     → IsBehind o n k c os (kept t c os) 0
 other-ended o true n k c os is none e h = absurd (omega (arith, none))

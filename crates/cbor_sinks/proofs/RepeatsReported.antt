@@ -2,12 +2,12 @@
 use Rattle.std.proofs.Common.{◌≡◌, ℕ, suc, Bool, true, false, List, [], ◌∷◌, ◌++◌, refl, ap, ◌∙◌, subst, inl, inr, arith}
 use Rattle.cbor_head.specs.Spelling as spelling
 use Rattle.cbor_head.specs.{Prelude.Spelling, declared.order.KeyOrder.KeyOrder}
-use Rattle.cbor_model.specs.Parts.{Open, a_map, a_key, a_string}
-use Rattle.cbor_model.specs.Parts as parts
+use Rattle.theory_values.specs.Parts.{Open, a_map, a_key, a_string}
+use Rattle.theory_values.specs.Parts as parts
 use Rattle.cbor_builder.specs.Built.{keys_so_far, open_maps, AreOpenKeysDifferent, IsFirstRepeat, IsRepeatReported}
 use Rattle.cbor_builder.specs.declared.repeat.Repeat.{Repeat}
-use Rattle.cbor_verdict.specs.Given.{level_open, opens, full_open, IsHeldAs, IsNoMap}
-use Rattle.cbor_verdict.specs.{Levels.Level, Reading.string_major}
+use Rattle.theory_verdicts.specs.Given.{level_open, opens, full_open, IsHeldAs, IsNoMap}
+use Rattle.theory_verdicts.specs.{Levels.Level, Reading.string_major}
 use Rattle.cbor_parser.specs.Sink.{FindsRepeat, Repeats}
 use Rattle.cbor_sinks.proofs.KeysApart.{bare-keys, waiting-keys, all-apart}
 use Rattle.cbor_sinks.specs.KeyBytes.{in_key, bare_pairs, kept, kept_all, keys_stand, keys_hold}
@@ -38,7 +38,7 @@ held-keys o c _ h = no-map-keys c h
 full-reported : (o : KeyOrder) (c : Open) (s : Spelling) (os : List Open) (outside pair : ℕ) → IsHeldAs o c s → IsRepeatReported (c ∷ os) outside pair → IsRepeatReported (full_open o s ∷ os) outside pair
 full-reported o c s os outside pair held = same-keys-reported c (full_open o s) os outside pair (held-keys o c s held)
 
--- ---- by the keys that are kept
+-- ---- by the keys that are stored
 
 more-maps : (c : Open) (os us : List Open) → open_maps os ≡ open_maps us → open_maps (c ∷ os) ≡ open_maps (c ∷ us)
 more-maps (a_map ps) os us e = ap suc e

@@ -2,9 +2,10 @@
 use Rattle.std.specs.Prelude.{◌≡◌, ℕ, List}
 use Rattle.cbor_head.specs.Prelude.{canonical, plain, Bounds, value_of}
 use Rattle.cbor_head.specs.declared.order.KeyOrder.{KeyOrder}
-use Rattle.cbor_verdict.specs.Readers.{IsRead}
+use Rattle.theory_verdicts.specs.Readers.{IsRead}
 
--- it is accepted by the plain rules, and has so many bytes
+-- the input begins with an item of this number of bytes that the plain rules accept, and out is the
+-- canonical bytes of its value
 pub record IsBuiltPrefix (limits : Bounds) (o : KeyOrder) (input out : List ℕ) (size : ℕ) : Type 0 where
   pub read : IsRead limits plain input size
   pub canonical_is : out ≡ canonical o (value_of read.item)

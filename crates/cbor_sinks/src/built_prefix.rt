@@ -3,7 +3,7 @@
 ghost use Rattle.std.specs.Prelude.{◌≢◌, IfOk, IfErr};
 ghost use Rattle.cbor_head.specs.Complaint.{plain};
 ghost use Rattle.cbor_head.specs.declared.reason.Reason.TheVariants as reasons;
-ghost use Rattle.cbor_verdict.specs.Readers.{IsUnread, ReportsMemoryAtStart};
+ghost use Rattle.theory_verdicts.specs.Readers.{IsUnread, ReportsMemoryAtStart};
 ghost use Rattle.cbor_sinks.specs.BuiltPrefix.{IsBuiltPrefix};
 
 use crate::canonical_sink::CanonicalSink;
@@ -11,19 +11,19 @@ use cbor_head::{KeyOrder, Limits, Refusal};
 use cbor_parser::Parser;
 use std::alloc::Global;
 
-/// The canonical bytes of the item that a slice begins with, and how many bytes the item has.
+/// The canonical bytes of the item that a slice begins with, and the item's size in bytes.
 #[derive(Drop)]
 pub struct BuiltPrefix {
     pub canonical: Vec<u8>,
     pub size: u64,
 }
 
-/// The canonical bytes, in this order and however many, of the well-formed, valid item that the
+/// The canonical bytes, in this order and of any length, of the well-formed, valid item that the
 /// slice begins with (RFC 8949, sections 3, 4.2 and 5.3.1), within the limits; else its refusal.
 ///
-/// It goes over the bytes once, without recursion; where a key is repeated, once more over its map, up
-/// to that key. It is a call of its own, so that what looks for canonical bytes before it has no space
-/// on the stack for the walk.
+/// It reads the bytes once, without recursion; if a key is repeated, it reads its map once more, up
+/// to that key. It is not inlined, so that a caller that first checks for canonical bytes has no
+/// space on its stack for the walk.
 #[inline(never)]
 pub fn build_prefix(
     alloc: Global,
@@ -47,21 +47,22 @@ pub fn build_prefix(
     }
 }
 
-/// What builds the canonical bytes of one item after another, in memory that it keeps.
+/// Builds the canonical bytes of one item after another, in memory that it reuses.
 #[derive(Drop)]
 pub struct PrefixBuilder {
     building: Parser<CanonicalSink>,
 }
 
 impl PrefixBuilder {
-    /// Takes no memory.
+    /// A builder with no memory; allocates nothing.
     pub fn new(alloc: Global) -> PrefixBuilder {
         PrefixBuilder {
             building: Parser::new(CanonicalSink::new(alloc, KeyOrder::Bytewise)),
         }
     }
 
-    /// What [`build_prefix`] answers, whatever call came before; the bytes stay where they are.
+    /// Returns what [`build_prefix`] returns, whatever was called before. The bytes are in the
+    /// sink.
     pub fn build(
         &mut self,
         bytes: &[u8],

@@ -1,8 +1,8 @@
-//! A builder of canonical bytes, as what takes the parts of an item.
+//! A builder of canonical bytes as a sink of the slice parser.
 
 ghost use Rattle.std.specs.Prelude.{◌≡◌, []};
-ghost use Rattle.cbor_verdict.specs.Levels.{item_expected};
-ghost use Rattle.cbor_verdict.specs.Reading.{string_major};
+ghost use Rattle.theory_verdicts.specs.Levels.{item_expected};
+ghost use Rattle.theory_verdicts.specs.Reading.{string_major};
 ghost use Rattle.cbor_sinks.specs.CanonSink.{sink_stands, sink_holds};
 
 use cbor_builder::{CanonBuilder, Repeat};
@@ -10,14 +10,14 @@ use cbor_head::{KeyOrder, Major};
 use cbor_parser::Sink;
 use std::alloc::{AllocError, Global};
 
-/// Builds the canonical bytes of the parts that come.
+/// Builds the canonical bytes of the parts that it gets.
 #[derive(Drop)]
 pub(crate) struct CanonicalSink {
     pub(crate) builder: CanonBuilder,
 }
 
 impl CanonicalSink {
-    /// Of nothing yet. Takes no memory.
+    /// An empty sink; allocates nothing.
     pub(crate) fn new(alloc: Global, order: KeyOrder) -> CanonicalSink
         ensures stands { sink_stands result result (item_expected []) }
         ensures order { result.builder.order ≡ order }
@@ -27,7 +27,7 @@ impl CanonicalSink {
         }
     }
 
-    /// As then, with the memory that it has. Whatever call came before.
+    /// Empties the sink and keeps its memory, whatever was called before.
     pub(crate) fn clear(&mut self, order: KeyOrder)
         ensures stands { sink_stands self.new self.new (item_expected []) }
         ensures order { self.new.builder.order ≡ order }
@@ -103,7 +103,7 @@ impl<'a> Sink<'a> for CanonicalSink {
     }
 }
 
-/// The type of a string.
+/// The major type of a string.
 #[inline(always)]
 pub(crate) fn string_type(is_text: bool) -> Major
     ensures { result ≡ string_major is_text }

@@ -1,8 +1,8 @@
-//! The canonical bytes of the keys of an item whose parts come, and of nothing else.
+//! The canonical bytes of the keys of an item, and of nothing else.
 
 ghost use Rattle.std.specs.Prelude.{◌≡◌, ◌<◌, [], false, IfOk, IfSome, IsNone, OnOk};
 ghost use Rattle.cbor_builder.specs.Built.{built, TakesPart};
-ghost use Rattle.cbor_verdict.specs.Levels.{item_expected};
+ghost use Rattle.theory_verdicts.specs.Levels.{item_expected};
 ghost use Rattle.cbor_sinks.specs.KeyBytes.{is_kept, behind_item, keys_stand, keys_hold};
 ghost use Rattle.cbor_sinks.specs.declared.key_bytes.KeyBytes.{KeyBytes};
 ghost use Rattle.cbor_parser.specs.Sink.{IsContainerFull, Ends, Repeats};
@@ -13,17 +13,17 @@ use cbor_head::{KeyOrder, Major};
 use cbor_parser::Sink;
 use std::alloc::{AllocError, Global};
 
-/// What finds equal keys in an item: the canonical bytes of the keys of the open maps. What is no
-/// key, and stands in none, is not kept, and a map's keys are given up at its end.
+/// Finds equal keys in an item: it holds the canonical bytes of the keys of the open maps. An item
+/// that is neither a key nor in one is not stored, and a map's keys are released at its end.
 #[derive(Drop)]
 pub struct KeyBytes {
     builder: CanonBuilder,
-    // How many containers are open of a key that is not complete.
+    // The number of open containers within a key that is not complete.
     inside: usize,
 }
 
 impl KeyBytes {
-    /// Of no keys. Takes no memory.
+    /// A sink without keys; allocates nothing.
     pub fn new(alloc: Global) -> KeyBytes
         ensures { keys_stand result result (item_expected []) }
     {
@@ -33,7 +33,7 @@ impl KeyBytes {
         }
     }
 
-    /// Of no keys, with the memory that it has. Whatever call came before.
+    /// Removes all keys and keeps the memory, whatever was called before.
     pub fn clear(&mut self)
         ensures { keys_stand self.new self.new (item_expected []) }
     {
@@ -41,7 +41,7 @@ impl KeyBytes {
         self.inside = 0;
     }
 
-    // Whether the next item is a key, as this says where none is open, or stands in one.
+    // Whether the next item is stored: it is within a key, or `is_key` says that it is one.
     #[inline(always)]
     fn keeps(&self, is_key: bool) -> bool
         ensures { result ≡ is_kept self.now.inside is_key }
@@ -49,8 +49,9 @@ impl KeyBytes {
         self.inside > 0 || is_key
     }
 
-    // An item is complete: a key, if none of a key's containers is open. Its value is not kept. It is
-    // a call, as the next is, so that the walk's loop stays small enough to be one function.
+    // An item is complete. It is a key if no container within a key is open; its value is not stored.
+    // Not inlined, as the next function, so that the walk's loop stays small enough to be one
+    // function.
     #[inline(never)]
     fn settle(&mut self) -> Result<(), AllocError>
         requires { self.old.inside ≡ 0 → TakesPart self.old.builder.open_levels }
@@ -64,7 +65,7 @@ impl KeyBytes {
         Ok(())
     }
 
-    // A container that stands in a key ends, as in the sink.
+    // Ends a container within a key, as the sink of canonical bytes does.
     #[inline(never)]
     fn end_in_key(&mut self, is_map: bool) -> Result<Option<Repeat>, AllocError>
         requires inside { 0 < self.old.inside }

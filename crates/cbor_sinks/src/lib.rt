@@ -1,4 +1,4 @@
-//! Sinks of the slice parser: one builds canonical bytes, one keeps the bytes of keys alone to find equal keys.
+//! Sinks of the slice parser: one builds canonical bytes, one stores only the bytes of keys, to find equal keys.
 //!
 //! `cbor_reader` and the program call it. [`build_prefix`] makes the canonical bytes of the item at the start of an input,
 //! [`PrefixBuilder`] those of one item after another in the same memory; [`KeyBytes`] finds equal keys.

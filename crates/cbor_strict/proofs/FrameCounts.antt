@@ -1,10 +1,10 @@
--- How many maps are open in an item, and how many bytes of keys are kept, by the container that it stands in.
+-- How many maps are open in an item, and how many bytes of keys are stored, by the container that it is in.
 use Rattle.std.proofs.Common.{◌≡◌, ℕ, suc, ◌+◌, ◌-◌, ◌<◌, ◌≤◌, List, [], ◌∷◌, ◌++◌, length, refl, ap, ◌∙◌, arith, if◌then◌else◌, lt-ltb, le-ltb, le-leb, length-append}
 use Rattle.cbor_head.specs.Prelude.{head, Spelling, Spellings, SpelledEntries, a_map, no_spellings, a_spelling, no_entries, entry, spell, spell_all, spell_entries, spellings_count, entries_count}
 use Rattle.cbor_head.specs.declared.major.Major.TheVariants.{Array, Map, Tag}
-use Rattle.cbor_verdict.specs.Frame.{Frame, a_member, a_key, a_content, tagged, with_all, with_entries, plug, before, behind}
-use Rattle.cbor_verdict.proofs.Frames.{count_with, entries_with, pair_size, spell_plug}
-use Rattle.cbor_verdict.specs.{LastKey.last_key, OpenMaps.before_all}
+use Rattle.theory_verdicts.specs.Frame.{Frame, a_member, a_key, a_content, tagged, with_all, with_entries, plug, before, behind}
+use Rattle.theory_verdicts.proofs.Frames.{count_with, entries_with, pair_size, spell_plug}
+use Rattle.theory_verdicts.specs.{LastKey.last_key, OpenMaps.before_all}
 use Rattle.cbor_strict.specs.KeptKeys.{open_maps, open_maps_in, open_maps_in_entries, key_bytes, key_bytes_in, key_bytes_in_entries}
 use Rattle.cbor_strict.specs.inner.LastKeys.{is_key, complete_key}
 
@@ -19,7 +19,7 @@ abbrev pub map_count : List Frame → ℕ
 map_count [] = 0
 map_count (f ∷ fs) = one_map f + map_count fs
 
--- where so many bytes of the item in the innermost were read
+-- if n bytes of the item in the innermost container were read
 abbrev pub keys_size : List Frame → ℕ → ℕ
 keys_size [] n = 0
 keys_size (f ∷ fs) n = length (complete_key f) + (if is_key f then length (before_all fs) + n else keys_size fs n)
@@ -29,7 +29,7 @@ keys_size (f ∷ fs) n = length (complete_key f) + (if is_key f then length (bef
 pub members_size : (s : Spelling) (ss : Spellings) → length (spell_all (a_spelling s ss)) ≡ length (spell s) + length (spell_all ss)
 members_size s ss = length-append (spell s) (spell_all ss)
 
--- what is counted of the item that goes on among these
+-- the counts of the members are those of the item among them that is not complete
 members_counted : (a : Spellings) (s : Spelling) (b : Spellings) (n m : ℕ) → m ≡ length (spell_all a) + n → n < length (spell s)
     → (open_maps_in m (with_all a (a_spelling s b)) ≡ open_maps n s) × (key_bytes_in m (with_all a (a_spelling s b)) ≡ key_bytes n s)
 members_counted no_spellings s b n m e l =
@@ -39,7 +39,7 @@ members_counted (a_spelling t a) s b n m e l =
     let size = members_size t a in
     rw (le-ltb m (length (spell t)) (omega (arith, e, size))) (members_counted a s b n (m - length (spell t)) (omega (arith, e, size)) l)
 
--- the length of the last key of these pairs, behind one of so many bytes
+-- the length of the last key of these pairs, after one of n bytes
 abbrev last_size : ℕ → SpelledEntries → ℕ
 last_size last no_entries = last
 last_size last (entry k v es) = last_size (length (spell k)) es
@@ -72,7 +72,7 @@ value_counted (entry j u a) k v b n m last e l =
     rw (le-ltb m (length (spell j)) (omega (arith, e, size)), le-ltb (m - length (spell j)) (length (spell u)) (omega (arith, e, size)))
     (value_counted a k v b n (m - length (spell j) - length (spell u)) (length (spell j)) (omega (arith, e, size)) l)
 
--- an item stands in its container whole
+-- an item is completely in its container
 pub plug_size : (f : Frame) (s : Spelling) → length (before f) + length (spell s) ≤ length (spell (plug f s))
 plug_size f s = omega (arith, ap length (spell_plug f s), length-append (before f) (spell s ++ behind f), length-append (spell s) (behind f))
 
@@ -82,7 +82,7 @@ none_more n = omega arith
 one_more : (n : ℕ) → suc n ≡ 1 + n
 one_more n = omega arith
 
--- what is kept of the container, where so much is of the item
+-- what is stored of the container, if so much is stored of the item
 abbrev pub around : Frame → ℕ → ℕ → ℕ
 around f n keys = length (complete_key f) + (if is_key f then n else keys)
 

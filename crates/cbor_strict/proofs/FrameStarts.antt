@@ -3,9 +3,9 @@ use Rattle.std.proofs.Common.{◌≡◌, ◌≢◌, ℕ, suc, ◌+◌, List, ◌
 use Rattle.cbor_head.specs.Prelude.{head, Spelling, Spellings, SpelledEntries, array, a_map, no_spellings, a_spelling, no_entries, entry, spell, spell_all, spell_entries, spellings_count, entries_count, break_of, IsSpelled, AreSpelled, AreEntriesSpelled}
 use Rattle.cbor_head.specs.declared.major.Major.TheVariants.{Array, Map, Tag}
 use Rattle.cbor_head.{specs.declared.width.Width.Width, specs.declared.width.Width.TheVariants.Indefinite, proofs.HeadLaws.reported}
-use Rattle.cbor_model.proofs.Parts.{major, width, count, head_of, body, parts, holds_of, one_head, as_array, as_map, as_tag}
-use Rattle.cbor_model.proofs.ReadLaws.{unique, holds_or_open}
-use Rattle.cbor_verdict.specs.Frame.{Frame, a_member, a_key, a_content, tagged, with_all, with_entries, plug, before, behind, IsFrame}
+use Rattle.theory_values.proofs.Parts.{major, width, count, head_of, body, parts, holds_of, one_head, as_array, as_map, as_tag}
+use Rattle.theory_values.proofs.ReadLaws.{unique, holds_or_open}
+use Rattle.theory_verdicts.specs.Frame.{Frame, a_member, a_key, a_content, tagged, with_all, with_entries, plug, before, behind, IsFrame}
 use Rattle.cbor_strict.{specs.inner.LastKeys.HasLength, proofs.FrameCounts.around, proofs.FrameCounts.one_map}
 
 -- ---- an item that starts as a container does
@@ -14,7 +14,7 @@ reported_is : (w : Width) (n i : ℕ) → w ≢ Indefinite → reported w n ≡ 
 reported_is Indefinite n i f e = absurd (f refl)
 reported_is _ n i f e = e
 
--- members that start with these, and have so many more behind the next
+-- members that start with these, with n more after the next
 record MembersStart (a ss : Spellings) (y rest : List ℕ) (m : ℕ) : Type 0 where
   item : Spelling
   others : Spellings

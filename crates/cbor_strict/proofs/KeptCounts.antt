@@ -1,17 +1,17 @@
--- How many maps are open, and how many bytes of keys are kept, is what each item that starts with the bytes read reports of them.
+-- How many maps are open, and how many bytes of keys are stored: the counts of each item that starts with the bytes read.
 use Rattle.std.proofs.Common.{◌≡◌, ℕ, ◌+◌, ◌-◌, ◌<◌, ◌≤◌, List, [], ◌∷◌, ◌++◌, length, refl, sym, ap, ◌∙◌, subst, arith, append_assoc, le-ltb, length-append}
 use Rattle.cbor_head.specs.Prelude.{head, Spelling, Spellings, array, a_map, tag, no_spellings, a_spelling, spell, spell_all, spellings_count, entries_count, break_of, IsSpelled}
 use Rattle.cbor_head.specs.declared.major.Major.TheVariants.{Array, Map, Tag}
-use Rattle.cbor_automaton.proofs.Opens.{over-none}
-use Rattle.cbor_verdict.specs.Frame.{Frame, before, behind, IsFrame}
-use Rattle.cbor_verdict.specs.OpenMaps.{before_all}
+use Rattle.theory_automaton.proofs.Opens.{over-none}
+use Rattle.theory_verdicts.specs.Frame.{Frame, before, behind, IsFrame}
+use Rattle.theory_verdicts.specs.OpenMaps.{before_all}
 use Rattle.cbor_strict.specs.KeptKeys.{open_maps, open_maps_in, key_bytes, key_bytes_in}
 use Rattle.cbor_strict.proofs.FrameCounts.{around, keys_size, map_count, members_size, one_map, plug_counted, plug_size}
 use Rattle.cbor_strict.{specs.inner.LastKeys.HasLength, proofs.FrameStarts.starts_in}
 
 -- ---- a path of containers
 
--- so many bytes of the item are not all, and this is counted of it
+-- n bytes of the item are not all of it, and this is counted in it
 pub record Counts (s : Spelling) (n maps keys : ℕ) : Type 0 where
   pub within : n < length (spell s)
   pub maps_are : open_maps n s ≡ maps
@@ -40,7 +40,7 @@ path_counts (f ∷ fs) p h base s x u i e =
       keys_are = both.1 ∙ k.keys n (key_bytes n k.item) ∙ ap (around f n) c.keys_are ∙ ap (λ (y : ℕ). around f y (keys_size fs (length p))) (length-append (before_all fs) p);
     })
 
--- ---- behind an item
+-- ---- after an item
 
 mutual
   pub past : (s : Spelling) (n : ℕ) → length (spell s) ≤ n → (open_maps n s ≡ 0) × (key_bytes n s ≡ 0)

@@ -1,10 +1,10 @@
--- What is kept of the keys where a container ends, and those around it.
+-- What is stored of the keys when a container ends, and those around it.
 use Rattle.std.proofs.Common.{◌≡◌, ◌≢◌, ℕ, suc, ◌+◌, ◌<◌, ◌≤◌, Bool, true, false, List, [], ◌∷◌, ◌++◌, length, take, refl, sym, ap, ◌∙◌, subst, inl, inr, arith, append-nil, if◌then◌else◌, length-append}
 use Rattle.std.proofs.{lemmas.Bool.cases_Bool, lemmas.List.same_from_push, Math.Seq.take-append_seam}
 use Rattle.cbor_head.specs.Prelude.{head, Spelling, no_spellings, no_entries, spell, spell_entries, entries_count}
 use Rattle.cbor_head.specs.declared.major.Major.TheVariants.{Map}
-use Rattle.cbor_verdict.specs.Frame.{Frame, a_member, a_key, a_content, tagged, plug, before, behind}
-use Rattle.cbor_verdict.proofs.{Members.closes, Frames.spell_plug}
+use Rattle.theory_verdicts.specs.Frame.{Frame, a_member, a_key, a_content, tagged, plug, before, behind}
+use Rattle.theory_verdicts.proofs.{Members.closes, Frames.spell_plug}
 use Rattle.cbor_strict.specs.inner.LastKeys.{AreDefinite, still_open, ended_item, KeysView, is_key, stands_in_key, keys_around, expected_of, levels_of, complete_key, kept_bytes, kept_before, spans_in, spans_of, IsKept, IsFull}
 use Rattle.cbor_strict.proofs.KeptKeys.{in_some_key, in_no_key, few_keys, kept_if_in, kept_if_out, kept_out, no_map}
 use Rattle.cbor_strict.specs.declared.last_keys.{Expected.Expected, Expected.TheVariants.Member, KeySpan.KeySpan}
@@ -28,7 +28,7 @@ full_no_key _ h = refl
 full_around : (f : Frame) (fs : List Frame) → IsFull f → keys_around (f ∷ fs) ≡ keys_around fs
 full_around f fs h = ap (λ (b : Bool). if b then suc (keys_around fs) else keys_around fs) (full_no_key f h)
 
--- what was kept of it
+-- what was stored of it
 closed_in : (f : Frame) (fs : List Frame) (s : Spelling) → IsFull f → stands_in_key fs ≡ true → kept_bytes (f ∷ fs) (spell s) ≡ kept_bytes fs (spell (plug f s))
 closed_in f fs s h i = kept_if_in f fs (spell s) i ∙ ap (kept_bytes fs) (sym (full_bytes f s h))
 
@@ -61,7 +61,7 @@ closes_other k f fs s ls l full h e d =
       open_keys = h.open_keys ∙ full_around f fs full;
     }
 
--- a map, and where its last key is kept
+-- a map, and where its last key is stored
 full_map : (f : Frame) (fs : List Frame) → IsFull f → expected_of f ≢ Member → (sp : KeySpan) × (spans_in f fs ≡ sp ∷ []) × (stands_in_key fs ≡ false → sp.from ≡ kept_before fs)
 full_map (a_content w a k no_entries) fs full d =
     (_, refl, λ i. ap (λ (b : Bool). kept_before fs + (if b then length (head Map w (entries_count a + 1) ++ spell_entries a) else 0)) i ∙ omega arith)
@@ -97,7 +97,7 @@ module _ (k : KeysView) (f : Frame) (fs : List Frame) (s : Spelling) (ls : List 
         open_keys = around;
       }
 
--- ---- what closes behind an item
+-- ---- the containers that close with an item
 
 -- some containers have closed
 pub record HasShut (k : KeysView) (fs : List Frame) (s : Spelling) : Type 0 where

@@ -1,9 +1,10 @@
--- What is kept of a path of open containers for the order of keys: within a key, and where a container opens.
+-- What is stored of a path of open containers for the order of keys: within a key, and when a container
+-- opens.
 use Rattle.std.proofs.Common.{◌≡◌, ℕ, zero, suc, ◌+◌, ◌<◌, ◌≤◌, Bool, true, false, true≢false, List, [], ◌∷◌, ◌++◌, length, refl, sym, ap, ◌∙◌, inl, inr, arith, append_assoc, append-nil, if◌then◌else◌, ◌↔◌, IsTrue, Result, Ok, Err, OnOk, is_ok, length-append}
 use Rattle.std.proofs.lemmas.Bool.{cases_Bool}
 use Rattle.cbor_head.specs.Prelude.{head, Spelling, SpelledEntries, no_entries, entries_count}
 use Rattle.cbor_head.specs.declared.{major.Major.TheVariants.Map, width.Width.Width}
-use Rattle.cbor_verdict.specs.Frame.{Frame, a_member, a_key, tagged, before}
+use Rattle.theory_verdicts.specs.Frame.{Frame, a_member, a_key, tagged, before}
 use Rattle.cbor_strict.specs.inner.LastKeys.{KeysView, is_key, stands_in_key, keys_around, expected_of, levels_of, complete_key, kept_bytes, kept_before, span, spans_in, spans_of, IsKept}
 use Rattle.cbor_strict.specs.declared.last_keys.{Expected.Expected, Expected.TheVariants.Member, Expected.TheVariants.Key, KeySpan.KeySpan}
 
@@ -38,7 +39,7 @@ kept_if_out f fs p e = ap (λ (b : Bool). if b then kept_bytes fs (before f ++ p
 stands_around : (f : Frame) (fs : List Frame) → is_key f ≡ false → stands_in_key (f ∷ fs) ≡ stands_in_key fs
 stands_around f fs e = ap (λ (b : Bool). if b then true else stands_in_key fs) e
 
--- what is kept of more bytes
+-- what is stored of more bytes
 pub kept_in_key : (fs : List Frame) (p q : List ℕ) → stands_in_key fs ≡ true → kept_bytes fs (p ++ q) ≡ kept_bytes fs p ++ q
 kept_in_key [] p q e = absurd (true≢false (sym e))
 kept_in_key (f ∷ fs) p q e = elim (cases_Bool (stands_in_key fs)) [
@@ -90,7 +91,7 @@ module _ {T E : Type 0} where
 
 -- ---- a container opens
 
--- one that is no map, and keeps none
+-- one that is no map, of which nothing is stored
 pub no_map : (f : Frame) (fs : List Frame) → expected_of f ≡ Member → (complete_key f ≡ []) × (is_key f ≡ false) × (spans_in f fs ≡ [])
 no_map (a_member w a b) fs d = (refl, refl, refl)
 no_map (tagged w n) fs d = (refl, refl, refl)

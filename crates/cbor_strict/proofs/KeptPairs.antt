@@ -1,11 +1,11 @@
--- What is kept of the keys of a map as its keys and values end.
+-- What is stored of the keys of a map as its keys and values end.
 use Rattle.std.proofs.Common.{◌≡◌, ℕ, suc, ◌+◌, ◌-◌, ◌<◌, ◌≤◌, Bool, true, false, List, [], ◌∷◌, ◌++◌, length, take, drop, refl, sym, ap, ◌∙◌, inl, inr, arith, append_assoc, append-nil, if◌then◌else◌, slice_index_or, slice_set, length-append}
 use Rattle.std.proofs.Math.Seq.{take-append_seam, drop-append_seam, set-append_seam}
 use Rattle.std.proofs.lemmas.{Bool.cases_Bool, List.get_or_push}
 use Rattle.cbor_head.specs.Prelude.{head, Spelling, SpelledEntries, no_entries, entry, spell, spell_entries, entries_count}
 use Rattle.cbor_head.specs.declared.{major.Major.TheVariants.Map, width.Width.Width}
-use Rattle.cbor_verdict.specs.Frame.{Frame, a_key, a_content, with_entries, before}
-use Rattle.cbor_verdict.{specs.LastKey.last_key, proofs.OpenSteps.content_before, proofs.OpenSteps.pair_count, proofs.LastKey.last_key_with}
+use Rattle.theory_verdicts.specs.Frame.{Frame, a_key, a_content, with_entries, before}
+use Rattle.theory_verdicts.{specs.LastKey.last_key, proofs.OpenSteps.content_before, proofs.OpenSteps.pair_count, proofs.LastKey.last_key_with}
 use Rattle.cbor_strict.specs.inner.LastKeys.{KeysView, stands_in_key, keys_around, levels_of, before_last, kept_bytes, kept_before, span, spans_of, with_last, with_key, IsKept, HasKeyEnded}
 use Rattle.cbor_strict.proofs.KeptKeys.{in_some_key, in_no_key, kept_if_in, kept_if_out, kept_in_key, kept_size, span_is}
 use Rattle.cbor_strict.specs.declared.last_keys.{Expected.TheVariants.Key, Expected.TheVariants.Value, KeySpan.KeySpan}
@@ -17,7 +17,7 @@ before_last_with no_entries k v = refl
 before_last_with (entry l m no_entries) k v = omega (arith, length-append (spell l ++ spell m) [])
 before_last_with (entry l m (entry n o es)) k v = omega (arith, before_last_with (entry n o es) k v, length-append (spell l ++ spell m) (spell_entries (entry n o es)))
 
--- where the last key stands among the pairs
+-- where the last key is among the pairs
 pub record LastPlace (a : SpelledEntries) : Type 0 where
   pub prefix : List ℕ
   pub rest : List ℕ
@@ -36,7 +36,7 @@ last_place (entry k v (entry l w es)) =
       size = omega (arith, length-append (spell k ++ spell v) p.prefix, p.size);
     }
 
--- where the last key and the one that ended stand in the buffer
+-- where the last key and the one that ended are in the buffer
 record KeyPlaces (bytes last key : List ℕ) (sp : KeySpan) : Type 0 where
   pub prefix : List ℕ
   pub between : List ℕ
@@ -63,7 +63,7 @@ places_bounds bytes last key sp p =
     let all = ap length p.splits ∙ length-append p.prefix (last ++ (p.between ++ key)) in
     (omega (arith, p.from, p.to), omega (arith, p.to, p.next), omega (arith, p.next, all, length-append last (p.between ++ key), length-append p.between key))
 
--- the last of a list, and another in its place
+-- the last of a list is replaced
 module _ {A : Type 0} where
   pub last_is : (xs ys : List A) (x y : A) → xs ≡ ys ++ y ∷ [] → x ≡ slice_index_or xs (length xs - 1) x → x ≡ y
   last_is xs ys x y e g =
@@ -132,7 +132,7 @@ module _ (k : KeysView) (w : Width) (a : SpelledEntries) (v : Spelling) (b : Spe
   pub key_compared : (take (sp.to - sp.from) (drop sp.from k.bytes) ≡ last_key a) × (drop sp.next k.bytes ≡ spell s)
   key_compared = (compared_last k.bytes (last_key a) (spell s) sp key_places, compared_key k.bytes (last_key a) (spell s) sp key_places)
 
-  -- the key takes its place
+  -- the key replaces it
   abbrev of_value : Bool → KeySpan
   of_value q =
       let from = kept_before fs + (if q then length (hd ++ spell_entries a) else 0) in

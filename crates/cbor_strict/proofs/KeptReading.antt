@@ -1,16 +1,16 @@
--- What the strict reader keeps, by the items that start with the bytes it read.
+-- What the strict reader stores, by the items that start with the bytes it read.
 use Rattle.std.proofs.Common.{◌≡◌, ℕ, zero, suc, ◌+◌, ◌-◌, ◌<◌, ◌≤◌, Bool, true, false, true≢false, List, [], ◌∷◌, ◌++◌, length, refl, sym, ap, ◌∙◌, subst, inl, inr, arith, append_assoc, append-nil, nat_lt, if◌then◌else◌, length-append, lt-ltb}
 use Rattle.std.proofs.lemmas.Bool.{lt-leb, cases_Bool}
 use Rattle.cbor_head.specs.Prelude.{head, Holds, Bounds, Spelling, Spellings, SpelledEntries, bytes, text, array, a_map, tag, no_spellings, a_spelling, no_entries, entry, spell, spell_entries, spellings_count, entries_count, IsSpelled, strict}
 use Rattle.cbor_head.specs.declared.major.Major.TheVariants.{Bytes, Text, Array, Map, Tag}
 use Rattle.cbor_head.specs.{Laws.StartsWith, declared.major.Major.Major, declared.order.KeyOrder.KeyOrder, declared.width.Width.Width}
-use Rattle.cbor_model.proofs.Parts.{major, width, count, head_of, body, parts, holds_of, one_head, as_bytes, as_text}
-use Rattle.cbor_model.proofs.ReadLaws.{unique, length_spell, length_head, holds_or_open}
+use Rattle.theory_values.proofs.Parts.{major, width, count, head_of, body, parts, holds_of, one_head, as_bytes, as_text}
+use Rattle.theory_values.proofs.ReadLaws.{unique, length_spell, length_head, holds_or_open}
 use Rattle.cbor_machine.specs.NextEvent.{ItemEventsView}
-use Rattle.cbor_verdict.specs.Place.{Container, Place, at_item, payload, open_at}
-use Rattle.cbor_verdict.specs.Frame.{Frame, a_member, a_key, a_content, tagged, before}
-use Rattle.cbor_verdict.specs.OpenMaps.{before_all, ArePath, AreClosedClean}
-use Rattle.cbor_verdict.{specs.LastKey.last_key, specs.Reading.IsAt, specs.Reading.string_major, proofs.ParseState.open-is, proofs.OpenSteps.before_snoc}
+use Rattle.theory_verdicts.specs.Place.{Container, Place, at_item, payload, open_at}
+use Rattle.theory_verdicts.specs.Frame.{Frame, a_member, a_key, a_content, tagged, before}
+use Rattle.theory_verdicts.specs.OpenMaps.{before_all, ArePath, AreClosedClean}
+use Rattle.theory_verdicts.{specs.LastKey.last_key, specs.Reading.IsAt, specs.Reading.string_major, proofs.ParseState.open-is, proofs.OpenSteps.before_snoc}
 use Rattle.cbor_strict.specs.KeptKeys.{open_maps, open_maps_in, key_bytes, key_bytes_in, key_bytes_in_entries}
 use Rattle.cbor_strict.specs.inner.LastKeys.{view_value, from_outside, is_key, stands_in_key, complete_key, kept_bytes, spans_of, spans_in, IsKept}
 use Rattle.cbor_strict.specs.inner.OpenItems.{frames_in, bytes_before, Stands}
@@ -130,7 +130,7 @@ around_path : (o : KeyOrder) (left : ℕ) (gs : List Frame) (at : ℕ) → ArePa
 around_path o left [] at h c = tt
 around_path o left (f ∷ gs) at h c = (h.0, has_length o at f c.0, around_path o left gs _ h.2 c.1)
 
--- ---- what is kept
+-- ---- what is stored
 
 pub record IsCounted (v : OpenItems) (n : ℕ) (s : Spelling) : Type 0 where
   pub spans : length (view_value v.keys).spans ≡ open_maps n s

@@ -1,3 +1,4 @@
+pub mod Admitted
 pub mod FrameCounts
 pub mod FrameStarts
 pub mod KeptCounts
@@ -8,8 +9,8 @@ pub mod KeptReading
 pub mod OpenBegins
 pub mod OpenEnds
 pub mod OpenHeads
-pub mod OpenItems
 pub mod OpenPieces
+pub mod OpenStates
 pub mod StrictKinds
 pub mod StrictLoop
 pub mod StrictReading

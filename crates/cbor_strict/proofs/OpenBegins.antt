@@ -1,25 +1,26 @@
--- What a head begins in the open containers, whatever is kept of them.
+-- What a head begins in the open containers, whatever is stored of them.
 use Rattle.std.proofs.Common.{◌≡◌, ℕ, zero, suc, ◌+◌, ◌-◌, ◌<◌, Bool, true, false, Option, Some, None, List, [], ◌∷◌, ◌++◌, length, refl, sym, ap, ◌∙◌, subst, arith, append-nil}
 use Rattle.std.proofs.{lemmas.Str.IsUtf8-nil, KnownBytes.Consumes-nil}
 use Rattle.cbor_head.specs.Prelude.{head, Bounds, Value, Spelling, SpelledEntries, no_spellings, no_entries, spellings_count, entries_count, strict, Complaint, OfCount, OfHead}
 use Rattle.cbor_head.specs.Complaint as complaint
 use Rattle.cbor_head.specs.declared.major.Major.TheVariants as majors
 use Rattle.cbor_head.specs.declared.reason.Reason.TheVariants as reasons
-use Rattle.cbor_head.specs.declared.{major.Major.Major, order.KeyOrder.KeyOrder, width.Width.Width, width.Width.TheVariants.Indefinite}
-use Rattle.cbor_automaton.specs.declared.event.EventKind.TheVariants as kinds
-use Rattle.cbor_automaton.specs.{Trace.Mark, Trace.a_head, Marks.mark_of, declared.event.EventKind.EventKind}
+use Rattle.cbor_head.specs.declared.event.EventKind.TheVariants as kinds
+use Rattle.cbor_head.specs.declared.{event.EventKind.EventKind, major.Major.Major, order.KeyOrder.KeyOrder, width.Width.Width}
+use Rattle.cbor_head.specs.declared.width.Width.TheVariants.{Indefinite}
+use Rattle.theory_automaton.specs.{Trace.Mark, Trace.a_head, Marks.mark_of}
 use Rattle.cbor_machine.specs.NextEvent.{ItemEventsView}
-use Rattle.cbor_verdict.specs.Place.{Container, Place, at_item, counted, close, expect, payload, Ends}
-use Rattle.cbor_verdict.specs.Frame.{Frame, a_member, a_key, tagged, before}
-use Rattle.cbor_verdict.specs.Reading.{IsAt, OfMark, IsBegun, ReadsItem, ReadsPayload, string_kind, string_major}
-use Rattle.cbor_verdict.proofs.Members.{starts-array, array-whole, starts-with, map-whole}
-use Rattle.cbor_verdict.proofs.Items.{definite, proper-definite, never-open, is-definite, head-count}
-use Rattle.cbor_verdict.proofs.Judged.{zero_item, zeros, zeros_count, zero_pairs, pairs_count}
-use Rattle.cbor_verdict.proofs.OpenSteps.{distinct_snoc, array_opens, map_opens, tag_opens}
-use Rattle.cbor_verdict.proofs.Scalars.{at-as, reads-unsigned, reads-negative, reads-simple}
-use Rattle.cbor_verdict.{specs.Judged.IsJudged, specs.Judged.Never, specs.OpenMaps.AreOpen, specs.OpenMaps.AreOpenDistinct, proofs.Heads.open_or}
-use Rattle.cbor_verdict.proofs.{OpenMaps.judged_within, WholeStrings.string-expected, WholeStrings.reads-string}
-use Rattle.cbor_verdict.{specs.Kinds.KeepsToKinds, specs.Kinds.IsKeyExpected, proofs.ItemExpected.ExpectsItem, proofs.KindFrames.around_frames}
+use Rattle.theory_verdicts.specs.Place.{Container, Place, at_item, counted, close, expect, payload, Ends}
+use Rattle.theory_verdicts.specs.Frame.{Frame, a_member, a_key, tagged, before}
+use Rattle.theory_verdicts.specs.Reading.{IsAt, OfMark, IsBegun, ReadsItem, ReadsPayload, string_kind, string_major}
+use Rattle.theory_verdicts.proofs.Members.{starts-array, array-whole, starts-with, map-whole}
+use Rattle.theory_verdicts.proofs.Items.{definite, proper-definite, never-open, is-definite, head-count}
+use Rattle.theory_verdicts.proofs.Judged.{zero_item, zeros, zeros_count, zero_pairs, pairs_count}
+use Rattle.theory_verdicts.proofs.OpenSteps.{distinct_snoc, array_opens, map_opens, tag_opens}
+use Rattle.theory_verdicts.proofs.Scalars.{at-as, reads-unsigned, reads-negative, reads-simple}
+use Rattle.theory_verdicts.{specs.Judged.IsJudged, specs.Judged.Never, specs.OpenMaps.AreOpen, specs.OpenMaps.AreOpenDistinct, proofs.Heads.open_or}
+use Rattle.theory_verdicts.proofs.{OpenMaps.judged_within, WholeStrings.string-expected, WholeStrings.reads-string}
+use Rattle.theory_verdicts.{specs.Kinds.KeepsToKinds, specs.Kinds.IsKeyExpected, proofs.ItemExpected.ExpectsItem, proofs.KindFrames.around_frames}
 use Rattle.cbor_strict.specs.inner.OpenItems.{AreOpenClean, frames_in, bytes_before, IsLeaf, IsMap, IsOther}
 use Rattle.cbor_strict.specs.{declared.open_items.OpenItems.OpenItems, inner.LastKeys.from_outside, inner.LastKeys.expected_of}
 use Rattle.cbor_strict.{specs.declared.last_keys.Expected.TheVariants.Member, proofs.OpenEnds.outside_length, proofs.OpenEnds.frames_length}
@@ -53,12 +54,12 @@ expects v b t fs clean taken keeps =
 
 -- ---- an item of one head
 
--- no break may come where an item is expected
+-- no break is allowed where an item is expected
 pub no_break : (fs : List Frame) (next : Place) → Ends (frames_in fs) next → ⊥
 no_break (a_member w a b ∷ fs) next h = h
 no_break _ next h = h
 
--- without complaint no head is without a length
+-- a head of indefinite length has a complaint
 pub no_openers : (o : KeyOrder) (b : Bounds) (fs : List Container) (t x : List ℕ) (e : ItemEventsView) (w : Width) (m : Major) (n : ℕ) (kind : EventKind) → mark_of w kind ≡ a_head m w n → w ≡ Indefinite → IsBegun (strict o) b fs t x e w kind → ⊥
 no_openers o b fs t x e w m n kind is opener i =
     i.clean (complaint.complaint (length t + 1) (length t) reasons.Indefinite)

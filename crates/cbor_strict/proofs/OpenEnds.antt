@@ -1,4 +1,4 @@
--- What becomes of the open containers as an item ends in them, whatever is kept of them.
+-- How the open containers change when an item ends in them, whatever is stored of them.
 use Rattle.std.proofs.Common.{◌≡◌, ◌≢◌, ℕ, suc, ◌+◌, ◌-◌, ◌≤◌, IsTrue, Option, Some, List, [], ◌∷◌, ◌++◌, length, refl, sym, ap, ◌∙◌, subst, inl, inr, arith, append_assoc, length-append}
 use Rattle.cbor_head.specs.Prelude.{Bounds, key_lt, Spelling, Spellings, SpelledEntries, no_spellings, a_spelling, no_entries, entry, spell, spellings_count, entries_count, IsSpelled, depth, rising, Rules, strict, OfCount, OfKey, Complains, refusal}
 use Rattle.cbor_head.specs.Complaint as complaint
@@ -6,15 +6,15 @@ use Rattle.cbor_head.specs.declared.reason.Reason.TheVariants as reasons
 use Rattle.cbor_head.specs.declared.{major.Major.Major, major.Major.TheVariants.Array, major.Major.TheVariants.Map, order.KeyOrder.KeyOrder}
 use Rattle.cbor_head.specs.declared.{reason.Refusal.Refusal, width.Width.Width, width.Width.TheVariants.Indefinite}
 use Rattle.cbor_machine.specs.NextEvent.{ItemEventsView}
-use Rattle.cbor_verdict.specs.Place.{Container, at_item, counted, close, Place, open_at}
-use Rattle.cbor_verdict.specs.Frame.{Frame, a_member, a_key, a_content, tagged, with_all, with_entries, keys_onto, plug, before, OfPrefix}
-use Rattle.cbor_verdict.specs.OpenMaps.{placed, open_keys, AreDistinct, OfClosed, before_all, AreOpen, AreOpenDistinct}
-use Rattle.cbor_verdict.proofs.OpenKeys.{on_keys_split, onto_keys, prefix_apart}
-use Rattle.cbor_verdict.proofs.OpenSteps.{before_snoc, distinct_snoc, member_before, content_before, content_keys, map_closes, array_closes, tag_closes, shuts, innermost, member_ends, key_ends, content_ends}
-use Rattle.cbor_verdict.proofs.LastKey.{key-fresh, key-falls, last_is}
-use Rattle.cbor_verdict.specs.{Judged.IsJudged, Judged.Never, Reading.IsAt, Reading.HasCause, LastKey.last_key}
-use Rattle.cbor_verdict.proofs.{Frames.spelled_plug, Frames.depth_plug, Judged.judged_key, OpenMaps.judged_within, Items.whole-cause, Scalars.at-as}
-use Rattle.cbor_verdict.proofs.{Steps.at-reached, ParseState.open-is}
+use Rattle.theory_verdicts.specs.Place.{Container, at_item, counted, close, Place, open_at}
+use Rattle.theory_verdicts.specs.Frame.{Frame, a_member, a_key, a_content, tagged, with_all, with_entries, keys_onto, plug, before, OfPrefix}
+use Rattle.theory_verdicts.specs.OpenMaps.{placed, open_keys, AreDistinct, OfClosed, before_all, AreOpen, AreOpenDistinct}
+use Rattle.theory_verdicts.proofs.OpenKeys.{on_keys_split, onto_keys, prefix_apart}
+use Rattle.theory_verdicts.proofs.OpenSteps.{before_snoc, distinct_snoc, member_before, content_before, content_keys, map_closes, array_closes, tag_closes, shuts, innermost, member_ends, key_ends, content_ends}
+use Rattle.theory_verdicts.proofs.LastKey.{key-fresh, key-falls, last_is}
+use Rattle.theory_verdicts.specs.{Judged.IsJudged, Judged.Never, Reading.IsAt, Reading.HasCause, LastKey.last_key}
+use Rattle.theory_verdicts.proofs.{Frames.spelled_plug, Frames.depth_plug, Judged.judged_key, OpenMaps.judged_within, Items.whole-cause, Scalars.at-as}
+use Rattle.theory_verdicts.proofs.{Steps.at-reached, ParseState.open-is}
 use Rattle.cbor_strict.specs.inner.LastKeys.{from_outside, IsFull, HasLength, AreDefinite, still_open, ended_item}
 use Rattle.cbor_strict.{specs.inner.OpenItems.frames_in, specs.inner.OpenItems.bytes_before, proofs.KeptEnds.full_bytes}
 
@@ -34,7 +34,7 @@ before_more fs f = before_snoc (from_outside fs) f
 pub before_size : (fs : List Frame) (f : Frame) → length (bytes_before (f ∷ fs)) ≡ length (bytes_before fs) + length (before f)
 before_size fs f = ap length (before_more fs f) ∙ length-append (bytes_before fs) (before f)
 
--- by the strict rules each has a length
+-- by the strict rules each is of definite length
 definite_if : (o : KeyOrder) (at : ℕ) (m : Major) (w : Width) (n : ℕ) → Never (OfCount (strict o) at m w n) → w ≢ Indefinite
 definite_if o at m w n h e =
     h (complaint.complaint (at + 1) at reasons.Indefinite) (subst (λ (v : Width). OfCount (strict o) at m v n (complaint.complaint (at + 1) at reasons.Indefinite)) (sym e) (refl, refl))
@@ -57,7 +57,7 @@ distinct_outer (g ∷ fs) f r at to e h =
 
 -- ---- what closes
 
--- which containers are open still
+-- which containers are still open
 pub data StaysOpen : List Frame → Type 0 where
   none_open : StaysOpen []
   member_open : (w : Width) (a : Spellings) (t : Spelling) (b : Spellings) (gs : List Frame) → StaysOpen (a_member w a (a_spelling t b) ∷ gs)
@@ -144,7 +144,7 @@ still_count (tagged w n ∷ fs) = still_count fs
 pub open_so : (b : Bounds) (e : ItemEventsView) (t : List ℕ) (fs : List Frame) → (a : IsAt b e t (close (frames_in fs))) → e.machine.open_count ≡ length (still_open fs)
 open_so b e t fs a = open-is b e t (close (frames_in fs)) a ∙ still_count fs
 
--- ---- behind what closed
+-- ---- after what closed
 
 -- the item that ended, in the containers that stay open
 pub record EndsIn (o : KeyOrder) (b : Bounds) (e : ItemEventsView) (t : List ℕ) (gs : List Frame) (s : Spelling) : Type 0 where
@@ -217,7 +217,7 @@ module _ (o : KeyOrder) (b : Bounds) (e : ItemEventsView) (t : List ℕ) (gs : L
         at = m.at;
       }
 
-  -- the key is why the whole is refused
+  -- the whole is refused because of the key
   pub key_refused : (w : Width) (a : SpelledEntries) (v : Spelling) (c : SpelledEntries) (to : Option (List ℕ)) (f : Refusal) → EndsIn o b e t (a_key w a v c ∷ gs) s → ¬ IsTrue (key_lt o (last_key a) (spell s))
       → f ≡ refusal reasons.KeyOrder (length (bytes_before (a_key w a v c ∷ gs))) (length t) → HasCause (strict o) b [] [] t to f
   key_refused w a v c to f m falls_so is =

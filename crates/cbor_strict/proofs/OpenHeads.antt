@@ -1,29 +1,29 @@
--- What becomes of the open containers as a head comes.
+-- How a head changes the open containers.
 use Rattle.std.proofs.Common.{◌≡◌, ◌≢◌, ℕ, ◌+◌, ◌<◌, ◌≤◌, ◌⊎◌, Bool, true, false, Option, Some, None, List, [], ◌∷◌, ◌++◌, length, refl, sym, ap, ◌∙◌, subst, inl, inr, arith, append-nil, length-append}
 use Rattle.std.proofs.lemmas.List.{nil_from_length}
 use Rattle.cbor_head.specs.Prelude.{head, shortest, shortest_head, Bounds, Value, Spelling, SpelledEntries, no_entries, spell, strict, OfHead, Complains, refusal}
 use Rattle.cbor_head.specs.Complaint as complaint
 use Rattle.cbor_head.specs.declared.major.Major.TheVariants as majors
 use Rattle.cbor_head.specs.declared.width.Width.TheVariants.{Direct, One, Two, Four, Eight, Indefinite}
+use Rattle.cbor_head.specs.declared.event.EventKind.TheVariants as kinds
 use Rattle.cbor_head.specs.declared.{limits.TheConstants.MAX_DEPTH, major.Major.Major, order.KeyOrder.KeyOrder, reason.Reason.Reason}
-use Rattle.cbor_head.specs.declared.{reason.Reason.TheVariants.Memory, reason.Refusal.Refusal, width.Width.Width}
+use Rattle.cbor_head.specs.declared.{reason.Reason.TheVariants.Memory, reason.Refusal.Refusal, width.Width.Width, event.Event.Event, event.EventKind.EventKind}
 use Rattle.cbor_text.specs.TextCheck.{HasChecked}
-use Rattle.cbor_automaton.specs.declared.event.EventKind.TheVariants as kinds
-use Rattle.cbor_automaton.specs.Trace.{Mark, a_head, a_chunk, a_byte, a_break}
-use Rattle.cbor_automaton.specs.{Marks.mark_of, declared.event.Event.Event, declared.event.EventKind.EventKind}
+use Rattle.theory_automaton.specs.Trace.{Mark, a_head, a_chunk, a_byte, a_break}
+use Rattle.theory_automaton.specs.Marks.{mark_of}
 use Rattle.cbor_machine.specs.NextEvent.{ItemEventsView}
-use Rattle.cbor_verdict.specs.Place.{Container, Place, at_item, close, payload, IsTaking}
-use Rattle.cbor_verdict.specs.Frame.{Frame, a_key, before}
-use Rattle.cbor_verdict.specs.Reading.{AreRefused, IsReached, IsUndecided, HasCause, OfMark, IsFault, IsHeadFault, IsBegun, ReadsItem, string_kind, string_major}
-use Rattle.cbor_verdict.proofs.Items.{whole-cause, definite, proper-definite, never-open, head-count, cause-in, undecided-in, head-judged}
-use Rattle.cbor_verdict.proofs.Steps.{head-size, fault_of, at-reached}
-use Rattle.cbor_verdict.{specs.OpenMaps.AreOpen, specs.OpenMaps.AreOpenDistinct, specs.Judged.Never, proofs.Scalars.at-as, proofs.Undecided.mark-undecided}
-use Rattle.cbor_verdict.proofs.WholeStrings.{string-head, string-expected}
+use Rattle.theory_verdicts.specs.Place.{Container, Place, at_item, close, payload, IsTaking}
+use Rattle.theory_verdicts.specs.Frame.{Frame, a_key, before}
+use Rattle.theory_verdicts.specs.Reading.{AreRefused, IsReached, IsUndecided, HasCause, OfMark, IsFault, IsHeadFault, IsBegun, ReadsItem, string_kind, string_major}
+use Rattle.theory_verdicts.proofs.Items.{whole-cause, definite, proper-definite, never-open, head-count, cause-in, undecided-in, head-judged}
+use Rattle.theory_verdicts.proofs.Steps.{head-size, fault_of, at-reached}
+use Rattle.theory_verdicts.{specs.OpenMaps.AreOpen, specs.OpenMaps.AreOpenDistinct, specs.Judged.Never, proofs.Scalars.at-as, proofs.Undecided.mark-undecided}
+use Rattle.theory_verdicts.proofs.WholeStrings.{string-head, string-expected}
 use Rattle.cbor_strict.specs.inner.LastKeys.{view_value, from_outside, expected_of, IsKept}
 use Rattle.cbor_strict.specs.inner.OpenItems.{AreOpenClean, frames_in, bytes_before, Stands, HasEnded, HasHeadCome, HasBegunIn, IsLeaf, IsMap, IsOther, GoesOn}
 use Rattle.cbor_strict.proofs.OpenBegins.{lift, no_break, no_openers, leaf_reads, HasOpened, other_opens, pairs_open}
 use Rattle.cbor_strict.specs.declared.{last_keys.Expected.TheVariants.Member, last_keys.LastKeys.LastKeys, open_items.OpenItems.OpenItems}
-use Rattle.cbor_strict.proofs.{KeptEnds.kept_keys, KeptEnds.kept_levels, OpenEnds.frames_length, OpenEnds.before_more, OpenItems.around_as}
+use Rattle.cbor_strict.proofs.{KeptEnds.kept_keys, KeptEnds.kept_levels, OpenEnds.frames_length, OpenEnds.before_more, OpenStates.around_as}
 
 -- ---- what is found of the item is found of the whole
 
@@ -58,7 +58,7 @@ refused_head v b event m k t x e reason f taken to mark h head_fault all is =
 
 -- ---- no memory for it
 
--- without complaint it is definite, and as short as can be
+-- a head without complaint is definite, and the shortest
 same_width : (v w : Width) → (v ≡ w) ⊎ (v ≡ w → ⊥)
 same_width Direct Direct = inl refl
 same_width One One = inl refl
@@ -91,14 +91,14 @@ begun_in v b event m n t x e is h fine = record {
   at = h.at;
 }
 
--- memory is refused behind a head that has no complaint
+-- memory is refused after a head that has no complaint
 pub begun_no_memory : (v : OpenItems) (b : Bounds) (w : Width) (kind : EventKind) (t x : List ℕ) (e : ItemEventsView) (f : Refusal) (taken : ℕ) (to : Option (List ℕ)) (fs : List Frame) → AreOpenClean v b fs → t ≡ bytes_before fs
     → IsBegun (strict v.order) b (frames_in fs) t x e w kind → taken ≡ e.machine.taken → f ≡ refusal Memory taken taken → AreRefused (strict v.order) b (t ++ x) to f
 begun_no_memory v b w kind t x e f taken to fs around before i all is =
     memory_part v.order b fs around.are around.distinct x (t ++ x) to f taken (ap (λ (y : List ℕ). y ++ x) before) (all ∙ i.at.stands.stands.taken) is (at-reached b e (t ++ x) i.next i.at)
     (mark-undecided (strict v.order) b (frames_in fs) (bytes_before fs) x (mark_of w kind) i.next i.taking)
 
--- what is kept now
+-- what is stored now
 pub begun_kept : (v new : OpenItems) (b : Bounds) (event : Event) (m : Major) (n : ℕ) (t x : List ℕ) (e : ItemEventsView) → mark_of event.width event.kind ≡ a_head m event.width n → (h : HasHeadCome v b event t x e) → ((reason : Reason) → IsHeadFault event.width n reason → ⊥)
     → new.order ≡ v.order → new.left ≡ v.left → ((fs : List Frame) → IsKept (view_value v.keys) fs [] → IsKept (view_value new.keys) fs (shortest_head m n)) → HasBegunIn new b event.width event.kind t x e
 begun_kept v new b event m n t x e is h fine same same_left kept =

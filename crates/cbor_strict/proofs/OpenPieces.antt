@@ -1,18 +1,18 @@
--- What becomes of the open containers as the parts of a payload come.
+-- How the parts of a payload change the state.
 use Rattle.std.proofs.Common.{◌≡◌, ℕ, ◌+◌, ◌-◌, ◌<◌, ◌≤◌, Bool, true, false, Option, List, ◌++◌, length, refl, sym, ap, ◌∙◌, subst, inl, inr, arith, append_assoc, IsUtf8, length-append}
 use Rattle.std.specs.Str.Lossy.{utf8_valid_len}
 use Rattle.cbor_head.specs.Prelude.{Holds, head, Bounds, AreBytes, spell, strict, OfHead, Complains, refusal}
 use Rattle.cbor_head.specs.declared.{order.KeyOrder.KeyOrder, reason.Reason.TheVariants.Memory, reason.Reason.TheVariants.InvalidText, reason.Refusal.Refusal}
-use Rattle.cbor_model.proofs.ByteLists.{bytes_join}
+use Rattle.theory_values.proofs.ByteLists.{bytes_join}
 use Rattle.cbor_text.specs.TextCheck.{HasChecked}
 use Rattle.cbor_machine.specs.NextEvent.{ItemEventsView}
-use Rattle.cbor_verdict.specs.Reading.{AreRefused, IsAt, string_major}
-use Rattle.cbor_verdict.proofs.WholeStrings.{StringHead, made_of, made-spells, made-spelled, made-flat, made-clean, string-undecided, text-judged}
-use Rattle.cbor_verdict.{specs.Place.close, specs.Place.payload, specs.Frame.Frame, specs.Judged.Never, proofs.Scalars.at-as, proofs.Steps.at-reached}
-use Rattle.cbor_verdict.proofs.Undecided.{is-part}
+use Rattle.theory_verdicts.specs.Reading.{AreRefused, IsAt, string_major}
+use Rattle.theory_verdicts.proofs.WholeStrings.{StringHead, made_of, made-spells, made-spelled, made-flat, made-clean, string-undecided, text-judged}
+use Rattle.theory_verdicts.{specs.Place.close, specs.Place.payload, specs.Frame.Frame, specs.Judged.Never, proofs.Scalars.at-as, proofs.Steps.at-reached}
+use Rattle.theory_verdicts.proofs.Undecided.{is-part}
 use Rattle.cbor_strict.specs.inner.OpenItems.{frames_in, bytes_before, Stands, HasEnded, HasPartCome}
 use Rattle.cbor_strict.specs.{declared.last_keys.LastKeys.LastKeys, declared.open_items.OpenItems.OpenItems, inner.LastKeys.view_value, inner.LastKeys.IsKept}
-use Rattle.cbor_strict.proofs.{OpenHeads.refused_part, OpenHeads.memory_part, OpenItems.around_as}
+use Rattle.cbor_strict.proofs.{OpenHeads.refused_part, OpenHeads.memory_part, OpenStates.around_as}
 
 module _ (v : OpenItems) (b : Bounds) (old : ItemEventsView) (t x : List ℕ) (e : ItemEventsView) (h : HasPartCome v b old t x e) where
   abbrev hd : List ℕ
@@ -94,7 +94,7 @@ module _ (v : OpenItems) (b : Bounds) (old : ItemEventsView) (t x : List ℕ) (e
           at = at-as b e (t ++ x) (t ++ x) _ (close (frames_in h.expected.fs)) refl (ap (λ (n : ℕ). payload false (string_major v.is_text) n (frames_in h.expected.fs)) none) at_so;
         }
 
-    -- it is no text
+    -- it is not UTF-8
     pub part_no_text : (f : Refusal) (taken place : ℕ) (to : Option (List ℕ)) → new.left ≡ 0 → v.is_text ≡ true → ¬ IsUtf8 (h.expected.q ++ x) → taken ≡ e.machine.taken → place + length (h.expected.q ++ x) ≡ taken + utf8_valid_len (h.expected.q ++ x)
         → f ≡ refusal InvalidText place taken → AreRefused (strict v.order) b (t ++ x) to f
     part_no_text f taken place to none text_so no_text all place_is is =

@@ -3,13 +3,13 @@ use Rattle.std.proofs.Common.{◌≡◌, ℕ, ◌+◌, ◌-◌, ◌<◌, ◌≤�
 use Rattle.cbor_head.specs.Prelude.{Holds, head, Bounds, AreBytes, HoldsOrIndefinite, Rules}
 use Rattle.cbor_head.specs.declared.major.Major.TheVariants as majors
 use Rattle.cbor_head.specs.declared.width.Width.{Width}
-use Rattle.cbor_model.proofs.{ReadLaws.length_head, ByteLists.bytes_join}
-use Rattle.cbor_verdict.specs.Kinds.{KeepsToKinds, IsKeyExpected, IsKeyFrame, IsOfOneHead}
-use Rattle.cbor_verdict.proofs.Heads.{open_or, zero_bytes, zero_length}
-use Rattle.cbor_verdict.proofs.KindBytes.{kinds_behind, Begins, string_is_one}
-use Rattle.cbor_verdict.proofs.KindFrames.{expected_last, IsAround, around_frames, keeps_more}
-use Rattle.cbor_verdict.proofs.WholeStrings.{made_of, made-spells, made-spelled, made-flat}
-use Rattle.cbor_verdict.specs.{Frame.Frame, Frame.a_key, OpenMaps.before_all, OpenMaps.ArePath, Reading.string_major}
+use Rattle.theory_values.proofs.{ReadLaws.length_head, ByteLists.bytes_join}
+use Rattle.theory_verdicts.specs.Kinds.{KeepsToKinds, IsKeyExpected, IsKeyFrame, IsOfOneHead}
+use Rattle.theory_verdicts.proofs.Heads.{open_or, zero_bytes, zero_length}
+use Rattle.theory_verdicts.proofs.KindBytes.{kinds_behind, Begins, string_is_one}
+use Rattle.theory_verdicts.proofs.KindFrames.{expected_last, IsAround, around_frames, keeps_more}
+use Rattle.theory_verdicts.proofs.WholeStrings.{made_of, made-spells, made-spelled, made-flat}
+use Rattle.theory_verdicts.specs.{Frame.Frame, Frame.a_key, OpenMaps.before_all, OpenMaps.ArePath, Reading.string_major}
 use Rattle.cbor_strict.specs.inner.LastKeys.{KeysView, IsKept, from_outside, expected_of}
 use Rattle.cbor_strict.specs.declared.last_keys.Expected.{Expected, TheVariants.Member, TheVariants.Key}
 
@@ -33,11 +33,11 @@ module _ (limits : Bounds) (r : Rules) (fs : List Frame) (left : ℕ) (levels : 
   around : IsAround limits.depth left fs (before_all fs) (IsKeyExpected fs)
   around = around_frames limits.depth left fs (before_all fs) levels path refl
 
-  -- further bytes of an item that holds no others
+  -- further bytes of an item without members
   keeps_further : (x y : List ℕ) → 0 < length x → Begins left (x ++ y) → IsOfOneHead (x ++ y) → KeepsToKinds limits r (before_all fs ++ x) → KeepsToKinds limits r (before_all fs ++ (x ++ y))
   keeps_further x y some g one keeps = keeps_more limits r around g.item x y g.rest g.spelled g.within g.bytes some (λ c o. inr (kinds_behind g.item g.spelled (x ++ y) g.rest g.bytes one _ c o)) keeps
 
--- a string, of which so much came
+-- a string of which a part was read
 string_one : (is_text : Bool) (w : Width) (n : ℕ) (q : List ℕ) → HoldsOrIndefinite w n → IsOfOneHead (head (string_major is_text) w n ++ q)
 string_one true w n q h = string_is_one majors.Text w n q tt h
 string_one false w n q h = string_is_one majors.Bytes w n q tt h
@@ -54,7 +54,7 @@ string_begins is_text w n left q holds are_bytes l =
       bytes = made-spells is_text w (q ++ more) ∙ ap (λ (k : ℕ). head (string_major is_text) w k ++ (q ++ more)) size ∙ sym (append_assoc (head (string_major is_text) w n) q more);
     }
 
--- and more of it comes
+-- and more of it is read
 pub keeps_string : (limits : Bounds) (r : Rules) (fs : List Frame) (left : ℕ) → length fs + left ≡ limits.depth → ArePath left fs → (is_text : Bool) (w : Width) (n : ℕ) (q y : List ℕ) → Holds w n → AreBytes (q ++ y) → length (q ++ y) ≤ n
     → KeepsToKinds limits r (before_all fs ++ (head (string_major is_text) w n ++ q)) → KeepsToKinds limits r (before_all fs ++ (head (string_major is_text) w n ++ (q ++ y)))
 keeps_string limits r fs left levels path is_text w n q y holds are_bytes l keeps =

@@ -4,16 +4,17 @@ use Rattle.std.{specs.Option.IfSome, specs.Io.KnownBytes.Consumes, proofs.KnownB
 use Rattle.cbor_head.specs.Prelude.{Bounds, spell, value_of, strict, Complains}
 use Rattle.cbor_head.specs.declared.major.Major.TheVariants as majors
 use Rattle.cbor_head.specs.declared.width.Width.TheVariants.{Direct, One, Two, Four, Eight, Indefinite}
-use Rattle.cbor_head.specs.declared.{major.Major.Major, order.KeyOrder.KeyOrder, reason.Refusal.Refusal, width.Width.Width}
-use Rattle.cbor_model.proofs.ReadLaws.{length_head}
-use Rattle.cbor_automaton.specs.Bytes.{IsHeadBytes, IsChunkHead, IsEventBytes, last_type}
-use Rattle.cbor_automaton.specs.declared.event.EventKind.TheVariants as kinds
-use Rattle.cbor_automaton.specs.{Trace.Mark, Marks.count_of, Marks.marks_of, declared.event.Event.Event, declared.event.EventKind.EventKind}
+use Rattle.cbor_head.specs.declared.event.EventKind.TheVariants as kinds
+use Rattle.cbor_head.specs.declared.{major.Major.Major, order.KeyOrder.KeyOrder, reason.Refusal.Refusal, width.Width.Width, event.Event.Event}
+use Rattle.cbor_head.specs.declared.event.EventKind.{EventKind}
+use Rattle.theory_values.proofs.ReadLaws.{length_head}
+use Rattle.theory_automaton.specs.Bytes.{IsHeadBytes, IsChunkHead, IsEventBytes, last_type}
+use Rattle.theory_automaton.specs.{Trace.Mark, Marks.count_of, Marks.marks_of}
 use Rattle.cbor_machine.specs.{Machine.KeepsLimits, Machine.IsComplete, NextEvent.ItemEventsView}
-use Rattle.cbor_verdict.specs.{Judged.Never, Kinds.KeepsToKinds, Reading.string_major, Place.done as at_end, Reading.IsPrefixUnread, Reading.ReadsItem, Readers.IsRead, Readers.Loses}
-use Rattle.cbor_verdict.proofs.Tops.{loses, known, item-read}
-use Rattle.cbor_verdict.{specs.Refusals.IsReaderReason, proofs.Payloads.IsPayload, proofs.Scalars.at-as}
-use Rattle.cbor_verdict.proofs.RefusedBehind.{stopped_from, stopped_prefix}
+use Rattle.theory_verdicts.specs.{Judged.Never, Kinds.KeepsToKinds, Reading.string_major, Place.done as at_end, Reading.IsPrefixUnread, Reading.ReadsItem, Readers.IsRead, Readers.Loses}
+use Rattle.theory_verdicts.proofs.Tops.{loses, known, item-read}
+use Rattle.theory_verdicts.{specs.Refusals.IsReaderReason, proofs.Payloads.IsPayload, proofs.Scalars.at-as}
+use Rattle.theory_verdicts.proofs.RefusedBehind.{stopped_from, stopped_prefix}
 use Rattle.cbor_strict.specs.StrictReader.{StrictEventsView, StandsStrictly, IsNextClean, IsCleanEnd, IsStrictRefusal, limits_of, strict_call}
 use Rattle.cbor_strict.specs.inner.OpenItems.{IsOver, Stands, frames_in}
 use Rattle.cbor_strict.{specs.declared.open_items.OpenItems.OpenItems, specs.inner.StrictEvents.bounds_of, proofs.StrictReading.same_bounds}

@@ -1,16 +1,15 @@
--- What the strict reader's state says of the bytes behind it.
+-- What the strict reader's state says of the bytes that follow.
 use Rattle.std.proofs.Common.{◌≡◌, ℕ, ◌-◌, ◌≤◌, ◌⊎◌, Option, Some, None, List, [], ◌++◌, length, refl, sym, ap, ◌∙◌, subst, inl, inr, arith, append-nil, Ok, Err}
 use Rattle.cbor_head.specs.Prelude.{head, Bounds, AreBounds, bounds, with_keys, Spelling, IsItem, Rules, strict, Complains, HasNoneOf}
 use Rattle.cbor_head.specs.{Laws.StartsWith, declared.keys.Keys.Keys, declared.order.KeyOrder.KeyOrder, declared.reason.Refusal.Refusal}
-use Rattle.cbor_head.specs.declared.reason.Reason.{Reason}
-use Rattle.cbor_model.proofs.Agree.{same_complaints}
-use Rattle.cbor_automaton.specs.{Trace.Mark, Bytes.IsBytesOf, Bytes.last_type, Marks.marks_of, declared.event.Event.Event, declared.event.EventKind.EventKind}
-use Rattle.cbor_automaton.specs.declared.event.EventKind.TheVariants.{Piece}
+use Rattle.cbor_head.specs.declared.{reason.Reason.Reason, event.Event.Event, event.EventKind.EventKind, event.EventKind.TheVariants.Piece}
+use Rattle.theory_values.proofs.Agree.{same_complaints}
+use Rattle.theory_automaton.specs.{Trace.Mark, Bytes.IsBytesOf, Bytes.last_type, Marks.marks_of}
 use Rattle.cbor_machine.specs.NextEvent.{ItemEventsView, StandsBetween, Call, call, machine_call, IsCut, IsTooLong, HasFormError, IsNextEvent, IsKept as IsPieceKept}
 use Rattle.cbor_machine.specs.{MachineView.MachineView, Machine.KeepsLimits}
-use Rattle.cbor_verdict.{specs.Refusals.IsReaderReason, specs.Judged.IsJudged, specs.Reading.string_major, proofs.Tops.starts-at, proofs.KindFrames.keeps_start}
-use Rattle.cbor_verdict.{proofs.Decisions.none_beside, specs.Kinds.KeepsToKinds, proofs.Judged.judged_start, proofs.CutHeads.string_cut}
-use Rattle.cbor_verdict.proofs.{OpenSteps.none_open, Steps.same-marks}
+use Rattle.theory_verdicts.{specs.Refusals.IsReaderReason, specs.Judged.IsJudged, specs.Reading.string_major, proofs.Tops.starts-at}
+use Rattle.theory_verdicts.{proofs.KindFrames.keeps_start, proofs.Decisions.none_beside, specs.Kinds.KeepsToKinds, proofs.Judged.judged_start}
+use Rattle.theory_verdicts.proofs.{CutHeads.string_cut, OpenSteps.none_open, Steps.same-marks}
 use Rattle.cbor_strict.specs.inner.OpenItems.{frames_in, bytes_before, Stands}
 use Rattle.cbor_strict.specs.StrictReader.{StrictEventsView, StandsStrictly, IsNextStrict, IsStrictRefusal, IsAgainstEvent, StopsAtOnce, strict_call}
 use Rattle.cbor_strict.specs.inner.StrictEvents.{StandsSomewhere, IsStep, AnswersStep, IsLittle, AreWithinBounds, bounds_of, piece_unless}
@@ -19,7 +18,7 @@ use Rattle.cbor_strict.proofs.{KeptReading.stands_counted, KeptReading.stands_li
 
 -- ---- nothing has a complaint
 
--- what was found of one item holds of each that starts alike
+-- what was found of one item holds of each that starts with the same bytes
 none_within : (o : KeyOrder) (d : ℕ) (t : List ℕ) → IsJudged (strict o) 0 d t None → (s : Spelling) → StartsWith d s t → HasNoneOf (Complains (strict o) 0 s) (length t)
 none_within o d t j s i c h l =
     let k = same_complaints d s j.item t i.0 j.rest i.1 j.is (strict o) c l h in
@@ -137,7 +136,7 @@ starts_within limits keys e v asks within live same h none kept =
       little = somewhere_little e v keys there;
     }
 
--- whichever limits ask for the same keys
+-- for any limits that restrict keys in the same way
 reason_as : (r : Rules) (limits others : Bounds) (x : Reason) → limits.keys ≡ others.keys → IsReaderReason limits r x → IsReaderReason others r x
 reason_as r limits others x e (inl h) = inl h
 reason_as r limits others x e (inr (inl (inl h))) = inr (inl (inl h))
@@ -199,7 +198,7 @@ module _ (e after : ItemEventsView) (v new : OpenItems) (keys : Keys) (from to :
         little = somewhere_little after new keys there;
       }
 
-  -- nothing is kept behind a refusal
+  -- nothing is stored after a refusal
   pub within_stopped : (f : Refusal) (r : Option Refusal) (last : LastKeys) → r ≡ None → AreWithinBounds e v keys r → AnswersStep keys v new e after from to (Err f) → new.order ≡ v.order → after.machine.taken ≡ f.read → IsKept (view_value last) [] [] → AreWithinBounds after (record new { keys = last }) keys (Some f)
   within_stopped f r last none h answers same read kept = record {
     stands = λ n. absurd (cc n);

@@ -1,19 +1,19 @@
 -- From one event to the next, by the strict rules.
 use Rattle.std.proofs.Common.{◌≡◌, ◌≢◌, ℕ, zero, suc, ◌<◌, Bool, true, false, Option, Some, None, List, [], ◌++◌, length, refl, sym, ap, ◌∙◌, subst, inl, inr, arith, append_assoc, length-append, Ok}
 use Rattle.cbor_head.specs.Prelude.{head, Bounds, AreBytes, strict}
-use Rattle.cbor_head.specs.declared.major.Major.{Major}
-use Rattle.cbor_model.proofs.ByteLists.{bytes_join}
-use Rattle.cbor_automaton.specs.declared.event.EventKind.TheVariants as kinds
-use Rattle.cbor_automaton.specs.{Trace.Mark, Marks.marks_of, Marks.mark_of, declared.event.Event.Event, declared.event.EventKind.EventKind}
+use Rattle.cbor_head.specs.declared.event.EventKind.TheVariants as kinds
+use Rattle.cbor_head.specs.declared.{major.Major.Major, event.Event.Event, event.EventKind.EventKind}
+use Rattle.theory_values.proofs.ByteLists.{bytes_join}
+use Rattle.theory_automaton.specs.{Trace.Mark, Marks.marks_of, Marks.mark_of}
 use Rattle.cbor_machine.specs.NextEvent.{ItemEventsView, StandsBetween, IsNextEvent, call, IsKept as IsPieceKept}
 use Rattle.cbor_machine.specs.{Machine.IsComplete, NextKey.IsBasicKind, NextKey.IsNextOf}
-use Rattle.cbor_verdict.specs.Place.{Container, Place, at_item, payload, done, IsTaking}
-use Rattle.cbor_verdict.specs.Kinds.{AsksForKinds, KeepsToKinds, IsKeyExpected}
-use Rattle.cbor_verdict.proofs.Payloads.{IsPiece, IsPayload, none-come, part-fits, part-comes, piece-expected}
-use Rattle.cbor_verdict.proofs.Steps.{SameLimits, next-at, head-taken, same-place}
-use Rattle.cbor_verdict.proofs.ItemExpected.{of_reported, of_end, head-keeps}
-use Rattle.cbor_verdict.{specs.Reading.IsAt, specs.Reading.string_major, proofs.Items.taking-some, proofs.Scalars.at-as}
-use Rattle.cbor_verdict.proofs.ParseState.{is-complete, is-done}
+use Rattle.theory_verdicts.specs.Place.{Container, Place, at_item, payload, done, IsTaking}
+use Rattle.theory_verdicts.specs.Kinds.{AsksForKinds, KeepsToKinds, IsKeyExpected}
+use Rattle.theory_verdicts.proofs.Payloads.{IsPiece, IsPayload, none-come, part-fits, part-comes, piece-expected}
+use Rattle.theory_verdicts.proofs.Steps.{SameLimits, next-at, head-taken, same-place}
+use Rattle.theory_verdicts.proofs.ItemExpected.{of_reported, of_end, head-keeps}
+use Rattle.theory_verdicts.{specs.Reading.IsAt, specs.Reading.string_major, proofs.Items.taking-some, proofs.Scalars.at-as}
+use Rattle.theory_verdicts.proofs.ParseState.{is-complete, is-done}
 use Rattle.cbor_strict.specs.inner.OpenItems.{frames_in, bytes_before, Stands, HasHeadCome, HasPartCome}
 use Rattle.cbor_strict.{proofs.StrictKinds.keeps_string, specs.declared.open_items.OpenItems.OpenItems, specs.inner.StrictEvents.HasCome}
 use Rattle.cbor_strict.{specs.inner.LastKeys.from_outside, proofs.OpenBegins.no_break, proofs.OpenBegins.expects}

@@ -1,16 +1,17 @@
--- Why no more is reported: the refusal is that of what was taken, and of what the reader held behind it.
+-- Why no more is reported: the refusal is that of the bytes consumed, and of what the reader held after
+-- them.
 use Rattle.std.proofs.Common.{◌≡◌, ℕ, ◌-◌, ◌<◌, ◌≤◌, ◌↔◌, Bool, true, false, true≢false, Option, None, List, [], ◌++◌, length, refl, sym, ap, ◌∙◌, subst, inl, inr, arith, append_assoc, Err, length-append}
 use Rattle.cbor_head.specs.Prelude.{head, Bounds, spell, strict}
 use Rattle.cbor_head.specs.declared.{order.KeyOrder.KeyOrder, reason.Reason.TheVariants.Memory, reason.Reason.TheVariants.KeyKind, reason.Refusal.Refusal}
 use Rattle.cbor_head.specs.declared.keys.Keys.{Keys, TheVariants.IntegersAndTexts}
-use Rattle.cbor_model.proofs.ByteLists.{bytes_join}
-use Rattle.cbor_automaton.specs.{Reasons.IsEventReason, Trace.Mark}
+use Rattle.theory_values.proofs.ByteLists.{bytes_join}
+use Rattle.theory_automaton.specs.{Reasons.IsEventReason, Trace.Mark}
 use Rattle.cbor_machine.specs.NextEvent.{ItemEventsView, StandsBetween, IsNext, call}
 use Rattle.cbor_machine.{specs.Machine.IsComplete, proofs.Positions.no-payload, specs.NextKey.IsNextOf, specs.NextKey.IsKeyReason}
-use Rattle.cbor_verdict.{specs.Kinds.KeepsToKinds, specs.Kinds.IsKeyExpected, proofs.ItemExpected.of_refused, proofs.ItemExpected.stopped-expected}
-use Rattle.cbor_verdict.{proofs.RefusedBehind.stopped_by, specs.Frame.Frame, specs.Judged.IsJudged, specs.Reading.HasCause, specs.Reading.string_major}
-use Rattle.cbor_verdict.proofs.{Payloads.none-come, Payloads.part-cut, ParseState.is-complete, Steps.SameLimits, Steps.stops}
-use Rattle.cbor_verdict.{specs.RefusedBehind.IsRefusedBehind, proofs.CutHeads.string_cut}
+use Rattle.theory_verdicts.{specs.Kinds.KeepsToKinds, specs.Kinds.IsKeyExpected, proofs.ItemExpected.of_refused, proofs.ItemExpected.stopped-expected}
+use Rattle.theory_verdicts.{proofs.RefusedBehind.stopped_by, specs.Frame.Frame, specs.Judged.IsJudged, specs.Reading.HasCause, specs.Reading.string_major}
+use Rattle.theory_verdicts.proofs.{Payloads.none-come, Payloads.part-cut, ParseState.is-complete, Steps.SameLimits, Steps.stops}
+use Rattle.theory_verdicts.{specs.RefusedBehind.IsRefusedBehind, proofs.CutHeads.string_cut}
 use Rattle.cbor_strict.specs.inner.LastKeys.{view_value, from_outside, IsKept}
 use Rattle.cbor_strict.specs.inner.OpenItems.{frames_in, bytes_before, Stands, IsInString}
 use Rattle.cbor_strict.{specs.declared.open_items.OpenItems.OpenItems, specs.StrictReader.StopsAtOnce, proofs.StrictReading.by_form}
@@ -55,7 +56,7 @@ module _ (v : OpenItems) (b : Bounds) (e new : ItemEventsView) (t : List ℕ) (f
             )
       ]
 
--- whether a key is expected that is asked for, as the code knows it
+-- whether a key is expected whose kind is judged, as the code knows it
 pub record IsAsked (asked : Bool) (keys : Keys) (v : OpenItems) : Type 0 where
   pub expected : (fs : List Frame) (p : List ℕ) → IsKept (view_value v.keys) fs p → v.left ≡ 0 → (asked ≡ true) ↔ ((keys ≡ IntegersAndTexts) × IsKeyExpected (from_outside fs))
   pub payload : 0 < v.left → asked ≡ false

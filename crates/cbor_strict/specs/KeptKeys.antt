@@ -1,10 +1,10 @@
--- How many maps are open within an item, and how many bytes of their keys a strict reader needs to know (RFC 8949, section 4.2).
+-- How many maps are open within an item, and how many bytes of their keys a strict reader has to store (RFC 8949, section 4.2).
 use Rattle.std.specs.Prelude.{ℕ, ◌+◌, ◌-◌, nat_lt, if◌then◌else◌, length}
 use Rattle.cbor_head.specs.Prelude.{head, Spelling, Spellings, SpelledEntries, array, a_map, tag, no_spellings, a_spelling, no_entries, entry, spellings_count, entries_count, spell}
 use Rattle.cbor_head.specs.declared.major.Major.TheVariants.{Array, Map, Tag}
-use Rattle.cbor_automaton.specs.Open.{if_open}
+use Rattle.theory_automaton.specs.Open.{if_open}
 
--- the maps that are open after the first n bytes of an item, with those in a key that is not complete
+-- the number of maps that are open after the first n bytes of an item, with those in a key that is not complete
 abbrev mutual
   pub open_maps : ℕ → Spelling → ℕ
   open_maps n (array w ss) = open_maps_in (n - length (head Array w (spellings_count ss))) ss
@@ -26,7 +26,7 @@ abbrev mutual
       else if nat_lt (n - length (spell k)) (length (spell v)) then open_maps (n - length (spell k)) v
       else open_maps_in_entries (n - length (spell k) - length (spell v)) es
 
--- those of the first n bytes of an item, each once, that lie in the last complete key of an open map or in a key that is not
+-- how many of the first n bytes of an item, each once, are in the last complete key of an open map or in a key that is not
 -- complete
 abbrev mutual
   pub key_bytes : ℕ → Spelling → ℕ
@@ -40,8 +40,8 @@ abbrev mutual
   key_bytes_in n no_spellings = 0
   key_bytes_in n (a_spelling s ss) = if nat_lt n (length (spell s)) then key_bytes n s else key_bytes_in (n - length (spell s)) ss
 
-  -- behind a complete key of so many bytes: the whole of a key that is not complete, with all that is open in it; or a complete
-  -- key, and what is open in its value
+  -- the last complete key, of this number of bytes, and all that was read of a next key; or, within a value, its key and the
+  -- keys of the open maps in the value
   pub key_bytes_in_entries : ℕ → ℕ → SpelledEntries → ℕ
   key_bytes_in_entries n last no_entries = last
   key_bytes_in_entries n last (entry k v es) =

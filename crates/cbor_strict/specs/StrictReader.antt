@@ -3,27 +3,27 @@ use Rattle.std.specs.Prelude.{◌≡◌, ℕ, ◌≤◌, ◌⊎◌, ◌++◌, Li
 use Rattle.std.specs.Io.KnownBytes.{Consumes}
 use Rattle.cbor_head.specs.Prelude.{Bounds, bounds, with_keys, Spelling, strict}
 use Rattle.cbor_head.specs.{Laws.StartsWith, Laws.IsWithout, declared.keys.Keys.Keys, declared.order.KeyOrder.KeyOrder, declared.reason.Reason.Reason}
-use Rattle.cbor_head.specs.declared.{reason.Reason.TheVariants.Memory, reason.Refusal.Refusal, width.Width.Width}
-use Rattle.cbor_automaton.specs.{Bytes.IsEventBytes, Trace.Mark, Marks.marks_of, declared.event.Event.Event, declared.event.EventKind.EventKind}
-use Rattle.cbor_automaton.specs.declared.event.EventKind.TheVariants.{Piece}
+use Rattle.cbor_head.specs.declared.{reason.Reason.TheVariants.Memory, reason.Refusal.Refusal, width.Width.Width, event.Event.Event, event.EventKind.EventKind}
+use Rattle.cbor_head.specs.declared.event.EventKind.TheVariants.{Piece}
+use Rattle.theory_automaton.specs.{Bytes.IsEventBytes, Trace.Mark, Marks.marks_of}
 use Rattle.cbor_machine.specs.NextEvent.{StandsBetween, Call, machine_call, IsNextEvent, IsEnd, IsCut, IsTooLong, HasFormError}
 use Rattle.cbor_machine.specs.{MachineView.MachineView, Machine.IsComplete, NextKey.IsOtherKey}
-use Rattle.cbor_verdict.specs.{Readers.IsUnread, Refusals.IsComplaintReason}
+use Rattle.theory_verdicts.specs.{Readers.IsUnread, Refusals.IsComplaintReason}
 use Rattle.cbor_strict.specs.{KeptKeys.open_maps, KeptKeys.key_bytes, inner.StrictEvents.Inner, inner.StrictEvents.IsInner}
 
 -- what contracts see of the events of an item by the strict rules: how far the form was read, the bytes of the last piece, what
--- is kept, and why no more is read
+-- is stored, and why no more is read
 pub record StrictEventsView : Type 0 where
   pub machine : MachineView
   pub piece : List ℕ
   pub order : KeyOrder
-  -- which kinds of keys are asked for
+  -- which kinds of keys are judged
   pub keys : Keys
-  -- of how many open maps the last key is kept, and how many bytes are
+  -- how many open maps have a last key stored, and how many bytes of keys are stored
   pub spans : ℕ
   pub kept : ℕ
   pub refusal : Option Refusal
-  -- what leads from one event to the next; no public clause looks into it
+  -- the state that one event passes to the next; no public clause opens it
   pub inner : Inner
 
 -- the limits on the item
@@ -35,19 +35,19 @@ pub record StrictReaderView (R : Type 0) : Type 0 where
   pub reader : R
   pub events : StrictEventsView
 
--- All events of t were reported, by these marks, and nothing in t has a complaint.
+-- All events of t were reported, with these marks, and nothing in t has a complaint.
 pub record StandsStrictly (v : StrictEventsView) (t : List ℕ) (ms : List Mark) : Type 0 where
   pub between : StandsBetween v.machine t ms
   -- no complaint ends within t, of any item that starts with t
   pub clean : (s : Spelling) → StartsWith v.machine.depth s t → IsWithout (limits_of v) (strict v.order) s (length t)
-  -- what is kept is what each such item reports: a span for each open map, and the bytes of keys that are still to be compared
+  -- the counts are those of each such item: a span for each open map, and the bytes of keys that may still be compared
   pub spans : (s : Spelling) → StartsWith v.machine.depth s t → v.spans ≡ open_maps (length t) s
   pub kept : (s : Spelling) → StartsWith v.machine.depth s t → v.kept ≡ key_bytes (length t) s
   pub live : v.refusal ≡ None
-  -- the inner state is the one behind t
+  -- the inner state is the one after t
   pub inner : IsInner v.inner v.machine v.order v.keys t
 
--- One call for the next event: the events and what the reader holds, before it and after it; and what was taken and reported before.
+-- One call for the next event: the state and what the reader holds, before and after; and the bytes and marks before.
 pub record StrictCall : Type 0 where
   pub old : StrictEventsView
   pub new : StrictEventsView
@@ -56,11 +56,11 @@ pub record StrictCall : Type 0 where
   pub taken : List ℕ
   pub reported : List Mark
 
--- a call, by what stood before it and after it, the bytes taken and the marks reported
+-- a call, with what the reader held before it and after it, the bytes consumed and the marks reported before it
 abbrev pub strict_call : StrictEventsView → StrictEventsView → Option (List ℕ) → Option (List ℕ) → List ℕ → List Mark → StrictCall
 strict_call from to before_it after_it t ms = record { old = from; new = to; held = before_it; left = after_it; taken = t; reported = ms }
 
--- the call as one for an event by form alone
+-- the same call, seen as one for an event by form alone
 abbrev pub form_call : StrictCall → Call
 form_call c = machine_call c.old.machine c.new.machine c.held c.left c.old.piece c.new.piece c.taken c.reported
 
@@ -69,16 +69,16 @@ pub record IsNextClean (e : Event) (c : StrictCall) : Type 0 where
   pub event : IsNextEvent e (form_call c)
   pub stands : StandsStrictly c.new (c.taken ++ event.bytes) (c.reported ++ marks_of e.width e.kind)
 
--- all events were reported, and nothing is read
+-- all events were reported, and nothing was read
 pub record IsCleanEnd (c : StrictCall) : Type 0 where
   pub end : IsEnd (form_call c)
   pub stands : StandsStrictly c.new c.taken c.reported
 
--- what can be against an event that was read: a complaint that ends with it, or want of memory for it
+-- what can be wrong with an event that was read: a complaint that ends with it, or memory was refused for it
 abbrev pub IsAgainstEvent : KeyOrder → Reason → Type 0
 IsAgainstEvent o reason = IsComplaintReason (strict o) reason ⊎ (reason ≡ Memory)
 
--- The bytes of one event were read, of a payload at most 512, and it is not reported.
+-- The bytes of one event were read, of a payload at most 512, and the event is not reported.
 pub record IsWithheld (o : KeyOrder) (f : Refusal) (c : Call) : Type 0 where
   pub width : Width
   pub kind : EventKind
@@ -90,12 +90,13 @@ pub record IsWithheld (o : KeyOrder) (f : Refusal) (c : Call) : Type 0 where
   pub stands : StandsBetween c.new (c.taken ++ bytes) (c.reported ++ marks_of width kind)
   pub against : IsAgainstEvent o f.reason
 
--- No event was left out: behind what was reported an event is withheld, or a key of another kind begins, or the form refuses before
+-- No event was left out: after those reported, one is withheld, or a key of another kind begins, or the form refuses before
 -- another event ends.
 abbrev pub StopsAtOnce : KeyOrder → Refusal → Call → Type 0
 StopsAtOnce o f c = IsCut f c ⊎ IsTooLong f c ⊎ HasFormError f c ⊎ IsWithheld o f c ⊎ IsOtherKey f c
 
--- No more is reported. The refusal is that of what was taken and what the reader held behind it, and what it has read the reader lost.
+-- No more is reported. The refusal is that of the bytes consumed before and of those that the reader held, and it counts all
+-- bytes that are consumed now.
 pub record IsStrictRefusal (f : Refusal) (c : StrictCall) : Type 0 where
   pub unfinished : ¬ IsComplete c.old.machine
   pub bytes : List ℕ
@@ -104,7 +105,7 @@ pub record IsStrictRefusal (f : Refusal) (c : StrictCall) : Type 0 where
   pub at_once : StopsAtOnce c.old.order f (form_call c)
   pub verdict : IfSome c.held (λ rest. IsUnread (limits_of c.old) (strict c.old.order) (c.taken ++ rest) f)
 
--- what is answered where an event ended
+-- what a call returns
 abbrev pub IsNextStrict : Result (Option Event) Refusal → StrictCall → Type 0
 IsNextStrict (Ok (Some e)) c = IsNextClean e c
 IsNextStrict (Ok None) c = IsCleanEnd c

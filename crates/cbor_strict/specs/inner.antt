@@ -1,4 +1,4 @@
--- What private functions speak of; no public contract does.
+-- What only private functions mention.
 pub mod LastKeys
 pub mod OpenItems
 pub mod StrictEvents

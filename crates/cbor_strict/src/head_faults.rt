@@ -1,12 +1,12 @@
-//! What the rules have against a head by itself.
+//! Complaints of the rules about a single head.
 
 ghost use Rattle.std.specs.Prelude.{◌≡◌, MatchOption};
-ghost use Rattle.cbor_verdict.specs.Reading.{IsHeadFault};
+ghost use Rattle.theory_verdicts.specs.Reading.{IsHeadFault};
 
 use cbor_head::{Reason, Width};
 
-// What the rules have against a head that an item may have. One of a single byte is as short as can
-// be, so its argument is not looked at.
+// The complaint of the strict rules about the head of an item. A head of a single byte is as short
+// as possible, so its argument is not checked.
 #[inline(always)]
 pub(crate) fn fault_of(width: Width, argument: u64) -> Option<Reason>
     requires { (reason : Reason) → width ≡ Width.Direct → IsHeadFault width argument reason → ⊥ }

@@ -1,12 +1,12 @@
-//! The last complete key of each open map, as spelled, in one buffer.
+//! The last complete key of each open map, as encoded, in one buffer.
 
 ghost use Rattle.std.specs.Prelude.{◌≡◌, ◌-◌, ◌<◌, ◌≤◌, ◌++◌, ◌∷◌, ℕ, List, [], length, take, drop};
 ghost use Rattle.std.specs.Prelude.{IsTrue, ◌↔◌, OnOk, true};
 ghost use Rattle.cbor_head.specs.Order.{key_lt};
 ghost use Rattle.cbor_head.specs.Spelling.{Spelling, SpelledEntries, no_entries, entry, spell};
 ghost use Rattle.cbor_head.specs.declared.width.Width.{Width};
-ghost use Rattle.cbor_verdict.specs.Frame.{Frame, a_key, a_content, before, plug};
-ghost use Rattle.cbor_verdict.specs.Frame.{with_entries};
+ghost use Rattle.theory_verdicts.specs.Frame.{Frame, a_key, a_content, before, plug};
+ghost use Rattle.theory_verdicts.specs.Frame.{with_entries};
 ghost use Rattle.cbor_strict.specs.inner.LastKeys.{IsKept, IsFull, AreDefinite, HasKeyEnded};
 ghost use Rattle.cbor_strict.specs.inner.LastKeys.{AnswersKeyEnd};
 ghost use Rattle.cbor_strict.specs.inner.LastKeys.{view_value, with_key, with_last, expected_of};
@@ -15,9 +15,9 @@ ghost use Rattle.cbor_strict.specs.inner.LastKeys.{still_open, ended_item};
 use crate::MOST_OPEN;
 use arrayvec::ArrayVec;
 use cbor_head::KeyOrder;
-use cbor_model::compare_keys;
 use std::alloc::{AllocError, Global};
 use std::cmp::Ordering;
+use theory_values::compare_keys;
 
 /// What is expected in an open container.
 #[derive(Clone, Copy, Default)]
@@ -31,8 +31,8 @@ pub(crate) enum Expected {
     Value,
 }
 
-/// Where the last complete key of an open map lies in the buffer: nowhere yet, where it is empty;
-/// and where the next key begins.
+/// Where the last complete key of an open map is in the buffer, an empty range before the first
+/// key; and where the next key begins.
 #[derive(Clone, Copy)]
 pub(crate) struct KeySpan {
     from: usize,
@@ -40,20 +40,20 @@ pub(crate) struct KeySpan {
     next: usize,
 }
 
-/// The last complete key of each open map, as spelled. All of a key that is not complete is kept,
-/// and the keys of a map in it are parts of those bytes.
+/// The last complete key of each open map, as encoded. A key that is not complete is stored from
+/// its first byte on, and the keys of a map within it are parts of those bytes.
 #[derive(Drop)]
-pub(crate) struct LastKeys {
+pub struct LastKeys {
     // What is expected in each open container.
     levels: ArrayVec<Expected, MOST_OPEN>,
     spans: Vec<KeySpan>,
     bytes: Vec<u8>,
-    // In how many keys that are not complete, or not begun, what comes stands.
+    // The number of keys that the next bytes are in: keys that are not complete, or not begun.
     open_keys: usize,
 }
 
 impl LastKeys {
-    // Nothing is open.
+    // No containers and no keys.
     pub(crate) fn new(alloc: Global) -> LastKeys
         ensures { IsKept (view_value result) [] [] }
     {
@@ -65,22 +65,22 @@ impl LastKeys {
         }
     }
 
-    // Of how many open maps a key is kept, or will be.
-    pub(crate) fn spans(&self) -> usize
+    /// The number of open maps whose last key is stored, or will be.
+    pub fn spans(&self) -> usize
         ensures { result ≡ length (view_value self.now).spans }
     {
         self.spans.len()
     }
 
-    // How many bytes are kept.
-    pub(crate) fn kept(&self) -> usize
+    /// The number of bytes stored.
+    pub fn kept(&self) -> usize
         ensures { result ≡ length (view_value self.now).bytes }
     {
         self.bytes.len()
     }
 
-    // Nothing is kept any more.
-    pub(crate) fn forget(&mut self)
+    /// Removes all containers and keys, and keeps the memory.
+    pub fn forget(&mut self)
         ensures { IsKept (view_value self.new) [] [] }
     {
         self.levels.clear();
@@ -89,7 +89,7 @@ impl LastKeys {
         self.open_keys = 0;
     }
 
-    // Whether what comes stands in a key that is not complete.
+    // Whether the next bytes are in a key that is not complete.
     #[inline(always)]
     pub(crate) fn is_inside(&self) -> bool
         ensures { IsTrue result ↔ (0 < (view_value self.now).open_keys) }
@@ -97,7 +97,7 @@ impl LastKeys {
         self.open_keys > 0
     }
 
-    // Keeps the next bytes of an item, where it stands in a key.
+    // Stores the next bytes of an item, if it is in a key.
     pub(crate) fn keep(&mut self, bytes: &[u8]) -> Result<(), AllocError>
         ensures { (fs : List Frame) (p : List ℕ) → IsKept (view_value self.old) fs p
             → OnOk result (IsKept (view_value self.new) fs (p ++ bytes.now)) }
@@ -108,7 +108,7 @@ impl LastKeys {
         Ok(())
     }
 
-    // An array or a tag opens, whose head was read.
+    // Opens an array or a tag, whose head was read.
     pub(crate) fn open_other(&mut self)
         requires { length (view_value self.old).levels < MOST_OPEN }
         ensures { (f : Frame) (fs : List Frame) (p : List ℕ) → expected_of f ≡ Expected.Member
@@ -117,7 +117,7 @@ impl LastKeys {
         self.levels.push(Expected::Member);
     }
 
-    // A map opens.
+    // Opens a map.
     pub(crate) fn open_map(&mut self) -> Result<(), AllocError>
         requires levels { length (view_value self.old).levels < MOST_OPEN }
         requires keys { (view_value self.old).open_keys ≤ MOST_OPEN }
@@ -136,7 +136,7 @@ impl LastKeys {
         Ok(())
     }
 
-    // The containers close that an item's end leaves full: so many stay open.
+    // Closes the containers that are complete at an item's end; this number stays open.
     pub(crate) fn close(&mut self, left: usize)
         ensures { (fs : List Frame) (s : Spelling)
             → IsKept (view_value self.old) fs (spell s) → AreDefinite fs
@@ -148,7 +148,7 @@ impl LastKeys {
         }
     }
 
-    // The innermost container closes behind its last item.
+    // Closes the innermost container after its last item.
     fn close_one(&mut self)
         ensures fewer { 0 < length (view_value self.old).levels
             → length (view_value self.new).levels < length (view_value self.old).levels }
@@ -183,8 +183,8 @@ impl LastKeys {
         }
     }
 
-    // A key is complete: it takes the place of the one before it, if it comes behind that. Else its
-    // length.
+    // Ends a key: it replaces the one before it, if it comes after that. Otherwise the error is its
+    // length in bytes.
     pub(crate) fn end_key(&mut self, order: KeyOrder) -> Result<(), usize>
         requires { HasKeyEnded (view_value self.old) }
         ensures { AnswersKeyEnd order (view_value self.old) (view_value self.new) result }
@@ -194,7 +194,7 @@ impl LastKeys {
         };
         let span = *last;
         if self.is_first(span) {
-            // The first key of its map comes behind none, and lies where it is to.
+            // The first key of its map is compared with none, and is already at its final offset.
             self.open_keys -= 1;
             self.put_key(span.next);
             return Ok(());
@@ -212,7 +212,7 @@ impl LastKeys {
         Ok(())
     }
 
-    // Whether no key of the map stands before the next one.
+    // Whether the next key is the first of its map.
     fn is_first(&self, span: KeySpan) -> bool
         ensures { IsTrue result ↔ (span.from ≡ span.next)
             × (span.next < length self.now.bytes.items) }
@@ -220,7 +220,7 @@ impl LastKeys {
         span.from == span.next && span.next < self.bytes.len()
     }
 
-    // Whether the next key comes behind the last one.
+    // Whether the next key comes after the last one.
     fn rises(&self, order: KeyOrder, span: KeySpan) -> bool
         requires order { span.from ≤ span.to }
         requires last { span.to ≤ length self.now.bytes.items }
@@ -233,8 +233,8 @@ impl LastKeys {
         compare_keys(order, last, &self.bytes[span.next..]) == Ordering::Less
     }
 
-    // The last bytes, from there on, are the last complete key of the innermost map, and its value
-    // is expected.
+    // The bytes from this offset on become the last complete key of the innermost map, and its
+    // value is expected.
     fn put_key(&mut self, from: usize)
         ensures { view_value self.new ≡ with_key (view_value self.old) from }
     {
@@ -249,7 +249,7 @@ impl LastKeys {
         );
     }
 
-    // The value of a key is complete, and another key is expected.
+    // Ends the value of a key; another key is expected.
     pub(crate) fn end_value(&mut self)
         requires { (view_value self.old).open_keys ≤ MOST_OPEN }
         ensures { (w : Width) (a : SpelledEntries) (k s l m : Spelling) (b : SpelledEntries)
@@ -268,7 +268,7 @@ impl LastKeys {
         self.open_keys += 1;
     }
 
-    // This is expected in the innermost map now, and there lies its last key.
+    // Sets what is expected in the innermost map, and where its last key is.
     fn put(&mut self, expected: Expected, span: KeySpan)
         ensures { view_value self.new ≡ with_last (view_value self.old) expected span }
     {
@@ -281,7 +281,7 @@ impl LastKeys {
     }
 }
 
-// Takes out the bytes between the two.
+// Removes the bytes between the two offsets.
 fn cut_out(bytes: &mut Vec<u8>, from: usize, to: usize)
     requires order { from ≤ to }
     requires within { to ≤ length bytes.old.items }

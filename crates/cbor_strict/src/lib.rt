@@ -1,8 +1,8 @@
-//! The strict check: accepts the deterministic encoding alone (RFC 8949, section 4.2), from a slice, a reader, or event by event.
+//! The strict check: accepts only the deterministic encoding (RFC 8949, section 4.2), from a slice, a reader, or event by event.
 //!
 //! Users call it through `cbor_reader`. [`check_canonical`] checks the item at the start of a slice and does not allocate;
-//! [`read_strict`] reads one item from a reader, and [`StrictReader`] gives its events. These two allocate for the last key of
-//! each open map alone.
+//! [`read_strict`] reads one item from a reader, and [`StrictReader`] gives its events. These two allocate only for the last key
+//! of each open map.
 //!
 //! ```
 //! // {"Amt": -2, "Fun": true}
@@ -23,10 +23,12 @@ mod strict_events;
 mod strict_reader;
 mod strict_slice;
 
-// How many containers can be open.
+// The greatest number of open containers.
 const MOST_OPEN: usize = cbor_head::MAX_DEPTH as usize;
 
 pub use cbor_head::KeyOrder;
+pub use last_keys::LastKeys;
+pub use open_items::OpenItems;
 pub use strict_events::StrictEvents;
 pub use strict_reader::{StrictReader, read_strict, read_strict_by};
 pub use strict_slice::check_canonical;

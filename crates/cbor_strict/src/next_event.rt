@@ -1,17 +1,16 @@
 //! The next event of an item by the strict rules, from a reader.
 
 ghost use Rattle.std.specs.Prelude.{◌≡◌, ℕ, List, None, OnOk, IfErr};
-ghost use Rattle.cbor_automaton.specs.Trace.{Mark};
-ghost use Rattle.cbor_automaton.specs.Marks.{IsProper};
+ghost use Rattle.theory_automaton.specs.Trace.{Mark};
+ghost use Rattle.theory_automaton.specs.Marks.{IsProper};
 ghost use Rattle.cbor_machine.specs.Machine.{KeepsLimits, IsIdle};
 ghost use Rattle.cbor_machine.specs.NextEvent.{IfReported, StandsBetween, call};
 ghost use Rattle.cbor_strict.specs.StrictReader.{StopsAtOnce};
 ghost use Rattle.cbor_strict.specs.inner.StrictEvents.{StandsSomewhere, AnswersStep};
 
 use crate::open_items::OpenItems;
-use cbor_automaton::{Event, EventKind};
 use cbor_events::ItemEvents;
-use cbor_head::{Keys, Refusal};
+use cbor_head::{Event, Keys, Refusal};
 use std::io::Read;
 
 // The next event, if no complaint ends with it.
@@ -42,13 +41,7 @@ pub(crate) fn next_event<R: Read>(
     };
     let open = events.open();
     let taken = events.taken();
-    if let EventKind::Piece(_) = event.kind {
-        return match items.admit_piece(events.piece(), open, taken) {
-            Ok(()) => Ok(Some(event)),
-            Err(refusal) => Err(refusal),
-        };
-    }
-    match items.admit_head(&event, open, taken) {
+    match items.admit(&event, events.piece(), open, taken) {
         Ok(()) => Ok(Some(event)),
         Err(refusal) => Err(refusal),
     }

@@ -1,4 +1,4 @@
-//! What the strict reader keeps of the items that are open, from event to event.
+//! The state of the strict reader: the open items, updated event by event.
 
 ghost use Rattle.std.specs.Prelude.{◌≡◌, ◌<◌, ◌≤◌, ◌+◌, ◌^◌, ◌++◌, ◌↔◌, ℕ, true, false, List, []};
 ghost use Rattle.std.specs.Prelude.{length};
@@ -7,39 +7,39 @@ ghost use Rattle.std.specs.Str.Lossy.{utf8_valid_len};
 ghost use Rattle.cbor_head.specs.Head.{IsSimple, major_number, shortest_head};
 ghost use Rattle.cbor_head.specs.declared.width.Width.{Width};
 ghost use Rattle.cbor_text.specs.TextCheck.{HasChecked};
-ghost use Rattle.cbor_automaton.specs.Trace.{a_head};
+ghost use Rattle.theory_automaton.specs.Trace.{a_head};
 ghost use Rattle.cbor_strict.specs.StrictReader.{IsAgainstEvent};
-ghost use Rattle.cbor_verdict.specs.Frame.{Frame};
-ghost use Rattle.cbor_verdict.specs.Kinds.{IsKeyExpected};
+ghost use Rattle.theory_verdicts.specs.Frame.{Frame};
+ghost use Rattle.theory_verdicts.specs.Kinds.{IsKeyExpected};
 ghost use Rattle.cbor_strict.specs.inner.LastKeys.{IsKept, view_value, from_outside};
 ghost use Rattle.cbor_strict.specs.inner.OpenItems.{IsItemEnded, AnswersEnd, IsHeadCome};
 ghost use Rattle.cbor_strict.specs.inner.OpenItems.{AnswersHead};
 ghost use Rattle.cbor_strict.specs.inner.OpenItems.{IsPartCome, AnswersPart, IsBegunIn};
-ghost use Rattle.cbor_strict.specs.inner.OpenItems.{AnswersBegun};
+ghost use Rattle.cbor_strict.specs.inner.OpenItems.{AnswersBegun, IsEventCome, AnswersEvent};
 ghost use Rattle.cbor_strict.specs.inner.OpenItems.{IsSameString, IsLeaf, GoesOn};
 
 use crate::head_faults::fault_of;
 use crate::last_keys::{Expected, LastKeys};
-use cbor_automaton::Event;
 use cbor_events::head_of;
-use cbor_head::{Head, KeyOrder, Keys, Major, Reason, Refusal};
+use cbor_head::{Event, EventKind, Head, KeyOrder, Keys, Major, Reason, Refusal};
 use cbor_text::TextCheck;
 use std::alloc::{AllocError, Global};
 
-/// The open containers, the last key of each map among them, and how far a string was read.
+/// The open containers, the last key of each map among them, and how much of a string was read.
 #[derive(Drop)]
-pub(crate) struct OpenItems {
+pub struct OpenItems {
     order: KeyOrder,
-    pub(crate) keys: LastKeys,
-    // How many bytes are expected of the payload of a string, and whether it is a text.
+    /// The last keys of the open maps.
+    pub keys: LastKeys,
+    // How many bytes of a string's payload are still expected, and whether it is a text.
     left: u64,
     is_text: bool,
     check: TextCheck,
 }
 
 impl OpenItems {
-    // Nothing is open.
-    pub(crate) fn new(alloc: Global, order: KeyOrder) -> OpenItems
+    /// No item is open.
+    pub fn new(alloc: Global, order: KeyOrder) -> OpenItems
         ensures kept { IsKept (view_value result.keys) [] [] }
         ensures none { result.left ≡ 0 }
         ensures order { result.order ≡ order }
@@ -53,8 +53,8 @@ impl OpenItems {
         }
     }
 
-    // Nothing is open any more, and another item is expected.
-    pub(crate) fn restart(&mut self, order: KeyOrder)
+    /// Starts again for another item, and keeps the memory.
+    pub fn restart(&mut self, order: KeyOrder)
         ensures kept { IsKept (view_value self.new.keys) [] [] }
         ensures none { self.new.left ≡ 0 }
         ensures order { self.new.order ≡ order }
@@ -64,9 +64,9 @@ impl OpenItems {
         self.left = 0;
     }
 
-    // Whether a key is expected that is to be an integer or a text, and nothing of it was read.
+    /// Whether a key is expected that must be an integer or a text, and none of its events was read.
     #[inline(always)]
-    pub(crate) fn asks(&self, keys: Keys) -> bool
+    pub fn asks(&self, keys: Keys) -> bool
         ensures expected { (fs : List Frame) (p : List ℕ) → IsKept (view_value self.now.keys) fs p
             → self.now.left ≡ 0
             → (result ≡ true) ↔ ((keys ≡ Keys.IntegersAndTexts) × IsKeyExpected (from_outside fs)) }
@@ -81,14 +81,32 @@ impl OpenItems {
         matches!(self.keys.expected(), Expected::Key)
     }
 
-    // The head of the item that is expected, as the events report it, and how many containers are open
-    // behind it.
-    pub(crate) fn admit_head(
+    /// Checks an event that was read: the head of the item that is expected, or the next part of the
+    /// payload, with these bytes. After the event this number of containers is open, and this number
+    /// of bytes was consumed.
+    #[inline(always)]
+    pub fn admit(
         &mut self,
         event: &Event,
+        piece: &[u8],
         open: usize,
         taken: u64,
     ) -> Result<(), Refusal>
+        requires { IsEventCome self.old event.now piece.now «open» taken }
+        ensures order { self.new.order ≡ self.old.order }
+        ensures answers { AnswersEvent self.old self.new event.now piece.now «open» taken result }
+        ensures against { IfErr result (λ f. IsAgainstEvent self.old.order f.reason) }
+        ensures read { IfErr result (λ f. f.read ≡ taken) }
+    {
+        if let EventKind::Piece(_) = event.kind {
+            return self.admit_piece(piece, open, taken);
+        }
+        self.admit_head(event, open, taken)
+    }
+
+    // Checks the head of the item that is expected, as the events report it. After it this number of
+    // containers is open.
+    fn admit_head(&mut self, event: &Event, open: usize, taken: u64) -> Result<(), Refusal>
         requires { IsHeadCome self.old event.now «open» taken }
         ensures order { self.new.order ≡ self.old.order }
         ensures answers { AnswersHead self.old self.new event.now «open» taken result }
@@ -108,7 +126,7 @@ impl OpenItems {
         }
     }
 
-    // Keeps the head of an item, as short as can be, if the item stands in a key.
+    // Stores the head of an item, in its shortest form, if the item is in a key.
     fn keep_head(&mut self, major: Major, argument: u64) -> Result<(), AllocError>
         requires { major ≡ Major.Simple → IsSimple argument }
         ensures same { IsSameString self.old self.new }
@@ -126,7 +144,7 @@ impl OpenItems {
         self.keys.keep(head.as_slice())
     }
 
-    // The item whose head was read begins.
+    // Begins the item whose head was read.
     fn begin(&mut self, major: Major, argument: u64, open: usize, taken: u64) -> Result<(), Refusal>
         requires { IsBegunIn self.old major argument «open» taken }
         ensures order { self.new.order ≡ self.old.order }
@@ -149,7 +167,7 @@ impl OpenItems {
         Ok(())
     }
 
-    // A payload of so many bytes is expected.
+    // Expects a payload of this number of bytes.
     fn begin_string(&mut self, is_text: bool, count: u64)
         ensures same { (self.new.order ≡ self.old.order) × (self.new.keys ≡ self.old.keys) }
         ensures expected { (self.new.left ≡ count) × (self.new.is_text ≡ is_text) }
@@ -160,13 +178,8 @@ impl OpenItems {
         self.check = TextCheck::new();
     }
 
-    // The next part of the payload that is expected.
-    pub(crate) fn admit_piece(
-        &mut self,
-        piece: &[u8],
-        open: usize,
-        taken: u64,
-    ) -> Result<(), Refusal>
+    // Checks the next part of the payload.
+    fn admit_piece(&mut self, piece: &[u8], open: usize, taken: u64) -> Result<(), Refusal>
         requires { IsPartCome self.old piece.now «open» taken }
         ensures order { self.new.order ≡ self.old.order }
         ensures answers { AnswersPart self.old self.new piece.now «open» taken result }
@@ -190,7 +203,7 @@ impl OpenItems {
         }
     }
 
-    // A part of the payload that is expected, which is kept already.
+    // Takes a part of the payload, which is stored already.
     fn take_part(&mut self, piece: &[u8])
         requires fits { length piece.now ≤ self.old.left }
         requires space { self.old.is_text ≡ true
@@ -207,8 +220,8 @@ impl OpenItems {
         }
     }
 
-    // Whether the payload that was read is UTF-8, where it is that of a text; else the length of
-    // its longest prefix that is.
+    // Checks that the payload that was read is UTF-8, if it is a text's. The error is the length in
+    // bytes of its longest prefix that is.
     fn text_end(&self) -> Result<(), u64>
         ensures { (q : List ℕ) → (self.now.is_text ≡ true → HasChecked self.now.check q)
             → MatchResult result
@@ -221,7 +234,7 @@ impl OpenItems {
         Ok(())
     }
 
-    // An item ended, and the containers but so many.
+    // Ends an item, and all containers except this number.
     #[inline(always)]
     fn end_item(&mut self, open: usize, taken: u64) -> Result<(), Refusal>
         requires { IsItemEnded self.old «open» taken }
@@ -245,7 +258,7 @@ impl OpenItems {
     }
 }
 
-// Whether more of the item comes behind its head, if that is definite.
+// Whether an item of definite length goes on after its head.
 fn goes_on(major: Major, argument: u64) -> bool
     ensures leaf { (w : Width) → result ≡ false → IsLeaf (a_head major w argument) }
     ensures more { result ≡ true → GoesOn major argument }

@@ -1,13 +1,13 @@
-//! The events of one item by the strict rules, from a reader that each call is handed.
+//! The events of one item by the strict rules, from a reader that is passed to each call.
 
 ghost use Rattle.std.specs.Prelude.{◌≡◌, ◌≤◌, ℕ, List, [], length, None, Some, Err};
 ghost use Rattle.std.specs.Prelude.{IfErr, IfSome, OnOk, OnErr};
 ghost use Rattle.cbor_head.specs.Complaint.{strict};
-ghost use Rattle.cbor_automaton.specs.Trace.{Mark};
-ghost use Rattle.cbor_automaton.specs.Marks.{IsProper};
+ghost use Rattle.theory_automaton.specs.Trace.{Mark};
+ghost use Rattle.theory_automaton.specs.Marks.{IsProper};
 ghost use Rattle.cbor_machine.specs.Machine.{KeepsLimits, IsIdle};
 ghost use Rattle.cbor_machine.specs.NextEvent.{IfReported};
-ghost use Rattle.cbor_verdict.specs.Refusals.{IsReaderReason};
+ghost use Rattle.theory_verdicts.specs.Refusals.{IsReaderReason};
 ghost use Rattle.cbor_strict.specs.StrictReader.{StrictEventsView, StandsStrictly};
 ghost use Rattle.cbor_strict.specs.StrictReader.{IsNextStrict, limits_of, strict_call};
 ghost use Rattle.cbor_strict.specs.inner.LastKeys.{view_value};
@@ -15,17 +15,17 @@ ghost use Rattle.cbor_strict.specs.inner.StrictEvents.{AreWithinBounds, piece_un
 
 use crate::next_event::next_event;
 use crate::open_items::OpenItems;
-use cbor_automaton::Event;
 use cbor_events::ItemEvents;
-use cbor_head::{KeyOrder, Keys, Limits, Refusal};
+use cbor_head::{Event, KeyOrder, Keys, Limits, Refusal};
 use std::alloc::Global;
 use std::io::Read;
 use std::marker::Model;
 
-/// The events of one item by the rules of the deterministic encoding, and what is kept of its keys.
+/// The events of one item by the rules of the deterministic encoding, and the last keys of its open
+/// maps.
 ///
-/// Of each open container there is at most one frame, and at most one span; so there are never more
-/// of either than the depth limit allows.
+/// There is at most one frame, and at most one span, for each open container; so there are never
+/// more of either than the depth limit allows.
 #[derive(Drop)]
 pub struct StrictEvents {
     events: ItemEvents,
@@ -52,7 +52,7 @@ impl Model for StrictEvents {
 }
 
 impl StrictEvents {
-    /// The events of an item whose first byte is still to be read. Takes no memory.
+    /// The events of an item of which nothing was read. Allocates nothing.
     pub fn new(alloc: Global, limits: Limits, order: KeyOrder) -> StrictEvents
         ensures starts { StandsStrictly result [] [] }
         ensures limits { limits_of result ≡ limits }
@@ -67,8 +67,7 @@ impl StrictEvents {
         }
     }
 
-    // Goes on with the events of another item, whatever came of the one before, within the same
-    // limits.
+    // Starts again with another item within the same limits, in any state.
     pub(crate) fn restart(&mut self, order: KeyOrder)
         ensures starts { StandsStrictly self.new [] [] }
         ensures limits { limits_of self.new ≡ limits_of self.old }
@@ -79,9 +78,9 @@ impl StrictEvents {
         self.refusal = None;
     }
 
-    // The next event, as `StrictReader::next` answers it.
+    // The next event, as `StrictReader::next` returns it.
     pub(crate) fn next<R: Read>(&mut self, reader: &mut R) -> Result<Option<Event>, Refusal>
-        // For all bytes and marks that the events stood for.
+        // For all bytes and marks of the events reported before.
         ensures answers { (t : List ℕ) (ms : List Mark) → StandsStrictly self.old t ms
             → IsNextStrict result (strict_call self.old self.new
             (R.remaining reader.old) (R.remaining reader.new) t ms) }
@@ -96,7 +95,7 @@ impl StrictEvents {
         ensures emptied { OnErr result ((self.new.piece ≡ [])
             × (self.new.spans ≡ 0) × (self.new.kept ≡ 0)) }
 
-        // Where nothing is wanted the reader is not touched, nor after a refusal.
+        // If nothing is expected, and after a refusal, the reader is not called.
         ensures idle { IsIdle self.old.machine → reader.new ≡ reader.old }
         ensures again { IfSome self.old.refusal
             (λ f. (result ≡ Err f) × (self.new ≡ self.old) × (reader.new ≡ reader.old)) }
@@ -126,7 +125,7 @@ impl StrictEvents {
         }
     }
 
-    // How many arrays, maps and tags are open.
+    // The number of arrays, maps and tags that are open.
     pub(crate) fn open(&self) -> usize
         ensures count { result ≡ self.now.machine.open_count }
         ensures within { result ≤ self.now.machine.depth }
@@ -134,7 +133,7 @@ impl StrictEvents {
         self.events.open()
     }
 
-    // How many bytes were taken.
+    // The number of bytes consumed.
     pub(crate) fn taken(&self) -> u64
         ensures taken { result ≡ self.now.machine.taken }
         ensures within { result ≤ self.now.machine.bytes }
@@ -142,7 +141,7 @@ impl StrictEvents {
         self.events.taken()
     }
 
-    // Of how many maps the place of the last complete key is kept.
+    // The number of maps whose last complete key is stored.
     pub(crate) fn spans(&self) -> usize
         ensures count { result ≡ self.now.spans }
         ensures within { result ≤ self.now.machine.open_count }
@@ -151,7 +150,7 @@ impl StrictEvents {
         self.items.keys.spans()
     }
 
-    // How many bytes of keys are kept.
+    // The number of bytes of keys stored.
     pub(crate) fn kept(&self) -> u64
         ensures count { result ≡ self.now.kept }
         ensures within { result ≤ self.now.machine.taken }

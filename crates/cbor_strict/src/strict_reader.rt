@@ -4,31 +4,30 @@ ghost use Rattle.std.specs.Prelude.{◌≡◌, ◌≢◌, ◌≤◌, ℕ, List, 
 ghost use Rattle.std.specs.Prelude.{IfOk, IfErr, IfSome, OnOk, OnErr};
 ghost use Rattle.cbor_head.specs.Complaint.{strict};
 ghost use Rattle.cbor_head.specs.declared.reason.Reason.TheVariants as reasons;
-ghost use Rattle.cbor_automaton.specs.Trace.{Mark};
-ghost use Rattle.cbor_automaton.specs.Marks.{IsProper};
+ghost use Rattle.theory_automaton.specs.Trace.{Mark};
+ghost use Rattle.theory_automaton.specs.Marks.{IsProper};
 ghost use Rattle.cbor_machine.specs.Machine.{KeepsLimits, IsIdle};
 ghost use Rattle.cbor_machine.specs.NextEvent.{IfReported};
-ghost use Rattle.cbor_verdict.specs.Readers.{IsRead, IsUnread, IsCanonicalPrefix};
-ghost use Rattle.cbor_verdict.specs.Readers.{HasNoCanonicalPrefix, Loses};
-ghost use Rattle.cbor_verdict.specs.Refusals.{IsReaderReason};
+ghost use Rattle.theory_verdicts.specs.Readers.{IsRead, IsUnread, IsCanonicalPrefix};
+ghost use Rattle.theory_verdicts.specs.Readers.{HasNoCanonicalPrefix, Loses};
+ghost use Rattle.theory_verdicts.specs.Refusals.{IsReaderReason};
 ghost use Rattle.cbor_strict.specs.StrictReader.{StrictReaderView, StandsStrictly};
 ghost use Rattle.cbor_strict.specs.StrictReader.{IsNextStrict, limits_of, strict_call};
 
 use crate::strict_events::StrictEvents;
-use cbor_automaton::Event;
-use cbor_head::{KeyOrder, Limits, Refusal};
+use cbor_head::{Event, KeyOrder, Limits, Refusal};
 use std::alloc::Global;
 use std::io::Read;
 use std::marker::Model;
 
-/// How many bytes the item has that the reader's bytes begin with, where they are its canonical
+/// Returns the size in bytes of the item that the reader's bytes begin with, if they are its canonical
 /// bytes in this order (RFC 8949, sections 4.2.1 and 4.2.3).
 ///
-/// No byte behind the item is read. The refusal is the one that the bytes within the limits call
-/// for, by the rules of the deterministic encoding; or `Read` or `Memory`, where the reader failed
-/// or memory was refused before: then the place is the count of the bytes taken. After a refusal as
-/// many bytes were taken as its `read` reports. No more containers are ever open, and no more frames
-/// kept, than the depth limit allows: that is an invariant of the events that it reads through.
+/// No byte after the item is read. The refusal is that of the bytes within the limits, by the rules of
+/// the deterministic encoding; or `Read` or `Memory`, if the reader failed or memory was refused before
+/// that, with the number of bytes consumed as `place`. After a refusal the number of bytes consumed is
+/// its `read`. There are never more open containers than the depth limit allows: that is an invariant of
+/// the events that it reads.
 pub fn read_strict<R: Read>(
     alloc: Global,
     reader: &mut R,
@@ -53,8 +52,7 @@ pub fn read_strict<R: Read>(
     read_strict_by(&mut StrictEvents::new(alloc, limits, order), reader, order)
 }
 
-/// Checks an item by events that the caller keeps from item to item: whatever they reported before, they
-/// become the item's.
+/// Checks an item by events that the caller reuses for each item, in any state.
 pub fn read_strict_by<R: Read>(
     events: &mut StrictEvents,
     reader: &mut R,
@@ -90,12 +88,12 @@ pub fn read_strict_by<R: Read>(
 /// A reader together with the events of the item that it is at, by the rules of the deterministic
 /// encoding in an order (RFC 8949, sections 4.2.1 and 4.2.3).
 ///
-/// The events are those of [`EventReader`](cbor_events::EventReader), but where a complaint ends
-/// with one, as where a key is complete that does not rise, its refusal stands in its place. Of a
-/// key of another kind than the limits ask for its first byte alone is read, and nothing is reported.
-/// What is kept grows with the open maps and their keys alone: of each open map the last complete
-/// key and its place, and all of a key that is not complete, a byte of it once however many maps it
-/// holds.
+/// The events are those of [`EventReader`](cbor_events::EventReader). If a complaint ends with an event,
+/// for example when a complete key does not sort after the one before, the refusal is reported instead.
+/// Of a key of a kind that the limits do not allow, only the first byte is read, and no event is
+/// reported. The memory grows only with the open maps and their keys: it holds the last complete key of
+/// each open map and its offset, and a key that is not complete from its first byte on, each byte once
+/// however many maps it is in.
 #[derive(Drop)]
 pub struct StrictReader<R> {
     reader: R,
@@ -109,7 +107,7 @@ impl<R> Model for StrictReader<R> {
 }
 
 impl<R: Read> StrictReader<R> {
-    /// The events of the item that the reader is at. Takes no memory.
+    /// The events of the item that the reader is at. Allocates nothing.
     pub fn new(alloc: Global, reader: R, limits: Limits, order: KeyOrder) -> StrictReader<R>
         ensures starts { StandsStrictly result.events [] [] }
         ensures limits { (result.events.machine.depth ≡ limits.depth)
@@ -125,15 +123,13 @@ impl<R: Read> StrictReader<R> {
         }
     }
 
-    /// The next event, with its bytes read; none once the item is complete, and then nothing is
-    /// read.
+    /// Reads and returns the next event. None once the item is complete, and then nothing is read.
     ///
-    /// One byte of a head is asked for, then what is missing of its argument; of a payload what is
-    /// left, at most 512 bytes. The refusal is the one that [`read_strict`] answers of what was
-    /// taken and what the reader holds. After one every later call answers it again and reads
-    /// nothing.
+    /// It reads one byte of a head, then the rest of its argument; of a payload what is left, at most
+    /// 512 bytes. The refusal is the one that [`read_strict`] returns for the bytes consumed and those
+    /// that the reader holds. After a refusal every later call returns it again and reads nothing.
     pub fn next(&mut self) -> Result<Option<Event>, Refusal>
-        // For all bytes and marks that the events stood for.
+        // For all bytes and marks of the events reported before.
         ensures answers { (t : List ℕ) (ms : List Mark) → StandsStrictly self.old.events t ms
             → IsNextStrict result (strict_call self.old.events self.new.events
             (R.remaining self.old.reader) (R.remaining self.new.reader) t ms) }
@@ -148,7 +144,7 @@ impl<R: Read> StrictReader<R> {
         ensures emptied { OnErr result ((self.new.events.piece ≡ [])
             × (self.new.events.spans ≡ 0) × (self.new.events.kept ≡ 0)) }
 
-        // Where nothing is wanted the reader is not touched, nor after a refusal.
+        // If nothing is expected, and after a refusal, the reader is not called.
         ensures idle { IsIdle self.old.events.machine → self.new.reader ≡ self.old.reader }
         ensures again { IfSome self.old.events.refusal
             (λ f. (result ≡ Err f) × (self.new ≡ self.old)) }
@@ -164,7 +160,7 @@ impl<R: Read> StrictReader<R> {
         self.events.piece()
     }
 
-    /// How many arrays, maps and tags are open: from its head until its last member.
+    /// The number of arrays, maps and tags that are open: from its head until its last member.
     pub fn open(&self) -> usize
         ensures count { result ≡ self.now.events.machine.open_count }
         ensures within { result ≤ self.now.events.machine.depth }
@@ -172,7 +168,7 @@ impl<R: Read> StrictReader<R> {
         self.events.open()
     }
 
-    /// How many bytes were taken; after a refusal its `read`.
+    /// The number of bytes consumed; after a refusal its `read`.
     pub fn taken(&self) -> u64
         ensures taken { result ≡ self.now.events.machine.taken }
         ensures within { result ≤ self.now.events.machine.bytes }
@@ -180,8 +176,8 @@ impl<R: Read> StrictReader<R> {
         self.events.taken()
     }
 
-    /// Of how many maps the place of the last complete key is kept: of each that is open, and of
-    /// none after a refusal.
+    /// The number of maps whose last complete key is stored: all that are open, and none after a
+    /// refusal.
     pub fn spans(&self) -> usize
         ensures count { result ≡ self.now.events.spans }
         ensures within { result ≤ self.now.events.machine.open_count }
@@ -190,7 +186,7 @@ impl<R: Read> StrictReader<R> {
         self.events.spans()
     }
 
-    /// How many bytes of keys are kept: those of the last complete key of each open map and of the
+    /// The number of bytes of keys stored: those of the last complete key of each open map and of the
     /// keys that are not complete, each once; none after a refusal.
     pub fn kept(&self) -> u64
         ensures count { result ≡ self.now.events.kept }

@@ -3,19 +3,19 @@
 ghost use Rattle.std.specs.Prelude.{◌≡◌, IfOk, IfErr};
 ghost use Rattle.cbor_head.specs.Complaint.{strict};
 ghost use Rattle.cbor_head.specs.Verdict.{IsVerdict, refused};
-ghost use Rattle.cbor_verdict.specs.Readers.{IsRead, IsCanonicalPrefix, HasNoCanonicalPrefix};
+ghost use Rattle.theory_verdicts.specs.Readers.{IsRead, IsCanonicalPrefix, HasNoCanonicalPrefix};
 ghost use Rattle.cbor_parser.specs.NotCanonical.{strict_refusal};
 
 use cbor_head::{KeyOrder, Limits, Reason, Refusal};
 use cbor_parser::canonical_prefix;
 
-/// How many bytes the item has that the slice begins with, where they are its canonical bytes in
-/// this order (RFC 8949, sections 4.2.1 and 4.2.3); else the refusal that the bytes within the
-/// limits call for, by the rules of the deterministic encoding.
+/// Returns the size in bytes of the item that the slice begins with, if its bytes are canonical in
+/// this order (RFC 8949, sections 4.2.1 and 4.2.3); else the refusal of the bytes within the
+/// limits, by the rules of the deterministic encoding.
 ///
-/// It answers as [`read_strict`](crate::read_strict) does of a reader over the slice. It goes over
-/// the bytes once, without recursion, and takes no memory: the last key of each open map is a part
-/// of the slice.
+/// It returns what [`read_strict`](crate::read_strict) returns for a reader over the slice. It
+/// reads the bytes once, without recursion, and allocates nothing: the last key of each open map is
+/// a part of the slice.
 pub fn check_canonical(bytes: &[u8], limits: Limits, order: KeyOrder) -> Result<u64, Refusal>
     ensures accepted { IfOk result (λ count. IsRead limits (strict order) bytes.now count) }
     ensures canonical { IfOk result (λ count. IsCanonicalPrefix limits order bytes.now count) }
@@ -28,7 +28,7 @@ pub fn check_canonical(bytes: &[u8], limits: Limits, order: KeyOrder) -> Result<
     }
 }
 
-// Of keys that do not rise the rules say only that, be they the same or not.
+// For keys that do not rise the strict rules have one reason, whether the keys are the same or not.
 fn strictly(refusal: Refusal) -> Refusal
     ensures { result ≡ strict_refusal refusal }
 {

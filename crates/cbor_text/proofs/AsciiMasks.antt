@@ -19,7 +19,7 @@ bit-of x m X e = go (leb 128 x) refl e
 doubled : (q k : ℕ) → q * 2 ^ suc k ≡ (q * 2 ^ k) * 2
 doubled q k = ap (λ j. q * j) (pow-suc 2 k) ∙ sym (mul_assoc q (2 ^ k) 2)
 
--- where a power of two divides the mask, so many bytes are ASCII
+-- if a power of two divides the mask, that number of bytes are ASCII
 pub low-ascii : (xs : List ℕ) (k q : ℕ) → mask_of xs ≡ q * 2 ^ k → (i : ℕ) → i < k → get_or xs i 0 < 128
 low-ascii [] k q e i l = omega arith
 low-ascii (x ∷ xs) zero q e i l = absurd (omega (arith, l))
@@ -30,7 +30,7 @@ two-pow : (s : ℕ) → 0 < 2 ^ s
 two-pow zero = omega arith
 two-pow (suc s) = omega (arith, two-pow s, pow-suc 2 s)
 
--- a mask that is 0 where it is moved up until so many bits are left
+-- a mask that becomes 0 when it is shifted until only this number of bits is left
 pub shifted : (m s k : ℕ) → k + s ≡ 64 → m * 2 ^ s % 2 ^ 64 ≡ 0 → (q : ℕ) × (m ≡ q * 2 ^ k)
 shifted m s k e z =
     let q = m * 2 ^ s / 2 ^ 64 in
@@ -38,7 +38,7 @@ shifted m s k e z =
     let split : q * 2 ^ 64 ≡ (q * 2 ^ k) * 2 ^ s = ap (λ j. q * 2 ^ j) (sym e) ∙ ap (λ j. q * j) (pow-add 2 k s) ∙ sym (mul_assoc q (2 ^ k) (2 ^ s)) in
     (q, sym (mul-div_cancel m (two-pow s)) ∙ ap (λ j. j / 2 ^ s) (whole ∙ split) ∙ mul-div_cancel (q * 2 ^ k) (two-pow s))
 
--- the first bytes, of those that stand in the mask
+-- the first bytes, of those in the mask
 reads-take : (n : ℕ) (xs : List ℕ) → ((k : ℕ) → k < n → get_or xs k 0 < 128) → (i : ℕ) → get_or (take n xs) i 0 < 128
 reads-take (suc n) (x ∷ xs) h zero = h zero (omega arith)
 reads-take (suc n) (x ∷ xs) h (suc i) = reads-take n xs (λ k l. h (suc k) (omega (arith, l))) i
@@ -68,7 +68,7 @@ no-bit x l = go (leb 128 x) refl
 joined : (b m X Y : ℕ) → b ≡ 0 → m ≡ X → Y ≡ X * 2 → b + 2 * m ≡ Y
 joined b m X Y none e f = omega (arith, none, e, f)
 
--- where so many bytes are ASCII, a power of two divides the mask
+-- if that number of bytes are ASCII, a power of two divides the mask
 pub ascii-low : (xs : List ℕ) (k : ℕ) → ((i : ℕ) → i < k → get_or xs i 0 < 128) → (q : ℕ) × (mask_of xs ≡ q * 2 ^ k)
 ascii-low xs zero h = (mask_of xs, omega arith)
 ascii-low [] (suc k) h = (0, omega arith)

@@ -116,11 +116,11 @@ never t some none hopeless = λ xs. record {
       (cases_lt (length t) n);
 }
 
--- behind the longest prefix no prefix is text
+-- after the longest prefix, no prefix is text
 pub rest-unfinished : (bs : List ℕ) (v : ℕ) → IsValidUpTo bs v → IsUnfinished (drop v bs)
 rest-unfinished bs v h = λ m more within u. h.longest (v + m) (omega arith) (subst IsUtf8 (sym (take-add v m bs)) (IsUtf8-append _ _ h.front u))
 
--- text may stand before it
+-- text may precede it
 pub fixed-behind : (f bs : List ℕ) (n k : ℕ) → IsUtf8 f → IsFixed bs n → length f + n ≡ k → IsFixed (f ++ bs) k
 fixed-behind f bs n k u h e = λ xs.
     let all : (f ++ bs) ++ xs ≡ f ++ (bs ++ xs) = append_assoc f bs xs in
@@ -160,7 +160,7 @@ open-rest bs v h few = record {
 pub open-none : (bs : List ℕ) → IsValidUpTo bs 0 → length bs < 4 → IsOpen bs bs
 open-none bs h few = record { prefix = []; joined = refl; valid = IsUtf8-nil; short = few; unfinished = λ m more within u. h.longest m more u }
 
--- text may stand before it
+-- text may precede it
 pub open-behind : (f bs tail : List ℕ) → IsUtf8 f → IsOpen bs tail → IsOpen (f ++ bs) tail
 open-behind f bs tail u h = record {
   prefix = f ++ h.prefix;
@@ -230,7 +230,7 @@ fill-never carried piece joined more is fixed-there =
     let e : (carried ++ take more piece) ++ drop more piece ≡ carried ++ piece = append_assoc carried (take more piece) (drop more piece) ∙ ap (λ l. carried ++ l) (take-append-drop more piece) in
     subst (λ l. IsFixed l 0) e (fixed-more (carried ++ take more piece) (drop more piece) 0 h)
 
--- `&piece[n..]` behind what ends where a character does
+-- `&piece[n..]` after bytes that end where a character ends
 module _ (carried piece : List ℕ) (n : ℕ) (u : IsUtf8 (carried ++ take n piece)) where
   rejoined : (carried ++ take n piece) ++ take (length piece - n) (drop n piece) ≡ carried ++ piece
   rejoined = ap (λ l. (carried ++ take n piece) ++ l) (take_rest piece n) ∙ append_assoc carried (take n piece) (drop n piece) ∙ ap (λ l. carried ++ l) (take-append-drop n piece)

@@ -5,7 +5,7 @@ ghost use Rattle.std.specs.Str.{IsAscii};
 
 use std::simd::prelude::*;
 
-// Whether the first byte and so many bytes behind it are ASCII.
+// Whether the first byte and the given number of bytes after it are ASCII.
 #[inline(always)]
 fn is_ascii_prefix(chunk: &[u8; 32], count: u8) -> bool
     requires { count < 32 }
@@ -17,7 +17,8 @@ fn is_ascii_prefix(chunk: &[u8; 32], count: u8) -> bool
     high << (63 - count) == 0
 }
 
-// Whether so many bytes at the start are ASCII. False says nothing: more than 32 may be asked for.
+// Whether the given number of bytes at the start are ASCII. False says nothing: for more than 32
+// bytes it is always false.
 #[inline(always)]
 pub(crate) fn is_short_ascii(prefix: &[u8], count: usize) -> bool
     ensures { result ≡ true → IsAscii (take count prefix.now) }
@@ -31,7 +32,7 @@ pub(crate) fn is_short_ascii(prefix: &[u8], count: usize) -> bool
     }
 }
 
-// Whether fewer bytes, at the end of an input, are ASCII.
+// Whether fewer than 32 bytes, at the end of an input, are ASCII.
 #[inline(never)]
 fn is_ascii_end(bytes: &[u8]) -> bool
     ensures { result ≡ true → IsAscii bytes.now }

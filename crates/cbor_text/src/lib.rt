@@ -1,7 +1,8 @@
-//! Checks that bytes are UTF-8 (RFC 3629): the engine behind every check of a text string.
+//! Checks that bytes are UTF-8 (RFC 3629): the engine of every check of a text string.
 //!
-//! The parsers call [`check_text`] for a slice and [`is_text_prefix`] for a short text of ASCII; the readers over events call
-//! [`TextCheck`], which takes a text in pieces. Each reports the length of the longest prefix that is UTF-8.
+//! The parsers call [`check_text`] for a slice and [`is_text_prefix`] for a short text of ASCII; the
+//! readers over events call [`TextCheck`], which gets a text in pieces. Each reports the length of
+//! the longest prefix that is UTF-8.
 #![tactic(auto)]
 
 mod ascii;

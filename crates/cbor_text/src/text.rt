@@ -5,7 +5,8 @@ ghost use Rattle.std.specs.Str.Lossy.{utf8_valid_len};
 
 use crate::ascii::is_short_ascii;
 
-/// Whether the bytes are UTF-8, or the length of their longest prefix that is.
+/// Checks that the bytes are UTF-8. The error is the length in bytes of their longest prefix that
+/// is.
 pub fn check_text(bytes: &[u8]) -> Result<(), usize>
     ensures checked { MatchResult result
         (λ _. IsUtf8 bytes.now)
@@ -18,8 +19,8 @@ pub fn check_text(bytes: &[u8]) -> Result<(), usize>
     }
 }
 
-/// Whether so many bytes at the start are UTF-8. Of up to 32 bytes of ASCII it sees it at once, where
-/// 32 stand there.
+/// Whether the given number of bytes at the start are UTF-8. Up to 32 bytes of ASCII are recognised
+/// at once, fastest if the slice has 32 bytes.
 #[inline(always)]
 pub fn is_text_prefix(prefix: &[u8], count: usize) -> bool
     requires { count ≤ length prefix.now }

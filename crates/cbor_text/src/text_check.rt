@@ -1,4 +1,4 @@
-//! Reports how far bytes that come in pieces are UTF-8.
+//! A check that bytes which come in pieces are UTF-8.
 
 ghost use Rattle.std.specs.Prelude.{◌≡◌, ℕ, ◌+◌, ◌^◌, ◌<◌, ◌≤◌, List, [], ◌++◌, length, MatchOption, MatchResult, IsUtf8};
 ghost use Rattle.std.specs.Prelude.{true};
@@ -11,17 +11,17 @@ ghost use Rattle.cbor_text.specs.TextCheck.{TextView, HasChecked};
 use arrayvec::ArrayVec;
 use std::marker::Model;
 
-// So many bytes are looked at one by one.
+// Up to this length, bytes are checked one by one.
 const SHORT: usize = 24;
 
-/// Checks that bytes which come in pieces are UTF-8 as a whole, wherever the cuts fall. It takes
-/// no memory, and carries at most three bytes from one piece to the next.
+/// Checks that bytes which come in pieces are UTF-8 as a whole, wherever they are cut. It allocates
+/// nothing, and carries at most three bytes from one piece to the next.
 #[derive(Drop)]
 pub struct TextCheck {
     pushed: u64,
-    // The begun character, where the bytes so far end within one.
+    // The unfinished character at the end of the bytes so far.
     carried: ArrayVec<u8, 3>,
-    // The longest valid prefix, once no further byte can make it longer.
+    // The length of the longest valid prefix, once no further byte can make it longer.
     fault: Option<u64>,
 }
 
@@ -40,7 +40,7 @@ impl Model for TextCheck {
 }
 
 impl TextCheck {
-    /// A check that no bytes were pushed to.
+    /// A check that was given no bytes.
     pub fn new() -> TextCheck
         ensures { HasChecked result [] }
     {
@@ -51,8 +51,7 @@ impl TextCheck {
         }
     }
 
-    /// Takes the next bytes of the text. All that was pushed and these together are at most
-    /// 2^64 - 1 bytes.
+    /// Checks the next bytes of the text. All pieces together may have at most 2^64 - 1 bytes.
     pub fn push(&mut self, piece: &[u8])
         requires { self.old.pushed + length piece.now < 2 ^ 64 }
         ensures checked { (bytes : List ℕ) → HasChecked self.old bytes
@@ -69,15 +68,15 @@ impl TextCheck {
         }
     }
 
-    /// How many bytes were pushed.
+    /// The number of bytes pushed.
     pub fn pushed(&self) -> u64
         ensures { result ≡ self.now.pushed }
     {
         self.pushed
     }
 
-    /// Whether all that was pushed is UTF-8. The error is the length in bytes of its longest
-    /// prefix that is; it ends where a character does.
+    /// Checks that all bytes pushed are UTF-8. The error is the length in bytes of their longest
+    /// prefix that is; it ends at the end of a character.
     pub fn end(&self) -> Result<(), u64>
         ensures { (bytes : List ℕ) → HasChecked self.now bytes
             → MatchResult result
@@ -92,28 +91,28 @@ impl TextCheck {
     }
 }
 
-// How far some bytes are UTF-8.
+// How much of some bytes is UTF-8.
 #[derive(Clone, Copy)]
 enum Prefix {
     Whole,
-    // So many of them, and the rest may begin a character.
+    // The first bytes, this number of them; the rest may begin a character.
     Open(usize),
-    // So many of them, whatever follows.
+    // The first bytes, this number of them, whatever follows.
     Fixed(usize),
 }
 
 // What the next bytes make of a character that was begun.
 #[derive(Clone, Copy)]
 enum Filled {
-    // The first so many of them end where a character does.
+    // After this number of them a character ends.
     Past(usize),
     // The character is still unfinished.
     Short,
-    // There is no such character.
+    // No character begins with these bytes.
     Never,
 }
 
-// Whether the bytes are few, and all ASCII: then they are seen faster one by one.
+// Whether the bytes are few and all ASCII: it is faster to check them one by one.
 #[inline(always)]
 fn are_few_ascii(bytes: &[u8]) -> bool
     ensures { result ≡ true → IsAscii bytes.now }
@@ -121,7 +120,7 @@ fn are_few_ascii(bytes: &[u8]) -> bool
     bytes.len() <= SHORT && bytes.iter().all(|byte| byte.is_ascii())
 }
 
-// How far bytes that begin where a character does are UTF-8.
+// How much of bytes that begin at a character's start is UTF-8.
 #[inline(always)]
 fn judge(bytes: &[u8]) -> Prefix
     ensures { IsJudged bytes.now result }
@@ -145,7 +144,7 @@ fn append<const N: usize>(to: &mut ArrayVec<u8, N>, bytes: &[u8])
     let _ = to.try_extend_from_slice(bytes);
 }
 
-// The bytes of one character, or of a part of one and of what follows it.
+// The carried bytes and then the next ones, together at most four bytes.
 fn join(carried: &[u8], more: &[u8]) -> ArrayVec<u8, 4>
     requires { length carried.now + length more.now ≤ 4 }
     ensures { result.items ≡ carried.now ++ more.now }
@@ -156,8 +155,8 @@ fn join(carried: &[u8], more: &[u8]) -> ArrayVec<u8, 4>
     joined
 }
 
-// What `piece` makes of the character that `carried` begins. The bytes of one are at most four, so
-// no more of a long piece is looked at here.
+// What `piece` makes of the character that `carried` begins. A character has at most four bytes, so
+// no more of a long piece is read here.
 #[inline(never)]
 fn fill(carried: &[u8], piece: &[u8]) -> Filled
     requires short { length carried.now < 4 }
@@ -176,8 +175,8 @@ fn fill(carried: &[u8], piece: &[u8]) -> Filled
     }
 }
 
-// Judges a piece that begins where a character does, and carries its unfinished tail. The answer is
-// its longest valid prefix where no further byte can make that longer.
+// Checks a piece that begins at a character's start, and carries its unfinished tail. Returns the
+// length of its longest valid prefix if no further byte can make that longer.
 #[inline(always)]
 fn scan(carried: &mut ArrayVec<u8, 3>, piece: &[u8]) -> Option<usize>
     requires { carried.old.items ≡ [] }
@@ -198,7 +197,7 @@ fn scan(carried: &mut ArrayVec<u8, 3>, piece: &[u8]) -> Option<usize>
     }
 }
 
-// Judges the carried bytes and the piece that follows them.
+// Checks the carried bytes and the piece that follows them.
 #[inline(always)]
 fn go_on(carried: &mut ArrayVec<u8, 3>, piece: &[u8]) -> Option<usize>
     requires unfinished { IsUnfinished carried.old.items }

@@ -1,16 +1,16 @@
--- What is refused where an item is expected: its head, what is behind it, or the first byte of a key of another kind.
+-- What is refused where an item is expected: its head, what follows it, or the first byte of a key of another kind.
 use Rattle.std.proofs.Common.{◌≡◌, ℕ, ◌-◌, ◌^◌, ◌<◌, ◌⊎◌, Option, None, List, [], ◌++◌, length, map, sym, ap, subst, inl, inr, arith}
 use Rattle.std.{specs.Io.KnownBytes.Consumes, proofs.lemmas.List.length-map}
 use Rattle.cbor_head.specs.Prelude.{plain, Complaint, Bounds}
 use Rattle.cbor_head.specs.declared.reason.Refusal.{Refusal}
 use Rattle.cbor_machine.specs.NextEvent.{ItemEventsView}
-use Rattle.cbor_verdict.specs.Kinds.{AsksForKinds, KeepsToKinds, IsKeyExpectedIn, IsOfOneHead, HasBasicPrefix}
-use Rattle.cbor_verdict.proofs.Items.{cause-in, cause-prefix, undecided-in, undecided-prefix}
-use Rattle.cbor_verdict.proofs.KindBytes.{Begins, keeps_expected, judged_begins, one_head_prefix}
-use Rattle.cbor_verdict.specs.Reading.{IsUndecided, HasCause, IsMemory, IsReached}
-use Rattle.cbor_verdict.{proofs.ItemExpected.ExpectsItem, specs.Judged.IsJudged, specs.Levels.frame, specs.Levels.bytes_before, specs.Place.Container}
-use Rattle.cbor_verdict.{specs.RefusedBehind.IsRefusedBehind, proofs.LevelFrames.around_levels, proofs.LevelFrames.path, proofs.KindFrames.IsAround}
-use Rattle.cbor_verdict.proofs.RefusedBehind.{stopped_by}
+use Rattle.theory_verdicts.specs.Kinds.{AsksForKinds, KeepsToKinds, IsKeyExpectedIn, IsOfOneHead, HasBasicPrefix}
+use Rattle.theory_verdicts.proofs.Items.{cause-in, cause-prefix, undecided-in, undecided-prefix}
+use Rattle.theory_verdicts.proofs.KindBytes.{Begins, keeps_expected, judged_begins, one_head_prefix}
+use Rattle.theory_verdicts.specs.Reading.{IsUndecided, HasCause, IsMemory, IsReached}
+use Rattle.theory_verdicts.{proofs.ItemExpected.ExpectsItem, specs.Judged.IsJudged, specs.Levels.frame, specs.Levels.bytes_before, specs.Place.Container}
+use Rattle.theory_verdicts.{specs.RefusedBehind.IsRefusedBehind, proofs.LevelFrames.around_levels, proofs.LevelFrames.path, proofs.KindFrames.IsAround}
+use Rattle.theory_verdicts.proofs.RefusedBehind.{stopped_by}
 use Rattle.cbor_tree_reader.specs.{declared.tree_items.TreeItems.TreeItems, inner.ItemPrefix.IsExpectedAt, inner.TreeItems.AreApart}
 use Rattle.cbor_tree_reader.proofs.{PartKinds.basic-prefix, PathFrames.found_within}
 
@@ -42,7 +42,7 @@ module _ (v : TreeItems) (b : Bounds) (e : ItemEventsView) (t : List ℕ) (d : I
   pub undecided-whole : (x : List ℕ) → IsUndecided plain b gs t x → IsUndecided plain b [] [] (t ++ x)
   undecided-whole x u = undecided-in plain b [] gs [] t expects.lift x u
 
-  -- an item that is refused behind its head
+  -- an item that is refused after its head
   module _ (bytes : List ℕ) (one : IsOfOneHead bytes) (basic : AsksForKinds b plain → IsKeyExpectedIn d.ls → HasBasicPrefix bytes) where
     keeps-split : (x last : List ℕ) (found : Option Complaint) → bytes ≡ x ++ last → IsJudged plain (length t) (b.depth - length gs) x found → KeepsToKinds b plain (t ++ x)
     keeps-split x last found e j =

@@ -5,10 +5,10 @@ use Rattle.std.specs.BTreeSet.{BTreeSet, Updates}
 use Rattle.arrayvec.specs.ArrayVec.{ArrayVec}
 use Rattle.cbor_head.specs.declared.major.Major.TheVariants as majors
 use Rattle.cbor_head.specs.{Prelude.Pair, declared.major.Major.Major, declared.order.KeyOrder.KeyOrder}
-use Rattle.cbor_model.specs.Parts.{Open, plain, a_key, pair, closed, give, close, opened}
+use Rattle.theory_values.specs.Parts.{Open, plain, a_key, pair, closed, give, close, opened}
 use Rattle.cbor_builder.specs.Built.{HasKey, IsRepeatedKey, IsWaitingKey, IsContainer}
-use Rattle.cbor_verdict.specs.Levels as levels
-use Rattle.cbor_verdict.specs.{Place.Place, Place.Ends, Levels.Level, Levels.frame, Given.level_open, Given.opens}
+use Rattle.theory_verdicts.specs.Levels as levels
+use Rattle.theory_verdicts.specs.{Place.Place, Place.Ends, Levels.Level, Levels.frame, Given.level_open, Given.opens}
 use Rattle.cbor_tree_reader.specs.inner.HeldKeys.{is_in, IsAmong, HasKeyBytes, IsAdded, pair_keys, keys_before, AreHeld, AreHeldSoFar}
 use Rattle.cbor_tree_reader.{specs.declared.key_set.KeySet.KeySet, proofs.KeySets.in_more}
 

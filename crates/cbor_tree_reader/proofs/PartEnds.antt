@@ -1,20 +1,20 @@
--- What ends behind a part: the containers that are full, and the item, or a key that came before.
+-- What ends after a part: the containers that are full, and the item, or a key that came before.
 use Rattle.std.proofs.Common.{Vec, Global, ◌≡◌, ℕ, zero, suc, ◌+◌, ◌-◌, ◌^◌, ◌<◌, ◌≤◌, Bool, true, Option, Some, List, [], ◌∷◌, ◌++◌, length, map, slice_get, refl, sym, ap, ap₂, ◌∙◌, subst, arith, append_assoc, nat_lt, length-append}
 use Rattle.std.proofs.lemmas.List.{length-map}
 use Rattle.cbor_head.specs.Prelude.{canonical, canonical_entries, entries_of, Bounds, Spelling, SpelledEntries, spell, value_of, plain, refusal}
 use Rattle.cbor_head.specs.Complaint as complaint
 use Rattle.cbor_head.specs.declared.{order.KeyOrder.KeyOrder, reason.Reason.TheVariants.RepeatedKey, reason.Refusal.Refusal}
-use Rattle.cbor_model.specs.Parts.{IsInContainer, Open, plain as a_plain, give, close as close_open}
+use Rattle.theory_values.specs.Parts.{IsInContainer, Open, plain as a_plain, give, close as close_open}
 use Rattle.cbor_machine.specs.NextEvent.{ItemEventsView}
 use Rattle.cbor_builder.specs.Built.{Built, built, HasKey, IsRepeatedKey, HasDistinctKeysSoFar}
 use Rattle.cbor_item.specs.OpenValues as trees
 use Rattle.cbor_item.specs.OpenValues.{OpenItem, MayEnd}
-use Rattle.cbor_verdict.specs.Place.{Place, at_item, close, done as at_end, open_at}
-use Rattle.cbor_verdict.specs.Levels.{IsTaken, Level, a_key, a_value, some_key, some_value, frame, AreLevels, bytes_before, ParseState, item_expected, item_full, item_whole, settle}
-use Rattle.cbor_verdict.specs.Given.{level_open, opens, StandsAt}
-use Rattle.cbor_verdict.proofs.ParseState.{open-is, fewer-open, short-at}
-use Rattle.cbor_verdict.{specs.Judged.IsJudged, specs.Reading.HasCause, proofs.Given.settled, proofs.Scalars.at-as, proofs.Items.whole-cause}
-use Rattle.cbor_verdict.proofs.Steps.{at-reached}
+use Rattle.theory_verdicts.specs.Place.{Place, at_item, close, done as at_end, open_at}
+use Rattle.theory_verdicts.specs.Levels.{IsTaken, Level, a_key, a_value, some_key, some_value, frame, AreLevels, bytes_before, ParseState, item_expected, item_full, item_whole, settle}
+use Rattle.theory_verdicts.specs.Given.{level_open, opens, StandsAt}
+use Rattle.theory_verdicts.proofs.ParseState.{open-is, fewer-open, short-at}
+use Rattle.theory_verdicts.{specs.Judged.IsJudged, specs.Reading.HasCause, proofs.Given.settled, proofs.Scalars.at-as, proofs.Items.whole-cause}
+use Rattle.theory_verdicts.proofs.Steps.{at-reached}
 use Rattle.cbor_parser.specs.Sink.{IsKeyBehind}
 use Rattle.cbor_tree_reader.specs.inner.ItemPrefix.{IsExpectedAt, IsWholeAt, GoesOnOrNot}
 use Rattle.cbor_tree_reader.specs.inner.TreeItems.{AreApart, AreApartSoFar, HaveBegun, HaveBegunIn, HasItsPlace, IsEndingAt, sets}
@@ -181,7 +181,7 @@ module _ (v : TreeItems) (b : Bounds) (e : ItemEventsView) (t : List ℕ) (h : I
           keeps = h.keeps;
         }
 
--- ---- what is answered
+-- ---- what is returned
 
 pub goes-or-not : (v now : TreeItems) (b : Bounds) (e : ItemEventsView) (t : List ℕ) (count : ℕ) → IsEndingAt v b e t e.machine.open_count → 0 < length t → now.builder ≡ v.builder → now.starts ≡ v.starts → now.tree ≡ v.tree → now.kinds ≡ v.kinds
     → AreHeld (sets now) now.builder.open_levels × (IsRepeatedKey now.builder.open_levels → ⊥) → count ≡ e.machine.open_count → GoesOnOrNot (nat_lt 0 count) now b e t

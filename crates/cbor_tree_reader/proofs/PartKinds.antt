@@ -1,19 +1,19 @@
--- The kinds of keys in what was read: of the first byte of a head, of what a part is, and behind a break.
+-- The kinds of keys in what was read: of the first byte of a head, of what a part is, and after a break.
 use Rattle.std.proofs.Common.{◌≡◌, ap, ◌∙◌, ◌≢◌, ◌↔◌, ℕ, suc, ◌+◌, ◌-◌, ◌^◌, ◌<◌, true, false, Bool, List, [], ◌∷◌, ◌++◌, length, map, refl, sym, subst, arith, append_assoc, length-append}
 use Rattle.cbor_head.specs.Prelude.{plain, Complaint, OfKinds, head, Bounds, Spelling, array, a_map, tag, spell_all, spell_entries, spellings_count, value_of, Value}
 use Rattle.cbor_head.specs.Value as value
 use Rattle.cbor_head.specs.declared.major.Major.TheVariants as majors
-use Rattle.cbor_head.specs.declared.{major.Major.Major, order.KeyOrder.KeyOrder, order.KeyOrder.TheVariants.Bytewise, width.Width.Width}
-use Rattle.cbor_head.specs.declared.width.Width.TheVariants.{Indefinite}
-use Rattle.cbor_model.proofs.KeyKinds.{of_kind_in, of_kind_entries}
-use Rattle.cbor_automaton.specs.declared.event.EventKind.TheVariants as kinds
-use Rattle.cbor_automaton.specs.{Marks.mark_of, Marks.count_of, Trace.a_head, declared.event.EventKind.EventKind}
+use Rattle.cbor_head.specs.declared.event.EventKind.TheVariants as kinds
+use Rattle.cbor_head.specs.declared.{event.EventKind.EventKind, major.Major.Major, order.KeyOrder.KeyOrder, order.KeyOrder.TheVariants.Bytewise}
+use Rattle.cbor_head.specs.declared.width.Width.{Width, TheVariants.Indefinite}
+use Rattle.theory_values.proofs.KeyKinds.{of_kind_in, of_kind_entries}
+use Rattle.theory_automaton.specs.{Marks.mark_of, Marks.count_of, Trace.a_head}
 use Rattle.cbor_builder.specs.Built.{IsKeyExpected}
-use Rattle.cbor_verdict.specs.Kinds.{KeepsToKinds, IsKeyExpectedIn, IsOfOneHead, HasBasicPrefix}
-use Rattle.cbor_verdict.specs.Levels.{Level, a_key, some_member, some_key, frame, AreLevels, bytes_before}
-use Rattle.cbor_verdict.specs.Place.{Container, Place, at_item, Ends, IsTaking}
-use Rattle.cbor_verdict.{proofs.KindBytes.head_bytes, proofs.KindBytes.string_is_one, specs.Given.opens, specs.Reading.string_value}
-use Rattle.cbor_verdict.proofs.{Given.full-array, Given.full-map, LevelFrames.around_levels, KindFrames.keeps_closed}
+use Rattle.theory_verdicts.specs.Kinds.{KeepsToKinds, IsKeyExpectedIn, IsOfOneHead, HasBasicPrefix}
+use Rattle.theory_verdicts.specs.Levels.{Level, a_key, some_member, some_key, frame, AreLevels, bytes_before}
+use Rattle.theory_verdicts.specs.Place.{Container, Place, at_item, Ends, IsTaking}
+use Rattle.theory_verdicts.{proofs.KindBytes.head_bytes, proofs.KindBytes.string_is_one, specs.Given.opens, specs.Reading.string_value}
+use Rattle.theory_verdicts.proofs.{Given.full-array, Given.full-map, LevelFrames.around_levels, KindFrames.keeps_closed}
 use Rattle.cbor_tree_reader.specs.inner.PlainParts.{leaf_value, BeginsString}
 
 -- ---- the first byte of a head
@@ -71,7 +71,7 @@ no-kinds (a_map w es) h at c o = h
 no-kinds (tag w n s) h at c o = h
 no-kinds _ h at c o = o
 
--- ---- behind a break
+-- ---- after a break
 
 module _ (b : Bounds) where
   pub keeps-broken : (ls : List Level) (next : Place) → AreLevels b.depth ls → length (bytes_before ls) < 2 ^ 63 → Ends (map frame ls) next → KeepsToKinds b plain (bytes_before ls) → KeepsToKinds b plain (bytes_before ls ++ 0xff ∷ [])

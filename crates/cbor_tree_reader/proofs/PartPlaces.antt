@@ -1,22 +1,23 @@
--- What a part of an item is, and where it leads: the containers that are open behind it.
+-- What a part of an item is, and which containers are open after it.
 use Rattle.std.proofs.Common.{◌≡◌, ◌≢◌, ℕ, zero, suc, ◌+◌, ◌-◌, ◌^◌, ◌<◌, Bool, true, false, Option, Some, List, [], ◌∷◌, ◌++◌, length, map, slice_get, refl, sym, ap, ◌∙◌, subst, arith, append_assoc, append-nil, length-append}
 use Rattle.std.proofs.lemmas.List.{length-map}
 use Rattle.cbor_head.specs.Prelude.{Holds, head, shortest_head, canonical, Bounds, Value, Spelling, array, a_map, no_spellings, no_entries, spell_all, spell_entries, spellings_count, plain}
 use Rattle.cbor_head.specs.declared.major.Major.TheVariants as majors
-use Rattle.cbor_head.specs.declared.{major.Major.Major, order.KeyOrder.KeyOrder, width.Width.Width, width.Width.TheVariants.Indefinite}
-use Rattle.cbor_model.specs.Parts.{Open, an_array, a_map as an_open_map, opened}
-use Rattle.cbor_automaton.specs.declared.event.EventKind.TheVariants as kinds
-use Rattle.cbor_automaton.specs.{Marks.mark_of, Trace.Mark, Trace.a_head, declared.event.EventKind.EventKind}
+use Rattle.cbor_head.specs.declared.event.EventKind.TheVariants as kinds
+use Rattle.cbor_head.specs.declared.{event.EventKind.EventKind, major.Major.Major, order.KeyOrder.KeyOrder, width.Width.Width}
+use Rattle.cbor_head.specs.declared.width.Width.TheVariants.{Indefinite}
+use Rattle.theory_values.specs.Parts.{Open, an_array, a_map as an_open_map, opened}
+use Rattle.theory_automaton.specs.{Marks.mark_of, Trace.Mark, Trace.a_head}
 use Rattle.cbor_machine.specs.NextEvent.{ItemEventsView}
 use Rattle.cbor_builder.specs.Built.{IsContainer, IsLeaf}
 use Rattle.cbor_item.specs.OpenValues as trees
 use Rattle.cbor_item.specs.OpenValues.{OpenValue}
-use Rattle.cbor_verdict.specs.Place.{Container, Place, at_item, expect, Ends, IsTaking}
-use Rattle.cbor_verdict.specs.Levels.{Level, a_member, a_key, some_member, some_key, tagged, frame, AreLevels, bytes_before, ParseState, item_expected, item_full}
-use Rattle.cbor_verdict.specs.Reading.{string_major, IsBegun, ReadsItem, string_value}
-use Rattle.cbor_verdict.proofs.Scalars.{reads-unsigned, reads-negative, reads-simple}
-use Rattle.cbor_verdict.{proofs.Items.is-definite, specs.Given.opens, specs.Given.StandsAt, proofs.Members.closes, proofs.Heads.open_or}
-use Rattle.cbor_verdict.proofs.{Given.full-array, Given.full-map, Loops.array_bytes-whole, Loops.map_bytes-whole, Steps.fault_of}
+use Rattle.theory_verdicts.specs.Place.{Container, Place, at_item, expect, Ends, IsTaking}
+use Rattle.theory_verdicts.specs.Levels.{Level, a_member, a_key, some_member, some_key, tagged, frame, AreLevels, bytes_before, ParseState, item_expected, item_full}
+use Rattle.theory_verdicts.specs.Reading.{string_major, IsBegun, ReadsItem, string_value}
+use Rattle.theory_verdicts.proofs.Scalars.{reads-unsigned, reads-negative, reads-simple}
+use Rattle.theory_verdicts.{proofs.Items.is-definite, specs.Given.opens, specs.Given.StandsAt, proofs.Members.closes, proofs.Heads.open_or}
+use Rattle.theory_verdicts.proofs.{Given.full-array, Given.full-map, Loops.array_bytes-whole, Loops.map_bytes-whole, Steps.fault_of}
 use Rattle.cbor_tree_reader.specs.inner.TreeItems.{HaveBegun, HaveBegunIn, HasItsPlace}
 use Rattle.cbor_tree_reader.specs.inner.PlainParts.{IsCome, leaf_value, IsLeafMajor}
 use Rattle.cbor_tree_reader.specs.TreeValues.{level_values, values_at, IsFullRight}
@@ -29,7 +30,7 @@ string-canonical o false content = refl
 
 -- ---- heads
 
--- a head has no complaint of the plain rules by itself
+-- a head alone has no complaint of the plain rules
 pub come-begun : (b : Bounds) (fs : List Container) (t x : List ℕ) (e : ItemEventsView) (w : Width) (kind other : EventKind) → kind ≡ other → other ≢ kinds.End → IsCome b fs t x e w kind → IsBegun plain b fs t x e w other
 come-begun b fs t x e w kind other same item i =
     let j = subst (IsCome b fs t x e w) same i in

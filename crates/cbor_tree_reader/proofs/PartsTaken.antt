@@ -3,25 +3,25 @@ use Rattle.std.proofs.Common.{◌≡◌, ◌≢◌, ℕ, suc, ◌+◌, ◌-◌, 
 use Rattle.std.{specs.Io.KnownBytes.Consumes, proofs.KnownBytes.Consumes-trans, proofs.lemmas.List.length-map}
 use Rattle.cbor_head.specs.Prelude.{head, canonical, Bounds, Value, spell, spell_all, spellings_count, value_of, plain}
 use Rattle.cbor_head.specs.declared.major.Major.TheVariants as majors
+use Rattle.cbor_head.specs.declared.event.EventKind.TheVariants as kinds
 use Rattle.cbor_head.specs.declared.{order.KeyOrder.KeyOrder, reason.Reason.TheVariants.Memory, reason.Refusal.Refusal, width.Width.Width}
-use Rattle.cbor_head.specs.declared.width.Width.TheVariants.{Indefinite}
-use Rattle.cbor_model.specs.Parts.{Open, give, opened}
-use Rattle.cbor_model.proofs.{Counts.holds_fits, ReadLaws.length_spell}
-use Rattle.cbor_automaton.specs.declared.event.EventKind.TheVariants as kinds
-use Rattle.cbor_automaton.specs.{Marks.mark_of, Trace.Mark, declared.event.Event.Event, declared.event.EventKind.EventKind}
+use Rattle.cbor_head.specs.declared.{width.Width.TheVariants.Indefinite, event.Event.Event, event.EventKind.EventKind}
+use Rattle.theory_values.specs.Parts.{Open, give, opened}
+use Rattle.theory_values.proofs.{Counts.holds_fits, ReadLaws.length_spell}
+use Rattle.theory_automaton.specs.{Marks.mark_of, Trace.Mark}
 use Rattle.cbor_machine.specs.NextEvent.{ItemEventsView}
 use Rattle.cbor_builder.specs.Built.{Built, built, TakesPart}
 use Rattle.cbor_item.specs.OpenValues as trees
 use Rattle.cbor_item.specs.OpenValues.{OpenValue}
-use Rattle.cbor_verdict.specs.Place.{Container, Place, at_item, close, IsTaking}
-use Rattle.cbor_verdict.specs.Kinds.{AsksForKinds, KeepsToKinds, IsKeyExpectedIn, IsOfOneHead, HasBasicPrefix}
-use Rattle.cbor_verdict.specs.Levels.{IsTaken, Level, a_member, some_member, frame, AreLevels, bytes_before, item_expected, settle}
-use Rattle.cbor_verdict.specs.Reading.{IsAt, IsUndecided, IsNextHead, ReadsItem, StopsItem, string_value}
-use Rattle.cbor_verdict.proofs.Items.{extends-by, extends-in, taking-some}
-use Rattle.cbor_verdict.{proofs.KindBytes.item_basic, proofs.ItemExpected.basic-event, proofs.ItemExpected.head-keeps, specs.Given.opens, specs.Given.StandsAt}
-use Rattle.cbor_verdict.proofs.{KindFrames.keeps_on, ParseState.open-is, ParseState.short-at, Levels.clean-anywhere, Given.settled}
-use Rattle.cbor_verdict.proofs.{Undecided.item-undecided, Undecided.mark-undecided, Steps.at-reached, RefusedBehind.stopped_behind}
-use Rattle.cbor_verdict.{specs.RefusedBehind.IsRefusedBehind, proofs.Valid.count_bounded}
+use Rattle.theory_verdicts.specs.Place.{Container, Place, at_item, close, IsTaking}
+use Rattle.theory_verdicts.specs.Kinds.{AsksForKinds, KeepsToKinds, IsKeyExpectedIn, IsOfOneHead, HasBasicPrefix}
+use Rattle.theory_verdicts.specs.Levels.{IsTaken, Level, a_member, some_member, frame, AreLevels, bytes_before, item_expected, settle}
+use Rattle.theory_verdicts.specs.Reading.{IsAt, IsUndecided, IsNextHead, ReadsItem, StopsItem, string_value}
+use Rattle.theory_verdicts.proofs.Items.{extends-by, extends-in, taking-some}
+use Rattle.theory_verdicts.proofs.{KindBytes.item_basic, ItemExpected.basic-event, ItemExpected.head-keeps}
+use Rattle.theory_verdicts.{specs.Given.opens, specs.Given.StandsAt, proofs.KindFrames.keeps_on, proofs.ParseState.open-is, proofs.ParseState.short-at}
+use Rattle.theory_verdicts.proofs.{Levels.clean-anywhere, Given.settled, Undecided.item-undecided, Undecided.mark-undecided, Steps.at-reached}
+use Rattle.theory_verdicts.{proofs.RefusedBehind.stopped_behind, specs.RefusedBehind.IsRefusedBehind, proofs.Valid.count_bounded}
 use Rattle.cbor_tree_reader.specs.declared.item_part.ItemPart.TheVariants.{Leaf, String, Begin, Break}
 use Rattle.cbor_tree_reader.specs.inner.TreeItems.{AreApartSoFar, HaveBegun, CanTake, IsGiven, IsEndingAt, sets, AreKeysBegun}
 use Rattle.cbor_tree_reader.specs.inner.PlainParts.{IsCome, leaf_value, BeginsString, IsStill, ReadsPart}
@@ -83,7 +83,7 @@ module _ (v : TreeItems) (b : Bounds) (e : ItemEventsView) (t : List ℕ) (d : I
     first-kind : ev.kind ≢ kinds.End → AsksForKinds b plain → IsKeyExpectedIn d.ls → HasBasicPrefix n.bytes
     first-kind item asked is_key = basic-event b.depth gs ev.width ev.kind n.bytes n.next n.taking item (expected.kind asked is_key)
 
-    -- the places behind it
+    -- the positions after it
     module _ (now : TreeItems) (height place : ℕ) (same : height ≡ e.machine.open_count) (same_place : place ≡ ev.place) (starts : now.starts.items ≡ take height v.starts.items ++ place ∷ []) (same_kinds : now.kinds ≡ v.kinds) where
       level : height ≡ length d.ls
       level = same ∙ expected-height
@@ -223,7 +223,7 @@ module _ (v : TreeItems) (b : Bounds) (e : ItemEventsView) (t : List ℕ) (d : I
         (subst (AreHeldSoFar (sets v)) (sym d.open_levels) (held-broken v.builder.order (sets v) d.ls n.next taking.1 (subst (AreHeld (sets v)) d.open_levels d.held))))
         keeps)
 
-    -- however it is read
+    -- it is read in this way
     abbrev IsReadSo : ItemPart → Type 0
     IsReadSo part = (fs : List Container) (s x : List ℕ) (w : Width) → IsCome b fs s x after w ev.kind → ReadsPart b fs s x ev.kind after new mid to part
 
@@ -249,7 +249,7 @@ module _ (v : TreeItems) (b : Bounds) (e : ItemEventsView) (t : List ℕ) (d : I
         go (Begin m k) r = ((r.0.0, takes-part), r.0.0)
         go Break r = (tt, tt)
 
-    -- memory is refused behind it
+    -- memory is refused after it
     pub part-no-memory : (part : ItemPart) → IsPartTaken part → (f : Refusal) → f.reason ≡ Memory → f.place ≡ f.read → f.read ≡ new.machine.taken → IsRefusedBehind plain b t from to f
     part-no-memory part k f is place read =
         let reached = at-reached b new (t ++ k.bytes) k.q k.at in

@@ -4,12 +4,12 @@ use Rattle.std.proofs.lemmas.List.{map-append}
 use Rattle.cbor_head.specs.Prelude.{Pair, canonical, canonical_entries, Spelling, SpelledEntries, spell, value_of, entries_of, plain, Complaint}
 use Rattle.cbor_head.specs.Complaint as complaint
 use Rattle.cbor_head.specs.declared.{order.KeyOrder.KeyOrder, reason.Reason.TheVariants.RepeatedKey}
-use Rattle.cbor_model.specs.Parts.{Open, a_map, a_key, pair}
-use Rattle.cbor_model.specs.Pairs.{HasDistinctBytes}
+use Rattle.theory_values.specs.Parts.{Open, a_map, a_key, pair}
+use Rattle.theory_values.specs.Pairs.{HasDistinctBytes}
 use Rattle.cbor_builder.specs.Built.{HasKey, IsRepeatedKey, keys_so_far, AreAllDifferent, AreOpenKeysDifferent}
 use Rattle.cbor_builder.proofs.KeysSoFar.{distinct_different}
-use Rattle.cbor_verdict.specs.Levels.{IsTaken, Level, AreLevels, bytes_before}
-use Rattle.cbor_verdict.specs.{Judged.IsJudged, Given.opens}
+use Rattle.theory_verdicts.specs.Levels.{IsTaken, Level, AreLevels, bytes_before}
+use Rattle.theory_verdicts.specs.{Judged.IsJudged, Given.opens}
 use Rattle.cbor_parser.{proofs.LevelPaths.found_of_whole, proofs.LevelPaths.repeat_of_whole, proofs.Repeats.repeated_by_bytes, specs.Sink.IsKeyBehind}
 use Rattle.cbor_tree_reader.{specs.inner.TreeItems.HasKeysApart, specs.inner.TreeItems.AreApart, proofs.Paths.distinct-more}
 

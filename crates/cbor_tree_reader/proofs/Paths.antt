@@ -4,11 +4,11 @@ use Rattle.std.proofs.lemmas.Option.{get_or_from_slice_get, slice_get-get_or, sl
 use Rattle.std.{specs.List.AllByRecursion, proofs.Math.ListN.get_or-append, proofs.Math.Seq.get_or-append_seam}
 use Rattle.cbor_head.specs.declared.major.Major.TheVariants as majors
 use Rattle.cbor_head.specs.{Prelude.Pair, Prelude.Spelling, declared.major.Major.Major, declared.order.KeyOrder.KeyOrder}
-use Rattle.cbor_model.specs.Parts.{Open, a_map, a_key, pair, closed, give, close, opened, HasNoRepeats}
-use Rattle.cbor_model.specs.Pairs.{HasDistinctBytes}
+use Rattle.theory_values.specs.Parts.{Open, a_map, a_key, pair, closed, give, close, opened, HasNoRepeats}
+use Rattle.theory_values.specs.Pairs.{HasDistinctBytes}
 use Rattle.cbor_builder.specs.Built.{HasKey, IsRepeatedKey, IsContainer}
-use Rattle.cbor_verdict.specs.Levels as levels
-use Rattle.cbor_verdict.specs.Levels.{Level, bytes_before, settle}
+use Rattle.theory_verdicts.specs.Levels as levels
+use Rattle.theory_verdicts.specs.Levels.{Level, bytes_before, settle}
 use Rattle.cbor_tree_reader.specs.inner.TreeItems.{HasKeysApart, AreApart, AreApartSoFar, HaveBegun, HaveBegunIn, HasItsPlace}
 
 -- ---- keys
@@ -54,7 +54,7 @@ ends-apart _ h = tt
 
 -- ---- places
 
--- behind an item that is complete
+-- after an item that is complete
 pub settled-begun : (xs : List ℕ) (ls : List Level) (s : Spelling) → HaveBegun xs ls → HaveBegunIn xs (settle ls s)
 settled-begun xs [] s h = tt
 settled-begun xs (levels.a_member w zero done ∷ ls) s h = h.1
@@ -75,7 +75,7 @@ pub begun-space : (xs : List ℕ) (ls : List Level) → HaveBegun xs ls → leng
 begun-space xs [] h = omega arith
 begun-space xs (l ∷ ls) h = omega (arith, slice_get_within xs (length ls) (length (bytes_before ls)) h.0)
 
--- what begins within so many containers leaves those around it
+-- what begins within i containers does not change those around it
 pub begun-more : (xs : List ℕ) (ls : List Level) (i place : ℕ) → length ls ≤ i → i ≤ length xs → HaveBegun xs ls → HaveBegun (take i xs ++ place ∷ []) ls
 begun-more xs [] i place l space h = tt
 begun-more xs (m ∷ ls) i place l space h =

@@ -3,12 +3,12 @@ use Rattle.std.proofs.Common.{◌≡◌, ℕ, ◌-◌, ◌<◌, true, false, Opt
 use Rattle.std.{specs.Io.KnownBytes.Consumes, proofs.KnownBytes.Consumes-nil, proofs.KnownBytes.Consumes-trans}
 use Rattle.cbor_head.specs.Prelude.{Bounds, AreBounds, spell, value_of, plain}
 use Rattle.cbor_head.specs.declared.order.KeyOrder.TheVariants.{Bytewise}
-use Rattle.cbor_model.specs.Parts.{plain as a_plain}
+use Rattle.theory_values.specs.Parts.{plain as a_plain}
 use Rattle.cbor_machine.specs.NextEvent.{ItemEventsView}
 use Rattle.cbor_builder.specs.Built.{Built, built}
-use Rattle.cbor_verdict.specs.Place.{at_item, done as at_end}
-use Rattle.cbor_verdict.{specs.Kinds.KeepsToKinds, specs.Levels.item_expected, specs.Reading.IsAt, proofs.KindFrames.keeps_start, proofs.Scalars.at-as}
-use Rattle.cbor_verdict.proofs.Steps.{farther}
+use Rattle.theory_verdicts.specs.Place.{at_item, done as at_end}
+use Rattle.theory_verdicts.{specs.Kinds.KeepsToKinds, specs.Levels.item_expected, specs.Reading.IsAt, proofs.KindFrames.keeps_start, proofs.Scalars.at-as}
+use Rattle.theory_verdicts.proofs.Steps.{farther}
 use Rattle.cbor_tree_reader.specs.inner.ItemPrefix.{IsExpectedAt, IsWholeAt, TakesNext}
 use Rattle.cbor_tree_reader.specs.{declared.tree_items.TreeItems.TreeItems, Prefix.IsPrefixRead, inner.TreeItems.AreApart, inner.TreeItems.sets}
 use Rattle.cbor_tree_reader.{proofs.Prefixes.prefix-read, specs.inner.HeldKeys.AreHeld, specs.TreeValues.IsTreeAt}

@@ -2,11 +2,11 @@
 use Rattle.std.proofs.Common.{ℕ, ◌^◌, ◌≡◌, ◌<◌, ◌≤◌, Option, List, [], length, sym, ◌∙◌, arith, subst}
 use Rattle.cbor_head.specs.Prelude.{Bounds, AreBounds, Value, Spelling, spell, value_of, depth, IsSpelled, plain, Complains}
 use Rattle.cbor_head.specs.declared.limits.TheConstants.{MAX_DEPTH}
-use Rattle.cbor_model.proofs.{Sound.sound, Depth.depth-value_of}
+use Rattle.theory_values.proofs.{Sound.sound, Depth.depth-value_of}
 use Rattle.cbor_machine.specs.NextEvent.{ItemEventsView}
-use Rattle.cbor_verdict.proofs.Tops.{item-read, loses, known}
-use Rattle.cbor_verdict.{specs.Kinds.KeepsToKinds, specs.Readers.IsReadAs, specs.Reading.ReadsItem, proofs.Valid.in_range_of, proofs.Valid.valid_of}
-use Rattle.cbor_verdict.specs.Judged.{Never}
+use Rattle.theory_verdicts.proofs.Tops.{item-read, loses, known}
+use Rattle.theory_verdicts.{specs.Kinds.KeepsToKinds, specs.Readers.IsReadAs, specs.Reading.ReadsItem, proofs.Valid.in_range_of, proofs.Valid.valid_of}
+use Rattle.theory_verdicts.specs.Judged.{Never}
 use Rattle.cbor_tree_reader.{specs.Size.size, specs.Prefix.IsPrefixRead, specs.Prefix.HasCanonicalBytes, proofs.Sizes.size_bounded}
 
 -- the value of an item without complaint has canonical bytes

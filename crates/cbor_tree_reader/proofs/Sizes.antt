@@ -1,10 +1,10 @@
--- A value holds no more than its item has bytes: each item has a head, and each byte of a string stands in it.
+-- A value holds no more than its item has bytes: each item has a head, and each byte of a string is in it.
 use Rattle.std.proofs.Common.{suc, ◌≤◌, List, [], ◌∷◌, ◌++◌, length, flat_map, arith, length-append}
 use Rattle.cbor_head.specs.Prelude.{head, Chunk, Spelling, Spellings, SpelledEntries, bytes, text, byte_chunks, text_chunks, array, a_map, tag, no_spellings, a_spelling, no_entries, entry, spell, spell_all, spell_entries, spellings_count, entries_count, value_of, values_of, entries_of, chunks_joined, chunk_bytes, chunked, break_of}
 use Rattle.cbor_head.specs.declared.major.Major.TheVariants.{Bytes, Text, Array, Map, Tag}
 use Rattle.cbor_head.specs.declared.{major.Major.Major, width.Width.TheVariants.Indefinite}
-use Rattle.cbor_model.proofs.ReadLaws.{length_head, length_spell}
-use Rattle.cbor_verdict.proofs.Valid.{joined_bounded}
+use Rattle.theory_values.proofs.ReadLaws.{length_head, length_spell}
+use Rattle.theory_verdicts.proofs.Valid.{joined_bounded}
 use Rattle.cbor_tree_reader.specs.Size.{size, size_all, size_entries}
 
 chunks_size : (m : Major) (cs : List Chunk) → suc (length (chunks_joined cs)) ≤ length (chunked m cs)

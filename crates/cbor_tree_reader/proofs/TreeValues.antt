@@ -2,11 +2,11 @@
 use Rattle.std.proofs.Common.{◌≡◌, zero, suc, List, [], ◌∷◌, ◌++◌, refl, sym, ap, ◌∙◌, subst}
 use Rattle.cbor_head.specs.Prelude.{Spelling, Spellings, SpelledEntries, array, a_map, tag, no_spellings, a_spelling, no_entries, entry, value_of, values_of, entries_of, Value}
 use Rattle.cbor_head.specs.Value as value
-use Rattle.cbor_model.specs.Lists as lists
+use Rattle.theory_values.specs.Lists as lists
 use Rattle.cbor_item.specs.OpenValues as parts
 use Rattle.cbor_item.specs.OpenValues.{OpenItem, OpenValue, open_levels, an_array, give, closed, close, TakesValue, MayEnd, CanEnd, CanHold, IsWhole}
-use Rattle.cbor_verdict.specs.Levels.{Level, a_member, a_value, some_member, some_value, tagged, ParseState, item_expected, item_full, item_whole, settle}
-use Rattle.cbor_verdict.specs.Frame.{with_all, with_entries}
+use Rattle.theory_verdicts.specs.Levels.{Level, a_member, a_value, some_member, some_value, tagged, ParseState, item_expected, item_full, item_whole, settle}
+use Rattle.theory_verdicts.specs.Frame.{with_all, with_entries}
 use Rattle.cbor_tree_reader.specs.TreeValues.{member_values, pair_values, level_value, level_values, full_value, values_at, IsContainer, IsFullRight, IsTreeAt}
 
 -- ---- members and pairs
@@ -43,7 +43,7 @@ settles-right (a_member w zero done ∷ ls) s = tt
 settles-right (a_value w zero done k ∷ ls) s = tt
 settles-right _ s = tt
 
--- from one place to another
+-- from one position to another
 pub tree-step : (f : List OpenValue → List OpenValue) (old new : List OpenItem) (x y : ParseState) → IsTreeAt old x → open_levels new ≡ f (open_levels old) → f (values_at x) ≡ values_at y → IsFullRight y → IsTreeAt new y
 tree-step f old new x y h step is right = (right, step ∙ ap f h.1 ∙ is)
 

@@ -1,9 +1,9 @@
--- How much a value holds.
+-- The size of a value in memory.
 use Rattle.std.specs.Prelude.{ℕ, suc, ◌+◌, length}
 use Rattle.cbor_head.specs.Prelude.{Value, Values, Entries, map, no_values, a_value}
 use Rattle.cbor_head.specs.Value.{bytes, text, array, tag, no_entries, entry}
 
--- its items, at every depth, and the bytes of its strings
+-- the number of its items, at every depth, and of the bytes of its strings
 abbrev mutual
   pub size : Value → ℕ
   size (bytes s) = suc (length s)

@@ -1,11 +1,11 @@
--- What a tree builder holds where a reader of events stands.
+-- What a tree builder holds at the position of a reader of events.
 use Rattle.std.specs.Prelude.{◌≡◌, true, List, [], ◌∷◌, IsUtf8}
 use Rattle.cbor_head.specs.Prelude.{Spelling, Spellings, SpelledEntries, array, a_map, tag, no_spellings, a_spelling, no_entries, entry, value_of, Value}
 use Rattle.cbor_builder.specs.Built.{IsContainer as IsOpener}
 use Rattle.cbor_item.specs.OpenValues as parts
 use Rattle.cbor_item.specs.OpenValues.{OpenItem, OpenValue, the_whole, an_array, a_tag, open_levels, give, opened}
-use Rattle.cbor_verdict.specs.Levels.{Level, a_member, a_key, a_value, some_member, some_key, some_value, tagged, ParseState, item_expected, item_full, item_whole}
-use Rattle.cbor_verdict.specs.Reading.{string_value}
+use Rattle.theory_verdicts.specs.Levels.{Level, a_member, a_key, a_value, some_member, some_key, some_value, tagged, ParseState, item_expected, item_full, item_whole}
+use Rattle.theory_verdicts.specs.Reading.{string_value}
 use Rattle.cbor_tree_reader.specs.declared.item_part.ItemPart.TheVariants.{Leaf, String, Begin, Break}
 use Rattle.cbor_tree_reader.specs.{declared.item_part.ItemPart.ItemPart, inner.PlainParts.IsLeafMajor, inner.PlainParts.leaf_value}
 
@@ -49,25 +49,25 @@ IsContainer (a_map w es) = Unit {0}
 IsContainer (tag w n s) = Unit {0}
 IsContainer s = ⊥
 
--- what is full is a container
+-- an item that is full is a container
 abbrev pub IsFullRight : ParseState → Type 0
 IsFullRight (item_full ls s) = IsContainer s
 IsFullRight st = Unit {0}
 
--- the tree builder stands there too
+-- the tree builder is at the same position
 abbrev pub IsTreeAt : List OpenItem → ParseState → Type 0
 IsTreeAt os st = IsFullRight st × (open_levels os ≡ values_at st)
 
 -- ---- parts
 
--- a part may be given
+-- the part may be given to the tree builder
 abbrev pub IsForTree : ItemPart → Type 0
 IsForTree (Leaf m n) = IsLeafMajor m n
 IsForTree (String is_text content) = is_text ≡ true → IsUtf8 content.items
 IsForTree (Begin m n) = IsOpener m
 IsForTree Break = Unit {0}
 
--- with it
+-- the open values after the part
 abbrev pub values_with : ItemPart → List OpenValue → List OpenValue
 values_with (Leaf m n) os = give (leaf_value m n) os
 values_with (String is_text content) os = give (string_value is_text content.items) os

@@ -1,4 +1,4 @@
--- What private functions speak of; no public contract does.
+-- What only private functions mention.
 pub mod HeldKeys
 pub mod ItemPrefix
 pub mod TreeItems

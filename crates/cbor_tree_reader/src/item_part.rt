@@ -1,15 +1,14 @@
-//! The parts of an item, as the tree reader takes them.
+//! The parts of an item, as the tree reader reads them.
 
 ghost use Rattle.cbor_tree_reader.specs.inner.PlainParts.{HasCome, AnswersPart};
 
 use crate::strings::read_string;
-use cbor_automaton::EventKind;
 use cbor_events::{ItemEvents, head_of};
-use cbor_head::{Major, Refusal};
+use cbor_head::{EventKind, Major, Refusal};
 use std::alloc::Global;
 use std::io::Read;
 
-/// What an event reports, a string whole.
+/// What an event reports; a string comes whole.
 #[derive(Drop)]
 pub(crate) enum ItemPart {
     /// An integer or a simple value, by its type and argument.
@@ -22,7 +21,7 @@ pub(crate) enum ItemPart {
     Break,
 }
 
-// The part that an event begins, where an item is expected.
+// The part that an event begins where an item is expected.
 pub(crate) fn read_part<R: Read>(
     alloc: Global,
     events: &mut ItemEvents,

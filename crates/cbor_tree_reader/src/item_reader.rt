@@ -4,7 +4,7 @@ ghost use Rattle.std.specs.Prelude.{◌≡◌, OnOk, MatchResult};
 ghost use Rattle.cbor_head.specs.Complaint.{plain};
 ghost use Rattle.cbor_item.specs.View.{view};
 ghost use Rattle.cbor_tree_reader.specs.Prefix.{IsPrefixRead};
-ghost use Rattle.cbor_verdict.specs.Reading.{IsPrefixUnread};
+ghost use Rattle.theory_verdicts.specs.Reading.{IsPrefixUnread};
 ghost use Rattle.cbor_tree_reader.specs.inner.ItemPrefix.{IsExpectedSomewhere, AnswersNextPart, AnswersParts};
 
 use crate::item_part::read_part;
@@ -16,9 +16,9 @@ use cbor_item::Item;
 use std::alloc::Global;
 use std::io::Read;
 
-/// The valid item that the reader's bytes begin with, whose events these become, and how many bytes
-/// it has. No byte behind the item or its first complaint is read.
-pub fn read_item_prefix<R: Read>(
+/// The valid item that the reader's bytes begin with, and its size in bytes. The events are reset
+/// for it. No byte after the item or after its first complaint is read.
+pub(crate) fn read_item_prefix<R: Read>(
     alloc: Global,
     events: &mut ItemEvents,
     reader: &mut R,
@@ -45,7 +45,7 @@ pub fn read_item_prefix<R: Read>(
     }
 }
 
-// Takes the parts of the item that are left.
+// Reads the remaining parts of the item.
 fn read_parts<R: Read>(
     alloc: Global,
     events: &mut ItemEvents,
@@ -65,7 +65,7 @@ fn read_parts<R: Read>(
     }
 }
 
-// Takes the next part of the item; whether it goes on behind it.
+// Reads the next part of the item. Returns whether the item goes on after it.
 fn next_part<R: Read>(
     alloc: Global,
     events: &mut ItemEvents,

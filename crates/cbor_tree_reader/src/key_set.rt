@@ -10,11 +10,11 @@ use arrayvec::ArrayVec;
 use std::alloc::{AllocError, Global};
 use std::collections::BTreeSet;
 
-// How many bytes of a key lie in the node of its set: as many as most keys have.
+// The number of bytes of a key that fit in the node of its set: most keys are not longer.
 const SHORT_KEY: usize = 16;
 
-/// The canonical bytes of keys. Those of short keys lie in the nodes of their set, so that no
-/// memory is taken for each and none is followed to compare two.
+/// The canonical bytes of keys. Short keys are stored in the nodes of their set, so that none is
+/// allocated separately and comparing two follows no pointer.
 #[derive(Drop)]
 pub(crate) struct KeySet {
     short: BTreeSet<ArrayVec<u8, SHORT_KEY>>,
@@ -22,7 +22,7 @@ pub(crate) struct KeySet {
 }
 
 impl KeySet {
-    // Of no keys.
+    // A set without keys.
     pub(crate) fn new(alloc: Global) -> KeySet
         ensures { HasKeyBytes result [] }
     {
@@ -32,7 +32,7 @@ impl KeySet {
         }
     }
 
-    // Whether the bytes of a key were not there, where they are now.
+    // Adds a key. Returns whether it was not in the set before.
     pub(crate) fn add(&mut self, alloc: Global, bytes: &[u8]) -> Result<bool, AllocError>
         ensures { (ks : List (List ℕ)) → HasKeyBytes self.old ks
             → IfOk result (IsAdded bytes.now ks self.new) }

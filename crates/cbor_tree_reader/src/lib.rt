@@ -1,6 +1,7 @@
 //! The tree reader: reads the valid item at the start of what a reader gives, event by event, and makes its tree.
 //!
-//! `cbor_reader::read_tree` and `Sequence` call it. It reads no byte beyond the item, or beyond its first complaint.
+//! `cbor_reader` re-exports [`read_tree`], and its `Sequence` calls [`read_tree_by`]. No byte after the item, or after its first
+//! complaint, is read.
 #![tactic(auto)]
 
 mod item_part;
@@ -10,5 +11,6 @@ mod payload;
 mod strings;
 mod tree_items;
 mod tree_parts;
+mod tree_reader;
 
-pub use item_reader::read_item_prefix;
+pub use tree_reader::{read_tree, read_tree_by};

@@ -1,14 +1,14 @@
 //! The bytes of strings.
 
 ghost use Rattle.std.specs.Prelude.{◌≡◌, false};
-ghost use Rattle.cbor_verdict.specs.Reading.{IsPayloadExpected, AnswersPayload};
+ghost use Rattle.theory_verdicts.specs.Reading.{IsPayloadExpected, AnswersPayload};
 
 use cbor_events::ItemEvents;
 use cbor_head::{Reason, Refusal};
 use cbor_text::check_text;
 use std::io::Read;
 
-// Memory is refused behind what was taken.
+// The refusal for refused memory, at the bytes consumed so far.
 pub(crate) fn no_memory(events: &ItemEvents) -> Refusal
     ensures memory { result.reason ≡ Reason.Memory }
     ensures place { result.place ≡ result.read }
@@ -17,8 +17,8 @@ pub(crate) fn no_memory(events: &ItemEvents) -> Refusal
     Refusal::at(Reason::Memory, events.taken())
 }
 
-// Puts a payload of so many bytes behind what is there, in the parts that come: no memory is taken
-// for bytes that don't.
+// Appends a payload of this number of bytes in the parts that arrive: nothing is allocated for
+// bytes that do not arrive.
 pub(crate) fn read_payload<R: Read>(
     events: &mut ItemEvents,
     reader: &mut R,
@@ -46,8 +46,8 @@ pub(crate) fn read_payload<R: Read>(
     Ok(())
 }
 
-// Reads the payload of a definite string or a chunk, which is UTF-8 if it is of a text. A refused text
-// has the place behind its longest prefix that is.
+// Reads the payload of a definite string or a chunk, which must be UTF-8 if it is of a text. The
+// offset of a refused text is that after its longest prefix that is UTF-8.
 pub(crate) fn read_chunk<R: Read>(
     events: &mut ItemEvents,
     reader: &mut R,

@@ -2,17 +2,16 @@
 
 ghost use Rattle.std.specs.Prelude.{None};
 ghost use Rattle.cbor_head.specs.Complaint.{plain};
-ghost use Rattle.cbor_verdict.specs.Reading.{HasBegun, string_kind};
+ghost use Rattle.theory_verdicts.specs.Reading.{HasBegun, string_kind};
 ghost use Rattle.cbor_tree_reader.specs.inner.PlainParts.{AnswersString};
 
 use crate::payload::read_chunk;
-use cbor_automaton::EventKind;
 use cbor_events::ItemEvents;
-use cbor_head::Refusal;
+use cbor_head::{EventKind, Refusal};
 use std::alloc::Global;
 use std::io::Read;
 
-// The content of a string whose head was read: a text, or bytes.
+// The content of a string whose head was read.
 pub(crate) fn read_string<R: Read>(
     alloc: Global,
     events: &mut ItemEvents,
@@ -36,7 +35,7 @@ pub(crate) fn read_string<R: Read>(
     }
 }
 
-// The chunks joined. Each chunk of a text is UTF-8 by itself.
+// The chunks joined. Each chunk of a text is UTF-8 separately.
 fn read_chunks<R: Read>(
     alloc: Global,
     events: &mut ItemEvents,

@@ -1,13 +1,13 @@
-//! What the tree reader keeps of the items that are open, from event to event.
+//! The state of the tree reader: the open items, updated event by event.
 
 ghost use Rattle.std.specs.Prelude.{◌≡◌, ◌<◌, ◌∷◌, ◌↔◌, [], List, IfOk, None, true};
 ghost use Rattle.std.specs.Prelude.{take, ◌++◌, OnOk, Option};
 ghost use Rattle.cbor_builder.specs.Built.{built, IsKeyExpected};
-ghost use Rattle.cbor_model.specs.Parts.{plain};
+ghost use Rattle.theory_values.specs.Parts.{plain};
 ghost use Rattle.cbor_head.specs.Spelling.{Spelling, value_of};
 ghost use Rattle.cbor_item.specs.OpenValues.{IsWhole, TakesValue, open_levels};
 ghost use Rattle.cbor_item.specs.View.{view};
-ghost use Rattle.cbor_verdict.specs.Levels.{item_expected, item_whole};
+ghost use Rattle.theory_verdicts.specs.Levels.{item_expected, item_whole};
 ghost use Rattle.cbor_tree_reader.specs.TreeValues.{IsForTree, IsTreeAt, values_with};
 ghost use Rattle.cbor_tree_reader.specs.declared.key_set.KeySet.{KeySet as KeySetView};
 ghost use Rattle.cbor_tree_reader.specs.inner.HeldKeys.{AreHeld};
@@ -18,33 +18,32 @@ ghost use Rattle.cbor_tree_reader.specs.inner.ItemPrefix.{IsExpectedSomewhere, A
 use crate::item_part::ItemPart;
 use crate::key_set::KeySet;
 use crate::tree_parts::give_to_tree;
-use cbor_automaton::Event;
 use cbor_builder::CanonBuilder;
 use cbor_events::ItemEvents;
-use cbor_head::{KeyOrder, Keys, Major, Refusal};
+use cbor_head::{Event, KeyOrder, Keys, Major, Refusal};
 use cbor_item::{Item, TreeBuilder};
 use std::alloc::{AllocError, Global};
 use std::io::Read;
 use std::mem;
 
-/// What came of an item, and where each open item began.
+/// The parts of the item so far, and where each open item began.
 #[derive(Drop)]
 pub(crate) struct TreeItems {
-    // Its canonical bytes, by which equal keys are found.
+    // The canonical bytes of the item, by which equal keys are found.
     builder: CanonBuilder,
     // The item itself.
     tree: TreeBuilder,
     // Which kinds of keys maps may have.
     kinds: Keys,
-    // At the number of containers around it, where the last item began that came there.
+    // For each number of open containers, the offset of the last item that began within that many.
     starts: Vec<u64>,
-    // The keys of the innermost open container that came, and of those around it, the whole first.
+    // The keys so far of the innermost open container, and of those around it, the outermost first.
     keys: KeySet,
     outer: Vec<KeySet>,
 }
 
 impl TreeItems {
-    // Nothing came.
+    // The state before the item's first byte.
     pub(crate) fn new(alloc: Global, kinds: Keys) -> TreeItems
         ensures built { result.builder ≡ built KeyOrder.Bytewise (plain [] ∷ []) }
         ensures held { AreHeld (sets result) (plain [] ∷ []) }
@@ -61,7 +60,7 @@ impl TreeItems {
         }
     }
 
-    // Whether a key is expected that is to be an integer or a text.
+    // Whether a key is expected that must be an integer or a text.
     fn asks(&self) -> bool
         ensures { (result ≡ true) ↔ ((self.now.kinds ≡ Keys.IntegersAndTexts)
             × IsKeyExpected self.now.builder.open_levels) }
@@ -72,8 +71,8 @@ impl TreeItems {
         }
     }
 
-    // The head of the item that is expected, or a break. A key whose kind is asked for is judged at its
-    // first byte.
+    // The head of the item that is expected, or a break. The kind of a key is judged at its first
+    // byte.
     pub(crate) fn next_head<R: Read>(
         &self,
         events: &mut ItemEvents,
@@ -90,8 +89,8 @@ impl TreeItems {
         }
     }
 
-    // The next part of the item, which begins at this place within so many containers; answers how
-    // many it opens.
+    // Takes the next part of the item, which begins at this offset within this number of
+    // containers. Returns the number of containers that it opens, 0 or 1.
     pub(crate) fn give(
         &mut self,
         alloc: Global,
@@ -121,7 +120,7 @@ impl TreeItems {
         Ok(opened)
     }
 
-    // The innermost container ends.
+    // Removes the keys of the innermost container, which ends.
     fn end_keys(&mut self)
         ensures same { (self.new.builder ≡ self.old.builder)
             × (self.new.starts ≡ self.old.starts) × (self.new.tree ≡ self.old.tree)
@@ -134,8 +133,8 @@ impl TreeItems {
         }
     }
 
-    // Ends the containers that are full, the innermost first, where so many are open, and so many
-    // of these go on.
+    // Ends the containers that are full, the innermost first: `height` are open, and `open` of them
+    // stay open.
     pub(crate) fn end_full(&mut self, height: usize, open: usize) -> Result<(), AllocError>
         requires { IsEnding self.old height «open» }
         ensures same { self.new.starts ≡ self.old.starts }
@@ -151,8 +150,8 @@ impl TreeItems {
         Ok(())
     }
 
-    // Where the key began that has just come, if it is the same as an earlier key of its map; else
-    // it is one of them now. So many containers are open.
+    // Returns the offset of the key that has just ended if it is the same as an earlier key of its
+    // map; otherwise adds it to them. This number of containers is open.
     pub(crate) fn repeated(&mut self, alloc: Global, open: usize) -> Result<Option<u64>, AllocError>
         ensures same { (self.new.builder ≡ self.old.builder)
             × (self.new.starts ≡ self.old.starts) × (self.new.tree ≡ self.old.tree)
@@ -168,7 +167,7 @@ impl TreeItems {
         Ok(Some(self.starts.get(open).copied().unwrap_or(0)))
     }
 
-    // The item, which is whole.
+    // The item, which is complete.
     pub(crate) fn into_item(self) -> Item
         requires { IsWhole (open_levels self.tree) }
         ensures { (s : Spelling) → IsTreeAt self.tree (item_whole s) → view result ≡ value_of s }
@@ -185,7 +184,8 @@ impl TreeItems {
     }
 }
 
-// The next part for the canonical bytes; answers how many containers it opens.
+// Gives the next part to the builder of canonical bytes. Returns the number of containers that it
+// opens, 0 or 1.
 fn give_to_builder(builder: &mut CanonBuilder, part: &ItemPart) -> Result<usize, AllocError>
     requires { CanTake builder.old part.now }
     ensures { IfOk result (λ opened. IsGiven builder.old part.now builder.new opened) }

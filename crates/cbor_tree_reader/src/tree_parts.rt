@@ -11,7 +11,7 @@ use cbor_head::{Major, Simple};
 use cbor_item::{Item, TreeBuilder};
 use std::alloc::AllocError;
 
-// One part more. The bytes of a string move into the tree.
+// Gives one part. The bytes of a string move into the tree.
 pub(crate) fn give_to_tree(tree: &mut TreeBuilder, part: ItemPart) -> Result<(), AllocError>
     requires fits { IsForTree part }
     requires tree { TakesValue (open_levels tree.old) }

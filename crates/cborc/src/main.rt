@@ -1,4 +1,4 @@
-//! `cborc`, a program for deterministic CBOR files: see [`run`](crate::program::run).
+//! `cborc`, a program for deterministic CBOR files: see [`run`](cborc_program::run).
 //!
 //! ```text
 //! $ printf bf6346756ef563416d7421ff | cborc canon --hex --hex-out - -
@@ -8,37 +8,44 @@
 //! ```
 #![tactic(auto)]
 
-mod cli;
-mod command_line;
-pub mod no_text;
-pub mod program;
-#[cfg(test)]
-mod tests;
-
-use crate::no_text::fault_of_words;
-use crate::program::run;
 use cborc_commands::{Fault, end};
 use cborc_files::Disk;
-use std::io::BufWriter;
+use cborc_program::{Watched, fault_of_words, run};
+use std::io::{BufWriter, Write};
 use std::process::ExitCode;
 use std::{env, io};
 
 fn main(rt: HostRuntime) -> ExitCode {
-    let mut err = rt.stderr();
     let status = match words(&rt) {
-        Ok(words) => match BufWriter::new(rt.alloc(), rt.stdout()) {
-            Ok(mut out) => {
-                let mut files = Disk::new(&rt);
-                run(rt.alloc(), words, &mut files, &mut out, &mut err)
-            }
-            Err(_) => end(Err(Fault::Memory), &mut err),
-        },
-        Err(error) => end(Err(fault_of_words(rt.alloc(), &rt, &error)), &mut err),
+        Ok(words) => run_over_streams(&rt, words),
+        Err(error) => end(
+            Err(fault_of_words(rt.alloc(), &rt, &error)),
+            &mut rt.stderr(),
+        ),
     };
     ExitCode::from(status)
 }
 
-// The words of the command line, the program's name first.
+// Runs the program over the disk and the standard streams. If the reader of standard output closed it, as
+// in `cborc .. | head -1`, nothing is written to standard error.
+fn run_over_streams(rt: &HostRuntime, words: Vec<String>) -> u8 {
+    let (Ok(mut out), Ok(mut err)) = (
+        BufWriter::new(rt.alloc(), Watched::new(rt.stdout())),
+        BufWriter::new(rt.alloc(), rt.stderr()),
+    ) else {
+        return end(Err(Fault::Memory), &mut rt.stderr());
+    };
+    let status = run(rt.alloc(), words, &mut Disk::new(rt), &mut out, &mut err);
+    let (out, _) = out.into_parts();
+    if out.is_closed() {
+        let _ = err.into_parts();
+    } else {
+        let _ = err.flush();
+    }
+    status
+}
+
+// The arguments of the command line, of which the first is the program's name.
 fn words(rt: &HostRuntime) -> io::Result<Vec<String>> {
     Ok(env::args(rt)?.collect(rt.alloc())?)
 }

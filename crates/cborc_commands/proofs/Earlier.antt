@@ -1,12 +1,13 @@
--- What a later state of the same files gives of a sequence, an earlier one did.
+-- What holds of a sequence in a later state of the same files holds in an earlier one.
 use Rattle.std.proofs.Common.{ℕ, inl, inr, List, Option}
 use Rattle.cbor_head.specs.Prelude.{Spelling}
 use Rattle.cborc_files.specs.Folder.{Files, KeepsFiles}
+use Rattle.cborc_words.specs.declared.request.Options.{Options}
 use Rattle.cborc_commands.specs.inner.Items.{AreWrittenOf, AreStoppedOf, no_input, behind_no_input, within}
 use Rattle.cborc_commands.{proofs.Files.input_before, proofs.Files.prefix_before, specs.Sequences.AreFirst, specs.declared.fault.Fault.Fault}
-use Rattle.cborc_commands.{specs.declared.request.Options.Options, proofs.NoInput.no_input_before}
+use Rattle.cborc_commands.proofs.NoInput.{no_input_before}
 
--- what a later state of the same files gives, an earlier one did
+-- what holds in a later state of the same files holds in an earlier one
 module _ (takes : Spelling → Type 0) (text : ℕ → Spelling → List ℕ) (options : Options) (source : List ℕ) (a b : Option Files) (keeps : KeepsFiles a b) (from to : Option (List ℕ)) where
   pub written_before : (count : ℕ) → AreWrittenOf takes text options source b from to count → AreWrittenOf takes text options source a from to count
   written_before count w = record { input = w.input; is = input_before a b source options.hex w.input keeps w.is; written = w.written }

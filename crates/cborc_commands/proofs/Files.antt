@@ -1,4 +1,4 @@
--- What stays known of files from call to call.
+-- What stays known about files from call to call.
 use Rattle.std.proofs.Common.{List, [], ℕ, ◌%◌, ◌≡◌, Bool, true, false, Option, Some, None, Result, Ok, Err, ◌∙◌, ap, arith, length, subst, sym, ◌==◌, if◌then◌else◌, IfSome, take_all}
 use Rattle.std.specs.{List.filter, Io.KnownBytes.Appends}
 use Rattle.hex.specs.{Hex.decode_pairs, declared.error.FromHexError.FromHexError, declared.error.FromHexError.TheVariants.OddLength}
@@ -18,7 +18,7 @@ replaces_kept (Some f) None c path bytes h r = absurd h
 replaces_kept (Some f) (Some g) None path bytes h r = absurd r
 replaces_kept (Some f) (Some g) (Some e) path bytes h r = (r.0, λ other apart. r.1 other apart ∙ h other)
 
--- all that a file took that was begun blank is what stands where it takes the place of another
+-- a file that was begun empty has the text that was written, and so does the file that it replaces
 taken : (known : Option (List ℕ)) (text : List ℕ) (P : List ℕ → Type 0) → Appends (Some []) known text → IfSome known P → P text
 taken None text P a p = absurd a
 taken (Some bytes) text P a p = subst P a p
@@ -29,13 +29,13 @@ replaced_by None b c blank known path text e k w r = tt
 replaced_by (Some f) b c blank known path text e k w r =
     replaces_kept (Some f) b c path text k (taken known text (ReplacesFile b c path) (subst (λ (x : Option (List ℕ)). Appends x known text) e w) r)
 
--- what a later state of the same files holds, an earlier one did
+-- what holds in a later state of the same files holds in an earlier one
 pub held_before : (a b : Option Files) (path bytes : List ℕ) → KeepsFiles a b → Holds b path bytes → Holds a path bytes
 held_before None b path bytes k h = tt
 held_before (Some f) None path bytes k h = absurd k
 held_before (Some f) (Some g) path bytes k h = sym (k path) ∙ h
 
--- a file that holds something is there
+-- a file that holds something exists
 pub holds_there : (held : Option Files) (path bytes : List ℕ) → Holds held path bytes → IsThere held path
 holds_there None path bytes h = tt
 holds_there (Some files) path bytes h = λ none. let two : Some bytes ≡ None = sym h ∙ none in cc two

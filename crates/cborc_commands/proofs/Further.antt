@@ -1,15 +1,15 @@
--- Why no item is taken at the start of some bytes, however these go on.
+-- Why no item is accepted at the start of some bytes, however they continue.
 use Rattle.std.proofs.Common.{ℕ, ◌≡◌, ◌≢◌, ◌⊎◌, inl, inr, Bool, true, false, List, [], ◌++◌, Option, refl, sym, ap, ◌∙◌, subst, append-nil}
 use Rattle.cbor_head.specs.Prelude.{Rules, plain, Bounds, refused, IsVerdict}
 use Rattle.cbor_head.specs.declared.{order.KeyOrder.KeyOrder, reason.Reason.TheVariants.Truncated, reason.Refusal.Refusal}
-use Rattle.cbor_verdict.specs.Readers.{IsUnread, of_verdict, of_reader, of_memory}
-use Rattle.cbor_verdict.proofs.Further.{further}
+use Rattle.theory_verdicts.specs.Readers.{IsUnread, of_verdict, of_reader, of_memory}
+use Rattle.theory_verdicts.proofs.Further.{further}
+use Rattle.cborc_words.specs.declared.request.{Form.Form, TextStyle.TextStyle}
 use Rattle.cborc_commands.specs.CanonSequence as canon
 use Rattle.cborc_commands.specs.inner.SequenceItems.{IsUncounted, IsUnwritten, IsItemNotShown}
-use Rattle.cborc_commands.specs.{Fault.IsOfInput, Fault.refusal_fault, declared.fault.Fault.Fault, declared.request.Form.Form}
-use Rattle.cborc_commands.{specs.declared.request.TextStyle.TextStyle, proofs.Faults.refusal_is}
+use Rattle.cborc_commands.{specs.Fault.IsOfInput, specs.Fault.refusal_fault, specs.declared.fault.Fault.Fault, proofs.Faults.refusal_is}
 
--- nothing stands behind the prefix, or a refusal is not for its end
+-- nothing follows the prefix, or the refusal is not due to its end
 abbrev pub IsSettled : List ℕ → Refusal → Type 0
 IsSettled behind f = (behind ≡ []) ⊎ (f.reason ≢ Truncated)
 

@@ -1,12 +1,13 @@
--- Which fault a part of a subcommand passes on, and what it reports of the whole.
+-- Which fault a part of a subcommand passes on, and what it says about the whole input.
 use Rattle.std.proofs.Common.{ℕ, ◌≡◌, ◌++◌, inl, List, length, Option, refl, sym, subst}
 use Rattle.std.{specs.Io.KnownBytes.Appends, specs.Io.KnownBytes.Keeps, proofs.KnownBytes.Keeps-refl}
 use Rattle.cbor_head.specs.Prelude.{Rules, form, plain, Bounds, accepted, IsVerdict, Spelling, value_of}
 use Rattle.cbor_head.specs.declared.{order.KeyOrder.KeyOrder, reason.Refusal.Refusal}
-use Rattle.cbor_verdict.specs.Readers.{IsReadAs}
+use Rattle.theory_verdicts.specs.Readers.{IsReadAs}
 use Rattle.cbor_reader.specs.{Canonicalise.IsCanonicalOf, Canonicalise.IsRefusal, Comparing.IsSideRefusal, WholeItem.IsWholeItem, WholeItem.IsItemRefusal}
 use Rattle.cbor_reader.specs.declared.comparison.Side.{Side, TheVariants.Left, TheVariants.Right}
 use Rattle.cborc_files.specs.Folder.{Files, KeepsFiles}
+use Rattle.cborc_words.specs.declared.request.{EventStyle.EventStyle, TextStyle.TextStyle, Options.Options, Output.Output}
 use Rattle.cborc_commands.specs.Texts.{GoesInPart, IsCanonicalText, shown_text}
 use Rattle.cborc_commands.specs.declared.status.Status.TheVariants as statuses
 use Rattle.cborc_commands.specs.declared.fault.Fault.TheVariants as faults
@@ -14,10 +15,9 @@ use Rattle.cborc_commands.proofs.Prefixes.{canonical_whole, refusal_whole, is_wh
 use Rattle.cborc_commands.specs.Check.{accepted_bytes, IsWhole, IsChecked, IsNotChecked}
 use Rattle.cborc_commands.specs.Compare.{IsReported, IsUnreported, AreInputs, AreCompared, AreNotCompared}
 use Rattle.cborc_commands.specs.Events.{IsNotListed, IsListedOf, IsNotListedOf}
-use Rattle.cborc_commands.{specs.EventStyles.AreListed, specs.declared.request.EventStyle.EventStyle, proofs.Files.input_before, proofs.Files.input_is_there}
-use Rattle.cborc_commands.specs.{inner.Decided.IsEnough, inner.NotWritten.IsNoText, inner.NotWritten.IsNotTaken, Put.IsPut, Put.IsNotPut}
-use Rattle.cborc_commands.specs.{inner.Start.StartsInput, Fault.IsOfInput, Fault.refusal_fault, declared.request.TextStyle.TextStyle}
-use Rattle.cborc_commands.specs.declared.{status.Status.Status, request.Options.Options, request.Output.Output, fault.Fault.Fault}
+use Rattle.cborc_commands.{specs.EventStyles.AreListed, proofs.Files.input_before, proofs.Files.input_is_there, specs.inner.Decided.IsEnough}
+use Rattle.cborc_commands.specs.{inner.NotWritten.IsNoText, inner.NotWritten.IsNotTaken, Put.IsPut, Put.IsNotPut, inner.Start.StartsInput}
+use Rattle.cborc_commands.specs.{Fault.IsOfInput, Fault.refusal_fault, declared.status.Status.Status, declared.fault.Fault.Fault}
 use Rattle.cborc_commands.proofs.{Faults.refusal_is, ItemFiles.put_kept, Whole.AreAccepted, Whole.read_as}
 use Rattle.cborc_commands.specs.{Canon.HasText, Canon.IsNotCanonised, Show.IsShownOf, Show.IsNotShown}
 

@@ -1,4 +1,4 @@
--- What stays known of files from call to call, of a text that was put where it belongs.
+-- What stays known about files from call to call, for a text that was written.
 use Rattle.std.proofs.Common.{List, ℕ, Option}
 use Rattle.cborc_files.specs.Folder.{Files, KeepsFiles}
 use Rattle.cborc_commands.specs.Put.{IsPut, printed, written}

@@ -1,16 +1,17 @@
--- The items of a sequence, of each of which something was written.
+-- The items of a sequence, for each of which something was written.
 use Rattle.std.proofs.Common.{ℕ, inl, inr, ◌+◌, ◌<◌, ◌≤◌, ◌≡◌, true, Option, List, [], ◌∷◌, ◌++◌, length, drop, refl, sym, ap, ◌∙◌, arith, subst, append_assoc, append-nil, length-append, length-drop}
 use Rattle.std.{proofs.lemmas.List.nil_from_length, specs.List.AllByRecursion, specs.Io.KnownBytes.Appends}
 use Rattle.cbor_head.specs.Prelude.{Spelling, spell}
-use Rattle.cbor_model.proofs.ReadLaws.{length_spell}
+use Rattle.theory_values.proofs.ReadLaws.{length_spell}
 use Rattle.cbor_reader.specs.Sequence.{sequence_bytes, EndsBefore}
 use Rattle.cborc_files.specs.Folder.{Files, KeepsFiles}
+use Rattle.cborc_words.specs.declared.request.Options.{Options}
 use Rattle.cborc_commands.specs.inner.Items.{IsWritten, AreWrittenOf, AreStopped, AreStoppedOf, no_input, behind_no_input, within}
 use Rattle.cborc_commands.specs.inner.Parts.{PartsView, IsReadTo, IsNextPart}
 use Rattle.cborc_commands.specs.inner.Sources.{IsNoPart, HasInput, HasNoInput}
 use Rattle.cborc_commands.proofs.ReadParts.{next_part, took, prefix_there, input_ended, input_there, no_input_there, no_next_part, weight}
 use Rattle.cborc_commands.{proofs.Lists.all_with, proofs.Lists.joined_with, proofs.Outputs.appends_more, proofs.Outputs.appends_none, specs.Fault.at_item}
-use Rattle.cborc_commands.specs.{Sequences.texts_from, declared.fault.Fault.Fault, declared.request.Options.Options, NoInput.IsNoInput}
+use Rattle.cborc_commands.specs.{Sequences.texts_from, declared.fault.Fault.Fault, NoInput.IsNoInput}
 use Rattle.cborc_commands.proofs.Sources.{same_files, unread}
 
 -- ---- lists
@@ -31,7 +32,7 @@ items_within : (items : List Spelling) → length items ≤ length (sequence_byt
 items_within [] = omega arith
 items_within (s ∷ ss) = omega (arith, items_within ss, length_spell s, length-append (spell s) (sequence_bytes ss))
 
--- so many items of the input at a path were taken and their texts were written, and this is left of it
+-- this number of items of the input at a path were accepted, their texts were written, and this is left of the input
 pub record AreTaken (takes : Spelling → Type 0) (text : ℕ → Spelling → List ℕ) (options : Options) (source : List ℕ) (held : Option Files) (p : PartsView)
     (before middle : Option (List ℕ)) (count : ℕ) : Type 0 where
   pub items : List Spelling
@@ -92,7 +93,7 @@ module _ (takes : Spelling → Type 0) (text : ℕ → Spelling → List ℕ) (o
       };
     }
 
-    -- no more of the input is to be had, and nothing was written since
+    -- no more of the input can be read, and nothing was written since
     pub not_read_on : (stops : ℕ → List ℕ → Fault → Option (List ℕ) → Option (List ℕ) → Type 0) (after : Option (List ℕ)) → after ≡ middle → (now : Option Files) (fault : Fault)
         → KeepsFiles held now → IsNoPart now source old.source fault → AreStoppedOf takes text stops options source held before after fault
     not_read_on stops after same now fault keeps none = no_input (no_next_part held now source options.hex (sequence_bytes h.items) old keeps h.read fault none) (record {
@@ -101,7 +102,7 @@ module _ (takes : Spelling → Type 0) (text : ℕ → Spelling → List ℕ) (o
       written = subst (λ (out : Option (List ℕ)). Appends before out (texts_from text 0 h.items)) (sym same) h.written;
     })
 
-    -- no item is taken there, however the input goes on
+    -- no item is accepted there, however the input continues
     module _ (stops : ℕ → List ℕ → Fault → Option (List ℕ) → Option (List ℕ) → Type 0) (begun : ¬ EndsBefore options.limits.bytes old.rest) (after : Option (List ℕ)) (fault : Fault)
         (why : (behind : List ℕ) → (old.source.ended ≡ true → behind ≡ []) → stops old.start (old.rest ++ behind) fault middle after) where
       stopped_at : (behind input : List ℕ) → (old.source.ended ≡ true → behind ≡ []) → (sequence_bytes h.items ++ old.rest) ++ behind ≡ input
@@ -130,7 +131,7 @@ module _ (takes : Spelling → Type 0) (text : ℕ → Spelling → List ℕ) (o
           let k = input_there held now source options.hex (sequence_bytes h.items) old keeps h.read there in
           within ((sequence_bytes h.items ++ old.rest) ++ k.behind) k.is (stopped_at k.behind ((sequence_bytes h.items ++ old.rest) ++ k.behind) k.end refl)
 
-      -- and then it is found that there is none
+      -- and then the input is found to be missing
       pub stopped_without : (now : Option Files) (other : Fault) → KeepsFiles held now → HasNoInput now source old.source other
           → AreStoppedOf takes text stops options source held before after other
       stopped_without now other keeps none =
@@ -138,7 +139,7 @@ module _ (takes : Spelling → Type 0) (text : ℕ → Spelling → List ℕ) (o
           (prefix_there held source options.hex (sequence_bytes h.items) old h.read) (at_item (count + 1) old.start fault)
           (stopped_at [] (sequence_bytes h.items ++ old.rest) (λ e. refl) (append-nil (sequence_bytes h.items ++ old.rest)))
 
--- what was read becomes less as an item is taken
+-- the rest becomes less as an item is consumed
 pub taken_less : (takes : Spelling → Type 0) (text : Spelling → List ℕ) (old new : PartsView) (size : ℕ) (before after : Option (List ℕ)) → IsWritten takes text old.rest size before after
     → new.rest ≡ drop size old.rest → new.source ≡ old.source → weight new < weight old
 taken_less takes text old new size before after w rest same =

@@ -4,9 +4,9 @@ use Rattle.cbor_head.specs.{Prelude.Bounds, declared.reason.Refusal.Refusal}
 use Rattle.cbor_listing.specs.Listing as listing
 use Rattle.cbor_listing.specs.Annotated as annotating
 use Rattle.cbor_listing.specs.{Listing.IsUnlisted, Annotated.IsUnannotated}
+use Rattle.cborc_words.specs.declared.request.EventStyle.{TheVariants.Listed, TheVariants.Annotated, EventStyle}
 use Rattle.cborc_commands.specs.EventStyles.{AreUnlisted, of_verdict, of_reader, of_writer}
 use Rattle.cborc_commands.specs.declared.fault.Fault.TheVariants as faults
-use Rattle.cborc_commands.specs.declared.request.EventStyle.{TheVariants.Listed, TheVariants.Annotated, EventStyle}
 use Rattle.cborc_commands.specs.{inner.Listed.IsPrefixNotListed, declared.fault.Fault.Fault, Events.IsNotListed}
 
 pub prefix_not_listed : (style : EventStyle) (limits : Bounds) (bytes : List ℕ) (old new : Option (List ℕ)) (fault : Fault) → IsPrefixNotListed style 0 limits bytes old new fault → IsNotListed style limits bytes old new fault

@@ -1,4 +1,4 @@
--- Why there is no input, of an earlier state of the same files.
+-- Why there is no input, by an earlier state of the same files.
 use Rattle.std.proofs.Common.{List, ℕ, Bool, Option}
 use Rattle.cborc_files.specs.Folder.{Files, KeepsFiles}
 use Rattle.cborc_commands.specs.declared.fault.Fault.TheVariants as faults

@@ -1,4 +1,4 @@
--- What an output took.
+-- What an output accepted.
 use Rattle.std.proofs.Common.{ℕ, Option, Some, None, List, [], ◌++◌, sym, ap, ◌∙◌, append_assoc, append-nil}
 use Rattle.std.specs.Io.KnownBytes.{Appends}
 

@@ -9,7 +9,7 @@ form_place limits p (c ∷ rest) f (reason, why, e) = omega (arith, ap (λ (x : 
 form_place limits p [] f (inl h) = omega (arith, h.0, ap (λ (x : Refusal). x.place) h.1)
 form_place limits p [] f (inr h) = omega (arith, ap (λ (x : Refusal). x.place) h.1)
 
--- by its form an input is refused no further than it goes
+-- the form of an input is refused at an offset within it
 pub place_within : (limits : Bounds) (prefix : List ℕ) (f : Refusal) → IsVerdict limits form prefix (refused f) → f.place ≤ length prefix
 place_within limits prefix f v = by v.decides
   where

@@ -1,21 +1,21 @@
--- What is reported of the prefix of an input that is enough is reported of the whole.
+-- What holds of a prefix that decides the verdict holds of the whole input.
 use Rattle.std.proofs.Common.{ℕ, ◌≡◌, ◌≢◌, ◌≤◌, inl, inr, Option, List, [], ◌++◌, length, take, sym, ap, ◌∙◌, arith, subst, append_assoc, append-nil, length-append}
 use Rattle.std.proofs.lemmas.List.{take-append-le}
 use Rattle.cbor_head.specs.Prelude.{Rules, form, plain, Bounds, Value, Spelling, spell, IsItem, Answer, accepted, refused, refusal, IsVerdict}
 use Rattle.cbor_head.specs.declared.reason.Reason.TheVariants.{CanonicalTooLong, Truncated, Read}
 use Rattle.cbor_head.specs.declared.{order.KeyOrder.KeyOrder, reason.Refusal.Refusal}
-use Rattle.cbor_model.proofs.Agree.{split_prefix}
-use Rattle.cbor_verdict.proofs.Further.{IsFinal, further, more, splits_further}
-use Rattle.cbor_verdict.specs.Readers as readers
-use Rattle.cbor_verdict.{proofs.SpelledBytes.longest_always, specs.Readers.IsUnread, specs.Readers.IsReadAs}
+use Rattle.theory_values.proofs.Agree.{split_prefix}
+use Rattle.theory_verdicts.proofs.Further.{IsFinal, further, more, splits_further}
+use Rattle.theory_verdicts.specs.Readers as readers
+use Rattle.theory_verdicts.{proofs.SpelledBytes.longest_always, specs.Readers.IsUnread, specs.Readers.IsReadAs}
 use Rattle.cbor_reader.specs.Canonicalise.{IsCanonicalOf, IsRefusal, of_item, canonical_too_long}
 use Rattle.cbor_reader.specs.WholeItem.{IsWholeItem, IsItemRefusal, unread, trailing}
+use Rattle.cborc_words.specs.declared.request.EventStyle.{EventStyle}
 use Rattle.cborc_commands.specs.EventStyles.{AreLines, AreLinesCut, AreListed, AreUnlisted}
 use Rattle.cborc_commands.specs.EventStyles as styles
 use Rattle.cborc_commands.specs.declared.fault.Fault.TheVariants as faults
-use Rattle.cborc_commands.specs.{declared.request.EventStyle.EventStyle, inner.Decided.IsDecided, inner.Decided.IsEnough}
-use Rattle.cborc_commands.{proofs.Places.place_within, specs.declared.fault.Fault.Fault, specs.Check.IsWhole, specs.Events.IsFollowed, specs.Events.IsNotListed}
-use Rattle.cborc_commands.proofs.Whole.{AreAccepted}
+use Rattle.cborc_commands.{specs.inner.Decided.IsDecided, specs.inner.Decided.IsEnough, proofs.Places.place_within, specs.declared.fault.Fault.Fault}
+use Rattle.cborc_commands.{specs.Check.IsWhole, specs.Events.IsFollowed, specs.Events.IsNotListed, proofs.Whole.AreAccepted}
 
 module _ (r : Rules) (limits : Bounds) (prefix behind : List ℕ) (enough : IsEnough r limits prefix behind) where
   final : (a : Answer) → IsVerdict limits r prefix a → IsDecided r limits prefix → IsFinal a
@@ -72,7 +72,7 @@ module _ (r : Rules) (limits : Bounds) (prefix behind : List ℕ) (enough : IsEn
 
 -- by the plain rules
 module _ (limits : Bounds) (prefix behind : List ℕ) (enough : IsEnough plain limits prefix behind) where
-  -- ---- what `canonicalise` answers
+  -- ---- what `canonicalise` returns
 
   pub canonical_whole : (o : KeyOrder) (out : List ℕ) → IsCanonicalOf limits o prefix out → IsCanonicalOf limits o (prefix ++ behind) out
   canonical_whole o out c = record {

@@ -1,13 +1,14 @@
--- An input that is read part by part.
+-- An input that is read in parts.
 use Rattle.std.proofs.Common.{ℕ, ◌+◌, ◌*◌, ◌≡◌, ◌<◌, ◌⊎◌, inl, inr, Bool, true, false, Option, List, [], ◌++◌, length, drop, refl, sym, ap, ◌∙◌, arith, subst, append_assoc, append-nil, length-append}
 use Rattle.std.proofs.Math.Seq.{drop-append_seam}
 use Rattle.cbor_head.specs.Prelude.{Rules}
 use Rattle.cborc_files.specs.Folder.{Files, KeepsFiles}
+use Rattle.cborc_words.specs.declared.request.Options.{Options}
 use Rattle.cborc_commands.specs.inner.Parts.{PartsView, IsReadTo, IsNextPart}
 use Rattle.cborc_commands.specs.inner.Sources.{HasGiven, IsFresh, IsPartAdded, IsNoPart, StartsInputAt, HasInput, HasNoInput}
 use Rattle.cborc_commands.proofs.Sources.{given_further, first_given, prefix_given, no_fewer, input_known, no_part, unread, unread_less}
 use Rattle.cborc_commands.specs.{Input.IsInput, Input.IsPrefix, inner.Decided.IsDecided, NoInput.IsNoInput, declared.fault.Fault.Fault}
-use Rattle.cborc_commands.specs.{declared.request.Options.Options, declared.source.Source.Source, inner.Start.StartsInput}
+use Rattle.cborc_commands.specs.{declared.source.Source.Source, inner.Start.StartsInput}
 
 -- the first part
 pub first_part : (held : Option Files) (path : List ℕ) (hex : Bool) (old new : PartsView) → old.rest ≡ [] → old.start ≡ 0 → IsFresh hex old.source → IsNextPart held path old new
@@ -29,7 +30,7 @@ module _ (held now : Option Files) (path : List ℕ) (hex : Bool) (taken : List 
         hex_is = n.added.hex_is ∙ r.hex_is;
       }
 
-  -- the first bytes of the rest were taken
+  -- the first bytes of the rest were consumed
   pub took : (prefix left : List ℕ) → prefix ++ left ≡ old.rest → new.rest ≡ drop (length prefix) old.rest → new.start ≡ old.start + length prefix → new.source ≡ old.source
       → IsReadTo held path hex (taken ++ prefix) new
   took prefix left e rest start same =

@@ -1,12 +1,12 @@
--- What follows of an answer.
+-- What follows from a result.
 use Rattle.std.proofs.Common.{Result, Ok, Err, OnOk, IfOk, IfErr}
 
--- of one that carries nothing
+-- of a result without a value
 pub on_ok : {E : Type 0} → (r : Result (Unit {0}) E) (P Q : Type 0) → (P → Q) → OnOk r P → OnOk r Q
 on_ok (Ok done) P Q f h = f h
 on_ok (Err fault) P Q f h = tt
 
--- of one that carries something
+-- of a result with a value
 pub if_ok : {A E : Type 0} → (r : Result A E) (P Q : A → Type 0) → ((a : A) → P a → Q a) → IfOk r P → IfOk r Q
 if_ok (Ok a) P Q f h = f a h
 if_ok (Err fault) P Q f h = tt

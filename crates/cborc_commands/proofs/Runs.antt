@@ -1,15 +1,15 @@
--- What a run leaves, by the parts of its end.
+-- What a run leaves, by how it ends.
 use Rattle.std.proofs.Common.{ℕ, ◌≡◌, ◌≢◌, ◌⊎◌, ◌∙◌, ap, inl, inr, refl, sym, subst, List, Option, None, Result, Ok, Err, OnErr, IfOk, IfErr}
 use Rattle.std.specs.Io.KnownBytes.{Keeps}
 use Rattle.cbor_head.specs.declared.order.KeyOrder.{KeyOrder}
 use Rattle.cborc_files.specs.Folder.{Files, KeepsFiles}
+use Rattle.cborc_words.specs.declared.request.{Output.Output, Action.Action, Action.TheVariants.Canon, Request.Request}
 use Rattle.cborc_commands.specs.declared.fault.Fault.TheVariants as faults
 use Rattle.cborc_commands.specs.Outcome.{IsSilent, IsStatus, IsAnswered, done, stopped, IsAnsweredQuietly, IsAnsweredQuietlyBy}
-use Rattle.cborc_commands.specs.{Fault.end_status, Fault.status_number, declared.request.Output.Output, declared.request.Action.Action}
-use Rattle.cborc_commands.specs.declared.{request.Action.TheVariants.Canon, request.Request.Request, fault.Fault.Fault, status.Status.Status}
+use Rattle.cborc_commands.specs.{Fault.end_status, Fault.status_number, declared.fault.Fault.Fault, declared.status.Status.Status}
 use Rattle.cborc_commands.specs.Answer.{IsDone, IsNotDone}
 
--- the end, once standard output sent on what it took, or did not
+-- the end after standard output was flushed, or could not be flushed
 abbrev IsSentOn : Result Status Fault → Result Status Fault → Type 0
 IsSentOn ended sent = (sent ≡ ended) ⊎ (sent ≡ Err faults.CannotPrint)
 
@@ -24,14 +24,14 @@ module _ (request : Request) (old new : Option Files) (before taken after : Opti
   answered_so (Ok s) sent d n k q e status is = done s taken d keeps (status_sent (Ok s) sent e status is)
   answered_so (Err fault) sent d n k q e status is = stopped fault taken n k q keeps (status_sent (Err fault) sent e status is)
 
--- an answer without output, but for those of `canon`
+-- requests without reports, except `canon`
 module _ (request : Request) (old new : Option Files) (before after : Option (List ℕ)) (status : ℕ) where
   pub quietly : Keeps before after → (action : Action) → ((output : Output) (order : KeyOrder) → action ≢ Canon output order)
       → IsAnswered request old new None None status → IsAnsweredQuietlyBy action request old new before after status
   quietly keeps (Canon output order) other h = absurd (other output order refl)
   quietly keeps _ other h = (h, keeps)
 
-  -- what standard output took is not known there
+  -- nothing is known about standard output there
   pub sunk : Keeps before after → ((output : Output) (order : KeyOrder) → request.action ≢ Canon output order) → (ended : Result Status Fault)
       → IfOk ended (IsDone request old new None None) → IfErr ended (IsNotDone request old None None) → OnErr ended (KeepsFiles old new)
       → IfErr ended (λ fault. IsSilent request fault None None) → status ≡ status_number (end_status ended) → IsAnsweredQuietly request old new before after status

@@ -4,7 +4,7 @@ use Rattle.cbor_head.specs.Prelude.{Spelling, spell}
 use Rattle.cbor_reader.specs.Sequence.{sequence_bytes}
 use Rattle.cborc_commands.{proofs.Lists.all_with, proofs.Lists.joined_with, specs.Sequences.texts_from, specs.Sequences.StartsWithEach}
 
--- of items that start where they may
+-- for texts that do not depend on the offset
 pub texts_anywhere : (text : Spelling → List ℕ) (start : ℕ) (items : List Spelling) → texts_from (λ start. text) start items ≡ flat_map text items
 texts_anywhere text start [] = refl
 texts_anywhere text start (s ∷ ss) = ap (λ (x : List ℕ). text s ++ x) (texts_anywhere text (start + length (spell s)) ss)

@@ -1,18 +1,18 @@
--- What was written of the lines of an item of a sequence, and why not all.
+-- Which lines of an item of a sequence were written, and why not all.
 use Rattle.std.proofs.Common.{ℕ, ◌≡◌, ◌∙◌, ◌<◌, ◌≤◌, List, [], ◌++◌, length, Option, refl, sym, ap, subst}
 use Rattle.std.{specs.Io.KnownBytes.Appends, proofs.lemmas.List.take-append-le}
 use Rattle.cbor_head.specs.Prelude.{form, Bounds, refused, IsVerdict}
 use Rattle.cbor_head.specs.declared.reason.Reason.TheVariants as reasons
 use Rattle.cbor_head.specs.declared.reason.Refusal.{Refusal}
-use Rattle.cbor_verdict.{specs.Readers.IsRead, specs.Refusals.IsFormReason, proofs.Reasons.form-reason}
+use Rattle.theory_verdicts.{specs.Readers.IsRead, specs.Refusals.IsFormReason, proofs.Reasons.form-reason}
 use Rattle.cbor_reader.specs.Sequence.{IsAccepted}
+use Rattle.cborc_words.specs.declared.request.EventStyle.{EventStyle}
 use Rattle.cborc_commands.specs.EventStyles.{event_lines, AreLines, AreLinesCut, AreListed, AreUnlisted, of_verdict, of_reader, of_writer}
 use Rattle.cborc_commands.specs.declared.fault.Fault.TheVariants as faults
 use Rattle.cborc_commands.specs.EventsSequence.{gap, item_lines, before_all, within, listed_to, listed_short}
-use Rattle.cborc_commands.{specs.declared.request.EventStyle.EventStyle, proofs.Outputs.appends_more, proofs.Places.place_within}
-use Rattle.cborc_commands.specs.{inner.Listed.IsPrefixNotListed, Fault.IsOfInput, declared.fault.Fault.Fault, inner.Items.IsWritten}
-use Rattle.cborc_commands.{specs.inner.SequenceItems.IsItemNotListed, proofs.Further.IsSettled, proofs.Further.verdict_further}
-use Rattle.cborc_commands.proofs.Taken.{item_accepted, written_of}
+use Rattle.cborc_commands.{proofs.Outputs.appends_more, proofs.Places.place_within, specs.inner.Listed.IsPrefixNotListed, specs.Fault.IsOfInput}
+use Rattle.cborc_commands.specs.{declared.fault.Fault.Fault, inner.Items.IsWritten, inner.SequenceItems.IsItemNotListed}
+use Rattle.cborc_commands.proofs.{Further.IsSettled, Further.verdict_further, Taken.item_accepted, Taken.written_of}
 
 -- ---- no verdict is that the writer failed
 

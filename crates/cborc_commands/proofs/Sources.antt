@@ -1,4 +1,4 @@
--- A file that is read part by part, as it stands or as hex text, and the input that it is.
+-- A file that is read in parts, as bytes or as hex text, and its input.
 use Rattle.std.proofs.Common.{ℕ, ◌+◌, ◌-◌, ◌^◌, ◌≡◌, ◌<◌, ◌≤◌, ◌⊎◌, inl, inr, Bool, true, false, Option, Some, None, List, [], ◌∷◌, ◌++◌, length, take, drop, refl, sym, ap, ◌∙◌, arith, subst, IsErr, nat_lt, append_assoc, append-nil, length-append, length-take, length-drop, take-append-drop}
 use Rattle.std.{specs.List.filter, proofs.Math.Seq.drop-append_seam, proofs.Math.Seq.take-append_seam}
 use Rattle.std.proofs.lemmas.{Bool.cases_lt, Bool.false≢true, Bool.Decides.Decides-ltb, List.Elements.filter-append, List.nil_from_length}
@@ -18,7 +18,7 @@ pub same_files : (held : Option Files) → KeepsFiles held held
 same_files None = tt
 same_files (Some files) = λ path. refl
 
--- what a later state of a file holds is what it held
+-- what a later state of a file holds, the earlier state held
 same_file : (files : Files) (now : Option Files) (path xs ys : List ℕ) → KeepsFiles (Some files) now → files path ≡ Some xs → Holds now path ys → ys ≡ xs
 same_file files now path xs ys keeps h k = inside (sym (held_before (Some files) now path ys keeps k) ∙ h)
   where
@@ -192,7 +192,7 @@ no_first_part held path hex s f _ h = absurd h
 
 -- ---- reading on to the end
 
--- whatever the one had given, it is the prefix of what the other gave
+-- the input bytes of the first are a prefix of those of the second
 abbrev pub IsFurther : Option Files → List ℕ → Source → Source → Type 0
 IsFurther now path s t =
     (held : Option Files) (bytes : List ℕ) → KeepsFiles held now → HasGiven held path s bytes → (more : List ℕ) × HasGiven held path t (bytes ++ more)
@@ -235,7 +235,7 @@ all_spelled true d e w = w
 
 module _ (held : Option Files) (path before after : List ℕ) (old new : Source) (most : ℕ) (some : 0 < most) (same : new.hex ≡ old.hex) (count : ℕ)
     (size : new.size ≡ old.size + count) (ended : new.ended ≡ nat_lt count most) where
-  -- as it stands
+  -- as bytes
   pub read_added : old.hex ≡ false → length after ≡ length before + count → ReadsOn held path old.size most before after → IsPartAdded held path old new before after
   read_added raw is r =
       let part = take most (drop old.size r.whole) in
@@ -267,7 +267,7 @@ module _ (held : Option Files) (path before after : List ℕ) (old new : Source)
       all = λ e. all_spelled new.hex new.digits (same ∙ hex) (whole e);
     }
 
--- a part that belongs to no hex text is of none
+-- a file with a part that is not hex text is not hex text
 pub hex_error_part : (held : Option Files) (path : List ℕ) (s : Source) (most count : ℕ) (part : List ℕ) → s.hex ≡ true → ReadsOn held path s.size most [] part → count ≡ length part
     → IsUndecoded part (nat_lt count most) s.digits → IsHexErrorText held path s
 hex_error_part held path s most count part hex r is u = record {
@@ -316,7 +316,7 @@ unread s = 2 ^ 63 - s.size + expected s.ended
 
 -- becomes less as a part is read
 module _ (held : Option Files) (path before after : List ℕ) (old new : Source) (a : IsPartAdded held path old new before after) where
-  -- a part that is as long as what was asked for
+  -- a part that is as long as requested
   longer : new.ended ≡ false → old.size < new.size
   longer e = elim (cases_lt (length a.part) a.most) [
     | inl l ↦ absurd (false≢true (sym e ∙ a.ended_is ∙ (Decides-ltb (length a.part) a.most).1 l))

@@ -1,4 +1,4 @@
--- Which fault of a sequence comes of the fault of an item.
+-- Which fault of a sequence follows from the fault of an item.
 use Rattle.std.proofs.Common.{ℕ, ◌≡◌, ◌≢◌, ◌⊎◌, ◌∙◌, inl, inr, true, false, List, [], ◌∷◌, ◌++◌, take, Option, flat_map, refl, sym, ap, subst, arith, IfSome, length-append}
 use Rattle.std.{specs.Borrow.Bor, specs.Io.KnownBytes.Appends, proofs.KnownBytes.Keeps-refl}
 use Rattle.cbor_head.specs.Prelude.{Rules, form, plain, Spelling}
@@ -7,6 +7,7 @@ use Rattle.cbor_reader.specs.Sequence.{IsAccepted}
 use Rattle.cborc_files.specs.Folder.{Files, is_stream, IsBlank, KeepsFiles, ReplacesFile}
 use Rattle.cborc_files.specs.declared.folder.FileFault.TheVariants as file_faults
 use Rattle.cborc_files.specs.declared.folder.FileFault.{FileFault}
+use Rattle.cborc_words.specs.declared.request.{TextStyle.TextStyle, EventStyle.EventStyle, Options.Options, Output.Output}
 use Rattle.cborc_commands.specs.Sequences.{texts_from, IsCutIn, IsCutShort, IsTakenSoFar, of_items, of_cut}
 use Rattle.cborc_commands.specs.declared.fault.Fault.TheVariants as faults
 use Rattle.cborc_commands.specs.inner.Items.{AreStopped, AreWrittenOf, AreStoppedOf, no_input, behind_no_input, within}
@@ -16,13 +17,12 @@ use Rattle.cborc_commands.specs.ShowSequence.{item_text, IsSequenceShown, IsSequ
 use Rattle.cborc_commands.specs.inner.SequenceItems.{IsCutText, IsUncounted, IsUnwritten, IsItemNotShown, IsItemNotListed}
 use Rattle.cborc_commands.proofs.Files.{input_is_there, input_prefix, replaced_by}
 use Rattle.cborc_commands.{specs.Input.IsInput, specs.Input.IsPrefix, proofs.Outputs.appends_more, specs.Put.printed, specs.Put.written, specs.Fault.at_item}
-use Rattle.cborc_commands.specs.{NoInput.IsNoInput, declared.fault.Fault.Fault, declared.request.TextStyle.TextStyle, declared.request.EventStyle.EventStyle}
-use Rattle.cborc_commands.specs.{declared.request.Options.Options, declared.request.Output.Output, CheckSequence.IsSequenceNotChecked}
+use Rattle.cborc_commands.specs.{NoInput.IsNoInput, declared.fault.Fault.Fault, CheckSequence.IsSequenceNotChecked}
 use Rattle.cborc_commands.proofs.SequenceItems.{texts_anywhere, one_more_starts}
 
 -- ---- any sequence
 
--- behind items of these bytes, whose texts were taken, comes one that is not taken, or not all of its text was
+-- after items of these bytes, whose texts were accepted, comes one that is refused, or a part of its text was accepted
 module _ (takes : Spelling → Type 0) (text : Spelling → List ℕ) (from to : Option (List ℕ)) where
   took : (middle : Option (List ℕ)) (items : List Spelling) → Appends from middle (texts_from (λ start. text) 0 items) → Appends from middle (flat_map text items)
   took middle items w = subst (Appends from middle) (texts_anywhere text 0 items) w
@@ -60,11 +60,11 @@ module _ (o : KeyOrder) (options : Options) (source : List ℕ) (output : Output
   abbrev Unwritten : ℕ → List ℕ → Fault → Option (List ℕ) → Option (List ℕ) → Type 0
   Unwritten start = IsUnwritten options.limits o output.form
 
-  -- nothing is sent that belongs in a file
+  -- nothing goes to standard output if the output is a file
   unless_stream : is_stream output.path.now ≡ false → (taken : Type 0) → IsSent output.path.now taken
   unless_stream s taken t = let two : false ≡ true = sym s ∙ t in cc two
 
-  -- an item that is not written leaves what was taken, or a part of its text
+  -- an item that is not written leaves the output unchanged, or a part of its text was accepted
   left : (bytes : List ℕ) (middle to : Option (List ℕ)) (cause : Fault) → IsUnwritten options.limits o output.form bytes cause middle to → (to ≡ middle) ⊎ IsCutText Has text_of bytes middle to
   left bytes middle to (faults.Refused f) why = inl why.1
   left bytes middle to faults.CannotPrint why = inr why
@@ -121,7 +121,7 @@ module _ (o : KeyOrder) (options : Options) (source : List ℕ) (output : Output
             some = inl (omega (arith, length-append c.2.items (c.2.last ∷ [])));
           }
 
-      -- what standard output took, by what was written
+      -- what standard output accepted, by what was written
       module _ (before after : Option (List ℕ)) (sends : (Took : Option (List ℕ) → Option (List ℕ) → Type 0) → Took from to → IsSent output.path.now (Took before after))
           (cut : fault ≡ faults.CannotPrint → IsSequenceNotCanonised o options source output held before after faults.CannotPrint) where
         none_more : (x : Fault) → IsNoInput held source options.hex x → IsTakenSoFar Has text_of options source held from to → IsSequenceNotCanonised o options source output held before after x
@@ -161,7 +161,7 @@ module _ (o : KeyOrder) (options : Options) (source : List ℕ) (output : Output
           → (out : Option (List ℕ)) → IsSequenceNotCanonised o options source output held out out fault
       not_replaced s h other out = by_stop out out (λ Took w. unless_stream s (Took out out)) (λ e. absurd (other e)) h
 
-  -- the file failed, or memory did
+  -- the file failed, or memory was refused
   module _ (s : is_stream output.path.now ≡ false) (t : HasFirstTexts o options source held) (path : Bor (List ℕ)) (same : path.now ≡ output.path.now) (fault : Fault) (out : Option (List ℕ)) where
     pub not_written : (cause : FileFault) → (cause ≡ file_faults.Failed → fault ≡ faults.CannotWrite path) → (cause ≡ file_faults.Memory → fault ≡ faults.Memory)
         → IsSequenceNotCanonised o options source output held out out fault

@@ -1,17 +1,18 @@
--- The item at the start of some bytes, of which something was written, or which is refused.
+-- The item at the start of some bytes, for which something was written, or which is refused.
 use Rattle.std.proofs.Common.{ℕ, ◌≡◌, ◌<◌, ◌≤◌, Option, List, ◌++◌, length, drop, refl, sym, ap, ◌∙◌, subst, append_assoc}
 use Rattle.std.specs.Io.KnownBytes.{Appends}
 use Rattle.cbor_head.specs.Prelude.{Rules, plain, Bounds, Spelling, spell, refusal}
 use Rattle.cbor_head.specs.declared.reason.Reason.TheVariants as reasons
 use Rattle.cbor_head.specs.declared.{order.KeyOrder.KeyOrder, reason.Refusal.Refusal}
-use Rattle.cbor_verdict.specs.Readers.{IsRead}
+use Rattle.theory_verdicts.specs.Readers.{IsRead}
 use Rattle.cbor_sinks.specs.BuiltPrefix.{IsBuiltPrefix}
 use Rattle.cbor_reader.{specs.Sequence.IsAccepted, proofs.Sequences.is_accepted, proofs.Sequences.splits}
+use Rattle.cborc_words.specs.declared.request.{Form.Form, TextStyle.TextStyle}
 use Rattle.cborc_commands.specs.declared.fault.Fault.TheVariants as faults
 use Rattle.cborc_commands.specs.CanonSequence.{HasCanonicalBytes, canonical_text, too_long}
 use Rattle.cborc_commands.specs.inner.SequenceItems.{IsCutText, IsUnwritten, IsItemNotShown}
-use Rattle.cborc_commands.specs.{Texts.GoesInPart, Texts.in_form, inner.NotWritten.IsNotTaken, declared.fault.Fault.Fault, declared.request.Form.Form}
-use Rattle.cborc_commands.specs.{inner.Items.IsWritten, declared.request.TextStyle.TextStyle, ShowSequence.item_text}
+use Rattle.cborc_commands.specs.{Texts.GoesInPart, Texts.in_form, inner.NotWritten.IsNotTaken, declared.fault.Fault.Fault, inner.Items.IsWritten}
+use Rattle.cborc_commands.specs.ShowSequence.{item_text}
 
 -- the item that is read at the start
 module _ (limits : Bounds) (rules : Rules) (bytes : List ℕ) (size : ℕ) (h : IsRead limits rules bytes size) where
@@ -29,13 +30,13 @@ module _ (limits : Bounds) (rules : Rules) (bytes : List ℕ) (size : ℕ) (h : 
     written = w;
   }
 
-  -- and goes on behind
+  -- and more follows
   stands_before : (behind : List ℕ) → spell h.item ++ (drop (length (spell h.item)) bytes ++ behind) ≡ bytes ++ behind
   stands_before behind =
       sym (append_assoc (spell h.item) (drop (length (spell h.item)) bytes) behind)
       ∙ ap (λ (x : List ℕ). x ++ behind) (splits limits rules bytes h.item h.verdict)
 
-  -- not all of its text was taken
+  -- only a part of its text was accepted
   cut_of : (takes : Spelling → Type 0) (text : Spelling → List ℕ) (before after : Option (List ℕ)) (behind : List ℕ) → takes h.item
       → GoesInPart before after (text h.item) → IsCutText takes text (bytes ++ behind) before after
   cut_of takes text before after behind t w = record {
@@ -46,7 +47,7 @@ module _ (limits : Bounds) (rules : Rules) (bytes : List ℕ) (size : ℕ) (h : 
     taken = w;
   }
 
--- its diagnostic text was not taken whole
+-- only a part of its diagnostic text was accepted
 pub text_not_taken : (limits : Bounds) (bytes : List ℕ) (size : ℕ) (h : IsRead limits plain bytes size) (text_style : TextStyle) (before after : Option (List ℕ)) (behind : List ℕ) (fault : Fault)
     → IsNotTaken (item_text text_style h.item) before after fault → IsItemNotShown limits text_style (bytes ++ behind) fault before after
 text_not_taken limits bytes size h text_style before after behind faults.CannotPrint cut =
@@ -67,7 +68,7 @@ module _ (b : Bounds) (o : KeyOrder) (bytes canonical : List ℕ) (size : ℕ) (
     pub canonical_of : (before after : Option (List ℕ)) → Appends before after text → IsWritten (HasCanonicalBytes b o) (canonical_text o form) bytes size before after
     canonical_of before after w = written_of b plain bytes size h.read (HasCanonicalBytes b o) (canonical_text o form) before after has_bytes (subst (Appends before after) text_is w)
 
-    -- a part of its text was taken
+    -- a part of its text was accepted
     pub cut_text : (before after : Option (List ℕ)) (behind : List ℕ) → GoesInPart before after text
         → IsCutText (HasCanonicalBytes b o) (canonical_text o form) (bytes ++ behind) before after
     cut_text before after behind w =

@@ -1,12 +1,12 @@
--- Whether what follows some bytes reports of their item.
+-- Whether what follows some bytes changes the verdict on their first item.
 use Rattle.std.proofs.Common.{ℕ, ◌≡◌, ◌≢◌, ◌∙◌, true, false, eqb, List, length, Option, sym, ap, arith}
 use Rattle.std.proofs.lemmas.Bool.Decides.{Decides-eqb}
 use Rattle.cbor_head.specs.Prelude.{Rules, form, Bounds, Spelling, spell, refused, IsVerdict}
 use Rattle.cbor_head.specs.declared.reason.Reason.TheVariants as reasons
 use Rattle.cbor_head.specs.declared.reason.Refusal.{Refusal}
-use Rattle.cbor_verdict.specs.Readers as readers
-use Rattle.cbor_verdict.proofs.Accepted.{one_item, one_refusal, not_both}
-use Rattle.cbor_verdict.specs.Readers.{IsRead, IsUnread}
+use Rattle.theory_verdicts.specs.Readers as readers
+use Rattle.theory_verdicts.proofs.Accepted.{one_item, one_refusal, not_both}
+use Rattle.theory_verdicts.specs.Readers.{IsRead, IsUnread}
 use Rattle.cbor_listing.specs.Listing.{IsListed, IsUnlisted, of_verdict, of_reader, of_writer}
 use Rattle.cborc_commands.{specs.inner.Decided.IsDecided, proofs.Within.read_within}
 

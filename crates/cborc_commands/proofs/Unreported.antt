@@ -1,4 +1,4 @@
--- The fault of a side's refusal reports which side and why.
+-- The fault of a side's refusal says which side and why.
 use Rattle.std.proofs.Common.{ℕ, ◌≡◌, ◌∙◌, List, Option, ap, refl, sym, subst}
 use Rattle.cbor_head.specs.declared.reason.Reason.TheVariants as reasons
 use Rattle.cbor_head.specs.{Prelude.plain, Prelude.Bounds, declared.reason.Reason.Reason, declared.reason.Refusal.Refusal}
@@ -9,7 +9,7 @@ use Rattle.cborc_commands.specs.Fault.{IsOfInput, side_reason_fault, side_fault}
 use Rattle.cborc_commands.specs.{declared.fault.Fault.Fault, Compare.IsUnreported}
 
 module _ (limits : Bounds) (left right : List ℕ) (before after : Option (List ℕ)) where
-  -- a slice fails at no read
+  -- no read of a slice fails
   never_read : (input : List ℕ) (f : Refusal) → IsItemRefusal limits plain input f → f.reason ≡ reasons.Read → ⊥
   never_read input f (unread u apart) e = apart e
   never_read input f (trailing k h l is) e = let t : reasons.Trailing ≡ reasons.Read = sym (ap (λ (x : Refusal). x.reason) is) ∙ e in cc t

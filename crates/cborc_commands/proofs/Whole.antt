@@ -1,7 +1,7 @@
 -- Whether the bytes of a file are one accepted item, and which.
 use Rattle.std.proofs.Common.{ℕ, ◌≡◌, ◌∙◌, List, length, sym, refl, ◌↔◌}
 use Rattle.cbor_head.specs.Prelude.{plain, Bounds, Spelling, spell, value_of, accepted, IsVerdict}
-use Rattle.cbor_verdict.specs.Readers.{IsReadAs}
+use Rattle.theory_verdicts.specs.Readers.{IsReadAs}
 use Rattle.cbor_reader.specs.Headline.{IsValidItem}
 use Rattle.cborc_commands.specs.Check.{IsWhole}
 

@@ -1,7 +1,7 @@
--- Nothing is read but of the input.
+-- Only the input is read.
 use Rattle.std.proofs.Common.{ℕ, ◌+◌, ◌≤◌, arith, ◌≡◌, List, length, take, ap, ◌∙◌, length-take, length-append}
 use Rattle.cbor_head.specs.Prelude.{Rules, Bounds, Spelling, spell, accepted, IsVerdict}
-use Rattle.cbor_verdict.specs.Readers.{IsRead}
+use Rattle.theory_verdicts.specs.Readers.{IsRead}
 
 -- no more than the input is read
 pub read_within : (limits : Bounds) (r : Rules) (input : List ℕ) (size : ℕ) → IsRead limits r input size → size ≤ length input

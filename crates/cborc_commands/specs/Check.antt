@@ -1,22 +1,22 @@
--- What `check` asks of a file's bytes.
+-- What `check` requires of a file's bytes.
 use Rattle.std.specs.Prelude.{ℕ, ◌≡◌, ◌++◌, List, length, codes, decimal, Option}
 use Rattle.cbor_head.specs.Prelude.{Rules, Bounds}
-use Rattle.cbor_verdict.specs.Readers.{IsRead}
+use Rattle.theory_verdicts.specs.Readers.{IsRead}
 use Rattle.cbor_reader.specs.WholeItem.{IsItemRefusal}
 use Rattle.cborc_files.specs.Folder.{Files}
+use Rattle.cborc_words.specs.declared.request.Options.{Options}
 use Rattle.cborc_commands.specs.declared.fault.Fault.TheVariants as faults
-use Rattle.cborc_commands.specs.{Input.IsInput, Fault.IsOfInput, NoInput.IsNoInput, Texts.GoesInPart, declared.request.Options.Options}
-use Rattle.cborc_commands.specs.declared.fault.Fault.{Fault}
+use Rattle.cborc_commands.specs.{Input.IsInput, Fault.IsOfInput, NoInput.IsNoInput, Texts.GoesInPart, declared.fault.Fault.Fault}
 
--- the item at the start, accepted by the rules within the limits, is the whole input, so many bytes
+-- the whole input is one item with this number of bytes, which the rules accept within the limits
 abbrev pub IsWhole : Bounds → Rules → List ℕ → ℕ → Type 0
 IsWhole limits rules input size = IsRead limits rules input size × (size ≡ length input)
 
--- the line of an item that is accepted, of so many bytes
+-- the line of an accepted item, with its number of bytes
 abbrev pub accepted_bytes : ℕ → List ℕ
 accepted_bytes size = codes "accepted " ++ decimal size ++ codes " bytes\n"
 
--- the input at a path is one item that is accepted, and this is reported of its line
+-- the input at a path is one accepted item, and this holds for its line
 pub record IsChecked (rules : Rules) (options : Options) (source : List ℕ) (held : Option Files) (Reported : List ℕ → Type 0) : Type 0 where
   pub input : List ℕ
   pub is : IsInput held source options.hex input
@@ -24,7 +24,7 @@ pub record IsChecked (rules : Rules) (options : Options) (source : List ℕ) (he
   pub whole : IsWhole options.limits rules input size
   pub reported : Reported (accepted_bytes size)
 
--- why it is not reported whole: the input is refused, there is none, or standard output took the first bytes of its line, not all
+-- why its line is not written whole: the input is refused, there is none, or standard output accepted only a part of the line
 abbrev pub IsNotChecked : Rules → Options → List ℕ → Option Files → Option (List ℕ) → Option (List ℕ) → Fault → Type 0
 IsNotChecked rules options source held before after (faults.Refused f) =
     (input : List ℕ) × IsInput held source options.hex input × IsItemRefusal options.limits rules input f × IsOfInput f.reason

@@ -6,21 +6,22 @@ use Rattle.cbor_head.specs.{Prelude.Bounds, declared.reason.Refusal.Refusal}
 use Rattle.cbor_reader.specs.{Comparing.MeanTheSame, Comparing.IsSideRefusal, WholeItem.IsWholeItem, declared.comparison.Side.Side}
 use Rattle.cbor_reader.specs.declared.comparison.Side.TheVariants.{Left, Right}
 use Rattle.cborc_files.specs.Folder.{Files}
+use Rattle.cborc_words.specs.declared.request.Options.{Options}
 use Rattle.cborc_commands.specs.declared.fault.Fault.TheVariants as faults
-use Rattle.cborc_commands.specs.{Input.IsInput, Fault.IsOfInput, NoInput.IsNoInput, Texts.GoesInPart, declared.request.Options.Options}
-use Rattle.cborc_commands.specs.declared.{fault.Fault.Fault, status.Status.Status, status.Status.TheVariants.Accepted, status.Status.TheVariants.Refused}
+use Rattle.cborc_commands.specs.{Input.IsInput, Fault.IsOfInput, NoInput.IsNoInput, Texts.GoesInPart, declared.fault.Fault.Fault, declared.status.Status.Status}
+use Rattle.cborc_commands.specs.declared.status.Status.TheVariants.{Accepted, Refused}
 
 -- both are whole valid items within the limits
 abbrev pub AreAccepted : Bounds → List ℕ → List ℕ → Type 0
 AreAccepted limits left right = IsWholeItem limits left × IsWholeItem limits right
 
--- they are, and the status and the line, of which this is reported, say whether they mean the same
+-- they are, and the status and the line, for which this holds, say whether they have the same value
 abbrev pub IsReported : Bounds → List ℕ → List ℕ → (List ℕ → Type 0) → Status → Type 0
 IsReported limits left right Reported Accepted = AreAccepted limits left right × MeanTheSame limits left right × Reported (codes "same\n")
 IsReported limits left right Reported Refused = AreAccepted limits left right × ¬ MeanTheSame limits left right × Reported (codes "different\n")
 IsReported limits left right Reported _ = ⊥
 
--- why nothing is reported: a side is refused, or standard output took the first bytes of the line, not all
+-- why nothing is reported: a side is refused, or standard output accepted only a part of the line
 abbrev pub IsUnreported : Bounds → List ℕ → List ℕ → Option (List ℕ) → Option (List ℕ) → Fault → Type 0
 IsUnreported limits left right old new (faults.LeftRefused f) = IsSideRefusal limits left right Left f × IsOfInput f.reason
 IsUnreported limits left right old new (faults.RightRefused f) = IsSideRefusal limits left right Right f × IsOfInput f.reason
@@ -33,7 +34,7 @@ pub record AreInputs (held : Option Files) (left right : List ℕ) (options : Op
   pub left_is : IsInput held left options.hex first
   pub right_is : IsInput held right options.hex second
 
--- both are accepted, and the status and the line report whether they mean the same
+-- both are accepted, and the status and the line say whether they have the same value
 pub record AreCompared (options : Options) (left right : List ℕ) (held : Option Files) (before after : Option (List ℕ)) (status : Status) : Type 0 where
   pub first : List ℕ
   pub second : List ℕ
@@ -47,8 +48,8 @@ pub record AreUnreported (options : Options) (left right : List ℕ) (held : Opt
   pub are : AreInputs held left right options first second
   pub unreported : IsUnreported options.limits first second before after fault
 
--- Why nothing is reported: there are both inputs, and one is refused or the line was not taken; or the left one is not there; or the
--- right one, where the left one is.
+-- Why nothing is reported: both inputs exist, and one is refused or the line was not written; or the left input is missing;
+-- or the left one exists and the right one is missing.
 abbrev pub AreNotCompared : Options → List ℕ → List ℕ → Option Files → Option (List ℕ) → Option (List ℕ) → Fault → Type 0
 AreNotCompared options left right held before after fault =
     AreUnreported options left right held before after fault ⊎ IsNoInput held left options.hex fault

@@ -1,4 +1,4 @@
--- Which fault comes of a refusal, and with which status the program ends.
+-- Which fault follows from a refusal, and with which status the program ends.
 use Rattle.std.specs.Prelude.{ℕ, Result, Ok, Err}
 use Rattle.cbor_head.specs.declared.reason.Reason.TheVariants as reasons
 use Rattle.cbor_head.specs.declared.reason.{Reason.Reason, Refusal.Refusal}
@@ -7,13 +7,13 @@ use Rattle.cborc_commands.specs.declared.fault.Fault.TheVariants as faults
 use Rattle.cborc_commands.specs.declared.status.Status.TheVariants.{Accepted, Refused, Misused, Failed}
 use Rattle.cborc_commands.specs.declared.{fault.Fault.Fault, status.Status.Status}
 
--- what refuses an input: neither want of memory nor a reader that failed
+-- the reason is one of the input: not Memory and not Read
 abbrev pub IsOfInput : Reason → Type 0
 IsOfInput reasons.Memory = ⊥
 IsOfInput reasons.Read = ⊥
 IsOfInput _ = Unit {0}
 
--- the fault of a refusal for this reason; no input is read from a reader that can fail
+-- the fault of a refusal with this reason; no input is read from a reader that can fail
 abbrev pub reason_fault : Refusal → Reason → Fault
 reason_fault f reasons.Memory = faults.Memory
 reason_fault f reasons.Read = faults.Memory
@@ -23,12 +23,12 @@ reason_fault f _ = faults.Refused f
 abbrev pub refusal_fault : Refusal → Fault
 refusal_fault f = reason_fault f f.reason
 
--- a fault, reported of the item of this number of a sequence, which starts there in the input
+-- the fault of the item with this number in a sequence, at this offset of the input
 abbrev pub at_item : ℕ → ℕ → Fault → Fault
 at_item index start (faults.Refused f) = faults.RefusedItem index start f
 at_item index start fault = fault
 
--- the fault of a side's refusal for this reason
+-- the fault of a side's refusal with this reason
 abbrev pub side_reason_fault : Side → Refusal → Reason → Fault
 side_reason_fault side f reasons.Memory = faults.Memory
 side_reason_fault Left f _ = faults.LeftRefused f
@@ -47,7 +47,7 @@ fault_status (faults.RightRefused f) = Refused
 fault_status (faults.NotText number) = Misused
 fault_status _ = Failed
 
--- the status of an end, well or by a fault
+-- the status of an end, with success or a fault
 abbrev pub end_status : Result Status Fault → Status
 end_status (Ok status) = status
 end_status (Err fault) = fault_status fault

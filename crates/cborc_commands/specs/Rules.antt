@@ -1,6 +1,6 @@
 -- By which rules items are accepted.
 use Rattle.cbor_head.specs.Prelude.{Rules, plain, strict}
-use Rattle.cborc_commands.specs.declared.request.Accepted.{Accepted, TheVariants.Valid, TheVariants.Canonical}
+use Rattle.cborc_words.specs.declared.request.Accepted.{Accepted, TheVariants.Valid, TheVariants.Canonical}
 
 -- the rules by which items are accepted
 abbrev pub rules_of : Accepted → Rules

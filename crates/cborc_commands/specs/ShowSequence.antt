@@ -1,24 +1,24 @@
--- What `show --seq` asks of a file's bytes, and what it writes (RFC 8742).
+-- What `show --seq` requires of a file's bytes, and what it writes (RFC 8742).
 use Rattle.std.specs.Prelude.{ℕ, List, flat_map, Option}
 use Rattle.std.specs.Io.KnownBytes.{Appends}
 use Rattle.cbor_head.specs.Prelude.{plain, Spelling, value_of, refused, IsVerdict}
 use Rattle.cbor_head.specs.declared.reason.Refusal.{Refusal}
 use Rattle.cbor_reader.specs.Sequence.{IsAccepted}
 use Rattle.cborc_files.specs.Folder.{Files}
+use Rattle.cborc_words.specs.declared.request.{TextStyle.TextStyle, Options.Options}
 use Rattle.cborc_commands.specs.Sequences.{AreAll, GoesOn, IsCutShort, IsTakenSoFar}
 use Rattle.cborc_commands.specs.declared.fault.Fault.TheVariants as faults
-use Rattle.cborc_commands.specs.{Input.IsInput, NoInput.IsNoInput, Texts.shown_text, declared.request.TextStyle.TextStyle, declared.request.Options.Options}
-use Rattle.cborc_commands.specs.declared.fault.Fault.{Fault}
+use Rattle.cborc_commands.specs.{Input.IsInput, NoInput.IsNoInput, Texts.shown_text, declared.fault.Fault.Fault}
 
 -- the text of an item in a layout, and a line feed
 abbrev pub item_text : TextStyle → Spelling → List ℕ
 item_text text_style item = shown_text text_style (value_of item)
 
--- those of each item, one behind another
+-- the texts of items, one after another
 abbrev pub item_texts : TextStyle → List Spelling → List ℕ
 item_texts text_style items = flat_map (item_text text_style) items
 
--- the input at a path is a sequence of valid items, and standard output took their texts
+-- the input at a path is a sequence of valid items, and standard output accepted their texts
 pub record IsSequenceShown (text_style : TextStyle) (options : Options) (source : List ℕ) (held : Option Files) (before after : Option (List ℕ)) : Type 0 where
   pub input : List ℕ
   pub is : IsInput held source options.hex input
@@ -26,7 +26,7 @@ pub record IsSequenceShown (text_style : TextStyle) (options : Options) (source 
   pub all : AreAll (IsAccepted options.limits plain) options.limits.bytes input items
   pub shown : Appends before after (item_texts text_style items)
 
--- It isn't: behind valid items, whose texts standard output took, comes what is refused, with this index and starting there.
+-- It is not: after valid items, whose texts standard output accepted, comes a refused one, with this index and this offset.
 pub record HasUnshownItem (text_style : TextStyle) (options : Options) (source : List ℕ) (held : Option Files) (before after : Option (List ℕ)) (index start : ℕ) (f : Refusal) : Type 0 where
   pub input : List ℕ
   pub is : IsInput held source options.hex input
@@ -36,7 +36,7 @@ pub record HasUnshownItem (text_style : TextStyle) (options : Options) (source :
   pub verdict : IsVerdict options.limits plain rest (refused f)
   pub shown : Appends before after (item_texts text_style items)
 
--- why it is not shown whole, and what standard output took: an item is refused; standard output took not all; there is no input, or memory was refused
+-- why it is not shown whole, and what standard output accepted: an item is refused, standard output failed, there is no input, or memory was refused
 abbrev pub IsSequenceNotShown : TextStyle → Options → List ℕ → Option Files → Option (List ℕ) → Option (List ℕ) → Fault → Type 0
 IsSequenceNotShown text_style options source held before after (faults.RefusedItem index start f) = HasUnshownItem text_style options source held before after index start f
 IsSequenceNotShown text_style options source held before after faults.CannotPrint =

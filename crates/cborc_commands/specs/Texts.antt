@@ -1,14 +1,14 @@
--- What is written of an item: canonical bytes in a form, and diagnostic text in a layout.
+-- What is written for an item: canonical bytes in a form, and diagnostic text in a layout.
 use Rattle.std.specs.Prelude.{ℕ, ◌≡◌, ◌<◌, ◌++◌, List, length, take, codes, Option}
 use Rattle.std.specs.Io.KnownBytes.{Appends}
 use Rattle.hex.specs.Hex.{encode_lower}
 use Rattle.cbor_head.specs.{Prelude.Bounds, Prelude.Value, declared.order.KeyOrder.KeyOrder}
 use Rattle.cbor_reader.specs.Canonicalise.{IsCanonicalOf}
 use Rattle.cbor_diag.specs.{Text.text, IndentedText.indented}
-use Rattle.cborc_commands.specs.declared.request.{Form.Form, Form.TheVariants.Raw, Form.TheVariants.Hex, TextStyle.TextStyle}
-use Rattle.cborc_commands.specs.declared.request.TextStyle.TheVariants.{OneLine, Indented}
+use Rattle.cborc_words.specs.declared.request.{Form.Form, Form.TheVariants.Raw, Form.TheVariants.Hex, TextStyle.TextStyle}
+use Rattle.cborc_words.specs.declared.request.TextStyle.TheVariants.{OneLine, Indented}
 
--- bytes in a form: themselves, or two lower-case hex digits each and a line feed
+-- bytes in a form: unchanged, or two lower-case hex digits each and a line feed
 abbrev pub in_form : Form → List ℕ → List ℕ
 in_form Raw bytes = bytes
 in_form Hex bytes = encode_lower bytes ++ codes "\n"
@@ -24,6 +24,6 @@ abbrev pub shown_text : TextStyle → Value → List ℕ
 shown_text OneLine v = text v ++ codes "\n"
 shown_text Indented v = indented 0 v ++ codes "\n"
 
--- of a text the first bytes went out, not all
+-- only the first bytes of a text were written, not all
 abbrev pub GoesInPart : Option (List ℕ) → Option (List ℕ) → List ℕ → Type 0
 GoesInPart before after text = (count : ℕ) × (count < length text) × Appends before after (take count text)

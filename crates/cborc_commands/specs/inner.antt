@@ -1,4 +1,4 @@
--- What private functions speak of; no public contract does.
+-- Definitions for private functions; no public contract uses them.
 pub mod Decided
 pub mod Explained
 pub mod Items

@@ -1,4 +1,4 @@
-//! What is asked for, done over any folder and any two outputs.
+//! Performs requests over any folder and any two outputs.
 
 ghost use Rattle.std.specs.Prelude.{◌≡◌, ◌⊎◌, Ok, Err, OnErr, IfOk, IfErr};
 ghost use Rattle.std.specs.Io.KnownBytes.{Keeps};
@@ -16,16 +16,16 @@ use crate::events::events;
 use crate::events_sequence::events_sequence;
 use crate::explanation::explain;
 use crate::fault::Fault;
-use crate::request::{Action, Request, Task, Verbosity};
 use crate::show::show;
 use crate::show_sequence::show_sequence;
 use crate::status::Status;
 use cborc_files::{Folder, Recording, RecordingFolder};
+use cborc_words::{Action, Request, Task, Verbosity};
 use std::alloc::Global;
 use std::io::{self, Write};
 
-/// Does what is asked for, reports it in the verbosity that is asked for, and answers the status with
-/// which the program ends. All that was written to `out` is sent on before that.
+/// Performs the task, reports it in its verbosity, and returns the exit status. `out` is flushed
+/// before that.
 pub fn perform<F: Folder, O: Write, E: Write>(
     alloc: Global,
     task: &Task<'_>,
@@ -46,7 +46,7 @@ pub fn perform<F: Folder, O: Write, E: Write>(
     }
 }
 
-// Answers the request, explains a fault on standard error, and returns the status.
+// Performs the request, explains a fault on standard error, and returns the status.
 fn answer_explained<F: Folder, O: Write, E: Write>(
     alloc: Global,
     request: &Request<'_>,
@@ -64,7 +64,7 @@ fn answer_explained<F: Folder, O: Write, E: Write>(
     end_explained(alloc, request, sent, &memory, err)
 }
 
-// Writes the line of a fault and its explanation, and answers the status.
+// Writes the line of a fault and its explanation, and returns the status.
 fn end_explained<F: Folder, E: Write>(
     alloc: Global,
     request: &Request<'_>,
@@ -81,7 +81,7 @@ fn end_explained<F: Folder, E: Write>(
     status
 }
 
-// Answers the request without a word, and returns the status: standard output takes canonical bytes alone.
+// Performs the request without any line, and returns the status. Standard output gets canonical bytes only.
 fn answer_quietly<F: Folder, O: Write>(
     alloc: Global,
     request: &Request<'_>,
@@ -103,7 +103,7 @@ fn answer_quietly<F: Folder, O: Write>(
     }
 }
 
-/// The end, once all that was written to `out` is sent on.
+/// Flushes `out`, and returns the end, or the fault of the flush.
 pub fn flushed<'a, O: Write>(
     ended: Result<Status, Fault<'a>>,
     out: &mut O,
@@ -117,7 +117,7 @@ pub fn flushed<'a, O: Write>(
     }
 }
 
-/// Writes the line of a fault, and answers the status.
+/// Writes the line of a fault, and returns the status.
 pub fn end<E: Write>(ended: Result<Status, Fault<'_>>, err: &mut E) -> u8
     ensures { result ≡ status_number (end_status ended.entry) }
 {
@@ -131,7 +131,7 @@ pub fn end<E: Write>(ended: Result<Status, Fault<'_>>, err: &mut E) -> u8
     status as u8
 }
 
-// Does what is asked for.
+// Performs the request.
 fn answer<'a, F: Folder, O: Write>(
     alloc: Global,
     request: &Request<'a>,

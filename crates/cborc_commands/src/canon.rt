@@ -8,16 +8,16 @@ ghost use Rattle.cborc_files.specs.Folder.{KeepsFiles};
 
 use crate::fault::Fault;
 use crate::input::{Judge, read_item};
-use crate::request::{Accepted, Options, Output};
 use crate::texts::canonical_text;
 use cbor_head::{KeyOrder, Limits};
 use cbor_item::write_whole;
 use cborc_files::{Folder, is_stream};
+use cborc_words::{Accepted, Options, Output};
 use std::alloc::Global;
 use std::io::Write;
 
-/// Writes the canonical bytes of the item in the file `source` to the output: all of them, or none,
-/// so that a file there is replaced whole or left as it was.
+/// Writes the canonical bytes of the item in the file `source` to the output: all of them, or none.
+/// So a file is replaced whole or left unchanged.
 pub fn canon<'a, F: Folder, O: Write>(
     alloc: Global,
     files: &mut F,
@@ -44,7 +44,7 @@ pub fn canon<'a, F: Folder, O: Write>(
     put(files, out, path, text.as_slice())
 }
 
-// Puts the text where it belongs: for the path `-` behind what standard output took.
+// Writes the text to the file at the path, or to standard output for the path `-`.
 fn put<'a, F: Folder, O: Write>(
     files: &mut F,
     out: &mut O,

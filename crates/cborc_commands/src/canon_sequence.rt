@@ -9,19 +9,19 @@ ghost use Rattle.cborc_commands.specs.inner.SequenceItems.{IsUnwritten};
 
 use crate::fault::Fault;
 use crate::first_item::Scratch;
-use crate::request::{Form, Options, Output};
 use crate::sequence::{ItemWriter, unless_cut, write_items};
 use crate::texts::formed;
 use cbor_head::{KeyOrder, Limits, Reason, Refusal};
 use cbor_item::write_whole;
 use cborc_files::{Folder, is_stream};
+use cborc_words::{Form, Options, Output};
 use std::alloc::Global;
 use std::borrow::CowSlice;
 use std::io::Write;
 
-/// Writes the canonical bytes of each item of the sequence that the file `source` is to the output,
-/// one behind another, as they come: a file there is replaced by those of all, or left as it was. Of
-/// what standard output took before a refusal, all stays.
+/// Writes the canonical bytes of each item of the sequence in the file `source` to the output, one
+/// after another. A file is replaced with those of all items, or left unchanged. Bytes that were
+/// written to standard output before a refusal stay.
 pub fn canon_sequence<'a, F: Folder, O: Write>(
     alloc: Global,
     files: &mut F,
@@ -48,8 +48,7 @@ pub fn canon_sequence<'a, F: Folder, O: Write>(
     Ok(())
 }
 
-// Writes them to a file that takes the place of the one at the path of the output, whatever standard
-// output took.
+// Writes them to a file that replaces the one at the output's path. Standard output gets nothing.
 fn replace_file<'a, F: Folder>(
     alloc: Global,
     files: &mut F,
@@ -87,7 +86,7 @@ fn replace_file<'a, F: Folder>(
     }
 }
 
-// Items of which the canonical bytes are written.
+// Writes the canonical bytes of items.
 #[derive(Clone, Copy)]
 struct CanonicalItems {
     order: KeyOrder,

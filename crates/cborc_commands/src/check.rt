@@ -12,14 +12,14 @@ ghost use Rattle.cborc_files.specs.Folder.{KeepsFiles};
 use crate::fault::Fault;
 use crate::first_item::Scratch;
 use crate::input::{Judge, read_item};
-use crate::request::{Accepted, Options};
 use cbor_head::{Limits, Reason, Refusal};
 use cbor_item::write_whole;
 use cborc_files::Folder;
+use cborc_words::{Accepted, Options};
 use std::alloc::Global;
 use std::io::Write;
 
-/// Writes to `out` how many bytes the item has that the file `source` is.
+/// Writes the number of bytes of the item in the file `source` to `out`.
 pub fn check<'a, F: Folder, O: Write>(
     alloc: Global,
     files: &mut F,
@@ -44,7 +44,7 @@ pub fn check<'a, F: Folder, O: Write>(
     report(alloc, out, size)
 }
 
-// Writes the line of an item that is accepted, of so many bytes.
+// Writes the line of an accepted item, with its number of bytes.
 fn report<'a, O: Write>(alloc: Global, out: &mut O, size: u64) -> Result<(), Fault<'a>>
     ensures reported { OnOk result
         (Appends (O.contents out.old) (O.contents out.new) (accepted_bytes size)) }
@@ -62,7 +62,7 @@ fn report<'a, O: Write>(alloc: Global, out: &mut O, size: u64) -> Result<(), Fau
     }
 }
 
-/// How many bytes the item has that all the bytes are; the refusal is the item's, then `Trailing`.
+/// The number of bytes of the item that the bytes are. The refusal is the item's, or else `Trailing`.
 pub(crate) fn size_of_item(
     scratch: &mut Scratch,
     bytes: &[u8],

@@ -12,15 +12,15 @@ ghost use Rattle.cborc_commands.specs.inner.SequenceItems.{IsUncounted};
 
 use crate::fault::Fault;
 use crate::first_item::Scratch;
-use crate::request::{Accepted, Options};
 use crate::sequence::{ItemWriter, unless_cut, write_items};
 use cbor_head::Limits;
 use cbor_item::write_whole;
 use cborc_files::Folder;
+use cborc_words::{Accepted, Options};
 use std::alloc::Global;
 use std::io::{self, Write};
 
-/// Writes to `out` how many items the sequence has that the file `source` is.
+/// Writes the number of items of the sequence in the file `source` to `out`.
 pub fn check_sequence<'a, F: Folder, O: Write>(
     alloc: Global,
     files: &mut F,
@@ -43,7 +43,7 @@ pub fn check_sequence<'a, F: Folder, O: Write>(
     report(alloc, out, count)
 }
 
-// Writes the line of a sequence that is accepted, of so many items.
+// Writes the line of an accepted sequence, with its number of items.
 fn report<'a, O: Write>(alloc: Global, out: &mut O, count: usize) -> Result<(), Fault<'a>>
     ensures reported { OnOk result
         (Appends (O.contents out.old) (O.contents out.new) (accepted_items count)) }
@@ -61,10 +61,10 @@ fn report<'a, O: Write>(alloc: Global, out: &mut O, count: usize) -> Result<(), 
     }
 }
 
-// Items that are only counted.
+// Counts items.
 #[derive(Clone, Copy)]
 struct CountedItems {
-    // Which ones are accepted.
+    // Which items are accepted.
     accepted: Accepted,
 }
 

@@ -7,18 +7,18 @@ ghost use Rattle.cborc_files.specs.Folder.{KeepsFiles};
 
 use crate::fault::Fault;
 use crate::input::{Judge, read_item};
-use crate::request::{Accepted, Options};
 use crate::status::Status;
 use cbor_head::Limits;
 use cbor_item::write_whole;
 use cbor_reader::laws::valid_items;
 use cbor_reader::same_meaning;
 use cborc_files::Folder;
+use cborc_words::{Accepted, Options};
 use std::alloc::Global;
 use std::io::Write;
 
-/// Writes to `out` whether the items that two files are have the same value. Both are read, and
-/// decoded from hex, before either is judged.
+/// Writes to `out` whether the items in two files have the same value. Both are read, and decoded
+/// from hex, before either is judged.
 pub fn compare<'a, F: Folder, O: Write>(
     alloc: Global,
     files: &mut F,
@@ -49,7 +49,7 @@ pub fn compare<'a, F: Folder, O: Write>(
     )
 }
 
-// Writes to `out` whether two inputs are items of the same value. The status says it too.
+// Writes to `out` whether two inputs are items with the same value. The status says so too.
 fn report<'a, O: Write>(
     alloc: Global,
     out: &mut O,

@@ -8,14 +8,14 @@ ghost use Rattle.cborc_files.specs.Folder.{KeepsFiles};
 use crate::fault::Fault;
 use crate::input::{Judge, read_item};
 use crate::listing::list_prefix;
-use crate::request::{EventStyle, Options};
 use cbor_head::{Limits, Reason, Refusal};
 use cborc_files::Folder;
+use cborc_words::{EventStyle, Options};
 use std::alloc::Global;
 use std::io::Write;
 
-/// Writes to `out` the lines of the events of the item that the file `source` is. What was written
-/// before a refusal stays.
+/// Writes the lines of the events of the item in the file `source` to `out`. Lines that were written
+/// before a refusal stay.
 pub fn events<'a, F: Folder, O: Write>(
     alloc: Global,
     files: &mut F,
@@ -36,7 +36,7 @@ pub fn events<'a, F: Folder, O: Write>(
     list(event_style, bytes.as_slice(), limits, out)
 }
 
-// Writes the lines of the item that all the bytes are; the refusal is that of its form, then
+// Writes the lines of the item that the bytes are. The refusal is that of the item's form, or else
 // `Trailing`.
 fn list<'a, W: Write>(
     event_style: EventStyle,

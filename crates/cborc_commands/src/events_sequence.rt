@@ -12,17 +12,17 @@ ghost use Rattle.cborc_commands.specs.inner.SequenceItems.{IsItemNotListed};
 use crate::fault::Fault;
 use crate::first_item::Scratch;
 use crate::listing::{is_undecided, list_prefix};
-use crate::request::{EventStyle, Options};
 use crate::sequence::{ItemWriter, write_items};
 use cbor_head::Limits;
 use cbor_item::write_whole;
 use cborc_files::Folder;
+use cborc_words::{EventStyle, Options};
 use std::alloc::Global;
 use std::io::Write;
 
-/// Writes to `out` the lines of the events of each item of the sequence that the file `source` is, with
-/// an empty line before each item but the first. The offsets are counted from the start of the input.
-/// What was written before a refusal, or before hex text that is none, stays.
+/// Writes the lines of the events of each item of the sequence in the file `source` to `out`, with an
+/// empty line before each item but the first. Offsets count from the start of the input. Lines that
+/// were written before a refusal, or before a fault of hex text, stay.
 pub fn events_sequence<'a, F: Folder, O: Write>(
     alloc: Global,
     files: &mut F,
@@ -49,7 +49,7 @@ pub fn events_sequence<'a, F: Folder, O: Write>(
     Ok(())
 }
 
-// Items of which the lines are written.
+// Writes the lines of items.
 #[derive(Clone, Copy)]
 struct ListedItems {
     event_style: EventStyle,
@@ -81,7 +81,7 @@ impl ItemWriter for ListedItems {
     }
 }
 
-// Writes the empty line before an item that starts there, if it is not the first.
+// Writes the empty line before the item at this offset, unless it is the first.
 fn write_gap<'a, W: Write>(start: usize, out: &mut W) -> Result<(), Fault<'a>>
     ensures written { OnOk result
         (Appends (W.contents out.old) (W.contents out.new) (gap start)) }

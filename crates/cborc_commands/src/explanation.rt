@@ -1,18 +1,18 @@
-//! What the line of a fault means, and what to do.
+//! Explains the line of a fault.
 
-ghost use Rattle.std.specs.Prelude.{◌≡◌};
+ghost use Rattle.std.specs.Prelude.{◌≡◌, ◌+◌, ◌-◌, ◌^◌, min, option_map};
 ghost use Rattle.cborc_commands.specs.inner.Explained.{cause_text, last_source};
 
 use crate::fault::Fault;
-use crate::request::{Action, Options, Request};
 use cbor_diag::write_sentences;
 use cbor_head::Refusal;
 use cborc_files::{Cause, Folder, RecordingFolder, Visible, is_stream};
+use cborc_words::{Action, Options, Request};
 use std::alloc::Global;
 use std::io::{self, ErrorKind, Write};
 
-/// Writes what the line of a fault means and what to do, and of a refusal the file, the bytes around
-/// its place and the way there. What the answer speaks of stands in the memory.
+/// Writes what the line of a fault means and what to do. For a refusal it also writes the file, the
+/// bytes around the offset and the path to it. `memory` has the bytes that the fault is about.
 pub(crate) fn explain<F: Folder, E: Write>(
     alloc: Global,
     request: &Request<'_>,
@@ -35,53 +35,68 @@ pub(crate) fn explain<F: Folder, E: Write>(
             explain_refusal(alloc, memory.earlier(), options, *refusal, err)
         }
         Fault::RefusedItem { start, refusal, .. } => {
-            write_file(request.source, Some(*start), err)?;
+            write_file(request.source, Some((*start, refusal.place)), err)?;
             explain_refusal(alloc, memory.last(), options, *refusal, err)
         }
         Fault::CannotRead(_) | Fault::CannotWrite(_) => write_cause(memory.cause(), err),
         Fault::NotHex(_) => {
             writeln!(
                 err,
-                "  With --hex the input is hex digits, two for each byte, and white space."
+                "  With --hex, the input must consist of hex digits, two for each byte, and white space."
             )?;
             match memory.hex_error() {
                 Some(hex_error) => hex_error.write(err),
                 None => Ok(()),
             }
         }
-        Fault::CannotPrint => writeln!(err, "  It is closed or full, or was closed early."),
-        Fault::Memory => writeln!(err, "  A lower --bytes asks for less memory."),
+        Fault::CannotPrint => writeln!(err, "  Standard output is closed or full."),
+        Fault::Memory => writeln!(err, "  Use a lower --bytes to need less memory."),
         Fault::NotText(_) => Ok(()),
     }
 }
 
-// Writes which file is refused, and of an item of a sequence where it starts there.
-fn write_file<E: Write>(path: &str, start: Option<usize>, err: &mut E) -> io::Result<()> {
+// Writes which file is refused. For an item of a sequence it also writes the offset in the file and the
+// item's offset.
+fn write_file<E: Write>(path: &str, item: Option<(usize, u64)>, err: &mut E) -> io::Result<()> {
     if is_stream(path) {
         write!(err, "  in standard input")?;
     } else {
         write!(err, "  in {}", Visible(path))?;
     }
-    match start {
-        Some(start) => writeln!(err, ", where the item starts at {start}"),
+    match item {
+        Some((start, place)) => {
+            let offset = offset_in_input(start, place);
+            writeln!(err, ", at offset {offset}; the item starts at {start}")
+        }
         None => writeln!(err),
     }
 }
 
-// Writes what kept a file from being read or written.
+// The offset in the input of this offset in the item at `start`.
+fn offset_in_input(start: usize, place: u64) -> u64
+    ensures { result ≡ min (start + place) (2 ^ 64 - 1) }
+{
+    (start as u64).saturating_add(place)
+}
+
+// Writes why a file could not be read or written.
 fn write_cause<E: Write>(cause: Option<Cause>, err: &mut E) -> io::Result<()> {
-    match cause {
-        Some(Cause { kind, beside: true }) => writeln!(
-            err,
-            "  A new file beside it was not to be made. {}",
-            cause_text(Some(kind))
-        ),
-        Some(Cause { kind, .. }) => writeln!(err, "  {}", cause_text(Some(kind))),
-        None => writeln!(err, "  {}", cause_text(None)),
+    let Some(Cause { kind, code, beside }) = cause else {
+        return writeln!(err, "  The cause is unknown.");
+    };
+    if beside {
+        write!(err, "  A new file next to it could not be created.")?;
+    } else {
+        write!(err, " ")?;
+    }
+    match (cause_text(kind), code) {
+        (Some(text), _) => writeln!(err, " {text}"),
+        (None, Some(code)) => writeln!(err, " The system reports error {code}."),
+        (None, None) => writeln!(err, " The cause is unknown."),
     }
 }
 
-// The path of the file that a request reads last.
+// The path of the last file that a request reads.
 fn last_source<'a>(request: &Request<'a>) -> &'a str
     ensures { result.now ≡ last_source request.now }
 {
@@ -91,7 +106,7 @@ fn last_source<'a>(request: &Request<'a>) -> &'a str
     }
 }
 
-// Explains a refusal of the item at the start of what was read, if that is known.
+// Explains a refusal of the item at the start of these bytes, or without bytes only its reason.
 fn explain_refusal<E: Write>(
     alloc: Global,
     read: Option<&[u8]>,
@@ -105,20 +120,24 @@ fn explain_refusal<E: Write>(
     }
 }
 
-// What kept a file from being read or written.
-fn cause_text(cause: Option<ErrorKind>) -> &'static str
-    ensures { result.now ≡ cause_text cause }
+// Why a file could not be read or written, for the most common errors.
+fn cause_text(kind: ErrorKind) -> Option<&'static str>
+    ensures { option_map (λ text. text.now) result ≡ cause_text kind }
 {
-    match cause {
-        Some(ErrorKind::NotFound) => "There is no such file or folder.",
-        Some(ErrorKind::PermissionDenied) => "It is not permitted.",
-        Some(ErrorKind::IsADirectory) => "It is a folder.",
-        Some(ErrorKind::NotADirectory) => "A part of the path is no folder.",
-        Some(ErrorKind::ReadOnlyFilesystem) => "The file system is read-only.",
-        Some(ErrorKind::StorageFull) | Some(ErrorKind::QuotaExceeded) => "The disk is full.",
-        Some(ErrorKind::InvalidInput) => "The path has a NUL.",
-        Some(ErrorKind::InvalidFilename) => "The name is too long.",
-        Some(ErrorKind::FilesystemLoop) => "Links lead round in a circle.",
-        _ => "The cause is not known.",
+    match kind {
+        ErrorKind::NotFound => Some("There is no such file or folder."),
+        ErrorKind::PermissionDenied => Some("It is not permitted."),
+        ErrorKind::IsADirectory => Some("It is a folder."),
+        ErrorKind::NotADirectory => Some("A part of the path is not a folder."),
+        ErrorKind::ReadOnlyFilesystem => Some("The file system is read-only."),
+        ErrorKind::StorageFull | ErrorKind::QuotaExceeded => Some("The disk is full."),
+        ErrorKind::FileTooLarge => Some("The file would be larger than the system allows."),
+        ErrorKind::ExecutableFileBusy => Some("It is a running program."),
+        ErrorKind::ResourceBusy => Some("It is in use."),
+        ErrorKind::InvalidInput => Some("The path contains a NUL byte."),
+        ErrorKind::InvalidFilename => Some("The name is too long."),
+        ErrorKind::FilesystemLoop => Some("Symbolic links form a loop."),
+        ErrorKind::BrokenPipe => Some("Its reader has closed it."),
+        _ => None,
     }
 }

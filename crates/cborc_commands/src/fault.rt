@@ -1,4 +1,4 @@
-//! Why the program ends without its answer.
+//! Why the program ends without a result.
 
 ghost use Rattle.std.specs.Prelude.{◌≡◌};
 ghost use Rattle.cborc_files.specs.Digits.{IsOfText};
@@ -10,7 +10,7 @@ use cbor_reader::Side;
 use cborc_files::{DigitsFault, FileFault, Visible};
 use thiserror::Error;
 
-/// Why the program ends without its answer. Its text is the line on standard error.
+/// Why the program ends without a result. Its text is the line on standard error.
 #[derive(Clone, Copy, Debug, Error)]
 pub enum Fault<'a> {
     /// The bytes of the input are refused.
@@ -19,11 +19,11 @@ pub enum Fault<'a> {
     /// An item of the sequence in the input is refused.
     #[error("item {index} refused {refusal}")]
     RefusedItem {
-        /// Which item, counted from 1.
+        /// The number of the item, counted from 1.
         index: usize,
         /// The offset in bytes of its first byte in the input.
         start: usize,
-        /// Why it is refused; places are offsets from its first byte.
+        /// Why it is refused. Offsets count from its first byte.
         refusal: Refusal,
     },
     /// The bytes of the first of two inputs are refused.
@@ -32,19 +32,19 @@ pub enum Fault<'a> {
     /// The bytes of the second of two inputs are refused.
     #[error("right refused {0}")]
     RightRefused(Refusal),
-    /// The word of the command line with this number, where the program's name has 0, is not UTF-8.
-    #[error("word {0} is not UTF-8; a file by such a name is read as '- < FILE'")]
+    /// The argument with this number is not UTF-8. The program's name has the number 0.
+    #[error("argument {0} is not UTF-8; to read a file of such a name, use '- < FILE'")]
     NotText(usize),
-    /// The file at this path is not to be had.
+    /// The file at this path cannot be read.
     #[error("cannot read {}", Visible(.0))]
     CannotRead(&'a str),
-    /// The file at this path was to hold hex digits.
+    /// The file at this path is not hex text.
     #[error("not hex: {}", Visible(.0))]
     NotHex(&'a str),
-    /// The file at this path took not all of its bytes.
+    /// The file at this path cannot be written.
     #[error("cannot write {}", Visible(.0))]
     CannotWrite(&'a str),
-    /// Standard output took not all of the text.
+    /// Standard output cannot be written.
     #[error("cannot write standard output")]
     CannotPrint,
     /// Memory was refused.
@@ -53,7 +53,7 @@ pub enum Fault<'a> {
 }
 
 impl<'a> Fault<'a> {
-    /// The status with which the program ends.
+    /// The exit status.
     pub fn status(&self) -> Status
         ensures { result ≡ fault_status self.now }
     {
@@ -66,7 +66,7 @@ impl<'a> Fault<'a> {
         }
     }
 
-    /// The fault, reported of the item of this number of a sequence, which starts there in the input.
+    /// The fault of the item with this number in a sequence, at this offset of the input.
     pub fn at_item(self, index: usize, start: usize) -> Fault<'a>
         ensures { result ≡ at_item index start self.entry }
     {
@@ -119,7 +119,7 @@ impl<'a> From<Refusal> for Fault<'a> {
 
     fn from(refusal: Refusal) -> Fault<'a> {
         match refusal.reason {
-            // What is read are slices, so no read fails.
+            // Only slices are read, so no read fails.
             Reason::Memory | Reason::Read => Fault::Memory,
             _ => Fault::Refused(refusal),
         }

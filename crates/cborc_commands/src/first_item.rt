@@ -1,4 +1,4 @@
-//! The item at the start of some bytes: how many bytes it has, and its diagnostic text.
+//! The item at the start of some bytes: its size, and its diagnostic text.
 
 ghost use Rattle.std.specs.Prelude.{◌≡◌, ◌≢◌, ◌≤◌, ◌++◌, ℕ, codes, false, OnOk, IfOk, IfErr};
 ghost use Rattle.std.specs.Io.KnownBytes.{Appends};
@@ -7,7 +7,7 @@ ghost use Rattle.cbor_head.specs.Spelling.{Spelling, value_of};
 ghost use Rattle.cbor_head.specs.Value.{depth};
 ghost use Rattle.cbor_head.specs.Verdict.{IsVerdict, accepted};
 ghost use Rattle.cbor_head.specs.declared.limits.TheConstants.{MAX_DEPTH};
-ghost use Rattle.cbor_verdict.specs.Readers.{IsRead, IsUnread};
+ghost use Rattle.theory_verdicts.specs.Readers.{IsRead, IsUnread};
 ghost use Rattle.cbor_sinks.specs.BuiltPrefix.{IsBuiltPrefix};
 ghost use Rattle.cbor_item.specs.ViewValue.{view_value};
 ghost use Rattle.cborc_commands.specs.Rules.{rules_of};
@@ -16,16 +16,16 @@ ghost use Rattle.cborc_commands.specs.inner.Decided.{IsDecided};
 ghost use Rattle.cborc_commands.specs.inner.NotWritten.{IsNotTaken};
 
 use crate::fault::Fault;
-use crate::request::{Accepted, TextStyle};
 use bumpalo::Bump;
 use cbor_diag::{TextBuffer, diagnostic_view_indented};
 use cbor_head::{KeyOrder, Limits, Reason, Refusal};
 use cbor_item::{View, write_whole};
 use cbor_reader::{ItemCanonicaliser, ItemCheck, check_canonical, read_view};
+use cborc_words::{Accepted, TextStyle};
 use std::alloc::Global;
 use std::io::Write;
 
-/// Space for what is made of items, one after another. It keeps the memory that it took for them.
+/// Memory that is used for one item after another.
 #[derive(Drop)]
 pub struct Scratch {
     alloc: Global,
@@ -34,7 +34,7 @@ pub struct Scratch {
 }
 
 impl Scratch {
-    /// Of no item so far. Takes no memory.
+    /// Nothing yet. Does not allocate.
     pub fn new(alloc: Global) -> Scratch {
         Scratch {
             alloc,
@@ -43,7 +43,7 @@ impl Scratch {
         }
     }
 
-    /// How many bytes the item has that the bytes begin with.
+    /// The number of bytes of the item at the start of the bytes.
     #[inline(always)]
     pub fn size_at_start(
         &mut self,
@@ -60,8 +60,8 @@ impl Scratch {
         }
     }
 
-    /// Whether what stands behind these bytes may report more of the item that they begin with: they
-    /// end within it or with it.
+    /// Whether more bytes may change the verdict on the item at the start: the bytes end within it or
+    /// with it.
     pub fn is_undecided<'a>(
         &mut self,
         bytes: &[u8],
@@ -82,7 +82,7 @@ impl Scratch {
         }
     }
 
-    /// The canonical bytes of the item that the bytes begin with, and how many bytes the item has.
+    /// The canonical bytes of the item at the start of the bytes, and the item's number of bytes.
     pub fn canonical_at_start<'b>(
         &'b mut self,
         bytes: &'b [u8],
@@ -96,8 +96,8 @@ impl Scratch {
         self.canonical.canonicalise(bytes, limits, order)
     }
 
-    /// Writes the text of the item that the bytes begin with, which is known to be valid within these
-    /// limits, and a line feed. On one line it is made whole before the first byte is written.
+    /// Writes the text of the item at the start of the bytes, which is known to be valid within these
+    /// limits, and a line feed. On one line, the text is complete before its first byte is written.
     pub fn print_prefix<'a, O: Write>(
         &self,
         bytes: &[u8],
@@ -119,8 +119,8 @@ impl Scratch {
         }
     }
 
-    // Writes the text on one line. The space for the text is in a frame of its own, which is not there yet as
-    // the item is checked.
+    // Writes the text on one line. This is a function of its own so that the buffer of the text is not
+    // on the stack while the item is checked.
     #[inline(never)]
     fn print_on_one_line<'a, O: Write>(
         &self,
@@ -144,8 +144,8 @@ impl Scratch {
         }
     }
 
-    // Writes the text with one member or pair a line. Such a text can be thousands of times as long as the
-    // bytes, so it is not made in memory, but written as a view of them is gone over.
+    // Writes the text with one member or pair per line. Such a text can be thousands of times as long as
+    // the bytes, so it is not built in memory, but written while a view of the item is traversed.
     fn print_indented<'a, O: Write>(
         &self,
         bytes: &[u8],
@@ -187,7 +187,7 @@ fn print_line<'a, O: Write>(text: &[u8], out: &mut O) -> Result<(), Fault<'a>>
     }
 }
 
-// Writes the text of a view with one member or pair a line, and a line feed.
+// Writes the text of a view with one member or pair per line, and a line feed.
 fn print_view<'a, O: Write>(view: &View<'_>, out: &mut O) -> Result<(), Fault<'a>>
     requires { depth (view_value view.now) ≤ MAX_DEPTH }
     ensures shown { OnOk result (Appends (O.contents out.old) (O.contents out.new)

@@ -1,4 +1,4 @@
-//! What `canon` leaves in a folder that reports what it holds.
+//! `canon` over files in memory.
 
 ghost use Rattle.std.specs.Prelude.{◌≡◌, ◌≢◌, ℕ, List, OnOk, OnErr, IfErr, false};
 ghost use Rattle.cborc_commands.specs.Canon.{HoldsCanonical, IsNotHeld};
@@ -7,14 +7,14 @@ ghost use Rattle.cborc_files.specs.InMemory.{files_of};
 
 use crate::canon::canon;
 use crate::fault::Fault;
-use crate::request::{Form, Options, Output};
 use cbor_head::{KeyOrder, Limits};
 use cborc_files::FilesInMemory;
+use cborc_words::{Form, Options, Output};
 use std::alloc::Global;
 use std::io;
 
-/// Makes the file `target`, or replaces it: it then holds the canonical bytes of the item that the
-/// file `source` was. Both may be the same file.
+/// Creates the file `target`, or replaces it, with the canonical bytes of the item in the file
+/// `source`. Both may be the same file.
 pub fn canon_in_memory<'a>(
     alloc: Global,
     files: &mut FilesInMemory,

@@ -1,4 +1,4 @@
-//! The bytes of an input that is to be one item.
+//! Reads an input that is to be one item.
 
 ghost use Rattle.std.specs.Prelude.{◌≡◌, ◌⊎◌, ◌^◌, ◌<◌, true, false, IfOk, IfErr};
 ghost use Rattle.cborc_files.specs.Folder.{KeepsFiles};
@@ -10,26 +10,26 @@ use crate::fault::Fault;
 use crate::first_item::Scratch;
 use crate::input_parts::Parts;
 use crate::listing::is_undecided;
-use crate::request::{Accepted, Options};
 use cbor_head::Limits;
 use cborc_files::Folder;
+use cborc_words::{Accepted, Options};
 use std::alloc::Global;
 
-// How many bytes are read at first, where the limit is no lower.
+// The number of bytes of the first read, unless the limit is lower.
 const FIRST: u64 = 1_310_721;
 
-/// By what the first item of an input is judged.
+/// How the first item of an input is judged.
 #[derive(Clone, Copy)]
 pub enum Judge {
-    /// By its form alone.
+    /// By its form only.
     Form,
-    /// By what is accepted of it.
+    /// By these rules.
     Item(Accepted),
 }
 
-/// The first bytes of the input at this path: as many as decide whether it is one item within the
-/// limits, no more than twice as many as the item has, or 1,310,721. Where these are not enough, as
-/// many again are read, and all are judged again. Hex text is read to its end.
+/// The first bytes of the input at this path: enough to decide whether it is one item within the
+/// limits, and at most twice the item's size, or 1,310,721. While they are not enough, the number
+/// of bytes is doubled, and all are judged again. Hex text is read to its end.
 pub fn read_item<'a, F: Folder>(
     alloc: Global,
     files: &mut F,
@@ -56,7 +56,8 @@ pub fn read_item<'a, F: Folder>(
     }
 }
 
-// How many bytes of a file are read at first: as many as spell a byte more than the limit.
+// The number of bytes of a file that are read first: at most as many as encode one byte more than
+// the limit.
 fn first(hex: bool, limits: Limits) -> u64
     ensures some { 0 < result }
     ensures range { result < 2 ^ 63 }
@@ -65,7 +66,7 @@ fn first(hex: bool, limits: Limits) -> u64
     FIRST.min(if hex { 2 * most } else { most })
 }
 
-// Whether the input may go on, with what reports more of its first item.
+// Whether the input may continue, and this may change the verdict on its first item.
 fn may_report_more<'a>(
     parts: &Parts,
     scratch: &mut Scratch,

@@ -1,4 +1,4 @@
-//! An input that is read part by part.
+//! An input that is read in parts.
 
 ghost use Rattle.std.specs.Prelude.{◌≡◌, ◌+◌, ◌^◌, ◌<◌, ◌≤◌, [], length, drop, vec_len, not, true, false, OnOk, IfOk, IfErr};
 ghost use Rattle.cborc_files.specs.Folder.{KeepsFiles};
@@ -12,17 +12,17 @@ use cborc_files::Folder;
 use std::alloc::Global;
 use std::marker::Model;
 
-/// An input: the bytes of it that were read and are still to be taken.
+/// An input: its bytes that were read and not consumed yet.
 #[derive(Drop)]
 pub(crate) struct Parts {
     bytes: Vec<u8>,
-    // How many of them were taken.
+    // The number of these that were consumed.
     taken: usize,
-    // Where in the input the next one stands.
+    // The offset of the next byte in the input.
     start: usize,
-    // The file that they are read of.
+    // The file that they are read from.
     source: Source,
-    // How many bytes of it are read at a time, where an item does not ask for more.
+    // The number of bytes per read, unless an item needs more.
     least: u64,
 }
 
@@ -37,8 +37,8 @@ impl Model for Parts {
 }
 
 impl Parts {
-    /// The input at this path, of which a first part is read. No part is shorter than this but the
-    /// last one.
+    /// Opens the input at this path, and reads its first part. Only the last part may be shorter
+    /// than `least`.
     pub(crate) fn open<'a, F: Folder>(
         alloc: Global,
         files: &mut F,
@@ -58,7 +58,7 @@ impl Parts {
         Ok(parts)
     }
 
-    // An input of which nothing was read.
+    // An input that was not read yet.
     fn unread(alloc: Global, hex: bool, least: u64) -> Parts
         requires some { 0 < least }
         requires range { least < 2 ^ 63 }
@@ -75,14 +75,14 @@ impl Parts {
         }
     }
 
-    /// The bytes that were read and are still to be taken.
+    /// The bytes that were read and not consumed yet.
     pub(crate) fn rest(&self) -> &[u8]
         ensures { result.now ≡ self.now.rest }
     {
         &self.bytes[self.taken..]
     }
 
-    /// Where in the input they start.
+    /// Their offset in the input.
     pub(crate) fn start(&self) -> usize
         ensures is { result ≡ self.now.start }
         ensures range { result < 2 ^ 63 }
@@ -90,14 +90,14 @@ impl Parts {
         self.start
     }
 
-    /// Whether the input may go on behind them.
+    /// Whether the input may continue after them.
     pub(crate) fn goes_on(&self) -> bool
         ensures { result ≡ not self.now.source.ended }
     {
         !self.source.ended
     }
 
-    /// Whether there are none, and the input may go on.
+    /// Whether there are none, and the input may continue.
     pub(crate) fn is_spent(&self) -> bool
         ensures yes { result ≡ true → self.now.source.ended ≡ false }
         ensures no { result ≡ false → self.now.rest ≡ [] → self.now.source.ended ≡ true }
@@ -105,7 +105,7 @@ impl Parts {
         self.goes_on() && self.rest().is_empty()
     }
 
-    /// Takes so many of them.
+    /// Consumes this number of them.
     pub(crate) fn take(&mut self, size: usize)
         requires { size ≤ length self.old.rest }
         ensures rest { self.new.rest ≡ drop size self.old.rest }
@@ -116,8 +116,8 @@ impl Parts {
         self.start += size;
     }
 
-    /// Reads the next part of an input that goes on: as much of its file as bytes are still to be
-    /// taken, so that what an item is judged by doubles, or in hex text has half as many more.
+    /// Reads the next part of an input that continues: as many bytes of its file as are not consumed
+    /// yet. So the bytes of an item double with each read, or grow by half in hex text.
     pub(crate) fn read_on<'a, F: Folder>(
         &mut self,
         alloc: Global,
@@ -146,8 +146,8 @@ impl Parts {
         }
     }
 
-    /// The bytes that were read and are still to be taken, once an answer speaks of them: then hex
-    /// text is read to its end.
+    /// The bytes that were read and not consumed yet, once a result is about them. Hex text is read to
+    /// its end first.
     pub(crate) fn finish<'a, F: Folder>(
         self,
         alloc: Global,
@@ -169,12 +169,12 @@ impl Parts {
     }
 }
 
-// Drops the first bytes, so many, and moves the rest to their place.
+// Removes this number of bytes at the start, and moves the rest there.
 fn remove_prefix(bytes: &mut Vec<u8>, count: usize)
     requires { count ≤ vec_len bytes.old }
     ensures { bytes.new.items ≡ drop count bytes.old.items }
 {
-    // Nothing is moved to where it stands.
+    // Without any, moving the bytes would only cost time.
     if count > 0 {
         let length = bytes.len();
         bytes.as_mut_slice().copy_within(count..length, 0);

@@ -1,7 +1,7 @@
 //! The subcommands of the program `cborc`, over any folder and any two outputs: check, canon, compare, show and events.
 //!
-//! The program calls [`perform`], which carries out a [`Task`] and returns the exit status; each subcommand has a contract in
-//! terms of what files hold. [`canon_in_memory`] is `canon` over [`FilesInMemory`](cborc_files::FilesInMemory).
+//! The program calls [`perform`], which performs a [`Task`](cborc_words::Task) and returns the exit status. The contract of each subcommand
+//! says what it does by what the files hold. [`canon_in_memory`] is `canon` over [`FilesInMemory`](cborc_files::FilesInMemory).
 #![tactic(auto)]
 
 mod answer;
@@ -19,7 +19,6 @@ mod in_memory;
 mod input;
 mod input_parts;
 mod listing;
-mod request;
 mod sequence;
 mod show;
 mod show_sequence;
@@ -30,7 +29,4 @@ mod texts;
 pub use answer::{end, flushed, perform};
 pub use fault::Fault;
 pub use in_memory::canon_in_memory;
-pub use request::{
-    Accepted, Action, EventStyle, Form, Options, Output, Request, Task, TextStyle, Verbosity,
-};
 pub use status::Status;

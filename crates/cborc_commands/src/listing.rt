@@ -8,13 +8,13 @@ ghost use Rattle.cborc_commands.specs.inner.Decided.{IsDecided};
 ghost use Rattle.cborc_commands.specs.inner.Listed.{IsPrefixNotListed};
 
 use crate::fault::Fault;
-use crate::request::EventStyle;
 use cbor_head::{Limits, Reason, Refusal};
 use cbor_listing::{annotated, listing_from};
+use cborc_words::EventStyle;
 use std::io::{self, Write};
 
-/// Writes the lines of the item at the start of the bytes, which start there in the input, and
-/// answers how many bytes it has. The refusal is that of its form.
+/// Writes the lines of the item at the start of the bytes, which are at this offset of the input.
+/// Returns the item's number of bytes. The refusal is that of its form.
 pub fn list_prefix<'a, W: Write>(
     event_style: EventStyle,
     bytes: &[u8],
@@ -38,7 +38,7 @@ pub fn list_prefix<'a, W: Write>(
     }
 }
 
-// Writes them in this style.
+// Writes the lines in this style.
 fn write_lines<W: Write>(
     event_style: EventStyle,
     bytes: &[u8],
@@ -64,8 +64,8 @@ fn write_lines<W: Write>(
     }
 }
 
-/// Whether what stands behind these bytes may report more of the item at their prefix: by its form they
-/// end within it or with it.
+/// Whether more bytes may change the verdict on the form of the item at the start: the bytes end
+/// within it or with it.
 pub fn is_undecided(bytes: &[u8], limits: Limits) -> bool
     ensures { result ≡ false → IsDecided form limits bytes.now }
 {

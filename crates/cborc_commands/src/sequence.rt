@@ -1,4 +1,4 @@
-//! Sequences of items (RFC 8742): something is written of each item, one behind another.
+//! Sequences of items (RFC 8742): writes something for each item, one after another.
 
 ghost use Rattle.std.specs.Prelude.{◌≡◌, ◌≢◌, ◌++◌, ◌^◌, ◌<◌, ℕ, List, [], Option, None, MatchOption, IfOk, IfErr, true, false};
 ghost use Rattle.cbor_head.specs.Limits.{Bounds};
@@ -13,29 +13,29 @@ ghost use Rattle.cborc_commands.specs.inner.Items.{IsWritten, IsPutBack, AreWrit
 use crate::fault::Fault;
 use crate::first_item::Scratch;
 use crate::input_parts::Parts;
-use crate::request::Options;
 use crate::source::PART;
 use cbor_head::{Limits, Reason, Refusal};
 use cborc_files::Folder;
+use cborc_words::Options;
 use std::alloc::Global;
 use std::io::Write;
 
-/// What is written of each item of a sequence.
+/// Writes something for each item of a sequence.
 pub trait ItemWriter {
-    // Which items are taken.
+    // Which items are accepted.
     ghost takes: { Self → Bounds → Spelling → Type 0 };
 
-    // What is written of one that starts there in the input.
+    // What is written for an item at this offset of the input.
     ghost text: { Self → ℕ → Spelling → List ℕ };
 
-    // Why none is taken at the start of these bytes, which start there in the input, and what the
-    // output was and is then.
+    // Why no item is accepted at the start of these bytes, which are at this offset of the input, with
+    // the content of the output before and after.
     ghost stops: { Self → Bounds → ℕ → List ℕ → Fault → Option (List ℕ) → Option (List ℕ) → Type 0 };
 
-    /// Writes what is written of the item at the start of these bytes, which start there in the
-    /// input, and answers its size, with what it makes of it in `scratch`. Where the input may go on behind
-    /// them and they end within the item, none is answered, and nothing is written; any fault is
-    /// then that of the item, however the input goes on.
+    /// Writes what belongs to the item at the start of these bytes, which are at this offset of the
+    /// input, and returns its size. It may use the memory of `scratch`. If the input may continue
+    /// and the bytes end within the item, it returns `None` and writes nothing. So a fault does not
+    /// depend on how the input continues.
     fn write_item<'f, W: Write>(
         &self,
         alloc: Global,
@@ -56,10 +56,10 @@ pub trait ItemWriter {
             (W.contents out.old) (W.contents out.new)) };
 }
 
-/// Writes what is written of each item of the sequence that the input at this path is, and answers
-/// how many they are. The input is read as far as its items are taken, and hex text to its end: one
-/// that is none is reported in place of any other fault. The fault of an item that is refused reports its
-/// number and where it starts; what was written of those before it stays.
+/// Writes what belongs to each item of the sequence in the input at this path, and returns the number
+/// of items. The input is read as far as its items are accepted, and hex text to its end: a fault of
+/// hex text is reported instead of any other. The fault of a refused item has its number and its
+/// offset. What was written for the items before it stays.
 pub fn write_items<'a, V: ItemWriter, F: Folder, W: Write>(
     alloc: Global,
     writer: &V,
@@ -112,7 +112,7 @@ pub fn write_items<'a, V: ItemWriter, F: Folder, W: Write>(
     }
 }
 
-// Whether the bytes end before an item. With a limit of no bytes each item is too long instead.
+// Whether the bytes end before an item. With a limit of 0 bytes, each item is too long instead.
 fn ends_before(bytes: &[u8], limits: Limits) -> bool
     ensures yes { result ≡ true → EndsBefore limits.bytes bytes.now }
     ensures no { result ≡ false → ¬ EndsBefore limits.bytes bytes.now }
@@ -120,8 +120,8 @@ fn ends_before(bytes: &[u8], limits: Limits) -> bool
     bytes.is_empty() && limits.bytes() > 0
 }
 
-/// What comes of an item that is refused at the start of bytes behind which the input may go on: none
-/// is answered where they end within it.
+/// The result for an item that is refused at the start of some bytes: `None` if they end within the item
+/// and the input may continue.
 pub fn unless_cut<'f>(refusal: Refusal, goes_on: bool) -> Result<Option<usize>, Fault<'f>>
     ensures cut { IfOk result (λ taken. (taken ≡ None) × (goes_on ≡ true)) }
     ensures fault { IfErr result (λ fault. (fault ≡ refusal_fault refusal)

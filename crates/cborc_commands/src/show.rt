@@ -9,12 +9,12 @@ use crate::check::size_of_item;
 use crate::fault::Fault;
 use crate::first_item::Scratch;
 use crate::input::{Judge, read_item};
-use crate::request::{Accepted, Options, TextStyle};
 use cborc_files::Folder;
+use cborc_words::{Accepted, Options, TextStyle};
 use std::alloc::Global;
 use std::io::Write;
 
-/// Writes to `out` the diagnostic text of the item that the file `source` is, and a line feed.
+/// Writes the diagnostic text of the item in the file `source` to `out`, and a line feed.
 pub fn show<'a, F: Folder, O: Write>(
     alloc: Global,
     files: &mut F,

@@ -10,15 +10,16 @@ ghost use Rattle.cborc_commands.specs.inner.SequenceItems.{IsItemNotShown};
 
 use crate::fault::Fault;
 use crate::first_item::Scratch;
-use crate::request::{Accepted, Options, TextStyle};
 use crate::sequence::{ItemWriter, unless_cut, write_items};
 use cbor_head::Limits;
 use cborc_files::Folder;
+use cborc_words::{Accepted, Options, TextStyle};
 use std::alloc::Global;
 use std::io::Write;
 
-/// Writes to `out` the diagnostic text of each item of the sequence that the file `source` is, with
-/// a line feed behind each. What was written before a refusal, or before hex text that is none, stays.
+/// Writes the diagnostic text of each item of the sequence in the file `source` to `out`, with a line
+/// feed after each. Texts that were written before a refusal, or before a fault of hex text,
+/// stay.
 pub fn show_sequence<'a, F: Folder, O: Write>(
     alloc: Global,
     files: &mut F,
@@ -45,7 +46,7 @@ pub fn show_sequence<'a, F: Folder, O: Write>(
     Ok(())
 }
 
-// Items of which the diagnostic text is written.
+// Writes the diagnostic text of items.
 #[derive(Clone, Copy)]
 struct ShownItems {
     text_style: TextStyle,

@@ -1,4 +1,4 @@
-//! A file that is read part by part, as it stands or as hex text.
+//! A file that is read in parts, as bytes or as hex text.
 
 ghost use Rattle.std.specs.Prelude.{◌≡◌, ◌⊎◌, ◌+◌, ◌^◌, ◌<◌, ◌≤◌, length, true, false, OnOk, IfOk, IfErr};
 ghost use Rattle.cborc_files.specs.Digits.{IsOfText, SpellsOn, IsWhole};
@@ -10,24 +10,24 @@ use crate::fault::Fault;
 use cborc_files::{Digits, DigitsFault, Folder};
 use std::alloc::Global;
 
-/// How many bytes of a file are read at a time, where an item does not ask for more.
+/// The number of bytes per read of a file, unless an item needs more.
 pub(crate) const PART: u64 = 65_536;
 
-/// A file of which a prefix was read.
+/// A file, of which a prefix was read.
 #[derive(Drop)]
 pub(crate) struct Source {
     /// Whether it is hex text.
     pub hex: bool,
-    /// How its digits stand, if it is.
+    /// The state of its digits, if it is.
     pub digits: Digits,
-    /// How many of its bytes were read.
+    /// The number of its bytes that were read.
     pub size: u64,
-    /// Whether it ends with them.
+    /// Whether the file ends after them.
     pub ended: bool,
 }
 
 impl Source {
-    /// One of which nothing was read.
+    /// A file that was not read yet.
     pub(crate) fn new(hex: bool) -> Source
         ensures { IsFresh hex result }
     {
@@ -39,7 +39,7 @@ impl Source {
         }
     }
 
-    /// Reads its next part, of so many bytes if there are, and appends these, or what they spell.
+    /// Reads the next part, of at most `most` bytes, and appends its bytes, or those that it encodes.
     pub(crate) fn append<'a, F: Folder>(
         &mut self,
         alloc: Global,
@@ -79,7 +79,7 @@ impl Source {
         }
     }
 
-    // Appends its next part itself, and answers how many bytes that has.
+    // Appends the bytes of the next part as they are, and returns their number.
     fn read_part<'a, F: Folder>(
         &self,
         alloc: Global,
@@ -105,8 +105,8 @@ impl Source {
         }
     }
 
-    /// Reads hex text to its end, so that there is an input, of which a verdict can speak. What it
-    /// spells is dropped.
+    /// Reads hex text to its end, because only valid hex text has a verdict. The bytes that it encodes
+    /// are dropped.
     pub(crate) fn read_out<'a, F: Folder>(
         &mut self,
         alloc: Global,
@@ -127,7 +127,7 @@ impl Source {
         Ok(())
     }
 
-    // Whether it is to be hex text and may go on.
+    // Whether the file is read as hex text and may continue.
     fn may_be_no_hex(&self) -> bool
         ensures yes { result ≡ true → self.now.ended ≡ false }
         ensures no { result ≡ false → (self.now.ended ≡ true) ⊎ (self.now.hex ≡ false) }
@@ -136,7 +136,7 @@ impl Source {
     }
 }
 
-// Appends what the next part of a text spells, its last one if the text ends with it.
+// Appends the bytes that the next part of a text encodes. `ends` says that it is the last part.
 fn decode(
     digits: &mut Digits,
     text: &[u8],

@@ -1,14 +1,14 @@
-//! The statuses with which the program ends.
+//! The exit statuses of the program.
 
-/// How the program ends; the number is its status.
+/// How the program ends. The number is the exit status.
 #[derive(Clone, Copy, Debug, PartialEq, Eq)]
 pub enum Status {
-    /// The input was accepted, or both inputs were and mean the same.
+    /// The input was accepted, or both inputs were and have the same value.
     Accepted = 0,
-    /// The input was refused, or both inputs were accepted and mean something different.
+    /// The input was refused, or both inputs were accepted and have different values.
     Refused = 1,
-    /// The words of the command line ask for nothing that the program does.
+    /// The command line has a usage error.
     Misused = 2,
-    /// A file, its hex, the output or memory failed.
+    /// A file, its hex text, the output or memory failed.
     Failed = 3,
 }

@@ -6,14 +6,14 @@ ghost use Rattle.cborc_commands.specs.Texts.{in_form, IsCanonicalText};
 ghost use Rattle.cborc_commands.specs.inner.NotWritten.{IsNoText};
 
 use crate::fault::Fault;
-use crate::request::Form;
 use cbor_head::{KeyOrder, Limits};
 use cbor_reader::canonical_bytes;
+use cborc_words::Form;
 use std::alloc::{AllocError, Global};
 use std::borrow::CowSlice;
 
-/// The canonical bytes of the item that all the bytes are, in the form that is asked for. What is
-/// canonical is answered as it stands.
+/// The canonical bytes of the item that the bytes are, in the requested form. Canonical bytes are
+/// returned unchanged.
 pub fn canonical_text<'a, 'b>(
     alloc: Global,
     bytes: &'b [u8],
@@ -32,7 +32,7 @@ pub fn canonical_text<'a, 'b>(
     }
 }
 
-/// Bytes in a form: as they stand, or two hex digits for each and a line feed.
+/// Bytes in a form: unchanged, or two hex digits for each and a line feed.
 pub fn formed<'b>(
     alloc: Global,
     bytes: CowSlice<'b, u8>,

@@ -1,18 +1,18 @@
--- Bytes that a reader gave, behind those that were there.
+-- Bytes of a reader, appended to others.
 use Rattle.std.proofs.Common.{ℕ, ◌+◌, ◌-◌, ◌≡◌, ◌≤◌, None, Option, List, ◌++◌, append_assoc, length, length-append, take, drop, replicate, sym, ap, ◌∙◌, arith, length-take-le, take_all}
 use Rattle.std.specs.declared.io.ErrorKind.TheVariants as kinds
 use Rattle.std.proofs.{Math.Seq.drop-append_seam, lemmas.List.length-replicate, lemmas.List.take-append-le, KnownBytes.Consumes-trans, KnownBytes.Consumes-kept}
 use Rattle.std.specs.{Io.KnownBytes.Consumes, Io.KnownBytes.Keeps, declared.io.ErrorKind.ErrorKind}
 use Rattle.cborc_files.specs.{Folder.ReadsOn, Disk.IsAppended, Disk.IsCutShort}
 
--- To the old bytes was added what a reader lost; so many of those that are wanted are left.
+-- The bytes that were read were added to the old ones, and this number of the requested bytes is left.
 pub record IsTaken (most left : ℕ) (before now : Option (List ℕ)) (old new : List ℕ) : Type 0 where
   pub added : List ℕ
   pub is : new ≡ old ++ added
   pub size : length added + left ≡ most
   pub lost : Consumes before now added
 
--- one part more, of those that are left: the prefix of a buffer
+-- one more part of those that are left: the prefix of a buffer
 pub one_part : (most left count : ℕ) (before now after : Option (List ℕ)) (old mid new buf rest : List ℕ) → IsTaken most left before now old mid
     → new ≡ mid ++ take count (buf ++ rest) → count ≤ length buf → count ≤ left → Consumes now after (take count buf) → IsTaken most (left - count) before after old new
 one_part most left count before now after old mid new buf rest t is within few lost =
@@ -24,7 +24,7 @@ one_part most left count before now after old mid new buf rest t is within few l
       lost = Consumes-trans before now after t.added part t.lost lost;
     }
 
--- a read that gave none
+-- a read that returned no bytes
 pub none_lost : (most left : ℕ) (before now after : Option (List ℕ)) (old new : List ℕ) → IsTaken most left before now old new → Keeps now after
     → IsTaken most left before after old new
 none_lost most left before now after old new t kept = record { added = t.added; is = t.is; size = t.size; lost = Consumes-kept before now after t.added t.lost kept }
@@ -40,7 +40,7 @@ cut_by_memory kind most left before now after old new part t lost memory = recor
   memory = λ _. memory;
 }
 
--- of a folder that does not report what it holds: some file has them there
+-- a folder that does not say what it holds: some file has these bytes there
 pub some_file : (path : List ℕ) (from most few : ℕ) (old new : List ℕ) → IsAppended few old new → few ≤ most → ReadsOn None path from most old new
 some_file path from most few old new a l = record {
   whole = replicate from 0 ++ a.added;

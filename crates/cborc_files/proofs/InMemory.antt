@@ -1,4 +1,4 @@
--- What a look-up holds in which one path was given a file.
+-- The files after one path got a file.
 use Rattle.std.proofs.Common.{ℕ, ◌≡◌, ◌≢◌, ◌∙◌, ap, refl, Bool, true, false, cond, List, Option, Some, option_map, sym}
 use Rattle.std.{specs.Map.update, specs.Str.bytes_eq, proofs.lemmas.Bool.false_from_ne_true, proofs.lemmas.Slice.Eq.bytes_eq-Decides}
 use Rattle.cborc_files.specs.Folder.{ReplacesFile}

@@ -1,4 +1,4 @@
--- Where the byte behind some bytes of a text stands.
+-- The position after some bytes of a text.
 use Rattle.std.proofs.Common.{ℕ, ◌+◌, ◌<◌, ◌≡◌, ◌∙◌, List, [], ◌∷◌, ◌++◌, length, take, slice_index, fold, refl, sym, ap, subst, arith}
 use Rattle.std.proofs.lemmas.List.{take_more, Sums.fold-append}
 use Rattle.cborc_files.specs.declared.hex_text.DigitsFault.TheVariants as faults
@@ -8,7 +8,7 @@ use Rattle.cborc_files.specs.{declared.hex_text.DigitsFault.DigitsFault, declare
 pub stays : (d : DigitsView) → MovesOn [] d d
 stays d = record { line = refl; column = refl }
 
--- a byte behind others
+-- a byte after others
 folds : (f : ℕ → ℕ → ℕ) (from middle to : ℕ) (text : List ℕ) (byte : ℕ) → middle ≡ fold f from text → to ≡ fold f middle (byte ∷ []) → to ≡ fold f from (text ++ byte ∷ [])
 folds f from middle to text byte e last = last ∙ ap (λ (n : ℕ). fold f n (byte ∷ [])) e ∙ sym (fold-append f from text (byte ∷ []))
 

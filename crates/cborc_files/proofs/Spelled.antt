@@ -1,4 +1,4 @@
--- What the digits of a text spell, and one more.
+-- What the digits of a text encode, and one more digit.
 use Rattle.std.proofs.Common.{ℕ, ◌+◌, ◌*◌, ◌%◌, ◌<◌, ◌≡◌, Bool, true, false, List, [], ◌∷◌, ◌++◌, length, take, drop, slice_index, Option, Some, None, Result, Ok, Err, refl, sym, ap, ◌∙◌, subst, arith, eq-eqb, append_assoc, length-append, ◌==◌, if◌then◌else◌, IsErr, append-nil, take-append-drop}
 use Rattle.std.{specs.List.filter, proofs.lemmas.List.drop_more, proofs.lemmas.List.take_more, proofs.lemmas.List.Elements.filter-append}
 use Rattle.hex.specs.Hex.{decode_of, decode_pairs, digit_or_error, hex_digit_value, pair_value, value_at, ◌>>=◌}
@@ -131,7 +131,7 @@ module _ (before : List ℕ) where
       };
     }
 
-    -- behind a digit that waits
+    -- after a digit whose second digit is expected
     pub completes : (high : ℕ) (after : List ℕ) → after ≡ before ++ (high * 16 + value) ∷ [] → SpellsOn (byte ∷ []) (digits_view line column (Some high)) (digits_view line column None) before after
     completes high after e = record {
       more = (high * 16 + value) ∷ [];
@@ -171,7 +171,7 @@ module _ (text : List ℕ) (i : ℕ) (within : i < length text) (old middle : Di
         (k.goes_on (earlier ++ take i text) (spelled ++ h.more) (h.goes_on earlier spelled s)));
   })
 
-  -- that one is no digit
+  -- that byte is not a digit
   pub hex_error_behind : IsHexErrorIn (slice_index text i ∷ []) middle → IsHexErrorIn text old
   hex_error_behind k earlier spelled more s =
       let there : (earlier ++ take i text) ++ slice_index text i ∷ (drop (i + 1) text ++ more) ≡ earlier ++ (text ++ more) =

@@ -5,6 +5,6 @@ use Rattle.std.specs.Prelude.{ℕ, Bool, ◌==◌, ◌||◌, not}
 abbrev pub is_white : ℕ → Bool
 is_white b = b == 9 || b == 10 || b == 13 || b == 32
 
--- what is left of hex text when white space is dropped
+-- a byte that is not white space
 abbrev pub is_kept : ℕ → Bool
 is_kept b = not (is_white b)

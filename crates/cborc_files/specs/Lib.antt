@@ -5,3 +5,4 @@ pub mod Hex
 pub mod InMemory
 pub mod Place
 pub mod Recording
+pub mod Visible

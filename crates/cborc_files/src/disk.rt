@@ -12,22 +12,22 @@ use std::io::{self, BufWriter, ErrorKind, Input, Read, Write};
 use std::random::RandomSource;
 use std::rt::Files;
 
-/// No file of the machine is longer.
+/// The maximum length of a file on the machine.
 pub const LONGEST: u64 = i64::MAX as u64;
 
-/// The files that a runtime reaches, and its standard input. Other programs change them too, so that
-/// nothing can be reported of what they hold: its `held` is left out.
+/// The machine's files, and standard input. Other programs change them too, so a contract cannot
+/// say what they hold: `held` keeps its default.
 #[derive(Drop)]
 pub struct Disk<'a, R: Files + Input + RandomSource + AllocGlobal> {
     rt: &'a R,
-    // The file that was begun last, if it is none of the standard streams.
+    // The file that was opened last, if it is not a standard stream.
     open: Option<R::File>,
-    // What the last call met that failed.
+    // The cause of the last failure.
     cause: Option<Cause>,
 }
 
 impl<'a, R: Files + Input + RandomSource + AllocGlobal> Disk<'a, R> {
-    /// The files that this runtime reaches.
+    /// The files that this runtime can access.
     pub fn new(rt: &'a R) -> Disk<'a, R> {
         Disk {
             rt,
@@ -36,8 +36,8 @@ impl<'a, R: Files + Input + RandomSource + AllocGlobal> Disk<'a, R> {
         }
     }
 
-    // Appends the next bytes of what a path stands for, so many if it has them: its first ones, or
-    // those behind what was read of it last.
+    // Appends the next bytes of the file at a path, at most this number: its first bytes, or those
+    // after the last read.
     fn append_next(
         &mut self,
         path: &str,
@@ -74,7 +74,7 @@ impl<'a, R: Files + Input + RandomSource + AllocGlobal> Folder for Disk<'a, R> {
         Ok(bytes)
     }
 
-    // The offset reports only whether a file is begun: what is open stands behind what was read of it.
+    // The offset only says whether to open the file: an open file continues after its last read.
     fn read_on(
         &mut self,
         _alloc: Global,
@@ -103,7 +103,7 @@ impl<'a, R: Files + Input + RandomSource + AllocGlobal> Folder for Disk<'a, R> {
         _path: &str,
         mut draft: BufWriter<Replacement<'a, R>>,
     ) -> Result<(), FileFault> {
-        // The end reports whether a write failed, this one too.
+        // `finish` reports whether a write failed, this one too.
         let _ = draft.flush();
         let (replacement, _) = draft.into_parts();
         match replacement.finish() {
@@ -125,11 +125,11 @@ impl<'a, R: Files + Input + RandomSource + AllocGlobal> Folder for Disk<'a, R> {
     }
 }
 
-// So many bytes are read at a time, and copied behind those that are there: to read them in place, their
-// places would be filled first.
+// The number of bytes per read. They are copied to the buffer: to read into it directly, its space
+// would have to be filled first.
 const PART: usize = 16 * 1024;
 
-/// Appends the next bytes of a reader, so many if it has them.
+/// Appends the next bytes of a reader, at most this number.
 pub fn append_from<S: Read>(source: &mut S, most: u64, bytes: &mut Vec<u8>) -> io::Result<()>
     ensures few { IsAppended most bytes.old.items bytes.new.items }
     ensures given { OnOk result (IfSome (S.remaining source.old)

@@ -1,4 +1,4 @@
-//! Files in memory: a folder of which contracts report all.
+//! Files in memory: a folder whose contracts say everything.
 
 ghost use Rattle.std.specs.Prelude.{◌≡◌, ℕ, List, None, Some, option_map, OnOk, OnErr};
 ghost use Rattle.cborc_files.specs.Folder.{KeepsFiles, ReplacesFile};
@@ -34,7 +34,7 @@ impl FilesInMemory {
         Some(bytes.as_slice())
     }
 
-    /// Puts a file at this path, in place of what it held.
+    /// Creates the file at this path, or replaces its content.
     pub fn put(&mut self, path: &str, bytes: &[u8]) -> Result<(), AllocError>
         ensures put { OnOk result (ReplacesFile (Some (files_of self.old)) (Some (files_of self.new)) path.now bytes.now) }
         ensures untouched { OnErr result (KeepsFiles (Some (files_of self.old)) (Some (files_of self.new))) }
@@ -43,7 +43,7 @@ impl FilesInMemory {
         self.keep(path, bytes)
     }
 
-    // Keeps a file of bytes that are given away.
+    // Stores a file with these bytes.
     fn keep(&mut self, path: &str, bytes: Vec<u8>) -> Result<(), AllocError>
         ensures put { OnOk result (ReplacesFile (Some (files_of self.old)) (Some (files_of self.new)) path.now bytes.items) }
         ensures untouched { OnErr result (KeepsFiles (Some (files_of self.old)) (Some (files_of self.new))) }
@@ -94,7 +94,7 @@ impl Folder for FilesInMemory {
         }
     }
 
-    // A vector takes all that there is memory for.
+    // A vector fails only without memory.
     fn abandon(&mut self, _draft: Vec<u8>) -> FileFault {
         FileFault::Memory
     }

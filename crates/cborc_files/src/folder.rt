@@ -1,7 +1,8 @@
-//! Where files come from and go to.
+//! Reading and writing files.
 
-ghost use Rattle.std.specs.Prelude.{◌≡◌, ◌++◌, take, drop, Option, None, OnOk, OnErr, IfOk, IfErr, IfSome};
+ghost use Rattle.std.specs.Prelude.{◌≡◌, ◌++◌, take, drop, Option, None, OnOk, OnErr, IfOk, IfErr, IfSome, false};
 ghost use Rattle.std.specs.Borrow.{GName};
+ghost use Rattle.std.specs.IoError.{error_kind, raw_os_error};
 ghost use Rattle.cborc_files.specs.Folder.{Files, is_stream, Holds, ReadsOn, IsWithin, KeepsFiles};
 ghost use Rattle.cborc_files.specs.Folder.{IsBlank, IsThere, ReplacesFile, WritesFile};
 
@@ -9,45 +10,51 @@ use crate::hex_text::DigitsFault;
 use std::alloc::{AllocError, Global};
 use std::io::{self, ErrorKind, Write};
 
-/// Why a file was not read or not written.
+/// Why a file could not be read or written.
 #[derive(Clone, Copy, Debug, PartialEq, Eq)]
 pub enum FileFault {
-    /// The file is not to be had, or the folder failed.
+    /// The file is missing, or the folder failed.
     Failed,
     /// Memory was refused.
     Memory,
 }
 
-/// What a call met that failed.
+/// The cause of a failure.
 #[derive(Clone, Copy, Debug, PartialEq, Eq)]
 pub struct Cause {
     /// The kind of its error.
     pub kind: ErrorKind,
-    /// Whether it is that of a new file beside the one to be written, which was to take its place.
+    /// The system's number of the error, if it is a system error.
+    pub code: Option<i32>,
+    /// Whether the error is that of the new file next to the file to write, which was to replace it.
     pub beside: bool,
 }
 
 impl From<io::Error> for Cause {
+    ghost from_gives = { λ error cause. cause
+        ≡ record { kind = error_kind error; code = raw_os_error error; beside = false } };
+
     fn from(error: io::Error) -> Cause {
         Cause {
             kind: error.kind(),
+            code: error.raw_os_error(),
             beside: false,
         }
     }
 }
 
-/// Files by their paths. The path `-` is standard input where it is read, and is not written.
+/// Files by their paths. The path `-` is standard input for reading, and is never written.
 pub trait Folder {
-    /// The bytes of a file that is to take the place of another, as they come.
+    /// A file that is being written, and is to replace another.
     type Draft: Write + Drop;
 
-    // What each path holds, where the folder reports.
+    // What each path holds, if the folder says so.
     ghost held: { Self → Option Files } = { λ _. None };
 
-    // The reference to the folder behind this one, where it passes all on to another.
+    // The reference to the folder that this one forwards to, if it does.
     ghost behind: { Self → Option GName } = { λ _. None };
 
-    /// Reads a file whole. Memory is refused only for a file that is there.
+    /// Reads a file whole. Memory is refused only for a file that exists.
     fn read(&mut self, alloc: Global, path: &str) -> Result<Vec<u8>, FileFault>
         ensures gives { IfOk result (λ v. Holds (held self.old) path.now v.items) }
         ensures memory { IfErr result
@@ -55,29 +62,28 @@ pub trait Folder {
         ensures keeps { KeepsFiles (held self.old) (held self.new) }
         ensures same { behind self.new ≡ behind self.old };
 
-    /// Begins a file that is to take the place of the one at this path. Where none is to be had, its
-    /// first write reports that, or `replace`: here memory alone is asked for.
+    /// Begins a file that is to replace the one at this path. If it cannot be created, its first
+    /// write or `replace` reports that. The only error here is out of memory.
     fn begin(&mut self, path: &str) -> Result<Self::Draft, AllocError>
         ensures blank { IfOk result
             (λ draft. IsBlank (held self.old) (Self.Draft.contents draft)) }
         ensures keeps { KeepsFiles (held self.old) (held self.new) }
         ensures same { behind self.new ≡ behind self.old };
 
-    /// Lets what was begun for this path take the place of what the file there held, or leaves all
-    /// files as they were.
+    /// Replaces the file at this path with the one that was begun for it, or leaves all files
+    /// unchanged.
     fn replace(&mut self, path: &str, draft: Self::Draft) -> Result<(), FileFault>
         ensures replaces { OnOk result (IfSome (Self.Draft.contents draft)
             (ReplacesFile (held self.old) (held self.new) path.now)) }
         ensures untouched { OnErr result (KeepsFiles (held self.old) (held self.new)) }
         ensures same { behind self.new ≡ behind self.old };
 
-    /// Lets go of what was begun, so that no new file is left, and reports why a write of it failed, if
-    /// one did.
+    /// Removes the file that was begun, and returns why a write of it failed, if one did.
     fn abandon(&mut self, draft: Self::Draft) -> FileFault
         ensures keeps { KeepsFiles (held self.old) (held self.new) }
         ensures same { behind self.new ≡ behind self.old };
 
-    /// Writes a file whole, in place of what it held, or leaves all files as they were.
+    /// Replaces the content of a file, or leaves all files unchanged.
     fn write(&mut self, path: &str, bytes: &[u8]) -> Result<(), FileFault>
         ensures writes { WritesFile (held self.old) (held self.new) result path.now bytes.now }
         ensures same { behind self.new ≡ behind self.old }
@@ -92,10 +98,9 @@ pub trait Folder {
         }
     }
 
-    /// Appends those bytes of a file that stand behind its first `from`, so many if there are: fewer
-    /// only where the file ends. A file is read on where the last call for it ended: a folder that
-    /// can read a part of a file at a time reads no more than is asked for, and none twice. Memory is
-    /// refused only for a file that is there.
+    /// Appends `most` bytes of a file after its first `from`: fewer only if the file ends. Each call
+    /// continues where the last call for the file ended. A folder that can read a file in parts reads
+    /// no more than requested, and nothing twice. Memory is refused only for a file that exists.
     fn read_on(
         &mut self,
         alloc: Global,
@@ -116,26 +121,26 @@ pub trait Folder {
         append_part(whole.as_slice(), from, most, bytes)
     }
 
-    /// Reported of the bytes that an answer speaks of, which were read of the file that was begun last.
-    /// A folder may keep them, for an explanation.
+    /// Receives the bytes that a result is about, which were read from the file that was opened
+    /// last. A folder may store them for an explanation.
     fn remember(&mut self, _alloc: Global, _bytes: &[u8])
         ensures holds { held self.new ≡ held self.old }
         ensures same { behind self.new ≡ behind self.old }
     {}
 
-    /// Reported why hex text gives no bytes. A folder may keep it, for an explanation.
+    /// Receives why hex text cannot be decoded. A folder may store it for an explanation.
     fn remember_fault(&mut self, _fault: DigitsFault)
         ensures holds { held self.new ≡ held self.old }
         ensures same { behind self.new ≡ behind self.old }
     {}
 
-    /// What the last call met that failed, if the folder reports.
+    /// The cause of the last failure, if the folder stores it.
     fn cause(&self) -> Option<Cause> {
         None
     }
 }
 
-// Appends the part of a file's bytes that stands behind the first `from`, so many if there are.
+// Appends `most` bytes of a file after its first `from`: fewer only if the file ends.
 pub(crate) fn append_part(
     whole: &[u8],
     from: u64,
@@ -155,8 +160,7 @@ pub(crate) fn append_part(
     }
 }
 
-/// Whether a path stands for a standard stream: `-` is standard input where it is read, and standard
-/// output where it is written.
+/// Whether a path is `-`: standard input for reading, standard output for writing.
 pub fn is_stream(path: &str) -> bool
     ensures { result ≡ is_stream path.now }
 {

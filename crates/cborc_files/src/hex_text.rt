@@ -1,4 +1,4 @@
-//! Hex text: the bytes that it spells, and where it is none.
+//! Decodes hex text, and says where a text is not hex text.
 
 ghost use Rattle.std.specs.Prelude.{◌≡◌, ◌∷◌, ℕ, List, [], OnOk, IfErr, None, IsErr, IfSome, ◌<◌};
 ghost use Rattle.std.specs.List.{filter};
@@ -10,50 +10,51 @@ ghost use Rattle.cborc_files.specs.Place.{IsAtStart, MovesOn, IsOfHexText, IsFir
 use std::io::{self, Write};
 use std::marker::Model;
 
-/// Why hex text gives no bytes.
+/// Why hex text cannot be decoded.
 #[derive(Clone, Copy, Debug, PartialEq, Eq)]
 pub enum DigitsFault {
     /// Memory was refused.
     Memory,
-    /// It is not hex text from here on.
+    /// The text is not hex text from this position on.
     NotHex(HexError),
 }
 
-/// Where a text is not hex digits: the line and the column of its first byte that is neither a digit
-/// nor white space, both from 1, and the byte; or of its end, where its last digit stands alone.
+/// Where a text is not hex text: the line and column, both from 1, of the first byte that is
+/// neither a digit nor white space, and the byte. Or of the end, if the last digit has no second
+/// digit.
 #[derive(Clone, Copy, Debug, PartialEq, Eq)]
 pub struct HexError {
     /// The line, up to 2^64 - 1.
     pub line: u64,
     /// The column there, up to 2^64 - 1.
     pub column: u64,
-    /// The byte, or none at the end.
+    /// The byte, or `None` at the end.
     pub byte: Option<u8>,
 }
 
 impl HexError {
-    /// Writes where it is, and what.
+    /// Writes a line with the position and the byte.
     pub fn write<E: Write>(&self, err: &mut E) -> io::Result<()> {
         let HexError { line, column, byte } = self;
         match byte {
             Some(byte) => writeln!(
                 err,
-                "  line {line}, column {column}: another byte ({byte:02x})"
+                "  line {line}, column {column}: not a hex digit (byte {byte:02x})"
             ),
             None => writeln!(
                 err,
-                "  line {line}, column {column}: the last digit stands alone"
+                "  line {line}, column {column}: the last digit has no second digit"
             ),
         }
     }
 }
 
-/// The digits of a text, which comes in parts: how they stand behind the last one.
+/// The decoder's state after the last part of a text.
 #[derive(Drop)]
 pub struct Digits {
-    // The value of a digit whose other one is expected.
+    // The first digit of a byte, if its second digit is expected next.
     high: Option<u8>,
-    // Where the next byte of the text stands.
+    // The position of the next byte of the text.
     line: u64,
     column: u64,
 }
@@ -67,7 +68,7 @@ impl Model for Digits {
 }
 
 impl Digits {
-    /// No text yet.
+    /// The state before any text.
     pub fn new() -> Digits
         ensures none { Spells [] [] result }
         ensures place { IsAtStart result }
@@ -79,7 +80,7 @@ impl Digits {
         }
     }
 
-    /// The next byte of the text: appends the byte that it completes, if it does.
+    /// Decodes the next byte of the text, and appends the byte that it completes, if it completes one.
     pub fn push(&mut self, byte: u8, bytes: &mut Vec<u8>) -> Result<(), DigitsFault>
         ensures goes_on { OnOk result
             (SpellsOn (byte ∷ []) self.old self.new bytes.old.items bytes.new.items) }
@@ -94,7 +95,7 @@ impl Digits {
         Ok(())
     }
 
-    // Takes a byte, but does not count where the next one stands.
+    // As `push`, but does not update the position.
     fn take(&mut self, byte: u8, bytes: &mut Vec<u8>) -> Result<(), DigitsFault>
         ensures goes_on { OnOk result
             (SpellsOn (byte ∷ []) self.old self.new bytes.old.items bytes.new.items) }
@@ -125,7 +126,7 @@ impl Digits {
         Ok(())
     }
 
-    /// The next bytes of the text: appends those that they complete.
+    /// Decodes the next bytes of the text, and appends the bytes that they complete.
     pub fn push_all(&mut self, text: &[u8], bytes: &mut Vec<u8>) -> Result<(), DigitsFault>
         ensures goes_on { OnOk result
             (SpellsOn text.now self.old self.new bytes.old.items bytes.new.items) }
@@ -139,7 +140,7 @@ impl Digits {
         Ok(())
     }
 
-    // The place behind this byte of the text.
+    // Moves the position past this byte of the text.
     fn go_on(&mut self, byte: u8)
         ensures high { self.new.high ≡ self.old.high }
         ensures place { MovesOn (byte ∷ []) self.old self.new }
@@ -162,7 +163,7 @@ impl Digits {
         }
     }
 
-    /// Whether that may be all of the text: no digit waits for another.
+    /// Checks that the text can end here: each digit has its second digit.
     pub fn finish(&self) -> Result<(), DigitsFault>
         ensures whole { OnOk result (IsWhole self.now) }
         ensures not_hex { IfErr result (λ fault. (text spelled : List ℕ)

@@ -1,7 +1,7 @@
-//! Files as the program `cborc` sees them: a [`Folder`] of files, on a disk or in memory, and bytes written as hex text.
+//! The files of the program `cborc`: a [`Folder`] of files, on a disk or in memory, and hex text.
 //!
-//! `cborc_commands` and the program call it. [`Disk`] is the machine's files, read part by part and replaced whole;
-//! [`FilesInMemory`] is a folder for tests, of which contracts say everything. [`Digits`] decodes hex text as it is read.
+//! `cborc_commands` and the program call it. [`Disk`] reads the machine's files in parts and replaces them whole.
+//! [`FilesInMemory`] is a folder for tests, whose contracts say everything. [`Digits`] decodes hex text as it arrives.
 #![tactic(auto)]
 
 mod disk;

@@ -1,4 +1,4 @@
-//! What was read, for an explanation of what came of it.
+//! Records what was read, for an explanation of the result.
 
 ghost use Rattle.std.specs.Prelude.{◌≡◌, Some, IfOk, IfSome, OnOk, MatchResult, option_map};
 ghost use Rattle.cborc_files.specs.Folder.{Holds, ReadsOn, IsWithin, KeepsFiles, WritesFile};
@@ -8,12 +8,12 @@ use crate::folder::{Cause, FileFault, Folder};
 use crate::hex_text::{DigitsFault, HexError};
 use std::alloc::{AllocError, Global};
 
-/// What an answer spoke of in the last two files, and why there was none.
+/// The bytes that results were about in the last two files, and where hex text was wrong.
 #[derive(Drop)]
 pub struct Recording {
     last: Option<Vec<u8>>,
     earlier: Option<Vec<u8>>,
-    // Where what was read is not hex text.
+    // Where the text is not hex text.
     hex_error: Option<HexError>,
 }
 
@@ -28,16 +28,16 @@ impl Recording {
     }
 }
 
-/// A folder that keeps what it is reported of the last two files.
+/// A folder that stores what it receives about the last two files.
 #[derive(Drop)]
 pub struct RecordingFolder<'a, F: Folder> {
     files: &'a mut F,
-    // It owns nothing, so that what becomes of the files is known once it is gone.
+    // A reference, so that contracts know the files after this folder is dropped.
     kept: &'a mut Recording,
 }
 
 impl<'a, F: Folder> RecordingFolder<'a, F> {
-    /// A folder over `files` that keeps what it is asked for in `kept`.
+    /// A folder over `files` that records what it reads in `kept`.
     pub fn new(files: &'a mut F, kept: &'a mut Recording) -> RecordingFolder<'a, F>
         ensures same_reference { result.files.ghost_name ≡ files.entry.ghost_name }
         ensures files { result.files.now ≡ files.old }
@@ -45,7 +45,7 @@ impl<'a, F: Folder> RecordingFolder<'a, F> {
         RecordingFolder { files, kept }
     }
 
-    /// What an answer spoke of in the last file, if it is known.
+    /// The bytes that the result was about in the last file, if they are known.
     pub fn last(&self) -> Option<&[u8]>
         ensures { option_map (λ bytes. bytes.now) result ≡ last_of self.now }
     {
@@ -53,14 +53,14 @@ impl<'a, F: Folder> RecordingFolder<'a, F> {
         Some(bytes.as_slice())
     }
 
-    /// Where what was read is not hex text, if it is not.
+    /// Where the text is not hex text, if it is not.
     pub fn hex_error(&self) -> Option<HexError>
         ensures { result ≡ hex_error_of self.now }
     {
         self.kept.hex_error
     }
 
-    /// What the file before that held, if it is known.
+    /// The same for the file before that.
     pub fn earlier(&self) -> Option<&[u8]>
         ensures { option_map (λ bytes. bytes.now) result ≡ earlier_of self.now }
     {

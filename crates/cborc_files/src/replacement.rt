@@ -1,4 +1,4 @@
-//! A file replaced whole: by a new one beside it, which takes its name.
+//! Replaces a file with a new file next to it, which is then renamed.
 
 use crate::folder::Cause;
 use std::alloc::{AllocError, Global};
@@ -9,10 +9,11 @@ use std::path::PathBuf;
 use std::random::RandomSource;
 use std::rt::Files;
 
-/// The bytes that are to take the place of a file, as they come: a new file beside it takes them, which
-/// is made with the first. What is no regular file, as a device or a pipe, takes them itself.
+/// The new content of a file, as it is written. It goes to a new file next to the old one, which
+/// is created with the first byte. Anything but a regular file, such as a device or a pipe, is
+/// written in place.
 ///
-/// A link stays one: what it leads to is replaced, or made.
+/// A symbolic link stays: its target is replaced or created.
 #[derive(Drop)]
 pub struct Replacement<'a, R: Files + RandomSource + AllocGlobal> {
     rt: &'a R,
@@ -23,7 +24,7 @@ pub struct Replacement<'a, R: Files + RandomSource + AllocGlobal> {
 }
 
 impl<'a, R: Files + RandomSource + AllocGlobal> Replacement<'a, R> {
-    /// No bytes yet.
+    /// New content without any bytes yet.
     pub fn new(rt: &'a R, path: &str) -> Result<Replacement<'a, R>, AllocError> {
         Ok(Replacement {
             rt,
@@ -44,9 +45,10 @@ impl<'a, R: Files + RandomSource + AllocGlobal> Replacement<'a, R> {
         Ok(())
     }
 
-    /// Puts all bytes in the place of the file, or leaves it as it was: also where a write failed.
+    /// Replaces the content of the file with all bytes, or leaves it unchanged, also if a write
+    /// failed.
     pub fn finish(mut self) -> Result<(), Cause> {
-        // Where there are none, an empty file is made.
+        // Without any bytes, an empty file is created.
         let _ = self.write(b"");
         if let Some(cause) = self.cause {
             let _ = self.abandon();
@@ -64,7 +66,7 @@ impl<'a, R: Files + RandomSource + AllocGlobal> Replacement<'a, R> {
         }
     }
 
-    /// Leaves the file as it was and no new one, and reports why a write failed, if one did.
+    /// Leaves the file unchanged, removes the new one, and returns why a write failed, if one did.
     pub fn abandon(self) -> Option<Cause> {
         let Replacement {
             rt,
@@ -95,24 +97,25 @@ impl<'a, R: Files + RandomSource + AllocGlobal> Write for Replacement<'a, R> {
     }
 }
 
-// What takes the bytes.
+// The file that is written.
 #[derive(Drop)]
 struct Taker<W> {
     file: W,
-    // What it is to become, if it is a new file.
+    // Its final path, if it is a new file.
     place: Option<Place>,
 }
 
-// The place that a new file is to take.
+// The paths of a new file: its final one, and the one until then.
 #[derive(Drop)]
 struct Place {
-    // Where the new file is until then.
+    // The path until then.
     beside: String,
     path: PathBuf,
 }
 
 impl<W: OpenFile + Drop> Taker<W> {
-    // Lets a new file take its place, once it is all on the disk; a failure leaves none.
+    // Replaces the old file with the new one, once all of it is on the disk. After a failure there
+    // is no new file.
     fn finish<R: Files>(self, rt: &R) -> Result<(), Cause> {
         let Taker { file, place } = self;
         let Some(place) = place else {
@@ -130,7 +133,7 @@ impl<W: OpenFile + Drop> Taker<W> {
         Ok(())
     }
 
-    // Leaves no new file.
+    // Removes the new file.
     fn remove<R: Files>(self, rt: &R) {
         let Taker { file: _, place } = self;
         if let Some(place) = place {
@@ -139,7 +142,7 @@ impl<W: OpenFile + Drop> Taker<W> {
     }
 }
 
-// What takes the bytes that are to stand at the path.
+// Opens the file to write for this path.
 fn taker_at<R: Files + RandomSource + AllocGlobal>(
     rt: &R,
     path: &str,
@@ -161,8 +164,8 @@ fn taker_at<R: Files + RandomSource + AllocGlobal>(
     }
 }
 
-// A new file beside the one at this path, whose place it is to take: with the permissions of that one,
-// before its first byte comes.
+// A new file next to the file at this path, which it is to replace. It has the permissions of that
+// file before its first byte is written.
 fn new_taker<R: Files + RandomSource + AllocGlobal>(
     rt: &R,
     path: PathBuf,
@@ -189,14 +192,15 @@ fn new_taker<R: Files + RandomSource + AllocGlobal>(
 fn cause_beside(error: io::Error) -> Cause {
     Cause {
         kind: error.kind(),
+        code: error.raw_os_error(),
         beside: true,
     }
 }
 
-// How many links in a row are followed.
+// The maximum number of symbolic links that are followed.
 const LINKS: u8 = 40;
 
-// Where links lead from a path at which there is no file: the path itself, where it is no link.
+// The target of the symbolic links at a path without a file: the path itself, if it is not a link.
 fn end_of_links<R: Files + AllocGlobal>(rt: &R, path: &str) -> io::Result<PathBuf> {
     let mut end = PathBuf::from_str(rt.alloc(), path)?;
     for _ in 0..LINKS {
@@ -216,11 +220,11 @@ fn end_of_links<R: Files + AllocGlobal>(rt: &R, path: &str) -> io::Result<PathBu
     Err(io::Error::from(ErrorKind::FilesystemLoop))
 }
 
-// How many names are tried for a new file. A second one is hardly ever needed.
+// The maximum number of names that are tried for a new file. A second one is hardly ever needed.
 const NAMES: u8 = 16;
 
-// Creates a file under a name that no other has, in the folder where the path is. Nobody may read it
-// who may not read the one that it is to replace.
+// Creates a file with a new name, in the folder of the path. Only those who may read the file that it
+// is to replace may read it.
 fn create_beside<R: Files + RandomSource + AllocGlobal>(
     rt: &R,
     path: &str,
@@ -248,11 +252,11 @@ fn create_beside<R: Files + RandomSource + AllocGlobal>(
     Err(io::Error::from(ErrorKind::AlreadyExists))
 }
 
-// How many bytes of a file's name stand in that of a new one: with the suffix, as many as a name has
-// at most.
+// The maximum number of bytes of a file's name in the name of the new file: with the suffix, it is the
+// maximum of a name.
 const STEM: usize = 255 - ".0123456789abcdef.tmp".len();
 
-// The path with a suffix by this number, in its folder. Of a long name only the prefix is taken.
+// The path with a suffix that has this number. A long name is cut off.
 fn name_beside(alloc: Global, path: &str, number: u64) -> Result<String, AllocError> {
     let mut name = String::from_str(alloc, path)?;
     let folder = path.rfind('/').map_or(0, |at| at + 1);

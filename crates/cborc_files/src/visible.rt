@@ -1,29 +1,56 @@
 //! Text for a terminal.
 
+ghost use Rattle.std.specs.Prelude.{◌≡◌, Some};
+ghost use Rattle.std.specs.Fmt.{DisplaysOnOk};
+ghost use Rattle.cborc_files.specs.Visible.{is_hidden, visible_character, visible_text};
+
 use std::fmt;
 
-/// A path as messages show it: what would move the cursor, end the line or turn the direction of the
-/// text is written as `\u` and four hex digits.
+/// A path as messages show it: a character that would move the cursor, end the line or change the
+/// direction of the text is written as `\u` and four hex digits.
 #[derive(Clone, Copy, Debug)]
 pub struct Visible<'a>(pub &'a str);
 
 impl<'a> fmt::Display for Visible<'a> {
+    ghost output = { λ v. Some (visible_text v.0.now) };
+
     fn fmt<W: fmt::Write>(&self, f: &mut fmt::Formatter<W>) -> fmt::Result {
-        for character in self.0.chars() {
-            let code = u32::from(character);
-            if is_hidden(code) {
-                write!(f, "\\u{code:04x}")?;
-            } else {
-                f.write_char(character)?;
-            }
-        }
-        Ok(())
+        write_visible(self.0, f)
     }
 }
 
-// Whether a terminal would act on this code point, and not show it: a control character (C0, DELETE, C1),
-// a line or paragraph separator, or a mark of the direction of text.
-fn is_hidden(code: u32) -> bool {
+fn write_visible<W: fmt::Write>(path: &str, f: &mut fmt::Formatter<W>) -> fmt::Result
+    ensures { DisplaysOnOk W.write_str_gives f.old result (Some (visible_text path.now)) f.new }
+{
+    for character in path.chars() {
+        write!(f, "{}", VisibleCharacter(character))?;
+    }
+    Ok(())
+}
+
+// A character as messages show it.
+#[derive(Clone, Copy)]
+struct VisibleCharacter(char);
+
+impl fmt::Display for VisibleCharacter {
+    ghost output = { λ v. Some (visible_character v.0) };
+
+    fn fmt<W: fmt::Write>(&self, f: &mut fmt::Formatter<W>) -> fmt::Result {
+        let character = self.0;
+        let code = u32::from(character);
+        if is_hidden(code) {
+            write!(f, "\\u{code:04x}")
+        } else {
+            write!(f, "{character}")
+        }
+    }
+}
+
+// Whether a terminal would act on this code point instead of showing it: a control character (C0, DELETE,
+// C1), a line or paragraph separator, or a mark of the direction of text.
+fn is_hidden(code: u32) -> bool
+    ensures { result ≡ is_hidden code }
+{
     matches!(
         code,
         0..=0x1f

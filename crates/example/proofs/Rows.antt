@@ -3,9 +3,8 @@ use Rattle.std.proofs.Common.{ℕ, ℤ, pos, negsuc, ◌≤ℤ◌, ◌-◌, ◌^
 use Rattle.std.{specs.Option.MatchOption, proofs.Math.Seq.take-length}
 use Rattle.cbor_head.specs.Prelude.{plain, Bounds, spell, Value}
 use Rattle.cbor_head.specs.Value.{text}
-use Rattle.cbor_model.proofs.{Accepted.accepts_exactly, ReadLaws.length_spell}
-use Rattle.cbor_item.specs.{Kinds.integer, Lookup.HasValueAt}
-use Rattle.cbor_verdict.specs.Readers.{IsReadAs}
+use Rattle.theory_values.{proofs.Accepted.accepts_exactly, proofs.ReadLaws.length_spell, specs.Lookup.HasValueAt, specs.Lookup.integer}
+use Rattle.theory_verdicts.specs.Readers.{IsReadAs}
 use Rattle.example.specs.Fields.{HasInteger, HasNoInteger, HasIntegers, AreRows}
 
 -- what is read at a key
@@ -23,7 +22,7 @@ count_within limits input v count read =
     let whole = ap length prefix.1.2 in
     (omega (arith, read.read.size, length_spell s), omega (arith, read.read.size, whole, length-append (spell s) prefix.0, length-take limits.bytes input))
 
--- what is left of it behind so many bytes
+-- what follows the first `size` bytes, in the form of a slice's range
 pub behind : (size : ℕ) (rest : List ℕ) → take (length rest - size) (drop size rest) ≡ drop size rest
 behind size rest = ap (λ (n : ℕ). take n (drop size rest)) (sym (length-drop size rest)) ∙ take-length (drop size rest)
 

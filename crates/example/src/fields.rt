@@ -3,7 +3,7 @@
 ghost use Rattle.std.specs.Prelude.{◌≡◌, ◌≤◌, [], length, IfOk, IfErr, MatchOption};
 ghost use Rattle.cbor_head.specs.Complaint.{plain};
 ghost use Rattle.cbor_head.specs.Value.{Value};
-ghost use Rattle.cbor_verdict.specs.Readers.{IsReadAs};
+ghost use Rattle.theory_verdicts.specs.Readers.{IsReadAs};
 ghost use Rattle.cbor_item.specs.ViewValue.{view_value};
 ghost use Rattle.example.specs.Fields.{HasInteger, HasNoInteger, HasIntegers, AreRows};
 ghost use Rattle.example.specs.Fields.{HasNoRow, StopsAt};
@@ -15,14 +15,14 @@ use cbor_item::View;
 use cbor_reader::read_view;
 use std::alloc::Global;
 
-/// Why the fields of a record are not had.
+/// Why the fields of a record cannot be returned.
 #[derive(Clone, Copy, Debug, PartialEq, Eq)]
 pub enum FieldsError {
-    /// The record is refused; places are counted from its first byte.
+    /// The record is refused; the offset is counted from its first byte.
     Refused(Refusal),
-    /// At one of the keys it has no integer that an `i64` holds.
+    /// The record has no integer that fits in an `i64` at one of the keys.
     NoInteger,
-    /// Memory was refused to the list.
+    /// There was no memory for the list.
     Memory,
 }
 
@@ -34,8 +34,8 @@ impl From<Refusal> for FieldsError {
     }
 }
 
-/// The integers at two keys of each record, of records that stand one behind another (RFC 8742). One
-/// arena serves them all, so that no more is held than of the largest.
+/// Returns the integers at two keys of each record, for records one after another (RFC 8742). One
+/// arena is reused for all, so that no more memory is held than the largest record needs.
 pub fn two_fields(
     alloc: Global,
     records: &[u8],
@@ -56,13 +56,13 @@ pub fn two_fields(
             return Err(FieldsError::Memory);
         };
         rest = &rest[size..];
-        // Where it fails, the arena goes on growing.
+        // If the reset fails, the arena goes on growing.
         let _ = arena.reset();
     }
     Ok(rows)
 }
 
-// The integers of the record at the start, and how many bytes it has.
+// The integers of the record at the start, and the record's size in bytes.
 fn row_at(
     alloc: Global,
     bytes: &[u8],

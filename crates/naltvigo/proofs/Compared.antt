@@ -17,7 +17,7 @@ module _ (l m : Bounds) (left right : List ℕ) (same : Bool) (k : m ≡ l) (rep
   pub other-values : same ≡ false → (s t : Spelling) → IsValidItem m left s → IsValidItem m right t → ¬ Same (value_of s) (value_of t)
   other-values e s t a b = λ q. false≢true (sym e ∙ (reports s t (at-limits left s a) (at-limits right t b)).1 q)
 
--- the side that is named: the left one, or the right one behind a left one that is whole
+-- the side that is named: the left one, or the right one after a left one that is whole
 pub named-side : (l m : Bounds) (left right : List ℕ) → l ≡ m → (s : Side) (f : Refusal) (n : ℕ) → n ≡ side_number s → IsSideRefusal l left right s f → (n ≡ 0) ⊎ ((n ≡ 1) × IsWholeItem m left)
 named-side l m left right k Left f n e h = inl e
 named-side l m left right k Right f n e h = inr (e, subst (λ (b : Bounds). IsWholeItem b left) k h.0)

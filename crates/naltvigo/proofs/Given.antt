@@ -1,4 +1,4 @@
--- What is known of an answer is known of the bytes in the buffer, by the numbers that C gave.
+-- What is known of a result is known of the bytes in the buffer, by the numbers that C gave.
 use Rattle.std.proofs.Common.{ℕ, ◌≡◌, ◌≤◌, List, length, subst}
 use Rattle.cbor_head.specs.Prelude.{canonical, Bounds, Spelling, value_of}
 use Rattle.cbor_head.specs.declared.{order.KeyOrder.KeyOrder, reason.Refusal.Refusal}

@@ -1,4 +1,4 @@
--- The table of an input that is its own answer.
+-- The table of an input that is its own result.
 use Rattle.std.proofs.Common.{ℕ, ◌≡◌, ◌<◌, ◌≤◌, ◌^◌, ◌↔◌, List, length, take, drop, refl, sym}
 use Rattle.cbor_head.specs.Prelude.{Bounds, Spelling, spell, plain, IsVerdict, accepted, value_of, IsInRange, IsValid}
 use Rattle.cbor_head.specs.Value as value

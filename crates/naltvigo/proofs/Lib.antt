@@ -1,4 +1,5 @@
 mod Compared
+mod Explained
 mod Given
 mod Indexed
 mod Staying

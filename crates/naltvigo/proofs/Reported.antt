@@ -1,6 +1,6 @@
--- Events that a machine gives, one behind another.
+-- Events that a machine gives, one after another.
 use Rattle.std.proofs.Common.{◌≡◌, ◌⊎◌, ◌++◌, ◌∷◌, ◌∙◌, ℕ, List, [], refl, inl, inr, subst}
-use Rattle.cbor_automaton.specs.declared.event.Event.{Event}
+use Rattle.cbor_head.specs.declared.event.Event.{Event}
 use Rattle.cbor_machine.specs.declared.step.Out.TheVariants as outs
 use Rattle.cbor_machine.specs.{Machine.KeepsLimits, MachineView.MachineView, declared.step.Out.Out}
 use Rattle.naltvigo.specs.Streaming.{AreReportedEvents, Gives, HasAnswered, IsReportedEnd, IsReportedEvent, ReportsOn, none, one_more}

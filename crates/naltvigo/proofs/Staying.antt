@@ -1,7 +1,6 @@
 -- A machine that is complete, or refused, says so at its first step.
 use Rattle.std.proofs.Common.{◌≡◌, ◌⊎◌, ◌<◌, ◌∙◌, arith, ℕ, Option, Some, None, IfSome, inl, inr, refl, sym, subst}
-use Rattle.cbor_head.specs.declared.reason.Refusal.{Refusal}
-use Rattle.cbor_automaton.specs.declared.event.Event.{Event}
+use Rattle.cbor_head.specs.declared.{reason.Refusal.Refusal, event.Event.Event}
 use Rattle.cbor_machine.specs.Machine.{IsComplete, IsDone, Stays}
 use Rattle.cbor_machine.specs.declared.step.Out.TheVariants as outs
 use Rattle.cbor_machine.specs.{MachineView.MachineView, declared.step.Step.Step}

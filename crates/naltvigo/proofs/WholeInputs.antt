@@ -2,9 +2,9 @@
 use Rattle.std.proofs.Common.{ℕ, ◌<◌, ◌≤◌, ◌≡◌, ◌↔◌, List, length, inl, inr, sym, ap, ◌∙◌, arith, subst}
 use Rattle.cbor_head.specs.Prelude.{Bounds, Spelling, spell, plain, strict, IsVerdict, accepted, refused, refusal}
 use Rattle.cbor_head.specs.declared.{order.KeyOrder.KeyOrder, reason.Reason.TheVariants.Trailing, reason.Reason.TheVariants.Memory, reason.Refusal.Refusal}
-use Rattle.cbor_verdict.proofs.Accepted.{item_is_whole, one_item, not_both}
-use Rattle.cbor_verdict.specs.Readers.{HasNoCanonicalPrefix, IsCanonicalPrefix, IsRead, of_verdict}
-use Rattle.cbor_verdict.proofs.Reasons.{never-read, never-memory}
+use Rattle.theory_verdicts.proofs.Accepted.{item_is_whole, one_item, not_both}
+use Rattle.theory_verdicts.specs.Readers.{HasNoCanonicalPrefix, IsCanonicalPrefix, IsRead, of_verdict}
+use Rattle.theory_verdicts.proofs.Reasons.{never-read, never-memory}
 use Rattle.cbor_reader.specs.WholeItem.{IsWholeItem, unread, trailing}
 use Rattle.cbor_reader.specs.{Canonicalise.IsCanonicalOf, Headline.IsValidItem}
 use Rattle.naltvigo.specs.{Checking.HasNoWholePrefix, inner.Checking.IsOwnAnswer, inner.Checking.IsNotOwn}

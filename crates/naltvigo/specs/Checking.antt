@@ -1,7 +1,7 @@
 -- Why an input is not one item in its canonical bytes.
 use Rattle.std.specs.Prelude.{ℕ, ◌⊎◌, ◌<◌, List, length}
 use Rattle.cbor_head.specs.{Prelude.Bounds, declared.order.KeyOrder.KeyOrder}
-use Rattle.cbor_verdict.specs.Readers.{HasNoCanonicalPrefix, IsCanonicalPrefix}
+use Rattle.theory_verdicts.specs.Readers.{HasNoCanonicalPrefix, IsCanonicalPrefix}
 
 -- the input begins with the canonical bytes of no valid value; or with some, which end here, and a byte follows them
 abbrev pub HasNoWholePrefix : Bounds → KeyOrder → List ℕ → ℕ → Type 0

@@ -3,11 +3,7 @@ use Rattle.std.specs.Prelude.{ℕ, ◌≡◌, List}
 use Rattle.cbor_head.specs.Prelude.{Bounds, Spelling, canonical, value_of}
 use Rattle.cbor_head.specs.declared.order.KeyOrder.{KeyOrder}
 use Rattle.cbor_reader.specs.Headline.{IsValidItem}
-use Rattle.cbor_cursor.specs.{Index.table, declared.places.ItemAt.ItemAt, declared.placed.PlacedItem.PlacedItem}
-
--- an item outside a table, by its offsets
-abbrev pub offsets_of : PlacedItem → ItemAt
-offsets_of c = record { kind = c.kind; argument = c.number; place = c.place; content = c.content; end = c.end }
+use Rattle.cbor_cursor.specs.{Index.table, declared.placed.PlacedItem.PlacedItem}
 
 -- the input is one valid item in its canonical bytes, and these are the entries of it and of all items within it
 pub record IsTableOf (limits : Bounds) (o : KeyOrder) (input : List ℕ) (entries : List PlacedItem) : Type 0 where

@@ -1,9 +1,12 @@
 pub mod Checking
 pub mod Comparing
 pub mod Diagnosing
+pub mod Explaining
 pub mod Heads
 pub mod Items
+pub mod Reading
 pub mod Settings
 pub mod Streaming
+pub mod Writing
 pub mod Reported
 pub mod inner

@@ -1,9 +1,9 @@
 -- What a machine reports of an item, as C has it.
 use Rattle.std.specs.Prelude.{ℕ, ◌≡◌, ◌<◌, ◌⊎◌, ◌++◌, ◌∷◌, List, [], Some, IfSome}
 use Rattle.cbor_head.specs.declared.width.Width.TheVariants as widths
-use Rattle.cbor_head.specs.declared.width.Width.{Width}
-use Rattle.cbor_automaton.specs.declared.event.EventKind.TheVariants as kinds
-use Rattle.cbor_automaton.specs.{Marks.count_of, Trace.Mark, declared.event.Event.Event, declared.event.EventKind.EventKind}
+use Rattle.cbor_head.specs.declared.event.EventKind.TheVariants as kinds
+use Rattle.cbor_head.specs.declared.{width.Width.Width, event.Event.Event, event.EventKind.EventKind}
+use Rattle.theory_automaton.specs.{Marks.count_of, Trace.Mark}
 use Rattle.cbor_machine.specs.Machine.{StandsFor, KeepsLimits, IsAnswer, IsComplete, wanted}
 use Rattle.cbor_machine.specs.declared.step.Out.TheVariants as outs
 use Rattle.cbor_machine.specs.{MachineView.MachineView, declared.step.Out.Out, Saved.Holds, declared.machine.saved.SavedMachine.SavedMachine}
@@ -48,7 +48,7 @@ width_number widths.Indefinite = 255
 
 -- an event
 pub record IsReportedEvent (e : Event) (c : NaltvigoEvent) : Type 0 where
-  pub place : c.place ≡ e.place
+  pub offset : c.offset ≡ e.place
   pub number : c.number ≡ number_of e.kind
   pub kind : c.kind ≡ kind_number e.kind
   pub width : c.width ≡ width_number e.width
@@ -59,18 +59,18 @@ AreReportedEvents [] [] = Unit {0}
 AreReportedEvents (e ∷ es) (c ∷ cs) = IsReportedEvent e c × AreReportedEvents es cs
 AreReportedEvents _ _ = ⊥
 
--- why no further one is reported, of the machine behind: 8 more bytes are expected, 0 the item is complete, 1 it is refused, and stays so
+-- why no further one is reported, of the machine after it: 8 more bytes are expected, 0 the item is complete, 1 it is refused, and stays so
 abbrev pub IsReportedEnd : Out → MachineView → ℕ → NaltvigoRefusal → Type 0
 IsReportedEnd outs.More new status r = (status ≡ 8) × (0 < wanted new)
 IsReportedEnd (outs.Event event) new status r = ⊥
 IsReportedEnd outs.Done new status r = (status ≡ 0) × IsComplete new
 IsReportedEnd (outs.Refused refusal) new status r = (status ≡ 1) × IsReported refusal r × (new.refusal ≡ Some refusal)
 
--- what a step answers of the last bytes, for all bytes and marks that the machine stood for before these
+-- what a step returns of the last bytes, for all bytes and marks that the machine represented before these
 abbrev pub HasAnswered : Out → MachineView → MachineView → List ℕ → Type 0
 HasAnswered out old new last = (t : List ℕ) (ms : List Mark) → StandsFor old t ms → IsAnswer out new t last ms
 
--- the machine used these bytes, and gave these events, one behind another
+-- the machine used these bytes, and gave these events, one after another
 pub data Gives (from : MachineView) : MachineView → List ℕ → List Event → Type 0 where
   none : Gives from from [] []
   one_more : (mid to : MachineView) (bs last : List ℕ) (es : List Event) (e : Event) → Gives from mid bs es → HasAnswered (outs.Event e) mid to last

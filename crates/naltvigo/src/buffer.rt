@@ -1,10 +1,10 @@
-//! Answers in a buffer of the caller's.
+//! Results in a buffer of the caller's.
 
 ghost use Rattle.std.specs.Prelude.{◌≡◌, ◌⊎◌, ◌<◌, ◌≤◌, length, take, drop};
 
 use crate::status::{OK, TOO_SMALL};
 
-// Puts the answer at the start of the buffer, if that has space, and reports its length either way.
+// Writes the result to the start of the buffer, if it fits, and reports its length either way.
 pub(crate) fn give(answer: &[u8], out: &mut [u8], needed: &mut usize) -> u32
     ensures needed { needed.new ≡ length answer.now }
     ensures status { (result ≡ OK) ⊎ (result ≡ TOO_SMALL) }

@@ -19,8 +19,8 @@ use std::alloc::Global;
 
 /// Writes the canonical bytes of the one valid item that `input` is to the prefix of `out`.
 ///
-/// `needed` becomes their count where the answer is `OK` or `TOO_SMALL`, else 0, and `refusal` is
-/// filled where it is `REFUSED` or `NO_MEMORY`. But for `OK`, `out` keeps its bytes. Of an input that
+/// `needed` becomes their number if the status is `OK` or `TOO_SMALL`, else 0, and `refusal` is
+/// filled if it is `REFUSED` or `NO_MEMORY`. Unless it is `OK`, `out` is unchanged. Of an input that
 /// is canonical no copy is made but that in `out`, and no memory is taken.
 #[unsafe(no_mangle)]
 pub extern "C" fn naltvigo_canonicalise_raw(
@@ -41,7 +41,7 @@ pub extern "C" fn naltvigo_canonicalise_raw(
         × (needed.new ≤ bytes) }
     ensures equal { result ≡ OK → DeterminesItsValue depth (key_order order)
         input.now (take needed.new out.new) }
-    // What is canonical wants no memory.
+    // Canonical input needs no memory.
     ensures own { IsCanonicalOf (item_limits keys depth bytes) (key_order order) input.now input.now
         → (result ≢ REFUSED) × (result ≢ NO_MEMORY) }
     ensures again { result ≡ OK → IsCanonicalOf (item_limits keys depth bytes) (key_order order)
@@ -62,7 +62,8 @@ pub extern "C" fn naltvigo_canonicalise_raw(
     ensures bad_limits { result ≡ BAD_LIMITS → ¬ AreLimits keys depth bytes }
     ensures in_range { result ≢ BAD_ORDER → result ≢ BAD_LIMITS
         → (order ≤ 1) × AreLimits keys depth bytes }
-    ensures statuses { result ≤ BAD_LIMITS }
+    // OK, REFUSED, TOO_SMALL, NO_MEMORY, BAD_ORDER, BAD_LIMITS
+    ensures statuses { result ≤ 5 }
     ensures kept { (result ≢ OK → out.new ≡ out.old)
         × (drop needed.new out.new ≡ drop needed.new out.old) }
     ensures no_count { result ≢ OK → result ≢ TOO_SMALL → needed.new ≡ 0 }

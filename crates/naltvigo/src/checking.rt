@@ -4,7 +4,7 @@ ghost use Rattle.std.specs.Prelude.{◌≡◌, ◌≢◌, ◌↔◌, ◌⊎◌, 
 ghost use Rattle.cbor_head.specs.Complaint.{plain, strict};
 ghost use Rattle.cbor_head.specs.declared.reason.Reason.TheVariants as reasons;
 ghost use Rattle.cbor_reader.specs.Canonicalise.{IsCanonicalOf};
-ghost use Rattle.cbor_verdict.specs.Readers.{IsRead, IsCanonicalPrefix, ReportsMemoryAtStart};
+ghost use Rattle.theory_verdicts.specs.Readers.{IsRead, IsCanonicalPrefix, ReportsMemoryAtStart};
 ghost use Rattle.cbor_reader.specs.WholeItem.{IsWholeItem, IsItemRefusal};
 ghost use Rattle.naltvigo.specs.Settings.{key_order, item_limits, AreLimits};
 ghost use Rattle.naltvigo.specs.Checking.{HasNoWholePrefix};
@@ -42,13 +42,13 @@ pub extern "C" fn naltvigo_check_canonical_raw(
     ensures not_own { result ≡ REFUSED
         → ¬ IsCanonicalOf (item_limits keys depth bytes) (key_order order) input.now input.now }
     ensures prefix { result ≡ REFUSED
-        → HasNoWholePrefix (item_limits keys depth bytes) (key_order order) input.now refusal.new.place }
+        → HasNoWholePrefix (item_limits keys depth bytes) (key_order order) input.now refusal.new.offset }
     ensures bad_order { (result ≡ BAD_ORDER) ↔ (1 < order) }
     ensures bad_limits { result ≡ BAD_LIMITS → ¬ AreLimits keys depth bytes }
     ensures in_range { result ≢ BAD_ORDER → result ≢ BAD_LIMITS
         → (order ≤ 1) × AreLimits keys depth bytes }
-    ensures statuses { (result ≡ OK) ⊎ (result ≡ REFUSED)
-        ⊎ (result ≡ BAD_ORDER) ⊎ (result ≡ BAD_LIMITS) }
+    // OK, REFUSED, BAD_ORDER, BAD_LIMITS
+    ensures statuses { (result ≡ 0) ⊎ (result ≡ 1) ⊎ (result ≡ 4) ⊎ (result ≡ 5) }
     ensures unreported { result ≢ REFUSED → refusal.new ≡ refusal.old }
 {
     let Some(order) = order_numbered(order) else {
@@ -83,8 +83,8 @@ pub extern "C" fn naltvigo_check_valid_raw(
     ensures no_memory { result ≡ NO_MEMORY → ReportsMemory 0 refusal.new }
     ensures bad_limits { (result ≡ BAD_LIMITS) → ¬ AreLimits keys depth bytes }
     ensures in_range { result ≢ BAD_LIMITS → AreLimits keys depth bytes }
-    ensures statuses { (result ≡ OK) ⊎ (result ≡ REFUSED)
-        ⊎ (result ≡ NO_MEMORY) ⊎ (result ≡ BAD_LIMITS) }
+    // OK, REFUSED, NO_MEMORY, BAD_LIMITS
+    ensures statuses { (result ≡ 0) ⊎ (result ≡ 1) ⊎ (result ≡ 3) ⊎ (result ≡ 5) }
     ensures unreported { result ≢ REFUSED → result ≢ NO_MEMORY → refusal.new ≡ refusal.old }
 {
     let Some(limits) = limits_of(keys, depth, bytes) else {

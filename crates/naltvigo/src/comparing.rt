@@ -23,7 +23,7 @@ pub const RIGHT: u32 = 1;
 
 /// Whether the one valid item that each input is has the same value: `OK` or `DIFFERENT`.
 ///
-/// `side` and `refusal` are filled where the answer is `REFUSED` or `NO_MEMORY`.
+/// `side` and `refusal` are filled if the status is `REFUSED` or `NO_MEMORY`.
 #[unsafe(no_mangle)]
 pub extern "C" fn naltvigo_compare_raw(
     alloc: Global,
@@ -58,8 +58,8 @@ pub extern "C" fn naltvigo_compare_raw(
         ⊎ ((side.new ≡ RIGHT) × IsWholeItem (item_limits keys depth bytes) left.now) }
     ensures bad_limits { result ≡ BAD_LIMITS → ¬ AreLimits keys depth bytes }
     ensures in_range { result ≢ BAD_LIMITS → AreLimits keys depth bytes }
-    ensures statuses { (result ≡ OK) ⊎ (result ≡ DIFFERENT) ⊎ (result ≡ REFUSED)
-        ⊎ (result ≡ NO_MEMORY) ⊎ (result ≡ BAD_LIMITS) }
+    // OK, DIFFERENT, REFUSED, NO_MEMORY, BAD_LIMITS
+    ensures statuses { (result ≡ 0) ⊎ (result ≡ 6) ⊎ (result ≡ 1) ⊎ (result ≡ 3) ⊎ (result ≡ 5) }
     ensures unreported { result ≢ REFUSED → result ≢ NO_MEMORY
         → (side.new ≡ side.old) × (refusal.new ≡ refusal.old) }
 {

@@ -40,14 +40,14 @@ pub extern "C" fn naltvigo_diagnostic_raw(
     ensures refused { result ≡ REFUSED
         → ReportsOf (IsItemRefusal (item_limits keys depth bytes) plain input.now) refusal.new }
     ensures not_accepted { result ≡ REFUSED → ¬ IsWholeItem (item_limits keys depth bytes) input.now }
-    // As the input was read; or behind it, for the text.
+    // While the input was read; or after it, for the text.
     ensures no_memory { result ≡ NO_MEMORY → ReportsMemory 0 refusal.new
         ⊎ (IsWholeItem (item_limits keys depth bytes) input.now
         × ReportsMemory (length input.now) refusal.new) }
     ensures bad_limits { result ≡ BAD_LIMITS → ¬ AreLimits keys depth bytes }
     ensures in_range { result ≢ BAD_LIMITS → AreLimits keys depth bytes }
-    ensures statuses { (result ≡ OK) ⊎ (result ≡ REFUSED) ⊎ (result ≡ TOO_SMALL)
-        ⊎ (result ≡ NO_MEMORY) ⊎ (result ≡ BAD_LIMITS) }
+    // OK, REFUSED, TOO_SMALL, NO_MEMORY, BAD_LIMITS
+    ensures statuses { (result ≡ 0) ⊎ (result ≡ 1) ⊎ (result ≡ 2) ⊎ (result ≡ 3) ⊎ (result ≡ 5) }
     ensures kept { (result ≢ OK → out.new ≡ out.old)
         × (drop needed.new out.new ≡ drop needed.new out.old) }
     ensures no_count { result ≢ OK → result ≢ TOO_SMALL → needed.new ≡ 0 }

@@ -3,6 +3,7 @@
 ghost use Rattle.std.specs.Prelude.{◌≡◌, ◌≢◌, ◌↔◌, ◌⊎◌, ◌<◌, ◌≤◌, ℕ, List, IsTrue, IfSome, None};
 ghost use Rattle.std.specs.Prelude.{length, take, drop};
 ghost use Rattle.cbor_head.specs.Head.{IsHead, IsSimple, head_parts, major_number, shortest};
+ghost use Rattle.cbor_head.specs.declared.major.Major.TheVariants.{Simple};
 ghost use Rattle.naltvigo.specs.Heads.{HasHead, IsShortestHead};
 
 use crate::buffer::give;
@@ -11,8 +12,8 @@ use cbor_head::{Head, Major};
 
 /// Writes the shortest head of this kind, a major type, and this number to the prefix of `out`.
 ///
-/// `needed` becomes the count of its bytes, 1, 2, 3, 5 or 9, where the answer is `OK` or `TOO_SMALL`,
-/// else 0. But for `OK`, `out` keeps its bytes. It takes no memory.
+/// `needed` becomes the number of its bytes, 1, 2, 3, 5 or 9, if the status is `OK` or `TOO_SMALL`,
+/// else 0. Unless it is `OK`, `out` is unchanged. It allocates nothing.
 #[unsafe(no_mangle)]
 pub extern "C" fn naltvigo_put_head_raw(
     kind: u32,
@@ -26,7 +27,8 @@ pub extern "C" fn naltvigo_put_head_raw(
         × (needed.new ≡ length x) × (length out.old < length x) }
     ensures bad_head { result ≡ BAD_HEAD → ¬ HasHead kind number }
     ensures has_head { result ≢ BAD_HEAD → HasHead kind number }
-    ensures statuses { (result ≡ OK) ⊎ (result ≡ TOO_SMALL) ⊎ (result ≡ BAD_HEAD) }
+    // OK, TOO_SMALL, BAD_HEAD
+    ensures statuses { (result ≡ 0) ⊎ (result ≡ 2) ⊎ (result ≡ 12) }
     ensures kept { (result ≢ OK → out.new ≡ out.old)
         × (drop needed.new out.new ≡ drop needed.new out.old) }
     ensures no_count { result ≡ BAD_HEAD → needed.new ≡ 0 }
@@ -47,10 +49,22 @@ fn shortest_head(kind: u32, number: u64) -> Option<Head>
     ensures some { IfSome result (λ h. HasHead kind number) }
     ensures none { result ≡ None → ¬ HasHead kind number }
 {
+    let major = major_with(kind, number)?;
+    Some(Head::shortest(major, number))
+}
+
+// The major type of this number; none where it has no head of this argument.
+#[inline(always)]
+pub(crate) fn major_with(kind: u32, number: u64) -> Option<Major>
+    ensures kind { IfSome result (λ m. kind ≡ major_number m) }
+    ensures simple { IfSome result (λ m. m ≡ Simple → IsSimple number) }
+    ensures some { IfSome result (λ m. HasHead kind number) }
+    ensures none { result ≡ None → ¬ HasHead kind number }
+{
     if kind > 7 || (kind == 7 && !is_simple(number)) {
         return None;
     }
-    Some(Head::shortest(Major::of_number(kind as u8), number))
+    Some(Major::of_number(kind as u8))
 }
 
 // Whether a simple value has this number.

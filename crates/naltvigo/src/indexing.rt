@@ -22,8 +22,8 @@ use cbor_reader::laws::valid_items;
 /// Whether `input` is exactly one valid item in its canonical bytes, and if so, an entry for it and
 /// for each item within it, in the order of their first bytes, at the start of `items`.
 ///
-/// `needed` becomes the count of entries where the answer is `OK` or `TOO_SMALL`, else 0. Where it is
-/// `TOO_SMALL`, what stands in `items` is no table: there are more entries than `items` has space
+/// `needed` becomes the number of entries if the status is `OK` or `TOO_SMALL`, else 0. If it is
+/// `TOO_SMALL`, the content of `items` is no table: there are more entries than `items` has space
 /// for, or than any table has. It takes no memory.
 #[unsafe(no_mangle)]
 pub extern "C" fn naltvigo_index_raw(
@@ -50,13 +50,13 @@ pub extern "C" fn naltvigo_index_raw(
     ensures not_own { result ≡ REFUSED
         → ¬ IsCanonicalOf (item_limits keys depth bytes) (key_order order) input.now input.now }
     ensures prefix { result ≡ REFUSED
-        → HasNoWholePrefix (item_limits keys depth bytes) (key_order order) input.now refusal.new.place }
+        → HasNoWholePrefix (item_limits keys depth bytes) (key_order order) input.now refusal.new.offset }
     ensures bad_order { (result ≡ BAD_ORDER) ↔ (1 < order) }
     ensures bad_limits { result ≡ BAD_LIMITS → ¬ AreLimits keys depth bytes }
     ensures in_range { result ≢ BAD_ORDER → result ≢ BAD_LIMITS
         → (order ≤ 1) × AreLimits keys depth bytes }
-    ensures statuses { (result ≡ OK) ⊎ (result ≡ TOO_SMALL) ⊎ (result ≡ REFUSED)
-        ⊎ (result ≡ BAD_ORDER) ⊎ (result ≡ BAD_LIMITS) }
+    // OK, TOO_SMALL, REFUSED, BAD_ORDER, BAD_LIMITS
+    ensures statuses { (result ≡ 0) ⊎ (result ≡ 2) ⊎ (result ≡ 1) ⊎ (result ≡ 4) ⊎ (result ≡ 5) }
     ensures kept { (result ≢ OK → result ≢ TOO_SMALL → items.new ≡ items.old)
         × (drop needed.new items.new ≡ drop needed.new items.old) }
     ensures no_count { result ≢ OK → result ≢ TOO_SMALL → needed.new ≡ 0 }

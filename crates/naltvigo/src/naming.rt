@@ -11,16 +11,16 @@ use cbor_head::Reason;
 /// The library's version: a byte each for its three numbers.
 pub const VERSION: u32 = 0x02_00_00;
 
-/// The version, as in `NALTVIGO_VERSION_NUMBER` of the header that goes with this library.
+/// The version, as in `NALTVIGO_VERSION_NUMBER` of this library's header.
 #[unsafe(no_mangle)]
 pub extern "C" fn naltvigo_version_raw() -> u32
-    ensures { result ≡ VERSION }
+    ensures { result ≡ 0x02_00_00 }
 {
     VERSION
 }
 
-/// Writes the name of the reason of this number and a zero byte behind it to the prefix of `out`, if
-/// both have space, and answers the name's length. The name is empty for a number that is no
+/// Writes the name of the reason of this number and a zero byte after it to the start of `out`, if
+/// both fit, and returns the name's length. The name is empty for a number that is no
 /// reason's.
 #[unsafe(no_mangle)]
 pub extern "C" fn naltvigo_reason_name_raw(number: u32, out: &mut [u8]) -> usize
@@ -38,7 +38,7 @@ pub extern "C" fn naltvigo_reason_name_raw(number: u32, out: &mut [u8]) -> usize
     }
 }
 
-// Writes the name and a zero byte behind it, if both have space, and answers the name's length.
+// Writes the name and a zero byte after it, if both fit, and returns the name's length.
 fn write_name(name: &[u8], out: &mut [u8]) -> usize
     ensures count { result ≡ length name.now }
     ensures written { result < length out.old → take (1 + result) out.new ≡ name.now ++ 0 ∷ [] }
@@ -54,7 +54,7 @@ fn write_name(name: &[u8], out: &mut [u8]) -> usize
 }
 
 // The reason of this number.
-fn reason_numbered(number: u32) -> Option<Reason>
+pub(crate) fn reason_numbered(number: u32) -> Option<Reason>
     ensures some { IfSome result (λ r. number ≡ reason_number r) }
     ensures none { result ≡ None → (number ≡ 0) ⊎ (20 < number) }
 {

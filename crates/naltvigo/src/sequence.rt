@@ -3,7 +3,7 @@
 ghost use Rattle.std.specs.Prelude.{◌≡◌, ◌≢◌, ◌↔◌, ◌⊎◌, ◌<◌, ◌≤◌};
 ghost use Rattle.cbor_head.specs.Complaint.{plain, strict};
 ghost use Rattle.cbor_head.specs.Verdict.{IsVerdict, refused};
-ghost use Rattle.cbor_verdict.specs.Readers.{HasNoCanonicalPrefix, IsCanonicalPrefix, IsRead};
+ghost use Rattle.theory_verdicts.specs.Readers.{HasNoCanonicalPrefix, IsCanonicalPrefix, IsRead};
 ghost use Rattle.naltvigo.specs.Settings.{key_order, item_limits, AreLimits};
 ghost use Rattle.naltvigo.specs.Reported.{ReportsMemory, ReportsOf};
 
@@ -14,8 +14,8 @@ use crate::status::{
 use cbor_reader::{check_canonical, check_valid};
 use std::alloc::Global;
 
-/// Whether `input` begins with one valid item; `taken` becomes the count of its bytes, and 0 where
-/// the answer is not `OK`.
+/// Whether `input` begins with one valid item; `taken` becomes the number of its bytes, and 0 if
+/// the status is not `OK`.
 #[unsafe(no_mangle)]
 pub extern "C" fn naltvigo_next_valid_raw(
     alloc: Global,
@@ -33,8 +33,8 @@ pub extern "C" fn naltvigo_next_valid_raw(
     ensures no_memory { result ≡ NO_MEMORY → ReportsMemory 0 refusal.new }
     ensures bad_limits { result ≡ BAD_LIMITS → ¬ AreLimits keys depth bytes }
     ensures in_range { result ≢ BAD_LIMITS → AreLimits keys depth bytes }
-    ensures statuses { (result ≡ OK) ⊎ (result ≡ REFUSED)
-        ⊎ (result ≡ NO_MEMORY) ⊎ (result ≡ BAD_LIMITS) }
+    // OK, REFUSED, NO_MEMORY, BAD_LIMITS
+    ensures statuses { (result ≡ 0) ⊎ (result ≡ 1) ⊎ (result ≡ 3) ⊎ (result ≡ 5) }
     ensures no_count { result ≢ OK → taken.new ≡ 0 }
     ensures unreported { result ≢ REFUSED → result ≢ NO_MEMORY → refusal.new ≡ refusal.old }
 {
@@ -51,8 +51,8 @@ pub extern "C" fn naltvigo_next_valid_raw(
     }
 }
 
-/// Whether `input` begins with one valid item in its canonical bytes; `taken` becomes their count,
-/// and 0 where the answer is not `OK`. It takes no memory.
+/// Whether `input` begins with one valid item in its canonical bytes; `taken` becomes their number,
+/// and 0 if the status is not `OK`. It allocates nothing.
 #[unsafe(no_mangle)]
 pub extern "C" fn naltvigo_next_canonical_raw(
     input: &[u8],
@@ -76,8 +76,8 @@ pub extern "C" fn naltvigo_next_canonical_raw(
     ensures bad_limits { result ≡ BAD_LIMITS → ¬ AreLimits keys depth bytes }
     ensures in_range { result ≢ BAD_ORDER → result ≢ BAD_LIMITS
         → (order ≤ 1) × AreLimits keys depth bytes }
-    ensures statuses { (result ≡ OK) ⊎ (result ≡ REFUSED)
-        ⊎ (result ≡ BAD_ORDER) ⊎ (result ≡ BAD_LIMITS) }
+    // OK, REFUSED, BAD_ORDER, BAD_LIMITS
+    ensures statuses { (result ≡ 0) ⊎ (result ≡ 1) ⊎ (result ≡ 4) ⊎ (result ≡ 5) }
     ensures no_count { result ≢ OK → taken.new ≡ 0 }
     ensures unreported { result ≢ REFUSED → refusal.new ≡ refusal.old }
 {

@@ -13,8 +13,7 @@ use crate::settings::bounds_of;
 use crate::status::{
     BAD_LIMITS, BAD_MACHINE, EVENT, MORE, NaltvigoRefusal, OK, REFUSED, reported as of_refusal,
 };
-use cbor_automaton::{Event, EventKind};
-use cbor_head::{Limits, Width};
+use cbor_head::{Event, EventKind, Limits, Width};
 use cbor_machine::{Machine, Out, SavedMachine};
 
 /// The kind of a chunk's head; below it are the major types.
@@ -31,7 +30,7 @@ pub const NO_ARGUMENT: u32 = 255;
 #[derive(Clone, Copy, Debug, PartialEq, Eq)]
 pub struct NaltvigoEvent {
     /// The offset of its first byte.
-    pub place: u64,
+    pub offset: u64,
     /// The argument or the count, or how many bytes a piece has; 0 where there is none.
     pub number: u64,
     /// The major type 0 to 7; 8 a chunk, 9 a piece of a payload, 10 a break.
@@ -50,7 +49,8 @@ pub extern "C" fn naltvigo_machine_start_raw(
     ensures starts { result ≡ OK → Starts machine.new depth bytes }
     ensures bad_limits { result ≡ BAD_LIMITS → ¬ AreBounds (bounds depth bytes) }
     ensures in_range { result ≢ BAD_LIMITS → AreBounds (bounds depth bytes) }
-    ensures statuses { (result ≡ OK) ⊎ (result ≡ BAD_LIMITS) }
+    // OK, BAD_LIMITS
+    ensures statuses { (result ≡ 0) ⊎ (result ≡ 5) }
     ensures kept { result ≢ OK → machine.new ≡ machine.old }
 {
     match bounds_of(depth, bytes) {
@@ -64,7 +64,7 @@ pub extern "C" fn naltvigo_machine_start_raw(
 
 /// Takes bytes from the prefix of `input` and reports their events, in the first of `events`, until
 /// these are full, or a byte is refused, or none is left: `used` says how many bytes, and `reported` how
-/// many events. Once the item is complete, or refused, it uses nothing and answers the same. It takes
+/// many events. Once the item is complete, or refused, it uses nothing and returns the same. It takes
 /// no memory.
 #[unsafe(no_mangle)]
 pub extern "C" fn naltvigo_machine_take_raw(
@@ -77,9 +77,9 @@ pub extern "C" fn naltvigo_machine_take_raw(
 ) -> u32
     ensures used { (used.new ≤ length input.now)
         × (machine.new.taken ≡ machine.old.taken + used.new) }
-    // An event stands for a byte at least.
+    // An event has at least one byte.
     ensures reported { (reported.new ≤ length events.new) × (reported.new ≤ used.new) }
-    // The machine that the numbers hold did so, be it of a start or of the call before.
+    // The numbers hold the machine that did so, from a start or from the previous call.
     ensures streams { result ≢ BAD_MACHINE → (m : MachineView) → Holds machine.old m
         → (behind : MachineView) × Holds machine.new behind
         × ReportsOn m behind (take used.new input.now) result (take reported.new events.new) refusal.new }
@@ -88,7 +88,7 @@ pub extern "C" fn naltvigo_machine_take_raw(
     ensures space { result ≢ EVENT → result ≢ BAD_MACHINE → reported.new < length events.new }
     ensures more { result ≡ MORE → (used.new ≡ length input.now)
         × (machine.new.taken < machine.new.bytes) }
-    ensures refused { result ≡ REFUSED → (refusal.new.read ≡ machine.new.taken)
+    ensures refused { result ≡ REFUSED → (refusal.new.consumed ≡ machine.new.taken)
         × (2 ≤ refusal.new.reason) × (refusal.new.reason ≤ 9) }
     ensures stays { 0 < length events.old
         → StaysSo machine.old machine.new used.new result refusal.new }
@@ -137,7 +137,7 @@ impl Taken {
     }
 }
 
-// Takes events with a machine that goes on.
+// Reads events with a resumed machine.
 fn take_events(
     machine: &mut Machine,
     input: &[u8],
@@ -153,7 +153,7 @@ fn take_events(
     ensures space { result.status ≢ EVENT → result.reported < length events.new }
     ensures more { result.status ≡ MORE → (result.used ≡ length input.now)
         × (machine.new.taken < machine.new.bytes) }
-    ensures refused { result.status ≡ REFUSED → (refusal.new.read ≡ machine.new.taken)
+    ensures refused { result.status ≡ REFUSED → (refusal.new.consumed ≡ machine.new.taken)
         × (2 ≤ refusal.new.reason) × (refusal.new.reason ≤ 9) }
     ensures complete { 0 < length events.old → IsComplete machine.old
         → (result.status ≡ OK) × (result.used ≡ 0) × (machine.new ≡ machine.old) }
@@ -191,7 +191,7 @@ fn event_of(event: Event) -> NaltvigoEvent
 {
     let (kind, number) = numbers_of(event.kind);
     NaltvigoEvent {
-        place: event.place,
+        offset: event.place,
         number,
         kind,
         width: width_of(event.width),

@@ -13,6 +13,9 @@ SELECT cbor_get('\xa162c3bc07', 'ü'), length(cbor_diagnostic('\x62c3bc')), cbor
 SELECT cbor_diagnostic('\x63e6b0b4');
 \echo :LAST_ERROR_SQLSTATE
 SELECT cbor_is_valid('\x63e6b0b4'), cbor_canonical('\x7f63e6b0b4ff');
+-- a path with such a character is left out
+SELECT split_part(cbor_explain('\xa163e6b0b4f90000'), E'\n', 3), split_part(cbor_explain('\xa16175f90000'), E'\n', 3);
+SELECT cbor_canonical('\xa163e6b0b4f90000');
 \c contrib_regression
 DROP DATABASE naltvigo_latin1;
 DROP ROLE naltvigo_plain;

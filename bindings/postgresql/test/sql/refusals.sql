@@ -1,4 +1,4 @@
--- errors: the SQLSTATE, and the reason and place in the detail
+-- errors: the SQLSTATE, and the reason and offset in the detail
 SELECT cbor_canonical('\x81f93e00');
 \echo :LAST_ERROR_SQLSTATE
 SELECT cbor_diagnostic('\x61ff');
@@ -13,6 +13,15 @@ SELECT cbor_get('\xa0', 1, true);
 \echo :LAST_ERROR_SQLSTATE
 SELECT cbor_get('\xa0', '\x00'::bytea);
 SELECT cbor_get('\xa0');
+-- {"u": [0, 1.5]}: a sentence, an advice and a path
+SELECT cbor_explain('\xa161758200f93e00'), cbor_explain('\x00') IS NULL AS accepted, cbor_explain(NULL) IS NULL AS none;
+SELECT cbor_get('\xa161758200f93e00', 'u');
+-- a path longer than the first space for it
+SELECT length(split_part(cbor_explain(decode(repeat('a1783c' || repeat('6b', 60), 250) || 'f90000', 'hex')), E'\n', 3));
+-- paths of each length, so that an explanation fills 512 bytes, or one more or less
+SELECT count(*) FROM generate_series(0, 600) n, LATERAL (SELECT n / 43 AS levels, 1 + n % 43 AS last) of
+    WHERE split_part(cbor_explain(decode(repeat('a17828' || repeat('6b', 40), levels) || 'a178' || lpad(to_hex(last), 2, '0') || repeat('6b', last) || 'f90000', 'hex')), E'\n', 3)
+        = '$' || repeat('."' || repeat('k', 40) || '"', levels) || '."' || repeat('k', last) || '"';
 -- ten thousand refusals, each in a subtransaction
 DO $$
 DECLARE n int := 0;

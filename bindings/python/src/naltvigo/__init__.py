@@ -1,6 +1,6 @@
-"""Deterministic CBOR (RFC 8949, without floating-point numbers), by a library that is proved.
+"""Deterministic CBOR (RFC 8949, without floating-point numbers), over a library that is proved.
 
-Values become canonical bytes, and bytes that are checked become values:
+Values become canonical bytes, and checked bytes become values:
 
 >>> import naltvigo
 >>> naltvigo.dumps({"Fun": True, "Amt": -2}).hex()
@@ -8,8 +8,8 @@ Values become canonical bytes, and bytes that are checked become values:
 >>> naltvigo.loads(bytes.fromhex("a263416d74216346756ef5"), canonical=True)
 {'Amt': -2, 'Fun': True}
 
-Bytes that others made are checked, compared and canonicalised. Every accepted input has one canonical encoding, and every
-refusal a name and a place:
+Bytes from elsewhere are checked, compared and canonicalised. Each accepted input has one canonical encoding, and each
+refusal a name and an offset:
 
 >>> streamed = bytes.fromhex("bf6346756ef563416d7421ff")       # {"Fun": true, "Amt": -2}, of indefinite length
 >>> naltvigo.canonicalise(streamed).hex()
@@ -19,35 +19,45 @@ refusal a name and a place:
 >>> naltvigo.canonicalise(b"\\x81\\xf9\\x3e\\x00")                 # [1.5]
 Traceback (most recent call last):
   ...
-naltvigo.Refused: refused 5 Float at 1: A floating-point number begins here; no float is accepted. Write it as an \
-integer, a text, or a tag over integers.
+naltvigo.Refused: refused 5 Float at 1 ($[0]): ...
 
-A call that takes bytes takes any buffer (bytes, bytearray, memoryview, array, mmap and others). Each call takes limits by
-name: `depth`, how deep arrays, maps and tags may nest (0 to 1024), and `max_bytes`, how many bytes an item may have (0 to
-2 ** 62); all but `events` also `keys`, which items may be keys of maps: 'any', or 'basic', integers and texts alone. A
-wrong limit, order or kind of keys is a ValueError, a limit that is no integer is a TypeError, and refused memory is a
-MemoryError. Calls may be made from any number of threads; the interpreter's lock is not held while the library reads an
-input of 16 KiB or more. A buffer that can change is copied first, so it may change meanwhile.
+A call that reads bytes accepts any buffer (bytes, bytearray, memoryview, array, mmap and others). Each call has limits,
+given by name: `depth`, how deeply arrays, maps and tags may nest (0 to 1024), and `max_bytes`, how many bytes an item and
+its canonical bytes may have (0 to 2 ** 62). All calls but `events` have `keys`, the items that may be keys of maps: 'any',
+or 'basic', only integers and texts. A limit, order or kind of keys out of range is a ValueError, a limit that is not an
+integer a TypeError, and no memory a MemoryError. Calls may be made from any number of threads; the interpreter's lock is
+not held while the library reads an input of 16 KiB or more. Memory that may change is copied first.
 """
+
+import sys
+from collections.abc import Mapping, Sequence
+
+if "t" in getattr(sys, "abiflags", ""):
+    raise ImportError("naltvigo needs the interpreter's lock: a Python without it (free-threaded) is not supported")
 
 from ._native import (
     VERSION,
+    FrozenDict,
+    FrozenList,
+    Simple,
     Tag,
     canonicalise,
-    canonicalise_items,
     check,
     check_canonical,
     diagnostic,
     dumps,
     is_canonical,
     item_ends,
-    items,
     loads,
     same,
 )
-from ._refused import Refused
+from ._files import canonicalise_items, dump, items, load
+from ._refused import Refused, path_of
 from ._streams import Event, events
-from ._values import Encoded, FrozenDict, Simple, undefined
+from ._values import Encoded, undefined
+
+Mapping.register(FrozenDict)
+Sequence.register(FrozenList)
 
 __version__: str = VERSION
 
@@ -55,6 +65,7 @@ __all__ = [
     "Encoded",
     "Event",
     "FrozenDict",
+    "FrozenList",
     "Refused",
     "Simple",
     "Tag",
@@ -63,12 +74,15 @@ __all__ = [
     "check",
     "check_canonical",
     "diagnostic",
+    "dump",
     "dumps",
     "events",
     "is_canonical",
     "item_ends",
     "items",
+    "load",
     "loads",
+    "path_of",
     "same",
     "undefined",
 ]

@@ -1,10 +1,13 @@
 """The extension (src/native)."""
 
 from array import array
-from collections.abc import Callable, Iterator
-from typing import Any, Literal, final, overload
+from collections.abc import Callable, Iterable, Iterator, Mapping, Sequence
+from types import GenericAlias
+from typing import Any, Literal, TypeVar, final, overload
 
 from _typeshed import ReadableBuffer
+
+from ._refused import Refused
 
 _Order = Literal["bytewise", "length"]
 _Keys = Literal["any", "basic"]
@@ -13,6 +16,41 @@ VERSION: str
 OK: int
 EVENT: int
 MORE: int
+
+_Key = TypeVar("_Key")
+_Value = TypeVar("_Value", covariant=True)
+
+@final
+class Simple:
+    __match_args__ = ("number",)
+    def __init__(self, number: int) -> None: ...
+    @property
+    def number(self) -> int: ...
+    def __hash__(self) -> int: ...
+
+@final
+class FrozenList(Sequence[Any]):
+    @overload
+    def __getitem__(self, index: int) -> Any: ...
+    @overload
+    def __getitem__(self, index: slice) -> tuple[Any, ...]: ...
+    def __len__(self) -> int: ...
+    def __hash__(self) -> int: ...
+
+@final
+class FrozenDict(Mapping[_Key, _Value]):
+    @overload
+    def __init__(self, mapping: Mapping[_Key, _Value] = ..., /) -> None: ...
+    @overload
+    def __init__(self, pairs: Iterable[tuple[_Key, _Value]], /) -> None: ...
+    @overload
+    def __init__(self: FrozenDict[str, _Value], /, **named: _Value) -> None: ...
+    def __getitem__(self, key: _Key, /) -> _Value: ...
+    def __iter__(self) -> Iterator[_Key]: ...
+    def __reversed__(self) -> Iterator[_Key]: ...
+    def __class_getitem__(cls, types: Any, /) -> GenericAlias: ...
+    def __len__(self) -> int: ...
+    def __hash__(self) -> int: ...
 
 @final
 class Tag:
@@ -27,10 +65,11 @@ class Tag:
 @final
 class Machine:
     @property
-    def taken(self) -> int: ...
+    def consumed(self) -> int: ...
     def take(
         self, part: bytes, at: int
-    ) -> tuple[int, int, list[tuple[int, int, int | None, int | None, bytes]], tuple[int, int, int] | None]: ...
+    ) -> tuple[int, int, list[tuple[int, int, int | None, int | None, bytes]], Refused | None]: ...
+    def refusal(self, reason: int, /) -> Refused: ...
 
 def start_machine(*, depth: int = 64, max_bytes: int = 1 << 20) -> Machine: ...
 def dumps(
@@ -50,6 +89,8 @@ def loads(
     depth: int = 64,
     max_bytes: int = 1 << 20,
     keys: _Keys = "any",
+    tag_hook: Callable[[Tag], Any] | None = None,
+    map_hook: Callable[[dict[Any, Any]], Any] | None = None,
 ) -> Any: ...
 def canonicalise(
     data: ReadableBuffer, *, order: _Order = "bytewise", depth: int = 64, max_bytes: int = 1 << 20, keys: _Keys = "any"

@@ -5,8 +5,8 @@ from __future__ import annotations
 from collections.abc import Iterable, Iterator
 from typing import TYPE_CHECKING, NamedTuple
 
+from ._files import is_buffer
 from ._native import EVENT, MORE, OK, Machine, start_machine
-from ._refused import Refused
 
 if TYPE_CHECKING:
     from _typeshed import ReadableBuffer
@@ -19,17 +19,17 @@ TRUNCATED, TRAILING = 1, 12
 class Event(NamedTuple):
     """An event of an item.
 
-    place     the offset of its first byte, from the item's first one
+    offset    of its first byte, from the first byte of the item
     kind      'unsigned', 'negative', 'bytes', 'text', 'array', 'map', 'tag', 'simple': the head of an item;
               'chunk': the head of a chunk of a string of indefinite length; 'piece': some bytes of a payload;
               'break': the end of what has indefinite length
-    number    the argument (a negative number is -1 less it), the tag or simple value, or how many bytes, members
-              or pairs there are; None for an indefinite length, and for a break
-    width     how many bytes the argument has: 0, 1, 2, 4 or 8; None as above
+    number    the argument (a negative number is -1 minus the argument), the tag or simple value, or the number of
+              bytes, members or pairs; None for an indefinite length, and for a break
+    width     the number of bytes of the argument: 0, 1, 2, 4 or 8; None as above
     data      the bytes of a piece
     """
 
-    place: int
+    offset: int
     kind: str
     number: int | None
     width: int | None
@@ -37,10 +37,10 @@ class Event(NamedTuple):
 
 
 def events(chunks: ReadableBuffer | Iterable[ReadableBuffer], *, depth: int = 64, max_bytes: int = 1 << 20) -> Iterator[Event]:
-    """The events of the one item whose bytes come in these chunks, each as soon as its bytes are there.
+    """The events of the one item whose bytes come in these chunks, each as soon as its bytes have come.
 
-    Form alone is judged: neither UTF-8, nor repeated keys. What is wrong raises Refused behind the events before
-    it: so does a byte behind the item, and an item that the chunks don't end. A buffer is one chunk.
+    Only well-formedness is checked: neither UTF-8 nor repeated keys. Refused is raised after the events before what is
+    wrong, also for a byte after the item, and for an item that the chunks do not end. A buffer is one chunk.
 
     >>> for event in events([b"\\x82\\x18", b"\\x64\\x43a", b"bc"]):      # [100, h'616263']
     ...     print(*event)
@@ -51,16 +51,8 @@ def events(chunks: ReadableBuffer | Iterable[ReadableBuffer], *, depth: int = 64
     5 piece 2 0 b'bc'
     """
     machine = start_machine(depth=depth, max_bytes=max_bytes)
-    parts = (chunks,) if _is_buffer(chunks) else chunks
+    parts = (chunks,) if is_buffer(chunks) else chunks
     return _events(machine, parts)  # type: ignore[arg-type]
-
-
-def _is_buffer(chunks: object) -> bool:
-    try:
-        memoryview(chunks)  # type: ignore[arg-type]
-    except TypeError:
-        return False
-    return True
 
 
 def _events(machine: Machine, chunks: Iterable[ReadableBuffer]) -> Iterator[Event]:
@@ -71,17 +63,17 @@ def _events(machine: Machine, chunks: Iterable[ReadableBuffer]) -> Iterator[Even
         while status == EVENT:
             status, used, reported, refusal = machine.take(part, at)
             at += used
-            for place, kind, number, width, data in reported:
-                yield Event(place, KINDS[kind], number, width, data)
+            for offset, kind, number, width, data in reported:
+                yield Event(offset, KINDS[kind], number, width, data)
         if refusal:
-            raise Refused(*refusal)
+            raise refusal
         if status == OK and at < len(part):
-            raise Refused(TRAILING, machine.taken, machine.taken)
+            raise machine.refusal(TRAILING)
     if status == MORE:
-        raise Refused(TRUNCATED, machine.taken, machine.taken)
+        raise machine.refusal(TRUNCATED)
 
 
 def _and_nothing(chunks: Iterable[ReadableBuffer]) -> Iterator[ReadableBuffer]:
-    # behind the last chunk a machine still tells whether the byte limit was reached
+    # after the last chunk a machine still reports that the byte limit was reached
     yield from chunks
     yield b""

@@ -1,51 +1,6 @@
-"""The values that Python has no type for: simple values, undefined, maps as keys, and items in bytes."""
+"""Values that Python has no type for and that need no code in C: undefined, and items in bytes."""
 
-from typing import Any, NoReturn, TypeVar
-
-Key = TypeVar("Key")
-Value = TypeVar("Value")
-
-
-class Simple:
-    """A simple value: 0 to 19, or 32 to 255. The four between are False, True, None and undefined.
-
-    >>> from naltvigo import Simple, dumps
-    >>> dumps(Simple(32))
-    b'\\xf8 '
-    """
-
-    __slots__ = ("number",)
-    __module__ = "naltvigo"
-    __match_args__ = ("number",)
-
-    number: int
-
-    def __init__(self, number: int) -> None:
-        if not isinstance(number, int) or isinstance(number, bool):
-            raise TypeError(f"a simple value's number is an int, and not {type(number).__name__}")
-        if 20 <= number <= 23:
-            raise ValueError(f"simple value {number} is {('False', 'True', 'None', 'undefined')[number - 20]}")
-        if not (0 <= number <= 19 or 32 <= number <= 255):
-            raise ValueError("a simple value's number is 0 to 19, or 32 to 255")
-        object.__setattr__(self, "number", number)
-
-    def __setattr__(self, name: str, value: object) -> NoReturn:
-        raise AttributeError("a simple value does not change")
-
-    def __delattr__(self, name: str) -> NoReturn:
-        raise AttributeError("a simple value does not change")
-
-    def __eq__(self, other: object) -> bool:
-        return type(other) is Simple and self.number == other.number
-
-    def __hash__(self) -> int:
-        return hash((Simple, self.number))
-
-    def __repr__(self) -> str:
-        return f"Simple({self.number})"
-
-    def __reduce__(self) -> tuple[Any, ...]:
-        return Simple, (self.number,)
+from typing import Any
 
 
 class Undefined:
@@ -80,38 +35,3 @@ class Encoded(bytes):
 
     def __repr__(self) -> str:
         return f"Encoded({super().__repr__()})"
-
-
-class FrozenDict(dict[Key, Value]):
-    """A dict that does not change and has a hash, as a key of a map has to.
-
-    >>> from naltvigo import FrozenDict, dumps
-    >>> dumps({FrozenDict({1: 2}): 3})
-    b'\\xa1\\xa1\\x01\\x02\\x03'
-    """
-
-    __slots__ = ("_hash",)
-    __module__ = "naltvigo"
-
-    _hash: int
-
-    def __hash__(self) -> int:  # type: ignore[override]
-        try:
-            return self._hash
-        except AttributeError:
-            self._hash = hash(frozenset(self.items()))
-            return self._hash
-
-    def __repr__(self) -> str:
-        return f"FrozenDict({super().__repr__()})"
-
-    def __reduce__(self) -> tuple[Any, ...]:
-        return FrozenDict, (dict(self),)
-
-
-def _refuse_change(self: object, *arguments: object, **named: object) -> NoReturn:
-    raise TypeError("a FrozenDict does not change")
-
-
-for _name in ("__setitem__", "__delitem__", "__ior__", "clear", "pop", "popitem", "setdefault", "update"):
-    setattr(FrozenDict, _name, _refuse_change)

@@ -1,10 +1,8 @@
 /* The calls on whole items in bytes. */
 #include "native.h"
 
-/* Answers of at most so many bytes are made on the stack first. */
+/* Results of at most this number of bytes are made on the stack first. */
 #define SMALL_ANSWER 1024
-
-static size_t least(uint64_t left, uint64_t right) { return (size_t)(left < right ? left : right); }
 
 static uint32_t canonicalise_into(const uint8_t *bytes, size_t length, const struct options *options, uint8_t *out,
                                   size_t space, size_t *needed, struct naltvigo_refusal *refusal) {
@@ -15,7 +13,7 @@ static uint32_t canonicalise_into(const uint8_t *bytes, size_t length, const str
     return status;
 }
 
-/* The same into a new bytes object of `space` bytes, or of as many as are needed. */
+/* The same into a new bytes object of `space` bytes, or of the bytes that are needed. */
 static PyObject *canonicalise_long(const struct state *state, const uint8_t *bytes, size_t length,
                                    const struct options *options, size_t space) {
     struct naltvigo_refusal refusal;
@@ -32,7 +30,8 @@ static PyObject *canonicalise_long(const struct state *state, const uint8_t *byt
         if (status == NALTVIGO_OK) return part;
         space = needed;
     } while (status == NALTVIGO_TOO_SMALL);
-    return raise_status(state, status, &refusal);
+    const struct refused of = {.bytes = bytes, .length = length, .options = options};
+    return raise_status(state, status, &refusal, &of);
 }
 
 PyObject *canonical_bytes(const struct state *state, const uint8_t *bytes, size_t length, const struct options *options,
@@ -44,13 +43,14 @@ PyObject *canonical_bytes(const struct state *state, const uint8_t *bytes, size_
     const uint32_t status = canonicalise_into(bytes, length, options, small, sizeof small, &needed, &refusal);
     if (status == NALTVIGO_OK) return PyBytes_FromStringAndSize((char *)small, (Py_ssize_t)needed);
     if (status == NALTVIGO_TOO_SMALL) return canonicalise_long(state, bytes, length, options, needed);
-    return raise_status(state, status, &refusal);
+    const struct refused of = {.bytes = bytes, .length = length, .options = options};
+    return raise_status(state, status, &refusal, &of);
 }
 
 FUNCTION(canonicalise) {
     static const struct signature signature = {"canonicalise", {"data"}, LIMITS_KEYS_AND_ORDER};
     struct call call;
-    if (open_call(&call, &signature, COPY, module, arguments, count, names)) return NULL;
+    if (open_call(&call, &signature, ITEM, module, arguments, count, names)) return NULL;
     /* canonical bytes are within the limit, however long the input is */
     const size_t space = least(call.input.length, call.options.bytes);
     PyObject *answer = canonical_bytes(call.state, call.input.bytes, call.input.length, &call.options, space);
@@ -58,28 +58,34 @@ FUNCTION(canonicalise) {
     return answer;
 }
 
+/* Closes a call that returns this object if the status is OK. */
+static PyObject *close_with(struct call *call, uint32_t status, const struct naltvigo_refusal *refusal,
+                            PyObject *answer) {
+    const struct refused of = refused_by(call);
+    if (status != NALTVIGO_OK) raise_status(call->state, status, refusal, &of);
+    close_call(call);
+    return status == NALTVIGO_OK ? Py_NewRef(answer) : NULL;
+}
+
 FUNCTION(check) {
     static const struct signature signature = {"check", {"data"}, LIMITS_AND_KEYS};
     struct naltvigo_refusal refusal;
     struct call call;
-    if (open_call(&call, &signature, COPY, module, arguments, count, names)) return NULL;
+    if (open_call(&call, &signature, ITEM, module, arguments, count, names)) return NULL;
     const struct options *options = &call.options;
     PyThreadState *released = release_lock(call.input.length);
     const uint32_t status = naltvigo_check_valid_raw(call.input.bytes, call.input.length, options->keys, options->depth,
                                                      options->bytes, &refusal);
     take_lock(released);
-    close_call(&call);
-    return status == NALTVIGO_OK ? Py_NewRef(Py_None) : raise_status(call.state, status, &refusal);
+    return close_with(&call, status, &refusal, Py_None);
 }
 
-/* The status of a strict check, which closes the call. */
 static uint32_t check_strictly(struct call *call, struct naltvigo_refusal *refusal) {
     const struct options *options = &call->options;
     PyThreadState *released = release_lock(call->input.length);
     const uint32_t status = naltvigo_check_canonical_raw(call->input.bytes, call->input.length, options->order,
                                                          options->keys, options->depth, options->bytes, refusal);
     take_lock(released);
-    close_call(call);
     return status;
 }
 
@@ -87,19 +93,18 @@ FUNCTION(check_canonical) {
     static const struct signature signature = {"check_canonical", {"data"}, LIMITS_KEYS_AND_ORDER};
     struct naltvigo_refusal refusal;
     struct call call;
-    if (open_call(&call, &signature, COPY, module, arguments, count, names)) return NULL;
-    const uint32_t status = check_strictly(&call, &refusal);
-    return status == NALTVIGO_OK ? Py_NewRef(Py_None) : raise_status(call.state, status, &refusal);
+    if (open_call(&call, &signature, ITEM, module, arguments, count, names)) return NULL;
+    return close_with(&call, check_strictly(&call, &refusal), &refusal, Py_None);
 }
 
 FUNCTION(is_canonical) {
     static const struct signature signature = {"is_canonical", {"data"}, LIMITS_KEYS_AND_ORDER};
     struct naltvigo_refusal refusal;
     struct call call;
-    if (open_call(&call, &signature, COPY, module, arguments, count, names)) return NULL;
+    if (open_call(&call, &signature, ITEM, module, arguments, count, names)) return NULL;
     const uint32_t status = check_strictly(&call, &refusal);
-    if (status == NALTVIGO_OK || status == NALTVIGO_REFUSED) return PyBool_FromLong(status == NALTVIGO_OK);
-    return raise_status(call.state, status, &refusal);
+    if (status == NALTVIGO_REFUSED) return close_with(&call, NALTVIGO_OK, NULL, Py_False);
+    return close_with(&call, status, &refusal, Py_True);
 }
 
 FUNCTION(same) {
@@ -109,21 +114,25 @@ FUNCTION(same) {
     struct options options;
     struct input left, right;
     PyObject *operands[2];
-    uint32_t side;
+    uint32_t side = NALTVIGO_LEFT;
     if (read_arguments(state, &signature, arguments, count, names, operands, &options)) return NULL;
-    if (open_input(&left, operands[0], COPY)) return NULL;
-    if (open_input(&right, operands[1], COPY)) return close_input(&left), NULL;
+    if (open_input(&left, operands[0], ITEM, &options)) return NULL;
+    if (open_input(&right, operands[1], ITEM, &options)) return close_input(&left), NULL;
     PyThreadState *released = release_lock(left.length + right.length);
     const uint32_t status = naltvigo_compare_raw(left.bytes, left.length, right.bytes, right.length, options.keys,
                                                  options.depth, options.bytes, &side, &refusal);
     take_lock(released);
+    const struct input *input = side == NALTVIGO_LEFT ? &left : &right;
+    const struct refused of = {
+        input->bytes, input->length, &options, side == NALTVIGO_LEFT ? "left" : "right", .item = 0};
+    const int is_answered = status == NALTVIGO_OK || status == NALTVIGO_DIFFERENT;
+    if (!is_answered) raise_status(state, status, &refusal, &of);
     close_input(&left);
     close_input(&right);
-    if (status == NALTVIGO_OK || status == NALTVIGO_DIFFERENT) return PyBool_FromLong(status == NALTVIGO_OK);
-    return raise_status_of_side(state, status, &refusal, side);
+    return is_answered ? PyBool_FromLong(status == NALTVIGO_OK) : NULL;
 }
 
-/* The text of an item, in a buffer of `space` bytes, or of as many as are needed. */
+/* The text of an item, in a buffer of `space` bytes, or of the bytes that are needed. */
 static PyObject *text_of(const struct call *call, size_t space) {
     const struct options *options = &call->options;
     const struct input *input = &call->input;
@@ -142,13 +151,14 @@ static PyObject *text_of(const struct call *call, size_t space) {
         if (status == NALTVIGO_OK) return text;
         space = needed;
     } while (status == NALTVIGO_TOO_SMALL);
-    return raise_status(call->state, status, &refusal);
+    const struct refused of = refused_by(call);
+    return raise_status(call->state, status, &refusal, &of);
 }
 
 FUNCTION(diagnostic) {
     static const struct signature signature = {"diagnostic", {"data"}, LIMITS_AND_KEYS};
     struct call call;
-    if (open_call(&call, &signature, COPY, module, arguments, count, names)) return NULL;
+    if (open_call(&call, &signature, ITEM, module, arguments, count, names)) return NULL;
     /* most texts have at most four characters a byte */
     PyObject *text = text_of(&call, 64 + 4 * least(call.input.length, call.options.bytes));
     close_call(&call);

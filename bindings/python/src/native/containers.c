@@ -41,30 +41,16 @@ static int has_changed(void) {
     return -1;
 }
 
-static int hold_pair(struct frame *frame, PyObject *key, PyObject *value, PyObject **member) {
+static int next_in_dict(struct frame *frame, PyObject **member) {
+    PyObject *key, *value;
+    const int is_there = PyDict_Next(frame->of, &frame->position, &key, &value);
+    if (is_there == (frame->at == frame->count)) return has_changed();
+    if (!is_there) return 0;
     frame->at++;
     frame->key = Py_NewRef(key), frame->value = Py_NewRef(value);
     frame->is_value_due = 1;
     *member = frame->key;
     return 1;
-}
-
-static int next_in_dict(struct frame *frame, PyObject **member) {
-    PyObject *key, *value;
-    const int is_there = PyDict_Next(frame->of, &frame->position, &key, &value);
-    if (is_there == (frame->at == frame->count)) return has_changed();
-    return is_there ? hold_pair(frame, key, value, member) : 0;
-}
-
-static int next_in_pairs(struct frame *frame, PyObject **member) {
-    if (PyList_Size(frame->of) != frame->count) return has_changed();
-    if (frame->at == frame->count) return 0;
-    PyObject *pair = PyList_GetItem(frame->of, frame->at);
-    if (!pair) return -1;
-    if (PyTuple_Check(pair) && PyTuple_Size(pair) == 2)
-        return hold_pair(frame, PyTuple_GetItem(pair, 0), PyTuple_GetItem(pair, 1), member);
-    PyErr_SetString(PyExc_TypeError, "items() of a dict gives tuples of a key and a value");
-    return -1;
 }
 
 static int next_in_array(struct frame *frame, PyObject **member) {
@@ -88,21 +74,10 @@ int next_member(struct frame *frame, PyObject **member) {
     Py_CLEAR(frame->value);
     switch (frame->kind) {
     case A_DICT: return next_in_dict(frame, member);
-    case PAIRS: return next_in_pairs(frame, member);
     case CONTENT:
         if (frame->at++) return 0;
         *member = frame->value = Py_XNewRef(((struct tag *)frame->of)->content);
         return *member ? 1 : 0;
     default: return next_in_array(frame, member);
     }
-}
-
-PyObject *path_of(const struct encoder *encoder) {
-    PyObject *path = PyTuple_New(encoder->open);
-    for (uint32_t i = 0; path && i < encoder->open; i++) {
-        const struct frame *frame = &encoder->frames[i];
-        PyObject *step = frame->key ? Py_NewRef(frame->key) : PyLong_FromSsize_t(frame->at ? frame->at - 1 : 0);
-        if (!step || PyTuple_SetItem(path, i, step)) Py_CLEAR(path);
-    }
-    return path;
 }

@@ -1,7 +1,7 @@
 /* Bytes on their way to a value.
  *
  * The library checks that the bytes are canonical and indexes their items (naltvigo_index_raw, proved). Input that is
- * not canonical is canonicalised first. So the decoder reads no byte but payloads. Open containers stand in an array
+ * not canonical is canonicalised first. So the decoder reads no byte but payloads. Open containers are in an array
  * and not on the stack.
  */
 #ifndef NATIVE_DECODER_H
@@ -11,19 +11,19 @@
 
 /* ---- collisions.c ---- */
 
-/* How often the keys of a map would meet in the table of a dict; null for a small map. */
+/* How often the keys of a map would collide in the table of a dict; null for a small map. */
 struct collisions;
 
-/* A map of so many pairs has one. */
+/* A map of more than this number of pairs has one. */
 #define MANY_PAIRS 64
 struct collisions *new_collisions(void);
 void free_collisions(struct collisions *collisions);
-/* -1 with an exception where the keys so far collide too often. */
+/* -1 with an exception if the keys so far collide too often. */
 int add_key(struct collisions *collisions, PyObject *key);
 
 /* ---- key_texts.c ---- */
 
-/* Texts that were keys, by where they lie in the input: records have the same keys again and again. */
+/* Texts that were keys, and their bytes in the input: records have the same keys again and again. */
 #define KEY_TEXTS 256
 struct key_text {
     const uint8_t *bytes;
@@ -41,23 +41,29 @@ struct level {
     PyObject *into, *key; /* a list, a dict or the content of a tag; and of a dict the key whose value is due */
     uint64_t left, at;    /* how many members or pairs follow, and how many are complete; of a tag its number in `at` */
     struct collisions *collisions;
+    const struct naltvigo_item *item; /* its entry in the index */
     uint32_t kind;
     int is_in_key;
 };
 
 struct decoder {
     const struct state *state;
+    const struct options *options;
     const uint8_t *bytes;
     const struct naltvigo_item *next, *end;
+    PyObject *key_bytes;   /* a copy of the bytes of the key at hand, if it is a container; else null */
+    const char *key_start; /* its first byte */
+    uint64_t key_offset;   /* the offset of the key */
+    int is_collecting;     /* whether Python's collector of cycles runs */
     struct key_text *key_texts;
     struct level *levels;
     uint32_t open, space;
-    int is_collecting; /* whether Python's collector of cycles runs */
+    const struct naltvigo_item *fault; /* the container that an exception is about */
     struct level first_levels[12];
 };
 
 /* The value of canonical bytes and the index of their items; null with an exception. */
-PyObject *decode(const struct state *state, const uint8_t *bytes, size_t length, const struct naltvigo_item *items,
-                 size_t count);
+PyObject *decode(const struct state *state, const struct options *options, const uint8_t *bytes, size_t length,
+                 const struct naltvigo_item *items, size_t count);
 
 #endif

@@ -6,32 +6,26 @@ static int put(struct encoder *encoder, PyObject *value);
 static int refuse_type(PyObject *value) {
     if (PyFloat_Check(value))
         PyErr_SetString(PyExc_TypeError,
-                        "naltvigo has no floats: write an integer (milliseconds, cents), a text, or a tag over "
-                        "integers, as Tag(4, [-2, 314]) for 3.14");
+                        "naltvigo has no floats: write an integer (milliseconds, cents), a text, or a tag that "
+                        "contains integers, as Tag(4, [-2, 314]) for 3.14");
     else
         PyErr_Format(PyExc_TypeError,
                      "naltvigo has no %R: a value is an int, bytes, str, list, tuple, dict, bool, None, "
-                     "undefined, Tag, Simple or Encoded; default= may make one of it",
+                     "undefined, Tag, Simple or Encoded; pass default= to convert other types",
                      Py_TYPE(value));
     return -1;
 }
 
-/* What is no value: `default` makes one of it, once. */
+/* What is not a value: `default` makes one of it, once. */
 static int put_by_default(struct encoder *encoder, PyObject *object) {
     if (!encoder->options->fallback || encoder->is_in_default) return refuse_type(object);
     PyObject *value = PyObject_CallFunctionObjArgs(encoder->options->fallback, object, NULL);
+    if (!value) add_note("default was called with %R", Py_TYPE(object));
     encoder->is_in_default = 1;
     const int status = value ? put(encoder, value) : -1;
     encoder->is_in_default = 0;
     Py_XDECREF(value);
     return status;
-}
-
-static int put_simple(struct encoder *encoder, PyObject *simple) {
-    PyObject *number = PyObject_GetAttr(simple, encoder->state->number);
-    const unsigned long n = number ? PyLong_AsUnsignedLong(number) : (unsigned long)-1;
-    Py_XDECREF(number);
-    return n == (unsigned long)-1 && PyErr_Occurred() ? -1 : put_head(encoder, SIMPLE, n);
 }
 
 static int put_view(struct encoder *encoder, PyObject *view) {
@@ -41,10 +35,8 @@ static int put_view(struct encoder *encoder, PyObject *view) {
     return status;
 }
 
-/* A subclass of dict has what its own items() answers. */
-static int open_pairs(struct encoder *encoder, PyObject *dict) {
-    PyObject *pairs = PyMapping_Items(dict);
-    return pairs ? open_frame(encoder, pairs, PAIRS, MAP, (uint64_t)PyList_Size(pairs)) : -1;
+static int open_dict(struct encoder *encoder, PyObject *dict) {
+    return open_frame(encoder, Py_NewRef(dict), A_DICT, MAP, (uint64_t)PyDict_Size(dict));
 }
 
 static int open_list(struct encoder *encoder, PyObject *list) {
@@ -63,27 +55,31 @@ static int put_other(struct encoder *encoder, PyObject *value) {
     if (PyTuple_Check(value)) return open_tuple(encoder, value);
     if (PyLong_Check(value)) return put_integer(encoder, value);
     if (PyUnicode_Check(value)) return put_text(encoder, value);
-    if ((PyObject *)Py_TYPE(value) == state->encoded) return put_encoded(encoder, value);
-    if (PyBytes_Check(value)) return put_string(encoder, BYTES, PyBytes_AsString(value), PyBytes_Size(value));
+    if (PyBytes_Check(value)) {
+        if (PyType_IsSubtype(Py_TYPE(value), (PyTypeObject *)state->encoded)) return put_encoded(encoder, value);
+        return put_string(encoder, BYTES, PyBytes_AsString(value), PyBytes_Size(value));
+    }
     if (PyByteArray_Check(value))
         return put_string(encoder, BYTES, PyByteArray_AsString(value), PyByteArray_Size(value));
     if (PyMemoryView_Check(value)) return put_view(encoder, value);
-    if (PyDict_Check(value)) return open_pairs(encoder, value);
+    if (PyDict_Check(value)) return open_dict(encoder, value);
     if (PyList_Check(value)) return open_list(encoder, value);
     if (value == state->undefined) return put_head(encoder, SIMPLE, 23);
-    if ((PyObject *)Py_TYPE(value) == state->simple) return put_simple(encoder, value);
+    if (Py_TYPE(value) == state->simple) return put_head(encoder, SIMPLE, number_of_simple(value));
+    if (Py_TYPE(value) == state->frozen_list) return open_tuple(encoder, ((struct frozen *)value)->members);
+    if (Py_TYPE(value) == state->frozen_dict) return open_dict(encoder, ((struct frozen *)value)->members);
     return put_by_default(encoder, value);
 }
 
 static int put(struct encoder *encoder, PyObject *value) {
     const PyTypeObject *type = Py_TYPE(value);
-    if (encoder->length > encoder->options->bytes || encoder->length >= encoder->until) {
+    if (encoder->length > encoder->options->bytes) {
         encoder->is_stopped = 1;
         return 0;
     }
     if (type == &PyUnicode_Type) return put_text(encoder, value);
     if (type == &PyLong_Type) return put_integer(encoder, value);
-    if (type == &PyDict_Type) return open_frame(encoder, Py_NewRef(value), A_DICT, MAP, (uint64_t)PyDict_Size(value));
+    if (type == &PyDict_Type) return open_dict(encoder, value);
     if (type == &PyList_Type) return open_list(encoder, value);
     if (type == &PyBytes_Type) return put_string(encoder, BYTES, PyBytes_AsString(value), PyBytes_Size(value));
     if (value == Py_False) return put_head(encoder, SIMPLE, 20);
@@ -95,7 +91,6 @@ static int put(struct encoder *encoder, PyObject *value) {
 void start_encoder(struct encoder *encoder, const struct state *state, const struct options *options) {
     encoder->state = state, encoder->options = options;
     encoder->bytes = encoder->first_bytes, encoder->length = 0, encoder->space = sizeof encoder->first_bytes;
-    encoder->until = UINT64_MAX;
     encoder->frames = encoder->first_frames, encoder->open = 0;
     encoder->frame_room = sizeof encoder->first_frames / sizeof *encoder->first_frames;
     encoder->is_stopped = encoder->is_in_default = 0;
@@ -108,7 +103,6 @@ int encode_value(struct encoder *encoder, PyObject *value) {
     while (encoder->open && !encoder->is_stopped) {
         const int found = next_member(&encoder->frames[encoder->open - 1], &member);
         if (found < 0 || (found && put(encoder, member))) return -1;
-        if (encoder->length > encoder->until) encoder->is_stopped = 1;
         if (!found) close_frame(encoder);
     }
     return 0;
@@ -120,20 +114,16 @@ void end_encoder(struct encoder *encoder) {
     if (encoder->bytes != encoder->first_bytes) PyMem_Free(encoder->bytes);
 }
 
-/* The path of what the library refused: the value is written again up to that place. */
-static void set_path_of_place(const struct state *state, const struct options *options, PyObject *value) {
-    PyObject *type, *error, *trace;
+PyObject *bytes_of_value(const struct state *state, PyObject *value, uint32_t order) {
+    const struct options widest = {.bytes = NALTVIGO_BYTES_MAX, .depth = NALTVIGO_DEPTH_MAX, .order = order,
+                                   .keys = NALTVIGO_ANY_KEYS};
     struct encoder encoder;
-    PyErr_Fetch(&type, &error, &trace);
-    PyErr_NormalizeException(&type, &error, &trace);
-    PyObject *place = error ? PyObject_GetAttrString(error, "place") : NULL;
-    start_encoder(&encoder, state, options);
-    encoder.until = place ? PyLong_AsUnsignedLongLong(place) : 0;
-    Py_XDECREF(place);
-    if (PyErr_Occurred() || encode_value(&encoder, value)) PyErr_Clear();
-    PyErr_Restore(type, error, trace);
-    set_path(path_of(&encoder));
+    start_encoder(&encoder, state, &widest);
+    PyObject *bytes = NULL;
+    if (encode_value(&encoder, value) == 0)
+        bytes = canonical_bytes(state, encoder.bytes, encoder.length, &widest, encoder.length);
     end_encoder(&encoder);
+    return bytes;
 }
 
 FUNCTION(dumps) {
@@ -145,10 +135,9 @@ FUNCTION(dumps) {
     if (read_arguments(state, &signature, arguments, count, names, &value, &options)) return NULL;
     start_encoder(&encoder, state, &options);
     if (encode_value(&encoder, value)) {
-        set_path(path_of(&encoder));
+        set_path(state, encoder.bytes, encoder.length, &options, encoder.length);
     } else {
         answer = canonical_bytes(state, encoder.bytes, encoder.length, &options, encoder.length);
-        if (!answer && PyErr_ExceptionMatches(state->refused)) set_path_of_place(state, &options, value);
     }
     if (answer && encoder.is_stopped) {
         Py_CLEAR(answer);

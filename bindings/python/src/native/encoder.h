@@ -1,15 +1,15 @@
 /* A value on its way to bytes.
  *
  * The encoder appends shortest heads, which the library makes (naltvigo_put_head_raw, proved), and payloads. Open
- * containers stand in an array and not on the stack. The encoder judges no limit: it only stops where the library is
- * sure to refuse what is there, and leaves the refusal to naltvigo_canonicalise.
+ * containers are in an array and not on the stack. The encoder checks no limit: it only stops if the library is
+ * sure to refuse the value, and leaves the refusal to naltvigo_canonicalise.
  */
 #ifndef NATIVE_ENCODER_H
 #define NATIVE_ENCODER_H
 
 #include "native.h"
 
-enum container { A_LIST, A_TUPLE, A_DICT, PAIRS, CONTENT }; /* PAIRS: a list from items() of a subclass of dict */
+enum container { A_LIST, A_TUPLE, A_DICT, CONTENT };
 
 /* An open container. It holds its member at hand, since a callback may change the container. */
 struct frame {
@@ -25,7 +25,6 @@ struct encoder {
     const struct options *options;
     uint8_t *bytes;
     size_t length, space;
-    uint64_t until; /* it stops at the item that has this place, or ends behind it */
     struct frame *frames;
     uint32_t open, frame_room;
     int is_stopped, is_in_default;
@@ -33,7 +32,7 @@ struct encoder {
     struct frame first_frames[12];
 };
 
-/* The functions below answer 0, or -1 with an exception. */
+/* The functions below return 0, or -1 with an exception. */
 
 /* ---- output.c ---- */
 
@@ -51,9 +50,6 @@ int open_frame(struct encoder *encoder, PyObject *of, enum container kind, uint3
 /* The next member, key or value of the innermost container, borrowed from its frame: 1, 0 at its end, or -1. */
 int next_member(struct frame *frame, PyObject **member);
 void close_frame(struct encoder *encoder);
-
-/* The way to the item at hand: keys, indices, and 0 for the content of a tag. A new reference, or null. */
-PyObject *path_of(const struct encoder *encoder);
 
 /* ---- encode.c ---- */
 

@@ -1,4 +1,4 @@
-/* The texts of keys, each made once where the same one stood in its place before. */
+/* The texts of keys: one that was made before is used again. */
 #include "decoder.h"
 
 #include <string.h>

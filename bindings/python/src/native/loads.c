@@ -1,7 +1,7 @@
 /* loads: the value of an item in bytes. */
 #include "decoder.h"
 
-/* So many items are indexed on the stack. */
+/* This number of items is indexed on the stack. */
 #define FEW_ITEMS 64
 
 /* The items of some canonical bytes. */
@@ -26,10 +26,11 @@ static int make_room(struct index *index, size_t space) {
     return -1;
 }
 
-/* Most items have four bytes or more; where they have fewer, the library says how many there are, in a walk more. */
+/* Most items have four bytes or more. If they have fewer, the library returns their number, and is called again. */
 static uint32_t fill_index(struct index *index, const uint8_t *bytes, size_t length, const struct options *with,
                            struct naltvigo_refusal *refusal) {
-    if (length / 4 > index->space) (void)make_room(index, length / 4);
+    const size_t likely = least(length, with->bytes) / 4;
+    if (likely > index->space) (void)make_room(index, likely);
     for (;;) {
         PyThreadState *released = release_lock(length);
         const uint32_t status = naltvigo_index_raw(bytes, length, with->order, with->keys, with->depth, with->bytes,
@@ -41,30 +42,6 @@ static uint32_t fill_index(struct index *index, const uint8_t *bytes, size_t len
     }
 }
 
-/* Whether the exception that is set is the refusal of too many canonical bytes. */
-static int is_canonical_too_long(const struct state *state) {
-    PyObject *type, *error, *trace;
-    if (!PyErr_ExceptionMatches(state->refused)) return 0;
-    PyErr_Fetch(&type, &error, &trace);
-    PyErr_NormalizeException(&type, &error, &trace);
-    PyObject *reason = PyObject_GetAttrString(error, "reason");
-    const int found = reason && PyLong_AsLong(reason) == NALTVIGO_CANONICAL_TOO_LONG;
-    Py_XDECREF(reason);
-    PyErr_Restore(type, error, trace);
-    return found;
-}
-
-/* The canonical bytes of an input within the limits. They may be longer than max_bytes: that limit is the input's. */
-static PyObject *canonical_copy(const struct call *call) {
-    const struct input *input = &call->input;
-    struct options wide = call->options;
-    PyObject *copy = canonical_bytes(call->state, input->bytes, input->length, &call->options, input->length);
-    if (copy || !is_canonical_too_long(call->state)) return copy;
-    PyErr_Clear();
-    wide.bytes = NALTVIGO_BYTES_MAX;
-    return canonical_bytes(call->state, input->bytes, input->length, &wide, input->length);
-}
-
 static PyObject *decode_canonical(const struct state *state, const uint8_t *bytes, size_t length,
                                   const struct options *options, int *is_refused) {
     struct naltvigo_refusal refusal;
@@ -74,31 +51,32 @@ static PyObject *decode_canonical(const struct state *state, const uint8_t *byte
     const uint32_t status = fill_index(&index, bytes, length, options, &refusal);
     *is_refused = status == NALTVIGO_REFUSED && !options->canonical;
     if (status == NALTVIGO_OK)
-        value = decode(state, bytes, length, index.items, index.count);
+        value = decode(state, options, bytes, length, index.items, index.count);
     else if (!*is_refused)
-        raise_status(state, status, &refusal);
+        raise_status(state, status, &refusal, &(struct refused){.bytes = bytes, .length = length, .options = options});
     end_index(&index);
     return value;
 }
 
 static PyObject *decode_any(const struct call *call) {
-    struct options wide = call->options;
+    const struct input *input = &call->input;
+    const struct options *options = &call->options;
     int is_refused;
-    PyObject *value = decode_canonical(call->state, call->input.bytes, call->input.length, &call->options, &is_refused);
+    PyObject *value = decode_canonical(call->state, input->bytes, input->length, options, &is_refused);
     if (value || !is_refused) return value;
-    PyObject *copy = canonical_copy(call);
+    PyObject *copy = canonical_bytes(call->state, input->bytes, input->length, options, least(input->length, options->bytes));
     if (!copy) return NULL;
-    wide.bytes = NALTVIGO_BYTES_MAX, wide.canonical = 1;
-    value = decode_canonical(call->state, (const uint8_t *)PyBytes_AsString(copy), (size_t)PyBytes_Size(copy), &wide,
+    value = decode_canonical(call->state, (const uint8_t *)PyBytes_AsString(copy), (size_t)PyBytes_Size(copy), options,
                              &is_refused);
     Py_DECREF(copy);
+    if (!value && is_refused) PyErr_SetString(PyExc_SystemError, "naltvigo: canonical bytes are refused");
     return value;
 }
 
 FUNCTION(loads) {
-    static const struct signature signature = {"loads", {"data"}, LIMITS_KEYS_AND_ORDER | 1u << CANONICAL};
+    static const struct signature signature = {"loads", {"data"}, LIMITS_KEYS_AND_ORDER | 1u << CANONICAL | 1u << TAG_HOOK | 1u << MAP_HOOK};
     struct call call;
-    if (open_call(&call, &signature, COPY, module, arguments, count, names)) return NULL;
+    if (open_call(&call, &signature, ITEM, module, arguments, count, names)) return NULL;
     PyObject *value = decode_any(&call);
     close_call(&call);
     return value;

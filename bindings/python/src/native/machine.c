@@ -1,9 +1,9 @@
-/* Machine: takes the bytes of one item in parts, and answers their events. `events` of _streams.py stands on it. */
+/* Machine: reads the bytes of one item in parts, and returns their events. `events` of _streams.py uses it. */
 #include "native.h"
 
 #include <structmember.h>
 
-/* How many events a call of the library answers at most. */
+/* The most events that a call of the library returns. */
 #define EVENTS 64
 
 struct machine {
@@ -17,14 +17,14 @@ static void machine_dealloc(PyObject *self) {
     Py_DECREF(type);
 }
 
-/* (place, kind, number, width, data); the data of a piece lies in the part, whose first byte has the place `begins`. */
+/* (offset, kind, number, width, data); the data of a piece is in the part, whose first byte has the offset `begins`. */
 static PyObject *tuple_of(const struct naltvigo_event *event, const uint8_t *part, uint64_t begins) {
-    const unsigned long long place = event->place, number = event->number;
+    const unsigned long long offset = event->offset, number = event->number;
     const int is_piece = event->kind == NALTVIGO_PIECE;
-    const char *data = is_piece ? (const char *)part + (place - begins) : "";
+    const char *data = is_piece ? (const char *)part + (offset - begins) : "";
     if (event->width == NALTVIGO_NO_ARGUMENT)
-        return Py_BuildValue("(KIOOy#)", place, event->kind, Py_None, Py_None, data, (Py_ssize_t)0);
-    return Py_BuildValue("(KIKIy#)", place, event->kind, number, event->width, data, is_piece ? (Py_ssize_t)number : 0);
+        return Py_BuildValue("(KIOOy#)", offset, event->kind, Py_None, Py_None, data, (Py_ssize_t)0);
+    return Py_BuildValue("(KIKIy#)", offset, event->kind, number, event->width, data, is_piece ? (Py_ssize_t)number : 0);
 }
 
 static PyObject *list_of(const struct naltvigo_event *events, size_t count, const uint8_t *part, uint64_t begins) {
@@ -34,6 +34,13 @@ static PyObject *list_of(const struct naltvigo_event *events, size_t count, cons
         if (!event || PyList_SetItem(list, (Py_ssize_t)i, event)) Py_CLEAR(list);
     }
     return list;
+}
+
+/* Refused, without a path: the bytes are gone. */
+static PyObject *refused_at(PyObject *machine, const struct naltvigo_refusal *refusal) {
+    const struct options options = {.bytes = NALTVIGO_BYTES_MAX};
+    const struct refused of = {.bytes = (const uint8_t *)"", .options = &options};
+    return new_refused(PyType_GetModuleState(Py_TYPE(machine)), refusal, &of);
 }
 
 static PyObject *machine_take(PyObject *object, PyObject *arguments) {
@@ -48,24 +55,32 @@ static PyObject *machine_take(PyObject *object, PyObject *arguments) {
         PyErr_SetString(PyExc_ValueError, "an offset that the part does not have");
         return NULL;
     }
-    const uint64_t begins = self->machine.taken - (uint64_t)at;
+    const uint64_t begins = self->machine.consumed - (uint64_t)at;
     const uint32_t status = naltvigo_machine_take_raw(&self->machine, (const uint8_t *)part + at, (size_t)(length - at),
                                                       &used, events, EVENTS, &count, &refusal);
     PyObject *list = list_of(events, count, (const uint8_t *)part, begins);
     if (!list) return NULL;
     if (status != NALTVIGO_REFUSED) return Py_BuildValue("(InNO)", status, (Py_ssize_t)used, list, Py_None);
-    return Py_BuildValue("(InN(IKK))", status, (Py_ssize_t)used, list, refusal.reason,
-                         (unsigned long long)refusal.place, (unsigned long long)refusal.read);
+    return Py_BuildValue("(InNN)", status, (Py_ssize_t)used, list, refused_at(object, &refusal));
 }
 
-static PyMemberDef members[] = {{"taken", T_ULONGLONG,
-                                 offsetof(struct machine, machine) + offsetof(struct naltvigo_machine, taken), READONLY,
-                                 "how many bytes of the item were taken"},
+/* The refusal of an item that is not over, or that bytes follow. */
+static PyObject *machine_refusal(PyObject *object, PyObject *reason) {
+    const uint64_t consumed = ((struct machine *)object)->machine.consumed;
+    const struct naltvigo_refusal refusal = {(uint32_t)PyLong_AsUnsignedLong(reason), consumed, consumed};
+    return PyErr_Occurred() ? NULL : refused_at(object, &refusal);
+}
+
+static PyMemberDef members[] = {{"consumed", T_ULONGLONG,
+                                 offsetof(struct machine, machine) + offsetof(struct naltvigo_machine, consumed), READONLY,
+                                 "the number of bytes of the item that were read"},
                                 {NULL, 0, 0, 0, NULL}};
 static PyMethodDef methods[] = {{"take", machine_take, METH_VARARGS,
-                                 "take(part, at): takes bytes from an offset of this part on. Answers the library's "
-                                 "status, how many were used, the\n"
-                                 "events as tuples, and None or the reason, place and read of a refusal."},
+                                 "take(part, at): reads the bytes of this part from an offset on. Returns the status of the "
+                                 "library, the number of\n"
+                                 "bytes read, the events as tuples, and None or a Refused."},
+                                {"refusal", machine_refusal, METH_O,
+                                 "refusal(reason): a Refused after the bytes that were read."},
                                 {NULL, NULL, 0, NULL}};
 static PyType_Slot slots[] = {
     {Py_tp_dealloc, machine_dealloc}, {Py_tp_members, members}, {Py_tp_methods, methods}, {0, NULL}};

@@ -1,4 +1,4 @@
-/* The arguments of a call: up to two operands, by place or by name, and options by name. */
+/* The arguments of a call: up to two operands, by position or by name, and options by name. */
 #include "native.h"
 
 #include <string.h>
@@ -25,7 +25,7 @@ static int wrong_type(const char *option, PyObject *value) {
 static int read_limit(const char *option, uint64_t most, PyObject *value, uint64_t *limit) {
     int overflow;
     long long number;
-    if (!PyLong_Check(value)) return wrong_type(option, value);
+    if (!PyLong_Check(value) || PyBool_Check(value)) return wrong_type(option, value);
     number = PyLong_AsLongLongAndOverflow(value, &overflow);
     if (number == -1 && PyErr_Occurred()) return -1;
     if (overflow || number < 0 || (uint64_t)number > most) {
@@ -58,7 +58,9 @@ static int read_option(struct options *options, enum option option, PyObject *va
     case MAX_BYTES: return read_limit("max_bytes", NALTVIGO_BYTES_MAX, value, &options->bytes);
     case CANONICAL: return (options->canonical = PyObject_IsTrue(value)) < 0 ? -1 : 0;
     case OFFSETS: return (options->offsets = PyObject_IsTrue(value)) < 0 ? -1 : 0;
-    default: options->fallback = value == Py_None ? NULL : value; return 0;
+    case DEFAULT: options->fallback = value == Py_None ? NULL : value; return 0;
+    case TAG_HOOK: options->tag_hook = value == Py_None ? NULL : value; return 0;
+    default: options->map_hook = value == Py_None ? NULL : value; return 0;
     }
 }
 
@@ -94,7 +96,7 @@ int read_arguments(const struct state *state, const struct signature *signature,
     *options = (struct options){
         .bytes = defaults.bytes, .depth = defaults.depth, .order = defaults.order, .keys = defaults.keys};
     if (count > most) {
-        PyErr_Format(PyExc_TypeError, "%s() takes %zd arguments by place, and got %zd", signature->call, most, count);
+        PyErr_Format(PyExc_TypeError, "%s() takes %zd positional arguments, and got %zd", signature->call, most, count);
         return -1;
     }
     for (Py_ssize_t i = 0; i < most; i++) operands[i] = i < count ? arguments[i] : NULL;

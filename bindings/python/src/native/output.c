@@ -73,14 +73,14 @@ int put_integer(struct encoder *encoder, PyObject *number) {
     return n < 0 ? put_head(encoder, NEGATIVE, ~(uint64_t)n) : put_head(encoder, UNSIGNED, (uint64_t)n);
 }
 
-/* It is checked by itself, since several items, or none, would shift what stands behind them. */
+/* It is checked alone, since several items, or none, would shift what follows them. */
 int put_encoded(struct encoder *encoder, PyObject *bytes) {
     const struct options *with = encoder->options;
     struct naltvigo_refusal refusal;
     const char *at = PyBytes_AsString(bytes);
-    const uint32_t status = naltvigo_check_valid_raw((const uint8_t *)at, (size_t)PyBytes_Size(bytes), with->keys,
-                                                     with->depth, with->bytes, &refusal);
+    const struct refused of = {.bytes = (const uint8_t *)at, .length = (size_t)PyBytes_Size(bytes), .options = with};
+    const uint32_t status = naltvigo_check_valid_raw(of.bytes, of.length, with->keys, with->depth, with->bytes, &refusal);
     if (status == NALTVIGO_OK) return put_raw(encoder, at, PyBytes_Size(bytes));
-    raise_status(encoder->state, status, &refusal);
+    raise_status(encoder->state, status, &refusal, &of);
     return -1;
 }

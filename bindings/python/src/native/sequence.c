@@ -14,7 +14,7 @@ struct cursor {
 struct items {
     PyObject_HEAD
     struct cursor cursor;
-    int is_reading; /* since a call may let go of the lock */
+    int is_reading; /* since a call may release the lock */
 };
 
 static uint32_t next_within(const struct cursor *cursor, uint64_t limit, uint64_t *taken,
@@ -27,7 +27,7 @@ static uint32_t next_within(const struct cursor *cursor, uint64_t limit, uint64_
     return naltvigo_next_valid_raw(at, left, with->keys, with->depth, limit, taken, refusal);
 }
 
-/* The next item, whose length nobody knows: with the lock held up to LONG_INPUT bytes, and then without it. */
+/* The next item, whose length is unknown: with the lock held up to LONG_INPUT bytes, and then without it. */
 static uint32_t next_item(struct items *self, uint64_t *taken, struct naltvigo_refusal *refusal) {
     const uint64_t limit = self->cursor.options.bytes;
     uint32_t status = next_within(&self->cursor, limit < LONG_INPUT ? limit : LONG_INPUT, taken, refusal);
@@ -38,6 +38,14 @@ static uint32_t next_item(struct items *self, uint64_t *taken, struct naltvigo_r
     PyEval_RestoreThread(released);
     self->is_reading = 0;
     return status;
+}
+
+/* Sets the exception for the item at hand. */
+static void raise_at(const struct state *state, const struct cursor *cursor, uint32_t status,
+                     const struct naltvigo_refusal *refusal) {
+    const struct refused of = {cursor->input.bytes + cursor->at, cursor->input.length - (size_t)cursor->at,
+                               &cursor->options, NULL, cursor->count, cursor->at};
+    raise_status(state, status, refusal, &of);
 }
 
 /* Such an iterator ends with its first refusal. */
@@ -60,8 +68,9 @@ static PyObject *items_next(PyObject *object) {
     const uint64_t start = cursor->at;
     cursor->count++;
     if (status != NALTVIGO_OK) {
+        raise_at(PyType_GetModuleState(Py_TYPE(object)), cursor, status, &refusal);
         finish(cursor);
-        return raise_status_of_item(PyType_GetModuleState(Py_TYPE(object)), status, &refusal, cursor->count, start);
+        return NULL;
     }
     cursor->at = start + taken;
     if (cursor->options.offsets)
@@ -98,7 +107,7 @@ FUNCTION(items) {
     static const struct signature signature = {
         "items", {"data"}, LIMITS_KEYS_AND_ORDER | 1u << CANONICAL | 1u << OFFSETS};
     struct call call;
-    if (open_call(&call, &signature, IN_PLACE, module, arguments, count, names)) return NULL;
+    if (open_call(&call, &signature, SEQUENCE, module, arguments, count, names)) return NULL;
     struct items *self = (struct items *)PyType_GenericAlloc(call.state->items, 0);
     if (!self) return close_call(&call), NULL;
     self->cursor = (struct cursor){call.input, call.options, 0, 0}; /* which closes the input */
@@ -167,7 +176,7 @@ static PyObject *array_of(const struct state *state, const struct growing *ends)
                                  (Py_ssize_t)ends->length);
 }
 
-/* The answer of a call over all items, which it closes. */
+/* The result of a call over all items, which it closes. */
 static PyObject *read_sequence(struct call *call, int is_canonicalising) {
     struct naltvigo_refusal refusal;
     struct cursor cursor = {call->input, call->options, 0, 0};
@@ -177,7 +186,7 @@ static PyObject *read_sequence(struct call *call, int is_canonicalising) {
     const uint32_t status = read_all(&cursor, &ends, is_canonicalising ? &out : NULL, &refusal);
     take_lock(released);
     if (status != NALTVIGO_OK)
-        raise_status_of_item(call->state, status, &refusal, cursor.count, cursor.at);
+        raise_at(call->state, &cursor, status, &refusal);
     else if (is_canonicalising)
         answer = Py_BuildValue("y#N", out.length ? (char *)out.bytes : "", (Py_ssize_t)out.length,
                                array_of(call->state, &ends));
@@ -192,13 +201,13 @@ static PyObject *read_sequence(struct call *call, int is_canonicalising) {
 FUNCTION(item_ends) {
     static const struct signature signature = {"item_ends", {"data"}, LIMITS_KEYS_AND_ORDER | 1u << CANONICAL};
     struct call call;
-    if (open_call(&call, &signature, IN_PLACE, module, arguments, count, names)) return NULL;
+    if (open_call(&call, &signature, SEQUENCE, module, arguments, count, names)) return NULL;
     return read_sequence(&call, 0);
 }
 
 FUNCTION(canonicalise_items) {
     static const struct signature signature = {"canonicalise_items", {"data"}, LIMITS_KEYS_AND_ORDER};
     struct call call;
-    if (open_call(&call, &signature, IN_PLACE, module, arguments, count, names)) return NULL;
+    if (open_call(&call, &signature, SEQUENCE, module, arguments, count, names)) return NULL;
     return read_sequence(&call, 1);
 }

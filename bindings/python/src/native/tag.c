@@ -3,14 +3,17 @@
 
 #include <structmember.h>
 
-PyObject *new_tag(PyTypeObject *type, uint64_t number, PyObject *content) {
+PyObject *new_tag(PyTypeObject *type, uint64_t number, PyObject *content, const struct held *held) {
     struct tag *tag = (struct tag *)PyType_GenericAlloc(type, 0);
-    if (tag) tag->number = number, tag->content = Py_NewRef(content);
+    if (!tag) return NULL;
+    tag->number = number, tag->content = Py_NewRef(content), tag->held = *held;
+    Py_XINCREF(held->owner);
     return (PyObject *)tag;
 }
 
 static PyObject *tag_new(PyTypeObject *type, PyObject *arguments, PyObject *names) {
     static char *known[] = {"number", "content", NULL};
+    static const struct held unknown;
     PyObject *number, *content;
     if (!PyArg_ParseTupleAndKeywords(arguments, names, "OO:Tag", known, &number, &content)) return NULL;
     if (!PyLong_Check(number) || PyBool_Check(number)) {
@@ -24,7 +27,7 @@ static PyObject *tag_new(PyTypeObject *type, PyObject *arguments, PyObject *name
         PyErr_SetString(PyExc_OverflowError, "a tag's number is 0 to 2**64 - 1");
         return NULL;
     }
-    return new_tag(type, n, content);
+    return new_tag(type, n, content, &unknown);
 }
 
 static int tag_traverse(PyObject *self, visitproc visit, void *arg) {
@@ -38,7 +41,7 @@ static int tag_clear(PyObject *self) {
     return 0;
 }
 
-/* Tags within one another are let go of in a loop, since a chain of them may be of any length. */
+/* Nested tags are freed in a loop, since a chain of them may have any length. */
 static void tag_dealloc(PyObject *self) {
     PyTypeObject *type = Py_TYPE(self);
     PyObject *content = ((struct tag *)self)->content;
@@ -51,16 +54,12 @@ static void tag_dealloc(PyObject *self) {
         content = within;
     }
     Py_XDECREF(content);
+    Py_CLEAR(((struct tag *)self)->held.owner);
     ((freefunc)PyType_GetSlot(type, Py_tp_free))(self);
     Py_DECREF(type);
 }
 
-static uint64_t mix(uint64_t hash, uint64_t more) {
-    hash = (hash ^ more) * UINT64_C(0x9E3779B97F4A7C15);
-    return hash ^ hash >> 32;
-}
-
-/* Of tags within one another it goes over the numbers in a loop, as tag_dealloc does. */
+/* Of nested tags it reads the numbers in a loop, as tag_dealloc does. */
 static Py_hash_t tag_hash(PyObject *self) {
     const struct tag *tag = (struct tag *)self;
     uint64_t hash = mix(TAG, tag->number);
@@ -70,20 +69,26 @@ static Py_hash_t tag_hash(PyObject *self) {
     }
     const Py_hash_t inner = PyObject_Hash(tag->content);
     if (inner == -1) return -1;
-    hash = mix(hash, (uint64_t)inner);
-    return (Py_hash_t)hash == -1 ? -2 : (Py_hash_t)hash;
+    return hash_of(mix(hash, (uint64_t)inner));
 }
 
+static int are_equal_parts(const struct tag *left, const struct tag *right) {
+    if (left->number != right->number) return 0;
+    if (Py_EnterRecursiveCall(" in a comparison of tags")) return -1;
+    const int equal = PyObject_RichCompareBool(left->content, right->content, Py_EQ);
+    Py_LeaveRecursiveCall();
+    return equal;
+}
+
+/* By their canonical bytes where either is of a key, and else by their parts. */
 static PyObject *tag_compare(PyObject *self, PyObject *other, int operation) {
     const struct tag *left = (struct tag *)self, *right = (struct tag *)other;
     if ((operation != Py_EQ && operation != Py_NE) || Py_TYPE(other) != Py_TYPE(self))
         return Py_NewRef(Py_NotImplemented);
-    int equal = left->number == right->number;
-    if (equal) {
-        if (Py_EnterRecursiveCall(" in a comparison of tags")) return NULL;
-        equal = PyObject_RichCompareBool(left->content, right->content, Py_EQ);
-        Py_LeaveRecursiveCall();
-    }
+    int equal = NO_BYTES;
+    if (left->held.owner || right->held.owner)
+        equal = have_same_bytes(PyType_GetModuleState(Py_TYPE(self)), self, &left->held, other, &right->held);
+    if (equal == NO_BYTES) equal = are_equal_parts(left, right);
     return equal < 0 ? NULL : PyBool_FromLong(equal == (operation == Py_EQ));
 }
 

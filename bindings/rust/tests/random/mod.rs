@@ -1,4 +1,4 @@
-//! Random values, and random encodings of them, by rules written here anew.
+//! Random values, and random encodings of them, by rules that are written only here.
 
 use naltvigo::{Simple, Value};
 
@@ -45,7 +45,7 @@ impl Random {
         }
     }
 
-    /// A value that nests at most so deep.
+    /// A value that nests at most this deep.
     pub fn value(&mut self, depth: u64) -> Value {
         let count = self.below(5);
         match self.below(if depth > 0 { 10 } else { 6 }) {
@@ -93,7 +93,8 @@ impl Random {
             Value::Map(pairs) => {
                 let ended = self.open(5, pairs.len() as u64, out);
                 let first = self.below(pairs.len() as u64 + 1) as usize;
-                let (left, right) = pairs.as_slice().split_at(first);
+                let all: Vec<_> = pairs.iter().collect();
+                let (left, right) = all.split_at(first);
                 for (key, value) in right.iter().chain(left.iter().rev()) {
                     self.encode(key, out);
                     self.encode(value, out);

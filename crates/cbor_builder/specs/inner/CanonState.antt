@@ -1,18 +1,18 @@
 -- What a public builder holds.
 use Rattle.std.specs.Prelude.{Bool, if◌then◌else◌, IsTrue, List, [], ◌∷◌}
 use Rattle.std.specs.List.{AllByRecursion}
-use Rattle.cbor_model.specs.Parts.{Open}
+use Rattle.theory_values.specs.Parts.{Open}
 use Rattle.cbor_builder.specs.Built.{Built, built, CanHold}
 use Rattle.cbor_builder.specs.{inner.BuilderState.open_levels, inner.BuilderState.IsLaid, declared.canon_builder.CanonBuilder.TheInside.Inside}
 
--- what is open where the builder is sound, and nothing else
+-- what is open if the builder has not failed, and nothing otherwise
 abbrev pub if_sound : Bool → List Open → List Open
 if_sound sound os = if sound then os else []
 
 abbrev pub view_value : Inside → Built
 view_value b = built b.core.order (if_sound b.is_sound (open_levels b.core))
 
--- each that holds another takes it as a member
+-- each accepts the one inside it as a member
 abbrev pub IsNested : List Open → Type 0
 IsNested [] = ⊥
 IsNested (c ∷ os) = AllByRecursion CanHold os

@@ -1,14 +1,14 @@
--- What a builder's buffer, spans and frames stand for.
+-- What a builder's buffer, spans and frames represent.
 use Rattle.std.specs.Prelude.{ℕ, suc, Bool, true, IsTrue, ◌≡◌, ◌≢◌, ◌≤◌, ◌<◌, ◌^◌, ◌++◌, List, [], ◌∷◌, length, slice_range, map, take, drop}
 use Rattle.cbor_head.specs.declared.major.Major.TheVariants as of_major
 use Rattle.cbor_head.specs.{Prelude.Pair, declared.order.KeyOrder.KeyOrder, declared.major.Major.Major, declared.major.Major.TheVariants.Simple}
-use Rattle.cbor_model.specs.Parts.{Open, plain, an_array, a_map, a_key, a_string}
-use Rattle.cbor_model.specs.{Pairs.IsRising, KeyPrefix.prefix_of}
+use Rattle.theory_values.specs.Parts.{Open, plain, an_array, a_map, a_key, a_string}
+use Rattle.theory_values.specs.{Pairs.IsRising, KeyPrefix.prefix_of}
 use Rattle.cbor_output.specs.{declared.span.Span.Span, Spans.span_pair}
 use Rattle.cbor_builder.specs.declared.frame.Shape.TheVariants.{Plain, Array, Map, Key, Content}
 use Rattle.cbor_builder.specs.{inner.Prefix.ArePrefixed, declared.frame.Frame.Frame, declared.frame.Shape.Shape}
 
--- of the item itself, of which nothing is there
+-- the frame of the item itself, before any part of it was given
 abbrev pub outermost : Frame
 outermost = record { from = 0; start = 0; shape = Plain; rises = true }
 
@@ -16,12 +16,12 @@ outermost = record { from = 0; start = 0; shape = Plain; rises = true }
 abbrev pub pairs_from : List ℕ → List Span → ℕ → List Pair
 pairs_from out ss first = map (span_pair out) (drop first ss)
 
--- the spans lie one behind the other from a to n
+-- the spans follow each other from a to n
 abbrev pub Tile : ℕ → List Span → ℕ → Type 0
 Tile a [] n = a ≡ n
 Tile a (s ∷ ss) n = (s.key ≡ a) × (s.key ≤ s.val) × (s.val ≤ s.end) × Tile s.end ss n
 
--- what is open, where its bytes end the buffer and its pairs end the spans
+-- what is open, if its bytes end the buffer and its pairs end the spans
 abbrev pub shape_open : List ℕ → List Span → ℕ → Shape → Open
 shape_open out ss start Plain = plain (drop start out)
 shape_open out ss start (Array n) = an_array n (drop start out)
@@ -35,7 +35,7 @@ outer_spans ss (Map first) = take first ss
 outer_spans ss (Key first at) = take first ss
 outer_spans ss s = ss
 
--- what stands open, the innermost first: each frame sees the buffer up to where the next one begins
+-- what is open, the innermost first: each frame sees the buffer up to where the next one begins
 abbrev pub opens : List ℕ → List Span → List Frame → List Open
 opens out ss [] = []
 opens out ss (f ∷ fs) = shape_open out ss f.start f.shape ∷ opens (take f.from out) (outer_spans ss f.shape) fs
@@ -43,8 +43,8 @@ opens out ss (f ∷ fs) = shape_open out ss f.start f.shape ∷ opens (take f.fr
 abbrev pub Rises : KeyOrder → List ℕ → List Span → ℕ → Bool → Type 0
 Rises o out ss first rises = IsTrue rises → IsRising o (pairs_from out ss first)
 
--- What a frame asks of the buffer up to its end: the spans of a map tile what it has so far, and where they are known to
--- rise they do. Of a plain one the content is all.
+-- What a frame requires of the buffer up to its end: the spans of a map tile its content so far, and rise if they are
+-- known to rise. The content of any other frame is one piece.
 abbrev pub Fits : KeyOrder → List ℕ → List Span → ℕ → ℕ → Bool → Shape → Type 0
 Fits o out ss from start rises Plain = start ≡ from
 Fits o out ss from start rises (Array n) = n < 2 ^ 64
@@ -59,13 +59,13 @@ Laid o out ss [] = out ≡ []
 Laid o out ss (f ∷ fs) =
     (f.from ≤ f.start) × (f.start ≤ length out) × Fits o out ss f.from f.start f.rises f.shape × Laid o (take f.from out) (outer_spans ss f.shape) fs
 
--- a part may be given: no string is open, and the count stays in range
+-- a part may be given: no string is open, and the count of an array stays below 2^64
 abbrev pub Takes : Shape → Type 0
 Takes (Content m) = ⊥
 Takes (Array n) = suc n < 2 ^ 64
 Takes s = Unit {0}
 
--- there is one that holds what closes, and it takes it
+-- there is a frame around the one that closes, and it accepts one more member
 abbrev pub OuterTakes : List Frame → Type 0
 OuterTakes [] = ⊥
 OuterTakes (f ∷ fs) = Takes f.shape
@@ -82,7 +82,7 @@ CanClose s = Unit {0}
 
 -- ---- one more member, from at to the end
 
--- where a key waits for it, the key stands before it, and the pairs hold the prefixes of their keys
+-- if a key waits for its value, the key comes before it, and the pairs hold the prefixes of their keys
 abbrev pub IsReady : List ℕ → List Span → ℕ → Shape → Type 0
 IsReady out ss at s = (first key : ℕ) → s ≡ Key first key → (first ≤ length ss) × (key ≤ at) × (at ≤ length out) × ArePrefixed out (drop first ss)
 
@@ -100,7 +100,7 @@ abbrev pub spans_after : List ℕ → List Span → ℕ → Shape → List Span
 spans_after out ss at (Key first key) = ss ++ span out key at ∷ []
 spans_after out ss at s = ss
 
--- where the keys rise then, they rose before, and the new one is above them
+-- if the keys rise now, they rose before, and the new one is above them
 abbrev pub KeepsRising : KeyOrder → List ℕ → List Span → ℕ → Shape → Bool → Bool → Type 0
 KeepsRising o out ss at (Key first key) was now =
     IsTrue now → IsTrue was × (IsRising o (pairs_from out ss first) → IsRising o (map (span_pair out) (drop first ss ++ span out key at ∷ [])))
@@ -114,12 +114,12 @@ opening_frame of_major.Map from end spans = record { from = from; start = end; s
 opening_frame of_major.Tag from end spans = record { from = from; start = from; shape = Plain; rises = true }
 opening_frame m from end spans = record { from = from; start = end; shape = Content m; rises = true }
 
--- ---- what a builder's parts stand for, and the invariant with it
+-- ---- what a builder's parts represent, and the invariant of these
 
 abbrev pub Stands : KeyOrder → List ℕ → List Span → List Frame → List Open → Type 0
 Stands o out ss fs os = Laid o out ss fs × (opens out ss fs ≡ os)
 
--- what has been done to the innermost for one more member
+-- the innermost is ready for one more member
 abbrev pub Completed : KeyOrder → List Span → ℕ → Frame → List ℕ → List Span → Frame → Type 0
 Completed o ss at f out ss' f' =
     (f'.from ≡ f.from) × (f'.start ≡ f.start) × (f'.shape ≡ shape_after at f.shape)

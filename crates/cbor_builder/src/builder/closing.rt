@@ -1,9 +1,9 @@
-//! What is open ends, and its bytes take their final form.
+//! Ends what is open, and puts its bytes in their final form.
 
 ghost use Rattle.std.specs.Prelude.{◌≡◌, ◌↔◌, ◌≤◌, ◌++◌, IsTrue, false, OnOk, IfOk, drop};
 ghost use Rattle.std.specs.Prelude.{take, length, flat_map, IsPermutation};
-ghost use Rattle.cbor_model.specs.Pairs.{pair_bytes, HasDistinctBytes};
-ghost use Rattle.cbor_model.specs.Parts.{close, closed, HasNoRepeats};
+ghost use Rattle.theory_values.specs.Pairs.{pair_bytes, HasDistinctBytes};
+ghost use Rattle.theory_values.specs.Parts.{close, closed, HasNoRepeats};
 ghost use Rattle.cbor_builder.specs.declared.frame.Shape.TheVariants.{Map};
 ghost use Rattle.cbor_builder.specs.inner.BuilderState.{open_levels, innermost, outers, IsLaid, IsReordered};
 ghost use Rattle.cbor_builder.specs.inner.BuilderState.{CoreEnds};
@@ -20,7 +20,8 @@ use cbor_output::span::rearrange;
 use std::alloc::AllocError;
 
 impl Core {
-    /// The spans of the open map in order. False where two keys of it are equal: then not all are.
+    /// Sorts the spans of the open map. Returns false if two of its keys are equal: then they are
+    /// sorted only in part.
     #[inline(always)]
     pub(crate) fn order_spans(&mut self, first: usize) -> bool
         requires fits { Fits self.old.order self.old.out self.old.spans.items
@@ -42,7 +43,7 @@ impl Core {
         sort_distinct(self.out.as_slice(), order, &mut self.spans[first..])
     }
 
-    // The pairs of the open map in order. False where two keys of it are equal.
+    // Sorts the pairs of the open map. Returns false if two of its keys are equal.
     #[inline(never)]
     fn order_pairs(&mut self, first: usize) -> Result<bool, AllocError>
         requires within { self.old.top.start ≤ length self.old.out }
@@ -71,7 +72,8 @@ impl Core {
         Ok(true)
     }
 
-    // Puts the bytes of what is open in their final form. False where two keys of it are equal.
+    // Puts the bytes of what is open in their final form. Returns false if two keys of it are
+    // equal.
     #[inline(always)]
     fn close_top(&mut self) -> Result<bool, AllocError>
         requires laid { IsLaid self.old }
@@ -114,7 +116,7 @@ impl Core {
         Ok(true)
     }
 
-    /// What is open ends. False where it is a map of which two keys are equal: then it does not.
+    /// Ends what is open. Returns false, and does not end it, if it is a map with two equal keys.
     #[inline(always)]
     pub(crate) fn end(&mut self) -> Result<bool, AllocError>
         requires laid { IsLaid self.old }

@@ -1,8 +1,8 @@
-//! What is open ends, and nothing of it is kept.
+//! Ends what is open, and removes it.
 
 ghost use Rattle.std.specs.Prelude.{◌≡◌, ◌↔◌, IsTrue, false};
 ghost use Rattle.cbor_builder.specs.Built.{around};
-ghost use Rattle.cbor_model.specs.Parts.{HasNoRepeats};
+ghost use Rattle.theory_values.specs.Parts.{HasNoRepeats};
 ghost use Rattle.cbor_builder.specs.inner.BuilderState.{open_levels, innermost, outers, IsLaid, IsReordered};
 ghost use Rattle.cbor_builder.specs.inner.BuilderState.{CoreEnds};
 ghost use Rattle.cbor_builder.specs.inner.Laid.{CanClose, OuterTakes, outer_spans};
@@ -11,12 +11,12 @@ use crate::builder::Core;
 use crate::frame::Shape;
 use std::alloc::AllocError;
 
-// Space for so many pairs stays.
+// Space for this number of pairs is left allocated.
 const KEPT: usize = 256;
 
 impl Core {
-    /// What is open ends, and nothing of it is kept. False where it is a map of which two keys are
-    /// equal: then it does not.
+    /// Ends what is open, and removes it. Returns false, and does not end it, if it is a map with
+    /// two equal keys.
     #[inline(always)]
     pub(crate) fn give_up(&mut self) -> Result<bool, AllocError>
         requires laid { IsLaid self.old }
@@ -32,7 +32,7 @@ impl Core {
         Ok(true)
     }
 
-    // The pairs of what is open are given up. False where two keys of it are equal.
+    // Removes the pairs of what is open. Returns false if two keys of it are equal.
     #[inline(always)]
     fn give_up_pairs(&mut self) -> bool
         requires laid { IsLaid self.old }

@@ -9,7 +9,8 @@ use cbor_output::reserve::push_copy;
 use std::alloc::AllocError;
 
 impl Core {
-    // The innermost is around what begins.
+    // Adds the innermost frame to those around it, so that a new one can begin
+    // inside it.
     #[inline(always)]
     pub(crate) fn enter(&mut self) -> Result<(), AllocError>
         requires rooted { IsRooted self.old }
@@ -19,7 +20,7 @@ impl Core {
         ensures open { OnOk result (IsTrue self.new.is_open) }
         ensures around { OnOk result (outers self.new ≡ frames self.old) }
     {
-        // The outermost frame is always the same, so that no memory is taken for it.
+        // The outermost frame is always the same, so it is not stored.
         if !self.is_open {
             self.is_open = true;
             return Ok(());
@@ -27,7 +28,8 @@ impl Core {
         push_copy(&mut self.below, &self.top)
     }
 
-    // What is around the innermost is the innermost now. False where nothing is.
+    // Makes the frame around the innermost the new innermost. Returns false if
+    // there is none.
     #[inline(always)]
     pub(crate) fn leave(&mut self) -> bool
         ensures order { self.new.order ≡ self.old.order }

@@ -21,7 +21,7 @@ pub record AreCanonical (m : EncodedItems) : Type 0 where
   pub count_is : values_count (members_in m) ≡ m.count
   pub bytes_are : m.bytes ≡ canonical_all m.order (members_in m)
 
--- the bytes are the canonical bytes of these keys and values, valid ones, each value behind its key
+-- the bytes are the canonical bytes of these keys and values, valid ones, each value after its key
 pub record AreCanonicalPairs (m : EncodedItems) : Type 0 where
   pub range : AreEntriesInRange (pairs_in m)
   pub valid : AreEntriesValid (pairs_in m)

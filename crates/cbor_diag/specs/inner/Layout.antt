@@ -1,21 +1,21 @@
--- Text in either layout, as it is written: members one after the other, each behind a gap.
+-- Text in either layout, as it is written: members one after another, each after a gap.
 use Rattle.std.specs.Prelude.{ℕ, ◌+◌, Bool, true, false, if◌then◌else◌, List, [], ◌∷◌, ◌++◌, codes, decimal}
 use Rattle.cbor_head.specs.Value as value
 use Rattle.cbor_head.specs.Prelude.{Value, Values, Entries}
 use Rattle.cbor_diag.specs.{Text.text, IndentedText.new_line, IndentedText.indented, declared.layout.Layout.Layout}
 use Rattle.cbor_diag.specs.declared.layout.Layout.TheVariants.{OneLine, Indented}
 
--- what stands before a member, the first one or a later one
+-- the gap before a member, the first one or a later one
 abbrev pub gap : Layout → ℕ → Bool → List ℕ
 gap OneLine level first = if first then [] else codes ", "
 gap Indented level first = (if first then [] else codes ",") ++ new_line (level + 1)
 
--- what stands behind the last member, where there is one
+-- the text after the last member, if there is one
 abbrev pub end : Layout → ℕ → Bool → List ℕ
 end OneLine level none = []
 end Indented level none = if none then [] else new_line level
 
--- the texts of members or pairs that are left, the first of all among them or not
+-- the texts of the members or pairs that are left; the flag says whether the first of all is among them
 abbrev pub rows : Layout → ℕ → Bool → List (List ℕ) → List ℕ
 rows l level first [] = end l level first
 rows l level first (t ∷ ts) = gap l level first ++ t ++ rows l level false ts

@@ -40,13 +40,13 @@ module _ {N : Type 0} (see : N → Value) where
   AreShallow [] = Unit {0}
   AreShallow (v ∷ vs) = (v.indent ≤ length vs) × (depth_left v.left + length vs + 1 ≤ MAX_DEPTH) × AreShallow vs
 
-  -- an item of this depth may begin there
+  -- an item of this depth may begin here
   pub record IsExpected (d indent : ℕ) (vs : List (OpenNode N)) : Type 0 where
     pub space : d + length vs ≤ MAX_DEPTH
     pub indented : indent ≤ length vs
     pub shallow : AreShallow vs
 
-  -- what is left where this container is the innermost, if one is open, and these are around it
+  -- what is left, if this container is the innermost and these are around it
   abbrev pub all_left : Layout → Option (OpenNode N) → List (OpenNode N) → List ℕ
   all_left l None vs = []
   all_left l (Some v) vs = rest_of l v ++ behind l vs
@@ -55,19 +55,19 @@ module _ {N : Type 0} (see : N → Value) where
   AreAllShallow None vs = Unit {0}
   AreAllShallow (Some v) vs = AreShallow (v ∷ vs)
 
-  -- an item of this depth is put, or this container is open of it
+  -- an item of this depth was written, or this container of it is open
   abbrev pub IsOpenOf : ℕ → ℕ → Option (OpenNode N) → Type 0
   IsOpenOf d indent None = Unit {0}
   IsOpenOf d indent (Some v) = (v.indent ≡ indent) × (depth_left v.left + 1 ≤ d)
 
--- some of the whole was put, at least so many bytes, and the rest is left
+-- a part of the whole was put, at least `least` bytes, and the rest is left
 pub record HasLeft (least : ℕ) (old new : Option (List ℕ)) (from to : Outbox) (whole left : List ℕ) : Type 0 where
   pub done : List ℕ
   pub written : HasPut old new from to done
   pub some : least ≤ length done
   pub joins : done ++ left ≡ whole
 
--- so, where this container is then the innermost and these are around it; or the writer failed
+-- the same, with this container the innermost and these around it; or the writer failed
 abbrev pub Leaves : {N : Type 0} → ℕ → (N → Value) → Layout → Option (List ℕ) → Option (List ℕ) → Outbox → Outbox → List ℕ → List (OpenNode N) → Result (Option (OpenNode N)) Stopped → Type 0
 Leaves n see l old new from to whole vs (Ok o) = HasLeft n old new from to whole (all_left see l o vs)
 Leaves n see l old new from to whole vs (Err e) = HasStopped old new from whole to

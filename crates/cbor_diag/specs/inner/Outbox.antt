@@ -1,17 +1,18 @@
--- What a writer took of the bytes that were put behind others.
+-- What a writer accepted of the bytes that were put into an outbox.
 use Rattle.std.specs.Prelude.{ℕ, ◌≡◌, ◌+◌, ◌<◌, List, ◌++◌, length, Option, Result, Ok, Err}
 use Rattle.std.specs.Io.KnownBytes.{Appends}
 use Rattle.cbor_listing.specs.Written.{capped}
 use Rattle.cbor_diag.specs.declared.outbox.{Outbox.Outbox, Stopped.Stopped}
 
--- the writer took some of what waited and of the bytes behind it, and the others wait
+-- the writer accepted some of the bytes that waited and of the new ones after them, and the others wait
 pub record HasPut (old new : Option (List ℕ)) (from to : Outbox) (bytes : List ℕ) : Type 0 where
   pub took : List ℕ
   pub appended : Appends old new took
   pub others : took ++ to.waiting.items ≡ from.waiting.items ++ bytes
   pub counted : (k : ℕ) → from.taken ≡ capped k → to.taken ≡ capped (k + length took)
 
--- the writer failed when it had taken some of what waited and of the bytes behind it, not all
+-- the writer failed after it had accepted some of the bytes that waited and of the new ones after
+-- them, but not all
 pub record HasStopped (old new : Option (List ℕ)) (from : Outbox) (bytes : List ℕ) (to : Outbox) : Type 0 where
   pub took : List ℕ
   pub others : List ℕ

@@ -3,7 +3,7 @@ use Rattle.std.specs.Prelude.{ℕ, Bool, true, false, List, ◌++◌, flat_map, 
 use Rattle.hex.specs.Hex.{encode_lower}
 use Rattle.cbor_diag.specs.Text.{escaped}
 
--- before the content of a text, or of a string of bytes
+-- the text before the content of a text or of a byte string
 abbrev pub opening : Bool → List ℕ
 opening true = codes "\""
 opening false = codes "h'"

@@ -6,7 +6,7 @@ use cbor_head::{Limits, Reason, Refusal};
 use std::alloc::Global;
 use std::test::Fail;
 
-// The bytes in hex, how many of them the item has, and its lines.
+// The bytes in hex, the number of bytes of the item, and its lines.
 static ITEMS: [(&str, u64, &str); 7] = [
     (
         "00",
@@ -77,7 +77,7 @@ fn limits() -> Result<Limits, Fail> {
     Ok(Limits::new(256, 1 << 20).ok_or("limits")?)
 }
 
-// A byte behind the item is not looked at.
+// A byte after the item does not matter.
 #[test]
 fn items_are_annotated(rt: HostRuntime) -> Result<(), Fail> {
     let alloc = rt.alloc();
@@ -105,7 +105,7 @@ fn offsets_from_the_start_of_the_input(rt: HostRuntime) -> Result<(), Fail> {
     Ok(())
 }
 
-// The bytes in hex, why they are refused and where, how many were read, and the lines before.
+// The bytes in hex, the refusal (reason, offset, bytes consumed), and the lines before it.
 static REFUSED: [(&str, Reason, u64, u64, &str); 3] = [
     (
         "8201",
@@ -151,7 +151,7 @@ fn lines_before_a_refusal_stay(rt: HostRuntime) -> Result<(), Fail> {
     Ok(())
 }
 
-// Of 513 bytes the first 512 are shown, in 32 lines, and a line that says that there are more.
+// Of 513 bytes the first 512 are shown, in 32 lines, and a line says that there are more.
 #[test]
 fn long_payloads_are_cut(rt: HostRuntime) -> Result<(), Fail> {
     let alloc = rt.alloc();
@@ -167,8 +167,8 @@ fn long_payloads_are_cut(rt: HostRuntime) -> Result<(), Fail> {
     Ok(())
 }
 
-// Whether the lines end where a writer stops that takes no more than these bytes of them.
-fn stops_behind(
+// Whether the lines end where a writer stops that accepts only these bytes of them.
+fn stops_after(
     alloc: Global,
     bytes: &[u8],
     before: &[u8],
@@ -176,11 +176,11 @@ fn stops_behind(
 ) -> Result<bool, Fail> {
     let mut sink = Sink::stopping(alloc, before.len(), stop.0, stop.1);
     let given = annotated(bytes, 0, limits()?, &mut sink);
-    let is_told = match given {
+    let is_reported = match given {
         Ok(_) => false,
         Err(refusal) => refusal.reason == Reason::Write && refusal.place == before.len() as u64,
     };
-    Ok(is_told && sink.ended_with(before))
+    Ok(is_reported && sink.ended_with(before))
 }
 
 #[test]
@@ -191,7 +191,7 @@ fn a_failed_write_ends_the_lines(rt: HostRuntime) -> Result<(), Fail> {
         let lines = lines.as_bytes();
         for place in 0..lines.len() {
             for stop in STOPS {
-                let is_right = stops_behind(alloc, &bytes, &lines[..place], stop)?;
+                let is_right = stops_after(alloc, &bytes, &lines[..place], stop)?;
                 assert!(rt; is_right, "{digits} at {place}");
             }
         }
@@ -199,7 +199,7 @@ fn a_failed_write_ends_the_lines(rt: HostRuntime) -> Result<(), Fail> {
     Ok(())
 }
 
-// A writer that stops within the second line has the first of the lines, and no byte behind the second head was read.
+// A writer that stops within the second line has the whole first line, and no byte after the second head was read.
 #[test]
 fn stops_within_a_line(rt: HostRuntime) -> Result<(), Fail> {
     let alloc = rt.alloc();

@@ -1,4 +1,4 @@
-//! Writers that stop once and would then take more.
+//! Writers that stop once and would accept more later.
 
 use super::streams::{STOPS, Sink, Stop};
 use super::{NESTED, NESTED_INDENTED, tree_of};
@@ -16,8 +16,8 @@ fn write_at(place: usize) -> Result<u64, Refusal> {
     })
 }
 
-// Whether the text ends where a writer stops that takes no more than these bytes of it.
-fn stops_behind(alloc: Global, tree: &Tree, before: &[u8], part: usize, stop: Stop) -> bool {
+// Whether the text ends where a writer stops that accepts only these bytes of it.
+fn stops_after(alloc: Global, tree: &Tree, before: &[u8], part: usize, stop: Stop) -> bool {
     let mut sink = Sink::stopping(alloc, before.len(), part, stop);
     diagnostic(tree, &mut sink) == write_at(before.len()) && sink.ended_with(before)
 }
@@ -36,7 +36,7 @@ fn writers_stop_at_each_place(rt: HostRuntime) -> Result<(), Fail> {
     let lines = NESTED_INDENTED.as_bytes();
     for &(part, stop) in &STOPS {
         for space in 0..LINE.len() {
-            let is_right = stops_behind(alloc, &tree, &LINE[..space], part, stop);
+            let is_right = stops_after(alloc, &tree, &LINE[..space], part, stop);
             assert!(rt; is_right, "at {space}");
         }
         for space in 0..lines.len() {
@@ -51,7 +51,7 @@ fn writers_stop_at_each_place(rt: HostRuntime) -> Result<(), Fail> {
 fn the_third_number_is_cut_off(rt: HostRuntime) -> Result<(), Fail> {
     let alloc = rt.alloc();
     let tree = tree_of(alloc, b"\x83\x01\x02\x03")?;
-    assert!(rt; stops_behind(alloc, &tree, b"[1, 2", 100, Stop::TakesNothing));
+    assert!(rt; stops_after(alloc, &tree, b"[1, 2", 100, Stop::TakesNothing));
     Ok(())
 }
 
@@ -59,7 +59,8 @@ static SPACES: [usize; 14] = [
     0, 1, 2, 3, 511, 512, 513, 514, 515, 1025, 1026, 1027, 1401, 1402,
 ];
 
-// A byte string of more digits than wait at once: a stop in each of its writes.
+// A byte string with more digits than the outbox holds. The writer stops within each of the
+// writes.
 #[test]
 fn long_strings_are_cut_off(rt: HostRuntime) -> Result<(), Fail> {
     let alloc = rt.alloc();
@@ -75,7 +76,7 @@ fn long_strings_are_cut_off(rt: HostRuntime) -> Result<(), Fail> {
     for &(part, stop) in &STOPS {
         for &space in &SPACES {
             assert!(rt; space <= text.len());
-            let is_right = stops_behind(alloc, &tree, &text[..space], part, stop);
+            let is_right = stops_after(alloc, &tree, &text[..space], part, stop);
             assert!(rt; is_right, "at {space}");
         }
     }

@@ -1,14 +1,14 @@
 //! The tables of the listing: bytes, and the lines of their events.
 //!
-//! One row a line, with five columns between bars: the bytes in hex digits; the limits on depth and
-//! on bytes, where they are not 256 and 1048576; the lines of the listing; what is answered; and what
-//! the bytes are, or why they are refused.
+//! One row a line, with five columns separated by bars: the bytes in hex digits; the limits on depth
+//! and on bytes, if they are not 256 and 1048576; the lines of the listing; the result; and what the
+//! bytes are, or why they are refused.
 
 use cbor_head::{Limits, Refusal};
 use std::alloc::{AllocError, Global};
 use std::test::Fail;
 
-// Items, and bytes that form refuses, with what is written before.
+// Items, and bytes that the form refuses, with the lines before the refusal.
 pub(super) static ITEMS: &str = r#"
 bf6346756ef563416d7421ff | | 0 map - -; 1 text 3 0; 5 simple 21 0; 6 text 3 0; 10 negative 1 0; 11 end - - | 12 | {_ "Fun": true, "Amt": -2}
 5f42010243030405ff | | 0 bytes - -; 1 chunk 2 0; 4 chunk 3 0; 8 end - - | 9 | (_ h'0102', h'030405')
@@ -110,7 +110,7 @@ fn limits_of(column: &str) -> Option<Limits> {
     Limits::new(depth.parse().ok()?, bytes.parse().ok()?)
 }
 
-// The lines that a column has between semicolons.
+// The lines of a column, which are separated by semicolons.
 fn listing_of(alloc: Global, column: &str) -> Result<String, AllocError> {
     let mut listing = String::new(alloc);
     for line in column.split("; ") {
@@ -122,7 +122,7 @@ fn listing_of(alloc: Global, column: &str) -> Result<String, AllocError> {
     Ok(listing)
 }
 
-// What is answered, as the column has it: how many bytes were read, or why they are refused.
+// A result as the column has it: the number of bytes of the item, or the refusal.
 pub(super) fn answer_text(
     alloc: Global,
     answer: Result<u64, Refusal>,

@@ -1,5 +1,5 @@
-//! The listing against the tables, over readers and writers that give and take little at a time,
-//! or fail.
+//! The listing against the tables, with readers and writers that read and accept few bytes at a
+//! time, or fail.
 
 use super::listing_tables::{ITEMS, REFUSED, Row, answer_text, rows_of};
 use super::streams::{STOPS, Sink, Source, Stop};
@@ -13,9 +13,9 @@ fn limits<R: Abort>(rt: &R, depth: u16, bytes: u64) -> Limits {
     Limits::new(depth, bytes).expect(rt, "limits")
 }
 
-// Whether this is answered, written and left of the input. What is read and written is borrowed, and
-// let go by the caller.
-fn answers(
+// Whether this is returned and written, and this many bytes of the input are left. The reader and
+// the writer are borrowed, and the caller drops them.
+fn lists(
     source: &mut Source,
     limits: Limits,
     sink: &mut Sink,
@@ -27,8 +27,8 @@ fn answers(
     given == wanted && sink.ended_with(lines) && source.rest.len() as u64 == left
 }
 
-// Lists the bytes, with at most so many a read, and so many a write.
-fn answer_in_parts(
+// Lists the bytes, with a limit on the bytes of each read and of each write.
+fn list_in_parts(
     row: &Row,
     source: &mut Source,
     sink: &mut Sink,
@@ -39,11 +39,11 @@ fn answer_in_parts(
     listing(source, row.limits, sink)
 }
 
-// Whether the row's answer is given so, with its lines written, and the rest of the input left.
-fn answers_in_parts(alloc: Global, row: &Row, parts: (usize, usize)) -> Result<bool, AllocError> {
+// Whether the row's result is returned, its lines are written, and the rest of the input is left.
+fn lists_in_parts(alloc: Global, row: &Row, parts: (usize, usize)) -> Result<bool, AllocError> {
     let mut source = Source::new(alloc, &row.bytes);
     let mut sink = Sink::new(alloc);
-    let given = answer_in_parts(row, &mut source, &mut sink, parts);
+    let given = list_in_parts(row, &mut source, &mut sink, parts);
     let taken = match given {
         Ok(size) => size,
         Err(refusal) => refusal.read,
@@ -61,19 +61,19 @@ static PARTS: [(usize, usize); 4] = [
     (usize::MAX, usize::MAX),
 ];
 
-// The bytes of an item, and a byte behind it.
+// The bytes of an item, and a byte after it.
 #[test]
 fn lists_items(rt: HostRuntime) -> Result<(), Fail> {
     for row in &mut rows_of(rt.alloc(), ITEMS)? {
         row.bytes.push(0)?;
         for parts in PARTS {
-            assert!(rt; answers_in_parts(rt.alloc(), row, parts)?, "{}", row.line);
+            assert!(rt; lists_in_parts(rt.alloc(), row, parts)?, "{}", row.line);
         }
     }
     Ok(())
 }
 
-// Whether the listing of the whole is this, with offsets from there on.
+// Whether the listing of the item has the row's lines, with offsets counted from `start`.
 fn lists_from(alloc: Global, start: u32, limits: Limits, row: &Row) -> bool {
     let mut source = row.bytes.as_slice();
     let mut shown = Vec::new(alloc);
@@ -81,8 +81,8 @@ fn lists_from(alloc: Global, start: u32, limits: Limits, row: &Row) -> bool {
     answer == Ok(row.bytes.len() as u64) && shown.as_slice() == row.listing.as_bytes()
 }
 
-// Behind five bytes, and behind 2^32 - 1.
-static BEHIND: [(u32, &str); 2] = [
+// After 5 bytes, and after 2^32 - 1 bytes.
+static STARTS: [(u32, &str); 2] = [
     (
         5,
         "82011864 | 256 4 | 5 array 2 0; 6 unsigned 1 0; 7 unsigned 100 1 | 4 | [1, 100]",
@@ -92,7 +92,7 @@ static BEHIND: [(u32, &str); 2] = [
 
 #[test]
 fn counts_offsets_from_the_start_of_the_input(rt: HostRuntime) -> Result<(), Fail> {
-    for (start, table) in BEHIND {
+    for (start, table) in STARTS {
         for row in &rows_of(rt.alloc(), table)? {
             assert!(rt;
                 lists_from(rt.alloc(), start, row.limits, row),
@@ -105,17 +105,17 @@ fn counts_offsets_from_the_start_of_the_input(rt: HostRuntime) -> Result<(), Fai
 }
 
 #[test]
-fn refuses_form_alone(rt: HostRuntime) -> Result<(), Fail> {
+fn refuses_malformed_items(rt: HostRuntime) -> Result<(), Fail> {
     for row in &rows_of(rt.alloc(), REFUSED)? {
         for part in [1, usize::MAX] {
-            let is_right = answers_in_parts(rt.alloc(), row, (part, usize::MAX))?;
+            let is_right = lists_in_parts(rt.alloc(), row, (part, usize::MAX))?;
             assert!(rt; is_right, "{}", row.line);
         }
     }
     Ok(())
 }
 
-// Items, with each event's end and its line.
+// Items, with the end and the line of each event.
 static EVENTS: [(&str, &str); 3] = [
     // 1([1, simple(32)])
     (
@@ -139,7 +139,7 @@ fn end_and_line(event: &str) -> Option<(u64, &str)> {
     Some((end.parse().ok()?, line))
 }
 
-// The lines of the events that end within so many bytes.
+// The lines of the events that end within the first `taken` bytes.
 fn lines_within(alloc: Global, events: &str, taken: u64) -> Result<Vec<u8>, Fail> {
     let mut lines = Vec::new(alloc);
     for event in events.split("; ") {
@@ -152,12 +152,12 @@ fn lines_within(alloc: Global, events: &str, taken: u64) -> Result<Vec<u8>, Fail
     Ok(lines)
 }
 
-// The bytes taken when a line is written that goes on behind so many bytes of the listing.
+// The number of bytes consumed when the line at this offset of the listing is written.
 fn taken_at(events: &str, place: usize) -> Option<u64> {
     let mut left = place;
     for event in events.split("; ") {
         let (end, line) = end_and_line(event)?;
-        // the line's own end is one byte more
+        // the line feed is one byte more
         if left <= line.len() {
             return Some(end);
         }
@@ -179,7 +179,7 @@ fn reports_a_failed_read(
     let mut sink = Sink::new(alloc);
     let refusal = Err(Refusal::at(Reason::Read, place as u64));
     let left = bytes.len().saturating_sub(place) as u64;
-    answers(&mut source, limits, &mut sink, refusal, lines, left)
+    lists(&mut source, limits, &mut sink, refusal, lines, left)
 }
 
 #[test]
@@ -196,7 +196,7 @@ fn a_failed_read_ends_the_listing(rt: HostRuntime) -> Result<(), Fail> {
     Ok(())
 }
 
-// Whether the listing ends where the writer stopped, with no byte behind the event asked for.
+// Whether the listing ends where the writer stopped, and no byte after that event was read.
 fn reports_a_failed_write(
     alloc: Global,
     limits: Limits,
@@ -209,7 +209,7 @@ fn reports_a_failed_write(
     let mut sink = Sink::stopping(alloc, lines.len(), stop.0, stop.1);
     let refusal = Err(Refusal::new(Reason::Write, lines.len() as u64, read));
     let left = (bytes.len() as u64).saturating_sub(read);
-    answers(&mut source, limits, &mut sink, refusal, lines, left)
+    lists(&mut source, limits, &mut sink, refusal, lines, left)
 }
 
 #[test]
@@ -248,7 +248,7 @@ fn stops_within_the_second_line(rt: HostRuntime) {
 }
 
 #[test]
-fn asks_for_what_is_expected(rt: HostRuntime) {
+fn requests_expected_bytes(rt: HostRuntime) {
     // {256: "a"}: a head, a head and its argument, a head and its payload.
     let mut source = Source::new(rt.alloc(), b"\xa1\x19\x01\x00\x61\x61");
     let mut sink = Sink::new(rt.alloc());

@@ -1,4 +1,4 @@
-//! Items in their bytes, which were found to be valid.
+//! Encoded items that were found to be valid.
 
 use super::push_times;
 use super::texts::{TEXTS, row_of};
@@ -14,7 +14,7 @@ fn prefixes_are_shown(rt: HostRuntime) -> Result<(), Fail> {
     let mut space = TextBuffer::new(alloc);
     for line in TEXTS.trim().lines() {
         let (mut input, want) = row_of(alloc, line)?;
-        // What stands behind the item is no part of its text.
+        // What follows the item is not part of its text.
         input.push(0xff)?;
         check_valid(alloc, &input, limits)?;
         let shown = space.diagnostic_prefix(&input, limits)?;
@@ -23,8 +23,8 @@ fn prefixes_are_shown(rt: HostRuntime) -> Result<(), Fail> {
     Ok(())
 }
 
-// Arrays in one another around 7: as many as there are cells at first, one more, and as many as there can
-// be. Memory may be refused at any array, so no clause has these shown.
+// Nested arrays around 7: as many as the first cells can hold, one more, and the greatest depth. Memory
+// may run out at any array, so no contract says that these are shown.
 #[test]
 fn deep_prefixes_are_shown(rt: HostRuntime) -> Result<(), Fail> {
     let alloc = rt.alloc();

@@ -1,17 +1,17 @@
-//! A reader and a writer that give and take little at a time, or fail.
+//! A reader and a writer that read and accept few bytes at a time, or fail.
 
 use std::alloc::Global;
 use std::io;
 use std::io::{Read, Write};
 
-// A reader that gives at most `part` bytes a read, and at one place fails once and then goes on.
+// A reader that reads at most `part` bytes a call, fails once at one offset, and then continues.
 #[derive(Drop)]
 pub(super) struct Source<'a> {
     pub(super) rest: &'a [u8],
     pub(super) part: usize,
-    // How many bytes it gives before it fails.
+    // The number of bytes that it reads before it fails.
     pub(super) fails: Option<usize>,
-    // How many bytes each read was asked for.
+    // The number of bytes requested by each read.
     pub(super) asked: Vec<usize>,
 }
 
@@ -54,7 +54,7 @@ pub(super) enum Stop {
     TakesNothing,
 }
 
-// How many bytes a write takes at most, and how the writer stops.
+// The number of bytes that a write accepts at most, and how the writer stops.
 pub(super) static STOPS: [(usize, Stop); 4] = [
     (1, Stop::Fails),
     (4, Stop::Fails),
@@ -62,15 +62,16 @@ pub(super) static STOPS: [(usize, Stop); 4] = [
     (usize::MAX, Stop::TakesNothing),
 ];
 
-// A writer that takes at most `part` bytes a write, and at one place stops once and then goes on.
+// A writer that accepts at most `part` bytes a write, stops once at one offset, and then
+// continues.
 #[derive(Drop)]
 pub(super) struct Sink {
     pub(super) held: Vec<u8>,
     pub(super) part: usize,
-    // How many bytes it takes before it stops, and how.
+    // The number of bytes that it accepts before it stops, and how it stops.
     pub(super) stops: Option<(usize, Stop)>,
     has_stopped: bool,
-    // Whether a write came after it stopped.
+    // Whether there was a write after it stopped.
     is_asked_again: bool,
 }
 
@@ -85,7 +86,7 @@ impl Sink {
         }
     }
 
-    // A writer that takes so many bytes, at most `part` a write, and then stops once.
+    // A writer that accepts `space` bytes, at most `part` a write, and then stops once.
     pub(super) fn stopping(alloc: Global, space: usize, part: usize, stop: Stop) -> Sink {
         let mut sink = Sink::new(alloc);
         sink.part = part;
@@ -93,7 +94,7 @@ impl Sink {
         sink
     }
 
-    // Whether it holds these bytes, and was asked for nothing after it stopped.
+    // Whether it holds these bytes, and was not called after it stopped.
     pub(super) fn ended_with(&self, bytes: &[u8]) -> bool {
         self.held.as_slice() == bytes && !self.is_asked_again
     }

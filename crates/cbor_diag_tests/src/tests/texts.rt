@@ -3,8 +3,8 @@
 use std::alloc::Global;
 use std::test::Fail;
 
-// The bytes of RFC 8949, Appendix A, but for floats, and then others. Of a string in chunks and of containers
-// without a length it is the text of their value.
+// The bytes of RFC 8949, Appendix A, except floats, and then others. Strings in chunks and containers of
+// indefinite length have the text of their value.
 pub(super) static TEXTS: &str = r#"
 00 | 0
 0a | 10

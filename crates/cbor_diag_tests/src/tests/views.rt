@@ -25,7 +25,7 @@ fn views_are_shown(rt: HostRuntime) -> Result<(), Fail> {
 
 // {"a": 1, "b": [2, 3]}
 #[test]
-fn views_are_shown_with_a_member_a_line(rt: HostRuntime) -> Result<(), Fail> {
+fn indented_views_are_shown(rt: HostRuntime) -> Result<(), Fail> {
     let alloc = rt.alloc();
     let limits = Limits::new(256, 1 << 20).ok_or("limits")?;
     let arena = Bump::new(alloc);

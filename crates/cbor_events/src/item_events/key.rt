@@ -1,11 +1,11 @@
-//! The next event where a key is expected that is to be an integer or a text.
+//! The next event where a key is expected that must be an integer or a text.
 
 ghost use Rattle.std.specs.Prelude.{◌≡◌, ◌≢◌, ◌≤◌, ◌<◌, ◌⊎◌, ◌/◌, ℕ, List, IfErr, IsTrue};
 ghost use Rattle.std.specs.Prelude.{false, true};
-ghost use Rattle.cbor_model.specs.FirstBytes as first_bytes;
-ghost use Rattle.cbor_automaton.specs.Trace.{Mark};
-ghost use Rattle.cbor_automaton.specs.Marks.{IsProper};
-ghost use Rattle.cbor_automaton.specs.Reasons.{IsEventReason};
+ghost use Rattle.theory_values.specs.FirstBytes as first_bytes;
+ghost use Rattle.theory_automaton.specs.Trace.{Mark};
+ghost use Rattle.theory_automaton.specs.Marks.{IsProper};
+ghost use Rattle.theory_automaton.specs.Reasons.{IsEventReason};
 ghost use Rattle.cbor_machine.specs.Machine.{KeepsLimits, IsIdle, StandsFor, wanted};
 ghost use Rattle.cbor_machine.specs.NextEvent.{StandsBetween, IfReported, machine_call};
 ghost use Rattle.cbor_machine.specs.NextKey.{IsNextKey, IsKeyReason};
@@ -14,16 +14,15 @@ ghost use Rattle.cbor_events.specs.inner.Reads.{IfPartReported, IfStopped};
 
 use crate::item_events::reading::{ARGUMENT, at_end, next_part};
 use crate::part::{PartialEvent, read_part};
-use cbor_automaton::Event;
-use cbor_head::{Reason, Refusal};
+use cbor_head::{Event, Reason, Refusal};
 use cbor_machine::Machine;
 use std::io::Read;
 
-// The head of a key that is to be an integer or a text, or a break.
+// The head of a key that must be an integer or a text, or a break.
 //
-// The kind is judged at the first byte, before any more is asked of the reader. Where that byte may
-// stand there, and is neither of an integer nor of a text nor a break, it is taken, and refused at
-// its place, even where the byte limit is reached with it.
+// The kind is judged at the first byte, before more is read. A byte that is allowed there, and
+// begins an item that is neither an integer nor a text, is consumed and refused at its offset,
+// even if the byte limit is reached with it.
 #[inline(never)]
 pub(crate) fn key_head<R: Read>(
     machine: &mut Machine,
@@ -55,7 +54,7 @@ pub(crate) fn key_head<R: Read>(
     }
 }
 
-// The first byte of a head, if one is read, and what comes of it.
+// Reads the first byte of a head. Returns its result and the byte.
 fn first_byte<R: Read>(machine: &mut Machine, reader: &mut R) -> (PartialEvent, u8)
     requires wanted { 0 < wanted machine.old }
     requires within { machine.old.open_count ≤ machine.old.depth }
@@ -77,8 +76,8 @@ fn first_byte<R: Read>(machine: &mut Machine, reader: &mut R) -> (PartialEvent, 
     (part, first[0])
 }
 
-// Whether the byte at this place was taken, as the first of an item that is neither an integer nor a
-// text.
+// Whether the byte at this offset was consumed, as the first of an item that is neither an integer
+// nor a text.
 fn is_other(part: &PartialEvent, first: u8, place: u64) -> bool
     ensures other { result ≡ true → IsTakenAt part.now place
         × ¬ IsTrue (first_bytes.is_basic (first / 32)) × (first ≢ 0xff) }

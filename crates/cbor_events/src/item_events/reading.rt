@@ -2,9 +2,9 @@
 
 ghost use Rattle.std.specs.Prelude.{◌≡◌, ◌≤◌, ◌<◌, ℕ, List, [], length, take, None, Some};
 ghost use Rattle.std.specs.Prelude.{IfErr, Err, Option, false};
-ghost use Rattle.cbor_automaton.specs.Trace.{Mark};
-ghost use Rattle.cbor_automaton.specs.Marks.{IsProper};
-ghost use Rattle.cbor_automaton.specs.Reasons.{IsEventReason};
+ghost use Rattle.theory_automaton.specs.Trace.{Mark};
+ghost use Rattle.theory_automaton.specs.Marks.{IsProper};
+ghost use Rattle.theory_automaton.specs.Reasons.{IsEventReason};
 ghost use Rattle.cbor_machine.specs.MachineView.{MachineView};
 ghost use Rattle.cbor_machine.specs.Machine.{KeepsLimits, IsIdle, wanted};
 ghost use Rattle.cbor_machine.specs.NextEvent.{StandsBetween, IfReported, IsNext};
@@ -15,15 +15,14 @@ ghost use Rattle.cbor_events.specs.inner.Reads.{IfGiven};
 
 use crate::item_events::PART;
 use crate::part::{PartialEvent, read_part};
-use cbor_automaton::{Event, EventKind};
-use cbor_head::Refusal;
+use cbor_head::{Event, EventKind, Refusal};
 use cbor_machine::{Machine, Out, take_part};
 use std::io::Read;
 
-// An argument has at most so many bytes.
+// An argument has at most this number of bytes.
 pub(crate) const ARGUMENT: usize = 8;
 
-// How many bytes are asked for, as many as the buffer has space for.
+// The number of bytes requested, at most the space in the buffer.
 #[inline(always)]
 fn expected(machine: &Machine, buffer: &[u8]) -> usize
     ensures wanted { result ≤ wanted machine.now }
@@ -34,7 +33,7 @@ fn expected(machine: &Machine, buffer: &[u8]) -> usize
     machine.wanted().min(buffer.len() as u64) as usize
 }
 
-// Where nothing is wanted: the item is complete, or refused, or at the byte limit.
+// The result if no byte is expected: the item is complete, or refused, or at the byte limit.
 #[inline(never)]
 pub(crate) fn at_end(machine: &mut Machine) -> Result<Option<Event>, Refusal>
     requires { wanted machine.old ≡ 0 }
@@ -54,8 +53,8 @@ pub(crate) fn at_end(machine: &mut Machine) -> Result<Option<Event>, Refusal>
     }
 }
 
-// Reads what the machine wants, one part after another, until it reports an event or stops. It has a stack
-// frame of its own, so that the caller's stays small.
+// Reads what the machine expects, one part after another, until it reports an event or stops. It
+// has a stack frame of its own, so that the caller's stays small.
 #[inline(never)]
 fn next_event<R: Read>(
     machine: &mut Machine,
@@ -93,7 +92,7 @@ fn next_event<R: Read>(
     }
 }
 
-// The next part of an event; mostly it takes one read.
+// The next part of an event. In most cases one read is enough.
 #[inline(always)]
 pub(crate) fn next_part<R: Read>(
     machine: &mut Machine,
@@ -172,7 +171,7 @@ fn piece_len(answer: &Result<Option<Event>, Refusal>) -> usize
     }
 }
 
-// The next event, with a piece kept before the buffer.
+// The next event. The buffer holds the last piece.
 #[inline(always)]
 pub(crate) fn advance<R: Read>(
     machine: &mut Machine,

@@ -1,20 +1,22 @@
-//! A reader that gives few bytes at a time, or fails.
+//! A reader that reads few bytes at a time, or fails.
 
 use arrayvec::ArrayVec;
 use std::io;
 use std::io::Read;
 
-// A reader that gives at most so many bytes a read, and none beyond a cut with those before it. Where
-// it fails or ends, it does so once, and then goes on: a second read there is seen by what it gives.
+// A reader that reads at most `part` bytes a call, and never bytes from both sides of a cut. Where it
+// fails or ends, it does so once, and then continues: the bytes of a second read there show that it
+// was called again.
 #[derive(Drop)]
 pub(super) struct Parts<'a> {
     pub(super) rest: &'a [u8],
     pub(super) part: usize,
-    // The bytes before the cut, before the failure and before the end.
+    // The bytes left before the cut, before the failure and before the end.
     pub(super) cut: usize,
     pub(super) fails: usize,
     pub(super) ends: usize,
-    // How many bytes the first reads were asked for, and how many reads were for none.
+    // The number of bytes requested by each of the first reads, and the number of reads that
+    // requested none.
     pub(super) asked: ArrayVec<usize, 16>,
     pub(super) idle: usize,
 }

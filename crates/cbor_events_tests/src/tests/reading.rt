@@ -1,4 +1,4 @@
-//! The event reader against the tables, over readers that give few bytes at a time, or fail.
+//! The event reader against the tables, with readers that read few bytes at a time, or fail.
 
 use super::parts::Parts;
 use super::rows::{Row, bytes_of, rows_of};
@@ -10,14 +10,14 @@ use std::alloc::{AllocError, Global};
 use std::io::Read;
 use std::process::Abort;
 
-// What came of an item that was read, and the bytes of its payloads.
+// What was reported of an item, and the bytes of its payloads.
 #[derive(Drop)]
-struct Heard {
+struct ReadItem {
     reported: Reported,
     payloads: Vec<u8>,
 }
 
-// What the reader reports next, in the words of the machine.
+// What the reader reports next, as a result of the machine.
 fn next_of<R: Read>(reader: &mut EventReader<R>) -> Out {
     match reader.next() {
         Ok(Some(event)) => Out::Event(event),
@@ -26,8 +26,8 @@ fn next_of<R: Read>(reader: &mut EventReader<R>) -> Out {
     }
 }
 
-// Gathers the events and the bytes of their payloads up to the last answer. The gatherers are borrowed:
-// an owner of them would owe at each `?` that they may be dropped there.
+// Collects the events and the bytes of their payloads up to the last result. Both lists are borrowed: at each `?` an
+// owner of them would have to prove that they may be dropped there.
 fn gather<R: Read>(
     reader: &mut EventReader<R>,
     events: &mut Vec<Event>,
@@ -47,8 +47,13 @@ fn gather<R: Read>(
     Ok(Out::More)
 }
 
-// The last answer is given again; where it is not, what was reported counts for nothing.
-fn hear<R: Read + Drop>(alloc: Global, limits: Limits, reader: R) -> Result<Heard, AllocError> {
+// Reads all events. The last result must be returned again: if it is not, the events are dropped, so that the test
+// fails.
+fn read_all<R: Read + Drop>(
+    alloc: Global,
+    limits: Limits,
+    reader: R,
+) -> Result<ReadItem, AllocError> {
     let mut reader = EventReader::new(reader, limits);
     let mut events = Vec::new(alloc);
     let mut payloads = Vec::new(alloc);
@@ -58,7 +63,7 @@ fn hear<R: Read + Drop>(alloc: Global, limits: Limits, reader: R) -> Result<Hear
         out = again;
         events.clear();
     }
-    Ok(Heard {
+    Ok(ReadItem {
         reported: Reported {
             events,
             out,
@@ -68,7 +73,7 @@ fn hear<R: Read + Drop>(alloc: Global, limits: Limits, reader: R) -> Result<Hear
     })
 }
 
-// The bytes at the places of the pieces.
+// The bytes of the pieces.
 fn payloads_of(alloc: Global, bytes: &[u8], events: &[Event]) -> Result<Vec<u8>, AllocError> {
     let mut payloads = Vec::new(alloc);
     for event in events {
@@ -81,9 +86,8 @@ fn payloads_of(alloc: Global, bytes: &[u8], events: &[Event]) -> Result<Vec<u8>,
     Ok(payloads)
 }
 
-// Reads the bytes, cut there, in such parts, and looks for what the row reports, and what the reader
-// has left.
-fn look_once(
+// Reads the row's bytes in parts, with one cut. Expects the row's events and result, and the rest of the input unread.
+fn check_with_cut(
     rt: &impl Abort,
     alloc: Global,
     row: &Row,
@@ -94,15 +98,11 @@ fn look_once(
     let mut parts = Parts::new(&row.bytes);
     parts.cut = cut;
     parts.part = part;
-    let heard = hear(alloc, row.limits, &mut parts)?;
+    let item = read_all(alloc, row.limits, &mut parts)?;
     let left = (row.bytes.len() as u64).saturating_sub(row.reported.taken);
+    assert!(rt; item.reported == row.reported, "cut at {cut}: {}", row.line);
     assert!(rt;
-        heard.reported == row.reported,
-        "cut at {cut}: {}",
-        row.line
-    );
-    assert!(rt;
-        heard.payloads.as_slice() == payloads,
+        item.payloads.as_slice() == payloads,
         "payloads, cut at {cut}: {}",
         row.line
     );
@@ -115,12 +115,12 @@ fn look_once(
     Ok(())
 }
 
-// Looks at the bytes whole, one by one, and with each cut; and with a byte behind an item.
-fn look_at_each_cut(rt: &impl Abort, alloc: Global, row: &mut Row) -> Result<(), AllocError> {
+// Reads the bytes at once and one by one, with a cut at each offset, and with a byte after a whole item.
+fn check_each_cut(rt: &impl Abort, alloc: Global, row: &mut Row) -> Result<(), AllocError> {
     let payloads = payloads_of(alloc, &row.bytes, &row.reported.events)?;
     match row.reported.out {
         Out::Done => row.bytes.push(0)?,
-        // the reader ends there
+        // here the reader ends
         Out::More => row.reported.out = refusal(
             Reason::Truncated,
             row.reported.taken,
@@ -130,24 +130,24 @@ fn look_at_each_cut(rt: &impl Abort, alloc: Global, row: &mut Row) -> Result<(),
     }
     for cut in 0..=row.bytes.len() {
         for part in [1, usize::MAX] {
-            look_once(rt, alloc, row, &payloads, cut, part)?;
+            check_with_cut(rt, alloc, row, &payloads, cut, part)?;
         }
     }
     Ok(())
 }
 
 #[test]
-fn reads_as_the_tables_say(rt: HostRuntime) -> Result<(), AllocError> {
+fn reads_as_in_the_tables(rt: HostRuntime) -> Result<(), AllocError> {
     for table in [ACCEPTED, NOT_VALID, REFUSED, PREFIXES] {
         for row in &mut rows_of(&rt, rt.alloc(), table)? {
-            look_at_each_cut(&rt, rt.alloc(), row)?;
+            check_each_cut(&rt, rt.alloc(), row)?;
         }
     }
     Ok(())
 }
 
-// Reads an item from a reader that fails there, or ends.
-fn look_where_it_stops(
+// Reads an item from a reader that fails or ends at this offset.
+fn check_stop_at(
     rt: &impl Abort,
     alloc: Global,
     row: &Row,
@@ -160,7 +160,7 @@ fn look_where_it_stops(
     } else {
         parts.ends = place;
     }
-    let reported = hear(alloc, row.limits, &mut parts)?.reported;
+    let reported = read_all(alloc, row.limits, &mut parts)?.reported;
     let taken = place as u64;
     let left = row.bytes.len().saturating_sub(place);
     assert!(rt;
@@ -173,19 +173,19 @@ fn look_where_it_stops(
     Ok(())
 }
 
-// A reader that fails, or ends, once at each place: it is reported there, and nothing more is read.
+// The reader fails, or ends, once at each offset: that is reported there, and nothing more is read.
 #[test]
 fn a_failure_and_an_end_are_reported_at_once(rt: HostRuntime) -> Result<(), AllocError> {
     for row in &rows_of(&rt, rt.alloc(), ACCEPTED)? {
         for place in 0..row.bytes.len() {
-            look_where_it_stops(&rt, rt.alloc(), row, place, Reason::Read)?;
-            look_where_it_stops(&rt, rt.alloc(), row, place, Reason::Truncated)?;
+            check_stop_at(&rt, rt.alloc(), row, place, Reason::Read)?;
+            check_stop_at(&rt, rt.alloc(), row, place, Reason::Truncated)?;
         }
     }
     Ok(())
 }
 
-// [256, "a string of 600 bytes"], and a byte behind
+// [256, "a string of 600 bytes"], and a byte after it
 fn long_string(alloc: Global) -> Result<Vec<u8>, AllocError> {
     let mut bytes = bytes_of(alloc, "82190100790258")?;
     for _ in 0..601 {
@@ -194,24 +194,24 @@ fn long_string(alloc: Global) -> Result<Vec<u8>, AllocError> {
     Ok(bytes)
 }
 
-fn look_at_whole(rt: &impl Abort, alloc: Global, bytes: &[u8]) -> Result<(), AllocError> {
+fn check_whole(rt: &impl Abort, alloc: Global, bytes: &[u8]) -> Result<(), AllocError> {
     let mut parts = Parts::new(bytes);
-    let heard = hear(alloc, limits(rt, 1, 607), &mut parts)?;
-    assert!(rt; heard.reported.out == Out::Done);
+    let item = read_all(alloc, limits(rt, 1, 607), &mut parts)?;
+    assert!(rt; item.reported.out == Out::Done);
     let text = [
         event(0, Width::Direct, EventKind::Array(Some(2))),
         event(1, Width::Two, EventKind::Unsigned(256)),
         event(4, Width::Two, EventKind::Text(Some(600))),
         event(7, Width::Direct, EventKind::Piece(600)),
     ];
-    assert!(rt; heard.reported.events[..] == text[..]);
+    assert!(rt; item.reported.events[..] == text[..]);
     assert!(rt; parts.rest.len() == 1);
     assert!(rt; parts.asked.as_slice() == [1, 1, 2, 1, 2, 512, 88].as_slice());
     Ok(())
 }
 
-// Reads the bytes with this limit, and looks for the last answer and for what was asked.
-fn asks_for(
+// Reads the bytes with this limit. Expects this result, and reads that request these numbers of bytes.
+fn check_requests(
     rt: &impl Abort,
     alloc: Global,
     bytes: &[u8],
@@ -220,28 +220,28 @@ fn asks_for(
     asked: &[usize],
 ) -> Result<(), AllocError> {
     let mut parts = Parts::new(bytes);
-    let heard = hear(alloc, limits(rt, 1, limit), &mut parts)?;
-    assert!(rt; heard.reported.out == out);
+    let item = read_all(alloc, limits(rt, 1, limit), &mut parts)?;
+    assert!(rt; item.reported.out == out);
     assert!(rt; parts.asked.as_slice() == asked);
     Ok(())
 }
 
-// One byte of a head, what is missing of its argument, and a payload in parts; none at the limit.
+// It requests one byte of a head, the rest of its argument, and a payload in parts; nothing at the limit.
 #[test]
 fn asks_for_what_it_needs(rt: HostRuntime) -> Result<(), AllocError> {
     let alloc = rt.alloc();
     let bytes = long_string(alloc)?;
-    look_at_whole(&rt, alloc, &bytes)?;
+    check_whole(&rt, alloc, &bytes)?;
     // the same, with a limit of 10 bytes
     let out = refusal(Reason::TooLong, 10, 10);
-    asks_for(&rt, alloc, &bytes, 10, out, &[1, 1, 2, 1, 2, 3])?;
+    check_requests(&rt, alloc, &bytes, 10, out, &[1, 1, 2, 1, 2, 3])?;
     // 2^32, by a head of nine bytes
     let bytes = bytes_of(alloc, "1b0000000100000000")?;
-    asks_for(&rt, alloc, &bytes, 9, Out::Done, &[1, 8])
+    check_requests(&rt, alloc, &bytes, 9, Out::Done, &[1, 8])
 }
 
 #[test]
-fn counts_what_is_open(rt: HostRuntime) {
+fn counts_open_containers(rt: HostRuntime) {
     // [["a"]]
     let mut reader = EventReader::new(&b"\x81\x81\x61a"[..], limits(&rt, 2, 4));
     for (open, taken, piece) in [(1, 1, 0), (2, 2, 0), (2, 3, 0), (0, 4, 1), (0, 4, 1)] {
@@ -250,9 +250,9 @@ fn counts_what_is_open(rt: HostRuntime) {
     }
 }
 
-// [[1, .. is too long; then 2 is an item of its own
+// [[1, .. is too long; then 2 is an item on its own
 #[test]
-fn goes_on_with_another_item(rt: HostRuntime) {
+fn restarts_with_another_item(rt: HostRuntime) {
     let mut events = ItemEvents::new(limits(&rt, 2, 3));
     let mut input: &[u8] = b"\x81\x82\x01\x02";
     for _ in 0..3 {
@@ -275,7 +275,7 @@ fn goes_on_with_another_item(rt: HostRuntime) {
 }
 
 // Reads 1, then h'00', as keys that must be integers or texts: the string is refused at its first byte, and no more of
-// it is read. If no kind is asked for, it is reported.
+// it is read. If the kind is not restricted, it is reported.
 #[test]
 fn judges_the_kind_of_a_key(rt: HostRuntime) {
     let limits = limits(&rt, 1, 4);
@@ -314,7 +314,7 @@ fn judges_the_kind_of_a_key(rt: HostRuntime) {
 }
 
 #[test]
-fn gives_the_head_of_an_event(rt: HostRuntime) {
+fn returns_the_head_of_an_event(rt: HostRuntime) {
     assert!(rt; head_of(EventKind::Map(Some(2))) == Some((Major::Map, 2)));
     assert!(rt; head_of(EventKind::Text(None)) == Some((Major::Text, 0)));
     assert!(rt; head_of(EventKind::End) == None);

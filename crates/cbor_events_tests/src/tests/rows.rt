@@ -6,7 +6,7 @@ use cbor_head::{Limits, Reason, Simple, Width};
 use std::alloc::{AllocError, Global};
 use std::process::Abort;
 
-// A row: bytes, and what is reported of them within limits.
+// A row: bytes, and what is reported of them within the limits.
 #[derive(Drop)]
 pub(super) struct Row {
     pub(super) line: &'static str,
@@ -31,7 +31,7 @@ fn row_of(rt: &impl Abort, alloc: Global, line: &'static str) -> Result<Row, All
     let (digits, limits, events, answer) = columns_of(line).expect(rt, "five columns");
     let bytes = bytes_of(alloc, digits.trim())?;
     let events = events_of(rt, alloc, events)?;
-    let (out, taken) = answer_of(rt, answer.trim(), bytes.len() as u64);
+    let (out, taken) = result_of(rt, answer.trim(), bytes.len() as u64);
     Ok(Row {
         line,
         bytes,
@@ -57,8 +57,8 @@ fn limits_of(rt: &impl Abort, column: &str) -> Limits {
     )
 }
 
-// The last answer, and how many of so many bytes are taken.
-fn answer_of(rt: &impl Abort, column: &str, size: u64) -> (Out, u64) {
+// The last result, and how many of the `size` bytes are consumed.
+fn result_of(rt: &impl Abort, column: &str, size: u64) -> (Out, u64) {
     let (name, numbers) = column.split_once(' ').unwrap_or((column, ""));
     match name {
         "" => (Out::Done, size),
@@ -95,7 +95,7 @@ fn number_of(rt: &impl Abort, word: &str) -> u64 {
     word.parse().expect(rt, "a number")
 }
 
-// A count, or none where the length is indefinite.
+// A count, or none if the length is indefinite.
 fn count_of(rt: &impl Abort, word: &str) -> Option<u64> {
     if word == "-" {
         None
@@ -138,7 +138,7 @@ fn width_of(rt: &impl Abort, word: &str) -> Width {
     }
 }
 
-// The events that a table names, by four words each.
+// The events of a table, in four words each.
 fn events_of(rt: &impl Abort, alloc: Global, text: &str) -> Result<Vec<Event>, AllocError> {
     let words: Vec<&str> = text.split_whitespace().collect(alloc)?;
     let mut events = Vec::new(alloc);

@@ -34,7 +34,8 @@ pub(crate) fn report_saved(
     Ok(Reported { events, out, taken })
 }
 
-// A machine within the array of one item, before this; it is at most 2 deep and 8 bytes long.
+// A machine before the item of an array of one item, with a depth limit of 2 and a byte limit
+// of 8.
 fn within_an_array(rt: &impl Abort) -> SavedMachine {
     let mut machine = Machine::new(limits(rt, 2, 8));
     machine.step(&[0x81]);
@@ -63,9 +64,9 @@ fn broken(mut saved: SavedMachine, way: u8) -> SavedMachine {
         saved.width = 4;
     }
     match way {
-        // more open than the depth limit
+        // more containers open than the depth limit
         0 => saved.open = 3,
-        // more taken than the byte limit
+        // more bytes consumed than the byte limit
         1 => {
             saved.taken = 9;
             saved.reported = 9;
@@ -73,18 +74,18 @@ fn broken(mut saved: SavedMachine, way: u8) -> SavedMachine {
         // limits out of range
         2 => saved.depth = 1025,
         3 => saved.bytes = (1 << 62) + 1,
-        // something open behind the item
+        // an open container after the item
         4 => saved.position = 5,
-        // bytes that no event stands for
+        // bytes that belong to no event
         5 => saved.reported = 0,
         // an argument of nine bytes
         6 => saved.left = 8,
-        // one that has no space for the bytes that are left
+        // an argument without space for the bytes that are left
         7 => {
             saved.left = 7;
             saved.number = 1;
         }
-        // where there is no space for its container
+        // a container beyond the depth limit
         _ => {
             saved.open = 2;
             saved.kind = 4;

@@ -1,15 +1,15 @@
-//! The tables of the format: bytes, and the events that they report.
+//! The tables of events: bytes, and the events that they report.
 //!
-//! One row a line, with five columns between bars: the bytes in hex digits; the limits on depth and
-//! on bytes, where they are not 256 and 1048576; the events; the last answer; and what the bytes are,
-//! or why they are refused.
+//! One row a line, with five columns separated by bars: the bytes in hex digits; the limits on depth
+//! and on bytes, if they are not 256 and 1048576; the events; the last result; and what the bytes
+//! are, or why they are refused.
 //!
-//! An event is four words: its offset, its name, its argument, and how many bytes the argument has
-//! behind the first; `-` where there is none. The answer is that the item is done with all bytes
-//! taken; `done` and how many bytes are taken; `more`; or a reason, its place, and how many bytes are
-//! read.
+//! An event is four words: its offset, its name, its argument, and the number of bytes of the
+//! argument after the first byte of the head; `-` if there is none. An empty result is that the item
+//! is complete with all bytes consumed. Other results are `done` and the number of bytes consumed;
+//! `more`; or a reason, its offset, and the number of bytes consumed.
 
-// Items of the appendix A of RFC 8949 without floats, and others, in diagnostic notation.
+// Items of RFC 8949, appendix A, without floats, and others, in diagnostic notation.
 pub(super) static ACCEPTED: &str = r#"
 00 | | 0 unsigned 0 0 | | 0
 01 | | 0 unsigned 1 0 | | 1
@@ -79,7 +79,7 @@ a2616100616101 | | 0 map 2 0  1 text 1 0  2 piece 1 0  3 unsigned 0 0  4 text 1 
 61ff | | 0 text 1 0  1 piece 1 0 | | a text that is not UTF-8, well-formed and not valid
 "#;
 
-// Well-formed items that are not valid, and one with a byte behind it.
+// Well-formed items that are not valid, and one with a byte after it.
 pub(super) static NOT_VALID: &str = r#"
 63eda080 | | 0 text 3 0  1 piece 3 0 | done 4 | a text of a surrogate
 6341c080 | | 0 text 3 0  1 piece 3 0 | done 4 | a text of "A" and U+0000 in two bytes
@@ -91,7 +91,7 @@ a26261610061ff00 | | 0 map 2 0  1 text 2 0  2 piece 2 0  4 unsigned 0 0  5 text 
 9fffff | | 0 array - -  1 end - - | done 2 | [_ ], and a break behind it
 "#;
 
-// Prefixes of items: all is taken, and the item goes on.
+// Prefixes of items: all bytes are consumed, and the item is not complete.
 pub(super) static PREFIXES: &str = r#"
 | | | more | nothing
 18 | | | more | a head without its argument
@@ -111,7 +111,7 @@ da00000001 | | 0 tag 1 4 | more | a tag without its content
 5f580201 | | 0 bytes - -  1 chunk 2 1  3 piece 1 0 | more | half of a chunk
 "#;
 
-// Bytes that begin no item, with the events of what stands before the place.
+// Bytes that begin no item, with the events before the offset of the refusal.
 pub(super) static REFUSED: &str = r#"
 1c | | | Reserved 0 1 | reserved additional information
 3d | | | Reserved 0 1 | reserved additional information

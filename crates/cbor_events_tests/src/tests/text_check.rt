@@ -6,7 +6,8 @@ ghost use Rattle.std.specs.Str.Lossy.{utf8_valid_len};
 use cbor_events::TextCheck;
 use std::alloc::Global;
 
-// Two pieces are checked as one text. What callers may conclude is proved here from the contracts.
+// Two pieces are checked as one text. The contract shows what callers can conclude from those of
+// `TextCheck`.
 fn in_two(first: &[u8], second: &[u8]) -> Result<(), u64>
     requires { length first.now + length second.now < 2 ^ 64 }
     ensures { MatchResult result
@@ -19,7 +20,7 @@ fn in_two(first: &[u8], second: &[u8]) -> Result<(), u64>
     check.end()
 }
 
-// The answer to a text that comes in pieces of this size.
+// The result of a check of a text in pieces of this size.
 fn in_pieces(text: &[u8], size: usize) -> Result<(), u64>
     requires { 0 < size }
 {
@@ -33,7 +34,7 @@ fn in_pieces(text: &[u8], size: usize) -> Result<(), u64>
     check.end()
 }
 
-// Each text, and the length of its longest prefix that is UTF-8 where it is not.
+// Each text, and, if it is not UTF-8, the length of its longest prefix that is.
 static TEXTS: &str = "
 | | nothing
 49455446 | | IETF
@@ -58,7 +59,7 @@ c3bcc341ff | 2 | what is wrong first counts
 30313233343536373839303132333435363738393031323334353637383930313233343536373839303132333435363738393031323334353637383930e6b0b4f09085913738393031323334353637383930ff39 | 82 | more than one block of 64 bytes
 ";
 
-// A text, and what its check is to answer.
+// A text, and the expected result of its check.
 fn row_of(alloc: Global, line: &str) -> Option<(Vec<u8>, Result<(), u64>)> {
     let (digits, rest) = line.split_once('|')?;
     let (prefix, _) = rest.split_once('|')?;
@@ -87,7 +88,7 @@ fn cuts_change_nothing(rt: HostRuntime) {
 }
 
 #[test]
-fn counts_what_was_pushed(rt: HostRuntime) {
+fn counts_pushed_bytes(rt: HostRuntime) {
     let mut check = TextCheck::new();
     check.push(b"\xe6");
     assert!(rt; check.end() == Err(0));

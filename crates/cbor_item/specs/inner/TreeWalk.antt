@@ -1,13 +1,13 @@
 -- A walk over a node that gives its parts to a tree builder: what is still to come.
 use Rattle.std.specs.Prelude.{◌≡◌, List, [], ◌∷◌, ◌++◌, Option, Some, None}
 use Rattle.cbor_head.specs.Prelude.{Value, AreInRange}
-use Rattle.cbor_model.specs.Lists.{values_of}
+use Rattle.theory_values.specs.Lists.{values_of}
 use Rattle.cbor_item.specs.OpenValues.{OpenValue, ValuePart, end, after, parts_of, parts_of_all}
 
 abbrev pub parts_in : List Value → List ValuePart
 parts_in vs = parts_of_all (values_of vs)
 
--- the parts to come where one ends, and then each that is around it
+-- the parts still to come after the innermost: its end, and what is left of each container around it
 abbrev pub parts_behind : List (List Value) → List ValuePart
 parts_behind [] = []
 parts_behind (vs ∷ vss) = end ∷ parts_in vs ++ parts_behind vss
@@ -16,7 +16,7 @@ abbrev pub parts_left : List (List Value) → List ValuePart
 parts_left [] = []
 parts_left (vs ∷ vss) = parts_in vs ++ parts_behind vss
 
--- what comes of a value behind its first part
+-- what remains of a value after its first part
 abbrev pub inner_parts : Option (List Value) → List ValuePart
 inner_parts None = []
 inner_parts (Some vs) = parts_in vs ++ end ∷ []

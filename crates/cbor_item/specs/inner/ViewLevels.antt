@@ -13,7 +13,7 @@ abbrev pub open_map : List (View × View) → Option View → OpenView
 open_map ps None = a_map ps
 open_map ps (Some k) = a_key ps k
 
--- what is open, where these are the members and the pairs of it and of all around it
+-- what is open, if these are the members and the pairs of it and of all around it
 abbrev pub open_view : Level → List View → List (View × View) → OpenView
 open_view (Whole item) ms ps = the_whole (views_in item)
 open_view (Array first) ms ps = an_array (drop first ms)

@@ -1,9 +1,9 @@
--- A walk over a node that gives its parts to a builder of canonical bytes: what comes of what is still to come.
+-- A walk over a node that gives its parts to a builder of canonical bytes: what the remaining values make.
 use Rattle.std.specs.Prelude.{ℕ, suc, ◌+◌, ◌≡◌, ◌↔◌, List, [], ◌∷◌, Option, Some, None}
 use Rattle.cbor_head.specs.Prelude.{canonical, Value, Values, Entries, map, no_values, a_value, IsInRange, IsValid}
 use Rattle.cbor_head.specs.Value.{array, tag, no_entries, entry}
 use Rattle.cbor_head.specs.declared.order.KeyOrder.{KeyOrder}
-use Rattle.cbor_model.specs.Parts.{Open, plain, a_key, a_string, with_member, closed, give, HasNoRepeats}
+use Rattle.theory_values.specs.Parts.{Open, plain, a_key, a_string, with_member, closed, give, HasNoRepeats}
 use Rattle.cbor_builder.specs.Built.{CanHold}
 
 -- an open part, with the canonical bytes of these given to it
@@ -17,7 +17,7 @@ CanEnd (a_key ps k) = ⊥
 CanEnd (a_string m bs) = ⊥
 CanEnd c = Unit {0}
 
--- it takes these, one after the other, and may end then
+-- it accepts these as members, one after another, and may end then
 abbrev pub TakesAll : KeyOrder → List Value → Open → Type 0
 TakesAll o [] c = CanEnd c
 TakesAll o (v ∷ vs) c = CanHold c × IsInRange v × TakesAll o vs (with_member (canonical o v) c)
@@ -51,7 +51,7 @@ AreSound o _ _ = Unit {0}
 
 -- ---- a step into an item
 
--- how many parts an item is given in, and one more for each that is opened
+-- the number of parts of an item, and one more for each that is opened
 abbrev mutual
   pub size : Value → ℕ
   size (array vs) = suc (suc (size_all vs))
@@ -75,14 +75,14 @@ abbrev pub weight_of_all : List (List Value) → ℕ
 weight_of_all [] = 0
 weight_of_all (vs ∷ vss) = suc (weight vs + weight_of_all vss)
 
--- what an item is, opened: c, and the values to come of it
+-- an item as an open part c, and the values that it still needs
 pub record Opens (o : KeyOrder) (v : Value) (c : Open) (vs : List Value) : Type 0 where
   pub takes : TakesAll o vs c
   pub bytes : closed o (with_all o vs c) ≡ canonical o v
   pub smaller : size v ≡ suc (suc (weight vs))
   pub valid : IsValid v ↔ (AreAllValid vs × HasNoRepeats (with_all o vs c))
 
--- its bytes have been given, where nothing is to come of it; or it stands open, and these are to come
+-- the item was given whole, and nothing remains; or it is open, and these values remain
 abbrev pub IsBegun : KeyOrder → Value → List Open → List Open → Option (List Value) → Type 0
 IsBegun o v os os' None = (os' ≡ give (canonical o v) os) × IsValid v
 IsBegun o v os os' (Some vs) = (c : Open) × (os' ≡ c ∷ os) × Opens o v c vs

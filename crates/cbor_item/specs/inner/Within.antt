@@ -1,8 +1,8 @@
--- How deep what is still to come of open containers nests, and what else a look at it finds.
+-- How deep the remaining values of open containers nest, and what else the check finds.
 use Rattle.std.specs.Prelude.{ℕ, suc, ◌+◌, ◌≡◌, ◌≤◌, List, [], ◌∷◌, length}
 use Rattle.cbor_head.specs.Prelude.{Value, IsInRange, AreInRange}
 use Rattle.cbor_head.specs.Value.{depth, depth_all}
-use Rattle.cbor_model.specs.Lists.{values_of}
+use Rattle.theory_values.specs.Lists.{values_of}
 use Rattle.cbor_item.specs.inner.{Texts.HasUtf8Texts, Texts.HaveUtf8Texts, Walk.size, Walk.weight}
 
 -- an item holds no other
@@ -18,7 +18,8 @@ pub record Holds (v : Value) (vs : List Value) : Type 0 where
   pub texts : HaveUtf8Texts (values_of vs) → HasUtf8Texts v
   pub smaller : size v ≡ suc (suc (weight vs))
 
--- with what is to come of each, the innermost first, none is deeper than this in the outermost
+-- the remaining values of each container, the innermost first, are at most this deep, counted
+-- from the outermost
 abbrev pub AreWithin : ℕ → List (List Value) → Type 0
 AreWithin n [] = Unit {0}
 AreWithin n (vs ∷ vss) = (depth_all (values_of vs) + length vss ≤ n) × AreWithin n vss

@@ -1,7 +1,7 @@
 //! Canonical bytes from the parts of an item.
 
 ghost use Rattle.std.specs.Prelude.{◌≡◌, ◌∷◌, []};
-ghost use Rattle.cbor_model.specs.Parts.{plain};
+ghost use Rattle.theory_values.specs.Parts.{plain};
 
 use crate::tests::repeats::reported;
 use cbor_head::Major;
@@ -9,10 +9,10 @@ use cbor_item::{CanonBuilder, KeyOrder, Repeat};
 use std::alloc::{AllocError, Global};
 use std::process::Abort;
 
-// The parts are given by functions that borrow the builder: an owner of it would owe at each `?` that
-// it may be dropped there.
+// Functions that give the parts borrow the builder: at each `?` an owner of it would have to prove
+// that it may be dropped there.
 
-// {1: [2], 0: "a", -1: h'01020304'} as it comes, the strings in pieces
+// {1: [2], 0: "a", -1: h'01020304'} in this order, with the strings in pieces
 fn give_in_pieces(rt: &impl Abort, builder: &mut CanonBuilder) -> Result<(), AllocError>
     requires empty { builder.old.open_levels ≡ plain [] ∷ [] }
 {
@@ -47,7 +47,7 @@ fn parts_in_order_and_strings_in_pieces(rt: HostRuntime) -> Result<(), AllocErro
     Ok(())
 }
 
-// Whether this key waits for its value. (What the call promises of it would burden each step behind.)
+// Whether this key waits for its value. (With a contract, each later step would be harder to prove.)
 fn is_waiting(builder: &CanonBuilder, key: &[u8]) -> bool {
     match builder.waiting_key() {
         Some(waiting) => waiting == key,
@@ -64,7 +64,7 @@ fn is_key_expected(builder: &CanonBuilder) -> bool {
 }
 
 // {"aa": 0, 1: 0, "aa" ..
-fn give_a_key_again(rt: &impl Abort, builder: &mut CanonBuilder) -> Result<(), AllocError>
+fn give_repeated_key(rt: &impl Abort, builder: &mut CanonBuilder) -> Result<(), AllocError>
     requires empty { builder.old.open_levels ≡ plain [] ∷ [] }
 {
     assert!(rt; !is_key_expected(builder));
@@ -88,9 +88,9 @@ fn give_a_key_again(rt: &impl Abort, builder: &mut CanonBuilder) -> Result<(), A
 }
 
 #[test]
-fn a_key_again(rt: HostRuntime) -> Result<(), AllocError> {
+fn reports_a_repeated_key(rt: HostRuntime) -> Result<(), AllocError> {
     let mut builder = CanonBuilder::new(rt.alloc(), KeyOrder::LengthFirst);
-    give_a_key_again(&rt, &mut builder)
+    give_repeated_key(&rt, &mut builder)
 }
 
 // RFC 8949, appendix A: 23, 24, 65535, 4294967295, 18446744073709551615, -1000, 32(0),
@@ -123,7 +123,7 @@ fn the_shortest_heads(rt: HostRuntime) -> Result<(), AllocError> {
     Ok(())
 }
 
-// ["ab", 'x'], each string the prefix of what is given
+// ["ab", 'x'], each string as the first bytes of a longer slice
 fn give_prefixes(builder: &mut CanonBuilder) -> Result<(), AllocError>
     requires empty { builder.old.open_levels ≡ plain [] ∷ [] }
 {
@@ -136,14 +136,14 @@ fn give_prefixes(builder: &mut CanonBuilder) -> Result<(), AllocError>
 }
 
 #[test]
-fn takes_the_prefix_of_what_is_given(rt: HostRuntime) -> Result<(), AllocError> {
+fn copies_prefixes(rt: HostRuntime) -> Result<(), AllocError> {
     let mut builder = CanonBuilder::new(rt.alloc(), KeyOrder::Bytewise);
     give_prefixes(&mut builder)?;
     assert!(rt; builder.finish().as_slice() == b"\x82\x62ab\x41x".as_slice());
     Ok(())
 }
 
-// Two pairs in falling order, with one value.
+// Two pairs whose keys fall, with the same value.
 fn give_falling(builder: &mut CanonBuilder, content: &[u8]) -> Result<Option<Repeat>, AllocError>
     requires empty { builder.old.open_levels ≡ plain [] ∷ [] }
 {
@@ -155,7 +155,7 @@ fn give_falling(builder: &mut CanonBuilder, content: &[u8]) -> Result<Option<Rep
     builder.end_if_distinct()
 }
 
-// The key, and a string of so many sevens.
+// The key, and a string of `size` sevens.
 fn put_pair(bytes: &mut Vec<u8>, key: u8, size: u8) -> Result<(), AllocError> {
     bytes.push(key)?;
     if size < 24 {
@@ -183,7 +183,7 @@ fn falling(rt: &impl Abort, alloc: Global, size: u8) -> Result<Vec<u8>, AllocErr
     Ok(builder.finish())
 }
 
-// Two pairs in falling order, with strings of each length as values: they change places whole.
+// Two pairs whose keys fall, with strings of each length as values: the pairs are exchanged whole.
 #[test]
 fn pairs_of_each_length(rt: HostRuntime) -> Result<(), AllocError> {
     let alloc = rt.alloc();
@@ -195,7 +195,7 @@ fn pairs_of_each_length(rt: HostRuntime) -> Result<(), AllocError> {
     Ok(())
 }
 
-// [1, {2: .., 1: ..}], where the map is given up and an item of no bytes stands behind it
+// [1, {2: .., 1: ..}]: the map is removed when it ends
 fn give_without_a_map(rt: &impl Abort, builder: &mut CanonBuilder) -> Result<(), AllocError>
     requires empty { builder.old.open_levels ≡ plain [] ∷ [] }
 {
@@ -211,7 +211,7 @@ fn give_without_a_map(rt: &impl Abort, builder: &mut CanonBuilder) -> Result<(),
 }
 
 #[test]
-fn a_map_is_given_up(rt: HostRuntime) -> Result<(), AllocError> {
+fn removes_a_map(rt: HostRuntime) -> Result<(), AllocError> {
     let mut builder = CanonBuilder::new(rt.alloc(), KeyOrder::Bytewise);
     give_without_a_map(&rt, &mut builder)?;
     Ok(())

@@ -8,8 +8,8 @@ use std::io;
 use std::io::{Error, ErrorKind, Write};
 use std::test::Fail;
 
-// Takes at most `step` bytes a write. Once, when it holds `space` of them, it fails or takes none,
-// and then goes on: a write that is tried again is seen.
+// Accepts at most `step` bytes a write. Once, when it holds `space` of them, it fails or accepts
+// none, and then continues: a write that is tried again is seen.
 #[derive(Drop)]
 struct Cup {
     held: Vec<u8>,
@@ -70,7 +70,7 @@ fn writers_stop_at_each_place(rt: HostRuntime) -> Result<(), Fail> {
 }
 
 #[test]
-fn a_writer_that_takes_all(rt: HostRuntime) -> Result<(), Fail> {
+fn writes_all(rt: HostRuntime) -> Result<(), Fail> {
     let alloc = rt.alloc();
     let mut cup = Cup {
         held: Vec::new(alloc),
@@ -87,7 +87,7 @@ fn a_writer_that_takes_all(rt: HostRuntime) -> Result<(), Fail> {
     Ok(())
 }
 
-// [1, 2, 3], to a writer that takes two bytes and then fails.
+// [1, 2, 3], to a writer that accepts two bytes and then fails.
 #[test]
 fn writes_what_came_before_the_failure(rt: HostRuntime) -> Result<(), Fail> {
     let alloc = rt.alloc();

@@ -3,7 +3,7 @@
 ghost use Rattle.std.specs.Prelude.{ℕ, List, ◌≡◌, ◌∷◌, [], OnOk};
 ghost use Rattle.cbor_head.specs.Canonical.{Pair};
 ghost use Rattle.cbor_builder.specs.Built.{TakesPart};
-ghost use Rattle.cbor_model.specs.Parts.{Open, a_map, a_key, plain};
+ghost use Rattle.theory_values.specs.Parts.{Open, a_map, a_key, plain};
 
 use cbor_head::Major;
 use cbor_item::{CanonBuilder, KeyOrder, Repeat};
@@ -14,7 +14,7 @@ pub(crate) fn reported(outside: usize, pair: usize) -> Option<Repeat> {
     Some(Repeat { outside, pair })
 }
 
-// A map begins, with a pair for each number, which is its key; its value is 0.
+// Begins a map, and adds a pair for each number: the number is the key, and the value is 0.
 fn open_map(builder: &mut CanonBuilder, keys: &[u64]) -> Result<(), AllocError>
     requires takes { TakesPart builder.old.open_levels }
     ensures { OnOk result ((ps : List Pair)
@@ -46,7 +46,7 @@ fn give_opened(
     builder.leaf(Major::Unsigned, last)
 }
 
-// What is reported of that, asked for and as the inner map ends
+// What is reported of that, by `first_repeat` and when the inner map ends
 fn reported_of(
     rt: &impl Abort,
     alloc: Global,
@@ -67,11 +67,12 @@ fn reported_of(
 #[test]
 fn the_outermost_repeated_key_is_reported(rt: HostRuntime) -> Result<(), AllocError> {
     let alloc = rt.alloc();
-    // no key is equal to another, or one of the outer map, or the last of it, which waits
+    // all keys differ; then a key of the outer map, and then its last key, which waits, is
+    // repeated
     assert!(rt; reported_of(&rt, alloc, &[3, 1, 2], &[7, 5, 6], 8)? == None);
     assert!(rt; reported_of(&rt, alloc, &[3, 1, 2, 1, 3], &[7, 7], 8)? == reported(0, 3));
     assert!(rt; reported_of(&rt, alloc, &[3, 4, 2], &[7, 7], 7)? == reported(0, 3));
-    // one of the inner map, or the last of it, behind keys that fall or rise
+    // a key of the inner map is repeated, then its last one, after keys that fall or rise
     assert!(rt; reported_of(&rt, alloc, &[3, 1, 2], &[7, 5, 5, 7], 7)? == reported(1, 2));
     assert!(rt; reported_of(&rt, alloc, &[3, 1, 2], &[7, 5, 6], 5)? == reported(1, 3));
     assert!(rt; reported_of(&rt, alloc, &[1, 2, 3], &[5, 6, 7], 6)? == reported(1, 3));
@@ -80,7 +81,7 @@ fn the_outermost_repeated_key_is_reported(rt: HostRuntime) -> Result<(), AllocEr
     Ok(())
 }
 
-// What is reported of a map with these keys as it ends. Then nothing is open.
+// What is reported when a map with these keys ends. Nothing is open then.
 fn reported_at_end(
     rt: &impl Abort,
     builder: &mut CanonBuilder,
@@ -96,7 +97,7 @@ fn reported_at_end(
     Ok(reported)
 }
 
-fn reported_when_asked(
+fn reported_by_first_repeat(
     builder: &mut CanonBuilder,
     keys: &[u64],
 ) -> Result<Option<Repeat>, AllocError>
@@ -110,15 +111,15 @@ fn reported_when_asked(
 fn a_map_that_repeats_a_key_does_not_end(rt: HostRuntime) -> Result<(), AllocError> {
     let mut builder = CanonBuilder::new(rt.alloc(), KeyOrder::LengthFirst);
     assert!(rt; reported_at_end(&rt, &mut builder, &[9, 1, 9])? == reported(0, 2));
-    // it may be cleared
+    // the builder may be cleared
     builder.clear(KeyOrder::Bytewise);
     assert!(rt; reported_at_end(&rt, &mut builder, &[2, 1])? == None);
     assert!(rt; builder.finish().as_slice() == b"\xa2\x01\x00\x02\x00".as_slice());
     Ok(())
 }
 
-// Keys of nine bytes, alike in the first eight, of which so many differ, and then they come again.
-fn keys_again(alloc: Global, size: u64, step: u64, differ: u64) -> Result<Vec<u64>, AllocError> {
+// Keys of nine bytes that share their first eight. `differ` of them differ, and then they repeat.
+fn repeated_keys(alloc: Global, size: u64, step: u64, differ: u64) -> Result<Vec<u64>, AllocError> {
     let mut keys = Vec::new(alloc);
     for i in 0..size {
         keys.push((1 << 32) | (i.wrapping_mul(step) % differ.max(1)))?;
@@ -126,7 +127,7 @@ fn keys_again(alloc: Global, size: u64, step: u64, differ: u64) -> Result<Vec<u6
     Ok(keys)
 }
 
-// The keys rise, fall or do neither.
+// The keys rise, fall, or do neither.
 #[test]
 fn the_pair_is_reported_in_maps_of_each_size(rt: HostRuntime) -> Result<(), AllocError> {
     let alloc = rt.alloc();
@@ -134,25 +135,25 @@ fn the_pair_is_reported_in_maps_of_each_size(rt: HostRuntime) -> Result<(), Allo
     for size in 2u64..201 {
         for differ in [1, size / 2, size - 1] {
             for step in [1, differ - 1, 211] {
-                let keys = keys_again(alloc, size, step, differ)?;
+                let keys = repeated_keys(alloc, size, step, differ)?;
                 builder.clear(KeyOrder::Bytewise);
                 assert!(rt;
                     reported_at_end(&rt, &mut builder, &keys)? == reported(0, differ as usize)
                 );
                 builder.clear(KeyOrder::Bytewise);
                 assert!(rt;
-                    reported_when_asked(&mut builder, &keys)? == reported(0, differ as usize)
+                    reported_by_first_repeat(&mut builder, &keys)? == reported(0, differ as usize)
                 );
             }
         }
-        let keys = keys_again(alloc, size, size - 1, size)?;
+        let keys = repeated_keys(alloc, size, size - 1, size)?;
         builder.clear(KeyOrder::Bytewise);
         assert!(rt; reported_at_end(&rt, &mut builder, &keys)? == None);
     }
     Ok(())
 }
 
-// Three pairs of no bytes behind others
+// Three pairs of no bytes after others
 fn reported_of_nothing(
     builder: &mut CanonBuilder,
     keys: &[u64],
@@ -169,7 +170,7 @@ fn reported_of_nothing(
     builder.end_if_distinct()
 }
 
-// Two pairs of no bytes behind one that has only a value, and another
+// Two pairs of no bytes after one that has only a value, and another
 fn reported_of_an_empty_key(builder: &mut CanonBuilder) -> Result<Option<Repeat>, AllocError>
     requires empty { builder.old.open_levels ≡ plain [] ∷ [] }
 {
@@ -191,14 +192,14 @@ fn pairs_of_no_bytes_are_distinguished(rt: HostRuntime) -> Result<(), AllocError
     let mut builder = CanonBuilder::new(alloc, KeyOrder::Bytewise);
     assert!(rt; reported_of_an_empty_key(&mut builder)? == reported(0, 2));
     for size in [1, 2, 14, 40] {
-        let keys = keys_again(alloc, size, size - 1, size)?;
+        let keys = repeated_keys(alloc, size, size - 1, size)?;
         builder.clear(KeyOrder::Bytewise);
         assert!(rt; reported_of_nothing(&mut builder, &keys)? == reported(0, size as usize + 1));
     }
     Ok(())
 }
 
-fn give_up_a_repeat(builder: &mut CanonBuilder) -> Result<Option<Repeat>, AllocError>
+fn remove_repeated(builder: &mut CanonBuilder) -> Result<Option<Repeat>, AllocError>
     requires empty { builder.old.open_levels ≡ plain [] ∷ [] }
 {
     open_map(builder, &[9, 1, 9])?;
@@ -206,9 +207,9 @@ fn give_up_a_repeat(builder: &mut CanonBuilder) -> Result<Option<Repeat>, AllocE
 }
 
 #[test]
-fn a_map_that_repeats_a_key_is_not_given_up(rt: HostRuntime) -> Result<(), AllocError> {
+fn does_not_remove_a_map_with_a_repeated_key(rt: HostRuntime) -> Result<(), AllocError> {
     let mut builder = CanonBuilder::new(rt.alloc(), KeyOrder::Bytewise);
-    assert!(rt; give_up_a_repeat(&mut builder)? == reported(0, 2));
+    assert!(rt; remove_repeated(&mut builder)? == reported(0, 2));
     assert!(rt; builder.first_repeat() == None);
     Ok(())
 }

@@ -5,7 +5,7 @@ use cbor_item::{CanonBuilder, KeyOrder};
 use std::alloc::AllocError;
 
 #[test]
-fn what_is_finished_is_shown_and_cleared(rt: HostRuntime) -> Result<(), AllocError> {
+fn shows_and_clears_finished_items(rt: HostRuntime) -> Result<(), AllocError> {
     let mut builder = CanonBuilder::new(rt.alloc(), KeyOrder::Bytewise);
     builder.string(Major::Text, b"ab")?;
     assert!(rt; builder.as_slice() == b"\x62ab".as_slice());

@@ -1,5 +1,5 @@
-//! Maps whose keys do not come in order, against the order that RFC 8949, sections 4.2.1 and 4.2.3
-//! have, by the encoded keys.
+//! Maps whose keys do not arrive in order, against the orders of the encoded keys in RFC 8949,
+//! sections 4.2.1 and 4.2.3.
 
 use super::check_all;
 use cbor_item::{Item, Tree};
@@ -7,7 +7,7 @@ use std::alloc::{AllocError, Global};
 use std::process::Abort;
 use std::test::Fail;
 
-// A head of fewer than 65,536.
+// A head with an argument below 65,536.
 fn put_head(bytes: &mut Vec<u8>, major: u8, n: u16) -> Result<(), AllocError> {
     let first = (major % 8) << 5;
     if n < 24 {
@@ -28,11 +28,11 @@ fn put_times(bytes: &mut Vec<u8>, byte: u8, times: u16) -> Result<(), AllocError
     Ok(())
 }
 
-// What follows gives the pairs of a map as they come, and its canonical bytes.
+// The functions below add the pairs of a map in their order of arrival, and its canonical bytes.
 type Pairs = Vec<(Item, Item)>;
 
 // The map has these bytes in both orders.
-fn look_at(rt: &impl Abort, alloc: Global, pairs: Pairs, wanted: &[u8]) -> Result<(), Fail> {
+fn check_bytes(rt: &impl Abort, alloc: Global, pairs: Pairs, wanted: &[u8]) -> Result<(), Fail> {
     match Tree::of(alloc, Item::Map(pairs)) {
         Ok(tree) => check_all(rt, alloc, &tree, wanted, wanted),
         Err(_) => Err("no tree")?,
@@ -53,7 +53,7 @@ fn put_falling(pairs: &mut Pairs, wanted: &mut Vec<u8>, size: u16) -> Result<(),
     Ok(())
 }
 
-// Of sizes around those where a head grows.
+// Sizes around those where a head grows.
 #[test]
 fn maps_of_each_size(rt: HostRuntime) -> Result<(), Fail> {
     let alloc = rt.alloc();
@@ -61,13 +61,13 @@ fn maps_of_each_size(rt: HostRuntime) -> Result<(), Fail> {
         let mut pairs = Vec::new(alloc);
         let mut wanted = Vec::new(alloc);
         put_falling(&mut pairs, &mut wanted, size)?;
-        look_at(&rt, alloc, pairs, &wanted)?;
+        check_bytes(&rt, alloc, pairs, &wanted)?;
     }
     Ok(())
 }
 
-// Keys that begin with so many sevens, with the last byte in no order; each value is its key's last
-// byte.
+// Keys that begin with the same number of sevens, with their last bytes in no order. Each value is
+// its key's last byte.
 fn put_alike(
     alloc: Global,
     pairs: &mut Pairs,
@@ -88,7 +88,7 @@ fn put_alike(
     Ok(())
 }
 
-// Keys of six to eleven bytes that begin alike for as long as they can.
+// Keys of six to eleven bytes that share as many bytes as they can.
 #[test]
 fn keys_around_eight_bytes(rt: HostRuntime) -> Result<(), Fail> {
     let alloc = rt.alloc();
@@ -96,7 +96,7 @@ fn keys_around_eight_bytes(rt: HostRuntime) -> Result<(), Fail> {
         let mut pairs = Vec::new(alloc);
         let mut wanted = Vec::new(alloc);
         put_alike(alloc, &mut pairs, &mut wanted, size)?;
-        look_at(&rt, alloc, pairs, &wanted)?;
+        check_bytes(&rt, alloc, pairs, &wanted)?;
     }
     Ok(())
 }
@@ -126,12 +126,12 @@ fn put_maps(alloc: Global, pairs: &mut Pairs, wanted: &mut Vec<u8>) -> Result<()
     Ok(())
 }
 
-// In a map of 64 maps, so large that its pairs are put in order without being moved.
+// A map of 64 maps. It is so large that its pairs are sorted without being moved.
 #[test]
 fn a_large_map_of_maps(rt: HostRuntime) -> Result<(), Fail> {
     let alloc = rt.alloc();
     let mut pairs = Vec::new(alloc);
     let mut wanted = Vec::new(alloc);
     put_maps(alloc, &mut pairs, &mut wanted)?;
-    look_at(&rt, alloc, pairs, &wanted)
+    check_bytes(&rt, alloc, pairs, &wanted)
 }

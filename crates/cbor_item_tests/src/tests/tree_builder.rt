@@ -42,9 +42,9 @@ fn parts_make_an_item(rt: HostRuntime) -> Result<(), Fail> {
     Ok(())
 }
 
-// An item deeper than a recursion could go, beside others and in an array that stays open.
+// An item deeper than a recursion could go, next to others in an array that stays open.
 #[test]
-fn lets_go_of_deep_items(rt: HostRuntime) -> Result<(), Fail> {
+fn drops_deep_items(rt: HostRuntime) -> Result<(), Fail> {
     let alloc = rt.alloc();
     for (near, deep, other) in [
         ("0 2*v", "0 200000*v", "0 2*k"),

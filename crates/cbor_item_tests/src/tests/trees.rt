@@ -1,5 +1,4 @@
-//! Which items are trees: no key of a map stands twice, wherever the map stands, and none is too
-//! deep.
+//! Which items are trees: no map, at any depth, has a key twice, and no item is too deep.
 
 use super::words::{columns_of, item_of, tree_of};
 use cbor_head::Reason;
@@ -7,8 +6,8 @@ use cbor_item::{Item, KeyOrder, Tree, encode, same};
 use std::alloc::Global;
 use std::test::Fail;
 
-// What is answered of items: that they are trees, or why not.
-static ANSWERS: &str = r#"
+// Items, and whether they are trees, or why not.
+static RESULTS: &str = r#"
 0 0 0 1 m:2 | RepeatedKey | | {0: 0, 0: 1}
 0 0 0 1 m:2 256*c:1 | RepeatedKey | | within tags
 0 0 0 1 m:2 1023*c:1 | RepeatedKey | | within as many tags as may be
@@ -27,7 +26,7 @@ static ANSWERS: &str = r#"
 0 0 0 1 m:2 c:1 k | RepeatedKey | | as the content of a key's tag
 "#;
 
-fn answer_of(alloc: Global, words: &str) -> Result<String, Fail> {
+fn result_of(alloc: Global, words: &str) -> Result<String, Fail> {
     match Tree::of(alloc, item_of(alloc, words).ok_or("no item")?) {
         Ok(_) => Ok(String::from_str(alloc, "a tree")?),
         Err((_, reason)) => Ok(format!(in alloc; "{reason}")?),
@@ -36,9 +35,9 @@ fn answer_of(alloc: Global, words: &str) -> Result<String, Fail> {
 
 #[test]
 fn are_found(rt: HostRuntime) -> Result<(), Fail> {
-    for line in ANSWERS.trim().lines() {
+    for line in RESULTS.trim().lines() {
         let (words, answer, _) = columns_of(line)?;
-        assert!(rt; answer_of(rt.alloc(), words)?.as_str() == answer, "{line}");
+        assert!(rt; result_of(rt.alloc(), words)?.as_str() == answer, "{line}");
     }
     Ok(())
 }
@@ -51,7 +50,7 @@ fn first_key(item: &Item) -> Option<&Item> {
     }
 }
 
-// Whether the item is {0: 0, 0: 1}, or such a map.
+// Whether the item is {0: 0, 0: 1}, or a map of the same form.
 fn has_equal_keys(item: &Item) -> bool {
     match item {
         Item::Map(pairs) => matches!(
@@ -64,7 +63,7 @@ fn has_equal_keys(item: &Item) -> bool {
 
 // {{{0: 0, 0: 1}: 0}: 0}
 #[test]
-fn looks_into_keys_of_keys(rt: HostRuntime) -> Result<(), Fail> {
+fn checks_keys_of_keys(rt: HostRuntime) -> Result<(), Fail> {
     let alloc = rt.alloc();
     let equal = item_of(alloc, "0 0 0 1 m:2 2*k").ok_or("no item")?;
     let Err((item, Reason::RepeatedKey)) = Tree::of(alloc, equal) else {
@@ -75,7 +74,7 @@ fn looks_into_keys_of_keys(rt: HostRuntime) -> Result<(), Fail> {
     Ok(())
 }
 
-// The item within so many tags.
+// The item within this number of tags.
 fn within_tags(item: &Item, tags: usize) -> Option<&Item> {
     let mut inner = item;
     for _ in 0..tags {
@@ -88,7 +87,7 @@ fn within_tags(item: &Item, tags: usize) -> Option<&Item> {
 }
 
 #[test]
-fn gives_the_item_back(rt: HostRuntime) -> Result<(), Fail> {
+fn returns_the_item(rt: HostRuntime) -> Result<(), Fail> {
     let alloc = rt.alloc();
     match Tree::of(alloc, item_of(alloc, "0 0 0 1 m:2").ok_or("no item")?) {
         Err((item, Reason::RepeatedKey)) => assert!(rt; has_equal_keys(&item)),
@@ -107,7 +106,8 @@ fn gives_the_item_back(rt: HostRuntime) -> Result<(), Fail> {
     Ok(())
 }
 
-// Trees as deep as can be, others of that form that are not the same, and the sizes of their bytes.
+// Trees of the greatest depth, others of the same form that are not the same, and the sizes of
+// their bytes.
 static DEEPEST: &str = "
 0 1024*v | 1 1024*v | 2049 | maps as values
 0 1024*k | 1 1024*k | 2049 | maps as keys
@@ -116,7 +116,7 @@ static DEEPEST: &str = "
 
 // Each is built, compared, encoded and dropped.
 #[test]
-fn goes_down_to_1024(rt: HostRuntime) -> Result<(), Fail> {
+fn handles_depth_1024(rt: HostRuntime) -> Result<(), Fail> {
     let alloc = rt.alloc();
     for line in DEEPEST.trim().lines() {
         let (words, other, size) = columns_of(line)?;

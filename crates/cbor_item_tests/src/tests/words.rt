@@ -1,16 +1,16 @@
-//! Items by words: each is an item, or holds those before it.
+//! Items in words: each word is an item, or holds the items before it.
 //!
-//! `7` is an integer, `n:0` the integer -1 by its argument, `s:20` a simple value, `t:ab` a text and
-//! `h:0102` a byte string. `a:2` is the array of the two items before, `m:2` the map of the two pairs
-//! before, and `c:1` the tag 1 of the item before. `k` is the map from the item before to 0, and `v`
-//! the map from 0 to it. `3*k` stands for `k k k`.
+//! `7` is an integer, `n:0` the integer -1 with its argument 0, `s:20` a simple value, `t:ab` a text
+//! and `h:0102` a byte string. `a:2` is the array of the two items before, `m:2` the map of the two
+//! pairs before, and `c:1` the tag 1 of the item before. `k` is the map from the item before to 0,
+//! and `v` the map from 0 to it. `3*k` means `k k k`.
 
 use cbor_head::Simple;
 use cbor_item::{Item, Tree};
 use std::alloc::Global;
 use std::test::Fail;
 
-// None is that memory was refused, or that these are no words of one item.
+// `None` means that memory ran out, or that these are not the words of one item.
 pub(super) fn item_of(alloc: Global, words: &str) -> Option<Item> {
     let mut items = Vec::new(alloc);
     push_all(alloc, &mut items, words)?;
@@ -24,8 +24,8 @@ pub(super) fn tree_of(alloc: Global, words: &str) -> Result<Tree, Fail> {
     }
 }
 
-// What a word holds is taken from what is borrowed here: an owner of it would owe at each `?` that it
-// may be dropped there.
+// The content of a word is taken from the borrowed list: at each `?` an owner of the list would have
+// to prove that it may be dropped there.
 fn push_all(alloc: Global, items: &mut Vec<Item>, words: &str) -> Option<()> {
     for word in words.split_whitespace() {
         let (times, word) = word.split_once('*').unwrap_or(("1", word));
@@ -94,7 +94,7 @@ fn take_pairs(items: &mut Vec<Item>, pairs: &mut Vec<(Item, Item)>, size: u64) -
     Some(())
 }
 
-// The columns of a row, three of them before others.
+// The three columns of a row.
 pub(crate) fn columns_of(line: &str) -> Result<(&str, &str, &str), Fail> {
     let (first, rest) = line.split_once('|').ok_or("a column")?;
     let (second, rest) = rest.split_once('|').ok_or("a column")?;

@@ -1,4 +1,4 @@
-//! What an arena holds of the views that are read: their members and contents, and no string in one piece.
+//! What an arena holds of views that are read: their members and contents, and no string in one piece.
 
 use crate::tests::ENCODED;
 use crate::tests::words::columns_of;
@@ -11,7 +11,7 @@ use std::mem::size_of;
 use std::process::Abort;
 use std::test::Fail;
 
-// How many bytes the members and contents of a view take, at every depth.
+// The number of bytes of the members and contents of a view, at every depth.
 fn size_of_members(view: &View<'_>) -> usize {
     match view {
         View::Array(members) => {
@@ -36,7 +36,7 @@ fn size_of_members(view: &View<'_>) -> usize {
     }
 }
 
-// Reads an item whose strings are in one piece, and looks at what became of the arena.
+// Reads an item whose strings are in one piece, and checks the size of the arena.
 fn check_arena(rt: &impl Abort, alloc: Global, input: &[u8]) -> Result<(), Fail> {
     let limits = Limits::new(256, 1 << 20).expect(rt, "limits");
     let arena = Bump::try_with_capacity(alloc, 1 << 14)?;
@@ -64,7 +64,7 @@ fn strings_in_one_piece_stay_in_the_input(rt: HostRuntime) -> Result<(), Fail> {
     Ok(())
 }
 
-// What stands before a string and behind it: nothing, in an array, as a key, as a value, in a tag.
+// What is before and after a string: nothing, in an array, as a key, as a value, in a tag.
 static AROUND: [(&[u8], &[u8]); 5] = [
     (b"", b""),
     (b"\x81", b""),

@@ -5,7 +5,7 @@ use cbor_head::Major;
 use cbor_item::{Item, Joined, Node, NodeKind, View, ViewBuilder};
 use std::test::Fail;
 
-// {"a": [h'01', -1], 1(true): "bc"}, of which two strings are copied
+// {"a": [h'01', -1], 1(true): "bc"}, with two strings that are copied
 #[test]
 fn builds_from_parts(rt: HostRuntime) -> Result<(), Fail> {
     let arena = Bump::new(rt.alloc());
@@ -35,7 +35,8 @@ fn builds_from_parts(rt: HostRuntime) -> Result<(), Fail> {
     Ok(())
 }
 
-// Chunks of no bytes, of those that are copied in one piece, and of more; then another string.
+// Chunks of no bytes, chunks that are copied in one piece, and longer ones; then another
+// string.
 #[test]
 fn joins_chunks(rt: HostRuntime) -> Result<(), Fail> {
     let mut input = [0u8; 80];

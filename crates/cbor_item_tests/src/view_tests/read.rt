@@ -1,5 +1,5 @@
-//! Views that are read from slices. That they are read as trees are, on each row of the conformance
-//! table, is tested beside that table (`cbor_reader_tests`).
+//! Views that are read from slices. `cbor_reader_tests` tests on each row of the conformance table
+//! that they are read as trees are.
 
 use bumpalo::Bump;
 use cbor_head::Limits;
@@ -26,7 +26,7 @@ fn keeps_the_order_of_pairs(rt: HostRuntime) -> Result<(), Fail> {
     Ok(())
 }
 
-// A text in one piece takes nothing of the arena; one in chunks does.
+// A text in one piece takes no space in the arena; one in chunks does.
 #[test]
 fn leaves_strings_in_the_input(rt: HostRuntime) -> Result<(), Fail> {
     let arena = Bump::new(rt.alloc());
@@ -38,7 +38,7 @@ fn leaves_strings_in_the_input(rt: HostRuntime) -> Result<(), Fail> {
     Ok(())
 }
 
-// {[1, {}]: "a", {2: 3, 4: 5}: "b"}, looked up by the same keys, spelled in other ways
+// {[1, {}]: "a", {2: 3, 4: 5}: "b"}, looked up by the same keys in other encodings
 #[test]
 fn looks_up_by_views(rt: HostRuntime) -> Result<(), Fail> {
     let arena = Bump::new(rt.alloc());
@@ -55,8 +55,8 @@ fn looks_up_by_views(rt: HostRuntime) -> Result<(), Fail> {
     Ok(())
 }
 
-// Maps in 200 maps, that differ in the innermost: were a pair looked at twice, each level would double
-// the work.
+// Maps nested 200 deep that differ in the innermost one. If a pair were compared twice, each level
+// would double the work.
 #[test]
 fn distinguishes_deep_views(rt: HostRuntime) -> Result<(), Fail> {
     let mut bytes = [0xa1, 0x00].repeat(rt.alloc(), 200)?;
@@ -97,7 +97,7 @@ fn becomes_the_deepest_tree(rt: HostRuntime) -> Result<(), Fail> {
     Ok(())
 }
 
-// One arena for many items: each view is given up before the next.
+// One arena for many items: each view is dropped before the next is read.
 #[test]
 fn takes_an_arena_in_turn(rt: HostRuntime) -> Result<(), Fail> {
     let mut arena = Bump::new(rt.alloc());

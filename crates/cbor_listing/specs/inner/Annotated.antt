@@ -1,6 +1,6 @@
--- What is asked of an event whose lines are made.
+-- What holds for an event whose lines are made.
 use Rattle.std.specs.Prelude.{ℕ, ◌+◌, ◌-◌, ◌≤◌}
-use Rattle.cbor_automaton.specs.declared.event.EventKind.{EventKind, TheVariants.Piece}
+use Rattle.cbor_head.specs.declared.event.EventKind.{EventKind, TheVariants.Piece}
 use Rattle.cbor_listing.specs.declared.annotated_line.Context.{Context}
 
 -- a head or a break has few bytes
@@ -8,11 +8,11 @@ abbrev pub IsShortHead : EventKind → ℕ → Type 0
 IsShortHead (Piece n) size = Unit {0}
 IsShortHead kind size = size ≤ 16
 
--- a payload of which no byte is to come was taken
+-- all bytes of a payload of which none is missing were read
 abbrev pub IsHeld : ℕ → Context → Type 0
 IsHeld taken context = context.begun + context.size ≤ taken + context.left
 
--- so it is behind a piece
+-- the same after a piece
 abbrev pub IsHeldBehind : EventKind → ℕ → Context → Type 0
 IsHeldBehind (Piece n) taken context = context.begun + context.size ≤ taken + (context.left - n)
 IsHeldBehind kind taken context = Unit {0}

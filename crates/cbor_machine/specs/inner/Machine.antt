@@ -1,7 +1,7 @@
--- What ties the inner state of a machine to what it took, and to what its view shows.
+-- How the inner state of a machine relates to the bytes consumed, and to its view.
 use Rattle.std.specs.Prelude.{◌≡◌, ℕ, List, length}
-use Rattle.cbor_automaton.specs.Automaton.{start, run, reached}
-use Rattle.cbor_automaton.specs.Trace.{Mark}
+use Rattle.theory_automaton.specs.Automaton.{start, run, reached}
+use Rattle.theory_automaton.specs.Trace.{Mark}
 use Rattle.cbor_machine.specs.State.{state_of, wanted_at, is_at_item, is_in_payload, is_done}
 use Rattle.cbor_machine.specs.MachineView.{MachineView}
 

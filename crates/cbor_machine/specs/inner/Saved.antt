@@ -1,4 +1,4 @@
--- What the numbers of a saved machine stand for.
+-- What the numbers of a saved machine mean.
 use Rattle.std.specs.Prelude.{ℕ, zero, suc, ◌≡◌, ◌≤◌, Bool, true, false, List, [], ◌∷◌, take, Option, Some, None}
 use Rattle.cbor_head.specs.Prelude.{bounds, AreBounds, refusal}
 use Rattle.cbor_head.specs.declared.reason.Reason.TheVariants.{TooLong, Reserved, NoIndefinite, Float, BadSimple, StrayBreak, BadChunk, TooDeep}
@@ -75,7 +75,7 @@ refusal_in s = refusal_by s.place s.taken s.reason
 abbrev pub frames_in : SavedMachine → List Frame
 frames_in s = frames_by (take s.open s.lefts) (take s.open s.kinds)
 
--- The machine is the one of the numbers, and these are such as a machine can have.
+-- The numbers are those of this machine, and a machine can have them.
 pub record IsHeld (s : SavedMachine) (m : MachineView) : Type 0 where
   pub position : m.inner.position ≡ position_in s
   pub frames : m.inner.frames ≡ frames_in s

@@ -1,7 +1,7 @@
-//! The parts of a machine as the numbers that it is saved by, and back.
+//! The parts of a machine as the numbers of a saved machine, and back.
 
 ghost use Rattle.std.specs.Prelude.{◌≡◌, ℕ, ◌≤◌, IfSome, length, take, drop};
-ghost use Rattle.cbor_automaton.specs.Reasons.{IsMachineReason};
+ghost use Rattle.theory_automaton.specs.Reasons.{IsMachineReason};
 ghost use Rattle.cbor_machine.specs.inner.Saved.{flag_at, frame_by, frames_by, kind_at, position_by, position_in};
 ghost use Rattle.cbor_machine.specs.inner.Saved.{refusal_by, width_at};
 ghost use Rattle.cbor_machine.specs.ContainerStack.{expected_frame};
@@ -108,7 +108,7 @@ fn width_code(width: Width) -> u8
     }
 }
 
-// The number of the reason and the place; 0 where nothing was refused.
+// The number of the reason and the offset; 0 if nothing was refused.
 pub(crate) fn refusal_codes(refusal: Option<Refusal>) -> (u8, u64)
     ensures { (read : ℕ) → IfSome refusal (λ r. (r.read ≡ read) × IsMachineReason r.reason)
         → refusal_by result.1 read result.0 ≡ refusal }
@@ -119,7 +119,7 @@ pub(crate) fn refusal_codes(refusal: Option<Refusal>) -> (u8, u64)
     }
 }
 
-// Writes the open containers to the prefix of these.
+// Writes the open containers to the start of these arrays.
 pub(crate) fn save_frames(container_stack: &ContainerStack, lefts: &mut [u64], kinds: &mut [u8])
     requires lefts { length container_stack.now ≤ length lefts.old }
     requires kinds { length container_stack.now ≤ length kinds.old }
@@ -135,7 +135,7 @@ pub(crate) fn save_frames(container_stack: &ContainerStack, lefts: &mut [u64], k
     }
 }
 
-// What is left of an open container, and its kind.
+// How many members or pairs are left of an open container, and its kind.
 fn frame_codes(frame: Frame) -> (u64, u8)
     ensures { frame_by result.0 result.1 ≡ frame }
 {
@@ -225,7 +225,7 @@ pub(crate) fn refusal_at(code: u8, place: u64, read: u64) -> Option<Refusal>
     Some(Refusal::new(reason, place, read))
 }
 
-// Opens these containers in place of what is open.
+// Replaces the open containers with these.
 pub(crate) fn open_frames(container_stack: &mut ContainerStack, lefts: &[u64], kinds: &[u8])
     requires open { length lefts.now ≤ MOST_OPEN }
     requires same { length kinds.now ≡ length lefts.now }

@@ -1,4 +1,4 @@
-//! A machine as plain numbers, to be kept where no machine can be.
+//! A machine as plain numbers, for callers that cannot store a machine.
 
 ghost use Rattle.std.specs.Prelude.{◌≡◌, ◌↔◌, ◌*◌, ◌+◌, ◌^◌, ◌<◌, ◌≤◌, ◌-◌, IfSome, IsTrue, Some};
 ghost use Rattle.std.specs.Prelude.{List, drop, false, length, true};
@@ -18,48 +18,48 @@ use cbor_head::{Limits, Width};
 
 /// A machine as plain numbers, in the layout of C.
 ///
-/// `Machine::save` fills it, `Machine::restore` makes a machine of it, and `Machine::resume` goes on
-/// as that machine. Who keeps one may read it, and writes nothing into it. An open container takes
-/// nine bytes.
+/// `Machine::save` fills it, `Machine::restore` makes a machine from it, and `Machine::resume` sets a
+/// machine to it. The owner may read it, and must not write to it. An open container takes nine bytes.
 #[repr(C)]
 #[derive(Clone, Copy, Debug, PartialEq, Eq)]
 pub struct SavedMachine {
     /// The byte limit.
     pub bytes: u64,
-    /// How many bytes were taken.
+    /// The number of bytes consumed.
     pub taken: u64,
-    /// How many of them the events reported stand for.
+    /// The number of those that belong to the events reported.
     pub reported: u64,
-    /// Of the open head its argument so far; of the open payload, how many bytes follow the next.
+    /// For an open head, its argument so far; for an open payload, the number of bytes after the next
+    /// one.
     pub number: u64,
-    /// The offset of what was refused.
+    /// The offset of the fault.
     pub place: u64,
     /// The depth limit.
     pub depth: u16,
-    /// How many containers are open.
+    /// The number of open containers.
     pub open: u16,
-    /// 0 an item is expected, 1 within a head, 2 the number of a simple value is expected, 3 within a
-    /// payload, 4 a chunk is expected; another number behind the item.
+    /// 0 an item is expected, 1 within a head, 2 the number of a simple value is expected, 3 within
+    /// a payload, 4 a chunk is expected; another number after the item.
     pub position: u8,
     /// The major type of the head, payload or string; from 6 on, a tag.
     pub kind: u8,
-    /// How many bytes the argument of the open head has: 1, 2, 3 and 4 for 1, 2, 4 and 8.
+    /// The width of the open head's argument: 1, 2, 3 and 4 mean 1, 2, 4 and 8 bytes.
     pub width: u8,
-    /// How many bytes of the argument follow the next one.
+    /// The number of bytes of the argument after the next one.
     pub left: u8,
-    /// 1 where the head or payload is a chunk's.
+    /// 1 if the head or payload is a chunk's, else 0.
     pub chunk: u8,
-    /// The number of the reason that the item was refused for, 2 to 9; 0 where it was not.
+    /// The number of the reason if the item was refused, 2 to 9, else 0.
     pub reason: u8,
-    /// Of each open container, the outermost first, how many members, or pairs, follow the one that
-    /// is expected.
+    /// For each open container, the outermost first, how many members or pairs follow the one that is
+    /// expected.
     pub lefts: [u64; MOST_OPEN],
-    /// What each is: 0 an array, 1 one of indefinite length; 2 a map, 3 one whose value is expected, 4
-    /// and 5 the same of indefinite length; another number a tag.
+    /// The kind of each: 0 an array, 1 one of indefinite length; 2 a map, 3 one whose value is
+    /// expected, 4 and 5 the same of indefinite length; another number a tag.
     pub kinds: [u8; MOST_OPEN],
 }
 
-// All zeros, so that one fill sets every byte, those between two fields too.
+// All zeros, so that one fill sets every byte, also those between two fields.
 const ZEROS: SavedMachine = SavedMachine {
     bytes: 0,
     taken: 0,
@@ -79,8 +79,8 @@ const ZEROS: SavedMachine = SavedMachine {
 };
 
 impl SavedMachine {
-    /// Becomes the numbers of a machine before an item's first byte, within these limits, with zeros
-    /// in both arrays.
+    /// Sets the numbers of a machine before an item's first byte, within these limits, with zeros in
+    /// both arrays.
     pub fn start(&mut self, limits: Limits)
         ensures starts { Starts self.new limits.depth limits.bytes }
         ensures zeros { AreZeros self.new.lefts × AreZeros self.new.kinds }
@@ -92,7 +92,7 @@ impl SavedMachine {
 }
 
 impl Machine {
-    /// The machine as plain numbers, with zeros behind the open containers.
+    /// The machine as plain numbers, with zeros after the open containers.
     pub fn save(&self) -> SavedMachine
         ensures holds { Holds result self.now }
         ensures zeros { AreZeros (drop self.now.open_count result.lefts)
@@ -103,7 +103,8 @@ impl Machine {
         saved
     }
 
-    /// Saves the machine over what was saved there. What stands behind the open containers stays.
+    /// Saves the machine over an older saved machine. The entries after the open containers are
+    /// unchanged.
     pub fn save_into(&self, saved: &mut SavedMachine)
         ensures holds { Holds saved.new self.now }
         ensures lefts { drop self.now.open_count saved.new.lefts
@@ -129,11 +130,10 @@ impl Machine {
         save_frames(&self.container_stack, &mut saved.lefts, &mut saved.kinds);
     }
 
-    /// The machine that these numbers hold: the one that was saved. None where they hold none, as
-    /// other numbers may.
+    /// The machine that was saved in these numbers. `None` if no machine has these numbers.
     ///
-    /// Of numbers that no machine gave a machine may be made too: it is as safe as any, and keeps
-    /// its limits, but stands for no bytes.
+    /// Numbers that were not saved by a machine may make a machine too. It is as safe as any other,
+    /// and has its limits, but represents no bytes.
     pub fn restore(saved: &SavedMachine) -> Option<Machine>
         ensures held { (m : MachineView) → Holds saved.now m → result ≡ Some m }
         ensures restored { IfSome result (Holds saved.now) }
@@ -146,8 +146,8 @@ impl Machine {
         }
     }
 
-    /// Becomes in place the machine that `restore` makes of these numbers, whatever it was before.
-    /// False, and it stays what it was, where they hold none.
+    /// Sets this machine, whatever its state, to the one that `restore` makes of these numbers.
+    /// Returns false and changes nothing if no machine has these numbers.
     pub fn resume(&mut self, saved: &SavedMachine) -> bool
         ensures held { (m : MachineView) → Holds saved.now m → (result ≡ true) × (self.new ≡ m) }
         ensures resumed { IsTrue result → Holds saved.now self.new }
@@ -182,8 +182,8 @@ impl Machine {
     }
 }
 
-// Whether the argument has space for the bytes that are left, and a container beside so many that
-// are open; behind the item nothing is open.
+// Whether the argument has space for the bytes that are left, and the depth limit for one more
+// container. After the item nothing is open.
 fn is_fit(depth: u16, position: Position, count: u16) -> bool
     ensures { (container_stack : List Frame) → length container_stack ≡ count
         → (IsTrue result ↔ IsFit depth container_stack position) }
@@ -211,7 +211,7 @@ fn is_fit(depth: u16, position: Position, count: u16) -> bool
     }
 }
 
-// Whether an argument so far has space for one byte and these more.
+// Whether this argument so far has space for the next byte and `left` more.
 fn has_bytes_left(argument: u64, left: u8) -> bool
     ensures { IsTrue result ↔ ((argument + 1) * 256 ^ (left + 1) ≤ 2 ^ 64) }
 {
@@ -228,7 +228,7 @@ fn has_bytes_left(argument: u64, left: u8) -> bool
     }
 }
 
-// Whether no head is open, where so many containers are.
+// Whether no head is open, with this number of open containers.
 fn is_settled(position: Position, count: u16) -> bool
     ensures { (container_stack : List Frame) → length container_stack ≡ count
         → (IsTrue result ↔ IsSettled container_stack position) }

@@ -1,23 +1,24 @@
--- What rules have against the bytes that are left at a place.
+-- Why the rules refuse the rest of an input at an offset.
 use Rattle.std.specs.Prelude.{◌≡◌, ℕ, ◌+◌, ◌++◌, Bool, true, false, List, ◌∷◌}
 use Rattle.cbor_head.specs.Prelude.{plain, strict, refusal, Rules, Bounds, AreBytes}
 use Rattle.cbor_head.specs.declared.{keys.Keys.TheVariants.IntegersAndTexts, reason.Refusal.Refusal, reason.Reason.TheVariants.Indefinite as IndefiniteReason}
 use Rattle.cbor_head.specs.declared.order.KeyOrder.{KeyOrder}
-use Rattle.cbor_verdict.specs.Path.{Level, bytes_before, AreClean, IsKeyExpectedIn, MayBreak}
-use Rattle.cbor_verdict.specs.{Kinds.KeepsToKinds, Stop.IsStopped, RefusedHere.IsPlaceFor, RefusedHere.IsRefusedBy}
+use Rattle.theory_verdicts.specs.Path.{Level, bytes_before, AreClean, IsKeyExpectedIn, MayBreak}
+use Rattle.theory_verdicts.specs.{Kinds.KeepsToKinds, Stop.IsStopped, RefusedHere.IsPlaceFor, RefusedHere.IsRefusedBy}
 use Rattle.cbor_parser.specs.declared.item_start.{ItemStart.TheVariants.Indefinite, ItemStart.TheVariants.Refused, Here.Here, ItemStart.ItemStart}
 
--- the rules of the deterministic encoding, in whichever order; or those of any valid item
+-- the rules of the deterministic encoding, in either order; or those of any valid item
 abbrev pub AreRulesOf : Bool → Rules → Type 0
 AreRulesOf true r = (o : KeyOrder) × (r ≡ strict o)
 AreRulesOf false r = r ≡ plain
 
--- kinds of keys are asked for, and a key is expected; or not both
+-- kinds of keys are judged, and a key is expected; or not both
 pub record IsKeyAsked (is_key : Bool) (limits : Bounds) (ls : List Level) : Type 0 where
   pub both : is_key ≡ true → (limits.keys ≡ IntegersAndTexts) × IsKeyExpectedIn ls
   pub none : is_key ≡ false → limits.keys ≡ IntegersAndTexts → IsKeyExpectedIn ls → ⊥
 
--- The bytes that are left at this place are refused so by these rules, where one more container may open or not, and a break stand or not.
+-- The rest of an input at this offset is refused with this refusal by these rules; `here` says whether one more
+-- container may open, and whether a break is allowed.
 abbrev pub IsFault : Rules → List ℕ → ℕ → Here → Refusal → Type 0
 IsFault r b at here f =
     (limits : Bounds) (ls : List Level) → AreClean r limits.depth ls → (MayBreak ls → here.may_break ≡ true) → KeepsToKinds limits r (bytes_before ls) → IsKeyAsked here.is_key limits ls → IsPlaceFor here.space limits.depth ls at → AreBytes (bytes_before ls ++ b)
@@ -30,9 +31,9 @@ abbrev pub IsRefusedStart : Bool → List ℕ → ℕ → Here → ItemStart →
 IsRefusedStart is_strict b at here (Refused f) = IsRefusedHere is_strict b at here f
 IsRefusedStart is_strict b at here _ = Unit {0}
 
--- ---- what has no length
+-- ---- indefinite lengths
 
--- So is refused what begins with the opener of a string in chunks.
+-- this is the refusal of bytes that begin with the opener of a string in chunks
 abbrev pub AreChunksRefused : List ℕ → ℕ → Refusal → Type 0
 AreChunksRefused b at f = (space : Bool) → IsRefusedBy plain space b at f
 

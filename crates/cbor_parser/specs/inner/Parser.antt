@@ -1,8 +1,9 @@
--- What the walk over a valid item holds: of the open containers what is still to come, and a sink that took what is complete.
+-- The state of the walk over a valid item: what is still to come in the open containers, and a sink that was given what is
+-- complete.
 use Rattle.std.specs.Prelude.{◌≡◌, ℕ, ◌-◌, ◌^◌, ◌<◌, ◌≤◌, Bool, true, false, List, [], ◌∷◌, ◌++◌, length, take}
 use Rattle.cbor_head.specs.Prelude.{Bounds, Spelling, spell, IsSpelled, depth}
 use Rattle.cbor_builder.specs.declared.repeat.Repeat.{Repeat}
-use Rattle.cbor_verdict.specs.Levels.{IsClean, IsTaken, Level, AreLevels, bytes_before, ParseState, item_expected, item_whole, settle}
+use Rattle.theory_verdicts.specs.Levels.{IsClean, IsTaken, Level, AreLevels, bytes_before, ParseState, item_expected, item_whole, settle}
 use Rattle.cbor_parser.specs.declared.parser.ParseError.TheVariants as error
 use Rattle.cbor_parser.specs.declared.parser.SinkStop.TheVariants as stop
 use Rattle.cbor_parser.specs.declared.item_rules.Part.TheVariants as part
@@ -11,22 +12,22 @@ use Rattle.cbor_parser.specs.declared.{parser.ParseError.ParseError, parser.Pars
 use Rattle.cbor_parser.specs.{inner.Repeated.IsKeyReported, ParsedItem.IsStop, inner.Kept.KeepsBefore, inner.OpenContainer.cells_of, inner.OpenContainer.Cell}
 use Rattle.cbor_parser.specs.inner.{OpenMaps.IsCellOf, Rules.behind}
 
--- ---- what is known of an input
+-- ---- what is known about an input
 
--- an item without complaint is at its prefix
+-- the input begins with an item without complaint
 abbrev pub BeginsTaken : ℕ → List ℕ → Type 0
 BeginsTaken d input = (item : Spelling) × (rest : List ℕ) × IsTaken d item × (input ≡ spell item ++ rest)
 
--- why it begins no item, where these are the bytes within the limits; unless it is known to begin one. Or a key of an open map is
--- reported that is the same as an earlier one.
+-- why the bytes within the limits begin with no valid item, unless it is known that they begin with one; or a key of an open map
+-- is reported that is the same as an earlier one
 abbrev pub IsStopWithin : Bool → Bounds → List ℕ → ParseError → Type 0
 IsStopWithin trusts limits input (error.Refused f) = trusts ≡ false → (bytes : List ℕ) → input ≡ take limits.bytes bytes → IsStop limits bytes f
 IsStopWithin trusts limits input (error.Repeated behind pair) = IsKeyReported limits input behind pair
 
--- ---- where the walk stands, before the rest of an input, with a sink that began in its first state
+-- ---- the position of the walk, before the rest of an input, with the sink and its first state
 
 module _ (S : Type 0) (stands : S → S → ParseState → Type 0) (trusts : Bool) where
-  -- these containers are open before the rest of an input, and what is complete in them is given so
+  -- these containers are open before the rest of an input, and what is complete in them was given
   pub record StandsBefore (given_in : List Level → Type 0) (d : ℕ) (input : List ℕ) (cs : List Cell) (rest : List ℕ) : Type 0 where
     pub ls : List Level
     pub levels : AreLevels d ls
@@ -40,7 +41,7 @@ module _ (S : Type 0) (stands : S → S → ParseState → Type 0) (trusts : Boo
   abbrev pub IsExpected : S → ℕ → List ℕ → List Cell → S → List ℕ → Type 0
   IsExpected start d input cs g rest = StandsBefore (λ ls. stands start g (item_expected ls)) d input cs rest
 
-  -- an item is whole, of which so much is known; two keys of a map may be the same
+  -- an item is complete, and this is known about it; two keys of a map may be the same
   pub record IsFull (is_known : List Level → Spelling → Type 0) (d : ℕ) (input : List ℕ) (cs : List Cell) (rest : List ℕ) : Type 0 where
     pub ls : List Level
     pub item : Spelling
@@ -53,11 +54,11 @@ module _ (S : Type 0) (stands : S → S → ParseState → Type 0) (trusts : Boo
     pub small : length input < 2 ^ 63
     pub known : trusts ≡ true → BeginsTaken d input
 
-  -- it has no complaint, and is given to the sink
+  -- it has no complaint, and was given to the sink
   abbrev pub HasEnded : S → ℕ → List ℕ → List Cell → S → List ℕ → Type 0
   HasEnded start d input cs g rest = IsFull (λ ls s. IsClean s × stands start g (settle ls s)) d input cs rest
 
-  -- a container is to end in the sink, a map or not
+  -- a container should end in the sink, a map or not
   abbrev pub IsToEnd : Bool → S → ℕ → List ℕ → List Cell → S → List ℕ → Type 0
   IsToEnd is_map start d input cs g rest = IsFull (StandsFull S (Reported S stands is_map) d start g) d input cs rest
 
@@ -65,25 +66,25 @@ module _ (S : Type 0) (stands : S → S → ParseState → Type 0) (trusts : Boo
   abbrev pub IsCellFull : (List Level → Spelling → Type 0) → ℕ → List ℕ → Cell → List Cell → List ℕ → Type 0
   IsCellFull is_known d input c cs rest = IsFull (λ ls s. is_known ls s × IsCellOf (length input) d c ls s) d input cs rest
 
-  -- the input's item is whole
+  -- the input's item is complete
   pub record IsBuilt (start : S) (d : ℕ) (input : List ℕ) (g : S) (rest : List ℕ) : Type 0 where
     pub item : Spelling
     pub taken : IsTaken d item
     pub given : stands start g (item_whole item)
     pub bytes : input ≡ spell item ++ rest
 
-  -- the innermost container is whole; or, where no other cell is around its cell, the input's item
+  -- the innermost container is complete; or, if no other cell is around its cell, the input's item
   abbrev pub HasFilled : S → ℕ → List ℕ → List Cell → S → List ℕ → Type 0
   HasFilled start d input [] g rest = ⊥
   HasFilled start d input (top ∷ []) g rest = IsBuilt start d input g rest
   HasFilled start d input (top ∷ c ∷ cs) g rest = IsCellFull (StandsFull S stands d start g) d input top (c ∷ cs) rest
 
-  -- the innermost container was to end, and did not: two of its keys are the same, and this one is reported
+  -- the innermost container could not end: two of its keys are the same, and this one is reported
   abbrev pub IsRepeatVisited : Repeat → ℕ → List ℕ → List Cell → List ℕ → Type 0
   IsRepeatVisited repeat d input [] rest = ⊥
   IsRepeatVisited repeat d input (top ∷ cs) rest = IsCellFull (λ ls s. IsReportedFull ls s repeat) d input top cs rest
 
-  -- ---- what the calls ask for: some input of which this is true
+  -- ---- what the calls require: that this is true of some input
 
   abbrev pub IsExpectedIn : ℕ → List Cell → S → List ℕ → Type 0
   IsExpectedIn d cs g rest = (start : S) × (input : List ℕ) × IsExpected start d input cs g rest
@@ -92,7 +93,7 @@ module _ (S : Type 0) (stands : S → S → ParseState → Type 0) (trusts : Boo
   IsExpectedFor top g rest = (d : ℕ) × (outer : List Cell) × IsExpectedIn d (top ∷ outer) g rest
 
   module _ (holds : S → S → List Level → Bool → List ℕ → Type 0) where
-    -- the walk has come to an item that is expected, or to some chunk of it
+    -- an item is expected, or a chunk of one
     abbrev pub HasCome : S → ℕ → List ℕ → List Cell → S → List ℕ → Type 0
     HasCome start d input cs g rest = StandsBefore (IsWithin S stands holds start g) d input cs rest
 
@@ -107,15 +108,15 @@ module _ (S : Type 0) (stands : S → S → ParseState → Type 0) (trusts : Boo
     TakesTo (part.Stopped stop.Repeated) start d input rest cs g = ⊥
     TakesTo (part.Stopped stop.Memory) start d input rest cs g = Unit {0}
 
-    -- from these cells and this sink to those
+    -- with these cells and this sink before, and those after
     abbrev pub Takes : Part SinkStop → ℕ → List ℕ → List Cell → S → List Cell → S → Type 0
     Takes result d rest cs g now new = (start : S) (input : List ℕ) → IsExpected start d input cs g rest → TakesTo result start d input rest now new
 
-    -- within whatever cells around this one
+    -- the same for any cells around this one
     abbrev pub TakesItem : Part SinkStop → List ℕ → Cell → S → S → Type 0
     TakesItem result rest top g new = (d : ℕ) (outer : List Cell) → Takes result d rest (top ∷ outer) g (top ∷ outer) new
 
--- ---- where a parse stands, from its first state: no key of another kind began
+-- ---- the position of a parse, with its first state: no key of another kind began
 
 module _ (S : Type 0) (stands : S → S → ParseState → Type 0) (trusts : Bool) where
   abbrev pub Expects : Parser S → Parser S → Bounds → List ℕ → List Cell → List ℕ → Type 0
@@ -131,12 +132,12 @@ module _ (S : Type 0) (stands : S → S → ParseState → Type 0) (trusts : Boo
   abbrev pub Passes : Parser S → Parser S → Bounds → List ℕ → List ℕ → Type 0
   Passes first now limits input rest = IsBuilt S stands trusts first.sink limits.depth input now.sink rest × KeepsBefore limits.depth limits.keys input rest
 
-  -- it stops: within a string, before equal keys, or for want of memory
+  -- it stops: within a string, at equal keys, or because memory was refused
   abbrev pub Stops : (holds : S → S → List Level → Bool → List ℕ → Type 0) → Parser S → Parser S → Bounds → List ℕ → List Cell → List ℕ → SinkStop → Type 0
   Stops holds first now limits input cs rest stop.Broken = HasCome S stands trusts holds first.sink limits.depth input cs now.sink rest × KeepsBefore limits.depth limits.keys input rest
   Stops holds first now limits input cs rest stop.Repeated = IsRepeatVisited S stands trusts now.repeat limits.depth input cs rest × KeepsBefore limits.depth limits.keys input rest
   Stops holds first now limits input cs rest stop.Memory = Unit {0}
 
--- what stands there may be refused whatever cells there are
+-- a missing cell is never the reason to stop
 abbrev pub LacksNothing : Bounds → List Cell → ℕ → Type 0
 LacksNothing limits cs count = Unit {0}

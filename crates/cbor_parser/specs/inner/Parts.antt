@@ -1,29 +1,29 @@
--- What is taken of the bytes that are left: an item, a head, a break.
+-- What is taken from the rest of an input: an item, a head, a break.
 use Rattle.std.specs.Prelude.{◌≡◌, ℕ, ◌<◌, ◌≤◌, Bool, true, false, List, ◌∷◌, ◌++◌, length, take, IsUtf8}
 use Rattle.cbor_head.specs.Prelude.{Holds, IsSimple, head, shortest, Spelling, spell, IsSpelled, depth}
 use Rattle.cbor_head.specs.declared.major.Major.TheVariants.{Array, Map, Simple}
 use Rattle.cbor_head.specs.declared.{major.Major.Major, width.Width.Width, width.Width.TheVariants.Indefinite}
-use Rattle.cbor_verdict.specs.Levels.{Level, IsLevel, IsOpened, level_bytes}
-use Rattle.cbor_verdict.specs.{Kinds.IsOfOneHead, Reading.string_major}
+use Rattle.theory_verdicts.specs.Levels.{Level, IsLevel, IsOpened, level_bytes}
+use Rattle.theory_verdicts.specs.{Kinds.IsOfOneHead, Reading.string_major}
 use Rattle.cbor_parser.specs.declared.container.Expected.TheVariants.{Item, Key, Value}
 use Rattle.cbor_parser.specs.declared.item_rules.Part.TheVariants as part
 use Rattle.cbor_parser.specs.declared.{container.Expected.Expected, item_rules.Part.Part, parser.SinkStop.SinkStop}
 use Rattle.cbor_parser.specs.inner.{OpenContainer.cell_of, OpenContainer.Cell, Rules.behind}
 
--- the bytes are a definite head of this type, of an item that there is, and those behind it
+-- the bytes are a definite head of this type, and those after it
 pub record IsHead (m : Major) (n : ℕ) (rest behind : List ℕ) : Type 0 where
   pub width : Width
   pub holds : Holds width n
   pub simple : m ≡ Simple → IsSimple n × (width ≡ shortest n)
   pub is : rest ≡ head m width n ++ behind
 
--- the container has a length, and this is expected in it first
+-- the container is of definite length, and this is expected in it first
 abbrev pub Counts : Major → Expected → Type 0
 Counts Array Item = Unit {0}
 Counts Map Key = Unit {0}
 Counts m expected = ⊥
 
--- the bytes are the opener of a container that has items, or may have, and those behind it
+-- the bytes are the opener of a container that has items, or may have some, and those after it
 pub record IsOpener (m : Major) (n : ℕ) (c : Cell) (rest behind : List ℕ) : Type 0 where
   pub level : Level
   pub fresh : (d : ℕ) → IsLevel d level
@@ -32,19 +32,19 @@ pub record IsOpener (m : Major) (n : ℕ) (c : Cell) (rest behind : List ℕ) : 
   pub some : 0 < length (level_bytes level)
   pub is : rest ≡ level_bytes level ++ behind
 
--- a payload of so many bytes stands at the start, which is UTF-8 where it is a text's, unless that is known of the whole
+-- a payload of this size is at the start, and is UTF-8 if it is a text's, unless the whole is known to be valid
 pub record IsPayload (trusts is_text : Bool) (count size : ℕ) (rest : List ℕ) : Type 0 where
   pub all : size ≡ count
   pub inside : count ≤ length rest
   pub utf8 : trusts ≡ false → is_text ≡ true → IsUtf8 (take count rest)
 
--- behind the opener of a string in chunks
+-- the opener of a string in chunks, and these bytes after it
 abbrev pub chunked_from : Bool → List ℕ → List ℕ
 chunked_from is_text behind = head (string_major is_text) Indefinite 0 ++ behind
 
--- ---- what is taken of the bytes that are left
+-- ---- what is taken from the rest of an input
 
--- an item of this depth begins with the first of them, which are of one head or of what holds no items
+-- an item of this depth begins with the bytes up to `behind`, which are one head or an item without members
 pub record HasBegun (d : ℕ) (rest behind : List ℕ) : Type 0 where
   pub prefix : List ℕ
   pub is : rest ≡ prefix ++ behind
@@ -55,7 +55,7 @@ pub record HasBegun (d : ℕ) (rest behind : List ℕ) : Type 0 where
   pub more : List ℕ
   pub bytes : spell item ≡ prefix ++ more
 
--- a break stands there, and may
+-- a break is there, and is allowed
 pub record HasBroken (c : Cell) (rest behind : List ℕ) : Type 0 where
   pub open_ended : c.is_indefinite ≡ true
   pub no_value : c.expected ≡ Value → ⊥
@@ -67,7 +67,7 @@ TakesPrefix (part.Head used) d c rest = HasBegun d rest (behind used rest)
 TakesPrefix (part.Break used) d c rest = HasBroken c rest (behind used rest)
 TakesPrefix _ d c rest = Unit {0}
 
--- within whatever containers
+-- the same within any containers
 abbrev pub TakesScalar : Part SinkStop → List ℕ → Type 0
 TakesScalar result rest = (d : ℕ) (c : Cell) → TakesPrefix result d c rest
 

@@ -1,14 +1,15 @@
--- A key of an open map that is the same as an earlier one, by what stands behind the map's head and how many pairs stand before it.
+-- A key of an open map that is the same as an earlier one, given by the number of bytes after the map's head and the
+-- number of pairs before the key.
 use Rattle.std.specs.Prelude.{ℕ, suc, ◌≡◌, ◌≤◌, ◌-◌, ◌^◌, ◌++◌, Option, Some, List, ◌∷◌, length}
 use Rattle.cbor_head.specs.Prelude.{canonical, canonical_entries, plain, Bounds, Spelling, SpelledEntries, spell, entries_count, value_of, entries_of}
 use Rattle.cbor_head.specs.declared.order.KeyOrder.{KeyOrder}
 use Rattle.cbor_builder.specs.{Built.HasKey, Built.AreOpenKeysDifferent, declared.repeat.Repeat.Repeat}
-use Rattle.cbor_verdict.specs.Levels.{IsTaken, Level, AreLevels, bytes_before}
-use Rattle.cbor_verdict.specs.{Given.opens, Kinds.KeepsToKinds}
+use Rattle.theory_verdicts.specs.Levels.{IsTaken, Level, AreLevels, bytes_before}
+use Rattle.theory_verdicts.specs.{Given.opens, Kinds.KeepsToKinds}
 use Rattle.cbor_parser.specs.{Sink.IsKeyBehind, inner.OpenContainer.opener, inner.OpenContainer.Cell, inner.OpenMaps.FindsMap}
 
--- The input's item has come to a key that has the canonical bytes of an earlier one of its map, as no two keys before it. So many
--- bytes of the input stand behind the map's head.
+-- The input's item has a key with the canonical bytes of an earlier one of its map, and no two keys before it are the
+-- same. This number of bytes of the input follows the map's head.
 pub record IsKeyReported (limits : Bounds) (input : List ℕ) (behind pair : ℕ) : Type 0 where
   pub level : Level
   pub outer : List Level
@@ -27,10 +28,10 @@ pub record IsKeyReported (limits : Bounds) (input : List ℕ) (behind pair : ℕ
   pub keeps : KeepsToKinds limits plain (bytes_before (level ∷ outer) ++ spell key)
   pub begins : behind ≡ length input - length (bytes_before outer ++ opener level)
 
--- a cell that is found has what is reported of its map's key
+-- the cell that was found gives the position of its map's reported key
 abbrev pub IsCellReported : Bounds → List ℕ → Option Cell → ℕ → Type 0
 IsCellReported limits input found pair = (c : Cell) × (found ≡ Some c) × IsKeyReported limits input c.kept pair
 
--- the map of the key that is reported has one of these cells
+-- the map of the reported key has one of these cells
 abbrev pub IsKeyReportedIn : Bounds → List ℕ → List Cell → Repeat → Type 0
 IsKeyReportedIn limits input cells repeat = (found : Option Cell) → FindsMap cells repeat.outside found → IsCellReported limits input found repeat.pair

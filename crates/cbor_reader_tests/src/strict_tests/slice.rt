@@ -1,4 +1,4 @@
-//! The strict check of a slice: maps in keys, lengths with nothing behind them, and limits.
+//! The strict check of a slice: maps as keys, lengths of content that is missing, and limits.
 
 use super::limits;
 use cbor_head::{Limits, Reason, Refusal};
@@ -7,8 +7,8 @@ use std::alloc::{AllocError, Global};
 use std::process::Abort;
 use std::test::Fail;
 
-// Slices, the limits on depth and on bytes, what is answered in the bytewise order, and why: how many
-// bytes are taken, or the refusal.
+// Slices, the limits on depth and on bytes, the expected result in the bytewise order (the number of
+// bytes, or the refusal), and why.
 static BYTEWISE: &str = "
 a2a1010000a1010100 | 256 1048576 | 9 | {{1: 0}: 0, {1: 1}: 0}
 a2a1010100a1010000 | 256 1048576 | 16 KeyOrder at 5, read 8 | {{1: 1}: 0, {1: 0}: 0}
@@ -50,7 +50,7 @@ fn columns_of(line: &str) -> Option<(&str, &str, &str, &str)> {
     Some((digits.trim(), depth, bytes, answer.trim()))
 }
 
-fn answer_text(alloc: Global, answer: Result<u64, Refusal>) -> Result<String, AllocError> {
+fn result_text(alloc: Global, answer: Result<u64, Refusal>) -> Result<String, AllocError> {
     match answer {
         Ok(count) => format!(in alloc; "{count}"),
         Err(refusal) => format!(in alloc; "{refusal}, read {}", refusal.read),
@@ -72,7 +72,7 @@ fn checks_slices(rt: HostRuntime) -> Result<(), Fail> {
             .ok_or("limits")?;
             let answer = check_canonical(&hex::decode(rt.alloc(), digits)?, limits, order);
             assert!(rt;
-                answer_text(rt.alloc(), answer)?.as_str() == wanted,
+                result_text(rt.alloc(), answer)?.as_str() == wanted,
                 "{line}"
             );
         }
@@ -80,7 +80,7 @@ fn checks_slices(rt: HostRuntime) -> Result<(), Fail> {
     Ok(())
 }
 
-// {0: {0: .. 0}}, of as many maps as may be open, and of one more than the limit
+// {0: {0: .. 0}}, with as many maps as may be open, and with one more
 #[test]
 fn checks_deep_slices(rt: HostRuntime) -> Result<(), Fail> {
     let mut maps = [0xa1, 0x00].repeat(rt.alloc(), 256)?;
@@ -91,13 +91,13 @@ fn checks_deep_slices(rt: HostRuntime) -> Result<(), Fail> {
     Ok(())
 }
 
-// Looks for this answer in the bytewise order.
+// Checks that this is the result in the bytewise order.
 fn look_for(rt: &impl Abort, bytes: &[u8], depth: u16, most: u64, wanted: Result<u64, Refusal>) {
     let answer = check_canonical(bytes, limits(rt, depth, most), KeyOrder::Bytewise);
     assert!(rt; answer == wanted, "at {bytes:?}");
 }
 
-// A map of two texts of this length, "aa.." but for their ends, each with 0.
+// A map of two texts of this length, "aa.." except for their last bytes, each with the value 0.
 fn map_of(alloc: Global, length: u8, ends: [u8; 2]) -> Result<Vec<u8>, AllocError> {
     let mut bytes = Vec::new(alloc);
     bytes.push(0xa2)?;
@@ -111,9 +111,9 @@ fn map_of(alloc: Global, length: u8, ends: [u8; 2]) -> Result<Vec<u8>, AllocErro
     Ok(bytes)
 }
 
-// Keys that share all bytes but the last, or all.
+// Keys that are equal, or that differ only in their last byte.
 #[test]
-fn keys_with_a_long_beginning_in_common(rt: HostRuntime) -> Result<(), Fail> {
+fn compares_keys_with_a_long_common_prefix(rt: HostRuntime) -> Result<(), Fail> {
     for length in 24..72 {
         let size = 3 + u64::from(length);
         let rising = map_of(rt.alloc(), length, [b'a', b'b'])?;

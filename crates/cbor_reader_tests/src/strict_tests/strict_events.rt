@@ -1,16 +1,15 @@
-//! The strict reader event by event: what it reports, and what it keeps. What is kept was worked out by
-//! hand, from the bytes of the keys.
+//! The strict reader event by event: what it reports, and what it stores. The expected numbers were
+//! worked out by hand from the bytes of the keys.
 
 use super::limits;
-use cbor_automaton::{Event, EventKind};
-use cbor_head::{Keys, Limits, Reason, Refusal, Width};
+use cbor_head::{Event, EventKind, Keys, Limits, Reason, Refusal, Width};
 use cbor_strict::{KeyOrder, StrictReader};
 use std::alloc::{AllocError, Global};
 use std::io::Read;
 use std::test::Fail;
 
-// A line an event: its place and kind; behind it how many bytes were taken and containers are open, of
-// how many maps a key is kept, and how many bytes of keys; and which these are.
+// A line for each event: its offset and kind; then the number of bytes consumed, of open containers, of
+// maps with a stored key, and of stored bytes of keys; and which bytes these are.
 
 // {{1: 0}: 0, {1: 1}: 0}
 static TWO_MAPS: &str = "
@@ -43,7 +42,7 @@ static KEYS_IN_A_CONTENT: &str = "
 7 Bytes(Some(1)): 8 3 2 4
 ";
 
-// What is reported of an event, as a line has it.
+// The line for an event that was reported.
 fn line_of<R: Read>(
     alloc: Global,
     event: Event,
@@ -57,7 +56,7 @@ fn line_of<R: Read>(
     )
 }
 
-// Whether these are reported, with this behind each.
+// Whether exactly these lines are reported.
 fn is_reported(
     alloc: Global,
     limits: Limits,
@@ -79,7 +78,7 @@ fn is_reported(
 }
 
 #[test]
-fn keeps_what_is_to_be_compared(rt: HostRuntime) -> Result<(), Fail> {
+fn stores_the_keys_to_be_compared(rt: HostRuntime) -> Result<(), Fail> {
     let limits = limits(&rt, 256, 1048576);
     let maps = b"\xa2\xa1\x01\x00\x00\xa1\x01\x01\x00";
     assert!(rt; is_reported(rt.alloc(), limits, maps, TWO_MAPS)?);
@@ -112,7 +111,7 @@ fn reports_a_piece_and_the_end(rt: HostRuntime) {
     assert!(rt; reader.taken() == 3);
 }
 
-// {simple(32): 0}, {[]: 0} and {h'07': 0}: the map alone is reported, and one byte of the key is read.
+// {simple(32): 0}, {[]: 0} and {h'07': 0}: only the map is reported, and one byte of the key is read.
 #[test]
 fn reports_nothing_of_a_key_of_another_kind(rt: HostRuntime) {
     let basic = limits(&rt, 256, 1048576).with_keys(Keys::IntegersAndTexts);
@@ -143,11 +142,11 @@ fn tower(alloc: Global) -> Result<Vec<u8>, AllocError> {
 }
 
 #[test]
-fn stands_in_a_tower(rt: HostRuntime) -> Result<(), Fail> {
+fn reads_a_tower(rt: HostRuntime) -> Result<(), Fail> {
     let input = tower(rt.alloc())?;
     let whole = limits(&rt, 256, 1048576);
     let mut reader = StrictReader::new(rt.alloc(), &input[..], whole, KeyOrder::Bytewise);
-    // a map and its key, 0, and its value is the next map
+    // a map and its key 0; its value is the next map
     for level in 1..=256 {
         for _ in 0..2 {
             assert!(rt; reader.next().is_ok());

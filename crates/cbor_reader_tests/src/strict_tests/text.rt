@@ -1,9 +1,9 @@
-//! Texts, and what is none (RFC 3629, section 4).
+//! Texts, and bytes that are not UTF-8 (RFC 3629, section 4).
 
 use cbor_text::{check_text, is_text_prefix};
 
 #[test]
-fn reports_how_far_a_text_goes(rt: HostRuntime) {
+fn reports_where_text_ends(rt: HostRuntime) {
     assert!(rt; check_text(b"") == Ok(()));
     // U+00FC, U+6C34 and U+10151
     assert!(rt; check_text(b"\xc3\xbc\xe6\xb0\xb4\xf0\x90\x85\x91") == Ok(()));
@@ -15,7 +15,7 @@ fn reports_how_far_a_text_goes(rt: HostRuntime) {
 }
 
 #[test]
-fn looks_at_a_text_at_start(rt: HostRuntime) {
+fn checks_a_prefix(rt: HostRuntime) {
     // "a" and U+00FC, and then a byte that begins no text
     assert!(rt; is_text_prefix(b"a\xc3\xbc\xff", 3));
     assert!(rt; !is_text_prefix(b"a\xc3\xbc\xff", 2) && !is_text_prefix(b"a\xc3\xbc\xff", 4));

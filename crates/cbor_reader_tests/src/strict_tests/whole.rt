@@ -1,4 +1,4 @@
-//! An item of a reader that holds more.
+//! An item in a reader that holds more.
 
 use super::limits;
 use cbor_head::{Reason, Refusal};
@@ -7,11 +7,11 @@ use cbor_strict::{KeyOrder, read_strict};
 #[test]
 fn reads_the_item_and_no_more(rt: HostRuntime) {
     let limits = limits(&rt, 256, 1048576);
-    // {"a": [true, 1(0)]}, and 0 behind it
+    // {"a": [true, 1(0)]}, followed by 0
     let mut reader = &b"\xa1\x61a\x82\xf5\xc1\x00\x00"[..];
     assert!(rt; read_strict(rt.alloc(), &mut reader, limits, KeyOrder::Bytewise) == Ok(7));
     assert!(rt; reader == b"\x00".as_slice());
-    // {1: 0, 0: 0}: the second key, of which the last byte is the fourth
+    // {1: 0, 0: 0}: the second key ends with the fourth byte
     let mut reader = &b"\xa2\x01\x00\x00\x00"[..];
     let refusal = Refusal::new(Reason::KeyOrder, 3, 4);
     assert!(rt; read_strict(rt.alloc(), &mut reader, limits, KeyOrder::Bytewise) == Err(refusal));

@@ -1,5 +1,5 @@
-//! Canonical bytes that are built as the events come, at each size at which their heads or the
-//! builder change, and in towers of each container. The wanted bytes are put together here, from
+//! Canonical bytes that are built event by event, at each size at which their heads or the builder
+//! change, and for deep nesting of each container. The expected bytes are put together here, from
 //! heads, and not by an encoder.
 
 use super::conformance_rows::{ORDERS, rows_of};
@@ -15,7 +15,7 @@ use std::borrow::CowSlice;
 use std::process::Abort;
 use std::test::Fail;
 
-// Counts on each side of where a head grows.
+// Counts on both sides of each bound at which a head gets longer.
 static COUNTS: [u32; 6] = [0, 1, 23, 24, 255, 256];
 
 static LARGE_COUNTS: [u32; 2] = [65535, 65536];
@@ -29,8 +29,8 @@ const ARRAY: u8 = 0x80;
 
 const MAP: u8 = 0xa0;
 
-// So many zeros or bytes without a length: an array's members, or a string's chunks of one byte, and
-// the break.
+// An array or a string of indefinite length, with this number of zeros as members or of chunks of
+// one byte, and the break.
 fn indefinite(alloc: Global, major: u8, byte: u8, count: u32) -> Result<Case, AllocError> {
     let mut input = Vec::new(alloc);
     let mut canonical = Vec::new(alloc);
@@ -47,7 +47,8 @@ fn indefinite(alloc: Global, major: u8, byte: u8, count: u32) -> Result<Case, Al
     Ok(Case { input, canonical })
 }
 
-// A map from so many numbers to 0 with its keys falling, with a length or without.
+// A map from this number of integers to 0 with its keys in falling order, of definite or indefinite
+// length.
 fn falling_map(alloc: Global, count: u32, has_length: bool) -> Result<Case, AllocError> {
     let mut input = Vec::new(alloc);
     let mut canonical = Vec::new(alloc);
@@ -138,8 +139,8 @@ fn builds_large_sizes(rt: HostRuntime) -> Result<(), Fail> {
     Ok(())
 }
 
-// Slices, the canonical bytes of the items that they begin with, how many bytes these have, and
-// whether they are canonical as they stand.
+// Slices, the canonical bytes of the items that they begin with, the sizes of the items, and whether
+// these are canonical already.
 static PREFIXES: &str = "
 00ff | | 00 | 1 borrowed | 0
 1800ff | | 00 | 2 built | 0
@@ -173,7 +174,7 @@ fn builds_the_prefix_of_a_slice(rt: HostRuntime) -> Result<(), Fail> {
     Ok(())
 }
 
-// Towers of 256 containers.
+// 256 nested containers.
 #[test]
 fn builds_towers(rt: HostRuntime) -> Result<(), Fail> {
     let alloc = rt.alloc();

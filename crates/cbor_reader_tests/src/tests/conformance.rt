@@ -1,5 +1,5 @@
 //! Each row of the conformance table, through every call. A call that is added to the crate gets a
-//! test here that takes it over all rows, as the others do; those that read strictly stand in
+//! test here that tries it on all rows, as the others do; those that read strictly are in
 //! `conformance_strict`.
 
 use super::bytes_of;
@@ -34,7 +34,7 @@ fn canonicalises(rt: HostRuntime) -> Result<(), Fail> {
     Ok(())
 }
 
-// Both orders by turns, so that each comes behind the other.
+// The two orders in turn, so that each is used after the other.
 #[test]
 fn canonicalises_one_after_another(rt: HostRuntime) -> Result<(), Fail> {
     let mut items = ItemCanonicaliser::new(rt.alloc());
@@ -57,12 +57,34 @@ fn canonicalises_one_after_another(rt: HostRuntime) -> Result<(), Fail> {
 #[test]
 fn reads_trees(rt: HostRuntime) -> Result<(), Fail> {
     for row in &rows(rt.alloc())? {
-        for way in 0..=row.input.len() {
+        for way in [0, row.input.len()] {
             let mut reader = Cut::in_way(&row.input, way);
             let answer = read_tree(rt.alloc(), &mut reader, row.limits);
             let taken = reader.taken(&row.input) as u64;
             let is_right = is_read_right(rt.alloc(), row, answer, taken)?;
             assert!(rt; is_right, "{}", row.line);
+        }
+    }
+    Ok(())
+}
+
+// Compared with the input in one piece, whose result `reads_trees` checks.
+#[test]
+fn reads_trees_cut_in_two(rt: HostRuntime) -> Result<(), Fail> {
+    for row in &rows(rt.alloc())? {
+        let whole = read_tree(rt.alloc(), &mut row.input.as_slice(), row.limits);
+        for way in 1..row.input.len() {
+            if row.is_tried_at(way) {
+                let mut reader = Cut::in_way(&row.input, way);
+                let answer = read_tree(rt.alloc(), &mut reader, row.limits);
+                let taken = reader.taken(&row.input) as u64;
+                let is_taken = match &answer {
+                    Ok((_, count)) => *count == taken,
+                    Err(refusal) => refusal.read == taken,
+                };
+                let is_right = is_taken && are_alike(&answer, &whole);
+                assert!(rt; is_right, "{}, cut at {way}", row.line);
+            }
         }
     }
     Ok(())
@@ -110,7 +132,7 @@ fn checks_slices(rt: HostRuntime) -> Result<(), Fail> {
     Ok(())
 }
 
-// Whether both are the same tree of as many bytes, or the same refusal.
+// Whether both are the same tree of the same size, or the same refusal.
 fn are_alike(left: &Result<(Tree, u64), Refusal>, right: &Result<(Tree, u64), Refusal>) -> bool {
     match (left, right) {
         (Ok((tree, count)), Ok((other, size))) => count == size && same(tree, other),
@@ -119,7 +141,8 @@ fn are_alike(left: &Result<(Tree, u64), Refusal>, right: &Result<(Tree, u64), Re
     }
 }
 
-// Whether this is the tree or the refusal that a row wants, with so many bytes taken.
+// Whether this is the tree or the refusal that a row expects, and this is the number of bytes
+// consumed.
 fn is_read_right(
     alloc: Global,
     row: &Row,
@@ -142,7 +165,8 @@ fn is_read_right(
     Ok(is_whole && is_item(wanted) && is_tree_right(alloc, row, &tree)?)
 }
 
-// Whether a tree has the canonical bytes that a row wants. It says none where they are too long.
+// Whether a tree has the canonical bytes that a row expects. If they are too long the row does not
+// give them.
 fn is_tree_right(alloc: Global, row: &Row, tree: &Tree) -> Result<bool, Fail> {
     for &order in &ORDERS {
         let wanted = by_order(row.plain, order);
@@ -157,7 +181,7 @@ fn is_tree_right(alloc: Global, row: &Row, tree: &Tree) -> Result<bool, Fail> {
     Ok(true)
 }
 
-// Each input against itself, and against its canonical bytes.
+// Each input with itself, and with its canonical bytes.
 #[test]
 fn compares_with_itself(rt: HostRuntime) -> Result<(), Fail> {
     for row in &rows(rt.alloc())? {
@@ -206,7 +230,7 @@ fn compares(rt: HostRuntime) -> Result<(), Fail> {
     Ok(())
 }
 
-// The two inputs and the answer of a pair.
+// The two inputs and the expected result of a pair.
 fn pair_of(line: &str) -> Option<(&str, &str, &str)> {
     let (left, rest) = line.split_once('|')?;
     let (right, rest) = rest.split_once('|')?;

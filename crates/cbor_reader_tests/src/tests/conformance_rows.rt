@@ -1,4 +1,4 @@
-//! The rows of the conformance table, and a reader of their input.
+//! The rows of the conformance table, and a reader for their inputs.
 
 use super::conformance_table::tables;
 use super::{BadHex, bytes_of};
@@ -8,7 +8,7 @@ use std::alloc::{AllocError, Global};
 use std::io;
 use std::io::Read;
 
-// A row that can't be read.
+// A row that cannot be parsed.
 #[derive(Debug, Drop)]
 pub(super) enum BadRow {
     Columns,
@@ -17,7 +17,7 @@ pub(super) enum BadRow {
     Memory,
 }
 
-// A row with its input and its limits, and what is answered.
+// A row with its input, its limits, and the expected results.
 #[derive(Drop)]
 pub(super) struct Row {
     pub(super) line: &'static str,
@@ -26,6 +26,18 @@ pub(super) struct Row {
     pub(super) limits: Limits,
     pub(super) plain: &'static str,
     pub(super) strict: &'static str,
+}
+
+impl Row {
+    /// Whether a test that cuts the input, or makes a reader fail, does so at this offset: at each
+    /// one of a short input; of a long one, near its ends and at powers of two.
+    pub(super) fn is_tried_at(&self, offset: usize) -> bool {
+        let length = self.input.len();
+        length <= 128
+            || offset <= 4
+            || length.saturating_sub(offset) <= 4
+            || offset.is_power_of_two()
+    }
 }
 
 pub(super) static ORDERS: [KeyOrder; 2] = [KeyOrder::Bytewise, KeyOrder::LengthFirst];
@@ -67,7 +79,7 @@ fn row_of(alloc: Global, line: &'static str) -> Result<Row, BadRow> {
     })
 }
 
-// The columns of a row that tests read: the input, the limits, and what is answered.
+// The columns of a row that tests read: the input, the limits, and the expected results.
 pub(super) fn columns_of(line: &str) -> Option<(&str, &str, &str, &str)> {
     let (input, rest) = line.split_once('|')?;
     let (limits, rest) = rest.split_once('|')?;
@@ -76,7 +88,7 @@ pub(super) fn columns_of(line: &str) -> Option<(&str, &str, &str, &str)> {
     Some((input.trim(), limits.trim(), plain.trim(), strict.trim()))
 }
 
-// What a column has for an order: before the slash or behind it; without one, the whole.
+// The part of a column for an order: before the slash or after it; without a slash, the whole.
 pub(super) fn by_order(column: &str, order: KeyOrder) -> &str {
     let Some((bytewise, length_first)) = column.split_once('/') else {
         return column;
@@ -96,8 +108,8 @@ fn limits_of(column: &str) -> Option<Limits> {
     if !is_known {
         return None;
     }
-    let depth = number_behind(column, "depth ", 256)?;
-    let bytes = number_behind(column, "bytes ", 1048576)?;
+    let depth = number_after(column, "depth ", 256)?;
+    let bytes = number_after(column, "bytes ", 1048576)?;
     let limits = Limits::new(u16::try_from(depth).ok()?, bytes)?;
     match column.split_once("keys ") {
         Some((_, kinds)) if kinds == "basic" => Some(limits.with_keys(Keys::IntegersAndTexts)),
@@ -106,8 +118,8 @@ fn limits_of(column: &str) -> Option<Limits> {
     }
 }
 
-// The number behind a word, or another one where the word isn't there.
-fn number_behind(column: &str, word: &str, otherwise: u64) -> Option<u64> {
+// The number after a word; the default if the word is missing.
+fn number_after(column: &str, word: &str, otherwise: u64) -> Option<u64> {
     match column.split_once(word) {
         Some((_, behind)) => behind.split_whitespace().next()?.parse::<u64>().ok(),
         None => Some(otherwise),
@@ -124,12 +136,12 @@ pub(super) fn is_item(plain: &str) -> bool {
     !is_refused(plain) || plain.starts_with("13 ")
 }
 
-// A refusal, as the columns have it.
+// A refusal in the form of the columns.
 pub(super) fn text_of(alloc: Global, refusal: Refusal) -> Result<String, AllocError> {
     format!(in alloc; "{refusal}, read {}", refusal.read)
 }
 
-// The canonical bytes that a row wants of an input.
+// The canonical bytes that a row expects for an input.
 pub(super) fn canonical_of(alloc: Global, input: &[u8], plain: &str) -> Result<Vec<u8>, BadHex> {
     match plain {
         "same" => Vec::from_slice(alloc, input).map_err(|_| BadHex::Memory),
@@ -137,8 +149,8 @@ pub(super) fn canonical_of(alloc: Global, input: &[u8], plain: &str) -> Result<V
     }
 }
 
-// A reader in two parts that gives at most so many bytes a read, and none beyond the first part
-// before that is gone.
+// A reader with two parts that gives at most this number of bytes a read, and none of the second
+// part in a read of the first.
 #[derive(Drop)]
 pub(super) struct Cut<'a> {
     first: &'a [u8],
@@ -147,7 +159,8 @@ pub(super) struct Cut<'a> {
 }
 
 impl<'a> Cut<'a> {
-    // The ways to give an input: at 0 one byte a read, else cut in two there; at its end, whole.
+    // The ways to give an input: 0 for one byte a read; else cut in two at that offset, which is
+    // its length for a whole input.
     pub(super) fn in_way(input: &'a [u8], way: usize) -> Cut<'a> {
         let most = if way == 0 { 1 } else { usize::MAX };
         let (first, second) = input.split_at(way.min(input.len()));
@@ -158,7 +171,7 @@ impl<'a> Cut<'a> {
         }
     }
 
-    // How many bytes of an input were taken.
+    // The number of bytes of an input that were consumed.
     pub(super) fn taken(&self, input: &[u8]) -> usize {
         let left = self.first.len().saturating_add(self.second.len());
         input.len().saturating_sub(left)

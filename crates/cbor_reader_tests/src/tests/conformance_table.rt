@@ -1,21 +1,21 @@
 //! The conformance table: which bytes are which item, and why others are refused.
 //!
-//! One row a line, with five columns between bars; a line that begins with `//` heads those below:
+//! One row a line, with five columns between bars; a line that begins with `//` heads the rows below:
 //!
 //! 1. The input in hex digits. `256*c1` stands for 256 times `c1`.
 //! 2. The limits: `depth 1`, `bytes 4`, `keys basic`, or more of them in this order. Without them the
 //!    depth is 256, the bytes 1048576, and keys are of any kind; `basic` is `IntegersAndTexts`.
-//! 3. What the input becomes in canonical bytes (RFC 8949, section 4.2): `same`, or the bytes in
-//!    hex; with a slash, first in the bytewise order of keys and then in the length-first one. Or
-//!    the refusal: the reason's number and name, the place, and how many bytes are read.
-//! 4. What the strict reader answers, where it is not as in column 3 (`same` is then all bytes
-//!    taken): `taken` and a count, or a refusal; with a slash by the two orders.
+//! 3. The canonical bytes of the input (RFC 8949, section 4.2): `same`, or the bytes in hex; with a
+//!    slash, first in the bytewise order of keys and then in the length-first one. Or the
+//!    refusal: the reason's number and name, the offset, and the number of bytes read.
+//! 4. What the strict reader returns, if it is not as in column 3 (`same` then means that all bytes
+//!    are consumed): `taken` and a count, or a refusal; with a slash for the two orders.
 //! 5. The item in diagnostic notation (section 8), or the reason in words.
 //!
 //! The bytes of the first rows are those of the examples of appendix A without floating-point
-//! numbers. Canonical bytes and refusals were worked out by hand from the definitions. Rows of
-//! refusals stand in `refusals_table.rt` too, those of kinds of keys in `keys_table.rt`, those of
-//! each first byte in `initial_bytes_table.rt`.
+//! numbers. Canonical bytes and refusals were worked out by hand from the definitions. More rows of
+//! refusals are in `refusals_table.rt`, those of kinds of keys in `keys_table.rt`, those of each
+//! first byte in `initial_bytes_table.rt`.
 
 use super::initial_bytes_table::INITIAL_BYTES;
 use super::keys_table::KINDS_OF_KEYS;
@@ -181,7 +181,7 @@ a282a302002000186481a201000000c5410100a26162016161a22000186400a22000186400 | | a
 a2a2a2186400200000c1a220f51864f480000000 | | a20000a2a2186400200000c1a21864f420f58000 / a20000a2a2200018640000c1a220f51864f48000 | 16 KeyOrder at 13, read 15 / 16 KeyOrder at 6, read 7 | {{{100: 0, -1: 0}: 0, 1({-1: true, 100: false}): []}: 0, 0: 0}
 "#;
 
-/// What the comparison answers of two inputs: `left | right | answer | why`. It names the side that
+/// What the comparison returns for two inputs: `left | right | result | why`. It names the side that
 /// is refused.
 pub(crate) static PAIRS: &str = r#"
 a201020304 | bf190003040102ff | same | {1: 2, 3: 4} in another order and spelling

@@ -1,5 +1,5 @@
-//! Items cut short, by the end of the input and by the byte limit, at every place: the first bytes
-//! of an item are truncated, and a limit within it makes it too long.
+//! Items cut short, by the end of the input and by the byte limit: the first bytes of an item are
+//! truncated, and a limit within it makes it too long.
 
 use super::Parts;
 use super::conformance_rows::{is_refused, rows};
@@ -10,7 +10,8 @@ use cbor_reader::{
 use std::alloc::Global;
 use std::test::Fail;
 
-// Whether each call that keeps to the plain rules refuses the input so, and takes as many bytes.
+// Whether each call by the plain rules refuses the input so, and consumes the number of bytes that
+// it reports.
 fn plain_calls_refuse(alloc: Global, input: &[u8], limits: Limits, refusal: Refusal) -> bool {
     for part in [1, usize::MAX] {
         let mut reader = Parts { rest: input, part };
@@ -27,7 +28,7 @@ fn plain_calls_refuse(alloc: Global, input: &[u8], limits: Limits, refusal: Refu
     bytewise == Err(refusal) && length_first == Err(refusal)
 }
 
-// Looks at the calls that go by the strict rules.
+// The same for the calls by the strict rules.
 fn strict_calls_refuse(alloc: Global, input: &[u8], limits: Limits, refusal: Refusal) -> bool {
     for order in [KeyOrder::Bytewise, KeyOrder::LengthFirst] {
         for part in [1, usize::MAX] {
@@ -47,8 +48,8 @@ fn strict_calls_refuse(alloc: Global, input: &[u8], limits: Limits, refusal: Ref
     true
 }
 
-// Whether a comparison refuses the side that was cut short, and a sequence the item; nothing at all
-// is the end of a sequence.
+// Whether a comparison refuses the side that was cut short, and a sequence refuses the item. An
+// empty input is the end of a sequence.
 fn others_refuse(
     alloc: Global,
     whole: &[u8],
@@ -68,7 +69,7 @@ fn others_refuse(
     left == Err((Side::Left, refusal)) && right == Err((Side::Right, refusal)) && is_reported
 }
 
-// Whether an item is refused as it should be, where the input or the limit ends within it.
+// Whether an item is refused as expected if the input or the limit ends within it.
 fn is_cut_at(alloc: Global, item: &[u8], cut: usize, is_strict: bool) -> Option<bool> {
     let wide = Limits::new(256, 1048576)?;
     let short = Limits::new(256, cut as u64)?;
@@ -84,8 +85,8 @@ fn is_cut_at(alloc: Global, item: &[u8], cut: usize, is_strict: bool) -> Option<
     Some(is_plain && is_strict)
 }
 
-// Each item of the conformance table that is accepted within the widest limits. The calls with the
-// strict rules are asked only about what is canonical in both orders.
+// Each item of the conformance table that is accepted within the widest limits. The calls by the
+// strict rules are tried only on what is canonical in both orders.
 #[test]
 fn refuses_each_prefix_of_an_item(rt: HostRuntime) -> Result<(), Fail> {
     for row in &rows(rt.alloc())? {
@@ -94,8 +95,10 @@ fn refuses_each_prefix_of_an_item(rt: HostRuntime) -> Result<(), Fail> {
         }
         let is_strict = row.plain == "same" && row.strict.is_empty();
         for cut in 0..row.input.len() {
-            let is_right = is_cut_at(rt.alloc(), &row.input, cut, is_strict);
-            assert!(rt; is_right == Some(true), "{}, cut at {cut}", row.line);
+            if row.is_tried_at(cut) {
+                let is_right = is_cut_at(rt.alloc(), &row.input, cut, is_strict);
+                assert!(rt; is_right == Some(true), "{}, cut at {cut}", row.line);
+            }
         }
     }
     Ok(())

@@ -1,7 +1,7 @@
-//! Readers that fail once, at each place, and then go on giving: the failure is reported where the bytes
-//! before it call for no answer yet, and no read is tried again.
+//! Readers that fail once, at each offset, and then go on giving bytes: the failure is reported unless
+//! the bytes before it decide the result already, and no read is repeated.
 
-use super::conformance_rows::{Row, rows, rows_of, text_of};
+use super::conformance_rows::{ORDERS, Row, rows, rows_of, text_of};
 use super::limits;
 use cbor_head::{Limits, Reason, Refusal};
 use cbor_reader::{KeyOrder, Sequence, Tree, read_strict, read_tree};
@@ -10,18 +10,18 @@ use std::io;
 use std::io::{ErrorKind, Read};
 use std::test::Fail;
 
-// Gives its bytes, at most so many a read, but fails once.
+// A reader that gives at most `part` bytes a read, and fails once.
 #[derive(Drop)]
 struct Stumbling<'a> {
     rest: &'a [u8],
     part: usize,
-    // How many bytes it gives before it fails; none once it has.
+    // The number of bytes that it gives before it fails; none once it has failed.
     until: Option<usize>,
     kind: ErrorKind,
 }
 
 impl<'a> Stumbling<'a> {
-    // Two ways to fail: within reads of one byte, or of as many bytes as are asked for.
+    // Two ways to fail: with reads of one byte, or of as many bytes as are requested.
     fn in_way(input: &'a [u8], way: usize, until: usize) -> Stumbling<'a> {
         let (part, kind) = match way {
             0 => (1, ErrorKind::Interrupted),
@@ -56,7 +56,7 @@ impl Read for Stumbling<'_> {
     }
 }
 
-// How many bytes an answer took, and with an answer in place of the tree.
+// A result of `read_tree` with the size alone.
 fn counted(answer: Result<(Tree, u64), Refusal>) -> Result<u64, Refusal> {
     match answer {
         Ok((_tree, count)) => Ok(count),
@@ -71,10 +71,10 @@ fn taken(answer: Result<u64, Refusal>) -> u64 {
     }
 }
 
-// What is wanted of a reader that fails behind so many bytes, by the answer of one that doesn't. It
-// is asked for another byte where not all was given that the answer takes; and once more where the
-// input was at its end, for all that the call could report.
-fn wanted(usual: Result<u64, Refusal>, place: u64) -> Result<u64, Refusal> {
+// The expected result with a reader that fails at this offset, from the result with one that does not
+// fail. It is asked for another byte if it has not given all bytes that the result needs; and once more
+// if the input had ended, since the call could not know that.
+fn expected(usual: Result<u64, Refusal>, place: u64) -> Result<u64, Refusal> {
     let asks_again = match usual {
         Err(refusal) => refusal.reason == Reason::Truncated && place == refusal.read,
         Ok(_) => false,
@@ -86,7 +86,7 @@ fn wanted(usual: Result<u64, Refusal>, place: u64) -> Result<u64, Refusal> {
     }
 }
 
-// What a call by the plain rules takes, or one by the strict rules in an order.
+// The result of a call by the plain rules, or by the strict rules in an order.
 fn answer<R: Read>(
     alloc: Global,
     reader: &mut R,
@@ -99,15 +99,20 @@ fn answer<R: Read>(
     }
 }
 
-// Whether such a call answers what is wanted of a reader that fails behind so many bytes, and takes
-// as many bytes as the answer reports.
-fn reports_failure(alloc: Global, row: &Row, order: Option<KeyOrder>, place: usize) -> bool {
-    let usual = answer(alloc, &mut row.input.as_slice(), row.limits, order);
+// Whether such a call, which returns `usual` without a failure, returns what is expected of a reader that
+// fails at this offset, and consumes the number of bytes that it reports.
+fn reports_failure(
+    alloc: Global,
+    row: &Row,
+    order: Option<KeyOrder>,
+    usual: Result<u64, Refusal>,
+    place: usize,
+) -> bool {
     for way in 0..2 {
         let mut reader = Stumbling::in_way(&row.input, way, place);
         let given = answer(alloc, &mut reader, row.limits, order);
         let left = reader.rest.len() as u64;
-        if given != wanted(usual, place as u64)
+        if given != expected(usual, place as u64)
             || left.checked_add(taken(given)) != Some(row.input.len() as u64)
         {
             return false;
@@ -116,13 +121,20 @@ fn reports_failure(alloc: Global, row: &Row, order: Option<KeyOrder>, place: usi
     true
 }
 
-// Whether a sequence reports the failure within its first item, and then no more, though the reader
+// The first offset at which such a call does not report a failure as expected, if there is one.
+fn unreported(alloc: Global, row: &Row, order: Option<KeyOrder>) -> Option<usize> {
+    let usual = answer(alloc, &mut row.input.as_slice(), row.limits, order);
+    for place in 0..=row.input.len() {
+        if row.is_tried_at(place) && !reports_failure(alloc, row, order, usual, place) {
+            return Some(place);
+        }
+    }
+    None
+}
+
+// Whether a sequence reports the failure within its first item, and then gives no more, though the reader
 // would go on.
 fn ends_a_sequence(alloc: Global, input: &[u8], limits: Limits, place: usize) -> bool {
-    let plain = counted(read_tree(alloc, &mut &input[..], limits));
-    if place as u64 >= taken(plain) {
-        return true;
-    }
     let mut items = Sequence::new(alloc, Stumbling::in_way(input, 0, place), limits);
     let is_reported = match items.next() {
         Some(Err(refusal)) => refusal == Refusal::at(Reason::Read, place as u64),
@@ -131,23 +143,43 @@ fn ends_a_sequence(alloc: Global, input: &[u8], limits: Limits, place: usize) ->
     is_reported && items.next().is_none() && items.next_strict(KeyOrder::Bytewise).is_none()
 }
 
-// Each row of the conformance table, with the failure at each place. What its calls answer without
-// a failure is tested there.
+// Each row of the conformance table, with the failure at each offset. The results without a failure are
+// tested in `conformance`.
 #[test]
-fn reports_a_failure_at_each_place(rt: HostRuntime) -> Result<(), Fail> {
+fn reports_a_failure_at_each_offset(rt: HostRuntime) -> Result<(), Fail> {
     for row in &rows(rt.alloc())? {
-        for place in 0..=row.input.len() {
-            let is_right = reports_failure(rt.alloc(), row, None, place)
-                && reports_failure(rt.alloc(), row, Some(KeyOrder::Bytewise), place)
-                && reports_failure(rt.alloc(), row, Some(KeyOrder::LengthFirst), place)
-                && ends_a_sequence(rt.alloc(), &row.input, row.limits, place);
-            assert!(rt; is_right, "{}, failing at {place}", row.line);
+        let at = unreported(rt.alloc(), row, None);
+        assert!(rt; at.is_none(), "{}, failing at {at:?}", row.line);
+    }
+    Ok(())
+}
+
+#[test]
+fn reports_a_failure_of_strict_reading(rt: HostRuntime) -> Result<(), Fail> {
+    for row in &rows(rt.alloc())? {
+        for &order in &ORDERS {
+            let at = unreported(rt.alloc(), row, Some(order));
+            assert!(rt; at.is_none(), "{}, failing at {at:?}", row.line);
         }
     }
     Ok(())
 }
 
-// What a reader gives before it fails, the limits, and what `read_tree` answers.
+#[test]
+fn ends_a_sequence_at_each_offset(rt: HostRuntime) -> Result<(), Fail> {
+    for row in &rows(rt.alloc())? {
+        let plain = answer(rt.alloc(), &mut row.input.as_slice(), row.limits, None);
+        for place in 0..=row.input.len() {
+            if row.is_tried_at(place) && (place as u64) < taken(plain) {
+                let is_ended = ends_a_sequence(rt.alloc(), &row.input, row.limits, place);
+                assert!(rt; is_ended, "{}, failing at {place}", row.line);
+            }
+        }
+    }
+    Ok(())
+}
+
+// What a reader gives before it fails, the limits, and what `read_tree` returns.
 static FAILURES: &str = "
 | | 17 Read at 0, read 0 | | nothing
 830102 | | 17 Read at 3, read 3 | | two of three members
@@ -156,7 +188,7 @@ static FAILURES: &str = "
 ";
 
 #[test]
-fn reports_what_stood_before_the_failure(rt: HostRuntime) -> Result<(), Fail> {
+fn reports_what_comes_before_the_failure(rt: HostRuntime) -> Result<(), Fail> {
     let alloc = rt.alloc();
     for row in &rows_of(alloc, FAILURES)? {
         for way in 0..2 {
@@ -168,7 +200,7 @@ fn reports_what_stood_before_the_failure(rt: HostRuntime) -> Result<(), Fail> {
             assert!(rt; is_reported, "{}", row.line);
         }
     }
-    // {1: 0} is accepted without a byte more
+    // {1: 0} is accepted without a further byte
     let mut reader = Stumbling::in_way(b"\xa1\x01\x00", 1, 3);
     let given = read_strict(
         alloc,

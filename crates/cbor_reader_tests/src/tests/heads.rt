@@ -1,9 +1,9 @@
-//! Heads in the fewest bytes and in nine, and inputs that are put together from them.
+//! Heads in the fewest bytes and in nine, and inputs that are made of them.
 
 use std::alloc::{AllocError, Global};
 
-// An input, and its canonical bytes in either order. What fills them borrows them: an owner of both
-// would owe at each `?` that they may be dropped there.
+// An input, and its canonical bytes in either order. The functions that fill them borrow both: if
+// one owned them, the prover would require at each `?` that they may be dropped there.
 #[derive(Drop)]
 pub(super) struct Case {
     pub(super) input: Vec<u8>,
@@ -47,7 +47,7 @@ pub(super) fn push_times(bytes: &mut Vec<u8>, byte: u8, times: u32) -> Result<()
     Ok(())
 }
 
-// A string of so many bytes, or an array of so many integers of one byte.
+// A string of this number of bytes, or an array of this number of integers of one byte.
 pub(super) fn push_string(
     bytes: &mut Vec<u8>,
     major: u8,

@@ -1,5 +1,5 @@
-//! The rows of the conformance table of each of the 256 bytes, alone: what it begins, or why no item
-//! begins with it (RFC 8949, section 3; floats are refused). The columns are those of
+//! The rows of the conformance table for each of the 256 bytes, alone: what it begins, or why no
+//! item begins with it (RFC 8949, section 3; floats are refused). The columns are those of
 //! `conformance_table.rt`.
 
 pub(super) static INITIAL_BYTES: &str = r#"

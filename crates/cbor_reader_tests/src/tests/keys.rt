@@ -1,4 +1,4 @@
-//! Keys about as long as those that take memory of their own.
+//! Keys of lengths around the one from which they are allocated separately.
 
 use super::limits;
 use cbor_head::{Reason, Refusal};
@@ -6,7 +6,8 @@ use cbor_reader::{KeyOrder, canonicalise};
 use std::alloc::{AllocError, Global};
 use std::test::Fail;
 
-// A map of two byte strings of this length, h'07..' but for their ends, each with 0.
+// A map of two byte strings of this length, h'07..' except for their last bytes, each with the
+// value 0.
 fn map_of(alloc: Global, length: u8, ends: [u8; 2]) -> Result<Vec<u8>, AllocError> {
     let mut bytes = Vec::new(alloc);
     bytes.push(0xa2)?;
@@ -20,7 +21,8 @@ fn map_of(alloc: Global, length: u8, ends: [u8; 2]) -> Result<Vec<u8>, AllocErro
     Ok(bytes)
 }
 
-// Two keys of each length are distinguished by their last byte alone, and found to be equal.
+// Two keys of each length are distinguished if only their last bytes differ, and are found to be
+// equal.
 #[test]
 fn distinguishes_keys_at_each_length(rt: HostRuntime) -> Result<(), Fail> {
     let alloc = rt.alloc();

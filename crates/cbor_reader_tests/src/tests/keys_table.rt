@@ -1,4 +1,4 @@
-//! The rows of the conformance table of maps whose keys are to be integers or texts.
+//! The rows of the conformance table for maps whose keys must be integers or texts.
 
 pub(super) static KINDS_OF_KEYS: &str = r#"
 // Keys that are integers or texts, and values that are neither.

@@ -1,5 +1,5 @@
-//! Heads that promise more than comes: a head asks for no memory by itself. All that these promise,
-//! at a byte a member, is more than a processor can address, so a call that asked for it would answer
+//! Heads that announce more than follows: nothing is allocated for a head alone. What these announce,
+//! at a byte a member, is more than a processor can address, so a call that allocated it would return
 //! `Memory`.
 
 use super::{bytes_of, limits};
@@ -8,7 +8,7 @@ use cbor_reader::{KeyOrder, canonicalise, check_canonical, read_strict, read_tre
 use std::alloc::{AllocError, Global};
 use std::test::Fail;
 
-// Arrays and maps of 2^40 members, and of as many as a head can promise.
+// Arrays and maps of 2^40 members, and of as many as a head can announce.
 static PROMISES: &str =
     "9b0000010000000000 bb0000010000000000 9bffffffffffffffff bbffffffffffffffff";
 
@@ -22,7 +22,7 @@ fn nested(alloc: Global, head: &[u8]) -> Result<Vec<u8>, AllocError> {
     Ok(bytes)
 }
 
-// Whether each call says that the input is cut short.
+// Whether each call reports that the input is cut short.
 fn is_cut_short(alloc: Global, input: &[u8], limits: Limits) -> bool {
     let refusal = Refusal::at(Reason::Truncated, input.len() as u64);
     let read = read_tree(alloc, &mut &input[..], limits);
@@ -41,14 +41,14 @@ fn is_cut_short(alloc: Global, input: &[u8], limits: Limits) -> bool {
 }
 
 #[test]
-fn take_no_memory_by_themselves(rt: HostRuntime) -> Result<(), Fail> {
+fn request_no_memory(rt: HostRuntime) -> Result<(), Fail> {
     let alloc = rt.alloc();
     let limits = limits(&rt, 256, 1048576);
     for head in PROMISES.split_whitespace() {
         let input = nested(alloc, &bytes_of(alloc, head)?)?;
         assert!(rt; is_cut_short(alloc, &input, limits), "{head}");
     }
-    // strings of 2^63 bytes, with one there
+    // strings of 2^63 bytes, of which one follows
     for string in ["5b800000000000000061", "7b800000000000000061"] {
         let input = bytes_of(alloc, string)?;
         assert!(rt; is_cut_short(alloc, &input, limits), "{string}");

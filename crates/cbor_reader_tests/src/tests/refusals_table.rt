@@ -1,5 +1,5 @@
-//! The rows of the conformance table of inputs that are cut short, that break the form, that are too
-//! deep or not valid, and of those that are just within. The columns are those of
+//! The rows of the conformance table for inputs that are cut short, that are not well-formed, that
+//! are too deep or not valid, and for inputs that are just accepted. The columns are those of
 //! `conformance_table.rt`.
 
 pub(super) static REFUSALS: &str = r#"

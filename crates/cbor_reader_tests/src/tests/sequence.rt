@@ -1,4 +1,4 @@
-//! Sequences, over slices, over readers that give one byte a read, and over one that fails.
+//! Sequences in slices, in readers that give one byte a read, and in one that fails.
 
 use super::conformance_rows::{Row, rows_of, text_of};
 use super::{Parts, bytes_of, limits};
@@ -11,7 +11,7 @@ use std::io::{ErrorKind, Read};
 use std::process::Abort;
 use std::test::Fail;
 
-// Inputs and limits; the refusal behind the trees, if not `None` comes at once; and the canonical
+// Inputs and limits; the refusal after the trees, or nothing if `None` follows; and the canonical
 // bytes of the trees.
 static RUNS: &str = "
 | | | | nothing
@@ -25,7 +25,7 @@ static RUNS: &str = "
 01ff01 | | 7 StrayBreak at 0, read 1 | 01 | a break where an item is due, and an item behind it
 ";
 
-// Whether an answer is the tree with these canonical bytes.
+// Whether a result is the tree with these canonical bytes.
 fn is_tree(
     alloc: Global,
     answer: Option<Result<Tree, Refusal>>,
@@ -40,7 +40,7 @@ fn is_tree(
     }
 }
 
-// The refusal of an answer; none for any other answer.
+// The refusal of a result; none for any other result.
 fn refused<T: Drop>(answer: Option<Result<T, Refusal>>) -> Option<Refusal> {
     match answer {
         Some(Err(refusal)) => Some(refusal),
@@ -84,7 +84,7 @@ fn follows<A: Abort, R: Read + Drop>(
 }
 
 #[test]
-fn gives_trees(rt: HostRuntime) -> Result<(), Fail> {
+fn returns_trees(rt: HostRuntime) -> Result<(), Fail> {
     for row in &rows_of(rt.alloc(), RUNS)? {
         follows(&rt, rt.alloc(), row, row.input.as_slice())?;
         for part in [usize::MAX, 1] {
@@ -95,7 +95,7 @@ fn gives_trees(rt: HostRuntime) -> Result<(), Fail> {
     Ok(())
 }
 
-// No byte behind an item is read, nor one behind a refusal.
+// No byte after an item is read, nor one after a refusal.
 #[test]
 fn leaves_what_follows(rt: HostRuntime) -> Result<(), Fail> {
     // [0, 1], 24, a break, 0
@@ -148,9 +148,9 @@ fn mixes_calls(rt: HostRuntime) -> Result<(), Fail> {
     Ok(())
 }
 
-// 0, and {[]: 0}, whose key is to be an integer or a text.
+// 0, and {[]: 0}, whose key must be an integer or a text.
 #[test]
-fn judges_the_keys_of_an_item(rt: HostRuntime) -> Result<(), Fail> {
+fn refuses_keys_of_other_kinds(rt: HostRuntime) -> Result<(), Fail> {
     let basic = limits(&rt, 256, 1048576).with_keys(Keys::IntegersAndTexts);
     let wanted = Refusal::new(Reason::KeyKind, 1, 2);
     for part in [usize::MAX, 1] {
@@ -167,7 +167,7 @@ fn judges_the_keys_of_an_item(rt: HostRuntime) -> Result<(), Fail> {
     Ok(())
 }
 
-// A reader of zeros that fails once, behind so many.
+// A reader of zeros that fails once, after this number of them.
 #[derive(Drop)]
 struct FailsOnce {
     before: usize,

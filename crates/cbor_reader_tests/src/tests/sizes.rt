@@ -1,5 +1,5 @@
-//! Items of a size that the tables have none of: each call succeeds on them. The wanted bytes are
-//! put together here, and not by an encoder.
+//! Items larger than those of the tables: each call succeeds on them. The expected bytes are put
+//! together here, and not by an encoder.
 
 use super::heads::{Case, push_head, push_times, wide};
 use super::{Parts, limits};

@@ -1,5 +1,5 @@
-//! Sizes on both sides of each bound: of the widths of a head, of the parts in which a reader is
-//! asked, of keys that take memory of their own, of runs of bytes that are moved or checked at once.
+//! Sizes on both sides of each bound: of the widths of a head, of the parts that are requested from
+//! a reader, of keys that are allocated separately, of bytes that are moved or checked at once.
 
 use super::heads::{Case, push_head, push_string, push_times, push_wide_head, wide};
 use super::{Parts, limits};
@@ -16,8 +16,8 @@ static SIZES: [u32; 38] = [
 // The type's first byte with additional information 0.
 static STRINGS: [(u8, u8); 2] = [(0x40, 7), (0x60, b'a')];
 
-// Whether each call has the canonical bytes of the input, in both orders. Long inputs come in large
-// parts alone.
+// Whether each call returns the canonical bytes of the input, in both orders. Long inputs are given
+// only in large parts.
 fn becomes(alloc: Global, input: &[u8], canonical: &[u8], limits: Limits) -> bool {
     for part in [513, 512, 1] {
         if part == 1 && input.len() > 2100 {
@@ -71,7 +71,7 @@ fn map_from(alloc: Global, string: &Case) -> Result<Case, AllocError> {
     Ok(case)
 }
 
-// Strings of each size, by themselves and as the keys of a map.
+// Strings of each size, alone and as the keys of a map.
 #[test]
 fn strings_of_each_size(rt: HostRuntime) -> Result<(), AllocError> {
     let alloc = rt.alloc();
@@ -121,7 +121,7 @@ fn push_streamed(bytes: &mut Vec<u8>, size: u32) -> Result<(), AllocError> {
     Ok(())
 }
 
-// So many zeros, without a length.
+// An array of this number of zeros, of indefinite length.
 fn streamed_array(alloc: Global, size: u32) -> Result<Case, AllocError> {
     let mut case = Case::empty(alloc);
     push_streamed(&mut case.input, size)?;
@@ -129,7 +129,7 @@ fn streamed_array(alloc: Global, size: u32) -> Result<Case, AllocError> {
     Ok(case)
 }
 
-// Arrays of each size, of a stated length and without.
+// Arrays of each size, of definite and indefinite length.
 #[test]
 fn arrays_of_each_size(rt: HostRuntime) -> Result<(), AllocError> {
     let alloc = rt.alloc();
@@ -196,8 +196,7 @@ fn turned_map(alloc: Global, size: u32) -> Result<Case, AllocError> {
     Ok(case)
 }
 
-// Maps of each size up to 4097 pairs, with rising, falling and turned keys: each number is its own
-// value.
+// Maps of each size up to 4097 pairs, with rising and falling keys: each number is its own value.
 #[test]
 fn maps_of_each_size(rt: HostRuntime) -> Result<(), AllocError> {
     let alloc = rt.alloc();
@@ -210,7 +209,17 @@ fn maps_of_each_size(rt: HostRuntime) -> Result<(), AllocError> {
         assert!(rt; falling.is_reported(alloc, limits), "{size} pairs, falling");
         let rising = &falling.canonical;
         assert!(rt; becomes(alloc, rising, rising, limits), "{size} pairs");
-        if size % 2 == 0 {
+    }
+    Ok(())
+}
+
+// Maps of an even number of pairs, of indefinite length.
+#[test]
+fn turned_maps_of_each_size(rt: HostRuntime) -> Result<(), AllocError> {
+    let alloc = rt.alloc();
+    let limits = limits(&rt, 256, 1048576);
+    for size in SIZES {
+        if size <= 4097 && size % 2 == 0 {
             let turned = turned_map(alloc, size)?;
             assert!(rt; turned.is_reported(alloc, limits), "{size} pairs, turned");
         }
@@ -218,7 +227,7 @@ fn maps_of_each_size(rt: HostRuntime) -> Result<(), AllocError> {
     Ok(())
 }
 
-// So many letters and these bytes, as a text of as many bytes as they are.
+// This number of letters and these bytes, as a text of this length.
 fn push_text(bytes: &mut Vec<u8>, size: u32, length: u32, behind: &[u8]) -> Result<(), AllocError> {
     push_head(bytes, 0x60, length)?;
     push_times(bytes, b'a', size)?;
@@ -231,7 +240,7 @@ fn text_of(alloc: Global, size: u32, length: u32, behind: &[u8]) -> Result<Vec<u
     Ok(bytes)
 }
 
-// Whether each call refuses the input so.
+// Whether each call refuses the input with this refusal.
 fn is_refused(alloc: Global, input: &[u8], limits: Limits, refusal: Refusal) -> bool {
     for part in [1, 512, 513] {
         let mut reader = Parts { rest: input, part };

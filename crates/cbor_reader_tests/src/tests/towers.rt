@@ -1,4 +1,4 @@
-//! Towers of each kind of container, in values and in keys, as deep as a depth limit allows, and a
+//! Nested containers of each kind, in values and in keys, as deep as a depth limit allows, and one
 //! level deeper.
 
 use super::conformance_rows::{ORDERS, columns_of};
@@ -10,8 +10,7 @@ use std::alloc::{AllocError, Global};
 use std::process::Abort;
 use std::test::Fail;
 
-// Containers of one kind within one another: what opens each, what closes it, and the same in
-// canonical bytes.
+// A kind of nested containers: what opens each, what closes it, and the same in canonical bytes.
 #[derive(Drop)]
 pub(super) struct Kind {
     pub(super) opens: Vec<u8>,
@@ -20,8 +19,8 @@ pub(super) struct Kind {
     canonical_closes: Vec<u8>,
 }
 
-// Arrays, tags, and maps around a value and around a key: with a length, with a wide one, and
-// without.
+// Arrays, tags, and maps around a value and around a key: of definite length, with a head that is
+// not the shortest, and of indefinite length.
 static KINDS: &str = "
 81 | | 81 | | [[0]]
 9801 | | 81 | | [[0]]
@@ -58,7 +57,7 @@ fn kind_of(alloc: Global, line: &str) -> Result<Kind, Fail> {
 }
 
 impl Kind {
-    // A tower of so many levels, which stands by itself or as the key of a map, the lowest level.
+    // A tower of this number of levels, alone or as the key of a map, which is the lowest level.
     pub(super) fn tower(
         &self,
         alloc: Global,
@@ -67,8 +66,8 @@ impl Kind {
     ) -> Result<Case, AllocError> {
         let floors = floors(levels, is_key);
         Ok(Case {
-            input: spelled(alloc, &self.opens, &self.closes, floors, is_key)?,
-            canonical: spelled(
+            input: encoded_tower(alloc, &self.opens, &self.closes, floors, is_key)?,
+            canonical: encoded_tower(
                 alloc,
                 &self.canonical_opens,
                 &self.canonical_closes,
@@ -79,7 +78,7 @@ impl Kind {
     }
 }
 
-// How many containers of its kind a tower of so many levels has.
+// The number of containers of its kind in a tower of this number of levels.
 fn floors(levels: u16, is_key: bool) -> u16 {
     if is_key {
         levels.saturating_sub(1)
@@ -88,8 +87,8 @@ fn floors(levels: u16, is_key: bool) -> u16 {
     }
 }
 
-// The bytes of so many of these around 0, as the key of a map with the value 0, or by itself.
-fn spelled(
+// The bytes of this number of containers around 0, as the key of a map with the value 0, or alone.
+fn encoded_tower(
     alloc: Global,
     opens: &[u8],
     closes: &[u8],
@@ -113,8 +112,8 @@ fn spelled(
     Ok(bytes)
 }
 
-// Whether the strict calls answer this in both orders.
-fn strict_calls_answer(
+// Whether the strict calls return this in both orders.
+fn strict_calls_return(
     alloc: Global,
     input: &[u8],
     limits: Limits,
@@ -130,7 +129,7 @@ fn strict_calls_answer(
 }
 
 // Whether a tower of as many levels as the limit allows is accepted.
-fn stands(alloc: Global, tower: Case, limits: Limits) -> bool {
+fn is_tower_accepted(alloc: Global, tower: Case, limits: Limits) -> bool {
     let Case { input, canonical } = tower;
     let size = canonical.len() as u64;
     for order in ORDERS {
@@ -144,7 +143,7 @@ fn stands(alloc: Global, tower: Case, limits: Limits) -> bool {
         Err(_) => false,
     };
     let is_same = same_meaning(alloc, &input, &canonical, limits) == Ok(true);
-    is_read && is_same && strict_calls_answer(alloc, &canonical, limits, Ok(size))
+    is_read && is_same && strict_calls_return(alloc, &canonical, limits, Ok(size))
 }
 
 // Whether a tower of one level more is refused at the first byte of that level.
@@ -156,19 +155,19 @@ fn is_too_deep(
     limits: Limits,
 ) -> Result<bool, AllocError> {
     let Case { input, canonical } = kind.tower(alloc, limit.saturating_add(1), is_key)?;
-    let refusal = refusal_behind(&kind.opens, is_key, limit);
+    let refusal = refusal_after(&kind.opens, is_key, limit);
     for order in ORDERS {
         if canonicalise(alloc, &input, limits, order) != Err(refusal) {
             return Ok(false);
         }
     }
     let is_read = read_tree(alloc, &mut input.as_slice(), limits).err() == Some(refusal);
-    let wanted = Err(refusal_behind(&kind.canonical_opens, is_key, limit));
-    Ok(is_read && strict_calls_answer(alloc, &canonical, limits, wanted))
+    let wanted = Err(refusal_after(&kind.canonical_opens, is_key, limit));
+    Ok(is_read && strict_calls_return(alloc, &canonical, limits, wanted))
 }
 
-// The refusal of what would be open behind as many containers as the limit has.
-fn refusal_behind(opens: &[u8], is_key: bool, limit: u16) -> Refusal {
+// The refusal of the container that would be opened when as many are open as the limit allows.
+fn refusal_after(opens: &[u8], is_key: bool, limit: u16) -> Refusal {
     let before = u64::from(is_key && limit > 0);
     let floors = u64::from(floors(limit, is_key));
     let place = floors
@@ -176,10 +175,6 @@ fn refusal_behind(opens: &[u8], is_key: bool, limit: u16) -> Refusal {
         .saturating_add(before);
     Refusal::new(Reason::TooDeep, place, place.saturating_add(1))
 }
-
-// Limits on depth: small ones, and those around each number of open containers for which the calls
-// keep other space.
-static LIMITS: [(u16, u16); 4] = [(0, 40), (125, 131), (253, 259), (1021, 1024)];
 
 fn look_at(
     rt: &impl Abort,
@@ -190,24 +185,54 @@ fn look_at(
 ) -> Result<(), Fail> {
     let limits = limits(rt, limit, 1048576);
     let is_accepted = limit == 0 && is_key
-        || stands(alloc, kind.tower(alloc, limit, is_key)?, limits);
+        || is_tower_accepted(alloc, kind.tower(alloc, limit, is_key)?, limits);
     let is_refused = is_too_deep(alloc, kind, is_key, limit, limits)?;
     assert!(rt; is_accepted, "{:?}, {limit} deep", kind.opens);
     assert!(rt; is_refused, "{:?}, deeper than {limit}", kind.opens);
     Ok(())
 }
 
-#[test]
-fn stand_within_a_limit_and_no_higher(rt: HostRuntime) -> Result<(), Fail> {
-    let alloc = rt.alloc();
+// Towers of each kind with each of these limits, alone or as a key.
+fn try_limits(
+    rt: &impl Abort,
+    alloc: Global,
+    is_key: bool,
+    least: u16,
+    most: u16,
+) -> Result<(), Fail> {
     for kind in &kinds(alloc)? {
-        for is_key in [false, true] {
-            for (least, most) in LIMITS {
-                for limit in least..=most {
-                    look_at(&rt, alloc, kind, is_key, limit)?;
-                }
-            }
+        for limit in least..=most {
+            look_at(rt, alloc, kind, is_key, limit)?;
         }
     }
     Ok(())
+}
+
+#[test]
+fn end_at_small_limits(rt: HostRuntime) -> Result<(), Fail> {
+    try_limits(&rt, rt.alloc(), false, 0, 40)?;
+    try_limits(&rt, rt.alloc(), true, 0, 17)
+}
+
+// Above 128 levels, and above 256, the calls use other memory.
+#[test]
+fn end_at_128_levels(rt: HostRuntime) -> Result<(), Fail> {
+    try_limits(&rt, rt.alloc(), false, 127, 129)?;
+    try_limits(&rt, rt.alloc(), true, 127, 129)
+}
+
+#[test]
+fn end_at_256_levels(rt: HostRuntime) -> Result<(), Fail> {
+    try_limits(&rt, rt.alloc(), false, 255, 257)?;
+    try_limits(&rt, rt.alloc(), true, 256, 256)
+}
+
+#[test]
+fn end_at_the_greatest_depth(rt: HostRuntime) -> Result<(), Fail> {
+    try_limits(&rt, rt.alloc(), false, 1024, 1024)
+}
+
+#[test]
+fn end_at_the_greatest_depth_in_a_key(rt: HostRuntime) -> Result<(), Fail> {
+    try_limits(&rt, rt.alloc(), true, 1024, 1024)
 }

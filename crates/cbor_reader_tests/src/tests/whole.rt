@@ -6,7 +6,7 @@ use cbor_head::{Reason, Refusal};
 use cbor_reader::whole_view;
 
 #[test]
-fn the_view_of_all_bytes(rt: HostRuntime) {
+fn views_a_whole_slice(rt: HostRuntime) {
     let alloc = rt.alloc();
     let limits = limits(&rt, 1, 2);
     let arena = Bump::new(alloc);

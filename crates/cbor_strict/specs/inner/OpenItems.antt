@@ -1,20 +1,21 @@
--- Where the strict reader stands between two events: which containers are open, what was read of the item in the innermost, and
--- what is kept. Nothing read has a complaint.
+-- The state of the strict reader between two events: the open containers, what was read of the item in the innermost,
+-- and what is stored. Nothing read has a complaint.
 use Rattle.std.specs.Prelude.{◌≡◌, ℕ, suc, ◌+◌, ◌-◌, ◌<◌, ◌≤◌, ◌⊎◌, ◌++◌, true, false, List, [], ◌∷◌, length, Option, Result, MatchResult}
 use Rattle.cbor_head.specs.Prelude.{Holds, head, AreBytes, Spelling, spell, spellings_count, entries_count, IsSpelled, depth, Rules, strict, Complaint, OfHead, Complains, Bounds}
 use Rattle.cbor_head.specs.declared.major.Major.TheVariants as majors
-use Rattle.cbor_head.specs.declared.{major.Major.Major, reason.Refusal.Refusal, width.Width.Width}
+use Rattle.cbor_head.specs.declared.{major.Major.Major, reason.Refusal.Refusal, width.Width.Width, event.Event.Event, event.EventKind.EventKind}
+use Rattle.cbor_head.specs.declared.event.EventKind.TheVariants.{Piece}
 use Rattle.cbor_text.specs.TextCheck.{HasChecked}
-use Rattle.cbor_automaton.specs.{Trace.Mark, Trace.a_head, Marks.mark_of, Marks.IsProper, declared.event.Event.Event, declared.event.EventKind.EventKind}
+use Rattle.theory_automaton.specs.{Trace.Mark, Trace.a_head, Marks.mark_of, Marks.IsProper}
 use Rattle.cbor_machine.specs.NextEvent.{ItemEventsView}
-use Rattle.cbor_verdict.specs.Place.{Container, Place, at_item, counted, close, payload, done as at_end, IsTaking}
-use Rattle.cbor_verdict.specs.Frame.{Frame, a_member, a_key, a_content, tagged}
-use Rattle.cbor_verdict.specs.OpenMaps.{before_all, AreOpen, AreOpenDistinct}
-use Rattle.cbor_verdict.specs.Reading.{AreRefused, IsAt, IsBegun, string_major}
+use Rattle.theory_verdicts.specs.Place.{Container, Place, at_item, counted, close, payload, done as at_end, IsTaking}
+use Rattle.theory_verdicts.specs.Frame.{Frame, a_member, a_key, a_content, tagged}
+use Rattle.theory_verdicts.specs.OpenMaps.{before_all, AreOpen, AreOpenDistinct}
+use Rattle.theory_verdicts.specs.Reading.{AreRefused, IsAt, IsBegun, string_major}
 use Rattle.cbor_strict.specs.inner.LastKeys.{view_value, from_outside, IsKept}
 use Rattle.cbor_strict.specs.declared.open_items.OpenItems.{OpenItems}
 
--- an open container, as the events count what is expected in it
+-- an open container, in the form in which the events count its members
 abbrev pub counted_in : Frame → Container
 counted_in (a_member w a b) = counted (spellings_count b)
 counted_in (a_key w a v b) = counted (suc (entries_count b + entries_count b))
@@ -74,11 +75,11 @@ pub record IsOver (v : OpenItems) (b : Bounds) (e : ItemEventsView) (t : List �
 abbrev pub Stands : OpenItems → Bounds → ItemEventsView → List ℕ → Type 0
 Stands v b e t = IsItemExpected v b e t ⊎ IsInString v b e t ⊎ IsOver v b e t
 
--- what is answered where these bytes are taken now
+-- the result of a check of these bytes is right
 abbrev pub Answers : Rules → OpenItems → Bounds → ItemEventsView → List ℕ → Result (Unit {0}) Refusal → Type 0
 Answers r new b e t result = MatchResult result (λ u. Stands new b e t) (λ f. (to : Option (List ℕ)) → AreRefused r b t to f)
 
--- an item has ended in the innermost container, and what closes with it is still open
+-- an item has ended in the innermost container; the containers that are complete with it are still open
 pub record HasEnded (v : OpenItems) (b : Bounds) (e : ItemEventsView) (t : List ℕ) : Type 0 where
   pub fs : List Frame
   pub around : AreOpenClean v b fs
@@ -91,7 +92,7 @@ pub record HasEnded (v : OpenItems) (b : Bounds) (e : ItemEventsView) (t : List 
   pub taken : t ≡ bytes_before fs ++ spell item
   pub at : IsAt b e t (close (frames_in fs))
 
--- some item has, and what the events count is known
+-- an item has ended, and the counts of the events are known
 pub record IsItemEnded (v : OpenItems) (count taken : ℕ) : Type 0 where
   pub b : Bounds
   pub e : ItemEventsView
@@ -105,7 +106,7 @@ AnswersEnd old new count taken result =
     (b : Bounds) (e : ItemEventsView) (t : List ℕ) → HasEnded old b e t → count ≡ e.machine.open_count → taken ≡ e.machine.taken
     → Answers (strict old.order) new b e t result
 
--- the head of the item that is expected has come: its bytes are x
+-- the head of the item that is expected was read: its bytes are x
 pub record HasHeadCome (v : OpenItems) (b : Bounds) (event : Event) (t x : List ℕ) (e : ItemEventsView) : Type 0 where
   pub fs : List Frame
   pub around : AreOpenClean v b fs
@@ -132,7 +133,7 @@ AnswersHead old new event count taken result =
     (b : Bounds) (t x : List ℕ) (e : ItemEventsView) → HasHeadCome old b event t x e → count ≡ e.machine.open_count → taken ≡ e.machine.taken
     → Answers (strict old.order) new b e (t ++ x) result
 
--- all but the keys is as it was
+-- all but the keys is unchanged
 pub record IsSameString (old new : OpenItems) : Type 0 where
   pub order : new.order ≡ old.order
   pub left : new.left ≡ old.left
@@ -164,7 +165,7 @@ abbrev pub IsMap : Mark → Type 0
 IsMap (a_head majors.Map w n) = 0 < n
 IsMap m = ⊥
 
--- its head has no complaint, and is kept in a key
+-- its head has no complaint, and is stored if it is in a key
 pub record HasBegunIn (v : OpenItems) (b : Bounds) (w : Width) (kind : EventKind) (t x : List ℕ) (e : ItemEventsView) : Type 0 where
   pub fs : List Frame
   pub around : AreOpenClean v b fs
@@ -190,7 +191,7 @@ AnswersBegun old new m n count taken result =
     (b : Bounds) (w : Width) (kind : EventKind) (t x : List ℕ) (e : ItemEventsView) → mark_of w kind ≡ a_head m w n → HasBegunIn old b w kind t x e → count ≡ e.machine.open_count → taken ≡ e.machine.taken
     → Answers (strict old.order) new b e (t ++ x) result
 
--- a part of the payload that is expected has come
+-- a part of the payload was read
 pub record HasPartCome (v : OpenItems) (b : Bounds) (old : ItemEventsView) (t x : List ℕ) (e : ItemEventsView) : Type 0 where
   pub expected : IsInString v b old t
   pub some : 0 < length x
@@ -211,3 +212,15 @@ abbrev pub AnswersPart : OpenItems → OpenItems → List ℕ → ℕ → ℕ �
 AnswersPart v new x count taken result =
     (b : Bounds) (old : ItemEventsView) (t : List ℕ) (e : ItemEventsView) → HasPartCome v b old t x e → count ≡ e.machine.open_count → taken ≡ e.machine.taken
     → Answers (strict v.order) new b e (t ++ x) result
+
+-- the first for a part of a payload, the second for another event
+abbrev pub by_kind : EventKind → Type 0 → Type 0 → Type 0
+by_kind (Piece n) P H = P
+by_kind kind P H = H
+
+-- an event was read, with the bytes of its part of a payload, if it is one
+abbrev pub IsEventCome : OpenItems → Event → List ℕ → ℕ → ℕ → Type 0
+IsEventCome v event piece count taken = by_kind event.kind (IsPartCome v piece count taken) (IsHeadCome v event count taken)
+
+abbrev pub AnswersEvent : OpenItems → OpenItems → Event → List ℕ → ℕ → ℕ → Result (Unit {0}) Refusal → Type 0
+AnswersEvent old new event piece count taken result = by_kind event.kind (AnswersPart old new piece count taken result) (AnswersHead old new event count taken result)

@@ -1,14 +1,14 @@
 -- What is reported of the item at the start of an input, event by event, by the strict rules.
 use Rattle.std.specs.Prelude.{◌≡◌, ℕ, ◌<◌, ◌≤◌, ◌++◌, List, [], length, Option, Some, None, Result, MatchResult, IfSome}
 use Rattle.cbor_head.specs.Prelude.{strict, Bounds, AreBounds, bounds, with_keys}
-use Rattle.cbor_head.specs.declared.{keys.Keys.Keys, order.KeyOrder.KeyOrder, reason.Refusal.Refusal}
-use Rattle.cbor_automaton.specs.{Trace.Mark, declared.event.Event.Event}
+use Rattle.cbor_head.specs.declared.{event.Event.Event, keys.Keys.Keys, order.KeyOrder.KeyOrder, reason.Refusal.Refusal}
+use Rattle.theory_automaton.specs.Trace.{Mark}
 use Rattle.cbor_machine.specs.NextEvent.{ItemEventsView, StandsBetween, IsNextEvent, IsEnd, call}
 use Rattle.cbor_machine.specs.{MachineView.MachineView, Machine.IsComplete}
-use Rattle.cbor_verdict.specs.{Kinds.KeepsToKinds, Refusals.IsReaderReason, RefusedBehind.IsRefusedBehind}
+use Rattle.theory_verdicts.specs.{Kinds.KeepsToKinds, Refusals.IsReaderReason, RefusedBehind.IsRefusedBehind}
 use Rattle.cbor_strict.specs.{declared.open_items.OpenItems.OpenItems, inner.LastKeys.view_value, inner.OpenItems.Stands, inner.OpenItems.IsOver}
 
--- some bytes are taken, and their keys are of these kinds
+-- some bytes were consumed, and their keys are of these kinds
 pub record StandsSomewhere (keys : Keys) (v : OpenItems) (e : ItemEventsView) : Type 0 where
   pub b : Bounds
   pub asks : b.keys ≡ keys
@@ -16,7 +16,7 @@ pub record StandsSomewhere (keys : Keys) (v : OpenItems) (e : ItemEventsView) : 
   pub stands : Stands v b e t
   pub keeps : KeepsToKinds b (strict v.order) t
 
--- this event was reported: its bytes are taken, and nothing read has a complaint
+-- this event was reported: its bytes are consumed, and nothing read has a complaint
 pub record GoesOn (v : OpenItems) (b : Bounds) (e after : ItemEventsView) (t : List ℕ) (from to : Option (List ℕ)) (event : Event) : Type 0 where
   pub marks : List Mark
   pub between : StandsBetween e.machine t marks
@@ -25,7 +25,7 @@ pub record GoesOn (v : OpenItems) (b : Bounds) (e after : ItemEventsView) (t : L
   pub stands : Stands v b after (t ++ next.bytes)
   pub keeps : KeepsToKinds b (strict v.order) (t ++ next.bytes)
 
--- the item is complete, and nothing was taken
+-- the item is complete, and nothing was read
 pub record HasCome (v : OpenItems) (b : Bounds) (e after : ItemEventsView) (t : List ℕ) (from to : Option (List ℕ)) : Type 0 where
   pub marks : List Mark
   pub between : StandsBetween e.machine t marks
@@ -42,13 +42,13 @@ AnswersStep keys old new e after from to result =
     (b : Bounds) (t : List ℕ) → b.keys ≡ keys → Stands old b e t → KeepsToKinds b (strict old.order) t
     → MatchResult result (λ reported. IsStep reported new b e after t from to) (λ f. ¬ IsComplete e.machine × IsRefusedBehind (strict old.order) b t from to f)
 
--- at most a frame and a span for each open container, and no byte that was not read
+-- there are at most one frame and one span for each open container, and no more bytes are stored than were read
 pub record IsLittle (v : OpenItems) (e : ItemEventsView) : Type 0 where
   pub levels : length (view_value v.keys).levels ≤ e.machine.open_count
   pub spans : length (view_value v.keys).spans ≤ e.machine.open_count
   pub kept : length (view_value v.keys).bytes ≤ e.machine.taken
 
--- ---- what leads from one event to the next
+-- ---- the state that one event passes to the next
 
 pub record Inner : Type 0 where
   pub events : ItemEventsView
@@ -57,7 +57,8 @@ pub record Inner : Type 0 where
 abbrev pub bounds_of : MachineView → Keys → Bounds
 bounds_of m keys = with_keys (bounds m.depth m.bytes) keys
 
--- What stands of the events between two calls: the bounds on what they read and keep, and, unless they refused, some bytes taken.
+-- The state between two calls: bounds on what was read and is stored, and, unless there was a refusal, the bytes
+-- that were consumed.
 pub record AreWithinBounds (events : ItemEventsView) (items : OpenItems) (keys : Keys) (refusal : Option Refusal) : Type 0 where
   pub stands : refusal ≡ None → StandsSomewhere keys items events
   pub stopped : IfSome refusal (λ f. (f.read ≡ events.machine.taken)
@@ -68,7 +69,7 @@ pub record AreWithinBounds (events : ItemEventsView) (items : OpenItems) (keys :
   pub limited : events.machine.taken ≤ events.machine.bytes
   pub little : IsLittle items events
 
--- t led to it
+-- this is the state after t
 pub record IsInner (inner : Inner) (m : MachineView) (order : KeyOrder) (keys : Keys) (t : List ℕ) : Type 0 where
   pub machine_is : inner.events.machine ≡ m
   pub order_is : inner.items.order ≡ order

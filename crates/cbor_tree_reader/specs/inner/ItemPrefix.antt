@@ -1,18 +1,17 @@
--- What is reported of the item at the start of an input, part by part, by the plain rules.
+-- The state of the tree reader part by part, by the plain rules.
 use Rattle.std.specs.Prelude.{ℕ, ◌≡◌, ◌<◌, ◌++◌, Bool, true, false, List, length, map, Option, Result, MatchResult}
 use Rattle.std.specs.Io.KnownBytes.{Consumes}
 use Rattle.cbor_head.specs.Prelude.{plain, Bounds, Spelling, spell}
-use Rattle.cbor_head.specs.declared.reason.Refusal.{Refusal}
-use Rattle.cbor_automaton.specs.declared.event.Event.{Event}
+use Rattle.cbor_head.specs.declared.{reason.Refusal.Refusal, event.Event.Event}
 use Rattle.cbor_machine.specs.{NextEvent.ItemEventsView, NextKey.IsBasicKind}
-use Rattle.cbor_verdict.specs.Kinds.{AsksForKinds, KeepsToKinds, IsKeyExpectedIn}
-use Rattle.cbor_verdict.specs.Place.{at_item, done as at_end}
-use Rattle.cbor_verdict.specs.Levels.{IsTaken, Level, frame, AreLevels, bytes_before, item_expected, item_whole}
-use Rattle.cbor_verdict.specs.{Given.opens, Reading.IsAt, Reading.IsNextHead, RefusedBehind.IsRefusedBehind}
+use Rattle.theory_verdicts.specs.Kinds.{AsksForKinds, KeepsToKinds, IsKeyExpectedIn}
+use Rattle.theory_verdicts.specs.Place.{at_item, done as at_end}
+use Rattle.theory_verdicts.specs.Levels.{IsTaken, Level, frame, AreLevels, bytes_before, item_expected, item_whole}
+use Rattle.theory_verdicts.specs.{Given.opens, Reading.IsAt, Reading.IsNextHead, RefusedBehind.IsRefusedBehind}
 use Rattle.cbor_tree_reader.specs.inner.TreeItems.{AreApart, HaveBegun, sets}
 use Rattle.cbor_tree_reader.specs.{declared.tree_items.TreeItems.TreeItems, inner.HeldKeys.AreHeld, TreeValues.IsTreeAt}
 
--- an item is expected, behind the bytes t, and nothing read has a complaint
+-- an item is expected, after the bytes t, and nothing read has a complaint
 pub record IsExpectedAt (v : TreeItems) (b : Bounds) (e : ItemEventsView) (t : List ℕ) : Type 0 where
   pub ls : List Level
   pub levels : AreLevels b.depth ls
@@ -31,7 +30,7 @@ pub record IsExpectedSomewhere (v : TreeItems) (e : ItemEventsView) : Type 0 whe
   pub t : List ℕ
   pub expected : IsExpectedAt v b e t
 
--- the item is whole
+-- the item is complete
 pub record IsWholeAt (v : TreeItems) (b : Bounds) (e : ItemEventsView) (t : List ℕ) : Type 0 where
   pub item : Spelling
   pub is : IsTaken b.depth item
@@ -44,14 +43,15 @@ abbrev pub GoesOnOrNot : Bool → TreeItems → Bounds → ItemEventsView → Li
 GoesOnOrNot true v b e t = IsExpectedAt v b e t
 GoesOnOrNot false v b e t = IsWholeAt v b e t
 
--- a part was taken, and nothing read has a complaint
+-- a part was read, and nothing read has a complaint
 pub record TakesNext (more : Bool) (v : TreeItems) (b : Bounds) (e : ItemEventsView) (t : List ℕ) (from to : Option (List ℕ)) : Type 0 where
   pub bytes : List ℕ
   pub some : 0 < length bytes
   pub consumed : Consumes from to bytes
   pub stands : GoesOnOrNot more v b e (t ++ bytes)
 
--- the head of the item that is expected, or a break: of a key whose kind is asked for, it is of an integer or a text
+-- the next event is the head of the item that is expected, or a break; for a key whose kind is judged, it is the
+-- head of an integer or a text
 pub record IsNextExpected (b : Bounds) (ls : List Level) (t : List ℕ) (e : Event) (from to : Option (List ℕ)) (new : ItemEventsView) : Type 0 where
   pub head : IsNextHead plain b (at_item (map frame ls)) t e from to new
   pub kind : AsksForKinds b plain → IsKeyExpectedIn ls → IsBasicKind e.kind
@@ -66,7 +66,7 @@ AnswersNextPart old new e after from to result =
     (b : Bounds) (t : List ℕ) → IsExpectedAt old b e t
     → MatchResult result (λ more. TakesNext more new b after t from to) (λ f. IsRefusedBehind plain b t from to f)
 
--- the parts that are left were taken, or it is refused at one
+-- the remaining parts were read, or one is refused
 abbrev pub AnswersParts : TreeItems → TreeItems → ItemEventsView → ItemEventsView → Option (List ℕ) → Option (List ℕ) → Result (Unit {0}) Refusal → Type 0
 AnswersParts old new e after from to result =
     (b : Bounds) (t : List ℕ) → IsExpectedAt old b e t

@@ -1,20 +1,20 @@
--- What a part of an item is that was read, by the plain rules.
+-- The parts of an item that was read, by the plain rules.
 use Rattle.std.specs.Prelude.{ℕ, ◌≡◌, ◌≢◌, ◌++◌, Bool, true, IsUtf8, List, Option, Result, MatchResult, Vec}
 use Rattle.std.specs.Global.{Global}
 use Rattle.cbor_head.specs.Prelude.{plain, IsSimple, Bounds, Value}
 use Rattle.cbor_head.specs.Value as value
 use Rattle.cbor_head.specs.declared.major.Major.TheVariants as majors
-use Rattle.cbor_head.specs.declared.{major.Major.Major, reason.Refusal.Refusal, width.Width.Width}
-use Rattle.cbor_automaton.specs.declared.event.EventKind.TheVariants as kinds
-use Rattle.cbor_automaton.specs.{Marks.mark_of, Marks.IsProper, Trace.a_head, declared.event.EventKind.EventKind}
+use Rattle.cbor_head.specs.declared.event.EventKind.TheVariants as kinds
+use Rattle.cbor_head.specs.declared.{event.EventKind.EventKind, major.Major.Major, reason.Refusal.Refusal, width.Width.Width}
+use Rattle.theory_automaton.specs.{Marks.mark_of, Marks.IsProper, Trace.a_head}
 use Rattle.cbor_machine.specs.NextEvent.{ItemEventsView}
 use Rattle.cbor_builder.specs.Built.{IsContainer, IsLeaf}
-use Rattle.cbor_verdict.specs.Place.{Container, Place, at_item, IsTaking}
-use Rattle.cbor_verdict.specs.Reading.{IsAt, IsBegun, ReadsItem, StopsItem, string_kind, string_value}
+use Rattle.theory_verdicts.specs.Place.{Container, Place, at_item, IsTaking}
+use Rattle.theory_verdicts.specs.Reading.{IsAt, IsBegun, ReadsItem, StopsItem, string_kind, string_value}
 use Rattle.cbor_tree_reader.specs.declared.item_part.ItemPart.TheVariants.{Leaf, String, Begin, Break}
 use Rattle.cbor_tree_reader.specs.declared.item_part.ItemPart.{ItemPart}
 
--- an event came where an item was expected within these containers, behind t: its bytes are x
+-- an event came where an item was expected within these containers, after t, and its bytes are x
 pub record IsCome (b : Bounds) (fs : List Container) (t x : List ℕ) (e : ItemEventsView) (w : Width) (kind : EventKind) : Type 0 where
   pub next : Place
   pub taking : IsTaking b.depth (at_item fs) (mark_of w kind) x next
@@ -66,7 +66,7 @@ AnswersPart e kind from to new result =
     (b : Bounds) (fs : List Container) (t x : List ℕ) (w : Width) → IsCome b fs t x e w kind
     → MatchResult result (ReadsPart b fs t x kind e new from to) (λ f. BeginsString kind × StopsItem plain b fs t x from to f)
 
--- the content of a string whose head was read, which is UTF-8 where it is a text
+-- the content of a string whose head was read; it is UTF-8 if the string is a text
 abbrev pub AnswersString : Bool → Option ℕ → ItemEventsView → Option (List ℕ) → Option (List ℕ) → ItemEventsView → Result (Vec ℕ Global) Refusal → Type 0
 AnswersString is_text length e from to new result =
     (b : Bounds) (fs : List Container) (t x : List ℕ) (w : Width) → IsBegun plain b fs t x e w (string_kind is_text length)

@@ -1,15 +1,15 @@
--- What the tree reader keeps: what a builder holds, in which no two keys of an open map are the same, and where each open
--- item began.
+-- The state of the tree reader: what its builder holds, in which no two keys of an open map are the same, and where each
+-- open item began.
 use Rattle.std.specs.Prelude.{ℕ, suc, ◌≡◌, ◌<◌, ◌++◌, List, [], ◌∷◌, length, reverse, slice_get, Option, Some, Result, OnOk, IfOk, MatchOption}
 use Rattle.cbor_head.specs.Prelude.{plain, shortest_head, IsSimple, Bounds}
 use Rattle.cbor_head.specs.declared.major.Major.TheVariants as majors
-use Rattle.cbor_model.specs.Parts.{Open, a_map, a_key, give, opened}
-use Rattle.cbor_model.specs.Pairs.{HasDistinctBytes}
+use Rattle.theory_values.specs.Parts.{Open, a_map, a_key, give, opened}
+use Rattle.theory_values.specs.Pairs.{HasDistinctBytes}
 use Rattle.cbor_machine.specs.NextEvent.{ItemEventsView}
 use Rattle.cbor_builder.specs.Built.{Built, built, TakesPart, IsContainer, IsLeaf, IsRepeatedKey}
-use Rattle.cbor_verdict.specs.Levels as levels
-use Rattle.cbor_verdict.specs.Levels.{Level, bytes_before, ParseState, item_expected, item_full, item_whole}
-use Rattle.cbor_verdict.specs.{Place.Place, Kinds.KeepsToKinds, Given.StandsAt, Reading.IsAt, Reading.string_major}
+use Rattle.theory_verdicts.specs.Levels as levels
+use Rattle.theory_verdicts.specs.Levels.{Level, bytes_before, ParseState, item_expected, item_full, item_whole}
+use Rattle.theory_verdicts.specs.{Place.Place, Kinds.KeepsToKinds, Given.StandsAt, Reading.IsAt, Reading.string_major}
 use Rattle.cbor_tree_reader.specs.declared.item_part.ItemPart.TheVariants.{Leaf, String, Begin, Break}
 use Rattle.cbor_tree_reader.specs.inner.HeldKeys.{HasKeyBytes, AreHeld, AreHeldSoFar}
 use Rattle.cbor_tree_reader.specs.declared.{tree_items.TreeItems.TreeItems, item_part.ItemPart.ItemPart, key_set.KeySet.KeySet}
@@ -23,34 +23,34 @@ HasKeysApart (a_map ps) = HasDistinctBytes ps
 HasKeysApart (a_key ps k) = HasDistinctBytes ps
 HasKeysApart c = Unit {0}
 
--- nor is one that waits for its value the same as one of these
+-- nor is a key without a value yet the same as one of these
 abbrev pub AreApart : List Open → Type 0
 AreApart [] = Unit {0}
 AreApart (c ∷ os) = HasKeysApart c × (IsRepeatedKey (c ∷ os) → ⊥) × AreApart os
 
--- but for a key that has just come
+-- the same, except for a key of the innermost that is complete but not yet compared
 abbrev pub AreApartSoFar : List Open → Type 0
 AreApartSoFar [] = Unit {0}
 AreApartSoFar (c ∷ os) = HasKeysApart c × AreApart os
 
 -- ---- sets of keys
 
--- the innermost first
+-- the sets of the open containers, the innermost first
 abbrev pub sets : TreeItems → List KeySet
 sets v = v.keys ∷ reverse v.outer.items
 
--- one more, of no keys
+-- one more set, without keys
 pub record AreKeysOpened (old new : List KeySet) : Type 0 where
   pub fresh : KeySet
   pub none : HasKeyBytes fresh []
   pub are : new ≡ fresh ∷ old
 
--- where so many containers open
+-- one more set if a container opens
 pub record AreKeysBegun (count : ℕ) (old new : List KeySet) : Type 0 where
   pub same : count ≡ 0 → new ≡ old
   pub opened : 0 < count → AreKeysOpened old new
 
--- of a key that has just come: it is fresh, and in its set now; or where it began
+-- for a key that has just been completed: it is new, and in its set now; or the offset where it began is returned
 abbrev pub AnswersKey : {E : Type 0} → TreeItems → TreeItems → ℕ → Result (Option ℕ) E → Type 0
 AnswersKey old new count result =
     AreHeldSoFar (sets old) old.builder.open_levels
@@ -58,7 +58,7 @@ AnswersKey old new count result =
     (AreHeld (sets new) new.builder.open_levels × (IsRepeatedKey new.builder.open_levels → ⊥))
     (λ place. IsRepeatedKey old.builder.open_levels × ((at : ℕ) → slice_get old.starts.items count ≡ Some at → place ≡ at)))
 
--- ---- places
+-- ---- offsets
 
 -- where each open container began
 abbrev pub HaveBegun : List ℕ → List Level → Type 0
@@ -70,7 +70,7 @@ HaveBegunIn xs (item_expected ls) = HaveBegun xs ls
 HaveBegunIn xs (item_full ls s) = HaveBegun xs ls
 HaveBegunIn xs (item_whole s) = Unit {0}
 
--- where the item began that has just ended, if it is a container's or a key
+-- where the item began that has just ended, if it is a container or a key
 abbrev pub HasItsPlace : List ℕ → ParseState → Type 0
 HasItsPlace xs (item_full ls s) = slice_get xs (length ls) ≡ Some (length (bytes_before ls))
 HasItsPlace xs (item_expected (levels.a_value w left done k ∷ ls)) = slice_get xs (suc (length ls)) ≡ Some (length (bytes_before (levels.a_key w left done ∷ ls)))
@@ -94,7 +94,7 @@ IsGiven g Break now count = (now ≡ g) × (count ≡ 0)
 
 -- ---- containers that end
 
--- so many are open in the builder, where the events have these bytes
+-- `height` items are open in the builder, and the events have consumed the bytes t
 pub record IsEndingAt (v : TreeItems) (b : Bounds) (e : ItemEventsView) (t : List ℕ) (height : ℕ) : Type 0 where
   pub q : Place
   pub at : IsAt b e t q

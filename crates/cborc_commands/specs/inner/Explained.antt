@@ -1,10 +1,10 @@
--- What `--explain` says of a fault.
+-- What `--explain` says about a fault.
 use Rattle.std.specs.Prelude.{ℕ, List, Option, Some, None, codes}
 use Rattle.std.specs.declared.io.ErrorKind.TheVariants as kinds
 use Rattle.std.specs.declared.io.ErrorKind.{ErrorKind}
-use Rattle.cborc_commands.specs.declared.request.{Action.Action, Action.TheVariants.Compare, Request.Request}
+use Rattle.cborc_words.specs.declared.request.{Action.Action, Action.TheVariants.Compare, Request.Request}
 
--- the path of the file that a request reads last
+-- the path of the last file that a request reads
 abbrev pub last_source_by : Action → List ℕ → List ℕ
 last_source_by (Compare right) source = right.now
 last_source_by _ source = source
@@ -12,21 +12,20 @@ last_source_by _ source = source
 abbrev pub last_source : Request → List ℕ
 last_source request = last_source_by request.action request.source.now
 
--- what kept a file from being read or written
-abbrev pub kind_text : ErrorKind → List ℕ
-kind_text kinds.NotFound = codes "There is no such file or folder."
-kind_text kinds.PermissionDenied = codes "It is not permitted."
-kind_text kinds.IsADirectory = codes "It is a folder."
-kind_text kinds.NotADirectory = codes "A part of the path is no folder."
-kind_text kinds.ReadOnlyFilesystem = codes "The file system is read-only."
-kind_text kinds.StorageFull = codes "The disk is full."
-kind_text kinds.QuotaExceeded = codes "The disk is full."
-kind_text kinds.InvalidInput = codes "The path has a NUL."
-kind_text kinds.InvalidFilename = codes "The name is too long."
-kind_text kinds.FilesystemLoop = codes "Links lead round in a circle."
-kind_text _ = codes "The cause is not known."
-
--- the same, where a folder may not report
-abbrev pub cause_text : Option ErrorKind → List ℕ
-cause_text (Some kind) = kind_text kind
-cause_text None = codes "The cause is not known."
+-- why a file could not be read or written, for the most common errors
+abbrev pub cause_text : ErrorKind → Option (List ℕ)
+cause_text kinds.NotFound = Some (codes "There is no such file or folder.")
+cause_text kinds.PermissionDenied = Some (codes "It is not permitted.")
+cause_text kinds.IsADirectory = Some (codes "It is a folder.")
+cause_text kinds.NotADirectory = Some (codes "A part of the path is not a folder.")
+cause_text kinds.ReadOnlyFilesystem = Some (codes "The file system is read-only.")
+cause_text kinds.StorageFull = Some (codes "The disk is full.")
+cause_text kinds.QuotaExceeded = Some (codes "The disk is full.")
+cause_text kinds.FileTooLarge = Some (codes "The file would be larger than the system allows.")
+cause_text kinds.ExecutableFileBusy = Some (codes "It is a running program.")
+cause_text kinds.ResourceBusy = Some (codes "It is in use.")
+cause_text kinds.InvalidInput = Some (codes "The path contains a NUL byte.")
+cause_text kinds.InvalidFilename = Some (codes "The name is too long.")
+cause_text kinds.FilesystemLoop = Some (codes "Symbolic links form a loop.")
+cause_text kinds.BrokenPipe = Some (codes "Its reader has closed it.")
+cause_text _ = None

@@ -1,12 +1,13 @@
--- What is written of the items of a sequence, one behind another.
+-- What is written for the items of a sequence, one after another.
 use Rattle.std.specs.Prelude.{ℕ, ◌≡◌, ◌++◌, Bool, true, List, length, Option}
 use Rattle.std.specs.Io.KnownBytes.{Appends}
 use Rattle.cbor_head.specs.Prelude.{Spelling, spell}
 use Rattle.cborc_files.specs.Folder.{Files}
+use Rattle.cborc_words.specs.declared.request.Options.{Options}
 use Rattle.cborc_commands.specs.Sequences.{texts_from, AreAll, GoesOn, AreFirst}
-use Rattle.cborc_commands.specs.{Input.IsInput, Input.IsPrefix, Fault.at_item, NoInput.IsNoInput, declared.fault.Fault.Fault, declared.request.Options.Options}
+use Rattle.cborc_commands.specs.{Input.IsInput, Input.IsPrefix, Fault.at_item, NoInput.IsNoInput, declared.fault.Fault.Fault}
 
--- the item at the start of these bytes, which has so many, is taken, and its text was written
+-- the item at the start of these bytes, with this length, is accepted, and its text was written
 pub record IsWritten (takes : Spelling → Type 0) (text : Spelling → List ℕ) (bytes : List ℕ) (size : ℕ) (before after : Option (List ℕ)) : Type 0 where
   pub item : Spelling
   pub rest : List ℕ
@@ -15,18 +16,18 @@ pub record IsWritten (takes : Spelling → Type 0) (text : Spelling → List ℕ
   pub size_is : size ≡ length (spell item)
   pub written : Appends before after (text item)
 
--- none is taken, since more of the input may report of it, and nothing was written
+-- no item is accepted yet, because the input may continue, and nothing was written
 abbrev pub IsPutBack : Bool → Option (List ℕ) → Option (List ℕ) → Type 0
 IsPutBack goes_on before after = (goes_on ≡ true) × (after ≡ before)
 
--- the whole input is a sequence of so many items that are taken, and their texts were written
+-- the whole input is a sequence of this number of accepted items, and their texts were written
 pub record AreWritten (takes : Spelling → Type 0) (text : ℕ → Spelling → List ℕ) (n : ℕ) (input : List ℕ) (before after : Option (List ℕ)) (count : ℕ) : Type 0 where
   pub items : List Spelling
   pub all : AreAll takes n input items
   pub count_is : count ≡ length items
   pub written : Appends before after (texts_from text 0 items)
 
--- It isn't: behind items that are taken, whose texts were written, none is taken.
+-- It is not: after accepted items, whose texts were written, none is accepted.
 pub record AreStopped (takes : Spelling → Type 0) (text : ℕ → Spelling → List ℕ) (stops : ℕ → List ℕ → Fault → Option (List ℕ) → Option (List ℕ) → Type 0) (n : ℕ)
     (input : List ℕ) (before after : Option (List ℕ)) (fault : Fault) : Type 0 where
   pub items : List Spelling
@@ -34,7 +35,7 @@ pub record AreStopped (takes : Spelling → Type 0) (text : ℕ → Spelling →
   pub index : ℕ
   pub start : ℕ
   pub goes_on : GoesOn takes n input items rest index start
-  -- what the output had taken by then
+  -- the content of the output by then
   pub middle : Option (List ℕ)
   pub written : Appends before middle (texts_from text 0 items)
   -- why
@@ -49,7 +50,7 @@ pub record AreWrittenOf (takes : Spelling → Type 0) (text : ℕ → Spelling �
   pub is : IsInput held source options.hex input
   pub written : AreWritten takes text options.limits.bytes input before after count
 
--- the input is not to be had, or not further than these items, which are taken and whose texts were written
+-- the input cannot be read, or not further than these accepted items, whose texts were written
 pub record AreWrittenSoFar (takes : Spelling → Type 0) (text : ℕ → Spelling → List ℕ) (options : Options) (source : List ℕ) (held : Option Files)
     (before after : Option (List ℕ)) : Type 0 where
   pub items : List Spelling
@@ -62,9 +63,9 @@ pub data AreStoppedOf (takes : Spelling → Type 0) (text : ℕ → Spelling →
   -- there is no input, or no more of it
   no_input : IsNoInput held source options.hex fault → AreWrittenSoFar takes text options source held before after
       → AreStoppedOf takes text stops options source held before after fault
-  -- an item of its prefix is not taken, and then it is found that there is none
+  -- an item of its prefix is not accepted, and then the input is found to be missing
   behind_no_input : IsNoInput held source options.hex fault → (prefix : List ℕ) → IsPrefix held source options.hex prefix → (cause : Fault)
       → AreStopped takes text stops options.limits.bytes prefix before after cause → AreStoppedOf takes text stops options source held before after fault
-  -- an item of it is not taken
+  -- an item is not accepted
   within : (input : List ℕ) → IsInput held source options.hex input → AreStopped takes text stops options.limits.bytes input before after fault
       → AreStoppedOf takes text stops options source held before after fault

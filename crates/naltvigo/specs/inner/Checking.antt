@@ -1,12 +1,12 @@
--- What the strict check of a whole input answers.
+-- What the strict check of a whole input returns.
 use Rattle.std.specs.Prelude.{ℕ, ◌≢◌, List, length}
 use Rattle.cbor_head.specs.{Prelude.Bounds, Prelude.strict, declared.order.KeyOrder.KeyOrder, declared.reason.Reason.TheVariants.Memory}
 use Rattle.cbor_head.specs.declared.reason.Refusal.{Refusal}
-use Rattle.cbor_verdict.specs.Readers.{IsRead, IsCanonicalPrefix}
+use Rattle.theory_verdicts.specs.Readers.{IsRead, IsCanonicalPrefix}
 use Rattle.cbor_reader.specs.{Canonicalise.IsCanonicalOf, WholeItem.IsItemRefusal}
 use Rattle.naltvigo.specs.Checking.{HasNoWholePrefix}
 
--- the input is its own answer
+-- the input is its own result
 pub record IsOwnAnswer (limits : Bounds) (o : KeyOrder) (input : List ℕ) : Type 0 where
   pub own : IsCanonicalOf limits o input input
   pub accepted : IsRead limits (strict o) input (length input)

@@ -1,11 +1,11 @@
--- What filling a table answers.
+-- What filling a table returns.
 use Rattle.std.specs.Prelude.{ℕ, ◌≡◌, ◌<◌, ◌≤◌, ◌^◌, List, length, take, drop}
 use Rattle.cbor_head.specs.{Prelude.Bounds, declared.order.KeyOrder.KeyOrder}
 use Rattle.cbor_reader.specs.Canonicalise.{IsCanonicalOf}
 use Rattle.cbor_cursor.specs.declared.placed.PlacedItem.{PlacedItem}
 use Rattle.naltvigo.specs.Items.{IsTableOf}
 
--- the input is its own answer, its table has so many entries, and is there if they have space
+-- the input is its own result, its table has this number of entries, and is written if they fit
 pub record IsIndexed (limits : Bounds) (o : KeyOrder) (input : List ℕ) (old new : List PlacedItem) (count : ℕ) : Type 0 where
   pub own : IsCanonicalOf limits o input input
   pub entries : List PlacedItem

@@ -1,6 +1,6 @@
 use Rattle.std.proofs.Common.{◌-◌, ◌∷◌, length, length-take, take, get_or, map, refl, sym, subst, arith, IsPermutation}
 use Rattle.std.proofs.lemmas.List.{drop_all, Sorted.IsPermutation-insert}
-use Rattle.cbor_model.{proofs.KeyByteLists.are_bytes, proofs.Orders.tied, specs.Pairs.IsRising}
+use Rattle.theory_values.{proofs.KeyByteLists.are_bytes, proofs.Orders.tied, specs.Pairs.IsRising}
 use Rattle.cbor_output.specs.Spans.{span_pair, no_span}
 use Rattle.cbor_builder.proofs.Inserted.{AreAbove, AreBelow, free_place, set_free, above_more, none_below, below_all, inserted_rises, has_key_at, visited, less_key, greater_key}
 use Rattle.cbor_builder.proofs.insertion.insert.Goals as goal

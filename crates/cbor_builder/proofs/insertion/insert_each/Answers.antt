@@ -1,7 +1,7 @@
 use Rattle.std.proofs.Common.{◌≡◌, ℕ, ◌+◌, ◌++◌, ◌∷◌, List, length, length-take, take, take-append-drop, drop, get_or, map, refl, sym, ◌∙◌, subst, arith, IsPermutation, take_all}
 use Rattle.std.proofs.lemmas.List.Sorted.{IsPermutation-sym, IsPermutation-map, IsPermutation-append_left}
 use Rattle.std.proofs.lemmas.List.{get_or_default}
-use Rattle.cbor_model.{specs.Pairs.IsRising, proofs.Sorting.rising_distinct, proofs.Decided.holds, proofs.Decided.fails}
+use Rattle.theory_values.{specs.Pairs.IsRising, proofs.Sorting.rising_distinct, proofs.Decided.holds, proofs.Decided.fails}
 use Rattle.cbor_output.{specs.Spans.span_pair, specs.Spans.no_span, specs.declared.span.Span.Span, proofs.ByIndex.all_index}
 use Rattle.cbor_builder.specs.inner.Prefix.{key_of, IsPrefixed, ArePrefixed}
 use Rattle.cbor_builder.proofs.Inserted.{at_start_taken, taken_prefix, rest_prefix, same_at, rest_more, all_taken, more_permuted, repeats}
@@ -21,7 +21,7 @@ insert-requires-clause-next c =
     let same = same_at i c.loop-i.spans c.args.spans.now no_span c.loop-i.invariant.2 in
     subst (IsPrefixed c.args.bytes.now) (sym same) (all_index _ c.args.spans.now i no_span c.requires (omega arith))
 
--- the first ones are put in order among themselves, and the others stay
+-- the first ones are sorted among themselves, and the others are unchanged
 whole : (n : ℕ) (given us ys : List Span) → IsPermutation (take n given) ys → drop n us ≡ drop n given → IsPermutation given (ys ++ drop n us)
 whole n given us ys m e = coe 1 0 (i. IsPermutation (sym (take-append-drop n given) i) (ys ++ e i)) (IsPermutation-append_left (drop n given) (take n given) ys m)
 

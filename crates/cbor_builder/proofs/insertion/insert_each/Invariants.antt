@@ -1,5 +1,5 @@
 use Rattle.std.proofs.Common.{◌≡◌, map, take, drop, IsPermutation}
-use Rattle.cbor_model.specs.Pairs.{IsRising}
+use Rattle.theory_values.specs.Pairs.{IsRising}
 use Rattle.cbor_output.specs.Spans.{span_pair}
 use Rattle.cbor_builder.proofs.insertion.insert_each.Given as goal
 

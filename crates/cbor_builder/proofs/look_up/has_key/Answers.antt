@@ -1,5 +1,5 @@
 use Rattle.std.proofs.Common.{List, ℕ, ◌∷◌, ◌++◌, [], map, subst}
-use Rattle.cbor_model.{proofs.Decided.fails, specs.Pairs.IsRising}
+use Rattle.theory_values.{proofs.Decided.fails, specs.Pairs.IsRising}
 use Rattle.cbor_output.specs.{Spans.span_pair, declared.span.Span.Span}
 use Rattle.cbor_builder.proofs.look_up.has_key.Goals as goal
 use Rattle.cbor_builder.proofs.LookUp.{above_other}

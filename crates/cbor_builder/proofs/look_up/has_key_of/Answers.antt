@@ -1,5 +1,5 @@
 use Rattle.std.proofs.Common.{inl, sym, ◌∙◌, arith}
-use Rattle.cbor_model.proofs.{Decided.holds, Decided.fails, KeyByteLists.are_bytes}
+use Rattle.theory_values.proofs.{Decided.holds, Decided.fails, KeyByteLists.are_bytes}
 use Rattle.cbor_builder.proofs.LookUp.{key_step, no_key_left, passed}
 use Rattle.cbor_builder.proofs.look_up.has_key_of.Goals as goal
 

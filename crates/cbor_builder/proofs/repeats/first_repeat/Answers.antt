@@ -1,6 +1,6 @@
 use Rattle.std.proofs.Common.{ℕ, Option, map, sym, subst, arith, MatchOption, ◌==◌}
 use Rattle.std.proofs.lemmas.List.Sums.{count_by-le-length}
-use Rattle.cbor_model.proofs.KeyByteLists.{are_bytes}
+use Rattle.theory_values.proofs.KeyByteLists.{are_bytes}
 use Rattle.cbor_builder.proofs.FirstRepeat.{bit_most, none_reported, one_reported, placed}
 use Rattle.cbor_builder.proofs.repeats.first_repeat.Goals as goal
 use Rattle.cbor_builder.specs.{Built.AreAllDifferent, Built.IsFirstRepeat, inner.Prefix.key_of, inner.Repeats.lies_before}

@@ -1,6 +1,6 @@
 use Rattle.std.proofs.Common.{◌≡◌, ◌+◌, ◌-◌, ◌≤◌, length, min, max, sym, ◌∙◌, subst, arith}
 use Rattle.std.proofs.lemmas.Bool.{eqb-false}
-use Rattle.cbor_model.proofs.KeyByteLists.{are_bytes}
+use Rattle.theory_values.proofs.KeyByteLists.{are_bytes}
 use Rattle.cbor_builder.specs.inner.Repeats.{IsFirstTie, IsLeastOfKey, IsFirstOf}
 use Rattle.cbor_builder.proofs.Ties.{tie_alone, tie_passed, tie_visited}
 use Rattle.cbor_builder.proofs.repeats.first_tie.Goals as goal

@@ -1,6 +1,6 @@
 use Rattle.std.proofs.Common.{◌≡◌, ◌≢◌, ◌-◌, suc, inl, inr, sym, ap, ◌∙◌, subst, arith}
 use Rattle.std.proofs.lemmas.Bool.{cases_lt}
-use Rattle.cbor_model.proofs.{Decided.holds, Decided.fails, KeyByteLists.are_bytes}
+use Rattle.theory_values.proofs.{Decided.holds, Decided.fails, KeyByteLists.are_bytes}
 use Rattle.cbor_builder.proofs.sort.differ.Goals as goal
 use Rattle.cbor_builder.{specs.inner.Prefix.key_of, specs.inner.Repeats.nth, proofs.Ranks.compared}
 

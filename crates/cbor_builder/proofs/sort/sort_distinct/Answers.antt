@@ -1,6 +1,6 @@
 use Rattle.std.proofs.Common.{map, arith, IsTrue}
 use Rattle.std.proofs.lemmas.List.Sorted.{IsPermutation-sym, IsPermutation-map}
-use Rattle.cbor_model.{specs.Pairs.IsRising, proofs.KeyByteLists.are_bytes, proofs.Sorting.rising_distinct}
+use Rattle.theory_values.{specs.Pairs.IsRising, proofs.KeyByteLists.are_bytes, proofs.Sorting.rising_distinct}
 use Rattle.cbor_output.specs.Spans.{span_pair}
 use Rattle.cbor_builder.proofs.sort.sort_distinct.Goals as goal
 use Rattle.cbor_builder.proofs.{Ranks.all_permuted, Ranks.sorted_keys, Neighbours.differ_from_distinct, Neighbours.rising_from_differ}

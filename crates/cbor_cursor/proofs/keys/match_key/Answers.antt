@@ -1,7 +1,7 @@
 use Rattle.std.proofs.Common.{◌++◌, ap, arith}
 use Rattle.std.{specs.Ordering.is_lt, proofs.lemmas.Cmp.tied_itself}
 use Rattle.cbor_head.specs.{declared.order.KeyOrder.TheVariants.Bytewise, Prelude.key_cmp}
-use Rattle.cbor_model.proofs.Orders.{key_cmp_total, lt_irrefl, lt_trans}
+use Rattle.theory_values.proofs.Orders.{key_cmp_total, lt_irrefl, lt_trans}
 use Rattle.cbor_cursor.proofs.keys.match_key.Goals as goal
 use Rattle.cbor_cursor.proofs.LaterKeys.{starts_less}
 

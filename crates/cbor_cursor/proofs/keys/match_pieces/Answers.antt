@@ -1,7 +1,7 @@
 use Rattle.std.proofs.Common.{◌<◌, ◌++◌, length, refl, sym, ap, arith, length-append}
 use Rattle.std.{proofs.lemmas.Cmp.tied_itself, specs.Ordering.is_lt}
 use Rattle.cbor_head.specs.{declared.order.KeyOrder.TheVariants.Bytewise, declared.order.KeyOrder.TheVariants.LengthFirst, Prelude.key_cmp}
-use Rattle.cbor_model.proofs.Orders.{key_cmp_total, tied, lt_irrefl, lt_trans}
+use Rattle.theory_values.proofs.Orders.{key_cmp_total, tied, lt_irrefl, lt_trans}
 use Rattle.cbor_cursor.proofs.keys.match_pieces.Goals as goal
 use Rattle.cbor_cursor.proofs.keys.match_pieces.Goals.{then-stored-head-via-then-stored-head, then-stored-head-via-else-stored-head+then-stored-head-2}
 use Rattle.cbor_cursor.proofs.LaterKeys.{after_in_both, shorter_first}

@@ -21,8 +21,8 @@ returns-in_ok-write_all-in-Ok g c =
     (same ∙ c.in_ok-text-in-Ok.ensures) (sym c.if-has_hidden.ensures) c.in_ok-write_all-in-Ok.ensures.bytes)
     c.write_all-in-Ok.ensures.bytes
 
-pub returns-in-Err : goal.returns-in-Err
-returns-in-Err g c =
+pub returns-in_default : goal.returns-in_default
+returns-in_default g c =
     let limits = rw c.unwrap-short.ensures at c.new.ensures.value in
-    let key = unread_key c.args.item.now c.args.place c.min-start.result _ c.min-start.ensures limits _ c.in-Err.ensures.refused in
-    on_ok_weaker c.write-in-Err.result (just (IsKeyText c.args.item.now c.args.place) _ _ _ key) c.write-in-Err.ensures.bytes
+    let key = unread_key c.args.item.now c.args.place c.min-start.result _ c.min-start.ensures limits _ c.in-Err.ensures.refused c.in_default.not-Memory in
+    on_ok_weaker c.write-in_default.result (just (IsKeyText c.args.item.now c.args.place) _ _ _ key) c.write-in_default.ensures.bytes

@@ -1,5 +1,5 @@
 use Rattle.std.proofs.Common.{take, subst, sym, get_or, arith, take_all}
-use Rattle.std.proofs.lemmas.{List.take_more, Result.on_ok_weaker}
+use Rattle.std.proofs.lemmas.List.{take_more}
 use Rattle.cbor_diag.proofs.PathSteps.{HasWritten, one_more, path_written}
 use Rattle.cbor_diag.proofs.path_text.write_path.Goals as goal
 use Rattle.cbor_diag.specs.declared.item_path.Step.TheVariants.{Member}
@@ -14,7 +14,5 @@ loop-step-preserved g c =
 pub returns : goal.returns
 returns g c =
     let all = take_all c.loop-step.step-index c.args.way.now (omega (arith, c.loop-step-test.false)) in
-    on_ok_weaker c.write_all-2.result
-    (path_written c.args.item.now c.args.way.now _ _ _
-    (subst (λ done. HasWritten c.args.item.now done (g.W.Write.contents c.args.writer.now) (g.W.Write.contents c.loop-step.writer)) all c.loop-step.invariant))
-    c.write_all-2.ensures.bytes
+    path_written c.args.item.now c.args.way.now _ _
+    (subst (λ done. HasWritten c.args.item.now done (g.W.Write.contents c.args.writer.now) (g.W.Write.contents c.loop-step.writer)) all c.loop-step.invariant)

@@ -1,4 +1,4 @@
-use Rattle.cbor_automaton.proofs.Longest.{longest_exists}
+use Rattle.theory_automaton.proofs.Longest.{longest_exists}
 use Rattle.cbor_events.proofs.laws.longest_beginning.Goals as goal
 
 pub returns : goal.returns

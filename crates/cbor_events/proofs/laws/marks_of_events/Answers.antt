@@ -1,4 +1,4 @@
-use Rattle.cbor_automaton.proofs.Rows.{events-row}
+use Rattle.theory_automaton.proofs.Rows.{events-row}
 use Rattle.cbor_events.proofs.laws.marks_of_events.Goals as goal
 
 pub returns-clause-marks : goal.returns-clause-marks

@@ -1,5 +1,5 @@
 use Rattle.std.proofs.Common.{◌≤◌, ◌+◌, length, take, ℕ, List}
-use Rattle.cbor_automaton.specs.{Trace.Mark, Marks.marks_of}
+use Rattle.theory_automaton.specs.{Trace.Mark, Marks.marks_of}
 use Rattle.cbor_machine.proofs.Feeding.{goes-on, more-answers, rest_from, split-rest, split-whole, fits-rest}
 use Rattle.cbor_machine.specs.Machine.{StandsFor}
 use Rattle.cbor_events_tests.proofs.tests.feed.Goals as goal

@@ -1,5 +1,5 @@
 use Rattle.std.proofs.Common.{ap, []}
-use Rattle.cbor_model.specs.Parts.{an_array, a_map}
+use Rattle.theory_values.specs.Parts.{an_array, a_map}
 use Rattle.cbor_builder.specs.Built.{Built}
 use Rattle.cbor_item.proofs.encoding.begin.Goals as goal
 use Rattle.cbor_item.proofs.Walk.{opens_array, opens_map}

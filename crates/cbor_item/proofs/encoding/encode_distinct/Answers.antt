@@ -1,6 +1,6 @@
 use Rattle.std.proofs.Common.{◌≡◌, ◌∷◌, List, map, reverse, subst, Some, None, sym, ap, option_map}
 use Rattle.cbor_head.specs.Prelude.{Value}
-use Rattle.cbor_model.proofs.Decided.{fails}
+use Rattle.theory_values.proofs.Decided.{fails}
 use Rattle.cbor_item.proofs.encoding.encode_distinct.Goals as goal
 use Rattle.cbor_item.proofs.Walk.{Walks, not_valid, walks_begun, walks_ended, walks_given}
 use Rattle.cbor_item.{specs.inner.Rest.left, specs.inner.Walk.IsBegun, proofs.Rests.popped, proofs.Rests.pushed}

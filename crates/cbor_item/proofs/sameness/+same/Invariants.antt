@@ -4,7 +4,7 @@ use Rattle.cbor_item.proofs.sameness.+same.Given as goal
 use Rattle.cbor_item.specs.inner.Walk.{size, size_all, size_entries}
 use Rattle.cbor_item.specs.Nodes.{entries_in, values_in}
 
--- what a call looks at gets smaller
+-- the arguments of a call get smaller
 abbrev pub decreases-is_same : goal.decreases-is_same
 decreases-is_same g l = 4 * size (g.N.Node.value l.a.now)
 
@@ -20,7 +20,7 @@ decreases-find g l = 4 * (size (g.N.Node.value l.key.now) + size (g.N.Node.value
 abbrev pub decreases-find_between : goal.decreases-find_between
 decreases-find_between g l = 4 * (size (g.N.Node.value l.key.now) + size (g.N.Node.value l.value.now)) + 1
 
--- what is left decides the whole
+-- the rest decides the whole
 abbrev pub invariant-are_same-loop-i : goal.invariant-are_same-loop-i
 invariant-are_same-loop-i g l = record {
   left : SameValues (values_in g.N.Node.value l.xs) (values_in g.N.Node.value l.ys) ↔ SameValues (values_in g.N.Node.value (drop l.i l.xs)) (values_in g.N.Node.value (drop l.i l.ys));

@@ -1,7 +1,7 @@
 use Rattle.std.proofs.Common.{◌≤◌, ◌↔◌, length, take}
 use Rattle.std.specs.List.{AllByRecursion}
 use Rattle.cbor_head.specs.{Prelude.IsInRange, Prelude.AreInRange, Value.depth}
-use Rattle.cbor_model.specs.Lists.{values_of}
+use Rattle.theory_values.specs.Lists.{values_of}
 use Rattle.cbor_item.proofs.within.is_nested_in.Given as goal
 use Rattle.cbor_item.specs.{inner.Texts.HasUtf8Texts, inner.Texts.HaveUtf8Texts, View.view, inner.Rest.left_of_all, inner.Walk.weight_of_all}
 use Rattle.cbor_item.specs.inner.Within.{AreWithin}

@@ -1,5 +1,5 @@
 use Rattle.std.proofs.Common.{arith, length, ap, ◌∙◌, sym}
-use Rattle.cbor_automaton.{specs.Automaton.reached, proofs.Runs.run-next, proofs.Runs.once-marks}
+use Rattle.theory_automaton.{specs.Automaton.reached, proofs.Runs.run-next, proofs.Runs.once-marks}
 use Rattle.cbor_machine.proofs.feed.walk_bytes.Goals as goal
 use Rattle.cbor_machine.{specs.State.state_of, proofs.Frames.wanted-head, proofs.Frames.still-going}
 

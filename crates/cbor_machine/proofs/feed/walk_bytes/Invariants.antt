@@ -1,5 +1,5 @@
 use Rattle.std.proofs.Common.{◌≡◌, ◌≤◌, ◌+◌, [], length, take, false}
-use Rattle.cbor_automaton.specs.Automaton.{run, reached}
+use Rattle.theory_automaton.specs.Automaton.{run, reached}
 use Rattle.cbor_machine.specs.State.{state_of, IsFit, IsSettled, head_left, is_done}
 use Rattle.cbor_machine.proofs.feed.walk_bytes.Given as goal
 

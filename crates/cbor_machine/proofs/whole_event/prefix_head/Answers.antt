@@ -1,5 +1,5 @@
 use Rattle.std.proofs.Common.{◌≡◌, ◌∙◌, length, sym, ap, arith, refl, inl, inr}
-use Rattle.cbor_automaton.{specs.Automaton.has_space, proofs.Rows.definite}
+use Rattle.theory_automaton.{specs.Automaton.has_space, proofs.Rows.definite}
 use Rattle.cbor_machine.proofs.whole_event.prefix_head.Goals as goal
 use Rattle.cbor_machine.{proofs.WholeHeads.direct_alone, proofs.WholeHeads.space_begins, specs.State.frames_of}
 

@@ -1,5 +1,5 @@
 use Rattle.std.proofs.Common.{ℕ, ◌∙◌, take, ap, sym, subst}
-use Rattle.cbor_automaton.specs.Automaton.{at_item, has_space}
+use Rattle.theory_automaton.specs.Automaton.{at_item, has_space}
 use Rattle.cbor_machine.proofs.whole_event.take_head.Goals as goal
 use Rattle.cbor_machine.specs.{State.frames_of, State.state_of, Whole.IsEventRun, Token.kind_of, declared.token.Token.TheVariants.Simple}
 use Rattle.cbor_machine.proofs.WholeHeads.{numbered-run, simple-run}

@@ -1,5 +1,5 @@
 use Rattle.std.proofs.Common.{◌+◌, ◌∙◌, take, length, arith, sym, ap, refl, replicate, length-take-le}
-use Rattle.cbor_automaton.{specs.Automaton.reached, specs.Trace.a_byte, proofs.Runs.piece_part, proofs.Runs.piece_last}
+use Rattle.theory_automaton.{specs.Automaton.reached, specs.Trace.a_byte, proofs.Runs.piece_part, proofs.Runs.piece_last}
 use Rattle.cbor_machine.proofs.whole_event.whole_piece.Goals as goal
 use Rattle.cbor_machine.specs.State.{frames_of, major_of}
 

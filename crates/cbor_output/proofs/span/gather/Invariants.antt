@@ -1,5 +1,5 @@
 use Rattle.std.proofs.Common.{◌≡◌, ◌++◌, length, take, drop, map, flat_map}
-use Rattle.cbor_model.specs.Pairs.{pair_bytes}
+use Rattle.theory_values.specs.Pairs.{pair_bytes}
 use Rattle.cbor_output.proofs.span.gather.Given as goal
 use Rattle.cbor_output.specs.Spans.{span_pair}
 

@@ -1,6 +1,6 @@
 use Rattle.std.proofs.Common.{◌≡◌, List, ℕ, take, sym, ap, ◌∙◌, subst, arith, length, length-take}
 use Rattle.cbor_head.specs.Prelude.{strict}
-use Rattle.cbor_verdict.{specs.Stop.IsRefused, specs.Stop.IsAnswered, proofs.PathVerdict.accepts}
+use Rattle.theory_verdicts.{specs.Stop.IsRefused, specs.Stop.IsAnswered, proofs.PathVerdict.accepts}
 use Rattle.cbor_parser.proofs.canonical.canonical_prefix.Goals as goal
 use Rattle.cbor_parser.{specs.inner.Cells.IsWhole, proofs.CanonicalStops.not_canonical}
 

@@ -1,8 +1,8 @@
 use Rattle.std.proofs.Common.{◌∷◌, [], refl, sym, inl, subst, arith}
 use Rattle.std.proofs.lemmas.Bool.{false≢true}
 use Rattle.cbor_head.specs.Prelude.{strict}
-use Rattle.cbor_model.proofs.KeyByteLists.{are_bytes}
-use Rattle.cbor_verdict.proofs.KindFrames.{keeps_start}
+use Rattle.theory_values.proofs.KeyByteLists.{are_bytes}
+use Rattle.theory_verdicts.proofs.KindFrames.{keeps_start}
 use Rattle.cbor_parser.proofs.canonical.whole_prefix.Goals as goal
 use Rattle.cbor_parser.{specs.inner.Cells.StrictCell, specs.inner.StrictRules.Expect, proofs.Taking.start_place, proofs.Taking.leaf_is_whole}
 use Rattle.cbor_parser.proofs.StrictPlaces.{starts}

@@ -1,9 +1,9 @@
 use Rattle.std.proofs.Common.{◌∙◌, ◌+◌, Bool, length, refl, sym, ap, subst, arith}
 use Rattle.std.proofs.lemmas.List.{nil_from_length, take_rest}
 use Rattle.cbor_head.specs.Prelude.{major_number}
-use Rattle.cbor_model.proofs.ByteLists.{are_bytes}
-use Rattle.cbor_verdict.proofs.RefusedChunks.{AreChunksRead, chunks_end_here, chunk_head_cut_here, no_chunk_here}
-use Rattle.cbor_verdict.specs.Reading.{string_major}
+use Rattle.theory_values.proofs.ByteLists.{are_bytes}
+use Rattle.theory_verdicts.proofs.RefusedChunks.{AreChunksRead, chunks_end_here, chunk_head_cut_here, no_chunk_here}
+use Rattle.theory_verdicts.specs.Reading.{string_major}
 use Rattle.cbor_parser.proofs.ChunkStops.{chunk_fault_here, chunk-head, chunk-text, text-chunk}
 use Rattle.cbor_parser.proofs.chunk_refusal.chunks_fault.Goals as goal
 use Rattle.cbor_parser.proofs.chunk_refusal.chunks_fault.Goals.{then-is_text, else-is_text, then-first-kind-via-then-first-kind, then-first-kind-via-else-first-kind+then-low-gt27}

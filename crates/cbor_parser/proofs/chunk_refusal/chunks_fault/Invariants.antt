@@ -1,6 +1,6 @@
 use Rattle.std.proofs.Common.{◌≡◌, length}
 use Rattle.cbor_head.specs.Prelude.{major_number}
-use Rattle.cbor_verdict.{specs.Reading.string_major, proofs.RefusedChunks.AreChunksRead}
+use Rattle.theory_verdicts.{specs.Reading.string_major, proofs.RefusedChunks.AreChunksRead}
 use Rattle.cbor_parser.proofs.chunk_refusal.chunks_fault.Given as goal
 use Rattle.cbor_parser.specs.inner.Parts.{chunked_from}
 

@@ -1,5 +1,5 @@
 use Rattle.std.proofs.{Common.false, Common.arith, lemmas.List.take_rest}
-use Rattle.cbor_model.proofs.KeyByteLists.{are_bytes}
+use Rattle.theory_values.proofs.KeyByteLists.{are_bytes}
 use Rattle.cbor_parser.proofs.fast_item.string.Goals as goal
 use Rattle.cbor_parser.proofs.ShortLeaves.{short-bytes, short-text}
 

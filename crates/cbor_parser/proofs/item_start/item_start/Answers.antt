@@ -1,9 +1,9 @@
 use Rattle.std.proofs.Common.{◌≡◌, ◌⊎◌, ℕ, ◌+◌, ◌-◌, ◌%◌, ◌<◌, ◌≤◌, true, List, [], ◌∷◌, length, take, get_or, refl, sym, ap, ◌∙◌, subst, inl, inr, arith, length-take-le}
 use Rattle.std.proofs.lemmas.{Bool.cases_lt, Bool.false≢true, List.nil_from_length}
 use Rattle.cbor_head.specs.Prelude.{AreBytes, shortest}
-use Rattle.cbor_model.proofs.KeyByteLists.{are_bytes}
-use Rattle.cbor_verdict.proofs.RefusedHere.{cut_here, no_simple_here, long_here}
-use Rattle.cbor_verdict.specs.PathKinds.{IsFitPrefix, IsOtherPrefix}
+use Rattle.theory_values.proofs.KeyByteLists.{are_bytes}
+use Rattle.theory_verdicts.proofs.RefusedHere.{cut_here, no_simple_here, long_here}
+use Rattle.theory_verdicts.specs.PathKinds.{IsFitPrefix, IsOtherPrefix}
 use Rattle.cbor_parser.specs.declared.item_start.ItemStart.TheVariants as starts
 use Rattle.cbor_parser.proofs.AnyItem.{any_leaf, a_tag, an_array, a_map, an_empty, a_text, some_bytes}
 use Rattle.cbor_parser.proofs.Faults.{texts_asked, kinds_asked, heads_asked, quiet_head, fault_same, cut_off, fault_initial_byte_error, fault_of_kind, fault_of, string_fault, indefinite_fault}
@@ -14,11 +14,11 @@ use Rattle.cbor_parser.proofs.item_start.item_start.Goals.{else-first-2-via-then
 use Rattle.cbor_parser.specs.{Strings.IsStringHead, declared.container.Expected.TheVariants.Item, declared.container.Expected.TheVariants.Key}
 use Rattle.cbor_parser.proofs.AnyRefusals.{answers}
 
--- a break stands there only where none may
+-- a break is there only if none is allowed
 no_break : (c : After-initial_byte_error) → c.in-Some.first.now ≡ 0xff → c.args.here.may_break ≡ true → ⊥
 no_break c e m = elim c.else-first.branch [ else-first-via-then-first+else-here w ↦ false≢true (sym w.if-here.false ∙ m) | else-first-via-else-first w ↦ w.if-first.false e ]
 
--- a key is of the kinds that are asked for
+-- a key is of the kinds that are allowed
 fit : (c : Joined-else-here-2) → c.args.here.is_key ≡ true → IsFitPrefix (c.in-Some.first.now ∷ c.in-Some.behind.now)
 fit c e = elim c.else-here-2.branch [
   | else-here-2-via-then-here-2+else-begins_other_kind w ↦ subst IsFitPrefix c.in-Some.ensures.cases.0 (w.begins_other_kind.ensures.fits w.if-begins_other_kind.false)
@@ -29,7 +29,7 @@ fit c e = elim c.else-here-2.branch [
 wide : (c : Joined-else-first-2) → c.in-Some.first.now ≡ 0xf8 → 32 ≤ c.in-Some-read_argument.head.number
 wide c e = elim c.else-first-2.branch [ else-first-2-via-then-first-2+else-head-lt32 w ↦ w.if-head-lt32.false | else-first-2-via-else-first-2 w ↦ absurd (w.if-first-2.false e) ]
 
--- the head is the shortest, where that is asked
+-- the head is the shortest, if that is required
 short : (c : Joined-else-is_strict) → c.args.is_strict ≡ true → c.in-Some-read_argument.head.width ≡ shortest c.in-Some-read_argument.head.number
 short c e = elim c.else-is_strict.branch [
   | else-is_strict-via-then-is_strict+else-not-is_shortest w ↦ w.is_shortest.ensures.0 w.if-not-is_shortest.false
@@ -111,7 +111,7 @@ returns-then-first-lt64-clause-taken c = λ strict unbroken.
     (any_leaf a.here.space c.in-Some.first.now c.in-Some.behind.now h.width h.number h.rest.now e.spelled e.fewer (short at.Joined-else-is_strict strict) used (ap (λ (x : List ℕ). length x - length h.rest.now) split) c.in_default-initial_byte_error.ensures
     (wide at.Joined-else-first-2) kind)
 
--- the string whose head stands there
+-- the string whose head is there
 string_head : (c : Then-first-lt128) → IsStringHead c.args.rest.now c.in-Some-read_argument.head
 string_head c =
     let low : 64 ≤ c.in-Some.first.now = c.if-first-lt64.false in

@@ -1,5 +1,5 @@
 use Rattle.cbor_head.specs.Prelude.{plain}
-use Rattle.cbor_verdict.proofs.Accepted.{item_within_limit}
+use Rattle.theory_verdicts.proofs.Accepted.{item_within_limit}
 use Rattle.cbor_reader.proofs.Headline.{prefix_range, prefix_valid, prefix_depth, prefix_keys}
 use Rattle.cbor_reader.proofs.laws.plainly_accepted_values.Goals as goal
 

@@ -1,5 +1,5 @@
 use Rattle.cbor_head.specs.Prelude.{accepted, refused}
-use Rattle.cbor_verdict.proofs.Further.{further}
+use Rattle.theory_verdicts.proofs.Further.{further}
 use Rattle.cbor_reader.proofs.laws.prefixes_decide.Goals as goal
 
 pub returns-clause-accepted : goal.returns-clause-accepted

@@ -1,4 +1,4 @@
-use Rattle.cbor_verdict.proofs.Within.{verdict_within}
+use Rattle.theory_verdicts.proofs.Within.{verdict_within}
 use Rattle.cbor_reader.proofs.laws.refusals_stand_within_the_input.Goals as goal
 use Rattle.cbor_reader.proofs.{CanonicaliserRefusals.refusal_within, Readings.unread_within}
 

@@ -1,4 +1,4 @@
-use Rattle.cbor_model.proofs.PlainVerdicts.{accepted_plainly, refused_plainly}
+use Rattle.theory_values.proofs.PlainVerdicts.{accepted_plainly, refused_plainly}
 use Rattle.cbor_reader.proofs.laws.strict_verdicts_are_plain.Goals as goal
 
 pub returns : goal.returns

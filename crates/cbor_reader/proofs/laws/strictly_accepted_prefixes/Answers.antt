@@ -1,6 +1,6 @@
 use Rattle.std.proofs.Common.{◌∙◌}
 use Rattle.cbor_head.specs.Prelude.{value_of}
-use Rattle.cbor_verdict.proofs.CanonicalPrefixes.{strict_bytes, strict_value, strict_accepts, one_prefix}
+use Rattle.theory_verdicts.proofs.CanonicalPrefixes.{strict_bytes, strict_value, strict_accepts, one_prefix}
 use Rattle.cbor_reader.proofs.laws.strictly_accepted_prefixes.Goals as goal
 
 pub returns-clause-accepted : goal.returns-clause-accepted

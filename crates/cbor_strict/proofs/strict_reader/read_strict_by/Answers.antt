@@ -1,6 +1,6 @@
 use Rattle.std.proofs.{Common.subst, Common.Ok, lemmas.Option.IfSome_then}
 use Rattle.cbor_head.specs.Prelude.{strict}
-use Rattle.cbor_verdict.proofs.{Accepted.verdict_only, CanonicalPrefixes.prefix_read, CanonicalPrefixes.prefix_refused}
+use Rattle.theory_verdicts.proofs.{Accepted.verdict_only, CanonicalPrefixes.prefix_read, CanonicalPrefixes.prefix_refused}
 use Rattle.cbor_strict.specs.StrictReader.{IsNextStrict, limits_of, strict_call}
 use Rattle.cbor_strict.proofs.StrictLoop.{runs_first, runs_on, runs_farther, runs_limits, runs_out, runs_stop}
 use Rattle.cbor_strict.proofs.strict_reader.read_strict_by.Goals as goal

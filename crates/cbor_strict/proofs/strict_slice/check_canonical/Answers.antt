@@ -1,7 +1,7 @@
 use Rattle.std.proofs.Common.{sym, subst}
 use Rattle.cbor_head.specs.Prelude.{strict, IsVerdict, refused}
 use Rattle.cbor_head.specs.declared.reason.Refusal.{Refusal}
-use Rattle.cbor_verdict.proofs.CanonicalPrefixes.{prefix_read, prefix_refused}
+use Rattle.theory_verdicts.proofs.CanonicalPrefixes.{prefix_read, prefix_refused}
 use Rattle.cbor_strict.proofs.strict_slice.check_canonical.Goals as goal
 
 pub returns-in-Ok-clause-canonical : goal.returns-in-Ok-clause-canonical

@@ -1,8 +1,8 @@
 use Rattle.std.proofs.Common.{◌∙◌, subst, sym, arith}
+use Rattle.cbor_head.specs.declared.event.EventKind.TheVariants as kinds
 use Rattle.cbor_head.specs.Prelude.{plain}
-use Rattle.cbor_automaton.specs.declared.event.EventKind.TheVariants as kinds
 use Rattle.cbor_builder.specs.Built.{IsLeaf}
-use Rattle.cbor_verdict.specs.Reading.{ReadsItem}
+use Rattle.theory_verdicts.specs.Reading.{ReadsItem}
 use Rattle.cbor_tree_reader.proofs.item_part.read_part.Goals as goal
 use Rattle.cbor_tree_reader.proofs.PartPlaces.{come-begun, OfLeaf, leaf-read}
 use Rattle.cbor_tree_reader.{specs.inner.PlainParts.BeginsString, proofs.PartKinds.head-item}

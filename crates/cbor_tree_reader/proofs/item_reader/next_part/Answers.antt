@@ -1,6 +1,6 @@
 use Rattle.std.proofs.Common.{◌++◌, ◌∙◌, ℕ, slice_get, map, ap, refl, inr, arith, length-append}
 use Rattle.cbor_head.specs.{Prelude.plain, Prelude.refusal, declared.reason.Reason.TheVariants.RepeatedKey, declared.reason.Refusal.Refusal}
-use Rattle.cbor_verdict.{specs.Levels.frame, proofs.Steps.at-reached, proofs.RefusedBehind.stopped_behind}
+use Rattle.theory_verdicts.{specs.Levels.frame, proofs.Steps.at-reached, proofs.RefusedBehind.stopped_behind}
 use Rattle.cbor_tree_reader.proofs.PartsTaken.{refused-part, came, part-taken, part-fits, part-no-memory}
 use Rattle.cbor_tree_reader.proofs.item_reader.next_part.Goals as goal
 use Rattle.cbor_tree_reader.proofs.{TreeValues.tree-takes, PartEnds.repeated-key, PartEnds.goes-or-not}

@@ -1,6 +1,6 @@
 use Rattle.std.proofs.Common.{[], ◌∙◌, subst, sym, arith}
 use Rattle.cbor_head.specs.Prelude.{plain, Value}
-use Rattle.cbor_verdict.proofs.{RefusedBehind.stopped_prefix, Tops.starts-at}
+use Rattle.theory_verdicts.proofs.{RefusedBehind.stopped_prefix, Tops.starts-at}
 use Rattle.cbor_tree_reader.proofs.item_reader.read_item_prefix.Goals as goal
 use Rattle.cbor_tree_reader.{specs.Prefix.IsPrefixRead, proofs.PlainSteps.expected-first, proofs.PlainSteps.prefix-whole, proofs.TreeValues.whole-in}
 

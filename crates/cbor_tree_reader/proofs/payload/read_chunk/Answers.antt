@@ -1,7 +1,7 @@
 use Rattle.std.proofs.Common.{◌≡◌, ◌+◌, ◌-◌, length, take, drop, ap, ◌∙◌, arith, true≢false, sym}
 use Rattle.std.{proofs.lemmas.List.take_rest, specs.Str.Lossy.utf8_valid_len}
 use Rattle.cbor_head.specs.{Prelude.refusal, declared.reason.Reason.TheVariants.InvalidText}
-use Rattle.cbor_verdict.proofs.Payloads.{payload-stops, grown-length, chunk-is-text, chunk-no-text}
+use Rattle.theory_verdicts.proofs.Payloads.{payload-stops, grown-length, chunk-is-text, chunk-no-text}
 use Rattle.cbor_tree_reader.proofs.payload.read_chunk.Goals as goal
 
 -- the part from there to the end

@@ -1,7 +1,7 @@
 use Rattle.std.proofs.Common.{◌≡◌, length, ap, arith, true≢false, sym}
-use Rattle.cbor_verdict.proofs.Steps.{stops, limits-as, reported, not-ended}
-use Rattle.cbor_verdict.proofs.Payloads.{none-come, payload-open, part-fits, part-comes, part-memory, part-cut, all-come}
-use Rattle.cbor_verdict.specs.Place.{payload}
+use Rattle.theory_verdicts.proofs.Steps.{stops, limits-as, reported, not-ended}
+use Rattle.theory_verdicts.proofs.Payloads.{none-come, payload-open, part-fits, part-comes, part-memory, part-cut, all-come}
+use Rattle.theory_verdicts.specs.Place.{payload}
 use Rattle.cbor_tree_reader.proofs.payload.read_payload.Goals as goal
 
 pub loop-left-init : goal.loop-left-init

@@ -1,6 +1,6 @@
 use Rattle.std.proofs.Common.{ℕ, List, Bool}
 use Rattle.cbor_head.specs.{Prelude.Bounds, declared.major.Major.Major}
-use Rattle.cbor_verdict.{specs.Place.Container, specs.Place.payload, specs.Reading.IsAt, proofs.Payloads.HasCome}
+use Rattle.theory_verdicts.{specs.Place.Container, specs.Place.payload, specs.Reading.IsAt, proofs.Payloads.HasCome}
 use Rattle.cbor_tree_reader.proofs.payload.read_payload.Given as goal
 
 abbrev pub invariant-loop-left : goal.invariant-loop-left

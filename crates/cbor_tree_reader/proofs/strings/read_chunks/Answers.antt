@@ -1,13 +1,13 @@
 use Rattle.std.proofs.Common.{◌≡◌, ◌++◌, ℕ, List, Option, Some, None, Ok, true, refl}
-use Rattle.cbor_head.specs.Prelude.{plain, Bounds}
-use Rattle.cbor_automaton.specs.{Trace.Mark, declared.event.Event.Event}
+use Rattle.cbor_head.specs.{declared.event.Event.Event, Prelude.plain, Prelude.Bounds}
+use Rattle.theory_automaton.specs.Trace.{Mark}
 use Rattle.cbor_machine.specs.NextEvent.{ItemEventsView, StandsBetween, IsNext, call}
 use Rattle.cbor_machine.specs.Machine.{KeepsLimits}
-use Rattle.cbor_verdict.specs.Reading.{IsAt, IsHeadExpected, IsNextHead}
-use Rattle.cbor_verdict.proofs.Steps.{next-head, reported, stops, limits-as, not-ended}
-use Rattle.cbor_verdict.proofs.ChunkedStrings.{starts-chunks, stops-chunk-head, chunk-kind, chunks-end, chunk-expected, chunk-next, stops-chunk, chunk-farther}
-use Rattle.cbor_verdict.{specs.Reading.string_major, proofs.Steps.farther}
-use Rattle.cbor_verdict.{specs.Place.Place, specs.Place.in_chunks, proofs.Leaves.chunks_bytes}
+use Rattle.theory_verdicts.specs.Reading.{IsAt, IsHeadExpected, IsNextHead}
+use Rattle.theory_verdicts.proofs.Steps.{next-head, reported, stops, limits-as, not-ended}
+use Rattle.theory_verdicts.proofs.ChunkedStrings.{starts-chunks, stops-chunk-head, chunk-kind, chunks-end, chunk-expected, chunk-next, stops-chunk, chunk-farther}
+use Rattle.theory_verdicts.{specs.Reading.string_major, proofs.Steps.farther}
+use Rattle.theory_verdicts.{specs.Place.Place, specs.Place.in_chunks, proofs.Leaves.chunks_bytes}
 use Rattle.cbor_tree_reader.proofs.strings.read_chunks.Goals as goal
 
 -- a head or a break comes

@@ -1,6 +1,6 @@
 use Rattle.std.proofs.Common.{ℕ, List, ◌-◌, None}
 use Rattle.cbor_head.specs.{Prelude.Bounds, Prelude.plain, declared.width.Width.Width}
-use Rattle.cbor_verdict.{specs.Place.Container, specs.Reading.IsBegun, specs.Reading.string_kind, proofs.ChunkedStrings.IsReadingChunks}
+use Rattle.theory_verdicts.{specs.Place.Container, specs.Reading.IsBegun, specs.Reading.string_kind, proofs.ChunkedStrings.IsReadingChunks}
 use Rattle.cbor_tree_reader.proofs.strings.read_chunks.Given as goal
 
 abbrev pub invariant-chunks : goal.invariant-chunks

@@ -1,7 +1,7 @@
 use Rattle.std.proofs.Common.{ℕ, ◌++◌, false, refl, subst, Option}
 use Rattle.cbor_head.specs.Prelude.{plain}
-use Rattle.cbor_verdict.specs.Reading.{string_major, string_kind, IsBegun}
-use Rattle.cbor_verdict.proofs.WholeStrings.{string-expected, reads-string, stops-string}
+use Rattle.theory_verdicts.specs.Reading.{string_major, string_kind, IsBegun}
+use Rattle.theory_verdicts.proofs.WholeStrings.{string-expected, reads-string, stops-string}
 use Rattle.cbor_tree_reader.proofs.strings.read_string.Goals as goal
 
 pub returns-in-None : goal.returns-in-None

@@ -1,9 +1,10 @@
 use Rattle.std.proofs.Common.{◌≡◌, ℕ, List, Option, subst, rules}
 use Rattle.cborc_files.specs.Folder.{Files}
+use Rattle.cborc_words.specs.declared.request.Request.{Request}
 use Rattle.cborc_commands.proofs.answer.answer_explained.Goals as goal
-use Rattle.cborc_commands.{specs.declared.request.Request.Request, specs.Outcome.IsAnswered, proofs.Runs.answered_so}
+use Rattle.cborc_commands.{specs.Outcome.IsAnswered, proofs.Runs.answered_so}
 
--- the folder that keeps what was read stands for the one behind it
+-- the recording folder holds the same files as the folder that it forwards to
 behind : (request : Request) (old first last new : Option Files) (before after : Option (List ℕ)) (status : ℕ) → IsAnswered request first last before after status → first ≡ old → last ≡ new
     → IsAnswered request old new before after status
 behind request old first last new before after status reported here there =

@@ -1,13 +1,13 @@
 use Rattle.std.proofs.Common.{◌≡◌, Bool, false, ℕ, List, Option, None, Some, refl, subst}
 use Rattle.cbor_head.specs.declared.order.KeyOrder.{KeyOrder}
 use Rattle.cborc_files.specs.{Folder.Files, InMemory.files_of}
+use Rattle.cborc_words.specs.declared.request.{Form.TheVariants.Raw, Options.Options, Output.Output}
 use Rattle.cborc_commands.specs.declared.fault.Fault.TheVariants as faults
 use Rattle.cborc_commands.proofs.in_memory.canon_in_memory.Goals as goal
-use Rattle.cborc_commands.{proofs.Results.if_err, specs.Input.IsInput, specs.Input.IsNotHex, specs.declared.request.Form.TheVariants.Raw}
-use Rattle.cborc_commands.specs.declared.{request.Options.Options, request.Output.Output, fault.Fault.Fault}
+use Rattle.cborc_commands.{proofs.Results.if_err, specs.Input.IsInput, specs.Input.IsNotHex, specs.declared.fault.Fault.Fault}
 use Rattle.cborc_commands.specs.Canon.{IsNotCanonised, IsNotHeld}
 
--- of raw bytes
+-- for raw bytes
 not_held : (options : Options) (o : KeyOrder) (source : List ℕ) (output : Output) (files : Files) (before after : Option (List ℕ)) → options.hex ≡ false
     → (fault : Fault) → IsNotCanonised o options source output (Some files) before after fault → IsNotHeld options.limits o files source output.path.now fault
 not_held options o source output files before after raw (faults.Refused f) (input, is, h, own) =

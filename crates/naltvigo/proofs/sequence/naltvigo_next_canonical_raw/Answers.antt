@@ -1,7 +1,7 @@
 use Rattle.std.proofs.Common.{subst}
 use Rattle.cbor_head.specs.Prelude.{strict, Bounds, IsVerdict, refused}
 use Rattle.cbor_head.specs.declared.{order.KeyOrder.KeyOrder, reason.Refusal.Refusal}
-use Rattle.cbor_verdict.{proofs.Reasons.never-memory, specs.Readers.HasNoCanonicalPrefix}
+use Rattle.theory_verdicts.{proofs.Reasons.never-memory, specs.Readers.HasNoCanonicalPrefix}
 use Rattle.naltvigo.proofs.sequence.naltvigo_next_canonical_raw.Goals as goal
 use Rattle.naltvigo.{specs.Settings.key_order, proofs.Given.given-reported}
 

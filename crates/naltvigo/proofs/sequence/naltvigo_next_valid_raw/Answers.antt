@@ -1,6 +1,6 @@
 use Rattle.cbor_head.specs.Prelude.{plain, Bounds, IsVerdict, refused}
 use Rattle.cbor_head.specs.declared.reason.Refusal.{Refusal}
-use Rattle.cbor_verdict.proofs.Accepted.{verdict_only}
+use Rattle.theory_verdicts.proofs.Accepted.{verdict_only}
 use Rattle.naltvigo.proofs.sequence.naltvigo_next_valid_raw.Goals as goal
 use Rattle.naltvigo.proofs.Given.{given-reported}
 

@@ -1,7 +1,6 @@
 use Rattle.std.proofs.Common.{◌∙◌, ◌+◌, refl, inl, inr, subst, ap, arith, rules, drop, sym, take, drop-drop, drop-set-lt}
 use Rattle.std.proofs.{Math.Seq.take-add, lemmas.List.take_more_set, lemmas.List.take_rest}
-use Rattle.cbor_head.specs.declared.reason.Refusal.{Refusal}
-use Rattle.cbor_automaton.specs.declared.event.Event.{Event}
+use Rattle.cbor_head.specs.declared.{reason.Refusal.Refusal, event.Event.Event}
 use Rattle.cbor_machine.specs.Machine.{IsDone, IsEvent, IsMore}
 use Rattle.cbor_machine.specs.declared.step.Out.TheVariants as outs
 use Rattle.cbor_machine.specs.declared.step.Out.{Out}

@@ -1,5 +1,5 @@
 use Rattle.std.proofs.Common.{List, ◌∷◌, ap, ◌∙◌}
-use Rattle.cbor_model.specs.Parts.{opened}
+use Rattle.theory_values.specs.Parts.{opened}
 use Rattle.cbor_output.specs.declared.span.Span.{Span}
 use Rattle.cbor_builder.proofs.builder.Core.begin.Goals as goal
 use Rattle.cbor_builder.{specs.inner.BuilderState.frames, specs.inner.Laid.opens, specs.inner.Laid.opening_frame, proofs.Growth.begun}

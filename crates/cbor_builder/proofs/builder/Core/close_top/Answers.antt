@@ -1,6 +1,6 @@
 use Rattle.std.proofs.Common.{◌≡◌, ◌-◌, ◌++◌, ℕ, take, length, length-append, sym, ap, ◌∙◌, subst, arith, flat_map, length-take-le}
 use Rattle.cbor_head.specs.Prelude.{in_order}
-use Rattle.cbor_model.{specs.Parts.closed, specs.Parts.HasNoRepeats, specs.Pairs.pair_bytes, proofs.Decided.holds}
+use Rattle.theory_values.{specs.Parts.closed, specs.Parts.HasNoRepeats, specs.Pairs.pair_bytes, proofs.Decided.holds}
 use Rattle.cbor_builder.proofs.builder.Core.close_top.Goals as goal
 use Rattle.cbor_builder.{specs.inner.Laid.shape_open, specs.inner.Laid.pairs_from, specs.declared.frame.Shape.Shape, proofs.Growth.map_sorted}
 

@@ -1,6 +1,6 @@
 use Rattle.std.proofs.Common.{List, ◌∷◌, ◌++◌, take, sym, ap, ◌∙◌, subst, rules}
 use Rattle.cbor_head.specs.declared.order.KeyOrder.{KeyOrder}
-use Rattle.cbor_model.{specs.Parts.close, specs.Parts.closed, proofs.Decided.holds}
+use Rattle.theory_values.{specs.Parts.close, specs.Parts.closed, proofs.Decided.holds}
 use Rattle.cbor_builder.specs.inner.Laid.{Laid, OuterTakes, opens, shape_open}
 use Rattle.cbor_builder.proofs.builder.Core.end.Goals as goal
 use Rattle.cbor_builder.{proofs.OpenMembers.member_ended, proofs.OpenMembers.member_outer, specs.inner.BuilderState.outers, specs.declared.frame.Frame.Frame}

@@ -1,5 +1,5 @@
 use Rattle.std.proofs.Common.{take, sym, ap, ◌∙◌, rules}
-use Rattle.cbor_model.proofs.Decided.{holds}
+use Rattle.theory_values.proofs.Decided.{holds}
 use Rattle.cbor_builder.proofs.builder.Core.give_up.Goals as goal
 use Rattle.cbor_builder.specs.{inner.BuilderState.outers, inner.Laid.opens, inner.Laid.Laid, declared.frame.Frame.Frame}
 use Rattle.cbor_builder.proofs.{Nesting.found_around, Reordered.left_open}

@@ -1,5 +1,5 @@
 use Rattle.std.proofs.Common.{refl, sym, subst}
-use Rattle.cbor_model.{specs.Pairs.HasDistinctBytes, specs.Parts.HasNoRepeats, proofs.Decided.holds, proofs.Sorting.rising_distinct}
+use Rattle.theory_values.{specs.Pairs.HasDistinctBytes, specs.Parts.HasNoRepeats, proofs.Decided.holds, proofs.Sorting.rising_distinct}
 use Rattle.cbor_builder.specs.inner.Laid.{Fits, pairs_from, shape_open}
 use Rattle.cbor_builder.proofs.builder.Core.give_up_pairs.Goals as goal
 use Rattle.cbor_builder.specs.declared.frame.Shape.{Shape}

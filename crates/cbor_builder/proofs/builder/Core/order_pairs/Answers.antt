@@ -1,7 +1,7 @@
 use Rattle.std.proofs.Common.{◌∙◌, ◌++◌, ℕ, List, take, drop, length, map, ap, arith, flat_map}
 use Rattle.std.proofs.lemmas.List.{take_rest}
 use Rattle.cbor_head.specs.Prelude.{Pair}
-use Rattle.cbor_model.{specs.Pairs.pair_bytes, proofs.Decided.holds, proofs.Sorting.rising_distinct}
+use Rattle.theory_values.{specs.Pairs.pair_bytes, proofs.Decided.holds, proofs.Sorting.rising_distinct}
 use Rattle.cbor_output.specs.{Spans.span_pair, Spans.AreWithin, declared.span.Span.Span}
 use Rattle.cbor_builder.proofs.builder.Core.order_pairs.Goals as goal
 use Rattle.cbor_builder.{specs.declared.frame.Frame.Frame, specs.inner.Laid.pairs_from, proofs.Growth.tile_within, proofs.InOrder.risen}

@@ -1,6 +1,6 @@
 use Rattle.std.proofs.Common.{◌≡◌, ◌+◌, ◌≤◌, ◌++◌, ◌∙◌, ℕ, List, length, length-append, length-drop, length-take, take, drop, map, refl, sym, ap, subst, arith, IsPermutation, append_assoc, IsTrue, ◌↔◌}
 use Rattle.std.proofs.lemmas.List.{take_rest, Sorted.length_permutation}
-use Rattle.cbor_model.specs.Pairs.{IsRising, HasDistinctBytes}
+use Rattle.theory_values.specs.Pairs.{IsRising, HasDistinctBytes}
 use Rattle.cbor_output.specs.{Spans.span_pair, declared.span.Span.Span}
 use Rattle.cbor_builder.proofs.builder.Core.order_spans.Goals as goal
 use Rattle.cbor_builder.{specs.inner.Prefix.ArePrefixed, proofs.InOrder.sorted_pairs, proofs.Inserted.taken_prefix, proofs.Inserted.rest_prefix}
@@ -11,7 +11,7 @@ sort_distinct-requires c =
     let us = take_rest c.deref_mut.result.now c.args.first ∙ ap (drop c.args.first) c.deref_mut.ensures.value in
     coe 1 0 (i. ArePrefixed (c.as_slice.ensures i) (us i)) c.requires.fits.3
 
--- what a part that is put in order leaves
+-- what sorting a part leaves
 placed : (n m : ℕ) (us ys post zs : List Span) → n ≤ length us → n + length ys ≡ m → take m ((take n us ++ (ys ++ post)) ++ zs) ≡ take n us ++ ys
 placed n m us ys post zs h e =
     ap (take m) (append_assoc (take n us) (ys ++ post) zs ∙ ap (λ (ts : List Span). take n us ++ ts) (append_assoc ys post zs) ∙ sym (append_assoc (take n us) ys (post ++ zs)))

@@ -1,6 +1,6 @@
 use Rattle.std.proofs.Common.{◌↔◌, List, ◌∷◌, IsTrue, drop, take, map, sym, ap, ◌∙◌, subst, arith}
 use Rattle.std.proofs.lemmas.List.{take_rest}
-use Rattle.cbor_model.specs.Pairs.{IsRising}
+use Rattle.theory_values.specs.Pairs.{IsRising}
 use Rattle.cbor_output.{specs.Spans.span_pair, specs.declared.span.Span.Span, proofs.Slices.slice_all}
 use Rattle.cbor_builder.proofs.builder.Core.repeated.Goals as goal
 use Rattle.cbor_builder.specs.inner.Laid.{Fits, opens, outer_spans, shape_open}

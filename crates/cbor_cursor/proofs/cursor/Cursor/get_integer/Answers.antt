@@ -1,7 +1,8 @@
 use Rattle.std.proofs.Common.{sym, ap, ◌∙◌, subst, append-nil, to_z, of_z, w64}
 use Rattle.std.proofs.lemmas.Int.{to_z-of_z}
 use Rattle.cbor_head.specs.Value.{Value}
-use Rattle.cbor_cursor.specs.Decoded.{Encoded, encoded, value_in, HasValueAt, integer}
+use Rattle.theory_values.specs.Lookup.{HasValueAt, integer}
+use Rattle.cbor_cursor.specs.Decoded.{Encoded, encoded, value_in}
 use Rattle.cbor_cursor.proofs.cursor.Cursor.get_integer.Goals as goal
 
 pub returns-clause-value : goal.returns-clause-value

@@ -1,6 +1,7 @@
 use Rattle.std.proofs.Common.{◌++◌, ℕ, List, sym, ap₂, ◌∙◌, subst}
 use Rattle.cbor_head.specs.Value.{Value, text}
-use Rattle.cbor_cursor.specs.Decoded.{Encoded, encoded, value_in, HasValueAt}
+use Rattle.theory_values.specs.Lookup.{HasValueAt}
+use Rattle.cbor_cursor.specs.Decoded.{Encoded, encoded, value_in}
 use Rattle.cbor_cursor.proofs.cursor.Cursor.get_text.Goals as goal
 
 pub returns-in_err-item-clause-value : goal.returns-in_err-item-clause-value

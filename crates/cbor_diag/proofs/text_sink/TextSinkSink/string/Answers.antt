@@ -1,5 +1,5 @@
 use Rattle.std.proofs.Common.{take, refl}
-use Rattle.cbor_verdict.specs.Reading.{string_value}
+use Rattle.theory_verdicts.specs.Reading.{string_value}
 use Rattle.cbor_diag.proofs.text_sink.TextSinkSink.string.Goals as goal
 use Rattle.cbor_diag.{specs.inner.Strings.string_text, proofs.TextGiven.text-of_string, proofs.TextGiven.given}
 

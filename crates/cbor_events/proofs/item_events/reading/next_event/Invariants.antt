@@ -1,5 +1,5 @@
 use Rattle.std.proofs.Common.{◌≡◌, ◌-◌, ◌<◌, ◌≤◌, ℕ, List, ◌++◌, length, Option}
-use Rattle.cbor_automaton.specs.Trace.{Mark}
+use Rattle.theory_automaton.specs.Trace.{Mark}
 use Rattle.cbor_machine.specs.{MachineView.MachineView, Machine.IsIdle, Machine.StandsFor, NextEvent.StandsBetween, Calls.HasRead}
 use Rattle.cbor_events.proofs.item_events.reading.next_event.Given as goal
 

@@ -1,9 +1,9 @@
 use Rattle.std.proofs.Common.{get_or, ap, ◌∙◌, subst, arith}
 use Rattle.cbor_head.specs.Prelude.{IsValid}
-use Rattle.cbor_model.proofs.{Decided.was_true, Decided.was_false, Lists.valid_at}
+use Rattle.theory_values.{proofs.Decided.was_true, proofs.Decided.was_false, proofs.Lists.valid_at, specs.Lookup.HasValueAt}
 use Rattle.cbor_item.proofs.Lookups.{looked_by, found_by, none_behind}
 use Rattle.cbor_item.proofs.view.View.get.Goals as goal
-use Rattle.cbor_item.{specs.Lookup.HasValueAt, specs.ViewValue.view_value, specs.declared.view.View.TheVariants.Unsigned, proofs.ViewValues.view_value-Map}
+use Rattle.cbor_item.{specs.ViewValue.view_value, specs.declared.view.View.TheVariants.Unsigned, proofs.ViewValues.view_value-Map}
 
 pub same-requires-clause-left : goal.same-requires-clause-left
 same-requires-clause-left c =

@@ -1,10 +1,9 @@
 use Rattle.std.proofs.Common.{get_or, sym, ap, ◌∙◌, arith, to_z, of_z, w64}
 use Rattle.std.proofs.lemmas.Int.{to_z-of_z}
-use Rattle.cbor_model.proofs.Decided.{was_true, was_false}
+use Rattle.theory_values.{proofs.Decided.was_true, proofs.Decided.was_false, specs.Lookup.HasValueAt, specs.Lookup.integer}
 use Rattle.cbor_item.proofs.Lookups.{looked_by, found_by, none_behind, same_integer}
 use Rattle.cbor_item.proofs.view.View.get_integer.Goals as goal
-use Rattle.cbor_item.specs.{Kinds.integer, Lookup.HasValueAt, ViewValue.view_value, declared.view.View.TheVariants.Unsigned}
-use Rattle.cbor_item.proofs.ViewValues.{view_value-Map}
+use Rattle.cbor_item.{specs.ViewValue.view_value, specs.declared.view.View.TheVariants.Unsigned, proofs.ViewValues.view_value-Map}
 
 pub returns-then-is_integer : goal.returns-then-is_integer
 returns-then-is_integer c =

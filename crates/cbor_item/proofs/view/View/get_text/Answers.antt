@@ -1,9 +1,9 @@
 use Rattle.std.proofs.Common.{get_or, ap, ◌∙◌, arith}
 use Rattle.cbor_head.specs.Value.{text}
-use Rattle.cbor_model.proofs.Decided.{was_true, was_false}
+use Rattle.theory_values.{proofs.Decided.was_true, proofs.Decided.was_false, specs.Lookup.HasValueAt}
 use Rattle.cbor_item.proofs.Lookups.{looked_by, found_by, none_behind, same_text}
 use Rattle.cbor_item.proofs.view.View.get_text.Goals as goal
-use Rattle.cbor_item.{specs.Lookup.HasValueAt, specs.ViewValue.view_value, specs.declared.view.View.TheVariants.Unsigned, proofs.ViewValues.view_value-Map}
+use Rattle.cbor_item.{specs.ViewValue.view_value, specs.declared.view.View.TheVariants.Unsigned, proofs.ViewValues.view_value-Map}
 
 pub returns-then-is_text : goal.returns-then-is_text
 returns-then-is_text c =

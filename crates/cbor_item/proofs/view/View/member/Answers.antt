@@ -1,10 +1,9 @@
 use Rattle.std.proofs.Common.{◌≡◌, sym, ap, ◌∙◌}
 use Rattle.cbor_head.specs.Value as value
 use Rattle.cbor_head.specs.Prelude.{Value}
-use Rattle.cbor_model.specs.Lists.{values_of}
+use Rattle.theory_values.specs.{Lists.values_of, Lookup.member_of}
 use Rattle.cbor_item.proofs.view.View.member.Goals as goal
-use Rattle.cbor_item.{specs.Lookup.member_of, specs.ViewValue.view_value, specs.ViewValue.view_values, proofs.Lookups.member_read}
-use Rattle.cbor_item.proofs.ViewValues.{view_value-Array}
+use Rattle.cbor_item.{specs.ViewValue.view_value, specs.ViewValue.view_values, proofs.Lookups.member_read, proofs.ViewValues.view_value-Array}
 
 pub returns-in-Array : goal.returns-in-Array
 returns-in-Array c =

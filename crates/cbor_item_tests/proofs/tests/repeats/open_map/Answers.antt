@@ -1,6 +1,6 @@
 use Rattle.std.proofs.Common.{List, ℕ, ◌≡◌, ◌∷◌, [], ◌++◌, ap, ◌∙◌}
 use Rattle.cbor_head.specs.{Prelude.Pair, declared.order.KeyOrder.KeyOrder}
-use Rattle.cbor_model.specs.Parts.{Open, a_map, give, pair}
+use Rattle.theory_values.specs.Parts.{Open, a_map, give, pair}
 use Rattle.cbor_builder.specs.Built.{Built, built}
 use Rattle.cbor_item_tests.proofs.tests.repeats.open_map.Goals as goal
 

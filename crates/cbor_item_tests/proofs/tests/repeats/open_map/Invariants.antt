@@ -1,6 +1,6 @@
 use Rattle.std.proofs.Common.{List, ◌≡◌, ◌∷◌}
 use Rattle.cbor_head.specs.Prelude.{Pair}
-use Rattle.cbor_model.specs.Parts.{a_map}
+use Rattle.theory_values.specs.Parts.{a_map}
 use Rattle.cbor_item_tests.proofs.tests.repeats.open_map.Given as goal
 
 abbrev pub invariant-loop-key : goal.invariant-loop-key

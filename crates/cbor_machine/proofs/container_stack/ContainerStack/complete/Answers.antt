@@ -1,5 +1,5 @@
 use Rattle.std.proofs.Common.{sym, ap, ◌∙◌}
-use Rattle.cbor_automaton.specs.Automaton.{close}
+use Rattle.theory_automaton.specs.Automaton.{close}
 use Rattle.cbor_machine.specs.ContainerStack.{level_frame, joined, advanced}
 use Rattle.cbor_machine.proofs.container_stack.ContainerStack.complete.Goals as goal
 use Rattle.cbor_machine.{specs.State.frame_of, specs.State.frames_of, proofs.ContainerStacks.goes-on}

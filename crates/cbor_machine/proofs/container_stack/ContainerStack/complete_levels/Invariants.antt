@@ -1,5 +1,5 @@
 use Rattle.std.proofs.Common.{◌≡◌, ◌≤◌, length}
-use Rattle.cbor_automaton.specs.Automaton.{close}
+use Rattle.theory_automaton.specs.Automaton.{close}
 use Rattle.cbor_machine.specs.ContainerStack.{joined, nested, IsContainerStack}
 use Rattle.cbor_machine.proofs.container_stack.ContainerStack.complete_levels.Given as goal
 use Rattle.cbor_machine.specs.State.{frames_of}

@@ -1,5 +1,5 @@
 use Rattle.std.proofs.Common.{sym, ap, ◌∙◌, arith}
-use Rattle.cbor_automaton.specs.Automaton.{break_at}
+use Rattle.theory_automaton.specs.Automaton.{break_at}
 use Rattle.cbor_machine.proofs.container_stack.ContainerStack.end.Goals as goal
 use Rattle.cbor_machine.{specs.State.frames_of, specs.ContainerStack.joined, proofs.ContainerStacks.ends-here}
 

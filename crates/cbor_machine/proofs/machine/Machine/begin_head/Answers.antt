@@ -1,6 +1,6 @@
 use Rattle.std.proofs.Common.{◌≡◌, ◌+◌, [], ◌∷◌, arith, ap, sym, refl, ◌∙◌, subst}
-use Rattle.cbor_automaton.specs.Automaton.{at_item, run, reached}
-use Rattle.cbor_automaton.proofs.Runs.{run-one}
+use Rattle.theory_automaton.specs.Automaton.{at_item, run, reached}
+use Rattle.theory_automaton.proofs.Runs.{run-one}
 use Rattle.cbor_machine.specs.State.{state_of, frames_of, wanted_at, IsFit}
 use Rattle.cbor_machine.specs.declared.step.Out.TheVariants as outs
 use Rattle.cbor_machine.proofs.MachineStates.{answered, fit-sound, step-from}

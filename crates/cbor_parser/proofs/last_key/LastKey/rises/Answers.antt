@@ -1,6 +1,6 @@
 use Rattle.std.proofs.Common.{◌≡◌, nat_lt, sym, subst, arith}
 use Rattle.cbor_head.specs.Prelude.{key_lt}
-use Rattle.cbor_model.proofs.KeyByteLists.{are_bytes, bytes_slice}
+use Rattle.theory_values.proofs.KeyByteLists.{are_bytes, bytes_slice}
 use Rattle.cbor_parser.proofs.last_key.LastKey.rises.Goals as goal
 use Rattle.cbor_parser.{specs.inner.Cells.last_key, specs.inner.Cells.key_at, proofs.KeyOrder.by_prefix}
 

@@ -1,5 +1,5 @@
 use Rattle.std.proofs.Common.{◌∙◌, ◌-◌, ◌<◌, List, length, sym, subst, ap, arith, refl, length-append}
-use Rattle.cbor_verdict.specs.Levels.{level_bytes}
+use Rattle.theory_verdicts.specs.Levels.{level_bytes}
 use Rattle.cbor_parser.proofs.GivenParts.{expected-item, key-awaited, height-is, opened}
 use Rattle.cbor_parser.proofs.parser.Parser.open.Goals as goal
 use Rattle.cbor_parser.{specs.declared.item_rules.Part.TheVariants.Head, specs.Stack.around, proofs.Stacks.open_levels_count, specs.inner.Parser.TakesTo}

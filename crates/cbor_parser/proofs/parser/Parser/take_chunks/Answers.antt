@@ -1,8 +1,8 @@
 use Rattle.std.proofs.Common.{◌≡◌, ◌+◌, ◌-◌, ℕ, ◌∙◌, false, List, ◌∷◌, length, refl, ap, sym, subst, arith, length-append}
 use Rattle.std.proofs.lemmas.List.{take_rest}
 use Rattle.cbor_head.specs.Prelude.{chunks_joined, spell}
-use Rattle.cbor_model.proofs.ByteLists.{are_bytes}
-use Rattle.cbor_verdict.specs.Reading.{string_major, string_value}
+use Rattle.theory_values.proofs.ByteLists.{are_bytes}
+use Rattle.theory_verdicts.specs.Reading.{string_major, string_value}
 use Rattle.cbor_parser.proofs.GivenParts.{expected-item, key-awaited, scalar-settles}
 use Rattle.cbor_parser.proofs.Chunked.{AreChunks, no-chunks, chunk-expected, one-more, all-chunks}
 use Rattle.cbor_parser.proofs.parser.Parser.take_chunks.Goals as goal
@@ -19,7 +19,7 @@ head g c = subst (λ (x : List ℕ). IsHead (string_major c.args.is_text) c.in-S
 payload : (g : _) (c : In-Some-payload_size g) → IsPayload false c.args.is_text c.in-Some-chunk_head.head.number c.in-Some-payload_size.size c.in-Some-chunk_head.head.rest.now
 payload g c = known-chunk g.row.S.Denot g.S.Sink.stands g.S.Sink.trusts c.args.is_text c.args.top.now c.args.self.now.sink _ _ c.args.start.now c.chunks.rest.now c.requires.expected c.chunks.invariant.chunks.read _ (head g c) c.in-Some-payload_size.ensures
 
--- where a break stands
+-- at a break
 whole : (g : _) (c : Then-first g) → IsScalar c.args.start.now c.in-Some.behind.now (string_value c.args.is_text (chunks_joined c.chunks.invariant.chunks.read.done))
 whole g c =
     all-chunks g.row.S.Denot g.S.Sink.stands g.S.Sink.holds c.is_key-is_key.result c.args.is_text c.args.start.now c.args.self.now.sink c.chunks.rest.now c.chunks.self.sink c.chunks.invariant.chunks c.in-Some.behind.now

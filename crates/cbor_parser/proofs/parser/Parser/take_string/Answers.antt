@@ -1,6 +1,6 @@
 use Rattle.std.proofs.Common.{◌≡◌, ◌∙◌, ◌+◌, ◌-◌, false, ◌∷◌, length, take, drop, arith, refl, length-drop}
-use Rattle.cbor_model.proofs.ByteLists.{are_bytes}
-use Rattle.cbor_verdict.specs.Reading.{string_major, string_value}
+use Rattle.theory_values.proofs.ByteLists.{are_bytes}
+use Rattle.theory_verdicts.specs.Reading.{string_major, string_value}
 use Rattle.cbor_parser.proofs.GivenParts.{expected-item, key-awaited, scalar-ends}
 use Rattle.cbor_parser.proofs.GivenItems.{IsScalar, scalar-string, head-shorter}
 use Rattle.cbor_parser.proofs.parser.Parser.take_string.Goals as goal
@@ -14,7 +14,7 @@ payload g c =
 scalar : (g : _) (c : In-Some g) → IsScalar c.args.rest.now (drop c.in-Some.size c.args.behind.now) (string_value c.args.is_text (take c.in-Some.size c.args.behind.now))
 scalar g c = scalar-string c.args.is_text c.args.count c.in-Some.size c.args.rest.now c.args.behind.now c.requires.head (payload g c) (are_bytes c.args.behind.now (λ i. omega (arith, c.type_inv.behind i)))
 
--- so many bytes
+-- the number of bytes
 used : (g : _) (c : In-Some g) → length c.args.rest.now - length c.args.behind.now + c.in-Some.size + length (drop c.in-Some.size c.args.behind.now) ≡ length c.args.rest.now
 used g c =
     let within = (sized c.args.is_text c.args.count c.in-Some.size c.args.behind.now (payload g c)).0 in

@@ -1,7 +1,7 @@
 use Rattle.std.proofs.Common.{◌∙◌, ℕ, length, nat_lt, refl, sym, ap, subst, arith, inl, inr}
 use Rattle.cbor_head.specs.Prelude.{plain}
-use Rattle.cbor_model.proofs.ByteLists.{are_bytes}
-use Rattle.cbor_verdict.specs.Stop.{IsAnswered}
+use Rattle.theory_values.proofs.ByteLists.{are_bytes}
+use Rattle.theory_verdicts.specs.Stop.{IsAnswered}
 use Rattle.cbor_parser.specs.declared.walk.WalkStop.TheVariants as walks
 use Rattle.cbor_parser.proofs.parser.ParserItemRules.error.Goals as goal
 use Rattle.cbor_parser.proofs.parser.ParserItemRules.error.Goals.{Joined-stop, In-Repeated, in-Untaken, in-Stopped+in-Broken}

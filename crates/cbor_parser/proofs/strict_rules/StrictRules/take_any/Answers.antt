@@ -1,7 +1,7 @@
 use Rattle.std.proofs.Common.{◌≡◌, ◌∙◌, ◌++◌, ◌+◌, ◌-◌, ℕ, nat_lt, List, ◌∷◌, length, refl, sym, ap, subst}
 use Rattle.std.proofs.lemmas.List.{take_rest}
 use Rattle.cbor_head.specs.Prelude.{strict, AreBytes}
-use Rattle.cbor_verdict.{specs.Path.bytes_before, specs.Stop.IsStopped, proofs.RefusedHere.no_break}
+use Rattle.theory_verdicts.{specs.Path.bytes_before, specs.Stop.IsStopped, proofs.RefusedHere.no_break}
 use Rattle.cbor_parser.proofs.Taking.{always, key_asked, place_for, whole_is}
 use Rattle.cbor_parser.proofs.strict_rules.StrictRules.take_any.Goals as goal
 use Rattle.cbor_parser.{proofs.StrictPlaces.item_taken, proofs.StrictPlaces.head_taken, specs.inner.Cells.StrictCell, specs.inner.Cells.strict_cell}

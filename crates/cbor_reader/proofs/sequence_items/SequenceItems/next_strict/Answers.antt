@@ -1,6 +1,6 @@
 use Rattle.std.proofs.Common.{◌≡◌, subst, IfSome}
 use Rattle.cbor_head.specs.Prelude.{strict}
-use Rattle.cbor_verdict.specs.Readers.{IsUnread}
+use Rattle.theory_verdicts.specs.Readers.{IsUnread}
 use Rattle.cbor_reader.proofs.sequence_items.SequenceItems.next_strict.Goals as goal
 use Rattle.cbor_reader.proofs.Sequences.{at_end, refused_as}
 

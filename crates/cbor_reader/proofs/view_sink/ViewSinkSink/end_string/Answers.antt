@@ -1,6 +1,6 @@
 use Rattle.std.proofs.Common.{ℕ, Bool, List, length, ◌∙◌, ap₂, sym, subst, arith, IsUtf8, take_all}
 use Rattle.cbor_item.specs.{OpenValues.give, ViewValue.open_levels}
-use Rattle.cbor_verdict.specs.Reading.{string_value}
+use Rattle.theory_verdicts.specs.Reading.{string_value}
 use Rattle.cbor_parser.specs.Sink.{Gives}
 use Rattle.cbor_sinks.specs.{KeyBytes.keys_stand, declared.key_bytes.KeyBytes.KeyBytes}
 use Rattle.cbor_reader.proofs.ViewGiven.{expected, takes, utf8-expected, whole-expected, string-ended}

@@ -1,7 +1,7 @@
 use Rattle.std.proofs.Common.{◌∙◌, ap, take}
 use Rattle.cbor_head.specs.Prelude.{Value}
 use Rattle.cbor_item.specs.{OpenValues.give, ViewValue.open_levels}
-use Rattle.cbor_verdict.specs.Reading.{string_value}
+use Rattle.theory_verdicts.specs.Reading.{string_value}
 use Rattle.cbor_reader.proofs.ViewGiven.{expected, takes, given}
 use Rattle.cbor_reader.proofs.view_sink.ViewSinkSink.string.Goals as goal
 

@@ -1,6 +1,6 @@
 use Rattle.std.proofs.Common.{◌∙◌, [], ◌∷◌, refl, ap}
 use Rattle.cbor_head.specs.{Prelude.canonical, Prelude.value_of, declared.order.KeyOrder.KeyOrder}
-use Rattle.cbor_model.specs.Parts.{plain}
+use Rattle.theory_values.specs.Parts.{plain}
 use Rattle.cbor_parser.proofs.PrefixStops.{reported_at_start}
 use Rattle.cbor_sinks.proofs.built_prefix.PrefixBuilder.build.Goals as goal
 

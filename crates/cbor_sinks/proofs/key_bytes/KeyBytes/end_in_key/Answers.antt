@@ -1,6 +1,6 @@
 use Rattle.std.proofs.Common.{◌∙◌, ℕ, suc, ◌-◌, ◌≡◌, sym, ap, subst, inl, arith, IfSome}
 use Rattle.std.specs.Option.{is_some}
-use Rattle.cbor_model.specs.Parts.{close}
+use Rattle.theory_values.specs.Parts.{close}
 use Rattle.cbor_builder.specs.Built.{Built, built, IsRepeatReported}
 use Rattle.cbor_sinks.proofs.KeysGiven.{in-container, end-takes, ended-inner}
 use Rattle.cbor_sinks.proofs.key_bytes.KeyBytes.end_in_key.Goals as goal

@@ -1,6 +1,6 @@
 use Rattle.std.proofs.Common.{◌∙◌, ◌∷◌, refl, sym, ap}
 use Rattle.cbor_head.specs.declared.major.Major.{Major}
-use Rattle.cbor_model.specs.Parts.{opened}
+use Rattle.theory_values.specs.Parts.{opened}
 use Rattle.cbor_builder.specs.Built.{built}
 use Rattle.cbor_sinks.proofs.key_bytes.KeyBytesSink.begin_string.Goals as goal
 use Rattle.cbor_sinks.proofs.{KeysGiven.takes, KeyStrings.begins-kept, KeyStrings.begins-left}

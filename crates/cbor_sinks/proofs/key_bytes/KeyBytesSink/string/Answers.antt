@@ -1,8 +1,8 @@
 use Rattle.std.proofs.Common.{◌≡◌, ◌∙◌, ◌++◌, ℕ, take, sym, ap, length-take-le}
 use Rattle.cbor_head.specs.{Prelude.canonical, Prelude.shortest_head, declared.major.Major.Major, declared.order.KeyOrder.KeyOrder}
-use Rattle.cbor_model.specs.Parts.{give}
+use Rattle.theory_values.specs.Parts.{give}
 use Rattle.cbor_builder.specs.Built.{built}
-use Rattle.cbor_verdict.specs.Reading.{string_major, string_value}
+use Rattle.theory_verdicts.specs.Reading.{string_major, string_value}
 use Rattle.cbor_sinks.proofs.KeysGiven.{takes, key-takes, given-kept, given-left}
 use Rattle.cbor_sinks.proofs.key_bytes.KeyBytesSink.string.Goals as goal
 use Rattle.cbor_sinks.proofs.{CanonGiven.string-bytes, key_bytes.KeyBytesSink.string.Goals.Start}

@@ -1,6 +1,6 @@
 use Rattle.std.proofs.Common.{◌≡◌, List, length}
 use Rattle.cbor_head.specs.Prelude.{Spelling, spell}
-use Rattle.cbor_verdict.specs.Frame.{Frame}
+use Rattle.theory_verdicts.specs.Frame.{Frame}
 use Rattle.cbor_strict.specs.inner.LastKeys.{view_value, IsKept, AreDefinite, still_open}
 use Rattle.cbor_strict.proofs.last_keys.LastKeys.close.Given as goal
 use Rattle.cbor_strict.proofs.KeptEnds.{HasShut}

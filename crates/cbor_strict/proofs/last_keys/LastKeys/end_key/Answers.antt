@@ -1,8 +1,8 @@
 use Rattle.std.proofs.Common.{◌≡◌, ◌<◌, ◌+◌, ◌-◌, ℕ, zero, suc, List, [], ◌∷◌, ◌++◌, length, take, drop, IsTrue, ◌∙◌, true≢false, refl, sym, ap, subst, arith, take-append-drop, slice_index_or}
 use Rattle.cbor_head.specs.Prelude.{key_lt, Spelling, SpelledEntries, spell}
 use Rattle.cbor_head.specs.declared.{order.KeyOrder.KeyOrder, width.Width.Width}
-use Rattle.cbor_verdict.specs.Frame.{Frame, a_key, a_content}
-use Rattle.cbor_verdict.{specs.LastKey.last_key, proofs.LastKey.nothing-below}
+use Rattle.theory_verdicts.specs.Frame.{Frame, a_key, a_content}
+use Rattle.theory_verdicts.{specs.LastKey.last_key, proofs.LastKey.nothing-below}
 use Rattle.cbor_strict.specs.inner.LastKeys.{KeysView, IsKept, view_value, with_key}
 use Rattle.cbor_strict.proofs.KeptPairs.{key_bounds, key_compared, key_put_in, key_put_out, ended_bounds}
 use Rattle.cbor_strict.proofs.last_keys.LastKeys.end_key.Goals as goal
@@ -31,14 +31,14 @@ cut_out-requires-clause-within c = (ended_bounds (view_value c.args.self.now) c.
 
 module _ (k : KeysView) (w : Width) (a : SpelledEntries) (v : Spelling) (b : SpelledEntries) (fs : List Frame) (s : Spelling) (sp : KeySpan) (h : IsKept k (a_key w a v b ∷ fs) (spell s))
     (g : sp ≡ slice_index_or k.spans (length k.spans - 1) sp) (first : sp.from ≡ sp.next) where
-  -- the first key of a map is kept where it is
+  -- the first key of a map is stored where it is
   first_kept : (keys : ℕ) → keys + 1 ≡ k.open_keys → IsKept (with_key (record k { open_keys = keys }) sp.next) (a_content w a s b ∷ fs) []
   first_kept zero less =
       subst (λ n. IsKept (with_key (record k { open_keys = 0 }) n) (a_content w a s b ∷ fs) []) first
       (key_put_out k w a v b fs s sp h g 0 k.bytes less refl (sym (take-append-drop sp.from k.bytes) ∙ ap (λ n. take sp.from k.bytes ++ drop n k.bytes) first))
   first_kept (suc n) less = key_put_in k w a v b fs s sp h g (suc n) less (omega arith)
 
-  -- and comes behind none
+  -- and is compared with none
   first_rises : (o : KeyOrder) → sp.next < length k.bytes → IsTrue (key_lt o (last_key a) (spell s))
   first_rises o some =
       let q = key_bounds k w a v b fs s sp h g in

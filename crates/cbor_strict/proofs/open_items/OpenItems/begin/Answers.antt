@@ -1,5 +1,5 @@
 use Rattle.std.proofs.Common.{false, true, refl, sym, ap, subst, inl, inr, ◌∙◌}
-use Rattle.cbor_automaton.specs.Trace.{a_head}
+use Rattle.theory_automaton.specs.Trace.{a_head}
 use Rattle.cbor_strict.proofs.OpenHeads.{leaf_ended, string_begun, other_begun, map_begun, begun_no_memory, space_levels, space_keys, string_of, map_of, other_of}
 use Rattle.cbor_strict.proofs.open_items.OpenItems.begin.Goals as goal
 use Rattle.cbor_strict.specs.inner.OpenItems.{IsLeaf, GoesOn}

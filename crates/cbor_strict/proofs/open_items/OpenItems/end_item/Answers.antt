@@ -1,6 +1,6 @@
 use Rattle.std.proofs.Common.{refl}
 use Rattle.cbor_head.specs.{Prelude.refusal, declared.reason.Reason.TheVariants.KeyOrder}
-use Rattle.cbor_strict.proofs.OpenItems.{Closing, has_closed, few_keys, key_has_ended, behind_member, behind_value, behind_key, refused_key}
+use Rattle.cbor_strict.proofs.OpenStates.{Closing, has_closed, few_keys, key_has_ended, behind_member, behind_value, behind_key, refused_key}
 use Rattle.cbor_strict.proofs.open_items.OpenItems.end_item.Goals as goal
 
 pub end_value-requires : goal.end_value-requires

@@ -1,7 +1,7 @@
 use Rattle.std.proofs.Common.{Some, refl, sym, subst, Ok}
 use Rattle.cbor_head.specs.Prelude.{strict}
 use Rattle.cbor_machine.specs.Machine.{KeepsLimits}
-use Rattle.cbor_verdict.specs.Refusals.{IsReaderReason}
+use Rattle.theory_verdicts.specs.Refusals.{IsReaderReason}
 use Rattle.cbor_strict.specs.StrictReader.{StrictEventsView, StandsStrictly, IsNextStrict, IsStrictRefusal, limits_of, strict_call}
 use Rattle.cbor_strict.proofs.StrictReading.{next_reported, next_refused, within_next, within_stopped, refused_reason, shown}
 use Rattle.cbor_strict.proofs.strict_events.StrictEvents.next.Goals as goal

@@ -3,7 +3,7 @@ use Rattle.cbor_text.proofs.TextPrefixes.{open-more, open-then-fixed, fixed-more
 use Rattle.cbor_text.proofs.text_check.TextCheck.push.Goals as goal
 use Rattle.cbor_text.specs.{inner.TextCheck.IsFixed, inner.TextCheck.IsOpen, TextCheck.HasChecked, TextCheck.TextView}
 
--- a fault stays
+-- a failed check stays failed
 pub returns-in_default-clause-checked : goal.returns-in_default-clause-checked
 returns-in_default-clause-checked c = λ bytes h.
     let piece = c.args.piece.now in

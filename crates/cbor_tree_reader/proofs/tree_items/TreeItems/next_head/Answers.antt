@@ -2,8 +2,8 @@ use Rattle.std.proofs.Common.{◌∙◌, map, refl, sym, subst}
 use Rattle.cbor_head.specs.Prelude.{plain}
 use Rattle.cbor_machine.proofs.Positions.{no-payload}
 use Rattle.cbor_builder.specs.Built.{IsKeyExpected}
-use Rattle.cbor_verdict.proofs.ItemExpected.{of_reported, of_end, stopped-expected}
-use Rattle.cbor_verdict.{specs.Levels.frame, specs.Place.at_item, proofs.ParseState.is-done, proofs.Steps.next-head, proofs.Steps.limits-as}
+use Rattle.theory_verdicts.proofs.ItemExpected.{of_reported, of_end, stopped-expected}
+use Rattle.theory_verdicts.{specs.Levels.frame, specs.Place.at_item, proofs.ParseState.is-done, proofs.Steps.next-head, proofs.Steps.limits-as}
 use Rattle.cbor_tree_reader.proofs.tree_items.TreeItems.next_head.Goals as goal
 use Rattle.cbor_tree_reader.proofs.{ExpectedRefusals.expects, PartKinds.expected-opens}
 

@@ -1,7 +1,7 @@
 use Rattle.std.proofs.Common.{◌∙◌, ◌++◌, codes, ap, subst}
 use Rattle.std.{specs.Io.KnownBytes.Appends, proofs.lemmas.Result.on_ok_weaker}
 use Rattle.cbor_head.specs.Prelude.{plain, value_of, Value}
-use Rattle.cbor_verdict.proofs.Accepted.{one_item}
+use Rattle.theory_verdicts.proofs.Accepted.{one_item}
 use Rattle.cbor_diag.specs.IndentedText.{indented}
 use Rattle.cborc_commands.proofs.first_item.Scratch.print_indented.Goals as goal
 use Rattle.cborc_commands.{proofs.Results.if_err, specs.inner.NotWritten.IsNotTaken}

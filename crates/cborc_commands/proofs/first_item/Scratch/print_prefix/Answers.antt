@@ -1,7 +1,8 @@
 use Rattle.std.proofs.Common.{sym, subst}
 use Rattle.cbor_head.specs.Prelude.{value_of}
+use Rattle.cborc_words.specs.declared.request.TextStyle.{TextStyle}
 use Rattle.cborc_commands.proofs.first_item.Scratch.print_prefix.Goals as goal
-use Rattle.cborc_commands.{proofs.Results.if_err, specs.Texts.shown_text, specs.inner.NotWritten.IsNotTaken, specs.declared.request.TextStyle.TextStyle}
+use Rattle.cborc_commands.{proofs.Results.if_err, specs.Texts.shown_text, specs.inner.NotWritten.IsNotTaken}
 
 pub returns-in-OneLine-clause-fault : goal.returns-in-OneLine-clause-fault
 returns-in-OneLine-clause-fault g c =

@@ -1,0 +1,18 @@
+// Package naltvigo is deterministic CBOR (RFC 8949, section 4.2, without floating-point numbers) by a library that is
+// proved.
+//
+// Each accepted input has one canonical encoding; each refused one has a reason, and the exact offset of what is wrong:
+//
+//	canonical, err := naltvigo.Canonicalise(input, nil)
+//	var refused *naltvigo.Refused
+//	if errors.As(err, &refused) {
+//		log.Print(refused.Reason, refused.Offset)
+//	}
+//
+// A Value is made in Go, or decoded from any encoding by Unmarshal, and encoded by Marshal. An Item reads from canonical
+// bytes where they are. A Reader splits a stream into its items.
+//
+// The calls on bytes, the look-ups of an Item and the table of items that values are decoded from are proved; the rest of
+// this package is tested. The package calls the library by cgo, so it needs a C compiler. All calls may be made from any
+// number of goroutines at once.
+package naltvigo

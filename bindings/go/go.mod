@@ -1,0 +1,3 @@
+module naltvigo
+
+go 1.19

@@ -1,0 +1,7 @@
+//! Tests of `cbor_cursor` through its public calls.
+//!
+//! They are a separate crate, so that the library is proved once, and its tests on their own.
+#![tactic(auto)]
+
+#[cfg(test)]
+mod tests;

@@ -1,5 +1,0 @@
-use Rattle.cbor_model.proofs.canonical_laws.spelling_is_as_deep_as_its_value.Goals as goal
-use Rattle.cbor_model.proofs.Depth.{depth-value_of}
-
-pub returns : goal.returns
-returns c = depth-value_of

@@ -1,8 +1,0 @@
-use Rattle.std.proofs.Common.{◌≡◌, ◌-◌, take}
-use Rattle.cbor_model.proofs.key_order.compare_bytes.Given as goal
-
-abbrev pub invariant-loop-at : goal.invariant-loop-at
-invariant-loop-at l = take l.at l.a ≡ take l.at l.b
-
-abbrev pub decreases-loop-at : goal.decreases-loop-at
-decreases-loop-at l = l.last - l.at

@@ -1,7 +1,0 @@
-pub mod CanonicalSpelling
-pub mod FirstBytes
-pub mod KeyPrefix
-pub mod Lists
-pub mod Pairs
-pub mod Parts
-pub mod StrictReasons

@@ -1,0 +1,10 @@
+pub mod Amid
+pub mod Answers
+pub mod Asking
+pub mod Checking
+pub mod Clean
+pub mod KeyKinds
+pub mod Offers
+pub mod Said
+pub mod Starts
+pub mod Steps

@@ -1,0 +1,4 @@
+pub mod Reasons
+pub mod Said
+pub mod StrictMachine
+pub mod inner

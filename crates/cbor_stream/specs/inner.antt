@@ -1,0 +1,2 @@
+-- What private functions speak of; no public contract does.
+pub mod Amid

@@ -1,3 +1,0 @@
--- What private functions speak of; no public contract does.
-pub mod Commands
-pub mod WordsEnd

@@ -1,0 +1,10 @@
+use Rattle.std.proofs.Common.{◌≡◌, rules, true}
+use Rattle.cborc_files.proofs.visible.VisibleCharacterDisplay.fmt.Goals as goal
+use Rattle.cborc_files.specs.Visible.{is_hidden}
+
+pub returns-then-is_hidden-clause-writes : goal.returns-then-is_hidden-clause-writes
+returns-then-is_hidden-clause-writes g c plain ok =
+    let code : c.from-code.result ≡ c.args.self.now.0 = search rules in
+    let hidden : is_hidden c.args.self.now.0 ≡ true = search rules in
+    let written = (rw (c.laid_out.ensures, c.in_radix.ensures, code) at c.write.ensures.writes) plain ok in
+    rw hidden written

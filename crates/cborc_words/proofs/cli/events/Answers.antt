@@ -1,0 +1,17 @@
+use Rattle.std.proofs.Common.{◌≡◌, ◌∙◌, ap, codes, rules}
+use Rattle.std.proofs.lemmas.Result.{IfOk-weaker}
+use Rattle.clap.specs.Words.{App, app_of, new_app}
+use Rattle.cborc_words.specs.Cli as grammar
+use Rattle.cborc_words.proofs.cli.events.Goals as goal
+use Rattle.cborc_words.{specs.inner.Commands.with_rules, specs.inner.Commands.HasRule, proofs.Builds.adds_rule}
+
+pub returns : goal.returns
+returns c =
+    let empty : app_of c.about.result ≡ new_app (codes "events") = search rules in
+    let first : HasRule (grammar.input (codes "FILE")) c.input.result = search rules in
+    let second : HasRule (grammar.flag (codes "annotate")) c.flag.result = search rules in
+    let third : HasRule grammar.sequence c.sequence.result = search rules in
+    let one = adds_rule _ _ _ _ _ c.in_ok-arg.ensures empty first in
+    let two = adds_rule _ _ _ _ _ c.in_ok-arg-2.ensures one second in
+    let command = adds_rule _ _ _ _ _ c.in_ok-command.ensures two third in
+    IfOk-weaker c.with_options.result _ _ (λ r h. (h.0, h.1 ∙ ap (λ (app : App). with_rules app (grammar.options h.0)) command)) c.with_options.ensures

@@ -1,0 +1,183 @@
+#!/usr/bin/env python3
+"""Writes limits and other numbers into every file that states them, from their one home each.
+
+    scripts/limits.py            writes them
+    scripts/limits.py --check    fails if a file states another number, or does not state it as the table says
+
+DECLARED has the home of each number: a file, and the piece of its text with NUMBER in it. A row of STATED is such a pair
+for a file that repeats the number. Tests have numbers of their own, so that they notice a change.
+"""
+
+import re
+import sys
+from pathlib import Path
+
+ROOT = Path(__file__).resolve().parent.parent
+
+# Where each number is declared.
+DECLARED = {
+    "greatest depth": ("crates/cbor_head/src/limits.rt", "pub const MAX_DEPTH: u16 = NUMBER;"),
+    "greatest exponent of bytes": ("crates/cbor_head/src/limits.rt", "bytes <= 1 << NUMBER"),
+    "default depth of the library": ("include/naltvigo.h", "= {UINT64_C(1) << 20, NUMBER, NALTVIGO_BYTEWISE"),
+    "default exponent of bytes": ("include/naltvigo.h", "= {UINT64_C(1) << NUMBER, "),
+    "default depth of the program": ("crates/cborc_words/src/cli.rt", '.default_value("NUMBER")'),
+    "depth in databases": ("bindings/sqlite/calls.h", "CBOR_DEPTH = NUMBER,"),
+    "exponent of bytes in databases": ("bindings/sqlite/calls.h", "CBOR_BYTES = 1 << NUMBER }"),
+    "first simple value that does not exist": ("crates/cbor_head/src/simple.rt", "if number < NUMBER ||"),
+    "first simple value in two bytes": ("crates/cbor_head/src/simple.rt", "|| number >= NUMBER {"),
+}
+
+STATED = {
+    "greatest depth": [
+        ("include/naltvigo.h", "#define NALTVIGO_DEPTH_MAX UINT32_C(NUMBER)"),
+        ("include/naltvigo.h", " *  - NALTVIGO_DEPTH_MAX is NUMBER."),
+        ("crates/cbor_head/specs/Limits.antt", "a depth up to the greatest, NUMBER, and"),
+        ("crates/cbor_head/src/limits.rt", "may nest, from 0 to NUMBER, how"),
+        ("crates/cbor_head/src/limits.rt", "for a depth above NUMBER or"),
+        ("crates/cbor_head/src/limits.rt", "(depth ≤ NUMBER)"),
+        ("crates/cbor_head/wrong-bodies/greatest_depth_600.edit", "old: pub const MAX_DEPTH: u16 = NUMBER;"),
+        ("crates/cbor_diag/specs/Sentences.antt", "the depth limit, which can be at most NUMBER."),
+        ("crates/cbor_diag/src/sentences.rt", "the depth limit, which can be at most NUMBER."),
+        ("bindings/rust/src/raw.rs", "pub const DEPTH_MAX: usize = NUMBER;"),
+        ("bindings/rust/src/options.rs", "and tags may nest, 0 to NUMBER,"),
+        ("bindings/rust/src/options.rs", "depth limit, in levels, 0 to NUMBER."),
+        ("bindings/rust/src/options.rs", "and tags may nest, 0 to NUMBER."),
+        ("bindings/rust/README.md", "limits are NUMBER levels and"),
+        ("bindings/go/options.go", "\tMaxDepth = NUMBER\n"),
+        ("bindings/js/src/numbers.js", "export const DEPTH_MAX = NUMBER;"),
+        ("bindings/js/src/load.d.ts", "may nest: 0 to NUMBER, and"),
+        ("bindings/python/src/naltvigo/__init__.py", "may nest (0 to NUMBER), and"),
+        ("web/src/inspection.js", "const DEPTH_MAX = NUMBER;"),
+        ("web/src/main.js", "the depth is 0 to NUMBER, the"),
+        ("web/index.html", 'id="depth" type="number" min="0" max="NUMBER"'),
+        ("share/cborc.1", "may nest, 0 to NUMBER. The default"),
+        ("scripts/run_limited.py", "DEEPEST = NUMBER"),
+        ("fuzz/languages.py", "LIMITS = Limits(NUMBER, "),
+        ("README.md", "up to NUMBER levels and"),
+        ("docs/COMPARED.md", "depth 0 to NUMBER ("),
+        ("docs/CONTRACTS.md", "`MAX_DEPTH` (NUMBER)"),
+        ("docs/CONTRACTS.md", "(depth ≤ NUMBER) ×"),
+        ("docs/PERFORMANCE.md", "of stack at depth NUMBER"),
+    ],
+    "greatest exponent of bytes": [
+        ("include/naltvigo.h", "#define NALTVIGO_BYTES_MAX (UINT64_C(1) << NUMBER)"),
+        ("crates/cbor_head/src/limits.rt", "(bytes ≤ 2 ^ NUMBER)"),
+        ("crates/cbor_head/specs/Limits.antt", "and up to 2^NUMBER bytes"),
+        ("bindings/rust/src/options.rs", "canonical bytes may have, 0 to 2^NUMBER."),
+        ("bindings/rust/src/options.rs", "byte limit, 0 to 2^NUMBER."),
+        ("bindings/js/src/load.d.ts", "may have: 0 to 2 ** NUMBER, and"),
+        ("bindings/python/src/naltvigo/__init__.py", "may have (0 to 2 ** NUMBER)"),
+        ("README.md", "levels and 2^NUMBER bytes. Each array"),
+        ("docs/COMPARED.md", "bytes 0 to 2^NUMBER ("),
+        ("docs/CONTRACTS.md", "number of bytes is at most 2^NUMBER"),
+    ],
+    "default depth of the library": [
+        ("include/naltvigo.h", "tags may nest; default NUMBER */"),
+        ("share/cborc.1", "that of the library is NUMBER."),
+        ("docs/C.md", "the limits are NUMBER levels"),
+        ("docs/COMPARED.md", "(NUMBER by default, "),
+        ("docs/DECISIONS.md", "The default depth is NUMBER in the library"),
+        ("docs/SCALE.md", "the Python package, NUMBER levels and"),
+        ("README.md", "defaults are NUMBER levels and"),
+        ("bindings/js/src/load.d.ts", "0 to 1024, and NUMBER by default."),
+        ("bindings/go/options.go", "2^20 bytes, NUMBER levels,"),
+        ("bindings/go/README.md", "keys of any kind, NUMBER levels,"),
+        ("bindings/rust/README.md", "keys of any kind, NUMBER levels,"),
+    ],
+    "default exponent of bytes": [
+        ("include/naltvigo.h", "may have; default 2^NUMBER */"),
+        ("docs/COMPARED.md", "(2^NUMBER by default)"),
+        ("docs/SCALE.md", "levels and 2^NUMBER bytes"),
+        ("README.md", "levels and 2^NUMBER bytes. The default"),
+        ("bindings/js/src/load.d.ts", "2 ** 62, and 2 ** NUMBER by default."),
+        ("bindings/go/options.go", "are 2^NUMBER bytes,"),
+        ("bindings/go/README.md", "levels, 2^NUMBER bytes"),
+        ("bindings/rust/README.md", "levels, 2^NUMBER bytes"),
+    ],
+    "default depth of the program": [
+        ("share/cborc.1", "The default is NUMBER; that of the library"),
+        ("docs/C.md", "levels (NUMBER in `cborc`)"),
+        ("docs/COMPARED.md", "by default, NUMBER in the program"),
+        ("docs/DECISIONS.md", "It is NUMBER in the program"),
+        ("README.md", "default of `cborc` is NUMBER levels"),
+        ("web/index.html", 'max="1024" value="NUMBER"'),
+    ],
+    "depth in databases": [
+        ("bindings/postgresql/calls.h", "CBOR_DEPTH = NUMBER,"),
+        ("bindings/sqlite/README.md", "may have at most NUMBER levels"),
+        ("bindings/postgresql/README.md", "may have at most NUMBER levels"),
+        ("docs/DECISIONS.md", "fixed limits (NUMBER levels"),
+        ("README.md", "fixed limits: NUMBER levels and"),
+    ],
+    "exponent of bytes in databases": [
+        ("bindings/postgresql/calls.h", "CBOR_BYTES = 1 << NUMBER"),
+        ("bindings/sqlite/README.md", "levels and 2^NUMBER bytes"),
+        ("bindings/postgresql/README.md", "levels and 2^NUMBER bytes"),
+        ("docs/DECISIONS.md", "(256 levels, 2^NUMBER"),
+        ("README.md", "levels and 2^NUMBER bytes. A sequence"),
+    ],
+    "first simple value that does not exist": [
+        ("crates/cbor_head/src/simple.rt", "none for NUMBER to 31, which"),
+        ("crates/cbor_head/specs/Head.antt", "(NUMBER ≤ n → "),
+        ("crates/cbor_diag/src/sentences.rt", "the values NUMBER to 31 do not exist."),
+        ("include/naltvigo.h", "a simple value (kind 7) of NUMBER to 31"),
+        ("include/naltvigo_writer.h", "The numbers NUMBER to 31 do not exist"),
+        ("bindings/rust/src/value.rs", "NUMBER..=31 => None,"),
+        ("bindings/rust/src/value.rs", "None for NUMBER to 31, which"),
+    ],
+    "first simple value in two bytes": [
+        ("crates/cbor_head/src/simple.rt", "from 0 to 23 or from NUMBER to 255"),
+        ("crates/cbor_head/specs/Head.antt", "0 to 23 or NUMBER to 255"),
+        ("crates/cbor_head/specs/Head.antt", "(24 ≤ n → NUMBER ≤ n)"),
+        ("crates/cbor_diag/src/sentences.rt", "A simple value below NUMBER must"),
+        ("include/naltvigo.h", "a simple value below NUMBER in two bytes"),
+        ("include/naltvigo_writer.h", "0 to 23 or NUMBER to 255."),
+        ("bindings/rust/src/value.rs", "0 to 23, or NUMBER to 255."),
+        ("bindings/python/src/native/native.h", "number >= 20 && number < NUMBER;"),
+        ("bindings/python/src/native/simple.c", "0 to 19, or NUMBER to 255"),
+        ("bindings/python/src/native/documentation.c", "0 to 19, or NUMBER to 255."),
+        ("bindings/js/src/values.js", "0 to 19, or NUMBER to 255."),
+        ("bindings/js/src/values.js", "0 to 19, or NUMBER to 255, and"),
+        ("bindings/js/src/load.d.ts", "0 to 19, or NUMBER to 255."),
+        ("bindings/go/value.go", "0 to 23 or NUMBER to 255."),
+        ("docs/TRUST.md", "0 to 23 and NUMBER to 255."),
+    ],
+}
+
+
+def pattern(text):
+    """A piece of text as a regular expression, with the number in a group of its own."""
+    before, after = text.split("NUMBER")
+    return re.compile(f"({re.escape(before)})([0-9][0-9,]*)({re.escape(after)})")
+
+
+def declared(name):
+    file, text = DECLARED[name]
+    return int(pattern(text).search((ROOT / file).read_text(encoding="utf-8"))[2])
+
+
+def stated(number, like):
+    """The number, with a comma for thousands if the text has one."""
+    return f"{number:,}" if "," in like else str(number)
+
+
+def main():
+    faults = 0
+    for name, rows in STATED.items():
+        number = declared(name)
+        for file, text in rows:
+            path, form = ROOT / file, pattern(text)
+            now = path.read_text(encoding="utf-8")
+            new, count = form.subn(lambda found: found[1] + stated(number, found[2]) + found[3], now)
+            if not count:
+                print(f"{file} does not state the {name} as: {text}")
+            elif new != now and "--check" in sys.argv:
+                print(f"{file}: the {name} is {number}, and the text states another number: {text}")
+            elif new != now:
+                path.write_text(new, encoding="utf-8")
+            faults += not count or (new != now and "--check" in sys.argv)
+    return 1 if faults else 0
+
+
+if __name__ == "__main__":
+    sys.exit(main())

@@ -1,0 +1,132 @@
+#!/usr/bin/env python3
+"""Plants bugs in a binding, one at a time, and shows that its tests fail for each.
+
+    scripts/test_planted.py [--check] [--all] BINDING [NAME ..]
+
+BINDING is a folder of bindings/ with a folder planted/, whose files NAME.edit have the form of edit_files.py. Without a
+NAME a few are tried, by the number of commits, so that the gate tries each of them in turn. --check only checks that the
+texts are there. For Rust NALTVIGO_LIB names the library, for SQLite PREFIX its installation and PYTHON a Python that loads
+extensions, for PostgreSQL PREFIX, and DESTDIR, PG_CONFIG and PGHOST the server (scripts/test_databases.sh).
+
+A line `tests:` before the first file of an edit names the tests that find it; else they are all but those of time. For Rust
+it is a file of tests/ and one of its tests, for SQLite a class and its test, for PostgreSQL `time`.
+"""
+
+import os
+import resource
+import shutil
+import signal
+import subprocess
+import sys
+import tempfile
+import time
+from pathlib import Path
+
+import edit_files
+
+ROOT = Path(__file__).resolve().parent.parent
+A_TURN = 3
+MEMORY = 4 << 30
+
+LIBRARY = f"NALTVIGO={os.environ.get('PREFIX', '')}"
+# A database of its own; what the server does for a client that is ended here ends too.
+TIMES = """set -e; PGDATABASE=template1 psql -qc "CREATE DATABASE planted_$$"; export PGDATABASE=planted_$$
+PGOPTIONS='-c client_connection_check_interval=1s' psql -Xq -v ON_ERROR_STOP=1 -f test/time.sql"""
+
+
+def commands(binding, tests):
+    """What builds a binding and what tests it, in a copy of its folder. `tests` are the names of some, or None."""
+    if binding == "rust":
+        names = tests[:1] if tests else ["calls", "items", "maps", "reader", "room", "thresholds", "values"]
+        run = ["cargo", "test", "--offline", "-q", *(f"--test={it}" for it in names)]
+        return [*run, "--no-run"], [*run, *(tests or [])[1:]]
+    if binding == "sqlite":
+        return ["make", "-s", LIBRARY], [os.environ.get("PYTHON", "python3"), "test_sqlite.py", *(tests or ["Tests", "Tables"])]
+    return ["make", "-s", LIBRARY, "all", "install"], ["sh", "-c", TIMES] if tests == ["time"] else ["make", "-s", LIBRARY, "installcheck"]
+
+
+def tests_of(edit):
+    """The names of the tests that find an edit, or None."""
+    return edit_files.read_edit(edit)[0].get("tests", "").split() or None
+
+
+def applied(folder, edit):
+    """The texts of the files that an edit changes, by path; or None and why it cannot be applied."""
+    try:
+        return edit_files.apply(folder, edit_files.read_edit(edit)[1]), None
+    except edit_files.BadEdit as bad:
+        return None, f"planted: {edit.stem}: {bad}"
+
+
+def chosen(edits):
+    """The edits whose turn it is."""
+    run = subprocess.run(["git", "rev-list", "--count", "HEAD"], cwd=ROOT, capture_output=True, text=True)
+    turn = int(run.stdout) if run.returncode == 0 else 0
+    return [edits[(turn * A_TURN + at) % len(edits)] for at in range(min(A_TURN, len(edits)))]
+
+
+def limit_memory():
+    """A limit on the memory of each process: a bug that takes memory without an end fails too."""
+    resource.setrlimit(resource.RLIMIT_AS, (MEMORY, MEMORY))
+
+
+def outcome(binding, folder, scratch, tests, seconds):
+    """'builds not', 'fails' or 'passes', and the seconds of the tests. A bug without an end fails after these seconds."""
+    words = {**os.environ, "CARGO_TARGET_DIR": f"{scratch}/target", "CARGO_PROFILE_TEST_OPT_LEVEL": "0", "NALTVIGO_SQLITE": f"{folder}/naltvigo_sqlite"}
+    build, run = commands(binding, tests)
+    if subprocess.run(build, cwd=folder, env=words, capture_output=True).returncode:
+        return "builds not", 0
+    begin = time.monotonic()
+    quiet = {"stdout": subprocess.DEVNULL, "stderr": subprocess.DEVNULL}
+    running = subprocess.Popen(run, cwd=folder, env=words, **quiet, start_new_session=True, preexec_fn=limit_memory)
+    try:
+        status = running.wait(seconds)
+    except subprocess.TimeoutExpired:
+        # with the processes that it began
+        os.killpg(running.pid, signal.SIGKILL)
+        status = running.wait()
+    return "fails" if status else "passes", time.monotonic() - begin
+
+
+def copied(folder, scratch, edit):
+    """A copy of a binding, with what it reads of the repository, and with an edit if there is one."""
+    copy = scratch / "bindings" / folder.name
+    shutil.rmtree(copy, ignore_errors=True)
+    shutil.copytree(folder, copy, ignore=shutil.ignore_patterns("target", "planted", "*.so", "*.o"))
+    if not (scratch / "crates").exists():
+        for it in ("crates", "portable"):
+            (scratch / it).symlink_to(ROOT / it)
+        os.chmod(scratch, 0o755)
+    for file, text in applied(copy, edit)[0].items() if edit else ():
+        (copy / file).write_text(text, encoding="utf-8")
+    return copy
+
+
+def main(words):
+    options = [it for it in words if it.startswith("--")]
+    binding, *names = [it for it in words if not it.startswith("--")] or [""]
+    folder = ROOT / "bindings" / binding
+    if binding not in ("rust", "sqlite", "postgresql") or set(options) - {"--check", "--all"}:
+        sys.exit(__doc__)
+    edits = sorted((folder / "planted").glob("*.edit"))
+    found = [why for edit in edits if (why := applied(folder, edit)[1])]
+    if found or "--check" in options:
+        print("\n".join(found) or f"planted: {binding}: the texts of {len(edits)} bugs are there")
+        return 1 if found or not edits else 0
+    tried = [it for it in edits if it.stem in names] if names else edits if "--all" in options else chosen(edits)
+    missed, limits = 0, {}
+    with tempfile.TemporaryDirectory() as scratch:
+        for edit in tried:
+            tests = tests_of(edit)
+            # first without a bug; with one, they may take a few times as long
+            for it in [edit] if str(tests) in limits else [None, edit]:
+                result, seconds = outcome(binding, copied(folder, Path(scratch), it), scratch, tests, limits.get(str(tests), 3600))
+                print(f"planted: {binding}: {it.stem if it else 'nothing'}: {result}, {seconds:.0f} s", flush=True)
+                missed += result != ("fails" if it else "passes")
+                limits.setdefault(str(tests), 30 + 3 * seconds)
+    print(f"planted: {binding}: {len(tried)} of {len(edits)} bugs tried, {missed} not as expected")
+    return 1 if missed else 0
+
+
+if __name__ == "__main__":
+    sys.exit(main(sys.argv[1:]))
