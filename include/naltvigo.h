@@ -590,7 +590,6 @@ static inline uint32_t naltvigo_index(const uint8_t *in, size_t in_length,
  * Any bytes and any offset are safe: if the status is OK, offset < content <= end <= `in_length`. If an item in its
  * canonical bytes begins at the offset, the status is OK and `*item` is that item. So call naltvigo_check_canonical
  * first. naltvigo_item_at reads the item once, to find its end. It allocates no memory.
-
  *
  * Returns OK, NOT_THERE. If the status is not OK, `*item` is unchanged.
  */
