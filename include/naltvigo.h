@@ -47,12 +47,12 @@
  *    called there. (The calls that allocate no memory may be made there. They are listed below.)
  *
  * Ownership
- *  - The library stores no pointer beyond a call, and returns none: there is nothing to free.
+ *  - The library keeps no pointer after a call and returns none: there is nothing to free.
  *
  * Memory
- *  - Memory comes from the program's malloc and realloc. A call frees all of it before it returns. It allocates at most an
- *    amount in proportion to the bytes of its input: no memory is allocated because of a length in a head.
- *    docs/PERFORMANCE.md has figures.
+ *  - Memory comes from the program's malloc, realloc and free. A call frees all of it before it returns. It allocates at most
+ *    an amount in proportion to the bytes of its input: a length in a head allocates nothing. docs/PERFORMANCE.md has
+ *    figures.
  *  - naltvigo_check_canonical, naltvigo_next_canonical, naltvigo_index, naltvigo_item_at, naltvigo_find,
  *    naltvigo_put_head, naltvigo_reason_name, naltvigo_writer_*_raw, naltvigo_get_*_raw and the calls of a machine allocate
  *    no memory. Their signatures in Rattle show this: no parameter is an allocator.
