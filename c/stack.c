@@ -12,7 +12,7 @@
 #define NOT_INLINE
 #endif
 
-/* On each system where this runs, the main thread has more stack. A call needs a sixteenth of this. */
+/* The main thread has more on each system that this runs on; a call needs a sixteenth of this. */
 enum { PAINTED = 1 << 20, PAINT = 0xa5, CALLS = 11 };
 
 static uintptr_t lowest;
