@@ -2,7 +2,7 @@
 """Has the prover refuse the wrong bodies of crates/NAME/wrong-bodies/, many in one check:
 
     scripts/edits.py [--proved] NAME ..    those of these crates
-    scripts/edits.py [--proved] --all      those of all crates: two to three processor hours
+    scripts/edits.py [--proved] --all      those of all crates: up to two processor hours
     scripts/edits.py [--proved] --sample   those of each crate that changed in the last 20 commits, and of a quarter of the
                                            others: the number of commits determines it, so that four commits try all
     scripts/edits.py --apply-only [NAME ..]  proves nothing: whether each edit there, and in must-fail/, can be applied
@@ -36,7 +36,7 @@ COMMITS, TURNS = 20, 4
 # A check with two jobs needs little more processor time than one with one job.
 JOBS = 2
 # Seconds of a processor for each wrong body, on average: for the first line that is printed.
-SECONDS_EACH = 26
+SECONDS_EACH = 18
 printing = threading.Lock()
 
 
