@@ -3,7 +3,7 @@
 #
 #     now NAME                     runs a stage, the function of that name, to its end
 #     plan NAME SHARE [NEED ..]    a stage, how many processors it uses, and the stages that it needs
-#     run_stages                   runs those that are planned, in their order where two could begin; after a failure it goes on
+#     run_stages                   runs those that are planned, in their order where two could begin; after a failure it continues
 #                                  with those that do not need what failed, and then exits with 1
 #     has_ended NAME               whether a stage has ended, passed or failed; also in another stage
 #     end_stages                   ends those that run
@@ -25,7 +25,7 @@ has_failed() { [[ " ${failed[*]} " == *" $1 "* ]]; }
 start() {
     began[$1]=$SECONDS
     case $1 in
-        # what takes minutes is seen while it runs
+        # their output is shown while they run, because they take minutes
         unit_tests | proofs) "$1" </dev/null & ;;
         *) "$1" >"$scratch/$1.log" 2>&1 </dev/null & ;;
     esac

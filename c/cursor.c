@@ -92,7 +92,7 @@ static void values_of_getters(void) {
 /* {1: "a", 10: [2, 3], -1: h'', "b": {}, [0]: 7(null), false: true} */
 static const char mixed[] = "a60161610a820203204061" "62a08100c7f6f4f5";
 
-/* The call led to the item at this offset, or nowhere for this reason. */
+/* The call returned the item at this offset, or no item and this status. */
 static void leads_to(struct naltvigo_cursor at, uint64_t offset, const char *what) {
     check(at.status == NALTVIGO_OK && at.item.offset == offset, "leads to", what);
 }

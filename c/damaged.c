@@ -72,7 +72,7 @@ static void walk(struct naltvigo_cursor at) {
     is_within(naltvigo_next(at), "next");
 }
 
-/* What naltvigo_put_encoded takes is one member between two others, or no item comes of them. */
+/* If bytes that naltvigo_put_encoded put between two members can be finished, they are one member. */
 static void keeps_its_neighbours(const uint8_t *bytes, size_t length) {
     static uint8_t items[8192], out[8192];
     size_t needed = 0;
@@ -89,7 +89,7 @@ static void keeps_its_neighbours(const uint8_t *bytes, size_t length) {
     between_neighbours++;
 }
 
-/* Walks over an input from the item that is there now, and from what a cursor found before the change. */
+/* Visits the items of an input from its first item as it is now, and from what a cursor found before the change. */
 static void try_input(const uint8_t *bytes, size_t length, const struct naltvigo_cursor *before) {
     const struct naltvigo_cursor now = naltvigo_cursor_at(bytes, length, 0);
     struct naltvigo_writer writer = naltvigo_write_to(NULL, 0);

@@ -105,7 +105,7 @@ static void first_bytes(void) {
     }
 }
 
-/* ---- the items of canonical bytes, as RFC 8949 has them ---- */
+/* ---- the items of canonical bytes, as RFC 8949 defines them ---- */
 
 static uint64_t argument_of(const uint8_t *in, size_t *at) {
     const unsigned low = in[(*at)++] % 32;

@@ -38,7 +38,7 @@ static void join(struct reported *reported, struct naltvigo_event event) {
         reported->events[reported->count++] = event;
 }
 
-/* That the events, the last status and the refusal are the row's. */
+/* Checks that the events, the last status and the refusal are those of the row. */
 static void compare(const struct events_row *row, const struct reported *reported, uint32_t status, struct naltvigo_refusal why) {
     check(status == row->status, "status", row->given);
     check(reported->count == row->count, "count of events", row->given);

@@ -47,7 +47,7 @@ static uint32_t check_valid(void) { return naltvigo_check_valid(in, sizeof in, L
 static uint32_t compare(void) { return naltvigo_compare(in, sizeof in, in, sizeof in, LIMITS(256, 1000), &side, &why); }
 static uint32_t diagnostic(void) { return naltvigo_diagnostic(in, sizeof in, LIMITS(256, 1000), (char *)out, sizeof out, &needed, &why); }
 static uint32_t explain(void) {
-    /* a float as the value of the key {"a": 1}: the path has that key, which takes memory */
+    /* a float as the value of the key {"a": 1}: the path contains this key, which needs memory */
     static const uint8_t item[] = {0x81, 0xa1, 0xa1, 0x61, 'a', 1, 0xf9, 0, 0};
     const struct naltvigo_refusal at = {NALTVIGO_FLOAT, 6, 7};
     uint32_t status = naltvigo_explain(item, sizeof item, LIMITS(256, 1000), &at, (char *)out, sizeof out, &needed);
@@ -117,7 +117,7 @@ static int refuse_each(const char *name, uint32_t (*call)(void), uint32_t status
         } else {
             refusals++;
             bad |= s != NALTVIGO_NO_MEMORY || why.reason != NALTVIGO_MEMORY || why.offset != why.consumed;
-            /* At the front; if there was no memory only for the text, after the input. */
+            /* At offset 0; or at the end of the input, if there was no memory for the text alone. */
             bad |= why.consumed != 0 && (call != diagnostic || why.consumed != sizeof in);
             bad |= memcmp(out, before, sizeof out) != 0 || needed != 0;
         }

@@ -1,5 +1,5 @@
 /* Random items: put_sample puts one, and read_sample, from the same seed, checks that a cursor reads the same values.
- * Both draw the same numbers in the same order, so no tree of values is kept. */
+ * Both draw the same numbers in the same order, so no tree of values is stored. */
 #include <naltvigo_values.h>
 
 static uint64_t seed = 1; /* never 0 */

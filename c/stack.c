@@ -25,7 +25,7 @@ static size_t length;
 static uint32_t depth;
 static int call;
 
-/* All events of the item; the machine lies elsewhere. */
+/* All events of the item. The machine is not on the stack. */
 static void events(void) {
     static struct naltvigo_machine machine;
     static struct naltvigo_event space[4];
@@ -80,7 +80,7 @@ static NOT_INLINE size_t left(void) {
     return i;
 }
 
-/* What a call of this writes of the stack. */
+/* How many bytes of the stack a call of this function needs. */
 static NOT_INLINE size_t written_by(void (*function)(void)) {
     paint();
     function();
@@ -91,7 +91,7 @@ static void put(const char *bytes, size_t count, size_t times) {
     for (; times; times--, length += count) memcpy(in + length, bytes, count);
 }
 
-/* An item of this depth; 0 if there is no further one. */
+/* Makes an item of this shape and depth. Returns 0 if there is no such shape. */
 static int make(int shape, size_t levels) {
     static const uint8_t zeros[2048];
     const size_t inner = levels ? levels - 1 : 0;

@@ -48,7 +48,7 @@ static void is_refused(const struct row *row, uint32_t order, const uint8_t *in,
     check(all_are(out, sizeof out, 0xaa), "kept", row->given);
 }
 
-/* Whether this is the result of a call for the front of an input that is one item of n bytes, or that is so refused. */
+/* Whether this is the result of a call that reads the first item of an input: an item of n bytes, or this refusal. */
 static int is_front(uint32_t s, uint64_t taken, struct naltvigo_refusal why, struct naltvigo_refusal wanted, size_t n) {
     if (wanted.reason) return s == NALTVIGO_REFUSED && taken == 0 && are_equal(why, wanted);
     return s == NALTVIGO_OK && taken == n;
@@ -274,7 +274,7 @@ static void defaults(void) {
     free(text);
 }
 
-/* A caller that does not ask why: for a break, which each call refuses, and for what it accepts. */
+/* Null for the refusal: with a break, which each call refuses, and with an input that it accepts. */
 static void no_refusal_wanted(void) {
     const uint8_t stray = 0xff, one = 1;
     uint8_t out[8];

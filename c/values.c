@@ -1,4 +1,4 @@
-/* values: reads lines of hex digits, each an item. Writes the canonical bytes of each value that was read, put anew, to a
+/* values: reads lines of hex digits, each an item. Puts each value that it read again, and writes its canonical bytes to a
  * line, in hex digits, or `refused 5 Float at 1`: values [bytewise|length [MAX_BYTES]] < LINES. */
 #include <naltvigo_values.h>
 #include <stdio.h>

@@ -1,4 +1,4 @@
-/* Compares the library with the results of another machine's: vectors FILE, which fuzz/vectors.py writes and describes.
+/* Compares the results of the library with those on another machine: vectors FILE, which fuzz/vectors.py writes and describes.
  * Prints the number of calls; the status is 0 if all results are equal. */
 #include <naltvigo.h>
 

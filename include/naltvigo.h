@@ -3,12 +3,12 @@
  *
  * This header declares the calls that make canonical bytes, check, compare and print CBOR items, and that find the
  * items in canonical bytes. naltvigo_values.h adds inline functions that make items from values of C and read values
- * out of them.
+ * from them.
  *
  * Each exported function is proved: for every input it is safe, it returns, and its result is what its contract says
- * (crates/naltvigo/src). This file says the same in words. The gate compares the numbers and signatures with that crate. What
- * is said below about memory, the stack and threads is tested. The inline functions are C, and are tested, not proved. Nothing
- * checks what the caller must do ("What the caller must ensure").
+ * (crates/naltvigo/src). This file says the same in words. The gate compares the numbers and signatures with that crate. The
+ * sections on memory, the stack and threads are tested, not proved. So are the inline functions, which are C. Nothing checks
+ * that the caller does what "What the caller must ensure" says.
  *
  *     uint8_t out[512];
  *     size_t needed;
@@ -44,7 +44,7 @@
  *  - `out`, `*needed`, `*side`, `*refusal` and the other outputs overlap neither an input nor each other. During the call
  *    nobody else reads or writes them, and nobody writes an input. Outputs need not be initialised.
  *  - No call is made from a signal handler, or in the child of a fork of a process with threads, because malloc may not be
- *    called there. (The calls that allocate no memory, listed below, do not call malloc.)
+ *    called there. (The calls that allocate no memory may be made there. They are listed below.)
  *
  * Ownership
  *  - The library keeps no pointer after a call and returns none: there is nothing to free.
@@ -55,7 +55,7 @@
  *    figures.
  *  - naltvigo_check_canonical, naltvigo_next_canonical, naltvigo_index, naltvigo_item_at, naltvigo_find,
  *    naltvigo_put_head, naltvigo_reason_name, naltvigo_writer_*_raw, naltvigo_get_*_raw and the calls of a machine allocate
- *    no memory. This is proved: they have no allocator.
+ *    no memory. Their signatures in Rattle show this: no parameter is an allocator.
  *  - If malloc returns NULL, the call returns NALTVIGO_NO_MEMORY and leaves `out` unchanged. It may be tried again. malloc
  *    and realloc must align to 16 bytes, as C libraries for 64 bits do.
  *
@@ -117,10 +117,10 @@ enum {
     NALTVIGO_BAD_ORDER = 4,  /* `order` is neither of the two orders */
     NALTVIGO_BAD_LIMITS = 5, /* `depth` or `bytes` is out of range, or `keys` is neither of the two kinds */
     NALTVIGO_DIFFERENT = 6,  /* the two inputs have different values */
-    NALTVIGO_EVENT = 7,      /* `*event` is the next event */
+    NALTVIGO_EVENT = 7,      /* `events` is full; naltvigo_machine_step: `*event` is the next event */
     NALTVIGO_MORE = 8,       /* the whole input was used, and the item is not complete */
     NALTVIGO_BAD_MACHINE = 9, /* `*machine` is not a machine */
-    NALTVIGO_NOT_THERE = 10,  /* no item begins at the offset, or no pair of the map has the key */
+    NALTVIGO_NOT_THERE = 10,  /* there is no such item, member or key */
     NALTVIGO_WRONG_KIND = 11, /* the item is of another kind */
     NALTVIGO_BAD_HEAD = 12,   /* no head has this kind with this number */
     NALTVIGO_OUT_OF_RANGE = 13 /* the number does not fit the type (naltvigo_values.h) */
@@ -191,27 +191,27 @@ struct naltvigo_refusal {
 };
 
 /* A machine: it reads one item that arrives in parts of any length, and reports its events. The caller owns its 9.1 KiB.
- * It holds no pointer, so it may be copied, moved and stored. A caller may read the fields. Only the calls of a machine
- * write them: with other numbers naltvigo_machine_take returns NALTVIGO_BAD_MACHINE, or what some machine within its limits
- * would return, which is safe but describes no item. */
+ * It contains no pointer, so it may be copied, moved and stored. A caller may read the fields, but only the calls of a machine
+ * may write them. If the caller writes other numbers, naltvigo_machine_take is still safe and stays within the limits, but it
+ * returns NALTVIGO_BAD_MACHINE, or events that describe no item. */
 struct naltvigo_machine {
     uint64_t bytes;    /* the byte limit */
     uint64_t consumed; /* the number of bytes consumed */
     uint64_t reported; /* how many of these bytes belong to events that were reported */
-    uint64_t number;   /* of an open head, its argument so far; of an open payload, how many bytes follow the next byte */
+    uint64_t number;   /* within a head: its argument so far; within a payload: how many bytes follow the next byte */
     uint64_t offset;   /* the offset of what was refused */
     uint16_t depth;    /* the depth limit */
     uint16_t open;     /* the number of open arrays, maps and tags */
     uint8_t position;  /* 0: before an item; 1: within a head; 2: before the number of a simple value; 3: within a
                         * payload; 4: before a chunk; 5: after the item */
     uint8_t kind;      /* the major type of the head, payload or string */
-    uint8_t width;     /* of an open head: 1, 2, 3, 4 for an argument of 1, 2, 4, 8 bytes */
+    uint8_t width;     /* within a head: 1, 2, 3, 4 for an argument of 1, 2, 4, 8 bytes */
     uint8_t left;      /* how many bytes of the argument follow the next one */
     uint8_t chunk;     /* 1 if the head or payload belongs to a chunk, else 0 */
     uint8_t reason;    /* the reason why the item was refused, or 0 */
-    /* Of each open array, map or tag, the outermost first: how many members or pairs follow the one that is expected
-     * now, and its kind: 0 an array, 1 an array of indefinite length, 2 a map, 3 a map before a value, 4 and 5 the same
-     * two of indefinite length, 6 a tag. The rest of both arrays is unused. */
+    /* An element for each open array, map or tag, the outermost first. `remaining`: how many members or pairs follow the one
+     * that is expected now. `kinds`: 0 an array, 1 an array of indefinite length, 2 a map before a key, 3 a map before a value,
+     * 4 and 5 the same for a map of indefinite length, 6 a tag. The rest of both arrays is unused. */
     uint64_t remaining[NALTVIGO_DEPTH_MAX];
     uint8_t kinds[NALTVIGO_DEPTH_MAX];
 };
@@ -226,11 +226,11 @@ enum {
 /* The width of an event without an argument: an indefinite length, or a break. */
 enum { NALTVIGO_NO_ARGUMENT = 255 };
 
-/* An event. An element of the array that no event was written to is unchanged. */
+/* An event. A call leaves the elements of the array unchanged to which it writes no event. */
 struct naltvigo_event {
     uint64_t offset; /* the offset of its first byte, from the item's first byte */
-    uint64_t number; /* the argument: for kind 1 the integer is -1 - number, for a map it is the number of pairs; for a
-                      * piece its number of bytes; 0 if there is no argument */
+    uint64_t number; /* the argument (for kind 1 the integer is -1 - number; for a map it is the number of pairs); for a
+                      * piece the number of its bytes; 0 if there is no argument */
     uint32_t kind;   /* the major type, or one of the numbers above */
     uint32_t width;  /* the number of bytes of the argument: 0, 1, 2, 4, 8, or NALTVIGO_NO_ARGUMENT */
 };
@@ -296,8 +296,9 @@ uint32_t naltvigo_put_head_raw(uint32_t kind, uint64_t number, uint8_t *out, siz
  * takes the status, puts a part after the first `*needed` bytes of `out`, adds to `*needed`, and returns the new status. If
  * there is no space for the whole part, nothing is written. Any numbers are safe.
  *
- * A getter reads `*item`. `found` is the status of the call that found the item, and `status` that of the getter before it, or
- * NALTVIGO_OK. It returns the first of these that is not OK, or its own. If it is not OK, the value is 0.
+ * A getter reads `*item`. `status` is the status of the getter before it, or NALTVIGO_OK, and `found` is the status of the call
+ * that found the item. The getter returns `status` if it is not OK, else `found` if it is not OK, else its own status. If that
+ * is not OK, the value is 0.
  */
 uint32_t naltvigo_writer_head_raw(uint32_t kind, uint64_t number, uint8_t *out, size_t out_length,
                                   size_t *needed, uint32_t status);
@@ -329,12 +330,12 @@ uint32_t naltvigo_get_encoded_raw(const struct naltvigo_item *item, uint32_t fou
  * The whole input must be one well-formed, valid item. Writes its canonical bytes, in the given order of keys, to the start
  * of `out`. `*needed` is their number if the status is OK or TOO_SMALL, else 0. With `out_length` 0 a caller gets the
  * number first, at the cost of a whole call. The result is hardly ever longer than the input: only arrays and maps of
- * indefinite length with 256 members or more grow, each by at most 7 bytes. Bytes of `out` after the result are unchanged.
- * If the status is not OK, all of `out` is unchanged.
+ * indefinite length with 256 members or pairs or more grow, each by at most 7 bytes. Bytes of `out` after the result are
+ * unchanged. If the status is not OK, all of `out` is unchanged.
  *
  * In one order of keys, two accepted inputs have equal results if and only if their values are the same, whatever the
- * limits. If a result is canonicalised again within the same limits, it does not change. Such an input is copied to `out`,
- * and the call allocates no memory.
+ * limits. If a result is canonicalised again within the same limits, it does not change. Input that is already canonical is
+ * copied to `out`, and the call allocates no memory.
  *
  * Returns OK, TOO_SMALL, REFUSED (reasons 1 to 13, 20), NO_MEMORY, BAD_ORDER, BAD_LIMITS.
  */
@@ -428,8 +429,7 @@ static inline uint32_t naltvigo_next_canonical(const uint8_t *in, size_t in_leng
  * (RFC 8949, section 5.6.1). So, apart from the byte limit, OK is returned if and only if
  * naltvigo_canonicalise, in either order, returns equal bytes. The limits apply to each input separately.
  *
- * The left input is checked first. `*side` says which input REFUSED is about. It is written if the status is REFUSED or
- * NO_MEMORY.
+ * The left input is checked first. `*side` says which input was refused. It is written if the status is REFUSED or NO_MEMORY.
  *
  * Returns OK, DIFFERENT, REFUSED (reasons 1 to 12, 20), NO_MEMORY, BAD_LIMITS.
  */
@@ -477,9 +477,9 @@ static inline uint32_t naltvigo_diagnostic(const uint8_t *in, size_t in_length,
  * `in` begins with the item that was refused, and the options are those with which it was refused (only the limits on depth
  * and bytes matter). Of the refusal, `reason` and `offset` are read. The path leads through the bytes before the offset: `$`
  * is the item, `[2]` a member of an array, counted from 0, `."a"` the value of a key, `(24)` the content of a tag, and
- * `, key 2 of the map at 9` a key of the map whose head is at offset 9. A key is in diagnostic notation. One that has more
- * than 64 bytes, or a character that a terminal does not show, is replaced: `.(the key at 17)`. Without an input (`in_length`
- * 0) the path is `$`. If the number is not that of a reason, the status is OK and `*needed` is 0.
+ * `, key 2 of the map at 9` a key of the map whose head is at offset 9. A key is written in diagnostic notation. If it has more
+ * than 64 bytes, or a character that a terminal does not show, its offset is written instead: `.(the key at 17)`. Without an
+ * input (`in_length` 0) the path is `$`. If `reason` is not the number of a reason, the status is OK and `*needed` is 0.
  *
  * It allocates memory in proportion to the depth of the offset, and for the text.
  *
@@ -524,8 +524,8 @@ static inline uint32_t naltvigo_machine_start(const struct naltvigo_options *opt
  * status. With `events_length` 0 it consumes nothing and returns EVENT. If the caller has no more bytes and the status is MORE,
  * the item is truncated.
  *
- * UTF-8, repeated keys and kinds of keys are not checked. A call fills 9 KiB of stack, so many events in one call are cheaper
- * than one.
+ * UTF-8, repeated keys and kinds of keys are not checked. A call fills 9 KiB of stack, so it costs less to take many events in
+ * one call than one event in each.
  *
  * Returns OK, EVENT, MORE, REFUSED, BAD_MACHINE. It allocates no memory.
  */
@@ -554,14 +554,14 @@ static inline uint32_t naltvigo_machine_step(struct naltvigo_machine *machine, c
 /*
  * naltvigo_index: a table of all items in canonical bytes.
  *
- * REFUSED if and only if naltvigo_check_canonical refuses. If the status is OK, items[0 .. *needed) are the item that the input
- * is and all items in it, in the order of their first bytes. The first item inside items[i] is items[i + 1]; the next item
+ * REFUSED if and only if naltvigo_check_canonical refuses. If the status is OK, items[0 .. *needed) are the whole input as an
+ * item, and all items in it, in the order of their first bytes. The first item inside items[i] is items[i + 1]; the next item
  * after items[i] is items[i + items[i].entries]. The items of a map are a key, its value, the next key, and so on. `*needed`
  * is the number of entries if the status is OK or TOO_SMALL, else 0. An input of n bytes has at most n entries. With
  * `items_length` 0 a caller gets the number first, at the cost of a whole call.
  *
- * If the status is TOO_SMALL, `items` was written, but it is not a table. For 2^32 or more entries the status is always
- * TOO_SMALL. It allocates no memory.
+ * If the status is TOO_SMALL, ignore what was written to `items`. For 2^32 or more entries the status is always TOO_SMALL. It
+ * allocates no memory.
  *
  *     [100, {0: true}] is 82 18 64 a1 00 f5, with five entries:
  *         kind 4, number 2,   offset 0, content 1, end 6, entries 5   the array
@@ -589,7 +589,7 @@ static inline uint32_t naltvigo_index(const uint8_t *in, size_t in_length,
  *
  * Any bytes and any offset are safe: if the status is OK, offset < content <= end <= `in_length`. If an item in its
  * canonical bytes begins at the offset, the status is OK and `*item` is that item. So call naltvigo_check_canonical
- * first. The call reads the item once, to find its end. It allocates no memory.
+ * first. naltvigo_item_at reads the item once, to find its end. It allocates no memory.
  *
  * Returns OK, NOT_THERE. If the status is not OK, `*item` is unchanged.
  */

@@ -26,7 +26,7 @@ enum {
 /* The simple values with names (section 3.3). */
 enum { NALTVIGO_FALSE = 20, NALTVIGO_TRUE = 21, NALTVIGO_NULL = 22, NALTVIGO_UNDEFINED = 23 };
 
-/* A writer. It appends to `out`. Callers may read `needed` and `status` only. */
+/* A writer. It appends to `out`. Callers may read `needed` and `status`, and nothing else. */
 struct naltvigo_writer {
     uint8_t *out;
     size_t out_length;
@@ -136,8 +136,9 @@ static inline void naltvigo_put_map_of(struct naltvigo_writer *writer, uint64_t 
     naltvigo_writer_head(writer, NALTVIGO_MAP, pairs);
 }
 
-/* An item in canonical bytes, from naltvigo_finish or naltvigo_get_encoded. Bytes that are not exactly one item would change
- * the items after them: the writer fails with NOT_THERE, and nothing is put. */
+/* An item in canonical bytes, from naltvigo_finish or naltvigo_get_encoded. If the bytes are not exactly one item, they would
+ * change the meaning of the items after them: so the writer fails with NOT_THERE, and nothing is put. */
+
 static inline void naltvigo_put_encoded(struct naltvigo_writer *writer, const uint8_t *bytes, size_t length) {
     const uint8_t none = 0;
     writer->status = naltvigo_writer_encoded_raw(length ? bytes : &none, length, writer->out, writer->out_length,
@@ -151,8 +152,8 @@ static inline void naltvigo_put_encoded(struct naltvigo_writer *writer, const ui
  * one of the two buffers was too small. If it was the writer's (its own status is then TOO_SMALL), `*needed` is what the
  * writer needs, which is nearly always enough for `out` as well (naltvigo_canonicalise says when not). Any other failure of
  * the writer is returned, with `*needed` 0. REFUSED means that what was put is not one valid item: a wrong count, a missing or
- * surplus end, equal keys, a text that is not UTF-8. Its offset counts in the bytes that the writer put, before they are
- * sorted, and not in `out`.
+ * surplus end, equal keys, a text that is not UTF-8. The offset of the refusal is an offset in the bytes that the writer put,
+ * before they are sorted, and not in `out`.
  *
  * Returns OK, TOO_SMALL, REFUSED (reasons 1 to 13, 20), NO_MEMORY, BAD_ORDER, BAD_LIMITS, BAD_HEAD, NOT_THERE.
  */

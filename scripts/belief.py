@@ -1,5 +1,5 @@
 #!/usr/bin/env python3
-"""Counts which definitions must be believed to believe the public contracts, and what crates take of one another's insides.
+"""Counts which definitions must be believed to believe the public contracts, and what crates use of each other's internals.
 
 A definition in `crates/*/specs/` must be believed if a public contract or a public law reaches it, directly or through
 other definitions. What only private functions cite belongs in `specs/inner/`, and what nothing reaches belongs nowhere.

@@ -27,7 +27,7 @@ def say(text):
 
 
 def is_built(crate, given, count):
-    """Whether a library is proved now, or was, and those below it."""
+    """Whether a library and those below it are proved, now or earlier."""
     began = time.monotonic()
     with tempfile.TemporaryFile("w+") as crate.out:
         is_well = all(given[it.name, "proof"] for it in crate.deps) and not crate.build_rlib(["--jobs", str(JOBS)], anew=False)

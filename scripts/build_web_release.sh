@@ -2,10 +2,10 @@
 # Makes the library as WebAssembly as the kit does, for a release: scripts/build_web_release.sh LIBRARIES [FOLDER]
 #
 # FOLDER (bindings/js/wasm without one) gets naltvigo64.wasm and naltvigo32.wasm as build_web.sh makes them, without vectors;
-# but the verdict of the proof, which is the last line, names wasm64. For that the kit's libc must import its heap on
-# wasm64, which is one attribute (platform/libc_on_wasm64.patch), and all above it is proved again: the kit's libraries from
-# libc to std, and ours. They go to LIBRARIES, in some 90 minutes and at most 13 GB; what an earlier run left there is
-# used. The kit's compiler, the lowering and platform/heap_of_module.c are then trusted. The gate does not run this.
+# but the verdict of the proof, which is the last line, names wasm64. For this, one attribute makes the kit's libc import its
+# heap on wasm64 (platform/libc_on_wasm64.patch), and all that uses libc is proved again: the kit's libraries from libc to std,
+# and ours. They are stored in LIBRARIES: about 90 minutes, and at most 13 GB. What an earlier run left there is used. The
+# kit's compiler, the lowering and platform/heap_of_module.c are then trusted. The gate does not run this.
 # It needs the kit's rt on the path, patch, and wasm-opt: Debian's binaryen. JOBS is how many checks run at once.
 set -euo pipefail
 . "$(dirname "${BASH_SOURCE[0]}")/lib/options.sh"
@@ -26,7 +26,7 @@ done
 
 is_built() { [ -e "$libraries/$1.rlib/format" ]; }
 
-# Proves a library and keeps it: prove NAME SOURCE DEPENDENCY ..
+# Proves a library and stores it: prove NAME SOURCE DEPENDENCY ..
 prove() {
     local name=$1 source=$2 words=() dep began=$SECONDS
     shift 2
@@ -37,7 +37,7 @@ prove() {
     echo "$name, $((SECONDS - began)) s: $(tail -1 "$scratch/log")"
 }
 
-# The libraries that the kit proved a library of its own with.
+# The libraries with which the kit proved one of its own libraries.
 kit_dependencies() { sed -n 's/^dep //p' "$kit/rlibs/$1.rlib/format"; }
 
 # The kit's libraries that do not depend on libc are used as they are; libc is changed, and the others are proved with that.

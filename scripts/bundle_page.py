@@ -46,7 +46,7 @@ class Bundle:
         self.begun = []
 
     def add(self, path):
-        """Adds a module, unless it is there; returns the name of its exports."""
+        """Adds a module, unless it was added; returns the name of its exports."""
         path = INLINED.get(path, path)
         if path in self.numbers:
             return self.numbers[path]

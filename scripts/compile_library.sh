@@ -8,7 +8,7 @@
 # kit's own. FILE of --module gets the LLVM module that the compiler passes to clang, as text. With --program ARCHIVE is
 # the object file of cborc. Each WORD goes to `rattle build`. It prints the compiler's last line, which has the verdict.
 #
-# NALTVIGO_WORK, if it is set, is a folder that keeps what the first build of the library proves, so that builds for other targets
+# NALTVIGO_WORK, if it is set, is a folder that stores what the first build of the library proves, so that builds for other targets
 # do not prove it again.
 set -euo pipefail
 
@@ -57,8 +57,8 @@ below() {
     done
 }
 
-# Why a library is not as `rt ci` leaves it: proved, without the mark by which rt knows its own, and from this text. The folder
-# is as old as the run that left it. Its files can be older, if an earlier run proved them.
+# Why a library is not as `rt ci` leaves it: proved from this text, and without the mark that rt gives to its own. The folder has
+# the time of the run that left it. Its files can be older, if an earlier run proved them.
 lacks() {
     local built=../$1/out/rlib/$1.rlib parts=() part newer
     [ -e "$built/format" ] || { echo "$1 is not built"; return; }

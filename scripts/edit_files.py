@@ -1,4 +1,4 @@
-"""Edits kept as files, the form that `rt must-fail` reads: a line 'file: PATH', then pairs of lines 'old: TEXT' and 'new: TEXT'.
+"""Edits as files, in the form that `rt must-fail` reads: a line 'file: PATH', then pairs of lines 'old: TEXT' and 'new: TEXT'.
 
 Each old text is in its file exactly once. Lines with other words may come first: fuzz/edits has 'crate: NAME' and more.
 """

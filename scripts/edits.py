@@ -2,15 +2,15 @@
 """Has the prover refuse the wrong bodies of crates/NAME/wrong-bodies/, many in one check:
 
     scripts/edits.py [--proved] NAME ..    those of these crates
-    scripts/edits.py [--proved] --all      those of all crates: two to three processor hours
+    scripts/edits.py [--proved] --all      those of all crates: up to two processor hours
     scripts/edits.py [--proved] --sample   those of each crate that changed in the last 20 commits, and of a quarter of the
-                                           others: the quarter goes by the number of commits, so that four commits try all
+                                           others: the number of commits determines it, so that four commits try all
     scripts/edits.py --apply-only [NAME ..]  proves nothing: whether each edit there, and in must-fail/, can be applied
 
 An edit that is still proved, or that cannot be applied or compiled, fails, and the status is 1. A check begins with what
-`rt check` kept of the crate, in a checkout on this machine, or else with nothing. The libraries below a crate are those
+`rt check` stored of the crate, in a checkout on this machine, or else with nothing. The libraries that a crate uses are those
 that `rt ci` or `rt check` left; what is missing is proved first, and the crate too. --proved says that `rt ci` has just
-proved the crates: a check then begins with what was kept in this checkout alone.
+proved the crates: a check then begins only with what was stored in this checkout.
 
 The wrong bodies in must-fail/, which the specification names, are tried by `rt ci` one by one. The kit's rt must be on
 the path.
@@ -36,7 +36,7 @@ COMMITS, TURNS = 20, 4
 # A check with two jobs needs little more processor time than one with one job.
 JOBS = 2
 # Seconds of a processor for each wrong body, on average: for the first line that is printed.
-SECONDS_EACH = 26
+SECONDS_EACH = 18
 printing = threading.Lock()
 
 

@@ -89,7 +89,7 @@ class Round:
         self.edits, self.texts = list(edits), texts or {}
 
     def takes(self, folder, edit):
-        """Whether an edit goes with the others, and then adds it."""
+        """Whether an edit can be tried with the others; if so, adds it."""
         if any(edit.functions & it.functions for it in self.edits):
             return False
         try:
@@ -156,7 +156,7 @@ class Trial:
         return unsettled
 
     def try_alone(self, edit):
-        """Tries one edit, and if that settles nothing, once more from nothing."""
+        """Tries one edit; if that has no result, tries it once more from nothing."""
         kind, said = self.rt.must_fail(self.crate, edit.path, self.flags, self.over)
         if kind not in self.rt.SETTLED:
             kind, said = self.rt.must_fail(self.crate, edit.path, self.flags)

@@ -1,10 +1,10 @@
 #!/usr/bin/env python3
-"""Writes limits and other numbers into every file that states them, from their one home each.
+"""Writes limits and other numbers into every file that states them, from the one file that declares each.
 
     scripts/limits.py            writes them
     scripts/limits.py --check    fails if a file states another number, or does not state it as the table says
 
-DECLARED has the home of each number: a file, and the piece of its text with NUMBER in it. A row of STATED is such a pair
+DECLARED says where each number is declared: a file, and the piece of its text with NUMBER in it. A row of STATED is such a pair
 for a file that repeats the number. Tests have numbers of their own, so that they notice a change.
 """
 

@@ -1,5 +1,5 @@
 #!/usr/bin/env bash
-# Proves and compiles, and keeps the LLVM modules: scripts/modules.sh FOLDER NAME ..
+# Proves and compiles, and stores the LLVM modules: scripts/modules.sh FOLDER NAME ..
 #
 # Makes FOLDER/NAME.ll if it does not exist. NAME is x86-64, x86-64-v2 or aarch64, the library for this processor, or cborc,
 # the program for x86-64. With libraries as `rt ci` leaves them it takes two proofs of two minutes: one of the library, for all

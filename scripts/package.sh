@@ -62,7 +62,7 @@ else
     echo 'no Debian packages: dpkg-deb is not there' >&2
 fi
 
-# from the assembly in portable/ once it is there, so that its label for plain x86-64 is true
+# from the assembly in portable/ if it exists, so that its label for plain x86-64 is true
 [ -n "$assembly" ] || export NALTVIGO_LIB=$DIST/lib
 wheel=$(PYTHONDONTWRITEBYTECODE=1 python3 "$root/bindings/python/build_wheel.py" "$folder")
 echo "$folder/$wheel"

@@ -67,7 +67,7 @@ class Call:
 
 
 def after_partner(text, place):
-    """The offset after the partner of the brace at this offset."""
+    """The offset after the brace that matches the one at this offset."""
     depth = 0
     for place in range(place, len(text)):
         depth += {"{": 1, "}": -1}.get(text[place], 0)

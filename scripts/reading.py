@@ -1,4 +1,4 @@
-"""The counts of docs/READING.md: lines that must be believed, by file, and what crates take of one another's insides."""
+"""The counts of docs/READING.md: lines that must be believed, by file, and what crates use of each other's internals."""
 
 import re
 

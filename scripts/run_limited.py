@@ -1,5 +1,5 @@
 #!/usr/bin/env python3
-"""Runs the built program with little memory, stack or disk: what it says then, and what it leaves.
+"""Runs the built program with little memory, stack or disk: its messages, and the files that it leaves.
 
     scripts/run_limited.py [PROGRAM]
 

@@ -75,7 +75,7 @@ def unfair(compare):
 
 
 def costs(item, turns):
-    """For a byte."""
+    """The times for a byte."""
     return [took / len(item) for took in times(item, turns)]
 
 

@@ -48,7 +48,7 @@ class Definition:
 
 
 class Module:
-    """What a file's names stand for: `names` an item of a module, `modules` a module."""
+    """What a file's names mean: `names` an item of a module, `modules` a module."""
 
     def __init__(self, name):
         self.name, self.names, self.modules, self.handed_on = name, {}, {}, {}
@@ -167,7 +167,7 @@ def ghost_uses(text):
 
 
 def blocks(text, start):
-    """The text between the brace at `start` and its partner, and the offset after it."""
+    """The text between the brace at `start` and the matching brace, and the offset after it."""
     depth, place = 0, start
     while True:
         if text[place] == "{":

@@ -63,7 +63,7 @@ check_kit
 names=()
 choose "$@"
 lanes=$(nproc)
-echo "runs the tests of these crates, without a proof, $lanes at a time: ${names[*]}; 3 to 5 minutes on four processors"
+echo "runs the tests of these crates, without a proof, $lanes at a time: ${names[*]}; 2 to 4 minutes on four processors"
 
 scratch=$(mktemp -d)
 declare -A running=() began=()

@@ -187,7 +187,7 @@ fi
 
 # ---- what the gate proved, in each package
 
-# A log of rt ci. In the gate's own log all crates may be kept, and then it has no line of a proof to take away.
+# A log of rt ci. In the gate's own log an earlier run may have proved all crates. Then it has no line of a proof to remove.
 cat >"$scratch/made.log" <<'LOG'
      11 == lower
      11 fn lower::echo: proved

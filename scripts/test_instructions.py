@@ -1,7 +1,7 @@
 #!/usr/bin/env python3
 """Counts the instructions of the program in cases where its cost must not grow: scripts/test_instructions.py PROGRAM
 
-A sequence costs what its items cost by themselves: `canon --seq` of 32 items of 250 nested maps, each out of order, takes at most
+A sequence costs what its items cost alone: `canon --seq` of 32 items of 250 nested maps, each out of order, takes at most
 1.2 times the instructions of 32 runs over one. An item costs what it costs in a sequence, also if the limit on its bytes is high:
 `check` of 6 MB takes at most 2.5 times the instructions of `check --seq`. valgrind counts; if it is missing, the last line
 says so.

@@ -29,7 +29,7 @@ A_TURN = 3
 MEMORY = 4 << 30
 
 LIBRARY = f"NALTVIGO={os.environ.get('PREFIX', '')}"
-# A database of its own; what the server does for a client that is ended here ends too.
+# A database of its own. If a client is ended here, what the server does for it ends too.
 TIMES = """set -e; PGDATABASE=template1 psql -qc "CREATE DATABASE planted_$$"; export PGDATABASE=planted_$$
 PGOPTIONS='-c client_connection_check_interval=1s' psql -Xq -v ON_ERROR_STOP=1 -f test/time.sql"""
 

@@ -2,7 +2,7 @@
 """The version: the file VERSION, and the places that repeat it.
 
     scripts/version.py          fails if a place has another version, and names it
-    scripts/version.py 2.1.0    sets it everywhere; CHANGELOG.md gets its entry by hand
+    scripts/version.py 2.1.0    sets it everywhere, except in CHANGELOG.md, whose entry you write
 """
 
 import re

@@ -69,7 +69,7 @@ put_text(StringInfo out, const text *given)
 	const size_t given_length = VARSIZE_ANY_EXHDR(given);
 	const char *utf8 = pg_server_to_any(VARDATA_ANY(given), given_length, PG_UTF8);
 	const size_t length = utf8 == VARDATA_ANY(given) ? given_length : strlen(utf8);
-	/* a byte more than the limit is refused as all of it is */
+	/* one byte more than the limit is refused for the same reason as the whole text */
 	const size_t enough = Min(length, CBOR_BYTES + 1);
 	struct naltvigo_writer writer = writer_at_end(out, HEAD_MAX + enough);
 

@@ -74,7 +74,7 @@ explanation_lines(const uint8_t *item, size_t item_length, const struct naltvigo
 		if (status == NALTVIGO_OK && length > 0)
 		{
 			lines[length] = '\0';
-			/* a path that the database's encoding may lack is left out */
+			/* the path is left out if the database's encoding may lack one of its characters */
 			if (GetDatabaseEncoding() == PG_UTF8 || pg_is_ascii(lines))
 				return lines;
 			return explanation_lines(item, 0, why);

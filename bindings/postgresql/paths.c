@@ -6,7 +6,7 @@
 #include "mb/pg_wchar.h"
 #include "utils/builtins.h"
 
-/* Into a map by the key, into an array by the index from 0, into a tag by its number. */
+/* The value of a key of a map, the member of an array at an index from 0, or the content of a tag with this number. */
 static struct naltvigo_cursor
 step_by_integer(struct naltvigo_cursor at, int64 step)
 {
@@ -19,7 +19,7 @@ step_by_integer(struct naltvigo_cursor at, int64 step)
 	return naltvigo_at_index(at, (uint64) step);
 }
 
-/* Into a map by a text key, which is UTF-8 there whatever the database's encoding. */
+/* The value of a text key of a map. The key is made UTF-8, whatever the database's encoding is. */
 static struct naltvigo_cursor
 step_by_text(struct naltvigo_cursor at, const text *step)
 {

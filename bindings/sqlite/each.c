@@ -9,7 +9,7 @@ struct each_cursor {
     sqlite3_vtab_cursor base;
     uint8_t *bytes; /* the canonical bytes of the item, in SQLite's memory */
     sqlite3_int64 ordinal;
-    uint64_t left; /* how many rows are left, with this one */
+    uint64_t left; /* the number of rows that are left, including this one */
     int is_map;
     struct naltvigo_cursor key, value;
 };
@@ -30,7 +30,7 @@ static int disconnect(sqlite3_vtab *table) {
     return SQLITE_OK;
 }
 
-/* The one plan: the item is given. */
+/* The only plan: the item is given. */
 static int best_index(sqlite3_vtab *table, sqlite3_index_info *info) {
     int i, is_unusable = 0;
     (void)table;
@@ -64,7 +64,7 @@ static int close_cursor(sqlite3_vtab_cursor *cursor) {
     return SQLITE_OK;
 }
 
-/* Goes to the row that begins there. */
+/* Moves to the row that begins at this item. */
 static void go_to(struct each_cursor *each, struct naltvigo_cursor at) {
     each->key = at;
     each->value = each->is_map ? naltvigo_next(at) : at;

@@ -91,7 +91,7 @@ int take_blob(sqlite3_context *context, sqlite3_value *value, struct bytes *byte
         fail(context, sentence);
         return 0;
     }
-    bytes->at = sqlite3_value_blob(value); /* before the length, as SQLite asks */
+    bytes->at = sqlite3_value_blob(value); /* before the length, as SQLite requires */
     bytes->length = (size_t)sqlite3_value_bytes(value);
     /* The bytes of a zeroblob() are allocated here, which may fail. An empty blob is NULL as well. */
     if (bytes->at || !bytes->length) return 1;

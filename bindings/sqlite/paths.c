@@ -21,7 +21,7 @@ static int are_steps(sqlite3_context *context, int count, sqlite3_value **values
     return 1;
 }
 
-/* Into a map by the key, into an array by the index from 0, into a tag by its number. */
+/* The value of a key of a map, the member of an array at an index from 0, or the content of a tag with this number. */
 static struct naltvigo_cursor step_by_integer(struct naltvigo_cursor at, sqlite3_int64 step) {
     if (naltvigo_kind(at) == NALTVIGO_MAP) return naltvigo_at_int(at, step);
     if (step < 0) return naltvigo_cursor_none(NALTVIGO_NOT_THERE);
@@ -68,7 +68,7 @@ static int find(sqlite3_context *context, int count, sqlite3_value **values, str
     return 0;
 }
 
-/* Returns 0, after an error, if the argument that each look-up has is missing. */
+/* Returns 0, after an error, if an argument that each look-up needs is missing. */
 static int has_item(sqlite3_context *context, int count, int least) {
     if (count >= least) return 1;
     fail(context, least == 1 ? "cbor: the first argument is an item" : "cbor: cbor_get takes an item and one step or more");

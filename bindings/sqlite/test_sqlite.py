@@ -17,7 +17,7 @@ EXTENSION = os.environ["NALTVIGO_SQLITE"]
 
 
 def connect(file=":memory:", load=True):
-    # statements that are kept would keep their blobs
+    # cached statements would not release their blobs
     database = sqlite3.connect(file, cached_statements=0)
     if load:
         database.enable_load_extension(True)

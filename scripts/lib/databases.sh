@@ -1,5 +1,5 @@
 # shellcheck shell=bash
-# The extensions for SQLite and PostgreSQL: what building them takes, and their installation by install.sh, which has $root,
+# The extensions for SQLite and PostgreSQL: what their build needs, and their installation by install.sh, which has $root,
 # $scratch, $dist and put.
 
 # What is missing, in words; nothing if all is there.

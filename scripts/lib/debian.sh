@@ -73,7 +73,7 @@ COPYRIGHT
     printf '\nLicense: Apache-2.0\n On Debian systems the text is in /usr/share/common-licenses/Apache-2.0.\n'
 }
 
-# The newest version of the C library whose symbols the package's files ask for.
+# The newest version of the C library among those whose symbols the package's files need.
 newest_libc() { # PACKAGE
     find "$1" -type f -exec "${tools}objdump" -T {} + 2>/dev/null | grep -o 'GLIBC_[0-9.]*' | sed 's/GLIBC_//' | sort -V | tail -1
 }

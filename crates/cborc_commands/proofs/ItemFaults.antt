@@ -12,14 +12,15 @@ use Rattle.cborc_commands.specs.Texts.{GoesInPart, IsCanonicalText, shown_text}
 use Rattle.cborc_commands.specs.declared.status.Status.TheVariants as statuses
 use Rattle.cborc_commands.specs.declared.fault.Fault.TheVariants as faults
 use Rattle.cborc_commands.proofs.Prefixes.{canonical_whole, refusal_whole, is_whole, is_all_of, listed_whole, not_listed_whole, whole_item, item_refusal_whole}
-use Rattle.cborc_commands.specs.Check.{accepted_bytes, IsWhole, IsChecked, IsNotChecked}
+use Rattle.cborc_commands.specs.Check.{accepted_bytes, IsWhole, IsNoWholeInput, IsChecked, IsNotChecked}
 use Rattle.cborc_commands.specs.Compare.{IsReported, IsUnreported, AreInputs, AreCompared, AreNotCompared}
 use Rattle.cborc_commands.specs.Events.{IsNotListed, IsListedOf, IsNotListedOf}
 use Rattle.cborc_commands.{specs.EventStyles.AreListed, proofs.Files.input_before, proofs.Files.input_is_there, specs.inner.Decided.IsEnough}
-use Rattle.cborc_commands.specs.{inner.NotWritten.IsNoText, inner.NotWritten.IsNotTaken, Put.IsPut, Put.IsNotPut, inner.Start.StartsInput}
-use Rattle.cborc_commands.specs.{Fault.IsOfInput, Fault.refusal_fault, declared.status.Status.Status, declared.fault.Fault.Fault}
-use Rattle.cborc_commands.proofs.{Faults.refusal_is, ItemFiles.put_kept, Whole.AreAccepted, Whole.read_as}
-use Rattle.cborc_commands.specs.{Canon.HasText, Canon.IsNotCanonised, Show.IsShownOf, Show.IsNotShown}
+use Rattle.cborc_commands.specs.{inner.WholeInput.IsWholeInput, NoInput.IsNoInput, inner.NotWritten.IsNoText, inner.NotWritten.IsNotTaken}
+use Rattle.cborc_commands.specs.{Put.IsPut, Put.IsNotPut, inner.Start.StartsInput, Fault.IsOfInput, Fault.refusal_fault, declared.status.Status.Status}
+use Rattle.cborc_commands.{specs.declared.fault.Fault.Fault, proofs.Faults.refusal_is, proofs.ItemFiles.put_kept}
+use Rattle.cborc_commands.{proofs.Whole.AreAccepted, proofs.Whole.read_as, specs.Canon.HasText, specs.Canon.IsNotCanonised}
+use Rattle.cborc_commands.specs.Show.{IsShownOf, IsNotShown}
 
 module _ (o : KeyOrder) (options : Options) (source : List ℕ) (output : Output) (held : Option Files) where
   text_whole : (bytes text : List ℕ) (s : StartsInput plain held source options bytes) → IsCanonicalText options.limits o output.form bytes text
@@ -56,24 +57,39 @@ module _ (o : KeyOrder) (options : Options) (source : List ℕ) (output : Output
   no_text before after bytes s faults.Memory h = input_is_there held source options.hex s.input s.is
   no_text before after bytes s _ h = absurd h
 
-module _ (rules : Rules) (options : Options) (source : List ℕ) (held : Option Files) (bytes : List ℕ)
-    (s : StartsInput rules held source options bytes) where
-  whole_of : (size : ℕ) → IsWhole options.limits rules bytes size → IsWhole options.limits rules s.input size
-  whole_of size w = subst (λ (b : List ℕ). IsWhole options.limits rules b size) s.splits (is_whole rules options.limits bytes s.behind s.enough size w)
+-- ---- `check`
 
-  pub checked : (size : ℕ) → IsWhole options.limits rules bytes size → (Reported : List ℕ → Type 0) → Reported (accepted_bytes size) → IsChecked rules options source held Reported
-  checked size w Reported t = record { input = s.input; is = s.is; size = size; whole = whole_of size w; reported = t }
+module _ (rules : Rules) (options : Options) (source : List ℕ) (held : Option Files) where
+  pub no_input : (fault : Fault) → IsNoInput held source options.hex fault → IsNoWholeInput rules options source held fault
+  no_input (faults.Refused f) h = absurd h
+  no_input _ h = h
 
-  pub unreported : (size : ℕ) (before after : Option (List ℕ)) → IsWhole options.limits rules bytes size → (fault : Fault)
+  pub checked : (size : ℕ) → IsWholeInput rules options source held size → (Reported : List ℕ → Type 0) → Reported (accepted_bytes size) → IsChecked rules options source held Reported
+  checked size w Reported t = record { input = w.input; is = w.is; size = size; whole = w.whole; reported = t }
+
+  pub unreported : (size : ℕ) (before after : Option (List ℕ)) → IsWholeInput rules options source held size → (fault : Fault)
       → IsNotTaken (accepted_bytes size) before after fault → IsNotChecked rules options source held before after fault
   unreported size before after w faults.CannotPrint h = checked size w (GoesInPart before after) h
-  unreported size before after w faults.Memory h = input_is_there held source options.hex s.input s.is
+  unreported size before after w faults.Memory h = input_is_there held source options.hex w.input w.is
   unreported size before after w _ h = absurd h
 
-  pub not_checked : (before after : Option (List ℕ)) (f : Refusal) → (IsOfInput f.reason → IsItemRefusal options.limits rules bytes f) → (fault : Fault) → fault ≡ refusal_fault f
-      → IsNotChecked rules options source held before after fault
-  not_checked before after f h fault e =
-      refusal_is (IsNotChecked rules options source held before after) f fault e (λ own. (
+  pub not_checked : (before after : Option (List ℕ)) (fault : Fault) → IsNoWholeInput rules options source held fault → IsNotChecked rules options source held before after fault
+  not_checked before after faults.CannotPrint h = absurd h
+  not_checked before after _ h = h
+
+module _ (rules : Rules) (options : Options) (source : List ℕ) (held : Option Files) (bytes : List ℕ)
+    (s : StartsInput rules held source options bytes) where
+  pub whole_input : (size : ℕ) → IsWhole options.limits rules bytes size → IsWholeInput rules options source held size
+  whole_input size w = record {
+    input = s.input;
+    is = s.is;
+    whole = subst (λ (b : List ℕ). IsWhole options.limits rules b size) s.splits (is_whole rules options.limits bytes s.behind s.enough size w);
+  }
+
+  pub not_whole : (f : Refusal) → (IsOfInput f.reason → IsItemRefusal options.limits rules bytes f) → (fault : Fault) → fault ≡ refusal_fault f
+      → IsNoWholeInput rules options source held fault
+  not_whole f h fault e =
+      refusal_is (IsNoWholeInput rules options source held) f fault e (λ own. (
         s.input,
         s.is,
         subst (λ (b : List ℕ). IsItemRefusal options.limits rules b f) s.splits (item_refusal_whole rules options.limits bytes s.behind s.enough f (h own)),

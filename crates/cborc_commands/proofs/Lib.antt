@@ -1,3 +1,4 @@
+mod CheckedParts
 mod Earlier
 pub mod Faults
 pub mod Files

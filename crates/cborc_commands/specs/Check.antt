@@ -12,6 +12,12 @@ use Rattle.cborc_commands.specs.{Input.IsInput, Fault.IsOfInput, NoInput.IsNoInp
 abbrev pub IsWhole : Bounds → Rules → List ℕ → ℕ → Type 0
 IsWhole limits rules input size = IsRead limits rules input size × (size ≡ length input)
 
+-- why the input at a path is not one accepted item: it is refused, or there is none
+abbrev pub IsNoWholeInput : Rules → Options → List ℕ → Option Files → Fault → Type 0
+IsNoWholeInput rules options source held (faults.Refused f) =
+    (input : List ℕ) × IsInput held source options.hex input × IsItemRefusal options.limits rules input f × IsOfInput f.reason
+IsNoWholeInput rules options source held fault = IsNoInput held source options.hex fault
+
 -- the line of an accepted item, with its number of bytes
 abbrev pub accepted_bytes : ℕ → List ℕ
 accepted_bytes size = codes "accepted " ++ decimal size ++ codes " bytes\n"
@@ -26,7 +32,5 @@ pub record IsChecked (rules : Rules) (options : Options) (source : List ℕ) (he
 
 -- why its line is not written whole: the input is refused, there is none, or standard output accepted only a part of the line
 abbrev pub IsNotChecked : Rules → Options → List ℕ → Option Files → Option (List ℕ) → Option (List ℕ) → Fault → Type 0
-IsNotChecked rules options source held before after (faults.Refused f) =
-    (input : List ℕ) × IsInput held source options.hex input × IsItemRefusal options.limits rules input f × IsOfInput f.reason
 IsNotChecked rules options source held before after faults.CannotPrint = IsChecked rules options source held (GoesInPart before after)
-IsNotChecked rules options source held before after fault = IsNoInput held source options.hex fault
+IsNotChecked rules options source held before after fault = IsNoWholeInput rules options source held fault

@@ -8,3 +8,4 @@ pub mod Parts
 pub mod SequenceItems
 pub mod Sources
 pub mod Start
+pub mod WholeInput

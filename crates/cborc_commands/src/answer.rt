@@ -9,7 +9,7 @@ ghost use Rattle.cborc_commands.specs.Outcome.{IsSilent, IsAnswered, IsAnsweredQ
 
 use crate::canon::canon;
 use crate::canon_sequence::canon_sequence;
-use crate::check::check;
+use crate::check::{Retention, check};
 use crate::check_sequence::check_sequence;
 use crate::compare::compare;
 use crate::events::events;
@@ -38,7 +38,7 @@ pub fn perform<F: Folder, O: Write, E: Write>(
 {
     match task.verbosity {
         Verbosity::Plain => {
-            let ended = answer(alloc, &task.request, files, out);
+            let ended = answer(alloc, &task.request, files, out, Retention::Nothing);
             end(flushed(ended, out), err)
         }
         Verbosity::Quiet => answer_quietly(alloc, &task.request, files, out),
@@ -59,7 +59,7 @@ fn answer_explained<F: Folder, O: Write, E: Write>(
 {
     let mut kept = Recording::new();
     let mut memory = RecordingFolder::new(files, &mut kept);
-    let ended = answer(alloc, request, &mut memory, out);
+    let ended = answer(alloc, request, &mut memory, out, Retention::Item);
     let sent = flushed(ended, out);
     end_explained(alloc, request, sent, &memory, err)
 }
@@ -93,11 +93,11 @@ fn answer_quietly<F: Folder, O: Write>(
 {
     match request.action {
         Action::Canon { .. } => {
-            let ended = answer(alloc, request, files, out);
+            let ended = answer(alloc, request, files, out, Retention::Nothing);
             end(flushed(ended, out), &mut io::sink())
         }
         _ => {
-            let ended = answer(alloc, request, files, &mut io::sink());
+            let ended = answer(alloc, request, files, &mut io::sink(), Retention::Nothing);
             end(ended, &mut io::sink())
         }
     }
@@ -137,6 +137,7 @@ fn answer<'a, F: Folder, O: Write>(
     request: &Request<'a>,
     files: &mut F,
     out: &mut O,
+    retention: Retention,
 ) -> Result<Status, Fault<'a>>
     ensures done { IfOk result (IsDone request.now (F.held files.old) (F.held files.new)
         (O.contents out.old) (O.contents out.new)) }
@@ -154,7 +155,7 @@ fn answer<'a, F: Folder, O: Write>(
             if request.sequence {
                 check_sequence(alloc, files, out, source, *accepted, options)?;
             } else {
-                check(alloc, files, out, source, *accepted, options)?;
+                check(alloc, files, out, source, *accepted, options, retention)?;
             }
             Ok(Status::Accepted)
         }

@@ -1,14 +1,19 @@
 //! The subcommand `check`: whether a file is one item.
 
-ghost use Rattle.std.specs.Prelude.{◌≡◌, ◌≢◌, OnOk, IfOk, IfErr};
+ghost use Rattle.std.specs.Prelude.{◌≡◌, ◌≢◌, true, false, OnOk, IfOk, IfErr};
 ghost use Rattle.std.specs.Io.KnownBytes.{Appends};
+ghost use Rattle.cbor_head.specs.Verdict.{refusal};
+ghost use Rattle.cbor_head.specs.declared.reason.Reason.TheVariants as reasons;
 ghost use Rattle.cbor_reader.specs.WholeItem.{IsItemRefusal};
 ghost use Rattle.cborc_commands.specs.Fault.{IsOfInput};
 ghost use Rattle.cborc_commands.specs.Rules.{rules_of};
 ghost use Rattle.cborc_commands.specs.inner.NotWritten.{IsNotTaken};
 ghost use Rattle.cborc_commands.specs.Check.{accepted_bytes, IsWhole, IsChecked, IsNotChecked};
+ghost use Rattle.cborc_commands.specs.Check.{IsNoWholeInput};
+ghost use Rattle.cborc_commands.specs.inner.WholeInput.{IsWholeInput};
 ghost use Rattle.cborc_files.specs.Folder.{KeepsFiles};
 
+use crate::check_parts::strict_size;
 use crate::fault::Fault;
 use crate::first_item::Scratch;
 use crate::input::{Judge, read_item};
@@ -19,6 +24,15 @@ use cborc_words::{Accepted, Options};
 use std::alloc::Global;
 use std::io::Write;
 
+/// What is kept of an input when its verdict is known.
+#[derive(Clone, Copy)]
+pub enum Retention {
+    /// The first bytes, with the refused item: an explanation shows them.
+    Item,
+    /// Nothing, so that an item may be larger than the memory.
+    Nothing,
+}
+
 /// Writes the number of bytes of the item in the file `source` to `out`.
 pub fn check<'a, F: Folder, O: Write>(
     alloc: Global,
@@ -27,6 +41,7 @@ pub fn check<'a, F: Folder, O: Write>(
     source: &'a str,
     accepted: Accepted,
     options: Options,
+    retention: Retention,
 ) -> Result<(), Fault<'a>>
     ensures reported { OnOk result (IsChecked (rules_of accepted) options source.now
         (F.held files.old) (Appends (O.contents out.old) (O.contents out.new))) }
@@ -37,11 +52,35 @@ pub fn check<'a, F: Folder, O: Write>(
     ensures keeps { KeepsFiles (F.held files.old) (F.held files.new) }
     ensures same { F.behind files.new ≡ F.behind files.old }
 {
+    let size = match (accepted, retention) {
+        (Accepted::Canonical(order), Retention::Nothing) => {
+            strict_size(alloc, files, source, order, options)?
+        }
+        _ => size_of_input(alloc, files, source, accepted, options)?,
+    };
+    report(alloc, out, size)
+}
+
+// The number of bytes of the item that the input at this path is.
+fn size_of_input<'a, F: Folder>(
+    alloc: Global,
+    files: &mut F,
+    source: &'a str,
+    accepted: Accepted,
+    options: Options,
+) -> Result<u64, Fault<'a>>
+    ensures whole { IfOk result
+        (IsWholeInput (rules_of accepted) options source.now (F.held files.old)) }
+    ensures fault { IfErr result
+        (IsNoWholeInput (rules_of accepted) options source.now (F.held files.old)) }
+    ensures keeps { KeepsFiles (F.held files.old) (F.held files.new) }
+    ensures same { F.behind files.new ≡ F.behind files.old }
+{
     let limits = options.limits;
     let bytes = read_item(alloc, files, source, Judge::Item(accepted), options)?;
     let mut scratch = Scratch::new(alloc);
     let size = size_of_item(&mut scratch, bytes.as_slice(), accepted, limits)?;
-    report(alloc, out, size)
+    Ok(size)
 }
 
 // Writes the line of an accepted item, with its number of bytes.
@@ -74,13 +113,17 @@ pub(crate) fn size_of_item(
         → IsItemRefusal limits (rules_of accepted) bytes.now f) }
 {
     let size = scratch.size_at_start(bytes, accepted, limits)?;
-    if size == bytes.len() as u64 {
+    all_of(size, size == bytes.len() as u64)
+}
+
+/// The size of the first item of an input, if the item is all of it. Else the refusal is `Trailing`.
+pub(crate) fn all_of(size: u64, is_all: bool) -> Result<u64, Refusal>
+    ensures all { IfOk result (λ n. (n ≡ size) × (is_all ≡ true)) }
+    ensures followed { IfErr result (λ f. (f ≡ refusal reasons.Trailing size size) × (is_all ≡ false)) }
+{
+    if is_all {
         Ok(size)
     } else {
-        Err(Refusal {
-            reason: Reason::Trailing,
-            place: size,
-            read: size,
-        })
+        Err(Refusal::at(Reason::Trailing, size))
     }
 }

@@ -58,7 +58,7 @@ pub fn read_item<'a, F: Folder>(
 
 // The number of bytes of a file that are read first: at most as many as encode one byte more than
 // the limit.
-fn first(hex: bool, limits: Limits) -> u64
+pub(crate) fn first(hex: bool, limits: Limits) -> u64
     ensures some { 0 < result }
     ensures range { result < 2 ^ 63 }
 {

@@ -8,6 +8,7 @@ mod answer;
 mod canon;
 mod canon_sequence;
 mod check;
+mod check_parts;
 mod check_sequence;
 mod compare;
 mod events;
