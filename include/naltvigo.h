@@ -115,7 +115,8 @@ enum {
     NALTVIGO_OK = 0,         /* the result is in `out`; the input is accepted; the two inputs have the same value */
     NALTVIGO_REFUSED = 1,    /* an input is refused; `*refusal` says why and where */
     NALTVIGO_TOO_SMALL = 2,  /* the result has `*needed` bytes, more than `out` has; `out` is unchanged */
-    NALTVIGO_NO_MEMORY = 3,  /* out of memory; the offset in `*refusal` is 0 (but see naltvigo_diagnostic) */
+    NALTVIGO_NO_MEMORY = 3,  /* out of memory; the offset in `*refusal` is 0 (but see naltvigo_diagnostic and
+                              * naltvigo_checker_take) */
     NALTVIGO_BAD_ORDER = 4,  /* `order` is neither of the two orders */
     NALTVIGO_BAD_LIMITS = 5, /* `depth` or `bytes` is out of range, or `keys` is neither of the two kinds */
     NALTVIGO_DIFFERENT = 6,  /* the two inputs have different values */

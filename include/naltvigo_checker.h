@@ -59,7 +59,8 @@ static inline uint32_t naltvigo_checker_restart(uint32_t order, struct naltvigo_
  *
  * OK: the item is complete and canonical, and ends after `*used` bytes. MORE: all bytes were used, and nothing is wrong so far.
  * REFUSED: `*refusal` is what naltvigo_next_canonical reports of all bytes so far, with offsets from the item's first byte.
- * NO_MEMORY: memory for a key was refused, and the checker goes on only after a restart.
+ * NO_MEMORY: memory for a key was refused, after the number of bytes that `*refusal` has twice, and the checker goes on only
+ * after a restart.
  * After OK, REFUSED or NO_MEMORY, further calls use nothing and return the same. A part of no bytes is allowed, and is not the
  * end.
  *
