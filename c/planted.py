@@ -1,4 +1,4 @@
-"""Plants bugs in the inline functions of naltvigo_values.h, one at a time, and shows that the tests of c/ fail for each.
+"""Plants bugs in the inline functions of the headers, one at a time, and shows that the tests of c/ fail for each.
 
     planted.py DIST
 
@@ -13,8 +13,8 @@ import tempfile
 from pathlib import Path
 
 HERE = Path(__file__).resolve().parent
-TESTS = ["cursor", "writer", "round_trips", "damaged"]
-WRITER, CURSOR = "naltvigo_writer.h", "naltvigo_cursor.h"
+TESTS = ["cursor", "writer", "round_trips", "damaged", "checker"]
+WRITER, CURSOR, CHECKER = "naltvigo_writer.h", "naltvigo_cursor.h", "naltvigo_checker.h"
 
 # The header, a text that is there once, and the text that replaces it.
 BUGS = [
@@ -38,6 +38,13 @@ BUGS = [
     (CURSOR, "at, NALTVIGO_NEGATIVE, status", "at, NALTVIGO_UNSIGNED, status"),
     (CURSOR, "at.item.kind == NALTVIGO_SIMPLE && ", ""),
     (CURSOR, "*status == NALTVIGO_OK ? NALTVIGO_CAST(const char *, text) : \"\"", "NALTVIGO_CAST(const char *, text)"),
+    (CHECKER, "memset(checker, 0, sizeof *checker);", ""),
+    (CHECKER, "with.keys, with.depth", "NALTVIGO_ANY_KEYS, with.depth"),
+    (CHECKER, "if (!checker->memory) return NALTVIGO_BAD_MACHINE;\n    return naltvigo_checker_restart_raw", "return naltvigo_checker_restart_raw"),
+    (CHECKER, "*used = 0;", ""),
+    (CHECKER, "in_length, used,\n                                     refusal ? refusal : &ignored", "in_length, used, &ignored"),
+    (CHECKER, "checker, refusal ? refusal : &ignored", "checker, refusal"),
+    (CHECKER, "if (checker->memory) naltvigo_checker_free_raw", "naltvigo_checker_free_raw"),
 ]
 
 

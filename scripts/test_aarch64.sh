@@ -57,7 +57,7 @@ run() { # WHAT SOURCE WORD ..
     esac
 }
 # each with its arguments: of the random items of the last two only some, since qemu takes its time
-for it in test: null: items: writer: cursor: 'round_trips:1 300' 'damaged:1 300'; do
+for it in test: null: items: writer: cursor: checker: 'round_trips:1 300' 'damaged:1 300'; do
     # shellcheck disable=SC2206
     arguments=(${it#*:})
     run "${it%%:*}, archive" "${it%%:*}.c" "$archive"

@@ -59,6 +59,7 @@ done
 # ---- the headers, in each dialect
 
 cat >"$scratch/headers.c" <<'C'
+#include <naltvigo_checker.h>
 #include <naltvigo_values.h>
 #if NALTVIGO_VERSION_NUMBER < 0x20000
 #error the version is older than 2
@@ -101,7 +102,7 @@ run() {
 }
 
 # The programs whose tests run in each of these ways.
-tests=(test exports explained null items writer cursor round_trips damaged)
+tests=(test exports explained null items writer cursor checker round_trips damaged)
 for cc in "${compilers[@]}"; do
     sanitizes=
     ! echo 'int main(void) { return 0; }' | $cc -x c - -fsanitize=address,undefined -o "$scratch/t" 2>/dev/null || sanitizes=yes
