@@ -5,7 +5,8 @@ use Rattle.cbor_head.specs.Prelude.{bounds, with_keys, refusal}
 use Rattle.cbor_head.specs.declared.reason.{Reason.TheVariants.Memory, Reason.TheVariants.Truncated, Refusal.Refusal}
 use Rattle.theory_automaton.specs.Trace.{Mark}
 use Rattle.cbor_machine.specs.declared.step.Out.TheVariants as outs
-use Rattle.cbor_machine.specs.{Machine.IfRefused, Machine.IsComplete, Machine.KeepsLimits, declared.step.Out.Out}
+use Rattle.cbor_machine.specs.Machine.{IfRefused, IsComplete, KeepsLimits}
+use Rattle.cbor_machine.specs.declared.step.Out.{Out}
 use Rattle.cbor_stream.specs.StrictMachine.{StrictMachineView, StandsAmid, limits_of}
 use Rattle.cbor_stream.specs.Said.{Says}
 use Rattle.cbor_checker.specs.declared.checker.Checker.{Checker}
