@@ -8,7 +8,7 @@ use Rattle.cbor_machine.specs.declared.step.Out.TheVariants as outs
 use Rattle.cbor_machine.specs.Machine.{IfRefused, IsComplete, KeepsLimits}
 use Rattle.cbor_machine.specs.declared.step.Out.{Out}
 use Rattle.cbor_stream.specs.StrictMachine.{StrictMachineView, StandsAmid, limits_of}
-use Rattle.cbor_stream.specs.Said.{Says}
+use Rattle.cbor_stream.{specs.Said.Says, specs.Reasons.IsStrictReason, proofs.Steps.if_refused}
 use Rattle.cbor_checker.specs.declared.checker.Checker.{Checker}
 use Rattle.naltvigo.specs.Checker.{HasChecked, IsReportedPart, IsReportedAtEnd, IsReportedRefusal}
 use Rattle.naltvigo.specs.{Reported.IsReported, declared.status.NaltvigoRefusal.NaltvigoRefusal}
@@ -17,17 +17,14 @@ map_some : (o : Option Refusal) (P Q : Refusal → Type 0) → ((f : Refusal) �
 map_some None P Q h p = tt
 map_some (Some f) P Q h p = h f p
 
-first_refused : (out : Out) (P Q : Refusal → Type 0) → IfRefused out (λ f. P f × Q f) → IfRefused out P
-first_refused (outs.Refused f) P Q h = h.0
-first_refused _ P Q h = tt
-
 pub limits_same : (was now : StrictMachineView) → KeepsLimits was.machine now.machine → now.keys ≡ was.keys → limits_of now ≡ limits_of was
 limits_same was now limits keys =
     ap (λ (d : ℕ). with_keys (bounds d now.machine.bytes) now.keys) limits.depth ∙ ap (λ (n : ℕ). with_keys (bounds was.machine.depth n) now.keys) limits.bytes ∙ ap (with_keys (bounds was.machine.depth was.machine.bytes)) keys
 
 module _ (was now : StrictMachineView) (input : List ℕ) (used : ℕ) (out : Out) (within : used ≤ length input) (taken : now.machine.taken ≡ was.machine.taken + used)
     (says : (t : List ℕ) (ms : List Mark) → StandsAmid was t ms → Says out now (t ++ take used input)) (limits : KeepsLimits was.machine now.machine) (order : now.order ≡ was.order) (keys : now.keys ≡ was.keys)
-    (P : Refusal → Type 0) (refused : IfRefused out (λ f. (now.refusal ≡ Some f) × P f)) (again : IfSome was.refusal (λ f. (out ≡ outs.Refused f) × (used ≡ 0) × (now ≡ was)))
+    (refused : IfRefused out (λ f. (now.refusal ≡ Some f) × (now.machine.taken ≡ f.read) × IsStrictReason was.order f.reason × (now.spans ≡ 0) × (now.kept ≡ 0)))
+    (again : IfSome was.refusal (λ f. (out ≡ outs.Refused f) × (used ≡ 0) × (now ≡ was)))
     (complete : IsComplete was.machine → was.refusal ≡ None → (out ≡ outs.Done) × (used ≡ 0)) where
   pub checked_so : (old new : Option StrictMachineView) → old ≡ Some was → new ≡ Some now → (reported : Out → StrictMachineView → Type 0) → reported out now → HasChecked old new (take used input) reported
   checked_so old new held holds reported reports = record {
@@ -41,7 +38,7 @@ module _ (was now : StrictMachineView) (input : List ℕ) (used : ℕ) (out : Ou
     limits = limits_same was now limits keys;
     order = order;
     taken = omega (arith, taken, length-take-le used input within);
-    refused = first_refused out (λ f. now.refusal ≡ Some f) P refused;
+    refused = if_refused out _ (λ f. now.refusal ≡ Some f) (λ f h. h.0) refused;
     complete = λ is live. let d = complete is live in (d.0, ap (λ (n : ℕ). take n input) d.1);
     again = map_some was.refusal _ (λ f. (out ≡ outs.Refused f) × (take used input ≡ []) × (now ≡ was)) (λ f h. (h.0, ap (λ (n : ℕ). take n input) h.1, h.2)) again;
   }
