@@ -16,7 +16,7 @@ use cbor_head::{KeyOrder, Keys, Limits};
 use cborc_files::is_stream;
 use clap::error::ErrorKind;
 use clap::{ArgMatches, Error};
-use std::alloc::Global;
+use std::alloc::{AllocError, Global};
 
 /// Parses the arguments, of which the first is the program's name. The error is a usage error, a
 /// request for help, or out of memory; its kind says which.
@@ -32,7 +32,7 @@ pub fn parse<'a>(alloc: Global, words: &'a [String]) -> Result<Task<'a>, Error>
         let message = format!(in alloc; "invalid value '{word}' for '--bytes <count>': {BYTES}")?;
         return Err(command.error(ErrorKind::ValueValidation, message.as_str())?);
     }
-    let files = Vec::from_slice(alloc, files_given(&matches))?;
+    let files = files_given(alloc, &matches)?;
     let Some(task) = task_of(&matches, files) else {
         // Unreachable: clap has checked that each argument exists and is in range. The types do not say so.
         return Err(command.error(ErrorKind::MissingSubcommand, "an argument is missing")?);
@@ -149,24 +149,27 @@ fn are_two_verbosities(given: &ArgMatches<'_>) -> bool
 }
 
 // The files of `check`, in the order of the command line. There are none for any other subcommand.
-fn files_given<'m, 'a>(matches: &'m ArgMatches<'a>) -> &'m [&'a str]
-    ensures { IfSome (subcommand_rows_of matches.now)
-        (λ given. map (λ file. file.now) result.now ≡ files_given given) }
+fn files_given<'a>(
+    alloc: Global,
+    matches: &ArgMatches<'a>,
+) -> Result<Vec<&'a str>, AllocError>
+    ensures { IfOk result (λ files. IfSome (subcommand_rows_of matches.now)
+        (λ given. map (λ file. file.now) files.items ≡ files_given given)) }
 {
     match matches.subcommand() {
-        Some(("check", given)) => values_of_file(given),
-        _ => &[],
+        Some(("check", given)) => values_of_file(alloc, given),
+        _ => Ok(Vec::new(alloc)),
     }
 }
 
 #[tactic(auto, using(crate::proofs::Rows::getters))]
-fn values_of_file<'m, 'a>(given: &'m ArgMatches<'a>) -> &'m [&'a str]
-    ensures { map (λ file. file.now) result.now
-        ≡ unwrap_or (all_of (codes "FILE") (rows_of (found_of given.now))) [] }
+fn values_of_file<'a>(alloc: Global, given: &ArgMatches<'a>) -> Result<Vec<&'a str>, AllocError>
+    ensures { IfOk result (λ files. map (λ file. file.now) files.items
+        ≡ unwrap_or (all_of (codes "FILE") (rows_of (found_of given.now))) []) }
 {
     match given.get_raw("FILE") {
-        Some(files) => files,
-        None => &[],
+        Some(files) => Vec::from_slice(alloc, files),
+        None => Ok(Vec::new(alloc)),
     }
 }
 
