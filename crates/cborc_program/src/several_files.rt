@@ -56,11 +56,11 @@ fn check_one<'a, F: Folder, O: Write, E: Write>(
     err: &mut E,
 ) -> Result<u8, Fault<'a>>
     ensures named { IfOk result (IsNamed task.now.verbosity
-        (request_for task.now.request accepted path) (F.held files.old) (F.held files.new)
+        (request_for task.now.request accepted path.entry) (F.held files.old) (F.held files.new)
         (O.contents out.old) (O.contents out.new)) }
     ensures ended { IfErr result (λ fault. (fault_status fault ≡ statuses.Failed)
         × IsEnd task.now.verbosity
-        (request_for task.now.request accepted path) (F.held files.old) (F.held files.new)
+        (request_for task.now.request accepted path.entry) (F.held files.old) (F.held files.new)
         (O.contents out.old) (O.contents out.new)) }
     ensures keeps { KeepsFiles (F.held files.old) (F.held files.new) }
     ensures range { IfOk result (λ status. status ≤ 3) }

@@ -176,7 +176,7 @@ fn values_of_file<'a>(alloc: Global, given: &ArgMatches<'a>) -> Result<Vec<&'a s
 fn task_of<'a>(matches: &ArgMatches<'a>, files: Vec<&'a str>) -> Option<Task<'a>>
     ensures value { IfSome result (λ task. IsSomeAnd (subcommand_rows_of matches.now)
         (λ given. AsksFor given task.request × IsVerbosityOf given.1 task.verbosity)) }
-    ensures files { IfSome result (λ task. task.files ≡ files) }
+    ensures files { IfSome result (λ task. task.files ≡ files.entry) }
     ensures some { IfSome (subcommand_rows_of matches.now)
         (λ given. IsComplete given → IsSome result) }
 {
