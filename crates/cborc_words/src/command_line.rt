@@ -149,10 +149,7 @@ fn are_two_verbosities(given: &ArgMatches<'_>) -> bool
 }
 
 // The files of `check`, in the order of the command line. There are none for any other subcommand.
-fn files_given<'a>(
-    alloc: Global,
-    matches: &ArgMatches<'a>,
-) -> Result<Vec<&'a str>, AllocError>
+fn files_given<'a>(alloc: Global, matches: &ArgMatches<'a>) -> Result<Vec<&'a str>, AllocError>
     ensures { IfOk result (λ files. IfSome (subcommand_rows_of matches.now)
         (λ given. map (λ file. file.now) files.items ≡ files_given given)) }
 {
