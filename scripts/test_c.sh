@@ -121,8 +121,8 @@ for cc in "${compilers[@]}"; do
 done
 cc=$CC
 if have valgrind; then
-    # of the random items of the last two only some
-    for it in test: exports: explained: null: items: writer: cursor: 'round_trips:1 200' 'damaged:1 200'; do
+    # of the rows and random items of the last three only some
+    for it in test: exports: explained: null: items: writer: cursor: checker:20 'round_trips:1 200' 'damaged:1 200'; do
         "$cc" "${flags[@]}" -g -O1 "$c/${it%%:*}.c" "$dist/lib/libnaltvigo.a" -o "$scratch/t"
         # shellcheck disable=SC2086
         run "${it%%:*}, valgrind" valgrind -q --leak-check=full --error-exitcode=9 "$scratch/t" ${it#*:}
