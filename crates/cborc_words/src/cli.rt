@@ -156,10 +156,7 @@ fn input<'a>(alloc: Global, name: &'a str, help: &'a str) -> Arg<'a>
 fn inputs<'a>(alloc: Global, name: &'a str, help: &'a str) -> Arg<'a>
     ensures { HasRule (grammar.inputs name.entry.now) result }
 {
-    Arg::new(alloc, name)
-        .action(ArgAction::Append)
-        .default_value("-")
-        .help(help)
+    input(alloc, name, help).action(ArgAction::Append)
 }
 
 fn flag<'a>(alloc: Global, name: &'a str, help: &'a str) -> Arg<'a>
