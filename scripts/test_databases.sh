@@ -60,7 +60,7 @@ test_sqlite() {
     command -v sqlite3 >/dev/null || lacks='its shell, sqlite3'
     [ -n "$python" ] || lacks='a Python that loads extensions, python3'
     [ -z "$lacks" ] || { missing+=("SQLite ($lacks)"); return; }
-    cp -r "$root/bindings/sqlite" "$scratch/sqlite"
+    cp -r "$root"/bindings/{sql,sqlite} "$scratch"
     cd "$scratch/sqlite"
     quietly 'the build for SQLite' python3 "$root/scripts/run_readme.py" sh README.md
     quietly "the README for SQLite" python3 "$root/scripts/run_readme.py" sql README.md sqlite3 :memory:
@@ -95,7 +95,7 @@ test_postgresql() {
     lacks=$(lacks_postgresql "$pg_config")
     [ -z "$lacks" ] || { missing+=("PostgreSQL ($lacks)"); return; }
     start_server "$pg_config"
-    cp -r "$root/bindings/postgresql" "$scratch/postgresql"
+    cp -r "$root"/bindings/{sql,postgresql} "$scratch"
     cd "$scratch/postgresql"
     # the build, the installation below the server's own tree, and the tests of pg_regress
     DESTDIR=$tree PG_CONFIG=$pg_config quietly 'the build and the tests for PostgreSQL' python3 "$root/scripts/run_readme.py" sh README.md
