@@ -39,7 +39,7 @@ MEMORY = 4 << 30
 LIBRARY = f"NALTVIGO={os.environ.get('PREFIX', '')}"
 ROWS = "python3 rows.py ../crates/cbor_reader_tests/src/tests/*_table.rt >rows.h"
 # A bug that does not compile is not found.
-HEADERS = """for name in cursor writer round_trips damaged; do
+HEADERS = """for name in cursor writer round_trips damaged checker; do
     ${CC:-cc} -O1 -w -I../include $name.c "$PREFIX/lib/libnaltvigo.a" -o test || exit 0
     ./test 1 2000 || exit 1
 done"""
