@@ -36,7 +36,7 @@ limits_with_order(const text *order)
 
 /* ---- refusals */
 
-/* A path that the database's encoding may lack is left out. NULL if memory was refused. */
+/* The path is left out if the database's encoding may lack one of its characters. NULL if memory was refused. */
 static char *
 explanation_of(const bytea *item, const struct naltvigo_refusal *why)
 {

@@ -111,7 +111,7 @@ static inline struct explanation split(char *lines) {
 
 /* ---- paths */
 
-/* Into a map by the key, into an array by the index from 0, into a tag by its number. */
+/* The value of a key of a map, the member of an array at an index from 0, or the content of a tag with this number. */
 static inline struct naltvigo_cursor step_by_integer(struct naltvigo_cursor at, int64_t step) {
     if (naltvigo_kind(at) == NALTVIGO_MAP) return naltvigo_at_int(at, step);
     if (step < 0) return naltvigo_cursor_none(NALTVIGO_NOT_THERE);
@@ -131,12 +131,12 @@ static inline const char *text_for_sql(struct naltvigo_cursor at, size_t *length
 /* A row for each member of an array, or pair of a map; none for any other item. */
 struct rows {
     int64_t ordinal; /* that of this row, from 0 */
-    uint64_t left;   /* how many rows are left, with this one */
+    uint64_t left;   /* the number of rows that are left, including this one */
     int is_map;
     struct naltvigo_cursor key, value; /* of this row; the key only in a map */
 };
 
-/* Goes to the row that begins there. */
+/* Moves to the row that begins at this item. */
 static inline void go_to(struct rows *rows, struct naltvigo_cursor at) {
     rows->key = at;
     rows->value = rows->is_map ? naltvigo_next(at) : at;
