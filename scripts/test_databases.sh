@@ -73,14 +73,6 @@ test_sqlite() {
     PYTHON=$python try_planted sqlite
 }
 
-# Whether an extension was built with the flags against overruns.
-is_hardened() { # FILE
-    # grep reads to the end, so that no pipe breaks
-    readelf -Wl "$1" | grep GNU_RELRO >/dev/null && readelf -Wd "$1" | grep BIND_NOW >/dev/null || fail "$1 has no full RELRO"
-    nm -D -u "$1" | grep __stack_chk_fail >/dev/null || fail "$1 has no stack protector"
-    [ "$(uname -m)" != x86_64 ] || objdump -d "$1" | grep endbr64 >/dev/null || fail "$1 has no -fcf-protection"
-}
-
 # Bugs planted in an extension, a few in each run: the tests above fail.
 try_planted() { # BINDING
     python3 "$root/scripts/test_planted.py" "$1" >"$scratch/log" || { cat "$scratch/log"; fail "planted bugs in $1"; }
