@@ -76,7 +76,7 @@ static inline uint32_t write_all(write_call *call, const uint8_t *item, size_t i
 
 /* ---- refusals */
 
-enum { REFUSAL_MAX = 64 };
+enum { REFUSAL_MAX = 64, EXPLANATION = 512 };
 
 static inline void write_refusal(char text[REFUSAL_MAX], const struct naltvigo_refusal *why) {
     char name[NALTVIGO_NAME_MAX];
@@ -88,7 +88,7 @@ static inline void write_refusal(char text[REFUSAL_MAX], const struct naltvigo_r
 static inline char *explanation_lines(const uint8_t *item, size_t item_length, const struct naltvigo_refusal *why) {
     const struct naltvigo_options options = limits();
     struct naltvigo_refusal refusal = *why;
-    struct written lines = {0, 512, NULL};
+    struct written lines = {0, EXPLANATION, NULL};
     write_all(write_explanation, item, item_length, &options, &lines, &refusal);
     return (char *)lines.memory;
 }
