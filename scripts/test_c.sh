@@ -130,7 +130,7 @@ if have valgrind; then
 fi
 "$cc" "${flags[@]}" -g -O1 "$c/values.c" "$dist/lib/libnaltvigo.a" -o "$scratch/t"
 run values python3 "$root/fuzz/languages.py" --inputs 500 "C=$scratch/t"
-run 'planted bugs' python3 "$c/planted.py" "$dist"
+PREFIX=$(realpath "$dist") run 'planted bugs' python3 "$root/scripts/test_planted.py" --all c
 "$cc" "${flags[@]}" -g "$c/machine.c" "$dist/lib/libnaltvigo.a" -o "$scratch/t"
 run 'a machine' "$scratch/t"
 if have valgrind; then

@@ -57,17 +57,8 @@ greatest=$(objdump -T "$extension" | sed -n 's/.*GLIBC_\([0-9.]*\)).*/\1/p' | so
 tagged=$(sed -n 's/.*manylinux_\([0-9]*\)_\([0-9]*\)_.*/\1.\2/p' <<<"$wheel")
 [ "$(printf '%s\n' "$greatest" "$tagged" | sort -V | tail -1)" = "$tagged" ] || fail "$wheel needs glibc $greatest"
 [ "$(objdump -p "$extension" | awk '/NEEDED/ { print $2 }')" = libc.so.6 ] || fail 'the extension needs more than the C library'
-# it is hardened: the stack, copies of known sizes, a table of addresses that does not change, and where jumps may lead
-symbols=$(objdump -T "$extension") headers=$(readelf -dlW "$extension")
-for name in __stack_chk_fail __memcpy_chk; do
-    grep -q "$name" <<<"$symbols" || fail "the extension is not hardened: no $name"
-done
-grep -q GNU_RELRO <<<"$headers" && grep -q BIND_NOW <<<"$headers" || fail 'the extension is not hardened: no RELRO'
-! grep -q 'GNU_STACK.* RWE ' <<<"$headers" || fail 'the extension has a stack that can be executed'
-if [ "$(uname -m)" = x86_64 ]; then
-    code=$(objdump -d "$extension")
-    grep -q endbr64 <<<"$code" || fail 'the extension is not hardened: no endbr64'
-fi
+is_hardened "$extension"
+nm -D -u "$extension" | grep __memcpy_chk >/dev/null || fail 'copies of known sizes are not checked'
 
 # a Python without the interpreter's lock is refused
 ! "${CC:-cc}" -DPy_GIL_DISABLED -I"$folder" -I"$dist/include" -fsyntax-only "$package/src/native/module.c" 2>"$scratch/log" || fail 'a build without the lock'
