@@ -56,13 +56,19 @@ where
     }
 }
 
-/// Why no item is given.
+/// Why no item is given, or accepted.
 #[derive(Clone, PartialEq, Eq)]
 pub enum ReadError<E> {
-    /// The item is refused; the offset counts from the item's first byte. This is the last result.
+    /// The item is refused; the offset counts from the item's first byte. An iterator ends with it.
     Refused(Refused),
-    /// `read` failed. The next call tries it again, and nothing is lost.
+    /// The reader failed. The next call of an iterator tries it again, and nothing is lost.
     Read(E),
+}
+
+impl<E> From<Refused> for ReadError<E> {
+    fn from(refused: Refused) -> ReadError<E> {
+        ReadError::Refused(refused)
+    }
 }
 
 impl<E: fmt::Display> fmt::Display for ReadError<E> {

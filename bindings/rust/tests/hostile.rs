@@ -5,7 +5,9 @@
 //! is compared with another one that is measured just before or after it. Under an emulator, which the variable
 //! NALTVIGO_EMULATED names, no time is compared with a millisecond.
 
-use naltvigo::{check, read_items, Item, Map, Options, Order, Value, View};
+use naltvigo::{
+    check, check_canonical, read_items, Checker, Item, Map, Options, Order, Value, View,
+};
 use std::collections::HashSet;
 use std::env;
 use std::hint::black_box;
@@ -259,4 +261,42 @@ fn a_mebibyte_in_small_reads() {
         whole < 8 * part
     };
     assert!((0..3).any(is_fair));
+}
+
+// 4 MiB that come in packets, or in fewer bytes, take at most five times as long as one check of all.
+#[test]
+fn four_mebibytes_in_packets() {
+    let size = 4 * MIB;
+    let count = (size as u32).to_be_bytes();
+    let items = [
+        (
+            "integers",
+            [&[0x9a][..], &count, &vec![0; size]].concat(),
+            1400,
+        ),
+        (
+            "a text as a key",
+            [&[0xa1, 0x7a][..], &count, &vec![b'a'; size], &[0]].concat(),
+            64,
+        ),
+        ("keys", map_of((0..size as i64 / 10).map(Value::from)), 1400),
+    ];
+    for (name, item, packet) in items {
+        let mut checker = Checker::new(&wide()).unwrap();
+        let mut in_packets = || {
+            checker.restart();
+            for part in item.chunks(packet) {
+                checker.take(black_box(part)).unwrap();
+            }
+            assert_eq!(checker.end(), Ok(item.len() as u64));
+        };
+        // again if other processes disturbed it
+        let is_fair = |_| {
+            let whole = time(3, || check_canonical(black_box(&item), &wide()).unwrap());
+            let parts = time(3, &mut in_packets);
+            println!("{name}: {parts:?} in packets of {packet}, {whole:?} at once");
+            parts < 5 * whole
+        };
+        assert!((0..3).any(is_fair), "{name}");
+    }
 }
