@@ -17,10 +17,10 @@ pub enum Checked {
 
 /// Checks that an item that arrives in parts of any length is in its canonical bytes.
 ///
-/// After each part it says what [`check_canonical`](crate::check_canonical) says of all bytes so far,
-/// wherever they were cut, and [`Checked::More`] where that is `Truncated`. So an item is refused at the
-/// first wrong byte. The memory is that of the last key of each open map, all bytes of a key that is not
-/// complete, and some 10 KiB; no other byte is stored.
+/// After each part it says what [`check_canonical`](crate::check_canonical) says of all bytes of the item
+/// so far, wherever they were cut, and [`Checked::More`] where that is `Truncated`. So an item is refused
+/// at the first wrong byte. It stores the last key of each open map, the key that is not complete, and
+/// some 10 KiB, but no other byte of the item.
 ///
 /// ```
 /// use naltvigo::{Checked, Checker, Options, Reason};
