@@ -52,6 +52,9 @@ pub struct Checker {
 // SAFETY: no one else has the memory, and the library reads no state of a thread.
 unsafe impl Send for Checker {}
 
+// SAFETY: only calls that borrow the checker mutably pass the memory to the library.
+unsafe impl Sync for Checker {}
+
 impl Checker {
     /// A checker before an item's first byte. It is refused with [`Reason::Memory`] if there is no
     /// memory for it.

@@ -432,6 +432,8 @@ fn readers_of_longer_items() {
 // A checker may go on in another thread.
 #[test]
 fn threads() {
+    fn is_shared<T: Send + Sync>() {}
+    is_shared::<Checker>();
     let mut checker = Checker::new(&Options::default()).unwrap();
     assert_eq!(checker.take(b"\x82\x01"), Ok(Checked::More));
     let mut checker = thread::spawn(move || {
