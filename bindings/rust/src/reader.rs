@@ -156,6 +156,10 @@ impl<R> ReadItems<R> {
     }
 
     fn begin_cut(&mut self) -> Option<Result<Vec<u8>, Refused>> {
+        if self.cut.is_some() {
+            // what took the bytes had no memory for a key
+            return self.refuse(Refused::at(Reason::Memory, 0, &[], &self.options));
+        }
         self.cut = Some(if self.canonical {
             match Checker::new(&self.options) {
                 Ok(checker) => Cut::Canonical(checker),

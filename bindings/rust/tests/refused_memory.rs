@@ -1,8 +1,8 @@
 //! Refuses each request for memory of a checker, one at a time, and counts the blocks that it frees. The
-//! `malloc` here replaces the one of C, which the library calls.
+//! `malloc` here replaces that of C, which the library calls.
 #![cfg(all(target_os = "linux", target_env = "gnu"))]
 
-use naltvigo::{Checked, Checker, Options, Reason, Refused};
+use naltvigo::{read_canonical_items, Checked, Checker, Options, ReadError, Reason, Refused};
 use std::cell::Cell;
 use std::ffi::c_void;
 use std::ptr::null_mut;
@@ -108,6 +108,28 @@ fn each_request_is_refused_once() {
             }
             Err(why) => assert_eq!((why.reason, was_refused), (Reason::Memory, true)),
         }
+    }
+}
+
+// The reads bring so few bytes that only the library requests memory for them.
+#[test]
+fn a_reader_without_memory() {
+    // {h'0707..': 0}
+    let item = [b"\xa1\x59\x03\xe8", &[7; 1000][..], &[0]].concat();
+    let (mut left, mut reads) = (&item[..], 0);
+    let read = |buffer: &mut [u8]| {
+        let (part, rest) = left.split_at(left.len().min(10));
+        buffer[..part.len()].copy_from_slice(part);
+        left = rest;
+        reads += 1;
+        REFUSED.set(usize::from(reads > 2));
+        Ok::<_, &str>(part.len())
+    };
+    let found = read_canonical_items(read, &Options::default()).next();
+    REFUSED.set(0);
+    match found {
+        Some(Err(ReadError::Refused(why))) => assert_eq!(why.reason, Reason::Memory),
+        other => panic!("{other:?}"),
     }
 }
 
