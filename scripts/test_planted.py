@@ -26,6 +26,8 @@ import edit_files
 
 ROOT = Path(__file__).resolve().parent.parent
 A_TURN = 3
+# those that compare no times, and read no table of rows by each call
+RUST_TESTS = ["calls", "checker", "checker_io", "items", "maps", "reader", "refused_memory", "room", "thresholds", "values"]
 MEMORY = 4 << 30
 
 LIBRARY = f"NALTVIGO={os.environ.get('PREFIX', '')}"
@@ -37,7 +39,7 @@ PGOPTIONS='-c client_connection_check_interval=1s' psql -Xq -v ON_ERROR_STOP=1 -
 def commands(binding, tests):
     """What builds a binding and what tests it, in a copy of its folder. `tests` are the names of some, or None."""
     if binding == "rust":
-        names = tests[:1] if tests else ["calls", "checker", "items", "maps", "reader", "refused_memory", "room", "thresholds", "values"]
+        names = tests[:1] if tests else RUST_TESTS
         run = ["cargo", "test", "--offline", "-q", *(f"--test={it}" for it in names)]
         return [*run, "--no-run"], [*run, *(tests or [])[1:]]
     if binding == "sqlite":

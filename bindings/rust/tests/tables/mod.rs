@@ -1,4 +1,6 @@
 //! The rows of the repository's conformance tables. Their own text says what the columns are.
+// each test uses a part of it
+#![allow(dead_code)]
 
 use naltvigo::{Keys, Options, Order, Refused};
 use std::fs;
@@ -49,7 +51,6 @@ pub fn unhex(column: &str) -> Vec<u8> {
 pub type Triple = (u8, u64, u64);
 
 /// The numbers of `12 Trailing at 1, read 1`.
-#[allow(dead_code)] // only of some tests
 pub fn refusal(column: &str) -> Option<Triple> {
     let (number, rest) = column.split_once(' ')?;
     let (_, rest) = rest.split_once(" at ")?;
