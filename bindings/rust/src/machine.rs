@@ -20,9 +20,9 @@ pub enum Step<'a> {
 
 /// A machine that reads one item in parts of any length, and returns its events. It allocates no memory.
 ///
-/// It checks that the item is well-formed, and not UTF-8, repeated keys or canonical encoding. It does
-/// not know where the parts end: after the last one, a step of no bytes says whether the item is
-/// complete.
+/// It checks that the item is well-formed, and not UTF-8, repeated keys or canonical encoding, as a
+/// [`Checker`](crate::Checker) does. It does not know where the parts end: after the last one, a step of
+/// no bytes says whether the item is complete.
 ///
 /// ```
 /// use naltvigo::{Kind, Machine, Options, Step};
