@@ -11,7 +11,7 @@ import (
 // Checker checks that an item that arrives in parts of any length is in its canonical bytes. After each part it says what
 // CheckCanonical says of all bytes of the item so far, wherever they were cut, and nil where that is Truncated. So an item is
 // refused at the first wrong byte. It stores the last key of each open map, the key that is not complete, and some 10 KiB,
-// but no other byte of the item.
+// but no other byte of the item. If all bytes are at hand, CheckCanonical is several times faster.
 //
 // A refusal stays: each later call returns it, until Restart. Its offset counts from the item's first byte, and its path is $,
 // since the bytes are gone. After ErrMemory, too, only Restart goes on.

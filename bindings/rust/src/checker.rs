@@ -20,7 +20,8 @@ pub enum Checked {
 /// After each part it says what [`check_canonical`](crate::check_canonical) says of all bytes of the item
 /// so far, wherever they were cut, and [`Checked::More`] where that is `Truncated`. So an item is refused
 /// at the first wrong byte. It stores the last key of each open map, the key that is not complete, and
-/// some 10 KiB, but no other byte of the item.
+/// some 10 KiB, but no other byte of the item. If all bytes are at hand, `check_canonical` is several times
+/// faster.
 ///
 /// ```
 /// use naltvigo::{Checked, Checker, Options, Reason};
