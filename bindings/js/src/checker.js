@@ -8,7 +8,7 @@ import { outOfMemory } from './refused.js';
 
 const HANDLE_SIZE = 8n; // of struct naltvigo_checker
 
-/** A checker in the module's memory, which nobody else may use. It must be released. */
+/** A checker in the module's memory. It must be released. */
 class Handle {
     constructor(library, { order, keys, depth, maxBytes }) {
         this.library = library;
@@ -21,7 +21,7 @@ class Handle {
         throw instance.failure(status);
     }
 
-    /** Its state is that of a call that did not return for as long as the call runs. */
+    /** `isWhole` is false while a call runs, and after a call that did not return. */
     #run(call) {
         this.isWhole = false;
         const status = this.instance.run(call);
@@ -29,12 +29,12 @@ class Handle {
         return status;
     }
 
-    /** Moves to the instance with the same memory, if a call of something else in its own did not return. */
+    /** Moves to an instance with the same memory, if a call of something else did not return in its own. */
     move() {
         while (!this.instance.isUsable) this.instance = this.library.heirOf(this.instance);
     }
 
-    /** The status after at most WINDOW bytes. The instance has how many were used, or the refusal. */
+    /** The status after at most WINDOW bytes. The instance then has the number of bytes used, and the refusal. */
     take(part) {
         const { exports, left, first, refusal } = this.instance, input = left.put(part);
         return this.#run(() => exports.naltvigo_checker_take_raw(this.pointer, input.pointer, input.size, first, refusal));
@@ -45,7 +45,7 @@ class Handle {
         return this.#run(() => exports.naltvigo_checker_end_raw(this.pointer, refusal));
     }
 
-    /** Of an instance that is not used any longer the engine gives all memory back. */
+    /** An instance that is no longer used is collected with all of its memory. */
     release() {
         while (!this.instance.isUsable && this.instance.heir) this.instance = this.instance.heir;
         if (!this.isWhole || !this.instance.isUsable) return;
@@ -55,10 +55,10 @@ class Handle {
     }
 }
 
-/** Gives back the memory of checks that nobody can go on with. */
+/** Releases the memory of checks that can no longer be reached. */
 const unreachable = new FinalizationRegistry(handle => handle.release());
 
-/** The check of one item after another. It has memory of the module while an item is not complete. */
+/** The check of one item after another. It uses memory of the module while an item is not complete. */
 class StrictCheck {
     #library;
     #given;
@@ -78,7 +78,7 @@ class StrictCheck {
         this.consumed = 0;
     }
 
-    /** Takes the bytes up to the item's end; returns how many of them belong to it. */
+    /** Checks bytes up to the item's end; returns how many of them belong to it. */
     feed(bytes) {
         this.#throwError();
         let used = 0;
@@ -93,7 +93,7 @@ class StrictCheck {
         return used;
     }
 
-    /** Takes bytes all of which must belong to the item. */
+    /** Checks bytes all of which must belong to the item. */
     feedAll(bytes) {
         if (this.feed(bytes) === bytes.length) return;
         const { consumed } = this;

@@ -68,7 +68,7 @@ const HEAD = 48;
 const RESULTS = 64;
 const LONGEST_HEAD = 9n;
 
-/** Grows a memory to a size. Of a memory of 64-bit addresses some engines take the number of pages as a bigint alone. */
+/** Grows a memory to a size. If it has 64-bit addresses, some engines take the number of pages only as a bigint. */
 function growTo(memory, size) {
     const pages = (size - memory.buffer.byteLength) / PAGE;
     try {
@@ -110,7 +110,7 @@ export class Instance {
         this.head = results.pointer + BigInt(HEAD);
     }
 
-    /** Copies the memory, and gives back the blocks of the calls: what remains are the checkers. */
+    /** Copies the memory, and releases the blocks of calls, so that only the checkers remain. */
     #inherit(before) {
         const { memory, release } = this.exports, { buffer } = before.exports.memory;
         growTo(memory, buffer.byteLength);
@@ -234,8 +234,8 @@ export class Library {
     }
 
     /**
-     * The instance that goes on with the memory of one that trapped, for its checkers: each that was in no call there is as
-     * its last call left it. Other calls begin with the memory of a new module.
+     * The instance that goes on with the memory of one that trapped, for the checkers there. Only the one whose call trapped is
+     * lost. Other calls begin with a new memory.
      */
     heirOf(instance) {
         return instance.heir ??= new Instance(new WebAssembly.Instance(this.#module, {}), instance);

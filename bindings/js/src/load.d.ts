@@ -111,12 +111,12 @@ export class Refused extends Error {
 }
 
 /**
- * Checks an item whose bytes come in parts. After each part it says what `checkCanonical` says of all bytes so far, however
- * they are cut: a wrong byte is refused when it comes. It keeps no more of the item than the last key of each open map, and
- * all of a key that is not complete.
+ * Checks an item whose bytes come in parts. After each part the result is that of `checkCanonical` for all bytes so far,
+ * however they are cut, so a wrong byte is refused when it comes. Of the item it keeps only the last key of each open map,
+ * and all of a key that is not complete.
  *
- * It has memory of the module from the first part until the item is complete or refused, until `free`, or until it can no
- * longer be reached.
+ * It uses memory of the module from the first part until the item is complete or refused, until `free`, or until it is
+ * collected as garbage.
  */
 export interface Checker {
     /** Whether the item is complete, and so canonical. */
@@ -124,20 +124,20 @@ export interface Checker {
     /** How many bytes of the item were read. */
     readonly consumed: number;
     /**
-     * Takes the next part. Returns how many of its bytes belong to the item: all of them, unless the item ends before. Once it
-     * is complete that is none. Throws `Refused` at a wrong byte, and then again at each call. After a `RangeError`, since the
-     * engine gave no more memory for a key, the checker is to be restarted.
+     * Checks the next part. Returns how many of its bytes belong to the item: all of them unless the item ends before the
+     * part does, and 0 if the item was complete before. Throws `Refused` at a wrong byte, and again at each later call.
+     * Throws a `RangeError` if the engine gives no more memory; if it was for a key, again until `restart`.
      */
     feed(part: Bytes): number;
     /** Says that no byte follows. Throws `Refused` (1 Truncated, at `consumed`) if the item is not complete. */
     end(): void;
     /** Goes on with another item, whatever became of the one before. */
     restart(): void;
-    /** Gives back the memory of an item that is not complete. Until `restart` the checker then takes no bytes. */
+    /** Releases the memory of an item that is not complete. Then `feed` and `end` throw an `Error` until `restart`. */
     free(): void;
     /**
-     * A WritableStream that takes exactly one item with this checker. A write is rejected with `Refused` at a wrong byte, and
-     * if bytes follow the item (12 Trailing); `close` if the item is not complete. `abort` is `free`.
+     * A WritableStream that accepts exactly one item. A write is rejected with `Refused` at a wrong byte, or if bytes follow
+     * the item (12 Trailing). `close` is rejected if the item is not complete. `abort` calls `free`.
      */
     writable(): ByteSink;
 }
@@ -197,11 +197,11 @@ export interface Naltvigo {
     check(this: void, data: Bytes, options?: Options): void;
     /** Returns if the input is one valid item in its canonical bytes; else throws `Refused`. */
     checkCanonical(this: void, data: Bytes, options?: Options): void;
-    /** A checker, which is before an item's first byte. */
+    /** Makes a checker, for an item of which no byte has come. */
     readonly Checker: new (options?: Options) => Checker;
     /**
-     * The number of bytes that come in these chunks, if they are one valid item in its canonical bytes; else rejects with
-     * `Refused` when the first wrong byte comes. The bytes are not kept.
+     * The number of bytes in these chunks, if they are one valid item in its canonical bytes. Rejects with `Refused` as soon
+     * as a wrong byte comes. The bytes are not kept.
      */
     checkStream(
         this: void, chunks: AsyncIterable<Bytes> | Iterable<Bytes> | ByteStream, options?: Options,
