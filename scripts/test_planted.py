@@ -34,6 +34,8 @@ FOLDERS = {
     "postgresql": ["bindings/postgresql", "bindings/sql"],
 }
 A_TURN = 3
+# those that compare no times, and read no table of rows by each call
+RUST_TESTS = ["calls", "checker", "checker_io", "items", "maps", "reader", "refused_memory", "room", "thresholds", "values"]
 MEMORY = 4 << 30
 
 LIBRARY = f"NALTVIGO={os.environ.get('PREFIX', '')}"
@@ -53,7 +55,7 @@ def commands(binding, tests):
     if binding == "c":
         return ["sh", "-c", ROWS], ["sh", "-c", HEADERS]
     if binding == "rust":
-        names = tests[:1] if tests else ["calls", "items", "maps", "reader", "room", "thresholds", "values"]
+        names = tests[:1] if tests else RUST_TESTS
         run = ["cargo", "test", "--offline", "-q", *(f"--test={it}" for it in names)]
         return [*run, "--no-run"], [*run, *(tests or [])[1:]]
     if binding == "sqlite":

@@ -5,16 +5,10 @@ use Rattle.cbor_head.specs.Prelude.{bounds, with_keys, refusal}
 use Rattle.cbor_head.specs.declared.reason.{Reason.TheVariants.Memory, Reason.TheVariants.Truncated, Refusal.Refusal}
 use Rattle.theory_automaton.specs.Trace.{Mark}
 use Rattle.cbor_machine.specs.declared.step.Out.TheVariants as outs
-<<<<<<< HEAD
 use Rattle.cbor_machine.specs.Machine.{IfRefused, IsComplete, KeepsLimits}
 use Rattle.cbor_machine.specs.declared.step.Out.{Out}
 use Rattle.cbor_stream.specs.StrictMachine.{StrictMachineView, StandsAmid, limits_of}
 use Rattle.cbor_stream.{specs.Said.Says, specs.Reasons.IsStrictReason, proofs.Steps.if_refused}
-=======
-use Rattle.cbor_machine.specs.{Machine.IfRefused, Machine.KeepsLimits, declared.step.Out.Out}
-use Rattle.cbor_stream.specs.StrictMachine.{StrictMachineView, StandsAmid, limits_of}
-use Rattle.cbor_stream.specs.Said.{Says}
->>>>>>> c9965149e892a4726bd47523e715406ef4cd4f00
 use Rattle.cbor_checker.specs.declared.checker.Checker.{Checker}
 use Rattle.naltvigo.specs.Checker.{HasChecked, IsReportedPart, IsReportedAtEnd, IsReportedRefusal}
 use Rattle.naltvigo.specs.{Reported.IsReported, declared.status.NaltvigoRefusal.NaltvigoRefusal}
@@ -29,13 +23,9 @@ limits_same was now limits keys =
 
 module _ (was now : StrictMachineView) (input : List ℕ) (used : ℕ) (out : Out) (within : used ≤ length input) (taken : now.machine.taken ≡ was.machine.taken + used)
     (says : (t : List ℕ) (ms : List Mark) → StandsAmid was t ms → Says out now (t ++ take used input)) (limits : KeepsLimits was.machine now.machine) (order : now.order ≡ was.order) (keys : now.keys ≡ was.keys)
-<<<<<<< HEAD
     (refused : IfRefused out (λ f. (now.refusal ≡ Some f) × (now.machine.taken ≡ f.read) × IsStrictReason was.order f.reason × (now.spans ≡ 0) × (now.kept ≡ 0)))
     (again : IfSome was.refusal (λ f. (out ≡ outs.Refused f) × (used ≡ 0) × (now ≡ was)))
     (complete : IsComplete was.machine → was.refusal ≡ None → (out ≡ outs.Done) × (used ≡ 0)) where
-=======
-    (refused : IfRefused out (λ f. now.refusal ≡ Some f)) (again : IfSome was.refusal (λ f. (out ≡ outs.Refused f) × (used ≡ 0) × (now ≡ was))) where
->>>>>>> c9965149e892a4726bd47523e715406ef4cd4f00
   pub checked_so : (old new : Option StrictMachineView) → old ≡ Some was → new ≡ Some now → (reported : Out → StrictMachineView → Type 0) → reported out now → HasChecked old new (take used input) reported
   checked_so old new held holds reported reports = record {
     was = was;
@@ -48,12 +38,8 @@ module _ (was now : StrictMachineView) (input : List ℕ) (used : ℕ) (out : Ou
     limits = limits_same was now limits keys;
     order = order;
     taken = omega (arith, taken, length-take-le used input within);
-<<<<<<< HEAD
     refused = if_refused out _ (λ f. now.refusal ≡ Some f) (λ f h. h.0) refused;
     complete = λ is live. let d = complete is live in (d.0, ap (λ (n : ℕ). take n input) d.1);
-=======
-    refused = refused;
->>>>>>> c9965149e892a4726bd47523e715406ef4cd4f00
     again = map_some was.refusal _ (λ f. (out ≡ outs.Refused f) × (take used input ≡ []) × (now ≡ was)) (λ f h. (h.0, ap (λ (n : ℕ). take n input) h.1, h.2)) again;
   }
 

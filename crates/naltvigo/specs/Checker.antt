@@ -1,18 +1,10 @@
 -- What the strict check of an item whose bytes come in parts reports, as C has it.
-<<<<<<< HEAD
 use Rattle.std.specs.Prelude.{ℕ, ◌≡◌, ◌≢◌, ◌⊎◌, ◌+◌, ◌++◌, List, [], length, Option, Some, None, IfSome}
-=======
-use Rattle.std.specs.Prelude.{ℕ, ◌≡◌, ◌≢◌, ◌⊎◌, ◌+◌, ◌++◌, List, [], length, Option, Some, IfSome}
->>>>>>> c9965149e892a4726bd47523e715406ef4cd4f00
 use Rattle.cbor_head.specs.{Prelude.refusal, declared.reason.Reason.TheVariants.Memory, declared.reason.Reason.TheVariants.Truncated}
 use Rattle.cbor_head.specs.declared.reason.Refusal.{Refusal}
 use Rattle.theory_automaton.specs.Trace.{Mark}
 use Rattle.cbor_machine.specs.declared.step.Out.TheVariants as outs
-<<<<<<< HEAD
 use Rattle.cbor_machine.specs.{Machine.IfRefused, Machine.IsComplete, declared.step.Out.Out}
-=======
-use Rattle.cbor_machine.specs.{Machine.IfRefused, declared.step.Out.Out}
->>>>>>> c9965149e892a4726bd47523e715406ef4cd4f00
 use Rattle.cbor_stream.specs.StrictMachine.{StrictMachineView, StandsAmid, limits_of}
 use Rattle.cbor_stream.specs.Said.{Says}
 use Rattle.naltvigo.specs.{Reported.IsReported, Settings.key_order, Settings.item_limits, declared.status.NaltvigoRefusal.NaltvigoRefusal}
@@ -65,8 +57,5 @@ pub record HasChecked (old new : Option StrictMachineView) (bs : List ℕ) (repo
   pub order : now.order ≡ was.order
   pub taken : now.machine.taken ≡ was.machine.taken + length bs
   pub refused : IfRefused out (λ f. now.refusal ≡ Some f)
-<<<<<<< HEAD
   pub complete : IsComplete was.machine → was.refusal ≡ None → (out ≡ outs.Done) × (bs ≡ [])
-=======
->>>>>>> c9965149e892a4726bd47523e715406ef4cd4f00
   pub again : IfSome was.refusal (λ f. (out ≡ outs.Refused f) × (bs ≡ []) × (now ≡ was))
