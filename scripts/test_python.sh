@@ -90,7 +90,10 @@ if "$checker" -m mypy --version >/dev/null 2>&1; then
     try 'types of what is installed' env MYPYPATH="$scratch/site" "$checker" -m mypy --strict "$package/tests/typed_use.py"
     "$python" -c 'import doctest, sys; print(doctest.script_from_examples(open(sys.argv[1]).read()))' "$package/README.md" >"$scratch/readme.py"
     try 'types of the README' env MYPYPATH="$scratch/site" "$checker" -m mypy --strict "$scratch/readme.py"
-    try 'stubs of the extension' env PYTHONPATH="$scratch/site" MYPYPATH="$scratch/site" "$checker" -m mypy.stubtest naltvigo._native
+    # of a type whose options all have names stubtest reads no signature
+    echo naltvigo._native.Checker.__init__ >"$scratch/allowed"
+    try 'stubs of the extension' env PYTHONPATH="$scratch/site" MYPYPATH="$scratch/site" "$checker" -m mypy.stubtest naltvigo._native \
+        --allowlist "$scratch/allowed" --ignore-unused-allowlist
     say 'the types hold, for mypy --strict and for the extension as it is'
 else
     missing+=(mypy)

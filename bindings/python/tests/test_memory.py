@@ -192,6 +192,8 @@ class Leaks(unittest.TestCase):
             yield list, (items(memoryview(data + data)),), {}
             yield list, (items([data, data[:-1]]),), {}
             yield list, (naltvigo.events([data, data]),), {}
+            yield naltvigo.check_stream, ([data[:3], bytearray(data[3:])],), {}
+            yield naltvigo.Checker, (), {"wrong": 1}
             yield lambda one: (loads(one) == loads(one), hash(next(iter(loads(one))))), (data,), {}
 
     def growth(self, turns):
