@@ -254,7 +254,7 @@ class Threads(unittest.TestCase):
         thread.start()
         try:
             for call in (lambda: checker.feed(b""), checker.end, checker.restart):
-                self.assertEqual(self.error_of(call), "another thread is in this checker")
+                self.assertEqual(self.error_of(call), "another call is in this checker")
         finally:
             done.set()
             thread.join()
@@ -298,13 +298,12 @@ class Threads(unittest.TestCase):
     def test_a_buffer_that_calls(self):
         class Calling:
             def __buffer__(self, flags):
-                for call in (lambda: checker.feed(b""), checker.end, checker.restart):
-                    errors.append(self.error_of(call))
+                errors.update(map(error_of, (lambda: checker.feed(b""), checker.end, checker.restart)))
                 return memoryview(b"\x81\0")
 
-        checker, errors = Checker(), []
+        checker, errors, error_of = Checker(), set(), self.error_of
         self.assertTrue(checker.feed(Calling()))
-        self.assertEqual(set(errors), {"another thread is in this checker"})
+        self.assertEqual(errors, {"another call is in this checker"})
 
 
 if __name__ == "__main__":

@@ -38,7 +38,7 @@ static void checker_dealloc(PyObject *object) {
 /* Whether no other call is in this checker; else an exception is set. */
 static int is_free(const struct checker *self) {
     if (!self->is_busy) return 1;
-    PyErr_SetString(PyExc_ValueError, "another thread is in this checker");
+    PyErr_SetString(PyExc_ValueError, "another call is in this checker");
     return 0;
 }
 
