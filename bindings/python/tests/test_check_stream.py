@@ -10,6 +10,7 @@ from items import any_encoding, encoded, head, some_value
 from naltvigo import check_canonical, check_stream
 from test_checker import TRAILING, parts_of, resident
 from test_files import Raw, cuts
+from test_memory import most_memory
 from test_naltvigo import ORDERS, TABLES, answer_of, rows_of
 
 
@@ -48,6 +49,9 @@ class Streams(unittest.TestCase):
             file = Raw(head(2, 100_000) + bytes(100_000), random.Random(limit))
             self.assertEqual(answer_of(check_stream, file, max_bytes=limit), (2, limit, limit))
             self.assertLessEqual(file.at, limit + 1)
+        for data in (bytearray(1 << 24), memoryview(bytearray(1 << 24))[::2]):
+            said, most = most_memory(lambda: answer_of(check_stream, data, max_bytes=10))
+            self.assertEqual((said, most < 1 << 16), ((TRAILING, 1, 1), True))
         file = Raw(b"\0" * 100_000, random.Random(5))
         self.assertEqual(answer_of(check_stream, file, max_bytes=1), (TRAILING, 1, 1))
         self.assertLessEqual(file.at, 2)

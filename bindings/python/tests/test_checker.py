@@ -209,9 +209,11 @@ class Use(unittest.TestCase):
             for call in (Checker, lambda **options: check_stream(None, **options)):
                 with self.assertRaises(ValueError):
                     call(**wrong)
-        for wrong in ({"depth": True}, {"max_bytes": "1"}, {"canonical": True}, {"part": b""}, {1: 2}):
+        for wrong in ({"depth": True}, {"max_bytes": "1"}, {"canonical": True}, {"part": b""}):
             with self.assertRaises(TypeError):
                 Checker(**wrong)
+        with self.assertRaisesRegex(TypeError, "^keywords must be strings$"):
+            Checker(**{1: 2})
         with self.assertRaisesRegex(TypeError, r"^Checker\(\) takes 0 positional arguments, and got 1$"):
             Checker(b"")
 

@@ -3,10 +3,10 @@
 from __future__ import annotations
 
 from collections.abc import Iterable, Iterator
-from typing import TYPE_CHECKING, NamedTuple
+from typing import TYPE_CHECKING, Any, NamedTuple
 
 from ._files import Reader, is_buffer
-from ._native import EVENT, MORE, OK, Checker, Machine, refusal, start_machine
+from ._native import EVENT, MORE, OK, Checker, Machine, check_canonical, refusal, start_machine
 
 if TYPE_CHECKING:
     from _typeshed import ReadableBuffer
@@ -86,10 +86,10 @@ def check_stream(
 ) -> int:
     """Returns the number of bytes that a source has, if they are one valid item in its canonical bytes. Raises Refused otherwise.
 
-    `source` is a file that was opened to read bytes, an iterable of buffers, cut anywhere, or a buffer. Reason and offset are
-    those that `check_canonical` has for all bytes of the source, but a refusal comes at the first wrong byte, a byte after
-    the item too, and has no path. No more is read then. At most one byte more than `max_bytes` is read of a file. In memory
-    are 64 KiB of it, or one buffer of an iterable, and the keys that a Checker stores.
+    `source` is a file that was opened to read bytes, or an iterable of buffers, cut anywhere. A refusal has the reason and the
+    offset that `check_canonical` reports of all bytes, and no path. It comes at the first wrong byte, and no more is read then.
+    At most one byte more than `max_bytes` is read from a file. At most 64 KiB of it are in memory, or one buffer of an
+    iterable, and the keys that a Checker stores. If `source` is one buffer, it is checked by `check_canonical`.
 
     >>> import io
     >>> check_stream(io.BytesIO(b"\\x82\\x18\\x64\\x01"))      # [100, 1]
@@ -99,8 +99,12 @@ def check_stream(
       ...
     naltvigo.Refused: refused 12 Trailing at 4: ...
     """
-    checker = Checker(order=order, depth=depth, max_bytes=max_bytes, keys=keys)
-    reader = Reader((source,) if is_buffer(source) else source)
+    options: Any = dict(order=order, depth=depth, max_bytes=max_bytes, keys=keys)
+    if is_buffer(source):
+        length = memoryview(source).nbytes  # type: ignore[arg-type]
+        check_canonical(source, **options)  # type: ignore[arg-type]
+        return length
+    checker, reader = Checker(**options), Reader(source)
     while part := reader.next(max_bytes + 1 - checker.consumed):
         if checker.feed(part) and checker.used < len(part):
             raise refusal(TRAILING, checker.consumed)
