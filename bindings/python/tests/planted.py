@@ -125,7 +125,8 @@ class Extension:
         begin = time.monotonic()
         try:
             limit = self.limits.get(tests, 3600)
-            ran = subprocess.run(words, capture_output=True, text=True, env=own, timeout=limit, cwd=self.folder, preexec_fn=limit_memory)
+            more = dict(timeout=limit, cwd=self.folder, preexec_fn=limit_memory)
+            ran = subprocess.run(words, capture_output=True, text=True, errors="replace", env=own, **more)
         except subprocess.TimeoutExpired:
             return "it took too long"
         self.limits.setdefault(tests, 30 + 3 * (time.monotonic() - begin))
