@@ -113,7 +113,7 @@ if [ -e "$runtime" ] && CFLAGS=$sanitizers build "$scratch/watched" >"$scratch/l
     watched=(env LD_PRELOAD="$runtime" ASAN_OPTIONS=detect_leaks=0 PYTHONMALLOC=malloc PYTHONPATH="$scratch/watched" "$python")
     try 'random inputs under sanitizers' "${watched[@]}" "$package/tests/fuzz_values.py" 15000 7
     say "under sanitizers: $(cat "$scratch/log")"
-    for tests in appendix files frozen hostile sequences thresholds values; do
+    for tests in appendix check_stream checker files frozen hostile sequences thresholds values; do
         try 'tests under sanitizers' "${watched[@]}" -m unittest discover "$package/tests" -p "test_$tests.py"
         say "under sanitizers: $tests, $(sed -n 's/^\(Ran [0-9]* tests\).*/\1/p' "$scratch/log")"
     done

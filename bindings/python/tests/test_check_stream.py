@@ -3,12 +3,11 @@
 import io
 import pathlib
 import random
-import tracemalloc
 import unittest
 
 from items import any_encoding, encoded, head, some_value
 from naltvigo import check_canonical, check_stream
-from test_checker import TRAILING, parts_of, resident
+from test_checker import TRAILING, parts_of
 from test_files import Raw, cuts
 from test_memory import most_memory
 from test_naltvigo import ORDERS, TABLES, answer_of, rows_of
@@ -63,35 +62,6 @@ class Streams(unittest.TestCase):
         for wrong in (7, None, [1, 2], ["text"], io.StringIO("text")):
             with self.assertRaises(TypeError, msg=repr(wrong)):
                 check_stream(wrong)
-
-    def test_memory(self):
-        # 64 MiB in small chunks, and of a file: neither Python's memory nor that of the process grows
-        count = 1 << 16
-        one, most = head(2, 1020) + bytes(1020), [0]
-        length = len(head(4, count)) + count * len(one)
-
-        def parts():
-            yield head(4, count)
-            for turn in range(count):
-                yield from (one[:300], one[300:])
-                if turn % 1024 == 0:
-                    most[0] = max(most[0], resident())
-
-        class File(io.RawIOBase):
-            chunks = parts()
-
-            def read(self, size=-1):
-                return next(self.chunks, b"")
-
-        for source in (parts(), File()):
-            before = resident()
-            tracemalloc.start()
-            try:
-                self.assertEqual(check_stream(source, max_bytes=1 << 27), length)
-                self.assertLess(tracemalloc.get_traced_memory()[1], 1 << 19)
-            finally:
-                tracemalloc.stop()
-            self.assertLess(most[0] - before, 8 << 20)
 
 
 if __name__ == "__main__":

@@ -2,7 +2,6 @@
 
 import copy
 import itertools
-import os
 import pickle
 import random
 import sys
@@ -12,18 +11,10 @@ import unittest
 
 from items import any_encoding, encoded, head, some_value
 from naltvigo import Checker, Refused, check_canonical, check_stream
-from test_memory import most_memory
 from test_naltvigo import ORDERS, TABLES, answer_of, rows_of
 from times import least_time
 
 TRUNCATED, TRAILING = 1, 12
-PAGE = os.sysconf("SC_PAGE_SIZE")
-
-
-def resident():
-    """The bytes of memory that this process has now."""
-    with open("/proc/self/statm", encoding="ascii") as file:
-        return int(file.read().split()[1]) * PAGE
 
 
 def parts_of(data, size):
@@ -119,28 +110,7 @@ class Parts(unittest.TestCase):
                 self.assertEqual(checker.end(), len(data))
 
 
-class Bounds(unittest.TestCase):
-    def test_nothing_is_left(self):
-        # each has some 10 KiB and a key
-        key = b"\xa1" + head(2, 1000) + bytes(1000) + b"\0"
-        for _ in range(200):
-            Checker().feed(key[:900])
-        before = resident()
-        for _ in range(5000):
-            Checker().feed(key[:900])
-            checker = Checker()
-            checker.feed(key)
-            checker.restart()
-        self.assertLess(resident() - before, 16 << 20)
-
-    def test_a_copy_is_no_longer_than_the_rest_of_the_item(self):
-        for begin, limit in ((b"", 10), (head(2, 1 << 20) + bytes(1 << 20), (1 << 20) + 8)):
-            checker = Checker(max_bytes=limit)
-            checker.feed(begin[:-1])
-            more = bytearray(1 << 24)
-            for part in (more, memoryview(more)[::2]):
-                self.assertLess(most_memory(lambda: checker.feed(part))[1], 10_000)
-
+class Time(unittest.TestCase):
     def test_time(self):
         # records of 4 MB in 3,000 parts take at most five times as long as one check of them
         data = encoded([{"id": n, "name": f"name {n}", "tags": ["a", "b", n % 7], "data": bytes(40)} for n in range(50_000)])
