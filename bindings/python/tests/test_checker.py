@@ -112,20 +112,22 @@ class Parts(unittest.TestCase):
 
 class Time(unittest.TestCase):
     def test_time(self):
-        # records of 4 MB in 3,000 parts take at most five times as long as one check of them
+        # 4 MB in 3,000 parts take at most five times as long as in one, and not much longer than check_canonical
         data = encoded([{"id": n, "name": f"name {n}", "tags": ["a", "b", n % 7], "data": bytes(40)} for n in range(50_000)])
         self.assertGreater(len(data), 4_000_000)
-        parts, options = parts_of(data, 1400), {"max_bytes": 1 << 23}
+        options = {"max_bytes": 1 << 23}
 
-        def in_parts():
+        def feed(parts):
             checker = Checker(**options)
             self.assertTrue([checker.feed(part) for part in parts][-1])
 
+        small, whole = parts_of(data, 1400), [data]
         for _ in range(3):  # again if other processes disturbed it
-            took, usual = least_time(in_parts, 3), least_time(lambda: check_canonical(data, **options), 3)
-            if took < 5 * usual:
+            took, usual = least_time(lambda: feed(small), 3), least_time(lambda: feed(whole), 3)
+            check = least_time(lambda: check_canonical(data, **options), 3)
+            if took < 5 * usual and usual < 50 * check:
                 return
-        self.fail(f"{took * 1e3:.0f} ms in parts, and {usual * 1e3:.0f} ms at once")
+        self.fail(f"{took * 1e3:.0f} ms in parts, {usual * 1e3:.0f} ms in one, {check * 1e3:.0f} ms by check_canonical")
 
 
 class Use(unittest.TestCase):
