@@ -90,7 +90,10 @@ if "$checker" -m mypy --version >/dev/null 2>&1; then
     try 'types of what is installed' env MYPYPATH="$scratch/site" "$checker" -m mypy --strict "$package/tests/typed_use.py"
     "$python" -c 'import doctest, sys; print(doctest.script_from_examples(open(sys.argv[1]).read()))' "$package/README.md" >"$scratch/readme.py"
     try 'types of the README' env MYPYPATH="$scratch/site" "$checker" -m mypy --strict "$scratch/readme.py"
-    try 'stubs of the extension' env PYTHONPATH="$scratch/site" MYPYPATH="$scratch/site" "$checker" -m mypy.stubtest naltvigo._native
+    # of a type whose options all have names stubtest reads no signature
+    echo naltvigo._native.Checker.__init__ >"$scratch/allowed"
+    try 'stubs of the extension' env PYTHONPATH="$scratch/site" MYPYPATH="$scratch/site" "$checker" -m mypy.stubtest naltvigo._native \
+        --allowlist "$scratch/allowed" --ignore-unused-allowlist
     say 'the types hold, for mypy --strict and for the extension as it is'
 else
     missing+=(mypy)
@@ -110,7 +113,7 @@ if [ -e "$runtime" ] && CFLAGS=$sanitizers build "$scratch/watched" >"$scratch/l
     watched=(env LD_PRELOAD="$runtime" ASAN_OPTIONS=detect_leaks=0 PYTHONMALLOC=malloc PYTHONPATH="$scratch/watched" "$python")
     try 'random inputs under sanitizers' "${watched[@]}" "$package/tests/fuzz_values.py" 15000 7
     say "under sanitizers: $(cat "$scratch/log")"
-    for tests in appendix files frozen hostile sequences thresholds values; do
+    for tests in appendix check_stream checker files frozen hostile sequences thresholds values; do
         try 'tests under sanitizers' "${watched[@]}" -m unittest discover "$package/tests" -p "test_$tests.py"
         say "under sanitizers: $tests, $(sed -n 's/^\(Ran [0-9]* tests\).*/\1/p' "$scratch/log")"
     done
