@@ -1,5 +1,6 @@
 -- `check` of several files, one after another.
-use Rattle.std.proofs.Common.{◌≡◌, ◌≤◌, ◌++◌, ◌∷◌, ◌∙◌, ℕ, Bool, true, false, List, [], Option, None, Some, arith, inl, inr, max, refl, sym}
+use Rattle.std.proofs.Common.{◌≡◌, ◌≢◌, ◌≤◌, ◌<◌, ◌+◌, suc, ap, take, length, ◌++◌, ◌∷◌, ◌∙◌, ℕ, Bool, true, false, List, [], Option, None, Some, arith, inl, inr, max, refl}
+use Rattle.std.{proofs.Math.ListN.get_or, proofs.Math.Seq.take-suc, proofs.lemmas.Bool.Decides.Decides-eqb, specs.Prelude.◌==◌, specs.Prelude.if◌then◌else◌}
 use Rattle.std.specs.{Borrow.Bor, Io.KnownBytes.Appends, Io.KnownBytes.Keeps}
 use Rattle.cborc_files.specs.Folder.{Files, KeepsFiles}
 use Rattle.cborc_words.specs.declared.request.Verbosity.TheVariants as verbosities
@@ -7,7 +8,7 @@ use Rattle.cborc_words.specs.declared.request.{Accepted.Accepted, Action.TheVari
 use Rattle.cborc_commands.specs.declared.status.Status.{Status, TheVariants.Accepted as accepted_status, TheVariants.Refused, TheVariants.Misused, TheVariants.Failed}
 use Rattle.cborc_commands.specs.Outcome.{IsAnswered, IsReportedBy, IsStatus, done, stopped}
 use Rattle.cborc_commands.specs.Answer.{IsActionDone}
-use Rattle.cborc_program.specs.SeveralFiles.{request_for, AreAllChecked, IsNamed}
+use Rattle.cborc_program.specs.SeveralFiles.{label, line_of, request_for, AreAllChecked, IsNamed}
 
 -- what was appended stays after a flush
 pub appends_kept : (a b c : Option (List ℕ)) (text : List ℕ) → Appends a b text → Keeps b c → Appends a c text
@@ -71,3 +72,15 @@ module _ (verbosity : Verbosity) (request : Request) (accepted : Accepted) where
     checked_more paths path files middle new got taken after others own rest named,
     later_worst worst mine others own is,
   )
+
+-- the paths before the next one, and it
+pub one_more : (paths : List (Bor (List ℕ))) (i : ℕ) (none : Bor (List ℕ)) → i < length paths → take (i + 1) paths ≡ take i paths ++ get_or paths i none ∷ []
+one_more paths i none within = let next : i + 1 ≡ suc i = omega arith in ap (λ (n : ℕ). take n paths) next ∙ take-suc paths i none within
+
+-- what is written for a file whose report added something
+pub line_is : (path text : List ℕ) → length text ≢ length (label path) → line_of path text ≡ text
+line_is path text differs = go (length text == length (label path)) (λ e. differs ((Decides-eqb (length text) (length (label path))).0 e))
+  where
+    go : (b : Bool) → (b ≡ true → ⊥) → (if b then [] else text) ≡ text
+    go true h = absurd (h refl)
+    go false h = refl

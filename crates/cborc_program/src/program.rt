@@ -56,6 +56,7 @@ fn perform_task<F: Folder, O: Write, E: Write>(
         (O.contents out.old) (O.contents out.new) result }
     ensures range { result ≤ 3 }
     ensures refused { result ≡ 1 → KeepsFiles (F.held files.old) (F.held files.new) }
+    ensures used_well { result ≢ 2 }
 {
     match several(task) {
         Some(accepted) => check_each(alloc, task, accepted, files, out, err),

@@ -1,6 +1,6 @@
 //! `check` of several files: each in turn, with its name before each line.
 
-ghost use Rattle.std.specs.Prelude.{◌≡◌, ◌≤◌, OnOk, IfOk, IfErr};
+ghost use Rattle.std.specs.Prelude.{◌≡◌, ◌≢◌, ◌≤◌, OnOk, IfOk, IfErr};
 ghost use Rattle.std.specs.Io.KnownBytes.{Appends};
 ghost use Rattle.cborc_commands.specs.Fault.{fault_status};
 ghost use Rattle.cborc_commands.specs.declared.status.Status.TheVariants as statuses;
@@ -33,6 +33,7 @@ pub(crate) fn check_each<F: Folder, O: Write, E: Write>(
         (F.held files.old) (F.held files.new) (O.contents out.old) (O.contents out.new) result }
     ensures keeps { KeepsFiles (F.held files.old) (F.held files.new) }
     ensures range { result ≤ 3 }
+    ensures used_well { result ≢ 2 }
 {
     let mut worst = 0;
     let paths = task.files.as_slice();
@@ -64,6 +65,7 @@ fn check_one<'a, F: Folder, O: Write, E: Write>(
         (O.contents out.old) (O.contents out.new)) }
     ensures keeps { KeepsFiles (F.held files.old) (F.held files.new) }
     ensures range { IfOk result (λ status. status ≤ 3) }
+    ensures used_well { IfOk result (λ status. status ≢ 2) }
 {
     let request = Request {
         action: Action::Check(accepted),
